@@ -11,7 +11,7 @@ use Rattle.ft_trace.specs.Holds.{known}
 use Rattle.ft_growth.specs.declared.adding.Added.{Added}
 use Rattle.ft_growth.specs.Adding.{KeepsCursors}
 use Rattle.ft_growth.proofs.Cursors.{added_cursors}
-use Rattle.ft_adding.specs.Growing.{PutsKey, holds, key_takes, most_of}
+use Rattle.ft_adding.specs.KeyGrowth.{PutsKey, holds, key_takes, most_of}
 
 pub puts_cursors : (k : Shape) (o : ℕ) (key : Key) (called : Call) (said : Reply) (v w : View) (what : Added) → PutsKey k o key called said v w what → KeepsCursors v w
 puts_cursors k o key called said v w what x number =

@@ -2,24 +2,24 @@
 use Rattle.std.proofs.Common.{◌≡◌, ◌≢◌, ℕ, suc, ◌<◌, true, false, List, Option, Some, refl, sym, ap, ◌∙◌, subst}
 use Rattle.ft_model.specs.declared.call.Call.{Call}
 use Rattle.ft_model.specs.declared.reply.Reply.{Reply}
-use Rattle.ft_model.specs.Tables.{StoredWorld}
+use Rattle.ft_model.specs.TableUses.{StoredWorld}
 use Rattle.ft_trace.specs.declared.Act.TheVariants.{StartWrite, PutRoot}
 use Rattle.ft_trace.specs.declared.Shape.{Shape}
 use Rattle.ft_trace.specs.declared.View.{View}
 use Rattle.ft_trace.specs.Acts.{has_lock, is_writing, owes, stage, used, noted}
 use Rattle.ft_trace.specs.Addresses.{containers_in}
 use Rattle.ft_trace.specs.Holds.{held, known}
-use Rattle.ft_trace.specs.Words.{Picture, root_in, Stands}
-use Rattle.ft_trace.specs.Worlds.{ContainerState, changes}
+use Rattle.ft_trace.specs.Pictures.{Picture, root_in, Stands}
+use Rattle.ft_trace.specs.ContainerStates.{ContainerState, changes}
 use Rattle.ft_bank.specs.declared.table.Table.{Table}
-use Rattle.ft_bank.specs.Tables.{name_of}
+use Rattle.ft_bank.specs.TableNames.{name_of}
 use Rattle.ft_bank.specs.Whole.{OnlyPut, EndsWrite, Wrote}
-use Rattle.ft_bank.specs.Writes.{KeepsUnwritten, MayHave}
-use Rattle.ft_bank.proofs.Whole.{work_knows}
+use Rattle.ft_bank.specs.WriteSteps.{KeepsUnwritten, MayHave}
+use Rattle.ft_bank.proofs.KnownAfterWrites.{work_knows}
 use Rattle.ft_growth.specs.Adding.{OnlyFilled}
 use Rattle.ft_growth.proofs.Rooting.{filled_wrote, rooted_write}
-use Rattle.ft_search.specs.Writing.{Leaves}
-use Rattle.ft_adding.specs.Growing.{KnowsKeyed, MayGrow}
+use Rattle.ft_search.specs.OneEntryWrites.{Leaves}
+use Rattle.ft_adding.specs.KeyGrowth.{KnowsKeyed, MayGrowKeyed}
 
 -- what a pass knows of a container stays, where it knows the same words and the same content
 pub knows_on : (k : Shape) (o : ℕ) (old : Option Table) (v w : View) → held o w ≡ held o v → known o w ≡ known o v → has_lock o w.log ≡ has_lock o v.log → is_writing o w.log ≡ is_writing o v.log → KnowsKeyed k o old v → KnowsKeyed k o old w
@@ -42,7 +42,7 @@ module _ (k : Shape) (o : ℕ) (old : Option Table) (v x : View) (shape : v.shap
   pub knows_filled : KnowsKeyed k o old x
   knows_filled = knows_on k o old v x same_filled.0 same_filled.1 (only.work.pass.locks o) (only.work.pass.writes o) keyed
 
-pub grow_filled : (k : Shape) (o : ℕ) (old : Option Table) (table : Table) (v x : View) → v.shape ≡ k → OnlyFilled v x → MayGrow k o old table v → MayGrow k o old table x
+pub grow_filled : (k : Shape) (o : ℕ) (old : Option Table) (table : Table) (v x : View) → v.shape ≡ k → OnlyFilled v x → MayGrowKeyed k o old table v → MayGrowKeyed k o old table x
 grow_filled k o old table v x shape only may = record {
   keyed = knows_filled k o old v x shape only may.keyed;
   used = only.work.used ∙ may.used;

@@ -9,7 +9,7 @@ use Rattle.ft_model.specs.declared.data.Key.{Key}
 use Rattle.ft_model.specs.declared.script.Kind.{Kind}
 use Rattle.ft_model.specs.declared.script.Kind.TheVariants as kind
 use Rattle.ft_model.specs.Classes.{IsClass}
-use Rattle.ft_model.specs.Tables.{TableUse}
+use Rattle.ft_model.specs.TableUses.{TableUse}
 use Rattle.ft_model.specs.Worlds.{kind_of, length_of, serial_of}
 use Rattle.ft_layout.specs.declared.slot.Stored.{Stored}
 use Rattle.ft_layout.specs.Containers.{class_mask, IsRoot, IsBlock, StandsAs}
@@ -17,32 +17,32 @@ use Rattle.ft_layout.specs.Tables.{hash_of}
 use Rattle.ft_layout.specs.Words.{FitsKey, FitsStored}
 use Rattle.ft_keys.specs.declared.walk.Way.{Way}
 use Rattle.ft_keys.specs.declared.walk.Way.TheVariants as way
-use Rattle.ft_keys.specs.Changes.{FirstFree}
+use Rattle.ft_keys.specs.TableChanges.{FirstFree}
 use Rattle.ft_keys.specs.Ways.{walk_slots}
 use Rattle.ft_trace.specs.declared.Shape.{Shape}
 use Rattle.ft_trace.specs.declared.View.{View}
 use Rattle.ft_trace.specs.Acts.{has_lock, is_writing, stage}
-use Rattle.ft_trace.specs.Addresses.{containers_in, class_of, slots, size, IsTable}
+use Rattle.ft_trace.specs.Addresses.{containers_in, class_of, slots, size, IsTableName}
 use Rattle.ft_trace.specs.Holds.{held, known}
 use Rattle.ft_trace.specs.Kinds.{rows, version_at, IsKeyed}
-use Rattle.ft_trace.specs.Openings.{Shut}
+use Rattle.ft_trace.specs.OddVersions.{Shut}
 use Rattle.ft_trace.specs.Traces.{Possible}
-use Rattle.ft_trace.specs.Words.{Picture, root_in, Stands}
-use Rattle.ft_trace.specs.Worlds.{ContainerState, kind_in}
+use Rattle.ft_trace.specs.Pictures.{Picture, root_in, Stands}
+use Rattle.ft_trace.specs.ContainerStates.{ContainerState, kind_in}
 use Rattle.ft_trace.proofs.ByKind.{keyed_fit}
 use Rattle.ft_trace.proofs.Held.{root_known}
 use Rattle.ft_trace.proofs.Known.{class_known, table_is_long}
-use Rattle.ft_trace.proofs.Places.{placed}
+use Rattle.ft_trace.proofs.TablePlaces.{placed}
 use Rattle.ft_bank.specs.declared.table.Table.{Table}
-use Rattle.ft_bank.specs.Tables.{name_of, root_for, IsTableIn}
-use Rattle.ft_bank.proofs.Tables.{class_is, named}
+use Rattle.ft_bank.specs.TableNames.{name_of, root_for, IsTableIn}
+use Rattle.ft_bank.proofs.TableAddresses.{class_is, named}
 use Rattle.ft_search.specs.Held.{IsHeldAt}
 use Rattle.ft_search.specs.Rounds.{kind_by}
-use Rattle.ft_search.specs.Writing.{HasTable, MayWriteEntries}
+use Rattle.ft_search.specs.OneEntryWrites.{HasTable, MayWriteEntries}
 use Rattle.ft_search.proofs.Changing.{kind_is, shut_known}
-use Rattle.ft_search.proofs.Places.{slots_of_class}
+use Rattle.ft_search.proofs.WordPlaces.{slots_of_class}
 use Rattle.ft_adding.specs.declared.counts.Counts.{Counts}
-use Rattle.ft_adding.specs.Growing.{KnowsKeyed, IsFreeFor, use_of}
+use Rattle.ft_adding.specs.KeyGrowth.{KnowsKeyed, IsFreeFor, use_of}
 use Rattle.ft_adding.specs.Placing.{AreCounts, StoresAs}
 use Rattle.ft_adding.proofs.Placed.{Fresh, entry_shut, way_of, use_with}
 
@@ -87,7 +87,7 @@ pub fresh_other : (k : Shape) (v : View) (o : ℕ) (table : Table) → v.shape �
 fresh_other k v o table shape possible low mine table_in fresh names =
     let t = name_of table in
     let here : o < containers_in v.shape = subst (λ (z : Shape). o < containers_in z) (sym shape) low in
-    let is_table : IsTable v.shape t = subst (λ (z : Shape). IsTable z t) (sym shape) (named k table table_in) in
+    let is_table : IsTableName v.shape t = subst (λ (z : Shape). IsTableName z t) (sym shape) (named k table table_in) in
     ∥∥₁_elim {P = ⊥} possible (λ a b. absurd a)
     (λ (p : Possible v).
     let place = placed v.shape p.0 p.2.0 t is_table in

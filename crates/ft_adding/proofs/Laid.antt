@@ -13,18 +13,18 @@ use Rattle.ft_trace.specs.Acts.{has_committed}
 use Rattle.ft_trace.specs.Addresses.{class_of, slots}
 use Rattle.ft_trace.specs.Holds.{held, known}
 use Rattle.ft_trace.specs.Kinds.{rows, version_at, CarefulAs}
-use Rattle.ft_trace.specs.Openings.{Timely}
-use Rattle.ft_trace.specs.Words.{Picture, entry_at}
-use Rattle.ft_trace.specs.Worlds.{ContainerState, kind_in}
+use Rattle.ft_trace.specs.OddVersions.{Timely}
+use Rattle.ft_trace.specs.Pictures.{Picture, entry_offset}
+use Rattle.ft_trace.specs.ContainerStates.{ContainerState, kind_in}
 use Rattle.ft_bank.specs.Passes.{view}
-use Rattle.ft_bank.specs.Tables.{name_of}
+use Rattle.ft_bank.specs.TableNames.{name_of}
 use Rattle.ft_bank.specs.Whole.{OnlyPut}
-use Rattle.ft_bank.specs.Writes.{IsCareful}
-use Rattle.ft_bank.proofs.Whole.{put_same, put_then, work_knows}
+use Rattle.ft_bank.specs.WriteSteps.{IsCareful}
+use Rattle.ft_bank.proofs.KnownAfterWrites.{put_same, put_then, work_knows}
 use Rattle.ft_search.specs.declared.words.TableWords.{TableWords}
 use Rattle.ft_adding.specs.Placing.{put_in, laid}
-use Rattle.ft_search.specs.Words.{SamePlace, KnowsWords, MayMake, Made}
-use Rattle.ft_search.proofs.Knowing.{put_after_header, put_entry_after_header}
+use Rattle.ft_search.specs.TableWords.{SamePlace, KnowsWords, MayMake, MadeAccess}
+use Rattle.ft_search.proofs.KnownTableWords.{put_after_header, put_entry_after_header}
 use Rattle.ft_search.proofs.Running.{ran}
 
 -- ---- with and without the header
@@ -32,7 +32,7 @@ use Rattle.ft_search.proofs.Running.{ran}
 pub put_in_after : (mask n : ℕ) → n ≡ mask + 1 → (a : Access) (l : List ℕ) → put_by mask a (0 ∷ 0 ∷ l) ≡ 0 ∷ 0 ∷ put_in n a l
 put_in_after mask n is (PutIndex slot value) l = sym (put_after_header l slot value)
 put_in_after mask n is (PutEntry place word value) l =
-    let e : 8 * place + word + mask + 1 ≡ entry_at n place word = omega (arith, is) in
+    let e : 8 * place + word + mask + 1 ≡ entry_offset n place word = omega (arith, is) in
     sym (put_entry_after_header l mask place word value) ∙ ap (λ (z : ℕ). 0 ∷ 0 ∷ slice_set l z value) e
 put_in_after mask n is (Index slot value) l = refl
 put_in_after mask n is (Entry place word value) l = refl
@@ -53,7 +53,7 @@ pub record Laid (s : TableWords) (n : ℕ) (calls : List Access) (t : TableWords
   pub block : (held s.o (view t.pass.now)).block ≡ (held s.o (view s.pass.now)).block
   pub only : OnlyPut s.o (view s.pass.now) (view t.pass.now)
 
-pub ran_laid : (s : TableWords) (n : ℕ) → n ≡ s.mask + 1 → (calls : List Access) (t : TableWords) → Runs Made s calls t → KnowsWords s → Laid s n calls t
+pub ran_laid : (s : TableWords) (n : ℕ) → n ≡ s.mask + 1 → (calls : List Access) (t : TableWords) → Runs MadeAccess s calls t → KnowsWords s → Laid s n calls t
 ran_laid s n is [] t r knows = subst (λ (z : TableWords). Laid s n [] z) r (record { knows = knows; table = refl; block = refl; only = put_same (view s.pass.now) s.o })
 ran_laid s n is (a ∷ calls) t r knows =
     let m = r.0 in
@@ -80,7 +80,7 @@ laid_words s n calls t l = let b = l.block in let w = l.table in λ i. record { 
 abbrev pub IsCarefulCall : Kind → ℕ → Content → List ℕ → Access → Type 0
 IsCarefulCall kind c d l (PutIndex slot value) = CarefulAs kind c l d slot value × Timely (version_at kind c) (rows kind c) slot value false
 IsCarefulCall kind c d l (PutEntry place word value) =
-    CarefulAs kind c l d (entry_at (slots c) place word) value × Timely (version_at kind c) (rows kind c) (entry_at (slots c) place word) value false
+    CarefulAs kind c l d (entry_offset (slots c) place word) value × Timely (version_at kind c) (rows kind c) (entry_offset (slots c) place word) value false
 IsCarefulCall kind c d l access = Unit {0}
 
 -- each of them, once the earlier ones were made
@@ -108,7 +108,7 @@ module _ (s : TableWords) (k : Shape) (shape : (view s.pass.now).shape ≡ k) (s
   abbrev ws : List ℕ
   ws = (held s.o (view s.pass.now)).table
 
-  may_make : (calls : List Access) (between : TableWords) → Runs Made s calls between → (a : Access) → IsCarefulCall kind c d (laid (slots c) calls ws) a → MayMake between a
+  may_make : (calls : List Access) (between : TableWords) → Runs MadeAccess s calls between → (a : Access) → IsCarefulCall kind c d (laid (slots c) calls ws) a → MayMake between a
   may_make calls between runs a care =
       let l = ran_laid s (slots c) size calls between runs knows in
       let place = (ran s calls between runs).0 in
@@ -123,12 +123,12 @@ module _ (s : TableWords) (k : Shape) (shape : (view s.pass.now).shape ≡ k) (s
       by : SamePlace s between → ((i x : ℕ) → CarefulAs kind c (laid (slots c) calls ws) d i x → Timely (version_at kind c) (rows kind c) i x false → IsCareful (view between.pass.now) between.o (name_of between.table) i x) → (a : Access) → IsCarefulCall kind c d (laid (slots c) calls ws) a → MayMake between a
       by place at (PutIndex slot value) care = at slot value care.0 care.1
       by place at (PutEntry p w value) care =
-          subst (λ (z : ℕ). IsCareful (view between.pass.now) between.o (name_of between.table) (entry_at (slots (class_of z)) p w) value) (sym (λ j. name_of (place.table j)))
-          (at (entry_at (slots c) p w) value care.0 care.1)
+          subst (λ (z : ℕ). IsCareful (view between.pass.now) between.o (name_of between.table) (entry_offset (slots (class_of z)) p w) value) (sym (λ j. name_of (place.table j)))
+          (at (entry_offset (slots c) p w) value care.0 care.1)
       by place at (Index slot value) care = tt
       by place at (Entry p w value) care = tt
       by place at (OldEntry p w value) care = tt
 
-  pub allows_calls : (calls : List Access) → AreCarefulCalls kind c d ws calls → Allows Made MayMake s calls
+  pub allows_calls : (calls : List Access) → AreCarefulCalls kind c d ws calls → Allows MadeAccess MayMake s calls
   allows_calls [] each = tt
   allows_calls (a ∷ calls) each = (allows_calls calls each.0, λ between runs. may_make calls between runs a each.1)

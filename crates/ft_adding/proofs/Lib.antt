@@ -1,11 +1,11 @@
 pub mod Laid
 pub mod Stages
 pub mod Placed
-pub mod Finishing
+pub mod FinishedKeys
 pub mod Keyed
-pub mod Copied
+pub mod FilledTables
 pub mod Rooted
-pub mod Entering
+pub mod NewEntryPuts
 pub mod Wanted
 pub mod Grown
 pub mod Taken

@@ -12,7 +12,7 @@ use Rattle.ft_model.specs.declared.script.Kind.TheVariants as kind
 use Rattle.ft_model.specs.Classes.{IsClass}
 use Rattle.ft_model.specs.Contents.{DictContent, SetContent, dict_set, set_add}
 use Rattle.ft_model.specs.Keys.{same_key}
-use Rattle.ft_model.specs.Tables.{TableUse}
+use Rattle.ft_model.specs.TableUses.{TableUse}
 use Rattle.ft_model.specs.Worlds.{kind_of, length_of, serial_of}
 use Rattle.ft_model.proofs.KeyLemmas.{same_key-refl}
 use Rattle.ft_hash.specs.Probes.{IsMask, dict_walk, set_walk}
@@ -28,15 +28,15 @@ use Rattle.ft_layout.proofs.Powers.{slots_range}
 use Rattle.ft_keys.specs.declared.walk.Way.{Way}
 use Rattle.ft_keys.specs.declared.walk.Way.TheVariants as way
 use Rattle.ft_keys.specs.Accesses.{after}
-use Rattle.ft_keys.specs.Changes.{FirstFree, place_puts, Adds}
+use Rattle.ft_keys.specs.TableChanges.{FirstFree, place_puts, AddsPair}
 use Rattle.ft_keys.specs.Ways.{walk_slots, room}
 use Rattle.ft_keys.proofs.Reaching.{walk-within}
 use Rattle.ft_trace.specs.Addresses.{class_of, slots, places}
-use Rattle.ft_trace.specs.Carefuls.{IsLive, said_of}
+use Rattle.ft_trace.specs.Carefuls.{HasLiveKey, said_of}
 use Rattle.ft_trace.specs.Kinds.{under, rows, version_at, CarefulAs, ClearAs, IsKeyed}
-use Rattle.ft_trace.specs.Openings.{Shut}
-use Rattle.ft_trace.specs.Words.{Picture, root_in, index_of, entry_at, entry_of, Stands}
-use Rattle.ft_trace.specs.Worlds.{ContainerState}
+use Rattle.ft_trace.specs.OddVersions.{Shut}
+use Rattle.ft_trace.specs.Pictures.{Picture, root_in, index_field, entry_offset, entry_field, Stands}
+use Rattle.ft_trace.specs.ContainerStates.{ContainerState}
 use Rattle.ft_trace.proofs.DictWrites as dict
 use Rattle.ft_trace.proofs.DictWrites.{EntryVersionsChangeNothing, FirstEntriesArePairs}
 use Rattle.ft_trace.proofs.SetKnown as set
@@ -47,11 +47,11 @@ use Rattle.ft_trace.proofs.Tellings.{word_is}
 use Rattle.ft_adding.specs.declared.counts.Counts.{Counts}
 use Rattle.ft_search.specs.Held.{IsHeldAt}
 use Rattle.ft_adding.specs.Placing.{StoresAs, with_key, IsUnused, counted, laid, with_entry}
-use Rattle.ft_search.specs.Writing.{raised_at}
+use Rattle.ft_search.specs.OneEntryWrites.{raised_at}
 use Rattle.ft_search.proofs.Changing.{Changing}
-use Rattle.ft_search.proofs.Knowing.{after_header}
+use Rattle.ft_search.proofs.KnownTableWords.{after_header}
 use Rattle.ft_adding.proofs.Laid.{laid_after}
-use Rattle.ft_search.proofs.Places.{mask_is, slots_of_class}
+use Rattle.ft_search.proofs.WordPlaces.{mask_is, slots_of_class}
 use Rattle.ft_adding.proofs.Stages.{as_careful, body, body_puts, body_stage, opened}
 
 -- laws of tables and of what they stand for
@@ -59,7 +59,7 @@ pub record PlaceLaws : Type 0 where
   pub versions : EntryVersionsChangeNothing
   pub first_pair : FirstEntriesArePairs
   pub first_element : FirstEntriesAreElements
-  pub placed : (way : Way) (mask fill slot : ℕ) (pair : Pair) (words : List ℕ) → IsMask mask → pair.hash < 2 ^ 64 → FitsPair pair → fill < room way mask → FirstFree words (walk_slots way pair.hash mask) (Some slot) → Adds way mask fill pair words (after mask (place_puts slot fill (entry_words pair)) words)
+  pub placed : (way : Way) (mask fill slot : ℕ) (pair : Pair) (words : List ℕ) → IsMask mask → pair.hash < 2 ^ 64 → FitsPair pair → fill < room way mask → FirstFree words (walk_slots way pair.hash mask) (Some slot) → AddsPair way mask fill pair words (after mask (place_puts slot fill (entry_words pair)) words)
   pub pair_added : (texts block words : List ℕ) (class : ℕ) (used : List UsedEntry) (dict : DictContent) (key : Key) (value : Value) → AreDictEntries used dict → All (λ entry. entry.key ≢ key) (filter is_live used) → IsBlock block (Some class) (length dict.pairs + 1) (length used + 1) (dict.next + 1)
       → IsDictTable texts (class_mask class) (used ++ used_pair (record { serial = dict.next; key = key; value = value }) ∷ []) words → IsDictWords texts block words (Some class) (length used + 1) (dict_set dict key value)
   pub element_added : (texts block words : List ℕ) (class : ℕ) (used : List UsedEntry) (set : SetContent) (key : Key) → AreSetEntries used set → All (λ entry. entry.key ≢ key) (filter is_live used) → IsBlock block (Some class) (length set.elements + 1) (length used + 1) (set.next + 1)
@@ -89,10 +89,10 @@ none_used of (y ∷ ys) key none (suc k) d low = none_used of ys key (or_false (
 
 -- ---- slots of the table, once a version was put
 
-index_stays : (n p version : ℕ) (l : List ℕ) (s : ℕ) → s < n → index_word (0 ∷ 0 ∷ slice_set l (entry_at n p 0) version) s ≡ index_word (0 ∷ 0 ∷ l) s
-index_stays n p version l s low = after_header (slice_set l (entry_at n p 0) version) s ∙ (get_or-set_other l (entry_at n p 0) s version 0 (λ e. absurd (omega (arith, e, low))) ∙ sym (after_header l s))
+index_stays : (n p version : ℕ) (l : List ℕ) (s : ℕ) → s < n → index_word (0 ∷ 0 ∷ slice_set l (entry_offset n p 0) version) s ≡ index_word (0 ∷ 0 ∷ l) s
+index_stays n p version l s low = after_header (slice_set l (entry_offset n p 0) version) s ∙ (get_or-set_other l (entry_offset n p 0) s version 0 (λ e. absurd (omega (arith, e, low))) ∙ sym (after_header l s))
 
-still_free : (mask n p version : ℕ) (l : List ℕ) (by : Way) (hash slot : ℕ) → n ≡ mask + 1 → slot < n → FirstFree (0 ∷ 0 ∷ l) (walk_slots by hash mask) (Some slot) → FirstFree (0 ∷ 0 ∷ slice_set l (entry_at n p 0) version) (walk_slots by hash mask) (Some slot)
+still_free : (mask n p version : ℕ) (l : List ℕ) (by : Way) (hash slot : ℕ) → n ≡ mask + 1 → slot < n → FirstFree (0 ∷ 0 ∷ l) (walk_slots by hash mask) (Some slot) → FirstFree (0 ∷ 0 ∷ slice_set l (entry_offset n p 0) version) (walk_slots by hash mask) (Some slot)
 still_free mask n p version l by hash slot is in_index free =
     let passed = free.0 in
     let rest = free.1 in
@@ -131,22 +131,22 @@ counted_head b class x y z count fill next h =
 -- ---- what words stand for
 
 -- a version that is put into an entry changes nothing
-pub stands_raised : (versions : EntryVersionsChangeNothing) (texts b l : List ℕ) (class fill : ℕ) (d : Content) → IsKeyed (kind_of d) → IsClass class → StandsAs texts b (0 ∷ 0 ∷ l) (use_with class fill) d → (p y : ℕ) → StandsAs texts b (0 ∷ 0 ∷ slice_set l (entry_at (slots class) p 0) y) (use_with class fill) d
+pub stands_raised : (versions : EntryVersionsChangeNothing) (texts b l : List ℕ) (class fill : ℕ) (d : Content) → IsKeyed (kind_of d) → IsClass class → StandsAs texts b (0 ∷ 0 ∷ l) (use_with class fill) d → (p y : ℕ) → StandsAs texts b (0 ∷ 0 ∷ slice_set l (entry_offset (slots class) p 0) y) (use_with class fill) d
 unfolding slots
 stands_raised versions texts b l class fill (content.Dict pairs) keyed is_class is p y =
     let r = (slots_range class is_class).0 in
     let walk : ℕ → List ℕ = λ hash. dict_walk hash (class_mask class) (class_mask class + 14) in
-    let table : IsDictTable texts (class_mask class) is.used (0 ∷ 0 ∷ slice_set l (entry_at (slots class) p 0) y) = subst (λ (z : List ℕ). IsDictTable texts (class_mask class) is.used z) (known.after_header l (layout.entry_at (class_mask class) p 0) (entry_at (slots class) p 0) y (omega (arith, r))) (versions walk (dict_room (class_mask class)) texts (class_mask class) is.used (0 ∷ 0 ∷ l) p y (λ hash. dict_walk-within hash (class_mask class) (class_mask class + 14)) is.table) in
+    let table : IsDictTable texts (class_mask class) is.used (0 ∷ 0 ∷ slice_set l (entry_offset (slots class) p 0) y) = subst (λ (z : List ℕ). IsDictTable texts (class_mask class) is.used z) (known.after_header l (layout.entry_at (class_mask class) p 0) (entry_offset (slots class) p 0) y (omega (arith, r))) (versions walk (dict_room (class_mask class)) texts (class_mask class) is.used (0 ∷ 0 ∷ l) p y (λ hash. dict_walk-within hash (class_mask class) (class_mask class + 14)) is.table) in
     record { head = is.head; used = is.used; table = table; filled = is.filled; entries = is.entries }
 stands_raised versions texts b l class fill (content.Set elements) keyed is_class is p y =
     let r = (slots_range class is_class).0 in
     let walk : ℕ → List ℕ = λ hash. set_walk hash (class_mask class) (class_mask class + 14) in
-    let table : IsSetTable texts (class_mask class) is.used (0 ∷ 0 ∷ slice_set l (entry_at (slots class) p 0) y) = subst (λ (z : List ℕ). IsSetTable texts (class_mask class) is.used z) (known.after_header l (layout.entry_at (class_mask class) p 0) (entry_at (slots class) p 0) y (omega (arith, r))) (versions walk (set_room (class_mask class)) texts (class_mask class) is.used (0 ∷ 0 ∷ l) p y (λ hash. set_walk-within hash (class_mask class) (class_mask class + 14)) is.table) in
+    let table : IsSetTable texts (class_mask class) is.used (0 ∷ 0 ∷ slice_set l (entry_offset (slots class) p 0) y) = subst (λ (z : List ℕ). IsSetTable texts (class_mask class) is.used z) (known.after_header l (layout.entry_at (class_mask class) p 0) (entry_offset (slots class) p 0) y (omega (arith, r))) (versions walk (set_room (class_mask class)) texts (class_mask class) is.used (0 ∷ 0 ∷ l) p y (λ hash. set_walk-within hash (class_mask class) (class_mask class + 14)) is.table) in
     record { head = is.head; used = is.used; table = table; filled = is.filled; entries = is.entries }
 stands_raised versions texts b l class fill (content.List values) keyed is_class is p y = absurd keyed
 
 -- the entry after those that were used was never used
-pub next_unused : (first_pair : FirstEntriesArePairs) (first_element : FirstEntriesAreElements) (texts b l : List ℕ) (class fill : ℕ) (d : Content) → IsKeyed (kind_of d) → IsClass class → StandsAs texts b (0 ∷ 0 ∷ l) (use_with class fill) d → fill < rows (kind_of d) class → entry_of (slots class) l fill 2 ≡ 0
+pub next_unused : (first_pair : FirstEntriesArePairs) (first_element : FirstEntriesAreElements) (texts b l : List ℕ) (class fill : ℕ) (d : Content) → IsKeyed (kind_of d) → IsClass class → StandsAs texts b (0 ∷ 0 ∷ l) (use_with class fill) d → fill < rows (kind_of d) class → entry_field (slots class) l fill 2 ≡ 0
 next_unused first_pair first_element texts b l class fill (content.Dict pairs) keyed is_class is low =
     let room = dict.room_is first_pair texts b class fill is_class pairs l is in
     let filled = is.filled in
@@ -198,13 +198,13 @@ module _ (laws : PlaceLaws) (texts before block words : List ℕ) (class fill sl
   stands_added d stored stores ok is inside absent free head = absurd stores
 
 -- what entries say under their keys, and that readers find it so after the commit
-pub right_in : (first_pair : FirstEntriesArePairs) (first_element : FirstEntriesAreElements) (texts b l : List ℕ) (class fill : ℕ) (d : Content) → IsKeyed (kind_of d) → IsClass class → StandsAs texts b (0 ∷ 0 ∷ l) (use_with class fill) d → (p : ℕ) (key : Key) → p < rows (kind_of d) class → IsLive (slots class) l p key → under d key ≡ said_of (slots class) l p
+pub right_in : (first_pair : FirstEntriesArePairs) (first_element : FirstEntriesAreElements) (texts b l : List ℕ) (class fill : ℕ) (d : Content) → IsKeyed (kind_of d) → IsClass class → StandsAs texts b (0 ∷ 0 ∷ l) (use_with class fill) d → (p : ℕ) (key : Key) → p < rows (kind_of d) class → HasLiveKey (slots class) l p key → under d key ≡ said_of (slots class) l p
 right_in first_pair first_element texts b l class fill (content.Dict pairs) keyed is_class is p key low live = dict.dict_right first_pair texts b class fill is_class pairs l is p key low live
 right_in first_pair first_element texts b l class fill (content.Set elements) keyed is_class is p key low live = set.set_right first_element texts b class fill is_class elements l is p key low live
 right_in first_pair first_element texts b l class fill (content.List values) keyed is_class is p key low live = absurd keyed
 
 clear_in : (first_pair : FirstEntriesArePairs) (first_element : FirstEntriesAreElements) (texts block before : List ℕ) (class fill more : ℕ) (d news : Content) (ws zs : List ℕ) → IsClass class → IsKeyed (kind_of d) → kind_of news ≡ kind_of d → StandsAs texts before (0 ∷ 0 ∷ ws) (use_with class fill) d → StandsAs texts block (0 ∷ 0 ∷ zs) (use_with class more) news
-    → ((q w : ℕ) → q < rows (kind_of d) class → entry_of (slots class) zs q 0 % 2 ≡ 0 → w < 8 → entry_of (slots class) zs q w ≡ entry_of (slots class) ws q w) → ClearAs (kind_of d) texts class zs d news
+    → ((q w : ℕ) → q < rows (kind_of d) class → entry_field (slots class) zs q 0 % 2 ≡ 0 → w < 8 → entry_field (slots class) zs q w ≡ entry_field (slots class) ws q w) → ClearAs (kind_of d) texts class zs d news
 clear_in first_pair first_element texts block before class fill more (content.Dict pairs) (content.Dict news) ws zs is_class keyed same_kind says now same = dict.dict_clear first_pair texts block before class fill more is_class pairs news ws zs says now same
 clear_in first_pair first_element texts block before class fill more (content.Set elements) (content.Set news) ws zs is_class keyed same_kind says now same = set.set_clear first_element texts block before class fill more is_class elements news ws zs says now same
 clear_in first_pair first_element texts block before class fill more (content.Dict pairs) (content.Set news) ws zs is_class keyed same_kind says now same = absurd (cc)
@@ -214,12 +214,12 @@ clear_in first_pair first_element texts block before class fill more (content.Se
 clear_in first_pair first_element texts block before class fill more (content.List values) news ws zs is_class keyed same_kind says now same = absurd keyed
 
 -- versions of entries, by the kind of the container
-pub entry_shut : (kind : Kind) → IsKeyed kind → (c m : ℕ) (l : List ℕ) → Shut (version_at kind c) m l → Shut (λ q. entry_at (slots c) q 0) m l
+pub entry_shut : (kind : Kind) → IsKeyed kind → (c m : ℕ) (l : List ℕ) → Shut (version_at kind c) m l → Shut (λ q. entry_offset (slots c) q 0) m l
 entry_shut kind.Dict keyed c m l h = h
 entry_shut kind.Set keyed c m l h = h
 entry_shut kind.List keyed c m l h = absurd keyed
 
-pub kind_shut : (kind : Kind) → IsKeyed kind → (c m : ℕ) (l : List ℕ) → Shut (λ q. entry_at (slots c) q 0) m l → Shut (version_at kind c) m l
+pub kind_shut : (kind : Kind) → IsKeyed kind → (c m : ℕ) (l : List ℕ) → Shut (λ q. entry_offset (slots c) q 0) m l → Shut (version_at kind c) m l
 kind_shut kind.Dict keyed c m l h = h
 kind_shut kind.Set keyed c m l h = h
 kind_shut kind.List keyed c m l h = absurd keyed
@@ -245,7 +245,7 @@ pub record Fresh (texts : List ℕ) (x : Picture) (t slot : ℕ) (counts : Count
   pub in_index : slot < slots (class_of t)
   pub free : FirstFree (0 ∷ 0 ∷ x.table) (walk_slots (way_of d) (hash_of texts key) (class_mask (class_of t))) (Some slot)
   pub absent : IsHeldAt d key None
-  pub even : entry_of (slots (class_of t)) x.table counts.fill 0 % 2 ≡ 0
+  pub even : entry_field (slots (class_of t)) x.table counts.fill 0 % 2 ≡ 0
 
 module _ (laws : PlaceLaws) (texts : List ℕ) (x : Picture) (t slot : ℕ) (counts : Counts) (d : Content) (key : Key) (stored : Stored) (fresh : Fresh texts x t slot counts d key stored) where
   abbrev c : ℕ
@@ -273,12 +273,12 @@ module _ (laws : PlaceLaws) (texts : List ℕ) (x : Picture) (t slot : ℕ) (cou
   news = with_key d key stored
 
   abbrev ver : ℕ
-  ver = entry_of n ws p 0
+  ver = entry_field n ws p 0
 
   size_is : n ≡ class_mask c + 1
   size_is = slots_of_class c
 
-  slot_free : index_of ws slot ≡ 0
+  slot_free : index_field ws slot ≡ 0
   slot_free = sym (after_header ws slot) ∙ fresh.free.4
 
   pub place_unused : IsUnused n m ws slot p
@@ -292,7 +292,7 @@ module _ (laws : PlaceLaws) (texts : List ℕ) (x : Picture) (t slot : ℕ) (cou
   }
 
   abbrev ow : List ℕ
-  ow = slice_set ws (entry_at n p 0) (ver + 1)
+  ow = slice_set ws (entry_offset n p 0) (ver + 1)
 
   abbrev l : List ℕ
   l = laid n (body p (entry_words pair)) ow
@@ -314,35 +314,35 @@ module _ (laws : PlaceLaws) (texts : List ℕ) (x : Picture) (t slot : ℕ) (cou
   abbrev un : IsUnused n m ws slot p
   un = place_unused
 
-  pub opened_now : entry_of n y.table p 0 ≡ ver + 1
+  pub opened_now : entry_field n y.table p 0 ≡ ver + 1
   opened_now =
       let s = body_stage n m ws slot p un (body p (entry_words pair)) (body_puts p (entry_words pair)) in
       let in_index = un.in_index in
-      get_or-set_other (slice_set l (entry_at n p 2) (key_kind key)) slot (entry_at n p 0) (p + 1) 0 (λ e. absurd (omega (arith, e, in_index)))
-      ∙ (get_or-set_other l (entry_at n p 2) (entry_at n p 0) (key_kind key) 0 (λ e. absurd (omega (arith, e))) ∙ s.ver_is)
+      get_or-set_other (slice_set l (entry_offset n p 2) (key_kind key)) slot (entry_offset n p 0) (p + 1) 0 (λ e. absurd (omega (arith, e, in_index)))
+      ∙ (get_or-set_other l (entry_offset n p 2) (entry_offset n p 0) (key_kind key) 0 (λ e. absurd (omega (arith, e))) ∙ s.ver_is)
 
-  next : ver + 2 ≡ entry_of n y.table p 0 + 1
+  next : ver + 2 ≡ entry_field n y.table p 0 + 1
   next = let o = opened_now in omega (arith, o)
 
-  same : (q w : ℕ) → q < m → entry_of n y.table q 0 % 2 ≡ 0 → w < 8 → entry_of n y.table q w ≡ entry_of n ws q w
+  same : (q w : ℕ) → q < m → entry_field n y.table q 0 % 2 ≡ 0 → w < 8 → entry_field n y.table q w ≡ entry_field n ws q w
   same = new_same n m ws p slot un.low un.in_index un.long un.even un.none un.free key l (body_stage n m ws slot p un (body p (entry_words pair)) (body_puts p (entry_words pair)))
 
-  right : (key : Key) → IsLive n y.table p key → under news key ≡ said_of n y.table p
+  right : (key : Key) → HasLiveKey n y.table p key → under news key ≡ said_of n y.table p
   right a live =
       let low : p < rows (kind_of news) c = subst (λ (z : Kind). p < rows z c) (sym now.1) fresh.room in
       right_in laws.first_pair laws.first_element texts y.block y.table c (p + 1) news keyed_news fresh.is_class now.0 p a low live
 
-  close : CarefulAs (kind_of d) c y.table news (entry_at n p 0) (entry_of n y.table p 0 + 1)
+  close : CarefulAs (kind_of d) c y.table news (entry_offset n p 0) (entry_field n y.table p 0 + 1)
   close =
       let s = body_stage n m ws slot p un (body p (entry_words pair)) (body_puts p (entry_words pair)) in
-      subst (λ (z : ℕ). CarefulAs (kind_of d) c y.table news (entry_at n p 0) z) next
-      (as_careful (kind_of d) fresh.keyed c y.table news (entry_at n p 0) (ver + 2) (new_late n m ws p slot un.low un.in_index un.long un.even un.none un.free key l s (under news) right))
+      subst (λ (z : ℕ). CarefulAs (kind_of d) c y.table news (entry_offset n p 0) z) next
+      (as_careful (kind_of d) fresh.keyed c y.table news (entry_offset n p 0) (ver + 2) (new_late n m ws p slot un.low un.in_index un.long un.even un.none un.free key l s (under news) right))
 
   shut_then : Shut (version_at (kind_of d) c) m ws → Shut (version_at (kind_of d) c) m (raised_at t p y).table
   shut_then shut =
       let s = body_stage n m ws slot p un (body p (entry_words pair)) (body_puts p (entry_words pair)) in
-      subst (λ (z : ℕ). Shut (version_at (kind_of d) c) m (slice_set y.table (entry_at n p 0) z)) next
-      (kind_shut (kind_of d) fresh.keyed c m (slice_set y.table (entry_at n p 0) (ver + 2)) (new_shut n m ws p slot un.low un.in_index un.long un.even un.none un.free key l s (entry_shut (kind_of d) fresh.keyed c m ws shut)))
+      subst (λ (z : ℕ). Shut (version_at (kind_of d) c) m (slice_set y.table (entry_offset n p 0) z)) next
+      (kind_shut (kind_of d) fresh.keyed c m (slice_set y.table (entry_offset n p 0) (ver + 2)) (new_shut n m ws p slot un.low un.in_index un.long un.even un.none un.free key l s (entry_shut (kind_of d) fresh.keyed c m ws shut)))
 
   pub places_key : Shut (version_at (kind_of d) c) m ws → (was : TableUse) → Changing texts t y (record { content = d; table = was }) p [] (record { content = news; table = use_with c (p + 1) })
   places_key shut was = record {
@@ -350,6 +350,6 @@ module _ (laws : PlaceLaws) (texts : List ℕ) (x : Picture) (t slot : ℕ) (cou
     clear = clear_in laws.first_pair laws.first_element texts y.block fresh.before c p (p + 1) d news ws y.table fresh.is_class fresh.keyed now.1 fresh.says now.0 same;
     odd = let o = opened_now in let e = un.even in omega (arith, o, e);
     close = close;
-    stands = stands_raised laws.versions texts y.block y.table c (p + 1) news keyed_news fresh.is_class now.0 p (entry_of n y.table p 0 + 1);
+    stands = stands_raised laws.versions texts y.block y.table c (p + 1) news keyed_news fresh.is_class now.0 p (entry_field n y.table p 0 + 1);
     shut = shut_then shut;
   }

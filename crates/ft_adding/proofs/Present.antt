@@ -11,18 +11,18 @@ use Rattle.ft_trace.specs.declared.Shape.{Shape}
 use Rattle.ft_trace.specs.declared.View.{View}
 use Rattle.ft_trace.specs.Acts.{flight, used}
 use Rattle.ft_trace.specs.Holds.{held, known}
-use Rattle.ft_trace.specs.Words.{root_in}
-use Rattle.ft_trace.specs.Worlds.{ContainerState, changes}
+use Rattle.ft_trace.specs.Pictures.{root_in}
+use Rattle.ft_trace.specs.ContainerStates.{ContainerState, changes}
 use Rattle.ft_bank.specs.declared.table.Table.{Table}
 use Rattle.ft_bank.specs.Whole.{OnlyLoaded, Wrote}
-use Rattle.ft_bank.proofs.Whole.{loaded_then, work_knows}
+use Rattle.ft_bank.proofs.KnownAfterWrites.{loaded_then, work_knows}
 use Rattle.ft_section.specs.declared.answers.Stamp.{Stamp}
 use Rattle.ft_growth.specs.declared.adding.Added.{Added}
 use Rattle.ft_growth.specs.declared.adding.Added.TheVariants as added
 use Rattle.ft_growth.specs.Adding.{IsAdded}
 use Rattle.ft_search.specs.Held.{IsHeldAt}
-use Rattle.ft_search.specs.Writing.{MayWriteEntries}
-use Rattle.ft_adding.specs.Growing.{AddsOne, KnowsKeyed, MayAddKey, PutsKey, holds, key_takes, most_of}
+use Rattle.ft_search.specs.OneEntryWrites.{MayWriteEntries}
+use Rattle.ft_adding.specs.KeyGrowth.{AddsOne, KnowsKeyed, MayAddKey, PutsKey, holds, key_takes, most_of}
 
 pub holds_not : (d : Content) (key : Key) → IsHeldAt d key None → holds d key ≡ false
 holds_not (content.Dict pairs) key none = none

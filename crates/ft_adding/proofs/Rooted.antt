@@ -8,7 +8,7 @@ use Rattle.ft_model.specs.declared.data.Key.{Key}
 use Rattle.ft_model.specs.declared.script.Kind.{Kind}
 use Rattle.ft_model.specs.declared.script.Kind.TheVariants as kind
 use Rattle.ft_model.specs.Classes.{IsClass}
-use Rattle.ft_model.specs.Tables.{TableUse}
+use Rattle.ft_model.specs.TableUses.{TableUse}
 use Rattle.ft_model.specs.Worlds.{kind_of, length_of, serial_of}
 use Rattle.ft_layout.specs.declared.slot.Stored.{Stored}
 use Rattle.ft_layout.specs.Containers.{class_mask, IsRoot, IsBlock, StandsAs}
@@ -16,7 +16,7 @@ use Rattle.ft_layout.specs.Tables.{UsedEntry, is_live, hash_of}
 use Rattle.ft_layout.specs.Words.{FitsKey, FitsStored}
 use Rattle.ft_keys.specs.declared.walk.Way.{Way}
 use Rattle.ft_keys.specs.declared.walk.Way.TheVariants as way
-use Rattle.ft_keys.specs.Changes.{FirstFree}
+use Rattle.ft_keys.specs.TableChanges.{FirstFree}
 use Rattle.ft_keys.specs.Ways.{walk_slots, IsTableOf}
 use Rattle.ft_trace.specs.declared.Act.TheVariants.{StartWrite}
 use Rattle.ft_trace.specs.declared.Shape.{Shape}
@@ -26,10 +26,10 @@ use Rattle.ft_trace.specs.Addresses.{containers_in, class_of, slots, size}
 use Rattle.ft_trace.specs.Carefuls.{Sound}
 use Rattle.ft_trace.specs.Holds.{held, known, in_hand}
 use Rattle.ft_trace.specs.Kinds.{rows, version_at, SoundAs, IsKeyed}
-use Rattle.ft_trace.specs.Openings.{Shut}
+use Rattle.ft_trace.specs.OddVersions.{Shut}
 use Rattle.ft_trace.specs.Traces.{Possible}
-use Rattle.ft_trace.specs.Words.{Picture, root_in, entry_at, entry_of, Stands}
-use Rattle.ft_trace.specs.Worlds.{ContainerState, kind_in}
+use Rattle.ft_trace.specs.Pictures.{Picture, root_in, entry_offset, entry_field, Stands}
+use Rattle.ft_trace.specs.ContainerStates.{ContainerState, kind_in}
 use Rattle.ft_trace.proofs.ByKind.{keyed_fit}
 use Rattle.ft_trace.proofs.Cases.{hit}
 use Rattle.ft_trace.proofs.DictWrites as dict
@@ -38,17 +38,17 @@ use Rattle.ft_trace.proofs.Pieces.{table_long}
 use Rattle.ft_trace.proofs.SetKnown as set
 use Rattle.ft_trace.proofs.SetKnown.{FirstEntriesAreElements}
 use Rattle.ft_bank.specs.declared.table.Table.{Table}
-use Rattle.ft_bank.specs.Tables.{name_of, IsTableIn}
-use Rattle.ft_bank.specs.Writes.{IsShut, MayPutRoot}
-use Rattle.ft_bank.proofs.Tables.{class_is, named}
+use Rattle.ft_bank.specs.TableNames.{name_of, IsTableIn}
+use Rattle.ft_bank.specs.WriteSteps.{IsShut, MayPutRoot}
+use Rattle.ft_bank.proofs.TableAddresses.{class_is, named}
 use Rattle.ft_search.specs.Held.{IsHeldAt}
 use Rattle.ft_search.specs.Rounds.{kind_by}
 use Rattle.ft_search.proofs.Changing.{kind_is, shut_known}
-use Rattle.ft_search.proofs.Places.{slots_of_class}
+use Rattle.ft_search.proofs.WordPlaces.{slots_of_class}
 use Rattle.ft_search.proofs.Puts.{keyed_version, table_class}
 use Rattle.ft_adding.specs.declared.counts.Counts.{Counts}
 use Rattle.ft_adding.specs.Fresh.{IsFilledWith}
-use Rattle.ft_adding.specs.Growing.{KnowsKeyed, MayGrow, IsFreeFor}
+use Rattle.ft_adding.specs.KeyGrowth.{KnowsKeyed, MayGrowKeyed, IsFreeFor}
 use Rattle.ft_adding.specs.Placing.{AreCounts, StoresAs, counted}
 use Rattle.ft_adding.proofs.Keyed.{Heads, way_is, counts_known}
 use Rattle.ft_adding.proofs.Placed.{Fresh, way_of, use_with, none_used, counted_head, kind_shut}
@@ -96,7 +96,7 @@ rooted_head b class k table count fill next h table_in =
 
 -- ---- the root
 
-module _ (first_pair : FirstEntriesArePairs) (first_element : FirstEntriesAreElements) (heads : Heads) (k : Shape) (o : ℕ) (old : Option Table) (table : Table) (v : View) (may : MayGrow k o old table v) (shape : v.shape ≡ k) (possible : ∥ Possible v ∥₁) (filled : IsFilledWith k.texts (class_of (name_of table)) (known o v).content (in_hand (name_of table) v)) where
+module _ (first_pair : FirstEntriesArePairs) (first_element : FirstEntriesAreElements) (heads : Heads) (k : Shape) (o : ℕ) (old : Option Table) (table : Table) (v : View) (may : MayGrowKeyed k o old table v) (shape : v.shape ≡ k) (possible : ∥ Possible v ∥₁) (filled : IsFilledWith k.texts (class_of (name_of table)) (known o v).content (in_hand (name_of table) v)) where
   abbrev c : ℕ
   c = class_of (name_of table)
 

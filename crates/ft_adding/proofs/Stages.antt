@@ -10,12 +10,12 @@ use Rattle.ft_layout.specs.declared.slot.Pair.{Pair}
 use Rattle.ft_layout.specs.Words.{entry_words, key_kind, key_payload, stored_kind, stored_payload}
 use Rattle.ft_keys.specs.declared.words.Access.{Access}
 use Rattle.ft_keys.specs.declared.words.Access.TheVariants.{PutIndex, PutEntry}
-use Rattle.ft_keys.specs.Changes.{unless_zero, entry_puts, place_puts}
+use Rattle.ft_keys.specs.TableChanges.{unless_zero, entry_puts, place_puts}
 use Rattle.ft_trace.specs.Addresses.{slots}
 use Rattle.ft_trace.specs.Carefuls.{Pairs, Careful}
 use Rattle.ft_trace.specs.Kinds.{under, rows, version_at, CarefulAs, IsKeyed}
-use Rattle.ft_trace.specs.Openings.{Timely}
-use Rattle.ft_trace.specs.Words.{entry_at, entry_of}
+use Rattle.ft_trace.specs.OddVersions.{Timely}
+use Rattle.ft_trace.specs.Pictures.{entry_offset, entry_field}
 use Rattle.ft_trace.proofs.KeyPuts.{Stage, stage_first, stage_next, new_open, new_key, new_value, new_kind, new_index}
 use Rattle.ft_adding.specs.Placing.{IsUnused, put_in, laid}
 use Rattle.ft_adding.proofs.Laid.{IsCarefulCall, AreCarefulCalls}
@@ -28,7 +28,7 @@ as_careful kind.Set keyed c l d i x h = h
 as_careful kind.List keyed c l d i x h = absurd keyed
 
 -- a word that is no version may be put at any time
-pub at_any_time : (kind : Kind) → IsKeyed kind → (c i x : ℕ) → ((q : ℕ) → i ≢ entry_at (slots c) q 0) → Timely (version_at kind c) (rows kind c) i x false
+pub at_any_time : (kind : Kind) → IsKeyed kind → (c i x : ℕ) → ((q : ℕ) → i ≢ entry_offset (slots c) q 0) → Timely (version_at kind c) (rows kind c) i x false
 at_any_time kind.Dict keyed c i x other = record { before = λ q low at odd. absurd (other q at); later = λ q low at even. absurd (other q at) }
 at_any_time kind.Set keyed c i x other = record { before = λ q low at odd. absurd (other q at); later = λ q low at even. absurd (other q at) }
 at_any_time kind.List keyed c i x other = absurd keyed
@@ -78,7 +78,7 @@ body_puts p entry =
 
 module _ (n m : ℕ) (ws : List ℕ) (slot p : ℕ) (un : IsUnused n m ws slot p) where
   abbrev pub opened : List ℕ
-  opened = slice_set ws (entry_at n p 0) (entry_of n ws p 0 + 1)
+  opened = slice_set ws (entry_offset n p 0) (entry_field n ws p 0 + 1)
 
   abbrev pub At : List ℕ → Type 0
   At l = Stage n m ws p slot un.low un.in_index un.long un.even un.none un.free l
@@ -88,11 +88,11 @@ module _ (n m : ℕ) (ws : List ℕ) (slot p : ℕ) (un : IsUnused n m ws slot p
   body_stage (PutEntry place word value ∷ calls) b =
       let here = b.0 in
       let some = here.1 in
-      subst (λ (z : ℕ). At (slice_set (laid n calls opened) (entry_at n z word) value)) (sym here.0)
+      subst (λ (z : ℕ). At (slice_set (laid n calls opened) (entry_offset n z word) value)) (sym here.0)
       (stage_next n m ws p slot un.low un.in_index un.long un.even un.none un.free (laid n calls opened) (body_stage calls b.1) word value here.2 (λ e. omega (arith, e, some)) here.3)
   body_stage (access ∷ calls) b = absurd b.0
 
-  body_careful : (d : Pairs) (l : List ℕ) → At l → (word value : ℕ) → 0 < word → word < 8 → word ≢ 2 → Careful n m l d (entry_at n p word) value
+  body_careful : (d : Pairs) (l : List ℕ) → At l → (word value : ℕ) → 0 < word → word < 8 → word ≢ 2 → Careful n m l d (entry_offset n p word) value
   body_careful d l s word value some few other = elim (cases_eq word 1) [
     | inl one ↦ new_key n m ws p slot un.low un.in_index un.long un.even un.none un.free d l s word value (inl one)
     | inr more ↦ elim (cases_eq word 3) [
@@ -101,16 +101,16 @@ module _ (n m : ℕ) (ws : List ℕ) (slot p : ℕ) (un : IsUnused n m ws slot p
     ]
   ]
 
-  pub open_careful : (d : Pairs) → Careful n m ws d (entry_at n p 0) (entry_of n ws p 0 + 1)
+  pub open_careful : (d : Pairs) → Careful n m ws d (entry_offset n p 0) (entry_field n ws p 0 + 1)
   open_careful d = new_open n m ws p slot un.low un.in_index un.long un.even un.none un.free d
 
-  pub open_odd : (entry_of n ws p 0 + 1) % 2 ≡ 1
+  pub open_odd : (entry_field n ws p 0 + 1) % 2 ≡ 1
   open_odd = let e = un.even in omega (arith, e)
 
-  pub kind_careful : (d : Pairs) (key : Key) (l : List ℕ) → At l → Careful n m l d (entry_at n p 2) (key_kind key)
+  pub kind_careful : (d : Pairs) (key : Key) (l : List ℕ) → At l → Careful n m l d (entry_offset n p 2) (key_kind key)
   kind_careful d key l s = new_kind n m ws p slot un.low un.in_index un.long un.even un.none un.free key l s d
 
-  pub index_careful : (d : Pairs) (key : Key) (l : List ℕ) → At l → Careful n m (slice_set l (entry_at n p 2) (key_kind key)) d slot (p + 1)
+  pub index_careful : (d : Pairs) (key : Key) (l : List ℕ) → At l → Careful n m (slice_set l (entry_offset n p 2) (key_kind key)) d slot (p + 1)
   index_careful d key l s = new_index n m ws p slot un.low un.in_index un.long un.even un.none un.free key l s d
 
 module _ (kind : Kind) (keyed : IsKeyed kind) (c : ℕ) (d : Content) (ws : List ℕ) (slot p : ℕ) (un : IsUnused (slots c) (rows kind c) ws slot p) where
@@ -120,7 +120,7 @@ module _ (kind : Kind) (keyed : IsKeyed kind) (c : ℕ) (d : Content) (ws : List
   abbrev m : ℕ
   m = rows kind c
 
-  other_word : (word : ℕ) → 0 < word → word < 8 → (q : ℕ) → entry_at n p word ≢ entry_at n q 0
+  other_word : (word : ℕ) → 0 < word → word < 8 → (q : ℕ) → entry_offset n p word ≢ entry_offset n q 0
   other_word word some few q e = omega (arith, some, few, e)
 
   body_calls : (calls : List Access) → AreBodyPuts p calls → AreCarefulCalls kind c d (opened n m ws slot p un) calls
@@ -130,8 +130,8 @@ module _ (kind : Kind) (keyed : IsKeyed kind) (c : ℕ) (d : Content) (ws : List
       let l = laid n calls (opened n m ws slot p un) in (
         body_calls calls b.1,
         subst (λ (z : ℕ). IsCarefulCall kind c d l (PutEntry z word value)) (sym here.0) (
-          as_careful kind keyed c l d (entry_at n p word) value (body_careful n m ws slot p un (under d) l (body_stage n m ws slot p un calls b.1) word value here.1 here.2 here.3),
-          at_any_time kind keyed c (entry_at n p word) value (other_word word here.1 here.2),
+          as_careful kind keyed c l d (entry_offset n p word) value (body_careful n m ws slot p un (under d) l (body_stage n m ws slot p un calls b.1) word value here.1 here.2 here.3),
+          at_any_time kind keyed c (entry_offset n p word) value (other_word word here.1 here.2),
         ),
       )
   body_calls (access ∷ calls) b = absurd b.0
@@ -146,10 +146,10 @@ module _ (kind : Kind) (keyed : IsKeyed kind) (c : ℕ) (d : Content) (ws : List
       let in_index = un.in_index in (
         (
           body_calls (body p (entry_words pair)) b,
-          (as_careful kind keyed c l d (entry_at n p 2) (key_kind key) (kind_careful n m ws slot p un (under d) key l s), at_any_time kind keyed c (entry_at n p 2) (key_kind key) (other_word 2 (omega arith) (omega arith))),
+          (as_careful kind keyed c l d (entry_offset n p 2) (key_kind key) (kind_careful n m ws slot p un (under d) key l s), at_any_time kind keyed c (entry_offset n p 2) (key_kind key) (other_word 2 (omega arith) (omega arith))),
         ),
         (
-          as_careful kind keyed c (slice_set l (entry_at n p 2) (key_kind key)) d slot (p + 1) (index_careful n m ws slot p un (under d) key l s),
+          as_careful kind keyed c (slice_set l (entry_offset n p 2) (key_kind key)) d slot (p + 1) (index_careful n m ws slot p un (under d) key l s),
           at_any_time kind keyed c slot (p + 1) (λ q e. absurd (omega (arith, e, in_index))),
         ),
       )

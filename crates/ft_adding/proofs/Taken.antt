@@ -4,7 +4,7 @@ use Rattle.std.specs.Prelude.{nat_lt}
 use Rattle.ft_model.specs.declared.call.Call.{Call}
 use Rattle.ft_model.specs.declared.data.Key.{Key}
 use Rattle.ft_model.specs.declared.reply.Reply.{Reply}
-use Rattle.ft_model.specs.Tables.{StoredWorld, CanLackMemory, TableUse, grown_table, takes_in, would_pass}
+use Rattle.ft_model.specs.TableUses.{StoredWorld, CanLackMemory, TableUse, grown_table, takes_in, would_pass}
 use Rattle.ft_model.specs.Worlds.{length_of}
 use Rattle.ft_layout.specs.declared.slot.Stored.{Stored}
 use Rattle.ft_trace.specs.declared.Shape.{Shape}
@@ -13,15 +13,15 @@ use Rattle.ft_trace.specs.Acts.{has_lock, owes, stage}
 use Rattle.ft_trace.specs.Addresses.{containers_in, class_of}
 use Rattle.ft_trace.specs.Holds.{held, known}
 use Rattle.ft_trace.specs.Traces.{Possible}
-use Rattle.ft_trace.specs.Worlds.{ContainerState}
+use Rattle.ft_trace.specs.ContainerStates.{ContainerState}
 use Rattle.ft_bank.specs.declared.table.Table.{Table}
-use Rattle.ft_bank.specs.Tables.{name_of, IsTableIn}
+use Rattle.ft_bank.specs.TableNames.{name_of, IsTableIn}
 use Rattle.ft_bank.specs.Takings.{KeepsBut}
 use Rattle.ft_bank.specs.Whole.{OnlyLoaded, SamePass}
-use Rattle.ft_bank.specs.Writes.{MayHave}
-use Rattle.ft_bank.proofs.Tables.{class_is}
-use Rattle.ft_bank.proofs.Whole.{work_knows}
-use Rattle.ft_adding.specs.Growing.{AddsKey, KnowsKeyed, MayAddKey, MayGrow, key_takes, most_of}
+use Rattle.ft_bank.specs.WriteSteps.{MayHave}
+use Rattle.ft_bank.proofs.TableAddresses.{class_is}
+use Rattle.ft_bank.proofs.KnownAfterWrites.{work_knows}
+use Rattle.ft_adding.specs.KeyGrowth.{AddsKey, KnowsKeyed, MayAddKey, MayGrowKeyed, key_takes, most_of}
 use Rattle.ft_adding.specs.Placing.{with_key}
 use Rattle.ft_adding.proofs.Grown.{knows_on}
 
@@ -61,7 +61,7 @@ module _ (F : ℕ → Type 0) (v u : View) (same : SamePass v u) (keeps : KeepsB
     tried_knows = knows_on k o old v u tried_words.0 tried_words.1 (same.locks o) (same.writes o) keyed
 
   -- it may put the table into the root
-  pub tried_may : (k : Shape) (o : ℕ) (old : Option Table) (table : Table) (class : ℕ) → v.shape ≡ k → MayAddKey k o old v → IsTableIn k table → table.class ≡ class → stage (name_of table) u.log ≡ 1 → owes u.log ≡ suc class → MayGrow k o old table u
+  pub tried_may : (k : Shape) (o : ℕ) (old : Option Table) (table : Table) (class : ℕ) → v.shape ≡ k → MayAddKey k o old v → IsTableIn k table → table.class ≡ class → stage (name_of table) u.log ≡ 1 → owes u.log ≡ suc class → MayGrowKeyed k o old table u
   tried_may k o old table class shape may table_in of_class fresh owed = record {
     keyed = tried_knows k o old shape may.keyed;
     used = keeps.held.used ∙ may.used;

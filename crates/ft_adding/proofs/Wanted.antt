@@ -7,7 +7,7 @@ use Rattle.ft_model.specs.declared.content.Content.TheVariants as content
 use Rattle.ft_model.specs.declared.script.Kind.{Kind}
 use Rattle.ft_model.specs.declared.script.Kind.TheVariants as kind
 use Rattle.ft_model.specs.Classes.{IsClass, dict_class, dict_entries, most_pairs, most_elements, most_items, set_class, set_entries}
-use Rattle.ft_model.specs.Tables.{TableUse, grown_table, outgrows_dict, outgrows_set}
+use Rattle.ft_model.specs.TableUses.{TableUse, grown_table, outgrows_dict, outgrows_set}
 use Rattle.ft_model.specs.Worlds.{kind_of, length_of}
 use Rattle.ft_model.proofs.ClassRooms.{dict_fits, set_fits}
 use Rattle.ft_keys.specs.declared.walk.Way.{Way}
@@ -15,9 +15,9 @@ use Rattle.ft_keys.specs.declared.walk.Way.TheVariants as way
 use Rattle.ft_trace.specs.Addresses.{class_of, places}
 use Rattle.ft_trace.specs.Kinds.{rows}
 use Rattle.ft_bank.specs.declared.table.Table.{Table}
-use Rattle.ft_bank.specs.Tables.{name_of}
+use Rattle.ft_bank.specs.TableNames.{name_of}
 use Rattle.ft_search.specs.Rounds.{kind_by}
-use Rattle.ft_adding.specs.Growing.{key_takes, most_of, use_of}
+use Rattle.ft_adding.specs.KeyGrowth.{key_takes, most_of, use_of}
 
 if_some : (b : Bool) (x c : ℕ) → (if b then Some x else None) ≡ Some c → (b ≡ true) × (x ≡ c)
 if_some true x c e = (refl, ap (λ (z : Option ℕ). unwrap_or z 0) e)

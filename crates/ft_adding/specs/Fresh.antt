@@ -1,7 +1,7 @@
 -- A table that is fresh in the pass's hand, as it is filled with what a dict or a set has.
 use Rattle.std.specs.Prelude.{◌≡◌, ℕ, suc, ◌<◌, true, false, List, [], ◌∷◌, Option, Some, length, slice_index}
 use Rattle.ft_model.specs.declared.content.Content.{Content}
-use Rattle.ft_model.specs.Tables.{TableUse}
+use Rattle.ft_model.specs.TableUses.{TableUse}
 use Rattle.ft_model.specs.Worlds.{kind_of, length_of, serial_of}
 use Rattle.ft_layout.specs.Containers.{class_mask, IsBlock, StandsAs}
 use Rattle.ft_layout.specs.Tables.{dict_room}
@@ -11,10 +11,10 @@ use Rattle.ft_trace.specs.Acts.{has_lock, is_writing, stage}
 use Rattle.ft_trace.specs.Addresses.{containers_in, class_of, slots, size}
 use Rattle.ft_trace.specs.Holds.{held, in_hand}
 use Rattle.ft_trace.specs.Kinds.{rows}
-use Rattle.ft_trace.specs.Words.{root_in, entry_of}
+use Rattle.ft_trace.specs.Pictures.{root_in, entry_field}
 use Rattle.ft_bank.specs.Passes.{shape_of, view, IsPassOf}
-use Rattle.ft_bank.specs.Sections.{stack_of}
-use Rattle.ft_bank.specs.Tables.{name_of, IsTableIn}
+use Rattle.ft_bank.specs.PassSections.{stack_of}
+use Rattle.ft_bank.specs.TableNames.{name_of, IsTableIn}
 use Rattle.ft_growth.specs.Adding.{OnlyFilled}
 use Rattle.ft_adding.specs.declared.fresh.FreshWords.{FreshWords}
 
@@ -65,7 +65,7 @@ pub record BlankBelow (class n : ℕ) (words : List ℕ) : Type 0 where
   pub zeros : (i : ℕ) → i < n → slice_index words i ≡ 0
 
 -- all words of a table of this class are 0
-pub record IsBlank (class : ℕ) (words : List ℕ) : Type 0 where
+pub record HasZeroWords (class : ℕ) (words : List ℕ) : Type 0 where
   pub long : length words ≡ size class
   pub zeros : (i : ℕ) → slice_index words i ≡ 0
 
@@ -74,4 +74,4 @@ pub record IsBlank (class : ℕ) (words : List ℕ) : Type 0 where
 pub record IsFilledWith (texts : List ℕ) (class : ℕ) (content : Content) (words : List ℕ) : Type 0 where
   pub says : (block : List ℕ) → IsBlock block (Some class) (length_of content) (length_of content) (serial_of content)
       → StandsAs texts block (0 ∷ 0 ∷ words) (record { class = Some class; fill = length_of content }) content
-  pub versions : (place : ℕ) → place < rows (kind_of content) class → entry_of (slots class) words place 0 ≡ 0
+  pub versions : (place : ℕ) → place < rows (kind_of content) class → entry_field (slots class) words place 0 ≡ 0

@@ -1,3 +1,3 @@
 pub mod Placing
 pub mod Fresh
-pub mod Growing
+pub mod KeyGrowth

@@ -12,11 +12,11 @@ use Rattle.ft_layout.specs.declared.slot.Stored.TheVariants.{Empty, Plain}
 use Rattle.ft_layout.specs.Words.{entry_words}
 use Rattle.ft_keys.specs.declared.words.Access.{Access}
 use Rattle.ft_keys.specs.declared.words.Access.TheVariants.{PutIndex, PutEntry}
-use Rattle.ft_keys.specs.Changes.{place_puts}
+use Rattle.ft_keys.specs.TableChanges.{place_puts}
 use Rattle.ft_trace.specs.Addresses.{class_of, slots}
-use Rattle.ft_trace.specs.Words.{Picture, index_of, entry_at, entry_of}
+use Rattle.ft_trace.specs.Pictures.{Picture, index_field, entry_offset, entry_field}
 use Rattle.ft_adding.specs.declared.counts.Counts.{Counts}
-use Rattle.ft_search.specs.Writing.{raised_at}
+use Rattle.ft_search.specs.OneEntryWrites.{raised_at}
 
 -- what the entry of a key stores, by the kind of the container: a dict has a value there, a set nothing
 abbrev pub StoresAs : Kind → Stored → Type 0
@@ -44,7 +44,7 @@ counted block count fill next = slice_set (slice_set (slice_set block 1 count) 2
 -- the words of a table with n index slots, counted after its header, once a call has put one
 abbrev pub put_in : ℕ → Access → List ℕ → List ℕ
 put_in n (PutIndex slot value) words = slice_set words slot value
-put_in n (PutEntry place word value) words = slice_set words (entry_at n place word) value
+put_in n (PutEntry place word value) words = slice_set words (entry_offset n place word) value
 put_in n access words = words
 
 -- and once calls have put some, the newest first
@@ -71,6 +71,6 @@ pub record IsUnused (n m : ℕ) (words : List ℕ) (slot place : ℕ) : Type 0 w
   pub low : place < m
   pub in_index : slot < n
   pub long : n + 8 * m ≤ length words
-  pub even : entry_of n words place 0 % 2 ≡ 0
-  pub none : entry_of n words place 2 ≡ 0
-  pub free : index_of words slot ≡ 0
+  pub even : entry_field n words place 0 % 2 ≡ 0
+  pub none : entry_field n words place 2 ≡ 0
+  pub free : index_field words slot ≡ 0

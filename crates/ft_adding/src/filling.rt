@@ -2,22 +2,22 @@
 //! serial. No other pass reads the table before it is put into a root.
 ghost use Rattle.std.specs.Prelude.{◌≡◌, ℕ, suc, ◌*◌, ◌<◌, ◌≤◌, true, false, Some};
 ghost use Rattle.ft_hash.specs.Probes.{IsMask};
-ghost use Rattle.ft_keys.specs.Changes.{Moves, Rebuilds};
+ghost use Rattle.ft_keys.specs.TableChanges.{Moves, Rebuilds};
 ghost use Rattle.ft_model.specs.declared.content.Content.{Content};
 ghost use Rattle.ft_model.specs.Worlds.{length_of};
 ghost use Rattle.ft_trace.specs.Acts.{has_lock, is_writing, stage};
 ghost use Rattle.ft_trace.specs.Addresses.{containers_in, class_of};
 ghost use Rattle.ft_trace.specs.Holds.{held, in_hand, known};
 ghost use Rattle.ft_trace.specs.Kinds.{rows};
-ghost use Rattle.ft_trace.specs.Words.{root_in, Stands};
-ghost use Rattle.ft_trace.specs.Worlds.{kind_in};
+ghost use Rattle.ft_trace.specs.Pictures.{root_in, Stands};
+ghost use Rattle.ft_trace.specs.ContainerStates.{kind_in};
 ghost use Rattle.ft_bank.specs.Passes.{shape_of, view, IsPassOf};
-ghost use Rattle.ft_bank.specs.Sections.{stack_of};
-ghost use Rattle.ft_bank.specs.Tables.{name_of, IsTableIn};
+ghost use Rattle.ft_bank.specs.PassSections.{stack_of};
+ghost use Rattle.ft_bank.specs.TableNames.{name_of, IsTableIn};
 ghost use Rattle.ft_growth.specs.Adding.{OnlyFilled};
 ghost use Rattle.ft_search.specs.Rounds.{kind_by};
-ghost use Rattle.ft_adding.specs.Fresh.{CanFill, FreshMade, IsBlank, IsFilledWith, old_entries};
-ghost use Rattle.ft_adding.specs.Growing.{KnowsKeyed};
+ghost use Rattle.ft_adding.specs.Fresh.{CanFill, FreshMade, HasZeroWords, IsFilledWith, old_entries};
+ghost use Rattle.ft_adding.specs.KeyGrowth.{KnowsKeyed};
 
 use crate::fresh::FreshWords;
 use ft_bank::{Bank, Pass, Table};
@@ -36,7 +36,7 @@ pub fn blank(bank: &Bank, pass: &mut Pass, table: Table)
     ensures pass { IsPassOf bank.now pass.new }
     ensures stack { stack_of pass.new ≡ stack_of pass.old }
     ensures only { OnlyFilled (view pass.old) (view pass.new) }
-    ensures blank { IsBlank (class_of (name_of table)) (in_hand (name_of table) (view pass.new)) }
+    ensures blank { HasZeroWords (class_of (name_of table)) (in_hand (name_of table) (view pass.new)) }
 {
     for at in 0..table_size(table.class) - 2 {
         bank.put_fresh(pass, table, at, 0);
@@ -72,7 +72,7 @@ fn copy_entries(
     requires way { kind_in (shape_of bank.now).kinds o ≡ kind_by way }
     requires table { IsTableIn (shape_of bank.now) table }
     requires fresh { stage (name_of table) (view pass.old).log ≡ 1 }
-    requires blank { IsBlank (class_of (name_of table)) (in_hand (name_of table) (view pass.old)) }
+    requires blank { HasZeroWords (class_of (name_of table)) (in_hand (name_of table) (view pass.old)) }
     requires fill { old_fill ≡ (known o (view pass.old)).table.fill }
     requires room { length_of (known o (view pass.old)).content ≤ rows (kind_by way) (class_of (name_of table)) }
     ensures pass { IsPassOf bank.now pass.new }

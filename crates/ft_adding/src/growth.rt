@@ -12,20 +12,20 @@ ghost use Rattle.ft_trace.specs.Acts.{noted};
 ghost use Rattle.ft_trace.specs.Addresses.{containers_in, class_of};
 ghost use Rattle.ft_trace.specs.Holds.{held, known, in_hand};
 ghost use Rattle.ft_trace.specs.Kinds.{rows};
-ghost use Rattle.ft_trace.specs.Words.{root_in};
-ghost use Rattle.ft_trace.specs.Worlds.{kind_in};
+ghost use Rattle.ft_trace.specs.Pictures.{root_in};
+ghost use Rattle.ft_trace.specs.ContainerStates.{kind_in};
 ghost use Rattle.ft_bank.specs.KeyHashes.{IsKeyIn};
 ghost use Rattle.ft_bank.specs.Passes.{shape_of, view, IsPassOf};
-ghost use Rattle.ft_bank.specs.Sections.{stack_of};
+ghost use Rattle.ft_bank.specs.PassSections.{stack_of};
 ghost use Rattle.ft_bank.specs.Series.{DidAll};
-ghost use Rattle.ft_bank.specs.Tables.{name_of, IsTableIn};
+ghost use Rattle.ft_bank.specs.TableNames.{name_of, IsTableIn};
 ghost use Rattle.ft_bank.specs.Whole.{OnlyLoaded, Wrote};
-ghost use Rattle.ft_bank.specs.Writes.{KeepsUnwritten};
+ghost use Rattle.ft_bank.specs.WriteSteps.{KeepsUnwritten};
 ghost use Rattle.ft_search.specs.Held.{IsHeldAt, KnowsTable};
 ghost use Rattle.ft_search.specs.Rounds.{kind_by};
-ghost use Rattle.ft_search.specs.Writing.{WritesEntries};
+ghost use Rattle.ft_search.specs.OneEntryWrites.{WritesEntries};
 ghost use Rattle.ft_adding.specs.Fresh.{IsFilledWith};
-ghost use Rattle.ft_adding.specs.Growing.{AddsKey, IsFreeFor, MayGrow, key_takes, most_of};
+ghost use Rattle.ft_adding.specs.KeyGrowth.{AddsKey, IsFreeFor, MayGrowKeyed, key_takes, most_of};
 ghost use Rattle.ft_adding.specs.Placing.{AreCounts, StoresAs};
 
 use crate::counts::Counts;
@@ -43,7 +43,7 @@ use ft_search::{finish_entry, read_in};
 /// Makes the version of a dict or a set odd and puts a table into its root that has what it has.
 pub fn begin_in(bank: &Bank, pass: &mut Pass, o: u32, old: Option<Table>, table: Table)
     requires pass { IsPassOf bank.now pass.old }
-    requires may { MayGrow (shape_of bank.now) o old table (view pass.old) }
+    requires may { MayGrowKeyed (shape_of bank.now) o old table (view pass.old) }
     requires filled { IsFilledWith (shape_of bank.now).texts (class_of (name_of table)) (known o (view pass.old)).content
         (in_hand (name_of table) (view pass.old)) }
     ensures pass { IsPassOf bank.now pass.new }
@@ -104,7 +104,7 @@ pub(crate) fn add_in_new(
     said: &Reply,
 ) -> u64
     requires pass { IsPassOf bank.now pass.old }
-    requires may { MayGrow (shape_of bank.now) o old table (view pass.old) }
+    requires may { MayGrowKeyed (shape_of bank.now) o old table (view pass.old) }
     requires way { kind_in (shape_of bank.now).kinds o ≡ kind_by way }
     requires other { root_in (held o (view pass.old)) ≢ suc (name_of table) }
     requires key { IsKeyIn (shape_of bank.now) key }

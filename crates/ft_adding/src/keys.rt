@@ -6,15 +6,15 @@ ghost use Rattle.ft_model.specs.Classes.{IsClass};
 ghost use Rattle.ft_model.specs.Worlds.{kind_of, length_of, serial_of};
 ghost use Rattle.ft_layout.specs.Words.{FitsKey, FitsStored};
 ghost use Rattle.ft_trace.specs.Holds.{held, known};
-ghost use Rattle.ft_trace.specs.Worlds.{kind_in};
+ghost use Rattle.ft_trace.specs.ContainerStates.{kind_in};
 ghost use Rattle.ft_bank.specs.declared.table.Table.{Table};
 ghost use Rattle.ft_bank.specs.KeyHashes.{IsKeyIn};
 ghost use Rattle.ft_bank.specs.Passes.{shape_of, view, IsPassOf};
-ghost use Rattle.ft_bank.specs.Sections.{stack_of};
+ghost use Rattle.ft_bank.specs.PassSections.{stack_of};
 ghost use Rattle.ft_growth.specs.Adding.{IsAdded};
 ghost use Rattle.ft_search.specs.Held.{IsHeldAt};
 ghost use Rattle.ft_search.specs.Rounds.{kind_by};
-ghost use Rattle.ft_adding.specs.Growing.{AddsKey, AddsOne, IsFreeFor, MayAddKey, key_takes, keys_take, most_of, use_of};
+ghost use Rattle.ft_adding.specs.KeyGrowth.{AddsKey, AddsOne, IsFreeFor, MayAddKey, key_takes, keys_take, most_of, use_of};
 ghost use Rattle.ft_adding.specs.Placing.{AreCounts, StoresAs};
 
 use crate::counts::{Counts, read_counts};

@@ -6,19 +6,19 @@ ghost use Rattle.ft_layout.specs.declared.slot.Pair.{Pair};
 ghost use Rattle.ft_layout.specs.Tables.{dict_room};
 ghost use Rattle.ft_layout.specs.Words.{FitsStored, entry_words};
 ghost use Rattle.ft_keys.specs.Accesses.{Allows};
-ghost use Rattle.ft_keys.specs.Changes.{place_puts};
+ghost use Rattle.ft_keys.specs.TableChanges.{place_puts};
 ghost use Rattle.ft_trace.specs.Acts.{has_committed};
 ghost use Rattle.ft_trace.specs.Addresses.{class_of, slots};
 ghost use Rattle.ft_trace.specs.Holds.{held};
 ghost use Rattle.ft_trace.specs.Kinds.{rows};
-ghost use Rattle.ft_trace.specs.Worlds.{kind_in};
+ghost use Rattle.ft_trace.specs.ContainerStates.{kind_in};
 ghost use Rattle.ft_bank.specs.Passes.{shape_of, view, IsPassOf};
-ghost use Rattle.ft_bank.specs.Sections.{stack_of};
-ghost use Rattle.ft_bank.specs.Tables.{name_of};
+ghost use Rattle.ft_bank.specs.PassSections.{stack_of};
+ghost use Rattle.ft_bank.specs.TableNames.{name_of};
 ghost use Rattle.ft_bank.specs.Whole.{OnlyPut};
 ghost use Rattle.ft_adding.specs.Placing.{IsUnused, counted, laid, with_entry, with_pair};
-ghost use Rattle.ft_search.specs.Words.{CanLoad, Made, MayMake, MayPutAny, SamePlace};
-ghost use Rattle.ft_search.specs.Writing.{WritesEntries};
+ghost use Rattle.ft_search.specs.TableWords.{CanLoad, MadeAccess, MayMake, MayPutAny, SamePlace};
+ghost use Rattle.ft_search.specs.OneEntryWrites.{WritesEntries};
 
 use crate::counts::{COUNT, Counts, FILL, NEXT};
 use ft_bank::{Bank, Pass, Table};
@@ -61,7 +61,7 @@ fn place_in(words: &mut TableWords<'_>, slot: u64, place: u64, pair: &Pair)
     requires slot { slot ≤ words.old.mask }
     requires place { place < dict_room words.old.mask }
     requires value { FitsStored pair.now.value }
-    requires may { Allows Made MayMake words.old (place_puts slot place (entry_words pair.now)) }
+    requires may { Allows MadeAccess MayMake words.old (place_puts slot place (entry_words pair.now)) }
     ensures same { SamePlace words.old words.new }
     ensures stack { stack_of words.new.pass.now ≡ stack_of words.old.pass.now }
     ensures can { CanLoad words.new }

@@ -16,7 +16,7 @@ use Rattle.ft_trace.specs.Acts.{place, word_after, Reports, noted, maker, made, 
 use Rattle.ft_trace.specs.Traces.{Event, did, forked, joined, sent, run, history, snap, Valid, Knows, Possible, Ready, ReadyAs, Does, DoesAs, MayFork, IsFree, IsQuiet, IsAwake}
 use Rattle.ft_trace.proofs.Sizes.{sized, set_at}
 use Rattle.ft_trace.proofs.Seeing.{shown_up}
-use Rattle.ft_bank.specs.Rules.{Holds, Notes, Acted}
+use Rattle.ft_bank.specs.Rules.{HasTrace, Notes, Acted}
 
 -- what stands at a place may be put there
 set_same : {A : Type 0} (l : List A) (i : ℕ) (a : A) → get_elem? l i ≡ some a → slice_set l i a ≡ l
@@ -37,7 +37,7 @@ module _ {S : Type 0} (me : Me S View) (id i : ℕ) (f : ℕ → ℕ) (act : ℕ
   -- the state with the action noted
   abbrev Noted : Shape → State S View → Type 0
   Noted k s =
-      (z : Snap) × Holds k (stepped s i (f (slice_index s.words i)) id me.1 (noted (act (slice_index s.words i) z) me.0) keeps)
+      (z : Snap) × HasTrace k (stepped s i (f (slice_index s.words i)) id me.1 (noted (act (slice_index s.words i) z) me.0) keeps)
       × Acted me.0 (act (slice_index s.words i) z)
 
   core : (homes : List (Option S)) (es : List Event) → Knows me.0 es id → slice_index (run me.0.shape es).words i < 2 ^ 64 → Fit (slice_index (run me.0.shape es).words i)
@@ -70,7 +70,7 @@ module _ {S : Type 0} (me : Me S View) (id i : ℕ) (f : ℕ → ℕ) (act : ℕ
       (core s.homes es knows (subst (λ (l : List ℕ). slice_index l i < 2 ^ 64) (sym p) small) (subst (λ (l : List ℕ). Fit (slice_index l i)) (sym p) fit))
 
   -- a step after whatever other passes did
-  pub noted_at : (k : Shape) (s : State S View) → Holds k s → get_elem? s.views id ≡ some me.0 → slice_index s.words i < 2 ^ 64 → Fit (slice_index s.words i) → Noted k s
+  pub noted_at : (k : Shape) (s : State S View) → HasTrace k s → get_elem? s.views id ≡ some me.0 → slice_index s.words i < 2 ^ 64 → Fit (slice_index s.words i) → Noted k s
   noted_at k s h at small fit =
       let here : get_elem? (run k h.0).views id ≡ some me.0 = subst (λ (l : List View). get_elem? l id ≡ some me.0) (sym h.3) at in
       let same : me.0.shape ≡ k = sized k h.0 h.1 id me.0 here live.0 in
@@ -100,21 +100,21 @@ still_settled v a w same old = same_settled w (noted a v) same (le_trans old (sh
 
 module _ {S : Type 0} (me : Me S View) (id i : ℕ) (f : ℕ → ℕ) (live : IsAwake me.0) where
   -- a step that keeps what stood in the bank
-  pub kept : (act : ℕ → Snap → Act) → DoesAs me.0 i f act → ReadyAs me.0 i act → (k : Shape) (slots : ℕ) → Allows (Holds k) slots id me i f (λ n w. (z : Snap) × Notes (λ n'. act n' z) me n w)
+  pub kept : (act : ℕ → Snap → Act) → DoesAs me.0 i f act → ReadyAs me.0 i act → (k : Shape) (slots : ℕ) → Allows (HasTrace k) slots id me i f (λ n w. (z : Snap) × Notes (λ n'. act n' z) me n w)
   kept act does ready k slots s h deep at small =
       let n = slice_index s.words i in
       let r = noted_at me id i f act live ready k s h at small (λ z. ((does n z).0, (does n z).1 n)) in
       (noted (act n r.0) me.0, keeps, tt, r.1, (r.0, (refl, refl, r.2)))
 
   -- a step that finds a number
-  pub found : (act : ℕ → Act) → Does me.0 i f act → Ready me.0 i act → (k : Shape) (slots : ℕ) → Allows (Holds k) slots id me i f (Notes act me)
+  pub found : (act : ℕ → Act) → Does me.0 i f act → Ready me.0 i act → (k : Shape) (slots : ℕ) → Allows (HasTrace k) slots id me i f (Notes act me)
   found act does ready k slots s h deep at small =
       let n = slice_index s.words i in
       let r = noted_at me id i f (λ n' _. act n') live ready k s h at small (λ z. ((does n z).0, (does n z).1 n)) in
       (noted (act n) me.0, keeps, tt, r.1, (refl, refl, r.2))
 
   -- a store, which finds nothing
-  pub stored : (x : ℕ) (act : ℕ → Act) → act x ≡ act 0 → Does me.0 i f (λ _. act 0) → Ready me.0 i (λ _. act 0) → (k : Shape) (slots : ℕ) → Allows (Holds k) slots id me i f (λ _. Notes act me x)
+  pub stored : (x : ℕ) (act : ℕ → Act) → act x ≡ act 0 → Does me.0 i f (λ _. act 0) → Ready me.0 i (λ _. act 0) → (k : Shape) (slots : ℕ) → Allows (HasTrace k) slots id me i f (λ _. Notes act me x)
   stored x act same does ready k slots s h deep at small =
       let n = slice_index s.words i in
       let r = noted_at me id i f (λ _ _. act 0) live ready k s h at small (λ z. ((does n z).0, (does n z).1 n)) in
@@ -122,7 +122,7 @@ module _ {S : Type 0} (me : Me S View) (id i : ℕ) (f : ℕ → ℕ) (live : Is
 
 -- a load that is an action only where it finds another number than 0
 pub looked : {S : Type 0} (me : Me S View) (id i : ℕ) → IsAwake me.0 → (act : ℕ → Snap → Act) → ((n : ℕ) (z : Snap) → n ≢ 0 → (at me.0.shape (place (act n z)) ≡ i) × (word_after me.0.number (act n z) n ≡ n)) → ReadyAs me.0 i act → (k : Shape) (slots : ℕ)
-    → Allows (Holds k) slots id me i (λ n. n) (λ n w. (n ≡ 0 → w ≡ me) × (n ≢ 0 → (z : Snap) × Notes (λ n'. act n' z) me n w))
+    → Allows (HasTrace k) slots id me i (λ n. n) (λ n w. (n ≡ 0 → w ≡ me) × (n ≢ 0 → (z : Snap) × Notes (λ n'. act n' z) me n w))
 looked me id i live act fit ready k slots s h deep at small =
     let n = slice_index s.words i in
     dite (ℕ_discrete n 0)
@@ -132,20 +132,20 @@ looked me id i live act fit ready k slots s h deep at small =
     let r = noted_at me id i (λ x. x) act live ready k s h at small (λ z. fit n z some_one) in
     (noted (act n r.0) me.0, keeps, tt, r.1, ((λ e. absurd (some_one e)), (λ _. (r.0, (refl, refl, r.2))))))
 
-pub cuts : {S : Type 0} (k : Shape) (id : ℕ) (v : View) → MayFork v → Splits (Holds {S = S} k) id v (maker v) (made v)
+pub cuts : {S : Type 0} (k : Shape) (id : ℕ) (v : View) → MayFork v → Splits (HasTrace {S = S} k) id v (maker v) (made v)
 cuts k id v may s h at =
     let here : get_elem? (run k h.0).views id ≡ some v = subst (λ (l : List View). get_elem? l id ≡ some v) (sym h.3) at in
     let same : v.shape ≡ k = sized k h.0 h.1 id v here may.live in
     (forked id v ∷ h.0, (h.1, (here, may.live, may.next, may.parts, may.left, subst (λ (z : Shape). v.next ≤ z.passes) same may.few, may.tokens)), h.2, ap (λ (l : List View). set l id (maker v) ++ made v ∷ []) h.3)
 
-pub glues : {S : Type 0} (k : Shape) (id : ℕ) (v : View) (other : ℕ) (w : View) → v.number ≢ 0 → w.next ≡ 0 → IsFree w → Joins (Holds {S = S} k) id v other w (both v w) spent
+pub glues : {S : Type 0} (k : Shape) (id : ℕ) (v : View) (other : ℕ) (w : View) → v.number ≢ 0 → w.next ≡ 0 → IsFree w → Joins (HasTrace {S = S} k) id v other w (both v w) spent
 glues k id v other w live last free s h at ne there =
     let here : get_elem? (run k h.0).views id ≡ some v = subst (λ (l : List View). get_elem? l id ≡ some v) (sym h.3) at in
     let it : get_elem? s.views other ≡ some w = sym (set_else s.views id other (both v w) ne) ∙ there in
     let its : get_elem? (run k h.0).views other ≡ some w = subst (λ (l : List View). get_elem? l other ≡ some w) (sym h.3) it in
     (joined id v other w ∷ h.0, (h.1, (here, ne, its, live, last, free)), h.2, ap (λ (l : List View). set (set l id (both v w)) other spent) h.3)
 
-pub sends : {S : Type 0} (k : Shape) (id : ℕ) (v : View) (given : ℕ) → v.number ≢ 0 → given ≤ v.tokens → (given ≡ v.tokens → 0 < v.tokens → IsQuiet v) → Splits (Holds {S = S} k) id v (sender given v) (note given v)
+pub sends : {S : Type 0} (k : Shape) (id : ℕ) (v : View) (given : ℕ) → v.number ≢ 0 → given ≤ v.tokens → (given ≡ v.tokens → 0 < v.tokens → IsQuiet v) → Splits (HasTrace {S = S} k) id v (sender given v) (note given v)
 sends k id v given live low quiet s h at =
     let here : get_elem? (run k h.0).views id ≡ some v = subst (λ (l : List View). get_elem? l id ≡ some v) (sym h.3) at in
     (sent id v given ∷ h.0, (h.1, (here, live, low, quiet)), h.2, ap (λ (l : List View). set l id (sender given v) ++ note given v ∷ []) h.3)

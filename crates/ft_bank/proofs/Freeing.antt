@@ -15,13 +15,13 @@ use Rattle.ft_trace.specs.declared.Shape.{Shape}
 use Rattle.ft_trace.specs.declared.Snap.{Snap}
 use Rattle.ft_trace.specs.declared.View.{View}
 use Rattle.ft_trace.specs.Bits.{bit, bit_on, bit_off}
-use Rattle.ft_trace.specs.Addresses.{containers_in, class_of, number_of, free_word_of, free_bit_of, tables_in, bits, cell, extent, IsTable}
+use Rattle.ft_trace.specs.Addresses.{containers_in, class_of, number_of, free_word_of, free_bit_of, tables_in, bits, cell, extent, IsTableName}
 use Rattle.ft_trace.specs.Ages.{age}
-use Rattle.ft_trace.specs.Words.{table_of}
+use Rattle.ft_trace.specs.Pictures.{table_of}
 use Rattle.ft_trace.specs.Acts.{clear, place, has_lock, has_lock_next, is_writing_next, has_committed_next, has_emptied_next, stage, stage_next, used_next, debt_next, announces_next, left_next, entries_next, flight, owes, noted}
 use Rattle.ft_trace.specs.Holds.{held, known, in_hand}
 use Rattle.ft_trace.specs.Traces.{Event, did, run, word, writes_of, history, IsAllShut, May, Ready, ReadyAs}
-use Rattle.ft_trace.specs.Worlds.{container_after}
+use Rattle.ft_trace.specs.ContainerStates.{container_after}
 use Rattle.ft_trace.proofs.Addresses.{class_of_number, number_of_number, at_low}
 use Rattle.ft_trace.proofs.Bits.{off_is, on_is}
 use Rattle.ft_trace.proofs.Cases.{hit, miss, here}
@@ -29,18 +29,18 @@ use Rattle.ft_trace.proofs.Contents.{Of, still_of, tab}
 use Rattle.ft_trace.proofs.Held.{words_known, content_known, hand_known}
 use Rattle.ft_trace.proofs.Ones.{IsNone, unused}
 use Rattle.ft_trace.proofs.Pieces.{table_same}
-use Rattle.ft_trace.proofs.Places.{placed}
+use Rattle.ft_trace.proofs.TablePlaces.{placed}
 use Rattle.ft_trace.proofs.Shuts.{shuts}
-use Rattle.ft_trace.proofs.Words.{stays}
+use Rattle.ft_trace.proofs.OneWord.{stays}
 use Rattle.ft_bank.specs.declared.table.Table.{Table}
 use Rattle.ft_bank.specs.Rules.{Acted}
 use Rattle.ft_bank.specs.Series.{noted_all}
-use Rattle.ft_bank.specs.Tables.{name_of, IsTableIn}
+use Rattle.ft_bank.specs.TableNames.{name_of, IsTableIn}
 use Rattle.ft_bank.specs.declared.takings.Search.{Search}
 use Rattle.ft_bank.specs.declared.takings.Search.TheVariants as search
-use Rattle.ft_bank.specs.Takings.{KeepsHeld, KeepsBut, Each, NotTable, IsShutIn, IsUnclaimed, MayGive, HasFound, IsSearch, IsCleared, Cleared, word_of_class, loads_of_none}
+use Rattle.ft_bank.specs.Takings.{KeepsHeld, KeepsBut, Each, NotTable, IsShutIn, IsUnclaimed, MayGive, HasFound, IsSearch, IsBitCleared, Cleared, word_of_class, loads_of_none}
 use Rattle.ft_bank.proofs.Allowed.{acted_knows}
-use Rattle.ft_bank.proofs.Tables.{named}
+use Rattle.ft_bank.proofs.TableAddresses.{named}
 
 -- ---- what stays
 
@@ -71,7 +71,7 @@ module _ (F : ℕ → Type 0) (v : View) (a : Act) (aside : IsAside a) (same : (
         content_known w o has now d.1 next ∙ (still.content ∙ sym (content_known v o mine es d.1 (d.2.0, d.2.1.0))),
       )
 
-  hand_keeps : (t : ℕ) → F t → IsTable v.shape t → stage t v.log ≡ 1 → in_hand t (noted a v) ≡ in_hand t v
+  hand_keeps : (t : ℕ) → F t → IsTableName v.shape t → stage t v.log ≡ 1 → in_hand t (noted a v) ≡ in_hand t v
   hand_keeps t of table mine =
       let k = v.shape in
       let es = d.0 in
@@ -149,7 +149,7 @@ held_then F G u v w a b of = record {
       (two.0 ∙ one.0, two.1 ∙ one.1);
   stages = λ t is. b.stages t (of t is) ∙ a.stages t is;
   hands = λ t is table mine.
-      b.hands t (of t is) (subst (λ (z : Shape). IsTable z t) (sym a.shape) table) (a.stages t is ∙ mine) ∙ a.hands t is table mine;
+      b.hands t (of t is) (subst (λ (z : Shape). IsTableName z t) (sym a.shape) table) (a.stages t is ∙ mine) ∙ a.hands t is table mine;
 }
 
 pub but_then : (F G : ℕ → Type 0) (u v w : View) → KeepsBut F u v → KeepsBut G v w → ((t : ℕ) → F t → G t) → KeepsBut F u w
@@ -302,7 +302,7 @@ unclaimed v class j f n is low small one d =
     let none : IsNone k t = record { class = subst IsClass (sym c) is; number = omega (arith, m, less); none = (let e : tables_in k (class_of t) ≡ tables_in k class = ap (tables_in k) c in omega (arith, e, m, no)) } in
     let z = unused k es d.2.0 t none in
     absurd (omega (arith, z, set))) in
-    let table : IsTable k t = (subst IsClass (sym c) is, (let e : tables_in k (class_of t) ≡ tables_in k class = ap (tables_in k) c in omega (arith, e, m, there)), omega (arith, m, less)) in
+    let table : IsTableName k t = (subst IsClass (sym c) is, (let e : tables_in k (class_of t) ≡ tables_in k class = ap (tables_in k) c in omega (arith, e, m, there)), omega (arith, m, less)) in
     let its = placed k es d.2.0 t table in
     let age = its.free_is set in (
       (is, there, less),
@@ -313,7 +313,7 @@ unclaimed v class j f n is low small one d =
 
 pub take_ready : (v : View) (j r : ℕ) (q : Table) → r ≡ name_of q → IsTableIn v.shape q → stage (name_of q) v.log ≡ 0 → flight v.log ≡ 2 * q.class + 1 → ReadyAs v j (λ n s. TakeTable r n s)
 take_ready v j r q e is none lowered es id knows small =
-    let table : IsTable v.shape r = subst (IsTable v.shape) (sym e) (named v.shape q is) in
+    let table : IsTableName v.shape r = subst (IsTableName v.shape) (sym e) (named v.shape q is) in
     let c : class_of r ≡ q.class = ap class_of e ∙ class_of_number q.class q.number is.2 in
     (refl, (table, ap (λ (z : ℕ). stage z v.log) e ∙ none, refl, omega (arith, lowered, c)))
 
@@ -377,7 +377,7 @@ give_ready v j r q e is may idle es id knows small =
 -- ---- a search
 
 -- what a try at the bit of a table ends a search with
-pub search_ends : (class j loaded f : ℕ) (q : Table) (s : Snap) (r : Search) → j < 16 → free_word_of (name_of q) ≡ word_of_class class j → IsCleared q loaded f r → IsSearch class r (TakeTable (name_of q) f s ∷ ReadFree (word_of_class class j) loaded ∷ loads_of_none class j)
+pub search_ends : (class j loaded f : ℕ) (q : Table) (s : Snap) (r : Search) → j < 16 → free_word_of (name_of q) ≡ word_of_class class j → IsBitCleared q loaded f r → IsSearch class r (TakeTable (name_of q) f s ∷ ReadFree (word_of_class class j) loaded ∷ loads_of_none class j)
 search_ends class j loaded f q s (search.Found t) low of is = (
   loaded,
   f,

@@ -5,7 +5,7 @@ use Rattle.ft_trace.specs.declared.Shape.{Shape}
 use Rattle.ft_trace.specs.declared.View.{View}
 use Rattle.ft_trace.specs.Acts.{starter, maker, made}
 use Rattle.ft_trace.specs.Traces.{MayFork}
-use Rattle.ft_bank.specs.Openings.{next_of, opening_view, IsOpening, AreOpening, HasMade}
+use Rattle.ft_bank.specs.NewPasses.{next_of, opening_view, IsOpening, AreOpening, HasMade}
 use Rattle.ft_bank.specs.declared.bank.Bank.{Bank}
 use Rattle.ft_bank.specs.declared.pass.Pass.{Pass}
 

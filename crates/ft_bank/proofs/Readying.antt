@@ -3,29 +3,29 @@ use Rattle.std.proofs.Common.{Option, Some, None, Bool, ◌≤◌, ◌≡◌, �
 use Rattle.std.specs.Prelude.{slice_index}
 use Rattle.ft_model.specs.declared.call.Call.{Call}
 use Rattle.ft_model.specs.declared.reply.Reply.{Reply}
-use Rattle.ft_model.specs.Tables.{stored_newest}
+use Rattle.ft_model.specs.TableUses.{stored_newest}
 use Rattle.ft_trace.specs.declared.Snap.{Snap}
 use Rattle.ft_trace.specs.declared.View.{View}
 use Rattle.ft_trace.specs.declared.Act.TheVariants.{StartWrite, ReadTable, PutRoot, PutTable, PutFresh, Commit, StopWrite}
-use Rattle.ft_trace.specs.Addresses.{containers_in, class_of, size, IsTable, counter}
+use Rattle.ft_trace.specs.Addresses.{containers_in, class_of, size, IsTableName, counter}
 use Rattle.ft_trace.specs.Acts.{has_lock, is_writing, has_committed, stage, noted}
-use Rattle.ft_trace.specs.Worlds.{ContainerState, container_after, kind_in, changes}
-use Rattle.ft_trace.specs.Words.{root_in, Stands}
+use Rattle.ft_trace.specs.ContainerStates.{ContainerState, container_after, kind_in, changes}
+use Rattle.ft_trace.specs.Pictures.{root_in, Stands}
 use Rattle.ft_trace.specs.Kinds.{rows, version_at, ClearAs}
-use Rattle.ft_trace.specs.Openings.{Shut, Low}
+use Rattle.ft_trace.specs.OddVersions.{Shut, Low}
 use Rattle.ft_trace.specs.Holds.{held, known, in_hand}
 use Rattle.ft_trace.specs.Traces.{run, history, snap, Ready, ReadyAs, Sure, word, SoundFor, LowFor}
 use Rattle.ft_trace.proofs.FitCalls.{contents_fit}
 use Rattle.ft_trace.proofs.Known.{kinds_stay}
-use Rattle.ft_trace.proofs.Rooms.{counter_room, version_room}
-use Rattle.ft_trace.proofs.Versions.{writer_has}
+use Rattle.ft_trace.proofs.NoWrap.{counter_room, version_room}
+use Rattle.ft_trace.proofs.OddVersions.{writer_has}
 use Rattle.ft_trace.proofs.Held.{content_known, root_known, table_known, stop_sure, put_sure, sound_sure, hand_known, agrees_now}
 use Rattle.ft_trace.proofs.Untouched.{as_many}
 use Rattle.ft_trace.proofs.Orders.{in_order}
 use Rattle.ft_bank.specs.declared.table.Table.{Table}
-use Rattle.ft_bank.specs.Tables.{name_of, root_for}
+use Rattle.ft_bank.specs.TableNames.{name_of, root_for}
 use Rattle.ft_bank.specs.Rules.{Acted}
-use Rattle.ft_bank.specs.Writes.{MayHave, Committed, MayCommit, MayPutRoot, IsCareful, IsShut}
+use Rattle.ft_bank.specs.WriteSteps.{MayHave, Committed, MayCommit, MayPutRoot, IsCareful, IsShut}
 
 -- the bank's calls are few enough for its words
 abbrev pub AreFew : View → Type 0
@@ -106,13 +106,13 @@ commit_leaves v c r n s d =
       left = λ p. ap (λ (z : Snap). container_after k.kinds (c ∷ z.calls) p) is;
     }
 
-pub read_ready : (v : View) (j t i : ℕ) → IsTable v.shape t → i < size (class_of t) → Ready v j (λ n. ReadTable t i n)
+pub read_ready : (v : View) (j t i : ℕ) → IsTableName v.shape t → i < size (class_of t) → Ready v j (λ n. ReadTable t i n)
 read_ready v j t i table small es id knows low = (refl, (table, small))
 
-pub fresh_ready : (v : View) (j t i x : ℕ) → IsTable v.shape t → i < size (class_of t) → stage t v.log ≡ 1 → Ready v j (λ n. PutFresh t i x)
+pub fresh_ready : (v : View) (j t i x : ℕ) → IsTableName v.shape t → i < size (class_of t) → stage t v.log ≡ 1 → Ready v j (λ n. PutFresh t i x)
 fresh_ready v j t i x table small mine es id knows low = (tt, (table, small, mine))
 
-pub put_ready : (v : View) (j o t i x : ℕ) → o < containers_in v.shape → IsTable v.shape t → i < size (class_of t) → is_writing o v.log ≡ true → root_in (held o v) ≡ suc t → IsCareful v o t i x → Ready v j (λ n. PutTable o t i x)
+pub put_ready : (v : View) (j o t i x : ℕ) → o < containers_in v.shape → IsTableName v.shape t → i < size (class_of t) → is_writing o v.log ≡ true → root_in (held o v) ≡ suc t → IsCareful v o t i x → Ready v j (λ n. PutTable o t i x)
 put_ready v j o t i x low table small odd names careful es id knows less =
     let mine = writer_has v.shape es knows.0 o id v knows.1 odd in
     let s = put_sure v o low t i x mine names careful.care es id knows in
@@ -135,7 +135,7 @@ young_low at m ws count committed young = record {
   written = λ done p low. let y = (young p low).1 done in omega (arith, y);
 }
 
-pub root_ready : (v : View) (j o : ℕ) (root : Option Table) → o < containers_in v.shape → ((t : Table) → root ≡ Some t → IsTable v.shape (name_of t)) → MayPutRoot v o root → Ready v j (λ n. PutRoot o (root_for root) (root_in (held o v)))
+pub root_ready : (v : View) (j o : ℕ) (root : Option Table) → o < containers_in v.shape → ((t : Table) → root ≡ Some t → IsTableName v.shape (name_of t)) → MayPutRoot v o root → Ready v j (λ n. PutRoot o (root_for root) (root_in (held o v)))
 root_ready v j o root low tables may es id knows less =
     let k = v.shape in
     let kind = kind_in k.kinds o in
@@ -148,7 +148,7 @@ root_ready v j o root low tables may es id knows less =
         now,
         (λ t e.
             let q = root_names root t e in
-            subst (λ (z : ℕ). IsTable k z × (stage z v.log ≡ 1) × SoundFor k (run k es).words o z (container_after k.kinds (history es) o).content) q.2 (tables q.0 q.1, may.fresh q.0 q.1, sound_sure v o low (name_of q.0) (tables q.0 q.1) mine (may.fresh q.0 q.1) (may.sound q.0 q.1) es id knows)),
+            subst (λ (z : ℕ). IsTableName k z × (stage z v.log ≡ 1) × SoundFor k (run k es).words o z (container_after k.kinds (history es) o).content) q.2 (tables q.0 q.1, may.fresh q.0 q.1, sound_sure v o low (name_of q.0) (tables q.0 q.1) mine (may.fresh q.0 q.1) (may.sound q.0 q.1) es id knows)),
         (λ q names.
             subst (Shut (version_at kind (class_of q)) (rows kind (class_of q))) (table_known v o low q mine names es id knows).0 (may.shut q names)),
         may.spare,

@@ -8,12 +8,12 @@ use mathlib.Core.Logic.{dite}
 use native.Mathlib.Decide.{ℕ_discrete}
 use Rattle.ft_model.specs.Classes.{IsClass}
 use Rattle.ft_trace.specs.declared.Act.TheVariants.{GiveTable, PutHeader, ReadCounter}
-use Rattle.ft_trace.specs.Addresses.{IsTable, free_word_of, free_bit_of, tables_in}
+use Rattle.ft_trace.specs.Addresses.{IsTableName, free_word_of, free_bit_of, tables_in}
 use Rattle.ft_trace.proofs.Addresses.{fw_low, bt_low, same_bit}
 use Rattle.ft_trace.proofs.Bits.{bit_small, off_same, off_else, on_same, on_else}
 use Rattle.ft_trace.proofs.Cases.{miss, here as here_as}
 use Rattle.ft_bank.proofs.Freeing.{word_is, bit_is}
-use Rattle.ft_bank.proofs.Tables.{named}
+use Rattle.ft_bank.proofs.TableAddresses.{named}
 use Rattle.std.proofs.lemmas.List.{get_or-replicate}
 use native.Mathlib.Nat.{zero-div}
 use Rattle.ft_trace.specs.declared.Act.{Act}
@@ -25,7 +25,7 @@ use Rattle.ft_trace.proofs.HandedOver.{either_way, where_true, where_false, hand
 use Rattle.ft_trace.proofs.Headers.{goals_stand}
 use Rattle.ft_trace.specs.Bits.{bit, bit_on, bit_off}
 use Rattle.ft_bank.specs.declared.table.Table.{Table}
-use Rattle.ft_bank.specs.Tables.{name_of, IsTableIn}
+use Rattle.ft_bank.specs.TableNames.{name_of, IsTableIn}
 use Rattle.ft_bank.specs.Retired.{AreRetired, TakesOver, table_of_bit}
 
 -- the same tables are retired
@@ -204,13 +204,13 @@ in_second : (b x y : ℕ) → bit b y ≡ 1 → bit b (bit_or x y) ≡ 1
 in_second b x y one = let is = or_bit b x y in let up = le-max_right (bit b x) (bit b y) in let small = bit_small b (bit_or x y) in omega (arith, is, up, small, one)
 
 -- the tables of which the goal stands in the header are retired
-pub retired_stage : (w : View) → ∥ Possible w ∥₁ → (t : ℕ) → IsTable w.shape t → has_goal t w.log ≡ true → stage t w.log ≡ 4
+pub retired_stage : (w : View) → ∥ Possible w ∥₁ → (t : ℕ) → IsTableName w.shape t → has_goal t w.log ≡ true → stage t w.log ≡ 4
 retired_stage w possible t table has = ∥∥₁_elim possible (ℕ_set (stage t w.log) 4) (λ p. (goals_stand w.shape p.0 p.2.0 t table p.1 w p.2.1 has).0)
 
 pub takes_over : (v w : View) → w.shape ≡ v.shape → ∥ Possible w ∥₁ → TakesOver v w (both v w)
 takes_over v w shape possible = record {
   theirs = λ t table has.
-      let four = retired_stage w possible t (subst (λ (z : Shape). IsTable z t) (sym shape) table) has in
+      let four = retired_stage w possible t (subst (λ (z : Shape). IsTableName z t) (sym shape) table) has in
       let there = is_there t w.log four has in
       (where_true (is_handed t (hands_over w.log)) true (has_goal t v.log) there, goal_of t w.log (goal t v.log) there);
   own = λ t has.

@@ -8,7 +8,7 @@ use Rattle.ft_trace.specs.declared.View.{View}
 use Rattle.ft_trace.specs.declared.Act.{Act}
 use Rattle.ft_trace.specs.declared.Act.TheVariants.{ReadCounter, Commit, Answer, TookOver}
 use Rattle.ft_trace.specs.declared.Snap.{Snap}
-use Rattle.ft_trace.specs.Reading.{Among}
+use Rattle.ft_trace.specs.LoggedReads.{Among}
 use Rattle.ft_model.specs.declared.call.Call.{Call}
 use Rattle.ft_model.specs.declared.reply.Reply.{Reply}
 use Rattle.ft_trace.specs.Acts.{noted, both, sender, note, shown, seen_writes, floor_known}

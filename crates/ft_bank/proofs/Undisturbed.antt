@@ -23,14 +23,14 @@ use Rattle.ft_trace.proofs.Addresses.{at_apart, at_low}
 use Rattle.ft_trace.proofs.Announcing.{fits}
 use Rattle.ft_trace.proofs.Counts.{count_low}
 use Rattle.ft_trace.proofs.Floored.{floored, floor_tells}
-use Rattle.ft_trace.proofs.Moments.{was}
+use Rattle.ft_trace.proofs.EarlierMoments.{was}
 use Rattle.ft_trace.proofs.Ones.{words_stand}
-use Rattle.ft_trace.proofs.Words.{wide}
+use Rattle.ft_trace.proofs.OneWord.{wide}
 use Rattle.ft_bank.specs.declared.takings.Search.TheVariants as search
 use Rattle.ft_bank.specs.declared.takings.Took.{Took}
 use Rattle.ft_bank.specs.declared.takings.Took.TheVariants as took
 use Rattle.ft_bank.specs.Series.{noted_all}
-use Rattle.ft_bank.specs.Tables.{name_of}
+use Rattle.ft_bank.specs.TableNames.{name_of}
 use Rattle.ft_bank.specs.Takings.{IsSearch, IsTaking, loads_of_none, lowered, word_of_class}
 
 -- ---- actions in a row
@@ -103,8 +103,8 @@ low_raised k es valid id w seat class raised l is log =
     let w = was k es valid id w seat [] (RaiseCount class raised) l log in
     let low = count_low k w.older w.valid class is in
     let few = (fits k w.older w.valid).tables class is in
-    let told : raised ≡ word k w.older (count_of_class class) = w.tells in
-    omega (arith, told, low, few)
+    let stated : raised ≡ word k w.older (count_of_class class) = w.tells in
+    omega (arith, stated, low, few)
 
 -- a class whose count was lowered and raised again, while each free word was 0
 emptied_alone : (k : Shape) (es : List Event) → Valid k es → (id : ℕ) (w : View) → get_elem? (run k es).views id ≡ some w → w.has_floor ≡ true → (class a raised : ℕ) (l : List Act) → IsClass class → w.log ≡ RaiseCount class raised ∷ (loads_of_none class 16 ++ l) → ⊥

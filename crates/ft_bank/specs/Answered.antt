@@ -8,7 +8,7 @@ use Rattle.ft_trace.specs.declared.Act.TheVariants.{Answer, AnswerCursor, ReadCo
 use Rattle.ft_trace.specs.declared.View.{View}
 use Rattle.ft_trace.specs.Acts.{noted, seen_writes}
 use Rattle.ft_trace.specs.Hands.{cursor_in}
-use Rattle.ft_trace.specs.Reading.{Among}
+use Rattle.ft_trace.specs.LoggedReads.{Among}
 use Rattle.ft_bank.specs.Whole.{OnlyLoaded}
 
 -- The pass loaded words of the bank, and then gave this reply to the call, with a number that one of these loads of the

@@ -34,7 +34,7 @@ found_in c = found_owners c.pass.seat.me.0.log
 -- entry has the reply of the plain containers at its stamp, or that of a section, or a MemoryError with its cause
 -- there. The stamps of each pass rise, and inside a section that it says it kept no other pass wrote on the section's
 -- containers.
-abbrev pub IsWhole : Closed → Type 0
-IsWhole c =
+abbrev pub HasWholeHistory : Closed → Type 0
+HasWholeHistory c =
     ∥ ((calls : List Call) × AreInOrder (shape_in c) calls (entries_in c)
     × All (AreInOwnOrder (IsWriteIn calls)) (lists_in c)) ∥₁

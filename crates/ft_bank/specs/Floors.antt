@@ -2,7 +2,7 @@
 use Rattle.std.specs.Prelude.{◌≡◌}
 use Rattle.ft_trace.specs.declared.View.{View}
 use Rattle.ft_bank.specs.Shapes.{plan}
-use Rattle.ft_bank.specs.Sections.{Stack}
+use Rattle.ft_bank.specs.PassSections.{Stack}
 use Rattle.ft_bank.specs.declared.bank.Bank.{Bank}
 use Rattle.ft_bank.specs.declared.tokens.Resting.{Resting}
 use Rattle.ft_bank.specs.declared.tokens.Tokens.{Tokens}

@@ -11,8 +11,8 @@ use Rattle.ft_bank.specs.declared.pass.Pass.{Pass}
 -- How many writes the pass has seen: the greatest of what its loads of the counter gave, and of each own write's number
 -- and one. Who learns a note or takes in a pass loads the counter, so this counts what the others had seen too.
 -- (profile)
-abbrev pub seen : Pass → ℕ
-seen p = shown (view p).log
+abbrev pub writes_seen : Pass → ℕ
+writes_seen p = shown (view p).log
 
 -- how many writes the maker of the note had seen when it made it
 abbrev pub says : Note → ℕ

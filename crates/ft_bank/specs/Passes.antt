@@ -9,7 +9,7 @@ use Rattle.ft_trace.specs.Hands.{cursor_in}
 use Rattle.ft_bank.specs.Shapes.{plan}
 use Rattle.ft_bank.specs.declared.bank.Bank.{Bank}
 use Rattle.ft_bank.specs.declared.pass.Pass.{Pass}
-use Rattle.ft_bank.specs.Sections.{stack_of}
+use Rattle.ft_bank.specs.PassSections.{stack_of}
 
 -- the bank's shape
 abbrev pub shape_of : Bank → Shape
@@ -34,8 +34,8 @@ KeepsAll p q = (q.seat.table_id ≡ p.seat.table_id) × (q.seat.me.0 ≡ p.seat.
 
 -- the cursor that the pass has under a number by its own calls (Python manual, Iterator Types: a cursor is its
 -- thread's)
-abbrev pub cursor_of : Pass → ℕ → Option Cursor
-cursor_of p number = cursor_in number (view p).log
+abbrev pub cursor_under : Pass → ℕ → Option Cursor
+cursor_under p number = cursor_in number (view p).log
 
 -- the pass has done nothing
 abbrev pub DidNothing : Pass → Pass → Type 0

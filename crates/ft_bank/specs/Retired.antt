@@ -3,11 +3,11 @@ use Rattle.std.specs.Prelude.{◌≡◌, ℕ, ◌+◌, ◌*◌, ◌/◌, ◌%◌
 use Rattle.ft_trace.specs.declared.Act.{Act}
 use Rattle.ft_trace.specs.declared.Snap.{Snap}
 use Rattle.ft_trace.specs.declared.View.{View}
-use Rattle.ft_trace.specs.Addresses.{IsTable, free_word_of, free_bit_of}
+use Rattle.ft_trace.specs.Addresses.{IsTableName, free_word_of, free_bit_of}
 use Rattle.ft_trace.specs.Acts.{goal, has_goal, has_goal_next}
 use Rattle.ft_trace.specs.Bits.{bit}
 use Rattle.ft_bank.specs.declared.table.Table.{Table}
-use Rattle.ft_bank.specs.Tables.{name_of, IsTableIn}
+use Rattle.ft_bank.specs.TableNames.{name_of, IsTableIn}
 
 -- the table of a bit of the free words
 abbrev pub table_of_bit : ℕ → ℕ → Table
@@ -24,7 +24,7 @@ pub record AreRetired (words : List ℕ) (v : View) : Type 0 where
 
 -- The tables of the bank that the other pass kept retired are this pass's then, with their goals, and it keeps its own.
 pub record TakesOver (v other w : View) : Type 0 where
-  pub theirs : (t : ℕ) → IsTable v.shape t → has_goal t other.log ≡ true
+  pub theirs : (t : ℕ) → IsTableName v.shape t → has_goal t other.log ≡ true
       → (has_goal t w.log ≡ true) × (goal t w.log ≡ goal t other.log)
   pub own : (t : ℕ) → has_goal t v.log ≡ true → has_goal t w.log ≡ true
 

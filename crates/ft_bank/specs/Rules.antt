@@ -9,8 +9,8 @@ use Rattle.ft_trace.specs.Acts.{noted, left_next}
 use Rattle.ft_trace.specs.Traces.{Event, did, Valid, Traced}
 
 -- there is a valid trace that gives the words and what each pass knows
-abbrev pub Holds : {S : Type 0} → Shape → State S View → Type 0
-Holds k s = Traced k s.words s.views
+abbrev pub HasTrace : {S : Type 0} → Shape → State S View → Type 0
+HasTrace k s = Traced k s.words s.views
 
 -- there is a valid trace whose last event is that a pass with this view does this
 abbrev pub Acted : View → Act → Type 0

@@ -17,7 +17,7 @@ use Rattle.ft_model.specs.declared.script.Kind.TheVariants as kind
 use Rattle.ft_model.specs.Answers.{is_memory, is_write}
 use Rattle.ft_model.specs.Calls.{can_add, moved_cursor}
 use Rattle.ft_model.specs.Histories.{IsReplied}
-use Rattle.ft_model.specs.Tables.{StoredWorld, CanLackMemory, takes_in, would_pass}
+use Rattle.ft_model.specs.TableUses.{StoredWorld, CanLackMemory, takes_in, would_pass}
 use Rattle.ft_model.specs.Worlds.{serial_of}
 use Rattle.ft_layout.specs.declared.slot.Stored.TheVariants.{Empty, Plain}
 use Rattle.ft_layout.specs.Words.{FitsKey, IsStored}
@@ -29,14 +29,14 @@ use Rattle.ft_trace.specs.Addresses.{containers_in, class_of, slots}
 use Rattle.ft_trace.specs.Causes.{AreOfOneCall, Loaded, FoundEmpty, HasCause}
 use Rattle.ft_trace.specs.Hands.{cursor_in, MovesCursor}
 use Rattle.ft_trace.specs.Holds.{known}
-use Rattle.ft_trace.specs.Finding.{Hit, Bare, ItemHit, ItemPast}
+use Rattle.ft_trace.specs.LoggedLookUps.{Hit, Bare, ItemHit, ItemPast}
 use Rattle.ft_trace.specs.Kinds.{rows}
 use Rattle.ft_trace.specs.LookReplies.{IsValueRead, IsItemRead, IsAbsent, key_reply, item_reply}
-use Rattle.ft_trace.specs.Reading.{Looked, LookedAtBoth}
+use Rattle.ft_trace.specs.LoggedReads.{LookedAtOne, LookedAtBoth}
 use Rattle.ft_trace.specs.Traces.{Possible}
-use Rattle.ft_trace.specs.Worlds.{kind_in, reply_in}
+use Rattle.ft_trace.specs.ContainerStates.{kind_in, reply_in}
 use Rattle.ft_bank.specs.Reads.{IsShown, IsCursorShown}
-use Rattle.ft_bank.specs.Writes.{MayHave}
+use Rattle.ft_bank.specs.WriteSteps.{MayHave}
 
 -- a pass may ask of the container o: it has a call left, and a load of the counter since its last entry gave the stamp
 pub record MayAsk (v : View) (o n : ℕ) : Type 0 where
@@ -119,7 +119,7 @@ abbrev pub LooksAreShown : Type 0
 LooksAreShown =
     (v : View) (call : Call) (o : ℕ) (said : Reply) (n : ℕ) → MayAsk v o n → is_write call said ≡ false
     → moved_cursor call ≡ None → can_add call ≡ false → is_memory said ≡ false → said ≢ reply.Kept
-    → IsReplied call said said → Looked v.shape call o said n v.log
+    → IsReplied call said said → LookedAtOne v.shape call o said n v.log
     → IsShown v call said n
 
 -- and one that was read of two containers

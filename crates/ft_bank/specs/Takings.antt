@@ -5,7 +5,7 @@ use Rattle.ft_trace.specs.declared.Act.TheVariants.{LowerCount, RaiseCount, Read
 use Rattle.ft_trace.specs.declared.Shape.{Shape}
 use Rattle.ft_trace.specs.declared.Snap.{Snap}
 use Rattle.ft_trace.specs.declared.View.{View}
-use Rattle.ft_trace.specs.Addresses.{containers_in, class_of, IsTable, free_word_of, free_bit_of}
+use Rattle.ft_trace.specs.Addresses.{containers_in, class_of, IsTableName, free_word_of, free_bit_of}
 use Rattle.ft_trace.specs.Acts.{has_lock, is_writing, has_committed, has_emptied, stage, clear, announces, used, debt, flight, owes}
 use Rattle.ft_trace.specs.Bits.{bit}
 use Rattle.ft_trace.specs.Holds.{held, known, in_hand}
@@ -15,7 +15,7 @@ use Rattle.ft_bank.specs.declared.takings.Took.{Took}
 use Rattle.ft_bank.specs.declared.takings.Took.TheVariants as took
 use Rattle.ft_bank.specs.declared.takings.Search.{Search}
 use Rattle.ft_bank.specs.declared.takings.Search.TheVariants as search
-use Rattle.ft_bank.specs.Tables.{name_of, IsTableIn}
+use Rattle.ft_bank.specs.TableNames.{name_of, IsTableIn}
 
 -- ---- what stays
 
@@ -39,7 +39,7 @@ pub record KeepsHeld (F : ℕ → Type 0) (v w : View) : Type 0 where
   pub words : (o : ℕ) → o < containers_in v.shape → has_lock o v.log ≡ true
       → (held o w ≡ held o v) × (known o w ≡ known o v)
   pub stages : (t : ℕ) → F t → stage t w.log ≡ stage t v.log
-  pub hands : (t : ℕ) → F t → IsTable v.shape t → stage t v.log ≡ 1 → in_hand t w ≡ in_hand t v
+  pub hands : (t : ℕ) → F t → IsTableName v.shape t → stage t v.log ≡ 1 → in_hand t w ≡ in_hand t v
 
 -- besides, it announces the same number, and has as many tables to retire
 pub record KeepsBut (F : ℕ → Type 0) (v w : View) : Type 0 where
@@ -119,11 +119,11 @@ StaysInSearch search.Nothing t = Each t
 
 -- What a try to clear the bit of a table answers that was set in this word at its load: it was set in what was found
 -- too; or it was not, so that the word has moved.
-abbrev pub IsCleared : Table → ℕ → ℕ → Search → Type 0
-IsCleared t loaded found (search.Found q) = (q ≡ t) × (bit (free_bit_of (name_of t)) found ≡ 1)
-IsCleared t loaded found (search.Lost a b) =
+abbrev pub IsBitCleared : Table → ℕ → ℕ → Search → Type 0
+IsBitCleared t loaded found (search.Found q) = (q ≡ t) × (bit (free_bit_of (name_of t)) found ≡ 1)
+IsBitCleared t loaded found (search.Lost a b) =
     (a ≡ loaded) × (b ≡ found) × (loaded ≢ found) × (bit (free_bit_of (name_of t)) found ≢ 1)
-IsCleared t loaded found search.Nothing = ⊥
+IsBitCleared t loaded found search.Nothing = ⊥
 
 -- ---- a taking
 

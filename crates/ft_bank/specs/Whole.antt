@@ -2,7 +2,7 @@
 use Rattle.std.specs.Prelude.{◌≡◌, ◌≢◌, ℕ, suc, ◌<◌, ◌≤◌, ◌==◌, true, false, cond, ◌∷◌}
 use Rattle.ft_model.specs.declared.call.Call.{Call}
 use Rattle.ft_model.specs.declared.reply.Reply.{Reply}
-use Rattle.ft_model.specs.Tables.{StoredWorld, after_stored}
+use Rattle.ft_model.specs.TableUses.{StoredWorld, after_stored}
 use Rattle.ft_trace.specs.declared.Act.TheVariants.{PutRoot}
 use Rattle.ft_trace.specs.declared.Entry.{Entry}
 use Rattle.ft_trace.specs.declared.View.{View}
@@ -11,16 +11,16 @@ use Rattle.ft_trace.specs.Acts.{has_lock, is_writing, has_committed, has_emptied
 use Rattle.ft_trace.specs.Floors.{at_floor}
 use Rattle.ft_trace.specs.Owners.{SameOwners}
 use Rattle.ft_trace.specs.Hands.{cursor_in}
-use Rattle.ft_trace.specs.Sections.{begun}
-use Rattle.ft_trace.specs.Worlds.{state_at, changes}
-use Rattle.ft_trace.specs.Words.{root_in, Stands}
+use Rattle.ft_trace.specs.BegunSections.{begun}
+use Rattle.ft_trace.specs.ContainerStates.{state_at, changes}
+use Rattle.ft_trace.specs.Pictures.{root_in, Stands}
 use Rattle.ft_trace.specs.Holds.{held, known}
-use Rattle.ft_bank.specs.Writes.{MayHave}
+use Rattle.ft_bank.specs.WriteSteps.{MayHave}
 
 -- It is the same pass: it has the same locks, has made the same versions odd, announces the same, is in the midst of
 -- the same taking or giving, has begun the same sections, has the same cursors and the same entries of passes that it
--- took in, has the floor as before and since the same moment, has taken no lock and found none with another pass, and has
--- seen no fewer writes. (profile)
+-- took in, has the floor as before and since the same moment, has taken no lock and found none with another pass, and
+-- has seen no fewer writes. (profile)
 pub record SamePass (v w : View) : Type 0 where
   pub number : w.number ≡ v.number
   pub next : w.next ≡ v.next

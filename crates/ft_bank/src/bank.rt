@@ -6,7 +6,7 @@ ghost use Rattle.ft_trace.specs.Addresses.{extent};
 ghost use Rattle.ft_trace.specs.Acts.{starter, maker, made, both, noted, all_lists};
 ghost use Rattle.ft_trace.specs.Traces.{MayFork, IsFree};
 ghost use Rattle.ft_bank.specs.Shapes.{plan, IsShape};
-ghost use Rattle.ft_bank.specs.Tables.{starts_from, sizes_from};
+ghost use Rattle.ft_bank.specs.TableNames.{starts_from, sizes_from};
 
 use crate::closed::Closed;
 use crate::opening::{class_sizes, class_starts, opening_words};
@@ -42,7 +42,7 @@ impl Bank {
     ghost use Rattle.ft_bank.specs.Closings.{shape_in, lists_in, entries_in, had_in, found_in};
     ghost use Rattle.ft_trace.specs.Owners.{had_locks, found_owners};
     ghost use Rattle.ft_bank.specs.Retired.{TakesOver};
-    ghost use Rattle.ft_bank.specs.Sections.{stack_of, no_sections};
+    ghost use Rattle.ft_bank.specs.PassSections.{stack_of, no_sections};
 
     /// A bank of this shape, and its first pass, which stands for all passes.
     pub(crate) fn with_first(alloc: Global, shape: Shape) -> Result<(Bank, Pass), MakeFault>

@@ -15,7 +15,7 @@ pub struct Closed {
 }
 
 impl Closed {
-    ghost use Rattle.ft_bank.specs.Closings.{IsWhole, had_in, found_in};
+    ghost use Rattle.ft_bank.specs.Closings.{HasWholeHistory, had_in, found_in};
     ghost use Rattle.ft_trace.specs.Owners.{AreOwners};
 
     /// The entries have one history of writes: each write's number is its place there, each number is
@@ -23,7 +23,7 @@ impl Closed {
     /// MemoryError has its cause there. The stamps of each pass rise from entry to entry, and inside a
     /// section that it says it kept no other pass wrote on the section's containers.
     pub fn entries_are_whole(&self)
-        ensures { IsWhole self.now }
+        ensures { HasWholeHistory self.now }
     {}
 
     /// Whoever was found with the lock of a container had taken it.

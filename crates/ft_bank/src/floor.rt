@@ -17,7 +17,7 @@ use std::marker::Brand;
 
 impl Bank {
     ghost use Rattle.ft_bank.specs.Passes.{shape_of, view, IsPassOf, Did};
-    ghost use Rattle.ft_bank.specs.Sections.{stack_of};
+    ghost use Rattle.ft_bank.specs.PassSections.{stack_of};
 
     /// Gives all tokens of a pass away, which rests from then on: it writes no container, has no fresh table in
     /// hand, and is in the midst of no taking or giving.

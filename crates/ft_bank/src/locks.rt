@@ -5,7 +5,7 @@ ghost use Rattle.ft_trace.specs.declared.Act.TheVariants.{Lock, Unlock};
 ghost use Rattle.ft_trace.specs.declared.Snap.{Snap};
 ghost use Rattle.ft_trace.specs.Addresses.{containers_in};
 ghost use Rattle.ft_trace.specs.Acts.{has_lock, is_writing};
-ghost use Rattle.ft_trace.specs.Words.{Stands};
+ghost use Rattle.ft_trace.specs.Pictures.{Stands};
 ghost use Rattle.ft_trace.specs.Holds.{held, known};
 ghost use Rattle.ft_bank.specs.Locks.{lock_found, KeepsOthers};
 
@@ -15,7 +15,7 @@ use std::marker::Brand;
 
 impl Bank {
     ghost use Rattle.ft_bank.specs.Passes.{shape_of, view, IsPassOf, Did};
-    ghost use Rattle.ft_bank.specs.Sections.{noted_in, stack_of};
+    ghost use Rattle.ft_bank.specs.PassSections.{noted_in, stack_of};
 
     /// Tries to take the lock of a container. It is loaded first, and put only where it is 0; where
     /// another pass has it, that pass is answered. With the lock the pass knows the container's words

@@ -3,7 +3,7 @@
 ghost use Rattle.std.specs.Prelude.{◌≡◌, ◌≤◌, ℕ};
 ghost use Rattle.ft_trace.specs.declared.Act.TheVariants.{ReadCounter};
 ghost use Rattle.ft_trace.specs.Acts.{noted};
-ghost use Rattle.ft_bank.specs.Notes.{says, seen, knowing, IsNoteOf};
+ghost use Rattle.ft_bank.specs.Notes.{says, writes_seen, knowing, IsNoteOf};
 
 use crate::bank::Bank;
 use crate::note::Note;
@@ -13,14 +13,14 @@ use std::marker::Brand;
 
 impl Bank {
     ghost use Rattle.ft_bank.specs.Passes.{view, IsPassOf, DidNothing};
-    ghost use Rattle.ft_bank.specs.Sections.{stack_of};
+    ghost use Rattle.ft_bank.specs.PassSections.{stack_of};
 
     /// Makes a note of how many writes the pass has seen.
     pub fn note(&self, pass: &mut Pass) -> Note
         requires pass { IsPassOf self.now pass.old }
         ensures pass { DidNothing pass.old pass.new }
         ensures note { IsNoteOf self.now result }
-        ensures says { says result ≡ seen pass.old }
+        ensures says { says result ≡ writes_seen pass.old }
     {
         let seat = self.table.shared.split_seat::<Notes>(&mut pass.seat);
         Note { seat }
@@ -34,8 +34,8 @@ impl Bank {
         ensures pass { IsPassOf self.now pass.new }
         ensures sections { stack_of pass.new ≡ stack_of pass.old }
         ensures view { (n : ℕ) × (view pass.new ≡ noted (ReadCounter n) (knowing (says note) (view pass.old)))
-            × (says note ≤ n) × (seen pass.old ≤ n) }
-        ensures seen { (says note ≤ seen pass.new) × (seen pass.old ≤ seen pass.new) }
+            × (says note ≤ n) × (writes_seen pass.old ≤ n) }
+        ensures seen { (says note ≤ writes_seen pass.new) × (writes_seen pass.old ≤ writes_seen pass.new) }
     {
         let Note { seat } = note;
         self.settle_as::<Brand>(&mut pass.seat, seat);

@@ -5,7 +5,7 @@ ghost use Rattle.ft_layout.specs.Starts.{AreTables};
 ghost use Rattle.ft_trace.specs.Addresses.{opening, extent, free_counts, free_words};
 ghost use Rattle.ft_trace.specs.Bits.{full};
 ghost use Rattle.ft_bank.specs.Shapes.{IsShape, plan};
-ghost use Rattle.ft_bank.specs.Tables.{starts_from, sizes_from};
+ghost use Rattle.ft_bank.specs.TableNames.{starts_from, sizes_from};
 
 use crate::shape::Shape;
 use ft_layout::{bank_size, table_size, table_start};

@@ -33,7 +33,7 @@ pub struct Pass {
 
 impl Pass {
     ghost use Rattle.ft_bank.specs.Passes.{view, KeepsAll};
-    ghost use Rattle.ft_bank.specs.Sections.{stack_of};
+    ghost use Rattle.ft_bank.specs.PassSections.{stack_of};
 
     /// The number of the pass, from 0 on; the lock of a container names its holder by it.
     pub fn number(&self) -> u32

@@ -2,7 +2,7 @@
 //! pass for good.
 ghost use Rattle.std.specs.Prelude.{◌≡◌, ◌<◌, [], suc, length, IfOk, OnOk, ◌∷◌};
 ghost use Rattle.ft_bank.specs.Shapes.{plan, IsShape};
-ghost use Rattle.ft_bank.specs.Openings.{HasMade, IsOpening, AreOpening};
+ghost use Rattle.ft_bank.specs.NewPasses.{HasMade, IsOpening, AreOpening};
 
 use crate::bank::Bank;
 use crate::pass::Pass;
@@ -11,7 +11,7 @@ use std::alloc::{AllocError, Global};
 
 impl Bank {
     ghost use Rattle.ft_bank.specs.Passes.{shape_of, view, IsPassOf};
-    ghost use Rattle.ft_bank.specs.Sections.{stack_of, no_sections};
+    ghost use Rattle.ft_bank.specs.PassSections.{stack_of, no_sections};
 
     /// A bank of this shape, and its passes in the order of their numbers, which begin with 0. Each may make
     /// as many calls as the shape says for one; pass 0 can take in the others and close the bank. No later

@@ -1,7 +1,7 @@
 //! Where the words of a bank lie, for its steps: plain arithmetic, with no branch by class.
 ghost use Rattle.std.specs.Prelude.{◌≡◌, ◌≤◌, ◌<◌, ◌+◌, ◌*◌};
 ghost use Rattle.ft_trace.specs.Addresses.{containers_in, extent, at, cell, size, class_of};
-ghost use Rattle.ft_bank.specs.Tables.{name_of, IsPlaceOf, IsTableIn};
+ghost use Rattle.ft_bank.specs.TableNames.{name_of, IsPlaceOf, IsTableIn};
 
 use crate::bank::Bank;
 use crate::table::Table;

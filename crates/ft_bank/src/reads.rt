@@ -1,13 +1,13 @@
 //! Loads of the bank's words, and the entries of calls that only read.
 ghost use Rattle.std.specs.Prelude.{◌≡◌, ◌≤◌, ℕ, suc, ◌<◌, ◌+◌, true, false, slice_index};
 ghost use Rattle.ft_trace.specs.declared.Act.TheVariants.{Version, ReadBlock, ReadRoot, ReadTable, ReadCounter, Answer, AnswerCursor};
-ghost use Rattle.ft_trace.specs.Addresses.{containers_in, class_of, size, IsTable};
+ghost use Rattle.ft_trace.specs.Addresses.{containers_in, class_of, size, IsTableName};
 ghost use Rattle.ft_trace.specs.Acts.{has_lock, announces, seen_writes, stage};
-ghost use Rattle.ft_trace.specs.Finding.{IsNew};
+ghost use Rattle.ft_trace.specs.LoggedLookUps.{IsNew};
 ghost use Rattle.ft_trace.specs.Holds.{held, in_hand};
-ghost use Rattle.ft_trace.specs.Words.{root_in};
+ghost use Rattle.ft_trace.specs.Pictures.{root_in};
 ghost use Rattle.ft_bank.specs.Reads.{IsShown, IsCursorShown};
-ghost use Rattle.ft_bank.specs.Tables.{name_of, IsPlaceOf, IsTableIn};
+ghost use Rattle.ft_bank.specs.TableNames.{name_of, IsPlaceOf, IsTableIn};
 
 use crate::bank::Bank;
 use crate::pass::Pass;
@@ -17,7 +17,7 @@ use ft_model::{Call, Cursor, Reply};
 use std::marker::Brand;
 
 impl Bank {
-    ghost use Rattle.ft_bank.specs.Passes.{shape_of, view, cursor_of, IsPassOf, Did};
+    ghost use Rattle.ft_bank.specs.Passes.{shape_of, view, cursor_under, IsPassOf, Did};
 
     /// Loads the version of a container.
     pub fn seq(&self, pass: &mut Pass, o: u32) -> u64
@@ -38,7 +38,7 @@ impl Bank {
         ensures did { Did (ReadBlock o word result) pass.old pass.new }
         ensures held { has_lock o (view pass.old).log ≡ true →
             result ≡ slice_index (held o (view pass.old)).block word }
-        ensures table { (t : ℕ) → word ≡ 0 → result ≡ suc t → IsTable (shape_of self.now) t }
+        ensures table { (t : ℕ) → word ≡ 0 → result ≡ suc t → IsTableName (shape_of self.now) t }
     {
         let start = self.block_of(o) + 2;
         self.load_as::<Brand>(pass, start + word, o, 0, word)
@@ -52,7 +52,7 @@ impl Bank {
         requires container { o < containers_in (shape_of self.now) }
         requires online { 0 < announces (view pass.old).log }
         ensures did { Did (ReadRoot o result) pass.old pass.new }
-        ensures table { (t : ℕ) → result ≡ suc t → IsTable (shape_of self.now) t }
+        ensures table { (t : ℕ) → result ≡ suc t → IsTableName (shape_of self.now) t }
         ensures changed { IsNew o result (view pass.old).log }
     {
         let word = self.block_of(o) + 2;
@@ -125,7 +125,7 @@ impl Bank {
     )
         requires pass { IsPassOf self.now pass.old }
         requires shown { IsCursorShown (view pass.old) call.now reply.now stamp number cursor.now }
-        ensures { Did (AnswerCursor call.now reply.now stamp number (cursor_of pass.old number) cursor.now) pass.old pass.new }
+        ensures { Did (AnswerCursor call.now reply.now stamp number (cursor_under pass.old number) cursor.now) pass.old pass.new }
     {
         self.answer_cursor_as::<Brand>(pass, call, reply, stamp, number, cursor);
     }

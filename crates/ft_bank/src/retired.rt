@@ -4,7 +4,7 @@ ghost use Rattle.std.specs.Prelude.{◌≡◌, ◌<◌, ℕ, length, bit_or, sli
 ghost use Rattle.ft_model.specs.Classes.{IsClass};
 ghost use Rattle.ft_trace.specs.Addresses.{free_word_of, free_bit_of};
 ghost use Rattle.ft_trace.specs.Bits.{bit_on, bit_off};
-ghost use Rattle.ft_bank.specs.Tables.{name_of};
+ghost use Rattle.ft_bank.specs.TableNames.{name_of};
 
 use crate::table::Table;
 use ft_model::LEAST_CLASS;

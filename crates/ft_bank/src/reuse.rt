@@ -8,7 +8,7 @@ ghost use Rattle.ft_trace.specs.Bits.{bit};
 ghost use Rattle.ft_bank.specs.Reuse.{MayAnnounce};
 ghost use Rattle.ft_bank.specs.Retired.{table_of_bit};
 ghost use Rattle.ft_bank.specs.Takings.{Each, KeepsBut, KeepsHeld, NotTable};
-ghost use Rattle.ft_bank.specs.Tables.{name_of, IsTableIn};
+ghost use Rattle.ft_bank.specs.TableNames.{name_of, IsTableIn};
 
 use crate::bank::Bank;
 use crate::pass::Pass;

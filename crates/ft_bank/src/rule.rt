@@ -8,11 +8,11 @@ use std::marker::{Brand, PhantomData};
 pub struct Law;
 
 impl TableRule<(), View, Shape> for Law {
-    ghost use Rattle.ft_bank.specs.Rules.{Holds};
+    ghost use Rattle.ft_bank.specs.Rules.{HasTrace};
     ghost use Rattle.ft_bank.specs.Shapes.{plan};
     ghost use Rattle.ft_trace.specs.Acts.{starter};
 
-    ghost holds = { λ k. Holds (plan k) };
+    ghost holds = { λ k. HasTrace (plan k) };
 
     ghost first = { λ k. starter (plan k) };
 }

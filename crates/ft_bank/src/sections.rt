@@ -3,7 +3,7 @@
 //! all of it alone; `ft_section` alone changes it, and takes no memory for it.
 ghost use Rattle.std.specs.Prelude.{◌≡◌, ◌≤◌, ◌<◌, ◌++◌, ◌∷◌, [], length, map, None};
 ghost use Rattle.ft_bank.specs.declared.sections.OpenSection.{OpenSection};
-ghost use Rattle.ft_bank.specs.Sections.{suspended};
+ghost use Rattle.ft_bank.specs.PassSections.{suspended};
 
 use std::marker::Model;
 

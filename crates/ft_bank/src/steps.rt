@@ -8,7 +8,7 @@ ghost use Rattle.ft_trace.specs.Acts.{place, word_after, left_next, noted, both}
 ghost use Rattle.ft_trace.specs.Traces.{IsFree, IsAwake, Ready, ReadyAs, Does as Acts, DoesAs};
 ghost use Rattle.ft_trace.specs.declared.Act.TheVariants.{GiveTable, PutHeader};
 ghost use Rattle.ft_bank.specs.Retired.{LeavesRetired};
-ghost use Rattle.ft_bank.specs.Tables.{name_of, IsTableIn};
+ghost use Rattle.ft_bank.specs.TableNames.{name_of, IsTableIn};
 ghost use Rattle.ft_bank.specs.Rules.{Acted, LeavesWrites};
 
 use crate::bank::Bank;

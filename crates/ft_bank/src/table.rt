@@ -2,7 +2,7 @@
 ghost use Rattle.std.specs.Prelude.{◌≡◌, ◌<◌, Some};
 ghost use Rattle.ft_bank.specs.declared.table.Table.{Table};
 ghost use Rattle.ft_model.specs.Classes.{IsClass};
-ghost use Rattle.ft_bank.specs.Tables.{name_of, root_for};
+ghost use Rattle.ft_bank.specs.TableNames.{name_of, root_for};
 
 use ft_layout::root_word;
 

@@ -10,8 +10,8 @@ ghost use Rattle.ft_trace.specs.declared.Snap.{Snap};
 ghost use Rattle.ft_trace.specs.Acts.{flight, owes, stage};
 ghost use Rattle.ft_trace.specs.Addresses.{free_bit_of};
 ghost use Rattle.ft_trace.specs.Bits.{bit};
-ghost use Rattle.ft_bank.specs.Takings.{Each, HasNotMoved, HasTook, IsSearch, IsTaking, KeepsBut, NotTable, StaysIn, HasFound, StaysInSearch, IsCleared, IsShutIn, IsUnclaimed, MayGive, word_of_class};
-ghost use Rattle.ft_bank.specs.Tables.{name_of, IsTableIn};
+ghost use Rattle.ft_bank.specs.Takings.{Each, HasNotMoved, HasTook, IsSearch, IsTaking, KeepsBut, NotTable, StaysIn, HasFound, StaysInSearch, IsBitCleared, IsShutIn, IsUnclaimed, MayGive, word_of_class};
+ghost use Rattle.ft_bank.specs.TableNames.{name_of, IsTableIn};
 
 use crate::bank::Bank;
 use crate::pass::Pass;
@@ -140,7 +140,7 @@ impl Bank {
         requires lowered { flight (view pass.old).log ≡ 2 * table.class + 1 }
         ensures pass { IsPassOf self.now pass.new }
         ensures did { (found : ℕ) × (s : Snap) × Did (TakeTable (name_of table) found s) pass.old pass.new
-            × IsCleared table loaded found result }
+            × IsBitCleared table loaded found result }
         ensures has { HasFound (shape_of self.now) table.class result (view pass.old) (view pass.new) }
         ensures keeps { KeepsBut (StaysInSearch result) (view pass.old) (view pass.new) }
     {

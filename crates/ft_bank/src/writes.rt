@@ -5,11 +5,11 @@ ghost use Rattle.ft_trace.specs.declared.Act.TheVariants.{StartWrite, PutBlock, 
 ghost use Rattle.ft_trace.specs.declared.Snap.{Snap};
 ghost use Rattle.ft_trace.specs.Addresses.{containers_in, class_of, size};
 ghost use Rattle.ft_trace.specs.Acts.{has_lock, is_writing, has_committed, seen_writes, stage};
-ghost use Rattle.ft_trace.specs.Words.{root_in, Stands};
+ghost use Rattle.ft_trace.specs.Pictures.{root_in, Stands};
 ghost use Rattle.ft_trace.specs.Holds.{held, known, in_hand};
-ghost use Rattle.ft_bank.specs.Writes.{Committed, MayCommit, MayPutRoot, IsCareful, IsShut, KeepsUnwritten, with_block, with_root, with_table};
+ghost use Rattle.ft_bank.specs.WriteSteps.{Committed, MayCommit, MayPutRoot, IsCareful, IsShut, KeepsUnwritten, with_block, with_root, with_table};
 ghost use Rattle.ft_bank.specs.declared.table.Table.{Table};
-ghost use Rattle.ft_bank.specs.Tables.{name_of, root_for, IsTableIn};
+ghost use Rattle.ft_bank.specs.TableNames.{name_of, root_for, IsTableIn};
 
 use crate::bank::Bank;
 use crate::pass::Pass;

@@ -1,5 +1,5 @@
 pub mod NumberedEntries
-pub mod Parts
+pub mod ReversedLists
 pub mod Replies
 pub mod RightMarks
 pub mod Walked

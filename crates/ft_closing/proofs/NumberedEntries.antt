@@ -16,26 +16,26 @@ use Rattle.ft_model.specs.declared.script.Kind.{Kind}
 use Rattle.ft_model.specs.declared.script.ScriptParts.{ScriptParts}
 use Rattle.ft_model.specs.Answers.{answer, world_by}
 use Rattle.ft_model.specs.Calls.{containers_of}
-use Rattle.ft_model.specs.Histories.{names, cursors_of, hands_by, IsReplied, IsCountedAs, EachAt}
-use Rattle.ft_model.specs.Numbers.{is_number, after_begins, begins_of, IfBegun, IfEndsBegin, marks_since, IsKeptFrom, IsRightAfter, IsNumberedThread}
-use Rattle.ft_model.specs.Tables.{stored_by, IsEarnedReply, IsFittingReply}
+use Rattle.ft_model.specs.Histories.{names, cursors_of, hands_by, IsReplied, IsCountedAs, EachAt, IfEnds, IfInnermost}
+use Rattle.ft_model.specs.Numbers.{is_number, after_begins, begins_of, marks_since, IsKeptFrom, IsRightAfter, IsNumberedThread}
+use Rattle.ft_model.specs.TableUses.{stored_by, IsEarnedReply, IsFittingReply}
 use Rattle.ft_model.specs.Worlds.{kinds_of}
 use Rattle.ft_trace.specs.declared.Entry.{Entry}
 use Rattle.ft_trace.specs.declared.Owner.{Owner}
 use Rattle.ft_trace.specs.declared.Shape.{Shape}
-use Rattle.ft_trace.specs.Entries.{total, is_number as number_of}
+use Rattle.ft_trace.specs.Entries.{total, number_count}
 use Rattle.ft_trace.specs.InOrder.{StandsInOrder}
 use Rattle.ft_trace.specs.OwnOrder.{number_after as own_after, is_write_of, after_begins as own_begins, begins_in, FollowsOwn, AreInOwnOrder, IsWriteIn}
-use Rattle.ft_trace.specs.Sections.{is_among}
+use Rattle.ft_trace.specs.BegunSections.{is_among}
 use Rattle.ft_trace.proofs.Cases.{hit}
 use Rattle.ft_trace.proofs.Totals.{total-append}
-use Rattle.ft_trace.specs.OwnCursors.{entry_of, AsksWithin}
+use Rattle.ft_trace.specs.OwnCursors.{plain_entry, AsksWithin}
 use Rattle.ft_closing.specs.Numbering.{IsFor, AreReplied, HasNamedEntries, HaveNamedEntries, EntriesAreNumbered}
-use Rattle.ft_closing.proofs.Parts.{at_split, all_parts, all_at, turned, all_back, any_back}
+use Rattle.ft_closing.proofs.ReversedLists.{at_split, all_parts, all_at, turned, all_back, any_back}
 
 -- ---- sections
 
-begins_one : (x : NamedEntry) (c : Call) (acc : List NamedEntry) → map entry_of (after_begins x c acc) ≡ own_begins (entry_of x) c (map entry_of acc)
+begins_one : (x : NamedEntry) (c : Call) (acc : List NamedEntry) → map plain_entry (after_begins x c acc) ≡ own_begins (plain_entry x) c (map plain_entry acc)
 begins_one x (call.Begin a b) acc = refl
 begins_one x call.End [] = refl
 begins_one x call.End (y ∷ acc) = refl
@@ -45,14 +45,14 @@ begins_one x (call.Set o c) acc = refl
 begins_one x (call.Next c) acc = refl
 begins_one x call.Quiesce acc = refl
 
-begins_from : (acc : List NamedEntry) (older : List Entry) → map entry_of acc ≡ begins_in older → (xs : List NamedEntry) → map entry_of (fold (λ begins entry. after_begins entry entry.call begins) acc xs) ≡ begins_in (reverse (map entry_of xs) ++ older)
+begins_from : (acc : List NamedEntry) (older : List Entry) → map plain_entry acc ≡ begins_in older → (xs : List NamedEntry) → map plain_entry (fold (λ begins entry. after_begins entry entry.call begins) acc xs) ≡ begins_in (reverse (map plain_entry xs) ++ older)
 begins_from acc older same [] = same
 begins_from acc older same (x ∷ xs) =
-    begins_from (after_begins x x.call acc) (entry_of x ∷ older) (begins_one x x.call acc ∙ ap (own_begins (entry_of x) x.call) same) xs
-    ∙ ap begins_in (sym (turned entry_of x xs older))
+    begins_from (after_begins x x.call acc) (plain_entry x ∷ older) (begins_one x x.call acc ∙ ap (own_begins (plain_entry x) x.call) same) xs
+    ∙ ap begins_in (sym (turned plain_entry x xs older))
 
-begins_same : (xs : List NamedEntry) → map entry_of (begins_of xs) ≡ begins_in (reverse (map entry_of xs))
-begins_same xs = begins_from [] [] refl xs ∙ ap begins_in (append-nil (reverse (map entry_of xs)))
+begins_same : (xs : List NamedEntry) → map plain_entry (begins_of xs) ≡ begins_in (reverse (map plain_entry xs))
+begins_same xs = begins_from [] [] refl xs ∙ ap begins_in (append-nil (reverse (map plain_entry xs)))
 
 pick : (b c : Bool) → c ≡ true → cond b true c ≡ true
 pick true c e = refl
@@ -85,19 +85,19 @@ module _ (k : Shape) (script : ScriptParts) (calls : List Call) (for_it : IsFor 
   kinds = kinds_of script.containers
 
   -- an entry after those that its caller kept before it
-  module _ (before : List NamedEntry) (entry : NamedEntry) (stands : StandsInOrder k calls (entry_of entry)) (follows : FollowsOwn (IsWriteIn calls) (reverse (map entry_of before)) (entry_of entry)) where
+  module _ (before : List NamedEntry) (entry : NamedEntry) (stands : StandsInOrder k calls (plain_entry entry)) (follows : FollowsOwn (IsWriteIn calls) (reverse (map plain_entry before)) (plain_entry entry)) where
     writes_kept : (begun : NamedEntry) (begins : List NamedEntry) → begins_of before ≡ begun ∷ begins → entry.call ≡ call.End → (said : Reply) → entry.reply ≡ said → IsKeptFrom calls before begun entry.stamp said
     writes_kept begun begins opens is_end reply.Kept is_kept = λ number called low past is named.
         let n = named_one called (containers_of begun.call) named in
-        any_back entry_of (is_write_of number) before
-        (follows.kept is_end is_kept (entry_of begun) (map entry_of begins) (sym (begins_same before) ∙ ap (map entry_of) opens) n.0 number called n.1 n.2 low past is)
+        any_back plain_entry (is_write_of number) before
+        (follows.kept is_end is_kept (plain_entry begun) (map plain_entry begins) (sym (begins_same before) ∙ ap (map plain_entry) opens) n.0 number called n.1 n.2 low past is)
     writes_kept begun begins opens is_end said is_said = tt
 
-    kept_begun : (begins : List NamedEntry) → begins_of before ≡ begins → entry.call ≡ call.End → IfBegun begins (λ begun. IsKeptFrom calls before begun entry.stamp entry.reply)
+    kept_begun : (begins : List NamedEntry) → begins_of before ≡ begins → entry.call ≡ call.End → IfInnermost begins (λ begun. IsKeptFrom calls before begun entry.stamp entry.reply)
     kept_begun [] opens is_end = tt
     kept_begun (begun ∷ begins) opens is_end = writes_kept begun begins opens is_end entry.reply refl
 
-    kept_by : (c : Call) → entry.call ≡ c → IfEndsBegin (begins_of before) c (λ begun. IsKeptFrom calls before begun entry.stamp entry.reply)
+    kept_by : (c : Call) → entry.call ≡ c → IfEnds (begins_of before) c (λ begun. IsKeptFrom calls before begun entry.stamp entry.reply)
     kept_by call.End is = kept_begun (begins_of before) refl is
     kept_by (call.Begin a b) is = tt
     kept_by (call.Dict o c) is = tt
@@ -106,13 +106,13 @@ module _ (k : Shape) (script : ScriptParts) (calls : List Call) (for_it : IsFor 
     kept_by (call.Next c) is = tt
     kept_by call.Quiesce is = tt
 
-    pub right_after : IsReplied entry.call entry.reply (answer (world_by k.kinds (take entry.stamp calls)) (hands_by k.kinds calls (cursors_of script entry.thread) before) entry.call).reply → IfEndsBegin (begins_of before) entry.call (λ begun. Counts before entry begun) → IsRightAfter storage.Tables script calls before entry
+    pub right_after : IsReplied entry.call entry.reply (answer (world_by k.kinds (take entry.stamp calls)) (hands_by k.kinds calls (cursors_of script entry.thread) before) entry.call).reply → IfEnds (begins_of before) entry.call (λ begun. Counts before entry begun) → IsRightAfter storage.Tables script calls before entry
     right_after replied counted =
         let upto = take entry.stamp calls in
         let earned = stands.earned before in
         record {
           within = stands.within;
-          rises = all_back entry_of (λ earlier. own_after earlier ≤ entry.stamp) before follows.rises;
+          rises = all_back plain_entry (λ earlier. own_after earlier ≤ entry.stamp) before follows.rises;
           wrote = stands.wrote;
           reply = subst (λ (z : List Kind). IsReplied entry.call entry.reply (answer (world_by z upto) (hands_by z calls (cursors_of script entry.thread) before) entry.call).reply) for_it.kinds replied;
           kept = kept_by entry.call refl;
@@ -124,28 +124,28 @@ module _ (k : Shape) (script : ScriptParts) (calls : List Call) (for_it : IsFor 
   -- ---- one pass
 
   module _ (thread : ℕ) (mine : List NamedEntry) (own : List Entry) (had found : List Owner) (kept : HasNamedEntries thread mine own had found) (asks : All (AsksWithin (cursors_of script thread)) mine) (replied : (room : ℕ) → AreReplied k.kinds calls room own) (stand : All (StandsInOrder k calls) own) (ordered : AreInOwnOrder (IsWriteIn calls) own) where
-    own_is : own ≡ reverse (map entry_of mine)
+    own_is : own ≡ reverse (map plain_entry mine)
     own_is = sym (reverse-reverse own) ∙ ap reverse (sym kept.same)
 
     -- its entries as those of a view, split at one
-    split_at : (place : ℕ) (entry : NamedEntry) → slice_get mine place ≡ Some entry → own ≡ reverse (map entry_of (drop (suc place) mine)) ++ entry_of entry ∷ reverse (map entry_of (take place mine))
+    split_at : (place : ℕ) (entry : NamedEntry) → slice_get mine place ≡ Some entry → own ≡ reverse (map plain_entry (drop (suc place) mine)) ++ plain_entry entry ∷ reverse (map plain_entry (take place mine))
     split_at place entry at =
         let cut = at_split mine place entry at in
         let before = take place mine in
         let after = drop (suc place) mine in
         own_is
-        ∙ (ap (λ (l : List NamedEntry). reverse (map entry_of l)) cut
-        ∙ (ap reverse (map-append entry_of before (entry ∷ after))
-        ∙ (reverse-append (map entry_of before) (entry_of entry ∷ map entry_of after)
-        ∙ turned entry_of entry after (reverse (map entry_of before)))))
+        ∙ (ap (λ (l : List NamedEntry). reverse (map plain_entry l)) cut
+        ∙ (ap reverse (map-append plain_entry before (entry ∷ after))
+        ∙ (reverse-append (map plain_entry before) (plain_entry entry ∷ map plain_entry after)
+        ∙ turned plain_entry entry after (reverse (map plain_entry before)))))
 
     right_at : EachAt mine (λ place entry. IsRightAfter storage.Tables script calls (take place mine) entry)
     right_at place entry at =
         let cut = split_at place entry at in
-        let newer = reverse (map entry_of (drop (suc place) mine)) in
-        let older = reverse (map entry_of (take place mine)) in
-        let s = All-head (StandsInOrder k calls) (entry_of entry) older (all_parts (StandsInOrder k calls) newer (entry_of entry ∷ older) (subst (All (StandsInOrder k calls)) cut stand)).1 in
-        let f = own_at (IsWriteIn calls) newer (entry_of entry) older (subst (AreInOwnOrder (IsWriteIn calls)) cut ordered) in
+        let newer = reverse (map plain_entry (drop (suc place) mine)) in
+        let older = reverse (map plain_entry (take place mine)) in
+        let s = All-head (StandsInOrder k calls) (plain_entry entry) older (all_parts (StandsInOrder k calls) newer (plain_entry entry ∷ older) (subst (All (StandsInOrder k calls)) cut stand)).1 in
+        let f = own_at (IsWriteIn calls) newer (plain_entry entry) older (subst (AreInOwnOrder (IsWriteIn calls)) cut ordered) in
         let named : entry.thread ≡ thread = all_at (λ e. e.thread ≡ thread) mine place entry at kept.own in
         right_after (take place mine) entry s f
         (subst (λ (z : ℕ). IsReplied entry.call entry.reply (answer (world_by k.kinds (take entry.stamp calls)) (hands_by k.kinds calls (cursors_of script z) (take place mine)) entry.call).reply) (sym named) (replied (cursors_of script thread) mine kept.same asks place entry at))
@@ -155,7 +155,7 @@ module _ (k : Shape) (script : ScriptParts) (calls : List Call) (for_it : IsFor 
     numbered_thread = record {
       own = kept.own;
       indexes = kept.indexes;
-      numbers = all_back entry_of (λ e. e.wrote ≡ true → slice_get calls e.stamp ≡ Some e.call) mine
+      numbers = all_back plain_entry (λ e. e.wrote ≡ true → slice_get calls e.stamp ≡ Some e.call) mine
           (subst (All (λ e. e.wrote ≡ true → slice_get calls e.stamp ≡ Some e.call)) own_is (All-weaker (StandsInOrder k calls) (λ e. e.wrote ≡ true → slice_get calls e.stamp ≡ Some e.call) (λ e s. s.number) own stand));
       right = right_at;
     }
@@ -181,23 +181,23 @@ module _ (k : Shape) (script : ScriptParts) (calls : List Call) (for_it : IsFor 
 abbrev count_of : ℕ → NamedEntry → ℕ
 count_of n e = cond (is_number n e) 1 0
 
-count_own : (n : ℕ) (mine : List NamedEntry) → total (number_of n) (reverse (map entry_of mine)) ≡ sum_by (count_of n) mine
+count_own : (n : ℕ) (mine : List NamedEntry) → total (number_count n) (reverse (map plain_entry mine)) ≡ sum_by (count_of n) mine
 count_own n [] = refl
 count_own n (m ∷ mine) =
-    let a = ap (total (number_of n)) (reverse-cons (entry_of m) (map entry_of mine)) ∙ total-append (number_of n) (reverse (map entry_of mine)) (entry_of m ∷ []) in
+    let a = ap (total (number_count n)) (reverse-cons (plain_entry m) (map plain_entry mine)) ∙ total-append (number_count n) (reverse (map plain_entry mine)) (plain_entry m ∷ []) in
     let b = count_own n mine in
     let c = sum_by-cons (count_of n) m mine in
-    let d : number_of n (entry_of m) ≡ count_of n m = refl in
+    let d : number_count n (plain_entry m) ≡ count_of n m = refl in
     omega (arith, a, b, c, d)
 
-count_all : (n first : ℕ) (kept : List (List NamedEntry)) (lists : List (List Entry)) (had found : List Owner) → HaveNamedEntries first kept lists had found → total (number_of n) (flat_map (λ own. own) lists) ≡ sum_by (count_of n) (flat_map (λ mine. mine) kept)
+count_all : (n first : ℕ) (kept : List (List NamedEntry)) (lists : List (List Entry)) (had found : List Owner) → HaveNamedEntries first kept lists had found → total (number_count n) (flat_map (λ own. own) lists) ≡ sum_by (count_of n) (flat_map (λ mine. mine) kept)
 count_all n first [] [] had found are = refl
 count_all n first [] (own ∷ lists) had found are = absurd are
 count_all n first (m ∷ kept) [] had found are = absurd are
 count_all n first (m ∷ kept) (own ∷ lists) had found are =
-    let own_is : own ≡ reverse (map entry_of m) = sym (reverse-reverse own) ∙ ap reverse (sym are.0.same) in
-    let a = total-append (number_of n) own (flat_map (λ l. l) lists) in
-    let b = ap (total (number_of n)) own_is ∙ count_own n m in
+    let own_is : own ≡ reverse (map plain_entry m) = sym (reverse-reverse own) ∙ ap reverse (sym are.0.same) in
+    let a = total-append (number_count n) own (flat_map (λ l. l) lists) in
+    let b = ap (total (number_count n)) own_is ∙ count_own n m in
     let c = count_all n (suc first) kept lists had found are.1 in
     let d = sum_by-append (count_of n) m (flat_map (λ mine. mine) kept) in
     omega (arith, a, b, c, d)

@@ -25,14 +25,14 @@ use Rattle.ft_trace.specs.declared.View.{View}
 use Rattle.ft_trace.specs.Acts.{entries_next, starter, noted, maker, made, both, spent, sender, note, all_lists, all_entries, lists_of}
 use Rattle.ft_trace.specs.Entries.{AllRight}
 use Rattle.ft_trace.specs.Hands.{own_entries}
-use Rattle.ft_trace.specs.OwnCursors.{entry_of}
+use Rattle.ft_trace.specs.OwnCursors.{plain_entry}
 use Rattle.ft_trace.specs.Traces.{Event, did, forked, joined, sent, run, writes_of, history, Valid}
 use Rattle.ft_trace.proofs.Cases.{here, miss}
-use Rattle.ft_trace.proofs.Closing.{all_right}
+use Rattle.ft_trace.proofs.ClosedEntries.{all_right}
 use Rattle.ft_trace.proofs.OwnCursors.{cursors_are_hands}
 use Rattle.ft_trace.proofs.Sizes.{set_views, one_more, one_view}
 use Rattle.ft_closing.specs.Numbering.{AreReplied}
-use Rattle.ft_closing.proofs.Parts.{at_split, all_parts, all_at, all_back, map_back}
+use Rattle.ft_closing.proofs.ReversedLists.{at_split, all_parts, all_at, all_back, map_back}
 
 -- ---- more writes
 
@@ -49,8 +49,8 @@ module _ (kinds : List Kind) (calls more : List Call) where
   replies_stay : (room : ℕ) (own : List Entry) → All (λ e. e.stamp ≤ length calls) own → AreReplied kinds calls room own → AreReplied kinds (calls ++ more) room own
   replies_stay room own low replied mine is asks place e at =
       let before = take place mine in
-      let own_is : own ≡ reverse (map entry_of mine) = sym (reverse-reverse own) ∙ ap reverse (sym is) in
-      let all : All (λ x. x.stamp ≤ length calls) mine = all_back entry_of (λ x. x.stamp ≤ length calls) mine (subst (All (λ x. x.stamp ≤ length calls)) own_is low) in
+      let own_is : own ≡ reverse (map plain_entry mine) = sym (reverse-reverse own) ∙ ap reverse (sym is) in
+      let all : All (λ x. x.stamp ≤ length calls) mine = all_back plain_entry (λ x. x.stamp ≤ length calls) mine (subst (All (λ x. x.stamp ≤ length calls)) own_is low) in
       let front = (all_parts (λ x. x.stamp ≤ length calls) before (e ∷ drop (suc place) mine) (subst (All (λ x. x.stamp ≤ length calls)) (at_split mine place e at) all)).0 in
       subst (IsReplied e.call e.reply)
       (ap (λ (w : List Content). (answer w (hands_by kinds calls room before) e.call).reply) (same_world e.stamp (all_at (λ x. x.stamp ≤ length calls) mine place e at all))
@@ -93,7 +93,7 @@ of_log k (joined id v other w ∷ es) valid = let old = of_log k es valid.0 in s
 
 pub own_replied : (k : Shape) (es : List Event) → Valid k es → (j : ℕ) (u : View) → get_elem? (run k es).views j ≡ some u → Replied k.kinds (history es) u.entries
 own_replied k es valid j u at room mine is asks =
-    (cursors_are_hands k es valid j u at room mine (map_back entry_of mine ∙ (ap reverse is ∙ (reverse-reverse u.entries ∙ of_log k es valid j u at))) asks).1
+    (cursors_are_hands k es valid j u at room mine (map_back plain_entry mine ∙ (ap reverse is ∙ (reverse-reverse u.entries ∙ of_log k es valid j u at))) asks).1
 
 given_replied : (P : List Entry → Type 0) (w : View) → P w.entries → All P w.lists → All P (lists_of w)
 given_replied P w own all =

@@ -21,7 +21,7 @@ use Rattle.ft_trace.specs.OwnCursors.{AsksWithin}
 use Rattle.ft_trace.specs.Owners.{is_owner_in, AreOwners}
 use Rattle.ft_closing.specs.Marks.{HaveScriptCalls, AreOfFirst, IsFoundFor, IsNamedIn, inner_after, needed_after, used_after, walked_by}
 use Rattle.ft_closing.specs.Numbering.{HaveNamedEntries, AskOwnCursors, HasNamedEntries, MarksAreRight}
-use Rattle.ft_closing.proofs.Parts.{all_at, all_parts, at_split}
+use Rattle.ft_closing.proofs.ReversedLists.{all_at, all_parts, at_split}
 use Rattle.ft_closing.proofs.Walked.{IsAddingIfRefused, earned_adds, walked_is}
 
 -- ---- lists

@@ -30,7 +30,7 @@ use Rattle.ft_model.specs.Answers.{Answer, answer, cursor_step, is_memory, moves
 use Rattle.ft_model.specs.Calls.{can_add, moved_cursor}
 use Rattle.ft_model.specs.Cursors.{CursorStep, dict_iter, dict_next, dict_walk, list_iter, list_next, list_walk, next_element, next_pair, set_iter, set_next, set_walk}
 use Rattle.ft_model.specs.Histories.{after_stamped, hands_by}
-use Rattle.ft_model.specs.Tables.{IsEarnedReply}
+use Rattle.ft_model.specs.TableUses.{IsEarnedReply}
 use Rattle.ft_model.specs.Worlds.{container_of, cursor_at, dict_at, list_at, set_at, start_hands}
 use Rattle.std.specs.Prelude.{slice_get, take}
 use Rattle.ft_trace.proofs.Cases.{here, miss}

@@ -7,14 +7,14 @@ use Rattle.ft_model.specs.declared.entry.Storage.TheVariants as storage
 use Rattle.ft_model.specs.declared.script.ScriptParts.{ScriptParts}
 use Rattle.ft_model.specs.declared.script.Kind.{Kind}
 use Rattle.ft_model.specs.Answers.{answer, world_by}
-use Rattle.ft_model.specs.Histories.{cursors_of, hands_by, EachAt, IsCountedAs, IsReplied}
-use Rattle.ft_model.specs.Numbers.{IfEndsBegin, begins_of, marks_since, AreDone, AreNumberedLists}
+use Rattle.ft_model.specs.Histories.{cursors_of, hands_by, EachAt, IsCountedAs, IsReplied, IfEnds}
+use Rattle.ft_model.specs.Numbers.{begins_of, marks_since, AreDone, AreNumberedLists}
 use Rattle.ft_model.specs.Worlds.{kinds_of}
 use Rattle.ft_trace.specs.declared.Entry.{Entry}
 use Rattle.ft_trace.specs.declared.Owner.{Owner}
 use Rattle.ft_trace.specs.declared.Shape.{Shape}
 use Rattle.ft_trace.specs.InOrder.{AreInOrder}
-use Rattle.ft_trace.specs.OwnCursors.{entry_of, AsksWithin}
+use Rattle.ft_trace.specs.OwnCursors.{plain_entry, AsksWithin}
 use Rattle.ft_trace.specs.OwnOrder.{AreInOwnOrder, IsWriteIn}
 use Rattle.ft_trace.specs.Owners.{AreOwners}
 use Rattle.ft_closing.specs.Marks.{HaveScriptCalls, AreMarksFound, AreOfFirst, HasNamed}
@@ -30,7 +30,7 @@ pub record IsFor (script : ScriptParts) (k : Shape) : Type 0 where
 -- section, or a MemoryError. (Python manual, Iterator Types: a cursor is its thread's)
 abbrev pub AreReplied : List Kind → List Call → ℕ → List Entry → Type 0
 AreReplied kinds calls room own =
-    (mine : List NamedEntry) → map entry_of mine ≡ reverse own → All (AsksWithin room) mine
+    (mine : List NamedEntry) → map plain_entry mine ≡ reverse own → All (AsksWithin room) mine
     → EachAt mine (λ place e. IsReplied e.call e.reply
     (answer (world_by kinds (take e.stamp calls)) (hands_by kinds calls room (take place mine)) e.call).reply)
 
@@ -39,10 +39,10 @@ AreReplied kinds calls room own =
 -- needs, and the thread had no locks but of containers that its calls name. (profile)
 pub record HasNamedEntries (thread : ℕ) (mine : List NamedEntry) (entries : List Entry) (had found : List Owner)
     : Type 0 where
-  pub same : map entry_of mine ≡ reverse entries
+  pub same : map plain_entry mine ≡ reverse entries
   pub own : All (λ entry. entry.thread ≡ thread) mine
   pub indexes : map (λ entry. entry.index) mine ≡ range_with_len 1 (length mine)
-  pub counted : EachAt mine (λ place entry. IfEndsBegin (begins_of (take place mine)) entry.call
+  pub counted : EachAt mine (λ place entry. IfEnds (begins_of (take place mine)) entry.call
       (λ begun. IsCountedAs (marks_since entry.thread (take place mine) begun) entry.reply))
   pub marked : AreMarksFound found mine
   pub named : HasNamed thread had mine

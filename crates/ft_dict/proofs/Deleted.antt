@@ -14,7 +14,7 @@ use Rattle.ft_model.specs.declared.reply.Reply.TheVariants as reply
 use Rattle.ft_model.specs.declared.reply.Raise.TheVariants as raise
 use Rattle.ft_model.specs.Answers.{puts, shows}
 use Rattle.ft_model.specs.Contents.{DictContent, dict_get, dict_del, dict_set, has_key, is_at, with_value}
-use Rattle.ft_model.specs.Tables.{StoredWorld}
+use Rattle.ft_model.specs.TableUses.{StoredWorld}
 use Rattle.ft_model.specs.Worlds.{no_hands}
 use Rattle.ft_layout.specs.Words.{FitsKey}
 use Rattle.ft_model.specs.declared.script.Kind.TheVariants as kind
@@ -26,14 +26,14 @@ use Rattle.ft_trace.specs.Addresses.{containers_in}
 use Rattle.ft_trace.specs.FitCalls.{FitsValue}
 use Rattle.ft_trace.specs.Holds.{known}
 use Rattle.ft_trace.specs.Kinds.{under}
-use Rattle.ft_trace.specs.Worlds.{ContainerState, kind_in}
+use Rattle.ft_trace.specs.ContainerStates.{ContainerState, kind_in}
 use Rattle.ft_trace.proofs.LookReplies as looked
 use Rattle.ft_trace.proofs.SameKeys.{any_found}
-use Rattle.ft_bank.specs.Writes.{MayHave}
-use Rattle.ft_search.specs.Calls.{IsShownBy}
+use Rattle.ft_bank.specs.WriteSteps.{MayHave}
+use Rattle.ft_search.specs.MadeCalls.{IsShownBy}
 use Rattle.ft_search.specs.Held.{IsHeldAt}
-use Rattle.ft_search.specs.Writing.{Leaves, MayWriteEntries, with_value_at, without_key}
-use Rattle.ft_search.proofs.Holding.{dict_known}
+use Rattle.ft_search.specs.OneEntryWrites.{Leaves, MayWriteEntries, with_value_at, without_key}
+use Rattle.ft_search.proofs.FoundInContents.{dict_known}
 use Rattle.ft_dict.specs.Locked.{HasValue}
 use Rattle.ft_dict.proofs.Leaving.{dict_is, each_fits, leaves_same, leaves_stay, replies, shows_puts}
 use Rattle.ft_dict.proofs.Reading.{got, not_found, some_words}

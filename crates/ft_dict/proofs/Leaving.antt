@@ -16,11 +16,11 @@ use Rattle.ft_model.specs.declared.script.Kind.TheVariants as kind
 use Rattle.ft_model.specs.Answers.{Answer, answer, answer_dict, puts, shows, after_write, is_raised}
 use Rattle.ft_model.specs.Calls.{is_changing_dict, other_dict, cursor_of_dict, dict_change, adds, one_or_two}
 use Rattle.ft_model.specs.Classes.{dict_class, dict_entries, most_pairs}
-use Rattle.ft_model.specs.Changes.{changed_dict, HasTableFor, IsTableOf}
+use Rattle.ft_model.specs.TablesInOrder.{changed_dict, HasTableFor, IsTableFor}
 use Rattle.ft_model.specs.declared.call.DictCall.TheVariants as dict
 use Rattle.ft_model.specs.declared.reply.Reply.TheVariants as reply
 use Rattle.ft_model.specs.Contents.{DictContent, dict_clear, empty_dict}
-use Rattle.ft_model.specs.Tables.{StoredWorld, TableUse, no_table, takes_in, table_at, change_takes, change_leaves, copy_leaves, copy_takes, dict_takes, outgrows_dict, grown_table, passes_cap, would_pass, after_stored}
+use Rattle.ft_model.specs.TableUses.{StoredWorld, TableUse, no_table, takes_in, table_at, change_takes, change_leaves, copy_leaves, copy_takes, dict_takes, outgrows_dict, grown_table, passes_cap, would_pass, after_stored}
 use Rattle.ft_model.specs.Worlds.{dict_of, dict_at, named_in, no_hands, IsOfKind, IsDeclared}
 use Rattle.ft_layout.proofs.Powers.{slots_range}
 use Rattle.ft_trace.specs.declared.View.{View}
@@ -28,11 +28,11 @@ use Rattle.ft_trace.specs.Acts.{has_lock}
 use Rattle.ft_trace.specs.Addresses.{containers_in}
 use Rattle.ft_trace.specs.FitCalls.{FitsDictCall, FitsContent}
 use Rattle.ft_trace.specs.Holds.{known}
-use Rattle.ft_trace.specs.Worlds.{ContainerState, state_at, reply_in}
+use Rattle.ft_trace.specs.ContainerStates.{ContainerState, state_at, reply_in}
 use Rattle.ft_trace.proofs.Known.{declared_at, at_any}
 use Rattle.ft_trace.proofs.Naming.{named_locked}
-use Rattle.ft_bank.specs.Writes.{MayHave}
-use Rattle.ft_search.specs.Writing.{Leaves}
+use Rattle.ft_bank.specs.WriteSteps.{MayHave}
+use Rattle.ft_search.specs.OneEntryWrites.{Leaves}
 use Rattle.ft_keyed.specs.Clearing.{cleared, cleared_kept}
 
 set_own : {A : Type 0} (l : List A) (i : ℕ) (x e : A) → i < length l → slice_index_or l i e ≡ x → slice_set l i x ≡ l
@@ -151,7 +151,7 @@ module _ (d : ℕ) (v : View) (pairs news : DictContent) (dc : DictCall) (said :
 
   few : length news.pairs ≤ most_pairs
   few =
-      let each : HasTableFor (length pairs.pairs) T.class T.fill dict_entries = subst (λ (z : Content). IsTableOf z T) (there d v pairs low mine is_dict stored has) (has.order.each d) in
+      let each : HasTableFor (length pairs.pairs) T.class T.fill dict_entries = subst (λ (z : Content). IsTableFor z T) (there d v pairs low mine is_dict stored has) (has.order.each d) in
       let s = table_short (length pairs.pairs) T.class T.fill each in
       subst (λ (z : ℕ). z ≤ most_pairs) (sym count) s
 

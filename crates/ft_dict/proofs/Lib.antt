@@ -4,5 +4,5 @@ mod Deleted
 mod NewKeys
 mod Showing
 mod Popping
-mod Copied
+mod CopiedDicts
 mod Updated

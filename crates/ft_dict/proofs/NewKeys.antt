@@ -17,10 +17,10 @@ use Rattle.ft_model.specs.declared.reply.Reply.{Reply}
 use Rattle.ft_model.specs.declared.reply.Reply.TheVariants as reply
 use Rattle.ft_model.specs.Answers.{answer_dict, puts, shows, after_write, is_raised}
 use Rattle.ft_model.specs.Calls.{is_changing_dict, other_dict, cursor_of_dict, dict_change, adds, one_or_two}
-use Rattle.ft_model.specs.Changes.{changed_dict}
+use Rattle.ft_model.specs.TablesInOrder.{changed_dict}
 use Rattle.ft_model.specs.Classes.{dict_class, most_pairs}
 use Rattle.ft_model.specs.Contents.{DictContent, empty_dict, has_key, dict_set}
-use Rattle.ft_model.specs.Tables.{StoredWorld, TableUse, no_table, CanLackMemory, takes_in, table_at, change_takes, change_leaves, copy_leaves, copy_takes, dict_takes, outgrows_dict, grown_table, passes_cap, would_pass, after_stored}
+use Rattle.ft_model.specs.TableUses.{StoredWorld, TableUse, no_table, CanLackMemory, takes_in, table_at, change_takes, change_leaves, copy_leaves, copy_takes, dict_takes, outgrows_dict, grown_table, passes_cap, would_pass, after_stored}
 use Rattle.ft_model.specs.Worlds.{dict_of, dict_at, length_of, no_hands}
 use Rattle.ft_layout.specs.declared.slot.Stored.TheVariants.{Plain}
 use Rattle.ft_layout.specs.Words.{FitsKey}
@@ -29,11 +29,11 @@ use Rattle.ft_trace.specs.Acts.{has_lock}
 use Rattle.ft_trace.specs.Addresses.{containers_in}
 use Rattle.ft_trace.specs.FitCalls.{FitsDictCall, FitsValue}
 use Rattle.ft_trace.specs.Holds.{known}
-use Rattle.ft_trace.specs.Worlds.{state_at}
-use Rattle.ft_trace.proofs.Growing.{added_next, added_length}
+use Rattle.ft_trace.specs.ContainerStates.{state_at}
+use Rattle.ft_trace.proofs.GrownDicts.{added_next, added_length}
 use Rattle.ft_trace.proofs.Naming.{named_locked}
-use Rattle.ft_bank.specs.Writes.{MayHave}
-use Rattle.ft_adding.specs.Growing.{AddsKey, key_takes, most_of}
+use Rattle.ft_bank.specs.WriteSteps.{MayHave}
+use Rattle.ft_adding.specs.KeyGrowth.{AddsKey, key_takes, most_of}
 use Rattle.ft_adding.specs.Placing.{with_key}
 use Rattle.ft_dict.proofs.Reading.{not_found}
 use Rattle.ft_dict.proofs.Leaving.{dict_is, table_is, many_tables, replies, declared, left_at}

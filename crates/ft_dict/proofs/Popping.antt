@@ -29,12 +29,12 @@ use Rattle.ft_trace.specs.Holds.{held, known}
 use Rattle.ft_trace.specs.Kinds.{rows}
 use Rattle.ft_trace.specs.Traces.{Possible}
 use Rattle.ft_trace.proofs.DictWrites.{LiveEntriesArePairs}
-use Rattle.ft_trace.specs.Words.{Picture, root_in}
-use Rattle.ft_trace.specs.Worlds.{ContainerState, kind_in}
+use Rattle.ft_trace.specs.Pictures.{Picture, root_in}
+use Rattle.ft_trace.specs.ContainerStates.{ContainerState, kind_in}
 use Rattle.ft_bank.specs.declared.table.Table.{Table}
-use Rattle.ft_bank.specs.Tables.{IsTableIn, name_of}
-use Rattle.ft_search.specs.Calls.{IsShownBy}
-use Rattle.ft_search.specs.Writing.{HasTable, IsEntryOf, Leaves, MayWriteEntries, without_key}
+use Rattle.ft_bank.specs.TableNames.{IsTableIn, name_of}
+use Rattle.ft_search.specs.MadeCalls.{IsShownBy}
+use Rattle.ft_search.specs.OneEntryWrites.{HasTable, IsLiveEntry, Leaves, MayWriteEntries, without_key}
 use Rattle.ft_search.proofs.Changing.{kind_is}
 use Rattle.ft_keyed.specs.TableEntries.{IsPlainAt, OfUsed, plain_pair, plain_with}
 use Rattle.ft_keyed.specs.Places.{IsLast, NoneThere}
@@ -157,7 +157,7 @@ module _ (k : Shape) (d : ℕ) (v : View) (shape : v.shape ≡ k) (possible : �
     pub popped_table : HasTable k d last.table v
     popped_table = record { table_in = here.1.table_in; root = here.0 }
 
-    pub popped_entry : IsEntryOf k d last.table last.place last.key v
+    pub popped_entry : IsLiveEntry k d last.table last.place last.key v
     popped_entry = record {
       low = subst (λ (z : Kind). last.place < rows z (class_of (name_of last.table))) (sym is) here.1.low;
       live = here.1.live here.0;

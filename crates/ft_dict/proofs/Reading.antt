@@ -7,7 +7,7 @@ use Rattle.ft_model.specs.Answers.{is_write}
 use Rattle.ft_model.specs.Contents.{DictContent, dict_get, has_key, is_at, empty_dict}
 use Rattle.ft_model.specs.Calls.{moved_cursor}
 use Rattle.ft_model.specs.Histories.{IsReplied}
-use Rattle.ft_model.specs.Tables.{StoredWorld, stored_newest}
+use Rattle.ft_model.specs.TableUses.{StoredWorld, stored_newest}
 use Rattle.ft_model.specs.Worlds.{dict_of, dict_at}
 use Rattle.ft_model.specs.declared.call.Call.{Call}
 use Rattle.ft_model.specs.declared.call.Call.TheVariants as call
@@ -31,7 +31,7 @@ use Rattle.ft_trace.specs.Holds.{known}
 use Rattle.ft_trace.specs.Kinds.{under}
 use Rattle.ft_trace.specs.LookReplies.{key_reply, DictReplies}
 use Rattle.ft_trace.specs.Traces.{Possible, history}
-use Rattle.ft_trace.specs.Worlds.{ContainerState, reply_in}
+use Rattle.ft_trace.specs.ContainerStates.{ContainerState, reply_in}
 use Rattle.ft_trace.proofs.FitCalls.{contents_fit}
 use Rattle.ft_trace.proofs.Held.{content_known}
 use Rattle.ft_trace.proofs.Known.{at_any}
@@ -39,8 +39,8 @@ use Rattle.ft_trace.proofs.LookReplies.{replies, value_there}
 use Rattle.ft_trace.proofs.Untouched.{as_many}
 use Rattle.ft_bank.specs.Reads.{IsShown}
 use Rattle.ft_bank.specs.Whole.{OnlyLoaded}
-use Rattle.ft_bank.specs.Writes.{MayHave}
-use Rattle.ft_bank.proofs.Whole.{work_knows}
+use Rattle.ft_bank.specs.WriteSteps.{MayHave}
+use Rattle.ft_bank.proofs.KnownAfterWrites.{work_knows}
 use Rattle.ft_search.proofs.Asking.{held_shown}
 use Rattle.ft_dict.specs.Locked.{HasValue}
 

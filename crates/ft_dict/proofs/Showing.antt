@@ -10,21 +10,21 @@ use Rattle.ft_model.specs.declared.reply.Reply.TheVariants as reply
 use Rattle.ft_model.specs.declared.script.Kind.TheVariants as kind
 use Rattle.ft_model.specs.Answers.{items_of}
 use Rattle.ft_model.specs.Contents.{DictContent, same_pairs}
-use Rattle.ft_model.specs.Tables.{StoredWorld}
+use Rattle.ft_model.specs.TableUses.{StoredWorld}
 use Rattle.ft_model.specs.Worlds.{kind_of}
 use Rattle.ft_trace.specs.declared.Shape.{Shape}
 use Rattle.ft_trace.specs.declared.View.{View}
 use Rattle.ft_trace.specs.Holds.{held}
 use Rattle.ft_trace.specs.Traces.{Possible}
-use Rattle.ft_trace.specs.Words.{Picture, Stands}
-use Rattle.ft_trace.specs.Worlds.{state_at, kind_in, reply_in}
-use Rattle.ft_search.specs.Calls.{IsShownBy}
-use Rattle.ft_search.specs.Writing.{MayWriteEntries}
+use Rattle.ft_trace.specs.Pictures.{Picture, Stands}
+use Rattle.ft_trace.specs.ContainerStates.{state_at, kind_in, reply_in}
+use Rattle.ft_search.specs.MadeCalls.{IsShownBy}
+use Rattle.ft_search.specs.OneEntryWrites.{MayWriteEntries}
 use Rattle.ft_search.proofs.Lengths.{IsPlain}
 use Rattle.ft_keyed.specs.Comparing.{AreOfDicts}
-use Rattle.ft_keyed.specs.Copies.{TakesMemory}
-use Rattle.ft_keyed.specs.Contents.{IsOfDict}
-use Rattle.ft_keyed.proofs.Knowing.{dict_there, had_kind, had_stands}
+use Rattle.ft_list.specs.Copies.{TakesMemory}
+use Rattle.ft_keyed.specs.ShownContents.{IsOfDict}
+use Rattle.ft_keyed.proofs.KnownContents.{dict_there, had_kind, had_stands}
 
 -- ---- all pairs
 

@@ -12,19 +12,19 @@ use Rattle.ft_model.specs.declared.script.Kind.TheVariants as kind
 use Rattle.ft_model.specs.Answers.{after_write}
 use Rattle.ft_model.specs.Classes.{dict_class}
 use Rattle.ft_model.specs.Contents.{DictContent, dict_update, empty_dict}
-use Rattle.ft_model.specs.Tables.{StoredWorld, after_stored, grown_table, no_table, outgrows_dict, passes_cap, table_at, takes_in, would_pass}
+use Rattle.ft_model.specs.TableUses.{StoredWorld, after_stored, grown_table, no_table, outgrows_dict, passes_cap, table_at, takes_in, would_pass}
 use Rattle.ft_model.specs.Worlds.{dict_at, dict_of, length_of, serial_of}
 use Rattle.ft_trace.specs.declared.Shape.{Shape}
 use Rattle.ft_trace.specs.declared.View.{View}
 use Rattle.ft_trace.specs.Addresses.{containers_in}
 use Rattle.ft_trace.specs.Holds.{known}
 use Rattle.ft_trace.specs.Traces.{Possible}
-use Rattle.ft_trace.specs.Worlds.{state_at, kind_in}
+use Rattle.ft_trace.specs.ContainerStates.{state_at, kind_in}
 use Rattle.ft_trace.proofs.Known.{declared_at}
 use Rattle.ft_trace.proofs.Naming.{named_locked}
-use Rattle.ft_bank.specs.Writes.{MayHave}
-use Rattle.ft_search.specs.Writing.{MayWriteEntries}
-use Rattle.ft_adding.specs.Growing.{keys_take}
+use Rattle.ft_bank.specs.WriteSteps.{MayHave}
+use Rattle.ft_search.specs.OneEntryWrites.{MayWriteEntries}
+use Rattle.ft_adding.specs.KeyGrowth.{keys_take}
 use Rattle.ft_merging.specs.Joining.{JoinsKeys, join_takes, joined, joined_state, new_keys}
 use Rattle.ft_merging.proofs.JoinedPairs.{update_length}
 use Rattle.ft_merging.proofs.Pairs.{named_cap}

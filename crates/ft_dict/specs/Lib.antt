@@ -1,5 +1,5 @@
-pub mod Looks
+pub mod DictLooks
 pub mod Locked
 pub mod Values
 pub mod Lasts
-pub mod Copies
+pub mod DictCopies

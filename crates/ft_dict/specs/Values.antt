@@ -14,7 +14,7 @@ use Rattle.ft_trace.specs.declared.Shape.{Shape}
 use Rattle.ft_trace.specs.declared.View.{View}
 use Rattle.ft_trace.specs.Holds.{known}
 use Rattle.ft_growth.specs.declared.adding.Added.{Added}
-use Rattle.ft_adding.specs.Growing.{PutsKey}
+use Rattle.ft_adding.specs.KeyGrowth.{PutsKey}
 
 -- what `d.setdefault(k, v)` replies: the value at the key where it is there, else the default, which is stored then
 -- (Python manual, Mapping Types)

@@ -16,7 +16,7 @@ use Rattle.ft_trace.proofs.Seeing.{seen_up}
 use Rattle.ft_bank.specs.declared.tokens.Tokens.{Tokens}
 use Rattle.ft_bank.specs.Floors.{carried, rests, stack_at_rest}
 use Rattle.ft_bank.specs.Passes.{view, IsPassOf}
-use Rattle.ft_bank.specs.Sections.{Stack, nothing_taken, noted_in, stack_of, taken_in}
+use Rattle.ft_bank.specs.PassSections.{Stack, nothing_taken, noted_in, stack_of, taken_in}
 use Rattle.ft_bank.specs.Slips.{slip_with}
 use Rattle.ft_section.specs.Ready.{IsReady, IsStill}
 use Rattle.ft_engine.specs.declared.caller.Caller.{Caller}
@@ -27,7 +27,7 @@ use Rattle.ft_engine.specs.Resting.{HandsOn, HasFloor, IsAsBefore, IsRestDone, I
 use Rattle.ft_engine.proofs.Callers.{HasSame, ready_of, steady_caller, steady_kept, steady_work}
 use Rattle.ft_engine.proofs.GivingUp.{in_call_of}
 use Rattle.ft_engine.proofs.KeptLists.{TakesIn}
-use Rattle.ft_engine.proofs.Passing.{IsSteady}
+use Rattle.ft_engine.proofs.PassesAfter.{IsSteady}
 
 -- ---- what a pass knows
 

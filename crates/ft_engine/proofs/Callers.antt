@@ -13,15 +13,15 @@ use Rattle.ft_trace.specs.declared.Entry.{Entry}
 use Rattle.ft_trace.specs.declared.Shape.{Shape}
 use Rattle.ft_trace.specs.declared.View.{View}
 use Rattle.ft_trace.specs.Hands.{cursor_in}
-use Rattle.ft_trace.specs.OwnCursors.{entry_of}
+use Rattle.ft_trace.specs.OwnCursors.{plain_entry}
 use Rattle.ft_trace.specs.Owners.{LocksOnly, SameOwners}
 use Rattle.ft_trace.proofs.Owning.{grown_finds_more, same_locks_only}
 use Rattle.ft_bank.specs.declared.bank.Bank.{Bank}
 use Rattle.ft_bank.specs.declared.pass.Pass.{Pass}
 use Rattle.ft_bank.specs.declared.sections.OpenSection.{OpenSection}
-use Rattle.ft_bank.specs.Openings.{IsOpening}
+use Rattle.ft_bank.specs.NewPasses.{IsOpening}
 use Rattle.ft_bank.specs.Passes.{shape_of, view, IsPassOf}
-use Rattle.ft_bank.specs.Sections.{Stack, stack_of}
+use Rattle.ft_bank.specs.PassSections.{Stack, stack_of}
 use Rattle.ft_section.specs.declared.answers.Objects.{Objects}
 use Rattle.ft_section.specs.declared.answers.Stamp.{Stamp}
 use Rattle.ft_section.specs.declared.answers.Step.{Step}
@@ -42,9 +42,9 @@ use Rattle.ft_engine.specs.Halves.{HasBothHalves, IsInHalves}
 use Rattle.ft_engine.specs.Keeping.{AreThreadEntries, WasAnswered, named_entry, pending}
 use Rattle.ft_engine.specs.Visits.{SameCallerWork}
 use Rattle.ft_engine.specs.Owning.{AreOwnedBy}
-use Rattle.ft_engine.proofs.Marks.{last_of}
-use Rattle.ft_engine.proofs.Owned.{again_owned, answered_owned, calm_owned, done_owned, refused_owned, up_owned, waits_on_owned, waits_owned}
-use Rattle.ft_engine.proofs.Passing.{IsCalm, IsSteady, calm_steady, steady_in}
+use Rattle.ft_engine.proofs.WaitCounts.{last_of}
+use Rattle.ft_engine.proofs.KnownOwners.{again_owned, answered_owned, calm_owned, done_owned, refused_owned, up_owned, waits_on_owned, waits_owned}
+use Rattle.ft_engine.proofs.PassesAfter.{IsCalm, IsSteady, calm_steady, steady_in}
 use Rattle.ft_engine.proofs.Keeping.{kept_again, kept_answered, kept_done, kept_refused, kept_waits, kept_waits_on}
 
 -- ---- a new caller
@@ -127,9 +127,9 @@ not_true false no_way = refl
 kept_count : (thread : ℕ) (entries : List Entry) (s : Stack) (f : Flight) (mine : List NamedEntry) → AreThreadEntries thread entries s f mine → length entries ≡ length (pending f) + length mine
 kept_count thread entries s f mine k =
     let a = ap length k.same in
-    let b = length-append (pending f) (reverse (map entry_of mine)) in
-    let c = length-reverse (map entry_of mine) in
-    let d = length-map mine entry_of in
+    let b = length-append (pending f) (reverse (map plain_entry mine)) in
+    let c = length-reverse (map plain_entry mine) in
+    let d = length-map mine plain_entry in
     omega (arith, a, b, c, d)
 
 -- the list that was kept of a caller whose section has to wait

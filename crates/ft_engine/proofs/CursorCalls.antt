@@ -29,20 +29,20 @@ use Rattle.ft_section.specs.declared.answers.Stamp.{Stamp}
 use Rattle.ft_section.specs.declared.answers.Step.{Step}
 use Rattle.ft_section.specs.declared.answers.Step.TheVariants as step
 use Rattle.ft_section.specs.Trying.{SectionsAfter}
-use Rattle.ft_iter.specs.Cursors.{IsMoveOf, IsOver, KeepsOthers, MovedUnderLock, iter_call}
+use Rattle.ft_iter.specs.CursorCalls.{IsMoveOf, IsOver, KeepsOtherCursors, MovedUnderLock, iter_call}
 use Rattle.ft_closing.specs.Marks.{over_after, walked_after}
 use Rattle.ft_engine.specs.Answering.{MakesEntry, AreHandsOfPass, IsTryOfCall, LeavesHands}
 use Rattle.ft_engine.specs.Callers.{IsOfKindIn}
 use Rattle.ft_engine.specs.Flights.{objects_of}
 use Rattle.ft_engine.specs.Keeping.{made_entry}
-use Rattle.ft_engine.proofs.Looking.{IsPlain, tried_of}
+use Rattle.ft_engine.proofs.LooksBefore.{IsPlain, tried_of}
 use Rattle.ft_engine.proofs.Outcomes.{Outcome}
 use Rattle.ft_engine.proofs.Within.{WalkedBy, cursor_owners, within_then}
 use Rattle.ft_engine.proofs.SectionCalls.{only_nothing}
 
 -- ---- the entry
 
-moved_adds : (o : ℕ) (called : Call) (said : Reply) (stamp : Stamp) (number : ℕ) (left : Cursor) (v w : View) → stamp.wrote ≡ false → 0 < v.left → moved_cursor called ≡ Some number → KeepsOthers number v w → MovedUnderLock o called said stamp.number number left v w → MakesEntry called said stamp v w
+moved_adds : (o : ℕ) (called : Call) (said : Reply) (stamp : Stamp) (number : ℕ) (left : Cursor) (v w : View) → stamp.wrote ≡ false → 0 < v.left → moved_cursor called ≡ Some number → KeepsOtherCursors number v w → MovedUnderLock o called said stamp.number number left v w → MakesEntry called said stamp v w
 moved_adds o called said stamp number left v w is some moves others m =
     let before = only_nothing v m.before m.took in
     let after = only_nothing m.after w m.gone in
@@ -73,7 +73,7 @@ moved_adds o called said stamp number left v w is some moves others m =
       cursors = λ other apart. others other (λ e. apart (moves ∙ ap (λ (n : ℕ). Some n) (sym e)));
     }
 
-move_outcome : (kind : Kind) (o : ℕ) (called : Call) (number : ℕ) (had left : Option Cursor) (v w : View) (result : Step) → 0 < v.left → moved_cursor called ≡ Some number → KeepsOthers number v w → IsMoveOf kind o called number had v w result left → Outcome called (One o) v w result
+move_outcome : (kind : Kind) (o : ℕ) (called : Call) (number : ℕ) (had left : Option Cursor) (v w : View) (result : Step) → 0 < v.left → moved_cursor called ≡ Some number → KeepsOtherCursors number v w → IsMoveOf kind o called number had v w result left → Outcome called (One o) v w result
 move_outcome kind o called number had left v w (step.Done said stamp) some moves others x =
     let m = x.3 in
     let a = m.answered in (
@@ -109,7 +109,7 @@ set_same [] number = refl
 set_same (h ∷ hands) zero = refl
 set_same (h ∷ hands) (suc n) = ap (λ (l : List (Option Cursor)). h ∷ l) (set_same hands n)
 
-moved_hands : (k : Shape) (v w : View) (hands : List (Option Cursor)) (kind : Kind) (o number : ℕ) (walker : Cursor) → AreHandsOfPass k v hands → number < length hands → KeepsOthers number v w → cursor_in number w.log ≡ Some walker → IsOver kind o walker → IsOfKindIn k kind o → AreHandsOfPass k w (set hands number (Some walker))
+moved_hands : (k : Shape) (v w : View) (hands : List (Option Cursor)) (kind : Kind) (o number : ℕ) (walker : Cursor) → AreHandsOfPass k v hands → number < length hands → KeepsOtherCursors number v w → cursor_in number w.log ≡ Some walker → IsOver kind o walker → IsOfKindIn k kind o → AreHandsOfPass k w (set hands number (Some walker))
 moved_hands k v w hands kind o number walker are low others mine over of = record {
   cursors = λ n within.
       dite (ℕ_discrete n number)
@@ -125,7 +125,7 @@ moved_hands k v w hands kind o number walker are low others mine over of = recor
 }
 
 -- what the caller's cursors become
-pub hands_by : (k : Shape) (v w : View) (hands : List (Option Cursor)) (kind : Kind) (o number : ℕ) (called : Call) (left : Option Cursor) (result : Step) → AreHandsOfPass k v hands → number < length hands → KeepsOthers number v w → IsOfKindIn k kind o → IsMoveOf kind o called number (cursor_at hands number) v w result left → AreHandsOfPass k w (set hands number left) × LeavesHands result hands (set hands number left)
+pub hands_by : (k : Shape) (v w : View) (hands : List (Option Cursor)) (kind : Kind) (o number : ℕ) (called : Call) (left : Option Cursor) (result : Step) → AreHandsOfPass k v hands → number < length hands → KeepsOtherCursors number v w → IsOfKindIn k kind o → IsMoveOf kind o called number (cursor_at hands number) v w result left → AreHandsOfPass k w (set hands number left) × LeavesHands result hands (set hands number left)
 hands_by k v w hands kind o number called left (step.Done said stamp) are low others of x = (
   subst (λ (z : Option Cursor). AreHandsOfPass k w (set hands number z)) (sym x.1) (moved_hands k v w hands kind o number x.0 are low others x.3.mine x.2 of),
   length-set hands number left,
@@ -158,7 +158,7 @@ walked_iter kind.Dict o number n over = refl
 walked_iter kind.List o number n over = refl
 walked_iter kind.Set o number n over = refl
 
-iter_walked : (kind : Kind) (o number : ℕ) (had left : Option Cursor) (v w : View) (result : Step) → KeepsOthers number v w → IsMoveOf kind o (iter_call kind o number) number had v w result left → WalkedBy (iter_call kind o number) v w result
+iter_walked : (kind : Kind) (o number : ℕ) (had left : Option Cursor) (v w : View) (result : Step) → KeepsOtherCursors number v w → IsMoveOf kind o (iter_call kind o number) number had v w result left → WalkedBy (iter_call kind o number) v w result
 iter_walked kind o number had left v w (step.Done said stamp) others x = λ n.
     let over = option_map container_of (cursor_in n v.log) in
     dite (ℕ_discrete n number)
@@ -170,7 +170,7 @@ iter_walked kind o number had left v w (step.NotYet p owner) others x = tt
 iter_walked kind o number had left v w (step.Moved a b) others x = tt
 iter_walked kind o number had left v w step.NoMemory others x = tt
 
-next_walked : (kind : Kind) (number : ℕ) (walker : Cursor) (had left : Option Cursor) (v w : View) (result : Step) → cursor_in number v.log ≡ Some walker → KeepsOthers number v w → IsMoveOf kind (container_of walker) (call.Next number) number had v w result left → WalkedBy (call.Next number) v w result
+next_walked : (kind : Kind) (number : ℕ) (walker : Cursor) (had left : Option Cursor) (v w : View) (result : Step) → cursor_in number v.log ≡ Some walker → KeepsOtherCursors number v w → IsMoveOf kind (container_of walker) (call.Next number) number had v w result left → WalkedBy (call.Next number) v w result
 next_walked kind number walker had left v w (step.Done said stamp) was others x = λ n.
     dite (ℕ_discrete n number)
     (λ (e : n ≡ number).
@@ -181,7 +181,7 @@ next_walked kind number walker had left v w (step.NotYet p owner) was others x =
 next_walked kind number walker had left v w (step.Moved a b) was others x = tt
 next_walked kind number walker had left v w step.NoMemory was others x = tt
 
-pub iter_tried : (b : Bank) (p q : Pass) (hands : List (Option Cursor)) (kind : Kind) (o number : ℕ) (had left : Option Cursor) (result : Step) → 0 < (view p).left → SectionsAfter b (One o) p q result → KeepsOthers number (view p) (view q) → IsMoveOf kind o (iter_call kind o number) number had (view p) (view q) result left → IsTryOfCall b hands (iter_call kind o number) p q result
+pub iter_tried : (b : Bank) (p q : Pass) (hands : List (Option Cursor)) (kind : Kind) (o number : ℕ) (had left : Option Cursor) (result : Step) → 0 < (view p).left → SectionsAfter b (One o) p q result → KeepsOtherCursors number (view p) (view q) → IsMoveOf kind o (iter_call kind o number) number had (view p) (view q) result left → IsTryOfCall b hands (iter_call kind o number) p q result
 iter_tried b p q hands kind o number had left result some after others x =
     tried_of b p q hands (iter_call kind o number) (One o) (plain_iter kind o number) (iter_names hands kind o number) result after (move_outcome kind o (iter_call kind o number) number had left (view p) (view q) result some (iter_moves kind o number) others x) (iter_walked kind o number had left (view p) (view q) result others x)
 
@@ -191,6 +191,6 @@ plain_next number = record { sections = λ n log sections. refl; begins = refl; 
 pub next_names : (hands : List (Option Cursor)) (number : ℕ) (walker : Cursor) → cursor_at hands number ≡ Some walker → objects_of hands (call.Next number) ≡ Some (One (container_of walker))
 next_names hands number walker at = ap (λ (z : Option Cursor). option_map (λ w. One (container_of w)) z) at
 
-pub next_tried : (b : Bank) (p q : Pass) (hands : List (Option Cursor)) (kind : Kind) (number : ℕ) (walker : Cursor) (had left : Option Cursor) (result : Step) → 0 < (view p).left → cursor_at hands number ≡ Some walker → cursor_in number (view p).log ≡ Some walker → SectionsAfter b (One (container_of walker)) p q result → KeepsOthers number (view p) (view q) → IsMoveOf kind (container_of walker) (call.Next number) number had (view p) (view q) result left → IsTryOfCall b hands (call.Next number) p q result
+pub next_tried : (b : Bank) (p q : Pass) (hands : List (Option Cursor)) (kind : Kind) (number : ℕ) (walker : Cursor) (had left : Option Cursor) (result : Step) → 0 < (view p).left → cursor_at hands number ≡ Some walker → cursor_in number (view p).log ≡ Some walker → SectionsAfter b (One (container_of walker)) p q result → KeepsOtherCursors number (view p) (view q) → IsMoveOf kind (container_of walker) (call.Next number) number had (view p) (view q) result left → IsTryOfCall b hands (call.Next number) p q result
 next_tried b p q hands kind number walker had left result some at was after others x =
     tried_of b p q hands (call.Next number) (One (container_of walker)) (plain_next number) (next_names hands number walker at) result after (move_outcome kind (container_of walker) (call.Next number) number had left (view p) (view q) result some refl others x) (next_walked kind number walker had left (view p) (view q) result was others x)

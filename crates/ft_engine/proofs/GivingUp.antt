@@ -7,7 +7,7 @@ use Rattle.ft_trace.specs.declared.Entry.{Entry}
 use Rattle.ft_bank.specs.declared.bank.Bank.{Bank}
 use Rattle.ft_bank.specs.declared.pass.Pass.{Pass}
 use Rattle.ft_bank.specs.Passes.{view}
-use Rattle.ft_bank.specs.Sections.{Stack, no_sections, stack_of}
+use Rattle.ft_bank.specs.PassSections.{Stack, no_sections, stack_of}
 use Rattle.ft_trace.specs.Owners.{SameOwners}
 use Rattle.ft_closing.specs.Marks.{IsNamedIn}
 use Rattle.ft_section.specs.Locking.{OnlyLocked}
@@ -21,7 +21,7 @@ use Rattle.ft_engine.specs.Flights.{IsFlightAnswered, IsIn}
 use Rattle.ft_engine.specs.Keeping.{AreThreadEntries, WasAnswered}
 use Rattle.ft_engine.specs.Owning.{FlightNames}
 use Rattle.ft_engine.proofs.Keeping.{kept_abandoned}
-use Rattle.ft_engine.proofs.Owned.{abandoned_owned}
+use Rattle.ft_engine.proofs.KnownOwners.{abandoned_owned}
 
 -- whatever call it is in
 pub in_call_of : (b : Bank) (p : Pass) (hands : List (Option Cursor)) (f : Flight) → IsIn b p hands f → IsInCall b p

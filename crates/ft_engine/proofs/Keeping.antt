@@ -9,14 +9,14 @@ use Rattle.ft_model.specs.declared.call.Call.{Call}
 use Rattle.ft_model.specs.declared.call.Call.TheVariants as call
 use Rattle.ft_model.specs.declared.entry.Entry.{Entry as NamedEntry}
 use Rattle.ft_model.specs.declared.reply.Reply.{Reply}
-use Rattle.ft_model.specs.Histories.{EachAt, IsCountedAs}
-use Rattle.ft_model.specs.Numbers.{IfBegun, IfEndsBegin, begins_of, marks_since}
+use Rattle.ft_model.specs.Histories.{EachAt, IsCountedAs, IfEnds, IfInnermost}
+use Rattle.ft_model.specs.Numbers.{begins_of, marks_since}
 use Rattle.ft_trace.specs.declared.Entry.{Entry}
 use Rattle.ft_trace.specs.declared.Owner.{Owner}
-use Rattle.ft_trace.specs.OwnCursors.{entry_of}
+use Rattle.ft_trace.specs.OwnCursors.{plain_entry}
 use Rattle.ft_bank.specs.declared.sections.Taking.{Taking}
-use Rattle.ft_bank.specs.Sections.{Stack, no_sections, nothing_taken}
-use Rattle.ft_history.proofs.Places.{slice_get_push}
+use Rattle.ft_bank.specs.PassSections.{Stack, no_sections, nothing_taken}
+use Rattle.ft_history.proofs.HistoryPlaces.{slice_get_push}
 use Rattle.ft_history.proofs.Unbroken.{range_push}
 use Rattle.ft_section.specs.declared.answers.Stamp.{Stamp}
 use Rattle.ft_section.specs.Locking.{TakenUp, marks_more, waiting, with_own}
@@ -27,7 +27,7 @@ use Rattle.ft_engine.specs.declared.caller.Flight.TheVariants as flight
 use Rattle.ft_engine.specs.Answering.{IsEndOf}
 use Rattle.ft_engine.specs.Flights.{IsFlightAnswered, is_begin}
 use Rattle.ft_engine.specs.Keeping.{AreThreadEntries, named_entry, made_entry, mark_count, marks_after, marks_due, section_marks, more_marks, open_marks, pending}
-use Rattle.ft_engine.proofs.Marks.{after_map, more_none, open_more, taken_up_marks, wait_counted, waiting_marks}
+use Rattle.ft_engine.proofs.WaitCounts.{after_map, more_none, open_more, taken_up_marks, wait_counted, waiting_marks}
 
 -- a call without an answer leaves nothing to expect
 unanswered_pending : (f : Flight) → (IsFlightAnswered f → ⊥) → pending f ≡ []
@@ -68,8 +68,8 @@ module _ (thread : ℕ) where
         subst (λ (x : List Entry × Stack). AreThreadEntries thread x.0 x.1 f mine) (λ d. (sym same d, sym stack d)) k
 
     module _ (no_answer : IsFlightAnswered f → ⊥) where
-      kept_entries : entries ≡ reverse (map entry_of mine)
-      kept_entries = k.same ∙ ap (λ l. l ++ reverse (map entry_of mine)) (unanswered_pending f no_answer)
+      kept_entries : entries ≡ reverse (map plain_entry mine)
+      kept_entries = k.same ∙ ap (λ l. l ++ reverse (map plain_entry mine)) (unanswered_pending f no_answer)
 
       kept_marks : section_marks s ≡ more_marks (mark_count s.mark) (open_marks thread mine)
       kept_marks = k.sections ∙ unanswered_due f (more_marks (mark_count s.mark) (open_marks thread mine)) no_answer
@@ -113,11 +113,11 @@ module _ (thread : ℕ) where
         ends = tt;
       }
 
-      ended : (called : Call) (said : Reply) → (called ≡ call.End → s.mark ≡ None) → IsEndOf called (section_marks s) said → IfEndsBegin (begins_of mine) called (λ begun. IsCountedAs (marks_since thread mine begun) said)
+      ended : (called : Call) (said : Reply) → (called ≡ call.End → s.mark ≡ None) → IsEndOf called (section_marks s) said → IfEnds (begins_of mine) called (λ begun. IsCountedAs (marks_since thread mine begun) said)
       ended call.End said free end =
           by (begins_of mine) (kept_marks ∙ (ap (λ m. more_marks (mark_count m) (open_marks thread mine)) (free refl) ∙ more_none (open_marks thread mine)))
         where
-          by : (begins : List NamedEntry) → section_marks s ≡ map (λ begun. marks_since thread mine begun) begins → IfBegun begins (λ begun. IsCountedAs (marks_since thread mine begun) said)
+          by : (begins : List NamedEntry) → section_marks s ≡ map (λ begun. marks_since thread mine begun) begins → IfInnermost begins (λ begun. IsCountedAs (marks_since thread mine begun) said)
           by [] is = tt
           by (b ∷ begins) is = subst (λ n. IsCountedAs n said) (ap (λ l. slice_index_or l 0 0) is) end
       ended (call.Begin a b) said free end = tt
@@ -162,21 +162,21 @@ module _ (thread : ℕ) where
       abbrev pub e : NamedEntry
       e = named_entry thread mine called said stamp s.mark
 
-      counted_all : EachAt (mine ++ e ∷ []) (λ place entry. IfEndsBegin (begins_of (take place (mine ++ e ∷ []))) entry.call (λ begun. IsCountedAs (marks_since entry.thread (take place (mine ++ e ∷ [])) begun) entry.reply))
+      counted_all : EachAt (mine ++ e ∷ []) (λ place entry. IfEnds (begins_of (take place (mine ++ e ∷ []))) entry.call (λ begun. IsCountedAs (marks_since entry.thread (take place (mine ++ e ∷ [])) begun) entry.reply))
       counted_all place entry at =
           ⊎_elim
           (λ (there : slice_get mine place ≡ Some entry).
           let low = slice_get_within mine place entry there in
-          subst (λ (es : List NamedEntry). IfEndsBegin (begins_of es) entry.call (λ begun. IsCountedAs (marks_since entry.thread es begun) entry.reply)) (sym (take-append-le place mine (e ∷ []) (omega (arith, low))))
+          subst (λ (es : List NamedEntry). IfEnds (begins_of es) entry.call (λ begun. IsCountedAs (marks_since entry.thread es begun) entry.reply)) (sym (take-append-le place mine (e ∷ []) (omega (arith, low))))
           (k.counted place entry there))
           (λ (end : (place ≡ length mine) × (e ≡ entry)).
-          subst (λ (x : NamedEntry). IfEndsBegin (begins_of (take place (mine ++ e ∷ []))) x.call (λ begun. IsCountedAs (marks_since x.thread (take place (mine ++ e ∷ [])) begun) x.reply)) end.1
-          (subst (λ (es : List NamedEntry). IfEndsBegin (begins_of es) called (λ begun. IsCountedAs (marks_since thread es begun) said)) (sym (take_at mine (e ∷ []) place (sym end.0))) k.ends))
+          subst (λ (x : NamedEntry). IfEnds (begins_of (take place (mine ++ e ∷ []))) x.call (λ begun. IsCountedAs (marks_since x.thread (take place (mine ++ e ∷ [])) begun) x.reply)) end.1
+          (subst (λ (es : List NamedEntry). IfEnds (begins_of es) called (λ begun. IsCountedAs (marks_since thread es begun) said)) (sym (take_at mine (e ∷ []) place (sym end.0))) k.ends))
           (slice_get_push mine e place entry at)
 
       pub kept_done : AreThreadEntries thread entries t flight.Idle (mine ++ e ∷ [])
       kept_done = record {
-        same = k.same ∙ sym (ap reverse (map-append entry_of mine (e ∷ [])) ∙ reverse-append (map entry_of mine) (entry_of e ∷ []));
+        same = k.same ∙ sym (ap reverse (map-append plain_entry mine (e ∷ [])) ∙ reverse-append (map plain_entry mine) (plain_entry e ∷ []));
         own = All-push (λ entry. entry.thread ≡ thread) mine e k.own refl;
         indexes =
             map_push (λ entry. entry.index) mine e ∙ ap (λ (ks : List ℕ). ks ++ e.index ∷ []) k.indexes
@@ -195,7 +195,7 @@ module _ (thread : ℕ) where
   -- when all calls have ended
   pub kept_of : (entries : List Entry) (s : Stack) (mine : List NamedEntry) (had found : List Owner) → AreThreadEntries thread entries s flight.Idle mine → AreMarksFound found mine → HasNamed thread had mine → HasNamedEntries thread mine entries had found
   kept_of entries s mine had found k marked named = record {
-    same = sym (ap reverse k.same ∙ reverse-reverse (map entry_of mine));
+    same = sym (ap reverse k.same ∙ reverse-reverse (map plain_entry mine));
     own = k.own;
     indexes = k.indexes;
     counted = k.counted;

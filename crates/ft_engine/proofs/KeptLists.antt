@@ -14,7 +14,7 @@ use Rattle.ft_trace.specs.Owners.{AreOwners, found_owners, had_locks, is_owner_i
 use Rattle.ft_trace.proofs.Cases.{miss}
 use Rattle.ft_trace.proofs.Owning.{in_either, in_left, in_right}
 use Rattle.ft_bank.specs.Passes.{view}
-use Rattle.ft_bank.specs.Sections.{Stack, stack_of}
+use Rattle.ft_bank.specs.PassSections.{Stack, stack_of}
 use Rattle.ft_closing.specs.Marks.{AreOfFirst, HasNamed, IsNamedIn}
 use Rattle.ft_closing.specs.Numbering.{HaveNamedEntries, HasNamedEntries}
 use Rattle.ft_engine.specs.declared.caller.Caller.{Caller}
@@ -26,7 +26,7 @@ use Rattle.ft_engine.specs.Keeping.{AreThreadEntries, WasAnswered}
 use Rattle.ft_engine.specs.Owning.{AreOwnedBy, FlightNames, IsFlightFound}
 use Rattle.ft_engine.proofs.Callers.{some_number}
 use Rattle.ft_engine.proofs.Keeping.{kept_of, kept_same}
-use Rattle.ft_engine.proofs.Owned.{flight_more, marks_more_found}
+use Rattle.ft_engine.proofs.KnownOwners.{flight_more, marks_more_found}
 
 -- the locks that the passes of a caller have had, and the passes that they found with locks
 abbrev pub had_of : Caller → List Owner

@@ -1,5 +1,5 @@
 -- What calls on dicts and sets come to, and looks at them, in the words that all calls share.
-use Rattle.std.proofs.Common.{◌≡◌, ◌<◌, ℕ, false, true, List, refl, sym, ap, subst}
+use Rattle.std.proofs.Common.{◌≡◌, ◌<◌, ℕ, false, List, refl, sym, ap, subst}
 use Rattle.std.specs.Prelude.{Option, None, Some}
 use Rattle.ft_model.specs.declared.call.Call.{Call}
 use Rattle.ft_model.specs.declared.call.Call.TheVariants as call
@@ -15,7 +15,6 @@ use Rattle.ft_model.specs.Calls.{moved_cursor, other_dict, other_set}
 use Rattle.ft_trace.specs.declared.Act.{Act}
 use Rattle.ft_trace.specs.declared.Shape.{Shape}
 use Rattle.ft_trace.specs.declared.View.{View}
-use Rattle.ft_trace.specs.Words.{Picture}
 use Rattle.ft_bank.specs.declared.bank.Bank.{Bank}
 use Rattle.ft_bank.specs.declared.pass.Pass.{Pass}
 use Rattle.ft_bank.specs.Passes.{view}
@@ -24,28 +23,22 @@ use Rattle.ft_section.specs.declared.answers.Look.TheVariants as look
 use Rattle.ft_section.specs.declared.answers.Objects.{Objects}
 use Rattle.ft_section.specs.declared.answers.Objects.TheVariants.{One, Two}
 use Rattle.ft_section.specs.declared.answers.Step.{Step}
-use Rattle.ft_section.specs.declared.answers.Step.TheVariants as step
 use Rattle.ft_section.specs.Trying.{SectionsAfter}
 use Rattle.ft_growth.specs.declared.adding.Added.{Added}
 use Rattle.ft_growth.specs.declared.adding.Added.TheVariants as added
 use Rattle.ft_growth.specs.Adding.{IsTryOf as IsAddTryOf, step_after}
-use Rattle.ft_search.specs.Looks.{IsLookOf, Stops}
-use Rattle.ft_adding.specs.Growing.{PutsKey}
-use Rattle.ft_keyed.specs.Clearing.{IsClearOf}
-use Rattle.ft_keyed.specs.Copies.{IsCopyGlanceOf, IsCopyOf}
-use Rattle.ft_dict.specs.Copies.{CopiesTo}
+use Rattle.ft_search.specs.KeyLooks.{IsLookOf, Stops}
+use Rattle.ft_adding.specs.KeyGrowth.{PutsKey}
+use Rattle.ft_dict.specs.DictCopies.{CopiesTo}
 use Rattle.ft_dict.specs.Values.{SetsDefault}
 use Rattle.ft_merging.specs.Joining.{JoinsBy}
 use Rattle.ft_merging.specs.Parting.{PartsBy}
 use Rattle.ft_replacing.specs.Replacing.{IsReplaced}
-use Rattle.ft_engine.specs.Answering.{IsLooked, IsTryOfCall, copies}
+use Rattle.ft_engine.specs.Answering.{IsLooked, IsTryOfCall}
 use Rattle.ft_engine.specs.Contentions.{StopsCall}
 use Rattle.ft_engine.specs.Flights.{objects_by}
-use Rattle.ft_engine.proofs.ListLooks.{StopsAt}
-use Rattle.ft_engine.proofs.Looking.{IsPlain, outcome_walked, tried_of}
-use Rattle.ft_engine.proofs.Within.{loaded_owners, within_then}
-use Rattle.ft_engine.proofs.Outcomes.{Comes, Outcome, add_outcome, gave_up_adds, gave_up_owners, loaded_comes, loaded_nothing, locked_entry, under_locks}
-use Rattle.ft_engine.proofs.SectionCalls.{nothing_then, only_nothing}
+use Rattle.ft_engine.proofs.LooksBefore.{IsPlain, outcome_walked, tried_of}
+use Rattle.ft_engine.proofs.Outcomes.{Comes, Outcome, add_outcome, gave_up_adds, gave_up_owners, loaded_comes}
 
 -- ---- tries
 
@@ -98,34 +91,7 @@ copies_outcome k d e v w result left x =
     let called = call.Dict d (dict.CopyTo e) in
     add_outcome (Two d e) (CopiesTo k d e) called reply.Done v w result (λ u z what some y. replaced_comes k _ called u z what some y) left x
 
--- ---- clears
-
-pub keyed_clear_outcome : (o : ℕ) (called : Call) (v w : View) (result : Step) → IsClearOf o called v w result → Outcome called (One o) v w result
-keyed_clear_outcome o called v w (step.Done said stamp) x =
-    let u = x.1 in
-    let c = u.did in
-    subst (λ (r : Reply). Outcome called (One o) v w (step.Done r stamp)) (sym x.0)
-    (locked_entry (One o) called reply.Done stamp v u.before u.after w u.took u.within (gave_up_adds called reply.Done stamp u.before c.1.0 u.after c.0 c.1.1 c.1.2) (gave_up_owners called reply.Done stamp.number u.before c.1.0 u.after c.1.1 c.1.2) u.gone u.owners)
-keyed_clear_outcome o called v w (step.NotYet p owner) x = x
-keyed_clear_outcome o called v w (step.Moved a b) x = absurd x
-keyed_clear_outcome o called v w step.NoMemory x = absurd x
-
--- ---- copies
-
-pub keyed_copy_outcome : (objects : Objects) (called : Call) (v w : View) (result : Step) → copies called ≡ true → 0 < v.left → IsCopyOf objects called v w result → Outcome called objects v w result
-keyed_copy_outcome objects called v w (step.Done said stamp) copying left x = under_locks objects called said stamp v w left x
-keyed_copy_outcome objects called v w (step.NotYet o owner) copying left x = x
-keyed_copy_outcome objects called v w (step.Moved a b) copying left x = absurd x
-keyed_copy_outcome objects called v w step.NoMemory copying left x =
-    let n = loaded_nothing x.before x.after x.did.0 in
-    (nothing_then v x.before w (only_nothing v x.before x.took) (nothing_then x.before x.after w n (only_nothing x.after w x.gone)), within_then objects v x.before x.after w x.took x.within n.pass.number (loaded_owners x.before x.after x.did.0) x.gone x.owners, copying)
-
 -- ---- looks
-
-pub keyed_copy_looked : (k : Shape) (o : ℕ) (some : Picture → Type 0) (called : Call) (v w : View) (answer : Look) → copies called ≡ true → StopsAt v.shape o called → IsCopyGlanceOf k o some called v w answer → IsLooked called v w answer
-keyed_copy_looked k o some called v w (look.Done said stamp) copying stops x = x
-keyed_copy_looked k o some called v w (look.Contended a b) copying stops x = (x.part, x.own, x.loaded, stops a b x.part x.stops, x.looks)
-keyed_copy_looked k o some called v w look.NoMemory copying stops x = (x.0, copying)
 
 pub key_looked : (o : ℕ) (key : Key) (called : Call) (v w : View) (answer : Look) → ((a b : ℕ) (part : List Act) → Stops v.shape o key a b part → StopsCall v.shape called a b part) → IsLookOf o key called v w answer → IsLooked called v w answer
 key_looked o key called v w (look.Done said stamp) stops x = x

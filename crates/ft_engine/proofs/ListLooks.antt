@@ -1,5 +1,5 @@
 -- What looks at lists answer, in the words that all looks share.
-use Rattle.std.proofs.Common.{◌≡◌, ℕ, ℤ, true, pos, negsuc, List, inl, inr, ⊎_elim, subst, sym}
+use Rattle.std.proofs.Common.{◌≡◌, ℕ, ℤ, pos, negsuc, List, inl, inr, ⊎_elim, subst, sym}
 use Rattle.std.specs.Prelude.{◌⊎◌}
 use Rattle.ft_model.specs.declared.call.Call.{Call}
 use Rattle.ft_model.specs.declared.call.Call.TheVariants as call
@@ -11,11 +11,10 @@ use Rattle.ft_trace.specs.declared.View.{View}
 use Rattle.ft_section.specs.declared.answers.Look.{Look}
 use Rattle.ft_section.specs.declared.answers.Look.TheVariants as look
 use Rattle.ft_search.specs.Lengths.{IsGlanceOf, IsStopped, StopsAtVersion}
-use Rattle.ft_list.specs.Glances.{IsCopyGlanceOf}
 use Rattle.ft_list.specs.Indexes.{IsLookGetOf}
-use Rattle.ft_list.specs.Looks.{IsGetOf}
+use Rattle.ft_list.specs.ItemLooks.{IsGetOf}
 use Rattle.ft_list.specs.Pairs.{IsGlanceOfBoth}
-use Rattle.ft_engine.specs.Answering.{IsLooked, copies}
+use Rattle.ft_engine.specs.Answering.{IsLooked}
 use Rattle.ft_engine.specs.Contentions.{StopsCall}
 
 -- what stops a look at one container stops the call
@@ -41,11 +40,6 @@ both_looked o m called v w (look.Done said stamp) stops x = x
 both_looked o m called v w (look.Contended a b) stops x =
     ⊎_elim (λ (y : IsStopped o a b v w). (y.part, y.own, y.loaded, stops a b y.part (inl y.stops), y.looks)) (λ (y : IsStopped m a b v w). (y.part, y.own, y.loaded, stops a b y.part (inr y.stops), y.looks)) x
 both_looked o m called v w look.NoMemory stops x = absurd x
-
-pub copy_looked : (k : Shape) (o : ℕ) (called : Call) (v w : View) (answer : Look) → copies called ≡ true → StopsAt v.shape o called → IsCopyGlanceOf k o called v w answer → IsLooked called v w answer
-copy_looked k o called v w (look.Done said stamp) copying stops x = x
-copy_looked k o called v w (look.Contended a b) copying stops x = (x.part, x.own, x.loaded, stops a b x.part x.stops, x.looks)
-copy_looked k o called v w look.NoMemory copying stops x = (x.0, copying)
 
 pub list_looked : (o : ℕ) (given lc : ListCall) (v w : View) (answer : Look) → given ≡ lc → IsLooked (call.List o lc) v w answer → IsLooked (call.List o given) v w answer
 list_looked o given lc v w answer is x = subst (λ (z : ListCall). IsLooked (call.List o z) v w answer) (sym is) x

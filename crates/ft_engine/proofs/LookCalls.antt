@@ -17,15 +17,15 @@ use Rattle.ft_bank.specs.declared.pass.Pass.{Pass}
 use Rattle.ft_bank.specs.declared.sections.Taking.{Taking}
 use Rattle.ft_bank.specs.Answered.{Answered}
 use Rattle.ft_bank.specs.Passes.{view, IsPassOf}
-use Rattle.ft_bank.specs.Sections.{Stack, nothing_taken, stack_of}
+use Rattle.ft_bank.specs.PassSections.{Stack, nothing_taken, stack_of}
 use Rattle.ft_bank.specs.Whole.{OnlyLoaded}
 use Rattle.ft_section.specs.declared.answers.Look.{Look}
 use Rattle.ft_section.specs.declared.answers.Look.TheVariants as look
 use Rattle.ft_section.specs.declared.answers.Stamp.{Stamp}
 use Rattle.ft_section.specs.Locking.{TakenUp, with_own}
 use Rattle.ft_section.specs.Ready.{InCall, IsReady}
-use Rattle.ft_section.proofs.Making.{in_call_stays}
-use Rattle.ft_search.proofs.Trying.{LeavesSections, sections_read, still_read}
+use Rattle.ft_section.proofs.MidstOfCall.{in_call_stays}
+use Rattle.ft_search.proofs.ReadMidst.{LeavesSections, sections_read, still_read}
 use Rattle.ft_engine.specs.declared.caller.Caller.{Caller}
 use Rattle.ft_engine.specs.declared.caller.Flight.{Flight}
 use Rattle.ft_engine.specs.declared.caller.Flight.TheVariants as flight
@@ -42,9 +42,9 @@ use Rattle.ft_engine.proofs.Callers.{at_hand, idle_free}
 use Rattle.ft_engine.proofs.IterCalls.{iter_dict, iter_set}
 use Rattle.ft_engine.proofs.ListCalls.{iter_list}
 use Rattle.ft_engine.proofs.Keeping.{kept_answered, kept_done, kept_refused, no_answer_idle}
-use Rattle.ft_engine.proofs.Looking.{IsPlain, loaded_ready}
+use Rattle.ft_engine.proofs.LooksBefore.{IsPlain, loaded_ready}
 use Rattle.ft_engine.proofs.Outcomes.{answered_adds, loaded_nothing}
-use Rattle.ft_engine.proofs.Owned.{answered_owned, calm_owned, done_owned, refused_owned}
+use Rattle.ft_engine.proofs.KnownOwners.{answered_owned, calm_owned, done_owned, refused_owned}
 use Rattle.ft_engine.proofs.Within.{answered_owners, loaded_owners, looks_still, walked_none}
 
 -- ---- the pass

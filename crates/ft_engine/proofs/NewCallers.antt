@@ -2,7 +2,7 @@
 use Rattle.std.proofs.Common.{ℕ, List, [], sym, subst}
 use Rattle.ft_trace.specs.declared.Entry.{Entry}
 use Rattle.ft_bank.specs.Passes.{view}
-use Rattle.ft_bank.specs.Sections.{stack_of}
+use Rattle.ft_bank.specs.PassSections.{stack_of}
 use Rattle.ft_engine.specs.declared.caller.Caller.{Caller}
 use Rattle.ft_engine.specs.declared.caller.Flight.{Flight}
 use Rattle.ft_engine.specs.declared.engine.Engine.{Engine}
@@ -10,7 +10,7 @@ use Rattle.ft_engine.specs.Callers.{IsFreshCaller, thread_of}
 use Rattle.ft_engine.specs.Keeping.{AreThreadEntries, WasAnswered}
 use Rattle.ft_engine.specs.Owning.{AreOwnedBy}
 use Rattle.ft_engine.proofs.Keeping.{kept_start}
-use Rattle.ft_engine.proofs.Owned.{start_owned}
+use Rattle.ft_engine.proofs.KnownOwners.{start_owned}
 
 -- a caller of a new engine has made no call
 pub new_kept : (e : Engine) (room i : ℕ) (c : Caller) → IsFreshCaller e room i c → WasAnswered c []

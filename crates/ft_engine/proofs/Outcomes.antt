@@ -26,11 +26,11 @@ use Rattle.ft_section.specs.declared.answers.Step.{Step}
 use Rattle.ft_section.specs.declared.answers.Step.TheVariants as step
 use Rattle.ft_section.specs.Locking.{FoundOwner, LocksWithin, OnlyLocked}
 use Rattle.ft_section.specs.LockTakings.{IsOf}
-use Rattle.ft_search.specs.Calls.{IsMadeOf, MadeAs, MadeUnderLocks}
+use Rattle.ft_search.specs.MadeCalls.{IsMadeOf, MadeAs, MadeUnderLocks}
 use Rattle.ft_search.specs.Tries.{IsReadOf}
 use Rattle.ft_growth.specs.declared.adding.Added.{Added}
 use Rattle.ft_growth.specs.declared.adding.Added.TheVariants as added
-use Rattle.ft_growth.specs.Adding.{GaveUp, IsAdded, Retires, Tried, IsTryOf, WroteWith, step_after}
+use Rattle.ft_growth.specs.Adding.{GaveUp, IsAdded, Retires, TriedTaking, IsTryOf, WroteWith, step_after}
 use Rattle.ft_engine.specs.Answering.{MakesEntry, MakesNoEntry, FoundWordsChanged, StaysPass, copies}
 use Rattle.ft_engine.specs.Keeping.{made_entry}
 use Rattle.ft_engine.proofs.Within.{HasWithin, answered_owners, loaded_owners, made_owners, retired_owners, tried_owners, within_then, wrote_owners}
@@ -121,7 +121,7 @@ read_outcome o called v w step.NoMemory left m = absurd m
 
 -- ---- calls that may take a table
 
-tried_nothing : (k : Shape) (class : ℕ) (result : Took) (v w : View) → Tried k class result v w → MakesNoEntry v w
+tried_nothing : (k : Shape) (class : ℕ) (result : Took) (v w : View) → TriedTaking k class result v w → MakesNoEntry v w
 tried_nothing k class result v w t = record { pass = stays_same v w t.same; entries = t.keeps.held.entries; left = t.keeps.held.left; cursors = t.same.cursors }
 
 unfloored : (f : Bool) → (f ≡ true → ⊥) → f ≡ false
@@ -129,7 +129,7 @@ unfloored true never = absurd (never refl)
 unfloored false never = refl
 
 -- a taking that found words changed
-moved_by : (k : Shape) (class a b : ℕ) (v w : View) → Tried k class (took.Moved a b) v w → FoundWordsChanged a b v w
+moved_by : (k : Shape) (class a b : ℕ) (v w : View) → TriedTaking k class (took.Moved a b) v w → FoundWordsChanged a b v w
 moved_by k class a b v w t = record {
   before = v;
   earlier = same_nothing v;

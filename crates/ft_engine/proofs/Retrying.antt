@@ -6,7 +6,7 @@ use Rattle.ft_model.specs.declared.entry.Entry.{Entry as NamedEntry}
 use Rattle.ft_trace.specs.declared.View.{View}
 use Rattle.ft_trace.specs.Acts.{seen_writes}
 use Rattle.ft_bank.specs.Passes.{view}
-use Rattle.ft_bank.specs.Sections.{stack_of}
+use Rattle.ft_bank.specs.PassSections.{stack_of}
 use Rattle.ft_engine.specs.declared.attempts.Tried.{Tried}
 use Rattle.ft_engine.specs.declared.attempts.Tried.TheVariants as tried
 use Rattle.ft_engine.specs.declared.caller.Caller.{Caller}

@@ -15,25 +15,25 @@ use Rattle.ft_trace.specs.declared.View.{View}
 use Rattle.ft_trace.specs.Acts.{announces, has_lock, noted, seen_writes}
 use Rattle.ft_trace.specs.Floors.{at_floor}
 use Rattle.ft_trace.specs.Hands.{cursor_in}
-use Rattle.ft_trace.specs.Sections.{begun}
+use Rattle.ft_trace.specs.BegunSections.{begun}
 use Rattle.ft_trace.proofs.Seeing.{seen_up}
 use Rattle.ft_bank.specs.declared.bank.Bank.{Bank}
 use Rattle.ft_bank.specs.declared.pass.Pass.{Pass}
 use Rattle.ft_bank.specs.declared.sections.OpenSection.{OpenSection}
 use Rattle.ft_bank.specs.declared.sections.Taking.{Taking}
 use Rattle.ft_bank.specs.Passes.{view, IsPassOf}
-use Rattle.ft_bank.specs.Sections.{Stack, stack_of}
+use Rattle.ft_bank.specs.PassSections.{Stack, stack_of}
 use Rattle.ft_section.specs.declared.answers.Ended.{Ended}
 use Rattle.ft_section.specs.declared.answers.Ended.TheVariants as ended
 use Rattle.ft_section.specs.declared.answers.Objects.{Objects}
 use Rattle.ft_section.specs.declared.answers.Stamp.{Stamp}
-use Rattle.ft_section.specs.Answers.{stamp_of}
+use Rattle.ft_section.specs.AnswerFacts.{stamp_of}
 use Rattle.ft_section.specs.Locking.{KeepsLocks, OnlyLocked, with_own}
 use Rattle.ft_section.specs.Ready.{InCall, IsReady, IsStill, MayResume}
 use Rattle.ft_section.specs.Sectioning.{answered_view, begin_of, ended_by, reply_of}
 use Rattle.ft_section.specs.LockTakings.{HasBoth, HasLocks}
 use Rattle.ft_section.proofs.Goings.{only_sees}
-use Rattle.ft_section.proofs.Making.{in_call_stays}
+use Rattle.ft_section.proofs.MidstOfCall.{in_call_stays}
 use Rattle.ft_model.specs.Worlds.{container_of}
 use Rattle.ft_trace.specs.Owners.{FindsMore, SameOwners}
 use Rattle.ft_trace.proofs.Owning.{finds_more_then, grown_finds_more, owners_then}
@@ -41,9 +41,9 @@ use Rattle.ft_engine.specs.Answering.{MakesEntry, MakesNoEntry, HasAnswer, KnewN
 use Rattle.ft_engine.specs.Flights.{objects_by, objects_of}
 use Rattle.ft_engine.specs.Keeping.{made_entry, section_marks}
 use Rattle.ft_engine.specs.Stacks.{Opens}
-use Rattle.ft_engine.proofs.Marks.{last_of}
+use Rattle.ft_engine.proofs.WaitCounts.{last_of}
 use Rattle.ft_engine.proofs.Within.{walked_none}
-use Rattle.ft_engine.proofs.Passing.{IsCalm, ready_calm}
+use Rattle.ft_engine.proofs.PassesAfter.{IsCalm, ready_calm}
 
 -- ---- locks alone
 

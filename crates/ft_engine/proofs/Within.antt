@@ -28,8 +28,8 @@ use Rattle.ft_section.specs.declared.answers.Step.{Step}
 use Rattle.ft_section.specs.declared.answers.Step.TheVariants as step
 use Rattle.ft_section.specs.Locking.{LocksWithin, OnlyLocked}
 use Rattle.ft_section.specs.LockTakings.{IsOf}
-use Rattle.ft_search.specs.Calls.{MadeAs}
-use Rattle.ft_growth.specs.Adding.{Retires, Tried}
+use Rattle.ft_search.specs.MadeCalls.{MadeAs}
+use Rattle.ft_growth.specs.Adding.{Retires, TriedTaking}
 use Rattle.ft_closing.proofs.Walked.{walked_plain}
 use Rattle.ft_engine.specs.Answering.{MakesEntry, HasLockedFor, HasWalked, IsLockedFor}
 use Rattle.ft_engine.specs.Contentions.{may_look}
@@ -82,7 +82,7 @@ pub made_owners : (called : Call) (said : Reply) (stamp : Stamp) (v w : View) �
 made_owners called said stamp v w m =
     ⊎_elim (λ x. wrote_owners called said stamp.number v w x.1) (λ x. answered_owners called said stamp.number v w x.1) m.made
 
-pub tried_owners : (k : Shape) (class : ℕ) (result : Took) (v w : View) → Tried k class result v w → SameOwners v w
+pub tried_owners : (k : Shape) (class : ℕ) (result : Took) (v w : View) → TriedTaking k class result v w → SameOwners v w
 tried_owners k class result v w t = t.same.owners
 
 pub retired_owners : (root : ℕ) (v w : View) → Retires root v w → SameOwners v w

@@ -22,7 +22,7 @@ use Rattle.ft_bank.specs.declared.pass.Pass.{Pass}
 use Rattle.ft_bank.specs.declared.takings.Took.TheVariants as took
 use Rattle.ft_bank.specs.Answered.{Answered}
 use Rattle.ft_bank.specs.Passes.{shape_of, view, DidNothing}
-use Rattle.ft_bank.specs.Sections.{stack_of}
+use Rattle.ft_bank.specs.PassSections.{stack_of}
 use Rattle.ft_bank.specs.Whole.{OnlyLoaded}
 use Rattle.ft_section.specs.declared.answers.Got.{Got}
 use Rattle.ft_section.specs.declared.answers.Got.TheVariants as got
@@ -37,8 +37,8 @@ use Rattle.ft_section.specs.Locking.{FoundOwner, KeepsLower, with_own, waiting}
 use Rattle.ft_section.specs.Ready.{HasTop, IsReady, IsWaiting, MayTry, MayResume}
 use Rattle.ft_section.specs.LockTakings.{IsOf, lower_of}
 use Rattle.ft_section.specs.Trying.{HasLetGo}
-use Rattle.ft_growth.specs.Adding.{Tried}
-use Rattle.ft_search.specs.Looks.{AreLooks}
+use Rattle.ft_growth.specs.Adding.{TriedTaking}
+use Rattle.ft_search.specs.KeyLooks.{AreLooks}
 use Rattle.ft_closing.specs.Marks.{walked_after}
 use Rattle.ft_engine.specs.Callers.{AreOver}
 use Rattle.ft_engine.specs.Contentions.{StopsCall, WasContended, may_look}
@@ -128,7 +128,7 @@ pub record FoundWordsChanged (first second : ℕ) (v w : View) : Type 0 where
   pub earlier : MakesNoEntry v before
   pub class : ℕ
   pub after : View
-  pub tried : Tried before.shape class (took.Moved first second) before after
+  pub tried : TriedTaking before.shape class (took.Moved first second) before after
   pub later : MakesNoEntry after w
   pub floor : v.has_floor ≡ false
 

@@ -15,7 +15,7 @@ use Rattle.ft_model.specs.Worlds.{cursor_at}
 use Rattle.ft_trace.specs.declared.Shape.{Shape}
 use Rattle.ft_trace.specs.Addresses.{containers_in}
 use Rattle.ft_bank.specs.KeyHashes.{IsKeyIn}
-use Rattle.ft_bank.specs.Sections.{Stack}
+use Rattle.ft_bank.specs.PassSections.{Stack}
 use Rattle.ft_engine.specs.Callers.{IsOfKindIn}
 
 -- the container that a call names, and the other one, are there and of this kind

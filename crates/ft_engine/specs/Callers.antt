@@ -1,5 +1,6 @@
 -- What clauses see of an engine and of a caller.
 use Rattle.std.specs.Prelude.{◌≡◌, ℕ, suc, ◌+◌, ◌-◌, ◌^◌, ◌<◌, ◌≤◌, List, [], ◌∷◌, length, replicate, Option, Some, None}
+use Rattle.std.specs.List.{AllByRecursion}
 use Rattle.ft_model.specs.declared.cursor.Cursor.{Cursor}
 use Rattle.ft_model.specs.declared.script.Kind.{Kind}
 use Rattle.ft_model.specs.Worlds.{container_of, cursor_at, cursor_kind}
@@ -7,12 +8,12 @@ use Rattle.ft_trace.specs.declared.Entry.{Entry}
 use Rattle.ft_trace.specs.declared.Shape.{Shape}
 use Rattle.ft_trace.specs.Addresses.{containers_in}
 use Rattle.ft_trace.specs.Hands.{cursor_in}
-use Rattle.ft_trace.specs.Worlds.{kind_in}
+use Rattle.ft_trace.specs.ContainerStates.{kind_in}
 use Rattle.ft_bank.specs.declared.bank.Bank.{Bank}
 use Rattle.ft_bank.specs.declared.pass.Pass.{Pass}
-use Rattle.ft_bank.specs.Openings.{next_of}
+use Rattle.ft_bank.specs.NewPasses.{next_of}
 use Rattle.ft_bank.specs.Passes.{shape_of, view, IsPassOf}
-use Rattle.ft_bank.specs.Sections.{stack_of}
+use Rattle.ft_bank.specs.PassSections.{stack_of}
 use Rattle.ft_engine.specs.declared.caller.Caller.{Caller}
 use Rattle.ft_engine.specs.declared.caller.Flight.{Flight}
 use Rattle.ft_engine.specs.declared.caller.Flight.TheVariants as flight
@@ -93,3 +94,10 @@ pub record IsFreshCaller (e : Engine) (room i : ℕ) (c : Caller) : Type 0 where
 abbrev pub AreFreshCallers : Engine → ℕ → ℕ → List Caller → Type 0
 AreFreshCallers e room i [] = Unit {0}
 AreFreshCallers e room i (c ∷ callers) = IsFreshCaller e room i c × AreFreshCallers e room (suc i) callers
+
+-- a caller of the engine that is in no call
+abbrev pub IsFreeCaller : Engine → Caller → Type 0
+IsFreeCaller e c = IsCallerOf e c × IsIdle c
+
+abbrev pub AreFreeCallers : Engine → List Caller → Type 0
+AreFreeCallers e callers = AllByRecursion (IsFreeCaller e) callers

@@ -3,7 +3,7 @@
 use Rattle.std.specs.Prelude.{◌≡◌, ℕ, List, [], ◌∷◌, Option, Some}
 use Rattle.ft_model.specs.declared.call.Call.{Call}
 use Rattle.ft_model.specs.declared.entry.Entry.{Entry as NamedEntry}
-use Rattle.ft_bank.specs.Sections.{stack_of}
+use Rattle.ft_bank.specs.PassSections.{stack_of}
 use Rattle.ft_section.specs.Locking.{first_mark}
 use Rattle.ft_engine.specs.declared.attempts.Tried.{Tried}
 use Rattle.ft_engine.specs.declared.attempts.Tried.TheVariants as tried

@@ -11,8 +11,8 @@ use Rattle.ft_trace.specs.declared.Act.{Act}
 use Rattle.ft_trace.specs.declared.Shape.{Shape}
 use Rattle.ft_trace.specs.declared.View.{View}
 use Rattle.ft_search.specs.Lengths.{StopsAtVersion}
-use Rattle.ft_search.specs.Looks.{Stops}
-use Rattle.ft_list.specs.Looks.{Stops as StopsItem}
+use Rattle.ft_search.specs.KeyLooks.{Stops}
+use Rattle.ft_list.specs.ItemLooks.{StopsItemLook}
 use Rattle.ft_engine.specs.Asked.{key_of_dict, key_of_set}
 
 -- whether a call may be made by a look, without a lock (PEP 703, Optimistically avoiding locking)
@@ -38,7 +38,7 @@ StopsKeyed k o other (Some key) a b part = Stops k o key a b part
 -- of `l[i]` it is that of the very item, or the list's where its root was read 0; the list's where the index is
 -- negative
 abbrev pub StopsIndex : ℕ → ℤ → ℕ → ℕ → List Act → Type 0
-StopsIndex o (pos index) a b part = StopsItem o index a b part
+StopsIndex o (pos index) a b part = StopsItemLook o index a b part
 StopsIndex o (negsuc below) a b part = StopsAtVersion o a b part
 
 abbrev pub StopsList : ℕ → ListCall → ℕ → ℕ → List Act → Type 0

@@ -7,7 +7,7 @@ use Rattle.ft_bank.specs.declared.bank.Bank.{Bank}
 use Rattle.ft_bank.specs.declared.pass.Pass.{Pass}
 use Rattle.ft_bank.specs.declared.sections.OpenSection.{OpenSection}
 use Rattle.ft_bank.specs.Passes.{view}
-use Rattle.ft_bank.specs.Sections.{stack_of}
+use Rattle.ft_bank.specs.PassSections.{stack_of}
 use Rattle.ft_section.specs.declared.answers.Stamp.{Stamp}
 use Rattle.ft_section.specs.declared.answers.Step.TheVariants as step
 use Rattle.ft_section.specs.Floors.{first_owned}

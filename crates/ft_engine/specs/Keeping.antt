@@ -1,16 +1,15 @@
 -- The entries that a caller was answered, as whoever makes its calls keeps them, beside those of its pass.
-use Rattle.std.specs.Prelude.{◌≡◌, ℕ, ◌+◌, All, List, [], ◌∷◌, ◌++◌, drop, length, map, reverse, take, Option, Some, None}
+use Rattle.std.specs.Prelude.{◌≡◌, ℕ, ◌+◌, All, List, [], ◌∷◌, ◌++◌, length, map, reverse, take, Option, Some, None}
 use Rattle.std.specs.List.{range_with_len}
 use Rattle.ft_model.specs.declared.call.Call.{Call}
-use Rattle.ft_model.specs.declared.call.Call.TheVariants as call
 use Rattle.ft_model.specs.declared.entry.Entry.{Entry as NamedEntry}
 use Rattle.ft_model.specs.declared.reply.Reply.{Reply}
-use Rattle.ft_model.specs.Histories.{EachAt, IsCountedAs}
-use Rattle.ft_model.specs.Numbers.{IfEndsBegin, begins_of, marks_since}
+use Rattle.ft_model.specs.Histories.{EachAt, IsCountedAs, IfEnds, open_sections_after}
+use Rattle.ft_model.specs.Numbers.{begins_of, marks_since}
 use Rattle.ft_trace.specs.declared.Entry.{Entry}
-use Rattle.ft_trace.specs.OwnCursors.{entry_of}
+use Rattle.ft_trace.specs.OwnCursors.{plain_entry}
 use Rattle.ft_bank.specs.Passes.{view}
-use Rattle.ft_bank.specs.Sections.{Stack, stack_of}
+use Rattle.ft_bank.specs.PassSections.{Stack, stack_of}
 use Rattle.ft_section.specs.declared.answers.Stamp.{Stamp}
 use Rattle.ft_engine.specs.declared.caller.Caller.{Caller}
 use Rattle.ft_engine.specs.declared.caller.Flight.{Flight}
@@ -40,13 +39,7 @@ more_marks count marks = map (λ n. n + count) marks
 -- the counts of the sections that are open after a call: a `begin` opens one of which no call waited (C API, critical
 -- sections)
 abbrev pub marks_after : Call → List ℕ → List ℕ
-marks_after (call.Begin first second) marks = 0 ∷ marks
-marks_after call.End marks = drop 1 marks
-marks_after (call.Dict o dc) marks = marks
-marks_after (call.List o lc) marks = marks
-marks_after (call.Set o sc) marks = marks
-marks_after (call.Next number) marks = marks
-marks_after call.Quiesce marks = marks
+marks_after called marks = open_sections_after 0 called marks
 
 -- those that are open once the call in flight has its answer
 abbrev pub marks_due : Flight → List ℕ → List ℕ
@@ -86,7 +79,7 @@ abbrev pub IsEndCounted : ℕ → List NamedEntry → Flight → Type 0
 IsEndCounted thread mine flight.Idle = Unit {0}
 IsEndCounted thread mine (flight.Tried called) = Unit {0}
 IsEndCounted thread mine (flight.Answered called said stamp) =
-    IfEndsBegin (begins_of mine) called (λ begun. IsCountedAs (marks_since thread mine begun) said)
+    IfEnds (begins_of mine) called (λ begun. IsCountedAs (marks_since thread mine begun) said)
 IsEndCounted thread mine (flight.Refused called) = Unit {0}
 
 -- These are a thread's entries, the oldest first, of calls that have ended: those of its pass with the thread, indexes
@@ -95,10 +88,10 @@ IsEndCounted thread mine (flight.Refused called) = Unit {0}
 -- it waited. (profile)
 pub record AreThreadEntries (thread : ℕ) (entries : List Entry) (s : Stack) (f : Flight) (mine : List NamedEntry)
     : Type 0 where
-  pub same : entries ≡ pending f ++ reverse (map entry_of mine)
+  pub same : entries ≡ pending f ++ reverse (map plain_entry mine)
   pub own : All (λ entry. entry.thread ≡ thread) mine
   pub indexes : map (λ entry. entry.index) mine ≡ range_with_len 1 (length mine)
-  pub counted : EachAt mine (λ place entry. IfEndsBegin (begins_of (take place mine)) entry.call
+  pub counted : EachAt mine (λ place entry. IfEnds (begins_of (take place mine)) entry.call
       (λ begun. IsCountedAs (marks_since entry.thread (take place mine) begun) entry.reply))
   pub sections : section_marks s ≡ marks_due f (more_marks (mark_count s.mark) (open_marks thread mine))
   pub ends : IsEndCounted thread mine f

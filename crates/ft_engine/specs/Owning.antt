@@ -1,16 +1,15 @@
 -- Who was found with locks, and which locks a pass has had, beside the entries that its caller was answered.
-use Rattle.std.specs.Prelude.{◌≡◌, ◌≢◌, ◌⊎◌, ◌+◌, ◌-◌, ◌≤◌, ℕ, true, List, [], ◌∷◌, drop, length, map, reverse, Option, IfSome, option_map}
+use Rattle.std.specs.Prelude.{◌≡◌, ◌≢◌, ◌⊎◌, ◌+◌, ◌-◌, ◌≤◌, ℕ, true, List, [], ◌∷◌, length, map, reverse, Option, IfSome, option_map}
 use Rattle.ft_model.specs.declared.call.Call.{Call}
-use Rattle.ft_model.specs.declared.call.Call.TheVariants as call
 use Rattle.ft_model.specs.declared.entry.Entry.{Entry as NamedEntry}
-use Rattle.ft_model.specs.Histories.{names}
+use Rattle.ft_model.specs.Histories.{names, open_sections_after}
 use Rattle.ft_model.specs.Numbers.{begins_of}
 use Rattle.ft_model.specs.Worlds.{container_of}
 use Rattle.ft_trace.specs.declared.Owner.{Owner}
 use Rattle.ft_trace.specs.declared.View.{View}
 use Rattle.ft_trace.specs.Hands.{cursor_in}
 use Rattle.ft_trace.specs.Owners.{found_owners, had_locks, is_owner_in}
-use Rattle.ft_bank.specs.Sections.{Stack}
+use Rattle.ft_bank.specs.PassSections.{Stack}
 use Rattle.ft_closing.specs.Marks.{AreMarksFound, IsFoundFor, IsNamedIn, walked_after, walked_by}
 use Rattle.ft_engine.specs.declared.caller.Flight.{Flight}
 use Rattle.ft_engine.specs.declared.caller.Flight.TheVariants as flight
@@ -31,13 +30,7 @@ AreBegunBy (pair ∷ pairs) (called ∷ calls) =
 
 -- the `begin`s of the sections that are open after a call
 abbrev pub begun_after : Call → List Call → List Call
-begun_after (call.Begin first second) calls = call.Begin first second ∷ calls
-begun_after call.End calls = drop 1 calls
-begun_after (call.Dict o dict_call) calls = calls
-begun_after (call.List o list_call) calls = calls
-begun_after (call.Set o set_call) calls = calls
-begun_after (call.Next number) calls = calls
-begun_after call.Quiesce calls = calls
+begun_after called calls = open_sections_after called called calls
 
 -- those of the sections that these entries leave open
 abbrev pub begin_calls : List NamedEntry → List Call

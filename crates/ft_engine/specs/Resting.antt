@@ -7,7 +7,7 @@ use Rattle.ft_trace.specs.Floors.{at_floor}
 use Rattle.ft_bank.specs.declared.tokens.Tokens.{Tokens}
 use Rattle.ft_bank.specs.Floors.{IsRestingOf, carried, rests, stack_at_rest}
 use Rattle.ft_bank.specs.Passes.{view}
-use Rattle.ft_bank.specs.Sections.{stack_of}
+use Rattle.ft_bank.specs.PassSections.{stack_of}
 use Rattle.ft_engine.specs.declared.caller.Caller.{Caller}
 use Rattle.ft_engine.specs.declared.caller.Flight.TheVariants as flight
 use Rattle.ft_engine.specs.declared.engine.Engine.{Engine}

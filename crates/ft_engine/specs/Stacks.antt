@@ -4,7 +4,7 @@ use Rattle.ft_model.specs.declared.call.Call.{Call}
 use Rattle.ft_model.specs.declared.call.Call.TheVariants as call
 use Rattle.ft_bank.specs.declared.sections.OpenSection.{OpenSection}
 use Rattle.ft_bank.specs.declared.sections.Taking.{Taking}
-use Rattle.ft_bank.specs.Sections.{Stack, nothing_taken}
+use Rattle.ft_bank.specs.PassSections.{Stack, nothing_taken}
 use Rattle.ft_section.specs.declared.answers.Objects.{Objects}
 use Rattle.ft_section.specs.Locking.{with_own}
 use Rattle.ft_section.specs.Sectioning.{AreNoted}

@@ -2,7 +2,7 @@
 use Rattle.std.specs.Prelude.{◌≡◌, ◌≤◌}
 use Rattle.ft_trace.specs.Acts.{seen_writes}
 use Rattle.ft_bank.specs.Passes.{view}
-use Rattle.ft_bank.specs.Sections.{stack_of}
+use Rattle.ft_bank.specs.PassSections.{stack_of}
 use Rattle.ft_engine.specs.declared.caller.Caller.{Caller}
 
 -- It is the same caller, and has made no call: it has the same open sections, cursors and entries, has as many calls

@@ -3,7 +3,7 @@ ghost use Rattle.std.specs.Prelude.{◌≡◌, List, length, suc, IfSome, IfNone
 ghost use Rattle.ft_model.specs.declared.call.Call.TheVariants as calls;
 ghost use Rattle.ft_model.specs.declared.entry.Entry.{Entry as NamedEntry};
 ghost use Rattle.ft_bank.specs.Passes.{shape_of, view};
-ghost use Rattle.ft_bank.specs.Sections.{stack_of};
+ghost use Rattle.ft_bank.specs.PassSections.{stack_of};
 ghost use Rattle.ft_engine.specs.Answering.{AreHandsOfPass, HasLooked, IsTryOfCall, LeavesHands, MayTryCall};
 ghost use Rattle.ft_engine.specs.Attempts.{MayAttempt, flight_after, entries_with_answer, IsMarkOf, FoundIn, HasLookedFirst, ComesAgain, StaysCaller};
 ghost use Rattle.ft_engine.specs.Callers.{IsCallerOf, thread_of};

@@ -2,7 +2,7 @@
 ghost use Rattle.std.specs.Prelude.{◌≡◌, ◌<◌, List};
 ghost use Rattle.ft_model.specs.declared.entry.Entry.{Entry as NamedEntry};
 ghost use Rattle.ft_bank.specs.Passes.{view};
-ghost use Rattle.ft_bank.specs.Sections.{stack_of};
+ghost use Rattle.ft_bank.specs.PassSections.{stack_of};
 ghost use Rattle.ft_engine.specs.Attempts.{MayAttempt, flight_after, entries_with_answer, IsMarkOf, FoundIn, HasFoundOwner, HasLookedFirst, ComesAgain, StaysCaller};
 ghost use Rattle.ft_engine.specs.Callers.{IsCallerOf, pass_of, flight_of, thread_of};
 ghost use Rattle.ft_engine.specs.Flights.{IsFlightAnswered, AllowsCall};

@@ -6,7 +6,7 @@ ghost use Rattle.ft_model.specs.declared.script.Kind.TheVariants as kind;
 ghost use Rattle.ft_model.specs.Calls.{cursor_of_dict, other_dict};
 ghost use Rattle.ft_trace.specs.Acts.{announces};
 ghost use Rattle.ft_bank.specs.Passes.{shape_of, view, IsPassOf};
-ghost use Rattle.ft_bank.specs.Sections.{stack_of};
+ghost use Rattle.ft_bank.specs.PassSections.{stack_of};
 ghost use Rattle.ft_section.specs.Ready.{MayTry};
 ghost use Rattle.ft_engine.specs.Answering.{HasLooked, IsTryOfCall, IsLookedIfAny};
 ghost use Rattle.ft_engine.specs.Contentions.{may_look};

@@ -3,7 +3,7 @@ ghost use Rattle.std.specs.Prelude.{◌≡◌, ℕ, false, [], List};
 ghost use Rattle.ft_model.specs.declared.entry.Entry.{Entry as NamedEntry};
 ghost use Rattle.ft_trace.specs.Acts.{has_lock};
 ghost use Rattle.ft_bank.specs.Passes.{view};
-ghost use Rattle.ft_bank.specs.Sections.{stack_of};
+ghost use Rattle.ft_bank.specs.PassSections.{stack_of};
 ghost use Rattle.ft_engine.specs.Answering.{MakesNoEntry};
 ghost use Rattle.ft_engine.specs.Callers.{IsCallerOf, IsIdle, flight_of, hands_of, pass_of};
 ghost use Rattle.ft_engine.specs.Flights.{IsFlightAnswered};

@@ -3,9 +3,9 @@
 ghost use Rattle.std.specs.Prelude.{◌≡◌, ◌≤◌, ◌+◌, ◌++◌, [], ℕ, List, length};
 ghost use Rattle.ft_model.specs.declared.entry.Entry.{Entry as NamedEntry};
 ghost use Rattle.ft_trace.specs.Acts.{announces};
-ghost use Rattle.ft_bank.specs.Notes.{says, seen, IsNoteOf};
+ghost use Rattle.ft_bank.specs.Notes.{says, writes_seen, IsNoteOf};
 ghost use Rattle.ft_bank.specs.Passes.{view};
-ghost use Rattle.ft_bank.specs.Sections.{stack_of};
+ghost use Rattle.ft_bank.specs.PassSections.{stack_of};
 ghost use Rattle.ft_engine.specs.Callers.{IsCallerOf, IsIdle, bank_of, pass_of, thread_of};
 ghost use Rattle.ft_engine.specs.DoneCallers.{WereAnswered, IsCallerDone};
 ghost use Rattle.ft_engine.specs.Keeping.{WasAnswered};
@@ -24,7 +24,7 @@ impl Engine {
         ensures same { SameCallerWork caller.old caller.new }
         ensures announced { announces (view (pass_of caller.new)).log ≡ announces (view (pass_of caller.old)).log }
         ensures kept { (mine : List NamedEntry) → WasAnswered caller.old mine → WasAnswered caller.new mine }
-        ensures note { IsNoteOf (bank_of self.now) result × (says result ≡ seen (pass_of caller.old)) }
+        ensures note { IsNoteOf (bank_of self.now) result × (says result ≡ writes_seen (pass_of caller.old)) }
     {
         self.bank.note(&mut caller.pass)
     }
@@ -39,7 +39,7 @@ impl Engine {
         ensures same { SameCallerWork caller.old caller.new }
         ensures announced { announces (view (pass_of caller.new)).log ≡ announces (view (pass_of caller.old)).log }
         ensures kept { (mine : List NamedEntry) → WasAnswered caller.old mine → WasAnswered caller.new mine }
-        ensures seen { (says note ≤ seen (pass_of caller.new)) × (seen (pass_of caller.old) ≤ seen (pass_of caller.new)) }
+        ensures seen { (says note ≤ writes_seen (pass_of caller.new)) × (writes_seen (pass_of caller.old) ≤ writes_seen (pass_of caller.new)) }
     {
         self.bank.learn(&mut caller.pass, note);
     }

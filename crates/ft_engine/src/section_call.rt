@@ -5,7 +5,7 @@ ghost use Rattle.ft_model.specs.declared.call.Call.TheVariants as call;
 ghost use Rattle.ft_trace.specs.Acts.{flight};
 ghost use Rattle.ft_trace.specs.Addresses.{containers_in};
 ghost use Rattle.ft_bank.specs.Passes.{shape_of, view};
-ghost use Rattle.ft_bank.specs.Sections.{stack_of};
+ghost use Rattle.ft_bank.specs.PassSections.{stack_of};
 ghost use Rattle.ft_section.specs.Ready.{IsReady, MayTry};
 ghost use Rattle.ft_section.specs.LockTakings.{AreIn};
 ghost use Rattle.ft_engine.specs.Answering.{IsTryOfCall};

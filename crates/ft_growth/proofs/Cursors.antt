@@ -6,8 +6,8 @@ use Rattle.ft_trace.specs.declared.Shape.{Shape}
 use Rattle.ft_trace.specs.declared.View.{View}
 use Rattle.ft_trace.specs.Hands.{cursor_in}
 use Rattle.ft_trace.specs.Holds.{held}
-use Rattle.ft_trace.specs.Words.{root_in}
-use Rattle.ft_trace.specs.Worlds.{changes}
+use Rattle.ft_trace.specs.Pictures.{root_in}
+use Rattle.ft_trace.specs.ContainerStates.{changes}
 use Rattle.ft_bank.specs.Answered.{Answered}
 use Rattle.ft_section.specs.declared.answers.Objects.{Objects}
 use Rattle.ft_section.specs.declared.answers.Step.{Step}
@@ -15,7 +15,7 @@ use Rattle.ft_section.specs.declared.answers.Step.TheVariants as step
 use Rattle.ft_growth.specs.declared.adding.Added.{Added}
 use Rattle.ft_growth.specs.declared.adding.Added.TheVariants as added
 use Rattle.ft_growth.specs.Adding.{Grew, GaveUp, IsAdded, IsTryOf, KeepsCursors, UnderLocks, WroteInPlace, WroteWith}
-use Rattle.ft_growth.proofs.Staying.{retired_same}
+use Rattle.ft_growth.proofs.GrowthMidst.{retired_same}
 
 module _ (called : Call) (said : Reply) (stamp : ℕ) (v w : View) where
   pub answered_cursors : Answered called said stamp v w → KeepsCursors v w

@@ -1,4 +1,4 @@
-pub mod Answering
+pub mod MemoryErrors
 pub mod Cursors
 pub mod Rooting
-pub mod Staying
+pub mod GrowthMidst

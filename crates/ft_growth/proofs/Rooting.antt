@@ -5,7 +5,7 @@ use mathlib.Core.Logic.{dite}
 use native.Mathlib.Decide.{ℕ_discrete}
 use Rattle.ft_model.specs.declared.call.Call.{Call}
 use Rattle.ft_model.specs.declared.reply.Reply.{Reply}
-use Rattle.ft_model.specs.Tables.{StoredWorld}
+use Rattle.ft_model.specs.TableUses.{StoredWorld}
 use Rattle.ft_trace.specs.declared.Act.{Act}
 use Rattle.ft_trace.specs.declared.Act.TheVariants.{StartWrite, PutRoot}
 use Rattle.ft_trace.specs.declared.Entry.{Entry}
@@ -14,12 +14,12 @@ use Rattle.ft_trace.specs.declared.View.{View}
 use Rattle.ft_trace.specs.Acts.{has_lock, is_writing, stage, stage_next, debt, debt_next, noted}
 use Rattle.ft_trace.specs.Addresses.{containers_in}
 use Rattle.ft_trace.specs.Holds.{held, known}
-use Rattle.ft_trace.specs.Words.{root_in, Stands}
-use Rattle.ft_trace.specs.Worlds.{changes}
+use Rattle.ft_trace.specs.Pictures.{root_in, Stands}
+use Rattle.ft_trace.specs.ContainerStates.{changes}
 use Rattle.ft_trace.proofs.Cases.{hit, miss}
 use Rattle.ft_bank.specs.Whole.{SameWork, OnlyLoaded, OnlyPut, EndsWrite, Wrote, hand_after, debt_after, write_entry}
-use Rattle.ft_bank.specs.Writes.{KeepsUnwritten, MayHave}
-use Rattle.ft_bank.proofs.Whole.{IsCalm, calm, same_work, work_then, work_knows, pass_then, loaded_held}
+use Rattle.ft_bank.specs.WriteSteps.{KeepsUnwritten, MayHave}
+use Rattle.ft_bank.proofs.KnownAfterWrites.{IsCalm, calm, same_work, work_then, work_knows, pass_then, loaded_held}
 use Rattle.ft_growth.specs.Adding.{OnlyFilled}
 
 -- ---- words of fresh tables

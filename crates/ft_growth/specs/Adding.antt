@@ -12,17 +12,17 @@ use Rattle.ft_trace.specs.Acts.{flight, has_goal, noted}
 use Rattle.ft_trace.specs.Hands.{cursor_in}
 use Rattle.ft_trace.specs.Holds.{held}
 use Rattle.ft_trace.specs.Owners.{SameOwners}
-use Rattle.ft_trace.specs.Words.{root_in}
-use Rattle.ft_trace.specs.Worlds.{changes}
+use Rattle.ft_trace.specs.Pictures.{root_in}
+use Rattle.ft_trace.specs.ContainerStates.{changes}
 use Rattle.ft_bank.specs.declared.table.Table.{Table}
 use Rattle.ft_bank.specs.declared.takings.Took.{Took}
 use Rattle.ft_bank.specs.declared.takings.Took.TheVariants as took
 use Rattle.ft_bank.specs.Answered.{Answered}
 use Rattle.ft_bank.specs.Series.{noted_all}
-use Rattle.ft_bank.specs.Tables.{name_of}
+use Rattle.ft_bank.specs.TableNames.{name_of}
 use Rattle.ft_bank.specs.Takings.{HasNotMoved, HasTook, IsTaking, KeepsBut, StaysIn}
 use Rattle.ft_bank.specs.Whole.{SamePass, SameWork, Wrote}
-use Rattle.ft_bank.specs.Writes.{KeepsUnwritten}
+use Rattle.ft_bank.specs.WriteSteps.{KeepsUnwritten}
 use Rattle.ft_qsbr.specs.Collecting.{Collected, StaysOrGoes}
 use Rattle.ft_section.specs.declared.answers.Objects.{Objects}
 use Rattle.ft_section.specs.declared.answers.Step.{Step}
@@ -36,7 +36,7 @@ use Rattle.ft_growth.specs.declared.adding.Added.TheVariants as added
 
 -- After a collection of retired tables a taking of a table of this class came to this. With the floor it found no word
 -- changed. Besides, the pass has what it had. (profile)
-pub record Tried (k : Shape) (class : ℕ) (result : Took) (v w : View) : Type 0 where
+pub record TriedTaking (k : Shape) (class : ℕ) (result : Took) (v w : View) : Type 0 where
   pub mid : View
   pub freed : ℕ
   pub collected : Collected v mid freed
@@ -76,7 +76,7 @@ pub record WroteInPlace (called : Call) (said : Reply) (number : ℕ) (v w : Vie
 pub record Grew (k : Shape) (class : ℕ) (called : Call) (said : Reply) (number : ℕ) (v w : View) : Type 0 where
   pub table : Table
   pub taken : View
-  pub tried : Tried k class (took.Taken table) v taken
+  pub tried : TriedTaking k class (took.Taken table) v taken
   pub other : root_in (held (changes called) taken) ≢ suc (name_of table)
   pub done : View
   pub wrote : Wrote called said number taken done
@@ -104,12 +104,12 @@ IsAdded k takes over called said v w (added.Made stamp) =
     (over ≡ false) × (stamp.wrote ≡ true) × WroteWith k takes called said stamp.number v w
 IsAdded k takes over called said v w (added.NoTable class stamp) =
     (over ≡ false) × (stamp.wrote ≡ false) × (takes ≡ Some class)
-    × ((u : View) × Tried k class took.AllTaken v u
+    × ((u : View) × TriedTaking k class took.AllTaken v u
     × Answered called (reply.Raised (raise.Memory class)) stamp.number u w)
 IsAdded k takes over called said v w (added.Over stamp) =
     (over ≡ true) × (stamp.wrote ≡ false) × Answered called (reply.Raised raise.Over) stamp.number v w
 IsAdded k takes over called said v w (added.Moved a b) =
-    (over ≡ false) × ((class : ℕ) × (takes ≡ Some class) × Tried k class (took.Moved a b) v w)
+    (over ≡ false) × ((class : ℕ) × (takes ≡ Some class) × TriedTaking k class (took.Moved a b) v w)
 
 -- ---- its try
 

@@ -1,6 +1,6 @@
 //! What a call comes to under its locks that may take a table, and the MemoryErrors that it answers.
 ghost use Rattle.std.specs.Prelude.{◌≡◌, ℕ, ◌<◌, List, ◌∷◌, true, false, Some};
-ghost use Rattle.ft_model.specs.Tables.{StoredWorld, CanLackMemory, takes_in, would_pass};
+ghost use Rattle.ft_model.specs.TableUses.{StoredWorld, CanLackMemory, takes_in, would_pass};
 ghost use Rattle.ft_model.specs.declared.reply.Raise.TheVariants as raise;
 ghost use Rattle.ft_model.specs.declared.reply.Reply.TheVariants as reply;
 ghost use Rattle.ft_trace.specs.declared.Act.{Act};
@@ -8,8 +8,8 @@ ghost use Rattle.ft_trace.specs.declared.Act.TheVariants.{ReadCount};
 ghost use Rattle.ft_trace.specs.Acts.{owes};
 ghost use Rattle.ft_bank.specs.Answered.{Answered};
 ghost use Rattle.ft_bank.specs.Passes.{view, IsPassOf};
-ghost use Rattle.ft_bank.specs.Sections.{stack_of};
-ghost use Rattle.ft_bank.specs.Writes.{MayHave};
+ghost use Rattle.ft_bank.specs.PassSections.{stack_of};
+ghost use Rattle.ft_bank.specs.WriteSteps.{MayHave};
 ghost use Rattle.ft_growth.specs.Adding.{step_after};
 
 use ft_bank::{Bank, Pass};

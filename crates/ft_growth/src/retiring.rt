@@ -3,8 +3,8 @@ ghost use Rattle.std.specs.Prelude.{◌≡◌, ◌<◌, Some};
 ghost use Rattle.ft_trace.specs.Acts.{debt, stage};
 ghost use Rattle.ft_bank.specs.declared.table.Table.{Table};
 ghost use Rattle.ft_bank.specs.Passes.{shape_of, view, IsPassOf};
-ghost use Rattle.ft_bank.specs.Sections.{stack_of};
-ghost use Rattle.ft_bank.specs.Tables.{name_of, root_for, IsTableIn};
+ghost use Rattle.ft_bank.specs.PassSections.{stack_of};
+ghost use Rattle.ft_bank.specs.TableNames.{name_of, root_for, IsTableIn};
 ghost use Rattle.ft_growth.specs.Adding.{Retires};
 
 use ft_bank::{Bank, Pass, Table};

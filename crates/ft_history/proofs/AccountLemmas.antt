@@ -29,9 +29,9 @@ use Rattle.ft_model.specs.declared.script.Kind.{Kind}
 use Rattle.ft_model.specs.Scripts.{cursor_of}
 use Rattle.ft_model.specs.Worlds.{kinds_of}
 use Rattle.ft_model.specs.Answers.{after_write, is_memory}
-use Rattle.ft_model.specs.Tables.{TableUse, no_table, StoredWorld, start_stored, takes_class, leaves_tables, after_stored, stored_after, takings, is_class, takes, IsEarned, IsEarnedReply}
+use Rattle.ft_model.specs.TableUses.{TableUse, no_table, StoredWorld, start_stored, takes_class, leaves_tables, after_stored, stored_after, takings, is_class, takes, IsEarned, IsEarnedReply, table_count}
 use Rattle.ft_history.specs.declared.account.TableAccount.{TableAccount}
-use Rattle.ft_history.specs.Internal.Accounts.{tables_of, tables_taken, IsAccount, CountsCall}
+use Rattle.ft_history.specs.Internal.Accounts.{tables_of, IsAccount, CountsCall}
 
 -- ---- one write further
 
@@ -109,5 +109,5 @@ account_at_start script account tables takings =
     record {
       tables = tables ∙ tables_at_start script.containers;
       classes = ap (λ (counts : List ℕ). length counts) takings;
-      takings = λ class is. ap (λ (counts : List ℕ). tables_taken counts class) takings ∙ get_or-replicate class_count (class - least_class) 0 0 (let low = is.least in let high = is.greatest in omega arith);
+      takings = λ class is. ap (λ (counts : List ℕ). table_count counts class) takings ∙ get_or-replicate class_count (class - least_class) 0 0 (let low = is.least in let high = is.greatest in omega arith);
     }

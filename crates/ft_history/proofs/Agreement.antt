@@ -13,10 +13,10 @@ use Rattle.ft_model.specs.declared.script.ScriptParts.{ScriptParts}
 use Rattle.ft_model.specs.Answers.{answer, world_by}
 use Rattle.ft_model.specs.Histories.{writes, world_at, entries_of, cursors_of, hands_by, hands_at, sections_at, after_section, innermost, IsReplied, IsAnswered, IsWhole, Section, names, disturbs, is_disturbed, is_marked, marks_between, IsKeptBy, IsCountedBy, IsKept, IsCounted, IsMarked, IsEarnedAt, IsChronicle, has_call_on, needs_at}
 use Rattle.ft_model.specs.Numbers.{begins_of}
-use Rattle.ft_model.specs.Tables.{IsEarned}
+use Rattle.ft_model.specs.TableUses.{IsEarned}
 use Rattle.ft_model.specs.Worlds.{kinds_of, containers_used}
 use Rattle.ft_history.proofs.FilteredParts.{any_passed, count_passed}
-use Rattle.ft_history.proofs.Stamped.{written, AreStamped, writes_before_entry, mine_before, written_between, mine_between}
+use Rattle.ft_history.proofs.StampedLists.{written, AreStamped, writes_before_entry, mine_before, written_between, mine_between}
 use Rattle.ft_history.proofs.OpenSections.{IsOpened, AreOpened, are_opened, same_innermost_after, same_ended}
 
 pub record Agree (script : ScriptParts) (one other : List Entry) : Type 0 where

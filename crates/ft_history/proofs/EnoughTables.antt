@@ -22,7 +22,7 @@ use Rattle.ft_model.specs.declared.script.ScriptParts.{ScriptParts}
 use Rattle.ft_model.specs.Answers.{after_write, is_memory}
 use Rattle.ft_model.specs.Calls.{adds, can_add, dict_change, list_change, set_change}
 use Rattle.ft_model.specs.Histories.{calls_of, entries_of, writes, IsLegal, IsWhole}
-use Rattle.ft_model.specs.Tables.{StoredWorld, TableUse, after_stored, change_takes, is_class, stored_after, start_stored, table_count, takes, takes_class, takes_in, takings, would_pass, CanLackMemory, IsEarnedReply}
+use Rattle.ft_model.specs.TableUses.{StoredWorld, TableUse, after_stored, change_takes, is_class, stored_after, start_stored, table_count, takes, takes_class, takes_in, takings, would_pass, CanLackMemory, IsEarnedReply}
 use Rattle.ft_model.specs.Worlds.{kinds_of}
 use Rattle.ft_history.specs.EnoughTables.{adding_calls, HasEnoughTables, StaysWithinCaps}
 use Rattle.ft_history.proofs.FewEntries.{one_at, all_counted, length-entries_of, sum_le, sum_places, threads_low}

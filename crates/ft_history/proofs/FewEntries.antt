@@ -26,7 +26,7 @@ use Rattle.ft_model.proofs.FewSerials.{serials_by, room_for}
 use Rattle.ft_model.proofs.Takings.{sum_both}
 use Rattle.ft_history.specs.Internal.States.{world_before}
 use Rattle.ft_history.specs.Internal.Steps.{IsUnbrokenBefore}
-use Rattle.ft_history.proofs.Places.{by_places, take_next, filter_next}
+use Rattle.ft_history.proofs.HistoryPlaces.{by_places, take_next, filter_next}
 use Rattle.ft_history.proofs.ScriptLemmas.{no_calls}
 use Rattle.ft_history.proofs.GoesAfterLemmas.{few_writes}
 

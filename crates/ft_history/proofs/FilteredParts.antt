@@ -8,7 +8,7 @@ use Rattle.std.proofs.lemmas.List.FromFn.{get_or-range_with_len}
 use Rattle.std.proofs.lemmas.List.Sums.{sum_by-cons}
 use Rattle.std.proofs.lemmas.Map.Views.{any-filter_same}
 use Rattle.std.proofs.lemmas.Slice.{between_is}
-use Rattle.ft_history.proofs.Places.{filter_parts, drop_here, slice_get_at}
+use Rattle.ft_history.proofs.HistoryPlaces.{filter_parts, drop_here, slice_get_at}
 
 -- ---- places
 

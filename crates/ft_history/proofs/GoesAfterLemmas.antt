@@ -30,7 +30,7 @@ use Rattle.ft_history.specs.declared.state.State.{State}
 use Rattle.ft_history.specs.Internal.Accounts.{IsAccount, AreOfKind}
 use Rattle.ft_history.specs.Internal.States.{IsAskable, world_before, after_one, IsProgress, AreHandsOf, AreLastWrites}
 use Rattle.ft_history.specs.Internal.Steps.{IsState, GoesAfter, HoldsFirst, BreaksFirst, FindsLate, HoldsLate, FindsBroken}
-use Rattle.ft_history.proofs.Places.{writes_next, count_next, world_at-before}
+use Rattle.ft_history.proofs.HistoryPlaces.{writes_next, count_next, world_at-before}
 use Rattle.ft_history.proofs.Judged.{holds_more}
 use Rattle.ft_history.proofs.ScriptLemmas.{call_of_thread, calls_of_thread, is_thread, named_within, no_calls}
 use Rattle.ft_history.proofs.Leaves.{Leaves, leaves_of, of_kinds, askable}

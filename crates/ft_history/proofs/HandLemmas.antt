@@ -12,7 +12,7 @@ use Rattle.ft_model.specs.Scripts.{NamesOf, cursor_of}
 use Rattle.ft_model.specs.Answers.{answer}
 use Rattle.ft_model.specs.Histories.{calls_of}
 use Rattle.ft_history.specs.Internal.States.{AreHandsOf}
-use Rattle.ft_history.proofs.Places.{take_next}
+use Rattle.ft_history.proofs.HistoryPlaces.{take_next}
 use Rattle.ft_history.proofs.Leaves.{Leaves}
 
 any_push_cases : {X : Type 0} (P : X → Type 0) (xs : List X) (x : X) → Any P (xs ++ x ∷ []) → Any P xs ⊎ P x

@@ -11,7 +11,7 @@ use Rattle.ft_model.specs.Histories.{disturbs, names}
 use Rattle.ft_history.specs.declared.writers.LastWrites.{LastWrites}
 use Rattle.ft_history.specs.declared.writers.Write.{Write}
 use Rattle.ft_history.specs.Internal.States.{other_than, after_one, is_from, is_written_since, AreLastWrites}
-use Rattle.ft_history.proofs.Places.{take_next}
+use Rattle.ft_history.proofs.HistoryPlaces.{take_next}
 
 or_false : (b : Bool) → (b || false) ≡ b
 or_false true = refl

@@ -22,7 +22,7 @@ use Rattle.ft_model.specs.declared.call.Containers.{Containers}
 use Rattle.ft_model.specs.Calls.{container_list}
 use Rattle.ft_history.specs.declared.progress.ThreadProgress.{ThreadProgress}
 use Rattle.ft_history.specs.declared.writers.LastWrites.{LastWrites}
-use Rattle.ft_history.specs.Internal.States.{BegunSection, is_used, AreUsers, all_begun, after_begun, inner_begun, section_of, IfInnerBegun, IfEndsBegun, IsOpen, IsProgress, AreLastWrites, is_written_since, is_written_on, IsKeptSince}
+use Rattle.ft_history.specs.Internal.States.{BegunSection, is_used, AreUsers, all_begun, after_begun, inner_begun, section_of, IsOpen, IsProgress, AreLastWrites, is_written_since, is_written_on, IsKeptSince}
 use Rattle.ft_history.proofs.ProgressLemmas.{sections_alike}
 use Rattle.ft_history.proofs.LastWriteLemmas.{any_of_containers}
 
@@ -57,12 +57,12 @@ marked_iff script entries place entry progress users own inner r are_users so_fa
 -- ---- ends
 
 inner_iff : (sections : List BegunSection) (R Q : BegunSection → Type 0) (P : Section → Type 0) → AllByRecursion R sections → ((section : BegunSection) → R section → Q section ↔ P (section_of section))
-    → IfInnerBegun sections Q ↔ IfInnermost (map section_of sections) P
+    → IfInnermost sections Q ↔ IfInnermost (map section_of sections) P
 inner_iff [] R Q P each same = (λ _. tt, λ _. tt)
 inner_iff (section ∷ sections) R Q P each same = same section each.0
 
 ends_iff : (sections : List BegunSection) (called : Call) (R Q : BegunSection → Type 0) (P : Section → Type 0) → AllByRecursion R sections → ((section : BegunSection) → R section → Q section ↔ P (section_of section))
-    → IfEndsBegun sections called Q ↔ IfEnds (map section_of sections) called P
+    → IfEnds sections called Q ↔ IfEnds (map section_of sections) called P
 ends_iff sections call.End R Q P each same = inner_iff sections R Q P each same
 ends_iff sections (call.Dict container dict_call) R Q P each same = (λ _. tt, λ _. tt)
 ends_iff sections (call.List container list_call) R Q P each same = (λ _. tt, λ _. tt)
@@ -104,7 +104,7 @@ module _ (script : ScriptParts) (entries : List Entry) (place : ℕ) (thread : �
 
 pub kept_iff : (script : ScriptParts) (entries : List Entry) (place : ℕ) (entry : Entry) (progress : ThreadProgress) (containers : List LastWrites) (r : Bool)
     → length containers ≡ length script.containers → ((container : ℕ) (last : LastWrites) → slice_get containers container ≡ Some last → AreLastWrites entries place container last) → IsProgress script entries entry.thread place progress
-    → IsTrue r ↔ IfEndsBegun (all_begun progress.sections.items) entry.call (λ section. IsKeptSince containers entry.thread section entry.reply) → IsTrue r ↔ IsKept entries place entry
+    → IsTrue r ↔ IfEnds (all_begun progress.sections.items) entry.call (λ section. IsKeptSince containers entry.thread section entry.reply) → IsTrue r ↔ IsKept entries place entry
 kept_iff script entries place entry progress containers r long lasts so_far is =
     let ends = ends_iff (all_begun progress.sections.items) entry.call (IsOpen script entries entry.thread place) (λ section. IsKeptSince containers entry.thread section entry.reply) (λ section. IsKeptBy entries entry.thread place section entry.reply) so_far.«open» (kept_alike script entries place entry.thread containers long lasts entry.reply) in
     let P : List Section → Type 0 = λ ss. IfEnds ss entry.call (λ section. IsKeptBy entries entry.thread place section entry.reply) in
@@ -137,7 +137,7 @@ module _ (script : ScriptParts) (entries : List Entry) (place thread marks : ℕ
 
 pub counted_iff : (script : ScriptParts) (entries : List Entry) (place : ℕ) (entry : Entry) (progress : ThreadProgress) (r : Bool)
     → IsProgress script entries entry.thread place progress
-    → IsTrue r ↔ IfEndsBegun (all_begun progress.sections.items) entry.call (λ section. IsCountedAs (progress.marks - section.marks) entry.reply) → IsTrue r ↔ IsCounted entries place entry
+    → IsTrue r ↔ IfEnds (all_begun progress.sections.items) entry.call (λ section. IsCountedAs (progress.marks - section.marks) entry.reply) → IsTrue r ↔ IsCounted entries place entry
 counted_iff script entries place entry progress r so_far is =
     let ends = ends_iff (all_begun progress.sections.items) entry.call (IsOpen script entries entry.thread place) (λ section. IsCountedAs (progress.marks - section.marks) entry.reply) (λ section. IsCountedBy entries entry.thread place section entry.reply) so_far.«open» (counted_alike script entries place entry.thread progress.marks so_far.marks entry.reply) in
     let P : List Section → Type 0 = λ ss. IfEnds ss entry.call (λ section. IsCountedBy entries entry.thread place section entry.reply) in

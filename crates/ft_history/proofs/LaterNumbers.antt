@@ -13,11 +13,11 @@ use Rattle.ft_model.specs.declared.reply.Reply.{Reply}
 use Rattle.ft_model.specs.declared.reply.Reply.TheVariants as reply
 use Rattle.ft_model.specs.declared.script.ScriptParts.{ScriptParts}
 use Rattle.ft_model.specs.Answers.{answer, world_by, is_memory}
-use Rattle.ft_model.specs.Histories.{cursors_of, after_stamped, IsReplied}
-use Rattle.ft_model.specs.Numbers.{world_after, hands_after, number_after, after_begins, begins_of, begun_containers, IfEndsBegin, needs_after, IsKeptFrom, IsRightAfter}
-use Rattle.ft_model.specs.Tables.{IsEarned, IsFitting}
+use Rattle.ft_model.specs.Histories.{cursors_of, after_stamped, IsReplied, IfEnds}
+use Rattle.ft_model.specs.Numbers.{world_after, hands_after, number_after, after_begins, begins_of, begun_containers, needs_after, IsKeptFrom, IsRightAfter}
+use Rattle.ft_model.specs.TableUses.{IsEarned, IsFitting}
 use Rattle.ft_model.specs.Worlds.{kinds_of, start_hands, containers_used}
-use Rattle.ft_history.proofs.Places.{slice_get_left}
+use Rattle.ft_history.proofs.HistoryPlaces.{slice_get_left}
 
 stamp_within : (entry : Entry) (n : ℕ) → number_after entry ≤ n → entry.stamp ≤ n
 stamp_within entry n low = elim entry.wrote as (λ b. cond {A = ℕ} b (entry.stamp + 1) entry.stamp ≤ n → entry.stamp ≤ n) [ true ↦ λ le. omega arith | false ↦ λ le. le ] low
@@ -48,7 +48,7 @@ module _ (storage : Storage) (script : ScriptParts) (calls more : List Call) (be
   kept_from begun reply.Kept kept = λ number called from below at touched. kept number called from below (sym (slice_get_left calls more number (omega (arith, is.within))) ∙ at) touched
   kept_from begun said kept = tt
 
-  kept_later : (called : Call) (begins : List Entry) → IfEndsBegin begins called (λ begun. IsKeptFrom calls before begun entry.stamp entry.reply) → IfEndsBegin begins called (λ begun. IsKeptFrom (calls ++ more) before begun entry.stamp entry.reply)
+  kept_later : (called : Call) (begins : List Entry) → IfEnds begins called (λ begun. IsKeptFrom calls before begun entry.stamp entry.reply) → IfEnds begins called (λ begun. IsKeptFrom (calls ++ more) before begun entry.stamp entry.reply)
   kept_later call.End [] kept = tt
   kept_later call.End (begun ∷ begins) kept = kept_from begun entry.reply kept
   kept_later called begins kept = tt

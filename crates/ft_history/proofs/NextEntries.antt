@@ -12,9 +12,9 @@ use Rattle.ft_model.specs.declared.entry.Entry.{Entry}
 use Rattle.ft_model.specs.declared.entry.Storage.{Storage}
 use Rattle.ft_model.specs.declared.script.ScriptParts.{ScriptParts}
 use Rattle.ft_model.specs.Numbers.{is_number, calls_after, IsRightAfter, IsNumberedThread, AreNumberedLists, IsNextEntry}
-use Rattle.ft_history.proofs.Counted.{none_counted}
+use Rattle.ft_history.proofs.KeysOnce.{none_counted}
 use Rattle.ft_history.proofs.LaterNumbers.{right_stays}
-use Rattle.ft_history.proofs.Places.{slice_get_at, slice_get_left, slice_get_push}
+use Rattle.ft_history.proofs.HistoryPlaces.{slice_get_at, slice_get_left, slice_get_push}
 use Rattle.ft_history.proofs.ThreadLists.{flat, no_entries}
 use Rattle.ft_history.proofs.Unbroken.{range_push}
 

@@ -18,9 +18,9 @@ use Rattle.ft_model.specs.Answers.{is_write}
 use Rattle.ft_model.specs.Histories.{history_cmp, writes, entries_of, EachAt, IsWhole, IsChronicle, IsLegal}
 use Rattle.ft_model.specs.Numbers.{number_after, is_number, IsRightAfter, IsMarkedAfter, AreNumbered, AreFitting, IsHistoryOf}
 use Rattle.ft_history.proofs.RightEntries.{IsLegalAt, call_at, legal_at, marked_after, passed_from, right_after}
-use Rattle.ft_history.proofs.Counted.{count_both, counted_once, keys_in_range}
+use Rattle.ft_history.proofs.KeysOnce.{count_both, counted_once, keys_in_range}
 use Rattle.ft_history.proofs.FilteredParts.{key_at, passed_at, passed_before}
-use Rattle.ft_history.proofs.Stamped.{written, AreStamped, count_writes}
+use Rattle.ft_history.proofs.StampedLists.{written, AreStamped, count_writes}
 use Rattle.ft_history.proofs.SortedStamps.{rank, at_most_one, ranks_of_sorted, sorted_stamped}
 use Rattle.ft_history.proofs.ThreadOrder.{same_threads, still_whole}
 use Rattle.ft_history.proofs.WriteNumbers.{write_numbers}

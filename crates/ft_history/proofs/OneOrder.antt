@@ -19,7 +19,7 @@ use Rattle.ft_model.specs.declared.entry.Storage.{Storage}
 use Rattle.ft_model.specs.declared.script.ScriptParts.{ScriptParts}
 use Rattle.ft_model.specs.Histories.{history_cmp, entries_of, IsLegal}
 use Rattle.ft_model.specs.Judging.{IsNext}
-use Rattle.ft_history.proofs.Places.{filter_next, filter_parts}
+use Rattle.ft_history.proofs.HistoryPlaces.{filter_next, filter_parts}
 use Rattle.ft_history.proofs.Unbroken.{unbroken_of_legal}
 use Rattle.ft_history.proofs.HistoryOrder.{history_total, history_ranks}
 

@@ -9,9 +9,9 @@ use Rattle.ft_model.specs.declared.call.Call.TheVariants as call
 use Rattle.ft_model.specs.declared.entry.Entry.{Entry}
 use Rattle.ft_model.specs.Calls.{containers_of, is_changing}
 use Rattle.ft_model.specs.Histories.{Section, after_section, sections_at, entries_of, innermost, IfEnds}
-use Rattle.ft_model.specs.Numbers.{after_begins, begins_of, begun_containers, IfEndsBegin}
-use Rattle.ft_history.proofs.Places.{filter_next, by_places}
-use Rattle.ft_history.proofs.Sections.{sections_next}
+use Rattle.ft_model.specs.Numbers.{after_begins, begins_of, begun_containers}
+use Rattle.ft_history.proofs.HistoryPlaces.{filter_next, by_places}
+use Rattle.ft_history.proofs.SectionWrites.{sections_next}
 
 -- the section was begun by this entry, a call of the thread before the place
 pub record IsOpened (entries : List Entry) (thread place : ℕ) (section : Section) (begun : Entry) : Type 0 where
@@ -90,7 +90,7 @@ module _ (entries : List Entry) (thread place : ℕ) where
 
   -- what holds of the `begin` of the section that an `end` ends holds of the section
   pub ended_by_begin : (P : Entry → Type 0) (Q : Section → Type 0) → ((section : Section) (begun : Entry) → IsOpened entries thread place section begun → P begun → Q section)
-      → (called : Call) (sections : List Section) (begins : List Entry) → AreOpened entries thread place sections begins → IfEndsBegin begins called P → IfEnds sections called Q
+      → (called : Call) (sections : List Section) (begins : List Entry) → AreOpened entries thread place sections begins → IfEnds begins called P → IfEnds sections called Q
   ended_by_begin P Q moves call.End [] begins opened holds = tt
   ended_by_begin P Q moves call.End (section ∷ sections) [] opened holds = absurd opened
   ended_by_begin P Q moves call.End (section ∷ sections) (begun ∷ begins) opened holds = moves section begun opened.0 holds
@@ -99,7 +99,7 @@ module _ (entries : List Entry) (thread place : ℕ) where
 
   -- and the other way round
   pub begin_of_ended : (P : Entry → Type 0) (Q : Section → Type 0) → ((section : Section) (begun : Entry) → IsOpened entries thread place section begun → Q section → P begun)
-      → (called : Call) (sections : List Section) (begins : List Entry) → AreOpened entries thread place sections begins → IfEnds sections called Q → IfEndsBegin begins called P
+      → (called : Call) (sections : List Section) (begins : List Entry) → AreOpened entries thread place sections begins → IfEnds sections called Q → IfEnds begins called P
   begin_of_ended P Q moves call.End sections [] opened holds = tt
   begin_of_ended P Q moves call.End [] (begun ∷ begins) opened holds = absurd opened
   begin_of_ended P Q moves call.End (section ∷ sections) (begun ∷ begins) opened holds = moves section begun opened.0 holds

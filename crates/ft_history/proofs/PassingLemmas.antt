@@ -23,8 +23,8 @@ use Rattle.ft_model.specs.Contents.{DictContent, SetContent, is_at, has_key, has
 use Rattle.ft_model.specs.Lists.{clamped_in, list_insert}
 use Rattle.ft_model.specs.Worlds.{IsOfKind, dict_at, list_at, set_at, no_hands}
 use Rattle.ft_model.specs.Answers.{shows, puts}
-use Rattle.ft_model.specs.Tables.{passes_cap, would_pass}
-use Rattle.ft_model.proofs.Places.{is_there}
+use Rattle.ft_model.specs.TableUses.{passes_cap, would_pass}
+use Rattle.ft_model.proofs.WorldPlaces.{is_there}
 use Rattle.ft_model.proofs.Copies.{length-pairs_from, length-elements_from}
 use Rattle.ft_history.proofs.UpdatedDicts.{length-dict_set}
 

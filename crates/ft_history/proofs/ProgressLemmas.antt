@@ -16,8 +16,8 @@ use Rattle.ft_model.specs.Answers.{answer, is_memory}
 use Rattle.ft_model.specs.Histories.{entries_of, cursors_of, after_entry, hands_at, is_marked, sections_at, after_section, world_at, writes}
 use Rattle.ft_history.specs.declared.progress.ThreadProgress.{ThreadProgress}
 use Rattle.ft_history.specs.Internal.States.{world_before, BegunSection, all_begun, after_begun, section_of, IsOpen, IsProgress}
-use Rattle.ft_history.proofs.Places.{take_next, filter_next, world_at-before}
-use Rattle.ft_history.proofs.Sections.{sections_next}
+use Rattle.ft_history.proofs.HistoryPlaces.{take_next, filter_next, world_at-before}
+use Rattle.ft_history.proofs.SectionWrites.{sections_next}
 
 -- ---- open sections
 

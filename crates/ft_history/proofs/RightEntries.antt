@@ -19,13 +19,13 @@ use Rattle.ft_model.specs.Answers.{is_raised, is_write}
 use Rattle.ft_model.specs.Calls.{containers_of}
 use Rattle.ft_model.specs.Histories.{writes, entries_of, hands_at, sections_at, IsAnswered, IsWhole, EachAt, Section, disturbs, names, is_disturbed, is_marked, marks_between, IsKeptBy, IsCountedAs, IsCountedBy, IsKept, IsCounted, IsMarked, IsEarnedAt, has_call_on, needs_at}
 use Rattle.ft_model.specs.Numbers.{number_after, begins_of, needs_after, is_number, marks_since, IsKeptFrom, IsRightAfter, IsMarkedAfter}
-use Rattle.ft_model.specs.Tables.{IsEarned, IsFitting}
+use Rattle.ft_model.specs.TableUses.{IsEarned, IsFitting}
 use Rattle.ft_model.specs.Worlds.{containers_used}
 use Rattle.ft_history.proofs.Agreement.{marks_are_mine}
 use Rattle.ft_history.proofs.FilteredParts.{count_passed, passed_at, passed_before, passed_between}
-use Rattle.ft_history.proofs.Stamped.{written, AreStamped, count_writes, mine_through, stamp_is}
+use Rattle.ft_history.proofs.StampedLists.{written, AreStamped, count_writes, mine_through, stamp_is}
 use Rattle.ft_history.proofs.OpenSections.{IsOpened, AreOpened, are_opened, begin_of_ended, ended_by_begin, containers_begun_after}
-use Rattle.ft_history.proofs.Places.{count_next, writes_before, writes_parts}
+use Rattle.ft_history.proofs.HistoryPlaces.{count_next, writes_before, writes_parts}
 
 -- ---- lists
 

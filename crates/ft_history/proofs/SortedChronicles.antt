@@ -15,8 +15,8 @@ use Rattle.ft_model.specs.declared.script.ScriptParts.{ScriptParts}
 use Rattle.ft_model.specs.Histories.{history_cmp, writes, entries_of, IsWhole, IsChronicle, IsLegal}
 use Rattle.ft_history.proofs.Agreement.{Agree, chronicle_of_agreement}
 use Rattle.ft_history.proofs.FilteredParts.{key_at}
-use Rattle.ft_history.proofs.Stamped.{written, AreStamped, count_writes}
-use Rattle.ft_history.proofs.Places.{count_next}
+use Rattle.ft_history.proofs.StampedLists.{written, AreStamped, count_writes}
+use Rattle.ft_history.proofs.HistoryPlaces.{count_next}
 use Rattle.ft_history.proofs.SortedStamps.{rank, at_most_one, count_parts, sorted_stamped}
 use Rattle.ft_history.proofs.ThreadOrder.{same_passed, same_threads, still_there, still_whole}
 use Rattle.ft_history.proofs.WriteNumbers.{write_numbers}

@@ -13,8 +13,8 @@ use Rattle.std.proofs.lemmas.Option.{get_or_from_slice_get, slice_get_within}
 use Rattle.ft_model.specs.declared.entry.Entry.{Entry}
 use Rattle.ft_model.specs.Histories.{history_cmp, writes}
 use Rattle.ft_history.proofs.FilteredParts.{passed_at, passed_before}
-use Rattle.ft_history.proofs.Stamped.{written, count_writes}
-use Rattle.ft_history.proofs.Places.{filter_parts}
+use Rattle.ft_history.proofs.StampedLists.{written, count_writes}
+use Rattle.ft_history.proofs.HistoryPlaces.{filter_parts}
 
 -- ---- the order, in numbers
 

@@ -19,7 +19,7 @@ use Rattle.ft_model.specs.declared.script.ScriptParts.{ScriptParts}
 use Rattle.ft_model.specs.Answers.{answer}
 use Rattle.ft_model.specs.Histories.{history_cmp, writes, world_at, entries_of, calls_of, hands_at, IsReplied, IsWhole, IsLegal}
 use Rattle.ft_model.specs.Judging.{IsNext, IsStamped, IsAfter, Holds, IsComplete, HoldsAtEnd, IsUnbroken}
-use Rattle.ft_history.proofs.Places.{take_next, drop_here, filter_next, filter_parts, slice_get_at, count_next, by_places}
+use Rattle.ft_history.proofs.HistoryPlaces.{take_next, drop_here, filter_next, filter_parts, slice_get_at, count_next, by_places}
 
 -- ---- what a thread has done of its calls
 

@@ -5,7 +5,7 @@ use Rattle.std.specs.Prelude.{slice_get}
 use Rattle.std.proofs.lemmas.List.{map_push, append-nil, take_all}
 use Rattle.ft_model.specs.declared.entry.Entry.{Entry}
 use Rattle.ft_model.specs.Histories.{writes}
-use Rattle.ft_history.proofs.Places.{filter_next, count_next, by_places}
+use Rattle.ft_history.proofs.HistoryPlaces.{filter_next, count_next, by_places}
 use Rattle.ft_history.proofs.Unbroken.{range_push}
 
 module _ (entries : List Entry) (stamped : (place : ℕ) (entry : Entry) → slice_get entries place ≡ Some entry → entry.stamp ≡ length (writes (take place entries))) where

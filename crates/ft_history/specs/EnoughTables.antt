@@ -6,7 +6,7 @@ use Rattle.ft_model.specs.declared.script.ScriptParts.{ScriptParts}
 use Rattle.ft_model.specs.Calls.{can_add}
 use Rattle.ft_model.specs.Classes.{IsClass}
 use Rattle.ft_model.specs.Histories.{writes, EachAt}
-use Rattle.ft_model.specs.Tables.{stored_after, table_count, would_pass, CanLackMemory}
+use Rattle.ft_model.specs.TableUses.{stored_after, table_count, would_pass, CanLackMemory}
 
 -- how many of a script's calls can add to a container
 abbrev pub adding_calls : ScriptParts → ℕ

@@ -1,4 +1,4 @@
 pub mod Verdicts
-pub mod Laws
+pub mod HistoryLaws
 pub mod EnoughTables
 pub mod Internal

@@ -7,7 +7,7 @@ ghost use Rattle.ft_model.specs.declared.call.Call.{Call};
 ghost use Rattle.ft_model.specs.declared.call.Call.TheVariants as call_of;
 ghost use Rattle.ft_model.specs.declared.script.ScriptParts.{ScriptParts};
 ghost use Rattle.ft_model.specs.Classes.{class_count, IsClass};
-ghost use Rattle.ft_model.specs.Tables.{table_of, no_table, grown_table};
+ghost use Rattle.ft_model.specs.TableUses.{table_of, no_table, grown_table};
 ghost use Rattle.ft_history.specs.Internal.Accounts.{tables_of, IsAccount, CountsTaking, CountsCall, size_at};
 
 use crate::sizes::{Size, length_of_list, size_of_dict, size_of_set};

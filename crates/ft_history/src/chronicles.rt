@@ -31,6 +31,3 @@ pub fn put_in_order(entries: Vec<Entry>) -> Result<Vec<Entry>, AllocError>
     history.sort_by(history_order)?;
     Ok(history)
 }
-
-#[cfg(test)]
-mod tests;

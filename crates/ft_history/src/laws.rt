@@ -13,7 +13,7 @@ ghost use Rattle.ft_model.specs.Calls.{containers_of};
 ghost use Rattle.ft_model.specs.Scripts.{IsScript};
 ghost use Rattle.ft_history.specs.declared.verdict.Verdict.{Verdict};
 ghost use Rattle.ft_history.specs.Verdicts.{IsVerdict};
-ghost use Rattle.ft_history.specs.Laws.{Matches, IsUntouchedBetween};
+ghost use Rattle.ft_history.specs.HistoryLaws.{Matches, IsUntouchedBetween};
 
 /// A history is legal exactly where it breaks no rule at any place.
 pub fn legal_is_unbroken()

@@ -17,8 +17,6 @@ mod replies;
 mod rules;
 mod sizes;
 mod state;
-#[cfg(test)]
-mod tests;
 mod users;
 mod verdict;
 mod writers;

@@ -5,7 +5,7 @@ ghost use Rattle.ft_model.specs.declared.call.Call.{Call};
 ghost use Rattle.ft_model.specs.declared.entry.Entry.{Entry};
 ghost use Rattle.ft_model.specs.declared.entry.Storage.TheVariants as storage;
 ghost use Rattle.ft_model.specs.Worlds.{kinds_of};
-ghost use Rattle.ft_model.specs.Tables.{stored_after, IsClassEarned, IsEarned};
+ghost use Rattle.ft_model.specs.TableUses.{stored_after, IsClassEarned, IsEarned};
 ghost use Rattle.ft_history.specs.Internal.Accounts.{AreOfKind, IsAccount};
 
 use crate::account::TableAccount;

@@ -5,7 +5,7 @@ ghost use Rattle.ft_model.specs.declared.call.Call.TheVariants as call_of;
 ghost use Rattle.ft_model.specs.declared.script.Kind.TheVariants as kind;
 ghost use Rattle.ft_model.specs.Calls.{other_dict, other_list, other_set};
 ghost use Rattle.ft_model.specs.Contents.{has_key, has_element, those_not_in, dict_update};
-ghost use Rattle.ft_model.specs.Tables.{would_pass};
+ghost use Rattle.ft_model.specs.TableUses.{would_pass};
 ghost use Rattle.ft_model.specs.Worlds.{IsOfKind};
 ghost use Rattle.ft_history.specs.Internal.Accounts.{AreOfKind};
 

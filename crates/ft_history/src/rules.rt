@@ -1,13 +1,13 @@
 //! Each rule of a legal history, asked of one entry, for the judge.
-ghost use Rattle.std.specs.Prelude.{◌≡◌, ◌≢◌, ◌↔◌, ℕ, ◌+◌, ◌-◌, ◌<◌, ◌≤◌, ◌^◌, ◌++◌, true, false, length, drop, IsTrue, IfSome, Some, slice_get, slice_index_or};
+ghost use Rattle.std.specs.Prelude.{◌≡◌, ◌≢◌, ◌↔◌, ℕ, ◌+◌, ◌-◌, ◌<◌, ◌++◌, true, false, length, drop, IsTrue, IfSome, Some, slice_get};
 ghost use Rattle.std.specs.List.{list_any};
 ghost use Rattle.ft_model.specs.Calls.{container_list};
 ghost use Rattle.ft_model.specs.Worlds.{containers_used};
 ghost use Rattle.ft_model.specs.Answers.{is_write, is_memory};
 ghost use Rattle.std.specs.Ordering.{is_lt};
-ghost use Rattle.ft_model.specs.Histories.{history_cmp, IsCountedAs};
+ghost use Rattle.ft_model.specs.Histories.{history_cmp, IsCountedAs, IfEnds};
 ghost use Rattle.ft_model.specs.Judging.{IsAfter};
-ghost use Rattle.ft_history.specs.Internal.States.{is_used, all_begun, after_begun, inner_begun, IfEndsBegun, is_written_on, IsKeptSince};
+ghost use Rattle.ft_history.specs.Internal.States.{is_used, all_begun, after_begun, inner_begun, is_written_on, IsKeptSince};
 
 use crate::equal::same_call;
 use crate::merging::history_order;
@@ -162,7 +162,7 @@ fn innermost(sections: &[OpenSection]) -> Containers
 
 /// Whether an `end` says kept only where no other thread wrote on the section's containers.
 pub fn is_kept_right(containers: &[LastWrites], sections: &[OpenSection], entry: &Entry) -> bool
-    ensures { IsTrue result ↔ IfEndsBegun (all_begun sections.now) entry.now.call (λ section. IsKeptSince containers.now entry.now.thread section entry.now.reply) }
+    ensures { IsTrue result ↔ IfEnds (all_begun sections.now) entry.now.call (λ section. IsKeptSince containers.now entry.now.thread section entry.now.reply) }
 {
     match &entry.call {
         Call::End => match (sections, &entry.reply) {
@@ -204,7 +204,7 @@ fn is_written(containers: &[LastWrites], thread: u32, begun: u64, container: u32
 
 /// Whether an `end` says how many calls in its section waited, of that many in all.
 pub fn is_counted_right(marks: u64, sections: &[OpenSection], entry: &Entry) -> bool
-    ensures { IsTrue result ↔ IfEndsBegun (all_begun sections.now) entry.now.call (λ section. IsCountedAs (marks - section.marks) entry.now.reply) }
+    ensures { IsTrue result ↔ IfEnds (all_begun sections.now) entry.now.call (λ section. IsCountedAs (marks - section.marks) entry.now.reply) }
 {
     match &entry.call {
         Call::End => match (sections, &entry.reply) {

@@ -6,8 +6,6 @@ mod quiet;
 mod sink;
 mod source;
 mod standard;
-#[cfg(test)]
-mod tests;
 
 pub use memory::{MemSink, MemSource};
 pub use quiet::{QuietSink, QuietSource};

@@ -10,7 +10,8 @@ use Rattle.ft_layout.specs.declared.slot.Slot.TheVariants.{Live}
 use Rattle.ft_layout.specs.declared.slot.Stored.{Stored}
 use Rattle.ft_layout.specs.Tables.{UsedEntry, is_live, hash_of, slot_with, entry_word}
 use Rattle.ft_layout.specs.Words.{IsEntry}
-use Rattle.ft_iter.specs.Seeking.{Seeks, SaysPair, GivesPair, used_of}
+use Rattle.ft_iter.specs.Seeking.{Seeks, SaysPair, GivesPair}
+use Rattle.ft_keys.specs.TableChanges.{entry_of_pair}
 
 some-same : {A : Type 0} (x y : A) → Some x ≡ Some y → x ≡ y
 some-same x y e = cc
@@ -30,8 +31,8 @@ found-passes f g (y ∷ ys) x is = by (g y) refl (λ more. found-passes f g ys x
 
 -- the pair of an entry that is there
 of-entry : (word : ℕ → ℕ) (hash : ℕ) (k : Key) (serial : ℕ) (stored : Option Stored) (given : Option Pair) → IsEntry word (slot_with hash k serial stored) → is_live (record { key = k; serial = serial; stored = stored }) ≡ true
-    → ((pair : Pair) → IsEntry word (Live pair) ↔ (given ≡ Some pair)) → option_map used_of given ≡ Some (record { key = k; serial = serial; stored = stored })
-of-entry word hash k serial (Some value) given is live says = ap (option_map used_of) ((says (record { hash = hash; key = k; value = value; serial = serial })).0 is)
+    → ((pair : Pair) → IsEntry word (Live pair) ↔ (given ≡ Some pair)) → option_map entry_of_pair given ≡ Some (record { key = k; serial = serial; stored = stored })
+of-entry word hash k serial (Some value) given is live says = ap (option_map entry_of_pair) ((says (record { hash = hash; key = k; value = value; serial = serial })).0 is)
 of-entry word hash k serial None given is live says = absurd (true≢false (sym live))
 
 pub gives-pair : (mask : ℕ) (ws : List ℕ) (fill : ℕ) (last : Option ℕ) (place : ℕ) (given : Option Pair) → Seeks mask ws fill last (Some place) → SaysPair mask ws place given → GivesPair mask ws fill last given

@@ -1,9 +1,9 @@
 pub mod Probing
 pub mod Halving
-pub mod Following
+pub mod FollowingEntries
 pub mod Giving
-pub mod Nexts
+pub mod NextContents
 pub mod Moves
-pub mod Answering
-pub mod Steps
+pub mod CursorEntries
+pub mod NextReplies
 pub mod ListSteps

@@ -10,8 +10,8 @@ use Rattle.ft_model.specs.declared.data.Value.{Value}
 use Rattle.ft_model.specs.declared.data.Value.TheVariants as value
 use Rattle.ft_layout.specs.Containers.{IsListWords, StandsAs}
 use Rattle.ft_layout.proofs.Powers.{slots_range}
-use Rattle.ft_trace.specs.Words.{Picture, Stands}
-use Rattle.ft_trace.specs.Worlds.{ContainerState}
+use Rattle.ft_trace.specs.Pictures.{Picture, Stands}
+use Rattle.ft_trace.specs.ContainerStates.{ContainerState}
 use Rattle.ft_list.specs.Indexes.{item_named}
 
 past-end : {A : Type 0} (l : List A) (n : ℕ) → length l ≤ n → slice_get l n ≡ None

@@ -19,16 +19,16 @@ use Rattle.ft_model.specs.Answers.{moves, shows, cursor_step}
 use Rattle.ft_model.specs.Calls.{moved_cursor}
 use Rattle.ft_model.specs.Contents.{empty_dict, empty_set}
 use Rattle.ft_model.specs.Cursors.{CursorStep, dict_next, dict_walk, next_pair, list_next, list_walk, set_next, set_walk, next_element}
-use Rattle.ft_model.specs.Tables.{StoredWorld}
+use Rattle.ft_model.specs.TableUses.{StoredWorld}
 use Rattle.ft_model.specs.Worlds.{container_of, cursor_kind, dict_of, list_of, set_of, kind_of, length_of}
 use Rattle.ft_trace.specs.Acts.{has_lock}
 use Rattle.ft_trace.specs.Addresses.{containers_in}
 use Rattle.ft_trace.specs.Hands.{MovesCursor}
 use Rattle.ft_trace.specs.Holds.{known}
-use Rattle.ft_trace.specs.Worlds.{ContainerState}
+use Rattle.ft_trace.specs.ContainerStates.{ContainerState}
 use Rattle.ft_trace.specs.declared.View.{View}
-use Rattle.ft_bank.specs.Writes.{MayHave}
-use Rattle.ft_iter.specs.Cursors.{step_in, iter_call, iter_cursor, IsOver}
+use Rattle.ft_bank.specs.WriteSteps.{MayHave}
+use Rattle.ft_iter.specs.CursorCalls.{step_in, iter_call, iter_cursor, IsOver}
 
 -- what stands at the container's place is this, whatever stands for a place that isn't there
 abbrev pub Holds : List Content → ℕ → Content → Type 0

@@ -4,7 +4,7 @@ use Rattle.std.specs.Prelude.{Bool, true, false, ◌&&◌, not, if◌then◌else
 use Rattle.ft_layout.specs.Tables.{entry_word}
 use Rattle.ft_keys.specs.declared.words.Access.{Access}
 use Rattle.ft_keys.specs.declared.words.Access.TheVariants.{Entry}
-use Rattle.ft_keys.specs.Accesses.{Fits}
+use Rattle.ft_keys.specs.Accesses.{AreAnswered}
 use Rattle.ft_keys.proofs.Shown.{runs-append, loads-append, fits-append, loads-leave}
 use Rattle.ft_iter.specs.Seeking.{is_there, gone_load, gone_loads, Probed, FewHalvings, FewPassed, FewProbes}
 
@@ -45,7 +45,7 @@ module _ {S : Type 0} (gave : S → Access → S → Type 0) (mask : ℕ) where
     cost = cost one.calls two.calls one.cost two.cost;
     shown = λ words fits.
         let both = fits-append mask one.calls two.calls words fits in
-        (one.shown words both.0, two.shown words (subst (Fits mask two.calls) (loads-leave mask one.calls words one.loads) both.1));
+        (one.shown words both.0, two.shown words (subst (AreAnswered mask two.calls) (loads-leave mask one.calls words one.loads) both.1));
   }
 
 -- halvings, and the entries that are passed then

@@ -5,12 +5,13 @@ use Rattle.ft_model.specs.declared.content.Content.TheVariants as content
 use Rattle.ft_model.specs.Cursors.{next_pair, next_element}
 use Rattle.ft_layout.specs.declared.slot.Pair.{Pair}
 use Rattle.ft_layout.specs.Containers.{used_pair, used_element}
-use Rattle.ft_iter.specs.Seeking.{used_of}
+use Rattle.ft_keys.specs.TableChanges.{entry_of_pair}
 
 -- The pair of words says what the plain container has next: the pair or the element with the least serial greater than
 -- the last one given, or none. A list has no serials. (profile)
 abbrev pub IsNextOf : Content → Option ℕ → Option Pair → Type 0
-IsNextOf (content.Dict dict) last given = option_map used_of given ≡ option_map used_pair (next_pair dict.pairs last)
+IsNextOf (content.Dict dict) last given =
+    option_map entry_of_pair given ≡ option_map used_pair (next_pair dict.pairs last)
 IsNextOf (content.Set set) last given =
-    option_map used_of given ≡ option_map used_element (next_element set.elements last)
+    option_map entry_of_pair given ≡ option_map used_element (next_element set.elements last)
 IsNextOf (content.List items) last given = ⊥

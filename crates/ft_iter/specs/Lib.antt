@@ -1,4 +1,4 @@
 pub mod Seeking
 pub mod Following
 pub mod Moves
-pub mod Cursors
+pub mod CursorCalls

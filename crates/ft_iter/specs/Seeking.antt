@@ -9,8 +9,9 @@ use Rattle.ft_layout.specs.Words.{IsEntry}
 use Rattle.ft_keys.specs.declared.walk.Way.{Way}
 use Rattle.ft_keys.specs.declared.words.Access.{Access}
 use Rattle.ft_keys.specs.declared.words.Access.TheVariants.{Index, Entry, PutIndex, PutEntry, OldEntry}
-use Rattle.ft_keys.specs.Accesses.{Runs, AreLoads, Fits}
+use Rattle.ft_keys.specs.Accesses.{Runs, AreLoads, AreAnswered}
 use Rattle.ft_keys.specs.Ways.{IsTableOf}
+use Rattle.ft_keys.specs.TableChanges.{entry_of_pair}
 
 -- ---- loads
 
@@ -41,7 +42,7 @@ pub record Probed {S : Type 0} (gave : S → Access → S → Type 0) (mask : �
   pub loads : AreLoads calls
   pub steps : after ≡ before + length calls
   pub cost : few calls
-  pub shown : (words : List ℕ) → Fits mask calls words → fact words
+  pub shown : (words : List ℕ) → AreAnswered mask calls words → fact words
 
 -- at most as many as the number of entries has binary digits
 abbrev pub FewHalvings : ℕ → List Access → Type 0
@@ -93,13 +94,9 @@ abbrev pub SaysPair : ℕ → List ℕ → ℕ → Option Pair → Type 0
 SaysPair mask words place result =
     (pair : Pair) → IsEntry (entry_word mask words place) (Live pair) ↔ (result ≡ Some pair)
 
--- what a pair has among used entries
-abbrev pub used_of : Pair → UsedEntry
-used_of pair = record { key = pair.key; serial = pair.serial; stored = Some pair.value }
-
 -- of the live ones among the used entries of a table, this is the first whose serial is greater than the last one
 -- given; or none is (profile)
 abbrev pub GivesPair : ℕ → List ℕ → ℕ → Option ℕ → Option Pair → Type 0
 GivesPair mask words fill last given =
     (way : Way) (texts : List ℕ) (used : List UsedEntry) → IsTableOf way texts mask used words → length used ≡ fill
-    → find (λ entry. is_after last entry.serial) (filter is_live used) ≡ option_map used_of given
+    → find (λ entry. is_after last entry.serial) (filter is_live used) ≡ option_map entry_of_pair given

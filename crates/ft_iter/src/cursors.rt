@@ -9,18 +9,18 @@ ghost use Rattle.ft_trace.specs.declared.Act.TheVariants.{AnswerCursor, ReadCoun
 ghost use Rattle.ft_trace.specs.Acts.{has_lock, noted, seen_writes};
 ghost use Rattle.ft_trace.specs.Addresses.{containers_in};
 ghost use Rattle.ft_trace.specs.Holds.{held, known};
-ghost use Rattle.ft_trace.specs.Words.{Stands};
-ghost use Rattle.ft_trace.specs.Worlds.{kind_in};
+ghost use Rattle.ft_trace.specs.Pictures.{Stands};
+ghost use Rattle.ft_trace.specs.ContainerStates.{kind_in};
 ghost use Rattle.ft_bank.specs.Answered.{AnsweredCursor};
-ghost use Rattle.ft_bank.specs.Passes.{shape_of, view, cursor_of, IsPassOf};
+ghost use Rattle.ft_bank.specs.Passes.{shape_of, view, cursor_under, IsPassOf};
 ghost use Rattle.ft_bank.specs.Reads.{IsCursorShown};
-ghost use Rattle.ft_bank.specs.Sections.{stack_of};
+ghost use Rattle.ft_bank.specs.PassSections.{stack_of};
 ghost use Rattle.ft_bank.specs.Series.{DidAll};
-ghost use Rattle.ft_search.specs.Looks.{AreLooks};
+ghost use Rattle.ft_search.specs.KeyLooks.{AreLooks};
 ghost use Rattle.ft_section.specs.declared.answers.Objects.TheVariants.{One};
 ghost use Rattle.ft_section.specs.Ready.{MayTry};
 ghost use Rattle.ft_section.specs.Trying.{SectionsAfter};
-ghost use Rattle.ft_iter.specs.Cursors.{step_in, iter_call, iter_cursor, IsOver, IsMoveOf, KeepsOthers};
+ghost use Rattle.ft_iter.specs.CursorCalls.{step_in, iter_call, iter_cursor, IsOver, IsMoveOf, KeepsOtherCursors};
 ghost use Rattle.ft_iter.specs.Moves.{IsStep};
 
 use crate::walks::{USED, next_dict, next_list, next_set};
@@ -41,7 +41,7 @@ fn answer_moved(
     requires pass { IsPassOf bank.now pass.old }
     requires shown { (stamp : ℕ) → IsCursorShown (noted (ReadCounter stamp) (view pass.old)) call.now reply stamp number cursor.now }
     ensures pass { IsPassOf bank.now pass.new }
-    ensures did { DidAll (AnswerCursor call.now reply result.1.number number (cursor_of pass.old number) cursor.now
+    ensures did { DidAll (AnswerCursor call.now reply result.1.number number (cursor_under pass.old number) cursor.now
         ∷ ReadCounter result.1.number ∷ []) pass.old pass.new }
     ensures said { (result.0 ≡ reply) × (result.1.wrote ≡ false) }
     ensures seen { seen_writes (view pass.old) ≤ result.1.number }
@@ -97,7 +97,7 @@ fn next_locked(bank: &Bank, pass: &mut Pass, number: u32, cursor: &mut Cursor) -
     requires locked { has_lock (container_of cursor.old) (view pass.old).log ≡ true }
     requires stands { Stands (shape_of bank.now).texts (held (container_of cursor.old) (view pass.old)) (known (container_of cursor.old) (view pass.old)) }
     requires left { 0 < (view pass.old).left }
-    requires cursor { cursor_of pass.old number ≡ Some cursor.old }
+    requires cursor { cursor_under pass.old number ≡ Some cursor.old }
     ensures pass { IsPassOf bank.now pass.new }
     ensures sections { stack_of pass.new ≡ stack_of pass.old }
     ensures wrote { result.1.wrote ≡ false }
@@ -124,11 +124,11 @@ pub fn try_next(bank: &Bank, pass: &mut Pass, number: u32, cursor: &mut Cursor) 
     requires container { container_of cursor.old < containers_in (shape_of bank.now) }
     requires kind { kind_in (shape_of bank.now).kinds (container_of cursor.old) ≡ cursor_kind cursor.old }
     requires left { 0 < (view pass.old).left }
-    requires cursor { cursor_of pass.old number ≡ Some cursor.old }
+    requires cursor { cursor_under pass.old number ≡ Some cursor.old }
     ensures may { MayTry bank.now pass.new (One (container_of cursor.old)) }
-    ensures cursor { cursor_of pass.new number ≡ Some cursor.new }
+    ensures cursor { cursor_under pass.new number ≡ Some cursor.new }
     ensures moved { IsMoveOf (cursor_kind cursor.old) (container_of cursor.old) (call.Next number) number (Some cursor.old) (view pass.old) (view pass.new) result (Some cursor.new) }
-    ensures others { KeepsOthers number (view pass.old) (view pass.new) }
+    ensures others { KeepsOtherCursors number (view pass.old) (view pass.new) }
     ensures sections { SectionsAfter bank.now (One (container_of cursor.old)) pass.old pass.new result }
 {
     let container = cursor.container();
@@ -238,7 +238,7 @@ pub fn try_iter(
     requires left { 0 < (view pass.old).left }
     ensures may { MayTry bank.now pass.new (One o) }
     ensures moved { IsMoveOf kind o (iter_call kind o number) number slot.old (view pass.old) (view pass.new) result slot.new }
-    ensures others { KeepsOthers number (view pass.old) (view pass.new) }
+    ensures others { KeepsOtherCursors number (view pass.old) (view pass.new) }
     ensures sections { SectionsAfter bank.now (One o) pass.old pass.new result }
 {
     match take_for(bank, pass, Objects::One(o)) {

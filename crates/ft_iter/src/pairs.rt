@@ -5,7 +5,7 @@ ghost use Rattle.ft_layout.specs.declared.slot.Slot.TheVariants.{Live};
 ghost use Rattle.ft_layout.specs.Tables.{dict_room};
 ghost use Rattle.ft_layout.specs.Words.{IsEntry};
 ghost use Rattle.ft_keys.specs.declared.words.Access.{Access};
-ghost use Rattle.ft_keys.specs.Accesses.{Runs, AreLoads, Fits};
+ghost use Rattle.ft_keys.specs.Accesses.{Runs, AreLoads, AreAnswered};
 ghost use Rattle.ft_iter.specs.Seeking.{SaysPair, GivesPair};
 
 use crate::seeking::seek;
@@ -40,7 +40,7 @@ fn read_pair<W: Words>(words: &mut W, place: u64) -> Option<Pair>
     requires place { place < dict_room (W.mask words.old) }
     ensures can { W.can words.new × (W.may_put words.old → W.may_put words.new) × (W.mask words.new ≡ W.mask words.old) }
     ensures says { (calls : List Access) × Runs W.gave words.old calls words.new × AreLoads calls
-        × ((ws : List ℕ) → Fits (W.mask words.old) calls ws → SaysPair (W.mask words.old) ws place result) }
+        × ((ws : List ℕ) → AreAnswered (W.mask words.old) calls ws → SaysPair (W.mask words.old) ws place result) }
 {
     let hash = words.entry(place, HASH);
     let kind = words.entry(place, KEY_KIND);
@@ -63,7 +63,7 @@ pub(crate) fn seek_pair<W: Words, L: Ledger>(
     requires fill { fill ≤ dict_room (W.mask words.old) }
     ensures can { W.can words.new × (W.may_put words.old → W.may_put words.new) × (W.mask words.new ≡ W.mask words.old) }
     ensures gives { (calls : List Access) × Runs W.gave words.old calls words.new × AreLoads calls
-        × ((ws : List ℕ) → Fits (W.mask words.old) calls ws → GivesPair (W.mask words.old) ws fill after result) }
+        × ((ws : List ℕ) → AreAnswered (W.mask words.old) calls ws → GivesPair (W.mask words.old) ws fill after result) }
 {
     match seek(words, fill, after, steps) {
         Some(place) => read_pair(words, place),

@@ -14,13 +14,13 @@ ghost use Rattle.ft_trace.specs.declared.Act.{Act};
 ghost use Rattle.ft_trace.specs.Acts.{has_lock};
 ghost use Rattle.ft_trace.specs.Addresses.{containers_in};
 ghost use Rattle.ft_trace.specs.Holds.{held, known};
-ghost use Rattle.ft_trace.specs.Words.{Stands};
-ghost use Rattle.ft_trace.specs.Worlds.{kind_in};
+ghost use Rattle.ft_trace.specs.Pictures.{Stands};
+ghost use Rattle.ft_trace.specs.ContainerStates.{kind_in};
 ghost use Rattle.ft_bank.specs.Passes.{shape_of, view, IsPassOf};
 ghost use Rattle.ft_bank.specs.Series.{DidAll};
-ghost use Rattle.ft_search.specs.Looks.{AreLooks};
-ghost use Rattle.ft_iter.specs.Seeking.{used_of};
+ghost use Rattle.ft_search.specs.KeyLooks.{AreLooks};
 ghost use Rattle.ft_iter.specs.Moves.{IsStep};
+ghost use Rattle.ft_keys.specs.TableChanges.{entry_of_pair};
 
 use crate::held::next_of;
 use ft_bank::{Bank, Pass};
@@ -33,7 +33,7 @@ pub(crate) const USED: u64 = block_word::USED - block_word::ROOT;
 
 /// Gives a pair of a dict that has the size that it had.
 fn give_pair(pair: Pair, container: u32, size: u64, expected: u64, last: Option<u64>) -> Advanced
-    ensures { (p : DictPair) → used_of pair ≡ used_pair p → IsStep result (dict_walk (Some p) container size expected last) }
+    ensures { (p : DictPair) → entry_of_pair pair ≡ used_pair p → IsStep result (dict_walk (Some p) container size expected last) }
 {
     if expected == 0 {
         return Advanced {
@@ -152,7 +152,7 @@ pub(crate) fn next_dict(
 
 /// Gives an element of a set that has the size that it had.
 fn give_element(pair: Pair, container: u32, size: u64) -> Advanced
-    ensures { (e : Element) → (last : Option ℕ) → used_of pair ≡ used_element e → IsStep result (set_walk (Some e) container size last) }
+    ensures { (e : Element) → (last : Option ℕ) → entry_of_pair pair ≡ used_element e → IsStep result (set_walk (Some e) container size last) }
 {
     Advanced {
         reply: Reply::Value(pair.key.into_value()),

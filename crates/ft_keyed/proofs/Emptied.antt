@@ -12,7 +12,7 @@ use Rattle.ft_model.specs.declared.content.Element.{Element}
 use Rattle.ft_model.specs.declared.reply.Reply.TheVariants as reply
 use Rattle.ft_model.specs.declared.script.Kind.{Kind}
 use Rattle.ft_model.specs.Contents.{DictContent, SetContent}
-use Rattle.ft_model.specs.Tables.{StoredWorld, TableUse, after_stored, no_table}
+use Rattle.ft_model.specs.TableUses.{StoredWorld, TableUse, after_stored, no_table}
 use Rattle.ft_model.specs.Worlds.{kind_of, length_of, serial_of}
 use Rattle.ft_layout.specs.Containers.{IsBlock, IsDictWords, IsRoot, IsSetWords, StandsAs, used_element, used_pair}
 use Rattle.ft_layout.specs.Tables.{UsedEntry, is_live}
@@ -25,19 +25,19 @@ use Rattle.ft_trace.specs.Acts.{has_lock, has_emptied, is_writing, owes, noted, 
 use Rattle.ft_trace.specs.Addresses.{containers_in, class_of}
 use Rattle.ft_trace.specs.Holds.{held, known}
 use Rattle.ft_trace.specs.Kinds.{ClearAs, IsKeyed, rows, version_at}
-use Rattle.ft_trace.specs.Openings.{Shut}
+use Rattle.ft_trace.specs.OddVersions.{Shut}
 use Rattle.ft_trace.specs.Traces.{Possible}
-use Rattle.ft_trace.specs.Words.{Picture, root_in, Stands}
-use Rattle.ft_trace.specs.Worlds.{ContainerState, changes, state_at, kind_in, may_empty, reply_in}
+use Rattle.ft_trace.specs.Pictures.{Picture, root_in, Stands}
+use Rattle.ft_trace.specs.ContainerStates.{ContainerState, changes, state_at, kind_in, may_empty, reply_in}
 use Rattle.ft_trace.proofs.Cases.{hit}
 use Rattle.ft_trace.proofs.Clearing.{held_shut}
 use Rattle.ft_bank.specs.declared.table.Table.{Table}
-use Rattle.ft_bank.specs.Tables.{name_of, root_for}
+use Rattle.ft_bank.specs.TableNames.{name_of, root_for}
 use Rattle.ft_bank.specs.Whole.{OnlyPut, Wrote}
-use Rattle.ft_bank.specs.Writes.{Committed, IsShut, KeepsUnwritten, MayCommit, MayHave, MayPutRoot, with_block, with_root}
-use Rattle.ft_bank.proofs.Whole.{put_same, work_knows, write_ends}
+use Rattle.ft_bank.specs.WriteSteps.{Committed, IsShut, KeepsUnwritten, MayCommit, MayHave, MayPutRoot, with_block, with_root}
+use Rattle.ft_bank.proofs.KnownAfterWrites.{put_same, work_knows, write_ends}
 use Rattle.ft_growth.proofs.Rooting.{rooted_write}
-use Rattle.ft_search.specs.Writing.{HasTable, Leaves, MayWriteEntries}
+use Rattle.ft_search.specs.OneEntryWrites.{HasTable, Leaves, MayWriteEntries}
 use Rattle.ft_search.proofs.Calling.{plain_replied}
 use Rattle.ft_search.proofs.Changing.{kind_is}
 use Rattle.ft_keyed.specs.Clearing.{cleared, cleared_kept}

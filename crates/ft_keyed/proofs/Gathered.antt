@@ -22,12 +22,12 @@ use Rattle.ft_model.specs.Contents.{DictContent, IsDict, IsSet, SetContent}
 use Rattle.ft_model.specs.Worlds.{dict_of, kind_of, length_of, set_of}
 use Rattle.ft_trace.specs.declared.Shape.{Shape}
 use Rattle.ft_trace.specs.Addresses.{class_of, slots}
-use Rattle.ft_trace.specs.Words.{Picture, Stands, root_in}
-use Rattle.ft_trace.specs.Worlds.{ContainerState}
+use Rattle.ft_trace.specs.Pictures.{Picture, Stands, root_in}
+use Rattle.ft_trace.specs.ContainerStates.{ContainerState}
 use Rattle.ft_trace.proofs.Known.{class_known}
-use Rattle.ft_trace.proofs.Nothing.{no_table_stands}
-use Rattle.ft_search.proofs.Places.{slots_of_class}
-use Rattle.ft_keyed.specs.Contents.{IsOfDict, IsOfSet}
+use Rattle.ft_trace.proofs.NoTable.{no_table_stands}
+use Rattle.ft_search.proofs.WordPlaces.{slots_of_class}
+use Rattle.ft_keyed.specs.ShownContents.{IsOfDict, IsOfSet}
 use Rattle.ft_keyed.specs.TableEntries.{OfUsed, live_key, plain_pair, plain_with}
 
 -- ---- one entry more

@@ -1,11 +1,9 @@
 mod Emptied
 mod Loaded
-mod Rows
+mod EntryRows
 mod Sought
 pub mod Scanning
 pub mod Gathered
 pub mod Paired
 mod Meeting
-pub mod Windowed
-pub mod Knowing
-pub mod Copied
+pub mod KnownContents

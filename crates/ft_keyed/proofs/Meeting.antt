@@ -10,14 +10,14 @@ use Rattle.ft_model.specs.Contents.{DictContent, SetContent, dict_get, has_eleme
 use Rattle.ft_model.specs.Keys.{is_value}
 use Rattle.ft_model.specs.Worlds.{dict_of, set_of}
 use Rattle.ft_trace.specs.declared.Shape.{Shape}
-use Rattle.ft_trace.specs.Words.{Picture}
+use Rattle.ft_trace.specs.Pictures.{Picture}
 use Rattle.ft_bank.specs.declared.pass.Pass.{Pass}
 use Rattle.ft_list.specs.Indexes.{Reads}
 use Rattle.ft_list.specs.Pairs.{ReadsBoth}
 use Rattle.ft_list.proofs.Both.{both_map, both_then, of_first, of_second}
-use Rattle.ft_keyed.specs.Comparing.{DiffersAt, IsValueIn, MeetsAt, WithDict, WithSet, is_met, lacks}
+use Rattle.ft_keyed.specs.Comparing.{DiffersAt, IsValueIn, MeetsAt, WithDict, WithSet, is_met, lacks_value}
 use Rattle.ft_keyed.specs.TableEntries.{HashIs, IsKeyAt, IsPlainAt, OfUsed}
-use Rattle.ft_keyed.specs.Finding.{IsFoundIn}
+use Rattle.ft_keyed.specs.FoundKeys.{IsFoundIn}
 use Rattle.ft_keyed.proofs.Paired.{at_set, key_same, pair_same}
 
 module _ (k : Shape) (o m t : ℕ) where
@@ -65,7 +65,7 @@ module _ (k : Shape) (o m t : ℕ) where
     pub differs_none : (p q : Pass) → Reads k o (IsPlainAt k t place None) p q → ReadsBoth k o m (WithDict k t (DiffersAt place false)) p q
     differs_none p q a =
         both_map k o m (λ x y. IsPlainAt k t place None x) (WithDict k t (DiffersAt place false)) p q (of_first k o m (IsPlainAt k t place None) p q a)
-        (λ x y at names way used table kept is stands any low. ap (λ (z : Option (Key × Value)). option_map_or (lacks (dict_of kept.content)) z false) (at.0 names way used table any low))
+        (λ x y at names way used table kept is stands any low. ap (λ (z : Option (Key × Value)). option_map_or (lacks_value (dict_of kept.content)) z false) (at.0 names way used table any low))
 
     pub differs_some : (key : Key) (value : Value) (hash : ℕ) (found : Option Value) (result : Bool) (p q r z : Pass) → result ≡ not (option_map_or (λ (v : Value). is_value v value) found false) → Reads k o (IsPlainAt k t place (Some (key, value))) p q → Reads k o (OfUsed k t (HashIs k.texts place hash)) q r → Reads k m (IsValueIn k hash key found) r z
         → ReadsBoth k o m (WithDict k t (DiffersAt place result)) p z
@@ -80,4 +80,4 @@ module _ (k : Shape) (o m t : ℕ) where
         let got = all.1.1 hash_is kept is stands in
         result_is
         ∙ (ap (λ (w : Option Value). not (option_map_or (λ (v : Value). is_value v value) w false)) (sym got)
-        ∙ ap (λ (w : Option (Key × Value)). option_map_or (lacks (dict_of kept.content)) w false) here))
+        ∙ ap (λ (w : Option (Key × Value)). option_map_or (lacks_value (dict_of kept.content)) w false) here))

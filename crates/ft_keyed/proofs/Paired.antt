@@ -23,16 +23,16 @@ use Rattle.ft_model.specs.Worlds.{dict_of, kind_of, set_of}
 use Rattle.ft_model.proofs.DictLaws.{absent_in, distinct_tail}
 use Rattle.ft_model.proofs.KeyLemmas.{same_key-true}
 use Rattle.ft_trace.specs.declared.Shape.{Shape}
-use Rattle.ft_trace.specs.Words.{Picture, Stands}
-use Rattle.ft_trace.specs.Worlds.{ContainerState}
+use Rattle.ft_trace.specs.Pictures.{Picture, Stands}
+use Rattle.ft_trace.specs.ContainerStates.{ContainerState}
 use Rattle.ft_bank.specs.declared.pass.Pass.{Pass}
 use Rattle.ft_list.specs.Pairs.{ReadsBoth}
 use Rattle.ft_list.proofs.Indexes.{reads_none}
-use Rattle.ft_keyed.specs.Comparing.{lacks}
+use Rattle.ft_keyed.specs.Comparing.{lacks_value}
 use Rattle.ft_keyed.specs.TableEntries.{live_key, plain_pair, plain_with}
-use Rattle.ft_keyed.specs.Finding.{IsAtKey}
+use Rattle.ft_keyed.specs.FoundKeys.{IsAtKey}
 use Rattle.ft_keyed.proofs.Gathered.{gathered_more}
-use Rattle.ft_keyed.proofs.Rows.{pair_in}
+use Rattle.ft_keyed.proofs.EntryRows.{pair_in}
 
 -- ---- whether some is so
 
@@ -144,12 +144,12 @@ any_same : {X : Type 0} (f g : X → Bool) (xs : List X) → ((x : X) → f x �
 any_same f g [] same = refl
 any_same f g (x ∷ xs) same = λ i. same x i || any_same f g xs same i
 
-pub none_lacks : (pairs : List DictPair) (other : DictContent) → AreDistinct other.pairs → list_all (has_pair other.pairs) pairs ≡ not (list_any (lacks other) (items_of pairs))
+pub none_lacks : (pairs : List DictPair) (other : DictContent) → AreDistinct other.pairs → list_all (has_pair other.pairs) pairs ≡ not (list_any (lacks_value other) (items_of pairs))
 none_lacks pairs other distinct =
     all_not (has_pair other.pairs) pairs
     ∙ ap not
-    (any_same (λ p. not (has_pair other.pairs p)) (λ (p : DictPair). lacks other (p.key, p.value)) pairs (λ p. ap not (has_is other.pairs distinct p))
-    ∙ sym (any_map (lacks other) (λ (p : DictPair). (p.key, p.value)) pairs))
+    (any_same (λ p. not (has_pair other.pairs p)) (λ (p : DictPair). lacks_value other (p.key, p.value)) pairs (λ p. ap not (has_is other.pairs distinct p))
+    ∙ sym (any_map (lacks_value other) (λ (p : DictPair). (p.key, p.value)) pairs))
 
 pub dict_is : (k : Shape) (x : Picture) (kept : ContainerState) → kind_of kept.content ≡ kind.Dict → Stands k.texts x kept → IsDict (dict_of kept.content).next (dict_of kept.content).pairs
 dict_is k x kept is stands = by kept.content is stands

@@ -24,17 +24,17 @@ use Rattle.ft_model.specs.declared.data.Value.{Value}
 use Rattle.ft_model.specs.Contents.{DictContent, IsSet, SetContent, dict_get, has_element, has_key, is_at, set_add}
 use Rattle.ft_model.specs.Worlds.{kind_of}
 use Rattle.ft_trace.specs.declared.Shape.{Shape}
-use Rattle.ft_trace.specs.Words.{Picture, Stands, root_in}
-use Rattle.ft_trace.specs.Worlds.{ContainerState}
+use Rattle.ft_trace.specs.Pictures.{Picture, Stands, root_in}
+use Rattle.ft_trace.specs.ContainerStates.{ContainerState}
 use Rattle.ft_trace.proofs.DictWrites.{LiveEntriesArePairs}
 use Rattle.ft_trace.proofs.Known.{class_known}
 use Rattle.ft_bank.specs.declared.table.Table.{Table}
-use Rattle.ft_bank.specs.Tables.{IsTableIn, name_of}
-use Rattle.ft_bank.proofs.Tables.{class_is}
+use Rattle.ft_bank.specs.TableNames.{IsTableIn, name_of}
+use Rattle.ft_bank.proofs.TableAddresses.{class_is}
 use Rattle.ft_search.specs.Held.{ReadsEntry}
 use Rattle.ft_search.specs.Rounds.{kind_by}
-use Rattle.ft_search.proofs.Holding.{MissingElements, MissingKeys, dict_bare, set_bare}
-use Rattle.ft_keyed.specs.Finding.{FindsIn, IsAtKey, SearchesTable}
+use Rattle.ft_search.proofs.FoundInContents.{MissingElements, MissingKeys, dict_bare, set_bare}
+use Rattle.ft_keyed.specs.FoundKeys.{FindsIn, IsAtKey, SearchesTable}
 
 -- a key that no pair has is found at none
 pub not_found : (pairs : List DictPair) (key : Key) → has_key pairs key ≡ false → dict_get pairs key ≡ None

@@ -8,8 +8,8 @@ use Rattle.ft_model.specs.declared.data.Value.{Value}
 use Rattle.ft_model.specs.Contents.{DictContent, SetContent, dict_get, has_element}
 use Rattle.ft_model.specs.Keys.{is_value}
 use Rattle.ft_trace.specs.declared.Shape.{Shape}
-use Rattle.ft_trace.specs.Words.{Picture}
-use Rattle.ft_keyed.specs.Contents.{IsOfDict, IsOfSet}
+use Rattle.ft_trace.specs.Pictures.{Picture}
+use Rattle.ft_keyed.specs.ShownContents.{IsOfDict, IsOfSet}
 use Rattle.ft_keyed.specs.TableEntries.{OfUsed, live_key, plain_pair}
 
 -- where these words stand for two dicts, or for two sets, this is so of them
@@ -45,10 +45,10 @@ abbrev pub IsValueIn : Shape → ℕ → Key → Option Value → Picture → Ty
 IsValueIn k hash key found x = hash ≡ hash_of k.texts key → IsOfDict k (λ dict. dict_get dict.pairs key ≡ found) x
 
 -- the dict hasn't this value at this key (Python manual, Mapping Types)
-abbrev pub lacks : DictContent → Key × Value → Bool
-lacks dict pair = not (option_map_or (λ value. is_value value pair.1) (dict_get dict.pairs pair.0) false)
+abbrev pub lacks_value : DictContent → Key × Value → Bool
+lacks_value dict pair = not (option_map_or (λ value. is_value value pair.1) (dict_get dict.pairs pair.0) false)
 
 abbrev pub DiffersAt : ℕ → Bool → List UsedEntry → DictContent → Type 0
 DiffersAt place found used dict =
     (any : UsedEntry) → place < length used
-    → found ≡ option_map_or (lacks dict) (plain_pair (slice_index_or used place any)) false
+    → found ≡ option_map_or (lacks_value dict) (plain_pair (slice_index_or used place any)) false

@@ -1,8 +1,6 @@
 pub mod Clearing
 pub mod Comparing
-pub mod Contents
-pub mod Copies
+pub mod ShownContents
 pub mod TableEntries
-pub mod Finding
+pub mod FoundKeys
 pub mod Places
-pub mod Windows

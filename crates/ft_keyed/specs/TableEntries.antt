@@ -12,8 +12,8 @@ use Rattle.ft_model.specs.declared.data.Key.{Key}
 use Rattle.ft_model.specs.declared.data.Value.{Value}
 use Rattle.ft_trace.specs.declared.Shape.{Shape}
 use Rattle.ft_trace.specs.Addresses.{class_of, slots}
-use Rattle.ft_trace.specs.Carefuls.{IsLive}
-use Rattle.ft_trace.specs.Words.{Picture, root_in}
+use Rattle.ft_trace.specs.Carefuls.{HasLiveKey}
+use Rattle.ft_trace.specs.Pictures.{Picture, root_in}
 
 -- the key of a used entry, where it is there; with its value, as pairs of a dict have them
 abbrev pub live_key : UsedEntry → Option Key
@@ -47,14 +47,14 @@ PlainIs place found used = (any : UsedEntry) → place < length used → found �
 abbrev pub IsKeyAt : Shape → ℕ → ℕ → Option Key → Picture → Type 0
 IsKeyAt k t place found x =
     OfUsed k t (KeyIs place found) x
-    × (root_in x ≡ suc t → (key : Key) → found ≡ Some key → IsLive (slots (class_of t)) x.table place key)
+    × (root_in x ≡ suc t → (key : Key) → found ≡ Some key → HasLiveKey (slots (class_of t)) x.table place key)
 
 -- and this is its key and its value
 abbrev pub IsPlainAt : Shape → ℕ → ℕ → Option (Key × Value) → Picture → Type 0
 IsPlainAt k t place found x =
     OfUsed k t (PlainIs place found) x
     × (root_in x ≡ suc t → (key : Key) (value : Value) → found ≡ Some (key, value)
-    → IsLive (slots (class_of t)) x.table place key)
+    → HasLiveKey (slots (class_of t)) x.table place key)
 
 -- these are the used entries of what a dict or a set has
 abbrev pub AreEntriesOf : List UsedEntry → Content → Type 0

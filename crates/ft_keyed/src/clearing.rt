@@ -5,14 +5,15 @@ ghost use Rattle.ft_model.specs.declared.reply.Reply.TheVariants as reply;
 ghost use Rattle.ft_trace.specs.Acts.{flight, is_writing, used};
 ghost use Rattle.ft_trace.specs.Addresses.{containers_in};
 ghost use Rattle.ft_trace.specs.Holds.{held, known};
-ghost use Rattle.ft_trace.specs.Words.{root_in};
-ghost use Rattle.ft_trace.specs.Worlds.{may_empty};
+ghost use Rattle.ft_trace.specs.Pictures.{root_in};
+ghost use Rattle.ft_trace.specs.ContainerStates.{may_empty};
 ghost use Rattle.ft_bank.specs.Passes.{shape_of, view, IsPassOf};
-ghost use Rattle.ft_bank.specs.Sections.{stack_of};
+ghost use Rattle.ft_bank.specs.PassSections.{stack_of};
 ghost use Rattle.ft_bank.specs.Whole.{OnlyLoaded, OnlyPut, Wrote};
-ghost use Rattle.ft_bank.specs.Writes.{with_block};
-ghost use Rattle.ft_search.specs.Writing.{HasTable, Leaves, MayWriteEntries};
-ghost use Rattle.ft_keyed.specs.Clearing.{IsCleared, IsRootOf, cleared_kept};
+ghost use Rattle.ft_bank.specs.WriteSteps.{with_block};
+ghost use Rattle.ft_search.specs.OneEntryWrites.{HasTable, Leaves, MayWriteEntries};
+ghost use Rattle.ft_list.specs.Clears.{IsCleared};
+ghost use Rattle.ft_keyed.specs.Clearing.{HasRootOf, cleared_kept};
 
 use ft_bank::{Bank, Pass, Table};
 use ft_growth::retire_old;
@@ -35,7 +36,7 @@ pub fn root_table(bank: &Bank, pass: &mut Pass, o: Object) -> Option<Table>
     ensures stack { stack_of pass.new ≡ stack_of pass.old }
     ensures only { OnlyLoaded (view pass.old) (view pass.new) }
     ensures may { MayWriteEntries (shape_of bank.now) o (view pass.new) }
-    ensures root { IsRootOf (shape_of bank.now) o result (view pass.new) }
+    ensures root { HasRootOf (shape_of bank.now) o result (view pass.new) }
 {
     let root = bank.read_block(pass, o, 0);
     table_named(root)
@@ -98,7 +99,7 @@ fn clear_root(bank: &Bank, pass: &mut Pass, o: Object, old: Option<Table>, calle
     requires pass { IsPassOf bank.now pass.old }
     requires may { MayWriteEntries (shape_of bank.now) o (view pass.old) }
     requires used { used (view pass.old).log ≡ false }
-    requires root { IsRootOf (shape_of bank.now) o old (view pass.old) }
+    requires root { HasRootOf (shape_of bank.now) o old (view pass.old) }
     requires leaves { Leaves o called.now reply.Done (cleared_kept (known o (view pass.old))) (view pass.old) }
     requires empties { may_empty called.now ≡ true }
     ensures pass { IsPassOf bank.now pass.new }

@@ -9,12 +9,12 @@ ghost use Rattle.ft_model.specs.Keys.{is_value};
 ghost use Rattle.ft_model.specs.Contents.{has_pair, is_disjoint, is_subset, same_elements, same_pairs};
 ghost use Rattle.ft_trace.specs.Addresses.{containers_in};
 ghost use Rattle.ft_bank.specs.Passes.{shape_of, view, IsPassOf};
-ghost use Rattle.ft_bank.specs.Sections.{stack_of};
-ghost use Rattle.ft_bank.specs.Tables.{name_of, IsTableIn};
+ghost use Rattle.ft_bank.specs.PassSections.{stack_of};
+ghost use Rattle.ft_bank.specs.TableNames.{name_of, IsTableIn};
 ghost use Rattle.ft_list.specs.Indexes.{Reads};
 ghost use Rattle.ft_list.specs.Pairs.{ReadsBoth};
 ghost use Rattle.ft_keyed.specs.Comparing.{AreOfDicts, AreOfSets, DiffersAt, IsValueIn, MeetsAt};
-ghost use Rattle.ft_keyed.specs.Comparing.{WithDict, WithSet, is_met, lacks};
+ghost use Rattle.ft_keyed.specs.Comparing.{WithDict, WithSet, is_met, lacks_value};
 ghost use Rattle.ft_keyed.specs.TableEntries.{live_key, plain_pair};
 
 use crate::clearing::FILL;
@@ -219,7 +219,7 @@ fn some_differs(
     ensures pass { IsPassOf bank.now pass.new }
     ensures stack { stack_of pass.new ≡ stack_of pass.old }
     ensures reads { ReadsBoth (shape_of bank.now) d other (WithDict (shape_of bank.now) (name_of table) (λ used others.
-        fill ≡ length used → result ≡ list_any (lacks others) (filter_map plain_pair used))) pass.old pass.new }
+        fill ≡ length used → result ≡ list_any (lacks_value others) (filter_map plain_pair used))) pass.old pass.new }
 {
     for place in 0..fill {
         if differs_at(bank, pass, d, table, place, other) {

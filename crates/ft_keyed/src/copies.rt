@@ -5,11 +5,11 @@ ghost use Rattle.std.specs.List.{cons_option, filter_map};
 ghost use Rattle.ft_model.specs.Answers.{items_of};
 ghost use Rattle.ft_trace.specs.Addresses.{containers_in};
 ghost use Rattle.ft_bank.specs.Passes.{shape_of, view, IsPassOf};
-ghost use Rattle.ft_bank.specs.Sections.{stack_of};
-ghost use Rattle.ft_bank.specs.Tables.{name_of, IsTableIn};
+ghost use Rattle.ft_bank.specs.PassSections.{stack_of};
+ghost use Rattle.ft_bank.specs.TableNames.{name_of, IsTableIn};
 ghost use Rattle.ft_list.specs.Indexes.{Reads};
-ghost use Rattle.ft_keyed.specs.Contents.{IsOfDict, IsOfSet};
-ghost use Rattle.ft_keyed.specs.Copies.{AreCopied};
+ghost use Rattle.ft_keyed.specs.ShownContents.{IsOfDict, IsOfSet};
+ghost use Rattle.ft_list.specs.Copies.{AreCopied};
 ghost use Rattle.ft_keyed.specs.TableEntries.{OfUsed, live_key, plain_pair};
 
 use crate::clearing::FILL;

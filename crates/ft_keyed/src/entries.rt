@@ -7,10 +7,10 @@ ghost use Rattle.ft_layout.specs.Words.{FitsKey, IsKey};
 ghost use Rattle.ft_model.specs.declared.data.Key.{Key};
 ghost use Rattle.ft_model.specs.declared.data.Value.{Value};
 ghost use Rattle.ft_trace.specs.Addresses.{class_of, places, slots};
-ghost use Rattle.ft_trace.specs.Words.{entry_of, root_in};
+ghost use Rattle.ft_trace.specs.Pictures.{entry_field, root_in};
 ghost use Rattle.ft_bank.specs.Passes.{shape_of, view, IsPassOf};
-ghost use Rattle.ft_bank.specs.Sections.{stack_of};
-ghost use Rattle.ft_bank.specs.Tables.{name_of, IsTableIn};
+ghost use Rattle.ft_bank.specs.PassSections.{stack_of};
+ghost use Rattle.ft_bank.specs.TableNames.{name_of, IsTableIn};
 ghost use Rattle.ft_list.specs.Indexes.{Reads};
 ghost use Rattle.ft_keyed.specs.TableEntries.{HashIs, IsKeyAt, IsPlainAt, OfUsed};
 
@@ -53,7 +53,7 @@ fn word_of(bank: &Bank, pass: &mut Pass, o: Object, table: Table, place: u64, wo
     ensures pass { IsPassOf bank.now pass.new }
     ensures stack { stack_of pass.new ≡ stack_of pass.old }
     ensures reads { Reads (shape_of bank.now) o (λ x. root_in x ≡ suc (name_of table) →
-        result ≡ entry_of (slots (class_of (name_of table))) x.table place word) pass.old pass.new }
+        result ≡ entry_field (slots (class_of (name_of table))) x.table place word) pass.old pass.new }
 {
     let _ = o;
     let at = 8 * place + word + mask_of(table.class) + 1;

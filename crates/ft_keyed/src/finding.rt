@@ -3,16 +3,16 @@
 ghost use Rattle.std.specs.Prelude.{◌≡◌, ◌≢◌, ℕ, ◌<◌, List};
 ghost use Rattle.ft_keys.specs.declared.words.Access.{Access};
 ghost use Rattle.ft_keys.specs.declared.search.Found.TheVariants.{Was};
-ghost use Rattle.ft_keys.specs.Accesses.{AreLoads, Fits, Runs};
+ghost use Rattle.ft_keys.specs.Accesses.{AreLoads, AreAnswered, Runs};
 ghost use Rattle.ft_keys.specs.Searches.{IsWithin, Searched};
 ghost use Rattle.ft_trace.specs.Addresses.{containers_in};
 ghost use Rattle.ft_bank.specs.Passes.{shape_of, view, IsPassOf};
-ghost use Rattle.ft_bank.specs.Sections.{stack_of};
-ghost use Rattle.ft_bank.specs.Tables.{name_of, IsTableIn};
+ghost use Rattle.ft_bank.specs.PassSections.{stack_of};
+ghost use Rattle.ft_bank.specs.TableNames.{name_of, IsTableIn};
 ghost use Rattle.ft_search.specs.Held.{ReadsEntry};
-ghost use Rattle.ft_search.specs.Words.{CanLoad, Made, SamePlace};
+ghost use Rattle.ft_search.specs.TableWords.{CanLoad, MadeAccess, SamePlace};
 ghost use Rattle.ft_list.specs.Indexes.{Reads};
-ghost use Rattle.ft_keyed.specs.Finding.{IsFoundIn, SearchesTable};
+ghost use Rattle.ft_keyed.specs.FoundKeys.{IsFoundIn, SearchesTable};
 
 use ft_bank::{Bank, Pass, Table};
 use ft_keys::{Found, Steps, Walk, Way, Words, find_live};
@@ -34,8 +34,8 @@ fn seek<L: Ledger>(words: &mut TableWords, walk: &mut Walk, key: Key, blank: Bla
     ensures same { SamePlace words.old words.new }
     ensures within { IsWithin words.old.mask result }
     ensures live { (slot place : ℕ) → result ≢ Was slot place }
-    ensures ran { (calls : List Access) × Runs Made words.old calls words.new × AreLoads calls
-        × ((ws : List ℕ) → Fits words.old.mask calls ws →
+    ensures ran { (calls : List Access) × Runs MadeAccess words.old calls words.new × AreLoads calls
+        × ((ws : List ℕ) → AreAnswered words.old.mask calls ws →
         Searched words.old.mask ws key walk.old.left walk.new.left result) }
 {
     let mut steps: Steps<L> = Steps::new(blank);
@@ -48,8 +48,8 @@ fn value_found(words: &mut TableWords, found: Found) -> Option<(u64, u64)>
     requires within { IsWithin words.old.mask found }
     ensures can { CanLoad words.new }
     ensures same { SamePlace words.old words.new }
-    ensures ran { (calls : List Access) × Runs Made words.old calls words.new × AreLoads calls
-        × ((ws : List ℕ) → Fits words.old.mask calls ws → ReadsEntry words.old.mask ws found result) }
+    ensures ran { (calls : List Access) × Runs MadeAccess words.old calls words.new × AreLoads calls
+        × ((ws : List ℕ) → AreAnswered words.old.mask calls ws → ReadsEntry words.old.mask ws found result) }
 {
     match found {
         Found::At(_, place) => {

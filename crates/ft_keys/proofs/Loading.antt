@@ -8,11 +8,11 @@ use Rattle.ft_layout.specs.Tables.{dict_room, index_word, entry_word}
 use Rattle.ft_keys.specs.declared.words.Access.{Access}
 use Rattle.ft_keys.specs.declared.search.Found.{Found}
 use Rattle.ft_keys.specs.declared.search.Found.TheVariants.{At, Was, Free, Spent}
-use Rattle.ft_keys.specs.Accesses.{index_loads, AreLoads, Follows, Fits}
+use Rattle.ft_keys.specs.Accesses.{index_loads, AreLoads, Follows, AreAnswered}
 use Rattle.ft_keys.specs.Loads.{PassesSlot, TriesSlots, TriesOne, EndsWith, unpassed, last_loads, Loads, Searches}
 use Rattle.ft_keys.specs.Searches.{NamesKey, Passes, EndsAt, Searched, Shows}
 use Rattle.ft_keys.proofs.Shown.{loads-append, index-loads-append, follows-append, fits-append, loads-leave, shows-more, shows-both}
-use Rattle.ft_keys.proofs.Trying.{Passed, ended-after, passed-was}
+use Rattle.ft_keys.proofs.SlotTries.{Passed, ended-after, passed-was}
 use Rattle.ft_keys.proofs.Finding.{finds-rightly}
 
 -- ---- one slot that was passed
@@ -52,15 +52,15 @@ module _ (mask : ℕ) (key : Key) where
   passes-follows slot left loads (inr (inl (place, kind, low, a, b, is))) = subst (λ (l : List Access). Follows (slot ∷ left) l left) (sym is) refl
   passes-follows slot left loads (inr (inr (place, kind, payload, low, a, is))) = subst (λ (l : List Access). Follows (slot ∷ left) l left) (sym is) refl
 
-  passes-shown : (slot : ℕ) (loads : List Access) (words : List ℕ) → PassesSlot mask key slot loads → Fits mask loads words → Passes mask words key slot
+  passes-shown : (slot : ℕ) (loads : List Access) (words : List ℕ) → PassesSlot mask key slot loads → AreAnswered mask loads words → Passes mask words key slot
   passes-shown slot loads words (inl (word, high, is)) fits =
-      let so = subst (λ (l : List Access). Fits mask l words) is fits in
+      let so = subst (λ (l : List Access). AreAnswered mask l words) is fits in
       passes-word mask words key slot word (omega arith) so.1 (nowhere mask words key word high)
   passes-shown slot loads words (inr (inl (place, kind, low, a, b, is))) fits =
-      let so = subst (λ (l : List Access). Fits mask l words) is fits in
+      let so = subst (λ (l : List Access). AreAnswered mask l words) is fits in
       passes-word mask words key slot (suc place) (omega arith) so.0.1 (other-kind mask words key place kind a so.1)
   passes-shown slot loads words (inr (inr (place, kind, payload, low, a, is))) fits =
-      let so = subst (λ (l : List Access). Fits mask l words) is fits in
+      let so = subst (λ (l : List Access). AreAnswered mask l words) is fits in
       passes-word mask words key slot (suc place) (omega arith) so.0.0.1 (other-payload mask words key place payload a so.1)
 
   -- ---- slots that were passed, in their order
@@ -84,12 +84,12 @@ module _ (mask : ℕ) (key : Key) where
       subst (λ (l : List Access). Follows (slot ∷ slots ++ left) l left) (sym is)
       (follows-append (slot ∷ slots ++ left) (slots ++ left) left one later (passes-follows slot (slots ++ left) one passes) (tries-follows slots left later tries))
 
-  tries-shown : (slots : List ℕ) (loads : List Access) (words : List ℕ) → TriesSlots mask key slots loads → Fits mask loads words → All (Passes mask words key) slots
+  tries-shown : (slots : List ℕ) (loads : List Access) (words : List ℕ) → TriesSlots mask key slots loads → AreAnswered mask loads words → All (Passes mask words key) slots
   tries-shown [] loads words tries fits = All-nil (Passes mask words key)
   tries-shown (slot ∷ slots) loads words (one, later, passes, tries, is) fits =
-      let both = fits-append mask one later words (subst (λ (l : List Access). Fits mask l words) is fits) in
+      let both = fits-append mask one later words (subst (λ (l : List Access). AreAnswered mask l words) is fits) in
       let same = loads-leave mask one words (passes-are slot one passes) in
-      All-cons (Passes mask words key) slot slots (passes-shown slot one words passes both.0) (tries-shown slots later words tries (subst (Fits mask later) same both.1))
+      All-cons (Passes mask words key) slot slots (passes-shown slot one words passes both.0) (tries-shown slots later words tries (subst (AreAnswered mask later) same both.1))
 
   tries-push : (slots : List ℕ) (loads : List Access) (slot : ℕ) (one : List Access) → TriesSlots mask key slots loads → PassesSlot mask key slot one → TriesSlots mask key (slots ++ slot ∷ []) (one ++ loads)
   tries-push [] loads slot one tries passes = (one, [], passes, refl, ap (λ (l : List Access). one ++ l) tries ∙ append-nil one)
@@ -116,17 +116,17 @@ module _ (mask : ℕ) (key : Key) where
   ends-follows left (Free slot) loads ends = subst (λ (l : List Access). Follows left l left) (sym ends.2) (ends.0, refl, ends.1)
   ends-follows left Spent loads ends = subst (λ (l : List Access). Follows left l left) (sym ends.1) refl
 
-  ends-shown : (left : List ℕ) (found : Found) (loads : List Access) (words : List ℕ) → EndsWith mask key left found loads → Fits mask loads words → EndsAt mask words key (unpassed found left) left found
+  ends-shown : (left : List ℕ) (found : Found) (loads : List Access) (words : List ℕ) → EndsWith mask key left found loads → AreAnswered mask loads words → EndsAt mask words key (unpassed found left) left found
   ends-shown left (At slot place) loads words ends fits =
-      let so = subst (λ (l : List Access). Fits mask l words) ends.1 fits in
+      let so = subst (λ (l : List Access). AreAnswered mask l words) ends.1 fits in
       let here : index_word words slot ≡ place + 1 = sym so.0.0.1 ∙ omega arith in
       ([], refl, All-nil (Passes mask words key), here, (sym so.0.1, sym so.1))
   ends-shown left (Was slot place) loads words ends fits =
-      let so = subst (λ (l : List Access). Fits mask l words) ends.1 fits in
+      let so = subst (λ (l : List Access). AreAnswered mask l words) ends.1 fits in
       let here : index_word words slot ≡ place + 1 = sym so.0.0.1 ∙ omega arith in
       ([], refl, All-nil (Passes mask words key), here, (sym so.0.1, sym so.1))
   ends-shown left (Free slot) loads words ends fits =
-      let so = subst (λ (l : List Access). Fits mask l words) ends.2 fits in
+      let so = subst (λ (l : List Access). AreAnswered mask l words) ends.2 fits in
       ([], ends.0, refl, ends.1, All-nil (Passes mask words key), sym so.1)
   ends-shown left Spent loads words ends fits = (ends.0, subst (All (Passes mask words key)) (sym ends.0) (All-nil (Passes mask words key)))
 
@@ -149,15 +149,15 @@ module _ (mask : ℕ) (key : Key) where
         (tries-follows loads.passed (unpassed found left) loads.earlier loads.tries) (ends-follows left found loads.last loads.ends) in
         subst (λ (f : List ℕ). Follows f calls left) (sym loads.split) (subst (λ (l : List Access). Follows (loads.passed ++ unpassed found left) l left) (sym loads.is) from)
 
-    pub loads-shown : (words : List ℕ) → Fits mask calls words → EndsAt mask words key first left found
+    pub loads-shown : (words : List ℕ) → AreAnswered mask calls words → EndsAt mask words key first left found
     loads-shown words fits =
-        let both = fits-append mask loads.earlier loads.last words (subst (λ (l : List Access). Fits mask l words) loads.is fits) in
+        let both = fits-append mask loads.earlier loads.last words (subst (λ (l : List Access). AreAnswered mask l words) loads.is fits) in
         let same = loads-leave mask loads.earlier words (tries-are loads.passed loads.earlier loads.tries) in
         ended-after mask words key first (unpassed found left) left loads.passed found loads.split
         (tries-shown loads.passed loads.earlier words loads.tries both.0)
-        (ends-shown left found loads.last words loads.ends (subst (Fits mask loads.last) same both.1))
+        (ends-shown left found loads.last words loads.ends (subst (AreAnswered mask loads.last) same both.1))
 
-    pub loads-find : (words : List ℕ) → IsMask mask → FitsKey key → Fits mask calls words → Searched mask words key first left found
+    pub loads-find : (words : List ℕ) → IsMask mask → FitsKey key → AreAnswered mask calls words → Searched mask words key first left found
     loads-find words is fits-key fits =
         let ends = loads-shown words fits in
         record { ends = ends; finds = λ way texts used table small whole. finds-rightly way mask texts words used key table fits-key first left found ends is small whole }

@@ -8,13 +8,13 @@ use Rattle.ft_layout.proofs.WordLaws.{kind_range}
 use Rattle.ft_keys.specs.declared.words.Access.{Access}
 use Rattle.ft_keys.specs.declared.words.Access.TheVariants.{PutEntry}
 use Rattle.ft_keys.specs.Accesses.{after}
-use Rattle.ft_keys.specs.Changes.{unless_zero, entry_puts, place_puts}
-use Rattle.ft_keys.specs.Puts.{AreInOrder}
+use Rattle.ft_keys.specs.TableChanges.{unless_zero, entry_puts, place_puts}
+use Rattle.ft_keys.specs.Puts.{ArePutsInOrder}
 
 module _ (mask slot place : ℕ) (words : List ℕ) (inside : slot ≤ mask) where
   -- so far the entry has no kind, and the slot names nothing
   record SoFar (calls : List Access) : Type 0 where
-    ordered : AreInOrder mask calls words
+    ordered : ArePutsInOrder mask calls words
     long : length (after mask calls words) ≡ length words
     unused : entry_word mask (after mask calls words) place 2 ≡ 0
     free : index_word (after mask calls words) slot ≡ 0
@@ -34,7 +34,7 @@ module _ (mask slot place : ℕ) (words : List ℕ) (inside : slot ≤ mask) whe
   unless-more calls word zero other few so = so
   unless-more calls word (suc value) other few so = put-more calls word (suc value) other few so
 
-  pub in-order : (pair : Pair) → length words ≡ table_length mask → place < dict_room mask → index_word words slot ≡ 0 → entry_word mask words place 2 ≡ 0 → AreInOrder mask (place_puts slot place (entry_words pair)) words
+  pub in-order : (pair : Pair) → length words ≡ table_length mask → place < dict_room mask → index_word words slot ≡ 0 → entry_word mask words place 2 ≡ 0 → ArePutsInOrder mask (place_puts slot place (entry_words pair)) words
   in-order pair long low free unused =
       let e : ℕ → ℕ = slice_index (entry_words pair) in
       let start : SoFar [] = record { ordered = tt; long = refl; unused = unused; free = free } in

@@ -9,12 +9,12 @@ use Rattle.ft_keys.specs.declared.words.Access.{Access}
 use Rattle.ft_keys.specs.declared.words.Access.TheVariants.{Index, PutEntry}
 use Rattle.ft_keys.specs.Ways.{walk_slots, room}
 use Rattle.ft_keys.specs.Accesses.{Runs, after}
-use Rattle.ft_keys.specs.Changes.{other_calls, Puts, FindsFree, unless_zero, place_puts, MayRebuild, Placed, Adds}
+use Rattle.ft_keys.specs.TableChanges.{other_calls, Puts, FindsFree, unless_zero, place_puts, MayRebuild, Placed, AddsPair}
 use Rattle.ft_keys.proofs.Shown.{runs-append, after-append, fits-append, loads-leave}
 use Rattle.ft_keys.specs.Puts.{PutBelow}
-use Rattle.ft_keys.proofs.Putting.{other-calls-append}
-use Rattle.ft_keys.proofs.Versions.{below-append, below-higher, loads-below}
-use Rattle.ft_keys.proofs.Adding.{adds}
+use Rattle.ft_keys.proofs.PutsInTurn.{other-calls-append}
+use Rattle.ft_keys.proofs.UntouchedWords.{below-append, below-higher, loads-below}
+use Rattle.ft_keys.proofs.OneMoreEntry.{adds}
 
 unless-few : (place word value : ℕ) → other_calls (unless_zero place word value) ≤ 1
 unless-few place word zero = omega arith
@@ -56,7 +56,7 @@ puts-below mask slot place entry inside =
 
 module _ {S : Type 0} (gave : S → Access → S → Type 0) (way : Way) (mask fill : ℕ) (pair : Pair) (start middle : S) (is : IsMask mask) (small : pair.hash < 2 ^ 64) (fits : FitsPair pair) (low : fill < room way mask) where
   abbrev Fact : List ℕ → List ℕ → Type 0
-  Fact before later = Placed way mask fill (entry_words pair) before later × Adds way mask fill pair before later
+  Fact before later = Placed way mask fill (entry_words pair) before later × AddsPair way mask fill pair before later
 
   both : (before later : List ℕ) → Placed way mask fill (entry_words pair) before later → Fact before later
   both before later placed = (placed, adds way mask fill pair before later is small fits low placed)

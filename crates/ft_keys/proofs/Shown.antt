@@ -2,7 +2,7 @@
 use Rattle.std.proofs.Common.{◌≡◌, ℕ, zero, suc, ◌+◌, List, [], ◌∷◌, ◌++◌, refl, ap, ◌∙◌, subst, arith}
 use Rattle.ft_keys.specs.declared.words.Access.{Access}
 use Rattle.ft_keys.specs.declared.words.Access.TheVariants.{Index, Entry, PutIndex, PutEntry, OldEntry}
-use Rattle.ft_keys.specs.Accesses.{put_by, after, Tells, Fits, Runs, IsLoad, AreLoads, index_loads, Follows}
+use Rattle.ft_keys.specs.Accesses.{put_by, after, Tells, AreAnswered, Runs, IsLoad, AreLoads, index_loads, Follows}
 use Rattle.ft_keys.specs.Searches.{Shows}
 
 load-puts-nothing : (mask : ℕ) (access : Access) (words : List ℕ) → IsLoad access → put_by mask access words ≡ words
@@ -25,7 +25,7 @@ pub after-append : (mask : ℕ) (earlier later : List Access) (words : List ℕ)
 after-append mask earlier [] words = refl
 after-append mask earlier (access ∷ later) words = ap (put_by mask access) (after-append mask earlier later words)
 
-pub fits-append : (mask : ℕ) (earlier later : List Access) (words : List ℕ) → Fits mask (later ++ earlier) words → Fits mask earlier words × Fits mask later (after mask earlier words)
+pub fits-append : (mask : ℕ) (earlier later : List Access) (words : List ℕ) → AreAnswered mask (later ++ earlier) words → AreAnswered mask earlier words × AreAnswered mask later (after mask earlier words)
 fits-append mask earlier [] words fits = (fits, tt)
 fits-append mask earlier (access ∷ later) words fits =
     let both = fits-append mask earlier later words fits.0 in
@@ -72,5 +72,5 @@ module _ {S : Type 0} (gave : S → Access → S → Type 0) (mask : ℕ) where
     steps = let sum = index-loads-append one.calls two.calls in let x = one.steps in let y = two.steps in omega arith;
     shown = λ words fits.
         let both = fits-append mask one.calls two.calls words fits in
-        (one.shown words both.0, two.shown words (subst (Fits mask two.calls) (loads-leave mask one.calls words one.loads) both.1));
+        (one.shown words both.0, two.shown words (subst (AreAnswered mask two.calls) (loads-leave mask one.calls words one.loads) both.1));
   }

@@ -3,7 +3,7 @@ pub mod Walks
 pub mod Accesses
 pub mod Loads
 pub mod Searches
-pub mod Costs
+pub mod WalkCosts
 pub mod Puts
-pub mod Changes
+pub mod TableChanges
 pub mod WordLists

@@ -33,7 +33,7 @@ IsInOrder mask words (PutEntry place word value) = entry_word mask words place 2
 IsInOrder mask words access = Unit {0}
 
 -- each of them is so on the words that the earlier ones left
-abbrev pub AreInOrder : ℕ → List Access → List ℕ → Type 0
-AreInOrder mask [] words = Unit {0}
-AreInOrder mask (access ∷ earlier) words =
-    AreInOrder mask earlier words × IsInOrder mask (after mask earlier words) access
+abbrev pub ArePutsInOrder : ℕ → List Access → List ℕ → Type 0
+ArePutsInOrder mask [] words = Unit {0}
+ArePutsInOrder mask (access ∷ earlier) words =
+    ArePutsInOrder mask earlier words × IsInOrder mask (after mask earlier words) access

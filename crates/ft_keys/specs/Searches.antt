@@ -8,7 +8,7 @@ use Rattle.ft_keys.specs.declared.words.Access.{Access}
 use Rattle.ft_keys.specs.declared.search.Found.{Found}
 use Rattle.ft_keys.specs.declared.search.Found.TheVariants.{At, Was, Free, Spent}
 use Rattle.ft_keys.specs.Ways.{walk_slots, IsTableOf}
-use Rattle.ft_keys.specs.Accesses.{Runs, AreLoads, Follows, index_loads, Fits}
+use Rattle.ft_keys.specs.Accesses.{Runs, AreLoads, Follows, index_loads, AreAnswered}
 
 -- slot and place are those of a table
 abbrev pub IsWithin : ℕ → Found → Type 0
@@ -81,4 +81,4 @@ pub record Shows {S : Type 0} (gave : S → Access → S → Type 0) (mask : ℕ
   pub loads : AreLoads calls
   pub follows : Follows first calls left
   pub steps : after ≡ before + index_loads calls
-  pub shown : (words : List ℕ) → Fits mask calls words → fact words
+  pub shown : (words : List ℕ) → AreAnswered mask calls words → fact words

@@ -9,20 +9,20 @@ ghost use Rattle.ft_keys.specs.Ways.{walk_slots, room};
 ghost use Rattle.ft_keys.specs.declared.words.Access.{Access};
 ghost use Rattle.ft_keys.specs.declared.search.Found.{Found};
 ghost use Rattle.ft_keys.specs.declared.search.Found.TheVariants.{Free};
-ghost use Rattle.ft_keys.specs.Accesses.{put_by, after, AreLoads, Follows, index_loads, Fits};
+ghost use Rattle.ft_keys.specs.Accesses.{put_by, after, AreLoads, Follows, index_loads, AreAnswered};
 ghost use Rattle.ft_keys.specs.Loads.{unpassed, last_loads, Loads};
-ghost use Rattle.ft_keys.specs.Costs.{IsBounded};
-ghost use Rattle.ft_keys.specs.Puts.{IsPutOf, PutBelow, AreInOrder};
+ghost use Rattle.ft_keys.specs.WalkCosts.{IsBounded};
+ghost use Rattle.ft_keys.specs.Puts.{IsPutOf, PutBelow, ArePutsInOrder};
 ghost use Rattle.ft_layout.specs.Tables.{dict_room, table_length, index_word, entry_word};
 ghost use Rattle.ft_layout.specs.Fields.{Field, IsField, field_at};
 ghost use Rattle.ft_keys.specs.Searches.{EndsAt, Searched};
-ghost use Rattle.ft_keys.specs.Changes.{FirstFree, place_puts, Adds};
+ghost use Rattle.ft_keys.specs.TableChanges.{FirstFree, place_puts, AddsPair};
 
 /// Of every list of words that answers as the loads of a search were answered, the search came to
 /// what is there: in the words of a table it finds the key exactly where it is.
 pub fn searches_find_keys()
     ensures { (mask : ℕ) (key : Key) (first left : List ℕ) (found : Found) (calls : List Access) (words : List ℕ) →
-        IsMask mask → FitsKey key → Loads mask key first left found calls → Fits mask calls words →
+        IsMask mask → FitsKey key → Loads mask key first left found calls → AreAnswered mask calls words →
         Searched mask words key first left found }
 {}
 
@@ -47,7 +47,7 @@ pub fn searches_end_at_the_first_free_slot()
 pub fn placed_pairs_are_of_a_table()
     ensures { (way : Way) (mask fill slot : ℕ) (pair : Pair) (words : List ℕ) → IsMask mask → pair.hash < 2 ^ 64 →
         FitsPair pair → fill < room way mask → FirstFree words (walk_slots way pair.hash mask) (Some slot) →
-        Adds way mask fill pair words (after mask (place_puts slot fill (entry_words pair)) words) }
+        AddsPair way mask fill pair words (after mask (place_puts slot fill (entry_words pair)) words) }
 {}
 
 /// A put leaves its number in its word and every other word of the table as it was, and a load leaves
@@ -79,7 +79,7 @@ pub fn calls_keep_versions()
 pub fn entries_are_put_in_order()
     ensures { (mask slot place : ℕ) (pair : Pair) (words : List ℕ) → length words ≡ table_length mask → slot ≤ mask →
         place < dict_room mask → index_word words slot ≡ 0 → entry_word mask words place 2 ≡ 0 →
-        AreInOrder mask (place_puts slot place (entry_words pair)) words }
+        ArePutsInOrder mask (place_puts slot place (entry_words pair)) words }
 {}
 
 /// What all searches on one walk cost, whoever else writes: while index words that aren't 0 stay so,

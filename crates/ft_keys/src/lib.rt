@@ -8,8 +8,6 @@ mod place;
 mod rebuilding;
 mod search;
 mod steps;
-#[cfg(test)]
-mod tests;
 mod walk;
 mod words;
 
@@ -23,5 +21,5 @@ pub use place::{place_at, place_new};
 pub use rebuilding::rebuild;
 pub use search::{Found, find, find_live};
 pub use steps::Steps;
-pub use walk::{Walk, Way};
+pub use walk::{Walk, Way, room_of};
 pub use words::{Access, Move, Words};

@@ -11,7 +11,7 @@ ghost use Rattle.ft_keys.specs.declared.search.Found.TheVariants.{Was};
 ghost use Rattle.ft_keys.specs.Ways.{walk_slots};
 ghost use Rattle.ft_keys.specs.Accesses.{Runs, index_loads};
 ghost use Rattle.ft_keys.specs.Loads.{LoadsSlot, TriesOne, Searches};
-ghost use Rattle.ft_keys.specs.Costs.{most_loads};
+ghost use Rattle.ft_keys.specs.WalkCosts.{most_loads};
 ghost use Rattle.ft_keys.specs.Searches.{IsWithin, Searched, Shows};
 
 use crate::steps::Steps;

@@ -4,7 +4,7 @@ use Rattle.ft_model.specs.declared.content.Content.{Content}
 use Rattle.ft_model.specs.declared.content.Content.TheVariants as content
 use Rattle.ft_model.specs.declared.script.Kind.{Kind}
 use Rattle.ft_model.specs.declared.script.Kind.TheVariants as kind
-use Rattle.ft_model.specs.Tables.{TableUse, no_table}
+use Rattle.ft_model.specs.TableUses.{TableUse, no_table}
 use Rattle.ft_model.specs.Worlds.{empty_content, kind_of, length_of, serial_of}
 use Rattle.ft_layout.specs.Containers.{IsBlank, IsBlock, StandsAs}
 use Rattle.ft_layout.proofs.ContentLaws.{one_dict, one_set, one_list, no_dict, no_set, no_list}

@@ -8,7 +8,7 @@ use Rattle.ft_layout.specs.declared.slot.Stored.{Stored}
 use Rattle.ft_layout.specs.declared.slot.Stored.TheVariants.{Empty, Plain}
 use Rattle.ft_layout.specs.Words.{IsItem}
 use Rattle.ft_layout.specs.Tables.{item_at, item_word, IsListTable}
-use Rattle.ft_layout.specs.Changes.{IsBlankTable, ChangesItem, SaysStored}
+use Rattle.ft_layout.specs.WordChanges.{IsBlankTable, ChangesItem, SaysStored}
 use Rattle.ft_layout.specs.Containers.{class_mask, IsBlock, IsListWords}
 use Rattle.ft_layout.proofs.FollowLaws.{there}
 

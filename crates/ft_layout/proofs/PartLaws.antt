@@ -5,7 +5,7 @@ use Rattle.std.proofs.lemmas.Bool.Decides.{nat_tests}
 use Rattle.std.proofs.Math.Nat.{mul-le-mul_right, div-mul-le_self, lt-div-mul-add, div-lt_iff_lt-mul}
 use Rattle.ft_model.specs.Classes.{IsClass}
 use Rattle.ft_layout.specs.Sizes.{table_size}
-use Rattle.ft_layout.specs.Starts.{count_of, block_start, heap_size, heap_start, words_below, BankSizes, Part, HasWord, bank_size}
+use Rattle.ft_layout.specs.Starts.{tables_of_class, block_start, heap_size, heap_start, words_below, BankSizes, Part, HasWord, bank_size}
 use Rattle.ft_layout.specs.Starts.Part.{Counter, WriteNumber, Announced, FreeCount, FreeTables, Block, FreePlaces, Box, Table}
 use Rattle.ft_layout.proofs.Powers.{words_below-none, words_below-more}
 
@@ -32,7 +32,7 @@ own_stretch n size some = (div-mul-le_self n size, lt-div-mul-add {b = size} som
 -- ---- classes
 
 -- the tables of a class lie before those of a higher one
-class_before : (tables : List ℕ) (low k high : ℕ) → 3 ≤ low → high ≡ low + 1 + k → words_below tables low + count_of tables low * table_size low ≤ words_below tables high
+class_before : (tables : List ℕ) (low k high : ℕ) → 3 ≤ low → high ≡ low + 1 + k → words_below tables low + tables_of_class tables low * table_size low ≤ words_below tables high
 class_before tables low zero high from is =
     let e : words_below tables high ≡ words_below tables (low + 1) = let n : high ≡ low + 1 = omega arith in ap (words_below tables) n in
     omega (arith, e, words_below-more tables low from)
@@ -41,12 +41,12 @@ class_before tables low (suc k) high from is =
     let e : words_below tables high ≡ words_below tables (low + 1 + k + 1) = let n : high ≡ low + 1 + k + 1 = omega arith in ap (words_below tables) n in
     omega (arith, h, e, words_below-more tables (low + 1 + k) (omega arith))
 
-class_lower : (tables : List ℕ) (low high : ℕ) → 3 ≤ low → low < high → words_below tables low + count_of tables low * table_size low ≤ words_below tables high
+class_lower : (tables : List ℕ) (low high : ℕ) → 3 ≤ low → low < high → words_below tables low + tables_of_class tables low * table_size low ≤ words_below tables high
 class_lower tables low high from less = class_before tables low (high - (low + 1)) high from (omega arith)
 
 -- the words of a table are among those of its class
-in_class : (tables : List ℕ) (class number : ℕ) → number < count_of tables class → number * table_size class + table_size class ≤ count_of tables class * table_size class
-in_class tables class number less = next_stretch number (count_of tables class) (table_size class) less
+in_class : (tables : List ℕ) (class number : ℕ) → number < tables_of_class tables class → number * table_size class + table_size class ≤ tables_of_class tables class * table_size class
+in_class tables class number less = next_stretch number (tables_of_class tables class) (table_size class) less
 
 -- ---- zones: the parts of one kind lie in one
 
@@ -133,7 +133,7 @@ module _ (bank : BankSizes) (word : ℕ) where
       omega arith
 
   -- the words of a table's class, after the heaps
-  in_tables : (class number : ℕ) → HasWord bank (Table class number) word → (heap_start bank.containers bank.heap bank.passes + words_below bank.tables class ≤ word) × (word < heap_start bank.containers bank.heap bank.passes + words_below bank.tables class + count_of bank.tables class * table_size class)
+  in_tables : (class number : ℕ) → HasWord bank (Table class number) word → (heap_start bank.containers bank.heap bank.passes + words_below bank.tables class ≤ word) × (word < heap_start bank.containers bank.heap bank.passes + words_below bank.tables class + tables_of_class bank.tables class * table_size class)
   in_tables class number is =
       let a = is.from in
       let b = is.before in
@@ -262,13 +262,13 @@ module _ (bank : BankSizes) (word : ℕ) where
       heap_word (n / size) pass (omega arith) (omega arith)
 
   -- a word of the tables of this class
-  class_word : (class : ℕ) → IsClass class → heap_start bank.containers bank.heap bank.passes + words_below bank.tables class ≤ word → word < heap_start bank.containers bank.heap bank.passes + words_below bank.tables class + count_of bank.tables class * table_size class → Owner
+  class_word : (class : ℕ) → IsClass class → heap_start bank.containers bank.heap bank.passes + words_below bank.tables class ≤ word → word < heap_start bank.containers bank.heap bank.passes + words_below bank.tables class + tables_of_class bank.tables class * table_size class → Owner
   class_word class is low high =
       let base = heap_start bank.containers bank.heap bank.passes + words_below bank.tables class in
       let size = table_size class in
       let some : 0 < size = omega arith in
       let own = own_stretch (word - base) size some in
-      let number : (word - base) / size < count_of bank.tables class = (div-lt_iff_lt-mul some).1 (omega arith) in
+      let number : (word - base) / size < tables_of_class bank.tables class = (div-lt_iff_lt-mul some).1 (omega arith) in
       (Table class ((word - base) / size), record { is_part = (is, number); from = omega arith; before = omega arith })
 
   tables_word : (k : ℕ) → k ≤ 14 → heap_start bank.containers bank.heap bank.passes ≤ word → word < heap_start bank.containers bank.heap bank.passes + words_below bank.tables (3 + k) → Owner

@@ -6,7 +6,7 @@ use Rattle.std.proofs.Math.Pow.{pow_mono}
 use Rattle.std.proofs.lemmas.List.FromFn.{sum_by-map-range_with_len_more}
 use Rattle.ft_model.specs.Classes.{IsClass}
 use Rattle.ft_layout.specs.Sizes.{table_size}
-use Rattle.ft_layout.specs.Starts.{count_of, words_below}
+use Rattle.ft_layout.specs.Starts.{tables_of_class, words_below}
 
 pub slots_range : (class : ℕ) → IsClass class → (8 ≤ 2 ^ class) × (2 ^ class ≤ 65536)
 slots_range class is = (pow_mono is.least, pow_mono is.greatest)
@@ -17,9 +17,9 @@ unfolding words_below
 words_below-none tables = refl
 
 -- one class more
-pub words_below-more : (tables : List ℕ) (class : ℕ) → 3 ≤ class → words_below tables (class + 1) ≡ words_below tables class + count_of tables class * table_size class
+pub words_below-more : (tables : List ℕ) (class : ℕ) → 3 ≤ class → words_below tables (class + 1) ≡ words_below tables class + tables_of_class tables class * table_size class
 unfolding words_below
 words_below-more tables class low =
-    let of : ℕ → ℕ = λ below. count_of tables below * table_size below in
+    let of : ℕ → ℕ = λ below. tables_of_class tables below * table_size below in
     let more : class + 1 - 3 ≡ class - 3 + 1 = omega arith in
     ap (λ (n : ℕ). sum (map of (range_with_len 3 n))) more ∙ sum_by-map-range_with_len_more (λ (x : ℕ). x) of 3 (class - 3) class (omega arith)

@@ -9,7 +9,7 @@ use Rattle.ft_layout.specs.declared.slot.Stored.TheVariants.{Empty, Plain}
 use Rattle.ft_layout.specs.declared.slot.Slot.TheVariants.{Never}
 use Rattle.ft_layout.specs.Words.{FitsStored, gone_kind, stored_kind, stored_payload, IsLive, IsEntry}
 use Rattle.ft_layout.specs.Tables.{table_length, HasNoVersions, HasNoItemVersions, dict_room, index_at, entry_at, item_at, entry_word, item_word, UsedEntry, is_live, deleted, hash_of, slot_of, IsTable, IsListTable}
-use Rattle.ft_layout.specs.Changes.{IsBlankTable, ChangesEntry, ChangesItem, SaysUsed, SaysStored, KeepsKey, with_item, SameEntries, SameItems, with_stored, with_deleted}
+use Rattle.ft_layout.specs.WordChanges.{IsBlankTable, ChangesEntry, ChangesItem, SaysUsed, SaysStored, KeepsKey, with_item, SameEntries, SameItems, with_stored, with_deleted}
 use Rattle.ft_layout.proofs.TableLaws.{entry_moves, meets_moves, changed_table}
 use Rattle.ft_layout.proofs.ListTableLaws.{item_moves}
 use Rattle.ft_layout.proofs.FollowLaws.{there}

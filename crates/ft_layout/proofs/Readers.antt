@@ -4,7 +4,7 @@ use Rattle.std.specs.Prelude.{All, slice_index}
 use Rattle.ft_layout.specs.declared.slot.Slot.{Slot}
 use Rattle.ft_layout.specs.declared.slot.Stored.{Stored}
 use Rattle.ft_layout.specs.Words.{IsEntry, IsItem}
-use Rattle.ft_layout.specs.Reading.{TakenWord, ShowsWords, entry_addresses, item_addresses}
+use Rattle.ft_layout.specs.TakenWords.{TakenWord, ShowsWords, entry_addresses, item_addresses}
 use Rattle.ft_layout.proofs.TableLaws.{entry_moves}
 
 abbrev took : ℕ → ℕ → TakenWord

@@ -11,7 +11,7 @@ use Rattle.ft_layout.specs.declared.slot.Slot.TheVariants.{Never, Live, Gone}
 use Rattle.ft_layout.specs.Words.{IsStored, IsEntry}
 use Rattle.ft_layout.specs.Tables.{index_at, entry_at, index_word, entry_word, UsedEntry, is_live, hash_of, slot_of, Meets, IsTable}
 use Rattle.ft_layout.proofs.LiveLaws.{distinct-live, distinct-used}
-use Rattle.ft_layout.specs.Changes.{IsBlankTable, KeepsKey, ChangesEntry, SaysUsed}
+use Rattle.ft_layout.specs.WordChanges.{IsBlankTable, KeepsKey, ChangesEntry, SaysUsed}
 
 -- ---- words that are the same say the same: those of an entry but the first and the last
 

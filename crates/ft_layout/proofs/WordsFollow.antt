@@ -13,7 +13,7 @@ use Rattle.ft_hash.proofs.Walks.{dict_walk-within, set_walk-within}
 use Rattle.ft_layout.specs.declared.slot.Stored.TheVariants.{Empty, Plain}
 use Rattle.ft_layout.specs.Words.{FitsStored}
 use Rattle.ft_layout.specs.Tables.{dict_room, set_room, UsedEntry, is_live, deleted, IsDictTable, IsSetTable}
-use Rattle.ft_layout.specs.Changes.{with_stored, with_deleted}
+use Rattle.ft_layout.specs.WordChanges.{with_stored, with_deleted}
 use Rattle.ft_layout.specs.Containers.{class_mask, used_pair, used_element, IsBlock, AreDictEntries, AreSetEntries, IsDictWords, IsSetWords}
 use Rattle.ft_layout.proofs.ContentLaws.{stands_for_dict, stands_for_set}
 use Rattle.ft_layout.proofs.FieldLaws.{set_fits}

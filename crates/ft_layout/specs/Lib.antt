@@ -3,6 +3,6 @@ pub mod Sizes
 pub mod Starts
 pub mod Tables
 pub mod Fields
-pub mod Changes
+pub mod WordChanges
 pub mod Containers
-pub mod Reading
+pub mod TakenWords

@@ -15,8 +15,8 @@ pub record AreTables (tables : List ℕ) : Type 0 where
   pub classes : length tables ≡ 14
   pub counts : All (λ count. (1 ≤ count) × (count ≤ 1024)) tables
 
-abbrev pub count_of : List ℕ → ℕ → ℕ
-count_of tables class = slice_index tables (class - 3)
+abbrev pub tables_of_class : List ℕ → ℕ → ℕ
+tables_of_class tables class = slice_index tables (class - 3)
 
 -- ---- starts
 
@@ -49,7 +49,8 @@ box_start containers heap pass place = heap_start containers heap pass + heap / 
 
 -- how many words the tables of all lower classes have
 unfoldable pub words_below : List ℕ → ℕ → ℕ
-words_below tables class = sum (map (λ below. count_of tables below * table_size below) (range_with_len 3 (class - 3)))
+words_below tables class =
+    sum (map (λ below. tables_of_class tables below * table_size below) (range_with_len 3 (class - 3)))
 
 -- tables lie after the heaps
 abbrev pub table_start : ℕ → ℕ → ℕ → List ℕ → ℕ → ℕ → ℕ
@@ -87,7 +88,7 @@ IsPart bank (FreeTables class word) = IsClass class × (word < 16)
 IsPart bank (Block container) = container < bank.containers
 IsPart bank (FreePlaces pass word) = (pass < bank.passes) × (word < bank.heap / 64)
 IsPart bank (Box pass place) = (pass < bank.passes) × (place < bank.heap)
-IsPart bank (Table class number) = IsClass class × (number < count_of bank.tables class)
+IsPart bank (Table class number) = IsClass class × (number < tables_of_class bank.tables class)
 
 abbrev pub part_start : BankSizes → Part → ℕ
 part_start bank Counter = 0

@@ -12,7 +12,7 @@ ghost use Rattle.ft_model.specs.Contents.{DictContent, SetContent, IsDict, IsSet
 ghost use Rattle.ft_layout.specs.declared.slot.Stored.TheVariants.{Plain};
 ghost use Rattle.ft_layout.specs.Words.{FitsStored};
 ghost use Rattle.ft_layout.specs.Tables.{UsedEntry, is_live, deleted, IsDictTable, IsSetTable};
-ghost use Rattle.ft_layout.specs.Changes.{with_stored, with_deleted};
+ghost use Rattle.ft_layout.specs.WordChanges.{with_stored, with_deleted};
 ghost use Rattle.ft_layout.specs.Containers.{class_mask, used_pair, used_element, IsBlock, AreDictEntries, AreSetEntries, IsDictWords, IsSetWords};
 
 /// A live entry of a dict is that of a pair, whose value is the one at its key. Another value there is

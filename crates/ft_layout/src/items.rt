@@ -5,7 +5,7 @@ ghost use Rattle.std.specs.Prelude.{◌≡◌, ℕ, ◌+◌, ◌<◌, ◌≤◌,
 ghost use Rattle.ft_model.specs.declared.data.Value.{Value};
 ghost use Rattle.ft_layout.specs.declared.slot.Stored.TheVariants.{Empty, Plain};
 ghost use Rattle.ft_layout.specs.Tables.{IsListTable};
-ghost use Rattle.ft_layout.specs.Changes.{IsBlankTable, ChangesItem, SaysStored};
+ghost use Rattle.ft_layout.specs.WordChanges.{IsBlankTable, ChangesItem, SaysStored};
 ghost use Rattle.ft_layout.specs.Containers.{class_mask, IsBlock, IsListWords};
 
 /// A blank table holds no items. Where the words of one item change, a list's table holds the changed

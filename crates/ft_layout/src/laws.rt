@@ -6,13 +6,13 @@ ghost use Rattle.ft_model.specs.declared.data.Value.{Value};
 ghost use Rattle.ft_model.specs.declared.content.Content.{Content};
 ghost use Rattle.ft_model.specs.declared.script.Kind.{Kind};
 ghost use Rattle.ft_model.specs.Contents.{DictContent, SetContent, IsDict, IsSet};
-ghost use Rattle.ft_model.specs.Tables.{TableUse, no_table};
+ghost use Rattle.ft_model.specs.TableUses.{TableUse, no_table};
 ghost use Rattle.ft_model.specs.Worlds.{empty_content, kind_of, length_of, serial_of};
 ghost use Rattle.ft_model.specs.Classes.{IsClass, dict_entries, set_entries, list_items};
 ghost use Rattle.ft_layout.specs.Sizes.{table_size};
 ghost use Rattle.ft_layout.specs.Starts.{BankSizes, Part, HasWord, bank_size};
 ghost use Rattle.ft_layout.specs.Tables.{dict_room, set_room, table_length, UsedEntry, IsTable};
-ghost use Rattle.ft_layout.specs.Changes.{IsBlankTable, KeepsKey, ChangesEntry, SaysUsed};
+ghost use Rattle.ft_layout.specs.WordChanges.{IsBlankTable, KeepsKey, ChangesEntry, SaysUsed};
 ghost use Rattle.ft_layout.specs.Fields.{Field, IsField, field_at, ItemField, IsItemField, item_field_at};
 ghost use Rattle.ft_layout.specs.Containers.{class_mask, IsBlank, IsBlock, StandsAs, IsDictWords, IsSetWords, IsListWords};
 

@@ -7,7 +7,7 @@ ghost use Rattle.ft_model.specs.declared.data.Value.{Value};
 ghost use Rattle.ft_layout.specs.declared.slot.Stored.{Stored};
 ghost use Rattle.ft_layout.specs.Words.{FitsStored};
 ghost use Rattle.ft_layout.specs.Tables.{dict_room, entry_at, item_at, UsedEntry, deleted, HasNoVersions, HasNoItemVersions, IsTable, IsListTable};
-ghost use Rattle.ft_layout.specs.Changes.{IsBlankTable, SameEntries, SameItems, ChangesItem, SaysStored, with_stored, with_deleted, with_item};
+ghost use Rattle.ft_layout.specs.WordChanges.{IsBlankTable, SameEntries, SameItems, ChangesItem, SaysStored, with_stored, with_deleted, with_item};
 
 /// Where the kind and the payload of a value are put into a live entry, a table holds the entry with
 /// that value; where the kind of its deleted key is put, it holds the deleted entry. All else is as it

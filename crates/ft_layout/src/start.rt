@@ -5,7 +5,7 @@ ghost use Rattle.std.specs.Prelude.{◌≡◌, ◌+◌, ◌^◌, ◌<◌, ◌≤
 ghost use Rattle.ft_layout.specs.Sizes.{table_size};
 ghost use Rattle.ft_model.specs.Classes.{IsClass};
 ghost use Rattle.ft_layout.specs.Words.{IsHolder};
-ghost use Rattle.ft_layout.specs.Starts.{IsHeap, AreTables, count_of, announced_word, free_count_word, free_word, block_start, heap_start, box_start, table_start, bank_size};
+ghost use Rattle.ft_layout.specs.Starts.{IsHeap, AreTables, tables_of_class, announced_word, free_count_word, free_word, block_start, heap_start, box_start, table_start, bank_size};
 
 use crate::limit::{CONTAINERS, PASSES};
 use crate::size::table_size;
@@ -105,7 +105,7 @@ pub fn table_start(
     requires passes { passes ≤ PASSES }
     requires tables { AreTables tables.now }
     requires class { IsClass class }
-    requires number { number < count_of tables.now class }
+    requires number { number < tables_of_class tables.now class }
     ensures is { result ≡ table_start containers heap passes tables.now class number }
     ensures within { result + table_size class < 2 ^ 33 }
 {

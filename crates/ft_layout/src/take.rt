@@ -6,7 +6,7 @@ ghost use Rattle.std.specs.Prelude.{◌≡◌, ◌↔◌, ℕ, ◌+◌, ◌^◌,
 ghost use Rattle.ft_layout.specs.declared.slot.Slot.{Slot};
 ghost use Rattle.ft_layout.specs.declared.slot.Stored.{Stored};
 ghost use Rattle.ft_layout.specs.Words.{IsEntry, IsItem};
-ghost use Rattle.ft_layout.specs.Reading.{ShowsWords, entry_addresses, item_addresses};
+ghost use Rattle.ft_layout.specs.TakenWords.{ShowsWords, entry_addresses, item_addresses};
 
 use crate::entry::entry_of;
 use crate::item::item_of;

@@ -8,41 +8,41 @@ use Rattle.ft_model.specs.declared.content.Content.TheVariants as content
 use Rattle.ft_model.specs.declared.data.Value.{Value}
 use Rattle.ft_model.specs.declared.reply.Reply.TheVariants as reply
 use Rattle.ft_model.specs.Classes.{list_class, list_items, most_items}
-use Rattle.ft_model.specs.Tables.{StoredWorld, CanLackMemory, list_takes, takes_in, would_pass}
+use Rattle.ft_model.specs.TableUses.{StoredWorld, CanLackMemory, list_takes, takes_in, would_pass}
 use Rattle.ft_model.specs.Worlds.{list_of}
 use Rattle.ft_model.proofs.ClassRooms.{list_fits}
 use Rattle.ft_trace.specs.declared.Shape.{Shape}
 use Rattle.ft_trace.specs.declared.View.{View}
 use Rattle.ft_trace.specs.Acts.{owes, stage}
 use Rattle.ft_trace.specs.Addresses.{containers_in, class_of, slots}
-use Rattle.ft_trace.specs.Worlds.{ContainerState}
+use Rattle.ft_trace.specs.ContainerStates.{ContainerState}
 use Rattle.ft_trace.specs.Holds.{known}
 use Rattle.ft_trace.specs.Traces.{Possible}
 use Rattle.ft_bank.specs.declared.table.Table.{Table}
-use Rattle.ft_bank.specs.Tables.{name_of, root_for, IsTableIn}
-use Rattle.ft_bank.specs.Writes.{MayHave}
+use Rattle.ft_bank.specs.TableNames.{name_of, root_for, IsTableIn}
+use Rattle.ft_bank.specs.WriteSteps.{MayHave}
 use Rattle.ft_bank.specs.Takings.{KeepsBut}
 use Rattle.ft_bank.specs.Whole.{OnlyLoaded, SamePass}
-use Rattle.ft_bank.proofs.Whole.{work_knows}
+use Rattle.ft_bank.proofs.KnownAfterWrites.{work_knows}
 use Rattle.ft_growth.specs.declared.adding.Added.{Added}
 use Rattle.ft_growth.specs.Adding.{IsAdded}
-use Rattle.ft_bank.proofs.Tables.{class_is}
-use Rattle.ft_list.specs.Items.{items_of}
-use Rattle.ft_list.specs.Calls.{Adds, Changes, Grows}
-use Rattle.ft_list.specs.Growing.{AddsItems}
-use Rattle.ft_list.specs.Internal.Growing.{KnowsList, MayAdd, MayGrow, use_of}
-use Rattle.ft_list.proofs.CallFacts.{adds_changes, adds_grows, lacks_table, passes_most}
+use Rattle.ft_bank.proofs.TableAddresses.{class_is}
+use Rattle.ft_list.specs.ListItemWrites.{known_items}
+use Rattle.ft_list.specs.ListWrites.{Adds, Changes, Grows}
+use Rattle.ft_list.specs.ListGrowth.{AddsItems}
+use Rattle.ft_list.specs.Internal.NewListTables.{KnowsList, MayAdd, MayGrowList, list_use_of}
+use Rattle.ft_list.proofs.ListCallFacts.{adds_changes, adds_grows, lacks_table, passes_most}
 use Rattle.ft_list.specs.declared.addition.Addition.{Addition}
 use Rattle.ft_list.specs.Internal.Additions.{with_added, KnowsItems, IsAddition}
 use Rattle.ft_list.proofs.Extending.{addition_on, news_on}
-use Rattle.ft_list.proofs.Growing.{knows_content, knows_on}
-use Rattle.ft_list.proofs.Looking.{slots_are}
+use Rattle.ft_list.proofs.GrownLists.{knows_content, knows_on}
+use Rattle.ft_list.proofs.LookRounds.{slots_are}
 use Rattle.ft_list.proofs.Wanted.{list_use, wanted_some}
-use Rattle.ft_list.proofs.Whole.{grows_from}
+use Rattle.ft_list.proofs.WholeListWrites.{grows_from}
 
-module _ (k : Shape) (o : ℕ) (old : Option Table) (v : View) (list : KnowsList k o old v) (shape : v.shape ≡ k) (possible : ∥ Possible v ∥₁) (lc : ListCall) (total : ℕ) (news : List Value) (adds : Adds o lc (items_of o v) news v) (long : length news ≡ total) where
+module _ (k : Shape) (o : ℕ) (old : Option Table) (v : View) (list : KnowsList k o old v) (shape : v.shape ≡ k) (possible : ∥ Possible v ∥₁) (lc : ListCall) (total : ℕ) (news : List Value) (adds : Adds o lc (known_items o v) news v) (long : length news ≡ total) where
   abbrev values : List Value
-  values = items_of o v
+  values = known_items o v
 
   low : o < containers_in v.shape
   low = subst (λ (z : Shape). o < containers_in z) (sym shape) list.container
@@ -53,16 +53,16 @@ module _ (k : Shape) (o : ℕ) (old : Option Table) (v : View) (list : KnowsList
   few_is : total ≤ most_items → nat_lt most_items (length news) ≡ false
   few_is few = let n = long in le-ltb most_items (length news) (omega (arith, n, few))
 
-  wanted_is : list_takes (known o v).table (length news) ≡ list_takes (use_of old) total
+  wanted_is : list_takes (known o v).table (length news) ≡ list_takes (list_use_of old) total
   wanted_is = λ d. list_takes (list_use k o old v list is_list d) (long d)
 
-  pub room_changes : total ≤ most_items → list_takes (use_of old) total ≡ None → Changes o lc reply.Done values news v
+  pub room_changes : total ≤ most_items → list_takes (list_use_of old) total ≡ None → Changes o lc reply.Done values news v
   room_changes few none = adds_changes o lc values news v low list.locked is_list adds (few_is few) (wanted_is ∙ none)
 
-  pub taken_grows : (class : ℕ) → total ≤ most_items → list_takes (use_of old) total ≡ Some class → Grows o lc values news class v
+  pub taken_grows : (class : ℕ) → total ≤ most_items → list_takes (list_use_of old) total ≡ Some class → Grows o lc values news class v
   taken_grows class few is = adds_grows o lc values news v low list.locked is_list adds class (few_is few) (wanted_is ∙ is)
 
-  pub no_table_lacks : (class : ℕ) → total ≤ most_items → list_takes (use_of old) total ≡ Some class → (stored : StoredWorld) → MayHave v stored → CanLackMemory stored.world (call.List o lc) × (would_pass stored.world (call.List o lc) ≡ false) × (takes_in stored (call.List o lc) ≡ Some class)
+  pub no_table_lacks : (class : ℕ) → total ≤ most_items → list_takes (list_use_of old) total ≡ Some class → (stored : StoredWorld) → MayHave v stored → CanLackMemory stored.world (call.List o lc) × (would_pass stored.world (call.List o lc) ≡ false) × (takes_in stored (call.List o lc) ≡ Some class)
   no_table_lacks class few is stored has = lacks_table o lc values news v low list.locked is_list adds stored has class (few_is few) (wanted_is ∙ is)
 
   pub over_passes : most_items < total → (stored : StoredWorld) → MayHave v stored → CanLackMemory stored.world (call.List o lc) × (would_pass stored.world (call.List o lc) ≡ true)
@@ -74,7 +74,7 @@ knows_of k o old v list = record { container = list.container; kind = list.kind;
 
 -- ---- the table that is taken
 
-module _ (k : Shape) (old : Option Table) (table : Table) (class total : ℕ) (few : total ≤ most_items) (wanted : list_takes (use_of old) total ≡ Some class) (table_in : IsTableIn k table) (of_class : table.class ≡ class) where
+module _ (k : Shape) (old : Option Table) (table : Table) (class total : ℕ) (few : total ≤ most_items) (wanted : list_takes (list_use_of old) total ≡ Some class) (table_in : IsTableIn k table) (of_class : table.class ≡ class) where
   is_wanted : (list_class total ≡ class) × ((t : Table) → old ≡ Some t → list_items t.class < total)
   is_wanted = wanted_some old total class wanted
 
@@ -138,11 +138,11 @@ module _ (F : ℕ → Type 0) (v u : View) (same : SamePass v u) (keeps : KeepsB
   pub tried_news : (k : Shape) (count : ℕ) (addition : Addition) → v.shape ≡ k → IsAddition k count addition v → (values : List Value) → with_added addition u values ≡ with_added addition v values
   tried_news k count addition shape is values = news_on k count addition v u (λ p list. (keeps.held.words p (subst (λ (z : Shape). p < containers_in z) (sym shape) list.container) list.locked).1) is values
 
-  pub tried_items : (k : Shape) (o : ℕ) (old : Option Table) → v.shape ≡ k → KnowsList k o old v → items_of o u ≡ items_of o v
+  pub tried_items : (k : Shape) (o : ℕ) (old : Option Table) → v.shape ≡ k → KnowsList k o old v → known_items o u ≡ known_items o v
   tried_items k o old shape list = ap (λ (z : ContainerState). list_of z.content) (keeps.held.words o (subst (λ (z : Shape). o < containers_in z) (sym shape) list.container) list.locked).1
 
   -- it may put the table into the root
-  pub tried_may : (k : Shape) (o : ℕ) (old : Option Table) (table : Table) (class : ℕ) → v.shape ≡ k → MayAdd k o old v → IsTableIn k table → table.class ≡ class → stage (name_of table) u.log ≡ 1 → owes u.log ≡ suc class → MayGrow k o old table u
+  pub tried_may : (k : Shape) (o : ℕ) (old : Option Table) (table : Table) (class : ℕ) → v.shape ≡ k → MayAdd k o old v → IsTableIn k table → table.class ≡ class → stage (name_of table) u.log ≡ 1 → owes u.log ≡ suc class → MayGrowList k o old table u
   tried_may k o old table class shape may table_in of_class fresh owed = record {
     list = tried_knows k o old shape may.list;
     used = keeps.held.used ∙ may.used;
@@ -154,11 +154,11 @@ module _ (F : ℕ → Type 0) (v u : View) (same : SamePass v u) (keeps : KeepsB
 
 -- ---- what the call comes to, seen from before its loads
 
-pub adds_items : (k : Shape) (o n : ℕ) (old : Option Table) (v u w : View) (total : ℕ) (called : Call) (what : Added) → OnlyLoaded v u → KnowsList k o old u → u.shape ≡ k → ∥ Possible u ∥₁ → total ≡ length (items_of o v) + n → IsAdded k (list_takes (use_of old) total) (nat_lt most_items total) called reply.Done u w what → AddsItems k o called n v w what
+pub adds_items : (k : Shape) (o n : ℕ) (old : Option Table) (v u w : View) (total : ℕ) (called : Call) (what : Added) → OnlyLoaded v u → KnowsList k o old u → u.shape ≡ k → ∥ Possible u ∥₁ → total ≡ length (known_items o v) + n → IsAdded k (list_takes (list_use_of old) total) (nat_lt most_items total) called reply.Done u w what → AddsItems k o called n v w what
 adds_items k o n old v u w total called what loaded list shape possible total_is is =
     let same : known o u ≡ known o v = work_knows v u o loaded.work in
     let table = list_use k o old u list (knows_content k o old u shape possible list) in
-    let takes : list_takes (use_of old) total ≡ list_takes (known o v).table (length (items_of o v) + n) =
+    let takes : list_takes (list_use_of old) total ≡ list_takes (known o v).table (length (known_items o v) + n) =
     λ d. list_takes ((sym table ∙ ap (λ (z : ContainerState). z.table) same) d) (total_is d) in
-    let over : nat_lt most_items total ≡ nat_lt most_items (length (items_of o v) + n) = ap (λ (z : ℕ). nat_lt most_items z) total_is in
+    let over : nat_lt most_items total ≡ nat_lt most_items (length (known_items o v) + n) = ap (λ (z : ℕ). nat_lt most_items z) total_is in
     (u, loaded, subst (λ (z : Option ℕ × Bool). IsAdded k z.0 z.1 called reply.Done u w what) (λ d. (takes d, over d)) is)

@@ -13,16 +13,16 @@ use Rattle.ft_trace.specs.declared.Shape.{Shape}
 use Rattle.ft_trace.specs.declared.View.{View}
 use Rattle.ft_trace.specs.Addresses.{containers_in}
 use Rattle.ft_trace.specs.LookReplies.{item_reply}
-use Rattle.ft_trace.specs.Reading.{Among}
+use Rattle.ft_trace.specs.LoggedReads.{Among}
 use Rattle.ft_trace.specs.Traces.{Possible}
-use Rattle.ft_trace.specs.Worlds.{kind_in}
+use Rattle.ft_trace.specs.ContainerStates.{kind_in}
 use Rattle.ft_bank.specs.Reads.{IsShown}
 use Rattle.ft_bank.specs.Shown.{MayAsk}
 use Rattle.ft_bank.specs.Whole.{OnlyLoaded}
-use Rattle.ft_bank.proofs.Showing.{items_are_shown, items_are_read, past_items_are_shown}
-use Rattle.ft_search.specs.Looks.{AreLooks}
+use Rattle.ft_bank.proofs.ShownReplies.{items_are_shown, items_are_read, past_items_are_shown}
+use Rattle.ft_search.specs.KeyLooks.{AreLooks}
 use Rattle.ft_search.proofs.Asking.{looks_own, looks_newer}
-use Rattle.ft_list.specs.Looks.{ShowsItem, ShowsPast, Stops, IsContended}
+use Rattle.ft_list.specs.ItemLooks.{ShowsItem, ShowsPast, StopsItemLook, IsItemContended}
 
 module _ (v w : View) (k : Shape) (o index n : ℕ) (part : List Act) (loaded : OnlyLoaded v w) (looks : AreLooks part) (own : w.log ≡ part ++ v.log) (counted : Among (ReadCounter n) part) (same : w.shape ≡ k) (low : o < containers_in k) (left : 0 < v.left) (is : kind_in k.kinds o ≡ kind.List) where
   may_ask : MayAsk w o n
@@ -58,5 +58,5 @@ module _ (v w : View) (k : Shape) (o index n : ℕ) (part : List Act) (loaded : 
     pub item_either : Possible w → ((value : Value) × IsStored kind payload (Plain value)) ⊎ IsStored kind payload Empty
     item_either possible = items_are_read w o shows.t index n possible may_ask.low here shows.low shows.hit kind payload shows.read
 
-pub contended_after : (v w : View) (o index a b : ℕ) (part : List Act) → OnlyLoaded v w → AreLooks part → w.log ≡ part ++ v.log → Stops o index a b part → IsContended o index a b v w
+pub contended_after : (v w : View) (o index a b : ℕ) (part : List Act) → OnlyLoaded v w → AreLooks part → w.log ≡ part ++ v.log → StopsItemLook o index a b part → IsItemContended o index a b v w
 contended_after v w o index a b part loaded looks own stops = record { loaded = loaded; part = part; looks = looks; own = own; stops = stops }

@@ -13,26 +13,26 @@ use Rattle.ft_trace.specs.declared.View.{View}
 use Rattle.ft_trace.specs.Acts.{has_lock}
 use Rattle.ft_trace.specs.Addresses.{containers_in}
 use Rattle.ft_trace.specs.Holds.{held, known}
-use Rattle.ft_trace.specs.Reading.{Agrees}
-use Rattle.ft_trace.specs.Words.{Picture}
+use Rattle.ft_trace.specs.LoggedReads.{Agrees}
+use Rattle.ft_trace.specs.Pictures.{Picture}
 use Rattle.ft_bank.specs.declared.pass.Pass.{Pass}
 use Rattle.ft_bank.specs.Passes.{view}
 use Rattle.ft_bank.specs.Whole.{OnlyLoaded}
-use Rattle.ft_bank.proofs.Whole.{loaded_held}
+use Rattle.ft_bank.proofs.KnownAfterWrites.{loaded_held}
 use Rattle.ft_section.specs.declared.answers.Objects.TheVariants.{Two}
 use Rattle.ft_section.specs.LockTakings.{AreIn, HasLocks}
 use Rattle.ft_search.proofs.Lengths.{IsPlain}
 use Rattle.ft_search.proofs.Rounding.{looks_append, looks_load}
 use Rattle.ft_search.proofs.Running.{did_trans}
-use Rattle.ft_list.specs.Calls.{MayWriteList}
+use Rattle.ft_list.specs.ListWrites.{MayWriteList}
 use Rattle.ft_list.specs.Indexes.{Reads, IsItemAt}
-use Rattle.ft_list.specs.Items.{items_of}
+use Rattle.ft_list.specs.ListItemWrites.{known_items}
 use Rattle.ft_list.specs.Pairs.{ReadsBoth, AreOfItems}
-use Rattle.ft_search.specs.Calls.{IsReplyTo}
+use Rattle.ft_search.specs.MadeCalls.{IsReplyTo}
 use Rattle.ft_list.proofs.Commits.{list_is}
 use Rattle.ft_list.proofs.Lists.{content_of}
 use Rattle.ft_list.proofs.Indexes.{agrees_append, agrees_newer, agrees_older, items_counted}
-use Rattle.ft_list.proofs.Values.{AlikeBefore}
+use Rattle.ft_list.proofs.ValueLists.{AlikeBefore}
 
 module _ (k : Shape) (o m : ℕ) where
   pub of_first : (P : Picture → Type 0) (p q : Pass) → Reads k o P p q → ReadsBoth k o m (λ x y. P x) p q
@@ -86,15 +86,15 @@ AlikeYet count place xs ys = (count ≡ length xs) × (count ≡ length ys) × A
 
 module _ (k : Shape) (o m : ℕ) (holds : List Value → List Value → Type 0) (p q : Pass) (r : ReadsBoth k o m (AreOfItems k holds) p q) (shape : (view p).shape ≡ k) (may : MayWriteList k o (view p)) (other : MayWriteList k m (view p)) where
   -- it holds of the items that the pass knows
-  pub both_hold : holds (items_of o (view p)) (items_of m (view p))
+  pub both_hold : holds (known_items o (view p)) (known_items m (view p))
   both_hold = r.3 (held o (view p)) (held m (view p)) (r.4 o may.container may.locked) (r.4 m other.container other.locked) (known o (view p)) (known m (view p))
       (ap kind_of (content_of k o (view p) shape p.possible may)) (ap kind_of (content_of k m (view p) shape p.possible other)) may.stands other.stands
 
-  pub eq_replied : (alike : Bool) → alike ≡ same_items (items_of o (view p)) (items_of m (view p)) → IsReplyTo (call.List o (list.Eq m)) (reply.Truth alike) (view p)
+  pub eq_replied : (alike : Bool) → alike ≡ same_items (known_items o (view p)) (known_items m (view p)) → IsReplyTo (call.List o (list.Eq m)) (reply.Truth alike) (view p)
   eq_replied alike is stored has =
       let inside : (c : ℕ) → c < containers_in k → c < containers_in (view p).shape = λ c low. subst (λ (z : Shape). c < containers_in z) (sym shape) low in
-      let one = list_is o (list.Eq m) (reply.Truth alike) (items_of o (view p)) (items_of o (view p)) (view p) (inside o may.container) may.locked (content_of k o (view p) shape p.possible may) stored has in
-      let two = list_is m (list.Eq o) (reply.Truth alike) (items_of m (view p)) (items_of m (view p)) (view p) (inside m other.container) other.locked (content_of k m (view p) shape p.possible other) stored has in
+      let one = list_is o (list.Eq m) (reply.Truth alike) (known_items o (view p)) (known_items o (view p)) (view p) (inside o may.container) may.locked (content_of k o (view p) shape p.possible may) stored has in
+      let two = list_is m (list.Eq o) (reply.Truth alike) (known_items m (view p)) (known_items m (view p)) (view p) (inside m other.container) other.locked (content_of k m (view p) shape p.possible other) stored has in
       (λ d. reply.Truth (same_items (one d) (two d))) ∙ ap reply.Truth (sym is)
 
 pub eq_plain : (o m : ℕ) (alike : Bool) → IsPlain (call.List o (list.Eq m)) (reply.Truth alike)

@@ -11,23 +11,23 @@ use Rattle.ft_trace.specs.declared.Act.{Act}
 use Rattle.ft_trace.specs.declared.View.{View}
 use Rattle.ft_trace.specs.Addresses.{containers_in, class_of, slots, size}
 use Rattle.ft_trace.specs.Acts.{has_committed, noted}
-use Rattle.ft_trace.specs.Worlds.{kind_in}
-use Rattle.ft_trace.specs.Words.{root_in, item_at, item_of}
-use Rattle.ft_trace.specs.Items.{said_at, words_at, ItemCareful}
+use Rattle.ft_trace.specs.ContainerStates.{kind_in}
+use Rattle.ft_trace.specs.Pictures.{root_in, item_offset, item_field}
+use Rattle.ft_trace.specs.ItemWords.{said_at, words_at, ItemCareful}
 use Rattle.ft_trace.specs.Kinds.{rows, version_at, CarefulAs}
-use Rattle.ft_trace.specs.Openings.{Timely}
+use Rattle.ft_trace.specs.OddVersions.{Timely}
 use Rattle.ft_trace.specs.Holds.{held, known}
 use Rattle.ft_trace.specs.Traces.{Possible}
 use Rattle.ft_trace.proofs.ByKind.{items_fit}
 use Rattle.ft_trace.proofs.Known.{table_is_long}
 use Rattle.ft_trace.proofs.ItemPuts.{item_open, item_word_put, item_close}
 use Rattle.ft_bank.specs.declared.table.Table.{Table}
-use Rattle.ft_bank.specs.Tables.{name_of, IsTableIn}
-use Rattle.ft_bank.specs.Writes.{IsCareful}
+use Rattle.ft_bank.specs.TableNames.{name_of, IsTableIn}
+use Rattle.ft_bank.specs.WriteSteps.{IsCareful}
 use Rattle.ft_bank.specs.Whole.{OnlyPut}
-use Rattle.ft_bank.proofs.Tables.{named}
-use Rattle.ft_bank.proofs.Whole.{IsLoad, loaded_by, loaded_put, loaded_held}
-use Rattle.ft_list.specs.Items.{WritesList}
+use Rattle.ft_bank.proofs.TableAddresses.{named}
+use Rattle.ft_bank.proofs.KnownAfterWrites.{IsLoad, loaded_by, loaded_put, loaded_held}
+use Rattle.ft_list.specs.ListItemWrites.{WritesList}
 use Rattle.ft_list.proofs.Room.{version_room}
 
 pub table_class : (k : Shape) (t : Table) → IsTableIn k t → IsClass (class_of (name_of t))
@@ -38,7 +38,7 @@ pub few_slots : (k : Shape) (t : Table) → IsTableIn k t → slots (class_of (n
 unfolding slots
 few_slots k t is = (slots_range (class_of (name_of t)) (table_class k t is)).1
 
-pub inside : (k : Shape) (t : Table) → IsTableIn k t → (place word : ℕ) → place < slots (class_of (name_of t)) → word < 4 → item_at place word < size (class_of (name_of t))
+pub inside : (k : Shape) (t : Table) → IsTableIn k t → (place word : ℕ) → place < slots (class_of (name_of t)) → word < 4 → item_offset place word < size (class_of (name_of t))
 inside k t is place word low few = let f = items_fit (class_of (name_of t)) (table_class k t is) in omega (arith, f, low, few)
 
 -- the pass still writes the list
@@ -79,28 +79,28 @@ module _ (k : Shape) (o : ℕ) (table : Table) (v : View) (list : WritesList k o
     timely = subst (λ (z : Kind). Timely (version_at z c) (rows z c) i x (has_committed o v.log)) (sym is_kind) timely;
   }
 
-  pub open_care : (place version at : ℕ) → at ≡ item_at place 0 → has_committed o v.log ≡ false → version ≡ item_of ws place 0 → version % 2 ≡ 0 → IsCareful v o t at (version + 1)
+  pub open_care : (place version at : ℕ) → at ≡ item_offset place 0 → has_committed o v.log ≡ false → version ≡ item_field ws place 0 → version % 2 ≡ 0 → IsCareful v o t at (version + 1)
   open_care place version at is early found even =
       subst (λ (i : ℕ). IsCareful v o t i (version + 1)) (sym is)
-      (subst (λ (n : ℕ). IsCareful v o t (item_at place 0) (n + 1)) (sym found)
-      (cares (item_at place 0) (item_of ws place 0 + 1) (item_open (slots c) ws (list_of (known o v).content) place (omega (arith, even, found)))
+      (subst (λ (n : ℕ). IsCareful v o t (item_offset place 0) (n + 1)) (sym found)
+      (cares (item_offset place 0) (item_field ws place 0 + 1) (item_open (slots c) ws (list_of (known o v).content) place (omega (arith, even, found)))
       (record { before = λ q less e one. early; later = λ q less e two. absurd (omega (arith, two, even, found)) })))
 
-  pub word_care : (place word at x : ℕ) → at ≡ item_at place word → 0 < word → word < 4 → item_of ws place 0 % 2 ≡ 1 → IsCareful v o t at x
+  pub word_care : (place word at x : ℕ) → at ≡ item_offset place word → 0 < word → word < 4 → item_field ws place 0 % 2 ≡ 1 → IsCareful v o t at x
   word_care place word at x is some few odd =
       subst (λ (i : ℕ). IsCareful v o t i x) (sym is)
-      (cares (item_at place word) x (item_word_put (slots c) ws (list_of (known o v).content) place word x some few odd)
+      (cares (item_offset place word) x (item_word_put (slots c) ws (list_of (known o v).content) place word x some few odd)
       (record { before = λ q less e one. absurd (omega (arith, e, some, few)); later = λ q less e two. absurd (omega (arith, e, some, few)) }))
 
-  pub close_care : (place version at : ℕ) → at ≡ item_at place 0 → has_committed o v.log ≡ true → version ≡ item_of ws place 0 → version % 2 ≡ 1 → words_at (list_of (known o v).content) place ≡ said_at ws place → IsCareful v o t at (version + 1)
+  pub close_care : (place version at : ℕ) → at ≡ item_offset place 0 → has_committed o v.log ≡ true → version ≡ item_field ws place 0 → version % 2 ≡ 1 → words_at (list_of (known o v).content) place ≡ said_at ws place → IsCareful v o t at (version + 1)
   close_care place version at is late found odd says =
       subst (λ (i : ℕ). IsCareful v o t i (version + 1)) (sym is)
-      (subst (λ (n : ℕ). IsCareful v o t (item_at place 0) (n + 1)) (sym found)
-      (cares (item_at place 0) (item_of ws place 0 + 1) (item_close (slots c) ws (list_of (known o v).content) place (item_of ws place 0 + 1) refl says)
+      (subst (λ (n : ℕ). IsCareful v o t (item_offset place 0) (n + 1)) (sym found)
+      (cares (item_offset place 0) (item_field ws place 0 + 1) (item_close (slots c) ws (list_of (known o v).content) place (item_field ws place 0 + 1) refl says)
       (record { before = λ q less e one. absurd (omega (arith, one, odd, found)); later = λ q less e two. late })))
 
 -- a version has room for one more write
-pub item_room : (k : Shape) (o : ℕ) (table : Table) (v : View) → WritesList k o table v → v.shape ≡ k → ∥ Possible v ∥₁ → k.passes * k.calls < 2 ^ 46 → (place : ℕ) → place < slots (class_of (name_of table)) → item_of (held o v).table place 0 < 2 ^ 63
+pub item_room : (k : Shape) (o : ℕ) (table : Table) (v : View) → WritesList k o table v → v.shape ≡ k → ∥ Possible v ∥₁ → k.passes * k.calls < 2 ^ 46 → (place : ℕ) → place < slots (class_of (name_of table)) → item_field (held o v).table place 0 < 2 ^ 63
 item_room k o table v list shape possible few place low =
     let t = name_of table in
     let is_kind : kind_in v.shape.kinds o ≡ kind.List = ap (λ (z : Shape). kind_in z.kinds o) shape ∙ list.kind in
@@ -110,7 +110,7 @@ item_room k o table v list shape possible few place low =
     subst (λ (z : Kind). slice_index (held o v).table (version_at z (class_of t) place) < 2 ^ 63) is_kind (version_room v o t place possible here list.locked list.root row calls)
 
 -- the words of an item are there
-pub long_enough : (k : Shape) (o : ℕ) (table : Table) (v : View) → WritesList k o table v → (place : ℕ) → place < slots (class_of (name_of table)) → item_at place 3 ≤ length (held o v).table
+pub long_enough : (k : Shape) (o : ℕ) (table : Table) (v : View) → WritesList k o table v → (place : ℕ) → place < slots (class_of (name_of table)) → item_offset place 3 ≤ length (held o v).table
 long_enough k o table v list place low =
     let l = table_is_long v o (name_of table) list.root in
     let i = inside k table list.table_in place 3 low (omega arith) in

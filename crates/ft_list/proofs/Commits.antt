@@ -15,7 +15,7 @@ use Rattle.ft_model.specs.declared.script.Kind.{Kind}
 use Rattle.ft_model.specs.declared.script.Kind.TheVariants as kind
 use Rattle.ft_model.specs.Answers.{Answer, answer, answer_list, puts, after_write}
 use Rattle.ft_model.specs.Calls.{list_change}
-use Rattle.ft_model.specs.Tables.{StoredWorld, no_table, takes_in, table_at, change_leaves, grown_table, after_stored}
+use Rattle.ft_model.specs.TableUses.{StoredWorld, no_table, takes_in, table_at, change_leaves, grown_table, after_stored}
 use Rattle.ft_model.specs.Worlds.{list_of, list_at, no_hands, IsDeclared}
 use Rattle.ft_layout.specs.Containers.{IsBlock}
 use Rattle.ft_layout.proofs.Powers.{slots_range}
@@ -23,17 +23,17 @@ use Rattle.ft_trace.specs.declared.Shape.{Shape}
 use Rattle.ft_trace.specs.declared.View.{View}
 use Rattle.ft_trace.specs.Addresses.{containers_in, class_of, slots}
 use Rattle.ft_trace.specs.Acts.{has_lock, is_writing, has_emptied, owes}
-use Rattle.ft_trace.specs.Worlds.{ContainerState, state_at, kind_in, changes}
-use Rattle.ft_trace.specs.Words.{root_in}
-use Rattle.ft_trace.specs.Items.{ItemClear}
+use Rattle.ft_trace.specs.ContainerStates.{ContainerState, state_at, kind_in, changes}
+use Rattle.ft_trace.specs.Pictures.{root_in}
+use Rattle.ft_trace.specs.ItemWords.{ItemClear}
 use Rattle.ft_trace.specs.Kinds.{ClearAs}
 use Rattle.ft_trace.specs.Holds.{held, known}
 use Rattle.ft_trace.proofs.Known.{declared_at}
 use Rattle.ft_bank.specs.declared.table.Table.{Table}
-use Rattle.ft_bank.specs.Tables.{name_of}
-use Rattle.ft_bank.specs.Writes.{MayHave}
-use Rattle.ft_list.specs.Items.{WritesList, IsChanging, MayFinish}
-use Rattle.ft_list.specs.Calls.{IsListWrite}
+use Rattle.ft_bank.specs.TableNames.{name_of}
+use Rattle.ft_bank.specs.WriteSteps.{MayHave}
+use Rattle.ft_list.specs.ListItemWrites.{WritesList, IsChanging, MayFinishItems}
+use Rattle.ft_list.specs.ListWrites.{IsListWrite}
 use Rattle.ft_list.proofs.Cares.{table_class}
 
 module _ (o : ℕ) (lc : ListCall) (said : Reply) (values news : List Value) (v : View) (low : o < containers_in v.shape) (mine : has_lock o v.log ≡ true) (is_list : (known o v).content ≡ content.List values) (stored : StoredWorld) (has : MayHave v stored) where
@@ -108,7 +108,7 @@ module _ (k : Shape) (o : ℕ) (table : Table) (first past : ℕ) (lc : ListCall
     room = subst (λ (z : Option ℕ). IfSome z (λ (n : ℕ). n < 0)) (sym call_is.cursor) tt;
   }
 
-  pub may_finish : 0 < v.left → has_emptied o v.log ≡ false → IsBlock (held o v).block (Some class) (length news) 0 0 → MayFinish o table called said first past v
+  pub may_finish : 0 < v.left → has_emptied o v.log ≡ false → IsBlock (held o v).block (Some class) (length news) 0 0 → MayFinishItems o table called said first past v
   may_finish left full head = record {
     may = record {
       write = (λ d. call_is.changing d && not (call_is.raises d));

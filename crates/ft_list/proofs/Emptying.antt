@@ -7,7 +7,7 @@ use Rattle.ft_model.specs.declared.call.ListCall.TheVariants as list
 use Rattle.ft_model.specs.declared.content.Content.TheVariants as content
 use Rattle.ft_model.specs.declared.data.Value.{Value}
 use Rattle.ft_model.specs.declared.reply.Reply.TheVariants as reply
-use Rattle.ft_model.specs.Tables.{no_table}
+use Rattle.ft_model.specs.TableUses.{no_table}
 use Rattle.ft_layout.specs.Containers.{IsRoot, IsBlock}
 use Rattle.ft_trace.specs.declared.Act.TheVariants.{Commit, PutBlock, PutRoot, StartWrite, StopWrite}
 use Rattle.ft_trace.specs.declared.Snap.{Snap}
@@ -17,22 +17,22 @@ use Rattle.ft_trace.specs.Acts.{has_lock, is_writing, owes, noted, seen_writes, 
 use Rattle.ft_trace.specs.Addresses.{containers_in}
 use Rattle.ft_trace.specs.Holds.{held, known}
 use Rattle.ft_trace.specs.Traces.{Possible}
-use Rattle.ft_trace.specs.Words.{Picture, root_in, Stands}
-use Rattle.ft_trace.specs.Worlds.{ContainerState}
+use Rattle.ft_trace.specs.Pictures.{Picture, root_in, Stands}
+use Rattle.ft_trace.specs.ContainerStates.{ContainerState}
 use Rattle.ft_trace.proofs.Cases.{hit}
 use Rattle.ft_trace.proofs.Known.{declared_at}
 use Rattle.ft_trace.proofs.Naming.{named_locked}
 use Rattle.ft_bank.specs.declared.table.Table.{Table}
 use Rattle.ft_bank.specs.Whole.{OnlyPut, Wrote}
-use Rattle.ft_bank.specs.Writes.{Committed, IsShut, KeepsUnwritten, MayCommit, MayPutRoot, with_block, with_root}
-use Rattle.ft_bank.proofs.Whole.{put_by, put_same, work_knows, write_ends}
+use Rattle.ft_bank.specs.WriteSteps.{Committed, IsShut, KeepsUnwritten, MayCommit, MayPutRoot, with_block, with_root}
+use Rattle.ft_bank.proofs.KnownAfterWrites.{put_by, put_same, work_knows, write_ends}
 use Rattle.ft_growth.proofs.Rooting.{rooted_write}
-use Rattle.ft_search.specs.Writing.{Leaves}
-use Rattle.ft_list.specs.Items.{items_of}
-use Rattle.ft_list.specs.Internal.Growing.{KnowsList, MayAdd}
+use Rattle.ft_search.specs.OneEntryWrites.{Leaves}
+use Rattle.ft_list.specs.ListItemWrites.{known_items}
+use Rattle.ft_list.specs.Internal.NewListTables.{KnowsList, MayAdd}
 use Rattle.ft_list.proofs.Commits.{content_after, in_tables, in_world, list_there}
 use Rattle.ft_list.proofs.Extending.{none_alike}
-use Rattle.ft_list.proofs.Growing.{knows_content, knows_shut, list_bare, list_head}
+use Rattle.ft_list.proofs.GrownLists.{knows_content, knows_shut, list_bare, list_head}
 use Rattle.ft_list.proofs.Wanted.{list_use}
 
 -- the call
@@ -122,7 +122,7 @@ module _ (k : Shape) (o : ℕ) (table : Table) (v s r u : View) (f : ℕ) (may :
   known_then : (p : ℕ) → known p u ≡ known p v
   known_then p = work_knows r u p puts.work ∙ ap (λ (z : View). known p z) both_rooted
 
-  is_list : (known o v).content ≡ content.List (items_of o v)
+  is_list : (known o v).content ≡ content.List (known_items o v)
   is_list = knows_content k o (Some table) v shape possible may.list
 
   low_then : o < containers_in u.shape
@@ -131,7 +131,7 @@ module _ (k : Shape) (o : ℕ) (table : Table) (v s r u : View) (f : ℕ) (may :
   mine_then : has_lock o u.log ≡ true
   mine_then = puts.work.pass.locks o ∙ (ap (λ (z : View). has_lock o z.log) both_rooted ∙ may.list.locked)
 
-  list_then : (known o u).content ≡ content.List (items_of o v)
+  list_then : (known o u).content ≡ content.List (known_items o v)
   list_then = ap (λ (z : ContainerState). z.content) (known_then o) ∙ is_list
 
   -- its block
@@ -139,14 +139,14 @@ module _ (k : Shape) (o : ℕ) (table : Table) (v s r u : View) (f : ℕ) (may :
   head_then =
       subst (λ (x : Picture). IsBlock x.block None 0 0 0) (sym (count_held ∙ ap (λ (x : Picture). with_block x 1 0) root_held))
       (subst (λ (z : View). IsBlock (with_block (with_root (held o z) None z) 1 0).block None 0 0 0) (sym started)
-      (with_no_root (held o v).block (known o v).table.class (length (items_of o v)) (list_head k.texts v o is_list may.list.stands)))
+      (with_no_root (held o v).block (known o v).table.class (length (known_items o v)) (list_head k.texts v o is_list may.list.stands)))
 
   pub root_then : root_in (held o u) ≡ 0
   root_then = head_then.root
 
   pub clear_may_commit : MayCommit u (clear_of o) reply.Done
   clear_may_commit =
-      may_clear o (items_of o v) u low_then mine_then list_then
+      may_clear o (known_items o v) u low_then mine_then list_then
       (puts.work.pass.writes o ∙ (ap (λ (z : View). is_writing o z.log) both_rooted ∙ hit o true (is_writing o v.log)))
       (subst (λ (n : ℕ). 0 < n) (sym (puts.work.left ∙ ap (λ (z : View). z.left) both_rooted)) may.left)
       (puts.work.owes ∙ (ap (λ (z : View). owes z.log) both_rooted ∙ may.owes))
@@ -159,7 +159,7 @@ module _ (k : Shape) (o : ℕ) (table : Table) (v s r u : View) (f : ℕ) (may :
 
     pub clear_stands : (texts : List ℕ) → Stands texts (held o c) (known o c)
     clear_stands texts =
-        bare_stands texts (held o c) (known o c) (clear_kept o (items_of o v) u low_then mine_then list_then c committed) (subst (λ (x : Picture). IsBlock x.block None 0 0 0) (sym held_on) head_then)
+        bare_stands texts (held o c) (known o c) (clear_kept o (known_items o v) u low_then mine_then list_then c committed) (subst (λ (x : Picture). IsBlock x.block None 0 0 0) (sym held_on) head_then)
 
     pub clear_root : root_in (held o c) ≡ 0
     clear_root = ap root_in held_on ∙ root_then
@@ -180,7 +180,7 @@ bare_leaves k o v may shape possible =
     let knows = may.list in
     let low : o < containers_in v.shape = subst (λ (z : Shape). o < containers_in z) (sym shape) knows.container in
     let is_list = knows_content k o None v shape possible knows in
-    let values = items_of o v in
+    let values = known_items o v in
     let empty : [] ≡ values = none_alike [] values refl (list_bare k o v knows is_list) in
     let no_use = list_use k o None v knows is_list in
     record {

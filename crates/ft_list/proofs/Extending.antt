@@ -20,31 +20,31 @@ use Rattle.ft_trace.specs.Acts.{has_lock, is_writing}
 use Rattle.ft_trace.specs.Addresses.{containers_in, class_of, slots}
 use Rattle.ft_trace.specs.Holds.{held, known}
 use Rattle.ft_trace.specs.Traces.{Possible}
-use Rattle.ft_trace.specs.Words.{Picture, root_in, Stands, item_of}
-use Rattle.ft_trace.specs.Worlds.{ContainerState, kind_in}
+use Rattle.ft_trace.specs.Pictures.{Picture, root_in, Stands, item_field}
+use Rattle.ft_trace.specs.ContainerStates.{ContainerState, kind_in}
 use Rattle.ft_bank.specs.declared.table.Table.{Table}
-use Rattle.ft_bank.specs.Tables.{name_of}
+use Rattle.ft_bank.specs.TableNames.{name_of}
 use Rattle.ft_bank.specs.Whole.{OnlyLoaded, OnlyPut}
-use Rattle.ft_bank.specs.Writes.{with_block}
-use Rattle.ft_bank.proofs.Whole.{loaded_held, work_knows}
+use Rattle.ft_bank.specs.WriteSteps.{with_block}
+use Rattle.ft_bank.proofs.KnownAfterWrites.{loaded_held, work_knows}
 use Rattle.ft_list.specs.declared.addition.Addition.{Addition}
 use Rattle.ft_list.specs.declared.addition.Addition.TheVariants.{One, All}
-use Rattle.ft_list.specs.Calls.{MayWriteList}
-use Rattle.ft_list.specs.Items.{WritesList, IsChanging, IsMoving, IsPutting, items_of, stored_at}
+use Rattle.ft_list.specs.ListWrites.{MayWriteList}
+use Rattle.ft_list.specs.ListItemWrites.{WritesList, IsChanging, IsMoving, IsPutting, known_items, stored_item}
 use Rattle.ft_list.specs.Internal.Additions.{count_in, first_in, with_added, KnowsItems, IsAddition, IsAdditionTo, GivesItems}
 use Rattle.ft_list.proofs.Lists.{list_content, list_known, list_rooted}
-use Rattle.ft_list.proofs.Finishing.{with_count}
-use Rattle.ft_list.proofs.Putting.{at_words, list_few, moving_ends, stored_none, stored_some}
+use Rattle.ft_list.proofs.FinishedWrites.{with_count}
+use Rattle.ft_list.proofs.ItemWordsPut.{at_words, list_few, moving_ends, stored_none, stored_some}
 
 -- ---- what two lists store, one after the other
 
-pub append_low : (xs ys : List Value) (p : ℕ) → p < length xs → stored_at xs p ≡ stored_at (xs ++ ys) p
+pub append_low : (xs ys : List Value) (p : ℕ) → p < length xs → stored_item xs p ≡ stored_item (xs ++ ys) p
 append_low xs ys p low =
     let e = length-append xs ys in
     stored_some xs p value.Nothing low
     ∙ (ap Plain (sym (get_or_append_left xs ys value.Nothing p low)) ∙ sym (stored_some (xs ++ ys) p value.Nothing (omega (arith, e, low))))
 
-pub append_high : (xs ys : List Value) (p : ℕ) → p < length ys → stored_at ys p ≡ stored_at (xs ++ ys) (length xs + p)
+pub append_high : (xs ys : List Value) (p : ℕ) → p < length ys → stored_item ys p ≡ stored_item (xs ++ ys) (length xs + p)
 append_high xs ys p low =
     let e = length-append xs ys in
     stored_some ys p value.Nothing low
@@ -62,33 +62,33 @@ unfolding slots
 class_few class is = (slots_range class is).1
 
 module _ (k : Shape) (m : ℕ) (v : View) (list : KnowsItems k m v) (shape : v.shape ≡ k) (possible : ∥ Possible v ∥₁) where
-  pub knows_list : (known m v).content ≡ content.List (items_of m v)
+  pub knows_list : (known m v).content ≡ content.List (known_items m v)
   knows_list = list_content v m possible list.locked (ap (λ (z : Shape). kind_in z.kinds m) shape ∙ list.kind)
 
-  room_at : (t : ℕ) → root_in (held m v) ≡ suc t → (length (items_of m v) ≤ slots (class_of t)) × (length (items_of m v) ≤ 65536)
+  room_at : (t : ℕ) → root_in (held m v) ≡ suc t → (length (known_items m v) ≤ slots (class_of t)) × (length (known_items m v) ≤ 65536)
   room_at t names =
       let says = (list_known k.texts v m t knows_list list.stands names).0 in
       let is_class = says.head.root.1.0 in
-      let few = list_few (class_of t) is_class (items_of m v) (0 ∷ 0 ∷ (held m v).table) says.table in
+      let few = list_few (class_of t) is_class (known_items m v) (0 ∷ 0 ∷ (held m v).table) says.table in
       let most = class_few (class_of t) is_class in
       (few, omega (arith, few, most))
 
-  stored_there : (t p : ℕ) → root_in (held m v) ≡ suc t → p < length (items_of m v) → (p < slots (class_of t)) × IsStored (item_of (held m v).table p 1) (item_of (held m v).table p 2) (stored_at (items_of m v) p)
+  stored_there : (t p : ℕ) → root_in (held m v) ≡ suc t → p < length (known_items m v) → (p < slots (class_of t)) × IsStored (item_field (held m v).table p 1) (item_field (held m v).table p 2) (stored_item (known_items m v) p)
   stored_there t p names low =
       let says = (list_known k.texts v m t knows_list list.stands names).0 in
       let few = (room_at t names).0 in (
         omega (arith, few, low),
-        subst (λ (z : Stored). IsStored (item_of (held m v).table p 1) (item_of (held m v).table p 2) z) (sym (stored_some (items_of m v) p value.Nothing low))
+        subst (λ (z : Stored). IsStored (item_field (held m v).table p 1) (item_field (held m v).table p 2) z) (sym (stored_some (known_items m v) p value.Nothing low))
             (at_words (held m v).table p _ (says.table.items p value.Nothing low)),
       )
 
-  bare_there : root_in (held m v) ≡ 0 → length (items_of m v) ≡ 0
-  bare_there none = elim (cases_eq (length (items_of m v)) 0) [ inl e ↦ e | inr ne ↦ absurd (list_rooted k.texts v m knows_list list.stands ne none) ]
+  bare_there : root_in (held m v) ≡ 0 → length (known_items m v) ≡ 0
+  bare_there none = elim (cases_eq (length (known_items m v)) 0) [ inl e ↦ e | inr ne ↦ absurd (list_rooted k.texts v m knows_list list.stands ne none) ]
 
-  pub knows_few : length (items_of m v) ≤ 65536
+  pub knows_few : length (known_items m v) ≤ 65536
   knows_few = at (root_in (held m v)) refl
     where
-      at : (root : ℕ) → root_in (held m v) ≡ root → length (items_of m v) ≤ 65536
+      at : (root : ℕ) → root_in (held m v) ≡ root → length (known_items m v) ≤ 65536
       at zero none = let e = bare_there none in omega (arith, e)
       at (suc t) names = (room_at t names).1
 
@@ -122,7 +122,7 @@ pub added_long : (k : Shape) (count : ℕ) (addition : Addition) (v : View) (val
 added_long k count (One place value) v values is long =
     let low = is.0 in
     length-insert values place value (omega (arith, low, long)) ∙ ap (λ (n : ℕ). n + 1) (sym long)
-added_long k count (All other more) v values is long = length-append values (items_of other v) ∙ (λ d. sym long d + sym is.0 d)
+added_long k count (All other more) v values is long = length-append values (known_items other v) ∙ (λ d. sym long d + sym is.0 d)
 
 -- the first item that changes is one of the list's, or comes after them
 pub first_low : (k : Shape) (count : ℕ) (addition : Addition) (v : View) → IsAddition k count addition v → first_in addition count ≤ count
@@ -146,15 +146,15 @@ addition_loaded k count addition v w l is = addition_on k count addition v w (λ
 -- ---- once the pass writes the list o, whose table has its items
 
 module _ (k : Shape) (o : ℕ) (table : Table) (v s : View) (list : WritesList k o table s) (first past : ℕ)
-    (putting : IsPutting (class_of (name_of table)) (items_of o v) first past (stored_at (items_of o v)) (held o s).table)
-    (few : length (items_of o v) ≤ slots (class_of (name_of table)))
+    (putting : IsPutting (class_of (name_of table)) (known_items o v) first past (stored_item (known_items o v)) (held o s).table)
+    (few : length (known_items o v) ≤ slots (class_of (name_of table)))
     (known_same : (p : ℕ) → known p s ≡ known p v)
     (shape : s.shape ≡ k) (possible : ∥ Possible s ∥₁)
     (others : (p : ℕ) → p ≢ o → KnowsItems k p v → (held p s ≡ held p v) × (has_lock p s.log ≡ has_lock p v.log) × (is_writing p s.log ≡ is_writing p v.log)) where
   abbrev class : ℕ
   class = class_of (name_of table)
 
-  items_same : (p : ℕ) → items_of p s ≡ items_of p v
+  items_same : (p : ℕ) → known_items p s ≡ known_items p v
   items_same p = ap (λ (z : ContainerState). list_of z.content) (known_same p)
 
   gives_itself : GivesItems k o o s
@@ -165,10 +165,10 @@ module _ (k : Shape) (o : ℕ) (table : Table) (v s : View) (list : WritesList k
     stores = λ t p names low.
         let same : name_of table ≡ t = let e : suc (name_of table) ≡ suc t = sym list.root ∙ names in omega (arith, e) in
         let items = items_same o in
-        let long : length (items_of o s) ≡ length (items_of o v) = ap length items in
+        let long : length (known_items o s) ≡ length (known_items o v) = ap length items in
         let less : p < slots class = omega (arith, low, long, few) in (
           subst (λ (n : ℕ). p < slots (class_of n)) same less,
-          subst (λ (l : List Value). IsStored (item_of (held o s).table p 1) (item_of (held o s).table p 2) (stored_at l p)) (sym items) (putting.items p less),
+          subst (λ (l : List Value). IsStored (item_field (held o s).table p 1) (item_field (held o s).table p 2) (stored_item l p)) (sym items) (putting.items p less),
         );
     bare = λ none. absurd (let r = list.root in omega (arith, r, none));
   }
@@ -187,7 +187,7 @@ pub gives_loaded : (k : Shape) (o m : ℕ) (v w : View) → OnlyLoaded v w → G
 gives_loaded k o m v w l gives =
     let h = loaded_held v w m l in
     let c : known m w ≡ known m v = work_knows v w m l.work in
-    let long : length (items_of m w) ≡ length (items_of m v) = ap (λ (z : ContainerState). length (list_of z.content)) c in
+    let long : length (known_items m w) ≡ length (known_items m v) = ap (λ (z : ContainerState). length (list_of z.content)) c in
     record {
       container = gives.container;
       locked = l.work.pass.locks m ∙ gives.locked;
@@ -195,7 +195,7 @@ gives_loaded k o m v w l gives =
       stores = λ t p names low.
           let x = gives.stores t p (sym (ap root_in h) ∙ names) (omega (arith, low, long)) in (
             x.0,
-            subst (λ (z : Picture × ContainerState). IsStored (item_of z.0.table p 1) (item_of z.0.table p 2) (stored_at (list_of z.1.content) p)) (λ d. (sym h d, sym c d)) x.1,
+            subst (λ (z : Picture × ContainerState). IsStored (item_field z.0.table p 1) (item_field z.0.table p 2) (stored_item (list_of z.1.content) p)) (λ d. (sym h d, sym c d)) x.1,
           );
       bare = λ none. long ∙ gives.bare (sym (ap root_in h) ∙ none);
     }
@@ -215,30 +215,30 @@ module _ (k : Shape) (o m : ℕ) (table : Table) (v w : View) (shape : v.shape �
     | inr ne ↦ ap root_in (held_same ne)
   ]
 
-  pub gives_put : (values others : List Value) (first past at : ℕ) → IsMoving (class_of (name_of table)) values (values ++ others) first past at (held o w).table → items_of o v ≡ values → length values ≤ at → length values ≤ slots (class_of (name_of table)) → GivesItems k o m w
+  pub gives_put : (values others : List Value) (first past at : ℕ) → IsMoving (class_of (name_of table)) values (values ++ others) first past at (held o w).table → known_items o v ≡ values → length values ≤ at → length values ≤ slots (class_of (name_of table)) → GivesItems k o m w
   gives_put values others first past at moving items done few = record {
     container = gives.container;
     locked = only.work.pass.locks m ∙ gives.locked;
     quiet = λ ne. only.work.pass.writes m ∙ gives.quiet ne;
     stores = elim (cases_eq m o) [
-      | inl e ↦ subst (λ (q : ℕ). (t p : ℕ) → root_in (held q w) ≡ suc t → p < length (items_of q w) → (p < slots (class_of t)) × IsStored (item_of (held q w).table p 1) (item_of (held q w).table p 2) (stored_at (items_of q w) p)) (sym e)
+      | inl e ↦ subst (λ (q : ℕ). (t p : ℕ) → root_in (held q w) ≡ suc t → p < length (known_items q w) → (p < slots (class_of t)) × IsStored (item_field (held q w).table p 1) (item_field (held q w).table p 2) (stored_item (known_items q w) p)) (sym e)
           (λ t p names low.
           let same : name_of table ≡ t = let x : suc (name_of table) ≡ suc t = sym after.root ∙ names in omega (arith, x) in
-          let all : items_of o w ≡ values = ap (λ (z : ContainerState). list_of z.content) (work_knows v w o only.work) ∙ items in
-          let long : length (items_of o w) ≡ length values = ap length all in
+          let all : known_items o w ≡ values = ap (λ (z : ContainerState). list_of z.content) (work_knows v w o only.work) ∙ items in
+          let long : length (known_items o w) ≡ length values = ap length all in
           let less : p < slots (class_of (name_of table)) = omega (arith, low, long, few) in (
             subst (λ (n : ℕ). p < slots (class_of n)) same less,
-            subst (λ (z : Stored). IsStored (item_of (held o w).table p 1) (item_of (held o w).table p 2) z)
-                (moving.done p (omega (arith, low, long, done)) ∙ (sym (append_low values others p (omega (arith, low, long))) ∙ ap (λ (l : List Value). stored_at l p) (sym all)))
+            subst (λ (z : Stored). IsStored (item_field (held o w).table p 1) (item_field (held o w).table p 2) z)
+                (moving.done p (omega (arith, low, long, done)) ∙ (sym (append_low values others p (omega (arith, low, long))) ∙ ap (λ (l : List Value). stored_item l p) (sym all)))
                 (moving.putting.items p less),
           ))
       | inr ne ↦ λ t p names low.
           let h = held_same ne in
           let c : known m w ≡ known m v = work_knows v w m only.work in
-          let long : length (items_of m w) ≡ length (items_of m v) = ap (λ (z : ContainerState). length (list_of z.content)) c in
+          let long : length (known_items m w) ≡ length (known_items m v) = ap (λ (z : ContainerState). length (list_of z.content)) c in
           let x = gives.stores t p (sym (ap root_in h) ∙ names) (omega (arith, low, long)) in (
             x.0,
-            subst (λ (z : Picture × ContainerState). IsStored (item_of z.0.table p 1) (item_of z.0.table p 2) (stored_at (list_of z.1.content) p)) (λ d. (sym h d, sym c d)) x.1,
+            subst (λ (z : Picture × ContainerState). IsStored (item_field z.0.table p 1) (item_field z.0.table p 2) (stored_item (list_of z.1.content) p)) (λ d. (sym h d, sym c d)) x.1,
           )
     ];
     bare = λ none. ap (λ (z : ContainerState). length (list_of z.content)) (work_knows v w m only.work) ∙ gives.bare (sym root_put ∙ none);

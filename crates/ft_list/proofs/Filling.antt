@@ -10,68 +10,68 @@ use Rattle.ft_layout.specs.Containers.{class_mask}
 use Rattle.ft_layout.specs.Tables.{table_length}
 use Rattle.ft_layout.proofs.FieldLaws.{sizes_of_class}
 use Rattle.ft_trace.specs.Addresses.{slots, places, size}
-use Rattle.ft_trace.specs.Words.{item_at, item_of}
-use Rattle.ft_trace.specs.Items.{ItemSound, words_at, said_at}
+use Rattle.ft_trace.specs.Pictures.{item_offset, item_field}
+use Rattle.ft_trace.specs.ItemWords.{ItemSound, words_at, said_at}
 use Rattle.ft_trace.proofs.ByKind.{items_fit}
-use Rattle.ft_list.specs.Items.{IsPutting, stored_at}
-use Rattle.ft_list.specs.Internal.Growing.{IsFilled, with_item}
-use Rattle.ft_list.proofs.Putting.{words_stored}
+use Rattle.ft_list.specs.ListItemWrites.{IsPutting, stored_item}
+use Rattle.ft_list.specs.Internal.NewListTables.{IsFilled, with_new_item}
+use Rattle.ft_list.proofs.ItemWordsPut.{words_stored}
 
 -- ---- one item
 
-module _ (ws : List ℕ) (place : ℕ) (stored : Stored) (low : item_at place 3 < length ws) where
+module _ (ws : List ℕ) (place : ℕ) (stored : Stored) (low : item_offset place 3 < length ws) where
   abbrev one : List ℕ
-  one = slice_set ws (item_at place 0) 0
+  one = slice_set ws (item_offset place 0) 0
 
   abbrev two : List ℕ
-  two = slice_set one (item_at place 1) (stored_kind stored)
+  two = slice_set one (item_offset place 1) (stored_kind stored)
 
   abbrev three : List ℕ
-  three = slice_set two (item_at place 2) (stored_payload stored)
+  three = slice_set two (item_offset place 2) (stored_payload stored)
 
   abbrev four : List ℕ
-  four = with_item ws place stored
+  four = with_new_item ws place stored
 
   long_one : length one ≡ length ws
-  long_one = length-set ws (item_at place 0) 0
+  long_one = length-set ws (item_offset place 0) 0
 
   long_two : length two ≡ length ws
-  long_two = length-set one (item_at place 1) (stored_kind stored) ∙ long_one
+  long_two = length-set one (item_offset place 1) (stored_kind stored) ∙ long_one
 
   long_three : length three ≡ length ws
-  long_three = length-set two (item_at place 2) (stored_payload stored) ∙ long_two
+  long_three = length-set two (item_offset place 2) (stored_payload stored) ∙ long_two
 
   pub long_four : length four ≡ length ws
-  long_four = length-set three (item_at place 3) 0 ∙ long_three
+  long_four = length-set three (item_offset place 3) 0 ∙ long_three
 
   -- each word of another item is as it was
-  pub else_four : (q w : ℕ) → q ≢ place → w < 4 → item_of four q w ≡ item_of ws q w
+  pub else_four : (q w : ℕ) → q ≢ place → w < 4 → item_field four q w ≡ item_field ws q w
   else_four q w ne few =
-      get_or-set_other three (item_at place 3) (item_at q w) 0 0 (λ e. ne (omega (arith, e, few)))
-      ∙ (get_or-set_other two (item_at place 2) (item_at q w) (stored_payload stored) 0 (λ e. ne (omega (arith, e, few)))
-      ∙ (get_or-set_other one (item_at place 1) (item_at q w) (stored_kind stored) 0 (λ e. ne (omega (arith, e, few)))
-      ∙ get_or-set_other ws (item_at place 0) (item_at q w) 0 0 (λ e. ne (omega (arith, e, few)))))
+      get_or-set_other three (item_offset place 3) (item_offset q w) 0 0 (λ e. ne (omega (arith, e, few)))
+      ∙ (get_or-set_other two (item_offset place 2) (item_offset q w) (stored_payload stored) 0 (λ e. ne (omega (arith, e, few)))
+      ∙ (get_or-set_other one (item_offset place 1) (item_offset q w) (stored_kind stored) 0 (λ e. ne (omega (arith, e, few)))
+      ∙ get_or-set_other ws (item_offset place 0) (item_offset q w) 0 0 (λ e. ne (omega (arith, e, few)))))
 
-  pub version_four : item_of four place 0 ≡ 0
+  pub version_four : item_field four place 0 ≡ 0
   version_four =
-      get_or-set_other three (item_at place 3) (item_at place 0) 0 0 (λ e. omega (arith, e))
-      ∙ (get_or-set_other two (item_at place 2) (item_at place 0) (stored_payload stored) 0 (λ e. omega (arith, e))
-      ∙ (get_or-set_other one (item_at place 1) (item_at place 0) (stored_kind stored) 0 (λ e. omega (arith, e))
-      ∙ get_or-set_same ws (item_at place 0) 0 0 (omega (arith, low))))
+      get_or-set_other three (item_offset place 3) (item_offset place 0) 0 0 (λ e. omega (arith, e))
+      ∙ (get_or-set_other two (item_offset place 2) (item_offset place 0) (stored_payload stored) 0 (λ e. omega (arith, e))
+      ∙ (get_or-set_other one (item_offset place 1) (item_offset place 0) (stored_kind stored) 0 (λ e. omega (arith, e))
+      ∙ get_or-set_same ws (item_offset place 0) 0 0 (omega (arith, low))))
 
-  pub kind_four : item_of four place 1 ≡ stored_kind stored
+  pub kind_four : item_field four place 1 ≡ stored_kind stored
   kind_four =
-      get_or-set_other three (item_at place 3) (item_at place 1) 0 0 (λ e. omega (arith, e))
-      ∙ (get_or-set_other two (item_at place 2) (item_at place 1) (stored_payload stored) 0 (λ e. omega (arith, e))
-      ∙ (let l = long_one in get_or-set_same one (item_at place 1) (stored_kind stored) 0 (omega (arith, low, l))))
+      get_or-set_other three (item_offset place 3) (item_offset place 1) 0 0 (λ e. omega (arith, e))
+      ∙ (get_or-set_other two (item_offset place 2) (item_offset place 1) (stored_payload stored) 0 (λ e. omega (arith, e))
+      ∙ (let l = long_one in get_or-set_same one (item_offset place 1) (stored_kind stored) 0 (omega (arith, low, l))))
 
-  pub payload_four : item_of four place 2 ≡ stored_payload stored
+  pub payload_four : item_field four place 2 ≡ stored_payload stored
   payload_four =
-      get_or-set_other three (item_at place 3) (item_at place 2) 0 0 (λ e. omega (arith, e))
-      ∙ (let l = long_two in get_or-set_same two (item_at place 2) (stored_payload stored) 0 (omega (arith, low, l)))
+      get_or-set_other three (item_offset place 3) (item_offset place 2) 0 0 (λ e. omega (arith, e))
+      ∙ (let l = long_two in get_or-set_same two (item_offset place 2) (stored_payload stored) 0 (omega (arith, low, l)))
 
-  pub spare_four : item_of four place 3 ≡ 0
-  spare_four = let l = long_three in get_or-set_same three (item_at place 3) 0 0 (omega (arith, low, l))
+  pub spare_four : item_field four place 3 ≡ 0
+  spare_four = let l = long_three in get_or-set_same three (item_offset place 3) 0 0 (omega (arith, low, l))
 
 -- ---- all items
 
@@ -84,28 +84,28 @@ module _ (class : ℕ) (is_class : IsClass class) (values : List Value) where
     spare = λ p low. absurd (omega (arith, low));
   }
 
-  pub filled_next : (place : ℕ) (ws : List ℕ) (stored : Stored) → IsFilled class values place ws → place < slots class → stored ≡ stored_at values place → FitsStored stored → IsFilled class values (place + 1) (with_item ws place stored)
+  pub filled_next : (place : ℕ) (ws : List ℕ) (stored : Stored) → IsFilled class values place ws → place < slots class → stored ≡ stored_item values place → FitsStored stored → IsFilled class values (place + 1) (with_new_item ws place stored)
   filled_next place ws stored is low says fits =
       let f = items_fit class is_class in
       let l = is.long in
-      let there : item_at place 3 < length ws = omega (arith, f, l, low) in
+      let there : item_offset place 3 < length ws = omega (arith, f, l, low) in
       record {
         long = long_four ws place stored there ∙ is.long;
         version = λ p less. elim (cases_eq p place) [
-          | inl e ↦ ap (λ (n : ℕ). item_of (with_item ws place stored) n 0) e ∙ version_four ws place stored there
+          | inl e ↦ ap (λ (n : ℕ). item_field (with_new_item ws place stored) n 0) e ∙ version_four ws place stored there
           | inr ne ↦ else_four ws place stored there p 0 ne (omega arith) ∙ is.version p (omega (arith, less, ne))
         ];
         items = λ p less. elim (cases_eq p place) [
           | inl e ↦
-              subst (λ (n : ℕ). IsStored (item_of (with_item ws place stored) n 1) (item_of (with_item ws place stored) n 2) (stored_at values n)) (sym e)
-              (subst (λ (z : Stored). IsStored (item_of (with_item ws place stored) place 1) (item_of (with_item ws place stored) place 2) z) says
+              subst (λ (n : ℕ). IsStored (item_field (with_new_item ws place stored) n 1) (item_field (with_new_item ws place stored) n 2) (stored_item values n)) (sym e)
+              (subst (λ (z : Stored). IsStored (item_field (with_new_item ws place stored) place 1) (item_field (with_new_item ws place stored) place 2) z) says
               (record { fits = fits; kind_is = kind_four ws place stored there; payload_is = payload_four ws place stored there }))
           | inr ne ↦
-              subst (λ (x : ℕ × ℕ). IsStored x.0 x.1 (stored_at values p)) (λ d. (sym (else_four ws place stored there p 1 ne (omega arith)) d, sym (else_four ws place stored there p 2 ne (omega arith)) d))
+              subst (λ (x : ℕ × ℕ). IsStored x.0 x.1 (stored_item values p)) (λ d. (sym (else_four ws place stored there p 1 ne (omega arith)) d, sym (else_four ws place stored there p 2 ne (omega arith)) d))
               (is.items p (omega (arith, less, ne)))
         ];
         spare = λ p less. elim (cases_eq p place) [
-          | inl e ↦ ap (λ (n : ℕ). item_of (with_item ws place stored) n 3) e ∙ spare_four ws place stored there
+          | inl e ↦ ap (λ (n : ℕ). item_field (with_new_item ws place stored) n 3) e ∙ spare_four ws place stored there
           | inr ne ↦ else_four ws place stored there p 3 ne (omega arith) ∙ is.spare p (omega (arith, less, ne))
         ];
       }
@@ -122,7 +122,7 @@ module _ (class : ℕ) (is_class : IsClass class) (values : List Value) where
         sym (words_stored values p) ∙ (λ d. sym s.kind_is d ∷ sym s.payload_is d ∷ [])
 
     -- the table of a list that puts no item yet
-    pub filled_putting : (first past : ℕ) → IsPutting class values first past (stored_at values) ws
+    pub filled_putting : (first past : ℕ) → IsPutting class values first past (stored_item values) ws
     filled_putting first past = record {
       size = ap (λ (n : ℕ). n + 2) is.long ∙ table_is_long;
       spare = is.spare;

@@ -15,28 +15,28 @@ use Rattle.ft_trace.specs.declared.Shape.{Shape}
 use Rattle.ft_trace.specs.declared.View.{View}
 use Rattle.ft_trace.specs.Addresses.{class_of}
 use Rattle.ft_trace.specs.Acts.{has_lock, is_writing, has_emptied, owes, noted}
-use Rattle.ft_trace.specs.Worlds.{ContainerState, changes}
-use Rattle.ft_trace.specs.Words.{root_in}
+use Rattle.ft_trace.specs.ContainerStates.{ContainerState, changes}
+use Rattle.ft_trace.specs.Pictures.{root_in}
 use Rattle.ft_trace.specs.Holds.{held, known}
 use Rattle.ft_trace.proofs.Cases.{hit}
 use Rattle.ft_bank.specs.declared.table.Table.{Table}
-use Rattle.ft_bank.specs.Tables.{name_of}
-use Rattle.ft_bank.specs.Writes.{KeepsUnwritten}
+use Rattle.ft_bank.specs.TableNames.{name_of}
+use Rattle.ft_bank.specs.WriteSteps.{KeepsUnwritten}
 use Rattle.ft_bank.specs.Whole.{OnlyPut, EndsWrite, Wrote}
-use Rattle.ft_bank.proofs.Whole.{work_knows}
+use Rattle.ft_bank.proofs.KnownAfterWrites.{work_knows}
 use Rattle.ft_growth.specs.Adding.{OnlyFilled}
 use Rattle.ft_growth.proofs.Rooting.{rooted_write, filled_wrote}
-use Rattle.ft_list.specs.Items.{WritesList, IsChanging, MayFinish}
-use Rattle.ft_list.specs.Calls.{Grows}
-use Rattle.ft_list.specs.Internal.Growing.{MayGrow}
+use Rattle.ft_list.specs.ListItemWrites.{WritesList, IsChanging, MayFinishItems}
+use Rattle.ft_list.specs.ListWrites.{Grows}
+use Rattle.ft_list.specs.Internal.NewListTables.{MayGrowList}
 use Rattle.ft_list.proofs.Commits.{may_finish}
-use Rattle.ft_list.proofs.Whole.{grows_on}
+use Rattle.ft_list.proofs.WholeListWrites.{grows_on}
 
 -- a write of the list o changes it
 pub list_changes : (o : ℕ) (lc : ListCall) (called : Call) → called ≡ call.List o lc → is_changing_list lc ≡ true → changes called ≡ o
 list_changes o lc called is changing = ap changes is ∙ ap (λ (b : Bool). unwrap_or (if b then Some o else None) 0) changing
 
-module _ (k : Shape) (o : ℕ) (old : Option Table) (table : Table) (v r u : View) (f : ℕ) (may : MayGrow k o old table v) (is : r ≡ noted (PutRoot o (suc (name_of table)) (root_in (held o v))) (noted (StartWrite o f) v)) (puts : OnlyPut o r u) where
+module _ (k : Shape) (o : ℕ) (old : Option Table) (table : Table) (v r u : View) (f : ℕ) (may : MayGrowList k o old table v) (is : r ≡ noted (PutRoot o (suc (name_of table)) (root_in (held o v))) (noted (StartWrite o f) v)) (puts : OnlyPut o r u) where
   known_then : (p : ℕ) → known p u ≡ known p v
   known_then p = work_knows r u p puts.work ∙ ap (λ (z : View). known p z) is
 
@@ -52,12 +52,12 @@ module _ (k : Shape) (o : ℕ) (old : Option Table) (table : Table) (v r u : Vie
       puts.work.emptied o ∙ (after ∙ ne_eqb (suc (name_of table)) 0 (λ e. absurd (omega (arith, e))))
 
   pub grow_finishing : (first past : ℕ) (lc : ListCall) (called : Call) (values news : List Value) → called ≡ call.List o lc → Grows o lc values news (class_of (name_of table)) v → (known o v).content ≡ content.List values → WritesList k o table u → u.shape ≡ k → IsChanging (class_of (name_of table)) values news first past (held o u).table → IsBlock (held o u).block (Some (class_of (name_of table))) (length news) 0 0
-      → MayFinish o table called reply.Done first past u
+      → MayFinishItems o table called reply.Done first past u
   grow_finishing first past lc called values news names grows is_list list shape changing head =
       let class = class_of (name_of table) in
       let g = grows_on v u known_then shape_then locks_then o lc values news class grows in
       let owed : owes u.log ≡ suc class = puts.work.owes ∙ (ap (λ (z : View). owes z.log) is ∙ may.owed) in
-      subst (λ (z : Call). MayFinish o table z reply.Done first past u) (sym names)
+      subst (λ (z : Call). MayFinishItems o table z reply.Done first past u) (sym names)
       (may_finish k o table first past lc reply.Done values news u list shape (ap (λ (z : ContainerState). z.content) (known_then o) ∙ is_list)
       g.write g.table
       (λ stored c has e. let same : class ≡ c = omega (arith, e, owed) in g.takes stored has ∙ ap (λ (n : ℕ). Some n) same)

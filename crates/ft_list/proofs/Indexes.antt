@@ -15,7 +15,7 @@ use Rattle.ft_model.specs.declared.data.Value.TheVariants as value
 use Rattle.ft_model.specs.declared.script.Kind.TheVariants as kind
 use Rattle.ft_model.specs.Classes.{IsClass}
 use Rattle.ft_model.specs.Lists.{index_in}
-use Rattle.ft_model.specs.Tables.{StoredWorld, TableUse}
+use Rattle.ft_model.specs.TableUses.{StoredWorld, TableUse}
 use Rattle.ft_model.specs.Worlds.{no_hands, kind_of, list_of, length_of}
 use Rattle.ft_layout.specs.declared.slot.Stored.TheVariants.{Plain}
 use Rattle.ft_layout.specs.Containers.{IsListWords, InListTable, StandsAs}
@@ -25,33 +25,33 @@ use Rattle.ft_trace.specs.declared.Act.TheVariants.{Version, ReadBlock, ReadRoot
 use Rattle.ft_trace.specs.declared.Shape.{Shape}
 use Rattle.ft_trace.specs.declared.View.{View}
 use Rattle.ft_trace.specs.Acts.{has_lock, noted}
-use Rattle.ft_trace.specs.Addresses.{containers_in, class_of, slots, size, IsTable}
+use Rattle.ft_trace.specs.Addresses.{containers_in, class_of, slots, size, IsTableName}
 use Rattle.ft_trace.specs.Holds.{held, known}
 use Rattle.ft_trace.specs.LookReplies.{item_reply}
-use Rattle.ft_trace.specs.Reading.{Among, Agrees, Looked}
-use Rattle.ft_trace.specs.Words.{Picture, root_in, item_of, Stands}
+use Rattle.ft_trace.specs.LoggedReads.{Among, Agrees, LookedAtOne}
+use Rattle.ft_trace.specs.Pictures.{Picture, root_in, item_field, Stands}
 use Rattle.ft_trace.specs.Traces.{Possible}
-use Rattle.ft_trace.specs.Worlds.{ContainerState, state_at, kind_in, reply_in}
+use Rattle.ft_trace.specs.ContainerStates.{ContainerState, state_at, kind_in, reply_in}
 use Rattle.ft_trace.proofs.Known.{class_known}
-use Rattle.ft_trace.proofs.Nothing.{no_table_stands}
+use Rattle.ft_trace.proofs.NoTable.{no_table_stands}
 use Rattle.ft_bank.specs.declared.pass.Pass.{Pass}
 use Rattle.ft_bank.specs.Passes.{view}
 use Rattle.ft_bank.specs.Reads.{IsShown}
 use Rattle.ft_bank.specs.Series.{DidAll}
 use Rattle.ft_bank.specs.Shown.{MayAsk}
 use Rattle.ft_bank.specs.Whole.{OnlyLoaded}
-use Rattle.ft_bank.specs.Writes.{MayHave}
-use Rattle.ft_bank.proofs.Showing.{looks_are_shown}
-use Rattle.ft_bank.proofs.Whole.{loaded_held, work_knows}
+use Rattle.ft_bank.specs.WriteSteps.{MayHave}
+use Rattle.ft_bank.proofs.ShownReplies.{looks_are_shown}
+use Rattle.ft_bank.proofs.KnownAfterWrites.{loaded_held, work_knows}
 use Rattle.ft_search.specs.Lengths.{StopsAtVersion}
-use Rattle.ft_search.specs.Looks.{AreLooks}
+use Rattle.ft_search.specs.KeyLooks.{AreLooks}
 use Rattle.ft_search.proofs.Asking.{held_shown}
 use Rattle.ft_search.proofs.Lengths.{IsPlain, between_own}
 use Rattle.ft_search.proofs.Running.{did_none, did_trans}
 use Rattle.ft_search.proofs.Rounding.{looks_append, looks_load, among_in}
 use Rattle.ft_list.specs.Indexes.{Reads, item_named, IsItemNamed, ShowsNamed}
 use Rattle.ft_list.proofs.Lists.{list_content}
-use Rattle.ft_list.proofs.Putting.{at_words, list_few}
+use Rattle.ft_list.proofs.ItemWordsPut.{at_words, list_few}
 
 -- ---- actions among others
 
@@ -175,7 +175,7 @@ reads_block k o i f p q low did holds = (
       here ∙ ap (λ (z : ℕ). slice_index (held z (view p)).block i) e)),
 )
 
-pub reads_table : (k : Shape) (o t i f : ℕ) (p q : Pass) → IsTable k t → i < size (class_of t) → DidAll (ReadTable t i f ∷ []) p q → ((c : ℕ) → c < containers_in k → has_lock c (view p).log ≡ true → root_in (held c (view p)) ≡ suc t → f ≡ slice_index (held c (view p)).table i)
+pub reads_table : (k : Shape) (o t i f : ℕ) (p q : Pass) → IsTableName k t → i < size (class_of t) → DidAll (ReadTable t i f ∷ []) p q → ((c : ℕ) → c < containers_in k → has_lock c (view p).log ≡ true → root_in (held c (view p)) ≡ suc t → f ≡ slice_index (held c (view p)).table i)
     → Reads k o (λ x. root_in x ≡ suc t → f ≡ slice_index x.table i) p q
 reads_table k o t i f p q is low did holds = (
   ReadTable t i f ∷ [],
@@ -197,7 +197,7 @@ list_words texts x kept is stands = by kept.content kept.table is stands
 
 -- a list has no more items than its table has places, and each says its value
 pub item_says : (texts : List ℕ) (x : Picture) (kept : ContainerState) (t : ℕ) → IsClass (class_of t) → kind_of kept.content ≡ kind.List → Stands texts x kept → root_in x ≡ suc t → (length (list_of kept.content) ≤ slots (class_of t))
-    × ((place : ℕ) → place < length (list_of kept.content) → IsStored (item_of x.table place 1) (item_of x.table place 2) (Plain (slice_index_or (list_of kept.content) place value.Nothing)))
+    × ((place : ℕ) → place < length (list_of kept.content) → IsStored (item_field x.table place 1) (item_field x.table place 2) (Plain (slice_index_or (list_of kept.content) place value.Nothing)))
 item_says texts x kept t class is stands names =
     let values = list_of kept.content in
     let says = list_words texts x kept is stands in
@@ -280,7 +280,7 @@ pub get_shown : (v w : View) (o : ℕ) (index : ℤ) (found : Option Value) (n :
 get_shown v w o index found n part ask own is s =
     let called = call.List o (list.Get index) in
     let plain = get_plain o index found in
-    let looked : Looked w.shape called o (item_reply found) n w.log = record {
+    let looked : LookedAtOne w.shape called o (item_reply found) n w.log = record {
       mid = s.mid;
       between = between_own o s.mid part v.log w.log own s.between;
       stamp = s.counted;

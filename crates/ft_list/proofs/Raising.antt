@@ -16,7 +16,7 @@ use Rattle.ft_model.specs.declared.reply.Reply.TheVariants as reply
 use Rattle.ft_model.specs.Answers.{Answer as Given, answer_list, puts, shows, is_raised}
 use Rattle.ft_model.specs.Calls.{is_changing_list, cursor_of_list}
 use Rattle.ft_model.specs.Lists.{index_in, index_of}
-use Rattle.ft_model.specs.Tables.{StoredWorld}
+use Rattle.ft_model.specs.TableUses.{StoredWorld}
 use Rattle.ft_model.specs.Worlds.{no_hands}
 use Rattle.ft_trace.specs.declared.Act.{Act}
 use Rattle.ft_trace.specs.declared.Act.TheVariants.{ReadCounter, Answer}
@@ -28,10 +28,10 @@ use Rattle.ft_trace.specs.Causes.{HasCause}
 use Rattle.ft_trace.specs.Holds.{known}
 use Rattle.ft_bank.specs.Answered.{Answered}
 use Rattle.ft_bank.specs.Reads.{IsShown}
-use Rattle.ft_bank.proofs.Showing.{replies_under_locks_are_shown}
+use Rattle.ft_bank.proofs.ShownReplies.{replies_under_locks_are_shown}
 use Rattle.ft_bank.proofs.Seen.{answered_seen}
-use Rattle.ft_bank.proofs.Whole.{loaded_by}
-use Rattle.ft_list.specs.Calls.{Raises}
+use Rattle.ft_bank.proofs.KnownAfterWrites.{loaded_by}
+use Rattle.ft_list.specs.ListWrites.{Raises}
 use Rattle.ft_list.proofs.Commits.{list_is}
 
 pub and_false : (b : Bool) → (b && false) ≡ false

@@ -6,14 +6,14 @@ use Rattle.std.proofs.Math.Logic.{∥∥₁_elim}
 use Rattle.ft_trace.specs.declared.View.{View}
 use Rattle.ft_trace.specs.Addresses.{containers_in, class_of}
 use Rattle.ft_trace.specs.Acts.{has_lock}
-use Rattle.ft_trace.specs.Worlds.{kind_in}
-use Rattle.ft_trace.specs.Words.{root_in}
+use Rattle.ft_trace.specs.ContainerStates.{kind_in}
+use Rattle.ft_trace.specs.Pictures.{root_in}
 use Rattle.ft_trace.specs.Kinds.{rows, version_at}
 use Rattle.ft_trace.specs.Holds.{held}
 use Rattle.ft_trace.specs.Traces.{Possible}
 use Rattle.ft_trace.proofs.Held.{table_known}
 use Rattle.ft_trace.proofs.Lows.{lows}
-use Rattle.ft_trace.proofs.Rooms.{counter_room}
+use Rattle.ft_trace.proofs.NoWrap.{counter_room}
 
 pub version_room : (v : View) (o t p : ℕ) → ∥ Possible v ∥₁ → o < containers_in v.shape → has_lock o v.log ≡ true → root_in (held o v) ≡ suc t → p < rows (kind_in v.shape.kinds o) (class_of t) → v.shape.passes * v.shape.calls < 2 ^ 46 → slice_index (held o v).table (version_at (kind_in v.shape.kinds o) (class_of t) p) < 2 ^ 63
 version_room v o t p possible low mine names row few =

@@ -11,7 +11,6 @@ use Rattle.ft_model.specs.declared.content.Content.{Content}
 use Rattle.ft_model.specs.declared.content.Content.TheVariants as content
 use Rattle.ft_model.specs.declared.reply.Raise.TheVariants as raise
 use Rattle.ft_model.specs.declared.call.Call.{Call}
-use Rattle.ft_model.specs.declared.reply.Reply.{Reply}
 use Rattle.ft_model.specs.declared.reply.Reply.TheVariants as reply
 use Rattle.ft_model.specs.Answers.{shows}
 use Rattle.ft_model.specs.declared.data.Value.{Value}
@@ -28,16 +27,16 @@ use Rattle.ft_bank.specs.Passes.{view}
 use Rattle.ft_bank.specs.Whole.{OnlyLoaded}
 use Rattle.ft_search.proofs.Lengths.{IsPlain}
 use Rattle.ft_search.proofs.Running.{did_log}
-use Rattle.ft_list.specs.Calls.{MayWriteList}
-use Rattle.ft_list.specs.Items.{items_of}
+use Rattle.ft_list.specs.ListWrites.{MayWriteList}
+use Rattle.ft_list.specs.ListItemWrites.{known_items}
 use Rattle.ft_list.specs.Indexes.{Reads, IsItemAt}
-use Rattle.ft_list.specs.Copies.{AreCopied, TakesMemory}
+use Rattle.ft_list.specs.Copies.{AreCopied, HasSome, TakesMemory}
 use Rattle.ft_list.specs.Scans.{IsOfItems}
-use Rattle.ft_search.specs.Calls.{IsReplyTo}
-use Rattle.ft_list.proofs.Trying.{reply_of_list}
+use Rattle.ft_search.specs.MadeCalls.{IsReplyTo}
+use Rattle.ft_list.proofs.ListMidst.{reply_of_list}
 use Rattle.ft_list.proofs.Indexes.{reads_none, reads_map, reads_then, reads_loaded, items_counted}
 use Rattle.ft_list.proofs.Lists.{content_of, may_loaded}
-use Rattle.ft_list.proofs.Values.{NoneBefore, has_first}
+use Rattle.ft_list.proofs.ValueLists.{NoneBefore, has_first}
 
 module _ (k : Shape) (o : ℕ) where
   -- the block was read, which says how many items there are
@@ -68,7 +67,7 @@ EqualYet value count place equal items = (count ≡ length items) × (equal ≡ 
 
 module _ (k : Shape) (o : ℕ) (holds : List Value → Type 0) (p q : Pass) (r : Reads k o (IsOfItems k holds) p q) (shape : (view p).shape ≡ k) (may : MayWriteList k o (view p)) where
   -- it holds of the items that the pass knows
-  pub items_hold : holds (items_of o (view p))
+  pub items_hold : holds (known_items o (view p))
   items_hold = r.3 (held o (view p)) (r.4 o may.container may.locked) (known o (view p)) (ap kind_of (content_of k o (view p) shape p.possible may)) may.stands
 
   pub scan_loaded : OnlyLoaded (view p) (view q)
@@ -81,7 +80,7 @@ module _ (k : Shape) (o : ℕ) (holds : List Value → Type 0) (p q : Pass) (r :
   scan_log = did_log r.0 p q r.2
 
 -- the item at a place, by such a pass
-pub item_held : (k : Shape) (o place : ℕ) (found : Option Value) (p q : Pass) → Reads k o (IsItemAt k place found) p q → (view p).shape ≡ k → MayWriteList k o (view p) → place < length (items_of o (view p)) → found ≡ Some (slice_index_or (items_of o (view p)) place Nothing)
+pub item_held : (k : Shape) (o place : ℕ) (found : Option Value) (p q : Pass) → Reads k o (IsItemAt k place found) p q → (view p).shape ≡ k → MayWriteList k o (view p) → place < length (known_items o (view p)) → found ≡ Some (slice_index_or (known_items o (view p)) place Nothing)
 item_held k o place found p q r shape may low = r.3 (held o (view p)) (r.4 o may.container may.locked) (known o (view p)) (ap kind_of (content_of k o (view p) shape p.possible may)) may.stands low
 
 -- ---- what calls reply that search
@@ -121,13 +120,7 @@ copied_same xs ys made same copied = subst (AreCopied made) same copied
 -- where there was no memory for the reply, it has a value
 module _ (called : Call) (v : View) (values : List Value) (replied : IsReplyTo called (reply.List values) v) (some : 0 < length values) where
   pub takes_memory : TakesMemory called v
-  takes_memory stored has none =
-      let n : length values ≡ 0 = ap (λ (r : Reply). length (values_in r)) (sym (replied stored has) ∙ none) in
-      omega (arith, n, some)
-    where
-      values_in : Reply → List Value
-      values_in (reply.List items) = items
-      values_in other = []
+  takes_memory stored has = subst HasSome (sym (replied stored has)) some
 
 -- before the first load of a call
 pub nothing_read : (k : Shape) (o : ℕ) (holds : List Value → Type 0) (p : Pass) → ((items : List Value) → holds items) → Reads k o (IsOfItems k holds) p p

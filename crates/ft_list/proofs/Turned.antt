@@ -8,18 +8,18 @@ use Rattle.ft_model.specs.declared.data.Value.{Value}
 use Rattle.ft_layout.specs.declared.slot.Stored.{Stored}
 use Rattle.ft_layout.specs.Words.{FitsStored, IsStored}
 use Rattle.ft_trace.specs.Addresses.{slots}
-use Rattle.ft_trace.specs.Words.{Picture, item_of}
+use Rattle.ft_trace.specs.Pictures.{Picture, item_field}
 use Rattle.ft_trace.proofs.Cases.{miss, here}
-use Rattle.ft_list.specs.Items.{PutsItem, IsChanging, IsPutting, stored_at, but_at}
+use Rattle.ft_list.specs.ListItemWrites.{PutsItem, IsChanging, IsPutting, stored_item, but_at}
 use Rattle.ft_list.specs.Reversing.{IsTurning}
-use Rattle.ft_list.proofs.Putting.{putting_put, putting_ends, stored_by, stored_none}
-use Rattle.ft_list.proofs.Values.{reversed_at}
+use Rattle.ft_list.proofs.ItemWordsPut.{putting_put, putting_ends, stored_by, stored_none}
+use Rattle.ft_list.proofs.ValueLists.{reversed_at}
 
 -- what stands at a place then stands now as far from the end
-pub turned_at : (values : List Value) (p : ℕ) → p < length values → stored_at values (length values - 1 - p) ≡ stored_at (reverse values) p
+pub turned_at : (values : List Value) (p : ℕ) → p < length values → stored_item values (length values - 1 - p) ≡ stored_item (reverse values) p
 turned_at values p low = stored_by values (reverse values) (length values - 1 - p) p (reversed_at values p low)
 
-turned_past : (values : List Value) (p : ℕ) → length values ≤ p → stored_at values p ≡ stored_at (reverse values) p
+turned_past : (values : List Value) (p : ℕ) → length values ≤ p → stored_item values p ≡ stored_item (reverse values) p
 turned_past values p past = stored_none values p past ∙ sym (stored_none (reverse values) p (let n = length-reverse values in omega (arith, n, past)))
 
 pub reversed_none : (values : List Value) → length values ≡ 0 → reverse values ≡ values
@@ -27,9 +27,9 @@ reversed_none [] none = refl
 reversed_none (x ∷ values) none = absurd (omega (arith, none))
 
 module _ (class : ℕ) (is_class : IsClass class) (values : List Value) where
-  pub turning_starts : (ws : List ℕ) → IsPutting class values 0 (length values) (stored_at values) ws → IsTurning class values 0 ws
+  pub turning_starts : (ws : List ℕ) → IsPutting class values 0 (length values) (stored_item values) ws → IsTurning class values 0 ws
   turning_starts ws putting = record {
-    now = stored_at values;
+    now = stored_item values;
     putting = putting;
     first = λ p low. absurd (omega (arith, low));
     last = λ p past. turned_past values p (omega (arith, past));
@@ -44,29 +44,29 @@ module _ (class : ℕ) (is_class : IsClass class) (values : List Value) where
         | inr more ↦ elim (cases_lt (p + length values / 2) (length values)) [
           | inl mid ↦
               let at : length values - 1 - p ≡ p = omega (arith, more, mid) in
-              turning.middle p more mid ∙ (ap (λ (n : ℕ). stored_at values n) (sym at) ∙ turned_at values p (omega (arith, mid)))
+              turning.middle p more mid ∙ (ap (λ (n : ℕ). stored_item values n) (sym at) ∙ turned_at values p (omega (arith, mid)))
           | inr past ↦ turning.last p past
         ]
       ])
 
   -- an item on its way is where it was
-  pub turning_finds : (at p : ℕ) (ws : List ℕ) → IsTurning class values at ws → at ≤ p → p + at < length values → p < slots class → IsStored (item_of ws p 1) (item_of ws p 2) (stored_at values p)
-  turning_finds at p ws turning from low inside = subst (λ (z : Stored). IsStored (item_of ws p 1) (item_of ws p 2) z) (turning.middle p from low) (turning.putting.items p inside)
+  pub turning_finds : (at p : ℕ) (ws : List ℕ) → IsTurning class values at ws → at ≤ p → p + at < length values → p < slots class → IsStored (item_field ws p 1) (item_field ws p 2) (stored_item values p)
+  turning_finds at p ws turning from low inside = subst (λ (z : Stored). IsStored (item_field ws p 1) (item_field ws p 2) z) (turning.middle p from low) (turning.putting.items p inside)
 
-  module _ (at other : ℕ) (low : at < other) (is : other + 1 + at ≡ length values) (early late : Stored) (is_early : early ≡ stored_at values at) (is_late : late ≡ stored_at values other) (fits_early : FitsStored early) (fits_late : FitsStored late) where
+  module _ (at other : ℕ) (low : at < other) (is : other + 1 + at ≡ length values) (early late : Stored) (is_early : early ≡ stored_item values at) (is_late : late ≡ stored_item values other) (fits_early : FitsStored early) (fits_late : FitsStored late) where
     abbrev swapped : (ℕ → Stored) → ℕ → Stored
     swapped now = but_at (but_at now at late) other early
 
-    at_first : (now : ℕ → Stored) → swapped now at ≡ stored_at (reverse values) at
+    at_first : (now : ℕ → Stored) → swapped now at ≡ stored_item (reverse values) at
     at_first now =
         let e : length values - 1 - at ≡ other = omega (arith, is) in
         miss at other early (but_at now at late at) (λ e. omega (arith, low, e))
-        ∙ (here at at late (now at) refl ∙ (is_late ∙ (ap (λ (n : ℕ). stored_at values n) (sym e) ∙ turned_at values at (omega (arith, is, low)))))
+        ∙ (here at at late (now at) refl ∙ (is_late ∙ (ap (λ (n : ℕ). stored_item values n) (sym e) ∙ turned_at values at (omega (arith, is, low)))))
 
-    at_last : (now : ℕ → Stored) → swapped now other ≡ stored_at (reverse values) other
+    at_last : (now : ℕ → Stored) → swapped now other ≡ stored_item (reverse values) other
     at_last now =
         let e : length values - 1 - other ≡ at = omega (arith, is) in
-        here other other early (but_at now at late other) refl ∙ (is_early ∙ (ap (λ (n : ℕ). stored_at values n) (sym e) ∙ turned_at values other (omega (arith, is, low))))
+        here other other early (but_at now at late other) refl ∙ (is_early ∙ (ap (λ (n : ℕ). stored_item values n) (sym e) ∙ turned_at values other (omega (arith, is, low))))
 
     at_else : (now : ℕ → Stored) (p : ℕ) → p ≢ at → p ≢ other → swapped now p ≡ now p
     at_else now p ne ne' = miss p other early (but_at now at late p) ne' ∙ miss p at late (now p) ne
@@ -79,11 +79,11 @@ module _ (class : ℕ) (is_class : IsClass class) (values : List Value) where
           (putting_put class is_class values 0 (length values) turning.now old mid at late turning.putting puts fits_late (omega arith) (omega (arith, is, low)))
           puts' fits_early (omega arith) (omega (arith, is));
       first = λ p less. elim (cases_eq p at) [
-        | inl e ↦ subst (λ (n : ℕ). swapped turning.now n ≡ stored_at (reverse values) n) (sym e) (at_first turning.now)
+        | inl e ↦ subst (λ (n : ℕ). swapped turning.now n ≡ stored_item (reverse values) n) (sym e) (at_first turning.now)
         | inr ne ↦ at_else turning.now p ne (λ e. omega (arith, e, less, low)) ∙ turning.first p (omega (arith, less, ne))
       ];
       last = λ p past. elim (cases_eq p other) [
-        | inl e ↦ subst (λ (n : ℕ). swapped turning.now n ≡ stored_at (reverse values) n) (sym e) (at_last turning.now)
+        | inl e ↦ subst (λ (n : ℕ). swapped turning.now n ≡ stored_item (reverse values) n) (sym e) (at_last turning.now)
         | inr ne ↦ at_else turning.now p (λ e. omega (arith, e, past, is, low)) ne ∙ turning.last p (omega (arith, past, is, ne))
       ];
       middle = λ p from less. at_else turning.now p (λ e. omega (arith, e, from)) (λ e. omega (arith, e, less, is)) ∙ turning.middle p (omega (arith, from)) (omega (arith, less));

@@ -6,16 +6,16 @@ use Rattle.ft_model.specs.declared.script.Kind.TheVariants as kind
 use Rattle.ft_trace.specs.declared.Act.TheVariants.{ReadRoot, ReadTable, Version}
 use Rattle.ft_trace.specs.Addresses.{cell, class_of, slots, version_of}
 use Rattle.ft_trace.specs.Kinds.{IsItems, rows, version_at}
-use Rattle.ft_trace.specs.Reading.{Among}
+use Rattle.ft_trace.specs.LoggedReads.{Among}
 use Rattle.ft_trace.specs.Traces.{word}
-use Rattle.ft_trace.specs.Words.{item_at}
-use Rattle.ft_trace.specs.Worlds.{kind_in}
-use Rattle.ft_search.specs.Looks.{StopsAtContainer}
+use Rattle.ft_trace.specs.Pictures.{item_offset}
+use Rattle.ft_trace.specs.ContainerStates.{kind_in}
+use Rattle.ft_search.specs.KeyLooks.{StopsAtContainer}
 use Rattle.ft_search.proofs.Undisturbed.{both_same, even_now, even_row, not_moved}
 use Rattle.ft_list.specs.Floors.{FloorItemsStand}
-use Rattle.ft_list.specs.Looks.{StopsAtItem}
+use Rattle.ft_list.specs.ItemLooks.{StopsAtItem}
 
-items_at : (kind : Kind) → IsItems kind → (c index : ℕ) → version_at kind c index ≡ item_at index 0
+items_at : (kind : Kind) → IsItems kind → (c index : ℕ) → version_at kind c index ≡ item_offset index 0
 items_at kind.Dict is c index = absurd is
 items_at kind.Set is c index = absurd is
 items_at kind.List is c index = refl
@@ -31,7 +31,7 @@ floor_items_stand w part p l o index a b low items stops =
     (λ (x : (t : ℕ) × Among (ReadRoot o (suc t)) part × StopsAtItem t index a b part).
     let t = x.0 in
     let e = x.2 in
-    let n = item_at index 0 in
+    let n = item_offset index 0 in
     let k = kind_in w.shape.kinds o in
     let found = both_same w part p l e.newer e.mid e.rest (ReadTable t n a) (ReadTable t n b) e.is in
     let even = even_row w part p l o t index low x.1 (subst (λ (z : ℕ). index < z) (sym (items_rows k items (class_of t))) e.low) in

@@ -6,12 +6,12 @@ use Rattle.ft_trace.specs.declared.View.{View}
 use Rattle.ft_trace.specs.Addresses.{containers_in}
 use Rattle.ft_trace.specs.Kinds.{IsItems}
 use Rattle.ft_trace.specs.Traces.{Possible}
-use Rattle.ft_trace.specs.Worlds.{kind_in}
+use Rattle.ft_trace.specs.ContainerStates.{kind_in}
 use Rattle.ft_search.specs.Floors.{LooksWithFloor}
-use Rattle.ft_list.specs.Looks.{Stops}
+use Rattle.ft_list.specs.ItemLooks.{StopsItemLook}
 
 -- no version of an item stops them, and none of the list
 abbrev pub FloorItemsStand : Type 0
 FloorItemsStand =
     (w : View) (part : List Act) → Possible w → LooksWithFloor w part → (o index a b : ℕ) → o < containers_in w.shape
-    → IsItems (kind_in w.shape.kinds o) → Stops o index a b part → ⊥
+    → IsItems (kind_in w.shape.kinds o) → StopsItemLook o index a b part → ⊥

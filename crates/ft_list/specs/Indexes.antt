@@ -16,18 +16,18 @@ use Rattle.ft_trace.specs.declared.View.{View}
 use Rattle.ft_trace.specs.Acts.{has_lock}
 use Rattle.ft_trace.specs.Addresses.{containers_in}
 use Rattle.ft_trace.specs.Holds.{held}
-use Rattle.ft_trace.specs.Reading.{Agrees, Among, Between}
-use Rattle.ft_trace.specs.Words.{Picture, root_in, item_of, Stands}
-use Rattle.ft_trace.specs.Worlds.{ContainerState}
+use Rattle.ft_trace.specs.LoggedReads.{Agrees, Among, Between}
+use Rattle.ft_trace.specs.Pictures.{Picture, root_in, item_field, Stands}
+use Rattle.ft_trace.specs.ContainerStates.{ContainerState}
 use Rattle.ft_bank.specs.declared.pass.Pass.{Pass}
 use Rattle.ft_bank.specs.Passes.{view}
 use Rattle.ft_bank.specs.Series.{DidAll}
 use Rattle.ft_section.specs.declared.answers.Look.{Look}
-use Rattle.ft_search.specs.Looks.{AreLooks}
+use Rattle.ft_search.specs.KeyLooks.{AreLooks}
 use Rattle.ft_search.specs.Lengths.{StopsAtVersion, IsGlanceOf}
 use Rattle.ft_list.specs.declared.gets.AtIndex.{AtIndex}
 use Rattle.ft_list.specs.declared.gets.AtIndex.TheVariants.{Found, Contended}
-use Rattle.ft_list.specs.Looks.{IsGetOf}
+use Rattle.ft_list.specs.ItemLooks.{IsGetOf}
 
 -- the item that an index names among these, or none (Python manual, Sequence Types, note 3)
 abbrev pub item_named : List Value → ℤ → Option Value
@@ -42,9 +42,10 @@ Reads k o shows p q =
     × ((c : ℕ) → c < containers_in k → has_lock c (view p).log ≡ true → Agrees k c part (held c (view p)))
 
 -- where the root names the table t, and the item at the place is a value, it is this
-abbrev pub IsValueIn : ℕ → ℕ → Option Value → Picture → Type 0
-IsValueIn t place found x =
-    root_in x ≡ suc t → (value : Value) → IsStored (item_of x.table place 1) (item_of x.table place 2) (Plain value)
+abbrev pub IsItemValue : ℕ → ℕ → Option Value → Picture → Type 0
+IsItemValue t place found x =
+    root_in x ≡ suc t → (value : Value)
+    → IsStored (item_field x.table place 1) (item_field x.table place 2) (Plain value)
     → found ≡ Some value
 
 -- where these words stand for a list that has an item at the place, it is this

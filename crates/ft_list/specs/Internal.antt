@@ -1,4 +1,4 @@
 -- What a pass knows in the midst of a call on a list. Only private functions and proofs cite it: none of it is needed
 -- to say what a call does.
-pub mod Growing
+pub mod NewListTables
 pub mod Additions

@@ -10,9 +10,9 @@ use Rattle.ft_trace.specs.declared.View.{View}
 use Rattle.ft_trace.specs.Acts.{has_lock}
 use Rattle.ft_trace.specs.Addresses.{containers_in}
 use Rattle.ft_trace.specs.Holds.{held}
-use Rattle.ft_trace.specs.Reading.{Agrees}
-use Rattle.ft_trace.specs.Words.{Picture, Stands}
-use Rattle.ft_trace.specs.Worlds.{ContainerState}
+use Rattle.ft_trace.specs.LoggedReads.{Agrees}
+use Rattle.ft_trace.specs.Pictures.{Picture, Stands}
+use Rattle.ft_trace.specs.ContainerStates.{ContainerState}
 use Rattle.ft_bank.specs.declared.pass.Pass.{Pass}
 use Rattle.ft_bank.specs.Answered.{Answered}
 use Rattle.ft_bank.specs.Passes.{view}
@@ -20,7 +20,7 @@ use Rattle.ft_bank.specs.Series.{DidAll}
 use Rattle.ft_section.specs.declared.answers.Look.{Look}
 use Rattle.ft_section.specs.declared.answers.Look.TheVariants as look
 use Rattle.ft_search.specs.Lengths.{IsStopped}
-use Rattle.ft_search.specs.Looks.{AreLooks}
+use Rattle.ft_search.specs.KeyLooks.{AreLooks}
 
 -- The pass only loaded words, and this is so of all words of the containers o and m that answer so. What the pass knows
 -- of each container whose lock it has answers so. (profile)

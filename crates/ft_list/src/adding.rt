@@ -8,23 +8,23 @@ ghost use Rattle.ft_model.specs.declared.reply.Reply.TheVariants as reply;
 ghost use Rattle.ft_model.specs.declared.script.Kind.TheVariants as kind;
 ghost use Rattle.ft_model.specs.Classes.{IsClass, most_items};
 ghost use Rattle.ft_model.specs.Lists.{clamped_in};
-ghost use Rattle.ft_model.specs.Tables.{list_takes};
+ghost use Rattle.ft_model.specs.TableUses.{list_takes};
 ghost use Rattle.ft_trace.specs.Acts.{flight, used};
 ghost use Rattle.ft_trace.specs.Addresses.{containers_in};
 ghost use Rattle.ft_trace.specs.Holds.{known};
-ghost use Rattle.ft_trace.specs.Worlds.{kind_in};
+ghost use Rattle.ft_trace.specs.ContainerStates.{kind_in};
 ghost use Rattle.ft_bank.specs.declared.table.Table.{Table};
 ghost use Rattle.ft_bank.specs.Passes.{shape_of, view, IsPassOf};
-ghost use Rattle.ft_bank.specs.Sections.{stack_of};
+ghost use Rattle.ft_bank.specs.PassSections.{stack_of};
 ghost use Rattle.ft_bank.specs.Whole.{OnlyLoaded};
 ghost use Rattle.ft_section.specs.declared.answers.Objects.TheVariants.{One, Two};
 ghost use Rattle.ft_section.specs.Ready.{MayTry};
 ghost use Rattle.ft_section.specs.Trying.{SectionsAfter};
 ghost use Rattle.ft_growth.specs.Adding.{IsAdded, IsTryOf, KeepsCursors};
-ghost use Rattle.ft_list.specs.Items.{items_of};
-ghost use Rattle.ft_list.specs.Calls.{MayWriteList, Adds};
-ghost use Rattle.ft_list.specs.Growing.{AddsItems, ExtendsBy};
-ghost use Rattle.ft_list.specs.Internal.Growing.{KnowsList, MayAdd, use_of};
+ghost use Rattle.ft_list.specs.ListItemWrites.{known_items};
+ghost use Rattle.ft_list.specs.ListWrites.{MayWriteList, Adds};
+ghost use Rattle.ft_list.specs.ListGrowth.{AddsItems, ExtendsBy};
+ghost use Rattle.ft_list.specs.Internal.NewListTables.{KnowsList, MayAdd, list_use_of};
 ghost use Rattle.ft_list.specs.Internal.Additions.{count_in, with_added, IsAddition};
 
 use crate::addition::{Addition, added_count};
@@ -41,7 +41,7 @@ use ft_section::{Got, Object, Objects, Stamp, Step, let_go, take_for};
 /// The class of the table that a list takes for that many items, which has this one or none.
 fn class_wanted(old: Option<Table>, count: u64) -> Option<u32>
     requires table { (t : Table) → old ≡ Some t → IsClass t.class }
-    ensures class { result ≡ list_takes (use_of old) count }
+    ensures class { result ≡ list_takes (list_use_of old) count }
     ensures range { IfSome result (λ class. IsClass class) }
 {
     let class = match old {
@@ -76,11 +76,11 @@ fn add_in_room(
     requires pass { IsPassOf bank.now pass.old }
     requires may { MayAdd (shape_of bank.now) l old (view pass.old) }
     requires addition { IsAddition (shape_of bank.now) count addition (view pass.old) }
-    requires count { count ≡ length (items_of l (view pass.old)) }
+    requires count { count ≡ length (known_items l (view pass.old)) }
     requires few { count + count_in addition ≤ most_items }
-    requires call { (lc : ListCall) × (called.now ≡ call.List l lc) × Adds l lc (items_of l (view pass.old))
-        (with_added addition (view pass.old) (items_of l (view pass.old))) (view pass.old) }
-    requires room { list_takes (use_of old) (count + count_in addition) ≡ None }
+    requires call { (lc : ListCall) × (called.now ≡ call.List l lc) × Adds l lc (known_items l (view pass.old))
+        (with_added addition (view pass.old) (known_items l (view pass.old))) (view pass.old) }
+    requires room { list_takes (list_use_of old) (count + count_in addition) ≡ None }
     ensures pass { IsPassOf bank.now pass.new }
     ensures stack { stack_of pass.new ≡ stack_of pass.old }
     ensures added { IsAdded (shape_of bank.now) None false called.now reply.Done (view pass.old) (view pass.new) result }
@@ -118,12 +118,12 @@ fn add_in_taken(
     requires pass { IsPassOf bank.now pass.old }
     requires may { MayAdd (shape_of bank.now) l old (view pass.old) }
     requires addition { IsAddition (shape_of bank.now) count addition (view pass.old) }
-    requires count { count ≡ length (items_of l (view pass.old)) }
+    requires count { count ≡ length (known_items l (view pass.old)) }
     requires few { count + count_in addition ≤ most_items }
-    requires call { (lc : ListCall) × (called.now ≡ call.List l lc) × Adds l lc (items_of l (view pass.old))
-        (with_added addition (view pass.old) (items_of l (view pass.old))) (view pass.old) }
+    requires call { (lc : ListCall) × (called.now ≡ call.List l lc) × Adds l lc (known_items l (view pass.old))
+        (with_added addition (view pass.old) (known_items l (view pass.old))) (view pass.old) }
     requires class { IsClass class }
-    requires takes { list_takes (use_of old) (count + count_in addition) ≡ Some class }
+    requires takes { list_takes (list_use_of old) (count + count_in addition) ≡ Some class }
     ensures pass { IsPassOf bank.now pass.new }
     ensures stack { stack_of pass.new ≡ stack_of pass.old }
     ensures added { IsAdded (shape_of bank.now) (Some class) false called.now reply.Done (view pass.old) (view pass.new)
@@ -156,12 +156,12 @@ fn add_to(
     requires pass { IsPassOf bank.now pass.old }
     requires may { MayAdd (shape_of bank.now) l old (view pass.old) }
     requires addition { IsAddition (shape_of bank.now) count addition (view pass.old) }
-    requires count { count ≡ length (items_of l (view pass.old)) }
-    requires call { (lc : ListCall) × (called.now ≡ call.List l lc) × Adds l lc (items_of l (view pass.old))
-        (with_added addition (view pass.old) (items_of l (view pass.old))) (view pass.old) }
+    requires count { count ≡ length (known_items l (view pass.old)) }
+    requires call { (lc : ListCall) × (called.now ≡ call.List l lc) × Adds l lc (known_items l (view pass.old))
+        (with_added addition (view pass.old) (known_items l (view pass.old))) (view pass.old) }
     ensures pass { IsPassOf bank.now pass.new }
     ensures stack { stack_of pass.new ≡ stack_of pass.old }
-    ensures added { IsAdded (shape_of bank.now) (list_takes (use_of old) (count + count_in addition))
+    ensures added { IsAdded (shape_of bank.now) (list_takes (list_use_of old) (count + count_in addition))
         (nat_lt most_items (count + count_in addition)) called.now reply.Done (view pass.old) (view pass.new) result }
 {
     let total = count + added_count(addition);
@@ -259,7 +259,7 @@ pub fn extend_by(bank: &Bank, pass: &mut Pass, l: Object, m: Object) -> Added
     requires idle { flight (view pass.old).log ≡ 0 }
     ensures pass { IsPassOf bank.now pass.new }
     ensures stack { stack_of pass.new ≡ stack_of pass.old }
-    ensures added { AddsItems (shape_of bank.now) l (call.List l (list.Extend m)) (length (items_of m (view pass.old)))
+    ensures added { AddsItems (shape_of bank.now) l (call.List l (list.Extend m)) (length (known_items m (view pass.old)))
         (view pass.old) (view pass.new) result }
     ensures cursors { KeepsCursors (view pass.old) (view pass.new) }
 {

@@ -5,13 +5,13 @@ ghost use Rattle.ft_layout.specs.Words.{FitsStored};
 ghost use Rattle.ft_trace.specs.Acts.{has_committed};
 ghost use Rattle.ft_trace.specs.Addresses.{class_of, slots};
 ghost use Rattle.ft_trace.specs.Holds.{held};
-ghost use Rattle.ft_trace.specs.Words.{root_in};
+ghost use Rattle.ft_trace.specs.Pictures.{root_in};
 ghost use Rattle.ft_bank.specs.declared.table.Table.{Table};
 ghost use Rattle.ft_bank.specs.Passes.{shape_of, view, IsPassOf};
-ghost use Rattle.ft_bank.specs.Sections.{stack_of};
-ghost use Rattle.ft_bank.specs.Tables.{name_of, root_for, IsTableIn};
+ghost use Rattle.ft_bank.specs.PassSections.{stack_of};
+ghost use Rattle.ft_bank.specs.TableNames.{name_of, root_for, IsTableIn};
 ghost use Rattle.ft_bank.specs.Whole.{OnlyLoaded, OnlyPut};
-ghost use Rattle.ft_list.specs.Items.{WritesList, IsPutting, IsMoving, items_of, stored_at};
+ghost use Rattle.ft_list.specs.ListItemWrites.{WritesList, IsPutting, IsMoving, known_items, stored_item};
 ghost use Rattle.ft_list.specs.Internal.Additions.{count_in, first_in, with_added, GivesItems, IsAdditionTo};
 
 use crate::items::put_item;
@@ -57,11 +57,11 @@ fn given_item(bank: &Bank, pass: &mut Pass, m: u32, table: Option<Table>, place:
     requires gives { (o : ℕ) × GivesItems (shape_of bank.now) o m (view pass.old) }
     requires table { (t : Table) → table ≡ Some t → IsTableIn (shape_of bank.now) t }
     requires root { root_in (held m (view pass.old)) ≡ root_for table }
-    requires place { place < length (items_of m (view pass.old)) }
+    requires place { place < length (known_items m (view pass.old)) }
     ensures pass { IsPassOf bank.now pass.new }
     ensures stack { stack_of pass.new ≡ stack_of pass.old }
     ensures only { OnlyLoaded (view pass.old) (view pass.new) }
-    ensures stored { result ≡ stored_at (items_of m (view pass.old)) place }
+    ensures stored { result ≡ stored_item (known_items m (view pass.old)) place }
     ensures fits { FitsStored result }
 {
     match table {
@@ -88,18 +88,18 @@ fn put_from(
     requires gives { GivesItems (shape_of bank.now) o m (view pass.old) }
     requires from { (t : Table) → from ≡ Some t → IsTableIn (shape_of bank.now) t }
     requires root { root_in (held m (view pass.old)) ≡ root_for from }
-    requires count { count ≡ length (items_of o (view pass.old)) }
-    requires more { more ≡ length (items_of m (view pass.old)) }
+    requires count { count ≡ length (known_items o (view pass.old)) }
+    requires more { more ≡ length (known_items m (view pass.old)) }
     requires room { count + more ≤ slots (class_of (name_of table)) }
-    requires before { IsPutting (class_of (name_of table)) (items_of o (view pass.old)) count (count + more)
-        (stored_at (items_of o (view pass.old))) (held o (view pass.old)).table }
+    requires before { IsPutting (class_of (name_of table)) (known_items o (view pass.old)) count (count + more)
+        (stored_item (known_items o (view pass.old))) (held o (view pass.old)).table }
     ensures pass { IsPassOf bank.now pass.new }
     ensures stack { stack_of pass.new ≡ stack_of pass.old }
     ensures list { WritesList (shape_of bank.now) o table (view pass.new) }
     ensures only { OnlyPut o (view pass.old) (view pass.new) }
     ensures block { (held o (view pass.new)).block ≡ (held o (view pass.old)).block }
-    ensures moved { IsMoving (class_of (name_of table)) (items_of o (view pass.old))
-        (items_of o (view pass.old) ++ items_of m (view pass.old)) count (count + more) (count + more)
+    ensures moved { IsMoving (class_of (name_of table)) (known_items o (view pass.old))
+        (known_items o (view pass.old) ++ known_items m (view pass.old)) count (count + more) (count + more)
         (held o (view pass.new)).table }
 {
     for place in 0..more {
@@ -114,18 +114,18 @@ fn put_items(bank: &Bank, pass: &mut Pass, o: u32, table: Table, m: u32, count: 
     requires list { WritesList (shape_of bank.now) o table (view pass.old) }
     requires early { has_committed o (view pass.old).log ≡ false }
     requires gives { GivesItems (shape_of bank.now) o m (view pass.old) }
-    requires count { count ≡ length (items_of o (view pass.old)) }
-    requires more { more ≡ length (items_of m (view pass.old)) }
+    requires count { count ≡ length (known_items o (view pass.old)) }
+    requires more { more ≡ length (known_items m (view pass.old)) }
     requires room { count + more ≤ slots (class_of (name_of table)) }
-    requires before { IsPutting (class_of (name_of table)) (items_of o (view pass.old)) count (count + more)
-        (stored_at (items_of o (view pass.old))) (held o (view pass.old)).table }
+    requires before { IsPutting (class_of (name_of table)) (known_items o (view pass.old)) count (count + more)
+        (stored_item (known_items o (view pass.old))) (held o (view pass.old)).table }
     ensures pass { IsPassOf bank.now pass.new }
     ensures stack { stack_of pass.new ≡ stack_of pass.old }
     ensures list { WritesList (shape_of bank.now) o table (view pass.new) }
     ensures only { OnlyPut o (view pass.old) (view pass.new) }
     ensures block { (held o (view pass.new)).block ≡ (held o (view pass.old)).block }
-    ensures moved { IsMoving (class_of (name_of table)) (items_of o (view pass.old))
-        (items_of o (view pass.old) ++ items_of m (view pass.old)) count (count + more) (count + more)
+    ensures moved { IsMoving (class_of (name_of table)) (known_items o (view pass.old))
+        (known_items o (view pass.old) ++ known_items m (view pass.old)) count (count + more) (count + more)
         (held o (view pass.new)).table }
 {
     let from = table_at_root(bank, pass, m);
@@ -145,17 +145,17 @@ pub(crate) fn put_added(
     requires list { WritesList (shape_of bank.now) o table (view pass.old) }
     requires early { has_committed o (view pass.old).log ≡ false }
     requires addition { IsAdditionTo (shape_of bank.now) o count addition (view pass.old) }
-    requires count { count ≡ length (items_of o (view pass.old)) }
+    requires count { count ≡ length (known_items o (view pass.old)) }
     requires room { count + count_in addition ≤ slots (class_of (name_of table)) }
-    requires before { IsPutting (class_of (name_of table)) (items_of o (view pass.old)) (first_in addition count)
-        (count + count_in addition) (stored_at (items_of o (view pass.old))) (held o (view pass.old)).table }
+    requires before { IsPutting (class_of (name_of table)) (known_items o (view pass.old)) (first_in addition count)
+        (count + count_in addition) (stored_item (known_items o (view pass.old))) (held o (view pass.old)).table }
     ensures pass { IsPassOf bank.now pass.new }
     ensures stack { stack_of pass.new ≡ stack_of pass.old }
     ensures list { WritesList (shape_of bank.now) o table (view pass.new) }
     ensures only { OnlyPut o (view pass.old) (view pass.new) }
     ensures block { (held o (view pass.new)).block ≡ (held o (view pass.old)).block }
-    ensures moved { IsMoving (class_of (name_of table)) (items_of o (view pass.old))
-        (with_added addition (view pass.old) (items_of o (view pass.old))) (first_in addition count)
+    ensures moved { IsMoving (class_of (name_of table)) (known_items o (view pass.old))
+        (with_added addition (view pass.old) (known_items o (view pass.old))) (first_in addition count)
         (count + count_in addition) (count + count_in addition) (held o (view pass.new)).table }
 {
     match addition {

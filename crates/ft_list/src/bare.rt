@@ -1,12 +1,12 @@
 //! Whole writes of lists that have no table, and so no item: no word of theirs is put but the version.
 ghost use Rattle.std.specs.Prelude.{◌≡◌};
 ghost use Rattle.ft_trace.specs.Holds.{held, known};
-ghost use Rattle.ft_trace.specs.Words.{root_in};
+ghost use Rattle.ft_trace.specs.Pictures.{root_in};
 ghost use Rattle.ft_bank.specs.Passes.{shape_of, view, IsPassOf};
-ghost use Rattle.ft_bank.specs.Sections.{stack_of};
+ghost use Rattle.ft_bank.specs.PassSections.{stack_of};
 ghost use Rattle.ft_bank.specs.Whole.{Wrote};
-ghost use Rattle.ft_search.specs.Writing.{Leaves};
-ghost use Rattle.ft_list.specs.Calls.{MayWriteList};
+ghost use Rattle.ft_search.specs.OneEntryWrites.{Leaves};
+ghost use Rattle.ft_list.specs.ListWrites.{MayWriteList};
 
 use ft_bank::{Bank, Pass};
 use ft_model::{Call, Reply};

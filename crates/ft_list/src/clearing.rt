@@ -8,18 +8,18 @@ ghost use Rattle.ft_model.specs.declared.script.Kind.TheVariants as kind;
 ghost use Rattle.ft_trace.specs.Acts.{flight, used};
 ghost use Rattle.ft_trace.specs.Addresses.{containers_in};
 ghost use Rattle.ft_trace.specs.Holds.{held};
-ghost use Rattle.ft_trace.specs.Words.{root_in};
-ghost use Rattle.ft_trace.specs.Worlds.{kind_in};
+ghost use Rattle.ft_trace.specs.Pictures.{root_in};
+ghost use Rattle.ft_trace.specs.ContainerStates.{kind_in};
 ghost use Rattle.ft_bank.specs.Passes.{shape_of, view, IsPassOf};
-ghost use Rattle.ft_bank.specs.Sections.{stack_of};
+ghost use Rattle.ft_bank.specs.PassSections.{stack_of};
 ghost use Rattle.ft_bank.specs.Whole.{Wrote};
 ghost use Rattle.ft_section.specs.declared.answers.Objects.TheVariants.{One};
 ghost use Rattle.ft_section.specs.Ready.{MayTry};
 ghost use Rattle.ft_section.specs.Trying.{SectionsAfter};
 ghost use Rattle.ft_growth.specs.Adding.{KeepsCursors};
-ghost use Rattle.ft_list.specs.Calls.{MayWriteList};
-ghost use Rattle.ft_list.specs.Growing.{IsCleared, IsClearOf};
-ghost use Rattle.ft_list.specs.Internal.Growing.{MayAdd};
+ghost use Rattle.ft_list.specs.ListWrites.{MayWriteList};
+ghost use Rattle.ft_list.specs.Clears.{IsCleared, IsClearOf};
+ghost use Rattle.ft_list.specs.Internal.NewListTables.{MayAdd};
 
 use crate::adding::root_table;
 use crate::bare::write_nothing;
@@ -83,7 +83,7 @@ pub fn clear_by(bank: &Bank, pass: &mut Pass, l: Object) -> Stamp
     requires idle { flight (view pass.old).log ≡ 0 }
     ensures pass { IsPassOf bank.now pass.new }
     ensures stack { stack_of pass.new ≡ stack_of pass.old }
-    ensures cleared { IsCleared l result (view pass.old) (view pass.new) }
+    ensures cleared { IsCleared (call.List l list.Clear) result (view pass.old) (view pass.new) }
     ensures cursors { KeepsCursors (view pass.old) (view pass.new) }
 {
     let old = root_table(bank, pass, l);
@@ -108,7 +108,7 @@ pub fn try_clear(bank: &Bank, pass: &mut Pass, l: Object) -> Step
     requires left { 0 < (view pass.old).left }
     ensures may { MayTry bank.now pass.new (One l) }
     ensures sections { SectionsAfter bank.now (One l) pass.old pass.new result }
-    ensures tried { IsClearOf l (view pass.old) (view pass.new) result }
+    ensures tried { IsClearOf l (call.List l list.Clear) (view pass.old) (view pass.new) result }
     ensures cursors { KeepsCursors (view pass.old) (view pass.new) }
 {
     match take_for(bank, pass, Objects::One(l)) {

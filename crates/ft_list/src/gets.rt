@@ -8,12 +8,12 @@ ghost use Rattle.ft_model.specs.declared.script.Kind.TheVariants as kind;
 ghost use Rattle.ft_trace.specs.Acts.{announces};
 ghost use Rattle.ft_trace.specs.Addresses.{containers_in};
 ghost use Rattle.ft_trace.specs.LookReplies.{item_reply};
-ghost use Rattle.ft_trace.specs.Worlds.{kind_in};
+ghost use Rattle.ft_trace.specs.ContainerStates.{kind_in};
 ghost use Rattle.ft_bank.specs.Passes.{shape_of, view, IsPassOf};
-ghost use Rattle.ft_bank.specs.Sections.{stack_of};
-ghost use Rattle.ft_list.specs.Looks.{IsFoundAt, IsGetOf};
+ghost use Rattle.ft_bank.specs.PassSections.{stack_of};
+ghost use Rattle.ft_list.specs.ItemLooks.{IsItemFoundAt, IsGetOf};
 
-use crate::looks::{Found, find_item};
+use crate::looks::{LookedItem, find_item};
 use ft_bank::{Bank, Pass};
 use ft_layout::{Stored, item_of};
 use ft_model::{Call, ListCall, Raise, Reply, Value};
@@ -83,10 +83,10 @@ fn find_value(bank: &Bank, pass: &mut Pass, l: Object, index: u64) -> AtIndex
     requires left { 0 < (view pass.old).left }
     ensures pass { IsPassOf bank.now pass.new }
     ensures sections { stack_of pass.new ≡ stack_of pass.old }
-    ensures found { IsFoundAt l index (view pass.old) (view pass.new) result }
+    ensures found { IsItemFoundAt l index (view pass.old) (view pass.new) result }
 {
     match find_item(bank, pass, l, index) {
-        Found::Item(kind, payload, number) => match found_of(kind, payload) {
+        LookedItem::Item(kind, payload, number) => match found_of(kind, payload) {
             Some(found) => AtIndex::Found(found, number),
             None => {
                 // No pass can be so: its loads show a value or nothing.
@@ -94,8 +94,8 @@ fn find_value(bank: &Bank, pass: &mut Pass, l: Object, index: u64) -> AtIndex
                 unreachable!()
             }
         },
-        Found::Past(number) => AtIndex::Found(None, number),
-        Found::Contended(first, second) => AtIndex::Contended(first, second),
+        LookedItem::Past(number) => AtIndex::Found(None, number),
+        LookedItem::Contended(first, second) => AtIndex::Contended(first, second),
     }
 }
 

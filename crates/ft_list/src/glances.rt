@@ -2,19 +2,20 @@
 //!
 //! The version of each list that the call names is loaded before its words and after them. Where it was even
 //! and stayed the same, no write of that list came between.
-ghost use Rattle.std.specs.Prelude.{◌≡◌, ◌<◌, true, false};
+ghost use Rattle.std.specs.Prelude.{◌≡◌, ◌<◌, true, false, length};
 ghost use Rattle.ft_model.specs.declared.call.Call.TheVariants as call;
 ghost use Rattle.ft_model.specs.declared.call.ListCall.TheVariants as list;
 ghost use Rattle.ft_model.specs.declared.script.Kind.TheVariants as kind;
 ghost use Rattle.ft_model.specs.Lists.{index_of, same_items};
 ghost use Rattle.ft_trace.specs.Addresses.{containers_in};
-ghost use Rattle.ft_trace.specs.Worlds.{kind_in};
+ghost use Rattle.ft_trace.specs.ContainerStates.{kind_in};
 ghost use Rattle.ft_bank.specs.Passes.{shape_of, view, IsPassOf};
-ghost use Rattle.ft_bank.specs.Sections.{stack_of};
+ghost use Rattle.ft_bank.specs.PassSections.{stack_of};
 ghost use Rattle.ft_search.specs.Lengths.{IsGlanceOf};
 ghost use Rattle.ft_list.specs.Copies.{AreCopied};
-ghost use Rattle.ft_list.specs.Glances.{HasMoved, WasStill, SawItems, SawBoth, IsCopyGlanceOf};
-ghost use Rattle.ft_list.specs.Pairs.{IsGlanceOfBoth};
+ghost use Rattle.ft_list.specs.Glances.{HasMoved, WasStill, Saw, SawBoth, IsCopyGlanceOf};
+ghost use Rattle.ft_list.specs.Pairs.{AreOfItems, IsGlanceOfBoth};
+ghost use Rattle.ft_list.specs.Scans.{IsOfItems};
 
 use crate::copies::copy_items;
 use crate::pairs::are_alike;
@@ -51,7 +52,8 @@ fn find_between(bank: &Bank, pass: &mut Pass, l: Object, value: Value) -> (Optio
     requires pass { IsPassOf bank.now pass.old }
     requires container { l < containers_in (shape_of bank.now) }
     ensures pass { IsPassOf bank.now pass.new }
-    ensures saw { SawItems (shape_of bank.now) l (λ items. result.0 ≡ index_of items value) result.1 pass.old pass.new }
+    ensures saw { Saw (shape_of bank.now) l (IsOfItems (shape_of bank.now) (λ items.
+        result.0 ≡ index_of items value)) result.1 pass.old pass.new }
 {
     let opened = bank.seq(pass, l);
     let found = first_equal(bank, pass, l, value);
@@ -77,7 +79,8 @@ fn copy_between(
     requires pass { IsPassOf bank.now pass.old }
     requires container { l < containers_in (shape_of bank.now) }
     ensures pass { IsPassOf bank.now pass.new }
-    ensures saw { SawItems (shape_of bank.now) l (AreCopied result.0) result.1 pass.old pass.new }
+    ensures saw { Saw (shape_of bank.now) l (IsOfItems (shape_of bank.now) (AreCopied result.0)) result.1 pass.old
+        pass.new }
 {
     let opened = bank.seq(pass, l);
     let copy = copy_items(bank, pass, alloc, l);
@@ -138,7 +141,8 @@ pub fn look_items(bank: &Bank, pass: &mut Pass, alloc: Global, l: Object) -> Loo
     requires left { 0 < (view pass.old).left }
     ensures pass { IsPassOf bank.now pass.new }
     ensures sections { stack_of pass.new ≡ stack_of pass.old }
-    ensures looked { IsCopyGlanceOf (shape_of bank.now) l (call.List l list.Items) (view pass.old) (view pass.new) result }
+    ensures looked { IsCopyGlanceOf (shape_of bank.now) l (IsOfItems (shape_of bank.now) (λ items. 0 < length items))
+        (call.List l list.Items) (view pass.old) (view pass.new) result }
 {
     let (copy, window) = copy_between(bank, pass, alloc, l);
     if window.has_moved() {
@@ -168,8 +172,8 @@ fn alike_between(bank: &Bank, pass: &mut Pass, l: Object, m: Object) -> (bool, W
     requires container { l < containers_in (shape_of bank.now) }
     requires other { m < containers_in (shape_of bank.now) }
     ensures pass { IsPassOf bank.now pass.new }
-    ensures saw { SawBoth (shape_of bank.now) l m (λ items others. result.0 ≡ same_items items others)
-        result.1 result.2 pass.old pass.new }
+    ensures saw { SawBoth (shape_of bank.now) l m (AreOfItems (shape_of bank.now) (λ items others.
+        result.0 ≡ same_items items others)) result.1 result.2 pass.old pass.new }
 {
     let opened = bank.seq(pass, l);
     let other_opened = bank.seq(pass, m);

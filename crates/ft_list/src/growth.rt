@@ -12,17 +12,17 @@ ghost use Rattle.ft_trace.specs.declared.Act.TheVariants.{StartWrite, PutRoot};
 ghost use Rattle.ft_trace.specs.Acts.{noted, stage};
 ghost use Rattle.ft_trace.specs.Addresses.{class_of, slots};
 ghost use Rattle.ft_trace.specs.Holds.{held, known, in_hand};
-ghost use Rattle.ft_trace.specs.Words.{root_in};
+ghost use Rattle.ft_trace.specs.Pictures.{root_in};
 ghost use Rattle.ft_bank.specs.Passes.{shape_of, view, IsPassOf};
-ghost use Rattle.ft_bank.specs.Sections.{stack_of};
+ghost use Rattle.ft_bank.specs.PassSections.{stack_of};
 ghost use Rattle.ft_bank.specs.Series.{DidAll};
-ghost use Rattle.ft_bank.specs.Tables.{name_of, IsTableIn};
+ghost use Rattle.ft_bank.specs.TableNames.{name_of, IsTableIn};
 ghost use Rattle.ft_bank.specs.Whole.{OnlyLoaded, Wrote};
-ghost use Rattle.ft_bank.specs.Writes.{KeepsUnwritten};
+ghost use Rattle.ft_bank.specs.WriteSteps.{KeepsUnwritten};
 ghost use Rattle.ft_growth.specs.Adding.{OnlyFilled};
-ghost use Rattle.ft_list.specs.Items.{WritesList, IsPutting, items_of, stored_at};
-ghost use Rattle.ft_list.specs.Calls.{Grows};
-ghost use Rattle.ft_list.specs.Internal.Growing.{KnowsList, MayGrow, IsFilled, with_item};
+ghost use Rattle.ft_list.specs.ListItemWrites.{WritesList, IsPutting, known_items, stored_item};
+ghost use Rattle.ft_list.specs.ListWrites.{Grows};
+ghost use Rattle.ft_list.specs.Internal.NewListTables.{KnowsList, MayGrowList, IsFilled, with_new_item};
 ghost use Rattle.ft_list.specs.Internal.Additions.{count_in, with_added, IsAddition};
 
 use crate::addition::{Addition, added_count, first_place, put_added};
@@ -47,11 +47,11 @@ fn old_item(
 ) -> Stored
     requires pass { IsPassOf bank.now pass.old }
     requires list { KnowsList (shape_of bank.now) o old (view pass.old) }
-    requires count { count ≡ length (items_of o (view pass.old)) }
+    requires count { count ≡ length (known_items o (view pass.old)) }
     ensures pass { IsPassOf bank.now pass.new }
     ensures stack { stack_of pass.new ≡ stack_of pass.old }
     ensures only { OnlyLoaded (view pass.old) (view pass.new) }
-    ensures stored { result ≡ stored_at (items_of o (view pass.old)) place }
+    ensures stored { result ≡ stored_item (known_items o (view pass.old)) place }
     ensures fits { FitsStored result }
 {
     if place >= count {
@@ -74,7 +74,7 @@ fn fill_item(bank: &Bank, pass: &mut Pass, table: Table, place: u64, stored: Sto
     ensures stack { stack_of pass.new ≡ stack_of pass.old }
     ensures filled { OnlyFilled (view pass.old) (view pass.new) }
     ensures words { in_hand (name_of table) (view pass.new) ≡
-        with_item (in_hand (name_of table) (view pass.old)) place stored }
+        with_new_item (in_hand (name_of table) (view pass.old)) place stored }
 {
     let kind = stored_kind_of(stored);
     let payload = stored_payload_of(stored);
@@ -91,11 +91,11 @@ fn fill(bank: &Bank, pass: &mut Pass, o: u32, old: Option<Table>, table: Table, 
     requires list { KnowsList (shape_of bank.now) o old (view pass.old) }
     requires table { IsTableIn (shape_of bank.now) table }
     requires fresh { stage (name_of table) (view pass.old).log ≡ 1 }
-    requires count { count ≡ length (items_of o (view pass.old)) }
+    requires count { count ≡ length (known_items o (view pass.old)) }
     ensures pass { IsPassOf bank.now pass.new }
     ensures stack { stack_of pass.new ≡ stack_of pass.old }
     ensures only { OnlyFilled (view pass.old) (view pass.new) }
-    ensures filled { IsFilled (class_of (name_of table)) (items_of o (view pass.old))
+    ensures filled { IsFilled (class_of (name_of table)) (known_items o (view pass.old))
         (slots (class_of (name_of table))) (in_hand (name_of table) (view pass.new)) }
 {
     for place in 0..list_items(table.class) {
@@ -107,21 +107,21 @@ fn fill(bank: &Bank, pass: &mut Pass, o: u32, old: Option<Table>, table: Table, 
 /// Makes the version of a list odd and puts a table into its root that has what the list has.
 fn begin_in(bank: &Bank, pass: &mut Pass, o: u32, old: Option<Table>, table: Table)
     requires pass { IsPassOf bank.now pass.old }
-    requires may { MayGrow (shape_of bank.now) o old table (view pass.old) }
-    requires filled { IsFilled (class_of (name_of table)) (items_of o (view pass.old))
+    requires may { MayGrowList (shape_of bank.now) o old table (view pass.old) }
+    requires filled { IsFilled (class_of (name_of table)) (known_items o (view pass.old))
         (slots (class_of (name_of table))) (in_hand (name_of table) (view pass.old)) }
-    requires room { length (items_of o (view pass.old)) ≤ slots (class_of (name_of table)) }
+    requires room { length (known_items o (view pass.old)) ≤ slots (class_of (name_of table)) }
     ensures pass { IsPassOf bank.now pass.new }
     ensures did { (f : ℕ) × DidAll
         (PutRoot o (suc (name_of table)) (root_in (held o (view pass.old))) ∷ StartWrite o f ∷ []) pass.old pass.new
         × KeepsUnwritten (noted (StartWrite o f) (view pass.old)) (view pass.new) }
     ensures list { WritesList (shape_of bank.now) o table (view pass.new) }
     ensures putting { (first past : ℕ) →
-        IsPutting (class_of (name_of table)) (items_of o (view pass.old)) first past
-        (stored_at (items_of o (view pass.old))) (held o (view pass.new)).table }
-    ensures content { (known o (view pass.old)).content ≡ content.List (items_of o (view pass.old)) }
+        IsPutting (class_of (name_of table)) (known_items o (view pass.old)) first past
+        (stored_item (known_items o (view pass.old))) (held o (view pass.new)).table }
+    ensures content { (known o (view pass.old)).content ≡ content.List (known_items o (view pass.old)) }
     ensures head { IsBlock (held o (view pass.new)).block (Some (class_of (name_of table)))
-        (length (items_of o (view pass.old))) 0 0 }
+        (length (known_items o (view pass.old))) 0 0 }
 {
     let _ = old;
     bank.start_write(pass, o);
@@ -141,13 +141,13 @@ pub(crate) fn add_in(
     called: &Call,
 ) -> u64
     requires pass { IsPassOf bank.now pass.old }
-    requires may { MayGrow (shape_of bank.now) o old table (view pass.old) }
+    requires may { MayGrowList (shape_of bank.now) o old table (view pass.old) }
     requires other { root_in (held o (view pass.old)) ≢ suc (name_of table) }
     requires addition { IsAddition (shape_of bank.now) count addition (view pass.old) }
-    requires count { count ≡ length (items_of o (view pass.old)) }
+    requires count { count ≡ length (known_items o (view pass.old)) }
     requires room { count + count_in addition ≤ slots (class_of (name_of table)) }
-    requires call { (lc : ListCall) × (called.now ≡ call.List o lc) × Grows o lc (items_of o (view pass.old))
-        (with_added addition (view pass.old) (items_of o (view pass.old))) (class_of (name_of table)) (view pass.old) }
+    requires call { (lc : ListCall) × (called.now ≡ call.List o lc) × Grows o lc (known_items o (view pass.old))
+        (with_added addition (view pass.old) (known_items o (view pass.old))) (class_of (name_of table)) (view pass.old) }
     ensures pass { IsPassOf bank.now pass.new }
     ensures stack { stack_of pass.new ≡ stack_of pass.old }
     ensures wrote { Wrote called.now reply.Done result (view pass.old) (view pass.new) }

@@ -7,13 +7,13 @@ ghost use Rattle.ft_layout.specs.Words.{FitsStored, IsStored};
 ghost use Rattle.ft_trace.specs.Acts.{has_committed};
 ghost use Rattle.ft_trace.specs.Addresses.{class_of, slots};
 ghost use Rattle.ft_trace.specs.Holds.{held};
-ghost use Rattle.ft_trace.specs.Items.{said_at, words_at};
-ghost use Rattle.ft_trace.specs.Words.{item_at, item_of};
+ghost use Rattle.ft_trace.specs.ItemWords.{said_at, words_at};
+ghost use Rattle.ft_trace.specs.Pictures.{item_offset, item_field};
 ghost use Rattle.ft_bank.specs.Passes.{shape_of, view, IsPassOf};
-ghost use Rattle.ft_bank.specs.Sections.{stack_of};
-ghost use Rattle.ft_bank.specs.Tables.{name_of};
+ghost use Rattle.ft_bank.specs.PassSections.{stack_of};
+ghost use Rattle.ft_bank.specs.TableNames.{name_of};
 ghost use Rattle.ft_bank.specs.Whole.{OnlyLoaded, OnlyPut, EndsWrite};
-ghost use Rattle.ft_list.specs.Items.{WritesList, PutsItem, ClosesItem, IsChanging, MayFinish, items_of, with_word};
+ghost use Rattle.ft_list.specs.ListItemWrites.{WritesList, PutsItem, ClosesItem, IsChanging, MayFinishItems, known_items, with_word};
 
 use ft_bank::{Bank, Pass, Table};
 use ft_layout::{
@@ -28,7 +28,7 @@ const HEADER: u64 = 2;
 pub(crate) fn word_at(place: u64, word: u64) -> u64
     requires place { place < 65536 }
     requires word { word < 4 }
-    ensures { result ≡ item_at place word }
+    ensures { result ≡ item_offset place word }
 {
     item_at(place, word) - HEADER
 }
@@ -44,7 +44,7 @@ fn read_word(bank: &Bank, pass: &mut Pass, o: u32, table: Table, place: u64, wor
     ensures list { WritesList (shape_of bank.now) o table (view pass.new) }
     ensures only { OnlyLoaded (view pass.old) (view pass.new) }
     ensures held { held o (view pass.new) ≡ held o (view pass.old) }
-    ensures found { result ≡ item_of (held o (view pass.old)).table place word }
+    ensures found { result ≡ item_field (held o (view pass.old)).table place word }
 {
     let _ = o;
     bank.read_table(pass, table, word_at(place, word))
@@ -86,7 +86,7 @@ pub(crate) fn item(bank: &Bank, pass: &mut Pass, o: u32, table: Table, place: u6
     ensures only { OnlyLoaded (view pass.old) (view pass.new) }
     ensures held { held o (view pass.new) ≡ held o (view pass.old) }
     ensures stored { (stored : Stored) →
-        IsStored (item_of (held o (view pass.old)).table place 1) (item_of (held o (view pass.old)).table place 2) stored →
+        IsStored (item_field (held o (view pass.old)).table place 1) (item_field (held o (view pass.old)).table place 2) stored →
         result ≡ stored }
     ensures fits { FitsStored result }
 {
@@ -110,8 +110,8 @@ fn put_word(
     requires list { WritesList (shape_of bank.now) o table (view pass.old) }
     requires place { place < slots (class_of (name_of table)) }
     requires word { (0 < word) × (word < 4) }
-    requires odd { item_of (held o (view pass.old)).table place 0 % 2 ≡ 1 }
-    requires found { found ≡ item_of (held o (view pass.old)).table place word }
+    requires odd { item_field (held o (view pass.old)).table place 0 % 2 ≡ 1 }
+    requires found { found ≡ item_field (held o (view pass.old)).table place word }
     ensures pass { IsPassOf bank.now pass.new }
     ensures stack { stack_of pass.new ≡ stack_of pass.old }
     ensures list { WritesList (shape_of bank.now) o table (view pass.new) }
@@ -182,7 +182,7 @@ fn close_item(bank: &Bank, pass: &mut Pass, o: u32, table: Table, place: u64)
     requires list { WritesList (shape_of bank.now) o table (view pass.old) }
     requires late { has_committed o (view pass.old).log ≡ true }
     requires place { place < slots (class_of (name_of table)) }
-    requires says { words_at (items_of o (view pass.old)) place ≡ said_at (held o (view pass.old)).table place }
+    requires says { words_at (known_items o (view pass.old)) place ≡ said_at (held o (view pass.old)).table place }
     ensures pass { IsPassOf bank.now pass.new }
     ensures stack { stack_of pass.new ≡ stack_of pass.old }
     ensures list { WritesList (shape_of bank.now) o table (view pass.new) }
@@ -207,15 +207,15 @@ fn close_items(bank: &Bank, pass: &mut Pass, o: u32, table: Table, first: u64, p
     requires list { WritesList (shape_of bank.now) o table (view pass.old) }
     requires late { has_committed o (view pass.old).log ≡ true }
     requires places { past ≤ slots (class_of (name_of table)) }
-    requires changing { IsChanging (class_of (name_of table)) (items_of o (view pass.old))
-        (items_of o (view pass.old)) first past (held o (view pass.old)).table }
+    requires changing { IsChanging (class_of (name_of table)) (known_items o (view pass.old))
+        (known_items o (view pass.old)) first past (held o (view pass.old)).table }
     ensures pass { IsPassOf bank.now pass.new }
     ensures stack { stack_of pass.new ≡ stack_of pass.old }
     ensures list { WritesList (shape_of bank.now) o table (view pass.new) }
     ensures only { OnlyPut o (view pass.old) (view pass.new) }
     ensures block { (held o (view pass.new)).block ≡ (held o (view pass.old)).block }
-    ensures closed { IsChanging (class_of (name_of table)) (items_of o (view pass.old))
-        (items_of o (view pass.old)) past past (held o (view pass.new)).table }
+    ensures closed { IsChanging (class_of (name_of table)) (known_items o (view pass.old))
+        (known_items o (view pass.old)) past past (held o (view pass.new)).table }
 {
     versions_change_nothing();
     for place in first..past {
@@ -238,7 +238,7 @@ pub(crate) fn finish(
     requires pass { IsPassOf bank.now pass.old }
     requires list { WritesList (shape_of bank.now) o table (view pass.old) }
     requires places { (first ≤ past) × (past ≤ slots (class_of (name_of table))) }
-    requires may { MayFinish o table called.now said.now first past (view pass.old) }
+    requires may { MayFinishItems o table called.now said.now first past (view pass.old) }
     ensures pass { IsPassOf bank.now pass.new }
     ensures stack { stack_of pass.new ≡ stack_of pass.old }
     ensures ends { EndsWrite called.now said.now result (view pass.old) (view pass.new) }

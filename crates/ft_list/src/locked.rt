@@ -13,16 +13,17 @@ ghost use Rattle.ft_trace.specs.declared.Act.TheVariants.{ReadBlock};
 ghost use Rattle.ft_trace.specs.Acts.{has_lock};
 ghost use Rattle.ft_trace.specs.Addresses.{containers_in};
 ghost use Rattle.ft_trace.specs.Holds.{held};
-ghost use Rattle.ft_trace.specs.Words.{root_in};
+ghost use Rattle.ft_trace.specs.Pictures.{root_in};
 ghost use Rattle.ft_bank.specs.declared.table.Table.{Table};
 ghost use Rattle.ft_bank.specs.Answered.{Answered};
 ghost use Rattle.ft_bank.specs.Passes.{shape_of, view, IsPassOf};
-ghost use Rattle.ft_bank.specs.Sections.{stack_of};
-ghost use Rattle.ft_bank.specs.Tables.{root_for, IsTableIn};
+ghost use Rattle.ft_bank.specs.PassSections.{stack_of};
+ghost use Rattle.ft_bank.specs.TableNames.{root_for, IsTableIn};
 ghost use Rattle.ft_bank.specs.Whole.{OnlyLoaded};
-ghost use Rattle.ft_list.specs.Items.{items_of};
-ghost use Rattle.ft_list.specs.Calls.{MayWriteList, HasTable, Raises};
-ghost use Rattle.ft_search.specs.Calls.{MadeAs};
+ghost use Rattle.ft_list.specs.ListItemWrites.{known_items};
+ghost use Rattle.ft_list.specs.ListWrites.{MayWriteList, Raises};
+ghost use Rattle.ft_search.specs.MadeCalls.{MadeAs};
+ghost use Rattle.ft_search.specs.OneEntryWrites.{HasTable};
 
 use crate::writes::{remove_item, set_item};
 use ft_bank::{Bank, Pass, Table};
@@ -55,8 +56,8 @@ pub(crate) fn count_of(bank: &Bank, pass: &mut Pass, l: Object) -> u64
     ensures stack { stack_of pass.new ≡ stack_of pass.old }
     ensures only { OnlyLoaded (view pass.old) (view pass.new) }
     ensures may { MayWriteList (shape_of bank.now) l (view pass.new) }
-    ensures items { items_of l (view pass.new) ≡ items_of l (view pass.old) }
-    ensures count { result ≡ length (items_of l (view pass.old)) }
+    ensures items { known_items l (view pass.new) ≡ known_items l (view pass.old) }
+    ensures count { result ≡ length (known_items l (view pass.old)) }
     ensures log { (n : ℕ) × ((view pass.new).log ≡ ReadBlock l 1 n ∷ (view pass.old).log) }
 {
     bank.read_block(pass, l, LENGTH)
@@ -81,12 +82,12 @@ pub(crate) fn table_at_root(bank: &Bank, pass: &mut Pass, l: Object) -> Option<T
 pub(crate) fn table_of(bank: &Bank, pass: &mut Pass, l: Object) -> Table
     requires pass { IsPassOf bank.now pass.old }
     requires may { MayWriteList (shape_of bank.now) l (view pass.old) }
-    requires some { length (items_of l (view pass.old)) ≢ 0 }
+    requires some { length (known_items l (view pass.old)) ≢ 0 }
     ensures pass { IsPassOf bank.now pass.new }
     ensures stack { stack_of pass.new ≡ stack_of pass.old }
     ensures only { OnlyLoaded (view pass.old) (view pass.new) }
     ensures may { MayWriteList (shape_of bank.now) l (view pass.new) }
-    ensures items { items_of l (view pass.new) ≡ items_of l (view pass.old) }
+    ensures items { known_items l (view pass.new) ≡ known_items l (view pass.old) }
     ensures table { HasTable (shape_of bank.now) l result (view pass.new) }
 {
     let root = bank.read_block(pass, l, 0);
@@ -100,7 +101,7 @@ pub(crate) fn table_of(bank: &Bank, pass: &mut Pass, l: Object) -> Table
 pub(crate) fn raise(bank: &Bank, pass: &mut Pass, l: Object, called: &Call, said: &Reply) -> Stamp
     requires pass { IsPassOf bank.now pass.old }
     requires may { MayWriteList (shape_of bank.now) l (view pass.old) }
-    requires call { (lc : ListCall) × (called.now ≡ call.List l lc) × Raises l lc said.now (items_of l (view pass.old)) }
+    requires call { (lc : ListCall) × (called.now ≡ call.List l lc) × Raises l lc said.now (known_items l (view pass.old)) }
     ensures pass { IsPassOf bank.now pass.new }
     ensures stack { stack_of pass.new ≡ stack_of pass.old }
     ensures answered { Answered called.now said.now result.number (view pass.old) (view pass.new) }
@@ -127,9 +128,9 @@ pub fn set_locked(
     ensures pass { IsPassOf bank.now pass.new }
     ensures stack { stack_of pass.new ≡ stack_of pass.old }
     ensures made { MadeAs (call.List l (list.Set index value)) result.0 result.1 (view pass.old) (view pass.new) }
-    ensures done { (place : ℕ) → index_in (length (items_of l (view pass.old))) index ≡ Some place →
+    ensures done { (place : ℕ) → index_in (length (known_items l (view pass.old))) index ≡ Some place →
         (result.0 ≡ reply.Done) × (result.1.wrote ≡ true) }
-    ensures raises { index_in (length (items_of l (view pass.old))) index ≡ None →
+    ensures raises { index_in (length (known_items l (view pass.old))) index ≡ None →
         (result.0 ≡ reply.Raised raise.NoIndex) × (result.1.wrote ≡ false) }
 {
     let called = Call::List {
@@ -166,9 +167,9 @@ pub fn del_locked(bank: &Bank, pass: &mut Pass, l: Object, index: i64) -> (Reply
     ensures pass { IsPassOf bank.now pass.new }
     ensures stack { stack_of pass.new ≡ stack_of pass.old }
     ensures made { MadeAs (call.List l (list.Del index)) result.0 result.1 (view pass.old) (view pass.new) }
-    ensures done { (place : ℕ) → index_in (length (items_of l (view pass.old))) index ≡ Some place →
+    ensures done { (place : ℕ) → index_in (length (known_items l (view pass.old))) index ≡ Some place →
         (result.0 ≡ reply.Done) × (result.1.wrote ≡ true) }
-    ensures raises { index_in (length (items_of l (view pass.old))) index ≡ None →
+    ensures raises { index_in (length (known_items l (view pass.old))) index ≡ None →
         (result.0 ≡ reply.Raised raise.NoIndex) × (result.1.wrote ≡ false) }
 {
     let called = Call::List {

@@ -8,16 +8,16 @@ ghost use Rattle.ft_model.specs.declared.script.Kind.TheVariants as kind;
 ghost use Rattle.ft_trace.specs.declared.Act.{Act};
 ghost use Rattle.ft_trace.specs.declared.Act.TheVariants.{ReadRoot, ReadTable};
 ghost use Rattle.ft_trace.specs.Acts.{announces};
-ghost use Rattle.ft_trace.specs.Addresses.{containers_in, class_of, slots, IsTable};
-ghost use Rattle.ft_trace.specs.Worlds.{kind_in};
-ghost use Rattle.ft_trace.specs.Words.{item_at};
+ghost use Rattle.ft_trace.specs.Addresses.{containers_in, class_of, slots, IsTableName};
+ghost use Rattle.ft_trace.specs.ContainerStates.{kind_in};
+ghost use Rattle.ft_trace.specs.Pictures.{item_offset};
 ghost use Rattle.ft_bank.specs.Passes.{shape_of, view, IsPassOf};
-ghost use Rattle.ft_bank.specs.Sections.{stack_of};
+ghost use Rattle.ft_bank.specs.PassSections.{stack_of};
 ghost use Rattle.ft_bank.specs.Series.{DidAll};
-ghost use Rattle.ft_bank.specs.Tables.{name_of, IsPlaceOf, IsTableIn};
+ghost use Rattle.ft_bank.specs.TableNames.{name_of, IsPlaceOf, IsTableIn};
 ghost use Rattle.ft_bank.specs.Whole.{OnlyLoaded};
-ghost use Rattle.ft_search.specs.Looks.{AreLooks};
-ghost use Rattle.ft_list.specs.Looks.{seen_acts, EndsTable, EndsRound, ShowsFound};
+ghost use Rattle.ft_search.specs.KeyLooks.{AreLooks};
+ghost use Rattle.ft_list.specs.ItemLooks.{item_acts, EndsItemTable, EndsItemRound, ShowsFound};
 
 use crate::items::word_at;
 use ft_bank::{Bank, Pass, Table};
@@ -26,7 +26,7 @@ use ft_search::table_at;
 
 /// What a look-up of one item without the lock came to.
 #[derive(Clone, Copy)]
-pub(crate) enum Found {
+pub(crate) enum LookedItem {
     /// The kind and the payload of the item, and the stamp.
     Item(u64, u64, u64),
     /// The list's table has no such item, at this stamp.
@@ -37,16 +37,16 @@ pub(crate) enum Found {
 
 /// What a round of a look-up came to.
 #[derive(Clone, Copy)]
-pub(crate) enum Round {
+pub(crate) enum ItemRound {
     /// The look-up ends so.
-    Ended(Found),
+    Ended(LookedItem),
     /// The root has changed to this.
     Moved(u64),
 }
 
 /// What was loaded of an item, in the order of the loads.
 #[derive(Clone, Copy)]
-pub(crate) struct Seen {
+pub(crate) struct SeenItem {
     /// The version at first.
     pub(crate) opened: u64,
     /// The kind of the value.
@@ -67,19 +67,19 @@ fn load_word(bank: &Bank, pass: &mut Pass, table: Table, start: u64, index: u64,
     requires index { index < slots (class_of (name_of table)) }
     requires word { word < 4 }
     ensures pass { IsPassOf bank.now pass.new }
-    ensures did { DidAll (ReadTable (name_of table) (item_at index word) result ∷ []) pass.old pass.new }
+    ensures did { DidAll (ReadTable (name_of table) (item_offset index word) result ∷ []) pass.old pass.new }
 {
     bank.read_word(pass, table, start, word_at(index, word))
 }
 
 /// Loads an item and the counter between two loads of the item's version.
 #[inline(always)]
-fn see_item(bank: &Bank, pass: &mut Pass, table: Table, index: u64) -> Seen
+fn see_item(bank: &Bank, pass: &mut Pass, table: Table, index: u64) -> SeenItem
     requires pass { IsPassOf bank.now pass.old }
     requires table { IsTableIn (shape_of bank.now) table }
     requires index { index < slots (class_of (name_of table)) }
     ensures pass { IsPassOf bank.now pass.new }
-    ensures did { DidAll (seen_acts (name_of table) index result) pass.old pass.new }
+    ensures did { DidAll (item_acts (name_of table) index result) pass.old pass.new }
 {
     let start = bank.cell_of(table);
     let opened = load_word(bank, pass, table, start, index, item_word::VERSION);
@@ -87,7 +87,7 @@ fn see_item(bank: &Bank, pass: &mut Pass, table: Table, index: u64) -> Seen
     let payload = load_word(bank, pass, table, start, index, item_word::VALUE);
     let number = bank.stamp(pass);
     let closed = load_word(bank, pass, table, start, index, item_word::VERSION);
-    Seen {
+    SeenItem {
         opened,
         kind,
         payload,
@@ -98,7 +98,7 @@ fn see_item(bank: &Bank, pass: &mut Pass, table: Table, index: u64) -> Seen
 
 /// A round over the table that the root named: the item, and then the root again.
 #[inline(always)]
-fn look_at(bank: &Bank, pass: &mut Pass, o: u32, index: u64, root: u64, table: Table) -> Round
+fn look_at(bank: &Bank, pass: &mut Pass, o: u32, index: u64, root: u64, table: Table) -> ItemRound
     requires pass { IsPassOf bank.now pass.old }
     requires container { o < containers_in (shape_of bank.now) }
     requires online { 0 < announces (view pass.old).log }
@@ -107,21 +107,21 @@ fn look_at(bank: &Bank, pass: &mut Pass, o: u32, index: u64, root: u64, table: T
     requires index { index < slots (class_of (name_of table)) }
     requires last { (rest : List Act) × ((view pass.old).log ≡ ReadRoot o root ∷ rest) }
     ensures pass { IsPassOf bank.now pass.new }
-    ensures ended { EndsTable (shape_of bank.now) o index (name_of table) pass.old pass.new result }
+    ensures ended { EndsItemTable (shape_of bank.now) o index (name_of table) pass.old pass.new result }
 {
     let seen = see_item(bank, pass, table, index);
     let again = bank.read_root(pass, o);
     if again != root {
-        return Round::Moved(again);
+        return ItemRound::Moved(again);
     }
     if seen.closed != seen.opened || seen.opened % 2 != 0 {
-        return Round::Ended(Found::Contended(seen.opened, seen.closed));
+        return ItemRound::Ended(LookedItem::Contended(seen.opened, seen.closed));
     }
-    Round::Ended(Found::Item(seen.kind, seen.payload, seen.number))
+    ItemRound::Ended(LookedItem::Item(seen.kind, seen.payload, seen.number))
 }
 
 /// A round over a table that has no such item: the counter, and then the root again.
-fn look_past(bank: &Bank, pass: &mut Pass, o: u32, index: u64, root: u64, table: Table) -> Round
+fn look_past(bank: &Bank, pass: &mut Pass, o: u32, index: u64, root: u64, table: Table) -> ItemRound
     requires pass { IsPassOf bank.now pass.old }
     requires container { o < containers_in (shape_of bank.now) }
     requires online { 0 < announces (view pass.old).log }
@@ -130,50 +130,50 @@ fn look_past(bank: &Bank, pass: &mut Pass, o: u32, index: u64, root: u64, table:
     requires index { slots (class_of (name_of table)) ≤ index }
     requires last { (rest : List Act) × ((view pass.old).log ≡ ReadRoot o root ∷ rest) }
     ensures pass { IsPassOf bank.now pass.new }
-    ensures ended { EndsTable (shape_of bank.now) o index (name_of table) pass.old pass.new result }
+    ensures ended { EndsItemTable (shape_of bank.now) o index (name_of table) pass.old pass.new result }
 {
     let _ = (index, table);
     let number = bank.stamp(pass);
     let again = bank.read_root(pass, o);
     if again != root {
-        return Round::Moved(again);
+        return ItemRound::Moved(again);
     }
-    Round::Ended(Found::Past(number))
+    ItemRound::Ended(LookedItem::Past(number))
 }
 
 /// A round where the root was read 0: the list's version, the root again, the counter, and the version
 /// again.
-fn look_bare(bank: &Bank, pass: &mut Pass, o: u32) -> Round
+fn look_bare(bank: &Bank, pass: &mut Pass, o: u32) -> ItemRound
     requires pass { IsPassOf bank.now pass.old }
     requires container { o < containers_in (shape_of bank.now) }
     requires online { 0 < announces (view pass.old).log }
     requires last { (rest : List Act) × ((view pass.old).log ≡ ReadRoot o 0 ∷ rest) }
     ensures pass { IsPassOf bank.now pass.new }
-    ensures ended { (index : ℕ) → EndsRound (shape_of bank.now) o index 0 pass.old pass.new result }
+    ensures ended { (index : ℕ) → EndsItemRound (shape_of bank.now) o index 0 pass.old pass.new result }
 {
     let opened = bank.seq(pass, o);
     let root = bank.read_root(pass, o);
     if root != 0 {
-        return Round::Moved(root);
+        return ItemRound::Moved(root);
     }
     let number = bank.stamp(pass);
     let closed = bank.seq(pass, o);
     if closed != opened || opened % 2 != 0 {
-        return Round::Ended(Found::Contended(opened, closed));
+        return ItemRound::Ended(LookedItem::Contended(opened, closed));
     }
-    Round::Ended(Found::Past(number))
+    ItemRound::Ended(LookedItem::Past(number))
 }
 
 /// A round at whatever the root was.
 #[inline(always)]
-fn look_round(bank: &Bank, pass: &mut Pass, o: u32, index: u64, root: u64) -> Round
+fn look_round(bank: &Bank, pass: &mut Pass, o: u32, index: u64, root: u64) -> ItemRound
     requires pass { IsPassOf bank.now pass.old }
     requires container { o < containers_in (shape_of bank.now) }
     requires online { 0 < announces (view pass.old).log }
-    requires table { (t : ℕ) → root ≡ suc t → IsTable (shape_of bank.now) t }
+    requires table { (t : ℕ) → root ≡ suc t → IsTableName (shape_of bank.now) t }
     requires last { (rest : List Act) × ((view pass.old).log ≡ ReadRoot o root ∷ rest) }
     ensures pass { IsPassOf bank.now pass.new }
-    ensures ended { EndsRound (shape_of bank.now) o index root pass.old pass.new result }
+    ensures ended { EndsItemRound (shape_of bank.now) o index root pass.old pass.new result }
 {
     match table_at(bank, root) {
         Some(table) => {
@@ -190,7 +190,7 @@ fn look_round(bank: &Bank, pass: &mut Pass, o: u32, index: u64, root: u64) -> Ro
 /// Looks up an item without the lock; the pass is online. A root changes at most twice for each table, so
 /// the rounds end.
 #[inline(always)]
-pub(crate) fn find_item(bank: &Bank, pass: &mut Pass, o: u32, index: u64) -> Found
+pub(crate) fn find_item(bank: &Bank, pass: &mut Pass, o: u32, index: u64) -> LookedItem
     requires pass { IsPassOf bank.now pass.old }
     requires container { o < containers_in (shape_of bank.now) }
     requires online { 0 < announces (view pass.old).log }
@@ -202,8 +202,8 @@ pub(crate) fn find_item(bank: &Bank, pass: &mut Pass, o: u32, index: u64) -> Fou
     let mut root = bank.read_root(pass, o);
     'rounds: loop {
         match look_round(bank, pass, o, index, root) {
-            Round::Ended(found) => return found,
-            Round::Moved(next) => root = next,
+            ItemRound::Ended(found) => return found,
+            ItemRound::Moved(next) => root = next,
         }
     }
 }

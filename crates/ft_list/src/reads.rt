@@ -6,12 +6,12 @@ ghost use Rattle.ft_layout.specs.Words.{IsStored};
 ghost use Rattle.ft_trace.specs.Acts.{has_lock};
 ghost use Rattle.ft_trace.specs.Addresses.{containers_in, class_of, slots};
 ghost use Rattle.ft_trace.specs.Holds.{held};
-ghost use Rattle.ft_trace.specs.Words.{item_of, root_in};
+ghost use Rattle.ft_trace.specs.Pictures.{item_field, root_in};
 ghost use Rattle.ft_bank.specs.Passes.{shape_of, view, IsPassOf};
-ghost use Rattle.ft_bank.specs.Sections.{stack_of};
-ghost use Rattle.ft_bank.specs.Tables.{name_of, IsTableIn};
+ghost use Rattle.ft_bank.specs.PassSections.{stack_of};
+ghost use Rattle.ft_bank.specs.TableNames.{name_of, IsTableIn};
 ghost use Rattle.ft_bank.specs.Whole.{OnlyLoaded};
-ghost use Rattle.ft_list.specs.Indexes.{Reads, IsValueIn, IsItemAt, IsItemNamed};
+ghost use Rattle.ft_list.specs.Indexes.{Reads, IsItemValue, IsItemAt, IsItemNamed};
 
 use crate::gets::found_of;
 use crate::items::word_at;
@@ -29,7 +29,7 @@ fn read_value(bank: &Bank, pass: &mut Pass, l: Object, table: Table, place: u64)
     requires table { IsTableIn (shape_of bank.now) table }
     requires place { place < slots (class_of (name_of table)) }
     ensures pass { IsPassOf bank.now pass.new }
-    ensures reads { Reads (shape_of bank.now) l (IsValueIn (name_of table) place result) pass.old pass.new }
+    ensures reads { Reads (shape_of bank.now) l (IsItemValue (name_of table) place result) pass.old pass.new }
 {
     let _ = l;
     let kind = bank.read_table(pass, table, word_at(place, item_word::VALUE_KIND));
@@ -52,7 +52,7 @@ pub(crate) fn read_stored(bank: &Bank, pass: &mut Pass, o: u32, table: Table, pl
     ensures stack { stack_of pass.new ≡ stack_of pass.old }
     ensures only { OnlyLoaded (view pass.old) (view pass.new) }
     ensures stored { (stored : Stored) →
-        IsStored (item_of (held o (view pass.old)).table place 1) (item_of (held o (view pass.old)).table place 2) stored →
+        IsStored (item_field (held o (view pass.old)).table place 1) (item_field (held o (view pass.old)).table place 2) stored →
         result ≡ stored }
 {
     let _ = o;

@@ -8,11 +8,11 @@ ghost use Rattle.ft_model.specs.declared.reply.Reply.TheVariants as reply;
 ghost use Rattle.ft_model.specs.declared.reply.Raise.TheVariants as raise;
 ghost use Rattle.ft_model.specs.Lists.{index_in, index_of};
 ghost use Rattle.ft_bank.specs.Passes.{shape_of, view, IsPassOf};
-ghost use Rattle.ft_bank.specs.Sections.{stack_of};
+ghost use Rattle.ft_bank.specs.PassSections.{stack_of};
 ghost use Rattle.ft_bank.specs.Whole.{OnlyLoaded};
-ghost use Rattle.ft_list.specs.Items.{items_of};
-ghost use Rattle.ft_list.specs.Calls.{MayWriteList};
-ghost use Rattle.ft_search.specs.Calls.{MadeAs};
+ghost use Rattle.ft_list.specs.ListItemWrites.{known_items};
+ghost use Rattle.ft_list.specs.ListWrites.{MayWriteList};
+ghost use Rattle.ft_search.specs.MadeCalls.{MadeAs};
 
 use crate::locked::{count_of, place_in, raise, table_of, value_fits};
 use crate::reads::read_item;
@@ -26,11 +26,11 @@ use ft_section::{Object, Stamp};
 fn item_at(bank: &Bank, pass: &mut Pass, l: Object, place: u64) -> Value
     requires pass { IsPassOf bank.now pass.old }
     requires may { MayWriteList (shape_of bank.now) l (view pass.old) }
-    requires place { place < length (items_of l (view pass.old)) }
+    requires place { place < length (known_items l (view pass.old)) }
     ensures pass { IsPassOf bank.now pass.new }
     ensures stack { stack_of pass.new ≡ stack_of pass.old }
     ensures only { OnlyLoaded (view pass.old) (view pass.new) }
-    ensures item { result ≡ slice_index_or (items_of l (view pass.old)) place value.Nothing }
+    ensures item { result ≡ slice_index_or (known_items l (view pass.old)) place value.Nothing }
 {
     match read_item(bank, pass, l, place) {
         Some(item) => item,
@@ -46,10 +46,10 @@ pub fn pop_locked(bank: &Bank, pass: &mut Pass, l: Object, index: Option<i64>) -
     ensures stack { stack_of pass.new ≡ stack_of pass.old }
     ensures made { MadeAs (call.List l (list.Pop index)) result.0 result.1 (view pass.old) (view pass.new) }
     ensures done { (place : ℕ) →
-        index_in (length (items_of l (view pass.old))) (unwrap_or index (negsuc 0)) ≡ Some place →
-        (result.0 ≡ reply.Value (slice_index_or (items_of l (view pass.old)) place value.Nothing))
+        index_in (length (known_items l (view pass.old))) (unwrap_or index (negsuc 0)) ≡ Some place →
+        (result.0 ≡ reply.Value (slice_index_or (known_items l (view pass.old)) place value.Nothing))
         × (result.1.wrote ≡ true) }
-    ensures raises { index_in (length (items_of l (view pass.old))) (unwrap_or index (negsuc 0)) ≡ None →
+    ensures raises { index_in (length (known_items l (view pass.old))) (unwrap_or index (negsuc 0)) ≡ None →
         (result.0 ≡ reply.Raised raise.NoIndex) × (result.1.wrote ≡ false) }
 {
     let called = Call::List {
@@ -86,9 +86,9 @@ pub fn remove_locked(bank: &Bank, pass: &mut Pass, l: Object, value: Value) -> (
     ensures pass { IsPassOf bank.now pass.new }
     ensures stack { stack_of pass.new ≡ stack_of pass.old }
     ensures made { MadeAs (call.List l (list.Remove value)) result.0 result.1 (view pass.old) (view pass.new) }
-    ensures done { (place : ℕ) → index_of (items_of l (view pass.old)) value ≡ Some place →
+    ensures done { (place : ℕ) → index_of (known_items l (view pass.old)) value ≡ Some place →
         (result.0 ≡ reply.Done) × (result.1.wrote ≡ true) }
-    ensures raises { index_of (items_of l (view pass.old)) value ≡ None →
+    ensures raises { index_of (known_items l (view pass.old)) value ≡ None →
         (result.0 ≡ reply.Raised raise.NoValue) × (result.1.wrote ≡ false) }
 {
     let called = Call::List {

@@ -6,9 +6,9 @@ ghost use Rattle.ft_model.specs.declared.call.ListCall.TheVariants as list;
 ghost use Rattle.ft_model.specs.declared.reply.Raise.TheVariants as raise;
 ghost use Rattle.ft_model.specs.declared.reply.Reply.TheVariants as reply;
 ghost use Rattle.ft_bank.specs.Passes.{shape_of, view, IsPassOf};
-ghost use Rattle.ft_bank.specs.Sections.{stack_of};
-ghost use Rattle.ft_list.specs.Calls.{MayWriteList};
-ghost use Rattle.ft_search.specs.Calls.{MadeAs};
+ghost use Rattle.ft_bank.specs.PassSections.{stack_of};
+ghost use Rattle.ft_list.specs.ListWrites.{MayWriteList};
+ghost use Rattle.ft_search.specs.MadeCalls.{MadeAs};
 
 use crate::scans::{count_equal, first_equal};
 use ft_bank::{Bank, Pass};

@@ -8,14 +8,15 @@ ghost use Rattle.ft_model.specs.declared.reply.Reply.TheVariants as reply;
 ghost use Rattle.ft_trace.specs.Acts.{has_committed};
 ghost use Rattle.ft_trace.specs.Addresses.{class_of, slots};
 ghost use Rattle.ft_trace.specs.Holds.{held};
-ghost use Rattle.ft_trace.specs.Words.{root_in};
+ghost use Rattle.ft_trace.specs.Pictures.{root_in};
 ghost use Rattle.ft_bank.specs.Passes.{shape_of, view, IsPassOf};
-ghost use Rattle.ft_bank.specs.Sections.{stack_of};
-ghost use Rattle.ft_bank.specs.Tables.{name_of};
+ghost use Rattle.ft_bank.specs.PassSections.{stack_of};
+ghost use Rattle.ft_bank.specs.TableNames.{name_of};
 ghost use Rattle.ft_bank.specs.Whole.{OnlyPut, Wrote};
-ghost use Rattle.ft_list.specs.Calls.{MayWriteList, HasTable, Changes};
-ghost use Rattle.ft_list.specs.Items.{WritesList, IsPutting, items_of, stored_at};
-ghost use Rattle.ft_search.specs.Calls.{MadeAs};
+ghost use Rattle.ft_list.specs.ListWrites.{MayWriteList, Changes};
+ghost use Rattle.ft_list.specs.ListItemWrites.{WritesList, IsPutting, known_items, stored_item};
+ghost use Rattle.ft_search.specs.MadeCalls.{MadeAs};
+ghost use Rattle.ft_search.specs.OneEntryWrites.{HasTable};
 ghost use Rattle.ft_list.specs.Reversing.{IsTurning};
 
 use crate::bare::write_nothing;
@@ -61,7 +62,7 @@ fn turn(bank: &Bank, pass: &mut Pass, o: u32, table: Table, count: u64)
     ensures only { OnlyPut o (view pass.old) (view pass.new) }
     ensures block { (held o (view pass.new)).block ≡ (held o (view pass.old)).block }
     ensures turned { (values : List Value) → length values ≡ count →
-        IsPutting (class_of (name_of table)) values 0 count (stored_at values) (held o (view pass.old)).table →
+        IsPutting (class_of (name_of table)) values 0 count (stored_item values) (held o (view pass.old)).table →
         IsTurning (class_of (name_of table)) values (count / 2) (held o (view pass.new)).table }
 {
     for at in 0..count / 2 {
@@ -82,9 +83,9 @@ fn reverse_items(
     requires pass { IsPassOf bank.now pass.old }
     requires may { MayWriteList (shape_of bank.now) o (view pass.old) }
     requires table { HasTable (shape_of bank.now) o table (view pass.old) }
-    requires count { count ≡ length (items_of o (view pass.old)) }
+    requires count { count ≡ length (known_items o (view pass.old)) }
     requires call { (lc : ListCall) × (called.now ≡ call.List o lc) × Changes o lc said.now
-        (items_of o (view pass.old)) (reverse (items_of o (view pass.old))) (view pass.old) }
+        (known_items o (view pass.old)) (reverse (known_items o (view pass.old))) (view pass.old) }
     ensures pass { IsPassOf bank.now pass.new }
     ensures stack { stack_of pass.new ≡ stack_of pass.old }
     ensures wrote { Wrote called.now said.now result (view pass.old) (view pass.new) }

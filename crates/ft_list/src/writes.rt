@@ -15,14 +15,15 @@ ghost use Rattle.ft_trace.specs.declared.Act.TheVariants.{StartWrite};
 ghost use Rattle.ft_trace.specs.Acts.{has_committed, has_emptied, owes};
 ghost use Rattle.ft_trace.specs.Addresses.{class_of, slots};
 ghost use Rattle.ft_trace.specs.Holds.{held, known};
-ghost use Rattle.ft_trace.specs.Words.{item_of, root_in};
+ghost use Rattle.ft_trace.specs.Pictures.{item_field, root_in};
 ghost use Rattle.ft_bank.specs.Passes.{shape_of, view, IsPassOf, Did};
-ghost use Rattle.ft_bank.specs.Sections.{stack_of};
-ghost use Rattle.ft_bank.specs.Tables.{name_of};
+ghost use Rattle.ft_bank.specs.PassSections.{stack_of};
+ghost use Rattle.ft_bank.specs.TableNames.{name_of};
 ghost use Rattle.ft_bank.specs.Whole.{OnlyLoaded, OnlyPut, Wrote};
-ghost use Rattle.ft_list.specs.Items.{WritesList, IsPutting, IsMoving, items_of, stored_at};
-ghost use Rattle.ft_list.specs.Calls.{MayWriteList, HasTable, Changes};
+ghost use Rattle.ft_list.specs.ListItemWrites.{WritesList, IsPutting, IsMoving, known_items, stored_item};
+ghost use Rattle.ft_list.specs.ListWrites.{MayWriteList, Changes};
 ghost use Rattle.ft_list.specs.Internal.Additions.{count_in, with_added, IsAddition};
+ghost use Rattle.ft_search.specs.OneEntryWrites.{HasTable};
 
 use crate::addition::{Addition, added_count, first_place, put_added};
 use crate::items::{finish, item, put_item};
@@ -42,13 +43,13 @@ pub(crate) fn begin(bank: &Bank, pass: &mut Pass, o: u32, table: Table)
     ensures did { (f : ℕ) × Did (StartWrite o f) pass.old pass.new }
     ensures list { WritesList (shape_of bank.now) o table (view pass.new) }
     ensures putting { (first past : ℕ) →
-        IsPutting (class_of (name_of table)) (items_of o (view pass.old)) first past
-        (stored_at (items_of o (view pass.old))) (held o (view pass.new)).table }
-    ensures content { (known o (view pass.old)).content ≡ content.List (items_of o (view pass.old)) }
+        IsPutting (class_of (name_of table)) (known_items o (view pass.old)) first past
+        (stored_item (known_items o (view pass.old))) (held o (view pass.new)).table }
+    ensures content { (known o (view pass.old)).content ≡ content.List (known_items o (view pass.old)) }
     ensures table { (known o (view pass.old)).table ≡ record { class = Some (class_of (name_of table)); fill = 0 } }
     ensures head { IsBlock (held o (view pass.new)).block (Some (class_of (name_of table)))
-        (length (items_of o (view pass.old))) 0 0 }
-    ensures few { length (items_of o (view pass.old)) ≤ slots (class_of (name_of table)) }
+        (length (known_items o (view pass.old))) 0 0 }
+    ensures few { length (known_items o (view pass.old)) ≤ slots (class_of (name_of table)) }
 {
     let _ = table;
     bank.start_write(pass, o);
@@ -68,10 +69,10 @@ pub(crate) fn set_item(
     requires pass { IsPassOf bank.now pass.old }
     requires may { MayWriteList (shape_of bank.now) o (view pass.old) }
     requires table { HasTable (shape_of bank.now) o table (view pass.old) }
-    requires place { place < length (items_of o (view pass.old)) }
+    requires place { place < length (known_items o (view pass.old)) }
     requires value { FitsStored (Plain value) }
     requires call { (lc : ListCall) × (called.now ≡ call.List o lc) × Changes o lc said.now
-        (items_of o (view pass.old)) (slice_set (items_of o (view pass.old)) place value) (view pass.old) }
+        (known_items o (view pass.old)) (slice_set (known_items o (view pass.old)) place value) (view pass.old) }
     ensures pass { IsPassOf bank.now pass.new }
     ensures stack { stack_of pass.new ≡ stack_of pass.old }
     ensures wrote { Wrote called.now said.now result (view pass.old) (view pass.new) }
@@ -98,14 +99,14 @@ pub(crate) fn shift_up(
     requires place { (place ≤ count) × (count < slots (class_of (name_of table))) }
     requires value { FitsStored (Plain value) }
     requires before { (values : List Value) × (length values ≡ count)
-        × IsPutting (class_of (name_of table)) values place (count + 1) (stored_at values) (held o (view pass.old)).table }
+        × IsPutting (class_of (name_of table)) values place (count + 1) (stored_item values) (held o (view pass.old)).table }
     ensures pass { IsPassOf bank.now pass.new }
     ensures stack { stack_of pass.new ≡ stack_of pass.old }
     ensures list { WritesList (shape_of bank.now) o table (view pass.new) }
     ensures only { OnlyPut o (view pass.old) (view pass.new) }
     ensures block { (held o (view pass.new)).block ≡ (held o (view pass.old)).block }
     ensures moved { (values : List Value) → length values ≡ count →
-        IsPutting (class_of (name_of table)) values place (count + 1) (stored_at values) (held o (view pass.old)).table →
+        IsPutting (class_of (name_of table)) values place (count + 1) (stored_item values) (held o (view pass.old)).table →
         IsMoving (class_of (name_of table)) values (insert values place value) place (count + 1) (count + 1)
         (held o (view pass.new)).table }
 {
@@ -132,10 +133,10 @@ pub(crate) fn add_items(
     requires may { MayWriteList (shape_of bank.now) o (view pass.old) }
     requires table { HasTable (shape_of bank.now) o table (view pass.old) }
     requires addition { IsAddition (shape_of bank.now) count addition (view pass.old) }
-    requires count { count ≡ length (items_of o (view pass.old)) }
+    requires count { count ≡ length (known_items o (view pass.old)) }
     requires room { count + count_in addition ≤ slots (class_of (name_of table)) }
     requires call { (lc : ListCall) × (called.now ≡ call.List o lc) × Changes o lc reply.Done
-        (items_of o (view pass.old)) (with_added addition (view pass.old) (items_of o (view pass.old))) (view pass.old) }
+        (known_items o (view pass.old)) (with_added addition (view pass.old) (known_items o (view pass.old))) (view pass.old) }
     ensures pass { IsPassOf bank.now pass.new }
     ensures stack { stack_of pass.new ≡ stack_of pass.old }
     ensures wrote { Wrote called.now reply.Done result (view pass.old) (view pass.new) }
@@ -165,14 +166,14 @@ fn shift_down(bank: &Bank, pass: &mut Pass, o: u32, table: Table, place: u64, co
     requires early { has_committed o (view pass.old).log ≡ false }
     requires place { (place < count) × (count ≤ slots (class_of (name_of table))) }
     requires before { (values : List Value) × (length values ≡ count)
-        × IsPutting (class_of (name_of table)) values place count (stored_at values) (held o (view pass.old)).table }
+        × IsPutting (class_of (name_of table)) values place count (stored_item values) (held o (view pass.old)).table }
     ensures pass { IsPassOf bank.now pass.new }
     ensures stack { stack_of pass.new ≡ stack_of pass.old }
     ensures list { WritesList (shape_of bank.now) o table (view pass.new) }
     ensures only { OnlyPut o (view pass.old) (view pass.new) }
     ensures block { (held o (view pass.new)).block ≡ (held o (view pass.old)).block }
     ensures moved { (values : List Value) → length values ≡ count →
-        IsPutting (class_of (name_of table)) values place count (stored_at values) (held o (view pass.old)).table →
+        IsPutting (class_of (name_of table)) values place count (stored_item values) (held o (view pass.old)).table →
         IsMoving (class_of (name_of table)) values (remove values place) place count count
         (held o (view pass.new)).table }
 {
@@ -200,7 +201,7 @@ fn item_or_none(
     ensures only { OnlyLoaded (view pass.old) (view pass.new) }
     ensures held { held o (view pass.new) ≡ held o (view pass.old) }
     ensures stored { (stored : Stored) → (place < count → IsStored
-        (item_of (held o (view pass.old)).table place 1) (item_of (held o (view pass.old)).table place 2) stored) →
+        (item_field (held o (view pass.old)).table place 1) (item_field (held o (view pass.old)).table place 2) stored) →
         (count ≤ place → stored ≡ Empty) → result ≡ stored }
     ensures fits { FitsStored result }
 {
@@ -226,10 +227,10 @@ pub(crate) fn remove_item(
     requires pass { IsPassOf bank.now pass.old }
     requires may { MayWriteList (shape_of bank.now) o (view pass.old) }
     requires table { HasTable (shape_of bank.now) o table (view pass.old) }
-    requires count { count ≡ length (items_of o (view pass.old)) }
+    requires count { count ≡ length (known_items o (view pass.old)) }
     requires place { place < count }
     requires call { (lc : ListCall) × (called.now ≡ call.List o lc) × Changes o lc said.now
-        (items_of o (view pass.old)) (remove (items_of o (view pass.old)) place) (view pass.old) }
+        (known_items o (view pass.old)) (remove (known_items o (view pass.old)) place) (view pass.old) }
     ensures pass { IsPassOf bank.now pass.new }
     ensures stack { stack_of pass.new ≡ stack_of pass.old }
     ensures wrote { Wrote called.now said.now result (view pass.old) (view pass.new) }

@@ -25,27 +25,27 @@ use Rattle.ft_trace.specs.declared.Snap.{Snap}
 use Rattle.ft_trace.specs.declared.View.{View}
 use Rattle.ft_trace.specs.Acts.{has_lock, has_committed, is_writing, noted, seen_writes}
 use Rattle.ft_trace.specs.Addresses.{class_of, slots, places}
-use Rattle.ft_trace.specs.Carefuls.{said_of, IsDead, IsLive}
+use Rattle.ft_trace.specs.Carefuls.{said_of, IsDead, HasLiveKey}
 use Rattle.ft_trace.specs.Holds.{held, known}
 use Rattle.ft_trace.specs.Kinds.{under, rows, version_at, CarefulAs, ClearAs, IsKeyed}
-use Rattle.ft_trace.specs.Openings.{Shut, Timely}
+use Rattle.ft_trace.specs.OddVersions.{Shut, Timely}
 use Rattle.ft_trace.specs.Traces.{Possible}
-use Rattle.ft_trace.specs.Words.{Picture, root_in, entry_at, entry_of, Stands}
-use Rattle.ft_trace.specs.Worlds.{ContainerState, kind_in, changes}
+use Rattle.ft_trace.specs.Pictures.{Picture, root_in, entry_offset, entry_field, Stands}
+use Rattle.ft_trace.specs.ContainerStates.{ContainerState, kind_in, changes}
 use Rattle.ft_trace.proofs.ByKind.{keyed_low}
 use Rattle.ft_trace.proofs.DictWrites as dict
 use Rattle.ft_trace.proofs.EntryPuts.{entry_close}
 use Rattle.ft_trace.proofs.Known.{after_header, class_known, table_is_long}
 use Rattle.ft_trace.proofs.SetKnown as set
 use Rattle.ft_bank.specs.declared.table.Table.{Table}
-use Rattle.ft_bank.specs.Tables.{name_of}
+use Rattle.ft_bank.specs.TableNames.{name_of}
 use Rattle.ft_bank.specs.Whole.{EndsWrite, OnlyLoaded, OnlyPut}
-use Rattle.ft_bank.specs.Writes.{Committed, IsCareful, IsShut, with_table}
-use Rattle.ft_bank.proofs.Whole.{loaded_held, loaded_put, work_knows, write_ends}
-use Rattle.ft_search.specs.Writing.{raised_at}
+use Rattle.ft_bank.specs.WriteSteps.{Committed, IsCareful, IsShut, with_table}
+use Rattle.ft_bank.proofs.KnownAfterWrites.{loaded_held, loaded_put, work_knows, write_ends}
+use Rattle.ft_search.specs.OneEntryWrites.{raised_at}
 use Rattle.ft_search.proofs.Changing.{kind_is}
 use Rattle.ft_search.proofs.Puts.{keyed_version, table_class, writes_on}
-use Rattle.ft_merging.specs.Internal.Writing.{IsClosing, MayFinishAll, NoneDead, version_of}
+use Rattle.ft_merging.specs.Internal.EntriesAtOnce.{IsClosing, MayFinishAll, NoneDead, version_of}
 
 -- ---- what words say that stand for a dict or a set
 
@@ -72,42 +72,42 @@ module _ (laws : Laws) (texts : List ℕ) (x : Picture) (t : ℕ) (is_class : Is
       subst (λ (z : Option ℕ). IsSetWords texts x.block (0 ∷ 0 ∷ x.table) z kept.table.fill elements) (class_known texts x kept t stands names) here
 
   -- a live entry says what there is
-  right_of : (d : Content) (kept : ContainerState) → kept.content ≡ d → IsKeyed (kind_of d) → Stands texts x kept → (p : ℕ) (key : Key) → p < rows (kind_of d) c → IsLive n x.table p key → under d key ≡ said_of n x.table p
+  right_of : (d : Content) (kept : ContainerState) → kept.content ≡ d → IsKeyed (kind_of d) → Stands texts x kept → (p : ℕ) (key : Key) → p < rows (kind_of d) c → HasLiveKey n x.table p key → under d key ≡ said_of n x.table p
   right_of (content.Dict pairs) kept is keyed stands p key low live = dict.dict_right laws.pairs texts x.block c kept.table.fill is_class pairs x.table (dict_says pairs kept is stands) p key low live
   right_of (content.Set elements) kept is keyed stands p key low live = set.set_right laws.elements texts x.block c kept.table.fill is_class elements x.table (set_says elements kept is stands) p key low live
   right_of (content.List values) kept is keyed stands p key low live = absurd keyed
 
   -- what may be committed that leaves this
-  pub clear_of : (d : Content) (kept : ContainerState) → kept.content ≡ d → IsKeyed (kind_of d) → Stands texts x kept → (before : Content) → ((p : ℕ) (key : Key) → p < rows (kind_of d) c → entry_of n x.table p 0 % 2 ≡ 0 → IsLive n x.table p key → under d key ≡ under before key) → ClearAs (kind_of d) texts c x.table before d
+  pub clear_of : (d : Content) (kept : ContainerState) → kept.content ≡ d → IsKeyed (kind_of d) → Stands texts x kept → (before : Content) → ((p : ℕ) (key : Key) → p < rows (kind_of d) c → entry_field n x.table p 0 % 2 ≡ 0 → HasLiveKey n x.table p key → under d key ≡ under before key) → ClearAs (kind_of d) texts c x.table before d
   clear_of (content.Dict pairs) kept is keyed stands before same = record { keeps = λ p key low even live. same p key low even live; adds = λ key fits none some. dict.dict_reached laws.pairs texts x.block c kept.table.fill is_class pairs x.table (dict_says pairs kept is stands) key fits some }
   clear_of (content.Set elements) kept is keyed stands before same = record { keeps = λ p key low even live. same p key low even live; adds = λ key fits none some. set.set_reached laws.elements texts x.block c kept.table.fill is_class elements x.table (set_says elements kept is stands) key fits some }
   clear_of (content.List values) kept is keyed stands before same = absurd keyed
 
   -- a version may be made even
-  close_of : (d : Content) (kept : ContainerState) → kept.content ≡ d → IsKeyed (kind_of d) → Stands texts x kept → (p : ℕ) → p < rows (kind_of d) c → entry_of n x.table p 0 % 2 ≡ 1 → ((key : Key) → IsDead n x.table p key → under d key ≡ []) → CarefulAs (kind_of d) c x.table d (entry_at n p 0) (entry_of n x.table p 0 + 1)
-  close_of (content.Dict pairs) kept is keyed stands p low odd gone = entry_close n (places c) x.table (under (content.Dict pairs)) p (entry_of n x.table p 0 + 1) refl (omega (arith, odd)) (λ key live. right_of (content.Dict pairs) kept is keyed stands p key low live) gone
-  close_of (content.Set elements) kept is keyed stands p low odd gone = entry_close n (set_entries c) x.table (under (content.Set elements)) p (entry_of n x.table p 0 + 1) refl (omega (arith, odd)) (λ key live. right_of (content.Set elements) kept is keyed stands p key low live) gone
+  close_of : (d : Content) (kept : ContainerState) → kept.content ≡ d → IsKeyed (kind_of d) → Stands texts x kept → (p : ℕ) → p < rows (kind_of d) c → entry_field n x.table p 0 % 2 ≡ 1 → ((key : Key) → IsDead n x.table p key → under d key ≡ []) → CarefulAs (kind_of d) c x.table d (entry_offset n p 0) (entry_field n x.table p 0 + 1)
+  close_of (content.Dict pairs) kept is keyed stands p low odd gone = entry_close n (places c) x.table (under (content.Dict pairs)) p (entry_field n x.table p 0 + 1) refl (omega (arith, odd)) (λ key live. right_of (content.Dict pairs) kept is keyed stands p key low live) gone
+  close_of (content.Set elements) kept is keyed stands p low odd gone = entry_close n (set_entries c) x.table (under (content.Set elements)) p (entry_field n x.table p 0 + 1) refl (omega (arith, odd)) (λ key live. right_of (content.Set elements) kept is keyed stands p key low live) gone
   close_of (content.List values) kept is keyed stands p low odd gone = absurd keyed
 
   -- a version that is put into an entry changes nothing
-  version_put : dict.EntryVersionsChangeNothing → (d : Content) (kept : ContainerState) → kept.content ≡ d → IsKeyed (kind_of d) → Stands texts x kept → (p y : ℕ) → Stands texts (with_table x (entry_at n p 0) y) kept
+  version_put : dict.EntryVersionsChangeNothing → (d : Content) (kept : ContainerState) → kept.content ≡ d → IsKeyed (kind_of d) → Stands texts x kept → (p y : ℕ) → Stands texts (with_table x (entry_offset n p 0) y) kept
   unfolding slots
   version_put versions (content.Dict pairs) kept is keyed stands p y =
       let says = dict_says pairs kept is stands in
       let r = (slots_range c is_class).0 in
-      let table : IsDictTable texts (class_mask c) says.used (0 ∷ 0 ∷ slice_set x.table (entry_at n p 0) y) = subst (λ (z : List ℕ). IsDictTable texts (class_mask c) says.used z) (after_header x.table (layout.entry_at (class_mask c) p 0) (entry_at n p 0) y (omega (arith, r)))
+      let table : IsDictTable texts (class_mask c) says.used (0 ∷ 0 ∷ slice_set x.table (entry_offset n p 0) y) = subst (λ (z : List ℕ). IsDictTable texts (class_mask c) says.used z) (after_header x.table (layout.entry_at (class_mask c) p 0) (entry_offset n p 0) y (omega (arith, r)))
       (versions (λ hash. dict_walk hash (class_mask c) (class_mask c + 14)) (dict_room (class_mask c)) texts (class_mask c) says.used (0 ∷ 0 ∷ x.table) p y (λ hash. dict_walk-within hash (class_mask c) (class_mask c + 14)) says.table) in
-      let now : IsDictWords texts x.block (0 ∷ 0 ∷ slice_set x.table (entry_at n p 0) y) (Some c) kept.table.fill pairs = record { head = says.head; used = says.used; table = table; filled = says.filled; entries = says.entries } in
-      let here : Stands texts (with_table x (entry_at n p 0) y) (record { content = content.Dict pairs; table = kept.table }) = subst (λ (z : Option ℕ). IsDictWords texts x.block (0 ∷ 0 ∷ slice_set x.table (entry_at n p 0) y) z kept.table.fill pairs) (sym (class_known texts x kept t stands names)) now in
-      subst (λ (z : Content). Stands texts (with_table x (entry_at n p 0) y) (record { content = z; table = kept.table })) (sym is) here
+      let now : IsDictWords texts x.block (0 ∷ 0 ∷ slice_set x.table (entry_offset n p 0) y) (Some c) kept.table.fill pairs = record { head = says.head; used = says.used; table = table; filled = says.filled; entries = says.entries } in
+      let here : Stands texts (with_table x (entry_offset n p 0) y) (record { content = content.Dict pairs; table = kept.table }) = subst (λ (z : Option ℕ). IsDictWords texts x.block (0 ∷ 0 ∷ slice_set x.table (entry_offset n p 0) y) z kept.table.fill pairs) (sym (class_known texts x kept t stands names)) now in
+      subst (λ (z : Content). Stands texts (with_table x (entry_offset n p 0) y) (record { content = z; table = kept.table })) (sym is) here
   version_put versions (content.Set elements) kept is keyed stands p y =
       let says = set_says elements kept is stands in
       let r = (slots_range c is_class).0 in
-      let table : IsSetTable texts (class_mask c) says.used (0 ∷ 0 ∷ slice_set x.table (entry_at n p 0) y) = subst (λ (z : List ℕ). IsSetTable texts (class_mask c) says.used z) (after_header x.table (layout.entry_at (class_mask c) p 0) (entry_at n p 0) y (omega (arith, r)))
+      let table : IsSetTable texts (class_mask c) says.used (0 ∷ 0 ∷ slice_set x.table (entry_offset n p 0) y) = subst (λ (z : List ℕ). IsSetTable texts (class_mask c) says.used z) (after_header x.table (layout.entry_at (class_mask c) p 0) (entry_offset n p 0) y (omega (arith, r)))
       (versions (λ hash. set_walk hash (class_mask c) (class_mask c + 14)) (set_room (class_mask c)) texts (class_mask c) says.used (0 ∷ 0 ∷ x.table) p y (λ hash. set_walk-within hash (class_mask c) (class_mask c + 14)) says.table) in
-      let now : IsSetWords texts x.block (0 ∷ 0 ∷ slice_set x.table (entry_at n p 0) y) (Some c) kept.table.fill elements = record { head = says.head; used = says.used; table = table; filled = says.filled; entries = says.entries } in
-      let here : Stands texts (with_table x (entry_at n p 0) y) (record { content = content.Set elements; table = kept.table }) = subst (λ (z : Option ℕ). IsSetWords texts x.block (0 ∷ 0 ∷ slice_set x.table (entry_at n p 0) y) z kept.table.fill elements) (sym (class_known texts x kept t stands names)) now in
-      subst (λ (z : Content). Stands texts (with_table x (entry_at n p 0) y) (record { content = z; table = kept.table })) (sym is) here
+      let now : IsSetWords texts x.block (0 ∷ 0 ∷ slice_set x.table (entry_offset n p 0) y) (Some c) kept.table.fill elements = record { head = says.head; used = says.used; table = table; filled = says.filled; entries = says.entries } in
+      let here : Stands texts (with_table x (entry_offset n p 0) y) (record { content = content.Set elements; table = kept.table }) = subst (λ (z : Option ℕ). IsSetWords texts x.block (0 ∷ 0 ∷ slice_set x.table (entry_offset n p 0) y) z kept.table.fill elements) (sym (class_known texts x kept t stands names)) now in
+      subst (λ (z : Content). Stands texts (with_table x (entry_offset n p 0) y) (record { content = z; table = kept.table })) (sym is) here
   version_put versions (content.List values) kept is keyed stands p y = absurd keyed
 
 -- ---- one version
@@ -122,15 +122,15 @@ parity a = dite (ℕ_discrete (a % 2) 0) (λ (e : a % 2 ≡ 0). inl e) (λ ne. i
     by (suc (suc r)) low ne = absurd (omega (arith, low))
 
 -- the words of the other entries, and all but the version of this one
-pub raised_else : (t : ℕ) (x : Picture) (p q w : ℕ) → w < 8 → (q ≢ p) ⊎ (0 < w) → entry_of (slots (class_of t)) (raised_at t p x).table q w ≡ entry_of (slots (class_of t)) x.table q w
+pub raised_else : (t : ℕ) (x : Picture) (p q w : ℕ) → w < 8 → (q ≢ p) ⊎ (0 < w) → entry_field (slots (class_of t)) (raised_at t p x).table q w ≡ entry_field (slots (class_of t)) x.table q w
 raised_else t x p q w few other =
-    get_or-set_other x.table (entry_at (slots (class_of t)) p 0) (entry_at (slots (class_of t)) q w) (entry_of (slots (class_of t)) x.table p 0 + 1) 0
+    get_or-set_other x.table (entry_offset (slots (class_of t)) p 0) (entry_offset (slots (class_of t)) q w) (entry_field (slots (class_of t)) x.table p 0 + 1) 0
     (λ e. ⊎_elim (λ (ne : q ≢ p). ne (omega (arith, e, few))) (λ (some : 0 < w). omega (arith, e, few, some)) other)
 
-pub raised_here : (t : ℕ) (x : Picture) (p : ℕ) → entry_at (slots (class_of t)) p 0 < length x.table → version_of t (raised_at t p x) p ≡ version_of t x p + 1
-raised_here t x p low = get_or-set_same x.table (entry_at (slots (class_of t)) p 0) (entry_of (slots (class_of t)) x.table p 0 + 1) 0 low
+pub raised_here : (t : ℕ) (x : Picture) (p : ℕ) → entry_offset (slots (class_of t)) p 0 < length x.table → version_of t (raised_at t p x) p ≡ version_of t x p + 1
+raised_here t x p low = get_or-set_same x.table (entry_offset (slots (class_of t)) p 0) (entry_field (slots (class_of t)) x.table p 0 + 1) 0 low
 
-module _ (t m : ℕ) (x : Picture) (p : ℕ) (low : entry_at (slots (class_of t)) p 0 < length x.table) (odd : version_of t x p % 2 ≡ 1) where
+module _ (t m : ℕ) (x : Picture) (p : ℕ) (low : entry_offset (slots (class_of t)) p 0 < length x.table) (odd : version_of t x p % 2 ≡ 1) where
   -- an entry whose version is odd then is another one, whose words are as they were
   still_odd : (q : ℕ) → version_of t (raised_at t p x) q % 2 ≡ 1 → q ≢ p
   still_odd q now same =
@@ -193,7 +193,7 @@ module _ (laws : Laws) (k : Shape) (o : ℕ) (table : Table) (place fill : ℕ) 
   cm = rows (kind_in k.kinds o) (class_of ct)
 
   abbrev at : ℕ
-  at = entry_at cn place 0
+  at = entry_offset cn place 0
 
   kind_eq : kind_of (known o v).content ≡ kind_in k.kinds o
   kind_eq = kind_is k v o shape possible closing.writes.locked
@@ -208,12 +208,12 @@ module _ (laws : Laws) (k : Shape) (o : ℕ) (table : Table) (place fill : ℕ) 
   inside = subst (λ (z : ℕ). at < z) (sym (table_is_long v o ct closing.writes.root)) (keyed_low (kind_in k.kinds o) closing.writes.keyed (class_of ct) place 0 low (omega arith))
 
   -- the version may be made even
-  pub closing_care : version_of ct (held o v) place % 2 ≡ 1 → IsCareful v o ct at (entry_of cn (held o v).table place 0 + 1)
+  pub closing_care : version_of ct (held o v) place % 2 ≡ 1 → IsCareful v o ct at (entry_field cn (held o v).table place 0 + 1)
   closing_care odd =
       let care = close_of laws k.texts (held o v) ct class_is closing.writes.root (known o v).content (known o v) refl is_keyed closing.stands place (subst (λ (z : Kind). place < rows z (class_of ct)) (sym kind_eq) low) odd (λ key dead. closing.gone place key low odd dead) in
       record {
-        care = subst (λ (z : Kind). CarefulAs z (class_of ct) (held o v).table (known o v).content at (entry_of cn (held o v).table place 0 + 1)) (kind_eq ∙ sym (ap (λ (z : Shape). kind_in z.kinds o) shape)) care;
-        timely = subst (λ (b : Bool). Timely (version_at (kind_in v.shape.kinds o) (class_of ct)) (rows (kind_in v.shape.kinds o) (class_of ct)) at (entry_of cn (held o v).table place 0 + 1) b) (sym closing.late)
+        care = subst (λ (z : Kind). CarefulAs z (class_of ct) (held o v).table (known o v).content at (entry_field cn (held o v).table place 0 + 1)) (kind_eq ∙ sym (ap (λ (z : Shape). kind_in z.kinds o) shape)) care;
+        timely = subst (λ (b : Bool). Timely (version_at (kind_in v.shape.kinds o) (class_of ct)) (rows (kind_in v.shape.kinds o) (class_of ct)) at (entry_field cn (held o v).table place 0 + 1) b) (sym closing.late)
             (record { before = λ q less is one. absurd (omega (arith, one, odd)); later = λ q less is two. refl });
       }
 
@@ -224,7 +224,7 @@ module _ (laws : Laws) (k : Shape) (o : ℕ) (table : Table) (place fill : ℕ) 
       record {
         writes = writes_on k o table v z only (ap root_in held_is) closing.writes;
         late = only.work.committed o ∙ closing.late;
-        stands = subst (λ (y : Picture × ContainerState). Stands k.texts y.0 y.1) (λ d. (back d, knows d)) (version_put laws k.texts (held o v) ct class_is closing.writes.root versions (known o v).content (known o v) refl is_keyed closing.stands place (entry_of cn (held o v).table place 0 + 1));
+        stands = subst (λ (y : Picture × ContainerState). Stands k.texts y.0 y.1) (λ d. (back d, knows d)) (version_put laws k.texts (held o v) ct class_is closing.writes.root versions (known o v).content (known o v) refl is_keyed closing.stands place (entry_field cn (held o v).table place 0 + 1));
         gone = subst (λ (y : Picture × ContainerState). NoneDead ct cm y.0 y.1) (λ d. (back d, knows d)) (raised_dead ct cm (held o v) place inside odd (known o v) closing.gone);
         opened = subst (λ (y : Picture). (p : ℕ) → p < cm → version_of ct y p % 2 ≡ 1 → p < fill) back (raised_opened ct cm (held o v) place inside odd fill closing.opened);
         shut = subst (λ (y : Picture). (p : ℕ) → p < cm → p < place + 1 → version_of ct y p % 2 ≡ 0) back (raised_shut ct cm (held o v) place inside odd closing.shut);

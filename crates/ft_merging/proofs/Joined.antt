@@ -8,7 +8,7 @@ use Rattle.ft_model.specs.declared.content.Content.TheVariants as content
 use Rattle.ft_model.specs.declared.data.Key.{Key}
 use Rattle.ft_model.specs.declared.reply.Reply.TheVariants as reply
 use Rattle.ft_model.specs.declared.script.Kind.{Kind}
-use Rattle.ft_model.specs.Tables.{StoredWorld, TableUse, after_stored, passes_cap, takes_in}
+use Rattle.ft_model.specs.TableUses.{StoredWorld, TableUse, after_stored, passes_cap, takes_in}
 use Rattle.ft_model.specs.Worlds.{kind_of, length_of, serial_of}
 use Rattle.ft_layout.specs.declared.slot.Stored.{Stored}
 use Rattle.ft_layout.specs.Containers.{class_mask}
@@ -20,32 +20,32 @@ use Rattle.ft_trace.specs.declared.Shape.{Shape}
 use Rattle.ft_trace.specs.declared.View.{View}
 use Rattle.ft_trace.specs.Acts.{has_emptied, is_writing, owes}
 use Rattle.ft_trace.specs.Addresses.{class_of, containers_in, slots}
-use Rattle.ft_trace.specs.Carefuls.{IsLive}
+use Rattle.ft_trace.specs.Carefuls.{HasLiveKey}
 use Rattle.ft_trace.specs.Holds.{held, known}
 use Rattle.ft_trace.specs.Kinds.{ClearAs, IsKeyed, rows, under}
-use Rattle.ft_trace.specs.Words.{Picture, root_in}
-use Rattle.ft_trace.specs.Worlds.{ContainerState, changes, state_at, kind_in, reply_in}
-use Rattle.ft_trace.specs.Writes.{MayPuts, with_puts}
+use Rattle.ft_trace.specs.Pictures.{Picture, root_in}
+use Rattle.ft_trace.specs.ContainerStates.{ContainerState, changes, state_at, kind_in, reply_in}
+use Rattle.ft_trace.specs.WholeWrites.{MayPuts, with_puts}
 use Rattle.ft_bank.specs.declared.table.Table.{Table}
-use Rattle.ft_bank.specs.Tables.{name_of}
+use Rattle.ft_bank.specs.TableNames.{name_of}
 use Rattle.ft_bank.specs.Whole.{OnlyLoaded, OnlyPut}
-use Rattle.ft_bank.specs.Writes.{MayCommit, MayHave}
-use Rattle.ft_bank.proofs.Whole.{loaded_held, work_knows}
+use Rattle.ft_bank.specs.WriteSteps.{MayCommit, MayHave}
+use Rattle.ft_bank.proofs.KnownAfterWrites.{loaded_held, work_knows}
 use Rattle.ft_search.specs.Held.{IsHeldAt}
 use Rattle.ft_search.specs.Rounds.{kind_by}
-use Rattle.ft_search.specs.Writing.{WritesEntries}
+use Rattle.ft_search.specs.OneEntryWrites.{WritesEntries}
 use Rattle.ft_search.proofs.Calling.{plain_replied}
 use Rattle.ft_search.proofs.Puts.{table_class}
-use Rattle.ft_search.proofs.Values.{ValueLaws}
+use Rattle.ft_search.proofs.OtherValues.{ValueLaws}
 use Rattle.ft_adding.specs.declared.counts.Counts.{Counts}
-use Rattle.ft_adding.specs.Growing.{IsFreeFor, holds, most_of}
+use Rattle.ft_adding.specs.KeyGrowth.{IsFreeFor, holds, most_of}
 use Rattle.ft_adding.specs.Placing.{StoresAs, with_entry, with_key}
-use Rattle.ft_adding.proofs.Finishing.{Since, has_since}
+use Rattle.ft_adding.proofs.FinishedKeys.{Since, has_since}
 use Rattle.ft_adding.proofs.Placed.{PlaceLaws, pair_for, use_with}
 use Rattle.ft_adding.proofs.Wanted.{most_few}
 use Rattle.ft_merging.specs.Joining.{JoinsKeys, joined, joined_state, new_keys}
-use Rattle.ft_merging.specs.Internal.Joining.{AreLeft, IsJoining, NoneAhead, NoneGone, NoneOf, lacking, stored_puts}
-use Rattle.ft_merging.specs.Internal.Writing.{IsMidway, MayFinishAll, version_of}
+use Rattle.ft_merging.specs.Internal.JoiningSteps.{AreLeft, IsJoining, NoneAhead, NoneGone, NoneOf, lacking, stored_puts}
+use Rattle.ft_merging.specs.Internal.EntriesAtOnce.{IsMidway, MayFinishAll, version_of}
 use Rattle.ft_merging.proofs.Ending.{Laws, clear_of, parity}
 use Rattle.ft_merging.proofs.JoinedContents.{counts_more, counts_same, joined_counts, kind_with, left_dead, left_new, left_stores, left_there, rest_none}
 use Rattle.ft_merging.proofs.JoinedReads.{Source, holds_none}
@@ -127,7 +127,7 @@ module _ (k : Shape) (o : ℕ) (by : Way) (own : Table) (t : ℕ) (table : Table
     none_later = rest_none (record { key = key; serial = e.serial; stored = Some stored }) later refl (step key (Some stored) same is).apart
 
     -- its key is there, at this place
-    module _ (laws : ValueLaws) (fits : FitsKey key) (ok : FitsStored stored) (at : ℕ) (room : at < rows (kind_by by) (class_of (name_of own))) (live : IsLive (slots (class_of (name_of own))) (held o v).table at key) where
+    module _ (laws : ValueLaws) (fits : FitsKey key) (ok : FitsStored stored) (at : ℕ) (room : at < rows (kind_by by) (class_of (name_of own))) (live : HasLiveKey (slots (class_of (name_of own))) (held o v).table at key) where
       pub there_low : at < m
       there_low = subst (λ (y : Kind). at < rows y (class_of (name_of own))) (sym j.kind_is) room
 

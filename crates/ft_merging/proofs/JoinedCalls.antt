@@ -4,7 +4,7 @@ use Rattle.ft_model.specs.declared.call.Call.{Call}
 use Rattle.ft_model.specs.declared.content.Content.{Content}
 use Rattle.ft_model.specs.declared.reply.Reply.TheVariants as reply
 use Rattle.ft_model.specs.declared.script.Kind.{Kind}
-use Rattle.ft_model.specs.Tables.{StoredWorld, passes_cap}
+use Rattle.ft_model.specs.TableUses.{StoredWorld, passes_cap}
 use Rattle.ft_model.specs.Worlds.{kind_of, length_of}
 use Rattle.ft_keys.specs.declared.walk.Way.{Way}
 use Rattle.ft_trace.specs.declared.Shape.{Shape}
@@ -13,22 +13,22 @@ use Rattle.ft_trace.specs.Acts.{has_lock}
 use Rattle.ft_trace.specs.Addresses.{class_of}
 use Rattle.ft_trace.specs.Holds.{held, known}
 use Rattle.ft_trace.specs.Kinds.{IsKeyed, rows}
-use Rattle.ft_trace.specs.Words.{root_in}
-use Rattle.ft_trace.specs.Worlds.{ContainerState, changes}
+use Rattle.ft_trace.specs.Pictures.{root_in}
+use Rattle.ft_trace.specs.ContainerStates.{ContainerState, changes}
 use Rattle.ft_bank.specs.declared.table.Table.{Table}
-use Rattle.ft_bank.specs.Tables.{name_of, IsTableIn}
+use Rattle.ft_bank.specs.TableNames.{name_of, IsTableIn}
 use Rattle.ft_bank.specs.Whole.{OnlyLoaded, Wrote}
-use Rattle.ft_bank.specs.Writes.{MayHave}
-use Rattle.ft_bank.proofs.Whole.{loaded_then, work_knows}
+use Rattle.ft_bank.specs.WriteSteps.{MayHave}
+use Rattle.ft_bank.proofs.KnownAfterWrites.{loaded_then, work_knows}
 use Rattle.ft_growth.specs.declared.adding.Added.{Added}
 use Rattle.ft_growth.specs.declared.adding.Added.TheVariants as added
 use Rattle.ft_growth.specs.Adding.{IsAdded, KeepsCursors}
 use Rattle.ft_growth.proofs.Cursors.{added_cursors}
 use Rattle.ft_section.specs.declared.answers.Stamp.{Stamp}
 use Rattle.ft_search.specs.Rounds.{kind_by}
-use Rattle.ft_search.specs.Writing.{Leaves}
+use Rattle.ft_search.specs.OneEntryWrites.{Leaves}
 use Rattle.ft_search.proofs.Puts.{few_places}
-use Rattle.ft_adding.specs.Growing.{most_of}
+use Rattle.ft_adding.specs.KeyGrowth.{most_of}
 use Rattle.ft_merging.specs.Joining.{JoinsBy, JoinsKeys, join_takes, joined, joined_state, new_keys}
 use Rattle.ft_merging.proofs.Joined.{cap_few, joined_more}
 use Rattle.ft_merging.proofs.JoinedReads.{Source}

@@ -20,12 +20,12 @@ use Rattle.ft_layout.specs.declared.slot.Stored.{Stored}
 use Rattle.ft_layout.specs.declared.slot.Stored.TheVariants.{Boxed, Empty, Plain}
 use Rattle.ft_layout.specs.Containers.{used_element}
 use Rattle.ft_layout.specs.Tables.{UsedEntry, is_live}
-use Rattle.ft_trace.proofs.Growing as dict
+use Rattle.ft_trace.proofs.GrownDicts as dict
 use Rattle.ft_trace.proofs.SameKeys.{any_found}
 use Rattle.ft_trace.proofs.SetGrowing as set
-use Rattle.ft_adding.specs.Growing.{holds}
+use Rattle.ft_adding.specs.KeyGrowth.{holds}
 use Rattle.ft_adding.specs.Placing.{StoresAs, with_key}
-use Rattle.ft_merging.specs.Internal.Joining.{Apart, AreLeft, NoneOf, StoresIn, joined_used, lacking, with_used}
+use Rattle.ft_merging.specs.Internal.JoiningSteps.{Apart, AreLeft, NoneOf, StoresIn, joined_used, lacking, with_used}
 
 or_false : (b : Bool) → (b || false) ≡ b
 or_false true = refl

@@ -3,7 +3,7 @@ use Rattle.std.proofs.Common.{◌≡◌, ◌≢◌, ℕ, suc, ◌+◌, ◌^◌, 
 use Rattle.std.specs.Prelude.{slice_set}
 use Rattle.ft_model.specs.declared.content.Content.{Content}
 use Rattle.ft_model.specs.declared.script.Kind.{Kind}
-use Rattle.ft_model.specs.Tables.{passes_cap}
+use Rattle.ft_model.specs.TableUses.{passes_cap}
 use Rattle.ft_model.specs.Worlds.{kind_of, length_of, serial_of}
 use Rattle.ft_layout.specs.Containers.{StandsAs}
 use Rattle.ft_keys.specs.declared.walk.Way.{Way}
@@ -15,34 +15,34 @@ use Rattle.ft_trace.specs.Addresses.{class_of, slots}
 use Rattle.ft_trace.specs.Holds.{held, in_hand, known}
 use Rattle.ft_trace.specs.Kinds.{rows, under}
 use Rattle.ft_trace.specs.Traces.{Possible}
-use Rattle.ft_trace.specs.Words.{Picture, entry_of, Stands}
-use Rattle.ft_trace.specs.Worlds.{ContainerState, kind_in}
+use Rattle.ft_trace.specs.Pictures.{Picture, entry_field, Stands}
+use Rattle.ft_trace.specs.ContainerStates.{ContainerState, kind_in}
 use Rattle.ft_trace.proofs.Cases.{hit}
 use Rattle.ft_bank.specs.declared.table.Table.{Table}
-use Rattle.ft_bank.specs.Tables.{name_of}
+use Rattle.ft_bank.specs.TableNames.{name_of}
 use Rattle.ft_bank.specs.Whole.{OnlyPut}
-use Rattle.ft_bank.specs.Writes.{KeepsUnwritten}
-use Rattle.ft_bank.proofs.Whole.{work_knows}
+use Rattle.ft_bank.specs.WriteSteps.{KeepsUnwritten}
+use Rattle.ft_bank.proofs.KnownAfterWrites.{work_knows}
 use Rattle.ft_search.specs.Rounds.{kind_by}
-use Rattle.ft_search.specs.Writing.{WritesEntries}
+use Rattle.ft_search.specs.OneEntryWrites.{WritesEntries}
 use Rattle.ft_search.proofs.Changing.{kind_is}
 use Rattle.ft_adding.specs.declared.counts.Counts.{Counts}
 use Rattle.ft_adding.specs.Fresh.{IsFilledWith}
-use Rattle.ft_adding.specs.Growing.{KnowsKeyed, MayGrow}
+use Rattle.ft_adding.specs.KeyGrowth.{KnowsKeyed, MayGrowKeyed}
 use Rattle.ft_adding.specs.Placing.{AreCounts, counted}
 use Rattle.ft_adding.proofs.Keyed.{Heads, counts_known}
 use Rattle.ft_adding.proofs.Placed.{use_with}
 use Rattle.ft_adding.proofs.Rooted.{filled_says}
 use Rattle.ft_merging.specs.Joining.{joined, new_keys}
-use Rattle.ft_merging.specs.Internal.Joining.{IsJoining, NoneGone}
-use Rattle.ft_merging.specs.Internal.Writing.{IsMidway, version_of}
+use Rattle.ft_merging.specs.Internal.JoiningSteps.{IsJoining, NoneGone}
+use Rattle.ft_merging.specs.Internal.EntriesAtOnce.{IsMidway, version_of}
 use Rattle.ft_merging.proofs.Ending.{Laws}
 use Rattle.ft_merging.proofs.Joined.{joining_begins}
 use Rattle.ft_merging.proofs.JoinedPairs.{source_known}
 use Rattle.ft_merging.proofs.JoinedReads.{knows_put}
 use Rattle.ft_merging.proofs.JoinedStarts.{knows_rooted}
 
-module _ (heads : Heads) (laws : Laws) (k : Shape) (o : ℕ) (by : Way) (old : Option Table) (new : Table) (t : ℕ) (table : Table) (counts : Counts) (more : ℕ) (x y z : View) (f was : ℕ) (shape : x.shape ≡ k) (possible : ∥ Possible x ∥₁) (two : o ≢ t) (may : MayGrow k o old new x) (other : KnowsKeyed k t (Some table) x) (kind_eq : kind_in k.kinds o ≡ kind_by by) (kind_t : kind_in k.kinds t ≡ kind_by by)
+module _ (heads : Heads) (laws : Laws) (k : Shape) (o : ℕ) (by : Way) (old : Option Table) (new : Table) (t : ℕ) (table : Table) (counts : Counts) (more : ℕ) (x y z : View) (f was : ℕ) (shape : x.shape ≡ k) (possible : ∥ Possible x ∥₁) (two : o ≢ t) (may : MayGrowKeyed k o old new x) (other : KnowsKeyed k t (Some table) x) (kind_eq : kind_in k.kinds o ≡ kind_by by) (kind_t : kind_in k.kinds t ≡ kind_by by)
     (filled : IsFilledWith k.texts (class_of (name_of new)) (known o x).content (in_hand (name_of new) x)) (are : AreCounts (held o x).block counts) (more_is : more ≡ new_keys (known o x).content (known t x).content) (cap : passes_cap (joined (known o x).content (known t x).content) ≡ false) (serials : serial_of (known o x).content + 65536 < 2 ^ 63) (room : counts.count + more ≤ rows (kind_in k.kinds o) (class_of (name_of new)))
     (did : y ≡ noted (PutRoot o (suc (name_of new)) was) (noted (StartWrite o f) x)) (keeps : KeepsUnwritten (noted (StartWrite o f) x) y) (words : held o y ≡ record { block = slice_set (held o x).block 0 (suc (name_of new)); table = in_hand (name_of new) x }) (shape_y : y.shape ≡ k)
     (only : OnlyPut o y z) (put : held o z ≡ record { block = counted (held o y).block counts.count counts.count counts.next; table = (held o y).table }) (writes : WritesEntries k o new z) (shape_z : z.shape ≡ k) (possible_z : ∥ Possible z ∥₁) where
@@ -79,7 +79,7 @@ module _ (heads : Heads) (laws : Laws) (k : Shape) (o : ℕ) (by : Way) (old : O
   evens : (p : ℕ) → p < rows (kind_in k.kinds o) c → version_of (name_of new) (held o z) p % 2 ≡ 0
   evens p less =
       let zero = filled.versions p (subst (λ (w : Kind). p < rows w c) (sym kinds) less) in
-      let same : version_of (name_of new) (held o z) p ≡ entry_of (slots c) (in_hand (name_of new) x) p 0 = ap (λ (w : Picture). version_of (name_of new) w p) words_on in
+      let same : version_of (name_of new) (held o z) p ≡ entry_field (slots c) (in_hand (name_of new) x) p 0 = ap (λ (w : Picture). version_of (name_of new) w p) words_on in
       omega (arith, zero, same)
 
   alive : NoneGone (name_of new) (rows (kind_in k.kinds o) c) (held o z)

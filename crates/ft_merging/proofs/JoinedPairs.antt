@@ -21,20 +21,20 @@ use Rattle.ft_trace.specs.declared.View.{View}
 use Rattle.ft_trace.specs.Addresses.{class_of}
 use Rattle.ft_trace.specs.Holds.{held, known}
 use Rattle.ft_trace.specs.Traces.{Possible}
-use Rattle.ft_trace.specs.Words.{Stands}
-use Rattle.ft_trace.specs.Worlds.{kind_in}
+use Rattle.ft_trace.specs.Pictures.{Stands}
+use Rattle.ft_trace.specs.ContainerStates.{kind_in}
 use Rattle.ft_trace.proofs.DictWrites as words
-use Rattle.ft_trace.proofs.Growing as dict
+use Rattle.ft_trace.proofs.GrownDicts as dict
 use Rattle.ft_trace.proofs.Known.{class_known}
 use Rattle.ft_bank.specs.declared.table.Table.{Table}
-use Rattle.ft_bank.specs.Tables.{name_of}
+use Rattle.ft_bank.specs.TableNames.{name_of}
 use Rattle.ft_search.specs.Rounds.{kind_by}
-use Rattle.ft_search.proofs.Holding.{of_way}
+use Rattle.ft_search.proofs.FoundInContents.{of_way}
 use Rattle.ft_search.proofs.Puts.{table_class}
-use Rattle.ft_adding.specs.Growing.{KnowsKeyed}
+use Rattle.ft_adding.specs.KeyGrowth.{KnowsKeyed}
 use Rattle.ft_adding.specs.Placing.{StoresAs}
 use Rattle.ft_merging.specs.Joining.{joined}
-use Rattle.ft_merging.specs.Internal.Joining.{StoresIn, joined_used, with_used}
+use Rattle.ft_merging.specs.Internal.JoiningSteps.{StoresIn, joined_used, with_used}
 use Rattle.ft_merging.proofs.Ending.{Laws}
 use Rattle.ft_merging.proofs.JoinedContents.{counts_same, dict_there, later}
 use Rattle.ft_merging.proofs.JoinedReads.{Source, apart_used, set_source}

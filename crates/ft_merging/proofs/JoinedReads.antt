@@ -24,8 +24,8 @@ use Rattle.ft_trace.specs.declared.View.{View}
 use Rattle.ft_trace.specs.Addresses.{class_of, containers_in, slots}
 use Rattle.ft_trace.specs.Holds.{held, known}
 use Rattle.ft_trace.specs.Kinds.{rows}
-use Rattle.ft_trace.specs.Words.{Picture, entry_of, root_in, Stands}
-use Rattle.ft_trace.specs.Worlds.{ContainerState}
+use Rattle.ft_trace.specs.Pictures.{Picture, entry_field, root_in, Stands}
+use Rattle.ft_trace.specs.ContainerStates.{ContainerState}
 use Rattle.ft_trace.proofs.FitCalls.{dict_fits_words, set_fits_words}
 use Rattle.ft_trace.proofs.Known.{class_known}
 use Rattle.ft_trace.proofs.LookReplies as replies
@@ -34,18 +34,18 @@ use Rattle.ft_trace.proofs.SameKeys.{any_found}
 use Rattle.ft_trace.proofs.SetKnown as set
 use Rattle.ft_trace.proofs.Tellings.{word_is}
 use Rattle.ft_bank.specs.declared.table.Table.{Table}
-use Rattle.ft_bank.specs.Tables.{name_of, IsTableIn}
+use Rattle.ft_bank.specs.TableNames.{name_of, IsTableIn}
 use Rattle.ft_bank.specs.Whole.{OnlyLoaded, OnlyPut}
-use Rattle.ft_bank.proofs.Whole.{loaded_held, work_knows}
+use Rattle.ft_bank.proofs.KnownAfterWrites.{loaded_held, work_knows}
 use Rattle.ft_search.specs.Held.{IsHeldAt, KnowsTable}
 use Rattle.ft_search.specs.Rounds.{kind_by}
-use Rattle.ft_search.specs.Writing.{HasTable, MayWriteEntries}
+use Rattle.ft_search.specs.OneEntryWrites.{HasTable, MayWriteEntries}
 use Rattle.ft_search.proofs.Puts.{table_class}
-use Rattle.ft_adding.specs.Growing.{KnowsKeyed, holds}
+use Rattle.ft_adding.specs.KeyGrowth.{KnowsKeyed, holds}
 use Rattle.ft_adding.specs.Placing.{StoresAs}
 use Rattle.ft_adding.proofs.Grown.{knows_on}
 use Rattle.ft_merging.specs.Joining.{joined}
-use Rattle.ft_merging.specs.Internal.Joining.{Apart, StoresIn, joined_used, pair_in}
+use Rattle.ft_merging.specs.Internal.JoiningSteps.{Apart, StoresIn, joined_used, pair_in}
 use Rattle.ft_merging.proofs.JoinedContents.{joined_elements}
 
 -- ---- after loads
@@ -53,8 +53,8 @@ use Rattle.ft_merging.proofs.JoinedContents.{joined_elements}
 pub table_after : (o t : ℕ) (v w : View) → OnlyLoaded v w → KnowsTable o t v → KnowsTable o t w
 table_after o t v w only knows = (only.work.pass.locks o ∙ knows.0, ap root_in (loaded_held v w o only) ∙ knows.1)
 
-pub word_after : (o : ℕ) (n place word : ℕ) (v w : View) → OnlyLoaded v w → (found : ℕ) → found ≡ entry_of n (held o w).table place word → found ≡ entry_of n (held o v).table place word
-word_after o n place word v w only found is = is ∙ ap (λ (x : Picture). entry_of n x.table place word) (loaded_held v w o only)
+pub word_after : (o : ℕ) (n place word : ℕ) (v w : View) → OnlyLoaded v w → (found : ℕ) → found ≡ entry_field n (held o w).table place word → found ≡ entry_field n (held o v).table place word
+word_after o n place word v w only found is = is ∙ ap (λ (x : Picture). entry_field n x.table place word) (loaded_held v w o only)
 
 pub knows_loaded : (k : Shape) (o : ℕ) (old : Option Table) (v w : View) → OnlyLoaded v w → KnowsKeyed k o old v → KnowsKeyed k o old w
 knows_loaded k o old v w only = knows_on k o old v w (loaded_held v w o only) (work_knows v w o only.work) (only.work.pass.locks o) (only.work.pass.writes o)
@@ -94,10 +94,10 @@ none_used texts e found is none = by e.stored refl is
 
 -- the words of a used entry, counted after the header
 pub entry_used : (by : Way) (texts : List ℕ) (k : Shape) (table : Table) → IsTableIn k table → (used : List UsedEntry) (ws : List ℕ) → IsTableOf by texts (class_mask (class_of (name_of table))) used (0 ∷ 0 ∷ ws) → (place : ℕ) (any : UsedEntry) → place < length used
-    → IsEntry (entry_of (slots (class_of (name_of table))) ws place) (slot_of texts (slice_index_or used place any))
+    → IsEntry (entry_field (slots (class_of (name_of table))) ws place) (slot_of texts (slice_index_or used place any))
 entry_used by texts k table table_in used ws says place any low =
     let c = class_of (name_of table) in
-    same_entry (entry_word (class_mask c) (0 ∷ 0 ∷ ws) place) (entry_of (slots c) ws place) (word_is (λ hash. walk_slots by hash (class_mask c)) (room by (class_mask c)) texts c (table_class k table table_in) used ws says place) (slot_of texts (slice_index_or used place any)) (says.entries place any low)
+    same_entry (entry_word (class_mask c) (0 ∷ 0 ∷ ws) place) (entry_field (slots c) ws place) (word_is (λ hash. walk_slots by hash (class_mask c)) (room by (class_mask c)) texts c (table_class k table table_in) used ws says place) (slot_of texts (slice_index_or used place any)) (says.entries place any low)
   where
     same_entry : (a b : ℕ → ℕ) → ((w : ℕ) → a w ≡ b w) → (said : Slot) → IsEntry a said → IsEntry b said
     same_entry a b same said is = subst (λ (f : ℕ → ℕ). IsEntry f said) (λ i w. same w i) is

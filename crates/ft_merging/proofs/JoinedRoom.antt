@@ -5,18 +5,18 @@ use Rattle.std.specs.Option.{unwrap_or}
 use Rattle.ft_model.specs.declared.content.Content.{Content}
 use Rattle.ft_model.specs.declared.content.Content.TheVariants as content
 use Rattle.ft_model.specs.Classes.{dict_class, dict_entries, set_class, set_entries}
-use Rattle.ft_model.specs.Tables.{TableUse, grown_table, outgrows_dict, outgrows_set, passes_cap}
+use Rattle.ft_model.specs.TableUses.{TableUse, grown_table, outgrows_dict, outgrows_set, passes_cap}
 use Rattle.ft_model.specs.Worlds.{kind_of, length_of, serial_of}
 use Rattle.ft_model.proofs.ClassRooms.{dict_fits, set_fits}
 use Rattle.ft_keys.specs.declared.walk.Way.{Way}
 use Rattle.ft_keys.specs.declared.walk.Way.TheVariants as way
 use Rattle.ft_trace.specs.Addresses.{class_of, places}
 use Rattle.ft_trace.specs.Kinds.{rows}
-use Rattle.ft_trace.specs.Worlds.{ContainerState}
+use Rattle.ft_trace.specs.ContainerStates.{ContainerState}
 use Rattle.ft_bank.specs.declared.table.Table.{Table}
-use Rattle.ft_bank.specs.Tables.{name_of}
+use Rattle.ft_bank.specs.TableNames.{name_of}
 use Rattle.ft_search.specs.Rounds.{kind_by}
-use Rattle.ft_adding.specs.Growing.{keys_take, most_of, use_of}
+use Rattle.ft_adding.specs.KeyGrowth.{keys_take, most_of, use_of}
 use Rattle.ft_adding.proofs.Placed.{use_with}
 use Rattle.ft_merging.specs.Joining.{join_takes, joined, joined_state, new_keys}
 

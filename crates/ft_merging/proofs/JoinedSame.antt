@@ -7,7 +7,7 @@ use Rattle.ft_model.specs.declared.script.Kind.{Kind}
 use Rattle.ft_model.specs.declared.script.Kind.TheVariants as kind
 use Rattle.ft_model.specs.Classes.{most_elements, most_pairs}
 use Rattle.ft_model.specs.Contents.{DictContent, SetContent, dict_update, elements_from, set_or, those_not_in}
-use Rattle.ft_model.specs.Tables.{passes_cap}
+use Rattle.ft_model.specs.TableUses.{passes_cap}
 use Rattle.ft_model.specs.Worlds.{dict_of, kind_of, length_of, set_of}
 use Rattle.ft_layout.specs.Containers.{IsDictWords, IsSetWords, StandsAs, used_element, used_pair}
 use Rattle.ft_layout.specs.Tables.{is_live}
@@ -20,12 +20,12 @@ use Rattle.ft_trace.specs.Acts.{has_lock}
 use Rattle.ft_trace.specs.Holds.{held, known}
 use Rattle.ft_trace.specs.Kinds.{IsKeyed}
 use Rattle.ft_trace.specs.Traces.{Possible}
-use Rattle.ft_trace.specs.Words.{root_in, Stands}
-use Rattle.ft_trace.specs.Worlds.{kind_in}
+use Rattle.ft_trace.specs.Pictures.{root_in, Stands}
+use Rattle.ft_trace.specs.ContainerStates.{kind_in}
 use Rattle.ft_trace.proofs.DictWrites as dict
 use Rattle.ft_trace.proofs.SetKnown as set
 use Rattle.ft_search.specs.Rounds.{kind_by}
-use Rattle.ft_search.proofs.Holding.{IsOfWay, of_way}
+use Rattle.ft_search.proofs.FoundInContents.{IsOfWay, of_way}
 use Rattle.ft_merging.specs.Joining.{joined, new_keys}
 use Rattle.ft_merging.proofs.Ending.{Laws}
 use Rattle.ft_merging.proofs.JoinedContents.{or_itself, or_none}

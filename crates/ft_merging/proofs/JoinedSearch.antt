@@ -14,21 +14,21 @@ use Rattle.ft_keys.specs.declared.search.Found.TheVariants.{At, Free, Spent, Was
 use Rattle.ft_keys.specs.declared.walk.Way.{Way}
 use Rattle.ft_keys.specs.declared.walk.Way.TheVariants as way
 use Rattle.ft_trace.specs.declared.Shape.{Shape}
-use Rattle.ft_trace.specs.Words.{Picture, root_in, Stands}
-use Rattle.ft_trace.specs.Worlds.{ContainerState}
+use Rattle.ft_trace.specs.Pictures.{Picture, root_in, Stands}
+use Rattle.ft_trace.specs.ContainerStates.{ContainerState}
 use Rattle.ft_trace.proofs.DictWrites as dict
 use Rattle.ft_trace.proofs.SetKnown as set
 use Rattle.ft_trace.proofs.Known.{class_known}
 use Rattle.ft_bank.specs.declared.table.Table.{Table}
-use Rattle.ft_bank.specs.Tables.{name_of, IsTableIn}
-use Rattle.ft_bank.proofs.Tables.{class_is}
+use Rattle.ft_bank.specs.TableNames.{name_of, IsTableIn}
+use Rattle.ft_bank.proofs.TableAddresses.{class_is}
 use Rattle.ft_search.specs.Held.{IsHeldAt, ReadsEntry}
 use Rattle.ft_search.specs.Rounds.{kind_by}
 use Rattle.ft_search.specs.Spots.{spot_in}
-use Rattle.ft_search.proofs.Holding.{IsOfWay, MissingElements, MissingKeys, key_held}
+use Rattle.ft_search.proofs.FoundInContents.{IsOfWay, MissingElements, MissingKeys, key_held}
 use Rattle.ft_search.proofs.Spotting.{FirstFreeSlots, entry_found, none_spent, value_read}
-use Rattle.ft_adding.specs.Growing.{IsFreeFor, holds}
-use Rattle.ft_merging.specs.Internal.Joining.{IsSought}
+use Rattle.ft_adding.specs.KeyGrowth.{IsFreeFor, holds}
+use Rattle.ft_merging.specs.Internal.JoiningSteps.{IsSought}
 use Rattle.ft_merging.proofs.JoinedReads.{holds_some}
 
 of_kind : (by : Way) (d : Content) → kind_of d ≡ kind_by by → IsOfWay by d

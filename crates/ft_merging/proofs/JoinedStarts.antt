@@ -2,7 +2,7 @@
 use Rattle.std.proofs.Common.{◌≡◌, ◌≢◌, ℕ, ◌+◌, ◌^◌, ◌%◌, ◌<◌, ◌≤◌, Bool, true, false, cond, ne_eqb, Option, Some, None, refl, sym, ap, ◌∙◌, subst, arith}
 use Rattle.ft_model.specs.declared.content.Content.{Content}
 use Rattle.ft_model.specs.declared.script.Kind.{Kind}
-use Rattle.ft_model.specs.Tables.{TableUse, passes_cap}
+use Rattle.ft_model.specs.TableUses.{TableUse, passes_cap}
 use Rattle.ft_model.specs.Worlds.{kind_of, serial_of}
 use Rattle.ft_keys.specs.declared.walk.Way.{Way}
 use Rattle.ft_trace.specs.declared.Act.TheVariants.{PutRoot, StartWrite}
@@ -13,26 +13,26 @@ use Rattle.ft_trace.specs.Addresses.{class_of, containers_in}
 use Rattle.ft_trace.specs.Holds.{held, known}
 use Rattle.ft_trace.specs.Kinds.{IsKeyed, rows, under}
 use Rattle.ft_trace.specs.Traces.{Possible}
-use Rattle.ft_trace.specs.Words.{Picture, Stands}
-use Rattle.ft_trace.specs.Worlds.{ContainerState, kind_in}
+use Rattle.ft_trace.specs.Pictures.{Picture, Stands}
+use Rattle.ft_trace.specs.ContainerStates.{ContainerState, kind_in}
 use Rattle.ft_trace.proofs.Cases.{hit}
 use Rattle.ft_bank.specs.declared.table.Table.{Table}
-use Rattle.ft_bank.specs.Tables.{name_of, IsTableIn}
-use Rattle.ft_bank.specs.Writes.{KeepsUnwritten}
-use Rattle.ft_bank.proofs.Tables.{class_is}
+use Rattle.ft_bank.specs.TableNames.{name_of, IsTableIn}
+use Rattle.ft_bank.specs.WriteSteps.{KeepsUnwritten}
+use Rattle.ft_bank.proofs.TableAddresses.{class_is}
 use Rattle.ft_search.specs.Rounds.{kind_by}
-use Rattle.ft_search.specs.Writing.{MayWriteEntries}
+use Rattle.ft_search.specs.OneEntryWrites.{MayWriteEntries}
 use Rattle.ft_search.proofs.Changing.{kind_is}
-use Rattle.ft_search.proofs.Endings.{writes_begun}
+use Rattle.ft_search.proofs.ReadyCommits.{writes_begun}
 use Rattle.ft_adding.specs.declared.counts.Counts.{Counts}
-use Rattle.ft_adding.specs.Growing.{KnowsKeyed, MayAddKey, keys_take, use_of}
+use Rattle.ft_adding.specs.KeyGrowth.{KnowsKeyed, MayAddKey, keys_take, use_of}
 use Rattle.ft_adding.specs.Placing.{AreCounts}
 use Rattle.ft_adding.proofs.Grown.{knows_on}
 use Rattle.ft_adding.proofs.Keyed.{Heads, counts_known, shut_here, use_known}
 use Rattle.ft_adding.proofs.Placed.{entry_shut, use_with}
 use Rattle.ft_merging.specs.Joining.{join_takes, joined, new_keys}
-use Rattle.ft_merging.specs.Internal.Joining.{IsJoining, NoneGone}
-use Rattle.ft_merging.specs.Internal.Writing.{IsMidway, version_of}
+use Rattle.ft_merging.specs.Internal.JoiningSteps.{IsJoining, NoneGone}
+use Rattle.ft_merging.specs.Internal.EntriesAtOnce.{IsMidway, version_of}
 use Rattle.ft_merging.proofs.Joined.{joining_begins}
 use Rattle.ft_merging.proofs.Ending.{Laws}
 use Rattle.ft_merging.proofs.JoinedPairs.{source_known}

@@ -19,16 +19,16 @@ use Rattle.ft_layout.proofs.WordLaws.{gone_is, kind_range, same_key}
 use Rattle.ft_keys.specs.declared.walk.Way.{Way}
 use Rattle.ft_keys.specs.declared.words.Access.{Access}
 use Rattle.ft_keys.specs.declared.words.Access.TheVariants.{PutEntry}
-use Rattle.ft_keys.specs.Changes.{FirstFree, unless_zero}
+use Rattle.ft_keys.specs.TableChanges.{FirstFree, unless_zero}
 use Rattle.ft_keys.specs.Ways.{walk_slots}
 use Rattle.ft_trace.specs.declared.Shape.{Shape}
 use Rattle.ft_trace.specs.declared.View.{View}
 use Rattle.ft_trace.specs.Addresses.{class_of, slots}
-use Rattle.ft_trace.specs.Carefuls.{IsDead, IsLive, said_of}
+use Rattle.ft_trace.specs.Carefuls.{IsDead, HasLiveKey, said_of}
 use Rattle.ft_trace.specs.Holds.{held, known}
 use Rattle.ft_trace.specs.Kinds.{IsKeyed, rows, under}
-use Rattle.ft_trace.specs.Words.{Picture, entry_at, entry_of, Stands}
-use Rattle.ft_trace.specs.Worlds.{ContainerState, kind_in}
+use Rattle.ft_trace.specs.Pictures.{Picture, entry_offset, entry_field, Stands}
+use Rattle.ft_trace.specs.ContainerStates.{ContainerState, kind_in}
 use Rattle.ft_trace.proofs.ByKind.{keyed_fit}
 use Rattle.ft_trace.proofs.DictWrites as dict
 use Rattle.ft_trace.proofs.DictWrites.{FirstEntriesArePairs}
@@ -37,29 +37,29 @@ use Rattle.ft_trace.proofs.SetKnown as set
 use Rattle.ft_trace.proofs.SetKnown.{FirstEntriesAreElements}
 use Rattle.ft_trace.proofs.Tellings.{word_is}
 use Rattle.ft_bank.specs.declared.table.Table.{Table}
-use Rattle.ft_bank.specs.Tables.{name_of}
+use Rattle.ft_bank.specs.TableNames.{name_of}
 use Rattle.ft_bank.specs.Whole.{OnlyPut}
-use Rattle.ft_bank.proofs.Tables.{class_is}
-use Rattle.ft_bank.proofs.Whole.{work_knows}
+use Rattle.ft_bank.proofs.TableAddresses.{class_is}
+use Rattle.ft_bank.proofs.KnownAfterWrites.{work_knows}
 use Rattle.ft_search.specs.Held.{IsHeldAt}
 use Rattle.ft_search.specs.Rounds.{kind_by}
-use Rattle.ft_search.specs.Writing.{WritesEntries}
-use Rattle.ft_search.proofs.Places.{slots_of_class}
+use Rattle.ft_search.specs.OneEntryWrites.{WritesEntries}
+use Rattle.ft_search.proofs.WordPlaces.{slots_of_class}
 use Rattle.ft_search.proofs.Puts.{table_class}
 use Rattle.ft_adding.specs.declared.counts.Counts.{Counts}
-use Rattle.ft_adding.specs.Growing.{IsFreeFor}
+use Rattle.ft_adding.specs.KeyGrowth.{IsFreeFor}
 use Rattle.ft_adding.specs.Placing.{IsUnused, StoresAs, laid, with_entry, with_key}
 use Rattle.ft_adding.proofs.Keyed.{way_is}
 use Rattle.ft_adding.proofs.Placed.{Fresh, PlaceLaws, now, opened_now, pair_for, place_unused, right_in, use_with}
 use Rattle.ft_adding.proofs.Stages.{At, body, body_puts, body_stage, opened}
-use Rattle.ft_merging.specs.Internal.Joining.{NoneAhead, NoneGone, NoneOf}
-use Rattle.ft_merging.specs.Internal.Writing.{IsMidway, version_of}
+use Rattle.ft_merging.specs.Internal.JoiningSteps.{NoneAhead, NoneGone, NoneOf}
+use Rattle.ft_merging.specs.Internal.EntriesAtOnce.{IsMidway, version_of}
 use Rattle.ft_merging.proofs.Ending.{parity}
 
 -- ---- the payload of the key's words
 
 -- the entry after those that were used has none yet
-next_payload : (first_pair : FirstEntriesArePairs) (first_element : FirstEntriesAreElements) (texts b l : List ℕ) (class fill : ℕ) (d : Content) → IsKeyed (kind_of d) → IsClass class → StandsAs texts b (0 ∷ 0 ∷ l) (use_with class fill) d → fill < rows (kind_of d) class → entry_of (slots class) l fill 3 ≡ 0
+next_payload : (first_pair : FirstEntriesArePairs) (first_element : FirstEntriesAreElements) (texts b l : List ℕ) (class fill : ℕ) (d : Content) → IsKeyed (kind_of d) → IsClass class → StandsAs texts b (0 ∷ 0 ∷ l) (use_with class fill) d → fill < rows (kind_of d) class → entry_field (slots class) l fill 3 ≡ 0
 next_payload first_pair first_element texts b l class fill (content.Dict pairs) keyed is_class is low =
     let room = dict.room_is first_pair texts b class fill is_class pairs l is in
     let filled = is.filled in
@@ -72,26 +72,26 @@ next_payload first_pair first_element texts b l class fill (content.Set elements
     sym (word_is (λ hash. set_walk hash (class_mask class) (class_mask class + 14)) (set_room (class_mask class)) texts class is_class is.used l is.table fill 3) ∙ u.payload
 next_payload first_pair first_element texts b l class fill (content.List values) keyed is_class is low = absurd keyed
 
-laid_other : (n p word value : ℕ) (calls : List Access) (l : List ℕ) → word ≢ 3 → slice_index (laid n (unless_zero p word value ++ calls) l) (entry_at n p 3) ≡ slice_index (laid n calls l) (entry_at n p 3)
+laid_other : (n p word value : ℕ) (calls : List Access) (l : List ℕ) → word ≢ 3 → slice_index (laid n (unless_zero p word value ++ calls) l) (entry_offset n p 3) ≡ slice_index (laid n calls l) (entry_offset n p 3)
 laid_other n p word zero calls l ne = refl
-laid_other n p word (suc value) calls l ne = get_or-set_other (laid n calls l) (entry_at n p word) (entry_at n p 3) (suc value) 0 (λ e. ne (omega (arith, e)))
+laid_other n p word (suc value) calls l ne = get_or-set_other (laid n calls l) (entry_offset n p word) (entry_offset n p 3) (suc value) 0 (λ e. ne (omega (arith, e)))
 
-laid_here : (n p value : ℕ) (calls : List Access) (l : List ℕ) → slice_index (laid n calls l) (entry_at n p 3) ≡ 0 → entry_at n p 3 < length (laid n calls l) → slice_index (laid n (unless_zero p 3 value ++ calls) l) (entry_at n p 3) ≡ value
+laid_here : (n p value : ℕ) (calls : List Access) (l : List ℕ) → slice_index (laid n calls l) (entry_offset n p 3) ≡ 0 → entry_offset n p 3 < length (laid n calls l) → slice_index (laid n (unless_zero p 3 value ++ calls) l) (entry_offset n p 3) ≡ value
 laid_here n p zero calls l none long = none
-laid_here n p (suc value) calls l none long = get_or-set_same (laid n calls l) (entry_at n p 3) (suc value) 0 long
+laid_here n p (suc value) calls l none long = get_or-set_same (laid n calls l) (entry_offset n p 3) (suc value) 0 long
 
-payload_laid : (n p : ℕ) (entry l : List ℕ) → entry_of n l p 3 ≡ 0 → entry_at n p 3 < length l → entry_of n (laid n (body p entry) l) p 3 ≡ slice_index entry 3
+payload_laid : (n p : ℕ) (entry l : List ℕ) → entry_field n l p 3 ≡ 0 → entry_offset n p 3 < length l → entry_field n (laid n (body p entry) l) p 3 ≡ slice_index entry 3
 payload_laid n p entry l none long =
     let word : ℕ → ℕ = slice_index entry in
     let one : List Access = PutEntry p 1 (word 1) ∷ [] in
     let three : List Access = unless_zero p 3 (word 3) ++ one in
     let four : List Access = unless_zero p 4 (word 4) ++ three in
     let five : List Access = unless_zero p 5 (word 5) ++ four in
-    let size = length-set l (entry_at n p 1) (word 1) in
-    get_or-set_other (laid n five l) (entry_at n p 6) (entry_at n p 3) (word 6) 0 (λ e. absurd (omega (arith, e)))
+    let size = length-set l (entry_offset n p 1) (word 1) in
+    get_or-set_other (laid n five l) (entry_offset n p 6) (entry_offset n p 3) (word 6) 0 (λ e. absurd (omega (arith, e)))
     ∙ (laid_other n p 5 (word 5) four l (λ e. absurd (omega (arith, e)))
     ∙ (laid_other n p 4 (word 4) three l (λ e. absurd (omega (arith, e)))
-    ∙ laid_here n p (word 3) one l (get_or-set_other l (entry_at n p 1) (entry_at n p 3) (word 1) 0 (λ e. absurd (omega (arith, e))) ∙ none) (omega (arith, long, size))))
+    ∙ laid_here n p (word 3) one l (get_or-set_other l (entry_offset n p 1) (entry_offset n p 3) (word 1) 0 (λ e. absurd (omega (arith, e))) ∙ none) (omega (arith, long, size))))
 
 module _ (laws : PlaceLaws) (k : Shape) (o : ℕ) (by : Way) (own : Table) (mid : Content) (counts : Counts) (v : View) (midway : IsMidway k o own (record { content = mid; table = use_with (class_of (name_of own)) counts.fill }) v) (same_kind : kind_of mid ≡ kind_by by) (kind_eq : kind_in k.kinds o ≡ kind_by by) (count_is : counts.count ≡ length_of mid)
     (alive : NoneGone (name_of own) (rows (kind_in k.kinds o) (class_of (name_of own))) (held o v)) (slot : ℕ) (key : Key) (stored : Stored) (fits : FitsKey key) (low : hash_of k.texts key < 2 ^ 64) (stores : StoresAs (kind_of mid) stored) (ok : FitsStored stored) (absent : IsHeldAt mid key None) (free : IsFreeFor k.texts by own.class key (held o v).table slot) (room : counts.fill < rows (kind_by by) (class_of (name_of own))) where
@@ -183,28 +183,28 @@ module _ (laws : PlaceLaws) (k : Shape) (o : ℕ) (by : Way) (own : Table) (mid 
   stage = body_stage n m x.table slot p un (body p (entry_words pair)) (body_puts p (entry_words pair))
 
   -- the words of the other entries
-  pub others_same : (q w : ℕ) → q ≢ p → w < 8 → entry_of n y.table q w ≡ entry_of n x.table q w
+  pub others_same : (q w : ℕ) → q ≢ p → w < 8 → entry_field n y.table q w ≡ entry_field n x.table q w
   others_same q w ne few =
       let in_index = un.in_index in
-      get_or-set_other (slice_set l (entry_at n p 2) (key_kind key)) slot (entry_at n q w) (p + 1) 0 (λ e. absurd (omega (arith, e, in_index)))
-      ∙ (get_or-set_other l (entry_at n p 2) (entry_at n q w) (key_kind key) 0 (λ e. ne (omega (arith, e, few))) ∙ stage.rest q w ne few)
+      get_or-set_other (slice_set l (entry_offset n p 2) (key_kind key)) slot (entry_offset n q w) (p + 1) 0 (λ e. absurd (omega (arith, e, in_index)))
+      ∙ (get_or-set_other l (entry_offset n p 2) (entry_offset n q w) (key_kind key) 0 (λ e. ne (omega (arith, e, few))) ∙ stage.rest q w ne few)
 
-  kind_now : entry_of n y.table p 2 ≡ key_kind key
+  kind_now : entry_field n y.table p 2 ≡ key_kind key
   kind_now =
       let in_index = un.in_index in
       let less = un.low in
       let long = stage.size in
-      get_or-set_other (slice_set l (entry_at n p 2) (key_kind key)) slot (entry_at n p 2) (p + 1) 0 (λ e. absurd (omega (arith, e, in_index))) ∙ get_or-set_same l (entry_at n p 2) (key_kind key) 0 (omega (arith, less, long))
+      get_or-set_other (slice_set l (entry_offset n p 2) (key_kind key)) slot (entry_offset n p 2) (p + 1) 0 (λ e. absurd (omega (arith, e, in_index))) ∙ get_or-set_same l (entry_offset n p 2) (key_kind key) 0 (omega (arith, less, long))
 
-  payload_now : entry_of n y.table p 3 ≡ key_payload key
+  payload_now : entry_field n y.table p 3 ≡ key_payload key
   payload_now =
       let in_index = un.in_index in
       let less = un.low in
-      let size = length-set x.table (entry_at n p 0) (entry_of n x.table p 0 + 1) in
+      let size = length-set x.table (entry_offset n p 0) (entry_field n x.table p 0 + 1) in
       let long = un.long in
-      let none : entry_of n (opened n m x.table slot p un) p 3 ≡ 0 = get_or-set_other x.table (entry_at n p 0) (entry_at n p 3) (entry_of n x.table p 0 + 1) 0 (λ e. absurd (omega (arith, e))) ∙ next_payload laws.first_pair laws.first_element k.texts x.block x.table c p mid keyed fresh_midway.is_class midway.stands room_here in
-      get_or-set_other (slice_set l (entry_at n p 2) (key_kind key)) slot (entry_at n p 3) (p + 1) 0 (λ e. absurd (omega (arith, e, in_index)))
-      ∙ (get_or-set_other l (entry_at n p 2) (entry_at n p 3) (key_kind key) 0 (λ e. absurd (omega (arith, e)))
+      let none : entry_field n (opened n m x.table slot p un) p 3 ≡ 0 = get_or-set_other x.table (entry_offset n p 0) (entry_offset n p 3) (entry_field n x.table p 0 + 1) 0 (λ e. absurd (omega (arith, e))) ∙ next_payload laws.first_pair laws.first_element k.texts x.block x.table c p mid keyed fresh_midway.is_class midway.stands room_here in
+      get_or-set_other (slice_set l (entry_offset n p 2) (key_kind key)) slot (entry_offset n p 3) (p + 1) 0 (λ e. absurd (omega (arith, e, in_index)))
+      ∙ (get_or-set_other l (entry_offset n p 2) (entry_offset n p 3) (key_kind key) 0 (λ e. absurd (omega (arith, e)))
       ∙ payload_laid n p (entry_words pair) (opened n m x.table slot p un) none (omega (arith, less, long, size)))
 
   odd_now : version_of t y p % 2 ≡ 1
@@ -213,7 +213,7 @@ module _ (laws : PlaceLaws) (k : Shape) (o : ℕ) (by : Way) (own : Table) (mid 
   says_now : StandsAs k.texts y.block (0 ∷ 0 ∷ y.table) (use_with c (p + 1)) news × (kind_of news ≡ kind_of mid)
   says_now = now laws k.texts x t slot counts mid key stored fresh_midway
 
-  live_before : (q : ℕ) (a : Key) → q ≢ p → IsLive n y.table q a → IsLive n x.table q a
+  live_before : (q : ℕ) (a : Key) → q ≢ p → HasLiveKey n y.table q a → HasLiveKey n x.table q a
   live_before q a ne live = (sym (others_same q 2 ne (omega arith)) ∙ live.0, sym (others_same q 3 ne (omega arith)) ∙ live.1)
 
   dead_before : (q : ℕ) (a : Key) → q ≢ p → IsDead n y.table q a → IsDead n x.table q a
@@ -223,7 +223,7 @@ module _ (laws : PlaceLaws) (k : Shape) (o : ℕ) (by : Way) (own : Table) (mid 
   apart q even e = let o = odd_now in let same : version_of t y q ≡ version_of t y p = ap (version_of t y) e in omega (arith, o, same, even)
 
   -- an entry with an even version says what the container had
-  same_now : (q : ℕ) (a : Key) → q < rows (kind_in k.kinds o) c → version_of t y q % 2 ≡ 0 → IsLive n y.table q a → under news a ≡ under (known o v).content a
+  same_now : (q : ℕ) (a : Key) → q < rows (kind_in k.kinds o) c → version_of t y q % 2 ≡ 0 → HasLiveKey n y.table q a → under news a ≡ under (known o v).content a
   same_now q a less even live =
       let ne = apart q even in
       let was = others_same q 0 ne (omega arith) in
@@ -247,7 +247,7 @@ module _ (laws : PlaceLaws) (k : Shape) (o : ℕ) (by : Way) (own : Table) (mid 
   alive_then q a less odd dead =
       dite (ℕ_discrete q p)
       (λ (e : q ≡ p).
-      let here : entry_of n y.table p 2 ≡ gone_kind a = subst (λ (z : ℕ). entry_of n y.table z 2 ≡ gone_kind a) e dead.0 in
+      let here : entry_field n y.table p 2 ≡ gone_kind a = subst (λ (z : ℕ). entry_field n y.table z 2 ≡ gone_kind a) e dead.0 in
       let kind = kind_now in
       let g = gone_is a in
       let b = (kind_range a).0 in
@@ -261,8 +261,8 @@ module _ (laws : PlaceLaws) (k : Shape) (o : ℕ) (by : Way) (own : Table) (mid 
   ahead_then left before none q a less odd fits_a live =
       dite (ℕ_discrete q p)
       (λ (e : q ≡ p).
-      let kind : key_kind key ≡ key_kind a = sym kind_now ∙ subst (λ (i : ℕ). entry_of n y.table i 2 ≡ key_kind a) e live.0 in
-      let payload : key_payload key ≡ key_payload a = sym payload_now ∙ subst (λ (i : ℕ). entry_of n y.table i 3 ≡ key_payload a) e live.1 in
+      let kind : key_kind key ≡ key_kind a = sym kind_now ∙ subst (λ (i : ℕ). entry_field n y.table i 2 ≡ key_kind a) e live.0 in
+      let payload : key_payload key ≡ key_payload a = sym payload_now ∙ subst (λ (i : ℕ). entry_field n y.table i 3 ≡ key_payload a) e live.1 in
       subst (λ (i : Key). NoneOf i left) (same_key key a fits fits_a kind payload) none)
       (λ ne. let was = others_same q 0 ne (omega arith) in before q a less (omega (arith, was, odd)) fits_a (live_before q a ne live))
 
@@ -284,7 +284,7 @@ module _ (laws : PlaceLaws) (k : Shape) (o : ℕ) (by : Way) (own : Table) (mid 
       writes = writes;
       early = only.work.committed o ∙ midway.early;
       stands = subst (λ (w : Picture). Stands k.texts w (record { content = news; table = use_with c (p + 1) })) back says_now.0;
-      same = subst (λ (w : Picture × ContainerState). (q : ℕ) (a : Key) → q < rows (kind_in k.kinds o) c → version_of t w.0 q % 2 ≡ 0 → IsLive n w.0.table q a → under news a ≡ under w.1.content a) (λ i. (back i, knows i)) same_now;
+      same = subst (λ (w : Picture × ContainerState). (q : ℕ) (a : Key) → q < rows (kind_in k.kinds o) c → version_of t w.0 q % 2 ≡ 0 → HasLiveKey n w.0.table q a → under news a ≡ under w.1.content a) (λ i. (back i, knows i)) same_now;
       gone = λ q a less odd dead. absurd (alive_put q a less odd dead);
       opened = subst (λ (w : Picture). (q : ℕ) → q < rows (kind_in k.kinds o) c → version_of t w q % 2 ≡ 1 → q < p + 1) back opened_then;
     }

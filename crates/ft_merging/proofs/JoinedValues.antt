@@ -20,51 +20,51 @@ use Rattle.ft_layout.proofs.WordLaws.{gone_is, kind_range, same_key}
 use Rattle.ft_trace.specs.declared.Shape.{Shape}
 use Rattle.ft_trace.specs.declared.View.{View}
 use Rattle.ft_trace.specs.Addresses.{class_of, places, slots}
-use Rattle.ft_trace.specs.Carefuls.{IsDead, IsLive, Pairs, said_of}
+use Rattle.ft_trace.specs.Carefuls.{IsDead, HasLiveKey, Pairs, said_of}
 use Rattle.ft_trace.specs.EntryWrites.{value_puts}
 use Rattle.ft_trace.specs.Holds.{held, known}
 use Rattle.ft_trace.specs.Kinds.{rows, under}
-use Rattle.ft_trace.specs.Words.{Picture, entry_of, Stands}
-use Rattle.ft_trace.specs.Worlds.{ContainerState, kind_in}
-use Rattle.ft_trace.specs.Writes.{MayPuts, with_puts}
+use Rattle.ft_trace.specs.Pictures.{Picture, entry_field, Stands}
+use Rattle.ft_trace.specs.ContainerStates.{ContainerState, kind_in}
+use Rattle.ft_trace.specs.WholeWrites.{MayPuts, with_puts}
 use Rattle.ft_trace.proofs.DictWrites as dict
 use Rattle.ft_trace.proofs.EntryPuts.{key3, other3, ver3}
 use Rattle.ft_trace.proofs.Known.{table_is_long}
 use Rattle.ft_bank.specs.declared.table.Table.{Table}
-use Rattle.ft_bank.specs.Tables.{name_of}
+use Rattle.ft_bank.specs.TableNames.{name_of}
 use Rattle.ft_bank.specs.Whole.{OnlyPut}
-use Rattle.ft_bank.proofs.Whole.{work_knows}
-use Rattle.ft_search.specs.Writing.{WritesEntries}
+use Rattle.ft_bank.proofs.KnownAfterWrites.{work_knows}
+use Rattle.ft_search.specs.OneEntryWrites.{WritesEntries}
 use Rattle.ft_search.proofs.Puts.{table_class}
-use Rattle.ft_search.proofs.Values.{ValueLaws, value_early, value_stands, value_used}
-use Rattle.ft_adding.specs.Growing.{holds}
+use Rattle.ft_search.proofs.OtherValues.{ValueLaws, value_early, value_stands, value_used}
+use Rattle.ft_adding.specs.KeyGrowth.{holds}
 use Rattle.ft_adding.specs.Placing.{StoresAs, with_key}
 use Rattle.ft_adding.proofs.Placed.{use_with}
-use Rattle.ft_merging.specs.Internal.Joining.{NoneAhead, NoneGone, NoneOf, stored_puts}
-use Rattle.ft_merging.specs.Internal.Writing.{IsMidway, version_of}
+use Rattle.ft_merging.specs.Internal.JoiningSteps.{NoneAhead, NoneGone, NoneOf, stored_puts}
+use Rattle.ft_merging.specs.Internal.EntriesAtOnce.{IsMidway, version_of}
 use Rattle.ft_merging.proofs.JoinedContents.{set_same}
 
 -- The entry at this place was written, whose key stays, and no other.
 pub record IsPutThere (k : Shape) (o : ℕ) (own : Table) (mid : Content) (fill at : ℕ) (v z : View) : Type 0 where
   pub midway : IsMidway k o own (record { content = mid; table = use_with (class_of (name_of own)) fill }) z
   pub alive : NoneGone (name_of own) (rows (kind_in k.kinds o) (class_of (name_of own))) (held o z)
-  pub keys : (q w : ℕ) → (w ≡ 2) ⊎ (w ≡ 3) → entry_of (slots (class_of (name_of own))) (held o z).table q w ≡ entry_of (slots (class_of (name_of own))) (held o v).table q w
+  pub keys : (q w : ℕ) → (w ≡ 2) ⊎ (w ≡ 3) → entry_field (slots (class_of (name_of own))) (held o z).table q w ≡ entry_field (slots (class_of (name_of own))) (held o v).table q w
   pub others : (q : ℕ) → q ≢ at → version_of (name_of own) (held o z) q ≡ version_of (name_of own) (held o v) q
 
 -- the key is none of those that are left
-pub ahead_there : (k : Shape) (o : ℕ) (own : Table) (mid : Content) (fill at : ℕ) (v z : View) → IsPutThere k o own mid fill at v z → (key : Key) → FitsKey key → IsLive (slots (class_of (name_of own))) (held o v).table at key → (left : List UsedEntry)
+pub ahead_there : (k : Shape) (o : ℕ) (own : Table) (mid : Content) (fill at : ℕ) (v z : View) → IsPutThere k o own mid fill at v z → (key : Key) → FitsKey key → HasLiveKey (slots (class_of (name_of own))) (held o v).table at key → (left : List UsedEntry)
     → NoneAhead (name_of own) (rows (kind_in k.kinds o) (class_of (name_of own))) (held o v) left → NoneOf key left → NoneAhead (name_of own) (rows (kind_in k.kinds o) (class_of (name_of own))) (held o z) left
 ahead_there k o own mid fill at v z put key fits live left before none q a less odd fits_a live_now =
-    let was : IsLive (slots (class_of (name_of own))) (held o v).table q a = (sym (put.keys q 2 (inl refl)) ∙ live_now.0, sym (put.keys q 3 (inr refl)) ∙ live_now.1) in
+    let was : HasLiveKey (slots (class_of (name_of own))) (held o v).table q a = (sym (put.keys q 2 (inl refl)) ∙ live_now.0, sym (put.keys q 3 (inr refl)) ∙ live_now.1) in
     dite (ℕ_discrete q at)
     (λ (e : q ≡ at).
-    let here : IsLive (slots (class_of (name_of own))) (held o v).table at a = subst (λ (i : ℕ). IsLive (slots (class_of (name_of own))) (held o v).table i a) e was in
+    let here : HasLiveKey (slots (class_of (name_of own))) (held o v).table at a = subst (λ (i : ℕ). HasLiveKey (slots (class_of (name_of own))) (held o v).table i a) e was in
     subst (λ (i : Key). NoneOf i left) (same_key key a fits fits_a (sym live.0 ∙ here.0) (sym live.1 ∙ here.1)) none)
     (λ ne. let same = put.others q ne in before q a less (omega (arith, same, odd)) fits_a was)
 
 -- ---- a dict
 
-module _ (laws : ValueLaws) (k : Shape) (o : ℕ) (own : Table) (pairs : DictContent) (fill : ℕ) (v : View) (midway : IsMidway k o own (record { content = content.Dict pairs; table = use_with (class_of (name_of own)) fill }) v) (kind_eq : kind_in k.kinds o ≡ kind.Dict) (at : ℕ) (key : Key) (value : Value) (fits : FitsKey key) (ok : FitsStored (Plain value)) (low : at < rows (kind_in k.kinds o) (class_of (name_of own))) (live : IsLive (slots (class_of (name_of own))) (held o v).table at key)
+module _ (laws : ValueLaws) (k : Shape) (o : ℕ) (own : Table) (pairs : DictContent) (fill : ℕ) (v : View) (midway : IsMidway k o own (record { content = content.Dict pairs; table = use_with (class_of (name_of own)) fill }) v) (kind_eq : kind_in k.kinds o ≡ kind.Dict) (at : ℕ) (key : Key) (value : Value) (fits : FitsKey key) (ok : FitsStored (Plain value)) (low : at < rows (kind_in k.kinds o) (class_of (name_of own))) (live : HasLiveKey (slots (class_of (name_of own))) (held o v).table at key)
     (even : version_of (name_of own) (held o v) at % 2 ≡ 0) where
   abbrev t : ℕ
   t = name_of own
@@ -123,24 +123,24 @@ module _ (laws : ValueLaws) (k : Shape) (o : ℕ) (own : Table) (pairs : DictCon
   ver_now : version_of t y at ≡ version_of t x at + 1
   ver_now = ver3 n (places c) x.table was will at key kw pw (row at low) long even live
 
-  others_now : (q w : ℕ) → q ≢ at → w < 8 → entry_of n y.table q w ≡ entry_of n x.table q w
+  others_now : (q w : ℕ) → q ≢ at → w < 8 → entry_field n y.table q w ≡ entry_field n x.table q w
   others_now = other3 n (places c) x.table was will at key kw pw (row at low) long even live
 
-  keys_now : (q w : ℕ) → (w ≡ 2) ⊎ (w ≡ 3) → entry_of n y.table q w ≡ entry_of n x.table q w
+  keys_now : (q w : ℕ) → (w ≡ 2) ⊎ (w ≡ 3) → entry_field n y.table q w ≡ entry_field n x.table q w
   keys_now = key3 n (places c) x.table was will at key kw pw (row at low) long even live
 
   apart : (q : ℕ) → version_of t y q % 2 ≡ 0 → q ≢ at
   apart q two e = let o = ver_now in let same : version_of t y q ≡ version_of t y at = ap (version_of t y) e in omega (arith, o, same, two, even)
 
   -- an entry with an even version says what the container had
-  same_now : (q : ℕ) (a : Key) → q < m → version_of t y q % 2 ≡ 0 → IsLive n y.table q a → will a ≡ under (known o v).content a
+  same_now : (q : ℕ) (a : Key) → q < m → version_of t y q % 2 ≡ 0 → HasLiveKey n y.table q a → will a ≡ under (known o v).content a
   same_now q a less two live_now =
       let ne = apart q two in
       let ver = others_now q 0 ne (omega arith) in
       let e4 = others_now q 4 ne (omega arith) in
       let e5 = others_now q 5 ne (omega arith) in
       let e6 = others_now q 6 ne (omega arith) in
-      let old : IsLive n x.table q a = (sym (keys_now q 2 (inl refl)) ∙ live_now.0, sym (keys_now q 3 (inr refl)) ∙ live_now.1) in
+      let old : HasLiveKey n x.table q a = (sym (keys_now q 2 (inl refl)) ∙ live_now.0, sym (keys_now q 3 (inr refl)) ∙ live_now.1) in
       let said : said_of n y.table q ≡ said_of n x.table q = λ i. e4 i ∷ (e5 i ∷ (e6 i ∷ [])) in
       dict.dict_right laws.first k.texts y.block c fill is_class news y.table says_now q a (row q less) live_now
       ∙ (said ∙ (sym (dict.dict_right laws.first k.texts x.block c fill is_class pairs x.table says q a (row q less) old)
@@ -158,7 +158,7 @@ module _ (laws : ValueLaws) (k : Shape) (o : ℕ) (own : Table) (pairs : DictCon
       let old : IsDead n x.table q a = (sym kind ∙ dead.0, sym (keys_now q 3 (inr refl)) ∙ dead.1) in
       dite (ℕ_discrete q at)
       (λ (e : q ≡ at).
-      let here : entry_of n x.table at 2 ≡ gone_kind a = subst (λ (i : ℕ). entry_of n x.table i 2 ≡ gone_kind a) e old.0 in
+      let here : entry_field n x.table at 2 ≡ gone_kind a = subst (λ (i : ℕ). entry_field n x.table i 2 ≡ gone_kind a) e old.0 in
       let l = live.0 in
       let g = gone_is a in
       let b = (kind_range a).0 in
@@ -177,18 +177,18 @@ module _ (laws : ValueLaws) (k : Shape) (o : ℕ) (own : Table) (pairs : DictCon
           writes = writes;
           early = only.work.committed o ∙ midway.early;
           stands = subst (λ (w : Picture). Stands k.texts w (record { content = content.Dict news; table = use_with c fill })) back says_now;
-          same = subst (λ (w : Picture × ContainerState). (q : ℕ) (a : Key) → q < m → version_of t w.0 q % 2 ≡ 0 → IsLive n w.0.table q a → will a ≡ under w.1.content a) (λ i. (back i, knows i)) same_now;
+          same = subst (λ (w : Picture × ContainerState). (q : ℕ) (a : Key) → q < m → version_of t w.0 q % 2 ≡ 0 → HasLiveKey n w.0.table q a → will a ≡ under w.1.content a) (λ i. (back i, knows i)) same_now;
           gone = λ q a less odd dead. absurd (gone q a less odd dead);
           opened = subst (λ (w : Picture). (q : ℕ) → q < m → version_of t w q % 2 ≡ 1 → q < fill) back opened_now;
         };
         alive = gone;
-        keys = λ q w which. ap (λ (u : Picture). entry_of n u.table q w) words ∙ keys_now q w which;
+        keys = λ q w which. ap (λ (u : Picture). entry_field n u.table q w) words ∙ keys_now q w which;
         others = λ q ne. ap (λ (u : Picture). version_of t u q) words ∙ others_now q 0 ne (omega arith);
       }
 
 -- ---- either
 
-module _ (laws : ValueLaws) (k : Shape) (o : ℕ) (own : Table) (fill : ℕ) (v : View) (at : ℕ) (key : Key) (fits : FitsKey key) (low : at < rows (kind_in k.kinds o) (class_of (name_of own))) (live : IsLive (slots (class_of (name_of own))) (held o v).table at key) (even : version_of (name_of own) (held o v) at % 2 ≡ 0) where
+module _ (laws : ValueLaws) (k : Shape) (o : ℕ) (own : Table) (fill : ℕ) (v : View) (at : ℕ) (key : Key) (fits : FitsKey key) (low : at < rows (kind_in k.kinds o) (class_of (name_of own))) (live : HasLiveKey (slots (class_of (name_of own))) (held o v).table at key) (even : version_of (name_of own) (held o v) at % 2 ≡ 0) where
   pub there_may : (mid : Content) (stored : Stored) → IsMidway k o own (record { content = mid; table = use_with (class_of (name_of own)) fill }) v → kind_of mid ≡ kind_in k.kinds o → StoresAs (kind_of mid) stored → FitsStored stored → (before : Content)
       → MayPuts (kind_in k.kinds o) (name_of own) before false (held o v) (stored_puts (slots (class_of (name_of own))) (held o v).table at stored)
   there_may (content.Dict pairs) (Plain value) midway kinds stores ok before = dict_may laws k o own pairs fill v midway (sym kinds) at key value fits ok low live even before
@@ -211,12 +211,12 @@ module _ (laws : ValueLaws) (k : Shape) (o : ℕ) (own : Table) (fill : ℕ) (v 
           writes = writes;
           early = only.work.committed o ∙ midway.early;
           stands = subst (λ (w : Picture). Stands k.texts w (record { content = content.Set elements; table = use_with (class_of (name_of own)) fill })) back midway.stands;
-          same = subst (λ (w : Picture × ContainerState). (q : ℕ) (a : Key) → q < rows (kind_in k.kinds o) (class_of (name_of own)) → version_of (name_of own) w.0 q % 2 ≡ 0 → IsLive (slots (class_of (name_of own))) w.0.table q a → under (content.Set elements) a ≡ under w.1.content a) (λ i. (back i, knows i)) midway.same;
+          same = subst (λ (w : Picture × ContainerState). (q : ℕ) (a : Key) → q < rows (kind_in k.kinds o) (class_of (name_of own)) → version_of (name_of own) w.0 q % 2 ≡ 0 → HasLiveKey (slots (class_of (name_of own))) w.0.table q a → under (content.Set elements) a ≡ under w.1.content a) (λ i. (back i, knows i)) midway.same;
           gone = λ q a less odd dead. absurd (gone q a less odd dead);
           opened = subst (λ (w : Picture). (q : ℕ) → q < rows (kind_in k.kinds o) (class_of (name_of own)) → version_of (name_of own) w q % 2 ≡ 1 → q < fill) back midway.opened;
         };
         alive = gone;
-        keys = λ q w which. ap (λ (u : Picture). entry_of (slots (class_of (name_of own))) u.table q w) words;
+        keys = λ q w which. ap (λ (u : Picture). entry_field (slots (class_of (name_of own))) u.table q w) words;
         others = λ q ne. ap (λ (u : Picture). version_of (name_of own) u q) words;
       })
   there_put (content.Dict pairs) Empty midway kinds stores ok there alive z only words writes = absurd stores

@@ -1,6 +1,6 @@
 pub mod Ending
 pub mod Thinned
-pub mod Finished
+pub mod ThinningEnds
 pub mod Parted
 pub mod PartedHere
 pub mod JoinedContents

@@ -3,7 +3,7 @@ use Rattle.std.proofs.Common.{◌≡◌, ℕ, ◌<◌, Bool, true, false, [], �
 use Rattle.std.specs.Prelude.{◌||◌, cond, map, nat_lt, if◌then◌else◌}
 use Rattle.std.specs.List.{list_any}
 use Rattle.ft_model.specs.declared.content.Content.{Content}
-use Rattle.ft_model.specs.Tables.{passes_cap}
+use Rattle.ft_model.specs.TableUses.{passes_cap}
 use Rattle.ft_trace.specs.declared.Shape.{Shape}
 use Rattle.ft_trace.specs.declared.View.{View}
 use Rattle.ft_trace.specs.Acts.{has_lock}

@@ -29,30 +29,30 @@ use Rattle.ft_trace.specs.declared.Shape.{Shape}
 use Rattle.ft_trace.specs.declared.View.{View}
 use Rattle.ft_trace.specs.Acts.{noted}
 use Rattle.ft_trace.specs.Addresses.{class_of, slots}
-use Rattle.ft_trace.specs.Carefuls.{IsLive}
+use Rattle.ft_trace.specs.Carefuls.{HasLiveKey}
 use Rattle.ft_trace.specs.Holds.{held, known}
 use Rattle.ft_trace.specs.Kinds.{is_key, rows, under}
 use Rattle.ft_trace.specs.Traces.{Possible}
-use Rattle.ft_trace.specs.Words.{Picture, Stands, entry_of}
-use Rattle.ft_trace.specs.Worlds.{ContainerState, kind_in}
+use Rattle.ft_trace.specs.Pictures.{Picture, Stands, entry_field}
+use Rattle.ft_trace.specs.ContainerStates.{ContainerState, kind_in}
 use Rattle.ft_trace.proofs.FitCalls.{set_fits_words}
 use Rattle.ft_trace.proofs.SetKnown as set
 use Rattle.ft_trace.proofs.Tellings.{key_is, live_tells, one_tells}
 use Rattle.ft_bank.specs.declared.table.Table.{Table}
-use Rattle.ft_bank.specs.Tables.{name_of}
+use Rattle.ft_bank.specs.TableNames.{name_of}
 use Rattle.ft_bank.specs.Whole.{OnlyPut}
-use Rattle.ft_bank.proofs.Whole.{work_knows}
+use Rattle.ft_bank.proofs.KnownAfterWrites.{work_knows}
 use Rattle.ft_search.specs.Rounds.{kind_by}
-use Rattle.ft_search.specs.Writing.{HasTable, MayWriteEntries}
+use Rattle.ft_search.specs.OneEntryWrites.{HasTable, MayWriteEntries}
 use Rattle.ft_search.proofs.Puts.{table_class}
 use Rattle.ft_adding.specs.declared.counts.Counts.{Counts}
 use Rattle.ft_adding.proofs.Placed.{use_with}
 use Rattle.ft_merging.specs.Joining.{joined}
 use Rattle.ft_merging.specs.Thinning.{stays}
-use Rattle.ft_merging.specs.Internal.Joining.{AreLeft, IsJoining, KeepsBelow}
-use Rattle.ft_merging.specs.Internal.Thinning.{IsThinned, spared}
-use Rattle.ft_merging.specs.Internal.Writing.{IsMidway, version_of}
-use Rattle.ft_merging.proofs.Finished.{evens, first_known, first_says, unused}
+use Rattle.ft_merging.specs.Internal.JoiningSteps.{AreLeft, IsJoining, KeepsBelow}
+use Rattle.ft_merging.specs.Internal.ThinningSteps.{IsThinned, spared}
+use Rattle.ft_merging.specs.Internal.EntriesAtOnce.{IsMidway, version_of}
+use Rattle.ft_merging.proofs.ThinningEnds.{evens, first_known, first_says, unused}
 use Rattle.ft_merging.proofs.Thinned.{found_words, spared_own}
 
 -- ---- elements
@@ -132,14 +132,14 @@ module _ (elements : set.FirstEntriesAreElements) (k : Shape) (s t : ℕ) (own t
       subst (λ (z : ContainerState). IsMidway k s own z w) (λ i. record { content = comes i; table = use_with c (g i) }) j.midway
 
   -- the words of entries that were used before
-  kept_word : (p word : ℕ) → p < fill → word < 8 → entry_of n (held s w).table p word ≡ entry_of n (held s v).table p word
-  kept_word p word low few = keeps p word low few ∙ ap (λ (z : View). entry_of n (held s z).table p word) begun
+  kept_word : (p word : ℕ) → p < fill → word < 8 → entry_field n (held s w).table p word ≡ entry_field n (held s v).table p word
+  kept_word p word low few = keeps p word low few ∙ ap (λ (z : View). entry_field n (held s z).table p word) begun
 
   room_now : set_room (class_mask c) ≡ set_entries c
   room_now = set.room_is elements k.texts (held s w).block c end is_class both (held s w).table midway.stands
 
   -- no two entries that are there have one key
-  one_live : (p q : ℕ) (key : Key) → p < q → q < set_entries c → IsLive n (held s w).table p key → IsLive n (held s w).table q key → ⊥
+  one_live : (p q : ℕ) (key : Key) → p < q → q < set_entries c → HasLiveKey n (held s w).table p key → HasLiveKey n (held s w).table q key → ⊥
   one_live p q key less low a b =
       let walk : ℕ → List ℕ = λ hash. set_walk hash (class_mask c) (class_mask c + 14) in
       let r = room_now in
@@ -148,7 +148,7 @@ module _ (elements : set.FirstEntriesAreElements) (k : Shape) (s t : ℕ) (own t
       (live_tells walk (set_room (class_mask c)) k.texts c is_class midway.stands.used (held s w).table midway.stands.table q key (omega (arith, low, r)) b)
 
   -- the entries that were put have keys that weren't there
-  new_spared : (p : ℕ) (key : Key) → p < set_entries c → fill ≤ p → IsLive n (held s w).table p key → spared false others first key ≡ true
+  new_spared : (p : ℕ) (key : Key) → p < set_entries c → fill ≤ p → HasLiveKey n (held s w).table p key → spared false others first key ≡ true
   new_spared p key low up live = by (has_element first.elements key) refl
     where
       by : (b : Bool) → has_element first.elements key ≡ b → spared false others first key ≡ true
@@ -160,7 +160,7 @@ module _ (elements : set.FirstEntriesAreElements) (k : Shape) (s t : ℕ) (own t
             | inl less ↦ less
             | inr past ↦ absurd (unused k s own false others v u f shape possible may is has begun elements old.0 key old.1 (omega (arith, past, fill_is)) old.2)
           ] in
-          let now : IsLive n (held s w).table old.0 key = (kept_word old.0 2 was (omega arith) ∙ old.2.0, kept_word old.0 3 was (omega arith) ∙ old.2.1) in
+          let now : HasLiveKey n (held s w).table old.0 key = (kept_word old.0 2 was (omega arith) ∙ old.2.0, kept_word old.0 3 was (omega arith) ∙ old.2.1) in
           absurd (one_live old.0 p key (omega (arith, was, up)) low now live)
 
   -- before the first one goes

@@ -8,7 +8,7 @@ use Rattle.ft_model.specs.declared.content.Content.TheVariants as content
 use Rattle.ft_model.specs.declared.reply.Reply.TheVariants as reply
 use Rattle.ft_model.specs.Classes.{IsClass, most_elements, set_class, set_entries}
 use Rattle.ft_model.specs.Contents.{SetContent, set_or}
-use Rattle.ft_model.specs.Tables.{TableUse, grown_table, outgrows_set, passes_cap}
+use Rattle.ft_model.specs.TableUses.{TableUse, grown_table, outgrows_set, passes_cap}
 use Rattle.ft_model.specs.Worlds.{set_of}
 use Rattle.ft_model.proofs.KnownKeys.{length-filter-le}
 use Rattle.ft_layout.specs.Containers.{used_element, IsSetWords}
@@ -16,8 +16,8 @@ use Rattle.ft_layout.specs.Tables.{UsedEntry, is_live}
 use Rattle.ft_layout.proofs.Powers.{slots_range}
 use Rattle.ft_trace.specs.declared.View.{View}
 use Rattle.ft_trace.specs.Holds.{known}
-use Rattle.ft_trace.specs.Worlds.{ContainerState}
-use Rattle.ft_search.specs.Writing.{Leaves}
+use Rattle.ft_trace.specs.ContainerStates.{ContainerState}
+use Rattle.ft_search.specs.OneEntryWrites.{Leaves}
 use Rattle.ft_adding.proofs.Placed.{use_with}
 use Rattle.ft_merging.specs.Joining.{join_takes, joined, new_keys}
 use Rattle.ft_merging.specs.Parting.{PartsSets, part_takes, parted, parted_state}

@@ -16,14 +16,14 @@ use Rattle.ft_model.specs.declared.script.Kind.TheVariants as kind
 use Rattle.ft_model.specs.Classes.{IsClass, set_entries}
 use Rattle.ft_model.specs.Contents.{SetContent, IsSet, has_element, set_discard}
 use Rattle.ft_model.specs.Keys.{same_key}
-use Rattle.ft_model.specs.Tables.{TableUse}
+use Rattle.ft_model.specs.TableUses.{TableUse}
 use Rattle.ft_model.proofs.KeyLemmas.{same_key-refl, same_key-true}
 use Rattle.ft_hash.specs.Probes.{set_walk}
 use Rattle.ft_hash.proofs.Walks.{set_walk-within}
 use Rattle.ft_layout.specs.Words.{FitsKey, gone_kind}
 use Rattle.ft_layout.specs.Tables.{UsedEntry, hash_of, set_room, IsSetTable}
 use Rattle.ft_layout.specs.Tables as layout
-use Rattle.ft_layout.specs.Changes.{with_deleted}
+use Rattle.ft_layout.specs.WordChanges.{with_deleted}
 use Rattle.ft_layout.specs.Containers.{class_mask, used_element, IsBlock, IsSetWords}
 use Rattle.ft_layout.proofs.ContentLaws.{stands_for_set}
 use Rattle.ft_layout.proofs.Powers.{slots_range}
@@ -32,12 +32,12 @@ use Rattle.ft_layout.proofs.WordLaws as words
 use Rattle.ft_trace.specs.declared.Shape.{Shape}
 use Rattle.ft_trace.specs.declared.View.{View}
 use Rattle.ft_trace.specs.Addresses.{class_of, slots, size}
-use Rattle.ft_trace.specs.Carefuls.{IsLive, IsDead, said_of}
+use Rattle.ft_trace.specs.Carefuls.{HasLiveKey, IsDead, said_of}
 use Rattle.ft_trace.specs.Holds.{held, known}
 use Rattle.ft_trace.specs.Kinds.{element_words, is_key, rows, under}
-use Rattle.ft_trace.specs.Words.{Picture, root_in, entry_at, entry_of, Stands}
-use Rattle.ft_trace.specs.Worlds.{ContainerState, kind_in}
-use Rattle.ft_trace.specs.Writes.{to_block, to_table, with_puts, MayPut, MayPuts}
+use Rattle.ft_trace.specs.Pictures.{Picture, root_in, entry_offset, entry_field, Stands}
+use Rattle.ft_trace.specs.ContainerStates.{ContainerState, kind_in}
+use Rattle.ft_trace.specs.WholeWrites.{to_block, to_table, with_puts, MayPut, MayPuts}
 use Rattle.ft_trace.proofs.ByKind.{keyed_low}
 use Rattle.ft_trace.proofs.EntryPuts.{dead_is, dead_kind, dead_open, dead_others, dead_same}
 use Rattle.ft_trace.proofs.FitCalls.{set_fits_words}
@@ -47,16 +47,16 @@ use Rattle.ft_trace.proofs.SetKnown as set
 use Rattle.ft_trace.proofs.SetDiscards as discarded
 use Rattle.ft_trace.proofs.Tellings.{key_is, key_words, live_tells, right_is_live, word_is}
 use Rattle.ft_bank.specs.declared.table.Table.{Table}
-use Rattle.ft_bank.specs.Tables.{name_of}
+use Rattle.ft_bank.specs.TableNames.{name_of}
 use Rattle.ft_bank.specs.Whole.{OnlyLoaded, OnlyPut}
-use Rattle.ft_bank.proofs.Whole.{loaded_held, loaded_put, work_knows}
-use Rattle.ft_search.specs.Writing.{deletion}
+use Rattle.ft_bank.proofs.KnownAfterWrites.{loaded_held, loaded_put, work_knows}
+use Rattle.ft_search.specs.OneEntryWrites.{deletion}
 use Rattle.ft_search.proofs.Changing.{with_count}
 use Rattle.ft_search.proofs.Laws.{SetLaws}
 use Rattle.ft_search.proofs.Puts.{table_class, writes_on}
 use Rattle.ft_merging.specs.Thinning.{stays}
-use Rattle.ft_merging.specs.Internal.Thinning.{IsThinned, spared}
-use Rattle.ft_merging.specs.Internal.Writing.{IsMidway, NoneDead, version_of}
+use Rattle.ft_merging.specs.Internal.ThinningSteps.{IsThinned, spared}
+use Rattle.ft_merging.specs.Internal.EntriesAtOnce.{IsMidway, NoneDead, version_of}
 
 -- ---- elements
 
@@ -122,7 +122,7 @@ spared_own kept others first (e ∷ es) each =
 
 -- ---- an entry of a set whose other entries may be written too
 
-module _ (laws : SetLaws) (texts : List ℕ) (x : Picture) (tab : TableUse) (t : ℕ) (is_class : IsClass (class_of t)) (elements : SetContent) (says : IsSetWords texts x.block (0 ∷ 0 ∷ x.table) (Some (class_of t)) tab.fill elements) (p : ℕ) (key : Key) (low : p < set_entries (class_of t)) (live : IsLive (slots (class_of t)) x.table p key) (fits : FitsKey key) where
+module _ (laws : SetLaws) (texts : List ℕ) (x : Picture) (tab : TableUse) (t : ℕ) (is_class : IsClass (class_of t)) (elements : SetContent) (says : IsSetWords texts x.block (0 ∷ 0 ∷ x.table) (Some (class_of t)) tab.fill elements) (p : ℕ) (key : Key) (low : p < set_entries (class_of t)) (live : HasLiveKey (slots (class_of t)) x.table p key) (fits : FitsKey key) where
   abbrev c : ℕ
   c = class_of t
 
@@ -158,14 +158,14 @@ module _ (laws : SetLaws) (texts : List ℕ) (x : Picture) (tab : TableUse) (t :
   there none = absurd (let e = sym right ∙ none in cc)
 
   -- it has the key's hash
-  pub hash_here : entry_of n x.table p 1 ≡ hash_of texts key
+  pub hash_here : entry_field n x.table p 1 ≡ hash_of texts key
   hash_here =
       let any : UsedEntry = used_element mine.0 in
       let inside = slice_get_within says.used p any mine.1 in
       sym (word_is walk (set_room (class_mask c)) texts c is_class says.used x.table says.table p 1)
       ∙ (says.table.hashes p any inside ∙ ap (hash_of texts) (ap (λ (z : UsedEntry). z.key) (get_or_from_slice_get says.used p any any mine.1) ∙ mine.2))
 
-  module _ (class_eq : tab.class ≡ Some c) (names : root_in x ≡ suc t) (long : n + 8 * set_entries c ≤ length x.table) (even : entry_of n x.table p 0 % 2 ≡ 0) where
+  module _ (class_eq : tab.class ≡ Some c) (names : root_in x ≡ suc t) (long : n + 8 * set_entries c ≤ length x.table) (even : entry_field n x.table p 0 % 2 ≡ 0) where
     abbrev m : ℕ
     m = set_entries c
 
@@ -173,22 +173,22 @@ module _ (laws : SetLaws) (texts : List ℕ) (x : Picture) (tab : TableUse) (t :
     news = set_discard elements key
 
     abbrev ver : ℕ
-    ver = entry_of n x.table p 0
+    ver = entry_field n x.table p 0
 
     abbrev block : List ℕ
     block = slice_set x.block 1 (slice_index x.block 1 - 1)
 
     abbrev opened : List ℕ
-    opened = slice_set x.table (entry_at n p 0) (ver + 1)
+    opened = slice_set x.table (entry_offset n p 0) (ver + 1)
 
     abbrev put : List ℕ
-    put = slice_set opened (entry_at n p 2) (gone_kind key)
+    put = slice_set opened (entry_offset n p 2) (gone_kind key)
 
     abbrev after : Picture
     after = record { block = block; table = put }
 
-    pub now_odd : entry_of n put p 0 ≡ ver + 1
-    now_odd = get_or-set_other opened (entry_at n p 2) (entry_at n p 0) (gone_kind key) 0 (λ e. absurd (omega (arith, e))) ∙ get_or-set_same x.table (entry_at n p 0) (ver + 1) 0 (omega (arith, low, long))
+    pub now_odd : entry_field n put p 0 ≡ ver + 1
+    now_odd = get_or-set_other opened (entry_offset n p 2) (entry_offset n p 0) (gone_kind key) 0 (λ e. absurd (omega (arith, e))) ∙ get_or-set_same x.table (entry_offset n p 0) (ver + 1) 0 (omega (arith, low, long))
 
     shorter : length (set_discard elements mine.0.key).elements + 1 ≡ length elements.elements
     shorter = (laws.shrinks says.used elements p mine.0 says.entries in_order mine.1).1
@@ -200,7 +200,7 @@ module _ (laws : SetLaws) (texts : List ℕ) (x : Picture) (tab : TableUse) (t :
     unfolding slots
     opened_says =
         let r = (slots_range c is_class).0 in
-        let table : IsSetTable texts (class_mask c) says.used (0 ∷ 0 ∷ opened) = subst (λ (z : List ℕ). IsSetTable texts (class_mask c) says.used z) (after_header x.table (layout.entry_at (class_mask c) p 0) (entry_at n p 0) (ver + 1) (omega (arith, r)))
+        let table : IsSetTable texts (class_mask c) says.used (0 ∷ 0 ∷ opened) = subst (λ (z : List ℕ). IsSetTable texts (class_mask c) says.used z) (after_header x.table (layout.entry_at (class_mask c) p 0) (entry_offset n p 0) (ver + 1) (omega (arith, r)))
         (laws.versions walk (set_room (class_mask c)) texts (class_mask c) says.used (0 ∷ 0 ∷ x.table) p (ver + 1) within says.table) in
         record { head = says.head; used = says.used; table = table; filled = says.filled; entries = says.entries }
 
@@ -213,7 +213,7 @@ module _ (laws : SetLaws) (texts : List ℕ) (x : Picture) (tab : TableUse) (t :
 
     same_words : with_deleted (class_mask c) (0 ∷ 0 ∷ opened) p key ≡ 0 ∷ 0 ∷ put
     unfolding slots
-    same_words = let r = (slots_range c is_class).0 in after_header opened (layout.entry_at (class_mask c) p 2) (entry_at n p 2) (gone_kind key) (omega (arith, r))
+    same_words = let r = (slots_range c is_class).0 in after_header opened (layout.entry_at (class_mask c) p 2) (entry_offset n p 2) (gone_kind key) (omega (arith, r))
 
     pub now_says : IsSetWords texts block (0 ∷ 0 ∷ put) (Some c) tab.fill news
     unfolding opened_says
@@ -229,28 +229,28 @@ module _ (laws : SetLaws) (texts : List ℕ) (x : Picture) (tab : TableUse) (t :
     pub now_root : root_in after ≡ root_in x
     now_root = get_or-set_other x.block 1 0 (slice_index x.block 1 - 1) 0 (λ e. absurd (omega (arith, e)))
 
-    inside : (w : ℕ) → w < 8 → entry_at n p w < size c
+    inside : (w : ℕ) → w < 8 → entry_offset n p w < size c
     inside w few = keyed_low kind.Set tt c p w low few
 
     -- its words may be put, whatever the set had before the write
     pub may_delete : (before : Content) → MayPuts kind.Set t before false x (deletion t p key x)
     may_delete before =
         let q1 : MayPut kind.Set t before false x (to_block 1 (slice_index x.block 1 - 1)) = (omega arith, omega arith) in
-        let q2 : MayPut kind.Set t before false (record { block = block; table = x.table }) (to_table (entry_at n p 0) (ver + 1)) = (now_root ∙ names, inside 0 (omega arith), dead_open n m x.table p key low long even live (under before), record { before = λ q less at one. refl; later = λ q less at two. absurd (omega (arith, two, even)) }) in
-        let q3 : MayPut kind.Set t before false (record { block = block; table = opened }) (to_table (entry_at n p 2) (gone_kind key)) = (now_root ∙ names, inside 2 (omega arith), dead_kind n m x.table p key low long even live (under before), record { before = λ q less at one. refl; later = λ q less at two. absurd (omega (arith, at)) }) in
+        let q2 : MayPut kind.Set t before false (record { block = block; table = x.table }) (to_table (entry_offset n p 0) (ver + 1)) = (now_root ∙ names, inside 0 (omega arith), dead_open n m x.table p key low long even live (under before), record { before = λ q less at one. refl; later = λ q less at two. absurd (omega (arith, two, even)) }) in
+        let q3 : MayPut kind.Set t before false (record { block = block; table = opened }) (to_table (entry_offset n p 2) (gone_kind key)) = (now_root ∙ names, inside 2 (omega arith), dead_kind n m x.table p key low long even live (under before), record { before = λ q less at one. refl; later = λ q less at two. absurd (omega (arith, at)) }) in
         (q1, (q2, (q3, tt)))
 
     -- the words of the other entries
-    pub others_same : (q w : ℕ) → q ≢ p → w < 8 → entry_of n put q w ≡ entry_of n x.table q w
+    pub others_same : (q w : ℕ) → q ≢ p → w < 8 → entry_field n put q w ≡ entry_field n x.table q w
     others_same q w ne few = dead_others n m x.table p key low long even live q w ne few
 
-    pub other_live : (q : ℕ) (a : Key) → q ≢ p → IsLive n put q a → IsLive n x.table q a
+    pub other_live : (q : ℕ) (a : Key) → q ≢ p → HasLiveKey n put q a → HasLiveKey n x.table q a
     other_live q a ne l = (sym (others_same q 2 ne (omega arith)) ∙ l.0, sym (others_same q 3 ne (omega arith)) ∙ l.1)
 
     -- the entry isn't there any more
-    pub not_live : (a : Key) → IsLive n put p a → ⊥
+    pub not_live : (a : Key) → HasLiveKey n put p a → ⊥
     not_live a l =
-        let kind : entry_of n put p 2 ≡ gone_kind key = get_or-set_same opened (entry_at n p 2) (gone_kind key) 0 (let e = length-set x.table (entry_at n p 0) (ver + 1) in omega (arith, low, long, e)) in
+        let kind : entry_field n put p 2 ≡ gone_kind key = get_or-set_same opened (entry_offset n p 2) (gone_kind key) 0 (let e = length-set x.table (entry_offset n p 0) (ver + 1) in omega (arith, low, long, e)) in
         let g = gone_is key in
         let b = (kind_range key).0 in
         let h = (kind_range a).1 in
@@ -258,7 +258,7 @@ module _ (laws : SetLaws) (texts : List ℕ) (x : Picture) (tab : TableUse) (t :
         omega (arith, kind, g, b, h, e)
 
     -- an entry with an even version says what it said
-    pub keeps_under : (q : ℕ) (a : Key) → q < m → entry_of n put q 0 % 2 ≡ 0 → IsLive n put q a → under (content.Set news) a ≡ under (content.Set elements) a
+    pub keeps_under : (q : ℕ) (a : Key) → q < m → entry_field n put q 0 % 2 ≡ 0 → HasLiveKey n put q a → under (content.Set news) a ≡ under (content.Set elements) a
     keeps_under q a less two l = (set.set_clear laws.first texts block x.block c tab.fill tab.fill is_class elements news x.table put says now_says (dead_same n m x.table p key low long even live)).keeps q a less two l
 
     -- and no deleted one that is being written has a key that is there
@@ -285,7 +285,7 @@ midway_loaded k o table mid v w only b =
       writes = writes_on k o table v w (loaded_put v w o only) (ap root_in (sym back)) b.writes;
       early = only.work.committed o ∙ b.early;
       stands = subst (λ (y : Picture). Stands k.texts y mid) back b.stands;
-      same = subst (λ (y : Picture × ContainerState). (p : ℕ) (key : Key) → p < m → version_of t y.0 p % 2 ≡ 0 → IsLive (slots (class_of t)) y.0.table p key → under mid.content key ≡ under y.1.content key) (λ d. (back d, knows d)) b.same;
+      same = subst (λ (y : Picture × ContainerState). (p : ℕ) (key : Key) → p < m → version_of t y.0 p % 2 ≡ 0 → HasLiveKey (slots (class_of t)) y.0.table p key → under mid.content key ≡ under y.1.content key) (λ d. (back d, knows d)) b.same;
       gone = subst (λ (y : Picture). NoneDead t m y mid) back b.gone;
       opened = subst (λ (y : Picture). (p : ℕ) → p < m → version_of t y p % 2 ≡ 1 → p < mid.table.fill) back b.opened;
     }
@@ -311,8 +311,8 @@ module _ (k : Shape) (s : ℕ) (table : Table) (kept : Bool) (others first : Set
     fits = th.fits;
     comes = th.comes;
     even = subst (λ (y : Picture). (p : ℕ) → p < lm → place ≤ p → p < last → version_of lt y p % 2 ≡ 0) back' th.even;
-    done = subst (λ (y : Picture). (p : ℕ) (key : Key) → p < lm → p < place → FitsKey key → IsLive (slots (class_of lt)) y.table p key → spared kept others first key ≡ true) back' th.done;
-    rest = subst (λ (y : Picture). (p : ℕ) (key : Key) → p < lm → last ≤ p → FitsKey key → IsLive (slots (class_of lt)) y.table p key → spared kept others first key ≡ true) back' th.rest;
+    done = subst (λ (y : Picture). (p : ℕ) (key : Key) → p < lm → p < place → FitsKey key → HasLiveKey (slots (class_of lt)) y.table p key → spared kept others first key ≡ true) back' th.done;
+    rest = subst (λ (y : Picture). (p : ℕ) (key : Key) → p < lm → last ≤ p → FitsKey key → HasLiveKey (slots (class_of lt)) y.table p key → spared kept others first key ≡ true) back' th.rest;
   }
 
 module _ (k : Shape) (s : ℕ) (table : Table) (kept : Bool) (others first : SetContent) (to : ContainerState) (last place : ℕ) (v : View) (is : kind_in k.kinds s ≡ kind.Set) (th : IsThinned k s table kept others first to last place v) where
@@ -351,11 +351,11 @@ module _ (k : Shape) (s : ℕ) (table : Table) (kept : Bool) (others first : Set
 
   -- ---- the entry at this place, where a key is there
 
-  module _ (laws : SetLaws) (low : place < vm) (early : place < last) (key : Key) (live : IsLive vn words_now.table place key) (fits : FitsKey key) where
+  module _ (laws : SetLaws) (low : place < vm) (early : place < last) (key : Key) (live : HasLiveKey vn words_now.table place key) (fits : FitsKey key) where
     even_here : version_of vt words_now place % 2 ≡ 0
     even_here = th.even place (row place low) (omega arith) early
 
-    pub hash_is : entry_of vn words_now.table place 1 ≡ hash_of k.texts key
+    pub hash_is : entry_field vn words_now.table place 1 ≡ hash_of k.texts key
     hash_is = hash_here laws k.texts words_now tab vt class_is th.mid says_now place key low live fits
 
     -- it was there before the write
@@ -393,13 +393,13 @@ module _ (k : Shape) (s : ℕ) (table : Table) (kept : Bool) (others first : Set
           let w = even_here in
           omega (arith, o, v, w, two)
 
-      same_word : (p w : ℕ) → p ≢ place → w < 8 → entry_of vn words_then.table p w ≡ entry_of vn words_now.table p w
+      same_word : (p w : ℕ) → p ≢ place → w < 8 → entry_field vn words_then.table p w ≡ entry_field vn words_now.table p w
       same_word p w ne few = others_same laws k.texts words_now tab vt class_is th.mid says_now place key low live fits class_some th.midway.writes.root long even_here p w ne few
 
-      live_before : (p : ℕ) (a : Key) → p ≢ place → IsLive vn words_then.table p a → IsLive vn words_now.table p a
+      live_before : (p : ℕ) (a : Key) → p ≢ place → HasLiveKey vn words_then.table p a → HasLiveKey vn words_now.table p a
       live_before p a ne l = other_live laws k.texts words_now tab vt class_is th.mid says_now place key low live fits class_some th.midway.writes.root long even_here p a ne l
 
-      same_then : (p : ℕ) (a : Key) → p < rows (kind_in k.kinds s) (class_of vt) → version_of vt words_then p % 2 ≡ 0 → IsLive vn words_then.table p a → under mid_then a ≡ under (known s v).content a
+      same_then : (p : ℕ) (a : Key) → p < rows (kind_in k.kinds s) (class_of vt) → version_of vt words_then p % 2 ≡ 0 → HasLiveKey vn words_then.table p a → under mid_then a ≡ under (known s v).content a
       same_then p a less two l =
           let ne = apart p two in
           let e = same_word p 0 ne (omega arith) in
@@ -423,16 +423,16 @@ module _ (k : Shape) (s : ℕ) (table : Table) (kept : Bool) (others first : Set
           let old = th.even p less (omega (arith, up)) before in
           omega (arith, e, old)
 
-      done_then : (p : ℕ) (a : Key) → p < rows (kind_in k.kinds s) (class_of vt) → p < place + 1 → FitsKey a → IsLive vn words_then.table p a → spared kept others first a ≡ true
+      done_then : (p : ℕ) (a : Key) → p < rows (kind_in k.kinds s) (class_of vt) → p < place + 1 → FitsKey a → HasLiveKey vn words_then.table p a → spared kept others first a ≡ true
       done_then p a less up ok l =
           dite (ℕ_discrete p place)
-          (λ (e : p ≡ place). absurd (not_live laws k.texts words_now tab vt class_is th.mid says_now place key low live fits class_some th.midway.writes.root long even_here a (subst (λ (q : ℕ). IsLive vn words_then.table q a) e l)))
+          (λ (e : p ≡ place). absurd (not_live laws k.texts words_now tab vt class_is th.mid says_now place key low live fits class_some th.midway.writes.root long even_here a (subst (λ (q : ℕ). HasLiveKey vn words_then.table q a) e l)))
           (λ ne. th.done p a less (before p place ne up) ok (live_before p a ne l))
         where
           before : (a b : ℕ) → a ≢ b → a < b + 1 → a < b
           before a b ne up = dite (dec_lt a b) (λ (less : a < b). less) (λ past. absurd (ne (omega (arith, past, up))))
 
-      rest_then : (p : ℕ) (a : Key) → p < rows (kind_in k.kinds s) (class_of vt) → last ≤ p → FitsKey a → IsLive vn words_then.table p a → spared kept others first a ≡ true
+      rest_then : (p : ℕ) (a : Key) → p < rows (kind_in k.kinds s) (class_of vt) → last ≤ p → FitsKey a → HasLiveKey vn words_then.table p a → spared kept others first a ≡ true
       rest_then p a less up ok l = th.rest p a less up ok (live_before p a (λ (e : p ≡ place). omega (arith, e, up, early)) l)
 
       midway_then : IsMidway k s table (record { content = mid_then; table = tab }) z
@@ -440,7 +440,7 @@ module _ (k : Shape) (s : ℕ) (table : Table) (kept : Bool) (others first : Set
         writes = writes_on k s table v z only (ap root_in puts ∙ now_root laws k.texts words_now tab vt class_is th.mid says_now place key low live fits class_some th.midway.writes.root long even_here) th.midway.writes;
         early = only.work.committed s ∙ th.midway.early;
         stands = subst (λ (y : Picture). Stands k.texts y (record { content = mid_then; table = tab })) back (now_stands laws k.texts words_now tab vt class_is th.mid says_now place key low live fits class_some th.midway.writes.root long even_here);
-        same = subst (λ (y : Picture × ContainerState). (p : ℕ) (a : Key) → p < rows (kind_in k.kinds s) (class_of vt) → version_of vt y.0 p % 2 ≡ 0 → IsLive vn y.0.table p a → under mid_then a ≡ under y.1.content a) (λ d. (back d, knows d)) same_then;
+        same = subst (λ (y : Picture × ContainerState). (p : ℕ) (a : Key) → p < rows (kind_in k.kinds s) (class_of vt) → version_of vt y.0 p % 2 ≡ 0 → HasLiveKey vn y.0.table p a → under mid_then a ≡ under y.1.content a) (λ d. (back d, knows d)) same_then;
         gone = subst (λ (y : Picture). NoneDead vt (rows (kind_in k.kinds s) (class_of vt)) y (record { content = mid_then; table = tab })) back gone_then;
         opened = subst (λ (y : Picture). (p : ℕ) → p < rows (kind_in k.kinds s) (class_of vt) → version_of vt y p % 2 ≡ 1 → p < tab.fill) back opened_then;
       }
@@ -453,13 +453,13 @@ module _ (k : Shape) (s : ℕ) (table : Table) (kept : Bool) (others first : Set
         fits = th.fits;
         comes = ap (λ (es : List Element). content.Set (record { next = th.mid.next; elements = es })) (discard_stays (spared kept others first) key out th.mid.elements) ∙ th.comes;
         even = subst (λ (y : Picture). (p : ℕ) → p < rows (kind_in k.kinds s) (class_of vt) → place + 1 ≤ p → p < last → version_of vt y p % 2 ≡ 0) back even_then;
-        done = subst (λ (y : Picture). (p : ℕ) (a : Key) → p < rows (kind_in k.kinds s) (class_of vt) → p < place + 1 → FitsKey a → IsLive vn y.table p a → spared kept others first a ≡ true) back done_then;
-        rest = subst (λ (y : Picture). (p : ℕ) (a : Key) → p < rows (kind_in k.kinds s) (class_of vt) → last ≤ p → FitsKey a → IsLive vn y.table p a → spared kept others first a ≡ true) back rest_then;
+        done = subst (λ (y : Picture). (p : ℕ) (a : Key) → p < rows (kind_in k.kinds s) (class_of vt) → p < place + 1 → FitsKey a → HasLiveKey vn y.table p a → spared kept others first a ≡ true) back done_then;
+        rest = subst (λ (y : Picture). (p : ℕ) (a : Key) → p < rows (kind_in k.kinds s) (class_of vt) → last ≤ p → FitsKey a → HasLiveKey vn y.table p a → spared kept others first a ≡ true) back rest_then;
       }
 
   -- ---- where it stays, or none is there
 
-  pub thinned_stays : ((key : Key) → FitsKey key → IsLive vn words_now.table place key → spared kept others first key ≡ true) → IsThinned k s table kept others first to last (place + 1) v
+  pub thinned_stays : ((key : Key) → FitsKey key → HasLiveKey vn words_now.table place key → spared kept others first key ≡ true) → IsThinned k s table kept others first to last (place + 1) v
   thinned_stays each = record {
     mid = th.mid;
     midway = th.midway;
@@ -470,7 +470,7 @@ module _ (k : Shape) (s : ℕ) (table : Table) (kept : Bool) (others first : Set
     done = λ p key less up ok live.
         dite (dec_lt p place)
         (λ (before : p < place). th.done p key less before ok live)
-        (λ past. let same : p ≡ place = omega (arith, past, up) in each key ok (subst (λ (q : ℕ). IsLive vn words_now.table q key) same live));
+        (λ past. let same : p ≡ place = omega (arith, past, up) in each key ok (subst (λ (q : ℕ). HasLiveKey vn words_now.table q key) same live));
     rest = th.rest;
   }
 

@@ -7,20 +7,20 @@ use Rattle.ft_model.specs.declared.content.Content.TheVariants as content
 use Rattle.ft_model.specs.declared.reply.Reply.TheVariants as reply
 use Rattle.ft_model.specs.Answers.{is_write}
 use Rattle.ft_model.specs.Contents.{dict_update, set_or}
-use Rattle.ft_model.specs.Tables.{CanLackMemory, StoredWorld, after_stored, grown_table, passes_cap, takes_in, would_pass}
+use Rattle.ft_model.specs.TableUses.{CanLackMemory, StoredWorld, after_stored, grown_table, passes_cap, takes_in, would_pass}
 use Rattle.ft_model.specs.Worlds.{IsDeclared, dict_of, length_of, no_hands, serial_of, set_of}
 use Rattle.ft_trace.specs.declared.Shape.{Shape}
 use Rattle.ft_trace.specs.declared.View.{View}
 use Rattle.ft_trace.specs.FitCalls.{FitsCall}
 use Rattle.ft_trace.specs.Holds.{known}
-use Rattle.ft_trace.specs.Sections.{HasLocksOf}
-use Rattle.ft_trace.specs.Worlds.{ContainerState, changes, state_at}
+use Rattle.ft_trace.specs.BegunSections.{HasLocksOf}
+use Rattle.ft_trace.specs.ContainerStates.{ContainerState, changes, state_at}
 use Rattle.ft_bank.specs.Whole.{OnlyLoaded}
-use Rattle.ft_bank.specs.Writes.{MayHave}
+use Rattle.ft_bank.specs.WriteSteps.{MayHave}
 use Rattle.ft_growth.specs.declared.adding.Added.{Added}
 use Rattle.ft_growth.specs.Adding.{IsAdded}
-use Rattle.ft_search.specs.Calls.{IsReplyTo}
-use Rattle.ft_adding.specs.Growing.{keys_take}
+use Rattle.ft_search.specs.MadeCalls.{IsReplyTo}
+use Rattle.ft_adding.specs.KeyGrowth.{keys_take}
 
 -- what a dict has once it is updated with another one, and a set that gets the elements of another one (Python manual,
 -- Mapping Types, Set Types)

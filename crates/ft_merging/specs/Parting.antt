@@ -7,19 +7,19 @@ use Rattle.ft_model.specs.declared.content.Content.TheVariants as content
 use Rattle.ft_model.specs.declared.reply.Reply.TheVariants as reply
 use Rattle.ft_model.specs.Answers.{is_write}
 use Rattle.ft_model.specs.Contents.{SetContent, set_xor}
-use Rattle.ft_model.specs.Tables.{CanLackMemory, StoredWorld, after_stored, grown_table, passes_cap, set_takes, takes_in, would_pass}
+use Rattle.ft_model.specs.TableUses.{CanLackMemory, StoredWorld, after_stored, grown_table, passes_cap, set_takes, takes_in, would_pass}
 use Rattle.ft_model.specs.Worlds.{IsDeclared, no_hands, set_of}
 use Rattle.ft_trace.specs.declared.Shape.{Shape}
 use Rattle.ft_trace.specs.declared.View.{View}
 use Rattle.ft_trace.specs.FitCalls.{FitsCall}
 use Rattle.ft_trace.specs.Holds.{known}
-use Rattle.ft_trace.specs.Sections.{HasLocksOf}
-use Rattle.ft_trace.specs.Worlds.{ContainerState, changes, state_at, may_empty}
+use Rattle.ft_trace.specs.BegunSections.{HasLocksOf}
+use Rattle.ft_trace.specs.ContainerStates.{ContainerState, changes, state_at, may_empty}
 use Rattle.ft_bank.specs.Whole.{OnlyLoaded}
-use Rattle.ft_bank.specs.Writes.{MayHave}
+use Rattle.ft_bank.specs.WriteSteps.{MayHave}
 use Rattle.ft_growth.specs.declared.adding.Added.{Added}
 use Rattle.ft_growth.specs.Adding.{IsAdded}
-use Rattle.ft_search.specs.Calls.{IsReplyTo}
+use Rattle.ft_search.specs.MadeCalls.{IsReplyTo}
 
 -- what the first of two sets has then (Python manual, Set Types)
 abbrev pub parted : Content → Content → SetContent

@@ -4,7 +4,7 @@ use Rattle.ft_model.specs.declared.content.Content.TheVariants as content
 use Rattle.ft_model.specs.declared.data.Key.{Key}
 use Rattle.ft_model.specs.Contents.{SetContent, has_element}
 use Rattle.ft_model.specs.Worlds.{set_of}
-use Rattle.ft_trace.specs.Worlds.{ContainerState}
+use Rattle.ft_trace.specs.ContainerStates.{ContainerState}
 
 -- whether an element stays where those stay that another set has, or those that it hasn't (Python manual, Set Types)
 abbrev pub stays : Bool → SetContent → Key → Bool

@@ -4,13 +4,13 @@ ghost use Rattle.std.specs.Prelude.{◌≡◌, ◌+◌, ◌<◌, ◌≤◌};
 ghost use Rattle.ft_trace.specs.Addresses.{class_of};
 ghost use Rattle.ft_trace.specs.Holds.{held, known};
 ghost use Rattle.ft_trace.specs.Kinds.{rows};
-ghost use Rattle.ft_trace.specs.Words.{root_in};
-ghost use Rattle.ft_trace.specs.Worlds.{kind_in};
+ghost use Rattle.ft_trace.specs.Pictures.{root_in};
+ghost use Rattle.ft_trace.specs.ContainerStates.{kind_in};
 ghost use Rattle.ft_bank.specs.Passes.{shape_of, view, IsPassOf};
-ghost use Rattle.ft_bank.specs.Sections.{stack_of};
-ghost use Rattle.ft_bank.specs.Tables.{name_of};
+ghost use Rattle.ft_bank.specs.PassSections.{stack_of};
+ghost use Rattle.ft_bank.specs.TableNames.{name_of};
 ghost use Rattle.ft_bank.specs.Whole.{EndsWrite, OnlyPut};
-ghost use Rattle.ft_merging.specs.Internal.Writing.{IsClosing, MayFinishAll};
+ghost use Rattle.ft_merging.specs.Internal.EntriesAtOnce.{IsClosing, MayFinishAll};
 
 use crate::reading::word_of;
 use ft_bank::{Bank, Pass, Table};

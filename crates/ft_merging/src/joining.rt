@@ -4,21 +4,21 @@
 ghost use Rattle.std.specs.Prelude.{◌≡◌, ◌≢◌, ◌+◌, ◌^◌, ◌<◌, ◌≤◌, false, Some, None, suc};
 ghost use Rattle.ft_model.specs.declared.reply.Reply.TheVariants as reply;
 ghost use Rattle.ft_model.specs.Classes.{IsClass};
-ghost use Rattle.ft_model.specs.Tables.{passes_cap};
+ghost use Rattle.ft_model.specs.TableUses.{passes_cap};
 ghost use Rattle.ft_model.specs.Worlds.{length_of, serial_of};
 ghost use Rattle.ft_trace.specs.Acts.{flight, used};
 ghost use Rattle.ft_trace.specs.Addresses.{class_of};
 ghost use Rattle.ft_trace.specs.Holds.{held, known};
-ghost use Rattle.ft_trace.specs.Words.{root_in};
-ghost use Rattle.ft_trace.specs.Worlds.{kind_in};
+ghost use Rattle.ft_trace.specs.Pictures.{root_in};
+ghost use Rattle.ft_trace.specs.ContainerStates.{kind_in};
 ghost use Rattle.ft_bank.specs.Passes.{shape_of, view, IsPassOf};
-ghost use Rattle.ft_bank.specs.Sections.{stack_of};
-ghost use Rattle.ft_bank.specs.Tables.{name_of};
+ghost use Rattle.ft_bank.specs.PassSections.{stack_of};
+ghost use Rattle.ft_bank.specs.TableNames.{name_of};
 ghost use Rattle.ft_bank.specs.Whole.{Wrote};
 ghost use Rattle.ft_growth.specs.Adding.{IsAdded};
 ghost use Rattle.ft_search.specs.Rounds.{kind_by};
-ghost use Rattle.ft_search.specs.Writing.{MayWriteEntries};
-ghost use Rattle.ft_adding.specs.Growing.{KnowsKeyed, MayAddKey, MayGrow};
+ghost use Rattle.ft_search.specs.OneEntryWrites.{MayWriteEntries};
+ghost use Rattle.ft_adding.specs.KeyGrowth.{KnowsKeyed, MayAddKey, MayGrowKeyed};
 ghost use Rattle.ft_adding.specs.Placing.{AreCounts};
 ghost use Rattle.ft_merging.specs.Joining.{JoinsBy, JoinsKeys, join_takes, joined, new_keys};
 
@@ -94,7 +94,7 @@ fn join_in_new(
 ) -> u64
     requires pass { IsPassOf bank.now pass.old }
     requires two { o ≢ t }
-    requires may { MayGrow (shape_of bank.now) o old new (view pass.old) }
+    requires may { MayGrowKeyed (shape_of bank.now) o old new (view pass.old) }
     requires apart { root_in (held o (view pass.old)) ≢ suc (name_of new) }
     requires other { KnowsKeyed (shape_of bank.now) t (Some table) (view pass.old) }
     requires way { kind_in (shape_of bank.now).kinds o ≡ kind_by way }

@@ -11,20 +11,20 @@ ghost use Rattle.ft_trace.specs.Acts.{has_committed};
 ghost use Rattle.ft_trace.specs.Addresses.{class_of, slots};
 ghost use Rattle.ft_trace.specs.Holds.{held, known};
 ghost use Rattle.ft_trace.specs.Kinds.{rows};
-ghost use Rattle.ft_trace.specs.Words.{Stands, entry_of, root_in};
-ghost use Rattle.ft_trace.specs.Worlds.{ContainerState, kind_in};
-ghost use Rattle.ft_trace.specs.Writes.{MayPuts, with_puts};
+ghost use Rattle.ft_trace.specs.Pictures.{Stands, entry_field, root_in};
+ghost use Rattle.ft_trace.specs.ContainerStates.{ContainerState, kind_in};
+ghost use Rattle.ft_trace.specs.WholeWrites.{MayPuts, with_puts};
 ghost use Rattle.ft_bank.specs.Passes.{shape_of, view, IsPassOf};
-ghost use Rattle.ft_bank.specs.Sections.{stack_of};
-ghost use Rattle.ft_bank.specs.Tables.{name_of};
+ghost use Rattle.ft_bank.specs.PassSections.{stack_of};
+ghost use Rattle.ft_bank.specs.TableNames.{name_of};
 ghost use Rattle.ft_bank.specs.Whole.{EndsWrite, OnlyLoaded, OnlyPut};
 ghost use Rattle.ft_search.specs.Rounds.{kind_by};
-ghost use Rattle.ft_search.specs.Writing.{WritesEntries};
+ghost use Rattle.ft_search.specs.OneEntryWrites.{WritesEntries};
 ghost use Rattle.ft_adding.specs.declared.counts.Counts.{Counts};
-ghost use Rattle.ft_adding.specs.Growing.{KnowsKeyed};
+ghost use Rattle.ft_adding.specs.KeyGrowth.{KnowsKeyed};
 ghost use Rattle.ft_merging.specs.Joining.{joined};
-ghost use Rattle.ft_merging.specs.Internal.Joining.{IsJoining, IsSought, KeepsBelow, stored_puts};
-ghost use Rattle.ft_merging.specs.Internal.Writing.{MayFinishAll};
+ghost use Rattle.ft_merging.specs.Internal.JoiningSteps.{IsJoining, IsSought, KeepsBelow, stored_puts};
+ghost use Rattle.ft_merging.specs.Internal.EntriesAtOnce.{MayFinishAll};
 
 use crate::closing::finish_entries;
 use crate::reading::pair_at;
@@ -82,8 +82,8 @@ fn put_stored(
     requires writes { WritesEntries (shape_of bank.now) o own (view pass.old) }
     requires place { place < rows (kind_in (shape_of bank.now).kinds o) (class_of (name_of own)) }
     requires early { has_committed o (view pass.old).log ≡ false }
-    requires old_kind { old.0 ≡ entry_of (slots (class_of (name_of own))) (held o (view pass.old)).table place 4 }
-    requires old_payload { old.1 ≡ entry_of (slots (class_of (name_of own))) (held o (view pass.old)).table place 5 }
+    requires old_kind { old.0 ≡ entry_field (slots (class_of (name_of own))) (held o (view pass.old)).table place 4 }
+    requires old_payload { old.1 ≡ entry_field (slots (class_of (name_of own))) (held o (view pass.old)).table place 5 }
     requires may { MayPuts (kind_in (shape_of bank.now).kinds o) (name_of own) (known o (view pass.old)).content false
         (held o (view pass.old))
         (stored_puts (slots (class_of (name_of own))) (held o (view pass.old)).table place stored) }

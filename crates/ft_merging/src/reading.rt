@@ -8,16 +8,16 @@ ghost use Rattle.ft_model.specs.declared.data.Key.{Key};
 ghost use Rattle.ft_trace.specs.Addresses.{class_of, containers_in, slots};
 ghost use Rattle.ft_trace.specs.Holds.{held};
 ghost use Rattle.ft_trace.specs.Kinds.{rows, IsKeyed};
-ghost use Rattle.ft_trace.specs.Words.{entry_of};
-ghost use Rattle.ft_trace.specs.Worlds.{kind_in};
+ghost use Rattle.ft_trace.specs.Pictures.{entry_field};
+ghost use Rattle.ft_trace.specs.ContainerStates.{kind_in};
 ghost use Rattle.ft_bank.specs.Passes.{shape_of, view, IsPassOf};
-ghost use Rattle.ft_bank.specs.Sections.{stack_of};
-ghost use Rattle.ft_bank.specs.Tables.{name_of, IsTableIn};
+ghost use Rattle.ft_bank.specs.PassSections.{stack_of};
+ghost use Rattle.ft_bank.specs.TableNames.{name_of, IsTableIn};
 ghost use Rattle.ft_bank.specs.Whole.{OnlyLoaded};
 ghost use Rattle.ft_search.specs.Held.{KnowsTable};
-ghost use Rattle.ft_search.specs.Writing.{MayWriteEntries};
-ghost use Rattle.ft_adding.specs.Growing.{KnowsKeyed};
-ghost use Rattle.ft_merging.specs.Internal.Joining.{pair_in};
+ghost use Rattle.ft_search.specs.OneEntryWrites.{MayWriteEntries};
+ghost use Rattle.ft_adding.specs.KeyGrowth.{KnowsKeyed};
+ghost use Rattle.ft_merging.specs.Internal.JoiningSteps.{pair_in};
 
 use ft_bank::{Bank, Pass, Table};
 use ft_layout::entry_word::{HASH, KEY, KEY_KIND, SERIAL, VALUE, VALUE_KIND};
@@ -60,7 +60,7 @@ pub fn word_of(bank: &Bank, pass: &mut Pass, o: Object, table: Table, place: u64
     ensures pass { IsPassOf bank.now pass.new }
     ensures stack { stack_of pass.new ≡ stack_of pass.old }
     ensures only { OnlyLoaded (view pass.old) (view pass.new) }
-    ensures found { result ≡ entry_of (slots (class_of (name_of table))) (held o (view pass.old)).table place word }
+    ensures found { result ≡ entry_field (slots (class_of (name_of table))) (held o (view pass.old)).table place word }
 {
     let _ = o;
     let at = 8 * place + word + mask_of(table.class) + 1;
@@ -79,8 +79,8 @@ pub fn key_at(bank: &Bank, pass: &mut Pass, o: Object, table: Table, place: u64)
     ensures stack { stack_of pass.new ≡ stack_of pass.old }
     ensures only { OnlyLoaded (view pass.old) (view pass.new) }
     ensures key { (key : Key) →
-        IsKey (entry_of (slots (class_of (name_of table))) (held o (view pass.old)).table place 2)
-        (entry_of (slots (class_of (name_of table))) (held o (view pass.old)).table place 3) key ↔ (result ≡ Some key) }
+        IsKey (entry_field (slots (class_of (name_of table))) (held o (view pass.old)).table place 2)
+        (entry_field (slots (class_of (name_of table))) (held o (view pass.old)).table place 3) key ↔ (result ≡ Some key) }
 {
     let kind = word_of(bank, pass, o, table, place, KEY_KIND);
     let payload = word_of(bank, pass, o, table, place, KEY);
@@ -122,7 +122,7 @@ pub(crate) fn pair_at(
     ensures stack { stack_of pass.new ≡ stack_of pass.old }
     ensures only { OnlyLoaded (view pass.old) (view pass.new) }
     ensures pair { (said : Slot) →
-        IsEntry (entry_of (slots (class_of (name_of table))) (held o (view pass.old)).table place) said →
+        IsEntry (entry_field (slots (class_of (name_of table))) (held o (view pass.old)).table place) said →
         result ≡ pair_in said }
 {
     let hash = word_of(bank, pass, o, table, place, HASH);

@@ -9,18 +9,18 @@ ghost use Rattle.ft_model.specs.declared.script.Kind.TheVariants as kind;
 ghost use Rattle.ft_model.specs.Contents.{has_element};
 ghost use Rattle.ft_model.specs.Worlds.{set_of};
 ghost use Rattle.ft_trace.specs.Addresses.{class_of, slots};
-ghost use Rattle.ft_trace.specs.Carefuls.{IsLive};
+ghost use Rattle.ft_trace.specs.Carefuls.{HasLiveKey};
 ghost use Rattle.ft_trace.specs.Holds.{held, known};
 ghost use Rattle.ft_trace.specs.Kinds.{rows};
-ghost use Rattle.ft_trace.specs.Words.{root_in};
-ghost use Rattle.ft_trace.specs.Worlds.{ContainerState, kind_in};
+ghost use Rattle.ft_trace.specs.Pictures.{root_in};
+ghost use Rattle.ft_trace.specs.ContainerStates.{ContainerState, kind_in};
 ghost use Rattle.ft_bank.specs.Passes.{shape_of, view, IsPassOf};
-ghost use Rattle.ft_bank.specs.Sections.{stack_of};
-ghost use Rattle.ft_bank.specs.Tables.{name_of};
+ghost use Rattle.ft_bank.specs.PassSections.{stack_of};
+ghost use Rattle.ft_bank.specs.TableNames.{name_of};
 ghost use Rattle.ft_bank.specs.Whole.{OnlyLoaded, OnlyPut, Wrote};
-ghost use Rattle.ft_search.specs.Writing.{HasTable, Leaves, MayWriteEntries};
+ghost use Rattle.ft_search.specs.OneEntryWrites.{HasTable, Leaves, MayWriteEntries};
 ghost use Rattle.ft_merging.specs.Thinning.{stays, thinned_state};
-ghost use Rattle.ft_merging.specs.Internal.Thinning.{IsThinned};
+ghost use Rattle.ft_merging.specs.Internal.ThinningSteps.{IsThinned};
 
 use crate::closing::finish_entries;
 use crate::reading::{key_at, word_of};
@@ -83,10 +83,10 @@ fn goes_at(
     ensures stack { stack_of pass.new ≡ stack_of pass.old }
     ensures only { OnlyLoaded (view pass.old) (view pass.new) }
     ensures goes { (key : Key) → result ≡ Some key →
-        IsLive (slots (class_of (name_of table))) (held s (view pass.old)).table place key × FitsKey key
+        HasLiveKey (slots (class_of (name_of table))) (held s (view pass.old)).table place key × FitsKey key
         × (stays kept (set_of (known t (view pass.old)).content) key ≡ false) }
     ensures stays { result ≡ None → (key : Key) → FitsKey key →
-        IsLive (slots (class_of (name_of table))) (held s (view pass.old)).table place key →
+        HasLiveKey (slots (class_of (name_of table))) (held s (view pass.old)).table place key →
         stays kept (set_of (known t (view pass.old)).content) key ≡ true }
 {
     versions_change_nothing();

@@ -28,9 +28,9 @@ use Rattle.ft_model.specs.Calls.{is_changing, is_changing_dict, is_changing_list
 use Rattle.ft_model.specs.Scripts.{IsScript, IsThread, NamesOf, IsDeclaredAs}
 use Rattle.ft_model.specs.Worlds.{WorldContent, kind_of, kinds_of, no_hands, empty_world, IsOfKind, IsDeclared}
 use Rattle.ft_model.specs.Answers.{is_raised}
-use Rattle.ft_model.specs.Tables.{StoredWorld, opened, after_stored, stored_by, stored_after, would_pass, IsEarnedReply}
+use Rattle.ft_model.specs.TableUses.{StoredWorld, empty_stored, after_stored, stored_by, stored_after, would_pass, IsEarnedReply}
 use Rattle.ft_model.specs.Histories.{writes, entries_of, calls_of, cursors_of, IsLegal, IsWhole}
-use Rattle.ft_model.specs.Changes.{AreTablesInOrder}
+use Rattle.ft_model.specs.TablesInOrder.{AreTablesInOrder}
 use Rattle.ft_model.proofs.AnswerLaws.{answer_containers}
 use Rattle.ft_model.proofs.TableOrder.{order-start, order-step}
 
@@ -143,7 +143,7 @@ sound_write : (script : ScriptParts) (calls : List Call) (cursors : ℕ) (called
 sound_write script calls cursors called changes names few sound =
     let stored = stored_after script calls in
     let declared = write_declared script.containers stored.world sound.kinds cursors called changes names in
-    let next : stored_after script (calls ++ called ∷ []) ≡ after_stored stored called = fold_push after_stored (opened (kinds_of script.containers)) calls called in
+    let next : stored_after script (calls ++ called ∷ []) ≡ after_stored stored called = fold_push after_stored (empty_stored (kinds_of script.containers)) calls called in
     record {
       tables = subst AreTablesInOrder (sym next) (order-step stored no_hands called declared few sound.tables);
       kinds = ap (λ (s : StoredWorld). map kind_of s.world) next ∙ answer_containers stored.world no_hands called declared ∙ sound.kinds;

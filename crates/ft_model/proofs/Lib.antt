@@ -5,7 +5,7 @@ pub mod DictLaws
 pub mod EqualDicts
 pub mod Copies
 pub mod Sets
-pub mod Places
+pub mod WorldPlaces
 pub mod AnswerLaws
 pub mod SetLaws
 pub mod ListLaws

@@ -7,14 +7,14 @@ use Rattle.std.proofs.lemmas.Grind.{reverse_onto}
 use Rattle.ft_model.specs.declared.call.Call.{Call}
 use Rattle.ft_model.specs.declared.script.Kind.{Kind}
 use Rattle.ft_model.specs.Answers.{after_write, world_by}
-use Rattle.ft_model.specs.Tables.{StoredWorld, opened, takes_in, after_stored, stored_by, stored_newest, takings, is_class, takes_by, takes_newest}
+use Rattle.ft_model.specs.TableUses.{StoredWorld, empty_stored, takes_in, after_stored, stored_by, stored_newest, takings, is_class, takes_by, takes_newest}
 
 pub newest_stored : (kinds : List Kind) (calls : List Call) → stored_newest kinds calls ≡ stored_by kinds (reverse calls)
 newest_stored kinds [] = refl
 newest_stored kinds (called ∷ calls) =
     ap (λ (stored : StoredWorld). after_stored stored called) (newest_stored kinds calls)
-    ∙ sym (fold_push after_stored (opened kinds) (reverse calls) called)
-    ∙ ap (λ (all : List Call). fold after_stored (opened kinds) all) (sym (reverse_onto calls called []))
+    ∙ sym (fold_push after_stored (empty_stored kinds) (reverse calls) called)
+    ∙ ap (λ (all : List Call). fold after_stored (empty_stored kinds) all) (sym (reverse_onto calls called []))
 
 takings_push : (stored : StoredWorld) (calls : List Call) (called : Call) → takings stored (calls ++ called ∷ []) ≡ takings stored calls ++ takes_in (fold after_stored stored calls) called ∷ []
 takings_push stored [] called = refl
@@ -23,8 +23,8 @@ takings_push stored (first ∷ calls) called = ap (λ (rest : List (Option ℕ))
 -- one write more takes one table more, or none
 pub takes_push : (kinds : List Kind) (class : ℕ) (calls : List Call) (called : Call) → takes_by kinds class (calls ++ called ∷ []) ≡ takes_by kinds class calls + cond (is_class class (takes_in (stored_by kinds calls) called)) 1 0
 takes_push kinds class calls called =
-    ap (count_by (is_class class)) (takings_push (opened kinds) calls called)
-    ∙ sum_by_push (λ taking. cond (is_class class taking) 1 0) (takings (opened kinds) calls) (takes_in (stored_by kinds calls) called)
+    ap (count_by (is_class class)) (takings_push (empty_stored kinds) calls called)
+    ∙ sum_by_push (λ taking. cond (is_class class taking) 1 0) (takings (empty_stored kinds) calls) (takes_in (stored_by kinds calls) called)
 
 pub newest_takes : (kinds : List Kind) (class : ℕ) (calls : List Call) → takes_newest kinds class calls ≡ takes_by kinds class (reverse calls)
 newest_takes kinds class [] = refl
@@ -39,4 +39,4 @@ world_from stored [] = refl
 world_from stored (called ∷ calls) = world_from (after_stored stored called) calls
 
 pub stored_world : (kinds : List Kind) (calls : List Call) → (stored_by kinds calls).world ≡ world_by kinds calls
-stored_world kinds calls = world_from (opened kinds) calls
+stored_world kinds calls = world_from (empty_stored kinds) calls

@@ -31,11 +31,11 @@ use Rattle.ft_model.specs.Contents.{DictContent, SetContent, empty_dict, empty_s
 use Rattle.ft_model.specs.Lists.{index_in, index_of}
 use Rattle.ft_model.specs.Worlds.{WorldContent, HandsContent, dict_of, list_of, set_of, dict_at, list_at, set_at, IsOfKind, IsDeclared, no_hands, empty_content}
 use Rattle.ft_model.specs.Answers.{Answer, answer_dict, answer_list, answer_set, after_write}
-use Rattle.ft_model.specs.Tables.{TableUse, StoredWorld, opened, no_table, table_at, outgrows_dict, outgrows_set, outgrows_list, dict_takes, set_takes, list_takes, copy_takes, copy_leaves, change_takes, change_leaves, grown_table, after_stored, passes_cap, would_pass}
-use Rattle.ft_model.specs.Changes.{changed_dict, changed_by, HasTableFor, IsTableOf, AreTablesInOrder}
+use Rattle.ft_model.specs.TableUses.{TableUse, StoredWorld, empty_stored, no_table, table_at, outgrows_dict, outgrows_set, outgrows_list, dict_takes, set_takes, list_takes, copy_takes, copy_leaves, change_takes, change_leaves, grown_table, after_stored, passes_cap, would_pass}
+use Rattle.ft_model.specs.TablesInOrder.{changed_dict, changed_by, HasTableFor, IsTableFor, AreTablesInOrder}
 use Rattle.ft_model.proofs.Copies.{length-pairs_from, length-elements_from}
 use Rattle.ft_model.proofs.KnownKeys.{length-filter-le}
-use Rattle.ft_model.proofs.Places.{is_there}
+use Rattle.ft_model.proofs.WorldPlaces.{is_there}
 use Rattle.ft_model.proofs.ClassRooms.{dict_fits, set_fits, list_fits, most_slots}
 use Rattle.ft_model.proofs.Untouched.{other_contents, other_tables, as_many_contents, as_many_tables}
 
@@ -227,9 +227,9 @@ copy-table count few =
 
 -- the table at the place of a dict that a call changed
 pub dict-table : (t : TableChange) (world left : WorldContent) (tables : List TableUse) (place : ℕ) → changed_dict place t < length tables → HasTableFor (length (dict_at world place).pairs) (table_at tables place).class (table_at tables place).fill dict_entries → (adds t ≡ true → passes_cap (in_world left place) ≡ false) → DictStep left place (dict_at world place) t
-    → IsTableOf (in_world left (changed_dict place t)) (table_at (change_leaves tables place t (grown_table (table_at tables place) (change_takes t (dict_takes (table_at tables place) (dict_at world place) (dict_at left place)) (copy_takes (length (dict_at world place).pairs))) ((dict_at left place).next - (dict_at world place).next) (length (dict_at left place).pairs)) (copy_leaves (length (dict_at world place).pairs))) (changed_dict place t))
+    → IsTableFor (in_world left (changed_dict place t)) (table_at (change_leaves tables place t (grown_table (table_at tables place) (change_takes t (dict_takes (table_at tables place) (dict_at world place) (dict_at left place)) (copy_takes (length (dict_at world place).pairs))) ((dict_at left place).next - (dict_at world place).next) (length (dict_at left place).pairs)) (copy_leaves (length (dict_at world place).pairs))) (changed_dict place t))
 dict-table change.Stays world left tables place low old few step =
-    subst (λ there. IsTableOf there (table_at tables place)) (sym step.0) (fewer _ _ (table_at tables place).class (table_at tables place).fill dict_entries step.1 old)
+    subst (λ there. IsTableFor there (table_at tables place)) (sym step.0) (fewer _ _ (table_at tables place).class (table_at tables place).fill dict_entries step.1 old)
 dict-table change.Grows world left tables place low old few step =
     let table = table_at tables place in
     let added = (dict_at left place).next - (dict_at world place).next in
@@ -294,9 +294,9 @@ list-grows table count few stored old empty =
     still (Some class) old fits = (old.0, omega arith, elim fits [ inl none ↦ omega arith | inr le ↦ omega arith ])
 
 pub list-table : (t : TableChange) (world left : WorldContent) (tables : List TableUse) (place : ℕ) → place < length tables → HasTableFor (length (list_at world place)) (table_at tables place).class (length (list_at world place)) list_items × ((table_at tables place).fill ≡ 0) → (adds t ≡ true → passes_cap (in_world left place) ≡ false) → ListStep left place (list_at world place) t
-    → IsTableOf (in_world left place) (table_at (change_leaves tables place t (grown_table (table_at tables place) (change_takes t (list_takes (table_at tables place) (length (list_at left place))) None) 0 0) no_table) place)
+    → IsTableFor (in_world left place) (table_at (change_leaves tables place t (grown_table (table_at tables place) (change_takes t (list_takes (table_at tables place) (length (list_at left place))) None) 0 0) no_table) place)
 list-table change.Stays world left tables place low old few step =
-    subst (λ there. IsTableOf there (table_at tables place)) (sym step.0) (shorter (table_at tables place).class old.0, old.1)
+    subst (λ there. IsTableFor there (table_at tables place)) (sym step.0) (shorter (table_at tables place).class old.0, old.1)
   where
     shorter : (class : Option ℕ) → HasTableFor (length (list_at world place)) class (length (list_at world place)) list_items → HasTableFor (length (list_at left place)) class (length (list_at left place)) list_items
     shorter None before = let none = before.0 in let le = step.1 in (omega arith, omega arith)
@@ -361,9 +361,9 @@ module _ (world : WorldContent) (hands : HandsContent) (place : ℕ) (declared :
   set-step (set_call.Iter cursor) = same-elements
 
 pub set-table : (t : TableChange) (world left : WorldContent) (tables : List TableUse) (place : ℕ) → place < length tables → HasTableFor (length (set_at world place).elements) (table_at tables place).class (table_at tables place).fill set_entries → (adds t ≡ true → passes_cap (in_world left place) ≡ false) → SetStep left place (set_at world place) t
-    → IsTableOf (in_world left place) (table_at (change_leaves tables place t (grown_table (table_at tables place) (change_takes t (set_takes (table_at tables place) (set_at world place) (set_at left place)) None) ((set_at left place).next - (set_at world place).next) (length (set_at left place).elements)) no_table) place)
+    → IsTableFor (in_world left place) (table_at (change_leaves tables place t (grown_table (table_at tables place) (change_takes t (set_takes (table_at tables place) (set_at world place) (set_at left place)) None) ((set_at left place).next - (set_at world place).next) (length (set_at left place).elements)) no_table) place)
 set-table change.Stays world left tables place low old few step =
-    subst (λ there. IsTableOf there (table_at tables place)) (sym step.0) (fewer _ _ (table_at tables place).class (table_at tables place).fill set_entries step.1 old)
+    subst (λ there. IsTableFor there (table_at tables place)) (sym step.0) (fewer _ _ (table_at tables place).class (table_at tables place).fill set_entries step.1 old)
 set-table change.Grows world left tables place low old few step =
     let table = table_at tables place in
     let added = (set_at left place).next - (set_at world place).next in
@@ -391,13 +391,13 @@ first-capped world one other can h is = first other (simp is at h)
     first (Some second) h = either_way second (one == second) h
 
 -- tables are in order where the one that may have changed is
-order-after : (stored : StoredWorld) (called : Call) (changed : ℕ) → ((place : ℕ) → changed_by called ≡ Some place → changed ≡ place) → AreTablesInOrder stored → IsTableOf (in_world (after_write stored.world called) changed) (table_at (after_stored stored called).tables changed) → AreTablesInOrder (after_stored stored called)
+order-after : (stored : StoredWorld) (called : Call) (changed : ℕ) → ((place : ℕ) → changed_by called ≡ Some place → changed ≡ place) → AreTablesInOrder stored → IsTableFor (in_world (after_write stored.world called) changed) (table_at (after_stored stored called).tables changed) → AreTablesInOrder (after_stored stored called)
 order-after stored called changed only old here =
     record {
       as_many = as_many_tables stored called ∙ old.as_many ∙ sym (as_many_contents stored.world no_hands called);
       each = λ place.
           elim (cases_eq place changed) [
-            | inl same ↦ subst (λ p. IsTableOf (in_world (after_write stored.world called) p) (table_at (after_stored stored called).tables p)) (sym same) here
+            | inl same ↦ subst (λ p. IsTableFor (in_world (after_write stored.world called) p) (table_at (after_stored stored called).tables p)) (sym same) here
             | inr differ ↦
                 let other : changed_by called ≢ Some place = λ is. differ (sym (only place is)) in
                 let content_at : in_world (after_write stored.world called) place ≡ in_world stored.world place = sym (unwrap_or-slice_get (after_write stored.world called) place (content.List [])) ∙ ap (λ o. unwrap_or o (content.List [])) (other_contents stored.world no_hands called place other) ∙ unwrap_or-slice_get stored.world place (content.List []) in
@@ -436,7 +436,7 @@ order-step stored hands (call.Dict place c) declared few old =
     let low : changed_dict place (dict_change c) < length stored.tables = omega (arith, old.as_many, dict-low stored.world place c declared.one declared.both) in
     order-after stored (call.Dict place c) (changed_dict place (dict_change c)) (the-one (is_changing_dict c) (changed_dict place (dict_change c))) old
     (dict-table (dict_change c) stored.world left stored.tables place low
-    (subst (λ there. IsTableOf there (table_at stored.tables place)) (dict_stands stored.world place declared.one) (old.each place))
+    (subst (λ there. IsTableFor there (table_at stored.tables place)) (dict_stands stored.world place declared.one) (old.each place))
     (first-capped left place (other_dict c) (adds (dict_change c)) few)
     (dict-step stored.world no_hands place declared.one c declared.both))
 order-step stored hands (call.List place c) declared few old =
@@ -444,7 +444,7 @@ order-step stored hands (call.List place c) declared few old =
     let low : place < length stored.tables = omega (arith, old.as_many, is_there stored.world kind.List place declared.one) in
     order-after stored (call.List place c) place (the-one (is_changing_list c) place) old
     (list-table (list_change c) stored.world left stored.tables place low
-    (subst (λ there. IsTableOf there (table_at stored.tables place)) (list_stands stored.world place declared.one) (old.each place))
+    (subst (λ there. IsTableFor there (table_at stored.tables place)) (list_stands stored.world place declared.one) (old.each place))
     (first-capped left place (other_list c) (adds (list_change c)) few)
     (list-step stored.world no_hands place declared.one c))
 order-step stored hands (call.Set place c) declared few old =
@@ -452,7 +452,7 @@ order-step stored hands (call.Set place c) declared few old =
     let low : place < length stored.tables = omega (arith, old.as_many, is_there stored.world kind.Set place declared.one) in
     order-after stored (call.Set place c) place (the-one (is_changing_set c) place) old
     (set-table (set_change c) stored.world left stored.tables place low
-    (subst (λ there. IsTableOf there (table_at stored.tables place)) (set_stands stored.world place declared.one) (old.each place))
+    (subst (λ there. IsTableFor there (table_at stored.tables place)) (set_stands stored.world place declared.one) (old.each place))
     (first-capped left place (other_set c) (adds (set_change c)) few)
     (set-step stored.world no_hands place declared.one c))
 order-step stored hands (call.Next number) declared few old = order-after stored (call.Next number) 0 (λ place is. absurd (let none : None ≡ Some place = is in cc)) old (old.each 0)
@@ -462,17 +462,17 @@ order-step stored hands call.Quiesce declared few old = absurd declared
 
 -- ---- the start, and the caps
 
-all-empty : (kinds : List Kind) (place : ℕ) → IsTableOf (get_or (map empty_content kinds) place (content.List [])) (get_or (map (λ kind. no_table) kinds) place no_table)
+all-empty : (kinds : List Kind) (place : ℕ) → IsTableFor (get_or (map empty_content kinds) place (content.List [])) (get_or (map (λ kind. no_table) kinds) place no_table)
 all-empty [] place = ((refl, refl), refl)
 all-empty (kind.Dict ∷ kinds) zero = (refl, refl)
 all-empty (kind.List ∷ kinds) zero = ((refl, refl), refl)
 all-empty (kind.Set ∷ kinds) zero = (refl, refl)
 all-empty (first ∷ kinds) (suc place) = all-empty kinds place
 
-pub order-start : (kinds : List Kind) → AreTablesInOrder (opened kinds)
+pub order-start : (kinds : List Kind) → AreTablesInOrder (empty_stored kinds)
 order-start kinds = record { as_many = length-map kinds (λ (k : Kind). no_table) ∙ sym (length-map kinds empty_content); each = all-empty kinds }
 
-under_cap : (there : Content) (table : TableUse) → IsTableOf there table → passes_cap there ≡ false
+under_cap : (there : Content) (table : TableUse) → IsTableFor there table → passes_cap there ≡ false
 under_cap (content.Dict dict) table old = le-ltb most_pairs (length dict.pairs) (capped (length dict.pairs) table.class table.fill dict_entries most_pairs dict_capped old)
 under_cap (content.List items) table old = le-ltb most_items (length items) (capped (length items) table.class (length items) list_items most_items list_capped old.0)
 under_cap (content.Set set) table old = le-ltb most_elements (length set.elements) (capped (length set.elements) table.class table.fill set_entries most_elements set_capped old)

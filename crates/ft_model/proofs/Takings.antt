@@ -6,7 +6,7 @@ use Rattle.std.proofs.lemmas.List.Sums.{sum_by-cons, count_by-le-length}
 use Rattle.ft_model.specs.declared.call.Call.{Call}
 use Rattle.ft_model.specs.declared.script.Kind.{Kind}
 use Rattle.ft_model.specs.Classes.{least_class, class_count}
-use Rattle.ft_model.specs.Tables.{StoredWorld, opened, after_stored, takings, is_class, takes_by}
+use Rattle.ft_model.specs.TableUses.{StoredWorld, empty_stored, after_stored, takings, is_class, takes_by}
 
 -- whether a class is the one that is taken, as a number
 abbrev once : Option ℕ → ℕ → ℕ
@@ -51,7 +51,7 @@ length-takings stored [] = refl
 length-takings stored (called ∷ calls) = ap suc (length-takings (after_stored stored called) calls)
 
 pub takes_few : (kinds : List Kind) (calls : List Call) → sum_by (λ class. takes_by kinds class calls) (range_with_len least_class class_count) ≤ length calls
-takes_few kinds calls = omega (arith, classes_taken (takings (opened kinds) calls) least_class class_count, length-takings (opened kinds) calls)
+takes_few kinds calls = omega (arith, classes_taken (takings (empty_stored kinds) calls) least_class class_count, length-takings (empty_stored kinds) calls)
 
 pub takes_class_few : (kinds : List Kind) (class : ℕ) (calls : List Call) → takes_by kinds class calls ≤ length calls
-takes_class_few kinds class calls = omega (arith, count_by-le-length (is_class class) (takings (opened kinds) calls), length-takings (opened kinds) calls)
+takes_class_few kinds class calls = omega (arith, count_by-le-length (is_class class) (takings (empty_stored kinds) calls), length-takings (empty_stored kinds) calls)

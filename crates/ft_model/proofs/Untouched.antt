@@ -15,8 +15,8 @@ use Rattle.ft_model.specs.Contents.{DictContent, SetContent, dict_get, has_key, 
 use Rattle.ft_model.specs.Lists.{index_in, index_of}
 use Rattle.ft_model.specs.Worlds.{WorldContent, HandsContent, cursor_at, dict_at, list_at, set_at}
 use Rattle.ft_model.specs.Answers.{Answer, answer_dict, answer_list, answer_set, answer, after_write}
-use Rattle.ft_model.specs.Tables.{TableUse, StoredWorld, leaves_tables, takes_in, after_stored}
-use Rattle.ft_model.specs.Changes.{changed_by}
+use Rattle.ft_model.specs.TableUses.{TableUse, StoredWorld, leaves_tables, takes_in, after_stored}
+use Rattle.ft_model.specs.TablesInOrder.{changed_by}
 use Rattle.ft_model.proofs.AnswerLaws.{slice_get-other}
 
 -- one list has what another has, or something else at the place that may change

@@ -20,7 +20,7 @@ pub record IsClass (class : ℕ) : Type 0 where
   pub least : least_class ≤ class
   pub greatest : class ≤ greatest_class
 
--- ---- room: a table of class c has 2^c slots; a dict or set leaves some of them free, so that a search comes to its end
+-- ---- room: a table of class c has 2^c slots; a dict or set leaves some of them free, so that a search ends
 
 -- how many entries or items a table of a class has
 abbrev pub dict_entries : ℕ → ℕ

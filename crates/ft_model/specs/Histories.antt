@@ -18,7 +18,7 @@ use Rattle.ft_model.specs.Calls.{containers_of}
 use Rattle.ft_model.specs.declared.script.Kind.{Kind}
 use Rattle.ft_model.specs.Worlds.{kinds_of, start_hands, containers_used}
 use Rattle.ft_model.specs.Answers.{answer, world_by, is_memory, is_write}
-use Rattle.ft_model.specs.Tables.{IsEarned}
+use Rattle.ft_model.specs.TableUses.{IsEarned}
 
 -- ---- order
 
@@ -105,6 +105,32 @@ pub record IsWhole (script : ScriptParts) (entries : List Entry) : Type 0 where
 
 -- ---- sections
 
+-- what is kept of each open section of a thread, innermost first, after a call of it: a `begin` opens a section, of
+-- which this is kept, and an `end` ends the innermost one (C API, critical sections)
+abbrev pub open_sections_after : {T : Type 0} → T → Call → List T → List T
+open_sections_after opened (call.Begin first second) sections = opened ∷ sections
+open_sections_after opened call.End sections = drop 1 sections
+open_sections_after opened (call.Dict container dict_call) sections = sections
+open_sections_after opened (call.List container list_call) sections = sections
+open_sections_after opened (call.Set container set_call) sections = sections
+open_sections_after opened (call.Next cursor) sections = sections
+open_sections_after opened call.Quiesce sections = sections
+
+-- this holds for the innermost open section, where there is one
+abbrev pub IfInnermost : {T : Type 0} → List T → (T → Type 0) → Type 0
+IfInnermost [] P = Unit {0}
+IfInnermost (section ∷ sections) P = P section
+
+-- of an `end`, this holds for the section that it ends: the innermost open one
+abbrev pub IfEnds : {T : Type 0} → List T → Call → (T → Type 0) → Type 0
+IfEnds sections call.End P = IfInnermost sections P
+IfEnds sections (call.Dict container dict_call) P = Unit {0}
+IfEnds sections (call.List container list_call) P = Unit {0}
+IfEnds sections (call.Set container set_call) P = Unit {0}
+IfEnds sections (call.Next cursor) P = Unit {0}
+IfEnds sections (call.Begin first second) P = Unit {0}
+IfEnds sections call.Quiesce P = Unit {0}
+
 -- an open section: its containers, and the place of its `begin` in the history (C API, critical sections)
 pub record Section : Type 0 where
   pub containers : List ℕ
@@ -112,14 +138,8 @@ pub record Section : Type 0 where
 
 -- the open sections of a thread after a call of it, innermost first
 abbrev pub after_section : ℕ → Call → List Section → List Section
-after_section place (call.Begin first second) sections =
-    record { containers = containers_of (call.Begin first second); begun = place } ∷ sections
-after_section place call.End sections = drop 1 sections
-after_section place (call.Dict container dict_call) sections = sections
-after_section place (call.List container list_call) sections = sections
-after_section place (call.Set container set_call) sections = sections
-after_section place (call.Next cursor) sections = sections
-after_section place call.Quiesce sections = sections
+after_section place called sections =
+    open_sections_after (record { containers = containers_of called; begun = place }) called sections
 
 -- the open sections after an entry at its place, where the thread is the entry's
 abbrev pub after_numbered : ℕ → List Section → ℕ × Entry → List Section
@@ -134,21 +154,6 @@ sections_at entries thread place = fold (after_numbered thread) [] (enumerate_fr
 abbrev pub innermost : List Section → List ℕ
 innermost [] = []
 innermost (section ∷ sections) = section.containers
-
--- this holds for the innermost open section, where there is one
-abbrev pub IfInnermost : List Section → (Section → Type 0) → Type 0
-IfInnermost [] P = Unit {0}
-IfInnermost (section ∷ sections) P = P section
-
--- of an `end`, this holds for the section that it ends: the innermost open one
-abbrev pub IfEnds : List Section → Call → (Section → Type 0) → Type 0
-IfEnds sections call.End P = IfInnermost sections P
-IfEnds sections (call.Dict container dict_call) P = Unit {0}
-IfEnds sections (call.List container list_call) P = Unit {0}
-IfEnds sections (call.Set container set_call) P = Unit {0}
-IfEnds sections (call.Next cursor) P = Unit {0}
-IfEnds sections (call.Begin first second) P = Unit {0}
-IfEnds sections call.Quiesce P = Unit {0}
 
 -- whether a call names the container
 abbrev pub names : ℕ → Call → Bool

@@ -9,10 +9,10 @@ pub mod Names
 pub mod Scripts
 pub mod Worlds
 pub mod Answers
-pub mod Tables
+pub mod TableUses
 pub mod Histories
 pub mod Judging
 pub mod Numbers
 pub mod Parts
 pub mod Serials
-pub mod Changes
+pub mod TablesInOrder

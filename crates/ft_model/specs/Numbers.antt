@@ -3,7 +3,6 @@
 use Rattle.std.specs.Prelude.{◌≡◌, ◌≢◌, ℕ, Bool, true, ◌&&◌, ◌==◌, ◌+◌, ◌<◌, ◌≤◌, List, [], ◌∷◌, ◌++◌, map, fold, take, drop, length, All, Option, Some, IfSome, slice_get, if◌then◌else◌}
 use Rattle.std.specs.List.{count_by, flat_map, list_any, range_with_len}
 use Rattle.ft_model.specs.declared.call.Call.{Call}
-use Rattle.ft_model.specs.declared.call.Call.TheVariants as call
 use Rattle.ft_model.specs.declared.reply.Reply.{Reply}
 use Rattle.ft_model.specs.declared.reply.Reply.TheVariants as reply
 use Rattle.ft_model.specs.declared.content.Content.{Content}
@@ -14,8 +13,8 @@ use Rattle.ft_model.specs.declared.script.ScriptParts.{ScriptParts}
 use Rattle.ft_model.specs.Calls.{containers_of}
 use Rattle.ft_model.specs.Worlds.{kinds_of, containers_used}
 use Rattle.ft_model.specs.Answers.{answer, world_by, is_write}
-use Rattle.ft_model.specs.Tables.{IsEarned, IsFitting}
-use Rattle.ft_model.specs.Histories.{writes, entries_of, calls_of, cursors_of, names, has_call_on, is_marked, hands_by, EachAt, IsReplied, IsCountedAs, IsLegal}
+use Rattle.ft_model.specs.TableUses.{IsEarned, IsFitting}
+use Rattle.ft_model.specs.Histories.{writes, entries_of, calls_of, cursors_of, names, has_call_on, is_marked, hands_by, open_sections_after, IfEnds, EachAt, IsReplied, IsCountedAs, IsLegal}
 
 -- Here `calls` are the calls of the writes in the order of their numbers, which count from 0; `before` and `mine` are
 -- entries of one thread in its order.
@@ -47,13 +46,7 @@ is_number number entry = entry.wrote && (entry.stamp == number)
 
 -- the entries that began the sections that are open after an entry of this call, innermost first
 abbrev pub after_begins : Entry → Call → List Entry → List Entry
-after_begins entry (call.Begin first second) begins = entry ∷ begins
-after_begins entry call.End begins = drop 1 begins
-after_begins entry (call.Dict container dict_call) begins = begins
-after_begins entry (call.List container list_call) begins = begins
-after_begins entry (call.Set container set_call) begins = begins
-after_begins entry (call.Next cursor) begins = begins
-after_begins entry call.Quiesce begins = begins
+after_begins entry called begins = open_sections_after entry called begins
 
 -- those of the sections that these entries leave open
 abbrev pub begins_of : List Entry → List Entry
@@ -63,21 +56,6 @@ begins_of before = fold (λ begins entry. after_begins entry entry.call begins) 
 abbrev pub begun_containers : List Entry → List ℕ
 begun_containers [] = []
 begun_containers (begun ∷ begins) = containers_of begun.call
-
--- this holds of the innermost one, where there is one
-abbrev pub IfBegun : List Entry → (Entry → Type 0) → Type 0
-IfBegun [] P = Unit {0}
-IfBegun (begun ∷ begins) P = P begun
-
--- of an `end`, this holds of the `begin` of the section that it ends
-abbrev pub IfEndsBegin : List Entry → Call → (Entry → Type 0) → Type 0
-IfEndsBegin begins call.End P = IfBegun begins P
-IfEndsBegin begins (call.Dict container dict_call) P = Unit {0}
-IfEndsBegin begins (call.List container list_call) P = Unit {0}
-IfEndsBegin begins (call.Set container set_call) P = Unit {0}
-IfEndsBegin begins (call.Next cursor) P = Unit {0}
-IfEndsBegin begins (call.Begin first second) P = Unit {0}
-IfEndsBegin begins call.Quiesce P = Unit {0}
 
 -- an `end` says kept only where each write on the section's containers that is numbered from the `begin`'s stamp on,
 -- and below the `end`'s own, is the thread's (C API, critical sections: the locks were held all the while)
@@ -112,9 +90,9 @@ pub record IsRightAfter
   pub rises : All (λ earlier. number_after earlier ≤ entry.stamp) before
   pub wrote : entry.wrote ≡ is_write entry.call entry.reply
   pub reply : IsReplied entry.call entry.reply (plain_reply script calls before entry)
-  pub kept : IfEndsBegin (begins_of before) entry.call (λ begun. IsKeptFrom calls before begun entry.stamp entry.reply)
+  pub kept : IfEnds (begins_of before) entry.call (λ begun. IsKeptFrom calls before begun entry.stamp entry.reply)
   pub counted :
-      IfEndsBegin (begins_of before) entry.call
+      IfEnds (begins_of before) entry.call
       (λ begun. IsCountedAs (marks_since entry.thread before begun) entry.reply)
   -- a MemoryError has its cause in the writes that it knows of, and stands where a table would be taken
   pub earned : IsEarned storage script (take entry.stamp calls) before entry

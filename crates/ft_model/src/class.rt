@@ -3,7 +3,7 @@
 //! in tables go by the same rule.
 ghost use Rattle.std.specs.Prelude.{◌≡◌, ◌≤◌, ◌^◌, Some, None, IfSome, if◌then◌else◌};
 ghost use Rattle.ft_model.specs.Classes.{least_class, greatest_class, class_count, IsClass, dict_entries, set_entries, list_items, most_pairs, most_elements, most_items, class_for, dict_class, set_class, list_class};
-ghost use Rattle.ft_model.specs.Tables.{table_of, no_table, outgrows_dict, outgrows_set, list_takes, copy_takes, copy_leaves};
+ghost use Rattle.ft_model.specs.TableUses.{table_of, no_table, outgrows_dict, outgrows_set, list_takes, copy_takes, copy_leaves};
 
 use crate::table::KeptTable;
 

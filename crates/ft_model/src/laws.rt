@@ -11,10 +11,10 @@ ghost use Rattle.ft_model.specs.declared.script.ScriptParts.{ScriptParts};
 ghost use Rattle.ft_model.specs.Worlds.{IsDeclared, HasRoom};
 ghost use Rattle.ft_model.specs.Answers.{answer, world_by};
 ghost use Rattle.ft_model.specs.Classes.{least_class, class_count};
-ghost use Rattle.ft_model.specs.Tables.{StoredWorld, opened, after_stored, stored_after, takes_by, passes_cap, would_pass};
+ghost use Rattle.ft_model.specs.TableUses.{StoredWorld, empty_stored, after_stored, stored_after, takes_by, passes_cap, would_pass};
 ghost use Rattle.ft_model.specs.Histories.{writes, IsLegal};
 ghost use Rattle.ft_model.specs.Scripts.{IsScript};
-ghost use Rattle.ft_model.specs.Changes.{changed_by, AreTablesInOrder};
+ghost use Rattle.ft_model.specs.TablesInOrder.{changed_by, AreTablesInOrder};
 ghost use Rattle.ft_model.specs.Serials.{IsContent, HasFewSerials};
 
 /// Whatever calls are made, each container keeps the rule of its kind: keys and elements are
@@ -55,7 +55,7 @@ pub fn others_are_untouched()
 /// Tables that are in order stay so at each write that passes no cap, and are so at the start. Where
 /// they are in order, no container has more than the largest table holds.
 pub fn tables_stay_in_order()
-    ensures start { (kinds : List Kind) → AreTablesInOrder (opened kinds) }
+    ensures start { (kinds : List Kind) → AreTablesInOrder (empty_stored kinds) }
     ensures write { (stored : StoredWorld) (hands : List (Option Cursor)) (called : Call) →
         IsDeclared stored.world hands called → would_pass stored.world called ≡ false →
         AreTablesInOrder stored → AreTablesInOrder (after_stored stored called) }

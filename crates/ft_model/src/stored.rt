@@ -7,7 +7,7 @@ ghost use Rattle.ft_model.specs.declared.script.Kind.{Kind};
 ghost use Rattle.ft_model.specs.Answers.{answer, world_by, is_raised};
 ghost use Rattle.ft_model.specs.Calls.{can_add};
 ghost use Rattle.ft_model.specs.Classes.{IsClass, dict_entries, set_entries, list_items, most_pairs, most_elements, most_items, class_for, dict_class, set_class, list_class};
-ghost use Rattle.ft_model.specs.Tables.{stored_by, stored_newest, takes_by, takes_newest};
+ghost use Rattle.ft_model.specs.TableUses.{stored_by, stored_newest, takes_by, takes_newest};
 ghost use Rattle.ft_model.specs.Worlds.{WorldContent, HandsContent};
 
 /// What writes leave, and how many tables of a class they take, is the same by the newest write

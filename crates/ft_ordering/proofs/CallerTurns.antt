@@ -29,7 +29,7 @@ use Rattle.ft_engine.proofs.Callers.{at_hand}
 use Rattle.ft_turns.specs.Ends.{after_turns}
 use Rattle.ft_turns.specs.Orders.{ThreadState, cursor_containers, start_machine, thread_at, turn}
 use Rattle.ft_turns.proofs.MachineSteps.{turns_keep}
-use Rattle.ft_turns.proofs.Owned.{IsOwned, owned_start, owned_steps}
+use Rattle.ft_turns.proofs.LocksOnce.{IsOwned, owned_start, owned_steps}
 use Rattle.ft_ordering.specs.Standing.{AreAsMachine, IsAsFlight, IsAsThread, Standing}
 use Rattle.ft_ordering.proofs.Needed.{cursor_same, over_list}
 use Rattle.ft_ordering.proofs.TurnOutcomes.{Comes}

@@ -13,7 +13,7 @@ use Rattle.ft_bank.specs.declared.bank.Bank.{Bank}
 use Rattle.ft_bank.specs.declared.pass.Pass.{Pass}
 use Rattle.ft_bank.specs.declared.sections.OpenSection.{OpenSection}
 use Rattle.ft_bank.specs.declared.sections.Taking.{Taking}
-use Rattle.ft_bank.specs.Sections.{Stack, nothing_taken, stack_of, taken_in}
+use Rattle.ft_bank.specs.PassSections.{Stack, nothing_taken, stack_of, taken_in}
 use Rattle.ft_section.specs.declared.answers.Got.TheVariants as got
 use Rattle.ft_section.specs.declared.answers.Objects.{Objects}
 use Rattle.ft_section.specs.Floors.{got_by}
@@ -26,12 +26,12 @@ use Rattle.ft_engine.specs.Flights.{IsFlightAnswered, IsIn, AllowsCall, is_begin
 use Rattle.ft_engine.specs.Stacks.{Closes, Opens, StackAfter}
 use Rattle.ft_turns.specs.Orders.{Locking, Machine, ThreadState, answered_machine, answered_thread, cursor_containers, lower_first, next_call, sections_after, take_locks, thread_at, with_locking}
 use Rattle.ft_turns.proofs.MachineSteps.{wanted}
-use Rattle.ft_turns.proofs.Owned.{IsOwned}
+use Rattle.ft_turns.proofs.LocksOnce.{IsOwned}
 use Rattle.ft_ordering.specs.Placings.{pair_of}
 use Rattle.ft_ordering.specs.MatchingStacks.{IsAsStack}
-use Rattle.ft_ordering.proofs.Asked.{asks, asks_none, in_order, objects_pair}
-use Rattle.ft_ordering.proofs.Moments.{IsCounted, Stands, first_other, owner_after}
-use Rattle.ft_ordering.proofs.Steps.{AreTwoOf, HasAll, answers_step, begins_stack, finds_same}
+use Rattle.ft_ordering.proofs.AskedOfTries.{asks, asks_none, in_order, objects_pair}
+use Rattle.ft_ordering.proofs.TurnMoments.{IsCounted, Stands, first_other, owner_after}
+use Rattle.ft_ordering.proofs.StepsOfTries.{AreTwoOf, HasAll, answers_step, begins_stack, finds_same}
 use Rattle.ft_ordering.proofs.StackSteps.{answers, ends}
 use Rattle.ft_ordering.proofs.Taking.{Finds}
 

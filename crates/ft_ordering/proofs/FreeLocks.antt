@@ -9,7 +9,7 @@ use Rattle.ft_trace.specs.declared.View.{View}
 use Rattle.ft_trace.specs.Acts.{has_lock}
 use Rattle.ft_trace.specs.Addresses.{at, containers_in, lock_of}
 use Rattle.ft_trace.specs.Floors.{at_floor, lock_of_another}
-use Rattle.ft_trace.specs.Seats.{top}
+use Rattle.ft_trace.specs.NumberPlaces.{top}
 use Rattle.ft_trace.specs.Traces.{Event, did, forked, joined, sent, word, Possible, Valid}
 use Rattle.ft_trace.proofs.Cases.{hit, miss}
 use Rattle.ft_trace.proofs.Floored.{floor_stands}
@@ -17,7 +17,7 @@ use Rattle.ft_trace.proofs.Locks.{holder, names}
 use Rattle.ft_trace.proofs.Owners.{known_owners_stay}
 use Rattle.ft_trace.proofs.Seats.{seated}
 use Rattle.ft_bank.specs.Passes.{view}
-use Rattle.ft_bank.specs.Sections.{Stack, no_sections, noted_in, stack_of, taken_in}
+use Rattle.ft_bank.specs.PassSections.{Stack, no_sections, noted_in, stack_of, taken_in}
 use Rattle.ft_section.specs.Floors.{floor_word, owner_named}
 use Rattle.ft_section.specs.Ready.{InCall}
 use Rattle.ft_engine.specs.declared.caller.Caller.{Caller}
@@ -27,7 +27,7 @@ use Rattle.ft_engine.proofs.Callers.{some_number}
 use Rattle.ft_ordering.specs.Beginnings.{LocksOfNobodyAreFree, OneMoreOwnsNone}
 use Rattle.ft_ordering.specs.LockOwners.{owners_in}
 use Rattle.ft_ordering.proofs.PassSteps.{in_call}
-use Rattle.ft_ordering.proofs.Starting.{same_owners}
+use Rattle.ft_ordering.proofs.BeforeTurns.{same_owners}
 
 -- ---- the numbers of passes
 

@@ -12,7 +12,7 @@ use Rattle.std.proofs.lemmas.Option.{get_or_from_slice_get, slice_get_within}
 use Rattle.ft_model.specs.declared.entry.Entry.{Entry}
 use Rattle.ft_trace.specs.declared.Entry.{Entry as TraceEntry}
 use Rattle.ft_trace.specs.Acts.{seen_writes}
-use Rattle.ft_trace.specs.OwnCursors.{entry_of}
+use Rattle.ft_trace.specs.OwnCursors.{plain_entry}
 use Rattle.ft_trace.specs.OwnOrder.{number_after}
 use Rattle.ft_section.specs.declared.answers.Stamp.{Stamp}
 use Rattle.ft_bank.specs.Passes.{view}
@@ -43,7 +43,7 @@ due_pending (flight.Tried called) = refl
 due_pending (flight.Answered called said stamp) = refl
 due_pending (flight.Refused called) = refl
 
-same_stamps : (mine : List Entry) → map its_stamp (map entry_of mine) ≡ map entry_stamp mine
+same_stamps : (mine : List Entry) → map its_stamp (map plain_entry mine) ≡ map entry_stamp mine
 same_stamps [] = refl
 same_stamps (e ∷ mine) = ap (λ ss. entry_stamp e ∷ ss) (same_stamps mine)
 
@@ -52,7 +52,7 @@ pub answers_seen : (c : Caller) (mine : List Entry) → WasAnswered c mine → (
 answers_seen c mine kept k low =
     let seen = seen_writes (view c.pass) in
     let f = c.flight in
-    let own = map entry_of mine in
+    let own = map plain_entry mine in
     let moved : IsPermutation (view c.pass).entries (own ++ pending f) =
     subst (λ es. IsPermutation es (own ++ pending f)) (sym kept.0.same)
     (IsPermutation-trans (pending f ++ reverse own) (reverse own ++ pending f) (own ++ pending f) (IsPermutation-append_comm (pending f) (reverse own))

@@ -22,7 +22,7 @@ use Rattle.ft_history.proofs.FilteredParts.{key_at, passed_at}
 use Rattle.ft_history.proofs.ThreadLists.{no_entries}
 use Rattle.ft_turns.specs.Orders.{IsOrderRun, Machine, last_machine, order_of, ordered_entry, ordered_in, start_machine, thread_at, turns_of}
 use Rattle.ft_turns.specs.Ends.{places_of}
-use Rattle.ft_turns.proofs.Finishing.{turns_go_on}
+use Rattle.ft_turns.proofs.AllCallsFinish.{turns_go_on}
 use Rattle.ft_turns.proofs.MachineSteps.{IsKeptBySteps, there, turns_keep}
 use Rattle.ft_ordering.specs.RisingEntries.{AreRising}
 use Rattle.ft_ordering.specs.Runs.{AnsweredEntriesAreOrderRuns, AreAnsweredBy, entry_answered, no_entry}

@@ -10,14 +10,14 @@ use Rattle.ft_trace.specs.Floors.{at_floor}
 use Rattle.ft_bank.specs.declared.bank.Bank.{Bank}
 use Rattle.ft_bank.specs.declared.pass.Pass.{Pass}
 use Rattle.ft_bank.specs.Passes.{view}
-use Rattle.ft_bank.specs.Sections.{stack_of}
+use Rattle.ft_bank.specs.PassSections.{stack_of}
 use Rattle.ft_section.specs.Ready.{InCall, IsInCall}
 use Rattle.ft_engine.specs.declared.caller.Flight.{Flight}
 use Rattle.ft_engine.specs.declared.caller.Flight.TheVariants as flight
 use Rattle.ft_engine.specs.Answering.{StaysPass}
 use Rattle.ft_engine.specs.Flights.{IsIn}
 use Rattle.ft_ordering.specs.LockOwners.{owners_in}
-use Rattle.ft_ordering.proofs.Moments.{IsCounted, owner_after}
+use Rattle.ft_ordering.proofs.TurnMoments.{IsCounted, owner_after}
 use Rattle.ft_ordering.proofs.OwnersKnown.{owners_change}
 
 -- which locks the pass has

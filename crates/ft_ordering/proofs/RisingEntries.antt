@@ -17,10 +17,10 @@ use Rattle.ft_model.specs.declared.script.ScriptParts.{ScriptParts}
 use Rattle.ft_model.specs.Histories.{writes, entries_of, EachAt, IsWhole, IsChronicle}
 use Rattle.ft_model.specs.Numbers.{number_after, IsRightAfter, IsMarkedAfter, AreNumbered}
 use Rattle.ft_history.proofs.RightEntries.{IsLegalAt, legal_at}
-use Rattle.ft_history.proofs.Counted.{count_both, keys_in_range}
+use Rattle.ft_history.proofs.KeysOnce.{count_both, keys_in_range}
 use Rattle.ft_history.proofs.FilteredParts.{key_at, passed_at, passed_before}
-use Rattle.ft_history.proofs.Places.{filter_parts}
-use Rattle.ft_history.proofs.Stamped.{written, AreStamped, count_writes}
+use Rattle.ft_history.proofs.HistoryPlaces.{filter_parts}
+use Rattle.ft_history.proofs.StampedLists.{written, AreStamped, count_writes}
 use Rattle.ft_history.proofs.SortedStamps.{rank, at_most_one, count_parts}
 use Rattle.ft_ordering.specs.RisingEntries.{AreRising, RisingEntriesAreChronicles}
 

@@ -9,21 +9,21 @@ use Rattle.ft_bank.specs.declared.bank.Bank.{Bank}
 use Rattle.ft_bank.specs.declared.pass.Pass.{Pass}
 use Rattle.ft_bank.specs.declared.sections.OpenSection.{OpenSection}
 use Rattle.ft_bank.specs.Passes.{view}
-use Rattle.ft_bank.specs.Sections.{stack_of}
+use Rattle.ft_bank.specs.PassSections.{stack_of}
 use Rattle.ft_section.specs.Locking.{TakenUp, waiting}
 use Rattle.ft_section.specs.Locking.{with_own as keeping}
 use Rattle.ft_section.specs.Ready.{HasTop, MayResume}
-use Rattle.ft_section.specs.LockTakings.{IsTaking}
+use Rattle.ft_section.specs.LockTakings.{IsLockTaking}
 use Rattle.ft_engine.specs.Halves.{KeepsTopLower, KnewTop}
 use Rattle.ft_turns.specs.Orders.{Locking, Machine, ThreadState, finish_try, finished_thread, next_call, take_locks, thread_at, waiting_thread, with_locking}
 use Rattle.ft_turns.proofs.MachineSteps.{wanted_again}
-use Rattle.ft_turns.proofs.Owned.{IsOwned}
+use Rattle.ft_turns.proofs.LocksOnce.{IsOwned}
 use Rattle.ft_ordering.specs.LockOwners.{owners_in}
 use Rattle.ft_ordering.specs.MatchingStacks.{AreAsSections}
-use Rattle.ft_ordering.proofs.Moments.{IsCounted, Stands, owner_after}
+use Rattle.ft_ordering.proofs.TurnMoments.{IsCounted, Stands, owner_after}
 use Rattle.ft_ordering.proofs.PassSteps.{has_of}
-use Rattle.ft_ordering.proofs.Sections.{last_or_none, reverse_push}
-use Rattle.ft_ordering.proofs.Steps.{AreTwoOf, asks_top}
+use Rattle.ft_ordering.proofs.MachineSections.{last_or_none, reverse_push}
+use Rattle.ft_ordering.proofs.StepsOfTries.{AreTwoOf, asks_top}
 use Rattle.ft_ordering.proofs.TurnOutcomes.{Comes, finishes_again, waits_again}
 
 -- the last of a list
@@ -45,7 +45,7 @@ module _ (script : ScriptParts) (machine : Machine) (thread : ℕ) (called : Cal
 
   top_two : (outer : List OpenSection) (top : OpenSection) → (stack_of p).sections ≡ outer ++ top ∷ [] → AreTwoOf script top.locks.lower top.locks.upper
   top_two outer top cut =
-      let taking : IsTaking (view p).shape top.locks = all_last (λ (section : OpenSection). IsTaking (view p).shape section.locks) (stack_of p).sections outer top cut may.inside.1.sections in
+      let taking : IsLockTaking (view p).shape top.locks = all_last (λ (section : OpenSection). IsLockTaking (view p).shape section.locks) (stack_of p).sections outer top cut may.inside.1.sections in
       let low = taking.low in
       record { order = taking.order; low = omega arith }
 

@@ -7,14 +7,14 @@ use Rattle.ft_model.specs.declared.call.Call.TheVariants as call
 use Rattle.ft_model.specs.Calls.{containers_of}
 use Rattle.ft_bank.specs.declared.sections.OpenSection.{OpenSection}
 use Rattle.ft_bank.specs.declared.sections.Taking.{Taking}
-use Rattle.ft_bank.specs.Sections.{Stack, nothing_taken, suspended, taken_in}
+use Rattle.ft_bank.specs.PassSections.{Stack, nothing_taken, suspended, taken_in}
 use Rattle.ft_section.specs.Locking.{TakenUp, at_one, first_mark, marks_more, noting, waiting}
 use Rattle.ft_section.specs.Locking.{with_own as keeping}
 use Rattle.ft_turns.specs.Orders.{Locking, OpenSection as TurnSection, ThreadState, answered_thread, finished_thread, lower_first, sections_after, waiting_thread, with_locking, with_taken, without_locks}
 use Rattle.ft_turns.proofs.LockLemmas.{occ-append}
 use Rattle.ft_ordering.specs.Placings.{pair_of, times}
 use Rattle.ft_ordering.specs.MatchingStacks.{AreAsSections, IsAsStack}
-use Rattle.ft_ordering.proofs.Sections.{all_suspended, last_or_none, reverse_map, reverse_push}
+use Rattle.ft_ordering.proofs.MachineSections.{all_suspended, last_or_none, reverse_map, reverse_push}
 use Rattle.ft_ordering.proofs.Taking.{times_occ}
 
 pub times-append : (o : ℕ) (xs ys : List ℕ) → times o (xs ++ ys) ≡ times o xs + times o ys

@@ -13,13 +13,13 @@ use Rattle.ft_model.specs.declared.reply.Reply.{Reply}
 use Rattle.ft_model.specs.declared.script.ScriptParts.{ScriptParts}
 use Rattle.ft_model.specs.Histories.{calls_of}
 use Rattle.ft_model.specs.Worlds.{container_of, cursor_at}
-use Rattle.ft_history.proofs.Places.{take_next}
+use Rattle.ft_history.proofs.HistoryPlaces.{take_next}
 use Rattle.ft_trace.specs.declared.View.{View}
 use Rattle.ft_trace.specs.Acts.{seen_writes}
 use Rattle.ft_trace.specs.Addresses.{containers_in}
 use Rattle.ft_bank.specs.declared.pass.Pass.{Pass}
 use Rattle.ft_bank.specs.Passes.{shape_of, view}
-use Rattle.ft_bank.specs.Sections.{Stack, stack_of}
+use Rattle.ft_bank.specs.PassSections.{Stack, stack_of}
 use Rattle.ft_closing.specs.Numbering.{IsFor}
 use Rattle.ft_section.specs.declared.answers.Objects.{Objects}
 use Rattle.ft_section.specs.declared.answers.Objects.TheVariants.{One}
@@ -45,19 +45,19 @@ use Rattle.ft_engine.specs.Asked.{IsCallIn}
 use Rattle.ft_turns.specs.Ends.{after_turns}
 use Rattle.ft_turns.specs.Orders.{Locking, Machine, ThreadState, answered_machine, cursor_containers, finish_try, finished_thread, next_call, take_locks, thread_at, turn, waiting_thread, with_locking}
 use Rattle.ft_turns.proofs.MachineSteps.{there, wanted, wanted_again}
-use Rattle.ft_turns.proofs.Owned.{IsOwned}
+use Rattle.ft_turns.proofs.LocksOnce.{IsOwned}
 use Rattle.ft_ordering.specs.Placings.{pair_of}
 use Rattle.ft_ordering.specs.Ordered.{due, entry_stamp, stamps_of}
 use Rattle.ft_ordering.specs.LockOwners.{owners_in}
 use Rattle.ft_ordering.specs.Standing.{AreAsMachine, IsAsFlight, IsAsThread, Standing, standing_of}
 use Rattle.ft_ordering.specs.Turns.{IsTurnOf}
-use Rattle.ft_ordering.proofs.Asked.{are_low, asks, in_order}
+use Rattle.ft_ordering.proofs.AskedOfTries.{are_low, asks, in_order}
 use Rattle.ft_ordering.proofs.CallerTurns.{count_for, owned_after, walks_same}
 use Rattle.ft_ordering.proofs.FirstHalf.{answer_now, found_none, have_none, not_yet_some, own_for, own_none}
-use Rattle.ft_ordering.proofs.Moments.{IsCounted, Stands, owner_after}
+use Rattle.ft_ordering.proofs.TurnMoments.{IsCounted, Stands, owner_after}
 use Rattle.ft_ordering.proofs.PassSteps.{SameFloor, counted_of, floor_between, floor_stays, has_of, in_call, owners_then}
 use Rattle.ft_ordering.proofs.SecondHalf.{takes_up, waits_on}
-use Rattle.ft_ordering.proofs.Steps.{none_pushed}
+use Rattle.ft_ordering.proofs.StepsOfTries.{none_pushed}
 use Rattle.ft_ordering.proofs.TurnOutcomes.{Comes, IsWait, answered, waits_turn}
 use Rattle.ft_ordering.proofs.TurnForms.{again_first}
 

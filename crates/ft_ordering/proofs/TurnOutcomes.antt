@@ -6,16 +6,16 @@ use Rattle.std.specs.Option.{option_map}
 use Rattle.ft_model.specs.declared.call.Call.{Call}
 use Rattle.ft_model.specs.declared.script.ScriptParts.{ScriptParts}
 use Rattle.ft_bank.specs.declared.sections.OpenSection.{OpenSection}
-use Rattle.ft_bank.specs.Sections.{Stack, taken_in}
+use Rattle.ft_bank.specs.PassSections.{Stack, taken_in}
 use Rattle.ft_section.specs.Locking.{TakenUp, at_one, waiting}
 use Rattle.ft_section.specs.Locking.{with_own as keeping}
 use Rattle.ft_turns.specs.Orders.{Locking, Machine, ThreadState, answered_machine, answered_thread, finish_try, finished_machine, finished_thread, next_call, take_locks, thread_at, turn, waiting_machine, waiting_thread, with_locking}
 use Rattle.ft_turns.proofs.MachineSteps.{IsTry, there, wanted, wanted_again}
-use Rattle.ft_turns.proofs.Owned.{IsOwned, owned_steps}
+use Rattle.ft_turns.proofs.LocksOnce.{IsOwned, owned_steps}
 use Rattle.ft_ordering.specs.Placings.{pair_of}
-use Rattle.ft_ordering.proofs.Moments.{IsCounted, Stands, first_other, owner_after}
-use Rattle.ft_ordering.proofs.Sections.{last_or_none}
-use Rattle.ft_ordering.proofs.Steps.{AreTwoOf, IsTopOf, changed, finds_same, finishes_bare, finishes_inside, waits_step}
+use Rattle.ft_ordering.proofs.TurnMoments.{IsCounted, Stands, first_other, owner_after}
+use Rattle.ft_ordering.proofs.MachineSections.{last_or_none}
+use Rattle.ft_ordering.proofs.StepsOfTries.{AreTwoOf, IsTopOf, changed, finds_same, finishes_bare, finishes_inside, waits_step}
 use Rattle.ft_ordering.proofs.Taking.{Finds}
 use Rattle.ft_ordering.proofs.TurnForms.{answers_first, finishes_second, waits_first, waits_second}
 

@@ -7,7 +7,7 @@ use Rattle.ft_trace.specs.Acts.{floor_words, seen_writes}
 use Rattle.ft_trace.specs.Addresses.{containers_in}
 use Rattle.ft_bank.specs.declared.tokens.Tokens.{Tokens}
 use Rattle.ft_bank.specs.Passes.{shape_of, view}
-use Rattle.ft_bank.specs.Sections.{no_sections, stack_of}
+use Rattle.ft_bank.specs.PassSections.{no_sections, stack_of}
 use Rattle.ft_engine.specs.declared.caller.Caller.{Caller}
 use Rattle.ft_engine.specs.declared.engine.Engine.{Engine}
 use Rattle.ft_engine.specs.Callers.{IsCallerOf, IsFreshCaller, bank_of, pass_of, thread_of}

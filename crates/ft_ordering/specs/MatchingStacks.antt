@@ -1,7 +1,7 @@
 -- The open sections and the locks of a thread of the machine of turns, beside those that a pass keeps.
 use Rattle.std.specs.Prelude.{◌≡◌, ℕ, List, [], ◌∷◌, reverse}
 use Rattle.ft_bank.specs.declared.sections.OpenSection.{OpenSection}
-use Rattle.ft_bank.specs.Sections.{Stack, taken_in}
+use Rattle.ft_bank.specs.PassSections.{Stack, taken_in}
 use Rattle.ft_turns.specs.Orders.{OpenSection as TurnSection, ThreadState, lower_first}
 use Rattle.ft_ordering.specs.Placings.{times, pair_of}
 

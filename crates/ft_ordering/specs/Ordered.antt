@@ -1,7 +1,7 @@
 -- The order in which answers are made, by callers that take turns, and how far their numbers have come.
 use Rattle.std.specs.Prelude.{◌≡◌, ℕ, ◌+◌, ◌<◌, ◌≤◌, false, List, [], ◌∷◌, ◌++◌, length, map, Some, if◌then◌else◌, slice_get, slice_index_or}
 use Rattle.ft_model.specs.declared.entry.Entry.{Entry}
-use Rattle.ft_bank.specs.Sections.{no_sections}
+use Rattle.ft_bank.specs.PassSections.{no_sections}
 use Rattle.ft_section.specs.declared.answers.Stamp.{Stamp}
 use Rattle.ft_engine.specs.declared.caller.Flight.{Flight}
 use Rattle.ft_engine.specs.declared.caller.Flight.TheVariants as flight

@@ -13,20 +13,20 @@ use Rattle.ft_layout.specs.declared.slot.Pair.{Pair}
 use Rattle.ft_layout.specs.declared.slot.Stored.TheVariants.{Empty}
 use Rattle.ft_layout.specs.Containers.{class_mask, used_element}
 use Rattle.ft_layout.specs.Tables.{IsSetTable, UsedEntry, hash_of, is_live, set_room}
-use Rattle.ft_keys.specs.Changes.{Adds}
+use Rattle.ft_keys.specs.TableChanges.{AddsPair}
 use Rattle.ft_keys.specs.declared.walk.Way.TheVariants as way
 use Rattle.ft_trace.specs.declared.Shape.{Shape}
 use Rattle.ft_trace.specs.declared.View.{View}
 use Rattle.ft_trace.specs.Addresses.{class_of, slots}
 use Rattle.ft_trace.specs.Holds.{held, in_hand, known}
 use Rattle.ft_trace.specs.Kinds.{rows}
-use Rattle.ft_trace.specs.Words.{Picture, entry_at, entry_of}
-use Rattle.ft_trace.specs.Worlds.{ContainerState}
+use Rattle.ft_trace.specs.Pictures.{Picture, entry_offset, entry_field}
+use Rattle.ft_trace.specs.ContainerStates.{ContainerState}
 use Rattle.ft_bank.specs.declared.table.Table.{Table}
-use Rattle.ft_bank.specs.Tables.{name_of, IsTableIn}
+use Rattle.ft_bank.specs.TableNames.{name_of, IsTableIn}
 use Rattle.ft_search.proofs.Puts.{table_class}
-use Rattle.ft_adding.specs.Fresh.{IsBlank, IsFilledWith}
-use Rattle.ft_adding.proofs.Copied.{BlankHolds, blank_table}
+use Rattle.ft_adding.specs.Fresh.{HasZeroWords, IsFilledWith}
+use Rattle.ft_adding.proofs.FilledTables.{BlankHolds, blank_table}
 use Rattle.ft_parting.specs.Choosing.{HasChosen, IsChosen, apart_pair, at_serials, chosen, is_apart, serial_at}
 
 -- ---- lists
@@ -166,7 +166,7 @@ module _ (k : Shape) (s : ℕ) (from : Table) (t : ℕ) (table : Table) (first :
         has = subst (λ (x : ContainerState). HasChosen k table (mine ++ chosen (set_of x.content).elements first (take (place + 1) used)) count z) (sym other_known) (subst (λ (l : List Element). HasChosen k table (mine ++ l) count z) (sym same) (record {
           counted = c.has.counted;
           made = subst (λ (ws : List ℕ). IsSetTable k.texts (class_mask (class_of (name_of table))) (map used_element (mine ++ placed)) (0 ∷ 0 ∷ ws)) (sym hand) c.has.made;
-          versions = λ p less. ap (λ (ws : List ℕ). entry_of (slots (class_of (name_of table))) ws p 0) hand ∙ c.has.versions p less;
+          versions = λ p less. ap (λ (ws : List ℕ). entry_field (slots (class_of (name_of table))) ws p 0) hand ∙ c.has.versions p less;
         }));
       }
 
@@ -204,8 +204,8 @@ module _ (k : Shape) (s : ℕ) (from : Table) (t : ℕ) (table : Table) (first :
 
     -- its words were put
     pub chosen_more : (z : View) (put : Pair) → put.hash ≡ hash_of k.texts e.key → put.key ≡ e.key → put.value ≡ Empty → put.serial ≡ serial_at first (length placed) e.serial → held s z ≡ held s v → known s z ≡ known s v → known t z ≡ known t v
-        → Adds way.Set (class_mask (class_of (name_of table))) count put (0 ∷ 0 ∷ in_hand (name_of table) v) (0 ∷ 0 ∷ in_hand (name_of table) z)
-        → ((p : ℕ) → entry_of (slots (class_of (name_of table))) (in_hand (name_of table) z) p 0 ≡ entry_of (slots (class_of (name_of table))) (in_hand (name_of table) v) p 0)
+        → AddsPair way.Set (class_mask (class_of (name_of table))) count put (0 ∷ 0 ∷ in_hand (name_of table) v) (0 ∷ 0 ∷ in_hand (name_of table) z)
+        → ((p : ℕ) → entry_field (slots (class_of (name_of table))) (in_hand (name_of table) z) p 0 ≡ entry_field (slots (class_of (name_of table))) (in_hand (name_of table) v) p 0)
         → IsChosen k s from t table first start used mine (place + 1) (count + 1) z
     chosen_more z put hash key value serial words mine_known other_known adds versions =
         let pairs : IsSet c.next ((mine ++ placed) ++ new ∷ rest) = subst (IsSet c.next) whole c.is_set in
@@ -237,11 +237,11 @@ module _ (k : Shape) (s : ℕ) (from : Table) (t : ℕ) (table : Table) (first :
 
 -- ---- before the first entry, and after the last one
 
-pub blank_has : BlankHolds → (k : Shape) (table : Table) (v : View) → IsTableIn k table → IsBlank (class_of (name_of table)) (in_hand (name_of table) v) → HasChosen k table [] 0 v
+pub blank_has : BlankHolds → (k : Shape) (table : Table) (v : View) → IsTableIn k table → HasZeroWords (class_of (name_of table)) (in_hand (name_of table) v) → HasChosen k table [] 0 v
 blank_has holds k table v table_in blank = record {
   counted = refl;
   made = holds _ (set_room (class_mask (class_of (name_of table)))) k.texts (class_mask (class_of (name_of table))) (0 ∷ 0 ∷ in_hand (name_of table) v) (blank_table (class_of (name_of table)) (table_class k table table_in) (in_hand (name_of table) v) blank);
-  versions = λ p less. blank.zeros (entry_at (slots (class_of (name_of table))) p 0);
+  versions = λ p less. blank.zeros (entry_offset (slots (class_of (name_of table))) p 0);
 }
 
 pub has_fills : (k : Shape) (table : Table) (v : View) (set : SetContent) (count : ℕ) → IsSet set.next set.elements → HasChosen k table set.elements count v → IsFilledWith k.texts (class_of (name_of table)) (content.Set set) (in_hand (name_of table) v)

@@ -25,14 +25,14 @@ use Rattle.ft_trace.specs.declared.View.{View}
 use Rattle.ft_trace.specs.Addresses.{class_of}
 use Rattle.ft_trace.specs.Holds.{held, known}
 use Rattle.ft_trace.specs.Traces.{Possible}
-use Rattle.ft_trace.specs.Words.{Stands}
-use Rattle.ft_trace.specs.Worlds.{kind_in}
+use Rattle.ft_trace.specs.Pictures.{Stands}
+use Rattle.ft_trace.specs.ContainerStates.{kind_in}
 use Rattle.ft_trace.proofs.Known.{class_known}
 use Rattle.ft_bank.specs.declared.table.Table.{Table}
-use Rattle.ft_bank.specs.Tables.{name_of}
-use Rattle.ft_adding.specs.Growing.{KnowsKeyed}
+use Rattle.ft_bank.specs.TableNames.{name_of}
+use Rattle.ft_adding.specs.KeyGrowth.{KnowsKeyed}
 use Rattle.ft_adding.proofs.Placed.{none_used}
-use Rattle.ft_merging.proofs.Finished.{is_set}
+use Rattle.ft_merging.proofs.ThinningEnds.{is_set}
 use Rattle.ft_merging.proofs.JoinedSame.{known_bare, no_length}
 use Rattle.ft_parting.specs.Choosing.{apart_pair, is_apart}
 
@@ -127,11 +127,11 @@ module _ (texts words : List ℕ) (mask place : ℕ) where
   live_words entry None e is live = absurd (true≢false (sym live))
 
   pub gone_words : (entry : UsedEntry) (stored : Option Stored) → IsEntry word (slot_with (hash_of texts entry.key) entry.key entry.serial stored) → (a : Key) → IsKey (word 2) (word 3) a → IsTrue (is_some stored)
-  gone_words entry (Some x) is a told = refl
-  gone_words entry None is a told = absurd (kinds_apart a entry.key (sym told.kind_is ∙ is.key_is.kind_is))
+  gone_words entry (Some x) is a stated = refl
+  gone_words entry None is a stated = absurd (kinds_apart a entry.key (sym stated.kind_is ∙ is.key_is.kind_is))
 
   pub never_words : IsEntry word Never → (a : Key) → IsKey (word 2) (word 3) a → ⊥
-  never_words is a told = kind_some a (sym told.kind_is ∙ is.kind)
+  never_words is a stated = kind_some a (sym stated.kind_is ∙ is.kind)
 
 -- ---- the pair that goes to a fresh table
 

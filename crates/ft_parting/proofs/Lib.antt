@@ -1,3 +1,3 @@
 mod Chosen
 mod Choices
-pub mod Parts
+pub mod PartedSets

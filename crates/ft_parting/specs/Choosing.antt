@@ -13,9 +13,9 @@ use Rattle.ft_trace.specs.declared.View.{View}
 use Rattle.ft_trace.specs.Addresses.{class_of, slots}
 use Rattle.ft_trace.specs.Holds.{held, in_hand, known}
 use Rattle.ft_trace.specs.Kinds.{rows}
-use Rattle.ft_trace.specs.Words.{entry_of}
+use Rattle.ft_trace.specs.Pictures.{entry_field}
 use Rattle.ft_bank.specs.declared.table.Table.{Table}
-use Rattle.ft_bank.specs.Tables.{name_of}
+use Rattle.ft_bank.specs.TableNames.{name_of}
 
 -- whether an entry is there whose key the others haven't (Python manual, Set Types)
 abbrev pub is_apart : List Element → UsedEntry → Bool
@@ -49,7 +49,7 @@ pub record HasChosen (k : Shape) (table : Table) (elements : List Element) (coun
   pub made : IsSetTable k.texts (class_mask (class_of (name_of table))) (map used_element elements)
       (0 ∷ 0 ∷ in_hand (name_of table) v)
   pub versions : (p : ℕ) → p < rows kind.Set (class_of (name_of table))
-      → entry_of (slots (class_of (name_of table))) (in_hand (name_of table) v) p 0 ≡ 0
+      → entry_field (slots (class_of (name_of table))) (in_hand (name_of table) v) p 0 ≡ 0
 
 -- In a table that is fresh in the pass's hand, which has these elements at first, those of the set s are put whose
 -- entries come before this place and that the set t hasn't, with their serials or with new ones: that many elements are

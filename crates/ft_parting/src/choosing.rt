@@ -10,22 +10,22 @@ ghost use Rattle.ft_model.specs.Worlds.{set_of};
 ghost use Rattle.ft_layout.specs.Containers.{class_mask};
 ghost use Rattle.ft_layout.specs.Tables.{IsSetTable, UsedEntry, hash_of};
 ghost use Rattle.ft_layout.specs.Words.{FitsStored, entry_words};
-ghost use Rattle.ft_keys.specs.Changes.{Adds, Placed, Puts};
+ghost use Rattle.ft_keys.specs.TableChanges.{AddsPair, Placed, Puts};
 ghost use Rattle.ft_keys.specs.Ways.{room};
 ghost use Rattle.ft_keys.specs.declared.walk.Way.TheVariants as ways;
 ghost use Rattle.ft_trace.specs.Acts.{stage};
 ghost use Rattle.ft_trace.specs.Addresses.{class_of, slots};
 ghost use Rattle.ft_trace.specs.Holds.{held, in_hand, known};
 ghost use Rattle.ft_trace.specs.Kinds.{rows};
-ghost use Rattle.ft_trace.specs.Words.{entry_of};
-ghost use Rattle.ft_trace.specs.Worlds.{kind_in};
+ghost use Rattle.ft_trace.specs.Pictures.{entry_field};
+ghost use Rattle.ft_trace.specs.ContainerStates.{kind_in};
 ghost use Rattle.ft_bank.specs.Passes.{shape_of, view, IsPassOf};
-ghost use Rattle.ft_bank.specs.Sections.{stack_of};
-ghost use Rattle.ft_bank.specs.Tables.{name_of, IsTableIn};
+ghost use Rattle.ft_bank.specs.PassSections.{stack_of};
+ghost use Rattle.ft_bank.specs.TableNames.{name_of, IsTableIn};
 ghost use Rattle.ft_bank.specs.Whole.{OnlyLoaded};
 ghost use Rattle.ft_growth.specs.Adding.{OnlyFilled};
-ghost use Rattle.ft_adding.specs.Fresh.{CanFill, FreshMade, IsBlank, IsFilledWith};
-ghost use Rattle.ft_adding.specs.Growing.{KnowsKeyed};
+ghost use Rattle.ft_adding.specs.Fresh.{CanFill, FreshMade, HasZeroWords, IsFilledWith};
+ghost use Rattle.ft_adding.specs.KeyGrowth.{KnowsKeyed};
 ghost use Rattle.ft_adding.specs.Placing.{AreCounts};
 ghost use Rattle.ft_merging.specs.Parting.{parted};
 ghost use Rattle.ft_parting.specs.Choosing.{HasChosen, IsChosen, apart_pair, serial_at};
@@ -74,7 +74,7 @@ fn place_in(words: &mut FreshWords<'_>, mask: u64, fill: u64, pair: &Pair)
     ensures may { IsPassOf words.entry.now.bank.now words.exit.now.pass.now }
     ensures only { OnlyFilled (view words.entry.now.pass.now) (view words.exit.now.pass.now) }
     ensures puts { Puts FreshMade mask words.entry.now words.exit.now 7 (fill + 1) (λ before later.
-        Placed ways.Set mask fill (entry_words pair.now) before later × Adds ways.Set mask fill pair.now before later) }
+        Placed ways.Set mask fill (entry_words pair.now) before later × AddsPair ways.Set mask fill pair.now before later) }
 {
     place_new(words, Way::Set, mask, fill, pair);
 }
@@ -99,10 +99,10 @@ fn put_last(
     ensures pass { IsPassOf bank.now pass.new }
     ensures stack { stack_of pass.new ≡ stack_of pass.old }
     ensures only { OnlyFilled (view pass.old) (view pass.new) }
-    ensures adds { Adds ways.Set (class_mask table.class) fill pair.now (0 ∷ 0 ∷ in_hand (name_of table) (view pass.old))
+    ensures adds { AddsPair ways.Set (class_mask table.class) fill pair.now (0 ∷ 0 ∷ in_hand (name_of table) (view pass.old))
         (0 ∷ 0 ∷ in_hand (name_of table) (view pass.new)) }
-    ensures versions { (place : ℕ) → entry_of (slots (class_of (name_of table))) (in_hand (name_of table) (view pass.new)) place 0
-        ≡ entry_of (slots (class_of (name_of table))) (in_hand (name_of table) (view pass.old)) place 0 }
+    ensures versions { (place : ℕ) → entry_field (slots (class_of (name_of table))) (in_hand (name_of table) (view pass.new)) place 0
+        ≡ entry_field (slots (class_of (name_of table))) (in_hand (name_of table) (view pass.old)) place 0 }
 {
     calls_keep_versions();
     let mask = mask_of(table.class);
@@ -281,7 +281,7 @@ fn keep_apart(
     requires fill { fill ≡ (known s (view pass.old)).table.fill }
     requires table { IsTableIn (shape_of bank.now) table }
     requires fresh { stage (name_of table) (view pass.old).log ≡ 1 }
-    requires blank { IsBlank (class_of (name_of table)) (in_hand (name_of table) (view pass.old)) }
+    requires blank { HasZeroWords (class_of (name_of table)) (in_hand (name_of table) (view pass.old)) }
     requires room { length (those_not_in (set_of (known t (view pass.old)).content).elements
         (set_of (known s (view pass.old)).content).elements) ≤ rows kind.Set (class_of (name_of table)) }
     ensures pass { IsPassOf bank.now pass.new }

@@ -4,7 +4,7 @@ use Rattle.std.specs.Prelude.{Option}
 use Rattle.ft_trace.specs.declared.Act.{Act}
 use Rattle.ft_trace.specs.declared.Shape.{Shape}
 use Rattle.ft_trace.specs.declared.View.{View}
-use Rattle.ft_trace.specs.Addresses.{IsTable}
+use Rattle.ft_trace.specs.Addresses.{IsTableName}
 use Rattle.ft_trace.specs.Acts.{flight, goal, has_goal, owes}
 use Rattle.ft_bank.specs.Series.{noted_all}
 use Rattle.ft_bank.specs.Takings.{KeepsBut, Each}
@@ -18,7 +18,7 @@ pub collection : (v m w : View) (numbers : List ℕ) (least : Option ℕ) (acts 
     → Collected v w freed
 collection v m w numbers least acts freed idle each is first of then count givings swept =
     let shape : m.shape ≡ v.shape = first.held.shape in
-    let there : (t : ℕ) → IsTable v.shape t → IsTable m.shape t = λ t table. subst (λ (z : Shape). IsTable z t) (sym shape) table in
+    let there : (t : ℕ) → IsTableName v.shape t → IsTableName m.shape t = λ t table. subst (λ (z : Shape). IsTableName z t) (sym shape) table in
     let goals : (t : ℕ) → goal t m.log ≡ goal t v.log = λ t. ap (λ (u : View). goal t u.log) is ∙ goal_loads numbers v t in
     let has_same : (t : ℕ) → has_goal t m.log ≡ has_goal t v.log = λ t. ap (λ (u : View). has_goal t u.log) is ∙ has_loads numbers v t in record {
       numbers = numbers;

@@ -3,10 +3,10 @@ use Rattle.std.proofs.Common.{ℕ, ap, ◌∙◌, arith}
 use Rattle.ft_trace.specs.declared.View.{View}
 use Rattle.ft_trace.specs.Acts.{clear}
 use Rattle.ft_trace.specs.Ages.{all_acts}
-use Rattle.ft_trace.proofs.Places.{placed}
-use Rattle.ft_trace.proofs.Reusing.{linked}
+use Rattle.ft_trace.proofs.TablePlaces.{placed}
+use Rattle.ft_trace.proofs.FoundTables.{linked}
 use Rattle.ft_trace.proofs.Rule as rule
-use Rattle.ft_qsbr.specs.Laws.{FoundAreKept, ClearedAreNotRead}
+use Rattle.ft_qsbr.specs.ReuseLaws.{FoundAreKept, ClearedAreNotRead}
 
 pub found_kept : (v : View) → FoundAreKept v
 found_kept v t table read es id knows = (rule.found_tables_are_kept v.shape es knows.0 t table id v knows.1).0 read

@@ -2,4 +2,4 @@ pub mod Numbers
 pub mod Sweeps
 pub mod Lawful
 pub mod Collections
-pub mod Passing
+pub mod PassesStay

@@ -9,26 +9,26 @@ use Rattle.ft_trace.specs.declared.Act.{Act}
 use Rattle.ft_trace.specs.declared.Act.TheVariants.{ReadHeader, GiveTable, RaiseCount}
 use Rattle.ft_trace.specs.declared.Shape.{Shape}
 use Rattle.ft_trace.specs.declared.View.{View}
-use Rattle.ft_trace.specs.Addresses.{IsTable, class_of, number_of, free_word_of, free_bit_of}
+use Rattle.ft_trace.specs.Addresses.{IsTableName, class_of, number_of, free_word_of, free_bit_of}
 use Rattle.ft_trace.specs.Acts.{clear, flight, goal, has_goal, owes, stage, noted}
 use Rattle.ft_trace.specs.Bits.{bit}
 use Rattle.ft_trace.proofs.Addresses.{bt_low, fw_low, same_bit, table_is}
 use Rattle.ft_trace.proofs.Cases.{miss, here}
 use Rattle.ft_bank.specs.declared.table.Table.{Table}
 use Rattle.ft_bank.specs.Series.{noted_all}
-use Rattle.ft_bank.specs.Tables.{name_of, IsTableIn}
+use Rattle.ft_bank.specs.TableNames.{name_of, IsTableIn}
 use Rattle.ft_bank.specs.Takings.{KeepsBut, Each, NotTable}
 use Rattle.ft_bank.specs.declared.pass.Pass.{Pass}
 use Rattle.ft_bank.specs.Passes.{view}
 use Rattle.ft_bank.proofs.Freeing.{all_then, but_same, but_then}
-use Rattle.ft_bank.proofs.Tables.{named}
+use Rattle.ft_bank.proofs.TableAddresses.{named}
 use Rattle.ft_qsbr.specs.Collecting.{IsPast, AreGivings, given, given_next}
 use Rattle.ft_qsbr.specs.Sweeping.{bit_index, Gave, HasSeen, Swept}
 
 -- ---- bits
 
 -- two tables with one bit are one
-pub same_index : (k : Shape) (t q : ℕ) → IsTable k t → IsTable k q → bit_index t ≡ bit_index q → t ≡ q
+pub same_index : (k : Shape) (t q : ℕ) → IsTableName k t → IsTableName k q → bit_index t ≡ bit_index q → t ≡ q
 same_index k t q is it e =
     let a = bt_low t in
     let b = bt_low q in
@@ -42,14 +42,14 @@ index_word t w low less = let a = bt_low t in omega (arith, a, low, less)
 pub index_bit : (t w b : ℕ) → b < 64 → bit_index t ≡ 64 * w + b → (free_word_of t ≡ w) × (free_bit_of t ≡ b)
 index_bit t w b small e = let a = bt_low t in let same : free_word_of t ≡ w = omega (arith, a, small, e) in (same, omega (arith, same, e))
 
-pub index_low : (k : Shape) (t : ℕ) → IsTable k t → bit_index t < 64 * 224
+pub index_low : (k : Shape) (t : ℕ) → IsTableName k t → bit_index t < 64 * 224
 index_low k t is = let a = bt_low t in let b = fw_low k t is in omega (arith, a, b)
 
 -- a table of the bank by its name
 abbrev pub by_name : (t : ℕ) → Table
 by_name t = record { class = class_of t; number = number_of t }
 
-pub named_so : (k : Shape) (t : ℕ) → IsTable k t → IsTableIn k (by_name t) × (name_of (by_name t) ≡ t)
+pub named_so : (k : Shape) (t : ℕ) → IsTableName k t → IsTableIn k (by_name t) × (name_of (by_name t) ≡ t)
 named_so k t is = (is, table_is t)
 
 -- bits as code reads them
@@ -72,14 +72,14 @@ unfolding bit
 none_set n b e one = let z = ap (λ (x : ℕ). x / 2 ^ b % 2) e ∙ ap (λ (x : ℕ). x % 2) (zero-div (2 ^ b)) in let o : n / 2 ^ b % 2 ≡ 1 = one in omega (arith, z, o)
 
 -- where no bit is set that is a table's, the pass keeps none of these
-pub none_kept : (v : View) (word result : ℕ) → ((t : Table) → IsTableIn v.shape t → free_word_of (name_of t) ≡ word → has_goal (name_of t) v.log ≡ true → bit (free_bit_of (name_of t)) result ≡ 1) → (t : ℕ) → IsTable v.shape t → free_word_of t ≡ word → has_goal t v.log ≡ true → bit (free_bit_of t) result ≡ 1
+pub none_kept : (v : View) (word result : ℕ) → ((t : Table) → IsTableIn v.shape t → free_word_of (name_of t) ≡ word → has_goal (name_of t) v.log ≡ true → bit (free_bit_of (name_of t)) result ≡ 1) → (t : ℕ) → IsTableName v.shape t → free_word_of t ≡ word → has_goal t v.log ≡ true → bit (free_bit_of t) result ≡ 1
 none_kept v word result all t table w has =
     let n = named_so v.shape t table in
     subst (λ (z : ℕ). bit (free_bit_of z) result ≡ 1) n.1 (all (by_name t) n.0 (ap free_word_of n.1 ∙ w) (ap (λ (z : ℕ). has_goal z v.log) n.1 ∙ has))
 
 -- ---- sweeps
 
-pub swept_none : (least : Option ℕ) (from to : ℕ) (v : View) → ((t : ℕ) → IsTable v.shape t → from ≤ bit_index t → bit_index t < to → has_goal t v.log ≡ true → ⊥) → Swept least from to v v
+pub swept_none : (least : Option ℕ) (from to : ℕ) (v : View) → ((t : ℕ) → IsTableName v.shape t → from ≤ bit_index t → bit_index t < to → has_goal t v.log ≡ true → ⊥) → Swept least from to v v
 swept_none least from to v never = record {
   freed = λ t table low less has past. absurd (never t table low less has);
   kept = λ t table low less has past. absurd (never t table low less has);
@@ -95,7 +95,7 @@ swept_none least from to v never = record {
 pub swept_then : (least : Option ℕ) (a b c : ℕ) (u v w : View) → a ≤ b → b ≤ c → Swept least a b u v → Swept least b c v w → Swept least a c u w
 swept_then least a b c u v w one two x y =
     let shape = x.keeps.held.shape in
-    let there : (t : ℕ) → IsTable u.shape t → IsTable v.shape t = λ t table. subst (λ (z : Shape). IsTable z t) (sym shape) table in record {
+    let there : (t : ℕ) → IsTableName u.shape t → IsTableName v.shape t = λ t table. subst (λ (z : Shape). IsTableName z t) (sym shape) table in record {
       freed = λ t table low less has past.
           dite (dec_lt (bit_index t) b)
           (λ before.
@@ -127,7 +127,7 @@ pub seen_after : (least : Option ℕ) (a b : ℕ) (v w : View) → Swept least a
 seen_after least a b v w x seen t p table has past some_one low =
     let shape = x.keeps.held.shape in
     let had : has_goal t v.log ≡ true = not_false (has_goal t v.log) (λ no. true≢false (sym has ∙ x.none t no)) in
-    x.clears t p ∙ seen t p (subst (λ (z : Shape). IsTable z t) shape table) had (subst (IsPast least) (x.goals t) past) some_one (subst (λ (z : Shape). p ≤ z.passes) shape low)
+    x.clears t p ∙ seen t p (subst (λ (z : Shape). IsTableName z t) shape table) had (subst (IsPast least) (x.goals t) past) some_one (subst (λ (z : Shape). p ≤ z.passes) shape low)
   where
     not_false : (b : Bool) → (b ≡ false → ⊥) → b ≡ true
     not_false true never = refl
@@ -145,11 +145,11 @@ given_then (a ∷ xs) ys = given_more a (given xs) (given ys) (given (xs ++ ys))
 -- ---- one table
 
 module _ (k : Shape) (least : Option ℕ) (q : Table) (v w : View) (shape : v.shape ≡ k) (table : IsTableIn k q) (has : has_goal (name_of q) v.log ≡ true) where
-  own : IsTable v.shape (name_of q)
-  own = subst (λ (z : Shape). IsTable z (name_of q)) (sym shape) (named k q table)
+  own : IsTableName v.shape (name_of q)
+  own = subst (λ (z : Shape). IsTableName z (name_of q)) (sym shape) (named k q table)
 
   -- a table in the range of one bit
-  the_one : (t : ℕ) → IsTable v.shape t → bit_index (name_of q) ≤ bit_index t → bit_index t < bit_index (name_of q) + 1 → name_of q ≡ t
+  the_one : (t : ℕ) → IsTableName v.shape t → bit_index (name_of q) ≤ bit_index t → bit_index t < bit_index (name_of q) + 1 → name_of q ≡ t
   the_one t is low less = same_index v.shape (name_of q) t own is (omega (arith, low, less))
 
   not_one : (t : ℕ) → (bit_index t < bit_index (name_of q)) ⊎ (bit_index (name_of q) + 1 ≤ bit_index t) → name_of q ≢ t

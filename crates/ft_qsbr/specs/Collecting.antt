@@ -3,7 +3,7 @@ use Rattle.std.specs.Prelude.{◌≡◌, ◌⊎◌, ℕ, suc, ◌+◌, ◌≤◌
 use Rattle.ft_trace.specs.declared.Act.{Act}
 use Rattle.ft_trace.specs.declared.Act.TheVariants.{GiveTable, RaiseCount, ReadAnnounced, ReadHeader}
 use Rattle.ft_trace.specs.declared.View.{View}
-use Rattle.ft_trace.specs.Addresses.{IsTable}
+use Rattle.ft_trace.specs.Addresses.{IsTableName}
 use Rattle.ft_trace.specs.Acts.{flight, goal, has_goal, owes, stage}
 use Rattle.ft_bank.specs.Series.{noted_all}
 use Rattle.ft_bank.specs.Takings.{KeepsBut}
@@ -62,8 +62,9 @@ pub record Collected (v w : View) (freed : ℕ) : Type 0 where
   pub did : w ≡ noted_all (acts ++ loads_of numbers) v
   pub count : given acts ≡ freed
   pub givings : AreGivings acts
-  pub free : (t : ℕ) → IsTable v.shape t → has_goal t v.log ≡ true → AllPast (goal t v.log) numbers → stage t w.log ≡ 0
-  pub kept : (t : ℕ) → IsTable v.shape t → has_goal t v.log ≡ true → (AllPast (goal t v.log) numbers → ⊥)
+  pub free : (t : ℕ) → IsTableName v.shape t → has_goal t v.log ≡ true → AllPast (goal t v.log) numbers
+      → stage t w.log ≡ 0
+  pub kept : (t : ℕ) → IsTableName v.shape t → has_goal t v.log ≡ true → (AllPast (goal t v.log) numbers → ⊥)
       → (has_goal t w.log ≡ true) × (goal t w.log ≡ goal t v.log)
   pub idle : flight w.log ≡ 0
   pub owes : owes v.log ≡ 0 → owes w.log ≡ 0

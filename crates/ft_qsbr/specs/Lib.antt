@@ -1,3 +1,3 @@
 pub mod Collecting
 pub mod Sweeping
-pub mod Laws
+pub mod ReuseLaws

@@ -3,7 +3,7 @@ ghost use Rattle.std.specs.Prelude.{◌≡◌, ℕ, ◌<◌, [], ◌∷◌};
 ghost use Rattle.ft_trace.specs.declared.Act.TheVariants.{Announce, WriteNumber};
 ghost use Rattle.ft_trace.specs.Acts.{announces, debt, flight, noted};
 ghost use Rattle.ft_bank.specs.Passes.{view, IsPassOf};
-ghost use Rattle.ft_bank.specs.Sections.{stack_of};
+ghost use Rattle.ft_bank.specs.PassSections.{stack_of};
 ghost use Rattle.ft_bank.specs.Series.{DidAll};
 ghost use Rattle.ft_bank.specs.Takings.{Each, KeepsHeld};
 ghost use Rattle.ft_qsbr.specs.Collecting.{Collected};

@@ -1,6 +1,6 @@
 //! What delayed reuse promises to those who look without a lock, in what a pass knows.
 ghost use Rattle.ft_bank.specs.Passes.{view};
-ghost use Rattle.ft_qsbr.specs.Laws.{FoundAreKept, ClearedAreNotRead};
+ghost use Rattle.ft_qsbr.specs.ReuseLaws.{FoundAreKept, ClearedAreNotRead};
 
 use ft_bank::Pass;
 

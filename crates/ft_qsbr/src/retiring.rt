@@ -4,7 +4,7 @@ ghost use Rattle.ft_trace.specs.declared.Act.TheVariants.{PutHeader, Retire};
 ghost use Rattle.ft_trace.specs.Acts.{announces, debt, goal, has_goal, stage};
 ghost use Rattle.ft_bank.specs.Passes.{shape_of, view, IsPassOf};
 ghost use Rattle.ft_bank.specs.Series.{DidAll};
-ghost use Rattle.ft_bank.specs.Tables.{name_of, IsTableIn};
+ghost use Rattle.ft_bank.specs.TableNames.{name_of, IsTableIn};
 ghost use Rattle.ft_bank.specs.Takings.{KeepsHeld, NotTable};
 ghost use Rattle.ft_bank.specs.Whole.{SamePass};
 

@@ -2,7 +2,7 @@
 ghost use Rattle.std.specs.Prelude.{◌≡◌, ◌↔◌, ◌+◌, ◌*◌, ◌<◌, ◌≤◌, true, IsTrue};
 ghost use Rattle.ft_trace.specs.Acts.{flight, has_goal};
 ghost use Rattle.ft_bank.specs.Passes.{shape_of, view, IsPassOf};
-ghost use Rattle.ft_bank.specs.Tables.{name_of, IsTableIn};
+ghost use Rattle.ft_bank.specs.TableNames.{name_of, IsTableIn};
 ghost use Rattle.ft_qsbr.specs.Collecting.{IsPast};
 ghost use Rattle.ft_qsbr.specs.Sweeping.{bit_index, Gave, HasSeen, Swept};
 

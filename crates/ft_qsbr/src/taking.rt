@@ -6,7 +6,7 @@ ghost use Rattle.ft_trace.specs.declared.Act.TheVariants.{ReadCount};
 ghost use Rattle.ft_trace.specs.declared.View.{View};
 ghost use Rattle.ft_trace.specs.Acts.{flight, has_goal, owes};
 ghost use Rattle.ft_bank.specs.Passes.{shape_of, view, IsPassOf};
-ghost use Rattle.ft_bank.specs.Sections.{stack_of};
+ghost use Rattle.ft_bank.specs.PassSections.{stack_of};
 ghost use Rattle.ft_bank.specs.Series.{noted_all};
 ghost use Rattle.ft_bank.specs.Takings.{HasNotMoved, HasTook, IsTaking, KeepsBut, StaysIn};
 ghost use Rattle.ft_bank.specs.declared.takings.Took.TheVariants.{AllTaken};

@@ -8,14 +8,14 @@ use Rattle.ft_trace.specs.declared.View.{View}
 use Rattle.ft_bank.specs.declared.bank.Bank.{Bank}
 use Rattle.ft_bank.specs.declared.pass.Pass.{Pass}
 use Rattle.ft_bank.specs.Passes.{view, IsPassOf}
-use Rattle.ft_bank.specs.Sections.{stack_of}
+use Rattle.ft_bank.specs.PassSections.{stack_of}
 use Rattle.ft_section.specs.Ready.{IsMaking}
-use Rattle.ft_search.proofs.Trying.{LeavesSections}
+use Rattle.ft_search.proofs.ReadMidst.{LeavesSections}
 use Rattle.ft_growth.specs.declared.adding.Added.{Added}
 use Rattle.ft_growth.specs.declared.adding.Added.TheVariants as added
 use Rattle.ft_growth.specs.Adding.{KeepsCursors}
 use Rattle.ft_growth.proofs.Cursors.{added_cursors, given_cursors}
-use Rattle.ft_growth.proofs.Staying.{making_added, making_given}
+use Rattle.ft_growth.proofs.GrowthMidst.{making_added, making_given}
 use Rattle.ft_replacing.specs.Replacing.{IsReplaced}
 
 pub replaced_cursors : (k : Shape) (takes : Option ℕ) (called : Call) (v w : View) (what : Added) → IsReplaced k takes called v w what → KeepsCursors v w

@@ -19,12 +19,12 @@ use Rattle.ft_layout.specs.Tables as layout
 use Rattle.ft_layout.specs.Words.{IsEntry}
 use Rattle.ft_layout.proofs.TableLaws.{meets_moves}
 use Rattle.ft_trace.specs.Addresses.{slots}
-use Rattle.ft_trace.specs.Words.{entry_at}
-use Rattle.ft_search.proofs.Knowing.{after_header}
-use Rattle.ft_search.proofs.Places.{slots_of_class}
+use Rattle.ft_trace.specs.Pictures.{entry_offset}
+use Rattle.ft_search.proofs.KnownTableWords.{after_header}
+use Rattle.ft_search.proofs.WordPlaces.{slots_of_class}
 use Rattle.ft_adding.specs.Fresh.{IsFilledWith}
 use Rattle.ft_adding.specs.Placing.{counted}
-use Rattle.ft_adding.proofs.Copied.{word_here}
+use Rattle.ft_adding.proofs.FilledTables.{word_here}
 use Rattle.ft_adding.proofs.Placed.{counted_head}
 use Rattle.ft_replacing.specs.Replacing.{renumbered}
 
@@ -32,22 +32,22 @@ use Rattle.ft_replacing.specs.Replacing.{renumbered}
 
 pub numbered_long : (n next count : ℕ) (words : List ℕ) → length (renumbered n next count words) ≡ length words
 numbered_long n next zero words = refl
-numbered_long n next (suc p) words = length-set (renumbered n next p words) (entry_at n p 6) (next + p) ∙ numbered_long n next p words
+numbered_long n next (suc p) words = length-set (renumbered n next p words) (entry_offset n p 6) (next + p) ∙ numbered_long n next p words
 
 -- a word that is no serial of theirs
-pub numbered_other : (n next count : ℕ) (words : List ℕ) (i : ℕ) → ((p : ℕ) → p < count → i ≢ entry_at n p 6) → slice_index (renumbered n next count words) i ≡ slice_index words i
+pub numbered_other : (n next count : ℕ) (words : List ℕ) (i : ℕ) → ((p : ℕ) → p < count → i ≢ entry_offset n p 6) → slice_index (renumbered n next count words) i ≡ slice_index words i
 numbered_other n next zero words i ne = refl
-numbered_other n next (suc p) words i ne = get_or-set_other (renumbered n next p words) (entry_at n p 6) i (next + p) 0 (ne p (omega arith)) ∙ numbered_other n next p words i (λ q low. ne q (omega (arith, low)))
+numbered_other n next (suc p) words i ne = get_or-set_other (renumbered n next p words) (entry_offset n p 6) i (next + p) 0 (ne p (omega arith)) ∙ numbered_other n next p words i (λ q low. ne q (omega (arith, low)))
 
 -- a serial
-pub numbered_here : (n next count : ℕ) (words : List ℕ) (p : ℕ) → p < count → entry_at n p 6 < length words → slice_index (renumbered n next count words) (entry_at n p 6) ≡ next + p
+pub numbered_here : (n next count : ℕ) (words : List ℕ) (p : ℕ) → p < count → entry_offset n p 6 < length words → slice_index (renumbered n next count words) (entry_offset n p 6) ≡ next + p
 numbered_here n next zero words p low inside = absurd (omega (arith, low))
 numbered_here n next (suc q) words p low inside = elim (cases_eq p q) [
   | inl e ↦
       let long = numbered_long n next q words in
-      ap (λ (z : ℕ). slice_index (renumbered n next (suc q) words) (entry_at n z 6)) e
-      ∙ (get_or-set_same (renumbered n next q words) (entry_at n q 6) (next + q) 0 (omega (arith, e, long, inside)) ∙ ap (λ (z : ℕ). next + z) (sym e))
-  | inr ne ↦ get_or-set_other (renumbered n next q words) (entry_at n q 6) (entry_at n p 6) (next + q) 0 (λ e. absurd (ne (omega (arith, e)))) ∙ numbered_here n next q words p (omega (arith, low, ne)) inside
+      ap (λ (z : ℕ). slice_index (renumbered n next (suc q) words) (entry_offset n z 6)) e
+      ∙ (get_or-set_same (renumbered n next q words) (entry_offset n q 6) (next + q) 0 (omega (arith, e, long, inside)) ∙ ap (λ (z : ℕ). next + z) (sym e))
+  | inr ne ↦ get_or-set_other (renumbered n next q words) (entry_offset n q 6) (entry_offset n p 6) (next + q) 0 (λ e. absurd (ne (omega (arith, e)))) ∙ numbered_here n next q words p (omega (arith, low, ne)) inside
 ]
 
 -- ---- used entries
@@ -113,7 +113,7 @@ module _ (texts : List ℕ) (class next : ℕ) (is_class : IsClass class) (words
   word_same : (place w : ℕ) → w < 8 → w ≢ 6 → entry_word mask (0 ∷ 0 ∷ words) place w ≡ entry_word mask (0 ∷ 0 ∷ made) place w
   word_same place w few ne =
       word_here class words place w
-      ∙ (sym (numbered_other n next (length pairs) words (entry_at n place w) (λ p low e. ne (omega (arith, e, few)))) ∙ sym (word_here class made place w))
+      ∙ (sym (numbered_other n next (length pairs) words (entry_offset n place w) (λ p low e. ne (omega (arith, e, few)))) ∙ sym (word_here class made place w))
 
   index_same : (slot : ℕ) → slot ≤ mask → index_word (0 ∷ 0 ∷ made) slot ≡ index_word (0 ∷ 0 ∷ words) slot
   index_same slot low =
@@ -210,5 +210,5 @@ numbered_filled texts class next is_class words pairs given is filled =
                   omega (arith, s, more);
             };
           };
-      versions = λ place low. numbered_other (slots class) next count words (entry_at (slots class) place 0) (λ p less e. absurd (omega (arith, e))) ∙ filled.versions place low;
+      versions = λ place low. numbered_other (slots class) next count words (entry_offset (slots class) place 0) (λ p less e. absurd (omega (arith, e))) ∙ filled.versions place low;
     }

@@ -12,7 +12,7 @@ use Rattle.ft_model.specs.declared.reply.Reply.TheVariants as reply
 use Rattle.ft_model.specs.declared.script.Kind.TheVariants as kind
 use Rattle.ft_model.specs.Classes.{dict_class, dict_entries, most_pairs}
 use Rattle.ft_model.specs.Contents.{DictContent, dict_copy, pairs_from}
-use Rattle.ft_model.specs.Tables.{StoredWorld, TableUse, copy_takes, no_table}
+use Rattle.ft_model.specs.TableUses.{StoredWorld, TableUse, copy_takes, no_table}
 use Rattle.ft_model.specs.Worlds.{kind_of}
 use Rattle.ft_model.proofs.ClassRooms.{dict_fits}
 use Rattle.ft_model.proofs.KnownKeys.{length-filter-le}
@@ -24,9 +24,9 @@ use Rattle.ft_trace.specs.declared.View.{View}
 use Rattle.ft_trace.specs.Acts.{has_lock}
 use Rattle.ft_trace.specs.Addresses.{places}
 use Rattle.ft_trace.specs.Kinds.{rows}
-use Rattle.ft_trace.specs.Worlds.{ContainerState}
-use Rattle.ft_bank.specs.Writes.{MayHave}
-use Rattle.ft_search.specs.Writing.{Leaves}
+use Rattle.ft_trace.specs.ContainerStates.{ContainerState}
+use Rattle.ft_bank.specs.WriteSteps.{MayHave}
+use Rattle.ft_search.specs.OneEntryWrites.{Leaves}
 use Rattle.ft_keyed.specs.Clearing.{cleared_kept}
 use Rattle.ft_replacing.specs.Replacing.{Replaces}
 

@@ -12,13 +12,13 @@ use Rattle.ft_trace.specs.declared.Shape.{Shape}
 use Rattle.ft_trace.specs.declared.View.{View}
 use Rattle.ft_trace.specs.Acts.{debt, debt_next, is_writing, noted, seen_writes, shown, stage, stage_next}
 use Rattle.ft_trace.specs.Holds.{held, known}
-use Rattle.ft_trace.specs.Words.{root_in, Stands}
-use Rattle.ft_trace.specs.Worlds.{changes}
+use Rattle.ft_trace.specs.Pictures.{root_in, Stands}
+use Rattle.ft_trace.specs.ContainerStates.{changes}
 use Rattle.ft_trace.proofs.Cases.{hit, miss}
 use Rattle.ft_trace.proofs.Untouched.{untouched_in}
 use Rattle.ft_bank.specs.Whole.{OnlyPut, Wrote}
-use Rattle.ft_bank.specs.Writes.{Committed, KeepsUnwritten}
-use Rattle.ft_bank.proofs.Whole.{work_knows}
+use Rattle.ft_bank.specs.WriteSteps.{Committed, KeepsUnwritten}
+use Rattle.ft_bank.proofs.KnownAfterWrites.{work_knows}
 
 module _ (called : Call) (said : Reply) (number f t g : ℕ) (snap : Snap) (v u : View) where
   abbrev at : ℕ

@@ -8,7 +8,7 @@ use Rattle.ft_model.specs.declared.content.Content.{Content}
 use Rattle.ft_model.specs.declared.reply.Reply.TheVariants as reply
 use Rattle.ft_model.specs.declared.script.Kind.{Kind}
 use Rattle.ft_model.specs.Classes.{IsClass}
-use Rattle.ft_model.specs.Tables.{StoredWorld}
+use Rattle.ft_model.specs.TableUses.{StoredWorld}
 use Rattle.ft_model.specs.Worlds.{kind_of, length_of, serial_of}
 use Rattle.ft_layout.specs.Containers.{IsBlock, StandsAs}
 use Rattle.ft_trace.specs.declared.Act.TheVariants.{Commit, PutRoot, StartWrite, StopWrite}
@@ -16,29 +16,29 @@ use Rattle.ft_trace.specs.declared.Shape.{Shape}
 use Rattle.ft_trace.specs.declared.Snap.{Snap}
 use Rattle.ft_trace.specs.declared.View.{View}
 use Rattle.ft_trace.specs.Acts.{has_committed, has_lock, is_writing, mem, noted, owes, seen_writes, stage}
-use Rattle.ft_trace.specs.Addresses.{containers_in, class_of, size, at, block, cell, IsTable}
+use Rattle.ft_trace.specs.Addresses.{containers_in, class_of, size, at, block, cell, IsTableName}
 use Rattle.ft_trace.specs.Holds.{held, in_hand, known}
 use Rattle.ft_trace.specs.Kinds.{IsKeyed, rows, version_at, SoundAs}
-use Rattle.ft_trace.specs.Openings.{Shut}
+use Rattle.ft_trace.specs.OddVersions.{Shut}
 use Rattle.ft_trace.specs.Traces.{Possible}
-use Rattle.ft_trace.specs.Words.{Picture, root_in, Stands}
-use Rattle.ft_trace.specs.Worlds.{ContainerState, changes, kind_in}
+use Rattle.ft_trace.specs.Pictures.{Picture, root_in, Stands}
+use Rattle.ft_trace.specs.ContainerStates.{ContainerState, changes, kind_in}
 use Rattle.ft_trace.proofs.Addresses.{at_apart}
 use Rattle.ft_trace.proofs.Cases.{hit, miss}
 use Rattle.ft_trace.proofs.DictWrites.{FirstEntriesArePairs}
 use Rattle.ft_trace.proofs.Pieces.{table_same}
 use Rattle.ft_trace.proofs.SetKnown.{FirstEntriesAreElements}
 use Rattle.ft_bank.specs.declared.table.Table.{Table}
-use Rattle.ft_bank.specs.Tables.{name_of}
+use Rattle.ft_bank.specs.TableNames.{name_of}
 use Rattle.ft_bank.specs.Whole.{OnlyPut, Wrote}
-use Rattle.ft_bank.specs.Writes.{Committed, IsShut, KeepsUnwritten, MayCommit, MayHave, MayPutRoot, with_root}
-use Rattle.ft_bank.proofs.Tables.{named}
-use Rattle.ft_bank.proofs.Whole.{work_knows}
+use Rattle.ft_bank.specs.WriteSteps.{Committed, IsShut, KeepsUnwritten, MayCommit, MayHave, MayPutRoot, with_root}
+use Rattle.ft_bank.proofs.TableAddresses.{named}
+use Rattle.ft_bank.proofs.KnownAfterWrites.{work_knows}
 use Rattle.ft_search.proofs.Calling.{plain_replied}
 use Rattle.ft_search.proofs.Changing.{kind_is, shut_known}
 use Rattle.ft_search.proofs.Puts.{keyed_version, table_class}
 use Rattle.ft_adding.specs.Fresh.{IsFilledWith}
-use Rattle.ft_adding.specs.Growing.{MayGrow}
+use Rattle.ft_adding.specs.KeyGrowth.{MayGrowKeyed}
 use Rattle.ft_adding.specs.Placing.{counted}
 use Rattle.ft_adding.proofs.Keyed.{Heads}
 use Rattle.ft_adding.proofs.Placed.{counted_head, kind_shut, use_with}
@@ -61,7 +61,7 @@ no_root b class count fill next h =
     }
 
 -- a root that is put leaves the words of a table
-hand_stays : (k : Shape) (o t x : ℕ) (ws : List ℕ) → o < containers_in k → IsTable k t → (i : ℕ) → i < size (class_of t) → slice_index (slice_set ws (at k (block o 0)) x) (at k (cell t i)) ≡ slice_index ws (at k (cell t i))
+hand_stays : (k : Shape) (o t x : ℕ) (ws : List ℕ) → o < containers_in k → IsTableName k t → (i : ℕ) → i < size (class_of t) → slice_index (slice_set ws (at k (block o 0)) x) (at k (cell t i)) ≡ slice_index ws (at k (cell t i))
 hand_stays k o t x ws low table i small =
     get_or-set_other ws (at k (block o 0)) (at k (cell t i)) x 0
     (λ e. let same = at_apart k (cell t i) (block o 0) (table, small) (low, omega arith) e in absurd (cc))
@@ -72,7 +72,7 @@ pub record Swapping (k : Shape) (o : ℕ) (old : Option Table) (table : Table) (
   pub first_pair : FirstEntriesArePairs
   pub first_element : FirstEntriesAreElements
   pub heads : Heads
-  pub may : MayGrow k o old table v
+  pub may : MayGrowKeyed k o old table v
   pub shape : v.shape ≡ k
   pub possible : ∥ Possible v ∥₁
   pub other : root_in (held o v) ≢ suc (name_of table)
@@ -84,7 +84,7 @@ pub record Swapping (k : Shape) (o : ℕ) (old : Option Table) (table : Table) (
   pub root_held : held o r ≡ with_root (held o s) None s
 
 -- 0 may be put into the root
-pub may_put_none : (k : Shape) (o : ℕ) (old : Option Table) (table : Table) (v s : View) (f : ℕ) → v.shape ≡ k → ∥ Possible v ∥₁ → MayGrow k o old table v → s ≡ noted (StartWrite o f) v → MayPutRoot s o None
+pub may_put_none : (k : Shape) (o : ℕ) (old : Option Table) (table : Table) (v s : View) (f : ℕ) → v.shape ≡ k → ∥ Possible v ∥₁ → MayGrowKeyed k o old table v → s ≡ noted (StartWrite o f) v → MayPutRoot s o None
 may_put_none k o old table v s f shape possible may is =
     let kind_v : kind_of (known o v).content ≡ kind_in v.shape.kinds o = kind_is k v o shape possible may.keyed.locked ∙ sym (ap (λ (z : Shape). kind_in z.kinds o) shape) in
     subst (λ (u : View). MayPutRoot u o None) (sym is)
@@ -207,7 +207,7 @@ module _ (k : Shape) (o : ℕ) (old : Option Table) (table : Table) (called : Ca
     hand_then =
         ap (λ (z : View). in_hand t z) all_made
         ∙ table_same v.shape t (slice_set (mem v.shape v.log) (at v.shape (block o 0)) 0) (mem v.shape v.log)
-        (hand_stays v.shape o t 0 (mem v.shape v.log) (subst (λ (z : Shape). o < containers_in z) (sym e.shape) e.may.keyed.container) (subst (λ (z : Shape). IsTable z t) (sym e.shape) (named k table e.may.table_in)))
+        (hand_stays v.shape o t 0 (mem v.shape v.log) (subst (λ (z : Shape). o < containers_in z) (sym e.shape) e.may.keyed.container) (subst (λ (z : Shape). IsTableName z t) (sym e.shape) (named k table e.may.table_in)))
 
     fresh_then : stage t c.log ≡ 1
     fresh_then =

@@ -7,21 +7,21 @@ use Rattle.ft_model.specs.declared.content.Content.TheVariants as content
 use Rattle.ft_model.specs.declared.reply.Reply.TheVariants as reply
 use Rattle.ft_model.specs.Answers.{is_write}
 use Rattle.ft_model.specs.Contents.{dict_copy}
-use Rattle.ft_model.specs.Tables.{StoredWorld, CanLackMemory, TableUse, no_table, taken, takes_in, would_pass, after_stored}
+use Rattle.ft_model.specs.TableUses.{StoredWorld, CanLackMemory, TableUse, no_table, taken, takes_in, would_pass, after_stored}
 use Rattle.ft_model.specs.Worlds.{length_of, no_hands, IsDeclared}
 use Rattle.ft_trace.specs.declared.Shape.{Shape}
 use Rattle.ft_trace.specs.declared.View.{View}
 use Rattle.ft_trace.specs.FitCalls.{FitsCall}
-use Rattle.ft_trace.specs.Sections.{HasLocksOf}
-use Rattle.ft_trace.specs.Words.{entry_at}
-use Rattle.ft_trace.specs.Worlds.{state_at, changes, may_empty}
+use Rattle.ft_trace.specs.BegunSections.{HasLocksOf}
+use Rattle.ft_trace.specs.Pictures.{entry_offset}
+use Rattle.ft_trace.specs.ContainerStates.{state_at, changes, may_empty}
 use Rattle.ft_bank.specs.Whole.{OnlyLoaded}
-use Rattle.ft_bank.specs.Writes.{MayHave}
+use Rattle.ft_bank.specs.WriteSteps.{MayHave}
 use Rattle.ft_growth.specs.declared.adding.Added.{Added}
 use Rattle.ft_growth.specs.declared.adding.Added.TheVariants as added
 use Rattle.ft_growth.specs.Adding.{IsAdded}
-use Rattle.ft_search.specs.Calls.{IsReplyTo}
-use Rattle.ft_keyed.specs.Clearing.{IsCleared}
+use Rattle.ft_search.specs.MadeCalls.{IsReplyTo}
+use Rattle.ft_list.specs.Clears.{IsCleared}
 
 -- what a dict has that gets a copy of another one (profile); nothing else does
 abbrev pub copied : Content → Content → Content
@@ -31,7 +31,7 @@ copied given others = given
 -- the words of a table with n index slots once its first entries have serials from this one on (profile)
 abbrev pub renumbered : ℕ → ℕ → ℕ → List ℕ → List ℕ
 renumbered n next zero words = words
-renumbered n next (suc p) words = slice_set (renumbered n next p words) (entry_at n p 6) (next + p)
+renumbered n next (suc p) words = slice_set (renumbered n next p words) (entry_offset n p 6) (next + p)
 
 -- the table of a container that took a class, if it did, for that many pairs or elements
 abbrev pub replaced_table : Option ℕ → ℕ → TableUse

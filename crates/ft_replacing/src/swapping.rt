@@ -6,14 +6,14 @@ ghost use Rattle.ft_model.specs.Worlds.{kind_of, length_of, serial_of};
 ghost use Rattle.ft_trace.specs.Acts.{is_writing};
 ghost use Rattle.ft_trace.specs.Addresses.{containers_in, class_of};
 ghost use Rattle.ft_trace.specs.Holds.{held, in_hand};
-ghost use Rattle.ft_trace.specs.Words.{root_in};
-ghost use Rattle.ft_trace.specs.Worlds.{kind_in};
+ghost use Rattle.ft_trace.specs.Pictures.{root_in};
+ghost use Rattle.ft_trace.specs.ContainerStates.{kind_in};
 ghost use Rattle.ft_bank.specs.Passes.{shape_of, view, IsPassOf};
-ghost use Rattle.ft_bank.specs.Sections.{stack_of};
-ghost use Rattle.ft_bank.specs.Tables.{name_of};
+ghost use Rattle.ft_bank.specs.PassSections.{stack_of};
+ghost use Rattle.ft_bank.specs.TableNames.{name_of};
 ghost use Rattle.ft_bank.specs.Whole.{OnlyPut, Wrote};
 ghost use Rattle.ft_adding.specs.Fresh.{IsFilledWith};
-ghost use Rattle.ft_adding.specs.Growing.{MayGrow};
+ghost use Rattle.ft_adding.specs.KeyGrowth.{MayGrowKeyed};
 ghost use Rattle.ft_adding.specs.Placing.{counted};
 ghost use Rattle.ft_replacing.specs.Replacing.{Replaces};
 
@@ -52,7 +52,7 @@ pub fn swap_table(
     called: &Call,
 ) -> u64
     requires pass { IsPassOf bank.now pass.old }
-    requires may { MayGrow (shape_of bank.now) o old table (view pass.old) }
+    requires may { MayGrowKeyed (shape_of bank.now) o old table (view pass.old) }
     requires other { root_in (held o (view pass.old)) ≢ suc (name_of table) }
     requires gets { (left : Content) × (kind_of left ≡ kind_in (shape_of bank.now).kinds o)
         × (count ≡ length_of left) × (next ≡ serial_of left)

@@ -9,7 +9,7 @@ use Rattle.std.proofs.lemmas.List.{append_cancel_right, length-append, length-ma
 use Rattle.std.proofs.lemmas.Option.{none-some, same_Some, slice_get-get_or, slice_get-map, slice_get_past, slice_get_within}
 use Rattle.std.proofs.lemmas.Slice.Eq.{bytes_eq-Decides}
 use Rattle.std.proofs.lemmas.Slice.Zip.{get_or-zip, length-zip}
-use Rattle.ft_history.proofs.Places.{take_next}
+use Rattle.ft_history.proofs.HistoryPlaces.{take_next}
 use Rattle.ft_model.specs.declared.content.Content.{Content}
 use Rattle.ft_model.specs.declared.script.Declaration.{Declaration}
 use Rattle.ft_model.specs.declared.script.ScriptParts.{ScriptParts}

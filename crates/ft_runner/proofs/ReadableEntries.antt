@@ -30,7 +30,7 @@ use Rattle.ft_model.specs.declared.script.Kind.{Kind}
 use Rattle.ft_model.specs.declared.script.ScriptParts.{ScriptParts}
 use Rattle.ft_model.specs.declared.script.Thread.{Thread}
 use Rattle.ft_model.specs.Answers.{answer, is_memory, shows}
-use Rattle.ft_model.specs.Tables.{IsEarnedReply}
+use Rattle.ft_model.specs.TableUses.{IsEarnedReply}
 use Rattle.ft_model.specs.Worlds.{kinds_of, list_at}
 use Rattle.ft_model.specs.Histories.{calls_of, cursors_of, entries_of, has_call_on, hands_at, names, needs_at, writes, world_at, IsAnswered, IsLegal, IsReplied}
 use Rattle.ft_model.specs.Judging.{IsNext}
@@ -47,7 +47,7 @@ use Rattle.ft_script.specs.Transcripts.{counts, counts_dict, counts_list, counts
 use Rattle.ft_turns.specs.Internal.Counting.{counted_in}
 use Rattle.ft_turns.specs.ShortReplies.{HasShortReply, IsShortReply}
 use Rattle.ft_turns.proofs.AnswerFacts.{plain_answer}
-use Rattle.ft_turns.proofs.CallFacts.{is_counting, is_counting_dict, is_counting_list, is_counting_set, IsCallBy, IsDictCallBy, IsListCallBy, IsSetCallBy}
+use Rattle.ft_turns.proofs.CallParts.{is_counting, is_counting_dict, is_counting_list, is_counting_set, IsCallBy, IsDictCallBy, IsListCallBy, IsSetCallBy}
 use Rattle.ft_turns.proofs.ContentFacts.{GoTogether, IsReplyBy}
 use Rattle.ft_turns.proofs.Going.{asked_of}
 use Rattle.ft_runner.specs.Findings.{stored}

@@ -19,12 +19,12 @@ use Rattle.ft_model.specs.declared.script.ScriptParts.{ScriptParts}
 use Rattle.ft_model.specs.Histories.{writes, world_at, IsLegal}
 use Rattle.ft_model.specs.Numbers.{AreFitting, IsHistoryOf}
 use Rattle.ft_model.specs.Parts.{IsEntryOf, IsWorldOf}
-use Rattle.ft_model.specs.Tables.{stored_after, takes_in, IsFittingReply, StoredWorld}
+use Rattle.ft_model.specs.TableUses.{stored_after, takes_in, IsFittingReply, StoredWorld}
 use Rattle.ft_script.specs.ReadScripts.{read_script}
 use Rattle.ft_script.specs.Transcripts.{IsReadable}
 use Rattle.ft_script.proofs.ReadScripts.{script_read, script_wide}
 use Rattle.ft_turns.specs.ShortReplies.{HasShortReply}
-use Rattle.ft_turn_runs.specs.Seats.{IsOrderRunFor}
+use Rattle.ft_turn_runs.specs.OrderedHistories.{IsOrderRunFor}
 use Rattle.ft_runner.specs.declared.command.Subcommand.{Subcommand}
 use Rattle.ft_runner.specs.declared.command.Subcommand.TheVariants as subcommand
 use Rattle.ft_runner.proofs.ReadableEntries.{readable_entries, short_entries}

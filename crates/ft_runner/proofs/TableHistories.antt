@@ -25,13 +25,13 @@ use Rattle.ft_model.specs.Classes.{most_elements, most_items, most_pairs}
 use Rattle.ft_model.specs.Contents.{empty_dict, empty_set}
 use Rattle.ft_model.specs.Histories.{entries_of, hands_at, is_marked, marks_between, sections_at, writes, world_at, IfEnds, IfInnermost, IsAnswered, IsCountedBy, IsLegal, IsReplied, Section}
 use Rattle.ft_model.specs.Scripts.{IsScript}
-use Rattle.ft_model.specs.Tables.{passes_cap, stored_after, stored_by, would_pass, IsEarnedReply}
+use Rattle.ft_model.specs.TableUses.{passes_cap, stored_after, stored_by, would_pass, IsEarnedReply}
 use Rattle.ft_model.specs.Worlds.{dict_of, kinds_of, list_of, set_of}
 use Rattle.ft_model.proofs.LegalTables.{order-legal}
 use Rattle.ft_model.proofs.StoredLaws.{stored_world}
 use Rattle.ft_model.proofs.TableOrder.{order-caps}
 use Rattle.ft_history.proofs.Matching.{match_of, section_ended}
-use Rattle.ft_history.proofs.Places.{writes_before}
+use Rattle.ft_history.proofs.HistoryPlaces.{writes_before}
 use Rattle.ft_history.proofs.Unbroken.{next_of_legal}
 use Rattle.ft_turns.specs.Internal.Counting.{counted_in}
 use Rattle.ft_turns.specs.ShortReplies.{IsShortReply}

@@ -23,7 +23,7 @@ use Rattle.ft_model.specs.Scripts.{IsKeyOf, IsValueOf, NamesOf}
 use Rattle.ft_model.specs.Worlds.{empty_content, kind_of, kinds_of, no_hands, start_world}
 use Rattle.ft_history.proofs.StartLemmas.{kinds_at_start}
 use Rattle.ft_turns.proofs.AnswerFacts.{IsAny, contents_of, plain_answer, strings_together}
-use Rattle.ft_turns.proofs.CallFacts.{IsCallBy, strings_of}
+use Rattle.ft_turns.proofs.CallParts.{IsCallBy, strings_of}
 use Rattle.ft_turns.proofs.ContentFacts.{GoTogether, IsContentBy, IsElementBy, IsPairBy}
 use Rattle.ft_turns.proofs.Going.{asked_of}
 use Rattle.ft_runner.specs.Findings.{stored}

@@ -15,7 +15,7 @@ use Rattle.ft_script.specs.Faults.{kind_text}
 use Rattle.ft_script.specs.Generator.{made_text}
 use Rattle.ft_script.specs.ReadScripts.{read_script}
 use Rattle.ft_script.specs.Texts.{transcript}
-use Rattle.ft_turn_runs.specs.Seats.{IsOrderRunFor}
+use Rattle.ft_turn_runs.specs.OrderedHistories.{IsOrderRunFor}
 use Rattle.ft_turns.specs.ShortReplies.{HasShortReply}
 use Rattle.ft_workers.specs.ClosedHistories.{HasEntriesOf}
 use Rattle.ft_workers.specs.Workers.{IsBankFor}

@@ -6,7 +6,7 @@ ghost use Rattle.ft_runner.specs.declared.command.Subcommand.TheVariants as subc
 ghost use Rattle.ft_runner.specs.Internal.ScriptRuns.{IsRunOf};
 ghost use Rattle.ft_runner.specs.Reports.{ComesTo, MeansRun};
 ghost use Rattle.ft_script.specs.ReadScripts.{read_script};
-ghost use Rattle.ft_turn_runs.specs.Seats.{IsOrderRunFor};
+ghost use Rattle.ft_turn_runs.specs.OrderedHistories.{IsOrderRunFor};
 ghost use Rattle.ft_workers.specs.ClosedHistories.{HasEntriesOf};
 ghost use Rattle.ft_workers.specs.Workers.{IsBankFor};
 ghost use Rattle.std.specs.Prelude.{◌≡◌, ℕ, List, IfOk, Ok};

@@ -35,11 +35,11 @@ use Rattle.ft_script.specs.Drafts.{Draft}
 use Rattle.ft_script.specs.declared.fault.Fault.{Fault}
 use Rattle.ft_script.specs.declared.forms.Argument.{Argument}
 use Rattle.ft_script.specs.declared.forms.Argument.TheVariants as argument
-use Rattle.ft_script.specs.Arguments.{symbol_of, index_of, key_of, value_of, container_of, same_kind, other_of, cursor_of, made_cursor_of, nothing_in, key_in, key_and_value_of, key_and_value_in, value_in, index_in, some_index_in, two_indices_of, two_indices_in, index_and_value_of, index_and_value_in, other_in, made_cursor_in, cursor_in, two_containers_of, section_in}
+use Rattle.ft_script.specs.Arguments.{read_symbol, read_index, read_key, read_value, read_container, same_kind, read_other, read_cursor, read_made_cursor, just_nothing, just_key, read_key_and_value, just_key_and_value, just_value, just_index, just_some_index, read_two_indices, just_two_indices, read_index_and_value, just_index_and_value, just_other, just_made_cursor, just_cursor, read_two_containers, just_section}
 use Rattle.ft_script.specs.CallWords.{call_word_of, call_word_text, operation_text}
 use Rattle.ft_script.specs.Drafts.{◌>>=◌, container_place, draft_at, text_place}
 use Rattle.ft_script.specs.Forms.{IsArgumentOf, call_form}
-use Rattle.ft_script.specs.ScriptLines.{dict_call, list_call, set_call, call_at, container_call, call_of, call_in}
+use Rattle.ft_script.specs.ScriptLines.{dict_call, list_call, set_call, call_at, container_call, read_call, just_call}
 use Rattle.ft_script.specs.Texts.{quoted, key_text, value_text, container_name, cursor_name, argument_text, call_words}
 use Rattle.ft_script.specs.Transcripts.{IsWideKey, IsWideValue, IsWideArgument, IsWideCall}
 use Rattle.ft_script.specs.LineWords.{is_wide, is_string, text_of}
@@ -275,8 +275,8 @@ module _ (script : ScriptParts) (thread : ℕ) (facts : Declares script thread) 
   abbrev strings : List (List ℕ)
   strings = script.strings
 
-  container_back : (place : ℕ) → place < length script.containers → container_of draft (container_name script place) ≡ Ok place
-  unfolding container_of
+  container_back : (place : ℕ) → place < length script.containers → read_container draft (container_name script place) ≡ Ok place
+  unfolding read_container
   container_back place low = rw (container_place_at script place facts.names_differ low) refl
 
   same_back : (of_kind : Kind) → same_kind of_kind of_kind ≡ true
@@ -284,12 +284,12 @@ module _ (script : ScriptParts) (thread : ℕ) (facts : Declares script thread) 
   same_back kind.List = refl
   same_back kind.Set = refl
 
-  other_back : (of_kind : Kind) (place : ℕ) → IsDeclaredAs script.containers of_kind place → other_of draft of_kind (container_name script place) ≡ Ok place
-  unfolding other_of
+  other_back : (of_kind : Kind) (place : ℕ) → IsDeclaredAs script.containers of_kind place → read_other draft of_kind (container_name script place) ≡ Ok place
+  unfolding read_other
   other_back of_kind place declared = rw (container_back place (declared_low script.containers of_kind place declared), declared, same_back of_kind) refl
 
-  symbol_back : (symbol : ℕ) → symbol < length strings → symbol_of draft (slice_index_or strings symbol []) ≡ Ok (symbol, draft)
-  unfolding symbol_of
+  symbol_back : (symbol : ℕ) → symbol < length strings → read_symbol draft (slice_index_or strings symbol []) ≡ Ok (symbol, draft)
+  unfolding read_symbol
   symbol_back symbol low =
       let short : length (slice_index_or strings symbol []) ≤ 255 = (facts.strings_are symbol [] low).short in
       rw (le-ltb 255 (length (slice_index_or strings symbol [])) short, text_place_at strings symbol facts.strings_differ low) refl
@@ -300,111 +300,111 @@ module _ (script : ScriptParts) (thread : ℕ) (facts : Declares script thread) 
   abbrev index_key : ℤ → Result (Key × Draft) Fault
   index_key n = Ok (key.Int n, draft)
 
-  key_by : (word : List ℕ) (is : Bool) → is_string word ≡ is → key_of draft word ≡ cond is (symbol_of draft (text_of word) >>= symbol_key) (index_of word >>= index_key)
-  unfolding key_of
+  key_by : (word : List ℕ) (is : Bool) → is_string word ≡ is → read_key draft word ≡ cond is (read_symbol draft (text_of word) >>= symbol_key) (read_index word >>= index_key)
+  unfolding read_key
   key_by word is same = rw same refl
 
-  key_of_back : (found : Key) → IsKeyOf (length strings) found → IsWideKey found → key_of draft (key_text strings found) ≡ Ok (found, draft)
+  key_of_back : (found : Key) → IsKeyOf (length strings) found → IsWideKey found → read_key draft (key_text strings found) ≡ Ok (found, draft)
   key_of_back (key.Int n) low wide = key_by (signed_decimal n) false (numbers_are_no_strings (signed_decimal n) (signed_word n wide).1) ∙ ap (λ (r : Result ℤ Fault). r >>= index_key) (index_signed n wide)
   key_of_back (key.Text symbol) low wide =
       let text : List ℕ = slice_index_or strings symbol.0 [] in
-      key_by (quoted text) true refl ∙ ap (λ (t : List ℕ). symbol_of draft t >>= symbol_key) (text_of_quoted text) ∙ ap (λ (r : Result (ℕ × Draft) Fault). r >>= symbol_key) (symbol_back symbol.0 low)
+      key_by (quoted text) true refl ∙ ap (λ (t : List ℕ). read_symbol draft t >>= symbol_key) (text_of_quoted text) ∙ ap (λ (r : Result (ℕ × Draft) Fault). r >>= symbol_key) (symbol_back symbol.0 low)
 
   abbrev key_value : Key × Draft → Result (Value × Draft) Fault
   key_value read = Ok (as_value read.0, read.1)
 
-  value_by : (word : List ℕ) (is : Bool) → bytes_eq word (codes "None") ≡ is → value_of draft word ≡ cond is (Ok (value.Nothing, draft)) (key_of draft word >>= key_value)
-  unfolding value_of
+  value_by : (word : List ℕ) (is : Bool) → bytes_eq word (codes "None") ≡ is → read_value draft word ≡ cond is (Ok (value.Nothing, draft)) (read_key draft word >>= key_value)
+  unfolding read_value
   value_by word is same = rw same refl
 
-  value_of_back : (found : Value) → IsValueOf (length strings) found → IsWideValue found → value_of draft (value_text strings found) ≡ Ok (found, draft)
+  value_of_back : (found : Value) → IsValueOf (length strings) found → IsWideValue found → read_value draft (value_text strings found) ≡ Ok (found, draft)
   value_of_back value.Nothing low wide = value_by (codes "None") true refl
   value_of_back (value.Int n) low wide =
       value_by (signed_decimal n) false (numbers_are_not_none (signed_decimal n) (signed_word n wide).1) ∙ ap (λ (r : Result (Key × Draft) Fault). r >>= key_value) (key_of_back (key.Int n) tt wide)
   value_of_back (value.Text symbol) low wide =
       value_by (quoted (slice_index_or strings symbol.0 [])) false refl ∙ ap (λ (r : Result (Key × Draft) Fault). r >>= key_value) (key_of_back (key.Text symbol) low tt)
 
-  nothing_back : nothing_in [] ≡ Ok tt
-  unfolding nothing_in
+  nothing_back : just_nothing [] ≡ Ok tt
+  unfolding just_nothing
   nothing_back = refl
 
-  key_in_back : (k : Key) → IsKeyOf (length strings) k → IsWideKey k → key_in draft (key_text strings k ∷ []) ≡ Ok (k, draft)
-  unfolding key_in
+  key_in_back : (k : Key) → IsKeyOf (length strings) k → IsWideKey k → just_key draft (key_text strings k ∷ []) ≡ Ok (k, draft)
+  unfolding just_key
   key_in_back k low wide = key_of_back k low wide
 
-  value_in_back : (v : Value) → IsValueOf (length strings) v → IsWideValue v → value_in draft (value_text strings v ∷ []) ≡ Ok (v, draft)
-  unfolding value_in
+  value_in_back : (v : Value) → IsValueOf (length strings) v → IsWideValue v → just_value draft (value_text strings v ∷ []) ≡ Ok (v, draft)
+  unfolding just_value
   value_in_back v low wide = value_of_back v low wide
 
-  pair_in_back : (k : Key) (v : Value) → IsKeyOf (length strings) k → IsWideKey k → IsValueOf (length strings) v → IsWideValue v → key_and_value_in draft (key_text strings k ∷ value_text strings v ∷ []) ≡ Ok ((k, v), draft)
-  unfolding key_and_value_in key_and_value_of
+  pair_in_back : (k : Key) (v : Value) → IsKeyOf (length strings) k → IsWideKey k → IsValueOf (length strings) v → IsWideValue v → just_key_and_value draft (key_text strings k ∷ value_text strings v ∷ []) ≡ Ok ((k, v), draft)
+  unfolding just_key_and_value read_key_and_value
   pair_in_back k v klow kwide vlow vwide = rw (key_of_back k klow kwide, value_of_back v vlow vwide) refl
 
-  index_in_back : (i : ℤ) → is_wide i ≡ true → index_in (signed_decimal i ∷ []) ≡ Ok i
-  unfolding index_in
+  index_in_back : (i : ℤ) → is_wide i ≡ true → just_index (signed_decimal i ∷ []) ≡ Ok i
+  unfolding just_index
   index_in_back i wide = index_signed i wide
 
-  no_index_back : some_index_in [] ≡ Ok None
-  unfolding some_index_in
+  no_index_back : just_some_index [] ≡ Ok None
+  unfolding just_some_index
   no_index_back = refl
 
-  some_index_back : (i : ℤ) → is_wide i ≡ true → some_index_in (signed_decimal i ∷ []) ≡ Ok (Some i)
-  unfolding some_index_in
+  some_index_back : (i : ℤ) → is_wide i ≡ true → just_some_index (signed_decimal i ∷ []) ≡ Ok (Some i)
+  unfolding just_some_index
   some_index_back i wide = rw (index_signed i wide) refl
 
-  indices_back : (i j : ℤ) → is_wide i ≡ true → is_wide j ≡ true → two_indices_in (signed_decimal i ∷ signed_decimal j ∷ []) ≡ Ok (i, j)
-  unfolding two_indices_in two_indices_of
+  indices_back : (i j : ℤ) → is_wide i ≡ true → is_wide j ≡ true → just_two_indices (signed_decimal i ∷ signed_decimal j ∷ []) ≡ Ok (i, j)
+  unfolding just_two_indices read_two_indices
   indices_back i j first second = rw (index_signed i first, index_signed j second) refl
 
-  index_value_back : (i : ℤ) (v : Value) → is_wide i ≡ true → IsValueOf (length strings) v → IsWideValue v → index_and_value_in draft (signed_decimal i ∷ value_text strings v ∷ []) ≡ Ok ((i, v), draft)
-  unfolding index_and_value_in index_and_value_of
+  index_value_back : (i : ℤ) (v : Value) → is_wide i ≡ true → IsValueOf (length strings) v → IsWideValue v → just_index_and_value draft (signed_decimal i ∷ value_text strings v ∷ []) ≡ Ok ((i, v), draft)
+  unfolding just_index_and_value read_index_and_value
   index_value_back i v first low wide = rw (index_signed i first, value_of_back v low wide) refl
 
-  other_in_back : (of_kind : Kind) (place : ℕ) → IsDeclaredAs script.containers of_kind place → other_in draft of_kind (container_name script place ∷ []) ≡ Ok place
-  unfolding other_in
+  other_in_back : (of_kind : Kind) (place : ℕ) → IsDeclaredAs script.containers of_kind place → just_other draft of_kind (container_name script place ∷ []) ≡ Ok place
+  unfolding just_other
   other_in_back of_kind place declared = other_back of_kind place declared
 
-  made_in_back : (number : ℕ) → number < cursors_of script thread → made_cursor_in draft (cursor_name script thread number ∷ []) ≡ Ok (number, draft)
-  unfolding made_cursor_in made_cursor_of
+  made_in_back : (number : ℕ) → number < cursors_of script thread → just_made_cursor draft (cursor_name script thread number ∷ []) ≡ Ok (number, draft)
+  unfolding just_made_cursor read_made_cursor
   made_in_back number low = rw (facts.cursor_form number low, facts.cursor_place number low) refl
 
-  cursor_in_back : (number : ℕ) → number < cursors_of script thread → cursor_in draft (cursor_name script thread number ∷ []) ≡ Ok number
-  unfolding cursor_in cursor_of
+  cursor_in_back : (number : ℕ) → number < cursors_of script thread → just_cursor draft (cursor_name script thread number ∷ []) ≡ Ok number
+  unfolding just_cursor read_cursor
   cursor_in_back number low = rw (facts.cursor_place number low) refl
 
-  section_one : (first : ℕ) → first < length script.containers → section_in draft (container_name script first ∷ []) ≡ Ok (first, None)
-  unfolding section_in
+  section_one : (first : ℕ) → first < length script.containers → just_section draft (container_name script first ∷ []) ≡ Ok (first, None)
+  unfolding just_section
   section_one first low = rw (container_back first low) refl
 
-  section_two : (first second : ℕ) → first < length script.containers → second < length script.containers → section_in draft (container_name script first ∷ container_name script second ∷ []) ≡ Ok (first, Some second)
-  unfolding section_in two_containers_of
+  section_two : (first second : ℕ) → first < length script.containers → second < length script.containers → just_section draft (container_name script first ∷ container_name script second ∷ []) ≡ Ok (first, Some second)
+  unfolding just_section read_two_containers
   section_two first second low high = rw (container_back first low, container_back second high) refl
 
   -- ---- and the calls
 
-  by_word : (word : CallWord) (words : List (List ℕ)) → call_in draft (call_word_text word ∷ words) ≡ call_of draft word words
-  unfolding call_in
+  by_word : (word : CallWord) (words : List (List ℕ)) → just_call draft (call_word_text word ∷ words) ≡ read_call draft word words
+  unfolding just_call
   by_word word words = rw (word_back word) refl
 
-  on_back : (operation : Operation) (of_kind : Kind) (place : ℕ) (words : List (List ℕ)) → IsDeclaredAs script.containers of_kind place → call_in draft (operation_text operation ∷ container_name script place ∷ words) ≡ call_at draft place operation words (Some of_kind)
-  unfolding call_of container_call
+  on_back : (operation : Operation) (of_kind : Kind) (place : ℕ) (words : List (List ℕ)) → IsDeclaredAs script.containers of_kind place → just_call draft (operation_text operation ∷ container_name script place ∷ words) ≡ call_at draft place operation words (Some of_kind)
+  unfolding read_call container_call
   on_back operation of_kind place words declared =
       by_word (On operation) (container_name script place ∷ words) ∙ rw (container_back place (declared_low script.containers of_kind place declared), declared) refl
 
-  dict_is : (place : ℕ) (operation : Operation) (words : List (List ℕ)) (inner : DictCall) → IsDeclaredAs script.containers kind.Dict place → dict_call draft operation words ≡ Ok (inner, draft) → call_in draft (operation_text operation ∷ container_name script place ∷ words) ≡ Ok (call.Dict place inner, draft)
+  dict_is : (place : ℕ) (operation : Operation) (words : List (List ℕ)) (inner : DictCall) → IsDeclaredAs script.containers kind.Dict place → dict_call draft operation words ≡ Ok (inner, draft) → just_call draft (operation_text operation ∷ container_name script place ∷ words) ≡ Ok (call.Dict place inner, draft)
   unfolding call_at
   dict_is place operation words inner declared is = on_back operation kind.Dict place words declared ∙ rw is refl
 
-  list_is : (place : ℕ) (operation : Operation) (words : List (List ℕ)) (inner : ListCall) → IsDeclaredAs script.containers kind.List place → list_call draft operation words ≡ Ok (inner, draft) → call_in draft (operation_text operation ∷ container_name script place ∷ words) ≡ Ok (call.List place inner, draft)
+  list_is : (place : ℕ) (operation : Operation) (words : List (List ℕ)) (inner : ListCall) → IsDeclaredAs script.containers kind.List place → list_call draft operation words ≡ Ok (inner, draft) → just_call draft (operation_text operation ∷ container_name script place ∷ words) ≡ Ok (call.List place inner, draft)
   unfolding call_at
   list_is place operation words inner declared is = on_back operation kind.List place words declared ∙ rw is refl
 
-  set_is : (place : ℕ) (operation : Operation) (words : List (List ℕ)) (inner : SetCall) → IsDeclaredAs script.containers kind.Set place → set_call draft operation words ≡ Ok (inner, draft) → call_in draft (operation_text operation ∷ container_name script place ∷ words) ≡ Ok (call.Set place inner, draft)
+  set_is : (place : ℕ) (operation : Operation) (words : List (List ℕ)) (inner : SetCall) → IsDeclaredAs script.containers kind.Set place → set_call draft operation words ≡ Ok (inner, draft) → just_call draft (operation_text operation ∷ container_name script place ∷ words) ≡ Ok (call.Set place inner, draft)
   unfolding call_at
   set_is place operation words inner declared is = on_back operation kind.Set place words declared ∙ rw is refl
 
-  pub call_back : (called : Call) → IsCallOf script (cursors_of script thread) called → IsWideCall called → call_in draft (call_words script thread called) ≡ Ok (called, draft)
-  unfolding call_of dict_call list_call set_call
+  pub call_back : (called : Call) → IsCallOf script (cursors_of script thread) called → IsWideCall called → just_call draft (call_words script thread called) ≡ Ok (called, draft)
+  unfolding read_call dict_call list_call set_call
   call_back (call.Dict place (dict.Get k)) h wide = dict_is place of.Get (key_text strings k ∷ []) (dict.Get k) h.names.container (rw (key_in_back k h.strings wide.1.0) refl)
   call_back (call.Dict place (dict.GetOr k v)) h wide = dict_is place of.GetOr (key_text strings k ∷ value_text strings v ∷ []) (dict.GetOr k v) h.names.container (rw (pair_in_back k v h.strings.0 wide.1.0 h.strings.1 wide.1.1.0) refl)
   call_back (call.Dict place (dict.Set k v)) h wide = dict_is place of.Set (key_text strings k ∷ value_text strings v ∷ []) (dict.Set k v) h.names.container (rw (pair_in_back k v h.strings.0 wide.1.0 h.strings.1 wide.1.1.0) refl)

@@ -20,9 +20,9 @@ use Rattle.ft_model.specs.Names.{is_container_name, is_thread_name}
 use Rattle.ft_model.specs.Parts.{IsReplyOf}
 use Rattle.ft_model.specs.Scripts.{IsScript, IsThread}
 use Rattle.ft_script.specs.declared.fault.Fault.TheVariants as fault
-use Rattle.ft_script.specs.Internal.Candidates.{thread_call, thread_of, numbered_of, stamp_of, waited_of, reply_of, entry_of, content_of}
+use Rattle.ft_script.specs.Internal.Candidates.{thread_call, read_thread, read_numbered, read_stamp, read_waited, read_reply, read_entry, read_content}
 use Rattle.ft_script.specs.Drafts.{or_fault, draft_at, text_place, thread_place}
-use Rattle.ft_script.specs.ScriptLines.{call_in}
+use Rattle.ft_script.specs.ScriptLines.{just_call}
 use Rattle.ft_script.specs.Internal.Readers.{AddsNothing}
 use Rattle.ft_script.specs.Texts.{container_name, thread_name, call_words, reply_text, place_word, stamp_word, mark_words, entry_line_words, entry_line}
 use Rattle.ft_script.specs.Internal.Tokens.{tokens_of, before_word, after_word}
@@ -81,8 +81,8 @@ thread_form script thread rule low = ap is_thread_name (thread_name_at script th
 pub thread_begins : (script : ScriptParts) (thread : ℕ) → IsScript script → thread < length script.threads → BeginsHigh (thread_name script thread)
 thread_begins script thread rule low = (thread_word (thread_name script thread) (thread_form script thread rule low)).1
 
-thread_back : (script : ScriptParts) (thread : ℕ) → IsScript script → thread < length script.threads → thread_of script (thread_name script thread) ≡ Ok thread
-unfolding thread_of
+thread_back : (script : ScriptParts) (thread : ℕ) → IsScript script → thread < length script.threads → read_thread script (thread_name script thread) ≡ Ok thread
+unfolding read_thread
 thread_back script thread rule low =
     let name : List ℕ = thread_name script thread in
     let is : name ≡ (get_or script.threads thread no_thread).name = thread_name_at script thread no_thread low in
@@ -102,8 +102,8 @@ place_is_cut : (script : ScriptParts) (entry : Entry) → IsScript script → en
 place_is_cut script entry rule low small =
     word_is_cut (place_word script entry) (word_append (thread_name script entry.thread) (46 ∷ decimal entry.index) (thread_word (thread_name script entry.thread) (thread_form script entry.thread rule low)).0 (decimal_parts entry.index (omega arith)))
 
-place_back : (script : ScriptParts) (entry : Entry) → IsScript script → entry.thread < length script.threads → entry.index < 2 ^ 32 → numbered_of script (place_word script entry) ≡ Ok (entry.thread, entry.index)
-unfolding numbered_of
+place_back : (script : ScriptParts) (entry : Entry) → IsScript script → entry.thread < length script.threads → entry.index < 2 ^ 32 → read_numbered script (place_word script entry) ≡ Ok (entry.thread, entry.index)
+unfolding read_numbered
 place_back script entry rule low small =
     let is_dot : ℕ → Bool = λ b. eqb b 46 in
     let name : List ℕ = thread_name script entry.thread in
@@ -117,8 +117,8 @@ letter_word : (wrote : Bool) (n : ℕ) → n < 2 ^ 64 → IsWord (letter wrote �
 letter_word true n low = (refl, decimal_parts n low)
 letter_word false n low = (refl, decimal_parts n low)
 
-letter_back : (wrote : Bool) (n : ℕ) → n < 2 ^ 64 → stamp_of (letter wrote ∷ decimal n) ≡ Ok (wrote, n)
-unfolding stamp_of
+letter_back : (wrote : Bool) (n : ℕ) → n < 2 ^ 64 → read_stamp (letter wrote ∷ decimal n) ≡ Ok (wrote, n)
+unfolding read_stamp
 letter_back true n low = rw (u64_decimal n low) refl
 letter_back false n low = rw (u64_decimal n low) refl
 
@@ -136,17 +136,17 @@ before_mark : (script : ScriptParts) (waited : Option ℕ) (said : List (List �
 before_mark script None said none = ap (before_word (codes "waited")) (append-nil said) ∙ before_none is_waited said none
 before_mark script (Some thread) said none = before_at is_waited said (codes "waited") (thread_name script thread ∷ []) none refl
 
-nobody_waited : (script : ScriptParts) → waited_of script [] ≡ Ok None
-unfolding waited_of
+nobody_waited : (script : ScriptParts) → read_waited script [] ≡ Ok None
+unfolding read_waited
 nobody_waited script = refl
 
-somebody_waited : (script : ScriptParts) (thread : ℕ) → IsScript script → thread < length script.threads → waited_of script (thread_name script thread ∷ []) ≡ Ok (Some thread)
-unfolding waited_of
+somebody_waited : (script : ScriptParts) (thread : ℕ) → IsScript script → thread < length script.threads → read_waited script (thread_name script thread ∷ []) ≡ Ok (Some thread)
+unfolding read_waited
 somebody_waited script thread rule low = rw (thread_back script thread rule low) refl
 
-mark_back : (script : ScriptParts) (waited : Option ℕ) (said : List (List ℕ)) → IsScript script → AllFail is_waited said → IfSome waited (λ thread. thread < length script.threads) → waited_of script (after_word (codes "waited") (said ++ mark_words script waited)) ≡ Ok waited
-mark_back script None said rule none h = ap (λ (l : List (List ℕ)). waited_of script (after_word (codes "waited") l)) (append-nil said) ∙ ap (waited_of script) (after_none is_waited said none) ∙ nobody_waited script
-mark_back script (Some thread) said rule none h = ap (waited_of script) (after_at is_waited said (codes "waited") (thread_name script thread ∷ []) none refl) ∙ somebody_waited script thread rule h
+mark_back : (script : ScriptParts) (waited : Option ℕ) (said : List (List ℕ)) → IsScript script → AllFail is_waited said → IfSome waited (λ thread. thread < length script.threads) → read_waited script (after_word (codes "waited") (said ++ mark_words script waited)) ≡ Ok waited
+mark_back script None said rule none h = ap (λ (l : List (List ℕ)). read_waited script (after_word (codes "waited") l)) (append-nil said) ∙ ap (read_waited script) (after_none is_waited said none) ∙ nobody_waited script
+mark_back script (Some thread) said rule none h = ap (read_waited script) (after_at is_waited said (codes "waited") (thread_name script thread ∷ []) none refl) ∙ somebody_waited script thread rule h
 
 -- ---- entries
 
@@ -206,33 +206,33 @@ module _ (script : ScriptParts) (entry : Entry) (rule : IsScript script) (h : Is
   none_waited = reply_other script.strings (counts entry.call) entry.reply h.said h.reply
 
   pub adds_nothing : AddsNothing script entry.thread (before_word (codes "=") (drop 2 (entry_tokens script entry)))
-  adds_nothing = (entry.call, ap (call_in (draft_at script entry.thread)) call_words_at ∙ call_back script entry.thread facts entry.call h.of_script.call h.call)
+  adds_nothing = (entry.call, ap (just_call (draft_at script entry.thread)) call_words_at ∙ call_back script entry.thread facts entry.call h.of_script.call h.call)
 
   thread_call_back : thread_call script entry.thread (before_word (codes "=") (drop 2 (entry_tokens script entry))) ≡ Ok entry.call
   unfolding thread_call
   thread_call_back = rw call_words_at (rw (call_back script entry.thread facts entry.call h.of_script.call h.call) refl)
 
-  said_back : reply_of script.strings (counts entry.call) (before_word (codes "waited") (after_word (codes "=") (drop 2 (entry_tokens script entry)))) ≡ Ok entry.reply
+  said_back : read_reply script.strings (counts entry.call) (before_word (codes "waited") (after_word (codes "=") (drop 2 (entry_tokens script entry)))) ≡ Ok entry.reply
   said_back =
-      ap (λ (l : List (List ℕ)). reply_of script.strings (counts entry.call) (before_word (codes "waited") l)) after_equals
-      ∙ ap (reply_of script.strings (counts entry.call)) (before_mark script entry.waited (reply_tokens script.strings entry.reply) none_waited)
+      ap (λ (l : List (List ℕ)). read_reply script.strings (counts entry.call) (before_word (codes "waited") l)) after_equals
+      ∙ ap (read_reply script.strings (counts entry.call)) (before_mark script entry.waited (reply_tokens script.strings entry.reply) none_waited)
       ∙ reply_back script.strings (counts entry.call) entry.reply rule.strings_differ h.of_script.reply h.said h.reply
 
-  waited_back : waited_of script (after_word (codes "waited") (after_word (codes "=") (drop 2 (entry_tokens script entry)))) ≡ Ok entry.waited
+  waited_back : read_waited script (after_word (codes "waited") (after_word (codes "=") (drop 2 (entry_tokens script entry)))) ≡ Ok entry.waited
   waited_back =
-      ap (λ (l : List (List ℕ)). waited_of script (after_word (codes "waited") l)) after_equals
+      ap (λ (l : List (List ℕ)). read_waited script (after_word (codes "waited") l)) after_equals
       ∙ mark_back script entry.waited (reply_tokens script.strings entry.reply) rule none_waited h.of_script.mark
 
-  pub entry_back : entry_of script (entry_tokens script entry) ≡ Ok entry
-  unfolding entry_of
+  pub entry_back : read_entry script (entry_tokens script entry) ≡ Ok entry
+  unfolding read_entry
   entry_back = rw (place_back script entry rule h.of_script.thread h.last_index, letter_back entry.wrote entry.stamp h.stamp, thread_call_back, said_back, waited_back) refl
 
 -- a text that is cut, with a line feed after it
 pub line_cut : (text : List ℕ) (tokens : List (List ℕ)) → IsCut text tokens → tokens_of (text ++ 10 ∷ []) ≡ tokens
 line_cut text tokens h = h.cut (10 ∷ []) refl ∙ ap (λ (l : List (List ℕ)). tokens ++ l) (from_gap 10 [] refl ∙ no_bytes place.Between) ∙ append-nil tokens
 
-pub entry_read : (script : ScriptParts) (entry : Entry) → IsScript script → IsReadable script entry → entry_of script (tokens_of (entry_line script entry)) ≡ Ok entry
-entry_read script entry rule h = ap (entry_of script) (line_cut (join_with_byte 32 (entry_line_words script entry)) (entry_tokens script entry) (words_cut script entry rule h)) ∙ entry_back script entry rule h
+pub entry_read : (script : ScriptParts) (entry : Entry) → IsScript script → IsReadable script entry → read_entry script (tokens_of (entry_line script entry)) ≡ Ok entry
+entry_read script entry rule h = ap (read_entry script) (line_cut (join_with_byte 32 (entry_line_words script entry)) (entry_tokens script entry) (words_cut script entry rule h)) ∙ entry_back script entry rule h
 
 pub entry_adds_nothing : (script : ScriptParts) (entry : Entry) (text : List ℕ) → IsScript script → IsReadable script entry → text ≡ entry_line script entry → AddsNothing script entry.thread (before_word (codes "=") (drop 2 (tokens_of text)))
 entry_adds_nothing script entry text rule h is =
@@ -273,8 +273,8 @@ module _ (script : ScriptParts) (container : ℕ) (content : Reply) (rule : IsSc
       let equals : IsCut (codes "=" ++ (32 ∷ said)) (codes "=" ∷ tokens) = cut_tail (codes "=") (32 ∷ said) (codes "=" ∷ []) tokens (word_is_cut (codes "=") (refl, refl)) (after_space said tokens reply_cut) in
       cut_tail name (32 ∷ (codes "=" ++ (32 ∷ said))) (name ∷ []) (codes "=" ∷ tokens) (word_is_cut name (container_word name (container_form script container rule low)).0) (after_space (codes "=" ++ (32 ∷ said)) (codes "=" ∷ tokens) equals)
 
-  pub content_back : content_of script (tokens_of (content_line script container content)) ≡ Ok (container, content)
-  unfolding content_of
+  pub content_back : read_content script (tokens_of (content_line script container content)) ≡ Ok (container, content)
+  unfolding read_content
   content_back =
       rw (line_cut (join_with_byte 32 (container_name script container ∷ codes "=" ∷ reply_text script.strings content ∷ [])) (container_name script container ∷ codes "=" ∷ reply_tokens script.strings content) content_cut)
       (rw (container_place_at script container rule.containers_differ low, reply_back script.strings false content rule.strings_differ of_script wide (whole_readable content whole)) refl)

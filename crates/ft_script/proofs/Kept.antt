@@ -21,10 +21,9 @@ use Rattle.ft_script.specs.declared.fault.Fault.TheVariants as fault
 use Rattle.ft_script.specs.Transcripts.{IsWideKey, IsWideValue}
 use Rattle.ft_script.specs.LineWords.{integer_of, is_integer, is_string, is_wide, text_of}
 use Rattle.ft_script.specs.Drafts.{◌>>=◌, or_fault, container_place, text_place}
-use Rattle.ft_script.specs.Arguments.{symbol_of, index_of, two_indices_of, key_of, value_of, container_of, kind_at, is_of_kind, other_of, made_cursor_of, key_in, key_and_value_of, key_and_value_in, value_in, index_in, some_index_in, two_indices_in, index_and_value_of, index_and_value_in, other_in, made_cursor_in, cursor_in, section_in, two_containers_of, nothing_in}
-use Rattle.ft_script.specs.Arguments as arguments
-use Rattle.ft_script.proofs.Growing.{key_grows}
-use Rattle.ft_script.proofs.Tables.{absent_text, differ_push, place_within}
+use Rattle.ft_script.specs.Arguments.{read_symbol, read_index, read_two_indices, read_key, read_value, read_container, kind_at, is_of_kind, read_other, read_made_cursor, just_key, read_key_and_value, just_key_and_value, just_value, just_index, just_some_index, just_two_indices, read_index_and_value, just_index_and_value, just_other, just_made_cursor, just_cursor, just_section, read_two_containers, just_nothing, read_cursor}
+use Rattle.ft_script.proofs.MoreCalls.{key_grows}
+use Rattle.ft_script.proofs.DistinctNames.{absent_text, differ_push, place_within}
 use Rattle.ft_script.proofs.WordLemmas.{integer_by}
 
 -- ---- what holds where a step succeeds
@@ -59,8 +58,8 @@ wide_by token true true n is_form is_in found =
 wide_by token true false n is_form is_in found = absurd (let e : None ≡ Some n = sym (integer_by token true false is_form is_in) ∙ found in cc)
 wide_by token false wide n is_form is_in found = absurd (let e : None ≡ Some n = sym (integer_by token false wide is_form is_in) ∙ found in cc)
 
-pub index_keeps : (token : List ℕ) → IfOk (index_of token) (λ n. is_wide n ≡ true)
-unfolding index_of
+pub index_keeps : (token : List ℕ) → IfOk (read_index token) (λ n. is_wide n ≡ true)
+unfolding read_index
 index_keeps token = or_holds fault.Number (integer_of token) (λ n. is_wide n ≡ true) (λ n found. wide_by token (is_integer token) (is_wide (signed_digits_value 10 token)) n refl refl found)
 
 -- ---- strings
@@ -99,8 +98,8 @@ table_push strings text table textual short room none =
 abbrev pub Symbol : Draft → ℕ × Draft → Type 0
 Symbol d p = (read : StringsRead d p.1) × (p.0 < length read.to)
 
-symbol_keeps : (d : Draft) (text : List ℕ) → IsTable d.strings → IsTextual text → IfOk (symbol_of d text) (Symbol d)
-unfolding symbol_of
+symbol_keeps : (d : Draft) (text : List ℕ) → IsTable d.strings → IsTextual text → IfOk (read_symbol d text) (Symbol d)
+unfolding read_symbol
 symbol_keeps d text table textual =
     cond_holds (ltb 255 (length text)) _ _ (Symbol d) (λ _. tt) (λ short.
     some_holds (text_place d.strings text) _ _ (Symbol d)
@@ -116,12 +115,12 @@ symbol_keeps d text table textual =
 abbrev pub Keyed : Draft → Key × Draft → Type 0
 Keyed d p = (read : StringsRead d p.1) × IsKeyOf (length read.to) p.0 × IsWideKey p.0
 
-key_keeps : (d : Draft) (word : List ℕ) → IsTable d.strings → IsGoodWord word → IfOk (key_of d word) (Keyed d)
-unfolding key_of
+key_keeps : (d : Draft) (word : List ℕ) → IsTable d.strings → IsGoodWord word → IfOk (read_key d word) (Keyed d)
+unfolding read_key
 key_keeps d word table good =
     cond_holds (is_string word) _ _ (Keyed d)
-    (λ is. bind_holds (symbol_of d (text_of word)) _ (Symbol d) (Keyed d) (symbol_keeps d (text_of word) table (good is)) (λ symbol h. (h.0, h.1, tt)))
-    (λ _. bind_holds (index_of word) _ (λ n. is_wide n ≡ true) (Keyed d) (index_keeps word) (λ n wide. (no_strings d table, tt, wide)))
+    (λ is. bind_holds (read_symbol d (text_of word)) _ (Symbol d) (Keyed d) (symbol_keeps d (text_of word) table (good is)) (λ symbol h. (h.0, h.1, tt)))
+    (λ _. bind_holds (read_index word) _ (λ n. is_wide n ≡ true) (Keyed d) (index_keeps word) (λ n wide. (no_strings d table, tt, wide)))
 
 abbrev pub Valued : Draft → Value × Draft → Type 0
 Valued d p = (read : StringsRead d p.1) × IsValueOf (length read.to) p.0 × IsWideValue p.0
@@ -134,16 +133,16 @@ wide_value_of_key : (k : Key) → IsWideKey k → IsWideValue (as_value k)
 wide_value_of_key (key.Int n) h = h
 wide_value_of_key (key.Text symbol) h = tt
 
-value_keeps : (d : Draft) (word : List ℕ) → IsTable d.strings → IsGoodWord word → IfOk (value_of d word) (Valued d)
-unfolding value_of
+value_keeps : (d : Draft) (word : List ℕ) → IsTable d.strings → IsGoodWord word → IfOk (read_value d word) (Valued d)
+unfolding read_value
 value_keeps d word table good =
     cond_holds (bytes_eq word _) _ _ (Valued d) (λ _. (no_strings d table, tt, tt))
-    (λ _. bind_holds (key_of d word) _ (Keyed d) (Valued d) (key_keeps d word table good) (λ found h. (h.0, value_of_key (length h.0.to) found.0 h.1, wide_value_of_key found.0 h.2)))
+    (λ _. bind_holds (read_key d word) _ (Keyed d) (Valued d) (key_keeps d word table good) (λ found h. (h.0, value_of_key (length h.0.to) found.0 h.1, wide_value_of_key found.0 h.2)))
 
 -- ---- containers and cursors
 
-pub container_keeps : (d : Draft) (name : List ℕ) → IfOk (container_of d name) (λ place. place < length d.containers)
-unfolding container_of
+pub container_keeps : (d : Draft) (name : List ℕ) → IfOk (read_container d name) (λ place. place < length d.containers)
+unfolding read_container
 container_keeps d name = or_holds _ (container_place d.containers name) (λ place. place < length d.containers) (λ place found. place_within (λ container. bytes_eq container.name name) d.containers place found)
 
 of_kind : (kind : Kind) (found : Option Kind) → is_of_kind kind found ≡ true → found ≡ Some kind
@@ -160,14 +159,14 @@ of_kind kind.Set (Some kind.Dict) h = absurd cc
 of_kind kind.Set (Some kind.List) h = absurd cc
 of_kind kind.Set (Some kind.Set) h = refl
 
-other_keeps : (d : Draft) (kind : Kind) (name : List ℕ) → IfOk (other_of d kind name) (IsDeclaredAs d.containers kind)
-unfolding other_of
+other_keeps : (d : Draft) (kind : Kind) (name : List ℕ) → IfOk (read_other d kind name) (IsDeclaredAs d.containers kind)
+unfolding read_other
 other_keeps d kind name =
-    bind_holds (container_of d name) _ (λ place. place < length d.containers) (IsDeclaredAs d.containers kind) (container_keeps d name) (λ place low.
+    bind_holds (read_container d name) _ (λ place. place < length d.containers) (IsDeclaredAs d.containers kind) (container_keeps d name) (λ place low.
     cond_holds (is_of_kind kind (kind_at d place)) _ _ (IsDeclaredAs d.containers kind) (λ is. of_kind kind (kind_at d place) is) (λ _. tt))
 
-cursor_keeps : (d : Draft) (name : List ℕ) → IfOk (arguments.cursor_of d name) (λ number. number < length d.cursors)
-unfolding arguments.cursor_of
+cursor_keeps : (d : Draft) (name : List ℕ) → IfOk (read_cursor d name) (λ number. number < length d.cursors)
+unfolding read_cursor
 cursor_keeps d name = or_holds _ (text_place d.cursors name) (λ number. number < length d.cursors) (λ number found. place_within (λ other. bytes_eq name other) d.cursors number found)
 
 pub record IsCursors (names : List (List ℕ)) : Type 0 where
@@ -198,8 +197,8 @@ last_or_before k n low = elim (cases_lt k n) [ inl lt ↦ inl lt | inr le ↦ in
 abbrev pub Made : Draft → ℕ × Draft → Type 0
 Made d p = CursorRead d p.1 p.0
 
-made_cursor_keeps : (d : Draft) (name : List ℕ) → IsCursors d.cursors → IfOk (made_cursor_of d name) (Made d)
-unfolding made_cursor_of
+made_cursor_keeps : (d : Draft) (name : List ℕ) → IsCursors d.cursors → IfOk (read_made_cursor d name) (Made d)
+unfolding read_made_cursor
 made_cursor_keeps d name are =
     cond_holds (is_container_name name) _ _ (Made d) (λ form.
     some_holds (text_place d.cursors name) _ _ (Made d)
@@ -217,8 +216,8 @@ made_cursor_keeps d name are =
 abbrev pub AreGoodWords : List (List ℕ) → Type 0
 AreGoodWords words = AllByRecursion IsGoodWord words
 
-pub key_in_keeps : (d : Draft) (words : List (List ℕ)) → IsTable d.strings → AreGoodWords words → IfOk (key_in d words) (Keyed d)
-unfolding key_in
+pub key_in_keeps : (d : Draft) (words : List (List ℕ)) → IsTable d.strings → AreGoodWords words → IfOk (just_key d words) (Keyed d)
+unfolding just_key
 key_in_keeps d [] table good = tt
 key_in_keeps d (word ∷ []) table good = key_keeps d word table good.0
 key_in_keeps d (word ∷ other ∷ words) table good = tt
@@ -237,24 +236,24 @@ strings_then d e f first second =
 table_after : (d e : Draft) → StringsRead d e → IsTable e.strings
 table_after d e read = subst (λ (x : Draft). IsTable x.strings) (sym read.is) read.table
 
-key_and_value_keeps : (d : Draft) (first second : List ℕ) → IsTable d.strings → IsGoodWord first → IsGoodWord second → IfOk (key_and_value_of d first second) (KeyedAndValued d)
-unfolding key_and_value_of
+key_and_value_keeps : (d : Draft) (first second : List ℕ) → IsTable d.strings → IsGoodWord first → IsGoodWord second → IfOk (read_key_and_value d first second) (KeyedAndValued d)
+unfolding read_key_and_value
 key_and_value_keeps d first second table good_first good_second =
-    bind_holds (key_of d first) _ (Keyed d) (KeyedAndValued d) (key_keeps d first table good_first) (λ found h.
-    bind_holds (value_of found.1 second) _ (Valued found.1) (KeyedAndValued d) (value_keeps found.1 second (table_after d found.1 h.0) good_second) (λ stored g.
+    bind_holds (read_key d first) _ (Keyed d) (KeyedAndValued d) (key_keeps d first table good_first) (λ found h.
+    bind_holds (read_value found.1 second) _ (Valued found.1) (KeyedAndValued d) (value_keeps found.1 second (table_after d found.1 h.0) good_second) (λ stored g.
     let both = strings_then d found.1 stored.1 h.0 g.0 in
     let between : length found.1.strings ≡ length h.0.to = ap (λ (x : Draft). length x.strings) h.0.is in
     (both.0, key_grows (length h.0.to) (length both.0.to) found.0 (let same : length both.0.to ≡ length g.0.to = ap length both.1 in omega (arith, g.0.more)) h.1, subst (λ (l : List (List ℕ)). IsValueOf (length l) stored.0) (sym both.1) g.1, h.2, g.2)))
 
-pub key_and_value_in_keeps : (d : Draft) (words : List (List ℕ)) → IsTable d.strings → AreGoodWords words → IfOk (key_and_value_in d words) (KeyedAndValued d)
-unfolding key_and_value_in
+pub key_and_value_in_keeps : (d : Draft) (words : List (List ℕ)) → IsTable d.strings → AreGoodWords words → IfOk (just_key_and_value d words) (KeyedAndValued d)
+unfolding just_key_and_value
 key_and_value_in_keeps d [] table good = tt
 key_and_value_in_keeps d (word ∷ []) table good = tt
 key_and_value_in_keeps d (word ∷ other ∷ []) table good = key_and_value_keeps d word other table good.0 good.1.0
 key_and_value_in_keeps d (word ∷ other ∷ third ∷ words) table good = tt
 
-pub value_in_keeps : (d : Draft) (words : List (List ℕ)) → IsTable d.strings → AreGoodWords words → IfOk (value_in d words) (Valued d)
-unfolding value_in
+pub value_in_keeps : (d : Draft) (words : List (List ℕ)) → IsTable d.strings → AreGoodWords words → IfOk (just_value d words) (Valued d)
+unfolding just_value
 value_in_keeps d [] table good = tt
 value_in_keeps d (word ∷ []) table good = value_keeps d word table good.0
 value_in_keeps d (word ∷ other ∷ words) table good = tt
@@ -262,61 +261,61 @@ value_in_keeps d (word ∷ other ∷ words) table good = tt
 abbrev pub Indexed : Draft → (ℤ × Value) × Draft → Type 0
 Indexed d p = (read : StringsRead d p.1) × IsValueOf (length read.to) p.0.1 × (is_wide p.0.0 ≡ true) × IsWideValue p.0.1
 
-index_and_value_keeps : (d : Draft) (first second : List ℕ) → IsTable d.strings → IsGoodWord second → IfOk (index_and_value_of d first second) (Indexed d)
-unfolding index_and_value_of
+index_and_value_keeps : (d : Draft) (first second : List ℕ) → IsTable d.strings → IsGoodWord second → IfOk (read_index_and_value d first second) (Indexed d)
+unfolding read_index_and_value
 index_and_value_keeps d first second table good =
-    bind_holds (index_of first) _ (λ n. is_wide n ≡ true) (Indexed d) (index_keeps first) (λ n wide.
-    bind_holds (value_of d second) _ (Valued d) (Indexed d) (value_keeps d second table good) (λ stored h. (h.0, h.1, wide, h.2)))
+    bind_holds (read_index first) _ (λ n. is_wide n ≡ true) (Indexed d) (index_keeps first) (λ n wide.
+    bind_holds (read_value d second) _ (Valued d) (Indexed d) (value_keeps d second table good) (λ stored h. (h.0, h.1, wide, h.2)))
 
-pub index_and_value_in_keeps : (d : Draft) (words : List (List ℕ)) → IsTable d.strings → AreGoodWords words → IfOk (index_and_value_in d words) (Indexed d)
-unfolding index_and_value_in
+pub index_and_value_in_keeps : (d : Draft) (words : List (List ℕ)) → IsTable d.strings → AreGoodWords words → IfOk (just_index_and_value d words) (Indexed d)
+unfolding just_index_and_value
 index_and_value_in_keeps d [] table good = tt
 index_and_value_in_keeps d (word ∷ []) table good = tt
 index_and_value_in_keeps d (word ∷ other ∷ []) table good = index_and_value_keeps d word other table good.1.0
 index_and_value_in_keeps d (word ∷ other ∷ third ∷ words) table good = tt
 
-pub index_in_keeps : (words : List (List ℕ)) → IfOk (index_in words) (λ n. is_wide n ≡ true)
-unfolding index_in
+pub index_in_keeps : (words : List (List ℕ)) → IfOk (just_index words) (λ n. is_wide n ≡ true)
+unfolding just_index
 index_in_keeps [] = tt
 index_in_keeps (word ∷ []) = index_keeps word
 index_in_keeps (word ∷ other ∷ words) = tt
 
-pub some_index_in_keeps : (words : List (List ℕ)) → IfOk (some_index_in words) (λ index. IfSome index (λ n. is_wide n ≡ true))
-unfolding some_index_in
+pub some_index_in_keeps : (words : List (List ℕ)) → IfOk (just_some_index words) (λ index. IfSome index (λ n. is_wide n ≡ true))
+unfolding just_some_index
 some_index_in_keeps [] = tt
-some_index_in_keeps (word ∷ []) = bind_holds (index_of word) _ (λ n. is_wide n ≡ true) (λ index. IfSome index (λ n. is_wide n ≡ true)) (index_keeps word) (λ n wide. wide)
+some_index_in_keeps (word ∷ []) = bind_holds (read_index word) _ (λ n. is_wide n ≡ true) (λ index. IfSome index (λ n. is_wide n ≡ true)) (index_keeps word) (λ n wide. wide)
 some_index_in_keeps (word ∷ other ∷ words) = tt
 
 abbrev AreWide : ℤ × ℤ → Type 0
 AreWide ends = (is_wide ends.0 ≡ true) × (is_wide ends.1 ≡ true)
 
-two_indices_keep : (first second : List ℕ) → IfOk (two_indices_of first second) AreWide
-unfolding two_indices_of
+two_indices_keep : (first second : List ℕ) → IfOk (read_two_indices first second) AreWide
+unfolding read_two_indices
 two_indices_keep first second =
-    bind_holds (index_of first) _ (λ n. is_wide n ≡ true) AreWide (index_keeps first) (λ start a.
-    bind_holds (index_of second) _ (λ n. is_wide n ≡ true) AreWide (index_keeps second) (λ end b. (a, b)))
+    bind_holds (read_index first) _ (λ n. is_wide n ≡ true) AreWide (index_keeps first) (λ start a.
+    bind_holds (read_index second) _ (λ n. is_wide n ≡ true) AreWide (index_keeps second) (λ end b. (a, b)))
 
-pub two_indices_in_keeps : (words : List (List ℕ)) → IfOk (two_indices_in words) (λ ends. (is_wide ends.0 ≡ true) × (is_wide ends.1 ≡ true))
-unfolding two_indices_in
+pub two_indices_in_keeps : (words : List (List ℕ)) → IfOk (just_two_indices words) (λ ends. (is_wide ends.0 ≡ true) × (is_wide ends.1 ≡ true))
+unfolding just_two_indices
 two_indices_in_keeps [] = tt
 two_indices_in_keeps (word ∷ []) = tt
 two_indices_in_keeps (word ∷ other ∷ []) = two_indices_keep word other
 two_indices_in_keeps (word ∷ other ∷ third ∷ words) = tt
 
-pub other_in_keeps : (d : Draft) (kind : Kind) (words : List (List ℕ)) → IfOk (other_in d kind words) (IsDeclaredAs d.containers kind)
-unfolding other_in
+pub other_in_keeps : (d : Draft) (kind : Kind) (words : List (List ℕ)) → IfOk (just_other d kind words) (IsDeclaredAs d.containers kind)
+unfolding just_other
 other_in_keeps d kind [] = tt
 other_in_keeps d kind (word ∷ []) = other_keeps d kind word
 other_in_keeps d kind (word ∷ other ∷ words) = tt
 
-pub made_cursor_in_keeps : (d : Draft) (words : List (List ℕ)) → IsCursors d.cursors → IfOk (made_cursor_in d words) (Made d)
-unfolding made_cursor_in
+pub made_cursor_in_keeps : (d : Draft) (words : List (List ℕ)) → IsCursors d.cursors → IfOk (just_made_cursor d words) (Made d)
+unfolding just_made_cursor
 made_cursor_in_keeps d [] are = tt
 made_cursor_in_keeps d (word ∷ []) are = made_cursor_keeps d word are
 made_cursor_in_keeps d (word ∷ other ∷ words) are = tt
 
-pub cursor_in_keeps : (d : Draft) (words : List (List ℕ)) → IfOk (cursor_in d words) (λ number. number < length d.cursors)
-unfolding cursor_in
+pub cursor_in_keeps : (d : Draft) (words : List (List ℕ)) → IfOk (just_cursor d words) (λ number. number < length d.cursors)
+unfolding just_cursor
 cursor_in_keeps d [] = tt
 cursor_in_keeps d (word ∷ []) = cursor_keeps d word
 cursor_in_keeps d (word ∷ other ∷ words) = tt
@@ -324,15 +323,15 @@ cursor_in_keeps d (word ∷ other ∷ words) = tt
 abbrev pub InSection : Draft → ℕ × Option ℕ → Type 0
 InSection d both = (both.0 < length d.containers) × IfSome both.1 (λ place. place < length d.containers)
 
-two_containers_keep : (d : Draft) (first second : List ℕ) → IfOk (two_containers_of d first second) (InSection d)
-unfolding two_containers_of
+two_containers_keep : (d : Draft) (first second : List ℕ) → IfOk (read_two_containers d first second) (InSection d)
+unfolding read_two_containers
 two_containers_keep d first second =
-    bind_holds (container_of d first) _ (λ place. place < length d.containers) (InSection d) (container_keeps d first) (λ a low_a.
-    bind_holds (container_of d second) _ (λ place. place < length d.containers) (InSection d) (container_keeps d second) (λ b low_b. (low_a, low_b)))
+    bind_holds (read_container d first) _ (λ place. place < length d.containers) (InSection d) (container_keeps d first) (λ a low_a.
+    bind_holds (read_container d second) _ (λ place. place < length d.containers) (InSection d) (container_keeps d second) (λ b low_b. (low_a, low_b)))
 
-pub section_in_keeps : (d : Draft) (words : List (List ℕ)) → IfOk (section_in d words) (InSection d)
-unfolding section_in
+pub section_in_keeps : (d : Draft) (words : List (List ℕ)) → IfOk (just_section d words) (InSection d)
+unfolding just_section
 section_in_keeps d [] = tt
-section_in_keeps d (word ∷ []) = bind_holds (container_of d word) _ (λ place. place < length d.containers) (InSection d) (container_keeps d word) (λ a low. (low, tt))
+section_in_keeps d (word ∷ []) = bind_holds (read_container d word) _ (λ place. place < length d.containers) (InSection d) (container_keeps d word) (λ a low. (low, tt))
 section_in_keeps d (word ∷ other ∷ []) = two_containers_keep d word other
 section_in_keeps d (word ∷ other ∷ third ∷ words) = tt

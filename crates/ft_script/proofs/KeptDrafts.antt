@@ -17,8 +17,8 @@ use Rattle.ft_script.specs.declared.fault.Fault.{Fault}
 use Rattle.ft_script.specs.Drafts.{script_of, end_thread, thread_place}
 use Rattle.ft_script.specs.ScriptLines.{thread_line}
 use Rattle.ft_script.specs.Transcripts.{IsWideCall}
-use Rattle.ft_script.proofs.Growing.{call_grows}
-use Rattle.ft_script.proofs.Tables.{absent, differ_push}
+use Rattle.ft_script.proofs.MoreCalls.{call_grows}
+use Rattle.ft_script.proofs.DistinctNames.{absent, differ_push}
 use Rattle.std.specs.Option.{is_some}
 use Rattle.ft_script.proofs.Kept.{IsTable, IsCursors, cond_holds, some_holds}
 use Rattle.ft_script.proofs.KeptLines.{depth_after_all, nested_from}

@@ -21,16 +21,16 @@ use Rattle.ft_script.specs.declared.fault.Fault.{Fault}
 use Rattle.ft_script.specs.CallWords.{call_word_of}
 use Rattle.ft_script.specs.LineWords.{natural_of}
 use Rattle.ft_script.specs.Drafts.{or_fault, container_place, script_of, thread_place}
-use Rattle.ft_script.specs.Arguments.{index_of}
-use Rattle.ft_script.specs.ScriptLines.{call_line, call_of, class_of, container_line, counted_call, declaration, depth_after, heap_line, is_reported, order_line, other_statement, past_limit, plain_statement, statement, tables_at, tables_line, tables_by_words, thread_statement, turn, turns, unordered_statement}
+use Rattle.ft_script.specs.Arguments.{read_index}
+use Rattle.ft_script.specs.ScriptLines.{call_line, read_call, read_class, container_line, counted_call, declaration, depth_after, heap_line, is_reported, order_line, other_statement, past_limit, plain_statement, statement, tables_at, tables_line, tables_by_words, thread_statement, read_turn, read_turns, unordered_statement}
 use Rattle.ft_script.specs.Transcripts.{IsWideCall}
 use Rattle.ft_script.proofs.Encoded.{BeginsNoThread}
-use Rattle.ft_script.proofs.Growing.{call_grows}
+use Rattle.ft_script.proofs.MoreCalls.{call_grows}
 use Rattle.ft_script.proofs.Kept.{AreGoodWords, anything, bind_holds, cond_holds, or_holds}
 use Rattle.ft_script.proofs.KeptCalls.{CallRead, Called, call_keeps}
 use Rattle.ft_script.proofs.KeptDrafts.{IsDraft, calls_in, no_place, passed, same_containers, thread_grows, thread_line_keeps}
 use Rattle.ft_script.proofs.KeptLines.{after_push}
-use Rattle.ft_script.proofs.Tables.{absent, differ_push, place_within}
+use Rattle.ft_script.proofs.DistinctNames.{absent, differ_push, place_within}
 
 -- ---- a draft that has more
 
@@ -124,12 +124,12 @@ tables_at_keeps : (d : Draft) (place : ℕ) (count : List ℕ) → IsDraft d →
 unfolding tables_at
 tables_at_keeps d place count h =
     cond_holds (is_reported (slice_get d.tables place)) _ _ IsDraft (λ _. tt) (λ _.
-    bind_holds (index_of count) _ (λ _. Unit {0}) IsDraft (anything (index_of count)) (λ n _.
+    bind_holds (read_index count) _ (λ _. Unit {0}) IsDraft (anything (read_index count)) (λ n _.
     cond_holds (int_le (pos 1) n && int_le n (pos 1024)) _ _ IsDraft (λ is. let limits = between 1 1024 n is in tables_reported d place (natural_of n) h limits.0 limits.1) (λ _. tt)))
 
 tables_by_words_keeps : (d : Draft) (class count : List ℕ) → IsDraft d → IfOk (tables_by_words d class count) IsDraft
 unfolding tables_by_words
-tables_by_words_keeps d class count h = bind_holds (class_of class) _ (λ _. Unit {0}) IsDraft (anything (class_of class)) (λ place _. tables_at_keeps d place count h)
+tables_by_words_keeps d class count h = bind_holds (read_class class) _ (λ _. Unit {0}) IsDraft (anything (read_class class)) (λ place _. tables_at_keeps d place count h)
 
 tables_line_keeps : (d : Draft) (words : List (List ℕ)) → IsDraft d → IfOk (tables_line d words) IsDraft
 unfolding tables_line
@@ -172,7 +172,7 @@ unfolding heap_line
 heap_line_keeps d [] h = tt
 heap_line_keeps d (count ∷ []) h =
     cond_holds (is_some d.heap) _ _ IsDraft (λ _. tt) (λ _.
-    bind_holds (index_of count) _ (λ _. Unit {0}) IsDraft (anything (index_of count)) (λ n _.
+    bind_holds (read_index count) _ (λ _. Unit {0}) IsDraft (anything (read_index count)) (λ n _.
     cond_holds (int_le (pos 64) n && int_le n (pos 4096) && eqb (natural_of n % 64) 0) _ _ IsDraft
     (λ is.
     let parts = and_parts (int_le (pos 64) n && int_le n (pos 4096)) (eqb (natural_of n % 64) 0) is in
@@ -222,18 +222,18 @@ turn_added d thread h low room =
       wide_threads = h.wide_threads;
     }
 
-turn_keeps : (d : Draft) (name : List ℕ) → IsDraft d → IfOk (turn d name) IsDraft
-unfolding turn
+turn_keeps : (d : Draft) (name : List ℕ) → IsDraft d → IfOk (read_turn d name) IsDraft
+unfolding read_turn
 turn_keeps d name h =
     cond_holds (not (is_thread_name name)) _ _ IsDraft (λ _. tt) (λ _.
     bind_holds (or_fault _ (thread_place d.threads name)) _ (λ thread. thread < length d.threads) IsDraft
     (or_holds _ (thread_place d.threads name) (λ thread. thread < length d.threads) (λ thread found. place_within (λ t. bytes_eq t.name name) d.threads thread found))
     (λ thread low. cond_holds (ltb (length d.order) 1000000) _ _ IsDraft (λ room. turn_added d thread h low (ltb-true (length d.order) 1000000 room)) (λ _. tt)))
 
-turns_keep : (names : List (List ℕ)) (d : Draft) → IsDraft d → IfOk (turns d names) IsDraft
-unfolding turns
+turns_keep : (names : List (List ℕ)) (d : Draft) → IsDraft d → IfOk (read_turns d names) IsDraft
+unfolding read_turns
 turns_keep [] d h = h
-turns_keep (name ∷ names) d h = bind_holds (turn d name) _ IsDraft IsDraft (turn_keeps d name h) (λ next g. turns_keep names next g)
+turns_keep (name ∷ names) d h = bind_holds (read_turn d name) _ IsDraft IsDraft (turn_keeps d name h) (λ next g. turns_keep names next g)
 
 order_line_keeps : (d : Draft) (words : List (List ℕ)) → IsDraft d → IfOk (order_line d words) IsDraft
 unfolding order_line
@@ -321,13 +321,13 @@ call_added d e called depth h room named read deeper =
 counted_call_keeps : (d : Draft) (word : CallWord) (words : List (List ℕ)) → IsDraft d → AreGoodWords words → is_some d.name ≡ true → d.called < 500000 → IfOk (counted_call d word words) IsDraft
 unfolding counted_call
 counted_call_keeps d word words h good named room =
-    bind_holds (call_of d word words) _ (Called d) IsDraft (call_keeps d word words h.table h.cursors_are good) (λ read g.
+    bind_holds (read_call d word words) _ (Called d) IsDraft (call_keeps d word words h.table h.cursors_are good) (λ read g.
     bind_holds (depth_after d.depth read.0) _ (λ depth. depth_after d.depth read.0 ≡ Ok depth) IsDraft (itself (depth_after d.depth read.0)) (λ depth deeper. call_added d read.1 read.0 depth h room named g deeper))
 
 call_line_keeps : (d : Draft) (word : CallWord) (words : List (List ℕ)) → IsDraft d → AreGoodWords words → is_some d.name ≡ true → IfOk (call_line d word words) IsDraft
 unfolding call_line
 call_line_keeps d word words h good named =
-    cond_holds (ltb d.called 500000) _ _ IsDraft (λ room. counted_call_keeps d word words h good named (ltb-true d.called 500000 room)) (λ _. past_keeps (call_of d word words))
+    cond_holds (ltb d.called 500000) _ _ IsDraft (λ room. counted_call_keeps d word words h good named (ltb-true d.called 500000 room)) (λ _. past_keeps (read_call d word words))
 
 thread_statement_keeps : (d : Draft) (word : List ℕ) (words : List (List ℕ)) → IsDraft d → AreGoodWords words → is_some d.name ≡ true → IfOk (thread_statement d word words) IsDraft
 unfolding thread_statement

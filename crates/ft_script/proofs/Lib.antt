@@ -1,6 +1,6 @@
 pub mod CallLemmas
 pub mod Encoded
-pub mod Growing
+pub mod MoreCalls
 pub mod Kept
 pub mod KeptCalls
 pub mod KeptDrafts
@@ -11,7 +11,7 @@ pub mod LineLemmas
 pub mod LineReading
 pub mod Printed
 pub mod StringLemmas
-pub mod Tables
+pub mod DistinctNames
 pub mod WholeText
 pub mod WordCuts
 pub mod WordLemmas
@@ -34,4 +34,4 @@ pub mod ReaderCalls
 pub mod TranscriptReading
 pub mod EntryChecks
 pub mod MadeScripts
-pub mod Making
+pub mod MadeLines

@@ -12,7 +12,7 @@ use Rattle.ft_model.specs.declared.script.ScriptParts.{ScriptParts}
 use Rattle.ft_model.specs.Histories.{cursors_of}
 use Rattle.ft_model.specs.Scripts.{IsScript, IsCallOf}
 use Rattle.ft_script.specs.declared.fault.Fault.{Fault}
-use Rattle.ft_script.specs.Internal.Candidates.{entry_of, content_of, numbered_of}
+use Rattle.ft_script.specs.Internal.Candidates.{read_entry, read_content, read_numbered}
 use Rattle.ft_script.specs.Internal.Readers.{NoEntry, NoContent, AddsEntry, AddsContent, IsLine, is_feedless, but_feed}
 use Rattle.ft_script.specs.Texts.{container_name, reply_text, entry_line_words, entry_line}
 use Rattle.ft_script.specs.Internal.Tokens.{tokens_of}
@@ -56,32 +56,32 @@ fits_by : {X : Type 0} (r : Result X Fault) (x : X) (P : X → Type 0) → r ≡
 fits_by (Ok y) x P is h = let same : y ≡ x = cc in subst P same h
 fits_by (Err e) x P is h = absurd cc
 
-pub entry_fits : (script : ScriptParts) (tokens : List (List ℕ)) (entry : Entry) → entry_of script tokens ≡ Ok entry → EntryFits script entry
-entry_fits script tokens entry is = fits_by (entry_of script tokens) entry (EntryFits script) is (entry_sound script tokens)
+pub entry_fits : (script : ScriptParts) (tokens : List (List ℕ)) (entry : Entry) → read_entry script tokens ≡ Ok entry → EntryFits script entry
+entry_fits script tokens entry is = fits_by (read_entry script tokens) entry (EntryFits script) is (entry_sound script tokens)
 
-pub numbered_low : (script : ScriptParts) (token : List ℕ) (numbered : ℕ × ℕ) → numbered_of script token ≡ Ok numbered → numbered.0 < length script.threads
-numbered_low script token numbered is = (fits_by (numbered_of script token) numbered (Numbered script) is (numbered_sound script token)).0
+pub numbered_low : (script : ScriptParts) (token : List ℕ) (numbered : ℕ × ℕ) → read_numbered script token ≡ Ok numbered → numbered.0 < length script.threads
+numbered_low script token numbered is = (fits_by (read_numbered script token) numbered (Numbered script) is (numbered_sound script token)).0
 
 abbrev pub read_entry_of : ScriptParts → List ℕ → Result Entry Fault
-read_entry_of script line = entry_of script (tokens_of line)
+read_entry_of script line = read_entry script (tokens_of line)
 
-pub no_entry_by_fault : (script : ScriptParts) (line : List ℕ) (found : Fault) → IsScript script → entry_of script (tokens_of line) ≡ Err found → NoEntry script line
+pub no_entry_by_fault : (script : ScriptParts) (line : List ℕ) (found : Fault) → IsScript script → read_entry script (tokens_of line) ≡ Err found → NoEntry script line
 no_entry_by_fault script line found rule is entry h same =
-    let back : entry_of script (tokens_of line) ≡ Ok entry = ap (read_entry_of script) same ∙ entry_read script entry rule h in
+    let back : read_entry script (tokens_of line) ≡ Ok entry = ap (read_entry_of script) same ∙ entry_read script entry rule h in
     let bad : Err found ≡ Ok entry = sym is ∙ back in absurd cc
 
 -- the one entry that may stand there doesn't
-pub no_entry_by_other : (script : ScriptParts) (line : List ℕ) (read : Entry) → IsScript script → entry_of script (tokens_of line) ≡ Ok read → (IsReadable script read → line ≡ entry_line script read → ⊥) → NoEntry script line
+pub no_entry_by_other : (script : ScriptParts) (line : List ℕ) (read : Entry) → IsScript script → read_entry script (tokens_of line) ≡ Ok read → (IsReadable script read → line ≡ entry_line script read → ⊥) → NoEntry script line
 no_entry_by_other script line read rule is not_it entry h same =
-    let back : entry_of script (tokens_of line) ≡ Ok entry = ap (read_entry_of script) same ∙ entry_read script entry rule h in
+    let back : read_entry script (tokens_of line) ≡ Ok entry = ap (read_entry_of script) same ∙ entry_read script entry rule h in
     let both : Ok read ≡ Ok entry = sym is ∙ back in
     let one : entry ≡ read = cc in
     not_it (subst (IsReadable script) one h) (same ∙ ap (entry_line script) one)
 
 -- ---- contents
 
-pub content_fits : (script : ScriptParts) (tokens : List (List ℕ)) (read : ℕ × Reply) → content_of script tokens ≡ Ok read → ContentFits script read
-content_fits script tokens read is = fits_by (content_of script tokens) read (ContentFits script) is (content_sound script tokens)
+pub content_fits : (script : ScriptParts) (tokens : List (List ℕ)) (read : ℕ × Reply) → read_content script tokens ≡ Ok read → ContentFits script read
+content_fits script tokens read is = fits_by (read_content script tokens) read (ContentFits script) is (content_sound script tokens)
 
 but_feed_of : (text : List ℕ) → but_feed (text ++ 10 ∷ []) ≡ text
 but_feed_of text =
@@ -103,19 +103,19 @@ content_by script line container content is fits whole same = record {
 }
 
 abbrev read_content_of : ScriptParts → List ℕ → Result (ℕ × Reply) Fault
-read_content_of script line = content_of script (tokens_of line)
+read_content_of script line = read_content script (tokens_of line)
 
-content_again : (script : ScriptParts) (line text : List ℕ) → IsScript script → (h : IsContentLine script text) → line ≡ text ++ 10 ∷ [] → content_of script (tokens_of line) ≡ Ok (h.container, h.content)
+content_again : (script : ScriptParts) (line text : List ℕ) → IsScript script → (h : IsContentLine script text) → line ≡ text ++ 10 ∷ [] → read_content script (tokens_of line) ≡ Ok (h.container, h.content)
 content_again script line text rule h same = ap (read_content_of script) (same ∙ h.written) ∙ content_back script h.container h.content rule h.declared h.whole h.of_script h.wide
 
-pub no_content_by_fault : (script : ScriptParts) (line : List ℕ) (found : Fault) → IsScript script → content_of script (tokens_of line) ≡ Err found → NoContent script line
+pub no_content_by_fault : (script : ScriptParts) (line : List ℕ) (found : Fault) → IsScript script → read_content script (tokens_of line) ≡ Err found → NoContent script line
 no_content_by_fault script line found rule is text h same =
     let pair : ℕ × Reply = (h.container, h.content) in
     let bad : Err found ≡ Ok pair = sym is ∙ content_again script line text rule h same in absurd cc
 
-pub no_content_by_other : (script : ScriptParts) (line : List ℕ) (container : ℕ) (content : Reply) → IsScript script → content_of script (tokens_of line) ≡ Ok (container, content) → (IsContentReply content → line ≡ content_line script container content → ⊥) → NoContent script line
+pub no_content_by_other : (script : ScriptParts) (line : List ℕ) (container : ℕ) (content : Reply) → IsScript script → read_content script (tokens_of line) ≡ Ok (container, content) → (IsContentReply content → line ≡ content_line script container content → ⊥) → NoContent script line
 no_content_by_other script line container content rule is not_it text h same =
-    let back : content_of script (tokens_of line) ≡ Ok (h.container, h.content) = content_again script line text rule h same in
+    let back : read_content script (tokens_of line) ≡ Ok (h.container, h.content) = content_again script line text rule h same in
     let read : ℕ × Reply = (container, content) in
     let again : ℕ × Reply = (h.container, h.content) in
     let both : Ok read ≡ Ok again = sym is ∙ back in

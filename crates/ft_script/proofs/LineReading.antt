@@ -9,7 +9,7 @@ use Rattle.ft_script.specs.declared.fault.ScriptFault.{ScriptFault}
 use Rattle.ft_script.specs.Faults.{no_memory, fault_at}
 use Rattle.ft_script.specs.Internal.Outcomes.{Fails, LeavesDraft, reported}
 use Rattle.ft_script.specs.Drafts.{◌>>=◌, end_thread}
-use Rattle.ft_script.specs.ScriptLines.{turn, turns, read_line}
+use Rattle.ft_script.specs.ScriptLines.{read_turn, read_turns, read_line}
 use Rattle.ft_script.specs.ReadScripts.{line_after, reported_at, read_lines}
 
 -- ---- names of an `order` line
@@ -18,40 +18,40 @@ abbrev shown : List (Bor (List ℕ)) → List (List ℕ)
 shown names = map (λ (word : Bor (List ℕ)). word.now) names
 
 abbrev after_name : List (List ℕ) → Result Draft Fault → Result Draft Fault
-after_name names next = elim next [ Ok d ↦ turns d names | Err e ↦ Err e ]
+after_name names next = elim next [ Ok d ↦ read_turns d names | Err e ↦ Err e ]
 
-at_name : (draft : Draft) (name : List ℕ) (names : List (List ℕ)) (next : Result Draft Fault) → turn draft name ≡ next → (turn draft name >>= λ d. turns d names) ≡ after_name names next
+at_name : (draft : Draft) (name : List ℕ) (names : List (List ℕ)) (next : Result Draft Fault) → read_turn draft name ≡ next → (read_turn draft name >>= λ d. read_turns d names) ≡ after_name names next
 at_name draft name names (Ok d) is = rw is refl
 at_name draft name names (Err e) is = rw is refl
 
-turns_first : (draft : Draft) (name : List ℕ) (names : List (List ℕ)) → turns draft (name ∷ names) ≡ (turn draft name >>= λ d. turns d names)
-unfolding turns
+turns_first : (draft : Draft) (name : List ℕ) (names : List (List ℕ)) → read_turns draft (name ∷ names) ≡ (read_turn draft name >>= λ d. read_turns d names)
+unfolding read_turns
 turns_first draft name names = refl
 
-turns_cons : (draft : Draft) (name : List ℕ) (names : List (List ℕ)) (next : Result Draft Fault) → turn draft name ≡ next → turns draft (name ∷ names) ≡ after_name names next
+turns_cons : (draft : Draft) (name : List ℕ) (names : List (List ℕ)) (next : Result Draft Fault) → read_turn draft name ≡ next → read_turns draft (name ∷ names) ≡ after_name names next
 turns_cons draft name names next is = turns_first draft name names ∙ at_name draft name names next is
 
-no_turns : (draft : Draft) → turns draft [] ≡ Ok draft
-unfolding turns
+no_turns : (draft : Draft) → read_turns draft [] ≡ Ok draft
+unfolding read_turns
 no_turns draft = refl
 
 next_name : (names : List (Bor (List ℕ))) (i : ℕ) (d : Bor (List ℕ)) → i < length names → shown (drop i names) ≡ (get_or names i d).now ∷ shown (drop (i + 1) names)
 next_name names i d low = let next : suc i ≡ i + 1 = omega arith in ap shown (drop-cons names i d low) ∙ ap (λ (k : ℕ). (get_or names i d).now ∷ shown (drop k names)) next
 
-pub turns_on : (draft next : Draft) (names : List (Bor (List ℕ))) (i : ℕ) (d : Bor (List ℕ)) (whole : Result Draft Fault) → i < length names → turn draft (get_or names i d).now ≡ Ok next
-    → turns draft (shown (drop i names)) ≡ whole → turns next (shown (drop (i + 1) names)) ≡ whole
+pub turns_on : (draft next : Draft) (names : List (Bor (List ℕ))) (i : ℕ) (d : Bor (List ℕ)) (whole : Result Draft Fault) → i < length names → read_turn draft (get_or names i d).now ≡ Ok next
+    → read_turns draft (shown (drop i names)) ≡ whole → read_turns next (shown (drop (i + 1) names)) ≡ whole
 turns_on draft next names i d whole low read so_far =
-    sym (ap (turns draft) (next_name names i d low) ∙ turns_cons draft (get_or names i d).now (shown (drop (i + 1) names)) (Ok next) read) ∙ so_far
+    sym (ap (read_turns draft) (next_name names i d low) ∙ turns_cons draft (get_or names i d).now (shown (drop (i + 1) names)) (Ok next) read) ∙ so_far
 
-pub turns_end : (e : LineError) (draft : Draft) (names : List (Bor (List ℕ))) (i : ℕ) (d : Bor (List ℕ)) (whole : Result Draft Fault) → i < length names → Fails e (turn draft (get_or names i d).now)
-    → turns draft (shown (drop i names)) ≡ whole → Fails e whole
+pub turns_end : (e : LineError) (draft : Draft) (names : List (Bor (List ℕ))) (i : ℕ) (d : Bor (List ℕ)) (whole : Result Draft Fault) → i < length names → Fails e (read_turn draft (get_or names i d).now)
+    → read_turns draft (shown (drop i names)) ≡ whole → Fails e whole
 turns_end error.Memory draft names i d whole low read so_far = tt
 turns_end (error.Fault found) draft names i d whole low read so_far =
-    sym so_far ∙ ap (turns draft) (next_name names i d low) ∙ turns_cons draft (get_or names i d).now (shown (drop (i + 1) names)) (Err found) read
+    sym so_far ∙ ap (read_turns draft) (next_name names i d low) ∙ turns_cons draft (get_or names i d).now (shown (drop (i + 1) names)) (Err found) read
 
-pub turns_done : (draft : Draft) (names : List (Bor (List ℕ))) (i : ℕ) (whole : Result Draft Fault) → length names ≤ i → turns draft (shown (drop i names)) ≡ whole → whole ≡ Ok draft
+pub turns_done : (draft : Draft) (names : List (Bor (List ℕ))) (i : ℕ) (whole : Result Draft Fault) → length names ≤ i → read_turns draft (shown (drop i names)) ≡ whole → whole ≡ Ok draft
 turns_done draft names i whole past so_far =
-    sym so_far ∙ ap (λ (l : List (Bor (List ℕ))). turns draft (shown l)) (drop_of_length-le names past) ∙ no_turns draft
+    sym so_far ∙ ap (λ (l : List (Bor (List ℕ))). read_turns draft (shown l)) (drop_of_length-le names past) ∙ no_turns draft
 
 -- ---- lines
 

@@ -28,12 +28,12 @@ use Rattle.ft_script.specs.Drafts.{Draft}
 use Rattle.ft_script.specs.declared.fault.ScriptFault.{ScriptFault}
 use Rattle.ft_script.specs.declared.lines.Place.{Place}
 use Rattle.ft_script.specs.declared.lines.Place.TheVariants as place
-use Rattle.ft_script.specs.Arguments.{container_of, index_in, index_of, key_and_value_in, key_and_value_of, key_in, key_of, nothing_in, value_in, value_of}
+use Rattle.ft_script.specs.Arguments.{read_container, just_index, read_index, just_key_and_value, read_key_and_value, just_key, read_key, just_nothing, just_value, read_value}
 use Rattle.ft_script.specs.CallWords.{call_word_of}
 use Rattle.ft_script.specs.Drafts.{empty_draft, end_thread, script_of}
 use Rattle.ft_script.specs.Generator.{call_by, calls_above, head_words, made_call, made_calls, made_head, made_script, made_text, made_thread, number_at, share, thread_words}
 use Rattle.ft_script.specs.Lines.{ends_thread, is_comment, byte_joined, lines_of, place_after, with_first, words_from, words_of}
-use Rattle.ft_script.specs.ScriptLines.{call_at, call_line, call_of, class_of, container_call, container_line, counted_call, declaration, depth_after, dict_call, heap_line, list_call, open_line, other_statement, plain_statement, read_line, set_call, statement, tables_at, tables_line, tables_by_words, thread_line, thread_statement, unordered_statement, words_line}
+use Rattle.ft_script.specs.ScriptLines.{call_at, call_line, read_call, read_class, container_call, container_line, counted_call, declaration, depth_after, dict_call, heap_line, list_call, open_line, other_statement, plain_statement, read_line, set_call, statement, tables_at, tables_line, tables_by_words, thread_line, thread_statement, unordered_statement, words_line}
 use Rattle.ft_script.specs.ReadScripts.{line_after, read_lines, read_script, reported_at}
 use Rattle.ft_script.specs.Texts.{call_words, line}
 use Rattle.ft_script.specs.LineWords.{integer_of, is_wide}
@@ -196,7 +196,7 @@ within name threads calls count = record empty_draft {
 }
 
 stated : (name : List ℕ) (threads : List Thread) (calls : List Call) (count : ℕ) (word : List ℕ) (words : List (List ℕ)) (found : CallWord) (called : Call) →
-    bytes_eq word (codes "order") ≡ false → bytes_eq word (codes "thread") ≡ false → call_word_of word ≡ Some found → call_of (within name threads calls count) found words ≡ Ok (called, within name threads calls count) →
+    bytes_eq word (codes "order") ≡ false → bytes_eq word (codes "thread") ≡ false → call_word_of word ≡ Some found → read_call (within name threads calls count) found words ≡ Ok (called, within name threads calls count) →
     depth_after 0 called ≡ Ok 0 → count < 500000 → statement (within name threads calls count) (word ∷ words) ≡ Ok (within name threads (calls ++ called ∷ []) (count + 1))
 unfolding statement other_statement unordered_statement plain_statement thread_statement call_line counted_call
 stated name threads calls count word words found called order thread is read depth low = rw (order, thread, is, lt-ltb count 500000 low, read, depth) refl
@@ -209,7 +209,7 @@ record IsGoodCall (called : Call) : Type 0 where
 
 good_by : (called : Call) (word : List ℕ) (words : List (List ℕ)) (found : CallWord) → call_words made_head 0 called ≡ word ∷ words → AllByRecursion IsPlain (word ∷ words) →
     is_comment (join_with_byte 32 (word ∷ words)) ≡ false → ends_thread (join_with_byte 32 (word ∷ words)) ≡ false → bytes_eq word (codes "order") ≡ false → bytes_eq word (codes "thread") ≡ false → call_word_of word ≡ Some found →
-    depth_after 0 called ≡ Ok 0 → ((name : List ℕ) (threads : List Thread) (calls : List Call) (count : ℕ) → call_of (within name threads calls count) found words ≡ Ok (called, within name threads calls count)) → IsGoodCall called
+    depth_after 0 called ≡ Ok 0 → ((name : List ℕ) (threads : List Thread) (calls : List Call) (count : ℕ) → read_call (within name threads calls count) found words ≡ Ok (called, within name threads calls count)) → IsGoodCall called
 good_by called word words found are plain comment ends order thread is depth read = record {
   plain = subst (AllByRecursion IsPlain) (sym are) plain;
   reads = λ name threads calls count low.
@@ -239,51 +239,51 @@ plain_digits (d ∷ ds) first h = let low : 45 ≤ d = first.0 in (ne_eqb d 34 (
 number_word : (k : ℕ) → k < 1000 → IsPlain (decimal k)
 number_word k low = plain_digits (decimal k) (decimal_word k (omega arith)).1 (are_digits k (omega arith))
 
-key_read : (draft : Draft) (k : ℕ) → k < 1000 → key_of draft (decimal k) ≡ Ok (key.Int (pos k), draft)
-unfolding key_of
+key_read : (draft : Draft) (k : ℕ) → k < 1000 → read_key draft (decimal k) ≡ Ok (key.Int (pos k), draft)
+unfolding read_key
 key_read draft k low = rw (numbers_are_no_strings (decimal k) (decimal_word k (omega arith)).1, index_signed (pos k) (wide k low)) refl
 
-value_read : (draft : Draft) (k : ℕ) → k < 1000 → value_of draft (decimal k) ≡ Ok (value.Int (pos k), draft)
-unfolding value_of
+value_read : (draft : Draft) (k : ℕ) → k < 1000 → read_value draft (decimal k) ≡ Ok (value.Int (pos k), draft)
+unfolding read_value
 value_read draft k low = rw (numbers_are_not_none (decimal k) (decimal_word k (omega arith)).1, key_read draft k low) refl
 
 good_set : (k : ℕ) → k < 1000 → IsGoodCall (call.Dict 0 (dict.Set (key.Int (pos k)) (value.Int (pos k))))
-unfolding call_of container_call container_of call_at dict_call key_and_value_in key_and_value_of depth_after
+unfolding read_call container_call read_container call_at dict_call just_key_and_value read_key_and_value depth_after
 good_set k low = good_by _ (codes "set") (codes "d" ∷ decimal k ∷ decimal k ∷ []) (On of.Set) refl ((refl, refl), ((refl, refl), (number_word k low, (number_word k low, tt)))) refl refl refl refl (word_back (On of.Set)) refl
     (λ name threads calls count. rw (key_read (within name threads calls count) k low, value_read (within name threads calls count) k low) refl)
 
 good_get : (k : ℕ) → k < 1000 → IsGoodCall (call.Dict 0 (dict.Get (key.Int (pos k))))
-unfolding call_of container_call container_of call_at dict_call key_in depth_after
+unfolding read_call container_call read_container call_at dict_call just_key depth_after
 good_get k low = good_by _ (codes "get") (codes "d" ∷ decimal k ∷ []) (On of.Get) refl ((refl, refl), ((refl, refl), (number_word k low, tt))) refl refl refl refl (word_back (On of.Get)) refl
     (λ name threads calls count. rw (key_read (within name threads calls count) k low) refl)
 
 good_del : (k : ℕ) → k < 1000 → IsGoodCall (call.Dict 0 (dict.Del (key.Int (pos k))))
-unfolding call_of container_call container_of call_at dict_call key_in depth_after
+unfolding read_call container_call read_container call_at dict_call just_key depth_after
 good_del k low = good_by _ (codes "del") (codes "d" ∷ decimal k ∷ []) (On of.Del) refl ((refl, refl), ((refl, refl), (number_word k low, tt))) refl refl refl refl (word_back (On of.Del)) refl
     (λ name threads calls count. rw (key_read (within name threads calls count) k low) refl)
 
 good_append : (k : ℕ) → k < 1000 → IsGoodCall (call.List 1 (list.Append (value.Int (pos k))))
-unfolding call_of container_call container_of call_at list_call value_in depth_after
+unfolding read_call container_call read_container call_at list_call just_value depth_after
 good_append k low = good_by _ (codes "append") (codes "l" ∷ decimal k ∷ []) (On of.Append) refl ((refl, refl), ((refl, refl), (number_word k low, tt))) refl refl refl refl (word_back (On of.Append)) refl
     (λ name threads calls count. rw (value_read (within name threads calls count) k low) refl)
 
 good_item : (k : ℕ) → k < 1000 → IsGoodCall (call.List 1 (list.Get (pos k)))
-unfolding call_of container_call container_of call_at list_call index_in depth_after
+unfolding read_call container_call read_container call_at list_call just_index depth_after
 good_item k low = good_by _ (codes "get") (codes "l" ∷ decimal k ∷ []) (On of.Get) refl ((refl, refl), ((refl, refl), (number_word k low, tt))) refl refl refl refl (word_back (On of.Get)) refl
     (λ name threads calls count. rw (index_signed (pos k) (wide k low)) refl)
 
 good_add : (k : ℕ) → k < 1000 → IsGoodCall (call.Set 2 (set.Add (key.Int (pos k))))
-unfolding call_of container_call container_of call_at set_call key_in depth_after
+unfolding read_call container_call read_container call_at set_call just_key depth_after
 good_add k low = good_by _ (codes "add") (codes "s" ∷ decimal k ∷ []) (On of.Add) refl ((refl, refl), ((refl, refl), (number_word k low, tt))) refl refl refl refl (word_back (On of.Add)) refl
     (λ name threads calls count. rw (key_read (within name threads calls count) k low) refl)
 
 good_discard : (k : ℕ) → k < 1000 → IsGoodCall (call.Set 2 (set.Discard (key.Int (pos k))))
-unfolding call_of container_call container_of call_at set_call key_in depth_after
+unfolding read_call container_call read_container call_at set_call just_key depth_after
 good_discard k low = good_by _ (codes "discard") (codes "s" ∷ decimal k ∷ []) (On of.Discard) refl ((refl, refl), ((refl, refl), (number_word k low, tt))) refl refl refl refl (word_back (On of.Discard)) refl
     (λ name threads calls count. rw (key_read (within name threads calls count) k low) refl)
 
 good_quiesce : IsGoodCall call.Quiesce
-unfolding call_of nothing_in depth_after
+unfolding read_call just_nothing depth_after
 good_quiesce = good_by _ (codes "quiesce") [] Quiesce refl ((refl, refl), tt) refl refl refl refl (word_back Quiesce) refl (λ name threads calls count. refl)
 
 pick : {A : Type 0} (b : Bool) (x y : A) (P : A → Type 0) → P x → P y → P (cond b x y)
@@ -425,11 +425,11 @@ abbrev sixteen : List (Option ℕ)
 sixteen = slice_set (replicate class_count None) 9 (Some 16)
 
 heap_read : read_line empty_draft (codes "heap 4096") ≡ Ok (heading (replicate class_count None) [])
-unfolding statement other_statement unordered_statement plain_statement declaration heap_line index_of integer_of
+unfolding statement other_statement unordered_statement plain_statement declaration heap_line read_index integer_of
 heap_read = by_words empty_draft (codes "heap 4096") (codes "heap" ∷ codes "4096" ∷ []) refl refl (words_back (codes "heap" ∷ codes "4096" ∷ []) ((refl, refl), ((refl, refl), tt))) ∙ refl
 
 tables_read : read_line (heading (replicate class_count None) []) (codes "tables 12 16") ≡ Ok (heading sixteen [])
-unfolding statement other_statement unordered_statement plain_statement declaration tables_line tables_by_words class_of tables_at index_of integer_of
+unfolding statement other_statement unordered_statement plain_statement declaration tables_line tables_by_words read_class tables_at read_index integer_of
 tables_read = by_words _ (codes "tables 12 16") (codes "tables" ∷ codes "12" ∷ codes "16" ∷ []) refl refl (words_back (codes "tables" ∷ codes "12" ∷ codes "16" ∷ []) ((refl, refl), ((refl, refl), ((refl, refl), tt)))) ∙ refl
 
 dict_read : read_line (heading sixteen []) (codes "dict d") ≡ Ok (heading sixteen (containers_before 1))

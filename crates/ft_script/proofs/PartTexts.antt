@@ -19,8 +19,8 @@ use Rattle.ft_model.specs.Scripts.{IsKeyOf, IsValueOf}
 use Rattle.ft_model.specs.Keys.{as_value}
 use Rattle.ft_script.specs.declared.fault.Fault.{Fault}
 use Rattle.ft_script.specs.declared.fault.Fault.TheVariants as fault
-use Rattle.ft_script.specs.Arguments.{index_of}
-use Rattle.ft_script.specs.Internal.Candidates.{is_decimal, natural_in, u64_of, u32_of, known_key, known_value, known_pair}
+use Rattle.ft_script.specs.Arguments.{read_index}
+use Rattle.ft_script.specs.Internal.Candidates.{is_decimal, natural_in, read_u64, read_u32, known_key, known_value, known_pair}
 use Rattle.ft_script.specs.Drafts.{◌>>=◌, or_fault, text_place}
 use Rattle.ft_script.specs.Texts.{quoted, key_text, value_text}
 use Rattle.ft_script.specs.Transcripts.{IsWideKey, IsWideValue}
@@ -160,15 +160,15 @@ natural_decimal n low =
 abbrev good : {X : Type 0} → X → Result X Fault
 good x = Ok x
 
-pub u64_decimal : (n : ℕ) → n < 2 ^ 64 → u64_of (decimal n) ≡ Ok n
-unfolding u64_of
+pub u64_decimal : (n : ℕ) → n < 2 ^ 64 → read_u64 (decimal n) ≡ Ok n
+unfolding read_u64
 u64_decimal n low = ap (or_fault fault.Number) (natural_decimal n low)
 
 abbrev below_32 : ℕ → Result ℕ Fault
 below_32 n = cond (ltb n (2 ^ 32)) (Ok n) (Err fault.Number)
 
-pub u32_decimal : (n : ℕ) → n < 2 ^ 32 → u32_of (decimal n) ≡ Ok n
-unfolding u32_of
+pub u32_decimal : (n : ℕ) → n < 2 ^ 32 → read_u32 (decimal n) ≡ Ok n
+unfolding read_u32
 u32_decimal n low = ap (λ (r : Result ℕ Fault). r >>= below_32) (u64_decimal n (omega arith)) ∙ ap (λ (b : Bool). cond b (good n) (Err fault.Number)) (lt-ltb n (2 ^ 32) low)
 
 -- ---- integers
@@ -228,8 +228,8 @@ integer_signed n h =
     let v : signed_digits_value 10 (signed_decimal n) ≡ n = signed_value n h in
     integer_by (signed_decimal n) true true (signed_integer n h) (ap is_wide v ∙ h) ∙ ap (λ (m : ℤ). Some m) v
 
-pub index_signed : (n : ℤ) → is_wide n ≡ true → index_of (signed_decimal n) ≡ Ok n
-unfolding index_of
+pub index_signed : (n : ℤ) → is_wide n ≡ true → read_index (signed_decimal n) ≡ Ok n
+unfolding read_index
 index_signed n h = ap (or_fault fault.Number) (integer_signed n h)
 
 pub signed_word : (n : ℤ) → is_wide n ≡ true → IsWord (signed_decimal n) × BeginsNumber (signed_decimal n)
@@ -269,7 +269,7 @@ numbers_are_not_none [] h = absurd h
 numbers_are_not_none (b ∷ bytes) h = let high : b ≤ 57 = h.1 in rw (ne_eqb b 78 (λ e. omega arith)) refl
 
 abbrev key_by : List (List ℕ) → List ℕ → Bool → Result Key Fault
-key_by strings token is = cond is (or_fault fault.String (text_place strings (text_of token)) >>= λ place. Ok (key.Text (record { 0 = place }))) (index_of token >>= λ n. Ok (key.Int n))
+key_by strings token is = cond is (or_fault fault.String (text_place strings (text_of token)) >>= λ place. Ok (key.Text (record { 0 = place }))) (read_index token >>= λ n. Ok (key.Int n))
 
 key_is : (strings : List (List ℕ)) (token : List ℕ) (is : Bool) → is_string token ≡ is → known_key strings token ≡ key_by strings token is
 unfolding known_key

@@ -22,7 +22,7 @@ use Rattle.ft_model.specs.Classes.{least_class, greatest_class}
 use Rattle.ft_script.specs.declared.fault.Fault.{Fault}
 use Rattle.ft_script.specs.declared.reply_words.ReplyWord.{ReplyWord}
 use Rattle.ft_script.specs.declared.reply_words.ReplyWord.TheVariants as word
-use Rattle.ft_script.specs.Internal.Candidates.{known_key, known_value, known_pair, each_of, pairs_of, reply_word_text, reply_word_of, suspended_of, runtime_error_of, class_error_of, memory_error_of, has_pairs, braced_of, but_last, worded_reply, counted_reply, shown_reply, first_reply, reply_of}
+use Rattle.ft_script.specs.Internal.Candidates.{known_key, known_value, known_pair, read_each, read_pairs, reply_word_text, read_reply_word, read_suspended, read_runtime_error, read_class_error, read_memory_error, has_pairs, read_braced, but_last, worded_reply, counted_reply, shown_reply, first_reply, read_reply}
 use Rattle.ft_script.specs.Drafts.{◌>>=◌}
 use Rattle.ft_script.specs.Texts.{key_text, value_text, pair_text, listed, raise_text, reply_text}
 use Rattle.ft_script.specs.Internal.Tokens.{tokens_of}
@@ -141,8 +141,8 @@ reply_is_cut strings counted (reply.Raised raised) wide h = raise_is_cut counted
 
 -- ---- reading back
 
-word_back : (w : ReplyWord) → reply_word_of (reply_word_text w) ≡ Some w
-unfolding reply_word_of
+word_back : (w : ReplyWord) → read_reply_word (reply_word_text w) ≡ Some w
+unfolding read_reply_word
 word_back word.Done = refl
 word_back word.True = refl
 word_back word.False = refl
@@ -159,22 +159,22 @@ word_back word.NoElements = refl
 word_back word.Brace = refl
 word_back word.Bracket = refl
 
-no_word : (token : List ℕ) → BeginsShown token → reply_word_of token ≡ None
-unfolding reply_word_of
+no_word : (token : List ℕ) → BeginsShown token → read_reply_word token ≡ None
+unfolding read_reply_word
 no_word [] h = absurd h
 no_word (b ∷ bytes) (inl low) =
     rw (ne_eqb 111 b (λ e. omega arith), ne_eqb 84 b (λ e. omega arith), ne_eqb 70 b (λ e. omega arith), ne_eqb 83 b (λ e. omega arith), ne_eqb 101 b (λ e. omega arith), ne_eqb 107 b (λ e. omega arith), ne_eqb 115 b (λ e. omega arith), ne_eqb 75 b (λ e. omega arith), ne_eqb 73 b (λ e. omega arith), ne_eqb 86 b (λ e. omega arith), ne_eqb 82 b (λ e. omega arith), ne_eqb 77 b (λ e. omega arith), ne_eqb 123 b (λ e. omega arith), ne_eqb 91 b (λ e. omega arith)) refl
 no_word (b ∷ bytes) (inr is) = rw is refl
 
-by_word : (strings : List (List ℕ)) (counted : Bool) (w : ReplyWord) (tokens : List (List ℕ)) → reply_of strings counted (reply_word_text w ∷ tokens) ≡ worded_reply strings w tokens
-unfolding reply_of first_reply
+by_word : (strings : List (List ℕ)) (counted : Bool) (w : ReplyWord) (tokens : List (List ℕ)) → read_reply strings counted (reply_word_text w ∷ tokens) ≡ worded_reply strings w tokens
+unfolding read_reply first_reply
 by_word strings counted w tokens = rw (word_back w) refl
 
-by_none : (strings : List (List ℕ)) (counted : Bool) (first : List ℕ) (tokens : List (List ℕ)) → BeginsShown first → reply_of strings counted (first ∷ tokens) ≡ shown_reply strings counted first tokens
-unfolding reply_of first_reply
+by_none : (strings : List (List ℕ)) (counted : Bool) (first : List ℕ) (tokens : List (List ℕ)) → BeginsShown first → read_reply strings counted (first ∷ tokens) ≡ shown_reply strings counted first tokens
+unfolding read_reply first_reply
 by_none strings counted first tokens h = rw (no_word first h) refl
 
-each_back : {X : Type 0} (read : List ℕ → Result X Fault) (text : X → List ℕ) (P : X → Type 0) → ((x : X) → P x → read (text x) ≡ Ok x) → (xs : List X) → All P xs → each_of read (map text xs) ≡ Ok xs
+each_back : {X : Type 0} (read : List ℕ → Result X Fault) (text : X → List ℕ) (P : X → Type 0) → ((x : X) → P x → read (text x) ≡ Ok x) → (xs : List X) → All P xs → read_each read (map text xs) ≡ Ok xs
 each_back read text P each [] all = each_nothing read
 each_back {X = X} read text P each (x ∷ xs) all =
     each_first read (text x) (map text xs) (Ok x) (each x (All-head P x xs all)) ∙ ap (λ (r : Result (List X) Fault). fronted r x) (each_back read text P each xs (All-tail P x xs all))
@@ -182,8 +182,8 @@ each_back {X = X} read text P each (x ∷ xs) all =
 abbrev IsPairOf : ℕ → Key × Value → Type 0
 IsPairOf n pair = (IsKeyOf n pair.0 × IsValueOf n pair.1) × (IsWideKey pair.0 × IsWideValue pair.1)
 
-pairs_back : (strings : List (List ℕ)) → AllPairs (λ a b. a ≢ b) strings → (pairs : List (Key × Value)) → All (IsPairOf (length strings)) pairs → pairs_of strings (flat_map (pair_tokens strings) pairs) ≡ Ok pairs
-unfolding pairs_of
+pairs_back : (strings : List (List ℕ)) → AllPairs (λ a b. a ≢ b) strings → (pairs : List (Key × Value)) → All (IsPairOf (length strings)) pairs → read_pairs strings (flat_map (pair_tokens strings) pairs) ≡ Ok pairs
+unfolding read_pairs
 pairs_back strings differ [] all = refl
 pairs_back strings differ (pair ∷ pairs) all =
     let P : Key × Value → Type 0 = IsPairOf (length strings) in
@@ -218,43 +218,43 @@ set_reply elements = Ok (reply.Set elements)
 abbrev list_reply : List Value → Result Reply Fault
 list_reply items = Ok (reply.List items)
 
-braced_by : (strings tokens : List (List ℕ)) (pairs : Bool) → has_pairs tokens ≡ pairs → braced_of strings tokens ≡ cond pairs (pairs_of strings tokens >>= dict_reply) (each_of (known_key strings) tokens >>= set_reply)
-unfolding braced_of
+braced_by : (strings tokens : List (List ℕ)) (pairs : Bool) → has_pairs tokens ≡ pairs → read_braced strings tokens ≡ cond pairs (read_pairs strings tokens >>= dict_reply) (read_each (known_key strings) tokens >>= set_reply)
+unfolding read_braced
 braced_by strings tokens pairs is = rw is refl
 
-worded_brace : (strings tokens : List (List ℕ)) → worded_reply strings word.Brace tokens ≡ braced_of strings (but_last tokens)
+worded_brace : (strings tokens : List (List ℕ)) → worded_reply strings word.Brace tokens ≡ read_braced strings (but_last tokens)
 unfolding worded_reply
 worded_brace strings tokens = refl
 
-worded_bracket : (strings tokens : List (List ℕ)) → worded_reply strings word.Bracket tokens ≡ (each_of (known_value strings) (but_last tokens) >>= list_reply)
+worded_bracket : (strings tokens : List (List ℕ)) → worded_reply strings word.Bracket tokens ≡ (read_each (known_value strings) (but_last tokens) >>= list_reply)
 unfolding worded_reply
 worded_bracket strings tokens = refl
 
 all_both : {X : Type 0} (P Q : X → Type 0) (xs : List X) → All P xs → All Q xs → All (λ x. P x × Q x) xs
 all_both P Q xs p q k d low = (p k d low, q k d low)
 
-dict_back : (strings : List (List ℕ)) (counted : Bool) (pairs : List (Key × Value)) → AllPairs (λ a b. a ≢ b) strings → IsReplyOf (length strings) (reply.Dict pairs) → IsWideReply (reply.Dict pairs) → reply_of strings counted (reply_tokens strings (reply.Dict pairs)) ≡ Ok (reply.Dict pairs)
+dict_back : (strings : List (List ℕ)) (counted : Bool) (pairs : List (Key × Value)) → AllPairs (λ a b. a ≢ b) strings → IsReplyOf (length strings) (reply.Dict pairs) → IsWideReply (reply.Dict pairs) → read_reply strings counted (reply_tokens strings (reply.Dict pairs)) ≡ Ok (reply.Dict pairs)
 dict_back strings counted pairs differ of wide =
     let tokens : List (List ℕ) = flat_map (pair_tokens strings) pairs in
-    by_word strings counted word.Brace (tokens ++ codes "}" ∷ []) ∙ worded_brace strings (tokens ++ codes "}" ∷ []) ∙ ap (braced_of strings) (front_back tokens (codes "}"))
+    by_word strings counted word.Brace (tokens ++ codes "}" ∷ []) ∙ worded_brace strings (tokens ++ codes "}" ∷ []) ∙ ap (read_braced strings) (front_back tokens (codes "}"))
     ∙ braced_by strings tokens true (pairs_have strings pairs)
     ∙ ap (λ (r : Result (List (Key × Value)) Fault). r >>= dict_reply) (pairs_back strings differ pairs (λ k d low. (of k d low, wide k d low)))
 
-set_back : (strings : List (List ℕ)) (counted : Bool) (element : Key) (elements : List Key) → AllPairs (λ a b. a ≢ b) strings → All (IsKeyOf (length strings)) (element ∷ elements) → All IsWideKey (element ∷ elements) → reply_of strings counted (reply_tokens strings (reply.Set (element ∷ elements))) ≡ Ok (reply.Set (element ∷ elements))
+set_back : (strings : List (List ℕ)) (counted : Bool) (element : Key) (elements : List Key) → AllPairs (λ a b. a ≢ b) strings → All (IsKeyOf (length strings)) (element ∷ elements) → All IsWideKey (element ∷ elements) → read_reply strings counted (reply_tokens strings (reply.Set (element ∷ elements))) ≡ Ok (reply.Set (element ∷ elements))
 set_back strings counted element elements differ of wide =
     let keys : List Key = element ∷ elements in
     let tokens : List (List ℕ) = map (key_text strings) keys in
     let P : Key → Type 0 = λ k. IsKeyOf (length strings) k × IsWideKey k in
-    by_word strings counted word.Brace (tokens ++ codes "}" ∷ []) ∙ worded_brace strings (tokens ++ codes "}" ∷ []) ∙ ap (braced_of strings) (front_back tokens (codes "}"))
+    by_word strings counted word.Brace (tokens ++ codes "}" ∷ []) ∙ worded_brace strings (tokens ++ codes "}" ∷ []) ∙ ap (read_braced strings) (front_back tokens (codes "}"))
     ∙ braced_by strings tokens false (elements_have strings element elements wide)
     ∙ ap (λ (r : Result (List Key) Fault). r >>= set_reply) (each_back (known_key strings) (key_text strings) P (λ k h. key_back strings k differ h.0 h.1) keys (λ k d low. (of k d low, wide k d low)))
 
-list_back : (strings : List (List ℕ)) (counted : Bool) (items : List Value) → AllPairs (λ a b. a ≢ b) strings → All (IsValueOf (length strings)) items → All IsWideValue items → reply_of strings counted (reply_tokens strings (reply.List items)) ≡ Ok (reply.List items)
+list_back : (strings : List (List ℕ)) (counted : Bool) (items : List Value) → AllPairs (λ a b. a ≢ b) strings → All (IsValueOf (length strings)) items → All IsWideValue items → read_reply strings counted (reply_tokens strings (reply.List items)) ≡ Ok (reply.List items)
 list_back strings counted items differ of wide =
     let tokens : List (List ℕ) = map (value_text strings) items in
     let P : Value → Type 0 = λ v. IsValueOf (length strings) v × IsWideValue v in
     by_word strings counted word.Bracket (tokens ++ codes "]" ∷ []) ∙ worded_bracket strings (tokens ++ codes "]" ∷ [])
-    ∙ ap (λ (l : List (List ℕ)). each_of (known_value strings) l >>= list_reply) (front_back tokens (codes "]"))
+    ∙ ap (λ (l : List (List ℕ)). read_each (known_value strings) l >>= list_reply) (front_back tokens (codes "]"))
     ∙ ap (λ (r : Result (List Value) Fault). r >>= list_reply) (each_back (known_value strings) (value_text strings) P (λ v h. value_back strings v differ h.0 h.1) items (λ k d low. (of k d low, wide k d low)))
 
 counted_is : (counted : Bool) (found : Value) → IsReadableReply counted (reply.Value found) → counted_reply counted found ≡ reply.Value found
@@ -282,7 +282,7 @@ abbrev done : Reply → Result Reply Fault
 done said = Ok said
 
 worded_suspended : (strings : List (List ℕ)) (count : ℕ) → count < 2 ^ 32 → worded_reply strings word.Suspended (decimal count ∷ []) ≡ Ok (reply.Suspended count)
-unfolding worded_reply suspended_of
+unfolding worded_reply read_suspended
 worded_suspended strings count low = rw (u32_decimal count low) refl
 
 no_over : (token : List ℕ) → BeginsNumber token → bytes_eq token (codes "over") ≡ false
@@ -293,12 +293,12 @@ no_heap : (token : List ℕ) → BeginsNumber token → bytes_eq token (codes "h
 no_heap [] h = absurd h
 no_heap (b ∷ bytes) h = let high : b ≤ 57 = h.1 in rw (ne_eqb b 104 (λ e. omega arith)) refl
 
-class_back : (class : ℕ) → least_class ≤ class → class ≤ greatest_class → class_error_of (decimal class) ≡ Ok (raise.Memory class)
-unfolding class_error_of
+class_back : (class : ℕ) → least_class ≤ class → class ≤ greatest_class → read_class_error (decimal class) ≡ Ok (raise.Memory class)
+unfolding read_class_error
 class_back class low high = rw (u32_decimal class (omega arith), le-leb least_class class low, le-leb class greatest_class high) refl
 
-memory_back : (class : ℕ) → least_class ≤ class → class ≤ greatest_class → memory_error_of (decimal class ∷ []) ≡ Ok (raise.Memory class)
-unfolding memory_error_of
+memory_back : (class : ℕ) → least_class ≤ class → class ≤ greatest_class → read_memory_error (decimal class ∷ []) ≡ Ok (raise.Memory class)
+unfolding read_memory_error
 memory_back class low high =
     let begins : BeginsNumber (decimal class) = (decimal_word class (omega arith)).1 in
     rw (no_over (decimal class) begins, no_heap (decimal class) begins) (class_back class low high)
@@ -306,31 +306,31 @@ memory_back class low high =
 abbrev raised_reply : Raise → Result Reply Fault
 raised_reply raised = Ok (reply.Raised raised)
 
-worded_memory : (strings tokens : List (List ℕ)) (raised : Raise) → memory_error_of tokens ≡ Ok raised → worded_reply strings word.MemoryError tokens ≡ Ok (reply.Raised raised)
+worded_memory : (strings tokens : List (List ℕ)) (raised : Raise) → read_memory_error tokens ≡ Ok raised → worded_reply strings word.MemoryError tokens ≡ Ok (reply.Raised raised)
 unfolding worded_reply
 worded_memory strings tokens raised is = ap (λ (r : Result Raise Fault). r >>= raised_reply) is
 
-over_back : memory_error_of (codes "over" ∷ []) ≡ Ok raise.Over
-unfolding memory_error_of
+over_back : read_memory_error (codes "over" ∷ []) ≡ Ok raise.Over
+unfolding read_memory_error
 over_back = refl
 
-heap_back : memory_error_of (codes "heap" ∷ []) ≡ Ok raise.Heap
-unfolding memory_error_of
+heap_back : read_memory_error (codes "heap" ∷ []) ≡ Ok raise.Heap
+unfolding read_memory_error
 heap_back = refl
 
-worded_runtime : (strings tokens : List (List ℕ)) (raised : Raise) → runtime_error_of tokens ≡ Ok raised → worded_reply strings word.RuntimeError tokens ≡ Ok (reply.Raised raised)
+worded_runtime : (strings tokens : List (List ℕ)) (raised : Raise) → read_runtime_error tokens ≡ Ok raised → worded_reply strings word.RuntimeError tokens ≡ Ok (reply.Raised raised)
 unfolding worded_reply
 worded_runtime strings tokens raised is = ap (λ (r : Result Raise Fault). r >>= raised_reply) is
 
-size_back : runtime_error_of (codes "size" ∷ []) ≡ Ok raise.Size
-unfolding runtime_error_of
+size_back : read_runtime_error (codes "size" ∷ []) ≡ Ok raise.Size
+unfolding read_runtime_error
 size_back = refl
 
-keys_back : runtime_error_of (codes "keys" ∷ []) ≡ Ok raise.Keys
-unfolding runtime_error_of
+keys_back : read_runtime_error (codes "keys" ∷ []) ≡ Ok raise.Keys
+unfolding read_runtime_error
 keys_back = refl
 
-raise_back : (strings : List (List ℕ)) (counted : Bool) (raised : Raise) → IsReadableReply counted (reply.Raised raised) → reply_of strings counted (raise_tokens raised) ≡ Ok (reply.Raised raised)
+raise_back : (strings : List (List ℕ)) (counted : Bool) (raised : Raise) → IsReadableReply counted (reply.Raised raised) → read_reply strings counted (raise_tokens raised) ≡ Ok (reply.Raised raised)
 unfolding worded_reply
 raise_back strings counted raise.NoKey h = by_word strings counted word.KeyError []
 raise_back strings counted raise.NoIndex h = by_word strings counted word.IndexError []
@@ -344,7 +344,7 @@ raise_back strings counted raise.Heap h = by_word strings counted word.MemoryErr
 count_wide : (n : ℕ) → n < 2 ^ 63 → is_wide (pos n) ≡ true
 count_wide n low = le-leb n (2 ^ 63 - 1) (omega arith)
 
-pub reply_back : (strings : List (List ℕ)) (counted : Bool) (said : Reply) → AllPairs (λ a b. a ≢ b) strings → IsReplyOf (length strings) said → IsWideReply said → IsReadableReply counted said → reply_of strings counted (reply_tokens strings said) ≡ Ok said
+pub reply_back : (strings : List (List ℕ)) (counted : Bool) (said : Reply) → AllPairs (λ a b. a ≢ b) strings → IsReplyOf (length strings) said → IsWideReply said → IsReadableReply counted said → read_reply strings counted (reply_tokens strings said) ≡ Ok said
 unfolding worded_reply
 reply_back strings counted reply.Done differ of wide h = by_word strings counted word.Done []
 reply_back strings counted (reply.Value found) differ of wide h =

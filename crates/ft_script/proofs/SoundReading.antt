@@ -23,13 +23,13 @@ use Rattle.ft_script.specs.declared.fault.Fault.{Fault}
 use Rattle.ft_script.specs.declared.fault.Fault.TheVariants as fault
 use Rattle.ft_script.specs.declared.reply_words.ReplyWord.{ReplyWord}
 use Rattle.ft_script.specs.declared.reply_words.ReplyWord.TheVariants as word
-use Rattle.ft_script.specs.Arguments.{index_of}
-use Rattle.ft_script.specs.Internal.Candidates.{is_decimal, natural_in, u64_of, u32_of, known_key, known_value, known_pair, each_of, pairs_of, reply_word_of, suspended_of, runtime_error_of, class_error_of, memory_error_of, has_pairs, braced_of, but_last, worded_reply, counted_reply, shown_reply, first_reply, reply_of, thread_of, numbered_of, stamp_of, waited_of, thread_call, entry_of, content_of}
+use Rattle.ft_script.specs.Arguments.{read_index}
+use Rattle.ft_script.specs.Internal.Candidates.{is_decimal, natural_in, read_u64, read_u32, known_key, known_value, known_pair, read_each, read_pairs, read_reply_word, read_suspended, read_runtime_error, read_class_error, read_memory_error, has_pairs, read_braced, but_last, worded_reply, counted_reply, shown_reply, first_reply, read_reply, read_thread, read_numbered, read_stamp, read_waited, thread_call, read_entry, read_content}
 use Rattle.ft_script.specs.Drafts.{or_fault, text_place, thread_place, container_place}
 use Rattle.ft_script.specs.Transcripts.{counts, IsWideKey, IsWideValue, IsWideReply, IsReadableReply}
 use Rattle.ft_script.specs.LineWords.{is_integer, is_wide, integer_of, is_string, text_of}
 use Rattle.ft_script.proofs.Kept.{bind_holds, cond_holds, or_holds, anything, index_keeps}
-use Rattle.ft_script.proofs.Tables.{place_within}
+use Rattle.ft_script.proofs.DistinctNames.{place_within}
 use Rattle.ft_script.proofs.NumberLemmas.{natural_by}
 use Rattle.ft_script.proofs.WordLemmas.{integer_by}
 
@@ -44,14 +44,14 @@ low_by token true true n is_form is_low found =
 low_by token true false n is_form is_low found = absurd (let e : None ≡ Some n = sym (natural_by token true false is_form is_low) ∙ found in cc)
 low_by token false low n is_form is_low found = absurd (let e : None ≡ Some n = sym (natural_by token false low is_form is_low) ∙ found in cc)
 
-u64_sound : (token : List ℕ) → IfOk (u64_of token) (λ n. n < 2 ^ 64)
-unfolding u64_of
+u64_sound : (token : List ℕ) → IfOk (read_u64 token) (λ n. n < 2 ^ 64)
+unfolding read_u64
 u64_sound token = or_holds fault.Number (natural_in token) (λ n. n < 2 ^ 64) (λ n found. low_by token (is_decimal token) (ltb (digits_value 10 token) (2 ^ 64)) n refl refl found)
 
-u32_sound : (token : List ℕ) → IfOk (u32_of token) (λ n. n < 2 ^ 32)
-unfolding u32_of
+u32_sound : (token : List ℕ) → IfOk (read_u32 token) (λ n. n < 2 ^ 32)
+unfolding read_u32
 u32_sound token =
-    bind_holds (u64_of token) _ (λ n. n < 2 ^ 64) (λ n. n < 2 ^ 32) (u64_sound token) (λ n low.
+    bind_holds (read_u64 token) _ (λ n. n < 2 ^ 64) (λ n. n < 2 ^ 32) (u64_sound token) (λ n low.
     cond_holds (ltb n (2 ^ 32)) (Ok n) (Err fault.Number) (λ m. m < 2 ^ 32) (λ small. ltb-true n (2 ^ 32) small) (λ _. tt))
 
 -- ---- keys and values
@@ -71,7 +71,7 @@ key_sound strings token =
     cond_holds (is_string token) _ _ (KeyFits strings)
     (λ _. bind_holds (or_fault fault.String (text_place strings (text_of token))) _ (λ place. place < length strings) (KeyFits strings)
     (or_holds fault.String (text_place strings (text_of token)) (λ place. place < length strings) (λ place found. place_within (λ other. bytes_eq (text_of token) other) strings place found)) (λ place low. (low, tt)))
-    (λ _. bind_holds (index_of token) _ (λ n. is_wide n ≡ true) (KeyFits strings) (index_keeps token) (λ n wide. (tt, wide)))
+    (λ _. bind_holds (read_index token) _ (λ n. is_wide n ≡ true) (KeyFits strings) (index_keeps token) (λ n wide. (tt, wide)))
 
 as_value_fits : (strings : List (List ℕ)) (found : Key) → KeyFits strings found → ValueFits strings (as_value found)
 as_value_fits strings (key.Int n) h = h
@@ -89,20 +89,20 @@ pair_sound strings first second =
     bind_holds (known_key strings first) _ (KeyFits strings) (PairFits strings) (key_sound strings first) (λ found k.
     bind_holds (known_value strings second) _ (ValueFits strings) (PairFits strings) (value_sound strings second) (λ stored v. (k, v)))
 
-each_sound : {X : Type 0} (read : List ℕ → Result X Fault) (P : X → Type 0) → ((token : List ℕ) → IfOk (read token) P) → (tokens : List (List ℕ)) → IfOk (each_of read tokens) (All P)
-unfolding each_of
+each_sound : {X : Type 0} (read : List ℕ → Result X Fault) (P : X → Type 0) → ((token : List ℕ) → IfOk (read token) P) → (tokens : List (List ℕ)) → IfOk (read_each read tokens) (All P)
+unfolding read_each
 each_sound read P each [] = All-nil P
 each_sound read P each (token ∷ tokens) =
-    bind_holds (read token) _ P (All P) (each token) (λ x h. bind_holds (each_of read tokens) _ (All P) (All P) (each_sound read P each tokens) (λ xs all. All-cons P x xs h all))
+    bind_holds (read token) _ P (All P) (each token) (λ x h. bind_holds (read_each read tokens) _ (All P) (All P) (each_sound read P each tokens) (λ xs all. All-cons P x xs h all))
 
-pairs_sound : (strings tokens : List (List ℕ)) → IfOk (pairs_of strings tokens) (All (PairFits strings))
-unfolding pairs_of
+pairs_sound : (strings tokens : List (List ℕ)) → IfOk (read_pairs strings tokens) (All (PairFits strings))
+unfolding read_pairs
 pairs_sound strings [] = All-nil (PairFits strings)
 pairs_sound strings (first ∷ []) = tt
 pairs_sound strings (first ∷ colon ∷ []) = tt
 pairs_sound strings (first ∷ colon ∷ second ∷ tokens) =
     bind_holds (known_pair strings first second) _ (PairFits strings) (All (PairFits strings)) (pair_sound strings first second) (λ pair h.
-    bind_holds (pairs_of strings tokens) _ (All (PairFits strings)) (All (PairFits strings)) (pairs_sound strings tokens) (λ pairs all. All-cons (PairFits strings) pair pairs h all))
+    bind_holds (read_pairs strings tokens) _ (All (PairFits strings)) (All (PairFits strings)) (pairs_sound strings tokens) (λ pairs all. All-cons (PairFits strings) pair pairs h all))
 
 -- ---- replies
 
@@ -115,19 +115,19 @@ abbrev RaiseFits : Raise → Type 0
 RaiseFits (raise.Memory class) = (least_class ≤ class) × (class ≤ greatest_class)
 RaiseFits other = Unit {0}
 
-runtime_sound : (tokens : List (List ℕ)) → IfOk (runtime_error_of tokens) RaiseFits
-unfolding runtime_error_of
+runtime_sound : (tokens : List (List ℕ)) → IfOk (read_runtime_error tokens) RaiseFits
+unfolding read_runtime_error
 runtime_sound [] = tt
 runtime_sound (cause ∷ more) = cond_holds (bytes_eq cause (codes "size")) _ _ RaiseFits (λ _. tt) (λ _. cond_holds (bytes_eq cause (codes "keys")) _ _ RaiseFits (λ _. tt) (λ _. tt))
 
-class_sound : (token : List ℕ) → IfOk (class_error_of token) RaiseFits
-unfolding class_error_of
+class_sound : (token : List ℕ) → IfOk (read_class_error token) RaiseFits
+unfolding read_class_error
 class_sound token =
-    bind_holds (u32_of token) _ (λ n. n < 2 ^ 32) RaiseFits (u32_sound token) (λ class _.
+    bind_holds (read_u32 token) _ (λ n. n < 2 ^ 32) RaiseFits (u32_sound token) (λ class _.
     cond_holds (leb least_class class && leb class greatest_class) _ _ RaiseFits (λ within. let both = and_parts (leb least_class class) (leb class greatest_class) within in (leb-true least_class class both.0, leb-true class greatest_class both.1)) (λ _. tt))
 
-memory_sound : (tokens : List (List ℕ)) → IfOk (memory_error_of tokens) RaiseFits
-unfolding memory_error_of
+memory_sound : (tokens : List (List ℕ)) → IfOk (read_memory_error tokens) RaiseFits
+unfolding read_memory_error
 memory_sound [] = tt
 memory_sound (cause ∷ more) = cond_holds (bytes_eq cause (codes "over")) _ _ RaiseFits (λ _. tt) (λ _. cond_holds (bytes_eq cause (codes "heap")) _ _ RaiseFits (λ _. tt) (λ _. class_sound cause))
 
@@ -160,19 +160,19 @@ shown_sound strings counted first (colon ∷ []) = bind_holds (known_value strin
 shown_sound strings counted first (colon ∷ second ∷ more) =
     bind_holds (known_pair strings first second) _ (PairFits strings) (ReplyFits strings counted) (pair_sound strings first second) (λ pair h. record { of_script = (h.0.0, h.1.0); wide = (h.0.1, h.1.1); readable = tt })
 
-braced_sound : (strings : List (List ℕ)) (counted : Bool) (tokens : List (List ℕ)) → IfOk (braced_of strings tokens) (ReplyFits strings counted)
-unfolding braced_of
+braced_sound : (strings : List (List ℕ)) (counted : Bool) (tokens : List (List ℕ)) → IfOk (read_braced strings tokens) (ReplyFits strings counted)
+unfolding read_braced
 braced_sound strings counted tokens =
     cond_holds (has_pairs tokens) _ _ (ReplyFits strings counted)
-    (λ _. bind_holds (pairs_of strings tokens) _ (All (PairFits strings)) (ReplyFits strings counted) (pairs_sound strings tokens)
+    (λ _. bind_holds (read_pairs strings tokens) _ (All (PairFits strings)) (ReplyFits strings counted) (pairs_sound strings tokens)
     (λ pairs h. record { of_script = λ k d low. ((h k d low).0.0, (h k d low).1.0); wide = λ k d low. ((h k d low).0.1, (h k d low).1.1); readable = tt }))
-    (λ _. bind_holds (each_of (known_key strings) tokens) _ (All (KeyFits strings)) (ReplyFits strings counted) (each_sound (known_key strings) (KeyFits strings) (key_sound strings) tokens)
+    (λ _. bind_holds (read_each (known_key strings) tokens) _ (All (KeyFits strings)) (ReplyFits strings counted) (each_sound (known_key strings) (KeyFits strings) (key_sound strings) tokens)
     (λ keys h. record { of_script = λ k d low. (h k d low).0; wide = λ k d low. (h k d low).1; readable = tt }))
 
-suspended_sound : (strings : List (List ℕ)) (counted : Bool) (tokens : List (List ℕ)) → IfOk (suspended_of tokens) (ReplyFits strings counted)
-unfolding suspended_of
+suspended_sound : (strings : List (List ℕ)) (counted : Bool) (tokens : List (List ℕ)) → IfOk (read_suspended tokens) (ReplyFits strings counted)
+unfolding read_suspended
 suspended_sound strings counted [] = tt
-suspended_sound strings counted (count ∷ more) = bind_holds (u32_of count) _ (λ n. n < 2 ^ 32) (ReplyFits strings counted) (u32_sound count) (λ n low. record { of_script = tt; wide = low; readable = tt })
+suspended_sound strings counted (count ∷ more) = bind_holds (read_u32 count) _ (λ n. n < 2 ^ 32) (ReplyFits strings counted) (u32_sound count) (λ n low. record { of_script = tt; wide = low; readable = tt })
 
 worded_sound : (strings : List (List ℕ)) (counted : Bool) (w : ReplyWord) (tokens : List (List ℕ)) → IfOk (worded_reply strings w tokens) (ReplyFits strings counted)
 unfolding worded_reply
@@ -186,12 +186,12 @@ worded_sound strings counted word.Suspended tokens = suspended_sound strings cou
 worded_sound strings counted word.KeyError tokens = record { of_script = tt; wide = tt; readable = tt }
 worded_sound strings counted word.IndexError tokens = record { of_script = tt; wide = tt; readable = tt }
 worded_sound strings counted word.ValueError tokens = record { of_script = tt; wide = tt; readable = tt }
-worded_sound strings counted word.RuntimeError tokens = bind_holds (runtime_error_of tokens) _ RaiseFits (ReplyFits strings counted) (runtime_sound tokens) (raise_fits strings counted)
-worded_sound strings counted word.MemoryError tokens = bind_holds (memory_error_of tokens) _ RaiseFits (ReplyFits strings counted) (memory_sound tokens) (raise_fits strings counted)
+worded_sound strings counted word.RuntimeError tokens = bind_holds (read_runtime_error tokens) _ RaiseFits (ReplyFits strings counted) (runtime_sound tokens) (raise_fits strings counted)
+worded_sound strings counted word.MemoryError tokens = bind_holds (read_memory_error tokens) _ RaiseFits (ReplyFits strings counted) (memory_sound tokens) (raise_fits strings counted)
 worded_sound strings counted word.NoElements tokens = record { of_script = All-nil (IsKeyOf (length strings)); wide = All-nil IsWideKey; readable = tt }
 worded_sound strings counted word.Brace tokens = braced_sound strings counted (but_last tokens)
 worded_sound strings counted word.Bracket tokens =
-    bind_holds (each_of (known_value strings) (but_last tokens)) _ (All (ValueFits strings)) (ReplyFits strings counted) (each_sound (known_value strings) (ValueFits strings) (value_sound strings) (but_last tokens))
+    bind_holds (read_each (known_value strings) (but_last tokens)) _ (All (ValueFits strings)) (ReplyFits strings counted) (each_sound (known_value strings) (ValueFits strings) (value_sound strings) (but_last tokens))
     (λ items h. record { of_script = λ k d low. (h k d low).0; wide = λ k d low. (h k d low).1; readable = tt })
 
 first_sound : (strings : List (List ℕ)) (counted : Bool) (first : List ℕ) (tokens : List (List ℕ)) (found : Option ReplyWord) → IfOk (first_reply strings counted first tokens found) (ReplyFits strings counted)
@@ -199,15 +199,15 @@ unfolding first_reply
 first_sound strings counted first tokens None = shown_sound strings counted first tokens
 first_sound strings counted first tokens (Some w) = worded_sound strings counted w tokens
 
-pub reply_sound : (strings : List (List ℕ)) (counted : Bool) (tokens : List (List ℕ)) → IfOk (reply_of strings counted tokens) (ReplyFits strings counted)
-unfolding reply_of
+pub reply_sound : (strings : List (List ℕ)) (counted : Bool) (tokens : List (List ℕ)) → IfOk (read_reply strings counted tokens) (ReplyFits strings counted)
+unfolding read_reply
 reply_sound strings counted [] = tt
-reply_sound strings counted (first ∷ tokens) = first_sound strings counted first tokens (reply_word_of first)
+reply_sound strings counted (first ∷ tokens) = first_sound strings counted first tokens (read_reply_word first)
 
 -- ---- entries and contents
 
-thread_sound : (script : ScriptParts) (name : List ℕ) → IfOk (thread_of script name) (λ thread. thread < length script.threads)
-unfolding thread_of
+thread_sound : (script : ScriptParts) (name : List ℕ) → IfOk (read_thread script name) (λ thread. thread < length script.threads)
+unfolding read_thread
 thread_sound script name = or_holds fault.Name (thread_place script.threads name) (λ thread. thread < length script.threads) (λ thread found. place_within (λ other. bytes_eq other.name name) script.threads thread found)
 
 pub record EntryFits (script : ScriptParts) (entry : Entry) : Type 0 where
@@ -220,29 +220,29 @@ pub record EntryFits (script : ScriptParts) (entry : Entry) : Type 0 where
 abbrev pub Numbered : ScriptParts → ℕ × ℕ → Type 0
 Numbered script numbered = (numbered.0 < length script.threads) × (numbered.1 < 2 ^ 32)
 
-pub numbered_sound : (script : ScriptParts) (token : List ℕ) → IfOk (numbered_of script token) (Numbered script)
-unfolding numbered_of
+pub numbered_sound : (script : ScriptParts) (token : List ℕ) → IfOk (read_numbered script token) (Numbered script)
+unfolding read_numbered
 numbered_sound script token =
     bind_holds _ _ (λ thread. thread < length script.threads) (Numbered script) (thread_sound script _) (λ thread low. bind_holds _ _ (λ n. n < 2 ^ 32) (Numbered script) (u32_sound _) (λ index small. (low, small)))
 
 abbrev Stamped : Bool × ℕ → Type 0
 Stamped stamped = stamped.1 < 2 ^ 64
 
-stamp_sound : (token : List ℕ) → IfOk (stamp_of token) Stamped
-unfolding stamp_of
+stamp_sound : (token : List ℕ) → IfOk (read_stamp token) Stamped
+unfolding read_stamp
 stamp_sound [] = tt
-stamp_sound (letter ∷ digits) = bind_holds (u64_of digits) _ (λ n. n < 2 ^ 64) Stamped (u64_sound digits) (λ n low. low)
+stamp_sound (letter ∷ digits) = bind_holds (read_u64 digits) _ (λ n. n < 2 ^ 64) Stamped (u64_sound digits) (λ n low. low)
 
 abbrev Waited : ScriptParts → Option ℕ → Type 0
 Waited script waited = IfSome waited (λ thread. thread < length script.threads)
 
-waited_sound : (script : ScriptParts) (tokens : List (List ℕ)) → IfOk (waited_of script tokens) (Waited script)
-unfolding waited_of
+waited_sound : (script : ScriptParts) (tokens : List (List ℕ)) → IfOk (read_waited script tokens) (Waited script)
+unfolding read_waited
 waited_sound script [] = tt
-waited_sound script (name ∷ more) = bind_holds (thread_of script name) _ (λ thread. thread < length script.threads) (Waited script) (thread_sound script name) (λ thread low. low)
+waited_sound script (name ∷ more) = bind_holds (read_thread script name) _ (λ thread. thread < length script.threads) (Waited script) (thread_sound script name) (λ thread low. low)
 
-pub entry_sound : (script : ScriptParts) (tokens : List (List ℕ)) → IfOk (entry_of script tokens) (EntryFits script)
-unfolding entry_of
+pub entry_sound : (script : ScriptParts) (tokens : List (List ℕ)) → IfOk (read_entry script tokens) (EntryFits script)
+unfolding read_entry
 entry_sound script [] = tt
 entry_sound script (one ∷ []) = tt
 entry_sound script (place ∷ stamp ∷ words) =
@@ -257,8 +257,8 @@ pub record ContentFits (script : ScriptParts) (read : ℕ × Reply) : Type 0 whe
   pub container : read.0 < length script.containers
   pub content : ReplyFits script.strings false read.1
 
-pub content_sound : (script : ScriptParts) (tokens : List (List ℕ)) → IfOk (content_of script tokens) (ContentFits script)
-unfolding content_of
+pub content_sound : (script : ScriptParts) (tokens : List (List ℕ)) → IfOk (read_content script tokens) (ContentFits script)
+unfolding read_content
 content_sound script [] = tt
 content_sound script (one ∷ []) = tt
 content_sound script (name ∷ equals ∷ tokens) =

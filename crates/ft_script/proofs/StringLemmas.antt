@@ -5,7 +5,7 @@ use Rattle.std.specs.Cmp.Lexicographic.{pointwise}
 use Rattle.std.proofs.lemmas.List.{length-map, map-append}
 use Rattle.std.proofs.lemmas.List.Folds.{list_any_none}
 use Rattle.ft_script.specs.Drafts.{text_place}
-use Rattle.ft_script.proofs.Tables.{missing}
+use Rattle.ft_script.proofs.DistinctNames.{missing}
 
 module _ {X : Type 0} (bytes : X → List ℕ) (text : List ℕ) where
   abbrev is_text : X → Bool

@@ -4,7 +4,7 @@ use Rattle.std.proofs.lemmas.List.{append-nil}
 use Rattle.ft_script.specs.declared.lines.Place.{Place}
 use Rattle.ft_script.specs.declared.lines.Place.TheVariants as place
 use Rattle.ft_script.specs.Lines.{with_first}
-use Rattle.ft_script.specs.Internal.Tokens.{place_after, token_ends, token_start, fronted, token_parted, tokens_from}
+use Rattle.ft_script.specs.Internal.Tokens.{token_place_after, token_ends, token_start, fronted, token_parted, tokens_from}
 use Rattle.ft_script.proofs.WordCuts.{onto, at_place, onto_byte, onto_more, ended, part, part_more, part_first, at_index, nothing_left, last_part, last_word, cut_after}
 
 -- the tokens of a line, of which some are cut already, and a part of one
@@ -57,7 +57,7 @@ one_byte place.Ended place.Escape cut part b tokens = follows cut part b tokens
 one_byte place.Ended place.Ended cut part b tokens = follows cut part b tokens
 
 -- the definition, at a byte
-pub at_byte : (at : Place) (b : ℕ) (bytes : List ℕ) → tokens_from at (b ∷ bytes) ≡ token_parted (token_ends at (place_after at b)) (fronted b (place_after at b) (tokens_from (place_after at b) bytes))
+pub at_byte : (at : Place) (b : ℕ) (bytes : List ℕ) → tokens_from at (b ∷ bytes) ≡ token_parted (token_ends at (token_place_after at b)) (fronted b (token_place_after at b) (tokens_from (token_place_after at b) bytes))
 unfolding tokens_from
 at_byte place.Between b bytes = refl
 at_byte place.Plain b bytes = refl
@@ -77,12 +77,12 @@ part_next place.Ended true line start i low high = part_first line i high
 part_next place.Ended false line start i low high = part_more line start i low high
 
 pub cut_on : (line : List ℕ) (cut : List (List ℕ)) (at next : Place) (ends : Bool) (start i from : ℕ) (whole : List (List ℕ)) → i < length line → start ≤ i →
-    next ≡ place_after at (get_or line i 0) → ends ≡ token_ends at next → from ≡ token_start at ends start i →
+    next ≡ token_place_after at (get_or line i 0) → ends ≡ token_ends at next → from ≡ token_start at ends start i →
     resumed cut at (part line start i) (tokens_from at (drop i line)) ≡ whole →
     resumed (cut_after cut (part line start i) ends) next (part line from (i + 1)) (tokens_from next (drop (i + 1) line)) ≡ whole
 cut_on line cut at next ends start i from whole low high is_next is_ends is_from so_far =
     let b : ℕ = get_or line i 0 in
-    let there : Place = place_after at b in
+    let there : Place = token_place_after at b in
     let e : Bool = token_ends at there in
     let rest : List (List ℕ) = tokens_from there (drop (i + 1) line) in
     let here : tokens_from at (drop i line) ≡ token_parted e (fronted b there rest) = ap (tokens_from at) (at_index line i low) ∙ at_byte at b (drop (i + 1) line) in

@@ -20,8 +20,8 @@ use Rattle.ft_script.specs.Drafts.{◌>>=◌, or_fault, container_place, text_pl
 -- ---- words
 
 -- the number of a string; one that isn't mentioned above has the next
-unfoldable pub symbol_of : Draft → List ℕ → Result (ℕ × Draft) Fault
-symbol_of draft text =
+unfoldable pub read_symbol : Draft → List ℕ → Result (ℕ × Draft) Fault
+read_symbol draft text =
     if nat_lt most_string_bytes (length text) then Err (fault.Limit which.StringBytes)
     else (elim (text_place draft.strings text) [
       | Some number ↦ Ok (number, draft)
@@ -31,25 +31,25 @@ symbol_of draft text =
           else Err (fault.Limit which.Strings)
     ])
 
-unfoldable pub index_of : List ℕ → Result ℤ Fault
-index_of word = or_fault fault.Number (integer_of word)
+unfoldable pub read_index : List ℕ → Result ℤ Fault
+read_index word = or_fault fault.Number (integer_of word)
 
 -- a key: a string or an integer
-unfoldable pub key_of : Draft → List ℕ → Result (Key × Draft) Fault
-key_of draft word =
+unfoldable pub read_key : Draft → List ℕ → Result (Key × Draft) Fault
+read_key draft word =
     if is_string word
-    then (symbol_of draft (text_of word) >>= λ symbol. Ok (key.Text (record { 0 = symbol.0 }), symbol.1))
-    else (index_of word >>= λ n. Ok (key.Int n, draft))
+    then (read_symbol draft (text_of word) >>= λ symbol. Ok (key.Text (record { 0 = symbol.0 }), symbol.1))
+    else (read_index word >>= λ n. Ok (key.Int n, draft))
 
 -- a value: a key, or `None`
-unfoldable pub value_of : Draft → List ℕ → Result (Value × Draft) Fault
-value_of draft word =
+unfoldable pub read_value : Draft → List ℕ → Result (Value × Draft) Fault
+read_value draft word =
     if bytes_eq word (codes "None") then Ok (value.Nothing, draft)
-    else (key_of draft word >>= λ found. Ok (as_value found.0, found.1))
+    else (read_key draft word >>= λ found. Ok (as_value found.0, found.1))
 
 -- the place of a container that stands above
-unfoldable pub container_of : Draft → List ℕ → Result ℕ Fault
-container_of draft name = or_fault fault.Name (container_place draft.containers name)
+unfoldable pub read_container : Draft → List ℕ → Result ℕ Fault
+read_container draft name = or_fault fault.Name (container_place draft.containers name)
 
 abbrev pub same_kind : Kind → Kind → Bool
 same_kind kind.Dict kind.Dict = true
@@ -71,18 +71,18 @@ is_of_kind kind None = false
 is_of_kind kind (Some found) = same_kind found kind
 
 -- the place of a second container, which is of the first one's kind
-unfoldable pub other_of : Draft → Kind → List ℕ → Result ℕ Fault
-other_of draft kind name = do
-  place ← container_of draft name
+unfoldable pub read_other : Draft → Kind → List ℕ → Result ℕ Fault
+read_other draft kind name = do
+  place ← read_container draft name
   if is_of_kind kind (kind_at draft place) then Ok place else Err fault.WrongKind
 
 -- the number of a cursor that stands above in the thread
-unfoldable pub cursor_of : Draft → List ℕ → Result ℕ Fault
-cursor_of draft name = or_fault fault.Name (text_place draft.cursors name)
+unfoldable pub read_cursor : Draft → List ℕ → Result ℕ Fault
+read_cursor draft name = or_fault fault.Name (text_place draft.cursors name)
 
 -- the number of a cursor that is made, or made anew
-unfoldable pub made_cursor_of : Draft → List ℕ → Result (ℕ × Draft) Fault
-made_cursor_of draft name =
+unfoldable pub read_made_cursor : Draft → List ℕ → Result (ℕ × Draft) Fault
+read_made_cursor draft name =
     if is_container_name name then (elim (text_place draft.cursors name) [
       | Some number ↦ Ok (number, draft)
       | None ↦
@@ -94,77 +94,77 @@ made_cursor_of draft name =
 
 -- ---- all words after the container's name
 
-unfoldable pub nothing_in : List (List ℕ) → Result (Unit {0}) Fault
-nothing_in [] = Ok tt
-nothing_in others = Err fault.WordCount
+unfoldable pub just_nothing : List (List ℕ) → Result (Unit {0}) Fault
+just_nothing [] = Ok tt
+just_nothing others = Err fault.WordCount
 
-unfoldable pub key_in : Draft → List (List ℕ) → Result (Key × Draft) Fault
-key_in draft (word ∷ []) = key_of draft word
-key_in draft others = Err fault.WordCount
+unfoldable pub just_key : Draft → List (List ℕ) → Result (Key × Draft) Fault
+just_key draft (word ∷ []) = read_key draft word
+just_key draft others = Err fault.WordCount
 
-unfoldable pub key_and_value_of : Draft → List ℕ → List ℕ → Result ((Key × Value) × Draft) Fault
-key_and_value_of draft first second = do
-  key ← key_of draft first
-  value ← value_of key.1 second
+unfoldable pub read_key_and_value : Draft → List ℕ → List ℕ → Result ((Key × Value) × Draft) Fault
+read_key_and_value draft first second = do
+  key ← read_key draft first
+  value ← read_value key.1 second
   Ok ((key.0, value.0), value.1)
 
-unfoldable pub key_and_value_in : Draft → List (List ℕ) → Result ((Key × Value) × Draft) Fault
-key_and_value_in draft (first ∷ second ∷ []) = key_and_value_of draft first second
-key_and_value_in draft others = Err fault.WordCount
+unfoldable pub just_key_and_value : Draft → List (List ℕ) → Result ((Key × Value) × Draft) Fault
+just_key_and_value draft (first ∷ second ∷ []) = read_key_and_value draft first second
+just_key_and_value draft others = Err fault.WordCount
 
-unfoldable pub value_in : Draft → List (List ℕ) → Result (Value × Draft) Fault
-value_in draft (word ∷ []) = value_of draft word
-value_in draft others = Err fault.WordCount
+unfoldable pub just_value : Draft → List (List ℕ) → Result (Value × Draft) Fault
+just_value draft (word ∷ []) = read_value draft word
+just_value draft others = Err fault.WordCount
 
-unfoldable pub index_in : List (List ℕ) → Result ℤ Fault
-index_in (word ∷ []) = index_of word
-index_in others = Err fault.WordCount
+unfoldable pub just_index : List (List ℕ) → Result ℤ Fault
+just_index (word ∷ []) = read_index word
+just_index others = Err fault.WordCount
 
-unfoldable pub some_index_in : List (List ℕ) → Result (Option ℤ) Fault
-some_index_in [] = Ok None
-some_index_in (word ∷ []) = index_of word >>= λ n. Ok (Some n)
-some_index_in others = Err fault.WordCount
+unfoldable pub just_some_index : List (List ℕ) → Result (Option ℤ) Fault
+just_some_index [] = Ok None
+just_some_index (word ∷ []) = read_index word >>= λ n. Ok (Some n)
+just_some_index others = Err fault.WordCount
 
-unfoldable pub two_indices_of : List ℕ → List ℕ → Result (ℤ × ℤ) Fault
-two_indices_of first second = do
-  start ← index_of first
-  end ← index_of second
+unfoldable pub read_two_indices : List ℕ → List ℕ → Result (ℤ × ℤ) Fault
+read_two_indices first second = do
+  start ← read_index first
+  end ← read_index second
   Ok (start, end)
 
-unfoldable pub two_indices_in : List (List ℕ) → Result (ℤ × ℤ) Fault
-two_indices_in (first ∷ second ∷ []) = two_indices_of first second
-two_indices_in others = Err fault.WordCount
+unfoldable pub just_two_indices : List (List ℕ) → Result (ℤ × ℤ) Fault
+just_two_indices (first ∷ second ∷ []) = read_two_indices first second
+just_two_indices others = Err fault.WordCount
 
-unfoldable pub index_and_value_of : Draft → List ℕ → List ℕ → Result ((ℤ × Value) × Draft) Fault
-index_and_value_of draft first second = do
-  index ← index_of first
-  value ← value_of draft second
+unfoldable pub read_index_and_value : Draft → List ℕ → List ℕ → Result ((ℤ × Value) × Draft) Fault
+read_index_and_value draft first second = do
+  index ← read_index first
+  value ← read_value draft second
   Ok ((index, value.0), value.1)
 
-unfoldable pub index_and_value_in : Draft → List (List ℕ) → Result ((ℤ × Value) × Draft) Fault
-index_and_value_in draft (first ∷ second ∷ []) = index_and_value_of draft first second
-index_and_value_in draft others = Err fault.WordCount
+unfoldable pub just_index_and_value : Draft → List (List ℕ) → Result ((ℤ × Value) × Draft) Fault
+just_index_and_value draft (first ∷ second ∷ []) = read_index_and_value draft first second
+just_index_and_value draft others = Err fault.WordCount
 
-unfoldable pub other_in : Draft → Kind → List (List ℕ) → Result ℕ Fault
-other_in draft kind (name ∷ []) = other_of draft kind name
-other_in draft kind others = Err fault.WordCount
+unfoldable pub just_other : Draft → Kind → List (List ℕ) → Result ℕ Fault
+just_other draft kind (name ∷ []) = read_other draft kind name
+just_other draft kind others = Err fault.WordCount
 
-unfoldable pub made_cursor_in : Draft → List (List ℕ) → Result (ℕ × Draft) Fault
-made_cursor_in draft (name ∷ []) = made_cursor_of draft name
-made_cursor_in draft others = Err fault.WordCount
+unfoldable pub just_made_cursor : Draft → List (List ℕ) → Result (ℕ × Draft) Fault
+just_made_cursor draft (name ∷ []) = read_made_cursor draft name
+just_made_cursor draft others = Err fault.WordCount
 
-unfoldable pub cursor_in : Draft → List (List ℕ) → Result ℕ Fault
-cursor_in draft (name ∷ []) = cursor_of draft name
-cursor_in draft others = Err fault.WordCount
+unfoldable pub just_cursor : Draft → List (List ℕ) → Result ℕ Fault
+just_cursor draft (name ∷ []) = read_cursor draft name
+just_cursor draft others = Err fault.WordCount
 
-unfoldable pub two_containers_of : Draft → List ℕ → List ℕ → Result (ℕ × Option ℕ) Fault
-two_containers_of draft name other = do
-  first ← container_of draft name
-  second ← container_of draft other
+unfoldable pub read_two_containers : Draft → List ℕ → List ℕ → Result (ℕ × Option ℕ) Fault
+read_two_containers draft name other = do
+  first ← read_container draft name
+  second ← read_container draft other
   Ok (first, Some second)
 
 -- the one or two containers of a section
-unfoldable pub section_in : Draft → List (List ℕ) → Result (ℕ × Option ℕ) Fault
-section_in draft (name ∷ []) = container_of draft name >>= λ first. Ok (first, None)
-section_in draft (name ∷ other ∷ []) = two_containers_of draft name other
-section_in draft others = Err fault.WordCount
+unfoldable pub just_section : Draft → List (List ℕ) → Result (ℕ × Option ℕ) Fault
+just_section draft (name ∷ []) = read_container draft name >>= λ first. Ok (first, None)
+just_section draft (name ∷ other ∷ []) = read_two_containers draft name other
+just_section draft others = Err fault.WordCount

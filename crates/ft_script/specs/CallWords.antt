@@ -48,8 +48,8 @@ call_word_text End = codes "end"
 call_word_text Quiesce = codes "quiesce"
 call_word_text (On operation) = operation_text operation
 
-abbrev pub call_words : List CallWord
-call_words =
+abbrev pub all_call_words : List CallWord
+all_call_words =
     Next ∷ Begin ∷ End ∷ Quiesce ∷ On of.Get ∷ On of.GetOr ∷ On of.Set ∷ On of.Del ∷ On of.Pop ∷ On of.PopOr
     ∷ On of.PopItem ∷ On of.SetDefault ∷ On of.Has ∷ On of.Len ∷ On of.Items ∷ On of.Update ∷ On of.Clear
     ∷ On of.CopyTo ∷ On of.Eq ∷ On of.Iter ∷ On of.Append ∷ On of.Insert ∷ On of.Remove ∷ On of.Index
@@ -58,4 +58,4 @@ call_words =
 
 -- the word of a call that some bytes are
 unfoldable pub call_word_of : List ℕ → Option CallWord
-call_word_of bytes = find (λ word. bytes_eq (call_word_text word) bytes) call_words
+call_word_of bytes = find (λ word. bytes_eq (call_word_text word) bytes) all_call_words

@@ -27,29 +27,29 @@ use Rattle.ft_script.specs.LineWords.{natural_of}
 use Rattle.ft_script.specs.CallWords.{call_word_of}
 use Rattle.ft_script.specs.Lines.{words_of, is_comment, ends_thread}
 use Rattle.ft_script.specs.Drafts.{◌>>=◌, or_fault, container_place, thread_place, end_thread}
-use Rattle.ft_script.specs.Arguments.{index_of, container_of, kind_at, nothing_in, key_in, key_and_value_in, value_in, index_in, some_index_in, two_indices_in, index_and_value_in, other_in, made_cursor_in, cursor_in, section_in}
+use Rattle.ft_script.specs.Arguments.{read_index, read_container, kind_at, just_nothing, just_key, just_key_and_value, just_value, just_index, just_some_index, just_two_indices, just_index_and_value, just_other, just_made_cursor, just_cursor, just_section}
 
 -- ---- calls
 
 -- the calls of a dict: the word, and what stands after the container's name
 unfoldable pub dict_call : Draft → Operation → List (List ℕ) → Result (DictCall × Draft) Fault
-dict_call draft of.Get words = key_in draft words >>= λ read. Ok (dict.Get read.0, read.1)
-dict_call draft of.GetOr words = key_and_value_in draft words >>= λ read. Ok (dict.GetOr read.0.0 read.0.1, read.1)
-dict_call draft of.Set words = key_and_value_in draft words >>= λ read. Ok (dict.Set read.0.0 read.0.1, read.1)
-dict_call draft of.Del words = key_in draft words >>= λ read. Ok (dict.Del read.0, read.1)
-dict_call draft of.Pop words = key_in draft words >>= λ read. Ok (dict.Pop read.0, read.1)
-dict_call draft of.PopOr words = key_and_value_in draft words >>= λ read. Ok (dict.PopOr read.0.0 read.0.1, read.1)
-dict_call draft of.PopItem words = nothing_in words >>= λ _. Ok (dict.PopItem, draft)
+dict_call draft of.Get words = just_key draft words >>= λ read. Ok (dict.Get read.0, read.1)
+dict_call draft of.GetOr words = just_key_and_value draft words >>= λ read. Ok (dict.GetOr read.0.0 read.0.1, read.1)
+dict_call draft of.Set words = just_key_and_value draft words >>= λ read. Ok (dict.Set read.0.0 read.0.1, read.1)
+dict_call draft of.Del words = just_key draft words >>= λ read. Ok (dict.Del read.0, read.1)
+dict_call draft of.Pop words = just_key draft words >>= λ read. Ok (dict.Pop read.0, read.1)
+dict_call draft of.PopOr words = just_key_and_value draft words >>= λ read. Ok (dict.PopOr read.0.0 read.0.1, read.1)
+dict_call draft of.PopItem words = just_nothing words >>= λ _. Ok (dict.PopItem, draft)
 dict_call draft of.SetDefault words =
-    key_and_value_in draft words >>= λ read. Ok (dict.SetDefault read.0.0 read.0.1, read.1)
-dict_call draft of.Has words = key_in draft words >>= λ read. Ok (dict.Has read.0, read.1)
-dict_call draft of.Len words = nothing_in words >>= λ _. Ok (dict.Len, draft)
-dict_call draft of.Items words = nothing_in words >>= λ _. Ok (dict.Items, draft)
-dict_call draft of.Update words = other_in draft kind.Dict words >>= λ other. Ok (dict.Update other, draft)
-dict_call draft of.Clear words = nothing_in words >>= λ _. Ok (dict.Clear, draft)
-dict_call draft of.CopyTo words = other_in draft kind.Dict words >>= λ other. Ok (dict.CopyTo other, draft)
-dict_call draft of.Eq words = other_in draft kind.Dict words >>= λ other. Ok (dict.Eq other, draft)
-dict_call draft of.Iter words = made_cursor_in draft words >>= λ read. Ok (dict.Iter read.0, read.1)
+    just_key_and_value draft words >>= λ read. Ok (dict.SetDefault read.0.0 read.0.1, read.1)
+dict_call draft of.Has words = just_key draft words >>= λ read. Ok (dict.Has read.0, read.1)
+dict_call draft of.Len words = just_nothing words >>= λ _. Ok (dict.Len, draft)
+dict_call draft of.Items words = just_nothing words >>= λ _. Ok (dict.Items, draft)
+dict_call draft of.Update words = just_other draft kind.Dict words >>= λ other. Ok (dict.Update other, draft)
+dict_call draft of.Clear words = just_nothing words >>= λ _. Ok (dict.Clear, draft)
+dict_call draft of.CopyTo words = just_other draft kind.Dict words >>= λ other. Ok (dict.CopyTo other, draft)
+dict_call draft of.Eq words = just_other draft kind.Dict words >>= λ other. Ok (dict.Eq other, draft)
+dict_call draft of.Iter words = just_made_cursor draft words >>= λ read. Ok (dict.Iter read.0, read.1)
 dict_call draft of.Append words = Err fault.WrongKind
 dict_call draft of.Insert words = Err fault.WrongKind
 dict_call draft of.Remove words = Err fault.WrongKind
@@ -69,24 +69,25 @@ dict_call draft of.Disjoint words = Err fault.WrongKind
 
 -- and of a list
 unfoldable pub list_call : Draft → Operation → List (List ℕ) → Result (ListCall × Draft) Fault
-list_call draft of.Append words = value_in draft words >>= λ read. Ok (list.Append read.0, read.1)
-list_call draft of.Insert words = index_and_value_in draft words >>= λ read. Ok (list.Insert read.0.0 read.0.1, read.1)
-list_call draft of.Get words = index_in words >>= λ index. Ok (list.Get index, draft)
-list_call draft of.Set words = index_and_value_in draft words >>= λ read. Ok (list.Set read.0.0 read.0.1, read.1)
-list_call draft of.Del words = index_in words >>= λ index. Ok (list.Del index, draft)
-list_call draft of.Pop words = some_index_in words >>= λ index. Ok (list.Pop index, draft)
-list_call draft of.Remove words = value_in draft words >>= λ read. Ok (list.Remove read.0, read.1)
-list_call draft of.Index words = value_in draft words >>= λ read. Ok (list.Index read.0, read.1)
-list_call draft of.Count words = value_in draft words >>= λ read. Ok (list.Count read.0, read.1)
-list_call draft of.Has words = value_in draft words >>= λ read. Ok (list.Has read.0, read.1)
-list_call draft of.Reverse words = nothing_in words >>= λ _. Ok (list.Reverse, draft)
-list_call draft of.Extend words = other_in draft kind.List words >>= λ other. Ok (list.Extend other, draft)
-list_call draft of.Slice words = two_indices_in words >>= λ ends. Ok (list.Slice ends.0 ends.1, draft)
-list_call draft of.Clear words = nothing_in words >>= λ _. Ok (list.Clear, draft)
-list_call draft of.Len words = nothing_in words >>= λ _. Ok (list.Len, draft)
-list_call draft of.Items words = nothing_in words >>= λ _. Ok (list.Items, draft)
-list_call draft of.Eq words = other_in draft kind.List words >>= λ other. Ok (list.Eq other, draft)
-list_call draft of.Iter words = made_cursor_in draft words >>= λ read. Ok (list.Iter read.0, read.1)
+list_call draft of.Append words = just_value draft words >>= λ read. Ok (list.Append read.0, read.1)
+list_call draft of.Insert words =
+    just_index_and_value draft words >>= λ read. Ok (list.Insert read.0.0 read.0.1, read.1)
+list_call draft of.Get words = just_index words >>= λ index. Ok (list.Get index, draft)
+list_call draft of.Set words = just_index_and_value draft words >>= λ read. Ok (list.Set read.0.0 read.0.1, read.1)
+list_call draft of.Del words = just_index words >>= λ index. Ok (list.Del index, draft)
+list_call draft of.Pop words = just_some_index words >>= λ index. Ok (list.Pop index, draft)
+list_call draft of.Remove words = just_value draft words >>= λ read. Ok (list.Remove read.0, read.1)
+list_call draft of.Index words = just_value draft words >>= λ read. Ok (list.Index read.0, read.1)
+list_call draft of.Count words = just_value draft words >>= λ read. Ok (list.Count read.0, read.1)
+list_call draft of.Has words = just_value draft words >>= λ read. Ok (list.Has read.0, read.1)
+list_call draft of.Reverse words = just_nothing words >>= λ _. Ok (list.Reverse, draft)
+list_call draft of.Extend words = just_other draft kind.List words >>= λ other. Ok (list.Extend other, draft)
+list_call draft of.Slice words = just_two_indices words >>= λ ends. Ok (list.Slice ends.0 ends.1, draft)
+list_call draft of.Clear words = just_nothing words >>= λ _. Ok (list.Clear, draft)
+list_call draft of.Len words = just_nothing words >>= λ _. Ok (list.Len, draft)
+list_call draft of.Items words = just_nothing words >>= λ _. Ok (list.Items, draft)
+list_call draft of.Eq words = just_other draft kind.List words >>= λ other. Ok (list.Eq other, draft)
+list_call draft of.Iter words = just_made_cursor draft words >>= λ read. Ok (list.Iter read.0, read.1)
 list_call draft of.GetOr words = Err fault.WrongKind
 list_call draft of.PopOr words = Err fault.WrongKind
 list_call draft of.PopItem words = Err fault.WrongKind
@@ -104,22 +105,22 @@ list_call draft of.Disjoint words = Err fault.WrongKind
 
 -- and of a set
 unfoldable pub set_call : Draft → Operation → List (List ℕ) → Result (SetCall × Draft) Fault
-set_call draft of.Add words = key_in draft words >>= λ read. Ok (set.Add read.0, read.1)
-set_call draft of.Discard words = key_in draft words >>= λ read. Ok (set.Discard read.0, read.1)
-set_call draft of.Remove words = key_in draft words >>= λ read. Ok (set.Remove read.0, read.1)
-set_call draft of.Pop words = nothing_in words >>= λ _. Ok (set.Pop, draft)
-set_call draft of.Has words = key_in draft words >>= λ read. Ok (set.Has read.0, read.1)
-set_call draft of.Len words = nothing_in words >>= λ _. Ok (set.Len, draft)
-set_call draft of.Items words = nothing_in words >>= λ _. Ok (set.Items, draft)
-set_call draft of.Eq words = other_in draft kind.Set words >>= λ other. Ok (set.Eq other, draft)
-set_call draft of.Or words = other_in draft kind.Set words >>= λ other. Ok (set.Or other, draft)
-set_call draft of.And words = other_in draft kind.Set words >>= λ other. Ok (set.And other, draft)
-set_call draft of.Sub words = other_in draft kind.Set words >>= λ other. Ok (set.Sub other, draft)
-set_call draft of.Xor words = other_in draft kind.Set words >>= λ other. Ok (set.Xor other, draft)
-set_call draft of.Subset words = other_in draft kind.Set words >>= λ other. Ok (set.Subset other, draft)
-set_call draft of.Disjoint words = other_in draft kind.Set words >>= λ other. Ok (set.Disjoint other, draft)
-set_call draft of.Clear words = nothing_in words >>= λ _. Ok (set.Clear, draft)
-set_call draft of.Iter words = made_cursor_in draft words >>= λ read. Ok (set.Iter read.0, read.1)
+set_call draft of.Add words = just_key draft words >>= λ read. Ok (set.Add read.0, read.1)
+set_call draft of.Discard words = just_key draft words >>= λ read. Ok (set.Discard read.0, read.1)
+set_call draft of.Remove words = just_key draft words >>= λ read. Ok (set.Remove read.0, read.1)
+set_call draft of.Pop words = just_nothing words >>= λ _. Ok (set.Pop, draft)
+set_call draft of.Has words = just_key draft words >>= λ read. Ok (set.Has read.0, read.1)
+set_call draft of.Len words = just_nothing words >>= λ _. Ok (set.Len, draft)
+set_call draft of.Items words = just_nothing words >>= λ _. Ok (set.Items, draft)
+set_call draft of.Eq words = just_other draft kind.Set words >>= λ other. Ok (set.Eq other, draft)
+set_call draft of.Or words = just_other draft kind.Set words >>= λ other. Ok (set.Or other, draft)
+set_call draft of.And words = just_other draft kind.Set words >>= λ other. Ok (set.And other, draft)
+set_call draft of.Sub words = just_other draft kind.Set words >>= λ other. Ok (set.Sub other, draft)
+set_call draft of.Xor words = just_other draft kind.Set words >>= λ other. Ok (set.Xor other, draft)
+set_call draft of.Subset words = just_other draft kind.Set words >>= λ other. Ok (set.Subset other, draft)
+set_call draft of.Disjoint words = just_other draft kind.Set words >>= λ other. Ok (set.Disjoint other, draft)
+set_call draft of.Clear words = just_nothing words >>= λ _. Ok (set.Clear, draft)
+set_call draft of.Iter words = just_made_cursor draft words >>= λ read. Ok (set.Iter read.0, read.1)
 set_call draft of.Get words = Err fault.WrongKind
 set_call draft of.GetOr words = Err fault.WrongKind
 set_call draft of.Set words = Err fault.WrongKind
@@ -151,20 +152,20 @@ call_at draft place operation words (Some kind.Set) =
 unfoldable pub container_call : Draft → Operation → List (List ℕ) → Result (Call × Draft) Fault
 container_call draft operation [] = Err fault.WordCount
 container_call draft operation (name ∷ words) =
-    container_of draft name >>= λ place. call_at draft place operation words (kind_at draft place)
+    read_container draft name >>= λ place. call_at draft place operation words (kind_at draft place)
 
 -- the call that a word and those after it are
-unfoldable pub call_of : Draft → CallWord → List (List ℕ) → Result (Call × Draft) Fault
-call_of draft Next words = cursor_in draft words >>= λ cursor. Ok (call.Next cursor, draft)
-call_of draft Begin words = section_in draft words >>= λ both. Ok (call.Begin both.0 both.1, draft)
-call_of draft End words = nothing_in words >>= λ _. Ok (call.End, draft)
-call_of draft Quiesce words = nothing_in words >>= λ _. Ok (call.Quiesce, draft)
-call_of draft (On operation) words = container_call draft operation words
+unfoldable pub read_call : Draft → CallWord → List (List ℕ) → Result (Call × Draft) Fault
+read_call draft Next words = just_cursor draft words >>= λ cursor. Ok (call.Next cursor, draft)
+read_call draft Begin words = just_section draft words >>= λ both. Ok (call.Begin both.0 both.1, draft)
+read_call draft End words = just_nothing words >>= λ _. Ok (call.End, draft)
+read_call draft Quiesce words = just_nothing words >>= λ _. Ok (call.Quiesce, draft)
+read_call draft (On operation) words = container_call draft operation words
 
 -- the call that all words of a line are, and the draft after it
-unfoldable pub call_in : Draft → List (List ℕ) → Result (Call × Draft) Fault
-call_in draft [] = Err fault.WordCount
-call_in draft (word ∷ words) = or_fault fault.UnknownWord (call_word_of word) >>= λ found. call_of draft found words
+unfoldable pub just_call : Draft → List (List ℕ) → Result (Call × Draft) Fault
+just_call draft [] = Err fault.WordCount
+just_call draft (word ∷ words) = or_fault fault.UnknownWord (call_word_of word) >>= λ found. read_call draft found words
 
 -- the open sections after a call, of which there are no more than there may be
 unfoldable pub depth_after : ℕ → Call → Result ℕ Fault
@@ -179,7 +180,7 @@ depth_after depth call.Quiesce = Ok depth
 -- the line of a call that isn't one too many
 unfoldable pub counted_call : Draft → CallWord → List (List ℕ) → Result Draft Fault
 counted_call draft word words = do
-  read ← call_of draft word words
+  read ← read_call draft word words
   depth ← depth_after draft.depth read.0
   Ok (record read.1 { calls = read.1.calls ++ read.0 ∷ []; called = draft.called + 1; depth = depth })
 
@@ -206,7 +207,7 @@ past_limit (Err found) = Err (limit_fault found)
 -- the line of a call
 unfoldable pub call_line : Draft → CallWord → List (List ℕ) → Result Draft Fault
 call_line draft word words =
-    if nat_lt draft.called most_calls then counted_call draft word words else past_limit (call_of draft word words)
+    if nat_lt draft.called most_calls then counted_call draft word words else past_limit (read_call draft word words)
 
 -- ---- declarations
 
@@ -230,18 +231,18 @@ abbrev pub is_reported : Option (Option ℕ) → Bool
 is_reported None = false
 is_reported (Some count) = is_some count
 
-unfoldable pub class_of : List ℕ → Result ℕ Fault
-class_of word = index_of word >>= λ n. or_fault (fault.Limit which.Class) (class_place n)
+unfoldable pub read_class : List ℕ → Result ℕ Fault
+read_class word = read_index word >>= λ n. or_fault (fault.Limit which.Class) (class_place n)
 
 unfoldable pub tables_at : Draft → ℕ → List ℕ → Result Draft Fault
 tables_at draft place count =
-    if is_reported (slice_get draft.tables place) then Err fault.NameTwice else (index_of count >>= λ n.
+    if is_reported (slice_get draft.tables place) then Err fault.NameTwice else (read_index count >>= λ n.
     if int_le (pos 1) n
     && int_le n (pos most_tables) then Ok (record draft { tables = slice_set draft.tables place (Some (natural_of n)) })
     else Err (fault.Limit which.Tables))
 
 unfoldable pub tables_by_words : Draft → List ℕ → List ℕ → Result Draft Fault
-tables_by_words draft class count = class_of class >>= λ place. tables_at draft place count
+tables_by_words draft class count = read_class class >>= λ place. tables_at draft place count
 
 -- `tables CLASS COUNT`
 unfoldable pub tables_line : Draft → List (List ℕ) → Result Draft Fault
@@ -251,7 +252,7 @@ tables_line draft others = Err fault.WordCount
 -- `heap COUNT`
 unfoldable pub heap_line : Draft → List (List ℕ) → Result Draft Fault
 heap_line draft (count ∷ []) =
-    if is_some draft.heap then Err fault.NameTwice else (index_of count >>= λ n.
+    if is_some draft.heap then Err fault.NameTwice else (read_index count >>= λ n.
     if int_le (pos heap_step) n && int_le n (pos most_heap)
     && (natural_of n % heap_step == 0) then Ok (record draft { heap = Some (natural_of n) })
     else Err (fault.Limit which.Heap))
@@ -278,21 +279,21 @@ thread_line draft (name ∷ []) =
 thread_line draft others = Err fault.WordCount
 
 -- a name of an `order` line
-unfoldable pub turn : Draft → List ℕ → Result Draft Fault
-turn draft name =
+unfoldable pub read_turn : Draft → List ℕ → Result Draft Fault
+read_turn draft name =
     if not (is_thread_name name) then Err fault.Name
     else (or_fault fault.OrderName (thread_place draft.threads name) >>= λ thread.
     if nat_lt (length draft.order) most_turns then Ok (record draft { order = draft.order ++ thread ∷ [] })
     else Err (fault.Limit which.Order))
 
-unfoldable pub turns : Draft → List (List ℕ) → Result Draft Fault
-turns draft [] = Ok draft
-turns draft (name ∷ names) = turn draft name >>= λ next. turns next names
+unfoldable pub read_turns : Draft → List (List ℕ) → Result Draft Fault
+read_turns draft [] = Ok draft
+read_turns draft (name ∷ names) = read_turn draft name >>= λ next. read_turns next names
 
 -- `order NAME NAME ..`
 unfoldable pub order_line : Draft → List (List ℕ) → Result Draft Fault
 order_line draft [] = Err fault.WordCount
-order_line draft (name ∷ names) = turns draft (name ∷ names)
+order_line draft (name ∷ names) = read_turns draft (name ∷ names)
 
 -- ---- lines
 

@@ -1,6 +1,6 @@
 //! Reads the lines of calls.
 ghost use Rattle.ft_model.specs.Limits.{most_calls};
-ghost use Rattle.ft_script.specs.ScriptLines.{call_at, call_line, call_of, container_call, counted_call, depth_after, dict_call, limit_fault, list_call, set_call};
+ghost use Rattle.ft_script.specs.ScriptLines.{call_at, call_line, read_call, container_call, counted_call, depth_after, dict_call, limit_fault, list_call, set_call};
 ghost use Rattle.ft_script.specs.Internal.Outcomes.{LeavesDraft, GivesWithDraft, limit_error, draft_of};
 ghost use Rattle.std.specs.Prelude.{◌≡◌, ◌<◌, map};
 
@@ -317,14 +317,14 @@ impl Draft {
     }
 
     /// The call that a word and those after it are.
-    #[tactic(auto, unfolding(crate::specs::ScriptLines::call_of))]
+    #[tactic(auto, unfolding(crate::specs::ScriptLines::read_call))]
     pub(crate) fn call_of(
         &mut self,
         alloc: Global,
         word: CallWord,
         words: &[&[u8]],
     ) -> Result<Call, LineError>
-        ensures { GivesWithDraft result (draft_of self.new) (call_of (draft_of self.old) word (map (λ word. word.now) words.now)) }
+        ensures { GivesWithDraft result (draft_of self.new) (read_call (draft_of self.old) word (map (λ word. word.now) words.now)) }
     {
         match word {
             CallWord::Next => Ok(Call::Next {

@@ -1,11 +1,11 @@
 //! Reads the lines of entries and contents.
 ghost use Rattle.ft_model.specs.Limits.{most_cursors, most_strings};
 ghost use Rattle.ft_script.specs.declared.fault.Fault.TheVariants as fault;
-ghost use Rattle.ft_script.specs.Internal.Candidates.{content_of, entry_of, numbered_of, only_call, stamp_of, thread_call, thread_of, waited_of};
+ghost use Rattle.ft_script.specs.Internal.Candidates.{read_content, read_entry, read_numbered, only_call, read_stamp, thread_call, read_thread, read_waited};
 ghost use Rattle.ft_model.specs.Scripts.{IsScript};
 ghost use Rattle.ft_script.specs.Drafts.{container_place, draft_at, or_fault};
 ghost use Rattle.ft_script.specs.Internal.Outcomes.{Gives, draft_of};
-ghost use Rattle.ft_script.specs.ScriptLines.{call_of};
+ghost use Rattle.ft_script.specs.ScriptLines.{read_call};
 ghost use Rattle.ft_script.specs.Internal.Readers.{AddsNothing, IsReaderOf, IsUnchanged};
 ghost use Rattle.ft_script.specs.Internal.Tokens.{before_word};
 ghost use Rattle.ft_script.specs.Transcripts.{counts, counts_dict, counts_list, counts_set};
@@ -108,19 +108,19 @@ fn counts_set(call: &SetCall) -> bool
 }
 
 /// The thread of that name.
-#[tactic(auto, unfolding(crate::specs::Internal::Candidates::thread_of))]
+#[tactic(auto, unfolding(crate::specs::Internal::Candidates::read_thread))]
 fn thread_of(script: &ScriptParts, name: &[u8]) -> Result<u32, Fault>
     requires { IsScript script.now }
-    ensures { result ≡ thread_of script.now name.now }
+    ensures { result ≡ read_thread script.now name.now }
 {
     thread_place(script.threads.as_slice(), name).ok_or(Fault::Name)
 }
 
 /// The thread and the index that a dot parts.
-#[tactic(auto, unfolding(crate::specs::Internal::Candidates::numbered_of))]
+#[tactic(auto, unfolding(crate::specs::Internal::Candidates::read_numbered))]
 fn numbered_of(script: &ScriptParts, token: &[u8]) -> Result<(u32, u32), Fault>
     requires { IsScript script.now }
-    ensures { result ≡ numbered_of script.now token.now }
+    ensures { result ≡ read_numbered script.now token.now }
 {
     let (name, digits) = split_at_dot(token);
     let thread = thread_of(script, name)?;
@@ -140,9 +140,9 @@ fn split_at_dot(token: &[u8]) -> (&[u8], &[u8])
 }
 
 /// Whether a `w` stands there, and the number after it.
-#[tactic(auto, unfolding(crate::specs::Internal::Candidates::stamp_of))]
+#[tactic(auto, unfolding(crate::specs::Internal::Candidates::read_stamp))]
 fn stamp_of(token: &[u8]) -> Result<(bool, u64), Fault>
-    ensures { result ≡ stamp_of token.now }
+    ensures { result ≡ read_stamp token.now }
 {
     let [letter, digits @ ..] = token else {
         return Err(Fault::WordCount);
@@ -151,10 +151,10 @@ fn stamp_of(token: &[u8]) -> Result<(bool, u64), Fault>
 }
 
 /// The thread that the first token names, if there is one.
-#[tactic(auto, unfolding(crate::specs::Internal::Candidates::waited_of))]
+#[tactic(auto, unfolding(crate::specs::Internal::Candidates::read_waited))]
 fn waited_of(script: &ScriptParts, tokens: &[&[u8]]) -> Result<Option<u32>, Fault>
     requires { IsScript script.now }
-    ensures { result ≡ waited_of script.now (map (λ token. token.now) tokens.now) }
+    ensures { result ≡ read_waited script.now (map (λ token. token.now) tokens.now) }
 {
     match tokens {
         [name, ..] => Ok(Some(thread_of(script, name)?)),
@@ -240,7 +240,7 @@ impl Reader {
     }
 
     /// The call of a thread that some words may be. An `Err` may leave other cursors or strings.
-    #[tactic(auto, unfolding(crate::specs::Internal::Candidates::thread_call, crate::specs::ScriptLines::call_in))]
+    #[tactic(auto, unfolding(crate::specs::Internal::Candidates::thread_call, crate::specs::ScriptLines::just_call))]
     fn thread_call(
         &mut self,
         alloc: Global,
@@ -271,8 +271,8 @@ impl Reader {
     ) -> Result<Call, LineError>
         requires reader { IsReaderOf script.now (draft_of self.old.draft) self.old.cursors.items }
         requires declared { thread < length script.now.threads }
-        ensures read { Gives (λ call. call) result (only_call (call_of (draft_at script.now thread) word (map (λ word. word.now) words.now))) }
-        ensures kept { OnOk result (IsUnchanged (draft_at script.now thread) (call_of (draft_at script.now thread) word (map (λ word. word.now) words.now)) → IsReaderOf script.now (draft_of self.new.draft) self.new.cursors.items) }
+        ensures read { Gives (λ call. call) result (only_call (read_call (draft_at script.now thread) word (map (λ word. word.now) words.now))) }
+        ensures kept { OnOk result (IsUnchanged (draft_at script.now thread) (read_call (draft_at script.now thread) word (map (λ word. word.now) words.now)) → IsReaderOf script.now (draft_of self.new.draft) self.new.cursors.items) }
     {
         let cursors = &mut self.cursors[thread as usize];
         mem::swap(&mut self.draft.cursors, cursors);
@@ -282,7 +282,7 @@ impl Reader {
     }
 
     /// The entry whose line some tokens may be. An `Err` may leave other cursors or strings.
-    #[tactic(auto, unfolding(crate::specs::Internal::Candidates::entry_of))]
+    #[tactic(auto, unfolding(crate::specs::Internal::Candidates::read_entry))]
     pub(crate) fn entry_of(
         &mut self,
         alloc: Global,
@@ -293,7 +293,7 @@ impl Reader {
         requires script { IsScript script.now }
         requires reader { IsReaderOf script.now (draft_of self.old.draft) self.old.cursors.items }
         requires strings { strings.now ≡ script.now.strings }
-        ensures read { Gives (λ entry. entry) result (entry_of script.now (map (λ token. token.now) tokens.now)) }
+        ensures read { Gives (λ entry. entry) result (read_entry script.now (map (λ token. token.now) tokens.now)) }
         ensures kept { IfOk result (λ entry. AddsNothing script.now entry.thread (before_word (codes "=") (drop 2 (map (λ token. token.now) tokens.now))) → IsReaderOf script.now (draft_of self.new.draft) self.new.cursors.items) }
     {
         let [place, stamp, words @ ..] = tokens else {
@@ -319,7 +319,7 @@ impl Reader {
 }
 
 /// The container and the content whose line some tokens may be.
-#[tactic(auto, unfolding(crate::specs::Internal::Candidates::content_of))]
+#[tactic(auto, unfolding(crate::specs::Internal::Candidates::read_content))]
 pub(crate) fn content_of(
     alloc: Global,
     script: &ScriptParts,
@@ -328,7 +328,7 @@ pub(crate) fn content_of(
 ) -> Result<(u32, Reply), LineError>
     requires script { IsScript script.now }
     requires strings { strings.now ≡ script.now.strings }
-    ensures { Gives (λ content. content) result (content_of script.now (map (λ token. token.now) tokens.now)) }
+    ensures { Gives (λ content. content) result (read_content script.now (map (λ token. token.now) tokens.now)) }
 {
     let [name, _, tokens @ ..] = tokens else {
         return Err(Fault::WordCount.into());

@@ -8,7 +8,7 @@ ghost use Rattle.ft_model.specs.Histories.{cursors_of};
 ghost use Rattle.ft_model.specs.Scripts.{IsCallOf, IsScript};
 ghost use Rattle.ft_script.specs.Drafts.{draft_at};
 ghost use Rattle.ft_script.specs.Generator.{made_script, made_text};
-ghost use Rattle.ft_script.specs.ScriptLines.{call_in};
+ghost use Rattle.ft_script.specs.ScriptLines.{just_call};
 ghost use Rattle.ft_script.specs.ReadScripts.{read_script};
 ghost use Rattle.ft_script.specs.Texts.{call_words};
 ghost use Rattle.ft_script.specs.Transcripts.{IsFirstBad, IsTranscript, IsWideCall};
@@ -27,7 +27,7 @@ pub fn what_is_read_is_wide()
 /// The words of a thread's call, as they are printed, are read as that call where what it names is
 /// declared above it, and they declare nothing new.
 pub fn calls_are_read_back()
-    ensures { (script : ScriptParts) (thread : ℕ) (called : Call) → IsScript script → thread < length script.threads → IsCallOf script (cursors_of script thread) called → IsWideCall called → call_in (draft_at script thread) (call_words script thread called) ≡ Ok (called, draft_at script thread) }
+    ensures { (script : ScriptParts) (thread : ℕ) (called : Call) → IsScript script → thread < length script.threads → IsCallOf script (cursors_of script thread) called → IsWideCall called → just_call (draft_at script thread) (call_words script thread called) ≡ Ok (called, draft_at script thread) }
 {}
 
 /// Bytes are the transcript of no more than one list of entries and one list of contents: what is

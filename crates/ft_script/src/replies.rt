@@ -1,5 +1,5 @@
 //! Reads the reply that some tokens may be.
-ghost use Rattle.ft_script.specs.Internal.Candidates.{braced_of, but_last, class_error_of, counted_reply, each_of, first_reply, has_pairs, is_decimal, known_key, known_pair, known_value, memory_error_of, natural_in, pairs_of, reply_of, runtime_error_of, shown_reply, suspended_of, u32_of, u64_of, worded_reply};
+ghost use Rattle.ft_script.specs.Internal.Candidates.{read_braced, but_last, read_class_error, counted_reply, read_each, first_reply, has_pairs, is_decimal, known_key, known_pair, known_value, read_memory_error, natural_in, read_pairs, read_reply, read_runtime_error, shown_reply, read_suspended, read_u32, read_u64, worded_reply};
 ghost use Rattle.ft_script.specs.Internal.Outcomes.{Gives};
 ghost use Rattle.std.specs.Prelude.{◌≡◌, map};
 
@@ -32,17 +32,17 @@ fn natural_in(token: &[u8]) -> Option<u64>
 }
 
 /// The number below 2^64 that digits are.
-#[tactic(auto, unfolding(crate::specs::Internal::Candidates::u64_of))]
+#[tactic(auto, unfolding(crate::specs::Internal::Candidates::read_u64))]
 pub(crate) fn u64_of(token: &[u8]) -> Result<u64, Fault>
-    ensures { result ≡ u64_of token.now }
+    ensures { result ≡ read_u64 token.now }
 {
     natural_in(token).ok_or(Fault::Number)
 }
 
 /// The number below 2^32 that digits are.
-#[tactic(auto, unfolding(crate::specs::Internal::Candidates::u32_of))]
+#[tactic(auto, unfolding(crate::specs::Internal::Candidates::read_u32))]
 pub(crate) fn u32_of(token: &[u8]) -> Result<u32, Fault>
-    ensures { result ≡ u32_of token.now }
+    ensures { result ≡ read_u32 token.now }
 {
     let number = u64_of(token)?;
     u32::try_from(number).map_err(|_| Fault::Number)
@@ -90,7 +90,7 @@ fn known_pair(
 
 /// The keys that the tokens are.
 fn keys_of(alloc: Global, strings: &Strings, tokens: &[&[u8]]) -> Result<Sequence<Key>, LineError>
-    ensures { Gives (λ keys. keys) result (each_of (known_key strings.now) (map (λ token. token.now) tokens.now)) }
+    ensures { Gives (λ keys. keys) result (read_each (known_key strings.now) (map (λ token. token.now) tokens.now)) }
 {
     let mut keys = Vec::new(alloc);
     for token in tokens {
@@ -105,7 +105,7 @@ fn values_of(
     strings: &Strings,
     tokens: &[&[u8]],
 ) -> Result<Sequence<Value>, LineError>
-    ensures { Gives (λ values. values) result (each_of (known_value strings.now) (map (λ token. token.now) tokens.now)) }
+    ensures { Gives (λ values. values) result (read_each (known_value strings.now) (map (λ token. token.now) tokens.now)) }
 {
     let mut values = Vec::new(alloc);
     for token in tokens {
@@ -120,7 +120,7 @@ fn pairs_of(
     strings: &Strings,
     tokens: &[&[u8]],
 ) -> Result<Sequence<(Key, Value)>, LineError>
-    ensures { Gives (λ pairs. pairs) result (pairs_of strings.now (map (λ token. token.now) tokens.now)) }
+    ensures { Gives (λ pairs. pairs) result (read_pairs strings.now (map (λ token. token.now) tokens.now)) }
 {
     let mut pairs = Vec::new(alloc);
     let mut rest = tokens;
@@ -134,9 +134,9 @@ fn pairs_of(
     Ok(Sequence::from_vec(pairs))
 }
 
-#[tactic(auto, unfolding(crate::specs::Internal::Candidates::suspended_of))]
+#[tactic(auto, unfolding(crate::specs::Internal::Candidates::read_suspended))]
 fn suspended_of(tokens: &[&[u8]]) -> Result<Reply, Fault>
-    ensures { result ≡ suspended_of (map (λ token. token.now) tokens.now) }
+    ensures { result ≡ read_suspended (map (λ token. token.now) tokens.now) }
 {
     match tokens {
         [count, ..] => Ok(Reply::Suspended(u32_of(count)?)),
@@ -144,9 +144,9 @@ fn suspended_of(tokens: &[&[u8]]) -> Result<Reply, Fault>
     }
 }
 
-#[tactic(auto, unfolding(crate::specs::Internal::Candidates::runtime_error_of))]
+#[tactic(auto, unfolding(crate::specs::Internal::Candidates::read_runtime_error))]
 fn runtime_error_of(tokens: &[&[u8]]) -> Result<Raise, Fault>
-    ensures { result ≡ runtime_error_of (map (λ token. token.now) tokens.now) }
+    ensures { result ≡ read_runtime_error (map (λ token. token.now) tokens.now) }
 {
     match tokens {
         [cause, ..] if *cause == b"size".as_slice() => Ok(Raise::Size),
@@ -156,9 +156,9 @@ fn runtime_error_of(tokens: &[&[u8]]) -> Result<Raise, Fault>
     }
 }
 
-#[tactic(auto, unfolding(crate::specs::Internal::Candidates::memory_error_of))]
+#[tactic(auto, unfolding(crate::specs::Internal::Candidates::read_memory_error))]
 fn memory_error_of(tokens: &[&[u8]]) -> Result<Raise, Fault>
-    ensures { result ≡ memory_error_of (map (λ token. token.now) tokens.now) }
+    ensures { result ≡ read_memory_error (map (λ token. token.now) tokens.now) }
 {
     match tokens {
         [cause, ..] if *cause == b"over".as_slice() => Ok(Raise::Over),
@@ -168,9 +168,9 @@ fn memory_error_of(tokens: &[&[u8]]) -> Result<Raise, Fault>
     }
 }
 
-#[tactic(auto, unfolding(crate::specs::Internal::Candidates::class_error_of))]
+#[tactic(auto, unfolding(crate::specs::Internal::Candidates::read_class_error))]
 fn class_error_of(token: &[u8]) -> Result<Raise, Fault>
-    ensures { result ≡ class_error_of token.now }
+    ensures { result ≡ read_class_error token.now }
 {
     match u32_of(token)? {
         class @ LEAST_CLASS..=GREATEST_CLASS => Ok(Raise::Memory(class)),
@@ -190,9 +190,9 @@ fn has_pairs(tokens: &[&[u8]]) -> bool
 }
 
 /// What stands between the braces of a dict or a set.
-#[tactic(auto, unfolding(crate::specs::Internal::Candidates::braced_of))]
+#[tactic(auto, unfolding(crate::specs::Internal::Candidates::read_braced))]
 fn braced_of(alloc: Global, strings: &Strings, tokens: &[&[u8]]) -> Result<Reply, LineError>
-    ensures { Gives (λ reply. reply) result (braced_of strings.now (map (λ token. token.now) tokens.now)) }
+    ensures { Gives (λ reply. reply) result (read_braced strings.now (map (λ token. token.now) tokens.now)) }
 {
     if has_pairs(tokens) {
         Ok(Reply::Dict(pairs_of(alloc, strings, tokens)?))
@@ -268,14 +268,14 @@ fn shown_reply(
 }
 
 /// The reply that some tokens may be, to a call that counts or doesn't.
-#[tactic(auto, unfolding(crate::specs::Internal::Candidates::reply_of, crate::specs::Internal::Candidates::first_reply))]
+#[tactic(auto, unfolding(crate::specs::Internal::Candidates::read_reply, crate::specs::Internal::Candidates::first_reply))]
 pub(crate) fn reply_of(
     alloc: Global,
     strings: &Strings,
     counted: bool,
     tokens: &[&[u8]],
 ) -> Result<Reply, LineError>
-    ensures { Gives (λ reply. reply) result (reply_of strings.now counted (map (λ token. token.now) tokens.now)) }
+    ensures { Gives (λ reply. reply) result (read_reply strings.now counted (map (λ token. token.now) tokens.now)) }
 {
     let [first, tokens @ ..] = tokens else {
         return Err(Fault::WordCount.into());

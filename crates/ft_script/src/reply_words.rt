@@ -1,5 +1,5 @@
 //! The words that replies begin with.
-ghost use Rattle.ft_script.specs.Internal.Candidates.{reply_word_of, reply_word_text};
+ghost use Rattle.ft_script.specs.Internal.Candidates.{read_reply_word, reply_word_text};
 ghost use Rattle.std.specs.Prelude.{◌≡◌};
 
 /// The first token of a reply that isn't a value or a pair.
@@ -45,7 +45,7 @@ const REPLY_WORDS: [ReplyWord; 15] = [
 
 /// The word of a reply that a token is.
 pub(crate) fn reply_word_of(token: &[u8]) -> Option<ReplyWord>
-    ensures { result ≡ reply_word_of token.now }
+    ensures { result ≡ read_reply_word token.now }
 {
     REPLY_WORDS
         .iter()

@@ -2,7 +2,7 @@
 ghost use Rattle.ft_model.specs.Classes.{class_count};
 ghost use Rattle.ft_model.specs.Limits.{most_threads};
 ghost use Rattle.ft_script.specs.Internal.Outcomes.{HasFewThreads, LeavesDraft, LeavesAlways, draft_of};
-ghost use Rattle.ft_script.specs.ScriptLines.{class_of, class_place, container_line, declaration, heap_line, open_line, order_line, other_statement, read_line, statement, tables_at, tables_line, tables_by_words, thread_line, thread_statement, turn, turns, words_line};
+ghost use Rattle.ft_script.specs.ScriptLines.{read_class, class_place, container_line, declaration, heap_line, open_line, order_line, other_statement, read_line, statement, tables_at, tables_line, tables_by_words, thread_line, thread_statement, read_turn, read_turns, words_line};
 ghost use Rattle.std.specs.Prelude.{◌≡◌, ◌<◌, ◌≤◌, IfOk, IfSome, OnOk, length, map};
 
 use crate::arguments::index_of;
@@ -30,9 +30,9 @@ fn class_place(class: i64) -> Option<usize>
     }
 }
 
-#[tactic(auto, unfolding(crate::specs::ScriptLines::class_of))]
+#[tactic(auto, unfolding(crate::specs::ScriptLines::read_class))]
 fn class_of(word: &[u8]) -> Result<usize, Fault>
-    ensures class { result ≡ class_of word.now }
+    ensures class { result ≡ read_class word.now }
     ensures small { IfOk result (λ place. place < class_count) }
 {
     let class = index_of(word)?;
@@ -167,10 +167,10 @@ impl Draft {
     }
 
     /// Reads a name of an `order` line.
-    #[tactic(auto, unfolding(crate::specs::ScriptLines::turn))]
+    #[tactic(auto, unfolding(crate::specs::ScriptLines::read_turn))]
     fn turn(&mut self, name: &[u8]) -> Result<(), LineError>
         requires { length self.old.threads ≤ most_threads }
-        ensures read { LeavesDraft result (draft_of self.new) (turn (draft_of self.old) name.now) }
+        ensures read { LeavesDraft result (draft_of self.new) (read_turn (draft_of self.old) name.now) }
         ensures threads { OnOk result (self.new.threads ≡ self.old.threads) }
     {
         if !is_thread_name(name) {
@@ -198,7 +198,7 @@ impl Draft {
 
     fn turns(&mut self, names: &[&[u8]]) -> Result<(), LineError>
         requires { length self.old.threads ≤ most_threads }
-        ensures { LeavesDraft result (draft_of self.new) (turns (draft_of self.old) (map (λ word. word.now) names.now)) }
+        ensures { LeavesDraft result (draft_of self.new) (read_turns (draft_of self.old) (map (λ word. word.now) names.now)) }
     {
         for name in names {
             self.turn(name)?;

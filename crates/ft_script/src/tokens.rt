@@ -1,5 +1,5 @@
 //! The tokens of the lines of transcripts.
-ghost use Rattle.ft_script.specs.Internal.Tokens.{before_word, after_word, is_gap, is_mark, place_at, place_after, token_ends, token_start, tokens_of};
+ghost use Rattle.ft_script.specs.Internal.Tokens.{before_word, after_word, is_gap, is_mark, place_at, token_place_after, token_ends, token_start, tokens_of};
 ghost use Rattle.ft_script.specs.declared.lines.Place.TheVariants as at;
 ghost use Rattle.std.specs.Prelude.{◌≡◌, IfOk, map};
 
@@ -37,7 +37,7 @@ fn place_at(byte: u8) -> Place
 
 /// Where a byte leads.
 fn place_after(place: Place, byte: u8) -> Place
-    ensures { result ≡ place_after place byte }
+    ensures { result ≡ token_place_after place byte }
 {
     match place {
         Place::Between | Place::Ended => place_at(byte),

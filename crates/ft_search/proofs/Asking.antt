@@ -20,20 +20,20 @@ use Rattle.ft_trace.specs.Causes.{AreOfOneCall, HasCause}
 use Rattle.ft_model.specs.Answers.{is_write}
 use Rattle.ft_model.specs.Calls.{moved_cursor}
 use Rattle.ft_model.specs.Histories.{IsReplied}
-use Rattle.ft_model.specs.Tables.{StoredWorld}
+use Rattle.ft_model.specs.TableUses.{StoredWorld}
 use Rattle.ft_trace.specs.Kinds.{rows}
-use Rattle.ft_trace.specs.Reading.{Among}
+use Rattle.ft_trace.specs.LoggedReads.{Among}
 use Rattle.ft_trace.specs.Traces.{Possible}
-use Rattle.ft_trace.specs.Worlds.{kind_in, reply_in}
+use Rattle.ft_trace.specs.ContainerStates.{kind_in, reply_in}
 use Rattle.ft_bank.specs.Answered.{Answered}
 use Rattle.ft_bank.specs.Reads.{IsShown}
 use Rattle.ft_bank.specs.Shown.{MayAsk, KeyIsShown}
 use Rattle.ft_bank.specs.Whole.{OnlyLoaded}
-use Rattle.ft_bank.specs.Writes.{MayHave}
+use Rattle.ft_bank.specs.WriteSteps.{MayHave}
 use Rattle.ft_bank.proofs.Seen.{answered_seen}
-use Rattle.ft_bank.proofs.Whole.{loaded_by, loaded_then}
-use Rattle.ft_bank.proofs.Showing.{dict_hits_are_shown, values_are_read, set_hits_are_shown, misses_are_shown, replies_under_locks_are_shown}
-use Rattle.ft_search.specs.Looks.{AreLooks, ShowsHere, ShowsAbsent, Stops, IsContended}
+use Rattle.ft_bank.proofs.KnownAfterWrites.{loaded_by, loaded_then}
+use Rattle.ft_bank.proofs.ShownReplies.{dict_hits_are_shown, values_are_read, set_hits_are_shown, misses_are_shown, replies_under_locks_are_shown}
+use Rattle.ft_search.specs.KeyLooks.{AreLooks, ShowsHere, ShowsAbsent, Stops, IsKeyContended}
 
 -- loads make no entry
 pub looks_own : (l : List Act) → AreLooks l → AreOfOneCall l
@@ -102,7 +102,7 @@ module _ (v w : View) (k : Shape) (o : ℕ) (key : Key) (n : ℕ) (part : List A
 pub answered_after : (v w z : View) (called : Call) (said : Reply) (n : ℕ) (part : List Act) → OnlyLoaded v w → w.log ≡ part ++ v.log → Among (ReadCounter n) part → z ≡ noted (Answer called said n) w → v.learnt ≤ shown v.log → ∥ Possible z ∥₁ → Answered called said n v z
 answered_after v w z called said n part loaded own counted is settled possible = record { before = w; loaded = loaded; part = part; own = own; counted = counted; answered = is; seen = answered_seen v w z called said part n own counted is settled possible }
 
-pub contended_after : (v w : View) (k : Shape) (o : ℕ) (key : Key) (a b : ℕ) (part : List Act) → v.shape ≡ k → OnlyLoaded v w → AreLooks part → w.log ≡ part ++ v.log → Stops k o key a b part → IsContended o key a b v w
+pub contended_after : (v w : View) (k : Shape) (o : ℕ) (key : Key) (a b : ℕ) (part : List Act) → v.shape ≡ k → OnlyLoaded v w → AreLooks part → w.log ≡ part ++ v.log → Stops k o key a b part → IsKeyContended o key a b v w
 contended_after v w k o key a b part same loaded looks own stops =
     record { loaded = loaded; part = part; looks = looks; own = own; stops = subst (λ (z : Shape). Stops z o key a b part) (sym same) stops }
 

@@ -11,17 +11,17 @@ use Rattle.ft_layout.specs.Words.{key_kind, gone_kind, key_payload}
 use Rattle.ft_trace.specs.declared.Act.{Act}
 use Rattle.ft_trace.specs.declared.Act.TheVariants.{ReadTable}
 use Rattle.ft_trace.specs.Addresses.{class_of, slots}
-use Rattle.ft_trace.specs.Words.{entry_at}
+use Rattle.ft_trace.specs.Pictures.{entry_offset}
 use Rattle.ft_keys.specs.declared.words.Access.{Access}
 use Rattle.ft_keys.specs.declared.words.Access.TheVariants.{Index, Entry, PutIndex, PutEntry, OldEntry}
 use Rattle.ft_keys.specs.declared.search.Found.{Found}
 use Rattle.ft_keys.specs.declared.search.Found.TheVariants.{At, Was, Free, Spent}
 use Rattle.ft_keys.specs.Accesses.{Follows, AreLoads, index_loads}
-use Rattle.ft_keys.specs.Costs.{free_loads, TriedAgainOnce}
+use Rattle.ft_keys.specs.WalkCosts.{free_loads, TriedAgainOnce}
 use Rattle.ft_keys.specs.Loads.{PassesSlot, TriesSlots, EndsWith, Loads, unpassed, entry_loads}
 use Rattle.ft_keys.proofs.Loading.{loads-are}
-use Rattle.ft_search.specs.Costs.{index_reads, indexed, LoadsNoIndex, WalksOn, MayWalkOn}
-use Rattle.ft_search.specs.Words.{act_of}
+use Rattle.ft_search.specs.SearchCosts.{index_reads, indexed, LoadsNoIndex, WalksOn, MayWalkOn}
+use Rattle.ft_search.specs.TableWords.{access_act}
 use Rattle.ft_search.proofs.Walking.{map_append}
 
 -- ---- which loads are of index words
@@ -72,8 +72,8 @@ index_past t u i f acts high =
     by false b e = refl
 
 -- a word of an entry
-pub index_entry : (t u place word f : ℕ) (acts : List Act) → indexed t (ReadTable u (entry_at (slots (class_of u)) place word) f ∷ acts) ≡ indexed t acts
-index_entry t u place word f acts = index_past t u (entry_at (slots (class_of u)) place word) f acts (omega arith)
+pub index_entry : (t u place word f : ℕ) (acts : List Act) → indexed t (ReadTable u (entry_offset (slots (class_of u)) place word) f ∷ acts) ≡ indexed t acts
+index_entry t u place word f acts = index_past t u (entry_offset (slots (class_of u)) place word) f acts (omega arith)
 
 -- ---- the calls of searches on one walk
 
@@ -101,7 +101,7 @@ module _ (o t : ℕ) (walk : List ℕ) (mask : ℕ) (key : Key) where
   N = slots (class_of t)
 
   abbrev f : Access → Act
-  f = act_of o t
+  f = access_act o t
 
   abbrev At_ : List Act → List ℕ → Type 0
   At_ acts left = Going N walk (indexed t acts) left
@@ -126,8 +126,8 @@ module _ (o t : ℕ) (walk : List ℕ) (mask : ℕ) (key : Key) where
       → At_ (map f (entry_loads slot place kind payload) ++ acts) left × (free (map f (entry_loads slot place kind payload) ++ acts) ≡ 0)
   entry_on acts slot place kind payload left h few =
       let one : List Act = ReadTable t slot (suc place) ∷ acts in
-      let two : List Act = ReadTable t (entry_at N place 2) kind ∷ one in
-      slot_used acts (ReadTable t (entry_at N place 3) payload ∷ two) slot place left h few
+      let two : List Act = ReadTable t (entry_offset N place 2) kind ∷ one in
+      slot_used acts (ReadTable t (entry_offset N place 3) payload ∷ two) slot place left h few
       (index_entry t t place 3 payload two ∙ (index_entry t t place 2 kind one ∙ index_here t slot (suc place) acts (slot_low acts slot left h)))
 
   -- a slot that a search passed
@@ -139,7 +139,7 @@ module _ (o t : ℕ) (walk : List ℕ) (mask : ℕ) (key : Key) where
       (λ q. ⊎_elim
       (λ (x : (place kind : ℕ) × (place < dict_room mask) × (kind ≢ key_kind key) × (kind ≢ gone_kind key) × (loads ≡ Entry place 2 kind ∷ (Index slot (suc place) ∷ []))).
       subst G (sym x.5)
-      (slot_used acts (ReadTable t (entry_at N x.0 2) x.1 ∷ (ReadTable t slot (suc x.0) ∷ acts)) slot x.0 left h few
+      (slot_used acts (ReadTable t (entry_offset N x.0 2) x.1 ∷ (ReadTable t slot (suc x.0) ∷ acts)) slot x.0 left h few
       (index_entry t t x.0 2 x.1 (ReadTable t slot (suc x.0) ∷ acts) ∙ index_here t slot (suc x.0) acts (slot_low acts slot left h))))
       (λ (x : (place kind payload : ℕ) × (place < dict_room mask) × (payload ≢ key_payload key) × (loads ≡ entry_loads slot place kind payload)).
       subst G (sym x.5) (entry_on acts slot x.0 x.1 x.2 left h few))
@@ -180,8 +180,8 @@ module _ (o t : ℕ) (walk : List ℕ) (mask : ℕ) (key : Key) where
   others_calls : (u : ℕ) (calls : List Access) (acts : List Act) → AreLoads calls → t ≢ u → indexed u (map f calls ++ acts) ≡ indexed u acts
   others_calls u [] acts loads ne = refl
   others_calls u (Index slot x ∷ calls) acts loads ne = index_other u t slot x (map f calls ++ acts) ne ∙ others_calls u calls acts loads.1 ne
-  others_calls u (Entry place word x ∷ calls) acts loads ne = index_other u t (entry_at N place word) x (map f calls ++ acts) ne ∙ others_calls u calls acts loads.1 ne
-  others_calls u (OldEntry place word x ∷ calls) acts loads ne = index_other u t (entry_at N place word) x (map f calls ++ acts) ne ∙ others_calls u calls acts loads.1 ne
+  others_calls u (Entry place word x ∷ calls) acts loads ne = index_other u t (entry_offset N place word) x (map f calls ++ acts) ne ∙ others_calls u calls acts loads.1 ne
+  others_calls u (OldEntry place word x ∷ calls) acts loads ne = index_other u t (entry_offset N place word) x (map f calls ++ acts) ne ∙ others_calls u calls acts loads.1 ne
   others_calls u (PutIndex slot x ∷ calls) acts loads ne = absurd loads.0
   others_calls u (PutEntry place word x ∷ calls) acts loads ne = absurd loads.0
 

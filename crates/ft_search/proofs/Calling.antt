@@ -7,7 +7,7 @@ use Rattle.ft_model.specs.declared.call.Call.TheVariants as call
 use Rattle.ft_model.specs.declared.reply.Reply.{Reply}
 use Rattle.ft_model.specs.Answers.{is_write}
 use Rattle.ft_model.specs.Histories.{IsReplied}
-use Rattle.ft_model.specs.Tables.{StoredWorld}
+use Rattle.ft_model.specs.TableUses.{StoredWorld}
 use Rattle.ft_trace.specs.declared.Act.{Act}
 use Rattle.ft_trace.specs.declared.Act.TheVariants.{ReadCounter, Answer}
 use Rattle.ft_trace.specs.declared.Entry.{Entry}
@@ -16,24 +16,24 @@ use Rattle.ft_trace.specs.declared.View.{View}
 use Rattle.ft_trace.specs.Acts.{has_lock, stage, debt, noted}
 use Rattle.ft_trace.specs.Addresses.{containers_in}
 use Rattle.ft_trace.specs.Holds.{held, known}
-use Rattle.ft_trace.specs.Words.{Picture, root_in, Stands}
+use Rattle.ft_trace.specs.Pictures.{Picture, root_in, Stands}
 use Rattle.ft_trace.specs.Kinds.{IsKeyed}
-use Rattle.ft_trace.specs.Worlds.{ContainerState, changes, kind_in, reply_in}
+use Rattle.ft_trace.specs.ContainerStates.{ContainerState, changes, kind_in, reply_in}
 use Rattle.ft_trace.proofs.Cases.{hit}
 use Rattle.ft_bank.specs.declared.bank.Bank.{Bank}
 use Rattle.ft_bank.specs.declared.pass.Pass.{Pass}
 use Rattle.ft_bank.specs.Answered.{Answered}
 use Rattle.ft_bank.specs.Passes.{view, IsPassOf}
-use Rattle.ft_bank.specs.Sections.{stack_of}
+use Rattle.ft_bank.specs.PassSections.{stack_of}
 use Rattle.ft_bank.specs.Whole.{OnlyLoaded, Wrote, write_entry, hand_after, debt_after}
-use Rattle.ft_bank.specs.Writes.{MayHave}
-use Rattle.ft_bank.proofs.Whole.{loaded_held, loaded_then, work_knows, pass_then, same_work}
+use Rattle.ft_bank.specs.WriteSteps.{MayHave}
+use Rattle.ft_bank.proofs.KnownAfterWrites.{loaded_held, loaded_then, work_knows, pass_then, same_work}
 use Rattle.ft_section.specs.declared.answers.Stamp.{Stamp}
 use Rattle.ft_section.specs.Ready.{IsStill, IsMaking}
-use Rattle.ft_section.proofs.Making.{making_stays}
-use Rattle.ft_search.specs.Calls.{IsReplyTo, IsShownBy, KeepsTables, MadeAs}
-use Rattle.ft_search.specs.Writing.{Leaves, MayWriteEntries}
-use Rattle.ft_search.proofs.Trying.{LeavesSections, making_read}
+use Rattle.ft_section.proofs.MidstOfCall.{making_stays}
+use Rattle.ft_search.specs.MadeCalls.{IsReplyTo, IsShownBy, KeepsTables, MadeAs}
+use Rattle.ft_search.specs.OneEntryWrites.{Leaves, MayWriteEntries}
+use Rattle.ft_search.proofs.ReadMidst.{LeavesSections, making_read}
 
 -- a write is a call on a container, which replies as the plain one does
 pub plain_replied : (called : Call) (said plain : Reply) → is_write called said ≡ true → plain ≡ said → IsReplied called said plain

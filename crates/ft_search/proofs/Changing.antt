@@ -14,23 +14,23 @@ use Rattle.ft_trace.specs.Addresses.{containers_in, class_of, slots}
 use Rattle.ft_trace.specs.Acts.{has_lock, is_writing, has_committed}
 use Rattle.ft_trace.specs.Holds.{held, known}
 use Rattle.ft_trace.specs.Kinds.{rows, version_at, CarefulAs, ClearAs}
-use Rattle.ft_trace.specs.Openings.{Shut, Timely}
+use Rattle.ft_trace.specs.OddVersions.{Shut, Timely}
 use Rattle.ft_trace.specs.Traces.{Possible}
-use Rattle.ft_trace.specs.Words.{Picture, root_in, entry_at, entry_of, Stands}
-use Rattle.ft_trace.specs.Worlds.{ContainerState, kind_in}
-use Rattle.ft_trace.specs.Writes.{Put, to_table, with_puts, MayPut, MayPuts}
+use Rattle.ft_trace.specs.Pictures.{Picture, root_in, entry_offset, entry_field, Stands}
+use Rattle.ft_trace.specs.ContainerStates.{ContainerState, kind_in}
+use Rattle.ft_trace.specs.WholeWrites.{Put, to_table, with_puts, MayPut, MayPuts}
 use Rattle.ft_trace.proofs.Clearing.{held_shut}
 use Rattle.ft_trace.proofs.Known.{kind_known}
-use Rattle.ft_bank.specs.Writes.{IsCareful}
-use Rattle.ft_search.specs.Writing.{raised_at}
+use Rattle.ft_bank.specs.WriteSteps.{IsCareful}
+use Rattle.ft_search.specs.OneEntryWrites.{raised_at}
 
 -- The puts before the commit may be made; then it may be made, and the version of the entry be made even again, the only one
 -- that is odd. Then the words stand for what is left.
 pub record Changing (texts : List ℕ) (t : ℕ) (x : Picture) (before : ContainerState) (place : ℕ) (early : List Put) (left : ContainerState) : Type 0 where
   pub puts : MayPuts (kind_of before.content) t before.content false x early
   pub clear : ClearAs (kind_of before.content) texts (class_of t) (with_puts x early).table before.content left.content
-  pub odd : entry_of (slots (class_of t)) (with_puts x early).table place 0 % 2 ≡ 1
-  pub close : CarefulAs (kind_of before.content) (class_of t) (with_puts x early).table left.content (entry_at (slots (class_of t)) place 0) (entry_of (slots (class_of t)) (with_puts x early).table place 0 + 1)
+  pub odd : entry_field (slots (class_of t)) (with_puts x early).table place 0 % 2 ≡ 1
+  pub close : CarefulAs (kind_of before.content) (class_of t) (with_puts x early).table left.content (entry_offset (slots (class_of t)) place 0) (entry_field (slots (class_of t)) (with_puts x early).table place 0 + 1)
   pub stands : Stands texts (raised_at t place (with_puts x early)) left
   pub shut : Shut (version_at (kind_of before.content) (class_of t)) (rows (kind_of before.content) (class_of t)) (raised_at t place (with_puts x early)).table
 

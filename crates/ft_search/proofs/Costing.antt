@@ -9,14 +9,14 @@ use Rattle.ft_keys.specs.declared.walk.Way.{Way}
 use Rattle.ft_keys.specs.declared.words.Access.{Access}
 use Rattle.ft_keys.specs.declared.words.Access.TheVariants.{Index, Entry, PutIndex, PutEntry, OldEntry}
 use Rattle.ft_keys.specs.Accesses.{AreLoads, index_loads}
-use Rattle.ft_keys.specs.Costs.{most_loads}
+use Rattle.ft_keys.specs.WalkCosts.{most_loads}
 use Rattle.ft_trace.specs.declared.Act.{Act}
 use Rattle.ft_trace.specs.declared.Act.TheVariants.{ReadTable}
 use Rattle.ft_trace.specs.Addresses.{class_of, slots}
-use Rattle.ft_trace.specs.Words.{entry_at}
-use Rattle.ft_search.specs.Costs.{AreFewReads, index_read, index_reads}
-use Rattle.ft_search.specs.Words.{act_of}
-use Rattle.ft_search.proofs.Places.{slots_of_class}
+use Rattle.ft_trace.specs.Pictures.{entry_offset}
+use Rattle.ft_search.specs.SearchCosts.{AreFewReads, index_read, index_reads}
+use Rattle.ft_search.specs.TableWords.{access_act}
+use Rattle.ft_search.proofs.WordPlaces.{slots_of_class}
 
 pub reads_append : (t : ℕ) (a b : List Act) → index_reads t (a ++ b) ≡ index_reads t a + index_reads t b
 reads_append t [] b = omega arith
@@ -47,7 +47,7 @@ after_index t u i f high =
 
 module _ (o n : ℕ) where
   -- the calls of a search load at most as many as they are said to
-  pub calls_few : (t : ℕ) (calls : List Access) → AreLoads calls → index_reads t (map (act_of o n) calls) ≤ index_loads calls
+  pub calls_few : (t : ℕ) (calls : List Access) → AreLoads calls → index_reads t (map (access_act o n) calls) ≤ index_loads calls
   calls_few t [] loads = omega arith
   calls_few t (Index slot x ∷ calls) loads =
       let more = calls_few t calls loads.1 in
@@ -55,25 +55,25 @@ module _ (o n : ℕ) where
       omega (arith, more, one)
   calls_few t (Entry place word x ∷ calls) loads =
       let more = calls_few t calls loads.1 in
-      let none = after_index t n (entry_at (slots (class_of n)) place word) x (omega arith) in
+      let none = after_index t n (entry_offset (slots (class_of n)) place word) x (omega arith) in
       omega (arith, more, none)
   calls_few t (OldEntry place word x ∷ calls) loads =
       let more = calls_few t calls loads.1 in
-      let none = after_index t n (entry_at (slots (class_of n)) place word) x (omega arith) in
+      let none = after_index t n (entry_offset (slots (class_of n)) place word) x (omega arith) in
       omega (arith, more, none)
   calls_few t (PutIndex slot x ∷ calls) loads = absurd loads.0
   calls_few t (PutEntry place word x ∷ calls) loads = absurd loads.0
 
-  calls_other : (t : ℕ) (calls : List Access) → AreLoads calls → n ≢ t → index_reads t (map (act_of o n) calls) ≡ 0
+  calls_other : (t : ℕ) (calls : List Access) → AreLoads calls → n ≢ t → index_reads t (map (access_act o n) calls) ≡ 0
   calls_other t [] loads ne = refl
   calls_other t (Index slot x ∷ calls) loads ne = let more = calls_other t calls loads.1 ne in let none = other_table t n slot x ne in omega (arith, more, none)
-  calls_other t (Entry place word x ∷ calls) loads ne = let more = calls_other t calls loads.1 ne in let none = other_table t n (entry_at (slots (class_of n)) place word) x ne in omega (arith, more, none)
-  calls_other t (OldEntry place word x ∷ calls) loads ne = let more = calls_other t calls loads.1 ne in let none = other_table t n (entry_at (slots (class_of n)) place word) x ne in omega (arith, more, none)
+  calls_other t (Entry place word x ∷ calls) loads ne = let more = calls_other t calls loads.1 ne in let none = other_table t n (entry_offset (slots (class_of n)) place word) x ne in omega (arith, more, none)
+  calls_other t (OldEntry place word x ∷ calls) loads ne = let more = calls_other t calls loads.1 ne in let none = other_table t n (entry_offset (slots (class_of n)) place word) x ne in omega (arith, more, none)
   calls_other t (PutIndex slot x ∷ calls) loads ne = absurd loads.0
   calls_other t (PutEntry place word x ∷ calls) loads ne = absurd loads.0
 
   -- those of one search on a walk
-  pub search_few : (way : Way) (mask : ℕ) (calls : List Access) → slots (class_of n) ≡ mask + 1 → AreLoads calls → index_loads calls ≤ most_loads way mask → AreFewReads way (map (act_of o n) calls)
+  pub search_few : (way : Way) (mask : ℕ) (calls : List Access) → slots (class_of n) ≡ mask + 1 → AreLoads calls → index_loads calls ≤ most_loads way mask → AreFewReads way (map (access_act o n) calls)
   search_few way mask calls last loads few t =
       dite (ℕ_discrete n t)
       (λ (e : n ≡ t).
@@ -92,5 +92,5 @@ pub few_before : (way : Way) (a b : List Act) → AreFewReads way a → ((t : �
 few_before way a b few none t = let n = none t in let f = few t in let e = reads_append t a b in omega (arith, n, f, e)
 
 -- a load of a word of an entry
-pub entry_none : (o n place word x t : ℕ) → index_read t (act_of o n (Entry place word x)) ≡ 0
-entry_none o n place word x t = after_index t n (entry_at (slots (class_of n)) place word) x (omega arith)
+pub entry_none : (o n place word x t : ℕ) → index_read t (access_act o n (Entry place word x)) ≡ 0
+entry_none o n place word x t = after_index t n (entry_offset (slots (class_of n)) place word) x (omega arith)

@@ -10,30 +10,30 @@ use Rattle.ft_model.specs.declared.script.Kind.{Kind}
 use Rattle.ft_model.specs.declared.script.Kind.TheVariants as kind
 use Rattle.ft_model.specs.Classes.{IsClass, set_entries}
 use Rattle.ft_model.specs.Contents.{DictContent, SetContent, IsDict, IsSet, dict_del, set_discard}
-use Rattle.ft_model.specs.Tables.{TableUse}
+use Rattle.ft_model.specs.TableUses.{TableUse}
 use Rattle.ft_model.specs.Worlds.{kind_of}
 use Rattle.ft_hash.specs.Probes.{dict_walk, set_walk}
 use Rattle.ft_hash.proofs.Walks.{dict_walk-within, set_walk-within}
 use Rattle.ft_layout.specs.Words.{FitsKey, gone_kind}
 use Rattle.ft_layout.specs.Tables.{UsedEntry, dict_room, set_room, IsDictTable, IsSetTable}
 use Rattle.ft_layout.specs.Tables as layout
-use Rattle.ft_layout.specs.Changes.{with_deleted}
+use Rattle.ft_layout.specs.WordChanges.{with_deleted}
 use Rattle.ft_layout.specs.Containers.{class_mask, used_pair, used_element, IsBlock, IsDictWords, IsSetWords}
 use Rattle.ft_layout.proofs.ContentLaws.{stands_for_dict, stands_for_set}
 use Rattle.ft_layout.proofs.Powers.{slots_range}
 use Rattle.ft_layout.proofs.WordLaws.{same_key}
 use Rattle.ft_trace.specs.Acts.{has_committed}
 use Rattle.ft_trace.specs.Addresses.{class_of, slots, places, size}
-use Rattle.ft_trace.specs.Carefuls.{IsLive, IsDead}
+use Rattle.ft_trace.specs.Carefuls.{HasLiveKey, IsDead}
 use Rattle.ft_trace.specs.Kinds.{under, rows, version_at, CarefulAs, ClearAs, IsKeyed}
-use Rattle.ft_trace.specs.Openings.{Shut}
-use Rattle.ft_trace.specs.Words.{Picture, root_in, entry_at, entry_of, Stands}
+use Rattle.ft_trace.specs.OddVersions.{Shut}
+use Rattle.ft_trace.specs.Pictures.{Picture, root_in, entry_offset, entry_field, Stands}
 use Rattle.ft_trace.specs.declared.Shape.{Shape}
 use Rattle.ft_trace.specs.declared.View.{View}
 use Rattle.ft_trace.specs.Holds.{held, known}
 use Rattle.ft_trace.specs.Traces.{Possible}
-use Rattle.ft_trace.specs.Worlds.{ContainerState, kind_in}
-use Rattle.ft_trace.specs.Writes.{to_block, to_table, with_puts, MayPut, MayPuts}
+use Rattle.ft_trace.specs.ContainerStates.{ContainerState, kind_in}
+use Rattle.ft_trace.specs.WholeWrites.{to_block, to_table, with_puts, MayPut, MayPuts}
 use Rattle.ft_trace.proofs.ByKind.{keyed_fit, keyed_low}
 use Rattle.ft_trace.proofs.DictWrites as dict
 use Rattle.ft_trace.proofs.SetKnown as set
@@ -44,11 +44,11 @@ use Rattle.ft_trace.proofs.SetDiscards as discarded
 use Rattle.ft_trace.proofs.Known.{after_header, class_known, table_is_long}
 use Rattle.ft_trace.proofs.Tellings.{live_tells, key_words}
 use Rattle.ft_bank.specs.declared.table.Table.{Table}
-use Rattle.ft_bank.specs.Tables.{name_of}
+use Rattle.ft_bank.specs.TableNames.{name_of}
 use Rattle.ft_bank.specs.Whole.{OnlyLoaded, OnlyPut}
-use Rattle.ft_bank.specs.Writes.{IsCareful, with_block, with_table}
-use Rattle.ft_bank.proofs.Whole.{loaded_held, loaded_put, put_then, work_knows}
-use Rattle.ft_search.specs.Writing.{HasTable, IsEntryOf, MayWriteEntries, WritesEntries, deletion, raised_at, without_key}
+use Rattle.ft_bank.specs.WriteSteps.{IsCareful, with_block, with_table}
+use Rattle.ft_bank.proofs.KnownAfterWrites.{loaded_held, loaded_put, put_then, work_knows}
+use Rattle.ft_search.specs.OneEntryWrites.{HasTable, IsLiveEntry, MayWriteEntries, WritesEntries, deletion, raised_at, without_key}
 use Rattle.ft_search.proofs.Changing.{Changing, with_count, kind_is, shut_known, put_at}
 use Rattle.ft_search.proofs.Laws.{DictLaws, SetLaws}
 use Rattle.ft_search.proofs.Puts.{table_class, writes_on}
@@ -56,7 +56,7 @@ use Rattle.ft_search.proofs.Puts.{table_class, writes_on}
 -- ---- a key is taken out of a dict
 
 module _ (laws : DictLaws) (texts : List ℕ) (x : Picture) (tab : TableUse) (t : ℕ) (is_class : IsClass (class_of t)) (pairs : DictContent) (says : IsDictWords texts x.block (0 ∷ 0 ∷ x.table) (Some (class_of t)) tab.fill pairs) (class_eq : tab.class ≡ Some (class_of t)) (names : root_in x ≡ suc t) (long : slots (class_of t) + 8 * places (class_of t) ≤ length x.table)
-    (shut : Shut (λ q. entry_at (slots (class_of t)) q 0) (places (class_of t)) x.table) (p : ℕ) (key : Key) (low : p < places (class_of t)) (live : IsLive (slots (class_of t)) x.table p key) (fits : FitsKey key) where
+    (shut : Shut (λ q. entry_offset (slots (class_of t)) q 0) (places (class_of t)) x.table) (p : ℕ) (key : Key) (low : p < places (class_of t)) (live : HasLiveKey (slots (class_of t)) x.table p key) (fits : FitsKey key) where
   abbrev dc : ℕ
   dc = class_of t
 
@@ -79,25 +79,25 @@ module _ (laws : DictLaws) (texts : List ℕ) (x : Picture) (tab : TableUse) (t 
   dnews = dict_del pairs key
 
   abbrev dver : ℕ
-  dver = entry_of dn dws p 0
+  dver = entry_field dn dws p 0
 
   abbrev dblock : List ℕ
   dblock = slice_set db 1 (slice_index db 1 - 1)
 
   abbrev dopened : List ℕ
-  dopened = slice_set dws (entry_at dn p 0) (dver + 1)
+  dopened = slice_set dws (entry_offset dn p 0) (dver + 1)
 
   abbrev dput : List ℕ
-  dput = slice_set dopened (entry_at dn p 2) (gone_kind key)
+  dput = slice_set dopened (entry_offset dn p 2) (gone_kind key)
 
   deven : dver % 2 ≡ 0
   deven = shut p low
 
   -- the version that was made odd
-  dodd : entry_of dn dput p 0 ≡ dver + 1
-  dodd = get_or-set_other dopened (entry_at dn p 2) (entry_at dn p 0) (gone_kind key) 0 (λ e. absurd (omega (arith, e))) ∙ get_or-set_same dws (entry_at dn p 0) (dver + 1) 0 (omega (arith, low, long))
+  dodd : entry_field dn dput p 0 ≡ dver + 1
+  dodd = get_or-set_other dopened (entry_offset dn p 2) (entry_offset dn p 0) (gone_kind key) 0 (λ e. absurd (omega (arith, e))) ∙ get_or-set_same dws (entry_offset dn p 0) (dver + 1) 0 (omega (arith, low, long))
 
-  dnext : dver + 2 ≡ entry_of dn dput p 0 + 1
+  dnext : dver + 2 ≡ entry_field dn dput p 0 + 1
   dnext = let o = dodd in omega (arith, o)
 
   -- what the entry is of
@@ -119,11 +119,11 @@ module _ (laws : DictLaws) (texts : List ℕ) (x : Picture) (tab : TableUse) (t 
       (l.0, tells.at ∙ ap (λ (z : UsedEntry). Some z) l.1, ap (λ (z : UsedEntry). z.key) (sym l.1) ∙ same_key tells.entry.key key tells.fits fits w.0 w.1)
 
   -- a version that is put into an entry changes nothing
-  dversion_put : (block : List ℕ) (l : List ℕ) (y : ℕ) (d : DictContent) → IsDictWords texts block (0 ∷ 0 ∷ l) (Some dc) dfill d → IsDictWords texts block (0 ∷ 0 ∷ slice_set l (entry_at dn p 0) y) (Some dc) dfill d
+  dversion_put : (block : List ℕ) (l : List ℕ) (y : ℕ) (d : DictContent) → IsDictWords texts block (0 ∷ 0 ∷ l) (Some dc) dfill d → IsDictWords texts block (0 ∷ 0 ∷ slice_set l (entry_offset dn p 0) y) (Some dc) dfill d
   unfolding slots
   dversion_put block l y d is =
       let r = (slots_range dc is_class).0 in
-      let table : IsDictTable texts (class_mask dc) is.used (0 ∷ 0 ∷ slice_set l (entry_at dn p 0) y) = subst (λ (z : List ℕ). IsDictTable texts (class_mask dc) is.used z) (after_header l (layout.entry_at (class_mask dc) p 0) (entry_at dn p 0) y (omega (arith, r))) (laws.versions dwalk (dict_room (class_mask dc)) texts (class_mask dc) is.used (0 ∷ 0 ∷ l) p y dwithin is.table) in
+      let table : IsDictTable texts (class_mask dc) is.used (0 ∷ 0 ∷ slice_set l (entry_offset dn p 0) y) = subst (λ (z : List ℕ). IsDictTable texts (class_mask dc) is.used z) (after_header l (layout.entry_at (class_mask dc) p 0) (entry_offset dn p 0) y (omega (arith, r))) (laws.versions dwalk (dict_room (class_mask dc)) texts (class_mask dc) is.used (0 ∷ 0 ∷ l) p y dwithin is.table) in
       record { head = is.head; used = is.used; table = table; filled = is.filled; entries = is.entries }
 
   dopen_says : IsDictWords texts db (0 ∷ 0 ∷ dopened) (Some dc) dfill pairs
@@ -144,7 +144,7 @@ module _ (laws : DictLaws) (texts : List ℕ) (x : Picture) (tab : TableUse) (t 
 
   dsame_words : with_deleted (class_mask dc) (0 ∷ 0 ∷ dopened) p key ≡ 0 ∷ 0 ∷ dput
   unfolding slots
-  dsame_words = let r = (slots_range dc is_class).0 in after_header dopened (layout.entry_at (class_mask dc) p 2) (entry_at dn p 2) (gone_kind key) (omega (arith, r))
+  dsame_words = let r = (slots_range dc is_class).0 in after_header dopened (layout.entry_at (class_mask dc) p 2) (entry_offset dn p 2) (gone_kind key) (omega (arith, r))
 
   dnow : IsDictWords texts dblock (0 ∷ 0 ∷ dput) (Some dc) dfill dnews
   unfolding dopen_says dversion_put
@@ -157,7 +157,7 @@ module _ (laws : DictLaws) (texts : List ℕ) (x : Picture) (tab : TableUse) (t 
   dnames : slice_index dblock 0 ≡ suc t
   dnames = get_or-set_other db 1 0 (slice_index db 1 - 1) 0 (λ e. absurd (omega (arith, e))) ∙ names
 
-  dinside : (w : ℕ) → w < 8 → entry_at dn p w < size dc
+  dinside : (w : ℕ) → w < 8 → entry_offset dn p w < size dc
   dinside w few = keyed_low kind.Dict tt dc p w low few
 
   dearly : MayPuts kind.Dict t (content.Dict pairs) false x (deletion t p key x)
@@ -165,8 +165,8 @@ module _ (laws : DictLaws) (texts : List ℕ) (x : Picture) (tab : TableUse) (t 
       let before = under (content.Dict pairs) in
       let e = deven in
       let q1 : MayPut kind.Dict t (content.Dict pairs) false x (to_block 1 (slice_index db 1 - 1)) = (omega arith, omega arith) in
-      let q2 : MayPut kind.Dict t (content.Dict pairs) false (record { block = dblock; table = dws }) (to_table (entry_at dn p 0) (dver + 1)) = (dnames, dinside 0 (omega arith), dead_open dn dm dws p key low long deven live before, record { before = λ q less at one. refl; later = λ q less at two. absurd (omega (arith, two, e)) }) in
-      let q3 : MayPut kind.Dict t (content.Dict pairs) false (record { block = dblock; table = dopened }) (to_table (entry_at dn p 2) (gone_kind key)) = (dnames, dinside 2 (omega arith), dead_kind dn dm dws p key low long deven live before, record { before = λ q less at one. refl; later = λ q less at two. absurd (omega (arith, at)) }) in
+      let q2 : MayPut kind.Dict t (content.Dict pairs) false (record { block = dblock; table = dws }) (to_table (entry_offset dn p 0) (dver + 1)) = (dnames, dinside 0 (omega arith), dead_open dn dm dws p key low long deven live before, record { before = λ q less at one. refl; later = λ q less at two. absurd (omega (arith, two, e)) }) in
+      let q3 : MayPut kind.Dict t (content.Dict pairs) false (record { block = dblock; table = dopened }) (to_table (entry_offset dn p 2) (gone_kind key)) = (dnames, dinside 2 (omega arith), dead_kind dn dm dws p key low long deven live before, record { before = λ q less at one. refl; later = λ q less at two. absurd (omega (arith, at)) }) in
       (q1, (q2, (q3, tt)))
 
   dclear : ClearAs kind.Dict texts dc dput (content.Dict pairs) (content.Dict dnews)
@@ -175,14 +175,14 @@ module _ (laws : DictLaws) (texts : List ℕ) (x : Picture) (tab : TableUse) (t 
   dgone : (a : Key) → IsDead dn dput p a → under (content.Dict dnews) a ≡ []
   dgone a dead = deleted.none_under pairs key a fits (dict_fits_words texts db (0 ∷ 0 ∷ dws) dc dfill pairs says) (dead_is dn dm dws p key low long deven live a dead)
 
-  dclose : CarefulAs kind.Dict dc dput (content.Dict dnews) (entry_at dn p 0) (entry_of dn dput p 0 + 1)
-  dclose = subst (λ (z : ℕ). CarefulAs kind.Dict dc dput (content.Dict dnews) (entry_at dn p 0) z) dnext (dead_late dn dm dws p key low long deven live (under (content.Dict dnews)) dgone)
+  dclose : CarefulAs kind.Dict dc dput (content.Dict dnews) (entry_offset dn p 0) (entry_field dn dput p 0 + 1)
+  dclose = subst (λ (z : ℕ). CarefulAs kind.Dict dc dput (content.Dict dnews) (entry_offset dn p 0) z) dnext (dead_late dn dm dws p key low long deven live (under (content.Dict dnews)) dgone)
 
   dends : Stands texts (raised_at t p (record { block = dblock; table = dput })) (record { content = content.Dict dnews; table = tab })
-  dends = subst (λ (z : Option ℕ). IsDictWords texts dblock (0 ∷ 0 ∷ slice_set dput (entry_at dn p 0) (entry_of dn dput p 0 + 1)) z dfill dnews) (sym class_eq) (dversion_put dblock dput (entry_of dn dput p 0 + 1) dnews dnow)
+  dends = subst (λ (z : Option ℕ). IsDictWords texts dblock (0 ∷ 0 ∷ slice_set dput (entry_offset dn p 0) (entry_field dn dput p 0 + 1)) z dfill dnews) (sym class_eq) (dversion_put dblock dput (entry_field dn dput p 0 + 1) dnews dnow)
 
-  dshut : Shut (version_at kind.Dict dc) (rows kind.Dict dc) (slice_set dput (entry_at dn p 0) (entry_of dn dput p 0 + 1))
-  dshut = subst (λ (z : ℕ). Shut (version_at kind.Dict dc) (rows kind.Dict dc) (slice_set dput (entry_at dn p 0) z)) dnext (dead_shut dn dm dws p key low long deven live shut)
+  dshut : Shut (version_at kind.Dict dc) (rows kind.Dict dc) (slice_set dput (entry_offset dn p 0) (entry_field dn dput p 0 + 1))
+  dshut = subst (λ (z : ℕ). Shut (version_at kind.Dict dc) (rows kind.Dict dc) (slice_set dput (entry_offset dn p 0) z)) dnext (dead_shut dn dm dws p key low long deven live shut)
 
   pub ddeletes : Changing texts t x (record { content = content.Dict pairs; table = tab }) p (deletion t p key x) (record { content = content.Dict dnews; table = tab })
   ddeletes = record {
@@ -197,7 +197,7 @@ module _ (laws : DictLaws) (texts : List ℕ) (x : Picture) (tab : TableUse) (t 
 -- ---- a key is taken out of a set
 
 module _ (laws : SetLaws) (texts : List ℕ) (x : Picture) (tab : TableUse) (t : ℕ) (is_class : IsClass (class_of t)) (elements : SetContent) (says : IsSetWords texts x.block (0 ∷ 0 ∷ x.table) (Some (class_of t)) tab.fill elements) (class_eq : tab.class ≡ Some (class_of t)) (names : root_in x ≡ suc t) (long : slots (class_of t) + 8 * set_entries (class_of t) ≤ length x.table)
-    (shut : Shut (λ q. entry_at (slots (class_of t)) q 0) (set_entries (class_of t)) x.table) (p : ℕ) (key : Key) (low : p < set_entries (class_of t)) (live : IsLive (slots (class_of t)) x.table p key) (fits : FitsKey key) where
+    (shut : Shut (λ q. entry_offset (slots (class_of t)) q 0) (set_entries (class_of t)) x.table) (p : ℕ) (key : Key) (low : p < set_entries (class_of t)) (live : HasLiveKey (slots (class_of t)) x.table p key) (fits : FitsKey key) where
   abbrev sc : ℕ
   sc = class_of t
 
@@ -220,25 +220,25 @@ module _ (laws : SetLaws) (texts : List ℕ) (x : Picture) (tab : TableUse) (t :
   snews = set_discard elements key
 
   abbrev sver : ℕ
-  sver = entry_of sn sws p 0
+  sver = entry_field sn sws p 0
 
   abbrev sblock : List ℕ
   sblock = slice_set sb 1 (slice_index sb 1 - 1)
 
   abbrev sopened : List ℕ
-  sopened = slice_set sws (entry_at sn p 0) (sver + 1)
+  sopened = slice_set sws (entry_offset sn p 0) (sver + 1)
 
   abbrev sput : List ℕ
-  sput = slice_set sopened (entry_at sn p 2) (gone_kind key)
+  sput = slice_set sopened (entry_offset sn p 2) (gone_kind key)
 
   seven : sver % 2 ≡ 0
   seven = shut p low
 
   -- the version that was made odd
-  sodd : entry_of sn sput p 0 ≡ sver + 1
-  sodd = get_or-set_other sopened (entry_at sn p 2) (entry_at sn p 0) (gone_kind key) 0 (λ e. absurd (omega (arith, e))) ∙ get_or-set_same sws (entry_at sn p 0) (sver + 1) 0 (omega (arith, low, long))
+  sodd : entry_field sn sput p 0 ≡ sver + 1
+  sodd = get_or-set_other sopened (entry_offset sn p 2) (entry_offset sn p 0) (gone_kind key) 0 (λ e. absurd (omega (arith, e))) ∙ get_or-set_same sws (entry_offset sn p 0) (sver + 1) 0 (omega (arith, low, long))
 
-  snext : sver + 2 ≡ entry_of sn sput p 0 + 1
+  snext : sver + 2 ≡ entry_field sn sput p 0 + 1
   snext = let o = sodd in omega (arith, o)
 
   -- what the entry is of
@@ -260,11 +260,11 @@ module _ (laws : SetLaws) (texts : List ℕ) (x : Picture) (tab : TableUse) (t :
       (l.0, tells.at ∙ ap (λ (z : UsedEntry). Some z) l.1, ap (λ (z : UsedEntry). z.key) (sym l.1) ∙ same_key tells.entry.key key tells.fits fits w.0 w.1)
 
   -- a version that is put into an entry changes nothing
-  sversion_put : (block : List ℕ) (l : List ℕ) (y : ℕ) (d : SetContent) → IsSetWords texts block (0 ∷ 0 ∷ l) (Some sc) sfill d → IsSetWords texts block (0 ∷ 0 ∷ slice_set l (entry_at sn p 0) y) (Some sc) sfill d
+  sversion_put : (block : List ℕ) (l : List ℕ) (y : ℕ) (d : SetContent) → IsSetWords texts block (0 ∷ 0 ∷ l) (Some sc) sfill d → IsSetWords texts block (0 ∷ 0 ∷ slice_set l (entry_offset sn p 0) y) (Some sc) sfill d
   unfolding slots
   sversion_put block l y d is =
       let r = (slots_range sc is_class).0 in
-      let table : IsSetTable texts (class_mask sc) is.used (0 ∷ 0 ∷ slice_set l (entry_at sn p 0) y) = subst (λ (z : List ℕ). IsSetTable texts (class_mask sc) is.used z) (after_header l (layout.entry_at (class_mask sc) p 0) (entry_at sn p 0) y (omega (arith, r))) (laws.versions swalk (set_room (class_mask sc)) texts (class_mask sc) is.used (0 ∷ 0 ∷ l) p y swithin is.table) in
+      let table : IsSetTable texts (class_mask sc) is.used (0 ∷ 0 ∷ slice_set l (entry_offset sn p 0) y) = subst (λ (z : List ℕ). IsSetTable texts (class_mask sc) is.used z) (after_header l (layout.entry_at (class_mask sc) p 0) (entry_offset sn p 0) y (omega (arith, r))) (laws.versions swalk (set_room (class_mask sc)) texts (class_mask sc) is.used (0 ∷ 0 ∷ l) p y swithin is.table) in
       record { head = is.head; used = is.used; table = table; filled = is.filled; entries = is.entries }
 
   sopen_says : IsSetWords texts sb (0 ∷ 0 ∷ sopened) (Some sc) sfill elements
@@ -285,7 +285,7 @@ module _ (laws : SetLaws) (texts : List ℕ) (x : Picture) (tab : TableUse) (t :
 
   ssame_words : with_deleted (class_mask sc) (0 ∷ 0 ∷ sopened) p key ≡ 0 ∷ 0 ∷ sput
   unfolding slots
-  ssame_words = let r = (slots_range sc is_class).0 in after_header sopened (layout.entry_at (class_mask sc) p 2) (entry_at sn p 2) (gone_kind key) (omega (arith, r))
+  ssame_words = let r = (slots_range sc is_class).0 in after_header sopened (layout.entry_at (class_mask sc) p 2) (entry_offset sn p 2) (gone_kind key) (omega (arith, r))
 
   snow : IsSetWords texts sblock (0 ∷ 0 ∷ sput) (Some sc) sfill snews
   unfolding sopen_says sversion_put
@@ -298,7 +298,7 @@ module _ (laws : SetLaws) (texts : List ℕ) (x : Picture) (tab : TableUse) (t :
   snames : slice_index sblock 0 ≡ suc t
   snames = get_or-set_other sb 1 0 (slice_index sb 1 - 1) 0 (λ e. absurd (omega (arith, e))) ∙ names
 
-  sinside : (w : ℕ) → w < 8 → entry_at sn p w < size sc
+  sinside : (w : ℕ) → w < 8 → entry_offset sn p w < size sc
   sinside w few = keyed_low kind.Set tt sc p w low few
 
   searly : MayPuts kind.Set t (content.Set elements) false x (deletion t p key x)
@@ -306,8 +306,8 @@ module _ (laws : SetLaws) (texts : List ℕ) (x : Picture) (tab : TableUse) (t :
       let before = under (content.Set elements) in
       let e = seven in
       let q1 : MayPut kind.Set t (content.Set elements) false x (to_block 1 (slice_index sb 1 - 1)) = (omega arith, omega arith) in
-      let q2 : MayPut kind.Set t (content.Set elements) false (record { block = sblock; table = sws }) (to_table (entry_at sn p 0) (sver + 1)) = (snames, sinside 0 (omega arith), dead_open sn sm sws p key low long seven live before, record { before = λ q less at one. refl; later = λ q less at two. absurd (omega (arith, two, e)) }) in
-      let q3 : MayPut kind.Set t (content.Set elements) false (record { block = sblock; table = sopened }) (to_table (entry_at sn p 2) (gone_kind key)) = (snames, sinside 2 (omega arith), dead_kind sn sm sws p key low long seven live before, record { before = λ q less at one. refl; later = λ q less at two. absurd (omega (arith, at)) }) in
+      let q2 : MayPut kind.Set t (content.Set elements) false (record { block = sblock; table = sws }) (to_table (entry_offset sn p 0) (sver + 1)) = (snames, sinside 0 (omega arith), dead_open sn sm sws p key low long seven live before, record { before = λ q less at one. refl; later = λ q less at two. absurd (omega (arith, two, e)) }) in
+      let q3 : MayPut kind.Set t (content.Set elements) false (record { block = sblock; table = sopened }) (to_table (entry_offset sn p 2) (gone_kind key)) = (snames, sinside 2 (omega arith), dead_kind sn sm sws p key low long seven live before, record { before = λ q less at one. refl; later = λ q less at two. absurd (omega (arith, at)) }) in
       (q1, (q2, (q3, tt)))
 
   sclear : ClearAs kind.Set texts sc sput (content.Set elements) (content.Set snews)
@@ -316,14 +316,14 @@ module _ (laws : SetLaws) (texts : List ℕ) (x : Picture) (tab : TableUse) (t :
   sgone : (a : Key) → IsDead sn sput p a → under (content.Set snews) a ≡ []
   sgone a dead = discarded.none_under elements key a fits (set_fits_words texts sb (0 ∷ 0 ∷ sws) sc sfill elements says) (dead_is sn sm sws p key low long seven live a dead)
 
-  sclose : CarefulAs kind.Set sc sput (content.Set snews) (entry_at sn p 0) (entry_of sn sput p 0 + 1)
-  sclose = subst (λ (z : ℕ). CarefulAs kind.Set sc sput (content.Set snews) (entry_at sn p 0) z) snext (dead_late sn sm sws p key low long seven live (under (content.Set snews)) sgone)
+  sclose : CarefulAs kind.Set sc sput (content.Set snews) (entry_offset sn p 0) (entry_field sn sput p 0 + 1)
+  sclose = subst (λ (z : ℕ). CarefulAs kind.Set sc sput (content.Set snews) (entry_offset sn p 0) z) snext (dead_late sn sm sws p key low long seven live (under (content.Set snews)) sgone)
 
   sends : Stands texts (raised_at t p (record { block = sblock; table = sput })) (record { content = content.Set snews; table = tab })
-  sends = subst (λ (z : Option ℕ). IsSetWords texts sblock (0 ∷ 0 ∷ slice_set sput (entry_at sn p 0) (entry_of sn sput p 0 + 1)) z sfill snews) (sym class_eq) (sversion_put sblock sput (entry_of sn sput p 0 + 1) snews snow)
+  sends = subst (λ (z : Option ℕ). IsSetWords texts sblock (0 ∷ 0 ∷ slice_set sput (entry_offset sn p 0) (entry_field sn sput p 0 + 1)) z sfill snews) (sym class_eq) (sversion_put sblock sput (entry_field sn sput p 0 + 1) snews snow)
 
-  sshut : Shut (version_at kind.Set sc) (rows kind.Set sc) (slice_set sput (entry_at sn p 0) (entry_of sn sput p 0 + 1))
-  sshut = subst (λ (z : ℕ). Shut (version_at kind.Set sc) (rows kind.Set sc) (slice_set sput (entry_at sn p 0) z)) snext (dead_shut sn sm sws p key low long seven live shut)
+  sshut : Shut (version_at kind.Set sc) (rows kind.Set sc) (slice_set sput (entry_offset sn p 0) (entry_field sn sput p 0 + 1))
+  sshut = subst (λ (z : ℕ). Shut (version_at kind.Set sc) (rows kind.Set sc) (slice_set sput (entry_offset sn p 0) z)) snext (dead_shut sn sm sws p key low long seven live shut)
 
   pub sdeletes : Changing texts t x (record { content = content.Set elements; table = tab }) p (deletion t p key x) (record { content = content.Set snews; table = tab })
   sdeletes = record {
@@ -337,7 +337,7 @@ module _ (laws : SetLaws) (texts : List ℕ) (x : Picture) (tab : TableUse) (t :
 
 -- ---- by the kind of the content
 
-module _ (dicts : DictLaws) (sets : SetLaws) (texts : List ℕ) (x : Picture) (t : ℕ) (is_class : IsClass (class_of t)) (names : root_in x ≡ suc t) (long : length x.table ≡ size (class_of t)) (p : ℕ) (key : Key) (live : IsLive (slots (class_of t)) x.table p key) (fits : FitsKey key) where
+module _ (dicts : DictLaws) (sets : SetLaws) (texts : List ℕ) (x : Picture) (t : ℕ) (is_class : IsClass (class_of t)) (names : root_in x ≡ suc t) (long : length x.table ≡ size (class_of t)) (p : ℕ) (key : Key) (live : HasLiveKey (slots (class_of t)) x.table p key) (fits : FitsKey key) where
   few_words : (m : ℕ) → m ≤ places (class_of t) → slots (class_of t) + 8 * m ≤ length x.table
   few_words m less = omega (arith, long, less)
 
@@ -360,7 +360,7 @@ module _ (dicts : DictLaws) (sets : SetLaws) (texts : List ℕ) (x : Picture) (t
   deletes (content.List values) tab keyed stands low shut = absurd keyed
 
 -- as the pass knows the container
-pub deletes_known : DictLaws → SetLaws → (k : Shape) (o : ℕ) (table : Table) (v : View) → v.shape ≡ k → ∥ Possible v ∥₁ → MayWriteEntries k o v → HasTable k o table v → (place : ℕ) (key : Key) → IsEntryOf k o table place key v
+pub deletes_known : DictLaws → SetLaws → (k : Shape) (o : ℕ) (table : Table) (v : View) → v.shape ≡ k → ∥ Possible v ∥₁ → MayWriteEntries k o v → HasTable k o table v → (place : ℕ) (key : Key) → IsLiveEntry k o table place key v
     → Changing k.texts (name_of table) (held o v) (known o v) place (deletion (name_of table) place key (held o v)) (record { content = without_key (known o v).content key; table = (known o v).table }) × (0 < slice_index (held o v).block 1)
 deletes_known dicts sets k o table v shape possible may has place key entry =
     let t = name_of table in
@@ -392,10 +392,10 @@ module _ (k : Shape) (o : ℕ) (table : Table) (place : ℕ) (key : Key) (v w1 w
   pub counted_writes : WritesEntries k o table w2
   counted_writes = writes_on k o table v w2 counted_only (ap root_in counted_words ∙ get_or-set_other (held o v).block 1 0 (slice_index (held o v).block 1 - 1) 0 (λ e. absurd (omega (arith, e)))) writes
 
-  pub opens : IsCareful w2 o pt (entry_at pn place 0) (entry_of pn (held o w2).table place 0 + 1)
+  pub opens : IsCareful w2 o pt (entry_offset pn place 0) (entry_field pn (held o w2).table place 0 + 1)
   opens =
-      subst (λ (z : Picture). IsCareful w2 o pt (entry_at pn place 0) (entry_of pn z.table place 0 + 1)) (sym counted_words)
-      (put_at k o pt (entry_at pn place 0) (entry_of pn (held o v).table place 0 + 1) false counted (known o v).content w2 (counted_only.work.pass.shape ∙ shape) (counted_only.work.committed o ∙ early) counted_words (ap (λ (z : ContainerState). z.content) (work_knows v w2 o counted_only.work)) may.1.0)
+      subst (λ (z : Picture). IsCareful w2 o pt (entry_offset pn place 0) (entry_field pn z.table place 0 + 1)) (sym counted_words)
+      (put_at k o pt (entry_offset pn place 0) (entry_field pn (held o v).table place 0 + 1) false counted (known o v).content w2 (counted_only.work.pass.shape ∙ shape) (counted_only.work.committed o ∙ early) counted_words (ap (λ (z : ContainerState). z.content) (work_knows v w2 o counted_only.work)) may.1.0)
 
   module _ (w3 : View) (only3 : OnlyPut o w2 w3) (held3 : held o w3 ≡ raised_at pt place (held o w2)) (gone : ℕ) (is_gone : gone ≡ gone_kind key) where
     abbrev opened' : Picture
@@ -407,13 +407,13 @@ module _ (k : Shape) (o : ℕ) (table : Table) (place : ℕ) (key : Key) (v w1 w
     opened_only : OnlyPut o v w3
     opened_only = put_then v w2 w3 o counted_only only3
 
-    pub dies : IsCareful w3 o pt (entry_at pn place 2) gone
+    pub dies : IsCareful w3 o pt (entry_offset pn place 2) gone
     dies =
-        subst (λ (z : ℕ). IsCareful w3 o pt (entry_at pn place 2) z) (sym is_gone)
-        (put_at k o pt (entry_at pn place 2) (gone_kind key) false opened' (known o v).content w3 (opened_only.work.pass.shape ∙ shape) (opened_only.work.committed o ∙ early) opened_words (ap (λ (z : ContainerState). z.content) (work_knows v w3 o opened_only.work)) may.1.1.0)
+        subst (λ (z : ℕ). IsCareful w3 o pt (entry_offset pn place 2) z) (sym is_gone)
+        (put_at k o pt (entry_offset pn place 2) (gone_kind key) false opened' (known o v).content w3 (opened_only.work.pass.shape ∙ shape) (opened_only.work.committed o ∙ early) opened_words (ap (λ (z : ContainerState). z.content) (work_knows v w3 o opened_only.work)) may.1.1.0)
 
     pub deleted_only : (w4 : View) → OnlyPut o w3 w4 → OnlyPut o v w4
     deleted_only w4 only4 = put_then v w3 w4 o opened_only only4
 
-    pub deleted_words : (w4 : View) → held o w4 ≡ with_table (held o w3) (entry_at pn place 2) gone → held o w4 ≡ with_puts (held o v) (deletion pt place key (held o v))
-    deleted_words w4 held4 = held4 ∙ (λ d. with_table (opened_words d) (entry_at pn place 2) (is_gone d))
+    pub deleted_words : (w4 : View) → held o w4 ≡ with_table (held o w3) (entry_offset pn place 2) gone → held o w4 ≡ with_puts (held o v) (deletion pt place key (held o v))
+    deleted_words w4 held4 = held4 ∙ (λ d. with_table (opened_words d) (entry_offset pn place 2) (is_gone d))

@@ -5,7 +5,7 @@ use Rattle.ft_model.specs.declared.content.DictPair.{DictPair}
 use Rattle.ft_model.specs.declared.content.Element.{Element}
 use Rattle.ft_model.specs.Contents.{DictContent, SetContent, IsDict, IsSet, dict_del, has_element, set_add, set_discard}
 use Rattle.ft_layout.specs.Tables.{UsedEntry, is_live, deleted}
-use Rattle.ft_layout.specs.Changes.{with_deleted}
+use Rattle.ft_layout.specs.WordChanges.{with_deleted}
 use Rattle.ft_layout.specs.Containers.{class_mask, used_pair, used_element, AreDictEntries, AreSetEntries, IsBlock, IsDictWords, IsSetWords}
 use Rattle.ft_trace.proofs.DictWrites.{EntryVersionsChangeNothing, LiveEntriesArePairs, FirstEntriesArePairs}
 use Rattle.ft_trace.proofs.SetKnown.{FirstEntriesAreElements}

@@ -3,7 +3,7 @@ use Rattle.std.proofs.Common.{◌≡◌, ◌≢◌, ◌⊎◌, ℕ, zero, suc, �
 use Rattle.std.specs.Prelude.{slice_index, slice_index_or}
 use Rattle.ft_model.specs.Answers.{answer}
 use Rattle.ft_model.specs.Contents.{DictContent, SetContent, empty_dict, empty_set}
-use Rattle.ft_model.specs.Tables.{StoredWorld, TableUse}
+use Rattle.ft_model.specs.TableUses.{StoredWorld, TableUse}
 use Rattle.ft_model.specs.Worlds.{no_hands, dict_of, list_of, set_of, kind_of, length_of}
 use Rattle.ft_model.specs.declared.call.Call.{Call}
 use Rattle.ft_model.specs.declared.content.Content.{Content}
@@ -24,22 +24,22 @@ use Rattle.ft_trace.specs.Acts.{has_lock, noted}
 use Rattle.ft_trace.specs.Addresses.{containers_in}
 use Rattle.ft_trace.specs.Causes.{HasCause}
 use Rattle.ft_trace.specs.Holds.{known}
-use Rattle.ft_trace.specs.Reading.{Between, Among, Looked}
-use Rattle.ft_trace.specs.Words.{Picture, Stands}
-use Rattle.ft_trace.specs.Worlds.{ContainerState, state_at, kind_in, reply_in}
+use Rattle.ft_trace.specs.LoggedReads.{Between, Among, LookedAtOne}
+use Rattle.ft_trace.specs.Pictures.{Picture, Stands}
+use Rattle.ft_trace.specs.ContainerStates.{ContainerState, state_at, kind_in, reply_in}
 use Rattle.ft_trace.proofs.Known.{mapped}
 use Rattle.ft_bank.specs.declared.pass.Pass.{Pass}
 use Rattle.ft_bank.specs.Reads.{IsShown}
 use Rattle.ft_bank.specs.Series.{DidAll}
 use Rattle.ft_bank.specs.Shown.{MayAsk}
 use Rattle.ft_bank.specs.Whole.{OnlyLoaded}
-use Rattle.ft_bank.specs.Writes.{MayHave}
-use Rattle.ft_bank.proofs.Showing.{looks_are_shown}
-use Rattle.ft_bank.proofs.Whole.{work_knows}
+use Rattle.ft_bank.specs.WriteSteps.{MayHave}
+use Rattle.ft_bank.proofs.ShownReplies.{looks_are_shown}
+use Rattle.ft_bank.proofs.KnownAfterWrites.{work_knows}
 use Rattle.ft_search.specs.Lengths.{len_of, ShowsCount, StopsAtVersion}
 use Rattle.ft_search.proofs.Asking.{held_shown}
 use Rattle.ft_search.proofs.Running.{did_trans}
-use Rattle.ft_search.proofs.Trying.{LeavesSections}
+use Rattle.ft_search.proofs.ReadMidst.{LeavesSections}
 
 -- ---- the plain containers
 
@@ -146,7 +146,7 @@ len_shown v w called o count n part ask own is s =
     let k = w.shape in
     let kind = kind_in k.kinds o in
     let plain = len_plain kind o count in
-    let looked : Looked k (len_of kind o) o (reply.Count count) n w.log = record {
+    let looked : LookedAtOne k (len_of kind o) o (reply.Count count) n w.log = record {
       mid = s.mid;
       between = between_own o s.mid part v.log w.log own s.between;
       stamp = s.counted;

@@ -1,24 +1,24 @@
-pub mod Places
-pub mod Knowing
+pub mod WordPlaces
+pub mod KnownTableWords
 pub mod Running
 mod Walking
-mod Closing
+mod SearchEnds
 mod Seeking
 pub mod Rounding
 pub mod Asking
-pub mod Holding
-pub mod Trying
+pub mod FoundInContents
+pub mod ReadMidst
 pub mod Lengths
 pub mod Changing
 pub mod Deletions
 pub mod Puts
-pub mod Endings
+pub mod ReadyCommits
 pub mod Laws
 pub mod Spotting
 pub mod Calling
-pub mod Values
+pub mod OtherValues
 mod Costing
-pub mod Staying
+pub mod IndexWordsStay
 mod Bounding
 pub mod Spending
 pub mod Undisturbed

@@ -13,23 +13,23 @@ use Rattle.ft_trace.specs.declared.Act.{Act}
 use Rattle.ft_trace.specs.declared.View.{View}
 use Rattle.ft_trace.specs.Addresses.{containers_in, class_of, slots, places}
 use Rattle.ft_trace.specs.Acts.{has_lock, noted}
-use Rattle.ft_trace.specs.Worlds.{ContainerState, kind_in}
-use Rattle.ft_trace.specs.Words.{Picture, root_in, entry_at, entry_of}
+use Rattle.ft_trace.specs.ContainerStates.{ContainerState, kind_in}
+use Rattle.ft_trace.specs.Pictures.{Picture, root_in, entry_offset, entry_field}
 use Rattle.ft_trace.specs.Kinds.{rows, version_at, CarefulAs, IsKeyed}
-use Rattle.ft_trace.specs.Openings.{Timely}
+use Rattle.ft_trace.specs.OddVersions.{Timely}
 use Rattle.ft_trace.specs.Holds.{held}
 use Rattle.ft_trace.specs.Traces.{Possible}
 use Rattle.ft_trace.proofs.ByKind.{keyed_fit}
 use Rattle.ft_trace.proofs.Held.{table_known}
 use Rattle.ft_trace.proofs.Lows.{lows}
-use Rattle.ft_trace.proofs.Rooms.{counter_room}
+use Rattle.ft_trace.proofs.NoWrap.{counter_room}
 use Rattle.ft_bank.specs.declared.table.Table.{Table}
-use Rattle.ft_bank.specs.Tables.{name_of, IsTableIn}
+use Rattle.ft_bank.specs.TableNames.{name_of, IsTableIn}
 use Rattle.ft_bank.specs.Whole.{OnlyLoaded, OnlyPut}
-use Rattle.ft_bank.specs.Writes.{IsCareful}
-use Rattle.ft_bank.proofs.Tables.{named}
-use Rattle.ft_bank.proofs.Whole.{IsLoad, loaded_by, loaded_put, loaded_held, work_knows}
-use Rattle.ft_search.specs.Writing.{WritesEntries}
+use Rattle.ft_bank.specs.WriteSteps.{IsCareful}
+use Rattle.ft_bank.proofs.TableAddresses.{named}
+use Rattle.ft_bank.proofs.KnownAfterWrites.{IsLoad, loaded_by, loaded_put, loaded_held, work_knows}
+use Rattle.ft_search.specs.OneEntryWrites.{WritesEntries}
 
 pub table_class : (k : Shape) (t : Table) → IsTableIn k t → IsClass (class_of (name_of t))
 table_class k t is = (named k t is).0
@@ -82,12 +82,12 @@ version_room v o t p possible low mine names row few =
     let low : slice_index (held o v).table (version_at (kind_in k.kinds o) (class_of t) p) < 2 ^ 63 = omega (arith, high, count, same, few) in
     low)
 
-pub keyed_version : (kind : Kind) → IsKeyed kind → (c p : ℕ) → version_at kind c p ≡ entry_at (slots c) p 0
+pub keyed_version : (kind : Kind) → IsKeyed kind → (c p : ℕ) → version_at kind c p ≡ entry_offset (slots c) p 0
 keyed_version kind.Dict keyed c p = refl
 keyed_version kind.Set keyed c p = refl
 keyed_version kind.List keyed c p = absurd keyed
 
-pub entry_room : (k : Shape) (o : ℕ) (table : Table) (v : View) → WritesEntries k o table v → v.shape ≡ k → ∥ Possible v ∥₁ → k.passes * k.calls < 2 ^ 46 → (place : ℕ) → place < rows (kind_in k.kinds o) (class_of (name_of table)) → entry_of (slots (class_of (name_of table))) (held o v).table place 0 < 2 ^ 63
+pub entry_room : (k : Shape) (o : ℕ) (table : Table) (v : View) → WritesEntries k o table v → v.shape ≡ k → ∥ Possible v ∥₁ → k.passes * k.calls < 2 ^ 46 → (place : ℕ) → place < rows (kind_in k.kinds o) (class_of (name_of table)) → entry_field (slots (class_of (name_of table))) (held o v).table place 0 < 2 ^ 63
 entry_room k o table v writes shape possible few place low =
     let t = name_of table in
     let here : o < containers_in v.shape = subst (λ (z : Shape). o < containers_in z) (sym shape) writes.container in

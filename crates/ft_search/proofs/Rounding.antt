@@ -7,21 +7,21 @@ use Rattle.ft_trace.specs.declared.Act.TheVariants.{ReadBlock, ReadRoot, ReadTab
 use Rattle.ft_trace.specs.declared.Shape.{Shape}
 use Rattle.ft_trace.specs.declared.View.{View}
 use Rattle.ft_trace.specs.Acts.{noted, reads, announces}
-use Rattle.ft_trace.specs.Addresses.{class_of, slots, IsTable}
-use Rattle.ft_trace.specs.Words.{entry_at}
-use Rattle.ft_trace.specs.Reading.{Among, Between}
-use Rattle.ft_trace.specs.Finding.{Inner, IsNew, Bare, unread}
+use Rattle.ft_trace.specs.Addresses.{class_of, slots, IsTableName}
+use Rattle.ft_trace.specs.Pictures.{entry_offset}
+use Rattle.ft_trace.specs.LoggedReads.{Among, Between}
+use Rattle.ft_trace.specs.LoggedLookUps.{Inner, IsNew, Bare, unread}
 use Rattle.ft_trace.proofs.Anew.{unread_inner, unread_find, unread_less}
 use Rattle.ft_bank.specs.declared.pass.Pass.{Pass}
 use Rattle.ft_bank.specs.Passes.{view}
 use Rattle.ft_bank.specs.Series.{noted_all, DidAll}
 use Rattle.ft_bank.specs.Whole.{OnlyLoaded}
-use Rattle.ft_bank.proofs.Whole.{loaded_by, loaded_then, same_work}
+use Rattle.ft_bank.proofs.KnownAfterWrites.{loaded_by, loaded_then, same_work}
 use Rattle.ft_search.specs.declared.looks.Looked.{Looked}
 use Rattle.ft_search.specs.declared.looks.Looked.TheVariants.{Here, Absent, Contended}
 use Rattle.ft_search.specs.declared.rounds.Round.{Round}
 use Rattle.ft_search.specs.declared.rounds.Round.TheVariants.{Ended, Moved}
-use Rattle.ft_search.specs.Looks.{AreLooks, StopsAtEntry, StopsAtContainer, ShowsLooked}
+use Rattle.ft_search.specs.KeyLooks.{AreLooks, StopsAtEntry, StopsAtContainer, ShowsLooked}
 use Rattle.ft_search.specs.Rounds.{EndsTable, EndsRound}
 use Rattle.ft_search.proofs.Running.{did_trans, did_log, window_of}
 
@@ -81,7 +81,7 @@ two_in a b new newer mid rest part old is =
 
 pub entry_in : (k : Shape) (o t : ℕ) (key : Key) (a b : ℕ) (new part old : List Act) → StopsAtEntry k o t key a b part → StopsAtEntry k o t key a b (new ++ (part ++ old))
 entry_in k o t key a b new part old h =
-    let at = entry_at (slots (class_of t)) h.place in
+    let at = entry_offset (slots (class_of t)) h.place in
     record {
       place = h.place;
       low = h.low;
@@ -113,7 +113,7 @@ looked_in k o key part old log (Contended a b) h =
 
 -- ---- a round where the root read 0
 
-pub bare_moved : (k : Shape) (o : ℕ) (key : Key) (p q1 q2 : Pass) (rest : List Act) (opened r : ℕ) → (view p).log ≡ ReadRoot o 0 ∷ rest → DidAll (Version o opened ∷ []) p q1 → DidAll (ReadRoot o r ∷ []) q1 q2 → r ≢ 0 → ((u : ℕ) → r ≡ suc u → IsTable k u) → IsNew o r (view q1).log → EndsRound k o key 0 p q2 (Moved r)
+pub bare_moved : (k : Shape) (o : ℕ) (key : Key) (p q1 q2 : Pass) (rest : List Act) (opened r : ℕ) → (view p).log ≡ ReadRoot o 0 ∷ rest → DidAll (Version o opened ∷ []) p q1 → DidAll (ReadRoot o r ∷ []) q1 q2 → r ≢ 0 → ((u : ℕ) → r ≡ suc u → IsTableName k u) → IsNew o r (view q1).log → EndsRound k o key 0 p q2 (Moved r)
 bare_moved k o key p q1 q2 rest opened r last a b ne table new =
     let part : List Act = Version o opened ∷ [] in
     let log : (view q1).log ≡ part ++ (view p).log = did_log part p q1 a in
@@ -192,7 +192,7 @@ weigh (suc n) = 1
 abbrev pub rounds_left : List Act → ℕ → ℕ
 rounds_left l root = 2 * unread (65536 * 17) l + weigh root
 
-pub table_low : (k : Shape) (u : ℕ) → IsTable k u → u < 65536 * 17
+pub table_low : (k : Shape) (u : ℕ) → IsTableName k u → u < 65536 * 17
 unfolding class_of
 table_low k u is = let a = is.0.greatest in omega (arith, a)
 

@@ -5,18 +5,18 @@ use Rattle.ft_trace.specs.declared.Act.TheVariants.{ReadRoot, ReadTable, ReadCou
 use Rattle.ft_trace.specs.declared.Shape.{Shape}
 use Rattle.ft_trace.specs.declared.View.{View}
 use Rattle.ft_trace.specs.Acts.{noted, reads, announces}
-use Rattle.ft_trace.specs.Finding.{Online, Inner, Window}
+use Rattle.ft_trace.specs.LoggedLookUps.{Online, Inner, LookUpWindow}
 use Rattle.ft_trace.proofs.Cases.{hit}
 use Rattle.ft_keys.specs.declared.words.Access.{Access}
 use Rattle.ft_keys.specs.declared.words.Access.TheVariants.{Index, Entry, PutIndex, PutEntry, OldEntry}
-use Rattle.ft_keys.specs.Accesses.{Runs, IsLoad, AreLoads, Fits, Tells, after, put_by}
+use Rattle.ft_keys.specs.Accesses.{Runs, IsLoad, AreLoads, AreAnswered, Tells, after, put_by}
 use Rattle.ft_bank.specs.declared.pass.Pass.{Pass}
 use Rattle.ft_bank.specs.Passes.{shape_of, view}
 use Rattle.ft_bank.specs.Series.{noted_all, DidAll}
-use Rattle.ft_bank.specs.Tables.{name_of}
+use Rattle.ft_bank.specs.TableNames.{name_of}
 use Rattle.ft_search.specs.declared.words.TableWords.{TableWords}
-use Rattle.ft_search.specs.Words.{act_of, SamePlace, KnowsWords, known_words, Made}
-use Rattle.ft_search.specs.Looks.{AreLooks}
+use Rattle.ft_search.specs.TableWords.{access_act, SamePlace, KnowsWords, known_words, MadeAccess}
+use Rattle.ft_search.specs.KeyLooks.{AreLooks}
 
 -- ---- steps in a row
 
@@ -54,14 +54,14 @@ back_same F s t a = subst (λ (x : Shape × ℕ × ℕ). F x.0 x.1 x.2) (sym (λ
 
 -- ---- calls on words
 
-pub ran : (s : TableWords) (calls : List Access) (t : TableWords) → Runs Made s calls t → SamePlace s t × DidAll (map (act_of s.o (name_of s.table)) calls) s.pass.now t.pass.now
+pub ran : (s : TableWords) (calls : List Access) (t : TableWords) → Runs MadeAccess s calls t → SamePlace s t × DidAll (map (access_act s.o (name_of s.table)) calls) s.pass.now t.pass.now
 ran s [] t r = subst (λ (z : TableWords). SamePlace s z × DidAll [] s.pass.now z.pass.now) r (same_self s, did_none s.pass.now)
 ran s (a ∷ calls) t r =
     let m = r.0 in
     let old = ran s calls m r.1 in
     let g = r.2 in
-    let act : DidAll (act_of s.o (name_of s.table) a ∷ []) m.pass.now t.pass.now = at_same (λ k o n. DidAll (act_of o n a ∷ []) m.pass.now t.pass.now) s m old.0 g.did in
-    (same_trans s m t old.0 g.same, did_trans (act_of s.o (name_of s.table) a ∷ []) (map (act_of s.o (name_of s.table)) calls) s.pass.now m.pass.now t.pass.now old.1 act)
+    let act : DidAll (access_act s.o (name_of s.table) a ∷ []) m.pass.now t.pass.now = at_same (λ k o n. DidAll (access_act o n a ∷ []) m.pass.now t.pass.now) s m old.0 g.did in
+    (same_trans s m t old.0 g.same, did_trans (access_act s.o (name_of s.table) a ∷ []) (map (access_act s.o (name_of s.table)) calls) s.pass.now m.pass.now t.pass.now old.1 act)
 
 -- ---- loads that read no root and announce nothing
 
@@ -72,7 +72,7 @@ inner_append (ReadTable t i f ∷ b) a x y = inner_append b a x y
 inner_append (ReadCounter f ∷ b) a x y = inner_append b a x y
 inner_append (act ∷ b) a x y = absurd x
 
-pub inner_calls : (o t : ℕ) (calls : List Access) → AreLoads calls → Inner (map (act_of o t) calls)
+pub inner_calls : (o t : ℕ) (calls : List Access) → AreLoads calls → Inner (map (access_act o t) calls)
 inner_calls o t [] q = tt
 inner_calls o t (Index slot x ∷ calls) q = inner_calls o t calls q.1
 inner_calls o t (Entry place word x ∷ calls) q = inner_calls o t calls q.1
@@ -95,7 +95,7 @@ inner_announces (ReadCounter f ∷ l) rest q = inner_announces l rest q
 inner_announces (act ∷ l) rest q = absurd q
 
 -- what was done between two reads of the root that named t
-pub window_of : (o t : ℕ) (part rest : List Act) (p q : Pass) → DidAll (ReadRoot o (suc t) ∷ part) p q → (view p).log ≡ ReadRoot o (suc t) ∷ rest → Inner part → Window (view q).log o t part
+pub window_of : (o t : ℕ) (part rest : List Act) (p q : Pass) → DidAll (ReadRoot o (suc t) ∷ part) p q → (view p).log ≡ ReadRoot o (suc t) ∷ rest → Inner part → LookUpWindow (view q).log o t part
 window_of o t part rest p q did last inner = record {
   newer = [];
   rest = ReadRoot o (suc t) ∷ rest;
@@ -109,8 +109,8 @@ pub same_mask : (s t : TableWords) (mask : ℕ) → SamePlace s t → s.mask ≡
 same_mask s t mask a is = a.mask ∙ is
 
 -- what calls on words that nobody else writes were answered, and that loads leave the words
-pub ran_known : (s : TableWords) (calls : List Access) (t : TableWords) → Runs Made s calls t → KnowsWords s → AreLoads calls → KnowsWords t × (known_words t ≡ known_words s) × Fits s.mask calls (known_words s) × (after s.mask calls (known_words s) ≡ known_words s)
-ran_known s [] t r knows loads = subst (λ (z : TableWords). KnowsWords z × (known_words z ≡ known_words s) × Fits s.mask [] (known_words s) × (known_words s ≡ known_words s)) r (knows, refl, tt, refl)
+pub ran_known : (s : TableWords) (calls : List Access) (t : TableWords) → Runs MadeAccess s calls t → KnowsWords s → AreLoads calls → KnowsWords t × (known_words t ≡ known_words s) × AreAnswered s.mask calls (known_words s) × (after s.mask calls (known_words s) ≡ known_words s)
+ran_known s [] t r knows loads = subst (λ (z : TableWords). KnowsWords z × (known_words z ≡ known_words s) × AreAnswered s.mask [] (known_words s) × (known_words s ≡ known_words s)) r (knows, refl, tt, refl)
 ran_known s (a ∷ calls) t r knows loads =
     let m = r.0 in
     let old = ran_known s calls m r.1 knows loads.1 in
@@ -130,7 +130,7 @@ ran_known s (a ∷ calls) t r knows loads =
     load_stays mask (PutEntry place word value) words q = absurd q
 
 -- loads are looks
-pub looks_calls : (o t : ℕ) (calls : List Access) → AreLoads calls → AreLooks (map (act_of o t) calls)
+pub looks_calls : (o t : ℕ) (calls : List Access) → AreLoads calls → AreLooks (map (access_act o t) calls)
 looks_calls o t [] q = tt
 looks_calls o t (Index slot x ∷ calls) q = looks_calls o t calls q.1
 looks_calls o t (Entry place word x ∷ calls) q = looks_calls o t calls q.1

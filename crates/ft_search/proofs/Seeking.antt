@@ -7,8 +7,8 @@ use Rattle.ft_trace.specs.declared.Act.TheVariants.{ReadTable, ReadCounter}
 use Rattle.ft_trace.specs.declared.Shape.{Shape}
 use Rattle.ft_trace.specs.Addresses.{class_of}
 use Rattle.ft_trace.specs.Kinds.{rows}
-use Rattle.ft_trace.specs.Worlds.{kind_in}
-use Rattle.ft_trace.specs.Finding.{Inner}
+use Rattle.ft_trace.specs.ContainerStates.{kind_in}
+use Rattle.ft_trace.specs.LoggedLookUps.{Inner}
 use Rattle.ft_keys.specs.declared.words.Access.{Access}
 use Rattle.ft_keys.specs.declared.words.Access.TheVariants.{Index}
 use Rattle.ft_keys.specs.declared.search.Found.{Found}
@@ -17,28 +17,28 @@ use Rattle.ft_keys.specs.Loads.{Loads, TriesSlots, unpassed, NamesEntry}
 use Rattle.ft_keys.proofs.Loading.{loads-are}
 use Rattle.ft_bank.specs.Passes.{shape_of}
 use Rattle.ft_bank.specs.Series.{DidAll}
-use Rattle.ft_bank.specs.Tables.{name_of}
+use Rattle.ft_bank.specs.TableNames.{name_of}
 use Rattle.ft_search.specs.declared.words.TableWords.{TableWords}
 use Rattle.ft_search.specs.declared.looks.Looked.{Looked}
 use Rattle.ft_search.specs.declared.looks.Looked.TheVariants.{Absent}
-use Rattle.ft_search.specs.Words.{act_of, SamePlace}
+use Rattle.ft_search.specs.TableWords.{access_act, SamePlace}
 use Rattle.ft_search.specs.Rounds.{met_acts, Walked, Turns, TurnsAfter, ClosesAt}
 use Rattle.ft_search.proofs.Running.{did_trans, at_same, inner_append, inner_calls}
 use Rattle.ft_search.proofs.Walking.{walked_more, walked_on, none_passed}
-use Rattle.ft_search.proofs.Closing.{closes_free, closes_full}
+use Rattle.ft_search.proofs.SearchEnds.{closes_free, closes_full}
 
 -- the pass loaded the counter and searched on
 pub record Sought (s0 s2 : TableWords) (key : Key) (number : ℕ) (first left : List ℕ) (found : Found) : Type 0 where
   pub calls : List Access
-  pub did : DidAll (map (act_of s0.o (name_of s0.table)) calls ++ ReadCounter number ∷ []) s0.pass.now s2.pass.now
-  pub inner : Inner (map (act_of s0.o (name_of s0.table)) calls ++ ReadCounter number ∷ [])
+  pub did : DidAll (map (access_act s0.o (name_of s0.table)) calls ++ ReadCounter number ∷ []) s0.pass.now s2.pass.now
+  pub inner : Inner (map (access_act s0.o (name_of s0.table)) calls ++ ReadCounter number ∷ [])
   pub loads : Loads s0.mask key first left found calls
 
 pub sought : (s0 s1 s2 : TableWords) (key : Key) (number : ℕ) (first left : List ℕ) (found : Found) → SamePlace s0 s1 → DidAll (ReadCounter number ∷ []) s0.pass.now s1.pass.now
-    → ((calls : List Access) × DidAll (map (act_of s1.o (name_of s1.table)) calls) s1.pass.now s2.pass.now × Loads s1.mask key first left found calls) → Sought s0 s2 key number first left found
+    → ((calls : List Access) × DidAll (map (access_act s1.o (name_of s1.table)) calls) s1.pass.now s2.pass.now × Loads s1.mask key first left found calls) → Sought s0 s2 key number first left found
 sought s0 s1 s2 key number first left found same stamped new =
-    let f = act_of s0.o (name_of s0.table) in
-    let did : DidAll (map f new.0) s1.pass.now s2.pass.now = at_same (λ k o t. DidAll (map (act_of o t) new.0) s1.pass.now s2.pass.now) s0 s1 same new.1 in
+    let f = access_act s0.o (name_of s0.table) in
+    let did : DidAll (map f new.0) s1.pass.now s2.pass.now = at_same (λ k o t. DidAll (map (access_act o t) new.0) s1.pass.now s2.pass.now) s0 s1 same new.1 in
     let loads : Loads s0.mask key first left found new.0 = subst (λ (z : ℕ). Loads z key first left found new.0) same.mask new.2 in
     record {
       calls = new.0;
@@ -58,7 +58,7 @@ module _ (s0 s2 : TableWords) (key : Key) (number : ℕ) (first left : List ℕ)
   t = name_of s0.table
 
   abbrev f : Access → Act
-  f = act_of o t
+  f = access_act o t
 
   -- what it has done, the newest first
   abbrev pub own : List Act
@@ -99,7 +99,7 @@ free_again s0 s2 key number slot first left s part long w =
     let k = shape_of s0.bank.now in
     let o = s0.o in
     let t = name_of s0.table in
-    let f = act_of o t in
+    let f = access_act o t in
     let h = s.loads in
     let none = none_passed h.passed left first h.split long in
     let tries : TriesSlots s0.mask key [] h.earlier = subst (λ (z : List ℕ). TriesSlots s0.mask key z h.earlier) none h.tries in
@@ -116,7 +116,7 @@ pub spent_at : (s0 s2 s3 : TableWords) (key : Key) (number last : ℕ) (first le
 spent_at s0 s2 s3 key number last first left s part few stamped w =
     let o = s0.o in
     let t = name_of s0.table in
-    let own_acts : List Act = map (act_of o t) s.calls ++ ReadCounter number ∷ [] in (
+    let own_acts : List Act = map (access_act o t) s.calls ++ ReadCounter number ∷ [] in (
       ReadCounter last ∷ own_acts,
       s.inner,
       did_trans (ReadCounter last ∷ []) own_acts s0.pass.now s2.pass.now s3.pass.now s.did stamped,

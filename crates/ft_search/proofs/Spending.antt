@@ -17,45 +17,45 @@ use Rattle.ft_trace.specs.declared.Shape.{Shape}
 use Rattle.ft_trace.specs.declared.View.{View}
 use Rattle.ft_trace.specs.Acts.{noted, reads}
 use Rattle.ft_trace.specs.Addresses.{class_of, slots}
-use Rattle.ft_trace.specs.Finding.{Inner}
+use Rattle.ft_trace.specs.LoggedLookUps.{Inner}
 use Rattle.ft_trace.specs.Kinds.{IsKeyed}
 use Rattle.ft_trace.specs.Traces.{Possible}
-use Rattle.ft_trace.specs.Words.{entry_at}
-use Rattle.ft_trace.specs.Worlds.{kind_in}
+use Rattle.ft_trace.specs.Pictures.{entry_offset}
+use Rattle.ft_trace.specs.ContainerStates.{kind_in}
 use Rattle.ft_keys.specs.declared.walk.Way.{Way}
 use Rattle.ft_keys.specs.declared.walk.Way.TheVariants as way
 use Rattle.ft_keys.specs.declared.words.Access.{Access}
 use Rattle.ft_keys.specs.declared.words.Access.TheVariants.{Index}
 use Rattle.ft_keys.specs.declared.search.Found.{Found}
 use Rattle.ft_keys.specs.Accesses.{Follows, index_loads}
-use Rattle.ft_keys.specs.Costs.{most_loads, NeverUsed, StaysUsed, free_loads}
+use Rattle.ft_keys.specs.WalkCosts.{most_loads, NeverUsed, StaysUsed, free_loads}
 use Rattle.ft_keys.specs.Ways.{walk_slots}
 use Rattle.ft_keys.proofs.Bounds.{bounded}
 use Rattle.ft_keys.proofs.Reaching.{walk-within}
 use Rattle.ft_bank.specs.declared.pass.Pass.{Pass}
 use Rattle.ft_bank.specs.Passes.{shape_of, view}
 use Rattle.ft_bank.specs.Series.{DidAll, noted_all}
-use Rattle.ft_bank.specs.Tables.{name_of}
+use Rattle.ft_bank.specs.TableNames.{name_of}
 use Rattle.ft_search.specs.declared.words.TableWords.{TableWords}
 use Rattle.ft_search.specs.declared.looks.Looked.{Looked}
-use Rattle.ft_search.specs.declared.reading.Seen.{Seen}
+use Rattle.ft_search.specs.declared.reading.SeenEntry.{SeenEntry}
 use Rattle.ft_search.specs.declared.rounds.Round.{Round}
-use Rattle.ft_search.specs.Costs.{index_reads, indexed, LoadsNoIndex, IsRound, LoadsRounds, WalksOn, MayWalkOn, SpendsSearch, SpendsRound}
-use Rattle.ft_search.specs.Looks.{AreLooks}
-use Rattle.ft_search.specs.Rounds.{kind_by, seen_acts}
-use Rattle.ft_search.specs.Words.{act_of, CanLoad}
+use Rattle.ft_search.specs.SearchCosts.{index_reads, indexed, LoadsNoIndex, IsRound, LoadsRounds, WalksOn, MayWalkOn, SpendsSearch, SpendsRound}
+use Rattle.ft_search.specs.KeyLooks.{AreLooks}
+use Rattle.ft_search.specs.Rounds.{kind_by, entry_acts}
+use Rattle.ft_search.specs.TableWords.{access_act, CanLoad}
 use Rattle.ft_search.proofs.Bounding.{count_is, index_here, index_other, index_past, index_entry, freed, Went, went, none_append, walks_more}
-use Rattle.ft_search.proofs.Places.{slots_is, slots_of_class}
+use Rattle.ft_search.proofs.WordPlaces.{slots_is, slots_of_class}
 use Rattle.ft_search.proofs.Running.{did_trans, did_log, inner_append, inner_online}
 use Rattle.ft_search.proofs.Seeking.{Sought}
-use Rattle.ft_search.proofs.Staying.{slots_stay}
+use Rattle.ft_search.proofs.IndexWordsStay.{slots_stay}
 
 -- ---- one search on the walk
 
 -- the loads of an entry between two of its version
-pub seen_none : (t place : ℕ) (seen : Seen) → LoadsNoIndex (seen_acts t place seen)
+pub seen_none : (t place : ℕ) (seen : SeenEntry) → LoadsNoIndex (entry_acts t place seen)
 seen_none t place seen u =
-    let at = entry_at (slots (class_of t)) place in
+    let at = entry_offset (slots (class_of t)) place in
     let one : List Act = ReadTable t (at 0) seen.opened ∷ [] in
     let two : List Act = ReadTable t (at 2) seen.key_kind ∷ one in
     let three : List Act = ReadTable t (at 4) seen.value_kind ∷ two in
@@ -63,10 +63,10 @@ seen_none t place seen u =
     index_entry u t place 0 seen.closed (ReadCounter seen.number ∷ four)
     ∙ (index_entry u t place 5 seen.value three ∙ (index_entry u t place 4 seen.value_kind two ∙ (index_entry u t place 2 seen.key_kind one ∙ index_entry u t place 0 seen.opened [])))
 
-pub versions_none : (t place a b : ℕ) → LoadsNoIndex (ReadTable t (entry_at (slots (class_of t)) place 0) b ∷ (ReadTable t (entry_at (slots (class_of t)) place 0) a ∷ []))
-versions_none t place a b u = index_entry u t place 0 b (ReadTable t (entry_at (slots (class_of t)) place 0) a ∷ []) ∙ index_entry u t place 0 a []
+pub versions_none : (t place a b : ℕ) → LoadsNoIndex (ReadTable t (entry_offset (slots (class_of t)) place 0) b ∷ (ReadTable t (entry_offset (slots (class_of t)) place 0) a ∷ []))
+versions_none t place a b u = index_entry u t place 0 b (ReadTable t (entry_offset (slots (class_of t)) place 0) a ∷ []) ∙ index_entry u t place 0 a []
 
-pub version_none : (t place a : ℕ) → LoadsNoIndex (ReadTable t (entry_at (slots (class_of t)) place 0) a ∷ [])
+pub version_none : (t place a : ℕ) → LoadsNoIndex (ReadTable t (entry_offset (slots (class_of t)) place 0) a ∷ [])
 version_none t place a u = index_entry u t place 0 a []
 
 module _ (s0 s2 : TableWords) (key : Key) (number : ℕ) (first left : List ℕ) (found : Found) (s : Sought s0 s2 key number first left found) (walked : List ℕ) (acts : List Act) (may : MayWalkOn (name_of s0.table) walked acts first) where
@@ -74,7 +74,7 @@ module _ (s0 s2 : TableWords) (key : Key) (number : ℕ) (first left : List ℕ)
   t = name_of s0.table
 
   abbrev calls : List Act
-  calls = map (act_of s0.o t) s.calls
+  calls = map (access_act s0.o t) s.calls
 
   abbrev own : List Act
   own = calls ++ ReadCounter number ∷ []

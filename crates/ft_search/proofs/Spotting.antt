@@ -9,7 +9,7 @@ use Rattle.ft_model.specs.Contents.{DictContent, SetContent}
 use Rattle.ft_layout.specs.Containers.{class_mask, IsDictWords, IsSetWords, StandsAs}
 use Rattle.ft_layout.specs.Tables.{hash_of, entry_word}
 use Rattle.ft_layout.specs.Words.{FitsKey}
-use Rattle.ft_keys.specs.Changes.{FirstFree}
+use Rattle.ft_keys.specs.TableChanges.{FirstFree}
 use Rattle.ft_keys.specs.Searches.{EndsAt, IsWithin, Searched}
 use Rattle.ft_keys.specs.Ways.{walk_slots}
 use Rattle.ft_keys.specs.declared.search.Found.{Found}
@@ -19,28 +19,28 @@ use Rattle.ft_keys.specs.declared.walk.Way.TheVariants as way
 use Rattle.ft_trace.specs.declared.Shape.{Shape}
 use Rattle.ft_trace.specs.declared.View.{View}
 use Rattle.ft_trace.specs.Addresses.{class_of, slots}
-use Rattle.ft_trace.specs.Carefuls.{IsLive}
+use Rattle.ft_trace.specs.Carefuls.{HasLiveKey}
 use Rattle.ft_trace.specs.Holds.{held, known}
 use Rattle.ft_trace.specs.Kinds.{rows}
-use Rattle.ft_trace.specs.Words.{Picture, root_in, entry_of, Stands}
-use Rattle.ft_trace.specs.Worlds.{ContainerState, kind_in}
+use Rattle.ft_trace.specs.Pictures.{Picture, root_in, entry_field, Stands}
+use Rattle.ft_trace.specs.ContainerStates.{ContainerState, kind_in}
 use Rattle.ft_trace.proofs.DictWrites as dict
 use Rattle.ft_trace.proofs.SetKnown as set
 use Rattle.ft_trace.proofs.Known.{class_known}
 use Rattle.ft_bank.specs.declared.table.Table.{Table}
-use Rattle.ft_bank.specs.Tables.{name_of, IsTableIn}
+use Rattle.ft_bank.specs.TableNames.{name_of, IsTableIn}
 use Rattle.ft_bank.specs.Whole.{OnlyLoaded}
-use Rattle.ft_bank.proofs.Tables.{class_is}
-use Rattle.ft_bank.proofs.Whole.{loaded_held, work_knows}
+use Rattle.ft_bank.proofs.TableAddresses.{class_is}
+use Rattle.ft_bank.proofs.KnownAfterWrites.{loaded_held, work_knows}
 use Rattle.ft_search.specs.declared.spots.Spot.{Spot}
 use Rattle.ft_search.specs.declared.spots.Spot.TheVariants as spot
 use Rattle.ft_search.specs.Held.{ReadsEntry, IsHeldAt}
 use Rattle.ft_search.specs.Rounds.{kind_by}
 use Rattle.ft_search.specs.Spots.{IsSpot, spot_in}
-use Rattle.ft_search.specs.Writing.{HasTable, IsEntryOf, MayWriteEntries}
-use Rattle.ft_search.proofs.Holding.{MissingKeys, MissingElements, IsOfWay, key_held}
-use Rattle.ft_search.proofs.Knowing.{entry_after_header}
-use Rattle.ft_search.proofs.Places.{slots_of_class}
+use Rattle.ft_search.specs.OneEntryWrites.{HasTable, IsLiveEntry, MayWriteEntries}
+use Rattle.ft_search.proofs.FoundInContents.{MissingKeys, MissingElements, IsOfWay, key_held}
+use Rattle.ft_search.proofs.KnownTableWords.{entry_after_header}
+use Rattle.ft_search.proofs.WordPlaces.{slots_of_class}
 
 abbrev pub FirstFreeSlots : Type 0
 FirstFreeSlots = (mask : ℕ) (words : List ℕ) (key : Key) (first left : List ℕ) (slot : ℕ) → EndsAt mask words key first left (Free slot) → FirstFree words first (Some slot)
@@ -65,7 +65,7 @@ module _ (first_pair : dict.FirstEntriesArePairs) (first_element : set.FirstEntr
   class_some : kept.table.class ≡ Some c
   class_some = class_known k.texts x kept (name_of table) stands names ∙ ap Some same_class
 
-  word_is : (place w : ℕ) → entry_word mask words place w ≡ entry_of (slots c) ws place w
+  word_is : (place w : ℕ) → entry_word mask words place w ≡ entry_field (slots c) ws place w
   word_is place w = entry_after_header ws mask place w ∙ ap (slice_index ws) (let n = slots_of_class c in let e : 8 * place + w + mask + 1 ≡ 8 * place + w + slots c = omega (arith, n) in e)
 
   dict_says : (pairs : DictContent) → kept.content ≡ content.Dict pairs → IsDictWords k.texts x.block words (Some c) kept.table.fill pairs
@@ -74,13 +74,13 @@ module _ (first_pair : dict.FirstEntriesArePairs) (first_element : set.FirstEntr
   set_says : (elements : SetContent) → kept.content ≡ content.Set elements → IsSetWords k.texts x.block words (Some c) kept.table.fill elements
   set_says elements is = subst (λ (z : Option ℕ). IsSetWords k.texts x.block words z kept.table.fill elements) class_some (subst (λ (z : Content). StandsAs k.texts x.block words kept.table z) is stands)
 
-  here_is : (w : Way) (slot place : ℕ) → place < rows (kind_by w) c → Searched mask words key (walk_slots w (hash_of k.texts key) mask) left (At slot place) → (place < rows (kind_by w) (class_of (name_of table))) × IsLive (slots (class_of (name_of table))) ws place key
+  here_is : (w : Way) (slot place : ℕ) → place < rows (kind_by w) c → Searched mask words key (walk_slots w (hash_of k.texts key) mask) left (At slot place) → (place < rows (kind_by w) (class_of (name_of table))) × HasLiveKey (slots (class_of (name_of table))) ws place key
   here_is w slot place inside s =
       let has = s.ends.4 in
-      subst (λ (z : ℕ). (place < rows (kind_by w) z) × IsLive (slots z) ws place key) (sym same_class) (inside, (sym (word_is place 2) ∙ has.0, sym (word_is place 3) ∙ has.1))
+      subst (λ (z : ℕ). (place < rows (kind_by w) z) × HasLiveKey (slots z) ws place key) (sym same_class) (inside, (sym (word_is place 2) ∙ has.0, sym (word_is place 3) ∙ has.1))
 
   -- the entry at which a search ended
-  pub entry_found : (w : Way) → IsOfWay w kept.content → (slot place : ℕ) → Searched mask words key (walk_slots w (hash_of k.texts key) mask) left (At slot place) → (place < rows (kind_by w) (class_of (name_of table))) × IsLive (slots (class_of (name_of table))) ws place key
+  pub entry_found : (w : Way) → IsOfWay w kept.content → (slot place : ℕ) → Searched mask words key (walk_slots w (hash_of k.texts key) mask) left (At slot place) → (place < rows (kind_by w) (class_of (name_of table))) × HasLiveKey (slots (class_of (name_of table))) ws place key
   entry_found way.Dict is slot place s =
       let says = dict_says is.0 is.1 in
       let finds = s.finds way.Dict k.texts says.used says.table low refl in
@@ -97,10 +97,10 @@ module _ (first_pair : dict.FirstEntriesArePairs) (first_element : set.FirstEntr
       here_is way.Set slot place (omega (arith, room, few, inside)) s
 
   -- the words of its value
-  pub value_read : (slot place : ℕ) (read : ℕ × ℕ) → ReadsEntry mask words (At slot place) (Some read) → (read.0 ≡ entry_of (slots (class_of (name_of table))) ws place 4) × (read.1 ≡ entry_of (slots (class_of (name_of table))) ws place 5)
+  pub value_read : (slot place : ℕ) (read : ℕ × ℕ) → ReadsEntry mask words (At slot place) (Some read) → (read.0 ≡ entry_field (slots (class_of (name_of table))) ws place 4) × (read.1 ≡ entry_field (slots (class_of (name_of table))) ws place 5)
   value_read slot place read reads =
       let at : c ≡ class_of (name_of table) = sym same_class in
-      (reads.0 ∙ (word_is place 4 ∙ ap (λ (z : ℕ). entry_of (slots z) ws place 4) at), reads.1 ∙ (word_is place 5 ∙ ap (λ (z : ℕ). entry_of (slots z) ws place 5) at))
+      (reads.0 ∙ (word_is place 4 ∙ ap (λ (z : ℕ). entry_field (slots z) ws place 4) at), reads.1 ∙ (word_is place 5 ∙ ap (λ (z : ℕ). entry_field (slots z) ws place 5) at))
 
   -- no search is spent
   pub none_spent : (w : Way) → IsOfWay w kept.content → Searched mask words key (walk_slots w (hash_of k.texts key) mask) left Spent → ⊥
@@ -163,10 +163,10 @@ module _ (k : Shape) (o : ℕ) (v w : View) (only : OnlyLoaded v w) where
   pub table_loaded : (table : Table) → HasTable k o table v → HasTable k o table w
   table_loaded table has = record { table_in = has.table_in; root = ap root_in (sym same.0) ∙ has.root }
 
-  entry_loaded : (table : Table) (place : ℕ) (key : Key) → IsEntryOf k o table place key v → IsEntryOf k o table place key w
+  entry_loaded : (table : Table) (place : ℕ) (key : Key) → IsLiveEntry k o table place key v → IsLiveEntry k o table place key w
   entry_loaded table place key e = record {
     low = e.low;
-    live = subst (λ (z : Picture). IsLive (slots (class_of (name_of table))) z.table place key) same.0 e.live;
+    live = subst (λ (z : Picture). HasLiveKey (slots (class_of (name_of table))) z.table place key) same.0 e.live;
     fits = e.fits;
   }
 
@@ -175,8 +175,8 @@ module _ (k : Shape) (o : ℕ) (v w : View) (only : OnlyLoaded v w) where
     table_loaded table s.0,
     entry_loaded table place key s.1,
     subst (λ (z : ContainerState). IsHeldAt z.content key (Some (kind, payload))) same.1 s.2,
-    subst (λ (z : Picture). kind ≡ entry_of (slots (class_of (name_of table))) z.table place 4) same.0 s.3,
-    subst (λ (z : Picture). payload ≡ entry_of (slots (class_of (name_of table))) z.table place 5) same.0 s.4,
+    subst (λ (z : Picture). kind ≡ entry_field (slots (class_of (name_of table))) z.table place 4) same.0 s.3,
+    subst (λ (z : Picture). payload ≡ entry_field (slots (class_of (name_of table))) z.table place 5) same.0 s.4,
   )
   spot_loaded way key (spot.Free table slot) s = (
     table_loaded table s.0,

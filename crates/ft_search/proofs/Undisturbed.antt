@@ -11,23 +11,23 @@ use Rattle.ft_trace.specs.declared.Act.{Act}
 use Rattle.ft_trace.specs.declared.Act.TheVariants.{ReadBlock, ReadRoot, ReadTable, ReadCounter, Version}
 use Rattle.ft_trace.specs.declared.Shape.{Shape}
 use Rattle.ft_trace.specs.declared.View.{View}
-use Rattle.ft_trace.specs.Addresses.{at, block, cell, class_of, containers_in, counter, slots, version_of, IsTable}
+use Rattle.ft_trace.specs.Addresses.{at, block, cell, class_of, containers_in, counter, slots, version_of, IsTableName}
 use Rattle.ft_trace.specs.Acts.{floor_words, is_writing, place, Reports}
 use Rattle.ft_trace.specs.Floors.{FoundAsKnown}
 use Rattle.ft_trace.specs.Kinds.{IsKeyed, rows, version_at}
-use Rattle.ft_trace.specs.Reading.{Among}
+use Rattle.ft_trace.specs.LoggedReads.{Among}
 use Rattle.ft_trace.specs.Traces.{Event, Possible, Valid, run, word}
-use Rattle.ft_trace.specs.Words.{entry_at, table_of}
-use Rattle.ft_trace.specs.Worlds.{kind_in}
+use Rattle.ft_trace.specs.Pictures.{entry_offset, table_of}
+use Rattle.ft_trace.specs.ContainerStates.{kind_in}
 use Rattle.ft_trace.proofs.ByKind.{row_low}
 use Rattle.ft_trace.proofs.Evens.{quiet_shut}
 use Rattle.ft_trace.proofs.Floored.{floored, floor_tells}
 use Rattle.ft_trace.proofs.Pieces.{table_at}
-use Rattle.ft_trace.proofs.Places.{root_table}
+use Rattle.ft_trace.proofs.TablePlaces.{root_table}
 use Rattle.ft_trace.proofs.Quiet.{versions_even}
 use Rattle.ft_search.specs.Floors.{FloorEntriesStand, FloorVersionsStand, LooksWithFloor}
 use Rattle.ft_search.specs.Lengths.{StopsAtVersion}
-use Rattle.ft_search.specs.Looks.{AreLooks, Stops, StopsAtContainer, StopsAtEntry}
+use Rattle.ft_search.specs.KeyLooks.{AreLooks, Stops, StopsAtContainer, StopsAtEntry}
 
 -- ---- loads in a row
 
@@ -114,7 +114,7 @@ floor_versions_stand w part p l o a b low stops =
     let found = both_same w part p l stops.newer stops.mid stops.rest (Version o a) (Version o b) stops.is in
     not_moved (word w.shape p.0 (version_of o)) a b (even_now w part p l o low) found.1 found.0 stops.moved
 
-keyed_at : (kind : Kind) → IsKeyed kind → (c place : ℕ) → version_at kind c place ≡ entry_at (slots c) place 0
+keyed_at : (kind : Kind) → IsKeyed kind → (c place : ℕ) → version_at kind c place ≡ entry_offset (slots c) place 0
 keyed_at kind.Dict is c place = refl
 keyed_at kind.Set is c place = refl
 keyed_at kind.List is c place = absurd is
@@ -126,7 +126,7 @@ even_row w part p l o t row low named in_table =
     let k = w.shape in
     let es = p.0 in
     let root : word k es (block o 0) ≡ suc t = sym (among_found w part p l (ReadRoot o (suc t)) named) in
-    let table : IsTable k t = root_table k es p.2.0 o low t root in
+    let table : IsTableName k t = root_table k es p.2.0 o low t root in
     let spot = version_at (kind_in k.kinds o) (class_of t) row in
     let shut = quiet_shut k es p.2.0 o low (even_now w part p l o low) t root row in_table in
     ap (λ (n : ℕ). n % 2) (sym (table_at k t (run k es).words spot (row_low (kind_in k.kinds o) (class_of t) row table.0 in_table))) ∙ shut
@@ -137,7 +137,7 @@ floor_entries_stand w part p l o key a b low keyed stops =
     (λ (x : (t : ℕ) × Among (ReadRoot o (suc t)) part × StopsAtEntry w.shape o t key a b part).
     let t = x.0 in
     let e = x.2 in
-    let n = entry_at (slots (class_of t)) e.place 0 in
+    let n = entry_offset (slots (class_of t)) e.place 0 in
     let found = both_same w part p l e.newer e.mid e.rest (ReadTable t n a) (ReadTable t n b) e.is in
     let even = even_row w part p l o t e.place low x.1 e.low in
     not_moved (word w.shape p.0 (cell t n)) a b (ap (λ (z : ℕ). word w.shape p.0 (cell t z) % 2) (sym (keyed_at (kind_in w.shape.kinds o) keyed (class_of t) e.place)) ∙ even) found.1 found.0 e.moved)

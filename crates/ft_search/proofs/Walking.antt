@@ -11,15 +11,15 @@ use Rattle.ft_trace.specs.declared.Act.{Act}
 use Rattle.ft_trace.specs.declared.Act.TheVariants.{ReadTable}
 use Rattle.ft_trace.specs.declared.Shape.{Shape}
 use Rattle.ft_trace.specs.Addresses.{class_of, slots}
-use Rattle.ft_trace.specs.Words.{entry_at, walk_of}
+use Rattle.ft_trace.specs.Pictures.{entry_offset, walk_of}
 use Rattle.ft_trace.specs.Kinds.{rows}
-use Rattle.ft_trace.specs.Worlds.{kind_in}
-use Rattle.ft_trace.specs.Finding.{OtherKind, OtherPayload, Dead, Visit, Beyond, Passed}
+use Rattle.ft_trace.specs.ContainerStates.{kind_in}
+use Rattle.ft_trace.specs.LoggedLookUps.{OtherKind, OtherPayload, Dead, Visit, Beyond, Passed}
 use Rattle.ft_keys.specs.declared.words.Access.{Access}
 use Rattle.ft_keys.specs.declared.words.Access.TheVariants.{Index, Entry}
 use Rattle.ft_keys.specs.declared.search.Found.{Found}
 use Rattle.ft_keys.specs.Loads.{PassesSlot, TriesSlots, Loads, unpassed, entry_loads}
-use Rattle.ft_search.specs.Words.{act_of}
+use Rattle.ft_search.specs.TableWords.{access_act}
 use Rattle.ft_search.specs.Rounds.{Walked}
 
 pub map_append : (f : Access → Act) (a b : List Access) → map f (a ++ b) ≡ map f a ++ map f b
@@ -37,22 +37,22 @@ module _ (t m slot : ℕ) (key : Key) where
       (λ high. inr (record { place = place; high = omega arith; newer = newer; rest = rest; is = is }))
 
   -- the loads of a slot that a search passed
-  pub slot_passed : (o room : ℕ) (mask : ℕ) (loads : List Access) (rest : List Act) → m ≤ dict_room mask → PassesSlot mask key slot loads → Passed (map (act_of o t) loads ++ rest) t m slot key
+  pub slot_passed : (o room : ℕ) (mask : ℕ) (loads : List Access) (rest : List Act) → m ≤ dict_room mask → PassesSlot mask key slot loads → Passed (map (access_act o t) loads ++ rest) t m slot key
   slot_passed o room mask loads rest few p =
       let N = slots (class_of t) in
       ⊎_elim
       (λ (h : (word : ℕ) × (dict_room mask < word) × (loads ≡ Index slot word ∷ [])).
-      subst (λ (l : List Access). Passed (map (act_of o t) l ++ rest) t m slot key) (sym h.2)
+      subst (λ (l : List Access). Passed (map (access_act o t) l ++ rest) t m slot key) (sym h.2)
       (by_word rest h.0 (omega (arith, few, (let low = h.1 in low)))))
       (λ q. ⊎_elim
       (λ (h : (place kind : ℕ) × (place < dict_room mask) × (kind ≢ key_kind key) × (kind ≢ gone_kind key) × (loads ≡ Entry place 2 kind ∷ (Index slot (suc place) ∷ []))).
-      subst (λ (l : List Access). Passed (map (act_of o t) l ++ rest) t m slot key) (sym h.5)
-      (visit_or_beyond (ReadTable t (entry_at N h.0 2) h.1 ∷ (ReadTable t slot (suc h.0) ∷ rest)) (ReadTable t (entry_at N h.0 2) h.1 ∷ []) rest h.0 refl
+      subst (λ (l : List Access). Passed (map (access_act o t) l ++ rest) t m slot key) (sym h.5)
+      (visit_or_beyond (ReadTable t (entry_offset N h.0 2) h.1 ∷ (ReadTable t slot (suc h.0) ∷ rest)) (ReadTable t (entry_offset N h.0 2) h.1 ∷ []) rest h.0 refl
       (inl (record { found = h.1; live = h.3; dead = h.4; newer = []; mid = []; rest = rest; is = refl }))))
       (λ (h : (place kind payload : ℕ) × (place < dict_room mask) × (payload ≢ key_payload key) × (loads ≡ entry_loads slot place kind payload)).
-      subst (λ (l : List Access). Passed (map (act_of o t) l ++ rest) t m slot key) (sym h.5)
-      (visit_or_beyond (ReadTable t (entry_at N h.0 3) h.2 ∷ (ReadTable t (entry_at N h.0 2) h.1 ∷ (ReadTable t slot (suc h.0) ∷ rest))) (ReadTable t (entry_at N h.0 3) h.2 ∷ (ReadTable t (entry_at N h.0 2) h.1 ∷ [])) rest h.0 refl
-      (inr (inl (record { found = h.2; apart = h.4; newer = []; mid = ReadTable t (entry_at N h.0 2) h.1 ∷ []; rest = rest; is = refl })))))
+      subst (λ (l : List Access). Passed (map (access_act o t) l ++ rest) t m slot key) (sym h.5)
+      (visit_or_beyond (ReadTable t (entry_offset N h.0 3) h.2 ∷ (ReadTable t (entry_offset N h.0 2) h.1 ∷ (ReadTable t slot (suc h.0) ∷ rest))) (ReadTable t (entry_offset N h.0 3) h.2 ∷ (ReadTable t (entry_offset N h.0 2) h.1 ∷ [])) rest h.0 refl
+      (inr (inl (record { found = h.2; apart = h.4; newer = []; mid = ReadTable t (entry_offset N h.0 2) h.1 ∷ []; rest = rest; is = refl })))))
       q)
       p
     where
@@ -71,10 +71,10 @@ module _ (t m slot : ℕ) (key : Key) where
         low = v.low;
         how = ⊎_elim
             (λ (h : OtherKind walk t slot v.place key).
-            inl (record { found = h.found; live = h.live; dead = h.dead; newer = new ++ h.newer; mid = h.mid; rest = h.rest; is = ap (λ (z : List Act). new ++ z) h.is ∙ sym (append_assoc new h.newer (ReadTable t (entry_at N v.place 2) h.found ∷ (h.mid ++ ReadTable t slot (suc v.place) ∷ h.rest))) }))
+            inl (record { found = h.found; live = h.live; dead = h.dead; newer = new ++ h.newer; mid = h.mid; rest = h.rest; is = ap (λ (z : List Act). new ++ z) h.is ∙ sym (append_assoc new h.newer (ReadTable t (entry_offset N v.place 2) h.found ∷ (h.mid ++ ReadTable t slot (suc v.place) ∷ h.rest))) }))
             (λ q. inr (⊎_elim
             (λ (h : OtherPayload walk t slot v.place key).
-            inl (record { found = h.found; apart = h.apart; newer = new ++ h.newer; mid = h.mid; rest = h.rest; is = ap (λ (z : List Act). new ++ z) h.is ∙ sym (append_assoc new h.newer (ReadTable t (entry_at N v.place 3) h.found ∷ (h.mid ++ ReadTable t slot (suc v.place) ∷ h.rest))) }))
+            inl (record { found = h.found; apart = h.apart; newer = new ++ h.newer; mid = h.mid; rest = h.rest; is = ap (λ (z : List Act). new ++ z) h.is ∙ sym (append_assoc new h.newer (ReadTable t (entry_offset N v.place 3) h.found ∷ (h.mid ++ ReadTable t slot (suc v.place) ∷ h.rest))) }))
             (λ (h : Dead walk t slot v.place key).
             inr (record {
               version = h.version;
@@ -82,7 +82,7 @@ module _ (t m slot : ℕ) (key : Key) where
               newer = new ++ h.newer;
               mid = h.mid;
               rest = h.rest;
-              is = ap (λ (z : List Act). new ++ z) h.is ∙ sym (append_assoc new h.newer (ReadTable t (entry_at N v.place 0) h.version ∷ (h.mid ++ ReadTable t (entry_at N v.place 2) (gone_kind key) ∷ h.rest)));
+              is = ap (λ (z : List Act). new ++ z) h.is ∙ sym (append_assoc new h.newer (ReadTable t (entry_offset N v.place 0) h.version ∷ (h.mid ++ ReadTable t (entry_offset N v.place 2) (gone_kind key) ∷ h.rest)));
               before = new ++ h.before;
               older = h.older;
               named = ap (λ (z : List Act). new ++ z) h.named ∙ sym (append_assoc new h.before (ReadTable t slot (suc v.place) ∷ h.older));
@@ -95,12 +95,12 @@ module _ (t m slot : ℕ) (key : Key) where
       p
 
 -- the slots that a search passed
-pub slots_passed : (o t m mask : ℕ) (key : Key) (passed : List ℕ) (loads : List Access) (rest : List Act) → m ≤ dict_room mask → TriesSlots mask key passed loads → All (λ slot. Passed (map (act_of o t) loads ++ rest) t m slot key) passed
-slots_passed o t m mask key [] loads rest few tries = All-nil (λ slot. Passed (map (act_of o t) loads ++ rest) t m slot key)
+pub slots_passed : (o t m mask : ℕ) (key : Key) (passed : List ℕ) (loads : List Access) (rest : List Act) → m ≤ dict_room mask → TriesSlots mask key passed loads → All (λ slot. Passed (map (access_act o t) loads ++ rest) t m slot key) passed
+slots_passed o t m mask key [] loads rest few tries = All-nil (λ slot. Passed (map (access_act o t) loads ++ rest) t m slot key)
 slots_passed o t m mask key (slot ∷ passed) loads rest few tries =
     let one = tries.0 in
     let later = tries.1 in
-    let f = act_of o t in
+    let f = access_act o t in
     let whole : map f loads ++ rest ≡ map f later ++ (map f one ++ rest) = ap (λ (z : List Access). map f z ++ rest) tries.4 ∙ (ap (λ (z : List Act). z ++ rest) (map_append f later one) ∙ append_assoc (map f later) (map f one) rest) in
     let first : Passed (map f later ++ (map f one ++ rest)) t m slot key = passed_more t m slot key (map f later) (map f one ++ rest) (slot_passed t m slot key o 0 mask one rest few tries.2) in
     let others = slots_passed o t m mask key passed later (map f one ++ rest) few tries.3 in
@@ -121,9 +121,9 @@ module _ (k : Shape) (o t : ℕ) (key : Key) where
   }
 
   -- a search went on
-  pub walked_on : (mask : ℕ) (first left : List ℕ) (found : Found) (calls : List Access) (part : List Act) → m ≤ dict_room mask → Walked k o t key part first → Loads mask key first left found calls → Walked k o t key (map (act_of o t) calls ++ part) (unpassed found left)
+  pub walked_on : (mask : ℕ) (first left : List ℕ) (found : Found) (calls : List Access) (part : List Act) → m ≤ dict_room mask → Walked k o t key part first → Loads mask key first left found calls → Walked k o t key (map (access_act o t) calls ++ part) (unpassed found left)
   walked_on mask first left found calls part few w h =
-      let f = act_of o t in
+      let f = access_act o t in
       let whole : map f calls ++ part ≡ map f h.last ++ (map f h.earlier ++ part) = ap (λ (z : List Access). map f z ++ part) h.is ∙ (ap (λ (z : List Act). z ++ part) (map_append f h.last h.earlier) ∙ append_assoc (map f h.last) (map f h.earlier) part) in
       let here : Walked k o t key (map f h.earlier ++ part) (unpassed found left) = record {
         passed = w.passed ++ h.passed;

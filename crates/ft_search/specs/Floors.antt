@@ -7,9 +7,9 @@ use Rattle.ft_trace.specs.Acts.{is_writing}
 use Rattle.ft_trace.specs.Addresses.{containers_in}
 use Rattle.ft_trace.specs.Kinds.{IsKeyed}
 use Rattle.ft_trace.specs.Traces.{Possible}
-use Rattle.ft_trace.specs.Worlds.{kind_in}
+use Rattle.ft_trace.specs.ContainerStates.{kind_in}
 use Rattle.ft_search.specs.Lengths.{StopsAtVersion}
-use Rattle.ft_search.specs.Looks.{AreLooks, Stops}
+use Rattle.ft_search.specs.KeyLooks.{AreLooks, Stops}
 
 -- the last actions of a pass that has the floor and writes no container were these loads
 pub record LooksWithFloor (w : View) (part : List Act) : Type 0 where

@@ -11,7 +11,7 @@ use Rattle.ft_trace.specs.declared.View.{View}
 use Rattle.ft_trace.specs.Acts.{has_lock}
 use Rattle.ft_trace.specs.Holds.{held}
 use Rattle.ft_trace.specs.Kinds.{under}
-use Rattle.ft_trace.specs.Words.{root_in}
+use Rattle.ft_trace.specs.Pictures.{root_in}
 
 -- the pass has the lock of the container o, whose root names the table t
 abbrev pub KnowsTable : ℕ → ℕ → View → Type 0

@@ -10,14 +10,14 @@ use Rattle.ft_model.specs.declared.script.Kind.TheVariants as kind
 use Rattle.ft_trace.specs.declared.Act.{Act}
 use Rattle.ft_trace.specs.declared.Act.TheVariants.{Version, ReadBlock, ReadCounter}
 use Rattle.ft_trace.specs.declared.View.{View}
-use Rattle.ft_trace.specs.Reading.{Between, Among}
+use Rattle.ft_trace.specs.LoggedReads.{Between, Among}
 use Rattle.ft_bank.specs.Answered.{Answered}
 use Rattle.ft_bank.specs.Whole.{OnlyLoaded}
 use Rattle.ft_section.specs.declared.answers.Look.{Look}
 use Rattle.ft_section.specs.declared.answers.Look.TheVariants as look
 use Rattle.ft_search.specs.declared.lens.Counted.{Counted}
 use Rattle.ft_search.specs.declared.lens.Counted.TheVariants.{Seen, Contended}
-use Rattle.ft_search.specs.Looks.{AreLooks}
+use Rattle.ft_search.specs.KeyLooks.{AreLooks}
 
 -- the call that asks how many pairs, items or elements the container o has, which is of this kind (Python manual,
 -- Built-in Functions: len)

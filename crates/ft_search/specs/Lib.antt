@@ -1,12 +1,12 @@
-pub mod Words
-pub mod Looks
+pub mod TableWords
+pub mod KeyLooks
 pub mod Rounds
 pub mod Held
 pub mod Tries
 pub mod Lengths
-pub mod Writing
+pub mod OneEntryWrites
 pub mod Spots
-pub mod Calls
-pub mod Costs
+pub mod MadeCalls
+pub mod SearchCosts
 pub mod Stays
 pub mod Floors

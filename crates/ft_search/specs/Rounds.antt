@@ -10,12 +10,12 @@ use Rattle.ft_trace.specs.declared.Act.{Act}
 use Rattle.ft_trace.specs.declared.Act.TheVariants.{ReadRoot, ReadTable, ReadCounter}
 use Rattle.ft_trace.specs.declared.Shape.{Shape}
 use Rattle.ft_trace.specs.Acts.{reads}
-use Rattle.ft_trace.specs.Addresses.{class_of, slots, IsTable}
-use Rattle.ft_trace.specs.Words.{entry_at, walk_of}
+use Rattle.ft_trace.specs.Addresses.{class_of, slots, IsTableName}
+use Rattle.ft_trace.specs.Pictures.{entry_offset, walk_of}
 use Rattle.ft_trace.specs.Kinds.{rows}
-use Rattle.ft_trace.specs.Worlds.{kind_in}
-use Rattle.ft_trace.specs.Reading.{Among}
-use Rattle.ft_trace.specs.Finding.{Inner, Passed, Window}
+use Rattle.ft_trace.specs.ContainerStates.{kind_in}
+use Rattle.ft_trace.specs.LoggedReads.{Among}
+use Rattle.ft_trace.specs.LoggedLookUps.{Inner, Passed, LookUpWindow}
 use Rattle.ft_bank.specs.declared.pass.Pass.{Pass}
 use Rattle.ft_bank.specs.Passes.{view}
 use Rattle.ft_bank.specs.Series.{DidAll}
@@ -23,8 +23,8 @@ use Rattle.ft_search.specs.declared.looks.Looked.{Looked}
 use Rattle.ft_search.specs.declared.looks.Looked.TheVariants.{Here, Absent, Contended}
 use Rattle.ft_search.specs.declared.rounds.Round.{Round}
 use Rattle.ft_search.specs.declared.rounds.Round.TheVariants.{Ended, Moved}
-use Rattle.ft_search.specs.declared.reading.Seen.{Seen}
-use Rattle.ft_search.specs.Looks.{AreLooks, ShowsHere, ShowsAbsent, StopsAtEntry, ShowsLooked}
+use Rattle.ft_search.specs.declared.reading.SeenEntry.{SeenEntry}
+use Rattle.ft_search.specs.KeyLooks.{AreLooks, ShowsHere, ShowsAbsent, StopsAtEntry, ShowsLooked}
 
 -- the kind of the containers that are searched this way
 abbrev pub kind_by : Way → Kind
@@ -32,14 +32,14 @@ kind_by way.Dict = kind.Dict
 kind_by way.Set = kind.Set
 
 -- the loads of an entry between two loads of its version, newest first
-abbrev pub seen_acts : ℕ → ℕ → Seen → List Act
-seen_acts t place seen =
-    ReadTable t (entry_at (slots (class_of t)) place 0) seen.closed
+abbrev pub entry_acts : ℕ → ℕ → SeenEntry → List Act
+entry_acts t place seen =
+    ReadTable t (entry_offset (slots (class_of t)) place 0) seen.closed
     ∷ (ReadCounter seen.number
-    ∷ (ReadTable t (entry_at (slots (class_of t)) place 5) seen.value
-    ∷ (ReadTable t (entry_at (slots (class_of t)) place 4) seen.value_kind
-    ∷ (ReadTable t (entry_at (slots (class_of t)) place 2) seen.key_kind
-    ∷ (ReadTable t (entry_at (slots (class_of t)) place 0) seen.opened ∷ [])))))
+    ∷ (ReadTable t (entry_offset (slots (class_of t)) place 5) seen.value
+    ∷ (ReadTable t (entry_offset (slots (class_of t)) place 4) seen.value_kind
+    ∷ (ReadTable t (entry_offset (slots (class_of t)) place 2) seen.key_kind
+    ∷ (ReadTable t (entry_offset (slots (class_of t)) place 0) seen.opened ∷ [])))))
 
 -- these slots of the key's probe are left, and the others were passed by right
 pub record Walked (k : Shape) (o t : ℕ) (key : Key) (part : List Act) (left : List ℕ) : Type 0 where
@@ -50,16 +50,17 @@ pub record Walked (k : Shape) (o t : ℕ) (key : Key) (part : List Act) (left : 
 -- what these loads of the table t show of the key, once the root is read again and still names the table
 abbrev pub ClosesAt : Shape → ℕ → ℕ → Key → List Act → Looked → Type 0
 ClosesAt k o t key part (Here value_kind value n) =
-    ((log : List Act) → Window log o t part → ShowsHere k o key value_kind value n log) × Among (ReadCounter n) part
+    ((log : List Act) → LookUpWindow log o t part → ShowsHere k o key value_kind value n log)
+    × Among (ReadCounter n) part
 ClosesAt k o t key part (Absent n) =
-    ((log : List Act) → Window log o t part → ShowsAbsent k o key n log) × Among (ReadCounter n) part
+    ((log : List Act) → LookUpWindow log o t part → ShowsAbsent k o key n log) × Among (ReadCounter n) part
 ClosesAt k o t key part (Contended a b) = StopsAtEntry k o t key a b part
 
 -- the loads by which a search met an entry of the key, of this kind, newest first, after earlier loads
 abbrev pub met_acts : ℕ → ℕ → ℕ → Key → ℕ → List Act → List Act
 met_acts t slot place key found earlier =
-    ReadTable t (entry_at (slots (class_of t)) place 3) (key_payload key)
-    ∷ (ReadTable t (entry_at (slots (class_of t)) place 2) found ∷ (ReadTable t slot (suc place) ∷ earlier))
+    ReadTable t (entry_offset (slots (class_of t)) place 3) (key_payload key)
+    ∷ (ReadTable t (entry_offset (slots (class_of t)) place 2) found ∷ (ReadTable t slot (suc place) ∷ earlier))
 
 -- after these loads of the table t the walk goes on, with these slots left, or the look-up ends so
 abbrev pub Turns : Shape → ℕ → ℕ → Key → List Act → List ℕ → Option Looked → Type 0
@@ -74,7 +75,7 @@ TurnsAfter k o t key earlier left result p q =
 -- after these loads the root was read again: it names the table as before, or it has changed to r, which names none or
 -- a table that the pass had not found since it last announced
 abbrev pub IsFresh : Shape → ℕ → List Act → Type 0
-IsFresh k r log = (u : ℕ) → r ≡ suc u → IsTable k u × (reads u log ≡ false)
+IsFresh k r log = (u : ℕ) → r ≡ suc u → IsTableName k u × (reads u log ≡ false)
 
 -- a round over the table t, which the last read of the root named
 abbrev pub EndsTable : Shape → ℕ → Key → ℕ → Pass → Pass → Round → Type 0

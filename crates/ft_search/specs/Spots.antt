@@ -6,19 +6,19 @@ use Rattle.ft_layout.specs.Tables.{hash_of}
 use Rattle.ft_keys.specs.declared.search.Found.{Found}
 use Rattle.ft_keys.specs.declared.search.Found.TheVariants as found
 use Rattle.ft_keys.specs.declared.walk.Way.{Way}
-use Rattle.ft_keys.specs.Changes.{FirstFree}
+use Rattle.ft_keys.specs.TableChanges.{FirstFree}
 use Rattle.ft_keys.specs.Ways.{walk_slots}
 use Rattle.ft_trace.specs.declared.Shape.{Shape}
 use Rattle.ft_trace.specs.declared.View.{View}
 use Rattle.ft_trace.specs.Addresses.{class_of, slots}
 use Rattle.ft_trace.specs.Holds.{held, known}
-use Rattle.ft_trace.specs.Words.{root_in, entry_of}
+use Rattle.ft_trace.specs.Pictures.{root_in, entry_field}
 use Rattle.ft_bank.specs.declared.table.Table.{Table}
-use Rattle.ft_bank.specs.Tables.{name_of}
+use Rattle.ft_bank.specs.TableNames.{name_of}
 use Rattle.ft_search.specs.declared.spots.Spot.{Spot}
 use Rattle.ft_search.specs.declared.spots.Spot.TheVariants as spot
 use Rattle.ft_search.specs.Held.{IsHeldAt}
-use Rattle.ft_search.specs.Writing.{HasTable, IsEntryOf}
+use Rattle.ft_search.specs.OneEntryWrites.{HasTable, IsLiveEntry}
 
 -- what the end of a search and the words that were read there come to; no search under the lock ends otherwise
 abbrev pub spot_in : Table → Found → Option (ℕ × ℕ) → Spot
@@ -30,9 +30,9 @@ spot_in table found read = spot.Bare
 -- isn't, and this slot is the first for it in that table that was never used; or it isn't, and there is no table.
 abbrev pub IsSpot : Shape → ℕ → Way → Key → View → Spot → Type 0
 IsSpot k o way key v (spot.At table place kind payload) =
-    HasTable k o table v × IsEntryOf k o table place key v × IsHeldAt (known o v).content key (Some (kind, payload))
-    × (kind ≡ entry_of (slots (class_of (name_of table))) (held o v).table place 4)
-    × (payload ≡ entry_of (slots (class_of (name_of table))) (held o v).table place 5)
+    HasTable k o table v × IsLiveEntry k o table place key v × IsHeldAt (known o v).content key (Some (kind, payload))
+    × (kind ≡ entry_field (slots (class_of (name_of table))) (held o v).table place 4)
+    × (payload ≡ entry_field (slots (class_of (name_of table))) (held o v).table place 5)
 IsSpot k o way key v (spot.Free table slot) =
     HasTable k o table v × (slot ≤ class_mask table.class)
     × FirstFree (0 ∷ 0 ∷ (held o v).table) (walk_slots way (hash_of k.texts key) (class_mask table.class)) (Some slot)

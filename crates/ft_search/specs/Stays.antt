@@ -4,9 +4,9 @@ use Rattle.ft_trace.specs.declared.Act.{Act}
 use Rattle.ft_trace.specs.declared.Act.TheVariants.{ReadRoot, ReadTable}
 use Rattle.ft_trace.specs.declared.View.{View}
 use Rattle.ft_trace.specs.Addresses.{class_of, slots}
-use Rattle.ft_trace.specs.Finding.{Online}
+use Rattle.ft_trace.specs.LoggedLookUps.{Online}
 use Rattle.ft_trace.specs.Kinds.{IsKeyed}
-use Rattle.ft_trace.specs.Worlds.{kind_in}
+use Rattle.ft_trace.specs.ContainerStates.{kind_in}
 
 -- An index word that the pass found used it finds the same ever after, where the root of the dict or set named the
 -- table before and the pass has announced nothing in between, whether the root names the table still or not.

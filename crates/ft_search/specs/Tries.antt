@@ -11,7 +11,8 @@ use Rattle.ft_trace.specs.declared.View.{View}
 use Rattle.ft_trace.specs.Owners.{SameOwners}
 use Rattle.ft_bank.specs.Answered.{Answered}
 
--- the pass took the lock of the container o, gave this reply with this stamp, which it loaded while it had it, and let go of it
+-- the pass took the lock of the container o, gave this reply with this stamp, which it loaded while it had it, and let
+-- go of it
 pub record ReadUnderLock (o : ℕ) (called : Call) (said : Reply) (number : ℕ) (v w : View) : Type 0 where
   pub before : View
   pub after : View

@@ -1,8 +1,8 @@
 //! What calls answer under their locks: those that turn out to be no write, and those that are one.
 ghost use Rattle.std.specs.Prelude.{◌≡◌, ◌<◌, true};
 ghost use Rattle.ft_bank.specs.Passes.{view, IsPassOf};
-ghost use Rattle.ft_bank.specs.Sections.{stack_of};
-ghost use Rattle.ft_search.specs.Calls.{IsShownBy, MadeAs};
+ghost use Rattle.ft_bank.specs.PassSections.{stack_of};
+ghost use Rattle.ft_search.specs.MadeCalls.{IsShownBy, MadeAs};
 
 use crate::looks::answer_held;
 use ft_bank::{Bank, Pass};

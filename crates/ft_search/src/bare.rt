@@ -8,7 +8,7 @@ ghost use Rattle.ft_trace.specs.Acts.{announces};
 ghost use Rattle.ft_trace.specs.Addresses.{containers_in};
 ghost use Rattle.ft_bank.specs.Passes.{shape_of, view, IsPassOf};
 ghost use Rattle.ft_keys.specs.declared.walk.Way.{Way};
-ghost use Rattle.ft_search.specs.Costs.{SpendsRound};
+ghost use Rattle.ft_search.specs.SearchCosts.{SpendsRound};
 ghost use Rattle.ft_search.specs.Rounds.{EndsRound};
 
 use crate::looks::Looked;

@@ -5,14 +5,14 @@ ghost use Rattle.ft_trace.specs.Acts.{has_committed};
 ghost use Rattle.ft_trace.specs.Addresses.{class_of};
 ghost use Rattle.ft_trace.specs.Holds.{held, known};
 ghost use Rattle.ft_trace.specs.Kinds.{rows};
-ghost use Rattle.ft_trace.specs.Words.{root_in};
-ghost use Rattle.ft_trace.specs.Worlds.{kind_in};
-ghost use Rattle.ft_trace.specs.Writes.{MayPuts, with_puts};
+ghost use Rattle.ft_trace.specs.Pictures.{root_in};
+ghost use Rattle.ft_trace.specs.ContainerStates.{kind_in};
+ghost use Rattle.ft_trace.specs.WholeWrites.{MayPuts, with_puts};
 ghost use Rattle.ft_bank.specs.Passes.{shape_of, view, IsPassOf};
-ghost use Rattle.ft_bank.specs.Sections.{stack_of};
-ghost use Rattle.ft_bank.specs.Tables.{name_of};
+ghost use Rattle.ft_bank.specs.PassSections.{stack_of};
+ghost use Rattle.ft_bank.specs.TableNames.{name_of};
 ghost use Rattle.ft_bank.specs.Whole.{OnlyPut, Wrote};
-ghost use Rattle.ft_search.specs.Writing.{HasTable, IsEntryOf, Leaves, MayWriteEntries, WritesEntries, deletion, without_key};
+ghost use Rattle.ft_search.specs.OneEntryWrites.{HasTable, IsLiveEntry, Leaves, MayWriteEntries, WritesEntries, deletion, without_key};
 
 use crate::entries::{put_entry, raise_version};
 use crate::finishing::finish_entry;
@@ -71,7 +71,7 @@ pub fn delete_entry(
     requires pass { IsPassOf bank.now pass.old }
     requires may { MayWriteEntries (shape_of bank.now) o (view pass.old) }
     requires table { HasTable (shape_of bank.now) o table (view pass.old) }
-    requires entry { IsEntryOf (shape_of bank.now) o table place key (view pass.old) }
+    requires entry { IsLiveEntry (shape_of bank.now) o table place key (view pass.old) }
     requires leaves { Leaves o called.now said.now
         (record { content = without_key (known o (view pass.old)).content key; table = (known o (view pass.old)).table })
         (view pass.old) }

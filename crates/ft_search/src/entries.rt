@@ -4,14 +4,14 @@ ghost use Rattle.std.specs.Prelude.{◌≡◌, ℕ, suc, ◌+◌, ◌*◌, ◌<�
 ghost use Rattle.ft_trace.specs.Addresses.{class_of, slots};
 ghost use Rattle.ft_trace.specs.Holds.{held};
 ghost use Rattle.ft_trace.specs.Kinds.{rows};
-ghost use Rattle.ft_trace.specs.Words.{entry_at, entry_of};
-ghost use Rattle.ft_trace.specs.Worlds.{kind_in};
+ghost use Rattle.ft_trace.specs.Pictures.{entry_offset, entry_field};
+ghost use Rattle.ft_trace.specs.ContainerStates.{kind_in};
 ghost use Rattle.ft_bank.specs.Passes.{shape_of, view, IsPassOf};
-ghost use Rattle.ft_bank.specs.Sections.{stack_of};
-ghost use Rattle.ft_bank.specs.Tables.{name_of};
+ghost use Rattle.ft_bank.specs.PassSections.{stack_of};
+ghost use Rattle.ft_bank.specs.TableNames.{name_of};
 ghost use Rattle.ft_bank.specs.Whole.{OnlyLoaded, OnlyPut};
-ghost use Rattle.ft_bank.specs.Writes.{IsCareful, with_table};
-ghost use Rattle.ft_search.specs.Writing.{WritesEntries, raised_at};
+ghost use Rattle.ft_bank.specs.WriteSteps.{IsCareful, with_table};
+ghost use Rattle.ft_search.specs.OneEntryWrites.{WritesEntries, raised_at};
 
 use crate::tables::mask_of;
 use ft_bank::{Bank, Pass, Table};
@@ -45,7 +45,7 @@ pub(crate) fn read_entry(
     ensures writes { WritesEntries (shape_of bank.now) o table (view pass.new) }
     ensures only { OnlyLoaded (view pass.old) (view pass.new) }
     ensures held { held o (view pass.new) ≡ held o (view pass.old) }
-    ensures found { result ≡ entry_of (slots (class_of (name_of table))) (held o (view pass.old)).table place word }
+    ensures found { result ≡ entry_field (slots (class_of (name_of table))) (held o (view pass.old)).table place word }
 {
     let _ = o;
     let at = word_at(mask_of(table.class), place, word);
@@ -66,14 +66,14 @@ pub(crate) fn put_entry(
     requires writes { WritesEntries (shape_of bank.now) o table (view pass.old) }
     requires place { place < rows (kind_in (shape_of bank.now).kinds o) (class_of (name_of table)) }
     requires word { word < 8 }
-    requires care { IsCareful (view pass.old) o (name_of table) (entry_at (slots (class_of (name_of table))) place word)
+    requires care { IsCareful (view pass.old) o (name_of table) (entry_offset (slots (class_of (name_of table))) place word)
         value }
     ensures pass { IsPassOf bank.now pass.new }
     ensures stack { stack_of pass.new ≡ stack_of pass.old }
     ensures writes { WritesEntries (shape_of bank.now) o table (view pass.new) }
     ensures only { OnlyPut o (view pass.old) (view pass.new) }
     ensures words { held o (view pass.new)
-        ≡ with_table (held o (view pass.old)) (entry_at (slots (class_of (name_of table))) place word) value }
+        ≡ with_table (held o (view pass.old)) (entry_offset (slots (class_of (name_of table))) place word) value }
 {
     let at = word_at(mask_of(table.class), place, word);
     bank.put_table(pass, o, table, at, value);
@@ -84,8 +84,8 @@ pub fn raise_version(bank: &Bank, pass: &mut Pass, o: u32, table: Table, place: 
     requires pass { IsPassOf bank.now pass.old }
     requires writes { WritesEntries (shape_of bank.now) o table (view pass.old) }
     requires place { place < rows (kind_in (shape_of bank.now).kinds o) (class_of (name_of table)) }
-    requires care { IsCareful (view pass.old) o (name_of table) (entry_at (slots (class_of (name_of table))) place 0)
-        (entry_of (slots (class_of (name_of table))) (held o (view pass.old)).table place 0 + 1) }
+    requires care { IsCareful (view pass.old) o (name_of table) (entry_offset (slots (class_of (name_of table))) place 0)
+        (entry_field (slots (class_of (name_of table))) (held o (view pass.old)).table place 0 + 1) }
     ensures pass { IsPassOf bank.now pass.new }
     ensures stack { stack_of pass.new ≡ stack_of pass.old }
     ensures writes { WritesEntries (shape_of bank.now) o table (view pass.new) }

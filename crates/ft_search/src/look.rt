@@ -7,15 +7,15 @@ ghost use Rattle.ft_layout.specs.Words.{FitsKey};
 ghost use Rattle.ft_trace.specs.declared.Act.{Act};
 ghost use Rattle.ft_trace.specs.declared.Act.TheVariants.{ReadRoot};
 ghost use Rattle.ft_trace.specs.Acts.{announces};
-ghost use Rattle.ft_trace.specs.Addresses.{containers_in, IsTable};
-ghost use Rattle.ft_trace.specs.Worlds.{kind_in};
+ghost use Rattle.ft_trace.specs.Addresses.{containers_in, IsTableName};
+ghost use Rattle.ft_trace.specs.ContainerStates.{kind_in};
 ghost use Rattle.ft_bank.specs.Passes.{shape_of, view, IsPassOf};
 ghost use Rattle.ft_bank.specs.Series.{DidAll};
 ghost use Rattle.ft_bank.specs.KeyHashes.{IsKeyIn};
-ghost use Rattle.ft_bank.specs.Tables.{name_of, IsTableIn};
+ghost use Rattle.ft_bank.specs.TableNames.{name_of, IsTableIn};
 ghost use Rattle.ft_bank.specs.Whole.{OnlyLoaded};
-ghost use Rattle.ft_search.specs.Costs.{LoadsRounds, SpendsRound};
-ghost use Rattle.ft_search.specs.Looks.{AreLooks, ShowsLooked};
+ghost use Rattle.ft_search.specs.SearchCosts.{LoadsRounds, SpendsRound};
+ghost use Rattle.ft_search.specs.KeyLooks.{AreLooks, ShowsLooked};
 ghost use Rattle.ft_search.specs.Rounds.{kind_by, EndsTable, EndsRound};
 
 use crate::bare::look_bare;
@@ -80,7 +80,7 @@ fn look_round(
     requires way { kind_in (shape_of bank.now).kinds o ≡ kind_by way }
     requires hash { hash ≡ hash_of (shape_of bank.now).texts key }
     requires online { 0 < announces (view pass.old).log }
-    requires table { (t : ℕ) → root ≡ suc t → IsTable (shape_of bank.now) t }
+    requires table { (t : ℕ) → root ≡ suc t → IsTableName (shape_of bank.now) t }
     requires last { (rest : List Act) × ((view pass.old).log ≡ ReadRoot o root ∷ rest) }
     ensures pass { IsPassOf bank.now pass.new }
     ensures ended { EndsRound (shape_of bank.now) o key root pass.old pass.new result }

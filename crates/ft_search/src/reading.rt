@@ -7,14 +7,14 @@ ghost use Rattle.ft_keys.specs.Searches.{IsWithin};
 ghost use Rattle.ft_keys.specs.Loads.{Loads};
 ghost use Rattle.ft_trace.specs.declared.Act.TheVariants.{ReadRoot, ReadTable, ReadCounter};
 ghost use Rattle.ft_trace.specs.Acts.{announces};
-ghost use Rattle.ft_trace.specs.Addresses.{class_of, slots, IsTable};
-ghost use Rattle.ft_trace.specs.Words.{entry_at};
-ghost use Rattle.ft_trace.specs.Finding.{IsNew};
+ghost use Rattle.ft_trace.specs.Addresses.{class_of, slots, IsTableName};
+ghost use Rattle.ft_trace.specs.Pictures.{entry_offset};
+ghost use Rattle.ft_trace.specs.LoggedLookUps.{IsNew};
 ghost use Rattle.ft_bank.specs.Passes.{shape_of, view};
 ghost use Rattle.ft_bank.specs.Series.{DidAll};
-ghost use Rattle.ft_bank.specs.Tables.{name_of};
-ghost use Rattle.ft_search.specs.Words.{CanLoad, SamePlace, act_of};
-ghost use Rattle.ft_search.specs.Rounds.{seen_acts};
+ghost use Rattle.ft_bank.specs.TableNames.{name_of};
+ghost use Rattle.ft_search.specs.TableWords.{CanLoad, SamePlace, access_act};
+ghost use Rattle.ft_search.specs.Rounds.{entry_acts};
 
 use crate::words::TableWords;
 use ft_keys::{Found, Steps, Walk, Words, find};
@@ -24,7 +24,7 @@ use std::sync::ledger::{Blank, Ledger};
 
 /// What was loaded of an entry, in the order of the loads: its version, words, the counter, its version.
 #[derive(Clone, Copy)]
-pub(crate) struct Seen {
+pub(crate) struct SeenEntry {
     /// The version at first.
     pub(crate) opened: u64,
     /// The kind of the key.
@@ -39,7 +39,7 @@ pub(crate) struct Seen {
     pub(crate) closed: u64,
 }
 
-impl Seen {
+impl SeenEntry {
     /// Whether the version was even, and the same both times: nobody wrote the entry meanwhile.
     pub(crate) fn stood(&self) -> bool
         ensures yes { IsTrue result → (self.now.closed ≡ self.now.opened) × (self.now.opened % 2 ≡ 0) }
@@ -66,7 +66,7 @@ impl<'a> TableWords<'a> {
         ensures count { walk.new.passed + length walk.new.left ≡ walk.old.passed + length walk.old.left }
         ensures within { IsWithin self.old.mask result }
         ensures loads { (calls : List Access)
-            × DidAll (map (act_of self.old.o (name_of self.old.table)) calls) self.old.pass.now self.new.pass.now
+            × DidAll (map (access_act self.old.o (name_of self.old.table)) calls) self.old.pass.now self.new.pass.now
             × Loads self.old.mask key walk.old.left walk.new.left result calls }
     {
         let mut steps: Steps<L> = Steps::new(blank);
@@ -90,19 +90,19 @@ impl<'a> TableWords<'a> {
         ensures can { CanLoad self.new }
         ensures same { SamePlace self.old self.new }
         ensures did { DidAll (ReadTable (name_of self.old.table)
-            (entry_at (slots (class_of (name_of self.old.table))) place word) result ∷ []) self.old.pass.now self.new.pass.now }
+            (entry_offset (slots (class_of (name_of self.old.table))) place word) result ∷ []) self.old.pass.now self.new.pass.now }
     {
         self.entry(place, word)
     }
 
     /// Loads an entry's words between two loads of its version.
     #[inline(always)]
-    pub(crate) fn read_between(&mut self, place: u64) -> Seen
+    pub(crate) fn read_between(&mut self, place: u64) -> SeenEntry
         requires can { CanLoad self.old }
         requires place { place < dict_room self.old.mask }
         ensures can { CanLoad self.new }
         ensures same { SamePlace self.old self.new }
-        ensures did { DidAll (seen_acts (name_of self.old.table) place result) self.old.pass.now self.new.pass.now }
+        ensures did { DidAll (entry_acts (name_of self.old.table) place result) self.old.pass.now self.new.pass.now }
     {
         let opened = self.word(place, VERSION);
         let key_kind = self.word(place, KEY_KIND);
@@ -110,7 +110,7 @@ impl<'a> TableWords<'a> {
         let value = self.word(place, VALUE);
         let number = self.stamp();
         let closed = self.word(place, VERSION);
-        Seen {
+        SeenEntry {
             opened,
             key_kind,
             value_kind,
@@ -127,7 +127,7 @@ impl<'a> TableWords<'a> {
         ensures can { CanLoad self.new }
         ensures same { SamePlace self.old self.new }
         ensures did { DidAll (ReadRoot self.old.o result ∷ []) self.old.pass.now self.new.pass.now }
-        ensures table { (t : ℕ) → result ≡ suc t → IsTable (shape_of self.old.bank.now) t }
+        ensures table { (t : ℕ) → result ≡ suc t → IsTableName (shape_of self.old.bank.now) t }
         ensures changed { IsNew self.old.o result (view self.old.pass.now).log }
     {
         self.bank.read_root(self.pass, self.o)

@@ -2,16 +2,16 @@
 ghost use Rattle.std.specs.Prelude.{◌≡◌, List, ◌++◌};
 ghost use Rattle.ft_layout.specs.Tables.{hash_of};
 ghost use Rattle.ft_layout.specs.Words.{FitsKey};
-ghost use Rattle.ft_trace.specs.Worlds.{kind_in};
+ghost use Rattle.ft_trace.specs.ContainerStates.{kind_in};
 ghost use Rattle.ft_bank.specs.KeyHashes.{IsKeyIn};
 ghost use Rattle.ft_bank.specs.Passes.{shape_of, view, IsPassOf};
-ghost use Rattle.ft_bank.specs.Sections.{stack_of};
+ghost use Rattle.ft_bank.specs.PassSections.{stack_of};
 ghost use Rattle.ft_bank.specs.Whole.{OnlyLoaded};
 ghost use Rattle.ft_trace.specs.declared.Act.{Act};
-ghost use Rattle.ft_search.specs.Costs.{AreFewReads};
+ghost use Rattle.ft_search.specs.SearchCosts.{AreFewReads};
 ghost use Rattle.ft_search.specs.Rounds.{kind_by};
 ghost use Rattle.ft_search.specs.Spots.{IsSpot, spot_in};
-ghost use Rattle.ft_search.specs.Writing.{MayWriteEntries};
+ghost use Rattle.ft_search.specs.OneEntryWrites.{MayWriteEntries};
 
 use crate::held::{ROOT, read_by};
 use crate::look::key_fits;

@@ -9,15 +9,15 @@ ghost use Rattle.ft_trace.specs.Addresses.{class_of, slots};
 ghost use Rattle.ft_trace.specs.EntryWrites.{value_puts};
 ghost use Rattle.ft_trace.specs.Holds.{held, known};
 ghost use Rattle.ft_trace.specs.Kinds.{rows};
-ghost use Rattle.ft_trace.specs.Words.{entry_at, entry_of, root_in};
-ghost use Rattle.ft_trace.specs.Worlds.{kind_in};
-ghost use Rattle.ft_trace.specs.Writes.{MayPuts, with_puts};
+ghost use Rattle.ft_trace.specs.Pictures.{entry_offset, entry_field, root_in};
+ghost use Rattle.ft_trace.specs.ContainerStates.{kind_in};
+ghost use Rattle.ft_trace.specs.WholeWrites.{MayPuts, with_puts};
 ghost use Rattle.ft_bank.specs.Passes.{shape_of, view, IsPassOf};
-ghost use Rattle.ft_bank.specs.Sections.{stack_of};
-ghost use Rattle.ft_bank.specs.Tables.{name_of};
+ghost use Rattle.ft_bank.specs.PassSections.{stack_of};
+ghost use Rattle.ft_bank.specs.TableNames.{name_of};
 ghost use Rattle.ft_bank.specs.Whole.{OnlyPut, Wrote};
-ghost use Rattle.ft_bank.specs.Writes.{IsCareful, with_table};
-ghost use Rattle.ft_search.specs.Writing.{HasTable, IsEntryOf, Leaves, MayWriteEntries, WritesEntries, with_value_at};
+ghost use Rattle.ft_bank.specs.WriteSteps.{IsCareful, with_table};
+ghost use Rattle.ft_search.specs.OneEntryWrites.{HasTable, IsLiveEntry, Leaves, MayWriteEntries, WritesEntries, with_value_at};
 
 use crate::entries::{put_entry, raise_version};
 use crate::finishing::finish_entry;
@@ -43,15 +43,15 @@ fn put_other(
     requires writes { WritesEntries (shape_of bank.now) o table (view pass.old) }
     requires place { place < rows (kind_in (shape_of bank.now).kinds o) (class_of (name_of table)) }
     requires word { word < 8 }
-    requires found { found ≡ entry_of (slots (class_of (name_of table))) (held o (view pass.old)).table place word }
-    requires care { IsCareful (view pass.old) o (name_of table) (entry_at (slots (class_of (name_of table))) place word)
+    requires found { found ≡ entry_field (slots (class_of (name_of table))) (held o (view pass.old)).table place word }
+    requires care { IsCareful (view pass.old) o (name_of table) (entry_offset (slots (class_of (name_of table))) place word)
         value }
     ensures pass { IsPassOf bank.now pass.new }
     ensures stack { stack_of pass.new ≡ stack_of pass.old }
     ensures writes { WritesEntries (shape_of bank.now) o table (view pass.new) }
     ensures only { OnlyPut o (view pass.old) (view pass.new) }
     ensures words { held o (view pass.new)
-        ≡ with_table (held o (view pass.old)) (entry_at (slots (class_of (name_of table))) place word) value }
+        ≡ with_table (held o (view pass.old)) (entry_offset (slots (class_of (name_of table))) place word) value }
 {
     if found != value {
         put_entry(bank, pass, o, table, place, word, value);
@@ -73,8 +73,8 @@ pub fn put_value(
     requires writes { WritesEntries (shape_of bank.now) o table (view pass.old) }
     requires place { place < rows (kind_in (shape_of bank.now).kinds o) (class_of (name_of table)) }
     requires early { has_committed o (view pass.old).log ≡ false }
-    requires old_kind { old.0 ≡ entry_of (slots (class_of (name_of table))) (held o (view pass.old)).table place 4 }
-    requires old_payload { old.1 ≡ entry_of (slots (class_of (name_of table))) (held o (view pass.old)).table place 5 }
+    requires old_kind { old.0 ≡ entry_field (slots (class_of (name_of table))) (held o (view pass.old)).table place 4 }
+    requires old_payload { old.1 ≡ entry_field (slots (class_of (name_of table))) (held o (view pass.old)).table place 5 }
     requires may { MayPuts (kind_in (shape_of bank.now).kinds o) (name_of table) (known o (view pass.old)).content false
         (held o (view pass.old))
         (value_puts (slots (class_of (name_of table))) (held o (view pass.old)).table place value) }
@@ -130,9 +130,9 @@ pub fn set_entry(
     requires may { MayWriteEntries (shape_of bank.now) d (view pass.old) }
     requires dict { kind_in (shape_of bank.now).kinds d ≡ kind.Dict }
     requires table { HasTable (shape_of bank.now) d table (view pass.old) }
-    requires entry { IsEntryOf (shape_of bank.now) d table place key (view pass.old) }
-    requires old_kind { old.0 ≡ entry_of (slots (class_of (name_of table))) (held d (view pass.old)).table place 4 }
-    requires old_payload { old.1 ≡ entry_of (slots (class_of (name_of table))) (held d (view pass.old)).table place 5 }
+    requires entry { IsLiveEntry (shape_of bank.now) d table place key (view pass.old) }
+    requires old_kind { old.0 ≡ entry_field (slots (class_of (name_of table))) (held d (view pass.old)).table place 4 }
+    requires old_payload { old.1 ≡ entry_field (slots (class_of (name_of table))) (held d (view pass.old)).table place 5 }
     requires value { FitsStored (Plain value) }
     requires leaves { Leaves d called.now said.now (record {
       content = with_value_at (known d (view pass.old)).content key value;

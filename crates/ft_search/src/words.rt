@@ -22,7 +22,7 @@ pub struct TableWords<'a> {
 }
 
 impl<'a> Words for TableWords<'a> {
-    ghost use Rattle.ft_search.specs.Words.{CanLoad, MayPutAny, MayMake, Made};
+    ghost use Rattle.ft_search.specs.TableWords.{CanLoad, MayPutAny, MayMake, MadeAccess};
 
     ghost can = { CanLoad };
 
@@ -32,7 +32,7 @@ impl<'a> Words for TableWords<'a> {
 
     ghost mask = { λ words. words.mask };
 
-    ghost gave = { Made };
+    ghost gave = { MadeAccess };
 
     fn index(&mut self, slot: u64) -> u64 {
         self.bank.read_word(self.pass, self.table, self.start, slot)

@@ -7,10 +7,10 @@ use Rattle.ft_bank.specs.declared.bank.Bank.{Bank}
 use Rattle.ft_bank.specs.declared.pass.Pass.{Pass}
 use Rattle.ft_bank.specs.declared.sections.OpenSection.{OpenSection}
 use Rattle.ft_bank.specs.Passes.{view}
-use Rattle.ft_bank.specs.Sections.{Stack, stack_of, taken_in, noted_in, no_sections}
+use Rattle.ft_bank.specs.PassSections.{Stack, stack_of, taken_in, noted_in, no_sections}
 use Rattle.ft_section.specs.Ready.{InCall, IsInCall, IsReady, AreBegun, lock_count}
 use Rattle.ft_section.specs.Locking.{LetGo, MayLetGo}
-use Rattle.ft_section.specs.LockTakings.{IsTaking}
+use Rattle.ft_section.specs.LockTakings.{IsLockTaking}
 use Rattle.ft_section.proofs.Goings.{went}
 use Rattle.ft_section.proofs.InCalls.{one_if, has_counted}
 use Rattle.ft_section.proofs.Resumes.{push_some, none_some}
@@ -18,7 +18,7 @@ use Rattle.ft_trace.specs.declared.Shape.{Shape}
 use Rattle.ft_trace.specs.declared.View.{View}
 use Rattle.ft_trace.specs.Addresses.{containers_in}
 use Rattle.ft_trace.specs.Acts.{has_lock, is_writing}
-use Rattle.ft_trace.specs.Sections.{Begun, begun}
+use Rattle.ft_trace.specs.BegunSections.{Begun, begun}
 
 -- all locks that are noted
 abbrev pub all_noted : Stack → ℕ → ℕ
@@ -51,7 +51,7 @@ none_left v w s i go o = not_counted (has_lock o w.log) (let a = i.locks o in le
 pub dropped : (b : Bank) (p q : Pass) → IsInCall b p → q.seat.table_id ≡ p.seat.table_id → stack_of q ≡ no_sections → LetGo (all_noted (stack_of p)) (view p) (view q) → IsReady b q
 dropped b p q i table put go =
     let inside : InCall (view q) no_sections = went (view p) (view q) (stack_of p) no_sections (all_noted (stack_of p)) i.1 go (λ o. omega arith)
-    (All-nil (λ x. IsTaking (view p).shape x.locks)) (none_begun (begun (view p).log)) (λ o some_one. refl) (λ a e. absurd (none_some a e)) in
+    (All-nil (λ x. IsLockTaking (view p).shape x.locks)) (none_begun (begun (view p).log)) (λ o some_one. refl) (λ a e. absurd (none_some a e)) in
     record {
       inside = ((table ∙ i.0.0, go.locked.shape ∙ i.0.1), subst (InCall (view q)) (sym put) inside);
       own = ap (λ (x : Stack). x.own) put;

@@ -7,13 +7,13 @@ use Rattle.ft_bank.specs.declared.bank.Bank.{Bank}
 use Rattle.ft_bank.specs.declared.pass.Pass.{Pass}
 use Rattle.ft_bank.specs.declared.sections.OpenSection.{OpenSection}
 use Rattle.ft_bank.specs.Passes.{view}
-use Rattle.ft_bank.specs.Sections.{Stack, stack_of, taken_in, noted_in}
+use Rattle.ft_bank.specs.PassSections.{Stack, stack_of, taken_in, noted_in}
 use Rattle.ft_model.specs.declared.call.Call.TheVariants as call
 use Rattle.ft_model.specs.declared.reply.Reply.{Reply}
 use Rattle.ft_section.specs.Ready.{InCall, IsReady, AreBegun, IsBegun, lock_count}
 use Rattle.ft_section.specs.Locking.{LetGo, MayLetGo}
 use Rattle.ft_section.specs.Sectioning.{answered_view}
-use Rattle.ft_section.specs.LockTakings.{IsTaking}
+use Rattle.ft_section.specs.LockTakings.{IsLockTaking}
 use Rattle.ft_section.proofs.InCalls.{has_counted}
 use Rattle.ft_section.proofs.Goings.{went_from, count_least}
 use Rattle.ft_section.proofs.Resumes.{push_some, noted_push, none_some}
@@ -21,7 +21,7 @@ use Rattle.ft_trace.specs.declared.Shape.{Shape}
 use Rattle.ft_trace.specs.declared.View.{View}
 use Rattle.ft_trace.specs.Addresses.{containers_in}
 use Rattle.ft_trace.specs.Acts.{is_writing}
-use Rattle.ft_trace.specs.Sections.{Begun, begun}
+use Rattle.ft_trace.specs.BegunSections.{Begun, begun}
 
 -- what the innermost section took is noted by no section round it
 pub top_struck : (v : View) (s : Stack) (outer : List OpenSection) (top : OpenSection) → InCall v s → s.sections ≡ outer ++ top ∷ [] → (o : ℕ) → taken_in o top.locks ≢ 0 → noted_in o outer ≡ 0
@@ -76,7 +76,7 @@ ended b p w outer top said n r split go =
       stands = i.still.stands;
     }) i.locks i.low go
     (λ o. let e = ap (noted_in o) split ∙ noted_push o outer top in omega (arith, e))
-    ((All-pop (λ x. IsTaking v.shape x.locks) s.sections outer (Some top) split i.sections).0)
+    ((All-pop (λ x. IsLockTaking v.shape x.locks) s.sections outer (Some top) split i.sections).0)
     (begun_outer (begun v.log) outer top (subst (λ (xs : List OpenSection). AreBegun xs (begun v.log)) split i.begun))
     (top_struck v s outer top i split)
     (λ q e. absurd (none_some q (sym r.mark ∙ e)))

@@ -4,11 +4,11 @@ use Rattle.std.proofs.lemmas.Bool.{false≢true}
 use Rattle.std.proofs.lemmas.List.Elements.{All-nil}
 use Rattle.ft_bank.specs.declared.bank.Bank.{Bank}
 use Rattle.ft_bank.specs.declared.pass.Pass.{Pass}
-use Rattle.ft_bank.specs.Openings.{IsOpening, opening_view}
+use Rattle.ft_bank.specs.NewPasses.{IsOpening, opening_view}
 use Rattle.ft_bank.specs.Passes.{shape_of, view}
-use Rattle.ft_bank.specs.Sections.{Stack, no_sections}
+use Rattle.ft_bank.specs.PassSections.{Stack, no_sections}
 use Rattle.ft_section.specs.Ready.{InCall, IsReady}
-use Rattle.ft_section.specs.LockTakings.{IsTaking}
+use Rattle.ft_section.specs.LockTakings.{IsLockTaking}
 use Rattle.ft_section.proofs.Resumes.{push_some, none_some}
 use Rattle.ft_trace.specs.declared.Shape.{Shape}
 use Rattle.ft_trace.specs.declared.View.{View}
@@ -26,7 +26,7 @@ fresh_in_call k i =
       };
       locks = λ o. refl;
       low = λ o has. absurd (false≢true has);
-      sections = All-nil (λ x. IsTaking k x.locks);
+      sections = All-nil (λ x. IsLockTaking k x.locks);
       begun = refl;
       marked = λ q e. absurd (none_some q e);
     }

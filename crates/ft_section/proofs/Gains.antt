@@ -3,7 +3,7 @@ use Rattle.std.proofs.Common.{◌≡◌, ◌≢◌, ◌<◌, ◌+◌, ◌==◌, 
 use Rattle.std.proofs.lemmas.Bool.{true≢false, eqb-true, ne_eqb}
 use Rattle.std.specs.Prelude.{if◌then◌else◌}
 use Rattle.ft_bank.specs.Locks.{KeepsOthers}
-use Rattle.ft_section.specs.Locking.{OnlyLocked, Took, FoundOwner, at_one}
+use Rattle.ft_section.specs.Locking.{OnlyLocked, TookLocks, FoundOwner, at_one}
 use Rattle.ft_section.proofs.InCalls.{one_if, counted}
 use Rattle.ft_trace.specs.declared.Act.{Act}
 use Rattle.ft_trace.specs.declared.Act.TheVariants.{Lock}
@@ -13,7 +13,7 @@ use Rattle.ft_trace.specs.Addresses.{containers_in}
 use Rattle.ft_trace.specs.Acts.{has_lock, noted}
 use Rattle.ft_trace.specs.Holds.{held, known}
 use Rattle.ft_trace.specs.Owners.{is_owner_in, had_locks, found_owners, FindsMore, LocksOnly}
-use Rattle.ft_trace.specs.Words.{Stands}
+use Rattle.ft_trace.specs.Pictures.{Stands}
 use Rattle.ft_trace.proofs.Cases.{miss}
 use Rattle.ft_trace.proofs.Owning.{one_or, is_first, found_stays, grown_finds_more}
 
@@ -68,7 +68,7 @@ only_one v o s p q is =
     (one_or p q (o == p) (v.number == q) (is_owner_in p q (had_locks v.number v.log)) is)
 
 -- the lock was free
-pub took_lock : (v : View) (o : ℕ) (s : Snap) → has_lock o v.log ≡ false → o < containers_in v.shape → KeepsOthers o v (noted (Lock o 0 s) v) → Stands v.shape.texts (held o (noted (Lock o 0 s) v)) (known o (noted (Lock o 0 s) v)) → Took (at_one o) v (noted (Lock o 0 s) v)
+pub took_lock : (v : View) (o : ℕ) (s : Snap) → has_lock o v.log ≡ false → o < containers_in v.shape → KeepsOthers o v (noted (Lock o 0 s) v) → Stands v.shape.texts (held o (noted (Lock o 0 s) v)) (known o (noted (Lock o 0 s) v)) → TookLocks (at_one o) v (noted (Lock o 0 s) v)
 took_lock v o s free low keeps stands =
     let same : (p : ℕ) → at_one o p ≢ 0 → o ≡ p = λ p some_one. eqb-true o p (counted (o == p) some_one) in
     record {
@@ -87,7 +87,7 @@ same_has true false h e = refl
 same_has false c h e = refl
 
 -- another pass has it
-pub tried_lock : (v : View) (o f : ℕ) (s : Snap) → has_lock o v.log ≡ false → f ≢ 0 → KeepsOthers o v (noted (Lock o f s) v) → Took (λ p. 0) v (noted (Lock o f s) v)
+pub tried_lock : (v : View) (o f : ℕ) (s : Snap) → has_lock o v.log ≡ false → f ≢ 0 → KeepsOthers o v (noted (Lock o f s) v) → TookLocks (λ p. 0) v (noted (Lock o f s) v)
 tried_lock v o f s free found keeps =
     let same : (p : ℕ) → has_lock p (noted (Lock o f s) v).log ≡ has_lock p v.log = λ p. same_has (o == p) (f == 0) (has_lock p v.log) (ne_eqb f 0 found) in
     record {

@@ -4,11 +4,11 @@ use Rattle.std.specs.Prelude.{All, Option, Some, None}
 use Rattle.ft_bank.specs.declared.bank.Bank.{Bank}
 use Rattle.ft_bank.specs.declared.pass.Pass.{Pass}
 use Rattle.ft_bank.specs.Passes.{view, KeepsAll}
-use Rattle.ft_bank.specs.Sections.{Stack, stack_of, taken_in, noted_in, nothing_taken}
+use Rattle.ft_bank.specs.PassSections.{Stack, stack_of, taken_in, noted_in, nothing_taken}
 use Rattle.ft_section.specs.declared.answers.Objects.{Objects}
-use Rattle.ft_section.specs.Ready.{IsStill, IsWaiting, InCall, IsInCall, IsMarked, AreMarked, AreSuspended, AreBegun, IsReady, MayTry, NotesTop, lock_count}
+use Rattle.ft_section.specs.Ready.{IsStill, IsWaiting, InCall, IsInCall, HasMarks, AreMarked, AreSuspended, AreBegun, IsReady, MayTry, NotesTop, lock_count}
 use Rattle.ft_section.specs.Locking.{OnlyLocked, LetGo, MayLetGo, FoundOwner, with_own}
-use Rattle.ft_section.specs.LockTakings.{IsTaking}
+use Rattle.ft_section.specs.LockTakings.{IsLockTaking}
 use Rattle.ft_section.proofs.InCalls.{one_if, has_counted, counted_has, still_stands}
 use Rattle.ft_section.proofs.Waits.{marked_split}
 use Rattle.ft_trace.specs.declared.Act.{Act}
@@ -20,7 +20,7 @@ use Rattle.ft_trace.specs.Acts.{has_lock, is_writing, shown, seen_writes}
 use Rattle.ft_bank.proofs.Seen.{seen_rises}
 use Rattle.std.specs.Prelude.{max}
 use Rattle.std.proofs.Math.Nat.{le-max_left, le-max_right, max-le}
-use Rattle.ft_trace.specs.Sections.{begun}
+use Rattle.ft_trace.specs.BegunSections.{begun}
 
 one_least : (b : Bool) → one_if b ≤ 1
 one_least true = omega arith
@@ -31,7 +31,7 @@ pub count_least : (o : ℕ) (v : View) → lock_count o v ≤ 1
 count_least o v = one_least (has_lock o v.log)
 
 -- where this was noted before, t is kept after
-pub went_from : (v w : View) (t : Stack) (amount before : ℕ → ℕ) → IsStill v → ((o : ℕ) → before o ≡ lock_count o v) → ((o : ℕ) → has_lock o v.log ≡ true → o < containers_in v.shape) → LetGo amount v w → ((o : ℕ) → noted_in o t.sections + taken_in o t.own + amount o ≡ before o) → All (λ x. IsTaking v.shape x.locks) t.sections → AreBegun t.sections (begun v.log) → ((o : ℕ) → amount o ≢ 0 → noted_in o t.sections ≡ 0) → ((q : ℕ) → t.mark ≡ Some q → AreMarked w t.sections) → InCall w t
+pub went_from : (v w : View) (t : Stack) (amount before : ℕ → ℕ) → IsStill v → ((o : ℕ) → before o ≡ lock_count o v) → ((o : ℕ) → has_lock o v.log ≡ true → o < containers_in v.shape) → LetGo amount v w → ((o : ℕ) → noted_in o t.sections + taken_in o t.own + amount o ≡ before o) → All (λ x. IsLockTaking v.shape x.locks) t.sections → AreBegun t.sections (begun v.log) → ((o : ℕ) → amount o ≢ 0 → noted_in o t.sections ≡ 0) → ((q : ℕ) → t.mark ≡ Some q → AreMarked w t.sections) → InCall w t
 went_from v w t amount before still locks low go left takings begun' struck marked =
     let had : (o : ℕ) → has_lock o w.log ≡ true → has_lock o v.log ≡ true = λ o has. has_counted o v (λ zero_v. let c = go.count o in let h = counted_has o w has in omega (arith, c, h, zero_v)) in
     record {
@@ -45,13 +45,13 @@ went_from v w t amount before still locks low go left takings begun' struck mark
       };
       locks = λ o. let a = locks o in let c = go.count o in let l = left o in omega (arith, a, c, l);
       low = λ o has. subst (λ (k : Shape). o < containers_in k) (sym go.locked.shape) (low o (had o has));
-      sections = subst (λ (k : Shape). All (λ x. IsTaking k x.locks) t.sections) (sym go.locked.shape) takings;
+      sections = subst (λ (k : Shape). All (λ x. IsLockTaking k x.locks) t.sections) (sym go.locked.shape) takings;
       begun = go.begun t.sections begun' struck;
       marked = marked;
     }
 
 -- s was kept before, t is kept after
-pub went : (v w : View) (s t : Stack) (amount : ℕ → ℕ) → InCall v s → LetGo amount v w → ((o : ℕ) → noted_in o t.sections + taken_in o t.own + amount o ≡ noted_in o s.sections + taken_in o s.own) → All (λ x. IsTaking v.shape x.locks) t.sections → AreBegun t.sections (begun v.log) → ((o : ℕ) → amount o ≢ 0 → noted_in o t.sections ≡ 0) → ((q : ℕ) → t.mark ≡ Some q → AreMarked w t.sections) → InCall w t
+pub went : (v w : View) (s t : Stack) (amount : ℕ → ℕ) → InCall v s → LetGo amount v w → ((o : ℕ) → noted_in o t.sections + taken_in o t.own + amount o ≡ noted_in o s.sections + taken_in o s.own) → All (λ x. IsLockTaking v.shape x.locks) t.sections → AreBegun t.sections (begun v.log) → ((o : ℕ) → amount o ≢ 0 → noted_in o t.sections ≡ 0) → ((q : ℕ) → t.mark ≡ Some q → AreMarked w t.sections) → InCall w t
 went v w s t amount i go left takings begun' struck marked =
     went_from v w t amount (λ o. noted_in o s.sections + taken_in o s.own) i.still i.locks i.low go left takings begun' struck marked
 
@@ -60,7 +60,7 @@ pub own_unnoted : (v : View) (s : Stack) → InCall v s → (o : ℕ) → taken_
 own_unnoted v s i o some_one = let a = i.locks o in let l = count_least o v in omega (arith, a, l, some_one)
 
 -- the call lets go what it took itself
-pub own_went : (v w : View) (s : Stack) → InCall v s → ((q : ℕ) → s.mark ≡ Some q → All IsMarked s.sections) → LetGo (λ o. taken_in o s.own) v w → InCall w (with_own s nothing_taken)
+pub own_went : (v w : View) (s : Stack) → InCall v s → ((q : ℕ) → s.mark ≡ Some q → All HasMarks s.sections) → LetGo (λ o. taken_in o s.own) v w → InCall w (with_own s nothing_taken)
 own_went v w s i was go =
     went v w s (with_own s nothing_taken) (λ o. taken_in o s.own) i go (λ o. omega arith) i.sections i.begun (own_unnoted v s i)
     (λ q e outer top split. let parts = marked_split s.sections outer top split (was q e) in (parts.0, inl parts.1))

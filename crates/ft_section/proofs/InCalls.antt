@@ -7,17 +7,17 @@ use Rattle.ft_bank.specs.declared.bank.Bank.{Bank}
 use Rattle.ft_bank.specs.declared.pass.Pass.{Pass}
 use Rattle.ft_bank.specs.declared.sections.Taking.{Taking}
 use Rattle.ft_bank.specs.Passes.{view, KeepsAll}
-use Rattle.ft_bank.specs.Sections.{Stack, stack_of, taken_in, nothing_taken}
-use Rattle.ft_section.specs.Ready.{InCall, IsInCall, IsMarked, lock_count, AreBegun}
-use Rattle.ft_section.specs.Locking.{OnlyLocked, Took, KeepsStack, with_own}
-use Rattle.ft_section.specs.LockTakings.{IsTaking, IsOwnFor, HasBoth}
+use Rattle.ft_bank.specs.PassSections.{Stack, stack_of, taken_in, nothing_taken}
+use Rattle.ft_section.specs.Ready.{InCall, IsInCall, HasMarks, lock_count, AreBegun}
+use Rattle.ft_section.specs.Locking.{OnlyLocked, TookLocks, KeepsStack, with_own}
+use Rattle.ft_section.specs.LockTakings.{IsLockTaking, IsOwnFor, HasBoth}
 use Rattle.ft_trace.specs.declared.Shape.{Shape}
 use Rattle.ft_trace.specs.declared.View.{View}
 use Rattle.ft_trace.specs.Addresses.{containers_in}
 use Rattle.ft_trace.specs.Acts.{has_lock}
 use Rattle.ft_trace.specs.Holds.{held, known}
-use Rattle.ft_trace.specs.Sections.{Begun}
-use Rattle.ft_trace.specs.Words.{Picture, Stands}
+use Rattle.ft_trace.specs.BegunSections.{Begun}
+use Rattle.ft_trace.specs.Pictures.{Picture, Stands}
 
 abbrev pub one_if : Bool → ℕ
 one_if b = if b then 1 else 0
@@ -42,7 +42,7 @@ still_stands v w l o low had has stands =
     (subst (Stands v.shape.texts (held o v)) (sym k.1) stands))
 
 -- the pass has taken locks, which the call in flight notes as its own
-pub took_in_call : (v w : View) (s : Stack) (amount : ℕ → ℕ) (own : Taking) → InCall v s → Took amount v w → ((o : ℕ) → taken_in o own ≡ taken_in o s.own + amount o) → InCall w (with_own s own)
+pub took_in_call : (v w : View) (s : Stack) (amount : ℕ → ℕ) (own : Taking) → InCall v s → TookLocks amount v w → ((o : ℕ) → taken_in o own ≡ taken_in o s.own + amount o) → InCall w (with_own s own)
 took_in_call v w s amount own i t is =
     let had : (o : ℕ) → has_lock o w.log ≡ true → amount o ≡ 0 → has_lock o v.log ≡ true = λ o has none. has_counted o v (λ zero_v. let c = t.count o in let h = counted_has o w has in omega (arith, c, h, none, zero_v)) in
     record {
@@ -58,20 +58,20 @@ took_in_call v w s amount own i t is =
       };
       locks = λ o. let a = i.locks o in let b = is o in let c = t.count o in omega (arith, a, b, c);
       low = λ o has. subst (λ (k : Shape). o < containers_in k) (sym t.locked.shape) (dite (ℕ_discrete (amount o) 0) (λ none. i.low o (had o has none)) (λ some_one. t.low o some_one));
-      sections = subst (λ (k : Shape). All (λ section. IsTaking k section.locks) s.sections) (sym t.locked.shape) i.sections;
+      sections = subst (λ (k : Shape). All (λ section. IsLockTaking k section.locks) s.sections) (sym t.locked.shape) i.sections;
       begun = subst (λ (b : List Begun). AreBegun s.sections b) (sym t.begun) i.begun;
-      marked = λ q e outer top split. let m = i.marked q e outer top split in (m.0, ⊎_elim (λ (x : IsMarked top). inl x) (λ (x : HasBoth v top.locks). inr (t.keeps top.locks.lower x.0, t.keeps top.locks.upper x.1)) m.1);
+      marked = λ q e outer top split. let m = i.marked q e outer top split in (m.0, ⊎_elim (λ (x : HasMarks top). inl x) (λ (x : HasBoth v top.locks). inr (t.keeps top.locks.lower x.0, t.keeps top.locks.upper x.1)) m.1);
     }
 
 -- the same of a pass, whose locks of its call are put after that
-pub took_pass : (b : Bank) (p q r : Pass) (amount : ℕ → ℕ) (own : Taking) → IsInCall b p → KeepsStack p q → Took amount (view p) (view q) → ((o : ℕ) → taken_in o own ≡ taken_in o (stack_of p).own + amount o) → KeepsAll q r → stack_of r ≡ with_own (stack_of q) own → IsInCall b r
+pub took_pass : (b : Bank) (p q r : Pass) (amount : ℕ → ℕ) (own : Taking) → IsInCall b p → KeepsStack p q → TookLocks amount (view p) (view q) → ((o : ℕ) → taken_in o own ≡ taken_in o (stack_of p).own + amount o) → KeepsAll q r → stack_of r ≡ with_own (stack_of q) own → IsInCall b r
 took_pass b p q r amount own i k t is same put =
     let j = took_in_call (view p) (view q) (stack_of p) amount own i.1 t is in
     let stack : stack_of r ≡ with_own (stack_of p) own = put ∙ ap (λ (s : Stack). with_own s own) k.1 in
     ((same.0 ∙ (k.0 ∙ i.0.0), ap (λ (v : View). v.shape) same.1 ∙ (t.locked.shape ∙ i.0.1)), subst (InCall (view r)) (sym stack) (subst (λ (v : View). InCall v (with_own (stack_of p) own)) (sym same.1) j))
 
 -- and of one that took none
-pub tried_pass : (b : Bank) (p q : Pass) → IsInCall b p → KeepsStack p q → Took (λ o. 0) (view p) (view q) → IsInCall b q
+pub tried_pass : (b : Bank) (p q : Pass) → IsInCall b p → KeepsStack p q → TookLocks (λ o. 0) (view p) (view q) → IsInCall b q
 tried_pass b p q i k t =
     took_pass b p q q (λ o. 0) (stack_of p).own i k t (λ o. omega arith) (refl, refl) (k.1 ∙ sym (ap (λ (s : Stack). with_own s (stack_of p).own) k.1))
 

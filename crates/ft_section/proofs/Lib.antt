@@ -5,11 +5,11 @@ pub mod Releases
 pub mod Sweeping
 pub mod Waits
 pub mod Goings
-pub mod Making
+pub mod MidstOfCall
 pub mod Resumes
 pub mod Droppings
 pub mod Ends
-pub mod Entering
+pub mod OpenedSections
 pub mod Fresh
-pub mod Tries
-pub mod Floors
+pub mod TriedSections
+pub mod FloorLogs

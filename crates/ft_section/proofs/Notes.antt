@@ -4,7 +4,7 @@ use Rattle.std.proofs.Math.Nat.{suc-ne-zero}
 use Rattle.std.proofs.Math.ListN.{drop_of_length-le}
 use Rattle.std.proofs.lemmas.List.{drop_more, take_more, get_or_default}
 use Rattle.ft_bank.specs.declared.sections.OpenSection.{OpenSection}
-use Rattle.ft_bank.specs.Sections.{taken_in, noted_in}
+use Rattle.ft_bank.specs.PassSections.{taken_in, noted_in}
 
 pub noted-append : (o : ℕ) (xs ys : List OpenSection) → noted_in o (xs ++ ys) ≡ noted_in o xs + noted_in o ys
 noted-append o [] ys = omega arith

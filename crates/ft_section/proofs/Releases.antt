@@ -4,7 +4,7 @@ use Rattle.std.specs.Prelude.{if◌then◌else◌}
 use Rattle.std.proofs.lemmas.Bool.{false≢true, eqb-true, eq-eqb, ne_eqb}
 use Rattle.ft_bank.specs.declared.sections.OpenSection.{OpenSection}
 use Rattle.ft_bank.specs.declared.sections.Taking.{Taking}
-use Rattle.ft_bank.specs.Sections.{noted_in, taken_in}
+use Rattle.ft_bank.specs.PassSections.{noted_in, taken_in}
 use Rattle.ft_section.specs.Ready.{AreBegun, IsBegun}
 use Rattle.ft_section.specs.Locking.{OnlyLocked, LetGo, at_one}
 use Rattle.ft_section.proofs.Notes.{noted-append}
@@ -15,7 +15,7 @@ use Rattle.ft_trace.specs.declared.Shape.{Shape}
 use Rattle.ft_trace.specs.declared.View.{View}
 use Rattle.ft_trace.specs.Addresses.{containers_in}
 use Rattle.ft_trace.specs.Acts.{has_lock, noted}
-use Rattle.ft_trace.specs.Sections.{Begun, begun, without, is_among}
+use Rattle.ft_trace.specs.BegunSections.{Begun, begun, without, is_among}
 use Rattle.ft_trace.proofs.Owning.{same_owners, owners_then}
 
 -- one lock after others

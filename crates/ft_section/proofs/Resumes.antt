@@ -9,17 +9,17 @@ use Rattle.ft_bank.specs.declared.pass.Pass.{Pass}
 use Rattle.ft_bank.specs.declared.sections.OpenSection.{OpenSection}
 use Rattle.ft_bank.specs.declared.sections.Taking.{Taking}
 use Rattle.ft_bank.specs.Passes.{view}
-use Rattle.ft_bank.specs.Sections.{Stack, stack_of, taken_in, noted_in, nothing_taken, suspended}
+use Rattle.ft_bank.specs.PassSections.{Stack, stack_of, taken_in, noted_in, nothing_taken, suspended}
 use Rattle.ft_section.specs.Ready.{InCall, IsInCall, AreBegun, IsBegun, IsReady, lock_count}
 use Rattle.ft_section.specs.Locking.{TakenUp, noting}
-use Rattle.ft_section.specs.LockTakings.{IsTaking, HasBoth}
+use Rattle.ft_section.specs.LockTakings.{IsLockTaking, HasBoth}
 use Rattle.ft_section.proofs.InCalls.{one_if}
 use Rattle.ft_section.proofs.Notes.{noted-append}
 use Rattle.ft_section.proofs.Goings.{count_least}
 use Rattle.ft_trace.specs.declared.View.{View}
 use Rattle.ft_trace.specs.Addresses.{containers_in}
 use Rattle.ft_trace.specs.Acts.{has_lock}
-use Rattle.ft_trace.specs.Sections.{Begun, begun}
+use Rattle.ft_trace.specs.BegunSections.{Begun, begun}
 
 length_push : (xs : List OpenSection) (x : OpenSection) → length (xs ++ x ∷ []) ≢ 0
 length_push [] x e = absurd (omega (arith, e))
@@ -32,8 +32,8 @@ pub noted_push : (o : ℕ) (xs : List OpenSection) (x : OpenSection) → noted_i
 noted_push o xs x = let e = noted-append o xs (x ∷ []) in omega (arith, e)
 
 -- the innermost section's containers are the bank's
-pub top_taking : (v : View) (s : Stack) (outer : List OpenSection) (top : OpenSection) → InCall v s → s.sections ≡ outer ++ top ∷ [] → IsTaking v.shape top.locks
-top_taking v s outer top i split = (All-pop (λ x. IsTaking v.shape x.locks) s.sections outer (Some top) split i.sections).1
+pub top_taking : (v : View) (s : Stack) (outer : List OpenSection) (top : OpenSection) → InCall v s → s.sections ≡ outer ++ top ∷ [] → IsLockTaking v.shape top.locks
+top_taking v s outer top i split = (All-pop (λ x. IsLockTaking v.shape x.locks) s.sections outer (Some top) split i.sections).1
 
 -- what the section and the call have taken is apart
 pub top_apart : (v : View) (s : Stack) (outer : List OpenSection) (top : OpenSection) → InCall v s → s.sections ≡ outer ++ top ∷ [] → (o : ℕ) → taken_in o top.locks + taken_in o s.own ≤ 1
@@ -82,12 +82,12 @@ resumed b q r outer top again i split taken lower upper marks once has table sam
     let a = i.1.locks o in let e = ap (noted_in o) split ∙ noted_push o outer top in let f = noted_push o outer again in let k = taken o in omega (arith, a, e, f, k) in
     let more : (o : ℕ) → noted_in o (outer ++ top ∷ []) ≡ 1 → noted_in o (outer ++ again ∷ []) ≡ 1 = λ o one.
     let e = noted_push o outer top in let f = noted_push o outer again in let k = taken o in let c = counted o in let l = count_least o v in omega (arith, one, e, f, k, c, l) in
-    let takings = All-pop (λ x. IsTaking v.shape x.locks) (stack_of q).sections outer (Some top) split i.1.sections in
+    let takings = All-pop (λ x. IsLockTaking v.shape x.locks) (stack_of q).sections outer (Some top) split i.1.sections in
     let inside : InCall v t = record {
       still = i.1.still;
       locks = λ o. let c = counted o in omega (arith, c);
       low = i.1.low;
-      sections = All-push (λ x. IsTaking v.shape x.locks) outer again takings.0 (record {
+      sections = All-push (λ x. IsLockTaking v.shape x.locks) outer again takings.0 (record {
         order = let o = takings.1.order in omega (arith, o, lower, upper);
         low = let l = takings.1.low in subst (λ (z : ℕ). z < containers_in v.shape) (sym upper) l;
         once = once;

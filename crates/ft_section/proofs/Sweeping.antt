@@ -4,7 +4,7 @@ use Rattle.ft_bank.specs.declared.bank.Bank.{Bank}
 use Rattle.ft_bank.specs.declared.pass.Pass.{Pass}
 use Rattle.ft_bank.specs.declared.sections.OpenSection.{OpenSection}
 use Rattle.ft_bank.specs.Passes.{view}
-use Rattle.ft_bank.specs.Sections.{Stack, taken_in, noted_in}
+use Rattle.ft_bank.specs.PassSections.{Stack, taken_in, noted_in}
 use Rattle.ft_section.specs.Locking.{KeepsStack, LetGo, MayLetGo}
 use Rattle.ft_section.proofs.Notes.{noted_before, noted_all, noted_more}
 use Rattle.ft_section.proofs.Releases.{let_then, let_as}

@@ -7,16 +7,16 @@ use Rattle.ft_bank.specs.declared.bank.Bank.{Bank}
 use Rattle.ft_bank.specs.declared.pass.Pass.{Pass}
 use Rattle.ft_bank.specs.declared.sections.OpenSection.{OpenSection}
 use Rattle.ft_bank.specs.Passes.{view}
-use Rattle.ft_bank.specs.Sections.{Stack, stack_of, noted_in, suspended}
-use Rattle.ft_section.specs.Ready.{InCall, IsInCall, IsMarked, AreSuspended, AreBegun, IsBegun, lock_count}
+use Rattle.ft_bank.specs.PassSections.{Stack, stack_of, noted_in, suspended}
+use Rattle.ft_section.specs.Ready.{InCall, IsInCall, HasMarks, AreSuspended, AreBegun, IsBegun, lock_count}
 use Rattle.ft_section.specs.Locking.{LetGo, MayLetGo, waiting, marks_more}
-use Rattle.ft_section.specs.LockTakings.{IsTaking}
+use Rattle.ft_section.specs.LockTakings.{IsLockTaking}
 use Rattle.ft_section.proofs.InCalls.{has_counted, counted_has, still_stands}
 use Rattle.ft_trace.specs.declared.Shape.{Shape}
 use Rattle.ft_trace.specs.declared.View.{View}
 use Rattle.ft_trace.specs.Addresses.{containers_in}
 use Rattle.ft_trace.specs.Acts.{has_lock, is_writing}
-use Rattle.ft_trace.specs.Sections.{Begun, begun}
+use Rattle.ft_trace.specs.BegunSections.{Begun, begun}
 
 suspended_none : (m o : ℕ) (xs : List OpenSection) → noted_in o (map (suspended m) xs) ≡ 0
 suspended_none m o [] = refl
@@ -29,17 +29,17 @@ least_same : (n : ℕ) → 1 ≤ n → 1 ≤ min (n + 0) (2 ^ 32 - 1)
 least_same n one = omega (arith, one)
 
 -- each section counts a mark, the one that the call has already or the one that it gets now
-marked_all : (xs : List OpenSection) (mark : Option ℕ) → ((q : ℕ) → mark ≡ Some q → All IsMarked xs) → All IsMarked (map (suspended (marks_more mark)) xs)
-marked_all xs None was = All-map IsMarked (suspended 1) xs (λ k d within. least_one _)
+marked_all : (xs : List OpenSection) (mark : Option ℕ) → ((q : ℕ) → mark ≡ Some q → All HasMarks xs) → All HasMarks (map (suspended (marks_more mark)) xs)
+marked_all xs None was = All-map HasMarks (suspended 1) xs (λ k d within. least_one _)
 marked_all xs (Some q) was =
-    All-map IsMarked (suspended 0) xs (All-weaker IsMarked (λ s. IsMarked (suspended 0 s)) (λ s one. least_same s.marks one) xs (was q refl))
+    All-map HasMarks (suspended 0) xs (All-weaker HasMarks (λ s. HasMarks (suspended 0 s)) (λ s one. least_same s.marks one) xs (was q refl))
 
 -- of sections that all count a mark the innermost does, and those round it do
-pub marked_split : (xs outer : List OpenSection) (top : OpenSection) → xs ≡ outer ++ top ∷ [] → All IsMarked xs → All IsMarked outer × IsMarked top
-marked_split xs outer top split all = All-pop IsMarked xs outer (Some top) split all
+pub marked_split : (xs outer : List OpenSection) (top : OpenSection) → xs ≡ outer ++ top ∷ [] → All HasMarks xs → All HasMarks outer × HasMarks top
+marked_split xs outer top split all = All-pop HasMarks xs outer (Some top) split all
 
 -- sections that count a mark are begun as they were, whatever they let go
-begun_marked : (m : ℕ) (bs : List Begun) (xs : List OpenSection) → All IsMarked (map (suspended m) xs) → AreBegun xs bs → AreBegun (map (suspended m) xs) bs
+begun_marked : (m : ℕ) (bs : List Begun) (xs : List OpenSection) → All HasMarks (map (suspended m) xs) → AreBegun xs bs → AreBegun (map (suspended m) xs) bs
 begun_marked m [] xs all a = ap (map (suspended m)) a
 begun_marked m (b ∷ bs) xs all a =
     ⊎_elim (λ (nil : xs ≡ []). inl (ap (map (suspended m)) nil))
@@ -60,7 +60,7 @@ may_sweep b p q m i table same put =
     }
 
 -- what holds in a call holds while it waits
-pub waits : (v w : View) (s : Stack) (q : ℕ) → InCall v s → ((p : ℕ) → s.mark ≡ Some p → All IsMarked s.sections) → LetGo (λ o. noted_in o s.sections) v w → InCall w (waiting s q) × AreSuspended (waiting s q).sections
+pub waits : (v w : View) (s : Stack) (q : ℕ) → InCall v s → ((p : ℕ) → s.mark ≡ Some p → All HasMarks s.sections) → LetGo (λ o. noted_in o s.sections) v w → InCall w (waiting s q) × AreSuspended (waiting s q).sections
 waits v w s q i was go =
     let m = marks_more s.mark in
     let none : (o : ℕ) → noted_in o (map (suspended m) s.sections) ≡ 0 = λ o. suspended_none m o s.sections in
@@ -77,7 +77,7 @@ waits v w s q i was go =
         };
         locks = λ o. let a = i.locks o in let c = go.count o in let z = none o in omega (arith, a, c, z);
         low = λ o has. subst (λ (k : Shape). o < containers_in k) (sym go.locked.shape) (i.low o (had o has));
-        sections = All-map (λ x. IsTaking w.shape x.locks) (suspended m) s.sections (All-weaker (λ x. IsTaking v.shape x.locks) (λ x. IsTaking w.shape (suspended m x).locks) (λ x is. record { order = is.order; low = subst (λ (k : Shape). x.locks.upper < containers_in k) (sym go.locked.shape) is.low; once = λ e. refl }) s.sections i.sections);
+        sections = All-map (λ x. IsLockTaking w.shape x.locks) (suspended m) s.sections (All-weaker (λ x. IsLockTaking v.shape x.locks) (λ x. IsLockTaking w.shape (suspended m x).locks) (λ x is. record { order = is.order; low = subst (λ (k : Shape). x.locks.upper < containers_in k) (sym go.locked.shape) is.low; once = λ e. refl }) s.sections i.sections);
         begun = go.begun (map (suspended m) s.sections) (begun_marked m (begun v.log) s.sections all i.begun) (λ o some_one. none o);
         marked = λ p e outer top split. let parts = marked_split (map (suspended m) s.sections) outer top split all in (parts.0, inl parts.1);
       },

@@ -1,7 +1,7 @@
 pub mod LockTakings
 pub mod Ready
 pub mod Locking
-pub mod Answers
+pub mod AnswerFacts
 pub mod Sectioning
 pub mod Trying
 pub mod Floors

@@ -1,7 +1,7 @@
 -- Containers of a call or a section, and which of their locks were taken.
 use Rattle.std.specs.Prelude.{◌≡◌, ◌≤◌, ◌<◌, ◌⊎◌, ℕ, nat_lt, false, true, if◌then◌else◌}
 use Rattle.ft_bank.specs.declared.sections.Taking.{Taking}
-use Rattle.ft_bank.specs.Sections.{nothing_taken}
+use Rattle.ft_bank.specs.PassSections.{nothing_taken}
 use Rattle.ft_section.specs.declared.answers.Objects.{Objects}
 use Rattle.ft_section.specs.declared.answers.Objects.TheVariants.{One, Two}
 use Rattle.ft_trace.specs.declared.Shape.{Shape}
@@ -34,7 +34,7 @@ IsOwnFor lower upper own =
     (own ≡ nothing_taken) ⊎ ((own.lower ≡ lower) × (own.upper ≡ upper) × (own.took_upper ≡ false))
 
 -- the lower number comes first, the bank has both, and where there is one alone its lock is noted once
-pub record IsTaking (k : Shape) (t : Taking) : Type 0 where
+pub record IsLockTaking (k : Shape) (t : Taking) : Type 0 where
   pub order : t.lower ≤ t.upper
   pub low : t.upper < containers_in k
   pub once : t.lower ≡ t.upper → t.took_upper ≡ false

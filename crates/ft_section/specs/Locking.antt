@@ -5,7 +5,7 @@ use Rattle.ft_bank.specs.declared.pass.Pass.{Pass}
 use Rattle.ft_bank.specs.declared.sections.OpenSection.{OpenSection}
 use Rattle.ft_bank.specs.Passes.{shape_of, view, IsPassOf}
 use Rattle.ft_bank.specs.declared.sections.Taking.{Taking}
-use Rattle.ft_bank.specs.Sections.{Stack, stack_of, noted_in, taken_in, suspended, nothing_taken}
+use Rattle.ft_bank.specs.PassSections.{Stack, stack_of, noted_in, taken_in, suspended, nothing_taken}
 use Rattle.ft_section.specs.declared.answers.Objects.{Objects}
 use Rattle.ft_section.specs.Ready.{lock_count, AreBegun}
 use Rattle.ft_section.specs.LockTakings.{IsOf}
@@ -19,8 +19,8 @@ use Rattle.ft_trace.specs.Floors.{at_floor}
 use Rattle.ft_trace.specs.Hands.{cursor_in}
 use Rattle.ft_trace.specs.Owners.{LocksOnly, SameOwners}
 use Rattle.ft_trace.specs.Holds.{held, known}
-use Rattle.ft_trace.specs.Sections.{begun}
-use Rattle.ft_trace.specs.Words.{Stands}
+use Rattle.ft_trace.specs.BegunSections.{begun}
+use Rattle.ft_trace.specs.Pictures.{Stands}
 
 -- The pass has taken locks or let locks go, and done nothing else. Of each container whose lock it had and has it knows
 -- the same. (profile)
@@ -68,7 +68,7 @@ abbrev pub LocksWithin : Objects → View → View → Type 0
 LocksWithin objects v w = LocksOnly (λ o. IsOf o objects) v w
 
 -- the pass has taken the locks that the number is 1 of, which it didn't have, and knows what their words stand for
-pub record Took (amount : ℕ → ℕ) (v w : View) : Type 0 where
+pub record TookLocks (amount : ℕ → ℕ) (v w : View) : Type 0 where
   pub locked : OnlyLocked v w
   pub keeps : KeepsLocks v w
   pub count : (o : ℕ) → lock_count o w ≡ lock_count o v + amount o
@@ -106,8 +106,8 @@ with_own s own = record s { own = own }
 abbrev pub KeepsStack : Pass → Pass → Type 0
 KeepsStack p q = (q.seat.table_id ≡ p.seat.table_id) × (stack_of q ≡ stack_of p)
 
--- Which lock a call that has to wait has taken itself in this try: that of the lower container, where the pass lacked it
--- and it is the other one that a step found with another pass. Beside it the call keeps what it had taken itself in
+-- Which lock a call that has to wait has taken itself in this try: that of the lower container, where the pass lacked
+-- it and it is the other one that a step found with another pass. Beside it the call keeps what it had taken itself in
 -- earlier tries. (profile)
 abbrev pub KeepsLower : ℕ → ℕ → Pass → Pass → Type 0
 KeepsLower lower o p q =

@@ -4,15 +4,15 @@ use Rattle.ft_bank.specs.declared.bank.Bank.{Bank}
 use Rattle.ft_bank.specs.declared.pass.Pass.{Pass}
 use Rattle.ft_bank.specs.declared.sections.OpenSection.{OpenSection}
 use Rattle.ft_bank.specs.Passes.{view, IsPassOf}
-use Rattle.ft_bank.specs.Sections.{Stack, stack_of, taken_in, noted_in, nothing_taken}
+use Rattle.ft_bank.specs.PassSections.{Stack, stack_of, taken_in, noted_in, nothing_taken}
 use Rattle.ft_section.specs.declared.answers.Objects.{Objects}
-use Rattle.ft_section.specs.LockTakings.{IsTaking, IsOwnFor, HasBoth, lower_of, upper_of}
+use Rattle.ft_section.specs.LockTakings.{IsLockTaking, IsOwnFor, HasBoth, lower_of, upper_of}
 use Rattle.ft_trace.specs.declared.View.{View}
 use Rattle.ft_trace.specs.Addresses.{containers_in}
 use Rattle.ft_trace.specs.Acts.{has_lock, is_writing, stage, used, owes, flight}
 use Rattle.ft_trace.specs.Holds.{held, known}
-use Rattle.ft_trace.specs.Sections.{Begun, begun, is_among}
-use Rattle.ft_trace.specs.Words.{Stands}
+use Rattle.ft_trace.specs.BegunSections.{Begun, begun, is_among}
+use Rattle.ft_trace.specs.Pictures.{Stands}
 
 -- A pass is in the midst of no write and of no taking of a table: no version is odd by it, it has no table in hand but
 -- such as it retired, and the words of each container whose lock it has stand for what the writes make of it. (profile)
@@ -46,15 +46,15 @@ AreBegun sections (b ∷ bs) =
     × AreBegun outer bs)
 
 -- at least one call in it had to wait
-abbrev pub IsMarked : OpenSection → Type 0
-IsMarked s = 1 ≤ s.marks
+abbrev pub HasMarks : OpenSection → Type 0
+HasMarks s = 1 ≤ s.marks
 
 -- Where the call in flight has a mark, each open section counts it. The innermost one doesn't where the call is its
 -- `begin`, and then the pass has its locks. (profile)
 abbrev pub AreMarked : View → List OpenSection → Type 0
 AreMarked v sections =
     (outer : List OpenSection) (top : OpenSection) → sections ≡ outer ++ top ∷ []
-    → All IsMarked outer × (IsMarked top ⊎ HasBoth v top.locks)
+    → All HasMarks outer × (HasMarks top ⊎ HasBoth v top.locks)
 
 -- What holds in the midst of a call and between calls: each lock that the pass has is noted once, by an open section or
 -- by the call in flight, and no other lock is noted. (profile)
@@ -62,7 +62,7 @@ pub record InCall (v : View) (s : Stack) : Type 0 where
   pub still : IsStill v
   pub locks : (o : ℕ) → noted_in o s.sections + taken_in o s.own ≡ lock_count o v
   pub low : (o : ℕ) → has_lock o v.log ≡ true → o < containers_in v.shape
-  pub sections : All (λ section. IsTaking v.shape section.locks) s.sections
+  pub sections : All (λ section. IsLockTaking v.shape section.locks) s.sections
   pub begun : AreBegun s.sections (begun v.log)
   pub marked : (q : ℕ) → s.mark ≡ Some q → AreMarked v s.sections
 
@@ -86,7 +86,7 @@ pub record IsReady (b : Bank) (p : Pass) : Type 0 where
 
 -- all sections have let their locks go, and count the mark of the call in flight
 abbrev pub AreSuspended : List OpenSection → Type 0
-AreSuspended sections = All IsMarked sections × ((o : ℕ) → noted_in o sections ≡ 0)
+AreSuspended sections = All HasMarks sections × ((o : ℕ) → noted_in o sections ≡ 0)
 
 -- A pass whose call on these containers has to wait: it has let go of the locks of all its sections, and has itself at
 -- most the lock of the lower of the two. (C API, critical sections; which lock is kept: profile)

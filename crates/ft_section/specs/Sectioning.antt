@@ -8,7 +8,7 @@ use Rattle.ft_model.specs.declared.reply.Reply.TheVariants as reply
 use Rattle.ft_model.specs.Answers.{is_write}
 use Rattle.ft_model.specs.Calls.{moved_cursor}
 use Rattle.ft_model.specs.Histories.{IsReplied}
-use Rattle.ft_model.specs.Tables.{StoredWorld}
+use Rattle.ft_model.specs.TableUses.{StoredWorld}
 use Rattle.ft_section.specs.declared.answers.Ended.{Ended}
 use Rattle.ft_section.specs.declared.answers.Ended.TheVariants as ended
 use Rattle.ft_section.specs.declared.answers.Stamp.{Stamp}
@@ -23,7 +23,7 @@ use Rattle.ft_trace.specs.Causes.{HasCause}
 use Rattle.std.specs.Prelude.{List, ◌∷◌, length}
 use Rattle.ft_trace.specs.Entries.{IsNumber}
 use Rattle.ft_trace.specs.OwnOrder.{HasWritesOn}
-use Rattle.ft_trace.specs.Sections.{Begun}
+use Rattle.ft_trace.specs.BegunSections.{Begun}
 use Rattle.ft_trace.specs.Traces.{history, Sure}
 
 -- the call that begins a section on these containers

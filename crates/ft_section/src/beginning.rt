@@ -1,11 +1,11 @@
 //! How many sections a pass has open, and the begin of another one (C API, critical sections).
 ghost use Rattle.std.specs.Prelude.{◌≡◌, ◌≤◌, ◌<◌, ◌++◌, ◌∷◌, [], ℕ, List, length, false, true};
 ghost use Rattle.ft_bank.specs.declared.sections.Taking.{Taking};
-ghost use Rattle.ft_bank.specs.Openings.{IsOpening};
+ghost use Rattle.ft_bank.specs.NewPasses.{IsOpening};
 ghost use Rattle.ft_bank.specs.Passes.{shape_of, view};
-ghost use Rattle.ft_bank.specs.Sections.{stack_of, nothing_taken};
+ghost use Rattle.ft_bank.specs.PassSections.{stack_of, nothing_taken};
 ghost use Rattle.ft_model.specs.declared.reply.Reply.TheVariants as reply;
-ghost use Rattle.ft_section.specs.Answers.{IfEntered, IfBeginWaits};
+ghost use Rattle.ft_section.specs.AnswerFacts.{IfEntered, IfBeginWaits};
 ghost use Rattle.ft_section.specs.Floors.{began_by, first_owned, floor_word};
 ghost use Rattle.ft_section.specs.Locking.{OnlyLocked, KeepsLocks, FoundOwner, LocksWithin};
 ghost use Rattle.ft_section.specs.Ready.{IsReady, IsMaking, MayTry, MayResume};

@@ -2,11 +2,11 @@
 ghost use Rattle.std.specs.Prelude.{◌≡◌, ◌+◌, ℕ, Some, All, true};
 ghost use Rattle.ft_bank.specs.declared.sections.Taking.{Taking};
 ghost use Rattle.ft_bank.specs.Passes.{shape_of, view};
-ghost use Rattle.ft_bank.specs.Sections.{stack_of, nothing_taken, taken_in};
+ghost use Rattle.ft_bank.specs.PassSections.{stack_of, nothing_taken, taken_in};
 ghost use Rattle.ft_section.specs.declared.answers.Objects.{Objects};
-ghost use Rattle.ft_section.specs.Answers.{IfHave, IfNotYet};
+ghost use Rattle.ft_section.specs.AnswerFacts.{IfHave, IfNotYet};
 ghost use Rattle.ft_section.specs.Locking.{OnlyLocked, KeepsLocks, FoundOwner, LocksWithin, with_own, waiting, first_mark, marks_more};
-ghost use Rattle.ft_section.specs.Ready.{IsInCall, IsMarked, AreSuspended, IsMaking, MayTry, MayResume, lock_count};
+ghost use Rattle.ft_section.specs.Ready.{IsInCall, HasMarks, AreSuspended, IsMaking, MayTry, MayResume, lock_count};
 ghost use Rattle.ft_section.specs.Floors.{FindsSame, KnewOwners};
 ghost use Rattle.ft_section.specs.Sectioning.{AreNoted};
 ghost use Rattle.ft_section.specs.LockTakings.{IsOf, AreIn, HasLocks};
@@ -44,7 +44,7 @@ fn more_marks(mark: Option<Owner>) -> u32
 /// The first pass that it found is its mark, which each section counts.
 pub(crate) fn wait(bank: &Bank, pass: &mut Pass, owner: Owner)
     requires inside { IsInCall bank.now pass.old }
-    requires marked { (q : ℕ) → (stack_of pass.old).mark ≡ Some q → All IsMarked (stack_of pass.old).sections }
+    requires marked { (q : ℕ) → (stack_of pass.old).mark ≡ Some q → All HasMarks (stack_of pass.old).sections }
     ensures inside { IsInCall bank.now pass.new }
     ensures locked { OnlyLocked (view pass.old) (view pass.new) }
     ensures owners { SameOwners (view pass.old) (view pass.new) }

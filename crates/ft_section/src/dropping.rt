@@ -1,7 +1,7 @@
 //! A caller gives up what its pass is in: the pass has no section and no lock any more, and is ready for another call.
 ghost use Rattle.std.specs.Prelude.{◌≡◌, [], ℕ, false};
 ghost use Rattle.ft_bank.specs.Passes.{view, KeepsAll};
-ghost use Rattle.ft_bank.specs.Sections.{stack_of, no_sections};
+ghost use Rattle.ft_bank.specs.PassSections.{stack_of, no_sections};
 ghost use Rattle.ft_section.specs.Locking.{OnlyLocked};
 ghost use Rattle.ft_section.specs.Ready.{IsInCall, IsReady};
 ghost use Rattle.ft_trace.specs.Acts.{has_lock};

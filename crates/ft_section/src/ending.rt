@@ -2,9 +2,9 @@
 ghost use Rattle.std.specs.Prelude.{◌≡◌, ◌≤◌, ◌<◌, ◌++◌, ◌∷◌, [], ℕ, List, true, false, length};
 ghost use Rattle.ft_bank.specs.declared.sections.OpenSection.{OpenSection};
 ghost use Rattle.ft_bank.specs.Passes.{view};
-ghost use Rattle.ft_bank.specs.Sections.{stack_of};
+ghost use Rattle.ft_bank.specs.PassSections.{stack_of};
 ghost use Rattle.ft_model.specs.declared.call.Call.TheVariants as call;
-ghost use Rattle.ft_section.specs.Answers.{stamp_of, marks_in};
+ghost use Rattle.ft_section.specs.AnswerFacts.{stamp_of, marks_in};
 ghost use Rattle.ft_section.specs.Floors.{floor_word};
 ghost use Rattle.ft_section.specs.Locking.{OnlyLocked};
 ghost use Rattle.ft_section.specs.Ready.{IsReady, MayResume};
@@ -13,7 +13,7 @@ ghost use Rattle.ft_trace.specs.declared.Act.{Act};
 ghost use Rattle.ft_trace.specs.Acts.{seen_writes};
 ghost use Rattle.ft_trace.specs.Addresses.{counter};
 ghost use Rattle.ft_trace.specs.Owners.{SameOwners};
-ghost use Rattle.ft_trace.specs.Sections.{Begun, begun, IsInnermostHeld};
+ghost use Rattle.ft_trace.specs.BegunSections.{Begun, begun, IsInnermostHeld};
 
 use crate::answers::{Ended, Stamp};
 use crate::entries::make_entry;

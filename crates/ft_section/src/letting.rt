@@ -1,7 +1,7 @@
 //! Letting locks go, so that what a pass knows of the locks that it keeps, and which sections were kept, stays.
 ghost use Rattle.std.specs.Prelude.{◌+◌, if◌then◌else◌};
 ghost use Rattle.ft_bank.specs.Passes.{view};
-ghost use Rattle.ft_bank.specs.Sections.{taken_in, noted_in};
+ghost use Rattle.ft_bank.specs.PassSections.{taken_in, noted_in};
 ghost use Rattle.ft_section.specs.Locking.{MayLetGo, LetGo, KeepsStack, at_one};
 
 use crate::answers::Object;

@@ -3,9 +3,9 @@
 ghost use Rattle.std.specs.Prelude.{◌≡◌, ◌≢◌, ◌+◌, ◌<◌, ◌↔◌, ◌⊎◌, ℕ, IsTrue, Bool, true, false, not, if◌then◌else◌, None, OnOk, OnErr, IfOk, IfErr};
 ghost use Rattle.ft_bank.specs.declared.sections.Taking.{Taking};
 ghost use Rattle.ft_bank.specs.Passes.{shape_of, view, IsPassOf};
-ghost use Rattle.ft_bank.specs.Sections.{Stack, stack_of, taken_in, noted_in};
+ghost use Rattle.ft_bank.specs.PassSections.{Stack, stack_of, taken_in, noted_in};
 ghost use Rattle.ft_section.specs.Ready.{IsInCall, lock_count};
-ghost use Rattle.ft_section.specs.Locking.{Took, OnlyLocked, KeepsLocks, FoundOwner, KeepsLower, KeepsStack, at_one, with_own};
+ghost use Rattle.ft_section.specs.Locking.{TookLocks, OnlyLocked, KeepsLocks, FoundOwner, KeepsLower, KeepsStack, at_one, with_own};
 ghost use Rattle.ft_section.specs.Floors.{FindsSame, first_found, first_owned, owner_found, owner_of, owner_or};
 ghost use Rattle.ft_section.specs.LockTakings.{IsOwnFor};
 ghost use Rattle.ft_trace.specs.Addresses.{containers_in};
@@ -49,10 +49,10 @@ fn take_one(bank: &Bank, pass: &mut Pass, o: Object) -> Result<bool, Owner>
     requires inside { IsInCall bank.now pass.old }
     requires container { o < containers_in (shape_of bank.now) }
     ensures stack { KeepsStack pass.old pass.new }
-    ensures took { IfOk result (λ now. Took (λ p. if now then at_one o p else 0) (view pass.old) (view pass.new)) }
+    ensures took { IfOk result (λ now. TookLocks (λ p. if now then at_one o p else 0) (view pass.old) (view pass.new)) }
     ensures now { IfOk result (λ now. now ≡ not (has_lock o (view pass.old).log)) }
     ensures has { OnOk result (has_lock o (view pass.new).log ≡ true) }
-    ensures none { OnErr result (Took (λ p. 0) (view pass.old) (view pass.new)) }
+    ensures none { OnErr result (TookLocks (λ p. 0) (view pass.old) (view pass.new)) }
     ensures found { IfErr result (λ q. FoundOwner o q (view pass.old) (view pass.new)) }
     ensures lacked { OnErr result (has_lock o (view pass.old).log ≡ false) }
     ensures known { (view pass.old).has_floor ≡ true → owner_found result ≡ owner_of o (view pass.old) }

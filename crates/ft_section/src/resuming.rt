@@ -2,9 +2,9 @@
 ghost use Rattle.std.specs.Prelude.{◌≡◌, ◌≤◌, ◌+◌, ◌++◌, ◌∷◌, ◌⊎◌, [], ℕ, List, true, false};
 ghost use Rattle.ft_bank.specs.declared.sections.OpenSection.{OpenSection};
 ghost use Rattle.ft_bank.specs.Passes.{view};
-ghost use Rattle.ft_bank.specs.Sections.{stack_of, taken_in, nothing_taken};
+ghost use Rattle.ft_bank.specs.PassSections.{stack_of, taken_in, nothing_taken};
 ghost use Rattle.ft_section.specs.declared.answers.Resumed.TheVariants as resumed;
-ghost use Rattle.ft_section.specs.Answers.{IfBack, IfStillWaits};
+ghost use Rattle.ft_section.specs.AnswerFacts.{IfBack, IfStillWaits};
 ghost use Rattle.ft_section.specs.Floors.{first_owned, resumed_by};
 ghost use Rattle.ft_section.specs.Locking.{OnlyLocked, FoundOwner, KeepsLower, TakenUp, with_own, waiting};
 ghost use Rattle.ft_section.specs.Ready.{HasTop, IsReady, MayResume};

@@ -12,22 +12,22 @@ use Rattle.ft_model.specs.declared.content.Element.{Element}
 use Rattle.ft_model.specs.declared.script.Kind.TheVariants as kind
 use Rattle.ft_model.specs.Classes.{set_class}
 use Rattle.ft_model.specs.Contents.{SetContent, empty_set, set_or, set_xor}
-use Rattle.ft_model.specs.Tables.{StoredWorld, grown_table, no_table, outgrows_set, passes_cap, set_takes, table_at}
+use Rattle.ft_model.specs.TableUses.{StoredWorld, grown_table, no_table, outgrows_set, passes_cap, set_takes, table_at}
 use Rattle.ft_model.specs.Worlds.{IsOfKind, length_of, serial_of, set_at, set_of}
 use Rattle.ft_trace.specs.declared.Shape.{Shape}
 use Rattle.ft_trace.specs.declared.View.{View}
 use Rattle.ft_trace.specs.Addresses.{containers_in}
 use Rattle.ft_trace.specs.Holds.{known}
 use Rattle.ft_trace.specs.Traces.{Possible}
-use Rattle.ft_trace.specs.Worlds.{kind_in}
+use Rattle.ft_trace.specs.ContainerStates.{kind_in}
 use Rattle.ft_trace.proofs.Known.{declared_at}
 use Rattle.ft_trace.proofs.Naming.{named_locked}
-use Rattle.ft_bank.specs.Writes.{MayHave}
-use Rattle.ft_search.specs.Writing.{MayWriteEntries}
-use Rattle.ft_adding.specs.Growing.{keys_take}
+use Rattle.ft_bank.specs.WriteSteps.{MayHave}
+use Rattle.ft_search.specs.OneEntryWrites.{MayWriteEntries}
+use Rattle.ft_adding.specs.KeyGrowth.{keys_take}
 use Rattle.ft_merging.specs.Joining.{JoinsKeys, join_takes, joined, new_keys}
 use Rattle.ft_merging.specs.Parting.{PartsSets}
-use Rattle.ft_merging.proofs.Finished.{is_set}
+use Rattle.ft_merging.proofs.ThinningEnds.{is_set}
 use Rattle.ft_merging.proofs.JoinedContents.{or_length}
 use Rattle.ft_merging.proofs.Pairs.{named_cap}
 use Rattle.ft_set.proofs.Leaving.{many, many_tables, set_is, table_is, there}

@@ -20,12 +20,12 @@ use Rattle.ft_model.specs.declared.reply.Raise.TheVariants as raise
 use Rattle.ft_model.specs.declared.script.Kind.TheVariants as kind
 use Rattle.ft_model.specs.Answers.{Answer, answer, answer_set, puts, shows, after_write, is_raised}
 use Rattle.ft_model.specs.Calls.{is_changing_set, other_set, cursor_of_set, set_change, adds, one_or_two}
-use Rattle.ft_model.specs.Changes.{HasTableFor, IsTableOf}
+use Rattle.ft_model.specs.TablesInOrder.{HasTableFor, IsTableFor}
 use Rattle.ft_model.specs.Classes.{set_class, set_entries, most_elements}
 use Rattle.ft_layout.proofs.Powers.{slots_range}
 use Rattle.ft_model.specs.Contents.{SetContent, empty_set, has_element, set_clear, set_discard}
 use Rattle.ft_model.specs.Keys.{same_key}
-use Rattle.ft_model.specs.Tables.{StoredWorld, TableUse, no_table, takes_in, table_at, change_takes, change_leaves, set_takes, outgrows_set, grown_table, passes_cap, would_pass, after_stored}
+use Rattle.ft_model.specs.TableUses.{StoredWorld, TableUse, no_table, takes_in, table_at, change_takes, change_leaves, set_takes, outgrows_set, grown_table, passes_cap, would_pass, after_stored}
 use Rattle.ft_model.specs.Worlds.{set_of, set_at, named_in, no_hands, IsOfKind, IsDeclared}
 use Rattle.ft_layout.specs.Words.{FitsKey}
 use Rattle.ft_trace.specs.declared.Shape.{Shape}
@@ -36,16 +36,16 @@ use Rattle.ft_trace.specs.FitCalls.{FitsSetCall, FitsContent}
 use Rattle.ft_trace.specs.Holds.{known}
 use Rattle.ft_trace.specs.Kinds.{under}
 use Rattle.ft_trace.specs.Traces.{Possible}
-use Rattle.ft_trace.specs.Worlds.{ContainerState, state_at, kind_in, reply_in}
+use Rattle.ft_trace.specs.ContainerStates.{ContainerState, state_at, kind_in, reply_in}
 use Rattle.ft_trace.proofs.Known.{declared_at, at_any}
 use Rattle.ft_trace.proofs.LookReplies.{element_there}
 use Rattle.ft_trace.proofs.Naming.{named_locked}
-use Rattle.ft_bank.specs.Writes.{MayHave}
-use Rattle.ft_search.specs.Calls.{IsShownBy}
+use Rattle.ft_bank.specs.WriteSteps.{MayHave}
+use Rattle.ft_search.specs.MadeCalls.{IsShownBy}
 use Rattle.ft_search.specs.Held.{IsHeldAt}
 use Rattle.ft_keyed.specs.Clearing.{cleared, cleared_kept}
-use Rattle.ft_search.specs.Writing.{Leaves, MayWriteEntries, without_key}
-use Rattle.ft_search.proofs.Holding.{set_known}
+use Rattle.ft_search.specs.OneEntryWrites.{Leaves, MayWriteEntries, without_key}
+use Rattle.ft_search.proofs.FoundInContents.{set_known}
 
 some_words : (words : List ℕ) (a b c : ℕ) → words ≡ a ∷ b ∷ c ∷ [] → words ≢ []
 some_words words a b c is none = let e = sym is ∙ none in absurd (cc)
@@ -216,7 +216,7 @@ module _ (s : ℕ) (v : View) (elements news : SetContent) (sc : SetCall) (said 
 
   few : length news.elements ≤ most_elements
   few =
-      let each : HasTableFor (length elements.elements) T.class T.fill set_entries = subst (λ (z : Content). IsTableOf z T) (there s v elements low mine is_set stored has) (has.order.each s) in
+      let each : HasTableFor (length elements.elements) T.class T.fill set_entries = subst (λ (z : Content). IsTableFor z T) (there s v elements low mine is_set stored has) (has.order.each s) in
       let low_count = table_short (length elements.elements) T.class T.fill each in
       subst (λ (z : ℕ). z ≤ most_elements) (sym count) low_count
 

@@ -7,20 +7,20 @@ use Rattle.ft_model.specs.declared.content.Content.TheVariants as content
 use Rattle.ft_model.specs.declared.reply.Reply.TheVariants as reply
 use Rattle.ft_model.specs.declared.script.Kind.TheVariants as kind
 use Rattle.ft_model.specs.Contents.{SetContent, set_and, set_sub}
-use Rattle.ft_model.specs.Tables.{StoredWorld}
+use Rattle.ft_model.specs.TableUses.{StoredWorld}
 use Rattle.ft_model.specs.Worlds.{set_at, set_of}
 use Rattle.ft_trace.specs.declared.Shape.{Shape}
 use Rattle.ft_trace.specs.declared.View.{View}
 use Rattle.ft_trace.specs.Addresses.{containers_in}
 use Rattle.ft_trace.specs.Holds.{known}
 use Rattle.ft_trace.specs.Traces.{Possible}
-use Rattle.ft_trace.specs.Worlds.{kind_in}
+use Rattle.ft_trace.specs.ContainerStates.{kind_in}
 use Rattle.ft_trace.proofs.Known.{declared_at}
 use Rattle.ft_trace.proofs.Naming.{named_locked}
-use Rattle.ft_bank.specs.Writes.{MayHave}
+use Rattle.ft_bank.specs.WriteSteps.{MayHave}
 use Rattle.ft_merging.specs.Thinning.{thinned_state}
-use Rattle.ft_merging.proofs.Finished.{is_set}
-use Rattle.ft_search.specs.Writing.{Leaves, MayWriteEntries}
+use Rattle.ft_merging.proofs.ThinningEnds.{is_set}
+use Rattle.ft_search.specs.OneEntryWrites.{Leaves, MayWriteEntries}
 use Rattle.ft_set.proofs.Leaving.{many, set_is, table_is, there}
 
 module _ (k : Shape) (s t : ℕ) (v : View) (shape : v.shape ≡ k) (possible : ∥ Possible v ∥₁) (may : MayWriteEntries k s v) (other : MayWriteEntries k t v) (is : kind_in k.kinds s ≡ kind.Set) (other_is : kind_in k.kinds t ≡ kind.Set) where

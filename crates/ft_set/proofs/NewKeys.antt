@@ -18,7 +18,7 @@ use Rattle.ft_model.specs.Answers.{answer_set, puts, after_write, is_raised}
 use Rattle.ft_model.specs.Calls.{is_changing_set, other_set, cursor_of_set, set_change, adds, one_or_two}
 use Rattle.ft_model.specs.Classes.{set_class, most_elements}
 use Rattle.ft_model.specs.Contents.{SetContent, empty_set, has_element, set_add}
-use Rattle.ft_model.specs.Tables.{StoredWorld, TableUse, no_table, CanLackMemory, takes_in, table_at, change_takes, change_leaves, set_takes, outgrows_set, grown_table, passes_cap, would_pass, after_stored}
+use Rattle.ft_model.specs.TableUses.{StoredWorld, TableUse, no_table, CanLackMemory, takes_in, table_at, change_takes, change_leaves, set_takes, outgrows_set, grown_table, passes_cap, would_pass, after_stored}
 use Rattle.ft_model.specs.Worlds.{set_of, set_at, length_of, no_hands}
 use Rattle.ft_layout.specs.declared.slot.Stored.TheVariants.{Empty}
 use Rattle.ft_layout.specs.Words.{FitsKey}
@@ -27,11 +27,11 @@ use Rattle.ft_trace.specs.Acts.{has_lock}
 use Rattle.ft_trace.specs.Addresses.{containers_in}
 use Rattle.ft_trace.specs.FitCalls.{FitsSetCall}
 use Rattle.ft_trace.specs.Holds.{known}
-use Rattle.ft_trace.specs.Worlds.{state_at}
+use Rattle.ft_trace.specs.ContainerStates.{state_at}
 use Rattle.ft_trace.proofs.SetGrowing.{added_next, added_length}
 use Rattle.ft_trace.proofs.Naming.{named_locked}
-use Rattle.ft_bank.specs.Writes.{MayHave}
-use Rattle.ft_adding.specs.Growing.{AddsKey, key_takes, most_of}
+use Rattle.ft_bank.specs.WriteSteps.{MayHave}
+use Rattle.ft_adding.specs.KeyGrowth.{AddsKey, key_takes, most_of}
 use Rattle.ft_adding.specs.Placing.{with_key}
 use Rattle.ft_set.proofs.Leaving.{set_is, table_is, many_tables, replies, declared, left_at}
 

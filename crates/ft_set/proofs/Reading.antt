@@ -2,7 +2,7 @@
 use Rattle.std.proofs.Common.{◌≡◌, ◌≢◌, ℕ, ◌<◌, true, List, [], ◌∷◌, length, Option, Some, None, refl, inr, sym, ap, ◌∙◌, subst}
 use Rattle.std.specs.Prelude.{slice_index_or, is_some}
 use Rattle.ft_model.specs.Contents.{SetContent, has_element, empty_set}
-use Rattle.ft_model.specs.Tables.{StoredWorld}
+use Rattle.ft_model.specs.TableUses.{StoredWorld}
 use Rattle.ft_model.specs.Worlds.{set_of, set_at}
 use Rattle.ft_model.specs.declared.call.Call.TheVariants as call
 use Rattle.ft_model.specs.declared.call.SetCall.TheVariants as set
@@ -17,13 +17,13 @@ use Rattle.ft_trace.specs.Addresses.{containers_in}
 use Rattle.ft_trace.specs.FitCalls.{FitsContent}
 use Rattle.ft_trace.specs.Holds.{known}
 use Rattle.ft_trace.specs.Kinds.{under}
-use Rattle.ft_trace.specs.Worlds.{ContainerState}
+use Rattle.ft_trace.specs.ContainerStates.{ContainerState}
 use Rattle.ft_trace.proofs.Known.{at_any}
 use Rattle.ft_trace.proofs.LookReplies.{element_there}
 use Rattle.ft_bank.specs.Reads.{IsShown}
 use Rattle.ft_bank.specs.Whole.{OnlyLoaded}
-use Rattle.ft_bank.specs.Writes.{MayHave}
-use Rattle.ft_bank.proofs.Whole.{work_knows}
+use Rattle.ft_bank.specs.WriteSteps.{MayHave}
+use Rattle.ft_bank.proofs.KnownAfterWrites.{work_knows}
 use Rattle.ft_search.specs.Held.{IsHeldAt}
 use Rattle.ft_search.proofs.Asking.{held_shown}
 

@@ -6,13 +6,13 @@ ghost use Rattle.ft_model.specs.declared.call.Call.TheVariants as call;
 ghost use Rattle.ft_model.specs.declared.call.SetCall.TheVariants as set;
 ghost use Rattle.ft_model.specs.declared.script.Kind.TheVariants as kind;
 ghost use Rattle.ft_trace.specs.Holds.{known};
-ghost use Rattle.ft_trace.specs.Worlds.{kind_in};
+ghost use Rattle.ft_trace.specs.ContainerStates.{kind_in};
 ghost use Rattle.ft_bank.specs.KeyHashes.{IsKeyIn};
 ghost use Rattle.ft_bank.specs.Passes.{shape_of, view, IsPassOf};
-ghost use Rattle.ft_bank.specs.Sections.{stack_of};
-ghost use Rattle.ft_search.specs.Calls.{MadeAs};
+ghost use Rattle.ft_bank.specs.PassSections.{stack_of};
+ghost use Rattle.ft_search.specs.MadeCalls.{MadeAs};
 ghost use Rattle.ft_search.specs.Held.{IsHeldAt};
-ghost use Rattle.ft_search.specs.Writing.{MayWriteEntries};
+ghost use Rattle.ft_search.specs.OneEntryWrites.{MayWriteEntries};
 
 use ft_bank::{Bank, Pass};
 use ft_keys::Way;

@@ -6,13 +6,13 @@ ghost use Rattle.ft_model.specs.declared.call.SetCall.TheVariants as set;
 ghost use Rattle.ft_model.specs.declared.script.Kind.TheVariants as kind;
 ghost use Rattle.ft_trace.specs.Acts.{announces};
 ghost use Rattle.ft_trace.specs.Addresses.{containers_in};
-ghost use Rattle.ft_trace.specs.Worlds.{kind_in};
+ghost use Rattle.ft_trace.specs.ContainerStates.{kind_in};
 ghost use Rattle.ft_bank.specs.KeyHashes.{IsKeyIn};
 ghost use Rattle.ft_bank.specs.Passes.{shape_of, view, IsPassOf};
-ghost use Rattle.ft_bank.specs.Sections.{stack_of};
+ghost use Rattle.ft_bank.specs.PassSections.{stack_of};
 ghost use Rattle.ft_keys.specs.declared.walk.Way.TheVariants as way;
-ghost use Rattle.ft_search.specs.Costs.{LoadsRounds};
-ghost use Rattle.ft_search.specs.Looks.{IsLookOf};
+ghost use Rattle.ft_search.specs.SearchCosts.{LoadsRounds};
+ghost use Rattle.ft_search.specs.KeyLooks.{IsLookOf};
 
 use ft_bank::{Bank, Pass};
 use ft_keys::Way;

@@ -7,12 +7,12 @@ use mathlib.Core.Logic.{dite}
 use native.Mathlib.Decide.{ℕ_discrete}
 use Rattle.ft_model.specs.Classes.{IsClass}
 use Rattle.ft_layout.specs.Sizes.{table_size}
-use Rattle.ft_layout.specs.Starts.{count_of, heap_size, words_below, part_start, HasWord}
+use Rattle.ft_layout.specs.Starts.{tables_of_class, heap_size, words_below, part_start, HasWord}
 use Rattle.ft_layout.proofs.Powers.{words_below-more}
 use Rattle.ft_trace.specs.declared.Shape.{Shape}
 use Rattle.ft_trace.specs.Bits.{bit}
 use Rattle.ft_trace.proofs.Bits.{bit_full}
-use Rattle.ft_trace.specs.Addresses.{Word, counter, write_number, announced_of, count_of_class, bits, lock_of, version_of, block, header, cell, containers_in, tables_in, class_of, number_of, free_word_of, free_bit_of, slots, places, size, IsTable, far, start_of, extent, at, Inside, free_counts, least, free_word, free_words, opening, sizes_of, part_of}
+use Rattle.ft_trace.specs.Addresses.{Word, counter, write_number, announced_of, count_of_class, bits, lock_of, version_of, block, header, cell, containers_in, tables_in, class_of, number_of, free_word_of, free_bit_of, slots, places, size, IsTableName, far, start_of, extent, at, Inside, free_counts, least, free_bits, free_words, opening, sizes_of, part_of}
 
 pub up_mul : (n a b : ℕ) → a ≤ b → a * n ≤ b * n
 up_mul n zero b low = omega arith
@@ -24,10 +24,10 @@ pub table_size_is : (c : ℕ) → table_size c ≡ 2 + size c
 unfolding slots places
 table_size_is c = omega arith
 
-pub first_next : (tables : List ℕ) (c : ℕ) → 3 ≤ c → words_below tables (suc c) ≡ words_below tables c + count_of tables c * (2 + size c)
+pub first_next : (tables : List ℕ) (c : ℕ) → 3 ≤ c → words_below tables (suc c) ≡ words_below tables c + tables_of_class tables c * (2 + size c)
 first_next tables c up =
     let e : c + 1 ≡ suc c = omega arith in
-    ap (words_below tables) (sym e) ∙ (words_below-more tables c up ∙ ap (λ (z : ℕ). words_below tables c + count_of tables c * z) (table_size_is c))
+    ap (words_below tables) (sym e) ∙ (words_below-more tables c up ∙ ap (λ (z : ℕ). words_below tables c + tables_of_class tables c * z) (table_size_is c))
 
 pub first_up : (tables : List ℕ) (a b : ℕ) → 3 ≤ a → a ≤ b → words_below tables a ≤ words_below tables b
 first_up tables zero b up low = absurd (omega arith)
@@ -37,7 +37,7 @@ first_up tables (suc a) (suc b) up low =
     (λ ne.
     let h = first_up tables (suc a) b up (omega arith) in
     let n = first_next tables b (omega arith) in
-    let p : 0 ≤ count_of tables b * (2 + size b) = omega arith in
+    let p : 0 ≤ tables_of_class tables b * (2 + size b) = omega arith in
     omega (arith, h, n, p))
 
 pub start_is : (k : Shape) (t : ℕ) → start_of k t ≡ far k + words_below k.tables (class_of t) + number_of t * (2 + size (class_of t))
@@ -69,7 +69,7 @@ start_low k t =
     omega (arith, e, f, p, q)
 
 -- where the tables of its class, and it, end
-end_class : (k : Shape) (t : ℕ) → IsTable k t → start_of k t + 2 + size (class_of t) ≤ far k + words_below k.tables (suc (class_of t))
+end_class : (k : Shape) (t : ℕ) → IsTableName k t → start_of k t + 2 + size (class_of t) ≤ far k + words_below k.tables (suc (class_of t))
 end_class k t is =
     let e = start_is k t in
     let f = first_next k.tables (class_of t) is.0.least in
@@ -77,7 +77,7 @@ end_class k t is =
     let m = up_mul (2 + size (class_of t)) (suc (number_of t)) (tables_in k (class_of t)) (omega arith) in
     omega (arith, e, f, m)
 
-pub start_high : (k : Shape) (t : ℕ) → IsTable k t → start_of k t + 2 + size (class_of t) ≤ extent k
+pub start_high : (k : Shape) (t : ℕ) → IsTableName k t → start_of k t + 2 + size (class_of t) ≤ extent k
 start_high k t is =
     let a = end_class k t is in
     let l = is.0.least in
@@ -86,7 +86,7 @@ start_high k t is =
     let e = extent_is k in
     omega (arith, a, b, e)
 
-before : (k : Shape) (t q : ℕ) → IsTable k t → IsTable k q → class_of t < class_of q → start_of k t + 2 + size (class_of t) ≤ start_of k q
+before : (k : Shape) (t q : ℕ) → IsTableName k t → IsTableName k q → class_of t < class_of q → start_of k t + 2 + size (class_of t) ≤ start_of k q
 before k t q is it less =
     let a = end_class k t is in
     let l = is.0.least in
@@ -103,7 +103,7 @@ beside k t q same less =
     omega (arith, e, f, m)
 
 -- two tables that meet are one
-pub start_apart : (k : Shape) (t q : ℕ) → IsTable k t → IsTable k q → start_of k q < start_of k t + 2 + size (class_of t) → start_of k t < start_of k q + 2 + size (class_of q) → t ≡ q
+pub start_apart : (k : Shape) (t q : ℕ) → IsTableName k t → IsTableName k q → start_of k q < start_of k t + 2 + size (class_of t) → start_of k t < start_of k q + 2 + size (class_of q) → t ≡ q
 start_apart k t q is it a b =
     dite (dec_lt (class_of t) (class_of q)) (λ less. let h = before k t q is it less in absurd (omega arith))
     (λ no. dite (dec_lt (class_of q) (class_of t)) (λ less. let h = before k q t it is less in absurd (omega arith))
@@ -220,7 +220,7 @@ past_front (x ∷ xs) ys i zero d is = absurd (omega arith)
 past_front (x ∷ xs) ys i (suc n) d is = past_front xs ys i n d (omega arith)
 
 -- which table is which bit of which word
-pub fw_low : (k : Shape) (t : ℕ) → IsTable k t → free_word_of t < 224
+pub fw_low : (k : Shape) (t : ℕ) → IsTableName k t → free_word_of t < 224
 unfolding free_word_of
 fw_low k t is = let l = is.0.least in let h = is.0.greatest in let n = is.2 in omega (arith, l, h, n)
 
@@ -228,7 +228,7 @@ pub bt_low : (t : ℕ) → free_bit_of t < 64
 unfolding free_bit_of
 bt_low t = omega arith
 
-pub same_bit : (k : Shape) (t q : ℕ) → IsTable k t → IsTable k q → free_word_of t ≡ free_word_of q → free_bit_of t ≡ free_bit_of q → t ≡ q
+pub same_bit : (k : Shape) (t q : ℕ) → IsTableName k t → IsTableName k q → free_word_of t ≡ free_word_of q → free_bit_of t ≡ free_bit_of q → t ≡ q
 unfolding free_word_of free_bit_of
 same_bit k t q is it c n =
     let a = is.0.least in
@@ -237,7 +237,7 @@ same_bit k t q is it c n =
     let f = it.2 in
     same_table t q (omega (arith, a, b, e, f, c)) (omega (arith, a, b, e, f, c, n))
 
-pub num_is : (k : Shape) (t : ℕ) → IsTable k t → (number_of t ≡ 64 * (free_word_of t % 16) + free_bit_of t) × (3 + free_word_of t / 16 ≡ class_of t)
+pub num_is : (k : Shape) (t : ℕ) → IsTableName k t → (number_of t ≡ 64 * (free_word_of t % 16) + free_bit_of t) × (3 + free_word_of t / 16 ≡ class_of t)
 unfolding free_word_of free_bit_of
 num_is k t is = let a = is.0.least in let n = is.2 in (omega (arith, a, n), omega (arith, a, n))
 
@@ -258,19 +258,19 @@ counts_long : (tables : List ℕ) (c n : ℕ) → length (free_counts tables c n
 counts_long tables c zero = refl
 counts_long tables c (suc n) = ap suc (counts_long tables (suc c) n)
 
-counts_at : (tables : List ℕ) (c n i : ℕ) → i < n → get_or (free_counts tables c n) i 0 ≡ count_of tables (c + i)
+counts_at : (tables : List ℕ) (c n i : ℕ) → i < n → get_or (free_counts tables c n) i 0 ≡ tables_of_class tables (c + i)
 counts_at tables c zero i low = absurd (omega arith)
-counts_at tables c (suc n) zero low = ap (count_of tables) (omega arith)
-counts_at tables c (suc n) (suc i) low = counts_at tables (suc c) n i (omega arith) ∙ ap (count_of tables) (omega arith)
+counts_at tables c (suc n) zero low = ap (tables_of_class tables) (omega arith)
+counts_at tables c (suc n) (suc i) low = counts_at tables (suc c) n i (omega arith) ∙ ap (tables_of_class tables) (omega arith)
 
 free_long : (tables : List ℕ) (w n : ℕ) → length (free_words tables w n) ≡ n
 free_long tables w zero = refl
 free_long tables w (suc n) = ap suc (free_long tables (suc w) n)
 
-free_at : (tables : List ℕ) (w n i : ℕ) → i < n → get_or (free_words tables w n) i 0 ≡ free_word tables (w + i)
+free_at : (tables : List ℕ) (w n i : ℕ) → i < n → get_or (free_words tables w n) i 0 ≡ free_bits tables (w + i)
 free_at tables w zero i low = absurd (omega arith)
-free_at tables w (suc n) zero low = ap (free_word tables) (omega arith)
-free_at tables w (suc n) (suc i) low = free_at tables (suc w) n i (omega arith) ∙ ap (free_word tables) (omega arith)
+free_at tables w (suc n) zero low = ap (free_bits tables) (omega arith)
+free_at tables w (suc n) (suc i) low = free_at tables (suc w) n i (omega arith) ∙ ap (free_bits tables) (omega arith)
 
 least_up : (x : Bool) (b n : ℕ) → b < 64 → b < n → b < least x n
 least_up true b n low less = less
@@ -337,20 +337,20 @@ module _ (k : Shape) where
   count_first c is =
       let l = is.least in
       let h = is.greatest in
-      part_counts Anns Counts (Frees ++ Rest) (c - 3) long_anns long_counts (omega (arith, l, h)) ∙ (counts_at k.tables 3 14 (c - 3) (omega (arith, l, h)) ∙ ap (count_of k.tables) (omega (arith, l)))
+      part_counts Anns Counts (Frees ++ Rest) (c - 3) long_anns long_counts (omega (arith, l, h)) ∙ (counts_at k.tables 3 14 (c - 3) (omega (arith, l, h)) ∙ ap (tables_of_class k.tables) (omega (arith, l)))
 
-  pub bits_first : (w : ℕ) → w < 224 → slice_index (opening k) (at k (bits w)) ≡ free_word k.tables w
-  bits_first w low = part_frees Anns Counts Frees Rest w long_anns long_counts long_frees low ∙ (free_at k.tables 0 224 w low ∙ ap (free_word k.tables) (omega arith))
+  pub bits_first : (w : ℕ) → w < 224 → slice_index (opening k) (at k (bits w)) ≡ free_bits k.tables w
+  bits_first w low = part_frees Anns Counts Frees Rest w long_anns long_counts long_frees low ∙ (free_at k.tables 0 224 w low ∙ ap (free_bits k.tables) (omega arith))
 
   -- all tables are free
-  pub bit_first : (t : ℕ) → IsTable k t → bit (free_bit_of t) (slice_index (opening k) (at k (bits (free_word_of t)))) ≡ 1
+  pub bit_first : (t : ℕ) → IsTableName k t → bit (free_bit_of t) (slice_index (opening k) (at k (bits (free_word_of t)))) ≡ 1
   bit_first t is =
       let n = num_is k t is in
       let n0 = n.0 in
       let l = is.1 in
       let low = bt_low t in
-      let d = count_of k.tables (3 + free_word_of t / 16) - 64 * (free_word_of t % 16) in
-      let same : count_of k.tables (3 + free_word_of t / 16) ≡ tables_in k (class_of t) = ap (count_of k.tables) n.1 in
+      let d = tables_of_class k.tables (3 + free_word_of t / 16) - 64 * (free_word_of t % 16) in
+      let same : tables_of_class k.tables (3 + free_word_of t / 16) ≡ tables_in k (class_of t) = ap (tables_of_class k.tables) n.1 in
       ap (bit (free_bit_of t)) (bits_first (free_word_of t) (fw_low k t is)) ∙ bit_full (least (ltb d 64) d) (free_bit_of t) (least_up (ltb d 64) (free_bit_of t) d low (omega (arith, n0, l, same)))
 
   pub ann_first : (p : ℕ) → 0 < p → p ≤ 64 → slice_index (opening k) (at k (announced_of p)) ≡ 0
@@ -373,7 +373,7 @@ version_first k o low = low_first k (at k (version_of o)) (omega arith) (omega a
 pub block_first : (k : Shape) (o i : ℕ) → o < containers_in k → i < 6 → slice_index (opening k) (at k (block o i)) ≡ 0
 block_first k o i low small = low_first k (at k (block o i)) (omega arith) (omega arith)
 
-pub cell_first : (k : Shape) (t i : ℕ) → IsTable k t → i < size (class_of t) → slice_index (opening k) (at k (cell t i)) ≡ 0
+pub cell_first : (k : Shape) (t i : ℕ) → IsTableName k t → i < size (class_of t) → slice_index (opening k) (at k (cell t i)) ≡ 0
 cell_first k t i table small = rest_first k (at k (cell t i)) (let l = start_low k t in omega (arith, l)) (at_low k (cell t i) (table, small))
 
 start_part : (k : Shape) (t : ℕ) → start_of k t ≡ part_start (sizes_of k) (part_of (header t))

@@ -9,15 +9,15 @@ use Rattle.ft_trace.specs.declared.View.{View}
 use Rattle.ft_trace.specs.declared.Act.{Act}
 use Rattle.ft_trace.specs.declared.Act.TheVariants.{TakeTable, GiveTable, PutRoot, Retire, ReadRoot, Announce}
 use Rattle.ft_trace.specs.Bits.{bit}
-use Rattle.ft_trace.specs.Addresses.{IsTable, free_bit_of}
+use Rattle.ft_trace.specs.Addresses.{IsTableName, free_bit_of}
 use Rattle.ft_trace.specs.Acts.{reads, starter, noted, maker, made, both, spent, sender, note}
 use Rattle.ft_trace.specs.Ages.{aged, age, gone_to, whose, seen, seen_next}
 use Rattle.ft_trace.specs.Traces.{Event, did, forked, joined, sent, run, Valid}
 use Rattle.ft_trace.proofs.Sizes.{set_at, set_views, one_more, one_view}
 use Rattle.atomic_table.proofs.Lists.{set_else}
 use Rattle.ft_trace.proofs.Cases.{hit, miss, here, off}
-use Rattle.ft_trace.proofs.Places.{placed}
-use Rattle.ft_trace.proofs.Reusing.{safe}
+use Rattle.ft_trace.proofs.TablePlaces.{placed}
+use Rattle.ft_trace.proofs.FoundTables.{safe}
 
 -- one step of an age: up by one, or to the next multiple of 5
 pub record Step (g h : ℕ) : Type 0 where
@@ -96,7 +96,7 @@ next_within s g h step two w =
     let c = w.2 in
     (a, omega arith, ⊎_elim (λ (x : h ≤ g + 1). omega arith) (λ (x : h % 5 ≡ 0). absurd (omega arith)) step.small)
 
-seen_mine : (k : Shape) (es : List Event) (id : ℕ) (v : View) (t : ℕ) → IsTable k t → Seen es t id v → (a : Act) → Valid k (did id v a ∷ es) → (reads t (a ∷ v.log) ≡ true → 2 ≤ aged a t (age es t) % 5) → Seen (did id v a ∷ es) t id (noted a v)
+seen_mine : (k : Shape) (es : List Event) (id : ℕ) (v : View) (t : ℕ) → IsTableName k t → Seen es t id v → (a : Act) → Valid k (did id v a ∷ es) → (reads t (a ∷ v.log) ≡ true → 2 ≤ aged a t (age es t) % 5) → Seen (did id v a ∷ es) t id (noted a v)
 seen_mine k es id v t table old (Announce p x) ok two r = off r
 seen_mine k es id v t table old (ReadRoot o f) ok two r =
     let s = seen es id t in
@@ -119,7 +119,7 @@ seen_mine k es id v t table old act ok two r =
     let now : seen (did id v act ∷ es) id t ≡ s = hit id s s in
     subst (λ (z : ℕ). Within z (aged act t (age es t))) (sym now) (next_within s (age es t) (aged act t (age es t)) (ages_by act t (age es t)) (two r) (old r))
 
-pub within : (k : Shape) (es : List Event) → Valid k es → (t : ℕ) → IsTable k t → (j : ℕ) (u : View) → get_elem? (run k es).views j ≡ some u → Seen es t j u
+pub within : (k : Shape) (es : List Event) → Valid k es → (t : ℕ) → IsTableName k t → (j : ℕ) (u : View) → get_elem? (run k es).views j ≡ some u → Seen es t j u
 within k [] valid t table = one_view (Seen [] t) (starter k) (λ e. off e)
 within k (did id v a ∷ es) valid t table =
     let old = within k es valid.0 t table in

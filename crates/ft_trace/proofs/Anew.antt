@@ -9,12 +9,12 @@ use Rattle.ft_trace.specs.declared.View.{View}
 use Rattle.ft_trace.specs.declared.Act.{Act}
 use Rattle.ft_trace.specs.declared.Act.TheVariants.{ReadRoot, ReadTable, ReadCounter, Version}
 use Rattle.ft_trace.specs.Acts.{reads}
-use Rattle.ft_trace.specs.Addresses.{IsTable, containers_in}
-use Rattle.ft_trace.specs.Finding.{Online, Window, Inner, unread, IsNew}
+use Rattle.ft_trace.specs.Addresses.{IsTableName, containers_in}
+use Rattle.ft_trace.specs.LoggedLookUps.{Online, LookUpWindow, Inner, unread, IsNew}
 use Rattle.ft_trace.specs.Traces.{Event, run, Valid}
 use Rattle.ft_trace.proofs.Cases.{miss, here}
-use Rattle.ft_trace.proofs.Moments.{was}
-use Rattle.ft_trace.proofs.Places.{root, root_table}
+use Rattle.ft_trace.proofs.EarlierMoments.{was}
+use Rattle.ft_trace.proofs.TablePlaces.{root, root_table}
 use Rattle.ft_trace.proofs.Spots.{root_again}
 
 inner_reads : (t : ℕ) (mid l : List Act) → Inner mid → reads t (mid ++ l) ≡ reads t l
@@ -32,7 +32,7 @@ inner_online (ReadCounter f ∷ mid) a q on = inner_online mid a q on
 inner_online (act ∷ mid) a q on = absurd q
 
 -- the table of a root
-pub found_table : (k : Shape) (es : List Event) → Valid k es → (j : ℕ) (u : View) → get_elem? (run k es).views j ≡ some u → (o t : ℕ) → o < containers_in k → (rest : List Act) → u.log ≡ ReadRoot o (suc t) ∷ rest → IsTable k t
+pub found_table : (k : Shape) (es : List Event) → Valid k es → (j : ℕ) (u : View) → get_elem? (run k es).views j ≡ some u → (o t : ℕ) → o < containers_in k → (rest : List Act) → u.log ≡ ReadRoot o (suc t) ∷ rest → IsTableName k t
 found_table k es valid j u at o t low rest is =
     let w = was k es valid j u at [] (ReadRoot o (suc t)) rest is in
     root_table k w.older w.valid o low t (sym w.tells)
@@ -46,7 +46,7 @@ is_new k es valid j u at o r low l is t f mid rest names ne log q =
     by false e whole = refl
     by true e whole =
         let walk = mid ++ ReadRoot o f ∷ [] in
-        let win : Window u.log o t walk = record { newer = []; rest = rest; is = whole ∙ ap (λ (z : List Act). ReadRoot o (suc t) ∷ z) (sym (append_assoc mid (ReadRoot o f ∷ []) rest)); online = inner_online mid (ReadRoot o f) q tt; before = e } in
+        let win : LookUpWindow u.log o t walk = record { newer = []; rest = rest; is = whole ∙ ap (λ (z : List Act). ReadRoot o (suc t) ∷ z) (sym (append_assoc mid (ReadRoot o f ∷ []) rest)); online = inner_online mid (ReadRoot o f) q tt; before = e } in
         let h = root_again k es valid j u at o t low walk win mid (ReadRoot o f) [] refl in
         let tells : f ≡ root k h.0 o = h.3 in
         absurd (ne (tells ∙ (h.4 ∙ sym names)))

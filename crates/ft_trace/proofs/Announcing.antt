@@ -8,12 +8,12 @@ use Rattle.ft_trace.specs.declared.Act.{Act}
 use Rattle.ft_trace.specs.declared.Act.TheVariants.{Retire, Announce, ReadAnnounced, WriteNumber}
 use Rattle.ft_trace.specs.Addresses.{write_number, announced_of}
 use Rattle.ft_trace.specs.Acts.{announces, announces_next, starter, noted, maker, made, both, spent, sender, note}
-use Rattle.ft_trace.specs.Seats.{top}
+use Rattle.ft_trace.specs.NumberPlaces.{top}
 use Rattle.ft_trace.specs.Traces.{Fits, Event, did, forked, joined, sent, run, word, history, May, Valid}
 use Rattle.ft_trace.proofs.Sizes.{set_views, one_more, one_view}
 use Rattle.ft_trace.proofs.Addresses.{ann_first}
-use Rattle.ft_trace.proofs.Words.{stays, moves, loaded}
-use Rattle.ft_trace.proofs.Versions.{one_up}
+use Rattle.ft_trace.proofs.OneWord.{stays, moves, loaded}
+use Rattle.ft_trace.proofs.OddVersions.{one_up}
 use Rattle.ft_trace.proofs.Seats.{seated, same_seat}
 
 -- what the action is to the announced words and the write number

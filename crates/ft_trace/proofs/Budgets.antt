@@ -14,8 +14,8 @@ use Rattle.ft_trace.specs.Entries.{total}
 use Rattle.ft_trace.specs.Traces.{Event, did, forked, joined, sent, run, word, history, May, Valid}
 use Rattle.ft_trace.proofs.Sizes.{set_views, one_more, one_view}
 use Rattle.ft_trace.proofs.Cases.{here, miss}
-use Rattle.ft_trace.proofs.Words.{stays, moves, loaded}
-use Rattle.ft_trace.proofs.Versions.{one_up}
+use Rattle.ft_trace.proofs.OneWord.{stays, moves, loaded}
+use Rattle.ft_trace.proofs.OddVersions.{one_up}
 use Rattle.atomic_table.proofs.Lists.{set_else}
 use Rattle.ft_trace.proofs.Totals.{total_set, total_forked}
 

@@ -8,9 +8,9 @@ use Rattle.ft_model.specs.Worlds.{list_of}
 use Rattle.ft_model.specs.Classes.{IsClass, set_entries}
 use Rattle.ft_layout.proofs.Powers.{slots_range}
 use Rattle.ft_trace.specs.Addresses.{slots, places, size}
-use Rattle.ft_trace.specs.Words.{walk_of, entry_at}
+use Rattle.ft_trace.specs.Pictures.{walk_of, entry_offset}
 use Rattle.ft_trace.specs.Carefuls.{Sound, Later}
-use Rattle.ft_trace.specs.Items.{ItemSound, ItemLater}
+use Rattle.ft_trace.specs.ItemWords.{ItemSound, ItemLater}
 use Rattle.ft_trace.specs.Kinds.{under, rows, version_at, SoundAs, CarefulAs, ClearAs, LaterAs, IsKeyed, IsItems}
 use Rattle.ft_trace.proofs.Carefuls.{later_self, later_trans, careful_later, careful_sound, clear_sound}
 use Rattle.ft_trace.proofs.Items.{item_self, item_trans, item_careful_later, item_careful_sound, item_clear_sound}
@@ -87,5 +87,5 @@ keyed_fit kind.Dict is c = omega arith
 keyed_fit kind.Set is c = sets_fit c
 keyed_fit kind.List is c = absurd is
 
-pub keyed_low : (kind : Kind) → IsKeyed kind → (c p w : ℕ) → p < rows kind c → w < 8 → entry_at (slots c) p w < size c
+pub keyed_low : (kind : Kind) → IsKeyed kind → (c p w : ℕ) → p < rows kind c → w < 8 → entry_offset (slots c) p w < size c
 keyed_low kind is c p w low few = let f = keyed_fit kind is c in omega (arith, low, few, f)

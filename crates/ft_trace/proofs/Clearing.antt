@@ -9,7 +9,7 @@ use Rattle.ft_model.specs.declared.content.Content.TheVariants as content
 use Rattle.ft_model.specs.declared.data.Value.{Value}
 use Rattle.ft_model.specs.declared.reply.Reply.TheVariants as reply
 use Rattle.ft_model.specs.declared.script.Kind.TheVariants as kind
-use Rattle.ft_model.specs.Tables.{no_table, stored_newest}
+use Rattle.ft_model.specs.TableUses.{no_table, stored_newest}
 use Rattle.ft_layout.specs.Containers.{IsBlock, StandsAs}
 use Rattle.ft_trace.specs.declared.Shape.{Shape}
 use Rattle.ft_trace.specs.declared.Snap.{Snap}
@@ -18,10 +18,10 @@ use Rattle.ft_trace.specs.declared.Act.{Act}
 use Rattle.ft_trace.specs.declared.Act.TheVariants.{StartWrite, PutRoot, PutBlock, Commit, StopWrite, Unlock}
 use Rattle.ft_trace.specs.Addresses.{Word, containers_in, counter, version_of, lock_of, block, class_of, at, extent, Inside}
 use Rattle.ft_trace.specs.Acts.{place, Reports, has_lock, is_writing, has_committed, used, owes, mem, noted}
-use Rattle.ft_trace.specs.Worlds.{ContainerState, kind_in}
-use Rattle.ft_trace.specs.Words.{root_of, inner, Picture, root_in, picture, Stands}
+use Rattle.ft_trace.specs.ContainerStates.{ContainerState, kind_in}
+use Rattle.ft_trace.specs.Pictures.{root_of, inner, Picture, root_in, picture, Stands}
 use Rattle.ft_trace.specs.Kinds.{rows, version_at}
-use Rattle.ft_trace.specs.Openings.{Shut}
+use Rattle.ft_trace.specs.OddVersions.{Shut}
 use Rattle.ft_trace.specs.Holds.{held, known}
 use Rattle.ft_trace.specs.Traces.{did, run, word, history, snap, May, Valid, Possible, Sure, IsAwake}
 use Rattle.ft_trace.proofs.Sizes.{set_at}
@@ -30,12 +30,12 @@ use Rattle.ft_trace.proofs.Addresses.{at_low, at_apart}
 use Rattle.ft_trace.proofs.Pieces.{block_zero, block_at}
 use Rattle.ft_trace.proofs.Evens.{holder_shut}
 use Rattle.ft_trace.proofs.Images.{imaged}
-use Rattle.ft_trace.proofs.Rooms.{counter_room, version_room}
+use Rattle.ft_trace.proofs.NoWrap.{counter_room, version_room}
 use Rattle.ft_trace.proofs.Held.{content_known, root_known, table_known, held_stands, stop_sure}
 use Rattle.ft_trace.proofs.Untouched.{as_many, there_is}
 use Rattle.std.specs.Prelude.{option_map, Some}
 use Rattle.ft_model.specs.Worlds.{kind_of, no_hands, IsDeclared}
-use Rattle.ft_trace.proofs.Nexts.{next_possible}
+use Rattle.ft_trace.proofs.NextActions.{next_possible}
 use Rattle.ft_trace.proofs.Naming.{one_locked}
 use Rattle.ft_trace.proofs.Contents.{empty_stands}
 

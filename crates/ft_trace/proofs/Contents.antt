@@ -14,19 +14,19 @@ use Rattle.ft_trace.specs.Acts.{is_writing, noted}
 use Rattle.ft_model.specs.declared.script.Kind.{Kind}
 use Rattle.ft_model.specs.declared.script.Kind.TheVariants as kind
 use Rattle.ft_model.specs.Worlds.{empty_content}
-use Rattle.ft_model.specs.Tables.{no_table}
+use Rattle.ft_model.specs.TableUses.{no_table}
 use Rattle.std.specs.Prelude.{replicate, map, slice_index_or}
-use Rattle.ft_trace.specs.Worlds.{ContainerState, container_after, kind_in}
+use Rattle.ft_trace.specs.ContainerStates.{ContainerState, container_after, kind_in}
 use Rattle.ft_trace.proofs.Untouched.{untouched}
-use Rattle.ft_trace.specs.Words.{table_of, inner, Picture, picture, Stands}
+use Rattle.ft_trace.specs.Pictures.{table_of, inner, Picture, picture, Stands}
 use Rattle.ft_trace.specs.Traces.{Event, did, forked, joined, sent, run, word, writes_of, history, StandsFor, May, Valid}
 use Rattle.ft_trace.proofs.Sizes.{set_at}
 use Rattle.ft_trace.proofs.Cases.{hit, off}
 use Rattle.ft_trace.proofs.Addresses.{block_first}
-use Rattle.ft_trace.proofs.Words.{stays, moves, loaded}
+use Rattle.ft_trace.proofs.OneWord.{stays, moves, loaded}
 use Rattle.ft_trace.proofs.Pieces.{block_zero, table_same, picture_same}
-use Rattle.ft_trace.proofs.Versions.{one_up, version, versioned, on_seq, writing_is_odd, rises, rises_one}
-use Rattle.ft_trace.proofs.Places.{root, root_table, placed}
+use Rattle.ft_trace.proofs.OddVersions.{one_up, version, versioned, on_seq, writing_is_odd, rises, rises_one}
+use Rattle.ft_trace.proofs.TablePlaces.{root, root_table, placed}
 
 abbrev pub count : Shape → List Event → ℕ
 count k es = word k es counter

@@ -10,7 +10,7 @@ use Rattle.ft_trace.specs.declared.View.{View}
 use Rattle.ft_trace.specs.declared.Act.{Act}
 use Rattle.ft_trace.specs.declared.Act.TheVariants.{LowerCount, RaiseCount, ReadCount, ReadFree, TakeTable, GiveTable}
 use Rattle.ft_trace.specs.Bits.{bit}
-use Rattle.ft_trace.specs.Addresses.{tables_in, count_of_class, bits, class_of, number_of, free_word_of, free_bit_of, IsTable}
+use Rattle.ft_trace.specs.Addresses.{tables_in, count_of_class, bits, class_of, number_of, free_word_of, free_bit_of, IsTableName}
 use Rattle.ft_trace.specs.Acts.{place, stage, flight, flight_next, noted, maker, made, both, spent, sender, note}
 use Rattle.ft_trace.specs.Entries.{total}
 use Rattle.ft_trace.specs.Counts.{sum_to, bit_of, set_bits, taking, giving}
@@ -20,9 +20,9 @@ use Rattle.ft_trace.proofs.Announcing.{fits}
 use Rattle.ft_trace.proofs.Cases.{miss, here, same_or}
 use Rattle.ft_trace.proofs.Addresses.{bt_low, class_of_number, number_of_number, table_is, bit_first, count_first}
 use Rattle.ft_trace.proofs.Bits.{off_same, on_same, off_else, on_else, bit_small}
-use Rattle.ft_trace.proofs.Words.{stays, moves, loaded}
-use Rattle.ft_trace.proofs.Versions.{one_up}
-use Rattle.ft_trace.proofs.Places.{placed, other_bit, bit_stays}
+use Rattle.ft_trace.proofs.OneWord.{stays, moves, loaded}
+use Rattle.ft_trace.proofs.OddVersions.{one_up}
+use Rattle.ft_trace.proofs.TablePlaces.{placed, other_bit, bit_stays}
 use Rattle.ft_trace.proofs.Totals.{total_set, total_forked, total_joined}
 
 pub sum_same : (f g : ℕ → ℕ) (n : ℕ) → ((i : ℕ) → i < n → f i ≡ g i) → sum_to f n ≡ sum_to g n
@@ -80,7 +80,7 @@ abbrev pub busy_in : ℕ → View → ℕ
 busy_in c u = busy c (flight u.log)
 
 -- a table of the class
-pub of_class : (k : Shape) (c i : ℕ) → tables_in k c ≤ 1024 → IsClass c → i < tables_in k c → IsTable k (65536 * c + i)
+pub of_class : (k : Shape) (c i : ℕ) → tables_in k c ≤ 1024 → IsClass c → i < tables_in k c → IsTableName k (65536 * c + i)
 of_class k c i small low less =
     let a = class_of_number c i (omega arith) in
     let b = number_of_number c i (omega arith) in
@@ -118,7 +118,7 @@ module _ (k : Shape) (es : List Event) (id : ℕ) (v : View) (c : ℕ) (small : 
   no_bit a may apart = sum_same (λ i. bit_of k (did id v a ∷ es) (65536 * c + i)) (λ i. bit_of k es (65536 * c + i)) (tables_in k c) (λ i less. bit_stays k es id v (65536 * c + i) (of_class k c i small low less) a may (apart (free_word_of (65536 * c + i))))
 
   -- on the bit of the table p
-  one_bit : (a : Act) (p : ℕ) → IsTable k p → ((t : ℕ) → IsTable k t → p ≢ t → bit_of k (did id v a ∷ es) t ≡ bit_of k es t) → ((class_of p ≡ c) × (S' a + bit_of k es p ≡ S + bit_of k (did id v a ∷ es) p)) ⊎ ((class_of p ≢ c) × (S' a ≡ S))
+  one_bit : (a : Act) (p : ℕ) → IsTableName k p → ((t : ℕ) → IsTableName k t → p ≢ t → bit_of k (did id v a ∷ es) t ≡ bit_of k es t) → ((class_of p ≡ c) × (S' a + bit_of k es p ≡ S + bit_of k (did id v a ∷ es) p)) ⊎ ((class_of p ≢ c) × (S' a ≡ S))
   one_bit a p is else =
       let f : ℕ → ℕ = λ i. bit_of k (did id v a ∷ es) (65536 * c + i) in
       let g : ℕ → ℕ = λ i. bit_of k es (65536 * c + i) in
@@ -132,10 +132,10 @@ module _ (k : Shape) (es : List Event) (id : ℕ) (v : View) (c : ℕ) (small : 
       inl (e, omega (arith, s, x, y)))
       (λ far. inr (far, sum_same f g (tables_in k c) (λ i less. else (65536 * c + i) (of_class k c i small low less) (λ z. far (ap class_of z ∙ class_of_number c i (omega arith))))))
 
-  take_else : (p f : ℕ) (s : _) → May k (run k es) (history es) v (TakeTable p f s) → (t : ℕ) → IsTable k t → p ≢ t → bit_of k (did id v (TakeTable p f s) ∷ es) t ≡ bit_of k es t
+  take_else : (p f : ℕ) (s : _) → May k (run k es) (history es) v (TakeTable p f s) → (t : ℕ) → IsTableName k t → p ≢ t → bit_of k (did id v (TakeTable p f s) ∷ es) t ≡ bit_of k es t
   take_else p f s may t is ne = other_bit k es id v t is p may.0 (TakeTable p f s) ne refl may (λ n apart. off_else (free_bit_of p) (free_bit_of t) n (bt_low p) (bt_low t) apart)
 
-  give_else : (p : ℕ) → May k (run k es) (history es) v (GiveTable p) → (t : ℕ) → IsTable k t → p ≢ t → bit_of k (did id v (GiveTable p) ∷ es) t ≡ bit_of k es t
+  give_else : (p : ℕ) → May k (run k es) (history es) v (GiveTable p) → (t : ℕ) → IsTableName k t → p ≢ t → bit_of k (did id v (GiveTable p) ∷ es) t ≡ bit_of k es t
   give_else p may t is ne = other_bit k es id v t is p may.0 (GiveTable p) ne refl may (λ n apart. on_else (free_bit_of p) (free_bit_of t) n (bt_low p) apart)
 
   by_lower : (d old f : ℕ) → Step (LowerCount d old f)

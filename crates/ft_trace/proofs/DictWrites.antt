@@ -18,7 +18,7 @@ use Rattle.ft_model.specs.Answers.{Answer, answer, answer_dict, puts, after_writ
 use Rattle.ft_model.specs.Classes.{IsClass, dict_class, most_pairs}
 use Rattle.ft_model.specs.Contents.{DictContent, IsDict, dict_get, dict_set, empty_dict}
 use Rattle.ft_model.specs.Worlds.{kind_of, dict_of, dict_at, no_hands}
-use Rattle.ft_model.specs.Tables.{TableUse, StoredWorld, no_table, stored_newest, takes_in, table_at, outgrows_dict, grown_table, passes_cap, would_pass, after_stored}
+use Rattle.ft_model.specs.TableUses.{TableUse, StoredWorld, no_table, stored_newest, takes_in, table_at, outgrows_dict, grown_table, passes_cap, would_pass, after_stored}
 use Rattle.ft_model.proofs.KnownKeys.{length-filter-le}
 use Rattle.ft_hash.specs.Probes.{dict_walk}
 use Rattle.ft_hash.proofs.Walks.{dict_walk-within}
@@ -26,7 +26,7 @@ use Rattle.ft_layout.specs.declared.slot.Stored.TheVariants.{Plain}
 use Rattle.ft_layout.specs.Words.{FitsKey, FitsStored, stored_kind, stored_payload}
 use Rattle.ft_layout.specs.Tables.{UsedEntry, is_live, dict_room, IsTable, IsDictTable}
 use Rattle.ft_layout.specs.Tables as layout
-use Rattle.ft_layout.specs.Changes.{with_stored}
+use Rattle.ft_layout.specs.WordChanges.{with_stored}
 use Rattle.ft_layout.specs.Containers.{class_mask, used_pair, AreDictEntries, IsDictWords, StandsAs}
 use Rattle.ft_layout.proofs.ContentLaws.{stands_for_dict}
 use Rattle.ft_layout.proofs.FieldLaws.{sizes_of_class}
@@ -37,15 +37,15 @@ use Rattle.ft_trace.specs.declared.Snap.{Snap}
 use Rattle.ft_trace.specs.declared.View.{View}
 use Rattle.ft_trace.specs.Addresses.{containers_in, class_of, slots, places, size}
 use Rattle.ft_trace.specs.Acts.{has_lock}
-use Rattle.ft_trace.specs.Worlds.{ContainerState, container_after, kind_in}
-use Rattle.ft_trace.specs.Words.{root_in, Stands, index_of, entry_at, entry_of, walk_of}
-use Rattle.ft_trace.specs.Carefuls.{said_of, IsLive, Reached, Clear}
+use Rattle.ft_trace.specs.ContainerStates.{ContainerState, container_after, kind_in}
+use Rattle.ft_trace.specs.Pictures.{root_in, Stands, index_field, entry_offset, entry_field, walk_of}
+use Rattle.ft_trace.specs.Carefuls.{said_of, HasLiveKey, Reached, Clear}
 use Rattle.ft_trace.specs.Kinds.{under, rows, version_at, ClearAs}
-use Rattle.ft_trace.specs.Openings.{Shut}
+use Rattle.ft_trace.specs.OddVersions.{Shut}
 use Rattle.ft_trace.specs.Holds.{held, known, AgreesWith}
 use Rattle.ft_trace.specs.Traces.{Possible}
 use Rattle.ft_trace.specs.Grants.{MayWrite}
-use Rattle.ft_trace.specs.Writes.{to_table, MayPut, MayPuts, Write, at_commit, at_end, after_write_of, MayCommit, MayWriteSo}
+use Rattle.ft_trace.specs.WholeWrites.{to_table, MayPut, MayPuts, WholeWrite, at_commit, at_end, after_write_of, MayCommitWrite, MayWriteSo}
 use Rattle.ft_trace.specs.EntryWrites.{value_puts, entry_closed, dict_set_write, ValuesMayBePut}
 use Rattle.ft_trace.proofs.Held.{held_stands}
 use Rattle.ft_trace.proofs.Clearing.{held_shut}
@@ -88,10 +88,10 @@ module _ (first : FirstEntriesArePairs) (texts block : List ℕ) (c fill : ℕ) 
   unfolding places
   room_is = (sizes_of_class c is_class).0
 
-  pub dict_right : (p : ℕ) (key : Key) → p < places c → IsLive (slots c) ws p key → under (content.Dict pairs) key ≡ said_of (slots c) ws p
+  pub dict_right : (p : ℕ) (key : Key) → p < places c → HasLiveKey (slots c) ws p key → under (content.Dict pairs) key ≡ said_of (slots c) ws p
   dict_right p key low live = live_is_right tried (dict_room (class_mask c)) texts c is_class says.used ws says.table used_pair pairs.pairs (λ test. first says.used pairs test says.entries) p key (let r = room_is in omega (arith, r, low)) live
 
-  pub dict_live : (key : Key) → under (content.Dict pairs) key ≢ [] → (p : ℕ) × (p < places c) × IsLive (slots c) ws p key
+  pub dict_live : (key : Key) → under (content.Dict pairs) key ≢ [] → (p : ℕ) × (p < places c) × HasLiveKey (slots c) ws p key
   dict_live key some =
       let r = right_is_live tried (dict_room (class_mask c)) texts c is_class says.used ws says.table used_pair pairs.pairs (λ test. first says.used pairs test says.entries) key some in
       let f = says.table.fill in
@@ -106,7 +106,7 @@ module _ (first : FirstEntriesArePairs) (texts block : List ℕ) (c fill : ℕ) 
   unfolding walk_of
   dict_reached key fits some = key_reached tried (dict_room (class_mask c)) texts c is_class says.used ws says.table within_mask used_pair pairs.pairs (λ test. first says.used pairs test says.entries) (places c) (let r = room_is in omega (arith, r)) key fits some
 
-  pub dict_named : (s p : ℕ) → s < slots c → index_of ws s ≡ suc p → entry_of (slots c) ws p 2 ≢ 0
+  pub dict_named : (s p : ℕ) → s < slots c → index_field ws s ≡ suc p → entry_field (slots c) ws p 2 ≢ 0
   dict_named s p less names = key_named tried (dict_room (class_mask c)) texts c is_class says.used ws says.table within_mask s p less names
 
   -- no more pairs than entries, and so than the largest table has
@@ -122,14 +122,14 @@ module _ (first : FirstEntriesArePairs) (texts block : List ℕ) (c fill : ℕ) 
 -- words that stand for what a call leaves, where entries with even versions are as they were while they stood for what
 -- it found
 pub dict_clear : (first : FirstEntriesArePairs) (texts block before : List ℕ) (c fill more : ℕ) (is_class : IsClass c) (pairs news : DictContent) (ws zs : List ℕ) (says : IsDictWords texts before (0 ∷ 0 ∷ ws) (Some c) fill pairs) (now : IsDictWords texts block (0 ∷ 0 ∷ zs) (Some c) more news)
-    → ((q w : ℕ) → q < places c → entry_of (slots c) zs q 0 % 2 ≡ 0 → w < 8 → entry_of (slots c) zs q w ≡ entry_of (slots c) ws q w) → Clear (walk_of kind.Dict texts c) (slots c) (places c) zs (under (content.Dict pairs)) (under (content.Dict news))
+    → ((q w : ℕ) → q < places c → entry_field (slots c) zs q 0 % 2 ≡ 0 → w < 8 → entry_field (slots c) zs q w ≡ entry_field (slots c) ws q w) → Clear (walk_of kind.Dict texts c) (slots c) (places c) zs (under (content.Dict pairs)) (under (content.Dict news))
 dict_clear first texts block before c fill more is_class pairs news ws zs says now same = record {
   keeps = λ q key less two l.
-      let w : (i : ℕ) → i < 8 → entry_of (slots c) zs q i ≡ entry_of (slots c) ws q i = λ i few. same q i less two few in
+      let w : (i : ℕ) → i < 8 → entry_field (slots c) zs q i ≡ entry_field (slots c) ws q i = λ i few. same q i less two few in
       let w4 = w 4 (omega arith) in
       let w5 = w 5 (omega arith) in
       let w6 = w 6 (omega arith) in
-      let old : IsLive (slots c) ws q key = (sym (w 2 (omega arith)) ∙ l.0, sym (w 3 (omega arith)) ∙ l.1) in
+      let old : HasLiveKey (slots c) ws q key = (sym (w 2 (omega arith)) ∙ l.0, sym (w 3 (omega arith)) ∙ l.1) in
       let said : said_of (slots c) zs q ≡ said_of (slots c) ws q = λ d. w4 d ∷ w5 d ∷ w6 d ∷ [] in
       dict_right first texts block c more is_class news zs now q key less l ∙ (said ∙ sym (dict_right first texts before c fill is_class pairs ws says q key less old));
   adds = λ key fits none some. dict_reached first texts block c more is_class news zs now key fits some;
@@ -153,7 +153,7 @@ module _ (v : View) (o t : ℕ) (pairs : DictContent) (may : MayWrite v o) (is_d
       let as_dict : IsDictWords v.shape.texts block words (known o v).table.class fill pairs = subst (λ (z : Content). StandsAs v.shape.texts block words (known o v).table z) is_dict s in
       subst (λ (z : Option ℕ). IsDictWords v.shape.texts block words z fill pairs) dict_class_is as_dict
 
-  pub dict_shut : Shut (λ q. entry_at (slots (class_of t)) q 0) (places (class_of t)) (held o v).table
+  pub dict_shut : Shut (λ q. entry_offset (slots (class_of t)) q 0) (places (class_of t)) (held o v).table
   dict_shut = subst (λ (z : Kind). Shut (version_at z (class_of t)) (rows z (class_of t)) (held o v).table) (sym dict_kind) (held_shut v o t may.low may.possible may.mine may.quiet names)
 
 -- in each history that agrees with what it knows
@@ -199,7 +199,7 @@ module _ (v : View) (o : ℕ) (pairs : DictContent) (low : o < containers_in v.s
 -- ---- d[k] = v, where the key is there
 
 module _ (versions : EntryVersionsChangeNothing) (follow : WordsFollowAValue) (lives : LiveEntriesArePairs) (serials : ValuesKeepSerials) (first : FirstEntriesArePairs) (v : View) (o t place : ℕ) (key : Key) (value : Value) (pairs : DictContent) (may : MayWrite v o) (is_dict : (known o v).content ≡ content.Dict pairs) (names : root_in (held o v) ≡ suc t)
-    (low : place < places (class_of t)) (live : IsLive (slots (class_of t)) (held o v).table place key) (fits_key : FitsKey key) (fits : FitsStored (Plain value)) where
+    (low : place < places (class_of t)) (live : HasLiveKey (slots (class_of t)) (held o v).table place key) (fits_key : FitsKey key) (fits : FitsStored (Plain value)) where
   abbrev k : Shape
   k = v.shape
 
@@ -227,7 +227,7 @@ module _ (versions : EntryVersionsChangeNothing) (follow : WordsFollowAValue) (l
   abbrev called : Call
   called = call.Dict o (dict.Set key value)
 
-  abbrev write : Write
+  abbrev write : WholeWrite
   write = dict_set_write v o t place key value
 
   class_is : IsClass c
@@ -245,7 +245,7 @@ module _ (versions : EntryVersionsChangeNothing) (follow : WordsFollowAValue) (l
   says : IsDictWords k.texts b (0 ∷ 0 ∷ ws) (Some c) fill pairs
   says = dict_says v o t pairs may is_dict names
 
-  shut : Shut (λ q. entry_at n q 0) m ws
+  shut : Shut (λ q. entry_offset n q 0) m ws
   shut = dict_shut v o t pairs may is_dict names
 
   -- the pair that the entry is of
@@ -270,18 +270,18 @@ module _ (versions : EntryVersionsChangeNothing) (follow : WordsFollowAValue) (l
   next_is = ap (λ (z : Key). (dict_set pairs z value).next) (sym mine.2) ∙ (serials says.used pairs place mine.0 value says.entries in_order mine.1).1
 
   -- a version that is put into an entry changes nothing
-  version_put : (block : List ℕ) (l : List ℕ) (x : ℕ) (d : DictContent) → IsDictWords k.texts block (0 ∷ 0 ∷ l) (Some c) fill d → IsDictWords k.texts block (0 ∷ 0 ∷ slice_set l (entry_at n place 0) x) (Some c) fill d
+  version_put : (block : List ℕ) (l : List ℕ) (x : ℕ) (d : DictContent) → IsDictWords k.texts block (0 ∷ 0 ∷ l) (Some c) fill d → IsDictWords k.texts block (0 ∷ 0 ∷ slice_set l (entry_offset n place 0) x) (Some c) fill d
   unfolding slots
   version_put block l x d is =
       let r = (slots_range c class_is).0 in
-      let table : IsDictTable k.texts (class_mask c) is.used (0 ∷ 0 ∷ slice_set l (entry_at n place 0) x) = subst (λ (z : List ℕ). IsDictTable k.texts (class_mask c) is.used z) (after_header l (layout.entry_at (class_mask c) place 0) (entry_at n place 0) x (omega (arith, r))) (versions walk (dict_room (class_mask c)) k.texts (class_mask c) is.used (0 ∷ 0 ∷ l) place x within is.table) in
+      let table : IsDictTable k.texts (class_mask c) is.used (0 ∷ 0 ∷ slice_set l (entry_offset n place 0) x) = subst (λ (z : List ℕ). IsDictTable k.texts (class_mask c) is.used z) (after_header l (layout.entry_at (class_mask c) place 0) (entry_offset n place 0) x (omega (arith, r))) (versions walk (dict_room (class_mask c)) k.texts (class_mask c) is.used (0 ∷ 0 ∷ l) place x within is.table) in
       record { head = is.head; used = is.used; table = table; filled = is.filled; entries = is.entries }
 
   abbrev ver : ℕ
-  ver = entry_of n ws place 0
+  ver = entry_field n ws place 0
 
   abbrev opened : List ℕ
-  opened = slice_set ws (entry_at n place 0) (ver + 1)
+  opened = slice_set ws (entry_offset n place 0) (ver + 1)
 
   open_says : IsDictWords k.texts b (0 ∷ 0 ∷ opened) (Some c) fill pairs
   open_says = version_put b ws (ver + 1) pairs says
@@ -293,8 +293,8 @@ module _ (versions : EntryVersionsChangeNothing) (follow : WordsFollowAValue) (l
   unfolding slots
   same_words =
       let r = (slots_range c class_is).0 in
-      ap (λ (l : List ℕ). slice_set l (layout.entry_at (class_mask c) place 5) (stored_payload (Plain value))) (after_header opened (layout.entry_at (class_mask c) place 4) (entry_at n place 4) (stored_kind (Plain value)) (omega (arith, r)))
-      ∙ after_header (slice_set opened (entry_at n place 4) (stored_kind (Plain value))) (layout.entry_at (class_mask c) place 5) (entry_at n place 5) (stored_payload (Plain value)) (omega (arith, r))
+      ap (λ (l : List ℕ). slice_set l (layout.entry_at (class_mask c) place 5) (stored_payload (Plain value))) (after_header opened (layout.entry_at (class_mask c) place 4) (entry_offset n place 4) (stored_kind (Plain value)) (omega (arith, r)))
+      ∙ after_header (slice_set opened (entry_offset n place 4) (stored_kind (Plain value))) (layout.entry_at (class_mask c) place 5) (entry_offset n place 5) (stored_payload (Plain value)) (omega (arith, r))
 
   put_says : IsDictWords k.texts b (0 ∷ 0 ∷ put) (Some c) fill news
   unfolding open_says version_put
@@ -310,7 +310,7 @@ module _ (versions : EntryVersionsChangeNothing) (follow : WordsFollowAValue) (l
   even : ver % 2 ≡ 0
   even = shut place low
 
-  inside : (w : ℕ) → w < 8 → entry_at n place w < size c
+  inside : (w : ℕ) → w < 8 → entry_offset n place w < size c
   inside w few = omega (arith, few, low)
 
   early : MayPuts kind.Dict t (content.Dict pairs) false (held o v) (value_puts n ws place value)
@@ -318,10 +318,10 @@ module _ (versions : EntryVersionsChangeNothing) (follow : WordsFollowAValue) (l
       let kind_word = stored_kind (Plain value) in
       let payload = stored_payload (Plain value) in
       let time = value_time n m ws (under (content.Dict pairs)) (under (content.Dict news)) place key kind_word payload low long even live (version_at kind.Dict c) (λ q. refl) in
-      let second : List ℕ = slice_set opened (entry_at n place 4) kind_word in
-      let p3 : MayPut kind.Dict t (content.Dict pairs) false (record { block = b; table = second }) (to_table (entry_at n place 5) payload) = (names, inside 5 (omega arith), value_payload n m ws (under (content.Dict pairs)) (under (content.Dict news)) place key kind_word payload low long even live, time 5 payload (omega arith) (λ e. absurd (omega (arith, e)))) in
-      let p2 : MayPut kind.Dict t (content.Dict pairs) false (record { block = b; table = opened }) (to_table (entry_at n place 4) kind_word) = (names, inside 4 (omega arith), value_kind n m ws (under (content.Dict pairs)) (under (content.Dict news)) place key kind_word payload low long even live, time 4 kind_word (omega arith) (λ e. absurd (omega (arith, e)))) in
-      let p1 : MayPut kind.Dict t (content.Dict pairs) false (held o v) (to_table (entry_at n place 0) (ver + 1)) = (names, inside 0 (omega arith), value_open n m ws (under (content.Dict pairs)) (under (content.Dict news)) place key kind_word payload low long even live, time 0 (ver + 1) (omega arith) (λ _. let e = even in omega (arith, e))) in
+      let second : List ℕ = slice_set opened (entry_offset n place 4) kind_word in
+      let p3 : MayPut kind.Dict t (content.Dict pairs) false (record { block = b; table = second }) (to_table (entry_offset n place 5) payload) = (names, inside 5 (omega arith), value_payload n m ws (under (content.Dict pairs)) (under (content.Dict news)) place key kind_word payload low long even live, time 5 payload (omega arith) (λ e. absurd (omega (arith, e)))) in
+      let p2 : MayPut kind.Dict t (content.Dict pairs) false (record { block = b; table = opened }) (to_table (entry_offset n place 4) kind_word) = (names, inside 4 (omega arith), value_kind n m ws (under (content.Dict pairs)) (under (content.Dict news)) place key kind_word payload low long even live, time 4 kind_word (omega arith) (λ e. absurd (omega (arith, e)))) in
+      let p1 : MayPut kind.Dict t (content.Dict pairs) false (held o v) (to_table (entry_offset n place 0) (ver + 1)) = (names, inside 0 (omega arith), value_open n m ws (under (content.Dict pairs)) (under (content.Dict news)) place key kind_word payload low long even live, time 0 (ver + 1) (omega arith) (λ _. let e = even in omega (arith, e))) in
       (p1, (p2, (p3, tt)))
 
   clear : Clear (walk_of kind.Dict k.texts c) n m put (under (content.Dict pairs)) (under (content.Dict news))
@@ -383,7 +383,7 @@ module _ (versions : EntryVersionsChangeNothing) (follow : WordsFollowAValue) (l
     short : length news.pairs ≤ most_pairs
     short = dict_short first k.texts b c fill class_is news put put_says
 
-    commits : MayCommit v o t write calls
+    commits : MayCommitWrite v o t write calls
     commits =
         let content_after = dict_left_at v o pairs may.low may.mine is_dict calls agree key value (content.List []) in
         let clear_as : ClearAs (kind_in k.kinds o) k.texts c put (known o v).content (container_after k.kinds (called ∷ calls) o).content = subst (λ (z : Kind × Content × Content). ClearAs z.0 k.texts c put z.1 z.2) (λ d. (kind_eq d, sym is_dict d, sym content_after d)) clear in

@@ -9,7 +9,7 @@ use Rattle.ft_model.specs.declared.reply.Reply.TheVariants as reply
 use Rattle.ft_model.specs.declared.reply.Raise.TheVariants as raise
 use Rattle.ft_model.specs.Answers.{is_memory, is_write}
 use Rattle.ft_model.specs.Calls.{is_changing}
-use Rattle.ft_model.specs.Tables.{stored_newest, would_pass}
+use Rattle.ft_model.specs.TableUses.{stored_newest, would_pass}
 use Rattle.ft_trace.specs.declared.Act.{Act}
 use Rattle.ft_trace.specs.declared.Act.TheVariants.{Commit, Answer, AnswerCursor, ReadCounter, ReadCount}
 use Rattle.ft_trace.specs.declared.Entry.{Entry}
@@ -21,14 +21,14 @@ use Rattle.ft_trace.proofs.AllEntries.{next_all, has_none, both_all}
 use Rattle.ft_trace.specs.Causes.{HasCause}
 use Rattle.ft_trace.specs.Earnings.{IsEarnedSo, AllEarned, EntriesAreEarned}
 use Rattle.ft_trace.specs.Entries.{AllRight}
-use Rattle.ft_trace.specs.Worlds.{first_writes}
+use Rattle.ft_trace.specs.ContainerStates.{first_writes}
 use Rattle.ft_trace.specs.Traces.{Event, did, forked, sent, joined, run, word, writes_of, history, May, Valid}
-use Rattle.ft_trace.proofs.Closing.{all_right}
-use Rattle.ft_trace.proofs.Cursors.{moved_plain, moved_short}
+use Rattle.ft_trace.proofs.ClosedEntries.{all_right}
+use Rattle.ft_trace.proofs.CursorAnswers.{moved_plain, moved_short}
 use Rattle.ft_trace.proofs.Contents.{counted}
-use Rattle.ft_trace.proofs.Moments.{was}
+use Rattle.ft_trace.proofs.EarlierMoments.{was}
 use Rattle.ft_trace.proofs.Sizes.{set_views, one_more, one_view}
-use Rattle.ft_trace.proofs.Stamped.{empty_earned}
+use Rattle.ft_trace.proofs.RisingStamps.{empty_earned}
 use Rattle.ft_trace.proofs.Stamps.{writes_stay, all_writes}
 
 -- a reply that is no MemoryError

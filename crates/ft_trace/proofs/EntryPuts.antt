@@ -6,12 +6,12 @@ use native.Mathlib.Decide.{ℕ_discrete}
 use Rattle.ft_model.specs.declared.data.Key.{Key}
 use Rattle.ft_layout.specs.Words.{key_kind, gone_kind, key_payload}
 use Rattle.ft_layout.proofs.WordLaws.{gone_is, kind_range}
-use Rattle.ft_trace.specs.Words.{entry_at, entry_of}
-use Rattle.ft_trace.specs.Carefuls.{Pairs, said_of, IsLive, IsDead, Careful, Clear}
-use Rattle.ft_trace.specs.Openings.{Shut, Timely}
+use Rattle.ft_trace.specs.Pictures.{entry_offset, entry_field}
+use Rattle.ft_trace.specs.Carefuls.{Pairs, said_of, HasLiveKey, IsDead, Careful, Clear}
+use Rattle.ft_trace.specs.OddVersions.{Shut, Timely}
 
 -- the version of an entry is made odd, whose key isn't deleted
-pub entry_open : (n m : ℕ) (ws : List ℕ) (c : Pairs) (p : ℕ) → entry_of n ws p 0 % 2 ≡ 0 → entry_of n ws p 2 < 3 → Careful n m ws c (entry_at n p 0) (entry_of n ws p 0 + 1)
+pub entry_open : (n m : ℕ) (ws : List ℕ) (c : Pairs) (p : ℕ) → entry_field n ws p 0 % 2 ≡ 0 → entry_field n ws p 2 < 3 → Careful n m ws c (entry_offset n p 0) (entry_field n ws p 0 + 1)
 entry_open n m ws c p even alive = record {
   index = λ s less e. absurd (omega (arith, less, e));
   names = λ s less e. absurd (omega (arith, less, e));
@@ -19,18 +19,18 @@ entry_open n m ws c p even alive = record {
   key = λ q w less which e. ⊎_elim (λ (z : w ≡ 1). absurd (omega (arith, z, e))) (λ (z : w ≡ 3). absurd (omega (arith, z, e))) which;
   kind = λ q less e. absurd (omega (arith, e));
   dies = λ q less e. absurd (omega (arith, e));
-  version = λ q less e. let same : p ≡ q = omega (arith, e) in let v : entry_of n ws q 0 ≡ entry_of n ws p 0 = ap (λ (z : ℕ). entry_of n ws z 0) (sym same) in omega (arith, v);
-  opens = λ q less e odd. let same : p ≡ q = omega (arith, e) in subst (λ (z : ℕ). entry_of n ws z 2 < 3) same alive;
+  version = λ q less e. let same : p ≡ q = omega (arith, e) in let v : entry_field n ws q 0 ≡ entry_field n ws p 0 = ap (λ (z : ℕ). entry_field n ws z 0) (sym same) in omega (arith, v);
+  opens = λ q less e odd. let same : p ≡ q = omega (arith, e) in subst (λ (z : ℕ). entry_field n ws z 2 < 3) same alive;
   closes = λ q key less e two. absurd (omega (arith, two, even));
   shuts = λ q key less e two. absurd (omega (arith, two, even));
 }
 
 -- a word of the value or the serial of an entry whose version is odd
-pub entry_value : (n m : ℕ) (ws : List ℕ) (c : Pairs) (p w x : ℕ) → 4 ≤ w → w < 8 → entry_of n ws p 0 % 2 ≡ 1 → Careful n m ws c (entry_at n p w) x
+pub entry_value : (n m : ℕ) (ws : List ℕ) (c : Pairs) (p w x : ℕ) → 4 ≤ w → w < 8 → entry_field n ws p 0 % 2 ≡ 1 → Careful n m ws c (entry_offset n p w) x
 entry_value n m ws c p w x high few odd = record {
   index = λ s less e. absurd (omega (arith, less, e));
   names = λ s less e. absurd (omega (arith, less, e));
-  odd = λ q u less some low e. let same : p ≡ q = omega (arith, high, few, some, low, e) in subst (λ (z : ℕ). entry_of n ws z 0 % 2 ≡ 1) same odd;
+  odd = λ q u less some low e. let same : p ≡ q = omega (arith, high, few, some, low, e) in subst (λ (z : ℕ). entry_field n ws z 0 % 2 ≡ 1) same odd;
   key = λ q u less which e. ⊎_elim (λ (z : u ≡ 1). absurd (omega (arith, z, e, high, few))) (λ (z : u ≡ 3). absurd (omega (arith, z, e, high, few))) which;
   kind = λ q less e. absurd (omega (arith, e, high, few));
   dies = λ q less e. absurd (omega (arith, e, high, few));
@@ -41,7 +41,7 @@ entry_value n m ws c p w x high few odd = record {
 }
 
 -- the version is made even, where the entry says what the content has
-pub entry_close : (n m : ℕ) (ws : List ℕ) (c : Pairs) (p x : ℕ) → x ≡ entry_of n ws p 0 + 1 → x % 2 ≡ 0 → ((key : Key) → IsLive n ws p key → c key ≡ said_of n ws p) → ((key : Key) → IsDead n ws p key → c key ≡ []) → Careful n m ws c (entry_at n p 0) x
+pub entry_close : (n m : ℕ) (ws : List ℕ) (c : Pairs) (p x : ℕ) → x ≡ entry_field n ws p 0 + 1 → x % 2 ≡ 0 → ((key : Key) → HasLiveKey n ws p key → c key ≡ said_of n ws p) → ((key : Key) → IsDead n ws p key → c key ≡ []) → Careful n m ws c (entry_offset n p 0) x
 entry_close n m ws c p x is two right gone = record {
   index = λ s less e. absurd (omega (arith, less, e));
   names = λ s less e. absurd (omega (arith, less, e));
@@ -49,71 +49,71 @@ entry_close n m ws c p x is two right gone = record {
   key = λ q w less which e. ⊎_elim (λ (z : w ≡ 1). absurd (omega (arith, z, e))) (λ (z : w ≡ 3). absurd (omega (arith, z, e))) which;
   kind = λ q less e. absurd (omega (arith, e));
   dies = λ q less e. absurd (omega (arith, e));
-  version = λ q less e. let same : p ≡ q = omega (arith, e) in let v : entry_of n ws q 0 ≡ entry_of n ws p 0 = ap (λ (z : ℕ). entry_of n ws z 0) (sym same) in omega (arith, v, is);
+  version = λ q less e. let same : p ≡ q = omega (arith, e) in let v : entry_field n ws q 0 ≡ entry_field n ws p 0 = ap (λ (z : ℕ). entry_field n ws z 0) (sym same) in omega (arith, v, is);
   opens = λ q less e odd. absurd (omega (arith, odd, two));
-  closes = λ q key less e _. let same : p ≡ q = omega (arith, e) in subst (λ (z : ℕ). IsLive n ws z key → c key ≡ said_of n ws z) same (right key);
+  closes = λ q key less e _. let same : p ≡ q = omega (arith, e) in subst (λ (z : ℕ). HasLiveKey n ws z key → c key ≡ said_of n ws z) same (right key);
   shuts = λ q key less e _. let same : p ≡ q = omega (arith, e) in subst (λ (z : ℕ). IsDead n ws z key → c key ≡ []) same (gone key);
 }
 
 -- ---- another value in an entry that is live
 
-module _ (n m : ℕ) (ws : List ℕ) (c d : Pairs) (p : ℕ) (key : Key) (kind payload : ℕ) (low : p < m) (long : n + 8 * m ≤ length ws) (even : entry_of n ws p 0 % 2 ≡ 0) (live : IsLive n ws p key) where
+module _ (n m : ℕ) (ws : List ℕ) (c d : Pairs) (p : ℕ) (key : Key) (kind payload : ℕ) (low : p < m) (long : n + 8 * m ≤ length ws) (even : entry_field n ws p 0 % 2 ≡ 0) (live : HasLiveKey n ws p key) where
   abbrev ver : ℕ
-  ver = entry_of n ws p 0
+  ver = entry_field n ws p 0
 
   abbrev b1 : List ℕ
-  b1 = slice_set ws (entry_at n p 0) (ver + 1)
+  b1 = slice_set ws (entry_offset n p 0) (ver + 1)
 
   abbrev b2 : List ℕ
-  b2 = slice_set b1 (entry_at n p 4) kind
+  b2 = slice_set b1 (entry_offset n p 4) kind
 
   abbrev b3 : List ℕ
-  b3 = slice_set b2 (entry_at n p 5) payload
+  b3 = slice_set b2 (entry_offset n p 5) payload
 
   abbrev b4 : List ℕ
-  b4 = slice_set b3 (entry_at n p 0) (ver + 2)
+  b4 = slice_set b3 (entry_offset n p 0) (ver + 2)
 
   long3 : n + 8 * m ≤ length b3
-  long3 = let a = length-set ws (entry_at n p 0) (ver + 1) in let b = length-set b1 (entry_at n p 4) kind in let c = length-set b2 (entry_at n p 5) payload in omega (arith, a, b, c, long)
+  long3 = let a = length-set ws (entry_offset n p 0) (ver + 1) in let b = length-set b1 (entry_offset n p 4) kind in let c = length-set b2 (entry_offset n p 5) payload in omega (arith, a, b, c, long)
 
-  pub ver1 : entry_of n b1 p 0 ≡ ver + 1
-  ver1 = get_or-set_same ws (entry_at n p 0) (ver + 1) 0 (omega (arith, low, long))
+  pub ver1 : entry_field n b1 p 0 ≡ ver + 1
+  ver1 = get_or-set_same ws (entry_offset n p 0) (ver + 1) 0 (omega (arith, low, long))
 
-  pub ver2 : entry_of n b2 p 0 ≡ ver + 1
-  ver2 = get_or-set_other b1 (entry_at n p 4) (entry_at n p 0) kind 0 (λ e. omega arith) ∙ ver1
+  pub ver2 : entry_field n b2 p 0 ≡ ver + 1
+  ver2 = get_or-set_other b1 (entry_offset n p 4) (entry_offset n p 0) kind 0 (λ e. omega arith) ∙ ver1
 
-  pub ver3 : entry_of n b3 p 0 ≡ ver + 1
-  ver3 = get_or-set_other b2 (entry_at n p 5) (entry_at n p 0) payload 0 (λ e. omega arith) ∙ ver2
+  pub ver3 : entry_field n b3 p 0 ≡ ver + 1
+  ver3 = get_or-set_other b2 (entry_offset n p 5) (entry_offset n p 0) payload 0 (λ e. omega arith) ∙ ver2
 
-  pub else3 : (i : ℕ) → i ≢ entry_at n p 0 → i ≢ entry_at n p 4 → i ≢ entry_at n p 5 → slice_index b3 i ≡ slice_index ws i
-  else3 i n0 n4 n5 = get_or-set_other b2 (entry_at n p 5) i payload 0 n5 ∙ (get_or-set_other b1 (entry_at n p 4) i kind 0 n4 ∙ get_or-set_other ws (entry_at n p 0) i (ver + 1) 0 n0)
+  pub else3 : (i : ℕ) → i ≢ entry_offset n p 0 → i ≢ entry_offset n p 4 → i ≢ entry_offset n p 5 → slice_index b3 i ≡ slice_index ws i
+  else3 i n0 n4 n5 = get_or-set_other b2 (entry_offset n p 5) i payload 0 n5 ∙ (get_or-set_other b1 (entry_offset n p 4) i kind 0 n4 ∙ get_or-set_other ws (entry_offset n p 0) i (ver + 1) 0 n0)
 
   -- the key's words of each entry, and all words of the others
-  pub key3 : (q w : ℕ) → (w ≡ 2) ⊎ (w ≡ 3) → entry_of n b3 q w ≡ entry_of n ws q w
-  key3 q w = ⊎_elim (λ (z : w ≡ 2). else3 (entry_at n q w) (λ e. omega (arith, z, e)) (λ e. omega (arith, z, e)) (λ e. omega (arith, z, e))) (λ (z : w ≡ 3). else3 (entry_at n q w) (λ e. omega (arith, z, e)) (λ e. omega (arith, z, e)) (λ e. omega (arith, z, e)))
+  pub key3 : (q w : ℕ) → (w ≡ 2) ⊎ (w ≡ 3) → entry_field n b3 q w ≡ entry_field n ws q w
+  key3 q w = ⊎_elim (λ (z : w ≡ 2). else3 (entry_offset n q w) (λ e. omega (arith, z, e)) (λ e. omega (arith, z, e)) (λ e. omega (arith, z, e))) (λ (z : w ≡ 3). else3 (entry_offset n q w) (λ e. omega (arith, z, e)) (λ e. omega (arith, z, e)) (λ e. omega (arith, z, e)))
 
-  pub other3 : (q w : ℕ) → q ≢ p → w < 8 → entry_of n b3 q w ≡ entry_of n ws q w
-  other3 q w ne few = else3 (entry_at n q w) (λ e. ne (omega (arith, few, e))) (λ e. ne (omega (arith, few, e))) (λ e. ne (omega (arith, few, e)))
+  pub other3 : (q w : ℕ) → q ≢ p → w < 8 → entry_field n b3 q w ≡ entry_field n ws q w
+  other3 q w ne few = else3 (entry_offset n q w) (λ e. ne (omega (arith, few, e))) (λ e. ne (omega (arith, few, e))) (λ e. ne (omega (arith, few, e)))
 
-  pub live3 : (q : ℕ) (k : Key) → IsLive n b3 q k → IsLive n ws q k
+  pub live3 : (q : ℕ) (k : Key) → HasLiveKey n b3 q k → HasLiveKey n ws q k
   live3 q k l = (sym (key3 q 2 (inl refl)) ∙ l.0, sym (key3 q 3 (inr refl)) ∙ l.1)
 
-  pub value_open : Careful n m ws c (entry_at n p 0) (ver + 1)
+  pub value_open : Careful n m ws c (entry_offset n p 0) (ver + 1)
   value_open = let k = live.0 in let r = (kind_range key).1 in entry_open n m ws c p even (omega (arith, k, r))
 
-  pub value_kind : Careful n m b1 c (entry_at n p 4) kind
+  pub value_kind : Careful n m b1 c (entry_offset n p 4) kind
   value_kind = let v = ver1 in entry_value n m b1 c p 4 kind (omega arith) (omega arith) (omega (arith, v, even))
 
-  pub value_payload : Careful n m b2 c (entry_at n p 5) payload
+  pub value_payload : Careful n m b2 c (entry_offset n p 5) payload
   value_payload = let v = ver2 in entry_value n m b2 c p 5 payload (omega arith) (omega arith) (omega (arith, v, even))
 
   -- where the words as they were say what c has, and the words as they are what d has
-  module _ (was : (q : ℕ) (k : Key) → q < m → IsLive n ws q k → c k ≡ said_of n ws q) (now : (q : ℕ) (k : Key) → q < m → IsLive n b3 q k → d k ≡ said_of n b3 q) (all : (k : Key) → d k ≢ [] → (q : ℕ) × (q < m) × IsLive n b3 q k) where
+  module _ (was : (q : ℕ) (k : Key) → q < m → HasLiveKey n ws q k → c k ≡ said_of n ws q) (now : (q : ℕ) (k : Key) → q < m → HasLiveKey n b3 q k → d k ≡ said_of n b3 q) (all : (k : Key) → d k ≢ [] → (q : ℕ) × (q < m) × HasLiveKey n b3 q k) where
     pub value_clear : (walk : Key → List ℕ) → Clear walk n m b3 c d
     value_clear walk = record {
       keeps = λ q k less two l.
           dite (ℕ_discrete q p)
-          (λ (e : q ≡ p). let v : entry_of n b3 q 0 ≡ ver + 1 = ap (λ (z : ℕ). entry_of n b3 z 0) e ∙ ver3 in absurd (omega (arith, v, two, even)))
+          (λ (e : q ≡ p). let v : entry_field n b3 q 0 ≡ ver + 1 = ap (λ (z : ℕ). entry_field n b3 z 0) e ∙ ver3 in absurd (omega (arith, v, two, even)))
           (λ ne.
           let w4 = other3 q 4 ne (omega arith) in
           let w5 = other3 q 5 ne (omega arith) in
@@ -123,35 +123,35 @@ module _ (n m : ℕ) (ws : List ℕ) (c d : Pairs) (p : ℕ) (key : Key) (kind p
       adds = λ k fits none some. let a = all k some in let x : [] ≡ said_of n ws a.0 = sym none ∙ was a.0 k a.1 (live3 a.0 k a.2) in absurd (cc);
     }
 
-    pub value_late : Careful n m b3 d (entry_at n p 0) (ver + 2)
+    pub value_late : Careful n m b3 d (entry_offset n p 0) (ver + 2)
     value_late =
         let v = ver3 in
         entry_close n m b3 d p (ver + 2) (omega (arith, v)) (omega (arith, even)) (λ k l. now p k low l)
         (λ k dead. let g = gone_is k in let b = (kind_range k).0 in let h = (kind_range key).1 in let x = key3 p 2 (inl refl) in let l = live.0 in let e = dead.0 in absurd (omega (arith, g, b, h, x, l, e)))
 
-  pub value_shut : Shut (λ q. entry_at n q 0) m ws → Shut (λ q. entry_at n q 0) m b4
+  pub value_shut : Shut (λ q. entry_offset n q 0) m ws → Shut (λ q. entry_offset n q 0) m b4
   value_shut shut q less =
       dite (ℕ_discrete q p)
-      (λ (e : q ≡ p). let v : entry_of n b4 q 0 ≡ ver + 2 = ap (λ (z : ℕ). entry_of n b4 z 0) e ∙ get_or-set_same b3 (entry_at n p 0) (ver + 2) 0 (let l = long3 in omega (arith, low, l)) in omega (arith, v, even))
+      (λ (e : q ≡ p). let v : entry_field n b4 q 0 ≡ ver + 2 = ap (λ (z : ℕ). entry_field n b4 z 0) e ∙ get_or-set_same b3 (entry_offset n p 0) (ver + 2) 0 (let l = long3 in omega (arith, low, l)) in omega (arith, v, even))
       (λ ne.
-      let v : entry_of n b4 q 0 ≡ entry_of n ws q 0 = get_or-set_other b3 (entry_at n p 0) (entry_at n q 0) (ver + 2) 0 (λ e. ne (omega (arith, e))) ∙ other3 q 0 ne (omega arith) in
+      let v : entry_field n b4 q 0 ≡ entry_field n ws q 0 = get_or-set_other b3 (entry_offset n p 0) (entry_offset n q 0) (ver + 2) 0 (λ e. ne (omega (arith, e))) ∙ other3 q 0 ne (omega arith) in
       let old = shut q less in
       omega (arith, v, old))
 
-  pub value_time : (at : ℕ → ℕ) → ((q : ℕ) → at q ≡ entry_at n q 0) → (w x : ℕ) → w < 8 → (w ≡ 0 → x % 2 ≡ 1) → Timely at m (entry_at n p w) x false
+  pub value_time : (at : ℕ → ℕ) → ((q : ℕ) → at q ≡ entry_offset n q 0) → (w x : ℕ) → w < 8 → (w ≡ 0 → x % 2 ≡ 1) → Timely at m (entry_offset n p w) x false
   value_time at is w x few odd = record { before = λ q less e one. refl; later = λ q less e two. absurd (let i = is q in let o = odd (omega (arith, few, e, i)) in omega (arith, two, o)) }
 
 -- the kind of an entry whose version is odd, from that of a key that is there to that of a deleted one
-pub entry_dies : (n m : ℕ) (ws : List ℕ) (c : Pairs) (p : ℕ) (key : Key) → entry_of n ws p 0 % 2 ≡ 1 → entry_of n ws p 2 ≡ key_kind key → Careful n m ws c (entry_at n p 2) (gone_kind key)
+pub entry_dies : (n m : ℕ) (ws : List ℕ) (c : Pairs) (p : ℕ) (key : Key) → entry_field n ws p 0 % 2 ≡ 1 → entry_field n ws p 2 ≡ key_kind key → Careful n m ws c (entry_offset n p 2) (gone_kind key)
 entry_dies n m ws c p key odd live = record {
   index = λ s less e. absurd (omega (arith, less, e));
   names = λ s less e. absurd (omega (arith, less, e));
-  odd = λ q u less more low e. let same : p ≡ q = omega (arith, more, low, e) in subst (λ (z : ℕ). entry_of n ws z 0 % 2 ≡ 1) same odd;
+  odd = λ q u less more low e. let same : p ≡ q = omega (arith, more, low, e) in subst (λ (z : ℕ). entry_field n ws z 0 % 2 ≡ 1) same odd;
   key = λ q u less other e. ⊎_elim (λ (z : u ≡ 1). absurd (omega (arith, z, e))) (λ (z : u ≡ 3). absurd (omega (arith, z, e))) other;
   kind = λ q less e. let g = gone_is key in λ z. absurd (omega (arith, g, z));
   dies = λ q less e used.
       let same : p ≡ q = omega (arith, e) in
-      let is : entry_of n ws q 2 ≡ key_kind key = ap (λ (z : ℕ). entry_of n ws z 2) (sym same) ∙ live in
+      let is : entry_field n ws q 2 ≡ key_kind key = ap (λ (z : ℕ). entry_field n ws z 2) (sym same) ∙ live in
       let g = gone_is key in
       let r = (kind_range key).1 in
       (omega (arith, is, r), omega (arith, is, g));
@@ -163,65 +163,65 @@ entry_dies n m ws c p key odd live = record {
 
 -- ---- a live entry is deleted
 
-module _ (n m : ℕ) (ws : List ℕ) (p : ℕ) (key : Key) (low : p < m) (long : n + 8 * m ≤ length ws) (even : entry_of n ws p 0 % 2 ≡ 0) (live : IsLive n ws p key) where
+module _ (n m : ℕ) (ws : List ℕ) (p : ℕ) (key : Key) (low : p < m) (long : n + 8 * m ≤ length ws) (even : entry_field n ws p 0 % 2 ≡ 0) (live : HasLiveKey n ws p key) where
   abbrev was : ℕ
-  was = entry_of n ws p 0
+  was = entry_field n ws p 0
 
   abbrev d1 : List ℕ
-  d1 = slice_set ws (entry_at n p 0) (was + 1)
+  d1 = slice_set ws (entry_offset n p 0) (was + 1)
 
   abbrev d2 : List ℕ
-  d2 = slice_set d1 (entry_at n p 2) (gone_kind key)
+  d2 = slice_set d1 (entry_offset n p 2) (gone_kind key)
 
   abbrev d3 : List ℕ
-  d3 = slice_set d2 (entry_at n p 0) (was + 2)
+  d3 = slice_set d2 (entry_offset n p 0) (was + 2)
 
   dead_long : n + 8 * m ≤ length d2
-  dead_long = let a = length-set ws (entry_at n p 0) (was + 1) in let b = length-set d1 (entry_at n p 2) (gone_kind key) in omega (arith, a, b, long)
+  dead_long = let a = length-set ws (entry_offset n p 0) (was + 1) in let b = length-set d1 (entry_offset n p 2) (gone_kind key) in omega (arith, a, b, long)
 
-  odd1 : entry_of n d1 p 0 ≡ was + 1
-  odd1 = get_or-set_same ws (entry_at n p 0) (was + 1) 0 (omega (arith, low, long))
+  odd1 : entry_field n d1 p 0 ≡ was + 1
+  odd1 = get_or-set_same ws (entry_offset n p 0) (was + 1) 0 (omega (arith, low, long))
 
-  odd2 : entry_of n d2 p 0 ≡ was + 1
-  odd2 = get_or-set_other d1 (entry_at n p 2) (entry_at n p 0) (gone_kind key) 0 (λ e. omega arith) ∙ odd1
+  odd2 : entry_field n d2 p 0 ≡ was + 1
+  odd2 = get_or-set_other d1 (entry_offset n p 2) (entry_offset n p 0) (gone_kind key) 0 (λ e. omega arith) ∙ odd1
 
-  kind1 : entry_of n d1 p 2 ≡ key_kind key
-  kind1 = get_or-set_other ws (entry_at n p 0) (entry_at n p 2) (was + 1) 0 (λ e. omega arith) ∙ live.0
+  kind1 : entry_field n d1 p 2 ≡ key_kind key
+  kind1 = get_or-set_other ws (entry_offset n p 0) (entry_offset n p 2) (was + 1) 0 (λ e. omega arith) ∙ live.0
 
-  kind2 : entry_of n d2 p 2 ≡ gone_kind key
-  kind2 = let a = length-set ws (entry_at n p 0) (was + 1) in get_or-set_same d1 (entry_at n p 2) (gone_kind key) 0 (omega (arith, low, long, a))
+  kind2 : entry_field n d2 p 2 ≡ gone_kind key
+  kind2 = let a = length-set ws (entry_offset n p 0) (was + 1) in get_or-set_same d1 (entry_offset n p 2) (gone_kind key) 0 (omega (arith, low, long, a))
 
-  pub dead_others : (q w : ℕ) → q ≢ p → w < 8 → entry_of n d2 q w ≡ entry_of n ws q w
-  dead_others q w ne few = get_or-set_other d1 (entry_at n p 2) (entry_at n q w) (gone_kind key) 0 (λ e. ne (omega (arith, few, e))) ∙ get_or-set_other ws (entry_at n p 0) (entry_at n q w) (was + 1) 0 (λ e. ne (omega (arith, few, e)))
+  pub dead_others : (q w : ℕ) → q ≢ p → w < 8 → entry_field n d2 q w ≡ entry_field n ws q w
+  dead_others q w ne few = get_or-set_other d1 (entry_offset n p 2) (entry_offset n q w) (gone_kind key) 0 (λ e. ne (omega (arith, few, e))) ∙ get_or-set_other ws (entry_offset n p 0) (entry_offset n q w) (was + 1) 0 (λ e. ne (omega (arith, few, e)))
 
-  pub dead_open : (c : Pairs) → Careful n m ws c (entry_at n p 0) (was + 1)
+  pub dead_open : (c : Pairs) → Careful n m ws c (entry_offset n p 0) (was + 1)
   dead_open c = let k = live.0 in let r = (kind_range key).1 in entry_open n m ws c p even (omega (arith, k, r))
 
-  pub dead_kind : (c : Pairs) → Careful n m d1 c (entry_at n p 2) (gone_kind key)
+  pub dead_kind : (c : Pairs) → Careful n m d1 c (entry_offset n p 2) (gone_kind key)
   dead_kind c = let v = odd1 in entry_dies n m d1 c p key (omega (arith, v, even)) kind1
 
   -- entries with an even version are as they were
-  pub dead_same : (q w : ℕ) → q < m → entry_of n d2 q 0 % 2 ≡ 0 → w < 8 → entry_of n d2 q w ≡ entry_of n ws q w
+  pub dead_same : (q w : ℕ) → q < m → entry_field n d2 q 0 % 2 ≡ 0 → w < 8 → entry_field n d2 q w ≡ entry_field n ws q w
   dead_same q w less two few =
       dite (ℕ_discrete q p)
-      (λ (e : q ≡ p). let v : entry_of n d2 q 0 ≡ was + 1 = ap (λ (z : ℕ). entry_of n d2 z 0) e ∙ odd2 in absurd (omega (arith, v, two, even)))
+      (λ (e : q ≡ p). let v : entry_field n d2 q 0 ≡ was + 1 = ap (λ (z : ℕ). entry_field n d2 z 0) e ∙ odd2 in absurd (omega (arith, v, two, even)))
       (λ ne. dead_others q w ne few)
 
   -- the version is made even once the content has nothing under the key
-  pub dead_late : (d : Pairs) → ((k : Key) → IsDead n d2 p k → d k ≡ []) → Careful n m d2 d (entry_at n p 0) (was + 2)
+  pub dead_late : (d : Pairs) → ((k : Key) → IsDead n d2 p k → d k ≡ []) → Careful n m d2 d (entry_offset n p 0) (was + 2)
   dead_late d none =
       let v = odd2 in
       entry_close n m d2 d p (was + 2) (omega (arith, v)) (omega (arith, even))
       (λ k l. let g = gone_is key in let b = (kind_range key).0 in let h = (kind_range k).1 in let y = kind2 in let e = l.0 in absurd (omega (arith, g, b, h, y, e)))
       none
 
-  pub dead_shut : Shut (λ q. entry_at n q 0) m ws → Shut (λ q. entry_at n q 0) m d3
+  pub dead_shut : Shut (λ q. entry_offset n q 0) m ws → Shut (λ q. entry_offset n q 0) m d3
   dead_shut shut q less =
       let l = dead_long in
       dite (ℕ_discrete q p)
-      (λ (e : q ≡ p). let v : entry_of n d3 q 0 ≡ was + 2 = ap (λ (z : ℕ). entry_of n d3 z 0) e ∙ get_or-set_same d2 (entry_at n p 0) (was + 2) 0 (omega (arith, low, l)) in omega (arith, v, even))
+      (λ (e : q ≡ p). let v : entry_field n d3 q 0 ≡ was + 2 = ap (λ (z : ℕ). entry_field n d3 z 0) e ∙ get_or-set_same d2 (entry_offset n p 0) (was + 2) 0 (omega (arith, low, l)) in omega (arith, v, even))
       (λ ne.
-      let v : entry_of n d3 q 0 ≡ entry_of n ws q 0 = get_or-set_other d2 (entry_at n p 0) (entry_at n q 0) (was + 2) 0 (λ e. ne (omega (arith, e))) ∙ dead_others q 0 ne (omega arith) in
+      let v : entry_field n d3 q 0 ≡ entry_field n ws q 0 = get_or-set_other d2 (entry_offset n p 0) (entry_offset n q 0) (was + 2) 0 (λ e. ne (omega (arith, e))) ∙ dead_others q 0 ne (omega arith) in
       let old = shut q less in
       omega (arith, v, old))
 
@@ -232,5 +232,5 @@ module _ (n m : ℕ) (ws : List ℕ) (p : ℕ) (key : Key) (low : p < m) (long :
       let h = gone_is key in
       let y = kind2 in
       let e = dead.0 in
-      let pay : entry_of n d2 p 3 ≡ entry_of n ws p 3 = get_or-set_other d1 (entry_at n p 2) (entry_at n p 3) (gone_kind key) 0 (λ e. omega arith) ∙ get_or-set_other ws (entry_at n p 0) (entry_at n p 3) (was + 1) 0 (λ e. omega arith) in
+      let pay : entry_field n d2 p 3 ≡ entry_field n ws p 3 = get_or-set_other d1 (entry_offset n p 2) (entry_offset n p 3) (gone_kind key) 0 (λ e. omega arith) ∙ get_or-set_other ws (entry_offset n p 0) (entry_offset n p 3) (was + 1) 0 (λ e. omega arith) in
       (omega (arith, g, h, y, e), sym dead.1 ∙ (pay ∙ live.1))

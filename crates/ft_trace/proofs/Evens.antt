@@ -9,21 +9,21 @@ use Rattle.ft_trace.specs.declared.View.{View}
 use Rattle.ft_trace.specs.declared.Act.{Act}
 use Rattle.ft_trace.specs.declared.Act.TheVariants.{TakeTable, GiveTable, PutRoot, Retire, StopWrite}
 use Rattle.ft_trace.specs.Bits.{bit}
-use Rattle.ft_trace.specs.Addresses.{containers_in, version_of, cell, class_of, IsTable, free_bit_of}
+use Rattle.ft_trace.specs.Addresses.{containers_in, version_of, cell, class_of, IsTableName, free_bit_of}
 use Rattle.ft_trace.specs.Acts.{place, has_lock, is_writing, stage}
-use Rattle.ft_trace.specs.Worlds.{kind_in}
+use Rattle.ft_trace.specs.ContainerStates.{kind_in}
 use Rattle.ft_trace.specs.Kinds.{rows, version_at}
-use Rattle.ft_trace.specs.Openings.{Shut}
+use Rattle.ft_trace.specs.OddVersions.{Shut}
 use Rattle.ft_trace.specs.Ages.{aged, age, gone_to, whose}
 use Rattle.ft_trace.specs.Traces.{Event, did, forked, joined, sent, run, history, ShutFor, May, Valid}
 use Rattle.ft_trace.proofs.Cases.{hit, miss, here}
-use Rattle.ft_trace.proofs.Words.{stays}
+use Rattle.ft_trace.proofs.OneWord.{stays}
 use Rattle.ft_trace.proofs.Pieces.{table_same}
-use Rattle.ft_trace.proofs.Versions.{version, on_seq, writing_is_odd}
-use Rattle.ft_trace.proofs.Places.{root, root_table, on_table, Calm, placed}
+use Rattle.ft_trace.proofs.OddVersions.{version, on_seq, writing_is_odd}
+use Rattle.ft_trace.proofs.TablePlaces.{root, root_table, on_table, Calm, placed}
 use Rattle.ft_trace.proofs.Contents.{tab}
 use Rattle.ft_trace.proofs.Sounds.{on_cells}
-use Rattle.ft_trace.proofs.Holding.{holder_even}
+use Rattle.ft_trace.proofs.HeldWords.{holder_even}
 
 abbrev pub ShutAt : Shape → List Event → ℕ → ℕ → Type 0
 ShutAt k es o t = ShutFor k (run k es).words o t
@@ -36,11 +36,11 @@ shut_same : (k : Shape) (o t : ℕ) (ws zs : List ℕ) → zs ≡ ws → Shut (v
 shut_same k o t ws zs e h = subst (Shut (version_at (kind_in k.kinds o) (class_of t)) (rows (kind_in k.kinds o) (class_of t))) (sym e) h
 
 -- an action that leaves the words of t
-pub left_alone : (k : Shape) (es : List Event) (id : ℕ) (v : View) (t : ℕ) (table : IsTable k t) (a : Act) → May k (run k es) (history es) v a → ((i : ℕ) → place a ≢ cell t i) → tab k (did id v a ∷ es) t ≡ tab k es t
+pub left_alone : (k : Shape) (es : List Event) (id : ℕ) (v : View) (t : ℕ) (table : IsTableName k t) (a : Act) → May k (run k es) (history es) v a → ((i : ℕ) → place a ≢ cell t i) → tab k (did id v a ∷ es) t ≡ tab k es t
 left_alone k es id v t table a may apart = table_same k t (run k (did id v a ∷ es)).words (run k es).words (λ i low. stays k es id v a may (cell t i) (table, low) (apart i))
 
 -- an action that does not move t
-calm_step : (k : Shape) (es : List Event) (id : ℕ) (v : View) (t : ℕ) → IsTable k t → Evens k es t → (b : Act) → Calm k es id v t b → Valid k (did id v b ∷ es) → Evens k (did id v b ∷ es) t
+calm_step : (k : Shape) (es : List Event) (id : ℕ) (v : View) (t : ℕ) → IsTableName k t → Evens k es t → (b : Act) → Calm k es id v t b → Valid k (did id v b ∷ es) → Evens k (did id v b ∷ es) t
 calm_step k es id v t table old b c ok two even =
     let gs = c.age (age es t) in
     let ws = c.whose (whose es t) in
@@ -71,7 +71,7 @@ calm_step k es id v t table old b c ok two even =
     b ok.1.3 even_now) in
     subst (λ (z : ℕ). ShutAt k (did id v b ∷ es) z t) (sym ws) shut
 
-pub evens : (k : Shape) (es : List Event) → Valid k es → (t : ℕ) → IsTable k t → Evens k es t
+pub evens : (k : Shape) (es : List Event) → Valid k es → (t : ℕ) → IsTableName k t → Evens k es t
 evens k [] valid t table = λ two even. absurd (omega (arith, two))
 evens k (did id v a ∷ es) valid t table =
     let old = evens k es valid.0 t table in

@@ -25,7 +25,7 @@ use Rattle.ft_model.specs.Contents.{DictContent, SetContent, empty_dict, empty_s
 use Rattle.ft_model.specs.Lists.{index_in, index_of, clamped_in}
 use Rattle.ft_model.specs.Worlds.{WorldContent, HandsContent, cursor_at, dict_of, list_of, set_of, dict_at, list_at, set_at, no_hands, empty_content}
 use Rattle.ft_model.specs.Answers.{Answer, answer_dict, answer_list, answer_set, answer}
-use Rattle.ft_model.specs.Tables.{stored_newest}
+use Rattle.ft_model.specs.TableUses.{stored_newest}
 use Rattle.ft_layout.specs.declared.slot.Stored.{Stored}
 use Rattle.ft_layout.specs.Words.{FitsKey, FitsStored, IsEntry}
 use Rattle.ft_layout.specs.Tables.{UsedEntry, is_live, hash_of, slot_with, entry_word}
@@ -35,7 +35,7 @@ use Rattle.ft_trace.specs.declared.View.{View}
 use Rattle.ft_trace.specs.declared.Act.{Act}
 use Rattle.ft_trace.specs.declared.Act.TheVariants.{Commit}
 use Rattle.ft_trace.specs.FitCalls.{FitsValue, FitsCall, FitsDictCall, FitsListCall, FitsSetCall, FitsContent}
-use Rattle.ft_trace.specs.Worlds.{first_writes}
+use Rattle.ft_trace.specs.ContainerStates.{first_writes}
 use Rattle.ft_trace.specs.Traces.{Event, did, forked, joined, sent, run, writes_of, history, May, Valid}
 
 abbrev FitsPair : DictPair → Type 0

@@ -13,7 +13,7 @@ use Rattle.ft_trace.specs.declared.Shape.{Shape}
 use Rattle.ft_trace.specs.declared.View.{View}
 use Rattle.ft_trace.specs.Addresses.{lock_of, containers_in}
 use Rattle.ft_trace.specs.Acts.{place, Reports, has_lock, has_lock_next, starter, noted, maker, made, both, spent, sender, note}
-use Rattle.ft_trace.specs.Laws.{FoundOwnersHadLocks, OneKnowsAllOwners}
+use Rattle.ft_trace.specs.TraceLaws.{FoundOwnersHadLocks, OneKnowsAllOwners}
 use Rattle.ft_trace.specs.Owners.{is_owner_in, had_locks, found_owners, found_owners_next}
 use Rattle.ft_trace.specs.Traces.{Event, did, forked, joined, sent, run, word, history, May, Valid}
 use Rattle.ft_trace.proofs.Cases.{miss, here, off}

@@ -5,15 +5,15 @@ use native.Mathlib.Decide.{ℕ_discrete}
 use Rattle.ft_trace.specs.declared.Act.{Act}
 use Rattle.ft_trace.specs.declared.Act.TheVariants.{PutRoot}
 use Rattle.ft_trace.specs.declared.Shape.{Shape}
-use Rattle.ft_trace.specs.Addresses.{bits, IsTable, free_word_of, free_bit_of}
+use Rattle.ft_trace.specs.Addresses.{bits, IsTableName, free_word_of, free_bit_of}
 use Rattle.ft_trace.specs.Ages.{aged, age}
 use Rattle.ft_trace.specs.Bits.{bit}
-use Rattle.ft_trace.specs.Laws.{TablesAreFreeBeforeRoots}
+use Rattle.ft_trace.specs.TraceLaws.{TablesAreFreeBeforeRoots}
 use Rattle.ft_trace.specs.Traces.{Event, did, word, Valid}
 use Rattle.ft_trace.proofs.Ages.{ages_one}
 use Rattle.ft_trace.proofs.Cases.{hit, miss}
-use Rattle.ft_trace.proofs.Places.{placed, root_table}
-use Rattle.ft_trace.proofs.Moments.{valid_rest}
+use Rattle.ft_trace.proofs.TablePlaces.{placed, root_table}
+use Rattle.ft_trace.proofs.EarlierMoments.{valid_rest}
 
 -- a moment at which the table was free since then
 abbrev WasFree : Shape → List Event → List Event → ℕ → Type 0
@@ -30,7 +30,7 @@ still_out g h out up small free =
     dite (ℕ_discrete (h % 5) 3) (λ (three : h % 5 ≡ 3). inl three)
     (λ other. inr (⊎_elim (λ (x : g % 5 ≡ 3). omega (arith, x, up, small, free, other)) (λ (x : g % 5 ≡ 4). omega (arith, x, up, small, free, other)) out))
 
-free_or_out : (k : Shape) (newer older : List Event) → Valid k (newer ++ older) → (t : ℕ) → IsTable k t → age older t % 5 ≡ 3 → WasFree k newer older t ⊎ IsOut (age (newer ++ older) t)
+free_or_out : (k : Shape) (newer older : List Event) → Valid k (newer ++ older) → (t : ℕ) → IsTableName k t → age older t % 5 ≡ 3 → WasFree k newer older t ⊎ IsOut (age (newer ++ older) t)
 free_or_out k [] older valid t table three = inr (inl three)
 free_or_out k (e ∷ newer) older valid t table three =
     ⊎_elim

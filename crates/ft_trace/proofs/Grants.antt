@@ -7,13 +7,13 @@ use Rattle.ft_trace.specs.declared.View.{View}
 use Rattle.ft_trace.specs.declared.Act.TheVariants.{LowerCount, RaiseCount, ReadCount, ReadFree, TakeTable}
 use Rattle.ft_trace.specs.Bits.{bit}
 use Rattle.ft_model.specs.Classes.{IsClass}
-use Rattle.ft_trace.specs.Addresses.{count_of_class, bits, class_of, free_word_of, free_bit_of, IsTable}
+use Rattle.ft_trace.specs.Addresses.{count_of_class, bits, class_of, free_word_of, free_bit_of, IsTableName}
 use Rattle.ft_trace.specs.Acts.{stage, flight, owes, noted}
 use Rattle.ft_trace.specs.Grants.{Ends}
 use Rattle.ft_trace.specs.Traces.{did, run, word, history, snap, Possible, IsAwake}
 use Rattle.ft_trace.proofs.Sizes.{set_at}
 use Rattle.ft_trace.proofs.Cases.{miss, here}
-use Rattle.ft_trace.proofs.Nexts.{next_possible}
+use Rattle.ft_trace.proofs.NextActions.{next_possible}
 
 module _ (v : View) (live : IsAwake v) (possible : Possible v) where
   pub count_possible : (c : ℕ) → IsClass c → (f : ℕ) × Possible (noted (ReadCount c f) v)
@@ -25,7 +25,7 @@ module _ (v : View) (live : IsAwake v) (possible : Possible v) where
   pub free_possible : (w : ℕ) → w < 224 → (f : ℕ) × Possible (noted (ReadFree w f) v)
   free_possible w low = next_possible v live possible (λ f. ReadFree w f) (bits w) (λ _. refl) (λ _. refl) (λ es id knows. low)
 
-  pub take_possible : (t : ℕ) → IsTable v.shape t → stage t v.log ≡ 0 → flight v.log ≡ 2 * class_of t + 1 → (f : ℕ) × (s : Snap) × Possible (noted (TakeTable t f s) v)
+  pub take_possible : (t : ℕ) → IsTableName v.shape t → stage t v.log ≡ 0 → flight v.log ≡ 2 * class_of t + 1 → (f : ℕ) × (s : Snap) × Possible (noted (TakeTable t f s) v)
   take_possible t table none fl =
       let es = possible.0 in
       let id = possible.1 in
@@ -39,7 +39,7 @@ module _ (v : View) (live : IsAwake v) (possible : Possible v) where
   raise_possible c low fl = next_possible v live possible (λ f. RaiseCount c f) (count_of_class c) (λ _. refl) (λ _. refl) (λ es id knows. (low, fl))
 
 -- from a count that was found above 0: lowered, and a bit taken, or raised again
-pub taking_ends : (v : View) → IsAwake v → Possible v → (t old : ℕ) → IsTable v.shape t → 0 < old → flight v.log ≡ 0 → owes v.log ≡ 0 → stage t v.log ≡ 0 → Ends v
+pub taking_ends : (v : View) → IsAwake v → Possible v → (t old : ℕ) → IsTableName v.shape t → 0 < old → flight v.log ≡ 0 → owes v.log ≡ 0 → stage t v.log ≡ 0 → Ends v
 taking_ends v live possible t old table up idle none mine =
     let c = class_of t in
     let a = lower_possible v live possible c old table.0 up idle none in

@@ -9,7 +9,7 @@ use Rattle.ft_trace.specs.declared.View.{View}
 use Rattle.ft_trace.specs.declared.Act.{Act}
 use Rattle.ft_trace.specs.declared.Act.TheVariants.{TakeTable, GiveTable, PutRoot, Retire, Announce}
 use Rattle.ft_trace.specs.Bits.{bit}
-use Rattle.ft_trace.specs.Addresses.{write_number, IsTable, free_bit_of}
+use Rattle.ft_trace.specs.Addresses.{write_number, IsTableName, free_bit_of}
 use Rattle.ft_trace.specs.Acts.{stage, stage_next, is_handed, hands_over, noted, maker, made, both, spent, sender, note}
 use Rattle.ft_trace.specs.Ages.{aged, age, gone_to, keeper}
 use Rattle.ft_trace.specs.Traces.{Event, did, forked, joined, sent, run, word, history, May, Valid}
@@ -17,17 +17,17 @@ use Rattle.ft_trace.proofs.Sizes.{set_at}
 use Rattle.atomic_table.proofs.Lists.{set_else, at_longer}
 use Rattle.ft_trace.proofs.Cases.{hit, miss, here, not_true}
 use Rattle.ft_trace.proofs.HandedOver.{where_false, handed_is}
-use Rattle.ft_trace.proofs.Words.{stays, moves}
-use Rattle.ft_trace.proofs.Versions.{one_up}
+use Rattle.ft_trace.proofs.OneWord.{stays, moves}
+use Rattle.ft_trace.proofs.OddVersions.{one_up}
 use Rattle.ft_trace.proofs.Announcing.{on_write_number}
-use Rattle.ft_trace.proofs.Places.{on_table, placed}
+use Rattle.ft_trace.proofs.TablePlaces.{on_table, placed}
 
 pub record InHands (k : Shape) (es : List Event) (t : ℕ) : Type 0 where
   pub by : View
   pub at : get_elem? (run k es).views (keeper es t) ≡ some by
   pub has : stage t by.log ≡ age es t % 5
 
-pub handed : (k : Shape) (es : List Event) → Valid k es → (t : ℕ) → IsTable k t → age es t % 5 ≢ 0 → age es t % 5 ≢ 2 → age es t % 5 ≢ 4 → InHands k es t
+pub handed : (k : Shape) (es : List Event) → Valid k es → (t : ℕ) → IsTableName k t → age es t % 5 ≢ 0 → age es t % 5 ≢ 2 → age es t % 5 ≢ 4 → InHands k es t
 handed k [] valid t table free current out = absurd (free refl)
 handed k (did id v a ∷ es) valid t table free current out =
     let g = age es t in

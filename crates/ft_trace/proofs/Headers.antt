@@ -8,20 +8,20 @@ use Rattle.ft_trace.specs.declared.Act.{Act}
 use Rattle.ft_trace.specs.declared.Act.TheVariants.{PutRoot, PutHeader, ReadHeader, TakeTable, GiveTable, Retire, TookOver}
 use Rattle.ft_trace.specs.declared.Shape.{Shape}
 use Rattle.ft_trace.specs.declared.View.{View}
-use Rattle.ft_trace.specs.Addresses.{header, IsTable, free_bit_of}
+use Rattle.ft_trace.specs.Addresses.{header, IsTableName, free_bit_of}
 use Rattle.ft_trace.specs.Bits.{bit}
 use Rattle.ft_trace.specs.Acts.{place, stage, stage_next, goal, goal_next, has_goal, has_goal_next, is_handed, hands_over, noted, starter, maker, made, both, spent, sender, note}
 use Rattle.ft_trace.specs.Traces.{Event, did, forked, joined, sent, run, word, history, May, Valid}
 use Rattle.ft_trace.proofs.Sizes.{set_views, one_more, one_view}
 use Rattle.ft_trace.proofs.Cases.{same_or, hit, miss, off}
-use Rattle.ft_trace.proofs.Words.{stays, moves, loaded}
+use Rattle.ft_trace.proofs.OneWord.{stays, moves, loaded}
 use Rattle.ft_trace.proofs.HandedOver.{either_way, where_true, where_false, handed_is, goal_of, no_goal}
-use Rattle.ft_trace.proofs.Places.{placed}
+use Rattle.ft_trace.proofs.TablePlaces.{placed}
 
 abbrev Header : Shape → List Event → ℕ → ℕ → View → Type 0
 Header k es t j u = has_goal t u.log ≡ true → (stage t u.log ≡ 4) × (word k es (header t) ≡ goal t u.log)
 
-module _ (k : Shape) (es : List Event) (id : ℕ) (v : View) (t : ℕ) (table : IsTable k t) (valid : Valid k es) (at : get_elem? (run k es).views id ≡ some v) (old : (j : ℕ) (u : View) → get_elem? (run k es).views j ≡ some u → Header k es t j u) where
+module _ (k : Shape) (es : List Event) (id : ℕ) (v : View) (t : ℕ) (table : IsTableName k t) (valid : Valid k es) (at : get_elem? (run k es).views id ≡ some v) (old : (j : ℕ) (u : View) → get_elem? (run k es).views j ≡ some u → Header k es t j u) where
   still : (a : Act) → May k (run k es) (history es) v a → place a ≢ header t → word k (did id v a ∷ es) (header t) ≡ word k es (header t)
   still a may ne = stays k es id v a may (header t) table ne
 
@@ -73,7 +73,7 @@ module _ (k : Shape) (es : List Event) (id : ℕ) (v : View) (t : ℕ) (table : 
   theirs (ReadHeader p f) may j u ne e s = let h = old j u e s in (h.0, loaded k es id v (ReadHeader p f) (λ n. refl) (header t) ∙ h.1)
   theirs act may j u ne e s = let h = old j u e s in (h.0, still act may (λ z. absurd (cc)) ∙ h.1)
 
-pub goals_stand : (k : Shape) (es : List Event) → Valid k es → (t : ℕ) → IsTable k t → (j : ℕ) (u : View) → get_elem? (run k es).views j ≡ some u → Header k es t j u
+pub goals_stand : (k : Shape) (es : List Event) → Valid k es → (t : ℕ) → IsTableName k t → (j : ℕ) (u : View) → get_elem? (run k es).views j ≡ some u → Header k es t j u
 goals_stand k [] valid t table = one_view (Header k [] t) (starter k) (λ e. off e)
 goals_stand k (did id v a ∷ es) valid t table =
     let old = goals_stand k es valid.0 t table in

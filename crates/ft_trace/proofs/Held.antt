@@ -1,18 +1,18 @@
 -- What the layers above cite: facts on the words that a pass has, and none on traces.
 use Rattle.std.proofs.Common.{◌≡◌, ℕ, suc, ◌<◌, true, false, List, sym, ap, ◌∙◌, subst, inl, inr, arith}
-use Rattle.ft_model.specs.Tables.{stored_newest}
+use Rattle.ft_model.specs.TableUses.{stored_newest}
 use Rattle.ft_trace.specs.declared.View.{View}
-use Rattle.ft_trace.specs.Addresses.{containers_in, block, cell, class_of, IsTable}
+use Rattle.ft_trace.specs.Addresses.{containers_in, block, cell, class_of, IsTableName}
 use Rattle.ft_trace.specs.Acts.{has_lock, is_writing, stage, mem}
-use Rattle.ft_trace.specs.Worlds.{ContainerState, container_after, kind_in}
-use Rattle.ft_trace.specs.Words.{table_of, root_of, inner, Picture, root_in, picture, Stands}
+use Rattle.ft_trace.specs.ContainerStates.{ContainerState, container_after, kind_in}
+use Rattle.ft_trace.specs.Pictures.{table_of, root_of, inner, Picture, root_in, picture, Stands}
 use Rattle.ft_trace.specs.Kinds.{SoundAs, CarefulAs}
 use Rattle.ft_trace.specs.Holds.{held, known, in_hand, AgreesWith}
 use Rattle.ft_trace.specs.Traces.{run, history, StandsFor, SoundFor, CarefulFor, Possible, Sure}
 use Rattle.ft_trace.proofs.Pieces.{block_at, table_same, picture_same}
-use Rattle.ft_trace.proofs.Places.{root_table}
+use Rattle.ft_trace.proofs.TablePlaces.{root_table}
 use Rattle.ft_trace.proofs.Contents.{tab}
-use Rattle.ft_trace.proofs.Holding.{holder_stands}
+use Rattle.ft_trace.proofs.HeldWords.{holder_stands}
 use Rattle.ft_trace.proofs.Images.{imaged}
 
 -- the words that a holder knows are the container's, its table's too
@@ -31,7 +31,7 @@ pub agrees_now : (v : View) → Sure v (λ es. AgreesWith v (stored_newest v.sha
 agrees_now v es id knows p low mine = sym (content_known v p mine es id knows)
 
 -- and those of a table that is fresh in hand
-pub hand_known : (v : View) (t : ℕ) → IsTable v.shape t → stage t v.log ≡ 1 → Sure v (λ es. in_hand t v ≡ tab v.shape es t)
+pub hand_known : (v : View) (t : ℕ) → IsTableName v.shape t → stage t v.log ≡ 1 → Sure v (λ es. in_hand t v ≡ tab v.shape es t)
 hand_known v t table mine es id knows =
     let k = v.shape in
     let im = imaged k es knows.0 id v knows.1 in
@@ -70,7 +70,7 @@ module _ (v : View) (o : ℕ) (low : o < containers_in v.shape) where
       let c = content_known v o mine es id knows in
       (w.1, subst (λ (z : List ℕ × ContainerState). CarefulAs (kind_in v.shape.kinds o) (class_of t) z.0 z.1.content i x) (λ d. (w.0 d, c d)) care)
 
-  pub sound_sure : (t : ℕ) → IsTable v.shape t → has_lock o v.log ≡ true → stage t v.log ≡ 1 → SoundAs (kind_in v.shape.kinds o) v.shape.texts (class_of t) (in_hand t v) (known o v).content → Sure v (λ es. SoundFor v.shape (run v.shape es).words o t (container_after v.shape.kinds (history es) o).content)
+  pub sound_sure : (t : ℕ) → IsTableName v.shape t → has_lock o v.log ≡ true → stage t v.log ≡ 1 → SoundAs (kind_in v.shape.kinds o) v.shape.texts (class_of t) (in_hand t v) (known o v).content → Sure v (λ es. SoundFor v.shape (run v.shape es).words o t (container_after v.shape.kinds (history es) o).content)
   sound_sure t table mine fresh sound es id knows =
       let w = hand_known v t table fresh es id knows in
       let c = content_known v o mine es id knows in

@@ -10,12 +10,12 @@ use Rattle.ft_trace.specs.declared.View.{View}
 use Rattle.ft_trace.specs.declared.Act.{Act}
 use Rattle.ft_trace.specs.declared.Act.TheVariants.{ReadTable, ReadCounter}
 use Rattle.ft_trace.specs.Addresses.{containers_in, class_of, slots}
-use Rattle.ft_trace.specs.Worlds.{container_after, first_writes, kind_in}
-use Rattle.ft_trace.specs.Words.{entry_at, entry_of}
+use Rattle.ft_trace.specs.ContainerStates.{container_after, first_writes, kind_in}
+use Rattle.ft_trace.specs.Pictures.{entry_offset, entry_field}
 use Rattle.ft_trace.specs.Carefuls.{said_of, Later}
 use Rattle.ft_trace.specs.Kinds.{rows, under, IsKeyed}
-use Rattle.ft_trace.specs.Reading.{Among}
-use Rattle.ft_trace.specs.Finding.{Hit}
+use Rattle.ft_trace.specs.LoggedReads.{Among}
+use Rattle.ft_trace.specs.LoggedLookUps.{Hit}
 use Rattle.ft_trace.specs.Traces.{Event, run, history, Valid}
 use Rattle.ft_trace.proofs.Contents.{count, tab}
 use Rattle.ft_model.specs.declared.call.Call.{Call}
@@ -30,7 +30,7 @@ module _ (k : Shape) (es : List Event) (valid : Valid k es) (o t p : ℕ) (key :
   N = slots (class_of t)
 
   abbrev load : Act
-  load = ReadTable t (entry_at N p 0) h.version
+  load = ReadTable t (entry_offset N p 0) h.version
 
   abbrev start : List Act
   start = h.window.rest
@@ -64,18 +64,18 @@ module _ (k : Shape) (es : List Event) (valid : Valid k es) (o t p : ℕ) (key :
   first : (a : Act) (m : Among a h.mid) → Back k t j start (in_now a m).spot.es load h.rest
   first a m = back (m.rest ++ load ∷ h.rest) (in_now a m).spot m.rest load h.rest refl
 
-  same_version : (a : Act) (m : Among a h.mid) → (entry_of N (tab k now t) p 0 ≡ h.version) × (entry_of N (tab k (in_now a m).spot.es t) p 0 ≡ h.version)
+  same_version : (a : Act) (m : Among a h.mid) → (entry_field N (tab k now t) p 0 ≡ h.version) × (entry_field N (tab k (in_now a m).spot.es t) p 0 ≡ h.version)
   same_version a m =
       let w = in_now a m in
       let f = first a m in
-      let end : h.version ≡ entry_of N (tab k now t) p 0 = found k t j (entry_at N p 0) h.version start (h.mid ++ load ∷ h.rest) open_.spot.es (keyed_low (kind_in k.kinds o) keyed (class_of t) p 0 small (omega arith)) top in
-      let begin : h.version ≡ entry_of N (tab k f.spot.es t) p 0 = found k t j (entry_at N p 0) h.version start h.rest w.spot.es (keyed_low (kind_in k.kinds o) keyed (class_of t) p 0 small (omega arith)) f in
+      let end : h.version ≡ entry_field N (tab k now t) p 0 = found k t j (entry_offset N p 0) h.version start (h.mid ++ load ∷ h.rest) open_.spot.es (keyed_low (kind_in k.kinds o) keyed (class_of t) p 0 small (omega arith)) top in
+      let begin : h.version ≡ entry_field N (tab k f.spot.es t) p 0 = found k t j (entry_offset N p 0) h.version start h.rest w.spot.es (keyed_low (kind_in k.kinds o) keyed (class_of t) p 0 small (omega arith)) f in
       let up = (later_from now a (m.rest ++ load ∷ h.rest) whom_now w).version p small in
       let from = (later_from w.spot.es load h.rest (whom_in a m) f).version p small in
       (sym end, omega (arith, end, begin, up, from))
 
   -- the words of the entry are the same at each moment between
-  same_word : (a : Act) (m : Among a h.mid) → (w : ℕ) → 0 < w → w < 8 → entry_of N (tab k now t) p w ≡ entry_of N (tab k (in_now a m).spot.es t) p w
+  same_word : (a : Act) (m : Among a h.mid) → (w : ℕ) → 0 < w → w < 8 → entry_field N (tab k now t) p w ≡ entry_field N (tab k (in_now a m).spot.es t) p w
   same_word a m w up less =
       let v = same_version a m in
       (later_from now a (m.rest ++ load ∷ h.rest) whom_now (in_now a m)).same p w small up less (ap (λ (z : ℕ). z % 2) v.1 ∙ h.even) (v.0 ∙ sym v.1)
@@ -84,32 +84,32 @@ module _ (k : Shape) (es : List Event) (valid : Valid k es) (o t p : ℕ) (key :
   then_ = (in_now (ReadCounter n) h.stamp).spot.es
 
   -- a word that was read between
-  word_then : (w f : ℕ) → 0 < w → w < 8 → Among (ReadTable t (entry_at N p w) f) h.mid → entry_of N (tab k then_ t) p w ≡ f
+  word_then : (w f : ℕ) → 0 < w → w < 8 → Among (ReadTable t (entry_offset N p w) f) h.mid → entry_field N (tab k then_ t) p w ≡ f
   word_then w f up less m =
-      let b = in_now (ReadTable t (entry_at N p w) f) m in
-      let e : f ≡ entry_of N (tab k b.spot.es t) p w = found k t j (entry_at N p w) f start (m.rest ++ load ∷ h.rest) now (keyed_low (kind_in k.kinds o) keyed (class_of t) p w small (omega arith)) b in
-      sym (same_word (ReadCounter n) h.stamp w up less) ∙ (same_word (ReadTable t (entry_at N p w) f) m w up less ∙ sym e)
+      let b = in_now (ReadTable t (entry_offset N p w) f) m in
+      let e : f ≡ entry_field N (tab k b.spot.es t) p w = found k t j (entry_offset N p w) f start (m.rest ++ load ∷ h.rest) now (keyed_low (kind_in k.kinds o) keyed (class_of t) p w small (omega arith)) b in
+      sym (same_word (ReadCounter n) h.stamp w up less) ∙ (same_word (ReadTable t (entry_offset N p w) f) m w up less ∙ sym e)
 
-  kind_then : entry_of N (tab k then_ t) p 2 ≡ key_kind key
+  kind_then : entry_field N (tab k then_ t) p 2 ≡ key_kind key
   kind_then = word_then 2 (key_kind key) (omega arith) (omega arith) h.live
 
   -- the key that the search read is still the entry's
-  key_then : entry_of N (tab k then_ t) p 3 ≡ key_payload key
+  key_then : entry_field N (tab k then_ t) p 3 ≡ key_payload key
   key_then =
       let f = first (ReadCounter n) h.stamp in
-      let ka : Act = ReadTable t (entry_at N p 3) (key_payload key) in
-      let ua : Act = ReadTable t (entry_at N p 2) (key_kind key) in
+      let ka : Act = ReadTable t (entry_offset N p 3) (key_payload key) in
+      let ua : Act = ReadTable t (entry_offset N p 2) (key_kind key) in
       let kw = back h.rest f.spot h.searched ka (h.between ++ ua ∷ h.before) h.key_is in
       let uw = back (h.between ++ ua ∷ h.before) kw.spot h.between ua h.before refl in
       let f_whom = f.whom ∙ whom_in (ReadCounter n) h.stamp in
       let k_whom = kw.whom ∙ f_whom in
-      let key_read : key_payload key ≡ entry_of N (tab k kw.spot.es t) p 3 = found k t j (entry_at N p 3) (key_payload key) start (h.between ++ ua ∷ h.before) f.spot.es (keyed_low (kind_in k.kinds o) keyed (class_of t) p 3 small (omega arith)) kw in
-      let use_read : key_kind key ≡ entry_of N (tab k uw.spot.es t) p 2 = found k t j (entry_at N p 2) (key_kind key) start h.before kw.spot.es (keyed_low (kind_in k.kinds o) keyed (class_of t) p 2 small (omega arith)) uw in
+      let key_read : key_payload key ≡ entry_field N (tab k kw.spot.es t) p 3 = found k t j (entry_offset N p 3) (key_payload key) start (h.between ++ ua ∷ h.before) f.spot.es (keyed_low (kind_in k.kinds o) keyed (class_of t) p 3 small (omega arith)) kw in
+      let use_read : key_kind key ≡ entry_field N (tab k uw.spot.es t) p 2 = found k t j (entry_offset N p 2) (key_kind key) start h.before kw.spot.es (keyed_low (kind_in k.kinds o) keyed (class_of t) p 2 small (omega arith)) uw in
       let some_kind = (kind_is key).0 in
       let l1 = later_from kw.spot.es ua h.before k_whom uw in
       let l2 = later_from f.spot.es ka (h.between ++ ua ∷ h.before) f_whom kw in
       let l3 = later_from then_ load h.rest (whom_in (ReadCounter n) h.stamp) f in
-      let used0 : entry_of N (tab k uw.spot.es t) p 2 ≢ 0 = λ none. omega (arith, none, use_read, some_kind) in
+      let used0 : entry_field N (tab k uw.spot.es t) p 2 ≢ 0 = λ none. omega (arith, none, use_read, some_kind) in
       let used = later_used N (rows (kind_in k.kinds o) (class_of t)) (tab k uw.spot.es t) (tab k kw.spot.es t) l1 p small used0 in
       l3.key p small (later_used N (rows (kind_in k.kinds o) (class_of t)) (tab k kw.spot.es t) (tab k f.spot.es t) l2 p small used) ∙ (l2.key p small used ∙ sym key_read)
 
@@ -125,10 +125,10 @@ module _ (k : Shape) (es : List Event) (valid : Valid k es) (o t p : ℕ) (key :
       (s.0, ap (λ (cs : List Call). under (container_after k.kinds cs o).content key) s.1 ∙ right)
 
   -- a word of the value or serial that was read between
-  pub hit_word : (w f : ℕ) → w < 3 → Among (ReadTable t (entry_at N p (4 + w)) f) h.mid → slice_index (under (container_after k.kinds (first_writes n (history es)) o).content key) w ≡ f
+  pub hit_word : (w f : ℕ) → w < 3 → Among (ReadTable t (entry_offset N p (4 + w)) f) h.mid → slice_index (under (container_after k.kinds (first_writes n (history es)) o).content key) w ≡ f
   hit_word w f less m = ap (λ (l : List ℕ). slice_index l w) hit_at.1 ∙ (by w less ∙ word_then (4 + w) f (omega arith) (omega arith) m)
     where
-      by : (w : ℕ) → w < 3 → slice_index (said_of N (tab k then_ t) p) w ≡ entry_of N (tab k then_ t) p (4 + w)
+      by : (w : ℕ) → w < 3 → slice_index (said_of N (tab k then_ t) p) w ≡ entry_field N (tab k then_ t) p (4 + w)
       by zero less = refl
       by (suc zero) less = refl
       by (suc (suc zero)) less = refl

@@ -13,17 +13,17 @@ use Rattle.ft_trace.specs.declared.Act.{Act}
 use Rattle.ft_trace.specs.declared.Act.TheVariants.{Lock, Unlock, PutBlock, PutRoot, PutTable, PutFresh, Commit, ReadBlock, ReadRoot, ReadTable, TakeTable, GiveTable, Retire, TookOver}
 use Rattle.ft_trace.specs.Addresses.{Word, counter, write_number, announced_of, bits, count_of_class, lock_of, version_of, block, header, cell, Inside, at, extent}
 use Rattle.ft_trace.specs.Acts.{place, word_after, has_lock, is_writing, stage, stage_next, hands_over, mem, past, starter, noted, maker, made, both, spent, sender, note}
-use Rattle.ft_trace.specs.Worlds.{container_after}
+use Rattle.ft_trace.specs.ContainerStates.{container_after}
 use Rattle.ft_trace.specs.Addresses.{containers_in}
 use Rattle.ft_trace.specs.Traces.{Event, did, forked, joined, sent, run, word, history, snap, May, Valid}
 use Rattle.ft_trace.proofs.Sizes.{set_views, one_more, one_view}
 use Rattle.ft_trace.proofs.Cases.{same_or, hit, miss, off}
 use Rattle.ft_trace.proofs.Addresses.{at_low}
-use Rattle.ft_trace.proofs.Words.{wide, stays, moves, loaded}
+use Rattle.ft_trace.proofs.OneWord.{wide, stays, moves, loaded}
 use Rattle.ft_trace.proofs.Locks.{one_holder}
-use Rattle.ft_trace.proofs.Versions.{writer_has}
+use Rattle.ft_trace.proofs.OddVersions.{writer_has}
 use Rattle.ft_trace.proofs.HandedOver.{fresh_before}
-use Rattle.ft_trace.proofs.Places.{root, placed}
+use Rattle.ft_trace.proofs.TablePlaces.{root, placed}
 use Rattle.ft_trace.proofs.Contents.{alters, content_by}
 
 -- the words that a pass has to itself

@@ -15,14 +15,14 @@ use Rattle.ft_model.specs.declared.entry.Entry.{Entry as NamedEntry}
 use Rattle.ft_model.specs.declared.script.Kind.{Kind}
 use Rattle.ft_model.specs.Answers.{answer, world_by}
 use Rattle.ft_model.specs.Histories.{IsReplied}
-use Rattle.ft_model.specs.Tables.{StoredWorld, stored_by, stored_newest, takes_by, takes_newest, CanLackMemory, IsEarnedReply, IsFittingReply, takes_in, would_pass}
+use Rattle.ft_model.specs.TableUses.{StoredWorld, stored_by, stored_newest, takes_by, takes_newest, CanLackMemory, IsEarnedReply, IsFittingReply, takes_in, would_pass}
 use Rattle.ft_model.proofs.StoredLaws.{newest_stored, newest_takes, stored_world}
 use Rattle.ft_trace.specs.declared.Entry.{Entry}
 use Rattle.ft_trace.specs.declared.Shape.{Shape}
 use Rattle.ft_trace.specs.Earnings.{IsEarnedSo, AllEarned}
 use Rattle.ft_trace.specs.Entries.{IsNumber, Right, AllRight}
 use Rattle.ft_trace.specs.InOrder.{StandsInOrder, NumberedEntriesAreInOrder}
-use Rattle.ft_trace.specs.Worlds.{first_writes}
+use Rattle.ft_trace.specs.ContainerStates.{first_writes}
 
 -- ---- lists from the newest to the first, and in order
 

@@ -11,12 +11,12 @@ use Rattle.ft_trace.specs.declared.Act.{Act}
 use Rattle.ft_trace.specs.declared.Act.TheVariants.{ReadTable, ReadCounter}
 use Rattle.ft_trace.specs.Addresses.{containers_in, class_of, slots}
 use Rattle.ft_trace.specs.Ages.{whose}
-use Rattle.ft_trace.specs.Worlds.{container_after, first_writes, kind_in}
-use Rattle.ft_trace.specs.Words.{item_at, item_of}
-use Rattle.ft_trace.specs.Items.{said_at, words_at, ItemLater}
+use Rattle.ft_trace.specs.ContainerStates.{container_after, first_writes, kind_in}
+use Rattle.ft_trace.specs.Pictures.{item_offset, item_field}
+use Rattle.ft_trace.specs.ItemWords.{said_at, words_at, ItemLater}
 use Rattle.ft_trace.specs.Kinds.{IsItems}
-use Rattle.ft_trace.specs.Reading.{Among}
-use Rattle.ft_trace.specs.Finding.{ItemHit, ItemPast}
+use Rattle.ft_trace.specs.LoggedReads.{Among}
+use Rattle.ft_trace.specs.LoggedLookUps.{ItemHit, ItemPast}
 use Rattle.ft_trace.specs.Traces.{Event, run, history, Valid}
 use Rattle.ft_trace.proofs.Contents.{count, tab}
 use Rattle.ft_trace.proofs.ByKind.{items_fit, items_later, items_sound}
@@ -25,7 +25,7 @@ use Rattle.ft_trace.proofs.Spots.{under_trans, stamp_then, Spot, Back, go, Opene
 
 module _ (k : Shape) (es : List Event) (valid : Valid k es) (o t p n : ℕ) (low : o < containers_in k) (items : IsItems (kind_in k.kinds o)) (small : p < slots (class_of t)) (j : ℕ) (u : View) (at : get_elem? (run k es).views j ≡ some u) (h : ItemHit u.log o t p n) where
   abbrev load : Act
-  load = ReadTable t (item_at p 0) h.version
+  load = ReadTable t (item_offset p 0) h.version
 
   abbrev start : List Act
   start = h.window.rest
@@ -58,20 +58,20 @@ module _ (k : Shape) (es : List Event) (valid : Valid k es) (o t p n : ℕ) (low
   first a m = back (m.rest ++ load ∷ h.rest) (in_now a m).spot m.rest load h.rest refl
 
   -- a read of a word of the item
-  read_is : (w f : ℕ) (rest : List Act) (from : List Event) → w < 4 → (b : Back k t j start from (ReadTable t (item_at p w) f) rest) → f ≡ item_of (tab k b.spot.es t) p w
-  read_is w f rest from less b = found k t j (item_at p w) f start rest from (let x = items_fit (class_of t) open_.table.0 in omega (arith, x, small, less)) b
+  read_is : (w f : ℕ) (rest : List Act) (from : List Event) → w < 4 → (b : Back k t j start from (ReadTable t (item_offset p w) f) rest) → f ≡ item_field (tab k b.spot.es t) p w
+  read_is w f rest from less b = found k t j (item_offset p w) f start rest from (let x = items_fit (class_of t) open_.table.0 in omega (arith, x, small, less)) b
 
-  same_version : (a : Act) (m : Among a h.mid) → (item_of (tab k now t) p 0 ≡ h.version) × (item_of (tab k (in_now a m).spot.es t) p 0 ≡ h.version)
+  same_version : (a : Act) (m : Among a h.mid) → (item_field (tab k now t) p 0 ≡ h.version) × (item_field (tab k (in_now a m).spot.es t) p 0 ≡ h.version)
   same_version a m =
       let w = in_now a m in
       let f = first a m in
-      let end : h.version ≡ item_of (tab k now t) p 0 = read_is 0 h.version (h.mid ++ load ∷ h.rest) open_.spot.es (omega arith) top in
-      let begin : h.version ≡ item_of (tab k f.spot.es t) p 0 = read_is 0 h.version h.rest w.spot.es (omega arith) f in
+      let end : h.version ≡ item_field (tab k now t) p 0 = read_is 0 h.version (h.mid ++ load ∷ h.rest) open_.spot.es (omega arith) top in
+      let begin : h.version ≡ item_field (tab k f.spot.es t) p 0 = read_is 0 h.version h.rest w.spot.es (omega arith) f in
       let up = (later_from now a (m.rest ++ load ∷ h.rest) whom_now w).version p small in
       let from = (later_from w.spot.es load h.rest (whom_in a m) f).version p small in
       (sym end, omega (arith, end, begin, up, from))
 
-  same_word : (a : Act) (m : Among a h.mid) → (w : ℕ) → 0 < w → w < 4 → item_of (tab k now t) p w ≡ item_of (tab k (in_now a m).spot.es t) p w
+  same_word : (a : Act) (m : Among a h.mid) → (w : ℕ) → 0 < w → w < 4 → item_field (tab k now t) p w ≡ item_field (tab k (in_now a m).spot.es t) p w
   same_word a m w up less =
       let v = same_version a m in
       (later_from now a (m.rest ++ load ∷ h.rest) whom_now (in_now a m)).same p w small up less (ap (λ (z : ℕ). z % 2) v.1 ∙ h.even) (v.0 ∙ sym v.1)
@@ -79,10 +79,10 @@ module _ (k : Shape) (es : List Event) (valid : Valid k es) (o t p n : ℕ) (low
   abbrev then_ : List Event
   then_ = (in_now (ReadCounter n) h.stamp).spot.es
 
-  word_then : (w f : ℕ) → 0 < w → w < 4 → Among (ReadTable t (item_at p w) f) h.mid → item_of (tab k then_ t) p w ≡ f
+  word_then : (w f : ℕ) → 0 < w → w < 4 → Among (ReadTable t (item_offset p w) f) h.mid → item_field (tab k then_ t) p w ≡ f
   word_then w f up less m =
-      let b = in_now (ReadTable t (item_at p w) f) m in
-      sym (same_word (ReadCounter n) h.stamp w up less) ∙ (same_word (ReadTable t (item_at p w) f) m w up less ∙ sym (read_is w f (m.rest ++ load ∷ h.rest) now less b))
+      let b = in_now (ReadTable t (item_offset p w) f) m in
+      sym (same_word (ReadCounter n) h.stamp w up less) ∙ (same_word (ReadTable t (item_offset p w) f) m w up less ∙ sym (read_is w f (m.rest ++ load ∷ h.rest) now less b))
 
   -- the list at the stamp has at the index what the item said then
   pub item_hit_at : (n ≤ count k es) × (words_at (list_of (container_after k.kinds (first_writes n (history es)) o).content) p ≡ said_at (tab k then_ t) p)
@@ -96,10 +96,10 @@ module _ (k : Shape) (es : List Event) (valid : Valid k es) (o t p n : ℕ) (low
       (s.0, ap (λ (cs : List Call). words_at (list_of (container_after k.kinds cs o).content) p) s.1 ∙ right)
 
   -- a word of the item that was read between
-  pub item_word : (w f : ℕ) → w < 2 → Among (ReadTable t (item_at p (1 + w)) f) h.mid → slice_index (words_at (list_of (container_after k.kinds (first_writes n (history es)) o).content) p) w ≡ f
+  pub item_word : (w f : ℕ) → w < 2 → Among (ReadTable t (item_offset p (1 + w)) f) h.mid → slice_index (words_at (list_of (container_after k.kinds (first_writes n (history es)) o).content) p) w ≡ f
   item_word w f less m = ap (λ (l : List ℕ). slice_index l w) item_hit_at.1 ∙ (by w less ∙ word_then (1 + w) f (omega arith) (omega arith) m)
     where
-      by : (w : ℕ) → w < 2 → slice_index (said_at (tab k then_ t) p) w ≡ item_of (tab k then_ t) p (1 + w)
+      by : (w : ℕ) → w < 2 → slice_index (said_at (tab k then_ t) p) w ≡ item_field (tab k then_ t) p (1 + w)
       by zero less = refl
       by (suc zero) less = refl
       by (suc (suc w)) less = absurd (omega arith)

@@ -4,11 +4,11 @@ use Rattle.std.specs.Prelude.{slice_index, slice_set}
 use mathlib.Core.Logic.{dite}
 use native.Mathlib.Decide.{ℕ_discrete}
 use Rattle.ft_model.specs.declared.data.Value.{Value}
-use Rattle.ft_trace.specs.Words.{item_at, item_of}
-use Rattle.ft_trace.specs.Items.{said_at, words_at, ItemSound, ItemCareful, ItemClear, ItemLater}
+use Rattle.ft_trace.specs.Pictures.{item_offset, item_field}
+use Rattle.ft_trace.specs.ItemWords.{said_at, words_at, ItemSound, ItemCareful, ItemClear, ItemLater}
 
 pub item_self : (n : ℕ) (ws : List ℕ) → ItemLater n ws ws
-item_self n ws = record { version = λ p low. le_refl (item_of ws p 0); same = λ p w low some_w small even e. refl }
+item_self n ws = record { version = λ p low. le_refl (item_field ws p 0); same = λ p w low some_w small even e. refl }
 
 pub item_trans : (n : ℕ) (ws ys zs : List ℕ) → ItemLater n ws ys → ItemLater n ys zs → ItemLater n ws zs
 item_trans n ws ys zs a b = record {
@@ -16,7 +16,7 @@ item_trans n ws ys zs a b = record {
   same = λ p w low some_w small even e.
       let up = a.version p low in
       let more = b.version p low in
-      let here : item_of ys p 0 ≡ item_of ws p 0 = omega (arith, up, more, e) in
+      let here : item_field ys p 0 ≡ item_field ws p 0 = omega (arith, up, more, e) in
       b.same p w low some_w small (ap (λ (n : ℕ). n % 2) here ∙ even) (e ∙ sym here) ∙ a.same p w low some_w small even here;
 }
 
@@ -30,30 +30,30 @@ module _ (n long_is : ℕ) (ws : List ℕ) (values : List Value) (i x : ℕ) (lo
   here : (j : ℕ) → i ≡ j → slice_index zs j ≡ x
   here j e = ap (λ (z : ℕ). slice_index zs z) (sym e) ∙ get_or-set_same ws i x 0 (omega arith)
 
-  kept : (p w : ℕ) → p < n → 0 < w → w < 4 → item_of ws p 0 % 2 ≡ 0 → item_of zs p w ≡ item_of ws p w
-  kept p w low some_w small even = else (item_at p w) (λ e. let o = care.odd p w low some_w small (sym e) in absurd (omega (arith, o, even)))
+  kept : (p w : ℕ) → p < n → 0 < w → w < 4 → item_field ws p 0 % 2 ≡ 0 → item_field zs p w ≡ item_field ws p w
+  kept p w low some_w small even = else (item_offset p w) (λ e. let o = care.odd p w low some_w small (sym e) in absurd (omega (arith, o, even)))
 
   pub item_careful_later : ItemLater n ws zs
   item_careful_later = record {
-    version = λ p low. dite (ℕ_discrete i (item_at p 0)) (λ e. let v = care.version p low e in let h = here (item_at p 0) e in omega (arith, v, h)) (λ ne. let h = else (item_at p 0) (λ e. ne (sym e)) in omega (arith, h));
+    version = λ p low. dite (ℕ_discrete i (item_offset p 0)) (λ e. let v = care.version p low e in let h = here (item_offset p 0) e in omega (arith, v, h)) (λ ne. let h = else (item_offset p 0) (λ e. ne (sym e)) in omega (arith, h));
     same = λ p w low some_w small even e. kept p w low some_w small even;
   }
 
-  says_same : (p : ℕ) → ((w : ℕ) → 0 < w → w < 4 → item_of zs p w ≡ item_of ws p w) → said_at zs p ≡ said_at ws p
+  says_same : (p : ℕ) → ((w : ℕ) → 0 < w → w < 4 → item_field zs p w ≡ item_field ws p w) → said_at zs p ≡ said_at ws p
   says_same p same =
       let a = same 1 (omega arith) (omega arith) in
       let b = same 2 (omega arith) (omega arith) in
       λ z. a z ∷ b z ∷ []
 
-  item_right : (p : ℕ) → p < n → (item_of ws p 0 % 2 ≡ 0 → words_at values p ≡ said_at ws p) → item_of zs p 0 % 2 ≡ 0 → words_at values p ≡ said_at zs p
+  item_right : (p : ℕ) → p < n → (item_field ws p 0 % 2 ≡ 0 → words_at values p ≡ said_at ws p) → item_field zs p 0 % 2 ≡ 0 → words_at values p ≡ said_at zs p
   item_right p low right even =
-      dite (ℕ_discrete i (item_at p 0))
-      (λ (e : i ≡ item_at p 0).
-      let parity : x % 2 ≡ 0 = ap (λ (n : ℕ). n % 2) (sym (here (item_at p 0) e)) ∙ even in
-      care.closes p low e parity ∙ sym (says_same p (λ w up less. else (item_at p w) (λ y. omega arith))))
+      dite (ℕ_discrete i (item_offset p 0))
+      (λ (e : i ≡ item_offset p 0).
+      let parity : x % 2 ≡ 0 = ap (λ (n : ℕ). n % 2) (sym (here (item_offset p 0) e)) ∙ even in
+      care.closes p low e parity ∙ sym (says_same p (λ w up less. else (item_offset p w) (λ y. omega arith))))
       (λ ne.
-      let v : item_of zs p 0 ≡ item_of ws p 0 = else (item_at p 0) (λ e. ne (sym e)) in
-      let was : item_of ws p 0 % 2 ≡ 0 = ap (λ (n : ℕ). n % 2) (sym v) ∙ even in
+      let v : item_field zs p 0 ≡ item_field ws p 0 = else (item_offset p 0) (λ e. ne (sym e)) in
+      let was : item_field ws p 0 % 2 ≡ 0 = ap (λ (n : ℕ). n % 2) (sym v) ∙ even in
       right was ∙ sym (says_same p (λ w up less. kept p w low up less was)))
 
   pub item_careful_sound : ItemSound n ws values → ItemSound n zs values

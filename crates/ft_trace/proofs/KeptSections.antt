@@ -19,7 +19,7 @@ use Rattle.ft_trace.specs.Addresses.{containers_in}
 use Rattle.ft_trace.specs.Acts.{place, Reports, has_lock, starter, noted, maker, made, both, spent, sender, note}
 use Rattle.ft_trace.specs.Entries.{IsNumber}
 use Rattle.ft_trace.specs.OwnOrder.{is_write_of, HasWritesOn, KeptSectionsAreUntouched}
-use Rattle.ft_trace.specs.Sections.{Begun, begun, begun_by, is_among, without, since_load, all_since_load}
+use Rattle.ft_trace.specs.BegunSections.{Begun, begun, begun_by, is_among, without, since_load, all_since_load}
 use Rattle.ft_trace.specs.Traces.{Event, did, forked, joined, sent, run, word, writes_of, history, May, Valid}
 use Rattle.ft_trace.proofs.Cases.{hit, miss, here, off, same_or}
 use Rattle.ft_trace.proofs.Contents.{counted}

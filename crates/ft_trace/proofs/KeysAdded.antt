@@ -15,7 +15,7 @@ use Rattle.ft_model.specs.Answers.{Answer, after_write}
 use Rattle.ft_model.specs.Classes.{IsClass, dict_entries, dict_class}
 use Rattle.ft_model.specs.Contents.{DictContent, has_key, dict_set, with_value}
 use Rattle.ft_model.specs.Worlds.{dict_at}
-use Rattle.ft_model.specs.Tables.{TableUse, StoredWorld, no_table, stored_newest, takes_in, table_at, outgrows_dict, grown_table, after_stored}
+use Rattle.ft_model.specs.TableUses.{TableUse, StoredWorld, no_table, stored_newest, takes_in, table_at, outgrows_dict, grown_table, after_stored}
 use Rattle.ft_hash.specs.Probes.{dict_walk}
 use Rattle.ft_hash.proofs.Walks.{dict_walk-within}
 use Rattle.ft_layout.specs.declared.slot.Stored.TheVariants.{Plain}
@@ -28,15 +28,15 @@ use Rattle.ft_trace.specs.declared.Shape.{Shape}
 use Rattle.ft_trace.specs.declared.Snap.{Snap}
 use Rattle.ft_trace.specs.declared.View.{View}
 use Rattle.ft_trace.specs.Addresses.{class_of, slots, places, size}
-use Rattle.ft_trace.specs.Worlds.{container_after, kind_in}
-use Rattle.ft_trace.specs.Words.{root_in, Stands, index_of, entry_at, entry_of, walk_of}
+use Rattle.ft_trace.specs.ContainerStates.{container_after, kind_in}
+use Rattle.ft_trace.specs.Pictures.{root_in, Stands, index_field, entry_offset, entry_field, walk_of}
 use Rattle.ft_trace.specs.Carefuls.{Careful, Clear}
 use Rattle.ft_trace.specs.Kinds.{under, rows, version_at, ClearAs}
-use Rattle.ft_trace.specs.Openings.{Shut, Timely}
+use Rattle.ft_trace.specs.OddVersions.{Shut, Timely}
 use Rattle.ft_trace.specs.Holds.{held, known, AgreesWith}
 use Rattle.ft_trace.specs.Traces.{Possible}
 use Rattle.ft_trace.specs.Grants.{MayWrite}
-use Rattle.ft_trace.specs.Writes.{to_block, to_table, MayPut, MayPuts, Write, at_commit, at_end, after_write_of, MayCommit, MayWriteSo}
+use Rattle.ft_trace.specs.WholeWrites.{to_block, to_table, MayPut, MayPuts, WholeWrite, at_commit, at_end, after_write_of, MayCommitWrite, MayWriteSo}
 use Rattle.ft_trace.specs.EntryWrites.{entry_closed}
 use Rattle.ft_trace.specs.KeyWrites.{key_puts, count_puts, dict_add_write, KeysMayBeAdded}
 use Rattle.ft_trace.proofs.FitCalls.{dict_fits_words, set_fit}
@@ -53,7 +53,7 @@ and_false true = refl
 and_false false = refl
 
 module _ (versions : EntryVersionsChangeNothing) (first : FirstEntriesArePairs) (v : View) (o t slot : ℕ) (key : Key) (value : Value) (pairs : DictContent) (may : MayWrite v o) (is_dict : (known o v).content ≡ content.Dict pairs) (names : root_in (held o v) ≡ suc t)
-    (room : (known o v).table.fill < places (class_of t)) (in_index : slot < slots (class_of t)) (free : index_of (held o v).table slot ≡ 0) (missing : has_key pairs.pairs key ≡ false)
+    (room : (known o v).table.fill < places (class_of t)) (in_index : slot < slots (class_of t)) (free : index_field (held o v).table slot ≡ 0) (missing : has_key pairs.pairs key ≡ false)
     (now : IsDictWords v.shape.texts (at_commit v o (dict_add_write v o t slot key value pairs)).block (0 ∷ 0 ∷ (at_commit v o (dict_add_write v o t slot key value pairs)).table) (Some (class_of t)) ((known o v).table.fill + 1) (dict_set pairs key value)) where
   abbrev k : Shape
   k = v.shape
@@ -79,7 +79,7 @@ module _ (versions : EntryVersionsChangeNothing) (first : FirstEntriesArePairs) 
   abbrev called : Call
   called = call.Dict o (dict.Set key value)
 
-  abbrev write : Write
+  abbrev write : WholeWrite
   write = dict_add_write v o t slot key value pairs
 
   abbrev block : List ℕ
@@ -89,7 +89,7 @@ module _ (versions : EntryVersionsChangeNothing) (first : FirstEntriesArePairs) 
   put = (at_commit v o write).table
 
   abbrev ver : ℕ
-  ver = entry_of n ws p 0
+  ver = entry_field n ws p 0
 
   class_is : IsClass c
   class_is = (in_bank v o t may.low may.possible may.mine names).0
@@ -106,14 +106,14 @@ module _ (versions : EntryVersionsChangeNothing) (first : FirstEntriesArePairs) 
   says : IsDictWords k.texts (held o v).block (0 ∷ 0 ∷ ws) (Some c) p pairs
   says = dict_says v o t pairs may is_dict names
 
-  shut : Shut (λ q. entry_at n q 0) m ws
+  shut : Shut (λ q. entry_offset n q 0) m ws
   shut = dict_shut v o t pairs may is_dict names
 
   even : ver % 2 ≡ 0
   even = shut p room
 
   -- the entry was never used
-  none : entry_of n ws p 2 ≡ 0
+  none : entry_field n ws p 2 ≡ 0
   none =
       let fits : dict_room (class_mask c) ≡ m = room_is first k.texts (held o v).block c p class_is pairs ws says in
       let filled = says.filled in
@@ -134,14 +134,14 @@ module _ (versions : EntryVersionsChangeNothing) (first : FirstEntriesArePairs) 
       ∙ (get_or-set_other (slice_set b0 1 (length pairs.pairs + 1)) 2 0 (p + 1) 0 (λ e. absurd (omega (arith, e)))
       ∙ (get_or-set_other b0 1 0 (length pairs.pairs + 1) 0 (λ e. absurd (omega (arith, e))) ∙ names))
 
-  inside : (w : ℕ) → w < 8 → entry_at n p w < size c
+  inside : (w : ℕ) → w < 8 → entry_offset n p w < size c
   inside w few = omega (arith, few, room)
 
-  time : (i x : ℕ) → ((q : ℕ) → i ≡ entry_at n q 0 → x % 2 ≡ 1) → Timely (version_at kind.Dict c) (rows kind.Dict c) i x false
+  time : (i x : ℕ) → ((q : ℕ) → i ≡ entry_offset n q 0 → x % 2 ≡ 1) → Timely (version_at kind.Dict c) (rows kind.Dict c) i x false
   time i x odd = record { before = λ q less e one. refl; later = λ q less e two. absurd (let o = odd q e in omega (arith, two, o)) }
 
   -- one put into the table
-  table_put : (l : List ℕ) (i x : ℕ) → i < size c → Careful n m l (under (content.Dict pairs)) i x → ((q : ℕ) → i ≡ entry_at n q 0 → x % 2 ≡ 1) → MayPut kind.Dict t (content.Dict pairs) false (record { block = block; table = l }) (to_table i x)
+  table_put : (l : List ℕ) (i x : ℕ) → i < size c → Careful n m l (under (content.Dict pairs)) i x → ((q : ℕ) → i ≡ entry_offset n q 0 → x % 2 ≡ 1) → MayPut kind.Dict t (content.Dict pairs) false (record { block = block; table = l }) (to_table i x)
   table_put l i x small care odd = (names_now, small, care, time i x odd)
 
   at_least : n + 8 * m ≤ length ws
@@ -152,24 +152,24 @@ module _ (versions : EntryVersionsChangeNothing) (first : FirstEntriesArePairs) 
   At l = Stage n m ws p slot room in_index at_least even none free l
 
   abbrev l1 : List ℕ
-  l1 = slice_set ws (entry_at n p 0) (ver + 1)
+  l1 = slice_set ws (entry_offset n p 0) (ver + 1)
 
   abbrev l2 : List ℕ
-  l2 = slice_set l1 (entry_at n p 1) (hash_of k.texts key)
+  l2 = slice_set l1 (entry_offset n p 1) (hash_of k.texts key)
 
   abbrev l3 : List ℕ
-  l3 = slice_set l2 (entry_at n p 3) (key_payload key)
+  l3 = slice_set l2 (entry_offset n p 3) (key_payload key)
 
   abbrev l4 : List ℕ
-  l4 = slice_set l3 (entry_at n p 4) (stored_kind (Plain value))
+  l4 = slice_set l3 (entry_offset n p 4) (stored_kind (Plain value))
 
   abbrev l5 : List ℕ
-  l5 = slice_set l4 (entry_at n p 5) (stored_payload (Plain value))
+  l5 = slice_set l4 (entry_offset n p 5) (stored_payload (Plain value))
 
   abbrev l6 : List ℕ
-  l6 = slice_set l5 (entry_at n p 6) pairs.next
+  l6 = slice_set l5 (entry_offset n p 6) pairs.next
 
-  next_stage : (l : List ℕ) → At l → (w x : ℕ) → w < 8 → w ≢ 0 → w ≢ 2 → At (slice_set l (entry_at n p w) x)
+  next_stage : (l : List ℕ) → At l → (w x : ℕ) → w < 8 → w ≢ 0 → w ≢ 2 → At (slice_set l (entry_offset n p w) x)
   next_stage = stage_next n m ws p slot room in_index at_least even none free
 
   s1 : At l1
@@ -196,14 +196,14 @@ module _ (versions : EntryVersionsChangeNothing) (first : FirstEntriesArePairs) 
       let e = even in
       let of_key = new_key n m ws p slot room in_index at_least even none free before in
       let of_value = new_value n m ws p slot room in_index at_least even none free before in
-      let p1 = table_put ws (entry_at n p 0) (ver + 1) (inside 0 (omega arith)) (new_open n m ws p slot room in_index at_least even none free before) (λ q z. omega (arith, e)) in
-      let p2 = table_put l1 (entry_at n p 1) (hash_of k.texts key) (inside 1 (omega arith)) (of_key l1 s1 1 (hash_of k.texts key) (inl refl)) (λ q z. absurd (omega (arith, z))) in
-      let p3 = table_put l2 (entry_at n p 3) (key_payload key) (inside 3 (omega arith)) (of_key l2 s2 3 (key_payload key) (inr refl)) (λ q z. absurd (omega (arith, z))) in
-      let p4 = table_put l3 (entry_at n p 4) (stored_kind (Plain value)) (inside 4 (omega arith)) (of_value l3 s3 4 (stored_kind (Plain value)) (omega arith) (omega arith)) (λ q z. absurd (omega (arith, z))) in
-      let p5 = table_put l4 (entry_at n p 5) (stored_payload (Plain value)) (inside 5 (omega arith)) (of_value l4 s4 5 (stored_payload (Plain value)) (omega arith) (omega arith)) (λ q z. absurd (omega (arith, z))) in
-      let p6 = table_put l5 (entry_at n p 6) pairs.next (inside 6 (omega arith)) (of_value l5 s5 6 pairs.next (omega arith) (omega arith)) (λ q z. absurd (omega (arith, z))) in
-      let p7 = table_put l6 (entry_at n p 2) (key_kind key) (inside 2 (omega arith)) (new_kind n m ws p slot room in_index at_least even none free key l6 s6 before) (λ q z. absurd (omega (arith, z))) in
-      let p8 = table_put (slice_set l6 (entry_at n p 2) (key_kind key)) slot (p + 1) (omega (arith, in_index)) (new_index n m ws p slot room in_index at_least even none free key l6 s6 before) (λ q z. absurd (omega (arith, z, in_index))) in
+      let p1 = table_put ws (entry_offset n p 0) (ver + 1) (inside 0 (omega arith)) (new_open n m ws p slot room in_index at_least even none free before) (λ q z. omega (arith, e)) in
+      let p2 = table_put l1 (entry_offset n p 1) (hash_of k.texts key) (inside 1 (omega arith)) (of_key l1 s1 1 (hash_of k.texts key) (inl refl)) (λ q z. absurd (omega (arith, z))) in
+      let p3 = table_put l2 (entry_offset n p 3) (key_payload key) (inside 3 (omega arith)) (of_key l2 s2 3 (key_payload key) (inr refl)) (λ q z. absurd (omega (arith, z))) in
+      let p4 = table_put l3 (entry_offset n p 4) (stored_kind (Plain value)) (inside 4 (omega arith)) (of_value l3 s3 4 (stored_kind (Plain value)) (omega arith) (omega arith)) (λ q z. absurd (omega (arith, z))) in
+      let p5 = table_put l4 (entry_offset n p 5) (stored_payload (Plain value)) (inside 5 (omega arith)) (of_value l4 s4 5 (stored_payload (Plain value)) (omega arith) (omega arith)) (λ q z. absurd (omega (arith, z))) in
+      let p6 = table_put l5 (entry_offset n p 6) pairs.next (inside 6 (omega arith)) (of_value l5 s5 6 pairs.next (omega arith) (omega arith)) (λ q z. absurd (omega (arith, z))) in
+      let p7 = table_put l6 (entry_offset n p 2) (key_kind key) (inside 2 (omega arith)) (new_kind n m ws p slot room in_index at_least even none free key l6 s6 before) (λ q z. absurd (omega (arith, z))) in
+      let p8 = table_put (slice_set l6 (entry_offset n p 2) (key_kind key)) slot (p + 1) (omega (arith, in_index)) (new_index n m ws p slot room in_index at_least even none free key l6 s6 before) (λ q z. absurd (omega (arith, z, in_index))) in
       (p1, (p2, (p3, (p4, (p5, (p6, (p7, (p8, tt))))))))
 
   early : MayPuts kind.Dict t (content.Dict pairs) false (held o v) (count_puts (length pairs.pairs + 1) (p + 1) (pairs.next + 1) ++ key_puts n ws p slot (hash_of k.texts key) key value pairs.next)
@@ -234,7 +234,7 @@ module _ (versions : EntryVersionsChangeNothing) (first : FirstEntriesArePairs) 
       let r = (slots_range c class_is).0 in
       let tried : ℕ → List ℕ = λ h. dict_walk h (class_mask c) (class_mask c + 14) in
       let within : (h : ℕ) → All (λ s. s ≤ class_mask c) (tried h) = λ h. dict_walk-within h (class_mask c) (class_mask c + 14) in
-      let table : IsDictTable k.texts (class_mask c) now.used (0 ∷ 0 ∷ (at_end v o write).table) = subst (λ (z : List ℕ). IsDictTable k.texts (class_mask c) now.used z) (after_header put (layout.entry_at (class_mask c) p 0) (entry_at n p 0) (ver + 2) (omega (arith, r))) (versions tried (dict_room (class_mask c)) k.texts (class_mask c) now.used (0 ∷ 0 ∷ put) p (ver + 2) within now.table) in
+      let table : IsDictTable k.texts (class_mask c) now.used (0 ∷ 0 ∷ (at_end v o write).table) = subst (λ (z : List ℕ). IsDictTable k.texts (class_mask c) now.used z) (after_header put (layout.entry_at (class_mask c) p 0) (entry_offset n p 0) (ver + 2) (omega (arith, r))) (versions tried (dict_room (class_mask c)) k.texts (class_mask c) now.used (0 ∷ 0 ∷ put) p (ver + 2) within now.table) in
       record { head = now.head; used = now.used; table = table; filled = now.filled; entries = now.entries }
 
   -- ---- in each history that agrees with what the pass knows
@@ -283,7 +283,7 @@ module _ (versions : EntryVersionsChangeNothing) (first : FirstEntriesArePairs) 
     after : container_after k.kinds (called ∷ calls) o ≡ record { content = content.Dict news; table = record { class = (known o v).table.class; fill = p + 1 } }
     after = let c1 = dict_left_at v o pairs may.low may.mine is_dict calls agree key value (content.List []) in let t1 = table_after in λ d. record { content = c1 d; table = t1 d }
 
-    commits : MayCommit v o t write calls
+    commits : MayCommitWrite v o t write calls
     commits =
         let content_after = dict_left_at v o pairs may.low may.mine is_dict calls agree key value (content.List []) in
         let clear_as : ClearAs (kind_in k.kinds o) k.texts c put (known o v).content (container_after k.kinds (called ∷ calls) o).content = subst (λ (z : Kind × Content × Content). ClearAs z.0 k.texts c put z.1 z.2) (λ d. (kind_eq d, sym is_dict d, sym content_after d)) clear in

@@ -6,7 +6,7 @@ use Rattle.ft_model.specs.declared.content.Content.TheVariants as content
 use Rattle.ft_model.specs.declared.script.Kind.{Kind}
 use Rattle.ft_model.specs.declared.script.Kind.TheVariants as kind
 use Rattle.ft_model.specs.Worlds.{kind_of, empty_content, no_hands, IsOfKind}
-use Rattle.ft_model.specs.Tables.{no_table, stored_newest}
+use Rattle.ft_model.specs.TableUses.{no_table, stored_newest}
 use Rattle.std.proofs.lemmas.List.{length-map}
 use Rattle.ft_model.specs.declared.call.Call.{Call}
 use Rattle.ft_model.proofs.Untouched.{as_many_tables}
@@ -17,15 +17,15 @@ use Rattle.ft_trace.specs.declared.Shape.{Shape}
 use Rattle.ft_trace.specs.declared.View.{View}
 use Rattle.ft_trace.specs.declared.Act.{Act}
 use Rattle.ft_trace.specs.declared.Act.TheVariants.{Commit}
-use Rattle.ft_trace.specs.Addresses.{containers_in, class_of, size, IsTable}
+use Rattle.ft_trace.specs.Addresses.{containers_in, class_of, size, IsTableName}
 use Rattle.ft_trace.specs.Acts.{has_lock, mem}
-use Rattle.ft_trace.specs.Worlds.{ContainerState, container_after, kind_in}
-use Rattle.ft_trace.specs.Words.{root_of, inner, Picture, root_in, Stands}
+use Rattle.ft_trace.specs.ContainerStates.{ContainerState, container_after, kind_in}
+use Rattle.ft_trace.specs.Pictures.{root_of, inner, Picture, root_in, Stands}
 use Rattle.ft_trace.specs.Holds.{held, known}
 use Rattle.ft_trace.specs.Traces.{Event, did, forked, joined, sent, run, writes_of, history, May, Valid, Possible}
 use Rattle.ft_trace.proofs.Held.{content_known, root_known}
 use Rattle.ft_trace.proofs.Pieces.{block_at, table_long}
-use Rattle.ft_trace.proofs.Places.{root_table}
+use Rattle.ft_trace.proofs.TablePlaces.{root_table}
 
 pub mapped : {A B : Type 0} (f : A → B) (l : List A) (i : ℕ) (d : A) → slice_index_or (map f l) i (f d) ≡ f (slice_index_or l i d)
 mapped f [] i d = refl
@@ -82,7 +82,7 @@ past_header words i j e = let is : i ≡ suc (suc j) = omega (arith, e) in ap (�
 
 -- the table that the root of a container names whose lock the pass has
 module _ (v : View) (o t : ℕ) where
-  pub in_bank : o < containers_in v.shape → Possible v → has_lock o v.log ≡ true → root_in (held o v) ≡ suc t → IsTable v.shape t
+  pub in_bank : o < containers_in v.shape → Possible v → has_lock o v.log ≡ true → root_in (held o v) ≡ suc t → IsTableName v.shape t
   in_bank low p mine names = root_table v.shape p.0 p.2.0 o low t (sym (root_known v o low mine p.0 p.1 p.2) ∙ names)
 
   pub table_is_long : root_in (held o v) ≡ suc t → length (held o v).table ≡ size (class_of t)

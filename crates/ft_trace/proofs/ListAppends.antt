@@ -16,25 +16,25 @@ use Rattle.ft_model.specs.declared.script.Kind.TheVariants as kind
 use Rattle.ft_model.specs.Answers.{Answer, answer, answer_list, puts, after_write}
 use Rattle.ft_model.specs.Classes.{IsClass, list_items, list_class, most_items}
 use Rattle.ft_model.specs.Worlds.{list_of, list_at, no_hands}
-use Rattle.ft_model.specs.Tables.{TableUse, StoredWorld, no_table, stored_newest, takes_in, table_at, outgrows_list, grown_table, passes_cap, would_pass, after_stored}
+use Rattle.ft_model.specs.TableUses.{TableUse, StoredWorld, no_table, stored_newest, takes_in, table_at, outgrows_list, grown_table, passes_cap, would_pass, after_stored}
 use Rattle.ft_layout.specs.declared.slot.Stored.TheVariants.{Plain}
 use Rattle.ft_layout.specs.Words.{FitsStored}
-use Rattle.ft_layout.specs.Changes.{ChangesItem, SaysStored}
+use Rattle.ft_layout.specs.WordChanges.{ChangesItem, SaysStored}
 use Rattle.ft_layout.specs.Containers.{class_mask, IsBlock, IsListWords}
 use Rattle.ft_layout.proofs.Powers.{slots_range}
 use Rattle.ft_trace.specs.declared.Shape.{Shape}
 use Rattle.ft_trace.specs.declared.Snap.{Snap}
 use Rattle.ft_trace.specs.declared.View.{View}
 use Rattle.ft_trace.specs.Addresses.{class_of, slots, size}
-use Rattle.ft_trace.specs.Worlds.{container_after, kind_in}
-use Rattle.ft_trace.specs.Words.{root_in, Stands, item_at, item_of}
-use Rattle.ft_trace.specs.Items.{value_words, words_at}
+use Rattle.ft_trace.specs.ContainerStates.{container_after, kind_in}
+use Rattle.ft_trace.specs.Pictures.{root_in, Stands, item_offset, item_field}
+use Rattle.ft_trace.specs.ItemWords.{value_words, words_at}
 use Rattle.ft_trace.specs.Kinds.{rows, version_at, ClearAs}
-use Rattle.ft_trace.specs.Openings.{Shut}
+use Rattle.ft_trace.specs.OddVersions.{Shut}
 use Rattle.ft_trace.specs.Holds.{held, known, AgreesWith}
 use Rattle.ft_trace.specs.Traces.{Possible}
 use Rattle.ft_trace.specs.Grants.{MayWrite}
-use Rattle.ft_trace.specs.Writes.{to_block, MayPut, MayPuts, Write, at_commit, at_end, after_write_of, MayCommit, MayWriteSo}
+use Rattle.ft_trace.specs.WholeWrites.{to_block, MayPut, MayPuts, WholeWrite, at_commit, at_end, after_write_of, MayCommitWrite, MayWriteSo}
 use Rattle.ft_trace.specs.ItemWrites.{item_puts, item_closed, list_append_write, ItemsMayBeAppended}
 use Rattle.ft_trace.proofs.Held.{held_stands}
 use Rattle.ft_trace.proofs.Known.{class_known, declared_at, in_bank, table_is_long, tables_as_many}
@@ -85,7 +85,7 @@ module _ (versions : VersionsChangeNothing) (one : PutsChangeOneItem) (follow : 
   abbrev called : Call
   called = call.List o (list.Append value)
 
-  abbrev write : Write
+  abbrev write : WholeWrite
   write = list_append_write v o count value
 
   abbrev c : ℕ
@@ -146,10 +146,10 @@ module _ (versions : VersionsChangeNothing) (one : PutsChangeOneItem) (follow : 
 
   ends : IsListWords b (0 ∷ 0 ∷ (at_end v o write).table) (Some c) news
   ends =
-      let ver = item_of ws count 0 in
+      let ver = item_field ws count 0 in
       let said = item_said versions one c class_is ws count (ver + 1) room values value fits says.0.table in
-      let opened : IsListWords old (0 ∷ 0 ∷ slice_set ws (item_at count 0) (ver + 1)) (Some c) values = record { head = says.0.head; table = open_table versions one c class_is ws count (ver + 1) room values value fits says.0.table } in
-      item_closed_stands versions one c class_is ws count (ver + 1) room values value fits says.0.table b (ver + 2) news (follow old (0 ∷ 0 ∷ slice_set ws (item_at count 0) (ver + 1)) b (0 ∷ 0 ∷ (at_commit v o write).table) c values value opened mask_room head said.0 said.1)
+      let opened : IsListWords old (0 ∷ 0 ∷ slice_set ws (item_offset count 0) (ver + 1)) (Some c) values = record { head = says.0.head; table = open_table versions one c class_is ws count (ver + 1) room values value fits says.0.table } in
+      item_closed_stands versions one c class_is ws count (ver + 1) room values value fits says.0.table b (ver + 2) news (follow old (0 ∷ 0 ∷ slice_set ws (item_offset count 0) (ver + 1)) b (0 ∷ 0 ∷ (at_commit v o write).table) c values value opened mask_room head said.0 said.1)
 
   few : length news ≤ most_items
   unfolding slots
@@ -207,7 +207,7 @@ module _ (versions : VersionsChangeNothing) (one : PutsChangeOneItem) (follow : 
     clear : ClearAs (kind_in n.kinds o) n.texts c (at_commit v o write).table (known o v).content (container_after n.kinds (called ∷ calls) o).content
     clear = subst (λ (z : Kind × Content × Content). ClearAs z.0 n.texts c (at_commit v o write).table z.1 z.2) (λ d. (kind_eq d, sym is_list d, sym content_after d)) (item_clear t class_is b ws values news count value names_now long room shut same here short)
 
-    commits : MayCommit v o t write calls
+    commits : MayCommitWrite v o t write calls
     commits =
         let ends_as : Stands n.texts (at_end v o write) (record { content = content.List news; table = (known o v).table }) = subst (λ (z : Option ℕ). IsListWords b (0 ∷ 0 ∷ (at_end v o write).table) z news × ((known o v).table.fill ≡ 0)) (sym class_eq) (ends, says.1) in
         record {

@@ -16,21 +16,21 @@ use Rattle.ft_model.specs.declared.script.Kind.TheVariants as kind
 use Rattle.ft_model.specs.Answers.{Answer, answer, answer_list, puts, after_write}
 use Rattle.ft_model.specs.Classes.{IsClass, most_items}
 use Rattle.ft_model.specs.Worlds.{kind_of, list_of, list_at, no_hands}
-use Rattle.ft_model.specs.Tables.{list_takes, TableUse, StoredWorld, no_table, stored_newest, takes_in, table_at, grown_table, passes_cap, after_stored}
+use Rattle.ft_model.specs.TableUses.{list_takes, TableUse, StoredWorld, no_table, stored_newest, takes_in, table_at, grown_table, passes_cap, after_stored}
 use Rattle.ft_layout.specs.Containers.{class_mask, IsListWords}
 use Rattle.ft_layout.proofs.Powers.{slots_range}
 use Rattle.ft_trace.specs.declared.Shape.{Shape}
 use Rattle.ft_trace.specs.declared.Snap.{Snap}
 use Rattle.ft_trace.specs.declared.View.{View}
 use Rattle.ft_trace.specs.Addresses.{class_of, slots, size}
-use Rattle.ft_trace.specs.Worlds.{ContainerState, container_after, kind_in}
-use Rattle.ft_trace.specs.Words.{Stands, item_at, item_of}
-use Rattle.ft_trace.specs.Items.{ItemSound, ItemClear, value_words, words_at, said_at}
+use Rattle.ft_trace.specs.ContainerStates.{ContainerState, container_after, kind_in}
+use Rattle.ft_trace.specs.Pictures.{Stands, item_offset, item_field}
+use Rattle.ft_trace.specs.ItemWords.{ItemSound, ItemClear, value_words, words_at, said_at}
 use Rattle.ft_trace.specs.Kinds.{rows, version_at, ClearAs, SoundAs}
-use Rattle.ft_trace.specs.Openings.{Shut}
+use Rattle.ft_trace.specs.OddVersions.{Shut}
 use Rattle.ft_trace.specs.Holds.{in_hand, held, known, AgreesWith}
 use Rattle.ft_trace.specs.Traces.{Possible}
-use Rattle.ft_trace.specs.Writes.{to_table, with_root, MayBegin, MayReplace, to_block, MayPuts, Write, at_commit, at_end, after_write_of, MayCommit, MayWriteSo}
+use Rattle.ft_trace.specs.WholeWrites.{to_table, with_root_put, MayBegin, MayReplace, to_block, MayPuts, WholeWrite, at_commit, at_end, after_write_of, MayCommitWrite, MayWriteSo}
 use Rattle.ft_trace.specs.ListGrowWrites.{list_grow_write, HasListGrown, ListsMayGrow}
 use Rattle.ft_trace.proofs.ByKind.{items_fit}
 use Rattle.ft_trace.proofs.Pieces.{table_long}
@@ -68,7 +68,7 @@ module _ (versions : VersionsChangeNothing) (v : View) (o t : ℕ) (value : Valu
   abbrev called : Call
   called = call.List o (list.Append value)
 
-  abbrev write : Write
+  abbrev write : WholeWrite
   write = list_grow_write v o t value values
 
   abbrev block : List ℕ
@@ -90,7 +90,7 @@ module _ (versions : VersionsChangeNothing) (v : View) (o t : ℕ) (value : Valu
   room : p < n
   room = let a = fits_in in let b = longer in omega (arith, a, b)
 
-  inside : item_at p 0 < length zs
+  inside : item_offset p 0 < length zs
   inside = let f = items_fit c class_is in let r = room in let l = long in omega (arith, f, r, l)
 
   kind_eq : kind.List ≡ kind_in k.kinds o
@@ -103,8 +103,8 @@ module _ (versions : VersionsChangeNothing) (v : View) (o t : ℕ) (value : Valu
   says : (q : ℕ) → q < n → words_at news q ≡ said_at zs q
   says q less = items_says c class_is news zs has.words.table q less
 
-  even_is_old : (q : ℕ) → q < n → item_of zs q 0 % 2 ≡ 0 → q ≢ p
-  even_is_old q less two e = let one = ap (λ (z : ℕ). item_of zs z 0) e ∙ has.open_item in absurd (omega (arith, one, two))
+  even_is_old : (q : ℕ) → q < n → item_field zs q 0 % 2 ≡ 0 → q ≢ p
+  even_is_old q less two e = let one = ap (λ (z : ℕ). item_field zs z 0) e ∙ has.open_item in absurd (omega (arith, one, two))
 
   sound : ItemSound n zs values
   sound = record {
@@ -115,8 +115,8 @@ module _ (versions : VersionsChangeNothing) (v : View) (o t : ℕ) (value : Valu
   clear : ItemClear n zs values news
   clear = record { keeps = λ q less two. same q (even_is_old q less two); short = fits_in }
 
-  young : (q : ℕ) → q < n → item_of zs q 0 ≤ 1
-  young q less = dite (ℕ_discrete q p) (λ (e : q ≡ p). let one = ap (λ (z : ℕ). item_of zs z 0) e ∙ has.open_item in omega (arith, one)) (λ ne. let z = has.others q less ne in omega (arith, z))
+  young : (q : ℕ) → q < n → item_field zs q 0 ≤ 1
+  young q less = dite (ℕ_discrete q p) (λ (e : q ≡ p). let one = ap (λ (z : ℕ). item_field zs z 0) e ∙ has.open_item in omega (arith, one)) (λ ne. let z = has.others q less ne in omega (arith, z))
 
   names_now : slice_index block 0 ≡ suc t
   names_now =
@@ -126,10 +126,10 @@ module _ (versions : VersionsChangeNothing) (v : View) (o t : ℕ) (value : Valu
       let d = length-set (held o v).block 0 (suc t) in
       get_or-set_other b0 1 0 (p + 1) 0 (λ e. absurd (omega (arith, e))) ∙ get_or-set_same (held o v).block 0 (suc t) 0 (omega (arith, s, a, d))
 
-  early : (any : Kind) (d : Content) → MayPuts any t d false (with_root v o (Some (suc t))) (to_block 1 (p + 1) ∷ [])
+  early : (any : Kind) (d : Content) → MayPuts any t d false (with_root_put v o (Some (suc t))) (to_block 1 (p + 1) ∷ [])
   early any d = ((omega arith, omega arith), tt)
 
-  late : MayPuts kind.List t (content.List news) true (at_commit v o write) (to_table (item_at p 0) 2 ∷ [])
+  late : MayPuts kind.List t (content.List news) true (at_commit v o write) (to_table (item_offset p 0) 2 ∷ [])
   late =
       let one = has.open_item in
       let l = long in
@@ -139,14 +139,14 @@ module _ (versions : VersionsChangeNothing) (v : View) (o t : ℕ) (value : Valu
   ends : IsListWords block (0 ∷ 0 ∷ (at_end v o write).table) (Some c) news
   ends = record {
     head = has.words.head;
-    table = subst (λ (z : List ℕ). IsListTable (class_mask c) news z) (after_header zs (layout.item_at p 0) (item_at p 0) 2 (omega arith)) (versions (class_mask c) news (0 ∷ 0 ∷ zs) p 2 has.words.table);
+    table = subst (λ (z : List ℕ). IsListTable (class_mask c) news z) (after_header zs (layout.item_at p 0) (item_offset p 0) 2 (omega arith)) (versions (class_mask c) news (0 ∷ 0 ∷ zs) p 2 has.words.table);
   }
 
-  shut : Shut (λ q. item_at q 0) n (at_end v o write).table
+  shut : Shut (λ q. item_offset q 0) n (at_end v o write).table
   shut q less =
       dite (ℕ_discrete q p)
-      (λ (e : q ≡ p). let x : item_of (at_end v o write).table q 0 ≡ 2 = ap (λ (z : ℕ). item_of (at_end v o write).table z 0) e ∙ get_or-set_same zs (item_at p 0) 2 0 inside in omega (arith, x))
-      (λ ne. let x : item_of (at_end v o write).table q 0 ≡ 0 = get_or-set_other zs (item_at p 0) (item_at q 0) 2 0 (λ e. ne (omega (arith, e))) ∙ has.others q less ne in omega (arith, x))
+      (λ (e : q ≡ p). let x : item_field (at_end v o write).table q 0 ≡ 2 = ap (λ (z : ℕ). item_field (at_end v o write).table z 0) e ∙ get_or-set_same zs (item_offset p 0) 2 0 inside in omega (arith, x))
+      (λ ne. let x : item_field (at_end v o write).table q 0 ≡ 0 = get_or-set_other zs (item_offset p 0) (item_offset q 0) 2 0 (λ e. ne (omega (arith, e))) ∙ has.others q less ne in omega (arith, x))
 
   few : length news ≤ most_items
   unfolding slots
@@ -194,7 +194,7 @@ module _ (versions : VersionsChangeNothing) (v : View) (o t : ℕ) (value : Valu
     after : container_after k.kinds (called ∷ calls) o ≡ record { content = content.List news; table = record { class = Some c; fill = 0 } }
     after = let c1 = content_after in let t1 = table_after in λ d. record { content = c1 d; table = t1 d }
 
-    commits : MayCommit v o t write calls
+    commits : MayCommitWrite v o t write calls
     commits =
         let after_is = content_after in
         let clear_as : ClearAs (kind_in k.kinds o) k.texts c zs (known o v).content (container_after k.kinds (called ∷ calls) o).content = subst (λ (z : Kind × Content × Content). ClearAs z.0 k.texts c zs z.1 z.2) (λ d. (kind_eq d, sym is_list d, sym after_is d)) clear in
@@ -205,7 +205,7 @@ module _ (versions : VersionsChangeNothing) (v : View) (o t : ℕ) (value : Valu
           declared = record { one = declared_at found.world o (content.List values) inside_world there; both = tt; room = tt };
           takes = λ class e. let owed = has.owed in let same_class : c ≡ class = omega (arith, e, owed) in takes_one ∙ ap (λ (z : ℕ). Some z) same_class;
           clear = λ q root. let same_table : t ≡ q = let r : suc t ≡ suc q = sym names_now ∙ root in omega (arith, r) in subst (λ (z : ℕ). ClearAs (kind_in k.kinds o) k.texts (class_of z) zs (known o v).content (container_after k.kinds (called ∷ calls) o).content) same_table clear_as;
-          late = subst (λ (z : Kind × Content). MayPuts z.0 t z.1 true (at_commit v o write) (to_table (item_at p 0) 2 ∷ [])) (λ d. (kind_eq d, sym after_is d)) late;
+          late = subst (λ (z : Kind × Content). MayPuts z.0 t z.1 true (at_commit v o write) (to_table (item_offset p 0) 2 ∷ [])) (λ d. (kind_eq d, sym after_is d)) late;
           stands = subst (Stands k.texts (at_end v o write)) (sym after) ends_as;
         }
 

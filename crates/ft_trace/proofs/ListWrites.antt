@@ -16,25 +16,25 @@ use Rattle.ft_model.specs.Answers.{Answer, answer, answer_list, puts, shows}
 use Rattle.ft_model.specs.Classes.{IsClass}
 use Rattle.ft_model.specs.Lists.{index_in}
 use Rattle.ft_model.specs.Worlds.{kind_of, list_of, list_at, no_hands}
-use Rattle.ft_model.specs.Tables.{stored_newest}
+use Rattle.ft_model.specs.TableUses.{stored_newest}
 use Rattle.ft_layout.specs.declared.slot.Stored.TheVariants.{Plain}
 use Rattle.ft_layout.specs.Words.{FitsStored}
-use Rattle.ft_layout.specs.Changes.{ChangesItem, SaysStored}
+use Rattle.ft_layout.specs.WordChanges.{ChangesItem, SaysStored}
 use Rattle.ft_layout.specs.Containers.{IsListWords, StandsAs}
 use Rattle.ft_layout.proofs.Powers.{slots_range}
 use Rattle.ft_trace.specs.declared.Shape.{Shape}
 use Rattle.ft_trace.specs.declared.Snap.{Snap}
 use Rattle.ft_trace.specs.declared.View.{View}
 use Rattle.ft_trace.specs.Addresses.{class_of, slots, size}
-use Rattle.ft_trace.specs.Worlds.{ContainerState, container_after, kind_in}
-use Rattle.ft_trace.specs.Words.{root_in, Stands, item_at, item_of}
-use Rattle.ft_trace.specs.Items.{value_words, words_at}
+use Rattle.ft_trace.specs.ContainerStates.{ContainerState, container_after, kind_in}
+use Rattle.ft_trace.specs.Pictures.{root_in, Stands, item_offset, item_field}
+use Rattle.ft_trace.specs.ItemWords.{value_words, words_at}
 use Rattle.ft_trace.specs.Kinds.{rows, version_at, ClearAs}
-use Rattle.ft_trace.specs.Openings.{Shut}
+use Rattle.ft_trace.specs.OddVersions.{Shut}
 use Rattle.ft_trace.specs.Holds.{held, known, AgreesWith}
 use Rattle.ft_trace.specs.Traces.{Possible}
 use Rattle.ft_trace.specs.Grants.{MayWrite}
-use Rattle.ft_trace.specs.Writes.{MayPuts, Write, at_commit, at_end, after_write_of, MayBegin, MayCommit, MayWriteSo}
+use Rattle.ft_trace.specs.WholeWrites.{MayPuts, WholeWrite, at_commit, at_end, after_write_of, MayBegin, MayCommitWrite, MayWriteSo}
 use Rattle.ft_trace.specs.ItemWrites.{item_puts, item_closed, list_set_write, ItemsMayBePut}
 use Rattle.ft_trace.proofs.Held.{held_stands}
 use Rattle.ft_trace.proofs.Clearing.{held_shut}
@@ -119,7 +119,7 @@ module _ (versions : VersionsChangeNothing) (one : PutsChangeOneItem) (follow : 
   abbrev called : Call
   called = call.List o (list.Set index value)
 
-  abbrev write : Write
+  abbrev write : WholeWrite
   write = list_set_write v o place index value
 
   abbrev c : ℕ
@@ -154,10 +154,10 @@ module _ (versions : VersionsChangeNothing) (one : PutsChangeOneItem) (follow : 
 
   ends : IsListWords b (0 ∷ 0 ∷ (at_end v o write).table) (Some c) news
   ends =
-      let ver = item_of ws place 0 in
+      let ver = item_field ws place 0 in
       let said = item_said versions one c class_is ws place (ver + 1) in_table values value fits says.0.table in
-      let opened : IsListWords b (0 ∷ 0 ∷ slice_set ws (item_at place 0) (ver + 1)) (Some c) values = record { head = says.0.head; table = open_table versions one c class_is ws place (ver + 1) in_table values value fits says.0.table } in
-      item_closed_stands versions one c class_is ws place (ver + 1) in_table values value fits says.0.table b (ver + 2) news (follow b (0 ∷ 0 ∷ slice_set ws (item_at place 0) (ver + 1)) (0 ∷ 0 ∷ (at_commit v o write).table) c values place value opened low said.0 said.1)
+      let opened : IsListWords b (0 ∷ 0 ∷ slice_set ws (item_offset place 0) (ver + 1)) (Some c) values = record { head = says.0.head; table = open_table versions one c class_is ws place (ver + 1) in_table values value fits says.0.table } in
+      item_closed_stands versions one c class_is ws place (ver + 1) in_table values value fits says.0.table b (ver + 2) news (follow b (0 ∷ 0 ∷ slice_set ws (item_offset place 0) (ver + 1)) (0 ∷ 0 ∷ (at_commit v o write).table) c values place value opened low said.0 said.1)
 
   -- in each history that agrees with what it knows
   module _ (calls : List Call) (agree : AgreesWith v (stored_newest n.kinds calls)) where
@@ -181,7 +181,7 @@ module _ (versions : VersionsChangeNothing) (one : PutsChangeOneItem) (follow : 
     clear : ClearAs (kind_in n.kinds o) n.texts c (at_commit v o write).table (known o v).content (container_after n.kinds (called ∷ calls) o).content
     clear = subst (λ (z : Kind × Content × Content). ClearAs z.0 n.texts c (at_commit v o write).table z.1 z.2) (λ d. (kind_eq d, sym is_list d, sym content_after d)) (item_clear t class_is b ws values news place value names long in_table shut same here short)
 
-    commits : MayCommit v o t write calls
+    commits : MayCommitWrite v o t write calls
     commits = record {
       replied = inr (sym (ap (λ (z : Answer). z.reply) answered));
       within = refl;

@@ -16,7 +16,7 @@ use Rattle.ft_trace.proofs.Sizes.{set_at, set_views, one_more, one_view}
 use Rattle.atomic_table.proofs.Lists.{set_else, at_longer}
 use Rattle.ft_trace.proofs.Cases.{hit, miss, here, off, same_or}
 use Rattle.ft_trace.proofs.Addresses.{lock_first}
-use Rattle.ft_trace.proofs.Words.{stays, moves}
+use Rattle.ft_trace.proofs.OneWord.{stays, moves}
 use Rattle.ft_trace.proofs.Seats.{same_seat, holder_lives}
 
 -- what the action is to the lock of o

@@ -25,7 +25,7 @@ use Rattle.ft_model.specs.Contents.{DictContent, SetContent, empty_dict, empty_s
 use Rattle.ft_model.specs.Lists.{index_in}
 use Rattle.ft_model.specs.Worlds.{kind_of, no_hands, dict_of, set_of, list_of, dict_at, set_at, list_at, length_of}
 use Rattle.ft_model.specs.Answers.{shows}
-use Rattle.ft_model.specs.Tables.{StoredWorld, stored_newest}
+use Rattle.ft_model.specs.TableUses.{StoredWorld, stored_newest}
 use Rattle.ft_layout.specs.declared.slot.Stored.TheVariants.{Empty, Plain}
 use Rattle.ft_layout.specs.Words.{FitsKey, IsStored}
 use Rattle.ft_trace.specs.declared.Act.{Act}
@@ -34,9 +34,9 @@ use Rattle.ft_trace.specs.declared.Shape.{Shape}
 use Rattle.ft_trace.specs.declared.View.{View}
 use Rattle.ft_trace.specs.Addresses.{containers_in, class_of}
 use Rattle.ft_trace.specs.FitCalls.{FitsValue, FitsContent}
-use Rattle.ft_trace.specs.Items.{value_words, words_at}
+use Rattle.ft_trace.specs.ItemWords.{value_words, words_at}
 use Rattle.ft_trace.specs.Kinds.{is_key, pair_words, element_words, under, rows, IsKeyed, IsItems}
-use Rattle.ft_trace.specs.Worlds.{container_after, state_at, kind_in, first_writes, reply_in}
+use Rattle.ft_trace.specs.ContainerStates.{container_after, state_at, kind_in, first_writes, reply_in}
 use Rattle.ft_trace.specs.Traces.{Event, did, forked, joined, sent, history, writes_of, Valid}
 use Rattle.ft_trace.specs.LookReplies.{key_reply, item_reply, DictReplies, stored_at, DictHitsAreReplied, SetHitsAreReplied, MissesAreReplied, ItemsAreReplied, PastItemsAreReplied}
 use Rattle.ft_trace.proofs.FitCalls.{contents_fit}

@@ -12,7 +12,7 @@ use Rattle.ft_trace.specs.declared.Act.{Act}
 use Rattle.ft_trace.specs.declared.Act.TheVariants.{PutRoot, PutTable, Commit, StartWrite, StopWrite}
 use Rattle.ft_trace.specs.Addresses.{counter, cell, class_of}
 use Rattle.ft_trace.specs.Acts.{is_writing, is_writing_next, has_committed, has_committed_next, noted, maker, made, both, spent, sender, note}
-use Rattle.ft_trace.specs.Worlds.{kind_in}
+use Rattle.ft_trace.specs.ContainerStates.{kind_in}
 use Rattle.ft_trace.specs.Kinds.{rows, version_at}
 use Rattle.ft_trace.specs.Addresses.{containers_in}
 use Rattle.ft_trace.proofs.ByKind.{as_version, row_low}
@@ -20,15 +20,15 @@ use Rattle.ft_trace.specs.Traces.{Event, did, forked, joined, sent, run, writes_
 use Rattle.ft_trace.proofs.Sizes.{set_views, one_more}
 use Rattle.ft_trace.proofs.Cases.{hit, miss, off, same_or}
 use Rattle.ft_trace.proofs.Addresses.{block_first}
-use Rattle.ft_trace.proofs.Words.{stays, moves}
+use Rattle.ft_trace.proofs.OneWord.{stays, moves}
 use Rattle.ft_trace.proofs.Pieces.{table_same, table_long}
 use Rattle.ft_trace.proofs.Locks.{one_holder}
-use Rattle.ft_trace.proofs.Versions.{writer_has}
-use Rattle.ft_trace.proofs.Places.{root, on_root, root_table, placed}
+use Rattle.ft_trace.proofs.OddVersions.{writer_has}
+use Rattle.ft_trace.proofs.TablePlaces.{root, on_root, root_table, placed}
 use Rattle.ft_trace.proofs.Contents.{count, counted, tab}
 use Rattle.ft_trace.proofs.Stamps.{grows_by}
 use Rattle.ft_trace.proofs.Sounds.{content, on_cells, put_tab}
-use Rattle.ft_trace.proofs.Rooms.{counter_room}
+use Rattle.ft_trace.proofs.NoWrap.{counter_room}
 
 abbrev V : Shape → ℕ → ℕ → ℕ → ℕ
 V k o t p = version_at (kind_in k.kinds o) (class_of t) p

@@ -10,8 +10,8 @@ use Rattle.ft_trace.specs.declared.Act.{Act}
 use Rattle.ft_trace.specs.declared.Act.TheVariants.{ReadFree, TakeTable, GiveTable}
 use Rattle.ft_trace.specs.Bits.{bit, full}
 use Rattle.ft_model.specs.Classes.{IsClass}
-use Rattle.ft_layout.specs.Starts.{count_of}
-use Rattle.ft_trace.specs.Addresses.{Word, tables_in, count_of_class, bits, class_of, number_of, free_word_of, free_bit_of, least, IsTable}
+use Rattle.ft_layout.specs.Starts.{tables_of_class}
+use Rattle.ft_trace.specs.Addresses.{Word, tables_in, count_of_class, bits, class_of, number_of, free_word_of, free_bit_of, least, IsTableName}
 use Rattle.ft_trace.proofs.Announcing.{fits}
 use Rattle.ft_trace.specs.Acts.{place, word_after}
 use Rattle.ft_trace.specs.Entries.{total}
@@ -19,7 +19,7 @@ use Rattle.ft_trace.specs.Counts.{sum_to, bit_of, set_bits, ones, word_bits, tak
 use Rattle.ft_trace.specs.Traces.{Event, did, forked, joined, sent, run, word, history, May, Valid}
 use Rattle.ft_trace.proofs.Addresses.{bt_low, num_is, class_of_number, number_of_number, bits_first}
 use Rattle.ft_trace.proofs.Bits.{off_else, on_else}
-use Rattle.ft_trace.proofs.Words.{stays, moves, loaded}
+use Rattle.ft_trace.proofs.OneWord.{stays, moves, loaded}
 use Rattle.ft_trace.proofs.Counts.{sum_same, counts_stand}
 
 full_off : (n b : ℕ) → n ≤ b → bit b (full n) ≡ 0
@@ -46,7 +46,7 @@ none_is : (k : Shape) (t : ℕ) → IsNone k t → (number_of t ≡ 64 * (free_w
 unfolding free_word_of free_bit_of
 none_is k t is = let l = is.class.least in let n = is.number in (omega (arith, l, n), omega (arith, l, n))
 
-none_apart : (k : Shape) (q t : ℕ) → IsTable k q → IsNone k t → free_word_of q ≡ free_word_of t → free_bit_of q ≡ free_bit_of t → ⊥
+none_apart : (k : Shape) (q t : ℕ) → IsTableName k q → IsNone k t → free_word_of q ≡ free_word_of t → free_bit_of q ≡ free_bit_of t → ⊥
 none_apart k q t is it same bit_same =
     let a = num_is k q is in
     let b = none_is k t it in
@@ -63,7 +63,7 @@ module _ (k : Shape) (es : List Event) (id : ℕ) (v : View) (t : ℕ) (none : I
   far : (a : Act) → May k (run k es) (history es) v a → place a ≢ bits (free_word_of t) → bit_of k (did id v a ∷ es) t ≡ bit_of k es t
   far a may ne = ap (bit (free_bit_of t)) (stays k es id v a may (bits (free_word_of t)) (none_low k t none) ne)
 
-  near_ : (q : ℕ) (a : Act) → IsTable k q → place a ≡ bits (free_word_of q) → May k (run k es) (history es) v a → ((n : ℕ) → free_bit_of q ≢ free_bit_of t → bit (free_bit_of t) (word_after v.number a n) ≡ bit (free_bit_of t) n) → bit_of k (did id v a ∷ es) t ≡ bit_of k es t
+  near_ : (q : ℕ) (a : Act) → IsTableName k q → place a ≡ bits (free_word_of q) → May k (run k es) (history es) v a → ((n : ℕ) → free_bit_of q ≢ free_bit_of t → bit (free_bit_of t) (word_after v.number a n) ≡ bit (free_bit_of t) n) → bit_of k (did id v a ∷ es) t ≡ bit_of k es t
   near_ q a table is may does =
       dite (ℕ_discrete (free_word_of q) (free_word_of t))
       (λ (e : free_word_of q ≡ free_word_of t).
@@ -84,8 +84,8 @@ unused k [] valid t none =
     let n0 = n.0 in
     let b = bt_low t in
     let few = none.none in
-    let same : count_of k.tables (3 + free_word_of t / 16) ≡ tables_in k (class_of t) = ap (count_of k.tables) n.1 in
-    let d = count_of k.tables (3 + free_word_of t / 16) - 64 * (free_word_of t % 16) in
+    let same : tables_of_class k.tables (3 + free_word_of t / 16) ≡ tables_in k (class_of t) = ap (tables_of_class k.tables) n.1 in
+    let d = tables_of_class k.tables (3 + free_word_of t / 16) - 64 * (free_word_of t % 16) in
     let small : d ≤ free_bit_of t = omega (arith, n0, few, same) in
     let is : least (ltb d 64) d ≡ d = ap (λ (z : Bool). least z d) (lt-ltb d 64 (omega (arith, small, b))) in
     ap (bit (free_bit_of t)) (bits_first k (free_word_of t) (none_low k t none)) ∙ (ap (λ (z : ℕ). bit (free_bit_of t) (full z)) is ∙ full_off d (free_bit_of t) small)

@@ -9,21 +9,21 @@ use Rattle.ft_trace.specs.declared.Act.{Act}
 use Rattle.ft_trace.specs.declared.Act.TheVariants.{Version, ReadBlock, ReadRoot, ReadTable, ReadCounter}
 use Rattle.ft_model.specs.declared.call.Call.{Call}
 use Rattle.ft_model.specs.declared.reply.Reply.{Reply}
-use Rattle.ft_model.specs.Tables.{StoredWorld, stored_newest}
+use Rattle.ft_model.specs.TableUses.{StoredWorld, stored_newest}
 use Rattle.ft_trace.specs.Addresses.{containers_in}
-use Rattle.ft_trace.specs.Worlds.{ContainerState, state_at, container_after, kind_in, first_writes, reply_in}
-use Rattle.ft_trace.specs.Words.{table_of, inner, Picture, root_of, root_in, picture, Stands}
-use Rattle.ft_trace.specs.Reading.{Between, Among, Agrees, IsNothing, Looked, LookedAtBoth}
+use Rattle.ft_trace.specs.ContainerStates.{ContainerState, state_at, container_after, kind_in, first_writes, reply_in}
+use Rattle.ft_trace.specs.Pictures.{table_of, inner, Picture, root_of, root_in, picture, Stands}
+use Rattle.ft_trace.specs.LoggedReads.{Between, Among, Agrees, IsNothing, LookedAtOne, LookedAtBoth}
 use Rattle.ft_model.specs.Worlds.{kind_of}
 use Rattle.ft_trace.proofs.Known.{kind_then}
-use Rattle.ft_trace.proofs.Nothing.{no_table_stands}
-use Rattle.ft_trace.specs.Finding.{Bare}
+use Rattle.ft_trace.proofs.NoTable.{no_table_stands}
+use Rattle.ft_trace.specs.LoggedLookUps.{Bare}
 use Rattle.ft_trace.specs.Traces.{Event, run, history, Valid}
 use Rattle.ft_trace.proofs.Pieces.{block_at, table_at}
-use Rattle.ft_trace.proofs.Versions.{version, rises}
-use Rattle.ft_trace.proofs.Places.{root}
+use Rattle.ft_trace.proofs.OddVersions.{version, rises}
+use Rattle.ft_trace.proofs.TablePlaces.{root}
 use Rattle.ft_trace.proofs.Contents.{count, Still, stands, quiet}
-use Rattle.ft_trace.proofs.Moments.{Was, was}
+use Rattle.ft_trace.proofs.EarlierMoments.{Was, was}
 use Rattle.ft_trace.proofs.Spots.{Under, under_trans, stamp_then}
 
 rises_to : (k : Shape) (older es : List Event) → Valid k es → Under older es → (o : ℕ) → o < containers_in k → version k older o ≤ version k es o
@@ -113,7 +113,7 @@ module _ (k : Shape) (es : List Event) (valid : Valid k es) (o : ℕ) (low : o <
       (a.0, gives shown (stored_newest k.kinds (first_writes s (history es))) (kind_at s st) (subst (Stands k.texts shown) (sym a.1) (stands k now top.valid o low even_now)) agrees)
 
 -- a call may be answered that was looked up so
-pub looked_at : (k : Shape) (es : List Event) (valid : Valid k es) (call : Call) (o : ℕ) → o < containers_in k → (j : ℕ) (u : View) → get_elem? (run k es).views j ≡ some u → (r : Reply) (n : ℕ) → Looked k call o r n u.log → (n ≤ count k es) × (reply_in (stored_newest k.kinds (first_writes n (history es))) call ≡ r)
+pub looked_at : (k : Shape) (es : List Event) (valid : Valid k es) (call : Call) (o : ℕ) → o < containers_in k → (j : ℕ) (u : View) → get_elem? (run k es).views j ≡ some u → (r : Reply) (n : ℕ) → LookedAtOne k call o r n u.log → (n ≤ count k es) × (reply_in (stored_newest k.kinds (first_writes n (history es))) call ≡ r)
 looked_at k es valid call o low j u at r n h = looked k es valid o low j u at h.mid h.between (λ t. reply_in t call ≡ r) h.answers n h.stamp
 
 -- and one that was looked up in two containers

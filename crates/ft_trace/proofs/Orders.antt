@@ -1,8 +1,8 @@
 -- The tables of containers are in order after each write.
 use Rattle.std.proofs.Common.{List, [], ◌∷◌}
-use Rattle.ft_model.specs.Changes.{AreTablesInOrder}
+use Rattle.ft_model.specs.TablesInOrder.{AreTablesInOrder}
 use Rattle.ft_model.specs.Worlds.{no_hands}
-use Rattle.ft_model.specs.Tables.{stored_newest}
+use Rattle.ft_model.specs.TableUses.{stored_newest}
 use Rattle.ft_model.proofs.TableOrder.{order-step, order-start}
 use Rattle.ft_trace.specs.declared.Shape.{Shape}
 use Rattle.ft_trace.specs.declared.View.{View}

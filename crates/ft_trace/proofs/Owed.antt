@@ -15,14 +15,14 @@ use Rattle.ft_trace.specs.Entries.{total}
 use Rattle.ft_trace.specs.Counts.{owing, took}
 use Rattle.ft_trace.specs.Traces.{Event, did, forked, joined, sent, run, word, history, May, Valid}
 use Rattle.ft_model.specs.Classes.{IsClass}
-use Rattle.ft_model.specs.Tables.{is_class, takes_in, stored_newest, takes_newest}
+use Rattle.ft_model.specs.TableUses.{is_class, takes_in, stored_newest, takes_newest}
 use Rattle.ft_trace.proofs.Announcing.{fits}
 use Rattle.ft_trace.proofs.Cases.{miss, here, same_or}
 use Rattle.ft_trace.proofs.Addresses.{count_first}
 use Rattle.ft_trace.proofs.Seats.{seated}
-use Rattle.ft_trace.proofs.Words.{stays, moves, loaded}
+use Rattle.ft_trace.proofs.OneWord.{stays, moves, loaded}
 use Rattle.ft_trace.proofs.Totals.{total_set, total_forked, total_joined, parts_total}
-use Rattle.ft_trace.proofs.Moments.{was}
+use Rattle.ft_trace.proofs.EarlierMoments.{was}
 use Rattle.ft_trace.proofs.Budgets.{some_part}
 use Rattle.ft_trace.proofs.Counts.{raise_room}
 

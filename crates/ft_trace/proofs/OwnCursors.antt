@@ -16,7 +16,7 @@ use Rattle.ft_model.specs.declared.entry.Entry.{Entry as NamedEntry}
 use Rattle.ft_model.specs.Answers.{Answer, answer, moves, world_by, is_memory, is_write, is_raised}
 use Rattle.ft_model.specs.Calls.{moved_cursor}
 use Rattle.ft_model.specs.Histories.{IsReplied, EachAt, hands_by, after_stamped}
-use Rattle.ft_model.specs.Tables.{StoredWorld, stored_newest}
+use Rattle.ft_model.specs.TableUses.{StoredWorld, stored_newest}
 use Rattle.ft_model.specs.Worlds.{no_hands, cursor_at, start_hands}
 use Rattle.ft_model.proofs.StoredLaws.{stored_world}
 use Rattle.ft_trace.specs.declared.Act.{Act}
@@ -25,14 +25,14 @@ use Rattle.ft_trace.specs.declared.Entry.{Entry}
 use Rattle.ft_trace.specs.declared.Shape.{Shape}
 use Rattle.ft_trace.specs.declared.View.{View}
 use Rattle.ft_trace.specs.Hands.{cursor_in, MovesCursor, own_entries}
-use Rattle.ft_trace.specs.OwnCursors.{entry_of, AsksWithin, CursorsAreHands}
-use Rattle.ft_trace.specs.Worlds.{first_writes}
+use Rattle.ft_trace.specs.OwnCursors.{plain_entry, AsksWithin, CursorsAreHands}
+use Rattle.ft_trace.specs.ContainerStates.{first_writes}
 use Rattle.ft_trace.specs.Traces.{Event, run, history, Valid}
 use Rattle.ft_trace.proofs.Cases.{hit, miss}
 use Rattle.ft_trace.proofs.Contents.{count, counted}
-use Rattle.ft_trace.proofs.Cursors.{moved_changes, moved_plain, moved_replied}
+use Rattle.ft_trace.proofs.CursorAnswers.{moved_changes, moved_plain, moved_replied}
 use Rattle.ft_trace.proofs.InOrder.{stored_in_order, take_front, get_last}
-use Rattle.ft_trace.proofs.Moments.{was}
+use Rattle.ft_trace.proofs.EarlierMoments.{was}
 use Rattle.ft_trace.proofs.PlainAnswers.{plain_answer}
 use Rattle.ft_trace.proofs.Spots.{stamp_then}
 use Rattle.ft_trace.proofs.Stamps.{stays}
@@ -161,7 +161,7 @@ module _ (k : Shape) (es : List Event) (valid : Valid k es) (j : ℕ) (u : View)
 
   -- of entries from the newest to the first, that are the own ones of the log
   abbrev Claim : List Act → Type 0
-  Claim log = (mine : List NamedEntry) → map entry_of mine ≡ own_entries log → All (AsksWithin room) mine → Good (reverse mine) log
+  Claim log = (mine : List NamedEntry) → map plain_entry mine ≡ own_entries log → All (AsksWithin room) mine → Good (reverse mine) log
 
   more : (l log : List Act) (x : NamedEntry) (mine : List NamedEntry) → Good (reverse mine) l → Next (reverse mine) x log → Good (reverse (x ∷ mine)) log
   more l log x mine g n = subst (λ (z : List NamedEntry). Good z log) (sym (reverse-cons x mine)) (goes_on (reverse mine) x l log g n)
@@ -183,8 +183,8 @@ module _ (k : Shape) (es : List Event) (valid : Valid k es) (j : ℕ) (u : View)
   step newer (Commit c r f s) l is before [] own within = absurd (cc)
   step newer (Commit c r f s) l is before (x ∷ mine) own within =
       let w = was k es valid j u at newer (Commit c r f s) l is in
-      let e : entry_of x ≡ record { call = c; reply = r; stamp = f; wrote = true } = cc in
-      let rest : map entry_of mine ≡ own_entries l = cc in
+      let e : plain_entry x ≡ record { call = c; reply = r; stamp = f; wrote = true } = cc in
+      let rest : map plain_entry mine ≡ own_entries l = cc in
       let g = before mine rest (All-tail (AsksWithin room) x mine within) in
       let found : f ≡ count k w.older = w.tells in
       let then_ = (stamp_then k w.older es w.valid valid (record { newer = w.newer; is = w.split }) f found).1 in
@@ -197,8 +197,8 @@ module _ (k : Shape) (es : List Event) (valid : Valid k es) (j : ℕ) (u : View)
   step newer (Answered c r n) l is before [] own within = absurd (cc)
   step newer (Answered c r n) l is before (x ∷ mine) own within =
       let w = was k es valid j u at newer (Answered c r n) l is in
-      let e : entry_of x ≡ record { call = c; reply = r; stamp = n; wrote = false } = cc in
-      let rest : map entry_of mine ≡ own_entries l = cc in
+      let e : plain_entry x ≡ record { call = c; reply = r; stamp = n; wrote = false } = cc in
+      let rest : map plain_entry mine ≡ own_entries l = cc in
       let g = before mine rest (All-tail (AsksWithin room) x mine within) in
       let replied : IsReplied c r (answer (world_at n) no_hands c).reply = subst (λ (z : List Content). IsReplied c r (answer z no_hands c).reply) (world_then w.newer w.older w.split w.valid n (w.may tt).1) (w.may tt).2 in
       more l (Answered c r n ∷ l) x mine g
@@ -207,8 +207,8 @@ module _ (k : Shape) (es : List Event) (valid : Valid k es) (j : ℕ) (u : View)
   step newer (AnswerCursor c r n m had left) l is before [] own within = absurd (cc)
   step newer (AnswerCursor c r n m had left) l is before (x ∷ mine) own within =
       let w = was k es valid j u at newer (AnswerCursor c r n m had left) l is in
-      let e : entry_of x ≡ record { call = c; reply = r; stamp = n; wrote = false } = cc in
-      let rest : map entry_of mine ≡ own_entries l = cc in
+      let e : plain_entry x ≡ record { call = c; reply = r; stamp = n; wrote = false } = cc in
+      let rest : map plain_entry mine ≡ own_entries l = cc in
       let g = before mine rest (All-tail (AsksWithin room) x mine within) in
       let moves_it : MovesCursor (world_at n) c m had r left = subst (λ (z : List Content). MovesCursor z c m had r left) (world_then w.newer w.older w.split w.valid n (w.may tt).1) (w.may tt).2 in
       let moved : moved_cursor x.call ≡ Some m = ap (λ (z : Entry). moved_cursor z.call) e ∙ (w.may tt).0 in

@@ -14,7 +14,7 @@ use Rattle.ft_model.specs.declared.reply.Reply.TheVariants as reply
 use Rattle.ft_model.specs.declared.script.Kind.{Kind}
 use Rattle.ft_model.specs.Answers.{is_write}
 use Rattle.ft_model.specs.Calls.{containers_of, moved_cursor}
-use Rattle.ft_model.specs.Tables.{StoredWorld, stored_newest}
+use Rattle.ft_model.specs.TableUses.{StoredWorld, stored_newest}
 use Rattle.ft_trace.specs.declared.Act.{Act}
 use Rattle.ft_trace.specs.declared.Act.TheVariants.{Unlock, Commit, Answer, AnswerCursor}
 use Rattle.ft_trace.specs.declared.Entry.{Entry}
@@ -24,17 +24,17 @@ use Rattle.ft_trace.specs.Acts.{place, Reports, starter, noted, maker, made, bot
 use Rattle.ft_trace.specs.Causes.{HasCause, least_stamp}
 use Rattle.ft_trace.specs.Entries.{IsNumber, AllRight}
 use Rattle.ft_trace.specs.OwnOrder.{number_after, is_write_of, after_begins, begins_in, HasWritesOn, FollowsOwn, AreInOwnOrder, IsWriteIn, OwnEntriesAreInOrder, OwnOrderStays}
-use Rattle.ft_trace.specs.Sections.{Begun, begun, begun_by, is_among, without, since_load, IsInnermostHeld}
+use Rattle.ft_trace.specs.BegunSections.{Begun, begun, begun_by, is_among, without, since_load, IsInnermostHeld}
 use Rattle.ft_trace.specs.Traces.{Event, did, forked, joined, sent, run, word, writes_of, history, May, Valid}
-use Rattle.ft_trace.specs.Worlds.{first_writes}
+use Rattle.ft_trace.specs.ContainerStates.{first_writes}
 use Rattle.ft_trace.proofs.AllEntries.{has_none}
 use Rattle.ft_trace.proofs.Cases.{here, miss, off}
-use Rattle.ft_trace.proofs.Closing.{all_right}
+use Rattle.ft_trace.proofs.ClosedEntries.{all_right}
 use Rattle.ft_trace.proofs.Contents.{counted}
 use Rattle.ft_trace.proofs.InOrder.{number_low, order_numbered, get_front}
 use Rattle.ft_trace.proofs.KeptSections.{EachHeld, each_held, own_writes}
 use Rattle.ft_trace.proofs.Sizes.{set_views, one_more, one_view}
-use Rattle.ft_trace.proofs.Stamped.{least_low, loaded_up}
+use Rattle.ft_trace.proofs.RisingStamps.{least_low, loaded_up}
 
 -- ---- stamps
 

@@ -17,7 +17,7 @@ use Rattle.ft_trace.specs.Floors.{at_floor, lock_of_another, OwnersStay, KnownOw
 use Rattle.ft_trace.specs.Traces.{Event, did, forked, joined, sent, run, word, history, May, Valid}
 use Rattle.ft_trace.proofs.Sizes.{set_views, one_more, one_view}
 use Rattle.ft_trace.proofs.Cases.{hit, miss, off}
-use Rattle.ft_trace.proofs.Words.{stays, moves}
+use Rattle.ft_trace.proofs.OneWord.{stays, moves}
 use Rattle.ft_trace.proofs.Locks.{on_lock, names, holder}
 use Rattle.ft_trace.proofs.Seats.{same_seat}
 use Rattle.ft_trace.proofs.Floored.{floored, tokens_alone, by_given}

@@ -3,7 +3,7 @@ use Rattle.std.proofs.Common.{◌≡◌, ℕ, zero, suc, ◌+◌, ◌<◌, List,
 use Rattle.std.specs.Prelude.{slice_index, slice_set}
 use Rattle.ft_trace.specs.declared.Shape.{Shape}
 use Rattle.ft_trace.specs.Addresses.{block, cell, class_of, size, at}
-use Rattle.ft_trace.specs.Words.{piece, table_of, block_of, root_of, inner, picture}
+use Rattle.ft_trace.specs.Pictures.{piece, table_of, block_of, root_of, inner, picture}
 
 pub piece_same : (ws zs : List ℕ) (at n : ℕ) → ((i : ℕ) → i < n → slice_index ws (at + i) ≡ slice_index zs (at + i)) → piece ws at n ≡ piece zs at n
 piece_same ws zs at zero same = refl

@@ -12,7 +12,7 @@ use Rattle.ft_trace.specs.Floors.{RestingPassesAreQuiet, FloorVersionsAreEven, K
 use Rattle.ft_trace.specs.Traces.{did, forked, joined, sent, run, IsQuiet}
 use Rattle.ft_trace.proofs.Sizes.{set_views, one_more, one_view}
 use Rattle.ft_trace.proofs.Cases.{off}
-use Rattle.ft_trace.proofs.Versions.{version, versioned}
+use Rattle.ft_trace.proofs.OddVersions.{version, versioned}
 use Rattle.ft_trace.proofs.Floored.{floored, tokens_alone}
 
 abbrev Rested : ℕ → View → Type 0

@@ -6,23 +6,23 @@ use Rattle.ft_model.specs.declared.call.Call.TheVariants as call
 use Rattle.ft_model.specs.Answers.{is_memory}
 use Rattle.ft_model.specs.Calls.{is_changing, can_add}
 use Rattle.ft_model.specs.Histories.{IsReplied}
-use Rattle.ft_model.specs.Tables.{stored_newest}
+use Rattle.ft_model.specs.TableUses.{stored_newest}
 use Rattle.std.specs.Prelude.{Bool, true, ◌&&◌}
 use Rattle.ft_trace.specs.declared.Act.{Act}
 use Rattle.ft_trace.specs.declared.Act.TheVariants.{Answer, AnswerCursor, ReadCounter}
 use Rattle.ft_trace.specs.Addresses.{counter}
 use Rattle.ft_trace.specs.Acts.{noted}
-use Rattle.ft_trace.specs.Worlds.{first_writes, reply_in}
+use Rattle.ft_trace.specs.ContainerStates.{first_writes, reply_in}
 use Rattle.ft_trace.specs.Causes.{Loaded, HasCause}
 use Rattle.ft_trace.specs.Hands.{cursor_in, MovesCursor}
 use Rattle.ft_trace.specs.Traces.{Event, did, run, word, history, May}
 use Rattle.ft_trace.specs.Replies.{lacks, RepliesMayBeGiven, CursorsMayBeMoved, MemoryErrorsMayBeAnswered}
 use Rattle.ft_trace.proofs.Sizes.{set_at}
-use Rattle.ft_trace.proofs.Words.{loaded}
+use Rattle.ft_trace.proofs.OneWord.{loaded}
 use Rattle.ft_trace.proofs.Contents.{counted}
 use Rattle.ft_trace.proofs.Stamps.{all_writes}
 use Rattle.ft_trace.proofs.Held.{agrees_now}
-use Rattle.ft_trace.proofs.Cursors.{adds_no_cursor}
+use Rattle.ft_trace.proofs.CursorAnswers.{adds_no_cursor}
 
 pub replies_may_be_given : RepliesMayBeGiven
 replies_may_be_given v call said live p some_call not_write no_cursor right =

@@ -12,14 +12,14 @@ use Rattle.ft_trace.specs.Addresses.{block, containers_in}
 use Rattle.ft_trace.specs.Roots.{OfOneWrite, BeganBare, ZeroRootsHaveCauses, RetiredTablesAreApart}
 use Rattle.ft_trace.specs.Traces.{Event, did, forked, sent, joined, run, history, May, Valid}
 use Rattle.ft_trace.proofs.Cases.{hit, miss, off, same_or}
-use Rattle.ft_trace.proofs.Holding.{holder_even}
+use Rattle.ft_trace.proofs.HeldWords.{holder_even}
 use Rattle.ft_trace.proofs.Locks.{one_holder}
-use Rattle.ft_trace.proofs.Moments.{was}
-use Rattle.ft_trace.proofs.Places.{root, placed}
+use Rattle.ft_trace.proofs.EarlierMoments.{was}
+use Rattle.ft_trace.proofs.TablePlaces.{root, placed}
 use Rattle.ft_trace.proofs.Rule.{zero_roots_have_nothing}
 use Rattle.ft_trace.proofs.Sizes.{set_views, one_more, one_view}
-use Rattle.ft_trace.proofs.Versions.{writer_has}
-use Rattle.ft_trace.proofs.Words.{stays, moves, loaded}
+use Rattle.ft_trace.proofs.OddVersions.{writer_has}
+use Rattle.ft_trace.proofs.OneWord.{stays, moves, loaded}
 
 -- an action that begins or ends no write of o, and puts no root of it
 pub record Beside (k : Shape) (es : List Event) (id : ℕ) (v : View) (o : ℕ) (a : Act) : Type 0 where

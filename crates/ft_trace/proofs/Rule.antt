@@ -6,18 +6,18 @@ use Rattle.ft_trace.specs.Acts.{stage}
 use Rattle.std.specs.Prelude.{cond, nat_lt}
 use Rattle.ft_trace.specs.declared.View.{View}
 use Rattle.ft_trace.specs.Ages.{age, whose, keeper}
-use Rattle.ft_trace.proofs.Moments.{valid_rest}
-use Rattle.ft_trace.specs.Entries.{is_number}
-use Rattle.ft_trace.specs.Words.{picture}
+use Rattle.ft_trace.proofs.EarlierMoments.{valid_rest}
+use Rattle.ft_trace.specs.Entries.{number_count}
+use Rattle.ft_trace.specs.Pictures.{picture}
 use Rattle.ft_trace.specs.Traces.{run, history}
-use Rattle.ft_trace.specs.Laws.{StoredTablesAreInOrder, WordsLieApart, PairsAreUnderTheirKeys, ElementsAreUnderTheirKeys, OnePassIsAlone, StampsRise, MemoryErrorsAreEarned, LocksNameHolders, VersionsAreOddInWrites, EvenTablesAreShut, NumbersAreOnce, EntriesAreRight, OneHasAllEntries, EvenWordsStand, ZeroRootsHaveNothing, HoldersKnow, TablesAreSomewhere, TablesAreInOnePlace, CountsStand, TablesAreOwed, EmptyClassesAreEarned, AnnouncedNumbersAreLow, FoundTablesAreKept, GivenUpTablesRest, TablesAreSound, TableWordsStay, HitsAreRight, MissesAreRight, BareRootsAreRight, ItemsAreRight, ListsFitTheirTables, LooksAreRight, LooksAtBothAreRight, ChangedRootsAreNew, NumbersHaveRoom, NextSerialsAreLow, CallsAreCounted}
+use Rattle.ft_trace.specs.TraceLaws.{StoredTablesAreInOrder, WordsLieApart, PairsAreUnderTheirKeys, ElementsAreUnderTheirKeys, OnePassIsAlone, StampsRise, MemoryErrorsAreEarned, LocksNameHolders, VersionsAreOddInWrites, EvenTablesAreShut, NumbersAreOnce, EntriesAreRight, OneHasAllEntries, EvenWordsStand, ZeroRootsHaveNothing, HoldersKnow, TablesAreSomewhere, TablesAreInOnePlace, CountsStand, TablesAreOwed, EmptyClassesAreEarned, AnnouncedNumbersAreLow, FoundTablesAreKept, GivenUpTablesRest, TablesAreSound, TableWordsStay, HitsAreRight, MissesAreRight, BareRootsAreRight, ItemsAreRight, ListsFitTheirTables, LooksAreRight, LooksAtBothAreRight, ChangedRootsAreNew, NumbersHaveRoom, NextSerialsAreLow, CallsAreCounted}
 use Rattle.ft_trace.proofs.Locks.{names, holder, one_holder}
-use Rattle.ft_trace.proofs.Versions.{versioned, writer_has, writing_is_odd}
+use Rattle.ft_trace.proofs.OddVersions.{versioned, writer_has, writing_is_odd}
 use Rattle.ft_trace.proofs.Contents.{counted, tab, stands}
 use Rattle.ft_trace.proofs.Totals.{entries_total, parts_total, total_two}
 use Rattle.ft_trace.proofs.Addresses.{in_part, at_apart}
 use Rattle.ft_trace.proofs.Orders.{in_order}
-use Rattle.ft_model.specs.Tables.{stored_newest}
+use Rattle.ft_model.specs.TableUses.{stored_newest}
 use Rattle.ft_model.proofs.TableOrder.{order-caps}
 use Rattle.ft_trace.proofs.Under.{find_first, find_none}
 use Rattle.std.specs.List.{find}
@@ -26,16 +26,16 @@ use Rattle.std.proofs.Common.{Option}
 use Rattle.ft_model.specs.declared.content.DictPair.{DictPair}
 use Rattle.ft_model.specs.declared.content.Element.{Element}
 use Rattle.ft_trace.specs.Kinds.{is_key, pair_words, element_words}
-use Rattle.ft_trace.proofs.Stamped.{commit_rises, answer_rises, moved_rises, loads_rise, empty_earned}
-use Rattle.ft_trace.proofs.Closing.{all_right, once, closes}
+use Rattle.ft_trace.proofs.RisingStamps.{commit_rises, answer_rises, moved_rises, loads_rise, empty_earned}
+use Rattle.ft_trace.proofs.ClosedEntries.{all_right, once, closes}
 use Rattle.ft_trace.proofs.Announcing.{fits, heard}
 use Rattle.ft_trace.proofs.Pieces.{block_at}
-use Rattle.ft_trace.proofs.Places.{root_table, placed, not_current}
+use Rattle.ft_trace.proofs.TablePlaces.{root_table, placed, not_current}
 use Rattle.ft_trace.proofs.Hands.{handed}
-use Rattle.ft_trace.proofs.Reusing.{safe, not_free}
+use Rattle.ft_trace.proofs.FoundTables.{safe, not_free}
 use Rattle.ft_trace.proofs.Rests.{rests, one_root}
 use Rattle.ft_trace.proofs.Evens.{quiet_shut}
-use Rattle.ft_trace.proofs.Nothing.{no_table_stands}
+use Rattle.ft_trace.proofs.NoTable.{no_table_stands}
 use Rattle.ft_trace.proofs.Held.{root_known, words_known, content_known, hand_known}
 use Rattle.ft_trace.proofs.Sounds.{LaterIn, sound_at, laters}
 use Rattle.ft_trace.proofs.Ones.{words_stand}
@@ -45,18 +45,18 @@ use Rattle.ft_trace.proofs.Misses as misses
 use Rattle.ft_trace.proofs.ItemHits as items
 use Rattle.ft_trace.proofs.Optimistic.{looked_at_both, bare_at, looked_at}
 use Rattle.ft_trace.proofs.Anew.{is_new}
-use Rattle.ft_trace.proofs.Rooms.{counter_room, version_room}
+use Rattle.ft_trace.proofs.NoWrap.{counter_room, version_room}
 use Rattle.ft_trace.proofs.Serials.{next_low}
-use Rattle.ft_trace.proofs.Counted.{all_counted}
+use Rattle.ft_trace.proofs.CallsLeft.{all_counted}
 use Rattle.ft_trace.proofs.Budgets.{goals_room, some_part}
 use Rattle.std.proofs.Common.{eqb, ◌+◌, ◌%◌}
 use Rattle.ft_trace.specs.Acts.{debt}
-use Rattle.ft_trace.specs.Words.{root_in}
+use Rattle.ft_trace.specs.Pictures.{root_in}
 use Rattle.ft_trace.specs.Holds.{held}
 use Rattle.ft_trace.specs.Grants.{after_clear, ListsMayBeCleared, ClearedTablesMayBeGivenBack, TakingsEnd}
 use Rattle.ft_trace.proofs.Cases.{miss, here}
 use Rattle.ft_trace.proofs.Clearing.{clear_possible}
-use Rattle.ft_trace.proofs.Cycles.{cycle_possible}
+use Rattle.ft_trace.proofs.OnePassReuse.{cycle_possible}
 use Rattle.ft_trace.proofs.Grants.{taking_ends}
 
 pub locks_name_their_holders : LocksNameHolders
@@ -69,7 +69,7 @@ pub tables_are_shut_while_versions_are_even : EvenTablesAreShut
 tables_are_shut_while_versions_are_even = quiet_shut
 
 pub numbers_are_of_one_write : NumbersAreOnce
-numbers_are_of_one_write k es valid n = entries_total (is_number n) k es valid ∙ (once k es valid n ∙ ap (λ (z : ℕ). cond (nat_lt n z) 1 0) (sym (counted k es valid)))
+numbers_are_of_one_write k es valid n = entries_total (number_count n) k es valid ∙ (once k es valid n ∙ ap (λ (z : ℕ). cond (nat_lt n z) 1 0) (sym (counted k es valid)))
 
 pub entries_are_right : EntriesAreRight
 entries_are_right = all_right

@@ -9,14 +9,14 @@ use Rattle.ft_trace.specs.declared.View.{View}
 use Rattle.ft_trace.specs.declared.Act.{Act}
 use Rattle.ft_trace.specs.declared.Act.TheVariants.{Commit, ReadCounter, TakeFloor}
 use Rattle.ft_trace.specs.Acts.{noted, shown, seen_writes, starter, maker, made, both, spent, sender, note}
-use Rattle.ft_trace.specs.Notes.{SeenIsLow, SeenIsHandedOn, LoadsSeeAll}
+use Rattle.ft_trace.specs.SeenWrites.{SeenIsLow, SeenIsHandedOn, LoadsSeeAll}
 use Rattle.ft_trace.specs.Traces.{Event, did, forked, joined, sent, run, Valid}
 use Rattle.ft_trace.proofs.Sizes.{set_views, one_more, one_view}
-use Rattle.ft_trace.proofs.Words.{moves}
-use Rattle.ft_trace.proofs.Versions.{one_up}
+use Rattle.ft_trace.proofs.OneWord.{moves}
+use Rattle.ft_trace.proofs.OddVersions.{one_up}
 use Rattle.ft_trace.proofs.Contents.{count}
-use Rattle.ft_trace.proofs.Moments.{was}
-use Rattle.ft_trace.proofs.Stamped.{one_rises}
+use Rattle.ft_trace.proofs.EarlierMoments.{was}
+use Rattle.ft_trace.proofs.RisingStamps.{one_rises}
 
 shown_low : (k : Shape) (es : List Event) (id : ℕ) (v : View) (b : Act) → Valid k (did id v b ∷ es) → shown v.log ≤ count k es → shown (b ∷ v.log) ≤ count k (did id v b ∷ es)
 shown_low k es id v (Commit c r f s) ok low =

@@ -25,13 +25,13 @@ use Rattle.ft_model.specs.Contents.{DictContent, SetContent, empty_dict, empty_s
 use Rattle.ft_model.specs.Lists.{index_in, index_of}
 use Rattle.ft_model.specs.Worlds.{WorldContent, HandsContent, serial_of, cursor_at, dict_of, set_of, dict_at, list_at, set_at, no_hands, empty_content}
 use Rattle.ft_model.specs.Answers.{Answer, answer_dict, answer_list, answer_set, answer}
-use Rattle.ft_model.specs.Tables.{passes_cap, stored_newest}
+use Rattle.ft_model.specs.TableUses.{passes_cap, stored_newest}
 use Rattle.ft_model.proofs.KnownKeys.{length-filter-le}
 use Rattle.ft_model.proofs.TableOrder.{order-caps}
 use Rattle.ft_trace.specs.declared.Shape.{Shape}
 use Rattle.ft_trace.specs.declared.Act.{Act}
 use Rattle.ft_trace.specs.declared.Act.TheVariants.{Commit}
-use Rattle.ft_trace.specs.Worlds.{container_after}
+use Rattle.ft_trace.specs.ContainerStates.{container_after}
 use Rattle.ft_trace.specs.Traces.{Event, did, forked, joined, sent, writes_of, history, Valid}
 use Rattle.ft_trace.proofs.Orders.{in_order}
 

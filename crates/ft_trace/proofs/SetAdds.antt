@@ -13,7 +13,7 @@ use Rattle.ft_model.specs.declared.script.Kind.TheVariants as kind
 use Rattle.ft_model.specs.Answers.{Answer, answer, answer_set, puts, after_write}
 use Rattle.ft_model.specs.Classes.{IsClass, set_entries, set_class, most_elements}
 use Rattle.ft_model.specs.Contents.{SetContent, has_element, set_add, empty_set}
-use Rattle.ft_model.specs.Tables.{TableUse, StoredWorld, no_table, stored_newest, takes_in, table_at, outgrows_set, grown_table, after_stored}
+use Rattle.ft_model.specs.TableUses.{TableUse, StoredWorld, no_table, stored_newest, takes_in, table_at, outgrows_set, grown_table, after_stored}
 use Rattle.ft_hash.specs.Probes.{set_walk}
 use Rattle.ft_hash.proofs.Walks.{set_walk-within}
 use Rattle.ft_layout.specs.Words.{key_kind, key_payload}
@@ -25,15 +25,15 @@ use Rattle.ft_trace.specs.declared.Shape.{Shape}
 use Rattle.ft_trace.specs.declared.Snap.{Snap}
 use Rattle.ft_trace.specs.declared.View.{View}
 use Rattle.ft_trace.specs.Addresses.{class_of, slots, places, size}
-use Rattle.ft_trace.specs.Worlds.{container_after, kind_in}
-use Rattle.ft_trace.specs.Words.{root_in, Stands, index_of, entry_at, entry_of, walk_of}
+use Rattle.ft_trace.specs.ContainerStates.{container_after, kind_in}
+use Rattle.ft_trace.specs.Pictures.{root_in, Stands, index_field, entry_offset, entry_field, walk_of}
 use Rattle.ft_trace.specs.Carefuls.{Careful, Clear}
 use Rattle.ft_trace.specs.Kinds.{under, rows, version_at, ClearAs}
-use Rattle.ft_trace.specs.Openings.{Shut, Timely}
+use Rattle.ft_trace.specs.OddVersions.{Shut, Timely}
 use Rattle.ft_trace.specs.Holds.{held, known, AgreesWith}
 use Rattle.ft_trace.specs.Traces.{Possible}
 use Rattle.ft_trace.specs.Grants.{MayWrite}
-use Rattle.ft_trace.specs.Writes.{to_block, to_table, MayPut, MayPuts, Write, at_commit, at_end, after_write_of, MayCommit, MayWriteSo}
+use Rattle.ft_trace.specs.WholeWrites.{to_block, to_table, MayPut, MayPuts, WholeWrite, at_commit, at_end, after_write_of, MayCommitWrite, MayWriteSo}
 use Rattle.ft_trace.specs.EntryWrites.{entry_closed}
 use Rattle.ft_trace.specs.KeyWrites.{count_puts}
 use Rattle.ft_trace.specs.SetWrites.{element_puts, set_add_write, ElementsMayBeAdded}
@@ -49,11 +49,11 @@ use Rattle.ft_trace.proofs.Writing.{write_possible}
 use Rattle.std.specs.Prelude.{◌||◌, ◌^◌, slice_index_or}
 use Rattle.ft_model.specs.declared.reply.Reply.TheVariants as reply
 use Rattle.ft_model.specs.Worlds.{no_hands, set_of, set_at}
-use Rattle.ft_model.specs.Tables.{passes_cap}
+use Rattle.ft_model.specs.TableUses.{passes_cap}
 use Rattle.ft_layout.specs.Words.{FitsKey}
 
 module _ (versions : EntryVersionsChangeNothing) (first : FirstEntriesAreElements) (v : View) (o t slot : ℕ) (key : Key) (elements : SetContent) (may : MayWrite v o) (is_set : (known o v).content ≡ content.Set elements) (names : root_in (held o v) ≡ suc t)
-    (room : (known o v).table.fill < set_entries (class_of t)) (in_index : slot < slots (class_of t)) (free : index_of (held o v).table slot ≡ 0) (fits : FitsKey key) (missing : has_element elements.elements key ≡ false)
+    (room : (known o v).table.fill < set_entries (class_of t)) (in_index : slot < slots (class_of t)) (free : index_field (held o v).table slot ≡ 0) (fits : FitsKey key) (missing : has_element elements.elements key ≡ false)
     (now : IsSetWords v.shape.texts (at_commit v o (set_add_write v o t slot key elements)).block (0 ∷ 0 ∷ (at_commit v o (set_add_write v o t slot key elements)).table) (Some (class_of t)) ((known o v).table.fill + 1) (set_add elements key)) where
   abbrev k : Shape
   k = v.shape
@@ -79,7 +79,7 @@ module _ (versions : EntryVersionsChangeNothing) (first : FirstEntriesAreElement
   abbrev called : Call
   called = call.Set o (set.Add key)
 
-  abbrev write : Write
+  abbrev write : WholeWrite
   write = set_add_write v o t slot key elements
 
   abbrev block : List ℕ
@@ -89,7 +89,7 @@ module _ (versions : EntryVersionsChangeNothing) (first : FirstEntriesAreElement
   put = (at_commit v o write).table
 
   abbrev ver : ℕ
-  ver = entry_of n ws p 0
+  ver = entry_field n ws p 0
 
   class_is : IsClass c
   class_is = (in_bank v o t may.low may.possible may.mine names).0
@@ -106,14 +106,14 @@ module _ (versions : EntryVersionsChangeNothing) (first : FirstEntriesAreElement
   says : IsSetWords k.texts (held o v).block (0 ∷ 0 ∷ ws) (Some c) p elements
   says = set_says v o t elements may is_set names
 
-  shut : Shut (λ q. entry_at n q 0) m ws
+  shut : Shut (λ q. entry_offset n q 0) m ws
   shut = set_shut v o t elements may is_set names
 
   even : ver % 2 ≡ 0
   even = shut p room
 
   -- the entry was never used
-  none : entry_of n ws p 2 ≡ 0
+  none : entry_field n ws p 2 ≡ 0
   none =
       let fits : set_room (class_mask c) ≡ m = room_is first k.texts (held o v).block c p class_is elements ws says in
       let filled = says.filled in
@@ -134,15 +134,15 @@ module _ (versions : EntryVersionsChangeNothing) (first : FirstEntriesAreElement
       ∙ (get_or-set_other (slice_set b0 1 (length elements.elements + 1)) 2 0 (p + 1) 0 (λ e. absurd (omega (arith, e)))
       ∙ (get_or-set_other b0 1 0 (length elements.elements + 1) 0 (λ e. absurd (omega (arith, e))) ∙ names))
 
-  inside : (w : ℕ) → w < 8 → entry_at n p w < size c
+  inside : (w : ℕ) → w < 8 → entry_offset n p w < size c
   unfolding places
   inside w few = omega (arith, few, room)
 
-  time : (i x : ℕ) → ((q : ℕ) → i ≡ entry_at n q 0 → x % 2 ≡ 1) → Timely (version_at kind.Set c) (rows kind.Set c) i x false
+  time : (i x : ℕ) → ((q : ℕ) → i ≡ entry_offset n q 0 → x % 2 ≡ 1) → Timely (version_at kind.Set c) (rows kind.Set c) i x false
   time i x odd = record { before = λ q less e one. refl; later = λ q less e two. absurd (let o = odd q e in omega (arith, two, o)) }
 
   -- one put into the table
-  table_put : (l : List ℕ) (i x : ℕ) → i < size c → Careful n m l (under (content.Set elements)) i x → ((q : ℕ) → i ≡ entry_at n q 0 → x % 2 ≡ 1) → MayPut kind.Set t (content.Set elements) false (record { block = block; table = l }) (to_table i x)
+  table_put : (l : List ℕ) (i x : ℕ) → i < size c → Careful n m l (under (content.Set elements)) i x → ((q : ℕ) → i ≡ entry_offset n q 0 → x % 2 ≡ 1) → MayPut kind.Set t (content.Set elements) false (record { block = block; table = l }) (to_table i x)
   table_put l i x small care odd = (names_now, small, care, time i x odd)
 
   -- the puts of the entry before its kind
@@ -150,18 +150,18 @@ module _ (versions : EntryVersionsChangeNothing) (first : FirstEntriesAreElement
   At l = Stage n m ws p slot room in_index at_least even none free l
 
   abbrev l1 : List ℕ
-  l1 = slice_set ws (entry_at n p 0) (ver + 1)
+  l1 = slice_set ws (entry_offset n p 0) (ver + 1)
 
   abbrev l2 : List ℕ
-  l2 = slice_set l1 (entry_at n p 1) (hash_of k.texts key)
+  l2 = slice_set l1 (entry_offset n p 1) (hash_of k.texts key)
 
   abbrev l3 : List ℕ
-  l3 = slice_set l2 (entry_at n p 3) (key_payload key)
+  l3 = slice_set l2 (entry_offset n p 3) (key_payload key)
 
   abbrev l4 : List ℕ
-  l4 = slice_set l3 (entry_at n p 6) elements.next
+  l4 = slice_set l3 (entry_offset n p 6) elements.next
 
-  next_stage : (l : List ℕ) → At l → (w x : ℕ) → w < 8 → w ≢ 0 → w ≢ 2 → At (slice_set l (entry_at n p w) x)
+  next_stage : (l : List ℕ) → At l → (w x : ℕ) → w < 8 → w ≢ 0 → w ≢ 2 → At (slice_set l (entry_offset n p w) x)
   next_stage = stage_next n m ws p slot room in_index at_least even none free
 
   s1 : At l1
@@ -182,12 +182,12 @@ module _ (versions : EntryVersionsChangeNothing) (first : FirstEntriesAreElement
       let e = even in
       let of_key = new_key n m ws p slot room in_index at_least even none free before in
       let of_value = new_value n m ws p slot room in_index at_least even none free before in
-      let p1 = table_put ws (entry_at n p 0) (ver + 1) (inside 0 (omega arith)) (new_open n m ws p slot room in_index at_least even none free before) (λ q z. omega (arith, e)) in
-      let p2 = table_put l1 (entry_at n p 1) (hash_of k.texts key) (inside 1 (omega arith)) (of_key l1 s1 1 (hash_of k.texts key) (inl refl)) (λ q z. absurd (omega (arith, z))) in
-      let p3 = table_put l2 (entry_at n p 3) (key_payload key) (inside 3 (omega arith)) (of_key l2 s2 3 (key_payload key) (inr refl)) (λ q z. absurd (omega (arith, z))) in
-      let p4 = table_put l3 (entry_at n p 6) elements.next (inside 6 (omega arith)) (of_value l3 s3 6 elements.next (omega arith) (omega arith)) (λ q z. absurd (omega (arith, z))) in
-      let p5 = table_put l4 (entry_at n p 2) (key_kind key) (inside 2 (omega arith)) (new_kind n m ws p slot room in_index at_least even none free key l4 s4 before) (λ q z. absurd (omega (arith, z))) in
-      let p6 = table_put (slice_set l4 (entry_at n p 2) (key_kind key)) slot (p + 1) (omega (arith, in_index)) (new_index n m ws p slot room in_index at_least even none free key l4 s4 before) (λ q z. absurd (omega (arith, z, in_index))) in
+      let p1 = table_put ws (entry_offset n p 0) (ver + 1) (inside 0 (omega arith)) (new_open n m ws p slot room in_index at_least even none free before) (λ q z. omega (arith, e)) in
+      let p2 = table_put l1 (entry_offset n p 1) (hash_of k.texts key) (inside 1 (omega arith)) (of_key l1 s1 1 (hash_of k.texts key) (inl refl)) (λ q z. absurd (omega (arith, z))) in
+      let p3 = table_put l2 (entry_offset n p 3) (key_payload key) (inside 3 (omega arith)) (of_key l2 s2 3 (key_payload key) (inr refl)) (λ q z. absurd (omega (arith, z))) in
+      let p4 = table_put l3 (entry_offset n p 6) elements.next (inside 6 (omega arith)) (of_value l3 s3 6 elements.next (omega arith) (omega arith)) (λ q z. absurd (omega (arith, z))) in
+      let p5 = table_put l4 (entry_offset n p 2) (key_kind key) (inside 2 (omega arith)) (new_kind n m ws p slot room in_index at_least even none free key l4 s4 before) (λ q z. absurd (omega (arith, z))) in
+      let p6 = table_put (slice_set l4 (entry_offset n p 2) (key_kind key)) slot (p + 1) (omega (arith, in_index)) (new_index n m ws p slot room in_index at_least even none free key l4 s4 before) (λ q z. absurd (omega (arith, z, in_index))) in
       (p1, (p2, (p3, (p4, (p5, (p6, tt))))))
 
   early : MayPuts kind.Set t (content.Set elements) false (held o v) (count_puts (length elements.elements + 1) (p + 1) (elements.next + 1) ++ element_puts n ws p slot (hash_of k.texts key) key elements.next)
@@ -218,7 +218,7 @@ module _ (versions : EntryVersionsChangeNothing) (first : FirstEntriesAreElement
       let r = (slots_range c class_is).0 in
       let tried : ℕ → List ℕ = λ h. set_walk h (class_mask c) (class_mask c + 14) in
       let within : (h : ℕ) → All (λ s. s ≤ class_mask c) (tried h) = λ h. set_walk-within h (class_mask c) (class_mask c + 14) in
-      let table : IsSetTable k.texts (class_mask c) now.used (0 ∷ 0 ∷ (at_end v o write).table) = subst (λ (z : List ℕ). IsSetTable k.texts (class_mask c) now.used z) (after_header put (layout.entry_at (class_mask c) p 0) (entry_at n p 0) (ver + 2) (omega (arith, r))) (versions tried (set_room (class_mask c)) k.texts (class_mask c) now.used (0 ∷ 0 ∷ put) p (ver + 2) within now.table) in
+      let table : IsSetTable k.texts (class_mask c) now.used (0 ∷ 0 ∷ (at_end v o write).table) = subst (λ (z : List ℕ). IsSetTable k.texts (class_mask c) now.used z) (after_header put (layout.entry_at (class_mask c) p 0) (entry_offset n p 0) (ver + 2) (omega (arith, r))) (versions tried (set_room (class_mask c)) k.texts (class_mask c) now.used (0 ∷ 0 ∷ put) p (ver + 2) within now.table) in
       record { head = now.head; used = now.used; table = table; filled = now.filled; entries = now.entries }
 
   -- ---- in each history that agrees with what the pass knows
@@ -275,7 +275,7 @@ module _ (versions : EntryVersionsChangeNothing) (first : FirstEntriesAreElement
     after : container_after k.kinds (called ∷ calls) o ≡ record { content = content.Set news; table = record { class = (known o v).table.class; fill = p + 1 } }
     after = let c1 = set_left_at (content.List []) in let t1 = table_after in λ d. record { content = c1 d; table = t1 d }
 
-    commits : MayCommit v o t write calls
+    commits : MayCommitWrite v o t write calls
     commits =
         let content_after = set_left_at (content.List []) in
         let clear_as : ClearAs (kind_in k.kinds o) k.texts c put (known o v).content (container_after k.kinds (called ∷ calls) o).content = subst (λ (z : Kind × Content × Content). ClearAs z.0 k.texts c put z.1 z.2) (λ d. (kind_eq d, sym is_set d, sym content_after d)) clear in

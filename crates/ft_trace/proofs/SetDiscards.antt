@@ -12,7 +12,7 @@ use Rattle.ft_model.specs.declared.script.Kind.TheVariants as kind
 use Rattle.ft_model.specs.Answers.{Answer}
 use Rattle.ft_model.specs.Classes.{IsClass, set_entries}
 use Rattle.ft_model.specs.Contents.{SetContent, set_discard}
-use Rattle.ft_model.specs.Tables.{StoredWorld, stored_newest}
+use Rattle.ft_model.specs.TableUses.{StoredWorld, stored_newest}
 use Rattle.ft_hash.specs.Probes.{set_walk}
 use Rattle.ft_hash.proofs.Walks.{set_walk-within}
 use Rattle.ft_layout.specs.Words.{key_kind, key_payload}
@@ -24,15 +24,15 @@ use Rattle.ft_trace.specs.declared.Shape.{Shape}
 use Rattle.ft_trace.specs.declared.Snap.{Snap}
 use Rattle.ft_trace.specs.declared.View.{View}
 use Rattle.ft_trace.specs.Addresses.{class_of, slots, places, size}
-use Rattle.ft_trace.specs.Worlds.{container_after, kind_in}
-use Rattle.ft_trace.specs.Words.{root_in, Stands, entry_at, entry_of, walk_of}
+use Rattle.ft_trace.specs.ContainerStates.{container_after, kind_in}
+use Rattle.ft_trace.specs.Pictures.{root_in, Stands, entry_offset, entry_field, walk_of}
 use Rattle.ft_trace.specs.Carefuls.{Clear}
 use Rattle.ft_trace.specs.Kinds.{under, rows, version_at, ClearAs}
-use Rattle.ft_trace.specs.Openings.{Shut}
+use Rattle.ft_trace.specs.OddVersions.{Shut}
 use Rattle.ft_trace.specs.Holds.{held, known, AgreesWith}
 use Rattle.ft_trace.specs.Traces.{Possible}
 use Rattle.ft_trace.specs.Grants.{MayWrite}
-use Rattle.ft_trace.specs.Writes.{to_block, to_table, MayPut, MayPuts, Write, at_commit, at_end, after_write_of, MayCommit, MayWriteSo}
+use Rattle.ft_trace.specs.WholeWrites.{to_block, to_table, MayPut, MayPuts, WholeWrite, at_commit, at_end, after_write_of, MayCommitWrite, MayWriteSo}
 use Rattle.ft_trace.specs.EntryWrites.{entry_closed}
 use Rattle.ft_trace.specs.DeleteWrites.{delete_puts}
 use Rattle.ft_trace.specs.SetWrites.{set_discard_write, ElementsMayBeDiscarded}
@@ -52,7 +52,7 @@ use Rattle.ft_model.specs.Keys.{same_key}
 use Rattle.ft_model.specs.Answers.{answer, answer_set, puts}
 use Rattle.ft_model.specs.declared.content.Element.{Element}
 use Rattle.ft_layout.specs.Words.{FitsKey, gone_kind, key_kind}
-use Rattle.ft_trace.specs.Carefuls.{IsLive, IsDead}
+use Rattle.ft_trace.specs.Carefuls.{HasLiveKey, IsDead}
 use Rattle.ft_trace.specs.Kinds.{is_key, element_words}
 
 -- nothing is under a key that was taken out, nor under one with its words
@@ -62,7 +62,7 @@ none_under elements key other fits each same =
     ∙ ap (λ (z : Option Element). option_map_or element_words z []) (none_left (λ element. is_key element.key key) (λ element. same_key element.key key) (λ element. FitsKey element.key) (λ element f. same_keys element.key key f fits) elements.elements each)
 
 module _ (versions : EntryVersionsChangeNothing) (first : FirstEntriesAreElements) (v : View) (o t p : ℕ) (key : Key) (elements : SetContent) (may : MayWrite v o) (is_set : (known o v).content ≡ content.Set elements) (names : root_in (held o v) ≡ suc t)
-    (low : p < set_entries (class_of t)) (live : IsLive (slots (class_of t)) (held o v).table p key) (fits : FitsKey key)
+    (low : p < set_entries (class_of t)) (live : HasLiveKey (slots (class_of t)) (held o v).table p key) (fits : FitsKey key)
     (now : IsSetWords v.shape.texts (at_commit v o (set_discard_write v o t p key elements)).block (0 ∷ 0 ∷ (at_commit v o (set_discard_write v o t p key elements)).table) (Some (class_of t)) (known o v).table.fill (set_discard elements key)) where
   abbrev k : Shape
   k = v.shape
@@ -91,7 +91,7 @@ module _ (versions : EntryVersionsChangeNothing) (first : FirstEntriesAreElement
   abbrev called : Call
   called = call.Set o (set.Discard key)
 
-  abbrev write : Write
+  abbrev write : WholeWrite
   write = set_discard_write v o t p key elements
 
   abbrev block : List ℕ
@@ -101,7 +101,7 @@ module _ (versions : EntryVersionsChangeNothing) (first : FirstEntriesAreElement
   put = (at_commit v o write).table
 
   abbrev ver : ℕ
-  ver = entry_of n ws p 0
+  ver = entry_field n ws p 0
 
   class_is : IsClass c
   class_is = (in_bank v o t may.low may.possible may.mine names).0
@@ -118,7 +118,7 @@ module _ (versions : EntryVersionsChangeNothing) (first : FirstEntriesAreElement
   says : IsSetWords k.texts b0 (0 ∷ 0 ∷ ws) (Some c) fill elements
   says = set_says v o t elements may is_set names
 
-  shut : Shut (λ q. entry_at n q 0) m ws
+  shut : Shut (λ q. entry_offset n q 0) m ws
   shut = set_shut v o t elements may is_set names
 
   even : ver % 2 ≡ 0
@@ -127,7 +127,7 @@ module _ (versions : EntryVersionsChangeNothing) (first : FirstEntriesAreElement
   names_now : slice_index block 0 ≡ suc t
   names_now = get_or-set_other b0 1 0 (length elements.elements - 1) 0 (λ e. absurd (omega (arith, e))) ∙ names
 
-  inside : (w : ℕ) → w < 8 → entry_at n p w < size c
+  inside : (w : ℕ) → w < 8 → entry_offset n p w < size c
   unfolding places
   inside w few = omega (arith, few, low)
 
@@ -136,8 +136,8 @@ module _ (versions : EntryVersionsChangeNothing) (first : FirstEntriesAreElement
       let before = under (content.Set elements) in
       let e = even in
       let q1 : MayPut kind.Set t (content.Set elements) false (held o v) (to_block 1 (length elements.elements - 1)) = (omega arith, omega arith) in
-      let q2 : MayPut kind.Set t (content.Set elements) false (record { block = block; table = ws }) (to_table (entry_at n p 0) (ver + 1)) = (names_now, inside 0 (omega arith), dead_open n m ws p key low long even live before, record { before = λ q less at one. refl; later = λ q less at two. absurd (omega (arith, two, e)) }) in
-      let q3 : MayPut kind.Set t (content.Set elements) false (record { block = block; table = slice_set ws (entry_at n p 0) (ver + 1) }) (to_table (entry_at n p 2) (gone_kind key)) = (names_now, inside 2 (omega arith), dead_kind n m ws p key low long even live before, record { before = λ q less at one. refl; later = λ q less at two. absurd (omega (arith, at)) }) in
+      let q2 : MayPut kind.Set t (content.Set elements) false (record { block = block; table = ws }) (to_table (entry_offset n p 0) (ver + 1)) = (names_now, inside 0 (omega arith), dead_open n m ws p key low long even live before, record { before = λ q less at one. refl; later = λ q less at two. absurd (omega (arith, two, e)) }) in
+      let q3 : MayPut kind.Set t (content.Set elements) false (record { block = block; table = slice_set ws (entry_offset n p 0) (ver + 1) }) (to_table (entry_offset n p 2) (gone_kind key)) = (names_now, inside 2 (omega arith), dead_kind n m ws p key low long even live before, record { before = λ q less at one. refl; later = λ q less at two. absurd (omega (arith, at)) }) in
       (q1, (q2, (q3, tt)))
 
   clear : Clear (walk_of kind.Set k.texts c) n m put (under (content.Set elements)) (under (content.Set news))
@@ -158,7 +158,7 @@ module _ (versions : EntryVersionsChangeNothing) (first : FirstEntriesAreElement
       let r = (slots_range c class_is).0 in
       let tried : ℕ → List ℕ = λ h. set_walk h (class_mask c) (class_mask c + 14) in
       let within : (h : ℕ) → All (λ s. s ≤ class_mask c) (tried h) = λ h. set_walk-within h (class_mask c) (class_mask c + 14) in
-      let table : IsSetTable k.texts (class_mask c) now.used (0 ∷ 0 ∷ (at_end v o write).table) = subst (λ (z : List ℕ). IsSetTable k.texts (class_mask c) now.used z) (after_header put (layout.entry_at (class_mask c) p 0) (entry_at n p 0) (ver + 2) (omega (arith, r))) (versions tried (set_room (class_mask c)) k.texts (class_mask c) now.used (0 ∷ 0 ∷ put) p (ver + 2) within now.table) in
+      let table : IsSetTable k.texts (class_mask c) now.used (0 ∷ 0 ∷ (at_end v o write).table) = subst (λ (z : List ℕ). IsSetTable k.texts (class_mask c) now.used z) (after_header put (layout.entry_at (class_mask c) p 0) (entry_offset n p 0) (ver + 2) (omega (arith, r))) (versions tried (set_room (class_mask c)) k.texts (class_mask c) now.used (0 ∷ 0 ∷ put) p (ver + 2) within now.table) in
       record { head = now.head; used = now.used; table = table; filled = now.filled; entries = now.entries }
 
   -- ---- in each history that agrees with what the pass knows
@@ -177,7 +177,7 @@ module _ (versions : EntryVersionsChangeNothing) (first : FirstEntriesAreElement
     after : container_after k.kinds (called ∷ calls) o ≡ record { content = content.Set news; table = (known o v).table }
     after = let c1 = content_after in let t1 = set_table_is v o elements may.low may.mine is_set calls agree in λ d. record { content = c1 d; table = t1 d }
 
-    commits : MayCommit v o t write calls
+    commits : MayCommitWrite v o t write calls
     commits =
         let after_is = content_after in
         let clear_as : ClearAs (kind_in k.kinds o) k.texts c put (known o v).content (container_after k.kinds (called ∷ calls) o).content = subst (λ (z : Kind × Content × Content). ClearAs z.0 k.texts c put z.1 z.2) (λ d. (kind_eq d, sym is_set d, sym after_is d)) clear in

@@ -19,7 +19,7 @@ use Rattle.ft_model.specs.Answers.{Answer, answer, answer_set, puts, after_write
 use Rattle.ft_model.specs.Classes.{IsClass, set_entries, most_elements}
 use Rattle.ft_model.specs.Contents.{SetContent, has_element, set_add, empty_set}
 use Rattle.ft_model.specs.Worlds.{kind_of, no_hands, set_of, set_at}
-use Rattle.ft_model.specs.Tables.{TableUse, StoredWorld, no_table, stored_newest, takes_in, table_at, set_takes, grown_table, taken, after_stored, passes_cap}
+use Rattle.ft_model.specs.TableUses.{TableUse, StoredWorld, no_table, stored_newest, takes_in, table_at, set_takes, grown_table, taken, after_stored, passes_cap}
 use Rattle.ft_hash.specs.Probes.{set_walk}
 use Rattle.ft_hash.proofs.Walks.{set_walk-within}
 use Rattle.ft_layout.specs.Tables.{set_room, IsSetTable}
@@ -32,14 +32,14 @@ use Rattle.ft_trace.specs.declared.Snap.{Snap}
 use Rattle.ft_trace.specs.declared.View.{View}
 use Rattle.ft_trace.specs.Addresses.{class_of, slots, places, size}
 use Rattle.ft_trace.specs.Acts.{mem}
-use Rattle.ft_trace.specs.Worlds.{container_after, kind_in}
-use Rattle.ft_trace.specs.Words.{Stands, entry_at, entry_of, walk_of}
-use Rattle.ft_trace.specs.Carefuls.{IsLive, Sound, Careful, Clear}
+use Rattle.ft_trace.specs.ContainerStates.{container_after, kind_in}
+use Rattle.ft_trace.specs.Pictures.{Stands, entry_offset, entry_field, walk_of}
+use Rattle.ft_trace.specs.Carefuls.{HasLiveKey, Sound, Careful, Clear}
 use Rattle.ft_trace.specs.Kinds.{is_key, element_words, under, rows, version_at, SoundAs, ClearAs}
-use Rattle.ft_trace.specs.Openings.{Shut}
+use Rattle.ft_trace.specs.OddVersions.{Shut}
 use Rattle.ft_trace.specs.Holds.{held, known, in_hand, AgreesWith}
 use Rattle.ft_trace.specs.Traces.{Possible}
-use Rattle.ft_trace.specs.Writes.{to_block, to_table, MayPut, MayPuts, Write, with_root, at_commit, at_end, after_write_of, MayBegin, MayReplace, MayCommit, MayWriteSo}
+use Rattle.ft_trace.specs.WholeWrites.{to_block, to_table, MayPut, MayPuts, WholeWrite, with_root_put, at_commit, at_end, after_write_of, MayBegin, MayReplace, MayCommitWrite, MayWriteSo}
 use Rattle.ft_trace.specs.KeyWrites.{count_puts}
 use Rattle.ft_trace.specs.SetGrowWrites.{set_grow_write, HasSetGrown, SetsMayGrow}
 use Rattle.ft_trace.proofs.Pieces.{table_long}
@@ -47,7 +47,7 @@ use Rattle.ft_trace.proofs.Known.{kind_known, declared_at, after_header}
 use Rattle.ft_trace.proofs.EntryPuts.{entry_close}
 use Rattle.ft_trace.proofs.Tellings.{key_words, live_tells, one_tells}
 use Rattle.ft_trace.proofs.DictWrites.{EntryVersionsChangeNothing}
-use Rattle.ft_trace.proofs.Growing.{find_more, find_still}
+use Rattle.ft_trace.proofs.GrownDicts.{find_more, find_still}
 use Rattle.ft_trace.proofs.SetKnown.{FirstEntriesAreElements, room_is, set_right, set_reached, set_named, set_short, set_there, set_in, set_in_tables, set_table_is, set_found}
 use Rattle.ft_trace.proofs.Naming.{one_locked}
 use Rattle.ft_trace.proofs.Writing.{write_possible}
@@ -108,7 +108,7 @@ module _ (versions : EntryVersionsChangeNothing) (first : FirstEntriesAreElement
   abbrev called : Call
   called = call.Set o (set.Add key)
 
-  abbrev write : Write
+  abbrev write : WholeWrite
   write = set_grow_write v o t p key elements
 
   abbrev block : List ℕ
@@ -128,16 +128,16 @@ module _ (versions : EntryVersionsChangeNothing) (first : FirstEntriesAreElement
   kind_eq = sym (sym (kind_known v o begin.mine begin.possible) ∙ ap kind_of is_set)
 
   -- another entry that is live is of another key
-  others_stay : (q : ℕ) (a : Key) → q < m → entry_of n zs q 0 % 2 ≡ 0 → IsLive n zs q a → under (content.Set news) a ≡ under (content.Set elements) a
+  others_stay : (q : ℕ) (a : Key) → q < m → entry_field n zs q 0 % 2 ≡ 0 → HasLiveKey n zs q a → under (content.Set news) a ≡ under (content.Set elements) a
   others_stay q a less two l =
-      let ne : q ≢ p = λ (e : q ≡ p). let one = has.open_entry in let v1 : entry_of n zs q 0 ≡ 1 = ap (λ (z : ℕ). entry_of n zs z 0) e ∙ one in absurd (omega (arith, v1, two)) in
+      let ne : q ≢ p = λ (e : q ≡ p). let one = has.open_entry in let v1 : entry_field n zs q 0 ≡ 1 = ap (λ (z : ℕ). entry_field n zs z 0) e ∙ one in absurd (omega (arith, v1, two)) in
       let fits : set_room (class_mask c) ≡ m = room_is first k.texts block c fill class_is news zs has.words in
       let tried : ℕ → List ℕ = λ h. set_walk h (class_mask c) (class_mask c + 14) in
       let low = has.low in
       elim (is_key key a) as (λ z. is_key key a ≡ z → under (content.Set news) a ≡ under (content.Set elements) a) [
         | true ↦ λ yes_it_is.
             let w = key_words key a yes_it_is in
-            let mine : IsLive n zs p a = (has.live.0 ∙ w.0, has.live.1 ∙ w.1) in
+            let mine : HasLiveKey n zs p a = (has.live.0 ∙ w.0, has.live.1 ∙ w.1) in
             let one = live_tells tried (set_room (class_mask c)) k.texts c class_is has.words.used zs has.words.table p a (omega (arith, fits, low)) mine in
             let other = live_tells tried (set_room (class_mask c)) k.texts c class_is has.words.used zs has.words.table q a (omega (arith, fits, less)) l in
             dite (dec_lt p q)
@@ -159,8 +159,8 @@ module _ (versions : EntryVersionsChangeNothing) (first : FirstEntriesAreElement
     adds = λ a fits none some. set_reached first k.texts block c fill class_is news zs has.words a fits some;
   }
 
-  young : (q : ℕ) → q < m → entry_of n zs q 0 ≤ 1
-  young q less = dite (ℕ_discrete q p) (λ (e : q ≡ p). let one = ap (λ (z : ℕ). entry_of n zs z 0) e ∙ has.open_entry in omega (arith, one)) (λ ne. let z = has.others q less ne in omega (arith, z))
+  young : (q : ℕ) → q < m → entry_field n zs q 0 ≤ 1
+  young q less = dite (ℕ_discrete q p) (λ (e : q ≡ p). let one = ap (λ (z : ℕ). entry_field n zs z 0) e ∙ has.open_entry in omega (arith, one)) (λ ne. let z = has.others q less ne in omega (arith, z))
 
   names_now : slice_index block 0 ≡ suc t
   names_now =
@@ -179,24 +179,24 @@ module _ (versions : EntryVersionsChangeNothing) (first : FirstEntriesAreElement
           let d = length-set (held o v).block 0 (suc t) in
           omega (arith, s, a, b, c, d)
 
-  early : (any : Kind) (d : Content) → MayPuts any t d false (with_root v o (Some (suc t))) (count_puts fill fill (elements.next + 1))
+  early : (any : Kind) (d : Content) → MayPuts any t d false (with_root_put v o (Some (suc t))) (count_puts fill fill (elements.next + 1))
   early any d =
       let b0 : List ℕ = slice_set (held o v).block 0 (suc t) in
       let b1 : List ℕ = slice_set b0 1 fill in
       let b2 : List ℕ = slice_set b1 2 fill in
-      let q1 : MayPut any t d false (with_root v o (Some (suc t))) (to_block 1 fill) = (omega arith, omega arith) in
+      let q1 : MayPut any t d false (with_root_put v o (Some (suc t))) (to_block 1 fill) = (omega arith, omega arith) in
       let q2 : MayPut any t d false (record { block = b1; table = zs }) (to_block 2 fill) = (omega arith, omega arith) in
       let q3 : MayPut any t d false (record { block = b2; table = zs }) (to_block 3 (elements.next + 1)) = (omega arith, omega arith) in
       (q1, (q2, (q3, tt)))
 
-  in_table : entry_at n p 0 < size c
+  in_table : entry_offset n p 0 < size c
   unfolding places
   in_table = let low = has.low in omega (arith, low)
 
-  late : MayPuts kind.Set t (content.Set news) true (at_commit v o write) (to_table (entry_at n p 0) 2 ∷ [])
+  late : MayPuts kind.Set t (content.Set news) true (at_commit v o write) (to_table (entry_offset n p 0) 2 ∷ [])
   late =
       let one = has.open_entry in
-      let care : Careful n m zs (under (content.Set news)) (entry_at n p 0) 2 =
+      let care : Careful n m zs (under (content.Set news)) (entry_offset n p 0) 2 =
       entry_close n m zs (under (content.Set news)) p 2 (omega (arith, one)) refl
       (λ a l. set_right first k.texts block c fill class_is news zs has.words p a has.low l)
       (λ a dead. let g = gone_is a in let b = (kind_range a).0 in let h = (kind_range key).1 in let x = has.live.0 in let e = dead.0 in absurd (omega (arith, g, b, h, x, e))) in
@@ -209,16 +209,16 @@ module _ (versions : EntryVersionsChangeNothing) (first : FirstEntriesAreElement
       let now = has.words in
       let tried : ℕ → List ℕ = λ h. set_walk h (class_mask c) (class_mask c + 14) in
       let within : (h : ℕ) → All (λ s. s ≤ class_mask c) (tried h) = λ h. set_walk-within h (class_mask c) (class_mask c + 14) in
-      let table : IsSetTable k.texts (class_mask c) now.used (0 ∷ 0 ∷ (at_end v o write).table) = subst (λ (z : List ℕ). IsSetTable k.texts (class_mask c) now.used z) (after_header zs (layout.entry_at (class_mask c) p 0) (entry_at n p 0) 2 (omega (arith, r))) (versions tried (set_room (class_mask c)) k.texts (class_mask c) now.used (0 ∷ 0 ∷ zs) p 2 within now.table) in
+      let table : IsSetTable k.texts (class_mask c) now.used (0 ∷ 0 ∷ (at_end v o write).table) = subst (λ (z : List ℕ). IsSetTable k.texts (class_mask c) now.used z) (after_header zs (layout.entry_at (class_mask c) p 0) (entry_offset n p 0) 2 (omega (arith, r))) (versions tried (set_room (class_mask c)) k.texts (class_mask c) now.used (0 ∷ 0 ∷ zs) p 2 within now.table) in
       record { head = now.head; used = now.used; table = table; filled = now.filled; entries = now.entries }
 
-  shut : Shut (λ q. entry_at n q 0) m (at_end v o write).table
+  shut : Shut (λ q. entry_offset n q 0) m (at_end v o write).table
   shut q less =
       let low = has.low in
       let l = long in
       dite (ℕ_discrete q p)
-      (λ (e : q ≡ p). let x : entry_of n (at_end v o write).table q 0 ≡ 2 = ap (λ (z : ℕ). entry_of n (at_end v o write).table z 0) e ∙ get_or-set_same zs (entry_at n p 0) 2 0 (omega (arith, low, l)) in omega (arith, x))
-      (λ ne. let x : entry_of n (at_end v o write).table q 0 ≡ 0 = get_or-set_other zs (entry_at n p 0) (entry_at n q 0) 2 0 (λ e. ne (omega (arith, e))) ∙ has.others q less ne in omega (arith, x))
+      (λ (e : q ≡ p). let x : entry_field n (at_end v o write).table q 0 ≡ 2 = ap (λ (z : ℕ). entry_field n (at_end v o write).table z 0) e ∙ get_or-set_same zs (entry_offset n p 0) 2 0 (omega (arith, low, l)) in omega (arith, x))
+      (λ ne. let x : entry_field n (at_end v o write).table q 0 ≡ 0 = get_or-set_other zs (entry_offset n p 0) (entry_offset n q 0) 2 0 (λ e. ne (omega (arith, e))) ∙ has.others q less ne in omega (arith, x))
 
   -- ---- in each history that agrees with what the pass knows
 
@@ -260,7 +260,7 @@ module _ (versions : EntryVersionsChangeNothing) (first : FirstEntriesAreElement
     after : container_after k.kinds (called ∷ calls) o ≡ record { content = content.Set news; table = record { class = Some c; fill = fill } }
     after = let c1 = set_left_at (content.List []) in let t1 = table_after in λ d. record { content = c1 d; table = t1 d }
 
-    commits : MayCommit v o t write calls
+    commits : MayCommitWrite v o t write calls
     commits =
         let content_after = set_left_at (content.List []) in
         let clear_as : ClearAs (kind_in k.kinds o) k.texts c zs (known o v).content (container_after k.kinds (called ∷ calls) o).content = subst (λ (z : Kind × Content × Content). ClearAs z.0 k.texts c zs z.1 z.2) (λ d. (kind_eq d, sym is_set d, sym content_after d)) clear in
@@ -271,7 +271,7 @@ module _ (versions : EntryVersionsChangeNothing) (first : FirstEntriesAreElement
           declared = record { one = declared_at found.world o (content.Set elements) (set_in v o elements begin.low begin.mine is_set calls agree) (set_there v o elements begin.low begin.mine is_set calls agree); both = tt; room = tt };
           takes = λ class e. let owed = has.owed in let same : c ≡ class = omega (arith, e, owed) in takes_one ∙ ap (λ (z : ℕ). Some z) same;
           clear = λ q root. let same : t ≡ q = let r : suc t ≡ suc q = sym names_now ∙ root in omega (arith, r) in subst (λ (z : ℕ). ClearAs (kind_in k.kinds o) k.texts (class_of z) zs (known o v).content (container_after k.kinds (called ∷ calls) o).content) same clear_as;
-          late = subst (λ (z : Kind × Content). MayPuts z.0 t z.1 true (at_commit v o write) (to_table (entry_at n p 0) 2 ∷ [])) (λ d. (kind_eq d, sym content_after d)) late;
+          late = subst (λ (z : Kind × Content). MayPuts z.0 t z.1 true (at_commit v o write) (to_table (entry_offset n p 0) 2 ∷ [])) (λ d. (kind_eq d, sym content_after d)) late;
           stands = subst (Stands k.texts (at_end v o write)) (sym after) ends_as;
         }
 

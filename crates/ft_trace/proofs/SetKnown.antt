@@ -11,7 +11,7 @@ use Rattle.ft_model.specs.declared.script.Kind.TheVariants as kind
 use Rattle.ft_model.specs.Classes.{IsClass, set_entries, most_elements}
 use Rattle.ft_model.specs.Contents.{SetContent, empty_set}
 use Rattle.ft_model.specs.Worlds.{kind_of, set_of, set_at}
-use Rattle.ft_model.specs.Tables.{StoredWorld, stored_newest, table_at}
+use Rattle.ft_model.specs.TableUses.{StoredWorld, stored_newest, table_at}
 use Rattle.ft_model.proofs.KnownKeys.{length-filter-le}
 use Rattle.ft_hash.specs.Probes.{set_walk}
 use Rattle.ft_hash.proofs.Walks.{set_walk-within}
@@ -23,11 +23,11 @@ use Rattle.ft_layout.proofs.Powers.{slots_range}
 use Rattle.ft_trace.specs.declared.View.{View}
 use Rattle.ft_trace.specs.Addresses.{containers_in, class_of, slots, places}
 use Rattle.ft_trace.specs.Acts.{has_lock}
-use Rattle.ft_trace.specs.Worlds.{ContainerState, kind_in}
-use Rattle.ft_trace.specs.Words.{root_in, index_of, entry_at, entry_of, walk_of}
-use Rattle.ft_trace.specs.Carefuls.{said_of, IsLive, Reached, Clear}
+use Rattle.ft_trace.specs.ContainerStates.{ContainerState, kind_in}
+use Rattle.ft_trace.specs.Pictures.{root_in, index_field, entry_offset, entry_field, walk_of}
+use Rattle.ft_trace.specs.Carefuls.{said_of, HasLiveKey, Reached, Clear}
 use Rattle.ft_trace.specs.Kinds.{under, rows, version_at}
-use Rattle.ft_trace.specs.Openings.{Shut}
+use Rattle.ft_trace.specs.OddVersions.{Shut}
 use Rattle.ft_trace.specs.Holds.{held, known, AgreesWith}
 use Rattle.ft_trace.specs.Grants.{MayWrite}
 use Rattle.ft_trace.proofs.Held.{held_stands}
@@ -48,10 +48,10 @@ module _ (first : FirstEntriesAreElements) (texts block : List ℕ) (c fill : �
   pub room_is : set_room (class_mask c) ≡ set_entries c
   room_is = (sizes_of_class c is_class).1
 
-  pub set_right : (p : ℕ) (key : Key) → p < set_entries c → IsLive (slots c) ws p key → under (content.Set elements) key ≡ said_of (slots c) ws p
+  pub set_right : (p : ℕ) (key : Key) → p < set_entries c → HasLiveKey (slots c) ws p key → under (content.Set elements) key ≡ said_of (slots c) ws p
   set_right p key low live = live_is_right tried (set_room (class_mask c)) texts c is_class says.used ws says.table used_element elements.elements (λ test. first says.used elements test says.entries) p key (let r = room_is in omega (arith, r, low)) live
 
-  pub set_live : (key : Key) → under (content.Set elements) key ≢ [] → (p : ℕ) × (p < set_entries c) × IsLive (slots c) ws p key
+  pub set_live : (key : Key) → under (content.Set elements) key ≢ [] → (p : ℕ) × (p < set_entries c) × HasLiveKey (slots c) ws p key
   set_live key some =
       let r = right_is_live tried (set_room (class_mask c)) texts c is_class says.used ws says.table used_element elements.elements (λ test. first says.used elements test says.entries) key some in
       let f = says.table.fill in
@@ -66,7 +66,7 @@ module _ (first : FirstEntriesAreElements) (texts block : List ℕ) (c fill : �
   unfolding walk_of
   set_reached key fits some = key_reached tried (set_room (class_mask c)) texts c is_class says.used ws says.table within_mask used_element elements.elements (λ test. first says.used elements test says.entries) (set_entries c) (let r = room_is in omega (arith, r)) key fits some
 
-  pub set_named : (s p : ℕ) → s < slots c → index_of ws s ≡ suc p → entry_of (slots c) ws p 2 ≢ 0
+  pub set_named : (s p : ℕ) → s < slots c → index_field ws s ≡ suc p → entry_field (slots c) ws p 2 ≢ 0
   set_named s p less names = key_named tried (set_room (class_mask c)) texts c is_class says.used ws says.table within_mask s p less names
 
   -- no more elements than entries, and so than the largest table has
@@ -82,14 +82,14 @@ module _ (first : FirstEntriesAreElements) (texts block : List ℕ) (c fill : �
 -- words that stand for what a call leaves, where entries with even versions are as they were while they stood for what
 -- it found
 pub set_clear : (first : FirstEntriesAreElements) (texts block before : List ℕ) (c fill more : ℕ) (is_class : IsClass c) (elements news : SetContent) (ws zs : List ℕ) (says : IsSetWords texts before (0 ∷ 0 ∷ ws) (Some c) fill elements) (now : IsSetWords texts block (0 ∷ 0 ∷ zs) (Some c) more news)
-    → ((q w : ℕ) → q < set_entries c → entry_of (slots c) zs q 0 % 2 ≡ 0 → w < 8 → entry_of (slots c) zs q w ≡ entry_of (slots c) ws q w) → Clear (walk_of kind.Set texts c) (slots c) (set_entries c) zs (under (content.Set elements)) (under (content.Set news))
+    → ((q w : ℕ) → q < set_entries c → entry_field (slots c) zs q 0 % 2 ≡ 0 → w < 8 → entry_field (slots c) zs q w ≡ entry_field (slots c) ws q w) → Clear (walk_of kind.Set texts c) (slots c) (set_entries c) zs (under (content.Set elements)) (under (content.Set news))
 set_clear first texts block before c fill more is_class elements news ws zs says now same = record {
   keeps = λ q key less two l.
-      let w : (i : ℕ) → i < 8 → entry_of (slots c) zs q i ≡ entry_of (slots c) ws q i = λ i few. same q i less two few in
+      let w : (i : ℕ) → i < 8 → entry_field (slots c) zs q i ≡ entry_field (slots c) ws q i = λ i few. same q i less two few in
       let w4 = w 4 (omega arith) in
       let w5 = w 5 (omega arith) in
       let w6 = w 6 (omega arith) in
-      let old : IsLive (slots c) ws q key = (sym (w 2 (omega arith)) ∙ l.0, sym (w 3 (omega arith)) ∙ l.1) in
+      let old : HasLiveKey (slots c) ws q key = (sym (w 2 (omega arith)) ∙ l.0, sym (w 3 (omega arith)) ∙ l.1) in
       let said : said_of (slots c) zs q ≡ said_of (slots c) ws q = λ d. w4 d ∷ w5 d ∷ w6 d ∷ [] in
       set_right first texts block c more is_class news zs now q key less l ∙ (said ∙ sym (set_right first texts before c fill is_class elements ws says q key less old));
   adds = λ key fits none some. set_reached first texts block c more is_class news zs now key fits some;
@@ -113,7 +113,7 @@ module _ (v : View) (o t : ℕ) (elements : SetContent) (may : MayWrite v o) (is
       let as_set : IsSetWords v.shape.texts block words (known o v).table.class fill elements = subst (λ (z : Content). StandsAs v.shape.texts block words (known o v).table z) is_set s in
       subst (λ (z : Option ℕ). IsSetWords v.shape.texts block words z fill elements) set_class_is as_set
 
-  pub set_shut : Shut (λ q. entry_at (slots (class_of t)) q 0) (set_entries (class_of t)) (held o v).table
+  pub set_shut : Shut (λ q. entry_offset (slots (class_of t)) q 0) (set_entries (class_of t)) (held o v).table
   set_shut = subst (λ (z : Kind). Shut (version_at z (class_of t)) (rows z (class_of t)) (held o v).table) (sym set_kind) (held_shut v o t may.low may.possible may.mine may.quiet names)
 
 -- in each history that agrees with what it knows

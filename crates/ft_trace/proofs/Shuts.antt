@@ -7,12 +7,12 @@ use Rattle.ft_trace.specs.declared.Shape.{Shape}
 use Rattle.ft_trace.specs.declared.Act.{Act}
 use Rattle.ft_trace.specs.declared.Act.TheVariants.{TakeTable, GiveTable, PutRoot, Retire}
 use Rattle.ft_trace.specs.Bits.{bit}
-use Rattle.ft_trace.specs.Addresses.{class_of, slots, IsTable, free_bit_of}
+use Rattle.ft_trace.specs.Addresses.{class_of, slots, IsTableName, free_bit_of}
 use Rattle.ft_trace.specs.Acts.{stage}
-use Rattle.ft_trace.specs.Worlds.{kind_in}
-use Rattle.ft_trace.specs.Words.{entry_at}
+use Rattle.ft_trace.specs.ContainerStates.{kind_in}
+use Rattle.ft_trace.specs.Pictures.{entry_offset}
 use Rattle.ft_trace.specs.Ages.{aged, age, whose, keeper}
-use Rattle.ft_trace.specs.Laws.{OddVersionsAreInWrites}
+use Rattle.ft_trace.specs.TraceLaws.{OddVersionsAreInWrites}
 use Rattle.ft_trace.specs.Traces.{Event, did, forked, joined, sent, opened, IsAllShut, Valid}
 use Rattle.ft_trace.proofs.Addresses.{cell_first}
 use Rattle.ft_trace.proofs.ByKind.{keyed_low}
@@ -21,7 +21,7 @@ use Rattle.ft_trace.proofs.Contents.{tab}
 use Rattle.ft_trace.proofs.Evens.{left_alone, evens}
 use Rattle.ft_trace.proofs.Hands.{handed}
 use Rattle.ft_trace.proofs.Pieces.{table_at}
-use Rattle.ft_trace.proofs.Places.{on_table, placed}
+use Rattle.ft_trace.proofs.TablePlaces.{on_table, placed}
 use Rattle.ft_trace.proofs.Rests.{rests}
 
 -- what is said of t, while it is neither fresh in a hand nor current
@@ -29,16 +29,16 @@ abbrev pub Shuts : Shape → List Event → ℕ → Type 0
 Shuts k es t = age es t % 5 ≢ 1 → age es t % 5 ≢ 2 → IsAllShut (class_of t) (tab k es t)
 
 -- at the start each word is 0
-first_shut : (k : Shape) (t : ℕ) → IsTable k t → IsAllShut (class_of t) (tab k [] t)
+first_shut : (k : Shape) (t : ℕ) → IsTableName k t → IsAllShut (class_of t) (tab k [] t)
 first_shut k t table = (
   kind.Dict,
   λ p low.
       let fits = keyed_low kind.Dict tt (class_of t) p 0 low (omega arith) in
-      ap (λ (n : ℕ). n % 2) (table_at k t (opened k).words (entry_at (slots (class_of t)) p 0) fits ∙ cell_first k t (entry_at (slots (class_of t)) p 0) table fits),
+      ap (λ (n : ℕ). n % 2) (table_at k t (opened k).words (entry_offset (slots (class_of t)) p 0) fits ∙ cell_first k t (entry_offset (slots (class_of t)) p 0) table fits),
 )
 
 -- the words of a table that is free, taken out of a root or retired
-pub shuts : (k : Shape) (es : List Event) → Valid k es → (t : ℕ) → IsTable k t → Shuts k es t
+pub shuts : (k : Shape) (es : List Event) → Valid k es → (t : ℕ) → IsTableName k t → Shuts k es t
 shuts k [] valid t table = λ _ _. first_shut k t table
 shuts k (did id v a ∷ es) valid t table =
     let old = shuts k es valid.0 t table in

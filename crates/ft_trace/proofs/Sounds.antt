@@ -9,18 +9,18 @@ use Rattle.ft_trace.specs.declared.Shape.{Shape}
 use Rattle.ft_trace.specs.declared.View.{View}
 use Rattle.ft_trace.specs.declared.Act.{Act}
 use Rattle.ft_trace.specs.declared.Act.TheVariants.{PutRoot, PutTable, PutFresh, Commit, ReadTable}
-use Rattle.ft_trace.specs.Addresses.{containers_in, cell, class_of, size, IsTable, at}
+use Rattle.ft_trace.specs.Addresses.{containers_in, cell, class_of, size, IsTableName, at}
 use Rattle.ft_trace.specs.Acts.{place}
 use Rattle.ft_model.specs.declared.content.Content.{Content}
-use Rattle.ft_trace.specs.Worlds.{ContainerState, container_after, kind_in, changes}
+use Rattle.ft_trace.specs.ContainerStates.{ContainerState, container_after, kind_in, changes}
 use Rattle.ft_trace.specs.Kinds.{SoundAs, LaterAs}
 use Rattle.ft_trace.specs.Ages.{age, whose}
 use Rattle.ft_trace.specs.Traces.{Event, did, forked, joined, sent, run, writes_of, history, CarefulFor, ClearFor, May, Valid}
 use Rattle.ft_trace.proofs.Cases.{same_or}
 use Rattle.ft_trace.proofs.Addresses.{at_low, block_first}
-use Rattle.ft_trace.proofs.Words.{wide, stays, moves, loaded}
+use Rattle.ft_trace.proofs.OneWord.{wide, stays, moves, loaded}
 use Rattle.ft_trace.proofs.Pieces.{table_same, table_set, table_long}
-use Rattle.ft_trace.proofs.Places.{root, on_root, root_table, placed}
+use Rattle.ft_trace.proofs.TablePlaces.{root, on_root, root_table, placed}
 use Rattle.ft_trace.proofs.Contents.{tab}
 use Rattle.ft_trace.proofs.Ages.{ages_one, ages_rise, whose_same}
 use Rattle.ft_trace.proofs.Untouched.{untouched}
@@ -43,7 +43,7 @@ pub in_trans : (k : Shape) (o t : ℕ) (ws ys zs : List ℕ) → LaterIn k o t w
 in_trans k o t ws ys zs a b = as_trans (kind_in k.kinds o) (class_of t) ws ys zs a b
 
 -- what the action is to the words of t
-module _ (k : Shape) (es : List Event) (id : ℕ) (v : View) (t : ℕ) (table : IsTable k t) (F : Act → Type 0) (put : (o i x : ℕ) → F (PutTable o t i x)) (fill : (i x : ℕ) → F (PutFresh t i x)) (other : (a : Act) → (May k (run k es) (history es) v a → tab k (did id v a ∷ es) t ≡ tab k es t) → F a) where
+module _ (k : Shape) (es : List Event) (id : ℕ) (v : View) (t : ℕ) (table : IsTableName k t) (F : Act → Type 0) (put : (o i x : ℕ) → F (PutTable o t i x)) (fill : (i x : ℕ) → F (PutFresh t i x)) (other : (a : Act) → (May k (run k es) (history es) v a → tab k (did id v a ∷ es) t ≡ tab k es t) → F a) where
   apart_from : (a : Act) → ((i : ℕ) → place a ≢ cell t i) → May k (run k es) (history es) v a → tab k (did id v a ∷ es) t ≡ tab k es t
   apart_from a apart may = table_same k t (run k (did id v a ∷ es)).words (run k es).words (λ i low. stays k es id v a may (cell t i) (table, low) (apart i))
 
@@ -53,7 +53,7 @@ module _ (k : Shape) (es : List Event) (id : ℕ) (v : View) (t : ℕ) (table : 
   on_cells (ReadTable q i f) = other (ReadTable q i f) (λ may. table_same k t (run k (did id v (ReadTable q i f) ∷ es)).words (run k es).words (λ j low. loaded k es id v (ReadTable q i f) (λ n. refl) (cell t j)))
   on_cells act = other act (apart_from act (λ j e. absurd (cc)))
 
-pub put_tab : (k : Shape) (es : List Event) (id : ℕ) (v : View) (o t i x : ℕ) → IsTable k t → i < size (class_of t) → tab k (did id v (PutTable o t i x) ∷ es) t ≡ slice_set (tab k es t) i x
+pub put_tab : (k : Shape) (es : List Event) (id : ℕ) (v : View) (o t i x : ℕ) → IsTableName k t → i < size (class_of t) → tab k (did id v (PutTable o t i x) ∷ es) t ≡ slice_set (tab k es t) i x
 put_tab k es id v o t i x table small = table_set k t (run k es).words i x small (subst (λ (n : ℕ). at k (cell t i) < n) (sym (wide k es)) (at_low k (cell t i) (table, small)))
 
 -- a fresh table is not current
@@ -63,7 +63,7 @@ not_fresh k es valid id v at t i x two may =
     let a = ((placed k es valid t may.0).hands id v at (λ z. absurd (omega (arith, z, one)))).0 in
     absurd (omega (arith, a, two, one))
 
-pub later_one : (k : Shape) (es : List Event) (e : Event) → Valid k (e ∷ es) → (t : ℕ) → IsTable k t → age es t % 5 ≡ 2 → LaterIn k (whose es t) t (tab k es t) (tab k (e ∷ es) t)
+pub later_one : (k : Shape) (es : List Event) (e : Event) → Valid k (e ∷ es) → (t : ℕ) → IsTableName k t → age es t % 5 ≡ 2 → LaterIn k (whose es t) t (tab k es t) (tab k (e ∷ es) t)
 later_one k es (did id v a) valid t table two =
     let ws = tab k es t in
     let o = whose es t in
@@ -81,7 +81,7 @@ later_one k es (sent id v given) valid t table two = in_self k (whose es t) t (t
 later_one k es (joined id v other w) valid t table two = in_self k (whose es t) t (tab k es t)
 
 -- while t is current
-pub laters : (k : Shape) (newer older : List Event) → Valid k (newer ++ older) → (t : ℕ) → IsTable k t → age older t % 5 ≡ 2 → age (newer ++ older) t ≡ age older t → LaterIn k (whose older t) t (tab k older t) (tab k (newer ++ older) t)
+pub laters : (k : Shape) (newer older : List Event) → Valid k (newer ++ older) → (t : ℕ) → IsTableName k t → age older t % 5 ≡ 2 → age (newer ++ older) t ≡ age older t → LaterIn k (whose older t) t (tab k older t) (tab k (newer ++ older) t)
 laters k [] older valid t table two same = in_self k (whose older t) t (tab k older t)
 laters k (e ∷ newer) older valid t table two same =
     let a = ages_rise newer older t in

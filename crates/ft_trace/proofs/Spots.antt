@@ -7,15 +7,15 @@ use Rattle.ft_trace.specs.declared.Shape.{Shape}
 use Rattle.ft_trace.specs.declared.View.{View}
 use Rattle.ft_trace.specs.declared.Act.{Act}
 use Rattle.ft_trace.specs.declared.Act.TheVariants.{ReadRoot, ReadTable}
-use Rattle.ft_trace.specs.Addresses.{IsTable, class_of, size, containers_in}
+use Rattle.ft_trace.specs.Addresses.{IsTableName, class_of, size, containers_in}
 use Rattle.ft_trace.specs.Acts.{place, Reports, reads}
 use Rattle.ft_trace.specs.Ages.{age, whose}
-use Rattle.ft_trace.specs.Finding.{Online, Window}
-use Rattle.ft_trace.specs.Worlds.{first_writes}
+use Rattle.ft_trace.specs.LoggedLookUps.{Online, LookUpWindow}
+use Rattle.ft_trace.specs.ContainerStates.{first_writes}
 use Rattle.ft_trace.specs.Traces.{Event, run, word, history, Valid}
-use Rattle.ft_trace.proofs.Moments.{was, still_reads, online_before, online_after, online_rest}
+use Rattle.ft_trace.proofs.EarlierMoments.{was, still_reads, online_before, online_after, online_rest}
 use Rattle.ft_trace.proofs.Pieces.{table_at}
-use Rattle.ft_trace.proofs.Places.{root, root_table, placed}
+use Rattle.ft_trace.proofs.TablePlaces.{root, root_table, placed}
 use Rattle.ft_trace.proofs.Contents.{count, counted, tab}
 use Rattle.ft_trace.proofs.Stamps.{all_writes, stays, grows}
 use Rattle.ft_trace.proofs.Ages.{within, ages_rise, whose_same}
@@ -58,7 +58,7 @@ pub record Back (k : Shape) (t j : ℕ) (start : List Act) (es : List Event) (a 
   pub tells : Reports a (word k spot.es (place a))
   pub later : LaterIn k (whose es t) t (tab k spot.es t) (tab k es t)
 
-pub go : (k : Shape) (t j : ℕ) (start walk : List Act) → IsTable k t → reads t start ≡ true → (s : Spot k t j start walk) → (xs : List Act) (a : Act) (rest : List Act) → walk ≡ xs ++ a ∷ rest → Back k t j start s.es a rest
+pub go : (k : Shape) (t j : ℕ) (start walk : List Act) → IsTableName k t → reads t start ≡ true → (s : Spot k t j start walk) → (xs : List Act) (a : Act) (rest : List Act) → walk ≡ xs ++ a ∷ rest → Back k t j start s.es a rest
 go k t j start walk table read s xs a rest is =
     let log : s.view.log ≡ xs ++ a ∷ (rest ++ start) = s.log ∙ (ap (λ (l : List Act). l ++ start) is ∙ append_assoc xs (a ∷ rest) start) in
     let w = was k s.es s.valid j s.view s.at xs a (rest ++ start) log in
@@ -88,12 +88,12 @@ go k t j start walk table read s xs a rest is =
 
 -- the second read of the root
 pub record Opened (k : Shape) (es : List Event) (o t j : ℕ) (start walk : List Act) : Type 0 where
-  pub table : IsTable k t
+  pub table : IsTableName k t
   pub spot : Spot k t j start walk
   pub whom : whose spot.es t ≡ o
   pub under : Under spot.es es
 
-pub open_window : (k : Shape) (es : List Event) → Valid k es → (j : ℕ) (u : View) → get_elem? (run k es).views j ≡ some u → (o t : ℕ) → o < containers_in k → (walk : List Act) (w : Window u.log o t walk) → Opened k es o t j w.rest walk
+pub open_window : (k : Shape) (es : List Event) → Valid k es → (j : ℕ) (u : View) → get_elem? (run k es).views j ≡ some u → (o t : ℕ) → o < containers_in k → (walk : List Act) (w : LookUpWindow u.log o t walk) → Opened k es o t j w.rest walk
 open_window k es valid j u at o t low walk win =
     let w = was k es valid j u at win.newer (ReadRoot o (suc t)) (walk ++ win.rest) win.is in
     let names : root k w.older o ≡ suc t = sym w.tells in
@@ -107,11 +107,11 @@ open_window k es valid j u at o t low walk win =
     }
 
 -- what whose current table is, names it
-pub named_by : (k : Shape) (es : List Event) → Valid k es → (o t : ℕ) → IsTable k t → age es t % 5 ≡ 2 → whose es t ≡ o → root k es o ≡ suc t
+pub named_by : (k : Shape) (es : List Event) → Valid k es → (o t : ℕ) → IsTableName k t → age es t % 5 ≡ 2 → whose es t ≡ o → root k es o ≡ suc t
 named_by k es valid o t table two whom = ap (root k es) (sym whom) ∙ ((placed k es valid t table).current two).1
 
 -- at each moment between the two reads the root of o named t
-pub root_again : (k : Shape) (es : List Event) → Valid k es → (j : ℕ) (u : View) → get_elem? (run k es).views j ≡ some u → (o t : ℕ) → o < containers_in k → (walk : List Act) → Window u.log o t walk → (xs : List Act) (a : Act) (rest : List Act) → walk ≡ xs ++ a ∷ rest
+pub root_again : (k : Shape) (es : List Event) → Valid k es → (j : ℕ) (u : View) → get_elem? (run k es).views j ≡ some u → (o t : ℕ) → o < containers_in k → (walk : List Act) → LookUpWindow u.log o t walk → (xs : List Act) (a : Act) (rest : List Act) → walk ≡ xs ++ a ∷ rest
     → (older : List Event) × Under older es × Valid k older × (Reports a (word k older (place a))) × (root k older o ≡ suc t)
 root_again k es valid j u at o t low walk win xs a rest is =
     let s = open_window k es valid j u at o t low walk win in

@@ -18,8 +18,8 @@ use Rattle.ft_layout.proofs.LiveLaws.{Differ, distinct-used}
 use Rattle.ft_layout.proofs.WordLaws.{gone_is, kind_range, same_key}
 use Rattle.ft_layout.proofs.Powers.{slots_range}
 use Rattle.ft_trace.specs.Addresses.{slots}
-use Rattle.ft_trace.specs.Words.{index_of, entry_at, entry_of, Met}
-use Rattle.ft_trace.specs.Carefuls.{said_of, IsLive, Reached}
+use Rattle.ft_trace.specs.Pictures.{index_field, entry_offset, entry_field, Met}
+use Rattle.ft_trace.specs.Carefuls.{said_of, HasLiveKey, Reached}
 use Rattle.ft_trace.specs.Kinds.{is_key}
 use Rattle.ft_trace.proofs.Known.{past_header}
 
@@ -63,9 +63,9 @@ module _ (walk : ℕ → List ℕ) (room : ℕ) (texts : List ℕ) (c : ℕ) (is
   abbrev n : ℕ
   n = slots c
 
-  pub word_is : (p w : ℕ) → entry_word (class_mask c) (0 ∷ 0 ∷ ws) p w ≡ entry_of n ws p w
+  pub word_is : (p w : ℕ) → entry_word (class_mask c) (0 ∷ 0 ∷ ws) p w ≡ entry_field n ws p w
   unfolding slots
-  word_is p w = let r = (slots_range c is_class).0 in past_header ws (layout.entry_at (class_mask c) p w) (entry_at n p w) (omega (arith, r))
+  word_is p w = let r = (slots_range c is_class).0 in past_header ws (layout.entry_at (class_mask c) p w) (entry_offset n p w) (omega (arith, r))
 
   -- what the words say of a used entry, where they are those of a key that is there
   says : (word : ℕ → ℕ) (hash : ℕ) (mine key : Key) (serial : ℕ) (stored : Option Stored) → IsEntry word (slot_with hash mine serial stored) → word 2 ≡ key_kind key → word 3 ≡ key_payload key
@@ -91,7 +91,7 @@ module _ (walk : ℕ → List ℕ) (room : ℕ) (texts : List ℕ) (c : ℕ) (is
     pub said : said_by entry ≡ said_of n ws p
     pub fits : FitsKey entry.key
 
-  pub live_tells : (p : ℕ) (key : Key) → p < room → IsLive n ws p key → Telling p key
+  pub live_tells : (p : ℕ) (key : Key) → p < room → HasLiveKey n ws p key → Telling p key
   live_tells p key low live =
       let any : UsedEntry = record { key = key; serial = 0; stored = None } in
       let kind : entry_word (class_mask c) (0 ∷ 0 ∷ ws) p 2 ≡ key_kind key = word_is p 2 ∙ live.0 in
@@ -123,7 +123,7 @@ module _ (walk : ℕ → List ℕ) (room : ℕ) (texts : List ℕ) (c : ℕ) (is
   alive_words word hash mine serial None live is = absurd (true≢false (sym live))
 
   -- a used entry that is live has its key in the words
-  pub used_tells : (p : ℕ) (entry : UsedEntry) (key : Key) → slice_get used p ≡ Some entry → is_live entry ≡ true → is_key entry.key key ≡ true → Telling p key × IsLive n ws p key
+  pub used_tells : (p : ℕ) (entry : UsedEntry) (key : Key) → slice_get used p ≡ Some entry → is_live entry ≡ true → is_key entry.key key ≡ true → Telling p key × HasLiveKey n ws p key
   used_tells p entry key at live mine =
       let low = slice_get_within used p entry at in
       let word = entry_word (class_mask c) (0 ∷ 0 ∷ ws) p in
@@ -152,7 +152,7 @@ module _ (walk : ℕ → List ℕ) (room : ℕ) (texts : List ℕ) (c : ℕ) (is
     there_is key = said_as (find (λ y. is_key (of y).key key) ys) ∙ ap (λ (o : Option UsedEntry). option_map_or said_by o []) (sym (first (λ entry. is_key entry.key key)))
 
     -- a live entry says what there is
-    pub live_is_right : (p : ℕ) (key : Key) → p < room → IsLive n ws p key → there_under key ≡ said_of n ws p
+    pub live_is_right : (p : ℕ) (key : Key) → p < room → HasLiveKey n ws p key → there_under key ≡ said_of n ws p
     live_is_right p key low live =
         let t = live_tells p key low live in
         let test : UsedEntry → Bool = λ entry. is_live entry && is_key entry.key key in
@@ -163,13 +163,13 @@ module _ (walk : ℕ → List ℕ) (room : ℕ) (texts : List ℕ) (c : ℕ) (is
         there_is key ∙ (ap (λ (o : Option UsedEntry). option_map_or said_by o []) found ∙ t.said)
 
     -- and what there is has its live entry
-    pub right_is_live : (key : Key) → there_under key ≢ [] → (p : ℕ) × (p < length used) × IsLive n ws p key
+    pub right_is_live : (key : Key) → there_under key ≢ [] → (p : ℕ) × (p < length used) × HasLiveKey n ws p key
     right_is_live key some = by (find test used) refl
       where
         test : UsedEntry → Bool
         test entry = is_live entry && is_key entry.key key
 
-        by : (o : Option UsedEntry) → find test used ≡ o → (p : ℕ) × (p < length used) × IsLive n ws p key
+        by : (o : Option UsedEntry) → find test used ≡ o → (p : ℕ) × (p < length used) × HasLiveKey n ws p key
         by None e = absurd (some (there_is key ∙ ap (λ (o : Option UsedEntry). option_map_or said_by o []) e))
         by (Some entry) e =
             let at = found_at test used entry e in
@@ -179,7 +179,7 @@ module _ (walk : ℕ → List ℕ) (room : ℕ) (texts : List ℕ) (c : ℕ) (is
 -- ---- where the walk of a key meets its entry
 
 module _ (walk : ℕ → List ℕ) (room : ℕ) (texts : List ℕ) (c : ℕ) (is_class : IsClass c) (used : List UsedEntry) (ws : List ℕ) (table : IsTable walk room texts (class_mask c) used (0 ∷ 0 ∷ ws)) (within : (hash : ℕ) → All (λ slot. slot ≤ class_mask c) (walk hash)) where
-  index_is : (slot : ℕ) → layout.index_word (0 ∷ 0 ∷ ws) slot ≡ index_of ws slot
+  index_is : (slot : ℕ) → layout.index_word (0 ∷ 0 ∷ ws) slot ≡ index_field ws slot
   index_is slot = past_header ws (slot + 2) slot refl
 
   in_slots : (hash j : ℕ) → j < length (walk hash) → slice_index (walk hash) j < slots c
@@ -202,7 +202,7 @@ module _ (walk : ℕ → List ℕ) (room : ℕ) (texts : List ℕ) (c : ℕ) (is
       }
 
   -- an index word names an entry that has a key
-  pub key_named : (s p : ℕ) → s < slots c → index_of ws s ≡ suc p → entry_of (slots c) ws p 2 ≢ 0
+  pub key_named : (s p : ℕ) → s < slots c → index_field ws s ≡ suc p → entry_field (slots c) ws p 2 ≢ 0
   unfolding slots
   key_named s p less names =
       let r = (slots_range c is_class).0 in

@@ -12,7 +12,7 @@ use Rattle.std.specs.List.{flat_map}
 use Rattle.ft_trace.specs.Acts.{noted, entries_next, left_next, maker, made, both, spent, sender, note, all_entries}
 use Rattle.ft_trace.proofs.AllEntries.{next_all, has_none, both_all}
 use Rattle.ft_trace.specs.Traces.{Moment, Event, did, forked, joined, sent, run, writes_of, history, May, Valid}
-use Rattle.ft_trace.specs.Entries.{total, entries_of}
+use Rattle.ft_trace.specs.Entries.{total, trace_entries}
 use Rattle.atomic_table.proofs.Lists.{set_else}
 
 pub total-append : {A : Type 0} (f : A → ℕ) (xs ys : List A) → total f (xs ++ ys) ≡ total f xs + total f ys
@@ -105,12 +105,12 @@ weight_by h (AnswerCursor c x n m had left) es fs = omega arith
 weight_by h act es fs = omega arith
 
 -- the views have the entries of the trace, and no others
-pub entries_total : (h : Entry → ℕ) (k : Shape) (es : List Event) → Valid k es → total (weight h) (run k es).views ≡ total h (entries_of es)
+pub entries_total : (h : Entry → ℕ) (k : Shape) (es : List Event) → Valid k es → total (weight h) (run k es).views ≡ total h (trace_entries es)
 entries_total h k [] valid = refl
 entries_total h k (did id v a ∷ es) valid =
     let t = total_set (weight h) (run k es).views id v (noted a v) valid.1.0 in
     let old = entries_total h k es valid.0 in
-    let by = weight_by h a (all_entries v) (entries_of es) in
+    let by = weight_by h a (all_entries v) (trace_entries es) in
     let next : total h (all_entries (noted a v)) ≡ total h (entries_next a (all_entries v)) = ap (total h) (sym (next_all a v.entries (flat_map (λ (l : List Entry). l) v.lists))) in
     omega (arith, t, old, by, next)
 entries_total h k (forked id v ∷ es) valid = total_forked (weight h) (run k es).views id v (maker v) (made v) valid.1.0 (omega arith) ∙ entries_total h k es valid.0

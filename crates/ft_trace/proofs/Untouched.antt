@@ -6,11 +6,11 @@ use Rattle.std.specs.Option.{unwrap_or}
 use Rattle.ft_model.specs.declared.call.Call.{Call}
 use Rattle.ft_model.specs.declared.content.Content.TheVariants as content
 use Rattle.ft_model.specs.declared.script.Kind.{Kind}
-use Rattle.ft_model.specs.Changes.{changed_by}
+use Rattle.ft_model.specs.TablesInOrder.{changed_by}
 use Rattle.ft_model.specs.Worlds.{empty_content, no_hands}
-use Rattle.ft_model.specs.Tables.{StoredWorld, no_table, stored_newest, after_stored}
+use Rattle.ft_model.specs.TableUses.{StoredWorld, no_table, stored_newest, after_stored}
 use Rattle.ft_model.proofs.Untouched.{other_contents, other_tables, as_many_contents}
-use Rattle.ft_trace.specs.Worlds.{container_after, state_at, changes}
+use Rattle.ft_trace.specs.ContainerStates.{container_after, state_at, changes}
 
 -- what is at a place, if anything is
 at_or : {A : Type 0} (l : List A) (i : ℕ) (d : A) → slice_index_or l i d ≡ unwrap_or (slice_get l i) d

@@ -4,30 +4,30 @@ use Rattle.std.specs.Prelude.{slice_index, slice_set, Option, Some, None}
 use Rattle.ft_model.specs.declared.call.Call.{Call}
 use Rattle.ft_model.specs.declared.content.Content.{Content}
 use Rattle.ft_model.specs.declared.script.Kind.{Kind}
-use Rattle.ft_model.specs.Tables.{stored_newest}
+use Rattle.ft_model.specs.TableUses.{stored_newest}
 use Rattle.ft_trace.specs.declared.Shape.{Shape}
 use Rattle.ft_trace.specs.declared.Snap.{Snap}
 use Rattle.ft_trace.specs.declared.View.{View}
 use Rattle.ft_trace.specs.declared.Act.{Act}
 use Rattle.ft_trace.specs.declared.Act.TheVariants.{StartWrite, PutRoot, PutBlock, PutTable, Commit, StopWrite, Unlock}
-use Rattle.ft_trace.specs.Addresses.{Word, containers_in, counter, version_of, lock_of, block, cell, class_of, size, IsTable, at, extent, Inside}
+use Rattle.ft_trace.specs.Addresses.{Word, containers_in, counter, version_of, lock_of, block, cell, class_of, size, IsTableName, at, extent, Inside}
 use Rattle.ft_trace.specs.Acts.{has_lock, is_writing, has_committed, has_emptied, owes, stage, mem, past, noted}
-use Rattle.ft_trace.specs.Worlds.{ContainerState, container_after, kind_in, may_empty}
-use Rattle.ft_trace.specs.Words.{table_of, block_of, root_of, inner, Picture, root_in, picture, Stands}
+use Rattle.ft_trace.specs.ContainerStates.{ContainerState, container_after, kind_in, may_empty}
+use Rattle.ft_trace.specs.Pictures.{table_of, block_of, root_of, inner, Picture, root_in, picture, Stands}
 use Rattle.ft_trace.specs.Kinds.{rows, version_at, CarefulAs, ClearAs}
-use Rattle.ft_trace.specs.Openings.{Shut, Low, Timely}
+use Rattle.ft_trace.specs.OddVersions.{Shut, Low, Timely}
 use Rattle.ft_trace.specs.Holds.{held, known, in_hand, AgreesWith}
 use Rattle.ft_trace.specs.Traces.{did, run, word, history, snap, SoundFor, ClearFor, May, Valid, Possible, Sure, IsAwake}
-use Rattle.ft_trace.specs.Writes.{Put, to_block, to_table, log_of, with_put, with_puts, MayPuts, Write, log_of_root, with_root, at_commit, with_log, log_at_commit, after_write_of, MayBegin, MayReplace, MayWriteSo, WritesMayBeMade}
+use Rattle.ft_trace.specs.WholeWrites.{Put, to_block, to_table, log_of, with_put, with_puts, MayPuts, WholeWrite, log_of_root, with_root_put, at_commit, with_log, log_at_commit, after_write_of, MayBegin, MayReplace, MayWriteSo, WritesMayBeMade}
 use Rattle.ft_trace.proofs.Sizes.{set_at}
 use Rattle.ft_trace.proofs.Cases.{hit, off}
 use Rattle.ft_trace.proofs.Addresses.{at_low, at_apart}
 use Rattle.ft_trace.proofs.Pieces.{piece_set, table_set, table_same, block_at, block_same}
-use Rattle.ft_trace.proofs.Places.{root_table}
+use Rattle.ft_trace.proofs.TablePlaces.{root_table}
 use Rattle.ft_trace.proofs.Images.{imaged}
-use Rattle.ft_trace.proofs.Rooms.{counter_room, version_room}
+use Rattle.ft_trace.proofs.NoWrap.{counter_room, version_room}
 use Rattle.ft_trace.proofs.Held.{root_known, table_known, agrees_now, put_sure, sound_sure, hand_known, stop_sure}
-use Rattle.ft_trace.proofs.Nexts.{next_possible}
+use Rattle.ft_trace.proofs.NextActions.{next_possible}
 use Rattle.ft_trace.proofs.Clearing.{held_shut}
 
 -- ---- pictures after a put
@@ -46,24 +46,24 @@ abbrev number_in : Word → ℕ
 number_in (block p j) = j
 number_in w = 0
 
-same_inner : (k : Shape) (r : ℕ) (ws : List ℕ) (w : Word) (x : ℕ) → Inside k w → ((t j : ℕ) → w ≢ cell t j) → ((t : ℕ) → r ≡ suc t → IsTable k t) → inner k r (slice_set ws (at k w) x) ≡ inner k r ws
+same_inner : (k : Shape) (r : ℕ) (ws : List ℕ) (w : Word) (x : ℕ) → Inside k w → ((t j : ℕ) → w ≢ cell t j) → ((t : ℕ) → r ≡ suc t → IsTableName k t) → inner k r (slice_set ws (at k w) x) ≡ inner k r ws
 same_inner k zero ws w x in_it ne tables = refl
 same_inner k (suc t) ws w x in_it ne tables = table_same k t (slice_set ws (at k w) x) ws (λ j small. other_word k ws w (cell t j) x in_it (tables t refl, small) (λ e. ne t j (sym e)))
 
 module _ (k : Shape) (o : ℕ) (low : o < containers_in k) where
   -- another word than the root
-  pub block_put : (ws : List ℕ) (i x : ℕ) (words : Picture) → length ws ≡ extent k → 0 < i → i < 6 → ((t : ℕ) → root_in words ≡ suc t → IsTable k t) → picture k o ws ≡ words → picture k o (slice_set ws (at k (block o i)) x) ≡ with_put words (to_block i x)
+  pub block_put : (ws : List ℕ) (i x : ℕ) (words : Picture) → length ws ≡ extent k → 0 < i → i < 6 → ((t : ℕ) → root_in words ≡ suc t → IsTableName k t) → picture k o ws ≡ words → picture k o (slice_set ws (at k (block o i)) x) ≡ with_put words (to_block i x)
   block_put ws i x words long up less tables is =
       let ys = slice_set ws (at k (block o i)) x in
       let l = at_low k (block o i) (low, less) in
       let b : block_of k o ys ≡ slice_set words.block i x = block_set k o ws i x less (omega (arith, l, long)) ∙ ap (λ (z : Picture). slice_set z.block i x) is in
       let root : root_of k o ys ≡ root_of k o ws = other_word k ws (block o i) (block o 0) x (low, less) (low, omega arith) (λ (e : block o 0 ≡ block o i). let z : ◌≡◌ {A = ℕ} 0 i = ap number_in e in omega (arith, z, up)) in
-      let named : (t : ℕ) → root_of k o ws ≡ suc t → IsTable k t = λ t e. tables t (ap root_in (sym is) ∙ (block_at k o ws 0 (omega arith) ∙ e)) in
+      let named : (t : ℕ) → root_of k o ws ≡ suc t → IsTableName k t = λ t e. tables t (ap root_in (sym is) ∙ (block_at k o ws 0 (omega arith) ∙ e)) in
       let all : inner k (root_of k o ys) ys ≡ words.table = ap (λ (r : ℕ). inner k r ys) root ∙ (same_inner k (root_of k o ws) ws (block o i) x (low, less) (λ t j e. absurd cc) named ∙ ap (λ (z : Picture). z.table) is) in
       λ d. record { block = b d; table = all d }
 
   -- a word of the table that the root names
-  pub table_put : (t : ℕ) → IsTable k t → (ws : List ℕ) (i x : ℕ) (words : Picture) → length ws ≡ extent k → i < size (class_of t) → root_in words ≡ suc t → picture k o ws ≡ words → picture k o (slice_set ws (at k (cell t i)) x) ≡ with_put words (to_table i x)
+  pub table_put : (t : ℕ) → IsTableName k t → (ws : List ℕ) (i x : ℕ) (words : Picture) → length ws ≡ extent k → i < size (class_of t) → root_in words ≡ suc t → picture k o ws ≡ words → picture k o (slice_set ws (at k (cell t i)) x) ≡ with_put words (to_table i x)
   table_put t table ws i x words long small names is =
       let ys = slice_set ws (at k (cell t i)) x in
       let l = at_low k (cell t i) (table, small) in
@@ -76,7 +76,7 @@ module _ (k : Shape) (o : ℕ) (low : o < containers_in k) where
       λ d. record { block = b d; table = all d }
 
   -- the root
-  pub root_put : (ws : List ℕ) (r : ℕ) → length ws ≡ extent k → ((t : ℕ) → r ≡ suc t → IsTable k t) → picture k o (slice_set ws (at k (block o 0)) r) ≡ record { block = slice_set (block_of k o ws) 0 r; table = inner k r ws }
+  pub root_put : (ws : List ℕ) (r : ℕ) → length ws ≡ extent k → ((t : ℕ) → r ≡ suc t → IsTableName k t) → picture k o (slice_set ws (at k (block o 0)) r) ≡ record { block = slice_set (block_of k o ws) 0 r; table = inner k r ws }
   root_put ws r long tables =
       let ys = slice_set ws (at k (block o 0)) r in
       let l = at_low k (block o 0) (low, omega arith) in
@@ -115,14 +115,14 @@ module _ (v : View) (live : IsAwake v) (o t : ℕ) (low : o < containers_in v.sh
   long log p mine = (imaged k p.0 p.2.0 p.1 (with_log v log) p.2.1).wide (inl (o, mine))
 
   -- the table that a root names is one of the bank
-  named : (log : List Act) → Possible (with_log v log) → has_lock o log ≡ true → (q : ℕ) → root_in (picture k o (mem k log)) ≡ suc q → IsTable k q
+  named : (log : List Act) → Possible (with_log v log) → has_lock o log ≡ true → (q : ℕ) → root_in (picture k o (mem k log)) ≡ suc q → IsTableName k q
   named log p mine q names = root_table k p.0 p.2.0 o low q (sym (root_known (with_log v log) o low mine p.0 p.1 p.2) ∙ names)
 
   pub puts_possible : (puts : List Put) (log : List Act) (words : Picture) (content : Content) (committed : Bool) → Possible (with_log v log) → has_lock o log ≡ true → is_writing o log ≡ true → has_committed o log ≡ committed → picture k o (mem k log) ≡ words → (container_after k.kinds (past log) o).content ≡ content → MayPuts kind t content committed words puts
       → Possible (with_log v (log_of o t puts log)) × (picture k o (mem k (log_of o t puts log)) ≡ with_puts words puts)
   puts_possible [] log words content committed p mine odd done is has may = (p, is)
   puts_possible (to_block i x ∷ puts) log words content committed p mine odd done is has may =
-      let tables : (q : ℕ) → root_in words ≡ suc q → IsTable k q = λ q e. named log p mine q (ap root_in is ∙ e) in
+      let tables : (q : ℕ) → root_in words ≡ suc q → IsTableName k q = λ q e. named log p mine q (ap root_in is ∙ e) in
       let up = may.0.0 in
       let next = next_possible (with_log v log) live p (λ _. PutBlock o i x) (block o i) (λ _. refl) (λ _. tt) (λ es id knows. (low, may.0.1, odd, λ e. absurd (omega (arith, e, up)))) in
       puts_possible puts (PutBlock o i x ∷ log) (with_put words (to_block i x)) content committed next.1 mine odd done (block_put k o low (mem k log) i x words (long log p mine) up may.0.1 tables is) has may.1
@@ -138,7 +138,7 @@ module _ (v : View) (live : IsAwake v) (o t : ℕ) (low : o < containers_in v.sh
 
 -- ---- the whole write
 
-module _ (v : View) (o t : ℕ) (write : Write) (begin : MayBegin v o) (may : MayWriteSo v o t write) where
+module _ (v : View) (o t : ℕ) (write : WholeWrite) (begin : MayBegin v o) (may : MayWriteSo v o t write) where
   abbrev n : Shape
   n = v.shape
 
@@ -170,7 +170,7 @@ module _ (v : View) (o t : ℕ) (write : Write) (begin : MayBegin v o) (may : Ma
   abbrev Rooted : Option ℕ → List Act → Type 0
   Rooted r log =
       Possible (with_log v log)
-      × (picture n o (mem n log) ≡ with_root v o r)
+      × (picture n o (mem n log) ≡ with_root_put v o r)
       × ((p : ℕ) → has_lock p log ≡ has_lock p v.log)
       × (is_writing o log ≡ true)
       × (has_committed o log ≡ false)
@@ -206,15 +206,15 @@ module _ (v : View) (o t : ℕ) (write : Write) (begin : MayBegin v o) (may : Ma
         begin.low,
         odd start,
         root_known u o begin.low begin.mine es id knows,
-        (λ q2 (e : suc q ≡ suc q2). let same : q ≡ q2 = cc in subst (λ (z : ℕ). IsTable n z × (stage z v.log ≡ 1) × SoundFor n (run n es).words o z (container_after n.kinds (history es) o).content) same (m.0, m.1, sound_sure u o begin.low q m.0 begin.mine m.1 m.2 es id knows)),
+        (λ q2 (e : suc q ≡ suc q2). let same : q ≡ q2 = cc in subst (λ (z : ℕ). IsTableName n z × (stage z v.log ≡ 1) × SoundFor n (run n es).words o z (container_after n.kinds (history es) o).content) same (m.0, m.1, sound_sure u o begin.low q m.0 begin.mine m.1 m.2 es id knows)),
         shut_old start es id knows,
         (λ _. begin.spare),
         (λ q2 (e : suc q ≡ suc q2). let same : q ≡ q2 = cc in subst (λ (z : ℕ). Low (version_at its (class_of z)) (rows its (class_of z)) (table_of n z (run n es).words) (word n es counter) (has_committed o (l1 start))) same (young q m.0 m.1 m.3 start es id knows)),
         (λ (e : suc q ≡ 0). absurd (omega (arith, e))),
       )) in
-      (next.1, root_put n o begin.low (mem n v.log) (suc q) wide (λ q2 (e : suc q ≡ suc q2). let same : q ≡ q2 = cc in subst (IsTable n) same m.0), (λ p. refl), odd start, not_yet start, refl, refl, λ e. off (sym (hit o (eqb (suc q) 0) (has_emptied o (l1 start)) ∙ ne_eqb (suc q) 0 (λ z. absurd (omega (arith, z)))) ∙ e))
+      (next.1, root_put n o begin.low (mem n v.log) (suc q) wide (λ q2 (e : suc q ≡ suc q2). let same : q ≡ q2 = cc in subst (IsTableName n) same m.0), (λ p. refl), odd start, not_yet start, refl, refl, λ e. off (sym (hit o (eqb (suc q) 0) (has_emptied o (l1 start)) ∙ ne_eqb (suc q) 0 (λ z. absurd (omega (arith, z)))) ∙ e))
     where
-      young : (q : ℕ) → IsTable n q → stage q v.log ≡ 1 → ((p : ℕ) → p < rows its (class_of q) → slice_index (in_hand q v) (version_at its (class_of q) p) ≤ 1) → (start : ℕ) → Sure (with_log v (l1 start)) (λ es. Low (version_at its (class_of q)) (rows its (class_of q)) (table_of n q (run n es).words) (word n es counter) (has_committed o (l1 start)))
+      young : (q : ℕ) → IsTableName n q → stage q v.log ≡ 1 → ((p : ℕ) → p < rows its (class_of q) → slice_index (in_hand q v) (version_at its (class_of q) p) ≤ 1) → (start : ℕ) → Sure (with_log v (l1 start)) (λ es. Low (version_at its (class_of q)) (rows its (class_of q)) (table_of n q (run n es).words) (word n es counter) (has_committed o (l1 start)))
       young q table fresh low start es id knows =
           subst (λ (l : List ℕ). Low (version_at its (class_of q)) (rows its (class_of q)) l (word n es counter) (has_committed o (l1 start))) (hand_known (with_log v (l1 start)) q table fresh es id knows)
           (record {
@@ -243,7 +243,7 @@ module _ (v : View) (o t : ℕ) (write : Write) (begin : MayBegin v o) (may : Ma
       let r = rooted write.root may.root start p in
       let mine : has_lock o l2 ≡ true = r.2 o ∙ begin.mine in
       let content : (container_after n.kinds (past l2) o).content ≡ (known o v).content = ap (λ (cs : List Call). (container_after n.kinds cs o).content) r.6 in
-      let puts = puts_possible v begin.live o t begin.low write.early l2 (with_root v o write.root) (known o v).content false r.0 mine r.3 r.4 r.1 content may.early in
+      let puts = puts_possible v begin.live o t begin.low write.early l2 (with_root_put v o write.root) (known o v).content false r.0 mine r.3 r.4 r.1 content may.early in
       let same = puts_alike o t write.early l2 in
       (puts.0, puts.1, (λ q. same.0 q ∙ r.2 q), same.1 o ∙ r.3, same.4 ∙ r.5, same.5 ∙ r.6, λ e. r.7 (sym (same.3 o) ∙ e))
 

@@ -3,7 +3,7 @@ use Rattle.std.specs.Prelude.{ℕ, zero, suc, ◌+◌, ◌-◌, ◌*◌, ◌/◌
 use Rattle.ft_model.specs.Classes.{IsClass}
 use Rattle.ft_model.specs.Classes.{dict_entries}
 use Rattle.ft_layout.specs.Sizes.{table_size}
-use Rattle.ft_layout.specs.Starts.{count_of, announced_word, free_count_word, block_start, heap_start, words_below, BankSizes, Part, Counter, WriteNumber, Announced, FreeCount, FreeTables, Block, Table}
+use Rattle.ft_layout.specs.Starts.{tables_of_class, announced_word, free_count_word, block_start, heap_start, words_below, BankSizes, Part, Counter, WriteNumber, Announced, FreeCount, FreeTables, Block, Table}
 use Rattle.ft_trace.specs.declared.Shape.{Shape}
 use Rattle.ft_trace.specs.Bits.{full}
 
@@ -27,7 +27,7 @@ containers_in k = length k.kinds
 
 -- how many tables the bank has of a class
 abbrev pub tables_in : Shape → ℕ → ℕ
-tables_in k c = count_of k.tables c
+tables_in k c = tables_of_class k.tables c
 
 -- A table is named by its root word less 1: its class, and its number in the class.
 unfoldable pub class_of : ℕ → ℕ
@@ -54,8 +54,8 @@ places c = dict_entries c
 abbrev pub size : ℕ → ℕ
 size c = slots c + 8 * places c
 
-abbrev pub IsTable : Shape → ℕ → Type 0
-IsTable k t = IsClass (class_of t) × (number_of t < tables_in k (class_of t)) × (number_of t < 1024)
+abbrev pub IsTableName : Shape → ℕ → Type 0
+IsTableName k t = IsClass (class_of t) × (number_of t < tables_in k (class_of t)) × (number_of t < 1024)
 
 -- where the tables begin, where one does, and where they end
 unfoldable pub far : Shape → ℕ
@@ -86,27 +86,27 @@ Inside k (bits w) = w < 224
 Inside k (lock_of o) = o < containers_in k
 Inside k (version_of o) = o < containers_in k
 Inside k (block o i) = (o < containers_in k) × (i < 6)
-Inside k (header t) = IsTable k t
-Inside k (cell t i) = IsTable k t × (i < size (class_of t))
+Inside k (header t) = IsTableName k t
+Inside k (cell t i) = IsTableName k t × (i < size (class_of t))
 Inside k a = Unit {0}
 
 -- the counts at the start, from class c on
 abbrev pub free_counts : List ℕ → ℕ → ℕ → List ℕ
 free_counts tables c zero = []
-free_counts tables c (suc n) = count_of tables c ∷ free_counts tables (suc c) n
+free_counts tables c (suc n) = tables_of_class tables c ∷ free_counts tables (suc c) n
 
 -- the free words at the start, from word w on
 abbrev pub least : Bool → ℕ → ℕ
 least b n = cond b n 64
 
-abbrev pub free_word : List ℕ → ℕ → ℕ
-free_word tables w =
-    full (least (nat_lt (count_of tables (3 + w / 16) - 64 * (w % 16)) 64) (count_of tables (3
+abbrev pub free_bits : List ℕ → ℕ → ℕ
+free_bits tables w =
+    full (least (nat_lt (tables_of_class tables (3 + w / 16) - 64 * (w % 16)) 64) (tables_of_class tables (3
     + w / 16) - 64 * (w % 16)))
 
 abbrev pub free_words : List ℕ → ℕ → ℕ → List ℕ
 free_words tables w zero = []
-free_words tables w (suc n) = free_word tables w ∷ free_words tables (suc w) n
+free_words tables w (suc n) = free_bits tables w ∷ free_words tables (suc w) n
 
 -- the words at the start: the write number is 1, all passes are offline, and all tables are free
 abbrev pub opening : Shape → List ℕ

@@ -4,11 +4,11 @@ use Rattle.ft_model.specs.declared.call.Call.{Call}
 use Rattle.ft_model.specs.declared.reply.Reply.{Reply}
 use Rattle.ft_model.specs.declared.reply.Reply.TheVariants as reply
 use Rattle.ft_model.specs.declared.reply.Raise.TheVariants as raise
-use Rattle.ft_model.specs.Tables.{StoredWorld, CanLackMemory, takes_in, would_pass}
+use Rattle.ft_model.specs.TableUses.{StoredWorld, CanLackMemory, takes_in, would_pass}
 use Rattle.ft_trace.specs.declared.Act.{Act}
 use Rattle.ft_trace.specs.declared.Act.TheVariants.{Commit, Answer, AnswerCursor, ReadCounter, ReadCount}
 use Rattle.ft_trace.specs.Acts.{owes}
-use Rattle.ft_trace.specs.Sections.{begun, IsInnermostHeld}
+use Rattle.ft_trace.specs.BegunSections.{begun, IsInnermostHeld}
 
 -- none of these makes an entry
 abbrev pub AreOfOneCall : List Act → Type 0

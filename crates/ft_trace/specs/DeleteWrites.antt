@@ -11,22 +11,24 @@ use Rattle.ft_layout.specs.Containers.{IsDictWords}
 use Rattle.ft_trace.specs.declared.Snap.{Snap}
 use Rattle.ft_trace.specs.declared.View.{View}
 use Rattle.ft_trace.specs.Addresses.{class_of, slots, places}
-use Rattle.ft_trace.specs.Words.{entry_at, entry_of, root_in}
-use Rattle.ft_trace.specs.Carefuls.{IsLive}
+use Rattle.ft_trace.specs.Pictures.{entry_offset, entry_field, root_in}
+use Rattle.ft_trace.specs.Carefuls.{HasLiveKey}
 use Rattle.ft_trace.specs.Holds.{held, known}
 use Rattle.ft_trace.specs.Traces.{Possible}
 use Rattle.ft_trace.specs.Grants.{MayWrite}
-use Rattle.ft_trace.specs.Writes.{Put, to_block, to_table, Write, at_commit, after_write_of}
+use Rattle.ft_trace.specs.WholeWrites.{Put, to_block, to_table, WholeWrite, at_commit, after_write_of}
 use Rattle.ft_trace.specs.EntryWrites.{entry_closed}
 
 -- before the commit the version of the entry is made odd, and its kind becomes that of a deleted key; n says how many
 -- index slots there are
 abbrev pub delete_puts : ℕ → List ℕ → ℕ → Key → List Put
 delete_puts n words place key =
-    to_table (entry_at n place 0) (entry_of n words place 0 + 1) ∷ to_table (entry_at n place 2) (gone_kind key) ∷ []
+    to_table (entry_offset n place 0) (entry_field n words place 0 + 1)
+    ∷ to_table (entry_offset n place 2) (gone_kind key)
+    ∷ []
 
 -- del d[k] for a key that is there, in the entry at this place; there is one pair fewer
-abbrev pub dict_del_write : View → ℕ → ℕ → ℕ → Key → DictContent → Write
+abbrev pub dict_del_write : View → ℕ → ℕ → ℕ → Key → DictContent → WholeWrite
 dict_del_write v o t place key pairs =
     record {
       root = None;
@@ -42,7 +44,7 @@ abbrev pub KeysMayBeDeleted : Type 0
 KeysMayBeDeleted =
     (v : View) (o t place : ℕ) (key : Key) (pairs : DictContent) → MayWrite v o
     → (known o v).content ≡ content.Dict pairs → root_in (held o v) ≡ suc t → place < places (class_of t)
-    → IsLive (slots (class_of t)) (held o v).table place key → FitsKey key → has_key pairs.pairs key ≡ true
+    → HasLiveKey (slots (class_of t)) (held o v).table place key → FitsKey key → has_key pairs.pairs key ≡ true
     → IsDictWords v.shape.texts (at_commit v o (dict_del_write v o t place key pairs)).block
     (0 ∷ 0 ∷ (at_commit v o (dict_del_write v o t place key pairs)).table) (Some (class_of t))
     (known o v).table.fill (dict_del pairs key)

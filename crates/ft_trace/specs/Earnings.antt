@@ -5,15 +5,15 @@ use Rattle.ft_model.specs.declared.reply.Reply.{Reply}
 use Rattle.ft_model.specs.declared.reply.Reply.TheVariants as reply
 use Rattle.ft_model.specs.declared.reply.Raise.TheVariants as raise
 use Rattle.ft_model.specs.Classes.{IsClass}
-use Rattle.ft_model.specs.Tables.{CanLackMemory, would_pass, takes_in, takes_newest, stored_newest}
+use Rattle.ft_model.specs.TableUses.{CanLackMemory, would_pass, takes_in, takes_newest, stored_newest}
 use Rattle.ft_trace.specs.declared.Entry.{Entry}
 use Rattle.ft_trace.specs.declared.Shape.{Shape}
 use Rattle.ft_trace.specs.declared.View.{View}
 use Rattle.ft_trace.specs.Addresses.{tables_in}
 use Rattle.ft_trace.specs.Acts.{all_entries}
-use Rattle.ft_trace.specs.Worlds.{first_writes}
+use Rattle.ft_trace.specs.ContainerStates.{first_writes}
 use Rattle.ft_trace.specs.Traces.{Event, history, Valid}
-use Rattle.ft_trace.specs.Laws.{HasView}
+use Rattle.ft_trace.specs.TraceLaws.{HasView}
 
 -- After these writes, newest first, the call may have this reply. A MemoryError of a class stands on a call that can
 -- add, raises nothing else, passes no greatest length and would take a table of the class, where writes took the tables

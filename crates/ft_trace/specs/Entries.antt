@@ -5,10 +5,10 @@ use Rattle.ft_model.specs.declared.script.Kind.{Kind}
 use Rattle.ft_model.specs.declared.cursor.Cursor.{Cursor}
 use Rattle.ft_model.specs.Answers.{answer, is_write}
 use Rattle.ft_model.specs.Histories.{IsReplied}
-use Rattle.ft_model.specs.Tables.{stored_newest}
+use Rattle.ft_model.specs.TableUses.{stored_newest}
 use Rattle.ft_trace.specs.declared.Entry.{Entry}
 use Rattle.ft_trace.specs.Acts.{entries_next}
-use Rattle.ft_trace.specs.Worlds.{first_writes}
+use Rattle.ft_trace.specs.ContainerStates.{first_writes}
 use Rattle.ft_trace.specs.Traces.{Event, did, forked, joined, sent}
 
 -- a number of each, added up
@@ -17,12 +17,12 @@ total f [] = 0
 total f (x ∷ xs) = f x + total f xs
 
 -- all entries, newest first
-abbrev pub entries_of : List Event → List Entry
-entries_of [] = []
-entries_of (did id v a ∷ es) = entries_next a (entries_of es)
-entries_of (forked id v ∷ es) = entries_of es
-entries_of (joined id v other w ∷ es) = entries_of es
-entries_of (sent id v given ∷ es) = entries_of es
+abbrev pub trace_entries : List Event → List Entry
+trace_entries [] = []
+trace_entries (did id v a ∷ es) = entries_next a (trace_entries es)
+trace_entries (forked id v ∷ es) = trace_entries es
+trace_entries (joined id v other w ∷ es) = trace_entries es
+trace_entries (sent id v given ∷ es) = trace_entries es
 
 -- the write with this number, among writes from the newest to the first
 abbrev pub IsNumber : List Call → ℕ → Call → Type 0
@@ -43,10 +43,10 @@ abbrev pub AllRight : List Kind → List Call → List Entry → Type 0
 AllRight kinds cs [] = Unit {0}
 AllRight kinds cs (e ∷ es) = Right kinds cs e × AllRight kinds cs es
 
-abbrev pub is_number : ℕ → Entry → ℕ
-is_number n e = cond (e.wrote && (e.stamp == n)) 1 0
+abbrev pub number_count : ℕ → Entry → ℕ
+number_count n e = cond (e.wrote && (e.stamp == n)) 1 0
 
 -- there are these writes: each entry is right, and each number stands once
 pub record Numbered (kinds : List Kind) (cs : List Call) (entries : List Entry) : Type 0 where
   pub right : AllRight kinds cs entries
-  pub once : (n : ℕ) → total (is_number n) entries ≡ cond (nat_lt n (length cs)) 1 0
+  pub once : (n : ℕ) → total (number_count n) entries ≡ cond (nat_lt n (length cs)) 1 0

@@ -12,28 +12,28 @@ use Rattle.ft_layout.specs.Words.{FitsKey, FitsStored, stored_kind, stored_paylo
 use Rattle.ft_trace.specs.declared.Snap.{Snap}
 use Rattle.ft_trace.specs.declared.View.{View}
 use Rattle.ft_trace.specs.Addresses.{class_of, slots, places}
-use Rattle.ft_trace.specs.Words.{entry_at, entry_of, root_in}
-use Rattle.ft_trace.specs.Carefuls.{IsLive}
+use Rattle.ft_trace.specs.Pictures.{entry_offset, entry_field, root_in}
+use Rattle.ft_trace.specs.Carefuls.{HasLiveKey}
 use Rattle.ft_trace.specs.Holds.{held, known}
 use Rattle.ft_trace.specs.Traces.{Possible}
 use Rattle.ft_trace.specs.Grants.{MayWrite}
-use Rattle.ft_trace.specs.Writes.{Put, to_table, Write, after_write_of}
+use Rattle.ft_trace.specs.WholeWrites.{Put, to_table, WholeWrite, after_write_of}
 
 -- before the commit the version of the entry is made odd, and the kind and payload of its value are put; n says how
 -- many index slots there are
 abbrev pub value_puts : ℕ → List ℕ → ℕ → Value → List Put
 value_puts n words place value =
-    to_table (entry_at n place 0) (entry_of n words place 0 + 1)
-    ∷ to_table (entry_at n place 4) (stored_kind (Plain value))
-    ∷ to_table (entry_at n place 5) (stored_payload (Plain value))
+    to_table (entry_offset n place 0) (entry_field n words place 0 + 1)
+    ∷ to_table (entry_offset n place 4) (stored_kind (Plain value))
+    ∷ to_table (entry_offset n place 5) (stored_payload (Plain value))
     ∷ []
 
 -- after it the version is made even
 abbrev pub entry_closed : ℕ → List ℕ → ℕ → List Put
-entry_closed n words place = to_table (entry_at n place 0) (entry_of n words place 0 + 2) ∷ []
+entry_closed n words place = to_table (entry_offset n place 0) (entry_field n words place 0 + 2) ∷ []
 
 -- d[k] = v for a key that is there, in the entry at this place
-abbrev pub dict_set_write : View → ℕ → ℕ → ℕ → Key → Value → Write
+abbrev pub dict_set_write : View → ℕ → ℕ → ℕ → Key → Value → WholeWrite
 dict_set_write v o t place key value =
     record {
       root = None;
@@ -48,6 +48,6 @@ abbrev pub ValuesMayBePut : Type 0
 ValuesMayBePut =
     (v : View) (o t place : ℕ) (key : Key) (value : Value) (pairs : DictContent) → MayWrite v o
     → (known o v).content ≡ content.Dict pairs → root_in (held o v) ≡ suc t → place < places (class_of t)
-    → IsLive (slots (class_of t)) (held o v).table place key → FitsKey key → FitsStored (Plain value)
+    → HasLiveKey (slots (class_of t)) (held o v).table place key → FitsKey key → FitsStored (Plain value)
     → (start number : ℕ) × (s : Snap) × (stop : ℕ)
     × Possible (after_write_of v o t (dict_set_write v o t place key value) start number s stop)

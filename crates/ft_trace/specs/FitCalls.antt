@@ -1,5 +1,5 @@
--- Calls and contents whose keys and values words can represent: integers of 64 bits, and strings with numbers of 32 bits.
--- (profile)
+-- Calls and contents whose keys and values words can represent: integers of 64 bits, and strings with numbers of 32
+-- bits. (profile)
 use Rattle.std.specs.Prelude.{All}
 use Rattle.ft_model.specs.declared.call.Call.{Call}
 use Rattle.ft_model.specs.declared.call.Call.TheVariants as call

@@ -7,7 +7,7 @@ use Rattle.ft_trace.specs.declared.View.{View}
 use Rattle.ft_trace.specs.Addresses.{lock_of, version_of, containers_in, at}
 use Rattle.ft_trace.specs.Acts.{place, Reports, has_lock, is_writing, floor_words}
 use Rattle.ft_trace.specs.Entries.{total}
-use Rattle.ft_trace.specs.Laws.{HasView}
+use Rattle.ft_trace.specs.TraceLaws.{HasView}
 use Rattle.ft_trace.specs.Traces.{Event, run, Valid, IsQuiet, Possible}
 
 -- there are as many tokens as passes

@@ -8,9 +8,9 @@ use Rattle.ft_model.specs.declared.reply.Reply.TheVariants as reply
 use Rattle.ft_trace.specs.declared.Snap.{Snap}
 use Rattle.ft_trace.specs.declared.View.{View}
 use Rattle.ft_trace.specs.declared.Act.TheVariants.{StartWrite, PutRoot, PutBlock, Commit, StopWrite, Unlock, Retire, Announce, ReadAnnounced, GiveTable}
-use Rattle.ft_trace.specs.Addresses.{containers_in, IsTable}
+use Rattle.ft_trace.specs.Addresses.{containers_in, IsTableName}
 use Rattle.ft_trace.specs.Acts.{has_lock, is_writing, used, owes, flight, stage, noted}
-use Rattle.ft_trace.specs.Words.{root_in}
+use Rattle.ft_trace.specs.Pictures.{root_in}
 use Rattle.ft_trace.specs.Holds.{held, known}
 use Rattle.ft_trace.specs.Traces.{Possible, IsAwake}
 
@@ -63,5 +63,5 @@ pub record Ends (v : View) : Type 0 where
 -- a pass that found a count above 0 may lower it and take a bit, or raise it again
 abbrev pub TakingsEnd : Type 0
 TakingsEnd =
-    (v : View) → IsAwake v → Possible v → (t old : ℕ) → IsTable v.shape t → 0 < old → flight v.log ≡ 0
+    (v : View) → IsAwake v → Possible v → (t old : ℕ) → IsTableName v.shape t → 0 < old → flight v.log ≡ 0
     → owes v.log ≡ 0 → stage t v.log ≡ 0 → Ends v

@@ -7,35 +7,35 @@ use Rattle.ft_model.specs.declared.data.Key.{Key}
 use Rattle.ft_model.specs.declared.data.Value.{Value}
 use Rattle.ft_model.specs.declared.reply.Reply.TheVariants as reply
 use Rattle.ft_model.specs.Contents.{DictContent, has_key, dict_set}
-use Rattle.ft_model.specs.Tables.{dict_takes}
+use Rattle.ft_model.specs.TableUses.{dict_takes}
 use Rattle.ft_layout.specs.Containers.{IsDictWords}
 use Rattle.ft_trace.specs.declared.Snap.{Snap}
 use Rattle.ft_trace.specs.declared.View.{View}
-use Rattle.ft_trace.specs.Addresses.{class_of, slots, places, IsTable}
+use Rattle.ft_trace.specs.Addresses.{class_of, slots, places, IsTableName}
 use Rattle.ft_trace.specs.Acts.{owes, stage}
-use Rattle.ft_trace.specs.Words.{entry_at, entry_of}
-use Rattle.ft_trace.specs.Carefuls.{IsLive}
+use Rattle.ft_trace.specs.Pictures.{entry_offset, entry_field}
+use Rattle.ft_trace.specs.Carefuls.{HasLiveKey}
 use Rattle.ft_trace.specs.Holds.{known, in_hand}
 use Rattle.ft_trace.specs.Traces.{Possible}
-use Rattle.ft_trace.specs.Writes.{to_table, Write, at_commit, after_write_of, MayBegin}
+use Rattle.ft_trace.specs.WholeWrites.{to_table, WholeWrite, at_commit, after_write_of, MayBegin}
 use Rattle.ft_trace.specs.KeyWrites.{count_puts}
 
 -- The new root is put first, then the counts, and after the commit the version of the entry of the new key is made
 -- even, which was 1 in the new table.
-abbrev pub dict_grow_write : View → ℕ → ℕ → ℕ → Key → Value → DictContent → Write
+abbrev pub dict_grow_write : View → ℕ → ℕ → ℕ → Key → Value → DictContent → WholeWrite
 dict_grow_write v o t place key value pairs =
     record {
       root = Some (suc t);
       early = count_puts (length pairs.pairs + 1) (length pairs.pairs + 1) (pairs.next + 1);
       call = call.Dict o (dict.Set key value);
       reply = reply.Done;
-      late = to_table (entry_at (slots (class_of t)) place 0) 2 ∷ [];
+      late = to_table (entry_offset (slots (class_of t)) place 0) 2 ∷ [];
     }
 
 -- what the pass has in hand: a table of the class that the call takes, fresh, whose words stand for the dict with the
 -- new key; of its versions that of the new key's entry is 1, and each other 0
 pub record HasGrown (v : View) (o t place : ℕ) (key : Key) (value : Value) (pairs : DictContent) : Type 0 where
-  pub table : IsTable v.shape t
+  pub table : IsTableName v.shape t
   pub fresh : stage t v.log ≡ 1
   pub owed : owes v.log ≡ suc (class_of t)
   pub missing : has_key pairs.pairs key ≡ false
@@ -43,9 +43,9 @@ pub record HasGrown (v : View) (o t place : ℕ) (key : Key) (value : Value) (pa
   pub words : IsDictWords v.shape.texts (at_commit v o (dict_grow_write v o t place key value pairs)).block
       (0 ∷ 0 ∷ in_hand t v) (Some (class_of t)) (length pairs.pairs + 1) (dict_set pairs key value)
   pub low : place < places (class_of t)
-  pub live : IsLive (slots (class_of t)) (in_hand t v) place key
-  pub open_entry : entry_of (slots (class_of t)) (in_hand t v) place 0 ≡ 1
-  pub others : (p : ℕ) → p < places (class_of t) → p ≢ place → entry_of (slots (class_of t)) (in_hand t v) p 0 ≡ 0
+  pub live : HasLiveKey (slots (class_of t)) (in_hand t v) place key
+  pub open_entry : entry_field (slots (class_of t)) (in_hand t v) place 0 ≡ 1
+  pub others : (p : ℕ) → p < places (class_of t) → p ≢ place → entry_field (slots (class_of t)) (in_hand t v) p 0 ≡ 0
 
 -- a pass with the lock of a dict that has such a table in hand may put it in the root and add the key, whatever other
 -- passes have done

@@ -1,11 +1,11 @@
 -- What a pass knows of what it has.
 use Rattle.std.specs.Prelude.{◌≡◌, ℕ, ◌<◌, true, List}
-use Rattle.ft_model.specs.Tables.{StoredWorld}
+use Rattle.ft_model.specs.TableUses.{StoredWorld}
 use Rattle.ft_trace.specs.declared.View.{View}
 use Rattle.ft_trace.specs.Addresses.{containers_in}
 use Rattle.ft_trace.specs.Acts.{has_lock, mem, past}
-use Rattle.ft_trace.specs.Worlds.{ContainerState, state_at, container_after}
-use Rattle.ft_trace.specs.Words.{Picture, picture, table_of}
+use Rattle.ft_trace.specs.ContainerStates.{ContainerState, state_at, container_after}
+use Rattle.ft_trace.specs.Pictures.{Picture, picture, table_of}
 
 -- the words of o, whose lock it has
 abbrev pub held : ℕ → View → Picture

@@ -5,11 +5,11 @@ use Rattle.ft_model.specs.declared.cursor.Cursor.{Cursor}
 use Rattle.ft_model.specs.declared.entry.Entry.{Entry as NamedEntry}
 use Rattle.ft_model.specs.Answers.{answer, is_write, world_by}
 use Rattle.ft_model.specs.Histories.{IsReplied}
-use Rattle.ft_model.specs.Tables.{stored_by, IsEarnedReply, IsFittingReply}
+use Rattle.ft_model.specs.TableUses.{stored_by, IsEarnedReply, IsFittingReply}
 use Rattle.ft_trace.specs.declared.Entry.{Entry}
 use Rattle.ft_trace.specs.declared.Shape.{Shape}
 use Rattle.ft_trace.specs.Earnings.{AllEarned}
-use Rattle.ft_trace.specs.Entries.{Numbered, is_number, total}
+use Rattle.ft_trace.specs.Entries.{Numbered, number_count, total}
 
 -- The entry beside these writes: its stamp is at most their number, and that of a write is its place among them. Its
 -- reply is that of the plain containers after as many writes as the stamp says, to a thread with some cursors, or that
@@ -27,7 +27,7 @@ pub record StandsInOrder (k : Shape) (calls : List Call) (e : Entry) : Type 0 wh
 -- all entries beside the writes: each stands so, and each write is that of one entry
 pub record AreInOrder (k : Shape) (calls : List Call) (entries : List Entry) : Type 0 where
   pub each : All (StandsInOrder k calls) entries
-  pub once : (n : ℕ) → n < length calls → total (is_number n) entries ≡ 1
+  pub once : (n : ℕ) → n < length calls → total (number_count n) entries ≡ 1
 
 -- entries that are numbered and earned by writes from the newest to the first stand so beside the writes in their order
 abbrev pub NumberedEntriesAreInOrder : Type 0

@@ -11,26 +11,26 @@ use Rattle.ft_layout.specs.Words.{FitsStored, stored_kind, stored_payload}
 use Rattle.ft_trace.specs.declared.Snap.{Snap}
 use Rattle.ft_trace.specs.declared.View.{View}
 use Rattle.ft_trace.specs.Addresses.{class_of, slots}
-use Rattle.ft_trace.specs.Words.{item_at, item_of, root_in}
+use Rattle.ft_trace.specs.Pictures.{item_offset, item_field, root_in}
 use Rattle.ft_trace.specs.Holds.{held, known}
 use Rattle.ft_trace.specs.Traces.{Possible}
 use Rattle.ft_trace.specs.Grants.{MayWrite}
-use Rattle.ft_trace.specs.Writes.{Put, to_block, to_table, Write, after_write_of}
+use Rattle.ft_trace.specs.WholeWrites.{Put, to_block, to_table, WholeWrite, after_write_of}
 
 -- before the commit the version of the item is made odd, and its kind and payload are put
 abbrev pub item_puts : List ℕ → ℕ → Value → List Put
 item_puts words place value =
-    to_table (item_at place 0) (item_of words place 0 + 1)
-    ∷ to_table (item_at place 1) (stored_kind (Plain value))
-    ∷ to_table (item_at place 2) (stored_payload (Plain value))
+    to_table (item_offset place 0) (item_field words place 0 + 1)
+    ∷ to_table (item_offset place 1) (stored_kind (Plain value))
+    ∷ to_table (item_offset place 2) (stored_payload (Plain value))
     ∷ []
 
 -- after it the version is made even
 abbrev pub item_closed : List ℕ → ℕ → List Put
-item_closed words place = to_table (item_at place 0) (item_of words place 0 + 2) ∷ []
+item_closed words place = to_table (item_offset place 0) (item_field words place 0 + 2) ∷ []
 
 -- l[i] = v, at the place that the index means
-abbrev pub list_set_write : View → ℕ → ℕ → ℤ → Value → Write
+abbrev pub list_set_write : View → ℕ → ℕ → ℤ → Value → WholeWrite
 list_set_write v o place index value =
     record {
       root = None;
@@ -50,7 +50,7 @@ ItemsMayBePut =
     × Possible (after_write_of v o t (list_set_write v o place index value) start number s stop)
 
 -- l.append(v), where the table has room: the length is put too, then the item after the last
-abbrev pub list_append_write : View → ℕ → ℕ → Value → Write
+abbrev pub list_append_write : View → ℕ → ℕ → Value → WholeWrite
 list_append_write v o count value =
     record {
       root = None;

@@ -14,24 +14,24 @@ use Rattle.ft_layout.specs.Containers.{IsDictWords}
 use Rattle.ft_trace.specs.declared.Snap.{Snap}
 use Rattle.ft_trace.specs.declared.View.{View}
 use Rattle.ft_trace.specs.Addresses.{class_of, slots, places}
-use Rattle.ft_trace.specs.Words.{index_of, entry_at, entry_of, root_in}
+use Rattle.ft_trace.specs.Pictures.{index_field, entry_offset, entry_field, root_in}
 use Rattle.ft_trace.specs.Holds.{held, known}
 use Rattle.ft_trace.specs.Traces.{Possible}
 use Rattle.ft_trace.specs.Grants.{MayWrite}
-use Rattle.ft_trace.specs.Writes.{Put, to_block, to_table, Write, at_commit, after_write_of}
+use Rattle.ft_trace.specs.WholeWrites.{Put, to_block, to_table, WholeWrite, at_commit, after_write_of}
 use Rattle.ft_trace.specs.EntryWrites.{entry_closed}
 
 -- the words of a new entry: its version is made odd, its kind is put last, and then the index slot that names it;
 -- n says how many index slots there are
 abbrev pub key_puts : ℕ → List ℕ → ℕ → ℕ → ℕ → Key → Value → ℕ → List Put
 key_puts n words place slot hash key value serial =
-    to_table (entry_at n place 0) (entry_of n words place 0 + 1)
-    ∷ to_table (entry_at n place 1) hash
-    ∷ to_table (entry_at n place 3) (key_payload key)
-    ∷ to_table (entry_at n place 4) (stored_kind (Plain value))
-    ∷ to_table (entry_at n place 5) (stored_payload (Plain value))
-    ∷ to_table (entry_at n place 6) serial
-    ∷ to_table (entry_at n place 2) (key_kind key)
+    to_table (entry_offset n place 0) (entry_field n words place 0 + 1)
+    ∷ to_table (entry_offset n place 1) hash
+    ∷ to_table (entry_offset n place 3) (key_payload key)
+    ∷ to_table (entry_offset n place 4) (stored_kind (Plain value))
+    ∷ to_table (entry_offset n place 5) (stored_payload (Plain value))
+    ∷ to_table (entry_offset n place 6) serial
+    ∷ to_table (entry_offset n place 2) (key_kind key)
     ∷ to_table slot (place + 1)
     ∷ []
 
@@ -40,7 +40,7 @@ abbrev pub count_puts : ℕ → ℕ → ℕ → List Put
 count_puts count fill next = to_block 1 count ∷ to_block 2 fill ∷ to_block 3 next ∷ []
 
 -- d[k] = v for a key that isn't there: its entry is the next that was never used
-abbrev pub dict_add_write : View → ℕ → ℕ → ℕ → Key → Value → DictContent → Write
+abbrev pub dict_add_write : View → ℕ → ℕ → ℕ → Key → Value → DictContent → WholeWrite
 dict_add_write v o t slot key value pairs =
     record {
       root = None;
@@ -58,7 +58,7 @@ abbrev pub KeysMayBeAdded : Type 0
 KeysMayBeAdded =
     (v : View) (o t slot : ℕ) (key : Key) (value : Value) (pairs : DictContent) → MayWrite v o
     → (known o v).content ≡ content.Dict pairs → root_in (held o v) ≡ suc t
-    → (known o v).table.fill < places (class_of t) → slot < slots (class_of t) → index_of (held o v).table slot ≡ 0
+    → (known o v).table.fill < places (class_of t) → slot < slots (class_of t) → index_field (held o v).table slot ≡ 0
     → has_key pairs.pairs key ≡ false
     → IsDictWords v.shape.texts (at_commit v o (dict_add_write v o t slot key value pairs)).block
     (0 ∷ 0 ∷ (at_commit v o (dict_add_write v o t slot key value pairs)).table) (Some (class_of t))

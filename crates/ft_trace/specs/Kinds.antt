@@ -14,9 +14,9 @@ use Rattle.ft_layout.specs.declared.slot.Stored.TheVariants.{Empty, Plain}
 use Rattle.ft_layout.specs.Words.{key_kind, key_payload, stored_kind, stored_payload}
 use Rattle.ft_model.specs.Classes.{set_entries}
 use Rattle.ft_trace.specs.Addresses.{slots, places}
-use Rattle.ft_trace.specs.Words.{walk_of, entry_at, item_at}
+use Rattle.ft_trace.specs.Pictures.{walk_of, entry_offset, item_offset}
 use Rattle.ft_trace.specs.Carefuls.{Sound, Careful, Clear, Later}
-use Rattle.ft_trace.specs.Items.{ItemSound, ItemCareful, ItemClear, ItemLater}
+use Rattle.ft_trace.specs.ItemWords.{ItemSound, ItemCareful, ItemClear, ItemLater}
 
 -- whether words of a key say this key
 abbrev pub is_key : Key → Key → Bool
@@ -41,9 +41,9 @@ rows kind.Dict class = places class
 rows kind.Set class = set_entries class
 
 abbrev pub version_at : Kind → ℕ → ℕ → ℕ
-version_at kind.List class p = item_at p 0
-version_at kind.Dict class p = entry_at (slots class) p 0
-version_at kind.Set class p = entry_at (slots class) p 0
+version_at kind.List class p = item_offset p 0
+version_at kind.Dict class p = entry_offset (slots class) p 0
+version_at kind.Set class p = entry_offset (slots class) p 0
 
 abbrev pub SoundAs : Kind → List ℕ → ℕ → List ℕ → Content → Type 0
 SoundAs kind.List texts class ws c = ItemSound (slots class) ws (list_of c)

@@ -12,7 +12,7 @@ use Rattle.ft_model.specs.declared.reply.Reply.{Reply}
 use Rattle.ft_model.specs.declared.reply.Reply.TheVariants as reply
 use Rattle.ft_model.specs.declared.reply.Raise.TheVariants as raise
 use Rattle.ft_model.specs.declared.script.Kind.TheVariants as kind
-use Rattle.ft_model.specs.Tables.{StoredWorld, stored_newest}
+use Rattle.ft_model.specs.TableUses.{StoredWorld, stored_newest}
 use Rattle.ft_layout.specs.declared.slot.Stored.TheVariants.{Empty, Plain}
 use Rattle.ft_layout.specs.Words.{FitsKey, IsStored}
 use Rattle.ft_trace.specs.declared.Act.{Act}
@@ -21,25 +21,25 @@ use Rattle.ft_trace.specs.declared.Shape.{Shape}
 use Rattle.ft_trace.specs.declared.View.{View}
 use Rattle.ft_trace.specs.Addresses.{containers_in, class_of, slots}
 use Rattle.ft_trace.specs.Kinds.{rows}
-use Rattle.ft_trace.specs.Words.{entry_at, item_at, walk_of}
-use Rattle.ft_trace.specs.Worlds.{first_writes, kind_in, reply_in}
-use Rattle.ft_trace.specs.Reading.{Among}
-use Rattle.ft_trace.specs.Finding.{Hit, Miss, Full, Bare, ItemHit, ItemPast}
+use Rattle.ft_trace.specs.Pictures.{entry_offset, item_offset, walk_of}
+use Rattle.ft_trace.specs.ContainerStates.{first_writes, kind_in, reply_in}
+use Rattle.ft_trace.specs.LoggedReads.{Among}
+use Rattle.ft_trace.specs.LoggedLookUps.{Hit, Miss, Full, Bare, ItemHit, ItemPast}
 use Rattle.ft_trace.specs.Traces.{Event, history, Valid}
-use Rattle.ft_trace.specs.Laws.{HasView}
+use Rattle.ft_trace.specs.TraceLaws.{HasView}
 
 -- ---- what was read
 
 -- the value's words of the entry at this place were read among these: its kind and its payload
 abbrev pub IsValueRead : ℕ → ℕ → ℕ → ℕ → List Act → Type 0
 IsValueRead t place kind payload mid =
-    Among (ReadTable t (entry_at (slots (class_of t)) place 4) kind) mid
-    × Among (ReadTable t (entry_at (slots (class_of t)) place 5) payload) mid
+    Among (ReadTable t (entry_offset (slots (class_of t)) place 4) kind) mid
+    × Among (ReadTable t (entry_offset (slots (class_of t)) place 5) payload) mid
 
 -- the words of the item at this place were read among these
 abbrev pub IsItemRead : ℕ → ℕ → ℕ → ℕ → List Act → Type 0
 IsItemRead t place kind payload mid =
-    Among (ReadTable t (item_at place 1) kind) mid × Among (ReadTable t (item_at place 2) payload) mid
+    Among (ReadTable t (item_offset place 1) kind) mid × Among (ReadTable t (item_offset place 2) payload) mid
 
 -- the slots of the key's probe were passed, up to one that was never used or all of them
 abbrev pub IsAbsent : Shape → List Act → ℕ → ℕ → Key → ℕ → Type 0

@@ -9,12 +9,12 @@ use Rattle.ft_trace.specs.declared.Entry.{Entry}
 use Rattle.ft_trace.specs.declared.Shape.{Shape}
 use Rattle.ft_trace.specs.declared.View.{View}
 use Rattle.ft_trace.specs.Hands.{cursor_in, own_entries}
-use Rattle.ft_trace.specs.Laws.{HasView}
+use Rattle.ft_trace.specs.TraceLaws.{HasView}
 use Rattle.ft_trace.specs.Traces.{Event, history, Valid}
 
 -- what a thread's entry says, without its thread, index and mark
-abbrev pub entry_of : NamedEntry → Entry
-entry_of e = record { call = e.call; reply = e.reply; stamp = e.stamp; wrote = e.wrote }
+abbrev pub plain_entry : NamedEntry → Entry
+plain_entry e = record { call = e.call; reply = e.reply; stamp = e.stamp; wrote = e.wrote }
 
 -- the entry's call asks no cursor, or one of the first `room`
 abbrev pub AsksWithin : ℕ → NamedEntry → Type 0
@@ -27,7 +27,7 @@ AsksWithin room e = IfSome (moved_cursor e.call) (λ n. n < room)
 abbrev pub CursorsAreHands : Type 0
 CursorsAreHands =
     (k : Shape) (es : List Event) → Valid k es → (j : ℕ) (u : View) → HasView k es j u → (room : ℕ)
-    → (mine : List NamedEntry) → map entry_of (reverse mine) ≡ own_entries u.log → All (AsksWithin room) mine
+    → (mine : List NamedEntry) → map plain_entry (reverse mine) ≡ own_entries u.log → All (AsksWithin room) mine
     → ((n : ℕ) → n < room → cursor_at (hands_by k.kinds (reverse (history es)) room mine) n ≡ cursor_in n u.log)
     × EachAt mine (λ place e. IsReplied e.call e.reply
     (answer (world_by k.kinds (take e.stamp (reverse (history es))))

@@ -1,18 +1,18 @@
 -- The entries of one pass in their order: their stamps rise, and inside a section that is kept no other pass writes.
-use Rattle.std.specs.Prelude.{◌≡◌, ℕ, ◌+◌, ◌<◌, ◌≤◌, ◌==◌, ◌&&◌, Bool, true, cond, All, List, [], ◌∷◌, ◌++◌, drop, length, reverse, Some, slice_get}
+use Rattle.std.specs.Prelude.{◌≡◌, ℕ, ◌+◌, ◌<◌, ◌≤◌, ◌==◌, ◌&&◌, Bool, true, cond, All, List, [], ◌∷◌, ◌++◌, length, reverse, Some, slice_get}
 use Rattle.std.specs.List.{list_any}
 use Rattle.ft_model.specs.declared.call.Call.{Call}
 use Rattle.ft_model.specs.declared.call.Call.TheVariants as call
 use Rattle.ft_model.specs.declared.reply.Reply.TheVariants as reply
 use Rattle.ft_model.specs.Calls.{containers_of}
-use Rattle.ft_model.specs.Histories.{names}
+use Rattle.ft_model.specs.Histories.{names, open_sections_after}
 use Rattle.ft_trace.specs.declared.Entry.{Entry}
 use Rattle.ft_trace.specs.declared.Shape.{Shape}
 use Rattle.ft_trace.specs.declared.View.{View}
 use Rattle.ft_trace.specs.Acts.{all_lists}
 use Rattle.ft_trace.specs.Entries.{IsNumber}
-use Rattle.ft_trace.specs.Laws.{HasView}
-use Rattle.ft_trace.specs.Sections.{Begun, begun, is_among}
+use Rattle.ft_trace.specs.TraceLaws.{HasView}
+use Rattle.ft_trace.specs.BegunSections.{Begun, begun, is_among}
 use Rattle.ft_trace.specs.Traces.{Event, history, Valid}
 
 -- Entries of one pass stand newest first here, as in a view. Which call is the write of a number is an argument: traces
@@ -30,13 +30,7 @@ is_write_of n e = e.wrote && (e.stamp == n)
 
 -- the entries that began the sections that are open after an entry of this call, innermost first
 abbrev pub after_begins : Entry → Call → List Entry → List Entry
-after_begins e (call.Begin first second) begins = e ∷ begins
-after_begins e call.End begins = drop 1 begins
-after_begins e (call.Dict o dict_call) begins = begins
-after_begins e (call.List o list_call) begins = begins
-after_begins e (call.Set o set_call) begins = begins
-after_begins e (call.Next cursor) begins = begins
-after_begins e call.Quiesce begins = begins
+after_begins e called begins = open_sections_after e called begins
 
 -- those of the sections that these entries leave open
 abbrev pub begins_in : List Entry → List Entry

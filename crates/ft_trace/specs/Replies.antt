@@ -8,12 +8,12 @@ use Rattle.ft_model.specs.declared.reply.Raise.TheVariants as raise
 use Rattle.ft_model.specs.Answers.{is_write}
 use Rattle.ft_model.specs.Calls.{moved_cursor}
 use Rattle.ft_model.specs.Histories.{IsReplied}
-use Rattle.ft_model.specs.Tables.{CanLackMemory, stored_newest, takes_in, would_pass}
+use Rattle.ft_model.specs.TableUses.{CanLackMemory, stored_newest, takes_in, would_pass}
 use Rattle.ft_trace.specs.declared.Act.{Act}
 use Rattle.ft_trace.specs.declared.Act.TheVariants.{Answer, AnswerCursor, ReadCounter, ReadCount}
 use Rattle.ft_trace.specs.declared.View.{View}
 use Rattle.ft_trace.specs.Acts.{owes, noted}
-use Rattle.ft_trace.specs.Worlds.{reply_in}
+use Rattle.ft_trace.specs.ContainerStates.{reply_in}
 use Rattle.ft_trace.specs.Causes.{AreOfOneCall, HasCause}
 use Rattle.ft_trace.specs.Hands.{cursor_in, MovesCursor}
 use Rattle.ft_trace.specs.Holds.{AgreesWith}

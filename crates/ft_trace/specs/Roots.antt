@@ -8,13 +8,13 @@ use Rattle.ft_trace.specs.declared.Shape.{Shape}
 use Rattle.ft_trace.specs.declared.Snap.{Snap}
 use Rattle.ft_trace.specs.declared.View.{View}
 use Rattle.ft_trace.specs.Acts.{is_writing, has_emptied}
-use Rattle.ft_trace.specs.Addresses.{block, bits, containers_in, IsTable, free_bit_of, free_word_of}
+use Rattle.ft_trace.specs.Addresses.{block, bits, containers_in, IsTableName, free_bit_of, free_word_of}
 use Rattle.ft_trace.specs.Ages.{age}
 use Rattle.ft_trace.specs.Bits.{bit}
-use Rattle.ft_trace.specs.Reading.{IsNothing}
-use Rattle.ft_trace.specs.Worlds.{container_after, changes, may_empty}
+use Rattle.ft_trace.specs.LoggedReads.{IsNothing}
+use Rattle.ft_trace.specs.ContainerStates.{container_after, changes, may_empty}
 use Rattle.ft_trace.specs.Traces.{Event, did, word, history, Valid}
-use Rattle.ft_trace.specs.Laws.{HasView}
+use Rattle.ft_trace.specs.TraceLaws.{HasView}
 
 -- none of these makes the version of o odd or even
 abbrev pub OfOneWrite : ℕ → List Act → Type 0
@@ -50,6 +50,6 @@ ZeroRootsHaveCauses =
 -- a retired table is not free, and no root names it
 abbrev pub RetiredTablesAreApart : Type 0
 RetiredTablesAreApart =
-    (k : Shape) (es : List Event) → Valid k es → (t : ℕ) → IsTable k t → age es t % 5 ≡ 4
+    (k : Shape) (es : List Event) → Valid k es → (t : ℕ) → IsTableName k t → age es t % 5 ≡ 4
     → (bit (free_bit_of t) (word k es (bits (free_word_of t))) ≢ 1)
     × ((o : ℕ) → o < containers_in k → word k es (block o 0) ≢ suc t)

@@ -6,37 +6,37 @@ use Rattle.ft_model.specs.declared.content.Content.TheVariants as content
 use Rattle.ft_model.specs.declared.data.Key.{Key}
 use Rattle.ft_model.specs.declared.reply.Reply.TheVariants as reply
 use Rattle.ft_model.specs.Contents.{SetContent, has_element, set_add}
-use Rattle.ft_model.specs.Tables.{set_takes}
+use Rattle.ft_model.specs.TableUses.{set_takes}
 use Rattle.ft_layout.specs.Words.{FitsKey}
 use Rattle.ft_layout.specs.Containers.{IsSetWords}
 use Rattle.ft_trace.specs.declared.Snap.{Snap}
 use Rattle.ft_trace.specs.declared.View.{View}
-use Rattle.ft_trace.specs.Addresses.{class_of, slots, IsTable}
+use Rattle.ft_trace.specs.Addresses.{class_of, slots, IsTableName}
 use Rattle.ft_model.specs.Classes.{set_entries}
 use Rattle.ft_trace.specs.Acts.{owes, stage}
-use Rattle.ft_trace.specs.Words.{entry_at, entry_of}
-use Rattle.ft_trace.specs.Carefuls.{IsLive}
+use Rattle.ft_trace.specs.Pictures.{entry_offset, entry_field}
+use Rattle.ft_trace.specs.Carefuls.{HasLiveKey}
 use Rattle.ft_trace.specs.Holds.{known, in_hand}
 use Rattle.ft_trace.specs.Traces.{Possible}
-use Rattle.ft_trace.specs.Writes.{to_table, Write, at_commit, after_write_of, MayBegin}
+use Rattle.ft_trace.specs.WholeWrites.{to_table, WholeWrite, at_commit, after_write_of, MayBegin}
 use Rattle.ft_trace.specs.KeyWrites.{count_puts}
 
 -- The new root is put first, then the counts, and after the commit the version of the entry of the new key is made
 -- even, which was 1 in the new table.
-abbrev pub set_grow_write : View → ℕ → ℕ → ℕ → Key → SetContent → Write
+abbrev pub set_grow_write : View → ℕ → ℕ → ℕ → Key → SetContent → WholeWrite
 set_grow_write v o t place key elements =
     record {
       root = Some (suc t);
       early = count_puts (length elements.elements + 1) (length elements.elements + 1) (elements.next + 1);
       call = call.Set o (set.Add key);
       reply = reply.Done;
-      late = to_table (entry_at (slots (class_of t)) place 0) 2 ∷ [];
+      late = to_table (entry_offset (slots (class_of t)) place 0) 2 ∷ [];
     }
 
 -- what the pass has in hand: a table of the class that the call takes, fresh, whose words stand for the set with the
 -- new key; of its versions that of the new key's entry is 1, and each other 0
 pub record HasSetGrown (v : View) (o t place : ℕ) (key : Key) (elements : SetContent) : Type 0 where
-  pub table : IsTable v.shape t
+  pub table : IsTableName v.shape t
   pub fresh : stage t v.log ≡ 1
   pub owed : owes v.log ≡ suc (class_of t)
   pub fits : FitsKey key
@@ -45,9 +45,10 @@ pub record HasSetGrown (v : View) (o t place : ℕ) (key : Key) (elements : SetC
   pub words : IsSetWords v.shape.texts (at_commit v o (set_grow_write v o t place key elements)).block
       (0 ∷ 0 ∷ in_hand t v) (Some (class_of t)) (length elements.elements + 1) (set_add elements key)
   pub low : place < set_entries (class_of t)
-  pub live : IsLive (slots (class_of t)) (in_hand t v) place key
-  pub open_entry : entry_of (slots (class_of t)) (in_hand t v) place 0 ≡ 1
-  pub others : (p : ℕ) → p < set_entries (class_of t) → p ≢ place → entry_of (slots (class_of t)) (in_hand t v) p 0 ≡ 0
+  pub live : HasLiveKey (slots (class_of t)) (in_hand t v) place key
+  pub open_entry : entry_field (slots (class_of t)) (in_hand t v) place 0 ≡ 1
+  pub others : (p : ℕ) → p < set_entries (class_of t) → p ≢ place
+      → entry_field (slots (class_of t)) (in_hand t v) p 0 ≡ 0
 
 -- a pass with the lock of a set that has such a table in hand may put it in the root and add the key, whatever other
 -- passes have done

@@ -13,12 +13,12 @@ use Rattle.ft_layout.specs.Containers.{IsSetWords}
 use Rattle.ft_trace.specs.declared.Snap.{Snap}
 use Rattle.ft_trace.specs.declared.View.{View}
 use Rattle.ft_trace.specs.Addresses.{class_of, slots}
-use Rattle.ft_trace.specs.Words.{index_of, entry_at, entry_of, root_in}
-use Rattle.ft_trace.specs.Carefuls.{IsLive}
+use Rattle.ft_trace.specs.Pictures.{index_field, entry_offset, entry_field, root_in}
+use Rattle.ft_trace.specs.Carefuls.{HasLiveKey}
 use Rattle.ft_trace.specs.Holds.{held, known}
 use Rattle.ft_trace.specs.Traces.{Possible}
 use Rattle.ft_trace.specs.Grants.{MayWrite}
-use Rattle.ft_trace.specs.Writes.{Put, to_block, to_table, Write, at_commit, after_write_of}
+use Rattle.ft_trace.specs.WholeWrites.{Put, to_block, to_table, WholeWrite, at_commit, after_write_of}
 use Rattle.ft_trace.specs.EntryWrites.{entry_closed}
 use Rattle.ft_trace.specs.KeyWrites.{count_puts}
 use Rattle.ft_trace.specs.DeleteWrites.{delete_puts}
@@ -27,16 +27,16 @@ use Rattle.ft_trace.specs.DeleteWrites.{delete_puts}
 -- it; nothing is stored, and the words of the value are 0 as they were
 abbrev pub element_puts : ℕ → List ℕ → ℕ → ℕ → ℕ → Key → ℕ → List Put
 element_puts n words place slot hash key serial =
-    to_table (entry_at n place 0) (entry_of n words place 0 + 1)
-    ∷ to_table (entry_at n place 1) hash
-    ∷ to_table (entry_at n place 3) (key_payload key)
-    ∷ to_table (entry_at n place 6) serial
-    ∷ to_table (entry_at n place 2) (key_kind key)
+    to_table (entry_offset n place 0) (entry_field n words place 0 + 1)
+    ∷ to_table (entry_offset n place 1) hash
+    ∷ to_table (entry_offset n place 3) (key_payload key)
+    ∷ to_table (entry_offset n place 6) serial
+    ∷ to_table (entry_offset n place 2) (key_kind key)
     ∷ to_table slot (place + 1)
     ∷ []
 
 -- s.add(k) for a key that isn't there: its entry is the next that was never used
-abbrev pub set_add_write : View → ℕ → ℕ → ℕ → Key → SetContent → Write
+abbrev pub set_add_write : View → ℕ → ℕ → ℕ → Key → SetContent → WholeWrite
 set_add_write v o t slot key elements =
     record {
       root = None;
@@ -55,7 +55,7 @@ ElementsMayBeAdded =
     (v : View) (o t slot : ℕ) (key : Key) (elements : SetContent) → MayWrite v o
     → (known o v).content ≡ content.Set elements → root_in (held o v) ≡ suc t
     → (known o v).table.fill < set_entries (class_of t) → slot < slots (class_of t)
-    → index_of (held o v).table slot ≡ 0 → FitsKey key → has_element elements.elements key ≡ false
+    → index_field (held o v).table slot ≡ 0 → FitsKey key → has_element elements.elements key ≡ false
     → IsSetWords v.shape.texts (at_commit v o (set_add_write v o t slot key elements)).block
     (0 ∷ 0 ∷ (at_commit v o (set_add_write v o t slot key elements)).table) (Some (class_of t))
     ((known o v).table.fill + 1) (set_add elements key)
@@ -63,7 +63,7 @@ ElementsMayBeAdded =
     × Possible (after_write_of v o t (set_add_write v o t slot key elements) start number s stop)
 
 -- s.discard(k) for a key that is there, in the entry at this place; there is one element fewer
-abbrev pub set_discard_write : View → ℕ → ℕ → ℕ → Key → SetContent → Write
+abbrev pub set_discard_write : View → ℕ → ℕ → ℕ → Key → SetContent → WholeWrite
 set_discard_write v o t place key elements =
     record {
       root = None;
@@ -80,7 +80,7 @@ abbrev pub ElementsMayBeDiscarded : Type 0
 ElementsMayBeDiscarded =
     (v : View) (o t place : ℕ) (key : Key) (elements : SetContent) → MayWrite v o
     → (known o v).content ≡ content.Set elements → root_in (held o v) ≡ suc t → place < set_entries (class_of t)
-    → IsLive (slots (class_of t)) (held o v).table place key → FitsKey key
+    → HasLiveKey (slots (class_of t)) (held o v).table place key → FitsKey key
     → IsSetWords v.shape.texts (at_commit v o (set_discard_write v o t place key elements)).block
     (0 ∷ 0 ∷ (at_commit v o (set_discard_write v o t place key elements)).table) (Some (class_of t))
     (known o v).table.fill (set_discard elements key)

@@ -11,23 +11,23 @@ use Rattle.ft_model.specs.Answers.{is_write}
 use Rattle.ft_model.specs.Calls.{moved_cursor}
 use Rattle.ft_model.specs.Histories.{IsReplied}
 use Rattle.ft_model.specs.Worlds.{no_hands, IsDeclared}
-use Rattle.ft_model.specs.Tables.{stored_newest, takes_in, would_pass}
+use Rattle.ft_model.specs.TableUses.{stored_newest, takes_in, would_pass}
 use Rattle.ft_model.specs.Classes.{IsClass}
 use Rattle.ft_trace.specs.declared.Act.{Act}
 use Rattle.ft_trace.specs.declared.Act.TheVariants.{Lock, Unlock, StartWrite, PutBlock, PutRoot, PutTable, PutFresh, PutHeader, ReadHeader, Commit, StopWrite, Version, ReadBlock, ReadRoot, ReadTable, ReadCounter, Answer, AnswerCursor, LowerCount, RaiseCount, ReadCount, ReadFree, TakeTable, GiveTable, Retire, Announce, ReadAnnounced, WriteNumber, TakeFloor, TookOver}
 use Rattle.ft_trace.specs.declared.Shape.{Shape}
 use Rattle.ft_trace.specs.declared.Snap.{Snap}
 use Rattle.ft_trace.specs.declared.View.{View}
-use Rattle.ft_trace.specs.Addresses.{Word, counter, write_number, version_of, containers_in, tables_in, class_of, size, IsTable, at, opening}
+use Rattle.ft_trace.specs.Addresses.{Word, counter, write_number, version_of, containers_in, tables_in, class_of, size, IsTableName, at, opening}
 use Rattle.ft_trace.specs.Acts.{place, word_after, Reports, has_lock, is_writing, has_committed, has_emptied, stage, goal, announces, clear, used, debt, flight, owes, noted, starter, maker, made, both, spent, sender, note}
-use Rattle.ft_trace.specs.Worlds.{container_after, first_writes, kind_in, changes, may_empty, reply_in}
-use Rattle.ft_trace.specs.Words.{table_of, root_of, picture, Stands}
+use Rattle.ft_trace.specs.ContainerStates.{container_after, first_writes, kind_in, changes, may_empty, reply_in}
+use Rattle.ft_trace.specs.Pictures.{table_of, root_of, picture, Stands}
 use Rattle.ft_trace.specs.Kinds.{rows, version_at, SoundAs, CarefulAs, ClearAs}
-use Rattle.ft_trace.specs.Openings.{Shut, Timely, Low}
+use Rattle.ft_trace.specs.OddVersions.{Shut, Timely, Low}
 use Rattle.ft_trace.specs.FitCalls.{FitsCall}
 use Rattle.ft_trace.specs.Causes.{Loaded, HasCause}
 use Rattle.ft_trace.specs.Hands.{cursor_in, MovesCursor}
-use Rattle.ft_trace.specs.Sections.{HasLocksOf}
+use Rattle.ft_trace.specs.BegunSections.{HasLocksOf}
 
 pub record Moment : Type 0 where
   pub words : List ℕ
@@ -132,7 +132,7 @@ May k m cs v (PutRoot o r old) =
     (o < containers_in k)
     × (is_writing o v.log ≡ true)
     × (old ≡ root_of k o m.words)
-    × ((t : ℕ) → r ≡ suc t → IsTable k t × (stage t v.log ≡ 1)
+    × ((t : ℕ) → r ≡ suc t → IsTableName k t × (stage t v.log ≡ 1)
     × SoundFor k m.words o t (container_after k.kinds cs o).content)
     × ((q : ℕ) → old ≡ suc q → ShutFor k m.words o q)
     × (old ≢ 0 → used v.log ≡ false)
@@ -141,16 +141,16 @@ May k m cs v (PutRoot o r old) =
 -- a word of the table that the root names, put with care; a version is made odd before the commit, and even after it
 May k m cs v (PutTable o t i x) =
     (o < containers_in k)
-    × IsTable k t
+    × IsTableName k t
     × (i < size (class_of t))
     × (is_writing o v.log ≡ true)
     × (root_of k o m.words ≡ suc t)
     × CarefulFor k m.words o t (container_after k.kinds cs o).content i x
     × TimelyFor k o t i x (has_committed o v.log)
 -- a word of a table that it took and that has stood in no root since
-May k m cs v (PutFresh t i x) = IsTable k t × (i < size (class_of t)) × (stage t v.log ≡ 1)
+May k m cs v (PutFresh t i x) = IsTableName k t × (i < size (class_of t)) × (stage t v.log ≡ 1)
 -- the goal of a table that it retired
-May k m cs v (PutHeader t x) = IsTable k t × (stage t v.log ≡ 4) × (x ≡ goal t v.log)
+May k m cs v (PutHeader t x) = IsTableName k t × (stage t v.log ≡ 4) × (x ≡ goal t v.log)
 -- The call is a write of containers of its kind, the version of what it changes is odd by the pass, the reply is that
 -- of the plain containers at the counter, the pass has a call left and the counter has room. Each entry with an even
 -- version says the same of the content after the call, and each key that is added has its entry. Where the pass has
@@ -188,8 +188,8 @@ May k m cs v (Version o f) = o < containers_in k
 May k m cs v (ReadBlock o i f) = (o < containers_in k) × (i < 6)
 -- but for a root that is read to search its table without the lock: the pass is online
 May k m cs v (ReadRoot o f) = (o < containers_in k) × (0 < announces v.log) × (v.number ≤ k.passes)
-May k m cs v (ReadTable t i f) = IsTable k t × (i < size (class_of t))
-May k m cs v (ReadHeader t f) = IsTable k t
+May k m cs v (ReadTable t i f) = IsTableName k t × (i < size (class_of t))
+May k m cs v (ReadHeader t f) = IsTableName k t
 May k m cs v (ReadCounter f) = Unit {0}
 -- The call is no write, and a load of the counter since the last entry gave its stamp. The reply is that of the plain
 -- containers after as many writes, or that of a section, or a MemoryError; the last two have their causes. The pass has
@@ -221,17 +221,17 @@ May k m cs v (ReadCount c f) = IsClass c
 May k m cs v (ReadFree w f) = w < 224
 -- in the midst of a taking of its class
 May k m cs v (TakeTable t f s) =
-    IsTable k t × (stage t v.log ≡ 0) × (s ≡ snap m cs) × (flight v.log ≡ 2 * class_of t + 1)
+    IsTableName k t × (stage t v.log ≡ 0) × (s ≡ snap m cs) × (flight v.log ≡ 2 * class_of t + 1)
 -- a table that has stood in no root since it was taken, and has no odd version; or one that the pass retired, where it
 -- has found each pass offline or at least at the goal since then
 May k m cs v (GiveTable t) =
-    IsTable k t
+    IsTableName k t
     × (((stage t v.log ≡ 1) × IsAllShut (class_of t) (table_of k t m.words))
     ⊎ ((stage t v.log ≡ 4) × ((p : ℕ) → 0 < p → p ≤ k.passes → clear t p v.log ≡ true)))
     × (flight v.log ≡ 0)
 -- a table that the pass took out of a root; it has retired fewer than it has taken out
 May k m cs v (Retire t f) =
-    IsTable k t × (stage t v.log ≡ 3) × (word_in k m write_number + 1 < 2 ^ 64) × (0 < debt v.log)
+    IsTableName k t × (stage t v.log ≡ 3) × (word_in k m write_number + 1 < 2 ^ 64) × (0 < debt v.log)
 -- its own number, and at most the write number
 May k m cs v (Announce p x) =
     (p ≡ v.number) × (p ≤ k.passes) × (x ≤ word_in k m write_number) × (0 < p) × (p ≤ 64)

@@ -1,6 +1,6 @@
 //! The parts of the bank's rule: what holds of every valid trace, for the bank and all that stands on it.
 ghost use Rattle.ft_trace.specs.Grants.{ListsMayBeCleared, ClearedTablesMayBeGivenBack, TakingsEnd};
-ghost use Rattle.ft_trace.specs.Writes.{WritesMayBeMade};
+ghost use Rattle.ft_trace.specs.WholeWrites.{WritesMayBeMade};
 ghost use Rattle.ft_trace.specs.ItemWrites.{ItemsMayBePut, ItemsMayBeAppended};
 ghost use Rattle.ft_trace.specs.Replies.{RepliesMayBeGiven, CursorsMayBeMoved, MemoryErrorsMayBeAnswered};
 ghost use Rattle.ft_trace.specs.LookReplies.{DictHitsAreReplied, SetHitsAreReplied, MissesAreReplied, ItemsAreReplied, PastItemsAreReplied};
@@ -15,7 +15,7 @@ ghost use Rattle.ft_trace.specs.SetWrites.{ElementsMayBeAdded, ElementsMayBeDisc
 ghost use Rattle.ft_trace.specs.GrowWrites.{DictsMayGrow};
 ghost use Rattle.ft_trace.specs.SetGrowWrites.{SetsMayGrow};
 ghost use Rattle.ft_trace.specs.ListGrowWrites.{ListsMayGrow};
-ghost use Rattle.ft_trace.specs.Laws.{ContentsFit, StoredTablesAreInOrder, WordsLieApart, PairsAreUnderTheirKeys, ElementsAreUnderTheirKeys, OnePassIsAlone, StampsRise, MemoryErrorsAreEarned, LocksNameHolders, FoundOwnersHadLocks, OneKnowsAllOwners, VersionsAreOddInWrites, EvenTablesAreShut, OddVersionsAreInWrites, NumbersAreOnce, EntriesAreRight, OneHasAllEntries, EvenWordsStand, ZeroRootsHaveNothing, HoldersKnow, TablesAreSomewhere, TablesAreInOnePlace, CountsStand, TablesAreOwed, EmptyClassesAreEarned, AnnouncedNumbersAreLow, FoundTablesAreKept, TablesAreFreeBeforeRoots, GoalsStand, GivenUpTablesRest, TablesAreSound, TableWordsStay, HitsAreRight, MissesAreRight, BareRootsAreRight, ItemsAreRight, ListsFitTheirTables, LooksAreRight, LooksAtBothAreRight, ChangedRootsAreNew, NumbersHaveRoom, NextSerialsAreLow, CallsAreCounted};
+ghost use Rattle.ft_trace.specs.TraceLaws.{ContentsFit, StoredTablesAreInOrder, WordsLieApart, PairsAreUnderTheirKeys, ElementsAreUnderTheirKeys, OnePassIsAlone, StampsRise, MemoryErrorsAreEarned, LocksNameHolders, FoundOwnersHadLocks, OneKnowsAllOwners, VersionsAreOddInWrites, EvenTablesAreShut, OddVersionsAreInWrites, NumbersAreOnce, EntriesAreRight, OneHasAllEntries, EvenWordsStand, ZeroRootsHaveNothing, HoldersKnow, TablesAreSomewhere, TablesAreInOnePlace, CountsStand, TablesAreOwed, EmptyClassesAreEarned, AnnouncedNumbersAreLow, FoundTablesAreKept, TablesAreFreeBeforeRoots, GoalsStand, GivenUpTablesRest, TablesAreSound, TableWordsStay, HitsAreRight, MissesAreRight, BareRootsAreRight, ItemsAreRight, ListsFitTheirTables, LooksAreRight, LooksAtBothAreRight, ChangedRootsAreNew, NumbersHaveRoom, NextSerialsAreLow, CallsAreCounted};
 
 use ft_layout::{
     puts_change_one_item, used_entries_follow_a_dict, used_entries_follow_a_set,

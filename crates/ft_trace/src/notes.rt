@@ -1,6 +1,6 @@
 //! What notes, joins and the floor give: laws on every valid trace, for callers that meet and for one caller
 //! that holds all passes.
-ghost use Rattle.ft_trace.specs.Notes.{SeenIsLow, SeenIsHandedOn, LoadsSeeAll};
+ghost use Rattle.ft_trace.specs.SeenWrites.{SeenIsLow, SeenIsHandedOn, LoadsSeeAll};
 ghost use Rattle.ft_trace.specs.Floors.{TokensAreAll, AllTokensAreAlone, FloorStands, FloorTells, OwnersStay, KnownOwnersStay, RestingPassesAreQuiet, FloorVersionsAreEven, KnownVersionsAreEven};
 
 /// A pass has seen no more writes than the counter says: its next load of the counter, and its next write,

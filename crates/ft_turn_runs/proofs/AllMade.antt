@@ -21,19 +21,19 @@ use Rattle.ft_turns.specs.Ends.{after_turns}
 use Rattle.ft_turns.specs.Orders.{Machine, answer_try, count_of_calls, finish_try, next_call, start_machine, thread_at, turn, turns_of}
 use Rattle.ft_turns.specs.declared.schedule.Schedule.{Schedule}
 use Rattle.ft_turns.specs.Schedules.{IsInRound, scheduled}
-use Rattle.ft_turns.proofs.Endings.{calls_at, same_parts}
+use Rattle.ft_turns.proofs.NothingLeft.{calls_at, same_parts}
 use Rattle.ft_ordering.specs.Endings.{entry_lists}
 use Rattle.ft_ordering.specs.Ordered.{AreAnswersInOrder}
 use Rattle.ft_ordering.specs.LockOwners.{owners_in}
 use Rattle.ft_ordering.specs.Standing.{AreAsMachine, Standing}
 use Rattle.ft_ordering.specs.Turns.{AreInStep}
-use Rattle.ft_ordering.proofs.Finished.{finished}
+use Rattle.ft_ordering.proofs.LastTurn.{finished}
 use Rattle.ft_bank.specs.declared.tokens.Tokens.{Tokens}
 use Rattle.ft_workers.specs.Workers.{IsBankFor}
-use Rattle.ft_workers.proofs.Asked.{calls_past}
-use Rattle.ft_workers.proofs.Endings.{max_some}
+use Rattle.ft_workers.proofs.ScriptFacts.{calls_past}
+use Rattle.ft_workers.proofs.WholeLists.{max_some}
 use Rattle.ft_turn_runs.specs.declared.seats.Seat.{Seat}
-use Rattle.ft_turn_runs.specs.Seats.{AreSeats, SeatsHaveMadeAll, HaveTurned, IsHeld, seat_entries, entries_made, standing_at, standing_in, standings_of}
+use Rattle.ft_turn_runs.specs.Internal.CallerSeats.{AreSeats, SeatsHaveMadeAll, HaveTurned, IsHeld, seat_entries, entries_made, standing_at, standing_in, standings_of}
 use Rattle.ft_turn_runs.proofs.Seated.{few_made, next_is}
 
 -- ---- turns in which no thread has a call left

@@ -9,7 +9,7 @@ use Rattle.ft_model.specs.Scripts.{IsScript}
 use Rattle.ft_trace.specs.declared.View.{View}
 use Rattle.ft_trace.specs.Acts.{announces}
 use Rattle.ft_bank.specs.Passes.{view}
-use Rattle.ft_bank.specs.Sections.{Stack, stack_of}
+use Rattle.ft_bank.specs.PassSections.{Stack, stack_of}
 use Rattle.ft_engine.specs.declared.caller.Caller.{Caller}
 use Rattle.ft_engine.specs.declared.engine.Engine.{Engine}
 use Rattle.ft_engine.specs.Callers.{IsCallerOf, IsIdle, pass_of, thread_of}
@@ -18,13 +18,13 @@ use Rattle.ft_engine.specs.Flights.{IsFlightAnswered}
 use Rattle.ft_engine.specs.Resting.{IsAsBefore, IsRestDone, RestsAs, rests_in}
 use Rattle.ft_workers.specs.declared.workers.Worker.{Worker}
 use Rattle.ft_workers.specs.Workers.{HasTakenIn, HasWorked}
-use Rattle.ft_workers.proofs.Asked.{ends_level}
+use Rattle.ft_workers.proofs.ScriptFacts.{ends_level}
 use Rattle.ft_workers.proofs.Between.{no_sections}
-use Rattle.ft_workers.proofs.Depths.{depth_unanswered, step_depth}
-use Rattle.ft_workers.proofs.Endings.{first_taken, next_taken}
+use Rattle.ft_workers.proofs.ThreadDepths.{depth_unanswered, step_depth}
+use Rattle.ft_workers.proofs.WholeLists.{first_taken, next_taken}
 use Rattle.ft_workers.proofs.WorkerLemmas.{last_next}
 use Rattle.ft_turn_runs.specs.declared.seats.Seat.{Seat}
-use Rattle.ft_turn_runs.specs.Seats.{AreEndSeats, AreSeats, SeatsHaveMadeAll, IsBetweenTurns, IsEndSeat, IsSeatOf}
+use Rattle.ft_turn_runs.specs.Internal.CallerSeats.{AreEndSeats, AreSeats, SeatsHaveMadeAll, IsBetweenTurns, IsEndSeat, IsSeatOf}
 use Rattle.ft_turn_runs.proofs.Seated.{woken_between}
 
 -- a thread with no call left is a worker that is done

@@ -1,8 +1,8 @@
 mod Visited
 mod NextCalls
-mod Tries
+mod TriesWithFloor
 mod Seated
-mod Rows
+mod SeatRows
 mod AllMade
 mod NewSeats
 mod Ended

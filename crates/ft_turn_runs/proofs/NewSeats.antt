@@ -17,7 +17,7 @@ use Rattle.ft_trace.specs.Acts.{announces}
 use Rattle.ft_trace.specs.Addresses.{containers_in}
 use Rattle.ft_bank.specs.declared.tokens.Tokens.{Tokens}
 use Rattle.ft_bank.specs.Passes.{shape_of, view}
-use Rattle.ft_bank.specs.Sections.{no_sections, stack_of}
+use Rattle.ft_bank.specs.PassSections.{no_sections, stack_of}
 use Rattle.ft_engine.specs.declared.caller.Caller.{Caller}
 use Rattle.ft_engine.specs.declared.caller.Flight.{Flight}
 use Rattle.ft_engine.specs.declared.engine.Engine.{Engine}
@@ -32,12 +32,12 @@ use Rattle.ft_ordering.specs.Beginnings.{HasFloorFrom, NoneOwns}
 use Rattle.ft_ordering.specs.Ordered.{nobody}
 use Rattle.ft_ordering.specs.Standing.{Standing}
 use Rattle.ft_ordering.proofs.FreeLocks.{nobodys_are_free, one_more}
-use Rattle.ft_ordering.proofs.Starting.{fresh_nobody, new_in_step, same_owners, woken_have_floor}
+use Rattle.ft_ordering.proofs.BeforeTurns.{fresh_nobody, new_in_step, same_owners, woken_have_floor}
 use Rattle.ft_workers.specs.Workers.{IsBankFor}
 use Rattle.ft_workers.proofs.Between.{visited_member}
-use Rattle.ft_workers.proofs.Endings.{max_some}
+use Rattle.ft_workers.proofs.WholeLists.{max_some}
 use Rattle.ft_turn_runs.specs.declared.seats.Seat.{Seat}
-use Rattle.ft_turn_runs.specs.Seats.{AreNewFrom, AreNewSeats, AreSeats, HaveTurned, IsBetweenTurns, IsGiver, IsNewCaller, IsNewRest, IsNewSeat, IsSeatOf, NobodyOwns, seat_entries, entries_made, standing_at, standing_in, standings_of}
+use Rattle.ft_turn_runs.specs.Internal.CallerSeats.{AreNewFrom, AreNewSeats, AreSeats, HaveTurned, IsBetweenTurns, IsGiver, IsNewCaller, IsNewRest, IsNewSeat, IsSeatOf, NobodyOwns, seat_entries, entries_made, standing_at, standing_in, standings_of}
 
 -- ---- callers
 

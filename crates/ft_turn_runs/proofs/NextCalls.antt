@@ -14,9 +14,9 @@ use Rattle.ft_engine.specs.declared.engine.Engine.{Engine}
 use Rattle.ft_engine.specs.Attempts.{MayAttempt}
 use Rattle.ft_engine.specs.Callers.{bank_of}
 use Rattle.ft_workers.specs.Workers.{AreCallsOn, IsBankFor}
-use Rattle.ft_workers.proofs.Asked.{calls_at, calls_on}
+use Rattle.ft_workers.proofs.ScriptFacts.{calls_at, calls_on}
 use Rattle.ft_workers.proofs.NextCalls.{may_next}
-use Rattle.ft_turn_runs.specs.Seats.{IsBetweenTurns}
+use Rattle.ft_turn_runs.specs.Internal.CallerSeats.{IsBetweenTurns}
 
 thread_there : (script : ScriptParts) (i : ℕ) → i < length script.threads → (own : Thread) × (slice_get script.threads i ≡ Some own)
 thread_there script i low =

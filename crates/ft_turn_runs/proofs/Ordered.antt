@@ -26,11 +26,12 @@ use Rattle.ft_engine.specs.DoneCallers.{AreNumberedFor, AreOfScript}
 use Rattle.ft_turns.specs.Orders.{IsOrderRun, Machine, count_of_calls, ordered_in, round_of, start_machine, turn, turns_of}
 use Rattle.ft_ordering.specs.Endings.{entry_lists}
 use Rattle.ft_ordering.specs.Turns.{AreInStep}
-use Rattle.ft_ordering.proofs.Finished.{turns_are_order_runs}
+use Rattle.ft_ordering.proofs.LastTurn.{turns_are_order_runs}
 use Rattle.ft_workers.specs.Workers.{IsBankFor}
-use Rattle.ft_workers.proofs.Endings.{empty_history, nothing_made, of_script}
+use Rattle.ft_workers.proofs.WholeLists.{empty_history, nothing_made, of_script}
 use Rattle.ft_turn_runs.specs.declared.seats.Seat.{Seat}
-use Rattle.ft_turn_runs.specs.Seats.{HaveTurned, IsOrderRunFor, seat_entries, vec_lists, standings_of}
+use Rattle.ft_turn_runs.specs.Internal.CallerSeats.{HaveTurned, seat_entries, vec_lists, standings_of}
+use Rattle.ft_turn_runs.specs.OrderedHistories.{IsOrderRunFor}
 
 lists_of_seats : (seats : List (Option Seat)) → entry_lists (standings_of seats) ≡ map seat_entries seats
 lists_of_seats [] = refl

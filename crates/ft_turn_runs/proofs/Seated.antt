@@ -10,12 +10,12 @@ use Rattle.ft_model.specs.declared.entry.Entry.{Entry}
 use Rattle.ft_model.specs.declared.script.ScriptParts.{ScriptParts}
 use Rattle.ft_model.specs.Histories.{calls_of}
 use Rattle.ft_model.specs.Limits.{most_cursors}
-use Rattle.ft_history.proofs.Places.{take_next}
+use Rattle.ft_history.proofs.HistoryPlaces.{take_next}
 use Rattle.ft_trace.specs.declared.View.{View}
 use Rattle.ft_trace.specs.Acts.{announces, seen_writes}
 use Rattle.ft_bank.specs.declared.tokens.Tokens.{Tokens}
 use Rattle.ft_bank.specs.Passes.{shape_of, view}
-use Rattle.ft_bank.specs.Sections.{stack_of}
+use Rattle.ft_bank.specs.PassSections.{stack_of}
 use Rattle.ft_closing.specs.Numbering.{IsFor}
 use Rattle.ft_engine.specs.declared.attempts.Tried.{Tried}
 use Rattle.ft_engine.specs.declared.attempts.Tried.TheVariants as tried
@@ -37,12 +37,12 @@ use Rattle.ft_ordering.specs.Standing.{AreAsMachine, Standing, standing_of}
 use Rattle.ft_ordering.specs.Turns.{AreInStep, IsTurnOf}
 use Rattle.ft_ordering.proofs.CallerTurns.{one_more_turn}
 use Rattle.ft_ordering.proofs.InStep.{tries_are_turns}
-use Rattle.ft_ordering.proofs.Starting.{handed_on, resting_stand, woken_have_floor}
+use Rattle.ft_ordering.proofs.BeforeTurns.{handed_on, resting_stand, woken_have_floor}
 use Rattle.ft_workers.specs.Workers.{IsBankFor, IsMember}
 use Rattle.ft_workers.proofs.Between.{stays_member, visited_member}
-use Rattle.ft_workers.proofs.Endings.{max_some}
+use Rattle.ft_workers.proofs.WholeLists.{max_some}
 use Rattle.ft_turn_runs.specs.declared.seats.Seat.{Seat}
-use Rattle.ft_turn_runs.specs.Seats.{StaysInStep, HasTried, IsBetweenTurns, IsGiver, TokensStayInStep, ends_call, standing_in}
+use Rattle.ft_turn_runs.specs.Internal.CallerSeats.{StaysInStep, HasTried, IsBetweenTurns, IsGiver, TokensStayInStep, ends_call, standing_in}
 use Rattle.ft_turn_runs.proofs.Visited.{visited_step}
 
 -- ---- who is woken is between two turns still

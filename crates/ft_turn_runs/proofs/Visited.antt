@@ -6,7 +6,7 @@ use Rattle.ft_model.specs.declared.script.Declaration.{Declaration}
 use Rattle.ft_model.specs.declared.script.ScriptParts.{ScriptParts}
 use Rattle.ft_trace.specs.Addresses.{containers_in}
 use Rattle.ft_bank.specs.Passes.{shape_of, view}
-use Rattle.ft_bank.specs.Sections.{Stack, noted_in, stack_of, taken_in}
+use Rattle.ft_bank.specs.PassSections.{Stack, noted_in, stack_of, taken_in}
 use Rattle.ft_section.specs.Ready.{InCall}
 use Rattle.ft_engine.specs.declared.caller.Caller.{Caller}
 use Rattle.ft_engine.specs.declared.engine.Engine.{Engine}

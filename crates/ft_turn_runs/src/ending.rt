@@ -6,7 +6,8 @@ ghost use Rattle.ft_engine.specs.Callers.{bank_of};
 ghost use Rattle.ft_engine.specs.DoneCallers.{IsLegalFor};
 ghost use Rattle.ft_model.specs.Scripts.{IsScript};
 ghost use Rattle.ft_turns.specs.Orders.{turns_of};
-ghost use Rattle.ft_turn_runs.specs.Seats.{AreEndSeats, AreSeats, SeatsHaveMadeAll, HaveTurned, IsEndSeat, IsHeld, IsOrderRunFor, seat_entries, vec_lists};
+ghost use Rattle.ft_turn_runs.specs.Internal.CallerSeats.{AreEndSeats, AreSeats, SeatsHaveMadeAll, HaveTurned, IsEndSeat, IsHeld, seat_entries, vec_lists};
+ghost use Rattle.ft_turn_runs.specs.OrderedHistories.{IsOrderRunFor};
 ghost use Rattle.ft_workers.specs.ClosedHistories.{HasEntriesOf};
 ghost use Rattle.ft_workers.specs.Workers.{HasTakenIn, IsBankFor};
 

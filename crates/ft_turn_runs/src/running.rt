@@ -2,7 +2,7 @@
 ghost use Rattle.std.specs.Prelude.{IfOk};
 ghost use Rattle.ft_bank.specs.Closings.{shape_in};
 ghost use Rattle.ft_engine.specs.DoneCallers.{IsLegalFor};
-ghost use Rattle.ft_turn_runs.specs.Seats.{IsOrderRunFor};
+ghost use Rattle.ft_turn_runs.specs.OrderedHistories.{IsOrderRunFor};
 ghost use Rattle.ft_workers.specs.ClosedHistories.{HasEntriesOf};
 ghost use Rattle.ft_workers.specs.Workers.{IsBankFor};
 

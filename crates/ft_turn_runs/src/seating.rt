@@ -5,7 +5,7 @@ ghost use Rattle.ft_engine.specs.Callers.{AreFreshCallers, bank_of};
 ghost use Rattle.ft_engine.specs.Resting.{HasFloor};
 ghost use Rattle.ft_model.specs.Histories.{calls_of};
 ghost use Rattle.ft_model.specs.Limits.{most_cursors};
-ghost use Rattle.ft_turn_runs.specs.Seats.{AreNewFrom, AreNewSeats, AreSeats, HasCome, HasSat, HaveTurned, IsHeld, IsNewCaller, IsNewSeat, NobodyOwns, entries_made};
+ghost use Rattle.ft_turn_runs.specs.Internal.CallerSeats.{AreNewFrom, AreNewSeats, AreSeats, HasCome, HasSat, HaveTurned, IsHeld, IsNewCaller, IsNewSeat, NobodyOwns, entries_made};
 ghost use Rattle.ft_workers.specs.Workers.{IsBankFor};
 
 use crate::seats::Seat;

@@ -7,7 +7,7 @@ ghost use Rattle.ft_engine.specs.Keeping.{WasAnswered};
 ghost use Rattle.ft_engine.specs.Resting.{HasFloor};
 ghost use Rattle.ft_model.specs.Histories.{calls_of};
 ghost use Rattle.ft_model.specs.Scripts.{IsScript};
-ghost use Rattle.ft_turn_runs.specs.Seats.{StaysInStep, HasTried, IsBetweenTurns, IsHeld, IsSeatOf, TokensStayInStep};
+ghost use Rattle.ft_turn_runs.specs.Internal.CallerSeats.{StaysInStep, HasTried, IsBetweenTurns, IsHeld, IsSeatOf, TokensStayInStep};
 ghost use Rattle.ft_workers.specs.Workers.{IsBankFor};
 
 use crate::seats::Seat;

@@ -5,7 +5,7 @@ ghost use Rattle.ft_engine.specs.Callers.{bank_of};
 ghost use Rattle.ft_model.specs.Scripts.{IsScript};
 ghost use Rattle.ft_turns.specs.Orders.{turns_of};
 ghost use Rattle.ft_turns.specs.Schedules.{IsInRound, scheduled};
-ghost use Rattle.ft_turn_runs.specs.Seats.{AreSeats, SeatsHaveMadeAll, HaveTurned, IsHeld, entries_made};
+ghost use Rattle.ft_turn_runs.specs.Internal.CallerSeats.{AreSeats, SeatsHaveMadeAll, HaveTurned, IsHeld, entries_made};
 ghost use Rattle.ft_workers.specs.Workers.{IsBankFor};
 
 use crate::seats::Seat;

@@ -39,7 +39,7 @@ use Rattle.ft_model.specs.Scripts.{IsKeyOf, IsValueOf, cursor_of}
 use Rattle.ft_model.specs.Parts.{IsReplyOf, IsContentOf}
 use Rattle.ft_model.specs.Answers.{Answer, shows, moves, answer_dict, answer_list, answer_set, cursor_step, answer, is_raised, is_memory, is_write}
 use Rattle.ft_turns.specs.Internal.Counting.{counted_in}
-use Rattle.ft_turns.proofs.CallFacts.{IsCallBy, is_counting}
+use Rattle.ft_turns.proofs.CallParts.{IsCallBy, is_counting}
 use Rattle.ft_turns.proofs.ContentFacts.{IsPairBy, IsElementBy, IsReplyBy, IsContentBy, GoTogether, held_at, found_in}
 use Rattle.ft_turns.proofs.AnswerForms.{Form, shown, put, made, form_dict, form_list, form_set}
 

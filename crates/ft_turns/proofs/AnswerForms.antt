@@ -32,7 +32,7 @@ use Rattle.ft_model.specs.Lists.{index_in, index_of, count_of, list_slice, list_
 use Rattle.ft_model.specs.Cursors.{dict_iter, list_iter, set_iter}
 use Rattle.ft_model.specs.Worlds.{IsOfKind, kind_of, cursor_kind, container_of, dict_at, list_at, set_at}
 use Rattle.ft_model.specs.Answers.{Answer, shows, puts, moves, items_of, without_last, without_first, answer_dict, answer_list, answer_set, is_raised, is_memory}
-use Rattle.ft_turns.proofs.CallFacts.{IsDictCallBy, IsListCallBy, IsSetCallBy, is_counting_dict, is_counting_list, is_counting_set}
+use Rattle.ft_turns.proofs.CallParts.{IsDictCallBy, IsListCallBy, IsSetCallBy, is_counting_dict, is_counting_list, is_counting_set}
 use Rattle.ft_turns.proofs.ContentFacts.{IsPairBy, IsElementBy, IsReplyBy, IsContentBy, GoTogether, held_at, got_value, set_pairs, update_pairs, copied_pairs, item_value, removed_items, inserted_items, sliced_items, reversed_items, added_elements, renumbered}
 
 -- how an answer depends on the hands: it shows a reply, puts a content, or makes a cursor over the container. What is said of keys, values and counts is so of its own

@@ -16,12 +16,12 @@ use Rattle.ft_turns.specs.Chronicling.{IsAnswerable}
 use Rattle.ft_turns.specs.AnsweredTurns.{Tally, hands_in, no_tally, noted_after, tally_after, Progress, start_progress, answered_turn}
 use Rattle.ft_turns.proofs.ProgressWords.{tally_of}
 use Rattle.ft_turns.proofs.MachineSteps.{there}
-use Rattle.ft_turns.proofs.Owned.{by_thread}
+use Rattle.ft_turns.proofs.LocksOnce.{by_thread}
 use Rattle.ft_turns.proofs.AnsweringSteps.{IsKeptByAnswers, answered_turns_keep}
 use Rattle.ft_turns.proofs.Going.{IsGoing, CallsOf, thread_low, going_waits, going_answers, going_finishes, going_start, tally_at_start}
 use Rattle.ft_turns.proofs.Chronicled.{calls_of_script}
 use Rattle.ft_turns.proofs.Askable.{made_of_script, next_declared}
-use Rattle.ft_turns.proofs.Rooms.{room_now}
+use Rattle.ft_turns.proofs.SerialRoom.{room_now}
 
 -- a tally counts no more than the calls that have finished
 abbrev pub AreCounted : Progress → Type 0

@@ -4,7 +4,7 @@ use Rattle.std.specs.Prelude.{if◌then◌else◌, ◌==◌, slice_set, ◌⊎�
 use Rattle.std.proofs.lemmas.Bool.Decides.{nat_tests}
 use Rattle.std.proofs.lemmas.List.{append-nil}
 use Rattle.ft_turns.specs.Orders.{Locking, holder_of, take_locks}
-use Rattle.ft_turns.proofs.Holding.{times, by, same_self, same_other, is_same, locking_at, take_step}
+use Rattle.ft_turns.proofs.LockCounts.{times, by, same_self, same_other, is_same, locking_at, take_step}
 use Rattle.ft_turns.specs.Wants.{AreBelow}
 use Rattle.ft_turns.proofs.Wanting.{AreRising}
 
@@ -21,7 +21,7 @@ pub record Blocks (thread : ℕ) (locking : Locking) (before wanted : List ℕ) 
   pub own : IsOwn (before ++ locking.taken) [] wanted
 
 -- one lock, of this holder, is found with another thread
-pub record Found (thread : ℕ) (holders : List (Option ℕ)) (x : ℕ) (locking : Locking) (other : ℕ) : Type 0 where
+pub record FoundHeld (thread : ℕ) (holders : List (Option ℕ)) (x : ℕ) (locking : Locking) (other : ℕ) : Type 0 where
   pub holder : holder_of holders x ≡ Some other
   pub differ : other ≢ thread
   pub taken : locking.taken ≡ []
@@ -30,20 +30,20 @@ pub record Found (thread : ℕ) (holders : List (Option ℕ)) (x : ℕ) (locking
 some_same : (a b : ℕ) → Some a ≡ Some b → a ≡ b
 some_same a b e = cc
 
-found_one : (b : Bool) (thread : ℕ) (holders : List (Option ℕ)) (x q other : ℕ) → (q == thread) ≡ b → holder_of holders x ≡ Some q → (if b then take_locks thread holders [] else record { holders = holders; taken = []; found = Some q }).found ≡ Some other → Found thread holders x (if b then take_locks thread holders [] else record { holders = holders; taken = []; found = Some q }) other
+found_one : (b : Bool) (thread : ℕ) (holders : List (Option ℕ)) (x q other : ℕ) → (q == thread) ≡ b → holder_of holders x ≡ Some q → (if b then take_locks thread holders [] else record { holders = holders; taken = []; found = Some q }).found ≡ Some other → FoundHeld thread holders x (if b then take_locks thread holders [] else record { holders = holders; taken = []; found = Some q }) other
 found_one true thread holders x q other is held found = absurd (let e : None ≡ Some other = found in cc)
 found_one false thread holders x q other is held found =
     let this : q ≡ other = some_same q other found in
     record { holder = held ∙ ap (λ p. let o : Option ℕ = Some p in o) this; differ = λ e. (let n : q ≢ thread = grind (arith, nat_tests, is) in n (this ∙ e)); taken = refl; holders_are = refl }
 
-found_at : (thread : ℕ) (holders : List (Option ℕ)) (x : ℕ) (holder : Option ℕ) (other : ℕ) → holder_of holders x ≡ holder → (locking_at thread holders x [] holder).found ≡ Some other → Found thread holders x (locking_at thread holders x [] holder) other
+found_at : (thread : ℕ) (holders : List (Option ℕ)) (x : ℕ) (holder : Option ℕ) (other : ℕ) → holder_of holders x ≡ holder → (locking_at thread holders x [] holder).found ≡ Some other → FoundHeld thread holders x (locking_at thread holders x [] holder) other
 found_at thread holders x None other is found = absurd (let e : None ≡ Some other = found in cc)
 found_at thread holders x (Some q) other is found = found_one (q == thread) thread holders x q other refl is found
 
-found_last : (thread : ℕ) (holders : List (Option ℕ)) (x other : ℕ) → (take_locks thread holders (x ∷ [])).found ≡ Some other → Found thread holders x (take_locks thread holders (x ∷ [])) other
+found_last : (thread : ℕ) (holders : List (Option ℕ)) (x other : ℕ) → (take_locks thread holders (x ∷ [])).found ≡ Some other → FoundHeld thread holders x (take_locks thread holders (x ∷ [])) other
 found_last thread holders x other found =
     let step = take_step thread holders x [] (holder_of holders x) refl in
-    subst (λ (l : Locking). Found thread holders x l other) step (found_at thread holders x (holder_of holders x) other refl (ap (λ (l : Locking). l.found) step ∙ found))
+    subst (λ (l : Locking). FoundHeld thread holders x l other) step (found_at thread holders x (holder_of holders x) other refl (ap (λ (l : Locking). l.found) step ∙ found))
 
 none_above : (container one : ℕ) → 1 ≤ times one [] → one < container
 none_above container one some = absurd (omega (arith, some))
@@ -66,7 +66,7 @@ blocked_one thread holders own locks x other is found =
     }
 
 -- a thread that wants two, of which it takes or has the first
-blocked_second : (thread : ℕ) (holders : List (Option ℕ)) (own : List ℕ) (x y other : ℕ) (locking : Locking) → x < y → Found thread holders y locking other → (before : List ℕ) → (before ≡ []) ⊎ (before ≡ x ∷ []) → own ++ locking.taken ≡ own → own ≡ before → Blocks thread locking own (x ∷ y ∷ []) other
+blocked_second : (thread : ℕ) (holders : List (Option ℕ)) (own : List ℕ) (x y other : ℕ) (locking : Locking) → x < y → FoundHeld thread holders y locking other → (before : List ℕ) → (before ≡ []) ⊎ (before ≡ x ∷ []) → own ++ locking.taken ≡ own → own ≡ before → Blocks thread locking own (x ∷ y ∷ []) other
 blocked_second thread holders own x y other locking less f before cases none same_own =
     let whole : own ++ locking.taken ≡ before = none ∙ same_own in
     record {

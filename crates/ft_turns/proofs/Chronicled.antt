@@ -27,9 +27,9 @@ use Rattle.ft_turns.specs.AnsweredTurns.{Progress, start_progress, with_turn, ha
 use Rattle.ft_turns.specs.Chronicling.{AllFinish, IsChronicleOfTurns}
 use Rattle.ft_turns.proofs.LockLemmas.{occ, occ-nil, occ-cons}
 use Rattle.ft_turns.proofs.MachineSteps.{turns_keep}
-use Rattle.ft_turns.proofs.Owned.{IsOwned, owned_start}
+use Rattle.ft_turns.proofs.LocksOnce.{IsOwned, owned_start}
 use Rattle.ft_turns.proofs.Marks.{mark_at, count_fixed, own_containers, first_of_stack, IsBacked, backed_steps, backed_start}
-use Rattle.ft_turns.proofs.Following.{IsFollowed}
+use Rattle.ft_turns.proofs.MachineFacts.{IsFollowed}
 use Rattle.ft_turns.proofs.KeptLocks.{AreEntriesFor, CalmAtEnd, IsSecured, BeginsLow, secured_steps, secured_start}
 use Rattle.ft_turns.proofs.AnsweringSteps.{IsKeptByAnswers, answered_turns_keep}
 use Rattle.ft_turns.proofs.Going.{IsBare, IsGoing, CallsOf, going_start}

@@ -15,12 +15,12 @@ use Rattle.ft_model.specs.Worlds.{containers_used}
 use Rattle.ft_model.specs.Answers.{answer, is_memory}
 use Rattle.ft_model.specs.Histories.{writes, calls_of, hands_at, IsReplied, IsAnswered, Section, after_section, sections_at, IfEnds, marks_between, IsCountedBy, IsCounted}
 use Rattle.ft_history.specs.Internal.States.{world_before}
-use Rattle.ft_history.proofs.Places.{slice_get_at}
+use Rattle.ft_history.proofs.HistoryPlaces.{slice_get_at}
 use Rattle.ft_turns.specs.Orders.{thread_at, next_call}
 use Rattle.ft_turns.specs.AnsweredTurns.{Tally, noted_after, tally_after, waited_inside, ended_reply, thread_reply, Progress}
 use Rattle.ft_turns.proofs.ProgressWords.{hands_of, tally_of}
 use Rattle.ft_turns.proofs.Marks.{count_fixed, own_stack, own_containers}
-use Rattle.ft_turns.proofs.Following.{IsFollowed}
+use Rattle.ft_turns.proofs.MachineFacts.{IsFollowed}
 use Rattle.ft_turns.proofs.PlaceSteps.{AllBelow, marks_next, marks_none, other_unmarked, own_marked}
 use Rattle.ft_turns.proofs.NoSections.{none_ends}
 

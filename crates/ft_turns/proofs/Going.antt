@@ -26,15 +26,15 @@ use Rattle.ft_model.specs.Parts.{IsReplyOf, IsContentOf, IsWorldOf}
 use Rattle.ft_model.specs.Worlds.{kinds_of, start_world, start_hands, no_hands, empty_content, container_of, IsOfKind, kind_of, cursor_at}
 use Rattle.ft_model.specs.Answers.{answer, is_write, is_memory}
 use Rattle.ft_model.specs.Histories.{calls_of, cursors_of}
-use Rattle.ft_history.proofs.Places.{take_next, slice_get_left, slice_get_at}
+use Rattle.ft_history.proofs.HistoryPlaces.{take_next, slice_get_left, slice_get_at}
 use Rattle.ft_turns.specs.Orders.{makes, cursor_containers, ThreadState, take_locks, thread_at, next_call, without_locks, waiting_machine, sections_after, answered_machine, with_taken, finished_machine}
 use Rattle.ft_turns.specs.AnsweredTurns.{Tally, no_tally, ended_reply, waited_inside, thread_reply, Progress, start_progress}
 use Rattle.ft_turns.proofs.ProgressWords.{hands_of, tally_of, next_entry, with_answer, with_mark}
 use Rattle.ft_turns.proofs.MachineSteps.{IsTry, there}
-use Rattle.ft_turns.proofs.Owned.{by_thread, IsOwned, owned_steps, owned_start, start_thread}
+use Rattle.ft_turns.proofs.LocksOnce.{by_thread, IsOwned, owned_steps, owned_start, start_thread}
 use Rattle.ft_turns.proofs.Marks.{count_fixed}
 use Rattle.ft_turns.proofs.AnswerFacts.{AreOver, IsAsked, walked, walked_after, IsAny, IsPlainAnswerOf, plain_answer, plain_walks, strings_together, contents_by, contents_of, reply_of}
-use Rattle.ft_turns.proofs.CallFacts.{strings_of}
+use Rattle.ft_turns.proofs.CallParts.{strings_of}
 
 -- ---- replies
 

@@ -13,7 +13,7 @@ use Rattle.ft_turns.specs.Orders.{ThreadState, take_locks, thread_at, without_lo
 use Rattle.ft_turns.specs.AnsweredTurns.{Progress, start_progress}
 use Rattle.ft_turns.proofs.ProgressWords.{next_entry, with_answer, with_mark}
 use Rattle.ft_turns.proofs.MachineSteps.{IsTry, there}
-use Rattle.ft_turns.proofs.Owned.{by_thread, start_thread}
+use Rattle.ft_turns.proofs.LocksOnce.{by_thread, start_thread}
 use Rattle.ft_turns.proofs.Marks.{count_fixed}
 use Rattle.ft_turns.proofs.AnsweringSteps.{IsKeptByAnswers}
 use Rattle.ft_turns.proofs.Going.{IsGoing, CallsOf, going_waits, going_answers, going_finishes, slice_get_push}

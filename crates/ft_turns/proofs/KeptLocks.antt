@@ -17,13 +17,13 @@ use Rattle.ft_model.specs.declared.entry.Entry.{Entry}
 use Rattle.ft_model.specs.declared.script.ScriptParts.{ScriptParts}
 use Rattle.ft_model.specs.Calls.{is_changing, is_changing_dict, is_changing_list, is_changing_set, is_locked_dict, is_locked_list, is_locked_set, one_or_two, containers_of, other_dict, other_list, other_set}
 use Rattle.ft_model.specs.Histories.{calls_of, Section, after_section, sections_at, IfEnds, names, is_disturbed, marks_between}
-use Rattle.ft_history.proofs.Places.{slice_get_at}
+use Rattle.ft_history.proofs.HistoryPlaces.{slice_get_at}
 use Rattle.ft_turns.specs.Orders.{locks_taken, lower_first, OpenSection, ThreadState, Machine, fresh_thread, start_machine, take_locks, holder_of, thread_at, without_locks, waiting_machine, sections_after, answered_machine, innermost_containers, with_taken, finished_machine}
 use Rattle.ft_turns.proofs.LockLemmas.{occ, occ-append, named_occ, occ-lower_first, held, bit_of, bit_same, bit_is, take_all, take_own}
 use Rattle.ft_turns.proofs.MachineSteps.{wanted, wanted_again, IsTry, IsKeptBySteps, there}
-use Rattle.ft_turns.proofs.Owned.{by_thread, flat, taken_mine, taken_others, IsOwned, owned_steps, start_thread}
+use Rattle.ft_turns.proofs.LocksOnce.{by_thread, flat, taken_mine, taken_others, IsOwned, owned_steps, start_thread}
 use Rattle.ft_turns.proofs.Marks.{mark_at}
-use Rattle.ft_turns.proofs.Following.{IsFollowed, followed_waits, followed_answers, followed_finishes}
+use Rattle.ft_turns.proofs.MachineFacts.{IsFollowed, followed_waits, followed_answers, followed_finishes}
 use Rattle.ft_turns.proofs.PlaceSteps.{AllBelow, sections_below, sections_own, sections_other}
 use Rattle.ft_turns.proofs.Secured.{AreHeld, Secured, blocked, finished, quieter, own_next, other_next, secured_after, marked_after, drop_still_marked}
 use Rattle.ft_turns.proofs.NoSections.{none_ends}

@@ -5,14 +5,14 @@ pub mod AnsweredPlaces
 pub mod AnsweringSteps
 pub mod Askable
 pub mod Blocking
-pub mod CallFacts
+pub mod CallParts
 pub mod Chronicled
 pub mod ContentFacts
-pub mod Endings
-pub mod Finishing
-pub mod Following
+pub mod NothingLeft
+pub mod AllCallsFinish
+pub mod MachineFacts
 pub mod Going
-pub mod Holding
+pub mod LockCounts
 pub mod Indexed
 pub mod KeptLocks
 pub mod LockLemmas
@@ -20,7 +20,7 @@ pub mod MachineSoundness
 pub mod MachineSteps
 pub mod Marks
 pub mod NoSections
-pub mod Owned
+pub mod LocksOnce
 pub mod PlaceSteps
 pub mod Progress
 pub mod ProgressWords
@@ -33,4 +33,4 @@ pub mod TurnParts
 pub mod TurnSoundness
 pub mod TurnSteps
 pub mod Wanting
-pub mod Rooms
+pub mod SerialRoom

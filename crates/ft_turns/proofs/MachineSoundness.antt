@@ -18,7 +18,7 @@ use Rattle.ft_turns.specs.Wants.{so_far}
 use Rattle.ft_turns.specs.Ends.{steps_made}
 use Rattle.ft_turns.proofs.TurnParts.{turn_is, idle_turn}
 use Rattle.ft_turns.proofs.TurnSteps.{finish_adds_mark, answer_keeps_marks}
-use Rattle.ft_turns.proofs.Holding.{by}
+use Rattle.ft_turns.proofs.LockCounts.{by}
 use Rattle.ft_turns.proofs.Wanting.{named_are_two, taken_are_two}
 use Rattle.ft_turns.proofs.Soundness.{IsSound, Waits, wanted, own_none}
 use Rattle.ft_turns.proofs.TurnSoundness.{IsTurned, turned_sound}

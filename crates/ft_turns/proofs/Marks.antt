@@ -12,11 +12,11 @@ use Rattle.ft_model.specs.declared.call.Call.TheVariants as call
 use Rattle.ft_model.specs.declared.script.ScriptParts.{ScriptParts}
 use Rattle.ft_model.specs.Calls.{containers_of, locks_of}
 use Rattle.ft_model.specs.Histories.{calls_of, names, has_call_on}
-use Rattle.ft_history.proofs.Places.{take_next}
+use Rattle.ft_history.proofs.HistoryPlaces.{take_next}
 use Rattle.ft_turns.specs.Orders.{makes, cursor_containers, locks_taken, OpenSection, ThreadState, Machine, fresh_thread, start_machine, holder_of, take_locks, let_go, thread_at, without_locks, waiting_machine, sections_after, lets_go, answered_machine, innermost_containers, with_taken, finished_machine}
 use Rattle.ft_turns.proofs.LockLemmas.{occ, occ-append, occ-nil, occ-cons, occ_named, occ-lower_first, let_go_less, take_less, take_found}
 use Rattle.ft_turns.proofs.MachineSteps.{IsTry, IsKeptBySteps, there}
-use Rattle.ft_turns.proofs.Owned.{by_thread, flat, owned_steps, IsOwned, start_thread, start_holder}
+use Rattle.ft_turns.proofs.LocksOnce.{by_thread, flat, owned_steps, IsOwned, start_thread, start_holder}
 
 -- ---- marks
 

@@ -10,9 +10,9 @@ use Rattle.std.proofs.lemmas.Slice.{between_is}
 use Rattle.std.proofs.lemmas.Option.{slice_get_within}
 use Rattle.ft_model.specs.declared.entry.Entry.{Entry}
 use Rattle.ft_model.specs.Histories.{Section, after_section, sections_at, disturbs, is_disturbed, is_marked, marks_between}
-use Rattle.ft_history.specs.Laws.{IsBegunBefore}
-use Rattle.ft_history.proofs.Places.{take_next}
-use Rattle.ft_history.proofs.Sections.{sections_next, sections_begun}
+use Rattle.ft_history.specs.HistoryLaws.{IsBegunBefore}
+use Rattle.ft_history.proofs.HistoryPlaces.{take_next}
+use Rattle.ft_history.proofs.SectionWrites.{sections_next, sections_begun}
 
 abbrev pub AllBelow : ℕ → List Section → Type 0
 AllBelow place sections = AllByRecursion (λ section. section.begun < place) sections

@@ -13,7 +13,7 @@ use Rattle.ft_model.specs.Scripts.{IsScript}
 use Rattle.ft_turns.specs.Orders.{ThreadState, Machine, holder_of, thread_at, section_locks, turn, round_of}
 use Rattle.ft_turns.specs.Wants.{AreBelow}
 use Rattle.ft_turns.specs.Ends.{steps_made, AreTurns}
-use Rattle.ft_turns.proofs.Holding.{by, times, same_self, held_within}
+use Rattle.ft_turns.proofs.LockCounts.{by, times, same_self, held_within}
 use Rattle.ft_turns.proofs.Soundness.{Waits, locks_had}
 use Rattle.ft_turns.proofs.MachineSoundness.{IsSoundMachine, Rests, Turned, turned}
 

@@ -16,14 +16,14 @@ use Rattle.ft_model.specs.Worlds.{start_world, start_hands, no_hands, containers
 use Rattle.ft_model.specs.Answers.{answer, after_write, is_raised, is_memory, is_write}
 use Rattle.ft_model.specs.Histories.{writes, world_at, entries_of, calls_of, cursors_of, after_entry, hands_at, IsReplied, Section, after_section, sections_at}
 use Rattle.ft_history.specs.Internal.States.{world_before}
-use Rattle.ft_history.proofs.Places.{filter_next, writes_next, world_at-before}
+use Rattle.ft_history.proofs.HistoryPlaces.{filter_next, writes_next, world_at-before}
 use Rattle.ft_turns.specs.Orders.{ThreadState, fresh_thread, take_locks, thread_at, next_call, without_locks, waiting_machine, sections_after, answered_machine, with_taken, finished_machine}
 use Rattle.ft_turns.specs.AnsweredTurns.{Tally, no_tally, tally_after, Progress, start_progress}
 use Rattle.ft_turns.proofs.ProgressWords.{hands_of, tally_of, next_reply, next_entry, with_answer, with_mark}
 use Rattle.ft_turns.proofs.MachineSteps.{IsTry, there}
-use Rattle.ft_turns.proofs.Owned.{by_thread, start_thread}
+use Rattle.ft_turns.proofs.LocksOnce.{by_thread, start_thread}
 use Rattle.ft_turns.proofs.Marks.{count_fixed, stack_after, own_stack, stack_push, own_containers}
-use Rattle.ft_turns.proofs.Following.{followed_waits, followed_answers, followed_finishes, followed_mark}
+use Rattle.ft_turns.proofs.MachineFacts.{followed_waits, followed_answers, followed_finishes, followed_mark}
 use Rattle.ft_turns.proofs.PlaceSteps.{AllBelow, sections_below, sections_own, sections_other}
 use Rattle.ft_turns.proofs.AnswerFacts.{IsPlainAnswerOf}
 use Rattle.ft_turns.proofs.AnsweringSteps.{IsKeptByAnswers}

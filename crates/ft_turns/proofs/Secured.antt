@@ -10,7 +10,7 @@ use Rattle.ft_model.specs.Calls.{containers_of}
 use Rattle.ft_model.specs.Histories.{Section, after_section, names, disturbs, is_disturbed, is_marked, marks_between}
 use Rattle.ft_turns.specs.Orders.{OpenSection, without_locks, sections_after, with_taken}
 use Rattle.ft_turns.proofs.LockLemmas.{occ, occ-append, occ_any}
-use Rattle.ft_turns.proofs.Owned.{flat, occ-flat}
+use Rattle.ft_turns.proofs.LocksOnce.{flat, occ-flat}
 use Rattle.ft_turns.proofs.PlaceSteps.{AllBelow, marks_next, disturbed_next, disturbed_none, other_unmarked, own_marked, own_undisturbed}
 
 -- each container is one of that many, and its lock is among these

@@ -12,7 +12,7 @@ use Rattle.ft_model.specs.Scripts.{AreNested}
 use Rattle.ft_model.specs.Calls.{containers_of}
 use Rattle.ft_turns.specs.Orders.{OpenSection, ThreadState, Locking, lower_first, locks_taken, take_locks, let_go, holder_of, next_call, without_locks, section_locks, with_locking, waiting_thread, answered_thread, finished_thread, sections_after, lets_go, innermost_containers, with_taken}
 use Rattle.ft_turns.specs.Wants.{so_far}
-use Rattle.ft_turns.proofs.Holding.{times, times-append, by, by_some, same_self, Takes, takes_all, lets_all_go}
+use Rattle.ft_turns.proofs.LockCounts.{times, times-append, by, by_some, same_self, Takes, takes_all, lets_all_go}
 use Rattle.ft_turns.proofs.Wanting.{AreTwo, AreRising}
 use Rattle.ft_turns.proofs.Blocking.{IsOwn, blocked, rising_below}
 

@@ -1,4 +1,4 @@
--- The two parts of a turn, and what calls count. Only proofs cite it: none of it is needed to say what the order of turns
--- is.
+-- The two parts of a turn, and what calls count. Only proofs cite it: none of it is needed to say what the order of
+-- turns is.
 pub mod Counting
 pub mod TurnParts

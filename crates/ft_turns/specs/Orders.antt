@@ -1,6 +1,6 @@
 -- The order in which the calls of a script are answered when its threads take turns, and which of them wait: a machine
 -- over the script alone. (C API, critical sections; which locks are let go and taken again, and when: profile)
-use Rattle.std.specs.Prelude.{◌≡◌, ℕ, Bool, true, false, ◌+◌, ◌*◌, ◌==◌, nat_lt, List, [], ◌∷◌, ◌++◌, map, fold, length, take, drop, sum, slice_get, slice_set, slice_index_or, Option, Some, None, is_some, is_none, if◌then◌else◌}
+use Rattle.std.specs.Prelude.{◌≡◌, ℕ, Bool, true, false, ◌+◌, ◌*◌, ◌==◌, nat_lt, List, [], ◌∷◌, ◌++◌, map, fold, length, take, sum, slice_get, slice_set, slice_index_or, Option, Some, None, is_some, is_none, if◌then◌else◌}
 use Rattle.std.specs.Option.{option_map_or, unwrap_or}
 use Rattle.std.specs.List.{flat_map, range_with_len}
 use Rattle.std.specs.List.Sorted.{IsPermutation}
@@ -11,7 +11,7 @@ use Rattle.ft_model.specs.declared.entry.Storage.{Storage}
 use Rattle.ft_model.specs.declared.script.ScriptParts.{ScriptParts}
 use Rattle.ft_model.specs.Calls.{containers_of, locks_of}
 use Rattle.ft_model.specs.Scripts.{cursor_of}
-use Rattle.ft_model.specs.Histories.{calls_of, IsChronicle}
+use Rattle.ft_model.specs.Histories.{calls_of, IsChronicle, open_sections_after}
 
 -- ---- what a call needs
 
@@ -153,14 +153,8 @@ waiting_machine machine thread state locking found =
 -- section, which took what the call took; an `end` lets go what its section took; any other call lets go what it took
 -- itself
 abbrev pub sections_after : Call → List ℕ → List OpenSection → List OpenSection
-sections_after (call.Begin first second) own sections =
-    record { containers = containers_of (call.Begin first second); taken = own } ∷ sections
-sections_after call.End own sections = drop 1 sections
-sections_after (call.Dict container dict_call) own sections = sections
-sections_after (call.List container list_call) own sections = sections
-sections_after (call.Set container set_call) own sections = sections
-sections_after (call.Next cursor) own sections = sections
-sections_after call.Quiesce own sections = sections
+sections_after called own sections =
+    open_sections_after (record { containers = containers_of called; taken = own }) called sections
 
 abbrev pub innermost_taken : List OpenSection → List ℕ
 innermost_taken [] = []

@@ -9,10 +9,10 @@ use Rattle.ft_model.specs.declared.entry.Entry.{Entry as NamedEntry}
 use Rattle.ft_model.specs.declared.reply.Reply.{Reply}
 use Rattle.ft_model.specs.declared.script.ScriptParts.{ScriptParts}
 use Rattle.ft_model.specs.Histories.{calls_of}
-use Rattle.ft_history.proofs.Places.{take_next}
+use Rattle.ft_history.proofs.HistoryPlaces.{take_next}
 use Rattle.ft_trace.specs.Acts.{announces}
 use Rattle.ft_bank.specs.Passes.{shape_of, view}
-use Rattle.ft_bank.specs.Sections.{stack_of}
+use Rattle.ft_bank.specs.PassSections.{stack_of}
 use Rattle.ft_bank.specs.declared.sections.OpenSection.{OpenSection}
 use Rattle.ft_section.specs.declared.answers.Stamp.{Stamp}
 use Rattle.ft_engine.specs.declared.caller.Caller.{Caller}
@@ -26,7 +26,7 @@ use Rattle.ft_engine.specs.Keeping.{WasAnswered, named_entry}
 use Rattle.ft_engine.specs.Visits.{SameCallerWork}
 use Rattle.ft_workers.specs.declared.workers.Worker.{Worker}
 use Rattle.ft_workers.specs.Workers.{AreCallsOn, HasWorked, IsBetween, IsMember, IsOnline}
-use Rattle.ft_workers.proofs.Depths.{depth_unanswered, step_depth}
+use Rattle.ft_workers.proofs.ThreadDepths.{depth_unanswered, step_depth}
 use Rattle.ft_workers.proofs.NextCalls.{may_next}
 
 -- ---- the same caller

@@ -18,13 +18,13 @@ use Rattle.ft_history.proofs.FilteredParts.{key_at}
 use Rattle.ft_history.proofs.Permutations.{IsPermutation-filter}
 use Rattle.ft_trace.specs.declared.Entry.{Entry}
 use Rattle.ft_trace.specs.declared.Owner.{Owner}
-use Rattle.ft_trace.specs.OwnCursors.{entry_of}
+use Rattle.ft_trace.specs.OwnCursors.{plain_entry}
 use Rattle.ft_closing.specs.Numbering.{HaveNamedEntries}
 use Rattle.ft_engine.specs.DoneCallers.{IsLegalFor}
 
 -- ---- what was kept
 
-kept_same : (from : ℕ) (lists : List (List NamedEntry)) (passes : List (List Entry)) (had found : List Owner) → HaveNamedEntries from lists passes had found → (k : ℕ) → map entry_of (get_or lists k []) ≡ reverse (get_or passes k [])
+kept_same : (from : ℕ) (lists : List (List NamedEntry)) (passes : List (List Entry)) (had found : List Owner) → HaveNamedEntries from lists passes had found → (k : ℕ) → map plain_entry (get_or lists k []) ≡ reverse (get_or passes k [])
 kept_same from [] [] had found are k = refl
 kept_same from [] (own ∷ passes) had found are k = absurd are
 kept_same from (mine ∷ lists) [] had found are k = absurd are
@@ -114,7 +114,7 @@ module _ (script : ScriptParts) (lists : List (List NamedEntry)) (passes : List 
       let within : k < length mine = let w = found.1 in omega (arith, w, here) in
       sym found.2 ∙ (ap (λ (n : ℕ). get_or mine n x) here ∙ get_or_default mine k x d within)
 
-  pub pass_entries : map entry_of there ≡ reverse (get_or passes thread [])
+  pub pass_entries : map plain_entry there ≡ reverse (get_or passes thread [])
   pass_entries =
-      ap (map entry_of) (same_lists there mine (length_permutation mine there permuted) same_at)
+      ap (map plain_entry) (same_lists there mine (length_permutation mine there permuted) same_at)
       ∙ kept_same 0 lists passes had found are thread

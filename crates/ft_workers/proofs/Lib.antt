@@ -1,9 +1,9 @@
-pub mod Depths
+pub mod ThreadDepths
 mod Named
 mod Made
-pub mod Asked
+pub mod ScriptFacts
 pub mod WorkerLemmas
 pub mod NextCalls
 pub mod Between
 pub mod Entries
-pub mod Endings
+pub mod WholeLists

@@ -19,8 +19,8 @@ use Rattle.ft_trace.specs.declared.View.{View}
 use Rattle.ft_trace.specs.Hands.{cursor_in, own_entries}
 use Rattle.ft_trace.specs.Acts.{both, entries_next, made, maker, note, noted, sender, spent, starter}
 use Rattle.ft_trace.specs.Traces.{Event, Possible, Valid, did, forked, joined, run, sent}
-use Rattle.ft_trace.proofs.Moments.{was}
-use Rattle.ft_trace.proofs.Cursors.{moved_changes}
+use Rattle.ft_trace.proofs.EarlierMoments.{was}
+use Rattle.ft_trace.proofs.CursorAnswers.{moved_changes}
 use Rattle.ft_trace.proofs.Sizes.{one_more, one_view, set_views}
 
 -- a write asks no cursor

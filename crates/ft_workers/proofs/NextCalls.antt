@@ -14,9 +14,9 @@ use Rattle.ft_model.specs.Scripts.{IsCallOf, cursor_of}
 use Rattle.ft_model.specs.Worlds.{cursor_at}
 use Rattle.ft_trace.specs.declared.Entry.{Entry}
 use Rattle.ft_trace.specs.Acts.{announces}
-use Rattle.ft_trace.specs.OwnCursors.{entry_of}
+use Rattle.ft_trace.specs.OwnCursors.{plain_entry}
 use Rattle.ft_bank.specs.Passes.{shape_of, view}
-use Rattle.ft_bank.specs.Sections.{stack_of}
+use Rattle.ft_bank.specs.PassSections.{stack_of}
 use Rattle.ft_engine.specs.declared.caller.Caller.{Caller}
 use Rattle.ft_engine.specs.declared.engine.Engine.{Engine}
 use Rattle.ft_engine.specs.Asked.{FitsSections, IsCallIn}
@@ -25,7 +25,7 @@ use Rattle.ft_engine.specs.Callers.{bank_of, flight_of, hands_of, left_of, pass_
 use Rattle.ft_engine.specs.Flights.{IsFlightAnswered, AllowsCall}
 use Rattle.ft_engine.specs.Keeping.{WasAnswered}
 use Rattle.ft_workers.specs.Workers.{AreCallsOn, IsMember}
-use Rattle.ft_workers.proofs.Depths.{FitsDepth, depth_unanswered, fits_at, fits_sections, own_entries, step_depth}
+use Rattle.ft_workers.proofs.ThreadDepths.{FitsDepth, depth_unanswered, fits_at, fits_sections, own_entries, step_depth}
 use Rattle.ft_workers.proofs.Made.{cursor_there}
 use Rattle.ft_workers.proofs.Named.{named_in}
 
@@ -39,20 +39,20 @@ made_moves call.End n is = is
 made_moves call.Quiesce n is = is
 
 -- an entry that was kept is one of the pass
-in_pass : (mine : List NamedEntry) (entries : List Entry) (j : ℕ) (m : NamedEntry) → entries ≡ reverse (map entry_of mine) → slice_get mine j ≡ Some m → slice_get entries (length mine - 1 - j) ≡ Some (entry_of m)
+in_pass : (mine : List NamedEntry) (entries : List Entry) (j : ℕ) (m : NamedEntry) → entries ≡ reverse (map plain_entry mine) → slice_get mine j ≡ Some m → slice_get entries (length mine - 1 - j) ≡ Some (plain_entry m)
 in_pass mine entries j m same at =
-    let own = map entry_of mine in
+    let own = map plain_entry mine in
     let low : j < length mine = slice_get_within mine j m at in
-    let long : length own ≡ length mine = length-map mine entry_of in
+    let long : length own ≡ length mine = length-map mine plain_entry in
     let place = length mine - 1 - j in
     let within : place < length own = omega (arith, low, long) in
     let within' : place < length (reverse own) = let r = length-reverse own in omega (arith, within, r) in
     let back : length own - 1 - place ≡ j = omega (arith, low, long) in
-    let is : get_or (reverse own) place (entry_of m) ≡ entry_of m =
-    get_or-reverse own place (entry_of m) within
-    ∙ (ap (λ (n : ℕ). get_or own n (entry_of m)) back
-    ∙ (get_or-map entry_of mine j m (entry_of m) low ∙ ap entry_of (get_or_from_slice_get mine j m m at))) in
-    ap (λ (l : List Entry). slice_get l place) same ∙ (slice_get-get_or (reverse own) place (entry_of m) within' ∙ ap (λ (x : Entry). Some x) is)
+    let is : get_or (reverse own) place (plain_entry m) ≡ plain_entry m =
+    get_or-reverse own place (plain_entry m) within
+    ∙ (ap (λ (n : ℕ). get_or own n (plain_entry m)) back
+    ∙ (get_or-map plain_entry mine j m (plain_entry m) low ∙ ap plain_entry (get_or_from_slice_get mine j m m at))) in
+    ap (λ (l : List Entry). slice_get l place) same ∙ (slice_get-get_or (reverse own) place (plain_entry m) within' ∙ ap (λ (x : Entry). Some x) is)
 
 -- the caller was answered these entries, of the thread's first calls
 module _ (e : Engine) (i : ℕ) (calls : List Call) (c : Caller) (mine : List NamedEntry) (member : IsMember e i c) (cursors : length (hands_of c) ≡ most_cursors) (kept : WasAnswered c mine) (made : map (λ entry. entry.call) mine ≡ take (length mine) calls) where
@@ -75,7 +75,7 @@ module _ (e : Engine) (i : ℕ) (calls : List Call) (c : Caller) (mine : List Na
             let moved : moved_cursor m.call ≡ Some number = made_moves m.call number (ap cursor_of same ∙ any.4) in
             let v = view (pass_of c) in
             ap (λ (o : Option Cursor). is_some o) (member.caller.cursors number room)
-            ∙ cursor_there v (pass_of c).possible number (length mine - 1 - j) (entry_of m) (in_pass mine v.entries j m (own_entries c mine unanswered kept) found.2) moved
+            ∙ cursor_there v (pass_of c).possible number (length mine - 1 - j) (plain_entry m) (in_pass mine v.entries j m (own_entries c mine unanswered kept) found.2) moved
         | inr past ↦ absurd (let low = any.2 in let far = past.0 in omega (arith, low, far, long))
       ]
 
@@ -103,7 +103,7 @@ module _ (e : Engine) (i : ℕ) (calls : List Call) (c : Caller) (mine : List Na
         let most = are.bank.calls in
         let few = are.few in
         let entries_are = own_entries c mine unanswered kept in
-        let long : length (view (pass_of c)).entries ≡ length mine = ap length entries_are ∙ (length-reverse (map entry_of mine) ∙ length-map mine entry_of) in
+        let long : length (view (pass_of c)).entries ≡ length mine = ap length entries_are ∙ (length-reverse (map plain_entry mine) ∙ length-map mine plain_entry) in
         let low : place < length calls = slice_get_within calls place called at in
         omega (arith, answered, calls_are, most, few, long, low)
 

@@ -2,7 +2,7 @@
 use Rattle.std.specs.Prelude.{◌≡◌, ℕ, List, [], map, reverse, slice_index_or}
 use Rattle.ft_model.specs.declared.entry.Entry.{Entry}
 use Rattle.ft_model.specs.Histories.{entries_of}
-use Rattle.ft_trace.specs.OwnCursors.{entry_of}
+use Rattle.ft_trace.specs.OwnCursors.{plain_entry}
 use Rattle.ft_bank.specs.declared.closed.Closed.{Closed}
 use Rattle.ft_bank.specs.Closings.{lists_in}
 
@@ -10,4 +10,4 @@ use Rattle.ft_bank.specs.Closings.{lists_in}
 -- has them newest first. A thread that has no pass has none. (profile)
 abbrev pub HasEntriesOf : Closed → List Entry → Type 0
 HasEntriesOf closed history =
-    (thread : ℕ) → map entry_of (entries_of thread history) ≡ reverse (slice_index_or (lists_in closed) thread [])
+    (thread : ℕ) → map plain_entry (entries_of thread history) ≡ reverse (slice_index_or (lists_in closed) thread [])

@@ -11,7 +11,7 @@ use Rattle.ft_model.specs.Scripts.{IsThread}
 use Rattle.ft_model.specs.Worlds.{kinds_of}
 use Rattle.ft_trace.specs.declared.Shape.{Shape}
 use Rattle.ft_trace.specs.Acts.{announces}
-use Rattle.ft_bank.specs.Openings.{next_of}
+use Rattle.ft_bank.specs.NewPasses.{next_of}
 use Rattle.ft_bank.specs.Passes.{shape_of, view}
 use Rattle.ft_engine.specs.declared.caller.Caller.{Caller}
 use Rattle.ft_engine.specs.declared.engine.Engine.{Engine}

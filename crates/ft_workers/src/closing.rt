@@ -14,7 +14,7 @@ use ft_model::{Entry, Script};
 use std::alloc::{AllocError, Global};
 
 /// Takes in the worker of the next thread, and adds its list.
-#[tactic(auto, using(crate::proofs::WorkerLemmas::last_next, crate::proofs::Endings::made_push))]
+#[tactic(auto, using(crate::proofs::WorkerLemmas::last_next, crate::proofs::WholeLists::made_push))]
 fn take_in(
     engine: &Engine,
     script: &Script,

@@ -1,5 +1,5 @@
 -- What the judge keeps of tables.
-use Rattle.std.specs.Prelude.{◌≡◌, ℕ, ◌+◌, ◌-◌, List, map, length, Option, IfSome, slice_index_or, if◌then◌else◌}
+use Rattle.std.specs.Prelude.{◌≡◌, ℕ, ◌+◌, ◌-◌, List, map, length, Option, IfSome, if◌then◌else◌}
 use Rattle.ft_model.specs.declared.call.Call.{Call}
 use Rattle.ft_model.specs.declared.call.Call.TheVariants as call
 use Rattle.ft_model.specs.declared.content.Content.{Content}
@@ -8,8 +8,8 @@ use Rattle.ft_model.specs.declared.script.ScriptParts.{ScriptParts}
 use Rattle.ft_model.specs.Calls.{other_dict, other_list, other_set}
 use Rattle.ft_model.specs.Worlds.{IsOfKind, dict_at, set_at}
 use Rattle.ft_model.specs.declared.table.KeptTable.{KeptTable}
-use Rattle.ft_model.specs.Classes.{least_class, class_count, IsClass}
-use Rattle.ft_model.specs.Tables.{TableUse, table_of, takes_class, leaves_tables, stored_after, takes, is_class}
+use Rattle.ft_model.specs.Classes.{class_count, IsClass}
+use Rattle.ft_model.specs.TableUses.{TableUse, table_of, takes_class, leaves_tables, stored_after, takes, is_class, table_count}
 use Rattle.ft_history.specs.declared.account.TableAccount.{TableAccount}
 use Rattle.ft_history.specs.declared.sizes.Size.{Size}
 
@@ -19,21 +19,17 @@ use Rattle.ft_history.specs.declared.sizes.Size.{Size}
 abbrev pub tables_of : List KeptTable → List TableUse
 tables_of kept = map table_of kept
 
--- how many tables of the class were taken
-abbrev pub tables_taken : List ℕ → ℕ → ℕ
-tables_taken takings class = slice_index_or takings (class - least_class) 0
-
 -- what is kept is what these writes come to
 pub record IsAccount (script : ScriptParts) (calls : List Call) (account : TableAccount) : Type 0 where
   pub tables : tables_of account.tables.items ≡ (stored_after script calls).tables
   pub classes : length account.takings.items ≡ class_count
-  pub takings : (class : ℕ) → IsClass class → tables_taken account.takings.items class ≡ takes script class calls
+  pub takings : (class : ℕ) → IsClass class → table_count account.takings.items class ≡ takes script class calls
 
 -- one table more is taken, if one is
 pub record CountsTaking (taking : Option ℕ) (old new : List ℕ) : Type 0 where
   pub classes : length new ≡ length old
   pub takings : (class : ℕ) → IsClass class
-      → tables_taken new class ≡ tables_taken old class + (if is_class class taking then 1 else 0)
+      → table_count new class ≡ table_count old class + (if is_class class taking then 1 else 0)
 
 -- what is kept goes on after a call that led from one world to another
 pub record CountsCall (old new : List Content) (called : Call) (before after : TableAccount) : Type 0 where

@@ -4,7 +4,7 @@ use Rattle.std.specs.Option.{option_map_or}
 use Rattle.ft_model.specs.declared.call.Call.{Call}
 use Rattle.ft_model.specs.declared.call.Call.TheVariants as call
 use Rattle.ft_model.specs.declared.entry.Entry.{Entry}
-use Rattle.ft_model.specs.Calls.{one_or_two, container_list}
+use Rattle.ft_model.specs.Calls.{container_list, containers_of}
 use Rattle.std.specs.Global.{Vec}
 use Rattle.std.specs.List.{fold, list_any, count_by, AllByRecursion, Any}
 use Rattle.ft_model.specs.declared.cursor.Cursor.{Cursor}
@@ -17,7 +17,7 @@ use Rattle.ft_model.specs.declared.content.Content.{Content}
 use Rattle.ft_model.specs.declared.content.Content.TheVariants as content
 use Rattle.ft_model.specs.Worlds.{start_world, start_hands, IsDeclared, cursor_at, cursor_kind, container_of}
 use Rattle.ft_model.specs.Answers.{after_write}
-use Rattle.ft_model.specs.Histories.{Section, entries_of, calls_of, cursors_of, hands_at, writes, sections_at, is_marked, disturbs, has_call_on}
+use Rattle.ft_model.specs.Histories.{Section, entries_of, calls_of, cursors_of, hands_at, writes, sections_at, is_marked, disturbs, has_call_on, open_sections_after}
 use Rattle.ft_history.specs.declared.progress.OpenSection.{OpenSection}
 use Rattle.ft_history.specs.declared.progress.ThreadProgress.{ThreadProgress}
 use Rattle.ft_history.specs.declared.writers.LastWrites.{LastWrites}
@@ -72,14 +72,8 @@ all_begun sections = reverse (map begun_of sections)
 
 -- the open sections of a thread after a call of it at a place, by when a number of its calls have waited
 abbrev pub after_begun : ℕ → ℕ → Call → List BegunSection → List BegunSection
-after_begun place marks (call.Begin first second) sections =
-    record { containers = one_or_two first second; begun = place; marks = marks } ∷ sections
-after_begun place marks call.End sections = drop 1 sections
-after_begun place marks (call.Dict container dict_call) sections = sections
-after_begun place marks (call.List container list_call) sections = sections
-after_begun place marks (call.Set container set_call) sections = sections
-after_begun place marks (call.Next cursor) sections = sections
-after_begun place marks call.Quiesce sections = sections
+after_begun place marks called sections =
+    open_sections_after (record { containers = containers_of called; begun = place; marks = marks }) called sections
 
 -- the section without its count
 abbrev pub section_of : BegunSection → Section
@@ -91,21 +85,6 @@ pub record IsOpen (script : ScriptParts) (entries : List Entry) (thread place : 
   pub before : section.begun < place
   pub marks : section.marks ≡ count_by (is_marked thread) (take (section.begun + 1) entries)
   pub containers : All (λ container. container < length script.containers) section.containers
-
--- this holds for what is kept of the innermost open section, where there is one
-abbrev pub IfInnerBegun : List BegunSection → (BegunSection → Type 0) → Type 0
-IfInnerBegun [] P = Unit {0}
-IfInnerBegun (section ∷ sections) P = P section
-
--- of an `end`, this holds for what is kept of the section that it ends
-abbrev pub IfEndsBegun : List BegunSection → Call → (BegunSection → Type 0) → Type 0
-IfEndsBegun sections call.End P = IfInnerBegun sections P
-IfEndsBegun sections (call.Dict container dict_call) P = Unit {0}
-IfEndsBegun sections (call.List container list_call) P = Unit {0}
-IfEndsBegun sections (call.Set container set_call) P = Unit {0}
-IfEndsBegun sections (call.Next cursor) P = Unit {0}
-IfEndsBegun sections (call.Begin first second) P = Unit {0}
-IfEndsBegun sections call.Quiesce P = Unit {0}
 
 -- the containers of the innermost open section, where there is one
 abbrev pub inner_begun : List BegunSection → List ℕ

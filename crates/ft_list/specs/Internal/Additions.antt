@@ -10,11 +10,11 @@ use Rattle.ft_trace.specs.declared.View.{View}
 use Rattle.ft_trace.specs.Acts.{has_lock, is_writing}
 use Rattle.ft_trace.specs.Addresses.{containers_in, class_of, slots}
 use Rattle.ft_trace.specs.Holds.{held, known}
-use Rattle.ft_trace.specs.Words.{root_in, Stands, item_of}
-use Rattle.ft_trace.specs.Worlds.{kind_in}
+use Rattle.ft_trace.specs.Pictures.{root_in, Stands, item_field}
+use Rattle.ft_trace.specs.ContainerStates.{kind_in}
 use Rattle.ft_list.specs.declared.addition.Addition.{Addition}
 use Rattle.ft_list.specs.declared.addition.Addition.TheVariants.{One, All}
-use Rattle.ft_list.specs.Items.{items_of, stored_at}
+use Rattle.ft_list.specs.ListItemWrites.{known_items, stored_item}
 
 -- how many items are added
 abbrev pub count_in : Addition → ℕ
@@ -29,7 +29,7 @@ first_in (All other more) count = count
 -- these values with the addition, as the pass knows it
 abbrev pub with_added : Addition → View → List Value → List Value
 with_added (One place value) v values = insert values place value
-with_added (All other more) v values = values ++ items_of other v
+with_added (All other more) v values = values ++ known_items other v
 
 -- The pass has the lock of the list o; no version is odd there, and its words stand for what the pass knows of it.
 -- (profile)
@@ -40,11 +40,11 @@ pub record KnowsItems (k : Shape) (o : ℕ) (v : View) : Type 0 where
   pub even : is_writing o v.log ≡ false
   pub stands : Stands k.texts (held o v) (known o v)
 
--- The addition is a value that words can represent, at a place of a list of that many items; or all the items of a list that
--- the pass knows, of which there are as many as it says.
+-- The addition is a value that words can represent, at a place of a list of that many items; or all the items of a list
+-- that the pass knows, of which there are as many as it says.
 abbrev pub IsAddition : Shape → ℕ → Addition → View → Type 0
 IsAddition k count (One place value) v = (place ≤ count) × FitsStored (Plain value)
-IsAddition k count (All other more) v = (more ≡ length (items_of other v)) × KnowsItems k other v
+IsAddition k count (All other more) v = (more ≡ length (known_items other v)) × KnowsItems k other v
 
 -- The pass has the lock of the list m, which it doesn't write, or which is the list o that it writes; and the table
 -- that the root of m names stores the items of m as they were before that write. (profile)
@@ -52,11 +52,11 @@ pub record GivesItems (k : Shape) (o m : ℕ) (v : View) : Type 0 where
   pub container : m < containers_in k
   pub locked : has_lock m v.log ≡ true
   pub quiet : m ≢ o → is_writing m v.log ≡ false
-  pub stores : (t p : ℕ) → root_in (held m v) ≡ suc t → p < length (items_of m v) → (p < slots (class_of t))
-      × IsStored (item_of (held m v).table p 1) (item_of (held m v).table p 2) (stored_at (items_of m v) p)
-  pub bare : root_in (held m v) ≡ 0 → length (items_of m v) ≡ 0
+  pub stores : (t p : ℕ) → root_in (held m v) ≡ suc t → p < length (known_items m v) → (p < slots (class_of t))
+      × IsStored (item_field (held m v).table p 1) (item_field (held m v).table p 2) (stored_item (known_items m v) p)
+  pub bare : root_in (held m v) ≡ 0 → length (known_items m v) ≡ 0
 
 -- the same of an addition once the pass writes the list o, of that many items
 abbrev pub IsAdditionTo : Shape → ℕ → ℕ → Addition → View → Type 0
 IsAdditionTo k o count (One place value) v = (place ≤ count) × FitsStored (Plain value)
-IsAdditionTo k o count (All other more) v = (more ≡ length (items_of other v)) × GivesItems k o other v
+IsAdditionTo k o count (All other more) v = (more ≡ length (known_items other v)) × GivesItems k o other v

@@ -23,9 +23,9 @@ use Rattle.ft_script.specs.declared.fault.Fault.{Fault}
 use Rattle.ft_script.specs.declared.fault.Fault.TheVariants as fault
 use Rattle.ft_script.specs.declared.reply_words.ReplyWord.{ReplyWord}
 use Rattle.ft_script.specs.declared.reply_words.ReplyWord.TheVariants as word
-use Rattle.ft_script.specs.Arguments.{index_of}
+use Rattle.ft_script.specs.Arguments.{read_index}
 use Rattle.ft_script.specs.Drafts.{◌>>=◌, or_fault, container_place, thread_place, text_place, draft_at}
-use Rattle.ft_script.specs.ScriptLines.{call_in}
+use Rattle.ft_script.specs.ScriptLines.{just_call}
 use Rattle.ft_script.specs.Transcripts.{counts}
 use Rattle.ft_script.specs.Internal.Tokens.{before_word, after_word}
 use Rattle.ft_script.specs.LineWords.{is_string, text_of}
@@ -42,12 +42,12 @@ unfoldable pub natural_in : List ℕ → Option ℕ
 natural_in token =
     if is_decimal token && nat_lt (digits_value 10 token) (2 ^ 64) then Some (digits_value 10 token) else None
 
-unfoldable pub u64_of : List ℕ → Result ℕ Fault
-u64_of token = or_fault fault.Number (natural_in token)
+unfoldable pub read_u64 : List ℕ → Result ℕ Fault
+read_u64 token = or_fault fault.Number (natural_in token)
 
 -- and below 2^32
-unfoldable pub u32_of : List ℕ → Result ℕ Fault
-u32_of token = u64_of token >>= λ n. if nat_lt n (2 ^ 32) then Ok n else Err fault.Number
+unfoldable pub read_u32 : List ℕ → Result ℕ Fault
+read_u32 token = read_u64 token >>= λ n. if nat_lt n (2 ^ 32) then Ok n else Err fault.Number
 
 -- ---- keys and values
 
@@ -57,7 +57,7 @@ known_key strings token =
     if is_string token
     then (or_fault fault.String (text_place strings (text_of token)) >>= λ place. Ok
     (key.Text (record { 0 = place })))
-    else (index_of token >>= λ n. Ok (key.Int n))
+    else (read_index token >>= λ n. Ok (key.Int n))
 
 unfoldable pub known_value : List (List ℕ) → List ℕ → Result Value Fault
 known_value strings token =
@@ -71,21 +71,21 @@ known_pair strings first second = do
   Ok (found, stored)
 
 -- what each token is
-unfoldable pub each_of : {X : Type 0} → (List ℕ → Result X Fault) → List (List ℕ) → Result (List X) Fault
-each_of read [] = Ok []
-each_of read (token ∷ tokens) = do
+unfoldable pub read_each : {X : Type 0} → (List ℕ → Result X Fault) → List (List ℕ) → Result (List X) Fault
+read_each read [] = Ok []
+read_each read (token ∷ tokens) = do
   x ← read token
-  xs ← each_of read tokens
+  xs ← read_each read tokens
   Ok (x ∷ xs)
 
 -- the pairs that the tokens are by threes, a `:` being the second of them
-unfoldable pub pairs_of : List (List ℕ) → List (List ℕ) → Result (List (Key × Value)) Fault
-pairs_of strings [] = Ok []
-pairs_of strings (first ∷ colon ∷ second ∷ tokens) = do
+unfoldable pub read_pairs : List (List ℕ) → List (List ℕ) → Result (List (Key × Value)) Fault
+read_pairs strings [] = Ok []
+read_pairs strings (first ∷ colon ∷ second ∷ tokens) = do
   pair ← known_pair strings first second
-  pairs ← pairs_of strings tokens
+  pairs ← read_pairs strings tokens
   Ok (pair ∷ pairs)
-pairs_of strings others = Err fault.WordCount
+read_pairs strings others = Err fault.WordCount
 
 -- ---- replies
 
@@ -113,30 +113,30 @@ reply_words =
     ∷ word.Bracket ∷ []
 
 -- the word of a reply that a token is
-unfoldable pub reply_word_of : List ℕ → Option ReplyWord
-reply_word_of token = find (λ word. bytes_eq (reply_word_text word) token) reply_words
+unfoldable pub read_reply_word : List ℕ → Option ReplyWord
+read_reply_word token = find (λ word. bytes_eq (reply_word_text word) token) reply_words
 
-unfoldable pub suspended_of : List (List ℕ) → Result Reply Fault
-suspended_of [] = Err fault.WordCount
-suspended_of (count ∷ more) = u32_of count >>= λ n. Ok (reply.Suspended n)
+unfoldable pub read_suspended : List (List ℕ) → Result Reply Fault
+read_suspended [] = Err fault.WordCount
+read_suspended (count ∷ more) = read_u32 count >>= λ n. Ok (reply.Suspended n)
 
-unfoldable pub runtime_error_of : List (List ℕ) → Result Raise Fault
-runtime_error_of [] = Err fault.WordCount
-runtime_error_of (cause ∷ more) =
+unfoldable pub read_runtime_error : List (List ℕ) → Result Raise Fault
+read_runtime_error [] = Err fault.WordCount
+read_runtime_error (cause ∷ more) =
     if bytes_eq cause (codes "size") then Ok raise.Size
     else (if bytes_eq cause (codes "keys") then Ok raise.Keys else Err fault.UnknownWord)
 
 -- the classes are those from 3 to 16
-unfoldable pub class_error_of : List ℕ → Result Raise Fault
-class_error_of token =
-    u32_of token >>= λ class. if nat_le least_class class
+unfoldable pub read_class_error : List ℕ → Result Raise Fault
+read_class_error token =
+    read_u32 token >>= λ class. if nat_le least_class class
     && nat_le class greatest_class then Ok (raise.Memory class) else Err fault.Number
 
-unfoldable pub memory_error_of : List (List ℕ) → Result Raise Fault
-memory_error_of [] = Err fault.WordCount
-memory_error_of (cause ∷ more) =
+unfoldable pub read_memory_error : List (List ℕ) → Result Raise Fault
+read_memory_error [] = Err fault.WordCount
+read_memory_error (cause ∷ more) =
     if bytes_eq cause (codes "over") then Ok raise.Over
-    else (if bytes_eq cause (codes "heap") then Ok raise.Heap else class_error_of cause)
+    else (if bytes_eq cause (codes "heap") then Ok raise.Heap else read_class_error cause)
 
 -- whether the second token is a `:`, or there is none
 abbrev pub has_pairs : List (List ℕ) → Bool
@@ -145,10 +145,10 @@ has_pairs (token ∷ []) = false
 has_pairs (token ∷ colon ∷ tokens) = bytes_eq colon (codes ":")
 
 -- what stands between the braces of a dict or a set
-unfoldable pub braced_of : List (List ℕ) → List (List ℕ) → Result Reply Fault
-braced_of strings tokens =
-    if has_pairs tokens then (pairs_of strings tokens >>= λ pairs. Ok (reply.Dict pairs))
-    else (each_of (known_key strings) tokens >>= λ elements. Ok (reply.Set elements))
+unfoldable pub read_braced : List (List ℕ) → List (List ℕ) → Result Reply Fault
+read_braced strings tokens =
+    if has_pairs tokens then (read_pairs strings tokens >>= λ pairs. Ok (reply.Dict pairs))
+    else (read_each (known_key strings) tokens >>= λ elements. Ok (reply.Set elements))
 
 -- all but the last token
 abbrev pub but_last : List (List ℕ) → List (List ℕ)
@@ -161,16 +161,16 @@ worded_reply strings word.False tokens = Ok (reply.Truth false)
 worded_reply strings word.Stop tokens = Ok reply.Stop
 worded_reply strings word.Entered tokens = Ok reply.Entered
 worded_reply strings word.Kept tokens = Ok reply.Kept
-worded_reply strings word.Suspended tokens = suspended_of tokens
+worded_reply strings word.Suspended tokens = read_suspended tokens
 worded_reply strings word.KeyError tokens = Ok (reply.Raised raise.NoKey)
 worded_reply strings word.IndexError tokens = Ok (reply.Raised raise.NoIndex)
 worded_reply strings word.ValueError tokens = Ok (reply.Raised raise.NoValue)
-worded_reply strings word.RuntimeError tokens = runtime_error_of tokens >>= λ raised. Ok (reply.Raised raised)
-worded_reply strings word.MemoryError tokens = memory_error_of tokens >>= λ raised. Ok (reply.Raised raised)
+worded_reply strings word.RuntimeError tokens = read_runtime_error tokens >>= λ raised. Ok (reply.Raised raised)
+worded_reply strings word.MemoryError tokens = read_memory_error tokens >>= λ raised. Ok (reply.Raised raised)
 worded_reply strings word.NoElements tokens = Ok (reply.Set [])
-worded_reply strings word.Brace tokens = braced_of strings (but_last tokens)
+worded_reply strings word.Brace tokens = read_braced strings (but_last tokens)
 worded_reply strings word.Bracket tokens =
-    each_of (known_value strings) (but_last tokens) >>= λ items. Ok (reply.List items)
+    read_each (known_value strings) (but_last tokens) >>= λ items. Ok (reply.List items)
 
 -- an integer that isn't negative stands for a count where the call counts
 abbrev pub counted_reply : Bool → Value → Reply
@@ -188,9 +188,9 @@ first_reply strings counted first tokens None = shown_reply strings counted firs
 first_reply strings counted first tokens (Some found) = worded_reply strings found tokens
 
 -- the reply that some tokens may be
-unfoldable pub reply_of : List (List ℕ) → Bool → List (List ℕ) → Result Reply Fault
-reply_of strings counted [] = Err fault.WordCount
-reply_of strings counted (first ∷ tokens) = first_reply strings counted first tokens (reply_word_of first)
+unfoldable pub read_reply : List (List ℕ) → Bool → List (List ℕ) → Result Reply Fault
+read_reply strings counted [] = Err fault.WordCount
+read_reply strings counted (first ∷ tokens) = first_reply strings counted first tokens (read_reply_word first)
 
 -- ---- calls
 
@@ -198,37 +198,37 @@ abbrev pub only_call : Result (Call × Draft) Fault → Result Call Fault
 only_call read = read >>= λ both. Ok both.0
 
 unfoldable pub thread_call : ScriptParts → ℕ → List (List ℕ) → Result Call Fault
-thread_call script thread words = only_call (call_in (draft_at script thread) words)
+thread_call script thread words = only_call (just_call (draft_at script thread) words)
 
 -- ---- entries
 
-unfoldable pub thread_of : ScriptParts → List ℕ → Result ℕ Fault
-thread_of script name = or_fault fault.Name (thread_place script.threads name)
+unfoldable pub read_thread : ScriptParts → List ℕ → Result ℕ Fault
+read_thread script name = or_fault fault.Name (thread_place script.threads name)
 
 -- the thread and the index, which a dot parts
-unfoldable pub numbered_of : ScriptParts → List ℕ → Result (ℕ × ℕ) Fault
-numbered_of script token = do
-  thread ← thread_of script (before_first (λ b. b == 46) token)
-  index ← u32_of (after_first (λ b. b == 46) token)
+unfoldable pub read_numbered : ScriptParts → List ℕ → Result (ℕ × ℕ) Fault
+read_numbered script token = do
+  thread ← read_thread script (before_first (λ b. b == 46) token)
+  index ← read_u32 (after_first (λ b. b == 46) token)
   Ok (thread, index)
 
 -- whether a `w` stands there, and the number after it
-unfoldable pub stamp_of : List ℕ → Result (Bool × ℕ) Fault
-stamp_of [] = Err fault.WordCount
-stamp_of (letter ∷ digits) = u64_of digits >>= λ stamp. Ok (letter == 119, stamp)
+unfoldable pub read_stamp : List ℕ → Result (Bool × ℕ) Fault
+read_stamp [] = Err fault.WordCount
+read_stamp (letter ∷ digits) = read_u64 digits >>= λ stamp. Ok (letter == 119, stamp)
 
-unfoldable pub waited_of : ScriptParts → List (List ℕ) → Result (Option ℕ) Fault
-waited_of script [] = Ok None
-waited_of script (name ∷ more) = thread_of script name >>= λ thread. Ok (Some thread)
+unfoldable pub read_waited : ScriptParts → List (List ℕ) → Result (Option ℕ) Fault
+read_waited script [] = Ok None
+read_waited script (name ∷ more) = read_thread script name >>= λ thread. Ok (Some thread)
 
 -- the entry whose line some tokens may be
-unfoldable pub entry_of : ScriptParts → List (List ℕ) → Result Entry Fault
-entry_of script (place ∷ stamp ∷ words) = do
-  numbered ← numbered_of script place
-  stamped ← stamp_of stamp
+unfoldable pub read_entry : ScriptParts → List (List ℕ) → Result Entry Fault
+read_entry script (place ∷ stamp ∷ words) = do
+  numbered ← read_numbered script place
+  stamped ← read_stamp stamp
   called ← thread_call script numbered.0 (before_word (codes "=") words)
-  said ← reply_of script.strings (counts called) (before_word (codes "waited") (after_word (codes "=") words))
-  waited ← waited_of script (after_word (codes "waited") (after_word (codes "=") words))
+  said ← read_reply script.strings (counts called) (before_word (codes "waited") (after_word (codes "=") words))
+  waited ← read_waited script (after_word (codes "waited") (after_word (codes "=") words))
   Ok (record {
     thread = numbered.0;
     index = numbered.1;
@@ -238,14 +238,14 @@ entry_of script (place ∷ stamp ∷ words) = do
     reply = said;
     waited = waited;
   })
-entry_of script others = Err fault.WordCount
+read_entry script others = Err fault.WordCount
 
 -- ---- contents
 
 -- the container and the content whose line some tokens may be
-unfoldable pub content_of : ScriptParts → List (List ℕ) → Result (ℕ × Reply) Fault
-content_of script (name ∷ equals ∷ tokens) = do
+unfoldable pub read_content : ScriptParts → List (List ℕ) → Result (ℕ × Reply) Fault
+read_content script (name ∷ equals ∷ tokens) = do
   container ← or_fault fault.Name (container_place script.containers name)
-  content ← reply_of script.strings false tokens
+  content ← read_reply script.strings false tokens
   Ok (container, content)
-content_of script others = Err fault.WordCount
+read_content script others = Err fault.WordCount

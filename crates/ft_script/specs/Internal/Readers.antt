@@ -11,7 +11,7 @@ use Rattle.ft_script.specs.declared.fault.LineError.TheVariants as error
 use Rattle.ft_script.specs.declared.transcript.TranscriptFault.{TranscriptFault}
 use Rattle.ft_script.specs.declared.transcript.TranscriptFault.TheVariants as found
 use Rattle.ft_script.specs.Drafts.{draft_at, empty_draft}
-use Rattle.ft_script.specs.ScriptLines.{call_in}
+use Rattle.ft_script.specs.ScriptLines.{just_call}
 use Rattle.ft_script.specs.Texts.{entry_line}
 use Rattle.ft_script.specs.Transcripts.{IsReadable, IsContentLine}
 
@@ -26,7 +26,7 @@ IsUnchanged draft read = (called : Call) × (read ≡ Ok (called, draft))
 
 -- reading these words as a call of the thread adds no string and no cursor
 abbrev pub AddsNothing : ScriptParts → ℕ → List (List ℕ) → Type 0
-AddsNothing script thread words = IsUnchanged (draft_at script thread) (call_in (draft_at script thread) words)
+AddsNothing script thread words = IsUnchanged (draft_at script thread) (just_call (draft_at script thread) words)
 
 -- this is the line of no entry
 abbrev pub NoEntry : ScriptParts → List ℕ → Type 0

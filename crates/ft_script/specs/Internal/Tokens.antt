@@ -22,12 +22,12 @@ place_at b =
     else (if is_mark b then place.Ended else (if b == 34 then place.String else place.Plain))
 
 -- where a byte leads
-abbrev pub place_after : Place → ℕ → Place
-place_after place.Between b = place_at b
-place_after place.Ended b = place_at b
-place_after place.Plain b = if is_gap b then place.Between else (if is_mark b then place.Ended else place.Plain)
-place_after place.String b = if b == 34 then place.Ended else (if b == 92 then place.Escape else place.String)
-place_after place.Escape b = place.String
+abbrev pub token_place_after : Place → ℕ → Place
+token_place_after place.Between b = place_at b
+token_place_after place.Ended b = place_at b
+token_place_after place.Plain b = if is_gap b then place.Between else (if is_mark b then place.Ended else place.Plain)
+token_place_after place.String b = if b == 34 then place.Ended else (if b == 92 then place.Escape else place.String)
+token_place_after place.Escape b = place.String
 
 -- whether a token ends between two places
 abbrev pub token_ends : Place → Place → Bool
@@ -56,8 +56,8 @@ unfoldable pub tokens_from : Place → List ℕ → List (List ℕ)
 tokens_from place.Between [] = []
 tokens_from other [] = [] ∷ []
 tokens_from at (b ∷ bytes) =
-    token_parted (token_ends at (place_after at b))
-    (fronted b (place_after at b) (tokens_from (place_after at b) bytes))
+    token_parted (token_ends at (token_place_after at b))
+    (fronted b (token_place_after at b) (tokens_from (token_place_after at b) bytes))
 
 abbrev pub tokens_of : List ℕ → List (List ℕ)
 tokens_of line = tokens_from place.Between line

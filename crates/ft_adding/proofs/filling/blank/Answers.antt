@@ -10,12 +10,12 @@ use Rattle.ft_trace.specs.Addresses.{class_of, size}
 use Rattle.ft_trace.specs.Holds.{in_hand}
 use Rattle.ft_trace.proofs.Pieces.{table_long}
 use Rattle.ft_bank.specs.Passes.{shape_of, view}
-use Rattle.ft_bank.specs.Tables.{name_of}
-use Rattle.ft_bank.proofs.Tables.{class_is}
+use Rattle.ft_bank.specs.TableNames.{name_of}
+use Rattle.ft_bank.proofs.TableAddresses.{class_is}
 use Rattle.ft_growth.proofs.Rooting.{filled_by, filled_same, filled_then}
 use Rattle.ft_search.proofs.Puts.{table_class}
 use Rattle.ft_adding.specs.Fresh.{BlankBelow}
-use Rattle.ft_adding.proofs.Copied.{blank_all, blank_next, table_is_long}
+use Rattle.ft_adding.proofs.FilledTables.{blank_all, blank_next, table_is_long}
 use Rattle.ft_adding.proofs.filling.blank.Goals as goal
 use Rattle.ft_adding.proofs.filling.blank.Goals.{After-table_size-at-end}
 

@@ -2,8 +2,8 @@ use Rattle.std.proofs.Common.{◌≡◌}
 use Rattle.ft_trace.specs.Addresses.{class_of}
 use Rattle.ft_trace.specs.Holds.{in_hand}
 use Rattle.ft_bank.specs.Passes.{view, IsPassOf}
-use Rattle.ft_bank.specs.Sections.{stack_of}
-use Rattle.ft_bank.specs.Tables.{name_of}
+use Rattle.ft_bank.specs.PassSections.{stack_of}
+use Rattle.ft_bank.specs.TableNames.{name_of}
 use Rattle.ft_growth.specs.Adding.{OnlyFilled}
 use Rattle.ft_adding.specs.Fresh.{BlankBelow}
 use Rattle.ft_adding.proofs.filling.blank.Given as goal

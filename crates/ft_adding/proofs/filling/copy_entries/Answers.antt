@@ -5,12 +5,12 @@ use Rattle.ft_trace.specs.Addresses.{class_of}
 use Rattle.ft_trace.specs.Holds.{known, in_hand}
 use Rattle.ft_bank.specs.declared.pass.Pass.{Pass}
 use Rattle.ft_bank.specs.Passes.{shape_of, view, IsPassOf}
-use Rattle.ft_bank.specs.Tables.{name_of}
-use Rattle.ft_bank.proofs.Tables.{class_is}
-use Rattle.ft_search.proofs.Places.{mask_is}
+use Rattle.ft_bank.specs.TableNames.{name_of}
+use Rattle.ft_bank.proofs.TableAddresses.{class_is}
+use Rattle.ft_search.proofs.WordPlaces.{mask_is}
 use Rattle.ft_search.proofs.Puts.{table_class}
 use Rattle.ft_adding.specs.Fresh.{IsFilledWith}
-use Rattle.ft_adding.proofs.Copied.{old_fits, filled_by}
+use Rattle.ft_adding.proofs.FilledTables.{old_fits, filled_by}
 use Rattle.ft_adding.proofs.filling.copy_entries.Goals as goal
 
 pub mask_of-old_mask-requires : goal.mask_of-old_mask-requires

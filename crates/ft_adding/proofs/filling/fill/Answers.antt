@@ -6,17 +6,17 @@ use Rattle.ft_trace.specs.Acts.{stage}
 use Rattle.ft_trace.specs.Addresses.{class_of}
 use Rattle.ft_trace.specs.Holds.{held, in_hand, known}
 use Rattle.ft_trace.specs.Kinds.{rows, IsKeyed}
-use Rattle.ft_trace.specs.Worlds.{ContainerState, kind_in}
+use Rattle.ft_trace.specs.ContainerStates.{ContainerState, kind_in}
 use Rattle.ft_bank.specs.declared.table.Table.{Table}
 use Rattle.ft_bank.specs.Passes.{shape_of, view}
-use Rattle.ft_bank.specs.Tables.{name_of, root_for}
+use Rattle.ft_bank.specs.TableNames.{name_of, root_for}
 use Rattle.ft_growth.proofs.Rooting.{filled_then}
 use Rattle.ft_search.specs.Rounds.{kind_by}
 use Rattle.ft_search.proofs.Changing.{kind_is}
 use Rattle.ft_search.proofs.Puts.{table_class}
 use Rattle.ft_adding.specs.Fresh.{IsFilledWith}
-use Rattle.ft_adding.specs.Growing.{KnowsKeyed}
-use Rattle.ft_adding.proofs.Copied.{bare_filled}
+use Rattle.ft_adding.specs.KeyGrowth.{KnowsKeyed}
+use Rattle.ft_adding.proofs.FilledTables.{bare_filled}
 use Rattle.ft_adding.proofs.Grown.{knows_filled, same_filled}
 use Rattle.ft_adding.proofs.Keyed.{no_class}
 use Rattle.ft_adding.proofs.filling.fill.Goals as goal

@@ -11,23 +11,23 @@ use Rattle.ft_trace.specs.declared.View.{View}
 use Rattle.ft_trace.specs.Addresses.{class_of, slots}
 use Rattle.ft_trace.specs.Holds.{held, known, in_hand}
 use Rattle.ft_trace.specs.Kinds.{rows}
-use Rattle.ft_trace.specs.Words.{Picture, root_in}
-use Rattle.ft_trace.specs.Worlds.{ContainerState, changes, kind_in}
+use Rattle.ft_trace.specs.Pictures.{Picture, root_in}
+use Rattle.ft_trace.specs.ContainerStates.{ContainerState, changes, kind_in}
 use Rattle.ft_bank.specs.Passes.{shape_of, view}
-use Rattle.ft_bank.specs.Tables.{name_of}
+use Rattle.ft_bank.specs.TableNames.{name_of}
 use Rattle.ft_bank.specs.Whole.{OnlyPut}
-use Rattle.ft_bank.proofs.Tables.{class_is}
-use Rattle.ft_bank.proofs.Whole.{loaded_held, loaded_put, put_then, work_knows}
+use Rattle.ft_bank.proofs.TableAddresses.{class_is}
+use Rattle.ft_bank.proofs.KnownAfterWrites.{loaded_held, loaded_put, put_then, work_knows}
 use Rattle.ft_search.specs.Held.{IsHeldAt}
 use Rattle.ft_search.specs.Rounds.{kind_by}
-use Rattle.ft_search.specs.Writing.{Leaves, WritesEntries}
+use Rattle.ft_search.specs.OneEntryWrites.{Leaves, WritesEntries}
 use Rattle.ft_search.proofs.Changing.{Changing, kind_is}
 use Rattle.ft_search.proofs.Puts.{writes_on}
 use Rattle.ft_adding.specs.declared.counts.Counts.{Counts}
 use Rattle.ft_adding.specs.Fresh.{IsFilledWith}
-use Rattle.ft_adding.specs.Growing.{MayGrow, IsFreeFor}
+use Rattle.ft_adding.specs.KeyGrowth.{MayGrowKeyed, IsFreeFor}
 use Rattle.ft_adding.specs.Placing.{AreCounts, IsUnused, with_entry, with_key}
-use Rattle.ft_adding.proofs.Finishing.{Since, adds_leaves, key_finishes, since_root}
+use Rattle.ft_adding.proofs.FinishedKeys.{Since, adds_leaves, key_finishes, since_root}
 use Rattle.ft_adding.proofs.Grown.{grow_filled, grown_wrote, leaves_filled, same_filled, filled_has}
 use Rattle.ft_adding.proofs.Keyed.{counts_known, use_known}
 use Rattle.ft_adding.proofs.Placed.{Fresh, PlaceLaws, pair_for, place_unused, places_key, use_with}
@@ -66,7 +66,7 @@ fill-requires-clause-room c =
 
 -- ---- the table is filled
 
-grow : (c : After-fill) → MayGrow (shape_of c.args.bank.now) c.args.o c.args.old c.args.table (view c.fill.new.pass)
+grow : (c : After-fill) → MayGrowKeyed (shape_of c.args.bank.now) c.args.o c.args.old c.args.table (view c.fill.new.pass)
 grow c =
     let a = c.args in
     grow_filled (shape_of a.bank.now) a.o a.old a.table (view a.pass.now) (view c.fill.new.pass) c.requires.pass.1 c.fill.ensures.only c.requires.may

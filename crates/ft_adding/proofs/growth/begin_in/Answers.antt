@@ -3,11 +3,11 @@ use Rattle.ft_trace.specs.declared.Act.TheVariants.{StartWrite, PutRoot}
 use Rattle.ft_trace.specs.declared.View.{View}
 use Rattle.ft_trace.specs.Acts.{noted}
 use Rattle.ft_trace.specs.Holds.{held}
-use Rattle.ft_trace.specs.Words.{root_in}
+use Rattle.ft_trace.specs.Pictures.{root_in}
 use Rattle.ft_bank.specs.Passes.{shape_of, view}
 use Rattle.ft_bank.specs.Series.{DidAll}
-use Rattle.ft_bank.specs.Tables.{name_of}
-use Rattle.ft_bank.specs.Writes.{KeepsUnwritten, MayPutRoot}
+use Rattle.ft_bank.specs.TableNames.{name_of}
+use Rattle.ft_bank.specs.WriteSteps.{KeepsUnwritten, MayPutRoot}
 use Rattle.ft_search.proofs.Running.{did_trans}
 use Rattle.ft_adding.proofs.Rooted.{may_root}
 use Rattle.ft_adding.proofs.growth.begin_in.Goals as goal

@@ -1,17 +1,17 @@
 use Rattle.std.proofs.Common.{◌≡◌, ℕ, ◌+◌, ◌<◌, Option, Some, None, refl, sym, ap, ◌∙◌, subst, arith}
-use Rattle.ft_model.specs.Tables.{TableUse}
+use Rattle.ft_model.specs.TableUses.{TableUse}
 use Rattle.ft_model.specs.Worlds.{kind_of, length_of}
 use Rattle.ft_trace.specs.Addresses.{class_of}
 use Rattle.ft_trace.specs.Holds.{known}
 use Rattle.ft_trace.specs.Kinds.{rows}
 use Rattle.ft_bank.specs.declared.table.Table.{Table}
 use Rattle.ft_bank.specs.Passes.{shape_of, view}
-use Rattle.ft_bank.specs.Tables.{name_of, root_for}
-use Rattle.ft_bank.proofs.Tables.{class_is}
+use Rattle.ft_bank.specs.TableNames.{name_of, root_for}
+use Rattle.ft_bank.proofs.TableAddresses.{class_is}
 use Rattle.ft_search.specs.Rounds.{kind_by}
 use Rattle.ft_search.proofs.Changing.{kind_is}
-use Rattle.ft_adding.specs.Growing.{key_takes, use_of, most_of}
-use Rattle.ft_adding.proofs.Finishing.{adds_leaves}
+use Rattle.ft_adding.specs.KeyGrowth.{key_takes, use_of, most_of}
+use Rattle.ft_adding.proofs.FinishedKeys.{adds_leaves}
 use Rattle.ft_adding.proofs.Keyed.{counts_known, use_known}
 use Rattle.ft_adding.proofs.Wanted.{bare_takes, most_few, passes_not, stays_use, takes_none}
 use Rattle.ft_adding.proofs.keys.add_here.Goals as goal

@@ -4,18 +4,18 @@ use Rattle.ft_model.specs.Worlds.{kind_of, length_of, serial_of}
 use Rattle.ft_trace.specs.Addresses.{class_of}
 use Rattle.ft_trace.specs.Holds.{held, known}
 use Rattle.ft_trace.specs.Kinds.{rows}
-use Rattle.ft_trace.specs.Words.{Picture, root_in}
-use Rattle.ft_trace.specs.Worlds.{ContainerState, changes}
+use Rattle.ft_trace.specs.Pictures.{Picture, root_in}
+use Rattle.ft_trace.specs.ContainerStates.{ContainerState, changes}
 use Rattle.ft_bank.specs.declared.takings.Took.TheVariants as took
 use Rattle.ft_bank.specs.Passes.{shape_of, view}
-use Rattle.ft_bank.specs.Tables.{name_of, root_for}
-use Rattle.ft_bank.proofs.Tables.{class_is}
+use Rattle.ft_bank.specs.TableNames.{name_of, root_for}
+use Rattle.ft_bank.proofs.TableAddresses.{class_is}
 use Rattle.ft_growth.specs.Adding.{Retires}
 use Rattle.ft_growth.proofs.Rooting.{taken_out}
 use Rattle.ft_search.specs.Held.{IsHeldAt}
 use Rattle.ft_search.specs.Rounds.{kind_by}
 use Rattle.ft_search.proofs.Changing.{kind_is}
-use Rattle.ft_adding.specs.Growing.{AddsKey, KnowsKeyed, MayGrow, key_takes, most_of}
+use Rattle.ft_adding.specs.KeyGrowth.{AddsKey, KnowsKeyed, MayGrowKeyed, key_takes, most_of}
 use Rattle.ft_adding.specs.Placing.{AreCounts}
 use Rattle.ft_adding.proofs.Keyed.{counts_known, fresh_other}
 use Rattle.ft_adding.proofs.Taken.{adds_later, tried_has, tried_knows, tried_may, tried_words}
@@ -36,7 +36,7 @@ same c =
     let e = c.in-Taken.ensures in
     tried_words _ (view a.pass.now) (view c.take.new.pass) e.same e.keeps (shape_of a.bank.now) a.o a.old c.requires.pass.1 c.requires.may.keyed
 
-grow : (c : In-Taken) → MayGrow (shape_of c.args.bank.now) c.args.o c.args.old c.in-Taken.table (view c.take.new.pass)
+grow : (c : In-Taken) → MayGrowKeyed (shape_of c.args.bank.now) c.args.o c.args.old c.in-Taken.table (view c.take.new.pass)
 grow c =
     let a = c.args in
     let e = c.in-Taken.ensures in

@@ -1,10 +1,10 @@
 use Rattle.std.proofs.Common.{◌≡◌, ℕ, ◌+◌, sym, subst}
 use Rattle.ft_layout.specs.Words.{entry_words}
-use Rattle.ft_keys.specs.Changes.{place_puts}
+use Rattle.ft_keys.specs.TableChanges.{place_puts}
 use Rattle.ft_trace.specs.Addresses.{class_of, slots}
 use Rattle.ft_bank.specs.Passes.{shape_of, view}
-use Rattle.ft_bank.specs.Tables.{name_of}
-use Rattle.ft_search.proofs.Places.{mask_is, slots_is}
+use Rattle.ft_bank.specs.TableNames.{name_of}
+use Rattle.ft_search.proofs.WordPlaces.{mask_is, slots_is}
 use Rattle.ft_search.proofs.Running.{ran}
 use Rattle.ft_adding.proofs.Laid.{ran_laid, laid_words}
 use Rattle.ft_adding.proofs.placing.place_in.Goals as goal

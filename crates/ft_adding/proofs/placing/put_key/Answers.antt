@@ -1,7 +1,7 @@
 use Rattle.std.proofs.Common.{arith}
 use Rattle.ft_trace.specs.Holds.{held}
 use Rattle.ft_bank.specs.Passes.{shape_of, view}
-use Rattle.ft_adding.proofs.Entering.{few_used}
+use Rattle.ft_adding.proofs.NewEntryPuts.{few_used}
 use Rattle.ft_adding.proofs.placing.put_key.Goals as goal
 
 pub overflow_add-fill : goal.overflow_add-fill

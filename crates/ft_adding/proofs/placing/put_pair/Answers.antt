@@ -1,20 +1,20 @@
 use Rattle.std.proofs.Common.{◌≡◌, ℕ, ◌+◌, ◌<◌, ◌≤◌, sym, ap, ◌∙◌, subst, arith}
 use Rattle.ft_layout.specs.Tables.{dict_room}
 use Rattle.ft_layout.specs.Words.{entry_words}
-use Rattle.ft_keys.specs.Changes.{place_puts}
+use Rattle.ft_keys.specs.TableChanges.{place_puts}
 use Rattle.ft_trace.specs.Addresses.{class_of, slots, places}
 use Rattle.ft_trace.specs.Holds.{held}
-use Rattle.ft_trace.specs.Words.{Picture, root_in}
-use Rattle.ft_trace.specs.Worlds.{kind_in}
+use Rattle.ft_trace.specs.Pictures.{Picture, root_in}
+use Rattle.ft_trace.specs.ContainerStates.{kind_in}
 use Rattle.ft_trace.proofs.ByKind.{keyed_fit}
 use Rattle.ft_bank.specs.Passes.{shape_of, view}
-use Rattle.ft_bank.specs.Tables.{name_of}
+use Rattle.ft_bank.specs.TableNames.{name_of}
 use Rattle.ft_bank.specs.Whole.{OnlyPut}
-use Rattle.ft_bank.proofs.Whole.{put_then}
-use Rattle.ft_search.proofs.Places.{slots_is, places_is}
+use Rattle.ft_bank.proofs.KnownAfterWrites.{put_then}
+use Rattle.ft_search.proofs.WordPlaces.{slots_is, places_is}
 use Rattle.ft_search.proofs.Puts.{writes_on}
 use Rattle.ft_adding.specs.Placing.{laid, with_pair}
-use Rattle.ft_adding.proofs.Entering.{pair_opens, pair_allowed}
+use Rattle.ft_adding.proofs.NewEntryPuts.{pair_opens, pair_allowed}
 use Rattle.ft_adding.proofs.placing.put_pair.Goals as goal
 use Rattle.ft_adding.proofs.placing.put_pair.Goals.{After-mask_of-mask}
 

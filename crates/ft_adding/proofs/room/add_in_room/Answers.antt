@@ -6,15 +6,15 @@ use Rattle.ft_trace.specs.declared.View.{View}
 use Rattle.ft_trace.specs.Addresses.{class_of, slots}
 use Rattle.ft_trace.specs.Holds.{held, known}
 use Rattle.ft_trace.specs.Kinds.{rows}
-use Rattle.ft_trace.specs.Words.{Picture}
-use Rattle.ft_trace.specs.Worlds.{kind_in}
+use Rattle.ft_trace.specs.Pictures.{Picture}
+use Rattle.ft_trace.specs.ContainerStates.{kind_in}
 use Rattle.ft_bank.specs.Passes.{shape_of, view}
-use Rattle.ft_bank.specs.Tables.{name_of}
+use Rattle.ft_bank.specs.TableNames.{name_of}
 use Rattle.ft_search.proofs.Changing.{Changing, kind_is}
-use Rattle.ft_search.proofs.Endings.{whole_write}
-use Rattle.ft_adding.specs.Growing.{KnowsKeyed}
+use Rattle.ft_search.proofs.ReadyCommits.{whole_write}
+use Rattle.ft_adding.specs.KeyGrowth.{KnowsKeyed}
 use Rattle.ft_adding.specs.Placing.{IsUnused, with_entry, with_key}
-use Rattle.ft_adding.proofs.Finishing.{key_finishes, since_start}
+use Rattle.ft_adding.proofs.FinishedKeys.{key_finishes, since_start}
 use Rattle.ft_adding.proofs.Keyed.{counts_known, fresh_known, knows_here, shut_here}
 use Rattle.ft_adding.proofs.Placed.{Fresh, PlaceLaws, pair_for, place_unused, places_key, use_with}
 use Rattle.ft_adding.proofs.room.add_in_room.Goals as goal

@@ -1,7 +1,7 @@
 use Rattle.std.proofs.Common.{ℕ, ◌+◌, ◌-◌, List, ◌∷◌, ◌++◌, sym, ap, ◌∙◌, arith}
-use Rattle.ft_bank.specs.Tables.{sizes_from}
-use Rattle.ft_bank.proofs.Starting.{snoc_over}
-use Rattle.ft_bank.proofs.Tables.{sizes_next}
+use Rattle.ft_bank.specs.TableNames.{sizes_from}
+use Rattle.ft_bank.proofs.StartWords.{snoc_over}
+use Rattle.ft_bank.proofs.TableAddresses.{sizes_next}
 use Rattle.ft_bank.proofs.opening.class_sizes.Goals as goal
 
 pub loop-class-preserved : goal.loop-class-preserved

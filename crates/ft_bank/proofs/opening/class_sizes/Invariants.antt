@@ -1,5 +1,5 @@
 use Rattle.std.proofs.Common.{◌≡◌, ◌+◌, ◌-◌, ◌++◌}
-use Rattle.ft_bank.specs.Tables.{sizes_from}
+use Rattle.ft_bank.specs.TableNames.{sizes_from}
 use Rattle.ft_bank.proofs.opening.class_sizes.Given as goal
 
 abbrev pub invariant-loop-class : goal.invariant-loop-class

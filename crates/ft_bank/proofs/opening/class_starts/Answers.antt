@@ -1,9 +1,9 @@
 use Rattle.std.proofs.Common.{◌≡◌, ℕ, ◌+◌, ◌-◌, List, length, ◌∷◌, ◌++◌, sym, ap, ◌∙◌, arith}
 use Rattle.ft_layout.specs.Starts.{table_start}
 use Rattle.ft_bank.specs.Shapes.{plan}
-use Rattle.ft_bank.specs.Tables.{starts_from}
-use Rattle.ft_bank.proofs.Starting.{snoc_over}
-use Rattle.ft_bank.proofs.Tables.{starts_next, start_first}
+use Rattle.ft_bank.specs.TableNames.{starts_from}
+use Rattle.ft_bank.proofs.StartWords.{snoc_over}
+use Rattle.ft_bank.proofs.TableAddresses.{starts_next, start_first}
 use Rattle.ft_bank.proofs.opening.class_starts.Goals as goal
 
 pub loop-class-preserved : goal.loop-class-preserved

@@ -1,6 +1,6 @@
 use Rattle.std.proofs.Common.{◌≡◌, ◌+◌, ◌-◌, ◌++◌}
 use Rattle.ft_bank.specs.Shapes.{plan}
-use Rattle.ft_bank.specs.Tables.{starts_from}
+use Rattle.ft_bank.specs.TableNames.{starts_from}
 use Rattle.ft_bank.proofs.opening.class_starts.Given as goal
 
 abbrev pub invariant-loop-class : goal.invariant-loop-class

@@ -1,6 +1,6 @@
 use Rattle.std.proofs.Common.{◌<◌, ◌^◌, arith}
 use Rattle.std.proofs.Math.Pow.{pow-lt}
-use Rattle.ft_bank.proofs.Starting.{full_is}
+use Rattle.ft_bank.proofs.StartWords.{full_is}
 use Rattle.ft_bank.proofs.opening.ones.Goals as goal
 
 pub returns : goal.returns

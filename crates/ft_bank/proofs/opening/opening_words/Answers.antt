@@ -3,7 +3,7 @@ use Rattle.std.specs.Prelude.{replicate}
 use Rattle.ft_layout.specs.Starts.{bank_size}
 use Rattle.ft_trace.specs.Addresses.{extent, free_counts, free_words}
 use Rattle.ft_bank.specs.Shapes.{plan}
-use Rattle.ft_bank.proofs.Starting.{in_order, size_is}
+use Rattle.ft_bank.proofs.StartWords.{in_order, size_is}
 use Rattle.ft_bank.proofs.opening.opening_words.Goals as goal
 
 pub returns : goal.returns

@@ -1,6 +1,6 @@
 use Rattle.std.proofs.Common.{ℕ, ◌+◌, ◌-◌, List, ◌∷◌, ◌++◌, sym, ap, ◌∙◌, arith}
 use Rattle.ft_trace.specs.Addresses.{free_counts}
-use Rattle.ft_bank.proofs.Starting.{snoc_over, counts_next}
+use Rattle.ft_bank.proofs.StartWords.{snoc_over, counts_next}
 use Rattle.ft_bank.proofs.opening.push_counts.Goals as goal
 
 pub loop-class-preserved : goal.loop-class-preserved

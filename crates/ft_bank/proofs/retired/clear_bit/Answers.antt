@@ -2,7 +2,7 @@ use Rattle.std.proofs.Common.{ℕ, refl, sym, ap, ◌∙◌}
 use Rattle.std.specs.Prelude.{slice_index, slice_set}
 use Rattle.ft_trace.specs.Addresses.{free_bit_of}
 use Rattle.ft_trace.specs.Bits.{bit_off}
-use Rattle.ft_bank.specs.Tables.{name_of}
+use Rattle.ft_bank.specs.TableNames.{name_of}
 use Rattle.ft_bank.proofs.Freeing.{off_at}
 use Rattle.ft_bank.proofs.retired.clear_bit.Goals as goal
 

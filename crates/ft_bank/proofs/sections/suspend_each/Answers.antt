@@ -1,7 +1,7 @@
 use Rattle.std.proofs.Common.{◌≡◌, ◌<◌, ◌+◌, ◌++◌, ℕ, List, length, get_or, set, map, take, drop, arith, ap, ◌∙◌}
 use Rattle.std.proofs.lemmas.List.{get_or_default}
 use Rattle.std.proofs.lemmas.List.Edits.{map_over_more}
-use Rattle.ft_bank.specs.Sections.{suspended}
+use Rattle.ft_bank.specs.PassSections.{suspended}
 use Rattle.ft_bank.proofs.sections.suspend_each.Goals as goal
 
 -- the same at whatever default the element is read

@@ -1,5 +1,5 @@
 use Rattle.std.proofs.Common.{◌≡◌, map, take, drop, ◌++◌}
-use Rattle.ft_bank.specs.Sections.{suspended}
+use Rattle.ft_bank.specs.PassSections.{suspended}
 use Rattle.ft_bank.proofs.sections.suspend_each.Given as goal
 
 abbrev pub invariant-loop-section : goal.invariant-loop-section

@@ -1,4 +1,4 @@
-use Rattle.ft_bank.proofs.Showing as proved
+use Rattle.ft_bank.proofs.ShownReplies as proved
 use Rattle.ft_bank.proofs.shown.overs_are_shown.Goals as goal
 
 pub returns : goal.returns

@@ -1,4 +1,4 @@
-use Rattle.ft_bank.proofs.Showing as proved
+use Rattle.ft_bank.proofs.ShownReplies as proved
 use Rattle.ft_bank.proofs.shown.replies_under_locks_are_shown.Goals as goal
 
 pub returns : goal.returns

@@ -1,11 +1,11 @@
 use Rattle.ft_model.specs.declared.call.Call.TheVariants as call
 use Rattle.ft_model.specs.declared.call.DictCall.TheVariants as dict
-use Rattle.ft_model.specs.Tables.{copy_takes}
+use Rattle.ft_model.specs.TableUses.{copy_takes}
 use Rattle.ft_model.specs.Worlds.{length_of}
 use Rattle.ft_trace.specs.Holds.{known}
 use Rattle.ft_bank.specs.Passes.{shape_of, view}
 use Rattle.ft_replacing.proofs.Comings.{replaced_cursors}
-use Rattle.ft_dict.proofs.Copied.{copies}
+use Rattle.ft_dict.proofs.CopiedDicts.{copies}
 use Rattle.ft_dict.proofs.copies.copyto_by.Goals as goal
 
 pub copy_into-requires-clause-replaces : goal.copy_into-requires-clause-replaces

@@ -2,15 +2,15 @@ use Rattle.std.proofs.Common.{◌<◌, ℕ, refl, sym, ◌∙◌, subst}
 use Rattle.ft_model.specs.declared.call.Call.TheVariants as call
 use Rattle.ft_model.specs.declared.call.DictCall.TheVariants as dict
 use Rattle.ft_model.specs.declared.script.Kind.{Kind}
-use Rattle.ft_model.specs.Tables.{copy_takes}
+use Rattle.ft_model.specs.TableUses.{copy_takes}
 use Rattle.ft_model.specs.Worlds.{length_of}
 use Rattle.ft_trace.specs.Holds.{known}
 use Rattle.ft_trace.specs.Kinds.{IsKeyed}
 use Rattle.ft_bank.specs.Passes.{shape_of, view}
 use Rattle.ft_section.specs.declared.answers.Objects.TheVariants.{Two}
 use Rattle.ft_section.specs.Trying.{SectionsAfter}
-use Rattle.ft_section.proofs.Tries.{let_gone}
-use Rattle.ft_growth.proofs.Staying.{gone_as}
+use Rattle.ft_section.proofs.TriedSections.{let_gone}
+use Rattle.ft_growth.proofs.GrowthMidst.{gone_as}
 use Rattle.ft_search.proofs.Calling.{making_may}
 use Rattle.ft_list.proofs.Both.{are_in, has_each}
 use Rattle.ft_replacing.proofs.Comings.{replaced_making}

@@ -3,9 +3,9 @@ use Rattle.ft_model.specs.declared.call.DictCall.TheVariants as dict
 use Rattle.ft_model.specs.declared.reply.Reply.TheVariants as reply
 use Rattle.ft_model.specs.declared.reply.Raise.TheVariants as raise
 use Rattle.ft_bank.specs.Passes.{shape_of, view}
-use Rattle.ft_search.specs.Calls.{IsShownBy}
+use Rattle.ft_search.specs.MadeCalls.{IsShownBy}
 use Rattle.ft_trace.specs.Holds.{known}
-use Rattle.ft_search.specs.Writing.{Leaves, without_key}
+use Rattle.ft_search.specs.OneEntryWrites.{Leaves, without_key}
 use Rattle.ft_search.proofs.Calling.{answer_loaded, written_made}
 use Rattle.ft_dict.proofs.Deleted as deleted
 use Rattle.ft_dict.proofs.deletes.del_locked.Goals as goal

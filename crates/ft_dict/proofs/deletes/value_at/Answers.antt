@@ -3,10 +3,10 @@ use Rattle.std.proofs.Math.Logic.{∥∥₁_elim}
 use Rattle.ft_model.specs.declared.content.Content.{Content}
 use Rattle.ft_trace.specs.declared.Shape.{Shape}
 use Rattle.ft_trace.specs.Addresses.{containers_in}
-use Rattle.ft_trace.specs.Worlds.{kind_in}
+use Rattle.ft_trace.specs.ContainerStates.{kind_in}
 use Rattle.ft_bank.specs.Passes.{view}
 use Rattle.ft_search.specs.Held.{IsHeldAt}
-use Rattle.ft_search.proofs.Holding.{dict_known}
+use Rattle.ft_search.proofs.FoundInContents.{dict_known}
 use Rattle.ft_dict.proofs.Reading.{value_known}
 use Rattle.ft_dict.proofs.deletes.value_at.Goals as goal
 

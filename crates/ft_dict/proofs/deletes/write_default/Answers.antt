@@ -4,7 +4,7 @@ use Rattle.ft_model.specs.declared.call.DictCall.TheVariants as dict
 use Rattle.ft_model.specs.declared.reply.Reply.TheVariants as reply
 use Rattle.ft_trace.specs.Holds.{known}
 use Rattle.ft_bank.specs.Passes.{shape_of, view}
-use Rattle.ft_search.specs.Writing.{Leaves}
+use Rattle.ft_search.specs.OneEntryWrites.{Leaves}
 use Rattle.ft_search.proofs.Calling.{loaded_same, written_made}
 use Rattle.ft_dict.proofs.Deleted as deleted
 use Rattle.ft_dict.proofs.deletes.write_default.Goals as goal

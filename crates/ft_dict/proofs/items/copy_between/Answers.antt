@@ -2,9 +2,9 @@ use Rattle.std.proofs.Common.{◌≡◌, map}
 use Rattle.ft_model.specs.Answers.{items_of}
 use Rattle.ft_model.specs.Contents.{DictContent}
 use Rattle.ft_bank.specs.Passes.{shape_of}
-use Rattle.ft_keyed.specs.Contents.{IsOfDict}
-use Rattle.ft_keyed.specs.Copies.{AreCopied}
-use Rattle.ft_keyed.proofs.Windowed.{saw_between}
+use Rattle.ft_keyed.specs.ShownContents.{IsOfDict}
+use Rattle.ft_list.specs.Copies.{AreCopied}
+use Rattle.ft_list.proofs.Windowed.{saw_between}
 use Rattle.ft_dict.proofs.items.copy_between.Goals as goal
 
 pub returns-clause-saw : goal.returns-clause-saw

@@ -9,13 +9,13 @@ use Rattle.ft_model.specs.Worlds.{dict_of}
 use Rattle.ft_trace.specs.declared.Shape.{Shape}
 use Rattle.ft_bank.specs.Passes.{shape_of, view}
 use Rattle.ft_bank.specs.Whole.{OnlyLoaded}
-use Rattle.ft_search.specs.Calls.{IsShownBy}
+use Rattle.ft_search.specs.MadeCalls.{IsShownBy}
 use Rattle.ft_search.proofs.Calling.{answer_loaded}
 use Rattle.ft_search.proofs.Running.{did_log}
 use Rattle.ft_list.proofs.Indexes.{reads_loaded}
-use Rattle.ft_keyed.specs.Contents.{IsOfDict}
-use Rattle.ft_keyed.specs.Copies.{AreCopied, IsCopied}
-use Rattle.ft_keyed.proofs.Knowing.{read_may, read_shows, shown_then}
+use Rattle.ft_keyed.specs.ShownContents.{IsOfDict}
+use Rattle.ft_list.specs.Copies.{AreCopied, IsCopied}
+use Rattle.ft_keyed.proofs.KnownContents.{read_may, read_shows, shown_then}
 use Rattle.ft_dict.proofs.Showing.{items_shown, items_taken}
 use Rattle.ft_dict.proofs.items.items_locked.Goals as goal
 use Rattle.ft_dict.proofs.items.items_locked.Goals.{After-copy_pairs, After-from_vec}

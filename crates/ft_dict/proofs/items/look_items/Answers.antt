@@ -8,9 +8,10 @@ use Rattle.ft_model.specs.Answers.{items_of}
 use Rattle.ft_model.specs.Contents.{DictContent}
 use Rattle.ft_model.specs.Worlds.{dict_of}
 use Rattle.ft_bank.specs.Passes.{shape_of, view}
-use Rattle.ft_keyed.specs.Contents.{IsOfDict}
-use Rattle.ft_keyed.specs.Copies.{AreCopied, IsCopyGlanceOf}
-use Rattle.ft_keyed.proofs.Windowed.{saw_answered, saw_loaded, saw_shown, saw_some, saw_stopped}
+use Rattle.ft_keyed.specs.ShownContents.{IsOfDict}
+use Rattle.ft_list.specs.Copies.{AreCopied}
+use Rattle.ft_list.proofs.Windowed.{saw_answered, saw_loaded, saw_shown, saw_some, saw_stopped}
+use Rattle.ft_list.specs.Glances.{IsCopyGlanceOf}
 use Rattle.ft_dict.proofs.Showing.{items_plain, items_reply, some_mapped}
 use Rattle.ft_dict.proofs.items.look_items.Goals as goal
 

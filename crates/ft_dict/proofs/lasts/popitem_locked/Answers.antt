@@ -5,11 +5,11 @@ use Rattle.ft_model.specs.declared.reply.Reply.TheVariants as reply
 use Rattle.ft_model.specs.declared.reply.Raise.TheVariants as raise
 use Rattle.ft_trace.specs.Holds.{held, known}
 use Rattle.ft_bank.specs.Passes.{shape_of, view}
-use Rattle.ft_search.specs.Writing.{Leaves, MayWriteEntries, without_key}
+use Rattle.ft_search.specs.OneEntryWrites.{Leaves, MayWriteEntries, without_key}
 use Rattle.ft_search.proofs.Calling.{answer_loaded, written_made}
 use Rattle.ft_search.proofs.Running.{did_log}
 use Rattle.ft_list.proofs.Indexes.{reads_loaded}
-use Rattle.ft_keyed.proofs.Knowing.{read_later, read_may}
+use Rattle.ft_keyed.proofs.KnownContents.{read_later, read_may}
 use Rattle.ft_dict.specs.declared.lasts.Last.{Last}
 use Rattle.ft_dict.specs.Lasts.{IsLastOf}
 use Rattle.ft_dict.proofs.Popping.{popped_entry, popped_leaves, popped_raises, popped_table}

@@ -3,7 +3,7 @@ use Rattle.ft_bank.specs.Passes.{view}
 use Rattle.ft_bank.specs.Reads.{IsShown}
 use Rattle.ft_model.specs.declared.call.Call.TheVariants as call
 use Rattle.ft_model.specs.declared.call.DictCall.TheVariants as dict
-use Rattle.ft_search.specs.Looks.{IsLookOf}
+use Rattle.ft_search.specs.KeyLooks.{IsLookOf}
 use Rattle.ft_search.proofs.Asking.{answered_after}
 use Rattle.ft_keys.specs.declared.walk.Way.TheVariants as way
 use Rattle.ft_search.proofs.Spending.{rounds_answered}

@@ -4,7 +4,7 @@ use Rattle.ft_bank.specs.Reads.{IsShown}
 use Rattle.ft_model.specs.declared.call.Call.TheVariants as call
 use Rattle.ft_model.specs.declared.call.DictCall.TheVariants as dict
 use Rattle.ft_model.specs.declared.reply.Reply.TheVariants as reply
-use Rattle.ft_search.specs.Looks.{IsLookOf}
+use Rattle.ft_search.specs.KeyLooks.{IsLookOf}
 use Rattle.ft_search.proofs.Asking.{answered_after}
 use Rattle.ft_keys.specs.declared.walk.Way.TheVariants as way
 use Rattle.ft_search.proofs.Spending.{rounds_answered}

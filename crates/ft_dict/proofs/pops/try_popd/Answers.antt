@@ -6,7 +6,7 @@ use Rattle.ft_trace.specs.Kinds.{IsKeyed}
 use Rattle.ft_bank.specs.Passes.{shape_of, view}
 use Rattle.ft_section.specs.declared.answers.Objects.TheVariants.{One}
 use Rattle.ft_search.proofs.Calling.{making_made, making_may}
-use Rattle.ft_section.proofs.Tries.{let_gone}
+use Rattle.ft_section.proofs.TriedSections.{let_gone}
 use Rattle.ft_dict.proofs.pops.try_popd.Goals as goal
 
 pub popd_locked-reply-requires-clause-pass : goal.popd_locked-reply-requires-clause-pass

@@ -5,8 +5,8 @@ use Rattle.ft_trace.specs.declared.Shape.{Shape}
 use Rattle.ft_trace.specs.Addresses.{containers_in}
 use Rattle.ft_bank.specs.Passes.{shape_of, view}
 use Rattle.ft_section.specs.declared.answers.Objects.TheVariants.{One}
-use Rattle.ft_search.proofs.Trying.{making_read, making_stands}
-use Rattle.ft_section.proofs.Tries.{let_gone}
+use Rattle.ft_search.proofs.ReadMidst.{making_read, making_stands}
+use Rattle.ft_section.proofs.TriedSections.{let_gone}
 use Rattle.ft_dict.proofs.tries.try_has.Goals as goal
 
 pub has_locked-reply-requires-clause-pass : goal.has_locked-reply-requires-clause-pass

@@ -3,7 +3,7 @@ use Rattle.ft_model.specs.declared.call.Call.TheVariants as call
 use Rattle.ft_model.specs.declared.call.DictCall.TheVariants as dict
 use Rattle.ft_model.specs.declared.reply.Reply.TheVariants as reply
 use Rattle.ft_bank.specs.Passes.{shape_of, view}
-use Rattle.ft_growth.proofs.Staying.{making_added}
+use Rattle.ft_growth.proofs.GrowthMidst.{making_added}
 use Rattle.ft_adding.proofs.Cursors.{puts_cursors}
 use Rattle.ft_dict.proofs.values.try_setdefault.Goals as goal
 

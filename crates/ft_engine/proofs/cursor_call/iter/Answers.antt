@@ -2,7 +2,7 @@ use Rattle.std.proofs.Common.{subst}
 use Rattle.std.specs.Prelude.{Option}
 use Rattle.ft_model.specs.declared.cursor.Cursor.{Cursor}
 use Rattle.ft_bank.specs.Passes.{shape_of, view}
-use Rattle.ft_iter.specs.Cursors.{IsMoveOf, iter_call}
+use Rattle.ft_iter.specs.CursorCalls.{IsMoveOf, iter_call}
 use Rattle.ft_engine.proofs.CursorCalls.{at_read, hands_by, iter_tried}
 use Rattle.ft_engine.proofs.cursor_call.iter.Goals as goal
 

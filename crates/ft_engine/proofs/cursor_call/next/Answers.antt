@@ -4,7 +4,7 @@ use Rattle.ft_model.specs.declared.call.Call.TheVariants as call
 use Rattle.ft_model.specs.declared.cursor.Cursor.{Cursor}
 use Rattle.ft_model.specs.Worlds.{container_of, cursor_at, cursor_kind}
 use Rattle.ft_bank.specs.Passes.{shape_of, view}
-use Rattle.ft_iter.specs.Cursors.{IsMoveOf}
+use Rattle.ft_iter.specs.CursorCalls.{IsMoveOf}
 use Rattle.ft_engine.proofs.CursorCalls.{at_read, hands_by, next_tried}
 use Rattle.ft_engine.proofs.cursor_call.next.Goals as goal
 

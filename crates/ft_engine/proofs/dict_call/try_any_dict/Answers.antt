@@ -4,7 +4,8 @@ use Rattle.ft_model.specs.declared.call.DictCall.TheVariants as dict
 use Rattle.ft_model.specs.declared.reply.Reply.TheVariants as reply
 use Rattle.ft_bank.specs.Passes.{shape_of, view}
 use Rattle.ft_section.specs.declared.answers.Objects.TheVariants.{One, Two}
-use Rattle.ft_engine.proofs.KeyedCalls.{copies_outcome, default_outcome, dict_tried, joins_outcome, keyed_clear_outcome, keyed_copy_outcome, puts_outcome}
+use Rattle.ft_engine.proofs.ContainerCalls.{clear_outcome, copy_outcome}
+use Rattle.ft_engine.proofs.KeyedCalls.{copies_outcome, default_outcome, dict_tried, joins_outcome, puts_outcome}
 use Rattle.ft_engine.proofs.Outcomes.{made_outcome, read_outcome}
 use Rattle.ft_engine.proofs.dict_call.try_any_dict.Goals as goal
 
@@ -56,7 +57,7 @@ returns-in-SetDefault c hands =
 pub returns-in-Clear : goal.returns-in-Clear
 returns-in-Clear c hands =
     dict_tried c.args.bank.now c.args.pass.now c.try_clear.new.pass hands c.args.d c.args.call.now dict.Clear (One c.args.d) c.try_clear.result c.in-Clear.is refl refl c.try_clear.ensures.sections
-    (keyed_clear_outcome c.args.d (call.Dict c.args.d dict.Clear) (view c.args.pass.now) (view c.try_clear.new.pass) c.try_clear.result c.try_clear.ensures.tried)
+    (clear_outcome c.args.d (call.Dict c.args.d dict.Clear) (view c.args.pass.now) (view c.try_clear.new.pass) c.try_clear.result c.try_clear.ensures.tried)
 
 pub returns-in-PopItem : goal.returns-in-PopItem
 returns-in-PopItem c hands =
@@ -71,7 +72,7 @@ returns-in-Eq c hands =
 pub returns-in-Items : goal.returns-in-Items
 returns-in-Items c hands =
     dict_tried c.args.bank.now c.args.pass.now c.try_items.new.pass hands c.args.d c.args.call.now dict.Items (One c.args.d) c.try_items.result c.in-Items.is refl refl c.try_items.ensures.sections
-    (keyed_copy_outcome (One c.args.d) (call.Dict c.args.d dict.Items) (view c.args.pass.now) (view c.try_items.new.pass) c.try_items.result refl c.requires.left c.try_items.ensures.made)
+    (copy_outcome (One c.args.d) (call.Dict c.args.d dict.Items) (view c.args.pass.now) (view c.try_items.new.pass) c.try_items.result refl c.requires.left c.try_items.ensures.made)
 
 pub returns-in-CopyTo : goal.returns-in-CopyTo
 returns-in-CopyTo c hands =

@@ -4,7 +4,7 @@ use Rattle.ft_model.specs.Calls.{other_list}
 use Rattle.ft_bank.specs.Passes.{view}
 use Rattle.ft_engine.specs.Flights.{objects_by}
 use Rattle.ft_engine.proofs.ListCalls.{plain_list}
-use Rattle.ft_engine.proofs.Looking.{looked_left, looked_making, looked_may, looked_then, looked_tried}
+use Rattle.ft_engine.proofs.LooksBefore.{looked_left, looked_making, looked_may, looked_then, looked_tried}
 use Rattle.ft_engine.proofs.LookFirst.{contended_looked, none_looked, settled_looked}
 use Rattle.ft_engine.proofs.Uncontended.{list_stands}
 use Rattle.ft_engine.proofs.list_call.call_list.Goals as goal

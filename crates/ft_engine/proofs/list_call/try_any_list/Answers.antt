@@ -3,18 +3,19 @@ use mir.Syntax.{w64}
 use mir.Val.{SFits}
 use Rattle.std.proofs.Math.Facts.{to_z-of_z}
 use Rattle.ft_model.specs.declared.reply.Reply.TheVariants as reply
-use Rattle.ft_search.specs.Calls.{IsMadeOf}
+use Rattle.ft_search.specs.MadeCalls.{IsMadeOf}
 use Rattle.ft_search.specs.Tries.{IsReadOf}
 use Rattle.ft_growth.specs.Adding.{IsTryOf as IsAddTryOf}
 use Rattle.ft_list.specs.Copies.{IsCopyOf}
-use Rattle.ft_list.specs.Growing.{AddsItems}
+use Rattle.ft_list.specs.ListGrowth.{AddsItems}
 use Rattle.std.specs.Prelude.{Some, None}
 use Rattle.ft_model.specs.declared.call.Call.TheVariants as call
 use Rattle.ft_model.specs.declared.call.ListCall.TheVariants as list
 use Rattle.ft_section.specs.declared.answers.Objects.TheVariants.{One, Two}
 use Rattle.ft_model.specs.Calls.{cursor_of_list}
 use Rattle.ft_bank.specs.Passes.{shape_of, view}
-use Rattle.ft_engine.proofs.ListCalls.{adds_outcome, clear_outcome, copy_outcome, extend_outcome, list_tried}
+use Rattle.ft_engine.proofs.ContainerCalls.{clear_outcome, copy_outcome}
+use Rattle.ft_engine.proofs.ListCalls.{adds_outcome, extend_outcome, list_tried}
 use Rattle.ft_engine.proofs.Outcomes.{made_outcome, read_outcome}
 use Rattle.ft_engine.proofs.list_call.try_any_list.Goals as goal
 
@@ -98,7 +99,7 @@ returns-in-Slice c hands =
 pub returns-in-Clear : goal.returns-in-Clear
 returns-in-Clear c hands =
     list_tried c.args.bank.now c.args.pass.now c.try_clear.new.pass hands c.args.l c.args.call.now list.Clear (One c.args.l) c.try_clear.result c.in-Clear.is refl refl c.try_clear.ensures.sections
-    (clear_outcome c.args.l (view c.args.pass.now) (view c.try_clear.new.pass) c.try_clear.result c.try_clear.ensures.tried)
+    (clear_outcome c.args.l (call.List c.args.l list.Clear) (view c.args.pass.now) (view c.try_clear.new.pass) c.try_clear.result c.try_clear.ensures.tried)
 
 pub returns-in-Len : goal.returns-in-Len
 returns-in-Len c hands =

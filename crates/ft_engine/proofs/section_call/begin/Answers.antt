@@ -2,17 +2,17 @@ use Rattle.std.proofs.Common.{◌∙◌, refl, subst}
 use Rattle.ft_model.specs.declared.call.Call.TheVariants as call
 use Rattle.ft_trace.proofs.Owning.{grown_finds_more}
 use Rattle.ft_bank.specs.Passes.{view}
-use Rattle.ft_bank.specs.Sections.{stack_of}
+use Rattle.ft_bank.specs.PassSections.{stack_of}
 use Rattle.ft_section.specs.declared.answers.Objects.{Objects}
 use Rattle.ft_section.specs.declared.answers.Got.TheVariants as got
 use Rattle.ft_section.specs.Floors.{KnewOwners, first_owned}
 use Rattle.ft_section.specs.Locking.{LocksWithin}
 use Rattle.ft_section.specs.LockTakings.{IsOf, lower_of, upper_of}
 use Rattle.ft_section.specs.Trying.{WaitsFor}
-use Rattle.ft_section.proofs.Floors.{entered_had}
+use Rattle.ft_section.proofs.FloorLogs.{entered_had}
 use Rattle.ft_engine.specs.Flights.{objects_by}
 use Rattle.ft_engine.specs.Stacks.{Opens}
-use Rattle.ft_engine.proofs.Looking.{one_objects}
+use Rattle.ft_engine.proofs.LooksBefore.{one_objects}
 use Rattle.ft_engine.proofs.SectionCalls.{Enters, begin_answer, enters_found, only_nothing}
 use Rattle.ft_engine.proofs.Within.{within_for}
 use Rattle.ft_engine.proofs.section_call.begin.Goals as goal

@@ -6,7 +6,7 @@ use Rattle.ft_trace.specs.declared.View.{View}
 use Rattle.ft_trace.specs.Acts.{noted}
 use Rattle.ft_bank.specs.Passes.{view}
 use Rattle.ft_bank.specs.Reads.{IsShown}
-use Rattle.ft_engine.proofs.Passing.{quiesced_calm}
+use Rattle.ft_engine.proofs.PassesAfter.{quiesced_calm}
 use Rattle.ft_engine.proofs.SectionCalls.{no_containers, quiesce_answer, quiesced_owners}
 use Rattle.ft_engine.proofs.Within.{same_for}
 use Rattle.ft_engine.proofs.section_call.quiesce.Goals as goal

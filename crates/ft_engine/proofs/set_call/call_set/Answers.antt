@@ -4,7 +4,7 @@ use Rattle.ft_model.specs.Calls.{other_set}
 use Rattle.ft_bank.specs.Passes.{view}
 use Rattle.ft_engine.specs.Flights.{objects_by}
 use Rattle.ft_engine.proofs.KeyedCalls.{plain_set}
-use Rattle.ft_engine.proofs.Looking.{looked_left, looked_making, looked_may, looked_then, looked_tried}
+use Rattle.ft_engine.proofs.LooksBefore.{looked_left, looked_making, looked_may, looked_then, looked_tried}
 use Rattle.ft_engine.proofs.LookFirst.{contended_looked, none_looked, settled_looked}
 use Rattle.ft_engine.proofs.Uncontended.{set_stands}
 use Rattle.ft_engine.proofs.set_call.call_set.Goals as goal

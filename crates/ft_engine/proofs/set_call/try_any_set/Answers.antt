@@ -4,7 +4,8 @@ use Rattle.ft_model.specs.declared.call.SetCall.TheVariants as set
 use Rattle.ft_model.specs.declared.reply.Reply.TheVariants as reply
 use Rattle.ft_bank.specs.Passes.{shape_of, view}
 use Rattle.ft_section.specs.declared.answers.Objects.TheVariants.{One, Two}
-use Rattle.ft_engine.proofs.KeyedCalls.{joins_outcome, keyed_clear_outcome, keyed_copy_outcome, parts_outcome, puts_outcome, set_tried}
+use Rattle.ft_engine.proofs.ContainerCalls.{clear_outcome, copy_outcome}
+use Rattle.ft_engine.proofs.KeyedCalls.{joins_outcome, parts_outcome, puts_outcome, set_tried}
 use Rattle.ft_engine.proofs.Outcomes.{made_outcome, read_outcome}
 use Rattle.ft_engine.proofs.set_call.try_any_set.Goals as goal
 
@@ -36,7 +37,7 @@ returns-in-Add c hands =
 pub returns-in-Clear : goal.returns-in-Clear
 returns-in-Clear c hands =
     set_tried c.args.bank.now c.args.pass.now c.try_clear.new.pass hands c.args.s c.args.call.now set.Clear (One c.args.s) c.try_clear.result c.in-Clear.is refl refl c.try_clear.ensures.sections
-    (keyed_clear_outcome c.args.s (call.Set c.args.s set.Clear) (view c.args.pass.now) (view c.try_clear.new.pass) c.try_clear.result c.try_clear.ensures.tried)
+    (clear_outcome c.args.s (call.Set c.args.s set.Clear) (view c.args.pass.now) (view c.try_clear.new.pass) c.try_clear.result c.try_clear.ensures.tried)
 
 pub returns-in-Pop : goal.returns-in-Pop
 returns-in-Pop c hands =
@@ -71,7 +72,7 @@ returns-in-Disjoint c hands =
 pub returns-in-Items : goal.returns-in-Items
 returns-in-Items c hands =
     set_tried c.args.bank.now c.args.pass.now c.try_items.new.pass hands c.args.s c.args.call.now set.Items (One c.args.s) c.try_items.result c.in-Items.is refl refl c.try_items.ensures.sections
-    (keyed_copy_outcome (One c.args.s) (call.Set c.args.s set.Items) (view c.args.pass.now) (view c.try_items.new.pass) c.try_items.result refl c.requires.left c.try_items.ensures.made)
+    (copy_outcome (One c.args.s) (call.Set c.args.s set.Items) (view c.args.pass.now) (view c.try_items.new.pass) c.try_items.result refl c.requires.left c.try_items.ensures.made)
 
 pub returns-in-Or : goal.returns-in-Or
 returns-in-Or c hands =

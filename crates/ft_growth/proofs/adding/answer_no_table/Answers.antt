@@ -2,7 +2,7 @@ use Rattle.std.proofs.Common.{◌≡◌}
 use Rattle.ft_model.specs.declared.reply.Reply.TheVariants as reply
 use Rattle.ft_model.specs.declared.reply.Raise.TheVariants as raise
 use Rattle.ft_bank.specs.Passes.{view}
-use Rattle.ft_growth.proofs.Answering.{answered_at, no_table_shown}
+use Rattle.ft_growth.proofs.MemoryErrors.{answered_at, no_table_shown}
 use Rattle.ft_growth.proofs.adding.answer_no_table.Goals as goal
 
 pub answer_held-requires-clause-shown : goal.answer_held-requires-clause-shown

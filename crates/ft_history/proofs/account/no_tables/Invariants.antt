@@ -1,5 +1,5 @@
 use Rattle.std.proofs.Common.{◌≡◌, replicate}
-use Rattle.ft_model.specs.Tables.{no_table}
+use Rattle.ft_model.specs.TableUses.{no_table}
 use Rattle.ft_history.specs.Internal.Accounts.{tables_of}
 use Rattle.ft_history.proofs.account.no_tables.Given as goal
 

@@ -1,5 +1,5 @@
 use Rattle.std.proofs.lemmas.List.{map-set}
-use Rattle.ft_model.specs.Tables.{table_of}
+use Rattle.ft_model.specs.TableUses.{table_of}
 use Rattle.ft_history.proofs.account.put.Goals as goal
 
 pub returns-then-place-len : goal.returns-then-place-len

@@ -1,5 +1,5 @@
 use Rattle.std.proofs.Common.{ap, ◌∙◌, replicate}
-use Rattle.ft_model.specs.Tables.{no_table}
+use Rattle.ft_model.specs.TableUses.{no_table}
 use Rattle.ft_history.proofs.AccountLemmas.{account_at_start}
 use Rattle.ft_history.proofs.account.start_account.Goals as goal
 

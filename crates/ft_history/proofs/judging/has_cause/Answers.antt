@@ -3,7 +3,7 @@ use Rattle.ft_model.specs.declared.call.Call.{Call}
 use Rattle.ft_model.specs.declared.entry.Entry.{Entry}
 use Rattle.ft_model.specs.declared.entry.Storage.{Storage}
 use Rattle.ft_model.specs.Histories.{writes, entries_of}
-use Rattle.ft_model.specs.Tables.{IsEarned}
+use Rattle.ft_model.specs.TableUses.{IsEarned}
 use Rattle.ft_model.specs.Worlds.{kinds_of}
 use Rattle.ft_model.proofs.StoredLaws.{stored_world}
 use Rattle.ft_history.proofs.judging.has_cause.Goals as goal

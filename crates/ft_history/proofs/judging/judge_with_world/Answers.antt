@@ -6,7 +6,7 @@ use Rattle.ft_model.specs.declared.script.ScriptParts.{ScriptParts}
 use Rattle.ft_model.specs.Scripts.{IsScript}
 use Rattle.ft_model.specs.Histories.{writes, world_at, IsLegal}
 use Rattle.std.proofs.lemmas.List.{take_all}
-use Rattle.ft_history.proofs.Places.{world_at-before}
+use Rattle.ft_history.proofs.HistoryPlaces.{world_at-before}
 use Rattle.ft_model.specs.Judging.{IsFirstBroken}
 use Rattle.ft_history.specs.Internal.Steps.{IsState, IsUnbrokenBefore, FindsBroken, HaveMadeAll}
 use Rattle.ft_history.proofs.FewEntries.{few_entries}

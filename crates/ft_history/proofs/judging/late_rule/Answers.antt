@@ -4,12 +4,12 @@ use Rattle.std.proofs.lemmas.Option.{slice_get_read}
 use Rattle.ft_model.specs.declared.entry.Entry.{Entry}
 use Rattle.ft_model.specs.declared.entry.Rule.TheVariants as rule
 use Rattle.ft_model.specs.declared.script.ScriptParts.{ScriptParts}
-use Rattle.ft_model.specs.Histories.{IsKept, IsCounted, IsCountedAs}
+use Rattle.ft_model.specs.Histories.{IsKept, IsCounted, IsCountedAs, IfEnds}
 use Rattle.ft_history.specs.declared.progress.ThreadProgress.{ThreadProgress}
 use Rattle.ft_history.specs.declared.progress.OpenSection.{OpenSection}
 use Rattle.ft_history.specs.declared.writers.LastWrites.{LastWrites}
 use Rattle.ft_history.specs.declared.state.State.{State}
-use Rattle.ft_history.specs.Internal.States.{all_begun, after_begun, inner_begun, IfEndsBegun, IsKeptSince, IsProgress}
+use Rattle.ft_history.specs.Internal.States.{all_begun, after_begun, inner_begun, IsKeptSince, IsProgress}
 use Rattle.ft_history.specs.Internal.Steps.{IsState}
 use Rattle.ft_history.proofs.Judged.{holds_more}
 use Rattle.ft_history.proofs.LateRules.{marked_iff, kept_iff, counted_iff}
@@ -24,15 +24,15 @@ there : (parts : ScriptParts) (entries : List Entry) (place thread : ℕ) (state
 there parts entries place thread state progress is_state low read = is_state.progress thread progress (slice_get_read state.threads.items _ thread progress refl low read)
 
 kept : (parts : ScriptParts) (entries : List Entry) (place : ℕ) (entry : Entry) (state : State) (progress : ThreadProgress) (r : Bool) (containers : List LastWrites) (sections : List OpenSection) → containers ≡ state.containers.items → sections ≡ progress.sections.items
-    → IsState parts entries place state → IsProgress parts entries entry.thread place progress → IsTrue r ↔ IfEndsBegun (all_begun sections) entry.call (λ section. IsKeptSince containers entry.thread section entry.reply) → IsTrue r ↔ IsKept entries place entry
+    → IsState parts entries place state → IsProgress parts entries entry.thread place progress → IsTrue r ↔ IfEnds (all_begun sections) entry.call (λ section. IsKeptSince containers entry.thread section entry.reply) → IsTrue r ↔ IsKept entries place entry
 kept parts entries place entry state progress r containers sections one other is_state so_far is =
     kept_iff parts entries place entry progress state.containers.items r is_state.containers is_state.lasts so_far
-    (subst (λ ss. IsTrue r ↔ IfEndsBegun (all_begun ss) entry.call (λ section. IsKeptSince state.containers.items entry.thread section entry.reply)) other
-    (subst (λ ws. IsTrue r ↔ IfEndsBegun (all_begun sections) entry.call (λ section. IsKeptSince ws entry.thread section entry.reply)) one is))
+    (subst (λ ss. IsTrue r ↔ IfEnds (all_begun ss) entry.call (λ section. IsKeptSince state.containers.items entry.thread section entry.reply)) other
+    (subst (λ ws. IsTrue r ↔ IfEnds (all_begun sections) entry.call (λ section. IsKeptSince ws entry.thread section entry.reply)) one is))
 
 counted : (parts : ScriptParts) (entries : List Entry) (place : ℕ) (entry : Entry) (progress : ThreadProgress) (r : Bool) (sections : List OpenSection) → sections ≡ progress.sections.items → IsProgress parts entries entry.thread place progress
-    → IsTrue r ↔ IfEndsBegun (all_begun sections) entry.call (λ section. IsCountedAs (progress.marks - section.marks) entry.reply) → IsTrue r ↔ IsCounted entries place entry
-counted parts entries place entry progress r sections same so_far is = counted_iff parts entries place entry progress r so_far (subst (λ ss. IsTrue r ↔ IfEndsBegun (all_begun ss) entry.call (λ section. IsCountedAs (progress.marks - section.marks) entry.reply)) same is)
+    → IsTrue r ↔ IfEnds (all_begun sections) entry.call (λ section. IsCountedAs (progress.marks - section.marks) entry.reply) → IsTrue r ↔ IsCounted entries place entry
+counted parts entries place entry progress r sections same so_far is = counted_iff parts entries place entry progress r so_far (subst (λ ss. IsTrue r ↔ IfEnds (all_begun ss) entry.call (λ section. IsCountedAs (progress.marks - section.marks) entry.reply)) same is)
 
 pub returns-then-not-is_marked_right : goal.returns-then-not-is_marked_right
 returns-then-not-is_marked_right c = λ entries place at users is_state first.

@@ -4,7 +4,7 @@ use Rattle.ft_model.specs.declared.call.DictCall.{DictCall}
 use Rattle.ft_model.specs.declared.script.Kind.TheVariants as kind
 use Rattle.ft_model.specs.Calls.{other_dict}
 use Rattle.ft_model.specs.Contents.{DictContent, has_key, dict_update}
-use Rattle.ft_model.specs.Tables.{would_pass}
+use Rattle.ft_model.specs.TableUses.{would_pass}
 use Rattle.ft_model.specs.Worlds.{IsOfKind, dict_at}
 use Rattle.std.specs.Prelude.{IfSome}
 use Rattle.ft_history.proofs.PassingLemmas.{dict_set_passes, dict_default_passes, dict_update_passes, dict_copy_passes}

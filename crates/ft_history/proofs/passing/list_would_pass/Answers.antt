@@ -5,7 +5,7 @@ use Rattle.ft_model.specs.declared.call.ListCall.{ListCall}
 use Rattle.ft_model.specs.declared.data.Value.{Value}
 use Rattle.ft_model.specs.declared.script.Kind.TheVariants as kind
 use Rattle.ft_model.specs.Calls.{other_list}
-use Rattle.ft_model.specs.Tables.{would_pass}
+use Rattle.ft_model.specs.TableUses.{would_pass}
 use Rattle.ft_model.specs.Worlds.{IsOfKind, list_at}
 use Rattle.ft_history.proofs.PassingLemmas.{list_append_passes, list_insert_passes, list_extend_passes}
 use Rattle.ft_history.proofs.passing.list_would_pass.Goals as goal

@@ -5,7 +5,7 @@ use Rattle.ft_model.specs.declared.call.SetCall.{SetCall}
 use Rattle.ft_model.specs.declared.script.Kind.TheVariants as kind
 use Rattle.ft_model.specs.Calls.{other_set}
 use Rattle.ft_model.specs.Contents.{SetContent, has_element, those_not_in}
-use Rattle.ft_model.specs.Tables.{would_pass}
+use Rattle.ft_model.specs.TableUses.{would_pass}
 use Rattle.ft_model.specs.Worlds.{IsOfKind, set_at}
 use Rattle.ft_history.proofs.PassingLemmas.{set_add_passes, set_or_passes, set_xor_passes}
 use Rattle.ft_history.proofs.passing.set_would_pass.Goals as goal

@@ -5,7 +5,7 @@ use Rattle.ft_model.specs.declared.script.Thread.{Thread}
 use Rattle.ft_model.specs.Worlds.{start_hands}
 use Rattle.ft_history.specs.declared.progress.ThreadProgress.{ThreadProgress}
 use Rattle.ft_history.specs.Internal.States.{IsFreshProgress}
-use Rattle.ft_history.proofs.Places.{slice_get_push}
+use Rattle.ft_history.proofs.HistoryPlaces.{slice_get_push}
 use Rattle.ft_history.proofs.state.start_threads.Goals as goal
 
 pub loop-thread-preserved : goal.loop-thread-preserved

@@ -10,7 +10,7 @@ use Rattle.ft_model.specs.declared.script.Thread.{Thread}
 use Rattle.ft_model.specs.Calls.{containers_of}
 use Rattle.ft_model.specs.Histories.{has_call_on, names}
 use Rattle.ft_history.specs.Internal.States.{is_used}
-use Rattle.ft_history.proofs.Places.{slice_get_at, slice_get_left}
+use Rattle.ft_history.proofs.HistoryPlaces.{slice_get_at, slice_get_left}
 use Rattle.ft_history.proofs.ScriptLemmas.{calls_within, calls_of_thread}
 use Rattle.ft_history.proofs.users.users_of.Goals as goal
 

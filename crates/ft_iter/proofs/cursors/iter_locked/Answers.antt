@@ -11,15 +11,15 @@ use Rattle.ft_trace.specs.Acts.{noted}
 use Rattle.ft_trace.specs.Addresses.{containers_in}
 use Rattle.ft_trace.specs.Hands.{cursor_in}
 use Rattle.ft_trace.specs.Holds.{held, known}
-use Rattle.ft_trace.specs.Worlds.{kind_in}
+use Rattle.ft_trace.specs.ContainerStates.{kind_in}
 use Rattle.ft_bank.specs.Answered.{AnsweredCursor}
 use Rattle.ft_bank.specs.Passes.{shape_of, view}
 use Rattle.ft_bank.specs.Reads.{IsCursorShown}
-use Rattle.ft_bank.proofs.Whole.{loaded_by}
+use Rattle.ft_bank.proofs.KnownAfterWrites.{loaded_by}
 use Rattle.ft_search.proofs.Lengths.{count_is}
-use Rattle.ft_iter.specs.Cursors.{iter_call, iter_cursor, IsOver}
+use Rattle.ft_iter.specs.CursorCalls.{iter_call, iter_cursor, IsOver}
 use Rattle.ft_iter.proofs.Moves.{iter-moves, iter-asks, starts-over}
-use Rattle.ft_iter.proofs.Answering.{cursor-shown, answered-moved, kind-held}
+use Rattle.ft_iter.proofs.CursorEntries.{cursor-shown, answered-moved, kind-held}
 use Rattle.ft_iter.proofs.cursors.iter_locked.Goals as goal
 
 pub answer_moved-answered-requires-clause-shown : goal.answer_moved-answered-requires-clause-shown

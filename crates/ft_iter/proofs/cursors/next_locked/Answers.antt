@@ -12,9 +12,9 @@ use Rattle.ft_bank.specs.Passes.{view}
 use Rattle.ft_bank.specs.Whole.{OnlyLoaded}
 use Rattle.ft_search.proofs.Rounding.{looks_load}
 use Rattle.ft_search.proofs.Running.{did_log}
-use Rattle.ft_iter.specs.Cursors.{step_in, IsOver}
+use Rattle.ft_iter.specs.CursorCalls.{step_in, IsOver}
 use Rattle.ft_iter.proofs.Moves.{next-moves, step-over}
-use Rattle.ft_iter.proofs.Answering.{cursor-shown, answered-moved}
+use Rattle.ft_iter.proofs.CursorEntries.{cursor-shown, answered-moved}
 use Rattle.ft_iter.proofs.cursors.next_locked.Goals as goal
 
 pub answer_moved-answered-requires-clause-shown : goal.answer_moved-answered-requires-clause-shown

@@ -6,12 +6,12 @@ use Rattle.ft_model.specs.Worlds.{container_of, cursor_kind, dict_of, list_of, s
 use Rattle.ft_trace.specs.declared.Shape.{Shape}
 use Rattle.ft_trace.specs.Acts.{has_lock}
 use Rattle.ft_trace.specs.Holds.{known}
-use Rattle.ft_trace.specs.Worlds.{kind_in}
+use Rattle.ft_trace.specs.ContainerStates.{kind_in}
 use Rattle.ft_bank.specs.Passes.{shape_of, view}
-use Rattle.ft_search.proofs.Holding.{dict_known, set_known}
-use Rattle.ft_iter.specs.Cursors.{step_in}
+use Rattle.ft_search.proofs.FoundInContents.{dict_known, set_known}
+use Rattle.ft_iter.specs.CursorCalls.{step_in}
 use Rattle.ft_iter.specs.Moves.{IsStep}
-use Rattle.ft_iter.proofs.Answering.{list-known}
+use Rattle.ft_iter.proofs.CursorEntries.{list-known}
 use Rattle.ft_iter.proofs.cursors.step.Goals as goal
 
 pub returns-in-Dict-clause-next : goal.returns-in-Dict-clause-next

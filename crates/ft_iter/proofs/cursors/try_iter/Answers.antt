@@ -3,10 +3,10 @@ use Rattle.ft_trace.specs.declared.Shape.{Shape}
 use Rattle.ft_trace.specs.Addresses.{containers_in}
 use Rattle.ft_bank.specs.Passes.{shape_of, view}
 use Rattle.ft_section.specs.declared.answers.Objects.TheVariants.{One}
-use Rattle.ft_section.proofs.Tries.{let_gone}
-use Rattle.ft_search.proofs.Trying.{making_stands}
-use Rattle.ft_iter.specs.Cursors.{iter_call}
-use Rattle.ft_iter.proofs.Answering.{cursor-left, cursors-kept, making-moved}
+use Rattle.ft_section.proofs.TriedSections.{let_gone}
+use Rattle.ft_search.proofs.ReadMidst.{making_stands}
+use Rattle.ft_iter.specs.CursorCalls.{iter_call}
+use Rattle.ft_iter.proofs.CursorEntries.{cursor-left, cursors-kept, making-moved}
 use Rattle.ft_iter.proofs.cursors.try_iter.Goals as goal
 
 pub iter_locked-reply-requires-clause-stands : goal.iter_locked-reply-requires-clause-stands

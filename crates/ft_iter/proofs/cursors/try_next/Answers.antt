@@ -10,9 +10,9 @@ use Rattle.ft_section.specs.Locking.{LocksWithin}
 use Rattle.ft_section.specs.Ready.{IsWaiting}
 use Rattle.ft_section.specs.LockTakings.{IsOf}
 use Rattle.ft_section.specs.Trying.{HasTaken, WaitsFor}
-use Rattle.ft_section.proofs.Tries.{let_gone}
-use Rattle.ft_search.proofs.Trying.{making_stands}
-use Rattle.ft_iter.proofs.Answering.{cursor-left, cursors-kept, making-moved}
+use Rattle.ft_section.proofs.TriedSections.{let_gone}
+use Rattle.ft_search.proofs.ReadMidst.{making_stands}
+use Rattle.ft_iter.proofs.CursorEntries.{cursor-left, cursors-kept, making-moved}
 use Rattle.ft_iter.proofs.cursors.try_next.Goals as goal
 
 pub next_locked-reply-requires-clause-stands : goal.next_locked-reply-requires-clause-stands

@@ -9,15 +9,15 @@ use Rattle.ft_trace.specs.declared.View.{View}
 use Rattle.ft_trace.specs.Acts.{has_lock}
 use Rattle.ft_trace.specs.Holds.{held, known}
 use Rattle.ft_trace.specs.Kinds.{IsKeyed}
-use Rattle.ft_trace.specs.Words.{Picture, root_in}
-use Rattle.ft_trace.specs.Worlds.{kind_in}
+use Rattle.ft_trace.specs.Pictures.{Picture, root_in}
+use Rattle.ft_trace.specs.ContainerStates.{kind_in}
 use Rattle.ft_bank.specs.Passes.{shape_of, view}
-use Rattle.ft_bank.specs.Tables.{name_of}
+use Rattle.ft_bank.specs.TableNames.{name_of}
 use Rattle.ft_bank.specs.Whole.{OnlyLoaded}
 use Rattle.ft_search.proofs.Running.{did_trans}
 use Rattle.ft_search.proofs.Rounding.{looks_append, looks_load}
 use Rattle.ft_iter.specs.Seeking.{GivesPair}
-use Rattle.ft_iter.proofs.Nexts.{keyed-known, fill-low, next-held, bare-next}
+use Rattle.ft_iter.proofs.NextContents.{keyed-known, fill-low, next-held, bare-next}
 use Rattle.ft_iter.proofs.held.next_of.Goals as goal
 
 pub seek_in-requires-clause-table : goal.seek_in-requires-clause-table

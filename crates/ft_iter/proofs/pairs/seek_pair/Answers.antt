@@ -1,5 +1,5 @@
 use Rattle.std.proofs.Common.{ℕ, List, ◌++◌, subst}
-use Rattle.ft_keys.specs.Accesses.{Fits}
+use Rattle.ft_keys.specs.Accesses.{AreAnswered}
 use Rattle.ft_keys.proofs.Shown.{runs-append, loads-append, fits-append, loads-leave}
 use Rattle.ft_iter.specs.Seeking.{SaysPair}
 use Rattle.ft_iter.proofs.Giving.{gives-pair, gives-none}
@@ -16,8 +16,8 @@ returns-in-Some-clause-gives g c =
       loads-append one.calls two.0 one.loads two.2,
       λ ws fits.
           let both = fits-append mask one.calls two.0 ws fits in
-          let later : Fits mask two.0 ws = subst (Fits mask two.0) (loads-leave mask one.calls ws one.loads) both.1 in
-          let said = subst (λ (m : ℕ). (words : List ℕ) → Fits m two.0 words → SaysPair m words place c.read_pair.result) c.seek.ensures.can.2 two.3 in
+          let later : AreAnswered mask two.0 ws = subst (AreAnswered mask two.0) (loads-leave mask one.calls ws one.loads) both.1 in
+          let said = subst (λ (m : ℕ). (words : List ℕ) → AreAnswered m two.0 words → SaysPair m words place c.read_pair.result) c.seek.ensures.can.2 two.3 in
           gives-pair mask ws c.args.fill c.args.after place c.read_pair.result (one.shown ws both.0) (said ws later),
     )
 

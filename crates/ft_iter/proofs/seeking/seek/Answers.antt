@@ -1,7 +1,7 @@
 use Rattle.std.proofs.Common.{ℕ, Option, Some, None, sym, subst}
 use Rattle.ft_iter.specs.Seeking.{Probed, FewProbes, FewHalvings, FewPassed, IsFirstAfter, IsFirstThere, Seeks}
 use Rattle.ft_iter.proofs.Probing.{probed-as, probed-both, few-both, few-passed}
-use Rattle.ft_iter.proofs.Following.{seeks-after, seeks-first}
+use Rattle.ft_iter.proofs.FollowingEntries.{seeks-after, seeks-first}
 use Rattle.ft_iter.proofs.seeking.seek.Goals as goal
 
 pub returns-in-Some-clause-seeks : goal.returns-in-Some-clause-seeks

@@ -14,7 +14,7 @@ use Rattle.ft_model.specs.Cursors.{list_walk, list_next}
 use Rattle.ft_model.specs.Worlds.{list_of}
 use Rattle.ft_trace.specs.declared.Shape.{Shape}
 use Rattle.ft_trace.specs.Holds.{held, known}
-use Rattle.ft_trace.specs.Worlds.{kind_in}
+use Rattle.ft_trace.specs.ContainerStates.{kind_in}
 use Rattle.ft_bank.specs.Passes.{shape_of, view}
 use Rattle.ft_list.specs.Indexes.{Reads, IsItemNamed, item_named}
 use Rattle.ft_list.proofs.Indexes.{reads_held}

@@ -11,7 +11,7 @@ use Rattle.ft_search.proofs.Lengths.{count_is}
 use Rattle.ft_search.proofs.Running.{did_trans}
 use Rattle.ft_search.proofs.Rounding.{looks_append}
 use Rattle.ft_iter.specs.Following.{IsNextOf}
-use Rattle.ft_iter.proofs.Steps.{dict-gives}
+use Rattle.ft_iter.proofs.NextReplies.{dict-gives}
 use Rattle.ft_iter.proofs.walks.walk_dict.Goals as goal
 
 pub returns-then-count-size-clause-looks : goal.returns-then-count-size-clause-looks

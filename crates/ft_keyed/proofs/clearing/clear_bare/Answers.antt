@@ -1,10 +1,10 @@
 use Rattle.std.proofs.Common.{subst, sym}
 use Rattle.ft_trace.specs.Kinds.{IsKeyed}
 use Rattle.ft_trace.specs.Holds.{held, known}
-use Rattle.ft_trace.specs.Worlds.{ContainerState}
+use Rattle.ft_trace.specs.ContainerStates.{ContainerState}
 use Rattle.ft_model.specs.declared.reply.Reply.TheVariants as reply
 use Rattle.ft_bank.specs.Passes.{shape_of, view}
-use Rattle.ft_search.specs.Writing.{Leaves}
+use Rattle.ft_search.specs.OneEntryWrites.{Leaves}
 use Rattle.ft_search.proofs.Changing.{kind_is}
 use Rattle.ft_keyed.proofs.Emptied.{bare_stays}
 use Rattle.ft_keyed.proofs.clearing.clear_bare.Goals as goal

@@ -1,5 +1,5 @@
 use Rattle.std.proofs.Common.{◌≡◌, refl, ap, ◌∙◌}
-use Rattle.ft_bank.specs.Tables.{root_for}
+use Rattle.ft_bank.specs.TableNames.{root_for}
 use Rattle.ft_keyed.proofs.clearing.clear_root.Goals as goal
 
 pub clear_table-requires-clause-table : goal.clear_table-requires-clause-table

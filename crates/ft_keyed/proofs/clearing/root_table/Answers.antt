@@ -1,11 +1,11 @@
 use Rattle.std.proofs.Common.{◌≡◌, Option, Some, refl, sym, ap, ◌∙◌, subst}
 use Rattle.std.specs.Prelude.{IfSome}
 use Rattle.ft_trace.specs.declared.Act.TheVariants.{ReadBlock}
-use Rattle.ft_trace.specs.Words.{root_in}
+use Rattle.ft_trace.specs.Pictures.{root_in}
 use Rattle.ft_bank.specs.declared.table.Table.{Table}
 use Rattle.ft_bank.specs.Passes.{shape_of, view}
-use Rattle.ft_bank.specs.Tables.{IsTableIn}
-use Rattle.ft_bank.proofs.Whole.{loaded_by, loaded_held}
+use Rattle.ft_bank.specs.TableNames.{IsTableIn}
+use Rattle.ft_bank.proofs.KnownAfterWrites.{loaded_by, loaded_held}
 use Rattle.ft_search.proofs.Spotting.{may_loaded}
 use Rattle.ft_keyed.proofs.Emptied.{root_named}
 use Rattle.ft_keyed.proofs.clearing.root_table.Goals as goal

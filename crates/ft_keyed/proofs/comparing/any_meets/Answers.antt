@@ -5,14 +5,14 @@ use Rattle.ft_layout.specs.Tables.{UsedEntry}
 use Rattle.ft_model.specs.declared.content.Element.{Element}
 use Rattle.ft_model.specs.Contents.{SetContent, has_pair}
 use Rattle.ft_model.specs.Worlds.{set_of, kind_of}
-use Rattle.ft_trace.specs.Words.{Picture, Stands}
-use Rattle.ft_trace.specs.Worlds.{ContainerState}
+use Rattle.ft_trace.specs.Pictures.{Picture, Stands}
+use Rattle.ft_trace.specs.ContainerStates.{ContainerState}
 use Rattle.ft_bank.specs.Passes.{shape_of}
-use Rattle.ft_bank.specs.Tables.{name_of}
+use Rattle.ft_bank.specs.TableNames.{name_of}
 use Rattle.ft_list.proofs.Both.{both_map, both_then, of_first}
 use Rattle.ft_list.proofs.Indexes.{reads_block, reads_then}
 use Rattle.ft_keyed.specs.Comparing.{AreOfSets, WithSet, is_met}
-use Rattle.ft_keyed.specs.Contents.{IsOfSet}
+use Rattle.ft_keyed.specs.ShownContents.{IsOfSet}
 use Rattle.ft_keyed.specs.TableEntries.{live_key}
 use Rattle.ft_keyed.proofs.Gathered.{elements_gathered, no_set, of_set}
 use Rattle.ft_keyed.proofs.Paired.{any_map}

@@ -3,7 +3,7 @@ use Rattle.std.specs.Prelude.{◌&&◌}
 use Rattle.std.specs.List.{list_all}
 use Rattle.ft_model.specs.Contents.{DictContent, has_pair, same_pairs}
 use Rattle.ft_model.specs.Worlds.{dict_of}
-use Rattle.ft_trace.specs.Words.{Picture}
+use Rattle.ft_trace.specs.Pictures.{Picture}
 use Rattle.ft_bank.specs.Passes.{shape_of}
 use Rattle.ft_list.proofs.Both.{both_map, both_then}
 use Rattle.ft_keyed.specs.Comparing.{AreOfDicts}

@@ -2,7 +2,7 @@ use Rattle.std.proofs.Common.{◌≡◌, Bool, true, false, refl, sym, ap, ◌�
 use Rattle.std.specs.Prelude.{◌&&◌}
 use Rattle.ft_model.specs.Contents.{SetContent, is_subset, same_elements}
 use Rattle.ft_model.specs.Worlds.{set_of}
-use Rattle.ft_trace.specs.Words.{Picture}
+use Rattle.ft_trace.specs.Pictures.{Picture}
 use Rattle.ft_bank.specs.Passes.{shape_of}
 use Rattle.ft_list.proofs.Both.{both_map, both_then}
 use Rattle.ft_keyed.specs.Comparing.{AreOfSets}

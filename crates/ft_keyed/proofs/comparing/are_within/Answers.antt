@@ -5,14 +5,14 @@ use Rattle.ft_layout.specs.Tables.{UsedEntry}
 use Rattle.ft_model.specs.declared.content.Element.{Element}
 use Rattle.ft_model.specs.Contents.{DictContent, has_pair}
 use Rattle.ft_model.specs.Worlds.{dict_of, kind_of}
-use Rattle.ft_trace.specs.Words.{Picture, Stands}
-use Rattle.ft_trace.specs.Worlds.{ContainerState}
+use Rattle.ft_trace.specs.Pictures.{Picture, Stands}
+use Rattle.ft_trace.specs.ContainerStates.{ContainerState}
 use Rattle.ft_bank.specs.Passes.{shape_of}
-use Rattle.ft_bank.specs.Tables.{name_of}
+use Rattle.ft_bank.specs.TableNames.{name_of}
 use Rattle.ft_list.proofs.Both.{both_map, both_then, of_first}
 use Rattle.ft_list.proofs.Indexes.{reads_block, reads_then}
-use Rattle.ft_keyed.specs.Comparing.{AreOfDicts, WithDict, lacks}
-use Rattle.ft_keyed.specs.Contents.{IsOfDict}
+use Rattle.ft_keyed.specs.Comparing.{AreOfDicts, WithDict, lacks_value}
+use Rattle.ft_keyed.specs.ShownContents.{IsOfDict}
 use Rattle.ft_keyed.specs.TableEntries.{plain_pair}
 use Rattle.ft_keyed.proofs.Gathered.{pairs_gathered, no_dict, of_dict}
 use Rattle.ft_keyed.proofs.Paired.{dict_is, none_lacks}
@@ -37,14 +37,14 @@ returns-in-Some-clause-reads c =
     let r = c.read_block-fill.new.pass in
     let z = c.some_differs.new.pass in
     let one : Picture → Type 0 = λ x. (root ≡ slice_index x.block 0) × (fill ≡ slice_index x.block 2) in
-    both_map k a.d a.other (λ x y. one x × WithDict k t (λ used others. fill ≡ length used → found ≡ list_any (lacks others) (filter_map plain_pair used)) x y) (AreOfDicts k (λ dict others. not found ≡ list_all (has_pair others.pairs) dict.pairs)) p z
-    (both_then k a.d a.other (λ x y. one x) (WithDict k t (λ used others. fill ≡ length used → found ≡ list_any (lacks others) (filter_map plain_pair used))) p r z
+    both_map k a.d a.other (λ x y. one x × WithDict k t (λ used others. fill ≡ length used → found ≡ list_any (lacks_value others) (filter_map plain_pair used)) x y) (AreOfDicts k (λ dict others. not found ≡ list_all (has_pair others.pairs) dict.pairs)) p z
+    (both_then k a.d a.other (λ x y. one x) (WithDict k t (λ used others. fill ≡ length used → found ≡ list_any (lacks_value others) (filter_map plain_pair used))) p r z
     (of_first k a.d a.other one p r (reads_then k a.d (λ x. root ≡ slice_index x.block 0) (λ x. fill ≡ slice_index x.block 2) p q r (reads_block k a.d 0 root p q (omega arith) e.did e.held) (reads_block k a.d 2 fill q r (omega arith) f.did f.held)))
     c.some_differs.ensures.reads)
     (λ x y both.
-    of_dict k t fill x (λ used. IsOfDict k (λ (others : DictContent). found ≡ list_any (lacks others) (filter_map plain_pair used)) y) (sym both.0.0 ∙ c.in-Some.ensures.named) both.0.1 (λ names way used is filled kept kind_is stands. both.1 names way used is kept kind_is stands filled)
+    of_dict k t fill x (λ used. IsOfDict k (λ (others : DictContent). found ≡ list_any (lacks_value others) (filter_map plain_pair used)) y) (sym both.0.0 ∙ c.in-Some.ensures.named) both.0.1 (λ names way used is filled kept kind_is stands. both.1 names way used is kept kind_is stands filled)
     (λ (dict : DictContent). IsOfDict k (λ (others : DictContent). not found ≡ list_all (has_pair others.pairs) dict.pairs) y)
-    (λ used dict are is held kept kind_is stands. ap not (held kept kind_is stands ∙ ap (list_any (lacks (dict_of kept.content))) (pairs_gathered used dict are)) ∙ sym (none_lacks dict.pairs (dict_of kept.content) (dict_is k y kept kind_is stands).distinct)))
+    (λ used dict are is held kept kind_is stands. ap not (held kept kind_is stands ∙ ap (list_any (lacks_value (dict_of kept.content))) (pairs_gathered used dict are)) ∙ sym (none_lacks dict.pairs (dict_of kept.content) (dict_is k y kept kind_is stands).distinct)))
 
 pub returns-in-None-clause-reads : goal.returns-in-None-clause-reads
 returns-in-None-clause-reads c =

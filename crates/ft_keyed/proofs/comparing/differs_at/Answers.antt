@@ -7,7 +7,7 @@ use Rattle.ft_model.specs.Keys.{is_value}
 use Rattle.ft_layout.specs.Words.{FitsKey}
 use Rattle.ft_trace.specs.Addresses.{class_of, places}
 use Rattle.ft_bank.specs.Passes.{shape_of}
-use Rattle.ft_bank.specs.Tables.{name_of}
+use Rattle.ft_bank.specs.TableNames.{name_of}
 use Rattle.ft_list.specs.Indexes.{Reads}
 use Rattle.ft_list.proofs.Equal.{value_equal}
 use Rattle.ft_keyed.specs.TableEntries.{IsPlainAt}

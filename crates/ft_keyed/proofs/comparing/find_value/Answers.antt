@@ -6,9 +6,9 @@ use Rattle.ft_model.specs.declared.data.Value.{Value}
 use Rattle.ft_bank.specs.Passes.{shape_of}
 use Rattle.ft_list.proofs.Indexes.{reads_map}
 use Rattle.ft_keyed.specs.Comparing.{IsValueIn}
-use Rattle.ft_keyed.specs.Finding.{IsFoundIn}
+use Rattle.ft_keyed.specs.FoundKeys.{IsFoundIn}
 use Rattle.ft_keyed.proofs.Paired.{at_dict}
-use Rattle.ft_keyed.proofs.Rows.{pair_in}
+use Rattle.ft_keyed.proofs.EntryRows.{pair_in}
 use Rattle.ft_keyed.proofs.comparing.find_value.Goals as goal
 
 pub returns-in-Some-clause-reads : goal.returns-in-Some-clause-reads

@@ -3,7 +3,7 @@ use Rattle.std.specs.Prelude.{slice_index_or}
 use Rattle.std.specs.List.{filter_map, list_any}
 use Rattle.ft_layout.specs.Tables.{UsedEntry}
 use Rattle.ft_bank.specs.Passes.{shape_of}
-use Rattle.ft_bank.specs.Tables.{name_of}
+use Rattle.ft_bank.specs.TableNames.{name_of}
 use Rattle.ft_keyed.specs.Comparing.{MeetsAt, WithSet, is_met}
 use Rattle.ft_keyed.specs.TableEntries.{live_key}
 use Rattle.ft_keyed.proofs.Meeting.{set_map, set_then}

@@ -1,8 +1,8 @@
 use Rattle.std.specs.Prelude.{◌≡◌, false, length, take}
 use Rattle.std.specs.List.{filter_map, list_any}
 use Rattle.ft_bank.specs.Passes.{shape_of, IsPassOf}
-use Rattle.ft_bank.specs.Sections.{stack_of}
-use Rattle.ft_bank.specs.Tables.{name_of}
+use Rattle.ft_bank.specs.PassSections.{stack_of}
+use Rattle.ft_bank.specs.TableNames.{name_of}
 use Rattle.ft_list.specs.Pairs.{ReadsBoth}
 use Rattle.ft_keyed.specs.Comparing.{WithSet, is_met}
 use Rattle.ft_keyed.specs.TableEntries.{live_key}

@@ -4,10 +4,10 @@ use Rattle.std.specs.List.{filter_map}
 use Rattle.ft_model.specs.declared.content.Element.{Element}
 use Rattle.ft_model.specs.Contents.{SetContent}
 use Rattle.ft_bank.specs.Passes.{shape_of}
-use Rattle.ft_bank.specs.Tables.{name_of}
+use Rattle.ft_bank.specs.TableNames.{name_of}
 use Rattle.ft_list.proofs.Indexes.{reads_block, reads_map, reads_then}
-use Rattle.ft_keyed.specs.Contents.{IsOfSet}
-use Rattle.ft_keyed.specs.Copies.{AreCopied}
+use Rattle.ft_keyed.specs.ShownContents.{IsOfSet}
+use Rattle.ft_list.specs.Copies.{AreCopied}
 use Rattle.ft_keyed.specs.TableEntries.{OfUsed, live_key}
 use Rattle.ft_keyed.proofs.Gathered.{elements_gathered, no_set, of_set}
 use Rattle.ft_keyed.proofs.copies.copy_elements.Goals as goal

@@ -4,10 +4,10 @@ use Rattle.std.specs.List.{filter_map}
 use Rattle.ft_model.specs.Answers.{items_of}
 use Rattle.ft_model.specs.Contents.{DictContent}
 use Rattle.ft_bank.specs.Passes.{shape_of}
-use Rattle.ft_bank.specs.Tables.{name_of}
+use Rattle.ft_bank.specs.TableNames.{name_of}
 use Rattle.ft_list.proofs.Indexes.{reads_block, reads_map, reads_then}
-use Rattle.ft_keyed.specs.Contents.{IsOfDict}
-use Rattle.ft_keyed.specs.Copies.{AreCopied}
+use Rattle.ft_keyed.specs.ShownContents.{IsOfDict}
+use Rattle.ft_list.specs.Copies.{AreCopied}
 use Rattle.ft_keyed.specs.TableEntries.{OfUsed, plain_pair}
 use Rattle.ft_keyed.proofs.Gathered.{pairs_gathered, no_dict, of_dict}
 use Rattle.ft_keyed.proofs.copies.copy_pairs.Goals as goal

@@ -1,13 +1,13 @@
 use Rattle.std.proofs.Common.{◌≡◌, ℕ, suc, ◌<◌, ◌≤◌, None, sym, ap, ◌∙◌, subst, arith}
 use Rattle.ft_model.specs.Classes.{dict_entries}
 use Rattle.ft_trace.specs.Addresses.{class_of, places, slots}
-use Rattle.ft_trace.specs.Words.{entry_of, root_in}
+use Rattle.ft_trace.specs.Pictures.{entry_field, root_in}
 use Rattle.ft_bank.specs.Passes.{shape_of}
-use Rattle.ft_bank.specs.Tables.{name_of}
-use Rattle.ft_bank.proofs.Tables.{class_is}
+use Rattle.ft_bank.specs.TableNames.{name_of}
+use Rattle.ft_bank.proofs.TableAddresses.{class_is}
 use Rattle.ft_list.proofs.Indexes.{reads_map, reads_none, reads_then}
 use Rattle.ft_keyed.specs.TableEntries.{IsKeyAt}
-use Rattle.ft_keyed.proofs.Rows.{key_read, past_key, places_of, within_key}
+use Rattle.ft_keyed.proofs.EntryRows.{key_read, past_key, places_of, within_key}
 use Rattle.ft_keyed.proofs.entries.key_at.Goals as goal
 
 pub word_of-kind-requires-clause-place : goal.word_of-kind-requires-clause-place
@@ -45,9 +45,9 @@ returns-clause-reads c =
     let p = a.pass.now in
     let q = c.word_of-kind.new.pass in
     let r = c.word_of-payload.new.pass in
-    reads_map k a.o (λ x. (root_in x ≡ suc t → kind ≡ entry_of n x.table a.place 2) × (root_in x ≡ suc t → payload ≡ entry_of n x.table a.place 3)) (IsKeyAt k t a.place c.key_said.result) p r
+    reads_map k a.o (λ x. (root_in x ≡ suc t → kind ≡ entry_field n x.table a.place 2) × (root_in x ≡ suc t → payload ≡ entry_field n x.table a.place 3)) (IsKeyAt k t a.place c.key_said.result) p r
     (λ x both. key_read k t a.place kind payload x both.0 both.1 c.key_said.result c.key_said.ensures)
-    (reads_then k a.o (λ x. root_in x ≡ suc t → kind ≡ entry_of n x.table a.place 2) (λ x. root_in x ≡ suc t → payload ≡ entry_of n x.table a.place 3) p q r c.word_of-kind.ensures.reads c.word_of-payload.ensures.reads)
+    (reads_then k a.o (λ x. root_in x ≡ suc t → kind ≡ entry_field n x.table a.place 2) (λ x. root_in x ≡ suc t → payload ≡ entry_field n x.table a.place 3) p q r c.word_of-kind.ensures.reads c.word_of-payload.ensures.reads)
 
 pub returns-clause-within : goal.returns-clause-within
 returns-clause-within c =

@@ -4,13 +4,13 @@ use Rattle.ft_model.specs.declared.data.Key.{Key}
 use Rattle.ft_model.specs.declared.data.Value.{Value}
 use Rattle.ft_layout.specs.Words.{FitsKey}
 use Rattle.ft_trace.specs.Addresses.{class_of, places, slots}
-use Rattle.ft_trace.specs.Words.{Picture, entry_of, root_in}
+use Rattle.ft_trace.specs.Pictures.{Picture, entry_field, root_in}
 use Rattle.ft_bank.specs.Passes.{shape_of}
-use Rattle.ft_bank.specs.Tables.{name_of}
+use Rattle.ft_bank.specs.TableNames.{name_of}
 use Rattle.ft_list.specs.Indexes.{Reads}
 use Rattle.ft_list.proofs.Indexes.{reads_map, reads_then}
 use Rattle.ft_keyed.specs.TableEntries.{IsKeyAt, IsPlainAt}
-use Rattle.ft_keyed.proofs.Rows.{missing_read, value_read, within_pair}
+use Rattle.ft_keyed.proofs.EntryRows.{missing_read, value_read, within_pair}
 use Rattle.ft_keyed.proofs.entries.value_at.Goals as goal
 use Rattle.ft_keyed.proofs.entries.value_at.Goals.{In-Some}
 
@@ -41,8 +41,8 @@ returns-in-Some-clause-reads c =
     let q = c.key_at.new.pass in
     let r = c.word_of-kind.new.pass in
     let z = c.word_of-payload.new.pass in
-    let two : Picture → Type 0 = λ x. root_in x ≡ suc t → c.word_of-kind.result ≡ entry_of n x.table a.place 4 in
-    let three : Picture → Type 0 = λ x. root_in x ≡ suc t → c.word_of-payload.result ≡ entry_of n x.table a.place 5 in
+    let two : Picture → Type 0 = λ x. root_in x ≡ suc t → c.word_of-kind.result ≡ entry_field n x.table a.place 4 in
+    let three : Picture → Type 0 = λ x. root_in x ≡ suc t → c.word_of-payload.result ≡ entry_field n x.table a.place 5 in
     let here : Reads k a.d (IsKeyAt k t a.place (Some key)) p q = subst (λ (f : Option Key). Reads k a.d (IsKeyAt k t a.place f) p q) c.in-Some.is c.key_at.ensures.reads in
     let all : Reads k a.d (IsPlainAt k t a.place (option_map {U = Key × Value} (λ (v : Value). (key, v)) c.value_of.result)) p z =
     reads_map k a.d (λ x. (IsKeyAt k t a.place (Some key) x × two x) × three x) (IsPlainAt k t a.place (option_map {U = Key × Value} (λ (v : Value). (key, v)) c.value_of.result)) p z

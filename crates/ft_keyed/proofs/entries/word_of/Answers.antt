@@ -4,16 +4,16 @@ use Rattle.ft_model.specs.declared.script.Kind.TheVariants as kind
 use Rattle.ft_layout.specs.Containers.{class_mask}
 use Rattle.ft_trace.specs.declared.Act.TheVariants.{ReadTable}
 use Rattle.ft_trace.specs.Addresses.{class_of, size, slots}
-use Rattle.ft_trace.specs.Words.{entry_at, root_in}
+use Rattle.ft_trace.specs.Pictures.{entry_offset, root_in}
 use Rattle.ft_trace.proofs.ByKind.{keyed_low}
 use Rattle.ft_bank.specs.Passes.{shape_of, view}
 use Rattle.ft_bank.specs.Series.{DidAll}
-use Rattle.ft_bank.specs.Tables.{name_of}
-use Rattle.ft_bank.proofs.Tables.{named}
+use Rattle.ft_bank.specs.TableNames.{name_of}
+use Rattle.ft_bank.proofs.TableAddresses.{named}
 use Rattle.ft_search.proofs.Puts.{few_mask, few_places}
 use Rattle.ft_list.specs.Indexes.{Reads}
 use Rattle.ft_list.proofs.Indexes.{reads_table}
-use Rattle.ft_search.proofs.Places.{entry_is}
+use Rattle.ft_search.proofs.WordPlaces.{entry_is}
 use Rattle.ft_keyed.proofs.entries.word_of.Goals as goal
 use Rattle.ft_keyed.proofs.entries.word_of.Goals.{Start, After-mask_of}
 
@@ -26,7 +26,7 @@ few_after c = few_places (shape_of c.args.bank.now) c.args.table kind.Dict c.arg
 small : (c : After-mask_of) → c.mask_of.result < 65536
 small c = subst (λ (n : ℕ). n < 65536) (sym c.mask_of.ensures) (few_mask (shape_of c.args.bank.now) c.args.table c.requires.table)
 
-lies : (c : After-mask_of) → 8 * c.args.place + c.args.word + c.mask_of.result + 1 ≡ entry_at (slots (class_of (name_of c.args.table))) c.args.place c.args.word
+lies : (c : After-mask_of) → 8 * c.args.place + c.args.word + c.mask_of.result + 1 ≡ entry_offset (slots (class_of (name_of c.args.table))) c.args.place c.args.word
 lies c = entry_is (shape_of c.args.bank.now) c.args.table c.mask_of.result c.args.place c.args.word c.requires.table c.mask_of.ensures
 
 inside : (c : After-mask_of) → 8 * c.args.place + c.args.word + c.mask_of.result + 1 < size (class_of (name_of c.args.table))

@@ -1,18 +1,18 @@
 use Rattle.std.proofs.Common.{◌≡◌, ◌≢◌, ℕ, List, ◌∷◌, ◌++◌, refl, sym, ap, ◌∙◌, subst}
 use Rattle.ft_hash.specs.Probes.{IsMask}
 use Rattle.ft_bank.specs.Passes.{shape_of}
-use Rattle.ft_bank.specs.Tables.{name_of}
-use Rattle.ft_bank.proofs.Tables.{named}
+use Rattle.ft_bank.specs.TableNames.{name_of}
+use Rattle.ft_bank.proofs.TableAddresses.{named}
 use Rattle.ft_keys.specs.declared.words.Access.{Access}
-use Rattle.ft_keys.specs.Accesses.{Fits}
+use Rattle.ft_keys.specs.Accesses.{AreAnswered}
 use Rattle.ft_keys.specs.Searches.{Searched}
 use Rattle.ft_keys.specs.Ways.{walk_slots}
 use Rattle.ft_keys.proofs.Shown.{runs-append, loads-append, fits-append, loads-leave}
 use Rattle.ft_search.specs.Held.{ReadsEntry}
-use Rattle.ft_search.specs.Words.{Made}
-use Rattle.ft_search.proofs.Places.{mask_is}
+use Rattle.ft_search.specs.TableWords.{MadeAccess}
+use Rattle.ft_search.proofs.WordPlaces.{mask_is}
 use Rattle.ft_list.proofs.Indexes.{reads_map}
-use Rattle.ft_keyed.specs.Finding.{FindsIn, SearchesTable}
+use Rattle.ft_keyed.specs.FoundKeys.{FindsIn, SearchesTable}
 use Rattle.ft_keyed.proofs.Loaded.{AnswerAll, ran_reads}
 use Rattle.ft_keyed.proofs.finding.search.Goals as goal
 
@@ -38,11 +38,11 @@ returns-clause-reads c =
     let k = shape_of s0.bank.now in
     let n = name_of s0.table in
     let can = c.requires.can in
-    let finds : (ws : List ℕ) → Fits mask calls ws → FindsIn mask ws a.way a.hash a.key read =
+    let finds : (ws : List ℕ) → AreAnswered mask calls ws → FindsIn mask ws a.way a.hash a.key read =
     λ ws fits.
     let both = fits-append mask one.0 two.0 ws fits in
-    let later : Fits mask two.0 ws = subst (Fits mask two.0) (loads-leave mask one.0 ws one.2) both.1 in
-    let reads : ReadsEntry mask ws found read = subst (λ (m : ℕ). (words : List ℕ) → Fits m two.0 words → ReadsEntry m words found read) c.seek-found.ensures.same.mask two.3 ws later in (
+    let later : AreAnswered mask two.0 ws = subst (AreAnswered mask two.0) (loads-leave mask one.0 ws one.2) both.1 in
+    let reads : ReadsEntry mask ws found read = subst (λ (m : ℕ). (words : List ℕ) → AreAnswered m two.0 words → ReadsEntry m words found read) c.seek-found.ensures.same.mask two.3 ws later in (
       found,
       (left, subst (λ (l : List ℕ). Searched mask ws a.key l left found) first (one.3 ws both.0)),
       c.seek-found.ensures.live,
@@ -50,4 +50,4 @@ returns-clause-reads c =
     ) in
     reads_map k s0.o (AnswerAll n mask calls) (SearchesTable s0.table a.way a.hash a.key read) s0.pass.now s2.pass.now
     (λ x all names. let words = 0 ∷ 0 ∷ x.table in subst (λ (m : ℕ). FindsIn m words a.way a.hash a.key read) can.mask (finds words (all names).0))
-    (ran_reads s0.o s0 calls s2 (can.table, can.mask) (named k s0.table can.table) (loads-append one.0 two.0 one.2 two.2) (runs-append Made s0 s1 s2 one.0 two.0 one.1 two.1))
+    (ran_reads s0.o s0 calls s2 (can.table, can.mask) (named k s0.table can.table) (loads-append one.0 two.0 one.2 two.2) (runs-append MadeAccess s0 s1 s2 one.0 two.0 one.1 two.1))

@@ -1,7 +1,7 @@
 use Rattle.std.proofs.Common.{◌≡◌, ℕ, ◌+◌, ◌<◌, Some, None, length, refl, sym, ◌∙◌, arith}
 use Rattle.std.specs.Prelude.{is_some}
 use Rattle.ft_bank.specs.Passes.{shape_of}
-use Rattle.ft_bank.specs.Tables.{name_of}
+use Rattle.ft_bank.specs.TableNames.{name_of}
 use Rattle.ft_keyed.specs.Places.{IsFirst, NoneThere}
 use Rattle.ft_keyed.proofs.Scanning.{none_before, scan_key, scan_map, scan_none, there_at}
 use Rattle.ft_keyed.proofs.places.first_place.Goals as goal

@@ -1,7 +1,7 @@
 use Rattle.std.specs.Prelude.{◌≡◌, length}
 use Rattle.ft_bank.specs.Passes.{shape_of, IsPassOf}
-use Rattle.ft_bank.specs.Sections.{stack_of}
-use Rattle.ft_bank.specs.Tables.{name_of}
+use Rattle.ft_bank.specs.PassSections.{stack_of}
+use Rattle.ft_bank.specs.TableNames.{name_of}
 use Rattle.ft_list.specs.Indexes.{Reads}
 use Rattle.ft_keyed.specs.TableEntries.{OfUsed}
 use Rattle.ft_keyed.specs.Places.{NoneThere}

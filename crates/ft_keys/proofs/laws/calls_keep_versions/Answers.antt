@@ -1,5 +1,5 @@
 use Rattle.ft_keys.proofs.Placing.{puts-below}
-use Rattle.ft_keys.proofs.Versions.{keep-versions, keep-later, loads-below}
+use Rattle.ft_keys.proofs.UntouchedWords.{keep-versions, keep-later, loads-below}
 use Rattle.ft_keys.proofs.laws.calls_keep_versions.Goals as goal
 
 pub returns-clause-keep : goal.returns-clause-keep

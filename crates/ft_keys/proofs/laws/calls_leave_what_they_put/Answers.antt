@@ -1,5 +1,5 @@
 use Rattle.ft_keys.proofs.Shown.{loads-leave}
-use Rattle.ft_keys.proofs.Versions.{put-there, put-elsewhere}
+use Rattle.ft_keys.proofs.UntouchedWords.{put-there, put-elsewhere}
 use Rattle.ft_keys.proofs.laws.calls_leave_what_they_put.Goals as goal
 
 pub returns-clause-put : goal.returns-clause-put

@@ -1,8 +1,8 @@
 use Rattle.std.proofs.Common.{Some, refl}
 use Rattle.ft_layout.specs.Words.{entry_words}
 use Rattle.ft_keys.specs.Accesses.{after}
-use Rattle.ft_keys.specs.Changes.{place_puts}
-use Rattle.ft_keys.proofs.Adding.{adds}
+use Rattle.ft_keys.specs.TableChanges.{place_puts}
+use Rattle.ft_keys.proofs.OneMoreEntry.{adds}
 use Rattle.ft_keys.proofs.laws.placed_pairs_are_of_a_table.Goals as goal
 
 pub returns : goal.returns

@@ -4,7 +4,7 @@ use Rattle.ft_keys.specs.declared.walk.Way.{Way}
 use Rattle.ft_keys.specs.declared.search.Found.{Found}
 use Rattle.ft_keys.specs.declared.search.Found.TheVariants.{At, Was, Free, Spent}
 use Rattle.ft_keys.specs.Ways.{walk_slots}
-use Rattle.ft_keys.specs.Costs.{most_loads}
+use Rattle.ft_keys.specs.WalkCosts.{most_loads}
 use Rattle.ft_keys.specs.Loads.{Searches}
 use Rattle.ft_keys.proofs.Loading.{live-ended, live-passed, loads-was}
 use Rattle.ft_keys.proofs.Reaching.{walk-long}

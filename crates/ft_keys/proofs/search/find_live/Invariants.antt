@@ -1,6 +1,6 @@
 use Rattle.std.proofs.Common.{◌≡◌, ◌+◌, ◌≤◌, length}
 use Rattle.ft_keys.specs.Searches.{Shows}
-use Rattle.ft_keys.proofs.Trying.{Passed}
+use Rattle.ft_keys.proofs.SlotTries.{Passed}
 use Rattle.ft_keys.proofs.search.find_live.Given as goal
 
 abbrev pub invariant-entries : goal.invariant-entries

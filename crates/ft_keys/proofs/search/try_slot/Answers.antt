@@ -1,6 +1,6 @@
 use Rattle.std.proofs.Common.{◌≡◌, drop, refl, ap, arith}
 use Rattle.ft_keys.specs.Accesses.{index_loads}
-use Rattle.ft_keys.proofs.Trying.{front-of}
+use Rattle.ft_keys.proofs.SlotTries.{front-of}
 use Rattle.ft_keys.proofs.search.try_slot.Goals as goal
 
 pub returns-in-Unused-clause-loads : goal.returns-in-Unused-clause-loads

@@ -1,7 +1,7 @@
 use Rattle.std.proofs.Common.{◌≡◌, ℕ, ◌+◌, ◌-◌, ◌*◌, ◌≤◌, ap, ◌∙◌, arith}
 use Rattle.std.proofs.lemmas.Nat.{mul-le}
 use Rattle.ft_layout.specs.Sizes.{table_size}
-use Rattle.ft_layout.specs.Starts.{count_of}
+use Rattle.ft_layout.specs.Starts.{tables_of_class}
 use Rattle.ft_layout.proofs.Powers.{words_below-none, words_below-more}
 use Rattle.ft_layout.proofs.start.table_start.Goals as goal
 
@@ -14,10 +14,10 @@ loop-below-preserved c =
     let below = c.loop-below.below in
     let more = words_below-more tables below c.loop-below.auto.below in
     let size : c.table_size.result ≡ table_size below = c.table_size.ensures.is in
-    let count : c.from.result ≡ count_of tables below = c.from.ensures in
+    let count : c.from.result ≡ tables_of_class tables below = c.from.ensures in
     let few : c.from.result ≤ 1024 = let h = (c.requires.tables.counts (below - 3) 0 (omega arith)).1 in omega arith in
     let product : c.from.result * c.table_size.result ≤ 1024 * 415058 = mul-le c.from.result c.table_size.result 1024 415058 few c.table_size.ensures.most in
-    let words : c.from.result * c.table_size.result ≡ count_of tables below * table_size below = ap (λ (n : ℕ). n * c.table_size.result) count ∙ ap (λ (n : ℕ). count_of tables below * n) size in
+    let words : c.from.result * c.table_size.result ≡ tables_of_class tables below * table_size below = ap (λ (n : ℕ). n * c.table_size.result) count ∙ ap (λ (n : ℕ). tables_of_class tables below * n) size in
     record {
       is = omega arith;
       most = omega arith;

@@ -3,23 +3,23 @@ use Rattle.ft_model.specs.declared.call.Call.{Call}
 use Rattle.ft_model.specs.declared.data.Value.{Value}
 use Rattle.ft_model.specs.declared.reply.Reply.TheVariants as reply
 use Rattle.ft_model.specs.Classes.{list_items}
-use Rattle.ft_model.specs.Tables.{list_takes}
+use Rattle.ft_model.specs.TableUses.{list_takes}
 use Rattle.ft_trace.specs.declared.Shape.{Shape}
 use Rattle.ft_trace.specs.Addresses.{containers_in}
 use Rattle.ft_trace.specs.Holds.{known}
 use Rattle.ft_bank.specs.declared.table.Table.{Table}
 use Rattle.ft_bank.specs.Passes.{shape_of, view}
-use Rattle.ft_bank.specs.Tables.{root_for}
-use Rattle.ft_search.specs.Writing.{Leaves}
-use Rattle.ft_list.specs.Calls.{Changes}
-use Rattle.ft_list.specs.Items.{items_of}
+use Rattle.ft_bank.specs.TableNames.{root_for}
+use Rattle.ft_search.specs.OneEntryWrites.{Leaves}
+use Rattle.ft_list.specs.ListWrites.{Changes}
+use Rattle.ft_list.specs.ListItemWrites.{known_items}
 use Rattle.ft_list.specs.Internal.Additions.{count_in, with_added}
-use Rattle.ft_list.specs.Internal.Growing.{use_of}
+use Rattle.ft_list.specs.Internal.NewListTables.{list_use_of}
 use Rattle.ft_list.proofs.Additions.{room_changes}
 use Rattle.ft_list.proofs.Extending.{added_long, none_alike}
-use Rattle.ft_list.proofs.Growing.{knows_content}
-use Rattle.ft_list.proofs.Looking.{slots_are}
-use Rattle.ft_list.proofs.Nothing.{leaves_same}
+use Rattle.ft_list.proofs.GrownLists.{knows_content}
+use Rattle.ft_list.proofs.LookRounds.{slots_are}
+use Rattle.ft_list.proofs.EmptyWrites.{leaves_same}
 use Rattle.ft_list.proofs.Wanted.{wanted_bare, wanted_room}
 use Rattle.ft_list.proofs.adding.add_in_room.Goals as goal
 
@@ -33,7 +33,7 @@ add_items-number-requires-clause-room c =
     let a = c.args in
     let t = c.in-Some.table in
     let n = a.count + count_in a.addition in
-    let holds : n ≤ list_items t.class = wanted_room t n (subst (λ (z : Option Table). list_takes (use_of z) n ≡ None) c.in-Some.is c.requires.room) in
+    let holds : n ≤ list_items t.class = wanted_room t n (subst (λ (z : Option Table). list_takes (list_use_of z) n ≡ None) c.in-Some.is c.requires.room) in
     let s = slots_are (shape_of a.bank.now) t (c.requires.may.list.table_in t c.in-Some.is) in
     omega (arith, s, holds)
 
@@ -42,7 +42,7 @@ add_items-number-requires-clause-call c =
     let a = c.args in
     let k = shape_of a.bank.now in
     let v = view a.pass.now in
-    let values = items_of a.l v in
+    let values = known_items a.l v in
     let x = c.requires.call in
     (x.0, x.1, room_changes k a.l a.old v c.requires.may.list c.requires.pass.1 a.pass.now.possible x.0 (a.count + count_in a.addition) (with_added a.addition v values) x.2 (added_long k a.count a.addition v values c.requires.addition c.requires.count) c.requires.few c.requires.room)
 
@@ -54,13 +54,13 @@ write_nothing-number-requires-clause-leaves c =
     let a = c.args in
     let k = shape_of a.bank.now in
     let v = view a.pass.now in
-    let values = items_of a.l v in
+    let values = known_items a.l v in
     let news = with_added a.addition v values in
     let n = a.count + count_in a.addition in
     let x = c.requires.call in
     let list = c.requires.may.list in
     let long = added_long k a.count a.addition v values c.requires.addition c.requires.count in
-    let none : n ≡ 0 = wanted_bare n (subst (λ (z : Option Table). list_takes (use_of z) n ≡ None) c.in-None.is c.requires.room) in
+    let none : n ≡ 0 = wanted_bare n (subst (λ (z : Option Table). list_takes (list_use_of z) n ≡ None) c.in-None.is c.requires.room) in
     let count = c.requires.count in
     let same : news ≡ values = none_alike news values (long ∙ none) (omega (arith, none, count)) in
     let changes = subst (λ (l : List Value). Changes a.l x.0 reply.Done values l v) same (room_changes k a.l a.old v list c.requires.pass.1 a.pass.now.possible x.0 n news x.2 long c.requires.few c.requires.room) in

@@ -2,18 +2,18 @@ use Rattle.std.proofs.Common.{◌≡◌, ◌≢◌, ℕ, suc, ◌+◌, false, Li
 use Rattle.ft_model.specs.declared.call.Call.{Call}
 use Rattle.ft_model.specs.declared.data.Value.{Value}
 use Rattle.ft_model.specs.declared.reply.Reply.TheVariants as reply
-use Rattle.ft_model.specs.Tables.{CanLackMemory, takes_in, would_pass}
+use Rattle.ft_model.specs.TableUses.{CanLackMemory, takes_in, would_pass}
 use Rattle.ft_trace.specs.Addresses.{class_of}
 use Rattle.ft_trace.specs.Holds.{held}
-use Rattle.ft_trace.specs.Words.{root_in}
-use Rattle.ft_trace.specs.Worlds.{changes}
+use Rattle.ft_trace.specs.Pictures.{root_in}
+use Rattle.ft_trace.specs.ContainerStates.{changes}
 use Rattle.ft_bank.specs.Passes.{shape_of, view}
-use Rattle.ft_bank.specs.Tables.{name_of, root_for}
-use Rattle.ft_bank.proofs.Tables.{class_is}
+use Rattle.ft_bank.specs.TableNames.{name_of, root_for}
+use Rattle.ft_bank.proofs.TableAddresses.{class_is}
 use Rattle.ft_growth.specs.Adding.{Retires}
 use Rattle.ft_growth.proofs.Rooting.{taken_out}
-use Rattle.ft_list.specs.Calls.{Grows}
-use Rattle.ft_list.specs.Items.{items_of}
+use Rattle.ft_list.specs.ListWrites.{Grows}
+use Rattle.ft_list.specs.ListItemWrites.{known_items}
 use Rattle.ft_list.specs.Internal.Additions.{count_in, with_added}
 use Rattle.ft_list.proofs.Additions.{taken_grows, no_table_lacks, taken_room, taken_other, taken_root, tried_addition, tried_has, tried_grows, tried_items, tried_knows, tried_may, tried_news}
 use Rattle.ft_list.proofs.Extending.{added_long}
@@ -63,17 +63,17 @@ add_in-number-requires-clause-call c =
     let e = c.in-Taken.ensures in
     let x = e.did.6 in
     let r = c.requires.call in
-    let old_values = items_of a.l v in
+    let old_values = known_items a.l v in
     let class : a.class ≡ class_of (name_of c.in-Taken.table) = sym (class_is c.in-Taken.table x.0.2 ∙ x.1) in
-    let items : items_of a.l u ≡ old_values = tried_items _ v u e.same e.keeps k a.l a.old c.requires.pass.1 c.requires.may.list in
+    let items : known_items a.l u ≡ old_values = tried_items _ v u e.same e.keeps k a.l a.old c.requires.pass.1 c.requires.may.list in
     let long = added_long k a.count a.addition v old_values c.requires.addition c.requires.count in
     let news = with_added a.addition v old_values in
     let at_first = taken_grows k a.l a.old v c.requires.may.list c.requires.pass.1 a.pass.now.possible r.0 (a.count + count_in a.addition) news r.2 long a.class c.requires.few c.requires.takes in
     let grows = tried_grows _ v u e.same e.keeps a.l r.0 old_values news a.class at_first in
-    let after : with_added a.addition u (items_of a.l u) ≡ news = ap (λ (l : List Value). with_added a.addition u l) items ∙ tried_news _ v u e.same e.keeps k a.count a.addition c.requires.pass.1 c.requires.addition old_values in (
+    let after : with_added a.addition u (known_items a.l u) ≡ news = ap (λ (l : List Value). with_added a.addition u l) items ∙ tried_news _ v u e.same e.keeps k a.count a.addition c.requires.pass.1 c.requires.addition old_values in (
       r.0,
       r.1,
-      subst (λ (n : ℕ). Grows a.l r.0 (items_of a.l u) (with_added a.addition u (items_of a.l u)) n u) class
+      subst (λ (n : ℕ). Grows a.l r.0 (known_items a.l u) (with_added a.addition u (known_items a.l u)) n u) class
           (subst (λ (x : List Value × List Value). Grows a.l r.0 x.0 x.1 a.class u) (λ d. (sym items d, sym after d)) grows),
     )
 
@@ -104,7 +104,7 @@ answer_no_table-requires-clause-lacks c stored has =
     let e = c.in-AllTaken.ensures in
     let r = c.requires.call in
     subst (λ (z : Call). CanLackMemory stored.world z × (would_pass stored.world z ≡ false) × (takes_in stored z ≡ Some a.class)) (sym r.1)
-    (no_table_lacks k a.l a.old v c.requires.may.list c.requires.pass.1 a.pass.now.possible r.0 (a.count + count_in a.addition) (with_added a.addition v (items_of a.l v)) r.2 (added_long k a.count a.addition v (items_of a.l v) c.requires.addition c.requires.count) a.class c.requires.few c.requires.takes stored (tried_has _ v u e.same e.keeps stored has))
+    (no_table_lacks k a.l a.old v c.requires.may.list c.requires.pass.1 a.pass.now.possible r.0 (a.count + count_in a.addition) (with_added a.addition v (known_items a.l v)) r.2 (added_long k a.count a.addition v (known_items a.l v) c.requires.addition c.requires.count) a.class c.requires.few c.requires.takes stored (tried_has _ v u e.same e.keeps stored has))
 
 pub returns-in-Taken-clause-added : goal.returns-in-Taken-clause-added
 returns-in-Taken-clause-added c =

@@ -1,8 +1,8 @@
 use Rattle.std.proofs.Common.{◌≡◌, ◌+◌, true, sym, subst, arith}
 use Rattle.ft_model.specs.declared.call.Call.{Call}
-use Rattle.ft_model.specs.Tables.{CanLackMemory, would_pass}
+use Rattle.ft_model.specs.TableUses.{CanLackMemory, would_pass}
 use Rattle.ft_bank.specs.Passes.{shape_of, view}
-use Rattle.ft_list.specs.Items.{items_of}
+use Rattle.ft_list.specs.ListItemWrites.{known_items}
 use Rattle.ft_list.specs.Internal.Additions.{count_in, with_added}
 use Rattle.ft_list.proofs.Additions.{knows_of, over_passes}
 use Rattle.ft_list.proofs.Extending.{added_few, added_long, knows_few}
@@ -28,7 +28,7 @@ answer_over-requires-clause-over c stored has =
     let k = shape_of a.bank.now in
     let v = view a.pass.now in
     let r = c.requires.call in
-    let values = items_of a.l v in
+    let values = known_items a.l v in
     let news = with_added a.addition v values in
     let total = a.count + count_in a.addition in
     let e = c.added_count.ensures in

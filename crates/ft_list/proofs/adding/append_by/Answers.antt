@@ -6,14 +6,14 @@ use Rattle.ft_model.specs.declared.reply.Reply.TheVariants as reply
 use Rattle.ft_model.specs.Worlds.{list_of}
 use Rattle.ft_trace.specs.declared.Shape.{Shape}
 use Rattle.ft_trace.specs.Addresses.{containers_in}
-use Rattle.ft_trace.specs.Worlds.{ContainerState}
+use Rattle.ft_trace.specs.ContainerStates.{ContainerState}
 use Rattle.ft_bank.specs.Passes.{shape_of, view}
-use Rattle.ft_bank.proofs.Whole.{loaded_then, work_knows}
+use Rattle.ft_bank.proofs.KnownAfterWrites.{loaded_then, work_knows}
 use Rattle.ft_growth.proofs.Cursors.{added_cursors}
-use Rattle.ft_list.specs.Calls.{Adds}
-use Rattle.ft_list.specs.Items.{items_of}
-use Rattle.ft_list.proofs.CallFacts.{append_adds}
-use Rattle.ft_list.proofs.Growing.{knows_content}
+use Rattle.ft_list.specs.ListWrites.{Adds}
+use Rattle.ft_list.specs.ListItemWrites.{known_items}
+use Rattle.ft_list.proofs.ListCallFacts.{append_adds}
+use Rattle.ft_list.proofs.GrownLists.{knows_content}
 use Rattle.ft_list.proofs.Additions.{adds_items}
 use Rattle.ft_list.proofs.adding.append_by.Goals as goal
 
@@ -23,7 +23,7 @@ add_to-requires-clause-call c =
     let k = shape_of a.bank.now in
     let u = view c.root_table-old.new.pass in
     let e = c.root_table-old.ensures in
-    let values = items_of a.l u in
+    let values = known_items a.l u in
     let low : a.l < containers_in u.shape = subst (λ (z : Shape). a.l < containers_in z) (sym e.pass.1) e.list.container in
     let count : length values ≡ c.count_of-count.result = ap (λ (z : ContainerState). length (list_of z.content)) (work_knows (view c.count_of-count.new.pass) u a.l e.only.work) ∙ (ap length c.count_of-count.ensures.items ∙ sym c.count_of-count.ensures.count) in (
       list.Append a.value,

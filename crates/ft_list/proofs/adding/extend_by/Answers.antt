@@ -5,13 +5,13 @@ use Rattle.ft_model.specs.declared.reply.Reply.TheVariants as reply
 use Rattle.ft_trace.specs.declared.Shape.{Shape}
 use Rattle.ft_trace.specs.Addresses.{containers_in}
 use Rattle.ft_bank.specs.Passes.{shape_of, view}
-use Rattle.ft_bank.proofs.Whole.{loaded_then}
+use Rattle.ft_bank.proofs.KnownAfterWrites.{loaded_then}
 use Rattle.ft_growth.proofs.Cursors.{added_cursors}
-use Rattle.ft_list.specs.Items.{items_of}
+use Rattle.ft_list.specs.ListItemWrites.{known_items}
 use Rattle.ft_list.proofs.Additions.{adds_items}
-use Rattle.ft_list.proofs.CallFacts.{extend_adds}
+use Rattle.ft_list.proofs.ListCallFacts.{extend_adds}
 use Rattle.ft_list.proofs.Extending.{knows_few, knows_from, knows_list}
-use Rattle.ft_list.proofs.Growing.{knows_content}
+use Rattle.ft_list.proofs.GrownLists.{knows_content}
 use Rattle.ft_list.proofs.Lists.{items_loaded, may_loaded}
 use Rattle.ft_list.proofs.adding.extend_by.Goals as goal
 
@@ -69,7 +69,7 @@ add_to-requires-clause-call c =
     let inside : (p : ℕ) → p < containers_in k → p < containers_in u.shape = λ p low. subst (λ (z : Shape). p < containers_in z) (sym shape) low in (
       list.Extend a.m,
       refl,
-      extend_adds a.l a.m (items_of a.l u) (items_of a.m u) u (inside a.l e.list.container) (inside a.m other.container) e.list.locked other.locked (knows_content k a.l c.root_table-old.result u shape possible e.list) (knows_list k a.m u other shape possible) (knows_few k a.m u other shape possible),
+      extend_adds a.l a.m (known_items a.l u) (known_items a.m u) u (inside a.l e.list.container) (inside a.m other.container) e.list.locked other.locked (knows_content k a.l c.root_table-old.result u shape possible e.list) (knows_list k a.m u other shape possible) (knows_few k a.m u other shape possible),
     )
 
 pub returns-clause-added : goal.returns-clause-added
@@ -81,8 +81,8 @@ returns-clause-added c =
     let u = view c.root_table-old.new.pass in
     let e = c.root_table-old.ensures in
     let f = c.count_of-more.ensures in
-    let more : c.count_of-more.result ≡ length (items_of a.m v) = f.count ∙ ap length (items_loaded a.m v x c.count_of-count.ensures.only) in
-    adds_items (shape_of a.bank.now) a.l (length (items_of a.m v)) c.root_table-old.result v u (view c.add_to.new.pass) (c.count_of-count.result + c.count_of-more.result) (call.List a.l (list.Extend a.m)) c.add_to.result
+    let more : c.count_of-more.result ≡ length (known_items a.m v) = f.count ∙ ap length (items_loaded a.m v x c.count_of-count.ensures.only) in
+    adds_items (shape_of a.bank.now) a.l (length (known_items a.m v)) c.root_table-old.result v u (view c.add_to.new.pass) (c.count_of-count.result + c.count_of-more.result) (call.List a.l (list.Extend a.m)) c.add_to.result
     (loaded_then v x u c.count_of-count.ensures.only (loaded_then x y u f.only e.only)) e.list e.pass.1 c.root_table-old.new.pass.possible (λ d. c.count_of-count.ensures.count d + more d) c.add_to.ensures.added
 
 pub returns-clause-cursors : goal.returns-clause-cursors

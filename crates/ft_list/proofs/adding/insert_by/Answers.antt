@@ -3,7 +3,7 @@ use mir.Syntax.{w64}
 use mir.Val.{to_z, of_z}
 use Rattle.std.proofs.Math.Facts.{to_z-of_z}
 use Rattle.ft_model.specs.Lists.{clamped_in}
-use Rattle.ft_list.specs.Growing.{AddsItems}
+use Rattle.ft_list.specs.ListGrowth.{AddsItems}
 use Rattle.std.specs.List.{insert}
 use Rattle.ft_model.specs.declared.call.Call.TheVariants as call
 use Rattle.ft_model.specs.declared.call.ListCall.TheVariants as list
@@ -11,14 +11,14 @@ use Rattle.ft_model.specs.declared.reply.Reply.TheVariants as reply
 use Rattle.ft_model.specs.Worlds.{list_of}
 use Rattle.ft_trace.specs.declared.Shape.{Shape}
 use Rattle.ft_trace.specs.Addresses.{containers_in}
-use Rattle.ft_trace.specs.Worlds.{ContainerState}
+use Rattle.ft_trace.specs.ContainerStates.{ContainerState}
 use Rattle.ft_bank.specs.Passes.{shape_of, view}
-use Rattle.ft_bank.proofs.Whole.{loaded_then, work_knows}
+use Rattle.ft_bank.proofs.KnownAfterWrites.{loaded_then, work_knows}
 use Rattle.ft_growth.proofs.Cursors.{added_cursors}
-use Rattle.ft_list.specs.Calls.{Adds}
-use Rattle.ft_list.specs.Items.{items_of}
-use Rattle.ft_list.proofs.CallFacts.{insert_adds}
-use Rattle.ft_list.proofs.Growing.{knows_content}
+use Rattle.ft_list.specs.ListWrites.{Adds}
+use Rattle.ft_list.specs.ListItemWrites.{known_items}
+use Rattle.ft_list.proofs.ListCallFacts.{insert_adds}
+use Rattle.ft_list.proofs.GrownLists.{knows_content}
 use Rattle.ft_list.proofs.Additions.{adds_items}
 use Rattle.ft_list.proofs.adding.insert_by.Goals as goal
 
@@ -28,7 +28,7 @@ add_to-requires-clause-call c =
     let k = shape_of a.bank.now in
     let u = view c.root_table-old.new.pass in
     let e = c.root_table-old.ensures in
-    let values = items_of a.l u in
+    let values = known_items a.l u in
     let z = to_z w64 (of_z w64 a.index) in
     let low : a.l < containers_in u.shape = subst (λ (x : Shape). a.l < containers_in x) (sym e.pass.1) e.list.container in
     let count : length values ≡ c.count_of-count.result = ap (λ (x : ContainerState). length (list_of x.content)) (work_knows (view c.count_of-count.new.pass) u a.l e.only.work) ∙ (ap length c.count_of-count.ensures.items ∙ sym c.count_of-count.ensures.count) in

@@ -1,7 +1,7 @@
 use Rattle.std.proofs.Common.{ap, ◌∙◌}
-use Rattle.ft_trace.specs.Words.{root_in}
+use Rattle.ft_trace.specs.Pictures.{root_in}
 use Rattle.ft_bank.specs.Passes.{shape_of, view}
-use Rattle.ft_bank.proofs.Whole.{loaded_held}
+use Rattle.ft_bank.proofs.KnownAfterWrites.{loaded_held}
 use Rattle.ft_list.proofs.Lists.{may_loaded}
 use Rattle.ft_list.proofs.adding.root_table.Goals as goal
 

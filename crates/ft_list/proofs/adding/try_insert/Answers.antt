@@ -10,9 +10,9 @@ use Rattle.ft_section.specs.declared.answers.Step.{Step}
 use Rattle.ft_model.specs.declared.reply.Reply.TheVariants as reply
 use Rattle.ft_growth.specs.Adding.{IsTryOf}
 use Rattle.ft_section.specs.Trying.{SectionsAfter}
-use Rattle.ft_section.proofs.Tries.{let_gone}
-use Rattle.ft_growth.proofs.Staying.{gone_as, making_added, tried_as}
-use Rattle.ft_list.specs.Growing.{AddsItems}
+use Rattle.ft_section.proofs.TriedSections.{let_gone}
+use Rattle.ft_growth.proofs.GrowthMidst.{gone_as, making_added, tried_as}
+use Rattle.ft_list.specs.ListGrowth.{AddsItems}
 use Rattle.ft_list.proofs.adding.try_insert.Goals as goal
 
 pub let_go-requires : goal.let_go-requires

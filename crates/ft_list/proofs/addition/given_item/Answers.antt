@@ -1,8 +1,8 @@
 use Rattle.std.proofs.Common.{sym, ap, ◌∙◌, subst, arith}
 use Rattle.ft_layout.specs.Words.{FitsStored}
 use Rattle.ft_bank.specs.Passes.{view}
-use Rattle.ft_bank.specs.Tables.{name_of, root_for}
-use Rattle.ft_list.specs.Items.{items_of, stored_at}
+use Rattle.ft_bank.specs.TableNames.{name_of, root_for}
+use Rattle.ft_list.specs.ListItemWrites.{known_items, stored_item}
 use Rattle.ft_list.proofs.addition.given_item.Goals as goal
 
 pub read_stored-requires-clause-container : goal.read_stored-requires-clause-container
@@ -27,7 +27,7 @@ unreachable-unreachable c =
 pub returns-clause-stored : goal.returns-clause-stored
 returns-clause-stored c =
     let a = c.args in
-    c.read_stored.ensures.stored (stored_at (items_of a.m (view a.pass.now)) a.place)
+    c.read_stored.ensures.stored (stored_item (known_items a.m (view a.pass.now)) a.place)
     (c.requires.gives.1.stores (name_of c.in-Some.table) a.place (c.requires.root ∙ ap root_for c.in-Some.is) c.requires.place).1
 
 pub returns-clause-fits : goal.returns-clause-fits

@@ -3,23 +3,23 @@ use Rattle.ft_model.specs.declared.data.Value.{Value}
 use Rattle.ft_model.specs.Worlds.{list_of}
 use Rattle.ft_trace.specs.Addresses.{class_of}
 use Rattle.ft_trace.specs.Holds.{held}
-use Rattle.ft_trace.specs.Words.{Picture, root_in}
-use Rattle.ft_trace.specs.Worlds.{ContainerState}
+use Rattle.ft_trace.specs.Pictures.{Picture, root_in}
+use Rattle.ft_trace.specs.ContainerStates.{ContainerState}
 use Rattle.ft_bank.specs.Passes.{shape_of, view}
-use Rattle.ft_bank.specs.Tables.{name_of}
-use Rattle.ft_bank.proofs.Whole.{put_same, put_then, loaded_held, loaded_put, work_knows}
-use Rattle.ft_list.specs.Items.{IsMoving, items_of, stored_at}
+use Rattle.ft_bank.specs.TableNames.{name_of}
+use Rattle.ft_bank.proofs.KnownAfterWrites.{put_same, put_then, loaded_held, loaded_put, work_knows}
+use Rattle.ft_list.specs.ListItemWrites.{IsMoving, known_items, stored_item}
 use Rattle.ft_list.proofs.Cares.{table_class, few_slots, writes_on}
 use Rattle.ft_list.proofs.Extending.{append_low, append_high, gives_put, root_put}
-use Rattle.ft_list.proofs.Putting.{moving_starts, moving_next}
+use Rattle.ft_list.proofs.ItemWordsPut.{moving_starts, moving_next}
 use Rattle.ft_list.proofs.addition.put_from.Goals as goal
 
 pub loop-place-init : goal.loop-place-init
 loop-place-init c =
     let a = c.args in
     let v = view a.pass.now in
-    let values = items_of a.o v in
-    let others = items_of a.m v in
+    let values = known_items a.o v in
+    let others = known_items a.m v in
     let class = class_of (name_of a.table) in
     let n = c.requires.count in
     let start = moving_starts class (table_class (shape_of a.bank.now) a.table c.requires.list.table_in) values (values ++ others) a.count (a.count + a.more) (a.count + 0) (held a.o v).table c.requires.before (λ p less. append_low values others p (omega (arith, less, n))) in
@@ -40,7 +40,7 @@ given_item-stored-requires-clause-place c =
     let a = c.args in
     let test = c.loop-place-test.true in
     let n = c.requires.more in
-    let long : length (items_of a.m (view c.loop-place.pass)) ≡ length (items_of a.m (view a.pass.now)) = ap (λ (z : ContainerState). length (list_of z.content)) (work_knows (view a.pass.now) (view c.loop-place.pass) a.m c.loop-place.invariant.only.work) in
+    let long : length (known_items a.m (view c.loop-place.pass)) ≡ length (known_items a.m (view a.pass.now)) = ap (λ (z : ContainerState). length (list_of z.content)) (work_knows (view a.pass.now) (view c.loop-place.pass) a.m c.loop-place.invariant.only.work) in
     omega (arith, test, n, long)
 
 pub overflow_add-count : goal.overflow_add-count
@@ -79,8 +79,8 @@ loop-place-preserved c =
     let i = c.loop-place.invariant in
     let f = c.given_item-stored.ensures in
     let e = c.put_item.ensures in
-    let values = items_of a.o v in
-    let others = items_of a.m v in
+    let values = known_items a.o v in
+    let others = known_items a.m v in
     let class = class_of (name_of a.table) in
     let is_class = table_class k a.table c.requires.list.table_in in
     let test = c.loop-place-test.true in
@@ -90,9 +90,9 @@ loop-place-preserved c =
     let loaded = loaded_put x y a.o f.only in
     let both = put_then x y z a.o loaded e.only in
     let same : held a.o y ≡ held a.o x = loaded_held x y a.o f.only in
-    let known : (p : ℕ) → items_of p x ≡ items_of p v = λ p. ap (λ (q : ContainerState). list_of q.content) (work_knows v x p i.only.work) in
-    let stored : c.given_item-stored.result ≡ stored_at (values ++ others) (a.count + place) =
-    f.stored ∙ (ap (λ (l : List Value). stored_at l place) (known a.m) ∙ (append_high values others place (omega (arith, test, m)) ∙ ap (λ (q : ℕ). stored_at (values ++ others) (q + place)) (sym n))) in
+    let known : (p : ℕ) → known_items p x ≡ known_items p v = λ p. ap (λ (q : ContainerState). list_of q.content) (work_knows v x p i.only.work) in
+    let stored : c.given_item-stored.result ≡ stored_item (values ++ others) (a.count + place) =
+    f.stored ∙ (ap (λ (l : List Value). stored_item l place) (known a.m) ∙ (append_high values others place (omega (arith, test, m)) ∙ ap (λ (q : ℕ). stored_item (values ++ others) (q + place)) (sym n))) in
     let before : IsMoving class values (values ++ others) a.count (a.count + a.more) (a.count + place) (held a.o y).table =
     subst (λ (w : Picture). IsMoving class values (values ++ others) a.count (a.count + a.more) (a.count + place) w.table) (sym same) i.moving in
     let moved = moving_next class is_class values (values ++ others) a.count (a.count + a.more) (a.count + place) (held a.o y) (held a.o z) c.given_item-stored.result before e.puts f.fits stored (omega arith) (omega (arith, test)) in
@@ -115,4 +115,4 @@ returns-clause-moved c =
     let a = c.args in
     let v = view a.pass.now in
     let at : c.loop-place.place ≡ a.more = let t = c.loop-place-test.false in let e = c.loop-place.auto.place-end in omega (arith, t, e) in
-    subst (λ (n : ℕ). IsMoving (class_of (name_of a.table)) (items_of a.o v) (items_of a.o v ++ items_of a.m v) a.count (a.count + a.more) (a.count + n) (held a.o (view c.loop-place.pass)).table) at c.loop-place.invariant.moving
+    subst (λ (n : ℕ). IsMoving (class_of (name_of a.table)) (known_items a.o v) (known_items a.o v ++ known_items a.m v) a.count (a.count + a.more) (a.count + n) (held a.o (view c.loop-place.pass)).table) at c.loop-place.invariant.moving

@@ -2,12 +2,12 @@ use Rattle.std.proofs.Common.{◌≡◌, ◌+◌, ◌++◌, false}
 use Rattle.ft_trace.specs.Acts.{has_committed}
 use Rattle.ft_trace.specs.Addresses.{class_of}
 use Rattle.ft_trace.specs.Holds.{held}
-use Rattle.ft_trace.specs.Words.{root_in}
+use Rattle.ft_trace.specs.Pictures.{root_in}
 use Rattle.ft_bank.specs.Passes.{shape_of, view, IsPassOf}
-use Rattle.ft_bank.specs.Sections.{stack_of}
-use Rattle.ft_bank.specs.Tables.{name_of, root_for}
+use Rattle.ft_bank.specs.PassSections.{stack_of}
+use Rattle.ft_bank.specs.TableNames.{name_of, root_for}
 use Rattle.ft_bank.specs.Whole.{OnlyPut}
-use Rattle.ft_list.specs.Items.{WritesList, IsMoving, items_of}
+use Rattle.ft_list.specs.ListItemWrites.{WritesList, IsMoving, known_items}
 use Rattle.ft_list.specs.Internal.Additions.{GivesItems}
 use Rattle.ft_list.proofs.addition.put_from.Given as goal
 
@@ -22,5 +22,5 @@ invariant-loop-place l =
       block : (held l.o (view l.pass)).block ≡ (held l.o (view l.initial.pass)).block;
       gives : GivesItems (shape_of l.bank) l.o l.m (view l.pass);
       root : root_in (held l.m (view l.pass)) ≡ root_for l.from;
-      moving : IsMoving (class_of (name_of l.table)) (items_of l.o (view l.initial.pass)) (items_of l.o (view l.initial.pass) ++ items_of l.m (view l.initial.pass)) l.count (l.count + l.more) (l.count + l.place) (held l.o (view l.pass)).table;
+      moving : IsMoving (class_of (name_of l.table)) (known_items l.o (view l.initial.pass)) (known_items l.o (view l.initial.pass) ++ known_items l.m (view l.initial.pass)) l.count (l.count + l.more) (l.count + l.place) (held l.o (view l.pass)).table;
     }

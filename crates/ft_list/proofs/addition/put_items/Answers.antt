@@ -2,11 +2,11 @@ use Rattle.std.proofs.Common.{List, ◌++◌, ◌+◌, length, sym, ap, ◌∙�
 use Rattle.ft_model.specs.declared.data.Value.{Value}
 use Rattle.ft_trace.specs.Addresses.{class_of}
 use Rattle.ft_trace.specs.Holds.{held}
-use Rattle.ft_trace.specs.Words.{Picture, root_in}
+use Rattle.ft_trace.specs.Pictures.{Picture, root_in}
 use Rattle.ft_bank.specs.Passes.{shape_of, view}
-use Rattle.ft_bank.specs.Tables.{name_of}
-use Rattle.ft_bank.proofs.Whole.{put_then, loaded_held, loaded_put}
-use Rattle.ft_list.specs.Items.{IsMoving, IsPutting, stored_at}
+use Rattle.ft_bank.specs.TableNames.{name_of}
+use Rattle.ft_bank.proofs.KnownAfterWrites.{put_then, loaded_held, loaded_put}
+use Rattle.ft_list.specs.ListItemWrites.{IsMoving, IsPutting, stored_item}
 use Rattle.ft_list.proofs.Cares.{writes_on}
 use Rattle.ft_list.proofs.Extending.{gives_loaded}
 use Rattle.ft_list.proofs.Lists.{items_loaded}
@@ -50,7 +50,7 @@ put_from-requires-clause-before c =
     let v = view a.pass.now in
     let w = view c.table_at_root-from.new.pass in
     let l = c.table_at_root-from.ensures.only in
-    subst (λ (z : List Value × Picture). IsPutting (class_of (name_of a.table)) z.0 a.count (a.count + a.more) (stored_at z.0) z.1.table) (λ d. (sym (items_loaded a.o v w l) d, sym (loaded_held v w a.o l) d)) c.requires.before
+    subst (λ (z : List Value × Picture). IsPutting (class_of (name_of a.table)) z.0 a.count (a.count + a.more) (stored_item z.0) z.1.table) (λ d. (sym (items_loaded a.o v w l) d, sym (loaded_held v w a.o l) d)) c.requires.before
 
 pub returns-clause-only : goal.returns-clause-only
 returns-clause-only c =

@@ -4,9 +4,9 @@ use Rattle.ft_model.specs.declared.reply.Reply.TheVariants as reply
 use Rattle.ft_trace.specs.Holds.{known}
 use Rattle.ft_bank.specs.declared.table.Table.{Table}
 use Rattle.ft_bank.specs.Passes.{shape_of, view}
-use Rattle.ft_bank.specs.Tables.{root_for}
-use Rattle.ft_search.specs.Writing.{Leaves}
-use Rattle.ft_list.specs.Internal.Growing.{MayAdd}
+use Rattle.ft_bank.specs.TableNames.{root_for}
+use Rattle.ft_search.specs.OneEntryWrites.{Leaves}
+use Rattle.ft_list.specs.Internal.NewListTables.{MayAdd}
 use Rattle.ft_list.proofs.Emptying.{bare_leaves}
 use Rattle.ft_list.proofs.clearing.clear_list.Goals as goal
 

@@ -5,9 +5,9 @@ use Rattle.ft_trace.specs.declared.Act.TheVariants.{Commit}
 use Rattle.ft_trace.specs.declared.View.{View}
 use Rattle.ft_trace.specs.Acts.{noted}
 use Rattle.ft_trace.specs.Holds.{held}
-use Rattle.ft_trace.specs.Words.{root_in}
+use Rattle.ft_trace.specs.Pictures.{root_in}
 use Rattle.ft_bank.specs.Passes.{shape_of, view}
-use Rattle.ft_bank.specs.Writes.{Committed, MayCommit, MayPutRoot}
+use Rattle.ft_bank.specs.WriteSteps.{Committed, MayCommit, MayPutRoot}
 use Rattle.ft_list.proofs.Emptying.{may_put_none, clear_may_commit, clear_stands, clear_root, clear_shut, clear_wrote}
 use Rattle.ft_list.proofs.clearing.clear_table.Goals as goal
 

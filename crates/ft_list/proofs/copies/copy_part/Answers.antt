@@ -8,7 +8,7 @@ use Rattle.ft_model.specs.declared.data.Value.TheVariants.{Nothing}
 use Rattle.ft_bank.specs.Passes.{shape_of}
 use Rattle.ft_list.specs.Copies.{AreCopied}
 use Rattle.ft_list.proofs.Scanning.{one_more, so_of_items, nothing_read}
-use Rattle.ft_list.proofs.Values.{part_more, part_none, part_short}
+use Rattle.ft_list.proofs.ValueLists.{part_more, part_none, part_short}
 use Rattle.ft_list.proofs.copies.copy_part.Goals as goal
 
 pub loop-place-init : goal.loop-place-init

@@ -5,12 +5,12 @@ use Rattle.ft_model.specs.declared.reply.Reply.TheVariants as reply
 use Rattle.ft_trace.specs.declared.Shape.{Shape}
 use Rattle.ft_trace.specs.Addresses.{containers_in}
 use Rattle.ft_bank.specs.Passes.{shape_of, view}
-use Rattle.ft_list.specs.Items.{items_of}
-use Rattle.ft_search.specs.Calls.{IsReplyTo}
+use Rattle.ft_list.specs.ListItemWrites.{known_items}
+use Rattle.ft_search.specs.MadeCalls.{IsReplyTo}
 use Rattle.ft_list.specs.Copies.{AreCopied, IsCopied}
 use Rattle.ft_list.proofs.Lists.{content_of}
 use Rattle.ft_list.proofs.Scanning.{items_hold, scan_loaded, scan_log, items_replied, items_plain, takes_memory}
-use Rattle.ft_list.proofs.Trying.{read_shown, read_made}
+use Rattle.ft_list.proofs.ListMidst.{read_shown, read_made}
 use Rattle.std.proofs.lemmas.Result.{err_from_is_err_and, IfErr-at_err}
 use Rattle.ft_list.proofs.copies.items_locked.Goals as goal
 
@@ -24,7 +24,7 @@ answer_held-requires-clause-shown c n =
     let r = c.copy_items.ensures.reads in
     let may = c.requires.may in
     let shape = c.requires.pass.1 in
-    let values = items_of a.l (view p) in
+    let values = known_items a.l (view p) in
     let said = reply.List c.from_vec.result in
     let called = call.List a.l list.Items in
     let held = items_hold k a.l (AreCopied made) p q r shape may in
@@ -46,7 +46,7 @@ returns-in_err-copy-clause-copied c =
     let r = c.copy_items.ensures.reads in
     let may = c.requires.may in
     let shape = c.requires.pass.1 in
-    let values = items_of a.l (view p) in
+    let values = known_items a.l (view p) in
     let called = call.List a.l list.Items in
     let failed = err_from_is_err_and c.from_residual.result c.from_residual.ensures.1 in
     let some = IfErr-at_err (λ e. 0 < length values) c.in_err-copy.was (items_hold k a.l (AreCopied made) p q r shape may).1 in
@@ -64,7 +64,7 @@ returns-clause-copied c =
     let r = c.copy_items.ensures.reads in
     let may = c.requires.may in
     let shape = c.requires.pass.1 in
-    let values = items_of a.l (view p) in
+    let values = known_items a.l (view p) in
     let said = reply.List c.from_vec.result in
     let called = call.List a.l list.Items in
     let held = items_hold k a.l (AreCopied made) p q r shape may in

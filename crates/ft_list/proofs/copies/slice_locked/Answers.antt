@@ -9,12 +9,12 @@ use Rattle.ft_model.specs.Lists.{list_slice}
 use Rattle.ft_trace.specs.declared.Shape.{Shape}
 use Rattle.ft_trace.specs.Addresses.{containers_in}
 use Rattle.ft_bank.specs.Passes.{shape_of, view}
-use Rattle.ft_list.specs.Items.{items_of}
-use Rattle.ft_search.specs.Calls.{IsReplyTo, MadeAs}
+use Rattle.ft_list.specs.ListItemWrites.{known_items}
+use Rattle.ft_search.specs.MadeCalls.{IsReplyTo, MadeAs}
 use Rattle.ft_list.specs.Copies.{AreCopied, IsCopied, TakesMemory}
 use Rattle.ft_list.proofs.Lists.{content_of}
 use Rattle.ft_list.proofs.Scanning.{items_hold, scan_loaded, scan_log, slice_replied, slice_plain, takes_memory}
-use Rattle.ft_list.proofs.Trying.{read_shown, read_made}
+use Rattle.ft_list.proofs.ListMidst.{read_shown, read_made}
 use Rattle.std.proofs.lemmas.Result.{err_from_is_err_and, IfErr-at_err}
 use Rattle.ft_list.proofs.copies.slice_locked.Goals as goal
 
@@ -31,7 +31,7 @@ answer_held-requires-clause-shown c n =
     let x = to_z w64 (of_z w64 a.start) in
     let y = to_z w64 (of_z w64 a.end) in
     let ranges : (x ≡ a.start) × (y ≡ a.end) = (to_z-of_z {w = w64} {z = a.start} c.ranges.start, to_z-of_z {w = w64} {z = a.end} c.ranges.end) in
-    let values = items_of a.l (view p) in
+    let values = known_items a.l (view p) in
     let said = reply.List c.from_vec.result in
     let called = call.List a.l (list.Slice x y) in
     let held = items_hold k a.l (λ items. AreCopied made (list_slice items x y)) p q r shape may in
@@ -56,7 +56,7 @@ returns-in_err-part-clause-copied c =
     let x = to_z w64 (of_z w64 a.start) in
     let y = to_z w64 (of_z w64 a.end) in
     let ranges : (x ≡ a.start) × (y ≡ a.end) = (to_z-of_z {w = w64} {z = a.start} c.ranges.start, to_z-of_z {w = w64} {z = a.end} c.ranges.end) in
-    let values = items_of a.l (view p) in
+    let values = known_items a.l (view p) in
     let part = list_slice values x y in
     let failed = err_from_is_err_and c.from_residual.result c.from_residual.ensures.1 in
     let some = IfErr-at_err (λ e. 0 < length part) c.in_err-part.was (items_hold k a.l (λ items. AreCopied made (list_slice items x y)) p q r shape may).1 in
@@ -79,7 +79,7 @@ returns-clause-copied c =
     let x = to_z w64 (of_z w64 a.start) in
     let y = to_z w64 (of_z w64 a.end) in
     let ranges : (x ≡ a.start) × (y ≡ a.end) = (to_z-of_z {w = w64} {z = a.start} c.ranges.start, to_z-of_z {w = w64} {z = a.end} c.ranges.end) in
-    let values = items_of a.l (view p) in
+    let values = known_items a.l (view p) in
     let said = reply.List c.from_vec.result in
     let called = call.List a.l (list.Slice x y) in
     let held = items_hold k a.l (λ items. AreCopied made (list_slice items x y)) p q r shape may in

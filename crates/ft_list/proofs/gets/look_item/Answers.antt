@@ -10,7 +10,7 @@ use Rattle.ft_model.specs.declared.call.ListCall.TheVariants as list
 use Rattle.ft_bank.specs.Passes.{view}
 use Rattle.ft_bank.specs.Reads.{IsShown}
 use Rattle.ft_search.proofs.Asking.{answered_after}
-use Rattle.ft_list.specs.Looks.{IsGetOf}
+use Rattle.ft_list.specs.ItemLooks.{IsGetOf}
 use Rattle.ft_list.proofs.gets.look_item.Goals as goal
 
 pub answer_look-requires-clause-shown : goal.answer_look-requires-clause-shown

@@ -1,31 +1,34 @@
-use Rattle.std.proofs.Common.{◌≡◌, refl, sym, subst, inl, inr}
+use Rattle.std.proofs.Common.{◌≡◌, refl, sym, ap, ◌∙◌, subst, inl, inr}
 use Rattle.ft_model.specs.declared.call.Call.TheVariants as call
 use Rattle.ft_model.specs.declared.call.ListCall.TheVariants as list
 use Rattle.ft_model.specs.declared.reply.Reply.TheVariants as reply
 use Rattle.ft_model.specs.Lists.{same_items}
+use Rattle.ft_trace.specs.ContainerStates.{state_at}
 use Rattle.ft_bank.specs.Passes.{shape_of, view}
-use Rattle.ft_list.specs.Pairs.{IsGlanceOfBoth}
-use Rattle.ft_list.proofs.Glancing.{saw_first_stopped, saw_other_stopped, saw_both_answered, saw_both_shown}
+use Rattle.ft_list.specs.Pairs.{AreOfItems, IsGlanceOfBoth}
+use Rattle.ft_list.proofs.Both.{eq_plain}
+use Rattle.ft_list.proofs.Windowed.{saw_first_stopped, saw_other_stopped, saw_both_answered, saw_both_shown}
 use Rattle.ft_list.proofs.glances.look_eq.Goals as goal
 
 pub answer_look-requires-clause-shown : goal.answer_look-requires-clause-shown
 answer_look-requires-clause-shown c =
     let a = c.args in
     let b = c.alike_between-alike in
-    saw_both_shown (shape_of a.bank.now) a.l a.m (λ items others. b.result.0 ≡ same_items items others) b.result.1 b.result.2 a.pass.now b.new.pass b.ensures.saw b.result.0 (λ xs ys is. is)
-    (c.has_moved.ensures.still c.if-has_moved.false) (c.has_moved-2.ensures.still c.if-has_moved-2.false) b.ensures.pass.1 c.requires.container c.requires.other c.requires.list c.requires.other_list c.requires.left
+    saw_both_shown (shape_of a.bank.now) a.l a.m (AreOfItems (shape_of a.bank.now) (λ items others. b.result.0 ≡ same_items items others)) b.result.1 b.result.2 a.pass.now b.new.pass b.ensures.saw (call.List a.l (list.Eq a.m)) (reply.Truth b.result.0) (eq_plain a.l a.m b.result.0) (λ e. absurd (cc))
+    (λ x y stored is is_other stands stands_other shows. ap reply.Truth (sym (shows (state_at stored a.l) (state_at stored a.m) (is ∙ c.requires.list) (is_other ∙ c.requires.other_list) stands stands_other)))
+    (c.has_moved.ensures.still c.if-has_moved.false) (c.has_moved-2.ensures.still c.if-has_moved-2.false) b.ensures.pass.1 c.requires.container c.requires.other c.requires.left
 
 pub returns-then-has_moved-clause-looked : goal.returns-then-has_moved-clause-looked
 returns-then-has_moved-clause-looked c =
     let a = c.args in
     let b = c.alike_between-alike in
-    inl (saw_first_stopped (shape_of a.bank.now) a.l a.m (λ items others. b.result.0 ≡ same_items items others) b.result.1 b.result.2 a.pass.now b.new.pass b.ensures.saw (c.has_moved.ensures.moved c.if-has_moved.true))
+    inl (saw_first_stopped (shape_of a.bank.now) a.l a.m (AreOfItems (shape_of a.bank.now) (λ items others. b.result.0 ≡ same_items items others)) b.result.1 b.result.2 a.pass.now b.new.pass b.ensures.saw (c.has_moved.ensures.moved c.if-has_moved.true))
 
 pub returns-then-has_moved-2-clause-looked : goal.returns-then-has_moved-2-clause-looked
 returns-then-has_moved-2-clause-looked c =
     let a = c.args in
     let b = c.alike_between-alike in
-    inr (saw_other_stopped (shape_of a.bank.now) a.l a.m (λ items others. b.result.0 ≡ same_items items others) b.result.1 b.result.2 a.pass.now b.new.pass b.ensures.saw (c.has_moved-2.ensures.moved c.if-has_moved-2.true))
+    inr (saw_other_stopped (shape_of a.bank.now) a.l a.m (AreOfItems (shape_of a.bank.now) (λ items others. b.result.0 ≡ same_items items others)) b.result.1 b.result.2 a.pass.now b.new.pass b.ensures.saw (c.has_moved-2.ensures.moved c.if-has_moved-2.true))
 
 pub returns-clause-looked : goal.returns-clause-looked
 returns-clause-looked c =
@@ -35,4 +38,4 @@ returns-clause-looked c =
     let v = view a.pass.now in
     let z = view c.answer_look.new.pass in
     subst (λ r. IsGlanceOfBoth a.l a.m called v z r) (sym c.answer_look.ensures.done)
-    (saw_both_answered (shape_of a.bank.now) a.l a.m (λ items others. b.result.0 ≡ same_items items others) b.result.1 b.result.2 a.pass.now b.new.pass b.ensures.saw called (reply.Truth b.result.0) z c.answer_look.ensures.did.1 a.pass.now.settled c.answer_look.new.pass.possible, refl)
+    (saw_both_answered (shape_of a.bank.now) a.l a.m (AreOfItems (shape_of a.bank.now) (λ items others. b.result.0 ≡ same_items items others)) b.result.1 b.result.2 a.pass.now b.new.pass b.ensures.saw called (reply.Truth b.result.0) z c.answer_look.ensures.did.1 a.pass.now.settled c.answer_look.new.pass.possible, refl)

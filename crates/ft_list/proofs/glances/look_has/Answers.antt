@@ -4,11 +4,14 @@ use Rattle.ft_model.specs.declared.call.Call.TheVariants as call
 use Rattle.ft_model.specs.declared.call.ListCall.TheVariants as list
 use Rattle.ft_model.specs.declared.reply.Reply.TheVariants as reply
 use Rattle.ft_model.specs.Lists.{index_of}
+use Rattle.ft_model.specs.Worlds.{list_of}
+use Rattle.ft_trace.specs.ContainerStates.{state_at}
 use Rattle.ft_bank.specs.Passes.{shape_of, view}
 use Rattle.ft_search.specs.Lengths.{IsGlanceOf}
-use Rattle.ft_list.proofs.Glancing.{saw_stopped, saw_answered, saw_shown}
+use Rattle.ft_list.specs.Scans.{IsOfItems}
 use Rattle.ft_list.proofs.Scanning.{has_plain}
-use Rattle.ft_list.proofs.Values.{has_first}
+use Rattle.ft_list.proofs.ValueLists.{has_first}
+use Rattle.ft_list.proofs.Windowed.{saw_stopped, saw_answered, saw_shown}
 use Rattle.ft_list.proofs.glances.look_has.Goals as goal
 
 pub answer_look-requires-clause-shown : goal.answer_look-requires-clause-shown
@@ -18,16 +21,18 @@ answer_look-requires-clause-shown c =
     let b = c.find_between-found in
     let w = b.result.1 in
     let truth = c.is_some.result in
-    saw_shown k a.l (λ items. b.result.0 ≡ index_of items a.value) w a.pass.now b.new.pass b.ensures.saw (list.Has a.value) (reply.Truth truth) (has_plain a.l a.value truth) (λ e. absurd (cc))
-    (λ world items is. ap reply.Truth (has_first items a.value ∙ (ap is_some (sym is) ∙ sym c.is_some.ensures)))
-    (c.has_moved.ensures.still c.if-has_moved.false) b.ensures.pass.1 c.requires.container c.requires.list c.requires.left
+    saw_shown k a.l (IsOfItems k (λ items. b.result.0 ≡ index_of items a.value)) w a.pass.now b.new.pass b.ensures.saw (call.List a.l (list.Has a.value)) (reply.Truth truth) (has_plain a.l a.value truth) (λ e. absurd (cc))
+    (λ x stored is stands shows.
+    let there = state_at stored a.l in
+    ap reply.Truth (has_first (list_of there.content) a.value ∙ (ap is_some (sym (shows there (is ∙ c.requires.list) stands)) ∙ sym c.is_some.ensures)))
+    (c.has_moved.ensures.still c.if-has_moved.false) b.ensures.pass.1 c.requires.container c.requires.left
 
 pub returns-then-has_moved-clause-looked : goal.returns-then-has_moved-clause-looked
 returns-then-has_moved-clause-looked c =
     let a = c.args in
     let k = shape_of a.bank.now in
     let b = c.find_between-found in
-    saw_stopped k a.l (λ items. b.result.0 ≡ index_of items a.value) b.result.1 a.pass.now b.new.pass b.ensures.saw (c.has_moved.ensures.moved c.if-has_moved.true)
+    saw_stopped k a.l (IsOfItems k (λ items. b.result.0 ≡ index_of items a.value)) b.result.1 a.pass.now b.new.pass b.ensures.saw (c.has_moved.ensures.moved c.if-has_moved.true)
 
 pub returns-clause-looked : goal.returns-clause-looked
 returns-clause-looked c =
@@ -38,4 +43,4 @@ returns-clause-looked c =
     let v = view a.pass.now in
     let z = view c.answer_look.new.pass in
     subst (λ r. IsGlanceOf a.l called v z r) (sym c.answer_look.ensures.done)
-    (saw_answered k a.l (λ items. b.result.0 ≡ index_of items a.value) b.result.1 a.pass.now b.new.pass b.ensures.saw called (reply.Truth c.is_some.result) (reply.Truth c.is_some.result) z c.answer_look.ensures.did.1 refl a.pass.now.settled c.answer_look.new.pass.possible, refl)
+    (saw_answered k a.l (IsOfItems k (λ items. b.result.0 ≡ index_of items a.value)) b.result.1 a.pass.now b.new.pass b.ensures.saw called (reply.Truth c.is_some.result) z c.answer_look.ensures.did.1 a.pass.now.settled c.answer_look.new.pass.possible, refl)

@@ -8,23 +8,23 @@ use Rattle.ft_trace.specs.declared.View.{View}
 use Rattle.ft_trace.specs.Acts.{has_lock, is_writing, noted}
 use Rattle.ft_trace.specs.Addresses.{class_of, containers_in, slots}
 use Rattle.ft_trace.specs.Holds.{held, in_hand, known}
-use Rattle.ft_trace.specs.Words.{root_in}
-use Rattle.ft_trace.specs.Worlds.{ContainerState}
+use Rattle.ft_trace.specs.Pictures.{root_in}
+use Rattle.ft_trace.specs.ContainerStates.{ContainerState}
 use Rattle.ft_trace.proofs.Cases.{miss}
 use Rattle.ft_bank.specs.Passes.{shape_of, view}
-use Rattle.ft_bank.specs.Tables.{name_of}
+use Rattle.ft_bank.specs.TableNames.{name_of}
 use Rattle.ft_bank.specs.Whole.{OnlyPut}
-use Rattle.ft_bank.proofs.Whole.{put_by, put_then, work_knows}
-use Rattle.ft_list.specs.Calls.{Grows}
-use Rattle.ft_list.specs.Items.{IsMoving, IsPutting, items_of, stored_at}
+use Rattle.ft_bank.proofs.KnownAfterWrites.{put_by, put_then, work_knows}
+use Rattle.ft_list.specs.ListWrites.{Grows}
+use Rattle.ft_list.specs.ListItemWrites.{IsMoving, IsPutting, known_items, stored_item}
 use Rattle.ft_list.specs.Internal.Additions.{count_in, first_in, with_added}
-use Rattle.ft_list.specs.Internal.Growing.{IsFilled}
+use Rattle.ft_list.specs.Internal.NewListTables.{IsFilled}
 use Rattle.ft_list.proofs.Cares.{few_slots, table_class, writes_on}
 use Rattle.ft_list.proofs.Extending.{added_changing, added_head, added_long, added_on, addition_begun, addition_on}
-use Rattle.ft_list.proofs.Finishing.{root_stays}
-use Rattle.ft_list.proofs.Growing.{grow_filled}
+use Rattle.ft_list.proofs.FinishedWrites.{root_stays}
+use Rattle.ft_list.proofs.GrownLists.{grow_filled}
 use Rattle.ft_list.proofs.GrowWrites.{grow_finishing, grow_wrote, list_changes}
-use Rattle.ft_list.proofs.Whole.{grows_on}
+use Rattle.ft_list.proofs.WholeListWrites.{grows_on}
 use Rattle.ft_list.proofs.growth.add_in.Goals as goal
 
 pub begin_in-requires-clause-may : goal.begin_in-requires-clause-may
@@ -37,13 +37,13 @@ begin_in-requires-clause-filled c =
     let a = c.args in
     let class = class_of (name_of a.table) in
     let w = view c.fill.new.pass in
-    let items : items_of a.o w ≡ items_of a.o (view a.pass.now) = ap (λ (u : ContainerState). list_of u.content) (work_knows (view a.pass.now) w a.o c.fill.ensures.only.work) in
+    let items : known_items a.o w ≡ known_items a.o (view a.pass.now) = ap (λ (u : ContainerState). list_of u.content) (work_knows (view a.pass.now) w a.o c.fill.ensures.only.work) in
     subst (λ (l : List Value). IsFilled class l (slots class) (in_hand (name_of a.table) w)) (sym items) c.fill.ensures.filled
 
 pub begin_in-requires-clause-room : goal.begin_in-requires-clause-room
 begin_in-requires-clause-room c =
     let a = c.args in
-    let n : length (items_of a.o (view c.fill.new.pass)) ≡ length (items_of a.o (view a.pass.now)) = ap (λ (u : ContainerState). length (list_of u.content)) (work_knows (view a.pass.now) (view c.fill.new.pass) a.o c.fill.ensures.only.work) in
+    let n : length (known_items a.o (view c.fill.new.pass)) ≡ length (known_items a.o (view a.pass.now)) = ap (λ (u : ContainerState). length (list_of u.content)) (work_knows (view a.pass.now) (view c.fill.new.pass) a.o c.fill.ensures.only.work) in
     let r = c.requires.room in
     let m = c.requires.count in
     omega (arith, n, r, m)
@@ -61,7 +61,7 @@ put_added-requires-clause-addition c =
     let inside : (p : ℕ) → p < containers_in k → p < containers_in x.shape = λ p low. subst (λ (z : Shape). p < containers_in z) (sym (g.work.pass.shape ∙ c.requires.pass.1)) low in
     let filled = addition_on k a.count a.addition v x
     (λ p list. let y = g.keeps p (subst (λ (z : Shape). p < containers_in z) (sym c.requires.pass.1) list.container) list.locked list.even in (y.0, y.1, g.work.pass.locks p, g.work.pass.writes p)) c.requires.addition in
-    let n : length (items_of a.o x) ≡ length (items_of a.o v) = ap (λ (u : ContainerState). length (list_of u.content)) (work_knows v x a.o g.work) in
+    let n : length (known_items a.o x) ≡ length (known_items a.o v) = ap (λ (u : ContainerState). length (list_of u.content)) (work_knows v x a.o g.work) in
     let r = c.requires.room in
     let m = c.requires.count in
     addition_begun k a.o a.table x s b.list a.count a.count (b.putting a.count a.count) (omega (arith, n, r, m)) (λ p. ap (λ (z : View). known p z) begun) b.pass.1 c.begin_in.new.pass.possible
@@ -74,15 +74,15 @@ pub put_added-requires-clause-count : goal.put_added-requires-clause-count
 put_added-requires-clause-count c =
     let a = c.args in
     c.requires.count
-    ∙ sym (ap (λ (z : View). length (items_of a.o z)) c.begin_in.ensures.did.1.1 ∙ ap (λ (u : ContainerState). length (list_of u.content)) (work_knows (view a.pass.now) (view c.fill.new.pass) a.o c.fill.ensures.only.work))
+    ∙ sym (ap (λ (z : View). length (known_items a.o z)) c.begin_in.ensures.did.1.1 ∙ ap (λ (u : ContainerState). length (list_of u.content)) (work_knows (view a.pass.now) (view c.fill.new.pass) a.o c.fill.ensures.only.work))
 
 pub put_added-requires-clause-before : goal.put_added-requires-clause-before
 put_added-requires-clause-before c =
     let a = c.args in
-    let items : items_of a.o (view c.begin_in.new.pass) ≡ items_of a.o (view c.fill.new.pass) = ap (λ (z : View). items_of a.o z) c.begin_in.ensures.did.1.1 in
+    let items : known_items a.o (view c.begin_in.new.pass) ≡ known_items a.o (view c.fill.new.pass) = ap (λ (z : View). known_items a.o z) c.begin_in.ensures.did.1.1 in
     let first = first_in a.addition a.count in
     let past = a.count + count_in a.addition in
-    subst (λ (l : List Value). IsPutting (class_of (name_of a.table)) l first past (stored_at l) (held a.o (view c.begin_in.new.pass)).table) (sym items) (c.begin_in.ensures.putting first past)
+    subst (λ (l : List Value). IsPutting (class_of (name_of a.table)) l first past (stored_item l) (held a.o (view c.begin_in.new.pass)).table) (sym items) (c.begin_in.ensures.putting first past)
 
 pub overflow_add-past : goal.overflow_add-past
 overflow_add-past c =
@@ -103,8 +103,8 @@ finish-requires-clause-may c =
     let g = c.fill.ensures.only in
     let b = c.begin_in.ensures in
     let e = c.put_added.ensures in
-    let values = items_of a.o x in
-    let olds = items_of a.o v in
+    let values = known_items a.o x in
+    let olds = known_items a.o v in
     let news = with_added a.addition x values in
     let class = class_of (name_of a.table) in
     let is_class = table_class k a.table c.requires.may.table_in in
@@ -115,8 +115,8 @@ finish-requires-clause-may c =
     let knows_x : (p : ℕ) → known p x ≡ known p v = λ p. work_knows v x p g.work in
     let same : values ≡ olds = ap (λ (z : ContainerState). list_of z.content) (knows_x a.o) in
     let news_is : news ≡ with_added a.addition v olds = ap (λ (l : List Value). with_added a.addition x l) same ∙ added_on a.addition v x knows_x olds in
-    let items : items_of a.o s ≡ values = ap (λ (z : View). items_of a.o z) begun in
-    let after : with_added a.addition s (items_of a.o s) ≡ news = ap (λ (l : List Value). with_added a.addition s l) items ∙ added_on a.addition x s (λ p. ap (λ (z : View). known p z) begun) values in
+    let items : known_items a.o s ≡ values = ap (λ (z : View). known_items a.o z) begun in
+    let after : with_added a.addition s (known_items a.o s) ≡ news = ap (λ (l : List Value). with_added a.addition s l) items ∙ added_on a.addition x s (λ p. ap (λ (z : View). known p z) begun) values in
     let moved : IsMoving class values news first total total (held a.o y).table =
     subst (λ (z : List Value × List Value × ℕ × ℕ). IsMoving class z.0 z.1 z.2 (a.count + z.3) (a.count + z.3) (held a.o y).table) (λ d. (items d, after d, sym c.first_place.ensures d, counted d)) e.moved in
     let long : length news ≡ total = ap length news_is ∙ (added_long k a.count a.addition v olds c.requires.addition c.requires.count ∙ ap (λ (n : ℕ). a.count + n) counted) in

@@ -3,19 +3,19 @@ use Rattle.ft_model.specs.declared.data.Value.{Value}
 use Rattle.ft_model.specs.Worlds.{list_of}
 use Rattle.ft_trace.specs.Acts.{mem}
 use Rattle.ft_trace.specs.Addresses.{class_of, slots}
-use Rattle.ft_trace.specs.Worlds.{ContainerState}
+use Rattle.ft_trace.specs.ContainerStates.{ContainerState}
 use Rattle.ft_trace.specs.Holds.{in_hand}
 use Rattle.ft_trace.proofs.Pieces.{table_long}
 use Rattle.ft_bank.specs.Passes.{shape_of, view}
-use Rattle.ft_bank.specs.Tables.{name_of}
-use Rattle.ft_bank.proofs.Whole.{work_knows}
+use Rattle.ft_bank.specs.TableNames.{name_of}
+use Rattle.ft_bank.proofs.KnownAfterWrites.{work_knows}
 use Rattle.ft_growth.proofs.Rooting.{filled_same, filled_then, loaded_filled}
-use Rattle.ft_list.specs.Items.{items_of, stored_at}
-use Rattle.ft_list.specs.Internal.Growing.{IsFilled}
+use Rattle.ft_list.specs.ListItemWrites.{known_items, stored_item}
+use Rattle.ft_list.specs.Internal.NewListTables.{IsFilled}
 use Rattle.ft_list.proofs.Cares.{table_class}
 use Rattle.ft_list.proofs.Filling.{filled_none, filled_next}
-use Rattle.ft_list.proofs.Growing.{hand_loaded, knows_filled}
-use Rattle.ft_list.proofs.Looking.{slots_are}
+use Rattle.ft_list.proofs.GrownLists.{hand_loaded, knows_filled}
+use Rattle.ft_list.proofs.LookRounds.{slots_are}
 use Rattle.ft_list.proofs.growth.fill.Goals as goal
 
 pub loop-place-init : goal.loop-place-init
@@ -26,7 +26,7 @@ loop-place-init c =
       pass = c.requires.pass;
       stack = refl;
       only = filled_same v;
-      filled = filled_none (class_of (name_of a.table)) (table_class k a.table c.requires.table) (items_of a.o v) (in_hand (name_of a.table) v) (table_long v.shape (name_of a.table) (mem v.shape v.log));
+      filled = filled_none (class_of (name_of a.table)) (table_class k a.table c.requires.table) (known_items a.o v) (in_hand (name_of a.table) v) (table_long v.shape (name_of a.table) (mem v.shape v.log));
     }
 
 pub old_item-stored-requires-clause-list : goal.old_item-stored-requires-clause-list
@@ -64,16 +64,16 @@ loop-place-preserved c =
     let t = c.loop-place-test.true in
     let n = c.list_items-place-end.ensures in
     let low : place < slots class = omega (arith, s, t, n) in
-    let items : items_of a.o x ≡ items_of a.o v = ap (λ (u : ContainerState). list_of u.content) (work_knows v x a.o i.only.work) in
-    let is : c.old_item-stored.result ≡ stored_at (items_of a.o v) place = f.stored ∙ ap (λ (l : List Value). stored_at l place) items in
+    let items : known_items a.o x ≡ known_items a.o v = ap (λ (u : ContainerState). list_of u.content) (work_knows v x a.o i.only.work) in
+    let is : c.old_item-stored.result ≡ stored_item (known_items a.o v) place = f.stored ∙ ap (λ (l : List Value). stored_item l place) items in
     let hand : in_hand (name_of a.table) y ≡ in_hand (name_of a.table) x = hand_loaded (name_of a.table) x y f.only in
-    let next = filled_next class (table_class k a.table c.requires.table) (items_of a.o v) place (in_hand (name_of a.table) y) c.old_item-stored.result
-    (subst (IsFilled class (items_of a.o v) place) (sym hand) i.filled) low is f.fits in
+    let next = filled_next class (table_class k a.table c.requires.table) (known_items a.o v) place (in_hand (name_of a.table) y) c.old_item-stored.result
+    (subst (IsFilled class (known_items a.o v) place) (sym hand) i.filled) low is f.fits in
     record {
       pass = e.pass;
       stack = e.stack ∙ (f.stack ∙ i.stack);
       only = filled_then v y z (filled_then v x y i.only (loaded_filled x y f.only)) e.filled;
-      filled = subst (IsFilled class (items_of a.o v) (place + 1)) (sym e.words) next;
+      filled = subst (IsFilled class (known_items a.o v) (place + 1)) (sym e.words) next;
     }
 
 pub returns-clause-filled : goal.returns-clause-filled
@@ -84,4 +84,4 @@ returns-clause-filled c =
     let e = c.loop-place.auto.place-end in
     let n = c.list_items-place-end.ensures in
     let at : c.loop-place.place ≡ slots (class_of (name_of a.table)) = omega (arith, s, t, e, n) in
-    subst (λ (m : ℕ). IsFilled (class_of (name_of a.table)) (items_of a.o (view a.pass.now)) m (in_hand (name_of a.table) (view c.loop-place.pass))) at c.loop-place.invariant.filled
+    subst (λ (m : ℕ). IsFilled (class_of (name_of a.table)) (known_items a.o (view a.pass.now)) m (in_hand (name_of a.table) (view c.loop-place.pass))) at c.loop-place.invariant.filled

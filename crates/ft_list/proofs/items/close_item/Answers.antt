@@ -2,14 +2,14 @@ use Rattle.std.proofs.Common.{◌≡◌, ℕ, ◌<◌, List, sym, ap, ◌∙◌,
 use Rattle.ft_model.specs.declared.data.Value.{Value}
 use Rattle.ft_model.specs.Worlds.{list_of}
 use Rattle.ft_trace.specs.Addresses.{class_of, size}
-use Rattle.ft_trace.specs.Worlds.{ContainerState}
-use Rattle.ft_trace.specs.Words.{Picture, item_of}
-use Rattle.ft_trace.specs.Items.{said_at, words_at}
+use Rattle.ft_trace.specs.ContainerStates.{ContainerState}
+use Rattle.ft_trace.specs.Pictures.{Picture, item_field}
+use Rattle.ft_trace.specs.ItemWords.{said_at, words_at}
 use Rattle.ft_trace.specs.Holds.{held}
 use Rattle.ft_bank.specs.Passes.{shape_of, view}
-use Rattle.ft_bank.specs.Tables.{name_of}
-use Rattle.ft_bank.proofs.Whole.{work_knows}
-use Rattle.ft_list.specs.Items.{items_of}
+use Rattle.ft_bank.specs.TableNames.{name_of}
+use Rattle.ft_bank.proofs.KnownAfterWrites.{work_knows}
+use Rattle.ft_list.specs.ListItemWrites.{known_items}
 use Rattle.ft_list.proofs.Cares.{few_slots, inside, close_care, item_room}
 use Rattle.ft_list.proofs.items.close_item.Goals as goal
 
@@ -37,8 +37,8 @@ put_table-requires-clause-care c =
     let v = view a.pass.now in
     let w = view c.read_word-version.new.pass in
     let e = c.read_word-version.ensures in
-    let found : c.read_word-version.result ≡ item_of (held a.o w).table a.place 0 = e.found ∙ sym (ap (λ (z : Picture). item_of z.table a.place 0) e.held) in
-    let known_now : items_of a.o w ≡ items_of a.o v = ap (λ (z : ContainerState). list_of z.content) (work_knows v w a.o e.only.work) in
-    let says : words_at (items_of a.o w) a.place ≡ said_at (held a.o w).table a.place =
+    let found : c.read_word-version.result ≡ item_field (held a.o w).table a.place 0 = e.found ∙ sym (ap (λ (z : Picture). item_field z.table a.place 0) e.held) in
+    let known_now : known_items a.o w ≡ known_items a.o v = ap (λ (z : ContainerState). list_of z.content) (work_knows v w a.o e.only.work) in
+    let says : words_at (known_items a.o w) a.place ≡ said_at (held a.o w).table a.place =
     ap (λ (z : List Value). words_at z a.place) known_now ∙ (c.requires.says ∙ sym (ap (λ (z : Picture). said_at z.table a.place) e.held)) in
     close_care k a.o a.table w e.list e.pass.1 a.place c.read_word-version.result c.word_at.result c.word_at.ensures (e.only.work.committed a.o ∙ c.requires.late) found c.if-version-eq1.true says

@@ -1,16 +1,16 @@
 use Rattle.std.proofs.Common.{◌≡◌, ℕ, suc, ◌+◌, ◌<◌, length, refl, sym, ap, ◌∙◌, subst, arith}
 use Rattle.ft_model.specs.Worlds.{list_of}
 use Rattle.ft_trace.specs.Addresses.{class_of, slots}
-use Rattle.ft_trace.specs.Worlds.{ContainerState}
-use Rattle.ft_trace.specs.Words.{Picture, item_at}
-use Rattle.ft_trace.specs.Items.{words_at}
+use Rattle.ft_trace.specs.ContainerStates.{ContainerState}
+use Rattle.ft_trace.specs.Pictures.{Picture, item_offset}
+use Rattle.ft_trace.specs.ItemWords.{words_at}
 use Rattle.ft_trace.specs.Holds.{held}
 use Rattle.ft_bank.specs.Passes.{shape_of, view}
-use Rattle.ft_bank.specs.Tables.{name_of}
-use Rattle.ft_bank.proofs.Whole.{work_knows, put_then}
-use Rattle.ft_list.specs.Items.{IsChanging, items_of}
+use Rattle.ft_bank.specs.TableNames.{name_of}
+use Rattle.ft_bank.proofs.KnownAfterWrites.{work_knows, put_then}
+use Rattle.ft_list.specs.ListItemWrites.{IsChanging, known_items}
 use Rattle.ft_list.proofs.Cares.{long_enough}
-use Rattle.ft_list.proofs.Words.{says, changing_closed}
+use Rattle.ft_list.proofs.PutItems.{says, changing_closed}
 use Rattle.ft_list.proofs.items.close_items.Goals as goal
 
 pub close_item-requires-clause-says : goal.close_item-requires-clause-says
@@ -22,7 +22,7 @@ close_item-requires-clause-says c =
     let class = class_of (name_of a.table) in
     let here : c.loop-place.place < slots class = let t = c.loop-place-test.true in let p = c.requires.places in omega (arith, t, p) in
     ap (λ (z : ContainerState). words_at (list_of z.content) c.loop-place.place) (work_knows v w a.o i.only.work)
-    ∙ says class (items_of a.o v) (items_of a.o v) c.loop-place.place a.past (held a.o w).table i.changing c.loop-place.place here
+    ∙ says class (known_items a.o v) (known_items a.o v) c.loop-place.place a.past (held a.o w).table i.changing c.loop-place.place here
 
 pub loop-place-preserved : goal.loop-place-preserved
 loop-place-preserved c =
@@ -34,7 +34,7 @@ loop-place-preserved c =
     let e = c.close_item.ensures in
     let class = class_of (name_of a.table) in
     let here : c.loop-place.place < slots class = let t = c.loop-place-test.true in let p = c.requires.places in omega (arith, t, p) in
-    let low : item_at c.loop-place.place 0 < length (held a.o w).table = let l = long_enough (shape_of a.bank.now) a.o a.table w i.list c.loop-place.place here in omega (arith, l) in
+    let low : item_offset c.loop-place.place 0 < length (held a.o w).table = let l = long_enough (shape_of a.bank.now) a.o a.table w i.list c.loop-place.place here in omega (arith, l) in
     let laws = c.versions_change_nothing.ensures in
     let next : c.loop-place.place + 1 ≡ suc c.loop-place.place = omega arith in
     record {
@@ -44,8 +44,8 @@ loop-place-preserved c =
       late = e.only.work.committed a.o ∙ i.late;
       only = put_then v w z a.o i.only e.only;
       block = ap (λ (x : Picture). x.block) e.item.words ∙ i.block;
-      changing = subst (λ (n : ℕ). IsChanging class (items_of a.o v) (items_of a.o v) n a.past (held a.o z).table) (sym next)
-          (changing_closed class (items_of a.o v) (items_of a.o v) c.loop-place.place a.past (held a.o w).table i.changing
+      changing = subst (λ (n : ℕ). IsChanging class (known_items a.o v) (known_items a.o v) n a.past (held a.o z).table) (sym next)
+          (changing_closed class (known_items a.o v) (known_items a.o v) c.loop-place.place a.past (held a.o w).table i.changing
           (λ mask values words place version table. laws.items mask values words _ (laws.item words place version) table)
           (held a.o w).block (held a.o z) e.item.version refl e.item.even low e.item.words);
     }

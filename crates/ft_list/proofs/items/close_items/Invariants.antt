@@ -3,10 +3,10 @@ use Rattle.ft_trace.specs.Acts.{has_committed}
 use Rattle.ft_trace.specs.Addresses.{class_of}
 use Rattle.ft_trace.specs.Holds.{held}
 use Rattle.ft_bank.specs.Passes.{shape_of, view, IsPassOf}
-use Rattle.ft_bank.specs.Sections.{stack_of}
-use Rattle.ft_bank.specs.Tables.{name_of}
+use Rattle.ft_bank.specs.PassSections.{stack_of}
+use Rattle.ft_bank.specs.TableNames.{name_of}
 use Rattle.ft_bank.specs.Whole.{OnlyPut}
-use Rattle.ft_list.specs.Items.{WritesList, IsChanging, items_of}
+use Rattle.ft_list.specs.ListItemWrites.{WritesList, IsChanging, known_items}
 use Rattle.ft_list.proofs.items.close_items.Given as goal
 
 abbrev pub invariant-loop-place : goal.invariant-loop-place
@@ -18,5 +18,5 @@ invariant-loop-place l =
       late : has_committed l.o (view l.pass).log ≡ true;
       only : OnlyPut l.o (view l.initial.pass) (view l.pass);
       block : (held l.o (view l.pass)).block ≡ (held l.o (view l.initial.pass)).block;
-      changing : IsChanging (class_of (name_of l.table)) (items_of l.o (view l.initial.pass)) (items_of l.o (view l.initial.pass)) l.place l.past (held l.o (view l.pass)).table;
+      changing : IsChanging (class_of (name_of l.table)) (known_items l.o (view l.initial.pass)) (known_items l.o (view l.initial.pass)) l.place l.past (held l.o (view l.pass)).table;
     }

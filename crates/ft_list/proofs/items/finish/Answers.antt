@@ -6,16 +6,16 @@ use Rattle.ft_trace.specs.declared.View.{View}
 use Rattle.ft_trace.specs.Addresses.{class_of}
 use Rattle.ft_trace.specs.declared.Act.TheVariants.{StopWrite}
 use Rattle.ft_trace.specs.Acts.{noted}
-use Rattle.ft_trace.specs.Worlds.{ContainerState, changes}
-use Rattle.ft_trace.specs.Words.{root_in, Stands}
+use Rattle.ft_trace.specs.ContainerStates.{ContainerState, changes}
+use Rattle.ft_trace.specs.Pictures.{root_in, Stands}
 use Rattle.ft_trace.specs.Holds.{held, known}
 use Rattle.ft_bank.specs.Passes.{shape_of, view}
-use Rattle.ft_bank.specs.Tables.{name_of}
+use Rattle.ft_bank.specs.TableNames.{name_of}
 use Rattle.ft_bank.specs.Whole.{OnlyPut}
-use Rattle.ft_bank.proofs.Whole.{write_ends}
-use Rattle.ft_list.specs.Items.{IsChanging, items_of}
-use Rattle.ft_list.proofs.Finishing.{kept_after, stands_at_end, list_is_shut}
-use Rattle.ft_list.proofs.Words.{changing_only}
+use Rattle.ft_bank.proofs.KnownAfterWrites.{write_ends}
+use Rattle.ft_list.specs.ListItemWrites.{IsChanging, known_items}
+use Rattle.ft_list.proofs.FinishedWrites.{kept_after, stands_at_end, list_is_shut}
+use Rattle.ft_list.proofs.PutItems.{changing_only}
 use Rattle.ft_list.proofs.items.finish.Goals as goal
 
 pub close_items-requires-clause-changing : goal.close_items-requires-clause-changing
@@ -26,7 +26,7 @@ close_items-requires-clause-changing c =
     let u = view a.pass.now in
     let w = view c.commit-number.new.pass in
     let d = c.commit-number.ensures.did in
-    let items : m.after ≡ items_of a.o w = sym (ap (λ (z : ContainerState). list_of z.content) (kept_after a.o a.table a.called.now a.said.now a.first a.past u w m c.commit-number.ensures.committed)) in
+    let items : m.after ≡ known_items a.o w = sym (ap (λ (z : ContainerState). list_of z.content) (kept_after a.o a.table a.called.now a.said.now a.first a.past u w m c.commit-number.ensures.committed)) in
     let words : (held a.o u).table ≡ (held a.o w).table = sym (ap (λ (z : View). (held a.o z).table) d.1.1) in
     subst (λ (l : List Value). IsChanging class l l a.first a.past (held a.o w).table) items
     (subst (λ (ws : List ℕ). IsChanging class m.after m.after a.first a.past ws) words (changing_only class m.before m.after a.first a.past (held a.o u).table m.changing))
@@ -44,7 +44,7 @@ stop_write-requires-clause-shut c =
     let a = c.args in
     let w = view c.commit-number.new.pass in
     let e = c.close_items.ensures in
-    list_is_shut (shape_of a.bank.now) a.o a.table (view c.close_items.new.pass) (items_of a.o w) (items_of a.o w) a.past e.list e.pass.1 e.closed
+    list_is_shut (shape_of a.bank.now) a.o a.table (view c.close_items.new.pass) (known_items a.o w) (known_items a.o w) a.past e.list e.pass.1 e.closed
 
 pub returns-clause-ends : goal.returns-clause-ends
 returns-clause-ends c =

@@ -1,10 +1,10 @@
 use Rattle.std.proofs.Common.{◌≡◌, ℕ, ◌%◌, sym, ap, ◌∙◌, subst}
-use Rattle.ft_trace.specs.Words.{Picture, item_of}
+use Rattle.ft_trace.specs.Pictures.{Picture, item_field}
 use Rattle.ft_trace.specs.Holds.{held}
 use Rattle.ft_bank.specs.Passes.{shape_of, view}
-use Rattle.ft_list.specs.Items.{PutsItem, with_word}
+use Rattle.ft_list.specs.ListItemWrites.{PutsItem, with_word}
 use Rattle.ft_list.proofs.Cares.{long_enough}
-use Rattle.ft_list.proofs.Words.{version_one, version_two, item_put}
+use Rattle.ft_list.proofs.PutItems.{version_one, version_two, item_put}
 use Rattle.ft_list.proofs.items.put_item.Goals as goal
 
 pub put_word-requires-clause-odd : goal.put_word-requires-clause-odd
@@ -14,7 +14,7 @@ put_word-requires-clause-odd c =
     let e = c.read_word-old_payload.ensures in
     let u = view c.read_word-old_payload.new.pass in
     let low = long_enough (shape_of a.bank.now) a.o a.table u e.list a.place c.requires.place in
-    ap (λ (z : Picture). item_of z.table a.place 0 % 2) o.2 ∙ (ap (λ (n : ℕ). n % 2) (version_one (held a.o u) a.place o.0 0 0 low) ∙ o.1)
+    ap (λ (z : Picture). item_field z.table a.place 0 % 2) o.2 ∙ (ap (λ (n : ℕ). n % 2) (version_one (held a.o u) a.place o.0 0 0 low) ∙ o.1)
 
 pub put_word-requires-2-clause-odd : goal.put_word-requires-2-clause-odd
 put_word-requires-2-clause-odd c =
@@ -23,7 +23,7 @@ put_word-requires-2-clause-odd c =
     let kind = c.stored_kind_of-kind.result in
     let u = view c.read_word-old_payload.new.pass in
     let low = long_enough (shape_of a.bank.now) a.o a.table u c.read_word-old_payload.ensures.list a.place c.requires.place in
-    ap (λ (z : Picture). item_of z.table a.place 0 % 2) (c.put_word.ensures.words ∙ ap (λ (z : Picture). with_word z a.place 1 kind) o.2)
+    ap (λ (z : Picture). item_field z.table a.place 0 % 2) (c.put_word.ensures.words ∙ ap (λ (z : Picture). with_word z a.place 1 kind) o.2)
     ∙ (ap (λ (n : ℕ). n % 2) (version_two (held a.o u) a.place o.0 kind 0 low) ∙ o.1)
 
 pub returns-clause-puts : goal.returns-clause-puts

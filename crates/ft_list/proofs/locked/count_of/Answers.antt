@@ -2,7 +2,7 @@ use Rattle.std.proofs.Common.{ap, ◌∙◌}
 use Rattle.ft_trace.specs.declared.Act.TheVariants.{ReadBlock}
 use Rattle.ft_trace.specs.declared.View.{View}
 use Rattle.ft_bank.specs.Passes.{shape_of, view}
-use Rattle.ft_bank.proofs.Whole.{loaded_by}
+use Rattle.ft_bank.proofs.KnownAfterWrites.{loaded_by}
 use Rattle.ft_list.proofs.Lists.{content_of, list_counts, may_loaded, items_loaded}
 use Rattle.ft_list.proofs.locked.count_of.Goals as goal
 

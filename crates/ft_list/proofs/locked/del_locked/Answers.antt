@@ -12,19 +12,19 @@ use Rattle.ft_trace.specs.declared.Act.TheVariants.{ReadBlock}
 use Rattle.ft_trace.specs.declared.Shape.{Shape}
 use Rattle.ft_trace.specs.Addresses.{containers_in}
 use Rattle.ft_bank.specs.Passes.{shape_of, view}
-use Rattle.ft_bank.proofs.Whole.{loaded_then}
-use Rattle.ft_search.specs.Calls.{MadeAs}
-use Rattle.ft_list.specs.Items.{items_of}
-use Rattle.ft_list.proofs.CallFacts.{del_changes}
+use Rattle.ft_bank.proofs.KnownAfterWrites.{loaded_then}
+use Rattle.ft_search.specs.MadeCalls.{MadeAs}
+use Rattle.ft_list.specs.ListItemWrites.{known_items}
+use Rattle.ft_list.proofs.ListCallFacts.{del_changes}
 use Rattle.ft_list.proofs.Lists.{content_of}
-use Rattle.ft_list.proofs.Trying.{wrote_as, raised_as}
+use Rattle.ft_list.proofs.ListMidst.{wrote_as, raised_as}
 use Rattle.ft_list.proofs.Raising.{del_raises}
 use Rattle.ft_list.proofs.locked.del_locked.Goals as goal
 
 pub table_of-table-requires-clause-some : goal.table_of-table-requires-clause-some
 table_of-table-requires-clause-some c none =
     let w = c.in-Some.ensures.within in
-    let n : c.count_of-count.result ≡ length (items_of c.args.l (view c.count_of-count.new.pass)) = c.count_of-count.ensures.count ∙ sym (ap length c.count_of-count.ensures.items) in
+    let n : c.count_of-count.result ≡ length (known_items c.args.l (view c.count_of-count.new.pass)) = c.count_of-count.ensures.count ∙ sym (ap length c.count_of-count.ensures.items) in
     omega (arith, w, n, none)
 
 pub remove_item-number-requires-clause-count : goal.remove_item-number-requires-clause-count
@@ -36,7 +36,7 @@ remove_item-number-requires-clause-call c =
     let k = shape_of a.bank.now in
     let v = view c.table_of-table.new.pass in
     let e = c.table_of-table.ensures in
-    let values = items_of a.l v in
+    let values = known_items a.l v in
     let low : a.l < containers_in v.shape = subst (λ (z : Shape). a.l < containers_in z) (sym e.pass.1) e.may.container in
     let long : c.count_of-count.result ≡ length values = c.count_of-count.ensures.count ∙ sym (ap length (e.items ∙ c.count_of-count.ensures.items)) in
     let means : index_in (length values) (to_z w64 (of_z w64 a.index)) ≡ Some c.in-Some.place = ap (λ (n : ℕ). index_in n (to_z w64 (of_z w64 a.index))) (sym long) ∙ (sym c.place_in.ensures.answer ∙ c.in-Some.is) in
@@ -45,7 +45,7 @@ remove_item-number-requires-clause-call c =
 pub raise-stamp-requires-clause-call : goal.raise-stamp-requires-clause-call
 raise-stamp-requires-clause-call c =
     let a = c.args in
-    let values = items_of a.l (view c.count_of-count.new.pass) in
+    let values = known_items a.l (view c.count_of-count.new.pass) in
     let long : c.count_of-count.result ≡ length values = c.count_of-count.ensures.count ∙ sym (ap length c.count_of-count.ensures.items) in
     let none : index_in (length values) (to_z w64 (of_z w64 a.index)) ≡ None = ap (λ (n : ℕ). index_in n (to_z w64 (of_z w64 a.index))) (sym long) ∙ (sym c.place_in.ensures.answer ∙ c.in-None.is) in
     (list.Del (to_z w64 (of_z w64 a.index)), refl, del_raises a.l (to_z w64 (of_z w64 a.index)) values none)
@@ -60,7 +60,7 @@ returns-in-Some-clause-made c =
     let x = view c.remove_item-number.new.pass in
     let e = c.table_of-table.ensures in
     let z = to_z w64 (of_z w64 a.index) in
-    let values = items_of a.l w in
+    let values = known_items a.l w in
     let low : a.l < containers_in w.shape = subst (λ (y : Shape). a.l < containers_in y) (sym e.pass.1) e.may.container in
     let long : c.count_of-count.result ≡ length values = c.count_of-count.ensures.count ∙ sym (ap length (e.items ∙ c.count_of-count.ensures.items)) in
     let means : index_in (length values) z ≡ Some c.in-Some.place = ap (λ (n : ℕ). index_in n z) (sym long) ∙ (sym c.place_in.ensures.answer ∙ c.in-Some.is) in
@@ -76,7 +76,7 @@ returns-in-None-clause-made c =
     let u = view c.count_of-count.new.pass in
     let e = c.count_of-count.ensures in
     let z = to_z w64 (of_z w64 a.index) in
-    let values = items_of a.l u in
+    let values = known_items a.l u in
     let long : c.count_of-count.result ≡ length values = e.count ∙ sym (ap length e.items) in
     let none : index_in (length values) z ≡ None = ap (λ (n : ℕ). index_in n z) (sym long) ∙ (sym c.place_in.ensures.answer ∙ c.in-None.is) in
     subst (λ (i : ℤ). MadeAs (call.List a.l (list.Del i)) (reply.Raised raise.NoIndex) c.raise-stamp.result v (view c.raise-stamp.new.pass)) (to_z-of_z {w = w64} {z = a.index} c.ranges.index)

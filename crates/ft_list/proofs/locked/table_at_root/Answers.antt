@@ -2,7 +2,7 @@ use Rattle.std.proofs.Common.{Option, refl, sym, ◌∙◌, subst}
 use Rattle.std.specs.Prelude.{IfSome}
 use Rattle.ft_bank.specs.declared.table.Table.{Table}
 use Rattle.ft_bank.specs.Passes.{shape_of}
-use Rattle.ft_bank.specs.Tables.{IsTableIn}
+use Rattle.ft_bank.specs.TableNames.{IsTableIn}
 use Rattle.ft_list.proofs.Additions.{root_named}
 use Rattle.ft_list.proofs.locked.table_at_root.Goals as goal
 

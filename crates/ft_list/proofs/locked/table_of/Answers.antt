@@ -1,8 +1,8 @@
 use Rattle.std.proofs.Common.{refl, sym, ap, ◌∙◌}
 use Rattle.ft_trace.specs.declared.Act.TheVariants.{ReadBlock}
-use Rattle.ft_trace.specs.Words.{root_in}
+use Rattle.ft_trace.specs.Pictures.{root_in}
 use Rattle.ft_bank.specs.Passes.{shape_of, view}
-use Rattle.ft_bank.proofs.Whole.{loaded_by, loaded_held}
+use Rattle.ft_bank.proofs.KnownAfterWrites.{loaded_by, loaded_held}
 use Rattle.ft_list.proofs.Lists.{content_of, list_rooted, may_loaded, items_loaded}
 use Rattle.ft_list.proofs.locked.table_of.Goals as goal
 

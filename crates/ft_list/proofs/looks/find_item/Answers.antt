@@ -4,8 +4,8 @@ use Rattle.ft_trace.specs.declared.Act.TheVariants.{ReadRoot}
 use Rattle.ft_trace.specs.Acts.{announces}
 use Rattle.ft_bank.specs.Passes.{shape_of, view}
 use Rattle.ft_bank.specs.Whole.{OnlyLoaded}
-use Rattle.ft_list.specs.Looks.{ShowsFound}
-use Rattle.ft_list.proofs.Looking.{found_in, falls}
+use Rattle.ft_list.specs.ItemLooks.{ShowsFound}
+use Rattle.ft_list.proofs.LookRounds.{found_in, falls}
 use Rattle.ft_search.proofs.Running.{did_trans, did_log}
 use Rattle.ft_search.proofs.Rounding.{looks_inner, looks_append, looks_load, looks_announce}
 use Rattle.ft_list.proofs.looks.find_item.Goals as goal

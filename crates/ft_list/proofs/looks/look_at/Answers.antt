@@ -3,23 +3,23 @@ use Rattle.ft_trace.specs.declared.Act.TheVariants.{ReadRoot}
 use Rattle.ft_trace.specs.Acts.{announces}
 use Rattle.ft_bank.specs.Passes.{shape_of}
 use Rattle.ft_bank.specs.Series.{DidAll}
-use Rattle.ft_bank.specs.Tables.{name_of}
+use Rattle.ft_bank.specs.TableNames.{name_of}
 use Rattle.ft_search.proofs.Running.{did_trans, did_log}
-use Rattle.ft_list.specs.Looks.{seen_acts}
-use Rattle.ft_list.proofs.Looking.{item_closes, item_stops, fresh_root}
+use Rattle.ft_list.specs.ItemLooks.{item_acts}
+use Rattle.ft_list.proofs.LookRounds.{item_closes, item_stops, fresh_root}
 use Rattle.ft_list.proofs.looks.look_at.Goals as goal
 use Rattle.ft_list.proofs.looks.look_at.Goals.{then-seen-via-then-seen, then-seen-via-else-seen+then-seen-ne0}
 
 pub read_root-again-requires-clause-online : goal.read_root-again-requires-clause-online
 read_root-again-requires-clause-online c =
-    let part = seen_acts (name_of c.args.table) c.args.index c.see_item-seen.result in
+    let part = item_acts (name_of c.args.table) c.args.index c.see_item-seen.result in
     subst (λ (z : ℕ). 0 < z) (sym (ap announces (did_log part c.args.pass.now c.see_item-seen.new.pass c.see_item-seen.ensures.did))) c.requires.online
 
 pub returns-then-again-root-clause-ended : goal.returns-then-again-root-clause-ended
 returns-then-again-root-clause-ended c =
     let a = c.args in
     let t = name_of a.table in
-    let part = seen_acts t a.index c.see_item-seen.result in
+    let part = item_acts t a.index c.see_item-seen.result in
     let r = c.read_root-again in
     let did = c.see_item-seen.ensures.did in
     let ne : r.result ≢ suc t = λ e. c.if-again-root.true (e ∙ sym c.requires.root) in
@@ -36,7 +36,7 @@ returns-then-seen-clause-ended c =
     let a = c.args in
     let t = name_of a.table in
     let seen = c.see_item-seen.result in
-    let part = seen_acts t a.index seen in
+    let part = item_acts t a.index seen in
     let r = c.read_root-again in
     let same : r.result ≡ suc t = c.if-again-root.false ∙ c.requires.root in
     let why : (seen.opened % 2 ≢ 0) ⊎ (seen.closed ≢ seen.opened) = elim c.then-seen.branch [ then-seen-via-then-seen w ↦ inr w.if-seen.true | then-seen-via-else-seen+then-seen-ne0 w ↦ inl w.if-seen-ne0.true ] in (
@@ -51,7 +51,7 @@ returns-clause-ended c =
     let a = c.args in
     let t = name_of a.table in
     let seen = c.see_item-seen.result in
-    let part = seen_acts t a.index seen in
+    let part = item_acts t a.index seen in
     let r = c.read_root-again in
     let same : r.result ≡ suc t = c.if-again-root.false ∙ c.requires.root in (
       part,

@@ -5,7 +5,7 @@ use Rattle.ft_trace.specs.declared.Act.{Act}
 use Rattle.ft_trace.specs.declared.Act.TheVariants.{ReadRoot}
 use Rattle.ft_bank.specs.Passes.{shape_of}
 use Rattle.ft_search.proofs.Rounding.{bare_moved, bare_acts, bare_did, bare_stops}
-use Rattle.ft_list.proofs.Looking.{bare_past}
+use Rattle.ft_list.proofs.LookRounds.{bare_past}
 use Rattle.ft_list.proofs.looks.look_bare.Goals as goal
 use Rattle.ft_list.proofs.looks.look_bare.Goals.{then-closed-opened-via-then-closed-opened, then-closed-opened-via-else-closed-opened+then-opened-ne0}
 

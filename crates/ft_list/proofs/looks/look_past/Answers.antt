@@ -3,9 +3,9 @@ use Rattle.ft_trace.specs.declared.Act.{Act}
 use Rattle.ft_trace.specs.declared.Act.TheVariants.{ReadRoot, ReadCounter}
 use Rattle.ft_bank.specs.Passes.{shape_of}
 use Rattle.ft_bank.specs.Series.{DidAll}
-use Rattle.ft_bank.specs.Tables.{name_of}
+use Rattle.ft_bank.specs.TableNames.{name_of}
 use Rattle.ft_search.proofs.Running.{did_trans}
-use Rattle.ft_list.proofs.Looking.{past_closes, fresh_root}
+use Rattle.ft_list.proofs.LookRounds.{past_closes, fresh_root}
 use Rattle.ft_list.proofs.looks.look_past.Goals as goal
 
 pub returns-then-again-root-clause-ended : goal.returns-then-again-root-clause-ended

@@ -1,9 +1,9 @@
 use Rattle.std.proofs.Common.{ℕ, ◌∷◌, ap, ◌∙◌, sym, subst, arith}
 use Rattle.ft_trace.specs.declared.Act.TheVariants.{ReadRoot}
 use Rattle.ft_bank.specs.Passes.{shape_of}
-use Rattle.ft_bank.specs.Tables.{name_of}
-use Rattle.ft_list.specs.Looks.{EndsRound}
-use Rattle.ft_list.proofs.Looking.{at_table, slots_are}
+use Rattle.ft_bank.specs.TableNames.{name_of}
+use Rattle.ft_list.specs.ItemLooks.{EndsItemRound}
+use Rattle.ft_list.proofs.LookRounds.{at_table, slots_are}
 use Rattle.ft_list.proofs.looks.look_round.Goals as goal
 
 pub list_items-requires : goal.list_items-requires
@@ -36,14 +36,14 @@ look_bare-requires-clause-last c =
 
 pub returns-in-None-clause-ended : goal.returns-in-None-clause-ended
 returns-in-None-clause-ended c =
-    subst (λ (z : ℕ). EndsRound (shape_of c.args.bank.now) c.args.o c.args.index z c.args.pass.now c.look_bare.new.pass c.look_bare.result)
+    subst (λ (z : ℕ). EndsItemRound (shape_of c.args.bank.now) c.args.o c.args.index z c.args.pass.now c.look_bare.new.pass c.look_bare.result)
     (sym c.in-None.ensures.none) (c.look_bare.ensures.ended c.args.index)
 
 pub returns-then-index-list_items-clause-ended : goal.returns-then-index-list_items-clause-ended
 returns-then-index-list_items-clause-ended c =
     let t = name_of c.in-Some.table in
     let is = c.in-Some.ensures.named in
-    subst (λ (z : ℕ). EndsRound (shape_of c.args.bank.now) c.args.o c.args.index z c.args.pass.now c.look_at.new.pass c.look_at.result) (sym is)
+    subst (λ (z : ℕ). EndsItemRound (shape_of c.args.bank.now) c.args.o c.args.index z c.args.pass.now c.look_at.new.pass c.look_at.result) (sym is)
     (at_table (shape_of c.args.bank.now) c.args.o c.args.index t c.args.pass.now c.look_at.new.pass c.look_at.result c.requires.last.0
     (c.requires.last.1 ∙ ap (λ (z : ℕ). ReadRoot c.args.o z ∷ c.requires.last.0) is) c.look_at.ensures.ended)
 
@@ -51,6 +51,6 @@ pub returns-else-index-list_items-clause-ended : goal.returns-else-index-list_it
 returns-else-index-list_items-clause-ended c =
     let t = name_of c.in-Some.table in
     let is = c.in-Some.ensures.named in
-    subst (λ (z : ℕ). EndsRound (shape_of c.args.bank.now) c.args.o c.args.index z c.args.pass.now c.look_past.new.pass c.look_past.result) (sym is)
+    subst (λ (z : ℕ). EndsItemRound (shape_of c.args.bank.now) c.args.o c.args.index z c.args.pass.now c.look_past.new.pass c.look_past.result) (sym is)
     (at_table (shape_of c.args.bank.now) c.args.o c.args.index t c.args.pass.now c.look_past.new.pass c.look_past.result c.requires.last.0
     (c.requires.last.1 ∙ ap (λ (z : ℕ). ReadRoot c.args.o z ∷ c.requires.last.0) is) c.look_past.ensures.ended)

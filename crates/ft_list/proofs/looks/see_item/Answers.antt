@@ -1,5 +1,5 @@
-use Rattle.ft_bank.specs.Tables.{name_of}
-use Rattle.ft_list.proofs.Looking.{seen_did}
+use Rattle.ft_bank.specs.TableNames.{name_of}
+use Rattle.ft_list.proofs.LookRounds.{seen_did}
 use Rattle.ft_list.proofs.looks.see_item.Goals as goal
 
 pub returns-clause-did : goal.returns-clause-did

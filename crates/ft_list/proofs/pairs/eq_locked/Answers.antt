@@ -7,7 +7,7 @@ use Rattle.ft_bank.specs.Passes.{shape_of, view}
 use Rattle.ft_search.proofs.Running.{did_log}
 use Rattle.ft_list.specs.Pairs.{AreOfItems}
 use Rattle.ft_list.proofs.Both.{both_loaded, both_hold, eq_replied, eq_plain}
-use Rattle.ft_list.proofs.Trying.{read_shown, read_made}
+use Rattle.ft_list.proofs.ListMidst.{read_shown, read_made}
 use Rattle.ft_list.proofs.pairs.eq_locked.Goals as goal
 
 pub answer_held-requires-clause-shown : goal.answer_held-requires-clause-shown

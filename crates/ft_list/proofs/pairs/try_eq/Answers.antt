@@ -5,8 +5,8 @@ use Rattle.ft_bank.specs.Passes.{shape_of, view}
 use Rattle.ft_section.specs.declared.answers.Objects.TheVariants.{Two}
 use Rattle.ft_list.proofs.Both.{has_each, are_in}
 use Rattle.ft_search.proofs.Calling.{making_made}
-use Rattle.ft_list.proofs.Trying.{may_write}
-use Rattle.ft_section.proofs.Tries.{let_gone}
+use Rattle.ft_list.proofs.ListMidst.{may_write}
+use Rattle.ft_section.proofs.TriedSections.{let_gone}
 use Rattle.ft_list.proofs.pairs.try_eq.Goals as goal
 
 pub take_for-requires-clause-containers : goal.take_for-requires-clause-containers

@@ -3,11 +3,11 @@ use Rattle.std.specs.Prelude.{slice_index, slice_index_or}
 use Rattle.ft_model.specs.Worlds.{list_of}
 use Rattle.ft_model.specs.declared.data.Value.TheVariants as value
 use Rattle.ft_bank.specs.Passes.{shape_of}
-use Rattle.ft_bank.specs.Tables.{name_of}
-use Rattle.ft_list.specs.Indexes.{IsValueIn, IsItemAt}
+use Rattle.ft_bank.specs.TableNames.{name_of}
+use Rattle.ft_list.specs.Indexes.{IsItemValue, IsItemAt}
 use Rattle.ft_list.proofs.Cares.{table_class}
 use Rattle.ft_list.proofs.Indexes.{reads_map, reads_then, reads_block, item_says, no_items}
-use Rattle.ft_list.proofs.Looking.{slots_are}
+use Rattle.ft_list.proofs.LookRounds.{slots_are}
 use Rattle.ft_list.proofs.reads.read_item.Goals as goal
 
 pub read_value-requires-clause-place : goal.read_value-requires-clause-place
@@ -31,11 +31,11 @@ returns-then-place-list_items-clause-reads c =
     let p = a.pass.now in
     let q = c.read_block-root.new.pass in
     let r = c.read_value.new.pass in
-    reads_map k a.l (λ x. (root ≡ slice_index x.block 0) × IsValueIn t a.place found x) (IsItemAt k a.place found) p r
+    reads_map k a.l (λ x. (root ≡ slice_index x.block 0) × IsItemValue t a.place found x) (IsItemAt k a.place found) p r
     (λ x both kept is stands low.
     let names = sym both.0 ∙ c.in-Some.ensures.named in
     both.1 names (slice_index_or (list_of kept.content) a.place value.Nothing) ((item_says k.texts x kept t (table_class k table is_in) is stands names).1 a.place low))
-    (reads_then k a.l (λ x. root ≡ slice_index x.block 0) (IsValueIn t a.place found) p q r (reads_block k a.l 0 root p q (omega arith) e.did e.held) c.read_value.ensures.reads)
+    (reads_then k a.l (λ x. root ≡ slice_index x.block 0) (IsItemValue t a.place found) p q r (reads_block k a.l 0 root p q (omega arith) e.did e.held) c.read_value.ensures.reads)
 
 pub returns-else-place-list_items-clause-reads : goal.returns-else-place-list_items-clause-reads
 returns-else-place-list_items-clause-reads c =

@@ -6,12 +6,12 @@ use Rattle.ft_layout.specs.Words.{IsStored}
 use Rattle.ft_trace.specs.declared.Act.TheVariants.{ReadTable}
 use Rattle.ft_trace.specs.Addresses.{class_of, size}
 use Rattle.ft_trace.specs.Holds.{held}
-use Rattle.ft_trace.specs.Words.{root_in, item_at}
+use Rattle.ft_trace.specs.Pictures.{root_in, item_offset}
 use Rattle.ft_bank.specs.Passes.{shape_of, view}
 use Rattle.ft_bank.specs.Series.{DidAll}
-use Rattle.ft_bank.specs.Tables.{name_of}
-use Rattle.ft_bank.proofs.Tables.{named}
-use Rattle.ft_list.specs.Indexes.{Reads, IsValueIn}
+use Rattle.ft_bank.specs.TableNames.{name_of}
+use Rattle.ft_bank.proofs.TableAddresses.{named}
+use Rattle.ft_list.specs.Indexes.{Reads, IsItemValue}
 use Rattle.ft_list.proofs.Cares.{few_slots, inside}
 use Rattle.ft_list.proofs.Indexes.{reads_map, reads_then, reads_table}
 use Rattle.ft_list.proofs.reads.read_value.Goals as goal
@@ -46,15 +46,15 @@ returns-in-Some-clause-reads c =
     let r = c.read_table-payload.new.pass in
     let kind = c.read_table-kind.result in
     let payload = c.read_table-payload.result in
-    let one = item_at a.place 1 in
-    let two = item_at a.place 2 in
+    let one = item_offset a.place 1 in
+    let two = item_offset a.place 2 in
     let first : Reads k a.l (λ x. root_in x ≡ suc t → kind ≡ slice_index x.table one) p q = reads_table k a.l t one kind p q (named k a.table c.requires.table) (inside k a.table c.requires.table a.place 1 c.requires.place (omega arith))
     (subst (λ (z : ℕ). DidAll (ReadTable t z kind ∷ []) p q) c.word_at.ensures c.read_table-kind.ensures.did)
     (λ o low mine names. c.read_table-kind.ensures.held o low mine names ∙ ap (slice_index (held o (view p)).table) c.word_at.ensures) in
     let second : Reads k a.l (λ x. root_in x ≡ suc t → payload ≡ slice_index x.table two) q r = reads_table k a.l t two payload q r (named k a.table c.requires.table) (inside k a.table c.requires.table a.place 2 c.requires.place (omega arith))
     (subst (λ (z : ℕ). DidAll (ReadTable t z payload ∷ []) q r) c.word_at-2.ensures c.read_table-payload.ensures.did)
     (λ o low mine names. c.read_table-payload.ensures.held o low mine names ∙ ap (slice_index (held o (view q)).table) c.word_at-2.ensures) in
-    reads_map k a.l (λ x. (root_in x ≡ suc t → kind ≡ slice_index x.table one) × (root_in x ≡ suc t → payload ≡ slice_index x.table two)) (IsValueIn t a.place c.in-Some.found) p r
+    reads_map k a.l (λ x. (root_in x ≡ suc t → kind ≡ slice_index x.table one) × (root_in x ≡ suc t → payload ≡ slice_index x.table two)) (IsItemValue t a.place c.in-Some.found) p r
     (λ x both names value stored.
     let read : IsStored kind payload (Plain value) = subst (λ (z : ℕ × ℕ). IsStored z.0 z.1 (Plain value)) (λ d. (sym (both.0 names) d, sym (both.1 names) d)) stored in
     let here : Some c.in-Some.found ≡ Some (Some value) = sym c.in-Some.is ∙ (c.found_of.ensures.value value).0 read in
@@ -72,15 +72,15 @@ returns-in-None-clause-reads c =
     let r = c.read_table-payload.new.pass in
     let kind = c.read_table-kind.result in
     let payload = c.read_table-payload.result in
-    let one = item_at a.place 1 in
-    let two = item_at a.place 2 in
+    let one = item_offset a.place 1 in
+    let two = item_offset a.place 2 in
     let first : Reads k a.l (λ x. root_in x ≡ suc t → kind ≡ slice_index x.table one) p q = reads_table k a.l t one kind p q (named k a.table c.requires.table) (inside k a.table c.requires.table a.place 1 c.requires.place (omega arith))
     (subst (λ (z : ℕ). DidAll (ReadTable t z kind ∷ []) p q) c.word_at.ensures c.read_table-kind.ensures.did)
     (λ o low mine names. c.read_table-kind.ensures.held o low mine names ∙ ap (slice_index (held o (view p)).table) c.word_at.ensures) in
     let second : Reads k a.l (λ x. root_in x ≡ suc t → payload ≡ slice_index x.table two) q r = reads_table k a.l t two payload q r (named k a.table c.requires.table) (inside k a.table c.requires.table a.place 2 c.requires.place (omega arith))
     (subst (λ (z : ℕ). DidAll (ReadTable t z payload ∷ []) q r) c.word_at-2.ensures c.read_table-payload.ensures.did)
     (λ o low mine names. c.read_table-payload.ensures.held o low mine names ∙ ap (slice_index (held o (view q)).table) c.word_at-2.ensures) in
-    reads_map k a.l (λ x. (root_in x ≡ suc t → kind ≡ slice_index x.table one) × (root_in x ≡ suc t → payload ≡ slice_index x.table two)) (IsValueIn t a.place None) p r
+    reads_map k a.l (λ x. (root_in x ≡ suc t → kind ≡ slice_index x.table one) × (root_in x ≡ suc t → payload ≡ slice_index x.table two)) (IsItemValue t a.place None) p r
     (λ x both names value stored.
     let read : IsStored kind payload (Plain value) = subst (λ (z : ℕ × ℕ). IsStored z.0 z.1 (Plain value)) (λ d. (sym (both.0 names) d, sym (both.1 names) d)) stored in
     absurd (none-some (Some value) (sym c.in-None.is ∙ (c.found_of.ensures.value value).0 read)))

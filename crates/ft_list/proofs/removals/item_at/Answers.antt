@@ -4,7 +4,7 @@ use Rattle.std.proofs.lemmas.Option.{none-some}
 use Rattle.ft_model.specs.declared.data.Value.TheVariants as value
 use Rattle.ft_bank.specs.Passes.{shape_of, view}
 use Rattle.ft_list.specs.Indexes.{IsItemAt}
-use Rattle.ft_list.specs.Items.{items_of}
+use Rattle.ft_list.specs.ListItemWrites.{known_items}
 use Rattle.ft_list.proofs.Indexes.{reads_loaded}
 use Rattle.ft_list.proofs.Scanning.{item_held}
 use Rattle.ft_list.proofs.removals.item_at.Goals as goal
@@ -13,7 +13,7 @@ pub unreachable-requires : goal.unreachable-requires
 unreachable-requires c =
     let a = c.args in
     let k = shape_of a.bank.now in
-    none-some (slice_index_or (items_of a.l (view a.pass.now)) a.place value.Nothing)
+    none-some (slice_index_or (known_items a.l (view a.pass.now)) a.place value.Nothing)
     (sym c.in-None.is ∙ item_held k a.l a.place c.read_item.result a.pass.now c.read_item.new.pass c.read_item.ensures.reads c.requires.pass.1 c.requires.may c.requires.place)
 
 pub returns-clause-stack : goal.returns-clause-stack
@@ -30,5 +30,5 @@ returns-clause-item c =
     let a = c.args in
     let k = shape_of a.bank.now in
     let here = sym c.in-Some.is ∙ item_held k a.l a.place c.read_item.result a.pass.now c.read_item.new.pass c.read_item.ensures.reads c.requires.pass.1 c.requires.may c.requires.place in
-    let same : c.in-Some.item ≡ slice_index_or (items_of a.l (view a.pass.now)) a.place value.Nothing = cc in
+    let same : c.in-Some.item ≡ slice_index_or (known_items a.l (view a.pass.now)) a.place value.Nothing = cc in
     same

@@ -17,13 +17,13 @@ use Rattle.ft_trace.specs.declared.Act.TheVariants.{ReadBlock}
 use Rattle.ft_trace.specs.declared.Shape.{Shape}
 use Rattle.ft_trace.specs.Addresses.{containers_in}
 use Rattle.ft_bank.specs.Passes.{shape_of, view}
-use Rattle.ft_bank.proofs.Whole.{loaded_then}
-use Rattle.ft_list.specs.Calls.{Changes}
-use Rattle.ft_list.specs.Items.{items_of}
-use Rattle.ft_list.proofs.CallFacts.{pop_changes}
+use Rattle.ft_bank.proofs.KnownAfterWrites.{loaded_then}
+use Rattle.ft_list.specs.ListWrites.{Changes}
+use Rattle.ft_list.specs.ListItemWrites.{known_items}
+use Rattle.ft_list.proofs.ListCallFacts.{pop_changes}
 use Rattle.ft_list.proofs.Lists.{content_of, items_loaded, may_loaded}
 use Rattle.ft_list.proofs.Raising.{pop_raises}
-use Rattle.ft_list.proofs.Trying.{wrote_as, raised_as}
+use Rattle.ft_list.proofs.ListMidst.{wrote_as, raised_as}
 use Rattle.ft_list.proofs.removals.pop_locked.Goals as goal
 
 pub returns-in-Some-clause-made : goal.returns-in-Some-clause-made
@@ -40,8 +40,8 @@ returns-in-Some-clause-made c =
     let may = may_loaded k a.l t y f.only e.may in
     let z = unwrap_or a.index (negsuc 0) in
     let index : to_z w64 (of_z w64 c.unwrap_or.result) ≡ z = to_z-of_z {w = w64} {z = c.unwrap_or.result} (sfits_lit (subst T (sym (lt-ltb (mag c.unwrap_or.result) (2 ^ 63) c.unwrap_or.type_inv)) tt)) ∙ c.unwrap_or.ensures in
-    let values = items_of a.l y in
-    let same : values ≡ items_of a.l t = items_loaded a.l t y f.only in
+    let values = known_items a.l y in
+    let same : values ≡ known_items a.l t = items_loaded a.l t y f.only in
     let long : c.count_of-count.result ≡ length values = c.count_of-count.ensures.count ∙ sym (ap length (same ∙ (e.items ∙ c.count_of-count.ensures.items))) in
     let means : index_in (length values) z ≡ Some c.in-Some.place = sym (λ d. index_in (long d) (index d)) ∙ (sym c.place_in.ensures.answer ∙ c.in-Some.is) in
     let low : a.l < containers_in y.shape = subst (λ (s : Shape). a.l < containers_in s) (sym f.pass.1) may.container in
@@ -61,7 +61,7 @@ returns-in-None-clause-made c =
     let e = c.count_of-count.ensures in
     let z = unwrap_or a.index (negsuc 0) in
     let index : to_z w64 (of_z w64 c.unwrap_or.result) ≡ z = to_z-of_z {w = w64} {z = c.unwrap_or.result} (sfits_lit (subst T (sym (lt-ltb (mag c.unwrap_or.result) (2 ^ 63) c.unwrap_or.type_inv)) tt)) ∙ c.unwrap_or.ensures in
-    let values = items_of a.l u in
+    let values = known_items a.l u in
     let long : c.count_of-count.result ≡ length values = e.count ∙ sym (ap length e.items) in
     let none : index_in (length values) z ≡ None = sym (λ d. index_in (long d) (index d)) ∙ (sym c.place_in.ensures.answer ∙ c.in-None.is) in
     raised_as k a.l (list.Pop a.index) (reply.Raised raise.NoIndex) v u (view c.raise-stamp.new.pass) e.pass.1 c.count_of-count.new.pass.possible e.may e.only c.raise-stamp.result (ReadBlock a.l 1 e.log.0 ∷ []) e.log.1

@@ -9,14 +9,14 @@ use Rattle.ft_model.specs.Lists.{index_of}
 use Rattle.ft_trace.specs.declared.Shape.{Shape}
 use Rattle.ft_trace.specs.Addresses.{containers_in}
 use Rattle.ft_bank.specs.Passes.{shape_of, view}
-use Rattle.ft_bank.proofs.Whole.{loaded_then}
-use Rattle.ft_list.specs.Items.{items_of}
-use Rattle.ft_list.proofs.CallFacts.{remove_changes}
+use Rattle.ft_bank.proofs.KnownAfterWrites.{loaded_then}
+use Rattle.ft_list.specs.ListItemWrites.{known_items}
+use Rattle.ft_list.proofs.ListCallFacts.{remove_changes}
 use Rattle.ft_list.proofs.Lists.{content_of, items_loaded}
 use Rattle.ft_list.proofs.Raising.{remove_raises}
 use Rattle.ft_list.proofs.Scanning.{items_hold, scan_loaded, scan_may, scan_log}
-use Rattle.ft_list.proofs.Trying.{wrote_as, raised_as}
-use Rattle.ft_list.proofs.Values.{first_low}
+use Rattle.ft_list.proofs.ListMidst.{wrote_as, raised_as}
+use Rattle.ft_list.proofs.ValueLists.{first_low}
 use Rattle.ft_list.proofs.removals.remove_locked.Goals as goal
 
 pub table_of-table-requires-clause-may : goal.table_of-table-requires-clause-may
@@ -33,7 +33,7 @@ table_of-table-requires-clause-some c none =
     let q = c.first_equal.new.pass in
     let r = c.first_equal.ensures.reads in
     let is = items_hold k a.l (λ items. c.first_equal.result ≡ index_of items a.value) p q r c.requires.pass.1 c.requires.may in
-    let low = first_low (items_of a.l (view p)) a.value c.in-Some.place (sym is ∙ c.in-Some.is) in
+    let low = first_low (known_items a.l (view p)) a.value c.in-Some.place (sym is ∙ c.in-Some.is) in
     let same = items_loaded a.l (view p) (view q) (scan_loaded k a.l (λ items. c.first_equal.result ≡ index_of items a.value) p q r c.requires.pass.1 c.requires.may) in
     let long = ap length same in
     omega (arith, low, none, long)
@@ -50,8 +50,8 @@ remove_item-number-requires-clause-place c =
     let loaded = scan_loaded k a.l (λ items. found ≡ index_of items a.value) p q r c.requires.pass.1 c.requires.may in
     let n = view c.count_of-count.new.pass in
     let e = c.count_of-count.ensures in
-    let values = items_of a.l n in
-    let items : values ≡ items_of a.l (view p) = e.items ∙ (c.table_of-table.ensures.items ∙ items_loaded a.l (view p) (view q) loaded) in
+    let values = known_items a.l n in
+    let items : values ≡ known_items a.l (view p) = e.items ∙ (c.table_of-table.ensures.items ∙ items_loaded a.l (view p) (view q) loaded) in
     let means : index_of values a.value ≡ Some c.in-Some.place = ap (λ (l : List Value). index_of l a.value) items ∙ (sym is ∙ c.in-Some.is) in
     let low : a.l < containers_in n.shape = subst (λ (z : Shape). a.l < containers_in z) (sym e.pass.1) e.may.container in
     let inside = first_low values a.value c.in-Some.place means in
@@ -70,8 +70,8 @@ remove_item-number-requires-clause-call c =
     let loaded = scan_loaded k a.l (λ items. found ≡ index_of items a.value) p q r c.requires.pass.1 c.requires.may in
     let n = view c.count_of-count.new.pass in
     let e = c.count_of-count.ensures in
-    let values = items_of a.l n in
-    let items : values ≡ items_of a.l (view p) = e.items ∙ (c.table_of-table.ensures.items ∙ items_loaded a.l (view p) (view q) loaded) in
+    let values = known_items a.l n in
+    let items : values ≡ known_items a.l (view p) = e.items ∙ (c.table_of-table.ensures.items ∙ items_loaded a.l (view p) (view q) loaded) in
     let means : index_of values a.value ≡ Some c.in-Some.place = ap (λ (l : List Value). index_of l a.value) items ∙ (sym is ∙ c.in-Some.is) in
     let low : a.l < containers_in n.shape = subst (λ (z : Shape). a.l < containers_in z) (sym e.pass.1) e.may.container in
     (list.Remove a.value, refl, remove_changes a.l a.value values c.in-Some.place n low e.may.locked (content_of k a.l n e.pass.1 c.count_of-count.new.pass.possible e.may) c.value_fits.ensures means)
@@ -92,8 +92,8 @@ raise-stamp-requires-clause-call c =
     let found = c.first_equal.result in
     let is = items_hold k a.l (λ items. found ≡ index_of items a.value) p q r c.requires.pass.1 c.requires.may in
     let loaded = scan_loaded k a.l (λ items. found ≡ index_of items a.value) p q r c.requires.pass.1 c.requires.may in
-    let none : index_of (items_of a.l (view q)) a.value ≡ None = ap (λ (l : List Value). index_of l a.value) (items_loaded a.l (view p) (view q) loaded) ∙ (sym is ∙ c.in-None.is) in
-    (list.Remove a.value, refl, remove_raises a.l a.value (items_of a.l (view q)) none)
+    let none : index_of (known_items a.l (view q)) a.value ≡ None = ap (λ (l : List Value). index_of l a.value) (items_loaded a.l (view p) (view q) loaded) ∙ (sym is ∙ c.in-None.is) in
+    (list.Remove a.value, refl, remove_raises a.l a.value (known_items a.l (view q)) none)
 
 pub returns-in-Some-clause-made : goal.returns-in-Some-clause-made
 returns-in-Some-clause-made c =
@@ -107,8 +107,8 @@ returns-in-Some-clause-made c =
     let loaded = scan_loaded k a.l (λ items. found ≡ index_of items a.value) p q r c.requires.pass.1 c.requires.may in
     let n = view c.count_of-count.new.pass in
     let e = c.count_of-count.ensures in
-    let values = items_of a.l n in
-    let items : values ≡ items_of a.l (view p) = e.items ∙ (c.table_of-table.ensures.items ∙ items_loaded a.l (view p) (view q) loaded) in
+    let values = known_items a.l n in
+    let items : values ≡ known_items a.l (view p) = e.items ∙ (c.table_of-table.ensures.items ∙ items_loaded a.l (view p) (view q) loaded) in
     let means : index_of values a.value ≡ Some c.in-Some.place = ap (λ (l : List Value). index_of l a.value) items ∙ (sym is ∙ c.in-Some.is) in
     let low : a.l < containers_in n.shape = subst (λ (z : Shape). a.l < containers_in z) (sym e.pass.1) e.may.container in
     let only = loaded_then (view p) (view q) n loaded (loaded_then (view q) (view c.table_of-table.new.pass) n c.table_of-table.ensures.only e.only) in
@@ -137,9 +137,9 @@ returns-in-None-clause-made c =
     let found = c.first_equal.result in
     let is = items_hold k a.l (λ items. found ≡ index_of items a.value) p q r c.requires.pass.1 c.requires.may in
     let loaded = scan_loaded k a.l (λ items. found ≡ index_of items a.value) p q r c.requires.pass.1 c.requires.may in
-    let none : index_of (items_of a.l (view q)) a.value ≡ None = ap (λ (l : List Value). index_of l a.value) (items_loaded a.l (view p) (view q) loaded) ∙ (sym is ∙ c.in-None.is) in
+    let none : index_of (known_items a.l (view q)) a.value ≡ None = ap (λ (l : List Value). index_of l a.value) (items_loaded a.l (view p) (view q) loaded) ∙ (sym is ∙ c.in-None.is) in
     raised_as k a.l (list.Remove a.value) (reply.Raised raise.NoValue) (view p) (view q) (view c.raise-stamp.new.pass) c.first_equal.ensures.pass.1 q.possible (scan_may k a.l (λ items. found ≡ index_of items a.value) p q r c.requires.pass.1 c.requires.may) loaded
-    c.raise-stamp.result r.0 (scan_log k a.l (λ items. found ≡ index_of items a.value) p q r c.requires.pass.1 c.requires.may) (remove_raises a.l a.value (items_of a.l (view q)) none) c.raise-stamp.ensures.wrote c.raise-stamp.ensures.answered
+    c.raise-stamp.result r.0 (scan_log k a.l (λ items. found ≡ index_of items a.value) p q r c.requires.pass.1 c.requires.may) (remove_raises a.l a.value (known_items a.l (view q)) none) c.raise-stamp.ensures.wrote c.raise-stamp.ensures.answered
 
 pub returns-in-None-clause-done : goal.returns-in-None-clause-done
 returns-in-None-clause-done c place some =

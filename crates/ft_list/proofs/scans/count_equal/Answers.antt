@@ -8,7 +8,7 @@ use Rattle.ft_bank.specs.Passes.{shape_of}
 use Rattle.ft_list.proofs.Equal.{item_is, item_differs}
 use Rattle.ft_list.proofs.Indexes.{reads_block}
 use Rattle.ft_list.proofs.Scanning.{EqualYet, counted, one_more, so_of_items}
-use Rattle.ft_list.proofs.Values.{count_yes, count_no}
+use Rattle.ft_list.proofs.ValueLists.{count_yes, count_no}
 use Rattle.ft_list.proofs.scans.count_equal.Goals as goal
 use Rattle.ft_list.proofs.scans.count_equal.Goals.{then-eq, else-eq}
 

@@ -6,10 +6,10 @@ use Rattle.ft_model.specs.Lists.{count_of}
 use Rattle.ft_trace.specs.declared.Shape.{Shape}
 use Rattle.ft_trace.specs.Addresses.{containers_in}
 use Rattle.ft_bank.specs.Passes.{shape_of, view}
-use Rattle.ft_search.specs.Calls.{IsReplyTo}
+use Rattle.ft_search.specs.MadeCalls.{IsReplyTo}
 use Rattle.ft_list.proofs.Lists.{content_of}
 use Rattle.ft_list.proofs.Scanning.{items_hold, scan_loaded, scan_log, count_replied, count_plain}
-use Rattle.ft_list.proofs.Trying.{read_shown, read_made}
+use Rattle.ft_list.proofs.ListMidst.{read_shown, read_made}
 use Rattle.ft_list.proofs.searches.count_locked.Goals as goal
 
 pub answer_held-requires-clause-shown : goal.answer_held-requires-clause-shown

@@ -10,10 +10,10 @@ use Rattle.ft_trace.specs.Acts.{noted}
 use Rattle.ft_trace.specs.Addresses.{containers_in}
 use Rattle.ft_bank.specs.Passes.{shape_of, view}
 use Rattle.ft_bank.specs.Reads.{IsShown}
-use Rattle.ft_search.specs.Calls.{IsReplyTo}
+use Rattle.ft_search.specs.MadeCalls.{IsReplyTo}
 use Rattle.ft_list.proofs.Lists.{content_of}
 use Rattle.ft_list.proofs.Scanning.{items_hold, scan_loaded, scan_log, has_replied, has_plain}
-use Rattle.ft_list.proofs.Trying.{read_shown, read_made}
+use Rattle.ft_list.proofs.ListMidst.{read_shown, read_made}
 use Rattle.ft_list.proofs.searches.has_locked.Goals as goal
 
 pub answer_held-requires-clause-shown : goal.answer_held-requires-clause-shown

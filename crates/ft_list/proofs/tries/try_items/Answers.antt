@@ -4,8 +4,8 @@ use Rattle.ft_model.specs.declared.call.ListCall.TheVariants as list
 use Rattle.ft_bank.specs.Passes.{view}
 use Rattle.ft_section.specs.declared.answers.Objects.TheVariants.{One}
 use Rattle.ft_list.specs.Copies.{IsCopied}
-use Rattle.ft_list.proofs.Trying.{may_write, making_copied}
-use Rattle.ft_section.proofs.Tries.{let_gone}
+use Rattle.ft_list.proofs.ListMidst.{may_write, making_copied}
+use Rattle.ft_section.proofs.TriedSections.{let_gone}
 use Rattle.ft_list.proofs.tries.try_items.Goals as goal
 
 pub items_locked-copied-requires-clause-pass : goal.items_locked-copied-requires-clause-pass
@@ -44,8 +44,8 @@ returns-in-Err-clause-made c = record {
   after = view c.items_locked-copied.new.pass;
   took = c.in-Have.ensures.locked;
   within = c.in-Have.ensures.within;
-  loaded = (subst (λ r. IsCopied (call.List c.args.l list.Items) (view c.take_for.new.pass) (view c.items_locked-copied.new.pass) r) c.in-Err.is (c.items_locked-copied.ensures.copied)).0;
-  takes = (subst (λ r. IsCopied (call.List c.args.l list.Items) (view c.take_for.new.pass) (view c.items_locked-copied.new.pass) r) c.in-Err.is (c.items_locked-copied.ensures.copied)).1;
+  locks = c.in-Have.ensures.has.0;
+  did = subst (λ r. IsCopied (call.List c.args.l list.Items) (view c.take_for.new.pass) (view c.items_locked-copied.new.pass) r) c.in-Err.is (c.items_locked-copied.ensures.copied);
   gone = c.let_go.ensures.locked;
   owners = c.let_go.ensures.owners;
 }

@@ -4,8 +4,8 @@ use Rattle.ft_model.specs.declared.call.ListCall.TheVariants as list
 use Rattle.ft_bank.specs.Passes.{view}
 use Rattle.ft_section.specs.declared.answers.Objects.TheVariants.{One}
 use Rattle.ft_search.proofs.Calling.{making_made}
-use Rattle.ft_list.proofs.Trying.{may_write}
-use Rattle.ft_section.proofs.Tries.{let_gone}
+use Rattle.ft_list.proofs.ListMidst.{may_write}
+use Rattle.ft_section.proofs.TriedSections.{let_gone}
 use Rattle.ft_list.proofs.tries.try_reverse.Goals as goal
 
 pub reverse_locked-reply-requires-clause-pass : goal.reverse_locked-reply-requires-clause-pass

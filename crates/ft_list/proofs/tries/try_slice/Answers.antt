@@ -7,8 +7,8 @@ use Rattle.ft_model.specs.declared.call.ListCall.TheVariants as list
 use Rattle.ft_bank.specs.Passes.{view}
 use Rattle.ft_section.specs.declared.answers.Objects.TheVariants.{One}
 use Rattle.ft_list.specs.Copies.{IsCopied}
-use Rattle.ft_list.proofs.Trying.{may_write, making_copied}
-use Rattle.ft_section.proofs.Tries.{let_gone}
+use Rattle.ft_list.proofs.ListMidst.{may_write, making_copied}
+use Rattle.ft_section.proofs.TriedSections.{let_gone}
 use Rattle.ft_list.proofs.tries.try_slice.Goals as goal
 
 pub slice_locked-copied-requires-clause-pass : goal.slice_locked-copied-requires-clause-pass
@@ -47,8 +47,8 @@ returns-in-Err-clause-made c = record {
   after = view c.slice_locked-copied.new.pass;
   took = c.in-Have.ensures.locked;
   within = c.in-Have.ensures.within;
-  loaded = (subst (λ r. IsCopied (call.List c.args.l (list.Slice c.args.start c.args.end)) (view c.take_for.new.pass) (view c.slice_locked-copied.new.pass) r) c.in-Err.is (subst (λ (i : ℤ × ℤ). IsCopied (call.List c.args.l (list.Slice i.0 i.1)) (view c.take_for.new.pass) (view c.slice_locked-copied.new.pass) c.slice_locked-copied.result) (λ d. (to_z-of_z {w = w64} {z = c.args.start} c.ranges.start d, to_z-of_z {w = w64} {z = c.args.end} c.ranges.end d)) c.slice_locked-copied.ensures.copied)).0;
-  takes = (subst (λ r. IsCopied (call.List c.args.l (list.Slice c.args.start c.args.end)) (view c.take_for.new.pass) (view c.slice_locked-copied.new.pass) r) c.in-Err.is (subst (λ (i : ℤ × ℤ). IsCopied (call.List c.args.l (list.Slice i.0 i.1)) (view c.take_for.new.pass) (view c.slice_locked-copied.new.pass) c.slice_locked-copied.result) (λ d. (to_z-of_z {w = w64} {z = c.args.start} c.ranges.start d, to_z-of_z {w = w64} {z = c.args.end} c.ranges.end d)) c.slice_locked-copied.ensures.copied)).1;
+  locks = c.in-Have.ensures.has.0;
+  did = subst (λ r. IsCopied (call.List c.args.l (list.Slice c.args.start c.args.end)) (view c.take_for.new.pass) (view c.slice_locked-copied.new.pass) r) c.in-Err.is (subst (λ (i : ℤ × ℤ). IsCopied (call.List c.args.l (list.Slice i.0 i.1)) (view c.take_for.new.pass) (view c.slice_locked-copied.new.pass) c.slice_locked-copied.result) (λ d. (to_z-of_z {w = w64} {z = c.args.start} c.ranges.start d, to_z-of_z {w = w64} {z = c.args.end} c.ranges.end d)) c.slice_locked-copied.ensures.copied);
   gone = c.let_go.ensures.locked;
   owners = c.let_go.ensures.owners;
 }

@@ -5,12 +5,12 @@ use Rattle.ft_layout.specs.Containers.{IsBlock}
 use Rattle.ft_trace.specs.Addresses.{class_of}
 use Rattle.ft_trace.specs.Holds.{held}
 use Rattle.ft_bank.specs.Passes.{shape_of, view}
-use Rattle.ft_bank.specs.Tables.{name_of}
-use Rattle.ft_list.specs.Items.{items_of, IsChanging}
+use Rattle.ft_bank.specs.TableNames.{name_of}
+use Rattle.ft_list.specs.ListItemWrites.{known_items, IsChanging}
 use Rattle.ft_list.specs.Reversing.{IsTurning}
 use Rattle.ft_list.proofs.Cares.{table_class}
 use Rattle.ft_list.proofs.Turned.{turning_ends}
-use Rattle.ft_list.proofs.Whole.{finishing, list_wrote, root_wrote}
+use Rattle.ft_list.proofs.WholeListWrites.{finishing, list_wrote, root_wrote}
 use Rattle.ft_list.proofs.turning.reverse_items.Goals as goal
 
 pub turn-requires-clause-count : goal.turn-requires-clause-count
@@ -28,7 +28,7 @@ finish-requires-clause-may c =
     let u = view c.turn.new.pass in
     let b = c.begin.ensures in
     let e = c.turn.ensures in
-    let values = items_of a.o v in
+    let values = known_items a.o v in
     let news = reverse values in
     let class = class_of (name_of a.table) in
     let is_class = table_class k a.table c.requires.table.table_in in

@@ -8,16 +8,16 @@ use Rattle.ft_trace.specs.declared.Shape.{Shape}
 use Rattle.ft_trace.specs.declared.View.{View}
 use Rattle.ft_trace.specs.Addresses.{containers_in}
 use Rattle.ft_trace.specs.Holds.{held, known}
-use Rattle.ft_trace.specs.Words.{root_in}
+use Rattle.ft_trace.specs.Pictures.{root_in}
 use Rattle.ft_bank.specs.Passes.{shape_of, view}
-use Rattle.ft_bank.proofs.Whole.{loaded_by, loaded_then, loaded_held}
-use Rattle.ft_list.specs.Calls.{Changes}
-use Rattle.ft_list.specs.Items.{items_of}
-use Rattle.ft_list.proofs.CallFacts.{reverse_changes}
+use Rattle.ft_bank.proofs.KnownAfterWrites.{loaded_by, loaded_then, loaded_held}
+use Rattle.ft_list.specs.ListWrites.{Changes}
+use Rattle.ft_list.specs.ListItemWrites.{known_items}
+use Rattle.ft_list.proofs.ListCallFacts.{reverse_changes}
 use Rattle.ft_list.proofs.Indexes.{no_items}
 use Rattle.ft_list.proofs.Lists.{content_of, items_loaded, may_loaded}
-use Rattle.ft_list.proofs.Nothing.{leaves_same}
-use Rattle.ft_list.proofs.Trying.{wrote_as}
+use Rattle.ft_list.proofs.EmptyWrites.{leaves_same}
+use Rattle.ft_list.proofs.ListMidst.{wrote_as}
 use Rattle.ft_list.proofs.Turned.{reversed_none}
 use Rattle.ft_list.proofs.turning.reverse_locked.Goals as goal
 
@@ -34,7 +34,7 @@ reverse_items-number-requires-clause-may c =
     let only = loaded_by (ReadBlock a.l 0 root) u t tt f.did.1 in
     let may = may_loaded k a.l u t only e.may in
     let shape = ap (λ (z : View). z.shape) f.did.1 ∙ e.pass.1 in
-    let values = items_of a.l t in
+    let values = known_items a.l t in
     let low : a.l < containers_in t.shape = subst (λ (s : Shape). a.l < containers_in s) (sym shape) may.container in
     let is_list = content_of k a.l t shape c.read_block-root.new.pass.possible may in
     let turned = reverse_changes a.l values t low may.locked is_list in
@@ -53,7 +53,7 @@ reverse_items-number-requires-clause-table c =
     let only = loaded_by (ReadBlock a.l 0 root) u t tt f.did.1 in
     let may = may_loaded k a.l u t only e.may in
     let shape = ap (λ (z : View). z.shape) f.did.1 ∙ e.pass.1 in
-    let values = items_of a.l t in
+    let values = known_items a.l t in
     let low : a.l < containers_in t.shape = subst (λ (s : Shape). a.l < containers_in s) (sym shape) may.container in
     let is_list = content_of k a.l t shape c.read_block-root.new.pass.possible may in
     let turned = reverse_changes a.l values t low may.locked is_list in
@@ -75,7 +75,7 @@ reverse_items-number-requires-clause-count c =
     let only = loaded_by (ReadBlock a.l 0 root) u t tt f.did.1 in
     let may = may_loaded k a.l u t only e.may in
     let shape = ap (λ (z : View). z.shape) f.did.1 ∙ e.pass.1 in
-    let values = items_of a.l t in
+    let values = known_items a.l t in
     let low : a.l < containers_in t.shape = subst (λ (s : Shape). a.l < containers_in s) (sym shape) may.container in
     let is_list = content_of k a.l t shape c.read_block-root.new.pass.possible may in
     let turned = reverse_changes a.l values t low may.locked is_list in
@@ -94,7 +94,7 @@ reverse_items-number-requires-clause-call c =
     let only = loaded_by (ReadBlock a.l 0 root) u t tt f.did.1 in
     let may = may_loaded k a.l u t only e.may in
     let shape = ap (λ (z : View). z.shape) f.did.1 ∙ e.pass.1 in
-    let values = items_of a.l t in
+    let values = known_items a.l t in
     let low : a.l < containers_in t.shape = subst (λ (s : Shape). a.l < containers_in s) (sym shape) may.container in
     let is_list = content_of k a.l t shape c.read_block-root.new.pass.possible may in
     let turned = reverse_changes a.l values t low may.locked is_list in
@@ -113,7 +113,7 @@ write_nothing-number-requires-clause-may c =
     let only = loaded_by (ReadBlock a.l 0 root) u t tt f.did.1 in
     let may = may_loaded k a.l u t only e.may in
     let shape = ap (λ (z : View). z.shape) f.did.1 ∙ e.pass.1 in
-    let values = items_of a.l t in
+    let values = known_items a.l t in
     let low : a.l < containers_in t.shape = subst (λ (s : Shape). a.l < containers_in s) (sym shape) may.container in
     let is_list = content_of k a.l t shape c.read_block-root.new.pass.possible may in
     let turned = reverse_changes a.l values t low may.locked is_list in
@@ -132,7 +132,7 @@ write_nothing-number-requires-clause-bare c =
     let only = loaded_by (ReadBlock a.l 0 root) u t tt f.did.1 in
     let may = may_loaded k a.l u t only e.may in
     let shape = ap (λ (z : View). z.shape) f.did.1 ∙ e.pass.1 in
-    let values = items_of a.l t in
+    let values = known_items a.l t in
     let low : a.l < containers_in t.shape = subst (λ (s : Shape). a.l < containers_in s) (sym shape) may.container in
     let is_list = content_of k a.l t shape c.read_block-root.new.pass.possible may in
     let turned = reverse_changes a.l values t low may.locked is_list in
@@ -154,7 +154,7 @@ write_nothing-number-requires-clause-leaves c =
     let only = loaded_by (ReadBlock a.l 0 root) u t tt f.did.1 in
     let may = may_loaded k a.l u t only e.may in
     let shape = ap (λ (z : View). z.shape) f.did.1 ∙ e.pass.1 in
-    let values = items_of a.l t in
+    let values = known_items a.l t in
     let low : a.l < containers_in t.shape = subst (λ (s : Shape). a.l < containers_in s) (sym shape) may.container in
     let is_list = content_of k a.l t shape c.read_block-root.new.pass.possible may in
     let turned = reverse_changes a.l values t low may.locked is_list in
@@ -176,7 +176,7 @@ returns-in-Some-clause-made c =
     let only = loaded_by (ReadBlock a.l 0 root) u t tt f.did.1 in
     let may = may_loaded k a.l u t only e.may in
     let shape = ap (λ (z : View). z.shape) f.did.1 ∙ e.pass.1 in
-    let values = items_of a.l t in
+    let values = known_items a.l t in
     let low : a.l < containers_in t.shape = subst (λ (s : Shape). a.l < containers_in s) (sym shape) may.container in
     let is_list = content_of k a.l t shape c.read_block-root.new.pass.possible may in
     let turned = reverse_changes a.l values t low may.locked is_list in
@@ -196,7 +196,7 @@ returns-in-None-clause-made c =
     let only = loaded_by (ReadBlock a.l 0 root) u t tt f.did.1 in
     let may = may_loaded k a.l u t only e.may in
     let shape = ap (λ (z : View). z.shape) f.did.1 ∙ e.pass.1 in
-    let values = items_of a.l t in
+    let values = known_items a.l t in
     let low : a.l < containers_in t.shape = subst (λ (s : Shape). a.l < containers_in s) (sym shape) may.container in
     let is_list = content_of k a.l t shape c.read_block-root.new.pass.possible may in
     let turned = reverse_changes a.l values t low may.locked is_list in

@@ -1,11 +1,11 @@
 use Rattle.std.proofs.Common.{◌≡◌, ◌-◌, sym, ◌∙◌, subst, arith}
 use Rattle.ft_layout.specs.Words.{IsStored}
 use Rattle.ft_trace.specs.Addresses.{class_of}
-use Rattle.ft_trace.specs.Words.{Picture, item_of}
+use Rattle.ft_trace.specs.Pictures.{Picture, item_field}
 use Rattle.ft_trace.specs.Holds.{held}
 use Rattle.ft_bank.specs.Passes.{shape_of, view}
-use Rattle.ft_bank.specs.Tables.{name_of}
-use Rattle.ft_list.specs.Items.{PutsItem, stored_at}
+use Rattle.ft_bank.specs.TableNames.{name_of}
+use Rattle.ft_list.specs.ListItemWrites.{PutsItem, stored_item}
 use Rattle.ft_list.proofs.Cares.{table_class}
 use Rattle.ft_list.proofs.Turned.{turning_finds, turning_next}
 use Rattle.ft_list.proofs.turning.swap.Goals as goal
@@ -24,9 +24,9 @@ returns-clause-turned c values long turning =
     let n = held a.o (view c.put_item-2.new.pass) in
     let e = c.item-early.ensures in
     let f = c.item-late.ensures in
-    let early : c.item-early.result ≡ stored_at values a.at = e.stored (stored_at values a.at) (turning_finds class is_class values a.at a.at v.table turning (omega arith) (omega (arith, places, long)) (omega (arith, places))) in
-    let late : c.item-late.result ≡ stored_at values last = f.stored (stored_at values last)
-    (subst (λ (w : Picture). IsStored (item_of w.table last 1) (item_of w.table last 2) (stored_at values last)) (sym e.held)
+    let early : c.item-early.result ≡ stored_item values a.at = e.stored (stored_item values a.at) (turning_finds class is_class values a.at a.at v.table turning (omega arith) (omega (arith, places, long)) (omega (arith, places))) in
+    let late : c.item-late.result ≡ stored_item values last = f.stored (stored_item values last)
+    (subst (λ (w : Picture). IsStored (item_field w.table last 1) (item_field w.table last 2) (stored_item values last)) (sym e.held)
     (turning_finds class is_class values a.at last v.table turning (omega (arith, places)) (omega (arith, places, long)) (omega (arith, places)))) in
     turning_next class is_class values a.at last places.0 (omega (arith, places, long)) c.item-early.result c.item-late.result early late e.fits f.fits v m n turning
     (subst (λ (w : Picture). PutsItem a.at c.item-late.result w m) (f.held ∙ e.held) c.put_item.ensures.puts)

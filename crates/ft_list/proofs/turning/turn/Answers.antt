@@ -2,9 +2,9 @@ use Rattle.std.proofs.Common.{◌≡◌, ℕ, ◌/◌, refl, sym, ◌∙◌, sub
 use Rattle.ft_trace.specs.Addresses.{class_of}
 use Rattle.ft_trace.specs.Holds.{held}
 use Rattle.ft_bank.specs.Passes.{shape_of, view}
-use Rattle.ft_bank.specs.Tables.{name_of}
-use Rattle.ft_bank.proofs.Whole.{put_same, put_then}
-use Rattle.ft_list.specs.Items.{IsPutting, stored_at}
+use Rattle.ft_bank.specs.TableNames.{name_of}
+use Rattle.ft_bank.proofs.KnownAfterWrites.{put_same, put_then}
+use Rattle.ft_list.specs.ListItemWrites.{IsPutting, stored_item}
 use Rattle.ft_list.specs.Reversing.{IsTurning}
 use Rattle.ft_list.proofs.Cares.{table_class}
 use Rattle.ft_list.proofs.Turned.{turning_starts}
@@ -23,7 +23,7 @@ loop-at-init c =
       only = put_same v a.o;
       block = refl;
       turning = λ values long putting. turning_starts class (table_class (shape_of a.bank.now) a.table c.requires.list.table_in) values (held a.o v).table
-          (subst (λ (n : ℕ). IsPutting class values 0 n (stored_at values) (held a.o v).table) (sym long) putting);
+          (subst (λ (n : ℕ). IsPutting class values 0 n (stored_item values) (held a.o v).table) (sym long) putting);
     }
 
 pub loop-at-preserved : goal.loop-at-preserved

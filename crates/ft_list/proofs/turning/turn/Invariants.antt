@@ -4,10 +4,10 @@ use Rattle.ft_trace.specs.Acts.{has_committed}
 use Rattle.ft_trace.specs.Addresses.{class_of}
 use Rattle.ft_trace.specs.Holds.{held}
 use Rattle.ft_bank.specs.Passes.{shape_of, view, IsPassOf}
-use Rattle.ft_bank.specs.Sections.{stack_of}
-use Rattle.ft_bank.specs.Tables.{name_of}
+use Rattle.ft_bank.specs.PassSections.{stack_of}
+use Rattle.ft_bank.specs.TableNames.{name_of}
 use Rattle.ft_bank.specs.Whole.{OnlyPut}
-use Rattle.ft_list.specs.Items.{WritesList, IsPutting, stored_at}
+use Rattle.ft_list.specs.ListItemWrites.{WritesList, IsPutting, stored_item}
 use Rattle.ft_list.specs.Reversing.{IsTurning}
 use Rattle.ft_list.proofs.turning.turn.Given as goal
 
@@ -21,6 +21,6 @@ invariant-loop-at l =
       only : OnlyPut l.o (view l.initial.pass) (view l.pass);
       block : (held l.o (view l.pass)).block ≡ (held l.o (view l.initial.pass)).block;
       turning : (values : List Value) → length values ≡ l.count
-          → IsPutting (class_of (name_of l.table)) values 0 l.count (stored_at values) (held l.o (view l.initial.pass)).table
+          → IsPutting (class_of (name_of l.table)) values 0 l.count (stored_item values) (held l.o (view l.initial.pass)).table
           → IsTurning (class_of (name_of l.table)) values l.at (held l.o (view l.pass)).table;
     }

@@ -9,15 +9,15 @@ use Rattle.ft_trace.specs.Addresses.{class_of, slots}
 use Rattle.ft_trace.specs.Holds.{held, known}
 use Rattle.ft_trace.proofs.Cases.{miss}
 use Rattle.ft_bank.specs.Passes.{shape_of, view}
-use Rattle.ft_bank.specs.Tables.{name_of}
+use Rattle.ft_bank.specs.TableNames.{name_of}
 use Rattle.ft_bank.specs.Whole.{OnlyPut}
-use Rattle.ft_bank.proofs.Whole.{put_by, put_then}
-use Rattle.ft_list.specs.Items.{IsMoving, IsPutting, items_of, stored_at}
+use Rattle.ft_bank.proofs.KnownAfterWrites.{put_by, put_then}
+use Rattle.ft_list.specs.ListItemWrites.{IsMoving, IsPutting, known_items, stored_item}
 use Rattle.ft_list.specs.Internal.Additions.{count_in, first_in, with_added}
 use Rattle.ft_list.proofs.Cares.{table_class, writes_on}
 use Rattle.ft_list.proofs.Extending.{added_changing, added_head, added_long, added_on, addition_begun}
-use Rattle.ft_list.proofs.Finishing.{root_stays}
-use Rattle.ft_list.proofs.Whole.{finishing, list_wrote, root_wrote}
+use Rattle.ft_list.proofs.FinishedWrites.{root_stays}
+use Rattle.ft_list.proofs.WholeListWrites.{finishing, list_wrote, root_wrote}
 use Rattle.ft_list.proofs.writes.add_items.Goals as goal
 
 pub put_added-requires-clause-addition : goal.put_added-requires-clause-addition
@@ -31,15 +31,15 @@ put_added-requires-clause-addition c =
     a.count a.addition c.requires.addition
 
 pub put_added-requires-clause-count : goal.put_added-requires-clause-count
-put_added-requires-clause-count c = c.requires.count ∙ sym (ap (λ (z : View). length (items_of c.args.o z)) c.begin.ensures.did.1.1)
+put_added-requires-clause-count c = c.requires.count ∙ sym (ap (λ (z : View). length (known_items c.args.o z)) c.begin.ensures.did.1.1)
 
 pub put_added-requires-clause-before : goal.put_added-requires-clause-before
 put_added-requires-clause-before c =
     let a = c.args in
-    let items : items_of a.o (view c.begin.new.pass) ≡ items_of a.o (view a.pass.now) = ap (λ (z : View). items_of a.o z) c.begin.ensures.did.1.1 in
+    let items : known_items a.o (view c.begin.new.pass) ≡ known_items a.o (view a.pass.now) = ap (λ (z : View). known_items a.o z) c.begin.ensures.did.1.1 in
     let first = first_in a.addition a.count in
     let past = a.count + count_in a.addition in
-    subst (λ (l : List Value). IsPutting (class_of (name_of a.table)) l first past (stored_at l) (held a.o (view c.begin.new.pass)).table) (sym items) (c.begin.ensures.putting first past)
+    subst (λ (l : List Value). IsPutting (class_of (name_of a.table)) l first past (stored_item l) (held a.o (view c.begin.new.pass)).table) (sym items) (c.begin.ensures.putting first past)
 
 pub finish-requires-clause-may : goal.finish-requires-clause-may
 finish-requires-clause-may c =
@@ -51,7 +51,7 @@ finish-requires-clause-may c =
     let u = view c.put_block.new.pass in
     let b = c.begin.ensures in
     let e = c.put_added.ensures in
-    let values = items_of a.o v in
+    let values = known_items a.o v in
     let news = with_added a.addition v values in
     let class = class_of (name_of a.table) in
     let is_class = table_class k a.table c.requires.table.table_in in
@@ -59,8 +59,8 @@ finish-requires-clause-may c =
     let total = a.count + c.added_count.result in
     let first = c.first_place.result in
     let begun = b.did.1.1 in
-    let items : items_of a.o s ≡ values = ap (λ (z : View). items_of a.o z) begun in
-    let after : with_added a.addition s (items_of a.o s) ≡ news = ap (λ (l : List Value). with_added a.addition s l) items ∙ added_on a.addition v s (λ p. ap (λ (z : View). known p z) begun) values in
+    let items : known_items a.o s ≡ values = ap (λ (z : View). known_items a.o z) begun in
+    let after : with_added a.addition s (known_items a.o s) ≡ news = ap (λ (l : List Value). with_added a.addition s l) items ∙ added_on a.addition v s (λ p. ap (λ (z : View). known p z) begun) values in
     let moved : IsMoving class values news first total total (held a.o y).table =
     subst (λ (x : List Value × List Value × ℕ × ℕ). IsMoving class x.0 x.1 x.2 (a.count + x.3) (a.count + x.3) (held a.o y).table) (λ d. (items d, after d, sym c.first_place.ensures d, counted d)) e.moved in
     let long : length news ≡ total = added_long k a.count a.addition v values c.requires.addition c.requires.count ∙ ap (λ (n : ℕ). a.count + n) counted in

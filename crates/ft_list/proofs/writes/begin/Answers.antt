@@ -4,14 +4,14 @@ use Rattle.ft_layout.specs.Containers.{IsBlock}
 use Rattle.ft_trace.specs.declared.Shape.{Shape}
 use Rattle.ft_trace.specs.declared.View.{View}
 use Rattle.ft_trace.specs.Addresses.{containers_in, class_of}
-use Rattle.ft_trace.specs.Worlds.{kind_in}
+use Rattle.ft_trace.specs.ContainerStates.{kind_in}
 use Rattle.ft_trace.specs.Holds.{held}
 use Rattle.ft_bank.specs.Passes.{shape_of, view}
-use Rattle.ft_bank.specs.Tables.{name_of}
-use Rattle.ft_list.specs.Items.{IsPutting, items_of, stored_at}
+use Rattle.ft_bank.specs.TableNames.{name_of}
+use Rattle.ft_list.specs.ListItemWrites.{IsPutting, known_items, stored_item}
 use Rattle.ft_list.proofs.Cares.{table_class}
 use Rattle.ft_list.proofs.Lists.{list_content, list_known, list_shut}
-use Rattle.ft_list.proofs.Putting.{putting_starts, list_few}
+use Rattle.ft_list.proofs.ItemWordsPut.{putting_starts, list_few}
 use Rattle.ft_list.proofs.writes.begin.Goals as goal
 
 pub returns-clause-content : goal.returns-clause-content
@@ -35,7 +35,7 @@ returns-clause-head c =
     let is_kind : kind_in v.shape.kinds a.o ≡ kind.List = ap (λ (z : Shape). kind_in z.kinds a.o) c.requires.pass.1 ∙ c.requires.may.kind in
     let content = list_content v a.o a.pass.now.possible c.requires.may.locked is_kind in
     let words = (list_known (shape_of a.bank.now).texts v a.o (name_of a.table) content c.requires.may.stands c.requires.table.root).0 in
-    subst (λ (z : View). IsBlock (held a.o z).block (Some (class_of (name_of a.table))) (length (items_of a.o v)) 0 0) (sym c.start_write.ensures.1) words.head
+    subst (λ (z : View). IsBlock (held a.o z).block (Some (class_of (name_of a.table))) (length (known_items a.o v)) 0 0) (sym c.start_write.ensures.1) words.head
 
 pub returns-clause-putting : goal.returns-clause-putting
 returns-clause-putting c first past =
@@ -46,8 +46,8 @@ returns-clause-putting c first past =
     let low : a.o < containers_in v.shape = subst (λ (z : Shape). a.o < containers_in z) (sym c.requires.pass.1) c.requires.may.container in
     let content = list_content v a.o a.pass.now.possible c.requires.may.locked is_kind in
     let words = (list_known (shape_of a.bank.now).texts v a.o (name_of a.table) content c.requires.may.stands c.requires.table.root).0 in
-    subst (λ (z : View). IsPutting class (items_of a.o v) first past (stored_at (items_of a.o v)) (held a.o z).table) (sym c.start_write.ensures.1)
-    (putting_starts class (table_class (shape_of a.bank.now) a.table c.requires.table.table_in) (items_of a.o v) (held a.o v).table first past words.table
+    subst (λ (z : View). IsPutting class (known_items a.o v) first past (stored_item (known_items a.o v)) (held a.o z).table) (sym c.start_write.ensures.1)
+    (putting_starts class (table_class (shape_of a.bank.now) a.table c.requires.table.table_in) (known_items a.o v) (held a.o v).table first past words.table
     (list_shut v a.o (name_of a.table) a.pass.now.possible low c.requires.may.locked c.requires.may.even is_kind c.requires.table.root))
 
 pub returns-clause-few : goal.returns-clause-few
@@ -56,4 +56,4 @@ returns-clause-few c =
     let v = view a.pass.now in
     let is_kind : kind_in v.shape.kinds a.o ≡ kind.List = ap (λ (z : Shape). kind_in z.kinds a.o) c.requires.pass.1 ∙ c.requires.may.kind in
     let content = list_content v a.o a.pass.now.possible c.requires.may.locked is_kind in
-    list_few (class_of (name_of a.table)) (table_class (shape_of a.bank.now) a.table c.requires.table.table_in) (items_of a.o v) _ (list_known (shape_of a.bank.now).texts v a.o (name_of a.table) content c.requires.may.stands c.requires.table.root).0.table
+    list_few (class_of (name_of a.table)) (table_class (shape_of a.bank.now) a.table c.requires.table.table_in) (known_items a.o v) _ (list_known (shape_of a.bank.now).texts v a.o (name_of a.table) content c.requires.may.stands c.requires.table.root).0.table

@@ -5,21 +5,21 @@ use Rattle.ft_layout.specs.Containers.{IsBlock}
 use Rattle.ft_trace.specs.declared.Act.TheVariants.{PutBlock}
 use Rattle.ft_trace.specs.declared.View.{View}
 use Rattle.ft_trace.specs.Addresses.{class_of}
-use Rattle.ft_trace.specs.Words.{Picture}
+use Rattle.ft_trace.specs.Pictures.{Picture}
 use Rattle.ft_trace.specs.Holds.{held}
 use Rattle.ft_bank.specs.Passes.{shape_of, view}
-use Rattle.ft_bank.specs.Tables.{name_of}
+use Rattle.ft_bank.specs.TableNames.{name_of}
 use Rattle.ft_bank.specs.Whole.{OnlyPut}
-use Rattle.ft_bank.proofs.Whole.{put_by, put_then}
-use Rattle.ft_list.specs.Items.{IsMoving, items_of}
+use Rattle.ft_bank.proofs.KnownAfterWrites.{put_by, put_then}
+use Rattle.ft_list.specs.ListItemWrites.{IsMoving, known_items}
 use Rattle.ft_list.proofs.Cares.{table_class, writes_on}
-use Rattle.ft_list.proofs.Finishing.{with_count, root_stays}
-use Rattle.ft_list.proofs.Putting.{stored_none, moving_ends, long_remove}
-use Rattle.ft_list.proofs.Whole.{finishing, list_wrote, root_wrote}
+use Rattle.ft_list.proofs.FinishedWrites.{with_count, root_stays}
+use Rattle.ft_list.proofs.ItemWordsPut.{stored_none, moving_ends, long_remove}
+use Rattle.ft_list.proofs.WholeListWrites.{finishing, list_wrote, root_wrote}
 use Rattle.ft_list.proofs.writes.remove_item.Goals as goal
 
 pub shift_down-requires-clause-before : goal.shift_down-requires-clause-before
-shift_down-requires-clause-before c = (items_of c.args.o (view c.args.pass.now), sym c.requires.count, c.begin.ensures.putting c.args.place c.args.count)
+shift_down-requires-clause-before c = (known_items c.args.o (view c.args.pass.now), sym c.requires.count, c.begin.ensures.putting c.args.place c.args.count)
 
 pub finish-requires-clause-may : goal.finish-requires-clause-may
 finish-requires-clause-may c =
@@ -31,7 +31,7 @@ finish-requires-clause-may c =
     let u = view c.put_block.new.pass in
     let b = c.begin.ensures in
     let e = c.shift_down.ensures in
-    let values = items_of a.o v in
+    let values = known_items a.o v in
     let news = remove values a.place in
     let class = class_of (name_of a.table) in
     let is_class = table_class k a.table c.requires.table.table_in in

@@ -5,11 +5,11 @@ use Rattle.ft_layout.specs.Containers.{IsBlock}
 use Rattle.ft_trace.specs.Addresses.{class_of}
 use Rattle.ft_trace.specs.Holds.{held}
 use Rattle.ft_bank.specs.Passes.{shape_of, view}
-use Rattle.ft_bank.specs.Tables.{name_of}
-use Rattle.ft_list.specs.Items.{items_of, stored_at, but_at}
+use Rattle.ft_bank.specs.TableNames.{name_of}
+use Rattle.ft_list.specs.ListItemWrites.{known_items, stored_item, but_at}
 use Rattle.ft_list.proofs.Cares.{table_class}
-use Rattle.ft_list.proofs.Putting.{putting_put, putting_ends, stored_set}
-use Rattle.ft_list.proofs.Whole.{finishing, list_wrote, root_wrote}
+use Rattle.ft_list.proofs.ItemWordsPut.{putting_put, putting_ends, stored_set}
+use Rattle.ft_list.proofs.WholeListWrites.{finishing, list_wrote, root_wrote}
 use Rattle.ft_list.proofs.writes.set_item.Goals as goal
 
 pub put_item-requires-clause-place : goal.put_item-requires-clause-place
@@ -27,14 +27,14 @@ finish-requires-clause-may c =
     let u = view c.put_item.new.pass in
     let b = c.begin.ensures in
     let e = c.put_item.ensures in
-    let values = items_of a.o v in
+    let values = known_items a.o v in
     let news = slice_set values a.place a.value in
     let class = class_of (name_of a.table) in
     let is_class = table_class k a.table c.requires.table.table_in in
     let long : length news ≡ length values = length-set values a.place a.value in
     let few = b.few in
-    let putting = putting_put class is_class values a.place (a.place + 1) (stored_at values) (held a.o s) (held a.o u) a.place (Plain a.value) (b.putting a.place (a.place + 1)) e.puts c.requires.value (omega arith) (omega arith) in
-    let changing = putting_ends class is_class values news a.place (a.place + 1) (but_at (stored_at values) a.place (Plain a.value)) (held a.o u).table putting (omega (arith, long, few)) (λ p low. stored_set values a.place p a.value c.requires.place) in
+    let putting = putting_put class is_class values a.place (a.place + 1) (stored_item values) (held a.o s) (held a.o u) a.place (Plain a.value) (b.putting a.place (a.place + 1)) e.puts c.requires.value (omega arith) (omega arith) in
+    let changing = putting_ends class is_class values news a.place (a.place + 1) (but_at (stored_item values) a.place (Plain a.value)) (held a.o u).table putting (omega (arith, long, few)) (λ p low. stored_set values a.place p a.value c.requires.place) in
     let head = subst (λ (n : ℕ). IsBlock (held a.o u).block (Some class) n 0 0) (sym long) (subst (λ (l : List ℕ). IsBlock l (Some class) (length values) 0 0) (sym e.block) b.head) in
     let d = b.did in
     let call_is = c.requires.call in

@@ -1,14 +1,14 @@
 use Rattle.std.proofs.Common.{◌≡◌, ℕ, ◌+◌, refl, sym, ap, ◌∙◌, subst, arith}
 use Rattle.std.specs.List.{remove}
 use Rattle.ft_trace.specs.Addresses.{class_of}
-use Rattle.ft_trace.specs.Words.{Picture}
+use Rattle.ft_trace.specs.Pictures.{Picture}
 use Rattle.ft_trace.specs.Holds.{held}
 use Rattle.ft_bank.specs.Passes.{shape_of, view}
-use Rattle.ft_bank.specs.Tables.{name_of}
-use Rattle.ft_bank.proofs.Whole.{put_same, put_then, loaded_put}
-use Rattle.ft_list.specs.Items.{IsMoving, stored_at}
+use Rattle.ft_bank.specs.TableNames.{name_of}
+use Rattle.ft_bank.proofs.KnownAfterWrites.{put_same, put_then, loaded_put}
+use Rattle.ft_list.specs.ListItemWrites.{IsMoving, stored_item}
 use Rattle.ft_list.proofs.Cares.{table_class}
-use Rattle.ft_list.proofs.Putting.{stored_none, moving_starts, moving_further, moving_next, remove_low, remove_past}
+use Rattle.ft_list.proofs.ItemWordsPut.{stored_none, moving_starts, moving_further, moving_next, remove_low, remove_past}
 use Rattle.ft_list.proofs.writes.shift_down.Goals as goal
 
 pub loop-at-init : goal.loop-at-init
@@ -53,8 +53,8 @@ loop-at-preserved c =
       from = let n = i.from in omega (arith, n);
       moving = λ values long putting.
           let m = i.moving values long putting in
-          let is : c.item_or_none-next.result ≡ stored_at values (at + 1) =
-          f.stored (stored_at values (at + 1))
+          let is : c.item_or_none-next.result ≡ stored_item values (at + 1) =
+          f.stored (stored_item values (at + 1))
           (λ less. moving_further class is_class values (remove values a.place) a.place a.count at (at + 1) (held a.o x).table m (omega arith) (omega (arith, less, p)))
           (λ past. stored_none values (at + 1) (omega (arith, past, long))) in
           moving_next class is_class values (remove values a.place) a.place a.count at (held a.o y) (held a.o z) c.item_or_none-next.result

@@ -5,10 +5,10 @@ use Rattle.ft_trace.specs.Acts.{has_committed}
 use Rattle.ft_trace.specs.Addresses.{class_of}
 use Rattle.ft_trace.specs.Holds.{held}
 use Rattle.ft_bank.specs.Passes.{shape_of, view, IsPassOf}
-use Rattle.ft_bank.specs.Sections.{stack_of}
-use Rattle.ft_bank.specs.Tables.{name_of}
+use Rattle.ft_bank.specs.PassSections.{stack_of}
+use Rattle.ft_bank.specs.TableNames.{name_of}
 use Rattle.ft_bank.specs.Whole.{OnlyPut}
-use Rattle.ft_list.specs.Items.{WritesList, IsPutting, IsMoving, stored_at}
+use Rattle.ft_list.specs.ListItemWrites.{WritesList, IsPutting, IsMoving, stored_item}
 use Rattle.ft_list.proofs.writes.shift_down.Given as goal
 
 abbrev pub invariant-loop-at : goal.invariant-loop-at
@@ -22,6 +22,6 @@ invariant-loop-at l =
       block : (held l.o (view l.pass)).block ≡ (held l.o (view l.initial.pass)).block;
       from : l.place ≤ l.at;
       moving : (values : List Value) → length values ≡ l.count
-          → IsPutting (class_of (name_of l.table)) values l.place l.count (stored_at values) (held l.o (view l.initial.pass)).table
+          → IsPutting (class_of (name_of l.table)) values l.place l.count (stored_item values) (held l.o (view l.initial.pass)).table
           → IsMoving (class_of (name_of l.table)) values (remove values l.place) l.place l.count l.at (held l.o (view l.pass)).table;
     }

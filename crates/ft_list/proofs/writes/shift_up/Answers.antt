@@ -3,14 +3,14 @@ use Rattle.std.specs.List.{insert}
 use Rattle.ft_model.specs.declared.data.Value.{Value}
 use Rattle.ft_layout.specs.Words.{FitsStored, IsStored}
 use Rattle.ft_trace.specs.Addresses.{class_of, slots}
-use Rattle.ft_trace.specs.Words.{Picture, item_of}
+use Rattle.ft_trace.specs.Pictures.{Picture, item_field}
 use Rattle.ft_trace.specs.Holds.{held}
 use Rattle.ft_bank.specs.Passes.{shape_of, view}
-use Rattle.ft_bank.specs.Tables.{name_of}
-use Rattle.ft_bank.proofs.Whole.{put_same, put_then, loaded_put}
-use Rattle.ft_list.specs.Items.{IsPutting, IsMoving, stored_at}
+use Rattle.ft_bank.specs.TableNames.{name_of}
+use Rattle.ft_bank.proofs.KnownAfterWrites.{put_same, put_then, loaded_put}
+use Rattle.ft_list.specs.ListItemWrites.{IsPutting, IsMoving, stored_item}
 use Rattle.ft_list.proofs.Cares.{table_class, few_slots}
-use Rattle.ft_list.proofs.Putting.{moving_starts, moving_finds, moving_next, insert_low, insert_here, insert_past}
+use Rattle.ft_list.proofs.ItemWordsPut.{moving_starts, moving_finds, moving_next, insert_low, insert_here, insert_past}
 use Rattle.ft_list.proofs.writes.shift_up.Goals as goal
 
 pub overflow_add-at-end : goal.overflow_add-at-end
@@ -58,10 +58,10 @@ loop-at-preserved c =
     let p = c.requires.place in
     let low : at < slots class = omega (arith, test, p) in
     let b = c.requires.before in
-    let found : (values : List Value) → length values ≡ a.count → IsPutting class values a.place (a.count + 1) (stored_at values) (held a.o v).table → IsStored (item_of (held a.o x).table at 1) (item_of (held a.o x).table at 2) (stored_at values at) =
+    let found : (values : List Value) → length values ≡ a.count → IsPutting class values a.place (a.count + 1) (stored_item values) (held a.o v).table → IsStored (item_field (held a.o x).table at 1) (item_field (held a.o x).table at 2) (stored_item values at) =
     λ values long putting. moving_finds class is_class values (insert values a.place a.value) a.place (a.count + 1) at (held a.o x).table (i.moving values long putting).1 low in
-    let is : (values : List Value) → length values ≡ a.count → IsPutting class values a.place (a.count + 1) (stored_at values) (held a.o v).table → c.item-found.result ≡ stored_at values at =
-    λ values long putting. f.stored (stored_at values at) (found values long putting) in
+    let is : (values : List Value) → length values ≡ a.count → IsPutting class values a.place (a.count + 1) (stored_item values) (held a.o v).table → c.item-found.result ≡ stored_item values at =
+    λ values long putting. f.stored (stored_item values at) (found values long putting) in
     record {
       pass = e.pass;
       stack = e.stack ∙ (f.stack ∙ i.stack);

@@ -6,10 +6,10 @@ use Rattle.ft_trace.specs.Acts.{has_committed}
 use Rattle.ft_trace.specs.Addresses.{class_of}
 use Rattle.ft_trace.specs.Holds.{held}
 use Rattle.ft_bank.specs.Passes.{shape_of, view, IsPassOf}
-use Rattle.ft_bank.specs.Sections.{stack_of}
-use Rattle.ft_bank.specs.Tables.{name_of}
+use Rattle.ft_bank.specs.PassSections.{stack_of}
+use Rattle.ft_bank.specs.TableNames.{name_of}
 use Rattle.ft_bank.specs.Whole.{OnlyPut}
-use Rattle.ft_list.specs.Items.{WritesList, IsPutting, IsMoving, stored_at}
+use Rattle.ft_list.specs.ListItemWrites.{WritesList, IsPutting, IsMoving, stored_item}
 use Rattle.ft_list.proofs.writes.shift_up.Given as goal
 
 abbrev pub invariant-loop-at : goal.invariant-loop-at
@@ -24,7 +24,7 @@ invariant-loop-at l =
       from : l.place ≤ l.at;
       fits : FitsStored l.carried;
       moving : (values : List Value) → length values ≡ l.count
-          → IsPutting (class_of (name_of l.table)) values l.place (l.count + 1) (stored_at values) (held l.o (view l.initial.pass)).table
-          → (l.carried ≡ stored_at (insert values l.place l.fn.value) l.at)
+          → IsPutting (class_of (name_of l.table)) values l.place (l.count + 1) (stored_item values) (held l.o (view l.initial.pass)).table
+          → (l.carried ≡ stored_item (insert values l.place l.fn.value) l.at)
           × IsMoving (class_of (name_of l.table)) values (insert values l.place l.fn.value) l.place (l.count + 1) l.at (held l.o (view l.pass)).table;
     }

@@ -1,6 +1,6 @@
 use Rattle.std.proofs.Common.{refl, ◌∙◌}
 use Rattle.ft_bank.specs.Passes.{view}
-use Rattle.ft_bank.proofs.Whole.{put_same, put_then}
+use Rattle.ft_bank.proofs.KnownAfterWrites.{put_same, put_then}
 use Rattle.ft_merging.proofs.closing.close_all.Goals as goal
 
 pub loop-place-init : goal.loop-place-init

@@ -1,8 +1,8 @@
 use Rattle.std.proofs.Common.{◌≡◌}
 use Rattle.ft_bank.specs.Passes.{shape_of, view, IsPassOf}
-use Rattle.ft_bank.specs.Sections.{stack_of}
+use Rattle.ft_bank.specs.PassSections.{stack_of}
 use Rattle.ft_bank.specs.Whole.{OnlyPut}
-use Rattle.ft_merging.specs.Internal.Writing.{IsClosing}
+use Rattle.ft_merging.specs.Internal.EntriesAtOnce.{IsClosing}
 use Rattle.ft_merging.proofs.closing.close_all.Given as goal
 
 abbrev pub invariant-loop-place : goal.invariant-loop-place

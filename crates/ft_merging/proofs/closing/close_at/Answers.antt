@@ -1,11 +1,11 @@
 use Rattle.std.proofs.Common.{◌≡◌, ◌%◌, sym, ap, ◌∙◌, arith}
 use Rattle.ft_trace.specs.Holds.{held}
-use Rattle.ft_trace.specs.Words.{Picture}
+use Rattle.ft_trace.specs.Pictures.{Picture}
 use Rattle.ft_trace.proofs.DictWrites.{EntryVersionsChangeNothing}
 use Rattle.ft_bank.specs.Passes.{shape_of, view}
-use Rattle.ft_bank.specs.Tables.{name_of}
-use Rattle.ft_bank.proofs.Whole.{loaded_held}
-use Rattle.ft_merging.specs.Internal.Writing.{IsClosing, version_of}
+use Rattle.ft_bank.specs.TableNames.{name_of}
+use Rattle.ft_bank.proofs.KnownAfterWrites.{loaded_held}
+use Rattle.ft_merging.specs.Internal.EntriesAtOnce.{IsClosing, version_of}
 use Rattle.ft_merging.proofs.Ending.{Laws, closing_care, closing_loaded, closing_raised}
 use Rattle.ft_merging.proofs.closing.close_at.Goals as goal
 use Rattle.ft_merging.proofs.closing.close_at.Goals.{After-word_of-version}

@@ -7,13 +7,13 @@ use Rattle.ft_layout.specs.Tables.{UsedEntry, is_live}
 use Rattle.ft_keys.specs.Ways.{IsTableOf}
 use Rattle.ft_trace.specs.Addresses.{class_of}
 use Rattle.ft_trace.specs.Holds.{known}
-use Rattle.ft_trace.specs.Words.{Picture}
-use Rattle.ft_trace.specs.Worlds.{ContainerState}
+use Rattle.ft_trace.specs.Pictures.{Picture}
+use Rattle.ft_trace.specs.ContainerStates.{ContainerState}
 use Rattle.ft_bank.specs.Passes.{shape_of, view}
-use Rattle.ft_bank.specs.Tables.{name_of}
-use Rattle.ft_bank.proofs.Whole.{loaded_held, loaded_then, work_knows}
-use Rattle.ft_adding.specs.Growing.{holds}
-use Rattle.ft_merging.specs.Internal.Joining.{lacking}
+use Rattle.ft_bank.specs.TableNames.{name_of}
+use Rattle.ft_bank.proofs.KnownAfterWrites.{loaded_held, loaded_then, work_knows}
+use Rattle.ft_adding.specs.KeyGrowth.{holds}
+use Rattle.ft_merging.specs.Internal.JoiningSteps.{lacking}
 use Rattle.ft_merging.proofs.counting.count_new.Goals as goal
 use Rattle.ft_merging.proofs.counting.count_new.Goals.{After-is_new_at, then-is_new_at, else-is_new_at}
 

@@ -5,10 +5,10 @@ use Rattle.ft_keys.specs.Ways.{IsTableOf}
 use Rattle.ft_trace.specs.Addresses.{class_of}
 use Rattle.ft_trace.specs.Holds.{held, known}
 use Rattle.ft_bank.specs.Passes.{shape_of, view, IsPassOf}
-use Rattle.ft_bank.specs.Sections.{stack_of}
-use Rattle.ft_bank.specs.Tables.{name_of}
+use Rattle.ft_bank.specs.PassSections.{stack_of}
+use Rattle.ft_bank.specs.TableNames.{name_of}
 use Rattle.ft_bank.specs.Whole.{OnlyLoaded}
-use Rattle.ft_merging.specs.Internal.Joining.{lacking}
+use Rattle.ft_merging.specs.Internal.JoiningSteps.{lacking}
 use Rattle.ft_merging.proofs.counting.count_new.Given as goal
 
 abbrev pub invariant-loop-place : goal.invariant-loop-place

@@ -8,13 +8,13 @@ use Rattle.ft_keys.specs.Ways.{IsTableOf}
 use Rattle.ft_trace.specs.Addresses.{class_of, slots}
 use Rattle.ft_trace.specs.Holds.{held, known}
 use Rattle.ft_trace.specs.Kinds.{rows}
-use Rattle.ft_trace.specs.Words.{entry_of}
-use Rattle.ft_trace.specs.Worlds.{ContainerState}
+use Rattle.ft_trace.specs.Pictures.{entry_field}
+use Rattle.ft_trace.specs.ContainerStates.{ContainerState}
 use Rattle.ft_bank.specs.Passes.{shape_of, view}
-use Rattle.ft_bank.specs.Tables.{name_of}
-use Rattle.ft_bank.proofs.Whole.{loaded_then, work_knows}
-use Rattle.ft_adding.specs.Growing.{holds}
-use Rattle.ft_merging.specs.Internal.Joining.{pair_in}
+use Rattle.ft_bank.specs.TableNames.{name_of}
+use Rattle.ft_bank.proofs.KnownAfterWrites.{loaded_then, work_knows}
+use Rattle.ft_adding.specs.KeyGrowth.{holds}
+use Rattle.ft_merging.specs.Internal.JoiningSteps.{pair_in}
 use Rattle.ft_merging.proofs.JoinedPairs.{source_known}
 use Rattle.ft_merging.proofs.JoinedReads.{Source, entry_used, holds_at, holds_none, new_is, none_found, none_used, pair_used}
 use Rattle.ft_merging.proofs.counting.is_new_at.Goals as goal
@@ -65,22 +65,22 @@ seek_by-requires-clause-hash c =
     let low = c.requires.place in
     let k = shape_of a.bank.now in
     let entry = entry_used a.way k.texts k a.table (c.requires.other.table_in a.table refl) s.used (held a.t (view a.pass.now)).table s.table_is a.place any_entry (omega (arith, low, few)) in
-    (pair_used k.texts e c.pair_at.result (found at.After-pair_at s.used s.table_is s.filled any_entry) (entry_of (slots (class_of (name_of a.table))) (held a.t (view a.pass.now)).table a.place) entry c.in-Some.pair c.in-Some.is).2
+    (pair_used k.texts e c.pair_at.result (found at.After-pair_at s.used s.table_is s.filled any_entry) (entry_field (slots (class_of (name_of a.table))) (held a.t (view a.pass.now)).table a.place) entry c.in-Some.pair c.in-Some.is).2
 
 -- the pass knows the same of the container
 same : (c : After-seek_by) → known c.args.o (view c.seek_by.new.pass) ≡ known c.args.o (view c.args.pass.now)
 same c = work_knows (view c.args.pass.now) (view c.seek_by.new.pass) c.args.o (loaded_then (view c.args.pass.now) (view c.pair_at.new.pass) (view c.seek_by.new.pass) c.pair_at.ensures.only c.seek_by.ensures.keeps).work
 
 -- whether the entry has a new key, where it is known of the key
-told : (c : After-seek_by) (b : Bool) → holds (known c.args.o (view c.seek_by.new.pass)).content c.in-Some.pair.key ≡ b → (used : List UsedEntry) → IsTableOf c.args.way (shape_of c.args.bank.now).texts (class_mask (class_of (name_of c.args.table))) used (0 ∷ 0 ∷ (held c.args.t (view c.args.pass.now)).table) → length used ≡ (known c.args.t (view c.args.pass.now)).table.fill → (any : UsedEntry)
+stated : (c : After-seek_by) (b : Bool) → holds (known c.args.o (view c.seek_by.new.pass)).content c.in-Some.pair.key ≡ b → (used : List UsedEntry) → IsTableOf c.args.way (shape_of c.args.bank.now).texts (class_mask (class_of (name_of c.args.table))) used (0 ∷ 0 ∷ (held c.args.t (view c.args.pass.now)).table) → length used ≡ (known c.args.t (view c.args.pass.now)).table.fill → (any : UsedEntry)
     → c.pair_at.result ≡ pair_in (slot_of (shape_of c.args.bank.now).texts (slice_index_or used c.args.place any)) → not b ≡ (is_live (slice_index_or used c.args.place any) && not (holds (known c.args.o (view c.args.pass.now)).content (slice_index_or used c.args.place any).key))
-told c b has used says filled any is =
+stated c b has used says filled any is =
     let a = c.args in
     let k = shape_of a.bank.now in
     let low = c.requires.place in
     let e = slice_index_or used a.place any in
     let entry = entry_used a.way k.texts k a.table (c.requires.other.table_in a.table refl) used (held a.t (view a.pass.now)).table says a.place any (omega (arith, low, filled)) in
-    let p = pair_used k.texts e c.pair_at.result is (entry_of (slots (class_of (name_of a.table))) (held a.t (view a.pass.now)).table a.place) entry c.in-Some.pair c.in-Some.is in
+    let p = pair_used k.texts e c.pair_at.result is (entry_field (slots (class_of (name_of a.table))) (held a.t (view a.pass.now)).table a.place) entry c.in-Some.pair c.in-Some.is in
     new_is (known a.o (view a.pass.now)).content e c.in-Some.pair.key c.in-Some.pair.value b p.0 p.1 (sym (ap (λ (z : ContainerState). holds z.content c.in-Some.pair.key) (same c)) ∙ has)
 
 pub returns-in-At-clause-new : goal.returns-in-At-clause-new
@@ -89,16 +89,16 @@ returns-in-At-clause-new c used says filled any =
     let at = goal.at.returns-in-At-clause-new c in
     let s = c.in-At.ensures.spot in
     let e = c.seek_by.ensures in
-    told at.After-seek_by true
+    stated at.After-seek_by true
     (holds_at (shape_of a.bank.now) (view c.seek_by.new.pass) a.o _ c.in-Some.pair.key _ _ e.may s.0 e.key s.2)
     used says filled any (found at.After-pair_at used says filled any)
 
 pub returns-in-Free-clause-new : goal.returns-in-Free-clause-new
 returns-in-Free-clause-new c used says filled any =
     let at = goal.at.returns-in-Free-clause-new c in
-    told at.After-seek_by false (holds_none (known c.args.o (view c.seek_by.new.pass)).content c.in-Some.pair.key c.in-Free.ensures.spot.3) used says filled any (found at.After-pair_at used says filled any)
+    stated at.After-seek_by false (holds_none (known c.args.o (view c.seek_by.new.pass)).content c.in-Some.pair.key c.in-Free.ensures.spot.3) used says filled any (found at.After-pair_at used says filled any)
 
 pub returns-in-Bare-clause-new : goal.returns-in-Bare-clause-new
 returns-in-Bare-clause-new c used says filled any =
     let at = goal.at.returns-in-Bare-clause-new c in
-    told at.After-seek_by false (holds_none (known c.args.o (view c.seek_by.new.pass)).content c.in-Some.pair.key c.in-Bare.ensures.spot.1) used says filled any (found at.After-pair_at used says filled any)
+    stated at.After-seek_by false (holds_none (known c.args.o (view c.seek_by.new.pass)).content c.in-Some.pair.key c.in-Bare.ensures.spot.1) used says filled any (found at.After-pair_at used says filled any)

@@ -2,15 +2,15 @@ use Rattle.std.proofs.Common.{◌≡◌, ◌∷◌, Some, refl, sym, ap, ◌∙�
 use Rattle.ft_model.specs.Worlds.{kind_of, length_of}
 use Rattle.ft_trace.specs.Holds.{held, known}
 use Rattle.ft_trace.specs.Kinds.{IsKeyed}
-use Rattle.ft_trace.specs.Words.{Picture}
-use Rattle.ft_trace.specs.Worlds.{ContainerState}
+use Rattle.ft_trace.specs.Pictures.{Picture}
+use Rattle.ft_trace.specs.ContainerStates.{ContainerState}
 use Rattle.ft_bank.specs.Passes.{shape_of, view}
 use Rattle.ft_bank.specs.Whole.{OnlyLoaded}
-use Rattle.ft_bank.proofs.Whole.{loaded_held, loaded_then, work_knows}
+use Rattle.ft_bank.proofs.KnownAfterWrites.{loaded_held, loaded_then, work_knows}
 use Rattle.ft_search.specs.Rounds.{kind_by}
 use Rattle.ft_search.proofs.Changing.{kind_is}
 use Rattle.ft_search.proofs.Spotting.{may_loaded}
-use Rattle.ft_adding.specs.Growing.{KnowsKeyed}
+use Rattle.ft_adding.specs.KeyGrowth.{KnowsKeyed}
 use Rattle.ft_adding.specs.Placing.{AreCounts}
 use Rattle.ft_adding.proofs.Keyed.{counts_known}
 use Rattle.ft_adding.proofs.Present.{may_add}

@@ -4,15 +4,15 @@ use Rattle.ft_trace.specs.declared.View.{View}
 use Rattle.ft_trace.specs.Addresses.{class_of}
 use Rattle.ft_trace.specs.Holds.{known}
 use Rattle.ft_trace.specs.Kinds.{rows}
-use Rattle.ft_trace.specs.Worlds.{ContainerState, kind_in}
+use Rattle.ft_trace.specs.ContainerStates.{ContainerState, kind_in}
 use Rattle.ft_bank.specs.Passes.{shape_of, view}
-use Rattle.ft_bank.specs.Tables.{name_of}
-use Rattle.ft_bank.proofs.Tables.{class_is}
-use Rattle.ft_bank.proofs.Whole.{work_knows}
-use Rattle.ft_search.proofs.Endings.{whole_root, whole_write}
-use Rattle.ft_adding.proofs.Finishing.{since_start}
+use Rattle.ft_bank.specs.TableNames.{name_of}
+use Rattle.ft_bank.proofs.TableAddresses.{class_is}
+use Rattle.ft_bank.proofs.KnownAfterWrites.{work_knows}
+use Rattle.ft_search.proofs.ReadyCommits.{whole_root, whole_write}
+use Rattle.ft_adding.proofs.FinishedKeys.{since_start}
 use Rattle.ft_merging.specs.Joining.{joined}
-use Rattle.ft_merging.specs.Internal.Joining.{IsJoining}
+use Rattle.ft_merging.specs.Internal.JoiningSteps.{IsJoining}
 use Rattle.ft_merging.proofs.Joined.{joined_finishes}
 use Rattle.ft_merging.proofs.JoinedCalls.{few_rows, made_here}
 use Rattle.ft_merging.proofs.JoinedRoom.{stays_table}

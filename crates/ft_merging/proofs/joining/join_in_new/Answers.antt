@@ -1,26 +1,26 @@
 use Rattle.std.proofs.Common.{◌≡◌, ◌+◌, ◌^◌, ◌<◌, ◌≤◌, ℕ, false, Some, sym, ap, ◌∙◌, subst, arith}
 use Rattle.ft_model.specs.declared.reply.Reply.TheVariants as reply
 use Rattle.ft_model.specs.declared.script.Kind.{Kind}
-use Rattle.ft_model.specs.Tables.{passes_cap}
+use Rattle.ft_model.specs.TableUses.{passes_cap}
 use Rattle.ft_model.specs.Worlds.{kind_of, length_of, serial_of}
 use Rattle.ft_trace.specs.Addresses.{class_of}
 use Rattle.ft_trace.specs.Holds.{held, in_hand, known}
 use Rattle.ft_trace.specs.Kinds.{rows}
-use Rattle.ft_trace.specs.Words.{Picture, root_in}
-use Rattle.ft_trace.specs.Worlds.{ContainerState, kind_in}
+use Rattle.ft_trace.specs.Pictures.{Picture, root_in}
+use Rattle.ft_trace.specs.ContainerStates.{ContainerState, kind_in}
 use Rattle.ft_bank.specs.Passes.{shape_of, view}
-use Rattle.ft_bank.specs.Tables.{name_of}
-use Rattle.ft_bank.proofs.Whole.{put_then, work_knows}
+use Rattle.ft_bank.specs.TableNames.{name_of}
+use Rattle.ft_bank.proofs.KnownAfterWrites.{put_then, work_knows}
 use Rattle.ft_search.specs.Rounds.{kind_by}
 use Rattle.ft_search.proofs.Changing.{kind_is}
 use Rattle.ft_adding.specs.Fresh.{IsFilledWith}
-use Rattle.ft_adding.specs.Growing.{KnowsKeyed, MayGrow}
+use Rattle.ft_adding.specs.KeyGrowth.{KnowsKeyed, MayGrowKeyed}
 use Rattle.ft_adding.specs.Placing.{AreCounts}
-use Rattle.ft_adding.proofs.Finishing.{since_root}
+use Rattle.ft_adding.proofs.FinishedKeys.{since_root}
 use Rattle.ft_adding.proofs.Grown.{filled_has, grow_filled, grown_wrote, knows_filled, same_filled}
 use Rattle.ft_adding.proofs.Keyed.{counts_known}
 use Rattle.ft_merging.specs.Joining.{JoinsKeys, join_takes, joined, new_keys}
-use Rattle.ft_merging.specs.Internal.Joining.{IsJoining}
+use Rattle.ft_merging.specs.Internal.JoiningSteps.{IsJoining}
 use Rattle.ft_merging.proofs.Joined.{joined_finishes}
 use Rattle.ft_merging.proofs.JoinedCalls.{few_rows, joins_later, many_joined, new_room}
 use Rattle.ft_merging.proofs.JoinedNew.{new_begins, other_on}
@@ -76,7 +76,7 @@ overflow_add-end c =
 
 -- ---- after it
 
-grow : (c : After-fill) → MayGrow (shape_of c.args.bank.now) c.args.o c.args.old c.args.new (view c.fill.new.pass)
+grow : (c : After-fill) → MayGrowKeyed (shape_of c.args.bank.now) c.args.o c.args.old c.args.new (view c.fill.new.pass)
 grow c =
     let a = c.args in
     grow_filled (shape_of a.bank.now) a.o a.old a.new (view a.pass.now) (view c.fill.new.pass) c.requires.pass.1 c.fill.ensures.only c.requires.may

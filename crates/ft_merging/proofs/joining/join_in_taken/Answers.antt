@@ -2,16 +2,16 @@ use Rattle.std.proofs.Common.{◌≡◌, ◌≢◌, ℕ, suc, Some, refl, sym, a
 use Rattle.ft_model.specs.declared.reply.Reply.TheVariants as reply
 use Rattle.ft_trace.specs.Addresses.{class_of}
 use Rattle.ft_trace.specs.Holds.{held, known}
-use Rattle.ft_trace.specs.Words.{root_in}
-use Rattle.ft_trace.specs.Worlds.{changes}
+use Rattle.ft_trace.specs.Pictures.{root_in}
+use Rattle.ft_trace.specs.ContainerStates.{changes}
 use Rattle.ft_bank.specs.Passes.{shape_of, view}
-use Rattle.ft_bank.specs.Tables.{name_of, root_for}
-use Rattle.ft_bank.proofs.Tables.{class_is}
+use Rattle.ft_bank.specs.TableNames.{name_of, root_for}
+use Rattle.ft_bank.proofs.TableAddresses.{class_is}
 use Rattle.ft_bank.specs.Whole.{Wrote}
 use Rattle.ft_growth.specs.Adding.{Retires}
 use Rattle.ft_growth.proofs.Rooting.{taken_out}
 use Rattle.ft_section.specs.declared.answers.Stamp.{Stamp}
-use Rattle.ft_adding.specs.Growing.{MayGrow}
+use Rattle.ft_adding.specs.KeyGrowth.{MayGrowKeyed}
 use Rattle.ft_adding.proofs.Keyed.{fresh_other}
 use Rattle.ft_adding.proofs.Taken.{tried_has, tried_may, tried_words}
 use Rattle.ft_merging.specs.Joining.{join_takes}
@@ -31,7 +31,7 @@ other c =
     let e = c.in-Taken.ensures in
     (tried_words _ (view a.pass.now) (view c.take.new.pass) e.same e.keeps (shape_of a.bank.now) a.t (Some a.table) c.requires.pass.1 c.requires.other).1
 
-grow : (c : In-Taken) → MayGrow (shape_of c.args.bank.now) c.args.o c.args.old c.in-Taken.new (view c.take.new.pass)
+grow : (c : In-Taken) → MayGrowKeyed (shape_of c.args.bank.now) c.args.o c.args.old c.in-Taken.new (view c.take.new.pass)
 grow c =
     let a = c.args in
     let e = c.in-Taken.ensures in

@@ -1,14 +1,14 @@
 use Rattle.std.proofs.Common.{◌≡◌, ◌+◌, ◌<◌, ◌≤◌, ℕ, Bool, true, false, Option, sym, ◌∙◌, subst, arith}
 use Rattle.ft_model.specs.declared.content.Content.{Content}
 use Rattle.ft_model.specs.declared.reply.Reply.TheVariants as reply
-use Rattle.ft_model.specs.Tables.{passes_cap}
+use Rattle.ft_model.specs.TableUses.{passes_cap}
 use Rattle.ft_model.specs.Worlds.{kind_of, length_of}
 use Rattle.ft_growth.specs.Adding.{IsAdded}
 use Rattle.ft_trace.specs.Holds.{known}
 use Rattle.ft_bank.specs.Passes.{shape_of, view}
 use Rattle.ft_search.specs.Rounds.{kind_by}
 use Rattle.ft_search.proofs.Changing.{kind_is}
-use Rattle.ft_adding.specs.Growing.{keys_take, most_of, use_of}
+use Rattle.ft_adding.specs.KeyGrowth.{keys_take, most_of, use_of}
 use Rattle.ft_adding.proofs.Keyed.{counts_known, use_known}
 use Rattle.ft_merging.specs.Joining.{join_takes, joined}
 use Rattle.ft_merging.proofs.JoinedCalls.{cap_joined, many_joined, over_joined}

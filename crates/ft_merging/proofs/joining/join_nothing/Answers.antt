@@ -1,5 +1,5 @@
 use Rattle.std.proofs.Common.{◌≡◌, false}
-use Rattle.ft_model.specs.Tables.{passes_cap}
+use Rattle.ft_model.specs.TableUses.{passes_cap}
 use Rattle.ft_growth.specs.declared.adding.Added.TheVariants as added
 use Rattle.ft_trace.specs.Holds.{known}
 use Rattle.ft_bank.specs.Passes.{shape_of, view}

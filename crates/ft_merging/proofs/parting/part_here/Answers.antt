@@ -4,7 +4,7 @@ use Rattle.ft_model.specs.declared.content.Content.TheVariants as content
 use Rattle.ft_model.specs.declared.reply.Reply.TheVariants as reply
 use Rattle.ft_model.specs.declared.script.Kind.{Kind}
 use Rattle.ft_model.specs.declared.script.Kind.TheVariants as kind
-use Rattle.ft_model.specs.Tables.{TableUse, passes_cap}
+use Rattle.ft_model.specs.TableUses.{TableUse, passes_cap}
 use Rattle.ft_model.specs.Worlds.{set_of}
 use Rattle.ft_layout.specs.Containers.{IsSetWords}
 use Rattle.ft_keys.specs.declared.walk.Way.TheVariants as way
@@ -12,27 +12,27 @@ use Rattle.ft_trace.specs.declared.View.{View}
 use Rattle.ft_trace.specs.Addresses.{class_of}
 use Rattle.ft_trace.specs.Holds.{held, known}
 use Rattle.ft_trace.specs.Kinds.{IsKeyed, rows}
-use Rattle.ft_trace.specs.Words.{root_in}
-use Rattle.ft_trace.specs.Worlds.{ContainerState, kind_in}
+use Rattle.ft_trace.specs.Pictures.{root_in}
+use Rattle.ft_trace.specs.ContainerStates.{ContainerState, kind_in}
 use Rattle.ft_bank.specs.Passes.{shape_of, view}
-use Rattle.ft_bank.specs.Tables.{name_of}
+use Rattle.ft_bank.specs.TableNames.{name_of}
 use Rattle.ft_bank.specs.Whole.{OnlyPut}
-use Rattle.ft_bank.proofs.Tables.{class_is}
-use Rattle.ft_bank.proofs.Whole.{put_then, work_knows}
+use Rattle.ft_bank.proofs.TableAddresses.{class_is}
+use Rattle.ft_bank.proofs.KnownAfterWrites.{put_then, work_knows}
 use Rattle.ft_search.specs.Rounds.{kind_by}
-use Rattle.ft_search.specs.Writing.{HasTable, MayWriteEntries}
+use Rattle.ft_search.specs.OneEntryWrites.{HasTable, MayWriteEntries}
 use Rattle.ft_search.proofs.Changing.{kind_is}
-use Rattle.ft_search.proofs.Endings.{whole_root, whole_write}
+use Rattle.ft_search.proofs.ReadyCommits.{whole_root, whole_write}
 use Rattle.ft_search.proofs.Puts.{table_class}
-use Rattle.ft_adding.specs.Growing.{KnowsKeyed, keys_take}
+use Rattle.ft_adding.specs.KeyGrowth.{KnowsKeyed, keys_take}
 use Rattle.ft_adding.proofs.Keyed.{use_known}
 use Rattle.ft_adding.proofs.Placed.{use_with}
 use Rattle.ft_merging.specs.Joining.{join_takes, joined}
 use Rattle.ft_merging.specs.Parting.{parted}
-use Rattle.ft_merging.specs.Internal.Joining.{IsJoining}
-use Rattle.ft_merging.specs.Internal.Thinning.{IsThinned}
+use Rattle.ft_merging.specs.Internal.JoiningSteps.{IsJoining}
+use Rattle.ft_merging.specs.Internal.ThinningSteps.{IsThinned}
 use Rattle.ft_merging.proofs.Ending.{Laws}
-use Rattle.ft_merging.proofs.Finished.{fill_fits, first_says, is_set, other_begun, other_stays, thinned_finishes}
+use Rattle.ft_merging.proofs.ThinningEnds.{fill_fits, first_says, is_set, other_begun, other_stays, thinned_finishes}
 use Rattle.ft_merging.proofs.JoinedCalls.{few_rows}
 use Rattle.ft_merging.proofs.JoinedRoom.{keys_room}
 use Rattle.ft_merging.proofs.JoinedStarts.{here_begins, knows_begun, may_write}

@@ -1,9 +1,9 @@
 use Rattle.std.proofs.Common.{◌+◌, Some, refl, sym, ap, ◌∙◌, subst, arith}
-use Rattle.ft_trace.specs.Worlds.{ContainerState}
+use Rattle.ft_trace.specs.ContainerStates.{ContainerState}
 use Rattle.ft_bank.specs.Passes.{shape_of, view}
-use Rattle.ft_bank.proofs.Whole.{put_same, put_then, work_knows}
+use Rattle.ft_bank.proofs.KnownAfterWrites.{put_same, put_then, work_knows}
 use Rattle.ft_merging.specs.Joining.{joined}
-use Rattle.ft_merging.specs.Internal.Joining.{IsJoining}
+use Rattle.ft_merging.specs.Internal.JoiningSteps.{IsJoining}
 use Rattle.ft_merging.proofs.JoinedReads.{knows_put}
 use Rattle.ft_merging.proofs.putting.join_all.Goals as goal
 

@@ -15,25 +15,25 @@ use Rattle.ft_trace.specs.declared.View.{View}
 use Rattle.ft_trace.specs.Addresses.{class_of, containers_in, slots}
 use Rattle.ft_trace.specs.Holds.{held, known}
 use Rattle.ft_trace.specs.Kinds.{rows}
-use Rattle.ft_trace.specs.Words.{Picture, entry_of, root_in, Stands}
-use Rattle.ft_trace.specs.Worlds.{ContainerState, kind_in}
-use Rattle.ft_trace.specs.Writes.{MayPuts, with_puts}
+use Rattle.ft_trace.specs.Pictures.{Picture, entry_field, root_in, Stands}
+use Rattle.ft_trace.specs.ContainerStates.{ContainerState, kind_in}
+use Rattle.ft_trace.specs.WholeWrites.{MayPuts, with_puts}
 use Rattle.ft_bank.specs.Passes.{shape_of, view}
-use Rattle.ft_bank.specs.Tables.{name_of}
+use Rattle.ft_bank.specs.TableNames.{name_of}
 use Rattle.ft_bank.specs.Whole.{OnlyLoaded}
-use Rattle.ft_bank.proofs.Whole.{loaded_held, loaded_put, loaded_then, put_then}
+use Rattle.ft_bank.proofs.KnownAfterWrites.{loaded_held, loaded_put, loaded_then, put_then}
 use Rattle.ft_search.proofs.Puts.{writes_on}
 use Rattle.ft_search.specs.declared.spots.Spot.{Spot}
 use Rattle.ft_search.specs.declared.spots.Spot.TheVariants as spot
 use Rattle.ft_search.specs.Rounds.{kind_by}
-use Rattle.ft_search.specs.Writing.{WritesEntries}
-use Rattle.ft_search.proofs.Values.{ValueLaws}
+use Rattle.ft_search.specs.OneEntryWrites.{WritesEntries}
+use Rattle.ft_search.proofs.OtherValues.{ValueLaws}
 use Rattle.ft_adding.specs.declared.counts.Counts.{Counts}
-use Rattle.ft_adding.specs.Growing.{IsFreeFor}
+use Rattle.ft_adding.specs.KeyGrowth.{IsFreeFor}
 use Rattle.ft_adding.specs.Placing.{IsUnused, StoresAs, with_entry}
 use Rattle.ft_adding.proofs.Placed.{PlaceLaws, pair_for}
 use Rattle.ft_merging.specs.Joining.{joined}
-use Rattle.ft_merging.specs.Internal.Joining.{IsJoining, IsSought, KeepsBelow, pair_in, stored_puts}
+use Rattle.ft_merging.specs.Internal.JoiningSteps.{IsJoining, IsSought, KeepsBelow, pair_in, stored_puts}
 use Rattle.ft_merging.proofs.Joined.{inside, joining_dead, joining_loaded, joining_may, joining_new, joining_there, new_room, stores, there_low}
 use Rattle.ft_merging.proofs.JoinedPairs.{source_known}
 use Rattle.ft_merging.proofs.JoinedReads.{entry_used, none_found, none_used, pair_used}
@@ -43,7 +43,7 @@ use Rattle.ft_merging.proofs.putting.join_at.Goals.{After-pair_at, After-seek_in
 
 -- loads change no words
 same_below : (t place : ℕ) (v w : View) (o : ℕ) → OnlyLoaded v w → KeepsBelow t place (held o v) (held o w)
-same_below t place v w o only p word less few = ap (λ (x : Picture). entry_of (slots (class_of t)) x.table p word) (loaded_held v w o only)
+same_below t place v w o only p word less few = ap (λ (x : Picture). entry_field (slots (class_of t)) x.table p word) (loaded_held v w o only)
 
 abbrev done : After-words_follow_a_set → Content
 done c = joined (known c.args.o (view c.args.pass.now)).content (known c.args.t (view c.args.pass.now)).content
@@ -107,7 +107,7 @@ there c =
     let low = inside k a.o a.way a.own a.t a.table _ a.end a.place a.counts (view a.pass.now) j c.requires.place any in
     pair_used k.texts (slice_index_or j.used a.place any) c.pair_at.result
     (c.pair_at.ensures.pair (slot_of k.texts (slice_index_or j.used a.place any)) (entry_used a.way k.texts k a.table (c.requires.other.table_in a.table refl) j.used (held a.t (view a.pass.now)).table j.source a.place any low))
-    (entry_of (slots (class_of (name_of a.table))) (held a.t (view a.pass.now)).table a.place)
+    (entry_field (slots (class_of (name_of a.table))) (held a.t (view a.pass.now)).table a.place)
     (entry_used a.way k.texts k a.table (c.requires.other.table_in a.table refl) j.used (held a.t (view a.pass.now)).table j.source a.place any low) c.in-Some.pair c.in-Some.is
 
 -- ---- it was deleted
@@ -205,12 +205,12 @@ put_stored-requires-clause-early c = (loads (goal.at.put_stored-requires-clause-
 pub put_stored-requires-clause-old_kind : goal.put_stored-requires-clause-old_kind
 put_stored-requires-clause-old_kind c =
     let s = (goal.at.put_stored-requires-clause-old_kind c).After-seek_in in
-    (came s c.in-Some.pair.key (spot.At c.in-At.field-0 c.in-At.at c.in-At.kind c.in-At.payload) c.in-At.ensures.spot).3 ∙ sym (ap (λ (x : Picture). entry_of (slots (class_of (name_of c.args.own))) x.table c.in-At.at 4) (held_on s))
+    (came s c.in-Some.pair.key (spot.At c.in-At.field-0 c.in-At.at c.in-At.kind c.in-At.payload) c.in-At.ensures.spot).3 ∙ sym (ap (λ (x : Picture). entry_field (slots (class_of (name_of c.args.own))) x.table c.in-At.at 4) (held_on s))
 
 pub put_stored-requires-clause-old_payload : goal.put_stored-requires-clause-old_payload
 put_stored-requires-clause-old_payload c =
     let s = (goal.at.put_stored-requires-clause-old_payload c).After-seek_in in
-    (came s c.in-Some.pair.key (spot.At c.in-At.field-0 c.in-At.at c.in-At.kind c.in-At.payload) c.in-At.ensures.spot).4 ∙ sym (ap (λ (x : Picture). entry_of (slots (class_of (name_of c.args.own))) x.table c.in-At.at 5) (held_on s))
+    (came s c.in-Some.pair.key (spot.At c.in-At.field-0 c.in-At.at c.in-At.kind c.in-At.payload) c.in-At.ensures.spot).4 ∙ sym (ap (λ (x : Picture). entry_field (slots (class_of (name_of c.args.own))) x.table c.in-At.at 5) (held_on s))
 
 pub put_stored-requires-clause-may : goal.put_stored-requires-clause-may
 put_stored-requires-clause-may c =
@@ -264,7 +264,7 @@ returns-in-At-clause-keeps c sets q w less few =
     let stored = c.in-Some.pair.value in
     let ok = stores k a.o a.way a.own a.t a.table (done at.After-words_follow_a_set) a.end a.place a.counts (view a.pass.now) j c.requires.place any c.in-Some.pair.key stored p.1 p.0 in
     let none = no_puts stored (subst (λ (z : Kind). StoresAs z stored) (j.same_kind ∙ sets) ok) (slots (class_of (name_of a.own))) c.in-At.at (held a.o (view c.seek_in.new.pass)) in
-    ap (λ (x : Picture). entry_of (slots (class_of (name_of a.own))) x.table q w) (c.put_stored.ensures.words ∙ (none ∙ held_on at.After-seek_in))
+    ap (λ (x : Picture). entry_field (slots (class_of (name_of a.own))) x.table q w) (c.put_stored.ensures.words ∙ (none ∙ held_on at.After-seek_in))
 
 -- ---- it is new
 
@@ -333,5 +333,5 @@ returns-in-Free-clause-keeps c sets q w less few =
     let words : held a.o (view c.put_key.new.pass) ≡ with_entry (name_of a.own) c.in-Free.slot a.counts (pair_for k.texts j.mid key stored) (held a.o v) = c.put_key.ensures.words ∙ (λ i. with_entry (name_of a.own) c.in-Free.slot a.counts (record { hash = hash i; key = key; value = stored; serial = next i }) (same i)) in
     let ok = stores k a.o a.way a.own a.t a.table (done d) a.end a.place a.counts v j c.requires.place any key stored p.1 p.0 in
     let room = new_room k a.o a.way a.own a.t a.table (done d) a.end a.place a.counts v j c.requires.place any key stored p.1 p.0 f.1 in
-    ap (λ (x : Picture). entry_of (slots (class_of (name_of a.own))) x.table q w) words
+    ap (λ (x : Picture). entry_field (slots (class_of (name_of a.own))) x.table q w) words
     ∙ others_same (laws d) k a.o a.way a.own j.mid a.counts v j.midway j.same_kind j.kind_is j.count_is j.alive c.in-Free.slot key stored p.3 c.seek_in.ensures.low ok p.4 f.1 f.0 (subst (λ (z : Kind). a.counts.fill < rows z (class_of (name_of a.own))) j.kind_is room) q w (λ e. omega (arith, e, less)) few

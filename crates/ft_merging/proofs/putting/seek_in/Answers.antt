@@ -4,7 +4,7 @@ use Rattle.ft_bank.specs.Passes.{shape_of, view}
 use Rattle.ft_bank.specs.Whole.{OnlyLoaded}
 use Rattle.ft_search.specs.declared.spots.Spot.{Spot}
 use Rattle.ft_search.proofs.Rounding.{looks_load}
-use Rattle.ft_merging.specs.Internal.Joining.{IsSought}
+use Rattle.ft_merging.specs.Internal.JoiningSteps.{IsSought}
 use Rattle.ft_merging.proofs.JoinedSearch.{sought}
 use Rattle.ft_merging.proofs.putting.seek_in.Goals as goal
 

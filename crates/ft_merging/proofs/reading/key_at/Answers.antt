@@ -3,10 +3,10 @@ use Rattle.std.specs.Prelude.{◌↔◌}
 use Rattle.ft_layout.specs.Words.{IsKey}
 use Rattle.ft_trace.specs.Addresses.{class_of, slots}
 use Rattle.ft_trace.specs.Holds.{held}
-use Rattle.ft_trace.specs.Words.{Picture, entry_of, root_in}
+use Rattle.ft_trace.specs.Pictures.{Picture, entry_field, root_in}
 use Rattle.ft_bank.specs.Passes.{view}
-use Rattle.ft_bank.specs.Tables.{name_of}
-use Rattle.ft_bank.proofs.Whole.{loaded_held, loaded_then}
+use Rattle.ft_bank.specs.TableNames.{name_of}
+use Rattle.ft_bank.proofs.KnownAfterWrites.{loaded_held, loaded_then}
 use Rattle.ft_merging.proofs.reading.key_at.Goals as goal
 
 pub word_of-payload-requires-clause-knows : goal.word_of-payload-requires-clause-knows
@@ -26,5 +26,5 @@ returns-clause-key c key =
     let n = slots (class_of (name_of a.table)) in
     let x = held a.o (view a.pass.now) in
     let same = loaded_held (view a.pass.now) (view c.word_of-kind.new.pass) a.o c.word_of-kind.ensures.only in
-    let payload : c.word_of-payload.result ≡ entry_of n x.table a.place 3 = c.word_of-payload.ensures.found ∙ ap (λ (y : Picture). entry_of n y.table a.place 3) same in
+    let payload : c.word_of-payload.result ≡ entry_field n x.table a.place 3 = c.word_of-payload.ensures.found ∙ ap (λ (y : Picture). entry_field n y.table a.place 3) same in
     subst (λ (z : ℕ × ℕ). IsKey z.0 z.1 key ↔ (c.key_said.result ≡ Some key)) (λ d. (c.word_of-kind.ensures.found d, payload d)) (c.key_said.ensures key)

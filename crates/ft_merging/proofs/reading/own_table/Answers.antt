@@ -3,9 +3,9 @@ use Rattle.std.specs.Prelude.{IfNone, IfSome}
 use Rattle.ft_trace.specs.declared.Act.TheVariants.{ReadBlock}
 use Rattle.ft_bank.specs.declared.table.Table.{Table}
 use Rattle.ft_bank.specs.Passes.{shape_of, view}
-use Rattle.ft_bank.specs.Tables.{name_of, root_for, IsTableIn}
+use Rattle.ft_bank.specs.TableNames.{name_of, root_for, IsTableIn}
 use Rattle.ft_bank.specs.Whole.{OnlyLoaded}
-use Rattle.ft_bank.proofs.Whole.{loaded_by}
+use Rattle.ft_bank.proofs.KnownAfterWrites.{loaded_by}
 use Rattle.ft_merging.proofs.JoinedReads.{knows_loaded}
 use Rattle.ft_merging.proofs.reading.own_table.Goals as goal
 use Rattle.ft_merging.proofs.reading.own_table.Goals.{After-read_block-root}

@@ -6,11 +6,11 @@ use Rattle.ft_layout.specs.declared.slot.Stored.TheVariants.{Empty}
 use Rattle.ft_layout.specs.Words.{IsEntry, IsStored}
 use Rattle.ft_trace.specs.Addresses.{class_of, slots}
 use Rattle.ft_trace.specs.Holds.{held}
-use Rattle.ft_trace.specs.Words.{entry_of}
+use Rattle.ft_trace.specs.Pictures.{entry_field}
 use Rattle.ft_bank.specs.Passes.{view}
-use Rattle.ft_bank.specs.Tables.{name_of}
+use Rattle.ft_bank.specs.TableNames.{name_of}
 use Rattle.ft_bank.specs.Whole.{OnlyLoaded}
-use Rattle.ft_bank.proofs.Whole.{loaded_then}
+use Rattle.ft_bank.proofs.KnownAfterWrites.{loaded_then}
 use Rattle.ft_merging.proofs.JoinedReads.{table_after, word_after}
 use Rattle.ft_merging.proofs.reading.pair_at.Goals as goal
 use Rattle.ft_merging.proofs.reading.pair_at.Goals.{After-word_of-hash, After-word_of-kind, After-word_of-payload, After-word_of-serial, After-word_of-value, After-word_of-value_kind}
@@ -71,7 +71,7 @@ returns-clause-pair c said is =
     let n = slots (class_of (name_of a.table)) in
     let d = goal.at.returns-clause-pair c in
     c.pair_said.ensures said
-    (like _ (entry_of n (held a.o v).table a.place)
+    (like _ (entry_field n (held a.o v).table a.place)
     c.word_of-hash.ensures.found
     (word_after a.o n a.place 2 v (view c.word_of-hash.new.pass) c.word_of-hash.ensures.only _ c.word_of-kind.ensures.found)
     (word_after a.o n a.place 3 v (view c.word_of-kind.new.pass) (two d.After-word_of-kind) _ c.word_of-payload.ensures.found)

@@ -3,13 +3,13 @@ use Rattle.std.specs.Prelude.{slice_index}
 use Rattle.ft_trace.specs.declared.Act.TheVariants.{ReadTable}
 use Rattle.ft_trace.specs.Addresses.{class_of, size, slots}
 use Rattle.ft_trace.specs.Holds.{held}
-use Rattle.ft_trace.specs.Words.{entry_at}
-use Rattle.ft_trace.specs.Worlds.{kind_in}
+use Rattle.ft_trace.specs.Pictures.{entry_offset}
+use Rattle.ft_trace.specs.ContainerStates.{kind_in}
 use Rattle.ft_trace.proofs.ByKind.{keyed_low}
 use Rattle.ft_bank.specs.Passes.{shape_of, view}
-use Rattle.ft_bank.specs.Tables.{name_of}
-use Rattle.ft_bank.proofs.Whole.{loaded_by}
-use Rattle.ft_search.proofs.Places.{entry_is}
+use Rattle.ft_bank.specs.TableNames.{name_of}
+use Rattle.ft_bank.proofs.KnownAfterWrites.{loaded_by}
+use Rattle.ft_search.proofs.WordPlaces.{entry_is}
 use Rattle.ft_search.proofs.Puts.{few_mask, few_places}
 use Rattle.ft_merging.proofs.reading.word_of.Goals as goal
 use Rattle.ft_merging.proofs.reading.word_of.Goals.{Start, After-mask_of}
@@ -20,7 +20,7 @@ few c = few_places (shape_of c.args.bank.now) c.args.table (kind_in (shape_of c.
 small : (c : After-mask_of) → c.mask_of.result < 65536
 small c = subst (λ (n : ℕ). n < 65536) (sym c.mask_of.ensures) (few_mask (shape_of c.args.bank.now) c.args.table c.requires.table)
 
-lies : (c : After-mask_of) → 8 * c.args.place + c.args.word + c.mask_of.result + 1 ≡ entry_at (slots (class_of (name_of c.args.table))) c.args.place c.args.word
+lies : (c : After-mask_of) → 8 * c.args.place + c.args.word + c.mask_of.result + 1 ≡ entry_offset (slots (class_of (name_of c.args.table))) c.args.place c.args.word
 lies c = entry_is (shape_of c.args.bank.now) c.args.table c.mask_of.result c.args.place c.args.word c.requires.table c.mask_of.ensures
 
 inside : (c : After-mask_of) → 8 * c.args.place + c.args.word + c.mask_of.result + 1 < size (class_of (name_of c.args.table))

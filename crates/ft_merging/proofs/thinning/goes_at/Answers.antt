@@ -4,16 +4,16 @@ use Rattle.ft_model.specs.Contents.{has_element}
 use Rattle.ft_model.specs.Worlds.{set_of}
 use Rattle.ft_layout.specs.Words.{FitsKey}
 use Rattle.ft_trace.specs.Addresses.{class_of, slots}
-use Rattle.ft_trace.specs.Carefuls.{IsLive}
+use Rattle.ft_trace.specs.Carefuls.{HasLiveKey}
 use Rattle.ft_trace.specs.Holds.{held, known}
 use Rattle.ft_trace.specs.Kinds.{IsKeyed, rows}
-use Rattle.ft_trace.specs.Words.{Picture, root_in}
+use Rattle.ft_trace.specs.Pictures.{Picture, root_in}
 use Rattle.ft_bank.specs.Passes.{shape_of, view}
-use Rattle.ft_bank.specs.Tables.{name_of}
-use Rattle.ft_bank.proofs.Whole.{loaded_held, loaded_then, work_knows}
+use Rattle.ft_bank.specs.TableNames.{name_of}
+use Rattle.ft_bank.proofs.KnownAfterWrites.{loaded_held, loaded_then, work_knows}
 use Rattle.ft_merging.proofs.thinning.goes_at.Goals as goal
-use Rattle.ft_trace.specs.Words.{entry_of}
-use Rattle.ft_trace.specs.Worlds.{ContainerState, kind_in}
+use Rattle.ft_trace.specs.Pictures.{entry_field}
+use Rattle.ft_trace.specs.ContainerStates.{ContainerState, kind_in}
 use Rattle.ft_bank.specs.Whole.{OnlyLoaded}
 use Rattle.ft_search.proofs.Laws.{SetLaws}
 use Rattle.ft_search.proofs.Spotting.{may_loaded}
@@ -54,8 +54,8 @@ laws c =
       deletes = c.words_follow_a_set.ensures.deleted;
     }
 
-told : (c : After-word_of-hash) → IsLive (slots (class_of (name_of c.args.table))) (held c.args.s (view c.args.pass.now)).table c.args.place c.in-Some.key × FitsKey c.in-Some.key
-told c = let is = (c.key_at.ensures.key c.in-Some.key).1 c.in-Some.is in ((is.kind_is, is.payload_is), is.fits)
+stated : (c : After-word_of-hash) → HasLiveKey (slots (class_of (name_of c.args.table))) (held c.args.s (view c.args.pass.now)).table c.args.place c.in-Some.key × FitsKey c.in-Some.key
+stated c = let is = (c.key_at.ensures.key c.in-Some.key).1 c.in-Some.is in ((is.kind_is, is.payload_is), is.fits)
 
 only : (c : After-word_of-hash) → OnlyLoaded (view c.args.pass.now) (view c.word_of-hash.new.pass)
 only c = loaded_then (view c.args.pass.now) (view c.key_at.new.pass) (view c.word_of-hash.new.pass) c.key_at.ensures.only c.word_of-hash.ensures.only
@@ -86,13 +86,13 @@ is_in-found-requires-clause-hash c =
     let a = c.args in
     let d = (goal.at.is_in-found-requires-clause-hash c).After-word_of-hash in
     let v = view a.pass.now in
-    let t = told d in
+    let t = stated d in
     c.word_of-hash.ensures.found
-    ∙ (ap (λ (x : Picture). entry_of (slots (class_of (name_of a.table))) x.table a.place 1) (loaded_held v (view c.key_at.new.pass) a.s c.key_at.ensures.only)
+    ∙ (ap (λ (x : Picture). entry_field (slots (class_of (name_of a.table))) x.table a.place 1) (loaded_held v (view c.key_at.new.pass) a.s c.key_at.ensures.only)
     ∙ hash_is (shape_of a.bank.now) a.s a.table a.kept (set_of (known a.t v).content) (set_of (known a.s v).content) c.requires.thinned.0 c.requires.thinned.1 a.place v c.requires.set c.requires.thinned.3 (laws d) c.requires.place c.requires.thinned.2 c.in-Some.key t.0 t.1)
 
 pub is_in-found-requires-clause-fits : goal.is_in-found-requires-clause-fits
-is_in-found-requires-clause-fits c = (told (goal.at.is_in-found-requires-clause-fits c).After-word_of-hash).1
+is_in-found-requires-clause-fits c = (stated (goal.at.is_in-found-requires-clause-fits c).After-word_of-hash).1
 
 pub is_in-found-requires-clause-other : goal.is_in-found-requires-clause-other
 is_in-found-requires-clause-other c ne =
@@ -104,6 +104,6 @@ is_in-found-requires-clause-own c e =
     let a = c.args in
     let d = (goal.at.is_in-found-requires-clause-own c).After-word_of-hash in
     let v = view a.pass.now in
-    let t = told d in
+    let t = stated d in
     let was = was_there (shape_of a.bank.now) a.s a.table a.kept (set_of (known a.t v).content) (set_of (known a.s v).content) c.requires.thinned.0 c.requires.thinned.1 a.place v c.requires.set c.requires.thinned.3 (laws d) c.requires.place c.requires.thinned.2 c.in-Some.key t.0 t.1 in
     subst (λ (z : ContainerState). has_element (set_of z.content).elements c.in-Some.key ≡ true) (ap (λ (p : ℕ). known p v) e ∙ sym (work_knows v (view c.word_of-hash.new.pass) a.t (only d).work)) was

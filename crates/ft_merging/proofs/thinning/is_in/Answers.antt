@@ -1,11 +1,11 @@
 use Rattle.std.proofs.Common.{sym, ap, ◌∙◌}
 use Rattle.ft_model.specs.Contents.{has_element}
 use Rattle.ft_model.specs.Worlds.{set_of}
-use Rattle.ft_trace.specs.Worlds.{ContainerState}
+use Rattle.ft_trace.specs.ContainerStates.{ContainerState}
 use Rattle.ft_bank.specs.Passes.{shape_of, view}
-use Rattle.ft_bank.proofs.Whole.{work_knows}
+use Rattle.ft_bank.proofs.KnownAfterWrites.{work_knows}
 use Rattle.ft_search.proofs.Calling.{loaded_same}
-use Rattle.ft_merging.proofs.Finished.{found_there, missing_there}
+use Rattle.ft_merging.proofs.ThinningEnds.{found_there, missing_there}
 use Rattle.ft_merging.proofs.thinning.is_in.Goals as goal
 
 pub returns-then-s-t-clause-only : goal.returns-then-s-t-clause-only

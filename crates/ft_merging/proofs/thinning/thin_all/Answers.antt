@@ -1,10 +1,10 @@
 use Rattle.std.proofs.Common.{◌+◌, refl, sym, ◌∙◌, subst}
 use Rattle.ft_model.specs.Worlds.{set_of}
-use Rattle.ft_trace.specs.Worlds.{ContainerState}
+use Rattle.ft_trace.specs.ContainerStates.{ContainerState}
 use Rattle.ft_bank.specs.Passes.{shape_of, view}
-use Rattle.ft_bank.proofs.Whole.{put_same, put_then, work_knows}
-use Rattle.ft_merging.specs.Internal.Thinning.{IsThinned}
-use Rattle.ft_merging.proofs.Finished.{other_stays}
+use Rattle.ft_bank.proofs.KnownAfterWrites.{put_same, put_then, work_knows}
+use Rattle.ft_merging.specs.Internal.ThinningSteps.{IsThinned}
+use Rattle.ft_merging.proofs.ThinningEnds.{other_stays}
 use Rattle.ft_merging.proofs.thinning.thin_all.Goals as goal
 
 pub loop-place-init : goal.loop-place-init

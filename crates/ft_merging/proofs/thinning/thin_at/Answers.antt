@@ -2,15 +2,15 @@ use Rattle.std.proofs.Common.{◌≡◌, ℕ, ◌+◌, Option, Some, None, refl,
 use Rattle.ft_model.specs.declared.data.Key.{Key}
 use Rattle.ft_model.specs.Worlds.{set_of}
 use Rattle.ft_trace.specs.Addresses.{class_of, slots}
-use Rattle.ft_trace.specs.Carefuls.{IsLive}
+use Rattle.ft_trace.specs.Carefuls.{HasLiveKey}
 use Rattle.ft_trace.specs.Holds.{held, known}
-use Rattle.ft_trace.specs.Words.{Picture}
-use Rattle.ft_trace.specs.Worlds.{ContainerState}
+use Rattle.ft_trace.specs.Pictures.{Picture}
+use Rattle.ft_trace.specs.ContainerStates.{ContainerState}
 use Rattle.ft_bank.specs.Passes.{shape_of, view}
-use Rattle.ft_bank.specs.Tables.{name_of}
-use Rattle.ft_bank.proofs.Whole.{loaded_held}
+use Rattle.ft_bank.specs.TableNames.{name_of}
+use Rattle.ft_bank.proofs.KnownAfterWrites.{loaded_held}
 use Rattle.ft_search.proofs.Laws.{SetLaws}
-use Rattle.ft_merging.specs.Internal.Thinning.{IsThinned}
+use Rattle.ft_merging.specs.Internal.ThinningSteps.{IsThinned}
 use Rattle.ft_merging.proofs.Thinned.{may_go, some_there, spared_goes, spared_stays, thinned_goes, thinned_loaded, thinned_stays, was_there}
 use Rattle.ft_merging.proofs.thinning.thin_at.Goals as goal
 use Rattle.ft_merging.proofs.thinning.thin_at.Goals.{After-goes_at}
@@ -34,8 +34,8 @@ thinned c to last th =
     let v = view a.pass.now in
     thinned_loaded (shape_of a.bank.now) a.s a.table a.kept (set_of (known a.t v).content) (set_of (known a.s v).content) to last a.place v (view c.goes_at.new.pass) c.goes_at.ensures.only th
 
-live : (c : After-goes_at) (key : Key) → IsLive (slots (class_of (name_of c.args.table))) (held c.args.s (view c.args.pass.now)).table c.args.place key → IsLive (slots (class_of (name_of c.args.table))) (held c.args.s (view c.goes_at.new.pass)).table c.args.place key
-live c key is = subst (λ (x : Picture). IsLive (slots (class_of (name_of c.args.table))) x.table c.args.place key) (sym (loaded_held (view c.args.pass.now) (view c.goes_at.new.pass) c.args.s c.goes_at.ensures.only)) is
+live : (c : After-goes_at) (key : Key) → HasLiveKey (slots (class_of (name_of c.args.table))) (held c.args.s (view c.args.pass.now)).table c.args.place key → HasLiveKey (slots (class_of (name_of c.args.table))) (held c.args.s (view c.goes_at.new.pass)).table c.args.place key
+live c key is = subst (λ (x : Picture). HasLiveKey (slots (class_of (name_of c.args.table))) x.table c.args.place key) (sym (loaded_held (view c.args.pass.now) (view c.goes_at.new.pass) c.args.s c.goes_at.ensures.only)) is
 
 pub put_deleted-requires-clause-some : goal.put_deleted-requires-clause-some
 put_deleted-requires-clause-some c =

@@ -3,16 +3,16 @@ use Rattle.std.specs.Prelude.{slice_index}
 use Rattle.ft_model.specs.declared.reply.Reply.TheVariants as reply
 use Rattle.ft_trace.specs.declared.Act.TheVariants.{ReadBlock}
 use Rattle.ft_trace.specs.Holds.{held, known}
-use Rattle.ft_trace.specs.Words.{Picture, root_in}
-use Rattle.ft_trace.specs.Worlds.{ContainerState}
+use Rattle.ft_trace.specs.Pictures.{Picture, root_in}
+use Rattle.ft_trace.specs.ContainerStates.{ContainerState}
 use Rattle.ft_bank.specs.Passes.{shape_of, view}
 use Rattle.ft_bank.specs.Whole.{OnlyLoaded}
-use Rattle.ft_bank.proofs.Whole.{loaded_by, loaded_held, loaded_then, work_knows}
-use Rattle.ft_search.specs.Writing.{Leaves, MayWriteEntries}
+use Rattle.ft_bank.proofs.KnownAfterWrites.{loaded_by, loaded_held, loaded_then, work_knows}
+use Rattle.ft_search.specs.OneEntryWrites.{Leaves, MayWriteEntries}
 use Rattle.ft_search.proofs.Calling.{loaded_wrote}
 use Rattle.ft_search.proofs.Spotting.{may_loaded}
 use Rattle.ft_merging.specs.Thinning.{thinned_state}
-use Rattle.ft_merging.proofs.Finished.{fill_known, leaves_loaded, none_thinned}
+use Rattle.ft_merging.proofs.ThinningEnds.{fill_known, leaves_loaded, none_thinned}
 use Rattle.ft_merging.proofs.thinning.thin_by.Goals as goal
 use Rattle.ft_merging.proofs.thinning.thin_by.Goals.{After-read_block-fill}
 

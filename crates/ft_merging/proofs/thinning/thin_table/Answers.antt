@@ -3,18 +3,18 @@ use Rattle.ft_model.specs.declared.script.Kind.{Kind}
 use Rattle.ft_model.specs.Classes.{set_entries}
 use Rattle.ft_trace.specs.Addresses.{class_of}
 use Rattle.ft_trace.specs.Kinds.{rows}
-use Rattle.ft_bank.specs.Tables.{name_of}
+use Rattle.ft_bank.specs.TableNames.{name_of}
 use Rattle.ft_model.specs.declared.reply.Reply.TheVariants as reply
 use Rattle.ft_model.specs.Worlds.{set_of}
 use Rattle.ft_trace.specs.Holds.{known}
-use Rattle.ft_trace.specs.Worlds.{ContainerState}
+use Rattle.ft_trace.specs.ContainerStates.{ContainerState}
 use Rattle.ft_bank.specs.Passes.{shape_of, view}
-use Rattle.ft_search.proofs.Endings.{whole_root, whole_write}
+use Rattle.ft_search.proofs.ReadyCommits.{whole_root, whole_write}
 use Rattle.ft_merging.specs.Thinning.{thinned, thinned_state}
-use Rattle.ft_merging.specs.Internal.Thinning.{IsThinned}
-use Rattle.ft_merging.specs.Internal.Writing.{MayFinishAll}
+use Rattle.ft_merging.specs.Internal.ThinningSteps.{IsThinned}
+use Rattle.ft_merging.specs.Internal.EntriesAtOnce.{MayFinishAll}
 use Rattle.ft_merging.proofs.Ending.{Laws}
-use Rattle.ft_merging.proofs.Finished.{fill_fits, other_begun, thinned_begins, thinned_finishes}
+use Rattle.ft_merging.proofs.ThinningEnds.{fill_fits, other_begun, thinned_begins, thinned_finishes}
 use Rattle.ft_merging.proofs.thinning.thin_table.Goals as goal
 use Rattle.ft_merging.proofs.thinning.thin_table.Goals.{After-start_write}
 

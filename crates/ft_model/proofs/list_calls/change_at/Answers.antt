@@ -6,7 +6,7 @@ use Rattle.ft_model.specs.declared.data.Value.{Value}
 use Rattle.ft_model.specs.declared.script.Kind.TheVariants as kind
 use Rattle.ft_model.specs.Worlds.{WorldContent, HandsContent, IsOfKind, list_at}
 use Rattle.ft_model.specs.Answers.{answer_list}
-use Rattle.ft_model.proofs.Places.{stands, list-stands, on_ok, is_there}
+use Rattle.ft_model.proofs.WorldPlaces.{stands, list-stands, on_ok, is_there}
 use Rattle.ft_model.proofs.list_calls.change_at.Goals as goal
 
 pub returns-clause-world : goal.returns-clause-world

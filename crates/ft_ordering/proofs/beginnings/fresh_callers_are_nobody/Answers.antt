@@ -1,4 +1,4 @@
-use Rattle.ft_ordering.proofs.Starting as proved
+use Rattle.ft_ordering.proofs.BeforeTurns as proved
 use Rattle.ft_ordering.proofs.beginnings.fresh_callers_are_nobody.Goals as goal
 
 pub returns : goal.returns

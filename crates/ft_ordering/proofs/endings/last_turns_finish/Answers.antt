@@ -1,4 +1,4 @@
-use Rattle.ft_ordering.proofs.Finished as proved
+use Rattle.ft_ordering.proofs.LastTurn as proved
 use Rattle.ft_ordering.proofs.endings.last_turns_finish.Goals as goal
 
 pub returns : goal.returns

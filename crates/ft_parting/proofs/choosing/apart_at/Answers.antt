@@ -16,14 +16,14 @@ use Rattle.ft_keys.specs.declared.walk.Way.TheVariants as way
 use Rattle.ft_trace.specs.Addresses.{class_of, slots}
 use Rattle.ft_trace.specs.Holds.{held, known}
 use Rattle.ft_trace.specs.Kinds.{rows}
-use Rattle.ft_trace.specs.Words.{Picture, entry_of}
-use Rattle.ft_trace.specs.Worlds.{ContainerState}
+use Rattle.ft_trace.specs.Pictures.{Picture, entry_field}
+use Rattle.ft_trace.specs.ContainerStates.{ContainerState}
 use Rattle.ft_bank.specs.Passes.{shape_of, view}
-use Rattle.ft_bank.specs.Tables.{name_of}
+use Rattle.ft_bank.specs.TableNames.{name_of}
 use Rattle.ft_bank.specs.Whole.{OnlyLoaded}
-use Rattle.ft_bank.proofs.Tables.{named}
-use Rattle.ft_bank.proofs.Whole.{loaded_held, loaded_then, work_knows}
-use Rattle.ft_adding.proofs.Copied.{room_of_way, word_here}
+use Rattle.ft_bank.proofs.TableAddresses.{named}
+use Rattle.ft_bank.proofs.KnownAfterWrites.{loaded_held, loaded_then, work_knows}
+use Rattle.ft_adding.proofs.FilledTables.{room_of_way, word_here}
 use Rattle.ft_parting.specs.Choosing.{apart_pair}
 use Rattle.ft_parting.proofs.Chosen.{apart_dead, apart_found, apart_here, gone_words, live_words, never_words, set_says}
 use Rattle.ft_parting.proofs.choosing.apart_at.Goals as goal
@@ -50,7 +50,7 @@ abbrev texts : (c : Start) → List ℕ
 texts c = (shape_of c.args.bank.now).texts
 
 -- a word of it, as searches count it
-here : (c : Start) (w : ℕ) → entry_word (mask c) (words c) c.args.place w ≡ entry_of (slots (class_of (name_of c.args.from))) (held c.args.s (view c.args.pass.now)).table c.args.place w
+here : (c : Start) (w : ℕ) → entry_word (mask c) (words c) c.args.place w ≡ entry_field (slots (class_of (name_of c.args.from))) (held c.args.s (view c.args.pass.now)).table c.args.place w
 here c w = word_here (class_of (name_of c.args.from)) (held c.args.s (view c.args.pass.now)).table c.args.place w
 
 -- a live entry's key is the one that was read
@@ -74,15 +74,15 @@ read_entry c key is used any table =
     let class = class_of (name_of a.from) in
     let l = (held a.s (view a.pass.now)).table in
     let e = slice_index_or used a.place any in
-    let told : IsKey (entry_word (class_mask class) (0 ∷ 0 ∷ l) a.place 2) (entry_word (class_mask class) (0 ∷ 0 ∷ l) a.place 3) key =
+    let stated : IsKey (entry_word (class_mask class) (0 ∷ 0 ∷ l) a.place 2) (entry_word (class_mask class) (0 ∷ 0 ∷ l) a.place 3) key =
     subst (λ (z : ℕ × ℕ). IsKey z.0 z.1 key) (λ i. (sym (word_here class l a.place 2) i, sym (word_here class l a.place 3) i)) ((c.key_at.ensures.key key).1 is) in
     let row = c.requires.place in
     let wide = room_of_way way.Set class (named k a.from (c.requires.keyed.table_in a.from refl)).0 in
     let low : a.place < length used = elim (cases_lt a.place (length used)) [
       | inl less ↦ less
-      | inr past ↦ absurd (never_words k.texts (0 ∷ 0 ∷ l) (class_mask class) a.place (table.unused a.place past (omega (arith, row, wide))) key told)
+      | inr past ↦ absurd (never_words k.texts (0 ∷ 0 ∷ l) (class_mask class) a.place (table.unused a.place past (omega (arith, row, wide))) key stated)
     ] in
-    let live = gone_words k.texts (0 ∷ 0 ∷ l) (class_mask class) a.place e e.stored (table.entries a.place any low) key told in
+    let live = gone_words k.texts (0 ∷ 0 ∷ l) (class_mask class) a.place e e.stored (table.entries a.place any low) key stated in
     (low, live, one_key e.key key (sym (read_key c used any table low live) ∙ is))
 
 -- the words of the container stay while they are loaded
@@ -91,7 +91,7 @@ hash_word c =
     let a = c.args in
     let class = class_of (name_of a.from) in
     c.word_of-hash.ensures.found
-    ∙ (ap (λ (x : Picture). entry_of (slots class) x.table a.place 1) (loaded_held (view a.pass.now) (view c.key_at.new.pass) a.s c.key_at.ensures.only)
+    ∙ (ap (λ (x : Picture). entry_field (slots class) x.table a.place 1) (loaded_held (view a.pass.now) (view c.key_at.new.pass) a.s c.key_at.ensures.only)
     ∙ sym (word_here class (held a.s (view a.pass.now)).table a.place 1))
 
 pub has_key-requires-clause-hash : goal.has_key-requires-clause-hash
@@ -145,7 +145,7 @@ returns-clause-apart c used any table low =
     let only = loaded_then v (view c.word_of-hash.new.pass) (view c.has_key.new.pass) (loaded_then v (view c.key_at.new.pass) (view c.word_of-hash.new.pass) c.key_at.ensures.only c.word_of-hash.ensures.only) c.has_key.ensures.only in
     let serial : c.word_of-serial.result ≡ u.serial =
     c.word_of-serial.ensures.found
-    ∙ (ap (λ (x : Picture). entry_of (slots class) x.table a.place 6) (loaded_held v (view c.has_key.new.pass) a.s only)
+    ∙ (ap (λ (x : Picture). entry_field (slots class) x.table a.place 6) (loaded_held v (view c.has_key.new.pass) a.s only)
     ∙ (sym (word_here class (held a.s v).table a.place 6) ∙ says.2)) in
     let hash : c.word_of-hash.result ≡ hash_of k.texts u.key = hash_word p.After-word_of-hash ∙ table.hashes a.place any low in
     sym

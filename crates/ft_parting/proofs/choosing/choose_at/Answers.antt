@@ -8,7 +8,7 @@ use Rattle.ft_layout.specs.declared.slot.Pair.{Pair}
 use Rattle.ft_layout.specs.declared.slot.Stored.TheVariants.{Empty}
 use Rattle.ft_layout.specs.Containers.{class_mask}
 use Rattle.ft_layout.specs.Tables.{UsedEntry}
-use Rattle.ft_keys.specs.Changes.{Adds}
+use Rattle.ft_keys.specs.TableChanges.{AddsPair}
 use Rattle.ft_keys.specs.Ways.{room}
 use Rattle.ft_keys.specs.declared.walk.Way.TheVariants as way
 use Rattle.ft_trace.specs.declared.Shape.{Shape}
@@ -17,17 +17,17 @@ use Rattle.ft_trace.specs.Acts.{mem}
 use Rattle.ft_trace.specs.Addresses.{class_of, slots}
 use Rattle.ft_trace.specs.Holds.{held, in_hand, known}
 use Rattle.ft_trace.specs.Kinds.{rows}
-use Rattle.ft_trace.specs.Words.{entry_of, table_of}
+use Rattle.ft_trace.specs.Pictures.{entry_field, table_of}
 use Rattle.ft_bank.specs.Passes.{shape_of, view}
-use Rattle.ft_bank.specs.Tables.{name_of}
+use Rattle.ft_bank.specs.TableNames.{name_of}
 use Rattle.ft_bank.specs.Whole.{OnlyLoaded}
-use Rattle.ft_bank.proofs.Tables.{class_is}
-use Rattle.ft_bank.proofs.Whole.{loaded_held, work_knows}
+use Rattle.ft_bank.proofs.TableAddresses.{class_is}
+use Rattle.ft_bank.proofs.KnownAfterWrites.{loaded_held, work_knows}
 use Rattle.ft_growth.specs.Adding.{OnlyFilled}
 use Rattle.ft_growth.proofs.Rooting.{filled_then, loaded_filled}
 use Rattle.ft_search.proofs.Puts.{few_places, table_class}
-use Rattle.ft_adding.specs.Growing.{KnowsKeyed}
-use Rattle.ft_adding.proofs.Copied.{room_of_way}
+use Rattle.ft_adding.specs.KeyGrowth.{KnowsKeyed}
+use Rattle.ft_adding.proofs.FilledTables.{room_of_way}
 use Rattle.ft_adding.proofs.Grown.{same_filled}
 use Rattle.ft_merging.proofs.JoinedReads.{knows_loaded, none_found}
 use Rattle.ft_parting.specs.Choosing.{IsChosen, apart_pair, chosen, serial_at}
@@ -43,9 +43,9 @@ hand_loaded : (t : ℕ) (v w : View) → OnlyLoaded v w → in_hand t w ≡ in_h
 hand_loaded t v w only = ap (λ (k : Shape). table_of k t (mem k w.log)) only.work.pass.shape ∙ ap (λ (ws : List ℕ). table_of v.shape t ws) only.words
 
 -- what was read there
-told : (c : After-apart_at) (used : List UsedEntry) (mine : List Element) → c.args.place < length used → IsChosen (shape_of c.args.bank.now) c.args.s c.args.from c.args.t c.args.table c.args.first c.args.start used mine c.args.place c.args.count (view c.args.pass.now)
+stated : (c : After-apart_at) (used : List UsedEntry) (mine : List Element) → c.args.place < length used → IsChosen (shape_of c.args.bank.now) c.args.s c.args.from c.args.t c.args.table c.args.first c.args.start used mine c.args.place c.args.count (view c.args.pass.now)
     → c.apart_at.result ≡ apart_pair (shape_of c.args.bank.now).texts (set_of (known c.args.t (view c.args.pass.now)).content).elements (slice_index_or used c.args.place any)
-told c used mine low is = c.apart_at.ensures.apart used any is.source low
+stated c used mine low is = c.apart_at.ensures.apart used any is.source low
 
 pub returns-in_default-clause-chosen : goal.returns-in_default-clause-chosen
 returns-in_default-clause-chosen c used mine low is =
@@ -55,7 +55,7 @@ returns-in_default-clause-chosen c used mine low is =
     let only = c.apart_at.ensures.only in
     let d = (goal.at.returns-in_default-clause-chosen c).After-apart_at in
     chosen_stays (shape_of a.bank.now) a.s a.from a.t a.table a.first a.start used mine a.place a.count v is low any z
-    (loaded_held v z a.s only) (work_knows v z a.s only.work) (work_knows v z a.t only.work) (hand_loaded (name_of a.table) v z only) (sym (told d used mine low is) ∙ none_found c.apart_at.result c.in_default.not-Some)
+    (loaded_held v z a.s only) (work_knows v z a.s only.work) (work_knows v z a.t only.work) (hand_loaded (name_of a.table) v z only) (sym (stated d used mine low is) ∙ none_found c.apart_at.result c.in_default.not-Some)
 
 pub returns-in_default-clause-only : goal.returns-in_default-clause-only
 returns-in_default-clause-only c = loaded_filled (view c.args.pass.now) (view c.apart_at.new.pass) c.apart_at.ensures.only
@@ -83,7 +83,7 @@ pub overflow_sub-count : goal.overflow_sub-count
 overflow_sub-count c =
     let at = goal.at.overflow_sub-count c in
     let r = c.requires.chosen in
-    (few at.In-Some (told at.After-apart_at r.0 r.1 r.2 r.3)).1
+    (few at.In-Some (stated at.After-apart_at r.0 r.1 r.2 r.3)).1
 
 low_serial : (first : Option ℕ) (more : ℕ) → more ≤ 65536 → IfSome first (λ next. next + 65536 < 2 ^ 63) → IfSome first (λ next. next + more < 2 ^ 64)
 low_serial None more low is = tt
@@ -94,14 +94,14 @@ serial_for-serial-requires c =
     let a = c.args in
     let at = goal.at.serial_for-serial-requires c in
     let r = c.requires.chosen in
-    let f = (few at.In-Some (told at.After-apart_at r.0 r.1 r.2 r.3)).2 in
+    let f = (few at.In-Some (stated at.After-apart_at r.0 r.1 r.2 r.3)).2 in
     record { low = low_serial a.first (a.count - a.start) (omega (arith, f)) c.requires.serials }
 
 pub overflow_add-result : goal.overflow_add-result
 overflow_add-result c =
     let at = goal.at.overflow_add-result c in
     let r = c.requires.chosen in
-    let f = (few at.In-Some (told at.After-apart_at r.0 r.1 r.2 r.3)).2 in
+    let f = (few at.In-Some (stated at.After-apart_at r.0 r.1 r.2 r.3)).2 in
     omega (arith, f)
 
 pub put_last-requires-clause-keyed : goal.put_last-requires-clause-keyed
@@ -117,7 +117,7 @@ put_last-requires-clause-fill c =
     let a = c.args in
     let at = goal.at.put_last-requires-clause-fill c in
     let r = c.requires.chosen in
-    let f = (few at.In-Some (told at.After-apart_at r.0 r.1 r.2 r.3)).0 in
+    let f = (few at.In-Some (stated at.After-apart_at r.0 r.1 r.2 r.3)).0 in
     let class = class_is a.table c.requires.table.2 in
     let room_is = room_of_way way.Set (class_of (name_of a.table)) (table_class (shape_of a.bank.now) a.table c.requires.table) in
     subst (λ (n : ℕ). a.count < room way.Set (class_mask n)) class (omega (arith, f, room_is))
@@ -137,7 +137,7 @@ returns-clause-chosen c used mine low is =
     let z = view c.put_last.new.pass in
     let loads = c.apart_at.ensures.only in
     let e = c.put_last.ensures in
-    let pair = there at.In-Some used (told at.After-apart_at used mine low is) in
+    let pair = there at.In-Some used (stated at.After-apart_at used mine low is) in
     let class = class_of (name_of a.table) in
     let same = some_apart k.texts (set_of (known a.t v).content).elements (slice_index_or used a.place any) c.in-Some.pair pair in
     let n = chosen_count k a.s a.from a.t a.table a.first a.start used mine a.place a.count v is low any c.in-Some.pair pair in
@@ -150,5 +150,5 @@ returns-clause-chosen c used mine low is =
     chosen_more k a.s a.from a.t a.table a.first a.start used mine a.place a.count v is low any c.in-Some.pair pair z put same.1 same.2 refl
     (c.serial_for-serial.ensures ∙ (λ i. serial_at a.first (more i) (same.3 i)))
     (mine_same.0 ∙ loaded_held v u a.s loads) (mine_same.1 ∙ work_knows v u a.s loads.work) (other_same.1 ∙ work_knows v u a.t loads.work)
-    (subst (λ (y : ℕ × List ℕ). Adds way.Set y.0 a.count put (0 ∷ 0 ∷ y.1) (0 ∷ 0 ∷ in_hand (name_of a.table) z)) (λ i. (mask i, hand i)) e.adds)
-    (λ p. e.versions p ∙ ap (λ (ws : List ℕ). entry_of (slots class) ws p 0) hand)
+    (subst (λ (y : ℕ × List ℕ). AddsPair way.Set y.0 a.count put (0 ∷ 0 ∷ y.1) (0 ∷ 0 ∷ in_hand (name_of a.table) z)) (λ i. (mask i, hand i)) e.adds)
+    (λ p. e.versions p ∙ ap (λ (ws : List ℕ). entry_field (slots class) ws p 0) hand)

@@ -12,18 +12,18 @@ use Rattle.ft_trace.specs.Acts.{stage}
 use Rattle.ft_trace.specs.Addresses.{class_of}
 use Rattle.ft_trace.specs.Holds.{held, in_hand, known}
 use Rattle.ft_trace.specs.Kinds.{rows}
-use Rattle.ft_trace.specs.Worlds.{ContainerState}
+use Rattle.ft_trace.specs.ContainerStates.{ContainerState}
 use Rattle.ft_bank.specs.declared.table.Table.{Table}
 use Rattle.ft_bank.specs.Passes.{shape_of, view}
-use Rattle.ft_bank.specs.Tables.{name_of}
+use Rattle.ft_bank.specs.TableNames.{name_of}
 use Rattle.ft_growth.specs.Adding.{OnlyFilled}
 use Rattle.ft_growth.proofs.Rooting.{filled_then}
 use Rattle.ft_adding.specs.Fresh.{IsFilledWith}
-use Rattle.ft_adding.specs.Growing.{KnowsKeyed}
+use Rattle.ft_adding.specs.KeyGrowth.{KnowsKeyed}
 use Rattle.ft_adding.proofs.Grown.{knows_filled, same_filled}
 use Rattle.ft_adding.proofs.Keyed.{counts_known}
 use Rattle.ft_merging.specs.Parting.{parted}
-use Rattle.ft_merging.proofs.Finished.{is_set}
+use Rattle.ft_merging.proofs.ThinningEnds.{is_set}
 use Rattle.ft_parting.specs.Choosing.{HasChosen, IsChosen, chosen}
 use Rattle.ft_parting.proofs.Chosen.{set_rule, set_words}
 use Rattle.ft_parting.proofs.Choices.{chosen_new, has_fills}

@@ -1,7 +1,7 @@
 use Rattle.std.proofs.Common.{sym, subst}
 use Rattle.ft_bank.specs.declared.bank.Bank.{Bank}
 use Rattle.ft_bank.specs.Passes.{IsPassOf}
-use Rattle.ft_adding.proofs.Copied.{ran_fresh}
+use Rattle.ft_adding.proofs.FilledTables.{ran_fresh}
 use Rattle.ft_parting.proofs.choosing.place_in.Goals as goal
 
 pub returns-clause-pass : goal.returns-clause-pass

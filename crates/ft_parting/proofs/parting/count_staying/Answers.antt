@@ -6,10 +6,10 @@ use Rattle.ft_trace.specs.Holds.{known}
 use Rattle.ft_bank.specs.declared.table.Table.{Table}
 use Rattle.ft_bank.specs.Passes.{shape_of, view}
 use Rattle.ft_search.proofs.Calling.{loaded_same}
-use Rattle.ft_adding.specs.Growing.{KnowsKeyed}
-use Rattle.ft_merging.proofs.Finished.{is_set}
+use Rattle.ft_adding.specs.KeyGrowth.{KnowsKeyed}
+use Rattle.ft_merging.proofs.ThinningEnds.{is_set}
 use Rattle.ft_parting.proofs.Chosen.{none_there}
-use Rattle.ft_parting.proofs.Parts.{new_length}
+use Rattle.ft_parting.proofs.PartedSets.{new_length}
 use Rattle.ft_parting.proofs.parting.count_staying.Goals as goal
 
 pub count_lacking-requires-clause-other : goal.count_lacking-requires-clause-other

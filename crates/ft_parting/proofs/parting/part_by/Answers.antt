@@ -4,18 +4,18 @@ use Rattle.ft_model.specs.Worlds.{set_of}
 use Rattle.ft_trace.specs.Holds.{known}
 use Rattle.ft_bank.specs.declared.table.Table.{Table}
 use Rattle.ft_bank.specs.Passes.{shape_of, view}
-use Rattle.ft_bank.proofs.Whole.{loaded_held, work_knows}
-use Rattle.ft_search.specs.Writing.{MayWriteEntries}
+use Rattle.ft_bank.proofs.KnownAfterWrites.{loaded_held, work_knows}
+use Rattle.ft_search.specs.OneEntryWrites.{MayWriteEntries}
 use Rattle.ft_search.proofs.Calling.{loaded_same}
 use Rattle.ft_search.proofs.Changing.{kind_is}
 use Rattle.ft_search.proofs.Spotting.{may_loaded}
-use Rattle.ft_adding.specs.Growing.{KnowsKeyed}
+use Rattle.ft_adding.specs.KeyGrowth.{KnowsKeyed}
 use Rattle.ft_adding.proofs.Taken.{has_loaded}
 use Rattle.ft_model.specs.Worlds.{serial_of}
 use Rattle.ft_merging.specs.Joining.{joined}
 use Rattle.ft_merging.specs.Parting.{PartsSets}
 use Rattle.ft_merging.proofs.JoinedSame.{known_bare, known_itself, none_joined}
-use Rattle.ft_parting.proofs.Parts.{none_drawn, parts_by, parts_later, parts_then}
+use Rattle.ft_parting.proofs.PartedSets.{none_drawn, parts_by, parts_later, parts_then}
 use Rattle.ft_parting.proofs.parting.part_by.Goals as goal
 use Rattle.ft_parting.proofs.parting.part_by.Goals.{After-own_table}
 

@@ -4,21 +4,21 @@ use Rattle.ft_model.specs.declared.content.Content.TheVariants as content
 use Rattle.ft_model.specs.Contents.{those_not_in}
 use Rattle.ft_model.specs.Worlds.{serial_of, set_of}
 use Rattle.ft_trace.specs.Holds.{held, known}
-use Rattle.ft_trace.specs.Words.{Picture}
-use Rattle.ft_trace.specs.Worlds.{ContainerState}
+use Rattle.ft_trace.specs.Pictures.{Picture}
+use Rattle.ft_trace.specs.ContainerStates.{ContainerState}
 use Rattle.ft_bank.specs.Passes.{shape_of, view}
 use Rattle.ft_bank.specs.Whole.{OnlyLoaded}
-use Rattle.ft_bank.proofs.Whole.{loaded_held, loaded_then, work_knows}
+use Rattle.ft_bank.proofs.KnownAfterWrites.{loaded_held, loaded_then, work_knows}
 use Rattle.ft_search.proofs.Spotting.{may_loaded}
-use Rattle.ft_adding.specs.Growing.{KnowsKeyed}
+use Rattle.ft_adding.specs.KeyGrowth.{KnowsKeyed}
 use Rattle.ft_adding.specs.Placing.{AreCounts}
 use Rattle.ft_adding.proofs.Present.{may_add}
 use Rattle.ft_adding.proofs.Taken.{has_loaded}
 use Rattle.ft_merging.specs.Joining.{new_keys}
-use Rattle.ft_merging.proofs.Finished.{is_set}
+use Rattle.ft_merging.proofs.ThinningEnds.{is_set}
 use Rattle.ft_merging.proofs.JoinedReads.{knows_loaded}
 use Rattle.ft_merging.proofs.JoinedSame.{known_cap}
-use Rattle.ft_parting.proofs.Parts.{few_apart, new_length, parts_by, parts_later}
+use Rattle.ft_parting.proofs.PartedSets.{few_apart, new_length, parts_by, parts_later}
 use Rattle.ft_parting.proofs.parting.part_from.Goals as goal
 use Rattle.ft_parting.proofs.parting.part_from.Goals.{After-own_table-old, After-count_lacking-more, After-count_staying-stay}
 

@@ -1,19 +1,19 @@
 use Rattle.std.proofs.Common.{◌≡◌, ℕ, Bool, false, Option, Some, None, refl, sym, ap, ◌∙◌, subst}
 use Rattle.ft_model.specs.declared.content.Content.TheVariants as content
 use Rattle.ft_model.specs.declared.reply.Reply.TheVariants as reply
-use Rattle.ft_model.specs.Tables.{passes_cap}
+use Rattle.ft_model.specs.TableUses.{passes_cap}
 use Rattle.ft_model.specs.Worlds.{set_of}
 use Rattle.ft_keys.specs.declared.walk.Way.TheVariants as way
 use Rattle.ft_trace.specs.Holds.{known}
 use Rattle.ft_bank.specs.declared.table.Table.{Table}
 use Rattle.ft_bank.specs.Passes.{shape_of, view}
 use Rattle.ft_growth.specs.Adding.{IsAdded}
-use Rattle.ft_search.specs.Writing.{MayWriteEntries}
+use Rattle.ft_search.specs.OneEntryWrites.{MayWriteEntries}
 use Rattle.ft_search.proofs.Changing.{kind_is}
-use Rattle.ft_adding.specs.Growing.{MayAddKey, keys_take}
+use Rattle.ft_adding.specs.KeyGrowth.{MayAddKey, keys_take}
 use Rattle.ft_adding.proofs.Keyed.{use_known}
 use Rattle.ft_merging.specs.Joining.{new_keys}
-use Rattle.ft_merging.proofs.Finished.{is_set}
+use Rattle.ft_merging.proofs.ThinningEnds.{is_set}
 use Rattle.ft_merging.proofs.JoinedCalls.{made_here}
 use Rattle.ft_merging.proofs.JoinedRoom.{bare_none}
 use Rattle.ft_merging.proofs.JoinedStarts.{may_write}

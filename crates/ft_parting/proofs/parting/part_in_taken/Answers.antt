@@ -2,33 +2,33 @@ use Rattle.std.proofs.Common.{◌≡◌, ◌≢◌, ◌≤◌, ◌+◌, ℕ, suc
 use Rattle.ft_model.specs.declared.content.Content.TheVariants as content
 use Rattle.ft_model.specs.declared.reply.Reply.TheVariants as reply
 use Rattle.ft_model.specs.declared.script.Kind.TheVariants as kind
-use Rattle.ft_model.specs.Tables.{StoredWorld}
+use Rattle.ft_model.specs.TableUses.{StoredWorld}
 use Rattle.ft_model.specs.Worlds.{serial_of, set_of}
 use Rattle.ft_trace.specs.Acts.{has_lock}
 use Rattle.ft_trace.specs.Addresses.{class_of}
 use Rattle.ft_trace.specs.Holds.{held, in_hand, known}
 use Rattle.ft_trace.specs.Kinds.{rows}
-use Rattle.ft_trace.specs.Words.{Picture, root_in}
-use Rattle.ft_trace.specs.Worlds.{ContainerState}
+use Rattle.ft_trace.specs.Pictures.{Picture, root_in}
+use Rattle.ft_trace.specs.ContainerStates.{ContainerState}
 use Rattle.ft_bank.specs.Passes.{shape_of, view}
-use Rattle.ft_bank.specs.Tables.{name_of, root_for}
+use Rattle.ft_bank.specs.TableNames.{name_of, root_for}
 use Rattle.ft_bank.specs.Whole.{Wrote}
-use Rattle.ft_bank.specs.Writes.{MayHave}
-use Rattle.ft_bank.proofs.Tables.{class_is}
+use Rattle.ft_bank.specs.WriteSteps.{MayHave}
+use Rattle.ft_bank.proofs.TableAddresses.{class_is}
 use Rattle.ft_growth.specs.Adding.{Retires}
 use Rattle.ft_growth.proofs.Rooting.{filled_wrote, taken_out}
 use Rattle.ft_section.specs.declared.answers.Stamp.{Stamp}
 use Rattle.ft_adding.specs.Fresh.{IsFilledWith}
-use Rattle.ft_adding.specs.Growing.{MayGrow}
+use Rattle.ft_adding.specs.KeyGrowth.{MayGrowKeyed}
 use Rattle.ft_adding.specs.Placing.{AreCounts}
 use Rattle.ft_adding.proofs.Grown.{filled_has, grow_filled, same_filled}
 use Rattle.ft_adding.proofs.Keyed.{counts_known, fresh_other}
 use Rattle.ft_adding.proofs.Taken.{tried_has, tried_knows, tried_may, tried_words}
 use Rattle.ft_merging.specs.Parting.{parted}
-use Rattle.ft_merging.proofs.Finished.{is_set}
+use Rattle.ft_merging.proofs.ThinningEnds.{is_set}
 use Rattle.ft_replacing.specs.Replacing.{Replaces}
 use Rattle.ft_replacing.proofs.Replaced.{replaces_later}
-use Rattle.ft_parting.proofs.Parts.{part_few, part_room, parted_next, parts_replaces}
+use Rattle.ft_parting.proofs.PartedSets.{part_few, part_room, parted_next, parts_replaces}
 use Rattle.ft_parting.proofs.parting.part_in_taken.Goals as goal
 use Rattle.ft_parting.proofs.parting.part_in_taken.Goals.{After-take, In-Taken}
 
@@ -46,7 +46,7 @@ words_t c =
     let e = c.in-Taken.ensures in
     tried_words _ (view a.pass.now) (view c.take.new.pass) e.same e.keeps (shape_of a.bank.now) a.t (Some a.table) c.requires.pass.1 c.requires.other
 
-grow : (c : In-Taken) → MayGrow (shape_of c.args.bank.now) c.args.s c.args.old c.in-Taken.new (view c.take.new.pass)
+grow : (c : In-Taken) → MayGrowKeyed (shape_of c.args.bank.now) c.args.s c.args.old c.in-Taken.new (view c.take.new.pass)
 grow c =
     let a = c.args in
     let e = c.in-Taken.ensures in

@@ -5,17 +5,17 @@ use Rattle.ft_model.specs.declared.content.Element.{Element}
 use Rattle.ft_model.specs.declared.reply.Reply.TheVariants as reply
 use Rattle.ft_model.specs.Classes.{most_elements, set_class}
 use Rattle.ft_model.specs.Contents.{SetContent, those_not_in}
-use Rattle.ft_model.specs.Tables.{TableUse, outgrows_set, passes_cap}
+use Rattle.ft_model.specs.TableUses.{TableUse, outgrows_set, passes_cap}
 use Rattle.ft_model.specs.Worlds.{set_of}
 use Rattle.ft_growth.specs.Adding.{IsAdded}
 use Rattle.ft_trace.specs.Holds.{known}
 use Rattle.ft_bank.specs.Passes.{shape_of, view}
-use Rattle.ft_adding.specs.Growing.{use_of}
+use Rattle.ft_adding.specs.KeyGrowth.{use_of}
 use Rattle.ft_adding.proofs.Keyed.{use_known}
 use Rattle.ft_merging.specs.Parting.{part_takes, parted}
-use Rattle.ft_merging.proofs.Finished.{is_set}
+use Rattle.ft_merging.proofs.ThinningEnds.{is_set}
 use Rattle.ft_merging.proofs.PartedHere.{part_draws}
-use Rattle.ft_parting.proofs.Parts.{parted_length}
+use Rattle.ft_parting.proofs.PartedSets.{parted_length}
 use Rattle.ft_parting.proofs.parting.part_more.Goals as goal
 use Rattle.ft_parting.proofs.parting.part_more.Goals.{After-words_are_of_one_content}
 

@@ -1,17 +1,17 @@
 use Rattle.std.proofs.Common.{◌≡◌, ℕ, Bool, false, Option, None, sym, ap, ◌∙◌, subst}
 use Rattle.ft_model.specs.declared.content.Content.TheVariants as content
 use Rattle.ft_model.specs.declared.reply.Reply.TheVariants as reply
-use Rattle.ft_model.specs.Tables.{passes_cap}
+use Rattle.ft_model.specs.TableUses.{passes_cap}
 use Rattle.ft_model.specs.Worlds.{set_of}
 use Rattle.ft_trace.specs.Holds.{known}
 use Rattle.ft_bank.specs.Passes.{shape_of, view}
 use Rattle.ft_growth.specs.declared.adding.Added.TheVariants as added
 use Rattle.ft_growth.specs.Adding.{IsAdded}
 use Rattle.ft_merging.specs.Parting.{parted}
-use Rattle.ft_merging.proofs.Finished.{is_set}
+use Rattle.ft_merging.proofs.ThinningEnds.{is_set}
 use Rattle.ft_merging.proofs.JoinedCalls.{made_here}
 use Rattle.ft_merging.proofs.JoinedSame.{known_cap}
-use Rattle.ft_parting.proofs.Parts.{parts_thins, thin_cap, thin_kept, thin_takes}
+use Rattle.ft_parting.proofs.PartedSets.{parts_thins, thin_cap, thin_kept, thin_takes}
 use Rattle.ft_parting.proofs.parting.part_thin.Goals as goal
 use Rattle.ft_parting.proofs.parting.part_thin.Goals.{After-used_entries_follow_a_set}
 

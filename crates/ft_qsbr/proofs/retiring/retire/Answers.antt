@@ -4,10 +4,10 @@ use Rattle.ft_trace.specs.declared.Act.TheVariants.{PutHeader, Retire}
 use Rattle.ft_trace.specs.Acts.{debt, goal, has_goal, noted, stage}
 use Rattle.ft_trace.proofs.Cases.{hit}
 use Rattle.ft_bank.specs.Passes.{view}
-use Rattle.ft_bank.specs.Tables.{name_of}
+use Rattle.ft_bank.specs.TableNames.{name_of}
 use Rattle.ft_bank.specs.Takings.{Each, NotTable}
 use Rattle.ft_bank.proofs.Freeing.{held_then}
-use Rattle.ft_qsbr.proofs.Passing.{retirement_same}
+use Rattle.ft_qsbr.proofs.PassesStay.{retirement_same}
 use Rattle.ft_qsbr.proofs.retiring.retire.Goals as ask
 
 pub put_goal-requires-clause-retired : ask.put_goal-requires-clause-retired

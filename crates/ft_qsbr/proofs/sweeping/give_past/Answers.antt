@@ -2,11 +2,11 @@ use Rattle.std.proofs.Common.{◌≤◌, true≢false, [], ◌∷◌, refl, sym,
 use Rattle.ft_trace.specs.declared.Shape.{Shape}
 use Rattle.ft_trace.specs.declared.View.{View}
 use Rattle.ft_trace.specs.declared.Act.TheVariants.{ReadHeader, GiveTable, RaiseCount}
-use Rattle.ft_trace.specs.Addresses.{IsTable}
+use Rattle.ft_trace.specs.Addresses.{IsTableName}
 use Rattle.ft_trace.specs.Acts.{clear, noted}
 use Rattle.ft_bank.specs.Passes.{view, shape_of}
-use Rattle.ft_bank.specs.Tables.{name_of}
-use Rattle.ft_bank.proofs.Tables.{named}
+use Rattle.ft_bank.specs.TableNames.{name_of}
+use Rattle.ft_bank.proofs.TableAddresses.{named}
 use Rattle.ft_qsbr.specs.Collecting.{IsPast}
 use Rattle.ft_qsbr.proofs.Sweeps.{kept_one, given_one}
 use Rattle.ft_qsbr.proofs.sweeping.give_past.Goals as ask
@@ -24,7 +24,7 @@ pub give_retired-requires-clause-clear : ask.give_retired-requires-clause-clear
 give_retired-requires-clause-clear c p some_one low =
     let t = name_of c.args.table in
     let v = view c.args.pass.now in
-    let table : IsTable v.shape t = subst (λ (z : Shape). IsTable z t) (sym c.requires.pass.1) (named (shape_of c.args.bank.now) c.args.table c.requires.table) in
+    let table : IsTableName v.shape t = subst (λ (z : Shape). IsTableName z t) (sym c.requires.pass.1) (named (shape_of c.args.bank.now) c.args.table c.requires.table) in
     let past = subst (IsPast c.args.least) c.goal-goal.ensures.is (c.is_past.ensures.0 c.if-not-is_past.false) in
     ap (λ (u : View). clear t p u.log) c.goal-goal.ensures.did.1 ∙ c.requires.seen t p table c.requires.kept past some_one (subst (λ (z : Shape). p ≤ z.passes) (sym c.requires.pass.1) low)
 

@@ -3,7 +3,7 @@ use Rattle.ft_trace.specs.declared.Shape.{Shape}
 use Rattle.ft_trace.specs.Bits.{bit}
 use Rattle.ft_bank.specs.Passes.{view}
 use Rattle.ft_bank.specs.Retired.{table_of_bit}
-use Rattle.ft_bank.specs.Tables.{name_of, IsTableIn}
+use Rattle.ft_bank.specs.TableNames.{name_of, IsTableIn}
 use Rattle.ft_bank.proofs.Retiring.{bits_of}
 use Rattle.ft_qsbr.specs.Sweeping.{bit_index, Swept}
 use Rattle.ft_qsbr.proofs.Sweeps.{bit_is_set, bit_is_clear, index_bit, none_kept, swept_none}

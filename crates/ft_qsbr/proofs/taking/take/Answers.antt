@@ -6,14 +6,14 @@ use Rattle.ft_trace.specs.Floors.{at_floor}
 use Rattle.ft_trace.specs.Owners.{SameOwners}
 use Rattle.ft_trace.proofs.Owning.{owners_then}
 use Rattle.ft_trace.specs.Hands.{cursor_in}
-use Rattle.ft_trace.specs.Sections.{begun}
+use Rattle.ft_trace.specs.BegunSections.{begun}
 use Rattle.ft_bank.specs.declared.takings.Took.{Took}
 use Rattle.ft_bank.specs.Passes.{view}
 use Rattle.ft_bank.specs.Series.{noted_all}
 use Rattle.ft_bank.specs.Takings.{IsTaking, StaysIn}
 use Rattle.ft_bank.proofs.Freeing.{but_same, but_then}
 use Rattle.ft_qsbr.specs.Collecting.{StaysOrGoes, loads_of}
-use Rattle.ft_qsbr.proofs.Passing.{begun_stays, cursors_stay, floor_stays, since_stays, owners_stay, learnt_stays, seen_stays, collection_leaves, given_or_kept, taking_leaves, same_by}
+use Rattle.ft_qsbr.proofs.PassesStay.{begun_stays, cursors_stay, floor_stays, since_stays, owners_stay, learnt_stays, seen_stays, collection_leaves, given_or_kept, taking_leaves, same_by}
 use Rattle.ft_qsbr.proofs.taking.take.Goals as goal
 
 pub take_table-requires-clause-idle : goal.take_table-requires-clause-idle

@@ -5,7 +5,7 @@ use Rattle.ft_model.specs.declared.reply.Reply.TheVariants as reply
 use Rattle.ft_model.specs.declared.script.Kind.TheVariants as kind
 use Rattle.ft_model.specs.Classes.{most_pairs}
 use Rattle.ft_model.specs.Contents.{DictContent, dict_copy}
-use Rattle.ft_model.specs.Tables.{StoredWorld}
+use Rattle.ft_model.specs.TableUses.{StoredWorld}
 use Rattle.ft_model.specs.Worlds.{length_of, serial_of}
 use Rattle.ft_model.proofs.Copies.{length-pairs_from}
 use Rattle.ft_layout.specs.Containers.{StandsAs}
@@ -13,16 +13,16 @@ use Rattle.ft_trace.specs.Acts.{has_lock}
 use Rattle.ft_trace.specs.Addresses.{class_of}
 use Rattle.ft_trace.specs.Holds.{held, known}
 use Rattle.ft_trace.specs.Kinds.{rows}
-use Rattle.ft_trace.specs.Words.{Picture, root_in}
-use Rattle.ft_trace.specs.Worlds.{ContainerState}
+use Rattle.ft_trace.specs.Pictures.{Picture, root_in}
+use Rattle.ft_trace.specs.ContainerStates.{ContainerState}
 use Rattle.ft_bank.specs.Passes.{shape_of, view}
-use Rattle.ft_bank.specs.Tables.{name_of, root_for}
-use Rattle.ft_bank.specs.Writes.{MayHave}
-use Rattle.ft_bank.proofs.Tables.{class_is}
+use Rattle.ft_bank.specs.TableNames.{name_of, root_for}
+use Rattle.ft_bank.specs.WriteSteps.{MayHave}
+use Rattle.ft_bank.proofs.TableAddresses.{class_is}
 use Rattle.ft_growth.specs.Adding.{Retires}
 use Rattle.ft_growth.proofs.Rooting.{filled_wrote, taken_out}
 use Rattle.ft_search.proofs.Changing.{kind_is}
-use Rattle.ft_adding.specs.Growing.{MayGrow}
+use Rattle.ft_adding.specs.KeyGrowth.{MayGrowKeyed}
 use Rattle.ft_adding.specs.Placing.{AreCounts}
 use Rattle.ft_adding.proofs.Grown.{filled_has, grow_filled, same_filled}
 use Rattle.ft_adding.proofs.Keyed.{counts_known, fresh_other}
@@ -66,7 +66,7 @@ words_d c =
     let e = c.in-Taken.ensures in
     tried_words _ (view a.pass.now) (view c.take.new.pass) e.same e.keeps (shape_of a.bank.now) a.d a.from c.requires.pass.1 c.requires.keyed
 
-grow : (c : In-Taken) → MayGrow (shape_of c.args.bank.now) c.args.e c.args.old c.in-Taken.table (view c.take.new.pass)
+grow : (c : In-Taken) → MayGrowKeyed (shape_of c.args.bank.now) c.args.e c.args.old c.in-Taken.table (view c.take.new.pass)
 grow c =
     let a = c.args in
     let e = c.in-Taken.ensures in

@@ -3,26 +3,26 @@ use Rattle.ft_model.specs.declared.content.Content.{Content}
 use Rattle.ft_model.specs.declared.content.Content.TheVariants as content
 use Rattle.ft_model.specs.Classes.{most_pairs}
 use Rattle.ft_model.specs.Contents.{DictContent}
-use Rattle.ft_model.specs.Tables.{copy_takes}
+use Rattle.ft_model.specs.TableUses.{copy_takes}
 use Rattle.ft_model.specs.Worlds.{length_of, serial_of}
 use Rattle.ft_layout.specs.Containers.{StandsAs}
 use Rattle.ft_trace.specs.declared.Shape.{Shape}
 use Rattle.ft_trace.specs.declared.View.{View}
 use Rattle.ft_trace.specs.Holds.{held, known}
-use Rattle.ft_trace.specs.Words.{Picture, root_in}
-use Rattle.ft_trace.specs.Worlds.{ContainerState}
+use Rattle.ft_trace.specs.Pictures.{Picture, root_in}
+use Rattle.ft_trace.specs.ContainerStates.{ContainerState}
 use Rattle.ft_bank.specs.declared.table.Table.{Table}
 use Rattle.ft_bank.specs.Passes.{shape_of, view}
 use Rattle.ft_bank.specs.Whole.{OnlyLoaded}
-use Rattle.ft_bank.proofs.Showing.{serials_have_room}
-use Rattle.ft_bank.proofs.Whole.{loaded_held, loaded_then, work_knows}
+use Rattle.ft_bank.proofs.ShownReplies.{serials_have_room}
+use Rattle.ft_bank.proofs.KnownAfterWrites.{loaded_held, loaded_then, work_knows}
 use Rattle.ft_growth.proofs.Rooting.{loaded_filled}
 use Rattle.ft_growth.specs.declared.adding.Added.TheVariants as added
-use Rattle.ft_search.specs.Writing.{MayWriteEntries}
+use Rattle.ft_search.specs.OneEntryWrites.{MayWriteEntries}
 use Rattle.ft_search.proofs.Changing.{kind_is}
 use Rattle.ft_search.proofs.Spotting.{may_loaded}
-use Rattle.ft_keyed.specs.Clearing.{IsRootOf}
-use Rattle.ft_adding.specs.Growing.{KnowsKeyed}
+use Rattle.ft_keyed.specs.Clearing.{HasRootOf}
+use Rattle.ft_adding.specs.KeyGrowth.{KnowsKeyed}
 use Rattle.ft_adding.specs.Placing.{AreCounts}
 use Rattle.ft_adding.proofs.Grown.{filled_has}
 use Rattle.ft_adding.proofs.Keyed.{counts_known}
@@ -65,7 +65,7 @@ may_d c = may_loaded (shape_of c.args.bank.now) c.args.d (view c.args.pass.now) 
 may_e : (c : After-read_counts-next) → MayWriteEntries (shape_of c.args.bank.now) c.args.e (view c.read_counts-next.new.pass)
 may_e c = may_loaded (shape_of c.args.bank.now) c.args.e (view c.args.pass.now) (view c.read_counts-next.new.pass) (only_last c) c.requires.other
 
-knows_by : (k : Shape) (o : ℕ) (old : Option Table) (v u : View) → MayWriteEntries k o u → held o u ≡ held o v → IsRootOf k o old v → KnowsKeyed k o old u
+knows_by : (k : Shape) (o : ℕ) (old : Option Table) (v u : View) → MayWriteEntries k o u → held o u ≡ held o v → HasRootOf k o old v → KnowsKeyed k o old u
 knows_by k o old v u may same root = record {
   container = may.container;
   keyed = may.keyed;

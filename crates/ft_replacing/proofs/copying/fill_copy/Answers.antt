@@ -9,11 +9,11 @@ use Rattle.ft_keys.specs.declared.walk.Way.TheVariants as way
 use Rattle.ft_trace.specs.Addresses.{class_of, slots}
 use Rattle.ft_trace.specs.Holds.{held, in_hand, known}
 use Rattle.ft_bank.specs.Passes.{shape_of, view}
-use Rattle.ft_bank.specs.Tables.{name_of}
-use Rattle.ft_bank.proofs.Tables.{class_is, named}
+use Rattle.ft_bank.specs.TableNames.{name_of}
+use Rattle.ft_bank.proofs.TableAddresses.{class_is, named}
 use Rattle.ft_growth.proofs.Rooting.{filled_then}
 use Rattle.ft_adding.specs.Fresh.{IsFilledWith}
-use Rattle.ft_adding.proofs.Copied.{room_of_way}
+use Rattle.ft_adding.proofs.FilledTables.{room_of_way}
 use Rattle.ft_adding.proofs.Keyed.{counts_known}
 use Rattle.ft_replacing.specs.Replacing.{renumbered}
 use Rattle.ft_replacing.proofs.Numbered.{numbered_filled}

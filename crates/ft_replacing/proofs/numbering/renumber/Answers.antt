@@ -4,13 +4,13 @@ use Rattle.ft_trace.specs.declared.Act.TheVariants.{PutFresh}
 use Rattle.ft_trace.specs.declared.View.{View}
 use Rattle.ft_trace.specs.Addresses.{class_of, size, slots}
 use Rattle.ft_trace.specs.Holds.{in_hand}
-use Rattle.ft_trace.specs.Words.{entry_at}
+use Rattle.ft_trace.specs.Pictures.{entry_offset}
 use Rattle.ft_bank.specs.Passes.{view}
-use Rattle.ft_bank.specs.Tables.{name_of}
-use Rattle.ft_bank.proofs.Tables.{class_is}
+use Rattle.ft_bank.specs.TableNames.{name_of}
+use Rattle.ft_bank.proofs.TableAddresses.{class_is}
 use Rattle.ft_growth.proofs.Rooting.{filled_by, filled_same, filled_then}
-use Rattle.ft_search.proofs.Places.{slots_of_class}
-use Rattle.ft_adding.proofs.Copied.{table_is_long}
+use Rattle.ft_search.proofs.WordPlaces.{slots_of_class}
+use Rattle.ft_adding.proofs.FilledTables.{table_is_long}
 use Rattle.ft_replacing.specs.Replacing.{renumbered}
 use Rattle.ft_replacing.proofs.numbering.renumber.Goals as goal
 use Rattle.ft_replacing.proofs.numbering.renumber.Goals.{After-mask_of-slots}
@@ -63,7 +63,7 @@ loop-place-preserved c =
     let n = slots (class_of (name_of a.table)) in
     let p = c.loop-place.place in
     let size_is = wide (goal.at.loop-place-preserved c).After-mask_of-slots in
-    let at : 8 * p + 6 + (c.mask_of-slots.result + 1) ≡ entry_at n p 6 = omega (arith, size_is) in
+    let at : 8 * p + 6 + (c.mask_of-slots.result + 1) ≡ entry_offset n p 6 = omega (arith, size_is) in
     let more : suc p ≡ p + 1 = omega arith in
     record {
       pass = (put.did.0 ∙ i.pass.0, ap (λ (u : View). u.shape) put.did.1 ∙ i.pass.1);

@@ -1,7 +1,7 @@
 use Rattle.std.proofs.Common.{ap, ◌∙◌}
 use Rattle.ft_trace.specs.declared.View.{View}
 use Rattle.ft_trace.specs.Holds.{held}
-use Rattle.ft_trace.specs.Words.{root_in}
+use Rattle.ft_trace.specs.Pictures.{root_in}
 use Rattle.ft_bank.specs.Passes.{shape_of, view}
 use Rattle.ft_replacing.proofs.Swaps.{Swapping, committed_u, may_put_none, may_put_table, odd_u, root_u, shut_u, stands_u, swapping_commits, swapping_wrote}
 use Rattle.ft_replacing.proofs.swapping.swap_table.Goals as goal

@@ -1,4 +1,4 @@
-use Rattle.ft_script.proofs.Making.{number_past, thread_added}
+use Rattle.ft_script.proofs.MadeLines.{number_past, thread_added}
 use Rattle.ft_script.proofs.generator.make_script.Goals as goal
 
 pub loop-thread-preserved : goal.loop-thread-preserved

@@ -1,7 +1,7 @@
 use Rattle.std.proofs.Common.{◌≡◌, ◌++◌, map}
 use Rattle.std.specs.List.{range_with_len}
 use Rattle.ft_script.specs.Generator.{calls_above, made_thread, number_at}
-use Rattle.ft_script.proofs.Making.{thread_text}
+use Rattle.ft_script.proofs.MadeLines.{thread_text}
 use Rattle.ft_script.proofs.generator.make_script.Given as goal
 
 abbrev pub invariant-loop-thread : goal.invariant-loop-thread

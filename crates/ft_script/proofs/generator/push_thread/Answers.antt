@@ -1,5 +1,5 @@
 use Rattle.std.proofs.Common.{◌+◌}
-use Rattle.ft_script.proofs.Making.{call_added, last_number, number_drawn, thread_line_added}
+use Rattle.ft_script.proofs.MadeLines.{call_added, last_number, number_drawn, thread_line_added}
 use Rattle.ft_script.proofs.generator.push_thread.Goals as goal
 
 pub loop-preserved : goal.loop-preserved

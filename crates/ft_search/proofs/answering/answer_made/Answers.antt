@@ -2,7 +2,7 @@ use Rattle.std.proofs.Common.{[], ◌∷◌, refl, subst, sym}
 use Rattle.ft_trace.specs.declared.Act.TheVariants.{ReadCounter}
 use Rattle.ft_bank.specs.Passes.{view}
 use Rattle.ft_section.specs.declared.answers.Stamp.{Stamp}
-use Rattle.ft_search.specs.Calls.{MadeAs}
+use Rattle.ft_search.specs.MadeCalls.{MadeAs}
 use Rattle.ft_search.proofs.Asking.{answered_locked, held_shown}
 use Rattle.ft_search.proofs.Calling.{answered_as, loaded_same, shown_replied}
 use Rattle.ft_search.proofs.answering.answer_made.Goals as goal

@@ -4,15 +4,15 @@ use Rattle.ft_model.specs.declared.script.Kind.{Kind}
 use Rattle.ft_trace.specs.declared.View.{View}
 use Rattle.ft_trace.specs.Acts.{has_committed}
 use Rattle.ft_trace.specs.Holds.{held, known}
-use Rattle.ft_trace.specs.Worlds.{kind_in}
-use Rattle.ft_trace.specs.Writes.{MayPuts, with_puts}
+use Rattle.ft_trace.specs.ContainerStates.{kind_in}
+use Rattle.ft_trace.specs.WholeWrites.{MayPuts, with_puts}
 use Rattle.ft_trace.proofs.Cases.{hit}
 use Rattle.ft_bank.specs.Passes.{shape_of, view}
-use Rattle.ft_bank.specs.Tables.{name_of}
-use Rattle.ft_search.specs.Writing.{deletion, without_key}
+use Rattle.ft_bank.specs.TableNames.{name_of}
+use Rattle.ft_search.specs.OneEntryWrites.{deletion, without_key}
 use Rattle.ft_search.proofs.Changing.{Changing, kind_is}
 use Rattle.ft_search.proofs.Deletions.{deletes_known}
-use Rattle.ft_search.proofs.Endings.{entry_finishes, whole_root, whole_write, writes_begun}
+use Rattle.ft_search.proofs.ReadyCommits.{entry_finishes, whole_root, whole_write, writes_begun}
 use Rattle.ft_search.proofs.Laws.{DictLaws, SetLaws}
 use Rattle.ft_search.proofs.deleting.delete_entry.Goals as goal
 use Rattle.ft_search.proofs.deleting.delete_entry.Goals.{After-start_write}

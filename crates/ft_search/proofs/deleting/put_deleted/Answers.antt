@@ -2,7 +2,7 @@ use Rattle.std.proofs.Common.{◌-◌, arith}
 use Rattle.ft_trace.specs.declared.Act.TheVariants.{ReadBlock, PutBlock}
 use Rattle.ft_bank.specs.Passes.{shape_of, view}
 use Rattle.ft_bank.specs.Whole.{OnlyLoaded, OnlyPut}
-use Rattle.ft_bank.proofs.Whole.{loaded_by, put_by}
+use Rattle.ft_bank.proofs.KnownAfterWrites.{loaded_by, put_by}
 use Rattle.ft_search.proofs.Deletions.{counted_writes, opens, dies, deleted_only, deleted_words}
 use Rattle.ft_search.proofs.deleting.put_deleted.Goals as goal
 use Rattle.ft_search.proofs.deleting.put_deleted.Goals.{After-put_block}

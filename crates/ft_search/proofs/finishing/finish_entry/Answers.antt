@@ -1,9 +1,9 @@
 use Rattle.std.proofs.Common.{sym, ◌∙◌, subst}
 use Rattle.ft_trace.specs.declared.Shape.{Shape}
 use Rattle.ft_trace.specs.Holds.{held, known}
-use Rattle.ft_trace.specs.Words.{Stands}
+use Rattle.ft_trace.specs.Pictures.{Stands}
 use Rattle.ft_bank.specs.Passes.{view}
-use Rattle.ft_search.proofs.Endings.{close_care, stands_then, shut_then, ends_then}
+use Rattle.ft_search.proofs.ReadyCommits.{close_care, stands_then, shut_then, ends_then}
 use Rattle.ft_search.proofs.finishing.finish_entry.Goals as goal
 
 pub raise_version-requires-clause-care : goal.raise_version-requires-clause-care

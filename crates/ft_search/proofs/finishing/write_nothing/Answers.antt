@@ -1,9 +1,9 @@
 use Rattle.std.proofs.Common.{ℕ, ap, ◌∙◌}
 use Rattle.ft_trace.specs.declared.View.{View}
 use Rattle.ft_trace.specs.Holds.{held}
-use Rattle.ft_trace.specs.Words.{root_in}
+use Rattle.ft_trace.specs.Pictures.{root_in}
 use Rattle.ft_bank.specs.Passes.{shape_of, view}
-use Rattle.ft_search.proofs.Endings.{nothing_commits, nothing_stands, nothing_shut, nothing_wrote}
+use Rattle.ft_search.proofs.ReadyCommits.{nothing_commits, nothing_stands, nothing_shut, nothing_wrote}
 use Rattle.ft_search.proofs.finishing.write_nothing.Goals as goal
 
 pub commit-number-requires-clause-may : goal.commit-number-requires-clause-may

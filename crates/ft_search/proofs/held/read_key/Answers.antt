@@ -7,16 +7,16 @@ use Rattle.ft_keys.specs.declared.search.Found.TheVariants.{Was}
 use Rattle.ft_trace.specs.declared.Act.{Act}
 use Rattle.ft_trace.specs.declared.Act.TheVariants.{ReadBlock}
 use Rattle.ft_trace.specs.Holds.{held, known}
-use Rattle.ft_trace.specs.Words.{root_in}
-use Rattle.ft_trace.specs.Worlds.{kind_in}
+use Rattle.ft_trace.specs.Pictures.{root_in}
+use Rattle.ft_trace.specs.ContainerStates.{kind_in}
 use Rattle.ft_bank.specs.Passes.{shape_of, view}
-use Rattle.ft_bank.specs.Tables.{name_of}
+use Rattle.ft_bank.specs.TableNames.{name_of}
 use Rattle.ft_bank.specs.Whole.{OnlyLoaded}
 use Rattle.ft_search.specs.Held.{ReadsEntry}
 use Rattle.ft_search.proofs.Costing.{few_before}
 use Rattle.ft_search.proofs.Running.{did_trans}
 use Rattle.ft_search.proofs.Rounding.{looks_append, looks_load}
-use Rattle.ft_search.proofs.Holding.{of_way, bare_held, key_held}
+use Rattle.ft_search.proofs.FoundInContents.{of_way, bare_held, key_held}
 use Rattle.ft_trace.specs.declared.Shape.{Shape}
 use Rattle.ft_search.proofs.held.read_key.Goals as goal
 

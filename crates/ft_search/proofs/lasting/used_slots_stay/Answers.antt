@@ -1,5 +1,5 @@
 use Rattle.ft_bank.specs.Passes.{view}
-use Rattle.ft_search.proofs.Staying.{slots_stay}
+use Rattle.ft_search.proofs.IndexWordsStay.{slots_stay}
 use Rattle.ft_search.proofs.lasting.used_slots_stay.Goals as goal
 
 pub returns : goal.returns

@@ -6,10 +6,10 @@ use Rattle.ft_trace.specs.declared.Shape.{Shape}
 use Rattle.ft_trace.specs.declared.View.{View}
 use Rattle.ft_trace.specs.Addresses.{containers_in}
 use Rattle.ft_trace.specs.Holds.{held, known}
-use Rattle.ft_trace.specs.Worlds.{kind_in}
+use Rattle.ft_trace.specs.ContainerStates.{kind_in}
 use Rattle.ft_bank.specs.Answered.{Answered}
 use Rattle.ft_bank.specs.Passes.{shape_of, view}
-use Rattle.ft_bank.proofs.Whole.{loaded_by}
+use Rattle.ft_bank.proofs.KnownAfterWrites.{loaded_by}
 use Rattle.ft_search.specs.Lengths.{len_of}
 use Rattle.ft_search.proofs.Asking.{answered_locked}
 use Rattle.ft_search.proofs.Lengths.{count_is, len_held}

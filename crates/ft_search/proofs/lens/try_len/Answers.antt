@@ -2,12 +2,12 @@ use Rattle.std.proofs.Common.{◌<◌, ℕ, inr, sym, ap, subst}
 use Rattle.ft_model.specs.declared.call.Call.{Call}
 use Rattle.ft_trace.specs.declared.Shape.{Shape}
 use Rattle.ft_trace.specs.Addresses.{containers_in}
-use Rattle.ft_trace.specs.Worlds.{kind_in}
+use Rattle.ft_trace.specs.ContainerStates.{kind_in}
 use Rattle.ft_bank.specs.Passes.{shape_of, view}
 use Rattle.ft_section.specs.declared.answers.Objects.TheVariants.{One}
 use Rattle.ft_search.proofs.Lengths.{len_sections}
-use Rattle.ft_search.proofs.Trying.{LeavesSections, making_read, making_stands}
-use Rattle.ft_section.proofs.Tries.{let_gone}
+use Rattle.ft_search.proofs.ReadMidst.{LeavesSections, making_read, making_stands}
+use Rattle.ft_section.proofs.TriedSections.{let_gone}
 use Rattle.ft_search.proofs.lens.try_len.Goals as goal
 
 pub len_locked-reply-requires-clause-stands : goal.len_locked-reply-requires-clause-stands

@@ -1,7 +1,7 @@
 use Rattle.std.proofs.Common.{ℕ, ◌∷◌, ap, ◌∙◌, sym, subst}
 use Rattle.ft_trace.specs.declared.Act.TheVariants.{ReadRoot}
 use Rattle.ft_bank.specs.Passes.{shape_of}
-use Rattle.ft_bank.specs.Tables.{name_of}
+use Rattle.ft_bank.specs.TableNames.{name_of}
 use Rattle.ft_search.specs.Rounds.{EndsRound}
 use Rattle.ft_search.proofs.Rounding.{at_bare, at_table}
 use Rattle.ft_search.proofs.Spending.{at_root}

@@ -1,11 +1,11 @@
 use Rattle.std.proofs.Common.{◌≡◌, ℕ, suc, List, ◌∷◌}
 use Rattle.ft_trace.specs.declared.Act.{Act}
 use Rattle.ft_trace.specs.declared.Act.TheVariants.{ReadRoot}
-use Rattle.ft_trace.specs.Addresses.{IsTable}
+use Rattle.ft_trace.specs.Addresses.{IsTableName}
 use Rattle.ft_bank.specs.Passes.{shape_of, view, IsPassOf}
 use Rattle.ft_bank.specs.Series.{DidAll}
-use Rattle.ft_search.specs.Costs.{AreMovedRounds}
-use Rattle.ft_search.specs.Looks.{AreLooks}
+use Rattle.ft_search.specs.SearchCosts.{AreMovedRounds}
+use Rattle.ft_search.specs.KeyLooks.{AreLooks}
 use Rattle.ft_search.proofs.Rounding.{rounds_left}
 use Rattle.ft_search.proofs.look.look_up.Given as goal
 
@@ -13,7 +13,7 @@ abbrev pub invariant-rounds : goal.invariant-rounds
 invariant-rounds l =
     record {
       pass : IsPassOf l.bank l.pass;
-      table : (t : ℕ) → l.root ≡ suc t → IsTable (shape_of l.bank) t;
+      table : (t : ℕ) → l.root ≡ suc t → IsTableName (shape_of l.bank) t;
       made : (part : List Act) × AreLooks part × DidAll (ReadRoot l.o l.root ∷ part) l.fn.pass l.pass;
       spent : (moved : ℕ) × (acts : List Act) × AreLooks acts × DidAll acts l.fn.pass l.pass × AreMovedRounds l.way l.o moved l.root acts;
     }

@@ -1,12 +1,12 @@
 use Rattle.std.proofs.Common.{◌≡◌, [], ◌∷◌, ◌++◌, refl, sym, ◌∙◌, arith}
 use Rattle.ft_layout.specs.Words.{key_kind}
 use Rattle.ft_bank.specs.Passes.{shape_of}
-use Rattle.ft_bank.specs.Tables.{name_of}
-use Rattle.ft_search.specs.Rounds.{met_acts, seen_acts}
+use Rattle.ft_bank.specs.TableNames.{name_of}
+use Rattle.ft_search.specs.Rounds.{met_acts, entry_acts}
 use Rattle.ft_search.proofs.Running.{did_none}
 use Rattle.ft_search.proofs.Spending.{seen_none}
 use Rattle.ft_search.proofs.Walking.{walked_more, walked_past}
-use Rattle.ft_search.proofs.Closing.{beyond_passed, moved_passed, stops_seen, closes_here}
+use Rattle.ft_search.proofs.SearchEnds.{beyond_passed, moved_passed, stops_seen, closes_here}
 use Rattle.ft_search.proofs.rounds.look_at.Goals as goal
 
 pub returns-then-place-entries-clause-turns : goal.returns-then-place-entries-clause-turns
@@ -24,7 +24,7 @@ returns-then-not-stood-clause-turns c slot earlier left w =
     let s = c.args.words.now in
     let t = name_of s.table in
     let seen = c.read_between-seen.result in
-    (seen_acts t c.args.place seen, tt, c.read_between-seen.ensures.did, stops_seen (shape_of s.bank.now) s.o t c.args.key slot c.args.place earlier (let low = c.if-place-entries.false in omega (arith, low, c.requires.entries)) seen (c.if-not-stood.ensures.no refl))
+    (entry_acts t c.args.place seen, tt, c.read_between-seen.ensures.did, stops_seen (shape_of s.bank.now) s.o t c.args.key slot c.args.place earlier (let low = c.if-place-entries.false in omega (arith, low, c.requires.entries)) seen (c.if-not-stood.ensures.no refl))
 
 pub returns-then-seen-kind_of-clause-turns : goal.returns-then-seen-kind_of-clause-turns
 returns-then-seen-kind_of-clause-turns c slot earlier left w =
@@ -35,7 +35,7 @@ returns-then-seen-kind_of-clause-turns c slot earlier left w =
     let seen = c.read_between-seen.result in
     let stood = c.if-not-stood.ensures.yes refl in
     let part = met_acts t slot c.args.place key (key_kind key) earlier in
-    let new = seen_acts t c.args.place seen in (
+    let new = entry_acts t c.args.place seen in (
       new,
       tt,
       c.read_between-seen.ensures.did,
@@ -54,7 +54,7 @@ returns-clause-turns c slot earlier left w =
     let stood = c.if-not-stood.ensures.yes refl in
     let low = c.if-place-entries.false in
     let live : seen.key_kind ≡ key_kind key = omega (arith, c.if-seen-kind_of.false, c.kind_of.ensures) in (
-      seen_acts t c.args.place seen,
+      entry_acts t c.args.place seen,
       tt,
       c.read_between-seen.ensures.did,
       closes_here k s.o t key slot c.args.place earlier seen (omega (arith, low, c.requires.entries)) stood.0 stood.1 live,
@@ -67,16 +67,16 @@ pub returns-then-not-stood-clause-index : goal.returns-then-not-stood-clause-ind
 returns-then-not-stood-clause-index c =
     let t = name_of c.args.words.now.table in
     let seen = c.read_between-seen.result in
-    (seen_acts t c.args.place seen, c.read_between-seen.ensures.did, seen_none t c.args.place seen)
+    (entry_acts t c.args.place seen, c.read_between-seen.ensures.did, seen_none t c.args.place seen)
 
 pub returns-then-seen-kind_of-clause-index : goal.returns-then-seen-kind_of-clause-index
 returns-then-seen-kind_of-clause-index c =
     let t = name_of c.args.words.now.table in
     let seen = c.read_between-seen.result in
-    (seen_acts t c.args.place seen, c.read_between-seen.ensures.did, seen_none t c.args.place seen)
+    (entry_acts t c.args.place seen, c.read_between-seen.ensures.did, seen_none t c.args.place seen)
 
 pub returns-clause-index : goal.returns-clause-index
 returns-clause-index c =
     let t = name_of c.args.words.now.table in
     let seen = c.read_between-seen.result in
-    (seen_acts t c.args.place seen, c.read_between-seen.ensures.did, seen_none t c.args.place seen)
+    (entry_acts t c.args.place seen, c.read_between-seen.ensures.did, seen_none t c.args.place seen)

@@ -3,14 +3,14 @@ use Rattle.ft_layout.specs.Words.{gone_kind}
 use Rattle.ft_trace.specs.declared.Act.{Act}
 use Rattle.ft_trace.specs.declared.Act.TheVariants.{ReadTable}
 use Rattle.ft_trace.specs.Addresses.{class_of, slots}
-use Rattle.ft_trace.specs.Words.{entry_at}
+use Rattle.ft_trace.specs.Pictures.{entry_offset}
 use Rattle.ft_bank.specs.Passes.{shape_of}
-use Rattle.ft_bank.specs.Tables.{name_of}
+use Rattle.ft_bank.specs.TableNames.{name_of}
 use Rattle.ft_search.specs.Rounds.{met_acts}
 use Rattle.ft_search.proofs.Running.{did_none, did_trans, at_same}
 use Rattle.ft_search.proofs.Spending.{version_none, versions_none}
 use Rattle.ft_search.proofs.Walking.{walked_more, walked_past}
-use Rattle.ft_search.proofs.Closing.{beyond_passed, deleted_passed, stops_deleted}
+use Rattle.ft_search.proofs.SearchEnds.{beyond_passed, deleted_passed, stops_deleted}
 use Rattle.ft_bank.specs.Series.{DidAll}
 use Rattle.ft_search.proofs.rounds.look_at_deleted.Goals as goal
 
@@ -30,7 +30,7 @@ returns-then-opened-eq0-clause-turns c key slot earlier left w =
     let t = name_of s.table in
     let part = met_acts t slot c.args.place key (gone_kind key) earlier in
     let opened = c.word-opened.result in
-    let load : Act = ReadTable t (entry_at (slots (class_of t)) c.args.place 0) opened in
+    let load : Act = ReadTable t (entry_offset (slots (class_of t)) c.args.place 0) opened in
     let new : List Act = load ∷ [] in (
       new,
       tt,
@@ -48,9 +48,9 @@ returns-clause-turns c key slot earlier left w =
     let t = name_of s.table in
     let opened = c.word-opened.result in
     let closed = c.word-closed.result in
-    let first : Act = ReadTable t (entry_at (slots (class_of t)) c.args.place 0) opened in
-    let second : Act = ReadTable t (entry_at (slots (class_of t)) c.args.place 0) closed in
-    let again : DidAll (second ∷ []) s1.pass.now s2.pass.now = at_same (λ _ _ n. DidAll (ReadTable n (entry_at (slots (class_of n)) c.args.place 0) closed ∷ []) s1.pass.now s2.pass.now) s s1 c.word-opened.ensures.same c.word-closed.ensures.did in (
+    let first : Act = ReadTable t (entry_offset (slots (class_of t)) c.args.place 0) opened in
+    let second : Act = ReadTable t (entry_offset (slots (class_of t)) c.args.place 0) closed in
+    let again : DidAll (second ∷ []) s1.pass.now s2.pass.now = at_same (λ _ _ n. DidAll (ReadTable n (entry_offset (slots (class_of n)) c.args.place 0) closed ∷ []) s1.pass.now s2.pass.now) s s1 c.word-opened.ensures.same c.word-closed.ensures.did in (
       second ∷ (first ∷ []),
       tt,
       did_trans (second ∷ []) (first ∷ []) s.pass.now s1.pass.now s2.pass.now c.word-opened.ensures.did again,
@@ -64,7 +64,7 @@ pub returns-then-opened-eq0-clause-index : goal.returns-then-opened-eq0-clause-i
 returns-then-opened-eq0-clause-index c =
     let t = name_of c.args.words.now.table in
     let opened = c.word-opened.result in
-    (ReadTable t (entry_at (slots (class_of t)) c.args.place 0) opened ∷ [], c.word-opened.ensures.did, version_none t c.args.place opened)
+    (ReadTable t (entry_offset (slots (class_of t)) c.args.place 0) opened ∷ [], c.word-opened.ensures.did, version_none t c.args.place opened)
 
 pub returns-clause-index : goal.returns-clause-index
 returns-clause-index c =
@@ -74,7 +74,7 @@ returns-clause-index c =
     let t = name_of s.table in
     let opened = c.word-opened.result in
     let closed = c.word-closed.result in
-    let first : Act = ReadTable t (entry_at (slots (class_of t)) c.args.place 0) opened in
-    let second : Act = ReadTable t (entry_at (slots (class_of t)) c.args.place 0) closed in
-    let again : DidAll (second ∷ []) s1.pass.now s2.pass.now = at_same (λ _ _ n. DidAll (ReadTable n (entry_at (slots (class_of n)) c.args.place 0) closed ∷ []) s1.pass.now s2.pass.now) s s1 c.word-opened.ensures.same c.word-closed.ensures.did in
+    let first : Act = ReadTable t (entry_offset (slots (class_of t)) c.args.place 0) opened in
+    let second : Act = ReadTable t (entry_offset (slots (class_of t)) c.args.place 0) closed in
+    let again : DidAll (second ∷ []) s1.pass.now s2.pass.now = at_same (λ _ _ n. DidAll (ReadTable n (entry_offset (slots (class_of n)) c.args.place 0) closed ∷ []) s1.pass.now s2.pass.now) s s1 c.word-opened.ensures.same c.word-closed.ensures.did in
     (second ∷ (first ∷ []), did_trans (second ∷ []) (first ∷ []) s.pass.now s1.pass.now s2.pass.now c.word-opened.ensures.did again, versions_none t c.args.place opened closed)

@@ -8,10 +8,10 @@ use Rattle.ft_trace.specs.declared.Act.{Act}
 use Rattle.ft_trace.specs.declared.Act.TheVariants.{ReadCounter}
 use Rattle.ft_trace.specs.Addresses.{class_of}
 use Rattle.ft_trace.specs.Kinds.{rows}
-use Rattle.ft_trace.specs.Worlds.{kind_in}
+use Rattle.ft_trace.specs.ContainerStates.{kind_in}
 use Rattle.ft_search.specs.declared.looks.Looked.TheVariants.{Absent}
 use Rattle.ft_bank.specs.Passes.{shape_of}
-use Rattle.ft_bank.specs.Tables.{name_of}
+use Rattle.ft_bank.specs.TableNames.{name_of}
 use Rattle.ft_search.specs.Rounds.{met_acts, Walked, TurnsAfter}
 use Rattle.ft_search.proofs.Running.{did_none, same_trans, at_same}
 use Rattle.ft_search.proofs.Seeking.{sought, own, on, after_met, free_again, spent_at}

@@ -3,16 +3,16 @@ use Rattle.ft_keys.specs.Ways.{walk_slots}
 use Rattle.ft_trace.specs.declared.Act.{Act}
 use Rattle.ft_trace.specs.declared.Act.TheVariants.{ReadRoot}
 use Rattle.ft_trace.specs.Acts.{reads, announces}
-use Rattle.ft_trace.specs.Addresses.{IsTable, class_of, slots}
-use Rattle.ft_trace.specs.Words.{walk_of}
+use Rattle.ft_trace.specs.Addresses.{IsTableName, class_of, slots}
+use Rattle.ft_trace.specs.Pictures.{walk_of}
 use Rattle.ft_trace.specs.Kinds.{rows}
-use Rattle.ft_trace.specs.Finding.{IsNew}
+use Rattle.ft_trace.specs.LoggedLookUps.{IsNew}
 use Rattle.ft_bank.specs.Passes.{shape_of, view}
 use Rattle.ft_bank.specs.Series.{DidAll}
-use Rattle.ft_bank.specs.Tables.{name_of}
-use Rattle.ft_bank.proofs.Tables.{class_is}
+use Rattle.ft_bank.specs.TableNames.{name_of}
+use Rattle.ft_bank.proofs.TableAddresses.{class_is}
 use Rattle.ft_search.proofs.Running.{did_trans, did_log, at_same, inner_announces}
-use Rattle.ft_search.proofs.Places.{mask_is, room_for, slots_is, walk_is}
+use Rattle.ft_search.proofs.WordPlaces.{mask_is, room_for, slots_is, walk_is}
 use Rattle.ft_search.proofs.Spending.{walk_low, searched_round, round_more}
 use Rattle.ft_search.proofs.rounds.search_table.Goals as goal
 
@@ -66,7 +66,7 @@ returns-then-again-root-clause-ended c =
     let same = c.search_walk-looked.ensures.same in
     let log : (view s1.pass.now).log ≡ m.0 ++ (view s0.pass.now).log = did_log m.0 s0.pass.now s1.pass.now m.2 in
     let read : DidAll (ReadRoot s0.o r ∷ []) s1.pass.now s2.pass.now = at_same (λ _ o _. DidAll (ReadRoot o r ∷ []) s1.pass.now s2.pass.now) s0 s1 same c.root-again.ensures.did in
-    let table : (u : ℕ) → r ≡ suc u → IsTable (shape_of s0.bank.now) u = at_same (λ k _ _. (u : ℕ) → r ≡ suc u → IsTable k u) s0 s1 same c.root-again.ensures.table in
+    let table : (u : ℕ) → r ≡ suc u → IsTableName (shape_of s0.bank.now) u = at_same (λ k _ _. (u : ℕ) → r ≡ suc u → IsTableName k u) s0 s1 same c.root-again.ensures.table in
     let new : IsNew s0.o r (view s1.pass.now).log = at_same (λ _ o _. IsNew o r (view s1.pass.now).log) s0 s1 same c.root-again.ensures.changed in
     let ne : r ≢ suc t = λ e. c.if-again-root.true (e ∙ sym c.requires.root) in
     let last : (view s0.pass.now).log ≡ ReadRoot s0.o (suc t) ∷ c.requires.last.0 = c.requires.last.1 ∙ ap (λ (z : ℕ). ReadRoot s0.o z ∷ c.requires.last.0) c.requires.root in (

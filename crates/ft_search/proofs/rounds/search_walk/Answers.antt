@@ -1,8 +1,8 @@
 use Rattle.std.proofs.Common.{ℕ, ◌≤◌, List, [], ◌++◌, Some, None, refl, sym, ◌∙◌, arith}
 use Rattle.ft_trace.specs.declared.Act.{Act}
 use Rattle.ft_bank.specs.Passes.{shape_of}
-use Rattle.ft_bank.specs.Tables.{name_of}
-use Rattle.ft_search.specs.Costs.{MayWalkOn, SpendsSearch}
+use Rattle.ft_bank.specs.TableNames.{name_of}
+use Rattle.ft_search.specs.SearchCosts.{MayWalkOn, SpendsSearch}
 use Rattle.ft_search.specs.Rounds.{Walked, TurnsAfter}
 use Rattle.ft_search.proofs.Running.{did_none, did_trans, same_self, same_trans, at_same, inner_append}
 use Rattle.ft_search.proofs.Walking.{walked_none}

@@ -1,11 +1,11 @@
 use Rattle.std.proofs.Common.{◌≡◌, List, length}
 use Rattle.ft_trace.specs.declared.Act.{Act}
-use Rattle.ft_trace.specs.Finding.{Inner}
+use Rattle.ft_trace.specs.LoggedLookUps.{Inner}
 use Rattle.ft_bank.specs.Passes.{shape_of}
 use Rattle.ft_bank.specs.Series.{DidAll}
-use Rattle.ft_bank.specs.Tables.{name_of}
-use Rattle.ft_search.specs.Words.{CanLoad, SamePlace}
-use Rattle.ft_search.specs.Costs.{MayWalkOn}
+use Rattle.ft_bank.specs.TableNames.{name_of}
+use Rattle.ft_search.specs.TableWords.{CanLoad, SamePlace}
+use Rattle.ft_search.specs.SearchCosts.{MayWalkOn}
 use Rattle.ft_search.specs.Rounds.{Walked}
 use Rattle.ft_search.proofs.rounds.search_walk.Given as goal
 

@@ -10,20 +10,20 @@ use Rattle.ft_trace.specs.declared.Shape.{Shape}
 use Rattle.ft_trace.specs.declared.View.{View}
 use Rattle.ft_trace.specs.Acts.{has_lock}
 use Rattle.ft_trace.specs.Holds.{held, known}
-use Rattle.ft_trace.specs.Words.{Picture, root_in}
-use Rattle.ft_trace.specs.Worlds.{kind_in}
+use Rattle.ft_trace.specs.Pictures.{Picture, root_in}
+use Rattle.ft_trace.specs.ContainerStates.{kind_in}
 use Rattle.ft_bank.specs.Passes.{shape_of, view}
 use Rattle.ft_bank.specs.Series.{DidAll}
-use Rattle.ft_bank.specs.Tables.{name_of}
+use Rattle.ft_bank.specs.TableNames.{name_of}
 use Rattle.ft_bank.specs.Whole.{OnlyLoaded}
 use Rattle.ft_search.specs.declared.spots.Spot.{Spot}
 use Rattle.ft_search.specs.declared.spots.Spot.TheVariants as spot
-use Rattle.ft_search.specs.Costs.{AreFewReads}
+use Rattle.ft_search.specs.SearchCosts.{AreFewReads}
 use Rattle.ft_search.specs.Held.{ReadsEntry}
-use Rattle.ft_search.specs.Looks.{AreLooks}
+use Rattle.ft_search.specs.KeyLooks.{AreLooks}
 use Rattle.ft_search.specs.Spots.{IsSpot}
 use Rattle.ft_search.proofs.Costing.{few_before}
-use Rattle.ft_search.proofs.Holding.{bare_held, of_way}
+use Rattle.ft_search.proofs.FoundInContents.{bare_held, of_way}
 use Rattle.ft_search.proofs.Rounding.{looks_append, looks_load}
 use Rattle.ft_search.proofs.Running.{did_trans, did_log}
 use Rattle.ft_search.proofs.Spotting.{spot_is, may_loaded, spot_loaded}

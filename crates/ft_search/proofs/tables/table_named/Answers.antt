@@ -3,10 +3,10 @@ use Rattle.std.proofs.lemmas.Option.{none-some}
 use Rattle.ft_model.specs.Classes.{IsClass}
 use Rattle.ft_layout.specs.Words.{IsRootOf}
 use Rattle.ft_trace.specs.declared.Shape.{Shape}
-use Rattle.ft_trace.specs.Addresses.{class_of, number_of, tables_in, IsTable}
+use Rattle.ft_trace.specs.Addresses.{class_of, number_of, tables_in, IsTableName}
 use Rattle.ft_bank.specs.declared.table.Table.{Table}
-use Rattle.ft_bank.specs.Tables.{name_of, IsTableIn}
-use Rattle.ft_bank.proofs.Tables.{class_is, number_is}
+use Rattle.ft_bank.specs.TableNames.{name_of, IsTableIn}
+use Rattle.ft_bank.proofs.TableAddresses.{class_is, number_is}
 use Rattle.ft_search.proofs.tables.table_named.Goals as goal
 
 -- a table's root is the root of its class and number
@@ -14,7 +14,7 @@ root_is : (t : ℕ) → suc t ≡ class_of t * 65536 + number_of t + 1
 unfolding class_of number_of
 root_is t = omega arith
 
-none_named : (root : ℕ) (found : Option (ℕ × ℕ)) → ((class number : ℕ) → IsRootOf root class number ↔ (found ≡ Some (class, number))) → found ≡ None → (k : Shape) → ((t : ℕ) → root ≡ suc t → IsTable k t) → root ≡ 0
+none_named : (root : ℕ) (found : Option (ℕ × ℕ)) → ((class number : ℕ) → IsRootOf root class number ↔ (found ≡ Some (class, number))) → found ≡ None → (k : Shape) → ((t : ℕ) → root ≡ suc t → IsTableName k t) → root ≡ 0
 none_named zero found says none k names = refl
 none_named (suc t) found says none k names =
     let is = names t refl in
@@ -23,7 +23,7 @@ none_named (suc t) found says none k names =
 abbrev of_parts : ℕ → ℕ → Table
 of_parts class number = record { class = class; number = number }
 
-in_bank : (class number root : ℕ) → IsRootOf root class number → (k : Shape) → ((t : ℕ) → root ≡ suc t → IsTable k t) → IsTableIn k (of_parts class number)
+in_bank : (class number root : ℕ) → IsRootOf root class number → (k : Shape) → ((t : ℕ) → root ≡ suc t → IsTableName k t) → IsTableIn k (of_parts class number)
 in_bank class number root is k names =
     let table = of_parts class number in
     let c = class_is table is.1 in

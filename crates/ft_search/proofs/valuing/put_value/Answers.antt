@@ -1,6 +1,6 @@
 use Rattle.std.proofs.Common.{arith}
 use Rattle.ft_bank.specs.Passes.{shape_of, view}
-use Rattle.ft_search.proofs.Values.{value_opens, first_word, second_word, still_found, found_on, value_only, value_words}
+use Rattle.ft_search.proofs.OtherValues.{value_opens, first_word, second_word, still_found, found_on, value_only, value_words}
 use Rattle.ft_search.proofs.valuing.put_value.Goals as goal
 
 pub raise_version-requires-clause-care : goal.raise_version-requires-clause-care

@@ -3,18 +3,18 @@ use Rattle.ft_model.specs.declared.script.Kind.{Kind}
 use Rattle.ft_trace.specs.declared.View.{View}
 use Rattle.ft_trace.specs.Acts.{has_committed}
 use Rattle.ft_trace.specs.Holds.{held, known}
-use Rattle.ft_trace.specs.Words.{entry_of}
-use Rattle.ft_trace.specs.Worlds.{kind_in}
-use Rattle.ft_trace.specs.Writes.{MayPuts, with_puts}
+use Rattle.ft_trace.specs.Pictures.{entry_field}
+use Rattle.ft_trace.specs.ContainerStates.{kind_in}
+use Rattle.ft_trace.specs.WholeWrites.{MayPuts, with_puts}
 use Rattle.ft_trace.proofs.Cases.{hit}
 use Rattle.ft_bank.specs.Passes.{shape_of, view}
-use Rattle.ft_bank.specs.Tables.{name_of}
+use Rattle.ft_bank.specs.TableNames.{name_of}
 use Rattle.ft_trace.specs.Addresses.{class_of, slots}
 use Rattle.ft_trace.specs.EntryWrites.{value_puts}
-use Rattle.ft_search.specs.Writing.{with_value_at}
+use Rattle.ft_search.specs.OneEntryWrites.{with_value_at}
 use Rattle.ft_search.proofs.Changing.{Changing, kind_is}
-use Rattle.ft_search.proofs.Values.{ValueLaws, values_known}
-use Rattle.ft_search.proofs.Endings.{entry_finishes, whole_root, whole_write, writes_begun}
+use Rattle.ft_search.proofs.OtherValues.{ValueLaws, values_known}
+use Rattle.ft_search.proofs.ReadyCommits.{entry_finishes, whole_root, whole_write, writes_begun}
 use Rattle.ft_search.proofs.valuing.set_entry.Goals as goal
 use Rattle.ft_search.proofs.valuing.set_entry.Goals.{After-start_write}
 
@@ -48,12 +48,12 @@ put_value-requires-clause-early c =
 pub put_value-requires-clause-old_kind : goal.put_value-requires-clause-old_kind
 put_value-requires-clause-old_kind c =
     let a = c.args in
-    c.requires.old_kind ∙ sym (ap (λ (z : View). entry_of (slots (class_of (name_of a.table))) (held a.d z).table a.place 4) c.start_write.ensures.1)
+    c.requires.old_kind ∙ sym (ap (λ (z : View). entry_field (slots (class_of (name_of a.table))) (held a.d z).table a.place 4) c.start_write.ensures.1)
 
 pub put_value-requires-clause-old_payload : goal.put_value-requires-clause-old_payload
 put_value-requires-clause-old_payload c =
     let a = c.args in
-    c.requires.old_payload ∙ sym (ap (λ (z : View). entry_of (slots (class_of (name_of a.table))) (held a.d z).table a.place 5) c.start_write.ensures.1)
+    c.requires.old_payload ∙ sym (ap (λ (z : View). entry_field (slots (class_of (name_of a.table))) (held a.d z).table a.place 5) c.start_write.ensures.1)
 
 pub put_value-requires-clause-may : goal.put_value-requires-clause-may
 put_value-requires-clause-may c =

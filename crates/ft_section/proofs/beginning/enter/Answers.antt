@@ -2,12 +2,12 @@ use Rattle.std.proofs.Common.{◌≡◌, List, ◌++◌, ◌∷◌, [], inl, sym
 use Rattle.ft_bank.specs.declared.sections.OpenSection.{OpenSection}
 use Rattle.ft_bank.specs.declared.sections.Taking.{Taking}
 use Rattle.ft_bank.specs.Passes.{view, IsPassOf}
-use Rattle.ft_bank.specs.Sections.{Stack, stack_of, nothing_taken}
+use Rattle.ft_bank.specs.PassSections.{Stack, stack_of, nothing_taken}
 use Rattle.ft_model.specs.declared.call.Call.{Call}
 use Rattle.ft_model.specs.declared.reply.Reply.TheVariants as reply
 use Rattle.ft_section.specs.Ready.{InCall}
 use Rattle.ft_section.specs.Sectioning.{begin_of, answered_view}
-use Rattle.ft_section.proofs.Entering.{entered, in_order}
+use Rattle.ft_section.proofs.OpenedSections.{entered, in_order}
 use Rattle.ft_trace.specs.declared.View.{View}
 use Rattle.ft_section.proofs.beginning.enter.Goals as goal
 

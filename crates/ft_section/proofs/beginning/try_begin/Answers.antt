@@ -4,7 +4,7 @@ use Rattle.ft_section.proofs.Goings.{only_sees}
 use Rattle.ft_section.specs.Floors.{first_owned, floor_word}
 use Rattle.ft_section.specs.LockTakings.{lower_of, upper_of}
 use Rattle.ft_trace.specs.Addresses.{counter}
-use Rattle.ft_section.proofs.Floors.{not_yet_began}
+use Rattle.ft_section.proofs.FloorLogs.{not_yet_began}
 use Rattle.ft_section.specs.Locking.{LocksWithin}
 use Rattle.ft_section.proofs.beginning.try_begin.Goals as goal
 

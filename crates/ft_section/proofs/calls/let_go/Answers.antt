@@ -1,7 +1,7 @@
 use Rattle.std.proofs.Common.{inl, ◌≡◌, sym, ap, ◌∙◌, subst}
 use Rattle.ft_bank.specs.declared.sections.Taking.{Taking}
 use Rattle.ft_bank.specs.Passes.{view, IsPassOf}
-use Rattle.ft_bank.specs.Sections.{Stack, stack_of, taken_in, nothing_taken}
+use Rattle.ft_bank.specs.PassSections.{Stack, stack_of, taken_in, nothing_taken}
 use Rattle.ft_section.specs.Locking.{LetGo, with_own}
 use Rattle.ft_section.specs.Ready.{InCall, AreSuspended, NotesTop}
 use Rattle.ft_section.specs.declared.answers.Objects.TheVariants.{One}

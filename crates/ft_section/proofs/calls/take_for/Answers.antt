@@ -1,7 +1,7 @@
 use Rattle.std.proofs.Common.{◌≡◌, ◌⊎◌, ℕ, inl, inr, ⊎_elim, ap, sym, subst, ◌∙◌}
 use Rattle.ft_bank.specs.Passes.{view}
 use Rattle.ft_bank.specs.declared.sections.Taking.{Taking}
-use Rattle.ft_bank.specs.Sections.{Stack, stack_of, taken_in}
+use Rattle.ft_bank.specs.PassSections.{Stack, stack_of, taken_in}
 use Rattle.ft_section.specs.Locking.{KeepsLower, with_own, waiting, first_mark}
 use Rattle.ft_section.specs.Floors.{first_owned, got_by}
 use Rattle.ft_section.proofs.Goings.{found_then}

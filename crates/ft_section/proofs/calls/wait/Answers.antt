@@ -2,7 +2,7 @@ use Rattle.std.proofs.Common.{◌≡◌, ℕ, List, map, sym, ap, ◌∙◌, sub
 use Rattle.std.specs.Prelude.{Option, Some}
 use Rattle.ft_bank.specs.declared.sections.OpenSection.{OpenSection}
 use Rattle.ft_bank.specs.Passes.{view}
-use Rattle.ft_bank.specs.Sections.{Stack, stack_of, noted_in, suspended}
+use Rattle.ft_bank.specs.PassSections.{Stack, stack_of, noted_in, suspended}
 use Rattle.ft_section.specs.Locking.{LetGo, MayLetGo, waiting, marks_more, first_mark}
 use Rattle.ft_section.specs.Ready.{InCall, AreSuspended}
 use Rattle.ft_section.proofs.Waits.{may_sweep, waits}

@@ -2,7 +2,7 @@ use Rattle.std.proofs.Common.{◌+◌, List, sym, ◌∙◌, subst}
 use Rattle.ft_bank.specs.declared.sections.OpenSection.{OpenSection}
 use Rattle.ft_bank.specs.declared.sections.Taking.{Taking}
 use Rattle.ft_bank.specs.Passes.{view}
-use Rattle.ft_bank.specs.Sections.{stack_of, taken_in, noted_in}
+use Rattle.ft_bank.specs.PassSections.{stack_of, taken_in, noted_in}
 use Rattle.ft_section.specs.Locking.{LetGo, MayLetGo}
 use Rattle.ft_section.proofs.Droppings.{all_noted, may_drop, none_left, dropped}
 use Rattle.ft_trace.specs.declared.View.{View}

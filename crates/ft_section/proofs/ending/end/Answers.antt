@@ -1,15 +1,15 @@
 use Rattle.std.proofs.Common.{◌≡◌, ℕ, false, List, [], inl, sym, ap, ◌∙◌, subst}
 use Rattle.ft_bank.specs.declared.sections.OpenSection.{OpenSection}
 use Rattle.ft_bank.specs.Passes.{view, IsPassOf}
-use Rattle.ft_bank.specs.Sections.{Stack, stack_of, taken_in}
+use Rattle.ft_bank.specs.PassSections.{Stack, stack_of, taken_in}
 use Rattle.std.proofs.lemmas.List.{same_from_push}
-use Rattle.ft_section.specs.Answers.{stamp_of}
+use Rattle.ft_section.specs.AnswerFacts.{stamp_of}
 use Rattle.ft_section.specs.Locking.{LetGo}
 use Rattle.ft_section.specs.Ready.{InCall, AreBegun}
 use Rattle.ft_section.specs.Sectioning.{ended_by}
 use Rattle.ft_section.proofs.Ends.{end_may, ended, kept_held}
 use Rattle.ft_trace.specs.declared.View.{View}
-use Rattle.ft_trace.specs.Sections.{Begun}
+use Rattle.ft_trace.specs.BegunSections.{Begun}
 use Rattle.ft_trace.proofs.KeptSections.{kept_sections_are_untouched}
 use Rattle.ft_trace.specs.Owners.{SameOwners}
 use Rattle.ft_section.proofs.ending.end.Goals as goal

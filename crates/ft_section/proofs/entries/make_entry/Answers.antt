@@ -3,7 +3,7 @@ use Rattle.ft_bank.specs.Passes.{view}
 use Rattle.ft_bank.specs.Reads.{IsShown}
 use Rattle.ft_trace.specs.declared.View.{View}
 use Rattle.ft_trace.specs.Traces.{Possible}
-use Rattle.ft_section.proofs.Floors.{counter_known}
+use Rattle.ft_section.proofs.FloorLogs.{counter_known}
 use Rattle.ft_section.proofs.entries.make_entry.Goals as goal
 
 pub answer-requires-clause-shown : goal.answer-requires-clause-shown

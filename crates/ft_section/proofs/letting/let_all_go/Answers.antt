@@ -1,6 +1,6 @@
 use Rattle.std.proofs.Common.{◌∙◌, refl, take, arith}
 use Rattle.ft_bank.specs.Passes.{view}
-use Rattle.ft_bank.specs.Sections.{noted_in}
+use Rattle.ft_bank.specs.PassSections.{noted_in}
 use Rattle.ft_section.proofs.Notes.{noted_all, noted_none}
 use Rattle.ft_section.proofs.Releases.{let_none, let_as}
 use Rattle.ft_section.proofs.Sweeping.{may_go, gone}

@@ -1,6 +1,6 @@
 use Rattle.std.proofs.Common.{take}
 use Rattle.ft_bank.specs.Passes.{view}
-use Rattle.ft_bank.specs.Sections.{noted_in}
+use Rattle.ft_bank.specs.PassSections.{noted_in}
 use Rattle.ft_section.specs.Locking.{LetGo, KeepsStack}
 use Rattle.ft_section.proofs.letting.let_all_go.Given as goal
 

@@ -1,5 +1,5 @@
 use Rattle.ft_bank.specs.Passes.{view}
-use Rattle.ft_bank.specs.Sections.{taken_in, noted_in}
+use Rattle.ft_bank.specs.PassSections.{taken_in, noted_in}
 use Rattle.ft_section.proofs.Releases.{let_then}
 use Rattle.ft_section.proofs.letting.let_each_go.Goals as goal
 

@@ -1,7 +1,7 @@
 use Rattle.std.proofs.Common.{◌+◌, ℕ}
 use Rattle.std.specs.Prelude.{if◌then◌else◌}
 use Rattle.ft_bank.specs.Passes.{view}
-use Rattle.ft_bank.specs.Sections.{taken_in}
+use Rattle.ft_bank.specs.PassSections.{taken_in}
 use Rattle.ft_section.specs.Locking.{at_one}
 use Rattle.ft_section.proofs.Releases.{let_then, let_as, two_taken}
 use Rattle.ft_section.proofs.letting.let_taking_go.Goals as goal

@@ -1,5 +1,5 @@
 use Rattle.std.proofs.Common.{◌≡◌, drop}
-use Rattle.ft_bank.specs.Sections.{noted_in}
+use Rattle.ft_bank.specs.PassSections.{noted_in}
 use Rattle.ft_section.proofs.locks.is_noted.Given as goal
 
 abbrev pub invariant-loop-section : goal.invariant-loop-section

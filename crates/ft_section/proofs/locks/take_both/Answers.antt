@@ -1,7 +1,7 @@
 use Rattle.std.proofs.Common.{None, ◌≡◌, ◌<◌, ℕ, ◌⊎◌, true, inl, inr, ap, ◌∙◌, subst, sym}
 use Rattle.std.proofs.lemmas.Result.{IfErr-weaker}
 use Rattle.ft_bank.specs.Passes.{view}
-use Rattle.ft_bank.specs.Sections.{Stack, stack_of}
+use Rattle.ft_bank.specs.PassSections.{Stack, stack_of}
 use Rattle.ft_bank.specs.declared.sections.Taking.{Taking}
 use Rattle.ft_section.specs.Locking.{OnlyLocked, with_own}
 use Rattle.ft_section.proofs.InCalls.{own_pass, named}
@@ -13,7 +13,7 @@ use Rattle.std.specs.Prelude.{Option}
 use Rattle.ft_trace.specs.declared.Shape.{Shape}
 use Rattle.ft_trace.specs.Addresses.{containers_in}
 use Rattle.ft_section.specs.Floors.{owner_of, owner_or, first_found}
-use Rattle.ft_section.proofs.Floors.{owner_none}
+use Rattle.ft_section.proofs.FloorLogs.{owner_none}
 use Rattle.ft_trace.specs.Owners.{LocksOnly}
 use Rattle.ft_trace.proofs.Owning.{locks_only_then, locks_only_weaker}
 use Rattle.ft_section.proofs.locks.take_both.Goals as goal

@@ -2,7 +2,7 @@ use Rattle.std.proofs.Common.{◌≡◌, ◌≢◌, ◌+◌, refl, sym, ap, ◌�
 use Rattle.std.specs.Prelude.{if◌then◌else◌}
 use Rattle.ft_bank.specs.declared.sections.Taking.{Taking}
 use Rattle.ft_bank.specs.Passes.{view}
-use Rattle.ft_bank.specs.Sections.{stack_of, taken_in}
+use Rattle.ft_bank.specs.PassSections.{stack_of, taken_in}
 use Rattle.ft_section.specs.Locking.{at_one}
 use Rattle.ft_section.proofs.Gains.{at_one_is}
 use Rattle.ft_section.proofs.InCalls.{took_pass, tried_pass}

@@ -1,7 +1,7 @@
 use Rattle.std.proofs.Common.{◌≡◌, ◌<◌, ◌+◌, ◌∙◌, false, [], sym, ap, subst, arith}
 use Rattle.ft_bank.specs.Locks.{KeepsOthers}
 use Rattle.ft_bank.specs.Passes.{shape_of, view}
-use Rattle.ft_section.specs.Locking.{Took, at_one}
+use Rattle.ft_section.specs.Locking.{TookLocks, at_one}
 use Rattle.ft_section.proofs.Gains.{took_lock, tried_lock}
 use Rattle.ft_trace.specs.declared.Act.TheVariants.{Lock}
 use Rattle.ft_trace.specs.declared.Shape.{Shape}
@@ -9,11 +9,11 @@ use Rattle.ft_trace.specs.declared.View.{View}
 use Rattle.ft_trace.specs.Acts.{has_lock, noted}
 use Rattle.ft_trace.specs.Addresses.{containers_in}
 use Rattle.ft_trace.specs.Holds.{held, known}
-use Rattle.ft_trace.specs.Words.{Stands}
+use Rattle.ft_trace.specs.Pictures.{Stands}
 use Rattle.std.specs.Prelude.{suc}
 use Rattle.ft_trace.specs.Traces.{Possible}
 use Rattle.ft_section.specs.Floors.{FindsSame, owner_named}
-use Rattle.ft_section.proofs.Floors.{tried_known, took_finds}
+use Rattle.ft_section.proofs.FloorLogs.{tried_known, took_finds}
 use Rattle.ft_section.proofs.locks.take_one.Goals as goal
 
 pub returns-in-Ok-clause-took : goal.returns-in-Ok-clause-took
@@ -27,7 +27,7 @@ returns-in-Ok-clause-took c =
     let low = subst (λ (k : Shape). o < containers_in k) (sym shape) c.requires.container in
     let keeps = subst (KeepsOthers o v) d.1.1 c.in-Ok.ensures.keeps in
     let stands = subst (λ (k : Shape). Stands k.texts (held o w) (known o w)) (sym shape) (subst (λ (z : View). Stands (shape_of c.args.bank.now).texts (held o z) (known o z)) d.1.1 c.in-Ok.ensures.stands) in
-    subst (Took (at_one o) v) (sym d.1.1) (took_lock v o d.0 free low keeps stands)
+    subst (TookLocks (at_one o) v) (sym d.1.1) (took_lock v o d.0 free low keeps stands)
 
 pub returns-in-Err-clause-none : goal.returns-in-Err-clause-none
 returns-in-Err-clause-none c =
@@ -36,7 +36,7 @@ returns-in-Err-clause-none c =
     let d = c.in-Err.ensures.did in
     let free : has_lock o v.log ≡ false = sym (c.if-has.ensures) in
     let keeps = subst (KeepsOthers o v) d.1.1 c.in-Err.ensures.keeps in
-    subst (Took (λ p. 0) v) (sym d.1.1) (tried_lock v o (c.in-Err.owner + 1) d.0 free (λ e. absurd (omega (arith, e))) keeps)
+    subst (TookLocks (λ p. 0) v) (sym d.1.1) (tried_lock v o (c.in-Err.owner + 1) d.0 free (λ e. absurd (omega (arith, e))) keeps)
 
 pub returns-in-Err-clause-found : goal.returns-in-Err-clause-found
 returns-in-Err-clause-found c =

@@ -6,9 +6,9 @@ use Rattle.std.proofs.lemmas.List.Elements.{All-push}
 use Rattle.ft_bank.specs.declared.sections.OpenSection.{OpenSection}
 use Rattle.ft_bank.specs.declared.sections.Taking.{Taking}
 use Rattle.ft_bank.specs.Passes.{view}
-use Rattle.ft_bank.specs.Sections.{Stack, stack_of, taken_in, nothing_taken}
+use Rattle.ft_bank.specs.PassSections.{Stack, stack_of, taken_in, nothing_taken}
 use Rattle.ft_section.specs.Locking.{OnlyLocked, KeepsLower, marks_more}
-use Rattle.ft_section.specs.Ready.{IsMarked}
+use Rattle.ft_section.specs.Ready.{HasMarks}
 use Rattle.ft_section.specs.LockTakings.{HasBoth}
 use Rattle.ft_section.proofs.Goings.{found_then}
 use Rattle.ft_section.proofs.Releases.{only_then, only_same}
@@ -67,8 +67,8 @@ wait-requires-clause-marked c a e =
     let sections = ap (λ (s : Stack). s.sections) c.take_both.ensures.stack in
     let m = c.requires.inside.1.marked a (sym mark ∙ e) c.pop.new.self top split in
     let lacked : HasBoth v top.locks → ⊥ = λ both. ⊎_elim (λ (x : has_lock top.locks.lower v.log ≡ false). true≢false (sym both.0 ∙ x)) (λ (x : has_lock top.locks.upper v.log ≡ false). true≢false (sym both.1 ∙ x)) c.in-Err.ensures.lacked in
-    let here : IsMarked top = ⊎_elim (λ (x : IsMarked top). x) (λ (x : HasBoth v top.locks). absurd (lacked x)) m.1 in
-    subst (All IsMarked) (sym (sections ∙ split)) (All-push IsMarked c.pop.new.self top m.0 here)
+    let here : HasMarks top = ⊎_elim (λ (x : HasMarks top). x) (λ (x : HasBoth v top.locks). absurd (lacked x)) m.1 in
+    subst (All HasMarks) (sym (sections ∙ split)) (All-push HasMarks c.pop.new.self top m.0 here)
 
 pub returns-in-Ok-clause-ready : goal.returns-in-Ok-clause-ready
 returns-in-Ok-clause-ready c =

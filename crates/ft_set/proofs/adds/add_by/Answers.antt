@@ -15,11 +15,11 @@ use Rattle.ft_trace.specs.Holds.{held, known}
 use Rattle.ft_bank.specs.declared.table.Table.{Table}
 use Rattle.ft_bank.specs.Passes.{shape_of, view}
 use Rattle.ft_bank.specs.Whole.{Wrote}
-use Rattle.ft_bank.proofs.Showing.{serials_have_room}
+use Rattle.ft_bank.proofs.ShownReplies.{serials_have_room}
 use Rattle.ft_section.specs.declared.answers.Stamp.{Stamp}
 use Rattle.ft_search.specs.Held.{IsHeldAt}
-use Rattle.ft_search.specs.Writing.{Leaves}
-use Rattle.ft_adding.specs.Growing.{AddsKey, IsFreeFor, holds}
+use Rattle.ft_search.specs.OneEntryWrites.{Leaves}
+use Rattle.ft_adding.specs.KeyGrowth.{AddsKey, IsFreeFor, holds}
 use Rattle.ft_adding.proofs.Keyed.{knows_here, knows_bare}
 use Rattle.ft_adding.proofs.Present.{may_add, puts_absent, puts_present}
 use Rattle.ft_set.proofs.Leaving as leaving

@@ -5,7 +5,7 @@ use Rattle.ft_model.specs.declared.reply.Reply.TheVariants as reply
 use Rattle.ft_model.specs.declared.script.Kind.{Kind}
 use Rattle.ft_trace.specs.Kinds.{IsKeyed}
 use Rattle.ft_bank.specs.Passes.{shape_of}
-use Rattle.ft_growth.proofs.Staying.{making_given}
+use Rattle.ft_growth.proofs.GrowthMidst.{making_given}
 use Rattle.ft_search.proofs.Calling.{making_may}
 use Rattle.ft_set.proofs.clears.try_clear.Goals as goal
 

@@ -3,7 +3,7 @@ use Rattle.ft_model.specs.declared.call.SetCall.TheVariants as set
 use Rattle.ft_model.specs.declared.reply.Reply.TheVariants as reply
 use Rattle.ft_trace.specs.Holds.{known}
 use Rattle.ft_bank.specs.Passes.{shape_of, view}
-use Rattle.ft_search.specs.Writing.{Leaves, without_key}
+use Rattle.ft_search.specs.OneEntryWrites.{Leaves, without_key}
 use Rattle.ft_search.proofs.Calling.{made_loaded, written_made}
 use Rattle.ft_set.proofs.Leaving as left
 use Rattle.ft_set.proofs.deletes.discard_locked.Goals as goal

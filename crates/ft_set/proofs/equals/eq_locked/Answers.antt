@@ -5,13 +5,13 @@ use Rattle.ft_model.specs.declared.reply.Reply.TheVariants as reply
 use Rattle.ft_model.specs.Contents.{same_elements}
 use Rattle.ft_bank.specs.Passes.{shape_of, view}
 use Rattle.ft_bank.specs.Whole.{OnlyLoaded}
-use Rattle.ft_search.specs.Calls.{IsShownBy}
+use Rattle.ft_search.specs.MadeCalls.{IsShownBy}
 use Rattle.ft_search.proofs.Calling.{answer_loaded}
 use Rattle.ft_search.proofs.Running.{did_log}
 use Rattle.ft_search.proofs.Spotting.{may_loaded}
 use Rattle.ft_list.proofs.Both.{both_loaded}
 use Rattle.ft_keyed.specs.Comparing.{AreOfSets}
-use Rattle.ft_keyed.proofs.Knowing.{both_show, shown_then}
+use Rattle.ft_keyed.proofs.KnownContents.{both_show, shown_then}
 use Rattle.ft_set.proofs.Showing.{eq_shown}
 use Rattle.ft_set.proofs.equals.eq_locked.Goals as goal
 use Rattle.ft_set.proofs.equals.eq_locked.Goals.{After-are_same_sets-same}

@@ -6,7 +6,7 @@ use Rattle.ft_model.specs.Contents.{same_elements}
 use Rattle.ft_bank.specs.Passes.{shape_of, view}
 use Rattle.ft_list.specs.Pairs.{IsGlanceOfBoth}
 use Rattle.ft_keyed.specs.Comparing.{AreOfSets}
-use Rattle.ft_keyed.proofs.Windowed.{saw_both_answered, saw_both_shown, saw_first_stopped, saw_other_stopped}
+use Rattle.ft_list.proofs.Windowed.{saw_both_answered, saw_both_shown, saw_first_stopped, saw_other_stopped}
 use Rattle.ft_set.proofs.Showing.{eq_plain, eq_reply}
 use Rattle.ft_set.proofs.equals.look_eq.Goals as goal
 

@@ -2,7 +2,7 @@ use Rattle.std.proofs.Common.{◌≡◌}
 use Rattle.ft_model.specs.Contents.{same_elements}
 use Rattle.ft_bank.specs.Passes.{shape_of}
 use Rattle.ft_keyed.specs.Comparing.{AreOfSets}
-use Rattle.ft_keyed.proofs.Windowed.{saw_both_between}
+use Rattle.ft_list.proofs.Windowed.{saw_both_between}
 use Rattle.ft_set.proofs.equals.same_between.Goals as goal
 
 pub returns-clause-saw : goal.returns-clause-saw

@@ -5,10 +5,10 @@ use Rattle.ft_model.specs.declared.script.Kind.{Kind}
 use Rattle.ft_trace.specs.Kinds.{IsKeyed}
 use Rattle.ft_bank.specs.Passes.{shape_of, view}
 use Rattle.ft_section.specs.declared.answers.Objects.TheVariants.{One}
-use Rattle.ft_section.proofs.Tries.{let_gone}
+use Rattle.ft_section.proofs.TriedSections.{let_gone}
 use Rattle.ft_search.proofs.Calling.{making_may}
-use Rattle.ft_keyed.specs.Copies.{IsCopied}
-use Rattle.ft_keyed.proofs.Copied.{making_copied}
+use Rattle.ft_list.specs.Copies.{IsCopied}
+use Rattle.ft_list.proofs.ListMidst.{making_copied}
 use Rattle.ft_set.proofs.items.try_items.Goals as goal
 
 pub items_locked-copied-requires-clause-pass : goal.items_locked-copied-requires-clause-pass

@@ -5,12 +5,12 @@ use Rattle.ft_model.specs.declared.content.Content.{Content}
 use Rattle.ft_model.specs.declared.reply.Reply.TheVariants as reply
 use Rattle.ft_trace.specs.declared.Shape.{Shape}
 use Rattle.ft_trace.specs.Addresses.{containers_in}
-use Rattle.ft_trace.specs.Worlds.{kind_in}
+use Rattle.ft_trace.specs.ContainerStates.{kind_in}
 use Rattle.ft_bank.specs.Answered.{Answered}
 use Rattle.ft_bank.specs.Passes.{view}
 use Rattle.ft_search.specs.Held.{IsHeldAt}
 use Rattle.ft_search.proofs.Asking.{answered_locked}
-use Rattle.ft_search.proofs.Holding.{set_known}
+use Rattle.ft_search.proofs.FoundInContents.{set_known}
 use Rattle.ft_search.proofs.Running.{did_log}
 use Rattle.ft_set.proofs.Reading.{has_shown}
 use Rattle.ft_set.proofs.locked.has_locked.Goals as goal

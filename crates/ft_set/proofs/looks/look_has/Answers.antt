@@ -3,7 +3,7 @@ use Rattle.ft_bank.specs.Passes.{shape_of, view}
 use Rattle.ft_model.specs.declared.call.Call.TheVariants as call
 use Rattle.ft_model.specs.declared.call.SetCall.TheVariants as set
 use Rattle.ft_model.specs.declared.reply.Reply.TheVariants as reply
-use Rattle.ft_search.specs.Looks.{IsLookOf}
+use Rattle.ft_search.specs.KeyLooks.{IsLookOf}
 use Rattle.ft_search.proofs.Asking.{element_absent, element_here, answered_after, contended_after}
 use Rattle.ft_search.proofs.Running.{did_log}
 use Rattle.ft_keys.specs.declared.walk.Way.TheVariants as way

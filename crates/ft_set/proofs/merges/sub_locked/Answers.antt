@@ -5,7 +5,7 @@ use Rattle.ft_model.specs.declared.reply.Reply.TheVariants as reply
 use Rattle.ft_trace.specs.Holds.{known}
 use Rattle.ft_bank.specs.Passes.{shape_of, view}
 use Rattle.ft_merging.specs.Thinning.{thinned_state}
-use Rattle.ft_search.specs.Writing.{Leaves}
+use Rattle.ft_search.specs.OneEntryWrites.{Leaves}
 use Rattle.ft_search.proofs.Calling.{loaded_same, written_made}
 use Rattle.ft_set.proofs.Merged.{sub_leaves}
 use Rattle.ft_set.proofs.merges.sub_locked.Goals as goal

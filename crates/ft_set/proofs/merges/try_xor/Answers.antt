@@ -6,11 +6,11 @@ use Rattle.ft_trace.specs.Kinds.{IsKeyed}
 use Rattle.ft_bank.specs.Passes.{shape_of, view}
 use Rattle.ft_section.specs.declared.answers.Objects.TheVariants.{Two}
 use Rattle.ft_section.specs.Trying.{SectionsAfter}
-use Rattle.ft_section.proofs.Tries.{let_gone}
-use Rattle.ft_growth.proofs.Staying.{gone_as, making_added}
+use Rattle.ft_section.proofs.TriedSections.{let_gone}
+use Rattle.ft_growth.proofs.GrowthMidst.{gone_as, making_added}
 use Rattle.ft_search.proofs.Calling.{making_may}
 use Rattle.ft_merging.proofs.Pairs.{are_in, has_each}
-use Rattle.ft_parting.proofs.Parts.{parts_cursors}
+use Rattle.ft_parting.proofs.PartedSets.{parts_cursors}
 use Rattle.ft_set.proofs.merges.try_xor.Goals as goal
 
 pub take_for-requires-clause-containers : goal.take_for-requires-clause-containers

@@ -1,7 +1,7 @@
 use Rattle.std.proofs.Common.{◌*◌, ◌^◌, ◌<◌, sym, subst, arith}
 use Rattle.ft_trace.specs.declared.Shape.{Shape}
 use Rattle.ft_bank.specs.Passes.{shape_of, view}
-use Rattle.ft_bank.proofs.Showing.{serials_have_room}
+use Rattle.ft_bank.proofs.ShownReplies.{serials_have_room}
 use Rattle.ft_merging.proofs.JoinedSame.{known_cap}
 use Rattle.ft_set.proofs.Joins.{xor_parts}
 use Rattle.ft_set.proofs.merges.xor_by.Goals as goal

@@ -6,7 +6,7 @@ use Rattle.ft_trace.specs.Kinds.{IsKeyed}
 use Rattle.ft_bank.specs.Passes.{shape_of, view}
 use Rattle.ft_section.specs.declared.answers.Objects.TheVariants.{One}
 use Rattle.ft_search.proofs.Calling.{making_made, making_may}
-use Rattle.ft_section.proofs.Tries.{let_gone}
+use Rattle.ft_section.proofs.TriedSections.{let_gone}
 use Rattle.ft_set.proofs.pops.try_remove.Goals as goal
 
 pub remove_locked-reply-requires-clause-pass : goal.remove_locked-reply-requires-clause-pass

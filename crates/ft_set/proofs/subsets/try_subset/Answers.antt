@@ -5,7 +5,7 @@ use Rattle.ft_model.specs.declared.script.Kind.{Kind}
 use Rattle.ft_trace.specs.Kinds.{IsKeyed}
 use Rattle.ft_bank.specs.Passes.{shape_of, view}
 use Rattle.ft_section.specs.declared.answers.Objects.TheVariants.{Two}
-use Rattle.ft_section.proofs.Tries.{let_gone}
+use Rattle.ft_section.proofs.TriedSections.{let_gone}
 use Rattle.ft_search.proofs.Calling.{making_made, making_may}
 use Rattle.ft_list.proofs.Both.{are_in, has_each}
 use Rattle.ft_set.proofs.subsets.try_subset.Goals as goal

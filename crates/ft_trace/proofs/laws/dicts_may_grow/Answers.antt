@@ -1,7 +1,7 @@
 use Rattle.std.specs.Prelude.{slice_set}
 use Rattle.ft_layout.specs.Tables.{entry_at}
 use Rattle.ft_trace.proofs.DictWrites.{EntryVersionsChangeNothing}
-use Rattle.ft_trace.proofs.Growing.{dicts_may_grow}
+use Rattle.ft_trace.proofs.GrownDicts.{dicts_may_grow}
 use Rattle.ft_trace.proofs.laws.dicts_may_grow.Goals as goal
 
 pub returns : goal.returns

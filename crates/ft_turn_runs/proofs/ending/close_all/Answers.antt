@@ -3,9 +3,9 @@ use Rattle.std.proofs.lemmas.List.{length-map}
 use Rattle.ft_bank.specs.Closings.{found_in, had_in, lists_in as passes_in}
 use Rattle.ft_bank.specs.Passes.{shape_of}
 use Rattle.ft_engine.specs.Callers.{bank_of}
-use Rattle.ft_workers.proofs.Endings.{ended_legal}
+use Rattle.ft_workers.proofs.WholeLists.{ended_legal}
 use Rattle.ft_workers.proofs.Entries.{pass_entries}
-use Rattle.ft_turn_runs.specs.Seats.{seat_entries, vec_lists}
+use Rattle.ft_turn_runs.specs.Internal.CallerSeats.{seat_entries, vec_lists}
 use Rattle.ft_turn_runs.proofs.Ended.{ends}
 use Rattle.ft_turn_runs.proofs.Ordered.{ended_order, moved_lists}
 use Rattle.ft_turn_runs.proofs.ending.close_all.Goals as goal

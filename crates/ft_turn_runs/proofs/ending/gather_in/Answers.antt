@@ -2,7 +2,7 @@ use Rattle.std.proofs.Common.{◌≡◌, ◌+◌, ◌++◌, ◌∷◌, [], suc, 
 use Rattle.std.specs.Vec.Iter.{into_iter_items, into_iter_len}
 use Rattle.std.proofs.lemmas.List.{append-nil, nil_from_length}
 use Rattle.ft_workers.specs.Workers.{HasTakenIn}
-use Rattle.ft_turn_runs.specs.Seats.{AreEndSeats, seat_entries, vec_lists}
+use Rattle.ft_turn_runs.specs.Internal.CallerSeats.{AreEndSeats, seat_entries, vec_lists}
 use Rattle.ft_turn_runs.proofs.ending.gather_in.Goals as goal
 
 pub wake_first-caller-requires-clause-seat : goal.wake_first-caller-requires-clause-seat

@@ -1,7 +1,7 @@
 use Rattle.std.proofs.Common.{◌≡◌, ◌+◌, ◌++◌, length, map}
 use Rattle.std.specs.Vec.Iter.{into_iter_items, into_iter_len}
 use Rattle.ft_workers.specs.Workers.{HasTakenIn}
-use Rattle.ft_turn_runs.specs.Seats.{AreEndSeats, seat_entries, vec_lists}
+use Rattle.ft_turn_runs.specs.Internal.CallerSeats.{AreEndSeats, seat_entries, vec_lists}
 use Rattle.ft_turn_runs.proofs.ending.gather_in.Given as goal
 
 abbrev pub invariant-loop-seat : goal.invariant-loop-seat

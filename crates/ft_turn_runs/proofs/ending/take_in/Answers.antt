@@ -4,7 +4,7 @@ use Rattle.std.specs.Prelude.{Vec}
 use Rattle.std.proofs.lemmas.List.{length-map, map-append}
 use Rattle.ft_model.specs.declared.entry.Entry.{Entry}
 use Rattle.ft_workers.specs.Workers.{HasTakenIn}
-use Rattle.ft_turn_runs.specs.Seats.{IsEndSeat, vec_lists}
+use Rattle.ft_turn_runs.specs.Internal.CallerSeats.{IsEndSeat, vec_lists}
 use Rattle.ft_turn_runs.proofs.Ended.{end_next, end_rest, end_taken}
 use Rattle.ft_turn_runs.proofs.ending.take_in.Goals as goal
 

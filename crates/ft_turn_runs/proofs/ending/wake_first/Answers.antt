@@ -1,5 +1,5 @@
 use Rattle.std.proofs.Common.{sym, ap, subst}
-use Rattle.ft_turn_runs.specs.Seats.{IsEndSeat, seat_entries}
+use Rattle.ft_turn_runs.specs.Internal.CallerSeats.{IsEndSeat, seat_entries}
 use Rattle.ft_turn_runs.proofs.Ended.{first_in}
 use Rattle.ft_turn_runs.proofs.ending.wake_first.Goals as goal
 

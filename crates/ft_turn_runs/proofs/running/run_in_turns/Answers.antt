@@ -5,7 +5,7 @@ use Rattle.ft_model.specs.declared.script.ScriptParts.{ScriptParts}
 use Rattle.ft_engine.specs.DoneCallers.{IsLegalFor}
 use Rattle.ft_turns.specs.Orders.{turns_of}
 use Rattle.ft_turn_runs.specs.declared.seats.Seat.{Seat}
-use Rattle.ft_turn_runs.specs.Seats.{AreSeats, HaveTurned, SeatsHaveMadeAll}
+use Rattle.ft_turn_runs.specs.Internal.CallerSeats.{AreSeats, HaveTurned, SeatsHaveMadeAll}
 use Rattle.ft_turn_runs.proofs.running.run_in_turns.Goals as goal
 
 pub take_turns-requires-clause-seats : goal.take_turns-requires-clause-seats

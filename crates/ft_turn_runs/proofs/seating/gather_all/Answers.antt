@@ -3,7 +3,7 @@ use Rattle.std.specs.Vec.Iter.{into_iter_items, into_iter_len}
 use Rattle.std.proofs.lemmas.List.{length_push}
 use Rattle.ft_model.specs.Limits.{most_cursors}
 use Rattle.ft_engine.specs.Callers.{AreFreshCallers}
-use Rattle.ft_turn_runs.specs.Seats.{AreNewFrom, IsNewRest}
+use Rattle.ft_turn_runs.specs.Internal.CallerSeats.{AreNewFrom, IsNewRest}
 use Rattle.ft_turn_runs.proofs.NewSeats.{fresh_new, new_as, new_rest, rest_push}
 use Rattle.ft_turn_runs.proofs.seating.gather_all.Goals as goal
 

@@ -4,7 +4,7 @@ use Rattle.ft_model.specs.Limits.{most_cursors}
 use Rattle.ft_bank.specs.Passes.{shape_of}
 use Rattle.ft_engine.specs.Callers.{AreFreshCallers, bank_of}
 use Rattle.ft_engine.specs.Resting.{token_count}
-use Rattle.ft_turn_runs.specs.Seats.{AreNewFrom, IsNewCaller}
+use Rattle.ft_turn_runs.specs.Internal.CallerSeats.{AreNewFrom, IsNewCaller}
 use Rattle.ft_turn_runs.proofs.seating.gather_all.Given as goal
 
 abbrev pub invariant-loop-caller : goal.invariant-loop-caller

@@ -1,5 +1,5 @@
 use Rattle.std.proofs.Common.{sym, subst}
-use Rattle.ft_turn_runs.specs.Seats.{IsBetweenTurns}
+use Rattle.ft_turn_runs.specs.Internal.CallerSeats.{IsBetweenTurns}
 use Rattle.ft_turn_runs.proofs.NewSeats.{one_more_sits}
 use Rattle.ft_turn_runs.proofs.seating.sit.Goals as goal
 

@@ -4,7 +4,7 @@ use Rattle.std.proofs.lemmas.List.{length_push}
 use Rattle.ft_bank.specs.Passes.{view}
 use Rattle.ft_engine.specs.Callers.{pass_of}
 use Rattle.ft_ordering.specs.Beginnings.{NoneOwns}
-use Rattle.ft_turn_runs.specs.Seats.{AreNewFrom, AreNewSeats, IsNewSeat, NobodyOwns}
+use Rattle.ft_turn_runs.specs.Internal.CallerSeats.{AreNewFrom, AreNewSeats, IsNewSeat, NobodyOwns}
 use Rattle.ft_turn_runs.proofs.NewSeats.{new_push, no_thread, none_handed, rest_of}
 use Rattle.ft_turn_runs.proofs.seating.sit_all.Goals as goal
 

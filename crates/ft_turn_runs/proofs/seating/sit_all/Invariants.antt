@@ -2,7 +2,7 @@ use Rattle.std.proofs.Common.{◌≡◌, ◌+◌, length}
 use Rattle.std.specs.Vec.Iter.{into_iter_items, into_iter_len}
 use Rattle.ft_bank.specs.Passes.{shape_of}
 use Rattle.ft_engine.specs.Callers.{bank_of}
-use Rattle.ft_turn_runs.specs.Seats.{AreNewFrom, AreNewSeats, IsHeld, NobodyOwns}
+use Rattle.ft_turn_runs.specs.Internal.CallerSeats.{AreNewFrom, AreNewSeats, IsHeld, NobodyOwns}
 use Rattle.ft_turn_runs.proofs.seating.sit_all.Given as goal
 
 abbrev pub invariant-loop-other : goal.invariant-loop-other

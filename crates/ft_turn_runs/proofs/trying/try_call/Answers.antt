@@ -1,6 +1,6 @@
 use Rattle.std.proofs.Common.{true, false, arith, sym, subst, ◌∙◌}
 use Rattle.std.proofs.lemmas.Bool.{false≢true}
-use Rattle.ft_turn_runs.specs.Seats.{HasTried}
+use Rattle.ft_turn_runs.specs.Internal.CallerSeats.{HasTried}
 use Rattle.ft_turn_runs.proofs.NextCalls.{may_try}
 use Rattle.ft_turn_runs.proofs.Seated.{for_bank, goes_between, leaves_between, left_goes_on, tries_go_on, waits_between}
 use Rattle.ft_turn_runs.proofs.trying.try_call.Goals as goal

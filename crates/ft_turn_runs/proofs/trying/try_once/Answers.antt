@@ -2,8 +2,8 @@ use Rattle.std.proofs.Common.{◌≡◌, sym, ap, ◌∙◌}
 use Rattle.ft_engine.specs.declared.attempts.Tried.TheVariants as tried
 use Rattle.ft_engine.specs.Attempts.{entries_with_answer}
 use Rattle.ft_engine.specs.Callers.{thread_of}
-use Rattle.ft_turn_runs.specs.Seats.{ends_call}
-use Rattle.ft_turn_runs.proofs.Tries.{tried_turn}
+use Rattle.ft_turn_runs.specs.Internal.CallerSeats.{ends_call}
+use Rattle.ft_turn_runs.proofs.TriesWithFloor.{tried_turn}
 use Rattle.ft_turn_runs.proofs.trying.try_once.Goals as goal
 
 pub returns-in-NotYet : goal.returns-in-NotYet

@@ -3,8 +3,8 @@ use Rattle.std.specs.Prelude.{slice_set}
 use Rattle.std.proofs.lemmas.List.{set-set}
 use Rattle.ft_bank.specs.Passes.{shape_of}
 use Rattle.ft_engine.specs.Callers.{bank_of}
-use Rattle.ft_turn_runs.specs.Seats.{AreSeats, HaveTurned, entries_made}
-use Rattle.ft_turn_runs.proofs.Rows.{made_put, seat_low, seats_put, some_seat, taken_seat, turn_of_all}
+use Rattle.ft_turn_runs.specs.Internal.CallerSeats.{AreSeats, HaveTurned, entries_made}
+use Rattle.ft_turn_runs.proofs.SeatRows.{made_put, seat_low, seats_put, some_seat, taken_seat, turn_of_all}
 use Rattle.ft_turn_runs.proofs.turning.take_turn.Goals as goal
 
 pub bounds-seats-thread : goal.bounds-seats-thread

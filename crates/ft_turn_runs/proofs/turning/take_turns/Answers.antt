@@ -1,5 +1,5 @@
 use Rattle.std.proofs.Common.{◌≡◌, [], Option, None, Some, IfNone, length, refl, ap, arith}
-use Rattle.ft_turn_runs.specs.Seats.{entries_made}
+use Rattle.ft_turn_runs.specs.Internal.CallerSeats.{entries_made}
 use Rattle.ft_turn_runs.proofs.AllMade.{end_made, end_turned, some_threads, taking_on}
 use Rattle.ft_turn_runs.proofs.turning.take_turns.Goals as goal
 

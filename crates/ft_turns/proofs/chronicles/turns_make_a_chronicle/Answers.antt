@@ -1,5 +1,5 @@
 use Rattle.ft_turns.proofs.Chronicled.{chronicled}
-use Rattle.ft_turns.proofs.Finishing.{each_finishes}
+use Rattle.ft_turns.proofs.AllCallsFinish.{each_finishes}
 use Rattle.ft_turns.proofs.chronicles.turns_make_a_chronicle.Goals as goal
 
 pub returns : goal.returns

@@ -1,4 +1,4 @@
-use Rattle.ft_turns.proofs.Finishing.{each_finishes}
+use Rattle.ft_turns.proofs.AllCallsFinish.{each_finishes}
 use Rattle.ft_turns.proofs.laws.all_calls_finish.Goals as goal
 
 pub returns : goal.returns

@@ -1,4 +1,4 @@
-use Rattle.ft_turns.proofs.Finishing.{turns_go_on}
+use Rattle.ft_turns.proofs.AllCallsFinish.{turns_go_on}
 use Rattle.ft_turns.proofs.laws.turns_go_on.Goals as goal
 
 pub returns : goal.returns

@@ -8,7 +8,7 @@ use Rattle.ft_model.specs.declared.entry.Entry.{Entry}
 use Rattle.ft_bank.specs.Closings.{found_in, had_in, lists_in}
 use Rattle.ft_bank.specs.Passes.{shape_of}
 use Rattle.ft_engine.specs.Callers.{bank_of}
-use Rattle.ft_workers.proofs.Endings.{ended_legal}
+use Rattle.ft_workers.proofs.WholeLists.{ended_legal}
 use Rattle.ft_workers.proofs.Entries.{pass_entries}
 use Rattle.ft_workers.proofs.closing.close_all.Goals as goal
 

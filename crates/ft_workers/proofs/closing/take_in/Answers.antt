@@ -4,7 +4,7 @@ use Rattle.std.specs.Prelude.{IsTrue, Vec}
 use Rattle.std.proofs.lemmas.List.{length-map, map-append}
 use Rattle.ft_model.specs.declared.entry.Entry.{Entry}
 use Rattle.ft_workers.specs.Workers.{HasTakenIn, HasWorked}
-use Rattle.ft_workers.proofs.Endings.{next_taken}
+use Rattle.ft_workers.proofs.WholeLists.{next_taken}
 use Rattle.ft_workers.proofs.WorkerLemmas.{not_not}
 use Rattle.ft_workers.proofs.closing.take_in.Goals as goal
 

@@ -8,7 +8,7 @@ use Rattle.ft_model.specs.Histories.{calls_of}
 use Rattle.ft_bank.specs.Passes.{shape_of}
 use Rattle.ft_engine.specs.Callers.{bank_of}
 use Rattle.ft_workers.specs.Workers.{AreCallsOn, IsOnline}
-use Rattle.ft_workers.proofs.Asked.{calls_at, calls_on, calls_past}
+use Rattle.ft_workers.proofs.ScriptFacts.{calls_at, calls_on, calls_past}
 use Rattle.ft_workers.proofs.working.make_own.Goals as goal
 
 pub make_all-requires-clause-calls : goal.make_all-requires-clause-calls

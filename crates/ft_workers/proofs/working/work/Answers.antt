@@ -1,6 +1,6 @@
 use Rattle.std.proofs.Common.{refl}
 use Rattle.ft_model.specs.Histories.{calls_of}
-use Rattle.ft_workers.proofs.Asked.{ends_level}
+use Rattle.ft_workers.proofs.ScriptFacts.{ends_level}
 use Rattle.ft_workers.proofs.Between.{gave_up, gave_up_member, visited, visited_member, worked}
 use Rattle.ft_workers.proofs.working.work.Goals as goal
 

@@ -1,5 +1,5 @@
 use Rattle.ft_bank.specs.Passes.{shape_of}
-use Rattle.ft_search.proofs.Places.{entry_in}
+use Rattle.ft_search.proofs.WordPlaces.{entry_in}
 use Rattle.ft_adding.proofs.fresh.FreshWordsWords.entry.Goals as goal
 
 pub read_table-requires-clause-word : goal.read_table-requires-clause-word

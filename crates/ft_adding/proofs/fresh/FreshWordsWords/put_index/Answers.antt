@@ -1,5 +1,5 @@
 use Rattle.ft_bank.specs.Passes.{shape_of}
-use Rattle.ft_search.proofs.Places.{slot_in}
+use Rattle.ft_search.proofs.WordPlaces.{slot_in}
 use Rattle.ft_adding.proofs.fresh.FreshWordsWords.put_index.Goals as goal
 
 pub put_fresh-requires-clause-word : goal.put_fresh-requires-clause-word

@@ -2,7 +2,7 @@ use Rattle.std.proofs.Common.{◌+◌, arith}
 use Rattle.ft_trace.specs.Addresses.{announced_of}
 use Rattle.ft_trace.proofs.Addresses.{at_low}
 use Rattle.ft_bank.specs.Passes.{view, shape_of}
-use Rattle.ft_bank.proofs.Reusing.{number_small, announce_ready}
+use Rattle.ft_bank.proofs.ReuseSteps.{number_small, announce_ready}
 use Rattle.ft_bank.proofs.bank.Bank.announce.Goals as goal
 
 pub announced_word-word-requires : goal.announced_word-word-requires

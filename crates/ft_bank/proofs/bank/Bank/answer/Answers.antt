@@ -1,5 +1,5 @@
 use Rattle.ft_bank.specs.Passes.{view}
-use Rattle.ft_bank.proofs.Knowing.{loaded_low}
+use Rattle.ft_bank.proofs.KnownAfterSteps.{loaded_low}
 use Rattle.ft_bank.proofs.bank.Bank.answer.Goals as goal
 
 pub answer_as-requires-clause-ready : goal.answer_as-requires-clause-ready

@@ -1,6 +1,6 @@
 use Rattle.std.proofs.Common.{refl}
 use Rattle.ft_bank.specs.Passes.{view}
-use Rattle.ft_bank.proofs.Knowing.{loaded_low}
+use Rattle.ft_bank.proofs.KnownAfterSteps.{loaded_low}
 use Rattle.ft_bank.proofs.bank.Bank.answer_cursor.Goals as goal
 
 pub answer_cursor_as-requires-clause-ready : goal.answer_cursor_as-requires-clause-ready

@@ -1,6 +1,6 @@
 use Rattle.std.proofs.Common.{ℕ, List, length, ap, ◌∙◌, arith}
 use Rattle.ft_bank.specs.Passes.{shape_of}
-use Rattle.ft_bank.proofs.Tables.{start_found, size_found, starts_long, cell_sum}
+use Rattle.ft_bank.proofs.TableAddresses.{start_found, size_found, starts_long, cell_sum}
 use Rattle.ft_bank.proofs.bank.Bank.cell_of.Goals as goal
 
 pub index-requires : goal.index-requires

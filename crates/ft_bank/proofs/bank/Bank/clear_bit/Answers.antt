@@ -6,7 +6,7 @@ use Rattle.ft_trace.specs.Acts.{noted}
 use Rattle.ft_trace.specs.Bits.{bit}
 use Rattle.ft_bank.specs.Passes.{view, shape_of}
 use Rattle.ft_bank.specs.Rules.{Acted}
-use Rattle.ft_bank.specs.Tables.{name_of, IsTableIn}
+use Rattle.ft_bank.specs.TableNames.{name_of, IsTableIn}
 use Rattle.ft_bank.proofs.Freeing.{word_low, word_at, off_at, bit_read, take_ready, found_has, found_keeps, lost_has, lost_stays}
 use Rattle.ft_bank.proofs.bank.Bank.clear_bit.Goals as goal
 

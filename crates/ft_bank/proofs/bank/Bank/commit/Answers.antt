@@ -2,7 +2,7 @@ use Rattle.std.proofs.Common.{◌<◌, ◌*◌, ◌^◌, sym, subst}
 use Rattle.ft_trace.specs.declared.Shape.{Shape}
 use Rattle.ft_trace.specs.declared.View.{View}
 use Rattle.ft_bank.specs.Passes.{view}
-use Rattle.ft_bank.specs.Writes.{Committed}
+use Rattle.ft_bank.specs.WriteSteps.{Committed}
 use Rattle.ft_bank.proofs.Readying.{commit_ready, commit_leaves}
 use Rattle.ft_bank.proofs.Seen.{commit_sees}
 use Rattle.ft_bank.proofs.bank.Bank.commit.Goals as goal

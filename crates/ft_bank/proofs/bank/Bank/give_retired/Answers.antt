@@ -1,7 +1,7 @@
 use Rattle.std.proofs.Common.{ℕ, ◌+◌, ◌*◌, ap, ◌∙◌, inr}
 use Rattle.ft_trace.specs.declared.View.{View}
 use Rattle.ft_trace.specs.Acts.{flight}
-use Rattle.ft_bank.proofs.Tables.{class_is}
+use Rattle.ft_bank.proofs.TableAddresses.{class_is}
 use Rattle.ft_bank.proofs.bank.Bank.give_retired.Goals as goal
 
 pub raise_count-requires-clause-flight : goal.raise_count-requires-clause-flight

@@ -5,7 +5,7 @@ use Rattle.ft_trace.specs.Acts.{left_next, noted}
 use Rattle.ft_trace.specs.Traces.{Possible}
 use Rattle.ft_bank.specs.Retired.{AreRetired}
 use Rattle.ft_bank.specs.Shapes.{plan}
-use Rattle.ft_bank.specs.Tables.{IsTableIn}
+use Rattle.ft_bank.specs.TableNames.{IsTableIn}
 use Rattle.ft_bank.proofs.Allowed.{stored, alive, acted_possible, token_kept, still_settled}
 use Rattle.ft_bank.proofs.Retiring.{goal_put}
 use Rattle.ft_bank.proofs.bank.Bank.goal_as.Goals as goal

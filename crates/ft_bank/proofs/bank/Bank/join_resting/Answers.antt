@@ -7,7 +7,7 @@ use Rattle.ft_trace.specs.Traces.{Possible}
 use Rattle.ft_bank.specs.Passes.{view}
 use Rattle.ft_bank.specs.Floors.{rests}
 use Rattle.ft_bank.proofs.Allowed.{acted_possible}
-use Rattle.ft_bank.proofs.Knowing.{left_low}
+use Rattle.ft_bank.proofs.KnownAfterSteps.{left_low}
 use Rattle.ft_bank.proofs.Retiring.{retired_by, retired_both, has_taken_over}
 use Rattle.ft_bank.proofs.Seen.{load_settles}
 use Rattle.ft_bank.proofs.bank.Bank.join_resting.Goals as goal

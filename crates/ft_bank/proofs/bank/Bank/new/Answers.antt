@@ -1,7 +1,7 @@
 use Rattle.std.proofs.Common.{sym, ap, ◌∙◌, subst}
 use Rattle.ft_trace.specs.Acts.{starter}
 use Rattle.ft_bank.specs.Passes.{shape_of}
-use Rattle.ft_bank.specs.Openings.{HasMade}
+use Rattle.ft_bank.specs.NewPasses.{HasMade}
 use Rattle.ft_bank.proofs.Openings.{starts}
 use Rattle.ft_bank.proofs.bank.Bank.new.Goals as goal
 

@@ -1,7 +1,7 @@
 use Rattle.std.proofs.Common.{◌≡◌, length}
-use Rattle.ft_bank.specs.Openings.{HasMade, AreOpening}
+use Rattle.ft_bank.specs.NewPasses.{HasMade, AreOpening}
 use Rattle.ft_bank.specs.Passes.{shape_of, view, IsPassOf}
-use Rattle.ft_bank.specs.Sections.{stack_of, no_sections}
+use Rattle.ft_bank.specs.PassSections.{stack_of, no_sections}
 use Rattle.ft_bank.proofs.bank.Bank.others.Given as goal
 
 -- the first pass has made as many others

@@ -5,9 +5,9 @@ use Rattle.ft_trace.specs.declared.Act.TheVariants.{PutBlock}
 use Rattle.ft_trace.specs.Addresses.{containers_in}
 use Rattle.ft_trace.specs.Holds.{held}
 use Rattle.ft_bank.specs.Passes.{view}
-use Rattle.ft_bank.specs.Writes.{KeepsUnwritten, with_block}
-use Rattle.ft_bank.proofs.Knowing.{keeps_unwritten}
-use Rattle.ft_bank.proofs.Putting.{block_put}
+use Rattle.ft_bank.specs.WriteSteps.{KeepsUnwritten, with_block}
+use Rattle.ft_bank.proofs.KnownAfterSteps.{keeps_unwritten}
+use Rattle.ft_bank.proofs.WordsPut.{block_put}
 use Rattle.ft_bank.proofs.bank.Bank.put_block.Goals as goal
 
 pub returns-clause-keeps : goal.returns-clause-keeps

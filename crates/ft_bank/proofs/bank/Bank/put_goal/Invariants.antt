@@ -1,5 +1,5 @@
 use Rattle.ft_trace.specs.declared.Act.TheVariants.{PutHeader}
-use Rattle.ft_bank.specs.Tables.{name_of}
+use Rattle.ft_bank.specs.TableNames.{name_of}
 use Rattle.ft_bank.proofs.bank.Bank.put_goal.Given as goal
 
 abbrev pub ghosts-goal_as : goal.ghosts-goal_as

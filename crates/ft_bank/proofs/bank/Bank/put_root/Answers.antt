@@ -4,16 +4,16 @@ use Rattle.ft_trace.specs.declared.View.{View}
 use Rattle.ft_trace.specs.declared.Act.TheVariants.{PutRoot}
 use Rattle.ft_trace.specs.Addresses.{containers_in}
 use Rattle.ft_trace.specs.Acts.{noted}
-use Rattle.ft_trace.specs.Words.{root_in}
+use Rattle.ft_trace.specs.Pictures.{root_in}
 use Rattle.ft_trace.specs.Holds.{held}
 use Rattle.ft_trace.specs.Traces.{Ready}
 use Rattle.ft_bank.specs.Passes.{view, shape_of}
 use Rattle.ft_bank.specs.Rules.{Acted}
-use Rattle.ft_bank.specs.Writes.{KeepsUnwritten, with_root}
-use Rattle.ft_bank.proofs.Knowing.{keeps_unwritten}
-use Rattle.ft_bank.proofs.Putting.{root_put}
+use Rattle.ft_bank.specs.WriteSteps.{KeepsUnwritten, with_root}
+use Rattle.ft_bank.proofs.KnownAfterSteps.{keeps_unwritten}
+use Rattle.ft_bank.proofs.WordsPut.{root_put}
 use Rattle.ft_bank.proofs.Readying.{root_ready}
-use Rattle.ft_bank.proofs.Tables.{each_named}
+use Rattle.ft_bank.proofs.TableAddresses.{each_named}
 use Rattle.ft_bank.proofs.bank.Bank.put_root.Goals as goal
 
 pub store_as-requires-clause-ready : goal.store_as-requires-clause-ready

@@ -1,5 +1,5 @@
 use Rattle.ft_trace.specs.declared.Act.TheVariants.{PutRoot}
-use Rattle.ft_trace.specs.Words.{root_in}
+use Rattle.ft_trace.specs.Pictures.{root_in}
 use Rattle.ft_trace.specs.Holds.{held}
 use Rattle.ft_bank.specs.Passes.{view}
 use Rattle.ft_bank.proofs.bank.Bank.put_root.Given as goal

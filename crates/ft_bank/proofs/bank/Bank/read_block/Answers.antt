@@ -1,10 +1,10 @@
 use Rattle.std.proofs.Common.{◌≡◌, ◌<◌, ℕ, suc, sym, ap, ◌∙◌, subst}
 use Rattle.ft_trace.specs.declared.Shape.{Shape}
-use Rattle.ft_trace.specs.Addresses.{block, containers_in, IsTable}
+use Rattle.ft_trace.specs.Addresses.{block, containers_in, IsTableName}
 use Rattle.ft_trace.specs.Traces.{word}
-use Rattle.ft_trace.proofs.Places.{root_table}
+use Rattle.ft_trace.proofs.TablePlaces.{root_table}
 use Rattle.ft_bank.specs.Passes.{view}
-use Rattle.ft_bank.proofs.Knowing.{block_found}
+use Rattle.ft_bank.proofs.KnownAfterSteps.{block_found}
 use Rattle.ft_bank.proofs.bank.Bank.read_block.Goals as goal
 
 pub returns-clause-held : goal.returns-clause-held
@@ -20,4 +20,4 @@ returns-clause-table c t first names =
     let d = c.load_as.ensures.acted in
     let is : c.load_as.result ≡ word v.shape d.0 (block c.args.o c.args.word) = d.2.1.2 in
     let root : word v.shape d.0 (block c.args.o 0) ≡ suc t = ap (λ (i : ℕ). word v.shape d.0 (block c.args.o i)) (sym first) ∙ (sym is ∙ names) in
-    subst (λ (z : Shape). IsTable z t) c.requires.pass.1 (root_table v.shape d.0 d.2.0 c.args.o low t root)
+    subst (λ (z : Shape). IsTableName z t) c.requires.pass.1 (root_table v.shape d.0 d.2.0 c.args.o low t root)

@@ -2,10 +2,10 @@ use Rattle.std.proofs.Common.{◌<◌, refl, sym, subst}
 use Rattle.ft_trace.specs.declared.Shape.{Shape}
 use Rattle.ft_trace.specs.Addresses.{containers_in}
 use Rattle.ft_bank.specs.Passes.{view}
-use Rattle.ft_trace.specs.Addresses.{IsTable}
+use Rattle.ft_trace.specs.Addresses.{IsTableName}
 use Rattle.ft_trace.proofs.Announcing.{fits}
 use Rattle.ft_trace.proofs.Budgets.{number_low}
-use Rattle.ft_bank.proofs.Knowing.{root_found}
+use Rattle.ft_bank.proofs.KnownAfterSteps.{root_found}
 use Rattle.ft_bank.proofs.bank.Bank.read_root.Goals as goal
 
 pub load_as-requires-clause-ready : goal.load_as-requires-clause-ready
@@ -18,7 +18,7 @@ pub returns-clause-table : goal.returns-clause-table
 returns-clause-table c t e =
     let v = view c.args.pass.now in
     let low : c.args.o < containers_in v.shape = subst (λ (z : Shape). c.args.o < containers_in z) (sym c.requires.pass.1) c.requires.container in
-    subst (λ (z : Shape). IsTable z t) c.requires.pass.1 ((root_found v c.args.o c.load_as.result low c.load_as.ensures.acted).0 t e)
+    subst (λ (z : Shape). IsTableName z t) c.requires.pass.1 ((root_found v c.args.o c.load_as.result low c.load_as.ensures.acted).0 t e)
 
 pub returns-clause-changed : goal.returns-clause-changed
 returns-clause-changed c =

@@ -1,20 +1,20 @@
 use Rattle.std.proofs.Common.{ℕ, ◌+◌, ◌<◌, sym, subst}
 use Rattle.ft_trace.specs.declared.Shape.{Shape}
 use Rattle.ft_trace.specs.declared.Act.TheVariants.{ReadTable}
-use Rattle.ft_trace.specs.Addresses.{containers_in, IsTable}
+use Rattle.ft_trace.specs.Addresses.{containers_in, IsTableName}
 use Rattle.ft_trace.specs.Traces.{Ready}
 use Rattle.ft_bank.specs.Passes.{view, shape_of}
 use Rattle.ft_bank.specs.Rules.{Acted}
-use Rattle.ft_bank.specs.Tables.{name_of}
-use Rattle.ft_bank.proofs.Knowing.{table_found, fresh_found}
+use Rattle.ft_bank.specs.TableNames.{name_of}
+use Rattle.ft_bank.proofs.KnownAfterSteps.{table_found, fresh_found}
 use Rattle.ft_bank.proofs.Readying.{read_ready}
-use Rattle.ft_bank.proofs.Tables.{named}
+use Rattle.ft_bank.proofs.TableAddresses.{named}
 use Rattle.ft_bank.proofs.bank.Bank.read_word.Goals as goal
 
 pub load_as-requires-clause-ready : goal.load_as-requires-clause-ready
 load_as-requires-clause-ready c =
     let v = view c.args.pass.now in
-    let table : IsTable v.shape (name_of c.args.t) = subst (λ (z : Shape). IsTable z (name_of c.args.t)) (sym c.requires.pass.1) (named (shape_of c.args.self.now) c.args.t c.requires.table) in
+    let table : IsTableName v.shape (name_of c.args.t) = subst (λ (z : Shape). IsTableName z (name_of c.args.t)) (sym c.requires.pass.1) (named (shape_of c.args.self.now) c.args.t c.requires.table) in
     subst (λ (z : ℕ). Ready v (c.args.start + c.args.word) (λ n. ReadTable z c.args.word n)) (sym c.name.ensures) (read_ready v (c.args.start + c.args.word) (name_of c.args.t) c.args.word table c.requires.word)
 
 pub returns-clause-held : goal.returns-clause-held
@@ -26,5 +26,5 @@ returns-clause-held c o small mine names =
 pub returns-clause-fresh : goal.returns-clause-fresh
 returns-clause-fresh c mine =
     let v = view c.args.pass.now in
-    let table : IsTable v.shape (name_of c.args.t) = subst (λ (z : Shape). IsTable z (name_of c.args.t)) (sym c.requires.pass.1) (named (shape_of c.args.self.now) c.args.t c.requires.table) in
+    let table : IsTableName v.shape (name_of c.args.t) = subst (λ (z : Shape). IsTableName z (name_of c.args.t)) (sym c.requires.pass.1) (named (shape_of c.args.self.now) c.args.t c.requires.table) in
     fresh_found v (name_of c.args.t) c.args.word c.load_as.result table c.requires.word mine (subst (λ (z : ℕ). Acted v (ReadTable z c.args.word c.load_as.result)) c.name.ensures c.load_as.ensures.acted)

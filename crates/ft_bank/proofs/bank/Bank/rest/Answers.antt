@@ -13,7 +13,7 @@ use Rattle.ft_bank.specs.Floors.{rests, carried}
 use Rattle.ft_bank.specs.Shapes.{plan}
 use Rattle.ft_bank.specs.Slips.{slip_with}
 use Rattle.ft_bank.proofs.Allowed.{acted_possible, alive, sends, glues, kept, same_settled, still_settled, token_kept}
-use Rattle.ft_bank.proofs.Knowing.{left_low}
+use Rattle.ft_bank.proofs.KnownAfterSteps.{left_low}
 use Rattle.ft_bank.proofs.Retiring.{retired_by, retired_same}
 use Rattle.ft_bank.proofs.Seen.{load_settles}
 use Rattle.ft_bank.proofs.Floors.{sender_possible, no_words, tokens_free, floor_settles, floor_brought}

@@ -4,7 +4,7 @@ use Rattle.ft_trace.specs.declared.Act.TheVariants.{ReadFree, TakeTable}
 use Rattle.ft_trace.specs.Acts.{noted}
 use Rattle.ft_trace.specs.Bits.{bit}
 use Rattle.ft_bank.specs.declared.table.Table.{Table}
-use Rattle.ft_bank.specs.Tables.{name_of}
+use Rattle.ft_bank.specs.TableNames.{name_of}
 use Rattle.ft_bank.specs.Takings.{word_of_class, loads_of_none}
 use Rattle.ft_bank.proofs.Freeing.{bit_is, word_is, search_ends, lowest_set}
 use Rattle.ft_bank.proofs.bank.Bank.search.Goals as goal

@@ -2,7 +2,7 @@ use Rattle.std.proofs.Common.{ℕ, ◌<◌, ◌/◌, refl, sym, ◌∙◌, subst
 use Rattle.ft_trace.specs.declared.Shape.{Shape}
 use Rattle.ft_trace.specs.Addresses.{extent}
 use Rattle.ft_bank.specs.Passes.{view, shape_of}
-use Rattle.ft_bank.specs.Tables.{name_of, IsTableIn}
+use Rattle.ft_bank.specs.TableNames.{name_of, IsTableIn}
 use Rattle.ft_bank.specs.Takings.{KeepsBut, NotTable}
 use Rattle.ft_bank.proofs.Freeing.{word_low, word_at, on_at, give_ready, give_keeps}
 use Rattle.ft_bank.proofs.bank.Bank.set_bit.Goals as goal

@@ -1,5 +1,5 @@
 use Rattle.ft_trace.specs.declared.Act.TheVariants.{GiveTable}
-use Rattle.ft_bank.specs.Tables.{name_of}
+use Rattle.ft_bank.specs.TableNames.{name_of}
 use Rattle.ft_bank.proofs.bank.Bank.set_bit.Given as goal
 
 abbrev pub ghosts-give_as : goal.ghosts-give_as

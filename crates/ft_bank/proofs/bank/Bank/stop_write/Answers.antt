@@ -2,7 +2,7 @@ use Rattle.std.proofs.Common.{◌<◌, ◌*◌, ◌^◌, sym, subst}
 use Rattle.ft_trace.specs.declared.Shape.{Shape}
 use Rattle.ft_trace.specs.Addresses.{containers_in}
 use Rattle.ft_bank.specs.Passes.{view}
-use Rattle.ft_trace.specs.Words.{Stands}
+use Rattle.ft_trace.specs.Pictures.{Stands}
 use Rattle.ft_trace.specs.Holds.{held, known}
 use Rattle.ft_bank.proofs.Readying.{stop_ready}
 use Rattle.ft_bank.proofs.bank.Bank.stop_write.Goals as goal

@@ -5,14 +5,14 @@ use Rattle.ft_trace.specs.declared.Shape.{Shape}
 use Rattle.ft_trace.specs.declared.View.{View}
 use Rattle.ft_trace.specs.declared.Act.TheVariants.{Lock}
 use Rattle.ft_trace.specs.Addresses.{containers_in}
-use Rattle.ft_trace.specs.Words.{Stands}
+use Rattle.ft_trace.specs.Pictures.{Stands}
 use Rattle.ft_trace.specs.declared.Snap.{Snap}
 use Rattle.ft_trace.specs.Acts.{noted}
 use Rattle.ft_trace.specs.Holds.{held, known}
 use Rattle.ft_bank.specs.Passes.{view, shape_of}
 use Rattle.ft_bank.specs.Rules.{Acted}
 use Rattle.ft_bank.specs.Locks.{KeepsOthers}
-use Rattle.ft_bank.proofs.Knowing.{other_pass, lock_stands, lock_keeps}
+use Rattle.ft_bank.proofs.KnownAfterSteps.{other_pass, lock_stands, lock_keeps}
 use Rattle.ft_bank.proofs.bank.Bank.try_lock.Goals as goal
 
 pub look_as-seen-requires-clause-word : goal.look_as-seen-requires-clause-word

@@ -3,7 +3,7 @@ use Rattle.std.proofs.lemmas.Nat.{mul-le}
 use Rattle.ft_trace.specs.Traces.{Possible}
 use Rattle.ft_trace.proofs.Addresses.{opening_long}
 use Rattle.ft_bank.specs.Shapes.{plan}
-use Rattle.ft_bank.proofs.Starting.{fits_of}
+use Rattle.ft_bank.proofs.StartWords.{fits_of}
 use Rattle.ft_bank.proofs.Allowed.{same_settled}
 use Rattle.ft_trace.specs.Acts.{starter}
 use Rattle.ft_bank.proofs.Retiring.{retired_none}

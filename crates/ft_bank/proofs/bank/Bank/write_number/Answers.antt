@@ -1,7 +1,7 @@
 use Rattle.ft_trace.specs.Addresses.{write_number}
 use Rattle.ft_trace.proofs.Addresses.{at_low}
 use Rattle.ft_bank.specs.Passes.{shape_of, view}
-use Rattle.ft_bank.proofs.Reusing.{number_some}
+use Rattle.ft_bank.proofs.ReuseSteps.{number_some}
 use Rattle.ft_bank.proofs.bank.Bank.write_number.Goals as goal
 
 pub load_as-requires-clause-word : goal.load_as-requires-clause-word

@@ -1,7 +1,7 @@
 use Rattle.std.proofs.Common.{◌+◌, ◌∙◌, ap, inl, inr, refl}
 use Rattle.ft_engine.specs.declared.caller.Flight.TheVariants as flight
 use Rattle.ft_engine.specs.Flights.{objects_of}
-use Rattle.ft_engine.proofs.Again.{moved_again, waiting_again}
+use Rattle.ft_engine.proofs.TriedAgain.{moved_again, waiting_again}
 use Rattle.ft_engine.proofs.Callers.{answered_kept, left_kept, moved_caller, waiting_kept}
 use Rattle.ft_engine.proofs.engine.Engine.answer.Goals as goal
 

@@ -1,7 +1,7 @@
 use Rattle.std.proofs.Common.{◌≡◌, ◌+◌, ℕ, suc, [], ◌∷◌, ◌++◌, length, ap, sym, ◌∙◌, subst, arith}
 use Rattle.std.specs.Vec.Iter.{into_iter_items}
 use Rattle.std.proofs.lemmas.List.{length_push}
-use Rattle.ft_bank.specs.Openings.{AreOpening}
+use Rattle.ft_bank.specs.NewPasses.{AreOpening}
 use Rattle.ft_engine.specs.Callers.{AreFreshCallers, IsFreshCaller}
 use Rattle.ft_engine.proofs.Callers.{fresh_push}
 use Rattle.ft_engine.proofs.engine.Engine.callers.Goals as goal

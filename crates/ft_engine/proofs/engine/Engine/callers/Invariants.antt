@@ -1,6 +1,6 @@
 use Rattle.std.proofs.Common.{◌≡◌, ◌+◌, length}
 use Rattle.std.specs.Vec.Iter.{into_iter_items, into_iter_len}
-use Rattle.ft_bank.specs.Openings.{AreOpening}
+use Rattle.ft_bank.specs.NewPasses.{AreOpening}
 use Rattle.ft_engine.specs.Callers.{AreFreshCallers}
 use Rattle.ft_engine.proofs.engine.Engine.callers.Given as goal
 

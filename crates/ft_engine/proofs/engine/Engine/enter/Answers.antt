@@ -1,7 +1,7 @@
 use Rattle.std.proofs.Common.{refl, sym, subst}
 use Rattle.ft_bank.specs.Passes.{view}
 use Rattle.ft_engine.proofs.Callers.{calm_kept, ready_of}
-use Rattle.ft_engine.proofs.Passing.{IsCalm, enters_calm}
+use Rattle.ft_engine.proofs.PassesAfter.{IsCalm, enters_calm}
 use Rattle.ft_engine.proofs.engine.Engine.enter.Goals as goal
 
 pub returns-clause-kept : goal.returns-clause-kept

@@ -6,7 +6,7 @@ use Rattle.ft_bank.specs.Floors.{carried}
 use Rattle.ft_bank.specs.Passes.{view}
 use Rattle.ft_engine.proofs.AtRest.{as_before, gathered_steady, still_of}
 use Rattle.ft_engine.proofs.Callers.{same_but_pass, steady_caller}
-use Rattle.ft_engine.proofs.Passing.{IsSteady}
+use Rattle.ft_engine.proofs.PassesAfter.{IsSteady}
 use Rattle.ft_engine.proofs.engine.Engine.gather.Goals as goal
 
 steady : (c : goal.After-gather) → IsSteady (view c.args.caller.now.pass) (view c.gather.new.pass)

@@ -3,7 +3,7 @@ use Rattle.ft_trace.specs.declared.Act.TheVariants.{Announce}
 use Rattle.ft_trace.specs.Acts.{noted}
 use Rattle.ft_bank.specs.Passes.{view}
 use Rattle.ft_engine.proofs.Callers.{calm_caller, calm_kept, calm_work, ready_of}
-use Rattle.ft_engine.proofs.Passing.{IsCalm, calm_then, collected_calm, offline_calm}
+use Rattle.ft_engine.proofs.PassesAfter.{IsCalm, calm_then, collected_calm, offline_calm}
 use Rattle.ft_engine.proofs.engine.Engine.leave.Goals as goal
 
 calm : (c : goal.After-leave) → IsCalm (view c.args.caller.now.pass) (view c.leave.new.pass)

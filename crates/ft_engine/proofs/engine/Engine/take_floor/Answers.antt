@@ -4,7 +4,7 @@ use Rattle.ft_trace.specs.Acts.{announces}
 use Rattle.ft_bank.specs.Passes.{view}
 use Rattle.ft_engine.proofs.AtRest.{as_before, floored_steady, still_of}
 use Rattle.ft_engine.proofs.Callers.{same_but_pass, steady_caller}
-use Rattle.ft_engine.proofs.Passing.{IsSteady}
+use Rattle.ft_engine.proofs.PassesAfter.{IsSteady}
 use Rattle.ft_engine.proofs.engine.Engine.take_floor.Goals as goal
 
 steady : (c : goal.After-take_floor) → IsSteady (view c.args.caller.now.pass) (view c.take_floor.new.pass)

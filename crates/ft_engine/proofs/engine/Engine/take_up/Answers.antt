@@ -1,8 +1,8 @@
 use Rattle.std.proofs.Common.{◌≡◌, ◌-◌, refl, sym, ap, ◌∙◌}
 use Rattle.ft_bank.specs.Passes.{view}
-use Rattle.ft_bank.specs.Sections.{stack_of}
+use Rattle.ft_bank.specs.PassSections.{stack_of}
 use Rattle.ft_section.specs.Floors.{first_owned}
-use Rattle.ft_section.proofs.Floors.{back_had, not_yet_back}
+use Rattle.ft_section.proofs.FloorLogs.{back_had, not_yet_back}
 use Rattle.ft_engine.specs.declared.caller.Flight.TheVariants as flight
 use Rattle.ft_engine.specs.Callers.{thread_of}
 use Rattle.ft_engine.proofs.Callers.{done_kept_owners, ended_kept, waits_caller, waits_kept}

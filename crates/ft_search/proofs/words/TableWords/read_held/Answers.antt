@@ -2,11 +2,11 @@ use Rattle.std.proofs.Common.{ℕ, List, ◌++◌, sym, ap, ◌∙◌, subst}
 use Rattle.ft_keys.specs.Searches.{Searched}
 use Rattle.ft_keys.specs.Ways.{walk_slots}
 use Rattle.ft_search.specs.Held.{ReadsEntry}
-use Rattle.ft_search.specs.Words.{known_words}
+use Rattle.ft_search.specs.TableWords.{known_words}
 use Rattle.ft_search.proofs.Costing.{few_append}
 use Rattle.ft_search.proofs.Running.{did_trans}
 use Rattle.ft_search.proofs.Rounding.{looks_append}
-use Rattle.ft_search.proofs.Places.{mask_is}
+use Rattle.ft_search.proofs.WordPlaces.{mask_is}
 use Rattle.ft_search.proofs.words.TableWords.read_held.Goals as goal
 
 pub new-walk-requires : goal.new-walk-requires

@@ -1,14 +1,14 @@
 use Rattle.std.proofs.Common.{◌≡◌, ℕ, ◌∙◌, sym, subst, map, arith}
-use Rattle.ft_keys.specs.Accesses.{Fits}
+use Rattle.ft_keys.specs.Accesses.{AreAnswered}
 use Rattle.ft_keys.specs.Searches.{Searched}
 use Rattle.ft_keys.specs.Ways.{walk_slots}
 use Rattle.ft_keys.specs.declared.walk.Way.{Way}
 use Rattle.ft_bank.specs.Passes.{shape_of}
-use Rattle.ft_bank.specs.Tables.{name_of}
-use Rattle.ft_search.specs.Costs.{AreFewReads}
-use Rattle.ft_search.specs.Words.{act_of, known_words}
+use Rattle.ft_bank.specs.TableNames.{name_of}
+use Rattle.ft_search.specs.SearchCosts.{AreFewReads}
+use Rattle.ft_search.specs.TableWords.{access_act, known_words}
 use Rattle.ft_search.proofs.Costing.{search_few}
-use Rattle.ft_search.proofs.Places.{slots_is}
+use Rattle.ft_search.proofs.WordPlaces.{slots_is}
 use Rattle.ft_search.proofs.Running.{ran, ran_known, looks_calls}
 use Rattle.ft_search.proofs.words.TableWords.seek_held.Goals as goal
 
@@ -25,7 +25,7 @@ pub returns-clause-looks : goal.returns-clause-looks
 returns-clause-looks g c =
     let z = c.args.self.now in
     let s = c.find_live.ensures.shows in
-    let acts = map (act_of z.o (name_of z.table)) s.calls in
+    let acts = map (access_act z.o (name_of z.table)) s.calls in
     let few : (way : Way) (hash : ℕ) → c.args.walk.now.left ≡ walk_slots way hash c.args.walk.now.mask → AreFewReads way acts = λ way hash is.
     let first = c.find_live.ensures.first way hash is in
     search_few z.o (name_of z.table) way c.args.walk.now.mask s.calls (slots_is (shape_of z.bank.now) z.table c.args.walk.now.mask c.requires.can.table (sym c.requires.mask ∙ c.requires.can.mask)) s.loads (let steps = s.steps in omega (arith, first, steps)) in
@@ -39,4 +39,4 @@ returns-clause-searched g c =
     let first = c.args.walk.now.left in
     let left = c.find_live.new.walk.left in
     subst (λ (m : ℕ). Searched m (known_words z) c.args.key first left c.find_live.result) (sym c.requires.mask)
-    (s.shown (known_words z) (subst (λ (m : ℕ). Fits m s.calls (known_words z)) c.requires.mask r.2))
+    (s.shown (known_words z) (subst (λ (m : ℕ). AreAnswered m s.calls (known_words z)) c.requires.mask r.2))

@@ -1,12 +1,12 @@
 use Rattle.std.proofs.Common.{ℕ, ◌+◌, ◌*◌, ◌<◌, refl, sym, ◌∙◌, subst}
 use Rattle.ft_bank.specs.Passes.{shape_of, view, Did}
-use Rattle.ft_bank.specs.Tables.{name_of}
+use Rattle.ft_bank.specs.TableNames.{name_of}
 use Rattle.ft_trace.specs.Addresses.{class_of, size}
 use Rattle.ft_trace.specs.Holds.{held}
 use Rattle.ft_trace.specs.declared.Act.TheVariants.{ReadTable}
-use Rattle.ft_bank.proofs.Whole.{loaded_by, loaded_put}
-use Rattle.ft_search.proofs.Places.{entry_in, entry_is}
-use Rattle.ft_search.proofs.Knowing.{entry_after_header, loaded_leaves}
+use Rattle.ft_bank.proofs.KnownAfterWrites.{loaded_by, loaded_put}
+use Rattle.ft_search.proofs.WordPlaces.{entry_in, entry_is}
+use Rattle.ft_search.proofs.KnownTableWords.{entry_after_header, loaded_leaves}
 use Rattle.ft_search.proofs.words.TableWordsWords.entry.Goals as goal
 
 pub read_word-requires-clause-word : goal.read_word-requires-clause-word

@@ -1,11 +1,11 @@
 use Rattle.std.proofs.Common.{refl, sym, ◌∙◌}
 use Rattle.ft_bank.specs.Passes.{shape_of, view}
-use Rattle.ft_bank.specs.Tables.{name_of}
+use Rattle.ft_bank.specs.TableNames.{name_of}
 use Rattle.ft_trace.specs.Holds.{held}
-use Rattle.ft_bank.proofs.Whole.{loaded_by, loaded_put}
+use Rattle.ft_bank.proofs.KnownAfterWrites.{loaded_by, loaded_put}
 use Rattle.ft_trace.specs.declared.Act.TheVariants.{ReadTable}
-use Rattle.ft_search.proofs.Places.{slot_in}
-use Rattle.ft_search.proofs.Knowing.{after_header, loaded_leaves}
+use Rattle.ft_search.proofs.WordPlaces.{slot_in}
+use Rattle.ft_search.proofs.KnownTableWords.{after_header, loaded_leaves}
 use Rattle.ft_search.proofs.words.TableWordsWords.index.Goals as goal
 
 pub read_word-requires-clause-word : goal.read_word-requires-clause-word

@@ -1,15 +1,15 @@
 use Rattle.std.proofs.Common.{ℕ, ◌+◌, ◌*◌, refl, sym, subst}
 use Rattle.std.specs.Prelude.{slice_set}
 use Rattle.ft_bank.specs.Passes.{shape_of, view, Did}
-use Rattle.ft_bank.specs.Tables.{name_of}
-use Rattle.ft_bank.specs.Writes.{IsCareful}
+use Rattle.ft_bank.specs.TableNames.{name_of}
+use Rattle.ft_bank.specs.WriteSteps.{IsCareful}
 use Rattle.ft_trace.specs.Holds.{held}
 use Rattle.ft_trace.specs.declared.Act.TheVariants.{PutTable}
 use Rattle.ft_layout.specs.Tables.{entry_at}
-use Rattle.ft_search.specs.Words.{known_words}
-use Rattle.ft_bank.proofs.Whole.{put_by}
-use Rattle.ft_search.proofs.Places.{entry_in, entry_is}
-use Rattle.ft_search.proofs.Knowing.{put_entry_after_header, put_leaves}
+use Rattle.ft_search.specs.TableWords.{known_words}
+use Rattle.ft_bank.proofs.KnownAfterWrites.{put_by}
+use Rattle.ft_search.proofs.WordPlaces.{entry_in, entry_is}
+use Rattle.ft_search.proofs.KnownTableWords.{put_entry_after_header, put_leaves}
 use Rattle.ft_search.proofs.words.TableWordsWords.put_entry.Goals as goal
 
 pub put_table-requires-clause-word : goal.put_table-requires-clause-word

@@ -1,0 +1,17 @@
+-- What a call on two dicts comes to that copies the first one to the second.
+use Rattle.std.specs.Prelude.{ℕ}
+use Rattle.ft_model.specs.declared.call.Call.TheVariants as call
+use Rattle.ft_model.specs.declared.call.DictCall.TheVariants as dict
+use Rattle.ft_model.specs.TableUses.{copy_takes}
+use Rattle.ft_model.specs.Worlds.{length_of}
+use Rattle.ft_trace.specs.declared.Shape.{Shape}
+use Rattle.ft_trace.specs.declared.View.{View}
+use Rattle.ft_trace.specs.Holds.{known}
+use Rattle.ft_growth.specs.declared.adding.Added.{Added}
+use Rattle.ft_replacing.specs.Replacing.{IsReplaced}
+
+-- What `copyto d e` comes to under the locks of both: a write of e, which gets a table of the class for as many pairs
+-- as d has, always, or none where d has no pairs. (profile)
+abbrev pub CopiesTo : Shape → ℕ → ℕ → View → View → Added → Type 0
+CopiesTo k d e v w what =
+    IsReplaced k (copy_takes (length_of (known d v).content)) (call.Dict d (dict.CopyTo e)) v w what

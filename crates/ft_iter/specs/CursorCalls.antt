@@ -1,0 +1,77 @@
+-- What `iter` and `next` answer under the lock of the container, and the cursors that they leave.
+use Rattle.std.specs.Prelude.{◌≡◌, ◌≢◌, ℕ, Option, Some, None, false}
+use Rattle.ft_model.specs.declared.call.Call.{Call}
+use Rattle.ft_model.specs.declared.call.Call.TheVariants as call
+use Rattle.ft_model.specs.declared.call.DictCall.TheVariants as dict
+use Rattle.ft_model.specs.declared.call.ListCall.TheVariants as list
+use Rattle.ft_model.specs.declared.call.SetCall.TheVariants as set
+use Rattle.ft_model.specs.declared.content.Content.{Content}
+use Rattle.ft_model.specs.declared.cursor.Cursor.{Cursor}
+use Rattle.ft_model.specs.declared.cursor.Cursor.TheVariants as cursor
+use Rattle.ft_model.specs.declared.cursor.CursorState.TheVariants as walk
+use Rattle.ft_model.specs.declared.reply.Reply.{Reply}
+use Rattle.ft_model.specs.declared.script.Kind.{Kind}
+use Rattle.ft_model.specs.declared.script.Kind.TheVariants as kind
+use Rattle.ft_model.specs.Cursors.{CursorStep, dict_next, list_next, set_next}
+use Rattle.ft_model.specs.Worlds.{container_of, cursor_kind, dict_of, list_of, set_of}
+use Rattle.ft_trace.specs.declared.View.{View}
+use Rattle.ft_trace.specs.Hands.{cursor_in}
+use Rattle.ft_bank.specs.Answered.{AnsweredCursor}
+use Rattle.ft_section.specs.declared.answers.Objects.TheVariants.{One}
+use Rattle.ft_section.specs.declared.answers.Step.{Step}
+use Rattle.ft_section.specs.declared.answers.Step.TheVariants as step
+use Rattle.ft_section.specs.Locking.{OnlyLocked, FoundOwner, LocksWithin}
+use Rattle.ft_section.specs.LockTakings.{IsOf}
+use Rattle.ft_trace.specs.Owners.{SameOwners}
+
+-- one `next` of a cursor over a container with this content (Python manual, Iterator Types)
+abbrev pub step_in : Content → Cursor → CursorStep
+step_in c (cursor.Dict o walk size expected last) = dict_next (dict_of c).pairs o walk size expected last
+step_in c (cursor.List o index ended) = list_next (list_of c) o index ended
+step_in c (cursor.Set o walk size last) = set_next (set_of c).elements o walk size last
+
+-- the pass took the lock of the container o, gave this reply with this stamp, which it loaded while it had it, and let
+-- go of the lock; this cursor is its own under the number then
+pub record MovedUnderLock (o : ℕ) (called : Call) (said : Reply) (stamp number : ℕ) (left : Cursor)
+    (v w : View) : Type 0 where
+  pub before : View
+  pub after : View
+  pub took : OnlyLocked v before
+  pub within : LocksWithin (One o) v before
+  pub answered : AnsweredCursor called said stamp number left before after
+  pub gone : OnlyLocked after w
+  pub owners : SameOwners after w
+  pub mine : cursor_in number w.log ≡ Some left
+
+-- The pass has the cursors that it had under all other numbers. (Python manual, Iterator Types)
+abbrev pub KeepsOtherCursors : ℕ → View → View → Type 0
+KeepsOtherCursors number v w = (other : ℕ) → other ≢ number → cursor_in other w.log ≡ cursor_in other v.log
+
+-- a cursor goes over this container of this kind
+abbrev pub IsOver : Kind → ℕ → Cursor → Type 0
+IsOver kind o walker = (container_of walker ≡ o) × (cursor_kind walker ≡ kind)
+
+-- The call gave its reply so, and the caller has the cursor that it leaves, over the same container; or a step of it
+-- found another pass with the lock of the container, and the caller's cursor stays. It takes no table and no memory. (C
+-- API, critical sections)
+abbrev pub IsMoveOf : Kind → ℕ → Call → ℕ → Option Cursor → View → View → Step → Option Cursor → Type 0
+IsMoveOf kind o called number had v w (step.Done said stamp) left =
+    (walker : Cursor) × (left ≡ Some walker) × IsOver kind o walker
+    × MovedUnderLock o called said stamp.number number walker v w
+    × (stamp.wrote ≡ false)
+IsMoveOf kind o called number had v w (step.NotYet p q) left =
+    (left ≡ had) × OnlyLocked v w × IsOf p (One o) × FoundOwner p q v w
+IsMoveOf kind o called number had v w (step.Moved a b) left = ⊥
+IsMoveOf kind o called number had v w step.NoMemory left = ⊥
+
+-- the call `iter` on a container of a kind, and the cursor that it makes there, where there are this many pairs, items
+-- or elements (Python manual, Iterator Types)
+abbrev pub iter_call : Kind → ℕ → ℕ → Call
+iter_call kind.Dict o number = call.Dict o (dict.Iter number)
+iter_call kind.List o number = call.List o (list.Iter number)
+iter_call kind.Set o number = call.Set o (set.Iter number)
+
+abbrev pub iter_cursor : Kind → ℕ → ℕ → Cursor
+iter_cursor kind.Dict o size = cursor.Dict o walk.Live size size None
+iter_cursor kind.List o size = cursor.List o 0 false
+iter_cursor kind.Set o size = cursor.Set o walk.Live size None

@@ -1,0 +1,151 @@
+-- Calls under locks: what a pass in the midst of a call may do with a list, and that it is in the midst of its call still
+-- once it has.
+use Rattle.std.proofs.Common.{◌≡◌, ℕ, ◌<◌, ◌≤◌, Bool, true, false, List, ◌∷◌, ◌++◌, Some, None, refl, sym, ap, ◌∙◌, subst, inr}
+use Rattle.std.specs.Prelude.{◌&&◌, not, if◌then◌else◌, Result, Ok, Err}
+use Rattle.std.specs.declared.alloc.AllocError.{AllocError}
+use Rattle.std.specs.Option.{unwrap_or}
+use Rattle.ft_model.specs.declared.call.Call.{Call}
+use Rattle.ft_model.specs.declared.call.Call.TheVariants as call
+use Rattle.ft_model.specs.declared.call.ListCall.{ListCall}
+use Rattle.ft_model.specs.declared.content.Content.TheVariants as content
+use Rattle.ft_model.specs.declared.data.Value.{Value}
+use Rattle.ft_model.specs.declared.reply.Reply.{Reply}
+use Rattle.ft_model.specs.declared.script.Kind.TheVariants as kind
+use Rattle.ft_model.specs.Answers.{answer_list, is_write}
+use Rattle.ft_model.specs.Calls.{is_changing_list}
+use Rattle.ft_model.specs.Answers.{Answer as Given}
+use Rattle.ft_model.specs.TableUses.{StoredWorld}
+use Rattle.ft_model.specs.Worlds.{no_hands}
+use Rattle.ft_trace.specs.declared.Act.{Act}
+use Rattle.ft_trace.specs.declared.Act.TheVariants.{Answer, ReadCounter}
+use Rattle.ft_trace.specs.declared.Shape.{Shape}
+use Rattle.ft_trace.specs.declared.View.{View}
+use Rattle.ft_trace.specs.Acts.{has_lock, stage, debt, noted, shown}
+use Rattle.ft_trace.specs.Addresses.{containers_in}
+use Rattle.ft_trace.specs.Holds.{held, known}
+use Rattle.ft_trace.specs.Traces.{Possible}
+use Rattle.ft_trace.specs.Pictures.{root_in}
+use Rattle.ft_trace.specs.ContainerStates.{kind_in, changes, reply_in}
+use Rattle.ft_bank.specs.declared.bank.Bank.{Bank}
+use Rattle.ft_bank.specs.declared.pass.Pass.{Pass}
+use Rattle.ft_bank.specs.Answered.{Answered}
+use Rattle.ft_bank.specs.Passes.{shape_of, view, IsPassOf}
+use Rattle.ft_bank.specs.Reads.{IsShown}
+use Rattle.ft_bank.specs.PassSections.{stack_of}
+use Rattle.ft_bank.specs.Whole.{OnlyLoaded, Wrote}
+use Rattle.ft_bank.specs.WriteSteps.{MayHave}
+use Rattle.ft_bank.proofs.KnownAfterWrites.{loaded_by, loaded_held, loaded_then, work_knows}
+use Rattle.ft_section.specs.declared.answers.Stamp.{Stamp}
+use Rattle.ft_section.specs.Ready.{IsMaking}
+use Rattle.ft_section.proofs.MidstOfCall.{making_stays}
+use Rattle.ft_search.proofs.Asking.{held_shown, answered_locked}
+use Rattle.ft_search.proofs.Calling.{loaded_answered, loaded_wrote, making_made, replied_loaded, wrote_as as written}
+use Rattle.ft_search.proofs.Lengths.{IsPlain}
+use Rattle.ft_search.proofs.ReadMidst.{LeavesSections, still_loaded, making_stands}
+use Rattle.ft_list.specs.ListWrites.{MayWriteList, Changes, Raises}
+use Rattle.ft_list.specs.ListItemWrites.{known_items}
+use Rattle.ft_search.specs.MadeCalls.{IsReplyTo, KeepsTables, MadeAs}
+use Rattle.ft_list.specs.Copies.{IsCopied}
+use Rattle.ft_list.proofs.Commits.{list_is}
+use Rattle.ft_list.proofs.Lists.{content_of}
+use Rattle.ft_list.proofs.WholeListWrites.{has_before}
+use Rattle.ft_list.proofs.Raising.{raised, and_false}
+
+-- ---- before the call
+
+pub may_write : (b : Bank) (p : Pass) (o : ℕ) → IsMaking b p → o < containers_in (shape_of b) → kind_in (shape_of b).kinds o ≡ kind.List → has_lock o (view p).log ≡ true → 0 < (view p).left → MayWriteList (shape_of b) o (view p)
+may_write b p o m low is mine left =
+    let same = m.inside.0.1 in
+    record {
+      container = low;
+      kind = is;
+      locked = mine;
+      even = m.inside.1.still.even o;
+      stands = making_stands b p (shape_of b).texts o m (ap (λ (k : Shape). k.texts) same) (subst (λ (k : Shape). o < containers_in k) (sym same) low) mine;
+      owes = m.inside.1.still.owes;
+      left = left;
+    }
+
+-- ---- the reply
+
+module _ (o : ℕ) (lc : ListCall) (said : Reply) (values : List Value) (v : View) (low : o < containers_in v.shape) (mine : has_lock o v.log ≡ true) (is_list : (known o v).content ≡ content.List values) where
+  -- it is that of the plain list with the items that the pass knows
+  pub reply_of_list : ((stored : StoredWorld) → MayHave v stored → (answer_list stored.world no_hands o values lc).reply ≡ said) → IsReplyTo (call.List o lc) said v
+  reply_of_list replied stored has = ap (λ (l : List Value). (answer_list stored.world no_hands o l lc).reply) (list_is o lc said values values v low mine is_list stored has) ∙ replied stored has
+
+  pub reply_changes : (news : List Value) → Changes o lc said values news v → IsReplyTo (call.List o lc) said v
+  reply_changes news c = reply_of_list (λ stored has. ap (λ (z : Given). z.reply) (c.write.answered stored has))
+
+  pub reply_raises : Raises o lc said values → IsReplyTo (call.List o lc) said v
+  reply_raises r = reply_of_list (λ stored has. ap (λ (z : Given). z.reply) (r.answered stored.world))
+
+-- ---- tables in hand
+
+pub tables_answered : (called : Call) (said : Reply) (n : ℕ) (v w : View) → Answered called said n v w → KeepsTables v w
+tables_answered called said n v w x = record {
+  hands = λ t. ap (λ (z : View). stage t z.log) x.answered ∙ x.loaded.work.hands t;
+  debt = ap (λ (z : View). debt z.log) x.answered ∙ x.loaded.work.debt;
+}
+
+-- ---- the call as one made
+
+-- as a call that isn't one
+pub made_read : (called : Call) (said : Reply) (stamp : Stamp) (v w : View) → IsReplyTo called said v → is_write called said ≡ false → stamp.wrote ≡ false → Answered called said stamp.number v w → MadeAs called said stamp v w
+made_read called said stamp v w replied read wrote x = record {
+  made = inr (wrote, x);
+  replied = replied;
+  wrote = wrote ∙ sym read;
+  tables = tables_answered called said stamp.number v w x;
+}
+
+-- a list that a pass with its lock has, where the call is a write that leaves its table, or raises
+module _ (k : Shape) (o : ℕ) (lc : ListCall) (said : Reply) (v u w : View) (shape : u.shape ≡ k) (possible : ∥ Possible u ∥₁) (may : MayWriteList k o u) (loaded : OnlyLoaded v u) where
+  abbrev called : Call
+  called = call.List o lc
+
+  inside : o < containers_in u.shape
+  inside = subst (λ (z : Shape). o < containers_in z) (sym shape) may.container
+
+  is_list : (known o u).content ≡ content.List (known_items o u)
+  is_list = content_of k o u shape possible may
+
+  pub wrote_as : (n : ℕ) (news : List Value) → Changes o lc said (known_items o u) news u → Wrote called said n u w → root_in (held o w) ≡ root_in (held o u) → MadeAs called said (record { number = n; wrote = true }) v w
+  wrote_as n news c x root =
+      let at : o ≡ changes called = sym (ap (λ (b : Bool). unwrap_or (if b then Some o else None) 0) c.write.changing) in
+      written called said n v w (λ d. c.write.changing d && not (c.write.raises d))
+      (replied_loaded v u loaded called said (reply_changes o lc said (known_items o u) u inside may.locked is_list news c))
+      (loaded_wrote v u loaded called said n w x)
+      (subst (λ (p : ℕ). root_in (held p w) ≡ root_in (held p v)) at (root ∙ ap root_in (loaded_held v u o loaded)))
+
+  pub raised_as : (stamp : Stamp) (part : List Act) → u.log ≡ part ++ v.log → Raises o lc said (known_items o u) → stamp.wrote ≡ false → Answered called said stamp.number u w → MadeAs called said stamp v w
+  raised_as stamp part log r wrote x =
+      made_read called said stamp v w (replied_loaded v u loaded called said (reply_raises o lc said (known_items o u) u inside may.locked is_list r))
+      (ap (λ (b : Bool). is_changing_list lc && not b) (raised said r.raises) ∙ and_false (is_changing_list lc)) wrote
+      (loaded_answered v u loaded called said stamp.number w part log x)
+
+-- ---- after the call
+
+-- loads in the midst of it
+pub making_loaded : (b : Bank) (p q : Pass) → IsMaking b p → IsPassOf b q → stack_of q ≡ stack_of p → OnlyLoaded (view p) (view q) → IsMaking b q
+making_loaded b p q m pass stack l = making_stays b p q m pass stack l.work.pass.shape l.work.pass.locks l.work.pass.begun (still_loaded (view p) (view q) l m.inside.1.still)
+
+-- a call that takes memory
+pub making_copied : (b : Bank) (p q : Pass) (asked : Call) (copied : Result (Reply × Stamp) AllocError) → LeavesSections asked → IsMaking b p → IsPassOf b q → stack_of q ≡ stack_of p → IsCopied asked (view p) (view q) copied → IsMaking b q
+making_copied b p q asked (Ok made) leaves m pass stack x = making_made b p q asked made.0 made.1 leaves m pass stack x
+making_copied b p q asked (Err e) leaves m pass stack x = making_loaded b p q m pass stack x.0
+
+-- ---- calls that read, with the stamp that is loaded under the lock
+
+module _ (called : Call) (said : Reply) (plain : IsPlain called said) (v u : View) (loaded : OnlyLoaded v u) (replied : IsReplyTo called said v) where
+  pub read_shown : (n : ℕ) → 0 < v.left → IsShown (noted (ReadCounter n) u) called said n
+  read_shown n left =
+      let both = loaded_then v u (noted (ReadCounter n) u) loaded (loaded_by (ReadCounter n) u (noted (ReadCounter n) u) tt refl) in
+      let had = has_before v (noted (ReadCounter n) u) (λ p. work_knows v (noted (ReadCounter n) u) p both.work) both.work.pass.shape (λ p mine. both.work.pass.locks p ∙ mine) in
+      held_shown v u n loaded left called said plain.reads plain.cursor
+      (λ stored has. plain.replied (reply_in stored called) (sym (replied stored (had stored has))))
+      (λ stored. plain.cause stored (ReadCounter n ∷ u.log) n)
+
+  pub read_made : (z : View) (given reply : Reply) (stamp : Stamp) (part : List Act) → u.log ≡ part ++ v.log → z ≡ noted (Answer called given stamp.number) (noted (ReadCounter stamp.number) u) → given ≡ said → reply ≡ given → stamp.wrote ≡ false → v.learnt ≤ shown v.log → ∥ Possible z ∥₁ → MadeAs called reply stamp v z
+  read_made z given reply stamp part own did is same wrote settled possible =
+      subst (λ (r : Reply). MadeAs called r stamp v z) (sym (same ∙ is))
+      (made_read called said stamp v z replied plain.reads wrote (answered_locked v u z called said stamp.number part loaded own (did ∙ ap (λ (r : Reply). noted (Answer called r stamp.number) (noted (ReadCounter stamp.number) u)) is) settled possible))

@@ -1,0 +1,143 @@
+-- Rounds of a look-up of one item.
+use Rattle.std.proofs.Common.{◌≡◌, ◌≢◌, ◌⊎◌, ℕ, suc, ◌%◌, ◌^◌, ◌<◌, ◌≤◌, List, [], ◌∷◌, ◌++◌, refl, sym, ap, ◌∙◌, inl, inr, ⊎_elim, append_assoc}
+use Rattle.std.specs.Prelude.{pos}
+use Rattle.ft_model.specs.declared.data.Key.TheVariants as key
+use Rattle.ft_model.specs.Classes.{list_items}
+use Rattle.ft_trace.specs.declared.Act.{Act}
+use Rattle.ft_trace.specs.declared.Act.TheVariants.{ReadRoot, ReadTable, ReadCounter, Version}
+use Rattle.ft_trace.specs.declared.Shape.{Shape}
+use Rattle.ft_trace.specs.Addresses.{class_of, slots, IsTableName}
+use Rattle.ft_trace.specs.Pictures.{item_offset}
+use Rattle.ft_trace.specs.Acts.{reads}
+use Rattle.ft_trace.specs.LoggedLookUps.{Inner, IsNew}
+use Rattle.ft_bank.specs.declared.pass.Pass.{Pass}
+use Rattle.ft_bank.specs.Passes.{view}
+use Rattle.ft_bank.specs.Series.{DidAll}
+use Rattle.ft_bank.specs.declared.table.Table.{Table}
+use Rattle.ft_bank.specs.TableNames.{name_of, IsTableIn}
+use Rattle.ft_bank.proofs.TableAddresses.{class_is}
+use Rattle.ft_search.specs.Rounds.{IsFresh}
+use Rattle.ft_search.proofs.Running.{did_trans, did_log, window_of}
+use Rattle.ft_search.proofs.Rounding.{looks_inner, among_in, container_in, bare_acts, bare_of, rounds_left, falls as round_falls}
+use Rattle.ft_list.specs.declared.looks.LookedItem.{LookedItem}
+use Rattle.ft_list.specs.declared.looks.LookedItem.TheVariants.{Item, Past, Contended}
+use Rattle.ft_list.specs.declared.looks.ItemRound.{ItemRound}
+use Rattle.ft_list.specs.declared.looks.ItemRound.TheVariants.{Ended, Moved}
+use Rattle.ft_list.specs.declared.looks.SeenItem.{SeenItem}
+use Rattle.ft_list.specs.ItemLooks.{item_acts, StopsAtItem, ShowsFound, ItemClosesAt, EndsItemTable, EndsItemRound}
+
+-- the loads of an item, one after the other
+pub seen_did : (t index : ℕ) (seen : SeenItem) (p q1 q2 q3 q4 q5 : Pass) → DidAll (ReadTable t (item_offset index 0) seen.opened ∷ []) p q1 → DidAll (ReadTable t (item_offset index 1) seen.kind ∷ []) q1 q2 → DidAll (ReadTable t (item_offset index 2) seen.payload ∷ []) q2 q3 → DidAll (ReadCounter seen.number ∷ []) q3 q4 → DidAll (ReadTable t (item_offset index 0) seen.closed ∷ []) q4 q5 → DidAll (item_acts t index seen) p q5
+seen_did t index seen p q1 q2 q3 q4 q5 a b c d e =
+    let l1 : List Act = ReadTable t (item_offset index 0) seen.opened ∷ [] in
+    let l2 : List Act = ReadTable t (item_offset index 1) seen.kind ∷ l1 in
+    let l3 : List Act = ReadTable t (item_offset index 2) seen.payload ∷ l2 in
+    let l4 : List Act = ReadCounter seen.number ∷ l3 in
+    did_trans (ReadTable t (item_offset index 0) seen.closed ∷ []) l4 p q4 q5
+    (did_trans (ReadCounter seen.number ∷ []) l3 p q3 q4
+    (did_trans (ReadTable t (item_offset index 2) seen.payload ∷ []) l2 p q2 q3
+    (did_trans (ReadTable t (item_offset index 1) seen.kind ∷ []) l1 p q1 q2 a b) c) d) e
+
+-- what they show, where the version was even and the same
+pub item_closes : (o t index : ℕ) (seen : SeenItem) → index < slots (class_of t) → seen.closed ≡ seen.opened → seen.opened % 2 ≡ 0 → ItemClosesAt o t index (item_acts t index seen) (Item seen.kind seen.payload seen.number)
+item_closes o t index seen low same even =
+    let mid : List Act = ReadCounter seen.number ∷ (ReadTable t (item_offset index 2) seen.payload ∷ (ReadTable t (item_offset index 1) seen.kind ∷ [])) in (
+      (λ log window. record {
+        t = t;
+        low = low;
+        hit = record {
+          walk = item_acts t index seen;
+          window = window;
+          version = seen.opened;
+          even = even;
+          mid = mid;
+          newer = [];
+          rest = [];
+          is = (λ d. ReadTable t (item_offset index 0) (same d) ∷ (mid ++ ReadTable t (item_offset index 0) seen.opened ∷ []));
+          stamp = record { newer = []; rest = ReadTable t (item_offset index 2) seen.payload ∷ (ReadTable t (item_offset index 1) seen.kind ∷ []); is = refl };
+        };
+        read = (
+          record { newer = ReadCounter seen.number ∷ (ReadTable t (item_offset index 2) seen.payload ∷ []); rest = []; is = refl },
+          record { newer = ReadCounter seen.number ∷ []; rest = ReadTable t (item_offset index 1) seen.kind ∷ []; is = refl },
+        );
+      }),
+      record { newer = ReadTable t (item_offset index 0) seen.closed ∷ []; rest = ReadTable t (item_offset index 2) seen.payload ∷ (ReadTable t (item_offset index 1) seen.kind ∷ (ReadTable t (item_offset index 0) seen.opened ∷ [])); is = refl },
+    )
+
+pub item_stops : (o t index : ℕ) (seen : SeenItem) → index < slots (class_of t) → (seen.opened % 2 ≢ 0) ⊎ (seen.closed ≢ seen.opened) → ItemClosesAt o t index (item_acts t index seen) (Contended seen.opened seen.closed)
+item_stops o t index seen low why = record {
+  low = low;
+  newer = [];
+  mid = ReadCounter seen.number ∷ (ReadTable t (item_offset index 2) seen.payload ∷ (ReadTable t (item_offset index 1) seen.kind ∷ []));
+  rest = [];
+  is = refl;
+  moved = why;
+}
+
+pub past_closes : (o t index n : ℕ) → slots (class_of t) ≤ index → ItemClosesAt o t index (ReadCounter n ∷ []) (Past n)
+past_closes o t index n high = (
+  (λ log window. inl (t, high, record { walk = ReadCounter n ∷ []; window = window; stamp = record { newer = []; rest = []; is = refl } })),
+  record { newer = []; rest = []; is = refl },
+)
+
+-- the root was read again and has changed
+pub fresh_root : (k : Shape) (o t r : ℕ) (p q : Pass) (part rest : List Act) → Inner part → DidAll part p q → (view p).log ≡ ReadRoot o t ∷ rest → r ≢ t → ((u : ℕ) → r ≡ suc u → IsTableName k u) → IsNew o r (view q).log → IsFresh k r (part ++ (view p).log)
+fresh_root k o t r p q part rest inner did last ne table new u is =
+    let log = did_log part p q did in
+    (table u is, sym (ap (reads u) log) ∙ new u t part rest is (λ s. ne (sym s)) (log ∙ ap (λ (z : List Act). part ++ z) last) inner)
+
+-- ---- what was found stays found
+
+item_in : (t index a b : ℕ) (new part old : List Act) → StopsAtItem t index a b part → StopsAtItem t index a b (new ++ (part ++ old))
+item_in t index a b new part old h =
+    let x = ReadTable t (item_offset index 0) a in
+    let y = ReadTable t (item_offset index 0) b in
+    record {
+      low = h.low;
+      newer = new ++ h.newer;
+      mid = h.mid;
+      rest = h.rest ++ old;
+      is = ap (λ (z : List Act). new ++ (z ++ old)) h.is
+          ∙ (ap (λ (z : List Act). new ++ z) (append_assoc h.newer (y ∷ (h.mid ++ x ∷ h.rest)) old ∙ ap (λ (z : List Act). h.newer ++ y ∷ z) (append_assoc h.mid (x ∷ h.rest) old))
+          ∙ sym (append_assoc new h.newer (y ∷ (h.mid ++ x ∷ (h.rest ++ old)))));
+      moved = h.moved;
+    }
+
+pub found_in : (k : Shape) (o index : ℕ) (part old log : List Act) (found : LookedItem) → ShowsFound k o index part log found → ShowsFound k o index (part ++ old) log found
+found_in k o index part old log (Item kind payload n) h = (h.0, among_in (ReadCounter n) [] part old h.1)
+found_in k o index part old log (Past n) h = (h.0, among_in (ReadCounter n) [] part old h.1)
+found_in k o index part old log (Contended a b) h =
+    ⊎_elim (λ x. inl (x.0, among_in (ReadRoot o (suc x.0)) [] part old x.1, item_in x.0 index a b [] part old x.2)) (λ x. inr (container_in o a b [] part old x)) h
+
+-- ---- a round at whatever the root was
+
+pub at_table : (k : Shape) (o index t : ℕ) (p q : Pass) (r : ItemRound) (rest : List Act) → (view p).log ≡ ReadRoot o (suc t) ∷ rest → EndsItemTable k o index t p q r → EndsItemRound k o index (suc t) p q r
+at_table k o index t p q (Moved r) rest last e = (e.0, e.1, e.2, e.3, e.4)
+at_table k o index t p q (Ended (Item kind payload n)) rest last e =
+    let part = e.0 in
+    let win = window_of o t part rest p q e.2 last e.1 in
+    (ReadRoot o (suc t) ∷ part, looks_inner part e.1, e.2, (e.3.0 (view q).log win, among_in (ReadCounter n) (ReadRoot o (suc t) ∷ []) part (ReadRoot o (suc t) ∷ []) e.3.1))
+at_table k o index t p q (Ended (Past n)) rest last e =
+    let part = e.0 in
+    let win = window_of o t part rest p q e.2 last e.1 in
+    (ReadRoot o (suc t) ∷ part, looks_inner part e.1, e.2, (e.3.0 (view q).log win, among_in (ReadCounter n) (ReadRoot o (suc t) ∷ []) part (ReadRoot o (suc t) ∷ []) e.3.1))
+at_table k o index t p q (Ended (Contended a b)) rest last e =
+    let part = e.0 in
+    (ReadRoot o (suc t) ∷ part, looks_inner part e.1, e.2, inl (t, record { newer = []; rest = part ++ ReadRoot o (suc t) ∷ []; is = refl }, item_in t index a b (ReadRoot o (suc t) ∷ []) part (ReadRoot o (suc t) ∷ []) e.3))
+
+pub bare_past : (k : Shape) (o closed n root opened index : ℕ) (p q : Pass) → DidAll (bare_acts o closed n root opened) p q → root ≡ 0 → closed ≡ opened → opened % 2 ≡ 0 → EndsItemRound k o index 0 p q (Ended (Past n))
+bare_past k o closed n root opened index p q did none same even = (
+  bare_acts o closed n root opened,
+  tt,
+  did,
+  (inr (bare_of o closed n root opened p q did none same even), record { newer = Version o closed ∷ []; rest = ReadRoot o root ∷ (Version o opened ∷ (ReadRoot o 0 ∷ [])); is = refl }),
+)
+
+-- a round after which the root has changed leaves fewer changes
+pub falls : (k : Shape) (o index root r : ℕ) (p q : Pass) → EndsItemRound k o index root p q (Moved r) → rounds_left (view q).log r < rounds_left (view p).log root
+falls k o index root r p q e = round_falls k o (key.Int (pos 0)) root r p q (e.0, e.1, e.2, e.3, e.4)
+
+-- how many items a table has
+pub slots_are : (k : Shape) (t : Table) → IsTableIn k t → slots (class_of (name_of t)) ≡ list_items t.class
+unfolding slots
+slots_are k t is = ap (λ (n : ℕ). 2 ^ n) (class_is t is.2)

@@ -1,0 +1,68 @@
+-- Lists that get another table: what a pass is to have and to know for that, and the words of the new table.
+use Rattle.std.specs.Prelude.{◌≡◌, ℕ, suc, ◌<◌, true, false, List, length, Option, Some, None, slice_set}
+use Rattle.ft_model.specs.declared.data.Value.{Value}
+use Rattle.ft_model.specs.declared.script.Kind.TheVariants as kind
+use Rattle.ft_model.specs.TableUses.{TableUse, no_table}
+use Rattle.ft_layout.specs.declared.slot.Stored.{Stored}
+use Rattle.ft_layout.specs.Words.{IsStored, stored_kind, stored_payload}
+use Rattle.ft_trace.specs.declared.Shape.{Shape}
+use Rattle.ft_trace.specs.declared.View.{View}
+use Rattle.ft_trace.specs.Acts.{has_lock, is_writing, owes, stage, used, flight}
+use Rattle.ft_trace.specs.Addresses.{containers_in, class_of, size}
+use Rattle.ft_trace.specs.Holds.{held, known}
+use Rattle.ft_trace.specs.Pictures.{root_in, Stands, item_offset, item_field}
+use Rattle.ft_trace.specs.ContainerStates.{kind_in}
+use Rattle.ft_bank.specs.declared.table.Table.{Table}
+use Rattle.ft_bank.specs.TableNames.{name_of, root_for, IsTableIn}
+use Rattle.ft_list.specs.ListItemWrites.{stored_item}
+
+-- what a list has that has this table, or none
+abbrev pub list_use_of : Option Table → TableUse
+list_use_of None = no_table
+list_use_of (Some t) = record { class = Some t.class; fill = 0 }
+
+-- The pass has the lock of the list o, whose root names this table or none; no version is odd there, and its words
+-- stand for what the pass knows of it. (profile)
+pub record KnowsList (k : Shape) (o : ℕ) (old : Option Table) (v : View) : Type 0 where
+  pub container : o < containers_in k
+  pub kind : kind_in k.kinds o ≡ kind.List
+  pub locked : has_lock o v.log ≡ true
+  pub even : is_writing o v.log ≡ false
+  pub stands : Stands k.texts (held o v) (known o v)
+  pub table_in : (t : Table) → old ≡ Some t → IsTableIn k t
+  pub root : root_in (held o v) ≡ root_for old
+
+-- Besides it is in the midst of no taking or giving of a table, and of no other write that took a table out of a root;
+-- it has lowered no count of a class that it hasn't raised again, and it has a call left. (profile)
+pub record MayAdd (k : Shape) (o : ℕ) (old : Option Table) (v : View) : Type 0 where
+  pub list : KnowsList k o old v
+  pub used : used v.log ≡ false
+  pub owes : owes v.log ≡ 0
+  pub idle : flight v.log ≡ 0
+  pub left : 0 < v.left
+
+-- Or it has taken this table, which is fresh in its hand, and has raised no count since. (profile)
+pub record MayGrowList (k : Shape) (o : ℕ) (old : Option Table) (table : Table) (v : View) : Type 0 where
+  pub list : KnowsList k o old v
+  pub used : used v.log ≡ false
+  pub owed : owes v.log ≡ suc (class_of (name_of table))
+  pub fresh : stage (name_of table) v.log ≡ 1
+  pub table_in : IsTableIn k table
+  pub left : 0 < v.left
+
+-- the words of a table once an item stores this, with version 0
+abbrev pub with_new_item : List ℕ → ℕ → Stored → List ℕ
+with_new_item words place stored =
+    slice_set
+    (slice_set
+    (slice_set (slice_set words (item_offset place 0) 0) (item_offset place 1) (stored_kind stored))
+    (item_offset place 2) (stored_payload stored))
+    (item_offset place 3) 0
+
+-- The words of a table of this class, of which the items before this place store what a list has there, with version 0.
+-- (profile)
+pub record IsFilled (class : ℕ) (values : List Value) (past : ℕ) (words : List ℕ) : Type 0 where
+  pub long : length words ≡ size class
+  pub version : (p : ℕ) → p < past → item_field words p 0 ≡ 0
+  pub items : (p : ℕ) → p < past → IsStored (item_field words p 1) (item_field words p 2) (stored_item values p)
+  pub spare : (p : ℕ) → p < past → item_field words p 3 ≡ 0

@@ -1,0 +1,122 @@
+-- What a look-up of one item without the lock loads, and what its log then shows. (profile)
+use Rattle.std.specs.Prelude.{◌≡◌, ◌≢◌, ◌⊎◌, ℕ, suc, pos, false, ◌%◌, ◌<◌, ◌≤◌, List, [], ◌∷◌, ◌++◌}
+use Rattle.ft_model.specs.declared.call.Call.TheVariants as call
+use Rattle.ft_model.specs.declared.call.ListCall.TheVariants as list
+use Rattle.ft_trace.specs.declared.Act.{Act}
+use Rattle.ft_trace.specs.declared.Act.TheVariants.{ReadRoot, ReadTable, ReadCounter}
+use Rattle.ft_trace.specs.declared.Shape.{Shape}
+use Rattle.ft_trace.specs.declared.View.{View}
+use Rattle.ft_trace.specs.Addresses.{class_of, slots}
+use Rattle.ft_trace.specs.Pictures.{item_offset}
+use Rattle.ft_trace.specs.LoggedReads.{Among}
+use Rattle.ft_trace.specs.LoggedLookUps.{Inner, LookUpWindow, Bare, ItemHit, ItemPast}
+use Rattle.ft_trace.specs.LookReplies.{IsItemRead, item_reply}
+use Rattle.ft_bank.specs.declared.pass.Pass.{Pass}
+use Rattle.ft_bank.specs.Answered.{Answered}
+use Rattle.ft_bank.specs.Passes.{view}
+use Rattle.ft_bank.specs.Reads.{IsShown}
+use Rattle.ft_bank.specs.Whole.{OnlyLoaded}
+use Rattle.ft_bank.specs.Series.{DidAll}
+use Rattle.ft_search.specs.KeyLooks.{AreLooks, StopsAtContainer}
+use Rattle.ft_search.specs.Rounds.{IsFresh}
+use Rattle.ft_section.specs.declared.answers.Look.{Look}
+use Rattle.ft_section.specs.declared.answers.Look.TheVariants as look
+use Rattle.ft_list.specs.declared.gets.AtIndex.{AtIndex}
+use Rattle.ft_list.specs.declared.gets.AtIndex.TheVariants.{Found as AtFound, Contended as AtContended}
+use Rattle.ft_list.specs.declared.looks.LookedItem.{LookedItem}
+use Rattle.ft_list.specs.declared.looks.LookedItem.TheVariants.{Item, Past, Contended}
+use Rattle.ft_list.specs.declared.looks.ItemRound.{ItemRound}
+use Rattle.ft_list.specs.declared.looks.ItemRound.TheVariants.{Ended, Moved}
+use Rattle.ft_list.specs.declared.looks.SeenItem.{SeenItem}
+
+-- the loads of an item between two loads of its version, newest first
+abbrev pub item_acts : ℕ → ℕ → SeenItem → List Act
+item_acts t index seen =
+    ReadTable t (item_offset index 0) seen.closed
+    ∷ (ReadCounter seen.number
+    ∷ (ReadTable t (item_offset index 2) seen.payload
+    ∷ (ReadTable t (item_offset index 1) seen.kind
+    ∷ (ReadTable t (item_offset index 0) seen.opened ∷ []))))
+
+-- The log shows what the item at this index was when the counter was n: between two loads of its version that found the
+-- same even number these words of it were read.
+pub record ShowsItem (o index kind payload n : ℕ) (log : List Act) : Type 0 where
+  pub t : ℕ
+  pub low : index < slots (class_of t)
+  pub hit : ItemHit log o t index n
+  pub read : IsItemRead t index kind payload hit.mid
+
+-- The log shows that the list had no item at this index when the counter was n: its root named a table that has none,
+-- or no table.
+abbrev pub ShowsPast : ℕ → ℕ → ℕ → List Act → Type 0
+ShowsPast o index n log = ((t : ℕ) × (slots (class_of t) ≤ index) × ItemPast log o t n) ⊎ Bare log o n
+
+-- two loads of the version of this very item of the table gave a and then b, and a is odd or they differ
+pub record StopsAtItem (t index a b : ℕ) (part : List Act) : Type 0 where
+  pub low : index < slots (class_of t)
+  pub newer : List Act
+  pub mid : List Act
+  pub rest : List Act
+  pub is : part ≡ newer ++ ReadTable t (item_offset index 0) b ∷ (mid ++ ReadTable t (item_offset index 0) a ∷ rest)
+  pub moved : (a % 2 ≢ 0) ⊎ (b ≢ a)
+
+-- Two loads of one version gave a and then b, and a is odd or they differ: the version of this very item in a table
+-- that the root named, or that of the list where its root was read 0.
+abbrev pub StopsItemLook : ℕ → ℕ → ℕ → ℕ → List Act → Type 0
+StopsItemLook o index a b part =
+    ((t : ℕ) × Among (ReadRoot o (suc t)) part × StopsAtItem t index a b part) ⊎ StopsAtContainer o a b part
+
+-- A look-up came to this, by its own loads (`part`) and those before (`log` has both). It is contended by the version
+-- of that very item, in a table that its root was read to name; or by the version of the list, whose root was read 0
+-- between.
+abbrev pub ShowsFound : Shape → ℕ → ℕ → List Act → List Act → LookedItem → Type 0
+ShowsFound k o index part log (Item kind payload n) = ShowsItem o index kind payload n log × Among (ReadCounter n) part
+ShowsFound k o index part log (Past n) = ShowsPast o index n log × Among (ReadCounter n) part
+ShowsFound k o index part log (Contended a b) = StopsItemLook o index a b part
+
+-- what these loads show once the root is read again and still names the table t
+abbrev pub ItemClosesAt : ℕ → ℕ → ℕ → List Act → LookedItem → Type 0
+ItemClosesAt o t index part (Item kind payload n) =
+    ((log : List Act) → LookUpWindow log o t part → ShowsItem o index kind payload n log) × Among (ReadCounter n) part
+ItemClosesAt o t index part (Past n) =
+    ((log : List Act) → LookUpWindow log o t part → ShowsPast o index n log) × Among (ReadCounter n) part
+ItemClosesAt o t index part (Contended a b) = StopsAtItem t index a b part
+
+-- a round over the table t, which the last read of the root named
+abbrev pub EndsItemTable : Shape → ℕ → ℕ → ℕ → Pass → Pass → ItemRound → Type 0
+EndsItemTable k o index t p q (Ended found) =
+    (part : List Act) × Inner part × DidAll (ReadRoot o (suc t) ∷ part) p q × ItemClosesAt o t index part found
+EndsItemTable k o index t p q (Moved r) =
+    (part : List Act) × Inner part × DidAll (ReadRoot o r ∷ part) p q × (r ≢ suc t) × IsFresh k r (part ++ (view p).log)
+
+-- a round at this root, which was read last
+abbrev pub EndsItemRound : Shape → ℕ → ℕ → ℕ → Pass → Pass → ItemRound → Type 0
+EndsItemRound k o index root p q (Ended found) =
+    (part : List Act) × AreLooks part × DidAll part p q
+    × ShowsFound k o index (part ++ ReadRoot o root ∷ []) (view q).log found
+EndsItemRound k o index root p q (Moved r) =
+    (part : List Act) × Inner part × DidAll (ReadRoot o r ∷ part) p q × (r ≢ root) × IsFresh k r (part ++ (view p).log)
+
+-- The pass loaded words of the bank and did nothing else, and the version of this very item stopped the look-up; or
+-- that of the list, where its root was read 0.
+pub record IsItemContended (o index a b : ℕ) (v w : View) : Type 0 where
+  pub loaded : OnlyLoaded v w
+  pub part : List Act
+  pub looks : AreLooks part
+  pub own : w.log ≡ part ++ v.log
+  pub stops : StopsItemLook o index a b part
+
+-- what a look-up found at this index: a value or none, which `l[i]` may be answered with; or it was contended
+abbrev pub IsItemFoundAt : ℕ → ℕ → View → View → AtIndex → Type 0
+IsItemFoundAt o index v w (AtFound found n) =
+    OnlyLoaded v w × IsShown w (call.List o (list.Get (pos index))) (item_reply found) n
+    × ((part : List Act) × (w.log ≡ part ++ v.log) × Among (ReadCounter n) part)
+IsItemFoundAt o index v w (AtContended a b) = IsItemContended o index a b v w
+
+-- What `l[i]` answers without the lock at an index that isn't negative. It gave a reply, which is the one that its
+-- entry has, with a stamp that it loaded; or it was contended. It takes no memory.
+abbrev pub IsGetOf : ℕ → ℕ → View → View → Look → Type 0
+IsGetOf o index v w (look.Done said stamp) =
+    Answered (call.List o (list.Get (pos index))) said stamp.number v w × (stamp.wrote ≡ false)
+IsGetOf o index v w (look.Contended a b) = IsItemContended o index a b v w
+IsGetOf o index v w look.NoMemory = ⊥

@@ -1,0 +1,273 @@
+-- What another value at a key of a dict leaves of its words, and that readers aren't misled by it.
+use Rattle.std.proofs.Common.{◌≡◌, ◌≢◌, ℕ, zero, suc, ◌+◌, ◌*◌, ◌%◌, ◌<◌, ◌≤◌, false, List, [], ◌∷◌, length, Option, Some, refl, sym, ap, ◌∙◌, subst, arith, get_or-set_other}
+use Rattle.std.specs.Prelude.{All, slice_index, slice_set, slice_get}
+use Rattle.std.proofs.lemmas.Option.{slice_get_within}
+use Rattle.ft_model.specs.declared.content.Content.{Content}
+use Rattle.ft_model.specs.declared.content.Content.TheVariants as content
+use Rattle.ft_model.specs.declared.content.DictPair.{DictPair}
+use Rattle.ft_model.specs.declared.data.Key.{Key}
+use Rattle.ft_model.specs.declared.data.Value.{Value}
+use Rattle.ft_model.specs.declared.script.Kind.{Kind}
+use Rattle.ft_model.specs.declared.script.Kind.TheVariants as kind
+use Rattle.ft_model.specs.Classes.{IsClass}
+use Rattle.ft_model.specs.Contents.{DictContent, IsDict, dict_set}
+use Rattle.ft_model.specs.TableUses.{TableUse}
+use Rattle.ft_model.specs.Worlds.{kind_of}
+use Rattle.ft_hash.specs.Probes.{dict_walk}
+use Rattle.ft_hash.proofs.Walks.{dict_walk-within}
+use Rattle.ft_layout.specs.declared.slot.Stored.TheVariants.{Plain}
+use Rattle.ft_layout.specs.Words.{FitsKey, FitsStored, stored_kind, stored_payload}
+use Rattle.ft_layout.specs.Tables.{UsedEntry, dict_room, IsDictTable}
+use Rattle.ft_layout.specs.Tables as layout
+use Rattle.ft_layout.specs.WordChanges.{with_stored}
+use Rattle.ft_layout.specs.Containers.{class_mask, used_pair, IsDictWords}
+use Rattle.ft_layout.proofs.ContentLaws.{stands_for_dict}
+use Rattle.ft_layout.proofs.Powers.{slots_range}
+use Rattle.ft_layout.proofs.WordLaws.{same_key}
+use Rattle.ft_trace.specs.declared.Shape.{Shape}
+use Rattle.ft_trace.specs.declared.View.{View}
+use Rattle.ft_trace.specs.Acts.{has_committed}
+use Rattle.ft_trace.specs.Addresses.{class_of, slots, places, size}
+use Rattle.ft_trace.specs.Carefuls.{HasLiveKey, said_of}
+use Rattle.ft_trace.specs.EntryWrites.{value_puts}
+use Rattle.ft_trace.specs.Holds.{held, known}
+use Rattle.ft_trace.specs.Kinds.{under, rows, version_at, CarefulAs, ClearAs}
+use Rattle.ft_trace.specs.OddVersions.{Shut}
+use Rattle.ft_trace.specs.Traces.{Possible}
+use Rattle.ft_trace.specs.Pictures.{Picture, root_in, entry_offset, entry_field, walk_of, Stands}
+use Rattle.ft_trace.specs.ContainerStates.{ContainerState, kind_in}
+use Rattle.ft_trace.specs.WholeWrites.{to_table, with_puts, MayPut, MayPuts}
+use Rattle.ft_trace.proofs.ByKind.{keyed_low}
+use Rattle.ft_trace.proofs.DictWrites as dict
+use Rattle.ft_trace.proofs.DictWrites.{EntryVersionsChangeNothing, WordsFollowAValue, LiveEntriesArePairs, FirstEntriesArePairs}
+use Rattle.ft_trace.proofs.EntryPuts.{ver3, value_open, value_kind, value_payload, value_clear, value_late, value_shut, value_time}
+use Rattle.ft_trace.proofs.Known.{after_header, class_known, table_is_long}
+use Rattle.ft_trace.proofs.Tellings.{live_tells, key_words}
+use Rattle.ft_bank.specs.declared.table.Table.{Table}
+use Rattle.ft_bank.specs.TableNames.{name_of}
+use Rattle.ft_bank.specs.Whole.{OnlyPut}
+use Rattle.ft_bank.specs.WriteSteps.{IsCareful, with_table}
+use Rattle.ft_bank.proofs.KnownAfterWrites.{put_then, work_knows}
+use Rattle.ft_search.specs.OneEntryWrites.{HasTable, IsLiveEntry, MayWriteEntries, raised_at, with_value_at}
+use Rattle.ft_search.proofs.Changing.{Changing, kind_is, put_at, shut_known}
+use Rattle.ft_search.proofs.Puts.{table_class}
+
+-- words that are put where they stand
+pub set_own : (l : List ℕ) (i x : ℕ) → x ≡ slice_index l i → slice_set l i x ≡ l
+set_own [] i x is = refl
+set_own (y ∷ l) zero x is = ap (λ (z : ℕ). z ∷ l) is
+set_own (y ∷ l) (suc i) x is = ap (λ (z : List ℕ). y ∷ z) (set_own l i x is)
+
+-- what is known of the entries of a dict, and what another value makes of them
+pub record ValueLaws : Type 0 where
+  pub versions : EntryVersionsChangeNothing
+  pub first : FirstEntriesArePairs
+  pub lives : LiveEntriesArePairs
+  pub follow : WordsFollowAValue
+
+module _ (laws : ValueLaws) (texts : List ℕ) (x : Picture) (tab : TableUse) (t : ℕ) (is_class : IsClass (class_of t)) (pairs : DictContent) (says : IsDictWords texts x.block (0 ∷ 0 ∷ x.table) (Some (class_of t)) tab.fill pairs) (class_eq : tab.class ≡ Some (class_of t)) (names : root_in x ≡ suc t) (long : slots (class_of t) + 8 * places (class_of t) ≤ length x.table)
+    (p : ℕ) (key : Key) (value : Value) (even : entry_field (slots (class_of t)) x.table p 0 % 2 ≡ 0) (low : p < places (class_of t)) (live : HasLiveKey (slots (class_of t)) x.table p key) (fits_key : FitsKey key) (fits : FitsStored (Plain value)) where
+  abbrev c : ℕ
+  c = class_of t
+
+  abbrev n : ℕ
+  n = slots c
+
+  abbrev m : ℕ
+  m = places c
+
+  abbrev ws : List ℕ
+  ws = x.table
+
+  abbrev b : List ℕ
+  b = x.block
+
+  abbrev fill : ℕ
+  fill = tab.fill
+
+  abbrev news : DictContent
+  news = dict_set pairs key value
+
+  abbrev ver : ℕ
+  ver = entry_field n ws p 0
+
+  abbrev kw : ℕ
+  kw = stored_kind (Plain value)
+
+  abbrev pw : ℕ
+  pw = stored_payload (Plain value)
+
+  abbrev opened : List ℕ
+  opened = slice_set ws (entry_offset n p 0) (ver + 1)
+
+  abbrev second : List ℕ
+  second = slice_set opened (entry_offset n p 4) kw
+
+  abbrev put : List ℕ
+  put = slice_set second (entry_offset n p 5) pw
+
+  odd : entry_field n put p 0 ≡ ver + 1
+  odd = ver3 n m ws (under (content.Dict pairs)) (under (content.Dict news)) p key kw pw low long even live
+
+  next : ver + 2 ≡ entry_field n put p 0 + 1
+  next = let o = odd in omega (arith, o)
+
+  in_order : IsDict pairs.next pairs.pairs
+  in_order = stands_for_dict texts b (0 ∷ 0 ∷ ws) (Some c) fill pairs says
+
+  abbrev walk : ℕ → List ℕ
+  walk hash = dict_walk hash (class_mask c) (class_mask c + 14)
+
+  within : (hash : ℕ) → All (λ slot. slot ≤ class_mask c) (walk hash)
+  within hash = dict_walk-within hash (class_mask c) (class_mask c + 14)
+
+  mine : (pair : DictPair) × (slice_get says.used p ≡ Some (used_pair pair)) × (pair.key ≡ key)
+  mine =
+      let room : dict_room (class_mask c) ≡ m = dict.room_is laws.first texts b c fill is_class pairs ws says in
+      let tells = live_tells walk (dict_room (class_mask c)) texts c is_class says.used ws says.table p key (omega (arith, room, low)) live in
+      let l = laws.lives says.used pairs p tells.entry says.entries in_order tells.at tells.live in
+      let w = key_words tells.entry.key key tells.mine in
+      (l.0, tells.at ∙ ap (λ (z : UsedEntry). Some z) l.1, ap (λ (z : UsedEntry). z.key) (sym l.1) ∙ same_key tells.entry.key key tells.fits fits_key w.0 w.1)
+
+  version_put : (l : List ℕ) (y : ℕ) (d : DictContent) → IsDictWords texts b (0 ∷ 0 ∷ l) (Some c) fill d → IsDictWords texts b (0 ∷ 0 ∷ slice_set l (entry_offset n p 0) y) (Some c) fill d
+  unfolding slots
+  version_put l y d is =
+      let r = (slots_range c is_class).0 in
+      let table : IsDictTable texts (class_mask c) is.used (0 ∷ 0 ∷ slice_set l (entry_offset n p 0) y) = subst (λ (z : List ℕ). IsDictTable texts (class_mask c) is.used z) (after_header l (layout.entry_at (class_mask c) p 0) (entry_offset n p 0) y (omega (arith, r))) (laws.versions walk (dict_room (class_mask c)) texts (class_mask c) is.used (0 ∷ 0 ∷ l) p y within is.table) in
+      record { head = is.head; used = is.used; table = table; filled = is.filled; entries = is.entries }
+
+  open_says : IsDictWords texts b (0 ∷ 0 ∷ opened) (Some c) fill pairs
+  open_says = version_put ws (ver + 1) pairs says
+
+  same_words : with_stored (class_mask c) (0 ∷ 0 ∷ opened) p (Plain value) ≡ 0 ∷ 0 ∷ put
+  unfolding slots
+  same_words =
+      let r = (slots_range c is_class).0 in
+      ap (λ (l : List ℕ). slice_set l (layout.entry_at (class_mask c) p 5) pw) (after_header opened (layout.entry_at (class_mask c) p 4) (entry_offset n p 4) kw (omega (arith, r)))
+      ∙ after_header second (layout.entry_at (class_mask c) p 5) (entry_offset n p 5) pw (omega (arith, r))
+
+  pub value_stands : IsDictWords texts b (0 ∷ 0 ∷ put) (Some c) fill news
+  unfolding open_says version_put
+  value_stands =
+      let used : slice_get open_says.used p ≡ Some (used_pair mine.0) = mine.1 in
+      subst (λ (z : List ℕ × Key). IsDictWords texts b z.0 (Some c) fill (dict_set pairs z.1 value)) (λ d. (same_words d, mine.2 d)) (laws.follow texts b (0 ∷ 0 ∷ opened) c fill pairs open_says p mine.0 value used fits)
+
+  right_before : (q : ℕ) (a : Key) → q < m → HasLiveKey n ws q a → under (content.Dict pairs) a ≡ said_of n ws q
+  right_before q a less l = dict.dict_right laws.first texts b c fill is_class pairs ws says q a less l
+
+  right_now : (q : ℕ) (a : Key) → q < m → HasLiveKey n put q a → under (content.Dict news) a ≡ said_of n put q
+  right_now q a less l = dict.dict_right laws.first texts b c fill is_class news put value_stands q a less l
+
+  live_now : (a : Key) → under (content.Dict news) a ≢ [] → (q : ℕ) × (q < m) × HasLiveKey n put q a
+  live_now a some = dict.dict_live laws.first texts b c fill is_class news put value_stands a some
+
+  inside : (w : ℕ) → w < 8 → entry_offset n p w < size c
+  inside w few = keyed_low kind.Dict tt c p w low few
+
+  -- the place is one of a used entry
+  pub value_used : p < fill
+  value_used = let low_here = slice_get_within says.used p (used_pair mine.0) mine.1 in let f = says.filled in omega (arith, low_here, f)
+
+  -- the puts may be made whatever the dict had before the write
+  pub value_early : (before : Content) → MayPuts kind.Dict t before false x (value_puts n ws p value)
+  value_early before =
+      let e = even in
+      let was = under before in
+      let will = under (content.Dict news) in
+      let time = value_time n m ws was will p key kw pw low long even live (version_at kind.Dict c) (λ q. refl) in
+      let p3 : MayPut kind.Dict t before false (record { block = b; table = second }) (to_table (entry_offset n p 5) pw) = (names, inside 5 (omega arith), value_payload n m ws was will p key kw pw low long even live, time 5 pw (omega arith) (λ e. absurd (omega (arith, e)))) in
+      let p2 : MayPut kind.Dict t before false (record { block = b; table = opened }) (to_table (entry_offset n p 4) kw) = (names, inside 4 (omega arith), value_kind n m ws was will p key kw pw low long even live, time 4 kw (omega arith) (λ e. absurd (omega (arith, e)))) in
+      let p1 : MayPut kind.Dict t before false x (to_table (entry_offset n p 0) (ver + 1)) = (names, inside 0 (omega arith), value_open n m ws was will p key kw pw low long even live, time 0 (ver + 1) (omega arith) (λ _. omega (arith, e))) in
+      (p1, (p2, (p3, tt)))
+
+  clear : ClearAs kind.Dict texts c put (content.Dict pairs) (content.Dict news)
+  clear = value_clear n m ws (under (content.Dict pairs)) (under (content.Dict news)) p key kw pw low long even live right_before right_now live_now (walk_of kind.Dict texts c)
+
+  close : CarefulAs kind.Dict c put (content.Dict news) (entry_offset n p 0) (entry_field n put p 0 + 1)
+  close = subst (λ (z : ℕ). CarefulAs kind.Dict c put (content.Dict news) (entry_offset n p 0) z) next (value_late n m ws (under (content.Dict pairs)) (under (content.Dict news)) p key kw pw low long even live right_before right_now live_now)
+
+  ends : Stands texts (raised_at t p (record { block = b; table = put })) (record { content = content.Dict news; table = tab })
+  ends = subst (λ (z : Option ℕ). IsDictWords texts b (0 ∷ 0 ∷ slice_set put (entry_offset n p 0) (entry_field n put p 0 + 1)) z fill news) (sym class_eq) (version_put put (entry_field n put p 0 + 1) news value_stands)
+
+  shut_after : Shut (λ q. entry_offset n q 0) m ws → Shut (version_at kind.Dict c) (rows kind.Dict c) (slice_set put (entry_offset n p 0) (entry_field n put p 0 + 1))
+  shut_after shut = subst (λ (z : ℕ). Shut (version_at kind.Dict c) (rows kind.Dict c) (slice_set put (entry_offset n p 0) z)) next (value_shut n m ws (under (content.Dict pairs)) (under (content.Dict news)) p key kw pw low long even live shut)
+
+  pub value_changes : Shut (λ q. entry_offset n q 0) m ws → Changing texts t x (record { content = content.Dict pairs; table = tab }) p (value_puts n ws p value) (record { content = content.Dict news; table = tab })
+  value_changes shut = record {
+    puts = value_early (content.Dict pairs);
+    clear = clear;
+    odd = let o = odd in let e = even in omega (arith, o, e);
+    close = close;
+    stands = ends;
+    shut = shut_after shut;
+  }
+
+-- as the pass knows the dict
+pub values_known : ValueLaws → (k : Shape) (o : ℕ) (table : Table) (v : View) → v.shape ≡ k → ∥ Possible v ∥₁ → MayWriteEntries k o v → kind_in k.kinds o ≡ kind.Dict → HasTable k o table v → (place : ℕ) (key : Key) (value : Value) → FitsStored (Plain value) → IsLiveEntry k o table place key v
+    → Changing k.texts (name_of table) (held o v) (known o v) place (value_puts (slots (class_of (name_of table))) (held o v).table place value) (record { content = with_value_at (known o v).content key value; table = (known o v).table })
+values_known laws k o table v shape possible may is has place key value fits entry =
+    by (known o v).content (known o v).table (kind_is k v o shape possible may.locked ∙ is) may.stands
+    (subst (λ (z : Kind). place < rows z (class_of (name_of table))) is entry.low)
+    (shut_known k v o (name_of table) shape possible may.container may.locked may.even has.root)
+  where
+    by : (d : Content) (u : TableUse) → kind_of d ≡ kind.Dict → Stands k.texts (held o v) (record { content = d; table = u }) → place < rows kind.Dict (class_of (name_of table)) → Shut (version_at (kind_of d) (class_of (name_of table))) (rows (kind_of d) (class_of (name_of table))) (held o v).table
+        → Changing k.texts (name_of table) (held o v) (record { content = d; table = u }) place (value_puts (slots (class_of (name_of table))) (held o v).table place value) (record { content = with_value_at d key value; table = u })
+    by (content.Dict pairs) u e stands low shut =
+        let t = name_of table in
+        let class = class_known k.texts (held o v) (record { content = content.Dict pairs; table = u }) t stands has.root in
+        let says : IsDictWords k.texts (held o v).block (0 ∷ 0 ∷ (held o v).table) (Some (class_of t)) u.fill pairs = subst (λ (z : Option ℕ). IsDictWords k.texts (held o v).block (0 ∷ 0 ∷ (held o v).table) z u.fill pairs) class stands in
+        let long = table_is_long v o t has.root in
+        value_changes laws k.texts (held o v) u t (table_class k table has.table_in) pairs says class has.root (omega (arith, long)) place key value (shut place low) low entry.live entry.fits fits shut
+    by (content.Set elements) u e stands low shut = absurd (cc)
+    by (content.List values) u e stands low shut = absurd (cc)
+
+-- ---- the puts, one after the other
+
+pub value_opens : (k : Shape) (o : ℕ) (table : Table) (place : ℕ) (value : Value) (v : View) → v.shape ≡ k → has_committed o v.log ≡ false → MayPuts (kind_in k.kinds o) (name_of table) (known o v).content false (held o v) (value_puts (slots (class_of (name_of table))) (held o v).table place value)
+    → IsCareful v o (name_of table) (entry_offset (slots (class_of (name_of table))) place 0) (entry_field (slots (class_of (name_of table))) (held o v).table place 0 + 1)
+value_opens k o table place value v shape early may =
+    let n = slots (class_of (name_of table)) in
+    put_at k o (name_of table) (entry_offset n place 0) (entry_field n (held o v).table place 0 + 1) false (held o v) (known o v).content v shape early refl refl may.0
+
+module _ (k : Shape) (o : ℕ) (table : Table) (place : ℕ) (value : Value) (v w1 : View) (shape : v.shape ≡ k) (early : has_committed o v.log ≡ false) (only1 : OnlyPut o v w1) (held1 : held o w1 ≡ raised_at (name_of table) place (held o v))
+    (may : MayPuts (kind_in k.kinds o) (name_of table) (known o v).content false (held o v) (value_puts (slots (class_of (name_of table))) (held o v).table place value)) where
+  abbrev pt : ℕ
+  pt = name_of table
+
+  abbrev pn : ℕ
+  pn = slots (class_of pt)
+
+  pub first_word : (kind_word : ℕ) → kind_word ≡ stored_kind (Plain value) → IsCareful w1 o pt (entry_offset pn place 4) kind_word
+  first_word kind_word is =
+      subst (λ (z : ℕ). IsCareful w1 o pt (entry_offset pn place 4) z) (sym is)
+      (put_at k o pt (entry_offset pn place 4) (stored_kind (Plain value)) false (raised_at pt place (held o v)) (known o v).content w1 (only1.work.pass.shape ∙ shape) (only1.work.committed o ∙ early) held1 (ap (λ (z : ContainerState). z.content) (work_knows v w1 o only1.work)) may.1.0)
+
+  -- a word of the entry that the raise leaves
+  pub still_found : (w : ℕ) → 0 < w → (found : ℕ) → found ≡ entry_field pn (held o v).table place w → found ≡ entry_field pn (held o w1).table place w
+  still_found w some found is =
+      is ∙ (sym (get_or-set_other (held o v).table (entry_offset pn place 0) (entry_offset pn place w) (entry_field pn (held o v).table place 0 + 1) 0 (λ e. absurd (omega (arith, e, some))))
+      ∙ sym (ap (λ (z : Picture). entry_field pn z.table place w) held1))
+
+  module _ (w2 : View) (kind_word : ℕ) (is_kind : kind_word ≡ stored_kind (Plain value)) (only2 : OnlyPut o w1 w2) (held2 : held o w2 ≡ with_table (held o w1) (entry_offset pn place 4) kind_word) where
+    abbrev with_kind : Picture
+    with_kind = with_table (raised_at pt place (held o v)) (entry_offset pn place 4) (stored_kind (Plain value))
+
+    kind_words : held o w2 ≡ with_kind
+    kind_words = held2 ∙ (λ d. with_table (held1 d) (entry_offset pn place 4) (is_kind d))
+
+    kind_only : OnlyPut o v w2
+    kind_only = put_then v w1 w2 o only1 only2
+
+    pub second_word : (payload : ℕ) → payload ≡ stored_payload (Plain value) → IsCareful w2 o pt (entry_offset pn place 5) payload
+    second_word payload is =
+        subst (λ (z : ℕ). IsCareful w2 o pt (entry_offset pn place 5) z) (sym is)
+        (put_at k o pt (entry_offset pn place 5) (stored_payload (Plain value)) false with_kind (known o v).content w2 (kind_only.work.pass.shape ∙ shape) (kind_only.work.committed o ∙ early) kind_words (ap (λ (z : ContainerState). z.content) (work_knows v w2 o kind_only.work)) may.1.1.0)
+
+    pub found_on : (found : ℕ) → found ≡ entry_field pn (held o w1).table place 5 → found ≡ entry_field pn (held o w2).table place 5
+    found_on found is = is ∙ (sym (get_or-set_other (held o w1).table (entry_offset pn place 4) (entry_offset pn place 5) kind_word 0 (λ e. absurd (omega (arith, e)))) ∙ sym (ap (λ (z : Picture). entry_field pn z.table place 5) held2))
+
+    pub value_only : (w3 : View) → OnlyPut o w2 w3 → OnlyPut o v w3
+    value_only w3 only3 = put_then v w2 w3 o kind_only only3
+
+    pub value_words : (w3 : View) (payload : ℕ) → payload ≡ stored_payload (Plain value) → held o w3 ≡ with_table (held o w2) (entry_offset pn place 5) payload → held o w3 ≡ with_puts (held o v) (value_puts pn (held o v).table place value)
+    value_words w3 payload is held3 = held3 ∙ (λ d. with_table (kind_words d) (entry_offset pn place 5) (is d))

@@ -1,0 +1,64 @@
+-- A pass that read a container in the midst of a call is in the midst of it still.
+use Rattle.std.proofs.Common.{◌≡◌, ◌<◌, ⊎_elim, inl, inr, ℕ, true, List, sym, ap, ◌∙◌, subst}
+use Rattle.ft_model.specs.declared.call.Call.{Call}
+use Rattle.ft_model.specs.declared.reply.Reply.{Reply}
+use Rattle.ft_trace.specs.declared.Act.{Act}
+use Rattle.ft_trace.specs.declared.Act.TheVariants.{Answer}
+use Rattle.ft_trace.specs.declared.Shape.{Shape}
+use Rattle.ft_trace.specs.declared.View.{View}
+use Rattle.ft_trace.specs.Acts.{has_lock, stage, noted}
+use Rattle.ft_trace.specs.Addresses.{containers_in}
+use Rattle.ft_trace.specs.Holds.{held, known}
+use Rattle.ft_trace.specs.BegunSections.{Begun, begun, begun_by}
+use Rattle.ft_trace.specs.Pictures.{Picture, Stands}
+use Rattle.ft_trace.specs.ContainerStates.{ContainerState}
+use Rattle.ft_bank.specs.declared.bank.Bank.{Bank}
+use Rattle.ft_bank.specs.declared.pass.Pass.{Pass}
+use Rattle.ft_bank.specs.Answered.{Answered}
+use Rattle.ft_bank.specs.Passes.{view, IsPassOf}
+use Rattle.ft_bank.specs.PassSections.{stack_of}
+use Rattle.ft_bank.specs.Whole.{OnlyLoaded}
+use Rattle.ft_bank.proofs.KnownAfterWrites.{loaded_held, work_knows}
+use Rattle.ft_section.specs.Ready.{IsStill, IsMaking}
+use Rattle.ft_section.proofs.MidstOfCall.{making_stays}
+
+-- the call begins no section and ends none
+abbrev pub LeavesSections : Call → Type 0
+LeavesSections called = (n : ℕ) (l : List Act) (sections : List Begun) → begun_by called n l sections ≡ sections
+
+-- loads leave a pass that is in the midst of no write and no taking
+pub still_loaded : (v u : View) → OnlyLoaded v u → IsStill v → IsStill u
+still_loaded v u o s =
+    record {
+      even = λ p. o.work.pass.writes p ∙ s.even p;
+      hands = λ t. ⊎_elim (λ (x : stage t v.log ≡ 0). inl (o.work.hands t ∙ x)) (λ (x : stage t v.log ≡ 4). inr (o.work.hands t ∙ x)) (s.hands t);
+      used = o.work.used ∙ s.used;
+      owes = o.work.owes ∙ s.owes;
+      flight = o.work.pass.flight ∙ s.flight;
+      stands = λ p low has.
+          let old = s.stands p (subst (λ (k : Shape). p < containers_in k) o.work.pass.shape low) (sym (o.work.pass.locks p) ∙ has) in
+          subst (λ (x : Shape × Picture × ContainerState). Stands x.0.texts x.1 x.2) (sym (λ d. (o.work.pass.shape d, loaded_held v u p o d, work_knows v u p o.work d))) old;
+    }
+
+still_answered : (called : Call) (said : Reply) (n : ℕ) (u : View) → IsStill u → IsStill (noted (Answer called said n) u)
+still_answered called said n u s = record { even = s.even; hands = s.hands; used = s.used; owes = s.owes; flight = s.flight; stands = s.stands }
+
+-- what the entry of a call that isn't a write leaves
+pub still_read : (called : Call) (said : Reply) (n : ℕ) (v w : View) → Answered called said n v w → IsStill v → IsStill w
+still_read called said n v w a s = subst IsStill (sym a.answered) (still_answered called said n a.before (still_loaded v a.before a.loaded s))
+
+pub sections_read : (called : Call) (said : Reply) (n : ℕ) (v w : View) → LeavesSections called → Answered called said n v w → (w.shape ≡ v.shape) × ((o : ℕ) → has_lock o w.log ≡ has_lock o v.log) × (begun w.log ≡ begun v.log)
+sections_read called said n v w leaves a = (
+  ap (λ z. z.shape) a.answered ∙ a.loaded.work.pass.shape,
+  (λ o. ap (λ z. has_lock o z.log) a.answered ∙ a.loaded.work.pass.locks o),
+  ap (λ z. begun z.log) a.answered ∙ (leaves n a.before.log (begun a.before.log) ∙ a.loaded.work.pass.begun),
+)
+
+pub making_read : (b : Bank) (p q : Pass) (called : Call) (said : Reply) (n : ℕ) → LeavesSections called → IsMaking b p → IsPassOf b q → stack_of q ≡ stack_of p → Answered called said n (view p) (view q) → IsMaking b q
+making_read b p q called said n leaves m pass stack a =
+    let r = sections_read called said n (view p) (view q) leaves a in
+    making_stays b p q m pass stack r.0 r.1 r.2 (still_read called said n (view p) (view q) a m.inside.1.still)
+
+-- what such a pass knows of a container whose lock it has
+pub making_stands : (b : Bank) (p : Pass) (texts : List ℕ) (o : ℕ) → IsMaking b p → (view p).shape.texts ≡ texts → o < containers_in (view p).shape → has_lock o (view p).log ≡ true → Stands texts (held o (view p)) (known o (view p))
+making_stands b p texts o m same low mine = subst (λ (t : List ℕ). Stands t (held o (view p)) (known o (view p))) same (m.inside.1.still.stands o low mine)

@@ -1,0 +1,206 @@
+-- How a search of a table ends: what its loads show, once the root is read again.
+use Rattle.std.proofs.Common.{◌≡◌, ◌≢◌, ◌⊎◌, ℕ, suc, ◌%◌, ◌<◌, ◌≤◌, List, [], ◌∷◌, ◌++◌, length, refl, sym, ap, ◌∙◌, subst, inl, inr, arith, append-nil, length-append}
+use Rattle.std.specs.Prelude.{slice_index}
+use mathlib.Core.Logic.{dite}
+use native.Mathlib.Decide.{ℕ_discrete}
+use Rattle.ft_model.specs.declared.data.Key.{Key}
+use Rattle.ft_layout.specs.Words.{key_kind, gone_kind, key_payload}
+use Rattle.ft_trace.specs.declared.Act.{Act}
+use Rattle.ft_trace.specs.declared.Act.TheVariants.{ReadTable, ReadCounter}
+use Rattle.ft_trace.specs.declared.Shape.{Shape}
+use Rattle.ft_trace.specs.Addresses.{class_of, slots}
+use Rattle.ft_trace.specs.Pictures.{entry_offset, walk_of}
+use Rattle.ft_trace.specs.Kinds.{rows}
+use Rattle.ft_trace.specs.ContainerStates.{kind_in}
+use Rattle.ft_trace.specs.LoggedReads.{Among}
+use Rattle.ft_trace.specs.LoggedLookUps.{Passed, Hit, Miss, Full}
+use Rattle.ft_search.specs.declared.reading.SeenEntry.{SeenEntry}
+use Rattle.ft_search.specs.declared.looks.Looked.TheVariants.{Here, Absent}
+use Rattle.ft_search.specs.KeyLooks.{StopsAtEntry}
+use Rattle.ft_search.specs.Rounds.{entry_acts, met_acts, Walked, ClosesAt}
+use Rattle.ft_search.proofs.Walking.{visit_or_beyond, slot_at, each_slot}
+
+module _ (k : Shape) (o t : ℕ) (key : Key) (slot place : ℕ) (earlier : List Act) where
+  abbrev N : ℕ
+  N = slots (class_of t)
+
+  abbrev m : ℕ
+  m = rows (kind_in k.kinds o) (class_of t)
+
+  abbrev entry : ℕ → ℕ → Act
+  entry w f = ReadTable t (entry_offset N place w) f
+
+  abbrev met : ℕ → List Act
+  met found = met_acts t slot place key found earlier
+
+  abbrev named : ℕ → List Act
+  named found = entry 3 (key_payload key) ∷ (entry 2 found ∷ [])
+
+  -- a slot that names none of the entries
+  pub beyond_passed : (found : ℕ) → m ≤ place → Passed (met found) t m slot key
+  beyond_passed found high = inr (record { place = place; high = high; newer = named found; rest = earlier; is = refl })
+
+  -- an entry that was found to be another's, or deleted, since
+  pub moved_passed : (seen : SeenEntry) (found : ℕ) → seen.closed ≡ seen.opened → seen.opened % 2 ≡ 0 → seen.key_kind ≢ key_kind key → Passed (entry_acts t place seen ++ met found) t m slot key
+  moved_passed seen found same even other =
+      let after : List Act = entry 0 seen.closed ∷ (ReadCounter seen.number ∷ (entry 5 seen.value ∷ (entry 4 seen.value_kind ∷ []))) in
+      let whole = entry_acts t place seen ++ met found in
+      visit_or_beyond t m slot key whole (entry_acts t place seen ++ named found) earlier place refl
+      (dite (ℕ_discrete seen.key_kind (gone_kind key))
+      (λ (gone : seen.key_kind ≡ gone_kind key).
+      inr (inr (record {
+        version = seen.closed;
+        even = ap (λ (z : ℕ). z % 2) same ∙ even;
+        newer = [];
+        mid = ReadCounter seen.number ∷ (entry 5 seen.value ∷ (entry 4 seen.value_kind ∷ []));
+        rest = entry 0 seen.opened ∷ met found;
+        is = ap (λ (z : ℕ). after ++ entry 2 z ∷ (entry 0 seen.opened ∷ met found)) gone;
+        before = entry_acts t place seen ++ named found;
+        older = earlier;
+        named = refl;
+      })))
+      (λ apart.
+      inl (record {
+        found = seen.key_kind;
+        live = other;
+        dead = apart;
+        newer = after;
+        mid = entry 0 seen.opened ∷ named found;
+        rest = earlier;
+        is = refl;
+      })))
+
+  -- a deleted entry with an even version
+  pub deleted_passed : (version : ℕ) → version % 2 ≡ 0 → Passed (entry 0 version ∷ met (gone_kind key)) t m slot key
+  deleted_passed version even =
+      visit_or_beyond t m slot key (entry 0 version ∷ met (gone_kind key)) (entry 0 version ∷ named (gone_kind key)) earlier place refl
+      (inr (inr (record {
+        version = version;
+        even = even;
+        newer = [];
+        mid = entry 3 (key_payload key) ∷ [];
+        rest = ReadTable t slot (suc place) ∷ earlier;
+        is = refl;
+        before = entry 0 version ∷ named (gone_kind key);
+        older = earlier;
+        named = refl;
+      })))
+
+  payload_among : (found : ℕ) → Among (entry 3 (key_payload key)) (met found)
+  payload_among found = record { newer = []; rest = entry 2 found ∷ (ReadTable t slot (suc place) ∷ earlier); is = refl }
+
+  kind_among : (found : ℕ) → Among (entry 2 found) (met found)
+  kind_among found = record { newer = entry 3 (key_payload key) ∷ []; rest = ReadTable t slot (suc place) ∷ earlier; is = refl }
+
+  -- the version of the entry was odd, or changed
+  pub stops_seen : place < m → (seen : SeenEntry) → (seen.opened % 2 ≢ 0) ⊎ (seen.closed ≢ seen.opened) → StopsAtEntry k o t key seen.opened seen.closed (entry_acts t place seen ++ met (key_kind key))
+  stops_seen low seen why = record {
+    place = place;
+    low = low;
+    newer = [];
+    mid = ReadCounter seen.number ∷ (entry 5 seen.value ∷ (entry 4 seen.value_kind ∷ (entry 2 seen.key_kind ∷ [])));
+    rest = met (key_kind key);
+    is = refl;
+    moved = why;
+    payload_read = payload_among (key_kind key);
+    kind_read = inl (kind_among (key_kind key));
+  }
+
+  pub stops_deleted : place < m → (opened closed : ℕ) → opened % 2 ≢ 0 → StopsAtEntry k o t key opened closed (entry 0 closed ∷ (entry 0 opened ∷ met (gone_kind key)))
+  stops_deleted low opened closed odd = record {
+    place = place;
+    low = low;
+    newer = [];
+    mid = [];
+    rest = met (gone_kind key);
+    is = refl;
+    moved = inl odd;
+    payload_read = payload_among (gone_kind key);
+    kind_read = inr (kind_among (gone_kind key));
+  }
+
+  -- the entry was there all the while
+  pub closes_here : (seen : SeenEntry) → place < m → seen.closed ≡ seen.opened → seen.opened % 2 ≡ 0 → seen.key_kind ≡ key_kind key → ClosesAt k o t key (entry_acts t place seen ++ met (key_kind key)) (Here seen.value_kind seen.value seen.number)
+  closes_here seen low same even live =
+      let under = met (key_kind key) in
+      let stamped : Act = ReadCounter seen.number in
+      let kind_load : Act = entry 4 seen.value_kind in
+      let value_load : Act = entry 5 seen.value in
+      let live_load : Act = entry 2 (key_kind key) in
+      let mid : List Act = stamped ∷ (value_load ∷ (kind_load ∷ (live_load ∷ []))) in
+      let whole = entry_acts t place seen ++ under in (
+        (λ log window.
+            let hit : Hit log o t place key seen.number = record {
+              walk = whole;
+              window = window;
+              version = seen.opened;
+              even = even;
+              mid = mid;
+              newer = [];
+              rest = under;
+              is = λ d. entry 0 (same d) ∷ (stamped ∷ (value_load ∷ (kind_load ∷ (entry 2 (live d) ∷ (entry 0 seen.opened ∷ under)))));
+              live = record { newer = stamped ∷ (value_load ∷ (kind_load ∷ [])); rest = []; is = refl };
+              stamp = record { newer = []; rest = value_load ∷ (kind_load ∷ (live_load ∷ [])); is = refl };
+              searched = [];
+              before = ReadTable t slot (suc place) ∷ earlier;
+              between = [];
+              key_is = refl;
+            } in
+            record {
+              t = t;
+              place = place;
+              low = low;
+              hit = hit;
+              read = (record { newer = stamped ∷ (value_load ∷ []); rest = live_load ∷ []; is = refl }, record { newer = stamped ∷ []; rest = kind_load ∷ (live_load ∷ []); is = refl });
+            }),
+        record { newer = entry 0 seen.closed ∷ []; rest = value_load ∷ (kind_load ∷ (entry 2 seen.key_kind ∷ (entry 0 seen.opened ∷ under))); is = refl },
+      )
+
+module _ (k : Shape) (o t : ℕ) (key : Key) where
+  -- the walk ended at a slot never used, which was loaded after the counter
+  pub closes_free : (n slot : ℕ) (left rest : List ℕ) (part : List Act) → Walked k o t key part left → left ≡ slot ∷ rest → ClosesAt k o t key (ReadTable t slot 0 ∷ (ReadCounter n ∷ part)) (Absent n)
+  closes_free n slot left rest part w is =
+      let m = rows (kind_in k.kinds o) (class_of t) in
+      let probe = walk_of (kind_in k.kinds o) k.texts (class_of t) key in
+      let split : probe ≡ w.passed ++ slot ∷ rest = w.split ∙ ap (λ (z : List ℕ). w.passed ++ z) is in
+      let here : slice_index probe (length w.passed) ≡ slot = ap (λ (z : List ℕ). slice_index z (length w.passed)) split ∙ slot_at w.passed slot rest in
+      let long : length probe ≡ length (w.passed ++ slot ∷ rest) = ap length split in
+      let walk : List Act = ReadTable t slot 0 ∷ (ReadCounter n ∷ part) in (
+        (λ log window.
+            let miss : Miss log o t m probe key n = record {
+              walk = walk;
+              window = window;
+              steps = length w.passed;
+              small = low_step w.passed slot rest long;
+              newer = [];
+              mid = [];
+              rest = part;
+              is = ap (λ (z : ℕ). ReadTable t z 0 ∷ (ReadCounter n ∷ part)) (sym here);
+              visits = λ j less. subst (λ (z : List ℕ). Passed part t m (slice_index z j) key) (sym split) (each_slot (λ z. Passed part t m z key) w.passed (slot ∷ rest) w.rightly j less);
+            } in
+            inl (t, inl miss)),
+        record { newer = ReadTable t slot 0 ∷ []; rest = part; is = refl },
+      )
+    where
+      low_step : (passed : List ℕ) (slot : ℕ) (rest : List ℕ) → length (walk_of (kind_in k.kinds o) k.texts (class_of t) key) ≡ length (passed ++ slot ∷ rest) → length passed < length (walk_of (kind_in k.kinds o) k.texts (class_of t) key)
+      low_step passed slot rest long = let e = length-append passed (slot ∷ rest) in omega (arith, long, e)
+
+  -- every slot was passed before the counter was loaded
+  pub closes_full : (n : ℕ) (left : List ℕ) (part : List Act) → Walked k o t key part left → left ≡ [] → ClosesAt k o t key (ReadCounter n ∷ part) (Absent n)
+  closes_full n left part w none =
+      let m = rows (kind_in k.kinds o) (class_of t) in
+      let probe = walk_of (kind_in k.kinds o) k.texts (class_of t) key in
+      let split : probe ≡ w.passed ++ [] = w.split ∙ ap (λ (z : List ℕ). w.passed ++ z) none in
+      let long : length probe ≡ length w.passed = ap length (split ∙ append-nil w.passed) in (
+        (λ log window.
+            let full : Full log o t m probe key n = record {
+              walk = ReadCounter n ∷ part;
+              window = window;
+              mid = [];
+              rest = part;
+              is = refl;
+              visits = λ j less. subst (λ (z : List ℕ). Passed part t m (slice_index z j) key) (sym split) (each_slot (λ z. Passed part t m z key) w.passed [] w.rightly j (omega (arith, less, long)));
+            } in
+            inl (t, inr full)),
+        record { newer = []; rest = part; is = refl },
+      )

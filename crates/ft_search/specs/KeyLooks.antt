@@ -1,0 +1,100 @@
+-- What a look-up of one key without the lock loads, and what its log then shows. (profile)
+use Rattle.std.specs.Prelude.{◌≡◌, ◌≢◌, ◌⊎◌, ℕ, suc, ◌%◌, ◌<◌, false, List, [], ◌∷◌, ◌++◌}
+use Rattle.ft_model.specs.declared.data.Key.{Key}
+use Rattle.ft_layout.specs.Words.{key_kind, gone_kind, key_payload}
+use Rattle.ft_trace.specs.declared.Act.{Act}
+use Rattle.ft_trace.specs.declared.Act.TheVariants.{ReadBlock, ReadRoot, ReadTable, ReadCounter, Version}
+use Rattle.ft_trace.specs.declared.Shape.{Shape}
+use Rattle.ft_trace.specs.Addresses.{class_of, slots}
+use Rattle.ft_trace.specs.Pictures.{entry_offset}
+use Rattle.ft_trace.specs.Kinds.{rows}
+use Rattle.ft_trace.specs.ContainerStates.{kind_in}
+use Rattle.ft_trace.specs.LoggedReads.{Among}
+use Rattle.ft_trace.specs.LoggedLookUps.{Hit, Bare}
+use Rattle.ft_trace.specs.LookReplies.{IsValueRead, IsAbsent}
+use Rattle.ft_search.specs.declared.looks.Looked.{Looked}
+use Rattle.ft_search.specs.declared.looks.Looked.TheVariants as looked
+use Rattle.ft_section.specs.declared.answers.Look.{Look}
+use Rattle.ft_section.specs.declared.answers.Look.TheVariants as look
+use Rattle.ft_model.specs.declared.call.Call.{Call}
+use Rattle.ft_trace.specs.declared.View.{View}
+use Rattle.ft_bank.specs.Answered.{Answered}
+use Rattle.ft_bank.specs.Whole.{OnlyLoaded}
+
+-- only loads of versions, words of blocks and tables, and the counter
+abbrev pub AreLooks : List Act → Type 0
+AreLooks [] = Unit {0}
+AreLooks (Version o f ∷ l) = AreLooks l
+AreLooks (ReadBlock o i f ∷ l) = AreLooks l
+AreLooks (ReadRoot o f ∷ l) = AreLooks l
+AreLooks (ReadTable t i f ∷ l) = AreLooks l
+AreLooks (ReadCounter f ∷ l) = AreLooks l
+AreLooks (act ∷ l) = ⊥
+
+-- The log shows that the key was there when the counter was n: the search met its entry, and between two loads of the
+-- entry's version that found the same even number these words of the value were read.
+pub record ShowsHere (k : Shape) (o : ℕ) (key : Key) (value_kind value n : ℕ) (log : List Act) : Type 0 where
+  pub t : ℕ
+  pub place : ℕ
+  pub low : place < rows (kind_in k.kinds o) (class_of t)
+  pub hit : Hit log o t place key n
+  pub read : IsValueRead t place value_kind value hit.mid
+
+-- The log shows that the key was not there when the counter was n: in the table that the root named each slot of the
+-- key's probe was passed by right, up to one never used or all of them; or the root named no table.
+abbrev pub ShowsAbsent : Shape → ℕ → Key → ℕ → List Act → Type 0
+ShowsAbsent k o key n log = ((t : ℕ) × IsAbsent k log o t key n) ⊎ Bare log o n
+
+-- Two loads of the version of one entry of the table of o gave a and then b, and a is odd or they differ. Before that
+-- the entry was read to be the key's, or to be a deleted one of it.
+pub record StopsAtEntry (k : Shape) (o t : ℕ) (key : Key) (a b : ℕ) (part : List Act) : Type 0 where
+  pub place : ℕ
+  pub low : place < rows (kind_in k.kinds o) (class_of t)
+  pub newer : List Act
+  pub mid : List Act
+  pub rest : List Act
+  pub is : part ≡ newer ++ ReadTable t (entry_offset (slots (class_of t)) place 0) b ∷ (mid
+      ++ ReadTable t (entry_offset (slots (class_of t)) place 0) a ∷ rest)
+  pub moved : (a % 2 ≢ 0) ⊎ (b ≢ a)
+  pub payload_read : Among (ReadTable t (entry_offset (slots (class_of t)) place 3) (key_payload key)) rest
+  pub kind_read : Among (ReadTable t (entry_offset (slots (class_of t)) place 2) (key_kind key)) rest
+      ⊎ Among (ReadTable t (entry_offset (slots (class_of t)) place 2) (gone_kind key)) rest
+
+-- Two loads of the version of the container gave a and then b, and a is odd or they differ. Between them its root was
+-- read 0.
+pub record StopsAtContainer (o a b : ℕ) (part : List Act) : Type 0 where
+  pub newer : List Act
+  pub mid : List Act
+  pub rest : List Act
+  pub is : part ≡ newer ++ Version o b ∷ (mid ++ Version o a ∷ rest)
+  pub moved : (a % 2 ≢ 0) ⊎ (b ≢ a)
+  pub bare : Among (ReadRoot o 0) mid
+
+-- Two loads of one version gave a and then b, and a is odd or they differ: the version of an entry of the key in a
+-- table that the root named, or the container's where the root was read 0.
+abbrev pub Stops : Shape → ℕ → Key → ℕ → ℕ → List Act → Type 0
+Stops k o key a b part =
+    ((t : ℕ) × Among (ReadRoot o (suc t)) part × StopsAtEntry k o t key a b part) ⊎ StopsAtContainer o a b part
+
+-- a look-up came to this, by its own loads (`part`) and those before (`log` has both)
+abbrev pub ShowsLooked : Shape → ℕ → Key → List Act → List Act → Looked → Type 0
+ShowsLooked k o key part log (looked.Here value_kind value n) =
+    ShowsHere k o key value_kind value n log × Among (ReadCounter n) part
+ShowsLooked k o key part log (looked.Absent n) = ShowsAbsent k o key n log × Among (ReadCounter n) part
+ShowsLooked k o key part log (looked.Contended a b) = Stops k o key a b part
+
+-- The pass loaded words of the bank and did nothing else, and the version of the key's own entry stopped the look-up;
+-- or the container's, where its root was read 0.
+pub record IsKeyContended (o : ℕ) (key : Key) (a b : ℕ) (v w : View) : Type 0 where
+  pub loaded : OnlyLoaded v w
+  pub part : List Act
+  pub looks : AreLooks part
+  pub own : w.log ≡ part ++ v.log
+  pub stops : Stops v.shape o key a b part
+
+-- What a call answers that looks up a key without the lock. It gave a reply, which is the one that its entry has, with
+-- a stamp that it loaded; or it was contended. It takes no memory.
+abbrev pub IsLookOf : ℕ → Key → Call → View → View → Look → Type 0
+IsLookOf o key called v w (look.Done said stamp) = Answered called said stamp.number v w × (stamp.wrote ≡ false)
+IsLookOf o key called v w (look.Contended a b) = IsKeyContended o key a b v w
+IsLookOf o key called v w look.NoMemory = ⊥

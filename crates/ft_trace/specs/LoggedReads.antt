@@ -1,0 +1,63 @@
+-- What a log shows of an container read without its lock.
+use Rattle.std.specs.Prelude.{◌≡◌, ℕ, suc, ◌%◌, ◌<◌, List, ◌∷◌, ◌++◌, slice_index}
+use Rattle.ft_model.specs.declared.call.Call.{Call}
+use Rattle.ft_model.specs.declared.reply.Reply.{Reply}
+use Rattle.ft_model.specs.TableUses.{StoredWorld}
+use Rattle.ft_trace.specs.declared.Act.{Act}
+use Rattle.ft_trace.specs.declared.Act.TheVariants.{Version, ReadBlock, ReadRoot, ReadTable, ReadCounter}
+use Rattle.ft_trace.specs.declared.Shape.{Shape}
+use Rattle.ft_trace.specs.Addresses.{IsTableName, class_of, size}
+use Rattle.std.specs.Prelude.{None}
+use Rattle.ft_model.specs.Worlds.{length_of, kind_of}
+use Rattle.ft_trace.specs.ContainerStates.{ContainerState, state_at, reply_in, kind_in}
+use Rattle.ft_trace.specs.Pictures.{Picture, root_in, Stands}
+
+-- the log has these actions, newest first, between two loads of the version of o that found the same even number
+pub record Between (log : List Act) (o : ℕ) (mid : List Act) : Type 0 where
+  pub version : ℕ
+  pub even : version % 2 ≡ 0
+  pub newer : List Act
+  pub rest : List Act
+  pub is : log ≡ newer ++ Version o version ∷ (mid ++ Version o version ∷ rest)
+
+-- the action is among these
+pub record Among (a : Act) (mid : List Act) : Type 0 where
+  pub newer : List Act
+  pub rest : List Act
+  pub is : mid ≡ newer ++ a ∷ rest
+
+-- the reads among these found what the picture has
+pub record Agrees (k : Shape) (o : ℕ) (mid : List Act) (x : Picture) : Type 0 where
+  pub root : (f : ℕ) → Among (ReadRoot o f) mid → f ≡ root_in x
+  pub block : (i f : ℕ) → i < 6 → Among (ReadBlock o i f) mid → f ≡ slice_index x.block i
+  pub table : (t i f : ℕ) → IsTableName k t → i < size (class_of t) → root_in x ≡ suc t → Among (ReadTable t i f) mid
+      → f ≡ slice_index x.table i
+
+-- there is no table and nothing in the container
+abbrev pub IsNothing : ContainerState → Type 0
+IsNothing kept = (kept.table.class ≡ None) × (length_of kept.content ≡ 0)
+
+-- the call has this reply wherever o is of its kind and has words that answer as the reads of mid did
+abbrev pub AnswersOn : Shape → Call → ℕ → Reply → List Act → Type 0
+AnswersOn k call o r mid =
+    (x : Picture) (t : StoredWorld) → kind_of (state_at t o).content ≡ kind_in k.kinds o
+    → Stands k.texts x (state_at t o) → Agrees k o mid x → reply_in t call ≡ r
+
+-- the reply to a call about o was read between two equal even loads of its version, and the counter loaded between them
+pub record LookedAtOne (k : Shape) (call : Call) (o : ℕ) (r : Reply) (number : ℕ) (log : List Act) : Type 0 where
+  pub mid : List Act
+  pub between : Between log o mid
+  pub stamp : Among (ReadCounter number) mid
+  pub answers : AnswersOn k call o r mid
+
+-- the reply to a call about o and p was read likewise, of each between two loads of its version, and both times the
+-- counter was this
+pub record LookedAtBoth (k : Shape) (call : Call) (o p : ℕ) (r : Reply) (number : ℕ) (log : List Act) : Type 0 where
+  pub one : List Act
+  pub other : List Act
+  pub between : Between log o one × Between log p other
+  pub stamp : Among (ReadCounter number) one × Among (ReadCounter number) other
+  pub answers : (x y : Picture) (t : StoredWorld) → kind_of (state_at t o).content ≡ kind_in k.kinds o
+      → kind_of (state_at t p).content ≡ kind_in k.kinds p → Stands k.texts x (state_at t o)
+      → Stands k.texts y (state_at t p)
+      → Agrees k o one x → Agrees k p other y → reply_in t call ≡ r

@@ -1,0 +1,189 @@
+-- A whole write of one container by a pass that has its lock, in pieces: a root that is put, puts before the commit,
+-- the commit, and puts after it. Which words it may put is said of the words and the content that the pass knows alone.
+use Rattle.std.specs.Prelude.{◌≡◌, ℕ, zero, suc, ◌*◌, ◌^◌, ◌<◌, ◌≤◌, Bool, true, false, List, [], ◌∷◌, Option, Some, None, slice_index, slice_set}
+use Rattle.ft_model.specs.declared.call.Call.{Call}
+use Rattle.ft_model.specs.declared.reply.Reply.{Reply}
+use Rattle.ft_model.specs.declared.content.Content.{Content}
+use Rattle.ft_model.specs.declared.script.Kind.{Kind}
+use Rattle.ft_model.specs.Answers.{is_write}
+use Rattle.ft_model.specs.Histories.{IsReplied}
+use Rattle.ft_model.specs.Worlds.{no_hands, IsDeclared}
+use Rattle.ft_model.specs.TableUses.{stored_newest, takes_in, would_pass}
+use Rattle.ft_trace.specs.declared.Act.{Act}
+use Rattle.ft_trace.specs.declared.Act.TheVariants.{StartWrite, PutRoot, PutBlock, PutTable, Commit, StopWrite, Unlock}
+use Rattle.ft_trace.specs.declared.Snap.{Snap}
+use Rattle.ft_trace.specs.declared.View.{View}
+use Rattle.ft_trace.specs.Addresses.{containers_in, class_of, size, IsTableName}
+use Rattle.ft_trace.specs.Acts.{has_lock, is_writing, used, owes, stage, mem, noted}
+use Rattle.ft_trace.specs.ContainerStates.{container_after, kind_in, changes, may_empty, reply_in}
+use Rattle.ft_trace.specs.Pictures.{inner, Picture, root_in, Stands}
+use Rattle.ft_trace.specs.Kinds.{rows, version_at, SoundAs, CarefulAs, ClearAs}
+use Rattle.ft_trace.specs.FitCalls.{FitsCall}
+use Rattle.ft_trace.specs.BegunSections.{HasLocksOf}
+use Rattle.ft_trace.specs.OddVersions.{Shut, Timely}
+use Rattle.ft_trace.specs.Holds.{held, known, in_hand, AgreesWith}
+use Rattle.ft_trace.specs.Traces.{Possible, IsAwake}
+
+-- ---- puts
+
+-- a word of the block, as `PutBlock` names it, or of the table, and what it becomes
+pub data Put : Type 0 where
+  to_block : ℕ → ℕ → Put
+  to_table : ℕ → ℕ → Put
+
+-- as an action on the container o, whose table is t
+abbrev pub act_of : ℕ → ℕ → Put → Act
+act_of o t (to_block i x) = PutBlock o i x
+act_of o t (to_table i x) = PutTable o t i x
+
+-- the log after these puts, the first of them first
+abbrev pub log_of : ℕ → ℕ → List Put → List Act → List Act
+log_of o t [] log = log
+log_of o t (put ∷ puts) log = log_of o t puts (act_of o t put ∷ log)
+
+-- what they leave of the container's words
+abbrev pub with_put : Picture → Put → Picture
+with_put words (to_block i x) = record { block = slice_set words.block i x; table = words.table }
+with_put words (to_table i x) = record { block = words.block; table = slice_set words.table i x }
+
+abbrev pub with_puts : Picture → List Put → Picture
+with_puts words [] = words
+with_puts words (put ∷ puts) = with_puts (with_put words put) puts
+
+-- A put into the block is of another word than the root. One into the table is careful for readers without the lock,
+-- and a version is made odd before the commit and even after it.
+abbrev pub MayPut : Kind → ℕ → Content → Bool → Picture → Put → Type 0
+MayPut kind t content committed words (to_block i x) = (0 < i) × (i < 6)
+MayPut kind t content committed words (to_table i x) =
+    (root_in words ≡ suc t)
+    × (i < size (class_of t))
+    × CarefulAs kind (class_of t) words.table content i x
+    × Timely (version_at kind (class_of t)) (rows kind (class_of t)) i x committed
+
+-- each of them, after the ones before it
+abbrev pub MayPuts : Kind → ℕ → Content → Bool → Picture → List Put → Type 0
+MayPuts kind t content committed words [] = Unit {0}
+MayPuts kind t content committed words (put ∷ puts) =
+    MayPut kind t content committed words put × MayPuts kind t content committed (with_put words put) puts
+
+-- ---- writes
+
+-- the root that is put first, if one is; then the puts before the commit, the call and its reply, the puts after it
+pub record WholeWrite : Type 0 where
+  pub root : Option ℕ
+  pub early : List Put
+  pub call : Call
+  pub reply : Reply
+  pub late : List Put
+
+abbrev pub log_of_root : ℕ → ℕ → Option ℕ → List Act → List Act
+log_of_root o old None log = log
+log_of_root o old (Some root) log = PutRoot o root old ∷ log
+
+-- the words of o once this root was put: a table that was fresh in hand is now its own
+abbrev pub with_root_put : View → ℕ → Option ℕ → Picture
+with_root_put v o None = held o v
+with_root_put v o (Some root) =
+    record { block = slice_set (held o v).block 0 root; table = inner v.shape root (mem v.shape v.log) }
+
+-- the words of o at the commit, and at the end
+abbrev pub at_commit : View → ℕ → WholeWrite → Picture
+at_commit v o write = with_puts (with_root_put v o write.root) write.early
+
+abbrev pub at_end : View → ℕ → WholeWrite → Picture
+at_end v o write = with_puts (at_commit v o write) write.late
+
+-- what a pass knows that has this log in place of its own
+abbrev pub with_log : View → List Act → View
+with_log v log =
+    record {
+      number = v.number;
+      next = v.next;
+      parts = v.parts;
+      left = v.left;
+      shape = v.shape;
+      log = log;
+      entries = v.entries;
+      lists = v.lists;
+      tokens = v.tokens;
+      learnt = v.learnt;
+      has_floor = v.has_floor;
+      floor = [];
+    }
+
+-- its log at the commit, where it found this version
+abbrev pub log_at_commit : View → ℕ → ℕ → WholeWrite → ℕ → List Act
+log_at_commit v o t write start =
+    log_of o t write.early (log_of_root o (root_in (held o v)) write.root (StartWrite o start ∷ v.log))
+
+-- what a pass knows after the whole write, which let go of the lock at its end: numbers that it found, and what stood
+-- in the bank at its commit
+abbrev pub after_write_of : View → ℕ → ℕ → WholeWrite → ℕ → ℕ → Snap → ℕ → View
+after_write_of v o t write start number s stop =
+    noted (Unlock o)
+    (noted (StopWrite o stop)
+    (with_log (noted (Commit write.call write.reply number s) v)
+    (log_of o t write.late (Commit write.call write.reply number s ∷ log_at_commit v o t write start))))
+
+-- ---- which may be made
+
+-- a pass that has the lock of o may begin to write it: it has a call left, has taken no table out of a root since its
+-- last commit, and the bank's calls are few enough for its words
+pub record MayBegin (v : View) (o : ℕ) : Type 0 where
+  pub live : IsAwake v
+  pub possible : Possible v
+  pub few : v.shape.passes * v.shape.calls < 2 ^ 46
+  pub low : o < containers_in v.shape
+  pub mine : has_lock o v.log ≡ true
+  pub quiet : is_writing o v.log ≡ false
+  pub spare : used v.log ≡ false
+  pub room : 0 < v.left
+
+-- A root may be put that is 0, for a call that takes away what there is; or one that names a table which is fresh in
+-- the pass's hand, as it must be for readers, with versions that were made odd once at most.
+abbrev pub MayReplace : View → ℕ → Call → Option ℕ → Type 0
+MayReplace v o call None = Unit {0}
+MayReplace v o call (Some zero) = may_empty call ≡ true
+MayReplace v o call (Some (suc t)) =
+    IsTableName v.shape t
+    × (stage t v.log ≡ 1)
+    × SoundAs (kind_in v.shape.kinds o) v.shape.texts (class_of t) (in_hand t v) (known o v).content
+    × ((p : ℕ) → p < rows (kind_in v.shape.kinds o) (class_of t)
+    → slice_index (in_hand t v) (version_at (kind_in v.shape.kinds o) (class_of t) p) ≤ 1)
+
+-- The call may be committed after these writes: its reply is that of the plain containers, no content passes its
+-- greatest length, and where a count was lowered it takes a table of that class. What even versions say stays. Then the
+-- late puts may be made, and at the end the words stand for the content.
+pub record MayCommitWrite (v : View) (o t : ℕ) (write : WholeWrite) (calls : List Call) : Type 0 where
+  pub replied : IsReplied write.call write.reply (reply_in (stored_newest v.shape.kinds calls) write.call)
+  pub within : would_pass (stored_newest v.shape.kinds calls).world write.call ≡ false
+  pub declared : IsDeclared (stored_newest v.shape.kinds calls).world no_hands write.call
+  pub takes : (class : ℕ) → owes v.log ≡ suc class
+      → takes_in (stored_newest v.shape.kinds calls) write.call ≡ Some class
+  pub clear : (q : ℕ) → root_in (at_commit v o write) ≡ suc q
+      → ClearAs (kind_in v.shape.kinds o) v.shape.texts (class_of q) (at_commit v o write).table
+      (known o v).content (container_after v.shape.kinds (write.call ∷ calls) o).content
+  pub late : MayPuts (kind_in v.shape.kinds o) t (container_after v.shape.kinds (write.call ∷ calls) o).content true
+      (at_commit v o write) write.late
+  pub stands : Stands v.shape.texts (at_end v o write) (container_after v.shape.kinds (write.call ∷ calls) o)
+
+-- The write is one of o, the pass has the lock of each container that it names, and words can represent its keys and
+-- values: what it puts before its commit may be put, it may be committed after whatever writes agree with what the pass
+-- knows, and no version of an entry or item is odd at its end.
+pub record MayWriteSo (v : View) (o t : ℕ) (write : WholeWrite) : Type 0 where
+  pub of : changes write.call ≡ o
+  pub wrote : is_write write.call write.reply ≡ true
+  pub fits : FitsCall write.call
+  pub locks : HasLocksOf write.call v.log
+  pub root : MayReplace v o write.call write.root
+  pub early : MayPuts (kind_in v.shape.kinds o) t (known o v).content false (with_root_put v o write.root) write.early
+  pub commit : (calls : List Call) → AgreesWith v (stored_newest v.shape.kinds calls) → MayCommitWrite v o t write calls
+  pub shut : (q : ℕ) → root_in (at_end v o write) ≡ suc q
+      → Shut (version_at (kind_in v.shape.kinds o) (class_of q)) (rows (kind_in v.shape.kinds o) (class_of q))
+      (at_end v o write).table
+
+-- a write whose words are right may be made whole, in each of its steps, whatever other passes have done
+abbrev pub WritesMayBeMade : Type 0
+WritesMayBeMade =
+    (v : View) (o t : ℕ) (write : WholeWrite) → MayBegin v o → MayWriteSo v o t write
+    → (start number : ℕ) × (s : Snap) × (stop : ℕ) × Possible (after_write_of v o t write start number s stop)

@@ -1,1 +1,1 @@
-pub mod Calling
+pub mod Rounds

@@ -1,12 +1,12 @@
 //! Rounds of steps on a bank of one list, by its one pass.
 ghost use Rattle.std.specs.Prelude.{◌≡◌, ◌≤◌, ◌<◌, ◌+◌, [], ◌∷◌, IfOk, IfSome};
 ghost use Rattle.ft_model.specs.declared.script.Kind.TheVariants as kind;
-ghost use Rattle.ft_bank.specs.Openings.{AreOpening};
+ghost use Rattle.ft_bank.specs.NewPasses.{AreOpening};
 ghost use Rattle.ft_bank.specs.Passes.{shape_of, view};
 ghost use Rattle.ft_bank_tests.specs.Working.{IsListIn, IsWorker};
 
 use ft_bank::{Bank, Pass, Shape};
-use ft_bank_tests::{go_round, take_once, write_once};
+use ft_bank_tests::{go_round, small_shape, take_once, write_once};
 use ft_model::Kind;
 use std::alloc::{AllocError, Global};
 
@@ -20,14 +20,8 @@ pub struct Ready {
 fn one_list(alloc: Global, calls: u32) -> Result<Shape, AllocError>
     ensures { IfOk result (λ s. (s.kinds.items ≡ kind.List ∷ []) × (s.passes ≡ 1) × (s.calls ≡ calls)) }
 {
-    Ok(Shape {
-        kinds: vec![in alloc; Kind::List]?,
-        texts: Vec::new(alloc),
-        tables: vec![in alloc; 1u32; 14]?,
-        heap: 64,
-        passes: 1,
-        calls,
-    })
+    let shape = small_shape(alloc, vec![in alloc; Kind::List]?, 1, calls)?;
+    Ok(shape)
 }
 
 /// The first pass of a bank.

@@ -1,8 +1,8 @@
 //! Rounds of calls on lists of a bank: each call takes its lock and lets it go.
 ghost use Rattle.std.specs.Prelude.{◌≡◌, [], ◌∷◌, IfOk, IfSome};
 ghost use Rattle.ft_model.specs.declared.script.Kind.TheVariants as kind;
-ghost use Rattle.ft_bank.specs.Openings.{IsOpening, AreOpening};
-ghost use Rattle.ft_bank_bench.specs.Calling.{MayCall};
+ghost use Rattle.ft_bank.specs.NewPasses.{IsOpening, AreOpening};
+ghost use Rattle.ft_list.specs.ListWrites.{MayCallList};
 
 use ft_bank::{Bank, Pass, Shape};
 use ft_list::{try_append, try_clear, try_set};
@@ -49,8 +49,8 @@ fn three_of(bank: &Bank, passes: Vec<Pass>) -> Option<(Pass, Pass, Pass)>
 
 /// Appends an integer. Says whether that was done.
 fn append(bank: &Bank, pass: &mut Pass, l: u32, integer: i64) -> bool
-    requires { MayCall bank.now pass.old l }
-    ensures { MayCall bank.now pass.new l }
+    requires { MayCallList bank.now pass.old l }
+    ensures { MayCallList bank.now pass.new l }
 {
     if pass.left() == 0 {
         return false;
@@ -63,8 +63,8 @@ fn append(bank: &Bank, pass: &mut Pass, l: u32, integer: i64) -> bool
 
 /// Clears a list. Says whether that was done.
 fn clear(bank: &Bank, pass: &mut Pass, l: u32) -> bool
-    requires { MayCall bank.now pass.old l }
-    ensures { MayCall bank.now pass.new l }
+    requires { MayCallList bank.now pass.old l }
+    ensures { MayCallList bank.now pass.new l }
 {
     if pass.left() == 0 {
         return false;
@@ -74,8 +74,8 @@ fn clear(bank: &Bank, pass: &mut Pass, l: u32) -> bool
 
 /// Sets the first item of a list to an integer. Says whether that was done.
 fn set(bank: &Bank, pass: &mut Pass, l: u32, integer: i64) -> bool
-    requires { MayCall bank.now pass.old l }
-    ensures { MayCall bank.now pass.new l }
+    requires { MayCallList bank.now pass.old l }
+    ensures { MayCallList bank.now pass.new l }
 {
     if pass.left() == 0 {
         return false;
@@ -89,9 +89,9 @@ fn set(bank: &Bank, pass: &mut Pass, l: u32, integer: i64) -> bool
 /// A bank of which lists 0 and 1 have an item, and list 2 none, whose passes may make this many calls more each;
 /// nothing where memory ran out.
 pub fn make_lists(alloc: Global, calls: u32) -> Result<Option<Lists>, AllocError>
-    ensures first { IfOk result (λ made. IfSome made (λ r. MayCall r.bank r.first 0)) }
-    ensures second { IfOk result (λ made. IfSome made (λ r. MayCall r.bank r.second 1)) }
-    ensures third { IfOk result (λ made. IfSome made (λ r. MayCall r.bank r.third 2)) }
+    ensures first { IfOk result (λ made. IfSome made (λ r. MayCallList r.bank r.first 0)) }
+    ensures second { IfOk result (λ made. IfSome made (λ r. MayCallList r.bank r.second 1)) }
+    ensures third { IfOk result (λ made. IfSome made (λ r. MayCallList r.bank r.third 2)) }
 {
     let shape = three_lists(alloc, calls.saturating_add(1))?;
     if !shape.fits() {
@@ -120,8 +120,8 @@ pub fn make_lists(alloc: Global, calls: u32) -> Result<Option<Lists>, AllocError
 
 /// The first item of a list is set, each time to another integer. Answers how often that was done.
 pub fn set_all(bank: &Bank, pass: &mut Pass, l: u32, rounds: u32) -> u32
-    requires { MayCall bank.now pass.old l }
-    ensures { MayCall bank.now pass.new l }
+    requires { MayCallList bank.now pass.old l }
+    ensures { MayCallList bank.now pass.new l }
 {
     let mut done = 0u32;
     for round in 0..rounds {
@@ -135,8 +135,8 @@ pub fn set_all(bank: &Bank, pass: &mut Pass, l: u32, rounds: u32) -> u32
 /// An empty list takes a table for an item, and is cleared, so that the table is retired. Answers how often that was
 /// done.
 pub fn retire_all(bank: &Bank, pass: &mut Pass, l: u32, rounds: u32) -> u32
-    requires { MayCall bank.now pass.old l }
-    ensures { MayCall bank.now pass.new l }
+    requires { MayCallList bank.now pass.old l }
+    ensures { MayCallList bank.now pass.new l }
 {
     let mut done = 0u32;
     for round in 0..rounds {

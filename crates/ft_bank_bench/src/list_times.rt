@@ -1,7 +1,7 @@
 //! The measuring of calls on lists: in one thread, and in two threads at once, each on a list of its own. A call that
 //! wasn't done counts for no round.
 ghost use Rattle.std.specs.Prelude.{◌≡◌};
-ghost use Rattle.ft_bank_bench.specs.Calling.{MayCall};
+ghost use Rattle.ft_list.specs.ListWrites.{MayCallList};
 
 use crate::bare_steps;
 use crate::bare_steps::{Seen, seat_of, spread};
@@ -34,10 +34,10 @@ fn time_sets<R: Clock>(
     seat: &mut Seat<(), ()>,
     rounds: u32,
 ) -> io::Result<Time>
-    requires may { MayCall bank.now pass.old 0 }
+    requires may { MayCallList bank.now pass.old 0 }
     requires seat { seat.old.table_id ≡ words.now.table_id }
     requires words { words.now.table_id.words ≡ 256 }
-    ensures may { MayCall bank.now pass.new 0 }
+    ensures may { MayCallList bank.now pass.new 0 }
     ensures seat { seat.new.table_id ≡ words.now.table_id }
 {
     let start = Instant::now(rt)?;
@@ -61,7 +61,7 @@ fn time_retirements<R: Clock>(
     seat: &mut Seat<(), ()>,
     rounds: u32,
 ) -> io::Result<Time>
-    requires may { MayCall bank.now pass.old 2 }
+    requires may { MayCallList bank.now pass.old 2 }
     requires seat { seat.old.table_id ≡ words.now.table_id }
     requires words { words.now.table_id.words ≡ 256 }
     ensures seat { seat.new.table_id ≡ words.now.table_id }
@@ -86,16 +86,16 @@ fn set_in_two<R: Threads>(
     mut second: Pass,
     rounds: u32,
 ) -> u32
-    requires first { MayCall bank.now first 0 }
-    requires second { MayCall bank.now second 1 }
+    requires first { MayCallList bank.now first 0 }
+    requires second { MayCallList bank.now second 1 }
 {
     let (ours, theirs) = thread::join(
         rt,
         move || -> u32
-            requires { MayCall bank.now first 0 }
+            requires { MayCallList bank.now first 0 }
         { set_all(bank, &mut first, 0, rounds) },
         move || -> u32
-            requires { MayCall bank.now second 1 }
+            requires { MayCallList bank.now second 1 }
         { set_all(bank, &mut second, 1, rounds) },
     );
     ours.min(theirs)

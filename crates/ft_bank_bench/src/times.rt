@@ -1,7 +1,8 @@
 //! The measuring: each kind of step on a bank of one pass, and then the bare steps, as often.
-ghost use Rattle.std.specs.Prelude.{◌≡◌, ◌≤◌, ◌+◌};
+ghost use Rattle.std.specs.Prelude.{◌≡◌, OnOk};
 ghost use Rattle.ft_bank.specs.Passes.{shape_of, view};
 ghost use Rattle.ft_bank_tests.specs.Working.{IsListIn, IsWorker};
+ghost use Rattle.ft_bank_bench.specs.Rounds.{HasCalls, KeepsCalls};
 
 use crate::bank_steps::{Ready, load_all, lock_all, make_ready, take_all, write_all};
 use crate::bare_steps;
@@ -19,6 +20,19 @@ pub struct Time {
     pub bank: u64,
     /// On a bare table.
     pub bare: u64,
+}
+
+/// A kind of steps.
+#[derive(Clone, Copy, Debug)]
+pub enum Steps {
+    /// Loads of one word.
+    Loads,
+    /// Locks that are taken and let go, with a load under each.
+    Locks,
+    /// Whole writes, each under a lock of its own.
+    Writes,
+    /// Tables that are taken and given back.
+    Takings,
 }
 
 /// The times of all kinds of steps.
@@ -40,113 +54,60 @@ pub(crate) fn of_one(all: Duration, rounds: u32) -> u64 {
     nanos.saturating_mul(100) / u64::from(rounds.max(1))
 }
 
-/// Loads of one word.
-fn time_loads<R: Clock>(
+/// Rounds of such steps on the bank.
+fn make_on_bank(bank: &Bank, pass: &mut Pass, steps: Steps, rounds: u32)
+    requires worker { IsWorker bank.now pass.old }
+    requires list { IsListIn (shape_of bank.now) 0 }
+    requires left { HasCalls steps rounds (view pass.old) }
+    ensures worker { IsWorker bank.now pass.new }
+    ensures left { KeepsCalls steps (view pass.old) (view pass.new) }
+{
+    match steps {
+        Steps::Loads => load_all(bank, pass, rounds),
+        Steps::Locks => lock_all(bank, pass, rounds),
+        Steps::Writes => write_all(bank, pass, rounds),
+        Steps::Takings => take_all(bank, pass, rounds),
+    }
+}
+
+/// As many rounds of the bare steps beside them.
+fn make_bare(words: &Seen, seat: &mut Seat<(), ()>, steps: Steps, rounds: u32)
+    requires seat { seat.old.table_id ≡ words.now.table_id }
+    requires words { words.now.table_id.words ≡ 16 }
+    ensures seat { seat.new.table_id ≡ words.now.table_id }
+{
+    match steps {
+        Steps::Loads => bare_steps::load_all(words, seat, rounds),
+        Steps::Locks => bare_steps::lock_all(words, seat, rounds),
+        Steps::Writes => bare_steps::write_all(words, seat, rounds),
+        Steps::Takings => bare_steps::take_all(words, seat, rounds),
+    }
+}
+
+/// The times of one kind of steps.
+fn time_steps<R: Clock>(
     rt: &R,
     bank: &Bank,
     pass: &mut Pass,
     words: &Seen,
     seat: &mut Seat<(), ()>,
+    steps: Steps,
     rounds: u32,
 ) -> io::Result<Time>
     requires worker { IsWorker bank.now pass.old }
     requires list { IsListIn (shape_of bank.now) 0 }
+    requires left { HasCalls steps rounds (view pass.old) }
     requires seat { seat.old.table_id ≡ words.now.table_id }
     requires words { words.now.table_id.words ≡ 16 }
     ensures worker { IsWorker bank.now pass.new }
-    ensures left { (view pass.new).left ≡ (view pass.old).left }
+    ensures left { OnOk result (KeepsCalls steps (view pass.old) (view pass.new)) }
     ensures seat { seat.new.table_id ≡ words.now.table_id }
 {
     let start = Instant::now(rt)?;
-    load_all(bank, pass, rounds);
+    make_on_bank(bank, pass, steps, rounds);
     let on_bank = start.elapsed(rt)?;
     let start = Instant::now(rt)?;
-    bare_steps::load_all(words, seat, rounds);
-    let bare = start.elapsed(rt)?;
-    Ok(Time {
-        bank: of_one(on_bank, rounds),
-        bare: of_one(bare, rounds),
-    })
-}
-
-/// Locks that are taken and let go, with a load under each.
-fn time_locks<R: Clock>(
-    rt: &R,
-    bank: &Bank,
-    pass: &mut Pass,
-    words: &Seen,
-    seat: &mut Seat<(), ()>,
-    rounds: u32,
-) -> io::Result<Time>
-    requires worker { IsWorker bank.now pass.old }
-    requires list { IsListIn (shape_of bank.now) 0 }
-    requires seat { seat.old.table_id ≡ words.now.table_id }
-    requires words { words.now.table_id.words ≡ 16 }
-    ensures worker { IsWorker bank.now pass.new }
-    ensures left { (view pass.new).left ≡ (view pass.old).left }
-    ensures seat { seat.new.table_id ≡ words.now.table_id }
-{
-    let start = Instant::now(rt)?;
-    lock_all(bank, pass, rounds);
-    let on_bank = start.elapsed(rt)?;
-    let start = Instant::now(rt)?;
-    bare_steps::lock_all(words, seat, rounds);
-    let bare = start.elapsed(rt)?;
-    Ok(Time {
-        bank: of_one(on_bank, rounds),
-        bare: of_one(bare, rounds),
-    })
-}
-
-/// Whole writes, each under a lock of its own.
-fn time_writes<R: Clock>(
-    rt: &R,
-    bank: &Bank,
-    pass: &mut Pass,
-    words: &Seen,
-    seat: &mut Seat<(), ()>,
-    rounds: u32,
-) -> io::Result<Time>
-    requires worker { IsWorker bank.now pass.old }
-    requires list { IsListIn (shape_of bank.now) 0 }
-    requires left { rounds ≤ (view pass.old).left }
-    requires seat { seat.old.table_id ≡ words.now.table_id }
-    requires words { words.now.table_id.words ≡ 16 }
-    ensures worker { IsWorker bank.now pass.new }
-    ensures seat { seat.new.table_id ≡ words.now.table_id }
-{
-    let start = Instant::now(rt)?;
-    write_all(bank, pass, rounds);
-    let on_bank = start.elapsed(rt)?;
-    let start = Instant::now(rt)?;
-    bare_steps::write_all(words, seat, rounds);
-    let bare = start.elapsed(rt)?;
-    Ok(Time {
-        bank: of_one(on_bank, rounds),
-        bare: of_one(bare, rounds),
-    })
-}
-
-/// Tables that are taken and given back.
-fn time_takings<R: Clock>(
-    rt: &R,
-    bank: &Bank,
-    pass: &mut Pass,
-    words: &Seen,
-    seat: &mut Seat<(), ()>,
-    rounds: u32,
-) -> io::Result<Time>
-    requires worker { IsWorker bank.now pass.old }
-    requires seat { seat.old.table_id ≡ words.now.table_id }
-    requires words { words.now.table_id.words ≡ 16 }
-    ensures worker { IsWorker bank.now pass.new }
-    ensures seat { seat.new.table_id ≡ words.now.table_id }
-{
-    let start = Instant::now(rt)?;
-    take_all(bank, pass, rounds);
-    let on_bank = start.elapsed(rt)?;
-    let start = Instant::now(rt)?;
-    bare_steps::take_all(words, seat, rounds);
+    make_bare(words, seat, steps, rounds);
     let bare = start.elapsed(rt)?;
     Ok(Time {
         bank: of_one(on_bank, rounds),
@@ -161,10 +122,26 @@ pub(crate) fn measure<R: Clock>(rt: &R, alloc: Global, rounds: u32) -> io::Resul
     };
     let (table, mut seat) = zeros(alloc)?;
     let words = &table.shared;
-    let loads = time_loads(rt, &bank, &mut pass, words, &mut seat, rounds)?;
-    let locks = time_locks(rt, &bank, &mut pass, words, &mut seat, rounds)?;
-    let writes = time_writes(rt, &bank, &mut pass, words, &mut seat, rounds)?;
-    let takings = time_takings(rt, &bank, &mut pass, words, &mut seat, rounds)?;
+    let loads = time_steps(rt, &bank, &mut pass, words, &mut seat, Steps::Loads, rounds)?;
+    let locks = time_steps(rt, &bank, &mut pass, words, &mut seat, Steps::Locks, rounds)?;
+    let writes = time_steps(
+        rt,
+        &bank,
+        &mut pass,
+        words,
+        &mut seat,
+        Steps::Writes,
+        rounds,
+    )?;
+    let takings = time_steps(
+        rt,
+        &bank,
+        &mut pass,
+        words,
+        &mut seat,
+        Steps::Takings,
+        rounds,
+    )?;
     Ok(Some(Times {
         loads,
         locks,

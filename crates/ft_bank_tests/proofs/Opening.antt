@@ -2,7 +2,7 @@
 use Rattle.std.proofs.Common.{◌≡◌, ℕ, suc, List, [], ◌∷◌, ◌++◌}
 use Rattle.ft_bank.specs.declared.bank.Bank.{Bank}
 use Rattle.ft_bank.specs.declared.pass.Pass.{Pass}
-use Rattle.ft_bank.specs.Openings.{IsOpening, AreOpening}
+use Rattle.ft_bank.specs.NewPasses.{IsOpening, AreOpening}
 
 pub opening_front : (b : Bank) (i : ℕ) (ps : List Pass) (p : Pass) → AreOpening b i (ps ++ p ∷ []) → AreOpening b i ps
 opening_front b i [] p h = tt

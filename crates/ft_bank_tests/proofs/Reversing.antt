@@ -14,7 +14,7 @@ use Rattle.ft_model.specs.declared.reply.Reply.TheVariants as reply
 use Rattle.ft_model.specs.declared.script.Kind.{Kind}
 use Rattle.ft_model.specs.declared.script.Kind.TheVariants as kind
 use Rattle.ft_model.specs.Answers.{after_write}
-use Rattle.ft_model.specs.Tables.{StoredWorld, after_stored}
+use Rattle.ft_model.specs.TableUses.{StoredWorld, after_stored}
 use Rattle.ft_model.specs.Worlds.{kind_of, length_of, list_of, list_at}
 use Rattle.ft_trace.specs.declared.Act.TheVariants.{StartWrite, Commit, StopWrite}
 use Rattle.ft_trace.specs.declared.Shape.{Shape}
@@ -22,18 +22,18 @@ use Rattle.ft_trace.specs.declared.Snap.{Snap}
 use Rattle.ft_trace.specs.declared.View.{View}
 use Rattle.ft_trace.specs.Addresses.{containers_in}
 use Rattle.ft_trace.specs.Acts.{has_lock, is_writing, has_emptied, noted, seen_writes}
-use Rattle.ft_trace.specs.Reading.{IsNothing}
+use Rattle.ft_trace.specs.LoggedReads.{IsNothing}
 use Rattle.ft_trace.specs.Traces.{Possible}
-use Rattle.ft_trace.specs.Worlds.{ContainerState, state_at, kind_in}
-use Rattle.ft_trace.specs.Words.{Picture, root_in, Stands}
+use Rattle.ft_trace.specs.ContainerStates.{ContainerState, state_at, kind_in}
+use Rattle.ft_trace.specs.Pictures.{Picture, root_in, Stands}
 use Rattle.ft_trace.specs.Holds.{held, known}
 use Rattle.ft_trace.proofs.Cases.{hit}
 use Rattle.ft_trace.proofs.Known.{declared_at, kind_known}
 use Rattle.ft_trace.proofs.Naming.{one_locked}
-use Rattle.ft_trace.proofs.Nothing.{no_table_stands}
-use Rattle.ft_bank.specs.Writes.{Committed, IsShut, MayCommit, MayHave}
+use Rattle.ft_trace.proofs.NoTable.{no_table_stands}
+use Rattle.ft_bank.specs.WriteSteps.{Committed, IsShut, MayCommit, MayHave}
 use Rattle.ft_bank.specs.Whole.{EndsWrite, OnlyLoaded, Wrote}
-use Rattle.ft_bank.proofs.Whole.{loaded_held, plain_write, put_same, work_knows, write_ends}
+use Rattle.ft_bank.proofs.KnownAfterWrites.{loaded_held, plain_write, put_same, work_knows, write_ends}
 use Rattle.ft_bank_tests.specs.SmallestWrites.{MayReverse}
 
 -- the call

@@ -8,8 +8,8 @@ use Rattle.ft_trace.specs.declared.Shape.{Shape}
 use Rattle.ft_trace.specs.declared.View.{View}
 use Rattle.ft_trace.specs.Addresses.{containers_in}
 use Rattle.ft_trace.specs.Acts.{has_lock, is_writing, owes}
-use Rattle.ft_trace.specs.Worlds.{kind_in}
-use Rattle.ft_trace.specs.Words.{root_in, Stands}
+use Rattle.ft_trace.specs.ContainerStates.{kind_in}
+use Rattle.ft_trace.specs.Pictures.{root_in, Stands}
 use Rattle.ft_trace.specs.Holds.{held, known}
 use Rattle.ft_bank.specs.Whole.{OnlyLoaded, Wrote}
 

@@ -4,11 +4,11 @@ use Rattle.ft_model.specs.declared.script.Kind.TheVariants as kind
 use Rattle.ft_trace.specs.declared.Shape.{Shape}
 use Rattle.ft_trace.specs.declared.View.{View}
 use Rattle.ft_trace.specs.Addresses.{containers_in}
-use Rattle.ft_trace.specs.Worlds.{kind_in}
+use Rattle.ft_trace.specs.ContainerStates.{kind_in}
 use Rattle.ft_bank.specs.declared.bank.Bank.{Bank}
 use Rattle.ft_bank.specs.declared.pass.Pass.{Pass}
 use Rattle.ft_bank.specs.Passes.{view, IsPassOf}
-use Rattle.ft_bank.specs.Sections.{stack_of, no_sections}
+use Rattle.ft_bank.specs.PassSections.{stack_of, no_sections}
 use Rattle.ft_bank_tests.specs.TestRounds.{IsIdlePass}
 
 -- the container is a list of the bank

@@ -1,7 +1,8 @@
 //! Steps of the passes of one bank, in one thread and in threads of their own. Beside the bank's code these tests would have it proved a
-//! second time. Nothing stands on this crate.
+//! second time. What other crates' tests begin with, and the rounds that `ft_bank_bench` times, stand here too.
 #![tactic(auto)]
 
+mod banks;
 mod rounds;
 #[cfg(test)]
 mod shapes;
@@ -16,6 +17,7 @@ mod writes;
 #[cfg(test)]
 mod writing;
 
+pub use crate::banks::{bank_of, bank_of_two, pair_of, small_shape};
 pub use crate::rounds::{go_round, go_round_with};
 pub use crate::workers::{
     Tally, close_counted, take_once, work, work_in_four, work_in_two, write_once,

@@ -2,7 +2,7 @@
 ghost use Rattle.std.specs.Prelude.{◌≡◌, ◌≤◌, ◌<◌};
 ghost use Rattle.ft_trace.specs.Addresses.{containers_in};
 ghost use Rattle.ft_bank.specs.Passes.{shape_of, view, IsPassOf};
-ghost use Rattle.ft_bank.specs.Sections.{stack_of, no_sections};
+ghost use Rattle.ft_bank.specs.PassSections.{stack_of, no_sections};
 ghost use Rattle.ft_bank_tests.specs.TestRounds.{IsIdlePass, IsOnwards};
 
 use ft_bank::{Bank, Pass};

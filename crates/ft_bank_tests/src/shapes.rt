@@ -2,9 +2,9 @@
 //! be; of the other classes it has one table each, so that it takes some megabytes.
 ghost use Rattle.std.specs.Prelude.{◌≡◌, [], ◌∷◌, IfOk, replicate};
 ghost use Rattle.ft_model.specs.declared.script.Kind.TheVariants as kind;
-ghost use Rattle.ft_bank.specs.Openings.{IsOpening, AreOpening};
+ghost use Rattle.ft_bank.specs.NewPasses.{IsOpening, AreOpening};
 
-use crate::write_once;
+use crate::{bank_of, small_shape, write_once};
 use ft_bank::{Bank, Pass, Shape, Took};
 use ft_model::Kind;
 use std::alloc::Global;
@@ -25,20 +25,7 @@ fn first_of(bank: &Bank, passes: Vec<Pass>) -> Result<Pass, Fail>
 #[test]
 fn the_smallest_bank_is_closed(rt: HostRuntime) -> Result<(), Fail> {
     let alloc = rt.alloc();
-    let shape = Shape {
-        kinds: Vec::new(alloc),
-        texts: Vec::new(alloc),
-        tables: vec![in alloc; 1u32; 14]?,
-        heap: 64,
-        passes: 1,
-        calls: 0,
-    };
-    if !shape.fits() {
-        return Err(Fail::from("the smallest shape fits"));
-    }
-    let Ok((bank, passes)) = Bank::new(alloc, shape) else {
-        return Err(Fail::from("there is memory"));
-    };
+    let (bank, passes) = bank_of(alloc, small_shape(alloc, Vec::new(alloc), 1, 0)?)?;
     assert_eq!(rt; passes.len(), 1);
     let mut pass = first_of(&bank, passes)?;
     assert_eq!(rt; bank.stamp(&mut pass), 0);
@@ -86,13 +73,7 @@ fn take_each(bank: &Bank, mut passes: Vec<Pass>) -> u32
 #[test]
 fn each_of_64_passes_takes_a_table(rt: HostRuntime) -> Result<(), Fail> {
     let alloc = rt.alloc();
-    let shape = large(alloc)?;
-    if !shape.fits() {
-        return Err(Fail::from("a large shape fits"));
-    }
-    let Ok((bank, passes)) = Bank::new(alloc, shape) else {
-        return Err(Fail::from("there is memory"));
-    };
+    let (bank, passes) = bank_of(alloc, large(alloc)?)?;
     assert_eq!(rt; take_each(&bank, passes), 64);
     Ok(())
 }
@@ -100,13 +81,7 @@ fn each_of_64_passes_takes_a_table(rt: HostRuntime) -> Result<(), Fail> {
 #[test]
 fn the_last_of_256_lists_is_written(rt: HostRuntime) -> Result<(), Fail> {
     let alloc = rt.alloc();
-    let shape = large(alloc)?;
-    if !shape.fits() {
-        return Err(Fail::from("a large shape fits"));
-    }
-    let Ok((bank, passes)) = Bank::new(alloc, shape) else {
-        return Err(Fail::from("there is memory"));
-    };
+    let (bank, passes) = bank_of(alloc, large(alloc)?)?;
     let mut pass = first_of(&bank, passes)?;
     assert_eq!(rt; write_once(&bank, &mut pass, 255), Some(0));
     assert_eq!(rt; bank.seq(&mut pass, 255), 2);

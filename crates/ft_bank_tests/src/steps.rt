@@ -2,54 +2,25 @@
 //! locks, worked by hand.
 ghost use Rattle.std.specs.Prelude.{◌≡◌, [], ◌∷◌, IfOk, length};
 ghost use Rattle.ft_model.specs.declared.script.Kind.TheVariants as kind;
-ghost use Rattle.ft_bank.specs.Openings.{IsOpening, AreOpening};
 
-use ft_bank::{Bank, Pass, Shape};
+use crate::{bank_of_two, small_shape};
+use ft_bank::Shape;
 use ft_model::Kind;
 use std::alloc::Global;
 use std::test::Fail;
 
+/// A list and a dict, for two passes.
 pub(crate) fn small(alloc: Global) -> Result<Shape, Fail>
     ensures sizes { IfOk result (λ s. (length s.kinds.items ≡ 2) × (s.passes ≡ 2) × (s.calls ≡ 10)) }
     ensures kinds { IfOk result (λ s. s.kinds.items ≡ kind.List ∷ kind.Dict ∷ []) }
 {
-    Ok(Shape {
-        kinds: vec![in alloc; Kind::List, Kind::Dict]?,
-        texts: Vec::new(alloc),
-        tables: vec![in alloc; 1u32; 14]?,
-        heap: 64,
-        passes: 2,
-        calls: 10,
-    })
-}
-
-/// The two passes of a bank.
-pub(crate) fn two(bank: &Bank, passes: Vec<Pass>) -> Result<(Pass, Pass), Fail>
-    requires { AreOpening bank.now 0 passes.items }
-    ensures { IfOk result (λ p. IsOpening bank.now 0 p.0 × IsOpening bank.now 1 p.1) }
-{
-    let _ = bank;
-    let mut each = passes.into_iter();
-    let Some(first) = each.next() else {
-        return Err(Fail::from("there is pass 0"));
-    };
-    let Some(second) = each.next() else {
-        return Err(Fail::from("there is pass 1"));
-    };
-    Ok((first, second))
+    Ok(small_shape(alloc, vec![in alloc; Kind::List, Kind::Dict]?, 2, 10)?)
 }
 
 #[test]
 fn the_lock_keeps_others_out(rt: HostRuntime) -> Result<(), Fail> {
     let alloc = rt.alloc();
-    let shape = small(alloc)?;
-    if !shape.fits() {
-        return Err(Fail::from("a small shape fits"));
-    }
-    let Ok((bank, passes)) = Bank::new(alloc, shape) else {
-        return Err(Fail::from("there is memory"));
-    };
-    let (mut first, mut second) = two(&bank, passes)?;
+    let (bank, mut first, mut second) = bank_of_two(alloc, small(alloc)?)?;
     assert_eq!(rt; first.number(), 0);
     assert_eq!(rt; second.number(), 1);
     assert_eq!(rt; first.left(), 10);
@@ -71,14 +42,7 @@ fn the_lock_keeps_others_out(rt: HostRuntime) -> Result<(), Fail> {
 #[test]
 fn the_last_pass_closes_the_bank(rt: HostRuntime) -> Result<(), Fail> {
     let alloc = rt.alloc();
-    let shape = small(alloc)?;
-    if !shape.fits() {
-        return Err(Fail::from("a small shape fits"));
-    }
-    let Ok((bank, passes)) = Bank::new(alloc, shape) else {
-        return Err(Fail::from("there is memory"));
-    };
-    let (mut first, second) = two(&bank, passes)?;
+    let (bank, mut first, second) = bank_of_two(alloc, small(alloc)?)?;
     bank.join(&mut first, second);
     assert_eq!(rt; first.left(), 20);
     let closed = bank.close(first);
@@ -89,14 +53,7 @@ fn the_last_pass_closes_the_bank(rt: HostRuntime) -> Result<(), Fail> {
 #[test]
 fn a_note_is_learnt(rt: HostRuntime) -> Result<(), Fail> {
     let alloc = rt.alloc();
-    let shape = small(alloc)?;
-    if !shape.fits() {
-        return Err(Fail::from("a small shape fits"));
-    }
-    let Ok((bank, passes)) = Bank::new(alloc, shape) else {
-        return Err(Fail::from("there is memory"));
-    };
-    let (mut first, mut second) = two(&bank, passes)?;
+    let (bank, mut first, mut second) = bank_of_two(alloc, small(alloc)?)?;
     let note = bank.note(&mut first);
     bank.learn(&mut second, note);
     assert_eq!(rt; bank.stamp(&mut second), 0);
@@ -107,14 +64,7 @@ fn a_note_is_learnt(rt: HostRuntime) -> Result<(), Fail> {
 #[test]
 fn one_caller_hands_the_floor_on(rt: HostRuntime) -> Result<(), Fail> {
     let alloc = rt.alloc();
-    let shape = small(alloc)?;
-    if !shape.fits() {
-        return Err(Fail::from("a small shape fits"));
-    }
-    let Ok((bank, passes)) = Bank::new(alloc, shape) else {
-        return Err(Fail::from("there is memory"));
-    };
-    let (mut first, second) = two(&bank, passes)?;
+    let (bank, mut first, second) = bank_of_two(alloc, small(alloc)?)?;
     let (waiting, tokens) = bank.rest(second);
     bank.gather(&mut first, tokens);
     bank.take_floor(&mut first);

@@ -1,19 +1,13 @@
 //! Takings and givings of tables, worked by hand: which table comes, and that the last one goes round.
-use crate::steps::{small, two};
-use ft_bank::{Bank, Took};
+use crate::bank_of_two;
+use crate::steps::small;
+use ft_bank::Took;
 use std::test::Fail;
 
 #[test]
 fn the_last_table_of_a_class_goes_round(rt: HostRuntime) -> Result<(), Fail> {
     let alloc = rt.alloc();
-    let shape = small(alloc)?;
-    if !shape.fits() {
-        return Err(Fail::from("a small shape fits"));
-    }
-    let Ok((bank, passes)) = Bank::new(alloc, shape) else {
-        return Err(Fail::from("there is memory"));
-    };
-    let (mut first, mut second) = two(&bank, passes)?;
+    let (bank, mut first, mut second) = bank_of_two(alloc, small(alloc)?)?;
     let Took::Taken(table) = bank.take_table(&mut first, 3) else {
         return Err(Fail::from("a table is free"));
     };

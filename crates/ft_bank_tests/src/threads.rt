@@ -2,42 +2,28 @@
 ghost use Rattle.std.specs.Prelude.{◌≡◌, ◌<◌, IfOk, length};
 ghost use Rattle.ft_trace.specs.Addresses.{containers_in};
 ghost use Rattle.ft_bank.specs.Passes.{shape_of, view, IsPassOf};
-ghost use Rattle.ft_bank.specs.Sections.{stack_of, no_sections};
+ghost use Rattle.ft_bank.specs.PassSections.{stack_of, no_sections};
 ghost use Rattle.ft_bank_tests.specs.TestRounds.{IsIdlePass, IsOnwards};
 
-use crate::go_round_with;
-use crate::steps::two;
-use ft_bank::{Bank, Pass, Shape};
+use crate::{bank_of_two, go_round_with, small_shape};
+use ft_bank::{Pass, Shape};
 use ft_model::Kind;
 use std::alloc::Global;
 use std::test::Fail;
 use std::thread;
 
+/// A list, for two passes.
 fn small(alloc: Global) -> Result<Shape, Fail>
     ensures { IfOk result (λ s. (length s.kinds.items ≡ 1) × (s.passes ≡ 2) × (s.calls ≡ 10)) }
 {
-    Ok(Shape {
-        kinds: vec![in alloc; Kind::List]?,
-        texts: Vec::new(alloc),
-        tables: vec![in alloc; 1u32; 14]?,
-        heap: 64,
-        passes: 2,
-        calls: 10,
-    })
+    Ok(small_shape(alloc, vec![in alloc; Kind::List]?, 2, 10)?)
 }
 
 #[test]
 fn two_threads_share_a_bank(rt: HostRuntime) -> Result<(), Fail> {
     let alloc = rt.alloc();
-    let shape = small(alloc)?;
-    if !shape.fits() {
-        return Err(Fail::from("a small shape fits"));
-    }
-    let Ok((made, passes)) = Bank::new(alloc, shape) else {
-        return Err(Fail::from("there is memory"));
-    };
+    let (made, first, second) = bank_of_two(alloc, small(alloc)?)?;
     let bank = &made;
-    let (first, second) = two(bank, passes)?;
     let ((mut first, ours), (second, theirs)) = thread::join(
         &rt,
         move || -> (Pass, u32)

@@ -1,6 +1,6 @@
 //! A thread's work on a bank: it writes a list that has nothing, takes a table and gives it back, over and over.
 ghost use Rattle.std.specs.Prelude.{◌≡◌, ◌+◌, ◌*◌, ◌^◌, ◌<◌, ◌≤◌, length};
-ghost use Rattle.ft_bank.specs.Closings.{IsWhole, entries_in};
+ghost use Rattle.ft_bank.specs.Closings.{HasWholeHistory, entries_in};
 ghost use Rattle.ft_bank.specs.Passes.{shape_of, view};
 ghost use Rattle.ft_bank_tests.specs.Working.{HasWorkOf, IsListIn, IsPair, IsWorker, Worked, write_count, calls_left, parts_of};
 
@@ -184,7 +184,7 @@ pub fn close_counted(bank: Bank, pass: Pass, made: u64) -> Closed
     requires all { (view pass).parts ≡ (shape_of bank).passes }
     requires left { (view pass).left + made ≡ (shape_of bank).passes * (shape_of bank).calls }
     ensures count { length (entries_in result) ≡ made }
-    ensures whole { IsWhole result }
+    ensures whole { HasWholeHistory result }
 {
     let closed = bank.close(pass);
     closed.entries_are_whole();

@@ -2,10 +2,10 @@
 //! of the writes are those from 0 on, each once, whatever the schedule is.
 ghost use Rattle.std.specs.Prelude.{◌≡◌, [], ◌∷◌, IfOk, length};
 ghost use Rattle.ft_model.specs.declared.script.Kind.TheVariants as kind;
-ghost use Rattle.ft_bank.specs.Openings.{IsOpening, AreOpening};
+ghost use Rattle.ft_bank.specs.NewPasses.{IsOpening, AreOpening};
 
-use crate::steps::{small, two};
-use crate::{close_counted, work_in_four, work_in_two, write_once};
+use crate::steps::small;
+use crate::{bank_of, bank_of_two, close_counted, work_in_four, work_in_two, write_once};
 use ft_bank::{Bank, Pass, Shape, Took};
 use ft_model::Kind;
 use std::alloc::Global;
@@ -23,14 +23,7 @@ fn sum_below(count: u64) -> u64 {
 #[test]
 fn a_note_tells_of_a_write(rt: HostRuntime) -> Result<(), Fail> {
     let alloc = rt.alloc();
-    let shape = small(alloc)?;
-    if !shape.fits() {
-        return Err(Fail::from("a small shape fits"));
-    }
-    let Ok((bank, passes)) = Bank::new(alloc, shape) else {
-        return Err(Fail::from("there is memory"));
-    };
-    let (mut first, mut second) = two(&bank, passes)?;
+    let (bank, mut first, mut second) = bank_of_two(alloc, small(alloc)?)?;
     let Some(number) = write_once(&bank, &mut first, 0) else {
         return Err(Fail::from("the list is free and has nothing"));
     };
@@ -72,14 +65,7 @@ fn one_list(alloc: Global, passes: u32, least: u32) -> Result<Shape, Fail>
 #[test]
 fn two_threads_write_and_take_tables(rt: HostRuntime) -> Result<(), Fail> {
     let alloc = rt.alloc();
-    let shape = one_list(alloc, 2, 3)?;
-    if !shape.fits() {
-        return Err(Fail::from("a small shape fits"));
-    }
-    let Ok((bank, passes)) = Bank::new(alloc, shape) else {
-        return Err(Fail::from("there is memory"));
-    };
-    let (first, second) = two(&bank, passes)?;
+    let (bank, first, second) = bank_of_two(alloc, one_list(alloc, 2, 3)?)?;
     let (mut pass, tally) = work_in_two(&rt, &bank, first, second, 0, 2_000);
     // There are three tables of the class, so no taking finds none.
     assert_eq!(rt; tally.writes, bank.stamp(&mut pass));
@@ -117,13 +103,7 @@ fn four(bank: &Bank, passes: Vec<Pass>) -> Result<(Pass, Pass, Pass, Pass), Fail
 #[test]
 fn four_threads_write_and_take_tables(rt: HostRuntime) -> Result<(), Fail> {
     let alloc = rt.alloc();
-    let shape = one_list(alloc, 4, 3)?;
-    if !shape.fits() {
-        return Err(Fail::from("a small shape fits"));
-    }
-    let Ok((bank, passes)) = Bank::new(alloc, shape) else {
-        return Err(Fail::from("there is memory"));
-    };
+    let (bank, passes) = bank_of(alloc, one_list(alloc, 4, 3)?)?;
     let (first, second, third, fourth) = four(&bank, passes)?;
     let (mut pass, tally) = work_in_four(&rt, &bank, (first, second), (third, fourth), 0, 2_000);
     assert_eq!(rt; tally.writes, bank.stamp(&mut pass));
@@ -137,13 +117,7 @@ fn four_threads_write_and_take_tables(rt: HostRuntime) -> Result<(), Fail> {
 #[test]
 fn four_threads_go_round_a_class_of_1024_tables(rt: HostRuntime) -> Result<(), Fail> {
     let alloc = rt.alloc();
-    let shape = one_list(alloc, 4, 1_024)?;
-    if !shape.fits() {
-        return Err(Fail::from("a class may have 1,024 tables"));
-    }
-    let Ok((bank, passes)) = Bank::new(alloc, shape) else {
-        return Err(Fail::from("there is memory"));
-    };
+    let (bank, passes) = bank_of(alloc, one_list(alloc, 4, 1_024)?)?;
     let (first, second, third, fourth) = four(&bank, passes)?;
     let (mut pass, tally) = work_in_four(&rt, &bank, (first, second), (third, fourth), 0, 256);
     assert!(rt; 0 < tally.tables && tally.tables <= 1_024);
@@ -157,14 +131,7 @@ fn four_threads_go_round_a_class_of_1024_tables(rt: HostRuntime) -> Result<(), F
 #[test]
 fn a_pass_that_is_let_go_keeps_its_lock(rt: HostRuntime) -> Result<(), Fail> {
     let alloc = rt.alloc();
-    let shape = small(alloc)?;
-    if !shape.fits() {
-        return Err(Fail::from("a small shape fits"));
-    }
-    let Ok((bank, passes)) = Bank::new(alloc, shape) else {
-        return Err(Fail::from("there is memory"));
-    };
-    let (mut first, mut second) = two(&bank, passes)?;
+    let (bank, mut first, mut second) = bank_of_two(alloc, small(alloc)?)?;
     let Ok(()) = bank.try_lock(&mut first, 0) else {
         return Err(Fail::from("the lock is free"));
     };

@@ -1,5 +1,6 @@
 //! The rounds of a thread: it goes online, makes its operations, and goes offline.
-ghost use Rattle.ft_bench.specs.Threads.{IsFreeCaller, IsReadyCaller};
+ghost use Rattle.ft_bench.specs.Threads.{IsReadyCaller};
+ghost use Rattle.ft_engine.specs.Callers.{IsFreeCaller};
 
 use crate::answers::answer;
 use crate::course::Course;

@@ -2,7 +2,8 @@
 //! threads makes its next call, which is the order of its turns. No section is open, so no call waits. Each run has an
 //! engine of its own, whose making isn't timed; the text is read once, before.
 ghost use Rattle.std.specs.Prelude.{IfOk, IfSome};
-ghost use Rattle.ft_bench.specs.Threads.{AreFreeCallers, AreReadyCallers, IsReadyCaller};
+ghost use Rattle.ft_bench.specs.Threads.{AreReadyCallers, IsReadyCaller};
+ghost use Rattle.ft_engine.specs.Callers.{AreFreeCallers};
 
 use crate::answers::read;
 use crate::outcome::Outcome;

@@ -1,6 +1,7 @@
 //! The engine of a run, with a worker for each thread.
 ghost use Rattle.std.specs.Prelude.{IfOk, IfSome};
-ghost use Rattle.ft_bench.specs.Threads.{AreFreeCallers, AreWorkers, IsFreeCaller};
+ghost use Rattle.ft_bench.specs.Threads.{AreWorkers};
+ghost use Rattle.ft_engine.specs.Callers.{IsFreeCaller, AreFreeCallers};
 
 use crate::shape::shape_of;
 use crate::stream::operations;

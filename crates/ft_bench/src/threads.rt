@@ -1,5 +1,6 @@
 //! The threads of a run, from meeting to meeting.
-ghost use Rattle.ft_bench.specs.Threads.{AreWorkers, IsFreeCaller};
+ghost use Rattle.ft_bench.specs.Threads.{AreWorkers};
+ghost use Rattle.ft_engine.specs.Callers.{IsFreeCaller};
 
 use crate::answers::are_done;
 use crate::course::Course;

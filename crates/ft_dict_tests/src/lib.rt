@@ -12,4 +12,4 @@ mod rows;
 mod takes;
 
 pub use crate::opened::{go_online, only, small, three};
-pub use crate::rows::{Said, Wanted, four, is_made, reads, reads_elements, reads_pairs, writes};
+pub use crate::rows::{Said, Wanted, four, is_made};

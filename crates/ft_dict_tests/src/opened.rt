@@ -2,7 +2,7 @@
 ghost use Rattle.std.specs.Prelude.{◌≡◌, [], ◌∷◌, ◌<◌, true, IfOk, IfSome};
 ghost use Rattle.ft_model.specs.declared.script.Kind.TheVariants.{Dict, Set};
 ghost use Rattle.ft_trace.specs.Acts.{announces};
-ghost use Rattle.ft_bank.specs.Openings.{IsOpening, AreOpening};
+ghost use Rattle.ft_bank.specs.NewPasses.{IsOpening, AreOpening};
 ghost use Rattle.ft_bank.specs.Passes.{view, IsPassOf};
 
 use ft_bank::{Bank, Pass, Shape};

@@ -1,82 +1,44 @@
 //! Two dicts and two sets of a bank, for tests that make calls on them in the order of a table, and what a row of
 //! such a table wants.
-ghost use Rattle.std.specs.Prelude.{◌≡◌, [], ◌∷◌, true, false, IfOk};
-ghost use Rattle.ft_dict_tests.specs.declared.rows.Said.TheVariants as said;
+ghost use Rattle.std.specs.Prelude.{◌≡◌, [], ◌∷◌, true, IfOk};
 ghost use Rattle.ft_model.specs.declared.reply.Reply.{Reply};
 ghost use Rattle.ft_model.specs.declared.script.Kind.TheVariants as kind;
 ghost use Rattle.ft_section.specs.declared.answers.Stamp.{Stamp};
 ghost use Rattle.ft_section.specs.declared.answers.Step.TheVariants as steps;
 
 use ft_bank::Shape;
-use ft_model::{Key, Kind, Reply, Value};
-use ft_section::Step;
+use ft_model::{Key, Kind, Raise, Reply, Value};
+use ft_section::{Stamp, Step};
 use std::alloc::{AllocError, Global};
 
-/// What a call is to reply. Lists of integers stand in a row as they are, since each row that needs memory would be
-/// one more place at which the test may end.
-#[derive(Debug, Drop)]
+/// What a call is to reply. Its integers and lists of integers stand as they are, so that a constant can hold it.
+#[derive(Clone, Copy, Debug)]
 pub enum Said {
-    /// This reply.
-    Reply(Reply),
+    /// It was done, and has nothing to show.
+    Done,
+    /// This integer.
+    Value(i64),
+    /// The pair of these integers.
+    Pair(i64, i64),
+    /// Whether it is so.
+    Truth(bool),
+    /// How many.
+    Count(u64),
+    /// This exception.
+    Raised(Raise),
     /// All pairs of a dict, in order.
     Pairs(&'static [(i64, i64)]),
     /// All elements of a set, in order.
     Elements(&'static [i64]),
 }
 
-/// What a call is to reply, its number, and whether it is a write.
-#[derive(Debug, Drop)]
-pub struct Wanted {
-    /// The reply.
-    pub said: Said,
-    /// The number of the write, or how many writes came before.
-    pub number: u64,
-    /// Whether it is a write.
-    pub wrote: bool,
-}
-
-/// A call is to write, as the write of this number.
-pub fn writes(reply: Reply, number: u64) -> Wanted
-    ensures { (result.said ≡ said.Reply reply) × (result.number ≡ number) × (result.wrote ≡ true) }
-{
-    Wanted {
-        said: Said::Reply(reply),
-        number,
-        wrote: true,
-    }
-}
-
-/// A call is to write nothing, after that many writes.
-pub fn reads(reply: Reply, number: u64) -> Wanted
-    ensures { (result.said ≡ said.Reply reply) × (result.number ≡ number) × (result.wrote ≡ false) }
-{
-    Wanted {
-        said: Said::Reply(reply),
-        number,
-        wrote: false,
-    }
-}
-
-/// A call is to reply these pairs, after that many writes.
-pub fn reads_pairs(of: &'static [(i64, i64)], number: u64) -> Wanted
-    ensures { (result.said ≡ said.Pairs of.entry) × (result.number ≡ number) × (result.wrote ≡ false) }
-{
-    Wanted {
-        said: Said::Pairs(of),
-        number,
-        wrote: false,
-    }
-}
-
-/// A call is to reply these elements, after that many writes.
-pub fn reads_elements(of: &'static [i64], number: u64) -> Wanted
-    ensures { (result.said ≡ said.Elements of.entry) × (result.number ≡ number) × (result.wrote ≡ false) }
-{
-    Wanted {
-        said: Said::Elements(of),
-        number,
-        wrote: false,
-    }
+/// What a call is to do.
+#[derive(Clone, Copy, Debug)]
+pub enum Wanted {
+    /// It writes, as the write of this number.
+    Writes(Said, u64),
+    /// It writes nothing, after that many writes.
+    Reads(Said, u64),
 }
 
 /// Two dicts, 0 and 1, and two sets, 2 and 3; that many tables of class 3, and that many of each greater class; one pass
@@ -133,10 +95,29 @@ fn are_elements(found: &[Key], wanted: &[i64]) -> bool {
 /// Whether the reply is as it was to be.
 fn is_said(found: &Reply, wanted: &Said) -> bool {
     match (found, wanted) {
-        (found, Said::Reply(reply)) => found == reply,
+        (Reply::Done, Said::Done) => true,
+        (Reply::Value(value), Said::Value(of)) => *value == Value::Int(*of),
+        (Reply::Pair(key, value), Said::Pair(first, second)) => {
+            *key == Key::Int(*first) && *value == Value::Int(*second)
+        }
+        (Reply::Truth(truth), Said::Truth(of)) => truth == of,
+        (Reply::Count(count), Said::Count(of)) => count == of,
+        (Reply::Raised(raise), Said::Raised(of)) => raise == of,
         (Reply::Dict(pairs), Said::Pairs(of)) => are_pairs(pairs.as_slice(), of),
         (Reply::Set(keys), Said::Elements(of)) => are_elements(keys.as_slice(), of),
         _ => false,
+    }
+}
+
+/// Whether a reply and its stamp are as they were to be.
+fn is_done(found: &Reply, stamp: &Stamp, wanted: &Wanted) -> bool {
+    match wanted {
+        Wanted::Writes(said, number) => {
+            stamp.wrote && stamp.number == *number && is_said(found, said)
+        }
+        Wanted::Reads(said, number) => {
+            !stamp.wrote && stamp.number == *number && is_said(found, said)
+        }
     }
 }
 
@@ -145,11 +126,7 @@ pub fn is_made(step: &Step, wanted: &Wanted) -> bool
     ensures { result ≡ true → (said : Reply) × (stamp : Stamp) × (step.now ≡ steps.Done said stamp) }
 {
     match step {
-        Step::Done(said, stamp) => {
-            is_said(said, &wanted.said)
-                && stamp.number == wanted.number
-                && stamp.wrote == wanted.wrote
-        }
+        Step::Done(said, stamp) => is_done(said, stamp, wanted),
         _ => false,
     }
 }

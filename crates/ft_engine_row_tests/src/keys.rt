@@ -1,7 +1,6 @@
 //! Calls on dicts and sets (Python manual, Mapping Types, Set Types).
 
-use ft_engine_tests::{Case, comes_out};
-use std::process::Abort;
+use ft_engine_tests::{Case, all_come_out};
 use std::test::Fail;
 
 const KEYS: [Case<'static>; 7] = [
@@ -136,8 +135,5 @@ const KEYS: [Case<'static>; 7] = [
 
 #[test]
 fn calls_on_dicts_and_sets_are_answered_so(rt: HostRuntime) -> Result<(), Fail> {
-    for case in KEYS {
-        assert!(rt; comes_out(rt.alloc(), case)?);
-    }
-    Ok(())
+    all_come_out(rt.alloc(), &KEYS)
 }

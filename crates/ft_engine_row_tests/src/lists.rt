@@ -1,8 +1,7 @@
 //! Calls on lists, and calls on two containers (Python manual, Sequence Types, Set Types, Mapping
 //! Types).
 
-use ft_engine_tests::{Case, comes_out};
-use std::process::Abort;
+use ft_engine_tests::{Case, all_come_out};
 use std::test::Fail;
 
 const LISTS: [Case<'static>; 7] = [
@@ -224,8 +223,5 @@ const LISTS: [Case<'static>; 7] = [
 
 #[test]
 fn calls_on_lists_are_answered_so(rt: HostRuntime) -> Result<(), Fail> {
-    for case in LISTS {
-        assert!(rt; comes_out(rt.alloc(), case)?);
-    }
-    Ok(())
+    all_come_out(rt.alloc(), &LISTS)
 }

@@ -1,7 +1,6 @@
 //! Sections, and who waits for whom (C API, critical sections).
 
-use ft_engine_tests::{Case, comes_out};
-use std::process::Abort;
+use ft_engine_tests::{Case, all_come_out};
 use std::test::Fail;
 
 const SECTIONS: [Case<'static>; 5] = [
@@ -122,8 +121,5 @@ const SECTIONS: [Case<'static>; 5] = [
 
 #[test]
 fn sections_are_answered_so(rt: HostRuntime) -> Result<(), Fail> {
-    for case in SECTIONS {
-        assert!(rt; comes_out(rt.alloc(), case)?);
-    }
-    Ok(())
+    all_come_out(rt.alloc(), &SECTIONS)
 }

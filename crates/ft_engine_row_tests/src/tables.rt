@@ -1,7 +1,6 @@
 //! Tables that are used up, and tables that are free again.
 
-use ft_engine_tests::{Case, comes_out};
-use std::process::Abort;
+use ft_engine_tests::{Case, all_come_out};
 use std::test::Fail;
 
 const TABLES: [Case<'static>; 5] = [
@@ -154,8 +153,5 @@ const TABLES: [Case<'static>; 5] = [
 
 #[test]
 fn memory_errors_come_so(rt: HostRuntime) -> Result<(), Fail> {
-    for case in TABLES {
-        assert!(rt; comes_out(rt.alloc(), case)?);
-    }
-    Ok(())
+    all_come_out(rt.alloc(), &TABLES)
 }

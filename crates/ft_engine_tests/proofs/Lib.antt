@@ -1,1 +1,1 @@
-pub mod WorkerLemmas
+pub mod CallersOnline

@@ -1,19 +1,10 @@
 -- What tests keep of the callers of an engine.
 use Rattle.std.specs.Prelude.{◌<◌, All, List, IsTrue}
-use Rattle.std.specs.List.{AllByRecursion}
 use Rattle.ft_trace.specs.Acts.{announces}
 use Rattle.ft_bank.specs.Passes.{view}
-use Rattle.ft_engine.specs.declared.caller.Caller.{Caller}
 use Rattle.ft_engine.specs.declared.engine.Engine.{Engine}
-use Rattle.ft_engine.specs.Callers.{IsCallerOf, IsIdle, pass_of}
+use Rattle.ft_engine.specs.Callers.{IsCallerOf, pass_of}
 use Rattle.ft_engine_tests.specs.declared.workers.Worker.{Worker}
-
--- a caller of the engine between two calls
-abbrev pub IsFreeCaller : Engine → Caller → Type 0
-IsFreeCaller e c = IsCallerOf e c × IsIdle c
-
-abbrev pub AreFreeCallers : Engine → List Caller → Type 0
-AreFreeCallers e callers = AllByRecursion (IsFreeCaller e) callers
 
 -- its caller is one of the engine, and is online where it is said to be
 abbrev pub IsWorkerOf : Engine → Worker → Type 0

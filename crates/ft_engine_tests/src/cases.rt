@@ -1,4 +1,4 @@
-//! A script with its history, and whether the engine's is that one.
+//! Scripts with their histories, and whether the engine's are those.
 
 use crate::turns::play;
 use ft_history::{Verdict, judge, merge};
@@ -17,11 +17,21 @@ pub struct Case<'a> {
 }
 
 /// Whether the calls of the script are answered so, in its order of turns, and that is a legal history.
-pub fn comes_out(alloc: Global, case: Case<'_>) -> Result<bool, Fail> {
+fn comes_out(alloc: Global, case: Case<'_>) -> Result<bool, Fail> {
     let script = parse(alloc, case.script.as_bytes())?;
     let expected = read_transcript(alloc, &script, case.transcript.as_bytes())?;
     let lists = play(alloc, &script, script.parts().order.as_slice())?;
     let history = merge(alloc, lists)?;
     let verdict = judge(alloc, Storage::Tables, &script, history.as_slice())?;
     Ok(verdict == Verdict::Legal && history.as_slice() == expected.entries.as_slice())
+}
+
+/// Each case comes out; else the failure is the script of the first that doesn't.
+pub fn all_come_out(alloc: Global, cases: &[Case<'_>]) -> Result<(), Fail> {
+    for case in cases {
+        if !comes_out(alloc, *case)? {
+            return Err(Fail::from(case.script));
+        }
+    }
+    Ok(())
 }

@@ -4,6 +4,8 @@
 
 mod cases;
 #[cfg(test)]
+mod first_turns;
+#[cfg(test)]
 mod giving_up;
 #[cfg(test)]
 mod looking;
@@ -11,9 +13,10 @@ mod looking;
 mod many;
 #[cfg(test)]
 mod orders;
+#[cfg(test)]
+mod plain;
 mod starting;
 mod turns;
 mod workers;
 
-pub use crate::cases::{Case, comes_out};
-pub use crate::starting::shape_for;
+pub use crate::cases::{Case, all_come_out};

@@ -5,12 +5,12 @@ ghost use Rattle.ft_engine.specs.Callers.{IsIdle};
 ghost use Rattle.ft_engine.specs.Contentions.{may_look};
 ghost use Rattle.ft_engine_tests.specs.TestCallers.{AreWorkersOf, IsWorkerOf};
 
-use crate::starting::start;
+use crate::first_turns::after;
+use crate::plain::{Plain, reply_of};
 use crate::turns::ordered;
 use crate::workers::Worker;
 use ft_engine::Engine;
 use ft_model::{Call, DictCall, Key, ListCall, Reply, ScriptParts, Value};
-use ft_script::parse;
 use ft_section::{Look, Stamp};
 use std::alloc::Global;
 use std::process::Abort;
@@ -121,34 +121,67 @@ const APPEND: Call = Call::List {
     },
 };
 
+/// A look: whose it is, at what call, and the reply that it gives.
+struct ExpectedLook {
+    name: &'static str,
+    thread: usize,
+    call: Call,
+    reply: Plain,
+}
+
 /// Three looks of B at what A has locked, and one of A itself in its section.
-fn all_give(engine: &Engine, alloc: Global, workers: &mut [Worker]) -> Result<bool, Fail>
+const LOOKS: [ExpectedLook; 4] = [
+    ExpectedLook {
+        name: "B looks at a key",
+        thread: 1,
+        call: GET,
+        reply: Plain::Value(Value::Int(5)),
+    },
+    ExpectedLook {
+        name: "B looks for a key that isn't there",
+        thread: 1,
+        call: MISSED,
+        reply: Plain::Truth(false),
+    },
+    ExpectedLook {
+        name: "B looks at an item",
+        thread: 1,
+        call: ITEM,
+        reply: Plain::Value(Value::Int(7)),
+    },
+    ExpectedLook {
+        name: "A looks at a key in its section",
+        thread: 0,
+        call: GET,
+        reply: Plain::Value(Value::Int(5)),
+    },
+];
+
+/// Each of the looks gives its reply; else the failure has the name of the first that doesn't.
+fn all_give(engine: &Engine, alloc: Global, workers: &mut [Worker]) -> Result<(), Fail>
     requires { AreWorkersOf engine.now workers.old }
     ensures { OnOk result (AreWorkersOf engine.now workers.new) }
 {
-    let five = Reply::Value(Value::Int(5));
-    let found = gives_as(engine, alloc, workers, 1, &GET, &five)?;
-    let missed = gives_as(engine, alloc, workers, 1, &MISSED, &Reply::Truth(false))?;
-    let item = gives_as(
-        engine,
-        alloc,
-        workers,
-        1,
-        &ITEM,
-        &Reply::Value(Value::Int(7)),
-    )?;
-    let own = gives_as(engine, alloc, workers, 0, &GET, &five)?;
-    Ok(found && missed && item && own)
+    for look in &LOOKS {
+        if !gives_as(
+            engine,
+            alloc,
+            workers,
+            look.thread,
+            &look.call,
+            &reply_of(look.reply),
+        )? {
+            return Err(Fail::from(look.name));
+        }
+    }
+    Ok(())
 }
 
 #[test]
 fn looks_wait_for_no_lock(rt: HostRuntime) -> Result<(), Fail> {
     let alloc = rt.alloc();
-    let script = parse(alloc, LOCKED.as_bytes())?;
-    let parts = script.parts();
-    let (engine, mut workers) = start(alloc, parts)?;
-    ordered(&engine, alloc, parts, workers.as_mut_slice(), &[0, 0, 0])?;
-    assert!(rt; all_give(&engine, alloc, workers.as_mut_slice())?);
+    let (_, engine, mut workers) = after(alloc, LOCKED, &[0, 0, 0])?;
+    all_give(&engine, alloc, workers.as_mut_slice())?;
     if workers.len() != 2 {
         return Err(Fail::from("each thread has a worker"));
     }
@@ -179,11 +212,9 @@ fn looks_between_calls(
 #[test]
 fn no_look_is_made_of_a_write_or_beside_a_call_in_flight(rt: HostRuntime) -> Result<(), Fail> {
     let alloc = rt.alloc();
-    let script = parse(alloc, LOCKED.as_bytes())?;
-    let parts = script.parts();
-    let (engine, mut workers) = start(alloc, parts)?;
-    ordered(&engine, alloc, parts, workers.as_mut_slice(), &[0, 0, 0])?;
-    assert!(rt; looks_between_calls(&engine, alloc, parts, workers.as_mut_slice())?);
+    let (script, engine, mut workers) = after(alloc, LOCKED, &[0, 0, 0])?;
+    let right = looks_between_calls(&engine, alloc, script.parts(), workers.as_mut_slice())?;
+    assert!(rt; right, "looks between calls");
     if workers.len() != 2 {
         return Err(Fail::from("each thread has a worker"));
     }

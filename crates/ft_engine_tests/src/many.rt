@@ -2,6 +2,7 @@
 ghost use Rattle.std.specs.Prelude.{IfOk, OnOk};
 ghost use Rattle.ft_engine_tests.specs.TestCallers.{AreWorkersOf};
 
+use crate::plain::{Plain, reply_of};
 use crate::starting::begin;
 use crate::turns::try_once;
 use crate::workers::Worker;
@@ -97,31 +98,22 @@ fn set(integer: i64) -> Call {
     }
 }
 
-/// Worker 0 fills the list and the dict: four writes.
-fn fill(engine: &Engine, alloc: Global, workers: &mut [Worker]) -> Result<(), Fail>
-    requires { AreWorkersOf engine.now workers.old }
-    ensures { OnOk result (AreWorkersOf engine.now workers.new) }
-{
-    make(engine, alloc, workers, 0, &append(5))?;
-    make(engine, alloc, workers, 0, &append(6))?;
-    make(engine, alloc, workers, 0, &set(1))?;
-    make(engine, alloc, workers, 0, &set(2))
+/// A step of the walks.
+enum Step {
+    /// The worker of this number appends the item to the list.
+    Append { worker: usize, item: i64 },
+    /// The worker of this number sets the key's value to the key.
+    Set { worker: usize, key: i64 },
+    /// Each worker makes the call.
+    All(Answer),
 }
 
-/// Whether each worker makes the call and is answered so, with that number.
-fn all_answer(
-    engine: &Engine,
-    alloc: Global,
-    workers: &mut [Worker],
-    call: &Call,
-    reply: &Reply,
+/// A call that each worker makes, with what each is answered, and the number of that.
+struct Answer {
+    name: &'static str,
+    call: Call,
+    reply: Plain,
     stamp: u64,
-) -> Result<bool, Fail>
-    requires { AreWorkersOf engine.now workers.old }
-    ensures { OnOk result (AreWorkersOf engine.now workers.new) }
-{
-    all_make(engine, alloc, workers, call)?;
-    Ok(all_have(workers, reply, stamp))
 }
 
 const OVER_LIST: Call = Call::List {
@@ -138,70 +130,114 @@ const NEXT_ITEM: Call = Call::Next { cursor: 0 };
 
 const NEXT_PAIR: Call = Call::Next { cursor: 1 };
 
-/// Whether each worker walks over the first item and the first pair, with cursor 0 on the list and cursor 1 on the dict.
-fn all_begin(engine: &Engine, alloc: Global, workers: &mut [Worker]) -> Result<bool, Fail>
+/// The walks of all, with cursor 0 over the list and cursor 1 over the dict.
+const WALK: [Step; 14] = [
+    // Worker 0 fills the list and the dict: four writes.
+    Step::Append { worker: 0, item: 5 },
+    Step::Append { worker: 0, item: 6 },
+    Step::Set { worker: 0, key: 1 },
+    Step::Set { worker: 0, key: 2 },
+    // Each worker walks over the first item and the first pair.
+    Step::All(Answer {
+        name: "a cursor over the list",
+        call: OVER_LIST,
+        reply: Plain::Done,
+        stamp: 4,
+    }),
+    Step::All(Answer {
+        name: "a cursor over the dict",
+        call: OVER_DICT,
+        reply: Plain::Done,
+        stamp: 4,
+    }),
+    Step::All(Answer {
+        name: "the first item",
+        call: NEXT_ITEM,
+        reply: Plain::Value(Value::Int(5)),
+        stamp: 4,
+    }),
+    Step::All(Answer {
+        name: "the first pair",
+        call: NEXT_PAIR,
+        reply: Plain::Pair(Key::Int(1), Value::Int(1)),
+        stamp: 4,
+    }),
+    // Another worker adds an item and a key.
+    Step::Append {
+        worker: 63,
+        item: 7,
+    },
+    Step::Set { worker: 63, key: 3 },
+    // The walks over the list go on over the items that are there by now; those over the dict, which has another
+    // size, raise that.
+    Step::All(Answer {
+        name: "the second item",
+        call: NEXT_ITEM,
+        reply: Plain::Value(Value::Int(6)),
+        stamp: 6,
+    }),
+    Step::All(Answer {
+        name: "another size",
+        call: NEXT_PAIR,
+        reply: Plain::Raised(Raise::Size),
+        stamp: 6,
+    }),
+    Step::All(Answer {
+        name: "the third item",
+        call: NEXT_ITEM,
+        reply: Plain::Value(Value::Int(7)),
+        stamp: 6,
+    }),
+    Step::All(Answer {
+        name: "the end of the list",
+        call: NEXT_ITEM,
+        reply: Plain::Stop,
+        stamp: 6,
+    }),
+];
+
+/// Each worker makes the call and is answered so; else the failure has the answer's name.
+fn all_answer(
+    engine: &Engine,
+    alloc: Global,
+    workers: &mut [Worker],
+    answer: &Answer,
+) -> Result<(), Fail>
     requires { AreWorkersOf engine.now workers.old }
     ensures { OnOk result (AreWorkersOf engine.now workers.new) }
 {
-    let pair = Reply::Pair(Key::Int(1), Value::Int(1));
-    let list = all_answer(engine, alloc, workers, &OVER_LIST, &Reply::Done, 4)?;
-    let dict = all_answer(engine, alloc, workers, &OVER_DICT, &Reply::Done, 4)?;
-    let five = all_answer(
-        engine,
-        alloc,
-        workers,
-        &NEXT_ITEM,
-        &Reply::Value(Value::Int(5)),
-        4,
-    )?;
-    let one = all_answer(engine, alloc, workers, &NEXT_PAIR, &pair, 4)?;
-    Ok(list && dict && five && one)
+    all_make(engine, alloc, workers, &answer.call)?;
+    if !all_have(workers, &reply_of(answer.reply), answer.stamp) {
+        return Err(Fail::from(answer.name));
+    }
+    Ok(())
 }
 
-/// Whether the walks over the list go on over the items that are there by now, and those over the dict, which has another
-/// size, raise that.
-fn all_go_on(engine: &Engine, alloc: Global, workers: &mut [Worker]) -> Result<bool, Fail>
+/// One step.
+fn take(engine: &Engine, alloc: Global, workers: &mut [Worker], step: &Step) -> Result<(), Fail>
     requires { AreWorkersOf engine.now workers.old }
     ensures { OnOk result (AreWorkersOf engine.now workers.new) }
 {
-    let size = Reply::Raised(Raise::Size);
-    let six = all_answer(
-        engine,
-        alloc,
-        workers,
-        &NEXT_ITEM,
-        &Reply::Value(Value::Int(6)),
-        6,
-    )?;
-    let changed = all_answer(engine, alloc, workers, &NEXT_PAIR, &size, 6)?;
-    let seven = all_answer(
-        engine,
-        alloc,
-        workers,
-        &NEXT_ITEM,
-        &Reply::Value(Value::Int(7)),
-        6,
-    )?;
-    let ended = all_answer(engine, alloc, workers, &NEXT_ITEM, &Reply::Stop, 6)?;
-    Ok(six && changed && seven && ended)
+    match step {
+        Step::Append { worker, item } => make(engine, alloc, workers, *worker, &append(*item)),
+        Step::Set { worker, key } => make(engine, alloc, workers, *worker, &set(*key)),
+        Step::All(answer) => all_answer(engine, alloc, workers, answer),
+    }
 }
 
-/// The walks of all, with one more item and one more key in between.
-fn all_walk(engine: &Engine, alloc: Global, workers: &mut [Worker]) -> Result<bool, Fail>
+/// All steps of the walks, one after the other.
+fn all_walk(engine: &Engine, alloc: Global, workers: &mut [Worker]) -> Result<(), Fail>
     requires { AreWorkersOf engine.now workers.old }
 {
-    fill(engine, alloc, workers)?;
-    let begun = all_begin(engine, alloc, workers)?;
-    make(engine, alloc, workers, 63, &append(7))?;
-    make(engine, alloc, workers, 63, &set(3))?;
-    let gone_on = all_go_on(engine, alloc, workers)?;
-    Ok(begun && gone_on)
+    for step in &WALK {
+        take(engine, alloc, workers, step)?;
+    }
+    Ok(())
 }
 
 #[test]
 fn each_of_64_callers_walks_by_itself(rt: HostRuntime) -> Result<(), Fail> {
     let alloc = rt.alloc();
     let (engine, mut workers) = many(alloc)?;
-    assert!(rt; all_walk(&engine, alloc, workers.as_mut_slice())?);
-    Ok(())
+    all_walk(&engine, alloc, workers.as_mut_slice())
 }

@@ -1,6 +1,7 @@
 //! The engine of a script, with a worker for each thread.
-ghost use Rattle.std.specs.Prelude.{IfOk};
-ghost use Rattle.ft_engine_tests.specs.TestCallers.{AreFreeCallers, AreWorkersOf};
+ghost use Rattle.std.specs.Prelude.{◌≡◌, IfOk, length};
+ghost use Rattle.ft_engine_tests.specs.TestCallers.{AreWorkersOf};
+ghost use Rattle.ft_engine.specs.Callers.{AreFreeCallers};
 
 use crate::workers::Worker;
 use ft_bank::Shape;
@@ -48,7 +49,9 @@ fn tables_of(alloc: Global, script: &ScriptParts) -> Result<Vec<u32>, Fail> {
 }
 
 /// The shape of the script's bank.
-pub fn shape_for(alloc: Global, script: &ScriptParts) -> Result<Shape, Fail> {
+fn shape_for(alloc: Global, script: &ScriptParts) -> Result<Shape, Fail>
+    ensures { IfOk result (λ s. (s.passes ≡ length script.now.threads) × (s.heap ≡ 64) × (s.calls ≡ 1000)) }
+{
     let Ok(passes) = u32::try_from(script.threads.len()) else {
         return Err(Fail::from("there are few threads"));
     };

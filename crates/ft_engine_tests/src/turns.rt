@@ -83,28 +83,6 @@ fn turn_of(
     turn(engine, alloc, &mut workers[thread], calls.calls.as_slice())
 }
 
-/// A worker gives up what it is in, and leaves.
-fn give_up(engine: &Engine, worker: &mut Worker)
-    requires { IsWorkerOf engine.now worker.old }
-    ensures { IsWorkerOf engine.now worker.new }
-{
-    worker.online = false;
-    engine.abandon(&mut worker.caller);
-    engine.leave(&mut worker.caller);
-}
-
-/// The worker of that number gives up what it is in, and leaves.
-pub(crate) fn give_up_as(engine: &Engine, workers: &mut [Worker], thread: usize) -> Result<(), Fail>
-    requires { AreWorkersOf engine.now workers.old }
-    ensures { OnOk result (AreWorkersOf engine.now workers.new) }
-{
-    if thread >= workers.len() {
-        return Err(Fail::from("each thread has a worker"));
-    }
-    give_up(engine, &mut workers[thread]);
-    Ok(())
-}
-
 /// The turns of an order.
 pub(crate) fn ordered(
     engine: &Engine,

@@ -13,20 +13,20 @@ use std::sync::atomic::{AtomicU64, Ordering};
 use std::test::Fail;
 use std::thread::Threads;
 
-/// How many entries the history of the script has, which is run with this gate. It is legal.
+/// How many entries the history of the script has, which is run with this gate; `None` where it isn't legal.
 fn gated_entries<R: Threads + Wait + Sync, G: Gate>(
     rt: &R,
     alloc: Global,
     text: &str,
     gate: &G,
-) -> Result<usize, Fail> {
+) -> Result<Option<usize>, Fail> {
     let script = parse(alloc, text.as_bytes())?;
     let ran = run_workers(rt, alloc, &script, gate)?;
     let verdict = judge(alloc, Storage::Tables, &script, ran.history.as_slice())?;
     if verdict != Verdict::Legal {
-        return Err(Fail::from("the history is legal"));
+        return Ok(None);
     }
-    Ok(ran.history.len())
+    Ok(Some(ran.history.len()))
 }
 
 /// The same without a gate.
@@ -34,39 +34,52 @@ fn legal_entries<R: Threads + Wait + Sync>(
     rt: &R,
     alloc: Global,
     text: &str,
-) -> Result<usize, Fail> {
+) -> Result<Option<usize>, Fail> {
     gated_entries(rt, alloc, text, &NoGate)
 }
 
-/// The same of a script in which each thread makes its lines that many times.
-fn repeated_entries<R: Threads + Wait + Sync>(
-    rt: &R,
-    alloc: Global,
-    containers: &str,
-    threads: &[(&str, &str)],
-    times: u32,
-) -> Result<usize, Fail> {
-    let text = repeated(alloc, containers, threads, times)?;
-    legal_entries(rt, alloc, &text)
+/// A script with few calls, and how many entries its history has.
+struct Few {
+    script: &'static str,
+    entries: usize,
 }
+
+const FEW: [Few; 7] = [
+    Few {
+        script: "",
+        entries: 0,
+    },
+    Few {
+        script: "dict d\nset s\n",
+        entries: 0,
+    },
+    Few {
+        script: "thread A\n",
+        entries: 0,
+    },
+    Few {
+        script: "thread A\nthread B\nthread C\n",
+        entries: 0,
+    },
+    Few {
+        script: "list l\nthread A\nthread B\nappend l 1\nthread C\n",
+        entries: 1,
+    },
+    Few {
+        script: "dict d\nthread A\nset d \"a\" 1\nget d \"a\"\nget d \"b\"\n",
+        entries: 3,
+    },
+    Few {
+        script: "dict d\nthread A\nset d 1 1\niter d c\nnext c\nnext c\n",
+        entries: 4,
+    },
+];
 
 #[test]
 fn scripts_with_few_calls(rt: HostRuntime) -> Result<(), Fail> {
-    let scripts = [
-        ("", 0),
-        ("dict d\nset s\n", 0),
-        ("thread A\n", 0),
-        ("thread A\nthread B\nthread C\n", 0),
-        ("list l\nthread A\nthread B\nappend l 1\nthread C\n", 1),
-        (
-            "dict d\nthread A\nset d \"a\" 1\nget d \"a\"\nget d \"b\"\n",
-            3,
-        ),
-        ("dict d\nthread A\nset d 1 1\niter d c\nnext c\nnext c\n", 4),
-    ];
-    for (text, entries) in scripts {
-        let made = legal_entries(&rt, rt.alloc(), text)?;
-        assert_eq!(rt; made, entries);
+    for few in &FEW {
+        let made = legal_entries(&rt, rt.alloc(), few.script)?;
+        assert_eq!(rt; made, Some(few.entries), "{}", few.script);
     }
     Ok(())
 }
@@ -75,23 +88,32 @@ fn scripts_with_few_calls(rt: HostRuntime) -> Result<(), Fail> {
 fn most_threads_on_one_dict(rt: HostRuntime) -> Result<(), Fail> {
     let lines = "set d 1 5\nget d 1\nset d 2 6\ndel d 1\nitems d\n";
     let text = alike(rt.alloc(), "dict d\n", 64, lines)?;
-    assert_eq!(rt; legal_entries(&rt, rt.alloc(), &text)?, 320);
+    assert_eq!(rt; legal_entries(&rt, rt.alloc(), &text)?, Some(320));
     Ok(())
 }
 
 #[test]
 fn most_threads_in_sections_on_two_dicts(rt: HostRuntime) -> Result<(), Fail> {
     let text = numbered(rt.alloc(), 64)?;
-    assert_eq!(rt; legal_entries(&rt, rt.alloc(), &text)?, 256);
+    assert_eq!(rt; legal_entries(&rt, rt.alloc(), &text)?, Some(256));
     Ok(())
 }
 
 #[test]
 fn most_threads_on_as_many_dicts(rt: HostRuntime) -> Result<(), Fail> {
     let text = apart(rt.alloc(), 64)?;
-    assert_eq!(rt; legal_entries(&rt, rt.alloc(), &text)?, 256);
+    assert_eq!(rt; legal_entries(&rt, rt.alloc(), &text)?, Some(256));
     Ok(())
 }
+
+/// Three threads with the same lines.
+const DELAYED: [(&str, &str); 3] = [
+    ("A", DELAYED_LINES),
+    ("B", DELAYED_LINES),
+    ("C", DELAYED_LINES),
+];
+
+const DELAYED_LINES: &str = "begin d l\nset d 1 1\nappend l 1\nend\nget d 1\npop l\n";
 
 /// Delays the first thread before each of its calls, and counts these.
 #[derive(Drop)]
@@ -115,61 +137,78 @@ impl Gate for Delay {
 
 #[test]
 fn a_thread_is_delayed_at_each_call(rt: HostRuntime) -> Result<(), Fail> {
-    let lines = "begin d l\nset d 1 1\nappend l 1\nend\nget d 1\npop l\n";
-    let threads = [("A", lines), ("B", lines), ("C", lines)];
-    let text = repeated(rt.alloc(), "dict d\nlist l\n", &threads, 20)?;
+    let text = repeated(rt.alloc(), "dict d\nlist l\n", &DELAYED, 20)?;
     let gate = Delay {
         delayed: AtomicU64::new(0),
     };
-    assert_eq!(rt; gated_entries(&rt, rt.alloc(), &text, &gate)?, 360);
+    assert_eq!(rt; gated_entries(&rt, rt.alloc(), &text, &gate)?, Some(360));
     assert_eq!(rt; gate.delayed.load(Ordering::SeqCst), 120);
     Ok(())
 }
 
-#[test]
-fn four_threads_on_one_dict(rt: HostRuntime) -> Result<(), Fail> {
-    let writer = "set d 1 5\nget d 1\nset d 2 6\ndel d 1\n";
-    let reader = "get d 1\nhas d 2\nlen d\nsetdefault d 3 1\n";
-    let threads = [("A", writer), ("B", reader), ("C", writer), ("D", reader)];
-    let entries = repeated_entries(&rt, rt.alloc(), "dict d\n", &threads, 100)?;
-    assert_eq!(rt; entries, 1600);
-    Ok(())
+/// A script in which each thread makes its lines that many times, and how many entries its history has.
+struct Repeated {
+    name: &'static str,
+    containers: &'static str,
+    threads: &'static [(&'static str, &'static str)],
+    times: u32,
+    entries: usize,
 }
 
-#[test]
-fn sections_on_two_dicts_in_both_orders(rt: HostRuntime) -> Result<(), Fail> {
-    let one = "begin d e\nset d 1 1\nset e 1 1\nend\n";
-    let other = "begin e d\nget d 1\nset e 2 2\nend\n";
-    let threads = [("A", one), ("B", other)];
-    let entries = repeated_entries(&rt, rt.alloc(), "dict d\ndict e\n", &threads, 100)?;
-    assert_eq!(rt; entries, 800);
-    Ok(())
-}
+const WRITER: &str = "set d 1 5\nget d 1\nset d 2 6\ndel d 1\n";
 
-#[test]
-fn nested_sections_in_opposite_orders(rt: HostRuntime) -> Result<(), Fail> {
+const READER: &str = "get d 1\nhas d 2\nlen d\nsetdefault d 3 1\n";
+
+const REPEATED: [Repeated; 4] = [
+    Repeated {
+        name: "four threads on one dict",
+        containers: "dict d\n",
+        threads: &[("A", WRITER), ("B", READER), ("C", WRITER), ("D", READER)],
+        times: 100,
+        entries: 1600,
+    },
+    Repeated {
+        name: "sections on two dicts in both orders",
+        containers: "dict d\ndict e\n",
+        threads: &[
+            ("A", "begin d e\nset d 1 1\nset e 1 1\nend\n"),
+            ("B", "begin e d\nget d 1\nset e 2 2\nend\n"),
+        ],
+        times: 100,
+        entries: 800,
+    },
     // Each pair of threads takes the same two containers, one in the other, in the two orders.
-    let containers = "dict d\nlist l\nset s\n";
-    let threads = [
-        ("A", "begin d\nbegin l\nappend l 1\nset d 1 1\nend\nend\n"),
-        ("B", "begin l\nbegin d\nget d 1\nlen l\nend\nend\n"),
-        ("C", "begin l\nbegin s\nadd s 1\npop l\nend\nend\n"),
-        ("D", "begin s\nbegin l\ndiscard s 1\nlen l\nend\nend\n"),
-    ];
-    let entries = repeated_entries(&rt, rt.alloc(), containers, &threads, 125)?;
-    assert_eq!(rt; entries, 3000);
-    Ok(())
-}
+    Repeated {
+        name: "nested sections in opposite orders",
+        containers: "dict d\nlist l\nset s\n",
+        threads: &[
+            ("A", "begin d\nbegin l\nappend l 1\nset d 1 1\nend\nend\n"),
+            ("B", "begin l\nbegin d\nget d 1\nlen l\nend\nend\n"),
+            ("C", "begin l\nbegin s\nadd s 1\npop l\nend\nend\n"),
+            ("D", "begin s\nbegin l\ndiscard s 1\nlen l\nend\nend\n"),
+        ],
+        times: 125,
+        entries: 3000,
+    },
+    Repeated {
+        name: "three threads on a dict, a list and a set",
+        containers: "dict d\nlist l\nset s\n",
+        threads: &[
+            ("A", "set d 1 1\nappend l 1\nadd s 1\nquiesce\n"),
+            ("B", "pop l\nremove s 1\ndel d 1\nquiesce\n"),
+            ("C", "iter d c\nnext c\nitems l\nitems s\nquiesce\n"),
+        ],
+        times: 100,
+        entries: 1300,
+    },
+];
 
 #[test]
-fn three_threads_on_a_dict_a_list_and_a_set(rt: HostRuntime) -> Result<(), Fail> {
-    let containers = "dict d\nlist l\nset s\n";
-    let threads = [
-        ("A", "set d 1 1\nappend l 1\nadd s 1\nquiesce\n"),
-        ("B", "pop l\nremove s 1\ndel d 1\nquiesce\n"),
-        ("C", "iter d c\nnext c\nitems l\nitems s\nquiesce\n"),
-    ];
-    let entries = repeated_entries(&rt, rt.alloc(), containers, &threads, 100)?;
-    assert_eq!(rt; entries, 1300);
+fn threads_that_repeat_their_lines(rt: HostRuntime) -> Result<(), Fail> {
+    for row in &REPEATED {
+        let text = repeated(rt.alloc(), row.containers, row.threads, row.times)?;
+        let made = legal_entries(&rt, rt.alloc(), &text)?;
+        assert_eq!(rt; made, Some(row.entries), "{}", row.name);
+    }
     Ok(())
 }

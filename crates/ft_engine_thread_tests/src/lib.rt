@@ -4,6 +4,5 @@
 
 #[cfg(test)]
 mod legal;
+#[cfg(test)]
 mod scripts;
-
-pub use crate::scripts::{alike, apart, numbered, repeated};

@@ -3,7 +3,7 @@
 use std::alloc::{AllocError, Global};
 
 /// The text of a script: the lines of its containers, and for each thread its name and its lines, this many times.
-pub fn repeated(
+pub(crate) fn repeated(
     alloc: Global,
     containers: &str,
     threads: &[(&str, &str)],
@@ -23,7 +23,7 @@ pub fn repeated(
 }
 
 /// The text of a script with that many threads, each with the same lines.
-pub fn alike(
+pub(crate) fn alike(
     alloc: Global,
     containers: &str,
     threads: u32,
@@ -38,7 +38,7 @@ pub fn alike(
 }
 
 /// The text of a script with that many threads, each of which stores its number in two dicts in one section.
-pub fn numbered(alloc: Global, threads: u32) -> Result<String, AllocError> {
+pub(crate) fn numbered(alloc: Global, threads: u32) -> Result<String, AllocError> {
     let mut text = String::new(alloc);
     text.push_str("dict d\ndict e\n")?;
     for thread in 0..threads {
@@ -51,7 +51,7 @@ pub fn numbered(alloc: Global, threads: u32) -> Result<String, AllocError> {
 }
 
 /// The text of a script with that many dicts and threads, each of which has a dict of its own.
-pub fn apart(alloc: Global, threads: u32) -> Result<String, AllocError> {
+pub(crate) fn apart(alloc: Global, threads: u32) -> Result<String, AllocError> {
     let mut text = String::new(alloc);
     for dict in 0..threads {
         text.push_str(&format!(in alloc; "dict d{dict}\n")?)?;

@@ -1,7 +1,6 @@
 //! Walks over dicts, beside changes of what is walked (Python manual, Iterator Types, Mapping Types).
 
-use ft_engine_tests::{Case, comes_out};
-use std::process::Abort;
+use ft_engine_tests::{Case, all_come_out};
 use std::test::Fail;
 
 const DICTS: [Case<'static>; 9] = [
@@ -264,8 +263,5 @@ const DICTS: [Case<'static>; 9] = [
 
 #[test]
 fn walks_over_dicts_come_out_so(rt: HostRuntime) -> Result<(), Fail> {
-    for case in DICTS {
-        assert!(rt; comes_out(rt.alloc(), case)?);
-    }
-    Ok(())
+    all_come_out(rt.alloc(), &DICTS)
 }

@@ -1,7 +1,6 @@
 //! Walks over lists and sets, beside changes of what is walked (Python manual, Iterator Types).
 
-use ft_engine_tests::{Case, comes_out};
-use std::process::Abort;
+use ft_engine_tests::{Case, all_come_out};
 use std::test::Fail;
 
 const OTHERS: [Case<'static>; 6] = [
@@ -172,8 +171,5 @@ const OTHERS: [Case<'static>; 6] = [
 
 #[test]
 fn walks_over_lists_and_sets_come_out_so(rt: HostRuntime) -> Result<(), Fail> {
-    for case in OTHERS {
-        assert!(rt; comes_out(rt.alloc(), case)?);
-    }
-    Ok(())
+    all_come_out(rt.alloc(), &OTHERS)
 }

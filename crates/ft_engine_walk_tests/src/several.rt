@@ -1,7 +1,6 @@
 //! Several cursors on one container (Python manual, Iterator Types: a cursor is its thread's).
 
-use ft_engine_tests::{Case, comes_out};
-use std::process::Abort;
+use ft_engine_tests::{Case, all_come_out};
 use std::test::Fail;
 
 const SEVERAL: [Case<'static>; 3] = [
@@ -78,8 +77,5 @@ const SEVERAL: [Case<'static>; 3] = [
 
 #[test]
 fn each_cursor_walks_by_itself(rt: HostRuntime) -> Result<(), Fail> {
-    for case in SEVERAL {
-        assert!(rt; comes_out(rt.alloc(), case)?);
-    }
-    Ok(())
+    all_come_out(rt.alloc(), &SEVERAL)
 }

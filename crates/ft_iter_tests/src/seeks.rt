@@ -5,6 +5,7 @@ ghost use Rattle.ft_layout.specs.Tables.{table_length};
 
 use ft_iter::seek;
 use ft_keys::{ListWords, Steps, Words};
+use std::alloc::AllocError;
 use std::marker::Brand;
 use std::process::Abort;
 use std::sync::ledger::{Blank, Ledger};
@@ -42,43 +43,160 @@ fn seek_in(rt: &impl Abort, words: &mut [u64], fill: u64, after: Option<u64>) ->
     seek_by::<Brand>(words, fill, after, Blank::new(1))
 }
 
+/// What an entry of the table has.
+struct Entry {
+    place: u64,
+    kind: u64,
+    serial: u64,
+}
+
+const ENTRIES: [Entry; 5] = [
+    Entry {
+        place: 0,
+        kind: 1,
+        serial: 3,
+    },
+    Entry {
+        place: 1,
+        kind: 3,
+        serial: 5,
+    },
+    Entry {
+        place: 2,
+        kind: 2,
+        serial: 9,
+    },
+    Entry {
+        place: 3,
+        kind: 4,
+        serial: 12,
+    },
+    Entry {
+        place: 4,
+        kind: 1,
+        serial: 20,
+    },
+];
+
+/// A search among the first entries, so many of them, for the one that follows a serial, and the place that it finds.
+struct Seek {
+    fill: u64,
+    after: Option<u64>,
+    found: Option<u64>,
+}
+
+const SEEKS: [Seek; 18] = [
+    Seek {
+        fill: 5,
+        after: None,
+        found: Some(0),
+    },
+    Seek {
+        fill: 5,
+        after: Some(0),
+        found: Some(0),
+    },
+    Seek {
+        fill: 5,
+        after: Some(2),
+        found: Some(0),
+    },
+    Seek {
+        fill: 5,
+        after: Some(3),
+        found: Some(2),
+    },
+    Seek {
+        fill: 5,
+        after: Some(4),
+        found: Some(2),
+    },
+    Seek {
+        fill: 5,
+        after: Some(5),
+        found: Some(2),
+    },
+    Seek {
+        fill: 5,
+        after: Some(8),
+        found: Some(2),
+    },
+    Seek {
+        fill: 5,
+        after: Some(9),
+        found: Some(4),
+    },
+    Seek {
+        fill: 5,
+        after: Some(12),
+        found: Some(4),
+    },
+    Seek {
+        fill: 5,
+        after: Some(19),
+        found: Some(4),
+    },
+    Seek {
+        fill: 5,
+        after: Some(20),
+        found: None,
+    },
+    Seek {
+        fill: 5,
+        after: Some(u64::MAX),
+        found: None,
+    },
+    Seek {
+        fill: 4,
+        after: Some(8),
+        found: Some(2),
+    },
+    Seek {
+        fill: 4,
+        after: Some(9),
+        found: None,
+    },
+    Seek {
+        fill: 2,
+        after: Some(3),
+        found: None,
+    },
+    Seek {
+        fill: 1,
+        after: None,
+        found: Some(0),
+    },
+    Seek {
+        fill: 0,
+        after: None,
+        found: None,
+    },
+    Seek {
+        fill: 0,
+        after: Some(7),
+        found: None,
+    },
+];
+
+/// The words of the table.
+fn filled(rt: &(impl Abort + AllocGlobal)) -> Result<Vec<u64>, AllocError> {
+    let mut words = vec![in rt.alloc(); 0u64; 50]?;
+    for entry in &ENTRIES {
+        put(rt, &mut words, entry.place, entry.kind, entry.serial);
+    }
+    Ok(words)
+}
+
 #[test]
 fn the_least_greater_serial_is_found(rt: HostRuntime) -> Result<(), Fail> {
-    let mut words = vec![in rt.alloc(); 0u64; 50]?;
-    for (place, kind, serial) in [
-        (0u64, 1u64, 3u64),
-        (1, 3, 5),
-        (2, 2, 9),
-        (3, 4, 12),
-        (4, 1, 20),
-    ] {
-        put(&rt, &mut words, place, kind, serial);
-    }
-    let wanted = [
-        (5u64, None, Some(0u64)),
-        (5, Some(0u64), Some(0)),
-        (5, Some(2), Some(0)),
-        (5, Some(3), Some(2)),
-        (5, Some(4), Some(2)),
-        (5, Some(5), Some(2)),
-        (5, Some(8), Some(2)),
-        (5, Some(9), Some(4)),
-        (5, Some(12), Some(4)),
-        (5, Some(19), Some(4)),
-        (5, Some(20), None),
-        (5, Some(u64::MAX), None),
-        (4, Some(8), Some(2)),
-        (4, Some(9), None),
-        (2, Some(3), None),
-        (1, None, Some(0)),
-        (0, None, None),
-        (0, Some(7), None),
-    ];
-    for (fill, after, found) in wanted {
+    let mut words = filled(&rt)?;
+    for seek in &SEEKS {
+        let found = seek_in(&rt, &mut words, seek.fill, seek.after);
         assert_eq!(rt;
-            seek_in(&rt, &mut words, fill, after),
             found,
-            "after {after:?} of {fill}"
+            seek.found,
+            "after {:?} of {}",
+            seek.after, seek.fill
         );
     }
     Ok(())

@@ -14,21 +14,32 @@ use ft_layout::{
     words_follow_a_set, words_have_their_numbers,
 };
 use ft_model::{Key, Sym, Value};
+use std::process::Abort;
 use std::test::Fail;
 
 const MINUS_ONE: u64 = 18446744073709551615;
 
 const LEAST: u64 = 9223372036854775808;
 
+/// Whether each number is the one that stands at its place in the table, beside the call that gives it.
+fn check_each(rt: &impl Abort, found: &[u64], wanted: &[(&str, u64)]) {
+    assert_eq!(rt; found.len(), wanted.len());
+    for (place, (call, want)) in wanted.iter().enumerate() {
+        assert_eq!(rt; found.get(place).copied(), Some(*want), "{call}");
+    }
+}
+
+/// The size of a table of each class, class 3 first.
+const SIZES: [u64; 14] = [
+    50, 98, 202, 402, 810, 1618, 3242, 6482, 12970, 25938, 51882, 103762, 207530, 415058,
+];
+
 #[test]
 fn tables_have_their_words(rt: HostRuntime) -> Result<(), Fail> {
-    let wanted: [u64; 14] = [
-        50, 98, 202, 402, 810, 1618, 3242, 6482, 12970, 25938, 51882, 103762, 207530, 415058,
-    ];
     for class in 3..17 {
         assert_eq!(rt;
             table_size(class),
-            wanted[(class - 3) as usize],
+            SIZES[(class - 3) as usize],
             "of class {class}"
         );
     }
@@ -36,146 +47,227 @@ fn tables_have_their_words(rt: HostRuntime) -> Result<(), Fail> {
 }
 
 // A table of class 3 has 8 slots after its header, and then 5 entries; as a list's, 8 items.
+const FIELDS: [(&str, u64); 7] = [
+    ("index_at(0)", 2),
+    ("index_at(7)", 9),
+    ("entry_at(7, 0, 0)", 10),
+    ("entry_at(7, 0, 7)", 17),
+    ("entry_at(7, 4, 7)", 49),
+    ("item_at(0, 0)", 2),
+    ("item_at(7, 3)", 33),
+];
+
 #[test]
 fn fields_lie_after_each_other(rt: HostRuntime) -> Result<(), Fail> {
-    assert_eq!(rt; index_at(0), 2);
-    assert_eq!(rt; index_at(7), 9);
-    assert_eq!(rt; entry_at(7, 0, 0), 10);
-    assert_eq!(rt; entry_at(7, 0, 7), 17);
-    assert_eq!(rt; entry_at(7, 4, 7), 49);
-    assert_eq!(rt; item_at(0, 0), 2);
-    assert_eq!(rt; item_at(7, 3), 33);
+    let found = [
+        index_at(0),
+        index_at(7),
+        entry_at(7, 0, 0),
+        entry_at(7, 0, 7),
+        entry_at(7, 4, 7),
+        item_at(0, 0),
+        item_at(7, 3),
+    ];
+    check_each(&rt, &found, &FIELDS);
     Ok(())
 }
 
 // Two containers, and two passes with 64 places each: one word of bits and 192 of boxes.
+const STARTS: [(&str, u64); 13] = [
+    ("announced_word(0)", 2),
+    ("announced_word(63)", 65),
+    ("free_count_word(3)", 66),
+    ("free_count_word(16)", 79),
+    ("free_word(3, 0)", 80),
+    ("free_word(16, 15)", 303),
+    ("block_start(0)", 304),
+    ("block_start(1)", 312),
+    ("heap_start(2, 64, 0)", 320),
+    ("box_start(2, 64, 0, 0)", 321),
+    ("box_start(2, 64, 0, 63)", 510),
+    ("heap_start(2, 64, 1)", 513),
+    ("box_start(2, 64, 1, 0)", 514),
+];
+
 #[test]
 fn parts_of_a_small_bank_begin_where_the_last_ended(rt: HostRuntime) -> Result<(), Fail> {
-    let tables = [2, 1, 1, 1, 1, 1, 1, 1, 1, 1, 1, 1, 1, 1];
-    assert_eq!(rt; announced_word(0), 2);
-    assert_eq!(rt; announced_word(63), 65);
-    assert_eq!(rt; free_count_word(3), 66);
-    assert_eq!(rt; free_count_word(16), 79);
-    assert_eq!(rt; free_word(3, 0), 80);
-    assert_eq!(rt; free_word(16, 15), 303);
-    assert_eq!(rt; block_start(0), 304);
-    assert_eq!(rt; block_start(1), 312);
-    assert_eq!(rt; heap_start(2, 64, 0), 320);
-    assert_eq!(rt; box_start(2, 64, 0, 0), 321);
-    assert_eq!(rt; box_start(2, 64, 0, 63), 510);
-    assert_eq!(rt; heap_start(2, 64, 1), 513);
-    assert_eq!(rt; box_start(2, 64, 1, 0), 514);
-    assert_eq!(rt; table_start(2, 64, 2, &tables, 3, 0), 706);
-    assert_eq!(rt; table_start(2, 64, 2, &tables, 3, 1), 756);
-    assert_eq!(rt; table_start(2, 64, 2, &tables, 4, 0), 806);
-    assert_eq!(rt; table_start(2, 64, 2, &tables, 5, 0), 904);
-    assert_eq!(rt; table_start(2, 64, 2, &tables, 16, 0), 415742);
-    assert_eq!(rt; bank_size(2, 64, 2, &tables), 830800);
+    let found = [
+        announced_word(0),
+        announced_word(63),
+        free_count_word(3),
+        free_count_word(16),
+        free_word(3, 0),
+        free_word(16, 15),
+        block_start(0),
+        block_start(1),
+        heap_start(2, 64, 0),
+        box_start(2, 64, 0, 0),
+        box_start(2, 64, 0, 63),
+        heap_start(2, 64, 1),
+        box_start(2, 64, 1, 0),
+    ];
+    check_each(&rt, &found, &STARTS);
     Ok(())
 }
+
+// The tables of the same bank: two of class 3, and one of each greater class.
+const TABLE_STARTS: [(&str, u64); 6] = [
+    ("table_start(2, 64, 2, &tables, 3, 0)", 706),
+    ("table_start(2, 64, 2, &tables, 3, 1)", 756),
+    ("table_start(2, 64, 2, &tables, 4, 0)", 806),
+    ("table_start(2, 64, 2, &tables, 5, 0)", 904),
+    ("table_start(2, 64, 2, &tables, 16, 0)", 415742),
+    ("bank_size(2, 64, 2, &tables)", 830800),
+];
+
+#[test]
+fn tables_of_a_small_bank_begin_where_the_last_ended(rt: HostRuntime) -> Result<(), Fail> {
+    let tables = [2, 1, 1, 1, 1, 1, 1, 1, 1, 1, 1, 1, 1, 1];
+    let found = [
+        table_start(2, 64, 2, &tables, 3, 0),
+        table_start(2, 64, 2, &tables, 3, 1),
+        table_start(2, 64, 2, &tables, 4, 0),
+        table_start(2, 64, 2, &tables, 5, 0),
+        table_start(2, 64, 2, &tables, 16, 0),
+        bank_size(2, 64, 2, &tables),
+    ];
+    check_each(&rt, &found, &TABLE_STARTS);
+    Ok(())
+}
+
+const ROOT_WORDS: [(&str, u64); 2] = [
+    ("root_word(3, 0)", 196609),
+    ("root_word(16, 1023)", 1049600),
+];
+
+/// A word, and the class and number of the table that it names as a root.
+const ROOTS: [(u64, Option<(u32, u32)>); 9] = [
+    (0, None),
+    (1, None),
+    (196608, None),
+    (196609, Some((3, 0))),
+    (197632, Some((3, 1023))),
+    (197633, None),
+    (1049600, Some((16, 1023))),
+    (1114113, None),
+    (MINUS_ONE, None),
+];
 
 #[test]
 fn a_root_names_a_table_or_none(rt: HostRuntime) -> Result<(), Fail> {
-    assert_eq!(rt; root_word(3, 0), 196609);
-    assert_eq!(rt; root_word(16, 1023), 1049600);
-    let wanted: [(u64, Option<(u32, u32)>); 9] = [
-        (0, None),
-        (1, None),
-        (196608, None),
-        (196609, Some((3, 0))),
-        (197632, Some((3, 1023))),
-        (197633, None),
-        (1049600, Some((16, 1023))),
-        (1114113, None),
-        (MINUS_ONE, None),
-    ];
-    for (word, table) in wanted {
-        assert_eq!(rt; root_of(word), table, "of {word}");
+    check_each(&rt, &[root_word(3, 0), root_word(16, 1023)], &ROOT_WORDS);
+    for (word, table) in &ROOTS {
+        assert_eq!(rt; root_of(*word), *table, "of {word}");
     }
     Ok(())
 }
+
+const LOCK_WORDS: [(&str, u64); 3] = [
+    ("lock_word(None)", 0),
+    ("lock_word(Some(0))", 1),
+    ("lock_word(Some(63))", 64),
+];
+
+/// A word, and the pass that it names as a lock's holder.
+const HOLDERS: [(u64, Option<u32>); 5] = [
+    (0, None),
+    (1, Some(0)),
+    (64, Some(63)),
+    (65, None),
+    (MINUS_ONE, None),
+];
 
 #[test]
 fn a_lock_names_its_holder_or_none(rt: HostRuntime) -> Result<(), Fail> {
-    assert_eq!(rt; lock_word(None), 0);
-    assert_eq!(rt; lock_word(Some(0)), 1);
-    assert_eq!(rt; lock_word(Some(63)), 64);
-    let wanted: [(u64, Option<u32>); 5] = [
-        (0, None),
-        (1, Some(0)),
-        (64, Some(63)),
-        (65, None),
-        (MINUS_ONE, None),
-    ];
-    for (word, holder) in wanted {
-        assert_eq!(rt; lock_of(word), holder, "of {word}");
+    let found = [lock_word(None), lock_word(Some(0)), lock_word(Some(63))];
+    check_each(&rt, &found, &LOCK_WORDS);
+    for (word, holder) in &HOLDERS {
+        assert_eq!(rt; lock_of(*word), *holder, "of {word}");
     }
     Ok(())
 }
 
-const fn live(key: Key, value: Stored) -> Option<Slot> {
-    Some(Slot::Live(Pair {
-        hash: 5,
-        key,
-        value,
-        serial: 9,
-    }))
-}
+/// An entry that has the key 7.
+const SEVEN: Option<Slot> = Some(Slot::Live(Pair {
+    hash: 5,
+    key: Key::Int(7),
+    value: Stored::Plain(Value::Nothing),
+    serial: 9,
+}));
+
+const BELOW_ZERO: Option<Slot> = Some(Slot::Live(Pair {
+    hash: 5,
+    key: Key::Int(-1),
+    value: Stored::Plain(Value::Nothing),
+    serial: 9,
+}));
+
+const TEXT: Option<Slot> = Some(Slot::Live(Pair {
+    hash: 5,
+    key: Key::Text(Sym(7)),
+    value: Stored::Plain(Value::Nothing),
+    serial: 9,
+}));
+
+/// Words, and the entry that they are.
+const ENTRIES: [([u64; 8], Option<Slot>); 14] = [
+    ([0, 0, 0, 0, 0, 0, 0, 0], Some(Slot::Never)),
+    ([8, 5, 0, 0, 0, 0, 9, 1], Some(Slot::Never)),
+    ([0, 5, 1, 7, 1, 0, 9, 0], SEVEN),
+    ([2, 5, 1, MINUS_ONE, 1, 0, 9, 3], BELOW_ZERO),
+    ([0, 5, 2, 7, 1, 0, 9, 0], TEXT),
+    ([0, 5, 3, 7, 1, 0, 9, 0], Some(Slot::Gone(Key::Int(7), 9))),
+    (
+        [0, 5, 4, 7, 0, 0, 9, 0],
+        Some(Slot::Gone(Key::Text(Sym(7)), 9)),
+    ),
+    ([0, 5, 0, 7, 0, 0, 9, 0], None),
+    ([0, 5, 0, 0, 1, 0, 9, 0], None),
+    ([0, 5, 2, 4294967296, 1, 0, 9, 0], None),
+    ([0, 5, 4, 4294967296, 1, 0, 9, 0], None),
+    ([0, 5, 5, 7, 1, 0, 9, 0], None),
+    ([0, 5, 1, 7, 5, 0, 9, 0], None),
+    ([0, 5, 3, 7, 1, 1, 9, 0], None),
+];
 
 #[test]
 fn entries_are_read_by_the_kind_of_their_key(rt: HostRuntime) -> Result<(), Fail> {
-    let none = Stored::Plain(Value::Nothing);
-    let wanted: [([u64; 8], Option<Slot>); 14] = [
-        ([0, 0, 0, 0, 0, 0, 0, 0], Some(Slot::Never)),
-        ([8, 5, 0, 0, 0, 0, 9, 1], Some(Slot::Never)),
-        ([0, 5, 1, 7, 1, 0, 9, 0], live(Key::Int(7), none)),
-        ([2, 5, 1, MINUS_ONE, 1, 0, 9, 3], live(Key::Int(-1), none)),
-        ([0, 5, 2, 7, 1, 0, 9, 0], live(Key::Text(Sym(7)), none)),
-        ([0, 5, 3, 7, 1, 0, 9, 0], Some(Slot::Gone(Key::Int(7), 9))),
-        (
-            [0, 5, 4, 7, 0, 0, 9, 0],
-            Some(Slot::Gone(Key::Text(Sym(7)), 9)),
-        ),
-        ([0, 5, 0, 7, 0, 0, 9, 0], None),
-        ([0, 5, 0, 0, 1, 0, 9, 0], None),
-        ([0, 5, 2, 4294967296, 1, 0, 9, 0], None),
-        ([0, 5, 4, 4294967296, 1, 0, 9, 0], None),
-        ([0, 5, 5, 7, 1, 0, 9, 0], None),
-        ([0, 5, 1, 7, 5, 0, 9, 0], None),
-        ([0, 5, 3, 7, 1, 1, 9, 0], None),
-    ];
-    for (words, slot) in wanted {
-        assert_eq!(rt; entry_of(&words), slot, "of {words:?}");
+    for (words, slot) in &ENTRIES {
+        assert_eq!(rt; entry_of(words), *slot, "of {words:?}");
     }
     Ok(())
 }
 
+/// Words, and what the item stores that they are.
+const ITEMS: [([u64; 4], Option<Stored>); 13] = [
+    ([0, 0, 0, 0], Some(Stored::Empty)),
+    ([6, 0, 0, 6], Some(Stored::Empty)),
+    ([0, 1, 0, 0], Some(Stored::Plain(Value::Nothing))),
+    ([0, 2, 7, 0], Some(Stored::Plain(Value::Int(7)))),
+    ([0, 2, LEAST, 0], Some(Stored::Plain(Value::Int(i64::MIN)))),
+    (
+        [0, 3, 4294967295, 0],
+        Some(Stored::Plain(Value::Text(Sym(4294967295)))),
+    ),
+    (
+        [0, 4, 4132863, 0],
+        Some(Stored::Boxed(Ref {
+            pass: 63,
+            place: 4095,
+        })),
+    ),
+    ([0, 0, 1, 0], None),
+    ([0, 1, 1, 0], None),
+    ([0, 3, 4294967296, 0], None),
+    ([0, 4, 4096, 0], None),
+    ([0, 4, 4194304, 0], None),
+    ([0, 5, 0, 0], None),
+];
+
 #[test]
 fn items_are_read_by_the_kind_of_their_value(rt: HostRuntime) -> Result<(), Fail> {
-    let last = Ref {
-        pass: 63,
-        place: 4095,
-    };
-    let wanted: [([u64; 4], Option<Stored>); 13] = [
-        ([0, 0, 0, 0], Some(Stored::Empty)),
-        ([6, 0, 0, 6], Some(Stored::Empty)),
-        ([0, 1, 0, 0], Some(Stored::Plain(Value::Nothing))),
-        ([0, 2, 7, 0], Some(Stored::Plain(Value::Int(7)))),
-        ([0, 2, LEAST, 0], Some(Stored::Plain(Value::Int(i64::MIN)))),
-        (
-            [0, 3, 4294967295, 0],
-            Some(Stored::Plain(Value::Text(Sym(4294967295)))),
-        ),
-        ([0, 4, 4132863, 0], Some(Stored::Boxed(last))),
-        ([0, 0, 1, 0], None),
-        ([0, 1, 1, 0], None),
-        ([0, 3, 4294967296, 0], None),
-        ([0, 4, 4096, 0], None),
-        ([0, 4, 4194304, 0], None),
-        ([0, 5, 0, 0], None),
-    ];
-    for (words, stored) in wanted {
-        assert_eq!(rt; item_of(&words), stored, "of {words:?}");
+    for (words, stored) in &ITEMS {
+        assert_eq!(rt; item_of(words), *stored, "of {words:?}");
     }
     Ok(())
 }
@@ -197,16 +289,33 @@ fn words_are_written_as_they_are_read(rt: HostRuntime) -> Result<(), Fail> {
     Ok(())
 }
 
+const KINDS_AND_PAYLOADS: [(&str, u64); 8] = [
+    ("kind_of(Key::Int(-2))", 1),
+    ("kind_of(Key::Text(Sym(0)))", 2),
+    ("gone_kind_of(Key::Int(-2))", 3),
+    ("gone_kind_of(Key::Text(Sym(0)))", 4),
+    ("payload_of(Key::Int(i64::MIN))", LEAST),
+    ("payload_of(Key::Text(Sym(6)))", 6),
+    ("stored_kind_of(Stored::Plain(Value::Nothing))", 1),
+    (
+        "stored_payload_of(Stored::Plain(Value::Int(-1)))",
+        MINUS_ONE,
+    ),
+];
+
 #[test]
 fn keys_and_values_have_kind_and_payload(rt: HostRuntime) -> Result<(), Fail> {
-    assert_eq!(rt; kind_of(Key::Int(-2)), 1);
-    assert_eq!(rt; kind_of(Key::Text(Sym(0))), 2);
-    assert_eq!(rt; gone_kind_of(Key::Int(-2)), 3);
-    assert_eq!(rt; gone_kind_of(Key::Text(Sym(0))), 4);
-    assert_eq!(rt; payload_of(Key::Int(i64::MIN)), LEAST);
-    assert_eq!(rt; payload_of(Key::Text(Sym(6))), 6);
-    assert_eq!(rt; stored_kind_of(Stored::Plain(Value::Nothing)), 1);
-    assert_eq!(rt; stored_payload_of(Stored::Plain(Value::Int(-1))), MINUS_ONE);
+    let found = [
+        kind_of(Key::Int(-2)),
+        kind_of(Key::Text(Sym(0))),
+        gone_kind_of(Key::Int(-2)),
+        gone_kind_of(Key::Text(Sym(0))),
+        payload_of(Key::Int(i64::MIN)),
+        payload_of(Key::Text(Sym(6))),
+        stored_kind_of(Stored::Plain(Value::Nothing)),
+        stored_payload_of(Stored::Plain(Value::Int(-1))),
+    ];
+    check_each(&rt, &found, &KINDS_AND_PAYLOADS);
     Ok(())
 }
 
@@ -259,8 +368,7 @@ impl<'a> Take for ListedWords<'a> {
 fn words_are_read_one_at_a_time(rt: HostRuntime) -> Result<(), Fail> {
     let words = [8, 5, 1, 7, 1, 0, 9, 8, 8, 2, 9, 8];
     let mut list = ListedWords { words: &words };
-    let none = Stored::Plain(Value::Nothing);
-    assert_eq!(rt; read_entry(&mut list, 0), live(Key::Int(7), none));
+    assert_eq!(rt; read_entry(&mut list, 0), SEVEN);
     assert_eq!(rt; read_item(&mut list, 8), Some(Stored::Plain(Value::Int(9))));
     Ok(())
 }

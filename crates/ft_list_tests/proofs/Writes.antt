@@ -8,14 +8,14 @@ use Rattle.ft_trace.specs.declared.View.{View}
 use Rattle.ft_trace.specs.Acts.{has_committed, has_lock, is_writing, noted}
 use Rattle.ft_trace.specs.Addresses.{class_of, containers_in, slots}
 use Rattle.ft_trace.specs.Holds.{held}
-use Rattle.ft_trace.specs.Words.{root_in}
-use Rattle.ft_trace.specs.Worlds.{kind_in}
+use Rattle.ft_trace.specs.Pictures.{root_in}
+use Rattle.ft_trace.specs.ContainerStates.{kind_in}
 use Rattle.ft_trace.proofs.Cases.{hit}
 use Rattle.ft_bank.specs.declared.table.Table.{Table}
-use Rattle.ft_bank.specs.Tables.{name_of, IsTableIn}
-use Rattle.ft_bank.proofs.Tables.{class_is}
-use Rattle.ft_bank.proofs.Whole.{loaded_by, loaded_held}
-use Rattle.ft_list.specs.Items.{WritesList}
+use Rattle.ft_bank.specs.TableNames.{name_of, IsTableIn}
+use Rattle.ft_bank.proofs.TableAddresses.{class_is}
+use Rattle.ft_bank.proofs.KnownAfterWrites.{loaded_by, loaded_held}
+use Rattle.ft_list.specs.ListItemWrites.{WritesList}
 
 module _ (k : Shape) (o root f : ℕ) (v u w : View) (read : u ≡ noted (ReadBlock o 0 root) v) (start : w ≡ noted (StartWrite o f) u) where
   pub begun_list : (t : Table) → o < containers_in k → kind_in k.kinds o ≡ kind.List → has_lock o v.log ≡ true → root ≡ root_in (held o v) → root ≡ suc (name_of t) → IsTableIn k t → WritesList k o t w

@@ -5,7 +5,7 @@ ghost use Rattle.ft_list_tests.specs.TestCalls.{HasTwoLists, MayTryAny};
 
 use crate::banks::small_bank;
 use crate::calls::{look_call, try_call};
-use crate::python::extend;
+use crate::python::{Python, call_of};
 use ft_bank::{Bank, Pass};
 use ft_model::{ListCall, Raise, Reply, Value};
 use ft_section::{Look, Stamp, new_passes_are_ready};
@@ -29,71 +29,81 @@ pub(crate) enum Said {
     Raised(Raise),
 }
 
-/// A call on a list of a bank, and what it is to answer.
+/// A row of a table: a call on list 0 or 1 of a bank, and what it is to answer.
 #[derive(Clone, Copy)]
-pub(crate) struct Row {
-    /// How often the call is made.
-    pub times: u32,
-    /// 0 or 1.
-    pub list: u32,
-    /// Which call.
-    pub call: ListCall,
-    /// Is it made without locks, by another pass?
-    pub looks: bool,
-    /// Is it a write?
-    pub wrote: bool,
-    /// What it is to reply, each time.
-    pub said: Said,
+pub(crate) enum Row {
+    /// This list, this call: a write that has nothing to show.
+    Writes(u32, Python),
+    /// So often, this list, this call: the same.
+    Repeats(u32, u32, Python),
+    /// This list is extended by itself so often.
+    Doubles(u32, u32),
+    /// This list, this call: a write that gives the integer which it takes out.
+    Takes(u32, Python, i64),
+    /// This list, this call, this reply: a call under locks that is no write.
+    Reads(u32, Python, Said),
+    /// This list, this call, this reply: a call without locks.
+    Looks(u32, Python, Said),
+    /// This list, this call: a call under locks that raises this exception.
+    Raises(u32, Python, Raise),
 }
 
-/// A write that has nothing to show.
-pub(crate) fn writes(list: u32, call: ListCall) -> Row {
-    Row {
+/// The call of a row, and how it is made.
+#[derive(Clone, Copy)]
+struct Asked {
+    /// How often the call is made.
+    times: u32,
+    /// 0 or 1.
+    list: u32,
+    /// Which call.
+    call: ListCall,
+    /// Is it made without locks, by another pass?
+    looks: bool,
+    /// Is it a write?
+    wrote: bool,
+    /// What it is to reply, each time.
+    said: Said,
+}
+
+/// A call under locks, made once.
+fn once(list: u32, python: Python, wrote: bool, said: Said) -> Asked {
+    Asked {
         times: 1,
         list,
-        call,
+        call: call_of(python),
         looks: false,
-        wrote: true,
-        said: Said::Done,
-    }
-}
-
-/// The list is extended by itself so often.
-pub(crate) fn doubles(list: u32, times: u32) -> Row {
-    Row {
-        times,
-        ..writes(list, extend(list))
-    }
-}
-
-/// A write that gives the integer which it takes out.
-pub(crate) fn takes(list: u32, call: ListCall, integer: i64) -> Row {
-    Row {
-        said: Said::Int(integer),
-        ..writes(list, call)
-    }
-}
-
-/// A call under locks that is no write.
-pub(crate) fn reads(list: u32, call: ListCall, said: Said) -> Row {
-    Row {
-        wrote: false,
+        wrote,
         said,
-        ..writes(list, call)
+    }
+}
+
+/// A write that has nothing to show, made so often.
+fn repeated(times: u32, list: u32, python: Python) -> Asked {
+    Asked {
+        times,
+        ..once(list, python, true, Said::Done)
     }
 }
 
 /// A call without locks.
-pub(crate) fn looks(list: u32, call: ListCall, said: Said) -> Row {
-    Row {
+fn looked(list: u32, python: Python, said: Said) -> Asked {
+    Asked {
         looks: true,
-        ..reads(list, call, said)
+        ..once(list, python, false, said)
     }
 }
 
-/// A call under locks that raises an exception.
-pub(crate) fn raises(list: u32, call: ListCall, raise: Raise) -> Row {
-    reads(list, call, Said::Raised(raise))
+/// What a row asks for.
+fn asked_by(row: Row) -> Asked {
+    match row {
+        Row::Writes(list, python) => once(list, python, true, Said::Done),
+        Row::Repeats(times, list, python) => repeated(times, list, python),
+        Row::Doubles(list, times) => repeated(times, list, Python::Extend(list)),
+        Row::Takes(list, python, integer) => once(list, python, true, Said::Int(integer)),
+        Row::Reads(list, python, said) => once(list, python, false, said),
+        Row::Looks(list, python, said) => looked(list, python, said),
+        Row::Raises(list, python, raise) => once(list, python, false, Said::Raised(raise)),
+    }
 }
 
 /// Whether it is a list of these integers.
@@ -126,12 +136,12 @@ fn is_said(reply: &Reply, said: Said) -> bool {
 }
 
 /// Whether a call is answered as the row says, with that many writes before it.
-fn is_answer(reply: &Reply, stamp: Stamp, row: Row, number: u64) -> bool {
+fn is_answer(reply: &Reply, stamp: Stamp, row: Asked, number: u64) -> bool {
     is_said(reply, row.said) && stamp.number == number && stamp.wrote == row.wrote
 }
 
 /// Makes the call of a row under its locks. Says whether it answers as the row says.
-fn is_tried(bank: &Bank, pass: &mut Pass, alloc: Global, row: Row, number: u64) -> bool
+fn is_tried(bank: &Bank, pass: &mut Pass, alloc: Global, row: Asked, number: u64) -> bool
     requires lists { HasTwoLists bank.now }
     requires may { MayTryAny bank.now pass.old }
     ensures may { result ≡ true → MayTryAny bank.now pass.new }
@@ -143,7 +153,7 @@ fn is_tried(bank: &Bank, pass: &mut Pass, alloc: Global, row: Row, number: u64) 
 }
 
 /// Makes the call of a row without locks. Says whether it answers as the row says.
-fn is_found(bank: &Bank, reader: &mut Pass, alloc: Global, row: Row, number: u64) -> bool
+fn is_found(bank: &Bank, reader: &mut Pass, alloc: Global, row: Asked, number: u64) -> bool
     requires lists { HasTwoLists bank.now }
     requires pass { IsPassOf bank.now reader.old }
     ensures pass { IsPassOf bank.now reader.new }
@@ -160,7 +170,7 @@ fn is_made(
     pass: &mut Pass,
     reader: &mut Pass,
     alloc: Global,
-    row: Row,
+    row: Asked,
     number: u64,
 ) -> bool
     requires lists { HasTwoLists bank.now }
@@ -183,7 +193,7 @@ fn made_all(
     pass: &mut Pass,
     reader: &mut Pass,
     alloc: Global,
-    row: Row,
+    row: Asked,
     number: u64,
 ) -> Option<u64>
     requires lists { HasTwoLists bank.now }
@@ -217,7 +227,7 @@ fn first_of(
 {
     let mut number = 0;
     for place in 0..rows.len() {
-        match made_all(bank, pass, reader, alloc, rows[place], number) {
+        match made_all(bank, pass, reader, alloc, asked_by(rows[place]), number) {
             Some(next) => number = next,
             None => return Some(place),
         }

@@ -3,20 +3,20 @@ ghost use Rattle.std.specs.Prelude.{◌≡◌, ◌<◌, true, false, IfSome, OnO
 ghost use Rattle.ft_model.specs.declared.script.Kind.TheVariants as kind;
 ghost use Rattle.ft_trace.specs.Acts.{has_committed, has_lock, is_writing};
 ghost use Rattle.ft_trace.specs.Addresses.{class_of, containers_in, slots};
-ghost use Rattle.ft_trace.specs.Words.{item_at};
-ghost use Rattle.ft_trace.specs.Worlds.{kind_in};
+ghost use Rattle.ft_trace.specs.Pictures.{item_offset};
+ghost use Rattle.ft_trace.specs.ContainerStates.{kind_in};
 ghost use Rattle.ft_bank.specs.Passes.{shape_of, view, IsPassOf};
-ghost use Rattle.ft_bank.specs.Tables.{name_of};
-ghost use Rattle.ft_list.specs.Items.{WritesList};
+ghost use Rattle.ft_bank.specs.TableNames.{name_of};
+ghost use Rattle.ft_list.specs.ListItemWrites.{WritesList};
 ghost use Rattle.ft_list_tests.specs.TestCalls.{HasTwoLists, MayTryAny};
 
 use crate::banks::{small_bank, some_left};
 use crate::calls::{is_list, look_call, try_call};
-use crate::python::{append, equals, get, has};
+use crate::python::{Python, call_of};
 use ft_bank::{Bank, Pass, Table};
 use ft_layout::item_word;
 use ft_list::{look_eq, look_has};
-use ft_model::{ListCall, Reply, Value};
+use ft_model::{Reply, Value};
 use ft_search::table_named;
 use ft_section::{Got, Look, Objects, Stamp, new_passes_are_ready, take_for};
 use std::alloc::Global;
@@ -28,7 +28,7 @@ const HEADER: u64 = 2;
 /// Which word of a table the version of an item is, counted from the header on.
 fn version_at(place: u64) -> u64
     requires { place < 65536 }
-    ensures { result ≡ item_at place 0 }
+    ensures { result ≡ item_offset place 0 }
 {
     ft_layout::item_at(place, item_word::VERSION) - HEADER
 }
@@ -91,7 +91,8 @@ fn fill(bank: &Bank, writer: &mut Pass, alloc: Global) -> Result<(), Fail>
     ensures may { OnOk result (MayTryAny bank.now writer.new) }
 {
     for integer in 0..8i64 {
-        let Some((Reply::Done, _)) = try_call(bank, writer, alloc, 0, append(integer)) else {
+        let call = call_of(Python::Append(integer));
+        let Some((Reply::Done, _)) = try_call(bank, writer, alloc, 0, call) else {
             return Err(Fail::from("an append is done"));
         };
     }
@@ -99,12 +100,12 @@ fn fill(bank: &Bank, writer: &mut Pass, alloc: Global) -> Result<(), Fail>
 }
 
 /// Whether a look at list 0 is contended by two loads of a version that gave this.
-fn is_contended(bank: &Bank, reader: &mut Pass, alloc: Global, call: ListCall, version: u64) -> bool
+fn is_contended(bank: &Bank, reader: &mut Pass, alloc: Global, python: Python, version: u64) -> bool
     requires lists { HasTwoLists bank.now }
     requires pass { IsPassOf bank.now reader.old }
     ensures pass { IsPassOf bank.now reader.new }
 {
-    match look_call(bank, reader, alloc, 0, call) {
+    match look_call(bank, reader, alloc, 0, call_of(python)) {
         Some(Look::Contended(early, late)) => early == version && late == version,
         _ => false,
     }
@@ -123,13 +124,16 @@ fn an_item_whose_version_is_odd_contends_alone(rt: HostRuntime) -> Result<(), Fa
         wrote: false,
     };
     let two = Look::Done(Reply::Value(Value::Int(2)), stamp);
-    assert_eq!(rt; look_call(&bank, &mut reader, alloc, 0, get(2)), Some(two));
-    assert!(rt; is_contended(&bank, &mut reader, alloc, get(3), 3));
-    assert!(rt; is_contended(&bank, &mut reader, alloc, get(-6), 17));
-    assert!(rt; is_contended(&bank, &mut reader, alloc, has(2), 17));
-    assert!(rt; is_contended(&bank, &mut reader, alloc, equals(1), 17));
-    assert!(rt; is_contended(&bank, &mut reader, alloc, ListCall::Len, 17));
-    assert!(rt; is_contended(&bank, &mut reader, alloc, ListCall::Items, 17));
+    assert_eq!(rt;
+        look_call(&bank, &mut reader, alloc, 0, call_of(Python::Get(2))),
+        Some(two)
+    );
+    assert!(rt; is_contended(&bank, &mut reader, alloc, Python::Get(3), 3));
+    assert!(rt; is_contended(&bank, &mut reader, alloc, Python::Get(-6), 17));
+    assert!(rt; is_contended(&bank, &mut reader, alloc, Python::Has(2), 17));
+    assert!(rt; is_contended(&bank, &mut reader, alloc, Python::Equals(1), 17));
+    assert!(rt; is_contended(&bank, &mut reader, alloc, Python::Len, 17));
+    assert!(rt; is_contended(&bank, &mut reader, alloc, Python::Items, 17));
     Ok(())
 }
 

@@ -10,6 +10,7 @@ use ft_model::{
 };
 use printing::{print_content, print_reply};
 use reading::read_call;
+use std::alloc::{AllocError, Global};
 use std::process::Abort;
 use std::test::Fail;
 use tables::{CLASSES, DICTS, KINDS, LISTS, SETS};
@@ -22,40 +23,49 @@ pub struct Case {
     contents: &'static str,
 }
 
-fn start(alloc: std::alloc::Global) -> Result<World, Fail> {
-    let kinds = [
-        Kind::Dict,
-        Kind::Dict,
-        Kind::List,
-        Kind::List,
-        Kind::Set,
-        Kind::Set,
-    ];
+/// The kinds of the containers, in the order of their numbers.
+const DECLARED: [Kind; 6] = [
+    Kind::Dict,
+    Kind::Dict,
+    Kind::List,
+    Kind::List,
+    Kind::Set,
+    Kind::Set,
+];
+
+fn start(alloc: Global) -> Result<World, Fail> {
     let mut declared = Vec::new(alloc);
-    for kind in kinds {
+    for kind in &DECLARED {
         let name = Sequence::new(alloc);
-        declared.push(Declaration { kind, name })?;
+        declared.push(Declaration { kind: *kind, name })?;
     }
     Ok(World::start(alloc, &declared)?)
 }
 
-fn check(rt: &(impl Abort + AllocGlobal), case: &Case) -> Result<(), Fail> {
+/// What the calls reply, made one after the other.
+fn replies_to(
+    rt: &(impl Abort + AllocGlobal),
+    world: &mut World,
+    calls: &str,
+) -> Result<String, Fail> {
     let alloc = rt.alloc();
-    let mut world = start(alloc)?;
     let mut hands = Hands::start(alloc, 3)?;
     let mut replies = String::new(alloc);
-    for text in case.calls.split(" / ") {
+    for text in calls.split(" / ") {
         let call = read_call(text).ok_or("call")?;
-        assert!(rt; is_declared(&world, &hands, &call), "{text}");
-        assert!(rt; has_room(&world, &call));
-        let reply = apply(alloc, &mut world, &mut hands, &call)?;
+        assert!(rt; is_declared(world, &hands, &call), "{text}");
+        assert!(rt; has_room(world, &call), "{text}");
+        let reply = apply(alloc, world, &mut hands, &call)?;
         if replies.len() > 0 {
             replies.push_str(" / ")?;
         }
         replies.push_str(print_reply(alloc, &reply)?.as_str())?;
     }
-    assert_eq!(rt; replies.as_str(), case.replies, "{}", case.calls);
+    Ok(replies)
+}
 
+/// What the containers have that are not empty.
+fn contents_of(alloc: Global, world: &World) -> Result<String, AllocError> {
     let mut contents = String::new(alloc);
     for content in world.contents() {
         if content.len() > 0 {
@@ -65,6 +75,14 @@ fn check(rt: &(impl Abort + AllocGlobal), case: &Case) -> Result<(), Fail> {
             contents.push_str(print_content(alloc, content)?.as_str())?;
         }
     }
+    Ok(contents)
+}
+
+fn check(rt: &(impl Abort + AllocGlobal), case: &Case) -> Result<(), Fail> {
+    let mut world = start(rt.alloc())?;
+    let replies = replies_to(rt, &mut world, case.calls)?;
+    assert_eq!(rt; replies.as_str(), case.replies, "{}", case.calls);
+    let contents = contents_of(rt.alloc(), &world)?;
     assert_eq!(rt; contents.as_str(), case.contents, "{}", case.calls);
     Ok(())
 }
@@ -104,24 +122,57 @@ fn calls_change_and_take_locks_by_their_kind(rt: HostRuntime) -> Result<(), Fail
 }
 
 #[test]
-fn containers_grow_when_they_must(rt: HostRuntime) -> Result<(), Fail> {
+fn classes_follow_how_much_there_is(rt: HostRuntime) -> Result<(), Fail> {
     for (count, dict, set, list) in &CLASSES {
         assert_eq!(rt; dict_class(*count), *dict, "{count}");
         assert_eq!(rt; set_class(*count), *set, "{count}");
         assert_eq!(rt; list_class(*count), *list, "{count}");
     }
-    let table = KeptTable {
-        class: Some(3),
-        fill: 4,
-    };
-    assert_eq!(rt; taken_by_dict(table, 1, 5), None);
-    assert_eq!(rt; taken_by_dict(table, 2, 6), Some(4));
-    assert_eq!(rt; taken_by_set(table, 0, 4), None);
-    assert_eq!(rt; taken_by_set(table, 1, 5), Some(5));
-    assert_eq!(rt; taken_by_list(table, 8), None);
-    assert_eq!(rt; taken_by_list(table, 9), Some(4));
-    assert_eq!(rt; table_of_copy(0).class, None);
-    assert_eq!(rt; table_of_copy(3).class, Some(3));
+    Ok(())
+}
+
+/// A table of class 3 with four entries in use.
+const TABLE: KeptTable = KeptTable {
+    class: Some(3),
+    fill: 4,
+};
+
+/// What a container with that table takes when it gets so many new ones and then has so many, and what a copy has.
+#[derive(Clone, Copy, Debug)]
+enum Asked {
+    Dict(u64, u64),
+    Set(u64, u64),
+    List(u64),
+    Copy(u64),
+}
+
+impl Asked {
+    fn class(self) -> Option<u32> {
+        match self {
+            Asked::Dict(added, count) => taken_by_dict(TABLE, added, count),
+            Asked::Set(added, count) => taken_by_set(TABLE, added, count),
+            Asked::List(count) => taken_by_list(TABLE, count),
+            Asked::Copy(count) => table_of_copy(count).class,
+        }
+    }
+}
+
+const TAKEN: [(Asked, Option<u32>); 8] = [
+    (Asked::Dict(1, 5), None),
+    (Asked::Dict(2, 6), Some(4)),
+    (Asked::Set(0, 4), None),
+    (Asked::Set(1, 5), Some(5)),
+    (Asked::List(8), None),
+    (Asked::List(9), Some(4)),
+    (Asked::Copy(0), None),
+    (Asked::Copy(3), Some(3)),
+];
+
+#[test]
+fn containers_grow_when_they_must(rt: HostRuntime) -> Result<(), Fail> {
+    for (asked, class) in &TAKEN {
+        assert_eq!(rt; asked.class(), *class, "{asked:?}");
+    }
     Ok(())
 }
 

@@ -2,13 +2,13 @@
 ghost use Rattle.std.specs.Prelude.{◌≡◌, [], ◌∷◌, ◌<◌, IfOk, OnOk};
 ghost use Rattle.ft_model.specs.declared.script.Kind.TheVariants as kind;
 ghost use Rattle.ft_trace.specs.Addresses.{containers_in};
-ghost use Rattle.ft_trace.specs.Worlds.{kind_in};
-ghost use Rattle.ft_bank.specs.Openings.{IsOpening, AreOpening};
+ghost use Rattle.ft_trace.specs.ContainerStates.{kind_in};
 ghost use Rattle.ft_bank.specs.Passes.{shape_of, view};
 ghost use Rattle.ft_section.specs.declared.answers.Objects.TheVariants.{One};
 ghost use Rattle.ft_section.specs.Ready.{MayTry};
 
 use ft_bank::{Bank, Pass, Shape};
+use ft_bank_tests::small_shape;
 use ft_list::try_append;
 use ft_model::{Kind, Reply, Value};
 use ft_section::Step;
@@ -19,30 +19,7 @@ use std::test::Fail;
 pub(crate) fn small(alloc: Global) -> Result<Shape, Fail>
     ensures { IfOk result (λ s. (s.kinds.items ≡ kind.List ∷ []) × (s.passes ≡ 2) × (s.calls ≡ 40)) }
 {
-    Ok(Shape {
-        kinds: vec![in alloc; Kind::List]?,
-        texts: Vec::new(alloc),
-        tables: vec![in alloc; 1u32; 14]?,
-        heap: 64,
-        passes: 2,
-        calls: 40,
-    })
-}
-
-/// The two passes of a bank.
-pub(crate) fn two(bank: &Bank, passes: Vec<Pass>) -> Result<(Pass, Pass), Fail>
-    requires { AreOpening bank.now 0 passes.items }
-    ensures { IfOk result (λ p. IsOpening bank.now 0 p.0 × IsOpening bank.now 1 p.1) }
-{
-    let _ = bank;
-    let mut each = passes.into_iter();
-    let Some(first) = each.next() else {
-        return Err(Fail::from("there is pass 0"));
-    };
-    let Some(second) = each.next() else {
-        return Err(Fail::from("there is pass 1"));
-    };
-    Ok((first, second))
+    Ok(small_shape(alloc, vec![in alloc; Kind::List]?, 2, 40)?)
 }
 
 /// Has the pass a call left?
@@ -56,7 +33,7 @@ fn some_left(pass: &Pass) -> Result<(), Fail>
 }
 
 /// Appends an integer.
-#[tactic(auto, using(crate::proofs::Leaving::tried_next))]
+#[tactic(auto, using(crate::proofs::PassesLeft::tried_next))]
 fn append(bank: &Bank, pass: &mut Pass, l: u32, value: i64) -> Result<(), Fail>
     requires may { MayTry bank.now pass.old (One l) }
     requires container { l < containers_in (shape_of bank.now) }

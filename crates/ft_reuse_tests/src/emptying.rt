@@ -1,7 +1,8 @@
 //! Threads that take all tables of a class between them: each table goes into a list and is retired with it.
 ghost use Rattle.std.specs.Prelude.{◌+◌, ◌*◌, ◌^◌, ◌<◌, ◌≤◌};
 ghost use Rattle.ft_bank.specs.Passes.{view};
-ghost use Rattle.ft_reuse_tests.specs.Emptying.{MayCall, MayCallBoth};
+ghost use Rattle.ft_reuse_tests.specs.Emptying.{MayCallBoth};
+ghost use Rattle.ft_list.specs.ListWrites.{MayCallList};
 
 use ft_bank::{Bank, Pass};
 use ft_list::{try_append, try_clear};
@@ -16,8 +17,8 @@ pub(crate) const EACH: u32 = 256;
 /// Appends an item to an empty list, which takes a table, and clears the list, which retires it. Says whether that was
 /// done.
 fn take_out(bank: &Bank, pass: &mut Pass, l: u32) -> bool
-    requires { MayCall bank.now pass.old l }
-    ensures { MayCall bank.now pass.new l }
+    requires { MayCallList bank.now pass.old l }
+    ensures { MayCallList bank.now pass.new l }
 {
     if pass.left() < 2 {
         return false;
@@ -30,17 +31,17 @@ fn take_out(bank: &Bank, pass: &mut Pass, l: u32) -> bool
 
 /// Clears a list.
 fn is_cleared(bank: &Bank, pass: &mut Pass, l: u32) -> bool
-    requires may { MayCall bank.now pass.old l }
+    requires may { MayCallList bank.now pass.old l }
     requires left { 0 < (view pass.old).left }
-    ensures { MayCall bank.now pass.new l }
+    ensures { MayCallList bank.now pass.new l }
 {
     matches!(try_clear(bank, pass, l), Step::Done(Reply::Done, _))
 }
 
 /// Takes tables out until there are enough, in some thousand tries; answers how many.
 fn take_each(bank: &Bank, mut pass: Pass, l: u32) -> (Pass, u32)
-    requires { MayCall bank.now pass l }
-    ensures may { MayCall bank.now result.0 l }
+    requires { MayCallList bank.now pass l }
+    ensures may { MayCallList bank.now result.0 l }
     ensures few { result.1 ≤ 256 }
 {
     let mut taken = 0;
@@ -56,19 +57,19 @@ fn take_each(bank: &Bank, mut pass: Pass, l: u32) -> (Pass, u32)
 fn take_in_two<R: Threads>(rt: &R, bank: &Bank, passes: (Pass, Pass), l: u32) -> (Pass, u32)
     requires both { MayCallBoth bank.now passes l }
     requires low { l < 2 ^ 31 }
-    ensures may { MayCall bank.now result.0 l }
+    ensures may { MayCallList bank.now result.0 l }
     ensures few { result.1 ≤ 2 * 256 }
 {
     let (one, other) = passes;
     let ((first, ours), (_, theirs)) = thread::join(
         rt,
         move || -> (Pass, u32)
-            requires { MayCall bank.now one l }
-            ensures { MayCall bank.entry.now result.0 l × (result.1 ≤ 256) }
+            requires { MayCallList bank.now one l }
+            ensures { MayCallList bank.entry.now result.0 l × (result.1 ≤ 256) }
         { take_each(bank, one, l) },
         move || -> (Pass, u32)
-            requires { MayCall bank.now other (l + 1) × (l < 2 ^ 31) }
-            ensures { MayCall bank.entry.now result.0 (l + 1) × (result.1 ≤ 256) }
+            requires { MayCallList bank.now other (l + 1) × (l < 2 ^ 31) }
+            ensures { MayCallList bank.entry.now result.0 (l + 1) × (result.1 ≤ 256) }
         { take_each(bank, other, l + 1) },
     );
     (first, ours + theirs)
@@ -83,18 +84,18 @@ pub(crate) fn take_in_four<R: Threads + Sync>(
 ) -> (Pass, u32)
     requires ones { MayCallBoth bank.now ones 0 }
     requires others { MayCallBoth bank.now others 2 }
-    ensures may { MayCall bank.now result.0 0 }
+    ensures may { MayCallList bank.now result.0 0 }
     ensures few { result.1 ≤ 4 * 256 }
 {
     let ((first, ours), (_, theirs)) = thread::join(
         rt,
         move || -> (Pass, u32)
             requires { MayCallBoth bank.now ones 0 }
-            ensures { MayCall bank.entry.now result.0 0 × (result.1 ≤ 2 * 256) }
+            ensures { MayCallList bank.entry.now result.0 0 × (result.1 ≤ 2 * 256) }
         { take_in_two(rt, bank, ones, 0) },
         move || -> (Pass, u32)
             requires { MayCallBoth bank.now others 2 }
-            ensures { MayCall bank.entry.now result.0 2 × (result.1 ≤ 2 * 256) }
+            ensures { MayCallList bank.entry.now result.0 2 × (result.1 ≤ 2 * 256) }
         { take_in_two(rt, bank, others, 2) },
     );
     (first, ours + theirs)

@@ -2,12 +2,13 @@
 ghost use Rattle.std.specs.Prelude.{◌≡◌, []};
 ghost use Rattle.ft_trace.specs.Traces.{IsFree};
 ghost use Rattle.ft_bank.specs.Passes.{view, IsPassOf};
-ghost use Rattle.ft_bank.specs.Sections.{stack_of, no_sections};
+ghost use Rattle.ft_bank.specs.PassSections.{stack_of, no_sections};
 ghost use Rattle.ft_section.specs.declared.answers.Objects.TheVariants.{One};
 ghost use Rattle.ft_section.specs.Ready.{MayTry};
 
-use crate::banks::{fill_list, small, two};
+use crate::banks::{fill_list, small};
 use ft_bank::{Bank, Pass, Took};
+use ft_bank_tests::bank_of_two;
 use ft_qsbr::{collect, enter, leave, quiesce, take};
 use ft_section::{drop_all, new_passes_are_ready};
 use std::test::Fail;
@@ -28,14 +29,7 @@ fn finish(bank: &Bank, pass: &mut Pass, l: u32)
 #[test]
 fn a_join_hands_a_retired_table_over(rt: HostRuntime) -> Result<(), Fail> {
     let alloc = rt.alloc();
-    let shape = small(alloc)?;
-    if !shape.fits() {
-        return Err(Fail::from("a small shape fits"));
-    }
-    let Ok((bank, passes)) = Bank::new(alloc, shape) else {
-        return Err(Fail::from("there is memory"));
-    };
-    let (mut first, mut second) = two(&bank, passes)?;
+    let (bank, mut first, mut second) = bank_of_two(alloc, small(alloc)?)?;
     new_passes_are_ready(&bank, &second);
     // The first pass announces 1. The second one's ninth item takes a table of class 4, and that of class 3 is retired
     // with the goal 2.

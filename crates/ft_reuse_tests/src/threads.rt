@@ -1,11 +1,12 @@
 //! A class of 1,024 tables is taken whole by four threads while a fifth pass stays online, so that no table comes back.
 ghost use Rattle.std.specs.Prelude.{◌≡◌, [], ◌∷◌, IfOk};
 ghost use Rattle.ft_model.specs.declared.script.Kind.TheVariants as kind;
-ghost use Rattle.ft_bank.specs.Openings.{IsOpening, AreOpening};
+ghost use Rattle.ft_bank.specs.NewPasses.{IsOpening, AreOpening};
 ghost use Rattle.ft_section.specs.Ready.{IsReady};
 
 use crate::emptying::take_in_four;
 use ft_bank::{Bank, Pass, Shape};
+use ft_bank_tests::bank_of;
 use ft_list::try_append;
 use ft_model::{Kind, Raise, Reply, Value};
 use ft_qsbr::{enter, quiesce};
@@ -67,13 +68,7 @@ fn all_ready(bank: &Bank, ones: &(Pass, Pass), others: &(Pass, Pass))
 #[test]
 fn four_threads_take_a_class_of_1024_tables_whole(rt: HostRuntime) -> Result<(), Fail> {
     let alloc = rt.alloc();
-    let shape = large(alloc)?;
-    if !shape.fits() {
-        return Err(Fail::from("a class may have 1,024 tables"));
-    }
-    let Ok((bank, passes)) = Bank::new(alloc, shape) else {
-        return Err(Fail::from("there is memory"));
-    };
+    let (bank, passes) = bank_of(alloc, large(alloc)?)?;
     let (ones, others, mut fifth) = five(&bank, passes)?;
     all_ready(&bank, &ones, &others);
     enter(&bank, &mut fifth);

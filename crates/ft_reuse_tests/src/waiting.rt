@@ -1,8 +1,9 @@
 //! A table that a list has grown out of, while another pass is online.
 ghost use Rattle.std.specs.Prelude.{◌≡◌};
 
-use crate::banks::{fill_list, small, two};
-use ft_bank::{Bank, Took};
+use crate::banks::{fill_list, small};
+use ft_bank::Took;
+use ft_bank_tests::bank_of_two;
 use ft_qsbr::{collect, enter, quiesce, take};
 use ft_section::new_passes_are_ready;
 use std::test::Fail;
@@ -10,14 +11,7 @@ use std::test::Fail;
 #[test]
 fn a_table_waits_until_each_pass_that_is_online_has_announced(rt: HostRuntime) -> Result<(), Fail> {
     let alloc = rt.alloc();
-    let shape = small(alloc)?;
-    if !shape.fits() {
-        return Err(Fail::from("a small shape fits"));
-    }
-    let Ok((bank, passes)) = Bank::new(alloc, shape) else {
-        return Err(Fail::from("there is memory"));
-    };
-    let (mut first, mut second) = two(&bank, passes)?;
+    let (bank, mut first, mut second) = bank_of_two(alloc, small(alloc)?)?;
     new_passes_are_ready(&bank, &first);
     // The second pass announces 1. The ninth item takes a table of class 4, and that of class 3 is retired with the
     // goal 2.

@@ -3,6 +3,8 @@
 #![tactic(auto)]
 
 #[cfg(test)]
+mod moves;
+#[cfg(test)]
 mod reuse;
 #[cfg(test)]
 mod sections;

@@ -1,21 +1,15 @@
 //! Announcements, collections and takings of two passes, worked by hand. Write number and announced numbers
 //! begin with 1 and 0.
-use crate::sections::{small, two};
-use ft_bank::{Bank, Took};
+use crate::moves::small;
+use ft_bank::Took;
+use ft_bank_tests::bank_of_two;
 use ft_qsbr::{collect, enter, leave, quiesce, take};
 use std::test::Fail;
 
 #[test]
 fn the_last_table_of_a_class_goes_round(rt: HostRuntime) -> Result<(), Fail> {
     let alloc = rt.alloc();
-    let shape = small(alloc)?;
-    if !shape.fits() {
-        return Err(Fail::from("a small shape fits"));
-    }
-    let Ok((bank, passes)) = Bank::new(alloc, shape) else {
-        return Err(Fail::from("there is memory"));
-    };
-    let (mut first, mut second) = two(&bank, passes)?;
+    let (bank, mut first, mut second) = bank_of_two(alloc, small(alloc)?)?;
     enter(&bank, &mut first);
     enter(&bank, &mut second);
     let Took::Taken(table) = take(&bank, &mut first, 3) else {
@@ -36,17 +30,10 @@ fn the_last_table_of_a_class_goes_round(rt: HostRuntime) -> Result<(), Fail> {
 #[test]
 fn passes_announce_the_write_number(rt: HostRuntime) -> Result<(), Fail> {
     let alloc = rt.alloc();
-    let shape = small(alloc)?;
-    if !shape.fits() {
-        return Err(Fail::from("a small shape fits"));
-    }
-    let Ok((bank, passes)) = Bank::new(alloc, shape) else {
-        return Err(Fail::from("there is memory"));
-    };
+    let (bank, mut first, mut second) = bank_of_two(alloc, small(alloc)?)?;
     if bank.passes() != 2 {
         return Err(Fail::from("there are two passes"));
     }
-    let (mut first, mut second) = two(&bank, passes)?;
     assert_eq!(rt; bank.write_number(&mut first), 1);
     enter(&bank, &mut second);
     assert_eq!(rt; bank.announced(&mut first, 0), 0);

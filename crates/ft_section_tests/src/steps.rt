@@ -1,8 +1,8 @@
 //! The calls of sections with what a test has to know after each: how deep the pass is, and how many calls are left.
 ghost use Rattle.std.specs.Prelude.{◌≡◌, ◌<◌, ◌+◌, length};
 ghost use Rattle.ft_bank.specs.Passes.{shape_of, view};
-ghost use Rattle.ft_bank.specs.Sections.{stack_of};
-ghost use Rattle.ft_section.specs.Answers.{IfBack, IfBeginWaits, IfEntered, IfStillWaits};
+ghost use Rattle.ft_bank.specs.PassSections.{stack_of};
+ghost use Rattle.ft_section.specs.AnswerFacts.{IfBack, IfBeginWaits, IfEntered, IfStillWaits};
 ghost use Rattle.ft_section.specs.Ready.{IsReady, IsWaiting, MayResume, MayTry};
 ghost use Rattle.ft_section.specs.LockTakings.{AreIn};
 

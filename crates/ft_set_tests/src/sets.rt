@@ -10,9 +10,12 @@ ghost use Rattle.ft_section.specs.declared.answers.Stamp.{Stamp};
 ghost use Rattle.ft_section.specs.declared.answers.Step.TheVariants as steps;
 ghost use Rattle.ft_section.specs.Ready.{MayTry};
 
+mod cases;
+
+use cases::{CASES, LARGEST};
 use ft_bank::{Bank, Pass};
-use ft_dict_tests::{Wanted, four, is_made, only, reads, reads_elements, writes};
-use ft_model::{Key, Raise, Reply, Value};
+use ft_dict_tests::{Said, Wanted, four, is_made, only};
+use ft_model::Key;
 use ft_section::{Step, new_passes_are_ready};
 use ft_set::{
     try_add, try_and, try_clear, try_discard, try_disjoint, try_eq, try_has, try_items, try_len,
@@ -50,6 +53,14 @@ enum Call {
     /// The same of set 3.
     AddOther(i64),
     HasOther(i64),
+}
+
+/// Calls that are made one after the other on a new bank with that many tables of class 3, and of each greater class.
+struct Case {
+    name: &'static str,
+    least: u32,
+    greater: u32,
+    rows: &'static [(Call, Wanted)],
 }
 
 /// Tries a call.
@@ -114,16 +125,8 @@ fn push_adds(rows: &mut Vec<(Call, Wanted)>, count: u32) -> Result<(), AllocErro
     for key in 0..count {
         let row = (
             Call::Add(i64::from(key)),
-            writes(Reply::Done, u64::from(key)),
+            Wanted::Writes(Said::Done, u64::from(key)),
         );
-        rows.push(row)?;
-    }
-    Ok(())
-}
-
-/// Puts these rows after the others.
-fn push_rows(rows: &mut Vec<(Call, Wanted)>, more: Vec<(Call, Wanted)>) -> Result<(), AllocError> {
-    for row in more {
         rows.push(row)?;
     }
     Ok(())
@@ -151,299 +154,11 @@ fn in_new_bank(
 }
 
 #[test]
-fn the_first_element_goes_first(rt: HostRuntime) -> Result<(), Fail> {
-    let alloc = rt.alloc();
-    let rows = [
-        (Call::Pop, reads(Reply::Raised(Raise::NoKey), 0)),
-        (Call::Add(3), writes(Reply::Done, 0)),
-        (Call::Add(1), writes(Reply::Done, 1)),
-        (Call::Add(2), writes(Reply::Done, 2)),
-        (Call::Add(3), writes(Reply::Done, 3)),
-        (Call::Items, reads_elements(&[3, 1, 2], 4)),
-        (Call::Pop, writes(Reply::Value(Value::Int(3)), 4)),
-        (Call::Add(3), writes(Reply::Done, 5)),
-        (Call::Discard(1), writes(Reply::Done, 6)),
-        (Call::Add(4), writes(Reply::Done, 7)),
-        (Call::Add(5), writes(Reply::Done, 8)),
-        (Call::Items, reads_elements(&[2, 3, 4, 5], 9)),
-        (Call::Pop, writes(Reply::Value(Value::Int(2)), 9)),
-        (Call::Remove(3), writes(Reply::Done, 10)),
-        (Call::Len, reads(Reply::Count(2), 11)),
-        (Call::Clear, writes(Reply::Done, 11)),
-        (Call::Pop, reads(Reply::Raised(Raise::NoKey), 12)),
-        (Call::Items, reads_elements(&[], 12)),
-    ];
-    assert_eq!(rt; in_new_bank(alloc, 4, 4, &rows)?, None);
-    Ok(())
-}
-
-#[test]
-fn sets_are_compared_by_their_elements(rt: HostRuntime) -> Result<(), Fail> {
-    let alloc = rt.alloc();
-    let rows = [
-        (Call::Eq, reads(Reply::Truth(true), 0)),
-        (Call::Subset, reads(Reply::Truth(true), 0)),
-        (Call::Disjoint, reads(Reply::Truth(true), 0)),
-        (Call::AddOther(-1), writes(Reply::Done, 0)),
-        (Call::Eq, reads(Reply::Truth(false), 1)),
-        (Call::Subset, reads(Reply::Truth(true), 1)),
-        (Call::Add(-2), writes(Reply::Done, 1)),
-        (Call::Subset, reads(Reply::Truth(false), 2)),
-        (Call::Disjoint, reads(Reply::Truth(true), 2)),
-        (Call::Add(-1), writes(Reply::Done, 2)),
-        (Call::Eq, reads(Reply::Truth(false), 3)),
-        (Call::Disjoint, reads(Reply::Truth(false), 3)),
-        (Call::AddOther(-2), writes(Reply::Done, 3)),
-        (Call::Eq, reads(Reply::Truth(true), 4)),
-        (Call::Subset, reads(Reply::Truth(true), 4)),
-        (Call::AddOther(7), writes(Reply::Done, 4)),
-        (Call::Eq, reads(Reply::Truth(false), 5)),
-        (Call::Subset, reads(Reply::Truth(true), 5)),
-        (Call::Has(7), reads(Reply::Truth(false), 5)),
-    ];
-    assert_eq!(rt; in_new_bank(alloc, 4, 4, &rows)?, None);
-    Ok(())
-}
-
-#[test]
-fn the_fifth_element_of_a_set_takes_a_greater_table(rt: HostRuntime) -> Result<(), Fail> {
-    let alloc = rt.alloc();
-    let rows = [
-        (Call::Add(1), writes(Reply::Done, 0)),
-        (Call::Add(2), writes(Reply::Done, 1)),
-        (Call::Add(3), writes(Reply::Done, 2)),
-        (Call::Add(2), writes(Reply::Done, 3)),
-        (Call::Add(4), writes(Reply::Done, 4)),
-        (Call::Add(5), writes(Reply::Done, 5)),
-        (Call::Has(1), reads(Reply::Truth(true), 6)),
-        (Call::Has(5), reads(Reply::Truth(true), 6)),
-        (Call::Has(6), reads(Reply::Truth(false), 6)),
-        (Call::AddOther(-1), writes(Reply::Done, 6)),
-        (Call::AddOther(-2), writes(Reply::Done, 7)),
-        (Call::AddOther(0), writes(Reply::Done, 8)),
-        (Call::AddOther(2305843009213693951), writes(Reply::Done, 9)),
-        (
-            Call::AddOther(5),
-            reads(Reply::Raised(Raise::Memory(5)), 10),
-        ),
-        (Call::HasOther(5), reads(Reply::Truth(false), 10)),
-        (Call::HasOther(-2), reads(Reply::Truth(true), 10)),
-        (
-            Call::HasOther(4611686018427387902),
-            reads(Reply::Truth(false), 10),
-        ),
-    ];
-    assert_eq!(rt; in_new_bank(alloc, 4, 1, &rows)?, None);
-    Ok(())
-}
-
-#[test]
-fn elements_stay_that_the_other_set_has_or_has_not(rt: HostRuntime) -> Result<(), Fail> {
-    let alloc = rt.alloc();
-    // The hash of -1 is that of -2; 2^61 - 1 has the hash of 0.
-    let rows = [
-        (Call::And, writes(Reply::Done, 0)),
-        (Call::Add(1), writes(Reply::Done, 1)),
-        (Call::Add(-1), writes(Reply::Done, 2)),
-        (Call::Add(-2), writes(Reply::Done, 3)),
-        (Call::Add(0), writes(Reply::Done, 4)),
-        (Call::Add(2305843009213693951), writes(Reply::Done, 5)),
-        (Call::Sub, writes(Reply::Done, 6)),
-        (Call::Has(-2), reads(Reply::Truth(true), 7)),
-        (Call::AddOther(-2), writes(Reply::Done, 7)),
-        (Call::AddOther(0), writes(Reply::Done, 8)),
-        (Call::AddOther(7), writes(Reply::Done, 9)),
-        (Call::Sub, writes(Reply::Done, 10)),
-        (
-            Call::Items,
-            reads_elements(&[1, -1, 2305843009213693951], 11),
-        ),
-        (Call::HasOther(0), reads(Reply::Truth(true), 11)),
-        (Call::AndItself, writes(Reply::Done, 11)),
-        (Call::Has(-1), reads(Reply::Truth(true), 12)),
-        (Call::Add(7), writes(Reply::Done, 12)),
-        (Call::And, writes(Reply::Done, 13)),
-        (Call::Items, reads_elements(&[7], 14)),
-        (Call::HasOther(-2), reads(Reply::Truth(true), 14)),
-        (Call::SubItself, writes(Reply::Done, 14)),
-        (Call::Has(7), reads(Reply::Truth(false), 15)),
-        (Call::Add(7), writes(Reply::Done, 15)),
-        (Call::Has(7), reads(Reply::Truth(true), 16)),
-        (Call::HasOther(7), reads(Reply::Truth(true), 16)),
-    ];
-    assert_eq!(rt; in_new_bank(alloc, 4, 4, &rows)?, None);
-    Ok(())
-}
-
-#[test]
-fn elements_of_another_set_go_last_in_their_order(rt: HostRuntime) -> Result<(), Fail> {
-    let alloc = rt.alloc();
-    let rows = [
-        (Call::Or, writes(Reply::Done, 0)),
-        (Call::Items, reads_elements(&[], 1)),
-        (Call::AddOther(5), writes(Reply::Done, 1)),
-        (Call::AddOther(-2), writes(Reply::Done, 2)),
-        (Call::AddOther(9), writes(Reply::Done, 3)),
-        (Call::Add(9), writes(Reply::Done, 4)),
-        (Call::Or, writes(Reply::Done, 5)),
-        (Call::Items, reads_elements(&[9, 5, -2], 6)),
-        (Call::OrItself, writes(Reply::Done, 6)),
-        (Call::Items, reads_elements(&[9, 5, -2], 7)),
-        (Call::Discard(5), writes(Reply::Done, 7)),
-        (Call::Or, writes(Reply::Done, 8)),
-        (Call::Items, reads_elements(&[9, -2, 5], 9)),
-    ];
-    assert_eq!(rt; in_new_bank(alloc, 4, 4, &rows)?, None);
-    Ok(())
-}
-
-#[test]
-fn many_elements_of_another_set_take_a_greater_table(rt: HostRuntime) -> Result<(), Fail> {
-    let alloc = rt.alloc();
-    // The hash of -1 is that of -2; 2^61 - 1 has the hash of 0. A table of class 3 has room for four elements.
-    let rows = [
-        (Call::AddOther(5), writes(Reply::Done, 0)),
-        (Call::AddOther(-2), writes(Reply::Done, 1)),
-        (Call::AddOther(9), writes(Reply::Done, 2)),
-        (Call::AddOther(2305843009213693951), writes(Reply::Done, 3)),
-        (Call::AddOther(0), writes(Reply::Done, 4)),
-        (Call::Add(9), writes(Reply::Done, 5)),
-        (Call::Add(-1), writes(Reply::Done, 6)),
-        (Call::Or, writes(Reply::Done, 7)),
-        (
-            Call::Items,
-            reads_elements(&[9, -1, 5, -2, 2305843009213693951, 0], 8),
-        ),
-        (Call::Clear, writes(Reply::Done, 8)),
-        (Call::Or, writes(Reply::Done, 9)),
-        (
-            Call::Items,
-            reads_elements(&[5, -2, 9, 2305843009213693951, 0], 10),
-        ),
-        (Call::Eq, reads(Reply::Truth(true), 10)),
-    ];
-    assert_eq!(rt; in_new_bank(alloc, 4, 4, &rows)?, None);
-    Ok(())
-}
-
-#[test]
-fn no_element_is_put_where_there_is_no_table(rt: HostRuntime) -> Result<(), Fail> {
-    let alloc = rt.alloc();
-    // Five elements take a table of class 5, of which the other set has the only one.
-    let rows = [
-        (Call::AddOther(1), writes(Reply::Done, 0)),
-        (Call::AddOther(2), writes(Reply::Done, 1)),
-        (Call::AddOther(3), writes(Reply::Done, 2)),
-        (Call::AddOther(4), writes(Reply::Done, 3)),
-        (Call::AddOther(5), writes(Reply::Done, 4)),
-        (Call::Add(9), writes(Reply::Done, 5)),
-        (Call::Or, reads(Reply::Raised(Raise::Memory(5)), 6)),
-        (Call::Items, reads_elements(&[9], 6)),
-        (Call::OrItself, writes(Reply::Done, 6)),
-        (Call::Clear, writes(Reply::Done, 7)),
-        (Call::Or, reads(Reply::Raised(Raise::Memory(5)), 8)),
-        (Call::Items, reads_elements(&[], 8)),
-        (Call::Add(2), writes(Reply::Done, 8)),
-        (Call::Or, reads(Reply::Raised(Raise::Memory(5)), 9)),
-        (Call::Items, reads_elements(&[2], 9)),
-    ];
-    assert_eq!(rt; in_new_bank(alloc, 4, 1, &rows)?, None);
-    Ok(())
-}
-
-#[test]
-fn elements_of_both_sets_go_and_new_ones_come_last(rt: HostRuntime) -> Result<(), Fail> {
-    let alloc = rt.alloc();
-    // The hash of -1 is that of -2. A table of class 3 has room for four elements, one of class 4 for nine.
-    let rows = [
-        (Call::Xor, writes(Reply::Done, 0)),
-        (Call::Items, reads_elements(&[], 1)),
-        (Call::AddOther(-2), writes(Reply::Done, 1)),
-        (Call::AddOther(0), writes(Reply::Done, 2)),
-        (Call::AddOther(7), writes(Reply::Done, 3)),
-        (Call::Add(1), writes(Reply::Done, 4)),
-        (Call::Add(-1), writes(Reply::Done, 5)),
-        (Call::Add(0), writes(Reply::Done, 6)),
-        (Call::Xor, writes(Reply::Done, 7)),
-        (Call::Items, reads_elements(&[1, -1, -2, 7], 8)),
-        (Call::Len, reads(Reply::Count(4), 8)),
-        (Call::HasOther(0), reads(Reply::Truth(true), 8)),
-        (Call::Xor, writes(Reply::Done, 8)),
-        (Call::Items, reads_elements(&[1, -1, 0], 9)),
-        (Call::Has(-2), reads(Reply::Truth(false), 9)),
-        (Call::XorItself, writes(Reply::Done, 9)),
-        (Call::Items, reads_elements(&[], 10)),
-        (Call::Xor, writes(Reply::Done, 10)),
-        (Call::Items, reads_elements(&[-2, 0, 7], 11)),
-        (Call::Eq, reads(Reply::Truth(true), 11)),
-        (Call::Discard(0), writes(Reply::Done, 11)),
-        (Call::Xor, writes(Reply::Done, 12)),
-        (Call::Items, reads_elements(&[0], 13)),
-        (Call::Xor, writes(Reply::Done, 13)),
-        (Call::Items, reads_elements(&[-2, 7], 14)),
-        (Call::Xor, writes(Reply::Done, 14)),
-        (Call::Items, reads_elements(&[0], 15)),
-    ];
-    assert_eq!(rt; in_new_bank(alloc, 6, 4, &rows)?, None);
-    Ok(())
-}
-
-#[test]
-fn a_symmetric_difference_takes_the_table_for_what_is_left(rt: HostRuntime) -> Result<(), Fail> {
-    let alloc = rt.alloc();
-    // 2^61 - 1 and twice that have the hash of 0.
-    let rows = [
-        (Call::AddOther(5), writes(Reply::Done, 0)),
-        (Call::AddOther(4611686018427387902), writes(Reply::Done, 1)),
-        (Call::AddOther(9), writes(Reply::Done, 2)),
-        (Call::AddOther(2305843009213693951), writes(Reply::Done, 3)),
-        (Call::AddOther(0), writes(Reply::Done, 4)),
-        (Call::Add(9), writes(Reply::Done, 5)),
-        (Call::Add(-1), writes(Reply::Done, 6)),
-        (Call::Xor, writes(Reply::Done, 7)),
-        (
-            Call::Items,
-            reads_elements(&[-1, 5, 4611686018427387902, 2305843009213693951, 0], 8),
-        ),
-        (Call::Xor, writes(Reply::Done, 8)),
-        (Call::Items, reads_elements(&[-1, 9], 9)),
-        (Call::Clear, writes(Reply::Done, 9)),
-        (Call::Add(5), writes(Reply::Done, 10)),
-        (Call::Add(9), writes(Reply::Done, 11)),
-        (Call::Add(0), writes(Reply::Done, 12)),
-        (Call::Add(1), writes(Reply::Done, 13)),
-        (Call::Xor, writes(Reply::Done, 14)),
-        (
-            Call::Items,
-            reads_elements(&[1, 4611686018427387902, 2305843009213693951], 15),
-        ),
-    ];
-    assert_eq!(rt; in_new_bank(alloc, 4, 2, &rows)?, None);
-    Ok(())
-}
-
-#[test]
-fn a_symmetric_difference_without_a_table_changes_nothing(rt: HostRuntime) -> Result<(), Fail> {
-    let alloc = rt.alloc();
-    // Five elements and more take a table of class 5, of which the other set has the only one; four take class 4.
-    let rows = [
-        (Call::AddOther(1), writes(Reply::Done, 0)),
-        (Call::AddOther(2), writes(Reply::Done, 1)),
-        (Call::AddOther(3), writes(Reply::Done, 2)),
-        (Call::AddOther(4), writes(Reply::Done, 3)),
-        (Call::AddOther(5), writes(Reply::Done, 4)),
-        (Call::Add(9), writes(Reply::Done, 5)),
-        (Call::Xor, reads(Reply::Raised(Raise::Memory(5)), 6)),
-        (Call::Items, reads_elements(&[9], 6)),
-        (Call::XorItself, writes(Reply::Done, 6)),
-        (Call::Xor, reads(Reply::Raised(Raise::Memory(5)), 7)),
-        (Call::Items, reads_elements(&[], 7)),
-        (Call::Add(2), writes(Reply::Done, 7)),
-        (Call::Xor, writes(Reply::Done, 8)),
-        (Call::Items, reads_elements(&[1, 3, 4, 5], 9)),
-        (Call::HasOther(2), reads(Reply::Truth(true), 9)),
-    ];
-    assert_eq!(rt; in_new_bank(alloc, 4, 1, &rows)?, None);
+fn sets_reply_as_in_python(rt: HostRuntime) -> Result<(), Fail> {
+    for case in &CASES {
+        let wrong = in_new_bank(rt.alloc(), case.least, case.greater, case.rows)?;
+        assert_eq!(rt; wrong, None, "{}", case.name);
+    }
     Ok(())
 }
 
@@ -452,25 +167,7 @@ fn a_set_has_at_most_39321_elements(rt: HostRuntime) -> Result<(), Fail> {
     let alloc = rt.alloc();
     let mut rows = Vec::new(alloc);
     push_adds(&mut rows, 39321)?;
-    push_rows(
-        &mut rows,
-        vec![in alloc;
-            (Call::Len, reads(Reply::Count(39321), 39321)),
-            (Call::Add(39321), reads(Reply::Raised(Raise::Over), 39321)),
-            (Call::Len, reads(Reply::Count(39321), 39321)),
-            (Call::Has(39320), reads(Reply::Truth(true), 39321)),
-            (Call::Has(39321), reads(Reply::Truth(false), 39321)),
-            (Call::Add(5), writes(Reply::Done, 39321)),
-            (Call::Discard(7), writes(Reply::Done, 39322)),
-            // Each entry of its table was used, and the one table of that class is its own.
-            (
-                Call::Add(39321),
-                reads(Reply::Raised(Raise::Memory(16)), 39323),
-            ),
-            (Call::Len, reads(Reply::Count(39320), 39323)),
-            (Call::Pop, writes(Reply::Value(Value::Int(0)), 39323)),
-        ]?,
-    )?;
+    rows.extend_from_slice(&LARGEST)?;
     assert_eq!(rt; in_new_bank(alloc, 1, 1, rows.as_slice())?, None);
     Ok(())
 }

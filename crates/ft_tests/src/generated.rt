@@ -24,43 +24,81 @@ fn dealt(alloc: Global, calls: u32) -> Option<[usize; 4]> {
     calls_of(alloc, text.as_slice())
 }
 
+/// How many calls a script has, and its text.
+#[derive(Clone, Copy)]
+struct Made<'a> {
+    calls: u32,
+    text: &'a str,
+}
+
+const MADE_SCRIPTS: [Made<'static>; 5] = [
+    Made {
+        calls: 0,
+        text: "heap 4096\ntables 12 16\ndict d\nlist l\nset s\nthread A\nthread B\nthread C\nthread D\n",
+    },
+    Made {
+        calls: 1,
+        text: "heap 4096\ntables 12 16\ndict d\nlist l\nset s\nthread A\ndiscard s 346\nthread B\nthread C\nthread D\n",
+    },
+    Made {
+        calls: 2,
+        text: "heap 4096\ntables 12 16\ndict d\nlist l\nset s\nthread A\nget l 717\nthread B\ndel d 485\nthread C\nthread D\n",
+    },
+    Made {
+        calls: 5,
+        text: "heap 4096\ntables 12 16\ndict d\nlist l\nset s\nthread A\nset d 374 374\nadd s 971\nthread B\ndel d 279\nthread C\nadd s 925\nthread D\nquiesce\n",
+    },
+    Made {
+        calls: 11,
+        text: "heap 4096\ntables 12 16\ndict d\nlist l\nset s\nthread A\nset d 687 687\nappend l 856\nquiesce\nthread B\nset d 651 651\ndiscard s 691\nappend l 60\nthread C\nget d 294\ndel d 890\nget l 967\nthread D\nappend l 470\nappend l 334\n",
+    },
+];
+
 #[test]
 fn scripts_of_few_calls(rt: HostRuntime) {
-    for (calls, text) in [
-        (
-            0,
-            "heap 4096\ntables 12 16\ndict d\nlist l\nset s\nthread A\nthread B\nthread C\nthread D\n",
-        ),
-        (
-            1,
-            "heap 4096\ntables 12 16\ndict d\nlist l\nset s\nthread A\ndiscard s 346\nthread B\nthread C\nthread D\n",
-        ),
-        (
-            2,
-            "heap 4096\ntables 12 16\ndict d\nlist l\nset s\nthread A\nget l 717\nthread B\ndel d 485\nthread C\nthread D\n",
-        ),
-        (
-            5,
-            "heap 4096\ntables 12 16\ndict d\nlist l\nset s\nthread A\nset d 374 374\nadd s 971\nthread B\ndel d 279\nthread C\nadd s 925\nthread D\nquiesce\n",
-        ),
-        (
-            11,
-            "heap 4096\ntables 12 16\ndict d\nlist l\nset s\nthread A\nset d 687 687\nappend l 856\nquiesce\nthread B\nset d 651 651\ndiscard s 691\nappend l 60\nthread C\nget d 294\ndel d 890\nget l 967\nthread D\nappend l 470\nappend l 334\n",
-        ),
-    ] {
-        assert!(rt; makes(rt.alloc(), calls, text));
+    for made in &MADE_SCRIPTS {
+        assert!(rt;
+            makes(rt.alloc(), made.calls, made.text),
+            "of {:?} calls",
+            made.calls
+        );
     }
 }
 
+/// How many calls a script has, and each of its threads.
+#[derive(Clone, Copy)]
+struct Deal {
+    calls: u32,
+    shares: [usize; 4],
+}
+
+const DEALS: [Deal; 5] = [
+    Deal {
+        calls: 1,
+        shares: [1, 0, 0, 0],
+    },
+    Deal {
+        calls: 2,
+        shares: [1, 1, 0, 0],
+    },
+    Deal {
+        calls: 5,
+        shares: [2, 1, 1, 1],
+    },
+    Deal {
+        calls: 11,
+        shares: [3, 3, 3, 2],
+    },
+    Deal {
+        calls: 100_000,
+        shares: [25_000, 25_000, 25_000, 25_000],
+    },
+];
+
 #[test]
 fn calls_are_dealt_in_blocks(rt: HostRuntime) {
-    for (calls, shares) in [
-        (1, [1, 0, 0, 0]),
-        (2, [1, 1, 0, 0]),
-        (5, [2, 1, 1, 1]),
-        (11, [3, 3, 3, 2]),
-        (100_000, [25_000, 25_000, 25_000, 25_000]),
-    ] {
-        assert_eq!(rt; dealt(rt.alloc(), calls), Some(shares));
+    for deal in &DEALS {
+        let shares = dealt(rt.alloc(), deal.calls);
+        assert_eq!(rt; shares, Some(deal.shares), "of {:?} calls", deal.calls);
     }
 }

@@ -327,8 +327,9 @@ pub(crate) fn judged(alloc: Global, case: Case<'_>) -> Result<Verdict, Fail> {
 
 #[test]
 fn the_first_broken_rule_is_reported(rt: HostRuntime) -> Result<(), Fail> {
-    for case in CASES {
-        assert_eq!(rt; judged(rt.alloc(), case)?, case.verdict);
+    for case in &CASES {
+        let verdict = judged(rt.alloc(), *case)?;
+        assert_eq!(rt; verdict, case.verdict, "of {:?}", case.transcript);
     }
     Ok(())
 }

@@ -1,11 +1,15 @@
-//! Tests that need several crates, and all tests of scripts and transcripts as text: beside the code
-//! that they test they would have it proved a second time. Nothing stands on this one.
+//! Tests of scripts and transcripts as text, of histories and of streams: beside the code that they test
+//! they would have it proved a second time. Nothing stands on this one.
 #![tactic(auto)]
 
+#[cfg(test)]
+mod chronicles;
 #[cfg(test)]
 mod generated;
 #[cfg(test)]
 mod judging;
+#[cfg(test)]
+mod merging;
 #[cfg(test)]
 mod printing;
 #[cfg(test)]
@@ -14,6 +18,8 @@ mod script_cuts;
 mod script_limits;
 #[cfg(test)]
 mod scripts;
+#[cfg(test)]
+mod streams;
 #[cfg(test)]
 mod table_judging;
 #[cfg(test)]

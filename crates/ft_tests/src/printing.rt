@@ -20,18 +20,21 @@ fn printed(alloc: Global, text: &str) -> Result<Vec<u8>, Fail> {
     Ok(out)
 }
 
+const ENTRIES: [&str; 7] = [
+    "A.1 w0 set d \"a\\\"\\\\\\n\\tz\" None = ok\n",
+    "A.30 r1 slice l -3 9 = [-1, None]\n",
+    "A.2 r7 items s = set()\n",
+    "A.3 r7 next c = MemoryError 12\n",
+    "A.4 r7 begin s d = entered waited A\n",
+    "A.1 r0 get d 0 = 7\nA.2 r0 get d -7 = -1\n",
+    "A.1 r0 get d 9223372036854775807 = -9223372036854775808\n",
+];
+
 #[test]
 fn prints_entries(rt: HostRuntime) -> Result<(), Fail> {
-    for text in [
-        "A.1 w0 set d \"a\\\"\\\\\\n\\tz\" None = ok\n",
-        "A.30 r1 slice l -3 9 = [-1, None]\n",
-        "A.2 r7 items s = set()\n",
-        "A.3 r7 next c = MemoryError 12\n",
-        "A.4 r7 begin s d = entered waited A\n",
-        "A.1 r0 get d 0 = 7\nA.2 r0 get d -7 = -1\n",
-        "A.1 r0 get d 9223372036854775807 = -9223372036854775808\n",
-    ] {
-        assert!(rt; printed(rt.alloc(), text)?.as_slice() == text.as_bytes());
+    for text in &ENTRIES {
+        let out = printed(rt.alloc(), *text)?;
+        assert!(rt; out.as_slice() == text.as_bytes(), "at {text:?}");
     }
     Ok(())
 }

@@ -32,123 +32,128 @@ fn has_faults_of(
     Ok(true)
 }
 
+const DECLARATIONS: [(&[u8], u32, u8); 11] = [
+    (b"# a\n ", 0, 0),
+    (b"table", 2, 2),
+    (b"s 3 ", 2, 3),
+    (b"12\n", 0, 0),
+    (b"hea", 3, 2),
+    (b"p ", 3, 3),
+    (b"6", 3, 12),
+    (b"4\n", 0, 0),
+    (b"dic", 4, 2),
+    (b"t ", 4, 3),
+    (b"d\n", 0, 0),
+];
+
 #[test]
 fn declarations_cut_at_every_byte(rt: HostRuntime) -> Result<(), Fail> {
-    let parts = [
-        (b"# a\n ".as_slice(), 0, 0),
-        (b"table".as_slice(), 2, 2),
-        (b"s 3 ".as_slice(), 2, 3),
-        (b"12\n".as_slice(), 0, 0),
-        (b"hea".as_slice(), 3, 2),
-        (b"p ".as_slice(), 3, 3),
-        (b"6".as_slice(), 3, 12),
-        (b"4\n".as_slice(), 0, 0),
-        (b"dic".as_slice(), 4, 2),
-        (b"t ".as_slice(), 4, 3),
-        (b"d\n".as_slice(), 0, 0),
-    ];
-    assert!(rt; have_faults(rt.alloc(), &parts)?);
+    assert!(rt; have_faults(rt.alloc(), &DECLARATIONS)?);
     Ok(())
 }
+
+const CALLS_OF_A_DICT: [(&[u8], u32, u8); 18] = [
+    (b"dic", 1, 2),
+    (b"t ", 1, 3),
+    (b"d\n", 0, 0),
+    (b"threa", 2, 2),
+    (b"d ", 2, 3),
+    (b"A\n", 0, 0),
+    (b"se", 3, 2),
+    (b"t d ", 3, 3),
+    (b"\"a\\n", 3, 5),
+    (b"\" ", 3, 3),
+    (b"-", 3, 4),
+    (b"10\n", 0, 0),
+    (b"ite", 4, 2),
+    (b"r d ", 4, 3),
+    (b"c\n", 0, 0),
+    (b"nex", 5, 2),
+    (b"t ", 5, 3),
+    (b"c\n", 0, 0),
+];
 
 #[test]
 fn calls_of_a_dict_cut_at_every_byte(rt: HostRuntime) -> Result<(), Fail> {
-    let parts = [
-        (b"dic".as_slice(), 1, 2),
-        (b"t ".as_slice(), 1, 3),
-        (b"d\n".as_slice(), 0, 0),
-        (b"threa".as_slice(), 2, 2),
-        (b"d ".as_slice(), 2, 3),
-        (b"A\n".as_slice(), 0, 0),
-        (b"se".as_slice(), 3, 2),
-        (b"t d ".as_slice(), 3, 3),
-        (b"\"a\\n".as_slice(), 3, 5),
-        (b"\" ".as_slice(), 3, 3),
-        (b"-".as_slice(), 3, 4),
-        (b"10\n".as_slice(), 0, 0),
-        (b"ite".as_slice(), 4, 2),
-        (b"r d ".as_slice(), 4, 3),
-        (b"c\n".as_slice(), 0, 0),
-        (b"nex".as_slice(), 5, 2),
-        (b"t ".as_slice(), 5, 3),
-        (b"c\n".as_slice(), 0, 0),
-    ];
-    assert!(rt; have_faults(rt.alloc(), &parts)?);
+    assert!(rt; have_faults(rt.alloc(), &CALLS_OF_A_DICT)?);
     Ok(())
 }
+
+const CALLS_OF_A_LIST: [(&[u8], u32, u8); 15] = [
+    (b"lis", 1, 2),
+    (b"t ", 1, 3),
+    (b"l\n", 0, 0),
+    (b"threa", 2, 2),
+    (b"d ", 2, 3),
+    (b"A\n", 0, 0),
+    (b"inser", 3, 2),
+    (b"t l 0 ", 3, 3),
+    (b"Non", 3, 4),
+    (b"e\n", 0, 0),
+    (b"po", 4, 2),
+    (b"p ", 4, 3),
+    (b"l ", 0, 0),
+    (b"-", 4, 4),
+    (b"1\n", 0, 0),
+];
 
 #[test]
 fn calls_of_a_list_cut_at_every_byte(rt: HostRuntime) -> Result<(), Fail> {
-    let parts = [
-        (b"lis".as_slice(), 1, 2),
-        (b"t ".as_slice(), 1, 3),
-        (b"l\n".as_slice(), 0, 0),
-        (b"threa".as_slice(), 2, 2),
-        (b"d ".as_slice(), 2, 3),
-        (b"A\n".as_slice(), 0, 0),
-        (b"inser".as_slice(), 3, 2),
-        (b"t l 0 ".as_slice(), 3, 3),
-        (b"Non".as_slice(), 3, 4),
-        (b"e\n".as_slice(), 0, 0),
-        (b"po".as_slice(), 4, 2),
-        (b"p ".as_slice(), 4, 3),
-        (b"l ".as_slice(), 0, 0),
-        (b"-".as_slice(), 4, 4),
-        (b"1\n".as_slice(), 0, 0),
-    ];
-    assert!(rt; have_faults(rt.alloc(), &parts)?);
+    assert!(rt; have_faults(rt.alloc(), &CALLS_OF_A_LIST)?);
     Ok(())
 }
+
+const CALLS_OF_A_SET: [(&[u8], u32, u8); 18] = [
+    (b"se", 1, 2),
+    (b"t ", 1, 3),
+    (b"s\n", 0, 0),
+    (b"se", 2, 2),
+    (b"t ", 2, 3),
+    (b"t\n", 0, 0),
+    (b"threa", 3, 2),
+    (b"d ", 3, 3),
+    (b"A\n", 0, 0),
+    (b"o", 4, 2),
+    (b"r s ", 4, 3),
+    (b"t\n", 0, 0),
+    (b"ad", 5, 2),
+    (b"d s ", 5, 3),
+    (b"\"", 5, 5),
+    (b"\xc3", 5, 1),
+    (b"\xa9", 5, 5),
+    (b"\"", 0, 0),
+];
 
 #[test]
 fn calls_of_a_set_cut_at_every_byte(rt: HostRuntime) -> Result<(), Fail> {
-    let parts = [
-        (b"se".as_slice(), 1, 2),
-        (b"t ".as_slice(), 1, 3),
-        (b"s\n".as_slice(), 0, 0),
-        (b"se".as_slice(), 2, 2),
-        (b"t ".as_slice(), 2, 3),
-        (b"t\n".as_slice(), 0, 0),
-        (b"threa".as_slice(), 3, 2),
-        (b"d ".as_slice(), 3, 3),
-        (b"A\n".as_slice(), 0, 0),
-        (b"o".as_slice(), 4, 2),
-        (b"r s ".as_slice(), 4, 3),
-        (b"t\n".as_slice(), 0, 0),
-        (b"ad".as_slice(), 5, 2),
-        (b"d s ".as_slice(), 5, 3),
-        (b"\"".as_slice(), 5, 5),
-        (b"\xc3".as_slice(), 5, 1),
-        (b"\xa9".as_slice(), 5, 5),
-        (b"\"".as_slice(), 0, 0),
-    ];
-    assert!(rt; have_faults(rt.alloc(), &parts)?);
+    assert!(rt; have_faults(rt.alloc(), &CALLS_OF_A_SET)?);
     Ok(())
 }
 
+const SECTIONS: [(&[u8], u32, u8); 19] = [
+    (b"dic", 1, 2),
+    (b"t ", 1, 3),
+    (b"d\n", 0, 0),
+    (b"threa", 2, 2),
+    (b"d ", 2, 3),
+    (b"A\n", 0, 0),
+    (b"begi", 3, 2),
+    (b"n ", 3, 3),
+    (b"d d\n", 4, 10),
+    (b"en", 4, 2),
+    (b"d\n", 0, 0),
+    (b"threa", 5, 2),
+    (b"d ", 5, 3),
+    (b"B\n", 0, 0),
+    (b"o", 6, 2),
+    (b"r", 6, 3),
+    (b"de", 6, 2),
+    (b"r ", 6, 3),
+    (b"B A\n", 0, 0),
+];
+
 #[test]
 fn sections_cut_at_every_byte(rt: HostRuntime) -> Result<(), Fail> {
-    let parts = [
-        (b"dic".as_slice(), 1, 2),
-        (b"t ".as_slice(), 1, 3),
-        (b"d\n".as_slice(), 0, 0),
-        (b"threa".as_slice(), 2, 2),
-        (b"d ".as_slice(), 2, 3),
-        (b"A\n".as_slice(), 0, 0),
-        (b"begi".as_slice(), 3, 2),
-        (b"n ".as_slice(), 3, 3),
-        (b"d d\n".as_slice(), 4, 10),
-        (b"en".as_slice(), 4, 2),
-        (b"d\n".as_slice(), 0, 0),
-        (b"threa".as_slice(), 5, 2),
-        (b"d ".as_slice(), 5, 3),
-        (b"B\n".as_slice(), 0, 0),
-        (b"o".as_slice(), 6, 2),
-        (b"r".as_slice(), 6, 3),
-        (b"de".as_slice(), 6, 2),
-        (b"r ".as_slice(), 6, 3),
-        (b"B A\n".as_slice(), 0, 0),
-    ];
-    assert!(rt; have_faults(rt.alloc(), &parts)?);
+    assert!(rt; have_faults(rt.alloc(), &SECTIONS)?);
     Ok(())
 }

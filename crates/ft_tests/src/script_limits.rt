@@ -47,30 +47,39 @@ fn have_faults_after(
     Ok(true)
 }
 
+const AFTER_CONTAINERS: [(&str, u8); 4] = [
+    ("dict", 3),
+    ("dict D", 6),
+    ("dict d0", 7),
+    ("list e", 12),
+];
+
 #[test]
 fn containers_at_a_limit_and_past_it(rt: HostRuntime) -> Result<(), Fail> {
     let alloc = rt.alloc();
     let text = numbered(alloc, "", "dict d", "", 256)?;
     let called = repeated(alloc, &text, "thread A\nlen d255", 1)?;
     assert!(rt; is_script(alloc, &called));
-    let rows = [("dict", 3), ("dict D", 6), ("dict d0", 7), ("list e", 12)];
-    assert!(rt; have_faults_after(alloc, &text, 257, &rows)?);
+    assert!(rt; have_faults_after(alloc, &text, 257, &AFTER_CONTAINERS)?);
     let text = numbered(alloc, "", "set s", "", 300)?;
     assert!(rt; passes(alloc, &text, 257, Which::Containers));
     Ok(())
 }
+
+const AFTER_THREADS: [(&str, u8); 3] = [("thread", 3), ("thread a", 6), ("thread A63", 7)];
 
 #[test]
 fn threads_at_a_limit_and_past_it(rt: HostRuntime) -> Result<(), Fail> {
     let alloc = rt.alloc();
     let mut text = numbered(alloc, "", "thread A", "", 64)?;
     assert!(rt; is_script(alloc, &text));
-    let rows = [("thread", 3), ("thread a", 6), ("thread A63", 7)];
-    assert!(rt; have_faults_after(alloc, &text, 65, &rows)?);
+    assert!(rt; have_faults_after(alloc, &text, 65, &AFTER_THREADS)?);
     text.push_str("thread B")?;
     assert!(rt; passes(alloc, &text, 65, Which::Threads));
     Ok(())
 }
+
+const AFTER_CURSORS: [(&str, u8); 2] = [("iter d C", 6), ("next d", 6)];
 
 #[test]
 fn cursors_at_a_limit_and_past_it(rt: HostRuntime) -> Result<(), Fail> {
@@ -78,11 +87,13 @@ fn cursors_at_a_limit_and_past_it(rt: HostRuntime) -> Result<(), Fail> {
     let mut text = numbered(alloc, "dict d\nthread A\n", "iter d c", "", 256)?;
     text.push_str("iter d c255\n")?;
     assert!(rt; is_script(alloc, &text));
-    assert!(rt; have_faults_after(alloc, &text, 260, &[("iter d C", 6), ("next d", 6)])?);
+    assert!(rt; have_faults_after(alloc, &text, 260, &AFTER_CURSORS)?);
     text.push_str("iter d d")?;
     assert!(rt; passes(alloc, &text, 260, Which::Cursors));
     Ok(())
 }
+
+const AFTER_STRINGS: [(&str, u8); 1] = [("set d x \"a\"", 4)];
 
 #[test]
 fn strings_at_a_limit_and_past_it(rt: HostRuntime) -> Result<(), Fail> {
@@ -90,7 +101,7 @@ fn strings_at_a_limit_and_past_it(rt: HostRuntime) -> Result<(), Fail> {
     let mut text = numbered(alloc, "dict d\nthread A\n", "get d \"", "\"", 65_536)?;
     text.push_str("get d \"65535\"\n")?;
     assert!(rt; is_script(alloc, &text));
-    assert!(rt; have_faults_after(alloc, &text, 65_540, &[("set d x \"a\"", 4)])?);
+    assert!(rt; have_faults_after(alloc, &text, 65_540, &AFTER_STRINGS)?);
     text.push_str("set d \"a\" x")?;
     assert!(rt; passes(alloc, &text, 65_540, Which::Strings));
     Ok(())
@@ -107,27 +118,30 @@ fn a_long_string_is_reported_before_one_too_many(rt: HostRuntime) -> Result<(), 
     Ok(())
 }
 
+const AFTER_CALLS: [(&str, u8); 8] = [
+    ("get", 3),
+    ("begin d d d", 3),
+    ("get e", 12),
+    ("get d x", 12),
+    ("append d 1", 12),
+    ("end", 12),
+    ("stop", 2),
+    ("end \"", 5),
+];
+
 #[test]
 fn calls_at_a_limit_and_past_it(rt: HostRuntime) -> Result<(), Fail> {
     let alloc = rt.alloc();
     let mut text = repeated(alloc, "dict d\nthread A\n", "quiesce\n", 499_999)?;
     text.push_str("thread B\nquiesce\n")?;
     assert!(rt; is_script(alloc, &text));
-    let rows = [
-        ("get", 3),
-        ("begin d d d", 3),
-        ("get e", 12),
-        ("get d x", 12),
-        ("append d 1", 12),
-        ("end", 12),
-        ("stop", 2),
-        ("end \"", 5),
-    ];
-    assert!(rt; have_faults_after(alloc, &text, 500_004, &rows)?);
+    assert!(rt; have_faults_after(alloc, &text, 500_004, &AFTER_CALLS)?);
     text.push_str("quiesce")?;
     assert!(rt; passes(alloc, &text, 500_004, Which::Calls));
     Ok(())
 }
+
+const AFTER_TURNS: [(&str, u8); 3] = [("order", 3), ("order a", 6), ("order B", 13)];
 
 #[test]
 fn turns_at_a_limit_and_past_it(rt: HostRuntime) -> Result<(), Fail> {
@@ -135,61 +149,170 @@ fn turns_at_a_limit_and_past_it(rt: HostRuntime) -> Result<(), Fail> {
     let mut text = repeated(alloc, "thread A\norder", " A", 1_000_000)?;
     text.push_str("\n")?;
     assert!(rt; is_script(alloc, &text));
-    let rows = [("order", 3), ("order a", 6), ("order B", 13)];
-    assert!(rt; have_faults_after(alloc, &text, 3, &rows)?);
+    assert!(rt; have_faults_after(alloc, &text, 3, &AFTER_TURNS)?);
     text.push_str("order A")?;
     assert!(rt; passes(alloc, &text, 3, Which::Order));
     Ok(())
 }
+
+const AFTER_SECTIONS: [(&str, u8); 5] = [
+    ("", 10),
+    ("begin", 3),
+    ("begin e", 6),
+    ("begin d", 11),
+    ("begin d d", 11),
+];
 
 #[test]
 fn sections_at_a_limit_and_past_it(rt: HostRuntime) -> Result<(), Fail> {
     let alloc = rt.alloc();
     let text = repeated(alloc, "dict d\nthread A\n", "begin d\n", 16)?;
     assert!(rt; is_script(alloc, &repeated(alloc, &text, "end\n", 16)?));
-    let rows = [
-        ("", 10),
-        ("begin", 3),
-        ("begin e", 6),
-        ("begin d", 11),
-        ("begin d d", 11),
-    ];
-    assert!(rt; have_faults_after(alloc, &text, 19, &rows)?);
+    assert!(rt; have_faults_after(alloc, &text, 19, &AFTER_SECTIONS)?);
     Ok(())
+}
+
+/// A character as it stands in a script, and how many of them a string has at most.
+#[derive(Clone, Copy)]
+struct Character<'a> {
+    text: &'a str,
+    limit: u32,
+}
+
+const CHARACTERS: [Character<'static>; 3] = [
+    Character {
+        text: "a",
+        limit: 255,
+    },
+    Character {
+        text: "\\n",
+        limit: 255,
+    },
+    Character {
+        text: "\u{e9}",
+        limit: 127,
+    },
+];
+
+/// A script with a string of that many characters.
+fn with_string(alloc: Global, character: &str, count: u32) -> Result<String, AllocError> {
+    let mut text = repeated(alloc, "dict d\nthread A\nget d \"", character, count)?;
+    text.push_str("\"")?;
+    Ok(text)
 }
 
 #[test]
 fn bytes_of_strings_at_a_limit_and_past_it(rt: HostRuntime) -> Result<(), Fail> {
     let alloc = rt.alloc();
-    let head = "dict d\nthread A\nget d \"";
-    for (byte, limit) in [("a", 255), ("\\n", 255), ("\u{e9}", 127)] {
-        let mut text = repeated(alloc, head, byte, limit)?;
-        text.push_str("\"")?;
-        assert!(rt; is_script(alloc, &text));
-        let mut text = repeated(alloc, head, byte, limit + 1)?;
-        text.push_str("\"")?;
-        assert!(rt; passes(alloc, &text, 3, Which::StringBytes));
+    for character in &CHARACTERS {
+        let most = with_string(alloc, character.text, character.limit)?;
+        assert!(rt; is_script(alloc, &most), "of {:?}", character.text);
+        let more = with_string(alloc, character.text, character.limit.saturating_add(1))?;
+        assert!(rt;
+            passes(alloc, &more, 3, Which::StringBytes),
+            "of {:?}",
+            character.text
+        );
     }
     Ok(())
 }
 
+/// A head and then a part many times, and the line and the kind of the first fault; 0 where there is none.
+#[derive(Clone, Copy)]
+struct LongText<'a> {
+    head: &'a str,
+    part: &'a str,
+    count: u32,
+    line: u32,
+    kind: u8,
+}
+
+const LONG_TEXTS: [LongText<'static>; 10] = [
+    LongText {
+        head: "dict ",
+        part: "d",
+        count: 1_000_000,
+        line: 1,
+        kind: 6,
+    },
+    LongText {
+        head: "# ",
+        part: "\"",
+        count: 1_000_000,
+        line: 0,
+        kind: 0,
+    },
+    LongText {
+        head: "",
+        part: " ",
+        count: 1_000_000,
+        line: 0,
+        kind: 0,
+    },
+    LongText {
+        head: "dict d\nthread A\nget d \"",
+        part: "a",
+        count: 1_000_000,
+        line: 3,
+        kind: 5,
+    },
+    LongText {
+        head: "dict d\nthread A\nget d",
+        part: " \"a\"",
+        count: 250_000,
+        line: 3,
+        kind: 3,
+    },
+    LongText {
+        head: "\n",
+        part: "\n",
+        count: 1_000_000,
+        line: 0,
+        kind: 0,
+    },
+    LongText {
+        head: "heap ",
+        part: "1",
+        count: 1_000,
+        line: 1,
+        kind: 4,
+    },
+    LongText {
+        head: "heap -",
+        part: "1",
+        count: 1_000,
+        line: 1,
+        kind: 4,
+    },
+    LongText {
+        head: "dict d\nthread A\nget d ",
+        part: "9",
+        count: 1_000,
+        line: 3,
+        kind: 4,
+    },
+    LongText {
+        head: "dict d\nthread A\nget d ",
+        part: "0",
+        count: 1_000,
+        line: 3,
+        kind: 4,
+    },
+];
+
 #[test]
 fn long_texts(rt: HostRuntime) -> Result<(), Fail> {
     let alloc = rt.alloc();
-    for (head, part, count, line, kind) in [
-        ("dict ", "d", 1_000_000, 1, 6),
-        ("# ", "\"", 1_000_000, 0, 0),
-        ("", " ", 1_000_000, 0, 0),
-        ("dict d\nthread A\nget d \"", "a", 1_000_000, 3, 5),
-        ("dict d\nthread A\nget d", " \"a\"", 250_000, 3, 3),
-        ("\n", "\n", 1_000_000, 0, 0),
-        ("heap ", "1", 1_000, 1, 4),
-        ("heap -", "1", 1_000, 1, 4),
-        ("dict d\nthread A\nget d ", "9", 1_000, 3, 4),
-        ("dict d\nthread A\nget d ", "0", 1_000, 3, 4),
-    ] {
-        let text = repeated(alloc, head, part, count)?;
-        assert!(rt; fault_of(alloc, text.as_bytes()) == (line, kind));
+    for row in &LONG_TEXTS {
+        let text = repeated(alloc, row.head, row.part, row.count)?;
+        let fault = fault_of(alloc, text.as_bytes());
+        assert_eq!(rt;
+            fault,
+            (row.line, row.kind),
+            "{:?} {:?}",
+            row.head,
+            row.part
+        );
     }
     let mut text = repeated(alloc, "", "\n", 1_000_000)?;
     text.push_str("stop")?;

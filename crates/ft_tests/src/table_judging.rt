@@ -180,8 +180,9 @@ const CASES: [Case<'static>; 24] = [
 
 #[test]
 fn a_memory_error_has_its_cause(rt: HostRuntime) -> Result<(), Fail> {
-    for case in CASES {
-        assert_eq!(rt; judged(rt.alloc(), case)?, case.verdict);
+    for case in &CASES {
+        let verdict = judged(rt.alloc(), *case)?;
+        assert_eq!(rt; verdict, case.verdict, "of {:?}", case.transcript);
     }
     Ok(())
 }

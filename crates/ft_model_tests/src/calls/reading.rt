@@ -44,135 +44,135 @@ fn place(name: &str) -> Option<u32> {
 
 fn read_dict_call(word: &str, first: &str, second: &str) -> Option<DictCall> {
     match word {
-        "get" => Some(DictCall::Get { key: key(first)? }),
-        "getd" => Some(DictCall::GetOr {
-            key: key(first)?,
-            default: value(second)?,
-        }),
-        "set" => Some(DictCall::Set {
-            key: key(first)?,
-            value: value(second)?,
-        }),
-        "del" => Some(DictCall::Del { key: key(first)? }),
-        "pop" => Some(DictCall::Pop { key: key(first)? }),
-        "popd" => Some(DictCall::PopOr {
-            key: key(first)?,
-            default: value(second)?,
-        }),
         "popitem" => Some(DictCall::PopItem),
-        "setdefault" => Some(DictCall::SetDefault {
-            key: key(first)?,
-            default: value(second)?,
-        }),
-        "has" => Some(DictCall::Has { key: key(first)? }),
         "len" => Some(DictCall::Len),
         "items" => Some(DictCall::Items),
-        "update" => Some(DictCall::Update {
-            other: place(first)?,
-        }),
         "clear" => Some(DictCall::Clear),
-        "copyto" => Some(DictCall::CopyTo {
-            other: place(first)?,
-        }),
-        "eq" => Some(DictCall::Eq {
-            other: place(first)?,
-        }),
-        "iter" => Some(DictCall::Iter {
-            cursor: place(first)?,
-        }),
+        "update" | "copyto" | "eq" | "iter" => read_dict_place(word, place(first)?),
+        "set" | "getd" | "popd" | "setdefault" => {
+            read_dict_pair(word, key(first)?, value(second)?)
+        }
+        _ => read_dict_key(word, key(first)?),
+    }
+}
+
+/// A call on a dict that names another dict or a cursor.
+fn read_dict_place(word: &str, other: u32) -> Option<DictCall> {
+    match word {
+        "update" => Some(DictCall::Update { other }),
+        "copyto" => Some(DictCall::CopyTo { other }),
+        "eq" => Some(DictCall::Eq { other }),
+        "iter" => Some(DictCall::Iter { cursor: other }),
+        _ => None,
+    }
+}
+
+/// A call on a dict that names a key and a value.
+fn read_dict_pair(word: &str, key: Key, value: Value) -> Option<DictCall> {
+    let default = value;
+    match word {
+        "set" => Some(DictCall::Set { key, value }),
+        "getd" => Some(DictCall::GetOr { key, default }),
+        "popd" => Some(DictCall::PopOr { key, default }),
+        "setdefault" => Some(DictCall::SetDefault { key, default }),
+        _ => None,
+    }
+}
+
+/// A call on a dict that names a key.
+fn read_dict_key(word: &str, key: Key) -> Option<DictCall> {
+    match word {
+        "get" => Some(DictCall::Get { key }),
+        "del" => Some(DictCall::Del { key }),
+        "pop" => Some(DictCall::Pop { key }),
+        "has" => Some(DictCall::Has { key }),
         _ => None,
     }
 }
 
 fn read_list_call(word: &str, first: &str, second: &str) -> Option<ListCall> {
     match word {
-        "append" => Some(ListCall::Append {
-            value: value(first)?,
-        }),
-        "insert" => Some(ListCall::Insert {
-            index: integer(first)?,
-            value: value(second)?,
-        }),
-        "get" => Some(ListCall::Get {
-            index: integer(first)?,
-        }),
-        "set" => Some(ListCall::Set {
-            index: integer(first)?,
-            value: value(second)?,
-        }),
-        "del" => Some(ListCall::Del {
-            index: integer(first)?,
-        }),
         "pop" => Some(ListCall::Pop {
             index: integer(first),
         }),
-        "remove" => Some(ListCall::Remove {
-            value: value(first)?,
-        }),
-        "index" => Some(ListCall::Index {
-            value: value(first)?,
-        }),
-        "count" => Some(ListCall::Count {
-            value: value(first)?,
-        }),
-        "has" => Some(ListCall::Has {
-            value: value(first)?,
-        }),
         "reverse" => Some(ListCall::Reverse),
-        "extend" => Some(ListCall::Extend {
-            other: place(first)?,
-        }),
-        "slice" => Some(ListCall::Slice {
-            start: integer(first)?,
-            end: integer(second)?,
-        }),
         "clear" => Some(ListCall::Clear),
         "len" => Some(ListCall::Len),
         "items" => Some(ListCall::Items),
+        "extend" => Some(ListCall::Extend {
+            other: place(first)?,
+        }),
         "eq" => Some(ListCall::Eq {
             other: place(first)?,
         }),
         "iter" => Some(ListCall::Iter {
             cursor: place(first)?,
         }),
+        "get" | "del" | "insert" | "set" | "slice" => {
+            read_list_index(word, integer(first)?, second)
+        }
+        _ => read_list_value(word, value(first)?),
+    }
+}
+
+/// A call on a list that names an index.
+fn read_list_index(word: &str, index: i64, second: &str) -> Option<ListCall> {
+    match word {
+        "get" => Some(ListCall::Get { index }),
+        "del" => Some(ListCall::Del { index }),
+        "insert" => Some(ListCall::Insert {
+            index,
+            value: value(second)?,
+        }),
+        "set" => Some(ListCall::Set {
+            index,
+            value: value(second)?,
+        }),
+        "slice" => Some(ListCall::Slice {
+            start: index,
+            end: integer(second)?,
+        }),
+        _ => None,
+    }
+}
+
+/// A call on a list that names a value.
+fn read_list_value(word: &str, value: Value) -> Option<ListCall> {
+    match word {
+        "append" => Some(ListCall::Append { value }),
+        "remove" => Some(ListCall::Remove { value }),
+        "index" => Some(ListCall::Index { value }),
+        "count" => Some(ListCall::Count { value }),
+        "has" => Some(ListCall::Has { value }),
         _ => None,
     }
 }
 
 fn read_set_call(word: &str, first: &str) -> Option<SetCall> {
     match word {
+        "pop" => Some(SetCall::Pop),
+        "len" => Some(SetCall::Len),
+        "items" => Some(SetCall::Items),
+        "clear" => Some(SetCall::Clear),
         "add" => Some(SetCall::Add { key: key(first)? }),
         "discard" => Some(SetCall::Discard { key: key(first)? }),
         "remove" => Some(SetCall::Remove { key: key(first)? }),
-        "pop" => Some(SetCall::Pop),
         "has" => Some(SetCall::Has { key: key(first)? }),
-        "len" => Some(SetCall::Len),
-        "items" => Some(SetCall::Items),
-        "eq" => Some(SetCall::Eq {
-            other: place(first)?,
-        }),
-        "or" => Some(SetCall::Or {
-            other: place(first)?,
-        }),
-        "and" => Some(SetCall::And {
-            other: place(first)?,
-        }),
-        "sub" => Some(SetCall::Sub {
-            other: place(first)?,
-        }),
-        "xor" => Some(SetCall::Xor {
-            other: place(first)?,
-        }),
-        "subset" => Some(SetCall::Subset {
-            other: place(first)?,
-        }),
-        "disjoint" => Some(SetCall::Disjoint {
-            other: place(first)?,
-        }),
-        "clear" => Some(SetCall::Clear),
-        "iter" => Some(SetCall::Iter {
-            cursor: place(first)?,
-        }),
+        _ => read_set_place(word, place(first)?),
+    }
+}
+
+/// A call on a set that names another set or a cursor.
+fn read_set_place(word: &str, other: u32) -> Option<SetCall> {
+    match word {
+        "eq" => Some(SetCall::Eq { other }),
+        "or" => Some(SetCall::Or { other }),
+        "and" => Some(SetCall::And { other }),
+        "sub" => Some(SetCall::Sub { other }),
+        "xor" => Some(SetCall::Xor { other }),
+        "subset" => Some(SetCall::Subset { other }),
+        "disjoint" => Some(SetCall::Disjoint { other }),
+        "iter" => Some(SetCall::Iter { cursor: other }),
         _ => None,
     }
 }

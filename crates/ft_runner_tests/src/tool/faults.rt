@@ -1,12 +1,14 @@
 //! Streams that fail at each of their calls, texts that are cut at each of their bytes, and scripts at the limits. The
 //! expected texts and the places of the cuts are worked out by hand.
 
+use super::checking::NESTED;
+use super::long::{COMMENT, Long, check_long, count_of};
 use super::{
-    Called, Case, EXAMPLE, NESTED, SCRIPT, TEXT, USAGE, call_check, call_still, check, count_of,
-    words_of,
+    AMPLE, Case, EXAMPLE, Moves, NO_COMMAND, NO_SCRIPT, NO_SINK, NO_SOURCE, TEXT, WHOLE,
+    call_check, call_still, check, check_all, check_commands,
 };
-use ft_io::{MemSink, MemSource};
-use ft_runner::{Fault, NoGate, run_tool};
+use ft_model::Rule;
+use ft_runner::Fault;
 use std::alloc::{AllocError, Global};
 use std::process::Abort;
 use std::sync::Wait;
@@ -29,109 +31,111 @@ const SCRIPT_CUTS: [usize; 23] = [
 const NESTED_TEXT: &str =
     "A.1 r0 begin d = entered\nB.1 r0 begin l = entered\nC.1 w0 set d 1 1 = ok\nB.2 w1 append l 2 = ok\nA.2 r2 begin l = entered waited B\nB.3 r2 end = kept\nA.3 w2 append l 1 = ok\nA.4 r3 end = kept\nA.5 r3 end = suspended 1\nl = [2, 1]\nd = {1: 1}\n";
 
-/// Which call of each stream fails, from 1; 0 for none.
+/// A call with streams of seven bytes, and how many pieces are taken and put.
 #[derive(Clone, Copy)]
-struct Failing {
-    take: u64,
-    put: u64,
-    error: u64,
+struct Counted<'a> {
+    case: Case<'a>,
+    /// The end of the source is one piece more, and comes last.
+    takes: u64,
+    puts: usize,
 }
 
-const NONE: Failing = Failing {
-    take: 0,
-    put: 0,
-    error: 0,
-};
+const SEVEN: Moves = Moves { most: 7, ..WHOLE };
 
-/// Calls the tool with streams that move seven bytes in a call, and of which these calls fail.
-fn call_failing<R: Threads + Wait + Sync + AllocGlobal>(
+const COUNTED: [Counted<'static>; 2] = [
+    Counted {
+        case: Case {
+            input: SECTIONS,
+            moves: SEVEN,
+            put: SECTIONS_TEXT,
+            entries: 8,
+            ..EXAMPLE
+        },
+        takes: 17,
+        puts: 30,
+    },
+    Counted {
+        case: Case {
+            command: "run",
+            moves: SEVEN,
+            ..EXAMPLE
+        },
+        takes: 7,
+        puts: 9,
+    },
+];
+
+/// The source fails at each of the calls that are made of it.
+fn source_fails<R: Threads + Wait + Sync + Abort + AllocGlobal>(
     rt: &R,
-    command: &str,
-    input: &[u8],
-    failing: Failing,
-) -> Result<Called, Fail> {
-    let alloc = rt.alloc();
-    let words = words_of(alloc, command)?;
-    let mut source = MemSource::new(input.to_vec(alloc)?, 7, vec![in alloc; failing.take]?);
-    let mut sink = MemSink::new(alloc, 1000, 7, vec![in alloc; failing.put]?)?;
-    let mut errors = MemSink::new(alloc, 100, 100, vec![in alloc; failing.error]?)?;
-    let report = run_tool(
-        rt,
-        alloc,
-        &words,
-        &mut source,
-        &mut sink,
-        &mut errors,
-        &NoGate,
-    );
-    Ok(Called {
-        status: report.status,
-        entries: report.history.len(),
-        put: sink.bytes().to_vec(alloc)?,
-        reported: errors.bytes().to_vec(alloc)?,
-    })
+    row: &Counted,
+) -> Result<(), Fail> {
+    for take_fails in 1..=row.takes {
+        let fails = Case {
+            moves: Moves {
+                take_fails,
+                ..SEVEN
+            },
+            status: 3,
+            fault: Fault::Read,
+            put: "",
+            reported: "ftpy: read fault\n",
+            entries: 0,
+            ..row.case
+        };
+        check(rt, &fails)?;
+    }
+    // It isn't called again.
+    let take_fails = row.takes.saturating_add(1);
+    let moves = Moves {
+        take_fails,
+        ..SEVEN
+    };
+    check(rt, &Case { moves, ..row.case })
 }
 
-// Of the first script 16 pieces come, of the second 6; then comes the end.
 #[test]
 fn a_source_fails_at_each_call(rt: HostRuntime) -> Result<(), Fail> {
-    for (command, script, calls, text) in [
-        ("turns", SECTIONS, 17, SECTIONS_TEXT),
-        ("run", SCRIPT, 7, TEXT),
-    ] {
-        for take in 1..=calls {
-            let called = call_failing(&rt, command, script.as_bytes(), Failing { take, ..NONE })?;
-            assert_eq!(rt; called.status, 3);
-            assert_eq!(rt; called.put.as_slice(), b"".as_slice());
-            assert_eq!(rt;
-                called.reported.as_slice(),
-                b"ftpy: read fault\n".as_slice()
-            );
-        }
-        let take = calls + 1;
-        let called = call_failing(&rt, command, script.as_bytes(), Failing { take, ..NONE })?;
-        assert_eq!(rt; called.status, 0);
-        assert_eq!(rt; called.put.as_slice(), text.as_bytes());
+    for row in &COUNTED {
+        source_fails(&rt, row)?;
     }
     Ok(())
 }
 
-/// The sink fails at its call of this number, after pieces of seven bytes each.
-fn fails_at<R: Threads + Wait + Sync + Abort + AllocGlobal>(
-    rt: &R,
-    command: &str,
-    script: &str,
-    text: &str,
-    put: u64,
-) -> Result<(), Fail> {
-    let called = call_failing(rt, command, script.as_bytes(), Failing { put, ..NONE })?;
-    assert_eq!(rt; called.status, 4);
-    assert_eq!(rt;
-        called.put.len() as u64,
-        put.saturating_sub(1).saturating_mul(7)
-    );
-    assert!(rt; text.as_bytes().starts_with(&called.put));
-    assert_eq!(rt;
-        called.reported.as_slice(),
-        b"ftpy: write fault\n".as_slice()
-    );
-    Ok(())
+/// The streams of a call whose sink fails after that many pieces.
+fn moves_after(pieces: usize) -> Moves {
+    let put_fails = (pieces as u64).saturating_add(1);
+    Moves { put_fails, ..SEVEN }
 }
 
-// The first text goes in 30 pieces, the second in 9.
+/// The sink fails at each of the calls that are made of it, after pieces of seven bytes each.
+fn sink_fails<R: Threads + Wait + Sync + Abort + AllocGlobal>(
+    rt: &R,
+    row: &Counted,
+) -> Result<(), Fail> {
+    for pieces in 0..row.puts {
+        let part = row.case.put.get(..pieces.saturating_mul(7));
+        let fails = Case {
+            moves: moves_after(pieces),
+            status: 4,
+            fault: Fault::Write,
+            put: part.ok_or("no such part")?,
+            reported: "ftpy: write fault\n",
+            ..row.case
+        };
+        check(rt, &fails)?;
+    }
+    let whole = Case {
+        moves: moves_after(row.puts),
+        ..row.case
+    };
+    check(rt, &whole)
+}
+
 #[test]
 fn a_sink_fails_at_each_call(rt: HostRuntime) -> Result<(), Fail> {
-    for (command, script, text, calls) in [
-        ("turns", SECTIONS, SECTIONS_TEXT, 30),
-        ("run", SCRIPT, TEXT, 9),
-    ] {
-        for put in 1..=calls {
-            fails_at(&rt, command, script, text, put)?;
-        }
-        let put = calls + 1;
-        let called = call_failing(&rt, command, script.as_bytes(), Failing { put, ..NONE })?;
-        assert_eq!(rt; called.status, 0);
-        assert_eq!(rt; called.put.as_slice(), text.as_bytes());
+    for row in &COUNTED {
+        sink_fails(&rt, row)?;
     }
     Ok(())
 }
@@ -142,20 +146,31 @@ fn a_script_is_cut_at_each_byte(rt: HostRuntime) -> Result<(), Fail> {
     let bytes = SECTIONS.as_bytes();
     for cut in 0..=bytes.len() {
         let part = bytes.get(..cut).ok_or("no such part")?;
-        let called = call_still(alloc, "turns", part.to_vec(alloc)?)?;
+        let called = call_still(alloc, "turns", part.to_vec(alloc)?, AMPLE)?;
         let is_script = SCRIPT_CUTS.contains(&cut);
-        assert_eq!(rt; called.status, if is_script { 0 } else { 1 }, "at {cut}");
-        assert_eq!(rt; called.reported.is_empty(), is_script, "at {cut}");
+        let status = if is_script { 0 } else { 1 };
+        assert_eq!(rt;
+            (called.status, called.reported.is_empty()),
+            (status, is_script),
+            "at {cut}"
+        );
         assert!(rt; is_script || called.put.is_empty(), "at {cut}");
     }
     Ok(())
 }
 
-/// What `check` writes of a transcript that is whole in its lines, of which there are that many.
-fn missing(alloc: Global, lines: usize) -> Result<String, AllocError> {
-    let place = lines.saturating_add(1);
-    let rule = if lines < 9 { "missing" } else { "world" };
-    format!(in alloc; "not legal at {place}: {rule}\n")
+/// What a check of the first bytes of the transcript has to come to: the status, what is put, and what is reported.
+fn found_of_part(alloc: Global, part: &[u8]) -> Result<(u8, String, String), AllocError> {
+    let lines = count_of(part, b'\n');
+    let next = lines.saturating_add(1);
+    if part.is_empty() || part.ends_with(b"\n") {
+        let rule = if lines < 9 { "missing" } else { "world" };
+        let put = format!(in alloc; "not legal at {next}: {rule}\n")?;
+        Ok((7, put, String::new(alloc)))
+    } else {
+        let reported = format!(in alloc; "ftpy: transcript line {next}\n")?;
+        Ok((8, String::new(alloc), reported))
+    }
 }
 
 #[test]
@@ -165,121 +180,176 @@ fn a_transcript_is_cut_at_each_byte(rt: HostRuntime) -> Result<(), Fail> {
     for cut in 0..bytes.len() {
         let part = bytes.get(..cut).ok_or("no such part")?;
         let called = call_check(alloc, NESTED, part)?;
-        let lines = count_of(part, b'\n');
-        if part.is_empty() || part.ends_with(b"\n") {
-            assert_eq!(rt; called.status, 7, "at {cut}");
-            assert_eq!(rt;
+        let (status, put, reported) = found_of_part(alloc, part)?;
+        assert_eq!(rt;
+            (
+                called.status,
                 called.put.as_slice(),
-                missing(alloc, lines)?.as_bytes(),
-                "at {cut}"
-            );
-        } else {
-            let line = lines.saturating_add(1);
-            let reported = format!(in alloc; "ftpy: transcript line {line}\n")?;
-            assert_eq!(rt; called.status, 8, "at {cut}");
-            assert_eq!(rt; called.put.as_slice(), b"".as_slice(), "at {cut}");
-            assert_eq!(rt; called.reported.as_slice(), reported.as_bytes(), "at {cut}");
-        }
+                called.reported.as_slice()
+            ),
+            (status, put.as_bytes(), reported.as_bytes()),
+            "at {cut}"
+        );
     }
     let whole = call_check(alloc, NESTED, bytes)?;
     assert_eq!(rt; whole.put.as_slice(), b"legal\n".as_slice());
     Ok(())
 }
 
-// What can't be put into the errors changes nothing else; 0 and 7 put nothing there.
+const NO_ERRORS: Moves = Moves {
+    error_fails: 1,
+    ..SEVEN
+};
+
+/// The sink fails, and the one for errors too.
+const NO_SINKS: Case<'static> = Case {
+    moves: Moves {
+        put_fails: 2,
+        ..NO_ERRORS
+    },
+    put: "A.1 w0 ",
+    reported: "",
+    ..NO_SINK
+};
+
+/// What can't be put into the errors changes nothing else; 0 and 7 put nothing there.
+const WITHOUT_ERRORS: [Case<'static>; 8] = [
+    Case {
+        moves: NO_ERRORS,
+        ..EXAMPLE
+    },
+    Case {
+        input: "set d 1 1\n",
+        moves: NO_ERRORS,
+        fault: Fault::Script(1, 3),
+        reported: "",
+        ..NO_SCRIPT
+    },
+    Case {
+        moves: NO_ERRORS,
+        reported: "",
+        ..NO_COMMAND
+    },
+    Case {
+        moves: Moves {
+            take_fails: 2,
+            ..NO_ERRORS
+        },
+        reported: "",
+        ..NO_SOURCE
+    },
+    NO_SINKS,
+    Case {
+        command: "run",
+        ..NO_SINKS
+    },
+    Case {
+        command: "check",
+        input: "dict d\nthread A\n---\n",
+        moves: NO_ERRORS,
+        status: 7,
+        fault: Fault::NotLegal(1, Rule::World),
+        put: "not legal at 1: world\n",
+        entries: 0,
+        ..EXAMPLE
+    },
+    Case {
+        command: "check",
+        input: "dict d\nthread A\n---\nd = {\n",
+        moves: NO_ERRORS,
+        status: 8,
+        fault: Fault::Transcript(1),
+        put: "",
+        entries: 0,
+        ..EXAMPLE
+    },
+];
+
+const LONG_WITHOUT_ERRORS: [Long<'static>; 1] = [Long {
+    command: "turns",
+    moves: NO_ERRORS,
+    reported: "",
+    ..COMMENT
+}];
+
 #[test]
 fn a_sink_for_errors_fails_at_once(rt: HostRuntime) -> Result<(), Fail> {
-    let failing = Failing { error: 1, ..NONE };
-    let (read, write) = (
-        Failing { take: 2, ..failing },
-        Failing { put: 2, ..failing },
-    );
-    let bad = "dict d\nthread A\n---\nd = {\n";
-    let short = "dict d\nthread A\n---\n";
-    for (command, input, fails, status, put) in [
-        ("turns", SCRIPT, failing, 0, TEXT),
-        ("turns", "set d 1 1\n", failing, 1, ""),
-        ("walk", SCRIPT, failing, 2, ""),
-        ("turns", SCRIPT, read, 3, ""),
-        ("turns", SCRIPT, write, 4, "A.1 w0 "),
-        ("run", SCRIPT, write, 4, "A.1 w0 "),
-        ("check", short, failing, 7, "not legal at 1: world\n"),
-        ("check", bad, failing, 8, ""),
-    ] {
-        let called = call_failing(&rt, command, input.as_bytes(), fails)?;
-        assert_eq!(rt; called.status, status, "at {command}");
-        assert_eq!(rt; called.put.as_slice(), put.as_bytes(), "at {command}");
-        assert_eq!(rt; called.reported.as_slice(), b"".as_slice(), "at {command}");
+    check_all(&rt, &WITHOUT_ERRORS)?;
+    check_long(&rt, &LONG_WITHOUT_ERRORS)
+}
+
+fn push_times(text: &mut String, part: &str, times: u32) -> Result<(), AllocError> {
+    for _ in 0..times {
+        text.push_str(part)?;
     }
-    let comment = vec![in rt.alloc(); b'#'; 4_194_305]?;
-    let long = call_failing(&rt, "turns", &comment, failing)?;
-    assert_eq!(rt; long.status, 6);
-    assert_eq!(rt; long.put.as_slice(), b"".as_slice());
     Ok(())
 }
 
 /// A thread that opens that many sections on one dict, and ends that many.
-fn nested(alloc: Global, begins: usize, ends: usize) -> Result<String, AllocError> {
+fn nested(alloc: Global, begins: u32, ends: u32) -> Result<String, AllocError> {
     let mut text = String::from_str(alloc, "dict d\nthread A\n")?;
-    for _ in 0..begins {
-        text.push_str("begin d\n")?;
-    }
-    for _ in 0..ends {
-        text.push_str("end\n")?;
-    }
+    push_times(&mut text, "begin d\n", begins)?;
+    push_times(&mut text, "end\n", ends)?;
     Ok(text)
+}
+
+/// Sixteen calls of the first thread from an index on, with the same reply each.
+fn push_sixteen(
+    text: &mut String,
+    alloc: Global,
+    first: u32,
+    reply: &str,
+) -> Result<(), AllocError> {
+    for index in (first..u32::MAX).take(16) {
+        text.push_str(format!(in alloc; "A.{index} r0 {reply}\n")?.as_str())?;
+    }
+    Ok(())
 }
 
 #[test]
 fn sixteen_sections_are_open(rt: HostRuntime) -> Result<(), Fail> {
     let alloc = rt.alloc();
     let mut put = String::new(alloc);
-    for index in 1..17_u32 {
-        put.push_str(format!(in alloc; "A.{index} r0 begin d = entered\n")?.as_str())?;
-    }
-    for index in 17..33_u32 {
-        put.push_str(format!(in alloc; "A.{index} r0 end = kept\n")?.as_str())?;
-    }
+    push_sixteen(&mut put, alloc, 1, "begin d = entered")?;
+    push_sixteen(&mut put, alloc, 17, "end = kept")?;
     put.push_str("d = {}\n")?;
     let script = nested(alloc, 16, 16)?;
-    for command in ["turns", "run"] {
-        let called = call_failing(&rt, command, script.as_bytes(), NONE)?;
-        assert_eq!(rt; called.status, 0);
-        assert_eq!(rt; called.put.as_slice(), put.as_bytes());
+    let open = Case {
+        input: script.as_str(),
+        moves: SEVEN,
+        put: put.as_str(),
+        entries: 32,
+        ..EXAMPLE
+    };
+    check_commands(&rt, open, &["turns", "run"])
+}
+
+/// Sixty-five threads without calls.
+fn many_threads(alloc: Global) -> Result<String, AllocError> {
+    let mut text = String::new(alloc);
+    for thread in 1..66_u32 {
+        text.push_str(format!(in alloc; "thread T{thread}\n")?.as_str())?;
     }
-    Ok(())
+    Ok(text)
 }
 
 #[test]
 fn more_than_a_script_may_have_is_refused(rt: HostRuntime) -> Result<(), Fail> {
     let alloc = rt.alloc();
-    let deep = nested(alloc, 17, 0)?;
-    let mut crowd = String::new(alloc);
-    for thread in 1..66_u32 {
-        crowd.push_str(format!(in alloc; "thread T{thread}\n")?.as_str())?;
-    }
-    for (script, fault, reported) in [
-        (
-            &deep,
-            Fault::Script(19, 11),
-            "ftpy: line 19: 11 section too deep\n",
-        ),
-        (
-            &crowd,
-            Fault::Script(65, 12),
-            "ftpy: line 65: 12 limit threads\n",
-        ),
-    ] {
-        let refused = Case {
-            input: script.as_str(),
-            status: 1,
-            fault,
-            put: "",
-            reported,
-            entries: 0,
-            ..EXAMPLE
-        };
-        check(&rt, &refused)?;
-    }
-    Ok(())
+    let script = nested(alloc, 17, 0)?;
+    let deep = Case {
+        input: script.as_str(),
+        fault: Fault::Script(19, 11),
+        reported: "ftpy: line 19: 11 section too deep\n",
+        ..NO_SCRIPT
+    };
+    check(&rt, &deep)?;
+    let script = many_threads(alloc)?;
+    let wide = Case {
+        input: script.as_str(),
+        fault: Fault::Script(65, 12),
+        reported: "ftpy: line 65: 12 limit threads\n",
+        ..NO_SCRIPT
+    };
+    check(&rt, &wide)
 }

@@ -1,6 +1,6 @@
 //! A gate at which two threads meet, so that their calls come in one order.
 
-use super::running::call_run;
+use super::{AMPLE, call};
 use crossbeam_utils::Backoff;
 use ft_runner::Gate;
 use std::sync::atomic::{AtomicU64, Ordering};
@@ -23,6 +23,17 @@ struct Meeting {
 }
 
 impl Meeting {
+    /// How often something was wrong, and then how often each thread came and was answered.
+    fn counts(&self) -> [u64; 5] {
+        [
+            self.wrong.load(Ordering::SeqCst),
+            self.first_came.load(Ordering::SeqCst),
+            self.first_answered.load(Ordering::SeqCst),
+            self.second_came.load(Ordering::SeqCst),
+            self.second_answered.load(Ordering::SeqCst),
+        ]
+    }
+
     /// Holds the thread until the word says that many.
     fn hold(&self, word: &AtomicU64, count: u64) {
         let backoff = Backoff::new();
@@ -84,13 +95,8 @@ fn a_gate_holds_two_threads(rt: HostRuntime) -> Result<(), Fail> {
         second_answered: AtomicU64::new(0),
         wrong: AtomicU64::new(0),
     };
-    let run = call_run(&rt, SCRIPT, &gate)?;
-    assert_eq!(rt; run.status, 0);
-    assert_eq!(rt; run.put.as_slice(), TEXT.as_bytes());
-    assert_eq!(rt; gate.wrong.load(Ordering::SeqCst), 0);
-    assert_eq!(rt; gate.first_came.load(Ordering::SeqCst), 1);
-    assert_eq!(rt; gate.first_answered.load(Ordering::SeqCst), 1);
-    assert_eq!(rt; gate.second_came.load(Ordering::SeqCst), 2);
-    assert_eq!(rt; gate.second_answered.load(Ordering::SeqCst), 2);
+    let run = call(&rt, "run", SCRIPT, AMPLE, &gate)?;
+    assert_eq!(rt; (run.status, run.put.as_slice()), (0, TEXT.as_bytes()));
+    assert_eq!(rt; gate.counts(), [0, 1, 1, 2, 2]);
     Ok(())
 }

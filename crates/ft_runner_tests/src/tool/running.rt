@@ -1,35 +1,14 @@
 //! Scripts whose threads are run beside each other. What several threads write differs from run to run, so it is checked;
 //! the expected texts are those of one thread.
 
-use super::{Called, Case, EXAMPLE, call_check, check, count_of, long_script, words_of};
-use ft_io::{MemSink, MemSource};
-use ft_runner::{Fault, Gate, NoGate, run_tool};
+use super::long::{count_of, long_script};
+use super::{AMPLE, Case, NO_SCRIPT, NO_SINK, NO_SOURCE, call, call_check, check_all};
+use ft_runner::NoGate;
 use std::alloc::{AllocError, Global};
 use std::process::Abort;
 use std::sync::Wait;
 use std::test::Fail;
 use std::thread::Threads;
-
-/// Calls the tool with `run`, this script and this gate.
-pub(super) fn call_run<R: Threads + Wait + Sync + AllocGlobal, G: Gate>(
-    rt: &R,
-    script: &str,
-    gate: &G,
-) -> Result<Called, Fail> {
-    let alloc = rt.alloc();
-    let words = words_of(alloc, "run")?;
-    let input = script.as_bytes().to_vec(alloc)?;
-    let mut source = MemSource::new(input, 1_000_000, Vec::new(alloc));
-    let mut sink = MemSink::new(alloc, 200_000, 200_000, Vec::new(alloc))?;
-    let mut errors = MemSink::new(alloc, 100, 100, Vec::new(alloc))?;
-    let report = run_tool(rt, alloc, &words, &mut source, &mut sink, &mut errors, gate);
-    Ok(Called {
-        status: report.status,
-        entries: report.history.len(),
-        put: sink.bytes().to_vec(alloc)?,
-        reported: errors.bytes().to_vec(alloc)?,
-    })
-}
 
 /// Sixty-four threads, each with a section on two dicts in which it sets a key of its own in both.
 fn crowd(alloc: Global) -> Result<String, AllocError> {
@@ -59,10 +38,11 @@ fn check_run<R: Threads + Wait + Sync + Abort + AllocGlobal>(
     entries: usize,
     lines: usize,
 ) -> Result<Vec<u8>, Fail> {
-    let run = call_run(rt, script, &NoGate)?;
-    assert_eq!(rt; run.status, 0);
-    assert_eq!(rt; run.entries, entries);
-    assert_eq!(rt; count_of(&run.put, b'\n'), lines);
+    let run = call(rt, "run", script, AMPLE, &NoGate)?;
+    assert_eq!(rt;
+        (run.status, run.entries, count_of(&run.put, b'\n')),
+        (0, entries, lines)
+    );
     assert_eq!(rt; run.reported.as_slice(), b"".as_slice());
     let checked = call_check(rt.alloc(), script, &run.put)?;
     assert_eq!(rt; checked.put.as_slice(), b"legal\n".as_slice());
@@ -84,40 +64,22 @@ fn sixty_four_threads_have_sections_on_two_dicts(rt: HostRuntime) -> Result<(), 
     Ok(())
 }
 
+const ENDS_ILL: [Case<'static>; 3] = [
+    Case {
+        command: "run",
+        ..NO_SCRIPT
+    },
+    Case {
+        command: "run",
+        ..NO_SOURCE
+    },
+    Case {
+        command: "run",
+        ..NO_SINK
+    },
+];
+
 #[test]
 fn a_run_that_does_not_end_well_is_reported(rt: HostRuntime) -> Result<(), Fail> {
-    let refused = Case {
-        command: "run",
-        input: "list l\ntables 2 1\n",
-        status: 1,
-        fault: Fault::Script(2, 12),
-        put: "",
-        reported: "ftpy: line 2: 12 limit class\n",
-        entries: 0,
-        ..EXAMPLE
-    };
-    check(&rt, &refused)?;
-    let read = Case {
-        command: "run",
-        most: 10,
-        take_fails: 2,
-        status: 3,
-        fault: Fault::Read,
-        put: "",
-        reported: "ftpy: read fault\n",
-        entries: 0,
-        ..EXAMPLE
-    };
-    check(&rt, &read)?;
-    let write = Case {
-        command: "run",
-        most: 10,
-        put_fails: 2,
-        status: 4,
-        fault: Fault::Write,
-        put: "A.1 w0 set",
-        reported: "ftpy: write fault\n",
-        ..EXAMPLE
-    };
-    check(&rt, &write)
+    check_all(&rt, &ENDS_ILL)
 }

@@ -1,8 +1,12 @@
 //! Scripts in which tables are used up, or a container would pass the largest one: the calls that find none are answered
 //! so, and the scripts go on. The expected texts are worked out by hand from what each call takes.
 
-use super::running::call_run;
-use super::{Case, EXAMPLE, Run, call_check, call_still, check, count_of};
+use super::long::count_of;
+use super::runs::{Run, case_of};
+use super::{
+    AMPLE, Case, Moves, NO_SCRIPT, NO_SINK, NO_SOURCE, WHOLE, call, call_check, call_still, check,
+    check_all,
+};
 use ft_runner::{Fault, NoGate};
 use std::alloc::{AllocError, Global};
 use std::process::Abort;
@@ -10,12 +14,15 @@ use std::sync::Wait;
 use std::test::Fail;
 use std::thread::Threads;
 
+/// A script of two dicts, of which the first takes the one table.
+const ONE_TABLE: &str = "tables 3 1\ndict d\ndict e\nthread A\nset d 1 0\nset e 1 0\nlen e\n";
+
 /// Scripts of one thread in which a class of tables is used up.
 const LACKING: [Run<'static>; 9] = [
     // The one table of class 3 is the first dict's.
     Run {
         entries: 3,
-        input: "tables 3 1\ndict d\ndict e\nthread A\nset d 1 0\nset e 1 0\nlen e\n",
+        input: ONE_TABLE,
         put: "A.1 w0 set d 1 0 = ok\nA.2 r1 set e 1 0 = MemoryError 3\nA.3 r1 len e = 0\nd = {1: 0}\ne = {}\n",
     },
     // The sixth key of `d` takes the one table of class 4.
@@ -99,10 +106,7 @@ fn comes_to<'a, R: Threads + Wait + Sync + Abort + AllocGlobal>(
 ) -> Result<(), Fail> {
     let case = Case {
         command,
-        input: run.input,
-        put: run.put,
-        entries: run.entries,
-        ..EXAMPLE
+        ..case_of(run)
     };
     check(rt, &case)?;
     let checked = call_check(rt.alloc(), run.input, run.put.as_bytes())?;
@@ -132,32 +136,28 @@ fn a_table_is_free_again_after_quiescent_points(rt: HostRuntime) -> Result<(), F
     Ok(())
 }
 
-// A sink that fails at a reply of MemoryError, and a source that fails.
+/// A sink that fails at a reply of MemoryError, and a source that fails.
+const BROKEN_STREAMS: [Case<'static>; 2] = [
+    Case {
+        input: ONE_TABLE,
+        moves: Moves { room: 47, ..WHOLE },
+        put: "A.1 w0 set d 1 0 = ok\nA.2 r1 set e 1 0 = Memory",
+        entries: 3,
+        ..NO_SINK
+    },
+    Case {
+        input: ONE_TABLE,
+        moves: Moves {
+            take_fails: 2,
+            ..WHOLE
+        },
+        ..NO_SOURCE
+    },
+];
+
 #[test]
 fn a_stream_fails_where_no_table_is_left(rt: HostRuntime) -> Result<(), Fail> {
-    let [run, ..] = &LACKING;
-    let write = Case {
-        input: run.input,
-        room: 47,
-        status: 4,
-        fault: Fault::Write,
-        put: "A.1 w0 set d 1 0 = ok\nA.2 r1 set e 1 0 = Memory",
-        reported: "ftpy: write fault\n",
-        entries: 3,
-        ..EXAMPLE
-    };
-    check(&rt, &write)?;
-    let read = Case {
-        take_fails: 2,
-        room: 1000,
-        status: 3,
-        fault: Fault::Read,
-        put: "",
-        reported: "ftpy: read fault\n",
-        entries: 0,
-        ..write
-    };
-    check(&rt, &read)
+    check_all(&rt, &BROKEN_STREAMS)
 }
 
 /// A script with a list of one item that is doubled some times, and what is written of its calls.
@@ -172,37 +172,66 @@ fn doubled(alloc: Global, times: u32) -> Result<(String, String), AllocError> {
     Ok((script, lines))
 }
 
-// Doubled twelve times, the list has the 4,096 items for which a table of class 12 has room, and goes on in one of class
-// 13; doubled sixteen times, it has the 65,536 items for which the largest table has room.
+/// A list that is doubled, calls after that, and what is written of them.
+#[derive(Clone, Copy)]
+struct Doubling<'a> {
+    times: u32,
+    calls: &'a str,
+    replies: &'a str,
+    entries: usize,
+}
+
+const FILLED: [Doubling<'static>; 2] = [
+    // The list has the 4,096 items for which a table of class 12 has room, and goes on in one of class 13.
+    Doubling {
+        times: 12,
+        calls: "append l 1\nget l 4095\n",
+        replies: "A.14 w13 append l 1 = ok\nA.15 r14 get l 4095 = 1\nl = [1, 1, ",
+        entries: 15,
+    },
+    // It has the 65,536 items for which the largest table has room.
+    Doubling {
+        times: 16,
+        calls: "append l 1\nget l 65535\n",
+        replies: "A.18 r17 append l 1 = MemoryError over\nA.19 r17 get l 65535 = 1\nl = [1, 1, ",
+        entries: 19,
+    },
+];
+
+/// The script is run in the order of its turns and in a thread: both write the same, and begin with the lines.
+fn runs_alike<R: Threads + Wait + Sync + Abort + AllocGlobal>(
+    rt: &R,
+    script: &str,
+    lines: &str,
+    entries: usize,
+) -> Result<(), Fail> {
+    let alloc = rt.alloc();
+    let ran = call_still(alloc, "turns", script.as_bytes().to_vec(alloc)?, AMPLE)?;
+    let count = count_of(&ran.put, b'\n');
+    assert_eq!(rt;
+        (ran.status, ran.entries, count),
+        (0, entries, entries.saturating_add(1)),
+        "at {lines:?}"
+    );
+    assert!(rt; ran.put.starts_with(lines.as_bytes()), "at {lines:?}");
+    let alone = call(rt, "run", script, AMPLE, &NoGate)?;
+    assert_eq!(rt; alone.put.as_slice(), ran.put.as_slice(), "at {lines:?}");
+    let checked = call_check(alloc, script, &ran.put)?;
+    assert_eq!(rt;
+        checked.put.as_slice(),
+        b"legal\n".as_slice(),
+        "at {lines:?}"
+    );
+    Ok(())
+}
+
 #[test]
 fn a_list_fills_the_largest_table(rt: HostRuntime) -> Result<(), Fail> {
-    let alloc = rt.alloc();
-    for (times, calls, replies, entries) in [
-        (
-            12,
-            "append l 1\nget l 4095\n",
-            "A.14 w13 append l 1 = ok\nA.15 r14 get l 4095 = 1\nl = [1, 1, ",
-            15,
-        ),
-        (
-            16,
-            "append l 1\nget l 65535\n",
-            "A.18 r17 append l 1 = MemoryError over\nA.19 r17 get l 65535 = 1\nl = [1, 1, ",
-            19,
-        ),
-    ] {
-        let (mut script, mut lines) = doubled(alloc, times)?;
-        script.push_str(calls)?;
-        lines.push_str(replies)?;
-        let ran = call_still(alloc, "turns", script.as_bytes().to_vec(alloc)?)?;
-        assert_eq!(rt; ran.status, 0);
-        assert_eq!(rt; ran.entries, entries);
-        assert_eq!(rt; count_of(&ran.put, b'\n'), entries.saturating_add(1));
-        assert!(rt; ran.put.starts_with(lines.as_bytes()));
-        let alone = call_run(&rt, script.as_str(), &NoGate)?;
-        assert_eq!(rt; alone.put.as_slice(), ran.put.as_slice());
-        let checked = call_check(alloc, script.as_str(), &ran.put)?;
-        assert_eq!(rt; checked.put.as_slice(), b"legal\n".as_slice());
+    for row in &FILLED {
+        let (mut script, mut lines) = doubled(rt.alloc(), row.times)?;
+        script.push_str(row.calls)?;
+        lines.push_str(row.replies)?;
+        runs_alike(&rt, script.as_str(), lines.as_str(), row.entries)?;
     }
     Ok(())
 }
@@ -211,39 +240,39 @@ fn a_list_fills_the_largest_table(rt: HostRuntime) -> Result<(), Fail> {
 fn a_list_past_the_largest_table_is_not_legal(rt: HostRuntime) -> Result<(), Fail> {
     let (script, transcript) = doubled(rt.alloc(), 17)?;
     let checked = call_check(rt.alloc(), script.as_str(), transcript.as_bytes())?;
-    assert_eq!(rt; checked.status, 7);
     assert_eq!(rt;
-        checked.put.as_slice(),
-        b"not legal at 18: memory\n".as_slice()
+        (checked.status, checked.put.as_slice()),
+        (7, b"not legal at 18: memory\n".as_slice())
     );
     Ok(())
 }
 
-// As many tables as a class may have, one more, and a class that there isn't.
+/// As many tables as a class may have.
+const MANY: Run<'static> = Run {
+    entries: 1,
+    input: "tables 3 1024\ndict d\nthread A\nset d 1 0\n",
+    put: "A.1 w0 set d 1 0 = ok\nd = {1: 0}\n",
+};
+
+/// One more, and a class that there isn't.
+const TOO_MANY: [Case<'static>; 2] = [
+    Case {
+        input: "tables 3 1025\n",
+        fault: Fault::Script(1, 12),
+        reported: "ftpy: line 1: 12 limit tables\n",
+        ..NO_SCRIPT
+    },
+    Case {
+        input: "tables 17 1\n",
+        fault: Fault::Script(1, 12),
+        reported: "ftpy: line 1: 12 limit class\n",
+        ..NO_SCRIPT
+    },
+];
+
 #[test]
 fn tables_are_as_many_as_the_script_says(rt: HostRuntime) -> Result<(), Fail> {
-    let many = Run {
-        entries: 1,
-        input: "tables 3 1024\ndict d\nthread A\nset d 1 0\n",
-        put: "A.1 w0 set d 1 0 = ok\nd = {1: 0}\n",
-    };
-    for command in ["turns", "run"] {
-        comes_to(&rt, command, &many)?;
-    }
-    for (input, reported) in [
-        ("tables 3 1025\n", "ftpy: line 1: 12 limit tables\n"),
-        ("tables 17 1\n", "ftpy: line 1: 12 limit class\n"),
-    ] {
-        let refused = Case {
-            input,
-            status: 1,
-            fault: Fault::Script(1, 12),
-            put: "",
-            reported,
-            entries: 0,
-            ..EXAMPLE
-        };
-        check(&rt, &refused)?;
-    }
-    Ok(())
+    comes_to(&rt, "turns", &MANY)?;
+    comes_to(&rt, "run", &MANY)?;
+    check_all(&rt, &TOO_MANY)
 }

@@ -1,6 +1,6 @@
 use Rattle.std.proofs.Common.{◌≡◌, ◌≤◌}
 use Rattle.ft_bank.specs.Passes.{view, IsPassOf}
-use Rattle.ft_bank.specs.Sections.{stack_of, no_sections}
+use Rattle.ft_bank.specs.PassSections.{stack_of, no_sections}
 use Rattle.ft_bank_tests.specs.TestRounds.{IsIdlePass, IsOnwards}
 use Rattle.ft_bank_tests.proofs.rounds.go_round.Given as goal
 

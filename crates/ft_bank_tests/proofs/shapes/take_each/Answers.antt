@@ -3,7 +3,7 @@ use Rattle.std.specs.Option.{option_to_list}
 use Rattle.ft_trace.specs.declared.View.{View}
 use Rattle.ft_trace.specs.Acts.{flight, owes}
 use Rattle.ft_bank.specs.declared.pass.Pass.{Pass}
-use Rattle.ft_bank.specs.Openings.{AreOpening, IsOpening}
+use Rattle.ft_bank.specs.NewPasses.{AreOpening, IsOpening}
 use Rattle.ft_bank_tests.proofs.Opening.{opening_front, opening_last}
 use Rattle.ft_bank_tests.proofs.shapes.take_each.Goals as goal
 

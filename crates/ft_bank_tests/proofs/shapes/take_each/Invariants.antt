@@ -1,5 +1,5 @@
 use Rattle.std.proofs.Common.{length}
-use Rattle.ft_bank.specs.Openings.{AreOpening}
+use Rattle.ft_bank.specs.NewPasses.{AreOpening}
 use Rattle.ft_bank_tests.proofs.shapes.take_each.Given as goal
 
 abbrev pub invariant-loop-pass : goal.invariant-loop-pass

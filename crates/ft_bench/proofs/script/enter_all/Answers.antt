@@ -1,8 +1,9 @@
 use Rattle.std.proofs.Common.{◌≡◌, [], ◌∷◌, ◌++◌, subst, sym, ◌∙◌, All}
 use Rattle.std.specs.Vec.Iter.{into_iter_items}
 use Rattle.std.proofs.lemmas.List.Elements.{All-push}
-use Rattle.ft_bench.specs.Threads.{AreFreeCallers, IsReadyCaller}
+use Rattle.ft_bench.specs.Threads.{IsReadyCaller}
 use Rattle.ft_bench.proofs.script.enter_all.Goals as goal
+use Rattle.ft_engine.specs.Callers.{AreFreeCallers}
 
 pub enter-requires-clause-caller : goal.enter-requires-clause-caller
 enter-requires-clause-caller c =

@@ -1,9 +1,9 @@
 use Rattle.std.proofs.Common.{◌≡◌, List, ◌∷◌, subst, sym, All}
 use Rattle.std.specs.Vec.Iter.{into_iter_items}
 use Rattle.std.proofs.lemmas.List.Elements.{All-push}
-use Rattle.ft_bench.specs.Threads.{AreFreeCallers, IsFreeCaller}
 use Rattle.ft_bench.specs.declared.worker.Worker.{Worker}
 use Rattle.ft_bench.proofs.start.hire.Goals as goal
+use Rattle.ft_engine.specs.Callers.{IsFreeCaller, AreFreeCallers}
 
 pub hire_one-requires : goal.hire_one-requires
 hire_one-requires c =

@@ -1,4 +1,4 @@
-use Rattle.ft_engine_tests.proofs.WorkerLemmas.{free_from}
+use Rattle.ft_engine_tests.proofs.CallersOnline.{free_from}
 use Rattle.ft_engine_tests.proofs.starting.begin.Goals as goal
 
 pub enter_all-requires : goal.enter_all-requires

@@ -2,7 +2,8 @@ use Rattle.std.proofs.Common.{◌≡◌, ◌∷◌, subst, sym, All}
 use Rattle.std.specs.Vec.Iter.{into_iter_items}
 use Rattle.std.proofs.lemmas.List.Elements.{All-push}
 use Rattle.ft_engine.specs.declared.caller.Caller.{Caller}
-use Rattle.ft_engine_tests.specs.TestCallers.{AreFreeCallers, IsFreeCaller, IsWorkerOf}
+use Rattle.ft_engine.specs.Callers.{IsFreeCaller, AreFreeCallers}
+use Rattle.ft_engine_tests.specs.TestCallers.{IsWorkerOf}
 use Rattle.ft_engine_tests.proofs.starting.enter_all.Goals as goal
 
 pub enter-requires-clause-caller : goal.enter-requires-clause-caller

@@ -1,5 +1,5 @@
 use Rattle.ft_section.specs.declared.answers.Objects.TheVariants.{Two}
-use Rattle.ft_list_tests.proofs.Again.{may_again}
+use Rattle.ft_list_tests.proofs.TwoLists.{may_again}
 use Rattle.ft_list_tests.proofs.calls.extend.Goals as goal
 
 pub returns : goal.returns

@@ -1,5 +1,5 @@
 use Rattle.ft_bank.specs.Passes.{shape_of}
-use Rattle.ft_list_tests.proofs.Again.{list_in}
+use Rattle.ft_list_tests.proofs.TwoLists.{list_in}
 use Rattle.ft_list_tests.proofs.calls.is_list.Goals as goal
 
 pub returns-clause-list : goal.returns-clause-list

@@ -1,7 +1,7 @@
 use Rattle.std.proofs.Common.{ℕ, ◌<◌, sym, subst, arith}
 use Rattle.ft_trace.specs.Addresses.{class_of, size}
 use Rattle.ft_bank.specs.Passes.{shape_of}
-use Rattle.ft_bank.specs.Tables.{name_of}
+use Rattle.ft_bank.specs.TableNames.{name_of}
 use Rattle.ft_list.proofs.Cares.{few_slots, inside}
 use Rattle.ft_list_tests.proofs.writing.open_item.Goals as goal
 

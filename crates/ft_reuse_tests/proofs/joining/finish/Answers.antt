@@ -1,5 +1,5 @@
 use Rattle.ft_bank.specs.Passes.{view}
-use Rattle.ft_reuse_tests.proofs.Leaving.{left_is_free}
+use Rattle.ft_reuse_tests.proofs.PassesLeft.{left_is_free}
 use Rattle.ft_reuse_tests.proofs.joining.finish.Goals as goal
 
 pub returns-clause-free : goal.returns-clause-free

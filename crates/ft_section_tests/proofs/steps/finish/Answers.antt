@@ -1,5 +1,5 @@
-use Rattle.ft_bank.specs.Sections.{stack_of}
-use Rattle.ft_section_tests.proofs.Depths.{ended_less_deep}
+use Rattle.ft_bank.specs.PassSections.{stack_of}
+use Rattle.ft_section_tests.proofs.StackDepths.{ended_less_deep}
 use Rattle.ft_section_tests.proofs.steps.finish.Goals as goal
 
 pub returns-clause-depth : goal.returns-clause-depth

@@ -2,8 +2,7 @@
 use Rattle.std.proofs.Common.{ℕ, suc, List, [], ◌∷◌}
 use Rattle.ft_engine.specs.declared.caller.Caller.{Caller}
 use Rattle.ft_engine.specs.declared.engine.Engine.{Engine}
-use Rattle.ft_engine.specs.Callers.{AreFreshCallers}
-use Rattle.ft_engine_tests.specs.TestCallers.{AreFreeCallers}
+use Rattle.ft_engine.specs.Callers.{AreFreshCallers, AreFreeCallers}
 
 pub free_from : (e : Engine) (room i : ℕ) (cs : List Caller) → AreFreshCallers e room i cs → AreFreeCallers e cs
 free_from e room i [] are = tt

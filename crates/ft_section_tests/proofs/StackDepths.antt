@@ -2,10 +2,10 @@
 use Rattle.std.proofs.Common.{◌≡◌, ◌⊎◌, inl, inr, ⊎_elim, ℕ, suc, ◌+◌, ◌<◌, List, [], ◌∷◌, ◌++◌, length, refl, sym, ap, ◌∙◌, arith, length-append}
 use Rattle.std.proofs.lemmas.List.{length-map}
 use Rattle.ft_bank.specs.declared.sections.OpenSection.{OpenSection}
-use Rattle.ft_bank.specs.Sections.{Stack, suspended}
+use Rattle.ft_bank.specs.PassSections.{Stack, suspended}
 use Rattle.ft_section.specs.declared.answers.Resumed.{Resumed}
 use Rattle.ft_section.specs.declared.answers.Resumed.TheVariants as resumed
-use Rattle.ft_section.specs.Answers.{IfBack, IfStillWaits}
+use Rattle.ft_section.specs.AnswerFacts.{IfBack, IfStillWaits}
 use Rattle.ft_section.specs.Locking.{TakenUp, marks_more, noting, waiting, with_own}
 
 -- a list is empty or has a last element

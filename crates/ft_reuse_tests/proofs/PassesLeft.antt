@@ -13,11 +13,11 @@ use Rattle.ft_section.specs.declared.answers.Step.{Step}
 use Rattle.ft_section.specs.declared.answers.Step.TheVariants as step
 use Rattle.ft_section.specs.Ready.{IsStill}
 use Rattle.ft_qsbr.specs.Collecting.{Collected, StaysOrGoes}
-use Rattle.ft_qsbr.proofs.Passing.{given_or_kept}
+use Rattle.ft_qsbr.proofs.PassesStay.{given_or_kept}
 use Rattle.ft_growth.specs.declared.adding.Added.{Added}
 use Rattle.ft_growth.specs.declared.adding.Added.TheVariants as added
 use Rattle.ft_growth.specs.Adding.{Retires, IsAdded, IsTryOf}
-use Rattle.ft_list.specs.Growing.{AddsItems}
+use Rattle.ft_list.specs.ListGrowth.{AddsItems}
 
 -- a pass that has no lock and then goes offline and collects may be taken in
 pub left_is_free : (v w : View) (freed : ℕ) → ((o : ℕ) → has_lock o v.log ≡ false) → IsStill v → Collected (noted (Announce v.number 0) v) w freed → announces w.log ≡ 0 → IsFree w

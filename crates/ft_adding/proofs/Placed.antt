@@ -15,8 +15,8 @@ use Rattle.ft_model.specs.Keys.{same_key}
 use Rattle.ft_model.specs.TableUses.{TableUse}
 use Rattle.ft_model.specs.Worlds.{kind_of, length_of, serial_of}
 use Rattle.ft_model.proofs.KeyLemmas.{same_key-refl}
-use Rattle.ft_hash.specs.Probes.{IsMask, dict_walk, set_walk}
-use Rattle.ft_hash.proofs.Walks.{dict_walk-within, set_walk-within}
+use Rattle.ft_hash.specs.Probes.{IsMask, dict_slots, set_slots}
+use Rattle.ft_hash.proofs.Walks.{dict_slots-within, set_slots-within}
 use Rattle.ft_layout.specs.declared.slot.Pair.{Pair}
 use Rattle.ft_layout.specs.declared.slot.Stored.{Stored}
 use Rattle.ft_layout.specs.declared.slot.Stored.TheVariants.{Empty, Plain, Boxed}
@@ -135,13 +135,13 @@ pub stands_raised : (versions : EntryVersionsChangeNothing) (texts b l : List �
 unfolding slots
 stands_raised versions texts b l class fill (content.Dict pairs) keyed is_class is p y =
     let r = (slots_range class is_class).0 in
-    let walk : ℕ → List ℕ = λ hash. dict_walk hash (class_mask class) (class_mask class + 14) in
-    let table : IsDictTable texts (class_mask class) is.used (0 ∷ 0 ∷ slice_set l (entry_offset (slots class) p 0) y) = subst (λ (z : List ℕ). IsDictTable texts (class_mask class) is.used z) (known.after_header l (layout.entry_at (class_mask class) p 0) (entry_offset (slots class) p 0) y (omega (arith, r))) (versions walk (dict_room (class_mask class)) texts (class_mask class) is.used (0 ∷ 0 ∷ l) p y (λ hash. dict_walk-within hash (class_mask class) (class_mask class + 14)) is.table) in
+    let walk : ℕ → List ℕ = λ hash. dict_slots hash (class_mask class) (class_mask class + 14) in
+    let table : IsDictTable texts (class_mask class) is.used (0 ∷ 0 ∷ slice_set l (entry_offset (slots class) p 0) y) = subst (λ (z : List ℕ). IsDictTable texts (class_mask class) is.used z) (known.after_header l (layout.entry_at (class_mask class) p 0) (entry_offset (slots class) p 0) y (omega (arith, r))) (versions walk (dict_room (class_mask class)) texts (class_mask class) is.used (0 ∷ 0 ∷ l) p y (λ hash. dict_slots-within hash (class_mask class) (class_mask class + 14)) is.table) in
     record { head = is.head; used = is.used; table = table; filled = is.filled; entries = is.entries }
 stands_raised versions texts b l class fill (content.Set elements) keyed is_class is p y =
     let r = (slots_range class is_class).0 in
-    let walk : ℕ → List ℕ = λ hash. set_walk hash (class_mask class) (class_mask class + 14) in
-    let table : IsSetTable texts (class_mask class) is.used (0 ∷ 0 ∷ slice_set l (entry_offset (slots class) p 0) y) = subst (λ (z : List ℕ). IsSetTable texts (class_mask class) is.used z) (known.after_header l (layout.entry_at (class_mask class) p 0) (entry_offset (slots class) p 0) y (omega (arith, r))) (versions walk (set_room (class_mask class)) texts (class_mask class) is.used (0 ∷ 0 ∷ l) p y (λ hash. set_walk-within hash (class_mask class) (class_mask class + 14)) is.table) in
+    let walk : ℕ → List ℕ = λ hash. set_slots hash (class_mask class) (class_mask class + 14) in
+    let table : IsSetTable texts (class_mask class) is.used (0 ∷ 0 ∷ slice_set l (entry_offset (slots class) p 0) y) = subst (λ (z : List ℕ). IsSetTable texts (class_mask class) is.used z) (known.after_header l (layout.entry_at (class_mask class) p 0) (entry_offset (slots class) p 0) y (omega (arith, r))) (versions walk (set_room (class_mask class)) texts (class_mask class) is.used (0 ∷ 0 ∷ l) p y (λ hash. set_slots-within hash (class_mask class) (class_mask class + 14)) is.table) in
     record { head = is.head; used = is.used; table = table; filled = is.filled; entries = is.entries }
 stands_raised versions texts b l class fill (content.List values) keyed is_class is p y = absurd keyed
 
@@ -151,12 +151,12 @@ next_unused first_pair first_element texts b l class fill (content.Dict pairs) k
     let room = dict.room_is first_pair texts b class fill is_class pairs l is in
     let filled = is.filled in
     let u = is.table.unused fill (omega (arith, filled)) (omega (arith, room, low)) in
-    sym (word_is (λ hash. dict_walk hash (class_mask class) (class_mask class + 14)) (dict_room (class_mask class)) texts class is_class is.used l is.table fill 2) ∙ u.kind
+    sym (word_is (λ hash. dict_slots hash (class_mask class) (class_mask class + 14)) (dict_room (class_mask class)) texts class is_class is.used l is.table fill 2) ∙ u.kind
 next_unused first_pair first_element texts b l class fill (content.Set elements) keyed is_class is low =
     let room = set.room_is first_element texts b class fill is_class elements l is in
     let filled = is.filled in
     let u = is.table.unused fill (omega (arith, filled)) (omega (arith, room, low)) in
-    sym (word_is (λ hash. set_walk hash (class_mask class) (class_mask class + 14)) (set_room (class_mask class)) texts class is_class is.used l is.table fill 2) ∙ u.kind
+    sym (word_is (λ hash. set_slots hash (class_mask class) (class_mask class + 14)) (set_room (class_mask class)) texts class is_class is.used l is.table fill 2) ∙ u.kind
 next_unused first_pair first_element texts b l class fill (content.List values) keyed is_class is low = absurd keyed
 
 -- the pair whose entry a key gets

@@ -17,7 +17,7 @@ use Rattle.ft_trace.specs.declared.View.{View}
 use Rattle.ft_trace.specs.Bits.{bit, bit_on, bit_off}
 use Rattle.ft_trace.specs.Addresses.{containers_in, class_of, number_of, free_word_of, free_bit_of, tables_in, bits, cell, extent, IsTableName}
 use Rattle.ft_trace.specs.Ages.{age}
-use Rattle.ft_trace.specs.Pictures.{table_of}
+use Rattle.ft_trace.specs.Pictures.{table_words}
 use Rattle.ft_trace.specs.Acts.{clear, place, has_lock, has_lock_next, is_writing_next, has_committed_next, has_emptied_next, stage, stage_next, used_next, debt_next, announces_next, left_next, entries_next, flight, owes, noted}
 use Rattle.ft_trace.specs.Holds.{held, known, in_hand}
 use Rattle.ft_trace.specs.Traces.{Event, did, run, word, writes_of, history, IsAllShut, May, Ready, ReadyAs}
@@ -339,7 +339,7 @@ taken_shut : (v : View) (t f : ℕ) (s : Snap) → Acted v (TakeTable t f s) →
 taken_shut v t f s d one =
     let may = d.2.1.3 in
     let free : age d.0 t % 5 ≡ 0 = (placed v.shape d.0 d.2.0 t may.0).free_is (ap (bit (free_bit_of t)) (sym d.2.1.2) ∙ one) in
-    subst (λ (z : Snap). IsAllShut (class_of t) (table_of v.shape t z.words)) (sym may.2)
+    subst (λ (z : Snap). IsAllShut (class_of t) (table_words v.shape t z.words)) (sym may.2)
     (shuts v.shape d.0 d.2.0 t may.0 (λ e. absurd (omega (arith, free, e))) (λ e. absurd (omega (arith, free, e))))
 
 module _ (v w : View) (q : Table) (f : ℕ) (s : Snap) (is : w ≡ noted (TakeTable (name_of q) f s) v) (d : Acted v (TakeTable (name_of q) f s)) where

@@ -22,16 +22,16 @@ position hash mask zero = hash % (mask + 1)
 position hash mask (suc n) = (position hash mask n * 5 + perturb hash (suc n) + 1) % (mask + 1)
 
 -- the slots that a dict's probe tries at its first n positions, in order
-unfoldable pub dict_walk : ℕ → ℕ → ℕ → List ℕ
-dict_walk hash mask n = map (position hash mask) (range_with_len 0 n)
+unfoldable pub dict_slots : ℕ → ℕ → ℕ → List ℕ
+dict_slots hash mask n = map (position hash mask) (range_with_len 0 n)
 
 -- a set's probe tries the nine slots after a position too, where the table has them all
-unfoldable pub run : ℕ → ℕ → List ℕ
-run mask slot = if nat_le (slot + 9) mask then range_with_len slot 10 else slot ∷ []
+unfoldable pub run_slots : ℕ → ℕ → List ℕ
+run_slots mask slot = if nat_le (slot + 9) mask then range_with_len slot 10 else slot ∷ []
 
 -- the slots that a set's probe tries at its first n positions, in order
-unfoldable pub set_walk : ℕ → ℕ → ℕ → List ℕ
-set_walk hash mask n = flat_map (run mask) (dict_walk hash mask n)
+unfoldable pub set_slots : ℕ → ℕ → ℕ → List ℕ
+set_slots hash mask n = flat_map (run_slots mask) (dict_slots hash mask n)
 
 -- a probe on its way: the position that comes next, what is left of the hash there, and the mask
 pub record ProbeState : Type 0 where

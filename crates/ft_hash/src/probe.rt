@@ -2,7 +2,7 @@
 //! in one. It names slots of the table alone, and comes to each of them.
 
 ghost use Rattle.std.specs.Prelude.{◌≡◌, ℕ, ◌+◌, ◌<◌, ◌≤◌, ◌^◌, All, Contains};
-ghost use Rattle.ft_hash.specs.Probes.{IsMask, Covers, dict_walk, set_walk};
+ghost use Rattle.ft_hash.specs.Probes.{IsMask, Covers, dict_slots, set_slots};
 
 use std::marker::Model;
 
@@ -74,15 +74,15 @@ pub fn cover()
 
 /// A walk tries slots of the table alone, a dict's and a set's, whatever the hash and however long.
 pub fn walks_stay_in_the_table()
-    ensures dict { (hash mask count : ℕ) → All (λ slot. slot ≤ mask) (dict_walk hash mask count) }
-    ensures set { (hash mask count : ℕ) → All (λ slot. slot ≤ mask) (set_walk hash mask count) }
+    ensures dict { (hash mask count : ℕ) → All (λ slot. slot ≤ mask) (dict_slots hash mask count) }
+    ensures set { (hash mask count : ℕ) → All (λ slot. slot ≤ mask) (set_slots hash mask count) }
 {}
 
 /// A walk of as many positions as there are slots and 13 more tries every slot of the table, a dict's and
 /// a set's, whatever the hash.
 pub fn walks_try_every_slot()
     ensures dict { (hash mask slot : ℕ) → hash < 2 ^ 64 → IsMask mask → slot ≤ mask →
-        Contains (dict_walk hash mask (mask + 14)) slot }
+        Contains (dict_slots hash mask (mask + 14)) slot }
     ensures set { (hash mask slot : ℕ) → hash < 2 ^ 64 → IsMask mask → slot ≤ mask →
-        Contains (set_walk hash mask (mask + 14)) slot }
+        Contains (set_slots hash mask (mask + 14)) slot }
 {}

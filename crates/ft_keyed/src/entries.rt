@@ -1,14 +1,12 @@
 //! Single entries of a table, read by a pass without the container's lock, whose loads show what was there if no
 //! write came between them, or by one with the lock.
-ghost use Rattle.std.specs.Prelude.{◌≡◌, ◌<◌, ◌↔◌, suc, option_map, IfSome, Some};
-ghost use Rattle.ft_layout.specs.declared.slot.Pair.{Pair};
-ghost use Rattle.ft_layout.specs.declared.slot.Slot.TheVariants.{Live};
-ghost use Rattle.ft_layout.specs.Words.{FitsKey, IsKey};
+ghost use Rattle.std.specs.Prelude.{◌≡◌, ◌<◌, suc, option_map, IfSome, Some};
+ghost use Rattle.ft_layout.specs.Words.{FitsKey};
 ghost use Rattle.ft_model.specs.declared.data.Key.{Key};
 ghost use Rattle.ft_model.specs.declared.data.Value.{Value};
 ghost use Rattle.ft_trace.specs.Addresses.{class_of, places, slots};
 ghost use Rattle.ft_trace.specs.Pictures.{entry_field, root_in};
-ghost use Rattle.ft_bank.specs.Passes.{shape_of, view, IsPassOf};
+ghost use Rattle.ft_bank.specs.Passes.{shape_of, IsPassOf};
 ghost use Rattle.ft_bank.specs.PassSections.{stack_of};
 ghost use Rattle.ft_bank.specs.TableNames.{name_of, IsTableIn};
 ghost use Rattle.ft_list.specs.Indexes.{Reads};
@@ -17,32 +15,10 @@ ghost use Rattle.ft_keyed.specs.TableEntries.{HashIs, IsKeyAt, IsPlainAt, OfUsed
 use crate::values::value_of;
 use ft_bank::{Bank, Pass, Table};
 use ft_layout::entry_word::{HASH, KEY, KEY_KIND, VALUE, VALUE_KIND};
-use ft_layout::{Slot, dict_entries, entry_of};
+use ft_layout::{dict_entries, key_of};
 use ft_model::{Key, Value};
 use ft_search::mask_of;
 use ft_section::Object;
-
-/// The key of what an entry has, if one is there.
-fn key_in(slot: Slot) -> Option<Key>
-    ensures some { (pair : Pair) → slot ≡ Live pair → result ≡ Some pair.key }
-    ensures said { (key : Key) → result ≡ Some key → (pair : Pair) × (slot ≡ Live pair) × (pair.key ≡ key) }
-{
-    match slot {
-        Slot::Live(pair) => Some(pair.key),
-        Slot::Never | Slot::Gone(..) => None,
-    }
-}
-
-/// The key that these words of an entry say, if one is there.
-fn key_said(kind: u64, payload: u64) -> Option<Key>
-    ensures { (key : Key) → IsKey kind payload key ↔ (result ≡ Some key) }
-{
-    // The other words count for nothing.
-    match entry_of(&[0, 0, kind, payload, 0, 0, 0, 0]) {
-        Some(slot) => key_in(slot),
-        None => None,
-    }
-}
 
 /// Loads a word of an entry.
 fn word_of(bank: &Bank, pass: &mut Pass, o: Object, table: Table, place: u64, word: u64) -> u64
@@ -75,7 +51,7 @@ pub fn key_at(bank: &Bank, pass: &mut Pass, o: Object, table: Table, place: u64)
     }
     let kind = word_of(bank, pass, o, table, place, KEY_KIND);
     let payload = word_of(bank, pass, o, table, place, KEY);
-    key_said(kind, payload)
+    key_of(kind, payload)
 }
 
 /// The hash of the key of the entry at a place of a table.

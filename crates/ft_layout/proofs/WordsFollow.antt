@@ -8,8 +8,8 @@ use Rattle.ft_model.specs.declared.data.Value.{Value}
 use Rattle.ft_model.specs.declared.content.DictPair.{DictPair}
 use Rattle.ft_model.specs.declared.content.Element.{Element}
 use Rattle.ft_model.specs.Contents.{DictContent, SetContent, dict_set, dict_del, set_add, set_discard}
-use Rattle.ft_hash.specs.Probes.{dict_walk, set_walk}
-use Rattle.ft_hash.proofs.Walks.{dict_walk-within, set_walk-within}
+use Rattle.ft_hash.specs.Probes.{dict_slots, set_slots}
+use Rattle.ft_hash.proofs.Walks.{dict_slots-within, set_slots-within}
 use Rattle.ft_layout.specs.declared.slot.Stored.TheVariants.{Empty, Plain}
 use Rattle.ft_layout.specs.Words.{FitsStored}
 use Rattle.ft_layout.specs.Tables.{dict_room, set_room, UsedEntry, is_live, deleted, IsDictTable, IsSetTable}
@@ -84,7 +84,7 @@ module _ (texts block words : List ℕ) (class fill : ℕ) (dict : DictContent) 
           spare = says.head.spare;
         };
         used = set says.used place (used_pair new);
-        table = value_put (λ hash. dict_walk hash (class_mask class) (class_mask class + 14)) (dict_room (class_mask class)) texts (class_mask class) (λ hash. dict_walk-within hash (class_mask class) (class_mask class + 14)) (omega arith) says.used words says.table place pair.key pair.serial (Plain pair.value) at (Plain value) fits;
+        table = value_put (λ hash. dict_slots hash (class_mask class) (class_mask class + 14)) (dict_room (class_mask class)) texts (class_mask class) (λ hash. dict_slots-within hash (class_mask class) (class_mask class + 14)) (omega arith) says.used words says.table place pair.key pair.serial (Plain pair.value) at (Plain value) fits;
         filled = length-set says.used place (used_pair new) ∙ says.filled;
         entries = follows.0;
       }
@@ -95,7 +95,7 @@ module _ (texts block words : List ℕ) (class fill : ℕ) (dict : DictContent) 
       record {
         head = head;
         used = set says.used place (deleted (used_pair pair));
-        table = key_deleted (λ hash. dict_walk hash (class_mask class) (class_mask class + 14)) (dict_room (class_mask class)) texts (class_mask class) (λ hash. dict_walk-within hash (class_mask class) (class_mask class + 14)) (omega arith) says.used words says.table place pair.key pair.serial (Plain pair.value) at;
+        table = key_deleted (λ hash. dict_slots hash (class_mask class) (class_mask class + 14)) (dict_room (class_mask class)) texts (class_mask class) (λ hash. dict_slots-within hash (class_mask class) (class_mask class + 14)) (omega arith) says.used words says.table place pair.key pair.serial (Plain pair.value) at;
         filled = length-set says.used place (deleted (used_pair pair)) ∙ says.filled;
         entries = follows.0;
       }
@@ -125,7 +125,7 @@ element_deleted texts block words other class fill content says place element at
     record {
       head = head;
       used = set says.used place (deleted (used_element element));
-      table = key_deleted (λ hash. set_walk hash (class_mask class) (class_mask class + 14)) (set_room (class_mask class)) texts (class_mask class) (λ hash. set_walk-within hash (class_mask class) (class_mask class + 14)) (set_fits (class_mask class)) says.used words says.table place element.key element.serial Empty at;
+      table = key_deleted (λ hash. set_slots hash (class_mask class) (class_mask class + 14)) (set_room (class_mask class)) texts (class_mask class) (λ hash. set_slots-within hash (class_mask class) (class_mask class + 14)) (set_fits (class_mask class)) says.used words says.table place element.key element.serial Empty at;
       filled = length-set says.used place (deleted (used_element element)) ∙ says.filled;
       entries = follows.0;
     }

@@ -6,7 +6,7 @@ use Rattle.ft_model.specs.declared.data.Key.{Key}
 use Rattle.ft_model.specs.declared.data.Key.TheVariants as key
 use Rattle.ft_model.specs.declared.data.Value.{Value}
 use Rattle.ft_hash.specs.Hashes.{int_hash}
-use Rattle.ft_hash.specs.Probes.{dict_walk, set_walk}
+use Rattle.ft_hash.specs.Probes.{dict_slots, set_slots}
 use Rattle.ft_layout.specs.declared.slot.Stored.{Stored}
 use Rattle.ft_layout.specs.declared.slot.Stored.TheVariants.{Empty, Plain}
 use Rattle.ft_layout.specs.declared.slot.Slot.{Slot}
@@ -113,11 +113,11 @@ pub record HasNoVersions (room mask : ℕ) (words : List ℕ) : Type 0 where
 -- as many positions as reach every slot
 abbrev pub IsDictTable : List ℕ → ℕ → List UsedEntry → List ℕ → Type 0
 IsDictTable texts mask used words =
-    IsTable (λ hash. dict_walk hash mask (mask + 14)) (dict_room mask) texts mask used words
+    IsTable (λ hash. dict_slots hash mask (mask + 14)) (dict_room mask) texts mask used words
 
 abbrev pub IsSetTable : List ℕ → ℕ → List UsedEntry → List ℕ → Type 0
 IsSetTable texts mask used words =
-    IsTable (λ hash. set_walk hash mask (mask + 14)) (set_room mask) texts mask used words
+    IsTable (λ hash. set_slots hash mask (mask + 14)) (set_room mask) texts mask used words
 
 -- ---- tables of lists
 

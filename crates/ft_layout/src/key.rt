@@ -48,7 +48,7 @@ pub fn payload_of(key: Key) -> u64
 }
 
 /// The key of this kind with this payload, where there is one.
-pub(crate) fn key_of(kind: u64, payload: u64) -> Option<Key>
+pub fn key_of(kind: u64, payload: u64) -> Option<Key>
     ensures { (key : Key) → IsKey kind payload key ↔ (result ≡ Some key) }
 {
     match kind {

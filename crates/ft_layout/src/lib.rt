@@ -52,7 +52,7 @@ pub use follow::{
 pub use ft_model::{dict_entries, list_items, set_entries};
 pub use item::{item_of, item_words};
 pub use items::{changed_words_are_of_a_list, items_are_moved_one_by_one, words_follow_a_list};
-pub use key::{gone_kind_of, kind_of, payload_of};
+pub use key::{gone_kind_of, key_of, kind_of, payload_of};
 pub use laws::{
     bank_words_are_of_one_part, changed_words_are_of_a_table, dict_words_are_of_one_dict,
     list_words_are_of_one_list, set_words_are_of_one_set, sizes_are_by_class,

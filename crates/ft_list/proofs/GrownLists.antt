@@ -21,7 +21,7 @@ use Rattle.ft_trace.specs.Holds.{held, known, in_hand}
 use Rattle.ft_trace.specs.Kinds.{rows, version_at, SoundAs}
 use Rattle.ft_trace.specs.OddVersions.{Shut}
 use Rattle.ft_trace.specs.Traces.{Possible}
-use Rattle.ft_trace.specs.Pictures.{Picture, root_in, Stands, item_field, table_of}
+use Rattle.ft_trace.specs.Pictures.{Picture, root_in, Stands, item_field, table_words}
 use Rattle.ft_trace.specs.ContainerStates.{ContainerState, kind_in}
 use Rattle.ft_trace.proofs.Cases.{hit}
 use Rattle.ft_bank.specs.declared.table.Table.{Table}
@@ -156,7 +156,7 @@ knows_content k o old v shape possible list = list_content v o possible list.loc
 
 -- loads leave the words of a table in hand
 pub hand_loaded : (t : ℕ) (v w : View) → OnlyLoaded v w → in_hand t w ≡ in_hand t v
-hand_loaded t v w l = ap (λ (z : Shape). table_of z t (mem z w.log)) l.work.pass.shape ∙ ap (λ (ws : List ℕ). table_of v.shape t ws) l.words
+hand_loaded t v w l = ap (λ (z : Shape). table_words z t (mem z w.log)) l.work.pass.shape ∙ ap (λ (ws : List ℕ). table_words v.shape t ws) l.words
 
 -- no version is odd in the table of a list that nobody writes
 pub knows_shut : (k : Shape) (o : ℕ) (old : Option Table) (v : View) → v.shape ≡ k → ∥ Possible v ∥₁ → KnowsList k o old v → (t : ℕ) → root_in (held o v) ≡ suc t → Shut (version_at (kind_in v.shape.kinds o) (class_of t)) (rows (kind_in v.shape.kinds o) (class_of t)) (held o v).table

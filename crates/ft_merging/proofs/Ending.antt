@@ -13,8 +13,8 @@ use Rattle.ft_model.specs.declared.script.Kind.{Kind}
 use Rattle.ft_model.specs.Classes.{IsClass, set_entries}
 use Rattle.ft_model.specs.Contents.{DictContent, SetContent}
 use Rattle.ft_model.specs.Worlds.{kind_of}
-use Rattle.ft_hash.specs.Probes.{dict_walk, set_walk}
-use Rattle.ft_hash.proofs.Walks.{dict_walk-within, set_walk-within}
+use Rattle.ft_hash.specs.Probes.{dict_slots, set_slots}
+use Rattle.ft_hash.proofs.Walks.{dict_slots-within, set_slots-within}
 use Rattle.ft_layout.specs.Tables.{dict_room, set_room, IsDictTable, IsSetTable}
 use Rattle.ft_layout.specs.Tables as layout
 use Rattle.ft_layout.specs.Containers.{class_mask, IsDictWords, IsSetWords}
@@ -96,7 +96,7 @@ module _ (laws : Laws) (texts : List ℕ) (x : Picture) (t : ℕ) (is_class : Is
       let says = dict_says pairs kept is stands in
       let r = (slots_range c is_class).0 in
       let table : IsDictTable texts (class_mask c) says.used (0 ∷ 0 ∷ slice_set x.table (entry_offset n p 0) y) = subst (λ (z : List ℕ). IsDictTable texts (class_mask c) says.used z) (after_header x.table (layout.entry_at (class_mask c) p 0) (entry_offset n p 0) y (omega (arith, r)))
-      (versions (λ hash. dict_walk hash (class_mask c) (class_mask c + 14)) (dict_room (class_mask c)) texts (class_mask c) says.used (0 ∷ 0 ∷ x.table) p y (λ hash. dict_walk-within hash (class_mask c) (class_mask c + 14)) says.table) in
+      (versions (λ hash. dict_slots hash (class_mask c) (class_mask c + 14)) (dict_room (class_mask c)) texts (class_mask c) says.used (0 ∷ 0 ∷ x.table) p y (λ hash. dict_slots-within hash (class_mask c) (class_mask c + 14)) says.table) in
       let now : IsDictWords texts x.block (0 ∷ 0 ∷ slice_set x.table (entry_offset n p 0) y) (Some c) kept.table.fill pairs = record { head = says.head; used = says.used; table = table; filled = says.filled; entries = says.entries } in
       let here : Stands texts (with_table x (entry_offset n p 0) y) (record { content = content.Dict pairs; table = kept.table }) = subst (λ (z : Option ℕ). IsDictWords texts x.block (0 ∷ 0 ∷ slice_set x.table (entry_offset n p 0) y) z kept.table.fill pairs) (sym (class_known texts x kept t stands names)) now in
       subst (λ (z : Content). Stands texts (with_table x (entry_offset n p 0) y) (record { content = z; table = kept.table })) (sym is) here
@@ -104,7 +104,7 @@ module _ (laws : Laws) (texts : List ℕ) (x : Picture) (t : ℕ) (is_class : Is
       let says = set_says elements kept is stands in
       let r = (slots_range c is_class).0 in
       let table : IsSetTable texts (class_mask c) says.used (0 ∷ 0 ∷ slice_set x.table (entry_offset n p 0) y) = subst (λ (z : List ℕ). IsSetTable texts (class_mask c) says.used z) (after_header x.table (layout.entry_at (class_mask c) p 0) (entry_offset n p 0) y (omega (arith, r)))
-      (versions (λ hash. set_walk hash (class_mask c) (class_mask c + 14)) (set_room (class_mask c)) texts (class_mask c) says.used (0 ∷ 0 ∷ x.table) p y (λ hash. set_walk-within hash (class_mask c) (class_mask c + 14)) says.table) in
+      (versions (λ hash. set_slots hash (class_mask c) (class_mask c + 14)) (set_room (class_mask c)) texts (class_mask c) says.used (0 ∷ 0 ∷ x.table) p y (λ hash. set_slots-within hash (class_mask c) (class_mask c + 14)) says.table) in
       let now : IsSetWords texts x.block (0 ∷ 0 ∷ slice_set x.table (entry_offset n p 0) y) (Some c) kept.table.fill elements = record { head = says.head; used = says.used; table = table; filled = says.filled; entries = says.entries } in
       let here : Stands texts (with_table x (entry_offset n p 0) y) (record { content = content.Set elements; table = kept.table }) = subst (λ (z : Option ℕ). IsSetWords texts x.block (0 ∷ 0 ∷ slice_set x.table (entry_offset n p 0) y) z kept.table.fill elements) (sym (class_known texts x kept t stands names)) now in
       subst (λ (z : Content). Stands texts (with_table x (entry_offset n p 0) y) (record { content = z; table = kept.table })) (sym is) here

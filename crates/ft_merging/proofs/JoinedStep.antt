@@ -9,7 +9,7 @@ use Rattle.ft_model.specs.declared.data.Key.{Key}
 use Rattle.ft_model.specs.declared.script.Kind.{Kind}
 use Rattle.ft_model.specs.Classes.{IsClass}
 use Rattle.ft_model.specs.Worlds.{kind_of, length_of}
-use Rattle.ft_hash.specs.Probes.{dict_walk, set_walk}
+use Rattle.ft_hash.specs.Probes.{dict_slots, set_slots}
 use Rattle.ft_layout.specs.declared.slot.Pair.{Pair}
 use Rattle.ft_layout.specs.declared.slot.Stored.{Stored}
 use Rattle.ft_layout.specs.Containers.{class_mask, StandsAs}
@@ -64,12 +64,12 @@ next_payload first_pair first_element texts b l class fill (content.Dict pairs) 
     let room = dict.room_is first_pair texts b class fill is_class pairs l is in
     let filled = is.filled in
     let u = is.table.unused fill (omega (arith, filled)) (omega (arith, room, low)) in
-    sym (word_is (λ hash. dict_walk hash (class_mask class) (class_mask class + 14)) (dict_room (class_mask class)) texts class is_class is.used l is.table fill 3) ∙ u.payload
+    sym (word_is (λ hash. dict_slots hash (class_mask class) (class_mask class + 14)) (dict_room (class_mask class)) texts class is_class is.used l is.table fill 3) ∙ u.payload
 next_payload first_pair first_element texts b l class fill (content.Set elements) keyed is_class is low =
     let room = set.room_is first_element texts b class fill is_class elements l is in
     let filled = is.filled in
     let u = is.table.unused fill (omega (arith, filled)) (omega (arith, room, low)) in
-    sym (word_is (λ hash. set_walk hash (class_mask class) (class_mask class + 14)) (set_room (class_mask class)) texts class is_class is.used l is.table fill 3) ∙ u.payload
+    sym (word_is (λ hash. set_slots hash (class_mask class) (class_mask class + 14)) (set_room (class_mask class)) texts class is_class is.used l is.table fill 3) ∙ u.payload
 next_payload first_pair first_element texts b l class fill (content.List values) keyed is_class is low = absurd keyed
 
 laid_other : (n p word value : ℕ) (calls : List Access) (l : List ℕ) → word ≢ 3 → slice_index (laid n (unless_zero p word value ++ calls) l) (entry_offset n p 3) ≡ slice_index (laid n calls l) (entry_offset n p 3)

@@ -19,7 +19,7 @@ use Rattle.ft_model.specs.Contents.{SetContent, elements_from, has_element, set_
 use Rattle.ft_model.specs.Keys.{same_key}
 use Rattle.ft_model.specs.Worlds.{set_of}
 use Rattle.ft_model.proofs.KeyLemmas.{same_key-true}
-use Rattle.ft_hash.specs.Probes.{set_walk}
+use Rattle.ft_hash.specs.Probes.{set_slots}
 use Rattle.ft_keys.specs.declared.walk.Way.TheVariants as way
 use Rattle.ft_layout.specs.Containers.{class_mask, used_element, IsSetWords}
 use Rattle.ft_layout.specs.Tables.{set_room}
@@ -141,7 +141,7 @@ module _ (elements : set.FirstEntriesAreElements) (k : Shape) (s t : ℕ) (own t
   -- no two entries that are there have one key
   one_live : (p q : ℕ) (key : Key) → p < q → q < set_entries c → HasLiveKey n (held s w).table p key → HasLiveKey n (held s w).table q key → ⊥
   one_live p q key less low a b =
-      let walk : ℕ → List ℕ = λ hash. set_walk hash (class_mask c) (class_mask c + 14) in
+      let walk : ℕ → List ℕ = λ hash. set_slots hash (class_mask c) (class_mask c + 14) in
       let r = room_now in
       one_tells walk (set_room (class_mask c)) k.texts c is_class midway.stands.used (held s w).table midway.stands.table p q key less
       (live_tells walk (set_room (class_mask c)) k.texts c is_class midway.stands.used (held s w).table midway.stands.table p key (omega (arith, less, low, r)) a)

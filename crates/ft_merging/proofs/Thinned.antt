@@ -18,8 +18,8 @@ use Rattle.ft_model.specs.Contents.{SetContent, IsSet, has_element, set_discard}
 use Rattle.ft_model.specs.Keys.{same_key}
 use Rattle.ft_model.specs.TableUses.{TableUse}
 use Rattle.ft_model.proofs.KeyLemmas.{same_key-refl, same_key-true}
-use Rattle.ft_hash.specs.Probes.{set_walk}
-use Rattle.ft_hash.proofs.Walks.{set_walk-within}
+use Rattle.ft_hash.specs.Probes.{set_slots}
+use Rattle.ft_hash.proofs.Walks.{set_slots-within}
 use Rattle.ft_layout.specs.Words.{FitsKey, gone_kind}
 use Rattle.ft_layout.specs.Tables.{UsedEntry, hash_of, set_room, IsSetTable}
 use Rattle.ft_layout.specs.Tables as layout
@@ -130,10 +130,10 @@ module _ (laws : SetLaws) (texts : List ℕ) (x : Picture) (tab : TableUse) (t :
   n = slots c
 
   abbrev walk : ℕ → List ℕ
-  walk hash = set_walk hash (class_mask c) (class_mask c + 14)
+  walk hash = set_slots hash (class_mask c) (class_mask c + 14)
 
   within : (hash : ℕ) → All (λ slot. slot ≤ class_mask c) (walk hash)
-  within hash = set_walk-within hash (class_mask c) (class_mask c + 14)
+  within hash = set_slots-within hash (class_mask c) (class_mask c + 14)
 
   in_order : IsSet elements.next elements.elements
   in_order = stands_for_set texts x.block (0 ∷ 0 ∷ x.table) (Some c) tab.fill elements says
@@ -484,7 +484,7 @@ module _ (k : Shape) (s : ℕ) (table : Table) (kept : Bool) (others first : Set
       all_left =
           all_stay (spared kept others first) th.mid.elements (set_fits_words k.texts words_now.block (0 ∷ 0 ∷ words_now.table) (class_of vt) tab.fill th.mid says_now)
           (λ key ok there.
-          let walk : ℕ → List ℕ = λ hash. set_walk hash (class_mask (class_of vt)) (class_mask (class_of vt) + 14) in
+          let walk : ℕ → List ℕ = λ hash. set_slots hash (class_mask (class_of vt)) (class_mask (class_of vt) + 14) in
           let r = right_is_live walk (set_room (class_mask (class_of vt))) k.texts (class_of vt) class_is says_now.used words_now.table says_now.table used_element th.mid.elements (λ test. first_element says_now.used th.mid test says_now.entries) key (found_words (λ (e : Element). is_key e.key key) th.mid.elements there) in
           let inside = r.1 in
           let room : set_room (class_mask (class_of vt)) ≡ vm = set.room_is first_element k.texts words_now.block (class_of vt) tab.fill class_is th.mid words_now.table says_now in

@@ -13,7 +13,7 @@ use Rattle.ft_model.specs.Classes.{set_entries}
 use Rattle.ft_model.specs.Contents.{SetContent, has_element}
 use Rattle.ft_model.specs.TableUses.{StoredWorld, TableUse}
 use Rattle.ft_model.specs.Worlds.{kind_of, set_of}
-use Rattle.ft_hash.specs.Probes.{set_walk}
+use Rattle.ft_hash.specs.Probes.{set_slots}
 use Rattle.ft_layout.specs.Containers.{class_mask, used_element, IsSetWords}
 use Rattle.ft_layout.specs.Tables.{is_live, set_room}
 use Rattle.ft_layout.specs.Words.{FitsKey}
@@ -157,7 +157,7 @@ module _ (k : Shape) (s : ℕ) (table : Table) (kept : Bool) (others : SetConten
       let filled = first_says.filled in
       let room = set.room_is elements k.texts (held s v).block (class_of t) (known s v).table.fill class first (held s v).table first_says in
       let none = (first_says.table.unused p (omega (arith, filled, up)) (omega (arith, room, less))).kind in
-      let word = word_is (λ hash. set_walk hash (class_mask (class_of t)) (class_mask (class_of t) + 14)) (set_room (class_mask (class_of t))) k.texts (class_of t) class first_says.used (held s v).table first_says.table p 2 in
+      let word = word_is (λ hash. set_slots hash (class_mask (class_of t)) (class_mask (class_of t) + 14)) (set_room (class_mask (class_of t))) k.texts (class_of t) class first_says.used (held s v).table first_says.table p 2 in
       let kind = live.0 in
       let some = (kind_range key).0 in
       absurd (omega (arith, none, word, kind, some))

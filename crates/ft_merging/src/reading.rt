@@ -1,5 +1,5 @@
 //! Single entries of the table of a dict or a set, read by a pass that has its lock.
-ghost use Rattle.std.specs.Prelude.{◌≡◌, ◌<◌, ◌↔◌, suc, Some, slice_index};
+ghost use Rattle.std.specs.Prelude.{◌≡◌, ◌<◌, ◌↔◌, Some, slice_index};
 ghost use Rattle.ft_layout.specs.declared.slot.Pair.{Pair};
 ghost use Rattle.ft_layout.specs.declared.slot.Slot.{Slot};
 ghost use Rattle.ft_layout.specs.declared.slot.Slot.TheVariants.{Live};
@@ -21,32 +21,10 @@ ghost use Rattle.ft_merging.specs.Internal.JoiningSteps.{pair_in};
 
 use ft_bank::{Bank, Pass, Table};
 use ft_layout::entry_word::{HASH, KEY, KEY_KIND, SERIAL, VALUE, VALUE_KIND};
-use ft_layout::{Pair, Slot, entry_of};
+use ft_layout::{Pair, Slot, entry_of, key_of};
 use ft_model::Key;
 use ft_search::{mask_of, table_named};
 use ft_section::Object;
-
-/// The key of what an entry has, if one is there.
-fn key_in(slot: Slot) -> Option<Key>
-    ensures some { (pair : Pair) → slot ≡ Live pair → result ≡ Some pair.key }
-    ensures said { (key : Key) → result ≡ Some key → (pair : Pair) × (slot ≡ Live pair) × (pair.key ≡ key) }
-{
-    match slot {
-        Slot::Live(pair) => Some(pair.key),
-        Slot::Never | Slot::Gone(..) => None,
-    }
-}
-
-/// The key that these words of an entry say, if one is there.
-fn key_said(kind: u64, payload: u64) -> Option<Key>
-    ensures { (key : Key) → IsKey kind payload key ↔ (result ≡ Some key) }
-{
-    // The other words count for nothing.
-    match entry_of(&[0, 0, kind, payload, 0, 0, 0, 0]) {
-        Some(slot) => key_in(slot),
-        None => None,
-    }
-}
 
 /// Loads a word of an entry.
 pub fn word_of(bank: &Bank, pass: &mut Pass, o: Object, table: Table, place: u64, word: u64) -> u64
@@ -84,7 +62,7 @@ pub fn key_at(bank: &Bank, pass: &mut Pass, o: Object, table: Table, place: u64)
 {
     let kind = word_of(bank, pass, o, table, place, KEY_KIND);
     let payload = word_of(bank, pass, o, table, place, KEY);
-    key_said(kind, payload)
+    key_of(kind, payload)
 }
 
 /// The pair that is there, if one is.

@@ -11,8 +11,8 @@ use Rattle.ft_model.specs.Classes.{IsClass}
 use Rattle.ft_model.specs.Contents.{DictContent, dict_copy, pairs_from}
 use Rattle.ft_model.proofs.Copies.{length-pairs_from, get-pairs_from}
 use Rattle.ft_model.proofs.KnownKeys.{length-filter-le}
-use Rattle.ft_hash.specs.Probes.{dict_walk}
-use Rattle.ft_hash.proofs.Walks.{dict_walk-within}
+use Rattle.ft_hash.specs.Probes.{dict_slots}
+use Rattle.ft_hash.proofs.Walks.{dict_slots-within}
 use Rattle.ft_layout.specs.Containers.{class_mask, used_pair}
 use Rattle.ft_layout.specs.Tables.{UsedEntry, is_live, hash_of, slot_of, index_word, entry_word, IsDictTable}
 use Rattle.ft_layout.specs.Tables as layout
@@ -179,8 +179,8 @@ module _ (texts : List ℕ) (class next : ℕ) (is_class : IsClass class) (words
         once = λ slot other low less named e. table.once slot other low less (λ none. named (index_same slot low ∙ none)) (sym (index_same slot low) ∙ (e ∙ index_same other less));
         met = λ place any low.
             let less : place < length pairs = omega (arith, low, all) in
-            subst (λ (z : Key). layout.Meets (0 ∷ 0 ∷ made) (dict_walk (hash_of texts z) mask (mask + 14)) place) (sym (key_at place any less))
-            (meets_moves mask (0 ∷ 0 ∷ words) (0 ∷ 0 ∷ made) (λ s small some_name. index_same s small) (dict_walk (hash_of texts (get_or before place any).key) mask (mask + 14)) place (dict_walk-within (hash_of texts (get_or before place any).key) mask (mask + 14))
+            subst (λ (z : Key). layout.Meets (0 ∷ 0 ∷ made) (dict_slots (hash_of texts z) mask (mask + 14)) place) (sym (key_at place any less))
+            (meets_moves mask (0 ∷ 0 ∷ words) (0 ∷ 0 ∷ made) (λ s small some_name. index_same s small) (dict_slots (hash_of texts (get_or before place any).key) mask (mask + 14)) place (dict_slots-within (hash_of texts (get_or before place any).key) mask (mask + 14))
             (table.met place any (omega (arith, less, all_before))));
       }
 

@@ -12,8 +12,8 @@ use Rattle.ft_model.specs.Classes.{IsClass, set_entries}
 use Rattle.ft_model.specs.Contents.{DictContent, SetContent, IsDict, IsSet, dict_del, set_discard}
 use Rattle.ft_model.specs.TableUses.{TableUse}
 use Rattle.ft_model.specs.Worlds.{kind_of}
-use Rattle.ft_hash.specs.Probes.{dict_walk, set_walk}
-use Rattle.ft_hash.proofs.Walks.{dict_walk-within, set_walk-within}
+use Rattle.ft_hash.specs.Probes.{dict_slots, set_slots}
+use Rattle.ft_hash.proofs.Walks.{dict_slots-within, set_slots-within}
 use Rattle.ft_layout.specs.Words.{FitsKey, gone_kind}
 use Rattle.ft_layout.specs.Tables.{UsedEntry, dict_room, set_room, IsDictTable, IsSetTable}
 use Rattle.ft_layout.specs.Tables as layout
@@ -105,10 +105,10 @@ module _ (laws : DictLaws) (texts : List ℕ) (x : Picture) (tab : TableUse) (t 
   din_order = stands_for_dict texts db (0 ∷ 0 ∷ dws) (Some dc) dfill pairs says
 
   abbrev dwalk : ℕ → List ℕ
-  dwalk hash = dict_walk hash (class_mask dc) (class_mask dc + 14)
+  dwalk hash = dict_slots hash (class_mask dc) (class_mask dc + 14)
 
   dwithin : (hash : ℕ) → All (λ slot. slot ≤ class_mask dc) (dwalk hash)
-  dwithin hash = dict_walk-within hash (class_mask dc) (class_mask dc + 14)
+  dwithin hash = dict_slots-within hash (class_mask dc) (class_mask dc + 14)
 
   dmine : (item : DictPair) × (slice_get says.used p ≡ Some (used_pair item)) × (item.key ≡ key)
   dmine =
@@ -246,10 +246,10 @@ module _ (laws : SetLaws) (texts : List ℕ) (x : Picture) (tab : TableUse) (t :
   sin_order = stands_for_set texts sb (0 ∷ 0 ∷ sws) (Some sc) sfill elements says
 
   abbrev swalk : ℕ → List ℕ
-  swalk hash = set_walk hash (class_mask sc) (class_mask sc + 14)
+  swalk hash = set_slots hash (class_mask sc) (class_mask sc + 14)
 
   swithin : (hash : ℕ) → All (λ slot. slot ≤ class_mask sc) (swalk hash)
-  swithin hash = set_walk-within hash (class_mask sc) (class_mask sc + 14)
+  swithin hash = set_slots-within hash (class_mask sc) (class_mask sc + 14)
 
   smine : (item : Element) × (slice_get says.used p ≡ Some (used_element item)) × (item.key ≡ key)
   smine =

@@ -13,8 +13,8 @@ use Rattle.ft_model.specs.Classes.{IsClass}
 use Rattle.ft_model.specs.Contents.{DictContent, IsDict, dict_set}
 use Rattle.ft_model.specs.TableUses.{TableUse}
 use Rattle.ft_model.specs.Worlds.{kind_of}
-use Rattle.ft_hash.specs.Probes.{dict_walk}
-use Rattle.ft_hash.proofs.Walks.{dict_walk-within}
+use Rattle.ft_hash.specs.Probes.{dict_slots}
+use Rattle.ft_hash.proofs.Walks.{dict_slots-within}
 use Rattle.ft_layout.specs.declared.slot.Stored.TheVariants.{Plain}
 use Rattle.ft_layout.specs.Words.{FitsKey, FitsStored, stored_kind, stored_payload}
 use Rattle.ft_layout.specs.Tables.{UsedEntry, dict_room, IsDictTable}
@@ -116,10 +116,10 @@ module _ (laws : ValueLaws) (texts : List ℕ) (x : Picture) (tab : TableUse) (t
   in_order = stands_for_dict texts b (0 ∷ 0 ∷ ws) (Some c) fill pairs says
 
   abbrev walk : ℕ → List ℕ
-  walk hash = dict_walk hash (class_mask c) (class_mask c + 14)
+  walk hash = dict_slots hash (class_mask c) (class_mask c + 14)
 
   within : (hash : ℕ) → All (λ slot. slot ≤ class_mask c) (walk hash)
-  within hash = dict_walk-within hash (class_mask c) (class_mask c + 14)
+  within hash = dict_slots-within hash (class_mask c) (class_mask c + 14)
 
   mine : (pair : DictPair) × (slice_get says.used p ≡ Some (used_pair pair)) × (pair.key ≡ key)
   mine =

@@ -17,7 +17,7 @@ use Rattle.ft_trace.specs.Floors.{FoundAsKnown}
 use Rattle.ft_trace.specs.Kinds.{IsKeyed, rows, version_at}
 use Rattle.ft_trace.specs.LoggedReads.{Among}
 use Rattle.ft_trace.specs.Traces.{Event, Possible, Valid, run, word}
-use Rattle.ft_trace.specs.Pictures.{entry_offset, table_of}
+use Rattle.ft_trace.specs.Pictures.{entry_offset, table_words}
 use Rattle.ft_trace.specs.ContainerStates.{kind_in}
 use Rattle.ft_trace.proofs.ByKind.{row_low}
 use Rattle.ft_trace.proofs.Evens.{quiet_shut}

@@ -18,7 +18,7 @@ use Rattle.ft_model.specs.TableUses.{no_table}
 use Rattle.std.specs.Prelude.{replicate, map, slice_index_or}
 use Rattle.ft_trace.specs.ContainerStates.{ContainerState, container_after, kind_in}
 use Rattle.ft_trace.proofs.Untouched.{untouched}
-use Rattle.ft_trace.specs.Pictures.{table_of, inner, Picture, picture, Stands}
+use Rattle.ft_trace.specs.Pictures.{table_words, inner, Picture, picture, Stands}
 use Rattle.ft_trace.specs.Traces.{Event, did, forked, joined, sent, run, word, writes_of, history, StandsFor, May, Valid}
 use Rattle.ft_trace.proofs.Sizes.{set_at}
 use Rattle.ft_trace.proofs.Cases.{hit, off}
@@ -32,7 +32,7 @@ abbrev pub count : Shape → List Event → ℕ
 count k es = word k es counter
 
 abbrev pub tab : Shape → List Event → ℕ → List ℕ
-tab k es t = table_of k t (run k es).words
+tab k es t = table_words k t (run k es).words
 
 counts : (k : Shape) (es : List Event) (id : ℕ) (v : View) → count k es ≡ length (history es) → (b : Act) → May k (run k es) (history es) v b → count k (did id v b ∷ es) ≡ length (writes_of b (history es))
 counts k es id v old (Commit c r f s) may = moves k es id v (Commit c r f s) may ∙ (one_up (count k es) may.2 ∙ omega (arith, old))

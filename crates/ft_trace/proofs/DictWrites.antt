@@ -20,8 +20,8 @@ use Rattle.ft_model.specs.Contents.{DictContent, IsDict, dict_get, dict_set, emp
 use Rattle.ft_model.specs.Worlds.{kind_of, dict_of, dict_at, no_hands}
 use Rattle.ft_model.specs.TableUses.{TableUse, StoredWorld, no_table, stored_newest, takes_in, table_at, outgrows_dict, grown_table, passes_cap, would_pass, after_stored}
 use Rattle.ft_model.proofs.KnownKeys.{length-filter-le}
-use Rattle.ft_hash.specs.Probes.{dict_walk}
-use Rattle.ft_hash.proofs.Walks.{dict_walk-within}
+use Rattle.ft_hash.specs.Probes.{dict_slots}
+use Rattle.ft_hash.proofs.Walks.{dict_slots-within}
 use Rattle.ft_layout.specs.declared.slot.Stored.TheVariants.{Plain}
 use Rattle.ft_layout.specs.Words.{FitsKey, FitsStored, stored_kind, stored_payload}
 use Rattle.ft_layout.specs.Tables.{UsedEntry, is_live, dict_room, IsTable, IsDictTable}
@@ -82,7 +82,7 @@ FirstEntriesArePairs = (used : List UsedEntry) (pairs : DictContent) (test : Use
 
 module _ (first : FirstEntriesArePairs) (texts block : List ℕ) (c fill : ℕ) (is_class : IsClass c) (pairs : DictContent) (ws : List ℕ) (says : IsDictWords texts block (0 ∷ 0 ∷ ws) (Some c) fill pairs) where
   abbrev tried : ℕ → List ℕ
-  tried hash = dict_walk hash (class_mask c) (class_mask c + 14)
+  tried hash = dict_slots hash (class_mask c) (class_mask c + 14)
 
   pub room_is : dict_room (class_mask c) ≡ places c
   unfolding places
@@ -100,7 +100,7 @@ module _ (first : FirstEntriesArePairs) (texts block : List ℕ) (c fill : ℕ) 
       (r.0, omega (arith, f, e, low), r.2)
 
   within_mask : (hash : ℕ) → All (λ slot. slot ≤ class_mask c) (tried hash)
-  within_mask hash = dict_walk-within hash (class_mask c) (class_mask c + 14)
+  within_mask hash = dict_slots-within hash (class_mask c) (class_mask c + 14)
 
   pub dict_reached : (key : Key) → FitsKey key → under (content.Dict pairs) key ≢ [] → Reached (slots c) (places c) ws (walk_of kind.Dict texts c key) key
   unfolding walk_of
@@ -253,10 +253,10 @@ module _ (versions : EntryVersionsChangeNothing) (follow : WordsFollowAValue) (l
   in_order = stands_for_dict k.texts b (0 ∷ 0 ∷ ws) (Some c) fill pairs says
 
   abbrev walk : ℕ → List ℕ
-  walk hash = dict_walk hash (class_mask c) (class_mask c + 14)
+  walk hash = dict_slots hash (class_mask c) (class_mask c + 14)
 
   within : (hash : ℕ) → All (λ slot. slot ≤ class_mask c) (walk hash)
-  within hash = dict_walk-within hash (class_mask c) (class_mask c + 14)
+  within hash = dict_slots-within hash (class_mask c) (class_mask c + 14)
 
   mine : (pair : DictPair) × (slice_get says.used place ≡ Some (used_pair pair)) × (pair.key ≡ key)
   mine =

@@ -21,8 +21,8 @@ use Rattle.ft_model.specs.Classes.{IsClass}
 use Rattle.ft_model.specs.Contents.{DictContent, has_key, dict_set, with_value}
 use Rattle.ft_model.specs.Worlds.{kind_of, dict_at}
 use Rattle.ft_model.specs.TableUses.{TableUse, StoredWorld, no_table, stored_newest, takes_in, table_at, dict_takes, grown_table, taken, after_stored}
-use Rattle.ft_hash.specs.Probes.{dict_walk}
-use Rattle.ft_hash.proofs.Walks.{dict_walk-within}
+use Rattle.ft_hash.specs.Probes.{dict_slots}
+use Rattle.ft_hash.proofs.Walks.{dict_slots-within}
 use Rattle.ft_layout.specs.Tables.{dict_room, IsDictTable}
 use Rattle.ft_layout.specs.Tables as layout
 use Rattle.ft_layout.specs.Containers.{class_mask, IsDictWords}
@@ -141,7 +141,7 @@ module _ (versions : EntryVersionsChangeNothing) (first : FirstEntriesArePairs) 
   others_stay q a less two l =
       let ne : q ≢ p = λ (e : q ≡ p). let one = has.open_entry in let v1 : entry_field n zs q 0 ≡ 1 = ap (λ (z : ℕ). entry_field n zs z 0) e ∙ one in absurd (omega (arith, v1, two)) in
       let fits : dict_room (class_mask c) ≡ m = room_is first k.texts block c fill class_is news zs has.words in
-      let tried : ℕ → List ℕ = λ h. dict_walk h (class_mask c) (class_mask c + 14) in
+      let tried : ℕ → List ℕ = λ h. dict_slots h (class_mask c) (class_mask c + 14) in
       let low = has.low in
       elim (is_key key a) as (λ z. is_key key a ≡ z → under (content.Dict news) a ≡ under (content.Dict pairs) a) [
         | true ↦ λ yes_it_is.
@@ -213,8 +213,8 @@ module _ (versions : EntryVersionsChangeNothing) (first : FirstEntriesArePairs) 
   ends =
       let r = (slots_range c class_is).0 in
       let now = has.words in
-      let tried : ℕ → List ℕ = λ h. dict_walk h (class_mask c) (class_mask c + 14) in
-      let within : (h : ℕ) → All (λ s. s ≤ class_mask c) (tried h) = λ h. dict_walk-within h (class_mask c) (class_mask c + 14) in
+      let tried : ℕ → List ℕ = λ h. dict_slots h (class_mask c) (class_mask c + 14) in
+      let within : (h : ℕ) → All (λ s. s ≤ class_mask c) (tried h) = λ h. dict_slots-within h (class_mask c) (class_mask c + 14) in
       let table : IsDictTable k.texts (class_mask c) now.used (0 ∷ 0 ∷ (at_end v o write).table) = subst (λ (z : List ℕ). IsDictTable k.texts (class_mask c) now.used z) (after_header zs (layout.entry_at (class_mask c) p 0) (entry_offset n p 0) 2 (omega (arith, r))) (versions tried (dict_room (class_mask c)) k.texts (class_mask c) now.used (0 ∷ 0 ∷ zs) p 2 within now.table) in
       record { head = now.head; used = now.used; table = table; filled = now.filled; entries = now.entries }
 

@@ -5,7 +5,7 @@ use Rattle.ft_trace.specs.declared.View.{View}
 use Rattle.ft_trace.specs.Addresses.{containers_in, block, cell, class_of, IsTableName}
 use Rattle.ft_trace.specs.Acts.{has_lock, is_writing, stage, mem}
 use Rattle.ft_trace.specs.ContainerStates.{ContainerState, container_after, kind_in}
-use Rattle.ft_trace.specs.Pictures.{table_of, root_of, inner, Picture, root_in, picture, Stands}
+use Rattle.ft_trace.specs.Pictures.{table_words, root_of, inner, Picture, root_in, picture, Stands}
 use Rattle.ft_trace.specs.Kinds.{SoundAs, CarefulAs}
 use Rattle.ft_trace.specs.Holds.{held, known, in_hand, AgreesWith}
 use Rattle.ft_trace.specs.Traces.{run, history, StandsFor, SoundFor, CarefulFor, Possible, Sure}
@@ -54,7 +54,7 @@ module _ (v : View) (o : ℕ) (low : o < containers_in v.shape) where
   pub root_known : has_lock o v.log ≡ true → Sure v (λ es. root_in (held o v) ≡ root_of v.shape o (run v.shape es).words)
   root_known mine es id knows = ap root_in (words_known v o low mine es id knows) ∙ block_at v.shape o (run v.shape es).words 0 (omega arith)
 
-  by_inner : (r : ℕ) (ws : List ℕ) (t : ℕ) → r ≡ suc t → inner v.shape r ws ≡ table_of v.shape t ws
+  by_inner : (r : ℕ) (ws : List ℕ) (t : ℕ) → r ≡ suc t → inner v.shape r ws ≡ table_words v.shape t ws
   by_inner r ws t e = ap (λ (z : ℕ). inner v.shape z ws) e
 
   -- the words of the table that the root names

@@ -16,8 +16,8 @@ use Rattle.ft_model.specs.Classes.{IsClass, dict_entries, dict_class}
 use Rattle.ft_model.specs.Contents.{DictContent, has_key, dict_set, with_value}
 use Rattle.ft_model.specs.Worlds.{dict_at}
 use Rattle.ft_model.specs.TableUses.{TableUse, StoredWorld, no_table, stored_newest, takes_in, table_at, outgrows_dict, grown_table, after_stored}
-use Rattle.ft_hash.specs.Probes.{dict_walk}
-use Rattle.ft_hash.proofs.Walks.{dict_walk-within}
+use Rattle.ft_hash.specs.Probes.{dict_slots}
+use Rattle.ft_hash.proofs.Walks.{dict_slots-within}
 use Rattle.ft_layout.specs.declared.slot.Stored.TheVariants.{Plain}
 use Rattle.ft_layout.specs.Words.{key_kind, key_payload, stored_kind, stored_payload}
 use Rattle.ft_layout.specs.Tables.{UsedEntry, hash_of, dict_room, IsDictTable}
@@ -118,7 +118,7 @@ module _ (versions : EntryVersionsChangeNothing) (first : FirstEntriesArePairs) 
       let fits : dict_room (class_mask c) ≡ m = room_is first k.texts (held o v).block c p class_is pairs ws says in
       let filled = says.filled in
       let u = says.table.unused p (omega (arith, filled)) (omega (arith, fits, room)) in
-      sym (word_is (λ hash. dict_walk hash (class_mask c) (class_mask c + 14)) (dict_room (class_mask c)) k.texts c class_is says.used ws says.table p 2) ∙ u.kind
+      sym (word_is (λ hash. dict_slots hash (class_mask c) (class_mask c + 14)) (dict_room (class_mask c)) k.texts c class_is says.used ws says.table p 2) ∙ u.kind
 
   next_is : news.next ≡ pairs.next + 1
   next_is = ap (λ (b : Bool). DictContent.next (if b then record { next = pairs.next; pairs = with_value pairs.pairs key value } else record { next = pairs.next + 1; pairs = pairs.pairs ++ record { serial = pairs.next; key = key; value = value } ∷ [] })) missing
@@ -232,8 +232,8 @@ module _ (versions : EntryVersionsChangeNothing) (first : FirstEntriesArePairs) 
   unfolding slots
   ends =
       let r = (slots_range c class_is).0 in
-      let tried : ℕ → List ℕ = λ h. dict_walk h (class_mask c) (class_mask c + 14) in
-      let within : (h : ℕ) → All (λ s. s ≤ class_mask c) (tried h) = λ h. dict_walk-within h (class_mask c) (class_mask c + 14) in
+      let tried : ℕ → List ℕ = λ h. dict_slots h (class_mask c) (class_mask c + 14) in
+      let within : (h : ℕ) → All (λ s. s ≤ class_mask c) (tried h) = λ h. dict_slots-within h (class_mask c) (class_mask c + 14) in
       let table : IsDictTable k.texts (class_mask c) now.used (0 ∷ 0 ∷ (at_end v o write).table) = subst (λ (z : List ℕ). IsDictTable k.texts (class_mask c) now.used z) (after_header put (layout.entry_at (class_mask c) p 0) (entry_offset n p 0) (ver + 2) (omega (arith, r))) (versions tried (dict_room (class_mask c)) k.texts (class_mask c) now.used (0 ∷ 0 ∷ put) p (ver + 2) within now.table) in
       record { head = now.head; used = now.used; table = table; filled = now.filled; entries = now.entries }
 

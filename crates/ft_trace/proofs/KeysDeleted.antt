@@ -13,8 +13,8 @@ use Rattle.ft_model.specs.Answers.{Answer}
 use Rattle.ft_model.specs.Classes.{IsClass}
 use Rattle.ft_model.specs.Contents.{DictContent, has_key}
 use Rattle.ft_model.specs.TableUses.{StoredWorld, stored_newest}
-use Rattle.ft_hash.specs.Probes.{dict_walk}
-use Rattle.ft_hash.proofs.Walks.{dict_walk-within}
+use Rattle.ft_hash.specs.Probes.{dict_slots}
+use Rattle.ft_hash.proofs.Walks.{dict_slots-within}
 use Rattle.ft_layout.specs.Words.{key_kind, key_payload}
 use Rattle.ft_layout.specs.Tables.{UsedEntry, hash_of, dict_room, IsDictTable}
 use Rattle.ft_layout.specs.Tables as layout
@@ -155,8 +155,8 @@ module _ (versions : EntryVersionsChangeNothing) (first : FirstEntriesArePairs) 
   unfolding slots
   ends =
       let r = (slots_range c class_is).0 in
-      let tried : ℕ → List ℕ = λ h. dict_walk h (class_mask c) (class_mask c + 14) in
-      let within : (h : ℕ) → All (λ s. s ≤ class_mask c) (tried h) = λ h. dict_walk-within h (class_mask c) (class_mask c + 14) in
+      let tried : ℕ → List ℕ = λ h. dict_slots h (class_mask c) (class_mask c + 14) in
+      let within : (h : ℕ) → All (λ s. s ≤ class_mask c) (tried h) = λ h. dict_slots-within h (class_mask c) (class_mask c + 14) in
       let table : IsDictTable k.texts (class_mask c) now.used (0 ∷ 0 ∷ (at_end v o write).table) = subst (λ (z : List ℕ). IsDictTable k.texts (class_mask c) now.used z) (after_header put (layout.entry_at (class_mask c) p 0) (entry_offset n p 0) (ver + 2) (omega (arith, r))) (versions tried (dict_room (class_mask c)) k.texts (class_mask c) now.used (0 ∷ 0 ∷ put) p (ver + 2) within now.table) in
       record { head = now.head; used = now.used; table = table; filled = now.filled; entries = now.entries }
 

@@ -12,7 +12,7 @@ use Rattle.ft_model.specs.declared.reply.Reply.{Reply}
 use Rattle.ft_model.specs.TableUses.{StoredWorld, stored_newest}
 use Rattle.ft_trace.specs.Addresses.{containers_in}
 use Rattle.ft_trace.specs.ContainerStates.{ContainerState, state_at, container_after, kind_in, first_writes, reply_in}
-use Rattle.ft_trace.specs.Pictures.{table_of, inner, Picture, root_of, root_in, picture, Stands}
+use Rattle.ft_trace.specs.Pictures.{table_words, inner, Picture, root_of, root_in, picture, Stands}
 use Rattle.ft_trace.specs.LoggedReads.{Between, Among, Agrees, IsNothing, LookedAtOne, LookedAtBoth}
 use Rattle.ft_model.specs.Worlds.{kind_of}
 use Rattle.ft_trace.proofs.Known.{kind_then}
@@ -89,7 +89,7 @@ module _ (k : Shape) (es : List Event) (valid : Valid k es) (o : ℕ) (low : o <
   root_read : (a : Act) (f : ℕ) (m : Among a mid) → f ≡ root k (in_now a m).older o → f ≡ root_in shown
   root_read a f m e = e ∙ (sym (root_is (run k (in_now a m).older).words) ∙ ap root_in (sym (still_now a m).picture))
 
-  by_inner : (r : ℕ) (ws : List ℕ) (t i : ℕ) → r ≡ suc t → slice_index (inner k r ws) i ≡ slice_index (table_of k t ws) i
+  by_inner : (r : ℕ) (ws : List ℕ) (t i : ℕ) → r ≡ suc t → slice_index (inner k r ws) i ≡ slice_index (table_words k t ws) i
   by_inner r ws t i e = ap (λ (z : ℕ). slice_index (inner k z ws) i) e
 
   -- what was read between them

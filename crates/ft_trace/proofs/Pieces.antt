@@ -3,7 +3,7 @@ use Rattle.std.proofs.Common.{◌≡◌, ℕ, zero, suc, ◌+◌, ◌<◌, List,
 use Rattle.std.specs.Prelude.{slice_index, slice_set}
 use Rattle.ft_trace.specs.declared.Shape.{Shape}
 use Rattle.ft_trace.specs.Addresses.{block, cell, class_of, size, at}
-use Rattle.ft_trace.specs.Pictures.{piece, table_of, block_of, root_of, inner, picture}
+use Rattle.ft_trace.specs.Pictures.{piece, table_words, block_of, root_of, inner, picture}
 
 pub piece_same : (ws zs : List ℕ) (at n : ℕ) → ((i : ℕ) → i < n → slice_index ws (at + i) ≡ slice_index zs (at + i)) → piece ws at n ≡ piece zs at n
 piece_same ws zs at zero same = refl
@@ -37,20 +37,20 @@ piece_long ws at (suc n) = ap suc (piece_long ws (at + 1) n)
 cell_is : (k : Shape) (t i : ℕ) → at k (cell t 0) + i ≡ at k (cell t i)
 cell_is k t i = omega arith
 
-pub table_same : (k : Shape) (t : ℕ) (ws zs : List ℕ) → ((i : ℕ) → i < size (class_of t) → slice_index ws (at k (cell t i)) ≡ slice_index zs (at k (cell t i))) → table_of k t ws ≡ table_of k t zs
-unfolding table_of
+pub table_same : (k : Shape) (t : ℕ) (ws zs : List ℕ) → ((i : ℕ) → i < size (class_of t) → slice_index ws (at k (cell t i)) ≡ slice_index zs (at k (cell t i))) → table_words k t ws ≡ table_words k t zs
+unfolding table_words
 table_same k t ws zs same = piece_same ws zs (at k (cell t 0)) (size (class_of t)) (λ i low. ap (λ (z : ℕ). slice_index ws z) (cell_is k t i) ∙ (same i low ∙ ap (λ (z : ℕ). slice_index zs z) (sym (cell_is k t i))))
 
-pub table_at : (k : Shape) (t : ℕ) (ws : List ℕ) (i : ℕ) → i < size (class_of t) → slice_index (table_of k t ws) i ≡ slice_index ws (at k (cell t i))
-unfolding table_of
+pub table_at : (k : Shape) (t : ℕ) (ws : List ℕ) (i : ℕ) → i < size (class_of t) → slice_index (table_words k t ws) i ≡ slice_index ws (at k (cell t i))
+unfolding table_words
 table_at k t ws i low = piece_at ws (at k (cell t 0)) (size (class_of t)) i low ∙ ap (λ (z : ℕ). slice_index ws z) (cell_is k t i)
 
-pub table_set : (k : Shape) (t : ℕ) (ws : List ℕ) (i x : ℕ) → i < size (class_of t) → at k (cell t i) < length ws → table_of k t (slice_set ws (at k (cell t i)) x) ≡ slice_set (table_of k t ws) i x
-unfolding table_of
-table_set k t ws i x low in_it = ap (λ (z : ℕ). table_of k t (set ws z x)) (sym (cell_is k t i)) ∙ piece_set ws (at k (cell t 0)) (size (class_of t)) i x low (omega arith)
+pub table_set : (k : Shape) (t : ℕ) (ws : List ℕ) (i x : ℕ) → i < size (class_of t) → at k (cell t i) < length ws → table_words k t (slice_set ws (at k (cell t i)) x) ≡ slice_set (table_words k t ws) i x
+unfolding table_words
+table_set k t ws i x low in_it = ap (λ (z : ℕ). table_words k t (set ws z x)) (sym (cell_is k t i)) ∙ piece_set ws (at k (cell t 0)) (size (class_of t)) i x low (omega arith)
 
-pub table_long : (k : Shape) (t : ℕ) (ws : List ℕ) → length (table_of k t ws) ≡ size (class_of t)
-unfolding table_of
+pub table_long : (k : Shape) (t : ℕ) (ws : List ℕ) → length (table_words k t ws) ≡ size (class_of t)
+unfolding table_words
 table_long k t ws = piece_long ws (at k (cell t 0)) (size (class_of t))
 
 block_cell : (k : Shape) (o i : ℕ) → at k (block o 0) + i ≡ at k (block o i)
@@ -76,12 +76,12 @@ block_zero k o ws zeros = piece_zero ws (at k (block o 0)) 6 (λ i low. ap (λ (
         let rest = piece_zero ws (at + 1) n (λ i low. let e : at + 1 + i ≡ at + suc i = omega arith in ap (λ (z : ℕ). slice_index ws z) e ∙ zeros (suc i) (omega arith)) in
         λ d. here d ∷ rest d
 
-inner_same : (k : Shape) (r : ℕ) (ws zs : List ℕ) → ((t : ℕ) → r ≡ suc t → table_of k t ws ≡ table_of k t zs) → inner k r ws ≡ inner k r zs
+inner_same : (k : Shape) (r : ℕ) (ws zs : List ℕ) → ((t : ℕ) → r ≡ suc t → table_words k t ws ≡ table_words k t zs) → inner k r ws ≡ inner k r zs
 inner_same k zero ws zs same = refl
 inner_same k (suc t) ws zs same = same t refl
 
 -- what a container's words are is the same where its block is, and the table that its root names
-pub picture_same : (k : Shape) (o : ℕ) (ws zs : List ℕ) → ((i : ℕ) → i < 6 → slice_index ws (at k (block o i)) ≡ slice_index zs (at k (block o i))) → ((t : ℕ) → root_of k o zs ≡ suc t → table_of k t ws ≡ table_of k t zs) → picture k o ws ≡ picture k o zs
+pub picture_same : (k : Shape) (o : ℕ) (ws zs : List ℕ) → ((i : ℕ) → i < 6 → slice_index ws (at k (block o i)) ≡ slice_index zs (at k (block o i))) → ((t : ℕ) → root_of k o zs ≡ suc t → table_words k t ws ≡ table_words k t zs) → picture k o ws ≡ picture k o zs
 picture_same k o ws zs same tables =
     let root = same 0 (omega arith) in
     let words = block_same k o ws zs same in

@@ -14,8 +14,8 @@ use Rattle.ft_model.specs.Answers.{Answer, answer, answer_set, puts, after_write
 use Rattle.ft_model.specs.Classes.{IsClass, set_entries, set_class, most_elements}
 use Rattle.ft_model.specs.Contents.{SetContent, has_element, set_add, empty_set}
 use Rattle.ft_model.specs.TableUses.{TableUse, StoredWorld, no_table, stored_newest, takes_in, table_at, outgrows_set, grown_table, after_stored}
-use Rattle.ft_hash.specs.Probes.{set_walk}
-use Rattle.ft_hash.proofs.Walks.{set_walk-within}
+use Rattle.ft_hash.specs.Probes.{set_slots}
+use Rattle.ft_hash.proofs.Walks.{set_slots-within}
 use Rattle.ft_layout.specs.Words.{key_kind, key_payload}
 use Rattle.ft_layout.specs.Tables.{UsedEntry, hash_of, set_room, IsSetTable}
 use Rattle.ft_layout.specs.Tables as layout
@@ -118,7 +118,7 @@ module _ (versions : EntryVersionsChangeNothing) (first : FirstEntriesAreElement
       let fits : set_room (class_mask c) ≡ m = room_is first k.texts (held o v).block c p class_is elements ws says in
       let filled = says.filled in
       let u = says.table.unused p (omega (arith, filled)) (omega (arith, fits, room)) in
-      sym (word_is (λ hash. set_walk hash (class_mask c) (class_mask c + 14)) (set_room (class_mask c)) k.texts c class_is says.used ws says.table p 2) ∙ u.kind
+      sym (word_is (λ hash. set_slots hash (class_mask c) (class_mask c + 14)) (set_room (class_mask c)) k.texts c class_is says.used ws says.table p 2) ∙ u.kind
 
   next_is : news.next ≡ elements.next + 1
   next_is = ap (λ (b : Bool). SetContent.next (if b then elements else record { next = elements.next + 1; elements = elements.elements ++ record { serial = elements.next; key = key } ∷ [] })) missing
@@ -216,8 +216,8 @@ module _ (versions : EntryVersionsChangeNothing) (first : FirstEntriesAreElement
   unfolding slots
   ends =
       let r = (slots_range c class_is).0 in
-      let tried : ℕ → List ℕ = λ h. set_walk h (class_mask c) (class_mask c + 14) in
-      let within : (h : ℕ) → All (λ s. s ≤ class_mask c) (tried h) = λ h. set_walk-within h (class_mask c) (class_mask c + 14) in
+      let tried : ℕ → List ℕ = λ h. set_slots h (class_mask c) (class_mask c + 14) in
+      let within : (h : ℕ) → All (λ s. s ≤ class_mask c) (tried h) = λ h. set_slots-within h (class_mask c) (class_mask c + 14) in
       let table : IsSetTable k.texts (class_mask c) now.used (0 ∷ 0 ∷ (at_end v o write).table) = subst (λ (z : List ℕ). IsSetTable k.texts (class_mask c) now.used z) (after_header put (layout.entry_at (class_mask c) p 0) (entry_offset n p 0) (ver + 2) (omega (arith, r))) (versions tried (set_room (class_mask c)) k.texts (class_mask c) now.used (0 ∷ 0 ∷ put) p (ver + 2) within now.table) in
       record { head = now.head; used = now.used; table = table; filled = now.filled; entries = now.entries }
 

@@ -20,8 +20,8 @@ use Rattle.ft_model.specs.Classes.{IsClass, set_entries, most_elements}
 use Rattle.ft_model.specs.Contents.{SetContent, has_element, set_add, empty_set}
 use Rattle.ft_model.specs.Worlds.{kind_of, no_hands, set_of, set_at}
 use Rattle.ft_model.specs.TableUses.{TableUse, StoredWorld, no_table, stored_newest, takes_in, table_at, set_takes, grown_table, taken, after_stored, passes_cap}
-use Rattle.ft_hash.specs.Probes.{set_walk}
-use Rattle.ft_hash.proofs.Walks.{set_walk-within}
+use Rattle.ft_hash.specs.Probes.{set_slots}
+use Rattle.ft_hash.proofs.Walks.{set_slots-within}
 use Rattle.ft_layout.specs.Tables.{set_room, IsSetTable}
 use Rattle.ft_layout.specs.Tables as layout
 use Rattle.ft_layout.specs.Containers.{class_mask, IsSetWords}
@@ -132,7 +132,7 @@ module _ (versions : EntryVersionsChangeNothing) (first : FirstEntriesAreElement
   others_stay q a less two l =
       let ne : q ≢ p = λ (e : q ≡ p). let one = has.open_entry in let v1 : entry_field n zs q 0 ≡ 1 = ap (λ (z : ℕ). entry_field n zs z 0) e ∙ one in absurd (omega (arith, v1, two)) in
       let fits : set_room (class_mask c) ≡ m = room_is first k.texts block c fill class_is news zs has.words in
-      let tried : ℕ → List ℕ = λ h. set_walk h (class_mask c) (class_mask c + 14) in
+      let tried : ℕ → List ℕ = λ h. set_slots h (class_mask c) (class_mask c + 14) in
       let low = has.low in
       elim (is_key key a) as (λ z. is_key key a ≡ z → under (content.Set news) a ≡ under (content.Set elements) a) [
         | true ↦ λ yes_it_is.
@@ -207,8 +207,8 @@ module _ (versions : EntryVersionsChangeNothing) (first : FirstEntriesAreElement
   ends =
       let r = (slots_range c class_is).0 in
       let now = has.words in
-      let tried : ℕ → List ℕ = λ h. set_walk h (class_mask c) (class_mask c + 14) in
-      let within : (h : ℕ) → All (λ s. s ≤ class_mask c) (tried h) = λ h. set_walk-within h (class_mask c) (class_mask c + 14) in
+      let tried : ℕ → List ℕ = λ h. set_slots h (class_mask c) (class_mask c + 14) in
+      let within : (h : ℕ) → All (λ s. s ≤ class_mask c) (tried h) = λ h. set_slots-within h (class_mask c) (class_mask c + 14) in
       let table : IsSetTable k.texts (class_mask c) now.used (0 ∷ 0 ∷ (at_end v o write).table) = subst (λ (z : List ℕ). IsSetTable k.texts (class_mask c) now.used z) (after_header zs (layout.entry_at (class_mask c) p 0) (entry_offset n p 0) 2 (omega (arith, r))) (versions tried (set_room (class_mask c)) k.texts (class_mask c) now.used (0 ∷ 0 ∷ zs) p 2 within now.table) in
       record { head = now.head; used = now.used; table = table; filled = now.filled; entries = now.entries }
 

@@ -13,8 +13,8 @@ use Rattle.ft_model.specs.Contents.{SetContent, empty_set}
 use Rattle.ft_model.specs.Worlds.{kind_of, set_of, set_at}
 use Rattle.ft_model.specs.TableUses.{StoredWorld, stored_newest, table_at}
 use Rattle.ft_model.proofs.KnownKeys.{length-filter-le}
-use Rattle.ft_hash.specs.Probes.{set_walk}
-use Rattle.ft_hash.proofs.Walks.{set_walk-within}
+use Rattle.ft_hash.specs.Probes.{set_slots}
+use Rattle.ft_hash.proofs.Walks.{set_slots-within}
 use Rattle.ft_layout.specs.Words.{FitsKey}
 use Rattle.ft_layout.specs.Tables.{UsedEntry, is_live, set_room}
 use Rattle.ft_layout.specs.Containers.{class_mask, used_element, AreSetEntries, IsSetWords, StandsAs}
@@ -43,7 +43,7 @@ FirstEntriesAreElements = (used : List UsedEntry) (elements : SetContent) (test 
 
 module _ (first : FirstEntriesAreElements) (texts block : List ℕ) (c fill : ℕ) (is_class : IsClass c) (elements : SetContent) (ws : List ℕ) (says : IsSetWords texts block (0 ∷ 0 ∷ ws) (Some c) fill elements) where
   abbrev tried : ℕ → List ℕ
-  tried hash = set_walk hash (class_mask c) (class_mask c + 14)
+  tried hash = set_slots hash (class_mask c) (class_mask c + 14)
 
   pub room_is : set_room (class_mask c) ≡ set_entries c
   room_is = (sizes_of_class c is_class).1
@@ -60,7 +60,7 @@ module _ (first : FirstEntriesAreElements) (texts block : List ℕ) (c fill : �
       (r.0, omega (arith, f, e, low), r.2)
 
   within_mask : (hash : ℕ) → All (λ slot. slot ≤ class_mask c) (tried hash)
-  within_mask hash = set_walk-within hash (class_mask c) (class_mask c + 14)
+  within_mask hash = set_slots-within hash (class_mask c) (class_mask c + 14)
 
   pub set_reached : (key : Key) → FitsKey key → under (content.Set elements) key ≢ [] → Reached (slots c) (set_entries c) ws (walk_of kind.Set texts c key) key
   unfolding walk_of

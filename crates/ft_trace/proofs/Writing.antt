@@ -13,7 +13,7 @@ use Rattle.ft_trace.specs.declared.Act.TheVariants.{StartWrite, PutRoot, PutBloc
 use Rattle.ft_trace.specs.Addresses.{Word, containers_in, counter, version_of, lock_of, block, cell, class_of, size, IsTableName, at, extent, Inside}
 use Rattle.ft_trace.specs.Acts.{has_lock, is_writing, has_committed, has_emptied, owes, stage, mem, past, noted}
 use Rattle.ft_trace.specs.ContainerStates.{ContainerState, container_after, kind_in, may_empty}
-use Rattle.ft_trace.specs.Pictures.{table_of, block_of, root_of, inner, Picture, root_in, picture, Stands}
+use Rattle.ft_trace.specs.Pictures.{table_words, block_of, root_of, inner, Picture, root_in, picture, Stands}
 use Rattle.ft_trace.specs.Kinds.{rows, version_at, CarefulAs, ClearAs}
 use Rattle.ft_trace.specs.OddVersions.{Shut, Low, Timely}
 use Rattle.ft_trace.specs.Holds.{held, known, in_hand, AgreesWith}
@@ -71,7 +71,7 @@ module _ (k : Shape) (o : ℕ) (low : o < containers_in k) where
       let other : (j : ℕ) → j < 6 → slice_index ys (at k (block o j)) ≡ slice_index ws (at k (block o j)) = λ j less. other_word k ws (cell t i) (block o j) x (table, small) (low, less) (λ e. absurd (cc)) in
       let b : block_of k o ys ≡ words.block = block_same k o ys ws other ∙ ap (λ (z : Picture). z.block) is in
       let root : root_of k o ys ≡ suc t = other 0 (omega arith) ∙ was in
-      let old : table_of k t ws ≡ words.table = sym (ap (λ (r : ℕ). inner k r ws) was) ∙ ap (λ (z : Picture). z.table) is in
+      let old : table_words k t ws ≡ words.table = sym (ap (λ (r : ℕ). inner k r ws) was) ∙ ap (λ (z : Picture). z.table) is in
       let all : inner k (root_of k o ys) ys ≡ slice_set words.table i x = ap (λ (r : ℕ). inner k r ys) root ∙ (table_set k t ws i x small (omega (arith, long, l)) ∙ ap (λ (z : List ℕ). slice_set z i x) old) in
       λ d. record { block = b d; table = all d }
 
@@ -179,7 +179,7 @@ module _ (v : View) (o t : ℕ) (write : WholeWrite) (begin : MayBegin v o) (may
       × (has_emptied o log ≡ true → may_empty write.call ≡ true)
 
   -- no version in the table that the root names is odd
-  shut_old : (start : ℕ) → Sure (with_log v (l1 start)) (λ es. (q : ℕ) → old ≡ suc q → Shut (version_at its (class_of q)) (rows its (class_of q)) (table_of n q (run n es).words))
+  shut_old : (start : ℕ) → Sure (with_log v (l1 start)) (λ es. (q : ℕ) → old ≡ suc q → Shut (version_at its (class_of q)) (rows its (class_of q)) (table_words n q (run n es).words))
   shut_old start es id knows q names = subst (Shut (version_at its (class_of q)) (rows its (class_of q))) (table_known (with_log v (l1 start)) o begin.low q begin.mine names es id knows).0 (held_shut v o q begin.low begin.possible begin.mine begin.quiet names)
 
   rooted : (r : Option ℕ) → MayReplace v o write.call r → (start : ℕ) → Possible (with_log v (l1 start)) → Rooted r (log_of_root o old r (l1 start))
@@ -209,12 +209,12 @@ module _ (v : View) (o t : ℕ) (write : WholeWrite) (begin : MayBegin v o) (may
         (λ q2 (e : suc q ≡ suc q2). let same : q ≡ q2 = cc in subst (λ (z : ℕ). IsTableName n z × (stage z v.log ≡ 1) × SoundFor n (run n es).words o z (container_after n.kinds (history es) o).content) same (m.0, m.1, sound_sure u o begin.low q m.0 begin.mine m.1 m.2 es id knows)),
         shut_old start es id knows,
         (λ _. begin.spare),
-        (λ q2 (e : suc q ≡ suc q2). let same : q ≡ q2 = cc in subst (λ (z : ℕ). Low (version_at its (class_of z)) (rows its (class_of z)) (table_of n z (run n es).words) (word n es counter) (has_committed o (l1 start))) same (young q m.0 m.1 m.3 start es id knows)),
+        (λ q2 (e : suc q ≡ suc q2). let same : q ≡ q2 = cc in subst (λ (z : ℕ). Low (version_at its (class_of z)) (rows its (class_of z)) (table_words n z (run n es).words) (word n es counter) (has_committed o (l1 start))) same (young q m.0 m.1 m.3 start es id knows)),
         (λ (e : suc q ≡ 0). absurd (omega (arith, e))),
       )) in
       (next.1, root_put n o begin.low (mem n v.log) (suc q) wide (λ q2 (e : suc q ≡ suc q2). let same : q ≡ q2 = cc in subst (IsTableName n) same m.0), (λ p. refl), odd start, not_yet start, refl, refl, λ e. off (sym (hit o (eqb (suc q) 0) (has_emptied o (l1 start)) ∙ ne_eqb (suc q) 0 (λ z. absurd (omega (arith, z)))) ∙ e))
     where
-      young : (q : ℕ) → IsTableName n q → stage q v.log ≡ 1 → ((p : ℕ) → p < rows its (class_of q) → slice_index (in_hand q v) (version_at its (class_of q) p) ≤ 1) → (start : ℕ) → Sure (with_log v (l1 start)) (λ es. Low (version_at its (class_of q)) (rows its (class_of q)) (table_of n q (run n es).words) (word n es counter) (has_committed o (l1 start)))
+      young : (q : ℕ) → IsTableName n q → stage q v.log ≡ 1 → ((p : ℕ) → p < rows its (class_of q) → slice_index (in_hand q v) (version_at its (class_of q) p) ≤ 1) → (start : ℕ) → Sure (with_log v (l1 start)) (λ es. Low (version_at its (class_of q)) (rows its (class_of q)) (table_words n q (run n es).words) (word n es counter) (has_committed o (l1 start)))
       young q table fresh low start es id knows =
           subst (λ (l : List ℕ). Low (version_at its (class_of q)) (rows its (class_of q)) l (word n es counter) (has_committed o (l1 start))) (hand_known (with_log v (l1 start)) q table fresh es id knows)
           (record {
@@ -261,7 +261,7 @@ module _ (v : View) (o t : ℕ) (write : WholeWrite) (begin : MayBegin v o) (may
       let mine : has_lock o log ≡ true = r.2 o ∙ begin.mine in
       let clear : (q : ℕ) → root_of n o (run n es).words ≡ suc q → ClearFor n (run n es).words o q (container_after n.kinds (history es) o).content (container_after n.kinds (write.call ∷ history es) o).content = λ q names.
       let known_root : root_in (held o u) ≡ suc q = root_known u o begin.low mine es id knows ∙ names in
-      let words : (at_commit v o write).table ≡ table_of n q (run n es).words = ap (λ (z : Picture). z.table) (sym r.1) ∙ (table_known u o begin.low q mine known_root es id knows).0 in
+      let words : (at_commit v o write).table ≡ table_words n q (run n es).words = ap (λ (z : Picture). z.table) (sym r.1) ∙ (table_known u o begin.low q mine known_root es id knows).0 in
       let content : (known o v).content ≡ (container_after n.kinds (history es) o).content = ap (λ (z : ContainerState). z.content) (sym (agree o begin.low begin.mine)) in
       subst (λ (z : List ℕ × Content). ClearAs its n.texts (class_of q) z.0 z.1 (container_after n.kinds (write.call ∷ history es) o).content) (λ d. (words d, content d)) (c.clear q (ap root_in (sym r.1) ∙ known_root)) in (
         may.wrote,

@@ -5,7 +5,7 @@ use Rattle.ft_trace.specs.declared.View.{View}
 use Rattle.ft_trace.specs.Addresses.{containers_in}
 use Rattle.ft_trace.specs.Acts.{has_lock, mem, past}
 use Rattle.ft_trace.specs.ContainerStates.{ContainerState, state_at, container_after}
-use Rattle.ft_trace.specs.Pictures.{Picture, picture, table_of}
+use Rattle.ft_trace.specs.Pictures.{Picture, picture, table_words}
 
 -- the words of o, whose lock it has
 abbrev pub held : ℕ → View → Picture
@@ -17,7 +17,7 @@ known o v = container_after v.shape.kinds (past v.log) o
 
 -- the words of a table that is fresh in its hand
 abbrev pub in_hand : ℕ → View → List ℕ
-in_hand t v = table_of v.shape t (mem v.shape v.log)
+in_hand t v = table_words v.shape t (mem v.shape v.log)
 
 -- this stored world has what the pass knows of the containers whose locks it has
 abbrev pub AgreesWith : View → StoredWorld → Type 0

@@ -3,7 +3,7 @@ use Rattle.std.specs.Prelude.{◌≡◌, ◌≢◌, ℕ, zero, suc, ◌+◌, ◌
 use Rattle.ft_model.specs.declared.data.Key.{Key}
 use Rattle.ft_model.specs.declared.script.Kind.{Kind}
 use Rattle.ft_model.specs.declared.script.Kind.TheVariants as kind
-use Rattle.ft_hash.specs.Probes.{dict_walk, set_walk}
+use Rattle.ft_hash.specs.Probes.{dict_slots, set_slots}
 use Rattle.ft_layout.specs.Tables.{hash_of}
 use Rattle.ft_layout.specs.Containers.{class_mask, StandsAs}
 use Rattle.ft_trace.specs.declared.Shape.{Shape}
@@ -16,8 +16,8 @@ piece ws at zero = []
 piece ws at (suc n) = slice_index ws at ∷ piece ws (at + 1) n
 
 -- the words of a table after its header
-unfoldable pub table_of : Shape → ℕ → List ℕ → List ℕ
-table_of k t ws = piece ws (at k (cell t 0)) (size (class_of t))
+unfoldable pub table_words : Shape → ℕ → List ℕ → List ℕ
+table_words k t ws = piece ws (at k (cell t 0)) (size (class_of t))
 
 -- words 2 to 7 of a container's block
 unfoldable pub block_of : Shape → ℕ → List ℕ → List ℕ
@@ -29,7 +29,7 @@ root_of k o ws = slice_index ws (at k (block o 0))
 -- the words of the table that a root names
 abbrev pub inner : Shape → ℕ → List ℕ → List ℕ
 inner k zero ws = []
-inner k (suc t) ws = table_of k t ws
+inner k (suc t) ws = table_words k t ws
 
 -- what a container's words are: words 2 to 7 of its block, and those of its table
 pub record Picture : Type 0 where
@@ -68,8 +68,8 @@ item_field ws p w = slice_index ws (item_offset p w)
 
 -- the slots that are tried for a key in a table of this class
 unfoldable pub walk_of : Kind → List ℕ → ℕ → Key → List ℕ
-walk_of kind.Dict texts class key = dict_walk (hash_of texts key) (class_mask class) (class_mask class + 14)
-walk_of kind.Set texts class key = set_walk (hash_of texts key) (class_mask class) (class_mask class + 14)
+walk_of kind.Dict texts class key = dict_slots (hash_of texts key) (class_mask class) (class_mask class + 14)
+walk_of kind.Set texts class key = set_slots (hash_of texts key) (class_mask class) (class_mask class + 14)
 walk_of kind.List texts class key = []
 
 -- the walk meets this number at a slot, and before it no slot never used

@@ -31,7 +31,7 @@ use Rattle.ft_trace.specs.Acts.{has_lock, is_writing, reads, stage, goal, has_go
 use Rattle.ft_trace.specs.Owners.{is_owner_in, had_locks, found_owners, AreOwners}
 use Rattle.ft_trace.specs.Ages.{age, all_acts}
 use Rattle.ft_trace.specs.ContainerStates.{container_after, first_writes, kind_in, reply_in}
-use Rattle.ft_trace.specs.Pictures.{entry_offset, item_offset, walk_of, table_of, picture}
+use Rattle.ft_trace.specs.Pictures.{entry_offset, item_offset, walk_of, table_words, picture}
 use Rattle.ft_trace.specs.ItemWords.{words_at}
 use Rattle.ft_trace.specs.Kinds.{rows, is_key, pair_words, element_words, under, LaterAs, IsKeyed, IsItems}
 use Rattle.ft_trace.specs.Holds.{held, known, in_hand}
@@ -97,7 +97,7 @@ OddVersionsAreInWrites =
     (k : Shape) (es : List Event) → Valid k es → (t : ℕ) → IsTableName k t
     → ((j : ℕ) (u : View) → HasView k es j u → stage t u.log ≢ 1)
     → ((o : ℕ) → o < containers_in k → word k es (block o 0) ≡ suc t → word k es (version_of o) % 2 ≡ 0)
-    → IsAllShut (class_of t) (table_of k t (run k es).words)
+    → IsAllShut (class_of t) (table_words k t (run k es).words)
 
 -- ---- entries
 
@@ -180,7 +180,7 @@ HoldersKnow =
     → ((o : ℕ) → o < containers_in v.shape → has_lock o v.log ≡ true
     → (held o v ≡ picture v.shape o (run v.shape es).words)
     × (known o v ≡ container_after v.shape.kinds (history es) o))
-    × ((t : ℕ) → IsTableName v.shape t → stage t v.log ≡ 1 → in_hand t v ≡ table_of v.shape t (run v.shape es).words)
+    × ((t : ℕ) → IsTableName v.shape t → stage t v.log ≡ 1 → in_hand t v ≡ table_words v.shape t (run v.shape es).words)
 
 -- ---- tables
 
@@ -270,7 +270,7 @@ abbrev pub GivenUpTablesRest : Type 0
 GivenUpTablesRest =
     (k : Shape) (e : Event) (es : List Event) → Valid k (e ∷ es) → (t : ℕ) → IsTableName k t → age es t % 5 ≢ 1
     → age es t % 5 ≢ 2
-    → table_of k t (run k (e ∷ es)).words ≡ table_of k t (run k es).words
+    → table_words k t (run k (e ∷ es)).words ≡ table_words k t (run k es).words
 
 -- ---- readers without a lock
 
@@ -285,7 +285,7 @@ abbrev pub TableWordsStay : Type 0
 TableWordsStay =
     (k : Shape) (newer older : List Event) → Valid k (newer ++ older) → (o : ℕ) → o < containers_in k → (t : ℕ)
     → word k older (block o 0) ≡ suc t → age (newer ++ older) t ≡ age older t
-    → LaterAs (kind_in k.kinds o) (class_of t) (table_of k t (run k older).words) (table_of k t (run k (newer
+    → LaterAs (kind_in k.kinds o) (class_of t) (table_words k t (run k older).words) (table_words k t (run k (newer
     ++ older)).words)
 
 -- a key that was found is there at the stamp, with the words that were read of it

@@ -21,7 +21,7 @@ use Rattle.ft_trace.specs.declared.View.{View}
 use Rattle.ft_trace.specs.Addresses.{Word, counter, write_number, version_of, containers_in, tables_in, class_of, size, IsTableName, at, opening}
 use Rattle.ft_trace.specs.Acts.{place, word_after, Reports, has_lock, is_writing, has_committed, has_emptied, stage, goal, announces, clear, used, debt, flight, owes, noted, starter, maker, made, both, spent, sender, note}
 use Rattle.ft_trace.specs.ContainerStates.{container_after, first_writes, kind_in, changes, may_empty, reply_in}
-use Rattle.ft_trace.specs.Pictures.{table_of, root_of, picture, Stands}
+use Rattle.ft_trace.specs.Pictures.{table_words, root_of, picture, Stands}
 use Rattle.ft_trace.specs.Kinds.{rows, version_at, SoundAs, CarefulAs, ClearAs}
 use Rattle.ft_trace.specs.OddVersions.{Shut, Timely, Low}
 use Rattle.ft_trace.specs.FitCalls.{FitsCall}
@@ -89,17 +89,17 @@ snap m cs = record { words = m.words; calls = cs }
 
 -- of the table t, while it is that of the container o or is to be
 abbrev pub SoundFor : Shape → List ℕ → ℕ → ℕ → Content → Type 0
-SoundFor k ws o t c = SoundAs (kind_in k.kinds o) k.texts (class_of t) (table_of k t ws) c
+SoundFor k ws o t c = SoundAs (kind_in k.kinds o) k.texts (class_of t) (table_words k t ws) c
 
 abbrev pub CarefulFor : Shape → List ℕ → ℕ → ℕ → Content → ℕ → ℕ → Type 0
-CarefulFor k ws o t c i x = CarefulAs (kind_in k.kinds o) (class_of t) (table_of k t ws) c i x
+CarefulFor k ws o t c i x = CarefulAs (kind_in k.kinds o) (class_of t) (table_words k t ws) c i x
 
 abbrev pub ClearFor : Shape → List ℕ → ℕ → ℕ → Content → Content → Type 0
-ClearFor k ws o t c d = ClearAs (kind_in k.kinds o) k.texts (class_of t) (table_of k t ws) c d
+ClearFor k ws o t c d = ClearAs (kind_in k.kinds o) k.texts (class_of t) (table_words k t ws) c d
 
 abbrev pub ShutFor : Shape → List ℕ → ℕ → ℕ → Type 0
 ShutFor k ws o t =
-    Shut (version_at (kind_in k.kinds o) (class_of t)) (rows (kind_in k.kinds o) (class_of t)) (table_of k t ws)
+    Shut (version_at (kind_in k.kinds o) (class_of t)) (rows (kind_in k.kinds o) (class_of t)) (table_words k t ws)
 
 abbrev pub TimelyFor : Shape → ℕ → ℕ → ℕ → ℕ → Bool → Type 0
 TimelyFor k o t i x committed =
@@ -112,7 +112,7 @@ IsAllShut class ws = (kind : Kind) × Shut (version_at kind class) (rows kind cl
 abbrev pub LowFor : Shape → List ℕ → ℕ → ℕ → ℕ → Bool → Type 0
 LowFor k ws o t count committed =
     Low (version_at (kind_in k.kinds o) (class_of t)) (rows (kind_in k.kinds o) (class_of t))
-    (table_of k t ws) count committed
+    (table_words k t ws) count committed
 
 -- What a pass with the view v may do at the moment m, after the history cs.
 abbrev pub May : Shape → Moment → List Call → View → Act → Type 0
@@ -226,7 +226,7 @@ May k m cs v (TakeTable t f s) =
 -- has found each pass offline or at least at the goal since then
 May k m cs v (GiveTable t) =
     IsTableName k t
-    × (((stage t v.log ≡ 1) × IsAllShut (class_of t) (table_of k t m.words))
+    × (((stage t v.log ≡ 1) × IsAllShut (class_of t) (table_words k t m.words))
     ⊎ ((stage t v.log ≡ 4) × ((p : ℕ) → 0 < p → p ≤ k.passes → clear t p v.log ≡ true)))
     × (flight v.log ≡ 0)
 -- a table that the pass took out of a root; it has retired fewer than it has taken out

@@ -33,7 +33,7 @@ use Rattle.ft_turns.proofs.MachineFacts.{IsFollowed}
 use Rattle.ft_turns.proofs.KeptLocks.{AreEntriesFor, CalmAtEnd, IsSecured, BeginsLow, secured_steps, secured_start}
 use Rattle.ft_turns.proofs.AnsweringSteps.{IsKeptByAnswers, answered_turns_keep}
 use Rattle.ft_turns.proofs.Going.{IsBare, IsGoing, CallsOf, going_start}
-use Rattle.ft_turns.proofs.EntriesHaveRightReplies.{marked_by, IsPart, IsDone, HasRightReply}
+use Rattle.ft_turns.proofs.EntriesHaveRightReplies.{marked_by, IsFirstPart, IsDone, HasRightReply}
 use Rattle.ft_turns.proofs.RightReplySteps.{reported_steps, reported_start}
 use Rattle.ft_turns.proofs.Indexed.{IsIndexed, indexed_steps, indexed_start}
 use Rattle.ft_turns.proofs.NoSections.{none_ends}
@@ -203,14 +203,14 @@ module _ (script : ScriptParts) (rule : IsScript script) (all_finish : AllFinish
   counted : length (answered_turns script) ≡ length (last_progress script).entries
   counted = length-map (last_progress script).entries (marked_entry (last_progress script).machine)
 
-  part : IsPart (last_progress script).machine.answered last_mark (answered_turns script) (last_progress script)
+  part : IsFirstPart (last_progress script).machine.answered last_mark (answered_turns script) (last_progress script)
   part = record {
     machine = record { answered = λ place event at. at; marks = λ thread index who marked. marked; finished = λ thread index low. refl };
     front = take_all (length (last_progress script).entries) (answered_turns script) (omega (arith, counted)) ∙ entries_are;
   }
 
   reported : HasRightReply script last_mark (answered_turns script) (last_progress script)
-  reported = (answered_turns_keep script (λ progress. IsGoing script progress × (IsPart (last_progress script).machine.answered last_mark (answered_turns script) progress → HasRightReply script last_mark (answered_turns script) progress))
+  reported = (answered_turns_keep script (λ progress. IsGoing script progress × (IsFirstPart (last_progress script).machine.answered last_mark (answered_turns script) progress → HasRightReply script last_mark (answered_turns script) progress))
       (reported_steps script calls_ok (last_progress script).machine.answered last_mark (answered_turns script)) (start_progress script) (turns_of script)
       (going_start script, λ _. reported_start script calls_ok (last_progress script).machine.answered last_mark (answered_turns script))).1 part
 

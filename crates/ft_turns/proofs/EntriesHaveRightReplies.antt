@@ -116,7 +116,7 @@ replied world hands tally (call.Next cursor) = inr refl
 -- ---- what follows
 
 -- the progress is the first part of what comes of it
-pub record IsPart (events : List (ℕ × ℕ)) (mark_of : ℕ → ℕ → Option ℕ) (entries : List Entry) (progress : Progress) : Type 0 where
+pub record IsFirstPart (events : List (ℕ × ℕ)) (mark_of : ℕ → ℕ → Option ℕ) (entries : List Entry) (progress : Progress) : Type 0 where
   pub machine : IsFollowed events mark_of progress.machine
   pub front : take (length progress.entries) entries ≡ map (marked_by mark_of) progress.entries
 

@@ -28,7 +28,7 @@ use Rattle.ft_turns.proofs.PlaceSteps.{AllBelow, sections_below, sections_own, s
 use Rattle.ft_turns.proofs.AnswerFacts.{IsPlainAnswerOf}
 use Rattle.ft_turns.proofs.AnsweringSteps.{IsKeptByAnswers}
 use Rattle.ft_turns.proofs.Going.{IsGoing, CallsOf, thread_low, next_answer, going_waits, going_answers, going_finishes, hands_at_start, tally_at_start, reply_memory, reply_writes}
-use Rattle.ft_turns.proofs.EntriesHaveRightReplies.{Tallied, marked_by, tallied_next, tallied_other, tallied_call, counted_call, replied, IsPart, front_before, front_at, writes-marked, IsDone, HasRightReply}
+use Rattle.ft_turns.proofs.EntriesHaveRightReplies.{Tallied, marked_by, tallied_next, tallied_other, tallied_call, counted_call, replied, IsFirstPart, front_before, front_at, writes-marked, IsDone, HasRightReply}
 
 -- what an entry leaves of the world: it is a write, and leaves what the plain container does, or leaves all as it was
 left_by : (wrote : Bool) (world left : List Content) (called : Call) → (wrote ≡ true → left ≡ after_write world called) → (wrote ≡ false → left ≡ world) → left ≡ fold after_write world (cond wrote (called ∷ []) [])
@@ -279,23 +279,23 @@ module _ (script : ScriptParts) (calls_ok : CallsOf script) (events : List (ℕ 
 
   -- ---- all steps
 
-  pub reported_steps : IsKeptByAnswers script (λ progress. IsGoing script progress × (IsPart events mark_of entries progress → HasRightReply script mark_of entries progress))
+  pub reported_steps : IsKeptByAnswers script (λ progress. IsGoing script progress × (IsFirstPart events mark_of entries progress → HasRightReply script mark_of entries progress))
   reported_steps =
       record {
         threads = λ progress both. both.0.owned.threads;
         waits = λ progress thread called fixed containers found try finds both. (
           going_waits script calls_ok progress thread called fixed containers found try finds both.0,
-          λ part. (let before : IsPart events mark_of entries progress = record { machine = followed_waits script events mark_of progress.machine thread called fixed containers try both.0.owned found part.machine; front = part.front } in
+          λ part. (let before : IsFirstPart events mark_of entries progress = record { machine = followed_waits script events mark_of progress.machine thread called fixed containers try both.0.owned found part.machine; front = part.front } in
               reported_waits progress thread called fixed containers found try both.0 (both.1 before)),
         );
         answers = λ progress thread called containers try finds both. (
           going_answers script calls_ok progress thread called containers try finds both.0,
-          λ part. (let before : IsPart events mark_of entries progress = record { machine = followed_answers script events mark_of progress.machine thread called false containers try both.0.owned part.machine; front = front_before mark_of entries progress.entries (next_entry progress thread called) part.front } in
+          λ part. (let before : IsFirstPart events mark_of entries progress = record { machine = followed_answers script events mark_of progress.machine thread called false containers try both.0.owned part.machine; front = front_before mark_of entries progress.entries (next_entry progress thread called) part.front } in
               reported_answers progress thread called containers try both.0 (both.1 before) part.front),
         );
         finishes = λ progress thread called containers try finds both. (
           going_finishes script calls_ok progress thread called containers try finds both.0,
-          λ part. (let before : IsPart events mark_of entries progress = record { machine = followed_finishes script events mark_of progress.machine thread called true containers try both.0.owned part.machine; front = part.front } in
+          λ part. (let before : IsFirstPart events mark_of entries progress = record { machine = followed_finishes script events mark_of progress.machine thread called true containers try both.0.owned part.machine; front = part.front } in
               reported_finishes progress thread called containers try both.0 (both.1 before) (followed_mark script events mark_of progress.machine thread called true containers try both.0.owned part.machine)),
         );
       }

@@ -45,8 +45,8 @@ returns-clause-reads c =
     let p = a.pass.now in
     let q = c.word_of-kind.new.pass in
     let r = c.word_of-payload.new.pass in
-    reads_map k a.o (λ x. (root_in x ≡ suc t → kind ≡ entry_field n x.table a.place 2) × (root_in x ≡ suc t → payload ≡ entry_field n x.table a.place 3)) (IsKeyAt k t a.place c.key_said.result) p r
-    (λ x both. key_read k t a.place kind payload x both.0 both.1 c.key_said.result c.key_said.ensures)
+    reads_map k a.o (λ x. (root_in x ≡ suc t → kind ≡ entry_field n x.table a.place 2) × (root_in x ≡ suc t → payload ≡ entry_field n x.table a.place 3)) (IsKeyAt k t a.place c.key_of.result) p r
+    (λ x both. key_read k t a.place kind payload x both.0 both.1 c.key_of.result c.key_of.ensures)
     (reads_then k a.o (λ x. root_in x ≡ suc t → kind ≡ entry_field n x.table a.place 2) (λ x. root_in x ≡ suc t → payload ≡ entry_field n x.table a.place 3) p q r c.word_of-kind.ensures.reads c.word_of-payload.ensures.reads)
 
 pub returns-clause-within : goal.returns-clause-within
@@ -55,4 +55,4 @@ returns-clause-within c =
     let same = places_of (class_of (name_of a.table)) ∙ ap dict_entries (class_is a.table c.requires.table.2) in
     let low = c.if-place-dict_entries.false in
     let e = c.dict_entries.ensures in
-    within_key (a.place < places (class_of (name_of a.table))) c.word_of-kind.result c.word_of-payload.result c.key_said.result (omega (arith, same, low, e)) c.key_said.ensures
+    within_key (a.place < places (class_of (name_of a.table))) c.word_of-kind.result c.word_of-payload.result c.key_of.result (omega (arith, same, low, e)) c.key_of.ensures

@@ -27,4 +27,4 @@ returns-clause-key c key =
     let x = held a.o (view a.pass.now) in
     let same = loaded_held (view a.pass.now) (view c.word_of-kind.new.pass) a.o c.word_of-kind.ensures.only in
     let payload : c.word_of-payload.result ≡ entry_field n x.table a.place 3 = c.word_of-payload.ensures.found ∙ ap (λ (y : Picture). entry_field n y.table a.place 3) same in
-    subst (λ (z : ℕ × ℕ). IsKey z.0 z.1 key ↔ (c.key_said.result ≡ Some key)) (λ d. (c.word_of-kind.ensures.found d, payload d)) (c.key_said.ensures key)
+    subst (λ (z : ℕ × ℕ). IsKey z.0 z.1 key ↔ (c.key_of.result ≡ Some key)) (λ d. (c.word_of-kind.ensures.found d, payload d)) (c.key_of.ensures key)

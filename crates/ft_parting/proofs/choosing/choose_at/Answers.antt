@@ -17,7 +17,7 @@ use Rattle.ft_trace.specs.Acts.{mem}
 use Rattle.ft_trace.specs.Addresses.{class_of, slots}
 use Rattle.ft_trace.specs.Holds.{held, in_hand, known}
 use Rattle.ft_trace.specs.Kinds.{rows}
-use Rattle.ft_trace.specs.Pictures.{entry_field, table_of}
+use Rattle.ft_trace.specs.Pictures.{entry_field, table_words}
 use Rattle.ft_bank.specs.Passes.{shape_of, view}
 use Rattle.ft_bank.specs.TableNames.{name_of}
 use Rattle.ft_bank.specs.Whole.{OnlyLoaded}
@@ -40,7 +40,7 @@ any = record { key = Int (pos 0); serial = 0; stored = None }
 
 -- loads change no words in hand
 hand_loaded : (t : ℕ) (v w : View) → OnlyLoaded v w → in_hand t w ≡ in_hand t v
-hand_loaded t v w only = ap (λ (k : Shape). table_of k t (mem k w.log)) only.work.pass.shape ∙ ap (λ (ws : List ℕ). table_of v.shape t ws) only.words
+hand_loaded t v w only = ap (λ (k : Shape). table_words k t (mem k w.log)) only.work.pass.shape ∙ ap (λ (ws : List ℕ). table_words v.shape t ws) only.words
 
 -- what was read there
 stated : (c : After-apart_at) (used : List UsedEntry) (mine : List Element) → c.args.place < length used → IsChosen (shape_of c.args.bank.now) c.args.s c.args.from c.args.t c.args.table c.args.first c.args.start used mine c.args.place c.args.count (view c.args.pass.now)

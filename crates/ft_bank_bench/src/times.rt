@@ -2,7 +2,7 @@
 ghost use Rattle.std.specs.Prelude.{◌≡◌, OnOk};
 ghost use Rattle.ft_bank.specs.Passes.{shape_of, view};
 ghost use Rattle.ft_bank_tests.specs.Working.{IsListIn, IsWorker};
-ghost use Rattle.ft_bank_bench.specs.Rounds.{HasCalls, KeepsCalls};
+ghost use Rattle.ft_bank_bench.specs.TimedSteps.{HasCalls, KeepsCalls};
 
 use crate::bank_steps::{Ready, load_all, lock_all, make_ready, take_all, write_all};
 use crate::bare_steps;

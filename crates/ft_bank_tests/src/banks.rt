@@ -9,8 +9,8 @@ use ft_model::Kind;
 use std::alloc::{AllocError, Global};
 use std::test::Fail;
 
-/// Containers of these kinds, no string, one table of each class, and as few places for boxes as there may be, for so
-/// many passes with so many calls each.
+/// Containers of these kinds, no string, one table of each class, and as few places for boxes as there may be, for this
+/// many passes with this many calls each.
 ///
 /// # Errors
 ///

@@ -11,7 +11,7 @@ ghost use Rattle.ft_section.specs.Ready.{MayTry};
 
 mod cases;
 
-use crate::{Said, Wanted, four, is_made, only};
+use crate::{Said, Wanted, is_made, open_four};
 use cases::{CASES, CROWDED, GROWN, LARGEST, LARGEST_ALONE, LARGEST_MOVED};
 use ft_bank::{Bank, Pass};
 use ft_dict::{
@@ -19,7 +19,7 @@ use ft_dict::{
     try_pop, try_popd, try_popitem, try_set, try_setdefault, try_update,
 };
 use ft_model::{Key, Value};
-use ft_section::{Step, new_passes_are_ready};
+use ft_section::Step;
 use std::alloc::{AllocError, Global};
 use std::test::Fail;
 
@@ -152,17 +152,7 @@ fn in_new_bank(
     greater: u32,
     rows: &[(Call, Wanted)],
 ) -> Result<Option<usize>, Fail> {
-    let shape = four(alloc, least, greater)?;
-    if !shape.fits() {
-        return Err(Fail::from("a small shape fits"));
-    }
-    let Ok((bank, passes)) = Bank::new(alloc, shape) else {
-        return Err(Fail::from("there is memory"));
-    };
-    let Some(mut pass) = only(&bank, passes) else {
-        return Err(Fail::from("there is a pass"));
-    };
-    new_passes_are_ready(&bank, &pass);
+    let (bank, mut pass) = open_four(alloc, least, greater)?;
     Ok(first_wrong(&bank, &mut pass, alloc, rows))
 }
 

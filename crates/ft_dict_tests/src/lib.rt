@@ -11,5 +11,5 @@ mod rows;
 #[cfg(test)]
 mod takes;
 
-pub use crate::opened::{go_online, only, small, three};
-pub use crate::rows::{Said, Wanted, four, is_made};
+pub use crate::opened::{go_online, open_three};
+pub use crate::rows::{Said, Wanted, is_made, open_four};

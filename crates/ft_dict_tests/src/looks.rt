@@ -1,6 +1,5 @@
 //! Look-ups of a dict without a table, before and in the midst of another pass's write.
-use crate::{go_online, small, three};
-use ft_bank::Bank;
+use crate::{go_online, open_three};
 use ft_dict::{look_get, look_has};
 use ft_model::{Key, Raise, Reply};
 use ft_section::Look;
@@ -9,16 +8,7 @@ use std::test::Fail;
 #[test]
 fn a_dict_that_is_written_contends(rt: HostRuntime) -> Result<(), Fail> {
     let alloc = rt.alloc();
-    let shape = small(alloc)?;
-    if !shape.fits() {
-        return Err(Fail::from("a small shape fits"));
-    }
-    let Ok((bank, passes)) = Bank::new(alloc, shape) else {
-        return Err(Fail::from("there is memory"));
-    };
-    let Some((mut writer, mut early, mut late)) = three(&bank, passes) else {
-        return Err(Fail::from("there are three passes"));
-    };
+    let (bank, mut writer, mut early, mut late) = open_three(alloc)?;
     if !go_online(&bank, &mut early) {
         return Err(Fail::from("the write number begins with 1"));
     }

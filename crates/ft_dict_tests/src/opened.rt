@@ -3,18 +3,19 @@ ghost use Rattle.std.specs.Prelude.{◌≡◌, [], ◌∷◌, ◌<◌, true, IfO
 ghost use Rattle.ft_model.specs.declared.script.Kind.TheVariants.{Dict, Set};
 ghost use Rattle.ft_trace.specs.Acts.{announces};
 ghost use Rattle.ft_bank.specs.NewPasses.{IsOpening, AreOpening};
-ghost use Rattle.ft_bank.specs.Passes.{view, IsPassOf};
+ghost use Rattle.ft_bank.specs.Passes.{shape_of, view, IsPassOf};
 
 use ft_bank::{Bank, Pass, Shape};
 use ft_model::Kind;
 use std::alloc::{AllocError, Global};
+use std::test::Fail;
 
 /// Container 0 is a dict and container 1 a set, for three passes with ten calls each.
 ///
 /// # Errors
 ///
 /// An `AllocError` where memory runs out.
-pub fn small(alloc: Global) -> Result<Shape, AllocError>
+fn small(alloc: Global) -> Result<Shape, AllocError>
     ensures { IfOk result (λ s. (s.kinds.items ≡ Dict ∷ Set ∷ []) × (s.passes ≡ 3) × (s.calls ≡ 10)) }
 {
     Ok(Shape {
@@ -28,7 +29,7 @@ pub fn small(alloc: Global) -> Result<Shape, AllocError>
 }
 
 /// The three passes of a bank, or `None` where it has fewer.
-pub fn three(bank: &Bank, passes: Vec<Pass>) -> Option<(Pass, Pass, Pass)>
+fn three(bank: &Bank, passes: Vec<Pass>) -> Option<(Pass, Pass, Pass)>
     requires { AreOpening bank.now 0 passes.items }
     ensures { IfSome result (λ p. IsOpening bank.now 0 p.0 × IsOpening bank.now 1 p.1 × IsOpening bank.now 2 p.2) }
 {
@@ -46,8 +47,33 @@ pub fn three(bank: &Bank, passes: Vec<Pass>) -> Option<(Pass, Pass, Pass)>
     Some((first, second, third))
 }
 
+/// A new bank with a dict, 0, and a set, 1, and its three passes, which may make ten calls each.
+///
+/// # Errors
+///
+/// A `Fail` where memory runs out.
+pub fn open_three(alloc: Global) -> Result<(Bank, Pass, Pass, Pass), Fail>
+    ensures shape { IfOk result (λ made. ((shape_of made.0).kinds ≡ Dict ∷ Set ∷ []) × ((shape_of made.0).passes ≡ 3)
+        × ((shape_of made.0).calls ≡ 10)) }
+    ensures first { IfOk result (λ made. IsOpening made.0 0 made.1) }
+    ensures second { IfOk result (λ made. IsOpening made.0 1 made.2) }
+    ensures third { IfOk result (λ made. IsOpening made.0 2 made.3) }
+{
+    let shape = small(alloc)?;
+    if !shape.fits() {
+        return Err(Fail::from("a small shape fits"));
+    }
+    let Ok((bank, passes)) = Bank::new(alloc, shape) else {
+        return Err(Fail::from("there is memory"));
+    };
+    let Some((first, second, third)) = three(&bank, passes) else {
+        return Err(Fail::from("there are three passes"));
+    };
+    Ok((bank, first, second, third))
+}
+
 /// The pass of a bank that has one, or `None` where it has none.
-pub fn only(bank: &Bank, passes: Vec<Pass>) -> Option<Pass>
+pub(crate) fn only(bank: &Bank, passes: Vec<Pass>) -> Option<Pass>
     requires { AreOpening bank.now 0 passes.items }
     ensures { IfSome result (λ p. IsOpening bank.now 0 p) }
 {

@@ -3,13 +3,17 @@
 ghost use Rattle.std.specs.Prelude.{◌≡◌, [], ◌∷◌, true, IfOk};
 ghost use Rattle.ft_model.specs.declared.reply.Reply.{Reply};
 ghost use Rattle.ft_model.specs.declared.script.Kind.TheVariants as kind;
+ghost use Rattle.ft_bank.specs.Passes.{shape_of};
 ghost use Rattle.ft_section.specs.declared.answers.Stamp.{Stamp};
 ghost use Rattle.ft_section.specs.declared.answers.Step.TheVariants as steps;
+ghost use Rattle.ft_section.specs.Ready.{IsReady};
 
-use ft_bank::Shape;
+use crate::opened::only;
+use ft_bank::{Bank, Pass, Shape};
 use ft_model::{Key, Kind, Raise, Reply, Value};
-use ft_section::{Stamp, Step};
+use ft_section::{Stamp, Step, new_passes_are_ready};
 use std::alloc::{AllocError, Global};
+use std::test::Fail;
 
 /// What a call is to reply. Its integers and lists of integers stand as they are, so that a constant can hold it.
 #[derive(Clone, Copy, Debug)]
@@ -47,7 +51,7 @@ pub enum Wanted {
 /// # Errors
 ///
 /// An `AllocError` where memory runs out.
-pub fn four(alloc: Global, least: u32, greater: u32) -> Result<Shape, AllocError>
+fn four(alloc: Global, least: u32, greater: u32) -> Result<Shape, AllocError>
     ensures { IfOk result (λ s. (s.kinds.items ≡ kind.Dict ∷ kind.Dict ∷ kind.Set ∷ kind.Set ∷ [])
         × (s.passes ≡ 1) × (s.calls ≡ 50000)) }
 {
@@ -63,6 +67,30 @@ pub fn four(alloc: Global, least: u32, greater: u32) -> Result<Shape, AllocError
         passes: 1,
         calls: 50_000,
     })
+}
+
+/// A new bank of two dicts and two sets with that many tables of class 3 and of each greater class, and its pass,
+/// between two calls.
+///
+/// # Errors
+///
+/// A `Fail` where no bank may have that many tables, or memory runs out.
+pub fn open_four(alloc: Global, least: u32, greater: u32) -> Result<(Bank, Pass), Fail>
+    ensures kinds { IfOk result (λ made. (shape_of made.0).kinds ≡ kind.Dict ∷ kind.Dict ∷ kind.Set ∷ kind.Set ∷ []) }
+    ensures ready { IfOk result (λ made. IsReady made.0 made.1) }
+{
+    let shape = four(alloc, least, greater)?;
+    if !shape.fits() {
+        return Err(Fail::from("a small shape fits"));
+    }
+    let Ok((bank, passes)) = Bank::new(alloc, shape) else {
+        return Err(Fail::from("there is memory"));
+    };
+    let Some(pass) = only(&bank, passes) else {
+        return Err(Fail::from("there is a pass"));
+    };
+    new_passes_are_ready(&bank, &pass);
+    Ok((bank, pass))
 }
 
 /// Whether these are the pairs.

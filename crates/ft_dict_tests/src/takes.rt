@@ -1,7 +1,6 @@
 //! Calls that take keys out of a dict that is empty: which are writes, which raise a KeyError, and which stamps they
 //! have.
-use crate::{small, three};
-use ft_bank::Bank;
+use crate::open_three;
 use ft_dict::{try_del, try_popd};
 use ft_model::{Key, Raise, Reply, Value};
 use ft_section::{Step, new_passes_are_ready};
@@ -10,16 +9,7 @@ use std::test::Fail;
 #[test]
 fn nothing_is_taken_out_of_an_empty_dict(rt: HostRuntime) -> Result<(), Fail> {
     let alloc = rt.alloc();
-    let shape = small(alloc)?;
-    if !shape.fits() {
-        return Err(Fail::from("a small shape fits"));
-    }
-    let Ok((bank, passes)) = Bank::new(alloc, shape) else {
-        return Err(Fail::from("there is memory"));
-    };
-    let Some((mut first, mut second, mut third)) = three(&bank, passes) else {
-        return Err(Fail::from("there are three passes"));
-    };
+    let (bank, mut first, mut second, mut third) = open_three(alloc)?;
     new_passes_are_ready(&bank, &first);
     new_passes_are_ready(&bank, &second);
     new_passes_are_ready(&bank, &third);

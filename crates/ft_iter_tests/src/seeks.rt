@@ -78,7 +78,7 @@ const ENTRIES: [Entry; 5] = [
     },
 ];
 
-/// A search among the first entries, so many of them, for the one that follows a serial, and the place that it finds.
+/// A search among that many first entries for the one that follows a serial, and the place that it finds.
 struct Seek {
     fill: u64,
     after: Option<u64>,

@@ -137,7 +137,7 @@ const TABLE: KeptTable = KeptTable {
     fill: 4,
 };
 
-/// What a container with that table takes when it gets so many new ones and then has so many, and what a copy has.
+/// What a container with that table takes when it gets that many new ones and then has that many, and what a copy has.
 #[derive(Clone, Copy, Debug)]
 enum Asked {
     Dict(u64, u64),

@@ -14,9 +14,9 @@ mod cases;
 
 use cases::{CASES, LARGEST};
 use ft_bank::{Bank, Pass};
-use ft_dict_tests::{Said, Wanted, four, is_made, only};
+use ft_dict_tests::{Said, Wanted, is_made, open_four};
 use ft_model::Key;
-use ft_section::{Step, new_passes_are_ready};
+use ft_section::Step;
 use ft_set::{
     try_add, try_and, try_clear, try_discard, try_disjoint, try_eq, try_has, try_items, try_len,
     try_or, try_pop, try_remove, try_sub, try_subset, try_xor,
@@ -139,17 +139,7 @@ fn in_new_bank(
     greater: u32,
     rows: &[(Call, Wanted)],
 ) -> Result<Option<usize>, Fail> {
-    let shape = four(alloc, least, greater)?;
-    if !shape.fits() {
-        return Err(Fail::from("a small shape fits"));
-    }
-    let Ok((bank, passes)) = Bank::new(alloc, shape) else {
-        return Err(Fail::from("there is memory"));
-    };
-    let Some(mut pass) = only(&bank, passes) else {
-        return Err(Fail::from("there is a pass"));
-    };
-    new_passes_are_ready(&bank, &pass);
+    let (bank, mut pass) = open_four(alloc, least, greater)?;
     Ok(first_wrong(&bank, &mut pass, alloc, rows))
 }
 

@@ -1,6 +1,5 @@
 //! Calls that take elements out of a set that is empty: which are writes, which stamps they have, and one that waits.
-use ft_bank::Bank;
-use ft_dict_tests::{small, three};
+use ft_dict_tests::open_three;
 use ft_model::{Key, Reply};
 use ft_section::{Step, new_passes_are_ready};
 use ft_set::{try_discard, try_remove};
@@ -9,16 +8,7 @@ use std::test::Fail;
 #[test]
 fn nothing_is_taken_out_of_an_empty_set(rt: HostRuntime) -> Result<(), Fail> {
     let alloc = rt.alloc();
-    let shape = small(alloc)?;
-    if !shape.fits() {
-        return Err(Fail::from("a small shape fits"));
-    }
-    let Ok((bank, passes)) = Bank::new(alloc, shape) else {
-        return Err(Fail::from("there is memory"));
-    };
-    let Some((mut first, mut second, mut third)) = three(&bank, passes) else {
-        return Err(Fail::from("there are three passes"));
-    };
+    let (bank, mut first, mut second, mut third) = open_three(alloc)?;
     new_passes_are_ready(&bank, &first);
     new_passes_are_ready(&bank, &second);
     let Step::Done(reply, stamp) = try_discard(&bank, &mut first, 1, Key::Int(7)) else {

@@ -422,7 +422,7 @@ fn bytes_that_are_not_utf8(rt: HostRuntime) {
     }
 }
 
-/// A fault in the first line, its text, and whether it is a want of memory.
+/// A fault in the first line, its text, and whether it says that memory ran out.
 #[derive(Clone, Copy)]
 struct Said<'a> {
     kind: u8,

@@ -1,8 +1,7 @@
 -- That another value may be put at a key of a dict by a pass that has its lock, as a whole write.
 use Rattle.std.proofs.Common.{◌≡◌, ◌≢◌, ℕ, suc, ◌+◌, ◌-◌, ◌*◌, ◌%◌, ◌<◌, ◌≤◌, Bool, true, false, List, [], ◌∷◌, length, find, Option, Some, None, refl, sym, ap, ◌∙◌, subst, inr, arith, get_or-set_same}
-use Rattle.std.specs.Prelude.{◌&&◌, ◌||◌, All, IsTrue, filter, slice_index_or, slice_set, slice_get, option_map, if◌then◌else◌}
+use Rattle.std.specs.Prelude.{◌&&◌, ◌||◌, All, IsTrue, slice_index_or, slice_set, slice_get, option_map, if◌then◌else◌}
 use Rattle.std.proofs.lemmas.Bool.{le-ltb}
-use Rattle.std.proofs.lemmas.List.{length-map}
 use Rattle.ft_model.specs.declared.call.Call.{Call}
 use Rattle.ft_model.specs.declared.call.Call.TheVariants as call
 use Rattle.ft_model.specs.declared.call.DictCall.TheVariants as dict
@@ -12,19 +11,17 @@ use Rattle.ft_model.specs.declared.content.DictPair.{DictPair}
 use Rattle.ft_model.specs.declared.data.Key.{Key}
 use Rattle.ft_model.specs.declared.data.Value.{Value}
 use Rattle.ft_model.specs.declared.reply.Reply.TheVariants as reply
-use Rattle.ft_model.specs.declared.script.Kind.{Kind}
 use Rattle.ft_model.specs.declared.script.Kind.TheVariants as kind
-use Rattle.ft_model.specs.Answers.{Answer, answer, answer_dict, puts, after_write}
+use Rattle.ft_model.specs.Answers.{answer, answer_dict, puts, after_write}
 use Rattle.ft_model.specs.Classes.{IsClass, dict_class, most_pairs}
 use Rattle.ft_model.specs.Contents.{DictContent, IsDict, dict_get, dict_set, empty_dict}
 use Rattle.ft_model.specs.Worlds.{kind_of, dict_of, dict_at, no_hands}
 use Rattle.ft_model.specs.TableUses.{TableUse, StoredWorld, no_table, stored_newest, takes_in, table_at, outgrows_dict, grown_table, passes_cap, would_pass, after_stored}
-use Rattle.ft_model.proofs.KnownKeys.{length-filter-le}
-use Rattle.ft_hash.specs.Probes.{dict_slots}
-use Rattle.ft_hash.proofs.Walks.{dict_slots-within}
+use Rattle.ft_hash.specs.Probes.{dict_slots, set_slots}
+use Rattle.ft_hash.proofs.Walks.{dict_slots-within, set_slots-within}
 use Rattle.ft_layout.specs.declared.slot.Stored.TheVariants.{Plain}
 use Rattle.ft_layout.specs.Words.{FitsKey, FitsStored, stored_kind, stored_payload}
-use Rattle.ft_layout.specs.Tables.{UsedEntry, is_live, dict_room, IsTable, IsDictTable}
+use Rattle.ft_layout.specs.Tables.{UsedEntry, is_live, dict_room, set_room, IsTable, IsDictTable}
 use Rattle.ft_layout.specs.Tables as layout
 use Rattle.ft_layout.specs.WordChanges.{with_stored}
 use Rattle.ft_layout.specs.Containers.{class_mask, used_pair, AreDictEntries, IsDictWords, StandsAs}
@@ -37,25 +34,22 @@ use Rattle.ft_trace.specs.declared.Snap.{Snap}
 use Rattle.ft_trace.specs.declared.View.{View}
 use Rattle.ft_trace.specs.Addresses.{containers_in, class_of, slots, places, size}
 use Rattle.ft_trace.specs.Acts.{has_lock}
-use Rattle.ft_trace.specs.ContainerStates.{ContainerState, container_after, kind_in}
-use Rattle.ft_trace.specs.Pictures.{root_in, Stands, index_field, entry_offset, entry_field, walk_of}
+use Rattle.ft_trace.specs.Pictures.{root_in, index_field, entry_offset, entry_field, walk_of}
 use Rattle.ft_trace.specs.Carefuls.{said_of, HasLiveKey, Reached, Clear}
-use Rattle.ft_trace.specs.Kinds.{under, rows, version_at, ClearAs}
+use Rattle.ft_trace.specs.Kinds.{under, version_at, IsKeyed}
 use Rattle.ft_trace.specs.OddVersions.{Shut}
 use Rattle.ft_trace.specs.Holds.{held, known, AgreesWith}
 use Rattle.ft_trace.specs.Traces.{Possible}
 use Rattle.ft_trace.specs.Grants.{MayWrite}
-use Rattle.ft_trace.specs.WholeWrites.{to_table, MayPut, MayPuts, WholeWrite, at_commit, at_end, after_write_of, MayCommitWrite, MayWriteSo}
+use Rattle.ft_trace.specs.WholeWrites.{to_table, MayPut, MayPuts, WholeWrite, at_commit, at_end, after_write_of}
 use Rattle.ft_trace.specs.EntryWrites.{value_puts, entry_closed, dict_set_write, ValuesMayBePut}
-use Rattle.ft_trace.proofs.Held.{held_stands}
-use Rattle.ft_trace.proofs.Clearing.{held_shut}
-use Rattle.ft_trace.proofs.Untouched.{as_many}
-use Rattle.ft_trace.proofs.Known.{kind_known, class_known, declared_at, in_bank, table_is_long, after_header, at_any, tables_as_many}
-use Rattle.ft_trace.proofs.Tellings.{live_tells, live_is_right, right_is_live, key_words, key_reached, key_named}
+use Rattle.ft_trace.proofs.Known.{in_bank, table_is_long, after_header}
+use Rattle.ft_trace.proofs.Tellings.{live_tells, live_is_right, live_below, few_live, key_words, key_reached, key_named, words_clear}
 use Rattle.ft_trace.proofs.EntryPuts.{value_open, value_kind, value_payload, value_clear, value_late, value_shut, value_time}
 use Rattle.ft_trace.proofs.ListWrites.{may_begin}
 use Rattle.ft_trace.proofs.Naming.{one_locked}
-use Rattle.ft_trace.proofs.Writing.{write_possible}
+use Rattle.ft_trace.proofs.KnownContents.{use_of, known_use, known_says, known_shut, in_tables, content_there, table_there, content_left}
+use Rattle.ft_trace.proofs.WriteFacts.{facts_suffice}
 
 -- ---- laws of tables and of their dicts, as they are cited
 
@@ -78,6 +72,21 @@ ValuesKeepSerials =
 abbrev pub FirstEntriesArePairs : Type 0
 FirstEntriesArePairs = (used : List UsedEntry) (pairs : DictContent) (test : UsedEntry → Bool) → AreDictEntries used pairs → find (λ entry. is_live entry && test entry) used ≡ option_map used_pair (find (λ pair. test (used_pair pair)) pairs.pairs)
 
+-- ---- the version of an entry may be put
+
+table_version : EntryVersionsChangeNothing → (walk : ℕ → List ℕ) (room : ℕ) (texts : List ℕ) (c : ℕ) → IsClass c → (used : List UsedEntry) (l : List ℕ) (place x : ℕ) → ((hash : ℕ) → All (λ slot. slot ≤ class_mask c) (walk hash)) → IsTable walk room texts (class_mask c) used (0 ∷ 0 ∷ l) → IsTable walk room texts (class_mask c) used (0 ∷ 0 ∷ slice_set l (entry_offset (slots c) place 0) x)
+unfolding slots
+table_version versions walk room texts c is_class used l place x within table =
+    let r = (slots_range c is_class).0 in
+    subst (λ (z : List ℕ). IsTable walk room texts (class_mask c) used z) (after_header l (layout.entry_at (class_mask c) place 0) (entry_offset (slots c) place 0) x (omega (arith, r))) (versions walk room texts (class_mask c) used (0 ∷ 0 ∷ l) place x within table)
+
+pub version_stands : EntryVersionsChangeNothing → (texts block l : List ℕ) (c fill place x : ℕ) → IsClass c → (d : Content) → IsKeyed (kind_of d) → StandsAs texts block (0 ∷ 0 ∷ l) (record { class = Some c; fill = fill }) d → StandsAs texts block (0 ∷ 0 ∷ slice_set l (entry_offset (slots c) place 0) x) (record { class = Some c; fill = fill }) d
+version_stands versions texts block l c fill place x is_class (content.Dict pairs) keyed is =
+    record { head = is.head; used = is.used; table = table_version versions (λ hash. dict_slots hash (class_mask c) (class_mask c + 14)) (dict_room (class_mask c)) texts c is_class is.used l place x (λ hash. dict_slots-within hash (class_mask c) (class_mask c + 14)) is.table; filled = is.filled; entries = is.entries }
+version_stands versions texts block l c fill place x is_class (content.Set elements) keyed is =
+    record { head = is.head; used = is.used; table = table_version versions (λ hash. set_slots hash (class_mask c) (class_mask c + 14)) (set_room (class_mask c)) texts c is_class is.used l place x (λ hash. set_slots-within hash (class_mask c) (class_mask c + 14)) is.table; filled = is.filled; entries = is.entries }
+version_stands versions texts block l c fill place x is_class (content.List values) keyed is = absurd keyed
+
 -- ---- what words that stand for a dict say under its keys
 
 module _ (first : FirstEntriesArePairs) (texts block : List ℕ) (c fill : ℕ) (is_class : IsClass c) (pairs : DictContent) (ws : List ℕ) (says : IsDictWords texts block (0 ∷ 0 ∷ ws) (Some c) fill pairs) where
@@ -92,12 +101,7 @@ module _ (first : FirstEntriesArePairs) (texts block : List ℕ) (c fill : ℕ) 
   dict_right p key low live = live_is_right tried (dict_room (class_mask c)) texts c is_class says.used ws says.table used_pair pairs.pairs (λ test. first says.used pairs test says.entries) p key (let r = room_is in omega (arith, r, low)) live
 
   pub dict_live : (key : Key) → under (content.Dict pairs) key ≢ [] → (p : ℕ) × (p < places c) × HasLiveKey (slots c) ws p key
-  dict_live key some =
-      let r = right_is_live tried (dict_room (class_mask c)) texts c is_class says.used ws says.table used_pair pairs.pairs (λ test. first says.used pairs test says.entries) key some in
-      let f = says.table.fill in
-      let e = room_is in
-      let low = r.1 in
-      (r.0, omega (arith, f, e, low), r.2)
+  dict_live key some = live_below tried (dict_room (class_mask c)) texts c is_class says.used ws says.table used_pair pairs.pairs (λ test. first says.used pairs test says.entries) (places c) (let r = room_is in omega (arith, r)) key some
 
   within_mask : (hash : ℕ) → All (λ slot. slot ≤ class_mask c) (tried hash)
   within_mask hash = dict_slots-within hash (class_mask c) (class_mask c + 14)
@@ -112,71 +116,27 @@ module _ (first : FirstEntriesArePairs) (texts block : List ℕ) (c fill : ℕ) 
   -- no more pairs than entries, and so than the largest table has
   pub dict_short : length pairs.pairs ≤ most_pairs
   dict_short =
-      let a : length (filter is_live says.used) ≡ length pairs.pairs = ap (λ (l : List UsedEntry). length l) says.entries.live ∙ length-map pairs.pairs used_pair in
-      let b = length-filter-le is_live says.used in
-      let f = says.table.fill in
+      let a = few_live tried (dict_room (class_mask c)) texts c is_class says.used ws says.table used_pair pairs.pairs says.entries.live in
       let e = (sizes_of_class c is_class).0 in
       let r = (slots_range c is_class).1 in
-      omega (arith, a, b, f, e, r)
+      omega (arith, a, e, r)
 
 -- words that stand for what a call leaves, where entries with even versions are as they were while they stood for what
 -- it found
 pub dict_clear : (first : FirstEntriesArePairs) (texts block before : List ℕ) (c fill more : ℕ) (is_class : IsClass c) (pairs news : DictContent) (ws zs : List ℕ) (says : IsDictWords texts before (0 ∷ 0 ∷ ws) (Some c) fill pairs) (now : IsDictWords texts block (0 ∷ 0 ∷ zs) (Some c) more news)
     → ((q w : ℕ) → q < places c → entry_field (slots c) zs q 0 % 2 ≡ 0 → w < 8 → entry_field (slots c) zs q w ≡ entry_field (slots c) ws q w) → Clear (walk_of kind.Dict texts c) (slots c) (places c) zs (under (content.Dict pairs)) (under (content.Dict news))
-dict_clear first texts block before c fill more is_class pairs news ws zs says now same = record {
-  keeps = λ q key less two l.
-      let w : (i : ℕ) → i < 8 → entry_field (slots c) zs q i ≡ entry_field (slots c) ws q i = λ i few. same q i less two few in
-      let w4 = w 4 (omega arith) in
-      let w5 = w 5 (omega arith) in
-      let w6 = w 6 (omega arith) in
-      let old : HasLiveKey (slots c) ws q key = (sym (w 2 (omega arith)) ∙ l.0, sym (w 3 (omega arith)) ∙ l.1) in
-      let said : said_of (slots c) zs q ≡ said_of (slots c) ws q = λ d. w4 d ∷ w5 d ∷ w6 d ∷ [] in
-      dict_right first texts block c more is_class news zs now q key less l ∙ (said ∙ sym (dict_right first texts before c fill is_class pairs ws says q key less old));
-  adds = λ key fits none some. dict_reached first texts block c more is_class news zs now key fits some;
-}
+dict_clear first texts block before c fill more is_class pairs news ws zs says now same =
+    words_clear (walk_of kind.Dict texts c) (slots c) (places c) ws zs (under (content.Dict pairs)) (under (content.Dict news)) (dict_right first texts before c fill is_class pairs ws says) (dict_right first texts block c more is_class news zs now) (dict_reached first texts block c more is_class news zs now) same
 
--- ---- what a pass with the lock of a dict with a table knows of it
+-- ---- d[k] = v, in each history that agrees with what a pass with the lock of the dict knows
 
-module _ (v : View) (o t : ℕ) (pairs : DictContent) (may : MayWrite v o) (is_dict : (known o v).content ≡ content.Dict pairs) (names : root_in (held o v) ≡ suc t) where
-  pub dict_kind : kind.Dict ≡ kind_in v.shape.kinds o
-  dict_kind = sym (sym (kind_known v o may.mine may.possible) ∙ ap kind_of is_dict)
-
-  pub dict_class_is : (known o v).table.class ≡ Some (class_of t)
-  dict_class_is = class_known v.shape.texts (held o v) (known o v) t (held_stands v o may.low may.possible may.mine may.quiet) names
-
-  pub dict_says : IsDictWords v.shape.texts (held o v).block (0 ∷ 0 ∷ (held o v).table) (Some (class_of t)) (known o v).table.fill pairs
-  dict_says =
-      let block = (held o v).block in
-      let words = 0 ∷ 0 ∷ (held o v).table in
-      let fill = (known o v).table.fill in
-      let s = held_stands v o may.low may.possible may.mine may.quiet in
-      let as_dict : IsDictWords v.shape.texts block words (known o v).table.class fill pairs = subst (λ (z : Content). StandsAs v.shape.texts block words (known o v).table z) is_dict s in
-      subst (λ (z : Option ℕ). IsDictWords v.shape.texts block words z fill pairs) dict_class_is as_dict
-
-  pub dict_shut : Shut (λ q. entry_offset (slots (class_of t)) q 0) (places (class_of t)) (held o v).table
-  dict_shut = subst (λ (z : Kind). Shut (version_at z (class_of t)) (rows z (class_of t)) (held o v).table) (sym dict_kind) (held_shut v o t may.low may.possible may.mine may.quiet names)
-
--- in each history that agrees with what it knows
 module _ (v : View) (o : ℕ) (pairs : DictContent) (low : o < containers_in v.shape) (mine : has_lock o v.log ≡ true) (is_dict : (known o v).content ≡ content.Dict pairs) (calls : List Call) (agree : AgreesWith v (stored_newest v.shape.kinds calls)) where
   abbrev stored : StoredWorld
   stored = stored_newest v.shape.kinds calls
 
-  pub dict_there : slice_index_or stored.world o (content.List []) ≡ content.Dict pairs
-  dict_there = ap (λ (z : ContainerState). z.content) (agree o low mine) ∙ is_dict
-
-  pub dict_in : o < length stored.world
-  dict_in = subst (λ (z : ℕ). o < z) (sym (as_many v.shape.kinds calls)) low
-
-  pub dict_in_tables : o < length stored.tables
-  dict_in_tables = subst (λ (z : ℕ). o < z) (sym (tables_as_many v.shape.kinds calls)) low
-
-  pub dict_table_is : table_at stored.tables o ≡ (known o v).table
-  dict_table_is = ap (λ (z : ContainerState). z.table) (agree o low mine)
-
   pub dict_found : dict_at stored.world o ≡ pairs
-  dict_found = ap dict_of (at_any stored.world o (content.Dict empty_dict) (content.List []) dict_in ∙ dict_there)
+  dict_found = ap dict_of (content_there v o (content.Dict pairs) low mine is_dict calls agree (content.Dict empty_dict))
 
-  -- d[k] = v leaves the dict with that value at the key
   module _ (key : Key) (value : Value) where
     abbrev news_is : DictContent
     news_is = dict_set pairs key value
@@ -187,8 +147,8 @@ module _ (v : View) (o : ℕ) (pairs : DictContent) (low : o < containers_in v.s
     pub dict_answered : answer stored.world no_hands set_call ≡ puts stored.world no_hands o (content.Dict news_is) reply.Done
     dict_answered = ap (λ (z : DictContent). answer_dict stored.world no_hands o z (dict.Set key value)) dict_found
 
-    pub dict_left_at : (d : Content) → slice_index_or (after_write stored.world set_call) o d ≡ content.Dict news_is
-    dict_left_at d = ap (λ (z : Answer). slice_index_or z.world o d) dict_answered ∙ get_or-set_same stored.world o (content.Dict news_is) d dict_in
+    dict_left_at : (d : Content) → slice_index_or (after_write stored.world set_call) o d ≡ content.Dict news_is
+    dict_left_at = content_left v o (content.Dict pairs) low mine is_dict calls agree set_call reply.Done (content.Dict news_is) dict_answered
 
     pub dict_left : dict_at (after_write stored.world set_call) o ≡ news_is
     dict_left = ap dict_of (dict_left_at (content.Dict empty_dict))
@@ -236,17 +196,11 @@ module _ (versions : EntryVersionsChangeNothing) (follow : WordsFollowAValue) (l
   long : n + 8 * m ≤ length ws
   long = let l = table_is_long v o t names in omega (arith, l)
 
-  kind_eq : kind.Dict ≡ kind_in k.kinds o
-  kind_eq = dict_kind v o t pairs may is_dict names
-
-  class_eq : (known o v).table.class ≡ Some c
-  class_eq = dict_class_is v o t pairs may is_dict names
-
   says : IsDictWords k.texts b (0 ∷ 0 ∷ ws) (Some c) fill pairs
-  says = dict_says v o t pairs may is_dict names
+  says = known_says v o t (content.Dict pairs) may is_dict names
 
   shut : Shut (λ q. entry_offset n q 0) m ws
-  shut = dict_shut v o t pairs may is_dict names
+  shut = known_shut v o t (content.Dict pairs) may is_dict names
 
   -- the pair that the entry is of
   in_order : IsDict pairs.next pairs.pairs
@@ -254,9 +208,6 @@ module _ (versions : EntryVersionsChangeNothing) (follow : WordsFollowAValue) (l
 
   abbrev walk : ℕ → List ℕ
   walk hash = dict_slots hash (class_mask c) (class_mask c + 14)
-
-  within : (hash : ℕ) → All (λ slot. slot ≤ class_mask c) (walk hash)
-  within hash = dict_slots-within hash (class_mask c) (class_mask c + 14)
 
   mine : (pair : DictPair) × (slice_get says.used place ≡ Some (used_pair pair)) × (pair.key ≡ key)
   mine =
@@ -269,14 +220,6 @@ module _ (versions : EntryVersionsChangeNothing) (follow : WordsFollowAValue) (l
   next_is : news.next ≡ pairs.next
   next_is = ap (λ (z : Key). (dict_set pairs z value).next) (sym mine.2) ∙ (serials says.used pairs place mine.0 value says.entries in_order mine.1).1
 
-  -- a version that is put into an entry changes nothing
-  version_put : (block : List ℕ) (l : List ℕ) (x : ℕ) (d : DictContent) → IsDictWords k.texts block (0 ∷ 0 ∷ l) (Some c) fill d → IsDictWords k.texts block (0 ∷ 0 ∷ slice_set l (entry_offset n place 0) x) (Some c) fill d
-  unfolding slots
-  version_put block l x d is =
-      let r = (slots_range c class_is).0 in
-      let table : IsDictTable k.texts (class_mask c) is.used (0 ∷ 0 ∷ slice_set l (entry_offset n place 0) x) = subst (λ (z : List ℕ). IsDictTable k.texts (class_mask c) is.used z) (after_header l (layout.entry_at (class_mask c) place 0) (entry_offset n place 0) x (omega (arith, r))) (versions walk (dict_room (class_mask c)) k.texts (class_mask c) is.used (0 ∷ 0 ∷ l) place x within is.table) in
-      record { head = is.head; used = is.used; table = table; filled = is.filled; entries = is.entries }
-
   abbrev ver : ℕ
   ver = entry_field n ws place 0
 
@@ -284,7 +227,7 @@ module _ (versions : EntryVersionsChangeNothing) (follow : WordsFollowAValue) (l
   opened = slice_set ws (entry_offset n place 0) (ver + 1)
 
   open_says : IsDictWords k.texts b (0 ∷ 0 ∷ opened) (Some c) fill pairs
-  open_says = version_put b ws (ver + 1) pairs says
+  open_says = version_stands versions k.texts b ws c fill place (ver + 1) class_is (content.Dict pairs) tt says
 
   abbrev put : List ℕ
   put = (at_commit v o write).table
@@ -297,13 +240,13 @@ module _ (versions : EntryVersionsChangeNothing) (follow : WordsFollowAValue) (l
       ∙ after_header (slice_set opened (entry_offset n place 4) (stored_kind (Plain value))) (layout.entry_at (class_mask c) place 5) (entry_offset n place 5) (stored_payload (Plain value)) (omega (arith, r))
 
   put_says : IsDictWords k.texts b (0 ∷ 0 ∷ put) (Some c) fill news
-  unfolding open_says version_put
+  unfolding open_says version_stands
   put_says =
       let used : slice_get open_says.used place ≡ Some (used_pair mine.0) = mine.1 in
       subst (λ (z : List ℕ × Key). IsDictWords k.texts b z.0 (Some c) fill (dict_set pairs z.1 value)) (λ d. (same_words d, mine.2 d)) (follow k.texts b (0 ∷ 0 ∷ opened) c fill pairs open_says place mine.0 value used fits)
 
   ends : IsDictWords k.texts b (0 ∷ 0 ∷ (at_end v o write).table) (Some c) fill news
-  ends = version_put b put (ver + 2) news put_says
+  ends = version_stands versions k.texts b put c fill place (ver + 2) class_is (content.Dict news) tt put_says
 
   -- ---- the puts
 
@@ -368,53 +311,35 @@ module _ (versions : EntryVersionsChangeNothing) (follow : WordsFollowAValue) (l
     takes_none : takes_in found called ≡ None
     takes_none = ap (λ (z : ℕ). if outgrows_dict T z then Some (dict_class (length (dict_at left o).pairs)) else None) none_drawn
 
-    table_after : table_at (after_stored found called).tables o ≡ (known o v).table
+    table_after : table_at (after_stored found called).tables o ≡ use_of t fill
     table_after =
         let drawn = (dict_at left o).next - (dict_at found.world o).next in
         let count = length (dict_at left o).pairs in
         let fill_is : T.fill + drawn ≡ T.fill = let e = none_drawn in omega (arith, e) in
-        get_or-set_same found.tables o (grown_table T (takes_in found called) drawn count) no_table (dict_in_tables v o pairs may.low may.mine is_dict calls agree)
+        get_or-set_same found.tables o (grown_table T (takes_in found called) drawn count) no_table (in_tables v o (content.Dict pairs) may.low may.mine is_dict calls agree)
         ∙ (ap (λ (z : Option ℕ). grown_table T z drawn count) takes_none
-        ∙ ((λ d. record { class = T.class; fill = fill_is d }) ∙ dict_table_is v o pairs may.low may.mine is_dict calls agree))
-
-    after : container_after k.kinds (called ∷ calls) o ≡ record { content = content.Dict news; table = (known o v).table }
-    after = let c1 = dict_left_at v o pairs may.low may.mine is_dict calls agree key value (content.List []) in let t1 = table_after in λ d. record { content = c1 d; table = t1 d }
-
-    short : length news.pairs ≤ most_pairs
-    short = dict_short first k.texts b c fill class_is news put put_says
-
-    commits : MayCommitWrite v o t write calls
-    commits =
-        let content_after = dict_left_at v o pairs may.low may.mine is_dict calls agree key value (content.List []) in
-        let clear_as : ClearAs (kind_in k.kinds o) k.texts c put (known o v).content (container_after k.kinds (called ∷ calls) o).content = subst (λ (z : Kind × Content × Content). ClearAs z.0 k.texts c put z.1 z.2) (λ d. (kind_eq d, sym is_dict d, sym content_after d)) clear in
-        let ends_as : Stands k.texts (at_end v o write) (record { content = content.Dict news; table = (known o v).table }) = subst (λ (z : Option ℕ). IsDictWords k.texts b (0 ∷ 0 ∷ (at_end v o write).table) z fill news) (sym class_eq) ends in
-        record {
-          replied = inr (sym (ap (λ (z : Answer). z.reply) (dict_answered v o pairs may.low may.mine is_dict calls agree key value)));
-          within = dict_passes_not v o pairs may.low may.mine is_dict calls agree key value short;
-          declared = record { one = declared_at found.world o (content.Dict pairs) (dict_in v o pairs may.low may.mine is_dict calls agree) (dict_there v o pairs may.low may.mine is_dict calls agree); both = tt; room = tt };
-          takes = λ class e. absurd (let none = may.none in omega (arith, e, none));
-          clear = λ q root. let same : t ≡ q = let r : suc t ≡ suc q = sym names ∙ root in omega (arith, r) in subst (λ (z : ℕ). ClearAs (kind_in k.kinds o) k.texts (class_of z) put (known o v).content (container_after k.kinds (called ∷ calls) o).content) same clear_as;
-          late = subst (λ (z : Kind × Content). MayPuts z.0 t z.1 true (at_commit v o write) (entry_closed n ws place)) (λ d. (kind_eq d, sym content_after d)) late;
-          stands = subst (Stands k.texts (at_end v o write)) (sym after) ends_as;
-        }
-
-  shut_end : Shut (version_at (kind_in k.kinds o) c) (rows (kind_in k.kinds o) c) (at_end v o write).table
-  shut_end = subst (λ (z : Kind). Shut (version_at z c) (rows z c) (at_end v o write).table) kind_eq (value_shut n m ws (under (content.Dict pairs)) (under (content.Dict news)) place key (stored_kind (Plain value)) (stored_payload (Plain value)) low long even live shut)
-
-  may_write : MayWriteSo v o t write
-  may_write = record {
-    of = refl;
-    wrote = refl;
-    fits = (fits_key, fits);
-    locks = one_locked o v.log may.mine;
-    root = tt;
-    early = subst (λ (z : Kind × Content). MayPuts z.0 t z.1 false (held o v) (value_puts n ws place value)) (λ d. (kind_eq d, sym is_dict d)) early;
-    commit = commits;
-    shut = λ q root. let same : t ≡ q = let r : suc t ≡ suc q = sym names ∙ root in omega (arith, r) in subst (λ (z : ℕ). Shut (version_at (kind_in k.kinds o) (class_of z)) (rows (kind_in k.kinds o) (class_of z)) (at_end v o write).table) same shut_end;
-  }
+        ∙ ((λ d. record { class = T.class; fill = fill_is d }) ∙ (table_there v o (content.Dict pairs) may.low may.mine is_dict calls agree ∙ known_use v o t (content.Dict pairs) may is_dict names)))
 
   pub value_possible : (start number : ℕ) × (s : Snap) × (stop : ℕ) × Possible (after_write_of v o t write start number s stop)
-  value_possible = write_possible v o t write (may_begin v o may) may_write
+  value_possible =
+      facts_suffice v o t (content.Dict pairs) (content.Dict news) (use_of t fill) write (may_begin v o may) is_dict
+      (record {
+        called = record { of = refl; wrote = refl; fits = (fits_key, fits); locks = one_locked o v.log may.mine; replied = λ r e. inr e; declared = λ world one. record { one = one; both = tt; room = tt } };
+        root = tt;
+        early = early;
+        names = names;
+        clear = clear;
+        late = late;
+        names_still = names;
+        ends = ends;
+        shut = value_shut n m ws (under (content.Dict pairs)) (under (content.Dict news)) place key (stored_kind (Plain value)) (stored_payload (Plain value)) low long even live shut;
+        history = λ calls agree. record {
+          answered = dict_answered v o pairs may.low may.mine is_dict calls agree key value;
+          table_after = table_after calls agree;
+          within = dict_passes_not v o pairs may.low may.mine is_dict calls agree key value (dict_short first k.texts b c fill class_is news put put_says);
+          takes = λ class e. absurd (let none = may.none in omega (arith, e, none));
+        };
+      })
 
 pub values_may_be_put : EntryVersionsChangeNothing → WordsFollowAValue → LiveEntriesArePairs → ValuesKeepSerials → FirstEntriesArePairs → ValuesMayBePut
 values_may_be_put versions follow lives serials first v o t place key value pairs may is_dict names low live fits_key fits = value_possible versions follow lives serials first v o t place key value pairs may is_dict names low live fits_key fits

@@ -1,6 +1,6 @@
 -- That a key may be added to a dict by a pass that has its lock, where the table has room, as a whole write.
-use Rattle.std.proofs.Common.{◌≡◌, ℕ, suc, ◌+◌, ◌-◌, ◌*◌, ◌%◌, ◌<◌, ◌≤◌, Bool, true, false, List, [], ◌∷◌, ◌++◌, length, Option, Some, None, refl, sym, ap, ◌∙◌, subst, inr, arith, get_or-set_same, get_or-set_other, inl, ◌≢◌}
-use Rattle.std.specs.Prelude.{◌&&◌, All, nat_lt, slice_index, slice_set, if◌then◌else◌}
+use Rattle.std.proofs.Common.{◌≡◌, ℕ, suc, ◌+◌, ◌-◌, ◌*◌, ◌%◌, ◌<◌, ◌≤◌, Bool, true, false, List, [], ◌∷◌, ◌++◌, length, Option, Some, None, refl, sym, ap, ◌∙◌, inr, arith, get_or-set_same, inl, ◌≢◌}
+use Rattle.std.specs.Prelude.{◌&&◌, nat_lt, slice_index, slice_set, if◌then◌else◌}
 use Rattle.std.proofs.lemmas.Bool.{le-ltb}
 use Rattle.ft_model.specs.declared.call.Call.{Call}
 use Rattle.ft_model.specs.declared.call.Call.TheVariants as call
@@ -9,44 +9,41 @@ use Rattle.ft_model.specs.declared.content.Content.{Content}
 use Rattle.ft_model.specs.declared.content.Content.TheVariants as content
 use Rattle.ft_model.specs.declared.data.Key.{Key}
 use Rattle.ft_model.specs.declared.data.Value.{Value}
-use Rattle.ft_model.specs.declared.script.Kind.{Kind}
 use Rattle.ft_model.specs.declared.script.Kind.TheVariants as kind
-use Rattle.ft_model.specs.Answers.{Answer, after_write}
+use Rattle.ft_model.specs.Answers.{after_write}
 use Rattle.ft_model.specs.Classes.{IsClass, dict_entries, dict_class}
 use Rattle.ft_model.specs.Contents.{DictContent, has_key, dict_set, with_value}
 use Rattle.ft_model.specs.Worlds.{dict_at}
 use Rattle.ft_model.specs.TableUses.{TableUse, StoredWorld, no_table, stored_newest, takes_in, table_at, outgrows_dict, grown_table, after_stored}
 use Rattle.ft_hash.specs.Probes.{dict_slots}
-use Rattle.ft_hash.proofs.Walks.{dict_slots-within}
 use Rattle.ft_layout.specs.declared.slot.Stored.TheVariants.{Plain}
 use Rattle.ft_layout.specs.Words.{key_kind, key_payload, stored_kind, stored_payload}
-use Rattle.ft_layout.specs.Tables.{UsedEntry, hash_of, dict_room, IsDictTable}
-use Rattle.ft_layout.specs.Tables as layout
+use Rattle.ft_layout.specs.Tables.{hash_of, dict_room}
 use Rattle.ft_layout.specs.Containers.{class_mask, IsDictWords}
-use Rattle.ft_layout.proofs.Powers.{slots_range}
 use Rattle.ft_trace.specs.declared.Shape.{Shape}
 use Rattle.ft_trace.specs.declared.Snap.{Snap}
 use Rattle.ft_trace.specs.declared.View.{View}
 use Rattle.ft_trace.specs.Addresses.{class_of, slots, places, size}
-use Rattle.ft_trace.specs.ContainerStates.{container_after, kind_in}
-use Rattle.ft_trace.specs.Pictures.{root_in, Stands, index_field, entry_offset, entry_field, walk_of}
+use Rattle.ft_trace.specs.Pictures.{root_in, index_field, entry_offset, entry_field, walk_of}
 use Rattle.ft_trace.specs.Carefuls.{Careful, Clear}
-use Rattle.ft_trace.specs.Kinds.{under, rows, version_at, ClearAs}
-use Rattle.ft_trace.specs.OddVersions.{Shut, Timely}
+use Rattle.ft_trace.specs.Kinds.{under}
+use Rattle.ft_trace.specs.OddVersions.{Shut}
 use Rattle.ft_trace.specs.Holds.{held, known, AgreesWith}
 use Rattle.ft_trace.specs.Traces.{Possible}
 use Rattle.ft_trace.specs.Grants.{MayWrite}
-use Rattle.ft_trace.specs.WholeWrites.{to_block, to_table, MayPut, MayPuts, WholeWrite, at_commit, at_end, after_write_of, MayCommitWrite, MayWriteSo}
+use Rattle.ft_trace.specs.WholeWrites.{to_table, MayPut, MayPuts, WholeWrite, at_commit, at_end, after_write_of}
 use Rattle.ft_trace.specs.EntryWrites.{entry_closed}
 use Rattle.ft_trace.specs.KeyWrites.{key_puts, count_puts, dict_add_write, KeysMayBeAdded}
 use Rattle.ft_trace.proofs.FitCalls.{dict_fits_words, set_fit}
-use Rattle.ft_trace.proofs.Known.{declared_at, in_bank, table_is_long, after_header}
+use Rattle.ft_trace.proofs.Known.{in_bank, table_is_long}
 use Rattle.ft_trace.proofs.KeyPuts.{Stage, stage_first, stage_next, new_open, new_key, new_value, new_kind, new_index, new_same, new_late, new_shut}
 use Rattle.ft_trace.proofs.ListWrites.{may_begin}
-use Rattle.ft_trace.proofs.DictWrites.{EntryVersionsChangeNothing, FirstEntriesArePairs, dict_right, dict_short, dict_clear, dict_kind, dict_class_is, dict_says, dict_shut, dict_there, dict_in, dict_in_tables, dict_table_is, dict_found, dict_answered, dict_left_at, dict_left, dict_passes_not, room_is}
+use Rattle.ft_trace.proofs.DictWrites.{EntryVersionsChangeNothing, version_stands, FirstEntriesArePairs, dict_right, dict_short, dict_clear, dict_found, dict_answered, dict_left, dict_passes_not, room_is}
 use Rattle.ft_trace.proofs.Tellings.{word_is}
 use Rattle.ft_trace.proofs.Naming.{one_locked}
-use Rattle.ft_trace.proofs.Writing.{write_possible}
+use Rattle.ft_trace.proofs.KnownContents.{use_of, known_use, known_says, known_shut, in_tables, table_there}
+use Rattle.ft_trace.proofs.WriteFacts.{facts_suffice}
+use Rattle.ft_trace.proofs.KeyedWrites.{put_while_open, counts_may_be_put, root_stays}
 
 pub and_false : (b : Bool) → (b && false) ≡ false
 and_false true = refl
@@ -97,17 +94,11 @@ module _ (versions : EntryVersionsChangeNothing) (first : FirstEntriesArePairs) 
   long : length ws ≡ n + 8 * m
   long = table_is_long v o t names
 
-  kind_eq : kind.Dict ≡ kind_in k.kinds o
-  kind_eq = dict_kind v o t pairs may is_dict names
-
-  class_eq : (known o v).table.class ≡ Some c
-  class_eq = dict_class_is v o t pairs may is_dict names
-
   says : IsDictWords k.texts (held o v).block (0 ∷ 0 ∷ ws) (Some c) p pairs
-  says = dict_says v o t pairs may is_dict names
+  says = known_says v o t (content.Dict pairs) may is_dict names
 
   shut : Shut (λ q. entry_offset n q 0) m ws
-  shut = dict_shut v o t pairs may is_dict names
+  shut = known_shut v o t (content.Dict pairs) may is_dict names
 
   even : ver % 2 ≡ 0
   even = shut p room
@@ -129,20 +120,14 @@ module _ (versions : EntryVersionsChangeNothing) (first : FirstEntriesArePairs) 
   b0 = (held o v).block
 
   names_now : slice_index block 0 ≡ suc t
-  names_now =
-      get_or-set_other (slice_set (slice_set b0 1 (length pairs.pairs + 1)) 2 (p + 1)) 3 0 (pairs.next + 1) 0 (λ e. absurd (omega (arith, e)))
-      ∙ (get_or-set_other (slice_set b0 1 (length pairs.pairs + 1)) 2 0 (p + 1) 0 (λ e. absurd (omega (arith, e)))
-      ∙ (get_or-set_other b0 1 0 (length pairs.pairs + 1) 0 (λ e. absurd (omega (arith, e))) ∙ names))
+  names_now = root_stays b0 (length pairs.pairs + 1) (p + 1) (pairs.next + 1) ∙ names
 
   inside : (w : ℕ) → w < 8 → entry_offset n p w < size c
   inside w few = omega (arith, few, room)
 
-  time : (i x : ℕ) → ((q : ℕ) → i ≡ entry_offset n q 0 → x % 2 ≡ 1) → Timely (version_at kind.Dict c) (rows kind.Dict c) i x false
-  time i x odd = record { before = λ q less e one. refl; later = λ q less e two. absurd (let o = odd q e in omega (arith, two, o)) }
-
   -- one put into the table
   table_put : (l : List ℕ) (i x : ℕ) → i < size c → Careful n m l (under (content.Dict pairs)) i x → ((q : ℕ) → i ≡ entry_offset n q 0 → x % 2 ≡ 1) → MayPut kind.Dict t (content.Dict pairs) false (record { block = block; table = l }) (to_table i x)
-  table_put l i x small care odd = (names_now, small, care, time i x odd)
+  table_put l i x = put_while_open kind.Dict tt t (content.Dict pairs) (record { block = block; table = l }) i x names_now
 
   at_least : n + 8 * m ≤ length ws
   at_least = let l = long in omega (arith, l)
@@ -207,13 +192,7 @@ module _ (versions : EntryVersionsChangeNothing) (first : FirstEntriesArePairs) 
       (p1, (p2, (p3, (p4, (p5, (p6, (p7, (p8, tt))))))))
 
   early : MayPuts kind.Dict t (content.Dict pairs) false (held o v) (count_puts (length pairs.pairs + 1) (p + 1) (pairs.next + 1) ++ key_puts n ws p slot (hash_of k.texts key) key value pairs.next)
-  early =
-      let c1 : List ℕ = slice_set b0 1 (length pairs.pairs + 1) in
-      let c2 : List ℕ = slice_set c1 2 (p + 1) in
-      let q1 : MayPut kind.Dict t (content.Dict pairs) false (held o v) (to_block 1 (length pairs.pairs + 1)) = (omega arith, omega arith) in
-      let q2 : MayPut kind.Dict t (content.Dict pairs) false (record { block = c1; table = ws }) (to_block 2 (p + 1)) = (omega arith, omega arith) in
-      let q3 : MayPut kind.Dict t (content.Dict pairs) false (record { block = c2; table = ws }) (to_block 3 (pairs.next + 1)) = (omega arith, omega arith) in
-      (q1, (q2, (q3, puts)))
+  early = counts_may_be_put kind.Dict t (content.Dict pairs) b0 ws (length pairs.pairs + 1) (p + 1) (pairs.next + 1) (key_puts n ws p slot (hash_of k.texts key) key value pairs.next) puts
 
   clear : Clear (walk_of kind.Dict k.texts c) n m put (under (content.Dict pairs)) (under (content.Dict news))
   clear =
@@ -229,13 +208,7 @@ module _ (versions : EntryVersionsChangeNothing) (first : FirstEntriesArePairs) 
       ((names_now, inside 0 (omega arith), care, record { before = λ q less at one. absurd (omega (arith, one, e)); later = λ q less at two. refl }), tt)
 
   ends : IsDictWords k.texts block (0 ∷ 0 ∷ (at_end v o write).table) (Some c) (p + 1) news
-  unfolding slots
-  ends =
-      let r = (slots_range c class_is).0 in
-      let tried : ℕ → List ℕ = λ h. dict_slots h (class_mask c) (class_mask c + 14) in
-      let within : (h : ℕ) → All (λ s. s ≤ class_mask c) (tried h) = λ h. dict_slots-within h (class_mask c) (class_mask c + 14) in
-      let table : IsDictTable k.texts (class_mask c) now.used (0 ∷ 0 ∷ (at_end v o write).table) = subst (λ (z : List ℕ). IsDictTable k.texts (class_mask c) now.used z) (after_header put (layout.entry_at (class_mask c) p 0) (entry_offset n p 0) (ver + 2) (omega (arith, r))) (versions tried (dict_room (class_mask c)) k.texts (class_mask c) now.used (0 ∷ 0 ∷ put) p (ver + 2) within now.table) in
-      record { head = now.head; used = now.used; table = table; filled = now.filled; entries = now.entries }
+  ends = version_stands versions k.texts block put c (p + 1) p (ver + 2) class_is (content.Dict news) tt now
 
   -- ---- in each history that agrees with what the pass knows
 
@@ -260,8 +233,8 @@ module _ (versions : EntryVersionsChangeNothing) (first : FirstEntriesArePairs) 
     not_outgrown : outgrows_dict T ((dict_at left o).next - (dict_at found.world o).next) ≡ false
     unfolding places
     not_outgrown =
-        let table_is = dict_table_is v o pairs may.low may.mine is_dict calls agree in
-        let class_here : T.class ≡ Some c = ap (λ (z : TableUse). z.class) table_is ∙ class_eq in
+        let table_is = table_there v o (content.Dict pairs) may.low may.mine is_dict calls agree ∙ known_use v o t (content.Dict pairs) may is_dict names in
+        let class_here : T.class ≡ Some c = ap (λ (z : TableUse). z.class) table_is in
         let fill_here : T.fill ≡ p = ap (λ (z : TableUse). z.fill) table_is in
         let drawn = one_drawn in
         (λ d. outgrows_dict (record { class = class_here d; fill = fill_here d }) (drawn d))
@@ -270,51 +243,36 @@ module _ (versions : EntryVersionsChangeNothing) (first : FirstEntriesArePairs) 
     takes_none : takes_in found called ≡ None
     takes_none = ap (λ (z : Bool). if z then Some (dict_class (length (dict_at left o).pairs)) else None) not_outgrown
 
-    table_after : table_at (after_stored found called).tables o ≡ record { class = (known o v).table.class; fill = p + 1 }
+    table_after : table_at (after_stored found called).tables o ≡ use_of t (p + 1)
     table_after =
         let drawn = (dict_at left o).next - (dict_at found.world o).next in
         let count = length (dict_at left o).pairs in
-        let table_is = dict_table_is v o pairs may.low may.mine is_dict calls agree in
+        let table_is = table_there v o (content.Dict pairs) may.low may.mine is_dict calls agree ∙ known_use v o t (content.Dict pairs) may is_dict names in
         let one = one_drawn in
-        get_or-set_same found.tables o (grown_table T (takes_in found called) drawn count) no_table (dict_in_tables v o pairs may.low may.mine is_dict calls agree)
+        get_or-set_same found.tables o (grown_table T (takes_in found called) drawn count) no_table (in_tables v o (content.Dict pairs) may.low may.mine is_dict calls agree)
         ∙ (ap (λ (z : Option ℕ). grown_table T z drawn count) takes_none
         ∙ (λ d. record { class = (table_is d).class; fill = (table_is d).fill + one d }))
 
-    after : container_after k.kinds (called ∷ calls) o ≡ record { content = content.Dict news; table = record { class = (known o v).table.class; fill = p + 1 } }
-    after = let c1 = dict_left_at v o pairs may.low may.mine is_dict calls agree key value (content.List []) in let t1 = table_after in λ d. record { content = c1 d; table = t1 d }
-
-    commits : MayCommitWrite v o t write calls
-    commits =
-        let content_after = dict_left_at v o pairs may.low may.mine is_dict calls agree key value (content.List []) in
-        let clear_as : ClearAs (kind_in k.kinds o) k.texts c put (known o v).content (container_after k.kinds (called ∷ calls) o).content = subst (λ (z : Kind × Content × Content). ClearAs z.0 k.texts c put z.1 z.2) (λ d. (kind_eq d, sym is_dict d, sym content_after d)) clear in
-        let ends_as : Stands k.texts (at_end v o write) (record { content = content.Dict news; table = record { class = (known o v).table.class; fill = p + 1 } }) = subst (λ (z : Option ℕ). IsDictWords k.texts block (0 ∷ 0 ∷ (at_end v o write).table) z (p + 1) news) (sym class_eq) ends in
-        record {
-          replied = inr (sym (ap (λ (z : Answer). z.reply) (dict_answered v o pairs may.low may.mine is_dict calls agree key value)));
-          within = dict_passes_not v o pairs may.low may.mine is_dict calls agree key value (dict_short first k.texts block c (p + 1) class_is news put now);
-          declared = record { one = declared_at found.world o (content.Dict pairs) (dict_in v o pairs may.low may.mine is_dict calls agree) (dict_there v o pairs may.low may.mine is_dict calls agree); both = tt; room = tt };
-          takes = λ class e. absurd (let none = may.none in omega (arith, e, none));
-          clear = λ q root. let same : t ≡ q = let r : suc t ≡ suc q = sym names_now ∙ root in omega (arith, r) in subst (λ (z : ℕ). ClearAs (kind_in k.kinds o) k.texts (class_of z) put (known o v).content (container_after k.kinds (called ∷ calls) o).content) same clear_as;
-          late = subst (λ (z : Kind × Content). MayPuts z.0 t z.1 true (at_commit v o write) (entry_closed n ws p)) (λ d. (kind_eq d, sym content_after d)) late;
-          stands = subst (Stands k.texts (at_end v o write)) (sym after) ends_as;
-        }
-
-  shut_end : Shut (version_at (kind_in k.kinds o) c) (rows (kind_in k.kinds o) c) (at_end v o write).table
-  shut_end = subst (λ (z : Kind). Shut (version_at z c) (rows z c) (at_end v o write).table) kind_eq (new_shut n m ws p slot room in_index at_least even none free key l6 s6 shut)
-
-  may_write : MayWriteSo v o t write
-  may_write = record {
-    of = refl;
-    wrote = refl;
-    fits = set_fit pairs key value missing (dict_fits_words k.texts block (0 ∷ 0 ∷ put) c (p + 1) news now);
-    locks = one_locked o v.log may.mine;
-    root = tt;
-    early = subst (λ (z : Kind × Content). MayPuts z.0 t z.1 false (held o v) write.early) (λ d. (kind_eq d, sym is_dict d)) early;
-    commit = commits;
-    shut = λ q root. let same : t ≡ q = let r : suc t ≡ suc q = sym names_now ∙ root in omega (arith, r) in subst (λ (z : ℕ). Shut (version_at (kind_in k.kinds o) (class_of z)) (rows (kind_in k.kinds o) (class_of z)) (at_end v o write).table) same shut_end;
-  }
-
   pub add_possible : (start number : ℕ) × (s : Snap) × (stop : ℕ) × Possible (after_write_of v o t write start number s stop)
-  add_possible = write_possible v o t write (may_begin v o may) may_write
+  add_possible =
+      facts_suffice v o t (content.Dict pairs) (content.Dict news) (use_of t (p + 1)) write (may_begin v o may) is_dict
+      (record {
+        called = record { of = refl; wrote = refl; fits = set_fit pairs key value missing (dict_fits_words k.texts block (0 ∷ 0 ∷ put) c (p + 1) news now); locks = one_locked o v.log may.mine; replied = λ r e. inr e; declared = λ world one. record { one = one; both = tt; room = tt } };
+        root = tt;
+        early = early;
+        names = names_now;
+        clear = clear;
+        late = late;
+        names_still = names_now;
+        ends = ends;
+        shut = new_shut n m ws p slot room in_index at_least even none free key l6 s6 shut;
+        history = λ calls agree. record {
+          answered = dict_answered v o pairs may.low may.mine is_dict calls agree key value;
+          table_after = table_after calls agree;
+          within = dict_passes_not v o pairs may.low may.mine is_dict calls agree key value (dict_short first k.texts block c (p + 1) class_is news put now);
+          takes = λ class e. absurd (let none = may.none in omega (arith, e, none));
+        };
+      })
 
 pub keys_may_be_added : EntryVersionsChangeNothing → FirstEntriesArePairs → KeysMayBeAdded
 keys_may_be_added versions first v o t slot key value pairs may is_dict names room in_index free missing now = add_possible versions first v o t slot key value pairs may is_dict names room in_index free missing now

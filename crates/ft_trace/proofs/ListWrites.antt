@@ -1,6 +1,6 @@
 -- That an item of a list may be put by a pass that has its lock, as a whole write.
-use Rattle.std.proofs.Common.{◌≡◌, ◌≢◌, ℕ, zero, suc, ◌+◌, ◌<◌, ◌≤◌, ℤ, true, false, List, [], ◌∷◌, length, Option, Some, refl, sym, ap, ◌∙◌, subst, inr, arith, length-set, get_or-set_same}
-use Rattle.std.specs.Prelude.{slice_index_or, slice_set, slice_get}
+use Rattle.std.proofs.Common.{◌≡◌, ◌≢◌, ℕ, zero, suc, ◌+◌, ◌<◌, ◌≤◌, ℤ, List, [], ◌∷◌, length, Option, Some, refl, ap, ◌∙◌, inr, arith, length-set}
+use Rattle.std.specs.Prelude.{slice_set, slice_get}
 use Rattle.std.specs.Option.{option_map_or}
 use Rattle.ft_model.specs.declared.call.Call.{Call}
 use Rattle.ft_model.specs.declared.call.Call.TheVariants as call
@@ -10,39 +10,35 @@ use Rattle.ft_model.specs.declared.content.Content.TheVariants as content
 use Rattle.ft_model.specs.declared.data.Value.{Value}
 use Rattle.ft_model.specs.declared.reply.Reply.TheVariants as reply
 use Rattle.ft_model.specs.declared.reply.Raise.TheVariants as raise
-use Rattle.ft_model.specs.declared.script.Kind.{Kind}
 use Rattle.ft_model.specs.declared.script.Kind.TheVariants as kind
-use Rattle.ft_model.specs.Answers.{Answer, answer, answer_list, puts, shows}
+use Rattle.ft_model.specs.Answers.{answer, answer_list, puts, shows}
 use Rattle.ft_model.specs.Classes.{IsClass}
 use Rattle.ft_model.specs.Lists.{index_in}
-use Rattle.ft_model.specs.Worlds.{kind_of, list_of, list_at, no_hands}
+use Rattle.ft_model.specs.Worlds.{list_of, list_at, no_hands}
 use Rattle.ft_model.specs.TableUses.{stored_newest}
 use Rattle.ft_layout.specs.declared.slot.Stored.TheVariants.{Plain}
 use Rattle.ft_layout.specs.Words.{FitsStored}
 use Rattle.ft_layout.specs.WordChanges.{ChangesItem, SaysStored}
-use Rattle.ft_layout.specs.Containers.{IsListWords, StandsAs}
+use Rattle.ft_layout.specs.Containers.{IsListWords}
 use Rattle.ft_layout.proofs.Powers.{slots_range}
 use Rattle.ft_trace.specs.declared.Shape.{Shape}
 use Rattle.ft_trace.specs.declared.Snap.{Snap}
 use Rattle.ft_trace.specs.declared.View.{View}
 use Rattle.ft_trace.specs.Addresses.{class_of, slots, size}
-use Rattle.ft_trace.specs.ContainerStates.{ContainerState, container_after, kind_in}
-use Rattle.ft_trace.specs.Pictures.{root_in, Stands, item_offset, item_field}
+use Rattle.ft_trace.specs.Pictures.{root_in, item_offset, item_field}
 use Rattle.ft_trace.specs.ItemWords.{value_words, words_at}
-use Rattle.ft_trace.specs.Kinds.{rows, version_at, ClearAs}
+use Rattle.ft_trace.specs.Kinds.{rows, version_at}
 use Rattle.ft_trace.specs.OddVersions.{Shut}
 use Rattle.ft_trace.specs.Holds.{held, known, AgreesWith}
 use Rattle.ft_trace.specs.Traces.{Possible}
 use Rattle.ft_trace.specs.Grants.{MayWrite}
-use Rattle.ft_trace.specs.WholeWrites.{MayPuts, WholeWrite, at_commit, at_end, after_write_of, MayBegin, MayCommitWrite, MayWriteSo}
-use Rattle.ft_trace.specs.ItemWrites.{item_puts, item_closed, list_set_write, ItemsMayBePut}
-use Rattle.ft_trace.proofs.Held.{held_stands}
-use Rattle.ft_trace.proofs.Clearing.{held_shut}
-use Rattle.ft_trace.proofs.Untouched.{as_many}
-use Rattle.ft_trace.proofs.Known.{kind_known, class_known, declared_at, in_bank, table_is_long}
+use Rattle.ft_trace.specs.WholeWrites.{WholeWrite, at_commit, at_end, after_write_of, MayBegin}
+use Rattle.ft_trace.specs.ItemWrites.{list_set_write, ItemsMayBePut}
+use Rattle.ft_trace.proofs.Known.{in_bank, table_is_long}
 use Rattle.ft_trace.proofs.ItemPuts.{VersionsChangeNothing, PutsChangeOneItem, item_early, item_clear, item_late, item_shut, open_table, item_said, item_closed_stands}
 use Rattle.ft_trace.proofs.Naming.{one_locked}
-use Rattle.ft_trace.proofs.Writing.{write_possible}
+use Rattle.ft_trace.proofs.KnownContents.{use_of, known_use, known_says, known_shut, content_there, table_there}
+use Rattle.ft_trace.proofs.WriteFacts.{facts_suffice}
 
 -- words that stand for a list with another item at a place
 abbrev pub WordsFollowAPut : Type 0
@@ -68,18 +64,11 @@ module _ (v : View) (o t : ℕ) (values : List Value) (may : MayWrite v o) (is_l
   abbrev k : Shape
   k = v.shape
 
-  pub is_kind : kind_in k.kinds o ≡ kind.List
-  is_kind = sym (kind_known v o may.mine may.possible) ∙ ap kind_of is_list
-
   pub list_says : IsListWords (held o v).block (0 ∷ 0 ∷ (held o v).table) (Some (class_of t)) values × ((known o v).table.fill ≡ 0)
-  list_says =
-      let s = held_stands v o may.low may.possible may.mine may.quiet in
-      let class = class_known k.texts (held o v) (known o v) t s names in
-      let as_list : IsListWords (held o v).block (0 ∷ 0 ∷ (held o v).table) (known o v).table.class values × ((known o v).table.fill ≡ 0) = subst (λ (z : Content). StandsAs k.texts (held o v).block (0 ∷ 0 ∷ (held o v).table) (known o v).table z) is_list s in
-      subst (λ (z : Option ℕ). IsListWords (held o v).block (0 ∷ 0 ∷ (held o v).table) z values × ((known o v).table.fill ≡ 0)) class as_list
+  list_says = known_says v o t (content.List values) may is_list names
 
   pub list_shut : Shut (version_at kind.List (class_of t)) (rows kind.List (class_of t)) (held o v).table
-  list_shut = subst (λ (z : Kind). Shut (version_at z (class_of t)) (rows z (class_of t)) (held o v).table) is_kind (held_shut v o t may.low may.possible may.mine may.quiet names)
+  list_shut = known_shut v o t (content.List values) may is_list names
 
   pub slots_fit : length values ≤ slots (class_of t)
   unfolding slots
@@ -90,17 +79,8 @@ module _ (v : View) (o t : ℕ) (values : List Value) (may : MayWrite v o) (is_l
     abbrev world : List Content
     world = (stored_newest k.kinds calls).world
 
-    pub list_there : slice_index_or world o (content.List []) ≡ content.List values
-    list_there = ap (λ (z : ContainerState). z.content) (agree o may.low may.mine) ∙ is_list
-
-    pub list_in : o < length world
-    list_in = subst (λ (n : ℕ). o < n) (sym (as_many k.kinds calls)) may.low
-
     pub list_is : list_at world o ≡ values
-    list_is = ap list_of list_there
-
-    pub table_there : (container_after k.kinds calls o).table ≡ (known o v).table
-    table_there = ap (λ (z : ContainerState). z.table) (agree o may.low may.mine)
+    list_is = ap list_of (content_there v o (content.List values) may.low may.mine is_list calls agree (content.List []))
 
 -- l[i] = v
 module _ (versions : VersionsChangeNothing) (one : PutsChangeOneItem) (follow : WordsFollowAPut) (v : View) (o t place : ℕ) (index : ℤ) (value : Value) (values : List Value) (may : MayWrite v o) (is_list : (known o v).content ≡ content.List values) (names : root_in (held o v) ≡ suc t) (means : index_in (length values) index ≡ Some place) (low : place < length values) (fits : FitsStored (Plain value)) where
@@ -149,9 +129,6 @@ module _ (versions : VersionsChangeNothing) (one : PutsChangeOneItem) (follow : 
   long : length ws ≡ size c
   long = table_is_long v o t names
 
-  kind_eq : kind.List ≡ kind_in n.kinds o
-  kind_eq = sym (is_kind v o t values may is_list names)
-
   ends : IsListWords b (0 ∷ 0 ∷ (at_end v o write).table) (Some c) news
   ends =
       let ver = item_field ws place 0 in
@@ -164,48 +141,26 @@ module _ (versions : VersionsChangeNothing) (one : PutsChangeOneItem) (follow : 
     abbrev found : List Content
     found = (stored_newest n.kinds calls).world
 
-    there : o < length found
-    there = list_in v o t values may is_list names calls agree
-
     answered : answer found no_hands called ≡ puts found no_hands o (content.List news) reply.Done
     answered =
         ap (λ (l : List Value). answer_list found no_hands o l (list.Set index value)) (list_is v o t values may is_list names calls agree)
         ∙ ap (λ (z : Option ℕ). option_map_or (λ (i : ℕ). puts found no_hands o (content.List (slice_set values i value)) reply.Done) z (shows found no_hands (reply.Raised raise.NoIndex))) means
 
-    content_after : (container_after n.kinds (called ∷ calls) o).content ≡ content.List news
-    content_after = ap (λ (z : Answer). slice_index_or z.world o (content.List [])) answered ∙ get_or-set_same found o (content.List news) (content.List []) there
-
-    after : container_after n.kinds (called ∷ calls) o ≡ record { content = content.List news; table = (known o v).table }
-    after = let table = table_there v o t values may is_list names calls agree in λ d. record { content = content_after d; table = table d }
-
-    clear : ClearAs (kind_in n.kinds o) n.texts c (at_commit v o write).table (known o v).content (container_after n.kinds (called ∷ calls) o).content
-    clear = subst (λ (z : Kind × Content × Content). ClearAs z.0 n.texts c (at_commit v o write).table z.1 z.2) (λ d. (kind_eq d, sym is_list d, sym content_after d)) (item_clear t class_is b ws values news place value names long in_table shut same here short)
-
-    commits : MayCommitWrite v o t write calls
-    commits = record {
-      replied = inr (sym (ap (λ (z : Answer). z.reply) answered));
-      within = refl;
-      declared = record { one = declared_at found o (content.List values) there (list_there v o t values may is_list names calls agree); both = tt; room = tt };
-      takes = λ class e. absurd (let none = may.none in omega (arith, e, none));
-      clear = λ q root. let same_table : t ≡ q = let r : suc t ≡ suc q = sym names ∙ root in omega (arith, r) in subst (λ (z : ℕ). ClearAs (kind_in n.kinds o) n.texts (class_of z) (at_commit v o write).table (known o v).content (container_after n.kinds (called ∷ calls) o).content) same_table clear;
-      late = subst (λ (z : Kind × Content). MayPuts z.0 t z.1 true (at_commit v o write) (item_closed ws place)) (λ d. (kind_eq d, sym content_after d)) (item_late t class_is b ws values news place value names long in_table shut same here short);
-      stands = subst (Stands n.texts (at_end v o write)) (sym after) (subst (λ (z : Option ℕ). IsListWords b (0 ∷ 0 ∷ (at_end v o write).table) z news × ((known o v).table.fill ≡ 0)) (sym (class_known n.texts (held o v) (known o v) t (held_stands v o may.low may.possible may.mine may.quiet) names)) (ends, says.1));
-    }
-
-  may_write : MayWriteSo v o t write
-  may_write = record {
-    of = refl;
-    wrote = refl;
-    fits = fits;
-    locks = one_locked o v.log may.mine;
-    root = tt;
-    early = subst (λ (z : Kind × Content). MayPuts z.0 t z.1 false (held o v) (item_puts ws place value)) (λ d. (kind_eq d, sym is_list d)) (item_early t class_is b ws values news place value names long in_table shut same here short);
-    commit = commits;
-    shut = λ q root. let same_table : t ≡ q = let r : suc t ≡ suc q = sym names ∙ root in omega (arith, r) in subst (λ (z : ℕ). Shut (version_at (kind_in n.kinds o) (class_of z)) (rows (kind_in n.kinds o) (class_of z)) (at_end v o write).table) same_table (subst (λ (z : Kind). Shut (version_at z c) (rows z c) (at_end v o write).table) kind_eq (item_shut t class_is b ws values news place value names long in_table shut same here short));
-  }
-
   pub set_possible : (start number : ℕ) × (s : Snap) × (stop : ℕ) × Possible (after_write_of v o t write start number s stop)
-  set_possible = write_possible v o t write (may_begin v o may) may_write
+  set_possible =
+      facts_suffice v o t (content.List values) (content.List news) (use_of t (known o v).table.fill) write (may_begin v o may) is_list
+      (record {
+        called = record { of = refl; wrote = refl; fits = fits; locks = one_locked o v.log may.mine; replied = λ r e. inr e; declared = λ world one. record { one = one; both = tt; room = tt } };
+        root = tt;
+        early = item_early t class_is b ws values news place value names long in_table shut same here short;
+        names = names;
+        clear = item_clear t class_is b ws values news place value names long in_table shut same here short;
+        late = item_late t class_is b ws values news place value names long in_table shut same here short;
+        names_still = names;
+        ends = (ends, says.1);
+        shut = item_shut t class_is b ws values news place value names long in_table shut same here short;
+        history = λ calls agree. record { answered = answered calls agree; table_after = table_there v o (content.List values) may.low may.mine is_list calls agree ∙ known_use v o t (content.List values) may is_list names; within = refl; takes = λ class e. absurd (let none = may.none in omega (arith, e, none)) };
+      })
 
 pub items_may_be_put : VersionsChangeNothing → PutsChangeOneItem → WordsFollowAPut → ItemsMayBePut
 items_may_be_put versions one follow v o t place index value values may is_list names means low fits = set_possible versions one follow v o t place index value values may is_list names means low fits

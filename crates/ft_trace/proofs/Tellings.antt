@@ -1,9 +1,11 @@
 -- What the words of a table that stands for a dict or a set say under each key: an entry that is live says what is there,
 -- and what is there has a live entry.
-use Rattle.std.proofs.Common.{◌≤◌, ◌≡◌, ◌≢◌, ℕ, zero, suc, ◌<◌, Bool, true, false, true≢false, cond, eqb, eq-eqb, eqb-true, List, [], ◌∷◌, length, get_or, find, Option, Some, None, refl, sym, ap, ◌∙◌, subst, arith, ◌+◌, inl}
-use Rattle.std.specs.Prelude.{◌&&◌, All, is_some, pos, slice_get, slice_index, option_map}
+use Rattle.std.proofs.Common.{◌≤◌, ◌≡◌, ◌≢◌, ℕ, zero, suc, ◌<◌, Bool, true, false, true≢false, cond, eqb, eq-eqb, eqb-true, List, [], ◌∷◌, length, get_or, find, Option, Some, None, refl, sym, ap, ◌∙◌, subst, arith, ◌+◌, ◌%◌, inl}
+use Rattle.std.specs.Prelude.{◌&&◌, All, filter, is_some, map, pos, slice_get, slice_index, option_map}
 use Rattle.std.specs.Option.{option_map_or}
 use Rattle.std.proofs.Math.Decide.{dec_lt}
+use Rattle.std.proofs.lemmas.List.{length-map}
+use Rattle.ft_model.proofs.KnownKeys.{length-filter-le}
 use Rattle.std.proofs.lemmas.Option.{slice_get-get_or, get_or_from_slice_get, slice_get_within}
 use mathlib.Core.Logic.{dite}
 use Rattle.ft_model.specs.declared.data.Key.{Key}
@@ -19,7 +21,7 @@ use Rattle.ft_layout.proofs.WordLaws.{gone_is, kind_range, same_key}
 use Rattle.ft_layout.proofs.Powers.{slots_range}
 use Rattle.ft_trace.specs.Addresses.{slots}
 use Rattle.ft_trace.specs.Pictures.{index_field, entry_offset, entry_field, Met}
-use Rattle.ft_trace.specs.Carefuls.{said_of, HasLiveKey, Reached}
+use Rattle.ft_trace.specs.Carefuls.{Pairs, said_of, HasLiveKey, Reached, Clear}
 use Rattle.ft_trace.specs.Kinds.{is_key}
 use Rattle.ft_trace.proofs.Known.{past_header}
 
@@ -118,6 +120,14 @@ module _ (walk : ℕ → List ℕ) (room : ℕ) (texts : List ℕ) (c : ℕ) (is
       let h = key_words b.entry.key key b.mine in
       differ a.live b.live (same_key a.entry.key b.entry.key a.fits b.fits (k.0 ∙ sym h.0) (k.1 ∙ sym h.1))
 
+  -- nor are two that are live of keys with the same words
+  pub other_key : (p q : ℕ) (key other : Key) → p < room → q < room → q ≢ p → HasLiveKey n ws p key → HasLiveKey n ws q other → is_key key other ≡ true → ⊥
+  other_key p q key other low less ne mine theirs same =
+      let w = key_words key other same in
+      let one = live_tells p other low (mine.0 ∙ w.0, mine.1 ∙ w.1) in
+      let two = live_tells q other less theirs in
+      dite (dec_lt p q) (λ (before : p < q). one_tells p q other before one two) (λ after. one_tells q p other (omega (arith, after, ne)) two one)
+
   alive_words : (word : ℕ → ℕ) (hash : ℕ) (mine : Key) (serial : ℕ) (stored : Option Stored) → is_some stored ≡ true → IsEntry word (slot_with hash mine serial stored) → (word 2 ≡ key_kind mine) × (word 3 ≡ key_payload mine)
   alive_words word hash mine serial (Some s) live is = (is.key.kind_is, is.key.payload_is)
   alive_words word hash mine serial None live is = absurd (true≢false (sym live))
@@ -175,6 +185,34 @@ module _ (walk : ℕ → List ℕ) (room : ℕ) (texts : List ℕ) (c : ℕ) (is
             let at = found_at test used entry e in
             let both = both_true (is_live entry) (is_key entry.key key) at.2 in
             (at.0, slice_get_within used at.0 entry at.1, (used_tells at.0 entry key at.1 both.0 both.1).1)
+
+    -- one of as many entries as are known
+    pub live_below : (m : ℕ) → room ≤ m → (key : Key) → there_under key ≢ [] → (p : ℕ) × (p < m) × HasLiveKey n ws p key
+    live_below m up key some = let r = right_is_live key some in let f = table.fill in let low = r.1 in (r.0, omega (arith, f, up, low), r.2)
+
+  -- no more are there than entries
+  pub few_live : {Y : Type 0} (of : Y → UsedEntry) (ys : List Y) → filter is_live used ≡ map of ys → length ys ≤ room
+  few_live of ys live =
+      let a : length (filter is_live used) ≡ length ys = ap (λ (l : List UsedEntry). length l) live ∙ length-map ys of in
+      let b = length-filter-le is_live used in
+      let f = table.fill in
+      omega (arith, a, b, f)
+
+-- ---- what is clear of two lists of words: an entry with an even version is in the second as it is in the first
+
+pub words_clear : (walk : Key → List ℕ) (n m : ℕ) (ws zs : List ℕ) (c d : Pairs) → ((q : ℕ) (key : Key) → q < m → HasLiveKey n ws q key → c key ≡ said_of n ws q) → ((q : ℕ) (key : Key) → q < m → HasLiveKey n zs q key → d key ≡ said_of n zs q)
+    → ((key : Key) → FitsKey key → d key ≢ [] → Reached n m zs (walk key) key) → ((q w : ℕ) → q < m → entry_field n zs q 0 % 2 ≡ 0 → w < 8 → entry_field n zs q w ≡ entry_field n ws q w) → Clear walk n m zs c d
+words_clear walk n m ws zs c d was now reached same = record {
+  keeps = λ q key less two l.
+      let w : (i : ℕ) → i < 8 → entry_field n zs q i ≡ entry_field n ws q i = λ i few. same q i less two few in
+      let w4 = w 4 (omega arith) in
+      let w5 = w 5 (omega arith) in
+      let w6 = w 6 (omega arith) in
+      let old : HasLiveKey n ws q key = (sym (w 2 (omega arith)) ∙ l.0, sym (w 3 (omega arith)) ∙ l.1) in
+      let said : said_of n zs q ≡ said_of n ws q = λ d. w4 d ∷ w5 d ∷ w6 d ∷ [] in
+      now q key less l ∙ (said ∙ sym (was q key less old));
+  adds = λ key fits none some. reached key fits some;
+}
 
 -- ---- where the walk of a key meets its entry
 

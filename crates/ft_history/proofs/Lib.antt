@@ -17,6 +17,7 @@ pub mod AccountLemmas
 pub mod NextEntries
 pub mod Matching
 pub mod StampedLists
+pub mod NumberedChronicles
 pub mod NumberedHistories
 pub mod OneOrder
 pub mod OneVerdict

@@ -17,7 +17,7 @@ use Rattle.ft_history.proofs.Agreement.{Agree, chronicle_of_agreement}
 use Rattle.ft_history.proofs.FilteredParts.{key_at}
 use Rattle.ft_history.proofs.StampedLists.{written, AreStamped, count_writes}
 use Rattle.ft_history.proofs.HistoryPlaces.{count_next}
-use Rattle.ft_history.proofs.SortedStamps.{rank, at_most_one, count_parts, sorted_stamped}
+use Rattle.ft_history.proofs.SortedStamps.{rank, at_most_one, count_parts, ranks_of_sorted, sorted_stamped}
 use Rattle.ft_history.proofs.ThreadOrder.{same_passed, same_threads, still_there, still_whole}
 use Rattle.ft_history.proofs.WriteNumbers.{write_numbers}
 
@@ -85,7 +85,7 @@ module _ (storage : Storage) (script : ScriptParts) (chronicle history : List En
         one_whole = is.whole;
         other_whole = still_whole script chronicle history is.whole (thread_ranks chronicle stamps_right) moved sorted;
         one_numbered = stamps_right;
-        other_numbered = sorted_stamped history sorted history_stamp_at history_bound;
+        other_numbered = sorted_stamped history (ranks_of_sorted history sorted) history_stamp_at history_bound;
         same_writes = written_stay;
         same_threads = same_threads script chronicle history is.whole (thread_ranks chronicle stamps_right) moved sorted;
         found = still_there chronicle history moved sorted;

@@ -165,31 +165,10 @@ begun d name h none new =
     let next : Draft = record d { name = Some name; depth = 0 } in
     let idle : (d.cursors ≡ []) × (d.calls ≡ []) = subst (λ (o : Option (List ℕ)). IfNone o ((d.cursors ≡ []) × (d.calls ≡ []))) none h.idle in
     let grown = λ (t : Thread) (g : IsThread (script_of d) t). thread_grows (script_of d) (script_of next) [] (same_containers (script_of d)) (omega arith) t g in
-    record {
-      few_containers = h.few_containers;
-      container_names = h.container_names;
-      containers_differ = h.containers_differ;
-      few_threads = h.few_threads;
-      threads_are = All-weaker (IsThread (script_of d)) (IsThread (script_of next)) grown d.threads h.threads_are;
-      threads_differ = h.threads_differ;
-      few_calls = h.few_calls;
-      counted = h.counted;
-      table = h.table;
-      classes = h.classes;
-      counts = h.counts;
-      places = h.places;
-      few_turns = h.few_turns;
-      turns = h.turns;
-      named = new;
-      idle = tt;
-      cursors_are = h.cursors_are;
-      calls_are = subst (λ (l : List Call). All (IsCallOf (script_of next) (length d.cursors)) l) (sym idle.1) (All-nil (IsCallOf (script_of next) (length d.cursors)));
-      made = h.made;
-      all_made = h.all_made;
-      nested = subst (λ (l : List Call). depth_after_all 0 l ≡ Ok 0) (sym idle.1) refl;
-      wide = h.wide;
-      wide_threads = h.wide_threads;
-    }
+    let threads_are : All (IsThread (script_of next)) d.threads = All-weaker (IsThread (script_of d)) (IsThread (script_of next)) grown d.threads h.threads_are in
+    let calls_are : All (IsCallOf (script_of next) (length d.cursors)) d.calls = subst (λ (l : List Call). All (IsCallOf (script_of next) (length d.cursors)) l) (sym idle.1) (All-nil (IsCallOf (script_of next) (length d.cursors))) in
+    let nested : depth_after_all 0 d.calls ≡ Ok 0 = subst (λ (l : List Call). depth_after_all 0 l ≡ Ok 0) (sym idle.1) refl in
+    search
 
 pub thread_line_keeps : (d : Draft) (words : List (List ℕ)) → IsDraft d → d.name ≡ None → IfOk (thread_line d words) IsDraft
 unfolding thread_line

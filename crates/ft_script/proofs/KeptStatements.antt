@@ -1,6 +1,7 @@
 -- What the statements of lines keep of a draft.
 use Rattle.std.proofs.Common.{◌≡◌, ◌≢◌, ◌⊎◌, ℕ, ◌+◌, ◌%◌, ◌<◌, ◌≤◌, true, eqb, ltb, not, ◌&&◌, List, [], ◌∷◌, ◌++◌, length, set, get_or, Option, Some, None, Result, Ok, Err, ℤ, pos, negsuc, refl, sym, ap, ◌∙◌, subst, inl, inr, arith}
 use Rattle.std.specs.Prelude.{All, Any, IfSome, IfNone, IfOk, codes, int_le, slice_get}
+use Rattle.std.specs.List.{AllPairs}
 use Rattle.std.specs.Option.{is_some}
 use Rattle.std.specs.Str.{bytes_eq}
 use Rattle.std.proofs.lemmas.Bool.{cases_lt, and_parts, eqb-true, leb-true, ltb-true, true≢false}
@@ -13,6 +14,7 @@ use Rattle.ft_model.specs.declared.call.Call.TheVariants as call
 use Rattle.ft_model.specs.declared.script.Declaration.{Declaration}
 use Rattle.ft_model.specs.declared.script.Kind.{Kind}
 use Rattle.ft_model.specs.declared.script.Kind.TheVariants as kind
+use Rattle.ft_model.specs.Classes.{class_count}
 use Rattle.ft_model.specs.Names.{is_container_name, is_thread_name}
 use Rattle.ft_model.specs.Scripts.{AreMade, IsCallOf, IsThread, NamesOf, cursor_of}
 use Rattle.ft_script.specs.declared.call_words.CallWord.{CallWord}
@@ -28,8 +30,8 @@ use Rattle.ft_script.proofs.Encoded.{BeginsNoThread}
 use Rattle.ft_script.proofs.MoreCalls.{call_grows}
 use Rattle.ft_script.proofs.Kept.{AreGoodWords, anything, bind_holds, cond_holds, or_holds}
 use Rattle.ft_script.proofs.KeptCalls.{CallRead, Called, call_keeps}
-use Rattle.ft_script.proofs.KeptDrafts.{IsDraft, calls_in, no_place, passed, same_containers, thread_grows, thread_line_keeps}
-use Rattle.ft_script.proofs.KeptLines.{after_push}
+use Rattle.ft_script.proofs.KeptDrafts.{AllMade, IsDraft, calls_in, no_place, passed, same_containers, thread_grows, thread_line_keeps}
+use Rattle.ft_script.proofs.KeptLines.{after_push, depth_after_all}
 use Rattle.ft_script.proofs.DistinctNames.{absent, differ_push, place_within}
 
 -- ---- a draft that has more
@@ -46,31 +48,12 @@ container_added : (d : Draft) (container : Declaration) → IsDraft d → is_con
 container_added d container h form differs room =
     let next : Draft = record d { containers = d.containers ++ container ∷ [] } in
     let longer : length (d.containers ++ container ∷ []) ≡ length d.containers + 1 = length-append d.containers (container ∷ []) in
-    record {
-      few_containers = omega arith;
-      container_names = All-push (λ c. is_container_name c.name ≡ true) d.containers container h.container_names form;
-      containers_differ = differ_push (λ (c : Declaration). c.name) d.containers container h.containers_differ differs;
-      few_threads = h.few_threads;
-      threads_are = threads_grow d next (container ∷ []) refl (omega arith) h.threads_are;
-      threads_differ = h.threads_differ;
-      few_calls = h.few_calls;
-      counted = h.counted;
-      table = h.table;
-      classes = h.classes;
-      counts = h.counts;
-      places = h.places;
-      few_turns = h.few_turns;
-      turns = h.turns;
-      named = h.named;
-      idle = h.idle;
-      cursors_are = h.cursors_are;
-      calls_are = calls_grow d next (container ∷ []) (length d.cursors) (length d.cursors) refl (omega arith) (omega arith) h.calls_are;
-      made = h.made;
-      all_made = h.all_made;
-      nested = h.nested;
-      wide = h.wide;
-      wide_threads = h.wide_threads;
-    }
+    let few : length (d.containers ++ container ∷ []) ≤ 256 = omega arith in
+    let names : All (λ c. is_container_name c.name ≡ true) (d.containers ++ container ∷ []) = All-push (λ c. is_container_name c.name ≡ true) d.containers container h.container_names form in
+    let differ : AllPairs (λ a b. a.name ≢ b.name) (d.containers ++ container ∷ []) = differ_push (λ (c : Declaration). c.name) d.containers container h.containers_differ differs in
+    let threads_are : All (IsThread (script_of next)) d.threads = threads_grow d next (container ∷ []) refl (omega arith) h.threads_are in
+    let calls_are : All (IsCallOf (script_of next) (length d.cursors)) d.calls = calls_grow d next (container ∷ []) (length d.cursors) (length d.cursors) refl (omega arith) (omega arith) h.calls_are in
+    search
 
 container_line_keeps : (d : Draft) (kind : Kind) (words : List (List ℕ)) → IsDraft d → IfOk (container_line d kind words) IsDraft
 unfolding container_line
@@ -91,34 +74,20 @@ between low high (negsuc n) h = absurd cc
 abbrev IsCount : Option ℕ → Type 0
 IsCount count = IfSome count (λ n. (1 ≤ n) × (n ≤ 1024))
 
+abbrev IsHeap : ℕ → Type 0
+IsHeap n = (64 ≤ n) × (n ≤ 4096) × (n % 64 ≡ 0)
+
+-- a draft stays one with other tables, another heap and another order that are right
+draft_with : (d : Draft) (tables : List (Option ℕ)) (heap : Option ℕ) (order : List ℕ) → IsDraft d → length tables ≡ class_count → All IsCount tables → IfSome heap IsHeap → length order ≤ 1000000 → All (λ t. t < length d.threads) order → IsDraft (record d { tables = tables; heap = heap; order = order })
+draft_with d tables heap order h classes counts places few_turns turns =
+    let next : Draft = record d { tables = tables; heap = heap; order = order } in
+    let threads_are : All (IsThread (script_of next)) d.threads = threads_grow d next [] (same_containers (script_of d)) (omega arith) h.threads_are in
+    let calls_are : All (IsCallOf (script_of next) (length d.cursors)) d.calls = calls_grow d next [] (length d.cursors) (length d.cursors) (same_containers (script_of d)) (omega arith) (omega arith) h.calls_are in
+    search
+
 tables_reported : (d : Draft) (place count : ℕ) → IsDraft d → 1 ≤ count → count ≤ 1024 → IsDraft (record d { tables = set d.tables place (Some count) })
 tables_reported d place count h least greatest =
-    let next : Draft = record d { tables = set d.tables place (Some count) } in
-    record {
-      few_containers = h.few_containers;
-      container_names = h.container_names;
-      containers_differ = h.containers_differ;
-      few_threads = h.few_threads;
-      threads_are = threads_grow d next [] (same_containers (script_of d)) (omega arith) h.threads_are;
-      threads_differ = h.threads_differ;
-      few_calls = h.few_calls;
-      counted = h.counted;
-      table = h.table;
-      classes = length-set d.tables place (Some count) ∙ h.classes;
-      counts = All-set IsCount d.tables place (Some count) (least, greatest) h.counts;
-      places = h.places;
-      few_turns = h.few_turns;
-      turns = h.turns;
-      named = h.named;
-      idle = h.idle;
-      cursors_are = h.cursors_are;
-      calls_are = calls_grow d next [] (length d.cursors) (length d.cursors) (same_containers (script_of d)) (omega arith) (omega arith) h.calls_are;
-      made = h.made;
-      all_made = h.all_made;
-      nested = h.nested;
-      wide = h.wide;
-      wide_threads = h.wide_threads;
-    }
+    draft_with d (set d.tables place (Some count)) d.heap d.order h (length-set d.tables place (Some count) ∙ h.classes) (All-set IsCount d.tables place (Some count) (least, greatest) h.counts) h.places h.few_turns h.turns
 
 tables_at_keeps : (d : Draft) (place : ℕ) (count : List ℕ) → IsDraft d → IfOk (tables_at d place count) IsDraft
 unfolding tables_at
@@ -139,33 +108,7 @@ tables_line_keeps d (class ∷ count ∷ []) h = tables_by_words_keeps d class c
 tables_line_keeps d (class ∷ count ∷ other ∷ words) h = tt
 
 heap_reported : (d : Draft) (count : ℕ) → IsDraft d → 64 ≤ count → count ≤ 4096 → count % 64 ≡ 0 → IsDraft (record d { heap = Some count })
-heap_reported d count h least greatest steps =
-    let next : Draft = record d { heap = Some count } in
-    record {
-      few_containers = h.few_containers;
-      container_names = h.container_names;
-      containers_differ = h.containers_differ;
-      few_threads = h.few_threads;
-      threads_are = threads_grow d next [] (same_containers (script_of d)) (omega arith) h.threads_are;
-      threads_differ = h.threads_differ;
-      few_calls = h.few_calls;
-      counted = h.counted;
-      table = h.table;
-      classes = h.classes;
-      counts = h.counts;
-      places = (least, greatest, steps);
-      few_turns = h.few_turns;
-      turns = h.turns;
-      named = h.named;
-      idle = h.idle;
-      cursors_are = h.cursors_are;
-      calls_are = calls_grow d next [] (length d.cursors) (length d.cursors) (same_containers (script_of d)) (omega arith) (omega arith) h.calls_are;
-      made = h.made;
-      all_made = h.all_made;
-      nested = h.nested;
-      wide = h.wide;
-      wide_threads = h.wide_threads;
-    }
+heap_reported d count h least greatest steps = draft_with d d.tables (Some count) d.order h h.classes h.counts (least, greatest, steps) h.few_turns h.turns
 
 heap_line_keeps : (d : Draft) (words : List (List ℕ)) → IsDraft d → IfOk (heap_line d words) IsDraft
 unfolding heap_line
@@ -194,33 +137,8 @@ declaration_keeps d word words h =
 
 turn_added : (d : Draft) (thread : ℕ) → IsDraft d → thread < length d.threads → length d.order < 1000000 → IsDraft (record d { order = d.order ++ thread ∷ [] })
 turn_added d thread h low room =
-    let next : Draft = record d { order = d.order ++ thread ∷ [] } in
     let longer : length (d.order ++ thread ∷ []) ≡ length d.order + 1 = length-append d.order (thread ∷ []) in
-    record {
-      few_containers = h.few_containers;
-      container_names = h.container_names;
-      containers_differ = h.containers_differ;
-      few_threads = h.few_threads;
-      threads_are = threads_grow d next [] (same_containers (script_of d)) (omega arith) h.threads_are;
-      threads_differ = h.threads_differ;
-      few_calls = h.few_calls;
-      counted = h.counted;
-      table = h.table;
-      classes = h.classes;
-      counts = h.counts;
-      places = h.places;
-      few_turns = omega arith;
-      turns = All-push (λ t. t < length d.threads) d.order thread h.turns low;
-      named = h.named;
-      idle = h.idle;
-      cursors_are = h.cursors_are;
-      calls_are = calls_grow d next [] (length d.cursors) (length d.cursors) (same_containers (script_of d)) (omega arith) (omega arith) h.calls_are;
-      made = h.made;
-      all_made = h.all_made;
-      nested = h.nested;
-      wide = h.wide;
-      wide_threads = h.wide_threads;
-    }
+    draft_with d d.tables d.heap (d.order ++ thread ∷ []) h h.classes h.counts h.places (omega arith) (All-push (λ t. t < length d.threads) d.order thread h.turns low)
 
 turn_keeps : (d : Draft) (name : List ℕ) → IsDraft d → IfOk (read_turn d name) IsDraft
 unfolding read_turn
@@ -291,31 +209,16 @@ call_added d e called depth h room named read deeper =
     let longer : length all ≡ length d.calls + 1 = length-append d.calls (called ∷ []) in
     let n : ℕ = length read.cursors in
     let moved : (number : ℕ) → called ≡ call.Next number → Any (λ earlier. cursor_of earlier ≡ Some number) d.calls = λ number is. elim (read.fresh number (within_cursors d n number called is read.names)) [ inl low ↦ h.all_made number low | inr made ↦ absurd (moves_only number number called is made) ] in
-    let is : IsDraft next = record {
-      few_containers = h.few_containers;
-      container_names = h.container_names;
-      containers_differ = h.containers_differ;
-      few_threads = h.few_threads;
-      threads_are = threads_grow d next [] (same_containers (script_of d)) read.more h.threads_are;
-      threads_differ = h.threads_differ;
-      few_calls = omega arith;
-      counted = (let was : calls_in d.threads + length d.calls ≡ d.called = h.counted in omega arith);
-      table = read.table;
-      classes = h.classes;
-      counts = h.counts;
-      places = h.places;
-      few_turns = h.few_turns;
-      turns = h.turns;
-      named = h.named;
-      idle = busy _ d.name named;
-      cursors_are = read.are;
-      calls_are = All-push (IsCallOf (script_of next) n) d.calls called (calls_grow d next [] (length d.cursors) n (same_containers (script_of d)) read.more read.further h.calls_are) (record { names = read.names; strings = read.said });
-      made = made_push d.calls called h.made moved;
-      all_made = λ k low. elim (read.fresh k low) [ inl old ↦ any_before (λ c. cursor_of c ≡ Some k) d.calls called (h.all_made k old) | inr made ↦ Any-push (λ c. cursor_of c ≡ Some k) d.calls called made ];
-      nested = after_push 0 d.calls called d.depth depth h.nested deeper;
-      wide = All-push IsWideCall d.calls called h.wide read.wide;
-      wide_threads = h.wide_threads;
-    } in
+    let few_calls : d.called + 1 ≤ 500000 = omega arith in
+    let counted : calls_in d.threads + length all ≡ d.called + 1 = let was : calls_in d.threads + length d.calls ≡ d.called = h.counted in omega arith in
+    let threads_are : All (IsThread (script_of next)) d.threads = threads_grow d next [] (same_containers (script_of d)) read.more h.threads_are in
+    let idle : IfNone d.name ((read.cursors ≡ []) × (all ≡ [])) = busy _ d.name named in
+    let calls_are : All (IsCallOf (script_of next) n) all = All-push (IsCallOf (script_of next) n) d.calls called (calls_grow d next [] (length d.cursors) n (same_containers (script_of d)) read.more read.further h.calls_are) (record { names = read.names; strings = read.said }) in
+    let made : AreMade all = made_push d.calls called h.made moved in
+    let all_made : AllMade read.cursors all = λ k low. elim (read.fresh k low) [ inl old ↦ any_before (λ c. cursor_of c ≡ Some k) d.calls called (h.all_made k old) | inr made ↦ Any-push (λ c. cursor_of c ≡ Some k) d.calls called made ] in
+    let nested : depth_after_all 0 all ≡ Ok depth = after_push 0 d.calls called d.depth depth h.nested deeper in
+    let wide : All IsWideCall all = All-push IsWideCall d.calls called h.wide read.wide in
+    let is : IsDraft next = search in
     subst (λ (x : Draft). IsDraft (record x { calls = x.calls ++ called ∷ []; called = d.called + 1; depth = depth })) (sym read.is) is
 
 counted_call_keeps : (d : Draft) (word : CallWord) (words : List (List ℕ)) → IsDraft d → AreGoodWords words → is_some d.name ≡ true → d.called < 500000 → IfOk (counted_call d word words) IsDraft

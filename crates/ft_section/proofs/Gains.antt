@@ -20,32 +20,10 @@ use Rattle.ft_trace.proofs.Owning.{one_or, is_first, found_stays, grown_finds_mo
 -- a try for a lock that the pass doesn't have
 only_tried : (v : View) (o f : ℕ) (s : Snap) → has_lock o v.log ≡ false → KeepsOthers o v (noted (Lock o f s) v) → OnlyLocked v (noted (Lock o f s) v)
 only_tried v o f s free keeps =
-    record {
-      newer = Lock o f s ∷ [];
-      grew = refl;
-      number = refl;
-      next = refl;
-      parts = refl;
-      left = refl;
-      shape = refl;
-      entries = refl;
-      cursors = λ n. refl;
-      tokens = refl;
-      learnt = refl;
-      lists = refl;
-      floor = refl;
-      since = refl;
-      writes = λ p. refl;
-      committed = λ p. refl;
-      emptied = λ p. refl;
-      hands = λ t. refl;
-      announced = refl;
-      used = refl;
-      debt = refl;
-      owes = refl;
-      flight = refl;
-      knows = λ p low had has. keeps p low (λ e. true≢false (sym had ∙ (ap (λ (z : ℕ). has_lock z v.log) e ∙ free))) had;
-    }
+    let w : View = noted (Lock o f s) v in
+    let grew : w.log ≡ (Lock o f s ∷ []) ++ v.log = refl in
+    let knows : (p : ℕ) → p < containers_in v.shape → has_lock p v.log ≡ true → has_lock p w.log ≡ true → (held p w ≡ held p v) × (known p w ≡ known p v) = λ p low had has. keeps p low (λ e. true≢false (sym had ∙ (ap (λ (z : ℕ). has_lock z v.log) e ∙ free))) had in
+    search
 
 gains : (b h : Bool) → (b ≡ true → h ≡ false) → one_if (cond b true h) ≡ one_if h + one_if b
 gains true true apart = absurd (true≢false (apart refl))

@@ -54,61 +54,13 @@ only_then u v w l m between =
 
 pub only_same : (v : View) → OnlyLocked v v
 only_same v =
-    record {
-      newer = [];
-      grew = refl;
-      number = refl;
-      next = refl;
-      parts = refl;
-      left = refl;
-      shape = refl;
-      entries = refl;
-      cursors = λ n. refl;
-      tokens = refl;
-      learnt = refl;
-      lists = refl;
-      floor = refl;
-      since = refl;
-      writes = λ p. refl;
-      committed = λ p. refl;
-      emptied = λ p. refl;
-      hands = λ t. refl;
-      announced = refl;
-      used = refl;
-      debt = refl;
-      owes = refl;
-      flight = refl;
-      knows = λ p _ _ _. (refl, refl);
-    }
+    let grew : v.log ≡ [] ++ v.log = refl in
+    search
 
 only_unlocked : (v : View) (o : ℕ) → OnlyLocked v (noted (Unlock o) v)
 only_unlocked v o =
-    record {
-      newer = Unlock o ∷ [];
-      grew = refl;
-      number = refl;
-      next = refl;
-      parts = refl;
-      left = refl;
-      shape = refl;
-      entries = refl;
-      cursors = λ n. refl;
-      tokens = refl;
-      learnt = refl;
-      lists = refl;
-      floor = refl;
-      since = refl;
-      writes = λ p. refl;
-      committed = λ p. refl;
-      emptied = λ p. refl;
-      hands = λ t. refl;
-      announced = refl;
-      used = refl;
-      debt = refl;
-      owes = refl;
-      flight = refl;
-      knows = λ p _ _ _. (refl, refl);
-    }
+    let grew : (noted (Unlock o) v).log ≡ (Unlock o ∷ []) ++ v.log = refl in
+    search
 
 -- a section that has the lock of o isn't one that no section notes
 begun_apart : (o : ℕ) (sections : List OpenSection) (s : OpenSection) (b : Begun) → noted_in o sections ≡ 0 → IsBegun sections s b → IsBegun sections s (without o b)

@@ -281,49 +281,26 @@ module _ (K : Key → Type 0) (V : Value → Type 0) (C : ℕ → Type 0) (toget
   only_set (set.Iter it) container one is = refl
   only_set other container one is = absurd cc
 
+  -- an answer of a form is a plain one
+  of_form : (hands : List (Option Cursor)) (called : Call) {k : Kind} {container : ℕ} {makes : Option ℕ} → Form world K V C k container (is_changing called) makes (λ h. answer world h called) → IsPlainAnswer K V C world hands called
+  of_form hands called {k} {container} {makes} form =
+      let f : List (Option Cursor) → Answer = λ h. answer world h called in
+      record {
+        memory = form_memory world K V C k container _ makes f hands form;
+        alike = form_alike world K V C k container _ makes f hands no_hands form;
+        quiet = form_quiet world K V C k container _ makes f hands form;
+        reply = form_reply world K V C k container _ makes f hands form;
+        contents = form_contents world K V C k container _ makes f hands form contents;
+        containers = form_containers world K V C k container _ makes f hands form;
+        kinds = form_kinds world K V C k container _ makes f hands form;
+        fits = form_fits world K V C k container _ makes f hands form;
+        room = form_room world K V C k container _ makes f hands form;
+      }
+
   pub plain_answer : (hands : List (Option Cursor)) (called : Call) → IsCallBy K V called → IsAsked world called → (is_counting called ≡ true → (count : ℕ) → count ≤ counted_in world called → C count) → IsPlainAnswer K V C world hands called
-  plain_answer hands (call.Dict container dict_call) said asked few =
-      let f : List (Option Cursor) → Answer = λ h. answer_dict world h container (dict_at world container) dict_call in
-      let form : Form world K V C kind.Dict container (is_changing (call.Dict container dict_call)) (cursor_of_dict dict_call) f = form_dict K V C together world container (dict_at world container) (dicts_of container) dicts_of asked.0 dict_call said asked.1 few in
-      record {
-        memory = form_memory world K V C kind.Dict container _ _ f hands form;
-        alike = form_alike world K V C kind.Dict container _ _ f hands no_hands form;
-        quiet = form_quiet world K V C kind.Dict container _ _ f hands form;
-        reply = form_reply world K V C kind.Dict container _ _ f hands form;
-        contents = form_contents world K V C kind.Dict container _ _ f hands form contents;
-        containers = form_containers world K V C kind.Dict container _ _ f hands form;
-        kinds = form_kinds world K V C kind.Dict container _ _ f hands form;
-        fits = form_fits world K V C kind.Dict container _ _ f hands form;
-        room = form_room world K V C kind.Dict container _ _ f hands form;
-      }
-  plain_answer hands (call.List container list_call) said asked few =
-      let f : List (Option Cursor) → Answer = λ h. answer_list world h container (list_at world container) list_call in
-      let form : Form world K V C kind.List container (is_changing (call.List container list_call)) (cursor_of_list list_call) f = form_list K V C together world container (list_at world container) (lists_of container) lists_of asked.0 list_call said asked.1 few in
-      record {
-        memory = form_memory world K V C kind.List container _ _ f hands form;
-        alike = form_alike world K V C kind.List container _ _ f hands no_hands form;
-        quiet = form_quiet world K V C kind.List container _ _ f hands form;
-        reply = form_reply world K V C kind.List container _ _ f hands form;
-        contents = form_contents world K V C kind.List container _ _ f hands form contents;
-        containers = form_containers world K V C kind.List container _ _ f hands form;
-        kinds = form_kinds world K V C kind.List container _ _ f hands form;
-        fits = form_fits world K V C kind.List container _ _ f hands form;
-        room = form_room world K V C kind.List container _ _ f hands form;
-      }
-  plain_answer hands (call.Set container set_call) said asked few =
-      let f : List (Option Cursor) → Answer = λ h. answer_set world h container (set_at world container) set_call in
-      let form : Form world K V C kind.Set container (is_changing (call.Set container set_call)) (cursor_of_set set_call) f = form_set K V C together world container (set_at world container) (sets_of container) sets_of asked.0 set_call said asked.1 few in
-      record {
-        memory = form_memory world K V C kind.Set container _ _ f hands form;
-        alike = form_alike world K V C kind.Set container _ _ f hands no_hands form;
-        quiet = form_quiet world K V C kind.Set container _ _ f hands form;
-        reply = form_reply world K V C kind.Set container _ _ f hands form;
-        contents = form_contents world K V C kind.Set container _ _ f hands form contents;
-        containers = form_containers world K V C kind.Set container _ _ f hands form;
-        kinds = form_kinds world K V C kind.Set container _ _ f hands form;
-        fits = form_fits world K V C kind.Set container _ _ f hands form;
-        room = form_room world K V C kind.Set container _ _ f hands form;
-      }
+  plain_answer hands (call.Dict container dict_call) said asked few = of_form hands (call.Dict container dict_call) (form_dict K V C together world container (dict_at world container) (dicts_of container) dicts_of asked.0 dict_call said asked.1 few)
+  plain_answer hands (call.List container list_call) said asked few = of_form hands (call.List container list_call) (form_list K V C together world container (list_at world container) (lists_of container) lists_of asked.0 list_call said asked.1 few)
+  plain_answer hands (call.Set container set_call) said asked few = of_form hands (call.Set container set_call) (form_set K V C together world container (set_at world container) (sets_of container) sets_of asked.0 set_call said asked.1 few)
   plain_answer hands (call.Next number) said asked few =
       let stepped : Option Cursor → Answer = λ o. option_map_or (λ it. moves world hands number (cursor_step world it).cursor (cursor_step world it).reply) o (shows world hands reply.Stop) in
       record {

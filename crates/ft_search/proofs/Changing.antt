@@ -1,17 +1,25 @@
 -- A write that changes one entry of a dict or a set: what its words have to meet before the commit and after it.
-use Rattle.std.proofs.Common.{◌≡◌, ◌≢◌, ℕ, suc, ◌+◌, ◌%◌, ◌<◌, Bool, true, false, List, Option, refl, sym, ap, ◌∙◌, subst, arith, length-set, get_or-set_same, get_or-set_other}
-use Rattle.std.specs.Prelude.{slice_index, slice_set}
+use Rattle.std.proofs.Common.{◌≡◌, ◌≢◌, ℕ, suc, ◌+◌, ◌%◌, ◌<◌, ◌≤◌, Bool, true, false, List, ◌∷◌, Option, Some, refl, sym, ap, ◌∙◌, subst, arith, length-set, get_or-set_same, get_or-set_other}
+use Rattle.std.specs.Prelude.{All, IsTrue, slice_get, slice_index, slice_set}
 use Rattle.std.proofs.Math.Logic.{∥∥₁_elim}
 use Rattle.std.proofs.Math.Nat.{ℕ_set}
 use Rattle.ft_model.specs.declared.content.Content.{Content}
+use Rattle.ft_model.specs.declared.data.Key.{Key}
 use Rattle.ft_model.specs.declared.script.Kind.{Kind}
 use Rattle.ft_model.specs.declared.script.Kind.TheVariants as kind
+use Rattle.ft_model.specs.Classes.{IsClass}
 use Rattle.ft_model.specs.Worlds.{kind_of}
-use Rattle.ft_layout.specs.Containers.{IsBlock, IsRoot}
+use Rattle.ft_layout.specs.Words.{FitsKey}
+use Rattle.ft_layout.specs.Tables.{UsedEntry, IsTable, is_live}
+use Rattle.ft_layout.specs.Tables as layout
+use Rattle.ft_layout.specs.Containers.{class_mask, IsBlock, IsRoot}
+use Rattle.ft_layout.proofs.Powers.{slots_range}
+use Rattle.ft_layout.proofs.WordLaws.{same_key}
 use Rattle.ft_trace.specs.declared.Shape.{Shape}
 use Rattle.ft_trace.specs.declared.View.{View}
 use Rattle.ft_trace.specs.Addresses.{containers_in, class_of, slots}
 use Rattle.ft_trace.specs.Acts.{has_lock, is_writing, has_committed}
+use Rattle.ft_trace.specs.Carefuls.{HasLiveKey}
 use Rattle.ft_trace.specs.Holds.{held, known}
 use Rattle.ft_trace.specs.Kinds.{rows, version_at, CarefulAs, ClearAs}
 use Rattle.ft_trace.specs.OddVersions.{Shut, Timely}
@@ -20,7 +28,9 @@ use Rattle.ft_trace.specs.Pictures.{Picture, root_in, entry_offset, entry_field,
 use Rattle.ft_trace.specs.ContainerStates.{ContainerState, kind_in}
 use Rattle.ft_trace.specs.WholeWrites.{Put, to_table, with_puts, MayPut, MayPuts}
 use Rattle.ft_trace.proofs.Clearing.{held_shut}
-use Rattle.ft_trace.proofs.Known.{kind_known}
+use Rattle.ft_trace.proofs.DictWrites.{EntryVersionsChangeNothing}
+use Rattle.ft_trace.proofs.Known.{after_header, kind_known}
+use Rattle.ft_trace.proofs.Tellings.{live_tells, key_words}
 use Rattle.ft_bank.specs.WriteSteps.{IsCareful}
 use Rattle.ft_search.specs.OneEntryWrites.{raised_at}
 
@@ -91,3 +101,20 @@ shut_known k v o t shape possible low mine even names p less =
     let even_now : slice_index (held o v).table (version_at (kind_in v.shape.kinds o) (class_of t) p) % 2 ≡ 0 =
     ∥∥₁_elim {P = slice_index (held o v).table (version_at (kind_in v.shape.kinds o) (class_of t) p) % 2 ≡ 0} possible (ℕ_set _ _) (λ x. held_shut v o t here x mine even names p row) in
     subst (λ (z : Kind). slice_index (held o v).table (version_at z (class_of t) p) % 2 ≡ 0) (sym kind_eq) even_now
+
+-- ---- the entry that changes
+
+module _ (walk : ℕ → List ℕ) (room : ℕ) (texts : List ℕ) (c : ℕ) (is_class : IsClass c) (used : List UsedEntry) where
+  -- the item whose entry is live with a key
+  pub live_item : {Item : Type 0} (used_item : Item → UsedEntry) (ws : List ℕ) → IsTable walk room texts (class_mask c) used (0 ∷ 0 ∷ ws) → (p : ℕ) (key : Key) → p < room → HasLiveKey (slots c) ws p key → FitsKey key
+      → ((entry : UsedEntry) → slice_get used p ≡ Some entry → IsTrue (is_live entry) → (item : Item) × (entry ≡ used_item item)) → (item : Item) × (slice_get used p ≡ Some (used_item item)) × ((used_item item).key ≡ key)
+  live_item used_item ws table p key low live fits lives =
+      let tells = live_tells walk room texts c is_class used ws table p key low live in
+      let l = lives tells.entry tells.at tells.live in
+      let w = key_words tells.entry.key key tells.mine in
+      (l.0, tells.at ∙ ap (λ (z : UsedEntry). Some z) l.1, ap (λ (z : UsedEntry). z.key) (sym l.1) ∙ same_key tells.entry.key key tells.fits fits w.0 w.1)
+
+  -- a version that is put into an entry changes nothing
+  pub table_version_put : EntryVersionsChangeNothing → ((hash : ℕ) → All (λ slot. slot ≤ class_mask c) (walk hash)) → (l : List ℕ) (p y : ℕ) → IsTable walk room texts (class_mask c) used (0 ∷ 0 ∷ l) → IsTable walk room texts (class_mask c) used (0 ∷ 0 ∷ slice_set l (entry_offset (slots c) p 0) y)
+  unfolding slots
+  table_version_put versions within l p y table = let r = (slots_range c is_class).0 in subst (λ (z : List ℕ). IsTable walk room texts (class_mask c) used z) (after_header l (layout.entry_at (class_mask c) p 0) (entry_offset (slots c) p 0) y (omega (arith, r))) (versions walk room texts (class_mask c) used (0 ∷ 0 ∷ l) p y within table)

@@ -1,29 +1,27 @@
 -- What the deletion of an entry of a dict or a set leaves of its words, and that readers aren't misled by it.
 use Rattle.std.proofs.Common.{◌≡◌, ℕ, suc, ◌+◌, ◌-◌, ◌*◌, ◌%◌, ◌<◌, ◌≤◌, false, List, [], ◌∷◌, length, Option, Some, refl, sym, ap, ◌∙◌, subst, arith, get_or-set_same, get_or-set_other}
-use Rattle.std.specs.Prelude.{All, slice_index, slice_set, slice_get}
+use Rattle.std.specs.Prelude.{All, IsTrue, slice_index, slice_set, slice_get}
 use Rattle.ft_model.specs.declared.content.Content.{Content}
 use Rattle.ft_model.specs.declared.content.Content.TheVariants as content
 use Rattle.ft_model.specs.declared.content.DictPair.{DictPair}
 use Rattle.ft_model.specs.declared.content.Element.{Element}
 use Rattle.ft_model.specs.declared.data.Key.{Key}
 use Rattle.ft_model.specs.declared.script.Kind.{Kind}
-use Rattle.ft_model.specs.declared.script.Kind.TheVariants as kind
-use Rattle.ft_model.specs.Classes.{IsClass, set_entries}
-use Rattle.ft_model.specs.Contents.{DictContent, SetContent, IsDict, IsSet, dict_del, set_discard}
+use Rattle.ft_model.specs.Classes.{IsClass}
+use Rattle.ft_model.specs.Contents.{DictContent, SetContent, dict_del, set_discard}
 use Rattle.ft_model.specs.TableUses.{TableUse}
 use Rattle.ft_model.specs.Worlds.{kind_of}
 use Rattle.ft_hash.specs.Probes.{dict_slots, set_slots}
 use Rattle.ft_hash.proofs.Walks.{dict_slots-within, set_slots-within}
-use Rattle.ft_layout.specs.Words.{FitsKey, gone_kind}
-use Rattle.ft_layout.specs.Tables.{UsedEntry, dict_room, set_room, IsDictTable, IsSetTable}
+use Rattle.ft_layout.specs.Words.{FitsKey, gone_kind, key_kind, key_payload}
+use Rattle.ft_layout.specs.Tables.{UsedEntry, IsTable, is_live, dict_room, set_room}
 use Rattle.ft_layout.specs.Tables as layout
 use Rattle.ft_layout.specs.WordChanges.{with_deleted}
 use Rattle.ft_layout.specs.Containers.{class_mask, used_pair, used_element, IsBlock, IsDictWords, IsSetWords}
 use Rattle.ft_layout.proofs.ContentLaws.{stands_for_dict, stands_for_set}
 use Rattle.ft_layout.proofs.Powers.{slots_range}
-use Rattle.ft_layout.proofs.WordLaws.{same_key}
 use Rattle.ft_trace.specs.Acts.{has_committed}
-use Rattle.ft_trace.specs.Addresses.{class_of, slots, places, size}
+use Rattle.ft_trace.specs.Addresses.{class_of, slots, size}
 use Rattle.ft_trace.specs.Carefuls.{HasLiveKey, IsDead}
 use Rattle.ft_trace.specs.Kinds.{under, rows, version_at, CarefulAs, ClearAs, IsKeyed}
 use Rattle.ft_trace.specs.OddVersions.{Shut}
@@ -36,327 +34,246 @@ use Rattle.ft_trace.specs.ContainerStates.{ContainerState, kind_in}
 use Rattle.ft_trace.specs.WholeWrites.{to_block, to_table, with_puts, MayPut, MayPuts}
 use Rattle.ft_trace.proofs.ByKind.{keyed_fit, keyed_low}
 use Rattle.ft_trace.proofs.DictWrites as dict
+use Rattle.ft_trace.proofs.DictWrites.{EntryVersionsChangeNothing}
 use Rattle.ft_trace.proofs.SetKnown as set
 use Rattle.ft_trace.proofs.EntryPuts.{dead_open, dead_kind, dead_same, dead_late, dead_shut, dead_is}
 use Rattle.ft_trace.proofs.FitCalls.{dict_fits_words, set_fits_words}
 use Rattle.ft_trace.proofs.KeysDeleted as deleted
 use Rattle.ft_trace.proofs.SetDiscards as discarded
 use Rattle.ft_trace.proofs.Known.{after_header, class_known, table_is_long}
-use Rattle.ft_trace.proofs.Tellings.{live_tells, key_words}
 use Rattle.ft_bank.specs.declared.table.Table.{Table}
 use Rattle.ft_bank.specs.TableNames.{name_of}
 use Rattle.ft_bank.specs.Whole.{OnlyLoaded, OnlyPut}
 use Rattle.ft_bank.specs.WriteSteps.{IsCareful, with_block, with_table}
 use Rattle.ft_bank.proofs.KnownAfterWrites.{loaded_held, loaded_put, put_then, work_knows}
 use Rattle.ft_search.specs.OneEntryWrites.{HasTable, IsLiveEntry, MayWriteEntries, WritesEntries, deletion, raised_at, without_key}
-use Rattle.ft_search.proofs.Changing.{Changing, with_count, kind_is, shut_known, put_at}
+use Rattle.ft_search.proofs.Changing.{Changing, with_count, kind_is, shut_known, put_at, live_item, table_version_put}
 use Rattle.ft_search.proofs.Laws.{DictLaws, SetLaws}
-use Rattle.ft_search.proofs.Puts.{table_class, writes_on}
+use Rattle.ft_search.proofs.Puts.{keyed_careful, keyed_version, table_class, writes_on}
 
--- ---- a key is taken out of a dict
+-- ---- what dicts and sets have in common
 
-module _ (laws : DictLaws) (texts : List ℕ) (x : Picture) (tab : TableUse) (t : ℕ) (is_class : IsClass (class_of t)) (pairs : DictContent) (says : IsDictWords texts x.block (0 ∷ 0 ∷ x.table) (Some (class_of t)) tab.fill pairs) (class_eq : tab.class ≡ Some (class_of t)) (names : root_in x ≡ suc t) (long : slots (class_of t) + 8 * places (class_of t) ≤ length x.table)
-    (shut : Shut (λ q. entry_offset (slots (class_of t)) q 0) (places (class_of t)) x.table) (p : ℕ) (key : Key) (low : p < places (class_of t)) (live : HasLiveKey (slots (class_of t)) x.table p key) (fits : FitsKey key) where
-  abbrev dc : ℕ
-  dc = class_of t
+-- What a dict and a set differ in, where they have the table t: what is had, what is left of it without a key, and how the
+-- words of a block and of a table say it, whose entries are those of its items.
+record Entries (texts : List ℕ) (t : ℕ) (tab : TableUse) : Type 1 where
+  Had : Type 0
+  Item : Type 0
+  content_of : Had → Content
+  keyed : (had : Had) → IsKeyed (kind_of (content_of had))
+  count : Had → ℕ
+  next : Had → ℕ
+  without : Had → Key → Had
+  used_item : Item → UsedEntry
+  walk : ℕ → List ℕ
+  room : ℕ
+  versions : EntryVersionsChangeNothing
+  within : (hash : ℕ) → All (λ slot. slot ≤ class_mask (class_of t)) (walk hash)
+  IsWords : List ℕ → List ℕ → Had → Type 0
+  stands : (x : Picture) (had : Had) → IsWords x.block (0 ∷ 0 ∷ x.table) had → Stands texts x (record { content = content_of had; table = tab })
+  used : (block words : List ℕ) (had : Had) → IsWords block words had → List UsedEntry
+  head : (block words : List ℕ) (had : Had) → IsWords block words had → IsBlock block (Some (class_of t)) (count had) tab.fill (next had)
+  table : (block words : List ℕ) (had : Had) (is : IsWords block words had) → IsTable walk room texts (class_mask (class_of t)) (used block words had is) words
+  renewed : (block words other : List ℕ) (had : Had) (is : IsWords block words had) → IsTable walk room texts (class_mask (class_of t)) (used block words had is) other → (now : IsWords block other had) × (used block other had now ≡ used block words had is)
+  room_is : (block ws : List ℕ) (had : Had) → IsWords block (0 ∷ 0 ∷ ws) had → room ≡ rows (kind_of (content_of had)) (class_of t)
+  lives : (block words : List ℕ) (had : Had) (is : IsWords block words had) (place : ℕ) (entry : UsedEntry) → slice_get (used block words had is) place ≡ Some entry → IsTrue (is_live entry) → (item : Item) × (entry ≡ used_item item)
+  shorter : (block words : List ℕ) (had : Had) (is : IsWords block words had) (place : ℕ) (item : Item) → slice_get (used block words had is) place ≡ Some (used_item item) → count (without had (used_item item).key) + 1 ≡ count had
+  deleted : (block words other : List ℕ) (had : Had) (is : IsWords block words had) (place : ℕ) (item : Item) → slice_get (used block words had is) place ≡ Some (used_item item) → IsBlock other (Some (class_of t)) (count (without had (used_item item).key)) tab.fill (next had)
+      → IsWords other (with_deleted (class_mask (class_of t)) words place (used_item item).key) (without had (used_item item).key)
+  clear : (block before : List ℕ) (had news : Had) (ws zs : List ℕ) → IsWords before (0 ∷ 0 ∷ ws) had → IsWords block (0 ∷ 0 ∷ zs) news
+      → ((q w : ℕ) → q < rows (kind_of (content_of had)) (class_of t) → entry_field (slots (class_of t)) zs q 0 % 2 ≡ 0 → w < 8 → entry_field (slots (class_of t)) zs q w ≡ entry_field (slots (class_of t)) ws q w) → ClearAs (kind_of (content_of had)) texts (class_of t) zs (content_of had) (content_of news)
+  gone : (block words : List ℕ) (had : Had) → IsWords block words had → (key other : Key) → FitsKey key → (key_kind other ≡ key_kind key) × (key_payload other ≡ key_payload key) → under (content_of (without had key)) other ≡ []
 
-  abbrev dn : ℕ
-  dn = slots dc
+abbrev dict_entries : DictLaws → (texts : List ℕ) (t : ℕ) (tab : TableUse) → IsClass (class_of t) → tab.class ≡ Some (class_of t) → Entries texts t tab
+dict_entries laws texts t tab is_class class_eq = record {
+  Had = DictContent;
+  Item = DictPair;
+  content_of = λ had. content.Dict had;
+  keyed = λ had. tt;
+  count = λ had. length had.pairs;
+  next = λ had. had.next;
+  without = dict_del;
+  used_item = used_pair;
+  walk = λ hash. dict_slots hash (class_mask (class_of t)) (class_mask (class_of t) + 14);
+  room = dict_room (class_mask (class_of t));
+  versions = laws.versions;
+  within = λ hash. dict_slots-within hash (class_mask (class_of t)) (class_mask (class_of t) + 14);
+  IsWords = λ block words had. IsDictWords texts block words (Some (class_of t)) tab.fill had;
+  stands = λ x had is. subst (λ (z : Option ℕ). IsDictWords texts x.block (0 ∷ 0 ∷ x.table) z tab.fill had) (sym class_eq) is;
+  used = λ block words had is. is.used;
+  head = λ block words had is. is.head;
+  table = λ block words had is. is.table;
+  renewed = λ block words other had is table. (record { head = is.head; used = is.used; table = table; filled = is.filled; entries = is.entries }, refl);
+  room_is = λ block ws had is. dict.room_is laws.first texts block (class_of t) tab.fill is_class had ws is;
+  lives = λ block words had is place entry at alive. let l = laws.lives is.used had place entry is.entries (stands_for_dict texts block words (Some (class_of t)) tab.fill had is) at alive in (l.0, l.1);
+  shorter = λ block words had is place item at. (laws.shrinks is.used had place item is.entries (stands_for_dict texts block words (Some (class_of t)) tab.fill had is) at).1;
+  deleted = λ block words other. laws.deletes texts block words other (class_of t) tab.fill;
+  clear = λ block before. dict.dict_clear laws.first texts block before (class_of t) tab.fill tab.fill is_class;
+  gone = λ block words had is key other fits. deleted.none_under had key other fits (dict_fits_words texts block words (class_of t) tab.fill had is);
+}
 
-  abbrev dm : ℕ
-  dm = places dc
+abbrev set_entries : SetLaws → (texts : List ℕ) (t : ℕ) (tab : TableUse) → IsClass (class_of t) → tab.class ≡ Some (class_of t) → Entries texts t tab
+set_entries laws texts t tab is_class class_eq = record {
+  Had = SetContent;
+  Item = Element;
+  content_of = λ had. content.Set had;
+  keyed = λ had. tt;
+  count = λ had. length had.elements;
+  next = λ had. had.next;
+  without = set_discard;
+  used_item = used_element;
+  walk = λ hash. set_slots hash (class_mask (class_of t)) (class_mask (class_of t) + 14);
+  room = set_room (class_mask (class_of t));
+  versions = laws.versions;
+  within = λ hash. set_slots-within hash (class_mask (class_of t)) (class_mask (class_of t) + 14);
+  IsWords = λ block words had. IsSetWords texts block words (Some (class_of t)) tab.fill had;
+  stands = λ x had is. subst (λ (z : Option ℕ). IsSetWords texts x.block (0 ∷ 0 ∷ x.table) z tab.fill had) (sym class_eq) is;
+  used = λ block words had is. is.used;
+  head = λ block words had is. is.head;
+  table = λ block words had is. is.table;
+  renewed = λ block words other had is table. (record { head = is.head; used = is.used; table = table; filled = is.filled; entries = is.entries }, refl);
+  room_is = λ block ws had is. set.room_is laws.first texts block (class_of t) tab.fill is_class had ws is;
+  lives = λ block words had is place entry at alive. let l = laws.lives is.used had place entry is.entries (stands_for_set texts block words (Some (class_of t)) tab.fill had is) at alive in (l.0, l.1);
+  shorter = λ block words had is place item at. (laws.shrinks is.used had place item is.entries (stands_for_set texts block words (Some (class_of t)) tab.fill had is) at).1;
+  deleted = λ block words other. laws.deletes texts block words other (class_of t) tab.fill;
+  clear = λ block before. set.set_clear laws.first texts block before (class_of t) tab.fill tab.fill is_class;
+  gone = λ block words had is key other fits. discarded.none_under had key other fits (set_fits_words texts block words (class_of t) tab.fill had is);
+}
 
-  abbrev dws : List ℕ
-  dws = x.table
+-- ---- a key is taken out
 
-  abbrev db : List ℕ
-  db = x.block
+module _ (texts : List ℕ) (x : Picture) (tab : TableUse) (t : ℕ) (is_class : IsClass (class_of t)) (e : Entries texts t tab) (had : e.Had) (says : e.IsWords x.block (0 ∷ 0 ∷ x.table) had) (names : root_in x ≡ suc t) (whole : length x.table ≡ size (class_of t))
+    (shut : Shut (version_at (kind_of (e.content_of had)) (class_of t)) (rows (kind_of (e.content_of had)) (class_of t)) x.table) (p : ℕ) (key : Key) (low : p < rows (kind_of (e.content_of had)) (class_of t)) (live : HasLiveKey (slots (class_of t)) x.table p key) (fits : FitsKey key) where
+  abbrev k : Kind
+  k = kind_of (e.content_of had)
 
-  abbrev dfill : ℕ
-  dfill = tab.fill
+  abbrev c : ℕ
+  c = class_of t
 
-  abbrev dnews : DictContent
-  dnews = dict_del pairs key
+  abbrev n : ℕ
+  n = slots c
 
-  abbrev dver : ℕ
-  dver = entry_field dn dws p 0
+  abbrev m : ℕ
+  m = rows k c
 
-  abbrev dblock : List ℕ
-  dblock = slice_set db 1 (slice_index db 1 - 1)
+  abbrev ws : List ℕ
+  ws = x.table
 
-  abbrev dopened : List ℕ
-  dopened = slice_set dws (entry_offset dn p 0) (dver + 1)
+  abbrev b : List ℕ
+  b = x.block
 
-  abbrev dput : List ℕ
-  dput = slice_set dopened (entry_offset dn p 2) (gone_kind key)
+  abbrev old : Content
+  old = e.content_of had
 
-  deven : dver % 2 ≡ 0
-  deven = shut p low
+  abbrev news : e.Had
+  news = e.without had key
 
-  -- the version that was made odd
-  dodd : entry_field dn dput p 0 ≡ dver + 1
-  dodd = get_or-set_other dopened (entry_offset dn p 2) (entry_offset dn p 0) (gone_kind key) 0 (λ e. absurd (omega (arith, e))) ∙ get_or-set_same dws (entry_offset dn p 0) (dver + 1) 0 (omega (arith, low, long))
+  abbrev ver : ℕ
+  ver = entry_field n ws p 0
 
-  dnext : dver + 2 ≡ entry_field dn dput p 0 + 1
-  dnext = let o = dodd in omega (arith, o)
+  abbrev block : List ℕ
+  block = slice_set b 1 (slice_index b 1 - 1)
 
-  -- what the entry is of
-  din_order : IsDict pairs.next pairs.pairs
-  din_order = stands_for_dict texts db (0 ∷ 0 ∷ dws) (Some dc) dfill pairs says
+  abbrev opened : List ℕ
+  opened = slice_set ws (entry_offset n p 0) (ver + 1)
 
-  abbrev dwalk : ℕ → List ℕ
-  dwalk hash = dict_slots hash (class_mask dc) (class_mask dc + 14)
+  abbrev put : List ℕ
+  put = slice_set opened (entry_offset n p 2) (gone_kind key)
 
-  dwithin : (hash : ℕ) → All (λ slot. slot ≤ class_mask dc) (dwalk hash)
-  dwithin hash = dict_slots-within hash (class_mask dc) (class_mask dc + 14)
+  long : n + 8 * m ≤ length ws
+  long = let f = keyed_fit k (e.keyed had) c in omega (arith, whole, f)
 
-  dmine : (item : DictPair) × (slice_get says.used p ≡ Some (used_pair item)) × (item.key ≡ key)
-  dmine =
-      let room : dict_room (class_mask dc) ≡ dm = dict.room_is laws.first texts db dc dfill is_class pairs dws says in
-      let tells = live_tells dwalk (dict_room (class_mask dc)) texts dc is_class says.used dws says.table p key (omega (arith, room, low)) live in
-      let l = laws.lives says.used pairs p tells.entry says.entries din_order tells.at tells.live in
-      let w = key_words tells.entry.key key tells.mine in
-      (l.0, tells.at ∙ ap (λ (z : UsedEntry). Some z) l.1, ap (λ (z : UsedEntry). z.key) (sym l.1) ∙ same_key tells.entry.key key tells.fits fits w.0 w.1)
+  shut_at : Shut (λ q. entry_offset n q 0) m ws
+  shut_at q less = subst (λ (z : ℕ). slice_index ws z % 2 ≡ 0) (keyed_version k (e.keyed had) c q) (shut q less)
 
-  -- a version that is put into an entry changes nothing
-  dversion_put : (block : List ℕ) (l : List ℕ) (y : ℕ) (d : DictContent) → IsDictWords texts block (0 ∷ 0 ∷ l) (Some dc) dfill d → IsDictWords texts block (0 ∷ 0 ∷ slice_set l (entry_offset dn p 0) y) (Some dc) dfill d
-  unfolding slots
-  dversion_put block l y d is =
-      let r = (slots_range dc is_class).0 in
-      let table : IsDictTable texts (class_mask dc) is.used (0 ∷ 0 ∷ slice_set l (entry_offset dn p 0) y) = subst (λ (z : List ℕ). IsDictTable texts (class_mask dc) is.used z) (after_header l (layout.entry_at (class_mask dc) p 0) (entry_offset dn p 0) y (omega (arith, r))) (laws.versions dwalk (dict_room (class_mask dc)) texts (class_mask dc) is.used (0 ∷ 0 ∷ l) p y dwithin is.table) in
-      record { head = is.head; used = is.used; table = table; filled = is.filled; entries = is.entries }
-
-  dopen_says : IsDictWords texts db (0 ∷ 0 ∷ dopened) (Some dc) dfill pairs
-  dopen_says = dversion_put db dws (dver + 1) pairs says
-
-  dshorter : length (dict_del pairs dmine.0.key).pairs + 1 ≡ length pairs.pairs
-  dshorter = (laws.shrinks says.used pairs p dmine.0 says.entries din_order dmine.1).1
-
-  pub dsome : 0 < slice_index db 1
-  dsome = let s = dshorter in let h : slice_index db 1 ≡ length pairs.pairs = says.head.count_is in omega (arith, s, h)
-
-  dhead : IsBlock dblock (Some dc) (length (dict_del pairs dmine.0.key).pairs) dfill pairs.next
-  dhead =
-      let s = dshorter in
-      let h : slice_index db 1 ≡ length pairs.pairs = says.head.count_is in
-      let e : slice_index db 1 - 1 ≡ length (dict_del pairs dmine.0.key).pairs = omega (arith, s, h) in
-      subst (λ (z : ℕ). IsBlock dblock (Some dc) z dfill pairs.next) e (with_count db (Some dc) (length pairs.pairs) (slice_index db 1 - 1) dfill pairs.next says.head)
-
-  dsame_words : with_deleted (class_mask dc) (0 ∷ 0 ∷ dopened) p key ≡ 0 ∷ 0 ∷ dput
-  unfolding slots
-  dsame_words = let r = (slots_range dc is_class).0 in after_header dopened (layout.entry_at (class_mask dc) p 2) (entry_offset dn p 2) (gone_kind key) (omega (arith, r))
-
-  dnow : IsDictWords texts dblock (0 ∷ 0 ∷ dput) (Some dc) dfill dnews
-  unfolding dopen_says dversion_put
-  dnow =
-      let used : slice_get dopen_says.used p ≡ Some (used_pair dmine.0) = dmine.1 in
-      let made = laws.deletes texts db (0 ∷ 0 ∷ dopened) dblock dc dfill pairs dopen_says p dmine.0 used dhead in
-      let moved : IsDictWords texts dblock (with_deleted (class_mask dc) (0 ∷ 0 ∷ dopened) p key) (Some dc) dfill dnews = subst (λ (z : Key). IsDictWords texts dblock (with_deleted (class_mask dc) (0 ∷ 0 ∷ dopened) p z) (Some dc) dfill (dict_del pairs z)) dmine.2 made in
-      subst (λ (z : List ℕ). IsDictWords texts dblock z (Some dc) dfill dnews) dsame_words moved
-
-  dnames : slice_index dblock 0 ≡ suc t
-  dnames = get_or-set_other db 1 0 (slice_index db 1 - 1) 0 (λ e. absurd (omega (arith, e))) ∙ names
-
-  dinside : (w : ℕ) → w < 8 → entry_offset dn p w < size dc
-  dinside w few = keyed_low kind.Dict tt dc p w low few
-
-  dearly : MayPuts kind.Dict t (content.Dict pairs) false x (deletion t p key x)
-  dearly =
-      let before = under (content.Dict pairs) in
-      let e = deven in
-      let q1 : MayPut kind.Dict t (content.Dict pairs) false x (to_block 1 (slice_index db 1 - 1)) = (omega arith, omega arith) in
-      let q2 : MayPut kind.Dict t (content.Dict pairs) false (record { block = dblock; table = dws }) (to_table (entry_offset dn p 0) (dver + 1)) = (dnames, dinside 0 (omega arith), dead_open dn dm dws p key low long deven live before, record { before = λ q less at one. refl; later = λ q less at two. absurd (omega (arith, two, e)) }) in
-      let q3 : MayPut kind.Dict t (content.Dict pairs) false (record { block = dblock; table = dopened }) (to_table (entry_offset dn p 2) (gone_kind key)) = (dnames, dinside 2 (omega arith), dead_kind dn dm dws p key low long deven live before, record { before = λ q less at one. refl; later = λ q less at two. absurd (omega (arith, at)) }) in
-      (q1, (q2, (q3, tt)))
-
-  dclear : ClearAs kind.Dict texts dc dput (content.Dict pairs) (content.Dict dnews)
-  dclear = dict.dict_clear laws.first texts dblock db dc dfill dfill is_class pairs dnews dws dput says dnow (dead_same dn dm dws p key low long deven live)
-
-  dgone : (a : Key) → IsDead dn dput p a → under (content.Dict dnews) a ≡ []
-  dgone a dead = deleted.none_under pairs key a fits (dict_fits_words texts db (0 ∷ 0 ∷ dws) dc dfill pairs says) (dead_is dn dm dws p key low long deven live a dead)
-
-  dclose : CarefulAs kind.Dict dc dput (content.Dict dnews) (entry_offset dn p 0) (entry_field dn dput p 0 + 1)
-  dclose = subst (λ (z : ℕ). CarefulAs kind.Dict dc dput (content.Dict dnews) (entry_offset dn p 0) z) dnext (dead_late dn dm dws p key low long deven live (under (content.Dict dnews)) dgone)
-
-  dends : Stands texts (raised_at t p (record { block = dblock; table = dput })) (record { content = content.Dict dnews; table = tab })
-  dends = subst (λ (z : Option ℕ). IsDictWords texts dblock (0 ∷ 0 ∷ slice_set dput (entry_offset dn p 0) (entry_field dn dput p 0 + 1)) z dfill dnews) (sym class_eq) (dversion_put dblock dput (entry_field dn dput p 0 + 1) dnews dnow)
-
-  dshut : Shut (version_at kind.Dict dc) (rows kind.Dict dc) (slice_set dput (entry_offset dn p 0) (entry_field dn dput p 0 + 1))
-  dshut = subst (λ (z : ℕ). Shut (version_at kind.Dict dc) (rows kind.Dict dc) (slice_set dput (entry_offset dn p 0) z)) dnext (dead_shut dn dm dws p key low long deven live shut)
-
-  pub ddeletes : Changing texts t x (record { content = content.Dict pairs; table = tab }) p (deletion t p key x) (record { content = content.Dict dnews; table = tab })
-  ddeletes = record {
-    puts = dearly;
-    clear = dclear;
-    odd = let o = dodd in let e = deven in omega (arith, o, e);
-    close = dclose;
-    stands = dends;
-    shut = dshut;
-  }
-
--- ---- a key is taken out of a set
-
-module _ (laws : SetLaws) (texts : List ℕ) (x : Picture) (tab : TableUse) (t : ℕ) (is_class : IsClass (class_of t)) (elements : SetContent) (says : IsSetWords texts x.block (0 ∷ 0 ∷ x.table) (Some (class_of t)) tab.fill elements) (class_eq : tab.class ≡ Some (class_of t)) (names : root_in x ≡ suc t) (long : slots (class_of t) + 8 * set_entries (class_of t) ≤ length x.table)
-    (shut : Shut (λ q. entry_offset (slots (class_of t)) q 0) (set_entries (class_of t)) x.table) (p : ℕ) (key : Key) (low : p < set_entries (class_of t)) (live : HasLiveKey (slots (class_of t)) x.table p key) (fits : FitsKey key) where
-  abbrev sc : ℕ
-  sc = class_of t
-
-  abbrev sn : ℕ
-  sn = slots sc
-
-  abbrev sm : ℕ
-  sm = set_entries sc
-
-  abbrev sws : List ℕ
-  sws = x.table
-
-  abbrev sb : List ℕ
-  sb = x.block
-
-  abbrev sfill : ℕ
-  sfill = tab.fill
-
-  abbrev snews : SetContent
-  snews = set_discard elements key
-
-  abbrev sver : ℕ
-  sver = entry_field sn sws p 0
-
-  abbrev sblock : List ℕ
-  sblock = slice_set sb 1 (slice_index sb 1 - 1)
-
-  abbrev sopened : List ℕ
-  sopened = slice_set sws (entry_offset sn p 0) (sver + 1)
-
-  abbrev sput : List ℕ
-  sput = slice_set sopened (entry_offset sn p 2) (gone_kind key)
-
-  seven : sver % 2 ≡ 0
-  seven = shut p low
+  even : ver % 2 ≡ 0
+  even = shut_at p low
 
   -- the version that was made odd
-  sodd : entry_field sn sput p 0 ≡ sver + 1
-  sodd = get_or-set_other sopened (entry_offset sn p 2) (entry_offset sn p 0) (gone_kind key) 0 (λ e. absurd (omega (arith, e))) ∙ get_or-set_same sws (entry_offset sn p 0) (sver + 1) 0 (omega (arith, low, long))
+  odd : entry_field n put p 0 ≡ ver + 1
+  odd = get_or-set_other opened (entry_offset n p 2) (entry_offset n p 0) (gone_kind key) 0 (λ e. absurd (omega (arith, e))) ∙ get_or-set_same ws (entry_offset n p 0) (ver + 1) 0 (let l = long in omega (arith, low, l))
 
-  snext : sver + 2 ≡ entry_field sn sput p 0 + 1
-  snext = let o = sodd in omega (arith, o)
+  next : ver + 2 ≡ entry_field n put p 0 + 1
+  next = let o = odd in omega (arith, o)
 
-  -- what the entry is of
-  sin_order : IsSet elements.next elements.elements
-  sin_order = stands_for_set texts sb (0 ∷ 0 ∷ sws) (Some sc) sfill elements says
-
-  abbrev swalk : ℕ → List ℕ
-  swalk hash = set_slots hash (class_mask sc) (class_mask sc + 14)
-
-  swithin : (hash : ℕ) → All (λ slot. slot ≤ class_mask sc) (swalk hash)
-  swithin hash = set_slots-within hash (class_mask sc) (class_mask sc + 14)
-
-  smine : (item : Element) × (slice_get says.used p ≡ Some (used_element item)) × (item.key ≡ key)
-  smine =
-      let room : set_room (class_mask sc) ≡ sm = set.room_is laws.first texts sb sc sfill is_class elements sws says in
-      let tells = live_tells swalk (set_room (class_mask sc)) texts sc is_class says.used sws says.table p key (omega (arith, room, low)) live in
-      let l = laws.lives says.used elements p tells.entry says.entries sin_order tells.at tells.live in
-      let w = key_words tells.entry.key key tells.mine in
-      (l.0, tells.at ∙ ap (λ (z : UsedEntry). Some z) l.1, ap (λ (z : UsedEntry). z.key) (sym l.1) ∙ same_key tells.entry.key key tells.fits fits w.0 w.1)
+  -- the item whose entry it is
+  mine : (item : e.Item) × (slice_get (e.used b (0 ∷ 0 ∷ ws) had says) p ≡ Some (e.used_item item)) × ((e.used_item item).key ≡ key)
+  mine = let room = e.room_is b ws had says in live_item e.walk e.room texts c is_class (e.used b (0 ∷ 0 ∷ ws) had says) e.used_item ws (e.table b (0 ∷ 0 ∷ ws) had says) p key (omega (arith, room, low)) live fits (e.lives b (0 ∷ 0 ∷ ws) had says p)
 
   -- a version that is put into an entry changes nothing
-  sversion_put : (block : List ℕ) (l : List ℕ) (y : ℕ) (d : SetContent) → IsSetWords texts block (0 ∷ 0 ∷ l) (Some sc) sfill d → IsSetWords texts block (0 ∷ 0 ∷ slice_set l (entry_offset sn p 0) y) (Some sc) sfill d
+  renewed : (block l : List ℕ) (y : ℕ) (some : e.Had) (is : e.IsWords block (0 ∷ 0 ∷ l) some) → (now : e.IsWords block (0 ∷ 0 ∷ slice_set l (entry_offset n p 0) y) some) × (e.used block (0 ∷ 0 ∷ slice_set l (entry_offset n p 0) y) some now ≡ e.used block (0 ∷ 0 ∷ l) some is)
+  renewed block l y some is = e.renewed block (0 ∷ 0 ∷ l) (0 ∷ 0 ∷ slice_set l (entry_offset n p 0) y) some is (table_version_put e.walk e.room texts c is_class (e.used block (0 ∷ 0 ∷ l) some is) e.versions e.within l p y (e.table block (0 ∷ 0 ∷ l) some is))
+
+  shorter : e.count (e.without had (e.used_item mine.0).key) + 1 ≡ slice_index b 1
+  shorter = e.shorter b (0 ∷ 0 ∷ ws) had says p mine.0 mine.1 ∙ sym (e.head b (0 ∷ 0 ∷ ws) had says).count_is
+
+  head : IsBlock block (Some c) (e.count (e.without had (e.used_item mine.0).key)) tab.fill (e.next had)
+  head =
+      let s = shorter in
+      let less : slice_index b 1 - 1 ≡ e.count (e.without had (e.used_item mine.0).key) = omega (arith, s) in
+      subst (λ (z : ℕ). IsBlock block (Some c) z tab.fill (e.next had)) less (with_count b (Some c) (e.count had) (slice_index b 1 - 1) tab.fill (e.next had) (e.head b (0 ∷ 0 ∷ ws) had says))
+
+  same_words : with_deleted (class_mask c) (0 ∷ 0 ∷ opened) p key ≡ 0 ∷ 0 ∷ put
   unfolding slots
-  sversion_put block l y d is =
-      let r = (slots_range sc is_class).0 in
-      let table : IsSetTable texts (class_mask sc) is.used (0 ∷ 0 ∷ slice_set l (entry_offset sn p 0) y) = subst (λ (z : List ℕ). IsSetTable texts (class_mask sc) is.used z) (after_header l (layout.entry_at (class_mask sc) p 0) (entry_offset sn p 0) y (omega (arith, r))) (laws.versions swalk (set_room (class_mask sc)) texts (class_mask sc) is.used (0 ∷ 0 ∷ l) p y swithin is.table) in
-      record { head = is.head; used = is.used; table = table; filled = is.filled; entries = is.entries }
+  same_words = let r = (slots_range c is_class).0 in after_header opened (layout.entry_at (class_mask c) p 2) (entry_offset n p 2) (gone_kind key) (omega (arith, r))
 
-  sopen_says : IsSetWords texts sb (0 ∷ 0 ∷ sopened) (Some sc) sfill elements
-  sopen_says = sversion_put sb sws (sver + 1) elements says
+  now : e.IsWords block (0 ∷ 0 ∷ put) news
+  now =
+      let open_says = renewed b ws (ver + 1) had says in
+      let used : slice_get (e.used b (0 ∷ 0 ∷ opened) had open_says.0) p ≡ Some (e.used_item mine.0) = ap (λ (z : List UsedEntry). slice_get z p) open_says.1 ∙ mine.1 in
+      let made = e.deleted b (0 ∷ 0 ∷ opened) block had open_says.0 p mine.0 used head in
+      subst (λ (z : List ℕ). e.IsWords block z news) same_words (subst (λ (z : Key). e.IsWords block (with_deleted (class_mask c) (0 ∷ 0 ∷ opened) p z) (e.without had z)) mine.2 made)
 
-  sshorter : length (set_discard elements smine.0.key).elements + 1 ≡ length elements.elements
-  sshorter = (laws.shrinks says.used elements p smine.0 says.entries sin_order smine.1).1
+  still_names : slice_index block 0 ≡ suc t
+  still_names = get_or-set_other b 1 0 (slice_index b 1 - 1) 0 (λ e. absurd (omega (arith, e))) ∙ names
 
-  pub ssome : 0 < slice_index sb 1
-  ssome = let s = sshorter in let h : slice_index sb 1 ≡ length elements.elements = says.head.count_is in omega (arith, s, h)
+  inside : (w : ℕ) → w < 8 → entry_offset n p w < size c
+  inside w few = keyed_low k (e.keyed had) c p w low few
 
-  shead : IsBlock sblock (Some sc) (length (set_discard elements smine.0.key).elements) sfill elements.next
-  shead =
-      let s = sshorter in
-      let h : slice_index sb 1 ≡ length elements.elements = says.head.count_is in
-      let e : slice_index sb 1 - 1 ≡ length (set_discard elements smine.0.key).elements = omega (arith, s, h) in
-      subst (λ (z : ℕ). IsBlock sblock (Some sc) z sfill elements.next) e (with_count sb (Some sc) (length elements.elements) (slice_index sb 1 - 1) sfill elements.next says.head)
-
-  ssame_words : with_deleted (class_mask sc) (0 ∷ 0 ∷ sopened) p key ≡ 0 ∷ 0 ∷ sput
-  unfolding slots
-  ssame_words = let r = (slots_range sc is_class).0 in after_header sopened (layout.entry_at (class_mask sc) p 2) (entry_offset sn p 2) (gone_kind key) (omega (arith, r))
-
-  snow : IsSetWords texts sblock (0 ∷ 0 ∷ sput) (Some sc) sfill snews
-  unfolding sopen_says sversion_put
-  snow =
-      let used : slice_get sopen_says.used p ≡ Some (used_element smine.0) = smine.1 in
-      let made = laws.deletes texts sb (0 ∷ 0 ∷ sopened) sblock sc sfill elements sopen_says p smine.0 used shead in
-      let moved : IsSetWords texts sblock (with_deleted (class_mask sc) (0 ∷ 0 ∷ sopened) p key) (Some sc) sfill snews = subst (λ (z : Key). IsSetWords texts sblock (with_deleted (class_mask sc) (0 ∷ 0 ∷ sopened) p z) (Some sc) sfill (set_discard elements z)) smine.2 made in
-      subst (λ (z : List ℕ). IsSetWords texts sblock z (Some sc) sfill snews) ssame_words moved
-
-  snames : slice_index sblock 0 ≡ suc t
-  snames = get_or-set_other sb 1 0 (slice_index sb 1 - 1) 0 (λ e. absurd (omega (arith, e))) ∙ names
-
-  sinside : (w : ℕ) → w < 8 → entry_offset sn p w < size sc
-  sinside w few = keyed_low kind.Set tt sc p w low few
-
-  searly : MayPuts kind.Set t (content.Set elements) false x (deletion t p key x)
-  searly =
-      let before = under (content.Set elements) in
-      let e = seven in
-      let q1 : MayPut kind.Set t (content.Set elements) false x (to_block 1 (slice_index sb 1 - 1)) = (omega arith, omega arith) in
-      let q2 : MayPut kind.Set t (content.Set elements) false (record { block = sblock; table = sws }) (to_table (entry_offset sn p 0) (sver + 1)) = (snames, sinside 0 (omega arith), dead_open sn sm sws p key low long seven live before, record { before = λ q less at one. refl; later = λ q less at two. absurd (omega (arith, two, e)) }) in
-      let q3 : MayPut kind.Set t (content.Set elements) false (record { block = sblock; table = sopened }) (to_table (entry_offset sn p 2) (gone_kind key)) = (snames, sinside 2 (omega arith), dead_kind sn sm sws p key low long seven live before, record { before = λ q less at one. refl; later = λ q less at two. absurd (omega (arith, at)) }) in
+  early : MayPuts k t old false x (deletion t p key x)
+  early =
+      let two_divides = even in
+      let care1 = keyed_careful k (e.keyed had) c ws old (entry_offset n p 0) (ver + 1) (dead_open n m ws p key low long even live (under old)) in
+      let care2 = keyed_careful k (e.keyed had) c opened old (entry_offset n p 2) (gone_kind key) (dead_kind n m ws p key low long even live (under old)) in
+      let q1 : MayPut k t old false x (to_block 1 (slice_index b 1 - 1)) = (omega arith, omega arith) in
+      let q2 : MayPut k t old false (record { block = block; table = ws }) (to_table (entry_offset n p 0) (ver + 1)) = (still_names, inside 0 (omega arith), care1, record { before = λ q less at one. refl; later = λ q less at two. absurd (omega (arith, two, two_divides)) }) in
+      let q3 : MayPut k t old false (record { block = block; table = opened }) (to_table (entry_offset n p 2) (gone_kind key)) = (still_names, inside 2 (omega arith), care2, record { before = λ q less at one. refl; later = λ q less at two. absurd (let v = keyed_version k (e.keyed had) c q in omega (arith, at, v)) }) in
       (q1, (q2, (q3, tt)))
 
-  sclear : ClearAs kind.Set texts sc sput (content.Set elements) (content.Set snews)
-  sclear = set.set_clear laws.first texts sblock sb sc sfill sfill is_class elements snews sws sput says snow (dead_same sn sm sws p key low long seven live)
+  none : (a : Key) → IsDead n put p a → under (e.content_of news) a ≡ []
+  none a dead = e.gone b (0 ∷ 0 ∷ ws) had says key a fits (dead_is n m ws p key low long even live a dead)
 
-  sgone : (a : Key) → IsDead sn sput p a → under (content.Set snews) a ≡ []
-  sgone a dead = discarded.none_under elements key a fits (set_fits_words texts sb (0 ∷ 0 ∷ sws) sc sfill elements says) (dead_is sn sm sws p key low long seven live a dead)
+  close : CarefulAs k c put (e.content_of news) (entry_offset n p 0) (entry_field n put p 0 + 1)
+  close = subst (λ (z : ℕ). CarefulAs k c put (e.content_of news) (entry_offset n p 0) z) next (keyed_careful k (e.keyed had) c put (e.content_of news) (entry_offset n p 0) (ver + 2) (dead_late n m ws p key low long even live (under (e.content_of news)) none))
 
-  sclose : CarefulAs kind.Set sc sput (content.Set snews) (entry_offset sn p 0) (entry_field sn sput p 0 + 1)
-  sclose = subst (λ (z : ℕ). CarefulAs kind.Set sc sput (content.Set snews) (entry_offset sn p 0) z) snext (dead_late sn sm sws p key low long seven live (under (content.Set snews)) sgone)
+  shut_then : Shut (version_at k c) m (slice_set put (entry_offset n p 0) (entry_field n put p 0 + 1))
+  shut_then q less = subst (λ (z : ℕ × ℕ). slice_index (slice_set put (entry_offset n p 0) z.0) z.1 % 2 ≡ 0) (λ d. (next d, sym (keyed_version k (e.keyed had) c q) d)) (dead_shut n m ws p key low long even live shut_at q less)
 
-  sends : Stands texts (raised_at t p (record { block = sblock; table = sput })) (record { content = content.Set snews; table = tab })
-  sends = subst (λ (z : Option ℕ). IsSetWords texts sblock (0 ∷ 0 ∷ slice_set sput (entry_offset sn p 0) (entry_field sn sput p 0 + 1)) z sfill snews) (sym class_eq) (sversion_put sblock sput (entry_field sn sput p 0 + 1) snews snow)
-
-  sshut : Shut (version_at kind.Set sc) (rows kind.Set sc) (slice_set sput (entry_offset sn p 0) (entry_field sn sput p 0 + 1))
-  sshut = subst (λ (z : ℕ). Shut (version_at kind.Set sc) (rows kind.Set sc) (slice_set sput (entry_offset sn p 0) z)) snext (dead_shut sn sm sws p key low long seven live shut)
-
-  pub sdeletes : Changing texts t x (record { content = content.Set elements; table = tab }) p (deletion t p key x) (record { content = content.Set snews; table = tab })
-  sdeletes = record {
-    puts = searly;
-    clear = sclear;
-    odd = let o = sodd in let e = seven in omega (arith, o, e);
-    close = sclose;
-    stands = sends;
-    shut = sshut;
-  }
+  key_deleted : Changing texts t x (record { content = old; table = tab }) p (deletion t p key x) (record { content = e.content_of news; table = tab }) × (0 < slice_index b 1)
+  key_deleted = (
+    record {
+      puts = early;
+      clear = e.clear block b had news ws put says now (dead_same n m ws p key low long even live);
+      odd = let o = odd in let two_divides = even in omega (arith, o, two_divides);
+      close = close;
+      stands = e.stands (raised_at t p (record { block = block; table = put })) news (renewed block put (entry_field n put p 0 + 1) news now).0;
+      shut = shut_then;
+    },
+    let s = shorter in omega (arith, s),
+  )
 
 -- ---- by the kind of the content
 
 module _ (dicts : DictLaws) (sets : SetLaws) (texts : List ℕ) (x : Picture) (t : ℕ) (is_class : IsClass (class_of t)) (names : root_in x ≡ suc t) (long : length x.table ≡ size (class_of t)) (p : ℕ) (key : Key) (live : HasLiveKey (slots (class_of t)) x.table p key) (fits : FitsKey key) where
-  few_words : (m : ℕ) → m ≤ places (class_of t) → slots (class_of t) + 8 * m ≤ length x.table
-  few_words m less = omega (arith, long, less)
-
   pub deletes : (c : Content) (tab : TableUse) → IsKeyed (kind_of c) → Stands texts x (record { content = c; table = tab }) → p < rows (kind_of c) (class_of t) → Shut (version_at (kind_of c) (class_of t)) (rows (kind_of c) (class_of t)) x.table
       → Changing texts t x (record { content = c; table = tab }) p (deletion t p key x) (record { content = without_key c key; table = tab }) × (0 < slice_index x.block 1)
   deletes (content.Dict pairs) tab keyed stands low shut =
       let class = class_known texts x (record { content = content.Dict pairs; table = tab }) t stands names in
       let says : IsDictWords texts x.block (0 ∷ 0 ∷ x.table) (Some (class_of t)) tab.fill pairs = subst (λ (z : Option ℕ). IsDictWords texts x.block (0 ∷ 0 ∷ x.table) z tab.fill pairs) class stands in
-      let fit = few_words (places (class_of t)) (omega arith) in (
-        ddeletes dicts texts x tab t is_class pairs says class names fit shut p key low live fits,
-        dsome dicts texts x tab t is_class pairs says class names fit shut p key low live fits,
-      )
+      key_deleted texts x tab t is_class (dict_entries dicts texts t tab is_class class) pairs says names long shut p key low live fits
   deletes (content.Set elements) tab keyed stands low shut =
       let class = class_known texts x (record { content = content.Set elements; table = tab }) t stands names in
       let says : IsSetWords texts x.block (0 ∷ 0 ∷ x.table) (Some (class_of t)) tab.fill elements = subst (λ (z : Option ℕ). IsSetWords texts x.block (0 ∷ 0 ∷ x.table) z tab.fill elements) class stands in
-      let fit = few_words (set_entries (class_of t)) (keyed_fit kind.Set tt (class_of t)) in (
-        sdeletes sets texts x tab t is_class elements says class names fit shut p key low live fits,
-        ssome sets texts x tab t is_class elements says class names fit shut p key low live fits,
-      )
+      key_deleted texts x tab t is_class (set_entries sets texts t tab is_class class) elements says names long shut p key low live fits
   deletes (content.List values) tab keyed stands low shut = absurd keyed
 
 -- as the pass knows the container

@@ -1,5 +1,5 @@
 -- What a search finds in words that stand for a content.
-use Rattle.std.proofs.Common.{◌≡◌, ◌≢◌, ℕ, suc, ◌+◌, ◌*◌, ◌^◌, ◌<◌, true, false, List, [], ◌∷◌, filter, Option, Some, None, All, refl, sym, ap, ◌∙◌, subst, arith}
+use Rattle.std.proofs.Common.{◌≡◌, ◌≢◌, ℕ, suc, ◌+◌, ◌*◌, ◌^◌, ◌<◌, true, false, List, [], ◌∷◌, length, filter, Option, Some, None, All, refl, sym, ap, ◌∙◌, subst, arith}
 use Rattle.std.specs.Prelude.{slice_index}
 use Rattle.std.proofs.lemmas.List.Elements.{All-nil}
 use Rattle.std.proofs.Math.Logic.{∥∥₁_elim}
@@ -15,7 +15,7 @@ use Rattle.ft_model.specs.declared.script.Kind.TheVariants as kind
 use Rattle.ft_layout.specs.Containers.{class_mask, AreDictEntries, AreSetEntries, IsDictWords, IsSetWords, StandsAs}
 use Rattle.ft_layout.specs.Tables.{UsedEntry, hash_of, entry_word, is_live}
 use Rattle.ft_keys.specs.Searches.{Searched}
-use Rattle.ft_keys.specs.Ways.{walk_slots}
+use Rattle.ft_keys.specs.Ways.{walk_slots, IsTableOf}
 use Rattle.ft_keys.specs.declared.search.Found.{Found}
 use Rattle.ft_keys.specs.declared.search.Found.TheVariants.{At, Was, Free, Spent}
 use Rattle.ft_keys.specs.declared.walk.Way.{Way}
@@ -100,37 +100,31 @@ module _ (missing_key : MissingKeys) (missing_element : MissingElements) (first_
   said place kind payload all is one two =
       (entry_field (slots c) ws place 6, is ∙ sym (λ d. (one ∙ word_is place 4) d ∷ ((two ∙ word_is place 5) d ∷ (entry_field (slots c) ws place 6 ∷ []))))
 
-  pub dict_held : (pairs : DictContent) → IsDictWords texts block words (Some c) fill pairs → (found : Found) (read : Option (ℕ × ℕ)) → Searched mask words key (walk_slots way.Dict (hash_of texts key) mask) left found → ((slot place : ℕ) → found ≢ Was slot place) → ReadsEntry mask words found read → IsHeldAt (content.Dict pairs) key read
-  dict_held pairs says (At slot place) (Some read) s live reads =
-      let finds = s.finds way.Dict texts says.used says.table low refl in
+  -- where the words of a content were searched, what was read is what it has at the key
+  held_by : (way : Way) (d : Content) (used : List UsedEntry) → IsTableOf way texts mask used words → ((place : ℕ) → place < length used → HasLiveKey (slots c) ws place key → under d key ≡ said_of (slots c) ws place)
+      → ((read : ℕ × ℕ) → (serial : ℕ) × (under d key ≡ read.0 ∷ read.1 ∷ serial ∷ []) → IsHeldAt d key (Some read)) → (All (λ entry. entry.key ≢ key) (filter is_live used) → IsHeldAt d key None)
+      → (found : Found) (read : Option (ℕ × ℕ)) → Searched mask words key (walk_slots way (hash_of texts key) mask) left found → ((slot place : ℕ) → found ≢ Was slot place) → ReadsEntry mask words found read → IsHeldAt d key read
+  held_by way d used table right some none (At slot place) (Some read) s live reads =
       let has = s.ends.4 in
-      let room = dict.room_is first_pair texts block c fill is_class pairs ws says in
-      let few = says.table.fill in
-      let inside = finds.0 in
       let here : HasLiveKey (slots c) ws place key = (sym (word_is place 2) ∙ has.0, sym (word_is place 3) ∙ has.1) in
-      let all = dict.dict_right first_pair texts block c fill is_class pairs ws says place key (omega (arith, room, few, inside)) here in
-      said place read.0 read.1 (under (content.Dict pairs) key) all reads.0 reads.1
-  dict_held pairs says (At slot place) None s live reads = absurd reads
-  dict_held pairs says (Was slot place) read s live reads = absurd (live slot place refl)
-  dict_held pairs says (Free slot) (Some read) s live reads = absurd reads
-  dict_held pairs says (Free slot) None s live reads = missing_key says.used pairs key says.entries (s.finds way.Dict texts says.used says.table low refl)
-  dict_held pairs says Spent read s live reads = absurd (s.finds way.Dict texts says.used says.table low refl)
+      some read (said place read.0 read.1 (under d key) (right place (s.finds way texts used table low refl).0 here) reads.0 reads.1)
+  held_by way d used table right some none (At slot place) None s live reads = absurd reads
+  held_by way d used table right some none (Was slot place) read s live reads = absurd (live slot place refl)
+  held_by way d used table right some none (Free slot) (Some read) s live reads = absurd reads
+  held_by way d used table right some none (Free slot) None s live reads = none (s.finds way texts used table low refl)
+  held_by way d used table right some none Spent read s live reads = absurd (s.finds way texts used table low refl)
+
+  pub dict_held : (pairs : DictContent) → IsDictWords texts block words (Some c) fill pairs → (found : Found) (read : Option (ℕ × ℕ)) → Searched mask words key (walk_slots way.Dict (hash_of texts key) mask) left found → ((slot place : ℕ) → found ≢ Was slot place) → ReadsEntry mask words found read → IsHeldAt (content.Dict pairs) key read
+  dict_held pairs says =
+      held_by way.Dict (content.Dict pairs) says.used says.table
+      (λ place inside here. dict.dict_right first_pair texts block c fill is_class pairs ws says place key (let room = dict.room_is first_pair texts block c fill is_class pairs ws says in let few = says.table.fill in omega (arith, room, few, inside)) here)
+      (λ read is. is) (missing_key says.used pairs key says.entries)
 
   pub set_held : (elements : SetContent) → IsSetWords texts block words (Some c) fill elements → (found : Found) (read : Option (ℕ × ℕ)) → Searched mask words key (walk_slots way.Set (hash_of texts key) mask) left found → ((slot place : ℕ) → found ≢ Was slot place) → ReadsEntry mask words found read → IsHeldAt (content.Set elements) key read
-  set_held elements says (At slot place) (Some read) s live reads =
-      let finds = s.finds way.Set texts says.used says.table low refl in
-      let has = s.ends.4 in
-      let room = set.room_is first_element texts block c fill is_class elements ws says in
-      let few = says.table.fill in
-      let inside = finds.0 in
-      let here : HasLiveKey (slots c) ws place key = (sym (word_is place 2) ∙ has.0, sym (word_is place 3) ∙ has.1) in
-      let all = set.set_right first_element texts block c fill is_class elements ws says place key (omega (arith, room, few, inside)) here in
-      said place read.0 read.1 (under (content.Set elements) key) all reads.0 reads.1
-  set_held elements says (At slot place) None s live reads = absurd reads
-  set_held elements says (Was slot place) read s live reads = absurd (live slot place refl)
-  set_held elements says (Free slot) (Some read) s live reads = absurd reads
-  set_held elements says (Free slot) None s live reads = missing_element says.used elements key says.entries (s.finds way.Set texts says.used says.table low refl)
-  set_held elements says Spent read s live reads = absurd (s.finds way.Set texts says.used says.table low refl)
+  set_held elements says =
+      held_by way.Set (content.Set elements) says.used says.table
+      (λ place inside here. set.set_right first_element texts block c fill is_class elements ws says place key (let room = set.room_is first_element texts block c fill is_class elements ws says in let few = says.table.fill in omega (arith, room, few, inside)) here)
+      (λ read is. is) (missing_element says.used elements key says.entries)
 
 -- ---- by the way in which a container is searched
 

@@ -17,13 +17,12 @@ use Rattle.ft_hash.specs.Probes.{dict_slots}
 use Rattle.ft_hash.proofs.Walks.{dict_slots-within}
 use Rattle.ft_layout.specs.declared.slot.Stored.TheVariants.{Plain}
 use Rattle.ft_layout.specs.Words.{FitsKey, FitsStored, stored_kind, stored_payload}
-use Rattle.ft_layout.specs.Tables.{UsedEntry, dict_room, IsDictTable}
+use Rattle.ft_layout.specs.Tables.{dict_room}
 use Rattle.ft_layout.specs.Tables as layout
 use Rattle.ft_layout.specs.WordChanges.{with_stored}
 use Rattle.ft_layout.specs.Containers.{class_mask, used_pair, IsDictWords}
 use Rattle.ft_layout.proofs.ContentLaws.{stands_for_dict}
 use Rattle.ft_layout.proofs.Powers.{slots_range}
-use Rattle.ft_layout.proofs.WordLaws.{same_key}
 use Rattle.ft_trace.specs.declared.Shape.{Shape}
 use Rattle.ft_trace.specs.declared.View.{View}
 use Rattle.ft_trace.specs.Acts.{has_committed}
@@ -42,14 +41,13 @@ use Rattle.ft_trace.proofs.DictWrites as dict
 use Rattle.ft_trace.proofs.DictWrites.{EntryVersionsChangeNothing, WordsFollowAValue, LiveEntriesArePairs, FirstEntriesArePairs}
 use Rattle.ft_trace.proofs.EntryPuts.{ver3, value_open, value_kind, value_payload, value_clear, value_late, value_shut, value_time}
 use Rattle.ft_trace.proofs.Known.{after_header, class_known, table_is_long}
-use Rattle.ft_trace.proofs.Tellings.{live_tells, key_words}
 use Rattle.ft_bank.specs.declared.table.Table.{Table}
 use Rattle.ft_bank.specs.TableNames.{name_of}
 use Rattle.ft_bank.specs.Whole.{OnlyPut}
 use Rattle.ft_bank.specs.WriteSteps.{IsCareful, with_table}
 use Rattle.ft_bank.proofs.KnownAfterWrites.{put_then, work_knows}
 use Rattle.ft_search.specs.OneEntryWrites.{HasTable, IsLiveEntry, MayWriteEntries, raised_at, with_value_at}
-use Rattle.ft_search.proofs.Changing.{Changing, kind_is, put_at, shut_known}
+use Rattle.ft_search.proofs.Changing.{Changing, kind_is, live_item, put_at, shut_known, table_version_put}
 use Rattle.ft_search.proofs.Puts.{table_class}
 
 -- words that are put where they stand
@@ -124,17 +122,10 @@ module _ (laws : ValueLaws) (texts : List ℕ) (x : Picture) (tab : TableUse) (t
   mine : (pair : DictPair) × (slice_get says.used p ≡ Some (used_pair pair)) × (pair.key ≡ key)
   mine =
       let room : dict_room (class_mask c) ≡ m = dict.room_is laws.first texts b c fill is_class pairs ws says in
-      let tells = live_tells walk (dict_room (class_mask c)) texts c is_class says.used ws says.table p key (omega (arith, room, low)) live in
-      let l = laws.lives says.used pairs p tells.entry says.entries in_order tells.at tells.live in
-      let w = key_words tells.entry.key key tells.mine in
-      (l.0, tells.at ∙ ap (λ (z : UsedEntry). Some z) l.1, ap (λ (z : UsedEntry). z.key) (sym l.1) ∙ same_key tells.entry.key key tells.fits fits_key w.0 w.1)
+      live_item walk (dict_room (class_mask c)) texts c is_class says.used used_pair ws says.table p key (omega (arith, room, low)) live fits_key (λ entry at alive. let l = laws.lives says.used pairs p entry says.entries in_order at alive in (l.0, l.1))
 
   version_put : (l : List ℕ) (y : ℕ) (d : DictContent) → IsDictWords texts b (0 ∷ 0 ∷ l) (Some c) fill d → IsDictWords texts b (0 ∷ 0 ∷ slice_set l (entry_offset n p 0) y) (Some c) fill d
-  unfolding slots
-  version_put l y d is =
-      let r = (slots_range c is_class).0 in
-      let table : IsDictTable texts (class_mask c) is.used (0 ∷ 0 ∷ slice_set l (entry_offset n p 0) y) = subst (λ (z : List ℕ). IsDictTable texts (class_mask c) is.used z) (after_header l (layout.entry_at (class_mask c) p 0) (entry_offset n p 0) y (omega (arith, r))) (laws.versions walk (dict_room (class_mask c)) texts (class_mask c) is.used (0 ∷ 0 ∷ l) p y within is.table) in
-      record { head = is.head; used = is.used; table = table; filled = is.filled; entries = is.entries }
+  version_put l y d is = record { head = is.head; used = is.used; table = table_version_put walk (dict_room (class_mask c)) texts c is_class is.used laws.versions within l p y is.table; filled = is.filled; entries = is.entries }
 
   open_says : IsDictWords texts b (0 ∷ 0 ∷ opened) (Some c) fill pairs
   open_says = version_put ws (ver + 1) pairs says

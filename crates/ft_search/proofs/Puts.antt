@@ -3,6 +3,7 @@ use Rattle.std.proofs.Common.{◌≡◌, ℕ, suc, ◌*◌, ◌^◌, ◌<◌, �
 use Rattle.std.specs.Prelude.{slice_index}
 use Rattle.std.proofs.Math.Bridge.{le_prop}
 use Rattle.std.proofs.Math.Logic.{∥∥₁_elim}
+use Rattle.ft_model.specs.declared.content.Content.{Content}
 use Rattle.ft_model.specs.declared.script.Kind.{Kind}
 use Rattle.ft_model.specs.declared.script.Kind.TheVariants as kind
 use Rattle.ft_model.specs.Classes.{IsClass}
@@ -15,7 +16,8 @@ use Rattle.ft_trace.specs.Addresses.{containers_in, class_of, slots, places}
 use Rattle.ft_trace.specs.Acts.{has_lock, noted}
 use Rattle.ft_trace.specs.ContainerStates.{ContainerState, kind_in}
 use Rattle.ft_trace.specs.Pictures.{Picture, root_in, entry_offset, entry_field}
-use Rattle.ft_trace.specs.Kinds.{rows, version_at, CarefulAs, IsKeyed}
+use Rattle.ft_trace.specs.Kinds.{under, rows, version_at, CarefulAs, IsKeyed}
+use Rattle.ft_trace.specs.Carefuls.{Careful}
 use Rattle.ft_trace.specs.OddVersions.{Timely}
 use Rattle.ft_trace.specs.Holds.{held}
 use Rattle.ft_trace.specs.Traces.{Possible}
@@ -86,6 +88,11 @@ pub keyed_version : (kind : Kind) → IsKeyed kind → (c p : ℕ) → version_a
 keyed_version kind.Dict keyed c p = refl
 keyed_version kind.Set keyed c p = refl
 keyed_version kind.List keyed c p = absurd keyed
+
+pub keyed_careful : (kind : Kind) → IsKeyed kind → (c : ℕ) (ws : List ℕ) (d : Content) (i x : ℕ) → Careful (slots c) (rows kind c) ws (under d) i x → CarefulAs kind c ws d i x
+keyed_careful kind.Dict keyed c ws d i x care = care
+keyed_careful kind.Set keyed c ws d i x care = care
+keyed_careful kind.List keyed c ws d i x care = absurd keyed
 
 pub entry_room : (k : Shape) (o : ℕ) (table : Table) (v : View) → WritesEntries k o table v → v.shape ≡ k → ∥ Possible v ∥₁ → k.passes * k.calls < 2 ^ 46 → (place : ℕ) → place < rows (kind_in k.kinds o) (class_of (name_of table)) → entry_field (slots (class_of (name_of table))) (held o v).table place 0 < 2 ^ 63
 entry_room k o table v writes shape possible few place low =

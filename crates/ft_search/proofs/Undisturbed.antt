@@ -1,10 +1,7 @@
 -- While a pass has the floor, what it loads without the lock stays as it is.
-use Rattle.std.proofs.Common.{◌≡◌, ◌≢◌, ◌<◌, ◌%◌, ◌*◌, ◌+◌, ℕ, suc, true, false, List, [], ◌∷◌, ◌++◌, refl, sym, ap, ◌∙◌, subst, arith, ⊎_elim, append_assoc}
+use Rattle.std.proofs.Common.{◌≡◌, ◌≢◌, ◌<◌, ◌%◌, ℕ, suc, List, [], ◌∷◌, ◌++◌, refl, sym, ap, ◌∙◌, subst, ⊎_elim, append_assoc}
 use Rattle.std.specs.Prelude.{◌⊎◌, slice_index}
-use lib.ListN.{get_elem?}
 use lib.Seq.{set-get_or}
-use mathlib.Core.Option.{some}
-use Rattle.ft_model.specs.declared.data.Key.{Key}
 use Rattle.ft_model.specs.declared.script.Kind.{Kind}
 use Rattle.ft_model.specs.declared.script.Kind.TheVariants as kind
 use Rattle.ft_trace.specs.declared.Act.{Act}
@@ -12,12 +9,12 @@ use Rattle.ft_trace.specs.declared.Act.TheVariants.{ReadBlock, ReadRoot, ReadTab
 use Rattle.ft_trace.specs.declared.Shape.{Shape}
 use Rattle.ft_trace.specs.declared.View.{View}
 use Rattle.ft_trace.specs.Addresses.{at, block, cell, class_of, containers_in, counter, slots, version_of, IsTableName}
-use Rattle.ft_trace.specs.Acts.{floor_words, is_writing, place, Reports}
+use Rattle.ft_trace.specs.Acts.{floor_words, place, Reports}
 use Rattle.ft_trace.specs.Floors.{FoundAsKnown}
 use Rattle.ft_trace.specs.Kinds.{IsKeyed, rows, version_at}
 use Rattle.ft_trace.specs.LoggedReads.{Among}
-use Rattle.ft_trace.specs.Traces.{Event, Possible, Valid, run, word}
-use Rattle.ft_trace.specs.Pictures.{entry_offset, table_words}
+use Rattle.ft_trace.specs.Traces.{Event, Possible, run, word}
+use Rattle.ft_trace.specs.Pictures.{entry_offset}
 use Rattle.ft_trace.specs.ContainerStates.{kind_in}
 use Rattle.ft_trace.proofs.ByKind.{row_low}
 use Rattle.ft_trace.proofs.Evens.{quiet_shut}
@@ -26,8 +23,7 @@ use Rattle.ft_trace.proofs.Pieces.{table_at}
 use Rattle.ft_trace.proofs.TablePlaces.{root_table}
 use Rattle.ft_trace.proofs.Quiet.{versions_even}
 use Rattle.ft_search.specs.Floors.{FloorEntriesStand, FloorVersionsStand, LooksWithFloor}
-use Rattle.ft_search.specs.Lengths.{StopsAtVersion}
-use Rattle.ft_search.specs.KeyLooks.{AreLooks, Stops, StopsAtContainer, StopsAtEntry}
+use Rattle.ft_search.specs.KeyLooks.{AreLooks, StopsAtContainer, StopsAtEntry}
 
 -- ---- loads in a row
 

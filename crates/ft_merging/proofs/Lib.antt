@@ -3,6 +3,7 @@ pub mod Thinned
 pub mod ThinningEnds
 pub mod Parted
 pub mod PartedHere
+pub mod Merged
 pub mod JoinedContents
 pub mod JoinedReads
 pub mod JoinedPairs

@@ -1,4 +1,5 @@
 pub mod Thinning
 pub mod Joining
+pub mod Merging
 pub mod Parting
 pub mod Internal

@@ -19,10 +19,11 @@ ghost use Rattle.ft_growth.specs.Adding.{IsAdded};
 ghost use Rattle.ft_search.specs.Rounds.{kind_by};
 ghost use Rattle.ft_search.specs.OneEntryWrites.{MayWriteEntries};
 ghost use Rattle.ft_adding.specs.KeyGrowth.{KnowsKeyed, MayAddKey, MayGrowKeyed};
-ghost use Rattle.ft_adding.specs.Placing.{AreCounts};
-ghost use Rattle.ft_merging.specs.Joining.{JoinsBy, JoinsKeys, join_takes, joined, new_keys};
+ghost use Rattle.ft_merging.specs.Joining.{JoinsBy, JoinsKeys, join_takes, joined};
+ghost use Rattle.ft_merging.specs.Merging.{MayMerge};
 
 use crate::counting::count_new;
+use crate::merging::Merge;
 use crate::putting::join_table;
 use crate::reading::own_table;
 use ft_adding::{Counts, begin_in, class_wanted, fill, most_keys, put_counts, read_counts};
@@ -35,33 +36,22 @@ use ft_qsbr::take;
 use ft_search::{write_nothing, written};
 use ft_section::Object;
 
-/// Puts the keys of another container into one whose table has room for those that are new, as many as this.
+/// Puts the keys of another container into one whose table has room for those that are new.
 fn join_here(
     bank: &Bank,
     pass: &mut Pass,
-    o: Object,
     way: Way,
     own: Table,
-    t: Object,
-    table: Table,
-    others: u64,
-    counts: Counts,
-    more: u64,
+    merge: &Merge,
     called: &Call,
 ) -> Added
     requires pass { IsPassOf bank.now pass.old }
-    requires two { o ≢ t }
-    requires may { MayAddKey (shape_of bank.now) o (Some own) (view pass.old) }
-    requires other { KnowsKeyed (shape_of bank.now) t (Some table) (view pass.old) }
-    requires way { kind_in (shape_of bank.now).kinds o ≡ kind_by way }
-    requires other_way { kind_in (shape_of bank.now).kinds t ≡ kind_by way }
-    requires others { others ≡ (known t (view pass.old)).table.fill }
-    requires counts { AreCounts (held o (view pass.old)).block counts }
-    requires more { more ≡ new_keys (known o (view pass.old)).content (known t (view pass.old)).content }
-    requires few { passes_cap (joined (known o (view pass.old)).content (known t (view pass.old)).content) ≡ false }
-    requires serials { serial_of (known o (view pass.old)).content + 65536 < 2 ^ 63 }
-    requires joins { JoinsKeys o t called.now (view pass.old) }
-    requires room { join_takes (known o (view pass.old)) (known t (view pass.old)).content ≡ None }
+    requires merge { MayMerge (shape_of bank.now) (kind_by way) merge.now (view pass.old) }
+    requires may { MayAddKey (shape_of bank.now) merge.now.o (Some own) (view pass.old) }
+    requires few { passes_cap
+        (joined (known merge.now.o (view pass.old)).content (known merge.now.t (view pass.old)).content) ≡ false }
+    requires joins { JoinsKeys merge.now.o merge.now.t called.now (view pass.old) }
+    requires room { join_takes (known merge.now.o (view pass.old)) (known merge.now.t (view pass.old)).content ≡ None }
     ensures pass { IsPassOf bank.now pass.new }
     ensures stack { stack_of pass.new ≡ stack_of pass.old }
     ensures added { IsAdded (shape_of bank.now) None false called.now reply.Done (view pass.old) (view pass.new) result }
@@ -69,10 +59,20 @@ fn join_here(
     used_entries_follow_a_dict();
     used_entries_follow_a_set();
     words_are_of_one_content();
-    bank.start_write(pass, o);
-    let end = counts.fill + more;
+    bank.start_write(pass, merge.o);
+    let end = merge.counts.fill + merge.more;
     let number = join_table(
-        bank, pass, o, way, own, t, table, others, end, counts, called,
+        bank,
+        pass,
+        merge.o,
+        way,
+        own,
+        merge.t,
+        merge.table,
+        merge.others,
+        end,
+        merge.counts,
+        called,
     );
     Added::Made(written(number))
 }
@@ -81,50 +81,60 @@ fn join_here(
 fn join_in_new(
     bank: &Bank,
     pass: &mut Pass,
-    o: Object,
     way: Way,
     old: Option<Table>,
     new: Table,
-    t: Object,
-    table: Table,
-    others: u64,
-    counts: Counts,
-    more: u64,
+    merge: &Merge,
     called: &Call,
 ) -> u64
     requires pass { IsPassOf bank.now pass.old }
-    requires two { o ≢ t }
-    requires may { MayGrowKeyed (shape_of bank.now) o old new (view pass.old) }
-    requires apart { root_in (held o (view pass.old)) ≢ suc (name_of new) }
-    requires other { KnowsKeyed (shape_of bank.now) t (Some table) (view pass.old) }
-    requires way { kind_in (shape_of bank.now).kinds o ≡ kind_by way }
-    requires other_way { kind_in (shape_of bank.now).kinds t ≡ kind_by way }
-    requires others { others ≡ (known t (view pass.old)).table.fill }
-    requires counts { AreCounts (held o (view pass.old)).block counts }
-    requires more { more ≡ new_keys (known o (view pass.old)).content (known t (view pass.old)).content }
-    requires few { passes_cap (joined (known o (view pass.old)).content (known t (view pass.old)).content) ≡ false }
-    requires serials { serial_of (known o (view pass.old)).content + 65536 < 2 ^ 63 }
-    requires joins { JoinsKeys o t called.now (view pass.old) }
-    requires takes { join_takes (known o (view pass.old)) (known t (view pass.old)).content
+    requires merge { MayMerge (shape_of bank.now) (kind_by way) merge.now (view pass.old) }
+    requires may { MayGrowKeyed (shape_of bank.now) merge.now.o old new (view pass.old) }
+    requires apart { root_in (held merge.now.o (view pass.old)) ≢ suc (name_of new) }
+    requires few { passes_cap
+        (joined (known merge.now.o (view pass.old)).content (known merge.now.t (view pass.old)).content) ≡ false }
+    requires joins { JoinsKeys merge.now.o merge.now.t called.now (view pass.old) }
+    requires takes { join_takes (known merge.now.o (view pass.old)) (known merge.now.t (view pass.old)).content
         ≡ Some (class_of (name_of new)) }
     ensures pass { IsPassOf bank.now pass.new }
     ensures stack { stack_of pass.new ≡ stack_of pass.old }
     ensures wrote { Wrote called.now reply.Done result (view pass.old) (view pass.new) }
-    ensures root { root_in (held o (view pass.new)) ≡ suc (name_of new) }
+    ensures root { root_in (held merge.now.o (view pass.new)) ≡ suc (name_of new) }
 {
     used_entries_follow_a_dict();
     used_entries_follow_a_set();
     words_are_of_one_content();
-    fill(bank, pass, o, way, old, new, counts.fill);
-    begin_in(bank, pass, o, old, new);
-    put_counts(bank, pass, o, new, counts.count, counts.count, counts.next);
+    let counts = merge.counts;
+    fill(bank, pass, merge.o, way, old, new, counts.fill);
+    begin_in(bank, pass, merge.o, old, new);
+    put_counts(
+        bank,
+        pass,
+        merge.o,
+        new,
+        counts.count,
+        counts.count,
+        counts.next,
+    );
     let all = Counts {
         count: counts.count,
         fill: counts.count,
         next: counts.next,
     };
-    let end = counts.count + more;
-    join_table(bank, pass, o, way, new, t, table, others, end, all, called)
+    let end = counts.count + merge.more;
+    join_table(
+        bank,
+        pass,
+        merge.o,
+        way,
+        new,
+        merge.t,
+        merge.table,
+        merge.others,
+        end,
+        all,
+        called,
+    )
 }
 
 /// Takes a table of a class for a container and puts the keys of another one there too; the table that it had is
@@ -132,31 +142,21 @@ fn join_in_new(
 fn join_in_taken(
     bank: &Bank,
     pass: &mut Pass,
-    o: Object,
     way: Way,
     old: Option<Table>,
     class: u32,
-    t: Object,
-    table: Table,
-    others: u64,
-    counts: Counts,
-    more: u64,
+    merge: &Merge,
     called: &Call,
 ) -> Added
     requires pass { IsPassOf bank.now pass.old }
-    requires two { o ≢ t }
-    requires may { MayAddKey (shape_of bank.now) o old (view pass.old) }
-    requires other { KnowsKeyed (shape_of bank.now) t (Some table) (view pass.old) }
-    requires way { kind_in (shape_of bank.now).kinds o ≡ kind_by way }
-    requires other_way { kind_in (shape_of bank.now).kinds t ≡ kind_by way }
-    requires others { others ≡ (known t (view pass.old)).table.fill }
-    requires counts { AreCounts (held o (view pass.old)).block counts }
-    requires more { more ≡ new_keys (known o (view pass.old)).content (known t (view pass.old)).content }
-    requires few { passes_cap (joined (known o (view pass.old)).content (known t (view pass.old)).content) ≡ false }
-    requires serials { serial_of (known o (view pass.old)).content + 65536 < 2 ^ 63 }
-    requires joins { JoinsKeys o t called.now (view pass.old) }
+    requires merge { MayMerge (shape_of bank.now) (kind_by way) merge.now (view pass.old) }
+    requires may { MayAddKey (shape_of bank.now) merge.now.o old (view pass.old) }
+    requires few { passes_cap
+        (joined (known merge.now.o (view pass.old)).content (known merge.now.t (view pass.old)).content) ≡ false }
+    requires joins { JoinsKeys merge.now.o merge.now.t called.now (view pass.old) }
     requires class { IsClass class }
-    requires takes { join_takes (known o (view pass.old)) (known t (view pass.old)).content ≡ Some class }
+    requires takes { join_takes (known merge.now.o (view pass.old)) (known merge.now.t (view pass.old)).content
+        ≡ Some class }
     ensures pass { IsPassOf bank.now pass.new }
     ensures stack { stack_of pass.new ≡ stack_of pass.old }
     ensures added { IsAdded (shape_of bank.now) (Some class) false called.now reply.Done (view pass.old) (view pass.new)
@@ -164,9 +164,7 @@ fn join_in_taken(
 {
     match take(bank, pass, class) {
         Took::Taken(new) => {
-            let number = join_in_new(
-                bank, pass, o, way, old, new, t, table, others, counts, more, called,
-            );
+            let number = join_in_new(bank, pass, way, old, new, merge, called);
             retire_old(bank, pass, old);
             Added::Made(written(number))
         }
@@ -179,29 +177,18 @@ fn join_in_taken(
 fn join_in_old(
     bank: &Bank,
     pass: &mut Pass,
-    o: Object,
     way: Way,
     old: Option<Table>,
-    t: Object,
-    table: Table,
-    others: u64,
-    counts: Counts,
-    more: u64,
+    merge: &Merge,
     called: &Call,
 ) -> Added
     requires pass { IsPassOf bank.now pass.old }
-    requires two { o ≢ t }
-    requires may { MayAddKey (shape_of bank.now) o old (view pass.old) }
-    requires other { KnowsKeyed (shape_of bank.now) t (Some table) (view pass.old) }
-    requires way { kind_in (shape_of bank.now).kinds o ≡ kind_by way }
-    requires other_way { kind_in (shape_of bank.now).kinds t ≡ kind_by way }
-    requires others { others ≡ (known t (view pass.old)).table.fill }
-    requires counts { AreCounts (held o (view pass.old)).block counts }
-    requires more { more ≡ new_keys (known o (view pass.old)).content (known t (view pass.old)).content }
-    requires few { passes_cap (joined (known o (view pass.old)).content (known t (view pass.old)).content) ≡ false }
-    requires serials { serial_of (known o (view pass.old)).content + 65536 < 2 ^ 63 }
-    requires joins { JoinsKeys o t called.now (view pass.old) }
-    requires room { join_takes (known o (view pass.old)) (known t (view pass.old)).content ≡ None }
+    requires merge { MayMerge (shape_of bank.now) (kind_by way) merge.now (view pass.old) }
+    requires may { MayAddKey (shape_of bank.now) merge.now.o old (view pass.old) }
+    requires few { passes_cap
+        (joined (known merge.now.o (view pass.old)).content (known merge.now.t (view pass.old)).content) ≡ false }
+    requires joins { JoinsKeys merge.now.o merge.now.t called.now (view pass.old) }
+    requires room { join_takes (known merge.now.o (view pass.old)) (known merge.now.t (view pass.old)).content ≡ None }
     ensures pass { IsPassOf bank.now pass.new }
     ensures stack { stack_of pass.new ≡ stack_of pass.old }
     ensures added { IsAdded (shape_of bank.now) None false called.now reply.Done (view pass.old) (view pass.new) result }
@@ -210,58 +197,41 @@ fn join_in_old(
     used_entries_follow_a_set();
     words_are_of_one_content();
     match old {
-        Some(own) => join_here(
-            bank, pass, o, way, own, t, table, others, counts, more, called,
-        ),
-        None => Added::Made(written(write_nothing(bank, pass, o, called, &Reply::Done))),
+        Some(own) => join_here(bank, pass, way, own, merge, called),
+        None => Added::Made(written(write_nothing(bank, pass, merge.o, called, &Reply::Done))),
     }
 }
 
-/// Puts the keys of another container into one that has this table or none, where that many are new.
+/// Puts the keys of another container into one that has this table or none.
 fn join_more(
     bank: &Bank,
     pass: &mut Pass,
-    o: Object,
     way: Way,
     old: Option<Table>,
-    t: Object,
-    table: Table,
-    others: u64,
-    counts: Counts,
-    more: u64,
+    merge: &Merge,
     called: &Call,
 ) -> Added
     requires pass { IsPassOf bank.now pass.old }
-    requires two { o ≢ t }
-    requires may { MayAddKey (shape_of bank.now) o old (view pass.old) }
-    requires other { KnowsKeyed (shape_of bank.now) t (Some table) (view pass.old) }
-    requires way { kind_in (shape_of bank.now).kinds o ≡ kind_by way }
-    requires other_way { kind_in (shape_of bank.now).kinds t ≡ kind_by way }
-    requires others { others ≡ (known t (view pass.old)).table.fill }
-    requires counts { AreCounts (held o (view pass.old)).block counts }
-    requires more { more ≡ new_keys (known o (view pass.old)).content (known t (view pass.old)).content }
-    requires few { counts.count + more < 2 ^ 63 }
-    requires serials { serial_of (known o (view pass.old)).content + 65536 < 2 ^ 63 }
-    requires joins { JoinsKeys o t called.now (view pass.old) }
+    requires merge { MayMerge (shape_of bank.now) (kind_by way) merge.now (view pass.old) }
+    requires may { MayAddKey (shape_of bank.now) merge.now.o old (view pass.old) }
+    requires few { merge.now.counts.count + merge.now.more < 2 ^ 63 }
+    requires joins { JoinsKeys merge.now.o merge.now.t called.now (view pass.old) }
     ensures pass { IsPassOf bank.now pass.new }
     ensures stack { stack_of pass.new ≡ stack_of pass.old }
-    ensures added { IsAdded (shape_of bank.now) (join_takes (known o (view pass.old)) (known t (view pass.old)).content)
-        (passes_cap (joined (known o (view pass.old)).content (known t (view pass.old)).content)) called.now reply.Done
-        (view pass.old) (view pass.new) result }
+    ensures added { IsAdded (shape_of bank.now)
+        (join_takes (known merge.now.o (view pass.old)) (known merge.now.t (view pass.old)).content)
+        (passes_cap (joined (known merge.now.o (view pass.old)).content (known merge.now.t (view pass.old)).content))
+        called.now reply.Done (view pass.old) (view pass.new) result }
 {
     used_entries_follow_a_dict();
     used_entries_follow_a_set();
     words_are_of_one_content();
-    if counts.count + more > most_keys(way) {
+    if merge.counts.count + merge.more > most_keys(way) {
         return Added::Over(answer_over(bank, pass, called));
     }
-    match class_wanted(way, old, counts, more) {
-        Some(class) => join_in_taken(
-            bank, pass, o, way, old, class, t, table, others, counts, more, called,
-        ),
-        None => join_in_old(
-            bank, pass, o, way, old, t, table, others, counts, more, called,
-        ),
+    match class_wanted(way, old, merge.counts, merge.more) {
+        Some(class) => join_in_taken(bank, pass, way, old, class, merge, called),
+        None => join_in_old(bank, pass, way, old, merge, called),
     }
 }
 
@@ -296,19 +266,15 @@ fn join_from(
     let counts = read_counts(bank, pass, o);
     let more = count_new(bank, pass, o, way, t, table, others.fill);
     let old = own_table(bank, pass, o);
-    join_more(
-        bank,
-        pass,
+    let merge = Merge {
         o,
-        way,
-        old,
         t,
         table,
-        others.fill,
+        others: others.fill,
         counts,
         more,
-        called,
-    )
+    };
+    join_more(bank, pass, way, old, &merge, called)
 }
 
 /// Makes a call that joins no new keys, as a write that changes nothing.

@@ -8,12 +8,14 @@
 mod closing;
 mod counting;
 mod joining;
+mod merging;
 mod parting;
 mod putting;
 mod reading;
 mod thinning;
 
 pub use crate::joining::join_by;
+pub use crate::merging::Merge;
 pub use crate::parting::{count_lacking, part_here};
 pub use crate::reading::{key_at, own_table, word_of};
 pub use crate::thinning::thin_by;

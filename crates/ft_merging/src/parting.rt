@@ -5,7 +5,6 @@ ghost use Rattle.ft_model.specs.declared.content.Content.TheVariants as content;
 ghost use Rattle.ft_model.specs.declared.reply.Reply.TheVariants as reply;
 ghost use Rattle.ft_model.specs.declared.script.Kind.TheVariants as kind;
 ghost use Rattle.ft_model.specs.TableUses.{passes_cap};
-ghost use Rattle.ft_model.specs.Worlds.{serial_of};
 ghost use Rattle.ft_trace.specs.Holds.{held, known};
 ghost use Rattle.ft_trace.specs.Pictures.{root_in};
 ghost use Rattle.ft_trace.specs.ContainerStates.{kind_in};
@@ -14,15 +13,15 @@ ghost use Rattle.ft_bank.specs.PassSections.{stack_of};
 ghost use Rattle.ft_bank.specs.Whole.{OnlyLoaded, Wrote};
 ghost use Rattle.ft_search.specs.OneEntryWrites.{MayWriteEntries};
 ghost use Rattle.ft_adding.specs.KeyGrowth.{KnowsKeyed, MayAddKey};
-ghost use Rattle.ft_adding.specs.Placing.{AreCounts};
 ghost use Rattle.ft_merging.specs.Joining.{new_keys};
+ghost use Rattle.ft_merging.specs.Merging.{MayMerge};
 ghost use Rattle.ft_merging.specs.Parting.{PartsSets, part_takes, parted};
 
 use crate::closing::finish_entries;
 use crate::counting::count_new;
+use crate::merging::Merge;
 use crate::putting::join_all;
 use crate::thinning::thin_all;
-use ft_adding::Counts;
 use ft_bank::{Bank, Pass, Table};
 use ft_keys::Way;
 use ft_layout::{used_entries_follow_a_dict, used_entries_follow_a_set, words_are_of_one_content};
@@ -55,46 +54,38 @@ pub fn count_lacking(
     count_new(bank, pass, s, Way::Set, t, table, fill)
 }
 
-/// Parts two sets in the table that the first one has, which has room for its new elements, as many as this: as the
-/// write of the call. Answers its number. The version of each entry that is put or whose key goes is odd while it is
-/// written, and no other.
-pub fn part_here(
-    bank: &Bank,
-    pass: &mut Pass,
-    s: Object,
-    own: Table,
-    t: Object,
-    table: Table,
-    others: u64,
-    counts: Counts,
-    more: u64,
-    called: &Call,
-) -> u64
+/// Parts two sets in the table that the first one has, which has room for its new elements: as the write of the call.
+/// Answers its number. The version of each entry that is put or whose key goes is odd while it is written, and no other.
+pub fn part_here(bank: &Bank, pass: &mut Pass, own: Table, merge: &Merge, called: &Call) -> u64
     requires pass { IsPassOf bank.now pass.old }
-    requires two { s ≢ t }
-    requires may { MayAddKey (shape_of bank.now) s (Some own) (view pass.old) }
-    requires other { KnowsKeyed (shape_of bank.now) t (Some table) (view pass.old) }
-    requires set { kind_in (shape_of bank.now).kinds s ≡ kind.Set }
-    requires other_set { kind_in (shape_of bank.now).kinds t ≡ kind.Set }
-    requires others { others ≡ (known t (view pass.old)).table.fill }
-    requires counts { AreCounts (held s (view pass.old)).block counts }
-    requires more { more ≡ new_keys (known s (view pass.old)).content (known t (view pass.old)).content }
-    requires few { passes_cap (content.Set (parted (known s (view pass.old)).content (known t (view pass.old)).content))
-        ≡ false }
-    requires serials { serial_of (known s (view pass.old)).content + 65536 < 2 ^ 63 }
-    requires parts { PartsSets s t called.now (view pass.old) }
-    requires room { part_takes (known s (view pass.old)) (known t (view pass.old)).content ≡ None }
+    requires merge { MayMerge (shape_of bank.now) kind.Set merge.now (view pass.old) }
+    requires may { MayAddKey (shape_of bank.now) merge.now.o (Some own) (view pass.old) }
+    requires few { passes_cap (content.Set
+        (parted (known merge.now.o (view pass.old)).content (known merge.now.t (view pass.old)).content)) ≡ false }
+    requires parts { PartsSets merge.now.o merge.now.t called.now (view pass.old) }
+    requires room { part_takes (known merge.now.o (view pass.old)) (known merge.now.t (view pass.old)).content ≡ None }
     ensures pass { IsPassOf bank.now pass.new }
     ensures stack { stack_of pass.new ≡ stack_of pass.old }
     ensures wrote { Wrote called.now reply.Done result (view pass.old) (view pass.new) }
-    ensures root { root_in (held s (view pass.new)) ≡ root_in (held s (view pass.old)) }
+    ensures root { root_in (held merge.now.o (view pass.new)) ≡ root_in (held merge.now.o (view pass.old)) }
 {
     used_entries_follow_a_dict();
     used_entries_follow_a_set();
     words_are_of_one_content();
-    bank.start_write(pass, s);
-    let end = counts.fill + more;
-    join_all(bank, pass, s, Way::Set, own, t, table, others, end, counts);
-    thin_all(bank, pass, s, own, t, false, counts.fill);
-    finish_entries(bank, pass, s, own, end, called, &Reply::Done)
+    bank.start_write(pass, merge.o);
+    let end = merge.counts.fill + merge.more;
+    join_all(
+        bank,
+        pass,
+        merge.o,
+        Way::Set,
+        own,
+        merge.t,
+        merge.table,
+        merge.others,
+        end,
+        merge.counts,
+    );
+    thin_all(bank, pass, merge.o, own, merge.t, false, merge.counts.fill);
+    finish_entries(bank, pass, merge.o, own, end, called, &Reply::Done)
 }

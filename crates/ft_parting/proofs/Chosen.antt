@@ -1,8 +1,6 @@
 -- Elements of a set, as the words of its table say them: which keys it has, and what an entry is.
-use Rattle.std.proofs.Common.{◌≡◌, ◌≢◌, ℕ, zero, suc, ◌+◌, ◌<◌, ◌≤◌, Bool, true, false, true≢false, cond, List, [], ◌∷◌, map, length, Option, Some, None, refl, sym, ap, ◌∙◌, subst, inl, inr, arith}
+use Rattle.std.proofs.Common.{◌≡◌, ◌≢◌, ℕ, zero, suc, ◌<◌, Bool, true, false, true≢false, cond, List, [], ◌∷◌, map, length, Option, Some, None, refl, sym, ap, ◌∙◌, subst, arith}
 use Rattle.std.specs.Prelude.{◌&&◌, ◌||◌, All, IsTrue, filter, is_some, not, slice_index_or, if◌then◌else◌}
-use Rattle.std.specs.List.{list_any}
-use Rattle.std.proofs.lemmas.Bool.{cases_lt}
 use Rattle.ft_model.specs.declared.content.Content.{Content}
 use Rattle.ft_model.specs.declared.content.Content.TheVariants as content
 use Rattle.ft_model.specs.declared.content.Element.{Element}
@@ -17,7 +15,7 @@ use Rattle.ft_layout.specs.declared.slot.Slot.TheVariants.{Never}
 use Rattle.ft_layout.specs.declared.slot.Stored.{Stored}
 use Rattle.ft_layout.specs.declared.slot.Stored.TheVariants.{Empty}
 use Rattle.ft_layout.specs.Containers.{class_mask, used_element, IsSetWords}
-use Rattle.ft_layout.specs.Tables.{UsedEntry, is_live, hash_of, slot_with, entry_word, set_room, IsSetTable}
+use Rattle.ft_layout.specs.Tables.{UsedEntry, is_live, hash_of, slot_with, entry_word, IsSetTable}
 use Rattle.ft_layout.specs.Words.{IsEntry, IsKey, key_kind, gone_kind}
 use Rattle.ft_layout.proofs.ContentLaws.{stands_for_set}
 use Rattle.ft_trace.specs.declared.Shape.{Shape}
@@ -34,7 +32,7 @@ use Rattle.ft_adding.specs.KeyGrowth.{KnowsKeyed}
 use Rattle.ft_adding.proofs.Placed.{none_used}
 use Rattle.ft_merging.proofs.ThinningEnds.{is_set}
 use Rattle.ft_merging.proofs.JoinedSame.{known_bare, no_length}
-use Rattle.ft_parting.specs.Choosing.{apart_pair, is_apart}
+use Rattle.ft_parting.specs.Choosing.{apart_pair}
 
 -- ---- a set
 

@@ -1,7 +1,7 @@
 -- Calls that part two sets: how many elements stay and how many are new, what a call leaves where none is new, and the
 -- calls later than they were asked for.
-use Rattle.std.proofs.Common.{◌≡◌, ℕ, suc, ◌+◌, ◌-◌, ◌<◌, ◌≤◌, Bool, true, false, true≢false, List, [], ◌∷◌, ◌++◌, length, filter, Option, Some, None, refl, sym, ap, ◌∙◌, subst, arith, le-ltb, lt-ltb, ltb-false}
-use Rattle.std.specs.Prelude.{◌&&◌, is_some, nat_lt, not, if◌then◌else◌}
+use Rattle.std.proofs.Common.{◌≡◌, ℕ, ◌+◌, ◌-◌, ◌≤◌, Bool, true, false, true≢false, List, [], ◌++◌, length, Option, Some, None, refl, sym, ap, ◌∙◌, subst, arith, le-ltb, ltb-false}
+use Rattle.std.specs.Prelude.{is_some, not, if◌then◌else◌}
 use Rattle.std.specs.Option.{unwrap_or}
 use Rattle.std.proofs.lemmas.List.{append-nil, length-append}
 use Rattle.ft_model.specs.declared.call.Call.{Call}
@@ -12,7 +12,7 @@ use Rattle.ft_model.specs.declared.reply.Reply.TheVariants as reply
 use Rattle.ft_model.specs.declared.script.Kind.TheVariants as kind
 use Rattle.ft_model.specs.Classes.{most_elements, set_class, set_entries}
 use Rattle.ft_model.specs.Contents.{SetContent, elements_from, has_element, set_xor, those_not_in}
-use Rattle.ft_model.specs.TableUses.{StoredWorld, TableUse, grown_table, outgrows_set, passes_cap}
+use Rattle.ft_model.specs.TableUses.{StoredWorld, grown_table, outgrows_set, passes_cap}
 use Rattle.ft_model.specs.Worlds.{serial_of, set_of}
 use Rattle.ft_model.proofs.ClassRooms.{set_fits}
 use Rattle.ft_model.proofs.KnownKeys.{length-filter-le}

@@ -9,7 +9,7 @@ ghost use Rattle.ft_model.specs.Contents.{those_not_in};
 ghost use Rattle.ft_model.specs.TableUses.{passes_cap};
 ghost use Rattle.ft_model.specs.Worlds.{serial_of, set_of};
 ghost use Rattle.ft_trace.specs.Acts.{flight, used};
-ghost use Rattle.ft_trace.specs.Holds.{held, known};
+ghost use Rattle.ft_trace.specs.Holds.{known};
 ghost use Rattle.ft_trace.specs.ContainerStates.{kind_in};
 ghost use Rattle.ft_bank.specs.Passes.{shape_of, view, IsPassOf};
 ghost use Rattle.ft_bank.specs.PassSections.{stack_of};
@@ -17,8 +17,8 @@ ghost use Rattle.ft_bank.specs.Whole.{OnlyLoaded};
 ghost use Rattle.ft_growth.specs.Adding.{IsAdded};
 ghost use Rattle.ft_search.specs.OneEntryWrites.{MayWriteEntries};
 ghost use Rattle.ft_adding.specs.KeyGrowth.{KnowsKeyed, MayAddKey};
-ghost use Rattle.ft_adding.specs.Placing.{AreCounts};
 ghost use Rattle.ft_merging.specs.Joining.{new_keys};
+ghost use Rattle.ft_merging.specs.Merging.{MayMerge};
 ghost use Rattle.ft_merging.specs.Parting.{PartsBy, PartsSets, part_takes, parted};
 
 use crate::choosing::fill_parted;
@@ -27,7 +27,7 @@ use ft_bank::{Bank, Pass, Table, Took};
 use ft_growth::{Added, answer_no_table, answer_over, retire_old};
 use ft_keys::Way;
 use ft_layout::{used_entries_follow_a_dict, used_entries_follow_a_set, words_are_of_one_content};
-use ft_merging::{count_lacking, own_table, part_here, thin_by};
+use ft_merging::{Merge, count_lacking, own_table, part_here, thin_by};
 use ft_model::Call;
 use ft_qsbr::take;
 use ft_replacing::swap_table;
@@ -87,32 +87,23 @@ fn part_thin(bank: &Bank, pass: &mut Pass, s: Object, t: Object, called: &Call) 
 fn part_in_taken(
     bank: &Bank,
     pass: &mut Pass,
-    s: Object,
     old: Option<Table>,
     class: u32,
-    t: Object,
-    table: Table,
-    others: u64,
-    counts: Counts,
+    merge: &Merge,
     count: u64,
-    more: u64,
     called: &Call,
 ) -> Added
     requires pass { IsPassOf bank.now pass.old }
-    requires may { MayAddKey (shape_of bank.now) s old (view pass.old) }
-    requires other { KnowsKeyed (shape_of bank.now) t (Some table) (view pass.old) }
-    requires set { kind_in (shape_of bank.now).kinds s ≡ kind.Set }
-    requires other_set { kind_in (shape_of bank.now).kinds t ≡ kind.Set }
-    requires others { others ≡ (known t (view pass.old)).table.fill }
-    requires counts { AreCounts (held s (view pass.old)).block counts }
-    requires count { count ≡ length (parted (known s (view pass.old)).content (known t (view pass.old)).content).elements }
-    requires more { more ≡ new_keys (known s (view pass.old)).content (known t (view pass.old)).content }
-    requires few { passes_cap (content.Set (parted (known s (view pass.old)).content (known t (view pass.old)).content))
-        ≡ false }
-    requires serials { serial_of (known s (view pass.old)).content + 65536 < 2 ^ 63 }
-    requires parts { PartsSets s t called.now (view pass.old) }
+    requires merge { MayMerge (shape_of bank.now) kind.Set merge.now (view pass.old) }
+    requires may { MayAddKey (shape_of bank.now) merge.now.o old (view pass.old) }
+    requires count { count ≡ length
+        (parted (known merge.now.o (view pass.old)).content (known merge.now.t (view pass.old)).content).elements }
+    requires few { passes_cap (content.Set
+        (parted (known merge.now.o (view pass.old)).content (known merge.now.t (view pass.old)).content)) ≡ false }
+    requires parts { PartsSets merge.now.o merge.now.t called.now (view pass.old) }
     requires class { IsClass class }
-    requires takes { part_takes (known s (view pass.old)) (known t (view pass.old)).content ≡ Some class }
+    requires takes { part_takes (known merge.now.o (view pass.old)) (known merge.now.t (view pass.old)).content
+        ≡ Some class }
     ensures pass { IsPassOf bank.now pass.new }
     ensures stack { stack_of pass.new ≡ stack_of pass.old }
     ensures added { IsAdded (shape_of bank.now) (Some class) false called.now reply.Done (view pass.old) (view pass.new)
@@ -121,9 +112,20 @@ fn part_in_taken(
     words_are_of_one_content();
     match take(bank, pass, class) {
         Took::Taken(new) => {
-            fill_parted(bank, pass, s, old, counts, t, table, others, new);
-            let next = counts.next + more;
-            let number = swap_table(bank, pass, s, old, new, count, next, called);
+            let counts = merge.counts;
+            fill_parted(
+                bank,
+                pass,
+                merge.o,
+                old,
+                counts,
+                merge.t,
+                merge.table,
+                merge.others,
+                new,
+            );
+            let next = counts.next + merge.more;
+            let number = swap_table(bank, pass, merge.o, old, new, count, next, called);
             retire_old(bank, pass, old);
             Added::Made(written(number))
         }
@@ -136,91 +138,65 @@ fn part_in_taken(
 fn part_in_old(
     bank: &Bank,
     pass: &mut Pass,
-    s: Object,
     old: Option<Table>,
-    t: Object,
-    table: Table,
-    others: u64,
-    counts: Counts,
-    more: u64,
+    merge: &Merge,
     called: &Call,
 ) -> Added
     requires pass { IsPassOf bank.now pass.old }
-    requires two { s ≢ t }
-    requires may { MayAddKey (shape_of bank.now) s old (view pass.old) }
-    requires other { KnowsKeyed (shape_of bank.now) t (Some table) (view pass.old) }
-    requires set { kind_in (shape_of bank.now).kinds s ≡ kind.Set }
-    requires other_set { kind_in (shape_of bank.now).kinds t ≡ kind.Set }
-    requires others { others ≡ (known t (view pass.old)).table.fill }
-    requires counts { AreCounts (held s (view pass.old)).block counts }
-    requires more { more ≡ new_keys (known s (view pass.old)).content (known t (view pass.old)).content }
-    requires few { passes_cap (content.Set (parted (known s (view pass.old)).content (known t (view pass.old)).content))
-        ≡ false }
-    requires serials { serial_of (known s (view pass.old)).content + 65536 < 2 ^ 63 }
-    requires parts { PartsSets s t called.now (view pass.old) }
-    requires room { part_takes (known s (view pass.old)) (known t (view pass.old)).content ≡ None }
+    requires merge { MayMerge (shape_of bank.now) kind.Set merge.now (view pass.old) }
+    requires may { MayAddKey (shape_of bank.now) merge.now.o old (view pass.old) }
+    requires few { passes_cap (content.Set
+        (parted (known merge.now.o (view pass.old)).content (known merge.now.t (view pass.old)).content)) ≡ false }
+    requires parts { PartsSets merge.now.o merge.now.t called.now (view pass.old) }
+    requires room { part_takes (known merge.now.o (view pass.old)) (known merge.now.t (view pass.old)).content ≡ None }
     ensures pass { IsPassOf bank.now pass.new }
     ensures stack { stack_of pass.new ≡ stack_of pass.old }
     ensures added { IsAdded (shape_of bank.now) None false called.now reply.Done (view pass.old) (view pass.new) result }
 {
     words_are_of_one_content();
     match old {
-        Some(own) => Added::Made(written(part_here(
-            bank, pass, s, own, t, table, others, counts, more, called,
-        ))),
-        None => part_thin(bank, pass, s, t, called),
+        Some(own) => Added::Made(written(part_here(bank, pass, own, merge, called))),
+        None => part_thin(bank, pass, merge.o, merge.t, called),
     }
 }
 
-/// Parts a set, which has this table or none, with another one, where that many of its elements stay and that many are new.
+/// Parts a set, which has this table or none, with another one, where that many of its elements stay.
 fn part_more(
     bank: &Bank,
     pass: &mut Pass,
-    s: Object,
     old: Option<Table>,
-    t: Object,
-    table: Table,
-    others: u64,
-    counts: Counts,
+    merge: &Merge,
     stay: u64,
-    more: u64,
     called: &Call,
 ) -> Added
     requires pass { IsPassOf bank.now pass.old }
-    requires two { s ≢ t }
-    requires may { MayAddKey (shape_of bank.now) s old (view pass.old) }
-    requires other { KnowsKeyed (shape_of bank.now) t (Some table) (view pass.old) }
-    requires set { kind_in (shape_of bank.now).kinds s ≡ kind.Set }
-    requires other_set { kind_in (shape_of bank.now).kinds t ≡ kind.Set }
-    requires others { others ≡ (known t (view pass.old)).table.fill }
-    requires counts { AreCounts (held s (view pass.old)).block counts }
-    requires stay { stay ≡ length (those_not_in (set_of (known t (view pass.old)).content).elements
-        (set_of (known s (view pass.old)).content).elements) }
-    requires more { more ≡ new_keys (known s (view pass.old)).content (known t (view pass.old)).content }
-    requires few { stay + more < 2 ^ 63 }
-    requires serials { serial_of (known s (view pass.old)).content + 65536 < 2 ^ 63 }
-    requires parts { PartsSets s t called.now (view pass.old) }
+    requires merge { MayMerge (shape_of bank.now) kind.Set merge.now (view pass.old) }
+    requires may { MayAddKey (shape_of bank.now) merge.now.o old (view pass.old) }
+    requires stay { stay ≡ length (those_not_in (set_of (known merge.now.t (view pass.old)).content).elements
+        (set_of (known merge.now.o (view pass.old)).content).elements) }
+    requires few { stay + merge.now.more < 2 ^ 63 }
+    requires parts { PartsSets merge.now.o merge.now.t called.now (view pass.old) }
     ensures pass { IsPassOf bank.now pass.new }
     ensures stack { stack_of pass.new ≡ stack_of pass.old }
-    ensures added { IsAdded (shape_of bank.now) (part_takes (known s (view pass.old)) (known t (view pass.old)).content)
-        (passes_cap (content.Set (parted (known s (view pass.old)).content (known t (view pass.old)).content))) called.now
-        reply.Done (view pass.old) (view pass.new) result }
+    ensures added { IsAdded (shape_of bank.now)
+        (part_takes (known merge.now.o (view pass.old)) (known merge.now.t (view pass.old)).content)
+        (passes_cap (content.Set
+        (parted (known merge.now.o (view pass.old)).content (known merge.now.t (view pass.old)).content)))
+        called.now reply.Done (view pass.old) (view pass.new) result }
 {
     words_are_of_one_content();
-    let count = stay + more;
+    let count = stay + merge.more;
     if count > most_keys(Way::Set) {
         return Added::Over(answer_over(bank, pass, called));
     }
     let staying = Counts {
         count: stay,
-        fill: counts.fill,
-        next: counts.next,
+        fill: merge.counts.fill,
+        next: merge.counts.next,
     };
-    match class_wanted(Way::Set, old, staying, more) {
-        Some(class) => part_in_taken(
-            bank, pass, s, old, class, t, table, others, counts, count, more, called,
-        ),
-        None => part_in_old(bank, pass, s, old, t, table, others, counts, more, called),
+    match class_wanted(Way::Set, old, staying, merge.more) {
+        Some(class) => part_in_taken(bank, pass, old, class, merge, count, called),
+        None => part_in_old(bank, pass, old, merge, called),
     }
 }
 
@@ -256,19 +232,15 @@ fn part_from(
     let old = own_table(bank, pass, s);
     let more = count_lacking(bank, pass, s, t, table, others.fill);
     let stay = count_staying(bank, pass, s, old, counts.fill, t);
-    part_more(
-        bank,
-        pass,
-        s,
-        old,
+    let merge = Merge {
+        o: s,
         t,
         table,
-        others.fill,
+        others: others.fill,
         counts,
-        stay,
         more,
-        called,
-    )
+    };
+    part_more(bank, pass, old, &merge, stay, called)
 }
 
 /// Takes those elements out of a set that another set has too, and puts those of the other one there that it hasn't, in

@@ -1,5 +1,5 @@
-use Rattle.std.proofs.Common.{◌≡◌, ◌∷◌, Some, refl, sym, ap, ◌∙◌, subst, arith}
-use Rattle.ft_model.specs.Worlds.{kind_of, length_of}
+use Rattle.std.proofs.Common.{◌≡◌, ◌+◌, ◌^◌, ◌<◌, ◌∷◌, Some, refl, sym, ap, ◌∙◌, subst, arith}
+use Rattle.ft_model.specs.Worlds.{kind_of, length_of, serial_of}
 use Rattle.ft_trace.specs.Holds.{held, known}
 use Rattle.ft_trace.specs.Kinds.{IsKeyed}
 use Rattle.ft_trace.specs.Pictures.{Picture}
@@ -68,23 +68,34 @@ join_more-requires-clause-may c =
     let k = shape_of a.bank.now in
     may_add k a.o c.own_table-old.result (view a.pass.now) (view c.own_table-old.new.pass) (all d) c.requires.used c.requires.idle (may_loaded k a.o (view a.pass.now) (view c.own_table-old.new.pass) (all d) c.requires.may) c.own_table-old.ensures.knows
 
-pub join_more-requires-clause-more : goal.join_more-requires-clause-more
-join_more-requires-clause-more c = more (goal.at.join_more-requires-clause-more c).After-own_table-old
-
 counts : (c : After-own_table-old) → AreCounts (held c.args.o (view c.own_table-old.new.pass)).block c.read_counts-counts.result
 counts c =
     let a = c.args in
     let v0 = view c.read_counts-others.new.pass in
     subst (λ (z : Picture). AreCounts z.block c.read_counts-counts.result) (sym (loaded_held v0 (view c.read_counts-counts.new.pass) a.o c.read_counts-counts.ensures.only) ∙ sym (loaded_held (view c.read_counts-counts.new.pass) (view c.own_table-old.new.pass) a.o (two c))) c.read_counts-counts.ensures.counts
 
-pub join_more-requires-clause-counts : goal.join_more-requires-clause-counts
-join_more-requires-clause-counts c = counts (goal.at.join_more-requires-clause-counts c).After-own_table-old
-
 full : (c : After-own_table-old) → c.read_counts-others.result.fill ≡ (known c.args.t (view c.args.pass.now)).table.fill
 full c =
     let a = c.args in
     let v = view a.pass.now in
     sym c.read_counts-others.ensures.counts.1 ∙ (c.words_are_of_one_content.ensures.head (shape_of a.bank.now).texts (held a.t v).block (0 ∷ 0 ∷ (held a.t v).table) (known a.t v).table (known a.t v).content c.requires.other.stands).fill_is
+
+pub join_more-requires-clause-merge : goal.join_more-requires-clause-merge
+join_more-requires-clause-merge c =
+    let a = c.args in
+    let d = (goal.at.join_more-requires-clause-merge c).After-own_table-old in
+    let v = view a.pass.now in
+    let u = view c.own_table-old.new.pass in
+    record {
+      two = c.requires.two;
+      other = knows_loaded (shape_of a.bank.now) a.t (Some a.table) v u (all d) c.requires.other;
+      way = c.requires.way;
+      other_way = c.requires.other_way;
+      others = full d ∙ ap (λ (z : ContainerState). z.table.fill) (sym (work_knows v u a.t (all d).work));
+      counts = counts d;
+      more = more d;
+      serials = subst (λ (z : ContainerState). serial_of z.content + 65536 < 2 ^ 63) (sym (work_knows v u a.o (all d).work)) c.requires.serials;
+    }
 
 pub join_more-requires-clause-few : goal.join_more-requires-clause-few
 join_more-requires-clause-few c =

@@ -23,25 +23,25 @@ use Rattle.ft_merging.proofs.joining.join_here.Goals.{After-start_write}
 shape : (c : After-start_write) → (view c.start_write.new.pass).shape ≡ shape_of c.args.bank.now
 shape c = ap (λ (z : View). z.shape) c.start_write.ensures.1 ∙ c.requires.pass.1
 
-room : (c : After-start_write) → c.args.counts.fill + c.args.more ≤ rows (kind_in (shape_of c.args.bank.now).kinds c.args.o) (class_of (name_of c.args.own))
+room : (c : After-start_write) → c.args.merge.now.counts.fill + c.args.merge.now.more ≤ rows (kind_in (shape_of c.args.bank.now).kinds c.args.merge.now.o) (class_of (name_of c.args.own))
 room c =
     let a = c.args in
-    here_room c.words_are_of_one_content.ensures.head (record { pairs = c.used_entries_follow_a_dict.ensures.first; elements = c.used_entries_follow_a_set.ensures.first }) (shape_of a.bank.now) a.o a.way a.own a.t a.table a.counts a.more (view a.pass.now) (view c.start_write.new.pass) c.start_write.result c.requires.pass.1 a.pass.now.possible c.requires.two c.requires.may c.requires.other c.requires.way c.requires.other_way
-    c.requires.counts c.requires.more c.requires.few c.requires.serials c.requires.room c.start_write.ensures.1 (shape c) c.start_write.new.pass.possible
+    here_room c.words_are_of_one_content.ensures.head (record { pairs = c.used_entries_follow_a_dict.ensures.first; elements = c.used_entries_follow_a_set.ensures.first }) (shape_of a.bank.now) a.merge.now.o a.way a.own a.merge.now.t a.merge.now.table a.merge.now.counts a.merge.now.more (view a.pass.now) (view c.start_write.new.pass) c.start_write.result c.requires.pass.1 a.pass.now.possible c.requires.merge.two c.requires.may c.requires.merge.other c.requires.merge.way c.requires.merge.other_way
+    c.requires.merge.counts c.requires.merge.more c.requires.few c.requires.merge.serials c.requires.room c.start_write.ensures.1 (shape c) c.start_write.new.pass.possible
 
 pub overflow_add-end : goal.overflow_add-end
 overflow_add-end c =
     let a = c.args in
     let k = shape_of a.bank.now in
-    let few = few_rows k a.own (kind_in k.kinds a.o) (a.counts.fill + a.more) (c.requires.may.keyed.table_in a.own refl) c.requires.may.keyed.keyed (room (goal.at.overflow_add-end c).After-start_write) in
+    let few = few_rows k a.own (kind_in k.kinds a.merge.now.o) (a.merge.now.counts.fill + a.merge.now.more) (c.requires.may.keyed.table_in a.own refl) c.requires.may.keyed.keyed (room (goal.at.overflow_add-end c).After-start_write) in
     omega (arith, few)
 
 pub join_table-number-requires-clause-joining : goal.join_table-number-requires-clause-joining
 join_table-number-requires-clause-joining c =
     let a = c.args in
     let s = (goal.at.join_table-number-requires-clause-joining c).After-start_write in
-    here_begins c.words_are_of_one_content.ensures.head (record { pairs = c.used_entries_follow_a_dict.ensures.first; elements = c.used_entries_follow_a_set.ensures.first }) (shape_of a.bank.now) a.o a.way a.own a.t a.table a.counts a.more (view a.pass.now) (view c.start_write.new.pass) c.start_write.result c.requires.pass.1 a.pass.now.possible c.requires.two c.requires.may c.requires.other c.requires.way c.requires.other_way
-    c.requires.counts c.requires.more c.requires.few c.requires.serials c.requires.room c.start_write.ensures.1 (shape s) c.start_write.new.pass.possible
+    here_begins c.words_are_of_one_content.ensures.head (record { pairs = c.used_entries_follow_a_dict.ensures.first; elements = c.used_entries_follow_a_set.ensures.first }) (shape_of a.bank.now) a.merge.now.o a.way a.own a.merge.now.t a.merge.now.table a.merge.now.counts a.merge.now.more (view a.pass.now) (view c.start_write.new.pass) c.start_write.result c.requires.pass.1 a.pass.now.possible c.requires.merge.two c.requires.may c.requires.merge.other c.requires.merge.way c.requires.merge.other_way
+    c.requires.merge.counts c.requires.merge.more c.requires.few c.requires.merge.serials c.requires.room c.start_write.ensures.1 (shape s) c.start_write.new.pass.possible
 
 pub join_table-number-requires-clause-finishes : goal.join_table-number-requires-clause-finishes
 join_table-number-requires-clause-finishes c w counts only joining =
@@ -53,13 +53,13 @@ join_table-number-requires-clause-finishes c w counts only joining =
     let at = (goal.at.join_table-number-requires-clause-finishes c).After-start_write in
     let may = c.requires.may in
     let none = may.owes in
-    let table = here_table c.words_are_of_one_content.ensures.head (record { pairs = c.used_entries_follow_a_dict.ensures.first; elements = c.used_entries_follow_a_set.ensures.first }) k a.o a.way a.own a.t a.table a.counts a.more v u c.start_write.result c.requires.pass.1 a.pass.now.possible c.requires.two may c.requires.other c.requires.way c.requires.other_way
-    c.requires.counts c.requires.more c.requires.few c.requires.serials c.requires.room begun (shape at) c.start_write.new.pass.possible in
-    joined_finishes (record { pairs = c.used_entries_follow_a_dict.ensures.first; elements = c.used_entries_follow_a_set.ensures.first }) k a.o a.way a.own a.t a.table (a.counts.fill + a.more) a.others counts v w (since_start a.o v u w c.start_write.result begun only) c.requires.pass.1 may.keyed.container may.left a.called.now c.requires.joins c.requires.few
+    let table = here_table c.words_are_of_one_content.ensures.head (record { pairs = c.used_entries_follow_a_dict.ensures.first; elements = c.used_entries_follow_a_set.ensures.first }) k a.merge.now.o a.way a.own a.merge.now.t a.merge.now.table a.merge.now.counts a.merge.now.more v u c.start_write.result c.requires.pass.1 a.pass.now.possible c.requires.merge.two may c.requires.merge.other c.requires.merge.way c.requires.merge.other_way
+    c.requires.merge.counts c.requires.merge.more c.requires.few c.requires.merge.serials c.requires.room begun (shape at) c.start_write.new.pass.possible in
+    joined_finishes (record { pairs = c.used_entries_follow_a_dict.ensures.first; elements = c.used_entries_follow_a_set.ensures.first }) k a.merge.now.o a.way a.own a.merge.now.t a.merge.now.table (a.merge.now.counts.fill + a.merge.now.more) a.merge.now.others counts v w (since_start a.merge.now.o v u w c.start_write.result begun only) c.requires.pass.1 may.keyed.container may.left a.called.now c.requires.joins c.requires.few
     (λ found class has owed. absurd (omega (arith, none, owed)))
-    (stays_table (known a.o v) (known a.t v).content a.own a.counts.fill a.more table c.requires.room c.requires.more (class_is a.own (may.keyed.table_in a.own refl).2))
-    (subst (λ (z : ContainerState × ContainerState). IsJoining k a.o a.way a.own a.t a.table (joined z.0.content z.1.content) (a.counts.fill + a.more) a.others counts w) (λ i. (ap (known a.o) begun i, ap (known a.t) begun i)) joining)
-    (c.requires.others ∙ sym (ap (λ (z : ContainerState). z.table.fill) (work_knows u w a.t only.work ∙ ap (known a.t) begun)))
+    (stays_table (known a.merge.now.o v) (known a.merge.now.t v).content a.own a.merge.now.counts.fill a.merge.now.more table c.requires.room c.requires.merge.more (class_is a.own (may.keyed.table_in a.own refl).2))
+    (subst (λ (z : ContainerState × ContainerState). IsJoining k a.merge.now.o a.way a.own a.merge.now.t a.merge.now.table (joined z.0.content z.1.content) (a.merge.now.counts.fill + a.merge.now.more) a.merge.now.others counts w) (λ i. (ap (known a.merge.now.o) begun i, ap (known a.merge.now.t) begun i)) joining)
+    (c.requires.merge.others ∙ sym (ap (λ (z : ContainerState). z.table.fill) (work_knows u w a.merge.now.t only.work ∙ ap (known a.merge.now.t) begun)))
 
 pub returns-clause-added : goal.returns-clause-added
 returns-clause-added c =
@@ -72,6 +72,6 @@ returns-clause-added c =
     let may = c.requires.may in
     let changed = c.requires.joins.changed in
     let root = e.2 ∙ sym may.keyed.root in
-    made_here (shape_of a.bank.now) a.o a.called.now v w c.written.result c.join_table-number.result c.written.ensures changed
-    (whole_write a.o v u e.0 c.start_write.result begun e.1 a.called.now reply.Done c.join_table-number.result w changed may.keyed.even e.3 root)
-    (whole_root a.o v u e.0 c.start_write.result begun e.1 a.called.now reply.Done c.join_table-number.result w changed e.3 root)
+    made_here (shape_of a.bank.now) a.merge.now.o a.called.now v w c.written.result c.join_table-number.result c.written.ensures changed
+    (whole_write a.merge.now.o v u e.0 c.start_write.result begun e.1 a.called.now reply.Done c.join_table-number.result w changed may.keyed.even e.3 root)
+    (whole_root a.merge.now.o v u e.0 c.start_write.result begun e.1 a.called.now reply.Done c.join_table-number.result w changed e.3 root)

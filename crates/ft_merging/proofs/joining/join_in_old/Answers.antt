@@ -13,27 +13,27 @@ use Rattle.ft_merging.proofs.JoinedSame.{bare_joined, known_bare}
 use Rattle.ft_merging.proofs.joining.join_in_old.Goals as goal
 use Rattle.ft_merging.proofs.joining.join_in_old.Goals.{In-None}
 
-same : (c : In-None) → joined (known c.args.o (view c.args.pass.now)).content (known c.args.t (view c.args.pass.now)).content ≡ (known c.args.o (view c.args.pass.now)).content
+same : (c : In-None) → joined (known c.args.merge.now.o (view c.args.pass.now)).content (known c.args.merge.now.t (view c.args.pass.now)).content ≡ (known c.args.merge.now.o (view c.args.pass.now)).content
 same c =
     let a = c.args in
     let k = shape_of a.bank.now in
     let v = view a.pass.now in
-    let d = (known a.o v).content in
-    let e = (known a.t v).content in
-    let may = subst (λ (z : Option Table). MayAddKey k a.o z v) c.in-None.is c.requires.may in
-    let kinds = kind_is k v a.o c.requires.pass.1 a.pass.now.possible may.keyed.locked ∙ c.requires.way in
-    let table = use_known c.words_are_of_one_content.ensures.head k a.o None v a.counts may.keyed c.requires.counts in
-    let none = bare_none d a.way a.counts.fill (new_keys d e) kinds ((λ i. keys_take d (sym table i) (new_keys d e)) ∙ c.requires.room) in
-    bare_joined d e (known_bare k a.o v c.requires.pass.1 a.pass.now.possible may.keyed.keyed may.keyed.locked may.keyed.stands may.keyed.root) none
+    let d = (known a.merge.now.o v).content in
+    let e = (known a.merge.now.t v).content in
+    let may = subst (λ (z : Option Table). MayAddKey k a.merge.now.o z v) c.in-None.is c.requires.may in
+    let kinds = kind_is k v a.merge.now.o c.requires.pass.1 a.pass.now.possible may.keyed.locked ∙ c.requires.merge.way in
+    let table = use_known c.words_are_of_one_content.ensures.head k a.merge.now.o None v a.merge.now.counts may.keyed c.requires.merge.counts in
+    let none = bare_none d a.way a.merge.now.counts.fill (new_keys d e) kinds ((λ i. keys_take d (sym table i) (new_keys d e)) ∙ c.requires.room) in
+    bare_joined d e (known_bare k a.merge.now.o v c.requires.pass.1 a.pass.now.possible may.keyed.keyed may.keyed.locked may.keyed.stands may.keyed.root) none
 
 pub write_nothing-requires-clause-leaves : goal.write_nothing-requires-clause-leaves
 write_nothing-requires-clause-leaves c =
     let a = c.args in
     let s = same (goal.at.write_nothing-requires-clause-leaves c).In-None in
-    joins_leaves a.o a.t a.called.now (view a.pass.now) c.requires.joins s (ap passes_cap (sym s) ∙ c.requires.few)
+    joins_leaves a.merge.now.o a.merge.now.t a.called.now (view a.pass.now) c.requires.joins s (ap passes_cap (sym s) ∙ c.requires.few)
 
 pub returns-in-None-clause-added : goal.returns-in-None-clause-added
 returns-in-None-clause-added c =
     let a = c.args in
     let n = c.write_nothing.ensures in
-    made_here (shape_of a.bank.now) a.o a.called.now (view a.pass.now) (view c.write_nothing.new.pass) c.written.result c.write_nothing.result c.written.ensures c.requires.joins.changed n.wrote n.root
+    made_here (shape_of a.bank.now) a.merge.now.o a.called.now (view a.pass.now) (view c.write_nothing.new.pass) c.written.result c.write_nothing.result c.written.ensures c.requires.joins.changed n.wrote n.root

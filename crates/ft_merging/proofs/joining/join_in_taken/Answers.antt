@@ -11,41 +11,54 @@ use Rattle.ft_bank.specs.Whole.{Wrote}
 use Rattle.ft_growth.specs.Adding.{Retires}
 use Rattle.ft_growth.proofs.Rooting.{taken_out}
 use Rattle.ft_section.specs.declared.answers.Stamp.{Stamp}
+use Rattle.ft_search.specs.Rounds.{kind_by}
 use Rattle.ft_adding.specs.KeyGrowth.{MayGrowKeyed}
 use Rattle.ft_adding.proofs.Keyed.{fresh_other}
-use Rattle.ft_adding.proofs.Taken.{tried_has, tried_may, tried_words}
+use Rattle.ft_adding.proofs.Taken.{tried_has, tried_knows, tried_may, tried_words}
 use Rattle.ft_merging.specs.Joining.{join_takes}
 use Rattle.ft_merging.proofs.JoinedCalls.{joins_later}
+use Rattle.ft_merging.proofs.Merged.{merge_later}
 use Rattle.ft_merging.proofs.joining.join_in_taken.Goals as goal
 use Rattle.ft_merging.proofs.joining.join_in_taken.Goals.{In-Taken}
 
-mine : (c : In-Taken) → (held c.args.o (view c.take.new.pass) ≡ held c.args.o (view c.args.pass.now)) × (known c.args.o (view c.take.new.pass) ≡ known c.args.o (view c.args.pass.now))
+mine : (c : In-Taken) → (held c.args.merge.now.o (view c.take.new.pass) ≡ held c.args.merge.now.o (view c.args.pass.now)) × (known c.args.merge.now.o (view c.take.new.pass) ≡ known c.args.merge.now.o (view c.args.pass.now))
 mine c =
     let a = c.args in
     let e = c.in-Taken.ensures in
-    tried_words _ (view a.pass.now) (view c.take.new.pass) e.same e.keeps (shape_of a.bank.now) a.o a.old c.requires.pass.1 c.requires.may.keyed
+    tried_words _ (view a.pass.now) (view c.take.new.pass) e.same e.keeps (shape_of a.bank.now) a.merge.now.o a.old c.requires.pass.1 c.requires.may.keyed
 
-other : (c : In-Taken) → known c.args.t (view c.take.new.pass) ≡ known c.args.t (view c.args.pass.now)
+other : (c : In-Taken) → known c.args.merge.now.t (view c.take.new.pass) ≡ known c.args.merge.now.t (view c.args.pass.now)
 other c =
     let a = c.args in
     let e = c.in-Taken.ensures in
-    (tried_words _ (view a.pass.now) (view c.take.new.pass) e.same e.keeps (shape_of a.bank.now) a.t (Some a.table) c.requires.pass.1 c.requires.other).1
+    (tried_words _ (view a.pass.now) (view c.take.new.pass) e.same e.keeps (shape_of a.bank.now) a.merge.now.t (Some a.merge.now.table) c.requires.pass.1 c.requires.merge.other).1
 
-grow : (c : In-Taken) → MayGrowKeyed (shape_of c.args.bank.now) c.args.o c.args.old c.in-Taken.new (view c.take.new.pass)
+grow : (c : In-Taken) → MayGrowKeyed (shape_of c.args.bank.now) c.args.merge.now.o c.args.old c.in-Taken.new (view c.take.new.pass)
 grow c =
     let a = c.args in
     let e = c.in-Taken.ensures in
     let x = e.did.6 in
-    tried_may _ (view a.pass.now) (view c.take.new.pass) e.same e.keeps (shape_of a.bank.now) a.o a.old c.in-Taken.new a.class c.requires.pass.1 c.requires.may x.0 x.1 x.3 x.4
+    tried_may _ (view a.pass.now) (view c.take.new.pass) e.same e.keeps (shape_of a.bank.now) a.merge.now.o a.old c.in-Taken.new a.class c.requires.pass.1 c.requires.may x.0 x.1 x.3 x.4
 
-apart : (c : In-Taken) → root_in (held c.args.o (view c.take.new.pass)) ≢ suc (name_of c.in-Taken.new)
+apart : (c : In-Taken) → root_in (held c.args.merge.now.o (view c.take.new.pass)) ≢ suc (name_of c.in-Taken.new)
 apart c =
     let a = c.args in
     let g = grow c in
-    fresh_other (shape_of a.bank.now) (view c.take.new.pass) a.o c.in-Taken.new (c.in-Taken.ensures.same.shape ∙ c.requires.pass.1) c.take.new.pass.possible g.keyed.container g.keyed.locked g.table_in g.fresh
+    fresh_other (shape_of a.bank.now) (view c.take.new.pass) a.merge.now.o c.in-Taken.new (c.in-Taken.ensures.same.shape ∙ c.requires.pass.1) c.take.new.pass.possible g.keyed.container g.keyed.locked g.table_in g.fresh
 
 class_named : (c : In-Taken) → class_of (name_of c.in-Taken.new) ≡ c.args.class
 class_named c = let x = c.in-Taken.ensures.did.6 in class_is c.in-Taken.new x.0.2 ∙ x.1
+
+pub join_in_new-number-requires-clause-merge : goal.join_in_new-number-requires-clause-merge
+join_in_new-number-requires-clause-merge c =
+    let a = c.args in
+    let m = a.merge.now in
+    let e = c.in-Taken.ensures in
+    let k = shape_of a.bank.now in
+    let v = view a.pass.now in
+    let u = view c.take.new.pass in
+    let d = (goal.at.join_in_new-number-requires-clause-merge c).In-Taken in
+    merge_later k (kind_by a.way) m v u (mine d).0 (mine d).1 (other d) (tried_knows _ v u e.same e.keeps k m.t (Some m.table) c.requires.pass.1 c.requires.merge.other) c.requires.merge
 
 pub join_in_new-number-requires-clause-may : goal.join_in_new-number-requires-clause-may
 join_in_new-number-requires-clause-may c = grow (goal.at.join_in_new-number-requires-clause-may c).In-Taken
@@ -58,7 +71,7 @@ join_in_new-number-requires-clause-joins c =
     let a = c.args in
     let e = c.in-Taken.ensures in
     let d = (goal.at.join_in_new-number-requires-clause-joins c).In-Taken in
-    joins_later a.o a.t a.called.now (view a.pass.now) (view c.take.new.pass) (tried_has _ (view a.pass.now) (view c.take.new.pass) e.same e.keeps) e.same.locks (mine d).1 (other d) c.requires.joins
+    joins_later a.merge.now.o a.merge.now.t a.called.now (view a.pass.now) (view c.take.new.pass) (tried_has _ (view a.pass.now) (view c.take.new.pass) e.same e.keeps) e.same.locks (mine d).1 (other d) c.requires.joins
 
 pub join_in_new-number-requires-clause-takes : goal.join_in_new-number-requires-clause-takes
 join_in_new-number-requires-clause-takes c =
@@ -73,7 +86,7 @@ retire_old-requires-clause-out c t is =
     let w = view c.join_in_new-number.new.pass in
     let e = c.join_in_new-number.ensures in
     let at = c.requires.joins.changed in
-    let root : root_in (held a.o u) ≡ suc (name_of t) = (grow d).keyed.root ∙ ap root_for is in
+    let root : root_in (held a.merge.now.o u) ≡ suc (name_of t) = (grow d).keyed.root ∙ ap root_for is in
     let before : root_in (held (changes a.called.now) u) ≡ suc (name_of t) = subst (λ (n : ℕ). root_in (held n u) ≡ suc (name_of t)) (sym at) root in
     let after : root_in (held (changes a.called.now) w) ≡ suc (name_of c.in-Taken.new) = subst (λ (n : ℕ). root_in (held n w) ≡ suc (name_of c.in-Taken.new)) (sym at) e.root in
     let out = taken_out a.called.now reply.Done c.join_in_new-number.result (name_of t) (suc (name_of c.in-Taken.new)) u w e.wrote before after (λ same_name. apart d (root ∙ same_name)) in

@@ -1,5 +1,4 @@
-use Rattle.std.proofs.Common.{◌≡◌, ◌≢◌, ◌+◌, ◌<◌, ◌≤◌, ℕ, ◌∷◌, false, Some, None, refl, sym, ap, ◌∙◌, subst, arith}
-use Rattle.ft_model.specs.declared.content.Content.{Content}
+use Rattle.std.proofs.Common.{◌≡◌, ◌+◌, ◌≤◌, ℕ, ◌∷◌, false, Some, None, refl, sym, ap, ◌∙◌, subst, arith}
 use Rattle.ft_model.specs.declared.content.Content.TheVariants as content
 use Rattle.ft_model.specs.declared.reply.Reply.TheVariants as reply
 use Rattle.ft_model.specs.declared.script.Kind.{Kind}
@@ -11,20 +10,18 @@ use Rattle.ft_keys.specs.declared.walk.Way.TheVariants as way
 use Rattle.ft_trace.specs.declared.View.{View}
 use Rattle.ft_trace.specs.Addresses.{class_of}
 use Rattle.ft_trace.specs.Holds.{held, known}
-use Rattle.ft_trace.specs.Kinds.{IsKeyed, rows}
-use Rattle.ft_trace.specs.Pictures.{root_in}
-use Rattle.ft_trace.specs.ContainerStates.{ContainerState, kind_in}
+use Rattle.ft_trace.specs.Kinds.{rows}
+use Rattle.ft_trace.specs.ContainerStates.{ContainerState}
 use Rattle.ft_bank.specs.Passes.{shape_of, view}
 use Rattle.ft_bank.specs.TableNames.{name_of}
 use Rattle.ft_bank.specs.Whole.{OnlyPut}
 use Rattle.ft_bank.proofs.TableAddresses.{class_is}
 use Rattle.ft_bank.proofs.KnownAfterWrites.{put_then, work_knows}
-use Rattle.ft_search.specs.Rounds.{kind_by}
 use Rattle.ft_search.specs.OneEntryWrites.{HasTable, MayWriteEntries}
 use Rattle.ft_search.proofs.Changing.{kind_is}
 use Rattle.ft_search.proofs.ReadyCommits.{whole_root, whole_write}
 use Rattle.ft_search.proofs.Puts.{table_class}
-use Rattle.ft_adding.specs.KeyGrowth.{KnowsKeyed, keys_take}
+use Rattle.ft_adding.specs.KeyGrowth.{keys_take}
 use Rattle.ft_adding.proofs.Keyed.{use_known}
 use Rattle.ft_adding.proofs.Placed.{use_with}
 use Rattle.ft_merging.specs.Joining.{join_takes, joined}
@@ -43,61 +40,61 @@ use Rattle.ft_merging.proofs.parting.part_here.Goals.{After-start_write, After-j
 
 -- ---- before the write
 
-may : (c : After-start_write) → MayWriteEntries (shape_of c.args.bank.now) c.args.s (view c.args.pass.now)
-may c = may_write (shape_of c.args.bank.now) c.args.s (Some c.args.own) (view c.args.pass.now) c.requires.may
+may : (c : After-start_write) → MayWriteEntries (shape_of c.args.bank.now) c.args.merge.now.o (view c.args.pass.now)
+may c = may_write (shape_of c.args.bank.now) c.args.merge.now.o (Some c.args.own) (view c.args.pass.now) c.requires.may
 
-has : (c : After-start_write) → HasTable (shape_of c.args.bank.now) c.args.s c.args.own (view c.args.pass.now)
+has : (c : After-start_write) → HasTable (shape_of c.args.bank.now) c.args.merge.now.o c.args.own (view c.args.pass.now)
 has c = record { table_in = c.requires.may.keyed.table_in c.args.own refl; root = c.requires.may.keyed.root }
 
-is_first : (c : After-start_write) → (known c.args.s (view c.args.pass.now)).content ≡ content.Set (set_of (known c.args.s (view c.args.pass.now)).content)
-is_first c = is_set (shape_of c.args.bank.now) (view c.args.pass.now) c.args.s c.requires.pass.1 c.args.pass.now.possible c.requires.may.keyed.locked c.requires.set
+is_first : (c : After-start_write) → (known c.args.merge.now.o (view c.args.pass.now)).content ≡ content.Set (set_of (known c.args.merge.now.o (view c.args.pass.now)).content)
+is_first c = is_set (shape_of c.args.bank.now) (view c.args.pass.now) c.args.merge.now.o c.requires.pass.1 c.args.pass.now.possible c.requires.may.keyed.locked c.requires.merge.way
 
-table_is : (c : After-start_write) → (known c.args.s (view c.args.pass.now)).table ≡ use_with (class_of (name_of c.args.own)) c.args.counts.fill
+table_is : (c : After-start_write) → (known c.args.merge.now.o (view c.args.pass.now)).table ≡ use_with (class_of (name_of c.args.own)) c.args.merge.now.counts.fill
 table_is c =
     let a = c.args in
     let same = class_is a.own (c.requires.may.keyed.table_in a.own refl).2 in
-    use_known c.words_are_of_one_content.ensures.head (shape_of a.bank.now) a.s (Some a.own) (view a.pass.now) a.counts c.requires.may.keyed c.requires.counts ∙ (λ i. record { class = Some (sym same i); fill = a.counts.fill })
+    use_known c.words_are_of_one_content.ensures.head (shape_of a.bank.now) a.merge.now.o (Some a.own) (view a.pass.now) a.merge.now.counts c.requires.may.keyed c.requires.merge.counts ∙ (λ i. record { class = Some (sym same i); fill = a.merge.now.counts.fill })
 
-none : (c : After-start_write) → join_takes (known c.args.s (view c.args.pass.now)) (known c.args.t (view c.args.pass.now)).content ≡ None
+none : (c : After-start_write) → join_takes (known c.args.merge.now.o (view c.args.pass.now)) (known c.args.merge.now.t (view c.args.pass.now)).content ≡ None
 none c =
     let a = c.args in
     let v = view a.pass.now in
-    join_stays (known a.s v) (known a.t v).content (set_of (known a.s v).content) (is_first c) c.requires.room
+    join_stays (known a.merge.now.o v) (known a.merge.now.t v).content (set_of (known a.merge.now.o v).content) (is_first c) c.requires.room
 
-low : (c : After-start_write) → c.args.counts.fill ≤ rows kind.Set (class_of (name_of c.args.own))
+low : (c : After-start_write) → c.args.merge.now.counts.fill ≤ rows kind.Set (class_of (name_of c.args.own))
 low c =
     let a = c.args in
     let v = view a.pass.now in
-    let f = fill_fits (shape_of a.bank.now) a.s a.own false (set_of (known a.t v).content) v (view c.start_write.new.pass) c.start_write.result c.requires.pass.1 a.pass.now.possible (may c) c.requires.set (has c) c.start_write.ensures.1 c.used_entries_follow_a_set.ensures.first in
+    let f = fill_fits (shape_of a.bank.now) a.merge.now.o a.own false (set_of (known a.merge.now.t v).content) v (view c.start_write.new.pass) c.start_write.result c.requires.pass.1 a.pass.now.possible (may c) c.requires.merge.way (has c) c.start_write.ensures.1 c.used_entries_follow_a_set.ensures.first in
     subst (λ (z : TableUse). z.fill ≤ rows kind.Set (class_of (name_of a.own))) (table_is c) f
 
-room : (c : After-start_write) → c.args.counts.fill + c.args.more ≤ rows kind.Set (class_of (name_of c.args.own))
+room : (c : After-start_write) → c.args.merge.now.counts.fill + c.args.merge.now.more ≤ rows kind.Set (class_of (name_of c.args.own))
 room c =
     let a = c.args in
     let v = view a.pass.now in
-    let d = (known a.s v).content in
+    let d = (known a.merge.now.o v).content in
     let same = class_is a.own (c.requires.may.keyed.table_in a.own refl).2 in
-    let uses = use_known c.words_are_of_one_content.ensures.head (shape_of a.bank.now) a.s (Some a.own) v a.counts c.requires.may.keyed c.requires.counts in
-    subst (λ (n : ℕ). a.counts.fill + a.more ≤ rows kind.Set n) (sym same)
-    (keys_room d way.Set a.own a.counts.fill a.more (kind_is (shape_of a.bank.now) v a.s c.requires.pass.1 a.pass.now.possible c.requires.may.keyed.locked ∙ c.requires.set) (subst (λ (n : ℕ). a.counts.fill ≤ rows kind.Set n) same (low c))
-    ((λ i. keys_take d (sym uses i) (c.requires.more i)) ∙ none c))
+    let uses = use_known c.words_are_of_one_content.ensures.head (shape_of a.bank.now) a.merge.now.o (Some a.own) v a.merge.now.counts c.requires.may.keyed c.requires.merge.counts in
+    subst (λ (n : ℕ). a.merge.now.counts.fill + a.merge.now.more ≤ rows kind.Set n) (sym same)
+    (keys_room d way.Set a.own a.merge.now.counts.fill a.merge.now.more (kind_is (shape_of a.bank.now) v a.merge.now.o c.requires.pass.1 a.pass.now.possible c.requires.may.keyed.locked ∙ c.requires.merge.way) (subst (λ (n : ℕ). a.merge.now.counts.fill ≤ rows kind.Set n) same (low c))
+    ((λ i. keys_take d (sym uses i) (c.requires.merge.more i)) ∙ none c))
 
-cap : (c : After-start_write) → passes_cap (joined (known c.args.s (view c.args.pass.now)).content (known c.args.t (view c.args.pass.now)).content) ≡ false
+cap : (c : After-start_write) → passes_cap (joined (known c.args.merge.now.o (view c.args.pass.now)).content (known c.args.merge.now.t (view c.args.pass.now)).content) ≡ false
 cap c =
     let a = c.args in
     let k = shape_of a.bank.now in
     let v = view a.pass.now in
-    let x = held a.s v in
+    let x = held a.merge.now.o v in
     let class = class_of (name_of a.own) in
-    let says = first_says k a.s a.own false (set_of (known a.t v).content) v (view c.start_write.new.pass) c.start_write.result c.requires.pass.1 a.pass.now.possible (may c) c.requires.set (has c) c.start_write.ensures.1 in
-    let here = subst (λ (z : TableUse). IsSetWords k.texts x.block (0 ∷ 0 ∷ x.table) (Some class) z.fill (set_of (known a.s v).content)) (table_is c) says in
-    join_fits k.texts x.block (0 ∷ 0 ∷ x.table) class a.counts.fill a.more (set_of (known a.s v).content) (known a.s v).content (known a.t v).content (table_class k a.own (has c).table_in) here (is_first c) c.requires.more (room c)
+    let says = first_says k a.merge.now.o a.own false (set_of (known a.merge.now.t v).content) v (view c.start_write.new.pass) c.start_write.result c.requires.pass.1 a.pass.now.possible (may c) c.requires.merge.way (has c) c.start_write.ensures.1 in
+    let here = subst (λ (z : TableUse). IsSetWords k.texts x.block (0 ∷ 0 ∷ x.table) (Some class) z.fill (set_of (known a.merge.now.o v).content)) (table_is c) says in
+    join_fits k.texts x.block (0 ∷ 0 ∷ x.table) class a.merge.now.counts.fill a.merge.now.more (set_of (known a.merge.now.o v).content) (known a.merge.now.o v).content (known a.merge.now.t v).content (table_class k a.own (has c).table_in) here (is_first c) c.requires.merge.more (room c)
 
 pub overflow_add-end : goal.overflow_add-end
 overflow_add-end c =
     let a = c.args in
     let d = (goal.at.overflow_add-end c).After-start_write in
-    let few = few_rows (shape_of a.bank.now) a.own kind.Set (a.counts.fill + a.more) (has d).table_in tt (room d) in
+    let few = few_rows (shape_of a.bank.now) a.own kind.Set (a.merge.now.counts.fill + a.merge.now.more) (has d).table_in tt (room d) in
     omega (arith, few)
 
 -- ---- the elements of the other one
@@ -108,17 +105,17 @@ shape c = ap (λ (z : View). z.shape) c.start_write.ensures.1 ∙ c.requires.pas
 pub join_all-requires-clause-other : goal.join_all-requires-clause-other
 join_all-requires-clause-other c =
     let a = c.args in
-    knows_begun (shape_of a.bank.now) a.s a.t (Some a.table) (view a.pass.now) (view c.start_write.new.pass) c.start_write.result c.start_write.ensures.1 c.requires.two c.requires.other
+    knows_begun (shape_of a.bank.now) a.merge.now.o a.merge.now.t (Some a.merge.now.table) (view a.pass.now) (view c.start_write.new.pass) c.start_write.result c.start_write.ensures.1 c.requires.merge.two c.requires.merge.other
 
 pub join_all-requires-clause-fill : goal.join_all-requires-clause-fill
-join_all-requires-clause-fill c = c.requires.others ∙ sym (ap (λ (z : View). (known c.args.t z).table.fill) c.start_write.ensures.1)
+join_all-requires-clause-fill c = c.requires.merge.others ∙ sym (ap (λ (z : View). (known c.args.merge.now.t z).table.fill) c.start_write.ensures.1)
 
 pub join_all-requires-clause-joining : goal.join_all-requires-clause-joining
 join_all-requires-clause-joining c =
     let a = c.args in
     let d = (goal.at.join_all-requires-clause-joining c).After-start_write in
-    here_begins c.words_are_of_one_content.ensures.head (record { pairs = c.used_entries_follow_a_dict.ensures.first; elements = c.used_entries_follow_a_set.ensures.first }) (shape_of a.bank.now) a.s way.Set a.own a.t a.table a.counts a.more (view a.pass.now) (view c.start_write.new.pass) c.start_write.result c.requires.pass.1 a.pass.now.possible c.requires.two c.requires.may c.requires.other c.requires.set c.requires.other_set
-    c.requires.counts c.requires.more (cap d) c.requires.serials (none d) c.start_write.ensures.1 (shape d) c.start_write.new.pass.possible
+    here_begins c.words_are_of_one_content.ensures.head (record { pairs = c.used_entries_follow_a_dict.ensures.first; elements = c.used_entries_follow_a_set.ensures.first }) (shape_of a.bank.now) a.merge.now.o way.Set a.own a.merge.now.t a.merge.now.table a.merge.now.counts a.merge.now.more (view a.pass.now) (view c.start_write.new.pass) c.start_write.result c.requires.pass.1 a.pass.now.possible c.requires.merge.two c.requires.may c.requires.merge.other c.requires.merge.way c.requires.merge.other_way
+    c.requires.merge.counts c.requires.merge.more (cap d) c.requires.merge.serials (none d) c.start_write.ensures.1 (shape d) c.start_write.new.pass.possible
 
 -- ---- those that both had
 
@@ -129,9 +126,9 @@ knows c p = work_knows (view c.start_write.new.pass) (view c.join_all.new.pass) 
 pub thin_all-requires-clause-fill : goal.thin_all-requires-clause-fill
 thin_all-requires-clause-fill c = low (goal.at.thin_all-requires-clause-fill c).After-start_write
 
-other_may : (c : After-start_write) → MayWriteEntries (shape_of c.args.bank.now) c.args.t (view c.args.pass.now)
+other_may : (c : After-start_write) → MayWriteEntries (shape_of c.args.bank.now) c.args.merge.now.t (view c.args.pass.now)
 other_may c =
-    let o = c.requires.other in
+    let o = c.requires.merge.other in
     let m = c.requires.may in
     record { container = o.container; keyed = o.keyed; locked = o.locked; even = o.even; stands = o.stands; owes = m.owes; left = m.left }
 
@@ -142,17 +139,17 @@ thin_all-requires-clause-other c ne =
     let d = at.After-start_write in
     let k = shape_of a.bank.now in
     let u = view c.start_write.new.pass in
-    other_stays k a.s a.t u (view c.join_all.new.pass) (shape d) c.join_all.ensures.only ne (other_begun k a.s a.t (view a.pass.now) u c.start_write.result c.start_write.ensures.1 ne (other_may d))
+    other_stays k a.merge.now.o a.merge.now.t u (view c.join_all.new.pass) (shape d) c.join_all.ensures.only ne (other_begun k a.merge.now.o a.merge.now.t (view a.pass.now) u c.start_write.result c.start_write.ensures.1 ne (other_may d))
 
 -- what the first one has at the end
 abbrev to : After-join_all → ContainerState
-to c = record { content = content.Set (parted (known c.args.s (view c.args.pass.now)).content (known c.args.t (view c.args.pass.now)).content); table = use_with (class_of (name_of c.args.own)) (c.args.counts.fill + c.args.more) }
+to c = record { content = content.Set (parted (known c.args.merge.now.o (view c.args.pass.now)).content (known c.args.merge.now.t (view c.args.pass.now)).content); table = use_with (class_of (name_of c.args.own)) (c.args.merge.now.counts.fill + c.args.merge.now.more) }
 
 abbrev Thinned : (c : After-join_all) → ℕ → View → Type 0
-Thinned c place w = IsThinned (shape_of c.args.bank.now) c.args.s c.args.own false (set_of (known c.args.t w).content) (set_of (known c.args.s w).content) (to c) c.args.counts.fill place w
+Thinned c place w = IsThinned (shape_of c.args.bank.now) c.args.merge.now.o c.args.own false (set_of (known c.args.merge.now.t w).content) (set_of (known c.args.merge.now.o w).content) (to c) c.args.merge.now.counts.fill place w
 
 -- before the first one goes
-begins : (c : After-join_all) → MayWriteEntries (shape_of c.args.bank.now) c.args.s (view c.args.pass.now) → HasTable (shape_of c.args.bank.now) c.args.s c.args.own (view c.args.pass.now) → (known c.args.s (view c.args.pass.now)).table ≡ use_with (class_of (name_of c.args.own)) c.args.counts.fill → Thinned c 0 (view c.join_all.new.pass)
+begins : (c : After-join_all) → MayWriteEntries (shape_of c.args.bank.now) c.args.merge.now.o (view c.args.pass.now) → HasTable (shape_of c.args.bank.now) c.args.merge.now.o c.args.own (view c.args.pass.now) → (known c.args.merge.now.o (view c.args.pass.now)).table ≡ use_with (class_of (name_of c.args.own)) c.args.merge.now.counts.fill → Thinned c 0 (view c.join_all.new.pass)
 begins c m h table =
     let a = c.args in
     let k = shape_of a.bank.now in
@@ -161,10 +158,10 @@ begins c m h table =
     let w = view c.join_all.new.pass in
     let begun = c.start_write.ensures.1 in
     let e = c.join_all.ensures in
-    let j = subst (λ (z : ContainerState × ContainerState). IsJoining k a.s way.Set a.own a.t a.table (joined z.0.content z.1.content) (a.counts.fill + a.more) a.others c.join_all.result w) (λ i. (ap (known a.s) begun i, ap (known a.t) begun i)) e.joining in
-    subst (λ (z : ContainerState × ContainerState). IsThinned k a.s a.own false (set_of z.0.content) (set_of z.1.content) (to c) a.counts.fill 0 w) (sym (λ i. (knows c a.t i, knows c a.s i)))
-    (parting_begins c.used_entries_follow_a_set.ensures.first k a.s a.t a.own a.table v u w c.start_write.result c.requires.pass.1 a.pass.now.possible m c.requires.set h begun e.only a.counts.fill (a.counts.fill + a.more) a.others c.join_all.result (ap (λ (z : TableUse). z.fill) (sym table))
-    j (c.requires.others ∙ sym (ap (λ (z : ContainerState). z.table.fill) (knows c a.t))) (e.keeps refl))
+    let j = subst (λ (z : ContainerState × ContainerState). IsJoining k a.merge.now.o way.Set a.own a.merge.now.t a.merge.now.table (joined z.0.content z.1.content) (a.merge.now.counts.fill + a.merge.now.more) a.merge.now.others c.join_all.result w) (λ i. (ap (known a.merge.now.o) begun i, ap (known a.merge.now.t) begun i)) e.joining in
+    subst (λ (z : ContainerState × ContainerState). IsThinned k a.merge.now.o a.own false (set_of z.0.content) (set_of z.1.content) (to c) a.merge.now.counts.fill 0 w) (sym (λ i. (knows c a.merge.now.t i, knows c a.merge.now.o i)))
+    (parting_begins c.used_entries_follow_a_set.ensures.first k a.merge.now.o a.merge.now.t a.own a.merge.now.table v u w c.start_write.result c.requires.pass.1 a.pass.now.possible m c.requires.merge.way h begun e.only a.merge.now.counts.fill (a.merge.now.counts.fill + a.merge.now.more) a.merge.now.others c.join_all.result (ap (λ (z : TableUse). z.fill) (sym table))
+    j (c.requires.merge.others ∙ sym (ap (λ (z : ContainerState). z.table.fill) (knows c a.merge.now.t))) (e.keeps refl))
 
 pub thin_all-requires-clause-thinned : goal.thin_all-requires-clause-thinned
 thin_all-requires-clause-thinned c =
@@ -174,13 +171,13 @@ thin_all-requires-clause-thinned c =
 
 -- ---- the end
 
-only : (c : After-thin_all) → OnlyPut c.args.s (view c.start_write.new.pass) (view c.thin_all.new.pass)
-only c = put_then (view c.start_write.new.pass) (view c.join_all.new.pass) (view c.thin_all.new.pass) c.args.s c.join_all.ensures.only c.thin_all.ensures.only
+only : (c : After-thin_all) → OnlyPut c.args.merge.now.o (view c.start_write.new.pass) (view c.thin_all.new.pass)
+only c = put_then (view c.start_write.new.pass) (view c.join_all.new.pass) (view c.thin_all.new.pass) c.args.merge.now.o c.join_all.ensures.only c.thin_all.ensures.only
 
 pub finish_entries-requires-clause-fill : goal.finish_entries-requires-clause-fill
 finish_entries-requires-clause-fill c =
     let d = (goal.at.finish_entries-requires-clause-fill c).After-start_write in
-    subst (λ (z : Kind). c.args.counts.fill + c.args.more ≤ rows z (class_of (name_of c.args.own))) (sym c.requires.set) (room d)
+    subst (λ (z : Kind). c.args.merge.now.counts.fill + c.args.merge.now.more ≤ rows z (class_of (name_of c.args.own))) (sym c.requires.merge.way) (room d)
 
 pub finish_entries-requires-clause-may : goal.finish_entries-requires-clause-may
 finish_entries-requires-clause-may c =
@@ -193,10 +190,10 @@ finish_entries-requires-clause-may c =
     let u = view c.start_write.new.pass in
     let w = view c.thin_all.new.pass in
     let laws : Laws = record { pairs = c.used_entries_follow_a_dict.ensures.first; elements = c.used_entries_follow_a_set.ensures.first } in
-    let th = subst (λ (z : ContainerState × ContainerState). IsThinned k a.s a.own false (set_of z.0.content) (set_of z.1.content) (to b) a.counts.fill a.counts.fill w) (λ i. (knows b a.t i, knows b a.s i)) (c.thin_all.ensures.thinned (to b) (begins b (may d) (has d) (table_is d))) in
-    thinned_finishes k a.s a.own false (set_of (known a.t v).content) v u c.start_write.result c.requires.pass.1 a.pass.now.possible (may d) c.requires.set (has d) c.start_write.ensures.1
-    laws w (only at.After-thin_all) a.counts.fill (parted (known a.s v).content (known a.t v).content) (use_with (class_of (name_of a.own)) (a.counts.fill + a.more)) th a.called.now reply.Done
-    (parts_here a.s a.t a.called.now v (class_of (name_of a.own)) a.counts.fill a.more (set_of (known a.s v).content) c.requires.parts (is_first d) (table_is d) c.requires.more c.requires.room c.requires.few)
+    let th = subst (λ (z : ContainerState × ContainerState). IsThinned k a.merge.now.o a.own false (set_of z.0.content) (set_of z.1.content) (to b) a.merge.now.counts.fill a.merge.now.counts.fill w) (λ i. (knows b a.merge.now.t i, knows b a.merge.now.o i)) (c.thin_all.ensures.thinned (to b) (begins b (may d) (has d) (table_is d))) in
+    thinned_finishes k a.merge.now.o a.own false (set_of (known a.merge.now.t v).content) v u c.start_write.result c.requires.pass.1 a.pass.now.possible (may d) c.requires.merge.way (has d) c.start_write.ensures.1
+    laws w (only at.After-thin_all) a.merge.now.counts.fill (parted (known a.merge.now.o v).content (known a.merge.now.t v).content) (use_with (class_of (name_of a.own)) (a.merge.now.counts.fill + a.merge.now.more)) th a.called.now reply.Done
+    (parts_here a.merge.now.o a.merge.now.t a.called.now v (class_of (name_of a.own)) a.merge.now.counts.fill a.merge.now.more (set_of (known a.merge.now.o v).content) c.requires.parts (is_first d) (table_is d) c.requires.merge.more c.requires.room c.requires.few)
 
 pub returns-clause-wrote : goal.returns-clause-wrote
 returns-clause-wrote c =
@@ -205,7 +202,7 @@ returns-clause-wrote c =
     let d = at.After-start_write in
     let b = at.After-join_all in
     let th = c.thin_all.ensures.thinned (to b) (begins b (may d) (has d) (table_is d)) in
-    whole_write a.s (view a.pass.now) (view c.start_write.new.pass) (view c.thin_all.new.pass) c.start_write.result c.start_write.ensures.1 (only at.After-thin_all) a.called.now reply.Done c.finish_entries.result (view c.finish_entries.new.pass) c.requires.parts.changed c.requires.may.keyed.even c.finish_entries.ensures.ends
+    whole_write a.merge.now.o (view a.pass.now) (view c.start_write.new.pass) (view c.thin_all.new.pass) c.start_write.result c.start_write.ensures.1 (only at.After-thin_all) a.called.now reply.Done c.finish_entries.result (view c.finish_entries.new.pass) c.requires.parts.changed c.requires.may.keyed.even c.finish_entries.ensures.ends
     (th.midway.writes.root ∙ sym c.requires.may.keyed.root)
 
 pub returns-clause-root : goal.returns-clause-root
@@ -215,5 +212,5 @@ returns-clause-root c =
     let d = at.After-start_write in
     let b = at.After-join_all in
     let th = c.thin_all.ensures.thinned (to b) (begins b (may d) (has d) (table_is d)) in
-    whole_root a.s (view a.pass.now) (view c.start_write.new.pass) (view c.thin_all.new.pass) c.start_write.result c.start_write.ensures.1 (only at.After-thin_all) a.called.now reply.Done c.finish_entries.result (view c.finish_entries.new.pass) c.requires.parts.changed c.finish_entries.ensures.ends
+    whole_root a.merge.now.o (view a.pass.now) (view c.start_write.new.pass) (view c.thin_all.new.pass) c.start_write.result c.start_write.ensures.1 (only at.After-thin_all) a.called.now reply.Done c.finish_entries.result (view c.finish_entries.new.pass) c.requires.parts.changed c.finish_entries.ensures.ends
     (th.midway.writes.root ∙ sym c.requires.may.keyed.root)

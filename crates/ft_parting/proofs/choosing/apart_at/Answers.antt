@@ -3,28 +3,21 @@ use Rattle.std.specs.Prelude.{IsTrue, is_some, slice_index_or}
 use Rattle.std.specs.Option.{unwrap_or}
 use Rattle.std.proofs.lemmas.Bool.{cases_lt}
 use Rattle.ft_model.specs.declared.data.Key.{Key}
-use Rattle.ft_model.specs.declared.content.Element.{Element}
-use Rattle.ft_model.specs.declared.script.Kind.TheVariants as kind
 use Rattle.ft_model.specs.Contents.{has_element}
 use Rattle.ft_model.specs.Worlds.{set_of}
 use Rattle.ft_layout.specs.declared.slot.Stored.TheVariants.{Empty}
-use Rattle.ft_layout.specs.declared.slot.Pair.{Pair}
 use Rattle.ft_layout.specs.Containers.{class_mask}
-use Rattle.ft_layout.specs.Tables.{IsSetTable, UsedEntry, entry_word, hash_of, is_live, set_room}
+use Rattle.ft_layout.specs.Tables.{IsSetTable, UsedEntry, entry_word, hash_of, is_live}
 use Rattle.ft_layout.specs.Words.{IsKey}
 use Rattle.ft_keys.specs.declared.walk.Way.TheVariants as way
 use Rattle.ft_trace.specs.Addresses.{class_of, slots}
 use Rattle.ft_trace.specs.Holds.{held, known}
-use Rattle.ft_trace.specs.Kinds.{rows}
 use Rattle.ft_trace.specs.Pictures.{Picture, entry_field}
-use Rattle.ft_trace.specs.ContainerStates.{ContainerState}
 use Rattle.ft_bank.specs.Passes.{shape_of, view}
 use Rattle.ft_bank.specs.TableNames.{name_of}
-use Rattle.ft_bank.specs.Whole.{OnlyLoaded}
 use Rattle.ft_bank.proofs.TableAddresses.{named}
 use Rattle.ft_bank.proofs.KnownAfterWrites.{loaded_held, loaded_then, work_knows}
 use Rattle.ft_adding.proofs.FilledTables.{room_of_way, word_here}
-use Rattle.ft_parting.specs.Choosing.{apart_pair}
 use Rattle.ft_parting.proofs.Chosen.{apart_dead, apart_found, apart_here, gone_words, live_words, never_words, set_says}
 use Rattle.ft_parting.proofs.choosing.apart_at.Goals as goal
 use Rattle.ft_parting.proofs.choosing.apart_at.Goals.{Start, After-key_at, After-word_of-hash, After-has_key}

@@ -1,13 +1,9 @@
-use Rattle.std.proofs.Common.{◌≡◌, ◌+◌, ◌<◌, refl, sym, ap, ◌∙◌, subst, arith}
-use Rattle.ft_model.specs.declared.script.Kind.TheVariants as kind
+use Rattle.std.proofs.Common.{refl, ◌∙◌, arith}
 use Rattle.ft_trace.specs.Addresses.{class_of}
-use Rattle.ft_trace.specs.Holds.{known}
-use Rattle.ft_trace.specs.Kinds.{rows}
-use Rattle.ft_trace.specs.ContainerStates.{ContainerState}
 use Rattle.ft_bank.specs.Passes.{shape_of, view}
 use Rattle.ft_bank.specs.TableNames.{name_of}
 use Rattle.ft_growth.proofs.Rooting.{filled_same, filled_then}
-use Rattle.ft_adding.proofs.Grown.{knows_filled, same_filled}
+use Rattle.ft_adding.proofs.Grown.{knows_filled}
 use Rattle.ft_adding.proofs.FilledTables.{room_of_way}
 use Rattle.ft_keys.specs.declared.walk.Way.TheVariants as way
 use Rattle.ft_search.proofs.Puts.{table_class}

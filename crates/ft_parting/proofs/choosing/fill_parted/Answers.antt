@@ -1,4 +1,4 @@
-use Rattle.std.proofs.Common.{◌≡◌, ◌≤◌, ◌+◌, ◌<◌, ◌^◌, ℕ, List, ◌∷◌, ◌++◌, length, Option, Some, None, refl, sym, ap, ◌∙◌, subst, arith}
+use Rattle.std.proofs.Common.{◌≡◌, ◌≤◌, ◌+◌, ℕ, List, ◌∷◌, ◌++◌, length, Some, sym, ap, ◌∙◌, subst, arith}
 use Rattle.std.proofs.lemmas.List.{append-nil, length-append, take_all}
 use Rattle.ft_model.specs.declared.content.Content.{Content}
 use Rattle.ft_model.specs.declared.content.Content.TheVariants as content
@@ -8,17 +8,14 @@ use Rattle.ft_model.specs.Contents.{IsSet, SetContent, elements_from, those_not_
 use Rattle.ft_model.specs.Worlds.{serial_of, set_of}
 use Rattle.ft_model.proofs.Sets.{IsSet-xor}
 use Rattle.ft_layout.specs.Tables.{UsedEntry}
-use Rattle.ft_trace.specs.Acts.{stage}
 use Rattle.ft_trace.specs.Addresses.{class_of}
-use Rattle.ft_trace.specs.Holds.{held, in_hand, known}
+use Rattle.ft_trace.specs.Holds.{held, known}
 use Rattle.ft_trace.specs.Kinds.{rows}
 use Rattle.ft_trace.specs.ContainerStates.{ContainerState}
-use Rattle.ft_bank.specs.declared.table.Table.{Table}
 use Rattle.ft_bank.specs.Passes.{shape_of, view}
 use Rattle.ft_bank.specs.TableNames.{name_of}
 use Rattle.ft_growth.specs.Adding.{OnlyFilled}
 use Rattle.ft_growth.proofs.Rooting.{filled_then}
-use Rattle.ft_adding.specs.Fresh.{IsFilledWith}
 use Rattle.ft_adding.specs.KeyGrowth.{KnowsKeyed}
 use Rattle.ft_adding.proofs.Grown.{knows_filled, same_filled}
 use Rattle.ft_adding.proofs.Keyed.{counts_known}

@@ -1,15 +1,12 @@
-use Rattle.std.proofs.Common.{◌≡◌, ◌≢◌, ℕ, ◌∷◌, List, Option, Some, None, refl, sym, ap, ◌∙◌, subst}
+use Rattle.std.proofs.Common.{◌≢◌, ℕ, ◌∷◌, List, Option, Some, None, refl, sym, subst}
 use Rattle.std.specs.Prelude.{All}
 use Rattle.ft_layout.specs.Containers.{class_mask}
 use Rattle.ft_layout.specs.Tables.{IsSetTable, UsedEntry}
-use Rattle.ft_keys.specs.declared.search.Found.{Found}
 use Rattle.ft_keys.specs.declared.walk.Way.TheVariants as way
 use Rattle.ft_keys.specs.Searches.{Finds}
-use Rattle.ft_trace.specs.Addresses.{class_of}
 use Rattle.ft_trace.specs.Holds.{held}
 use Rattle.ft_bank.specs.declared.table.Table.{Table}
 use Rattle.ft_bank.specs.Passes.{shape_of, view}
-use Rattle.ft_bank.specs.TableNames.{name_of}
 use Rattle.ft_bank.specs.Whole.{OnlyLoaded}
 use Rattle.ft_bank.proofs.TableAddresses.{class_is}
 use Rattle.ft_search.proofs.Rounding.{looks_load}

@@ -1,5 +1,4 @@
-use Rattle.std.proofs.Common.{sym, subst}
-use Rattle.ft_bank.specs.declared.bank.Bank.{Bank}
+use Rattle.std.proofs.Common.{subst}
 use Rattle.ft_bank.specs.Passes.{IsPassOf}
 use Rattle.ft_adding.proofs.FilledTables.{ran_fresh}
 use Rattle.ft_parting.proofs.choosing.place_in.Goals as goal

@@ -1,4 +1,4 @@
-use Rattle.std.proofs.Common.{◌≡◌, List, length, Option, Some, None, refl, sym, ap, ◌∙◌, subst}
+use Rattle.std.proofs.Common.{List, length, Option, sym, ap, ◌∙◌, subst}
 use Rattle.ft_model.specs.declared.content.Element.{Element}
 use Rattle.ft_model.specs.Contents.{those_not_in}
 use Rattle.ft_model.specs.Worlds.{set_of}

@@ -1,6 +1,4 @@
-use Rattle.std.proofs.Common.{◌≡◌, ℕ, Some, None, Option, refl, sym, ap, ◌∙◌, subst, arith}
-use Rattle.ft_model.specs.Contents.{those_not_in}
-use Rattle.ft_model.specs.Worlds.{set_of}
+use Rattle.std.proofs.Common.{ℕ, None, Option, sym, ap, ◌∙◌, subst}
 use Rattle.ft_trace.specs.Holds.{known}
 use Rattle.ft_bank.specs.declared.table.Table.{Table}
 use Rattle.ft_bank.specs.Passes.{shape_of, view}
@@ -11,7 +9,6 @@ use Rattle.ft_search.proofs.Changing.{kind_is}
 use Rattle.ft_search.proofs.Spotting.{may_loaded}
 use Rattle.ft_adding.specs.KeyGrowth.{KnowsKeyed}
 use Rattle.ft_adding.proofs.Taken.{has_loaded}
-use Rattle.ft_model.specs.Worlds.{serial_of}
 use Rattle.ft_merging.specs.Joining.{joined}
 use Rattle.ft_merging.specs.Parting.{PartsSets}
 use Rattle.ft_merging.proofs.JoinedSame.{known_bare, known_itself, none_joined}

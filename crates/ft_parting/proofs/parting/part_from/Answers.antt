@@ -1,6 +1,5 @@
-use Rattle.std.proofs.Common.{◌≡◌, ◌+◌, ◌<◌, ◌≤◌, ◌^◌, ℕ, ◌∷◌, length, Some, refl, sym, ap, ◌∙◌, subst, arith}
+use Rattle.std.proofs.Common.{◌≡◌, ◌+◌, ◌<◌, ◌^◌, ◌∷◌, length, Some, sym, ap, ◌∙◌, subst, arith}
 use Rattle.std.specs.Prelude.{slice_index}
-use Rattle.ft_model.specs.declared.content.Content.TheVariants as content
 use Rattle.ft_model.specs.Contents.{those_not_in}
 use Rattle.ft_model.specs.Worlds.{serial_of, set_of}
 use Rattle.ft_trace.specs.Holds.{held, known}
@@ -10,7 +9,6 @@ use Rattle.ft_bank.specs.Passes.{shape_of, view}
 use Rattle.ft_bank.specs.Whole.{OnlyLoaded}
 use Rattle.ft_bank.proofs.KnownAfterWrites.{loaded_held, loaded_then, work_knows}
 use Rattle.ft_search.proofs.Spotting.{may_loaded}
-use Rattle.ft_adding.specs.KeyGrowth.{KnowsKeyed}
 use Rattle.ft_adding.specs.Placing.{AreCounts}
 use Rattle.ft_adding.proofs.Present.{may_add}
 use Rattle.ft_adding.proofs.Taken.{has_loaded}
@@ -100,28 +98,6 @@ part_more-requires-clause-may c =
     let late = loaded_then (view c.own_table-old.new.pass) m w c.count_lacking-more.ensures.only c.count_staying-stay.ensures.only in
     may_add k a.s c.own_table-old.result v w all c.requires.used c.requires.idle (may_loaded k a.s v w all c.requires.may) (knows_loaded k a.s c.own_table-old.result (view c.own_table-old.new.pass) w late c.own_table-old.ensures.knows)
 
-pub part_more-requires-clause-other : goal.part_more-requires-clause-other
-part_more-requires-clause-other c =
-    let a = c.args in
-    let at = goal.at.part_more-requires-clause-other c in
-    let all = three at.After-count_staying-stay (two at.After-count_lacking-more (one at.After-own_table-old)) in
-    knows_loaded (shape_of a.bank.now) a.t (Some a.table) (view a.pass.now) (view c.count_staying-stay.new.pass) all c.requires.other
-
-pub part_more-requires-clause-others : goal.part_more-requires-clause-others
-part_more-requires-clause-others c =
-    let a = c.args in
-    let at = goal.at.part_more-requires-clause-others c in
-    let all = three at.After-count_staying-stay (two at.After-count_lacking-more (one at.After-own_table-old)) in
-    others_fill at.After-own_table-old ∙ ap (λ (z : ContainerState). z.table.fill) (sym (work_knows (view a.pass.now) (view c.count_staying-stay.new.pass) a.t all.work))
-
-pub part_more-requires-clause-counts : goal.part_more-requires-clause-counts
-part_more-requires-clause-counts c =
-    let a = c.args in
-    let at = goal.at.part_more-requires-clause-counts c in
-    let v = view a.pass.now in
-    let all = three at.After-count_staying-stay (two at.After-count_lacking-more (one at.After-own_table-old)) in
-    subst (λ (z : Picture). AreCounts z.block c.read_counts-counts.result) (loaded_held v (view c.read_counts-others.new.pass) a.s c.read_counts-others.ensures.only ∙ sym (loaded_held v (view c.count_staying-stay.new.pass) a.s all)) c.read_counts-counts.ensures.counts
-
 stays : (c : After-count_staying-stay) → OnlyLoaded (view c.args.pass.now) (view c.count_lacking-more.new.pass) → c.count_staying-stay.result ≡ length (those_not_in (set_of (known c.args.t (view c.args.pass.now)).content).elements (set_of (known c.args.s (view c.args.pass.now)).content).elements)
 stays c before =
     let a = c.args in
@@ -146,15 +122,27 @@ part_more-requires-clause-stay c =
     let other = work_knows (view a.pass.now) (view c.count_staying-stay.new.pass) a.t all.work in
     stays at.After-count_staying-stay before ∙ (λ i. length (those_not_in (set_of (sym other i).content).elements (set_of (sym mine i).content).elements))
 
-pub part_more-requires-clause-more : goal.part_more-requires-clause-more
-part_more-requires-clause-more c =
+pub part_more-requires-clause-merge : goal.part_more-requires-clause-merge
+part_more-requires-clause-merge c =
     let a = c.args in
-    let at = goal.at.part_more-requires-clause-more c in
+    let at = goal.at.part_more-requires-clause-merge c in
+    let k = shape_of a.bank.now in
+    let v = view a.pass.now in
+    let w = view c.count_staying-stay.new.pass in
     let before = one at.After-own_table-old in
     let all = three at.After-count_staying-stay (two at.After-count_lacking-more before) in
-    let mine = work_knows (view a.pass.now) (view c.count_staying-stay.new.pass) a.s all.work in
-    let other = work_knows (view a.pass.now) (view c.count_staying-stay.new.pass) a.t all.work in
-    news at.After-count_lacking-more before ∙ (λ i. new_keys (sym mine i).content (sym other i).content)
+    let mine = work_knows v w a.s all.work in
+    let other = work_knows v w a.t all.work in
+    record {
+      two = c.requires.two;
+      other = knows_loaded k a.t (Some a.table) v w all c.requires.other;
+      way = c.requires.set;
+      other_way = c.requires.other_set;
+      others = others_fill at.After-own_table-old ∙ ap (λ (z : ContainerState). z.table.fill) (sym other);
+      counts = subst (λ (z : Picture). AreCounts z.block c.read_counts-counts.result) (loaded_held v (view c.read_counts-others.new.pass) a.s c.read_counts-others.ensures.only ∙ sym (loaded_held v w a.s all)) c.read_counts-counts.ensures.counts;
+      more = news at.After-count_lacking-more before ∙ (λ i. new_keys (sym mine i).content (sym other i).content);
+      serials = subst (λ (z : ContainerState). serial_of z.content + 65536 < 2 ^ 63) (sym mine) c.requires.serials;
+    }
 
 pub part_more-requires-clause-few : goal.part_more-requires-clause-few
 part_more-requires-clause-few c =
@@ -172,13 +160,6 @@ part_more-requires-clause-few c =
     let f1 = few_apart (known a.s v).content s t.elements s_is (known_cap k a.s v c.requires.pass.1 a.pass.now.possible c.requires.may.keyed c.requires.may.locked c.requires.may.stands (record { pairs = c.used_entries_follow_a_dict.ensures.first; elements = c.used_entries_follow_a_set.ensures.first })) in
     let f2 = few_apart (known a.t v).content t s.elements t_is (known_cap k a.t v c.requires.pass.1 a.pass.now.possible c.requires.other_may.keyed c.requires.other_may.locked c.requires.other_may.stands (record { pairs = c.used_entries_follow_a_dict.ensures.first; elements = c.used_entries_follow_a_set.ensures.first })) in
     omega (arith, stay, more, f1, f2)
-
-pub part_more-requires-clause-serials : goal.part_more-requires-clause-serials
-part_more-requires-clause-serials c =
-    let a = c.args in
-    let at = goal.at.part_more-requires-clause-serials c in
-    let all = three at.After-count_staying-stay (two at.After-count_lacking-more (one at.After-own_table-old)) in
-    subst (λ (z : ContainerState). serial_of z.content + 65536 < 2 ^ 63) (sym (work_knows (view a.pass.now) (view c.count_staying-stay.new.pass) a.s all.work)) c.requires.serials
 
 pub part_more-requires-clause-parts : goal.part_more-requires-clause-parts
 part_more-requires-clause-parts c =

@@ -1,14 +1,11 @@
-use Rattle.std.proofs.Common.{◌≡◌, ℕ, Bool, false, Option, Some, None, refl, sym, ap, ◌∙◌, subst}
-use Rattle.ft_model.specs.declared.content.Content.TheVariants as content
+use Rattle.std.proofs.Common.{ℕ, Bool, Option, None, sym, ◌∙◌, subst}
 use Rattle.ft_model.specs.declared.reply.Reply.TheVariants as reply
-use Rattle.ft_model.specs.TableUses.{passes_cap}
 use Rattle.ft_model.specs.Worlds.{set_of}
 use Rattle.ft_keys.specs.declared.walk.Way.TheVariants as way
 use Rattle.ft_trace.specs.Holds.{known}
 use Rattle.ft_bank.specs.declared.table.Table.{Table}
 use Rattle.ft_bank.specs.Passes.{shape_of, view}
 use Rattle.ft_growth.specs.Adding.{IsAdded}
-use Rattle.ft_search.specs.OneEntryWrites.{MayWriteEntries}
 use Rattle.ft_search.proofs.Changing.{kind_is}
 use Rattle.ft_adding.specs.KeyGrowth.{MayAddKey, keys_take}
 use Rattle.ft_adding.proofs.Keyed.{use_known}
@@ -21,22 +18,22 @@ use Rattle.ft_merging.proofs.PartedHere.{join_stays}
 use Rattle.ft_parting.proofs.parting.part_in_old.Goals as goal
 
 pub part_here-requires-clause-may : goal.part_here-requires-clause-may
-part_here-requires-clause-may c = subst (λ (z : Option Table). MayAddKey (shape_of c.args.bank.now) c.args.s z (view c.args.pass.now)) c.in-Some.is c.requires.may
+part_here-requires-clause-may c = subst (λ (z : Option Table). MayAddKey (shape_of c.args.bank.now) c.args.merge.now.o z (view c.args.pass.now)) c.in-Some.is c.requires.may
 
 pub returns-in-Some-clause-added : goal.returns-in-Some-clause-added
 returns-in-Some-clause-added c =
     let a = c.args in
     let n = c.part_here.ensures in
-    made_here (shape_of a.bank.now) a.s a.called.now (view a.pass.now) (view c.part_here.new.pass) c.written.result c.part_here.result c.written.ensures c.requires.parts.changed n.wrote n.root
+    made_here (shape_of a.bank.now) a.merge.now.o a.called.now (view a.pass.now) (view c.part_here.new.pass) c.written.result c.part_here.result c.written.ensures c.requires.parts.changed n.wrote n.root
 
 -- ---- without a table none is new
 
 pub part_thin-requires-clause-may : goal.part_thin-requires-clause-may
-part_thin-requires-clause-may c = may_write (shape_of c.args.bank.now) c.args.s c.args.old (view c.args.pass.now) c.requires.may
+part_thin-requires-clause-may c = may_write (shape_of c.args.bank.now) c.args.merge.now.o c.args.old (view c.args.pass.now) c.requires.may
 
 pub part_thin-requires-clause-other : goal.part_thin-requires-clause-other
 part_thin-requires-clause-other c =
-    let o = c.requires.other in
+    let o = c.requires.merge.other in
     let m = c.requires.may in
     record { container = o.container; keyed = o.keyed; locked = o.locked; even = o.even; stands = o.stands; owes = m.owes; left = m.left }
 
@@ -45,13 +42,13 @@ part_thin-requires-clause-none c =
     let a = c.args in
     let k = shape_of a.bank.now in
     let v = view a.pass.now in
-    let d = (known a.s v).content in
-    let e = (known a.t v).content in
-    let may = subst (λ (z : Option Table). MayAddKey k a.s z v) c.in-None.is c.requires.may in
-    let kinds = kind_is k v a.s c.requires.pass.1 a.pass.now.possible may.keyed.locked ∙ c.requires.set in
-    let table = use_known c.words_are_of_one_content.ensures.head k a.s None v a.counts may.keyed c.requires.counts in
-    let joins = join_stays (known a.s v) e (set_of d) (is_set k v a.s c.requires.pass.1 a.pass.now.possible may.keyed.locked c.requires.set) c.requires.room in
-    bare_none d way.Set a.counts.fill (new_keys d e) kinds ((λ i. keys_take d (sym table i) (new_keys d e)) ∙ joins)
+    let d = (known a.merge.now.o v).content in
+    let e = (known a.merge.now.t v).content in
+    let may = subst (λ (z : Option Table). MayAddKey k a.merge.now.o z v) c.in-None.is c.requires.may in
+    let kinds = kind_is k v a.merge.now.o c.requires.pass.1 a.pass.now.possible may.keyed.locked ∙ c.requires.merge.way in
+    let table = use_known c.words_are_of_one_content.ensures.head k a.merge.now.o None v a.merge.now.counts may.keyed c.requires.merge.counts in
+    let joins = join_stays (known a.merge.now.o v) e (set_of d) (is_set k v a.merge.now.o c.requires.pass.1 a.pass.now.possible may.keyed.locked c.requires.merge.way) c.requires.room in
+    bare_none d way.Set a.merge.now.counts.fill (new_keys d e) kinds ((λ i. keys_take d (sym table i) (new_keys d e)) ∙ joins)
 
 pub returns-in-None-clause-added : goal.returns-in-None-clause-added
 returns-in-None-clause-added c =

@@ -1,4 +1,4 @@
-use Rattle.std.proofs.Common.{◌≡◌, ◌≢◌, ◌≤◌, ◌+◌, ℕ, suc, ◌∷◌, length, Some, refl, sym, ap, ◌∙◌, subst, arith}
+use Rattle.std.proofs.Common.{◌≡◌, ◌≢◌, ◌≤◌, ℕ, suc, length, Some, refl, sym, ap, ◌∙◌, subst, arith}
 use Rattle.ft_model.specs.declared.content.Content.TheVariants as content
 use Rattle.ft_model.specs.declared.reply.Reply.TheVariants as reply
 use Rattle.ft_model.specs.declared.script.Kind.TheVariants as kind
@@ -34,30 +34,30 @@ use Rattle.ft_parting.proofs.parting.part_in_taken.Goals.{After-take, In-Taken}
 
 -- ---- once it was taken
 
-words_s : (c : In-Taken) → (held c.args.s (view c.take.new.pass) ≡ held c.args.s (view c.args.pass.now)) × (known c.args.s (view c.take.new.pass) ≡ known c.args.s (view c.args.pass.now))
+words_s : (c : In-Taken) → (held c.args.merge.now.o (view c.take.new.pass) ≡ held c.args.merge.now.o (view c.args.pass.now)) × (known c.args.merge.now.o (view c.take.new.pass) ≡ known c.args.merge.now.o (view c.args.pass.now))
 words_s c =
     let a = c.args in
     let e = c.in-Taken.ensures in
-    tried_words _ (view a.pass.now) (view c.take.new.pass) e.same e.keeps (shape_of a.bank.now) a.s a.old c.requires.pass.1 c.requires.may.keyed
+    tried_words _ (view a.pass.now) (view c.take.new.pass) e.same e.keeps (shape_of a.bank.now) a.merge.now.o a.old c.requires.pass.1 c.requires.may.keyed
 
-words_t : (c : In-Taken) → (held c.args.t (view c.take.new.pass) ≡ held c.args.t (view c.args.pass.now)) × (known c.args.t (view c.take.new.pass) ≡ known c.args.t (view c.args.pass.now))
+words_t : (c : In-Taken) → (held c.args.merge.now.t (view c.take.new.pass) ≡ held c.args.merge.now.t (view c.args.pass.now)) × (known c.args.merge.now.t (view c.take.new.pass) ≡ known c.args.merge.now.t (view c.args.pass.now))
 words_t c =
     let a = c.args in
     let e = c.in-Taken.ensures in
-    tried_words _ (view a.pass.now) (view c.take.new.pass) e.same e.keeps (shape_of a.bank.now) a.t (Some a.table) c.requires.pass.1 c.requires.other
+    tried_words _ (view a.pass.now) (view c.take.new.pass) e.same e.keeps (shape_of a.bank.now) a.merge.now.t (Some a.merge.now.table) c.requires.pass.1 c.requires.merge.other
 
-grow : (c : In-Taken) → MayGrowKeyed (shape_of c.args.bank.now) c.args.s c.args.old c.in-Taken.new (view c.take.new.pass)
+grow : (c : In-Taken) → MayGrowKeyed (shape_of c.args.bank.now) c.args.merge.now.o c.args.old c.in-Taken.new (view c.take.new.pass)
 grow c =
     let a = c.args in
     let e = c.in-Taken.ensures in
     let x = e.did.6 in
-    tried_may _ (view a.pass.now) (view c.take.new.pass) e.same e.keeps (shape_of a.bank.now) a.s a.old c.in-Taken.new a.class c.requires.pass.1 c.requires.may x.0 x.1 x.3 x.4
+    tried_may _ (view a.pass.now) (view c.take.new.pass) e.same e.keeps (shape_of a.bank.now) a.merge.now.o a.old c.in-Taken.new a.class c.requires.pass.1 c.requires.may x.0 x.1 x.3 x.4
 
-other : (c : In-Taken) → root_in (held c.args.s (view c.take.new.pass)) ≢ suc (name_of c.in-Taken.new)
+other : (c : In-Taken) → root_in (held c.args.merge.now.o (view c.take.new.pass)) ≢ suc (name_of c.in-Taken.new)
 other c =
     let a = c.args in
     let g = grow c in
-    fresh_other (shape_of a.bank.now) (view c.take.new.pass) a.s c.in-Taken.new (c.in-Taken.ensures.same.shape ∙ c.requires.pass.1) c.take.new.pass.possible g.keyed.container g.keyed.locked g.table_in g.fresh
+    fresh_other (shape_of a.bank.now) (view c.take.new.pass) a.merge.now.o c.in-Taken.new (c.in-Taken.ensures.same.shape ∙ c.requires.pass.1) c.take.new.pass.possible g.keyed.container g.keyed.locked g.table_in g.fresh
 
 class_named : (c : In-Taken) → class_of (name_of c.in-Taken.new) ≡ c.args.class
 class_named c = let x = c.in-Taken.ensures.did.6 in class_is c.in-Taken.new x.0.2 ∙ x.1
@@ -69,13 +69,13 @@ pub fill_parted-requires-clause-other_keyed : goal.fill_parted-requires-clause-o
 fill_parted-requires-clause-other_keyed c =
     let a = c.args in
     let e = c.in-Taken.ensures in
-    tried_knows _ (view a.pass.now) (view c.take.new.pass) e.same e.keeps (shape_of a.bank.now) a.t (Some a.table) c.requires.pass.1 c.requires.other
+    tried_knows _ (view a.pass.now) (view c.take.new.pass) e.same e.keeps (shape_of a.bank.now) a.merge.now.t (Some a.merge.now.table) c.requires.pass.1 c.requires.merge.other
 
 pub fill_parted-requires-clause-counts : goal.fill_parted-requires-clause-counts
-fill_parted-requires-clause-counts c = subst (λ (z : Picture). AreCounts z.block c.args.counts) (sym (words_s (goal.at.fill_parted-requires-clause-counts c).In-Taken).0) c.requires.counts
+fill_parted-requires-clause-counts c = subst (λ (z : Picture). AreCounts z.block c.args.merge.now.counts) (sym (words_s (goal.at.fill_parted-requires-clause-counts c).In-Taken).0) c.requires.merge.counts
 
 pub fill_parted-requires-clause-others : goal.fill_parted-requires-clause-others
-fill_parted-requires-clause-others c = c.requires.others ∙ ap (λ (z : ContainerState). z.table.fill) (sym (words_t (goal.at.fill_parted-requires-clause-others c).In-Taken).1)
+fill_parted-requires-clause-others c = c.requires.merge.others ∙ ap (λ (z : ContainerState). z.table.fill) (sym (words_t (goal.at.fill_parted-requires-clause-others c).In-Taken).1)
 
 pub fill_parted-requires-clause-table : goal.fill_parted-requires-clause-table
 fill_parted-requires-clause-table c = c.in-Taken.ensures.did.6.0
@@ -90,17 +90,17 @@ fill_parted-requires-clause-room c =
     let p = (goal.at.fill_parted-requires-clause-room c).In-Taken in
     let s = words_s p in
     let t = words_t p in
-    let fits = part_room (known a.s v) (known a.t v).content a.class c.requires.few c.requires.takes in
+    let fits = part_room (known a.merge.now.o v) (known a.merge.now.t v).content a.class c.requires.few c.requires.takes in
     subst (λ (z : ContainerState × ContainerState × ℕ). length (parted z.0.content z.1.content).elements ≤ rows kind.Set z.2) (sym (λ i. (s.1 i, t.1 i, class_named p i))) fits
 
 -- the next serial
-next_is : (c : After-take) → c.args.counts.next ≡ serial_of (known c.args.s (view c.args.pass.now)).content
+next_is : (c : After-take) → c.args.merge.now.counts.next ≡ serial_of (known c.args.merge.now.o (view c.args.pass.now)).content
 next_is c =
     let a = c.args in
-    (counts_known c.words_are_of_one_content.ensures.head (shape_of a.bank.now) a.s a.old (view a.pass.now) a.counts c.requires.may.keyed c.requires.counts).1
+    (counts_known c.words_are_of_one_content.ensures.head (shape_of a.bank.now) a.merge.now.o a.old (view a.pass.now) a.merge.now.counts c.requires.may.keyed c.requires.merge.counts).1
 
 pub fill_parted-requires-clause-serials : goal.fill_parted-requires-clause-serials
-fill_parted-requires-clause-serials c = let n = next_is (goal.at.fill_parted-requires-clause-serials c).After-take in let s = c.requires.serials in omega (arith, n, s)
+fill_parted-requires-clause-serials c = let n = next_is (goal.at.fill_parted-requires-clause-serials c).After-take in let s = c.requires.merge.serials in omega (arith, n, s)
 
 -- ---- once it was filled
 
@@ -108,13 +108,13 @@ pub swap_table-number-requires-clause-may : goal.swap_table-number-requires-clau
 swap_table-number-requires-clause-may c =
     let a = c.args in
     let g = grow (goal.at.swap_table-number-requires-clause-may c).In-Taken in
-    grow_filled (shape_of a.bank.now) a.s a.old c.in-Taken.new (view c.take.new.pass) (view c.fill_parted.new.pass) (c.in-Taken.ensures.same.shape ∙ c.requires.pass.1) c.fill_parted.ensures.only g
+    grow_filled (shape_of a.bank.now) a.merge.now.o a.old c.in-Taken.new (view c.take.new.pass) (view c.fill_parted.new.pass) (c.in-Taken.ensures.same.shape ∙ c.requires.pass.1) c.fill_parted.ensures.only g
 
 pub swap_table-number-requires-clause-other : goal.swap_table-number-requires-clause-other
 swap_table-number-requires-clause-other c =
     let a = c.args in
     let p = (goal.at.swap_table-number-requires-clause-other c).In-Taken in
-    let same = same_filled (shape_of a.bank.now) a.s a.old (view c.take.new.pass) (view c.fill_parted.new.pass) (c.in-Taken.ensures.same.shape ∙ c.requires.pass.1) c.fill_parted.ensures.only (grow p).keyed in
+    let same = same_filled (shape_of a.bank.now) a.merge.now.o a.old (view c.take.new.pass) (view c.fill_parted.new.pass) (c.in-Taken.ensures.same.shape ∙ c.requires.pass.1) c.fill_parted.ensures.only (grow p).keyed in
     subst (λ (z : Picture). root_in z ≢ suc (name_of c.in-Taken.new)) (sym same.0) (other p)
 
 pub overflow_add-next : goal.overflow_add-next
@@ -122,9 +122,9 @@ overflow_add-next c =
     let a = c.args in
     let v = view a.pass.now in
     let n = next_is (goal.at.overflow_add-next c).After-take in
-    let s = c.requires.serials in
-    let is = is_set (shape_of a.bank.now) v a.s c.requires.pass.1 a.pass.now.possible c.requires.may.keyed.locked c.requires.set in
-    let few = part_few (known a.s v).content (known a.t v).content (set_of (known a.s v).content) a.more is c.requires.more c.requires.few in
+    let s = c.requires.merge.serials in
+    let is = is_set (shape_of a.bank.now) v a.merge.now.o c.requires.pass.1 a.pass.now.possible c.requires.may.keyed.locked c.requires.merge.way in
+    let few = part_few (known a.merge.now.o v).content (known a.merge.now.t v).content (set_of (known a.merge.now.o v).content) a.merge.now.more is c.requires.merge.more c.requires.few in
     omega (arith, n, s, few)
 
 pub swap_table-number-requires-clause-gets : goal.swap_table-number-requires-clause-gets
@@ -138,18 +138,18 @@ swap_table-number-requires-clause-gets c =
     let s = words_s at.In-Taken in
     let t = words_t at.In-Taken in
     let class = class_of (name_of c.in-Taken.new) in
-    let all = parted (known a.s v).content (known a.t v).content in
-    let is = is_set (shape_of a.bank.now) v a.s c.requires.pass.1 a.pass.now.possible c.requires.may.keyed.locked c.requires.set in
-    let next = parted_next (known a.s v).content (known a.t v).content (set_of (known a.s v).content) a.counts.next a.more is (next_is at.After-take ∙ ap serial_of is) c.requires.more in
+    let all = parted (known a.merge.now.o v).content (known a.merge.now.t v).content in
+    let is = is_set (shape_of a.bank.now) v a.merge.now.o c.requires.pass.1 a.pass.now.possible c.requires.may.keyed.locked c.requires.merge.way in
+    let next = parted_next (known a.merge.now.o v).content (known a.merge.now.t v).content (set_of (known a.merge.now.o v).content) a.merge.now.counts.next a.merge.now.more is (next_is at.After-take ∙ ap serial_of is) c.requires.merge.more in
     let before : (found : StoredWorld) → MayHave x found → MayHave v found = λ found has. tried_has _ v u e.same e.keeps found (filled_has u x c.fill_parted.ensures.only found has) in
     let locks : (p : ℕ) → has_lock p x.log ≡ has_lock p v.log = λ p. c.fill_parted.ensures.only.work.pass.locks p ∙ e.same.locks p in (
       content.Set all,
-      sym c.requires.set,
+      sym c.requires.merge.way,
       c.requires.count,
       sym next,
       subst (λ (z : ContainerState × ContainerState). IsFilledWith (shape_of a.bank.now).texts class (content.Set (parted z.0.content z.1.content)) (in_hand (name_of c.in-Taken.new) x)) (λ i. (s.1 i, t.1 i)) c.fill_parted.ensures.filled,
-      subst (λ (z : ℕ). Replaces a.s a.called.now (content.Set all) (Some z) x) (sym (class_named at.In-Taken))
-          (replaces_later a.s a.called.now (content.Set all) (Some a.class) v x before locks (parts_replaces a.s a.t a.called.now v a.class c.requires.parts c.requires.takes c.requires.few)),
+      subst (λ (z : ℕ). Replaces a.merge.now.o a.called.now (content.Set all) (Some z) x) (sym (class_named at.In-Taken))
+          (replaces_later a.merge.now.o a.called.now (content.Set all) (Some a.class) v x before locks (parts_replaces a.merge.now.o a.merge.now.t a.called.now v a.class c.requires.parts c.requires.takes c.requires.few)),
     )
 
 pub retire_old-requires-clause-out : goal.retire_old-requires-clause-out
@@ -158,10 +158,10 @@ retire_old-requires-clause-out c t is =
     let p = (goal.at.retire_old-requires-clause-out c).In-Taken in
     let x = view c.fill_parted.new.pass in
     let w = view c.swap_table-number.new.pass in
-    let same = same_filled (shape_of a.bank.now) a.s a.old (view c.take.new.pass) x (c.in-Taken.ensures.same.shape ∙ c.requires.pass.1) c.fill_parted.ensures.only (grow p).keyed in
+    let same = same_filled (shape_of a.bank.now) a.merge.now.o a.old (view c.take.new.pass) x (c.in-Taken.ensures.same.shape ∙ c.requires.pass.1) c.fill_parted.ensures.only (grow p).keyed in
     let ends = c.swap_table-number.ensures in
     let at = sym c.requires.parts.changed in
-    let root : root_in (held a.s (view c.take.new.pass)) ≡ suc (name_of t) = (grow p).keyed.root ∙ ap root_for is in
+    let root : root_in (held a.merge.now.o (view c.take.new.pass)) ≡ suc (name_of t) = (grow p).keyed.root ∙ ap root_for is in
     let out = taken_out a.called.now reply.Done c.swap_table-number.result (name_of t) (suc (name_of c.in-Taken.new)) x w ends.wrote
     (subst (λ (n : ℕ). root_in (held n x) ≡ suc (name_of t)) at (ap root_in same.0 ∙ root))
     (subst (λ (n : ℕ). root_in (held n w) ≡ suc (name_of c.in-Taken.new)) at ends.root)
@@ -183,7 +183,7 @@ returns-in-Taken-clause-added c =
     let x = view c.fill_parted.new.pass in
     let done = view c.swap_table-number.new.pass in
     let e = c.in-Taken.ensures in
-    let same = same_filled (shape_of a.bank.now) a.s a.old u x (e.same.shape ∙ c.requires.pass.1) c.fill_parted.ensures.only (grow p).keyed in
+    let same = same_filled (shape_of a.bank.now) a.merge.now.o a.old u x (e.same.shape ∙ c.requires.pass.1) c.fill_parted.ensures.only (grow p).keyed in
     let at = c.requires.parts.changed in
     let w = c.swap_table-number.ensures in (
       refl,

@@ -1,11 +1,10 @@
-use Rattle.std.proofs.Common.{◌≡◌, ◌+◌, ◌-◌, ◌<◌, ◌≤◌, ℕ, Bool, true, false, List, length, Option, Some, None, refl, sym, ap, ◌∙◌, subst, arith, le-ltb, lt-ltb}
+use Rattle.std.proofs.Common.{◌≡◌, ◌+◌, ◌<◌, ◌≤◌, ℕ, Bool, true, false, length, Option, Some, None, refl, sym, ap, ◌∙◌, subst, arith, le-ltb, lt-ltb}
 use Rattle.std.specs.Prelude.{if◌then◌else◌}
 use Rattle.ft_model.specs.declared.content.Content.TheVariants as content
-use Rattle.ft_model.specs.declared.content.Element.{Element}
 use Rattle.ft_model.specs.declared.reply.Reply.TheVariants as reply
 use Rattle.ft_model.specs.Classes.{most_elements, set_class}
 use Rattle.ft_model.specs.Contents.{SetContent, those_not_in}
-use Rattle.ft_model.specs.TableUses.{TableUse, outgrows_set, passes_cap}
+use Rattle.ft_model.specs.TableUses.{outgrows_set, passes_cap}
 use Rattle.ft_model.specs.Worlds.{set_of}
 use Rattle.ft_growth.specs.Adding.{IsAdded}
 use Rattle.ft_trace.specs.Holds.{known}
@@ -19,34 +18,34 @@ use Rattle.ft_parting.proofs.PartedSets.{parted_length}
 use Rattle.ft_parting.proofs.parting.part_more.Goals as goal
 use Rattle.ft_parting.proofs.parting.part_more.Goals.{After-words_are_of_one_content}
 
-is_first : (c : After-words_are_of_one_content) → (known c.args.s (view c.args.pass.now)).content ≡ content.Set (set_of (known c.args.s (view c.args.pass.now)).content)
-is_first c = is_set (shape_of c.args.bank.now) (view c.args.pass.now) c.args.s c.requires.pass.1 c.args.pass.now.possible c.requires.may.keyed.locked c.requires.set
+is_first : (c : After-words_are_of_one_content) → (known c.args.merge.now.o (view c.args.pass.now)).content ≡ content.Set (set_of (known c.args.merge.now.o (view c.args.pass.now)).content)
+is_first c = is_set (shape_of c.args.bank.now) (view c.args.pass.now) c.args.merge.now.o c.requires.pass.1 c.args.pass.now.possible c.requires.may.keyed.locked c.requires.merge.way
 
 -- how many elements there are then
-many : (c : After-words_are_of_one_content) → length (parted (known c.args.s (view c.args.pass.now)).content (known c.args.t (view c.args.pass.now)).content).elements ≡ c.args.stay + c.args.more
+many : (c : After-words_are_of_one_content) → length (parted (known c.args.merge.now.o (view c.args.pass.now)).content (known c.args.merge.now.t (view c.args.pass.now)).content).elements ≡ c.args.stay + c.args.merge.now.more
 many c =
     let a = c.args in
     let v = view a.pass.now in
-    parted_length (known a.s v).content (known a.t v).content (set_of (known a.s v).content) a.stay a.more (is_first c) c.requires.stay c.requires.more
+    parted_length (known a.merge.now.o v).content (known a.merge.now.t v).content (set_of (known a.merge.now.o v).content) a.stay a.merge.now.more (is_first c) c.requires.stay c.requires.merge.more
 
-few : (c : After-words_are_of_one_content) → c.args.stay + c.args.more ≤ most_elements → passes_cap (content.Set (parted (known c.args.s (view c.args.pass.now)).content (known c.args.t (view c.args.pass.now)).content)) ≡ false
-few c low = let m = many c in le-ltb most_elements (length (parted (known c.args.s (view c.args.pass.now)).content (known c.args.t (view c.args.pass.now)).content).elements) (omega (arith, low, m))
+few : (c : After-words_are_of_one_content) → c.args.stay + c.args.merge.now.more ≤ most_elements → passes_cap (content.Set (parted (known c.args.merge.now.o (view c.args.pass.now)).content (known c.args.merge.now.t (view c.args.pass.now)).content)) ≡ false
+few c low = let m = many c in le-ltb most_elements (length (parted (known c.args.merge.now.o (view c.args.pass.now)).content (known c.args.merge.now.t (view c.args.pass.now)).content).elements) (omega (arith, low, m))
 
-over : (c : After-words_are_of_one_content) → most_elements < c.args.stay + c.args.more → passes_cap (content.Set (parted (known c.args.s (view c.args.pass.now)).content (known c.args.t (view c.args.pass.now)).content)) ≡ true
-over c high = let m = many c in lt-ltb most_elements (length (parted (known c.args.s (view c.args.pass.now)).content (known c.args.t (view c.args.pass.now)).content).elements) (omega (arith, high, m))
+over : (c : After-words_are_of_one_content) → most_elements < c.args.stay + c.args.merge.now.more → passes_cap (content.Set (parted (known c.args.merge.now.o (view c.args.pass.now)).content (known c.args.merge.now.t (view c.args.pass.now)).content)) ≡ true
+over c high = let m = many c in lt-ltb most_elements (length (parted (known c.args.merge.now.o (view c.args.pass.now)).content (known c.args.merge.now.t (view c.args.pass.now)).content).elements) (omega (arith, high, m))
 
 -- a set with that many elements
 abbrev staying : After-words_are_of_one_content → SetContent
-staying c = record { next = 0; elements = those_not_in (set_of (known c.args.t (view c.args.pass.now)).content).elements (set_of (known c.args.s (view c.args.pass.now)).content).elements }
+staying c = record { next = 0; elements = those_not_in (set_of (known c.args.merge.now.t (view c.args.pass.now)).content).elements (set_of (known c.args.merge.now.o (view c.args.pass.now)).content).elements }
 
-takes : (c : After-words_are_of_one_content) → part_takes (known c.args.s (view c.args.pass.now)) (known c.args.t (view c.args.pass.now)).content ≡ (if outgrows_set (use_of c.args.old c.args.counts.fill) c.args.more then Some (set_class (length (staying c).elements + c.args.more)) else None)
+takes : (c : After-words_are_of_one_content) → part_takes (known c.args.merge.now.o (view c.args.pass.now)) (known c.args.merge.now.t (view c.args.pass.now)).content ≡ (if outgrows_set (use_of c.args.old c.args.merge.now.counts.fill) c.args.merge.now.more then Some (set_class (length (staying c).elements + c.args.merge.now.more)) else None)
 takes c =
     let a = c.args in
     let v = view a.pass.now in
-    let d = (known a.s v).content in
-    let table = use_known c.words_are_of_one_content.ensures.head (shape_of a.bank.now) a.s a.old v a.counts c.requires.may.keyed c.requires.counts in
-    let drawn = part_draws d (known a.t v).content (set_of d) (is_first c) ∙ sym c.requires.more in
-    let all = many c ∙ ap (λ (n : ℕ). n + a.more) c.requires.stay in
+    let d = (known a.merge.now.o v).content in
+    let table = use_known c.words_are_of_one_content.ensures.head (shape_of a.bank.now) a.merge.now.o a.old v a.merge.now.counts c.requires.may.keyed c.requires.merge.counts in
+    let drawn = part_draws d (known a.merge.now.t v).content (set_of d) (is_first c) ∙ sym c.requires.merge.more in
+    let all = many c ∙ ap (λ (n : ℕ). n + a.merge.now.more) c.requires.stay in
     λ i. if outgrows_set (table i) (drawn i) then Some (set_class (all i)) else None
 
 pub answer_over-requires-clause-over : goal.answer_over-requires-clause-over

@@ -1,0 +1,25 @@
+-- What a pass has read of two containers, one of which gets keys of the other one.
+use Rattle.std.specs.Prelude.{◌≡◌, ◌≢◌, ◌+◌, ◌^◌, ◌<◌, Some}
+use Rattle.ft_model.specs.declared.script.Kind.{Kind}
+use Rattle.ft_model.specs.Worlds.{serial_of}
+use Rattle.ft_trace.specs.declared.Shape.{Shape}
+use Rattle.ft_trace.specs.declared.View.{View}
+use Rattle.ft_trace.specs.Holds.{held, known}
+use Rattle.ft_trace.specs.ContainerStates.{kind_in}
+use Rattle.ft_adding.specs.KeyGrowth.{KnowsKeyed}
+use Rattle.ft_adding.specs.Placing.{AreCounts}
+use Rattle.ft_merging.specs.declared.merging.Merge.{Merge}
+use Rattle.ft_merging.specs.Joining.{new_keys}
+
+-- The two are not one container and are of this kind. The pass has the lock of the other one, which has this table with
+-- that many used entries; of the first one these are the counts, and that many keys are new to it, with serials left
+-- for them. (profile)
+pub record MayMerge (k : Shape) (kind : Kind) (merge : Merge) (v : View) : Type 0 where
+  pub two : merge.o ≢ merge.t
+  pub other : KnowsKeyed k merge.t (Some merge.table) v
+  pub way : kind_in k.kinds merge.o ≡ kind
+  pub other_way : kind_in k.kinds merge.t ≡ kind
+  pub others : merge.others ≡ (known merge.t v).table.fill
+  pub counts : AreCounts (held merge.o v).block merge.counts
+  pub more : merge.more ≡ new_keys (known merge.o v).content (known merge.t v).content
+  pub serials : serial_of (known merge.o v).content + 65536 < 2 ^ 63

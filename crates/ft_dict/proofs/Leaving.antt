@@ -17,9 +17,7 @@ use Rattle.ft_model.specs.Answers.{Answer, answer, answer_dict, puts, shows, aft
 use Rattle.ft_model.specs.Calls.{is_changing_dict, other_dict, cursor_of_dict, dict_change, adds, one_or_two}
 use Rattle.ft_model.specs.Classes.{dict_class, dict_entries, most_pairs}
 use Rattle.ft_model.specs.TablesInOrder.{changed_dict, HasTableFor, IsTableFor}
-use Rattle.ft_model.specs.declared.call.DictCall.TheVariants as dict
-use Rattle.ft_model.specs.declared.reply.Reply.TheVariants as reply
-use Rattle.ft_model.specs.Contents.{DictContent, dict_clear, empty_dict}
+use Rattle.ft_model.specs.Contents.{DictContent, empty_dict}
 use Rattle.ft_model.specs.TableUses.{StoredWorld, TableUse, no_table, takes_in, table_at, change_takes, change_leaves, copy_leaves, copy_takes, dict_takes, outgrows_dict, grown_table, passes_cap, would_pass, after_stored}
 use Rattle.ft_model.specs.Worlds.{dict_of, dict_at, named_in, no_hands, IsOfKind, IsDeclared}
 use Rattle.ft_layout.proofs.Powers.{slots_range}
@@ -33,7 +31,6 @@ use Rattle.ft_trace.proofs.Known.{declared_at, at_any}
 use Rattle.ft_trace.proofs.Naming.{named_locked}
 use Rattle.ft_bank.specs.WriteSteps.{MayHave}
 use Rattle.ft_search.specs.OneEntryWrites.{Leaves}
-use Rattle.ft_keyed.specs.Clearing.{cleared, cleared_kept}
 
 set_own : {A : Type 0} (l : List A) (i : ℕ) (x e : A) → i < length l → slice_index_or l i e ≡ x → slice_set l i x ≡ l
 set_own [] i x e low is = absurd (omega (arith, low))
@@ -173,23 +170,3 @@ leaves_same d v pairs news dc said low mine is_dict changing quiet other cursor 
   fits = λ stored has. let a = all stored has in passes_not d v pairs news dc said low mine is_dict other grows a.0 a.1 stored has a.2;
   left_is = λ stored has. let a = all stored has in same_kept d v pairs news dc said low mine is_dict other grows a.0 a.1 stored has a.2;
 }
-
--- ---- a clear
-
-pub clear_leaves : (d : ℕ) (v : View) (pairs : DictContent) → d < containers_in v.shape → has_lock d v.log ≡ true → (known d v).content ≡ content.Dict pairs → Leaves d (call.Dict d dict.Clear) reply.Done (cleared_kept (known d v)) v
-clear_leaves d v pairs low mine is_dict =
-    let same : record { content = content.Dict (dict_clear pairs); table = no_table } ≡ cleared_kept (known d v) = λ i. record { content = cleared (sym is_dict i); table = no_table } in
-    subst (λ (z : ContainerState). Leaves d (call.Dict d dict.Clear) reply.Done z v) same
-    (record {
-      write = refl;
-      changed = refl;
-      words = tt;
-      locks = named_locked d None v.log mine tt;
-      replied = λ stored has. replies d v pairs low mine is_dict stored has dict.Clear reply.Done (puts stored.world no_hands d (content.Dict (dict_clear pairs)) reply.Done) refl refl;
-      declared = λ stored has. declared d v pairs low mine is_dict stored has dict.Clear reply.Done refl refl;
-      fits = λ stored has. refl;
-      left_is = λ stored has.
-          let c = left_at d v pairs low mine is_dict stored has dict.Clear reply.Done (dict_clear pairs) refl (content.List []) in
-          let t = get_or-set_same stored.tables d no_table no_table (many_tables d v pairs low mine is_dict stored has) in
-          λ i. record { content = c i; table = t i };
-    })

@@ -1,8 +1,10 @@
+-- reads of one key
 mod Reading
+-- what is left of a dict: another value, a key fewer, one more, the last pair
 mod Leaving
 mod Deleted
 mod NewKeys
-mod Showing
 mod Popping
+-- two dicts
 mod CopiedDicts
 mod Updated

@@ -1,6 +1,6 @@
 -- From what a pass with the lock of a dict reads at a key to what it may answer.
 use Rattle.std.proofs.Common.{◌≡◌, ◌≢◌, ℕ, ◌<◌, true, false, cond, List, [], ◌∷◌, length, find, Option, Some, None, refl, sym, ap, ◌∙◌, subst, inr}
-use Rattle.std.specs.Prelude.{slice_index, slice_index_or, option_map, is_some, ◌||◌}
+use Rattle.std.specs.Prelude.{slice_index, slice_index_or, option_map, ◌||◌}
 use Rattle.std.specs.List.{list_any}
 use Rattle.std.specs.Option.{unwrap_or}
 use Rattle.ft_model.specs.Answers.{is_write}
@@ -122,6 +122,3 @@ module _ (v u : View) (d : ℕ) (key : Key) (found : Option Value) (loaded : Onl
 
   pub get_or_shown : (default : Value) → IsShown w (call.Dict d (dict.GetOr key default)) (reply.Value (unwrap_or found default)) n
   get_or_shown default = plain (call.Dict d (dict.GetOr key default)) (reply.Value (unwrap_or found default)) refl refl (λ stored may. inr (sym ((replied stored may).get_or default))) (λ stored. refl)
-
-  pub has_shown : IsShown w (call.Dict d (dict.Has key)) (reply.Truth (is_some found)) n
-  has_shown = plain (call.Dict d (dict.Has key)) (reply.Truth (is_some found)) refl refl (λ stored may. inr (sym (replied stored may).has)) (λ stored. refl)

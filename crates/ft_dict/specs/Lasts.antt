@@ -1,5 +1,5 @@
 -- The last pair of a dict, and the entry that has it.
-use Rattle.std.specs.Prelude.{◌≡◌, ℕ, suc, ◌+◌, ◌-◌, ◌<◌, List, length, Option, Some, None, slice_get, slice_index_or}
+use Rattle.std.specs.Prelude.{◌≡◌, ℕ, suc, ◌+◌, ◌-◌, ◌<◌, length, Option, Some, None, slice_get, slice_index_or}
 use Rattle.ft_layout.specs.Containers.{AreDictEntries}
 use Rattle.ft_layout.specs.Tables.{UsedEntry}
 use Rattle.ft_layout.specs.Words.{FitsKey}

@@ -1,5 +1,8 @@
+-- what is found at a key, without the lock and with it
 pub mod DictLooks
 pub mod Locked
+-- values that are put, and the last pair
 pub mod Values
 pub mod Lasts
+-- copies to another dict
 pub mod DictCopies

@@ -17,9 +17,9 @@ ghost use Rattle.ft_search.specs.OneEntryWrites.{MayWriteEntries};
 ghost use Rattle.ft_list.specs.Clears.{IsCleared, IsClearOf};
 
 use ft_bank::{Bank, Pass};
-use ft_keyed::clear_keyed;
-use ft_model::{Call, DictCall, Reply};
-use ft_section::{Got, Object, Objects, Stamp, Step, let_go, take_for};
+use ft_keyed::{clear_as, try_clear_as};
+use ft_keys::Way;
+use ft_section::{Object, Stamp, Step};
 
 /// `d.clear()`, by a pass that has the dict's lock (Python manual, Mapping Types): the dict has no table then.
 pub fn clear_by(bank: &Bank, pass: &mut Pass, d: Object) -> Stamp
@@ -33,11 +33,7 @@ pub fn clear_by(bank: &Bank, pass: &mut Pass, d: Object) -> Stamp
     ensures cleared { IsCleared (call.Dict d dict.Clear) result (view pass.old) (view pass.new) }
     ensures cursors { KeepsCursors (view pass.old) (view pass.new) }
 {
-    let called = Call::Dict {
-        container: d,
-        call: DictCall::Clear,
-    };
-    clear_keyed(bank, pass, d, &called)
+    clear_as(bank, pass, Way::Dict, d)
 }
 
 /// `d.clear()` under the lock (Python manual, Mapping Types).
@@ -56,12 +52,5 @@ pub fn try_clear(bank: &Bank, pass: &mut Pass, d: Object) -> Step
     ensures sections { SectionsAfter bank.now (One d) pass.old pass.new result }
     ensures cursors { KeepsCursors (view pass.old) (view pass.new) }
 {
-    match take_for(bank, pass, Objects::One(d)) {
-        Got::Have => {
-            let stamp = clear_by(bank, pass, d);
-            let_go(bank, pass);
-            Step::Done(Reply::Done, stamp)
-        }
-        Got::NotYet(container, owner) => Step::NotYet(container, owner),
-    }
+    try_clear_as(bank, pass, Way::Dict, d)
 }

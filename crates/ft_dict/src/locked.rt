@@ -103,26 +103,3 @@ pub(crate) fn getd_locked(
     };
     answer_held(bank, pass, &call, Reply::Value(found.unwrap_or(default)))
 }
-
-/// `k in d`, by a pass with the dict's lock (Python manual, Mapping Types). The counter is loaded while it
-/// has the lock.
-pub(crate) fn has_locked(bank: &Bank, pass: &mut Pass, d: Object, key: Key) -> (Reply, Stamp)
-    requires pass { IsPassOf bank.now pass.old }
-    requires container { d < containers_in (shape_of bank.now) }
-    requires dict { kind_in (shape_of bank.now).kinds d ≡ kind.Dict }
-    requires key { IsKeyIn (shape_of bank.now) key }
-    requires locked { has_lock d (view pass.old).log ≡ true }
-    requires stands { Stands (shape_of bank.now).texts (held d (view pass.old)) (known d (view pass.old)) }
-    requires left { 0 < (view pass.old).left }
-    ensures pass { IsPassOf bank.now pass.new }
-    ensures sections { stack_of pass.new ≡ stack_of pass.old }
-    ensures wrote { result.1.wrote ≡ false }
-    ensures answered { Answered (call.Dict d (dict.Has key)) result.0 result.1.number (view pass.old) (view pass.new) }
-{
-    let found = value_locked(bank, pass, d, key);
-    let call = Call::Dict {
-        container: d,
-        call: DictCall::Has { key },
-    };
-    answer_held(bank, pass, &call, Reply::Truth(found.is_some()))
-}

@@ -12,8 +12,10 @@ ghost use Rattle.ft_section.specs.Ready.{MayTry};
 ghost use Rattle.ft_section.specs.Trying.{SectionsAfter};
 ghost use Rattle.ft_search.specs.Tries.{IsReadOf};
 
-use crate::locked::{get_locked, getd_locked, has_locked};
+use crate::locked::{get_locked, getd_locked};
 use ft_bank::{Bank, Pass};
+use ft_keyed::try_has_key;
+use ft_keys::Way;
 use ft_model::{Key, Value};
 use ft_section::{Got, Object, Objects, Step, let_go, take_for};
 
@@ -85,12 +87,5 @@ pub fn try_has(bank: &Bank, pass: &mut Pass, d: Object, key: Key) -> Step
     ensures sections { SectionsAfter bank.now (One d) pass.old pass.new result }
     ensures read { IsReadOf d (call.Dict d (dict.Has key)) (view pass.old) (view pass.new) result }
 {
-    match take_for(bank, pass, Objects::One(d)) {
-        Got::Have => {
-            let (reply, stamp) = has_locked(bank, pass, d, key);
-            let_go(bank, pass);
-            Step::Done(reply, stamp)
-        }
-        Got::NotYet(container, owner) => Step::NotYet(container, owner),
-    }
+    try_has_key(bank, pass, Way::Dict, d, key)
 }

@@ -1,5 +1,5 @@
 -- A clear of a dict or a set: that it may be committed, and what the container and its words are then.
-use Rattle.std.proofs.Common.{◌≡◌, ◌≢◌, ℕ, zero, suc, ◌%◌, ◌<◌, ◌≤◌, true, false, true≢false, List, [], ◌∷◌, length, Option, Some, None, refl, sym, ap, ◌∙◌, subst, arith, length-set, get_or-set_same, get_or-set_other}
+use Rattle.std.proofs.Common.{◌≡◌, ◌≢◌, ℕ, suc, ◌%◌, ◌<◌, ◌≤◌, true, false, true≢false, List, [], ◌∷◌, length, Option, Some, None, refl, sym, ap, ◌∙◌, subst, arith, length-set, get_or-set_same, get_or-set_other}
 use Rattle.std.specs.Prelude.{IfNone, IfSome, is_some, filter, map, slice_index, slice_set}
 use Rattle.std.proofs.lemmas.List.Elements.{All-nil}
 use Rattle.std.proofs.Math.Logic.{∥∥₁_elim}
@@ -10,9 +10,8 @@ use Rattle.ft_model.specs.declared.content.Content.TheVariants as content
 use Rattle.ft_model.specs.declared.content.DictPair.{DictPair}
 use Rattle.ft_model.specs.declared.content.Element.{Element}
 use Rattle.ft_model.specs.declared.reply.Reply.TheVariants as reply
-use Rattle.ft_model.specs.declared.script.Kind.{Kind}
 use Rattle.ft_model.specs.Contents.{DictContent, SetContent}
-use Rattle.ft_model.specs.TableUses.{StoredWorld, TableUse, after_stored, no_table}
+use Rattle.ft_model.specs.TableUses.{StoredWorld, TableUse, no_table}
 use Rattle.ft_model.specs.Worlds.{kind_of, length_of, serial_of}
 use Rattle.ft_layout.specs.Containers.{IsBlock, IsDictWords, IsRoot, IsSetWords, StandsAs, used_element, used_pair}
 use Rattle.ft_layout.specs.Tables.{UsedEntry, is_live}
@@ -21,14 +20,13 @@ use Rattle.ft_trace.specs.declared.Act.TheVariants.{Commit, PutRoot, StartWrite,
 use Rattle.ft_trace.specs.declared.Shape.{Shape}
 use Rattle.ft_trace.specs.declared.Snap.{Snap}
 use Rattle.ft_trace.specs.declared.View.{View}
-use Rattle.ft_trace.specs.Acts.{has_lock, has_emptied, is_writing, owes, noted, seen_writes, used}
+use Rattle.ft_trace.specs.Acts.{has_lock, is_writing, owes, noted, seen_writes, used}
 use Rattle.ft_trace.specs.Addresses.{containers_in, class_of}
 use Rattle.ft_trace.specs.Holds.{held, known}
-use Rattle.ft_trace.specs.Kinds.{ClearAs, IsKeyed, rows, version_at}
-use Rattle.ft_trace.specs.OddVersions.{Shut}
+use Rattle.ft_trace.specs.Kinds.{IsKeyed, version_at}
 use Rattle.ft_trace.specs.Traces.{Possible}
 use Rattle.ft_trace.specs.Pictures.{Picture, root_in, Stands}
-use Rattle.ft_trace.specs.ContainerStates.{ContainerState, changes, state_at, kind_in, may_empty, reply_in}
+use Rattle.ft_trace.specs.ContainerStates.{ContainerState, changes, kind_in, may_empty, reply_in}
 use Rattle.ft_trace.proofs.Cases.{hit}
 use Rattle.ft_trace.proofs.Clearing.{held_shut}
 use Rattle.ft_bank.specs.declared.table.Table.{Table}

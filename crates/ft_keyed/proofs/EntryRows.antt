@@ -1,9 +1,9 @@
 -- What the words of one entry say of the used entries of its table.
-use Rattle.std.proofs.Common.{◌≡◌, ◌≢◌, ℕ, suc, ◌+◌, ◌*◌, ◌<◌, ◌≤◌, true, true≢false, List, ◌∷◌, length, Option, Some, None, refl, sym, ap, ◌∙◌, subst, arith}
+use Rattle.std.proofs.Common.{◌≡◌, ◌≢◌, ℕ, suc, ◌≤◌, true, true≢false, List, ◌∷◌, length, Option, Some, None, refl, sym, ap, ◌∙◌, subst, arith}
 use Rattle.std.specs.Prelude.{slice_index, slice_index_or, option_map, is_some, ◌↔◌, IfSome}
 use Rattle.ft_layout.specs.declared.slot.Stored.{Stored}
 use Rattle.ft_layout.specs.declared.slot.Stored.TheVariants.{Boxed, Empty, Plain}
-use Rattle.ft_layout.specs.Containers.{AreDictEntries, AreSetEntries, IsDictWords, IsSetWords, StandsAs, class_mask}
+use Rattle.ft_layout.specs.Containers.{IsDictWords, IsSetWords, StandsAs, class_mask}
 use Rattle.ft_layout.specs.Tables.{UsedEntry, dict_room, entry_word, hash_of, slot_with}
 use Rattle.ft_layout.specs.Words.{FitsKey, IsEntry, IsKey, IsStored, gone_kind, key_kind}
 use Rattle.ft_layout.proofs.WordLaws.{stored_is_one}

@@ -1,9 +1,8 @@
 -- From the used entries of a table to what a dict or a set has.
-use Rattle.std.proofs.Common.{◌≡◌, ℕ, zero, suc, ◌+◌, ◌^◌, ◌<◌, ◌≤◌, Bool, true, false, true≢false, List, [], ◌∷◌, ◌++◌, length, map, filter, take, Option, Some, None, refl, sym, ap, ◌∙◌, subst, arith}
+use Rattle.std.proofs.Common.{◌≡◌, ℕ, zero, suc, ◌+◌, ◌^◌, ◌<◌, ◌≤◌, true, false, true≢false, List, [], ◌∷◌, ◌++◌, length, map, filter, take, Option, Some, None, refl, sym, ap, ◌∙◌, subst, arith}
 use Rattle.std.specs.Prelude.{cond, is_some, slice_index, slice_index_or, option_map}
 use Rattle.std.specs.List.{filter_map, cons_option}
 use Rattle.std.proofs.Math.Seq.{take-suc}
-use Rattle.std.proofs.lemmas.List.{append-nil}
 use Rattle.std.proofs.lemmas.List.Elements.{filter_map-append}
 use Rattle.ft_layout.specs.declared.slot.Stored.{Stored}
 use Rattle.ft_layout.specs.Containers.{AreDictEntries, AreSetEntries, class_mask, IsDictWords, IsSetWords, StandsAs, used_element, used_pair}
@@ -22,8 +21,7 @@ use Rattle.ft_model.specs.Contents.{DictContent, IsDict, IsSet, SetContent}
 use Rattle.ft_model.specs.Worlds.{dict_of, kind_of, length_of, set_of}
 use Rattle.ft_trace.specs.declared.Shape.{Shape}
 use Rattle.ft_trace.specs.Addresses.{class_of, slots}
-use Rattle.ft_trace.specs.Pictures.{Picture, Stands, root_in}
-use Rattle.ft_trace.specs.ContainerStates.{ContainerState}
+use Rattle.ft_trace.specs.Pictures.{Picture, root_in}
 use Rattle.ft_trace.proofs.Known.{class_known}
 use Rattle.ft_trace.proofs.NoTable.{no_table_stands}
 use Rattle.ft_search.proofs.WordPlaces.{slots_of_class}

@@ -1,5 +1,5 @@
 -- What loads of the words of a table show of each container whose root names it.
-use Rattle.std.proofs.Common.{◌≡◌, ℕ, suc, ◌<◌, ◌+◌, ◌*◌, true, List, [], ◌∷◌, refl, sym, ap, ◌∙◌, subst}
+use Rattle.std.proofs.Common.{◌≡◌, ℕ, suc, List, [], ◌∷◌, refl, sym, ap, ◌∙◌, subst}
 use Rattle.std.specs.Prelude.{slice_index}
 use Rattle.ft_layout.specs.Containers.{class_mask}
 use Rattle.ft_layout.specs.Tables as layout
@@ -7,19 +7,17 @@ use Rattle.ft_keys.specs.declared.words.Access.{Access}
 use Rattle.ft_keys.specs.declared.words.Access.TheVariants.{Index, Entry, PutIndex, PutEntry, OldEntry}
 use Rattle.ft_keys.specs.Accesses.{AreLoads, AreAnswered, IsLoad, Runs, Tells, after, put_by}
 use Rattle.ft_trace.specs.declared.Shape.{Shape}
-use Rattle.ft_trace.specs.Acts.{has_lock}
-use Rattle.ft_trace.specs.Addresses.{IsTableName, class_of, containers_in, size, slots}
+use Rattle.ft_trace.specs.Addresses.{IsTableName, class_of, slots}
 use Rattle.ft_trace.specs.Holds.{held}
 use Rattle.ft_trace.specs.Pictures.{Picture, entry_offset, root_in}
-use Rattle.ft_bank.specs.declared.pass.Pass.{Pass}
 use Rattle.ft_bank.specs.declared.table.Table.{Table}
 use Rattle.ft_bank.specs.Passes.{shape_of, view}
 use Rattle.ft_bank.specs.TableNames.{IsTableIn, name_of}
 use Rattle.ft_search.specs.declared.words.TableWords.{TableWords}
-use Rattle.ft_search.specs.TableWords.{MadeAccess, SamePlace}
+use Rattle.ft_search.specs.TableWords.{MadeAccess}
 use Rattle.ft_search.proofs.KnownTableWords.{after_header, entry_after_header}
 use Rattle.ft_search.proofs.WordPlaces.{entry_is}
-use Rattle.ft_search.proofs.Running.{ran, same_self}
+use Rattle.ft_search.proofs.Running.{ran}
 use Rattle.ft_list.specs.Indexes.{Reads}
 use Rattle.ft_list.proofs.Indexes.{reads_map, reads_none, reads_table, reads_then}
 

@@ -1,6 +1,6 @@
 -- Loops over the entries of one dict or set that look at another one, step by step.
-use Rattle.std.proofs.Common.{◌≡◌, ◌≢◌, ℕ, zero, suc, ◌+◌, ◌<◌, Bool, true, false, true≢false, not, List, [], ◌∷◌, ◌++◌, length, map, take, Option, Some, None, refl, sym, ap, ◌∙◌, subst, arith}
-use Rattle.std.specs.Prelude.{pos, ◌||◌, ◌&&◌, cond, is_some, option_map, slice_index_or, AllPairs, if◌then◌else◌}
+use Rattle.std.proofs.Common.{◌≡◌, ◌≢◌, ℕ, zero, suc, ◌+◌, ◌<◌, Bool, true, false, true≢false, not, List, [], ◌∷◌, ◌++◌, length, map, take, Option, Some, None, refl, sym, ap, ◌∙◌, arith}
+use Rattle.std.specs.Prelude.{pos, ◌||◌, ◌&&◌, cond, is_some, option_map, slice_index_or, AllPairs}
 use Rattle.std.specs.List.{cons_option, filter_map, find, list_all, list_any}
 use Rattle.std.specs.Option.{option_map_or}
 use Rattle.ft_layout.specs.declared.slot.Stored.{Stored}

@@ -1,5 +1,5 @@
 -- Loops over the entries of a table, step by step.
-use Rattle.std.proofs.Common.{◌≡◌, ℕ, suc, ◌+◌, ◌<◌, ◌≤◌, Bool, true, false, true≢false, List, [], ◌∷◌, length, Option, Some, None, refl, sym, ap, ◌∙◌, subst, arith}
+use Rattle.std.proofs.Common.{◌≡◌, ℕ, suc, ◌+◌, ◌<◌, Bool, true, false, List, [], ◌∷◌, length, Option, Some, None, refl, sym, ap, ◌∙◌, arith}
 use mathlib.Core.Logic.{dite}
 use Rattle.std.proofs.Math.Decide.{dec_lt}
 use Rattle.std.specs.Prelude.{cond, filter, is_some, option_map, slice_index_or}
@@ -8,7 +8,6 @@ use Rattle.ft_layout.specs.Tables.{UsedEntry, is_live}
 use Rattle.ft_model.specs.declared.data.Key.{Key}
 use Rattle.ft_model.specs.declared.data.Value.{Value}
 use Rattle.ft_trace.specs.declared.Shape.{Shape}
-use Rattle.ft_trace.specs.Pictures.{Picture}
 use Rattle.ft_bank.specs.declared.pass.Pass.{Pass}
 use Rattle.ft_list.specs.Indexes.{Reads}
 use Rattle.ft_list.proofs.Indexes.{reads_map, reads_none, reads_then}

@@ -1,5 +1,11 @@
 -- Clears of dicts and sets.
 use Rattle.std.specs.Prelude.{◌≡◌, ℕ, Option, Some}
+use Rattle.ft_keys.specs.declared.walk.Way.{Way}
+use Rattle.ft_keys.specs.declared.walk.Way.TheVariants as way
+use Rattle.ft_model.specs.declared.call.Call.{Call}
+use Rattle.ft_model.specs.declared.call.Call.TheVariants as call
+use Rattle.ft_model.specs.declared.call.DictCall.TheVariants as dict
+use Rattle.ft_model.specs.declared.call.SetCall.TheVariants as set
 use Rattle.ft_model.specs.declared.content.Content.{Content}
 use Rattle.ft_model.specs.declared.content.Content.TheVariants as content
 use Rattle.ft_model.specs.Contents.{dict_clear, set_clear}
@@ -11,6 +17,11 @@ use Rattle.ft_trace.specs.Pictures.{root_in}
 use Rattle.ft_trace.specs.ContainerStates.{ContainerState}
 use Rattle.ft_bank.specs.declared.table.Table.{Table}
 use Rattle.ft_bank.specs.TableNames.{root_for, IsTableIn}
+
+-- the call that clears a dict or a set
+abbrev pub clear_call : Way → ℕ → Call
+clear_call way.Dict c = call.Dict c dict.Clear
+clear_call way.Set c = call.Set c set.Clear
 
 -- what a dict or a set has once it is cleared (Python manual, Mapping Types, Set Types): nothing, and its next serial
 -- stays (profile)

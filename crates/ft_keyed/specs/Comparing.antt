@@ -1,6 +1,6 @@
 -- What loads of the words of two dicts, or of two sets, show of both.
 use Rattle.std.specs.Prelude.{◌≡◌, ℕ, Bool, false, not, ◌<◌, if◌then◌else◌}
-use Rattle.std.specs.Prelude.{List, length, Option, Some, None, slice_index_or}
+use Rattle.std.specs.Prelude.{List, length, Option, slice_index_or}
 use Rattle.std.specs.Option.{option_map_or}
 use Rattle.ft_layout.specs.Tables.{UsedEntry, hash_of}
 use Rattle.ft_model.specs.declared.data.Key.{Key}

@@ -8,7 +8,7 @@ ghost use Rattle.ft_model.specs.declared.data.Value.{Value};
 ghost use Rattle.ft_model.specs.Keys.{is_value};
 ghost use Rattle.ft_model.specs.Contents.{has_pair, is_disjoint, is_subset, same_elements, same_pairs};
 ghost use Rattle.ft_trace.specs.Addresses.{containers_in};
-ghost use Rattle.ft_bank.specs.Passes.{shape_of, view, IsPassOf};
+ghost use Rattle.ft_bank.specs.Passes.{shape_of, IsPassOf};
 ghost use Rattle.ft_bank.specs.PassSections.{stack_of};
 ghost use Rattle.ft_bank.specs.TableNames.{name_of, IsTableIn};
 ghost use Rattle.ft_list.specs.Indexes.{Reads};
@@ -109,7 +109,7 @@ fn any_meets(bank: &Bank, pass: &mut Pass, s: Object, other: Object, wanted: boo
 }
 
 /// Whether each element of a set is in another one (Python manual, Set Types: issubset).
-pub fn is_within(bank: &Bank, pass: &mut Pass, s: Object, other: Object) -> bool
+pub(crate) fn is_within(bank: &Bank, pass: &mut Pass, s: Object, other: Object) -> bool
     requires pass { IsPassOf bank.now pass.old }
     requires container { s < containers_in (shape_of bank.now) }
     requires other { other < containers_in (shape_of bank.now) }
@@ -122,7 +122,7 @@ pub fn is_within(bank: &Bank, pass: &mut Pass, s: Object, other: Object) -> bool
 }
 
 /// Whether no element of a set is in another one (Python manual, Set Types: isdisjoint).
-pub fn is_apart(bank: &Bank, pass: &mut Pass, s: Object, other: Object) -> bool
+pub(crate) fn is_apart(bank: &Bank, pass: &mut Pass, s: Object, other: Object) -> bool
     requires pass { IsPassOf bank.now pass.old }
     requires container { s < containers_in (shape_of bank.now) }
     requires other { other < containers_in (shape_of bank.now) }
@@ -135,7 +135,7 @@ pub fn is_apart(bank: &Bank, pass: &mut Pass, s: Object, other: Object) -> bool
 }
 
 /// Whether two sets have the same elements (Python manual, Set Types).
-pub fn are_same_sets(bank: &Bank, pass: &mut Pass, s: Object, other: Object) -> bool
+pub(crate) fn are_same_sets(bank: &Bank, pass: &mut Pass, s: Object, other: Object) -> bool
     requires pass { IsPassOf bank.now pass.old }
     requires container { s < containers_in (shape_of bank.now) }
     requires other { other < containers_in (shape_of bank.now) }
@@ -248,7 +248,7 @@ fn are_within(bank: &Bank, pass: &mut Pass, d: Object, other: Object) -> bool
 }
 
 /// Whether two dicts have the same keys with equal values (Python manual, Mapping Types).
-pub fn are_same_dicts(bank: &Bank, pass: &mut Pass, d: Object, other: Object) -> bool
+pub(crate) fn are_same_dicts(bank: &Bank, pass: &mut Pass, d: Object, other: Object) -> bool
     requires pass { IsPassOf bank.now pass.old }
     requires container { d < containers_in (shape_of bank.now) }
     requires other { other < containers_in (shape_of bank.now) }

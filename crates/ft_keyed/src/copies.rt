@@ -1,21 +1,21 @@
-//! Copies of all pairs of a dict and of all elements of a set, which take memory: by a pass without the container's
+//! Copies of all pairs of a dict or of all elements of a set, which take memory: by a pass without the container's
 //! lock, whose loads show that it is all where no write came between them, and by one with the lock.
-ghost use Rattle.std.specs.Prelude.{◌≡◌, ◌<◌, ◌++◌, [], true, is_some, length, map, OnErr, OnOk};
+ghost use Rattle.std.specs.Prelude.{◌≡◌, ◌<◌, ◌++◌, [], true, is_some, length, IfOk, OnErr, OnOk};
 ghost use Rattle.std.specs.List.{cons_option, filter_map};
-ghost use Rattle.ft_model.specs.Answers.{items_of};
 ghost use Rattle.ft_trace.specs.Addresses.{containers_in};
-ghost use Rattle.ft_bank.specs.Passes.{shape_of, view, IsPassOf};
+ghost use Rattle.ft_bank.specs.Passes.{shape_of, IsPassOf};
 ghost use Rattle.ft_bank.specs.PassSections.{stack_of};
 ghost use Rattle.ft_bank.specs.TableNames.{name_of, IsTableIn};
 ghost use Rattle.ft_list.specs.Indexes.{Reads};
-ghost use Rattle.ft_keyed.specs.ShownContents.{IsOfDict, IsOfSet};
 ghost use Rattle.ft_list.specs.Copies.{AreCopied};
 ghost use Rattle.ft_keyed.specs.TableEntries.{OfUsed, live_key, plain_pair};
+ghost use Rattle.ft_keyed.specs.Items.{reply_of_used, IsAllIn, IsAllOf, IsItemsReply};
 
 use crate::clearing::FILL;
 use crate::entries::{key_at, value_at};
 use ft_bank::{Bank, Pass, Table};
-use ft_model::{Key, Value};
+use ft_keys::Way;
+use ft_model::{Key, Keys, Pairs, Reply, Value};
 use ft_search::table_named;
 use ft_section::Object;
 use std::alloc::{AllocError, Global};
@@ -56,28 +56,6 @@ fn copy_keys(
     Ok(keys)
 }
 
-/// All elements of a set, in the order of its walk. An `Err` says that there was no memory for them.
-pub fn copy_elements(
-    bank: &Bank,
-    pass: &mut Pass,
-    alloc: Global,
-    s: Object,
-) -> Result<Vec<Key>, AllocError>
-    requires pass { IsPassOf bank.now pass.old }
-    requires container { s < containers_in (shape_of bank.now) }
-    ensures pass { IsPassOf bank.now pass.new }
-    ensures stack { stack_of pass.new ≡ stack_of pass.old }
-    ensures reads { Reads (shape_of bank.now) s (IsOfSet (shape_of bank.now) (λ set.
-        AreCopied result (map (λ element. element.key) set.elements))) pass.old pass.new }
-{
-    let root = bank.read_block(pass, s, 0);
-    let fill = bank.read_block(pass, s, FILL);
-    match table_named(root) {
-        Some(table) => copy_keys(bank, pass, alloc, s, table, fill),
-        None => Ok(Vec::new(alloc)),
-    }
-}
-
 /// The keys and the values of as many entries of a table, of those that are there. An `Err` says that there was no
 /// memory for them.
 fn copy_values(
@@ -103,24 +81,67 @@ fn copy_values(
     Ok(pairs)
 }
 
-/// All pairs of a dict, in their order. An `Err` says that there was no memory for them.
-pub fn copy_pairs(
+/// The pairs or the keys of as many entries of a table, of those that are there, as a reply. An `Err` says that there
+/// was no memory for them.
+fn copy_table(
     bank: &Bank,
     pass: &mut Pass,
     alloc: Global,
-    d: Object,
-) -> Result<Vec<(Key, Value)>, AllocError>
+    way: Way,
+    c: Object,
+    table: Table,
+    fill: u64,
+) -> Result<Reply, AllocError>
     requires pass { IsPassOf bank.now pass.old }
-    requires container { d < containers_in (shape_of bank.now) }
+    requires table { IsTableIn (shape_of bank.now) table }
     ensures pass { IsPassOf bank.now pass.new }
     ensures stack { stack_of pass.new ≡ stack_of pass.old }
-    ensures reads { Reads (shape_of bank.now) d (IsOfDict (shape_of bank.now) (λ dict.
-        AreCopied result (items_of dict.pairs))) pass.old pass.new }
+    ensures of_kind { IfOk result (IsItemsReply way) }
+    ensures reads { Reads (shape_of bank.now) c (OfUsed (shape_of bank.now) (name_of table) (λ used.
+        fill ≡ length used → IsAllOf result (reply_of_used way used))) pass.old pass.new }
 {
-    let root = bank.read_block(pass, d, 0);
-    let fill = bank.read_block(pass, d, FILL);
+    match way {
+        Way::Dict => {
+            let pairs = copy_values(bank, pass, alloc, c, table, fill)?;
+            Ok(Reply::Dict(Pairs::from_vec(pairs)))
+        }
+        Way::Set => {
+            let keys = copy_keys(bank, pass, alloc, c, table, fill)?;
+            Ok(Reply::Set(Keys::from_vec(keys)))
+        }
+    }
+}
+
+/// The reply with no pairs, or with no elements.
+fn empty_reply(alloc: Global, way: Way) -> Reply
+    ensures { result ≡ reply_of_used way [] }
+{
+    match way {
+        Way::Dict => Reply::Dict(Pairs::from_vec(Vec::new(alloc))),
+        Way::Set => Reply::Set(Keys::from_vec(Vec::new(alloc))),
+    }
+}
+
+/// All pairs of a dict in their order, or all elements of a set in the order of its walk, as a reply. An `Err` says
+/// that there was no memory for them.
+pub(crate) fn copy_all(
+    bank: &Bank,
+    pass: &mut Pass,
+    alloc: Global,
+    way: Way,
+    c: Object,
+) -> Result<Reply, AllocError>
+    requires pass { IsPassOf bank.now pass.old }
+    requires container { c < containers_in (shape_of bank.now) }
+    ensures pass { IsPassOf bank.now pass.new }
+    ensures stack { stack_of pass.new ≡ stack_of pass.old }
+    ensures of_kind { IfOk result (IsItemsReply way) }
+    ensures reads { Reads (shape_of bank.now) c (IsAllIn way (shape_of bank.now) result) pass.old pass.new }
+{
+    let root = bank.read_block(pass, c, 0);
+    let fill = bank.read_block(pass, c, FILL);
     match table_named(root) {
-        Some(table) => copy_values(bank, pass, alloc, d, table, fill),
-        None => Ok(Vec::new(alloc)),
+        Some(table) => copy_table(bank, pass, alloc, way, c, table, fill),
+        None => Ok(empty_reply(alloc, way)),
     }
 }

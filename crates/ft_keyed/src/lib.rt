@@ -1,22 +1,28 @@
-//! Calls that dicts and sets of a bank have alike: what goes over all entries of a table, one by one, and the clear,
-//! after which there is no table.
+//! Calls that dicts and sets of a bank have alike: what goes over all entries of a table, one by one, copies of all,
+//! comparisons of two containers, `in` under the lock, and the clear, after which there is no table.
 //!
 //! Between any two steps of any passes it keeps true, for whoever runs calls, that what was read of a container is
 //! what it has where no write of it came between, and that a clear is one whole write.
 #![tactic(auto)]
 
 mod clearing;
+mod clears;
 mod comparing;
+mod comparisons;
 mod copies;
 mod entries;
 mod finding;
+mod items;
+mod membership;
 mod places;
 mod values;
 
 pub use crate::clearing::{clear_keyed, root_table};
-pub use crate::comparing::{are_same_dicts, are_same_sets, is_apart, is_within};
-pub use crate::copies::{copy_elements, copy_pairs};
+pub use crate::clears::{clear_as, try_clear_as};
+pub use crate::comparisons::{Comparison, look_comparison, try_comparison};
 pub use crate::entries::{hash_at, key_at, value_at};
 pub use crate::finding::find_key;
+pub use crate::items::{look_all_items, try_all_items};
+pub use crate::membership::try_has_key;
 pub use crate::places::{first_place, last_place};
 pub use crate::values::value_of;

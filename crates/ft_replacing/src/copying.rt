@@ -1,6 +1,5 @@
 //! A dict that gets a copy of another one, or of itself: its pairs in their order, with new serials.
 ghost use Rattle.std.specs.Prelude.{◌≡◌, ◌+◌, ◌^◌, ◌<◌, ◌≤◌, false, Some};
-ghost use Rattle.ft_model.specs.declared.content.Content.{Content};
 ghost use Rattle.ft_model.specs.declared.content.Content.TheVariants as content;
 ghost use Rattle.ft_model.specs.declared.reply.Reply.TheVariants as reply;
 ghost use Rattle.ft_model.specs.declared.script.Kind.TheVariants as kind;
@@ -16,7 +15,7 @@ ghost use Rattle.ft_trace.specs.ContainerStates.{kind_in};
 ghost use Rattle.ft_bank.specs.Passes.{shape_of, view, IsPassOf};
 ghost use Rattle.ft_bank.specs.PassSections.{stack_of};
 ghost use Rattle.ft_bank.specs.TableNames.{name_of, IsTableIn};
-ghost use Rattle.ft_growth.specs.Adding.{IsAdded, KeepsCursors, OnlyFilled};
+ghost use Rattle.ft_growth.specs.Adding.{IsAdded, OnlyFilled};
 ghost use Rattle.ft_search.specs.OneEntryWrites.{MayWriteEntries};
 ghost use Rattle.ft_adding.specs.Fresh.{IsFilledWith};
 ghost use Rattle.ft_adding.specs.KeyGrowth.{KnowsKeyed, MayAddKey};

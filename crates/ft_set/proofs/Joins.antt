@@ -1,6 +1,6 @@
 -- What `s |= t` and `s ^= t` leave of the first set, in the words of the plain containers.
-use Rattle.std.proofs.Common.{◌≡◌, ℕ, ◌+◌, ◌-◌, ◌<◌, Bool, true, false, List, [], ◌∷◌, length, Some, None, refl, sym, ap, ◌∙◌, subst, get_or-set_same, get_or-set_other}
-use Rattle.std.specs.Prelude.{◌||◌, ◌==◌, cond, map, slice_index_or, slice_set, if◌then◌else◌}
+use Rattle.std.proofs.Common.{◌≡◌, ℕ, ◌+◌, ◌-◌, ◌<◌, false, List, [], ◌∷◌, length, Some, None, refl, sym, ap, ◌∙◌, subst, get_or-set_same, get_or-set_other}
+use Rattle.std.specs.Prelude.{◌==◌, cond, map, slice_index_or, slice_set, if◌then◌else◌}
 use Rattle.std.specs.List.{list_any}
 use mathlib.Core.Logic.{dite}
 use native.Mathlib.Decide.{ℕ_discrete}

@@ -23,7 +23,7 @@ use Rattle.ft_model.specs.Calls.{is_changing_set, other_set, cursor_of_set, set_
 use Rattle.ft_model.specs.TablesInOrder.{HasTableFor, IsTableFor}
 use Rattle.ft_model.specs.Classes.{set_class, set_entries, most_elements}
 use Rattle.ft_layout.proofs.Powers.{slots_range}
-use Rattle.ft_model.specs.Contents.{SetContent, empty_set, has_element, set_clear, set_discard}
+use Rattle.ft_model.specs.Contents.{SetContent, empty_set, has_element, set_discard}
 use Rattle.ft_model.specs.Keys.{same_key}
 use Rattle.ft_model.specs.TableUses.{StoredWorld, TableUse, no_table, takes_in, table_at, change_takes, change_leaves, set_takes, outgrows_set, grown_table, passes_cap, would_pass, after_stored}
 use Rattle.ft_model.specs.Worlds.{set_of, set_at, named_in, no_hands, IsOfKind, IsDeclared}
@@ -43,7 +43,6 @@ use Rattle.ft_trace.proofs.Naming.{named_locked}
 use Rattle.ft_bank.specs.WriteSteps.{MayHave}
 use Rattle.ft_search.specs.MadeCalls.{IsShownBy}
 use Rattle.ft_search.specs.Held.{IsHeldAt}
-use Rattle.ft_keyed.specs.Clearing.{cleared, cleared_kept}
 use Rattle.ft_search.specs.OneEntryWrites.{Leaves, MayWriteEntries, without_key}
 use Rattle.ft_search.proofs.FoundInContents.{set_known}
 
@@ -253,23 +252,3 @@ module _ (s : ℕ) (v : View) (elements : SetContent) (low : s < containers_in v
         refl,
         ap (λ (b : Bool). puts stored.world no_hands s (content.Set (if b then elements else grown)) reply.Done) (has_there s v elements low mine is_set key fits kind payload h stored has),
       )))
-
--- ---- a clear
-
-pub clear_leaves : (s : ℕ) (v : View) (elements : SetContent) → s < containers_in v.shape → has_lock s v.log ≡ true → (known s v).content ≡ content.Set elements → Leaves s (call.Set s set.Clear) reply.Done (cleared_kept (known s v)) v
-clear_leaves s v elements low mine is_set =
-    let same : record { content = content.Set (set_clear elements); table = no_table } ≡ cleared_kept (known s v) = λ i. record { content = cleared (sym is_set i); table = no_table } in
-    subst (λ (z : ContainerState). Leaves s (call.Set s set.Clear) reply.Done z v) same
-    (record {
-      write = refl;
-      changed = refl;
-      words = tt;
-      locks = named_locked s None v.log mine tt;
-      replied = λ stored has. replies s v elements low mine is_set stored has set.Clear reply.Done (puts stored.world no_hands s (content.Set (set_clear elements)) reply.Done) refl refl;
-      declared = λ stored has. declared s v elements low mine is_set stored has set.Clear reply.Done refl refl;
-      fits = λ stored has. refl;
-      left_is = λ stored has.
-          let c = left_at s v elements low mine is_set stored has set.Clear reply.Done (set_clear elements) refl (content.List []) in
-          let t = get_or-set_same stored.tables s no_table no_table (many_tables s v elements low mine is_set stored has) in
-          λ i. record { content = c i; table = t i };
-    })

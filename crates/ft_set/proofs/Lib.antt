@@ -1,7 +1,7 @@
-mod Reading
+-- what is left of a set: an element fewer, one more, without the first
 mod Leaving
 mod NewKeys
+mod Popping
+-- two sets
 mod Merged
 mod Joins
-mod Showing
-mod Popping

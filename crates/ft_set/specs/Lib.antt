@@ -1,1 +1,2 @@
+-- the first element of a set
 pub mod Firsts

@@ -17,9 +17,9 @@ ghost use Rattle.ft_search.specs.OneEntryWrites.{MayWriteEntries};
 ghost use Rattle.ft_list.specs.Clears.{IsCleared, IsClearOf};
 
 use ft_bank::{Bank, Pass};
-use ft_keyed::clear_keyed;
-use ft_model::{Call, Reply, SetCall};
-use ft_section::{Got, Object, Objects, Stamp, Step, let_go, take_for};
+use ft_keyed::{clear_as, try_clear_as};
+use ft_keys::Way;
+use ft_section::{Object, Stamp, Step};
 
 /// `s.clear()`, by a pass that has the set's lock (Python manual, Set Types): the set has no table then.
 pub fn clear_by(bank: &Bank, pass: &mut Pass, s: Object) -> Stamp
@@ -33,11 +33,7 @@ pub fn clear_by(bank: &Bank, pass: &mut Pass, s: Object) -> Stamp
     ensures cleared { IsCleared (call.Set s set.Clear) result (view pass.old) (view pass.new) }
     ensures cursors { KeepsCursors (view pass.old) (view pass.new) }
 {
-    let called = Call::Set {
-        container: s,
-        call: SetCall::Clear,
-    };
-    clear_keyed(bank, pass, s, &called)
+    clear_as(bank, pass, Way::Set, s)
 }
 
 /// `s.clear()` under the lock (Python manual, Set Types).
@@ -56,12 +52,5 @@ pub fn try_clear(bank: &Bank, pass: &mut Pass, s: Object) -> Step
     ensures sections { SectionsAfter bank.now (One s) pass.old pass.new result }
     ensures cursors { KeepsCursors (view pass.old) (view pass.new) }
 {
-    match take_for(bank, pass, Objects::One(s)) {
-        Got::Have => {
-            let stamp = clear_by(bank, pass, s);
-            let_go(bank, pass);
-            Step::Done(Reply::Done, stamp)
-        }
-        Got::NotYet(container, owner) => Step::NotYet(container, owner),
-    }
+    try_clear_as(bank, pass, Way::Set, s)
 }

@@ -1,5 +1,5 @@
 //! All elements of a set, copied under its lock and without it.
-ghost use Rattle.std.specs.Prelude.{◌≡◌, ◌<◌, length, map};
+ghost use Rattle.std.specs.Prelude.{◌≡◌, ◌<◌, length};
 ghost use Rattle.ft_model.specs.declared.call.Call.TheVariants as call;
 ghost use Rattle.ft_model.specs.declared.call.SetCall.TheVariants as set;
 ghost use Rattle.ft_model.specs.declared.script.Kind.TheVariants as kind;
@@ -10,42 +10,15 @@ ghost use Rattle.ft_bank.specs.PassSections.{stack_of};
 ghost use Rattle.ft_section.specs.declared.answers.Objects.TheVariants.{One};
 ghost use Rattle.ft_section.specs.Ready.{MayTry};
 ghost use Rattle.ft_section.specs.Trying.{SectionsAfter};
-ghost use Rattle.ft_search.specs.OneEntryWrites.{MayWriteEntries};
 ghost use Rattle.ft_keyed.specs.ShownContents.{IsOfSet};
-ghost use Rattle.ft_list.specs.Copies.{AreCopied, IsCopied, IsCopyOf};
-ghost use Rattle.ft_list.specs.Glances.{Saw, IsCopyGlanceOf};
+ghost use Rattle.ft_list.specs.Copies.{IsCopyOf};
+ghost use Rattle.ft_list.specs.Glances.{IsCopyGlanceOf};
 
 use ft_bank::{Bank, Pass};
-use ft_keyed::copy_elements;
-use ft_list::Window;
-use ft_model::{Call, Key, Keys, Reply, SetCall};
-use ft_search::{answer_look, answer_made};
-use ft_section::{Got, Look, Object, Objects, Stamp, Step, let_go, take_for};
-use std::alloc::{AllocError, Global};
-
-/// All elements, by a pass that has the set's lock (Python manual, Set Types). An `Err` says that memory ran out; the
-/// pass only loaded words then.
-pub(crate) fn items_locked(
-    bank: &Bank,
-    pass: &mut Pass,
-    alloc: Global,
-    s: Object,
-) -> Result<(Reply, Stamp), AllocError>
-    requires pass { IsPassOf bank.now pass.old }
-    requires may { MayWriteEntries (shape_of bank.now) s (view pass.old) }
-    requires set { kind_in (shape_of bank.now).kinds s ≡ kind.Set }
-    ensures pass { IsPassOf bank.now pass.new }
-    ensures stack { stack_of pass.new ≡ stack_of pass.old }
-    ensures copied { IsCopied (call.Set s set.Items) (view pass.old) (view pass.new) result }
-{
-    let copy = copy_elements(bank, pass, alloc, s)?;
-    let called = Call::Set {
-        container: s,
-        call: SetCall::Items,
-    };
-    let said = Reply::Set(Keys::from_vec(copy));
-    Ok(answer_made(bank, pass, &called, said))
-}
+use ft_keyed::{look_all_items, try_all_items};
+use ft_keys::Way;
+use ft_section::{Look, Object, Step};
+use std::alloc::Global;
 
 /// All elements under the lock (Python manual, Set Types).
 ///
@@ -63,45 +36,7 @@ pub fn try_items(bank: &Bank, pass: &mut Pass, alloc: Global, s: Object) -> Step
     ensures made { IsCopyOf (One s) (call.Set s set.Items) (view pass.old) (view pass.new) result }
     ensures sections { SectionsAfter bank.now (One s) pass.old pass.new result }
 {
-    match take_for(bank, pass, Objects::One(s)) {
-        Got::Have => {
-            let copied = items_locked(bank, pass, alloc, s);
-            let_go(bank, pass);
-            match copied {
-                Ok((reply, stamp)) => Step::Done(reply, stamp),
-                Err(_) => Step::NoMemory,
-            }
-        }
-        Got::NotYet(container, owner) => Step::NotYet(container, owner),
-    }
-}
-
-/// Copies all elements, and loads the counter, between two loads of the version of the set.
-fn copy_between(
-    bank: &Bank,
-    pass: &mut Pass,
-    alloc: Global,
-    s: Object,
-) -> (Result<Vec<Key>, AllocError>, Window)
-    requires pass { IsPassOf bank.now pass.old }
-    requires container { s < containers_in (shape_of bank.now) }
-    ensures pass { IsPassOf bank.now pass.new }
-    ensures stack { stack_of pass.new ≡ stack_of pass.old }
-    ensures saw { Saw (shape_of bank.now) s (IsOfSet (shape_of bank.now) (λ set.
-        AreCopied result.0 (map (λ element. element.key) set.elements))) result.1 pass.old pass.new }
-{
-    let opened = bank.seq(pass, s);
-    let copy = copy_elements(bank, pass, alloc, s);
-    let number = bank.stamp(pass);
-    let closed = bank.seq(pass, s);
-    (
-        copy,
-        Window {
-            opened,
-            number,
-            closed,
-        },
-    )
+    try_all_items(bank, pass, alloc, Way::Set, s)
 }
 
 /// All elements without the lock (Python manual, Set Types).
@@ -120,19 +55,5 @@ pub fn look_items(bank: &Bank, pass: &mut Pass, alloc: Global, s: Object) -> Loo
     ensures looked { IsCopyGlanceOf (shape_of bank.now) s (IsOfSet (shape_of bank.now) (λ set. 0 < length set.elements))
         (call.Set s set.Items) (view pass.old) (view pass.new) result }
 {
-    let (copy, window) = copy_between(bank, pass, alloc, s);
-    if window.has_moved() {
-        return Look::Contended(window.opened, window.closed);
-    }
-    match copy {
-        Ok(elements) => {
-            let called = Call::Set {
-                container: s,
-                call: SetCall::Items,
-            };
-            let said = Reply::Set(Keys::from_vec(elements));
-            answer_look(bank, pass, &called, said, window.number)
-        }
-        Err(_) => Look::NoMemory,
-    }
+    look_all_items(bank, pass, alloc, Way::Set, s)
 }

@@ -7,27 +7,24 @@
 
 mod adds;
 mod clears;
+mod comparisons;
 mod deletes;
-mod equals;
 mod firsts;
 mod items;
 mod lens;
-mod locked;
 mod looks;
 mod merges;
 mod pops;
-mod subsets;
 mod tries;
 
 pub use crate::adds::{add_by, try_add};
 pub use crate::clears::{clear_by, try_clear};
+pub use crate::comparisons::{look_eq, try_disjoint, try_eq, try_subset};
 pub use crate::deletes::{discard_locked, remove_locked};
-pub use crate::equals::{look_eq, try_eq};
 pub use crate::firsts::{pop_locked, try_pop};
 pub use crate::items::{look_items, try_items};
 pub use crate::lens::{look_len, try_len};
 pub use crate::looks::look_has;
 pub use crate::merges::{or_by, try_and, try_or, try_sub, try_xor, xor_by};
 pub use crate::pops::{try_discard, try_remove};
-pub use crate::subsets::{try_disjoint, try_subset};
 pub use crate::tries::try_has;

@@ -12,10 +12,11 @@ ghost use Rattle.ft_section.specs.Ready.{MayTry};
 ghost use Rattle.ft_section.specs.Trying.{SectionsAfter};
 ghost use Rattle.ft_search.specs.Tries.{IsReadOf};
 
-use crate::locked::has_locked;
 use ft_bank::{Bank, Pass};
+use ft_keyed::try_has_key;
+use ft_keys::Way;
 use ft_model::Key;
-use ft_section::{Got, Object, Objects, Step, let_go, take_for};
+use ft_section::{Object, Step};
 
 /// `k in s` (Python manual, Set Types).
 ///
@@ -33,12 +34,5 @@ pub fn try_has(bank: &Bank, pass: &mut Pass, s: Object, key: Key) -> Step
     ensures sections { SectionsAfter bank.now (One s) pass.old pass.new result }
     ensures read { IsReadOf s (call.Set s (set.Has key)) (view pass.old) (view pass.new) result }
 {
-    match take_for(bank, pass, Objects::One(s)) {
-        Got::Have => {
-            let (reply, stamp) = has_locked(bank, pass, s, key);
-            let_go(bank, pass);
-            Step::Done(reply, stamp)
-        }
-        Got::NotYet(container, owner) => Step::NotYet(container, owner),
-    }
+    try_has_key(bank, pass, Way::Set, s, key)
 }

@@ -1,4 +1,4 @@
-use Rattle.std.proofs.Common.{◌≡◌, refl, ap, ◌∙◌}
+use Rattle.std.proofs.Common.{ap, ◌∙◌}
 use Rattle.ft_bank.specs.TableNames.{root_for}
 use Rattle.ft_keyed.proofs.clearing.clear_root.Goals as goal
 

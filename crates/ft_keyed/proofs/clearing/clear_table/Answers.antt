@@ -1,7 +1,4 @@
-use Rattle.std.proofs.Common.{◌≡◌, ℕ, None, refl, ap, ◌∙◌}
-use Rattle.ft_model.specs.declared.reply.Reply.TheVariants as reply
 use Rattle.ft_trace.specs.Holds.{held}
-use Rattle.ft_trace.specs.Pictures.{root_in}
 use Rattle.ft_bank.specs.Passes.{shape_of, view}
 use Rattle.ft_keyed.proofs.Emptied.{Emptying, may_put_none, emptying_bare, emptying_commits, emptying_shut, emptying_stands, emptying_wrote}
 use Rattle.ft_keyed.proofs.clearing.clear_table.Goals as goal

@@ -1,12 +1,9 @@
-use Rattle.std.proofs.Common.{◌≡◌, ℕ, suc, true, false, not, map, length, refl, sym, ap, ◌∙◌, arith}
+use Rattle.std.proofs.Common.{◌≡◌, true, not, length, refl, sym, ap, ◌∙◌, arith}
 use Rattle.std.specs.Prelude.{slice_index}
 use Rattle.std.specs.List.{filter_map, list_all, list_any}
-use Rattle.ft_layout.specs.Tables.{UsedEntry}
-use Rattle.ft_model.specs.declared.content.Element.{Element}
 use Rattle.ft_model.specs.Contents.{DictContent, has_pair}
-use Rattle.ft_model.specs.Worlds.{dict_of, kind_of}
-use Rattle.ft_trace.specs.Pictures.{Picture, Stands}
-use Rattle.ft_trace.specs.ContainerStates.{ContainerState}
+use Rattle.ft_model.specs.Worlds.{dict_of}
+use Rattle.ft_trace.specs.Pictures.{Picture}
 use Rattle.ft_bank.specs.Passes.{shape_of}
 use Rattle.ft_bank.specs.TableNames.{name_of}
 use Rattle.ft_list.proofs.Both.{both_map, both_then, of_first}

@@ -1,15 +1,12 @@
-use Rattle.std.proofs.Common.{◌≡◌, ◌<◌, Bool, true, false, not, Option, None, Some, refl, sym, ap, ◌∙◌, subst}
+use Rattle.std.proofs.Common.{◌<◌, not, Option, Some, ap, subst}
 use Rattle.std.specs.Prelude.{IfSome}
-use Rattle.std.specs.Option.{option_map_or}
 use Rattle.ft_model.specs.declared.data.Key.{Key}
 use Rattle.ft_model.specs.declared.data.Value.{Value}
-use Rattle.ft_model.specs.Keys.{is_value}
 use Rattle.ft_layout.specs.Words.{FitsKey}
 use Rattle.ft_trace.specs.Addresses.{class_of, places}
 use Rattle.ft_bank.specs.Passes.{shape_of}
 use Rattle.ft_bank.specs.TableNames.{name_of}
 use Rattle.ft_list.specs.Indexes.{Reads}
-use Rattle.ft_list.proofs.Equal.{value_equal}
 use Rattle.ft_keyed.specs.TableEntries.{IsPlainAt}
 use Rattle.ft_keyed.proofs.Meeting.{differs_none, differs_some}
 use Rattle.ft_keyed.proofs.comparing.differs_at.Goals as goal

@@ -1,8 +1,7 @@
-use Rattle.std.proofs.Common.{◌≡◌, ℕ, Option, None, Some, refl, sym, ap, ◌∙◌, subst}
+use Rattle.std.proofs.Common.{ℕ, Option, None, refl, sym, ap, ◌∙◌, subst}
 use Rattle.ft_layout.specs.declared.slot.Stored.TheVariants.{Plain}
 use Rattle.ft_layout.specs.Words.{IsStored}
 use Rattle.ft_keys.specs.declared.walk.Way.TheVariants as way
-use Rattle.ft_model.specs.declared.data.Value.{Value}
 use Rattle.ft_bank.specs.Passes.{shape_of}
 use Rattle.ft_list.proofs.Indexes.{reads_map}
 use Rattle.ft_keyed.specs.Comparing.{IsValueIn}

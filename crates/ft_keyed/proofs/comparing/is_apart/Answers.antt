@@ -1,12 +1,10 @@
-use Rattle.std.proofs.Common.{◌≡◌, true, false, not, refl, sym, ap, ◌∙◌}
+use Rattle.std.proofs.Common.{◌≡◌, true, not, refl, ap, ◌∙◌}
 use Rattle.std.specs.List.{list_any}
 use Rattle.ft_model.specs.declared.content.Element.{Element}
-use Rattle.ft_model.specs.Contents.{has_element, is_disjoint, is_subset}
-use Rattle.ft_model.specs.Worlds.{set_of}
+use Rattle.ft_model.specs.Contents.{is_disjoint}
 use Rattle.ft_bank.specs.Passes.{shape_of}
 use Rattle.ft_list.proofs.Both.{both_map}
 use Rattle.ft_keyed.specs.Comparing.{AreOfSets, is_met}
-use Rattle.ft_keyed.proofs.Paired.{all_not}
 use Rattle.ft_keyed.proofs.comparing.is_apart.Goals as goal
 
 pub returns-clause-reads : goal.returns-clause-reads

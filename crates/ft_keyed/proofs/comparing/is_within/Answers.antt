@@ -1,7 +1,7 @@
-use Rattle.std.proofs.Common.{◌≡◌, true, false, not, refl, sym, ap, ◌∙◌}
+use Rattle.std.proofs.Common.{◌≡◌, false, not, sym, ap, ◌∙◌}
 use Rattle.std.specs.List.{list_any}
 use Rattle.ft_model.specs.declared.content.Element.{Element}
-use Rattle.ft_model.specs.Contents.{has_element, is_disjoint, is_subset}
+use Rattle.ft_model.specs.Contents.{has_element, is_subset}
 use Rattle.ft_model.specs.Worlds.{set_of}
 use Rattle.ft_bank.specs.Passes.{shape_of}
 use Rattle.ft_list.proofs.Both.{both_map}

@@ -1,4 +1,4 @@
-use Rattle.std.proofs.Common.{◌≡◌, ◌<◌, Option, None, Some, refl, sym, ap, ◌∙◌, subst, not}
+use Rattle.std.proofs.Common.{◌<◌, Option, Some, ◌∙◌, subst, not}
 use Rattle.std.specs.Prelude.{IfSome, is_some, if◌then◌else◌}
 use Rattle.ft_model.specs.declared.data.Key.{Key}
 use Rattle.ft_layout.specs.Words.{FitsKey}

@@ -1,7 +1,5 @@
-use Rattle.std.proofs.Common.{◌≡◌, ℕ, suc, ◌+◌, ◌<◌, true, false, length, take, take_all, refl, sym, ap, ◌∙◌, arith}
-use Rattle.std.specs.Prelude.{slice_index_or}
+use Rattle.std.proofs.Common.{◌≡◌, ℕ, ◌+◌, ◌<◌, true, false, length, take, take_all, refl, sym, ap, ◌∙◌, arith}
 use Rattle.std.specs.List.{filter_map, list_any}
-use Rattle.ft_layout.specs.Tables.{UsedEntry}
 use Rattle.ft_bank.specs.Passes.{shape_of}
 use Rattle.ft_bank.specs.TableNames.{name_of}
 use Rattle.ft_keyed.specs.Comparing.{DiffersAt, WithDict, lacks_value}

@@ -1,4 +1,4 @@
-use Rattle.std.proofs.Common.{◌≡◌, ℕ, suc, sym, ◌∙◌}
+use Rattle.std.proofs.Common.{◌≡◌, suc, sym, ◌∙◌}
 use Rattle.ft_trace.specs.Addresses.{class_of, slots}
 use Rattle.ft_trace.specs.Pictures.{entry_field, root_in}
 use Rattle.ft_bank.specs.Passes.{shape_of}

@@ -1,4 +1,4 @@
-use Rattle.std.proofs.Common.{◌≡◌, ℕ, suc, ◌<◌, ◌≤◌, None, sym, ap, ◌∙◌, subst, arith}
+use Rattle.std.proofs.Common.{◌≡◌, suc, ◌<◌, None, ap, ◌∙◌, arith}
 use Rattle.ft_model.specs.Classes.{dict_entries}
 use Rattle.ft_trace.specs.Addresses.{class_of, places, slots}
 use Rattle.ft_trace.specs.Pictures.{entry_field, root_in}

@@ -1,12 +1,10 @@
-use Rattle.std.proofs.Common.{◌≡◌, ◌≢◌, ℕ, List, ◌∷◌, ◌++◌, refl, sym, ap, ◌∙◌, subst}
-use Rattle.ft_hash.specs.Probes.{IsMask}
+use Rattle.std.proofs.Common.{ℕ, List, ◌∷◌, ◌++◌, ap, subst}
 use Rattle.ft_bank.specs.Passes.{shape_of}
 use Rattle.ft_bank.specs.TableNames.{name_of}
 use Rattle.ft_bank.proofs.TableAddresses.{named}
 use Rattle.ft_keys.specs.declared.words.Access.{Access}
 use Rattle.ft_keys.specs.Accesses.{AreAnswered}
 use Rattle.ft_keys.specs.Searches.{Searched}
-use Rattle.ft_keys.specs.Ways.{walk_slots}
 use Rattle.ft_keys.proofs.Shown.{runs-append, loads-append, fits-append, loads-leave}
 use Rattle.ft_search.specs.Held.{ReadsEntry}
 use Rattle.ft_search.specs.TableWords.{MadeAccess}

@@ -1,4 +1,4 @@
-use Rattle.std.proofs.Common.{◌≡◌, ℕ, ◌+◌, ◌<◌, Some, None, length, refl, sym, ◌∙◌, arith}
+use Rattle.std.proofs.Common.{◌≡◌, ◌+◌, Some, None, length, refl, sym, ◌∙◌, arith}
 use Rattle.std.specs.Prelude.{is_some}
 use Rattle.ft_bank.specs.Passes.{shape_of}
 use Rattle.ft_bank.specs.TableNames.{name_of}

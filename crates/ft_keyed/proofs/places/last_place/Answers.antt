@@ -1,8 +1,7 @@
-use Rattle.std.proofs.Common.{◌≡◌, ℕ, ◌+◌, ◌-◌, ◌<◌, ◌≤◌, Some, None, length, List, refl, sym, ap, subst, ◌∙◌, arith}
+use Rattle.std.proofs.Common.{◌≡◌, ℕ, ◌+◌, ◌-◌, Some, None, length, refl, sym, subst, ◌∙◌, arith}
 use Rattle.std.specs.Prelude.{is_some}
 use Rattle.ft_bank.specs.Passes.{shape_of}
 use Rattle.ft_bank.specs.TableNames.{name_of}
-use Rattle.ft_layout.specs.Tables.{UsedEntry}
 use Rattle.ft_keyed.specs.Places.{IsLast, NoneThere}
 use Rattle.ft_keyed.proofs.Scanning.{none_after, scan_key, scan_map, scan_none, there_at}
 use Rattle.ft_keyed.proofs.places.last_place.Goals as goal

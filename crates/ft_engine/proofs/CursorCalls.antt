@@ -35,7 +35,7 @@ use Rattle.ft_engine.specs.Answering.{MakesEntry, AreHandsOfPass, IsTryOfCall, L
 use Rattle.ft_engine.specs.Callers.{IsOfKindIn}
 use Rattle.ft_engine.specs.Flights.{objects_of}
 use Rattle.ft_engine.specs.Keeping.{made_entry}
-use Rattle.ft_engine.proofs.LooksBefore.{IsPlain, tried_of}
+use Rattle.ft_engine.proofs.LooksBefore.{IsPlain, plain_call, tried_of}
 use Rattle.ft_engine.proofs.Outcomes.{Outcome}
 use Rattle.ft_engine.proofs.Within.{WalkedBy, cursor_owners, within_then}
 use Rattle.ft_engine.proofs.SectionCalls.{only_nothing}
@@ -139,9 +139,9 @@ hands_by k v w hands kind o number called left step.NoMemory are low others of x
 -- ---- the calls
 
 plain_iter : (kind : Kind) (o number : ℕ) → IsPlain (iter_call kind o number)
-plain_iter kind.Dict o number = record { sections = λ n log sections. refl; begins = refl; marks = λ marks. refl; ends = λ marks said. tt; leaves = λ s. refl }
-plain_iter kind.List o number = record { sections = λ n log sections. refl; begins = refl; marks = λ marks. refl; ends = λ marks said. tt; leaves = λ s. refl }
-plain_iter kind.Set o number = record { sections = λ n log sections. refl; begins = refl; marks = λ marks. refl; ends = λ marks said. tt; leaves = λ s. refl }
+plain_iter kind.Dict o number = plain_call (iter_call kind.Dict o number) tt
+plain_iter kind.List o number = plain_call (iter_call kind.List o number) tt
+plain_iter kind.Set o number = plain_call (iter_call kind.Set o number) tt
 
 iter_names : (hands : List (Option Cursor)) (kind : Kind) (o number : ℕ) → objects_of hands (iter_call kind o number) ≡ Some (One o)
 iter_names hands kind.Dict o number = refl

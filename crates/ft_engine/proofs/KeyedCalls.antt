@@ -1,5 +1,5 @@
 -- What calls on dicts and sets come to, and looks at them, in the words that all calls share.
-use Rattle.std.proofs.Common.{◌≡◌, ◌<◌, ℕ, false, List, refl, sym, ap, subst}
+use Rattle.std.proofs.Common.{◌≡◌, ◌<◌, ℕ, false, List, sym, ap, subst}
 use Rattle.std.specs.Prelude.{Option, None, Some}
 use Rattle.ft_model.specs.declared.call.Call.{Call}
 use Rattle.ft_model.specs.declared.call.Call.TheVariants as call
@@ -37,26 +37,20 @@ use Rattle.ft_replacing.specs.Replacing.{IsReplaced}
 use Rattle.ft_engine.specs.Answering.{IsLooked, IsTryOfCall}
 use Rattle.ft_engine.specs.Contentions.{StopsCall}
 use Rattle.ft_engine.specs.Flights.{objects_by}
-use Rattle.ft_engine.proofs.LooksBefore.{IsPlain, outcome_walked, tried_of}
+use Rattle.ft_engine.proofs.LooksBefore.{outcome_walked, plain_call, tried_of}
 use Rattle.ft_engine.proofs.Outcomes.{Comes, Outcome, add_outcome, gave_up_adds, gave_up_owners, loaded_comes}
 
 -- ---- tries
 
-pub plain_dict : (d : ℕ) (dc : DictCall) → IsPlain (call.Dict d dc)
-plain_dict d dc = record { sections = λ n log sections. refl; begins = refl; marks = λ marks. refl; ends = λ marks said. tt; leaves = λ s. refl }
-
-pub plain_set : (s : ℕ) (sc : SetCall) → IsPlain (call.Set s sc)
-plain_set s sc = record { sections = λ n log sections. refl; begins = refl; marks = λ marks. refl; ends = λ marks said. tt; leaves = λ s. refl }
-
 pub dict_tried : (b : Bank) (p q : Pass) (hands : List (Option Cursor)) (d : ℕ) (given dc : DictCall) (objects : Objects) (result : Step) → given ≡ dc → moved_cursor (call.Dict d dc) ≡ None → objects_by d (other_dict dc) ≡ objects → SectionsAfter b objects p q result → Outcome (call.Dict d dc) objects (view p) (view q) result → IsTryOfCall b hands (call.Dict d given) p q result
 dict_tried b p q hands d given dc objects result is still names after came =
     subst (λ (z : DictCall). IsTryOfCall b hands (call.Dict d z) p q result) (sym is)
-    (tried_of b p q hands (call.Dict d dc) objects (plain_dict d dc) (ap (λ (z : Objects). Some z) names) result after came (outcome_walked (call.Dict d dc) objects (view p) (view q) result still came))
+    (tried_of b p q hands (call.Dict d dc) objects (plain_call (call.Dict d dc) tt) (ap (λ (z : Objects). Some z) names) result after came (outcome_walked (call.Dict d dc) objects (view p) (view q) result still came))
 
 pub set_tried : (b : Bank) (p q : Pass) (hands : List (Option Cursor)) (s : ℕ) (given sc : SetCall) (objects : Objects) (result : Step) → given ≡ sc → moved_cursor (call.Set s sc) ≡ None → objects_by s (other_set sc) ≡ objects → SectionsAfter b objects p q result → Outcome (call.Set s sc) objects (view p) (view q) result → IsTryOfCall b hands (call.Set s given) p q result
 set_tried b p q hands s given sc objects result is still names after came =
     subst (λ (z : SetCall). IsTryOfCall b hands (call.Set s z) p q result) (sym is)
-    (tried_of b p q hands (call.Set s sc) objects (plain_set s sc) (ap (λ (z : Objects). Some z) names) result after came (outcome_walked (call.Set s sc) objects (view p) (view q) result still came))
+    (tried_of b p q hands (call.Set s sc) objects (plain_call (call.Set s sc) tt) (ap (λ (z : Objects). Some z) names) result after came (outcome_walked (call.Set s sc) objects (view p) (view q) result still came))
 
 -- ---- new keys
 

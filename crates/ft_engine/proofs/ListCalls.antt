@@ -1,5 +1,5 @@
 -- What the tries of calls on lists come to, in the words that all calls share.
-use Rattle.std.proofs.Common.{◌≡◌, ◌<◌, ℕ, List, refl, sym, ap, subst}
+use Rattle.std.proofs.Common.{◌≡◌, ◌<◌, ℕ, List, sym, ap, subst}
 use Rattle.std.specs.Prelude.{Option, Some, None}
 use Rattle.ft_model.specs.declared.call.Call.TheVariants as call
 use Rattle.ft_model.specs.declared.call.ListCall.{ListCall}
@@ -21,16 +21,13 @@ use Rattle.ft_growth.specs.Adding.{IsTryOf as IsAddTryOf}
 use Rattle.ft_list.specs.ListGrowth.{AddsItems, ExtendsBy}
 use Rattle.ft_engine.specs.Answering.{IsTryOfCall}
 use Rattle.ft_engine.specs.Flights.{objects_by}
-use Rattle.ft_engine.proofs.LooksBefore.{IsPlain, outcome_walked, tried_of}
+use Rattle.ft_engine.proofs.LooksBefore.{outcome_walked, plain_call, tried_of}
 use Rattle.ft_engine.proofs.Outcomes.{Outcome, add_outcome, loaded_comes}
-
-pub plain_list : (l : ℕ) (lc : ListCall) → IsPlain (call.List l lc)
-plain_list l lc = record { sections = λ n log sections. refl; begins = refl; marks = λ marks. refl; ends = λ marks said. tt; leaves = λ s. refl }
 
 pub list_tried : (b : Bank) (p q : Pass) (hands : List (Option Cursor)) (l : ℕ) (given lc : ListCall) (objects : Objects) (result : Step) → given ≡ lc → moved_cursor (call.List l lc) ≡ None → objects_by l (other_list lc) ≡ objects → SectionsAfter b objects p q result → Outcome (call.List l lc) objects (view p) (view q) result → IsTryOfCall b hands (call.List l given) p q result
 list_tried b p q hands l given lc objects result is still names after came =
     subst (λ (z : ListCall). IsTryOfCall b hands (call.List l z) p q result) (sym is)
-    (tried_of b p q hands (call.List l lc) objects (plain_list l lc) (ap (λ (z : Objects). Some z) names) result after came (outcome_walked (call.List l lc) objects (view p) (view q) result still came))
+    (tried_of b p q hands (call.List l lc) objects (plain_call (call.List l lc) tt) (ap (λ (z : Objects). Some z) names) result after came (outcome_walked (call.List l lc) objects (view p) (view q) result still came))
 
 pub adds_outcome : (k : Shape) (l : ℕ) (called : Call) (n : ℕ) (v w : View) (result : Step) → 0 < v.left → IsAddTryOf (One l) (AddsItems k l called n) reply.Done v w result → Outcome called (One l) v w result
 adds_outcome k l called n v w result left x = add_outcome (One l) (AddsItems k l called n) called reply.Done v w result (λ u z what some y. loaded_comes k _ _ called reply.Done u y.0 z what some y.1 y.2) left x

@@ -31,6 +31,7 @@ use Rattle.ft_engine.specs.declared.caller.Flight.{Flight}
 use Rattle.ft_engine.specs.declared.caller.Flight.TheVariants as flight
 use Rattle.ft_engine.specs.declared.engine.Engine.{Engine}
 use Rattle.ft_engine.specs.Answering.{MakesEntry, IsLockedFor, IsLooked}
+use Rattle.ft_engine.specs.Asked.{IsOnContainers}
 use Rattle.ft_engine.specs.Attempts.{StaysCaller, after_look, flight_looked, entries_with_look}
 use Rattle.ft_engine.specs.Callers.{IsCallerOf, thread_of}
 use Rattle.ft_engine.specs.Contentions.{may_look}
@@ -42,7 +43,7 @@ use Rattle.ft_engine.proofs.Callers.{at_hand, idle_free}
 use Rattle.ft_engine.proofs.IterCalls.{iter_dict, iter_set}
 use Rattle.ft_engine.proofs.ListCalls.{iter_list}
 use Rattle.ft_engine.proofs.Keeping.{kept_answered, kept_done, kept_refused, no_answer_idle}
-use Rattle.ft_engine.proofs.LooksBefore.{IsPlain, loaded_ready}
+use Rattle.ft_engine.proofs.LooksBefore.{IsPlain, loaded_ready, plain_call}
 use Rattle.ft_engine.proofs.Outcomes.{answered_adds, loaded_nothing}
 use Rattle.ft_engine.proofs.KnownOwners.{answered_owned, calm_owned, done_owned, refused_owned}
 use Rattle.ft_engine.proofs.Within.{answered_owners, loaded_owners, looks_still, walked_none}
@@ -63,14 +64,17 @@ read_ready b p q called said n leaves r pass stack a =
 
 -- ---- calls that may be made so
 
+looks_on : (called : Call) → may_look called ≡ true → IsOnContainers called
+looks_on (call.Dict o dc) may = tt
+looks_on (call.List o lc) may = tt
+looks_on (call.Set o sc) may = tt
+looks_on (call.Next number) may = absurd (let e : false ≡ true = may in cc)
+looks_on (call.Begin first second) may = absurd (let e : false ≡ true = may in cc)
+looks_on call.End may = absurd (let e : false ≡ true = may in cc)
+looks_on call.Quiesce may = absurd (let e : false ≡ true = may in cc)
+
 pub looks_plain : (called : Call) → may_look called ≡ true → IsPlain called
-looks_plain (call.Dict o dc) may = record { sections = λ n log sections. refl; begins = refl; marks = λ marks. refl; ends = λ marks said. tt; leaves = λ s. refl }
-looks_plain (call.List o lc) may = record { sections = λ n log sections. refl; begins = refl; marks = λ marks. refl; ends = λ marks said. tt; leaves = λ s. refl }
-looks_plain (call.Set o sc) may = record { sections = λ n log sections. refl; begins = refl; marks = λ marks. refl; ends = λ marks said. tt; leaves = λ s. refl }
-looks_plain (call.Next number) may = absurd (let e : false ≡ true = may in cc)
-looks_plain (call.Begin first second) may = absurd (let e : false ≡ true = may in cc)
-looks_plain call.End may = absurd (let e : false ≡ true = may in cc)
-looks_plain call.Quiesce may = absurd (let e : false ≡ true = may in cc)
+looks_plain called may = plain_call called (looks_on called may)
 
 -- none of them moves a cursor
 pub looks_none : (called : Call) → may_look called ≡ true → (number : ℕ) → moved_cursor called ≡ Some number → ⊥

@@ -2,9 +2,10 @@
 use Rattle.std.proofs.Common.{◌≡◌, ◌<◌, ◌+◌, ℕ, false, true≢false, List, [], ◌∷◌, ◌++◌, refl, sym, ap, ◌∙◌, subst, inl, inr, ⊎_elim, append_assoc}
 use Rattle.std.specs.Prelude.{◌==◌, ◌||◌, Option, Some, None, is_some, option_map, if◌then◌else◌}
 use Rattle.ft_model.specs.declared.call.Call.{Call}
+use Rattle.ft_model.specs.declared.call.Call.TheVariants as call
 use Rattle.ft_model.specs.declared.cursor.Cursor.{Cursor}
 use Rattle.ft_model.specs.declared.reply.Reply.{Reply}
-use Rattle.ft_model.specs.Calls.{moved_cursor}
+use Rattle.ft_model.specs.Calls.{moved_cursor, other_dict, other_list, other_set}
 use Rattle.ft_model.specs.Worlds.{container_of}
 use Rattle.ft_trace.specs.declared.Act.{Act}
 use Rattle.ft_trace.specs.declared.Act.TheVariants.{Lock}
@@ -37,8 +38,9 @@ use Rattle.ft_section.proofs.Resumes.{none_some}
 use Rattle.ft_search.proofs.ReadMidst.{LeavesSections, making_read, still_loaded}
 use Rattle.ft_engine.specs.Answering.{MakesEntry, MakesNoEntry, IsEndOf, IsTryOfCall, KnewLocks, IsLookedIfAny, settled}
 use Rattle.ft_closing.specs.Marks.{walked_after}
+use Rattle.ft_engine.specs.Asked.{IsOnContainers}
 use Rattle.ft_engine.specs.Contentions.{may_look}
-use Rattle.ft_engine.specs.Flights.{is_begin, objects_of}
+use Rattle.ft_engine.specs.Flights.{is_begin, objects_by, objects_of}
 use Rattle.ft_engine.specs.Keeping.{marks_after, section_marks}
 use Rattle.ft_engine.specs.Stacks.{StackAfter}
 use Rattle.ft_engine.proofs.Outcomes.{Outcome, answered_adds, before_adds, loaded_nothing, moved_then}
@@ -52,6 +54,25 @@ pub record IsPlain (called : Call) : Type 0 where
   pub marks : (l : List ℕ) → marks_after called l ≡ l
   pub ends : (l : List ℕ) (said : Reply) → IsEndOf called l said
   pub leaves : (s : Stack) → StackAfter called s (with_own s nothing_taken)
+
+pub plain_call : (called : Call) → IsOnContainers called → IsPlain called
+plain_call (call.Dict o dc) on = record { sections = λ n log sections. refl; begins = refl; marks = λ marks. refl; ends = λ marks said. tt; leaves = λ s. refl }
+plain_call (call.List o lc) on = record { sections = λ n log sections. refl; begins = refl; marks = λ marks. refl; ends = λ marks said. tt; leaves = λ s. refl }
+plain_call (call.Set o sc) on = record { sections = λ n log sections. refl; begins = refl; marks = λ marks. refl; ends = λ marks said. tt; leaves = λ s. refl }
+plain_call (call.Next number) on = absurd on
+plain_call (call.Begin first second) on = absurd on
+plain_call call.End on = absurd on
+plain_call call.Quiesce on = absurd on
+
+-- it names its containers itself, and not by a cursor
+pub named_objects : (called : Call) → IsOnContainers called → (objects : Objects) × ((hands : List (Option Cursor)) → objects_of hands called ≡ Some objects)
+named_objects (call.Dict o dc) on = (objects_by o (other_dict dc), λ hands. refl)
+named_objects (call.List o lc) on = (objects_by o (other_list lc), λ hands. refl)
+named_objects (call.Set o sc) on = (objects_by o (other_set sc), λ hands. refl)
+named_objects (call.Next number) on = absurd on
+named_objects (call.Begin first second) on = absurd on
+named_objects call.End on = absurd on
+named_objects call.Quiesce on = absurd on
 
 some_same : (x y : Step) → Some x ≡ Some y → x ≡ y
 some_same x y e = cc
@@ -165,6 +186,9 @@ waiting_making b p objects w = record { inside = w.inside; free = λ none. absur
 
 pub may_making : (b : Bank) (p : Pass) (objects : Objects) → MayTry b p objects → IsMaking b p
 may_making b p objects may = ⊎_elim (λ (r : IsReady b p). ready_making b p r) (λ (w : IsWaiting b p objects). waiting_making b p objects w) may
+
+pub may_pass : (b : Bank) (p : Pass) (objects : Objects) → MayTry b p objects → IsPassOf b p
+may_pass b p objects may = (may_making b p objects may).inside.0
 
 module _ (b : Bank) (p q : Pass) (pass : IsPassOf b q) (stack : stack_of q ≡ stack_of p) (l : OnlyLoaded (view p) (view q)) where
   pub loaded_in : InCall (view p) (stack_of p) → InCall (view q) (stack_of q)

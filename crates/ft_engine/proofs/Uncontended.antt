@@ -1,13 +1,11 @@
 -- With the floor no look is contended.
-use Rattle.std.proofs.Common.{◌≡◌, ◌<◌, ℕ, ℤ, pos, negsuc, Bool, true, false, true≢false, List, ◌++◌, refl, sym, ap, ◌∙◌, subst, ⊎_elim}
-use Rattle.std.specs.Prelude.{◌⊎◌, IfSome, Option, Some, None}
+use Rattle.std.proofs.Common.{◌≡◌, ℕ, ℤ, pos, negsuc, Bool, true, false, true≢false, List, refl, sym, ◌∙◌, subst, ⊎_elim}
+use Rattle.std.specs.Prelude.{◌⊎◌, Option, Some, None}
 use Rattle.std.proofs.Math.Logic.{∥∥₁_elim}
 use Rattle.ft_model.specs.declared.call.Call.{Call}
 use Rattle.ft_model.specs.declared.call.Call.TheVariants as call
-use Rattle.ft_model.specs.declared.call.DictCall.{DictCall}
 use Rattle.ft_model.specs.declared.call.ListCall.{ListCall}
 use Rattle.ft_model.specs.declared.call.ListCall.TheVariants as list
-use Rattle.ft_model.specs.declared.call.SetCall.{SetCall}
 use Rattle.ft_model.specs.declared.cursor.Cursor.{Cursor}
 use Rattle.ft_model.specs.declared.data.Key.{Key}
 use Rattle.ft_model.specs.declared.script.Kind.{Kind}
@@ -17,10 +15,8 @@ use Rattle.ft_trace.specs.declared.Act.{Act}
 use Rattle.ft_trace.specs.declared.Shape.{Shape}
 use Rattle.ft_trace.specs.declared.View.{View}
 use Rattle.ft_trace.specs.Acts.{is_writing}
-use Rattle.ft_trace.specs.Addresses.{containers_in}
 use Rattle.ft_trace.specs.Kinds.{IsItems, IsKeyed}
 use Rattle.ft_trace.specs.Traces.{Possible}
-use Rattle.ft_trace.specs.ContainerStates.{kind_in}
 use Rattle.ft_bank.specs.declared.bank.Bank.{Bank}
 use Rattle.ft_bank.specs.declared.pass.Pass.{Pass}
 use Rattle.ft_bank.specs.Passes.{shape_of, view}
@@ -31,9 +27,7 @@ use Rattle.ft_list.proofs.Undisturbed.{floor_items_stand}
 use Rattle.ft_section.specs.declared.answers.Look.{Look}
 use Rattle.ft_section.specs.declared.answers.Look.TheVariants as look
 use Rattle.ft_section.specs.declared.answers.Objects.{Objects}
-use Rattle.ft_section.specs.Ready.{IsReady, IsStill, IsWaiting, MayTry}
-use Rattle.ft_engine.specs.declared.engine.Engine.{Engine}
-use Rattle.ft_engine.specs.declared.caller.Caller.{Caller}
+use Rattle.ft_section.specs.Ready.{IsReady, IsWaiting, MayTry}
 use Rattle.ft_engine.specs.Answering.{IsLooked, IsUncontended, IsLookedIfAny}
 use Rattle.ft_engine.specs.Contentions.{StopsAtOne, StopsCall, StopsIndex, StopsKeyed, StopsList}
 use Rattle.ft_engine.specs.Asked.{AreOfKindIn, IsCallIn, key_of_dict, key_of_set}
@@ -89,31 +83,14 @@ module _ (called : Call) (p q : Pass) (a b : ℕ) (still : (o : ℕ) → is_writ
 still_may : (b : Bank) (p : Pass) (objects : Objects) → MayTry b p objects → (o : ℕ) → is_writing o (view p).log ≡ false
 still_may b p objects may = ⊎_elim (λ (r : IsReady b p). r.inside.1.still.even) (λ (w : IsWaiting b p objects). w.inside.1.still.even) may
 
--- ---- by kinds of calls
+-- ---- a look before a try
 
-pub dict_stands : (b : Bank) (p q : Pass) (d : ℕ) (dc : DictCall) (objects : Objects) (found : Option Look) → AreOfKindIn (shape_of b) kind.Dict d (other_dict dc) → MayTry b p objects → IsLookedIfAny (call.Dict d dc) p q found → (view q).shape ≡ shape_of b → StandsWithFloor (view p) found
-dict_stands b p q d dc objects None names may x same = tt
-dict_stands b p q d dc objects (Some (look.Done said stamp)) names may x same = tt
-dict_stands b p q d dc objects (Some (look.Contended first second)) names may x same =
-    never_contended (call.Dict d dc) p q first second (still_may b p objects may) x
-    (λ part pos l stops. keyed_stands (view q) part pos l kind.Dict tt d (other_dict dc) (key_of_dict dc) first second (subst (λ (k : Shape). AreOfKindIn k kind.Dict d (other_dict dc)) (sym same) names) stops)
-dict_stands b p q d dc objects (Some look.NoMemory) names may x same = tt
-
-pub list_stands : (b : Bank) (p q : Pass) (l : ℕ) (lc : ListCall) (objects : Objects) (found : Option Look) → AreOfKindIn (shape_of b) kind.List l (other_list lc) → MayTry b p objects → IsLookedIfAny (call.List l lc) p q found → (view q).shape ≡ shape_of b → StandsWithFloor (view p) found
-list_stands b p q l lc objects None names may x same = tt
-list_stands b p q l lc objects (Some (look.Done said stamp)) names may x same = tt
-list_stands b p q l lc objects (Some (look.Contended first second)) names may x same =
-    never_contended (call.List l lc) p q first second (still_may b p objects may) x
-    (λ part pos loads stops. items_stand (view q) part pos loads l lc first second (subst (λ (k : Shape). AreOfKindIn k kind.List l (other_list lc)) (sym same) names) stops)
-list_stands b p q l lc objects (Some look.NoMemory) names may x same = tt
-
-pub set_stands : (b : Bank) (p q : Pass) (s : ℕ) (sc : SetCall) (objects : Objects) (found : Option Look) → AreOfKindIn (shape_of b) kind.Set s (other_set sc) → MayTry b p objects → IsLookedIfAny (call.Set s sc) p q found → (view q).shape ≡ shape_of b → StandsWithFloor (view p) found
-set_stands b p q s sc objects None names may x same = tt
-set_stands b p q s sc objects (Some (look.Done said stamp)) names may x same = tt
-set_stands b p q s sc objects (Some (look.Contended first second)) names may x same =
-    never_contended (call.Set s sc) p q first second (still_may b p objects may) x
-    (λ part pos l stops. keyed_stands (view q) part pos l kind.Set tt s (other_set sc) (key_of_set sc) first second (subst (λ (k : Shape). AreOfKindIn k kind.Set s (other_set sc)) (sym same) names) stops)
-set_stands b p q s sc objects (Some look.NoMemory) names may x same = tt
+pub try_stands : (b : Bank) (p q : Pass) (hands : List (Option Cursor)) (called : Call) (objects : Objects) (found : Option Look) → IsCallIn (shape_of b) hands called → MayTry b p objects → IsLookedIfAny called p q found → (view q).shape ≡ shape_of b → StandsWithFloor (view p) found
+try_stands b p q hands called objects None names may x same = tt
+try_stands b p q hands called objects (Some (look.Done said stamp)) names may x same = tt
+try_stands b p q hands called objects (Some (look.Contended first second)) names may x same =
+    never_contended called p q first second (still_may b p objects may) x (λ part pos l stops. call_stands (view q) part pos l hands called first second (subst (λ (k : Shape). IsCallIn k hands called) (sym same) names) stops)
+try_stands b p q hands called objects (Some look.NoMemory) names may x same = tt
 
 -- a look as a call of its own
 pub look_stands : (b : Bank) (p q : Pass) (hands : List (Option Cursor)) (called : Call) (answer : Look) → IsCallIn (shape_of b) hands called → ((o : ℕ) → is_writing o (view p).log ≡ false) → (view q).shape ≡ shape_of b → IsLooked called (view p) (view q) answer → (view p).has_floor ≡ true → IsUncontended answer

@@ -18,6 +18,16 @@ use Rattle.ft_bank.specs.KeyHashes.{IsKeyIn}
 use Rattle.ft_bank.specs.PassSections.{Stack}
 use Rattle.ft_engine.specs.Callers.{IsOfKindIn}
 
+-- the call is one on a dict, a list or a set
+abbrev pub IsOnContainers : Call → Type 0
+IsOnContainers (call.Dict o dc) = Unit {0}
+IsOnContainers (call.List o lc) = Unit {0}
+IsOnContainers (call.Set o sc) = Unit {0}
+IsOnContainers (call.Next number) = ⊥
+IsOnContainers (call.Begin first second) = ⊥
+IsOnContainers call.End = ⊥
+IsOnContainers call.Quiesce = ⊥
+
 -- the container that a call names, and the other one, are there and of this kind
 abbrev pub AreOfKindIn : Shape → Kind → ℕ → Option ℕ → Type 0
 AreOfKindIn k kind o other = IsOfKindIn k kind o × IfSome other (λ p. IsOfKindIn k kind p)

@@ -1,6 +1,5 @@
 //! The answer of a call: the first half of a try.
 ghost use Rattle.std.specs.Prelude.{◌≡◌, List, length, suc, IfSome, IfNone};
-ghost use Rattle.ft_model.specs.declared.call.Call.TheVariants as calls;
 ghost use Rattle.ft_model.specs.declared.entry.Entry.{Entry as NamedEntry};
 ghost use Rattle.ft_bank.specs.Passes.{shape_of, view};
 ghost use Rattle.ft_bank.specs.PassSections.{stack_of};
@@ -17,15 +16,13 @@ ghost use Rattle.ft_engine.specs.Keeping.{WasAnswered};
 
 use crate::attempts::Tried;
 use crate::caller::{Caller, Flight};
+use crate::container_call::call_container;
 use crate::cursor_call::{iter, next};
-use crate::dict_call::call_dict;
 use crate::engine::Engine;
-use crate::list_call::call_list;
 use crate::section_call::{begin, end, quiesce};
-use crate::set_call::call_set;
 use ft_bank::{Bank, Pass};
 use ft_model::{Call, Cursor, DictCall, Kind, ListCall, SetCall};
-use ft_section::{Object, Step};
+use ft_section::Step;
 use std::alloc::Global;
 
 /// One try of a call that has no answer yet, by kinds of calls.
@@ -45,82 +42,25 @@ fn make(
     ensures stays { LeavesHands result cursors.old.items cursors.new.items }
 {
     match call {
-        Call::Dict { container, call } => make_dict(bank, pass, alloc, cursors, *container, call),
-        Call::List { container, call } => make_list(bank, pass, alloc, cursors, *container, call),
-        Call::Set { container, call } => make_set(bank, pass, alloc, cursors, *container, call),
+        Call::Dict {
+            container,
+            call: DictCall::Iter { cursor },
+        } => iter(bank, pass, cursors, *container, Kind::Dict, *cursor),
+        Call::List {
+            container,
+            call: ListCall::Iter { cursor },
+        } => iter(bank, pass, cursors, *container, Kind::List, *cursor),
+        Call::Set {
+            container,
+            call: SetCall::Iter { cursor },
+        } => iter(bank, pass, cursors, *container, Kind::Set, *cursor),
+        Call::Dict { .. } | Call::List { .. } | Call::Set { .. } => {
+            call_container(bank, pass, alloc, call)
+        }
         Call::Next { cursor } => next(bank, pass, cursors, *cursor),
         Call::Begin { first, second } => begin(bank, pass, *first, *second),
         Call::End => end(bank, pass),
         Call::Quiesce => quiesce(bank, pass),
-    }
-}
-
-/// One try of a call on a dict.
-#[inline(always)]
-fn make_dict(
-    bank: &Bank,
-    pass: &mut Pass,
-    alloc: Global,
-    cursors: &mut Vec<Option<Cursor>>,
-    d: Object,
-    call: &DictCall,
-) -> Step
-    requires may { MayTryCall bank.now pass.old cursors.old.items (calls.Dict d call.now) }
-    requires hands { AreHandsOfPass (shape_of bank.now) (view pass.old) cursors.old.items }
-    ensures tried { IsTryOfCall bank.now cursors.old.items (calls.Dict d call.now) pass.old pass.new result }
-    ensures looked { HasLooked (calls.Dict d call.now) (view pass.old) (view pass.new) result }
-    ensures hands { AreHandsOfPass (shape_of bank.now) (view pass.new) cursors.new.items }
-    ensures stays { LeavesHands result cursors.old.items cursors.new.items }
-{
-    match call.cursor() {
-        Some(number) => iter(bank, pass, cursors, d, Kind::Dict, number),
-        None => call_dict(bank, pass, alloc, d, call),
-    }
-}
-
-/// One try of a call on a list.
-#[inline(always)]
-fn make_list(
-    bank: &Bank,
-    pass: &mut Pass,
-    alloc: Global,
-    cursors: &mut Vec<Option<Cursor>>,
-    l: Object,
-    call: &ListCall,
-) -> Step
-    requires may { MayTryCall bank.now pass.old cursors.old.items (calls.List l call.now) }
-    requires hands { AreHandsOfPass (shape_of bank.now) (view pass.old) cursors.old.items }
-    ensures tried { IsTryOfCall bank.now cursors.old.items (calls.List l call.now) pass.old pass.new result }
-    ensures looked { HasLooked (calls.List l call.now) (view pass.old) (view pass.new) result }
-    ensures hands { AreHandsOfPass (shape_of bank.now) (view pass.new) cursors.new.items }
-    ensures stays { LeavesHands result cursors.old.items cursors.new.items }
-{
-    match call.cursor() {
-        Some(number) => iter(bank, pass, cursors, l, Kind::List, number),
-        None => call_list(bank, pass, alloc, l, call),
-    }
-}
-
-/// One try of a call on a set.
-#[inline(always)]
-fn make_set(
-    bank: &Bank,
-    pass: &mut Pass,
-    alloc: Global,
-    cursors: &mut Vec<Option<Cursor>>,
-    s: Object,
-    call: &SetCall,
-) -> Step
-    requires may { MayTryCall bank.now pass.old cursors.old.items (calls.Set s call.now) }
-    requires hands { AreHandsOfPass (shape_of bank.now) (view pass.old) cursors.old.items }
-    ensures tried { IsTryOfCall bank.now cursors.old.items (calls.Set s call.now) pass.old pass.new result }
-    ensures looked { HasLooked (calls.Set s call.now) (view pass.old) (view pass.new) result }
-    ensures hands { AreHandsOfPass (shape_of bank.now) (view pass.new) cursors.new.items }
-    ensures stays { LeavesHands result cursors.old.items cursors.new.items }
-{
-    match call.cursor() {
-        Some(number) => iter(bank, pass, cursors, s, Kind::Set, number),
-        None => call_set(bank, pass, alloc, s, call),
     }
 }
 

@@ -1,7 +1,6 @@
 //! A caller: a pass with its cursors, and with the call that is in flight.
 ghost use Rattle.std.specs.Prelude.{◌≡◌, ◌-◌, ◌<◌, ◌↔◌, IsTrue, length, is_some, true};
 ghost use Rattle.ft_model.specs.Worlds.{cursor_at};
-ghost use Rattle.ft_bank.specs.Passes.{view};
 ghost use Rattle.ft_bank.specs.PassSections.{stack_of};
 ghost use Rattle.ft_engine.specs.Callers.{hands_of, left_of, pass_of, thread_of};
 ghost use Rattle.ft_engine.specs.Flights.{IsFlightAnswered, AllowsCall};

@@ -8,12 +8,11 @@ ghost use Rattle.ft_trace.specs.Acts.{announces};
 ghost use Rattle.ft_bank.specs.Passes.{shape_of, view, IsPassOf};
 ghost use Rattle.ft_bank.specs.PassSections.{stack_of};
 ghost use Rattle.ft_section.specs.Ready.{MayTry};
-ghost use Rattle.ft_engine.specs.Answering.{HasLooked, IsTryOfCall, IsLookedIfAny};
+ghost use Rattle.ft_engine.specs.Answering.{IsTryOfCall, IsLookedIfAny};
 ghost use Rattle.ft_engine.specs.Contentions.{may_look};
 ghost use Rattle.ft_engine.specs.Flights.{objects_by};
 ghost use Rattle.ft_engine.specs.Asked.{AreOfKindIn, HasKeyIn, key_of_dict};
 
-use crate::settling::settle;
 use ft_bank::{Bank, Pass};
 use ft_dict::{
     look_eq, look_get, look_getd, look_has, look_items, look_len, try_clear, try_copyto, try_del,
@@ -122,23 +121,7 @@ fn try_any_dict(bank: &Bank, pass: &mut Pass, alloc: Global, d: Object, call: &D
 
 /// A call on a dict under its lock; none that makes a cursor.
 #[inline(always)]
-fn try_dict(bank: &Bank, pass: &mut Pass, alloc: Global, d: Object, call: &DictCall) -> Step
-    requires may { MayTry bank.now pass.old (objects_by d (other_dict call.now)) }
-    requires names { AreOfKindIn (shape_of bank.now) kind.Dict d (other_dict call.now) }
-    requires key { HasKeyIn (shape_of bank.now) (key_of_dict call.now) }
-    requires no_cursor { cursor_of_dict call.now ≡ None }
-    requires left { 0 < (view pass.old).left }
-    ensures { (hands : List (Option Cursor)) → IsTryOfCall bank.now hands (calls.Dict d call.now) pass.old pass.new result }
-{
-    match *call {
-        DictCall::Set { key, value } => try_set(bank, pass, d, key, value),
-        _ => try_any_dict(bank, pass, alloc, d, call),
-    }
-}
-
-/// One try of a call on a dict that makes no cursor.
-#[inline(always)]
-pub(crate) fn call_dict(
+pub(crate) fn try_dict(
     bank: &Bank,
     pass: &mut Pass,
     alloc: Global,
@@ -149,14 +132,11 @@ pub(crate) fn call_dict(
     requires names { AreOfKindIn (shape_of bank.now) kind.Dict d (other_dict call.now) }
     requires key { HasKeyIn (shape_of bank.now) (key_of_dict call.now) }
     requires no_cursor { cursor_of_dict call.now ≡ None }
-    requires online { 0 < announces (view pass.old).log }
     requires left { 0 < (view pass.old).left }
-    ensures tried { (hands : List (Option Cursor)) → IsTryOfCall bank.now hands (calls.Dict d call.now) pass.old pass.new result }
-    ensures looked { HasLooked (calls.Dict d call.now) (view pass.old) (view pass.new) result }
+    ensures { (hands : List (Option Cursor)) → IsTryOfCall bank.now hands (calls.Dict d call.now) pass.old pass.new result }
 {
-    let look = look_dict(bank, pass, alloc, d, call);
-    match settle(bank, pass, look) {
-        Some(step) => step,
-        None => try_dict(bank, pass, alloc, d, call),
+    match *call {
+        DictCall::Set { key, value } => try_set(bank, pass, d, key, value),
+        _ => try_any_dict(bank, pass, alloc, d, call),
     }
 }

@@ -18,7 +18,7 @@ pub struct Engine {
 }
 
 impl Engine {
-    ghost use Rattle.std.specs.Prelude.{◌∷◌, [], IfOk, OnOk, replicate, ℕ, None};
+    ghost use Rattle.std.specs.Prelude.{IfOk, ℕ, None};
     ghost use Rattle.ft_bank.specs.NewPasses.{AreOpening, IsOpening};
     ghost use Rattle.ft_bank.specs.Shapes.{IsShape, plan};
     ghost use Rattle.ft_engine.specs.Callers.{AreFreshCallers, IsFreshCaller, bank_of};

@@ -11,6 +11,7 @@ mod attempts;
 mod caller;
 mod calling;
 mod closing;
+mod container_call;
 mod cursor_call;
 mod dict_call;
 mod engine;

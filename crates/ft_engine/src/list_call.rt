@@ -1,6 +1,6 @@
 //! Tries of calls on lists: a look without the lock, where the call may be made so, and then the call under its
 //! locks.
-ghost use Rattle.std.specs.Prelude.{◌≡◌, ◌<◌, List, Option, None, length, is_some};
+ghost use Rattle.std.specs.Prelude.{◌≡◌, ◌<◌, List, Option, None, is_some};
 ghost use Rattle.ft_model.specs.declared.call.Call.TheVariants as calls;
 ghost use Rattle.ft_model.specs.declared.cursor.Cursor.{Cursor};
 ghost use Rattle.ft_model.specs.declared.script.Kind.TheVariants as kind;
@@ -9,12 +9,11 @@ ghost use Rattle.ft_trace.specs.Acts.{announces};
 ghost use Rattle.ft_bank.specs.Passes.{shape_of, view, IsPassOf};
 ghost use Rattle.ft_bank.specs.PassSections.{stack_of};
 ghost use Rattle.ft_section.specs.Ready.{MayTry};
-ghost use Rattle.ft_engine.specs.Answering.{HasLooked, IsTryOfCall, IsLookedIfAny};
+ghost use Rattle.ft_engine.specs.Answering.{IsTryOfCall, IsLookedIfAny};
 ghost use Rattle.ft_engine.specs.Contentions.{may_look};
 ghost use Rattle.ft_engine.specs.Flights.{objects_by};
 ghost use Rattle.ft_engine.specs.Asked.{AreOfKindIn};
 
-use crate::settling::settle;
 use ft_bank::{Bank, Pass};
 use ft_list::{
     look_eq, look_get, look_has, look_items, look_len, try_append, try_clear, try_count, try_del,
@@ -124,22 +123,7 @@ fn try_any_list(bank: &Bank, pass: &mut Pass, alloc: Global, l: Object, call: &L
 
 /// A call on a list under its locks; none that makes a cursor.
 #[inline(always)]
-fn try_list(bank: &Bank, pass: &mut Pass, alloc: Global, l: Object, call: &ListCall) -> Step
-    requires may { MayTry bank.now pass.old (objects_by l (other_list call.now)) }
-    requires names { AreOfKindIn (shape_of bank.now) kind.List l (other_list call.now) }
-    requires no_cursor { cursor_of_list call.now ≡ None }
-    requires left { 0 < (view pass.old).left }
-    ensures { (hands : List (Option Cursor)) → IsTryOfCall bank.now hands (calls.List l call.now) pass.old pass.new result }
-{
-    match *call {
-        ListCall::Append { value } => try_append(bank, pass, l, value),
-        _ => try_any_list(bank, pass, alloc, l, call),
-    }
-}
-
-/// One try of a call on a list that makes no cursor.
-#[inline(always)]
-pub(crate) fn call_list(
+pub(crate) fn try_list(
     bank: &Bank,
     pass: &mut Pass,
     alloc: Global,
@@ -149,14 +133,11 @@ pub(crate) fn call_list(
     requires may { MayTry bank.now pass.old (objects_by l (other_list call.now)) }
     requires names { AreOfKindIn (shape_of bank.now) kind.List l (other_list call.now) }
     requires no_cursor { cursor_of_list call.now ≡ None }
-    requires online { 0 < announces (view pass.old).log }
     requires left { 0 < (view pass.old).left }
-    ensures tried { (hands : List (Option Cursor)) → IsTryOfCall bank.now hands (calls.List l call.now) pass.old pass.new result }
-    ensures looked { HasLooked (calls.List l call.now) (view pass.old) (view pass.new) result }
+    ensures { (hands : List (Option Cursor)) → IsTryOfCall bank.now hands (calls.List l call.now) pass.old pass.new result }
 {
-    let look = look_list(bank, pass, alloc, l, call);
-    match settle(bank, pass, look) {
-        Some(step) => step,
-        None => try_list(bank, pass, alloc, l, call),
+    match *call {
+        ListCall::Append { value } => try_append(bank, pass, l, value),
+        _ => try_any_list(bank, pass, alloc, l, call),
     }
 }

@@ -41,7 +41,7 @@ fn is_looking(call: &Call) -> bool
 
 /// A look by the call's kind, where the call may be made so.
 #[inline(always)]
-fn look_call(bank: &Bank, pass: &mut Pass, alloc: Global, call: &Call) -> Option<Look>
+pub(crate) fn look_call(bank: &Bank, pass: &mut Pass, alloc: Global, call: &Call) -> Option<Look>
     requires pass { IsPassOf bank.now pass.old }
     requires names { (hands : List (Option Cursor)) × IsCallIn (shape_of bank.now) hands call.now }
     requires online { 0 < announces (view pass.old).log }

@@ -1,9 +1,7 @@
 //! Tries of the calls of sections, and of `quiesce`.
-ghost use Rattle.std.specs.Prelude.{◌≡◌, ◌<◌, ◌≤◌, length, Option, IfSome, [], List};
+ghost use Rattle.std.specs.Prelude.{◌≡◌, ◌<◌, length, Option, List};
 ghost use Rattle.ft_model.specs.declared.cursor.Cursor.{Cursor};
 ghost use Rattle.ft_model.specs.declared.call.Call.TheVariants as call;
-ghost use Rattle.ft_trace.specs.Acts.{flight};
-ghost use Rattle.ft_trace.specs.Addresses.{containers_in};
 ghost use Rattle.ft_bank.specs.Passes.{shape_of, view};
 ghost use Rattle.ft_bank.specs.PassSections.{stack_of};
 ghost use Rattle.ft_section.specs.Ready.{IsReady, MayTry};

@@ -8,12 +8,11 @@ ghost use Rattle.ft_trace.specs.Acts.{announces};
 ghost use Rattle.ft_bank.specs.Passes.{shape_of, view, IsPassOf};
 ghost use Rattle.ft_bank.specs.PassSections.{stack_of};
 ghost use Rattle.ft_section.specs.Ready.{MayTry};
-ghost use Rattle.ft_engine.specs.Answering.{HasLooked, IsTryOfCall, IsLookedIfAny};
+ghost use Rattle.ft_engine.specs.Answering.{IsTryOfCall, IsLookedIfAny};
 ghost use Rattle.ft_engine.specs.Contentions.{may_look};
 ghost use Rattle.ft_engine.specs.Flights.{objects_by};
 ghost use Rattle.ft_engine.specs.Asked.{AreOfKindIn, HasKeyIn, key_of_set};
 
-use crate::settling::settle;
 use ft_bank::{Bank, Pass};
 use ft_model::SetCall;
 use ft_section::{Look, Object, Step};
@@ -122,7 +121,13 @@ fn try_any_set(bank: &Bank, pass: &mut Pass, alloc: Global, s: Object, call: &Se
 
 /// A call on a set under its lock; none that makes a cursor.
 #[inline(always)]
-fn try_set_call(bank: &Bank, pass: &mut Pass, alloc: Global, s: Object, call: &SetCall) -> Step
+pub(crate) fn try_set_call(
+    bank: &Bank,
+    pass: &mut Pass,
+    alloc: Global,
+    s: Object,
+    call: &SetCall,
+) -> Step
     requires may { MayTry bank.now pass.old (objects_by s (other_set call.now)) }
     requires names { AreOfKindIn (shape_of bank.now) kind.Set s (other_set call.now) }
     requires key { HasKeyIn (shape_of bank.now) (key_of_set call.now) }
@@ -134,30 +139,5 @@ fn try_set_call(bank: &Bank, pass: &mut Pass, alloc: Global, s: Object, call: &S
         SetCall::Add { key } => try_add(bank, pass, s, key),
         SetCall::Discard { key } => try_discard(bank, pass, s, key),
         _ => try_any_set(bank, pass, alloc, s, call),
-    }
-}
-
-/// One try of a call on a set that makes no cursor.
-#[inline(always)]
-pub(crate) fn call_set(
-    bank: &Bank,
-    pass: &mut Pass,
-    alloc: Global,
-    s: Object,
-    call: &SetCall,
-) -> Step
-    requires may { MayTry bank.now pass.old (objects_by s (other_set call.now)) }
-    requires names { AreOfKindIn (shape_of bank.now) kind.Set s (other_set call.now) }
-    requires key { HasKeyIn (shape_of bank.now) (key_of_set call.now) }
-    requires no_cursor { cursor_of_set call.now ≡ None }
-    requires online { 0 < announces (view pass.old).log }
-    requires left { 0 < (view pass.old).left }
-    ensures tried { (hands : List (Option Cursor)) → IsTryOfCall bank.now hands (calls.Set s call.now) pass.old pass.new result }
-    ensures looked { HasLooked (calls.Set s call.now) (view pass.old) (view pass.new) result }
-{
-    let look = look_set(bank, pass, alloc, s, call);
-    match settle(bank, pass, look) {
-        Some(step) => step,
-        None => try_set_call(bank, pass, alloc, s, call),
     }
 }

@@ -3,7 +3,7 @@ ghost use Rattle.std.specs.Prelude.{◌≡◌, ◌<◌, List};
 ghost use Rattle.ft_model.specs.declared.entry.Entry.{Entry as NamedEntry};
 ghost use Rattle.ft_trace.specs.Acts.{announces};
 ghost use Rattle.ft_bank.specs.Passes.{view};
-ghost use Rattle.ft_engine.specs.Callers.{IsCallerOf, IsIdle, pass_of, taken_of, thread_of};
+ghost use Rattle.ft_engine.specs.Callers.{IsCallerOf, IsIdle, pass_of};
 ghost use Rattle.ft_engine.specs.Keeping.{WasAnswered};
 ghost use Rattle.ft_engine.specs.Resting.{KeepsFloor};
 ghost use Rattle.ft_engine.specs.Visits.{SameCallerWork};

@@ -2,7 +2,7 @@ use Rattle.std.proofs.Common.{◌∙◌, ap, refl, sym, subst}
 use Rattle.ft_model.specs.declared.call.Call.{Call}
 use Rattle.ft_model.specs.declared.call.Call.TheVariants as call
 use Rattle.ft_bank.specs.Passes.{shape_of, view}
-use Rattle.ft_engine.specs.Answering.{HasLooked, IsTryOfCall, MayTryCall}
+use Rattle.ft_engine.specs.Answering.{IsTryOfCall}
 use Rattle.ft_engine.specs.Contentions.{may_look}
 use Rattle.ft_engine.specs.Flights.{objects_of}
 use Rattle.ft_engine.specs.Asked.{IsCallIn}
@@ -43,27 +43,6 @@ returns-in-End-clause-stays c = leaves_same c.end.result c.args.cursors.now.item
 pub returns-in-Quiesce-clause-stays : goal.returns-in-Quiesce-clause-stays
 returns-in-Quiesce-clause-stays c = leaves_same c.quiesce.result c.args.cursors.now.items
 
-pub make_dict-requires-clause-may : goal.make_dict-requires-clause-may
-make_dict-requires-clause-may c = subst (MayTryCall c.args.bank.now c.args.pass.now c.args.cursors.now.items) c.in-Dict.is c.requires.may
-
-pub returns-in-Dict-clause-tried : goal.returns-in-Dict-clause-tried
-returns-in-Dict-clause-tried c =
-    subst (λ (x : Call). IsTryOfCall c.args.bank.now c.args.cursors.now.items x c.args.pass.now c.make_dict.new.pass c.make_dict.result) (sym c.in-Dict.is) c.make_dict.ensures.tried
-
-pub make_list-requires-clause-may : goal.make_list-requires-clause-may
-make_list-requires-clause-may c = subst (MayTryCall c.args.bank.now c.args.pass.now c.args.cursors.now.items) c.in-List.is c.requires.may
-
-pub returns-in-List-clause-tried : goal.returns-in-List-clause-tried
-returns-in-List-clause-tried c =
-    subst (λ (x : Call). IsTryOfCall c.args.bank.now c.args.cursors.now.items x c.args.pass.now c.make_list.new.pass c.make_list.result) (sym c.in-List.is) c.make_list.ensures.tried
-
-pub make_set-requires-clause-may : goal.make_set-requires-clause-may
-make_set-requires-clause-may c = subst (MayTryCall c.args.bank.now c.args.pass.now c.args.cursors.now.items) c.in-Set.is c.requires.may
-
-pub returns-in-Set-clause-tried : goal.returns-in-Set-clause-tried
-returns-in-Set-clause-tried c =
-    subst (λ (x : Call). IsTryOfCall c.args.bank.now c.args.cursors.now.items x c.args.pass.now c.make_set.new.pass c.make_set.result) (sym c.in-Set.is) c.make_set.ensures.tried
-
 pub next-requires-clause-may : goal.next-requires-clause-may
 next-requires-clause-may c objects is = c.requires.may.tries objects (ap (objects_of c.args.cursors.now.items) c.in-Next.is ∙ is)
 
@@ -89,14 +68,8 @@ returns-in-Quiesce-clause-looked c = locked_looked c.args.call.now c.quiesce.res
 pub returns-in-Next-clause-looked : goal.returns-in-Next-clause-looked
 returns-in-Next-clause-looked c = locked_looked c.args.call.now c.next.result (view c.args.pass.now) (view c.next.new.pass) (ap may_look c.in-Next.is)
 
-pub returns-in-Dict-clause-looked : goal.returns-in-Dict-clause-looked
-returns-in-Dict-clause-looked c =
-    subst (λ (x : Call). HasLooked x (view c.args.pass.now) (view c.make_dict.new.pass) c.make_dict.result) (sym c.in-Dict.is) c.make_dict.ensures.looked
+pub returns-in-Dict-clause-tried : goal.returns-in-Dict-clause-tried
+returns-in-Dict-clause-tried c = c.call_container.ensures.tried c.args.cursors.now.items
 
-pub returns-in-List-clause-looked : goal.returns-in-List-clause-looked
-returns-in-List-clause-looked c =
-    subst (λ (x : Call). HasLooked x (view c.args.pass.now) (view c.make_list.new.pass) c.make_list.result) (sym c.in-List.is) c.make_list.ensures.looked
-
-pub returns-in-Set-clause-looked : goal.returns-in-Set-clause-looked
-returns-in-Set-clause-looked c =
-    subst (λ (x : Call). HasLooked x (view c.args.pass.now) (view c.make_set.new.pass) c.make_set.result) (sym c.in-Set.is) c.make_set.ensures.looked
+pub returns-in-Dict-clause-hands : goal.returns-in-Dict-clause-hands
+returns-in-Dict-clause-hands c = c.call_container.ensures.hands c.args.cursors.now.items c.requires.hands

@@ -3,7 +3,7 @@
 use Rattle.std.proofs.Common.{◌≡◌, ◌∙◌, ℕ, zero, suc, ◌+◌, ◌≤◌, false, List, [], ◌∷◌, length, get_or, take, Some, refl, sym, ap, subst, inl, inr, arith, ◌⊎◌}
 use Rattle.std.specs.Prelude.{All, slice_get}
 use Rattle.std.specs.List.{between}
-use Rattle.std.proofs.lemmas.Bool.{ltb-false, true≢false}
+use Rattle.std.proofs.lemmas.Bool.{ltb-false}
 use Rattle.std.proofs.lemmas.List.Edits.{length-between}
 use Rattle.std.proofs.lemmas.List.Elements.{All-head, All-tail}
 use Rattle.std.proofs.lemmas.List.Sums.{count_by-le-length}
@@ -14,18 +14,15 @@ use Rattle.ft_model.specs.declared.content.Content.{Content}
 use Rattle.ft_model.specs.declared.content.Content.TheVariants as content
 use Rattle.ft_model.specs.declared.entry.Entry.{Entry}
 use Rattle.ft_model.specs.declared.entry.Storage.TheVariants as storage
-use Rattle.ft_model.specs.declared.reply.Raise.TheVariants as raise
-use Rattle.ft_model.specs.declared.reply.Reply.{Reply}
 use Rattle.ft_model.specs.declared.reply.Reply.TheVariants as reply
-use Rattle.ft_model.specs.declared.script.Kind.{Kind}
 use Rattle.ft_model.specs.declared.script.ScriptParts.{ScriptParts}
-use Rattle.ft_model.specs.Answers.{answer, is_memory, world_by}
+use Rattle.ft_model.specs.Answers.{answer, world_by}
 use Rattle.ft_model.specs.Calls.{containers_of}
 use Rattle.ft_model.specs.Classes.{most_elements, most_items, most_pairs}
 use Rattle.ft_model.specs.Contents.{empty_dict, empty_set}
-use Rattle.ft_model.specs.Histories.{entries_of, hands_at, is_marked, marks_between, sections_at, writes, world_at, IfEnds, IfInnermost, IsAnswered, IsCountedBy, IsLegal, IsReplied, Section}
+use Rattle.ft_model.specs.Histories.{hands_at, is_marked, marks_between, sections_at, writes, world_at, IfEnds, IfInnermost, IsAnswered, IsCountedBy, IsLegal, IsReplied, Section}
 use Rattle.ft_model.specs.Scripts.{IsScript}
-use Rattle.ft_model.specs.TableUses.{passes_cap, stored_after, stored_by, would_pass, IsEarnedReply}
+use Rattle.ft_model.specs.TableUses.{passes_cap, stored_after}
 use Rattle.ft_model.specs.Worlds.{dict_of, kinds_of, list_of, set_of}
 use Rattle.ft_model.proofs.LegalTables.{order-legal}
 use Rattle.ft_model.proofs.StoredLaws.{stored_world}

@@ -13,7 +13,7 @@ ghost use Rattle.ft_runner.specs.declared.command.Subcommand.TheVariants as subc
 ghost use Rattle.ft_runner.specs.declared.report.Fault.TheVariants as fault;
 ghost use Rattle.ft_runner.specs.declared.report.Report.{Report};
 ghost use Rattle.ft_runner.specs.FaultCauses.{IsCause, IsReportOn};
-ghost use Rattle.ft_runner.specs.Checking.{IsPastLimit, IsScriptPart, IsWithinLimits};
+ghost use Rattle.ft_runner.specs.Checking.{IsScriptPart, IsWithinLimits};
 ghost use Rattle.ft_runner.specs.Commands.{runs_script};
 ghost use Rattle.ft_runner.specs.Findings.{legal_line, stored, IsBadAt, IsInput, IsVerdictOn};
 ghost use Rattle.ft_runner.specs.Transfers.{input_limit, script_limit};

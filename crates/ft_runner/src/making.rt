@@ -1,9 +1,8 @@
 //! Makes scripts, and sums up what comes of running one. Nothing is read, and the whole text is there
 //! before any of it is put.
-ghost use Rattle.std.specs.Prelude.{◌≡◌, ◌++◌, List, ℕ, IfOk, OnOk, count_by, Some};
+ghost use Rattle.std.specs.Prelude.{◌≡◌, ◌++◌, IfOk, OnOk, count_by, Some};
 ghost use Rattle.std.specs.List.{flat_map};
 ghost use Rattle.ft_io.specs.Streams.{Stream};
-ghost use Rattle.ft_script.specs.Generator.{made_text};
 ghost use Rattle.ft_runner.specs.declared.command.Subcommand.TheVariants as subcommand;
 ghost use Rattle.ft_runner.specs.Internal.Summaries.{is_counted};
 ghost use Rattle.ft_runner.specs.Making.{length_in, row_text, summary_text, IsSummary};

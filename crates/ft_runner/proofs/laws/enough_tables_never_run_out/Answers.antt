@@ -1,5 +1,4 @@
-use Rattle.std.proofs.Common.{◌≡◌, ◌∙◌, List, Result, Ok, Some, refl, sym, ap, subst}
-use Rattle.std.specs.Prelude.{All, Option}
+use Rattle.std.proofs.Common.{◌≡◌, ◌∙◌, Result, Ok, sym, subst}
 use Rattle.ft_history.proofs.EnoughTables.{never_out}
 use Rattle.ft_model.specs.declared.script.ScriptParts.{ScriptParts}
 use Rattle.ft_script.specs.declared.fault.ScriptFault.{ScriptFault}

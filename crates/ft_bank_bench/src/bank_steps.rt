@@ -1,5 +1,5 @@
 //! Rounds of steps on a bank of one list, by its one pass.
-ghost use Rattle.std.specs.Prelude.{◌≡◌, ◌≤◌, ◌<◌, ◌+◌, [], ◌∷◌, IfOk, IfSome};
+ghost use Rattle.std.specs.Prelude.{◌≡◌, ◌≤◌, ◌<◌, [], ◌∷◌, IfOk, IfSome};
 ghost use Rattle.ft_model.specs.declared.script.Kind.TheVariants as kind;
 ghost use Rattle.ft_bank.specs.NewPasses.{AreOpening};
 ghost use Rattle.ft_bank.specs.Passes.{shape_of, view};

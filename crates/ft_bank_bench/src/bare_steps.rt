@@ -144,51 +144,38 @@ pub fn set_all(words: &Seen, seat: &mut Seat<(), ()>, start: usize, rounds: u32)
     }
 }
 
-/// Loads of that many words.
-fn load_some(words: &Seen, seat: &mut Seat<(), ()>, count: usize)
-    requires seat { seat.old.table_id ≡ words.now.table_id }
-    requires words { words.now.table_id.words ≡ 256 }
-    requires count { count ≤ 256 }
-    ensures seat { seat.new.table_id ≡ words.now.table_id }
-{
-    for word in 0..count {
-        words.load::<Anything>(seat, word);
-    }
+/// A kind of step on a word.
+#[derive(Clone, Copy)]
+enum Act {
+    Load,
+    /// An exchange that compares with 0.
+    Exchange,
+    Add,
+    Store,
 }
 
-/// Exchanges of that many words, each compared with 0.
-fn exchange_some(words: &Seen, seat: &mut Seat<(), ()>, count: usize)
+/// A step of this kind on each of that many words.
+fn act_on(words: &Seen, seat: &mut Seat<(), ()>, act: Act, count: usize)
     requires seat { seat.old.table_id ≡ words.now.table_id }
     requires words { words.now.table_id.words ≡ 256 }
     requires count { count ≤ 256 }
     ensures seat { seat.new.table_id ≡ words.now.table_id }
 {
     for word in 0..count {
-        words.compare_exchange::<Anything>(seat, word, 0, 0);
-    }
-}
-
-/// Additions to that many words.
-fn add_some(words: &Seen, seat: &mut Seat<(), ()>, count: usize)
-    requires seat { seat.old.table_id ≡ words.now.table_id }
-    requires words { words.now.table_id.words ≡ 256 }
-    requires count { count ≤ 256 }
-    ensures seat { seat.new.table_id ≡ words.now.table_id }
-{
-    for word in 0..count {
-        words.fetch_add::<Anything>(seat, word, 1);
-    }
-}
-
-/// Stores of that many words.
-fn store_some(words: &Seen, seat: &mut Seat<(), ()>, count: usize)
-    requires seat { seat.old.table_id ≡ words.now.table_id }
-    requires words { words.now.table_id.words ≡ 256 }
-    requires count { count ≤ 256 }
-    ensures seat { seat.new.table_id ≡ words.now.table_id }
-{
-    for word in 0..count {
-        words.store::<Anything>(seat, word, 0);
+        match act {
+            Act::Load => {
+                words.load::<Anything>(seat, word);
+            }
+            Act::Exchange => {
+                words.compare_exchange::<Anything>(seat, word, 0, 0);
+            }
+            Act::Add => {
+                words.fetch_add::<Anything>(seat, word, 1);
+            }
+            Act::Store => {
+                words.store::<Anything>(seat, word, 0);
+            }
+        }
     }
 }
 
@@ -200,10 +187,10 @@ fn retire_once(words: &Seen, seat: &mut Seat<(), ()>)
     requires words { words.now.table_id.words ≡ 256 }
     ensures seat { seat.new.table_id ≡ words.now.table_id }
 {
-    load_some(words, seat, 17);
-    exchange_some(words, seat, 3);
-    add_some(words, seat, 10);
-    store_some(words, seat, 43);
+    act_on(words, seat, Act::Load, 17);
+    act_on(words, seat, Act::Exchange, 3);
+    act_on(words, seat, Act::Add, 10);
+    act_on(words, seat, Act::Store, 43);
 }
 
 /// The same, over and over.

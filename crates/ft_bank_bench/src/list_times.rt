@@ -6,12 +6,12 @@ ghost use Rattle.ft_list.specs.ListWrites.{MayCallList};
 use crate::bare_steps;
 use crate::bare_steps::{Seen, seat_of, spread};
 use crate::list_steps::{Lists, make_lists, retire_all, set_all};
-use crate::times::{Time, of_one};
+use crate::times::{Time, time_of_one};
 use atomic_table::Seat;
 use ft_bank::{Bank, Pass};
 use std::alloc::Global;
 use std::thread::Threads;
-use std::time::{Clock, Instant};
+use std::time::Clock;
 use std::{io, thread};
 
 /// The times of calls on lists.
@@ -23,59 +23,6 @@ pub struct ListTimes {
     pub retirements: Time,
     /// An item that is set while another thread sets one of another list.
     pub in_two: Time,
-}
-
-/// Items that are set.
-fn time_sets<R: Clock>(
-    rt: &R,
-    bank: &Bank,
-    pass: &mut Pass,
-    words: &Seen,
-    seat: &mut Seat<(), ()>,
-    rounds: u32,
-) -> io::Result<Time>
-    requires may { MayCallList bank.now pass.old 0 }
-    requires seat { seat.old.table_id ≡ words.now.table_id }
-    requires words { words.now.table_id.words ≡ 256 }
-    ensures may { MayCallList bank.now pass.new 0 }
-    ensures seat { seat.new.table_id ≡ words.now.table_id }
-{
-    let start = Instant::now(rt)?;
-    let done = set_all(bank, pass, 0, rounds);
-    let on_bank = start.elapsed(rt)?;
-    let start = Instant::now(rt)?;
-    bare_steps::set_all(words, seat, 64, rounds);
-    let bare = start.elapsed(rt)?;
-    Ok(Time {
-        bank: of_one(on_bank, done),
-        bare: of_one(bare, rounds),
-    })
-}
-
-/// Tables that are taken for a list and retired.
-fn time_retirements<R: Clock>(
-    rt: &R,
-    bank: &Bank,
-    pass: &mut Pass,
-    words: &Seen,
-    seat: &mut Seat<(), ()>,
-    rounds: u32,
-) -> io::Result<Time>
-    requires may { MayCallList bank.now pass.old 2 }
-    requires seat { seat.old.table_id ≡ words.now.table_id }
-    requires words { words.now.table_id.words ≡ 256 }
-    ensures seat { seat.new.table_id ≡ words.now.table_id }
-{
-    let start = Instant::now(rt)?;
-    let done = retire_all(bank, pass, 2, rounds);
-    let on_bank = start.elapsed(rt)?;
-    let start = Instant::now(rt)?;
-    bare_steps::retire_all(words, seat, rounds);
-    let bare = start.elapsed(rt)?;
-    Ok(Time {
-        bank: of_one(on_bank, done),
-        bare: of_one(bare, rounds),
-    })
 }
 
 /// Two threads set items, each of a list of its own. Answers how often that was done by the one that did it less.
@@ -141,21 +88,26 @@ pub(crate) fn measure_lists<R: Clock + Threads>(
     } = made;
     let (table, mut seat) = spread(alloc)?;
     let words = &table.shared;
-    let sets = time_sets(rt, &bank, &mut first, words, &mut seat, rounds)?;
-    let retirements = time_retirements(rt, &bank, &mut third, words, &mut seat, rounds)?;
+    let sets = Time {
+        bank: time_of_one!(rt, set_all(&bank, &mut first, 0, rounds)),
+        bare: time_of_one!(
+            rt,
+            bare_steps::set_all(words, &mut seat, 64, rounds),
+            rounds
+        ),
+    };
+    let retirements = Time {
+        bank: time_of_one!(rt, retire_all(&bank, &mut third, 2, rounds)),
+        bare: time_of_one!(rt, bare_steps::retire_all(words, &mut seat, rounds), rounds),
+    };
     let other = seat_of(words);
-    let start = Instant::now(rt)?;
-    let done = set_in_two(rt, &bank, first, second, rounds);
-    let on_bank = start.elapsed(rt)?;
-    let start = Instant::now(rt)?;
-    set_bare_in_two(rt, words, seat, other, rounds);
-    let bare = start.elapsed(rt)?;
+    let in_two = Time {
+        bank: time_of_one!(rt, set_in_two(rt, &bank, first, second, rounds)),
+        bare: time_of_one!(rt, set_bare_in_two(rt, words, seat, other, rounds), rounds),
+    };
     Ok(Some(ListTimes {
         sets,
         retirements,
-        in_two: Time {
-            bank: of_one(on_bank, done),
-            bare: of_one(bare, rounds),
-        },
+        in_two,
     }))
 }

@@ -1,17 +1,11 @@
 //! The measuring: each kind of step on a bank of one pass, and then the bare steps, as often.
-ghost use Rattle.std.specs.Prelude.{◌≡◌, OnOk};
-ghost use Rattle.ft_bank.specs.Passes.{shape_of, view};
-ghost use Rattle.ft_bank_tests.specs.Working.{IsListIn, IsWorker};
-ghost use Rattle.ft_bank_bench.specs.TimedSteps.{HasCalls, KeepsCalls};
 
 use crate::bank_steps::{Ready, load_all, lock_all, make_ready, take_all, write_all};
 use crate::bare_steps;
-use crate::bare_steps::{Seen, zeros};
-use atomic_table::Seat;
-use ft_bank::{Bank, Pass};
+use crate::bare_steps::zeros;
 use std::alloc::Global;
 use std::io;
-use std::time::{Clock, Duration, Instant};
+use std::time::{Clock, Duration};
 
 /// How long one round took, of the bank's steps and of the bare ones, in hundredths of a nanosecond.
 #[derive(Clone, Copy, Debug)]
@@ -20,19 +14,6 @@ pub struct Time {
     pub bank: u64,
     /// On a bare table.
     pub bare: u64,
-}
-
-/// A kind of steps.
-#[derive(Clone, Copy, Debug)]
-pub enum Steps {
-    /// Loads of one word.
-    Loads,
-    /// Locks that are taken and let go, with a load under each.
-    Locks,
-    /// Whole writes, each under a lock of its own.
-    Writes,
-    /// Tables that are taken and given back.
-    Takings,
 }
 
 /// The times of all kinds of steps.
@@ -54,66 +35,20 @@ pub(crate) fn of_one(all: Duration, rounds: u32) -> u64 {
     nanos.saturating_mul(100) / u64::from(rounds.max(1))
 }
 
-/// Rounds of such steps on the bank.
-fn make_on_bank(bank: &Bank, pass: &mut Pass, steps: Steps, rounds: u32)
-    requires worker { IsWorker bank.now pass.old }
-    requires list { IsListIn (shape_of bank.now) 0 }
-    requires left { HasCalls steps rounds (view pass.old) }
-    ensures worker { IsWorker bank.now pass.new }
-    ensures left { KeepsCalls steps (view pass.old) (view pass.new) }
-{
-    match steps {
-        Steps::Loads => load_all(bank, pass, rounds),
-        Steps::Locks => lock_all(bank, pass, rounds),
-        Steps::Writes => write_all(bank, pass, rounds),
-        Steps::Takings => take_all(bank, pass, rounds),
-    }
+/// The time of one round of this work, in hundredths of a nanosecond. The work answers how many rounds it made, or that
+/// number stands after it.
+macro_rules! time_of_one {
+    ($rt:expr, $work:expr) => {{
+        let start = std::time::Instant::now($rt)?;
+        let rounds = $work;
+        $crate::times::of_one(start.elapsed($rt)?, rounds)
+    }};
+    ($rt:expr, $work:expr, $rounds:expr) => {
+        time_of_one!($rt, { $work; $rounds })
+    };
 }
 
-/// As many rounds of the bare steps beside them.
-fn make_bare(words: &Seen, seat: &mut Seat<(), ()>, steps: Steps, rounds: u32)
-    requires seat { seat.old.table_id ≡ words.now.table_id }
-    requires words { words.now.table_id.words ≡ 16 }
-    ensures seat { seat.new.table_id ≡ words.now.table_id }
-{
-    match steps {
-        Steps::Loads => bare_steps::load_all(words, seat, rounds),
-        Steps::Locks => bare_steps::lock_all(words, seat, rounds),
-        Steps::Writes => bare_steps::write_all(words, seat, rounds),
-        Steps::Takings => bare_steps::take_all(words, seat, rounds),
-    }
-}
-
-/// The times of one kind of steps.
-fn time_steps<R: Clock>(
-    rt: &R,
-    bank: &Bank,
-    pass: &mut Pass,
-    words: &Seen,
-    seat: &mut Seat<(), ()>,
-    steps: Steps,
-    rounds: u32,
-) -> io::Result<Time>
-    requires worker { IsWorker bank.now pass.old }
-    requires list { IsListIn (shape_of bank.now) 0 }
-    requires left { HasCalls steps rounds (view pass.old) }
-    requires seat { seat.old.table_id ≡ words.now.table_id }
-    requires words { words.now.table_id.words ≡ 16 }
-    ensures worker { IsWorker bank.now pass.new }
-    ensures left { OnOk result (KeepsCalls steps (view pass.old) (view pass.new)) }
-    ensures seat { seat.new.table_id ≡ words.now.table_id }
-{
-    let start = Instant::now(rt)?;
-    make_on_bank(bank, pass, steps, rounds);
-    let on_bank = start.elapsed(rt)?;
-    let start = Instant::now(rt)?;
-    make_bare(words, seat, steps, rounds);
-    let bare = start.elapsed(rt)?;
-    Ok(Time {
-        bank: of_one(on_bank, rounds),
-        bare: of_one(bare, rounds),
-    })
-}
+pub(crate) use time_of_one;
 
 /// The times of all kinds of steps; nothing where memory ran out.
 pub(crate) fn measure<R: Clock>(rt: &R, alloc: Global, rounds: u32) -> io::Result<Option<Times>> {
@@ -122,26 +57,22 @@ pub(crate) fn measure<R: Clock>(rt: &R, alloc: Global, rounds: u32) -> io::Resul
     };
     let (table, mut seat) = zeros(alloc)?;
     let words = &table.shared;
-    let loads = time_steps(rt, &bank, &mut pass, words, &mut seat, Steps::Loads, rounds)?;
-    let locks = time_steps(rt, &bank, &mut pass, words, &mut seat, Steps::Locks, rounds)?;
-    let writes = time_steps(
-        rt,
-        &bank,
-        &mut pass,
-        words,
-        &mut seat,
-        Steps::Writes,
-        rounds,
-    )?;
-    let takings = time_steps(
-        rt,
-        &bank,
-        &mut pass,
-        words,
-        &mut seat,
-        Steps::Takings,
-        rounds,
-    )?;
+    let loads = Time {
+        bank: time_of_one!(rt, load_all(&bank, &mut pass, rounds), rounds),
+        bare: time_of_one!(rt, bare_steps::load_all(words, &mut seat, rounds), rounds),
+    };
+    let locks = Time {
+        bank: time_of_one!(rt, lock_all(&bank, &mut pass, rounds), rounds),
+        bare: time_of_one!(rt, bare_steps::lock_all(words, &mut seat, rounds), rounds),
+    };
+    let writes = Time {
+        bank: time_of_one!(rt, write_all(&bank, &mut pass, rounds), rounds),
+        bare: time_of_one!(rt, bare_steps::write_all(words, &mut seat, rounds), rounds),
+    };
+    let takings = Time {
+        bank: time_of_one!(rt, take_all(&bank, &mut pass, rounds), rounds),
+        bare: time_of_one!(rt, bare_steps::take_all(words, &mut seat, rounds), rounds),
+    };
     Ok(Some(Times {
         loads,
         locks,

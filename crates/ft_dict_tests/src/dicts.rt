@@ -1,17 +1,9 @@
 //! Calls on two dicts in the order of a table. What they reply is what Python's dicts give, call by call; a call that
 //! wrote has the number of its write, and another one the number of writes before it.
-ghost use Rattle.std.specs.Prelude.{◌≡◌, ◌<◌, [], ◌∷◌};
-ghost use Rattle.ft_model.specs.declared.reply.Reply.{Reply};
-ghost use Rattle.ft_model.specs.declared.script.Kind.TheVariants as kind;
-ghost use Rattle.ft_bank.specs.Passes.{shape_of, view};
-ghost use Rattle.ft_section.specs.declared.answers.Objects.{Objects};
-ghost use Rattle.ft_section.specs.declared.answers.Stamp.{Stamp};
-ghost use Rattle.ft_section.specs.declared.answers.Step.TheVariants as steps;
-ghost use Rattle.ft_section.specs.Ready.{MayTry};
 
 mod cases;
 
-use crate::{Said, Wanted, is_made, open_four};
+use crate::{Attempt, Said, Wanted, in_new_bank};
 use cases::{CASES, CROWDED, GROWN, LARGEST, LARGEST_ALONE, LARGEST_MOVED};
 use ft_bank::{Bank, Pass};
 use ft_dict::{
@@ -54,74 +46,37 @@ enum Call {
     CopySelf,
 }
 
-/// Calls that are made one after the other on a new bank with that many tables of class 3, and of each greater class.
-struct Case {
-    name: &'static str,
-    least: u32,
-    greater: u32,
-    rows: &'static [(Call, Wanted)],
-}
-
-/// Tries a call.
-fn attempt(bank: &Bank, pass: &mut Pass, alloc: Global, call: Call) -> Step
-    requires kinds { (shape_of bank.now).kinds ≡ kind.Dict ∷ kind.Dict ∷ kind.Set ∷ kind.Set ∷ [] }
-    requires may { (objects : Objects) → MayTry bank.now pass.old objects }
-    requires left { 0 < (view pass.old).left }
-    ensures may { (said : Reply) (stamp : Stamp) → result ≡ steps.Done said stamp →
-        (objects : Objects) → MayTry bank.now pass.new objects }
-{
-    match call {
-        Call::Set(key, value) => try_set(bank, pass, 0, Key::Int(key), Value::Int(value)),
-        Call::Default(key, value) => {
-            try_setdefault(bank, pass, 0, Key::Int(key), Value::Int(value))
-        }
-        Call::Get(key) => try_get(bank, pass, 0, Key::Int(key)),
-        Call::GetOr(key, value) => try_getd(bank, pass, 0, Key::Int(key), Value::Int(value)),
-        Call::Has(key) => try_has(bank, pass, 0, Key::Int(key)),
-        Call::Del(key) => try_del(bank, pass, 0, Key::Int(key)),
-        Call::Pop(key) => try_pop(bank, pass, 0, Key::Int(key)),
-        Call::PopOr(key, value) => try_popd(bank, pass, 0, Key::Int(key), Value::Int(value)),
-        Call::PopItem => try_popitem(bank, pass, 0),
-        Call::Len => try_len(bank, pass, 0),
-        Call::Items => try_items(bank, pass, alloc, 0),
-        Call::Clear => try_clear(bank, pass, 0),
-        Call::Eq => try_eq(bank, pass, 0, 1),
-        Call::SetOther(key, value) => try_set(bank, pass, 1, Key::Int(key), Value::Int(value)),
-        Call::DefaultOther(key, value) => {
-            try_setdefault(bank, pass, 1, Key::Int(key), Value::Int(value))
-        }
-        Call::GetOther(key) => try_get(bank, pass, 1, Key::Int(key)),
-        Call::ItemsOther => try_items(bank, pass, alloc, 1),
-        Call::Update => try_update(bank, pass, 0, 1),
-        Call::UpdateSelf => try_update(bank, pass, 0, 0),
-        Call::Copy => try_copyto(bank, pass, 0, 1),
-        Call::CopyBack => try_copyto(bank, pass, 1, 0),
-        Call::CopySelf => try_copyto(bank, pass, 0, 0),
-    }
-}
-
-/// Makes the calls in order, and answers the place of the first that doesn't do as its row says; `None` where each
-/// does.
-fn first_wrong(
-    bank: &Bank,
-    pass: &mut Pass,
-    alloc: Global,
-    rows: &[(Call, Wanted)],
-) -> Option<usize>
-    requires kinds { (shape_of bank.now).kinds ≡ kind.Dict ∷ kind.Dict ∷ kind.Set ∷ kind.Set ∷ [] }
-    requires may { (objects : Objects) → MayTry bank.now pass.old objects }
-{
-    for place in 0..rows.len() {
-        let (call, wanted) = &rows[place];
-        if pass.left() == 0 {
-            return Some(place);
-        }
-        let step = attempt(bank, pass, alloc, *call);
-        if !is_made(&step, wanted) {
-            return Some(place);
+impl Attempt for Call {
+    fn attempt(self, bank: &Bank, pass: &mut Pass, alloc: Global) -> Step {
+        match self {
+            Call::Set(key, value) => try_set(bank, pass, 0, Key::Int(key), Value::Int(value)),
+            Call::Default(key, value) => {
+                try_setdefault(bank, pass, 0, Key::Int(key), Value::Int(value))
+            }
+            Call::Get(key) => try_get(bank, pass, 0, Key::Int(key)),
+            Call::GetOr(key, value) => try_getd(bank, pass, 0, Key::Int(key), Value::Int(value)),
+            Call::Has(key) => try_has(bank, pass, 0, Key::Int(key)),
+            Call::Del(key) => try_del(bank, pass, 0, Key::Int(key)),
+            Call::Pop(key) => try_pop(bank, pass, 0, Key::Int(key)),
+            Call::PopOr(key, value) => try_popd(bank, pass, 0, Key::Int(key), Value::Int(value)),
+            Call::PopItem => try_popitem(bank, pass, 0),
+            Call::Len => try_len(bank, pass, 0),
+            Call::Items => try_items(bank, pass, alloc, 0),
+            Call::Clear => try_clear(bank, pass, 0),
+            Call::Eq => try_eq(bank, pass, 0, 1),
+            Call::SetOther(key, value) => try_set(bank, pass, 1, Key::Int(key), Value::Int(value)),
+            Call::DefaultOther(key, value) => {
+                try_setdefault(bank, pass, 1, Key::Int(key), Value::Int(value))
+            }
+            Call::GetOther(key) => try_get(bank, pass, 1, Key::Int(key)),
+            Call::ItemsOther => try_items(bank, pass, alloc, 1),
+            Call::Update => try_update(bank, pass, 0, 1),
+            Call::UpdateSelf => try_update(bank, pass, 0, 0),
+            Call::Copy => try_copyto(bank, pass, 0, 1),
+            Call::CopyBack => try_copyto(bank, pass, 1, 0),
+            Call::CopySelf => try_copyto(bank, pass, 0, 0),
         }
     }
-    None
 }
 
 /// Puts rows that set that many keys from 0 on, each to itself, in dict 0 or in the other one. The first is the write of
@@ -143,17 +98,6 @@ fn push_sets(
         rows.push((call, Wanted::Writes(Said::Done, stamp)))?;
     }
     Ok(())
-}
-
-/// The place of the first row that isn't so in a new bank with that many tables of class 3, and of each greater class.
-fn in_new_bank(
-    alloc: Global,
-    least: u32,
-    greater: u32,
-    rows: &[(Call, Wanted)],
-) -> Result<Option<usize>, Fail> {
-    let (bank, mut pass) = open_four(alloc, least, greater)?;
-    Ok(first_wrong(&bank, &mut pass, alloc, rows))
 }
 
 #[test]

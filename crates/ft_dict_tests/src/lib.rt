@@ -2,6 +2,7 @@
 //! `ft_dict` the tests would have it proved a second time.
 #![tactic(auto)]
 
+mod calls;
 #[cfg(test)]
 mod dicts;
 #[cfg(test)]
@@ -11,5 +12,6 @@ mod rows;
 #[cfg(test)]
 mod takes;
 
+pub use crate::calls::{Attempt, Case, in_new_bank};
 pub use crate::opened::{go_online, open_three};
-pub use crate::rows::{Said, Wanted, is_made, open_four};
+pub use crate::rows::{Said, Wanted};

@@ -75,7 +75,7 @@ fn four(alloc: Global, least: u32, greater: u32) -> Result<Shape, AllocError>
 /// # Errors
 ///
 /// A `Fail` where no bank may have that many tables, or memory runs out.
-pub fn open_four(alloc: Global, least: u32, greater: u32) -> Result<(Bank, Pass), Fail>
+pub(crate) fn open_four(alloc: Global, least: u32, greater: u32) -> Result<(Bank, Pass), Fail>
     ensures kinds { IfOk result (λ made. (shape_of made.0).kinds ≡ kind.Dict ∷ kind.Dict ∷ kind.Set ∷ kind.Set ∷ []) }
     ensures ready { IfOk result (λ made. IsReady made.0 made.1) }
 {
@@ -150,7 +150,7 @@ fn is_done(found: &Reply, stamp: &Stamp, wanted: &Wanted) -> bool {
 }
 
 /// Whether a call was made as it was to be.
-pub fn is_made(step: &Step, wanted: &Wanted) -> bool
+pub(crate) fn is_made(step: &Step, wanted: &Wanted) -> bool
     ensures { result ≡ true → (said : Reply) × (stamp : Stamp) × (step.now ≡ steps.Done said stamp) }
 {
     match step {

@@ -6,33 +6,26 @@ use ft_model::{Key, Raise, Reply, Value};
 use ft_section::{Step, new_passes_are_ready};
 use std::test::Fail;
 
+/// What a call that was done replied, the number of its stamp, and whether it wrote.
+fn done(step: Step) -> Result<(Reply, u64, bool), Fail> {
+    let Step::Done(reply, stamp) = step else {
+        return Err(Fail::from("nobody has the lock"));
+    };
+    Ok((reply, stamp.number, stamp.wrote))
+}
+
 #[test]
 fn nothing_is_taken_out_of_an_empty_dict(rt: HostRuntime) -> Result<(), Fail> {
-    let alloc = rt.alloc();
-    let (bank, mut first, mut second, mut third) = open_three(alloc)?;
+    let (bank, mut first, mut second, mut third) = open_three(rt.alloc())?;
     new_passes_are_ready(&bank, &first);
     new_passes_are_ready(&bank, &second);
     new_passes_are_ready(&bank, &third);
-    let Step::Done(reply, stamp) = try_del(&bank, &mut first, 0, Key::Int(7)) else {
-        return Err(Fail::from("nobody has the lock"));
-    };
-    assert_eq!(rt; reply, Reply::Raised(Raise::NoKey));
-    assert_eq!(rt; stamp.number, 0);
-    assert_eq!(rt; stamp.wrote, false);
-    let Step::Done(reply, stamp) = try_popd(&bank, &mut second, 0, Key::Int(7), Value::Int(5))
-    else {
-        return Err(Fail::from("nobody has the lock"));
-    };
-    assert_eq!(rt; reply, Reply::Value(Value::Int(5)));
-    assert_eq!(rt; stamp.number, 0);
-    assert_eq!(rt; stamp.wrote, true);
-    let Step::Done(reply, stamp) = try_popd(&bank, &mut third, 0, Key::Int(-1), Value::Nothing)
-    else {
-        return Err(Fail::from("nobody has the lock"));
-    };
-    assert_eq!(rt; reply, Reply::Value(Value::Nothing));
-    assert_eq!(rt; stamp.number, 1);
-    assert_eq!(rt; stamp.wrote, true);
+    let deleted = done(try_del(&bank, &mut first, 0, Key::Int(7)))?;
+    assert_eq!(rt; deleted, (Reply::Raised(Raise::NoKey), 0, false));
+    let popped = done(try_popd(&bank, &mut second, 0, Key::Int(7), Value::Int(5)))?;
+    assert_eq!(rt; popped, (Reply::Value(Value::Int(5)), 0, true));
+    let popped = done(try_popd(&bank, &mut third, 0, Key::Int(-1), Value::Nothing))?;
+    assert_eq!(rt; popped, (Reply::Value(Value::Nothing), 1, true));
     assert_eq!(rt; third.left(), 9);
     Ok(())
 }

@@ -53,7 +53,9 @@ fn first_within<'a>(alloc: Global, rows: &[(&'a str, Which)]) -> Option<&'a str>
         .map(|row| row.0)
 }
 
-const WORDS: [(&str, u32, u8); 24] = [
+/// Texts with a fault, and the line and the kind of the first one.
+const FAULTS: [(&str, u32, u8); 211] = [
+    // Unknown words.
     ("get d 1", 1, 2),
     ("next c", 1, 2),
     ("quiesce", 1, 2),
@@ -78,14 +80,7 @@ const WORDS: [(&str, u32, u8); 24] = [
     ("end", 1, 2),
     ("order\"A\"", 1, 2),
     ("None", 1, 2),
-];
-
-#[test]
-fn unknown_words(rt: HostRuntime) {
-    assert_eq!(rt; first_without_its_fault(rt.alloc(), &WORDS), None);
-}
-
-const COUNTS: [(&str, u32, u8); 19] = [
+    // Counts of words.
     ("dict", 1, 3),
     ("dict d e", 1, 3),
     ("list", 1, 3),
@@ -105,14 +100,7 @@ const COUNTS: [(&str, u32, u8); 19] = [
     ("thread A\nquiesce A", 2, 3),
     ("order ", 1, 3),
     ("thread A\norder A\norder", 3, 3),
-];
-
-#[test]
-fn counts_of_words(rt: HostRuntime) {
-    assert_eq!(rt; first_without_its_fault(rt.alloc(), &COUNTS), None);
-}
-
-const COUNTS_IN_CALLS: [(&str, u32, u8); 17] = [
+    // Counts of words of calls.
     ("dict d\nthread A\nget d", 3, 3),
     ("dict d\nthread A\nget d 1 2", 3, 3),
     ("dict d\nthread A\ngetd d 1", 3, 3),
@@ -130,14 +118,7 @@ const COUNTS_IN_CALLS: [(&str, u32, u8); 17] = [
     ("set s\nthread A\npop s 1", 3, 3),
     ("set s\nthread A\nadd s", 3, 3),
     ("set s\nthread A\nor s s s", 3, 3),
-];
-
-#[test]
-fn counts_of_words_of_calls(rt: HostRuntime) {
-    assert_eq!(rt; first_without_its_fault(rt.alloc(), &COUNTS_IN_CALLS), None);
-}
-
-const NUMBERS: [(&str, u32, u8); 30] = [
+    // Bad numbers.
     ("tables x 1", 1, 4),
     ("tables 3 x", 1, 4),
     ("tables \"a\" 1", 1, 4),
@@ -168,14 +149,7 @@ const NUMBERS: [(&str, u32, u8); 30] = [
     ("dict d\nthread A\nget d 00", 3, 4),
     ("dict d\nthread A\nget d +7", 3, 4),
     ("dict d\nthread A\nget d -0", 3, 4),
-];
-
-#[test]
-fn bad_numbers(rt: HostRuntime) {
-    assert_eq!(rt; first_without_its_fault(rt.alloc(), &NUMBERS), None);
-}
-
-const STRINGS: [(&str, u32, u8); 15] = [
+    // Bad strings.
     ("\"", 1, 5),
     ("dict \"", 1, 5),
     ("dict d \"a\"b", 1, 5),
@@ -191,14 +165,7 @@ const STRINGS: [(&str, u32, u8); 15] = [
     ("dict d\nthread A\nget d \"a\u{7f}b\"", 3, 5),
     ("dict d\nthread A\nget d \"a\u{1}b\"", 3, 5),
     ("dict d\nthread A\nset d 1 \"a\n\"", 3, 5),
-];
-
-#[test]
-fn bad_strings(rt: HostRuntime) {
-    assert_eq!(rt; first_without_its_fault(rt.alloc(), &STRINGS), None);
-}
-
-const NAMES_OF_OTHER_FORMS: [(&str, u32, u8); 27] = [
+    // Names of other forms.
     ("dict D", 1, 6),
     ("dict 1d", 1, 6),
     ("dict _d", 1, 6),
@@ -226,17 +193,7 @@ const NAMES_OF_OTHER_FORMS: [(&str, u32, u8); 27] = [
     ("dict d\r\n", 1, 6),
     ("dict \u{e9}", 1, 6),
     ("thread A\u{7f}", 1, 6),
-];
-
-#[test]
-fn names(rt: HostRuntime) {
-    assert_eq!(rt;
-        first_without_its_fault(rt.alloc(), &NAMES_OF_OTHER_FORMS),
-        None
-    );
-}
-
-const NAMES_TWICE: [(&str, u32, u8); 9] = [
+    // Names that stand twice.
     ("dict d\ndict d", 2, 7),
     ("dict d\nlist d", 2, 7),
     ("dict d\nlist e\nset d", 3, 7),
@@ -246,14 +203,7 @@ const NAMES_TWICE: [(&str, u32, u8); 9] = [
     ("heap 64\nheap x", 2, 7),
     ("thread A\nthread A", 2, 7),
     ("thread A\nthread B\nquiesce\nthread A", 4, 7),
-];
-
-#[test]
-fn names_that_stand_twice(rt: HostRuntime) {
-    assert_eq!(rt; first_without_its_fault(rt.alloc(), &NAMES_TWICE), None);
-}
-
-const OTHER_KINDS: [(&str, u32, u8); 15] = [
+    // Containers of other kinds.
     ("dict d\nthread A\nappend d 1", 3, 8),
     ("dict d\nthread A\nadd d 1", 3, 8),
     ("dict d\nthread A\nappend d", 3, 8),
@@ -269,14 +219,7 @@ const OTHER_KINDS: [(&str, u32, u8); 15] = [
     ("dict d\nlist l\nset s\nthread A\nextend l d", 5, 8),
     ("dict d\nlist l\nset s\nthread A\nor s d", 5, 8),
     ("dict d\nlist l\nset s\nthread A\ndisjoint s l", 5, 8),
-];
-
-#[test]
-fn wrong_kinds(rt: HostRuntime) {
-    assert_eq!(rt; first_without_its_fault(rt.alloc(), &OTHER_KINDS), None);
-}
-
-const SECTIONS: [(&str, u32, u8); 12] = [
+    // Sections that are not open or not ended.
     ("thread A\nend", 2, 9),
     ("dict d\nthread A\nbegin d\nend\nend", 5, 9),
     ("dict d\nthread A\nbegin d", 4, 10),
@@ -289,26 +232,12 @@ const SECTIONS: [(&str, u32, u8); 12] = [
     ("dict d\nthread A\nbegin d\nthread A", 4, 10),
     ("dict d\nthread A\nbegin d\nstop", 4, 2),
     ("dict d\nthread A\nbegin d\nbegin d d\nend", 6, 10),
-];
-
-#[test]
-fn sections_that_are_not_open_or_not_ended(rt: HostRuntime) {
-    assert_eq!(rt; first_without_its_fault(rt.alloc(), &SECTIONS), None);
-}
-
-const NAMES_IN_ORDERS: [(&str, u32, u8); 4] = [
+    // Names in orders.
     ("order A", 1, 13),
     ("thread A\norder B", 2, 13),
     ("thread A\norder A B", 2, 13),
     ("thread A\nthread B\norder A B C d", 3, 13),
-];
-
-#[test]
-fn order_names(rt: HostRuntime) {
-    assert_eq!(rt; first_without_its_fault(rt.alloc(), &NAMES_IN_ORDERS), None);
-}
-
-const SEVERAL_FAULTS: [(&str, u32, u8); 39] = [
+    // Faults that stand together.
     ("dict D d", 1, 3),
     ("dict d\ndict d d", 2, 3),
     ("stop d \"", 1, 5),
@@ -355,8 +284,8 @@ const SEVERAL_FAULTS: [(&str, u32, u8); 39] = [
 ];
 
 #[test]
-fn faults_that_stand_together(rt: HostRuntime) {
-    assert_eq!(rt; first_without_its_fault(rt.alloc(), &SEVERAL_FAULTS), None);
+fn each_text_has_its_fault_first(rt: HostRuntime) {
+    assert_eq!(rt; first_without_its_fault(rt.alloc(), &FAULTS), None);
 }
 
 const TEXTS: [&str; 20] = [

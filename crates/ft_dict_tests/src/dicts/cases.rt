@@ -1,10 +1,10 @@
 //! Calls on two dicts and what they are to reply, as Python's dicts reply.
-use super::{Call, Case};
-use crate::Said;
+use super::Call;
 use crate::Wanted::{self, Reads, Writes};
+use crate::{Case, Said};
 use ft_model::Raise;
 
-pub(super) const CASES: [Case; 12] = [
+pub(super) const CASES: [Case<Call>; 12] = [
     Case {
         name: "the last pair goes first",
         least: 4,

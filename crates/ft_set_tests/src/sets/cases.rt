@@ -1,10 +1,10 @@
 //! Calls on two sets and what they are to reply, as Python's sets reply.
-use super::{Call, Case};
-use ft_dict_tests::Said;
+use super::Call;
 use ft_dict_tests::Wanted::{self, Reads, Writes};
+use ft_dict_tests::{Case, Said};
 use ft_model::Raise;
 
-pub(super) const CASES: [Case; 10] = [
+pub(super) const CASES: [Case<Call>; 10] = [
     Case {
         name: "the first element goes first",
         least: 4,

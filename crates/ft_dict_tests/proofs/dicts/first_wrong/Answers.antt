@@ -1,6 +1,0 @@
-use Rattle.ft_dict_tests.proofs.dicts.first_wrong.Goals as goal
-
-pub loop-place-preserved : goal.loop-place-preserved
-loop-place-preserved c objects =
-    let done = c.is_made.ensures c.if-not-is_made.false in
-    c.attempt-step.ensures.may done.0 done.1 done.2 objects

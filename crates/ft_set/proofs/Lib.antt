@@ -3,5 +3,5 @@ mod Leaving
 mod NewKeys
 mod Popping
 -- two sets
-mod Merged
+mod TwoSets
 mod Joins

@@ -7,7 +7,7 @@ use Rattle.ft_bank.specs.Passes.{shape_of, view}
 use Rattle.ft_merging.specs.Thinning.{thinned_state}
 use Rattle.ft_search.specs.OneEntryWrites.{Leaves}
 use Rattle.ft_search.proofs.Calling.{loaded_same, written_made}
-use Rattle.ft_set.proofs.Merged.{sub_leaves}
+use Rattle.ft_set.proofs.TwoSets.{sub_leaves}
 use Rattle.ft_set.proofs.merges.sub_locked.Goals as goal
 use Rattle.ft_set.proofs.merges.sub_locked.Goals.{Start}
 

@@ -159,10 +159,8 @@ fn walk_dict(
 fn following_pair(pairs: &[DictPair], last: Option<u64>) -> Option<DictPair>
     ensures { result ≡ next_pair pairs.now last }
 {
-    pairs
-        .iter()
-        .copied()
-        .find(|pair| is_after(last, pair.serial))
+    let place = pairs.partition_point(|pair| !is_after(last, pair.serial));
+    pairs.get(place).copied()
 }
 
 /// Whether the serial is after the last one given.
@@ -267,8 +265,6 @@ fn walk_set(element: Option<Element>, container: u32, size: u64, last: Option<u6
 fn following_element(elements: &[Element], last: Option<u64>) -> Option<Element>
     ensures { result ≡ next_element elements.now last }
 {
-    elements
-        .iter()
-        .copied()
-        .find(|element| is_after(last, element.serial))
+    let place = elements.partition_point(|element| !is_after(last, element.serial));
+    elements.get(place).copied()
 }

@@ -1,13 +1,14 @@
 -- What members have at a key after a call, and where a search by serial comes to.
-use Rattle.std.proofs.Common.{◌≡◌, ◌≢◌, ℕ, zero, suc, ◌+◌, ◌<◌, ◌≤◌, Bool, true, false, cond, List, [], ◌∷◌, ◌++◌, length, get_or, set, position, Option, Some, None, is_some, refl, sym, ap, ◌∙◌, arith, inl, inr}
+use Rattle.std.proofs.Common.{◌≡◌, ◌≢◌, ℕ, zero, suc, ◌+◌, ◌<◌, ◌≤◌, Bool, true, false, cond, List, [], ◌∷◌, ◌++◌, length, get_or, set, take, position, Option, Some, None, is_some, refl, sym, ap, ◌∙◌, arith, inl, inr}
 use Rattle.std.specs.Prelude.{◌||◌, All, AllPairs, option_map}
 use Rattle.std.specs.List.{find, list_any, remove}
 use Rattle.std.specs.List.Sorted.{IsPartitionPoint}
 use Rattle.std.specs.Map.{lookup}
-use Rattle.std.proofs.lemmas.Bool.{cases_lt, lt-ltb, false≢true, or_parts}
+use Rattle.std.proofs.lemmas.Bool.{cases_eq, cases_lt, lt-ltb, le-ltb, ltb-false, false≢true, or_parts}
 use Rattle.std.proofs.lemmas.List.Sums.{position_or_len_is}
 use Rattle.std.proofs.lemmas.List.Quantifiers.{all_pairs_push, all_pairs_remove}
-use Rattle.std.proofs.lemmas.List.{get_or-set_same, get_or-set_other, length-set}
+use Rattle.std.proofs.lemmas.List.{get_or-set_same, get_or-set_other, get_or_default, get_or-take, length-set, length-take-le}
+use Rattle.std.proofs.lemmas.List.Folds.{list_any_none}
 use Rattle.std.specs.Prelude.{nat_lt}
 use Rattle.std.specs.List.{position_or_len}
 use Rattle.ft_model.specs.declared.data.Key.{Key}
@@ -20,8 +21,12 @@ pub lookup_same : {X : Type 0} → (test other : Key → Bool) → ((key : Key) 
 lookup_same test other same [] = refl
 lookup_same {X} test other same (e ∷ es) = ap (λ b. cond b (Some e.1) (lookup test es)) (same e.0) ∙ ap (λ found. cond (other e.0) (Some e.1) found) (lookup_same test other same es)
 
+none_from : {X : Type 0} → (found : Option X) → is_some found ≡ false → found ≡ None
+none_from None h = refl
+none_from (Some x) h = absurd (false≢true (sym h))
+
 module _ {A : Type 0} (key : A → Key) where
-  IsDistinct : List A → Type 0
+  abbrev pub IsDistinct : List A → Type 0
   IsDistinct members = AllPairs (λ a b. key a ≢ key b) members
 
   distinct_tail : (x : A) (xs : List A) → IsDistinct (x ∷ xs) → IsDistinct xs
@@ -44,6 +49,15 @@ module _ {A : Type 0} (key : A → Key) where
   find_none wanted (x ∷ xs) all =
       ap (λ b. cond b (Some x) (find (is_member key wanted) xs)) (is_other wanted (key x) (all 0 x (omega arith)))
       ∙ find_none wanted xs (λ i d low. all (suc i) d (omega arith))
+
+  -- none of the members before one has its key
+  pub absent_before : (xs : List A) (i : ℕ) (d : A) → i < length xs → IsDistinct xs → list_any (is_member key (key (get_or xs i d))) (take i xs) ≡ false
+  absent_before xs i d low distinct =
+      list_any_none (is_member key (key (get_or xs i d))) (take i xs) (λ k e within.
+          let long : length (take i xs) ≡ i = length-take-le i xs (omega arith) in
+          let before : k < i = omega arith in
+          let same : key (get_or (take i xs) k e) ≡ key (get_or xs k d) = ap key (get_or-take i xs k e before ∙ get_or_default xs k e d (omega arith)) in
+          is_other (key (get_or xs i d)) (key (get_or (take i xs) k e)) (λ equal. distinct k i d before low (sym same ∙ equal)))
 
   module _ (serial : A → ℕ) where
     serial_at-head_yes : (x : A) (xs : List A) (wanted : Key) → same_key (key x) wanted ≡ true → serial_at key serial (x ∷ xs) wanted ≡ Some (serial x)
@@ -129,24 +143,39 @@ module _ {A : Type 0} (key : A → Key) where
         let is : position_or_len (is_member key wanted) xs ≡ i = position_or_len_is (is_member key wanted) xs i d (omega arith) before (λ _. at) in
         ap (λ n. cond (nat_lt n (length xs)) (Some n) None) is ∙ ap (λ b. cond b (Some i) None) (lt-ltb i (length xs) low)
 
+    -- where no member has the key, each has another
+    absent_at : (xs : List A) (wanted : Key) → list_any (is_member key wanted) xs ≡ false → (k : ℕ) (d : A) → k < length xs → is_member key wanted (get_or xs k d) ≡ false
+    absent_at [] wanted absent k d low = absurd (omega arith)
+    absent_at (x ∷ xs) wanted absent zero d low = (or_parts _ _ absent).0
+    absent_at (x ∷ xs) wanted absent (suc k) d low = absent_at xs wanted (or_parts _ _ absent).1 k d (omega arith)
+
+    list_any_false : (xs : List A) (wanted : Key) → list_any (is_member key wanted) xs ≡ false → position (is_member key wanted) xs ≡ None
+    list_any_false [] wanted absent = refl
+    list_any_false (x ∷ rest) wanted absent =
+        let xs : List A = x ∷ rest in
+        let is : position_or_len (is_member key wanted) xs ≡ length xs = position_or_len_is (is_member key wanted) xs (length xs) x (omega arith) (λ k lt. absent_at xs wanted absent k x lt) (λ lt. absurd (omega arith)) in
+        ap (λ n. cond (nat_lt n (length xs)) (Some n) None) is ∙ ap (λ b. cond b (Some (length xs)) None) (le-ltb (length xs) (length xs) (omega arith))
+
     -- a search by serial comes to the member whose serial is found
     pub position-by_serial : (xs : List A) (wanted : Key) (s i : ℕ) → AreMembers key serial xs → serial_at key serial xs wanted ≡ Some s → IsPartitionPoint (λ m. serial m < s) (λ m. s ≤ serial m) xs i → position (is_member key wanted) xs ≡ Some i
-    position-by_serial xs wanted s i are found point =
+    position-by_serial [] wanted s i are found point = absurd (let none : None ≡ Some s = found in cc)
+    position-by_serial (x ∷ rest) wanted s i are found point =
+        let xs : List A = x ∷ rest in
         let there = serial_at-found xs wanted s found in
         let j : ℕ = there.0 in
-        let d : A = get_or xs j (head_of xs j there.1) in
         let low : j < length xs = there.1 in
-        let here : (key (get_or xs j d) ≡ wanted) × (serial (get_or xs j d) ≡ s) = there.2 d in
+        let here : (key (get_or xs j x) ≡ wanted) × (serial (get_or xs j x) ≡ s) = there.2 x in
+        let is : serial (get_or xs j x) ≡ s = here.1 in
         let same : j ≡ i =
             elim (cases_lt j i) [
-              | inl lt ↦ absurd (let below : serial (get_or xs j d) < s = point.0 j d (omega arith) lt in let is : serial (get_or xs j d) ≡ s = here.1 in omega arith)
+              | inl lt ↦ absurd (let below : serial (get_or xs j x) < s = point.0 j x (omega arith) lt in omega arith)
               | inr le ↦
                   elim (cases_lt i j) [
-                    | inl lt ↦ absurd (let above : s ≤ serial (get_or xs i d) = point.1 i d (omega arith) (omega arith) in let rises : serial (get_or xs i d) < serial (get_or xs j d) = are.rising i j d lt low in let is : serial (get_or xs j d) ≡ s = here.1 in omega arith)
+                    | inl lt ↦ absurd (let above : s ≤ serial (get_or xs i x) = point.1 i x (omega arith) (omega arith) in let rises : serial (get_or xs i x) < serial (get_or xs j x) = are.rising i j x lt low in omega arith)
                     | inr ge ↦ omega arith
                   ]
             ] in
-        position_is xs wanted j d low (λ k lt. is_other wanted (key (get_or xs k d)) (λ equal. are.distinct k j d lt low (equal ∙ sym here.0))) (ap (λ k. same_key k wanted) here.0 ∙ same_key-refl wanted) ∙ ap Some same
+        position_is xs wanted j x low (λ k lt. is_other wanted (key (get_or xs k x)) (λ equal. are.distinct k j x lt low (equal ∙ sym here.0))) (ap (λ k. same_key k wanted) here.0 ∙ same_key-refl wanted) ∙ ap Some same
 
     -- where no serial is found, no member has the key
     pub position-none : (xs : List A) (wanted : Key) → serial_at key serial xs wanted ≡ None → position (is_member key wanted) xs ≡ None
@@ -168,3 +197,50 @@ module _ {A : Type 0} (key : A → Key) where
           distinct = all_pairs_remove (λ a b. key a ≢ key b) xs i low are.distinct;
           rising = all_pairs_remove (λ a b. serial a < serial b) xs i low are.rising;
         }
+
+    -- a write at a place keeps at each place what it keeps at that one
+    kept_at : {X : Type 0} (f : A → X) (xs : List A) (i k : ℕ) (m d : A) → i < length xs → f m ≡ f (get_or xs i m) → f (get_or (set xs i m) k d) ≡ f (get_or xs k d)
+    kept_at f xs i k m d low is =
+        elim (cases_eq k i) [
+          | inl same ↦ ap (λ j. f (get_or (set xs i m) j d)) same ∙ ap f (get_or-set_same xs i m d low) ∙ is ∙ ap f (get_or_default xs i m d low) ∙ ap (λ j. f (get_or xs j d)) (sym same)
+          | inr differ ↦ ap f (get_or-set_other xs i k m d differ)
+        ]
+
+    pub AreMembers-set : (xs : List A) (i : ℕ) (m : A) → i < length xs → key m ≡ key (get_or xs i m) → serial m ≡ serial (get_or xs i m) → AreMembers key serial xs → AreMembers key serial (set xs i m)
+    AreMembers-set xs i m low same_k same_s are =
+        let long : length (set xs i m) ≡ length xs = length-set xs i m in
+        record {
+          distinct = λ j k d lt within same. are.distinct j k d lt (omega arith) (sym (kept_at key xs i j m d low same_k) ∙ same ∙ kept_at key xs i k m d low same_k);
+          rising = λ j k d lt within. rw (kept_at serial xs i j m d low same_s, kept_at serial xs i k m d low same_s) (are.rising j k d lt (omega arith));
+        }
+
+    -- ---- the table from keys to serials, whose test of keys answers as `same_key`
+    module _ (eq : Key → Key → Bool) (same : (a b : Key) → eq a b ≡ same_key a b) where
+      pub found_same : (entries : List (Key × ℕ)) (wanted : Key) → lookup (eq wanted) entries ≡ lookup (same_key wanted) entries
+      found_same entries wanted = lookup_same (eq wanted) (same_key wanted) (same wanted) entries
+
+      -- the serial of a member that is added is put at its key
+      pub table-push : (old new : List (Key × ℕ)) (xs : List A) (m : A) (k : Key) (v : ℕ) → k ≡ key m → v ≡ serial m → ((q : Key) → lookup (eq q) new ≡ cond (eq k q) (Some v) (lookup (eq q) old)) → ((q : Key) → lookup (same_key q) old ≡ serial_at key serial xs q) → list_any (is_member key (key m)) xs ≡ false → (q : Key) → lookup (same_key q) new ≡ serial_at key serial (xs ++ m ∷ []) q
+      table-push old new xs m k v is_k is_v put table absent q =
+          sym (found_same new q) ∙ put q
+          ∙ ap (λ b. cond b (Some v) (lookup (eq q) old)) (same k q ∙ ap (λ x. same_key x q) is_k)
+          ∙ ap (λ n. cond (same_key (key m) q) (Some n) (lookup (eq q) old)) is_v
+          ∙ ap (λ found. cond (same_key (key m) q) (Some (serial m)) found) (found_same old q ∙ table q)
+          ∙ sym (serial_at-push xs m q absent)
+
+      -- the serial of the member that is taken out goes
+      pub table-remove : (old new : List (Key × ℕ)) (xs : List A) (i : ℕ) (d : A) (k : Key) → k ≡ key (get_or xs i d) → i < length xs → IsDistinct xs → ((q : Key) → lookup (eq q) new ≡ cond (eq k q) None (lookup (eq q) old)) → ((q : Key) → lookup (same_key q) old ≡ serial_at key serial xs q) → (q : Key) → lookup (same_key q) new ≡ serial_at key serial (remove xs i) q
+      table-remove old new xs i d k is_k low distinct gone table q =
+          sym (found_same new q) ∙ gone q
+          ∙ ap (λ b. cond b None (lookup (eq q) old)) (same k q ∙ ap (λ x. same_key x q) is_k)
+          ∙ ap (λ found. cond (same_key (key (get_or xs i d)) q) None found) (found_same old q ∙ table q)
+          ∙ sym (serial_at-remove xs i d q distinct low)
+
+      -- a serial that was put at a new key, and taken out again
+      pub table-undone : (old between new : List (Key × ℕ)) (xs : List A) (k l : Key) (v : ℕ) → l ≡ k → ((q : Key) → lookup (eq q) between ≡ cond (eq k q) (Some v) (lookup (eq q) old)) → ((q : Key) → lookup (eq q) new ≡ cond (eq l q) None (lookup (eq q) between)) → ((q : Key) → lookup (same_key q) old ≡ serial_at key serial xs q) → list_any (is_member key k) xs ≡ false → (q : Key) → lookup (same_key q) new ≡ serial_at key serial xs q
+      table-undone old between new xs k l v is put gone table absent q =
+          sym (found_same new q) ∙ gone q ∙ ap (λ b. cond b None (lookup (eq q) between)) (same l q ∙ ap (λ x. same_key x q) is)
+          ∙ elim (same_key k q) as (λ b. same_key k q ≡ b → cond b None (lookup (eq q) between) ≡ serial_at key serial xs q) [
+            | true ↦ λ h. sym (none_from (serial_at key serial xs q) (serial_at-some xs q ∙ ap (λ x. list_any (is_member key x) xs) (sym (same_key-true _ _ h)) ∙ absent))
+            | false ↦ λ h. put q ∙ ap (λ b. cond b (Some v) (lookup (eq q) old)) (same k q ∙ h) ∙ found_same old q ∙ table q
+          ] refl

@@ -13,8 +13,13 @@ use Rattle.std.specs.Prelude.{nat_lt}
 use Rattle.std.specs.List.{position_or_len}
 use Rattle.ft_model.specs.declared.data.Key.{Key}
 use Rattle.ft_model.specs.Keys.{same_key}
+use Rattle.ft_model.specs.contracts.data.KeyPartialEq.TheImpl.{ghosts}
 use Rattle.ft_model.specs.Members.{is_member, serial_at, AreMembers}
-use Rattle.ft_model.proofs.KeyLemmas.{same_key-true, same_key-refl}
+use Rattle.ft_model.proofs.KeyLemmas.{same_key-true, same_key-refl, same_key-from_kinds}
+
+-- `==` of keys answers as `same_key`
+pub same_keys : (a b : Key) → ghosts.eq a b ≡ same_key a b
+same_keys = same_key-from_kinds ghosts.eq (λ x y. refl) (λ s t. refl) (λ x t. refl) (λ s y. refl)
 
 -- two tests of keys that answer alike find the same in a table
 pub lookup_same : {X : Type 0} → (test other : Key → Bool) → ((key : Key) → test key ≡ other key) → (entries : List (Key × X)) → lookup test entries ≡ lookup other entries

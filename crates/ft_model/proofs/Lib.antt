@@ -6,6 +6,8 @@ pub mod Dicts
 pub mod DictLaws
 pub mod EqualDicts
 pub mod Copies
+pub mod PlacedPairs
+pub mod PlacedElements
 pub mod Sets
 pub mod WorldPlaces
 pub mod AnswerLaws

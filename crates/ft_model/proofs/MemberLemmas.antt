@@ -1,15 +1,15 @@
 -- What members have at a key after a call, and where a search by serial comes to.
-use Rattle.std.proofs.Common.{◌≡◌, ◌≢◌, ℕ, zero, suc, ◌+◌, ◌<◌, ◌≤◌, Bool, true, false, cond, List, [], ◌∷◌, ◌++◌, length, get_or, set, take, position, Option, Some, None, is_some, refl, sym, ap, ◌∙◌, arith, inl, inr}
+use Rattle.std.proofs.Common.{◌≡◌, ◌≢◌, ℕ, zero, suc, ◌+◌, ◌<◌, ◌≤◌, Bool, true, false, not, cond, ltb, List, [], ◌∷◌, ◌++◌, length, get_or, set, take, position, Option, Some, None, is_some, refl, sym, ap, ◌∙◌, arith, inl, inr}
 use Rattle.std.specs.Prelude.{◌||◌, All, AllPairs, option_map}
-use Rattle.std.specs.List.{find, list_any, remove}
-use Rattle.std.specs.List.Sorted.{IsPartitionPoint}
+use Rattle.std.specs.List.{find, list_any, remove, slice_get}
+use Rattle.std.specs.List.Sorted.{IsPartitionPoint, IsNonDecreasingBy}
 use Rattle.std.specs.Map.{lookup}
 use Rattle.std.proofs.lemmas.Bool.{cases_eq, cases_lt, lt-ltb, le-ltb, ltb-false, false≢true, or_parts}
-use Rattle.std.proofs.lemmas.List.Sums.{position_or_len_is}
-use Rattle.std.proofs.lemmas.List.Quantifiers.{all_pairs_push, all_pairs_remove}
+use Rattle.std.proofs.lemmas.List.Sums.{position_or_len_is, fails_before_first}
+use Rattle.std.proofs.lemmas.List.Quantifiers.{all_pairs_push, all_pairs_remove, position-Some}
 use Rattle.std.proofs.lemmas.List.{get_or-set_same, get_or-set_other, get_or_default, get_or-take, length-set, length-take-le}
 use Rattle.std.proofs.lemmas.List.Folds.{list_any_none}
-use Rattle.std.specs.Prelude.{nat_lt}
+use Rattle.std.specs.Prelude.{nat_lt, filter}
 use Rattle.std.specs.List.{position_or_len}
 use Rattle.ft_model.specs.declared.data.Key.{Key}
 use Rattle.ft_model.specs.Keys.{same_key}
@@ -249,3 +249,81 @@ module _ {A : Type 0} (key : A → Key) where
             | true ↦ λ h. sym (none_from (serial_at key serial xs q) (serial_at-some xs q ∙ ap (λ x. list_any (is_member key x) xs) (sym (same_key-true _ _ h)) ∙ absent))
             | false ↦ λ h. put q ∙ ap (λ b. cond b (Some v) (lookup (eq q) old)) (same k q ∙ h) ∙ found_same old q ∙ table q
           ] refl
+
+    -- ---- where the key stands, in terms of its place
+    -- where no member passes, none is found
+    none_at : (p : A → Bool) (xs : List A) → position p xs ≡ None → All (λ x. p x ≡ false) xs
+    none_at p xs none k d low =
+        elim (cases_lt (position_or_len p xs) (length xs)) [
+          | inl lt ↦ absurd (let test : ltb (position_or_len p xs) (length xs) ≡ true = lt-ltb _ _ lt in let some : Some (position_or_len p xs) ≡ None = rw test at none in cc)
+          | inr le ↦ fails_before_first p xs k d (omega arith)
+        ]
+
+    pub absent-none : (xs : List A) (wanted : Key) → position (is_member key wanted) xs ≡ None → list_any (is_member key wanted) xs ≡ false
+    absent-none xs wanted none = list_any_none (is_member key wanted) xs (none_at (is_member key wanted) xs none)
+
+    find_all_none : (p : A → Bool) (xs : List A) → All (λ x. p x ≡ false) xs → find p xs ≡ None
+    find_all_none p [] all = refl
+    find_all_none p (x ∷ xs) all = ap (λ b. cond b (Some x) (find p xs)) (all 0 x (omega arith)) ∙ find_all_none p xs (λ k d low. all (suc k) d (omega arith))
+
+    filter_all : (p : A → Bool) (xs : List A) → All (λ x. p x ≡ false) xs → filter (λ x. not (p x)) xs ≡ xs
+    filter_all p [] all = refl
+    filter_all p (x ∷ xs) all = ap (λ b. cond (not b) (x ∷ filter (λ x. not (p x)) xs) (filter (λ x. not (p x)) xs)) (all 0 x (omega arith)) ∙ ap (λ rest. x ∷ rest) (filter_all p xs (λ k d low. all (suc k) d (omega arith)))
+
+    pub find-none : (xs : List A) (wanted : Key) → position (is_member key wanted) xs ≡ None → find (is_member key wanted) xs ≡ None
+    find-none xs wanted none = find_all_none (is_member key wanted) xs (none_at (is_member key wanted) xs none)
+
+    pub filter-none : (xs : List A) (wanted : Key) → position (is_member key wanted) xs ≡ None → filter (λ m. not (is_member key wanted m)) xs ≡ xs
+    filter-none xs wanted none = filter_all (is_member key wanted) xs (none_at (is_member key wanted) xs none)
+
+    find_first : (xs : List A) (wanted : Key) (i : ℕ) (d : A) → IsDistinct xs → i < length xs → key (get_or xs i d) ≡ wanted → find (is_member key wanted) xs ≡ Some (get_or xs i d)
+    find_first [] wanted i d distinct low at = absurd (omega arith)
+    find_first (x ∷ xs) wanted zero d distinct low at = ap (λ b. cond b (Some x) (find (is_member key wanted) xs)) (ap (λ k. same_key k wanted) at ∙ same_key-refl wanted)
+    find_first (x ∷ xs) wanted (suc i) d distinct low at =
+        let within : i < length xs = omega arith in
+        ap (λ b. cond b (Some x) (find (is_member key wanted) xs)) (is_other wanted (key x) (λ same. differs_from_head x xs i d distinct within (same ∙ sym at)))
+        ∙ find_first xs wanted i d (distinct_tail x xs distinct) within at
+
+    filter_first : (xs : List A) (wanted : Key) (i : ℕ) (d : A) → IsDistinct xs → i < length xs → key (get_or xs i d) ≡ wanted → filter (λ m. not (is_member key wanted m)) xs ≡ remove xs i
+    filter_first [] wanted i d distinct low at = absurd (omega arith)
+    filter_first (x ∷ xs) wanted zero d distinct low at =
+        ap (λ b. cond (not b) (x ∷ filter (λ m. not (is_member key wanted m)) xs) (filter (λ m. not (is_member key wanted m)) xs)) (ap (λ k. same_key k wanted) at ∙ same_key-refl wanted)
+        ∙ filter_all (is_member key wanted) xs (λ k e within. is_other wanted (key (get_or xs k e)) (λ same. differs_from_head x xs k e distinct within (at ∙ sym same)))
+    filter_first (x ∷ xs) wanted (suc i) d distinct low at =
+        let within : i < length xs = omega arith in
+        ap (λ b. cond (not b) (x ∷ filter (λ m. not (is_member key wanted m)) xs) (filter (λ m. not (is_member key wanted m)) xs)) (is_other wanted (key x) (λ same. differs_from_head x xs i d distinct within (same ∙ sym at)))
+        ∙ ap (λ rest. x ∷ rest) (filter_first xs wanted i d (distinct_tail x xs distinct) within at)
+
+    pub find-placed : (xs : List A) (wanted : Key) (i : ℕ) (d : A) → AreMembers key serial xs → position (is_member key wanted) xs ≡ Some i → find (is_member key wanted) xs ≡ Some (get_or xs i d)
+    find-placed xs wanted i d are at =
+        let p = position-Some (is_member key wanted) xs i d at in
+        find_first xs wanted i d are.distinct p.0 (same_key-true _ _ p.1)
+
+    pub filter-placed : (xs : List A) (wanted : Key) (i : ℕ) → AreMembers key serial xs → position (is_member key wanted) xs ≡ Some i → filter (λ m. not (is_member key wanted m)) xs ≡ remove xs i
+    filter-placed [] wanted i are at = absurd (let none : None ≡ Some i = at in cc)
+    filter-placed (x ∷ rest) wanted i are at =
+        let xs : List A = x ∷ rest in
+        let p = position-Some (is_member key wanted) xs i x at in
+        filter_first xs wanted i x are.distinct p.0 (same_key-true _ _ p.1)
+
+-- ---- the first member after a serial
+pub never_falls : {A : Type 0} → (serial : A → ℕ) (xs : List A) → AllPairs (λ a b. serial a < serial b) xs → IsNonDecreasingBy serial xs
+never_falls serial xs rising = λ i j d le low.
+    elim (cases_lt i j) [
+      | inl lt ↦ (let less : serial (get_or xs i d) < serial (get_or xs j d) = rising i j d lt low in omega arith)
+      | inr ge ↦ (let same : i ≡ j = omega arith in rw same (omega arith))
+    ]
+
+pub find-first : {A : Type 0} → (xs : List A) → slice_get xs 0 ≡ find (λ x. true) xs
+find-first [] = refl
+find-first (x ∷ xs) = refl
+
+pub find-from_point : {A : Type 0} → (serial : A → ℕ) (xs : List A) (last i : ℕ) → IsPartitionPoint (λ m. serial m ≤ last) (λ m. last < serial m) xs i → slice_get xs i ≡ find (λ m. nat_lt last (serial m)) xs
+find-from_point serial [] last i point = refl
+find-from_point serial (x ∷ xs) last zero point =
+    let above : last < serial x = point.1 0 x (omega arith) (omega arith) in
+    sym (ap (λ b. cond b (Some x) (find (λ m. nat_lt last (serial m)) xs)) (lt-ltb last (serial x) above))
+find-from_point serial (x ∷ xs) last (suc i) point =
+    let below : serial x ≤ last = point.0 0 x (omega arith) (omega arith) in
+    find-from_point serial xs last i (λ k d low high. point.0 (suc k) d (omega arith) (omega arith), λ k d low high. point.1 (suc k) d (omega arith) (omega arith))
+    ∙ sym (ap (λ b. cond b (Some x) (find (λ m. nat_lt last (serial m)) xs)) (le-ltb last (serial x) below))

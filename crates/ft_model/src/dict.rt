@@ -26,9 +26,9 @@ impl Model for Dict {
 
     ghost Value = { DictContent };
 
-    ghost view = { λ d. record { next = d.next; pairs = d.pairs.items } };
+    ghost view = { λ d. record { next = d.next; pairs = d.pairs } };
 
-    ghost invariant = { λ d. IsDict d.next d.pairs.items };
+    ghost invariant = { λ d. IsDict d.next d.pairs };
 }
 
 impl Member for DictPair {
@@ -75,8 +75,10 @@ impl Dict {
         ensures found { IfSome result (λ value. Any (λ pair. (pair.key ≡ key) × (pair.value ≡ value)) self.now.pairs) }
         ensures missing { IfNone result (All (λ pair. pair.key ≢ key) self.now.pairs) }
     {
-        let place = self.pairs.place_of(key)?;
-        Some(self.pairs()[place].value)
+        match self.pairs.find(key) {
+            Some(pair) => Some(pair.value),
+            None => None,
+        }
     }
 
     /// `d.get(k, v)`: the value at the key, or the default (Python manual, Mapping Types).
@@ -116,12 +118,14 @@ impl Dict {
     }
 
     /// `d == e`: the same keys with equal values, in any order (Python manual, Mapping Types). It
-    /// looks each pair of one up in the other, so its time is the product of the lengths.
+    /// looks each pair of one up in the other.
     pub fn equals(&self, other: &Dict) -> bool
         ensures answer { result ≡ same_pairs self.now.pairs other.now.pairs }
         ensures reads { IsTrue result ↔ ((key : Key) → dict_get self.now.pairs key ≡ dict_get other.now.pairs key) }
     {
-        same_pairs(self, other)
+        let pairs = self.pairs();
+        let others = other.pairs();
+        has_pairs(other, pairs) & has_pairs(self, others)
     }
 
     /// A dict with the same pairs and the same next serial. An `Err` says that memory ran out.
@@ -149,7 +153,7 @@ impl Dict {
     {
         match self.pairs.place_of(key) {
             Some(place) => {
-                let pair = self.pairs()[place];
+                let pair = self.pairs.at(place);
                 self.pairs.put(place, DictPair { value, ..pair });
             }
             None => {
@@ -199,9 +203,7 @@ impl Dict {
     fn take_out(&mut self, key: Key)
         ensures { self.new ≡ dict_del self.old key }
     {
-        if let Some(place) = self.pairs.place_of(key) {
-            self.pairs.remove(place);
-        }
+        self.pairs.take_out(key);
     }
 
     /// `d.popitem()`, or `None` where there is no pair: takes the last pair out (Python manual,
@@ -236,8 +238,7 @@ impl Dict {
     }
 
     /// `d.update(e)`: sets each pair of the other dict, in its order (Python manual, Mapping
-    /// Types). It looks each up, so its time is the product of the lengths. An `Err` changes
-    /// nothing.
+    /// Types). An `Err` changes nothing.
     pub fn update(&mut self, alloc: Global, other: &Dict) -> Result<(), AllocError>
         requires { self.old.next + length other.now.pairs < 2 ^ 63 }
         ensures ok { OnOk result (self.new ≡ dict_update self.old other.now.pairs) }
@@ -264,8 +265,9 @@ impl Dict {
         ensures fresh { OnOk result (All (λ pair. self.old.next ≤ pair.serial) self.new.pairs) }
     {
         let pairs = with_serials(alloc, self.next, other.pairs())?;
-        self.pairs = Members::from_vec(alloc, pairs)?;
+        let pairs = Members::from_vec(alloc, pairs)?;
         self.next += other.len() as u64;
+        self.pairs = pairs;
         Ok(())
     }
 
@@ -277,20 +279,19 @@ impl Dict {
     }
 }
 
-/// Whether they are the same keys with equal values, in any order.
-fn same_pairs(dict: &Dict, other: &Dict) -> bool {
-    has_pairs(other, dict.pairs()) && has_pairs(dict, other.pairs())
-}
-
 /// Whether each of the pairs stands, with an equal value, in the dict.
-fn has_pairs(dict: &Dict, pairs: &[DictPair]) -> bool {
+fn has_pairs(dict: &Dict, pairs: &[DictPair]) -> bool
+    ensures { result ≡ list_all (has_pair dict.now.pairs) pairs.now }
+{
     pairs.iter().all(|wanted| holds(dict, wanted))
 }
 
 /// Whether the pair stands, with an equal value, in the dict.
-fn holds(dict: &Dict, wanted: &DictPair) -> bool {
-    match dict.get(wanted.key) {
-        Some(value) => value == wanted.value,
+fn holds(dict: &Dict, wanted: &DictPair) -> bool
+    ensures { result ≡ has_pair dict.now.pairs wanted.now }
+{
+    match dict.pairs.find(wanted.key) {
+        Some(pair) => pair.value == wanted.value,
         None => false,
     }
 }

@@ -1,11 +1,12 @@
 //! The pairs of a dict or the elements of a set, in the order in which they were added, with a
 //! search by key and by serial.
-ghost use Rattle.std.specs.Prelude.{◌≡◌, ◌<◌, ◌≤◌, [], ◌∷◌, ◌++◌, true, false, length, position, slice_index_or, slice_set, All, AllPairs, IfOk, OnOk, OnErr};
-ghost use Rattle.std.specs.List.{remove, list_any};
+ghost use Rattle.std.specs.Prelude.{◌≡◌, ◌<◌, ◌≤◌, [], ◌∷◌, ◌++◌, false, not, length, position, filter, slice_index_or, slice_set, All, AllPairs, IfOk, OnOk, OnErr};
+ghost use Rattle.std.specs.List.{remove, list_any, find};
 ghost use Rattle.std.specs.List.Sorted.{IsPartitionPoint};
 ghost use Rattle.std.specs.HashMap.{get_by};
 ghost use Rattle.ft_model.specs.declared.data.Key.{Key};
 ghost use Rattle.ft_model.specs.Keys.{same_key};
+ghost use Rattle.ft_model.specs.Cursors.{is_after};
 ghost use Rattle.ft_model.specs.Members.{is_member, serial_at, AreMembers};
 
 use crate::data::Key;
@@ -93,10 +94,29 @@ impl<T: Member> Members<T> {
 
     /// The place of the member that has the key.
     pub(crate) fn place_of(&self, key: Key) -> Option<usize>
-        ensures { result ≡ position (is_member T.key_of key) self.now }
+        ensures place { result ≡ position (is_member T.key_of key) self.now }
+        ensures are_members { AreMembers T.key_of T.serial_of self.now }
     {
         let serial = *self.serials.get(&key)?;
         Some(place_in(self.as_slice(), serial))
+    }
+
+    /// The member that stands at a place.
+    pub(crate) fn at(&self, place: usize) -> T
+        requires { place < length self.now }
+        ensures { result ≡ slice_index_or self.now place result }
+    {
+        self.line.as_slice()[place]
+    }
+
+    /// The member that has the key.
+    pub(crate) fn find(&self, key: Key) -> Option<T>
+        ensures { result ≡ find (is_member T.key_of key) self.now }
+    {
+        match self.place_of(key) {
+            Some(place) => Some(self.at(place)),
+            None => None,
+        }
     }
 
     /// Adds a member at the end. An `Err` changes nothing.
@@ -136,6 +156,16 @@ impl<T: Member> Members<T> {
         self.line.remove(place);
     }
 
+    /// Takes the member that has the key out.
+    pub(crate) fn take_out(&mut self, key: Key)
+        ensures { self.new ≡ filter (λ member. not (is_member T.key_of key member)) self.old }
+    {
+        match self.place_of(key) {
+            Some(place) => self.remove(place),
+            None => {}
+        }
+    }
+
     /// Takes all members out.
     pub(crate) fn clear(&mut self)
         ensures { self.new ≡ [] }
@@ -158,9 +188,31 @@ fn serials_of<T: Member>(alloc: Global, members: &[T]) -> Result<HashMap<Key, u6
 }
 
 /// The place of the first member that has the serial or a later one.
-pub(crate) fn place_in<T: Member>(members: &[T], serial: u64) -> usize
+fn place_in<T: Member>(members: &[T], serial: u64) -> usize
     requires { AllPairs (λ a b. T.serial_of a < T.serial_of b) members.now }
     ensures { IsPartitionPoint (λ member. T.serial_of member < serial) (λ member. serial ≤ T.serial_of member) members.now result }
 {
     members.partition_point(|member| member.serial() < serial)
+}
+
+/// The first member whose serial is after the last one; at first every serial is.
+pub(crate) fn first_after<T: Member>(members: &[T], last: Option<u64>) -> Option<T>
+    requires { AllPairs (λ a b. T.serial_of a < T.serial_of b) members.now }
+    ensures { result ≡ find (λ member. is_after last (T.serial_of member)) members.now }
+{
+    match last {
+        None => members.first().copied(),
+        Some(last) => {
+            let place = place_after(members, last);
+            members.get(place).copied()
+        }
+    }
+}
+
+/// The place of the first member that has a later serial.
+fn place_after<T: Member>(members: &[T], serial: u64) -> usize
+    requires { AllPairs (λ a b. T.serial_of a < T.serial_of b) members.now }
+    ensures { IsPartitionPoint (λ member. T.serial_of member ≤ serial) (λ member. serial < T.serial_of member) members.now result }
+{
+    members.partition_point(|member| member.serial() <= serial)
 }

@@ -1,8 +1,8 @@
 //! A set of one thread. It keeps that elements are distinct and that serials rise, in the order of
 //! adding, below the next one.
-ghost use Rattle.std.specs.Prelude.{◌≡◌, ◌≢◌, ◌↔◌, ◌&&◌, ◌||◌, not, IsTrue, ℕ, ◌+◌, ◌^◌, ◌<◌, ◌==◌, false, length, slice_get, option_map, IfOk, OnOk, OnErr, IfNone};
+ghost use Rattle.std.specs.Prelude.{◌≡◌, ◌↔◌, ◌++◌, ◌&&◌, ◌||◌, not, IsTrue, ℕ, ◌+◌, ◌^◌, ◌<◌, ◌==◌, false, length, slice_get, option_map, IfOk, OnOk, OnErr, IfNone};
 ghost use Rattle.std.specs.List.{list_any};
-ghost use Rattle.ft_model.specs.Contents.{has_element, elements_from, those_not_in, is_subset, same_elements, is_disjoint};
+ghost use Rattle.ft_model.specs.Contents.{has_element, elements_from, those_in, those_not_in, is_subset, same_elements, is_disjoint};
 
 use crate::content::Element;
 use crate::data::Key;
@@ -24,9 +24,9 @@ impl Model for Set {
 
     ghost Value = { SetContent };
 
-    ghost view = { λ s. record { next = s.next; elements = s.elements.items } };
+    ghost view = { λ s. record { next = s.next; elements = s.elements } };
 
-    ghost invariant = { λ s. IsSet s.next s.elements.items };
+    ghost invariant = { λ s. IsSet s.next s.elements };
 }
 
 impl Member for Element {
@@ -146,7 +146,7 @@ impl Set {
         ensures members { OnOk result ((other : Key) → has_element self.new.elements other ≡
             (has_element self.old.elements other || same_key key other)) }
     {
-        if !self.has(key) {
+        if !self.elements.has(key) {
             self.elements.push(Element {
                 serial: self.next,
                 key,
@@ -174,9 +174,7 @@ impl Set {
     fn take_out(&mut self, key: Key)
         ensures { self.new ≡ set_discard self.old key }
     {
-        if let Some(place) = self.elements.place_of(key) {
-            self.elements.remove(place);
-        }
+        self.elements.take_out(key);
     }
 
     /// `s.pop()`, or `None` where there is no element (Python manual, Set Types): takes the first
@@ -202,10 +200,10 @@ impl Set {
             (has_element self.old.elements key || has_element other.now.elements key)) }
     {
         let added = added(alloc, self.next, self.elements(), other.elements())?;
-        let mut elements = Vec::from_slice(alloc, self.elements())?;
-        elements.extend_from_slice(&added)?;
-        self.elements = Members::from_vec(alloc, elements)?;
+        let joined = joined(alloc, self.elements(), &added)?;
+        let elements = Members::from_vec(alloc, joined)?;
         self.next += added.len() as u64;
+        self.elements = elements;
         Ok(())
     }
 
@@ -217,8 +215,9 @@ impl Set {
         ensures members { OnOk result ((key : Key) → has_element self.new.elements key ≡
             (has_element self.old.elements key && has_element other.now.elements key)) }
     {
-        let common = those_in(alloc, self.elements(), other.elements())?;
-        self.elements = Members::from_vec(alloc, common)?;
+        let common = common(alloc, self.elements(), other.elements())?;
+        let elements = Members::from_vec(alloc, common)?;
+        self.elements = elements;
         Ok(())
     }
 
@@ -231,7 +230,8 @@ impl Set {
             (has_element self.old.elements key && not (has_element other.now.elements key))) }
     {
         let kept = kept(alloc, self.elements(), other.elements())?;
-        self.elements = Members::from_vec(alloc, kept)?;
+        let elements = Members::from_vec(alloc, kept)?;
+        self.elements = elements;
         Ok(())
     }
 
@@ -248,10 +248,11 @@ impl Set {
             || (has_element other.now.elements key && not (has_element self.old.elements key)))) }
     {
         let added = added(alloc, self.next, self.elements(), other.elements())?;
-        let mut elements = kept(alloc, self.elements(), other.elements())?;
-        elements.extend_from_slice(&added)?;
-        self.elements = Members::from_vec(alloc, elements)?;
+        let kept = kept(alloc, self.elements(), other.elements())?;
+        let joined = joined(alloc, &kept, &added)?;
+        let elements = Members::from_vec(alloc, joined)?;
         self.next += added.len() as u64;
+        self.elements = elements;
         Ok(())
     }
 
@@ -334,8 +335,21 @@ fn kept(alloc: Global, elements: &[Element], others: &[Element]) -> Result<Vec<E
         .collect(alloc)
 }
 
+/// The elements and after them those that are added.
+fn joined(
+    alloc: Global,
+    elements: &[Element],
+    added: &[Element],
+) -> Result<Vec<Element>, AllocError>
+    ensures { IfOk result (λ joined. joined.items ≡ elements.now ++ added.now) }
+{
+    let mut joined = Vec::from_slice(alloc, elements)?;
+    joined.extend_from_slice(added)?;
+    Ok(joined)
+}
+
 /// The elements that are among the others.
-fn those_in(
+fn common(
     alloc: Global,
     elements: &[Element],
     others: &[Element],

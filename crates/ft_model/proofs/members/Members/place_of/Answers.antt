@@ -5,15 +5,15 @@ use Rattle.ft_model.specs.contracts.data.KeyPartialEq.TheImpl.{ghosts}
 use Rattle.ft_model.proofs.MemberLemmas.{same_keys, position-by_serial, position-none, found_same}
 use Rattle.ft_model.proofs.members.Members.place_of.Goals as goal
 
-pub returns-in_err-serial : goal.returns-in_err-serial
-returns-in_err-serial g c =
+pub returns-in_err-serial-clause-place : goal.returns-in_err-serial-clause-place
+returns-in_err-serial-clause-place g c =
     let none : serial_at g.T.Member.key_of g.T.Member.serial_of c.self.inside.line c.args.key ≡ None =
         sym (c.in_err-serial.ensures.value ∙ found_same g.T.Member.key_of g.T.Member.serial_of ghosts.eq same_keys c.self.inside.serials.entries c.args.key ∙ c.self.invariant.1 c.args.key) in
     let residual : c.from_residual.result ≡ None = search rules in
     residual ∙ sym (position-none g.T.Member.key_of g.T.Member.serial_of c.self.inside.line c.args.key none) ∙ ap (λ members. position (is_member g.T.Member.key_of c.args.key) members) c.self.view_is
 
-pub returns : goal.returns
-returns g c =
+pub returns-clause-place : goal.returns-clause-place
+returns-clause-place g c =
     let found : serial_at g.T.Member.key_of g.T.Member.serial_of c.self.inside.line c.args.key ≡ Some c.in_ok-serial.field-0.now =
         sym (c.in_ok-serial.ensures.value ∙ found_same g.T.Member.key_of g.T.Member.serial_of ghosts.eq same_keys c.self.inside.serials.entries c.args.key ∙ c.self.invariant.1 c.args.key) in
     let here = ap (λ members. serial_at g.T.Member.key_of g.T.Member.serial_of members c.args.key) (sym c.self.view_is) ∙ found in

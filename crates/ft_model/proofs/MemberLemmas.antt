@@ -1,5 +1,5 @@
 -- What members have at a key after a call, and where a search by serial comes to.
-use Rattle.std.proofs.Common.{◌≡◌, ◌≢◌, ℕ, zero, suc, ◌+◌, ◌<◌, ◌≤◌, Bool, true, false, not, cond, ltb, List, [], ◌∷◌, ◌++◌, length, get_or, set, take, position, Option, Some, None, is_some, refl, sym, ap, ◌∙◌, arith, inl, inr}
+use Rattle.std.proofs.Common.{◌≡◌, ◌≢◌, ℕ, zero, suc, ◌+◌, ◌<◌, ◌≤◌, Bool, true, false, not, cond, ltb, List, [], ◌∷◌, ◌++◌, length, get_or, set, take, drop, position, Option, Some, None, is_some, refl, sym, ap, ◌∙◌, arith, inl, inr}
 use Rattle.std.specs.Prelude.{◌||◌, All, AllPairs, option_map}
 use Rattle.std.specs.List.{find, list_any, remove, slice_get}
 use Rattle.std.specs.List.Sorted.{IsPartitionPoint, IsNonDecreasingBy}
@@ -327,3 +327,9 @@ find-from_point serial (x ∷ xs) last (suc i) point =
     let below : serial x ≤ last = point.0 0 x (omega arith) (omega arith) in
     find-from_point serial xs last i (λ k d low high. point.0 (suc k) d (omega arith) (omega arith), λ k d low high. point.1 (suc k) d (omega arith) (omega arith))
     ∙ sym (ap (λ b. cond b (Some x) (find (λ m. nat_lt last (serial m)) xs)) (le-ltb last (serial x) below))
+
+pub get-drop : {A : Type 0} → (xs : List A) (n : ℕ) → slice_get (drop n xs) 0 ≡ slice_get xs n
+get-drop [] zero = refl
+get-drop [] (suc n) = refl
+get-drop (x ∷ xs) zero = refl
+get-drop (x ∷ xs) (suc n) = get-drop xs n

@@ -204,7 +204,7 @@ pub(crate) fn first_after<T: Member>(members: &[T], last: Option<u64>) -> Option
         None => members.first().copied(),
         Some(last) => {
             let place = place_after(members, last);
-            members.get(place).copied()
+            members[place..].first().copied()
         }
     }
 }
@@ -212,7 +212,8 @@ pub(crate) fn first_after<T: Member>(members: &[T], last: Option<u64>) -> Option
 /// The place of the first member that has a later serial.
 fn place_after<T: Member>(members: &[T], serial: u64) -> usize
     requires { AllPairs (λ a b. T.serial_of a < T.serial_of b) members.now }
-    ensures { IsPartitionPoint (λ member. T.serial_of member ≤ serial) (λ member. serial < T.serial_of member) members.now result }
+    ensures bound { result ≤ length members.now }
+    ensures point { IsPartitionPoint (λ member. T.serial_of member ≤ serial) (λ member. serial < T.serial_of member) members.now result }
 {
     members.partition_point(|member| member.serial() <= serial)
 }

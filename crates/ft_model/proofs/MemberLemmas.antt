@@ -59,10 +59,10 @@ module _ {A : Type 0} (key : A → Key) where
   pub absent_before : (xs : List A) (i : ℕ) (d : A) → i < length xs → IsDistinct xs → list_any (is_member key (key (get_or xs i d))) (take i xs) ≡ false
   absent_before xs i d low distinct =
       list_any_none (is_member key (key (get_or xs i d))) (take i xs) (λ k e within.
-          let long : length (take i xs) ≡ i = length-take-le i xs (omega arith) in
-          let before : k < i = omega arith in
-          let same : key (get_or (take i xs) k e) ≡ key (get_or xs k d) = ap key (get_or-take i xs k e before ∙ get_or_default xs k e d (omega arith)) in
-          is_other (key (get_or xs i d)) (key (get_or (take i xs) k e)) (λ equal. distinct k i d before low (sym same ∙ equal)))
+      let long : length (take i xs) ≡ i = length-take-le i xs (omega arith) in
+      let before : k < i = omega arith in
+      let same : key (get_or (take i xs) k e) ≡ key (get_or xs k d) = ap key (get_or-take i xs k e before ∙ get_or_default xs k e d (omega arith)) in
+      is_other (key (get_or xs i d)) (key (get_or (take i xs) k e)) (λ equal. distinct k i d before low (sym same ∙ equal)))
 
   module _ (serial : A → ℕ) where
     serial_at-head_yes : (x : A) (xs : List A) (wanted : Key) → same_key (key x) wanted ≡ true → serial_at key serial (x ∷ xs) wanted ≡ Some (serial x)
@@ -172,14 +172,14 @@ module _ {A : Type 0} (key : A → Key) where
         let here : (key (get_or xs j x) ≡ wanted) × (serial (get_or xs j x) ≡ s) = there.2 x in
         let is : serial (get_or xs j x) ≡ s = here.1 in
         let same : j ≡ i =
-            elim (cases_lt j i) [
-              | inl lt ↦ absurd (let below : serial (get_or xs j x) < s = point.0 j x (omega arith) lt in omega arith)
-              | inr le ↦
-                  elim (cases_lt i j) [
-                    | inl lt ↦ absurd (let above : s ≤ serial (get_or xs i x) = point.1 i x (omega arith) (omega arith) in let rises : serial (get_or xs i x) < serial (get_or xs j x) = are.rising i j x lt low in omega arith)
-                    | inr ge ↦ omega arith
-                  ]
-            ] in
+        elim (cases_lt j i) [
+          | inl lt ↦ absurd (let below : serial (get_or xs j x) < s = point.0 j x (omega arith) lt in omega arith)
+          | inr le ↦
+              elim (cases_lt i j) [
+                | inl lt ↦ absurd (let above : s ≤ serial (get_or xs i x) = point.1 i x (omega arith) (omega arith) in let rises : serial (get_or xs i x) < serial (get_or xs j x) = are.rising i j x lt low in omega arith)
+                | inr ge ↦ omega arith
+              ]
+        ] in
         position_is xs wanted j x low (λ k lt. is_other wanted (key (get_or xs k x)) (λ equal. are.distinct k j x lt low (equal ∙ sym here.0))) (ap (λ k. same_key k wanted) here.0 ∙ same_key-refl wanted) ∙ ap Some same
 
     -- where no serial is found, no member has the key

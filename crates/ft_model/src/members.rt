@@ -204,9 +204,16 @@ pub(crate) fn first_after<T: Member>(members: &[T], last: Option<u64>) -> Option
         None => members.first().copied(),
         Some(last) => {
             let place = place_after(members, last);
-            members[place..].first().copied()
+            member_at(members, place)
         }
     }
+}
+
+/// The member at a place, where there is one.
+fn member_at<T: Member>(members: &[T], place: usize) -> Option<T>
+    ensures { result ≡ slice_get members.now place }
+{
+    members.get(place).copied()
 }
 
 /// The place of the first member that has a later serial.

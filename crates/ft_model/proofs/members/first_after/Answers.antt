@@ -1,7 +1,7 @@
-use Rattle.std.proofs.Common.{rules, ◌≡◌, ◌∙◌, drop, sym, ap}
+use Rattle.std.proofs.Common.{rules, ◌≡◌, ◌∙◌, sym, ap}
 use Rattle.std.specs.List.{find, slice_get}
 use Rattle.ft_model.specs.Cursors.{is_after}
-use Rattle.ft_model.proofs.MemberLemmas.{find-first, find-from_point, get-drop}
+use Rattle.ft_model.proofs.MemberLemmas.{find-first, find-from_point}
 use Rattle.ft_model.proofs.members.first_after.Goals as goal
 
 pub returns-in-None : goal.returns-in-None
@@ -11,7 +11,6 @@ returns-in-None g c =
 
 pub returns-in-Some : goal.returns-in-Some
 returns-in-Some g c =
-    let is : c.copied-in-Some.result ≡ slice_get (drop c.place_after-place.result c.args.members.now) 0 = search rules in
-    is ∙ get-drop c.args.members.now c.place_after-place.result
+    c.member_at.ensures
     ∙ find-from_point g.T.Member.serial_of c.args.members.now c.in-Some.last c.place_after-place.result c.place_after-place.ensures.point
     ∙ ap (λ last. find (λ member. is_after last (g.T.Member.serial_of member)) c.args.members.now) (sym c.in-Some.is)

@@ -14,7 +14,7 @@ loop-member-preserved g c wanted =
     let low : i < length xs = search rules in
     let is : member ≡ get_or xs i member = search rules in
     let absent : list_any (is_member g.T.Member.key_of (g.T.Member.key_of member)) (take i xs) ≡ false =
-        ap (λ m. list_any (is_member g.T.Member.key_of (g.T.Member.key_of m)) (take i xs)) is ∙ absent_before g.T.Member.key_of xs i member low c.requires.distinct in
+    ap (λ m. list_any (is_member g.T.Member.key_of (g.T.Member.key_of m)) (take i xs)) is ∙ absent_before g.T.Member.key_of xs i member low c.requires.distinct in
     let more : take (i + 1) xs ≡ take i xs ++ member ∷ [] = take_more xs i member low ∙ ap (λ m. take i xs ++ m ∷ []) (sym is) in
     table-push g.T.Member.key_of g.T.Member.serial_of ghosts.eq same_keys c.loop-member.serials.entries c.insert.new.self.entries (take i xs) member c.key.result c.serial.result c.key.ensures c.serial.ensures c.in_ok-insert.ensures.updates.0 c.loop-member.invariant absent wanted
     ∙ ap (λ members. serial_at g.T.Member.key_of g.T.Member.serial_of members wanted) (sym more)

@@ -23,7 +23,7 @@ None≢Some : {X : Type 0} (x : X) → None ≡ Some x → ⊥
 None≢Some x h = cc
 
 -- a pair that is there is what a look-up of its key finds
-found_from_pair : (pairs : List DictPair) (wanted : DictPair) → AreDistinct pairs → has_pair pairs wanted ≡ true → dict_get pairs wanted.key ≡ Some wanted.value
+pub found_from_pair : (pairs : List DictPair) (wanted : DictPair) → AreDistinct pairs → has_pair pairs wanted ≡ true → dict_get pairs wanted.key ≡ Some wanted.value
 found_from_pair [] wanted distinct has = absurd (false≢true has)
 found_from_pair (pair ∷ pairs) wanted distinct has =
     let rest = found_from_pair pairs wanted (distinct_tail pair pairs distinct) in
@@ -36,7 +36,7 @@ found_from_pair (pair ∷ pairs) wanted distinct has =
       | false ↦ λ past. simp past (rest (simp past at has))
     ] refl
 
-pair_from_found : (pairs : List DictPair) (wanted : DictPair) → dict_get pairs wanted.key ≡ Some wanted.value → has_pair pairs wanted ≡ true
+pub pair_from_found : (pairs : List DictPair) (wanted : DictPair) → dict_get pairs wanted.key ≡ Some wanted.value → has_pair pairs wanted ≡ true
 pair_from_found [] wanted found = absurd (None≢Some wanted.value found)
 pair_from_found (pair ∷ pairs) wanted found =
     elim (same_key pair.key wanted.key) as (λ b. same_key pair.key wanted.key ≡ b → has_pair (pair ∷ pairs) wanted ≡ true) [

@@ -1,9 +1,13 @@
 pub mod KeyLemmas
 pub mod ValueLemmas
+pub mod LineLemmas
+pub mod MemberLemmas
 pub mod Dicts
 pub mod DictLaws
 pub mod EqualDicts
 pub mod Copies
+pub mod PlacedPairs
+pub mod PlacedElements
 pub mod Sets
 pub mod WorldPlaces
 pub mod AnswerLaws

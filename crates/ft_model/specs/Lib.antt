@@ -2,6 +2,7 @@ pub mod Keys
 pub mod Calls
 pub mod Classes
 pub mod Contents
+pub mod Members
 pub mod Lists
 pub mod Cursors
 pub mod Limits

@@ -1,8 +1,8 @@
 //! One step of a cursor. Each pair or element is given once at most, and an ended cursor stays
 //! ended.
-ghost use Rattle.std.specs.Prelude.{◌≡◌, true};
+ghost use Rattle.std.specs.Prelude.{◌≡◌, ◌<◌, true, AllPairs};
 ghost use Rattle.ft_model.specs.declared.reply.Reply.TheVariants.{Stop};
-ghost use Rattle.ft_model.specs.Cursors.{is_after, next_pair, next_element, dict_walk, dict_next, set_walk, set_next, list_next};
+ghost use Rattle.ft_model.specs.Cursors.{dict_walk, dict_next, set_walk, set_next, list_next};
 ghost use Rattle.ft_model.specs.Cursors.{is_given, has_size, is_ended, GoesOn};
 ghost use Rattle.ft_model.specs.Worlds.{IsOfKind, cursor_kind, container_of};
 ghost use Rattle.ft_model.specs.Answers.{cursor_step, walked_length};
@@ -10,6 +10,7 @@ ghost use Rattle.ft_model.specs.Answers.{cursor_step, walked_length};
 use crate::content::{DictPair, Element};
 use crate::cursor::{Cursor, CursorState};
 use crate::data::{Key, Value};
+use crate::members::first_after;
 use crate::reply::{Raise, Reply};
 use crate::world::World;
 
@@ -80,6 +81,7 @@ fn step_dict(
     expected: u64,
     last: Option<u64>,
 ) -> Advanced
+    requires rising { AllPairs (λ a b. a.serial < b.serial) pairs.now }
     ensures reply { result.reply ≡ (dict_next pairs.now container walk size expected last).reply }
     ensures cursor { result.cursor ≡ (dict_next pairs.now container walk size expected last).cursor }
 {
@@ -95,7 +97,7 @@ fn step_dict(
             },
         },
         CursorState::Live if pairs.len() as u64 == size => {
-            walk_dict(following_pair(pairs, last), container, size, expected, last)
+            walk_dict(first_after(pairs, last), container, size, expected, last)
         }
         CursorState::Live | CursorState::Reported => Advanced {
             reply: Reply::Raised(Raise::Size),
@@ -155,26 +157,6 @@ fn walk_dict(
     }
 }
 
-/// The pair with the least serial after the last one given.
-fn following_pair(pairs: &[DictPair], last: Option<u64>) -> Option<DictPair>
-    ensures { result ≡ next_pair pairs.now last }
-{
-    pairs
-        .iter()
-        .copied()
-        .find(|pair| is_after(last, pair.serial))
-}
-
-/// Whether the serial is after the last one given.
-fn is_after(last: Option<u64>, serial: u64) -> bool
-    ensures { result ≡ is_after last serial }
-{
-    match last {
-        Some(last) => last < serial,
-        None => true,
-    }
-}
-
 /// One `next` of a cursor over the items of a list.
 fn step_list(items: &[Value], container: u32, index: u64, ended: bool) -> Advanced
     ensures reply { result.reply ≡ (list_next items.now container index ended).reply }
@@ -208,6 +190,7 @@ fn step_set(
     size: u64,
     last: Option<u64>,
 ) -> Advanced
+    requires rising { AllPairs (λ a b. a.serial < b.serial) elements.now }
     ensures reply { result.reply ≡ (set_next elements.now container walk size last).reply }
     ensures cursor { result.cursor ≡ (set_next elements.now container walk size last).cursor }
 {
@@ -222,7 +205,7 @@ fn step_set(
             },
         },
         CursorState::Live if elements.len() as u64 == size => {
-            walk_set(following_element(elements, last), container, size, last)
+            walk_set(first_after(elements, last), container, size, last)
         }
         CursorState::Live | CursorState::Reported => Advanced {
             reply: Reply::Raised(Raise::Size),
@@ -261,14 +244,4 @@ fn walk_set(element: Option<Element>, container: u32, size: u64, last: Option<u6
             },
         },
     }
-}
-
-/// The element with the least serial after the last one given.
-fn following_element(elements: &[Element], last: Option<u64>) -> Option<Element>
-    ensures { result ≡ next_element elements.now last }
-{
-    elements
-        .iter()
-        .copied()
-        .find(|element| is_after(last, element.serial))
 }

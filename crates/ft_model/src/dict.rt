@@ -8,6 +8,7 @@ ghost use Rattle.ft_model.specs.Contents.{has_pair, same_pairs, pairs_from};
 
 use crate::content::DictPair;
 use crate::data::{Key, Value};
+use crate::members::{Member, Members};
 use std::alloc::{AllocError, Global};
 use std::marker::Model;
 
@@ -17,7 +18,7 @@ use std::marker::Model;
 #[derive(Debug, Drop)]
 pub struct Dict {
     next: u64,
-    pairs: Vec<DictPair>,
+    pairs: Members<DictPair>,
 }
 
 impl Model for Dict {
@@ -25,9 +26,23 @@ impl Model for Dict {
 
     ghost Value = { DictContent };
 
-    ghost view = { λ d. record { next = d.next; pairs = d.pairs.items } };
+    ghost view = { λ d. record { next = d.next; pairs = d.pairs } };
 
-    ghost invariant = { λ d. IsDict d.next d.pairs.items };
+    ghost invariant = { λ d. IsDict d.next d.pairs };
+}
+
+impl Member for DictPair {
+    ghost key_of = { λ pair. pair.key };
+
+    ghost serial_of = { λ pair. pair.serial };
+
+    fn key(&self) -> Key {
+        self.key
+    }
+
+    fn serial(&self) -> u64 {
+        self.serial
+    }
 }
 
 impl Dict {
@@ -42,7 +57,7 @@ impl Dict {
     {
         Dict {
             next: 0,
-            pairs: Vec::new(alloc),
+            pairs: Members::new(alloc),
         }
     }
 
@@ -51,7 +66,7 @@ impl Dict {
         ensures pairs { result.now ≡ self.now.pairs }
         ensures is_dict { IsDict self.now.next self.now.pairs }
     {
-        &self.pairs
+        self.pairs.as_slice()
     }
 
     /// `d[k]`, or `None` where the key isn't there (Python manual, Mapping Types).
@@ -60,10 +75,10 @@ impl Dict {
         ensures found { IfSome result (λ value. Any (λ pair. (pair.key ≡ key) × (pair.value ≡ value)) self.now.pairs) }
         ensures missing { IfNone result (All (λ pair. pair.key ≢ key) self.now.pairs) }
     {
-        self.pairs
-            .iter()
-            .find(|pair| pair.key == key)
-            .map(|pair| pair.value)
+        match self.pairs.find(key) {
+            Some(pair) => Some(pair.value),
+            None => None,
+        }
     }
 
     /// `d.get(k, v)`: the value at the key, or the default (Python manual, Mapping Types).
@@ -77,7 +92,7 @@ impl Dict {
     pub fn has(&self, key: Key) -> bool
         ensures { result ≡ has_key self.now.pairs key }
     {
-        self.pairs.iter().any(|pair| pair.key == key)
+        self.pairs.has(key)
     }
 
     /// `len(d)` (Python manual, Mapping Types).
@@ -85,7 +100,7 @@ impl Dict {
         ensures length { result ≡ length self.now.pairs }
         ensures small { result < 2 ^ 63 }
     {
-        self.pairs.len()
+        self.pairs().len()
     }
 
     /// The serial that the next key draws.
@@ -99,16 +114,18 @@ impl Dict {
     pub fn is_empty(&self) -> bool
         ensures { result ≡ (length self.now.pairs == 0) }
     {
-        self.pairs.is_empty()
+        self.pairs().is_empty()
     }
 
     /// `d == e`: the same keys with equal values, in any order (Python manual, Mapping Types). It
-    /// looks each pair of one up in the other, so its time is the product of the lengths.
+    /// looks each pair of one up in the other.
     pub fn equals(&self, other: &Dict) -> bool
         ensures answer { result ≡ same_pairs self.now.pairs other.now.pairs }
         ensures reads { IsTrue result ↔ ((key : Key) → dict_get self.now.pairs key ≡ dict_get other.now.pairs key) }
     {
-        same_pairs(&self.pairs, &other.pairs)
+        let pairs = self.pairs();
+        let others = other.pairs();
+        has_pairs(other, pairs) & has_pairs(self, others)
     }
 
     /// A dict with the same pairs and the same next serial. An `Err` says that memory ran out.
@@ -117,7 +134,7 @@ impl Dict {
     {
         Ok(Dict {
             next: self.next,
-            pairs: Vec::from_slice(alloc, &self.pairs)?,
+            pairs: Members::from_vec(alloc, Vec::from_slice(alloc, self.pairs())?)?,
         })
     }
 
@@ -134,8 +151,11 @@ impl Dict {
         ensures keeps_places { OnOk result (IsTrue (has_key self.old.pairs key) → KeepsPlaces self.old self.new) }
         ensures goes_last { OnOk result (has_key self.old.pairs key ≡ false → GoesLast self.old self.new key value) }
     {
-        match place_of(&self.pairs, key) {
-            Some(place) => self.pairs[place].value = value,
+        match self.pairs.place_of(key) {
+            Some(place) => {
+                let pair = self.pairs.at(place);
+                self.pairs.put(place, DictPair { value, ..pair });
+            }
             None => {
                 self.pairs.push(DictPair {
                     serial: self.next,
@@ -183,7 +203,7 @@ impl Dict {
     fn take_out(&mut self, key: Key)
         ensures { self.new ≡ dict_del self.old key }
     {
-        self.pairs.retain(|pair| pair.key != key);
+        self.pairs.take_out(key);
     }
 
     /// `d.popitem()`, or `None` where there is no pair: takes the last pair out (Python manual,
@@ -193,7 +213,10 @@ impl Dict {
         ensures dict { self.new ≡ without_last self.old }
         ensures missing { IfNone result (self.new ≡ self.old) }
     {
-        self.pairs.pop()
+        let pair = *self.pairs().last()?;
+        let last = self.len() - 1;
+        self.pairs.remove(last);
+        Some(pair)
     }
 
     /// `d.setdefault(k, v)`: the value at the key; where the key isn't there, the default is stored
@@ -215,8 +238,7 @@ impl Dict {
     }
 
     /// `d.update(e)`: sets each pair of the other dict, in its order (Python manual, Mapping
-    /// Types). It looks each up, so its time is the product of the lengths. An `Err` changes
-    /// nothing.
+    /// Types). An `Err` changes nothing.
     pub fn update(&mut self, alloc: Global, other: &Dict) -> Result<(), AllocError>
         requires { self.old.next + length other.now.pairs < 2 ^ 63 }
         ensures ok { OnOk result (self.new ≡ dict_update self.old other.now.pairs) }
@@ -243,6 +265,7 @@ impl Dict {
         ensures fresh { OnOk result (All (λ pair. self.old.next ≤ pair.serial) self.new.pairs) }
     {
         let pairs = with_serials(alloc, self.next, other.pairs())?;
+        let pairs = Members::from_vec(alloc, pairs)?;
         self.next += other.len() as u64;
         self.pairs = pairs;
         Ok(())
@@ -256,25 +279,21 @@ impl Dict {
     }
 }
 
-/// Whether they are the same keys with equal values, in any order.
-fn same_pairs(pairs: &[DictPair], others: &[DictPair]) -> bool
-    ensures { result ≡ same_pairs pairs.now others.now }
+/// Whether each of the pairs stands, with an equal value, in the dict.
+fn has_pairs(dict: &Dict, pairs: &[DictPair]) -> bool
+    ensures { result ≡ list_all (has_pair dict.now.pairs) pairs.now }
 {
-    has_pairs(others, pairs) && has_pairs(pairs, others)
+    pairs.iter().all(|wanted| holds(dict, wanted))
 }
 
-/// Whether each of the pairs stands, with an equal value, in the others.
-fn has_pairs(others: &[DictPair], pairs: &[DictPair]) -> bool
-    ensures { result ≡ list_all (has_pair others.now) pairs.now }
+/// Whether the pair stands, with an equal value, in the dict.
+fn holds(dict: &Dict, wanted: &DictPair) -> bool
+    ensures { result ≡ has_pair dict.now.pairs wanted.now }
 {
-    pairs.iter().all(|wanted| holds(others, wanted))
-}
-
-/// Whether the pair stands, with an equal value, in the pairs.
-fn holds(pairs: &[DictPair], wanted: &DictPair) -> bool
-    ensures { result ≡ has_pair pairs.now wanted.now }
-{
-    pairs.iter().any(|pair| pair.key == wanted.key && pair.value == wanted.value)
+    match dict.pairs.find(wanted.key) {
+        Some(pair) => pair.value == wanted.value,
+        None => false,
+    }
 }
 
 /// The pairs with new serials, one after the other from this one on.
@@ -292,11 +311,4 @@ fn with_serials(alloc: Global, next: u64, pairs: &[DictPair]) -> Result<Vec<Dict
         })?;
     }
     Ok(copy)
-}
-
-/// The place of the key's pair.
-fn place_of(pairs: &[DictPair], key: Key) -> Option<usize>
-    ensures { result ≡ position (λ pair. same_key pair.key key) pairs.now }
-{
-    pairs.iter().position(|pair| pair.key == key)
 }

@@ -1,12 +1,13 @@
 //! A set of one thread. It keeps that elements are distinct and that serials rise, in the order of
 //! adding, below the next one.
-ghost use Rattle.std.specs.Prelude.{◌≡◌, ◌≢◌, ◌↔◌, ◌&&◌, ◌||◌, not, IsTrue, ℕ, ◌+◌, ◌^◌, ◌<◌, ◌==◌, false, length, slice_get, option_map, IfOk, OnOk, OnErr, IfNone};
+ghost use Rattle.std.specs.Prelude.{◌≡◌, ◌↔◌, ◌++◌, ◌&&◌, ◌||◌, not, IsTrue, ℕ, ◌+◌, ◌^◌, ◌<◌, ◌==◌, false, length, slice_get, option_map, IfOk, OnOk, OnErr, IfNone};
 ghost use Rattle.std.specs.List.{list_any};
-ghost use Rattle.ft_model.specs.Contents.{has_element, elements_from, those_not_in, is_subset, same_elements, is_disjoint};
+ghost use Rattle.ft_model.specs.Contents.{has_element, elements_from, those_in, those_not_in, is_subset, same_elements, is_disjoint};
 
 use crate::content::Element;
 use crate::data::Key;
 use crate::indexed::Indexed;
+use crate::members::{Member, Members};
 use std::alloc::{AllocError, Global};
 use std::marker::Model;
 
@@ -15,7 +16,7 @@ use std::marker::Model;
 #[derive(Debug, Drop)]
 pub struct Set {
     next: u64,
-    elements: Vec<Element>,
+    elements: Members<Element>,
 }
 
 impl Model for Set {
@@ -23,9 +24,23 @@ impl Model for Set {
 
     ghost Value = { SetContent };
 
-    ghost view = { λ s. record { next = s.next; elements = s.elements.items } };
+    ghost view = { λ s. record { next = s.next; elements = s.elements } };
 
-    ghost invariant = { λ s. IsSet s.next s.elements.items };
+    ghost invariant = { λ s. IsSet s.next s.elements };
+}
+
+impl Member for Element {
+    ghost key_of = { λ element. element.key };
+
+    ghost serial_of = { λ element. element.serial };
+
+    fn key(&self) -> Key {
+        self.key
+    }
+
+    fn serial(&self) -> u64 {
+        self.serial
+    }
 }
 
 impl Set {
@@ -40,7 +55,7 @@ impl Set {
     {
         Set {
             next: 0,
-            elements: Vec::new(alloc),
+            elements: Members::new(alloc),
         }
     }
 
@@ -49,7 +64,7 @@ impl Set {
         ensures elements { result.now ≡ self.now.elements }
         ensures is_set { IsSet self.now.next self.now.elements }
     {
-        &self.elements
+        self.elements.as_slice()
     }
 
     /// `len(s)` (Python manual, Set Types).
@@ -57,7 +72,7 @@ impl Set {
         ensures length { result ≡ length self.now.elements }
         ensures small { result < 2 ^ 63 }
     {
-        self.elements.len()
+        self.elements().len()
     }
 
     /// The serial that the next element draws.
@@ -71,14 +86,14 @@ impl Set {
     pub fn is_empty(&self) -> bool
         ensures { result ≡ (length self.now.elements == 0) }
     {
-        self.elements.is_empty()
+        self.elements().is_empty()
     }
 
     /// `k in s` (Python manual, Set Types).
     pub fn has(&self, key: Key) -> bool
         ensures { result ≡ has_element self.now.elements key }
     {
-        self.elements.iter().any(|element| element.key == key)
+        self.elements.has(key)
     }
 
     /// `s <= t` (Python manual, Set Types). As every call on two sets, it looks the elements up in a
@@ -89,7 +104,7 @@ impl Set {
         ensures members { IfOk result (λ is. IsTrue is ↔ ((key : Key) →
             IsTrue (has_element self.now.elements key) → IsTrue (has_element other.now.elements key))) }
     {
-        are_among(alloc, &other.elements, &self.elements)
+        are_among(alloc, other.elements(), self.elements())
     }
 
     /// `s == t`: the same elements, in any order (Python manual, Set Types). An `Err` says that
@@ -99,7 +114,7 @@ impl Set {
         ensures members { IfOk result (λ same. IsTrue same ↔ ((key : Key) →
             has_element self.now.elements key ≡ has_element other.now.elements key)) }
     {
-        same_elements(alloc, &self.elements, &other.elements)
+        same_elements(alloc, self.elements(), other.elements())
     }
 
     /// `s.isdisjoint(t)` (Python manual, Set Types). An `Err` says that memory ran out.
@@ -108,7 +123,7 @@ impl Set {
         ensures members { IfOk result (λ is. IsTrue is ↔ ((key : Key) →
             IsTrue (has_element self.now.elements key) → has_element other.now.elements key ≡ false)) }
     {
-        are_disjoint(alloc, &self.elements, &other.elements)
+        are_disjoint(alloc, self.elements(), other.elements())
     }
 
     /// A set with the same elements and the same next serial. An `Err` says that memory ran out.
@@ -117,7 +132,7 @@ impl Set {
     {
         Ok(Set {
             next: self.next,
-            elements: Vec::from_slice(alloc, &self.elements)?,
+            elements: Members::from_vec(alloc, Vec::from_slice(alloc, self.elements())?)?,
         })
     }
 
@@ -131,7 +146,7 @@ impl Set {
         ensures members { OnOk result ((other : Key) → has_element self.new.elements other ≡
             (has_element self.old.elements other || same_key key other)) }
     {
-        if !self.has(key) {
+        if !self.elements.has(key) {
             self.elements.push(Element {
                 serial: self.next,
                 key,
@@ -159,7 +174,7 @@ impl Set {
     fn take_out(&mut self, key: Key)
         ensures { self.new ≡ set_discard self.old key }
     {
-        self.elements.retain(|element| element.key != key);
+        self.elements.take_out(key);
     }
 
     /// `s.pop()`, or `None` where there is no element (Python manual, Set Types): takes the first
@@ -169,7 +184,7 @@ impl Set {
         ensures set { self.new ≡ without_first self.old }
         ensures missing { IfNone result (self.new ≡ self.old) }
     {
-        let key = self.elements.first()?.key;
+        let key = self.elements().first()?.key;
         self.elements.remove(0);
         Some(key)
     }
@@ -184,9 +199,11 @@ impl Set {
         ensures members { OnOk result ((key : Key) → has_element self.new.elements key ≡
             (has_element self.old.elements key || has_element other.now.elements key)) }
     {
-        let added = added(alloc, self.next, &self.elements, other.elements())?;
-        self.elements.extend_from_slice(&added)?;
+        let added = added(alloc, self.next, self.elements(), other.elements())?;
+        let joined = joined(alloc, self.elements(), &added)?;
+        let elements = Members::from_vec(alloc, joined)?;
         self.next += added.len() as u64;
+        self.elements = elements;
         Ok(())
     }
 
@@ -198,8 +215,9 @@ impl Set {
         ensures members { OnOk result ((key : Key) → has_element self.new.elements key ≡
             (has_element self.old.elements key && has_element other.now.elements key)) }
     {
-        let others = Indexed::new(alloc, &other.elements)?;
-        self.keep_common(&others);
+        let common = common(alloc, self.elements(), other.elements())?;
+        let elements = Members::from_vec(alloc, common)?;
+        self.elements = elements;
         Ok(())
     }
 
@@ -211,27 +229,10 @@ impl Set {
         ensures members { OnOk result ((key : Key) → has_element self.new.elements key ≡
             (has_element self.old.elements key && not (has_element other.now.elements key))) }
     {
-        let others = Indexed::new(alloc, &other.elements)?;
-        self.remove_common(&others);
+        let kept = kept(alloc, self.elements(), other.elements())?;
+        let elements = Members::from_vec(alloc, kept)?;
+        self.elements = elements;
         Ok(())
-    }
-
-    /// Keeps the elements that are among the others.
-    fn keep_common(&mut self, others: &Indexed)
-        ensures set { self.new ≡ set_and self.old others.now }
-        ensures members { (key : Key) → has_element self.new.elements key ≡
-            (has_element self.old.elements key && has_element others.now key) }
-    {
-        self.elements.retain(|element| others.has(element.key));
-    }
-
-    /// Takes out the elements that are among the others.
-    fn remove_common(&mut self, others: &Indexed)
-        ensures set { self.new ≡ set_sub self.old others.now }
-        ensures members { (key : Key) → has_element self.new.elements key ≡
-            (has_element self.old.elements key && not (has_element others.now key)) }
-    {
-        self.elements.retain(|element| !others.has(element.key));
     }
 
     /// `s ^= t`: the elements that were in both go, and the other's that weren't there (Python
@@ -246,11 +247,12 @@ impl Set {
             ((has_element self.old.elements key && not (has_element other.now.elements key))
             || (has_element other.now.elements key && not (has_element self.old.elements key)))) }
     {
-        let added = added(alloc, self.next, &self.elements, other.elements())?;
-        let mut elements = kept(alloc, &self.elements, other.elements())?;
-        elements.extend_from_slice(&added)?;
-        self.elements = elements;
+        let added = added(alloc, self.next, self.elements(), other.elements())?;
+        let kept = kept(alloc, self.elements(), other.elements())?;
+        let joined = joined(alloc, &kept, &added)?;
+        let elements = Members::from_vec(alloc, joined)?;
         self.next += added.len() as u64;
+        self.elements = elements;
         Ok(())
     }
 
@@ -330,5 +332,34 @@ fn kept(alloc: Global, elements: &[Element], others: &[Element]) -> Result<Vec<E
         .iter()
         .copied()
         .filter(|element| !others.has(element.key))
+        .collect(alloc)
+}
+
+/// The elements and after them those that are added.
+fn joined(
+    alloc: Global,
+    elements: &[Element],
+    added: &[Element],
+) -> Result<Vec<Element>, AllocError>
+    ensures { IfOk result (λ joined. joined.items ≡ elements.now ++ added.now) }
+{
+    let mut joined = Vec::from_slice(alloc, elements)?;
+    joined.extend_from_slice(added)?;
+    Ok(joined)
+}
+
+/// The elements that are among the others.
+fn common(
+    alloc: Global,
+    elements: &[Element],
+    others: &[Element],
+) -> Result<Vec<Element>, AllocError>
+    ensures { IfOk result (λ common. common.items ≡ those_in others.now elements.now) }
+{
+    let others = Indexed::new(alloc, others)?;
+    elements
+        .iter()
+        .copied()
+        .filter(|element| others.has(element.key))
         .collect(alloc)
 }

@@ -1,5 +1,11 @@
+use Rattle.std.proofs.Common.{◌+◌, length}
+use Rattle.ft_model.specs.Contents.{pairs_from}
 use Rattle.ft_model.proofs.Copies.{IsDict_copy}
+use Rattle.ft_model.proofs.PlacedPairs.{are_pairs}
 use Rattle.ft_model.proofs.dict.Dict.copy_from.Goals as goal
 
+pub from_vec-requires : goal.from_vec-requires
+from_vec-requires c = rw (c.in_ok-pairs.ensures, c.pairs.ensures.pairs) (are_pairs (c.self.inside.next + length c.args.other.now.pairs) (pairs_from c.self.inside.next c.args.other.now.pairs) (IsDict_copy c.self.inside.next c.args.other.now.next c.args.other.now.pairs c.pairs.ensures.is_dict))
+
 pub invariant_of-self : goal.invariant_of-self
-invariant_of-self c = rw (c.in_ok-pairs.ensures, c.pairs.ensures.pairs, c.len.ensures.length) (IsDict_copy c.self.inside.next c.args.other.now.next c.args.other.now.pairs c.pairs.ensures.is_dict)
+invariant_of-self c = rw (c.in_ok-pairs-2.ensures, c.in_ok-pairs.ensures, c.pairs.ensures.pairs, c.len.ensures.length) (IsDict_copy c.self.inside.next c.args.other.now.next c.args.other.now.pairs c.pairs.ensures.is_dict)

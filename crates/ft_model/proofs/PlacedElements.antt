@@ -1,5 +1,5 @@
 -- That elements of a set are members with a key and a serial, and stay a set where one is taken out.
-use Rattle.std.proofs.Common.{◌≡◌, ◌≢◌, ℕ, ◌<◌, List, length}
+use Rattle.std.proofs.Common.{◌≢◌, ℕ, ◌<◌, List, length}
 use Rattle.std.specs.List.{remove}
 use Rattle.std.proofs.lemmas.List.Quantifiers.{all_pairs_remove}
 use Rattle.ft_model.specs.declared.content.Element.{Element}

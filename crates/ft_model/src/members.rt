@@ -1,6 +1,6 @@
 //! The pairs of a dict or the elements of a set, in the order in which they were added, with a
 //! search by key and by serial.
-ghost use Rattle.std.specs.Prelude.{◌≡◌, ◌<◌, ◌≤◌, [], ◌∷◌, ◌++◌, false, not, length, position, filter, slice_index_or, slice_set, All, AllPairs, IfOk, OnOk, OnErr};
+ghost use Rattle.std.specs.Prelude.{◌≡◌, ◌<◌, ◌≤◌, [], ◌∷◌, ◌++◌, false, not, length, position, filter, slice_index_or, slice_set, slice_get, All, AllPairs, IfOk, OnOk, OnErr};
 ghost use Rattle.std.specs.List.{remove, list_any, find};
 ghost use Rattle.std.specs.List.Sorted.{IsPartitionPoint};
 ghost use Rattle.std.specs.HashMap.{get_by};

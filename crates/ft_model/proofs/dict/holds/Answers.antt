@@ -1,4 +1,4 @@
-use Rattle.std.proofs.Common.{rules, ◌≡◌, ap, ◌∙◌}
+use Rattle.std.proofs.Common.{◌≡◌, ap, ◌∙◌}
 use Rattle.ft_model.specs.Keys.{is_value}
 use Rattle.ft_model.specs.Contents.{DictContent, has_pair}
 use Rattle.ft_model.proofs.PlacedPairs.{same_values, has_pair-found, has_pair-missing}

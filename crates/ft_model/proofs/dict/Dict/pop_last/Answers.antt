@@ -1,4 +1,4 @@
-use Rattle.std.proofs.Common.{rules, ◌≡◌, ◌<◌, ◌-◌, length, arith}
+use Rattle.std.proofs.Common.{rules, ◌<◌, ◌-◌, length}
 use Rattle.ft_model.proofs.PlacedPairs.{IsDict-remove}
 use Rattle.ft_model.proofs.dict.Dict.pop_last.Goals as goal
 

@@ -1,4 +1,4 @@
-use Rattle.std.proofs.Common.{◌≡◌, ap, ◌∙◌, slice_set, List}
+use Rattle.std.proofs.Common.{ap, ◌∙◌, slice_set}
 use Rattle.std.proofs.lemmas.List.{drop-set-add}
 use Rattle.ft_model.proofs.line.Line.put.Goals as goal
 

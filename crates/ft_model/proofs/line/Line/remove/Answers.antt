@@ -1,6 +1,5 @@
-use Rattle.std.proofs.Common.{◌≡◌, ◌+◌, ◌<◌, ap, ◌∙◌, drop, length, arith}
+use Rattle.std.proofs.Common.{◌+◌, ◌<◌, ap, ◌∙◌, drop, length, arith}
 use Rattle.std.specs.List.{remove}
-use Rattle.std.proofs.lemmas.List.{length-drop}
 use Rattle.ft_model.proofs.LineLemmas.{drop-remove, drop-copy_within}
 use Rattle.ft_model.proofs.line.Line.remove.Goals as goal
 

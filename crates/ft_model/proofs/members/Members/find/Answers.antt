@@ -1,4 +1,4 @@
-use Rattle.std.proofs.Common.{◌≡◌, sym, ap, ◌∙◌, Some}
+use Rattle.std.proofs.Common.{sym, ap, ◌∙◌, Some}
 use Rattle.ft_model.proofs.MemberLemmas.{find-placed, find-none}
 use Rattle.ft_model.proofs.members.Members.find.Goals as goal
 

@@ -1,4 +1,4 @@
-use Rattle.std.proofs.Common.{◌≡◌, refl, ap, ◌∙◌, is_some}
+use Rattle.std.proofs.Common.{ap, ◌∙◌, is_some}
 use Rattle.std.specs.List.{list_any}
 use Rattle.ft_model.specs.Members.{is_member}
 use Rattle.ft_model.specs.contracts.data.KeyPartialEq.TheImpl.{ghosts}

@@ -1,4 +1,4 @@
-use Rattle.std.proofs.Common.{rules, ◌≡◌, ◌<◌, ◌≤◌, refl, sym, ap, subst, ◌∙◌, Some, None, position}
+use Rattle.std.proofs.Common.{rules, ◌≡◌, ◌<◌, ◌≤◌, sym, ap, subst, ◌∙◌, Some, None, position}
 use Rattle.std.specs.List.Sorted.{IsPartitionPoint}
 use Rattle.ft_model.specs.Members.{is_member, serial_at}
 use Rattle.ft_model.specs.contracts.data.KeyPartialEq.TheImpl.{ghosts}

@@ -1,7 +1,7 @@
-use Rattle.std.proofs.Common.{◌≡◌, ◌<◌, refl, sym, ap, subst, ◌∙◌, false}
+use Rattle.std.proofs.Common.{◌≡◌, ◌<◌, sym, ap, subst, ◌∙◌, false}
 use Rattle.std.specs.Prelude.{All}
 use Rattle.std.specs.List.{list_any}
-use Rattle.ft_model.specs.Members.{is_member, serial_at, AreMembers}
+use Rattle.ft_model.specs.Members.{is_member, serial_at}
 use Rattle.ft_model.specs.contracts.data.KeyPartialEq.TheImpl.{ghosts}
 use Rattle.ft_model.proofs.MemberLemmas.{same_keys, AreMembers-push, table-push, table-undone}
 use Rattle.ft_model.proofs.members.Members.push.Goals as goal

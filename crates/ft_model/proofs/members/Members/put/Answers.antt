@@ -1,6 +1,5 @@
 use Rattle.std.proofs.Common.{◌≡◌, ◌<◌, length, get_or, sym, ap, subst, ◌∙◌}
 use Rattle.ft_model.specs.Members.{serial_at}
-use Rattle.ft_model.specs.Keys.{same_key}
 use Rattle.ft_model.proofs.MemberLemmas.{AreMembers-set, serial_at-set}
 use Rattle.ft_model.proofs.members.Members.put.Goals as goal
 

@@ -1,4 +1,4 @@
-use Rattle.std.proofs.Common.{rules, ◌≡◌, ◌<◌, length, get_or, refl, sym, ap, subst, ◌∙◌}
+use Rattle.std.proofs.Common.{rules, ◌≡◌, ◌<◌, length, get_or, sym, ap, subst, ◌∙◌}
 use Rattle.ft_model.specs.Members.{serial_at}
 use Rattle.ft_model.specs.contracts.data.KeyPartialEq.TheImpl.{ghosts}
 use Rattle.ft_model.proofs.MemberLemmas.{same_keys, AreMembers-remove, table-remove}

@@ -1,4 +1,4 @@
-use Rattle.std.proofs.Common.{◌≡◌, sym, ◌∙◌}
+use Rattle.std.proofs.Common.{sym, ◌∙◌}
 use Rattle.ft_model.proofs.MemberLemmas.{filter-placed, filter-none}
 use Rattle.ft_model.proofs.members.Members.take_out.Goals as goal
 

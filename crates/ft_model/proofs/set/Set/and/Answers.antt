@@ -1,4 +1,4 @@
-use Rattle.std.proofs.Common.{not, ap, subst, ◌∙◌}
+use Rattle.std.proofs.Common.{ap, subst, ◌∙◌}
 use Rattle.ft_model.specs.declared.content.Element.{Element}
 use Rattle.ft_model.specs.Contents.{SetContent, IsSet, has_element, those_in}
 use Rattle.ft_model.proofs.Sets.{IsSet-filter}

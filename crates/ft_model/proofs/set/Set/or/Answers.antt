@@ -1,5 +1,5 @@
 use Rattle.std.proofs.Common.{arith, ap, subst, ◌≡◌, ◌+◌, ◌++◌, length}
-use Rattle.ft_model.specs.Contents.{SetContent, IsSet, elements_from, those_not_in, set_or}
+use Rattle.ft_model.specs.Contents.{SetContent, IsSet, elements_from, those_not_in}
 use Rattle.ft_model.proofs.Copies.{length-elements_from}
 use Rattle.ft_model.proofs.Sets.{IsSet-or}
 use Rattle.ft_model.proofs.PlacedElements.{are_elements}

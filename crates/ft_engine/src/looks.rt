@@ -68,7 +68,7 @@ pub(crate) fn look_call(bank: &Bank, pass: &mut Pass, alloc: Global, call: &Call
 
 impl Caller {
     /// Whether no call is in flight.
-    fn is_idle(&self) -> bool
+    pub fn is_idle(&self) -> bool
         ensures { IsTrue result ↔ IsIdle self.now }
     {
         match &self.flight {

@@ -85,11 +85,8 @@ fn go_on(progress: &mut ThreadProgress, place: u64, entry: &Entry) -> Result<(),
         Call::Dict { .. }
         | Call::List { .. }
         | Call::Set { .. }
-        | Call::Deque { .. }
         | Call::Next { .. }
-        | Call::Quiesce
-        | Call::Await { .. }
-        | Call::Dump => {}
+        | Call::Quiesce => {}
     }
     Ok(())
 }

@@ -14,9 +14,11 @@ pub mod Indexes
 pub mod ValueLists
 pub mod ListMidst
 pub mod Scanning
+pub mod Equal
 pub mod Turned
 pub mod EmptyWrites
 pub mod Both
+pub mod Windowed
 pub mod Filling
 pub mod Wanted
 pub mod GrownLists

@@ -2,7 +2,7 @@
 //! changes one, which locks it takes, what it does to tables.
 ghost use Rattle.std.specs.Prelude.{◌≡◌, length};
 
-use crate::call::{Call, Containers, DequeCall, DictCall, ListCall, SetCall, TableChange};
+use crate::call::{Call, Containers, DictCall, ListCall, SetCall, TableChange};
 
 impl Containers {
     ghost use Rattle.ft_model.specs.Calls.{one_or_two, container_list};
@@ -40,18 +40,11 @@ impl Call {
             Call::Dict { call, .. } => call.is_changing(),
             Call::List { call, .. } => call.is_changing(),
             Call::Set { call, .. } => call.is_changing(),
-            Call::Deque { call, .. } => call.is_changing(),
-            Call::Next { .. }
-            | Call::Begin { .. }
-            | Call::End
-            | Call::Quiesce
-            | Call::Await { .. }
-            | Call::Dump => false,
+            Call::Next { .. } | Call::Begin { .. } | Call::End | Call::Quiesce => false,
         }
     }
 
-    /// The containers that the call names. A `next` names a cursor and no container, and a dump
-    /// names none.
+    /// The containers that the call names. A `next` names a cursor and no container.
     pub fn containers(&self) -> Containers
         ensures { container_list result ≡ containers_of self.now }
     {
@@ -59,11 +52,8 @@ impl Call {
             Call::Dict { container, call } => Containers::of(container, call.other()),
             Call::List { container, call } => Containers::of(container, call.other()),
             Call::Set { container, call } => Containers::of(container, call.other()),
-            Call::Deque { container, call } => Containers::of(container, call.other()),
             Call::Begin { first, second } => Containers::of(first, second),
-            Call::Next { .. } | Call::End | Call::Quiesce | Call::Await { .. } | Call::Dump => {
-                Containers::None
-            }
+            Call::Next { .. } | Call::End | Call::Quiesce => Containers::None,
         }
     }
 
@@ -76,10 +66,9 @@ impl Call {
             Call::Dict { call, .. } => call.is_locked(),
             Call::List { call, .. } => call.is_locked(),
             Call::Set { call, .. } => call.is_locked(),
-            Call::Deque { call, .. } => call.is_locked(),
             Call::Begin { .. } => true,
             Call::Next { .. } => return 1,
-            Call::End | Call::Quiesce | Call::Await { .. } | Call::Dump => return 0,
+            Call::End | Call::Quiesce => return 0,
         };
         if locked { self.containers().count() } else { 0 }
     }
@@ -93,13 +82,7 @@ impl Call {
             Call::Dict { call, .. } => call.table_change().adds(),
             Call::List { call, .. } => call.table_change().adds(),
             Call::Set { call, .. } => call.table_change().adds(),
-            Call::Deque { call, .. } => call.table_change().adds(),
-            Call::Next { .. }
-            | Call::Begin { .. }
-            | Call::End
-            | Call::Quiesce
-            | Call::Await { .. }
-            | Call::Dump => false,
+            Call::Next { .. } | Call::Begin { .. } | Call::End | Call::Quiesce => false,
         }
     }
 }
@@ -141,13 +124,7 @@ impl DictCall {
             | DictCall::Len
             | DictCall::Items
             | DictCall::Eq { .. }
-            | DictCall::Iter { .. }
-            | DictCall::KeysAnd { .. }
-            | DictCall::KeysSub { .. }
-            | DictCall::KeysOr { .. }
-            | DictCall::KeysXor { .. }
-            | DictCall::ItemsHas { .. }
-            | DictCall::Reversed { .. } => false,
+            | DictCall::Iter { .. } => false,
         }
     }
 
@@ -156,13 +133,9 @@ impl DictCall {
         ensures { result ≡ other_dict self.now }
     {
         match *self {
-            DictCall::Update { other }
-            | DictCall::CopyTo { other }
-            | DictCall::Eq { other }
-            | DictCall::KeysAnd { other }
-            | DictCall::KeysSub { other }
-            | DictCall::KeysOr { other }
-            | DictCall::KeysXor { other } => Some(other),
+            DictCall::Update { other } | DictCall::CopyTo { other } | DictCall::Eq { other } => {
+                Some(other)
+            }
             DictCall::Get { .. }
             | DictCall::GetOr { .. }
             | DictCall::Set { .. }
@@ -175,9 +148,7 @@ impl DictCall {
             | DictCall::Len
             | DictCall::Items
             | DictCall::Clear
-            | DictCall::Iter { .. }
-            | DictCall::ItemsHas { .. }
-            | DictCall::Reversed { .. } => None,
+            | DictCall::Iter { .. } => None,
         }
     }
 
@@ -186,7 +157,7 @@ impl DictCall {
         ensures { result ≡ cursor_of_dict self.now }
     {
         match *self {
-            DictCall::Iter { cursor } | DictCall::Reversed { cursor } => Some(cursor),
+            DictCall::Iter { cursor } => Some(cursor),
             DictCall::Get { .. }
             | DictCall::GetOr { .. }
             | DictCall::Set { .. }
@@ -201,12 +172,7 @@ impl DictCall {
             | DictCall::Update { .. }
             | DictCall::Clear
             | DictCall::CopyTo { .. }
-            | DictCall::Eq { .. }
-            | DictCall::KeysAnd { .. }
-            | DictCall::KeysSub { .. }
-            | DictCall::KeysOr { .. }
-            | DictCall::KeysXor { .. }
-            | DictCall::ItemsHas { .. } => None,
+            | DictCall::Eq { .. } => None,
         }
     }
 
@@ -220,8 +186,7 @@ impl DictCall {
             | DictCall::Has { .. }
             | DictCall::Len
             | DictCall::Items
-            | DictCall::Eq { .. }
-            | DictCall::ItemsHas { .. } => false,
+            | DictCall::Eq { .. } => false,
             DictCall::Set { .. }
             | DictCall::Del { .. }
             | DictCall::Pop { .. }
@@ -231,16 +196,11 @@ impl DictCall {
             | DictCall::Update { .. }
             | DictCall::Clear
             | DictCall::CopyTo { .. }
-            | DictCall::Iter { .. }
-            | DictCall::KeysAnd { .. }
-            | DictCall::KeysSub { .. }
-            | DictCall::KeysOr { .. }
-            | DictCall::KeysXor { .. }
-            | DictCall::Reversed { .. } => true,
+            | DictCall::Iter { .. } => true,
         }
     }
 
-    /// What the call does to tables, where the dict is not split.
+    /// What the call does to tables.
     pub fn table_change(&self) -> TableChange
         ensures { result ≡ dict_change self.now }
     {
@@ -259,13 +219,7 @@ impl DictCall {
             | DictCall::Len
             | DictCall::Items
             | DictCall::Eq { .. }
-            | DictCall::Iter { .. }
-            | DictCall::KeysAnd { .. }
-            | DictCall::KeysSub { .. }
-            | DictCall::KeysOr { .. }
-            | DictCall::KeysXor { .. }
-            | DictCall::ItemsHas { .. }
-            | DictCall::Reversed { .. } => TableChange::Stays,
+            | DictCall::Iter { .. } => TableChange::Stays,
         }
     }
 }
@@ -295,8 +249,7 @@ impl ListCall {
             | ListCall::Len
             | ListCall::Items
             | ListCall::Eq { .. }
-            | ListCall::Iter { .. }
-            | ListCall::Reversed { .. } => false,
+            | ListCall::Iter { .. } => false,
         }
     }
 
@@ -321,8 +274,7 @@ impl ListCall {
             | ListCall::Clear
             | ListCall::Len
             | ListCall::Items
-            | ListCall::Iter { .. }
-            | ListCall::Reversed { .. } => None,
+            | ListCall::Iter { .. } => None,
         }
     }
 
@@ -331,7 +283,7 @@ impl ListCall {
         ensures { result ≡ cursor_of_list self.now }
     {
         match *self {
-            ListCall::Iter { cursor } | ListCall::Reversed { cursor } => Some(cursor),
+            ListCall::Iter { cursor } => Some(cursor),
             ListCall::Append { .. }
             | ListCall::Insert { .. }
             | ListCall::Get { .. }
@@ -374,8 +326,7 @@ impl ListCall {
             | ListCall::Extend { .. }
             | ListCall::Slice { .. }
             | ListCall::Clear
-            | ListCall::Iter { .. }
-            | ListCall::Reversed { .. } => true,
+            | ListCall::Iter { .. } => true,
         }
     }
 
@@ -400,8 +351,7 @@ impl ListCall {
             | ListCall::Len
             | ListCall::Items
             | ListCall::Eq { .. }
-            | ListCall::Iter { .. }
-            | ListCall::Reversed { .. } => TableChange::Stays,
+            | ListCall::Iter { .. } => TableChange::Stays,
         }
     }
 }
@@ -521,112 +471,6 @@ impl SetCall {
             | SetCall::Subset { .. }
             | SetCall::Disjoint { .. }
             | SetCall::Iter { .. } => TableChange::Stays,
-        }
-    }
-}
-
-impl DequeCall {
-    ghost use Rattle.ft_model.specs.Calls.{is_changing_deque, other_deque, cursor_of_deque, is_locked_deque, deque_change};
-
-    /// Whether the call is of a kind that changes a deque.
-    pub fn is_changing(&self) -> bool
-        ensures { result ≡ is_changing_deque self.now }
-    {
-        match self {
-            DequeCall::Append { .. }
-            | DequeCall::AppendLeft { .. }
-            | DequeCall::Pop
-            | DequeCall::PopLeft
-            | DequeCall::Extend { .. }
-            | DequeCall::ExtendLeft { .. }
-            | DequeCall::Rotate { .. }
-            | DequeCall::Clear => true,
-            DequeCall::Get { .. }
-            | DequeCall::Len
-            | DequeCall::Items
-            | DequeCall::Has { .. }
-            | DequeCall::Iter { .. } => false,
-        }
-    }
-
-    /// The other deque that the call names.
-    pub fn other(&self) -> Option<u32>
-        ensures { result ≡ other_deque self.now }
-    {
-        match *self {
-            DequeCall::Extend { other } | DequeCall::ExtendLeft { other } => Some(other),
-            DequeCall::Append { .. }
-            | DequeCall::AppendLeft { .. }
-            | DequeCall::Pop
-            | DequeCall::PopLeft
-            | DequeCall::Rotate { .. }
-            | DequeCall::Clear
-            | DequeCall::Get { .. }
-            | DequeCall::Len
-            | DequeCall::Items
-            | DequeCall::Has { .. }
-            | DequeCall::Iter { .. } => None,
-        }
-    }
-
-    /// The cursor that the call makes.
-    pub fn cursor(&self) -> Option<u32>
-        ensures { result ≡ cursor_of_deque self.now }
-    {
-        match *self {
-            DequeCall::Iter { cursor } => Some(cursor),
-            DequeCall::Append { .. }
-            | DequeCall::AppendLeft { .. }
-            | DequeCall::Pop
-            | DequeCall::PopLeft
-            | DequeCall::Extend { .. }
-            | DequeCall::ExtendLeft { .. }
-            | DequeCall::Rotate { .. }
-            | DequeCall::Clear
-            | DequeCall::Get { .. }
-            | DequeCall::Len
-            | DequeCall::Items
-            | DequeCall::Has { .. } => None,
-        }
-    }
-
-    /// Whether the call takes the locks of what it names from the start.
-    pub fn is_locked(&self) -> bool
-        ensures { result ≡ is_locked_deque self.now }
-    {
-        match self {
-            DequeCall::Get { .. } | DequeCall::Len | DequeCall::Items => false,
-            DequeCall::Append { .. }
-            | DequeCall::AppendLeft { .. }
-            | DequeCall::Pop
-            | DequeCall::PopLeft
-            | DequeCall::Extend { .. }
-            | DequeCall::ExtendLeft { .. }
-            | DequeCall::Rotate { .. }
-            | DequeCall::Clear
-            | DequeCall::Has { .. }
-            | DequeCall::Iter { .. } => true,
-        }
-    }
-
-    /// What the call does to tables.
-    pub fn table_change(&self) -> TableChange
-        ensures { result ≡ deque_change self.now }
-    {
-        match *self {
-            DequeCall::Append { .. }
-            | DequeCall::AppendLeft { .. }
-            | DequeCall::Extend { .. }
-            | DequeCall::ExtendLeft { .. } => TableChange::Grows,
-            DequeCall::Clear => TableChange::GivesUp,
-            DequeCall::Pop
-            | DequeCall::PopLeft
-            | DequeCall::Rotate { .. }
-            | DequeCall::Get { .. }
-            | DequeCall::Len
-            | DequeCall::Items
-            | DequeCall::Has { .. }
-            | DequeCall::Iter { .. } => TableChange::Stays,
         }
     }
 }

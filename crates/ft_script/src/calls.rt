@@ -313,7 +313,6 @@ impl Draft {
                 let call = self.set_call(alloc, operation, words)?;
                 Ok(Call::Set { container, call })
             }
-            Some(Kind::Deque(_)) => Err(Fault::WrongKind.into()),
         }
     }
 
@@ -427,10 +426,7 @@ fn depth_after(depth: u32, call: &Call) -> Result<u32, Fault>
         Call::Dict { .. }
         | Call::List { .. }
         | Call::Set { .. }
-        | Call::Deque { .. }
         | Call::Next { .. }
-        | Call::Quiesce
-        | Call::Await { .. }
-        | Call::Dump => Ok(depth),
+        | Call::Quiesce => Ok(depth),
     }
 }

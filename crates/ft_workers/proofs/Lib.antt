@@ -7,4 +7,3 @@ pub mod NextCalls
 pub mod Between
 pub mod Entries
 pub mod WholeLists
-mod LandedShapes

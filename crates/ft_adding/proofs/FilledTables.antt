@@ -38,13 +38,14 @@ use Rattle.ft_bank.proofs.TableAddresses.{class_is}
 use Rattle.ft_growth.specs.Adding.{OnlyFilled}
 use Rattle.ft_growth.proofs.Rooting.{filled_same, filled_then}
 use Rattle.ft_search.specs.Rounds.{kind_by}
-use Rattle.ft_search.proofs.Changing.{kind_is}
+use Rattle.ft_search.proofs.Changing.{kind_is, no_keys}
 use Rattle.ft_search.proofs.KnownTableWords.{entry_after_header}
 use Rattle.ft_search.proofs.WordPlaces.{slots_of_class}
 use Rattle.ft_adding.specs.declared.fresh.FreshWords.{FreshWords}
 use Rattle.ft_adding.specs.Fresh.{FreshMade, fresh_words, old_words, BlankBelow, HasZeroWords, IsFilledWith}
 use Rattle.ft_adding.specs.KeyGrowth.{KnowsKeyed}
 use Rattle.ft_adding.proofs.Placed.{use_with}
+use Rattle.ft_model.specs.declared.data.Key.{Key}
 
 -- ---- calls, one after the other
 
@@ -152,8 +153,8 @@ abbrev pub KeepsVersions : Type 0
 KeepsVersions = (mask limit : ℕ) (words : List ℕ) (calls : List Access) (place : ℕ) → PutBelow mask limit calls → entry_word mask (after mask calls words) place 0 ≡ entry_word mask words place 0
 
 -- a container without a table is filled by no entry
-pub bare_filled : BlankHolds → (texts block old : List ℕ) (class fill : ℕ) (d : Content) (words : List ℕ) → IsClass class → IsKeyed (kind_of d) → StandsAs texts block old (record { class = None; fill = fill }) d → HasZeroWords class words → IsFilledWith texts class d words
-bare_filled holds texts block old class fill (content.Dict pairs) words is_class keyed is blank =
+pub bare_filled : BlankHolds → (texts block old : List ℕ) (class fill : ℕ) (keys : List Key) (d : Content) (words : List ℕ) → IsClass class → IsKeyed (kind_of d) → StandsAs texts block old (record { class = None; fill = fill; keys = keys }) d → HasZeroWords class words → IsFilledWith texts class d words
+bare_filled holds texts block old class fill keys (content.Dict pairs) words is_class keyed is blank =
     let none : length pairs.pairs ≡ 0 = sym (length-map pairs.pairs _) ∙ (ap length (sym is.entries.live) ∙ ap (λ (l : List UsedEntry). length (filter is_live l)) is.table) in
     record {
       says = λ head_block head. record {
@@ -165,7 +166,7 @@ bare_filled holds texts block old class fill (content.Dict pairs) words is_class
       };
       versions = λ place low. blank.zeros (entry_offset (slots class) place 0);
     }
-bare_filled holds texts block old class fill (content.Set elements) words is_class keyed is blank =
+bare_filled holds texts block old class fill keys (content.Set elements) words is_class keyed is blank =
     let none : length elements.elements ≡ 0 = sym (length-map elements.elements _) ∙ (ap length (sym is.entries.live) ∙ ap (λ (l : List UsedEntry). length (filter is_live l)) is.table) in
     record {
       says = λ head_block head. record {
@@ -177,7 +178,8 @@ bare_filled holds texts block old class fill (content.Set elements) words is_cla
       };
       versions = λ place low. blank.zeros (entry_offset (slots class) place 0);
     }
-bare_filled holds texts block old class fill (content.List values) words is_class keyed is blank = absurd keyed
+bare_filled holds texts block old class fill keys (content.List values) words is_class keyed is blank = absurd keyed
+bare_filled holds texts block old class fill keys (content.Deque deque) words is_class keyed is blank = absurd keyed
 
 -- and one with a table by those of its entries that are there
 module _ (holds : BlankHolds) (pairs_live : LivePairs) (elements_live : LiveElements) (keeps : KeepsVersions) (texts block old_table : List ℕ) (old_class class fill limit : ℕ) (calls : List Access) (words made : List ℕ) (is_class : IsClass class) (is_old : IsClass old_class) (blank : HasZeroWords class words)
@@ -227,28 +229,31 @@ module _ (holds : BlankHolds) (pairs_live : LivePairs) (elements_live : LiveElem
   copied (content.Dict pairs) way.Set result same is few rebuilds = absurd (cc)
   copied (content.Set elements) way.Dict result same is few rebuilds = absurd (cc)
   copied (content.List values) way.Dict result same is few rebuilds = absurd (cc)
+  copied (content.Deque deque) way.Dict result same is few rebuilds = absurd (cc)
   copied (content.List values) way.Set result same is few rebuilds = absurd (cc)
+  copied (content.Deque deque) way.Set result same is few rebuilds = absurd (cc)
 
 -- so calls that rebuild the old one fill the fresh one
 fill_room : (texts b l : List ℕ) (class fill : ℕ) (d : Content) → IsKeyed (kind_of d) → StandsAs texts b (0 ∷ 0 ∷ l) (use_with class fill) d → fill ≤ dict_room (class_mask class)
 fill_room texts b l class fill (content.Dict pairs) keyed is = let f = is.table.fill in let e = is.filled in omega (arith, f, e)
 fill_room texts b l class fill (content.Set elements) keyed is = let f = is.table.fill in let e = is.filled in let s = set_fits (class_mask class) in omega (arith, f, e, s)
 fill_room texts b l class fill (content.List values) keyed is = absurd keyed
+fill_room texts b l class fill (content.Deque deque) keyed is = absurd keyed
 
-module _ (k : Shape) (o : ℕ) (old : Table) (v : View) (keyed : KnowsKeyed k o (Some old) v) (shape : v.shape ≡ k) (possible : ∥ Possible v ∥₁) (by : Way) (kind_eq : kind_in k.kinds o ≡ kind_by by) where
+module _ (k : Shape) (o : ℕ) (old : Table) (v : View) (keyed : KnowsKeyed k o (Some old) v) (shape : v.shape ≡ k) (possible : ∥ Possible v ∥₁) (by : Way) (kind_eq : kind_in k.starts o ≡ kind_by by) where
   abbrev d : Content
   d = (known o v).content
 
   abbrev fill : ℕ
   fill = (known o v).table.fill
 
-  content_kind : kind_of d ≡ kind_in k.kinds o
+  content_kind : kind_of d ≡ kind_in k.starts o
   content_kind = kind_is k v o shape possible keyed.locked
 
   old_says : StandsAs k.texts (held o v).block (0 ∷ 0 ∷ (held o v).table) (use_with old.class fill) d
   old_says =
       let class = class_known k.texts (held o v) (known o v) (name_of old) keyed.stands keyed.root ∙ ap (λ (n : ℕ). Some n) (class_is old (keyed.table_in old refl).2) in
-      subst (λ (z : Option ℕ). StandsAs k.texts (held o v).block (0 ∷ 0 ∷ (held o v).table) (record { class = z; fill = fill }) d) class keyed.stands
+      subst (λ (z : Option ℕ × List Key). StandsAs k.texts (held o v).block (0 ∷ 0 ∷ (held o v).table) (record { class = z.0; fill = fill; keys = z.1 }) d) (λ i. (class i, no_keys v o possible keyed.locked i)) keyed.stands
 
   pub old_fits : (mask : ℕ) → mask ≡ class_mask old.class → fill ≤ dict_room mask
   old_fits mask is = subst (λ (m : ℕ). fill ≤ dict_room m) (sym is) (fill_room k.texts (held o v).block (held o v).table old.class fill d (subst IsKeyed (sym content_kind) keyed.keyed) old_says)

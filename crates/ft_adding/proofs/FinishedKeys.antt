@@ -18,7 +18,7 @@ use Rattle.ft_trace.specs.Holds.{held, known}
 use Rattle.ft_trace.specs.Kinds.{rows, version_at, CarefulAs, ClearAs}
 use Rattle.ft_trace.specs.OddVersions.{Shut}
 use Rattle.ft_trace.specs.Pictures.{Picture, root_in, entry_offset, entry_field, Stands}
-use Rattle.ft_trace.specs.ContainerStates.{ContainerState, state_at, kind_in, changes, reply_in}
+use Rattle.ft_trace.specs.ContainerStates.{ContainerState, state_at, kind_in, changes, reply_in, kinds_in}
 use Rattle.ft_trace.proofs.Cases.{hit}
 use Rattle.ft_bank.specs.declared.table.Table.{Table}
 use Rattle.ft_bank.specs.TableNames.{name_of}
@@ -68,14 +68,15 @@ module _ (o : ℕ) (v u : View) (since : Since o v u) where
   has_since found has = record {
     agrees = λ p low mine. has.agrees p (subst (λ (z : Shape). p < containers_in z) (sym since.shape) low) (since.locks p ∙ mine) ∙ since.knows p;
     containers = has.containers ∙ ap containers_in since.shape;
-    kinds = has.kinds ∙ ap (λ (z : Shape). z.kinds) since.shape;
+    kinds = has.kinds ∙ ap (λ (z : Shape). kinds_in z.starts) since.shape;
     order = has.order;
+    unsplit = has.unsplit;
     words = has.words;
   }
 
   module _ (k : Shape) (table : Table) (place : ℕ) (called : Call) (said : Reply) (left : ContainerState) (leaves : Leaves o called said left v) (shape : v.shape ≡ k) (low : o < containers_in k) (some : 0 < v.left)
       (takes : (found : StoredWorld) (class : ℕ) → MayHave v found → owes v.log ≡ suc class → takes_in found called ≡ Some class)
-      (kind_eq : kind_of (known o v).content ≡ kind_in k.kinds o) (was : TableUse) (change : Changing k.texts (name_of table) (held o u) (record { content = (known o v).content; table = was }) place [] left) (root : root_in (held o u) ≡ suc (name_of table)) where
+      (kind_eq : kind_of (known o v).content ≡ kind_in k.starts o) (was : TableUse) (change : Changing k.texts (name_of table) (held o u) (record { content = (known o v).content; table = was }) place [] left) (root : root_in (held o u) ≡ suc (name_of table)) where
     abbrev c : ℕ
     c = class_of (name_of table)
 
@@ -85,8 +86,8 @@ module _ (o : ℕ) (v u : View) (since : Since o v u) where
     shape_u : u.shape ≡ k
     shape_u = since.shape ∙ shape
 
-    kind_u : kind_of (known o v).content ≡ kind_in u.shape.kinds o
-    kind_u = kind_eq ∙ sym (ap (λ (z : Shape). kind_in z.kinds o) shape_u)
+    kind_u : kind_of (known o v).content ≡ kind_in u.shape.starts o
+    kind_u = kind_eq ∙ sym (ap (λ (z : Shape). kind_in z.starts o) shape_u)
 
     texts_u : k.texts ≡ u.shape.texts
     texts_u = sym (ap (λ (z : Shape). z.texts) shape_u)
@@ -94,10 +95,10 @@ module _ (o : ℕ) (v u : View) (since : Since o v u) where
     left_since : (found : StoredWorld) → MayHave u found → state_at (after_stored found called) o ≡ left
     left_since found has = leaves.left_is found (has_since found has)
 
-    clears : (found : StoredWorld) (t : ℕ) → MayHave u found → root_in (held o u) ≡ suc t → ClearAs (kind_in u.shape.kinds o) u.shape.texts (class_of t) (held o u).table (known o u).content (state_at (after_stored found called) o).content
+    clears : (found : StoredWorld) (t : ℕ) → MayHave u found → root_in (held o u) ≡ suc t → ClearAs (kind_in u.shape.starts o) u.shape.texts (class_of t) (held o u).table (known o u).content (state_at (after_stored found called) o).content
     clears found t has names =
         let same : name_of table ≡ t = let e : suc (name_of table) ≡ suc t = sym root ∙ names in omega (arith, e) in
-        subst (λ (n : ℕ). ClearAs (kind_in u.shape.kinds o) u.shape.texts (class_of n) (held o u).table (known o u).content (state_at (after_stored found called) o).content) same
+        subst (λ (n : ℕ). ClearAs (kind_in u.shape.starts o) u.shape.texts (class_of n) (held o u).table (known o u).content (state_at (after_stored found called) o).content) same
         (subst (λ (z : Kind × List ℕ × ContainerState × ContainerState). ClearAs z.0 z.1 c (held o u).table z.2.content z.3.content) (λ d. (kind_u d, texts_u d, sym (since.knows o) d, sym (left_since found has) d)) change.clear)
 
     commits : MayCommit u called said
@@ -112,7 +113,7 @@ module _ (o : ℕ) (v u : View) (since : Since o v u) where
           reply_is = λ found has. plain_replied called said (reply_in found called) leaves.write (leaves.replied found (has_since found has));
           declared = λ found has. leaves.declared found (has_since found has);
           fits = λ found has. leaves.fits found (has_since found has);
-          clear = subst (λ (n : ℕ). (found : StoredWorld) (t : ℕ) → MayHave u found → root_in (held n u) ≡ suc t → ClearAs (kind_in u.shape.kinds n) u.shape.texts (class_of t) (held n u).table (known n u).content (state_at (after_stored found called) n).content) name clears;
+          clear = subst (λ (n : ℕ). (found : StoredWorld) (t : ℕ) → MayHave u found → root_in (held n u) ≡ suc t → ClearAs (kind_in u.shape.starts n) u.shape.texts (class_of t) (held n u).table (known n u).content (state_at (after_stored found called) n).content) name clears;
           takes = λ found class has owed. takes found class (has_since found has) (sym since.owes ∙ owed);
           empties = λ e. absurd (true≢false (sym e ∙ subst (λ (n : ℕ). has_emptied n u.log ≡ false) name since.emptied));
           locks = λ p e. since.locks p ∙ leaves.locks p e;

@@ -10,7 +10,7 @@ use Rattle.ft_trace.specs.Acts.{has_lock, is_writing, owes, stage, used, noted}
 use Rattle.ft_trace.specs.Addresses.{containers_in}
 use Rattle.ft_trace.specs.Holds.{held, known}
 use Rattle.ft_trace.specs.Pictures.{Picture, root_in, Stands}
-use Rattle.ft_trace.specs.ContainerStates.{ContainerState, changes}
+use Rattle.ft_trace.specs.ContainerStates.{ContainerState, changes, kinds_in}
 use Rattle.ft_bank.specs.declared.table.Table.{Table}
 use Rattle.ft_bank.specs.TableNames.{name_of}
 use Rattle.ft_bank.specs.Whole.{OnlyPut, EndsWrite, Wrote}
@@ -56,8 +56,9 @@ pub filled_has : (v x : View) → OnlyFilled v x → (found : StoredWorld) → M
 filled_has v x only found has = record {
   agrees = λ p low mine. has.agrees p (subst (λ (z : Shape). p < containers_in z) (sym only.work.pass.shape) low) (only.work.pass.locks p ∙ mine) ∙ work_knows v x p only.work;
   containers = has.containers ∙ ap containers_in only.work.pass.shape;
-  kinds = has.kinds ∙ ap (λ (z : Shape). z.kinds) only.work.pass.shape;
+  kinds = has.kinds ∙ ap (λ (z : Shape). kinds_in z.starts) only.work.pass.shape;
   order = has.order;
+  unsplit = has.unsplit;
   words = has.words;
 }
 

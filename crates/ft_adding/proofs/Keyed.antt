@@ -39,7 +39,7 @@ use Rattle.ft_bank.proofs.TableAddresses.{class_is, named}
 use Rattle.ft_search.specs.Held.{IsHeldAt}
 use Rattle.ft_search.specs.Rounds.{kind_by}
 use Rattle.ft_search.specs.OneEntryWrites.{HasTable, MayWriteEntries}
-use Rattle.ft_search.proofs.Changing.{kind_is, shut_known}
+use Rattle.ft_search.proofs.Changing.{kind_is, shut_known, no_keys}
 use Rattle.ft_search.proofs.WordPlaces.{slots_of_class}
 use Rattle.ft_adding.specs.declared.counts.Counts.{Counts}
 use Rattle.ft_adding.specs.KeyGrowth.{KnowsKeyed, IsFreeFor, use_of}
@@ -57,7 +57,9 @@ way_is (content.Set elements) way.Set e = refl
 way_is (content.Dict pairs) way.Set e = absurd (cc)
 way_is (content.Set elements) way.Dict e = absurd (cc)
 way_is (content.List values) way.Dict e = absurd (cc)
+way_is (content.Deque deque) way.Dict e = absurd (cc)
 way_is (content.List values) way.Set e = absurd (cc)
+way_is (content.Deque deque) way.Set e = absurd (cc)
 
 -- ---- the table that it has
 
@@ -65,16 +67,17 @@ pub no_class : (block : List ℕ) (class : Option ℕ) (count fill next : ℕ) �
 no_class block None count fill next head none = refl
 no_class block (Some class) count fill next head none = absurd (let r = head.root.1.2 in omega (arith, none, r))
 
-pub use_known : Heads → (k : Shape) (o : ℕ) (old : Option Table) (v : View) (counts : Counts) → KnowsKeyed k o old v → AreCounts (held o v).block counts → (known o v).table ≡ use_of old counts.fill
-use_known heads k o old v counts keyed are =
+pub use_known : Heads → (k : Shape) (o : ℕ) (old : Option Table) (v : View) (counts : Counts) → KnowsKeyed k o old v → AreCounts (held o v).block counts → ∥ Possible v ∥₁ → (known o v).table ≡ use_of old counts.fill
+use_known heads k o old v counts keyed are possible =
     let head = heads k.texts (held o v).block (0 ∷ 0 ∷ (held o v).table) (known o v).table (known o v).content keyed.stands in
-    by old keyed head (sym head.fill_is ∙ are.1)
+    let keys = no_keys v o possible keyed.locked in
+    by old keyed head (sym head.fill_is ∙ are.1) keys
   where
-    by : (any : Option Table) → KnowsKeyed k o any v → IsBlock (held o v).block (known o v).table.class (length_of (known o v).content) (known o v).table.fill (serial_of (known o v).content) → (known o v).table.fill ≡ counts.fill → (known o v).table ≡ use_of any counts.fill
-    by None knows head fill = let none = no_class (held o v).block (known o v).table.class (length_of (known o v).content) (known o v).table.fill (serial_of (known o v).content) head knows.root in λ d. record { class = none d; fill = fill d }
-    by (Some t) knows head fill =
+    by : (any : Option Table) → KnowsKeyed k o any v → IsBlock (held o v).block (known o v).table.class (length_of (known o v).content) (known o v).table.fill (serial_of (known o v).content) → (known o v).table.fill ≡ counts.fill → (known o v).table.keys ≡ [] → (known o v).table ≡ use_of any counts.fill
+    by None knows head fill keys = let none = no_class (held o v).block (known o v).table.class (length_of (known o v).content) (known o v).table.fill (serial_of (known o v).content) head knows.root in λ d. record { class = none d; fill = fill d; keys = keys d }
+    by (Some t) knows head fill keys =
         let class = class_known k.texts (held o v) (known o v) (name_of t) knows.stands knows.root ∙ ap (λ (n : ℕ). Some n) (class_is t (knows.table_in t refl).2) in
-        λ d. record { class = class d; fill = fill d }
+        λ d. record { class = class d; fill = fill d; keys = keys d }
 
 -- how many keys there are, and the next serial
 pub counts_known : Heads → (k : Shape) (o : ℕ) (old : Option Table) (v : View) (counts : Counts) → KnowsKeyed k o old v → AreCounts (held o v).block counts → (counts.count ≡ length_of (known o v).content) × (counts.next ≡ serial_of (known o v).content)
@@ -121,14 +124,14 @@ knows_bare k o v may bare = record {
 
 -- ---- a new key in the table that it has
 
-module _ (heads : Heads) (k : Shape) (o : ℕ) (table : Table) (v : View) (shape : v.shape ≡ k) (possible : ∥ Possible v ∥₁) (keyed : KnowsKeyed k o (Some table) v) (by : Way) (kind_eq : kind_in k.kinds o ≡ kind_by by) where
+module _ (heads : Heads) (k : Shape) (o : ℕ) (table : Table) (v : View) (shape : v.shape ≡ k) (possible : ∥ Possible v ∥₁) (keyed : KnowsKeyed k o (Some table) v) (by : Way) (kind_eq : kind_in k.starts o ≡ kind_by by) where
   abbrev d : Content
   d = (known o v).content
 
   abbrev t : ℕ
   t = name_of table
 
-  content_kind : kind_of d ≡ kind_in k.kinds o
+  content_kind : kind_of d ≡ kind_in k.starts o
   content_kind = kind_is k v o shape possible keyed.locked
 
   pub shut_here : Shut (version_at (kind_of d) (class_of t)) (rows (kind_of d) (class_of t)) (held o v).table
@@ -155,12 +158,12 @@ module _ (heads : Heads) (k : Shape) (o : ℕ) (table : Table) (v : View) (shape
         stores = subst (λ (z : Kind). StoresAs z stored) (sym kinds) stores;
         ok = ok;
         before = (held o v).block;
-        says = subst (λ (z : TableUse). StandsAs k.texts (held o v).block (0 ∷ 0 ∷ (held o v).table) z d) (λ i. record { class = class i; fill = fill i }) keyed.stands;
+        says = subst (λ (z : TableUse). StandsAs k.texts (held o v).block (0 ∷ 0 ∷ (held o v).table) z d) (λ i. record { class = class i; fill = fill i; keys = no_keys v o possible keyed.locked i }) keyed.stands;
         had = (known o v).table.fill;
         head = subst (λ (z : Option ℕ). IsBlock (held o v).block z (length_of d) (known o v).table.fill (serial_of d)) class head;
         count_is = sym are.0 ∙ head.count_is;
         room = subst (λ (z : Kind). counts.fill < rows z (class_of t)) (sym kinds) room;
-        long = subst (λ (z : Kind). slots (class_of t) + 8 * rows z (class_of t) ≤ length (held o v).table) (sym content_kind) (let f = keyed_fit (kind_in k.kinds o) keyed.keyed (class_of t) in omega (arith, f, long));
+        long = subst (λ (z : Kind). slots (class_of t) + 8 * rows z (class_of t) ≤ length (held o v).table) (sym content_kind) (let f = keyed_fit (kind_in k.starts o) keyed.keyed (class_of t) in omega (arith, f, long));
         in_index = omega (arith, some, slot_low, last);
         free = subst (λ (z : Way × ℕ). FirstFree (0 ∷ 0 ∷ (held o v).table) (walk_slots z.0 (hash_of k.texts key) (class_mask z.1)) (Some slot)) (λ i. (sym (way_is d by kinds) i, sym same i)) free.1;
         absent = absent;

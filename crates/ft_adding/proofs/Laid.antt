@@ -89,15 +89,15 @@ AreCarefulCalls kind c d l [] = Unit {0}
 AreCarefulCalls kind c d l (access ∷ earlier) = AreCarefulCalls kind c d l earlier × IsCarefulCall kind c d (laid (slots c) earlier l) access
 
 pub careful_at : (k : Shape) (o t i x : ℕ) (l : List ℕ) (d : Content) (w : View) → w.shape ≡ k → has_committed o w.log ≡ false → (held o w).table ≡ l → (known o w).content ≡ d
-    → CarefulAs (kind_in k.kinds o) (class_of t) l d i x → Timely (version_at (kind_in k.kinds o) (class_of t)) (rows (kind_in k.kinds o) (class_of t)) i x false → IsCareful w o t i x
+    → CarefulAs (kind_in k.starts o) (class_of t) l d i x → Timely (version_at (kind_in k.starts o) (class_of t)) (rows (kind_in k.starts o) (class_of t)) i x false → IsCareful w o t i x
 careful_at k o t i x l d w shape early words content care timely = record {
-  care = subst (λ (z : Shape × List ℕ × Content). CarefulAs (kind_in z.0.kinds o) (class_of t) z.1 z.2 i x) (sym (λ j. (shape j, words j, content j))) care;
-  timely = subst (λ (z : Shape × Bool). Timely (version_at (kind_in z.0.kinds o) (class_of t)) (rows (kind_in z.0.kinds o) (class_of t)) i x z.1) (sym (λ j. (shape j, early j))) timely;
+  care = subst (λ (z : Shape × List ℕ × Content). CarefulAs (kind_in z.0.starts o) (class_of t) z.1 z.2 i x) (sym (λ j. (shape j, words j, content j))) care;
+  timely = subst (λ (z : Shape × Bool). Timely (version_at (kind_in z.0.starts o) (class_of t)) (rows (kind_in z.0.starts o) (class_of t)) i x z.1) (sym (λ j. (shape j, early j))) timely;
 }
 
 module _ (s : TableWords) (k : Shape) (shape : (view s.pass.now).shape ≡ k) (size : slots (class_of (name_of s.table)) ≡ s.mask + 1) (knows : KnowsWords s) (early : has_committed s.o (view s.pass.now).log ≡ false) where
   abbrev kind : Kind
-  kind = kind_in k.kinds s.o
+  kind = kind_in k.starts s.o
 
   abbrev c : ℕ
   c = class_of (name_of s.table)

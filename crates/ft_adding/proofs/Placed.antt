@@ -71,10 +71,11 @@ abbrev pub way_of : Content → Way
 way_of (content.Dict pairs) = way.Dict
 way_of (content.Set elements) = way.Set
 way_of (content.List values) = way.Dict
+way_of (content.Deque deque) = way.Dict
 
 -- a table of this class, of which this many entries are used
 abbrev pub use_with : ℕ → ℕ → TableUse
-use_with class fill = record { class = Some class; fill = fill }
+use_with class fill = record { class = Some class; fill = fill; keys = [] }
 
 -- ---- a key that is nowhere
 
@@ -144,6 +145,7 @@ stands_raised versions texts b l class fill (content.Set elements) keyed is_clas
     let table : IsSetTable texts (class_mask class) is.used (0 ∷ 0 ∷ slice_set l (entry_offset (slots class) p 0) y) = subst (λ (z : List ℕ). IsSetTable texts (class_mask class) is.used z) (known.after_header l (layout.entry_at (class_mask class) p 0) (entry_offset (slots class) p 0) y (omega (arith, r))) (versions walk (set_room (class_mask class)) texts (class_mask class) is.used (0 ∷ 0 ∷ l) p y (λ hash. set_slots-within hash (class_mask class) (class_mask class + 14)) is.table) in
     record { head = is.head; used = is.used; table = table; filled = is.filled; entries = is.entries }
 stands_raised versions texts b l class fill (content.List values) keyed is_class is p y = absurd keyed
+stands_raised versions texts b l class fill (content.Deque deque) keyed is_class is p y = absurd keyed
 
 -- the entry after those that were used was never used
 pub next_unused : (first_pair : FirstEntriesArePairs) (first_element : FirstEntriesAreElements) (texts b l : List ℕ) (class fill : ℕ) (d : Content) → IsKeyed (kind_of d) → IsClass class → StandsAs texts b (0 ∷ 0 ∷ l) (use_with class fill) d → fill < rows (kind_of d) class → entry_field (slots class) l fill 2 ≡ 0
@@ -158,6 +160,7 @@ next_unused first_pair first_element texts b l class fill (content.Set elements)
     let u = is.table.unused fill (omega (arith, filled)) (omega (arith, room, low)) in
     sym (word_is (λ hash. set_slots hash (class_mask class) (class_mask class + 14)) (set_room (class_mask class)) texts class is_class is.used l is.table fill 2) ∙ u.kind
 next_unused first_pair first_element texts b l class fill (content.List values) keyed is_class is low = absurd keyed
+next_unused first_pair first_element texts b l class fill (content.Deque deque) keyed is_class is low = absurd keyed
 
 -- the pair whose entry a key gets
 abbrev pub pair_for : List ℕ → Content → Key → Stored → Pair
@@ -202,6 +205,7 @@ pub right_in : (first_pair : FirstEntriesArePairs) (first_element : FirstEntries
 right_in first_pair first_element texts b l class fill (content.Dict pairs) keyed is_class is p key low live = dict.dict_right first_pair texts b class fill is_class pairs l is p key low live
 right_in first_pair first_element texts b l class fill (content.Set elements) keyed is_class is p key low live = set.set_right first_element texts b class fill is_class elements l is p key low live
 right_in first_pair first_element texts b l class fill (content.List values) keyed is_class is p key low live = absurd keyed
+right_in first_pair first_element texts b l class fill (content.Deque deque) keyed is_class is p key low live = absurd keyed
 
 clear_in : (first_pair : FirstEntriesArePairs) (first_element : FirstEntriesAreElements) (texts block before : List ℕ) (class fill more : ℕ) (d news : Content) (ws zs : List ℕ) → IsClass class → IsKeyed (kind_of d) → kind_of news ≡ kind_of d → StandsAs texts before (0 ∷ 0 ∷ ws) (use_with class fill) d → StandsAs texts block (0 ∷ 0 ∷ zs) (use_with class more) news
     → ((q w : ℕ) → q < rows (kind_of d) class → entry_field (slots class) zs q 0 % 2 ≡ 0 → w < 8 → entry_field (slots class) zs q w ≡ entry_field (slots class) ws q w) → ClearAs (kind_of d) texts class zs d news
@@ -209,20 +213,25 @@ clear_in first_pair first_element texts block before class fill more (content.Di
 clear_in first_pair first_element texts block before class fill more (content.Set elements) (content.Set news) ws zs is_class keyed same_kind says now same = set.set_clear first_element texts block before class fill more is_class elements news ws zs says now same
 clear_in first_pair first_element texts block before class fill more (content.Dict pairs) (content.Set news) ws zs is_class keyed same_kind says now same = absurd (cc)
 clear_in first_pair first_element texts block before class fill more (content.Dict pairs) (content.List news) ws zs is_class keyed same_kind says now same = absurd (cc)
+clear_in first_pair first_element texts block before class fill more (content.Dict pairs) (content.Deque news) ws zs is_class keyed same_kind says now same = absurd (cc)
 clear_in first_pair first_element texts block before class fill more (content.Set elements) (content.Dict news) ws zs is_class keyed same_kind says now same = absurd (cc)
 clear_in first_pair first_element texts block before class fill more (content.Set elements) (content.List news) ws zs is_class keyed same_kind says now same = absurd (cc)
+clear_in first_pair first_element texts block before class fill more (content.Set elements) (content.Deque news) ws zs is_class keyed same_kind says now same = absurd (cc)
 clear_in first_pair first_element texts block before class fill more (content.List values) news ws zs is_class keyed same_kind says now same = absurd keyed
+clear_in first_pair first_element texts block before class fill more (content.Deque deque) news ws zs is_class keyed same_kind says now same = absurd keyed
 
 -- versions of entries, by the kind of the container
 pub entry_shut : (kind : Kind) → IsKeyed kind → (c m : ℕ) (l : List ℕ) → Shut (version_at kind c) m l → Shut (λ q. entry_offset (slots c) q 0) m l
 entry_shut kind.Dict keyed c m l h = h
 entry_shut kind.Set keyed c m l h = h
 entry_shut kind.List keyed c m l h = absurd keyed
+entry_shut (kind.Deque bound) keyed c m l h = absurd keyed
 
 pub kind_shut : (kind : Kind) → IsKeyed kind → (c m : ℕ) (l : List ℕ) → Shut (λ q. entry_offset (slots c) q 0) m l → Shut (version_at kind c) m l
 kind_shut kind.Dict keyed c m l h = h
 kind_shut kind.Set keyed c m l h = h
 kind_shut kind.List keyed c m l h = absurd keyed
+kind_shut (kind.Deque bound) keyed c m l h = absurd keyed
 
 -- ---- all of it
 

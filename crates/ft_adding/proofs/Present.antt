@@ -28,6 +28,7 @@ pub holds_not : (d : Content) (key : Key) → IsHeldAt d key None → holds d ke
 holds_not (content.Dict pairs) key none = none
 holds_not (content.Set elements) key none = none
 holds_not (content.List values) key none = absurd none
+holds_not (content.Deque deque) key none = absurd none
 
 -- what the key takes, and whether it is one too many, as the container is known
 abbrev puts_takes : ContainerState → Key → Option ℕ

@@ -67,6 +67,7 @@ sound_in first_pair first_element texts b l class fill (content.Set elements) ke
   reached = λ key fits some. set.set_reached first_element texts b class fill is_class elements l is key fits some;
 }
 sound_in first_pair first_element texts b l class fill (content.List values) keyed is_class is = absurd keyed
+sound_in first_pair first_element texts b l class fill (content.Deque deque) keyed is_class is = absurd keyed
 
 -- a key that the content hasn't is in no entry that is there
 pub absent_in : (texts b l : List ℕ) (class fill : ℕ) (d : Content) (by : Way) (key : Key) → kind_of d ≡ kind_by by → StandsAs texts b (0 ∷ 0 ∷ l) (use_with class fill) d → IsHeldAt d key None → (used : List UsedEntry) × IsTableOf by texts (class_mask class) used (0 ∷ 0 ∷ l) × All (λ (e : UsedEntry). e.key ≢ key) (filter is_live used)
@@ -75,7 +76,9 @@ absent_in texts b l class fill (content.Set elements) way.Set key same is absent
 absent_in texts b l class fill (content.Dict pairs) way.Set key same is absent = absurd (cc)
 absent_in texts b l class fill (content.Set elements) way.Dict key same is absent = absurd (cc)
 absent_in texts b l class fill (content.List values) way.Dict key same is absent = absurd (cc)
+absent_in texts b l class fill (content.Deque deque) way.Dict key same is absent = absurd (cc)
 absent_in texts b l class fill (content.List values) way.Set key same is absent = absurd (cc)
+absent_in texts b l class fill (content.Deque deque) way.Set key same is absent = absurd (cc)
 
 -- ---- a block with another root
 
@@ -109,7 +112,7 @@ module _ (first_pair : FirstEntriesArePairs) (first_element : FirstEntriesAreEle
   abbrev b : List ℕ
   b = slice_set (held o v).block 0 (suc (name_of table))
 
-  content_kind : kind_of d ≡ kind_in k.kinds o
+  content_kind : kind_of d ≡ kind_in k.starts o
   content_kind = kind_is k v o shape possible may.keyed.locked
 
   keyed_d : IsKeyed (kind_of d)
@@ -130,16 +133,16 @@ module _ (first_pair : FirstEntriesArePairs) (first_element : FirstEntriesAreEle
   the_one : (t : Table) → Some table ≡ Some t → table ≡ t
   the_one t e = ap (λ (z : Option Table). unwrap_or z table) e
 
-  kind_v : kind_of d ≡ kind_in v.shape.kinds o
-  kind_v = content_kind ∙ sym (ap (λ (z : Shape). kind_in z.kinds o) shape)
+  kind_v : kind_of d ≡ kind_in v.shape.starts o
+  kind_v = content_kind ∙ sym (ap (λ (z : Shape). kind_in z.starts o) shape)
 
   texts_v : k.texts ≡ v.shape.texts
   texts_v = sym (ap (λ (z : Shape). z.texts) shape)
 
-  sound_here : SoundAs (kind_in v.shape.kinds o) v.shape.texts c ws d
+  sound_here : SoundAs (kind_in v.shape.starts o) v.shape.texts c ws d
   sound_here = subst (λ (z : Kind × List ℕ). SoundAs z.0 z.1 c ws d) (λ i. (kind_v i, texts_v i)) (sound_in first_pair first_element k.texts before ws c (length_of d) d keyed_d is_class filled_says)
 
-  young_here : (p : ℕ) → p < rows (kind_in v.shape.kinds o) c → slice_index ws (version_at (kind_in v.shape.kinds o) c p) ≡ 0
+  young_here : (p : ℕ) → p < rows (kind_in v.shape.starts o) c → slice_index ws (version_at (kind_in v.shape.starts o) c p) ≡ 0
   young_here =
       subst (λ (z : Kind). (p : ℕ) → p < rows z c → slice_index ws (version_at z c p) ≡ 0) kind_v
       (λ p low. ap (slice_index ws) (keyed_version (kind_of d) keyed_d c p) ∙ filled.versions p low)
@@ -151,9 +154,9 @@ module _ (first_pair : FirstEntriesArePairs) (first_element : FirstEntriesAreEle
   may_root f = record {
     odd = hit o true (is_writing o v.log);
     fresh = λ t e. subst (λ (z : Table). stage (name_of z) v.log ≡ 1) (the_one t e) may.fresh;
-    sound = λ t e. subst (λ (z : Table). SoundAs (kind_in v.shape.kinds o) v.shape.texts (class_of (name_of z)) (in_hand (name_of z) v) d) (the_one t e) sound_here;
+    sound = λ t e. subst (λ (z : Table). SoundAs (kind_in v.shape.starts o) v.shape.texts (class_of (name_of z)) (in_hand (name_of z) v) d) (the_one t e) sound_here;
     young = λ t p e row.
-        let here = subst (λ (z : Table). (q : ℕ) → q < rows (kind_in v.shape.kinds o) (class_of (name_of z)) → slice_index (in_hand (name_of z) v) (version_at (kind_in v.shape.kinds o) (class_of (name_of z)) q) ≡ 0) (the_one t e) young_here p row in
+        let here = subst (λ (z : Table). (q : ℕ) → q < rows (kind_in v.shape.starts o) (class_of (name_of z)) → slice_index (in_hand (name_of z) v) (version_at (kind_in v.shape.starts o) (class_of (name_of z)) q) ≡ 0) (the_one t e) young_here p row in
         (omega (arith, here), (λ late. here));
     shut = shut_here;
     spare = λ some_one. may.used;
@@ -165,7 +168,7 @@ module _ (first_pair : FirstEntriesArePairs) (first_element : FirstEntriesAreEle
   shut_rooted = kind_shut (kind_of d) keyed_d c (rows (kind_of d) c) ws (λ p less. let z = filled.versions p less in omega (arith, z))
 
   -- a new key there
-  pub fresh_rooted : (by : Way) → kind_in k.kinds o ≡ kind_by by → (slot : ℕ) (counts : Counts) (key : Key) (stored : Stored) → AreCounts (held o v).block counts → FitsKey key → hash_of k.texts key < 2 ^ 64 → StoresAs (kind_by by) stored → FitsStored stored → IsHeldAt d key None → IsFreeFor k.texts by table.class key ws slot → counts.count < rows (kind_by by) c
+  pub fresh_rooted : (by : Way) → kind_in k.starts o ≡ kind_by by → (slot : ℕ) (counts : Counts) (key : Key) (stored : Stored) → AreCounts (held o v).block counts → FitsKey key → hash_of k.texts key < 2 ^ 64 → StoresAs (kind_by by) stored → FitsStored stored → IsHeldAt d key None → IsFreeFor k.texts by table.class key ws slot → counts.count < rows (kind_by by) c
       → Fresh k.texts (record { block = b; table = ws }) (name_of table) slot (record { count = counts.count; fill = counts.count; next = counts.next }) d key stored
   fresh_rooted by kind_eq slot counts key stored are fits low stores ok absent free room =
       let same = class_is table may.table_in.2 in

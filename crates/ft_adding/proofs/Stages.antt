@@ -26,12 +26,14 @@ pub as_careful : (kind : Kind) → IsKeyed kind → (c : ℕ) (l : List ℕ) (d 
 as_careful kind.Dict keyed c l d i x h = h
 as_careful kind.Set keyed c l d i x h = h
 as_careful kind.List keyed c l d i x h = absurd keyed
+as_careful (kind.Deque bound) keyed c l d i x h = absurd keyed
 
 -- a word that is no version may be put at any time
 pub at_any_time : (kind : Kind) → IsKeyed kind → (c i x : ℕ) → ((q : ℕ) → i ≢ entry_offset (slots c) q 0) → Timely (version_at kind c) (rows kind c) i x false
 at_any_time kind.Dict keyed c i x other = record { before = λ q low at odd. absurd (other q at); later = λ q low at even. absurd (other q at) }
 at_any_time kind.Set keyed c i x other = record { before = λ q low at odd. absurd (other q at); later = λ q low at even. absurd (other q at) }
 at_any_time kind.List keyed c i x other = absurd keyed
+at_any_time (kind.Deque bound) keyed c i x other = absurd keyed
 
 -- before the commit a version is made odd
 pub in_time : (kind : Kind) (c i x : ℕ) → x % 2 ≡ 1 → Timely (version_at kind c) (rows kind c) i x false

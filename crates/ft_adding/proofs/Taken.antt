@@ -13,7 +13,7 @@ use Rattle.ft_trace.specs.Acts.{has_lock, owes, stage}
 use Rattle.ft_trace.specs.Addresses.{containers_in, class_of}
 use Rattle.ft_trace.specs.Holds.{held, known}
 use Rattle.ft_trace.specs.Traces.{Possible}
-use Rattle.ft_trace.specs.ContainerStates.{ContainerState}
+use Rattle.ft_trace.specs.ContainerStates.{ContainerState, kinds_in}
 use Rattle.ft_bank.specs.declared.table.Table.{Table}
 use Rattle.ft_bank.specs.TableNames.{name_of, IsTableIn}
 use Rattle.ft_bank.specs.Takings.{KeepsBut}
@@ -48,8 +48,9 @@ module _ (F : ℕ → Type 0) (v u : View) (same : SamePass v u) (keeps : KeepsB
   tried_has found has = record {
     agrees = λ p low mine. has.agrees p (subst (λ (z : Shape). p < containers_in z) (sym same.shape) low) (same.locks p ∙ mine) ∙ (keeps.held.words p low mine).1;
     containers = has.containers ∙ ap containers_in same.shape;
-    kinds = has.kinds ∙ ap (λ (z : Shape). z.kinds) same.shape;
+    kinds = has.kinds ∙ ap (λ (z : Shape). kinds_in z.starts) same.shape;
     order = has.order;
+    unsplit = has.unsplit;
     words = has.words;
   }
 
@@ -87,7 +88,8 @@ module _ (k : Shape) (o : ℕ) (old : Option Table) (v u : View) (only : OnlyLoa
   has_loaded found has = record {
     agrees = λ p low mine. has.agrees p (subst (λ (z : Shape). p < containers_in z) (sym only.work.pass.shape) low) (only.work.pass.locks p ∙ mine) ∙ work_knows v u p only.work;
     containers = has.containers ∙ ap containers_in only.work.pass.shape;
-    kinds = has.kinds ∙ ap (λ (z : Shape). z.kinds) only.work.pass.shape;
+    kinds = has.kinds ∙ ap (λ (z : Shape). kinds_in z.starts) only.work.pass.shape;
     order = has.order;
+    unsplit = has.unsplit;
     words = has.words;
   }

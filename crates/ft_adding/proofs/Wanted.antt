@@ -1,5 +1,5 @@
 -- Which table a dict or a set takes for one more key, by the table that it has.
-use Rattle.std.proofs.Common.{◌≡◌, ◌≢◌, ℕ, suc, ◌+◌, ◌*◌, ◌/◌, ◌^◌, ◌<◌, ◌≤◌, Bool, true, false, true≢false, length, Option, Some, None, refl, sym, ap, ◌∙◌, subst, arith, le-ltb, ltb-true, ltb-false}
+use Rattle.std.proofs.Common.{◌≡◌, ◌≢◌, ℕ, suc, ◌+◌, ◌*◌, ◌/◌, ◌^◌, ◌<◌, ◌≤◌, Bool, true, false, true≢false, length, Option, Some, None, refl, sym, ap, ◌∙◌, subst, arith, le-ltb, ltb-true, ltb-false, []}
 use Rattle.std.specs.Prelude.{◌&&◌, is_some, nat_lt, if◌then◌else◌}
 use Rattle.std.specs.Option.{unwrap_or}
 use Rattle.ft_model.specs.declared.content.Content.{Content}
@@ -41,7 +41,9 @@ takes_none (content.Set elements) way.Set t fill same none =
 takes_none (content.Dict pairs) way.Set t fill same none = absurd (cc)
 takes_none (content.Set elements) way.Dict t fill same none = absurd (cc)
 takes_none (content.List values) way.Dict t fill same none = absurd (cc)
+takes_none (content.Deque deque) way.Dict t fill same none = absurd (cc)
 takes_none (content.List values) way.Set t fill same none = absurd (cc)
+takes_none (content.Deque deque) way.Set t fill same none = absurd (cc)
 
 -- without a table it takes one
 pub bare_takes : (d : Content) (by : Way) (fill : ℕ) → kind_of d ≡ kind_by by → key_takes d (use_of None fill) ≢ None
@@ -50,7 +52,9 @@ bare_takes (content.Set elements) way.Set fill same none = true≢false (if_none
 bare_takes (content.Dict pairs) way.Set fill same none = absurd (cc)
 bare_takes (content.Set elements) way.Dict fill same none = absurd (cc)
 bare_takes (content.List values) way.Dict fill same none = absurd (cc)
+bare_takes (content.Deque deque) way.Dict fill same none = absurd (cc)
 bare_takes (content.List values) way.Set fill same none = absurd (cc)
+bare_takes (content.Deque deque) way.Set fill same none = absurd (cc)
 
 -- the table that it takes has room for what it has and the new key
 pub takes_room : (d : Content) (by : Way) (was : TableUse) (class : ℕ) → kind_of d ≡ kind_by by → length_of d < most_of d → key_takes d was ≡ Some class → length_of d < rows (kind_by by) class
@@ -66,15 +70,17 @@ takes_room (content.Set elements) way.Set was class same few takes =
 takes_room (content.Dict pairs) way.Set was class same few takes = absurd (cc)
 takes_room (content.Set elements) way.Dict was class same few takes = absurd (cc)
 takes_room (content.List values) way.Dict was class same few takes = absurd (cc)
+takes_room (content.Deque deque) way.Dict was class same few takes = absurd (cc)
 takes_room (content.List values) way.Set was class same few takes = absurd (cc)
+takes_room (content.Deque deque) way.Set was class same few takes = absurd (cc)
 
 -- ---- the table that it has then
 
-pub stays_use : (d : Content) (t : Table) (fill : ℕ) (was : TableUse) → was ≡ use_of (Some t) fill → key_takes d was ≡ None → class_of (name_of t) ≡ t.class → grown_table was (key_takes d was) 1 (length_of d + 1) ≡ record { class = Some (class_of (name_of t)); fill = fill + 1 }
+pub stays_use : (d : Content) (t : Table) (fill : ℕ) (was : TableUse) → was ≡ use_of (Some t) fill → key_takes d was ≡ None → class_of (name_of t) ≡ t.class → grown_table was (key_takes d was) 1 (length_of d + 1) ≡ record { class = Some (class_of (name_of t)); fill = fill + 1; keys = [] }
 stays_use d t fill was is none same =
-    ap (λ (z : Option ℕ). grown_table was z 1 (length_of d + 1)) none ∙ (λ i. record { class = (ap (λ (z : TableUse). z.class) is ∙ ap (λ (n : ℕ). Some n) (sym same)) i; fill = (is i).fill + 1 })
+    ap (λ (z : Option ℕ). grown_table was z 1 (length_of d + 1)) none ∙ (λ i. record { class = (ap (λ (z : TableUse). z.class) is ∙ ap (λ (n : ℕ). Some n) (sym same)) i; fill = (is i).fill + 1; keys = (is i).keys })
 
-pub grown_use : (d : Content) (class : ℕ) (was : TableUse) → key_takes d was ≡ Some class → grown_table was (key_takes d was) 1 (length_of d + 1) ≡ record { class = Some class; fill = length_of d + 1 }
+pub grown_use : (d : Content) (class : ℕ) (was : TableUse) → key_takes d was ≡ Some class → grown_table was (key_takes d was) 1 (length_of d + 1) ≡ record { class = Some class; fill = length_of d + 1; keys = [] }
 grown_use d class was takes = ap (λ (z : Option ℕ). grown_table was z 1 (length_of d + 1)) takes
 
 -- ---- how many keys there may be
@@ -83,6 +89,7 @@ pub most_few : (d : Content) → most_of d ≤ 65536
 most_few (content.Dict pairs) = omega arith
 most_few (content.Set elements) = omega arith
 most_few (content.List values) = omega arith
+most_few (content.Deque deque) = omega arith
 
 pub passes_not : (d : Content) → length_of d < most_of d → nat_lt (most_of d) (length_of d + 1) ≡ false
 passes_not d few = le-ltb (most_of d) (length_of d + 1) (omega (arith, few))

@@ -1,6 +1,6 @@
 -- Calls that add a key to a dict or a set: what a pass is to have and to know for that, what they ask of the plain
 -- containers, and when the container gets another table.
-use Rattle.std.specs.Prelude.{◌≡◌, ℕ, suc, ◌+◌, ◌<◌, ◌≤◌, Bool, true, false, nat_lt, List, ◌∷◌, length, Option, Some, None, if◌then◌else◌}
+use Rattle.std.specs.Prelude.{◌≡◌, ℕ, suc, ◌+◌, ◌<◌, ◌≤◌, Bool, true, false, nat_lt, List, ◌∷◌, length, Option, Some, None, if◌then◌else◌, []}
 use Rattle.ft_model.specs.declared.call.Call.{Call}
 use Rattle.ft_model.specs.declared.content.Content.{Content}
 use Rattle.ft_model.specs.declared.content.Content.TheVariants as content
@@ -42,7 +42,7 @@ use Rattle.ft_adding.specs.Placing.{with_key}
 -- there, and its words stand for what the pass knows of it. (profile)
 pub record KnowsKeyed (k : Shape) (o : ℕ) (old : Option Table) (v : View) : Type 0 where
   pub container : o < containers_in k
-  pub keyed : IsKeyed (kind_in k.kinds o)
+  pub keyed : IsKeyed (kind_in k.starts o)
   pub locked : has_lock o v.log ≡ true
   pub even : is_writing o v.log ≡ false
   pub stands : Stands k.texts (held o v) (known o v)
@@ -77,8 +77,8 @@ IsFreeFor texts way class key words slot =
 
 -- the table that a dict or a set has, or none, with that many used entries
 abbrev pub use_of : Option Table → ℕ → TableUse
-use_of None fill = record { class = None; fill = fill }
-use_of (Some t) fill = record { class = Some t.class; fill = fill }
+use_of None fill = record { class = None; fill = fill; keys = [] }
+use_of (Some t) fill = record { class = Some t.class; fill = fill; keys = [] }
 
 -- the class that a dict or a set takes for that many more keys, if its table has no room for them (profile)
 abbrev pub keys_take : Content → TableUse → ℕ → Option ℕ
@@ -87,6 +87,7 @@ keys_take (content.Dict dict) table more =
 keys_take (content.Set set) table more =
     if outgrows_set table more then Some (set_class (length set.elements + more)) else None
 keys_take (content.List values) table more = None
+keys_take (content.Deque deque) table more = None
 
 -- and for one more key
 abbrev pub key_takes : Content → TableUse → Option ℕ
@@ -97,6 +98,7 @@ abbrev pub most_of : Content → ℕ
 most_of (content.Dict dict) = most_pairs
 most_of (content.Set set) = most_elements
 most_of (content.List values) = most_items
+most_of (content.Deque deque) = most_items
 
 -- A call adds this key, which is not there, to the container o: the plain containers reply so to it, and o has the key
 -- then and the table that it takes, whatever else the bank has that agrees with what the pass knows; the pass has the
@@ -124,6 +126,7 @@ abbrev pub holds : Content → Key → Bool
 holds (content.Dict dict) key = has_key dict.pairs key
 holds (content.Set set) key = has_element set.elements key
 holds (content.List values) key = false
+holds (content.Deque deque) key = false
 
 -- What a call comes to under the lock that puts this key into the container o, where it may be there: after loads, by
 -- whether it is, and where it isn't by the class of the table that the container takes for one more key, and by whether

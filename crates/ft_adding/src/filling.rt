@@ -69,7 +69,7 @@ fn copy_entries(
 )
     requires pass { IsPassOf bank.now pass.old }
     requires keyed { KnowsKeyed (shape_of bank.now) o (Some old) (view pass.old) }
-    requires way { kind_in (shape_of bank.now).kinds o ≡ kind_by way }
+    requires way { kind_in (shape_of bank.now).starts o ≡ kind_by way }
     requires table { IsTableIn (shape_of bank.now) table }
     requires fresh { stage (name_of table) (view pass.old).log ≡ 1 }
     requires blank { HasZeroWords (class_of (name_of table)) (in_hand (name_of table) (view pass.old)) }
@@ -111,7 +111,7 @@ pub fn fill(
 )
     requires pass { IsPassOf bank.now pass.old }
     requires keyed { KnowsKeyed (shape_of bank.now) o old (view pass.old) }
-    requires way { kind_in (shape_of bank.now).kinds o ≡ kind_by way }
+    requires way { kind_in (shape_of bank.now).starts o ≡ kind_by way }
     requires table { IsTableIn (shape_of bank.now) table }
     requires fresh { stage (name_of table) (view pass.old).log ≡ 1 }
     requires fill { old_fill ≡ (known o (view pass.old)).table.fill }

@@ -105,7 +105,7 @@ pub(crate) fn add_in_new(
 ) -> u64
     requires pass { IsPassOf bank.now pass.old }
     requires may { MayGrowKeyed (shape_of bank.now) o old table (view pass.old) }
-    requires way { kind_in (shape_of bank.now).kinds o ≡ kind_by way }
+    requires way { kind_in (shape_of bank.now).starts o ≡ kind_by way }
     requires other { root_in (held o (view pass.old)) ≢ suc (name_of table) }
     requires key { IsKeyIn (shape_of bank.now) key }
     requires fits { FitsKey key }

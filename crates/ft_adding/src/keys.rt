@@ -79,7 +79,7 @@ fn add_here(
 ) -> Added
     requires pass { IsPassOf bank.now pass.old }
     requires may { MayAddKey (shape_of bank.now) o old (view pass.old) }
-    requires way { kind_in (shape_of bank.now).kinds o ≡ kind_by way }
+    requires way { kind_in (shape_of bank.now).starts o ≡ kind_by way }
     requires key { IsKeyIn (shape_of bank.now) key }
     requires fits { FitsKey key }
     requires slot { (t : Table) → old ≡ Some t →
@@ -128,7 +128,7 @@ fn add_in_taken(
 ) -> Added
     requires pass { IsPassOf bank.now pass.old }
     requires may { MayAddKey (shape_of bank.now) o old (view pass.old) }
-    requires way { kind_in (shape_of bank.now).kinds o ≡ kind_by way }
+    requires way { kind_in (shape_of bank.now).starts o ≡ kind_by way }
     requires key { IsKeyIn (shape_of bank.now) key }
     requires fits { FitsKey key }
     requires absent { IsHeldAt (known o (view pass.old)).content key None }
@@ -185,7 +185,7 @@ pub fn add_key(
 ) -> Added
     requires pass { IsPassOf bank.now pass.old }
     requires may { MayAddKey (shape_of bank.now) o old (view pass.old) }
-    requires way { kind_in (shape_of bank.now).kinds o ≡ kind_by way }
+    requires way { kind_in (shape_of bank.now).starts o ≡ kind_by way }
     requires key { IsKeyIn (shape_of bank.now) key }
     requires fits { FitsKey key }
     requires slot { (t : Table) → old ≡ Some t →

@@ -81,7 +81,7 @@ fn put_pair(bank: &Bank, pass: &mut Pass, o: u32, table: Table, slot: u64, place
     requires pass { IsPassOf bank.now pass.old }
     requires writes { WritesEntries (shape_of bank.now) o table (view pass.old) }
     requires early { has_committed o (view pass.old).log ≡ false }
-    requires unused { IsUnused (slots (class_of (name_of table))) (rows (kind_in (shape_of bank.now).kinds o) (class_of (name_of table)))
+    requires unused { IsUnused (slots (class_of (name_of table))) (rows (kind_in (shape_of bank.now).starts o) (class_of (name_of table)))
         (held o (view pass.old)).table slot place }
     requires value { FitsStored pair.now.value }
     ensures pass { IsPassOf bank.now pass.new }
@@ -121,7 +121,7 @@ pub fn put_key(
     requires pass { IsPassOf bank.now pass.old }
     requires writes { WritesEntries (shape_of bank.now) o table (view pass.old) }
     requires early { has_committed o (view pass.old).log ≡ false }
-    requires unused { IsUnused (slots (class_of (name_of table))) (rows (kind_in (shape_of bank.now).kinds o) (class_of (name_of table)))
+    requires unused { IsUnused (slots (class_of (name_of table))) (rows (kind_in (shape_of bank.now).starts o) (class_of (name_of table)))
         (held o (view pass.old)).table slot counts.fill }
     requires value { FitsStored pair.now.value }
     requires room { (counts.count < 2 ^ 63) × (pair.now.serial < 2 ^ 63) }

@@ -1,5 +1,5 @@
 //! A key that isn't there is added to a dict or a set whose table has room for it, as one whole write.
-ghost use Rattle.std.specs.Prelude.{◌≡◌, ◌+◌, ◌^◌, ◌<◌, Some, None};
+ghost use Rattle.std.specs.Prelude.{◌≡◌, ◌+◌, ◌^◌, ◌<◌, Some, None, []};
 ghost use Rattle.ft_model.specs.Worlds.{serial_of};
 ghost use Rattle.ft_layout.specs.Words.{FitsKey, FitsStored};
 ghost use Rattle.ft_trace.specs.Addresses.{class_of};
@@ -46,7 +46,7 @@ pub(crate) fn add_in_room(
 ) -> u64
     requires pass { IsPassOf bank.now pass.old }
     requires may { MayWriteEntries (shape_of bank.now) o (view pass.old) }
-    requires way { kind_in (shape_of bank.now).kinds o ≡ kind_by way }
+    requires way { kind_in (shape_of bank.now).starts o ≡ kind_by way }
     requires table { HasTable (shape_of bank.now) o table (view pass.old) }
     requires key { IsKeyIn (shape_of bank.now) key }
     requires fits { FitsKey key }
@@ -60,7 +60,7 @@ pub(crate) fn add_in_room(
     requires value { FitsStored stored }
     requires leaves { Leaves o called.now said.now (record {
       content = with_key (known o (view pass.old)).content key stored;
-      table = record { class = Some (class_of (name_of table)); fill = counts.fill + 1 };
+      table = record { class = Some (class_of (name_of table)); fill = counts.fill + 1; keys = [] };
     }) (view pass.old) }
     ensures pass { IsPassOf bank.now pass.new }
     ensures stack { stack_of pass.new ≡ stack_of pass.old }

@@ -65,7 +65,7 @@ module _ (F : ℕ → Type 0) (v : View) (a : Act) (aside : IsAside a) (same : (
       let w = noted a v in
       let now = did d.1 v a ∷ es in
       let next = acted_knows v a d in
-      let still = still_of k es now d.2.0 o low (λ x in_it of. stays k es d.1 v a d.2.1.3 x in_it (λ e. aside.apart k es o (subst (Of k es o) (sym e) of))) (ap (λ (cs : List Call). container_after k.kinds cs o) (aside.writes (history es))) in
+      let still = still_of k es now d.2.0 o low (λ x in_it of. stays k es d.1 v a d.2.1.3 x in_it (λ e. aside.apart k es o (subst (Of k es o) (sym e) of))) (ap (λ (cs : List Call). container_after k.starts cs o) (aside.writes (history es))) in
       let has : has_lock o w.log ≡ true = aside.lock o (has_lock o v.log) ∙ mine in (
         words_known w o low has now d.1 next ∙ (still.picture ∙ sym (words_known v o low mine es d.1 (d.2.0, d.2.1.0))),
         content_known w o has now d.1 next ∙ (still.content ∙ sym (content_known v o mine es d.1 (d.2.0, d.2.1.0))),

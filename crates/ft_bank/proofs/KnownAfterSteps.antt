@@ -65,7 +65,7 @@ lock_keeps v o f s d p low other mine =
     let k = v.shape in
     let is = d.2.1.3.2 in (
       ap (λ (z : Snap). picture k p z.words) is ∙ sym (words_known v p low mine d.0 d.1 (d.2.0, d.2.1.0)),
-      ap (λ (z : Snap). container_after k.kinds z.calls p) is ∙ sym (content_known v p mine d.0 d.1 (d.2.0, d.2.1.0)),
+      ap (λ (z : Snap). container_after k.starts z.calls p) is ∙ sym (content_known v p mine d.0 d.1 (d.2.0, d.2.1.0)),
     )
 
 -- a load with the lock finds what the pass knows

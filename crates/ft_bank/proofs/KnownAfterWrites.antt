@@ -13,7 +13,7 @@ use Rattle.ft_trace.specs.declared.Shape.{Shape}
 use Rattle.ft_trace.specs.declared.View.{View}
 use Rattle.ft_trace.specs.Addresses.{containers_in}
 use Rattle.ft_trace.specs.Acts.{is_writing, stage, debt, mem, noted, shown, seen_writes}
-use Rattle.ft_trace.specs.ContainerStates.{container_after, changes}
+use Rattle.ft_trace.specs.ContainerStates.{container_after, changes, kinds_in}
 use Rattle.ft_trace.specs.Pictures.{picture, root_in, Stands}
 use Rattle.ft_trace.specs.Holds.{held, known}
 use Rattle.ft_bank.specs.WriteSteps.{Committed, KeepsUnwritten}
@@ -126,7 +126,7 @@ module _ (u v w : View) where
 
 -- what a pass knows of a content is the same
 pub work_knows : (v w : View) (p : ℕ) → SameWork v w → known p w ≡ known p v
-work_knows v w p a = (λ d. container_after (a.pass.shape d).kinds (a.past d) p)
+work_knows v w p a = (λ d. container_after (a.pass.shape d).starts (a.past d) p)
 
 pub loaded_held : (v w : View) (p : ℕ) → OnlyLoaded v w → held p w ≡ held p v
 loaded_held v w p a = ap (λ (k : Shape). picture k p (mem k w.log)) a.work.pass.shape ∙ ap (λ (ws : List ℕ). picture v.shape p ws) a.words
@@ -272,7 +272,8 @@ module _ (called : Call) (said : Reply) (number f : ℕ) (v s u w : View) where
           agrees = λ p low mine. ends.has.agrees p (subst (λ (k : Shape). p < containers_in k) (sym p1.shape) low) (p1.locks p ∙ mine) ∙ work_knows begun u p w1;
           containers = ends.has.containers ∙ ap containers_in p1.shape;
           order = ends.has.order;
-          kinds = ends.has.kinds ∙ ap (λ (k : Shape). k.kinds) p1.shape;
+          unsplit = ends.has.unsplit;
+          kinds = ends.has.kinds ∙ ap (λ (k : Shape). kinds_in k.starts) p1.shape;
           words = ends.has.words;
         };
         content = ends.content;

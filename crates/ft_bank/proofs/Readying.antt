@@ -17,6 +17,7 @@ use Rattle.ft_trace.specs.Holds.{held, known, in_hand}
 use Rattle.ft_trace.specs.Traces.{run, history, snap, Ready, ReadyAs, Sure, word, SoundFor, LowFor}
 use Rattle.ft_trace.proofs.FitCalls.{contents_fit}
 use Rattle.ft_trace.proofs.Known.{kinds_stay}
+use Rattle.ft_trace.proofs.UnsplitTables.{tables_unsplit}
 use Rattle.ft_trace.proofs.NoWrap.{counter_room, version_room}
 use Rattle.ft_trace.proofs.OddVersions.{writer_has}
 use Rattle.ft_trace.proofs.Held.{content_known, root_known, table_known, stop_sure, put_sure, sound_sure, hand_known, agrees_now}
@@ -32,12 +33,13 @@ abbrev pub AreFew : View → Type 0
 AreFew v = v.shape.passes * v.shape.calls < 2 ^ 46
 
 -- what is stored is a world that the pass may expect
-pub has_now : (v : View) → Sure v (λ es. MayHave v (stored_newest v.shape.kinds (history es)))
+pub has_now : (v : View) → Sure v (λ es. MayHave v (stored_newest v.shape.starts (history es)))
 has_now v es id knows = record {
   agrees = agrees_now v es id knows;
-  containers = as_many v.shape.kinds (history es);
+  containers = as_many v.shape.starts (history es);
   kinds = kinds_stay v.shape es knows.0;
   order = in_order v.shape es knows.0;
+  unsplit = tables_unsplit v.shape es knows.0 (history es);
   words = contents_fit v.shape es knows.0;
 }
 
@@ -59,7 +61,7 @@ stop_ready v i o few low odd done stands shut es id knows small =
         omega (arith, r, few),
         (λ t names.
             let known_root = root_known v o low mine es id knows ∙ names in
-            subst (Shut (version_at (kind_in v.shape.kinds o) (class_of t)) (rows (kind_in v.shape.kinds o) (class_of t))) (table_known v o low t mine known_root es id knows).0 (shut t known_root)),
+            subst (Shut (version_at (kind_in v.shape.starts o) (class_of t)) (rows (kind_in v.shape.starts o) (class_of t))) (table_known v o low t mine known_root es id knows).0 (shut t known_root)),
       ),
     )
 
@@ -71,7 +73,7 @@ commit_ready v c r few may es id knows small =
     let mine = writer_has k es knows.0 o id v knows.1 may.odd in
     let has = has_now v es id knows in
     let room = counter_room k es knows.0 in
-    let now = stored_newest k.kinds (history es) in (
+    let now = stored_newest k.starts (history es) in (
       refl,
       (
         may.write,
@@ -83,7 +85,7 @@ commit_ready v c r few may es id knows small =
             let known_root = root_known v o low mine es id knows ∙ names in
             let words = (table_known v o low t mine known_root es id knows).0 in
             let content = content_known v o mine es id knows in
-            subst (λ (x : List ℕ × ContainerState). ClearAs (kind_in k.kinds o) k.texts (class_of t) x.0 x.1.content (container_after k.kinds (c ∷ history es) o).content) (λ d. (words d, content d)) (may.clear now t has known_root)),
+            subst (λ (x : List ℕ × ContainerState). ClearAs (kind_in k.starts o) k.texts (class_of t) x.0 x.1.content (container_after k.starts (c ∷ history es) o).content) (λ d. (words d, content d)) (may.clear now t has known_root)),
         low,
         refl,
         (λ class owed. may.takes now class has owed),
@@ -101,9 +103,9 @@ commit_leaves v c r n s d =
     let k = v.shape in
     let es = d.0 in
     let is : s ≡ snap (run k es) (history es) = d.2.1.3.7 in record {
-      found = stored_newest k.kinds (history es);
+      found = stored_newest k.starts (history es);
       has = has_now v es d.1 (d.2.0, d.2.1.0);
-      left = λ p. ap (λ (z : Snap). container_after k.kinds (c ∷ z.calls) p) is;
+      left = λ p. ap (λ (z : Snap). container_after k.starts (c ∷ z.calls) p) is;
     }
 
 pub read_ready : (v : View) (j t i : ℕ) → IsTableName v.shape t → i < size (class_of t) → Ready v j (λ n. ReadTable t i n)
@@ -138,7 +140,7 @@ young_low at m ws count committed young = record {
 pub root_ready : (v : View) (j o : ℕ) (root : Option Table) → o < containers_in v.shape → ((t : Table) → root ≡ Some t → IsTableName v.shape (name_of t)) → MayPutRoot v o root → Ready v j (λ n. PutRoot o (root_for root) (root_in (held o v)))
 root_ready v j o root low tables may es id knows less =
     let k = v.shape in
-    let kind = kind_in k.kinds o in
+    let kind = kind_in k.starts o in
     let mine = writer_has k es knows.0 o id v knows.1 may.odd in
     let now = root_known v o low mine es id knows in (
       tt,
@@ -148,7 +150,7 @@ root_ready v j o root low tables may es id knows less =
         now,
         (λ t e.
             let q = root_names root t e in
-            subst (λ (z : ℕ). IsTableName k z × (stage z v.log ≡ 1) × SoundFor k (run k es).words o z (container_after k.kinds (history es) o).content) q.2 (tables q.0 q.1, may.fresh q.0 q.1, sound_sure v o low (name_of q.0) (tables q.0 q.1) mine (may.fresh q.0 q.1) (may.sound q.0 q.1) es id knows)),
+            subst (λ (z : ℕ). IsTableName k z × (stage z v.log ≡ 1) × SoundFor k (run k es).words o z (container_after k.starts (history es) o).content) q.2 (tables q.0 q.1, may.fresh q.0 q.1, sound_sure v o low (name_of q.0) (tables q.0 q.1) mine (may.fresh q.0 q.1) (may.sound q.0 q.1) es id knows)),
         (λ q names.
             subst (Shut (version_at kind (class_of q)) (rows kind (class_of q))) (table_known v o low q mine names es id knows).0 (may.shut q names)),
         may.spare,

@@ -32,7 +32,7 @@ use Rattle.ft_trace.specs.declared.Shape.{Shape}
 use Rattle.ft_trace.specs.declared.View.{View}
 use Rattle.ft_trace.specs.Acts.{has_lock, past}
 use Rattle.ft_trace.specs.Causes.{AreOfOneCall, HasCause}
-use Rattle.ft_trace.specs.ContainerStates.{ContainerState, kind_in, container_after, first_writes, reply_in}
+use Rattle.ft_trace.specs.ContainerStates.{ContainerState, kind_in, kinds_in, container_after, first_writes, reply_in}
 use Rattle.ft_trace.specs.Addresses.{containers_in}
 use Rattle.ft_trace.specs.Holds.{known}
 use Rattle.ft_trace.specs.Traces.{Event, Valid, Knows, run, history, Possible, Sure}
@@ -68,13 +68,13 @@ no_memory stored log call said n plain other short = short
 -- ---- plain replies
 
 plain_shown : (v : View) (o n : ℕ) → MayAsk v o n → (call : Call) (said : Reply) → is_write call said ≡ false → moved_cursor call ≡ None → can_add call ≡ false → is_memory said ≡ false → said ≢ reply.Kept
-    → Sure v (λ es. IsReplied call said (reply_in (stored_newest v.shape.kinds (first_writes n (history es))) call)) → IsShown v call said n
+    → Sure v (λ es. IsReplied call said (reply_in (stored_newest v.shape.starts (first_writes n (history es))) call)) → IsShown v call said n
 plain_shown v o n ask call said reads none adds plain other replied = record {
   read = reads;
   left = ask.left;
   loaded = ask.loaded;
   replied = replied;
-  cause = λ es id knows. no_memory (stored_newest v.shape.kinds (first_writes n (history es))) v.log call said n plain other (never_over (stored_newest v.shape.kinds (first_writes n (history es))) call adds);
+  cause = λ es id knows. no_memory (stored_newest v.shape.starts (first_writes n (history es))) v.log call said n plain other (never_over (stored_newest v.shape.starts (first_writes n (history es))) call adds);
   no_cursor = λ es id knows. none;
 }
 
@@ -145,7 +145,7 @@ set_hits_are_shown v o t place key n ask is fits small h = set_shown v o n ask k
 
 pub misses_are_shown : MissesAreShown
 misses_are_shown v o key n ask fits how =
-    let r : Sure v (λ es. (kind_in v.shape.kinds o ≡ kind.Dict → DictReplies (stored_at v.shape es n) o key None) × (kind_in v.shape.kinds o ≡ kind.Set → reply_in (stored_at v.shape es n) (call.Set o (set.Has key)) ≡ reply.Truth false)) = λ es id knows. misses_are_replied v.shape es knows.0 o key n ask.low fits id v knows.1 how in
+    let r : Sure v (λ es. (kind_in v.shape.starts o ≡ kind.Dict → DictReplies (stored_at v.shape es n) o key None) × (kind_in v.shape.starts o ≡ kind.Set → reply_in (stored_at v.shape es n) (call.Set o (set.Has key)) ≡ reply.Truth false)) = λ es id knows. misses_are_replied v.shape es knows.0 o key n ask.low fits id v knows.1 how in
     (λ is. key_shown v o n ask key None (λ es id knows. (r es id knows).0 is), λ is. set_shown v o n ask key false (λ es id knows. (r es id knows).1 is))
 
 -- ---- items
@@ -207,26 +207,27 @@ keep_locks (a ∷ newer) rest own keep = by a own keep (keep_locks newer rest)
     by (AnswerCursor c r n m had left) own keep more = absurd own
     by act own keep more = more own keep
 
-by_shape : (u : View) (k : Shape) (id : ℕ) → u.shape ≡ k → (es : List Event) → (Knows u es id → MayHave u (stored_newest u.shape.kinds (history es))) → Valid k es × (get_elem? (run k es).views id ≡ some u) → MayHave u (stored_newest k.kinds (history es))
-by_shape u k id is es has knows = subst (λ (z : Shape). Valid z es × (get_elem? (run z es).views id ≡ some u) → MayHave u (stored_newest z.kinds (history es))) is has knows
+by_shape : (u : View) (k : Shape) (id : ℕ) → u.shape ≡ k → (es : List Event) → (Knows u es id → MayHave u (stored_newest u.shape.starts (history es))) → Valid k es × (get_elem? (run k es).views id ≡ some u) → MayHave u (stored_newest k.starts (history es))
+by_shape u k id is es has knows = subst (λ (z : Shape). Valid z es × (get_elem? (run z es).views id ≡ some u) → MayHave u (stored_newest z.starts (history es))) is has knows
 
 -- what the bank had at that load agrees with what the pass knows
-loaded_then : (v : View) (n : ℕ) (l : LoadedUnderLocks v n) → Sure v (λ es. MayHave v (stored_newest v.shape.kinds (first_writes n (history es))))
+loaded_then : (v : View) (n : ℕ) (l : LoadedUnderLocks v n) → Sure v (λ es. MayHave v (stored_newest v.shape.starts (first_writes n (history es))))
 loaded_then v n l es id knows =
     let k = v.shape in
     let w = was k es knows.0 id v knows.1 l.newer (ReadCounter n) l.rest l.is in
     let then_ = (stamp_then k w.older es w.valid knows.0 (record { newer = w.newer; is = w.split }) n w.tells).1 in
     let shape : w.view.shape ≡ k = sized k w.older w.valid id w.view w.at w.live in
-    let had : MayHave w.view (stored_newest k.kinds (history w.older)) = by_shape w.view k id shape w.older (λ z. has_now w.view w.older id z) (w.valid, w.at) in
+    let had : MayHave w.view (stored_newest k.starts (history w.older)) = by_shape w.view k id shape w.older (λ z. has_now w.view w.older id z) (w.valid, w.at) in
     let keep = keep_locks l.newer (ReadCounter n ∷ l.rest) l.own l.locks in
     let locks : (o : ℕ) → has_lock o v.log ≡ has_lock o w.view.log = λ o. ap (has_lock o) l.is ∙ (keep.0 o ∙ ap (has_lock o) (sym w.log)) in
     let pasts : past v.log ≡ past w.view.log = ap past l.is ∙ (keep.1 ∙ ap past (sym w.log)) in
-    subst (λ (cs : List Call). MayHave v (stored_newest k.kinds cs)) (sym then_)
+    subst (λ (cs : List Call). MayHave v (stored_newest k.starts cs)) (sym then_)
     (record {
-      agrees = λ p low mine. had.agrees p (subst (λ (z : Shape). p < containers_in z) (sym shape) low) (sym (locks p) ∙ mine) ∙ (λ d. container_after (shape d).kinds (sym pasts d) p);
+      agrees = λ p low mine. had.agrees p (subst (λ (z : Shape). p < containers_in z) (sym shape) low) (sym (locks p) ∙ mine) ∙ (λ d. container_after (shape d).starts (sym pasts d) p);
       containers = had.containers ∙ ap containers_in shape;
-      kinds = had.kinds ∙ ap (λ (z : Shape). z.kinds) shape;
+      kinds = had.kinds ∙ ap (λ (z : Shape). kinds_in z.starts) shape;
       order = had.order;
+      unsplit = had.unsplit;
       words = had.words;
     })
 
@@ -235,14 +236,14 @@ cursors_under_locks_are_shown v call reply n number cursor l moved right = recor
   moved = moved;
   left = l.left;
   loaded = record { newer = l.newer; rest = l.rest; is = l.is; own = l.own };
-  moves = λ es id knows. right (stored_newest v.shape.kinds (first_writes n (history es))) (loaded_then v n l es id knows);
+  moves = λ es id knows. right (stored_newest v.shape.starts (first_writes n (history es))) (loaded_then v n l es id knows);
 }
 
 -- a reply to a call that asks no cursor wherever the pass knows this
 replies_shown : (v : View) (call : Call) (said : Reply) (n : ℕ) → LoadedUnderLocks v n → is_write call said ≡ false → Sure v (λ es. moved_cursor call ≡ None)
     → ((stored : StoredWorld) → MayHave v stored → IsReplied call said (reply_in stored call) × HasCause stored v.log call said n) → IsShown v call said n
 replies_shown v call said n l reads none right =
-    let r : Sure v (λ es. IsReplied call said (reply_in (stored_newest v.shape.kinds (first_writes n (history es))) call) × HasCause (stored_newest v.shape.kinds (first_writes n (history es))) v.log call said n) = λ es id knows. right (stored_newest v.shape.kinds (first_writes n (history es))) (loaded_then v n l es id knows) in
+    let r : Sure v (λ es. IsReplied call said (reply_in (stored_newest v.shape.starts (first_writes n (history es))) call) × HasCause (stored_newest v.shape.starts (first_writes n (history es))) v.log call said n) = λ es id knows. right (stored_newest v.shape.starts (first_writes n (history es))) (loaded_then v n l es id knows) in
     record {
       read = reads;
       left = l.left;
@@ -258,7 +259,7 @@ replies_under_locks_are_shown v call said n l reads none right = replies_shown v
 pub memory_errors_are_shown : MemoryErrorsAreShown
 memory_errors_are_shown v call class n l empty right =
     replies_shown v call (reply.Raised (raise.Memory class)) n l (never_writes (is_changing call))
-    (λ es id knows. adds_no_cursor call (right (stored_newest v.shape.kinds (first_writes n (history es))) (loaded_then v n l es id knows)).0.adds)
+    (λ es id knows. adds_no_cursor call (right (stored_newest v.shape.starts (first_writes n (history es))) (loaded_then v n l es id knows)).0.adds)
     (λ stored has.
     let r = right stored has in
     (memory_replied (reply.Raised (raise.Memory class)) refl call r.0.adds (reply_in stored call), (r.0, r.1, r.2, empty)))
@@ -266,7 +267,7 @@ memory_errors_are_shown v call class n l empty right =
 pub overs_are_shown : OversAreShown
 overs_are_shown v call n l right =
     replies_shown v call (reply.Raised raise.Over) n l (never_writes (is_changing call))
-    (λ es id knows. adds_no_cursor call (right (stored_newest v.shape.kinds (first_writes n (history es))) (loaded_then v n l es id knows)).0.adds)
+    (λ es id knows. adds_no_cursor call (right (stored_newest v.shape.starts (first_writes n (history es))) (loaded_then v n l es id knows)).0.adds)
     (λ stored has.
     let r = right stored has in
     (memory_replied (reply.Raised raise.Over) refl call r.0.adds (reply_in stored call), r))

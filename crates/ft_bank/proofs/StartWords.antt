@@ -1,10 +1,13 @@
 -- The words of a bank at its start, one after the other.
-use Rattle.std.proofs.Common.{◌≡◌, ℕ, zero, suc, ◌+◌, ◌-◌, ◌^◌, ◌<◌, Bool, List, [], ◌∷◌, ◌++◌, refl, sym, ap, ◌∙◌, arith, ltb, append-nil}
-use Rattle.std.specs.Prelude.{slice_index, min}
+use Rattle.std.proofs.Common.{◌≡◌, ℕ, true, zero, suc, ◌+◌, ◌-◌, ◌^◌, ◌<◌, Bool, List, [], ◌∷◌, ◌++◌, refl, sym, ap, ◌∙◌, arith, ltb, append-nil}
+use Rattle.std.specs.Prelude.{◌&&◌, slice_index, min}
 use Rattle.std.proofs.Math.Decide.{dec_lt}
 use Rattle.std.proofs.Math.Nat.{pow-suc, min-eq_left, min-eq_right}
 use Rattle.std.proofs.lemmas.Bool.{lt-ltb, le-ltb}
+use Rattle.std.proofs.lemmas.List.Elements.{All-map, All-weaker}
 use mathlib.Core.Logic.{dite}
+use Rattle.ft_model.specs.Landed.{is_landed_kind, is_landed_start}
+use Rattle.ft_model.specs.Worlds.{start_as}
 use Rattle.ft_layout.specs.Starts.{bank_size}
 use Rattle.ft_trace.specs.declared.Shape.{Shape as Plan}
 use Rattle.ft_trace.specs.Addresses.{free_counts, free_bits, free_words, least, sizes_of, far, extent}
@@ -55,6 +58,7 @@ pub fits_of : (s : Shape) → IsShape s → Fits (plan s)
 fits_of s is = record {
   some_pass = is.passes.0;
   passes = is.passes.1;
+  landed = All-map (λ start. is_landed_start start ≡ true) start_as s.kinds.items (All-weaker (λ kind. is_landed_kind kind ≡ true) (λ kind. is_landed_start (start_as kind) ≡ true) (λ kind landed. ap (λ (b : Bool). b && true) landed) s.kinds.items is.landed);
   tables = λ c class. (is.tables.counts (c - 3) 0 (let n = is.tables.classes in let a = class.least in let b = class.greatest in omega (arith, n, a, b))).1;
 }
 

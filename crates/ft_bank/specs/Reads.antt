@@ -21,8 +21,8 @@ pub record IsShown (v : View) (call : Call) (reply : Reply) (number : ℕ) : Typ
   pub left : 0 < v.left
   pub loaded : Loaded number v.log
   pub replied : Sure v (λ es. IsReplied call reply
-      (reply_in (stored_newest v.shape.kinds (first_writes number (history es))) call))
-  pub cause : Sure v (λ es. HasCause (stored_newest v.shape.kinds (first_writes number (history es))) v.log call reply
+      (reply_in (stored_newest v.shape.starts (first_writes number (history es))) call))
+  pub cause : Sure v (λ es. HasCause (stored_newest v.shape.starts (first_writes number (history es))) v.log call reply
       number)
   pub no_cursor : Sure v (λ es. moved_cursor call ≡ None)
 
@@ -34,5 +34,5 @@ pub record IsCursorShown (v : View) (call : Call) (reply : Reply) (stamp number 
   pub left : 0 < v.left
   pub loaded : Loaded stamp v.log
   pub moves : Sure v (λ es.
-      MovesCursor (stored_newest v.shape.kinds (first_writes stamp (history es))).world call number
+      MovesCursor (stored_newest v.shape.starts (first_writes stamp (history es))).world call number
       (cursor_in number v.log) reply cursor)

@@ -56,7 +56,7 @@ pub record KeyIsShown (v : View) (o : ℕ) (key : Key) (found : Option Value) (n
 -- a key that was found in a dict, with the value whose words were read
 abbrev pub DictHitsAreShown : Type 0
 DictHitsAreShown =
-    (v : View) (o t place : ℕ) (key : Key) (n : ℕ) → MayAsk v o n → kind_in v.shape.kinds o ≡ kind.Dict → FitsKey key
+    (v : View) (o t place : ℕ) (key : Key) (n : ℕ) → MayAsk v o n → kind_in v.shape.starts o ≡ kind.Dict → FitsKey key
     → place < rows kind.Dict (class_of t) → (h : Hit v.log o t place key n)
     → IsShown v (call.Dict o (dict.Has key)) (reply.Truth true) n
     × ((kind payload : ℕ) → IsValueRead t place kind payload h.mid → (value : Value)
@@ -66,14 +66,14 @@ DictHitsAreShown =
 abbrev pub ValuesAreRead : Type 0
 ValuesAreRead =
     (v : View) (o t place : ℕ) (key : Key) (n : ℕ) → Possible v → o < containers_in v.shape
-    → kind_in v.shape.kinds o ≡ kind.Dict → FitsKey key → place < rows kind.Dict (class_of t)
+    → kind_in v.shape.starts o ≡ kind.Dict → FitsKey key → place < rows kind.Dict (class_of t)
     → (h : Hit v.log o t place key n) (kind payload : ℕ) → IsValueRead t place kind payload h.mid
     → (value : Value) × IsStored kind payload (Plain value)
 
 -- a key that was found in a set
 abbrev pub SetHitsAreShown : Type 0
 SetHitsAreShown =
-    (v : View) (o t place : ℕ) (key : Key) (n : ℕ) → MayAsk v o n → kind_in v.shape.kinds o ≡ kind.Set → FitsKey key
+    (v : View) (o t place : ℕ) (key : Key) (n : ℕ) → MayAsk v o n → kind_in v.shape.starts o ≡ kind.Set → FitsKey key
     → place < rows kind.Set (class_of t) → Hit v.log o t place key n
     → IsShown v (call.Set o (set.Has key)) (reply.Truth true) n
 
@@ -82,15 +82,15 @@ abbrev pub MissesAreShown : Type 0
 MissesAreShown =
     (v : View) (o : ℕ) (key : Key) (n : ℕ) → MayAsk v o n → FitsKey key
     → ((t : ℕ) × IsAbsent v.shape v.log o t key n) ⊎ Bare v.log o n
-    → (kind_in v.shape.kinds o ≡ kind.Dict → KeyIsShown v o key None n)
-    × (kind_in v.shape.kinds o ≡ kind.Set → IsShown v (call.Set o (set.Has key)) (reply.Truth false) n)
+    → (kind_in v.shape.starts o ≡ kind.Dict → KeyIsShown v o key None n)
+    × (kind_in v.shape.starts o ≡ kind.Set → IsShown v (call.Set o (set.Has key)) (reply.Truth false) n)
 
 -- ---- items
 
 -- an item whose words were read, by whether they are those of a value or of nothing
 abbrev pub ItemsAreShown : Type 0
 ItemsAreShown =
-    (v : View) (o t place n : ℕ) → MayAsk v o n → kind_in v.shape.kinds o ≡ kind.List
+    (v : View) (o t place n : ℕ) → MayAsk v o n → kind_in v.shape.starts o ≡ kind.List
     → place < rows kind.List (class_of t) → (h : ItemHit v.log o t place n) (kind payload : ℕ)
     → IsItemRead t place kind payload h.mid
     → ((value : Value) → IsStored kind payload (Plain value)
@@ -100,7 +100,7 @@ ItemsAreShown =
 -- and they are one of the two
 abbrev pub ItemsAreRead : Type 0
 ItemsAreRead =
-    (v : View) (o t place n : ℕ) → Possible v → o < containers_in v.shape → kind_in v.shape.kinds o ≡ kind.List
+    (v : View) (o t place n : ℕ) → Possible v → o < containers_in v.shape → kind_in v.shape.starts o ≡ kind.List
     → place < rows kind.List (class_of t) → (h : ItemHit v.log o t place n) (kind payload : ℕ)
     → IsItemRead t place kind payload h.mid
     → ((value : Value) × IsStored kind payload (Plain value)) ⊎ IsStored kind payload Empty
@@ -108,7 +108,7 @@ ItemsAreRead =
 -- an index past the table of the list, or where the root was read 0
 abbrev pub PastItemsAreShown : Type 0
 PastItemsAreShown =
-    (v : View) (o index n : ℕ) → MayAsk v o n → kind_in v.shape.kinds o ≡ kind.List
+    (v : View) (o index n : ℕ) → MayAsk v o n → kind_in v.shape.starts o ≡ kind.List
     → ((t : ℕ) × (slots (class_of t) ≤ index) × ItemPast v.log o t n) ⊎ Bare v.log o n
     → IsShown v (call.List o (list.Get (pos index))) (item_reply None) n
 

@@ -1,16 +1,16 @@
 -- What the steps of a write ask of the pass that makes them, in what it knows.
-use Rattle.std.specs.Prelude.{All, map, ◌≡◌, ◌≢◌, ℕ, suc, ◌<◌, ◌≤◌, true, false, length, Option, Some, None, slice_index, slice_set}
+use Rattle.std.specs.Prelude.{All, map, ◌≡◌, ◌≢◌, ℕ, suc, ◌<◌, ◌≤◌, true, false, length, [], Option, Some, None, slice_index, slice_set}
 use Rattle.ft_model.specs.declared.call.Call.{Call}
 use Rattle.ft_model.specs.declared.reply.Reply.{Reply}
 use Rattle.ft_model.specs.Answers.{is_write}
 use Rattle.ft_model.specs.TablesInOrder.{AreTablesInOrder}
 use Rattle.ft_model.specs.Histories.{IsReplied}
-use Rattle.ft_model.specs.TableUses.{StoredWorld, after_stored, takes_in, would_pass}
+use Rattle.ft_model.specs.TableUses.{StoredWorld, after_stored, takes_in, would_pass, table_at}
 use Rattle.ft_model.specs.Worlds.{kind_of, no_hands, IsDeclared}
 use Rattle.ft_trace.specs.declared.View.{View}
 use Rattle.ft_trace.specs.Addresses.{containers_in, class_of}
 use Rattle.ft_trace.specs.Acts.{has_lock, is_writing, has_committed, has_emptied, owes, stage, used}
-use Rattle.ft_trace.specs.ContainerStates.{state_at, kind_in, changes, may_empty, reply_in}
+use Rattle.ft_trace.specs.ContainerStates.{state_at, kind_in, kinds_in, changes, may_empty, reply_in}
 use Rattle.ft_trace.specs.Pictures.{Picture, root_in}
 use Rattle.ft_trace.specs.Kinds.{rows, version_at, SoundAs, CarefulAs, ClearAs}
 use Rattle.ft_trace.specs.OddVersions.{Shut, Timely}
@@ -21,12 +21,14 @@ use Rattle.ft_bank.specs.declared.table.Table.{Table}
 use Rattle.ft_bank.specs.TableNames.{name_of, root_for, words_for}
 
 -- a stored world that the bank may have where a pass knows this: it has every container, those whose locks the pass has
--- as the pass knows them, each is of its kind, its tables are in order, and words can represent what it has
+-- as the pass knows them, each is of its kind, its tables are in order and no dict is split, and words can represent
+-- what it has
 pub record MayHave (v : View) (stored : StoredWorld) : Type 0 where
   pub agrees : AgreesWith v stored
   pub containers : length stored.world ≡ containers_in v.shape
-  pub kinds : map kind_of stored.world ≡ v.shape.kinds
+  pub kinds : map kind_of stored.world ≡ kinds_in v.shape.starts
   pub order : AreTablesInOrder stored
+  pub unsplit : (place : ℕ) → (table_at stored.tables place).keys ≡ []
   pub words : All FitsContent stored.world
 
 -- The call may be written with this reply, whatever the bank has that agrees with what the pass knows. It is a write of
@@ -45,7 +47,7 @@ pub record MayCommit (v : View) (call : Call) (reply : Reply) : Type 0 where
   pub declared : (stored : StoredWorld) → MayHave v stored → IsDeclared stored.world no_hands call
   pub fits : (stored : StoredWorld) → MayHave v stored → would_pass stored.world call ≡ false
   pub clear : (stored : StoredWorld) (t : ℕ) → MayHave v stored → root_in (held (changes call) v) ≡ suc t
-      → ClearAs (kind_in v.shape.kinds (changes call)) v.shape.texts (class_of t) (held (changes call) v).table
+      → ClearAs (kind_in v.shape.starts (changes call)) v.shape.texts (class_of t) (held (changes call) v).table
       (known (changes call) v).content (state_at (after_stored stored call) (changes call)).content
   pub takes : (stored : StoredWorld) (class : ℕ) → MayHave v stored → owes v.log ≡ suc class
       → takes_in stored call ≡ Some class
@@ -63,7 +65,7 @@ pub record Committed (v w : View) (call : Call) : Type 0 where
 abbrev pub IsShut : ℕ → View → Type 0
 IsShut o v =
     (t : ℕ) → root_in (held o v) ≡ suc t
-    → Shut (version_at (kind_in v.shape.kinds o) (class_of t)) (rows (kind_in v.shape.kinds o) (class_of t))
+    → Shut (version_at (kind_in v.shape.starts o) (class_of t)) (rows (kind_in v.shape.starts o) (class_of t))
     (held o v).table
 
 -- The root of o may become this. A table that it names is fresh in hand, as it must be for readers of the content, and
@@ -73,12 +75,12 @@ pub record MayPutRoot (v : View) (o : ℕ) (root : Option Table) : Type 0 where
   pub odd : is_writing o v.log ≡ true
   pub fresh : (t : Table) → root ≡ Some t → stage (name_of t) v.log ≡ 1
   pub sound : (t : Table) → root ≡ Some t
-      → SoundAs (kind_in v.shape.kinds o) v.shape.texts (class_of (name_of t)) (in_hand (name_of t) v)
+      → SoundAs (kind_in v.shape.starts o) v.shape.texts (class_of (name_of t)) (in_hand (name_of t) v)
       (known o v).content
-  pub young : (t : Table) (p : ℕ) → root ≡ Some t → p < rows (kind_in v.shape.kinds o) (class_of (name_of t))
-      → (slice_index (in_hand (name_of t) v) (version_at (kind_in v.shape.kinds o) (class_of (name_of t)) p) ≤ 1)
+  pub young : (t : Table) (p : ℕ) → root ≡ Some t → p < rows (kind_in v.shape.starts o) (class_of (name_of t))
+      → (slice_index (in_hand (name_of t) v) (version_at (kind_in v.shape.starts o) (class_of (name_of t)) p) ≤ 1)
       × (has_committed o v.log ≡ true
-      → slice_index (in_hand (name_of t) v) (version_at (kind_in v.shape.kinds o) (class_of (name_of t)) p) ≡ 0)
+      → slice_index (in_hand (name_of t) v) (version_at (kind_in v.shape.starts o) (class_of (name_of t)) p) ≡ 0)
   pub shut : IsShut o v
   pub spare : root_in (held o v) ≢ 0 → used v.log ≡ false
   pub early : root ≡ None → has_committed o v.log ≡ false
@@ -98,9 +100,9 @@ with_root x root v = record { block = slice_set x.block 0 (root_for root); table
 -- The word of the table that the root of o names may become this while others read it without the lock. A version of an
 -- entry or item becomes odd before the commit of the write, and even after it.
 pub record IsCareful (v : View) (o t i value : ℕ) : Type 0 where
-  pub care : CarefulAs (kind_in v.shape.kinds o) (class_of t) (held o v).table (known o v).content i value
-  pub timely : Timely (version_at (kind_in v.shape.kinds o) (class_of t))
-      (rows (kind_in v.shape.kinds o) (class_of t)) i
+  pub care : CarefulAs (kind_in v.shape.starts o) (class_of t) (held o v).table (known o v).content i value
+  pub timely : Timely (version_at (kind_in v.shape.starts o) (class_of t))
+      (rows (kind_in v.shape.starts o) (class_of t)) i
       value (has_committed o v.log)
 
 -- the pass knows the same as before of each container whose lock it has and that it doesn't write

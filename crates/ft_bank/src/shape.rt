@@ -1,6 +1,7 @@
 //! How large a bank is, for whoever makes one.
-ghost use Rattle.std.specs.Prelude.{◌≡◌, ◌↔◌, IsTrue};
+ghost use Rattle.std.specs.Prelude.{◌≡◌, ◌↔◌, true, All, IsTrue};
 ghost use Rattle.ft_layout.specs.Starts.{IsHeap, AreTables};
+ghost use Rattle.ft_model.specs.Landed.{is_landed_kind};
 ghost use Rattle.ft_bank.specs.Shapes.{IsShape};
 
 use ft_layout::limit::{CONTAINERS, PASSES, PLACES, TABLES};
@@ -13,7 +14,7 @@ const TEXTS: usize = 65536;
 /// How large a bank is.
 #[derive(Drop)]
 pub struct Shape {
-    /// The kind of each container, at most 256.
+    /// The kind of each container, at most 256; none is a deque yet.
     pub kinds: Vec<Kind>,
     /// The hash of each string, by the number that calls have for it, at most 65,536.
     pub texts: Vec<u64>,
@@ -33,12 +34,13 @@ impl Shape {
         ensures { IsTrue result ↔ IsShape self.now }
     {
         let containers = self.kinds.len();
+        let landed = are_landed(self.kinds.as_slice());
         let texts = self.texts.len();
         let tables = are_tables(self.tables.as_slice());
         let heap = is_heap(self.heap);
         // Its type alone bounds it; it is named so that the check sees that.
         let _calls = self.calls;
-        if !tables || !heap {
+        if !landed || !tables || !heap {
             return false;
         }
         if containers > CONTAINERS as usize || texts > TEXTS {
@@ -46,6 +48,20 @@ impl Shape {
         }
         1 <= self.passes && self.passes <= PASSES
     }
+}
+
+/// Whether a bank can have containers of all these kinds yet.
+fn are_landed(kinds: &[Kind]) -> bool
+    ensures { IsTrue result ↔ All (λ kind. is_landed_kind kind ≡ true) kinds.now }
+{
+    kinds.iter().all(|kind| is_landed(*kind))
+}
+
+/// Whether a bank can have a container of this kind yet.
+fn is_landed(kind: Kind) -> bool
+    ensures { result ≡ is_landed_kind kind }
+{
+    !matches!(kind, Kind::Deque(_))
 }
 
 /// Whether there are tables of each class, and not too many.

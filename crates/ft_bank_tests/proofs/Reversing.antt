@@ -45,6 +45,7 @@ list_code : Kind → ℕ
 list_code kind.Dict = 0
 list_code kind.List = 1
 list_code kind.Set = 0
+list_code (kind.Deque bound) = 0
 
 no_items : (values : List Value) → length values ≡ 0 → values ≡ []
 no_items [] none = refl
@@ -55,13 +56,14 @@ unfolding list_code
 as_empty (content.List values) is none = ap content.List (no_items values none)
 as_empty (content.Dict dict) is none = absurd (omega (arith, is))
 as_empty (content.Set set) is none = absurd (omega (arith, is))
+as_empty (content.Deque deque) is none = absurd (omega (arith, is))
 
 module _ (k : Shape) (l : ℕ) (v : View) (possible : ∥ Possible v ∥₁) (shape : v.shape ≡ k) (may : MayReverse k l v) (bare : root_in (held l v) ≡ 0) where
   low : l < containers_in v.shape
   low = subst (λ (z : Shape). l < containers_in z) (sym shape) may.container
 
-  is_kind : kind_in v.shape.kinds l ≡ kind.List
-  is_kind = ap (λ (z : Shape). kind_in z.kinds l) shape ∙ may.kind
+  is_kind : kind_in v.shape.starts l ≡ kind.List
+  is_kind = ap (λ (z : Shape). kind_in z.starts l) shape ∙ may.kind
 
   -- the list has nothing
   empty : (known l v).content ≡ content.List []

@@ -17,7 +17,7 @@ use Rattle.ft_bank.specs.Whole.{OnlyLoaded, Wrote}
 -- version is odd there, the pass owes no table, and it has a call left.
 pub record MayReverse (k : Shape) (l : ℕ) (v : View) : Type 0 where
   pub container : l < containers_in k
-  pub kind : kind_in k.kinds l ≡ kind.List
+  pub kind : kind_in k.starts l ≡ kind.List
   pub locked : has_lock l v.log ≡ true
   pub even : is_writing l v.log ≡ false
   pub stands : Stands k.texts (held l v) (known l v)

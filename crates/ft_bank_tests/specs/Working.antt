@@ -14,7 +14,7 @@ use Rattle.ft_bank_tests.specs.TestRounds.{IsIdlePass}
 -- the container is a list of the bank
 pub record IsListIn (k : Shape) (l : ℕ) : Type 0 where
   pub low : l < containers_in k
-  pub kind : kind_in k.kinds l ≡ kind.List
+  pub kind : kind_in k.starts l ≡ kind.List
 
 -- the pass is one of the bank's, between its rounds
 pub record IsWorker (b : Bank) (p : Pass) : Type 0 where

@@ -35,6 +35,21 @@ fn the_smallest_bank_is_closed(rt: HostRuntime) -> Result<(), Fail> {
     Ok(())
 }
 
+#[test]
+fn no_bank_has_a_deque_yet(rt: HostRuntime) -> Result<(), Fail> {
+    let alloc = rt.alloc();
+    let lists = small_shape(alloc, vec![in alloc; Kind::List, Kind::List]?, 1, 0)?;
+    assert_eq!(rt; lists.fits(), true);
+    let deques = small_shape(
+        alloc,
+        vec![in alloc; Kind::List, Kind::Deque(Some(3))]?,
+        1,
+        0,
+    )?;
+    assert_eq!(rt; deques.fits(), false);
+    Ok(())
+}
+
 /// As many lists, passes, places and tables of class 3 as there may be.
 fn large(alloc: Global) -> Result<Shape, Fail>
     ensures sizes { IfOk result (λ s. (s.passes ≡ 64) × (s.calls ≡ 1)) }

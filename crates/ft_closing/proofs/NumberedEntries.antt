@@ -12,14 +12,14 @@ use Rattle.ft_model.specs.declared.entry.Entry.{Entry as NamedEntry}
 use Rattle.ft_model.specs.declared.entry.Storage.TheVariants as storage
 use Rattle.ft_model.specs.declared.reply.Reply.{Reply}
 use Rattle.ft_model.specs.declared.reply.Reply.TheVariants as reply
-use Rattle.ft_model.specs.declared.script.Kind.{Kind}
 use Rattle.ft_model.specs.declared.script.ScriptParts.{ScriptParts}
+use Rattle.ft_model.specs.declared.script.Start.{Start}
 use Rattle.ft_model.specs.Answers.{answer, world_by}
 use Rattle.ft_model.specs.Calls.{containers_of}
 use Rattle.ft_model.specs.Histories.{names, cursors_of, hands_by, IsReplied, IsCountedAs, EachAt, IfEnds, IfInnermost}
 use Rattle.ft_model.specs.Numbers.{is_number, after_begins, begins_of, marks_since, IsKeptFrom, IsRightAfter, IsNumberedThread}
-use Rattle.ft_model.specs.TableUses.{stored_by, IsEarnedReply, IsFittingReply}
-use Rattle.ft_model.specs.Worlds.{kinds_of}
+use Rattle.ft_model.specs.TableUses.{Supply, stored_by, IsEarnedReply, IsFittingReply}
+use Rattle.ft_model.specs.Worlds.{starts_of}
 use Rattle.ft_trace.specs.declared.Entry.{Entry}
 use Rattle.ft_trace.specs.declared.Owner.{Owner}
 use Rattle.ft_trace.specs.declared.Shape.{Shape}
@@ -42,8 +42,11 @@ begins_one x call.End (y ∷ acc) = refl
 begins_one x (call.Dict o c) acc = refl
 begins_one x (call.List o c) acc = refl
 begins_one x (call.Set o c) acc = refl
+begins_one x (call.Deque o c) acc = refl
 begins_one x (call.Next c) acc = refl
 begins_one x call.Quiesce acc = refl
+begins_one x (call.Await thread index) acc = refl
+begins_one x call.Dump acc = refl
 
 begins_from : (acc : List NamedEntry) (older : List Entry) → map plain_entry acc ≡ begins_in older → (xs : List NamedEntry) → map plain_entry (fold (λ begins entry. after_begins entry entry.call begins) acc xs) ≡ begins_in (reverse (map plain_entry xs) ++ older)
 begins_from acc older same [] = same
@@ -81,8 +84,8 @@ own_at W [] e older own = own.0
 own_at W (x ∷ newer) e older own = own_at W newer e older own.1
 
 module _ (k : Shape) (script : ScriptParts) (calls : List Call) (for_it : IsFor script k) where
-  kinds : List Kind
-  kinds = kinds_of script.containers
+  starts : List Start
+  starts = starts_of script.containers
 
   -- an entry after those that its caller kept before it
   module _ (before : List NamedEntry) (entry : NamedEntry) (stands : StandsInOrder k calls (plain_entry entry)) (follows : FollowsOwn (IsWriteIn calls) (reverse (map plain_entry before)) (plain_entry entry)) where
@@ -103,10 +106,13 @@ module _ (k : Shape) (script : ScriptParts) (calls : List Call) (for_it : IsFor 
     kept_by (call.Dict o c) is = tt
     kept_by (call.List o c) is = tt
     kept_by (call.Set o c) is = tt
+    kept_by (call.Deque o c) is = tt
     kept_by (call.Next c) is = tt
     kept_by call.Quiesce is = tt
+    kept_by (call.Await thread index) is = tt
+    kept_by call.Dump is = tt
 
-    pub right_after : IsReplied entry.call entry.reply (answer (world_by k.kinds (take entry.stamp calls)) (hands_by k.kinds calls (cursors_of script entry.thread) before) entry.call).reply → IfEnds (begins_of before) entry.call (λ begun. Counts before entry begun) → IsRightAfter storage.Tables script calls before entry
+    pub right_after : IsReplied entry.call entry.reply (answer (world_by k.starts (take entry.stamp calls)) (hands_by k.starts calls (cursors_of script entry.thread) before) entry.call).reply → IfEnds (begins_of before) entry.call (λ begun. Counts before entry begun) → IsRightAfter storage.Tables script calls before entry
     right_after replied counted =
         let upto = take entry.stamp calls in
         let earned = stands.earned before in
@@ -114,16 +120,16 @@ module _ (k : Shape) (script : ScriptParts) (calls : List Call) (for_it : IsFor 
           within = stands.within;
           rises = all_back plain_entry (λ earlier. own_after earlier ≤ entry.stamp) before follows.rises;
           wrote = stands.wrote;
-          reply = subst (λ (z : List Kind). IsReplied entry.call entry.reply (answer (world_by z upto) (hands_by z calls (cursors_of script entry.thread) before) entry.call).reply) for_it.kinds replied;
+          reply = subst (λ (z : List Start). IsReplied entry.call entry.reply (answer (world_by z upto) (hands_by z calls (cursors_of script entry.thread) before) entry.call).reply) for_it.starts replied;
           kept = kept_by entry.call refl;
           counted = counted;
-          earned = subst (λ (z : List Kind × List ℕ × ℕ). IsEarnedReply z.0 z.1 z.2 upto before entry.call entry.reply) (λ d. (for_it.kinds d, for_it.tables d, for_it.passes d)) earned;
-          fitting = subst (λ (z : List Kind). IsFittingReply (stored_by z upto) entry.call entry.reply) for_it.kinds stands.fitting;
+          earned = subst (λ (z : List Start × Supply). IsEarnedReply z.0 z.1 upto before entry.call entry.reply) (λ d. (for_it.starts d, record { tables = for_it.tables d; threads = for_it.passes d; heap = for_it.heap d })) earned;
+          fitting = subst (λ (z : List Start). IsFittingReply (stored_by z upto) entry.call entry.reply) for_it.starts stands.fitting;
         }
 
   -- ---- one pass
 
-  module _ (thread : ℕ) (mine : List NamedEntry) (own : List Entry) (had found : List Owner) (kept : HasNamedEntries thread mine own had found) (asks : All (AsksWithin (cursors_of script thread)) mine) (replied : (room : ℕ) → AreReplied k.kinds calls room own) (stand : All (StandsInOrder k calls) own) (ordered : AreInOwnOrder (IsWriteIn calls) own) where
+  module _ (thread : ℕ) (mine : List NamedEntry) (own : List Entry) (had found : List Owner) (kept : HasNamedEntries thread mine own had found) (asks : All (AsksWithin (cursors_of script thread)) mine) (replied : (room : ℕ) → AreReplied k.starts calls room own) (stand : All (StandsInOrder k calls) own) (ordered : AreInOwnOrder (IsWriteIn calls) own) where
     own_is : own ≡ reverse (map plain_entry mine)
     own_is = sym (reverse-reverse own) ∙ ap reverse (sym kept.same)
 
@@ -148,7 +154,7 @@ module _ (k : Shape) (script : ScriptParts) (calls : List Call) (for_it : IsFor 
         let f = own_at (IsWriteIn calls) newer (plain_entry entry) older (subst (AreInOwnOrder (IsWriteIn calls)) cut ordered) in
         let named : entry.thread ≡ thread = all_at (λ e. e.thread ≡ thread) mine place entry at kept.own in
         right_after (take place mine) entry s f
-        (subst (λ (z : ℕ). IsReplied entry.call entry.reply (answer (world_by k.kinds (take entry.stamp calls)) (hands_by k.kinds calls (cursors_of script z) (take place mine)) entry.call).reply) (sym named) (replied (cursors_of script thread) mine kept.same asks place entry at))
+        (subst (λ (z : ℕ). IsReplied entry.call entry.reply (answer (world_by k.starts (take entry.stamp calls)) (hands_by k.starts calls (cursors_of script z) (take place mine)) entry.call).reply) (sym named) (replied (cursors_of script thread) mine kept.same asks place entry at))
         (kept.counted place entry at)
 
     pub numbered_thread : IsNumberedThread storage.Tables script calls thread mine
@@ -162,7 +168,7 @@ module _ (k : Shape) (script : ScriptParts) (calls : List Call) (for_it : IsFor 
 
   -- ---- all passes
 
-  numbered_from : (first : ℕ) (kept : List (List NamedEntry)) (lists : List (List Entry)) (had found : List Owner) → HaveNamedEntries first kept lists had found → ((i : ℕ) (mine : List NamedEntry) → slice_get kept i ≡ Some mine → All (AsksWithin (cursors_of script (first + i))) mine) → All (λ own. (room : ℕ) → AreReplied k.kinds calls room own) lists → All (StandsInOrder k calls) (flat_map (λ own. own) lists) → All (AreInOwnOrder (IsWriteIn calls)) lists → (i : ℕ) (mine : List NamedEntry) → slice_get kept i ≡ Some mine → IsNumberedThread storage.Tables script calls (first + i) mine
+  numbered_from : (first : ℕ) (kept : List (List NamedEntry)) (lists : List (List Entry)) (had found : List Owner) → HaveNamedEntries first kept lists had found → ((i : ℕ) (mine : List NamedEntry) → slice_get kept i ≡ Some mine → All (AsksWithin (cursors_of script (first + i))) mine) → All (λ own. (room : ℕ) → AreReplied k.starts calls room own) lists → All (StandsInOrder k calls) (flat_map (λ own. own) lists) → All (AreInOwnOrder (IsWriteIn calls)) lists → (i : ℕ) (mine : List NamedEntry) → slice_get kept i ≡ Some mine → IsNumberedThread storage.Tables script calls (first + i) mine
   numbered_from first [] lists had found are asks replied stand ordered i mine at = absurd (cc)
   numbered_from first (m ∷ kept) [] had found are asks replied stand ordered i mine at = absurd are
   numbered_from first (m ∷ kept) (own ∷ lists) had found are asks replied stand ordered zero mine at =
@@ -170,11 +176,11 @@ module _ (k : Shape) (script : ScriptParts) (calls : List Call) (for_it : IsFor 
       let here : first ≡ first + 0 = omega arith in
       let s = (all_parts (StandsInOrder k calls) own (flat_map (λ l. l) lists) stand).0 in
       let o = All-head (AreInOwnOrder (IsWriteIn calls)) own lists ordered in
-      subst (λ (z : ℕ × List NamedEntry). IsNumberedThread storage.Tables script calls z.0 z.1) (λ d. (here d, same d)) (numbered_thread first m own had found are.0 (subst (λ (z : ℕ). All (AsksWithin (cursors_of script z)) m) (sym here) (asks zero m refl)) (All-head (λ l. (room : ℕ) → AreReplied k.kinds calls room l) own lists replied) s o)
+      subst (λ (z : ℕ × List NamedEntry). IsNumberedThread storage.Tables script calls z.0 z.1) (λ d. (here d, same d)) (numbered_thread first m own had found are.0 (subst (λ (z : ℕ). All (AsksWithin (cursors_of script z)) m) (sym here) (asks zero m refl)) (All-head (λ l. (room : ℕ) → AreReplied k.starts calls room l) own lists replied) s o)
   numbered_from first (m ∷ kept) (own ∷ lists) had found are asks replied stand ordered (suc i) mine at =
       let next : suc first + i ≡ first + suc i = omega arith in
       subst (λ (z : ℕ). IsNumberedThread storage.Tables script calls z mine) next
-      (numbered_from (suc first) kept lists had found are.1 (λ j other here. subst (λ (z : ℕ). All (AsksWithin (cursors_of script z)) other) (let e : first + suc j ≡ suc first + j = omega arith in e) (asks (suc j) other here)) (All-tail (λ l. (room : ℕ) → AreReplied k.kinds calls room l) own lists replied) (all_parts (StandsInOrder k calls) own (flat_map (λ l. l) lists) stand).1 (All-tail (AreInOwnOrder (IsWriteIn calls)) own lists ordered) i mine at)
+      (numbered_from (suc first) kept lists had found are.1 (λ j other here. subst (λ (z : ℕ). All (AsksWithin (cursors_of script z)) other) (let e : first + suc j ≡ suc first + j = omega arith in e) (asks (suc j) other here)) (All-tail (λ l. (room : ℕ) → AreReplied k.starts calls room l) own lists replied) (all_parts (StandsInOrder k calls) own (flat_map (λ l. l) lists) stand).1 (All-tail (AreInOwnOrder (IsWriteIn calls)) own lists ordered) i mine at)
 
 -- ---- how many are the write of a number
 

@@ -14,7 +14,8 @@ use Rattle.ft_model.specs.declared.script.ScriptParts.{ScriptParts}
 use Rattle.ft_model.specs.Calls.{moved_cursor}
 use Rattle.ft_model.specs.Histories.{cursors_of, EachAt, has_call_on, names}
 use Rattle.ft_model.specs.Numbers.{after_begins, begins_of, begun_containers, hands_after, needs_after, AreNumberedLists, IsMarkedAfter, IsNumberedThread}
-use Rattle.ft_model.specs.Worlds.{container_of, containers_used, cursor_at, kinds_of}
+use Rattle.ft_model.specs.TableUses.{supply_of}
+use Rattle.ft_model.specs.Worlds.{container_of, containers_used, cursor_at, starts_of}
 use Rattle.ft_trace.specs.declared.Entry.{Entry}
 use Rattle.ft_trace.specs.declared.Owner.{Owner}
 use Rattle.ft_trace.specs.OwnCursors.{AsksWithin}
@@ -22,7 +23,7 @@ use Rattle.ft_trace.specs.Owners.{is_owner_in, AreOwners}
 use Rattle.ft_closing.specs.Marks.{HaveScriptCalls, AreOfFirst, IsFoundFor, IsNamedIn, inner_after, needed_after, used_after, walked_by}
 use Rattle.ft_closing.specs.Numbering.{HaveNamedEntries, AskOwnCursors, HasNamedEntries, MarksAreRight}
 use Rattle.ft_closing.proofs.ReversedLists.{all_at, all_parts, at_split}
-use Rattle.ft_closing.proofs.Walked.{IsAddingIfRefused, earned_adds, walked_is}
+use Rattle.ft_closing.proofs.Walked.{IsPlainIfRefused, earned_plain, walked_is}
 
 -- ---- lists
 
@@ -69,8 +70,11 @@ inner_is entry call.End begins is = refl
 inner_is entry (call.Dict o c) begins is = refl
 inner_is entry (call.List o c) begins is = refl
 inner_is entry (call.Set o c) begins is = refl
+inner_is entry (call.Deque o c) begins is = refl
 inner_is entry (call.Next m) begins is = refl
 inner_is entry call.Quiesce begins is = refl
+inner_is entry (call.Await thread index) begins is = refl
+inner_is entry call.Dump begins is = refl
 
 one_of : (found : Option Cursor) → option_map_or (λ walker. container_of walker ∷ []) found [] ≡ option_map_or (λ (o : ℕ). o ∷ []) (option_map container_of found) []
 one_of None = refl
@@ -81,9 +85,12 @@ used_is hands mine (call.Next m) goes = one_of (cursor_at hands m) ∙ ap (λ (f
 used_is hands mine (call.Dict o c) goes = refl
 used_is hands mine (call.List o c) goes = refl
 used_is hands mine (call.Set o c) goes = refl
+used_is hands mine (call.Deque o c) goes = refl
 used_is hands mine (call.Begin a b) goes = refl
 used_is hands mine call.End goes = refl
 used_is hands mine call.Quiesce goes = refl
+used_is hands mine (call.Await thread index) goes = refl
+used_is hands mine call.Dump goes = refl
 
 module _ (script : ScriptParts) (calls : List Call) (lists : List (List Entry)) (kept : List (List NamedEntry)) (had found : List Owner) where
   kept_at : (first i : ℕ) (ms : List (List NamedEntry)) (ls : List (List Entry)) (mine : List NamedEntry) → HaveNamedEntries first ms ls had found → slice_get ms i ≡ Some mine → (own : List Entry) × HasNamedEntries (first + i) mine own had found
@@ -125,18 +132,18 @@ module _ (script : ScriptParts) (calls : List Call) (lists : List (List Entry)) 
       right : IsNumberedThread storage.Tables script calls thread mine
       right = numbered.threads thread mine at
 
-      adding : All IsAddingIfRefused mine
-      adding = all_from IsAddingIfRefused mine (λ place e there. earned_adds (kinds_of script.containers) script.tables (length script.threads) (take e.stamp calls) (take place mine) e.call e.reply (right.right place e there).earned)
+      plainly : All IsPlainIfRefused mine
+      plainly = all_from IsPlainIfRefused mine (λ place e there. earned_plain (starts_of script.containers) (supply_of script) (take e.stamp calls) (take place mine) e.call e.reply (right.right place e there).earned)
 
       needs_is : (place : ℕ) (e : NamedEntry) → slice_get mine place ≡ Some e → needs_after script calls (take place mine) e ≡ needed_after (take place mine) e.call
       needs_is place e there =
           let before = take place mine in
           let own : e.thread ≡ thread = all_at (λ x. x.thread ≡ thread) mine place e there right.own in
           let cut = at_split mine place e there in
-          let front = (all_parts IsAddingIfRefused before (e ∷ drop (suc place) mine) (subst (All IsAddingIfRefused) cut adding)).0 in
+          let front = (all_parts IsPlainIfRefused before (e ∷ drop (suc place) mine) (subst (All IsPlainIfRefused) cut plainly)).0 in
           let asked : AsksWithin (cursors_of script thread) e = all_at (AsksWithin (cursors_of script thread)) mine place e there (asks thread mine at) in
           let goes : (m : ℕ) → e.call ≡ call.Next m → option_map container_of (cursor_at (hands_after script calls thread before) m) ≡ walked_by m before =
-          λ m is. walked_is (kinds_of script.containers) calls m (cursors_of script thread) before (subst (λ (c : Call). IfSome (moved_cursor c) (λ n. n < cursors_of script thread)) is asked) front in
+          λ m is. walked_is (starts_of script.containers) calls m (cursors_of script thread) before (subst (λ (c : Call). IfSome (moved_cursor c) (λ n. n < cursors_of script thread)) is asked) front in
           ap (λ (xs : List ℕ). xs ++ begun_containers (after_begins e e.call (begins_of before)))
           (ap (λ (t : ℕ). containers_used (hands_after script calls t before) e.call) own ∙ used_is (hands_after script calls thread before) before e.call goes)
           ∙ ap (λ (xs : List ℕ). used_after before e.call ++ xs) (inner_is e e.call (begins_of before) refl)

@@ -1,6 +1,6 @@
 -- The cursors of a thread go over the containers of its last `iter`s.
-use Rattle.std.proofs.Common.{◌≡◌, ◌≢◌, ◌<◌, ℕ, zero, suc, Bool, true, false, true≢false, List, [], ◌∷◌, length, refl, sym, ap, ◌∙◌, subst, length-set, get_or-set_same, get_or-set_other}
-use Rattle.std.specs.Prelude.{◌==◌, Option, Some, None, All, fold, option_map, slice_set, if◌then◌else◌}
+use Rattle.std.proofs.Common.{◌≡◌, ◌≢◌, ◌<◌, ⊎_elim, ℕ, zero, suc, Bool, true, false, true≢false, List, [], ◌∷◌, length, refl, sym, ap, ◌∙◌, subst, length-set, get_or-set_same, get_or-set_other}
+use Rattle.std.specs.Prelude.{◌==◌, ◌&&◌, Option, Some, None, All, fold, option_map, slice_set, if◌then◌else◌}
 use Rattle.std.proofs.lemmas.List.Elements.{All-head, All-tail}
 use mathlib.Core.Logic.{dite}
 use native.Mathlib.Decide.{ℕ_discrete}
@@ -12,6 +12,8 @@ use Rattle.ft_model.specs.declared.call.ListCall.{ListCall}
 use Rattle.ft_model.specs.declared.call.ListCall.TheVariants as list
 use Rattle.ft_model.specs.declared.call.SetCall.{SetCall}
 use Rattle.ft_model.specs.declared.call.SetCall.TheVariants as set
+use Rattle.ft_model.specs.declared.call.DequeCall.{DequeCall}
+use Rattle.ft_model.specs.declared.call.DequeCall.TheVariants as deque
 use Rattle.ft_model.specs.declared.content.Content.{Content}
 use Rattle.ft_model.specs.declared.content.DictPair.{DictPair}
 use Rattle.ft_model.specs.declared.content.Element.{Element}
@@ -24,16 +26,18 @@ use Rattle.ft_model.specs.declared.entry.Entry.{Entry as NamedEntry}
 use Rattle.ft_model.specs.declared.reply.Reply.{Reply}
 use Rattle.ft_model.specs.declared.reply.Reply.TheVariants as reply
 use Rattle.ft_model.specs.declared.reply.Raise.TheVariants as raise
-use Rattle.ft_model.specs.declared.script.Kind.{Kind}
+use Rattle.ft_model.specs.declared.script.Start.{Start}
 use Rattle.std.specs.Option.{option_map_or}
 use Rattle.ft_model.specs.Answers.{Answer, answer, cursor_step, is_memory, moves, shows, world_by}
-use Rattle.ft_model.specs.Calls.{can_add, moved_cursor}
-use Rattle.ft_model.specs.Cursors.{CursorStep, dict_iter, dict_next, dict_walk, list_iter, list_next, list_walk, next_element, next_pair, set_iter, set_next, set_walk}
+use Rattle.ft_model.specs.Calls.{cursor_of_dict, moved_cursor}
+use Rattle.ft_model.specs.Cursors.{CursorStep, dict_iter, dict_next, dict_walk, list_iter, list_next, list_walk, next_element, next_pair, set_iter, set_next, set_walk, deque_iter, deque_next, deque_walk, dict_reversed, dict_back_next, dict_back_walk, prior_pair, list_reversed, list_back_next, list_back_walk}
+use Rattle.ft_model.specs.Deques.{DequeContent}
 use Rattle.ft_model.specs.Histories.{after_stamped, hands_by}
-use Rattle.ft_model.specs.TableUses.{IsEarnedReply}
-use Rattle.ft_model.specs.Worlds.{container_of, cursor_at, dict_at, list_at, set_at, start_hands}
+use Rattle.ft_model.specs.TableUses.{Supply, CanLackMemory, can_leave_split, is_split, stored_by, takes_out, IsEarnedReply}
+use Rattle.ft_model.specs.Worlds.{container_of, cursor_at, dict_at, list_at, set_at, deque_at, start_hands, start_in}
 use Rattle.std.specs.Prelude.{slice_get, take}
 use Rattle.ft_trace.proofs.Cases.{here, miss}
+use Rattle.ft_trace.proofs.CursorAnswers.{adds_no_cursor}
 use Rattle.ft_trace.proofs.PlainAnswers.{plain_answer}
 use Rattle.ft_closing.specs.Marks.{over_after, walked_after, walked_by}
 
@@ -69,10 +73,37 @@ list_over : (items : List Value) (o index : ℕ) (ended : Bool) → container_of
 list_over items o index true = refl
 list_over items o index false = list_walk_over (slice_get items index) o index
 
+deque_walk_over : (found : Option Value) (o moves index : ℕ) → container_of (deque_walk found o moves index).cursor ≡ o
+deque_walk_over None o moves index = refl
+deque_walk_over (Some value) o moves index = refl
+
+deque_over : (deque : DequeContent) (o moves index : ℕ) → container_of (deque_next deque o moves index).cursor ≡ o
+deque_over deque o moves index = either_over (deque.moves == moves) _ _ o (deque_walk_over (slice_get deque.items index) o moves index) refl
+
+dict_back_walk_over : (found : Option DictPair) (o size : ℕ) (last : Option ℕ) → container_of (dict_back_walk found o size last).cursor ≡ o
+dict_back_walk_over None o size last = refl
+dict_back_walk_over (Some pair) o size last = refl
+
+dict_back_over : (pairs : List DictPair) (o : ℕ) (state : CursorState) (size : ℕ) (last : Option ℕ) → container_of (dict_back_next pairs o state size last).cursor ≡ o
+dict_back_over pairs o walk.Ended size last = refl
+dict_back_over pairs o walk.Reported size last = refl
+dict_back_over pairs o walk.Live size last = either_over (length pairs == size) _ _ o (dict_back_walk_over (prior_pair pairs last) o size last) refl
+
+list_back_walk_over : (found : Option Value) (o index : ℕ) → container_of (list_back_walk found o index).cursor ≡ o
+list_back_walk_over None o index = refl
+list_back_walk_over (Some value) o index = refl
+
+list_back_over : (items : List Value) (o : ℕ) (index : Option ℕ) → container_of (list_back_next items o index).cursor ≡ o
+list_back_over items o None = refl
+list_back_over items o (Some index) = list_back_walk_over (slice_get items index) o index
+
 step_over : (world : List Content) (walker : Cursor) → container_of (cursor_step world walker).cursor ≡ container_of walker
 step_over world (cursor.Dict o state size expected last) = dict_over (dict_at world o).pairs o state size expected last
 step_over world (cursor.List o index ended) = list_over (list_at world o) o index ended
 step_over world (cursor.Set o state size last) = set_over (set_at world o).elements o state size last
+step_over world (cursor.Deque o moves index) = deque_over (deque_at world o) o moves index
+step_over world (cursor.DictBack o state size last) = dict_back_over (dict_at world o).pairs o state size last
+step_over world (cursor.ListBack o index) = list_back_over (list_at world o) o index
 
 -- ---- one call
 
@@ -84,10 +115,13 @@ pub walked_plain : (n : ℕ) (called : Call) (over : Option ℕ) → moved_curso
 walked_plain n (call.Dict o c) over none = ap (λ m. over_after n o m over) none
 walked_plain n (call.List o c) over none = ap (λ m. over_after n o m over) none
 walked_plain n (call.Set o c) over none = ap (λ m. over_after n o m over) none
+walked_plain n (call.Deque o c) over none = ap (λ m. over_after n o m over) none
 walked_plain n (call.Next m) over none = refl
 walked_plain n (call.Begin a b) over none = refl
 walked_plain n call.End over none = refl
 walked_plain n call.Quiesce over none = refl
+walked_plain n (call.Await thread index) over none = refl
+walked_plain n call.Dump over none = refl
 
 module _ (world : List Content) (hands : List (Option Cursor)) (n : ℕ) (low : n < length hands) (over : Option ℕ) (goes : GoesOver hands n over) where
   -- what a call leaves: as many cursors, and this one on its container
@@ -135,62 +169,58 @@ module _ (world : List Content) (hands : List (Option Cursor)) (n : ℕ) (low : 
 
   dict_leaves : (o : ℕ) (c : DictCall) → Leaves (call.Dict o c)
   dict_leaves o (dict.Iter m) = let it = dict_iter o (dict_at world o).pairs in (length-set hands m (Some it), put_at o m it refl)
+  dict_leaves o (dict.Reversed m) = let it = dict_reversed o (dict_at world o).pairs in (length-set hands m (Some it), put_at o m it refl)
   dict_leaves o c = plain (call.Dict o c) refl
 
   list_leaves : (o : ℕ) (c : ListCall) → Leaves (call.List o c)
   list_leaves o (list.Iter m) = let it = list_iter o in (length-set hands m (Some it), put_at o m it refl)
+  list_leaves o (list.Reversed m) = let it = list_reversed o (list_at world o) in (length-set hands m (Some it), put_at o m it refl)
   list_leaves o c = plain (call.List o c) refl
 
   set_leaves : (o : ℕ) (c : SetCall) → Leaves (call.Set o c)
   set_leaves o (set.Iter m) = let it = set_iter o (set_at world o).elements in (length-set hands m (Some it), put_at o m it refl)
   set_leaves o c = plain (call.Set o c) refl
 
+  deque_leaves : (o : ℕ) (c : DequeCall) → Leaves (call.Deque o c)
+  deque_leaves o (deque.Iter m) = let it = deque_iter o (deque_at world o) in (length-set hands m (Some it), put_at o m it refl)
+  deque_leaves o c = plain (call.Deque o c) refl
+
   leaves : (called : Call) → Leaves called
   leaves (call.Dict o c) = dict_leaves o c
   leaves (call.List o c) = list_leaves o c
   leaves (call.Set o c) = set_leaves o c
+  leaves (call.Deque o c) = deque_leaves o c
   leaves (call.Next m) = next_leaves m (cursor_at hands m) refl
   leaves (call.Begin a b) = (refl, goes)
   leaves call.End = (refl, goes)
   leaves call.Quiesce = (refl, goes)
+  leaves (call.Await thread index) = (refl, goes)
+  leaves call.Dump = (refl, goes)
 
 -- ---- an entry
 
--- an `iter` raises no MemoryError: it adds nothing to a container
-adds_walked : (n : ℕ) (called : Call) (over : Option ℕ) → can_add called ≡ true → walked_after n called over ≡ over
-adds_walked n (call.Dict o (dict.Iter m)) over adds = absurd (let e : false ≡ true = adds in cc)
-adds_walked n (call.Dict o c) over adds = refl
-adds_walked n (call.List o (list.Iter m)) over adds = absurd (let e : false ≡ true = adds in cc)
-adds_walked n (call.List o c) over adds = refl
-adds_walked n (call.Set o (set.Iter m)) over adds = absurd (let e : false ≡ true = adds in cc)
-adds_walked n (call.Set o c) over adds = refl
-adds_walked n (call.Next m) over adds = refl
-adds_walked n (call.Begin a b) over adds = refl
-adds_walked n call.End over adds = refl
-adds_walked n call.Quiesce over adds = refl
+-- a MemoryError stands only on a call that asks no cursor
+abbrev pub IsPlainIfRefused : NamedEntry → Type 0
+IsPlainIfRefused e = is_memory e.reply ≡ true → moved_cursor e.call ≡ None
 
--- a MemoryError stands only on a call that adds
-abbrev pub IsAddingIfRefused : NamedEntry → Type 0
-IsAddingIfRefused e = is_memory e.reply ≡ true → can_add e.call ≡ true
-
-module _ (kinds : List Kind) (calls : List Call) (n : ℕ) where
-  entry_leaves : (hands : List (Option Cursor)) (over : Option ℕ) (e : NamedEntry) (refused : Bool) → is_memory e.reply ≡ refused → n < length hands → GoesOver hands n over → IsAddingIfRefused e
-      → (length (after_stamped kinds calls hands e) ≡ length hands) × GoesOver (after_stamped kinds calls hands e) n (walked_after n e.call over)
-  entry_leaves hands over e true is low goes adding =
-      let same : after_stamped kinds calls hands e ≡ hands = ap (λ (b : Bool). if b then hands else (answer (world_by kinds (take e.stamp calls)) hands e.call).hands) is in
-      (ap length same, ap (λ (hs : List (Option Cursor)). option_map container_of (cursor_at hs n)) same ∙ (goes ∙ sym (adds_walked n e.call over (adding is))))
-  entry_leaves hands over e false is low goes adding =
-      let world = world_by kinds (take e.stamp calls) in
-      let same : after_stamped kinds calls hands e ≡ (answer world hands e.call).hands = ap (λ (b : Bool). if b then hands else (answer world hands e.call).hands) is in
+module _ (starts : List Start) (calls : List Call) (n : ℕ) where
+  entry_leaves : (hands : List (Option Cursor)) (over : Option ℕ) (e : NamedEntry) (refused : Bool) → is_memory e.reply ≡ refused → n < length hands → GoesOver hands n over → IsPlainIfRefused e
+      → (length (after_stamped starts calls hands e) ≡ length hands) × GoesOver (after_stamped starts calls hands e) n (walked_after n e.call over)
+  entry_leaves hands over e true is low goes plainly =
+      let same : after_stamped starts calls hands e ≡ hands = ap (λ (b : Bool). if b then hands else (answer (world_by starts (take e.stamp calls)) hands e.call).hands) is in
+      (ap length same, ap (λ (hs : List (Option Cursor)). option_map container_of (cursor_at hs n)) same ∙ (goes ∙ sym (walked_plain n e.call over (plainly is))))
+  entry_leaves hands over e false is low goes plainly =
+      let world = world_by starts (take e.stamp calls) in
+      let same : after_stamped starts calls hands e ≡ (answer world hands e.call).hands = ap (λ (b : Bool). if b then hands else (answer world hands e.call).hands) is in
       let l = leaves world hands n low over goes e.call in
       (ap length same ∙ l.0, ap (λ (hs : List (Option Cursor)). option_map container_of (cursor_at hs n)) same ∙ l.1)
 
-  walks : (hands : List (Option Cursor)) (over : Option ℕ) (mine : List NamedEntry) → n < length hands → GoesOver hands n over → All IsAddingIfRefused mine
-      → GoesOver (fold (after_stamped kinds calls) hands mine) n (fold (λ before entry. walked_after n entry.call before) over mine)
-  walks hands over [] low goes adding = goes
-  walks hands over (e ∷ mine) low goes adding =
-      let l = entry_leaves hands over e (is_memory e.reply) refl low goes (All-head IsAddingIfRefused e mine adding) in
-      walks (after_stamped kinds calls hands e) (walked_after n e.call over) mine (subst (λ (z : ℕ). n < z) (sym l.0) low) l.1 (All-tail IsAddingIfRefused e mine adding)
+  walks : (hands : List (Option Cursor)) (over : Option ℕ) (mine : List NamedEntry) → n < length hands → GoesOver hands n over → All IsPlainIfRefused mine
+      → GoesOver (fold (after_stamped starts calls) hands mine) n (fold (λ before entry. walked_after n entry.call before) over mine)
+  walks hands over [] low goes plainly = goes
+  walks hands over (e ∷ mine) low goes plainly =
+      let l = entry_leaves hands over e (is_memory e.reply) refl low goes (All-head IsPlainIfRefused e mine plainly) in
+      walks (after_stamped starts calls hands e) (walked_after n e.call over) mine (subst (λ (z : ℕ). n < z) (sym l.0) low) l.1 (All-tail IsPlainIfRefused e mine plainly)
 
   start_size : (room : ℕ) → length (start_hands room) ≡ room
   start_size zero = refl
@@ -202,16 +232,33 @@ module _ (kinds : List Kind) (calls : List Call) (n : ℕ) where
   start_none (suc room) (suc m) = start_none room m
 
   -- the cursor goes over the container of the last `iter` of its number
-  pub walked_is : (room : ℕ) (mine : List NamedEntry) → n < room → All IsAddingIfRefused mine → GoesOver (hands_by kinds calls room mine) n (walked_by n mine)
-  walked_is room mine low adding =
-      walks (start_hands room) None mine (subst (λ (z : ℕ). n < z) (sym (start_size room)) low) (ap (option_map container_of) (start_none room n)) adding
+  pub walked_is : (room : ℕ) (mine : List NamedEntry) → n < room → All IsPlainIfRefused mine → GoesOver (hands_by starts calls room mine) n (walked_by n mine)
+  walked_is room mine low plainly =
+      walks (start_hands room) None mine (subst (λ (z : ℕ). n < z) (sym (start_size room)) low) (ap (option_map container_of) (start_none room n)) plainly
+
+-- a call that takes a pair out of a dict asks no cursor either
+out_plain : (c : DictCall) → takes_out c ≡ true → cursor_of_dict c ≡ None
+out_plain (dict.Del key) out = refl
+out_plain (dict.Pop key) out = refl
+out_plain (dict.PopOr key default) out = refl
+out_plain dict.PopItem out = refl
+out_plain c out = absurd (let e : false ≡ true = out in cc)
+
+both_true : (a b : Bool) → (a && b) ≡ true → a ≡ true
+both_true true b is = refl
+both_true false b is = is
+
+leaving_plain : (starts : List Start) (called : Call) → can_leave_split starts called ≡ true → moved_cursor called ≡ None
+leaving_plain starts (call.Dict o c) leaves = out_plain c (both_true (takes_out c) (is_split (start_in starts o).keys) leaves)
+leaving_plain starts called leaves = absurd (let e : false ≡ true = leaves in cc)
 
 -- a MemoryError that has its cause
-pub earned_adds : (kinds : List Kind) (tables : List ℕ) (threads : ℕ) (calls : List Call) (mine : List NamedEntry) (called : Call) (said : Reply) → IsEarnedReply kinds tables threads calls mine called said → is_memory said ≡ true → can_add called ≡ true
-earned_adds kinds tables threads calls mine called (reply.Raised (raise.Memory class)) earned is = earned.0.adds
-earned_adds kinds tables threads calls mine called (reply.Raised raise.Over) earned is = earned.0.adds
-earned_adds kinds tables threads calls mine called (reply.Raised raise.Heap) earned is = absurd earned
-earned_adds kinds tables threads calls mine called (reply.Raised raise.NoKey) earned is = absurd (let e : false ≡ true = is in cc)
-earned_adds kinds tables threads calls mine called (reply.Raised raise.NoIndex) earned is = absurd (let e : false ≡ true = is in cc)
-earned_adds kinds tables threads calls mine called (reply.Raised r) earned is = absurd (let e : false ≡ true = is in cc)
-earned_adds kinds tables threads calls mine called said earned is = absurd (let e : false ≡ true = is in cc)
+pub earned_plain : (starts : List Start) (supply : Supply) (calls : List Call) (mine : List NamedEntry) (called : Call) (said : Reply) → IsEarnedReply starts supply calls mine called said → is_memory said ≡ true → moved_cursor called ≡ None
+earned_plain starts supply calls mine called (reply.Raised (raise.Memory class)) earned is =
+    ⊎_elim (λ (lacks : CanLackMemory (stored_by starts calls).world called). adds_no_cursor called lacks.adds) (λ leaving. leaving_plain starts called leaving.leaves) earned.0
+earned_plain starts supply calls mine called (reply.Raised raise.Over) earned is = adds_no_cursor called earned.0.adds
+earned_plain starts supply calls mine called (reply.Raised raise.Heap) earned is = absurd (let e : false ≡ true = earned.landed in cc)
+earned_plain starts supply calls mine called (reply.Raised raise.NoKey) earned is = absurd (let e : false ≡ true = is in cc)
+earned_plain starts supply calls mine called (reply.Raised raise.NoIndex) earned is = absurd (let e : false ≡ true = is in cc)
+earned_plain starts supply calls mine called (reply.Raised r) earned is = absurd (let e : false ≡ true = is in cc)
+earned_plain starts supply calls mine called said earned is = absurd (let e : false ≡ true = is in cc)

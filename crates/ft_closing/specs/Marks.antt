@@ -7,7 +7,7 @@ use Rattle.ft_model.specs.declared.call.Call.{Call}
 use Rattle.ft_model.specs.declared.call.Call.TheVariants as call
 use Rattle.ft_model.specs.declared.entry.Entry.{Entry as NamedEntry}
 use Rattle.ft_model.specs.declared.script.ScriptParts.{ScriptParts}
-use Rattle.ft_model.specs.Calls.{containers_of, cursor_of_dict, cursor_of_list, cursor_of_set}
+use Rattle.ft_model.specs.Calls.{containers_of, cursor_of_dict, cursor_of_list, cursor_of_set, cursor_of_deque}
 use Rattle.ft_model.specs.Histories.{calls_of, names, EachAt}
 use Rattle.ft_model.specs.Numbers.{begins_of, begun_containers}
 use Rattle.ft_trace.specs.declared.Owner.{Owner}
@@ -26,10 +26,13 @@ abbrev pub walked_after : ℕ → Call → Option ℕ → Option ℕ
 walked_after number (call.Dict o dict_call) before = over_after number o (cursor_of_dict dict_call) before
 walked_after number (call.List o list_call) before = over_after number o (cursor_of_list list_call) before
 walked_after number (call.Set o set_call) before = over_after number o (cursor_of_set set_call) before
+walked_after number (call.Deque o deque_call) before = over_after number o (cursor_of_deque deque_call) before
 walked_after number (call.Next cursor) before = before
 walked_after number (call.Begin first second) before = before
 walked_after number call.End before = before
 walked_after number call.Quiesce before = before
+walked_after number (call.Await thread index) before = before
+walked_after number call.Dump before = before
 
 -- the container of the last `iter` that made the cursor of this number, if one did
 abbrev pub walked_by : ℕ → List NamedEntry → Option ℕ
@@ -41,9 +44,12 @@ used_after mine (call.Next number) = option_map_or (λ o. o ∷ []) (walked_by n
 used_after mine (call.Dict o dict_call) = containers_of (call.Dict o dict_call)
 used_after mine (call.List o list_call) = containers_of (call.List o list_call)
 used_after mine (call.Set o set_call) = containers_of (call.Set o set_call)
+used_after mine (call.Deque o deque_call) = containers_of (call.Deque o deque_call)
 used_after mine (call.Begin first second) = containers_of (call.Begin first second)
 used_after mine call.End = []
 used_after mine call.Quiesce = []
+used_after mine (call.Await thread index) = []
+used_after mine call.Dump = []
 
 -- the containers of the section that is innermost after a call, where these entries began those that were open before
 abbrev pub inner_after : Call → List NamedEntry → List ℕ
@@ -52,8 +58,11 @@ inner_after call.End begins = begun_containers (drop 1 begins)
 inner_after (call.Dict o dict_call) begins = begun_containers begins
 inner_after (call.List o list_call) begins = begun_containers begins
 inner_after (call.Set o set_call) begins = begun_containers begins
+inner_after (call.Deque o deque_call) begins = begun_containers begins
 inner_after (call.Next number) begins = begun_containers begins
 inner_after call.Quiesce begins = begun_containers begins
+inner_after (call.Await thread index) begins = begun_containers begins
+inner_after call.Dump begins = begun_containers begins
 
 -- the containers whose locks a call needs that comes after these entries of its thread (C API, critical sections)
 abbrev pub needed_after : List NamedEntry → Call → List ℕ

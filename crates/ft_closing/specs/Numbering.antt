@@ -5,11 +5,11 @@ use Rattle.ft_model.specs.declared.call.Call.{Call}
 use Rattle.ft_model.specs.declared.entry.Entry.{Entry as NamedEntry}
 use Rattle.ft_model.specs.declared.entry.Storage.TheVariants as storage
 use Rattle.ft_model.specs.declared.script.ScriptParts.{ScriptParts}
-use Rattle.ft_model.specs.declared.script.Kind.{Kind}
+use Rattle.ft_model.specs.declared.script.Start.{Start}
 use Rattle.ft_model.specs.Answers.{answer, world_by}
 use Rattle.ft_model.specs.Histories.{cursors_of, hands_by, EachAt, IsCountedAs, IsReplied, IfEnds}
 use Rattle.ft_model.specs.Numbers.{begins_of, marks_since, AreDone, AreNumberedLists}
-use Rattle.ft_model.specs.Worlds.{kinds_of}
+use Rattle.ft_model.specs.Worlds.{starts_of}
 use Rattle.ft_trace.specs.declared.Entry.{Entry}
 use Rattle.ft_trace.specs.declared.Owner.{Owner}
 use Rattle.ft_trace.specs.declared.Shape.{Shape}
@@ -19,20 +19,21 @@ use Rattle.ft_trace.specs.OwnOrder.{AreInOwnOrder, IsWriteIn}
 use Rattle.ft_trace.specs.Owners.{AreOwners}
 use Rattle.ft_closing.specs.Marks.{HaveScriptCalls, AreMarksFound, AreOfFirst, HasNamed}
 
--- the bank is made for the script: its containers, its tables, and a pass for each thread (profile)
+-- the bank is made for the script: its containers, its tables, its heaps, and a pass for each thread (profile)
 pub record IsFor (script : ScriptParts) (k : Shape) : Type 0 where
-  pub kinds : k.kinds ≡ kinds_of script.containers
+  pub starts : k.starts ≡ starts_of script.containers
   pub tables : k.tables ≡ script.tables
   pub passes : k.passes ≡ length script.threads
+  pub heap : k.heap ≡ script.heap
 
 -- Entries of a pass, newest first: where these are the same with thread, index and mark, the oldest first, each has
 -- the reply of the plain containers at its stamp to a thread with the hands that the earlier ones leave, or that of a
 -- section, or a MemoryError. (Python manual, Iterator Types: a cursor is its thread's)
-abbrev pub AreReplied : List Kind → List Call → ℕ → List Entry → Type 0
-AreReplied kinds calls room own =
+abbrev pub AreReplied : List Start → List Call → ℕ → List Entry → Type 0
+AreReplied starts calls room own =
     (mine : List NamedEntry) → map plain_entry mine ≡ reverse own → All (AsksWithin room) mine
     → EachAt mine (λ place e. IsReplied e.call e.reply
-    (answer (world_by kinds (take e.stamp calls)) (hands_by kinds calls room (take place mine)) e.call).reply)
+    (answer (world_by starts (take e.stamp calls)) (hands_by starts calls room (take place mine)) e.call).reply)
 
 -- A caller kept the entries of its pass, the oldest first, with its thread and an index, which counts from 1. An `end`
 -- says how many of its entries in the section waited. A mark is a thread that was found with a lock that the call
@@ -68,7 +69,7 @@ EntriesAreNumbered =
     (k : Shape) (script : ScriptParts) (calls : List Call) (lists : List (List Entry)) (kept : List (List NamedEntry))
     (had found : List Owner)
     → IsFor script k → AreInOrder k calls (flat_map (λ own. own) lists) → All (AreInOwnOrder (IsWriteIn calls)) lists
-    → All (λ own. (room : ℕ) → AreReplied k.kinds calls room own) lists
+    → All (λ own. (room : ℕ) → AreReplied k.starts calls room own) lists
     → HaveNamedEntries 0 kept lists had found → AskOwnCursors script kept → length kept ≡ length script.threads
     → AreNumberedLists storage.Tables script calls kept
 

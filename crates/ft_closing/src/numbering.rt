@@ -9,6 +9,7 @@ ghost use Rattle.ft_model.specs.declared.entry.Storage.TheVariants as storage;
 ghost use Rattle.ft_model.specs.declared.script.ScriptParts.{ScriptParts};
 ghost use Rattle.ft_model.specs.Histories.{history_cmp};
 ghost use Rattle.ft_model.specs.Numbers.{AreNumberedLists, IsHistoryOf};
+ghost use Rattle.ft_model.specs.Scripts.{IsScript};
 ghost use Rattle.ft_bank.specs.Closings.{shape_in, lists_in, had_in, found_in};
 ghost use Rattle.ft_closing.specs.Marks.{HaveScriptCalls, AreOfFirst};
 ghost use Rattle.ft_closing.specs.Numbering.{AskOwnCursors, EntriesAreNumbered, IsFor, HaveNamedEntries, MarksAreRight};
@@ -42,7 +43,7 @@ pub fn closed_entries_are_numbered(closed: &Closed)
 /// made all its calls.
 pub fn closed_entries_are_legal(closed: &Closed)
     ensures { (script : ScriptParts) (kept : List (List Entry)) (history : List Entry) →
-        IsFor script (shape_in closed.now) →
+        IsScript script → IsFor script (shape_in closed.now) →
         HaveNamedEntries 0 kept (lists_in closed.now) (had_in closed.now) (found_in closed.now) →
         AreOfFirst (length kept) (had_in closed.now) →
         AskOwnCursors script kept →

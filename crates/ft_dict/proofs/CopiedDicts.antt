@@ -12,7 +12,7 @@ use Rattle.ft_model.specs.declared.script.Kind.TheVariants as kind
 use Rattle.ft_model.specs.Answers.{after_write}
 use Rattle.ft_model.specs.Classes.{most_pairs}
 use Rattle.ft_model.specs.Contents.{DictContent, dict_copy}
-use Rattle.ft_model.specs.TableUses.{StoredWorld, copy_leaves, copy_takes, no_table, passes_cap, takes_in, would_pass, after_stored}
+use Rattle.ft_model.specs.TableUses.{StoredWorld, copy_leaves, copy_takes, no_table, passes_cap, takes_in, would_pass, after_stored, TableUse, table_at}
 use Rattle.ft_model.specs.Worlds.{dict_at, length_of}
 use Rattle.ft_model.proofs.Copies.{length-pairs_from}
 use Rattle.ft_layout.specs.Containers.{StandsAs}
@@ -30,8 +30,9 @@ use Rattle.ft_replacing.specs.Replacing.{Replaces, copied, replaced_table}
 use Rattle.ft_replacing.proofs.Replaced.{pairs_few}
 use Rattle.ft_dict.proofs.Deleted.{known_dict}
 use Rattle.ft_dict.proofs.Leaving.{dict_is, many, many_tables, there}
+use Rattle.ft_model.proofs.SplitDicts.{unsplit_takes, unsplit_leaves}
 
-module _ (k : Shape) (d e : ℕ) (v : View) (shape : v.shape ≡ k) (possible : ∥ Possible v ∥₁) (may : MayWriteEntries k d v) (other : MayWriteEntries k e v) (is : kind_in k.kinds d ≡ kind.Dict) (other_is : kind_in k.kinds e ≡ kind.Dict) where
+module _ (k : Shape) (d e : ℕ) (v : View) (shape : v.shape ≡ k) (possible : ∥ Possible v ∥₁) (may : MayWriteEntries k d v) (other : MayWriteEntries k e v) (is : kind_in k.starts d ≡ kind.Dict) (other_is : kind_in k.starts e ≡ kind.Dict) where
   abbrev called : Call
   called = call.Dict d (dict.CopyTo e)
 
@@ -97,12 +98,16 @@ module _ (k : Shape) (d e : ℕ) (v : View) (shape : v.shape ≡ k) (possible : 
     passes_not = none_passes (d == e)
 
     takes : takes_in stored called ≡ copy_takes (length pairs.pairs)
-    takes = ap (λ (z : DictContent). copy_takes (length z.pairs)) first
+    takes =
+        unsplit_takes (table_at stored.tables d) (dict.CopyTo e) (dict_at world d) (dict_at after d) (has.unsplit d)
+        ∙ ap (λ (z : DictContent). copy_takes (length z.pairs)) first
 
     kept : state_at (after_stored stored called) e ≡ record { content = left; table = copy_leaves (length pairs.pairs) }
     kept =
         let c = at_second (content.List []) in
-        let t = get_or-set_same stored.tables e (copy_leaves (length (dict_at world d).pairs)) no_table (many_tables e v given two.2 other.locked two.1 stored has) ∙ ap (λ (z : DictContent). copy_leaves (length z.pairs)) first in
+        let t =
+        ap (λ (z : List TableUse). table_at z e) (unsplit_leaves stored.tables d (dict.CopyTo e) (dict_at world d) (dict_at after d) (takes_in stored called) (has.unsplit d))
+        ∙ (get_or-set_same stored.tables e (copy_leaves (length (dict_at world d).pairs)) no_table (many_tables e v given two.2 other.locked two.1 stored has) ∙ ap (λ (z : DictContent). copy_leaves (length z.pairs)) first) in
         λ i. record { content = c i; table = t i }
 
   copies_by : Replaces e called left (copy_takes (length pairs.pairs)) v

@@ -39,9 +39,9 @@ use Rattle.ft_dict.proofs.Leaving.{dict_is, each_fits, leaves_same, leaves_stay,
 use Rattle.ft_dict.proofs.Reading.{got, not_found, some_words}
 
 -- a pass that may write a dict knows that it is one
-pub known_dict : (k : Shape) (v : View) (d : ℕ) → v.shape ≡ k → ∥ Possible v ∥₁ → MayWriteEntries k d v → kind_in k.kinds d ≡ kind.Dict → (pairs : DictContent) × ((known d v).content ≡ content.Dict pairs) × (d < containers_in v.shape)
+pub known_dict : (k : Shape) (v : View) (d : ℕ) → v.shape ≡ k → ∥ Possible v ∥₁ → MayWriteEntries k d v → kind_in k.starts d ≡ kind.Dict → (pairs : DictContent) × ((known d v).content ≡ content.Dict pairs) × (d < containers_in v.shape)
 known_dict k v d shape possible may is =
-    let p = dict_known v d possible may.locked (ap (λ (z : Shape). kind_in z.kinds d) shape ∙ is) in
+    let p = dict_known v d possible may.locked (ap (λ (z : Shape). kind_in z.starts d) shape ∙ is) in
     (p.0, p.1, subst (λ (z : Shape). d < containers_in z) (sym shape) may.container)
 
 module _ (d : ℕ) (v : View) (pairs : DictContent) (low : d < containers_in v.shape) (mine : has_lock d v.log ≡ true) (is_dict : (known d v).content ≡ content.Dict pairs) (key : Key) (fits : FitsKey key) where

@@ -16,7 +16,7 @@ use Rattle.ft_model.specs.declared.script.Kind.TheVariants as kind
 use Rattle.ft_model.specs.Answers.{Answer, answer, answer_dict, puts, shows, after_write, is_raised}
 use Rattle.ft_model.specs.Calls.{is_changing_dict, other_dict, cursor_of_dict, dict_change, adds, one_or_two}
 use Rattle.ft_model.specs.Classes.{dict_class, dict_entries, most_pairs}
-use Rattle.ft_model.specs.TablesInOrder.{changed_dict, HasTableFor, IsTableFor}
+use Rattle.ft_model.specs.TablesInOrder.{changed_dict, HasTableFor, IsTableFor, IsDictTable}
 use Rattle.ft_model.specs.Contents.{DictContent, empty_dict}
 use Rattle.ft_model.specs.TableUses.{StoredWorld, TableUse, no_table, takes_in, table_at, change_takes, change_leaves, copy_leaves, copy_takes, dict_takes, outgrows_dict, grown_table, passes_cap, would_pass, after_stored}
 use Rattle.ft_model.specs.Worlds.{dict_of, dict_at, named_in, no_hands, IsOfKind, IsDeclared}
@@ -31,6 +31,8 @@ use Rattle.ft_trace.proofs.Known.{declared_at, at_any}
 use Rattle.ft_trace.proofs.Naming.{named_locked}
 use Rattle.ft_bank.specs.WriteSteps.{MayHave}
 use Rattle.ft_search.specs.OneEntryWrites.{Leaves}
+use Rattle.ft_model.specs.declared.data.Key.{Key}
+use Rattle.ft_model.proofs.SplitDicts.{unsplit_takes, unsplit_leaves}
 
 set_own : {A : Type 0} (l : List A) (i : ℕ) (x e : A) → i < length l → slice_index_or l i e ≡ x → slice_set l i x ≡ l
 set_own [] i x e low is = absurd (omega (arith, low))
@@ -84,7 +86,8 @@ module _ (d : ℕ) (v : View) (pairs : DictContent) (low : d < containers_in v.s
       stays : dict_change dc ≡ change.Stays → state_at (after_stored stored (call.Dict d dc)) d ≡ record { content = content.Dict news; table = (known d v).table }
       stays same =
           let c = left_at (content.List []) in
-          let t = ap (λ (z : TableChange). table_at (change_leaves stored.tables d z (grown_table (table_at stored.tables d) (takes_in stored (call.Dict d dc)) ((dict_at (after_write world (call.Dict d dc)) d).next - (dict_at world d).next) (length (dict_at (after_write world (call.Dict d dc)) d).pairs)) (copy_leaves (length (dict_at world d).pairs))) d) same ∙ table_is in
+          let u = unsplit_leaves stored.tables d dc (dict_at world d) (dict_at (after_write world (call.Dict d dc)) d) (takes_in stored (call.Dict d dc)) (has.unsplit d) in
+          let t = ap (λ (z : List TableUse). table_at z d) u ∙ (ap (λ (z : TableChange). table_at (change_leaves stored.tables d z (grown_table (table_at stored.tables d) (takes_in stored (call.Dict d dc)) ((dict_at (after_write world (call.Dict d dc)) d).next - (dict_at world d).next) (length (dict_at (after_write world (call.Dict d dc)) d).pairs)) (copy_leaves (length (dict_at world d).pairs))) d) same ∙ table_is) in
           λ i. record { content = c i; table = t i }
 
 -- a call that stores nothing new
@@ -130,8 +133,9 @@ module _ (d : ℕ) (v : View) (pairs news : DictContent) (dc : DictCall) (said :
 
   takes_none : takes_in stored called ≡ None
   takes_none =
-      ap (λ (z : TableChange). change_takes z (dict_takes T (dict_at stored.world d) (dict_at after d)) (copy_takes (length (dict_at stored.world d).pairs))) grows
-      ∙ ap (λ (z : ℕ). if outgrows_dict T z then Some (dict_class (length (dict_at after d).pairs)) else None) none_drawn
+      unsplit_takes T dc (dict_at stored.world d) (dict_at after d) (has.unsplit d)
+      ∙ (ap (λ (z : TableChange). change_takes z (dict_takes T (dict_at stored.world d) (dict_at after d)) (copy_takes (length (dict_at stored.world d).pairs))) grows
+      ∙ ap (λ (z : ℕ). if outgrows_dict T z then Some (dict_class (length (dict_at after d).pairs)) else None) none_drawn)
 
   pub same_kept : state_at (after_stored stored called) d ≡ record { content = content.Dict news; table = (known d v).table }
   same_kept =
@@ -140,15 +144,17 @@ module _ (d : ℕ) (v : View) (pairs news : DictContent) (dc : DictCall) (said :
       let fill_is : T.fill + drawn ≡ T.fill = let e = none_drawn in omega (arith, e) in
       let c = left_is (content.List []) in
       let t : table_at (after_stored stored called).tables d ≡ (known d v).table =
-      ap (λ (z : TableChange). table_at (change_leaves stored.tables d z (grown_table T (takes_in stored called) drawn many_pairs) (copy_leaves (length (dict_at stored.world d).pairs))) d) grows
+      ap (λ (z : List TableUse). table_at z d) (unsplit_leaves stored.tables d dc (dict_at stored.world d) (dict_at after d) (takes_in stored called) (has.unsplit d))
+      ∙ (ap (λ (z : TableChange). table_at (change_leaves stored.tables d z (grown_table T (takes_in stored called) drawn many_pairs) (copy_leaves (length (dict_at stored.world d).pairs))) d) grows
       ∙ (get_or-set_same stored.tables d (grown_table T (takes_in stored called) drawn many_pairs) no_table (many_tables d v pairs low mine is_dict stored has)
       ∙ (ap (λ (z : Option ℕ). grown_table T z drawn many_pairs) takes_none
-      ∙ ((λ i. record { class = T.class; fill = fill_is i }) ∙ table_is d v pairs low mine is_dict stored has))) in
+      ∙ ((λ i. record { class = T.class; fill = fill_is i; keys = T.keys }) ∙ table_is d v pairs low mine is_dict stored has)))) in
       λ i. record { content = c i; table = t i }
 
   few : length news.pairs ≤ most_pairs
   few =
-      let each : HasTableFor (length pairs.pairs) T.class T.fill dict_entries = subst (λ (z : Content). IsTableFor z T) (there d v pairs low mine is_dict stored has) (has.order.each d) in
+      let each : HasTableFor (length pairs.pairs) T.class T.fill dict_entries =
+      subst (λ (z : List Key). IsDictTable z pairs T) (has.unsplit d) (subst (λ (z : Content). IsTableFor z T) (there d v pairs low mine is_dict stored has) (has.order.each d)) in
       let s = table_short (length pairs.pairs) T.class T.fill each in
       subst (λ (z : ℕ). z ≤ most_pairs) (sym count) s
 

@@ -37,6 +37,7 @@ use Rattle.ft_adding.specs.KeyGrowth.{AddsKey, key_takes, most_of}
 use Rattle.ft_adding.specs.Placing.{with_key}
 use Rattle.ft_dict.proofs.Reading.{not_found}
 use Rattle.ft_dict.proofs.Leaving.{dict_is, table_is, many_tables, replies, declared, left_at}
+use Rattle.ft_model.proofs.SplitDicts.{unsplit_takes, unsplit_leaves}
 
 module _ (d : ℕ) (v : View) (pairs : DictContent) (low : d < containers_in v.shape) (mine : has_lock d v.log ≡ true) (is_dict : (known d v).content ≡ content.Dict pairs) (key : Key) (value : Value) (missing : has_key pairs.pairs key ≡ false) (dc : DictCall) (said : Reply) (other : other_dict dc ≡ None) (cursor : cursor_of_dict dc ≡ None) (grows : dict_change dc ≡ change.Grows) (quiet : is_raised said ≡ false) where
   abbrev called : Call
@@ -73,8 +74,9 @@ module _ (d : ℕ) (v : View) (pairs : DictContent) (low : d < containers_in v.s
         let table = table_is d v pairs low mine is_dict found has in
         let one = drawn in
         let count = many in
-        ap (λ (z : TableChange). change_takes z (dict_takes T (dict_at found.world d) (dict_at after d)) (copy_takes (length (dict_at found.world d).pairs))) grows
-        ∙ (λ i. if outgrows_dict (table i) (one i) then Some (dict_class (count i)) else None)
+        unsplit_takes T dc (dict_at found.world d) (dict_at after d) (has.unsplit d)
+        ∙ (ap (λ (z : TableChange). change_takes z (dict_takes T (dict_at found.world d) (dict_at after d)) (copy_takes (length (dict_at found.world d).pairs))) grows
+        ∙ (λ i. if outgrows_dict (table i) (one i) then Some (dict_class (count i)) else None))
 
     left_kept : state_at (after_stored found called) d ≡ record { content = content.Dict news; table = grown_table had (key_takes (content.Dict pairs) had) 1 (length pairs.pairs + 1) }
     left_kept =
@@ -86,9 +88,10 @@ module _ (d : ℕ) (v : View) (pairs : DictContent) (low : d < containers_in v.s
         let class = takes in
         let c = left_is (content.List []) in
         let t : table_at (after_stored found called).tables d ≡ grown_table had (key_takes (content.Dict pairs) had) 1 (length pairs.pairs + 1) =
-        ap (λ (z : TableChange). table_at (change_leaves found.tables d z (grown_table T (takes_in found called) some all) (copy_leaves (length (dict_at found.world d).pairs))) d) grows
+        ap (λ (z : List TableUse). table_at z d) (unsplit_leaves found.tables d dc (dict_at found.world d) (dict_at after d) (takes_in found called) (has.unsplit d))
+        ∙ (ap (λ (z : TableChange). table_at (change_leaves found.tables d z (grown_table T (takes_in found called) some all) (copy_leaves (length (dict_at found.world d).pairs))) d) grows
         ∙ (get_or-set_same found.tables d (grown_table T (takes_in found called) some all) no_table (many_tables d v pairs low mine is_dict found has)
-        ∙ (λ i. grown_table (table i) (class i) (one i) (count i))) in
+        ∙ (λ i. grown_table (table i) (class i) (one i) (count i)))) in
         λ i. record { content = c i; table = t i }
 
     over : would_pass found.world called ≡ nat_lt most_pairs (length pairs.pairs + 1)

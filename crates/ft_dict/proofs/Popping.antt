@@ -132,7 +132,7 @@ last_bare k x bare = no_dict k x bare (IsLastPair k None x) (λ dict none. ap le
 
 -- ---- by a pass with the lock
 
-module _ (k : Shape) (d : ℕ) (v : View) (shape : v.shape ≡ k) (possible : ∥ Possible v ∥₁) (may : MayWriteEntries k d v) (is : kind_in k.kinds d ≡ kind.Dict) where
+module _ (k : Shape) (d : ℕ) (v : View) (shape : v.shape ≡ k) (possible : ∥ Possible v ∥₁) (may : MayWriteEntries k d v) (is : kind_in k.starts d ≡ kind.Dict) where
   low' : d < containers_in v.shape
   low' = subst (λ (z : Shape). d < containers_in z) (sym shape) may.container
 
@@ -145,6 +145,7 @@ module _ (k : Shape) (d : ℕ) (v : View) (shape : v.shape ≡ k) (possible : �
   as_dict : (c : Content) → kind_of c ≡ kind.Dict → c ≡ content.Dict (dict_of c)
   as_dict (content.Dict dict) e = refl
   as_dict (content.List values) e = absurd (cc)
+  as_dict (content.Deque deque) e = absurd (cc)
   as_dict (content.Set set) e = absurd (cc)
 
   is_dict' : (known d v).content ≡ content.Dict pairs'

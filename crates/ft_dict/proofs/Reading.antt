@@ -65,8 +65,8 @@ one_value kind payload a b f g = let same = stored_is_one kind payload (Plain a)
 -- the pairs of a dict that a pass knows fit their words
 fit_known : (v : View) (d : ℕ) (pairs : DictContent) → Possible v → d < containers_in v.shape → has_lock d v.log ≡ true → (known d v).content ≡ content.Dict pairs → FitsContent (content.Dict pairs)
 fit_known v d pairs p low mine is =
-    let world = (stored_newest v.shape.kinds (history p.0)).world in
-    let many : d < length world = subst (λ (z : ℕ). d < z) (sym (as_many v.shape.kinds (history p.0))) low in
+    let world = (stored_newest v.shape.starts (history p.0)).world in
+    let many : d < length world = subst (λ (z : ℕ). d < z) (sym (as_many v.shape.starts (history p.0))) low in
     subst FitsContent (sym (ap (λ (z : ContainerState). z.content) (content_known v d mine p.0 p.1 p.2)) ∙ is) (contents_fit v.shape p.0 p.2.0 d (content.List []) many)
 
 -- and so the words under a key are those of a value

@@ -12,7 +12,7 @@ use Rattle.ft_model.specs.declared.script.Kind.TheVariants as kind
 use Rattle.ft_model.specs.Answers.{after_write}
 use Rattle.ft_model.specs.Classes.{dict_class}
 use Rattle.ft_model.specs.Contents.{DictContent, dict_update, empty_dict}
-use Rattle.ft_model.specs.TableUses.{StoredWorld, after_stored, grown_table, no_table, outgrows_dict, passes_cap, table_at, takes_in, would_pass}
+use Rattle.ft_model.specs.TableUses.{StoredWorld, after_stored, grown_table, no_table, outgrows_dict, passes_cap, table_at, takes_in, would_pass, TableUse}
 use Rattle.ft_model.specs.Worlds.{dict_at, dict_of, length_of, serial_of}
 use Rattle.ft_trace.specs.declared.Shape.{Shape}
 use Rattle.ft_trace.specs.declared.View.{View}
@@ -30,8 +30,9 @@ use Rattle.ft_merging.proofs.JoinedPairs.{update_length}
 use Rattle.ft_merging.proofs.Pairs.{named_cap}
 use Rattle.ft_dict.proofs.Deleted.{known_dict}
 use Rattle.ft_dict.proofs.Leaving.{dict_is, many, many_tables, table_is, there}
+use Rattle.ft_model.proofs.SplitDicts.{unsplit_takes, unsplit_leaves}
 
-module _ (k : Shape) (d e : ℕ) (v : View) (shape : v.shape ≡ k) (possible : ∥ Possible v ∥₁) (may : MayWriteEntries k d v) (other : MayWriteEntries k e v) (is : kind_in k.kinds d ≡ kind.Dict) (other_is : kind_in k.kinds e ≡ kind.Dict) (few : passes_cap (known e v).content ≡ false) where
+module _ (k : Shape) (d e : ℕ) (v : View) (shape : v.shape ≡ k) (possible : ∥ Possible v ∥₁) (may : MayWriteEntries k d v) (other : MayWriteEntries k e v) (is : kind_in k.starts d ≡ kind.Dict) (other_is : kind_in k.starts e ≡ kind.Dict) (few : passes_cap (known e v).content ≡ false) where
   abbrev called : Call
   called = call.Dict d (dict.Update e)
 
@@ -103,7 +104,8 @@ module _ (k : Shape) (d e : ℕ) (v : View) (shape : v.shape ≡ k) (possible : 
         let c = all ∙ (ap length_of (sym joined_is) ∙ count) in
         let t1 = had in
         let d1 : (dict_at after d).next - (dict_at found.world d).next ≡ news.next - pairs.next = λ i. (dict_of (left_at (content.Dict empty_dict) i)).next - (one i).next in
-        (λ i. if outgrows_dict (t1 i) (d1 i) then Some (dict_class (c i)) else None) ∙ (λ i. keys_take (sym known_is i) (known d v).table (serial_of (joined (sym known_is i) (sym other_known i)) - serial_of (sym known_is i)))
+        unsplit_takes (table_at found.tables d) (dict.Update e) (dict_at found.world d) (dict_at after d) (has.unsplit d)
+        ∙ ((λ i. if outgrows_dict (t1 i) (d1 i) then Some (dict_class (c i)) else None) ∙ (λ i. keys_take (sym known_is i) (known d v).table (serial_of (joined (sym known_is i) (sym other_known i)) - serial_of (sym known_is i))))
 
     left_is : state_at (after_stored found called) d ≡ joined_state (known d v) (known e v).content
     left_is =
@@ -113,8 +115,9 @@ module _ (k : Shape) (d e : ℕ) (v : View) (shape : v.shape ≡ k) (possible : 
         let a = all in
         let class = takes in
         let table : table_at (after_stored found called).tables d ≡ grown_table (known d v).table (join_takes (known d v) (known e v).content) (new_keys (known d v).content (known e v).content) (length_of (joined (known d v).content (known e v).content)) =
-        get_or-set_same found.tables d (grown_table (table_at found.tables d) (takes_in found called) ((dict_at after d).next - (dict_at found.world d).next) (length (dict_at after d).pairs)) no_table (many_tables d v pairs low may.locked known_is found has)
-        ∙ (λ i. grown_table (t1 i) (class i) (n i) (a i)) in
+        ap (λ (z : List TableUse). table_at z d) (unsplit_leaves found.tables d (dict.Update e) (dict_at found.world d) (dict_at after d) (takes_in found called) (has.unsplit d))
+        ∙ (get_or-set_same found.tables d (grown_table (table_at found.tables d) (takes_in found called) ((dict_at after d).next - (dict_at found.world d).next) (length (dict_at after d).pairs)) no_table (many_tables d v pairs low may.locked known_is found has)
+        ∙ (λ i. grown_table (t1 i) (class i) (n i) (a i))) in
         λ i. record { content = c i; table = table i }
 
   pub update_joins : JoinsKeys d e called v

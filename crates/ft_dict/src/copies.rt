@@ -31,8 +31,8 @@ pub fn copyto_by(bank: &Bank, pass: &mut Pass, d: Object, e: Object) -> Added
     requires pass { IsPassOf bank.now pass.old }
     requires may { MayWriteEntries (shape_of bank.now) d (view pass.old) }
     requires other { MayWriteEntries (shape_of bank.now) e (view pass.old) }
-    requires dict { kind_in (shape_of bank.now).kinds d ≡ kind.Dict }
-    requires other_dict { kind_in (shape_of bank.now).kinds e ≡ kind.Dict }
+    requires dict { kind_in (shape_of bank.now).starts d ≡ kind.Dict }
+    requires other_dict { kind_in (shape_of bank.now).starts e ≡ kind.Dict }
     requires used { used (view pass.old).log ≡ false }
     requires idle { flight (view pass.old).log ≡ 0 }
     ensures pass { IsPassOf bank.now pass.new }
@@ -59,8 +59,8 @@ pub fn try_copyto(bank: &Bank, pass: &mut Pass, d: Object, e: Object) -> Step
     requires may { MayTry bank.now pass.old (Two d e) }
     requires container { d < containers_in (shape_of bank.now) }
     requires other { e < containers_in (shape_of bank.now) }
-    requires dict { kind_in (shape_of bank.now).kinds d ≡ kind.Dict }
-    requires other_dict { kind_in (shape_of bank.now).kinds e ≡ kind.Dict }
+    requires dict { kind_in (shape_of bank.now).starts d ≡ kind.Dict }
+    requires other_dict { kind_in (shape_of bank.now).starts e ≡ kind.Dict }
     requires left { 0 < (view pass.old).left }
     ensures may { MayTry bank.now pass.new (Two d e) }
     ensures sections { SectionsAfter bank.now (Two d e) pass.old pass.new result }

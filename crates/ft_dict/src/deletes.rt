@@ -36,7 +36,7 @@ pub(crate) fn value_at(
 ) -> Value
     requires pass { IsPassOf bank.now pass.now }
     requires container { d < containers_in (shape_of bank.now) }
-    requires dict { kind_in (shape_of bank.now).kinds d ≡ kind.Dict }
+    requires dict { kind_in (shape_of bank.now).starts d ≡ kind.Dict }
     requires locked { has_lock d (view pass.now).log ≡ true }
     requires key { FitsKey key }
     requires held { IsHeldAt (known d (view pass.now)).content key (Some (value_kind, payload)) }
@@ -54,7 +54,7 @@ pub(crate) fn value_at(
 pub fn del_locked(bank: &Bank, pass: &mut Pass, d: Object, key: Key) -> (Reply, Stamp)
     requires pass { IsPassOf bank.now pass.old }
     requires may { MayWriteEntries (shape_of bank.now) d (view pass.old) }
-    requires dict { kind_in (shape_of bank.now).kinds d ≡ kind.Dict }
+    requires dict { kind_in (shape_of bank.now).starts d ≡ kind.Dict }
     requires key { IsKeyIn (shape_of bank.now) key }
     ensures pass { IsPassOf bank.now pass.new }
     ensures stack { stack_of pass.new ≡ stack_of pass.old }
@@ -80,7 +80,7 @@ pub fn del_locked(bank: &Bank, pass: &mut Pass, d: Object, key: Key) -> (Reply, 
 pub fn pop_locked(bank: &Bank, pass: &mut Pass, d: Object, key: Key) -> (Reply, Stamp)
     requires pass { IsPassOf bank.now pass.old }
     requires may { MayWriteEntries (shape_of bank.now) d (view pass.old) }
-    requires dict { kind_in (shape_of bank.now).kinds d ≡ kind.Dict }
+    requires dict { kind_in (shape_of bank.now).starts d ≡ kind.Dict }
     requires key { IsKeyIn (shape_of bank.now) key }
     ensures pass { IsPassOf bank.now pass.new }
     ensures stack { stack_of pass.new ≡ stack_of pass.old }
@@ -112,7 +112,7 @@ fn write_default(
 ) -> (Reply, Stamp)
     requires pass { IsPassOf bank.now pass.old }
     requires may { MayWriteEntries (shape_of bank.now) d (view pass.old) }
-    requires dict { kind_in (shape_of bank.now).kinds d ≡ kind.Dict }
+    requires dict { kind_in (shape_of bank.now).starts d ≡ kind.Dict }
     requires key { FitsKey key }
     requires none { IsHeldAt (known d (view pass.old)).content key None }
     ensures pass { IsPassOf bank.now pass.new }
@@ -155,7 +155,7 @@ pub fn popd_locked(
 ) -> (Reply, Stamp)
     requires pass { IsPassOf bank.now pass.old }
     requires may { MayWriteEntries (shape_of bank.now) d (view pass.old) }
-    requires dict { kind_in (shape_of bank.now).kinds d ≡ kind.Dict }
+    requires dict { kind_in (shape_of bank.now).starts d ≡ kind.Dict }
     requires key { IsKeyIn (shape_of bank.now) key }
     ensures pass { IsPassOf bank.now pass.new }
     ensures stack { stack_of pass.new ≡ stack_of pass.old }

@@ -11,7 +11,7 @@ ghost use Rattle.ft_section.specs.declared.answers.Objects.TheVariants.{Two};
 ghost use Rattle.ft_section.specs.Ready.{MayTry};
 ghost use Rattle.ft_section.specs.Trying.{SectionsAfter};
 ghost use Rattle.ft_search.specs.MadeCalls.{IsMadeOf};
-ghost use Rattle.ft_list.specs.Pairs.{IsGlanceOfBoth};
+ghost use Rattle.ft_reads.specs.Pairs.{IsGlanceOfBoth};
 
 use ft_bank::{Bank, Pass};
 use ft_keyed::{Comparison, look_comparison, try_comparison};
@@ -29,8 +29,8 @@ pub fn try_eq(bank: &Bank, pass: &mut Pass, d: Object, e: Object) -> Step
     requires may { MayTry bank.now pass.old (Two d e) }
     requires container { d < containers_in (shape_of bank.now) }
     requires other { e < containers_in (shape_of bank.now) }
-    requires dict { kind_in (shape_of bank.now).kinds d ≡ kind.Dict }
-    requires other_dict { kind_in (shape_of bank.now).kinds e ≡ kind.Dict }
+    requires dict { kind_in (shape_of bank.now).starts d ≡ kind.Dict }
+    requires other_dict { kind_in (shape_of bank.now).starts e ≡ kind.Dict }
     requires left { 0 < (view pass.old).left }
     ensures may { MayTry bank.now pass.new (Two d e) }
     ensures made { IsMadeOf (Two d e) (call.Dict d (dict.Eq e)) (view pass.old) (view pass.new) result }
@@ -50,8 +50,8 @@ pub fn look_eq(bank: &Bank, pass: &mut Pass, d: Object, e: Object) -> Look
     requires pass { IsPassOf bank.now pass.old }
     requires container { d < containers_in (shape_of bank.now) }
     requires other { e < containers_in (shape_of bank.now) }
-    requires dict { kind_in (shape_of bank.now).kinds d ≡ kind.Dict }
-    requires other_dict { kind_in (shape_of bank.now).kinds e ≡ kind.Dict }
+    requires dict { kind_in (shape_of bank.now).starts d ≡ kind.Dict }
+    requires other_dict { kind_in (shape_of bank.now).starts e ≡ kind.Dict }
     requires left { 0 < (view pass.old).left }
     ensures pass { IsPassOf bank.now pass.new }
     ensures sections { stack_of pass.new ≡ stack_of pass.old }

@@ -11,8 +11,8 @@ ghost use Rattle.ft_section.specs.declared.answers.Objects.TheVariants.{One};
 ghost use Rattle.ft_section.specs.Ready.{MayTry};
 ghost use Rattle.ft_section.specs.Trying.{SectionsAfter};
 ghost use Rattle.ft_keyed.specs.ShownContents.{IsOfDict};
-ghost use Rattle.ft_list.specs.Copies.{IsCopyOf};
-ghost use Rattle.ft_list.specs.Glances.{IsCopyGlanceOf};
+ghost use Rattle.ft_reads.specs.Copies.{IsCopyOf};
+ghost use Rattle.ft_reads.specs.Glances.{IsCopyGlanceOf};
 
 use ft_bank::{Bank, Pass};
 use ft_keyed::{look_all_items, try_all_items};
@@ -30,7 +30,7 @@ use std::alloc::Global;
 pub fn try_items(bank: &Bank, pass: &mut Pass, alloc: Global, d: Object) -> Step
     requires may { MayTry bank.now pass.old (One d) }
     requires container { d < containers_in (shape_of bank.now) }
-    requires dict { kind_in (shape_of bank.now).kinds d ≡ kind.Dict }
+    requires dict { kind_in (shape_of bank.now).starts d ≡ kind.Dict }
     requires left { 0 < (view pass.old).left }
     ensures may { MayTry bank.now pass.new (One d) }
     ensures made { IsCopyOf (One d) (call.Dict d dict.Items) (view pass.old) (view pass.new) result }
@@ -48,7 +48,7 @@ pub fn try_items(bank: &Bank, pass: &mut Pass, alloc: Global, d: Object) -> Step
 pub fn look_items(bank: &Bank, pass: &mut Pass, alloc: Global, d: Object) -> Look
     requires pass { IsPassOf bank.now pass.old }
     requires container { d < containers_in (shape_of bank.now) }
-    requires dict { kind_in (shape_of bank.now).kinds d ≡ kind.Dict }
+    requires dict { kind_in (shape_of bank.now).starts d ≡ kind.Dict }
     requires left { 0 < (view pass.old).left }
     ensures pass { IsPassOf bank.now pass.new }
     ensures sections { stack_of pass.new ≡ stack_of pass.old }

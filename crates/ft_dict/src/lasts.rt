@@ -15,7 +15,7 @@ ghost use Rattle.ft_section.specs.Ready.{MayTry};
 ghost use Rattle.ft_section.specs.Trying.{SectionsAfter};
 ghost use Rattle.ft_search.specs.MadeCalls.{MadeAs, IsMadeOf};
 ghost use Rattle.ft_search.specs.OneEntryWrites.{MayWriteEntries};
-ghost use Rattle.ft_list.specs.Indexes.{Reads};
+ghost use Rattle.ft_reads.specs.Reads.{Reads};
 ghost use Rattle.ft_dict.specs.Lasts.{IsLastIn, IsLastOf};
 
 use ft_bank::{Bank, Pass, Table};
@@ -97,7 +97,7 @@ fn last_pair(bank: &Bank, pass: &mut Pass, d: Object) -> Option<Last>
 pub fn popitem_locked(bank: &Bank, pass: &mut Pass, d: Object) -> (Reply, Stamp)
     requires pass { IsPassOf bank.now pass.old }
     requires may { MayWriteEntries (shape_of bank.now) d (view pass.old) }
-    requires dict { kind_in (shape_of bank.now).kinds d ≡ kind.Dict }
+    requires dict { kind_in (shape_of bank.now).starts d ≡ kind.Dict }
     ensures pass { IsPassOf bank.now pass.new }
     ensures stack { stack_of pass.new ≡ stack_of pass.old }
     ensures made { MadeAs (call.Dict d dict.PopItem) result.0 result.1 (view pass.old) (view pass.new) }
@@ -127,7 +127,7 @@ pub fn popitem_locked(bank: &Bank, pass: &mut Pass, d: Object) -> (Reply, Stamp)
 pub fn try_popitem(bank: &Bank, pass: &mut Pass, d: Object) -> Step
     requires may { MayTry bank.now pass.old (One d) }
     requires container { d < containers_in (shape_of bank.now) }
-    requires dict { kind_in (shape_of bank.now).kinds d ≡ kind.Dict }
+    requires dict { kind_in (shape_of bank.now).starts d ≡ kind.Dict }
     requires left { 0 < (view pass.old).left }
     ensures may { MayTry bank.now pass.new (One d) }
     ensures made { IsMadeOf (One d) (call.Dict d dict.PopItem) (view pass.old) (view pass.new) result }

@@ -27,7 +27,7 @@ use ft_section::{Look, Object, Step};
 pub fn look_len(bank: &Bank, pass: &mut Pass, d: Object) -> Look
     requires pass { IsPassOf bank.now pass.old }
     requires container { d < containers_in (shape_of bank.now) }
-    requires dict { kind_in (shape_of bank.now).kinds d ≡ kind.Dict }
+    requires dict { kind_in (shape_of bank.now).starts d ≡ kind.Dict }
     requires left { 0 < (view pass.old).left }
     ensures pass { IsPassOf bank.now pass.new }
     ensures sections { stack_of pass.new ≡ stack_of pass.old }
@@ -49,7 +49,7 @@ pub fn look_len(bank: &Bank, pass: &mut Pass, d: Object) -> Look
 pub fn try_len(bank: &Bank, pass: &mut Pass, d: Object) -> Step
     requires may { MayTry bank.now pass.old (One d) }
     requires container { d < containers_in (shape_of bank.now) }
-    requires dict { kind_in (shape_of bank.now).kinds d ≡ kind.Dict }
+    requires dict { kind_in (shape_of bank.now).starts d ≡ kind.Dict }
     requires left { 0 < (view pass.old).left }
     ensures may { MayTry bank.now pass.new (One d) }
     ensures sections { SectionsAfter bank.now (One d) pass.old pass.new result }

@@ -29,7 +29,7 @@ use ft_section::{Object, Stamp};
 fn value_locked(bank: &Bank, pass: &mut Pass, d: Object, key: Key) -> Option<Value>
     requires pass { IsPassOf bank.now pass.old }
     requires container { d < containers_in (shape_of bank.now) }
-    requires dict { kind_in (shape_of bank.now).kinds d ≡ kind.Dict }
+    requires dict { kind_in (shape_of bank.now).starts d ≡ kind.Dict }
     requires key { IsKeyIn (shape_of bank.now) key }
     requires locked { has_lock d (view pass.old).log ≡ true }
     requires stands { Stands (shape_of bank.now).texts (held d (view pass.old)) (known d (view pass.old)) }
@@ -57,7 +57,7 @@ fn value_locked(bank: &Bank, pass: &mut Pass, d: Object, key: Key) -> Option<Val
 pub(crate) fn get_locked(bank: &Bank, pass: &mut Pass, d: Object, key: Key) -> (Reply, Stamp)
     requires pass { IsPassOf bank.now pass.old }
     requires container { d < containers_in (shape_of bank.now) }
-    requires dict { kind_in (shape_of bank.now).kinds d ≡ kind.Dict }
+    requires dict { kind_in (shape_of bank.now).starts d ≡ kind.Dict }
     requires key { IsKeyIn (shape_of bank.now) key }
     requires locked { has_lock d (view pass.old).log ≡ true }
     requires stands { Stands (shape_of bank.now).texts (held d (view pass.old)) (known d (view pass.old)) }
@@ -86,7 +86,7 @@ pub(crate) fn getd_locked(
 ) -> (Reply, Stamp)
     requires pass { IsPassOf bank.now pass.old }
     requires container { d < containers_in (shape_of bank.now) }
-    requires dict { kind_in (shape_of bank.now).kinds d ≡ kind.Dict }
+    requires dict { kind_in (shape_of bank.now).starts d ≡ kind.Dict }
     requires key { IsKeyIn (shape_of bank.now) key }
     requires locked { has_lock d (view pass.old).log ≡ true }
     requires stands { Stands (shape_of bank.now).texts (held d (view pass.old)) (known d (view pass.old)) }

@@ -47,7 +47,7 @@ pub(crate) fn reply_of(found: Option<Value>) -> Reply
 fn find_value(bank: &Bank, pass: &mut Pass, d: Object, key: Key) -> AtKey
     requires pass { IsPassOf bank.now pass.old }
     requires container { d < containers_in (shape_of bank.now) }
-    requires dict { kind_in (shape_of bank.now).kinds d ≡ kind.Dict }
+    requires dict { kind_in (shape_of bank.now).starts d ≡ kind.Dict }
     requires key { IsKeyIn (shape_of bank.now) key }
     requires online { 0 < announces (view pass.old).log }
     requires left { 0 < (view pass.old).left }
@@ -78,7 +78,7 @@ fn find_value(bank: &Bank, pass: &mut Pass, d: Object, key: Key) -> AtKey
 pub fn look_get(bank: &Bank, pass: &mut Pass, d: Object, key: Key) -> Look
     requires pass { IsPassOf bank.now pass.old }
     requires container { d < containers_in (shape_of bank.now) }
-    requires dict { kind_in (shape_of bank.now).kinds d ≡ kind.Dict }
+    requires dict { kind_in (shape_of bank.now).starts d ≡ kind.Dict }
     requires key { IsKeyIn (shape_of bank.now) key }
     requires online { 0 < announces (view pass.old).log }
     requires left { 0 < (view pass.old).left }
@@ -106,7 +106,7 @@ pub fn look_get(bank: &Bank, pass: &mut Pass, d: Object, key: Key) -> Look
 pub fn look_getd(bank: &Bank, pass: &mut Pass, d: Object, key: Key, default: Value) -> Look
     requires pass { IsPassOf bank.now pass.old }
     requires container { d < containers_in (shape_of bank.now) }
-    requires dict { kind_in (shape_of bank.now).kinds d ≡ kind.Dict }
+    requires dict { kind_in (shape_of bank.now).starts d ≡ kind.Dict }
     requires key { IsKeyIn (shape_of bank.now) key }
     requires online { 0 < announces (view pass.old).log }
     requires left { 0 < (view pass.old).left }
@@ -136,7 +136,7 @@ pub fn look_getd(bank: &Bank, pass: &mut Pass, d: Object, key: Key, default: Val
 pub fn look_has(bank: &Bank, pass: &mut Pass, d: Object, key: Key) -> Look
     requires pass { IsPassOf bank.now pass.old }
     requires container { d < containers_in (shape_of bank.now) }
-    requires dict { kind_in (shape_of bank.now).kinds d ≡ kind.Dict }
+    requires dict { kind_in (shape_of bank.now).starts d ≡ kind.Dict }
     requires key { IsKeyIn (shape_of bank.now) key }
     requires online { 0 < announces (view pass.old).log }
     requires left { 0 < (view pass.old).left }

@@ -37,8 +37,8 @@ pub fn update_by(bank: &Bank, pass: &mut Pass, d: Object, e: Object) -> Added
     requires other { MayWriteEntries (shape_of bank.now) e (view pass.old) }
     requires used { used (view pass.old).log ≡ false }
     requires idle { flight (view pass.old).log ≡ 0 }
-    requires dict { kind_in (shape_of bank.now).kinds d ≡ kind.Dict }
-    requires other_dict { kind_in (shape_of bank.now).kinds e ≡ kind.Dict }
+    requires dict { kind_in (shape_of bank.now).starts d ≡ kind.Dict }
+    requires other_dict { kind_in (shape_of bank.now).starts e ≡ kind.Dict }
     ensures pass { IsPassOf bank.now pass.new }
     ensures stack { stack_of pass.new ≡ stack_of pass.old }
     ensures added { JoinsBy (shape_of bank.now) d e (call.Dict d (dict.Update e)) (view pass.old) (view pass.new) result }
@@ -64,8 +64,8 @@ pub fn try_update(bank: &Bank, pass: &mut Pass, d: Object, e: Object) -> Step
     requires may { MayTry bank.now pass.old (Two d e) }
     requires container { d < containers_in (shape_of bank.now) }
     requires other { e < containers_in (shape_of bank.now) }
-    requires dict { kind_in (shape_of bank.now).kinds d ≡ kind.Dict }
-    requires other_dict { kind_in (shape_of bank.now).kinds e ≡ kind.Dict }
+    requires dict { kind_in (shape_of bank.now).starts d ≡ kind.Dict }
+    requires other_dict { kind_in (shape_of bank.now).starts e ≡ kind.Dict }
     requires left { 0 < (view pass.old).left }
     ensures may { MayTry bank.now pass.new (Two d e) }
     ensures tried { IsTryOf (Two d e) (JoinsBy (shape_of bank.now) d e (call.Dict d (dict.Update e))) reply.Done

@@ -26,7 +26,7 @@ use ft_section::{Got, Object, Objects, Step, let_go, take_for};
 pub fn try_del(bank: &Bank, pass: &mut Pass, d: Object, key: Key) -> Step
     requires may { MayTry bank.now pass.old (One d) }
     requires container { d < containers_in (shape_of bank.now) }
-    requires dict { kind_in (shape_of bank.now).kinds d ≡ kind.Dict }
+    requires dict { kind_in (shape_of bank.now).starts d ≡ kind.Dict }
     requires key { IsKeyIn (shape_of bank.now) key }
     requires left { 0 < (view pass.old).left }
     ensures may { MayTry bank.now pass.new (One d) }
@@ -53,7 +53,7 @@ pub fn try_del(bank: &Bank, pass: &mut Pass, d: Object, key: Key) -> Step
 pub fn try_pop(bank: &Bank, pass: &mut Pass, d: Object, key: Key) -> Step
     requires may { MayTry bank.now pass.old (One d) }
     requires container { d < containers_in (shape_of bank.now) }
-    requires dict { kind_in (shape_of bank.now).kinds d ≡ kind.Dict }
+    requires dict { kind_in (shape_of bank.now).starts d ≡ kind.Dict }
     requires key { IsKeyIn (shape_of bank.now) key }
     requires left { 0 < (view pass.old).left }
     ensures may { MayTry bank.now pass.new (One d) }
@@ -80,7 +80,7 @@ pub fn try_pop(bank: &Bank, pass: &mut Pass, d: Object, key: Key) -> Step
 pub fn try_popd(bank: &Bank, pass: &mut Pass, d: Object, key: Key, default: Value) -> Step
     requires may { MayTry bank.now pass.old (One d) }
     requires container { d < containers_in (shape_of bank.now) }
-    requires dict { kind_in (shape_of bank.now).kinds d ≡ kind.Dict }
+    requires dict { kind_in (shape_of bank.now).starts d ≡ kind.Dict }
     requires key { IsKeyIn (shape_of bank.now) key }
     requires left { 0 < (view pass.old).left }
     ensures may { MayTry bank.now pass.new (One d) }

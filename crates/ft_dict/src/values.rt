@@ -41,7 +41,7 @@ pub fn set_by(bank: &Bank, pass: &mut Pass, d: Object, key: Key, value: Value) -
     requires may { MayWriteEntries (shape_of bank.now) d (view pass.old) }
     requires used { used (view pass.old).log ≡ false }
     requires idle { flight (view pass.old).log ≡ 0 }
-    requires dict { kind_in (shape_of bank.now).kinds d ≡ kind.Dict }
+    requires dict { kind_in (shape_of bank.now).starts d ≡ kind.Dict }
     requires key { IsKeyIn (shape_of bank.now) key }
     ensures pass { IsPassOf bank.now pass.new }
     ensures stack { stack_of pass.new ≡ stack_of pass.old }
@@ -105,7 +105,7 @@ pub fn setdefault_by(
     requires may { MayWriteEntries (shape_of bank.now) d (view pass.old) }
     requires used { used (view pass.old).log ≡ false }
     requires idle { flight (view pass.old).log ≡ 0 }
-    requires dict { kind_in (shape_of bank.now).kinds d ≡ kind.Dict }
+    requires dict { kind_in (shape_of bank.now).starts d ≡ kind.Dict }
     requires key { IsKeyIn (shape_of bank.now) key }
     ensures pass { IsPassOf bank.now pass.new }
     ensures stack { stack_of pass.new ≡ stack_of pass.old }
@@ -167,7 +167,7 @@ pub fn setdefault_by(
 pub fn try_set(bank: &Bank, pass: &mut Pass, d: Object, key: Key, value: Value) -> Step
     requires may { MayTry bank.now pass.old (One d) }
     requires container { d < containers_in (shape_of bank.now) }
-    requires dict { kind_in (shape_of bank.now).kinds d ≡ kind.Dict }
+    requires dict { kind_in (shape_of bank.now).starts d ≡ kind.Dict }
     requires key { IsKeyIn (shape_of bank.now) key }
     requires left { 0 < (view pass.old).left }
     ensures may { MayTry bank.now pass.new (One d) }
@@ -195,7 +195,7 @@ pub fn try_set(bank: &Bank, pass: &mut Pass, d: Object, key: Key, value: Value) 
 pub fn try_setdefault(bank: &Bank, pass: &mut Pass, d: Object, key: Key, default: Value) -> Step
     requires may { MayTry bank.now pass.old (One d) }
     requires container { d < containers_in (shape_of bank.now) }
-    requires dict { kind_in (shape_of bank.now).kinds d ≡ kind.Dict }
+    requires dict { kind_in (shape_of bank.now).starts d ≡ kind.Dict }
     requires key { IsKeyIn (shape_of bank.now) key }
     requires left { 0 < (view pass.old).left }
     ensures may { MayTry bank.now pass.new (One d) }

@@ -1,5 +1,5 @@
 //! Calls on the containers of a bank in the order of a table, for tests of dicts and of sets.
-ghost use Rattle.std.specs.Prelude.{◌≡◌, ◌<◌, [], ◌∷◌, length, IfOk, IfSome};
+ghost use Rattle.std.specs.Prelude.{◌≡◌, ◌<◌, [], ◌∷◌, length, IfOk, IfSome, map};
 ghost use Rattle.ft_model.specs.declared.reply.Reply.{Reply};
 ghost use Rattle.ft_model.specs.declared.script.Kind.TheVariants as kind;
 ghost use Rattle.ft_bank.specs.Passes.{shape_of, view};
@@ -7,6 +7,7 @@ ghost use Rattle.ft_section.specs.declared.answers.Objects.{Objects};
 ghost use Rattle.ft_section.specs.declared.answers.Stamp.{Stamp};
 ghost use Rattle.ft_section.specs.declared.answers.Step.TheVariants as steps;
 ghost use Rattle.ft_section.specs.Ready.{MayTry};
+ghost use Rattle.ft_model.specs.Worlds.{start_as};
 
 use crate::rows::{Wanted, is_made, open_four};
 use ft_bank::{Bank, Pass};
@@ -18,7 +19,7 @@ use std::test::Fail;
 pub trait Attempt: Copy {
     /// Tries the call.
     fn attempt(self, bank: &Bank, pass: &mut Pass, alloc: Global) -> Step
-        requires kinds { (shape_of bank.now).kinds ≡ kind.Dict ∷ kind.Dict ∷ kind.Set ∷ kind.Set ∷ [] }
+        requires kinds { (shape_of bank.now).starts ≡ map start_as (kind.Dict ∷ kind.Dict ∷ kind.Set ∷ kind.Set ∷ []) }
         requires may { (objects : Objects) → MayTry bank.now pass.old objects }
         requires left { 0 < (view pass.old).left }
         ensures may { (said : Reply) (stamp : Stamp) → result ≡ steps.Done said stamp →
@@ -45,7 +46,7 @@ fn first_wrong<C: Attempt>(
     alloc: Global,
     rows: &[(C, Wanted)],
 ) -> Option<usize>
-    requires kinds { (shape_of bank.now).kinds ≡ kind.Dict ∷ kind.Dict ∷ kind.Set ∷ kind.Set ∷ [] }
+    requires kinds { (shape_of bank.now).starts ≡ map start_as (kind.Dict ∷ kind.Dict ∷ kind.Set ∷ kind.Set ∷ []) }
     requires may { (objects : Objects) → MayTry bank.now pass.old objects }
     ensures { IfSome result (λ place. place < length rows.now) }
 {

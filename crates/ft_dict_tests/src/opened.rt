@@ -1,9 +1,10 @@
 //! A small bank with a dict and a set, and its passes, for the tests.
-ghost use Rattle.std.specs.Prelude.{◌≡◌, [], ◌∷◌, ◌<◌, true, IfOk, IfSome};
+ghost use Rattle.std.specs.Prelude.{◌≡◌, [], ◌∷◌, ◌<◌, true, IfOk, IfSome, map};
 ghost use Rattle.ft_model.specs.declared.script.Kind.TheVariants.{Dict, Set};
 ghost use Rattle.ft_trace.specs.Acts.{announces};
 ghost use Rattle.ft_bank.specs.NewPasses.{IsOpening, AreOpening};
 ghost use Rattle.ft_bank.specs.Passes.{shape_of, view, IsPassOf};
+ghost use Rattle.ft_model.specs.Worlds.{start_as};
 
 use ft_bank::{Bank, Pass, Shape};
 use ft_model::Kind;
@@ -53,7 +54,7 @@ fn three(bank: &Bank, passes: Vec<Pass>) -> Option<(Pass, Pass, Pass)>
 ///
 /// A `Fail` where memory runs out.
 pub fn open_three(alloc: Global) -> Result<(Bank, Pass, Pass, Pass), Fail>
-    ensures shape { IfOk result (λ made. ((shape_of made.0).kinds ≡ Dict ∷ Set ∷ []) × ((shape_of made.0).passes ≡ 3)
+    ensures shape { IfOk result (λ made. ((shape_of made.0).starts ≡ map start_as (Dict ∷ Set ∷ [])) × ((shape_of made.0).passes ≡ 3)
         × ((shape_of made.0).calls ≡ 10)) }
     ensures first { IfOk result (λ made. IsOpening made.0 0 made.1) }
     ensures second { IfOk result (λ made. IsOpening made.0 1 made.2) }

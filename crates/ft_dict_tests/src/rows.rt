@@ -1,12 +1,13 @@
 //! Two dicts and two sets of a bank, for tests that make calls on them in the order of a table, and what a row of
 //! such a table wants.
-ghost use Rattle.std.specs.Prelude.{◌≡◌, [], ◌∷◌, true, IfOk};
+ghost use Rattle.std.specs.Prelude.{◌≡◌, [], ◌∷◌, true, IfOk, map};
 ghost use Rattle.ft_model.specs.declared.reply.Reply.{Reply};
 ghost use Rattle.ft_model.specs.declared.script.Kind.TheVariants as kind;
 ghost use Rattle.ft_bank.specs.Passes.{shape_of};
 ghost use Rattle.ft_section.specs.declared.answers.Stamp.{Stamp};
 ghost use Rattle.ft_section.specs.declared.answers.Step.TheVariants as steps;
 ghost use Rattle.ft_section.specs.Ready.{IsReady};
+ghost use Rattle.ft_model.specs.Worlds.{start_as};
 
 use crate::opened::only;
 use ft_bank::{Bank, Pass, Shape};
@@ -76,7 +77,7 @@ fn four(alloc: Global, least: u32, greater: u32) -> Result<Shape, AllocError>
 ///
 /// A `Fail` where no bank may have that many tables, or memory runs out.
 pub(crate) fn open_four(alloc: Global, least: u32, greater: u32) -> Result<(Bank, Pass), Fail>
-    ensures kinds { IfOk result (λ made. (shape_of made.0).kinds ≡ kind.Dict ∷ kind.Dict ∷ kind.Set ∷ kind.Set ∷ []) }
+    ensures kinds { IfOk result (λ made. (shape_of made.0).starts ≡ map start_as (kind.Dict ∷ kind.Dict ∷ kind.Set ∷ kind.Set ∷ [])) }
     ensures ready { IfOk result (λ made. IsReady made.0 made.1) }
 {
     let shape = four(alloc, least, greater)?;

@@ -12,9 +12,9 @@ use Rattle.ft_section.specs.declared.answers.Objects.{Objects}
 use Rattle.ft_section.specs.declared.answers.Objects.TheVariants.{One}
 use Rattle.ft_section.specs.declared.answers.Step.{Step}
 use Rattle.ft_section.specs.declared.answers.Step.TheVariants as step
-use Rattle.ft_list.specs.Clears.{IsClearOf}
-use Rattle.ft_list.specs.Copies.{IsCopyOf}
-use Rattle.ft_list.specs.Glances.{IsCopyGlanceOf}
+use Rattle.ft_reads.specs.Clears.{IsClearOf}
+use Rattle.ft_reads.specs.Copies.{IsCopyOf}
+use Rattle.ft_reads.specs.Glances.{IsCopyGlanceOf}
 use Rattle.ft_engine.specs.Answering.{IsLooked, copies}
 use Rattle.ft_engine.proofs.ListLooks.{StopsAt}
 use Rattle.ft_engine.proofs.Within.{loaded_owners, within_then}

@@ -1,5 +1,5 @@
 -- What `iter` and `next` come to, and the cursors that a caller has then.
-use Rattle.std.proofs.Common.{◌≡◌, ◌≢◌, ◌≤◌, ◌<◌, ◌-◌, ℕ, zero, suc, Bool, false, List, [], ◌∷◌, length, set, refl, sym, ap, ◌∙◌, subst, arith, le_trans}
+use Rattle.std.proofs.Common.{◌≡◌, ◌≢◌, ◌≤◌, ◌<◌, ◌-◌, ℕ, zero, suc, Bool, false, List, [], ◌∷◌, length, set, refl, sym, ap, ◌∙◌, subst, arith, le_trans, true}
 use Rattle.std.specs.Prelude.{Option, Some, option_map, slice_index_or}
 use Rattle.std.proofs.lemmas.List.{length-set}
 use mathlib.Core.Logic.{dite}
@@ -29,7 +29,7 @@ use Rattle.ft_section.specs.declared.answers.Stamp.{Stamp}
 use Rattle.ft_section.specs.declared.answers.Step.{Step}
 use Rattle.ft_section.specs.declared.answers.Step.TheVariants as step
 use Rattle.ft_section.specs.Trying.{SectionsAfter}
-use Rattle.ft_iter.specs.CursorCalls.{IsMoveOf, IsOver, KeepsOtherCursors, MovedUnderLock, iter_call}
+use Rattle.ft_iter.specs.CursorCalls.{IsMoveOf, IsOver, KeepsOtherCursors, MovedUnderLock, iter_call, is_landed_cursor}
 use Rattle.ft_closing.specs.Marks.{over_after, walked_after}
 use Rattle.ft_engine.specs.Answering.{MakesEntry, AreHandsOfPass, IsTryOfCall, LeavesHands}
 use Rattle.ft_engine.specs.Callers.{IsOfKindIn}
@@ -119,8 +119,8 @@ moved_hands k v w hands kind o number walker are low others mine over of = recor
       dite (ℕ_discrete n number)
       (λ (e : n ≡ number).
       let same : Some walker ≡ Some other = sym (at_set hands number (Some walker) low) ∙ (ap (cursor_at (set hands number (Some walker))) (sym e) ∙ at) in
-      subst (λ (z : Cursor). IsOfKindIn k (cursor_kind z) (container_of z)) (let s : walker ≡ other = cc in s)
-      (subst (λ (z : Kind × ℕ). IsOfKindIn k z.0 z.1) (λ d. (sym over.1 d, sym over.0 d)) of))
+      subst (λ (z : Cursor). IsOfKindIn k (cursor_kind z) (container_of z) × (is_landed_cursor z ≡ true)) (let s : walker ≡ other = cc in s)
+      (subst (λ (z : Kind × ℕ). IsOfKindIn k z.0 z.1) (λ d. (sym over.1 d, sym over.0 d)) of, over.2))
       (λ apart. are.over n other (sym (at_other hands number n (Some walker) apart) ∙ at));
 }
 
@@ -141,21 +141,25 @@ hands_by k v w hands kind o number called left step.NoMemory are low others of x
 plain_iter : (kind : Kind) (o number : ℕ) → IsPlain (iter_call kind o number)
 plain_iter kind.Dict o number = plain_call (iter_call kind.Dict o number) tt
 plain_iter kind.List o number = plain_call (iter_call kind.List o number) tt
+plain_iter (kind.Deque bound) o number = plain_call (iter_call (kind.Deque bound) o number) tt
 plain_iter kind.Set o number = plain_call (iter_call kind.Set o number) tt
 
 iter_names : (hands : List (Option Cursor)) (kind : Kind) (o number : ℕ) → objects_of hands (iter_call kind o number) ≡ Some (One o)
 iter_names hands kind.Dict o number = refl
 iter_names hands kind.List o number = refl
+iter_names hands (kind.Deque bound) o number = refl
 iter_names hands kind.Set o number = refl
 
 iter_moves : (kind : Kind) (o number : ℕ) → moved_cursor (iter_call kind o number) ≡ Some number
 iter_moves kind.Dict o number = refl
 iter_moves kind.List o number = refl
+iter_moves (kind.Deque bound) o number = refl
 iter_moves kind.Set o number = refl
 
 walked_iter : (kind : Kind) (o number n : ℕ) (over : Option ℕ) → walked_after n (iter_call kind o number) over ≡ over_after n o (Some number) over
 walked_iter kind.Dict o number n over = refl
 walked_iter kind.List o number n over = refl
+walked_iter (kind.Deque bound) o number n over = refl
 walked_iter kind.Set o number n over = refl
 
 iter_walked : (kind : Kind) (o number : ℕ) (had left : Option Cursor) (v w : View) (result : Step) → KeepsOtherCursors number v w → IsMoveOf kind o (iter_call kind o number) number had v w result left → WalkedBy (iter_call kind o number) v w result

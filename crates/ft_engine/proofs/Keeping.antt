@@ -124,8 +124,11 @@ module _ (thread : ℕ) where
       ended (call.Dict o c) said free end = tt
       ended (call.List o c) said free end = tt
       ended (call.Set o c) said free end = tt
+      ended (call.Deque o c) said free end = tt
       ended (call.Next n) said free end = tt
       ended call.Quiesce said free end = tt
+      ended (call.Await thread index) said free end = tt
+      ended call.Dump said free end = tt
 
       -- it has its answer
       pub kept_answered : (others : List Entry) (t : Stack) (called : Call) (said : Reply) (stamp : Stamp) → others ≡ made_entry called said stamp ∷ entries → section_marks t ≡ marks_after called (section_marks s) → t.mark ≡ s.mark → (called ≡ call.End → s.mark ≡ None) → IsEndOf called (section_marks s) said → AreThreadEntries thread others t (flight.Answered called said stamp) mine

@@ -13,7 +13,7 @@ use Rattle.ft_model.specs.declared.call.Call.TheVariants as call
 use Rattle.ft_model.specs.declared.cursor.Cursor.{Cursor}
 use Rattle.ft_model.specs.declared.entry.Entry.{Entry as NamedEntry}
 use Rattle.ft_model.specs.declared.reply.Reply.{Reply}
-use Rattle.ft_model.specs.Calls.{cursor_of_dict, cursor_of_list, cursor_of_set, one_or_two, other_dict, other_list, other_set}
+use Rattle.ft_model.specs.Calls.{cursor_of_dict, cursor_of_list, cursor_of_set, one_or_two, other_dict, other_list, other_set, other_deque, cursor_of_deque}
 use Rattle.ft_model.specs.Histories.{names}
 use Rattle.ft_model.specs.Numbers.{after_begins, begins_of, begun_containers}
 use Rattle.ft_model.specs.Worlds.{container_of, cursor_at}
@@ -127,8 +127,11 @@ stack_begun call.End s t calls closes are =
 stack_begun (call.Dict o c) s t calls is are = subst (λ (x : Stack). AreBegunBy (locked_in x) calls) (sym is) are
 stack_begun (call.List o c) s t calls is are = subst (λ (x : Stack). AreBegunBy (locked_in x) calls) (sym is) are
 stack_begun (call.Set o c) s t calls is are = subst (λ (x : Stack). AreBegunBy (locked_in x) calls) (sym is) are
+stack_begun (call.Deque o c) s t calls is are = subst (λ (x : Stack). AreBegunBy (locked_in x) calls) (sym is) are
 stack_begun (call.Next n) s t calls is are = subst (λ (x : Stack). AreBegunBy (locked_in x) calls) (sym is) are
 stack_begun call.Quiesce s t calls is are = subst (λ (x : Stack). AreBegunBy (locked_in x) calls) (sym is) are
+stack_begun (call.Await thread index) s t calls is are = subst (λ (x : Stack). AreBegunBy (locked_in x) calls) (sym is) are
+stack_begun call.Dump s t calls is are = subst (λ (x : Stack). AreBegunBy (locked_in x) calls) (sym is) are
 
 -- ---- entries that began sections
 
@@ -139,8 +142,11 @@ begun_one e call.End is (b ∷ begins) = refl
 begun_one e (call.Dict o c) is begins = refl
 begun_one e (call.List o c) is begins = refl
 begun_one e (call.Set o c) is begins = refl
+begun_one e (call.Deque o c) is begins = refl
 begun_one e (call.Next n) is begins = refl
 begun_one e call.Quiesce is begins = refl
+begun_one e (call.Await thread index) is begins = refl
+begun_one e call.Dump is begins = refl
 
 begun_push : (mine : List NamedEntry) (e : NamedEntry) → begin_calls (mine ++ e ∷ []) ≡ begun_after e.call (begin_calls mine)
 begun_push mine e =
@@ -155,8 +161,11 @@ module _ (o : ℕ) where
   after_named (call.Dict p c) calls e = inr e
   after_named (call.List p c) calls e = inr e
   after_named (call.Set p c) calls e = inr e
+  after_named (call.Deque p c) calls e = inr e
   after_named (call.Next n) calls e = inr e
   after_named call.Quiesce calls e = inr e
+  after_named (call.Await thread index) calls e = inr e
+  after_named call.Dump calls e = inr e
 
   begun_from : (begins mine : List NamedEntry) → list_any (names o) (map (λ b. b.call) (fold (λ begins entry. after_begins entry entry.call begins) begins mine)) ≡ true → (list_any (names o) (map (λ b. b.call) begins) ≡ true) ⊎ IsNamedIn o mine
   begun_from begins [] e = inl e
@@ -193,8 +202,11 @@ module _ (o : ℕ) where
   top_inner mine (call.Dict p c) pair pairs are is = by_begun mine (call.Dict p c) _ (inner_one pair pairs (begins_of mine) are is)
   top_inner mine (call.List p c) pair pairs are is = by_begun mine (call.List p c) _ (inner_one pair pairs (begins_of mine) are is)
   top_inner mine (call.Set p c) pair pairs are is = by_begun mine (call.Set p c) _ (inner_one pair pairs (begins_of mine) are is)
+  top_inner mine (call.Deque p c) pair pairs are is = by_begun mine (call.Deque p c) _ (inner_one pair pairs (begins_of mine) are is)
   top_inner mine (call.Next n) pair pairs are is = by_begun mine (call.Next n) _ (inner_one pair pairs (begins_of mine) are is)
   top_inner mine call.Quiesce pair pairs are is = by_begun mine call.Quiesce _ (inner_one pair pairs (begins_of mine) are is)
+  top_inner mine (call.Await thread index) pair pairs are is = by_begun mine (call.Await thread index) _ (inner_one pair pairs (begins_of mine) are is)
+  top_inner mine call.Dump pair pairs are is = by_begun mine call.Dump _ (inner_one pair pairs (begins_of mine) are is)
 
   -- ---- cursors
 
@@ -214,10 +226,13 @@ module _ (o : ℕ) where
   walked_one n (call.Dict p c) over e = ⊎_elim (λ z. inl z) (λ z. inr (first_named p (other_dict c) z)) (over_named n p (cursor_of_dict c) over e)
   walked_one n (call.List p c) over e = ⊎_elim (λ z. inl z) (λ z. inr (first_named p (other_list c) z)) (over_named n p (cursor_of_list c) over e)
   walked_one n (call.Set p c) over e = ⊎_elim (λ z. inl z) (λ z. inr (first_named p (other_set c) z)) (over_named n p (cursor_of_set c) over e)
+  walked_one n (call.Deque p c) over e = ⊎_elim (λ z. inl z) (λ z. inr (first_named p (other_deque c) z)) (over_named n p (cursor_of_deque c) over e)
   walked_one n (call.Next m) over e = inl e
   walked_one n (call.Begin a b) over e = inl e
   walked_one n call.End over e = inl e
   walked_one n call.Quiesce over e = inl e
+  walked_one n (call.Await thread index) over e = inl e
+  walked_one n call.Dump over e = inl e
 
   walked_from : (n : ℕ) (over : Option ℕ) (mine : List NamedEntry) → fold (λ before entry. walked_after n entry.call before) over mine ≡ Some o → (over ≡ Some o) ⊎ IsNamedIn o mine
   walked_from n over [] e = inl e
@@ -243,6 +258,7 @@ module _ (o : ℕ) where
   used hands mine (call.Dict a c) walk (objects, is, of) = let x = named_used mine (call.Dict a c) a (other_dict c) objects is of in (x, inr x)
   used hands mine (call.List a c) walk (objects, is, of) = let x = named_used mine (call.List a c) a (other_list c) objects is of in (x, inr x)
   used hands mine (call.Set a c) walk (objects, is, of) = let x = named_used mine (call.Set a c) a (other_set c) objects is of in (x, inr x)
+  used hands mine (call.Deque a c) walk (objects, is, of) = let x = named_used mine (call.Deque a c) a (other_deque c) objects is of in (x, inr x)
   used hands mine (call.Begin a b) walk (objects, is, of) = let x = named_used mine (call.Begin a b) a b objects is of in (x, inr x)
   used hands mine (call.Next n) walk (objects, is, of) = by (cursor_at hands n) refl
     where
@@ -258,6 +274,8 @@ module _ (o : ℕ) where
           )
   used hands mine call.End walk (objects, is, of) = absurd (let e : None ≡ Some objects = is in cc)
   used hands mine call.Quiesce walk (objects, is, of) = absurd (let e : None ≡ Some objects = is in cc)
+  used hands mine (call.Await thread index) walk (objects, is, of) = absurd (let e : None ≡ Some objects = is in cc)
+  used hands mine call.Dump walk (objects, is, of) = absurd (let e : None ≡ Some objects = is in cc)
 
 -- ---- what stays found
 

@@ -17,7 +17,6 @@ pub mod ListCalls
 pub mod ListLooks
 pub mod ContainerCalls
 pub mod CursorCalls
-pub mod IterCalls
 pub mod KeyedCalls
 pub mod GivingUp
 pub mod AtRest

@@ -34,24 +34,3 @@ adds_outcome k l called n v w result left x = add_outcome (One l) (AddsItems k l
 
 pub extend_outcome : (k : Shape) (objects : Objects) (l m : ℕ) (v w : View) (result : Step) → 0 < v.left → IsAddTryOf objects (ExtendsBy k l m) reply.Done v w result → Outcome (call.List l (list.Extend m)) objects v w result
 extend_outcome k objects l m v w result left x = add_outcome objects (ExtendsBy k l m) (call.List l (list.Extend m)) reply.Done v w result (λ u z what some y. loaded_comes k _ _ (call.List l (list.Extend m)) reply.Done u y.0 z what some y.1 y.2) left x
-
--- a call that makes a cursor is an `iter`
-pub iter_list : (lc : ListCall) (n : ℕ) → cursor_of_list lc ≡ Some n → lc ≡ list.Iter n
-iter_list (list.Append v) n e = absurd (let x : None ≡ Some n = e in cc)
-iter_list (list.Insert i v) n e = absurd (let x : None ≡ Some n = e in cc)
-iter_list (list.Get i) n e = absurd (let x : None ≡ Some n = e in cc)
-iter_list (list.Set i v) n e = absurd (let x : None ≡ Some n = e in cc)
-iter_list (list.Del i) n e = absurd (let x : None ≡ Some n = e in cc)
-iter_list (list.Pop i) n e = absurd (let x : None ≡ Some n = e in cc)
-iter_list (list.Remove v) n e = absurd (let x : None ≡ Some n = e in cc)
-iter_list (list.Index v) n e = absurd (let x : None ≡ Some n = e in cc)
-iter_list (list.Count v) n e = absurd (let x : None ≡ Some n = e in cc)
-iter_list (list.Has v) n e = absurd (let x : None ≡ Some n = e in cc)
-iter_list list.Reverse n e = absurd (let x : None ≡ Some n = e in cc)
-iter_list (list.Extend m) n e = absurd (let x : None ≡ Some n = e in cc)
-iter_list (list.Slice i j) n e = absurd (let x : None ≡ Some n = e in cc)
-iter_list list.Clear n e = absurd (let x : None ≡ Some n = e in cc)
-iter_list list.Len n e = absurd (let x : None ≡ Some n = e in cc)
-iter_list list.Items n e = absurd (let x : None ≡ Some n = e in cc)
-iter_list (list.Eq m) n e = absurd (let x : None ≡ Some n = e in cc)
-iter_list (list.Iter m) n e = ap list.Iter (let x : Some m ≡ Some n = e in cc)

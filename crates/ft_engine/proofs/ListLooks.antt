@@ -13,7 +13,7 @@ use Rattle.ft_section.specs.declared.answers.Look.TheVariants as look
 use Rattle.ft_search.specs.Lengths.{IsGlanceOf, IsStopped, StopsAtVersion}
 use Rattle.ft_list.specs.Indexes.{IsLookGetOf}
 use Rattle.ft_list.specs.ItemLooks.{IsGetOf}
-use Rattle.ft_list.specs.Pairs.{IsGlanceOfBoth}
+use Rattle.ft_reads.specs.Pairs.{IsGlanceOfBoth}
 use Rattle.ft_engine.specs.Answering.{IsLooked}
 use Rattle.ft_engine.specs.Contentions.{StopsCall}
 

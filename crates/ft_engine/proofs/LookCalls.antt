@@ -1,5 +1,5 @@
 -- What a caller has after a look.
-use Rattle.std.proofs.Common.{◌≡◌, ◌<◌, ◌+◌, ◌-◌, ℕ, true, false, List, [], ◌∷◌, ◌++◌, length, refl, sym, ap, ◌∙◌, subst, arith}
+use Rattle.std.proofs.Common.{◌≡◌, ◌<◌, ◌+◌, ◌-◌, ℕ, true, false, List, [], ◌∷◌, ◌++◌, length, refl, sym, ap, ◌∙◌, subst, arith, None, Some}
 use Rattle.std.specs.Prelude.{Some, None, Option, not}
 use Rattle.ft_model.specs.declared.call.Call.{Call}
 use Rattle.ft_model.specs.declared.call.Call.TheVariants as call
@@ -40,8 +40,6 @@ use Rattle.ft_engine.specs.Keeping.{AreThreadEntries, WasAnswered, named_entry, 
 use Rattle.ft_engine.specs.Owning.{AreOwnedBy}
 use Rattle.ft_engine.specs.Stacks.{StackAfter}
 use Rattle.ft_engine.proofs.Callers.{at_hand, idle_free}
-use Rattle.ft_engine.proofs.IterCalls.{iter_dict, iter_set}
-use Rattle.ft_engine.proofs.ListCalls.{iter_list}
 use Rattle.ft_engine.proofs.Keeping.{kept_answered, kept_done, kept_refused, no_answer_idle}
 use Rattle.ft_engine.proofs.LooksBefore.{IsPlain, loaded_ready, plain_call}
 use Rattle.ft_engine.proofs.Outcomes.{answered_adds, loaded_nothing}
@@ -68,26 +66,20 @@ looks_on : (called : Call) → may_look called ≡ true → IsOnContainers calle
 looks_on (call.Dict o dc) may = tt
 looks_on (call.List o lc) may = tt
 looks_on (call.Set o sc) may = tt
+looks_on (call.Deque o qc) may = tt
 looks_on (call.Next number) may = absurd (let e : false ≡ true = may in cc)
 looks_on (call.Begin first second) may = absurd (let e : false ≡ true = may in cc)
 looks_on call.End may = absurd (let e : false ≡ true = may in cc)
 looks_on call.Quiesce may = absurd (let e : false ≡ true = may in cc)
+looks_on (call.Await thread index) may = absurd (let e : false ≡ true = may in cc)
+looks_on call.Dump may = absurd (let e : false ≡ true = may in cc)
 
 pub looks_plain : (called : Call) → may_look called ≡ true → IsPlain called
 looks_plain called may = plain_call called (looks_on called may)
 
 -- none of them moves a cursor
 pub looks_none : (called : Call) → may_look called ≡ true → (number : ℕ) → moved_cursor called ≡ Some number → ⊥
-looks_none (call.Dict o dc) may number moves =
-    absurd (let e : false ≡ true = subst (λ (z : DictCall). not (is_locked_dict z) ≡ true) (iter_dict dc number moves) may in cc)
-looks_none (call.List o lc) may number moves =
-    absurd (let e : false ≡ true = subst (λ (z : ListCall). not (is_locked_list z) ≡ true) (iter_list lc number moves) may in cc)
-looks_none (call.Set o sc) may number moves =
-    absurd (let e : false ≡ true = subst (λ (z : SetCall). not (is_locked_set z) ≡ true) (iter_set sc number moves) may in cc)
-looks_none (call.Next n) may number moves = absurd (let e : false ≡ true = may in cc)
-looks_none (call.Begin first second) may number moves = absurd (let e : false ≡ true = may in cc)
-looks_none call.End may number moves = absurd (let e : false ≡ true = may in cc)
-looks_none call.Quiesce may number moves = absurd (let e : false ≡ true = may in cc)
+looks_none called may number moves = absurd (let e : None ≡ Some number = sym (looks_still called may) ∙ moves in cc)
 
 -- ---- the caller
 

@@ -5,7 +5,7 @@ use Rattle.ft_model.specs.declared.call.Call.{Call}
 use Rattle.ft_model.specs.declared.call.Call.TheVariants as call
 use Rattle.ft_model.specs.declared.cursor.Cursor.{Cursor}
 use Rattle.ft_model.specs.declared.reply.Reply.{Reply}
-use Rattle.ft_model.specs.Calls.{moved_cursor, other_dict, other_list, other_set}
+use Rattle.ft_model.specs.Calls.{moved_cursor, other_dict, other_list, other_set, other_deque}
 use Rattle.ft_model.specs.Worlds.{container_of}
 use Rattle.ft_trace.specs.declared.Act.{Act}
 use Rattle.ft_trace.specs.declared.Act.TheVariants.{Lock}
@@ -59,20 +59,26 @@ pub plain_call : (called : Call) → IsOnContainers called → IsPlain called
 plain_call (call.Dict o dc) on = record { sections = λ n log sections. refl; begins = refl; marks = λ marks. refl; ends = λ marks said. tt; leaves = λ s. refl }
 plain_call (call.List o lc) on = record { sections = λ n log sections. refl; begins = refl; marks = λ marks. refl; ends = λ marks said. tt; leaves = λ s. refl }
 plain_call (call.Set o sc) on = record { sections = λ n log sections. refl; begins = refl; marks = λ marks. refl; ends = λ marks said. tt; leaves = λ s. refl }
+plain_call (call.Deque o qc) on = record { sections = λ n log sections. refl; begins = refl; marks = λ marks. refl; ends = λ marks said. tt; leaves = λ s. refl }
 plain_call (call.Next number) on = absurd on
 plain_call (call.Begin first second) on = absurd on
 plain_call call.End on = absurd on
 plain_call call.Quiesce on = absurd on
+plain_call (call.Await thread index) on = absurd on
+plain_call call.Dump on = absurd on
 
 -- it names its containers itself, and not by a cursor
 pub named_objects : (called : Call) → IsOnContainers called → (objects : Objects) × ((hands : List (Option Cursor)) → objects_of hands called ≡ Some objects)
 named_objects (call.Dict o dc) on = (objects_by o (other_dict dc), λ hands. refl)
 named_objects (call.List o lc) on = (objects_by o (other_list lc), λ hands. refl)
 named_objects (call.Set o sc) on = (objects_by o (other_set sc), λ hands. refl)
+named_objects (call.Deque o qc) on = (objects_by o (other_deque qc), λ hands. refl)
 named_objects (call.Next number) on = absurd on
 named_objects (call.Begin first second) on = absurd on
 named_objects call.End on = absurd on
 named_objects call.Quiesce on = absurd on
+named_objects (call.Await thread index) on = absurd on
+named_objects call.Dump on = absurd on
 
 some_same : (x y : Step) → Some x ≡ Some y → x ≡ y
 some_same x y e = cc

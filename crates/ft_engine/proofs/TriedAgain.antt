@@ -28,8 +28,11 @@ fits_same s t call.End same fits = omega (arith, same, fits)
 fits_same s t (call.Dict o dc) same fits = tt
 fits_same s t (call.List o lc) same fits = tt
 fits_same s t (call.Set o sc) same fits = tt
+fits_same s t (call.Deque o qc) same fits = tt
 fits_same s t (call.Next number) same fits = tt
 fits_same s t call.Quiesce same fits = tt
+fits_same s t (call.Await thread index) same fits = tt
+fits_same s t call.Dump same fits = tt
 
 -- it has no answer yet, and the caller is the same but for its locks and what it has read
 tried_again : (e : Engine) (c d : Caller) (called : Call) → MayAttempt e c called → (IsFlightAnswered c.flight → ⊥) → MakesNoEntry (view c.pass) (view d.pass) → length (stack_of d.pass).sections ≡ length (stack_of c.pass).sections → d.cursors.items ≡ c.cursors.items → d.calls ≡ c.calls → d.made ≡ c.made → d.flight ≡ flight.Tried called → MayAttempt e d called

@@ -61,10 +61,13 @@ module _ (w : View) (part : List Act) (p : Possible w) (l : LooksWithFloor w par
   call_stands hands (call.Dict o dc) a b names stops = keyed_stands kind.Dict tt o (other_dict dc) (key_of_dict dc) a b names.0 stops
   call_stands hands (call.List o lc) a b names stops = items_stand o lc a b names.0 stops
   call_stands hands (call.Set o sc) a b names stops = keyed_stands kind.Set tt o (other_set sc) (key_of_set sc) a b names.0 stops
+  call_stands hands (call.Deque o qc) a b names stops = absurd names
   call_stands hands (call.Next number) a b names stops = stops
   call_stands hands (call.Begin first second) a b names stops = stops
   call_stands hands call.End a b names stops = stops
   call_stands hands call.Quiesce a b names stops = stops
+  call_stands hands (call.Await thread index) a b names stops = stops
+  call_stands hands call.Dump a b names stops = stops
 
 -- the loads of a contended look
 module _ (called : Call) (p q : Pass) (a b : ℕ) (still : (o : ℕ) → is_writing o (view p).log ≡ false) (x : IsLooked called (view p) (view q) (look.Contended a b)) where

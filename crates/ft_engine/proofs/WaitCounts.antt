@@ -88,8 +88,11 @@ after_map f call.End (x ∷ xs) no_begin = refl
 after_map f (call.Dict o c) xs no_begin = refl
 after_map f (call.List o c) xs no_begin = refl
 after_map f (call.Set o c) xs no_begin = refl
+after_map f (call.Deque o c) xs no_begin = refl
 after_map f (call.Next n) xs no_begin = refl
 after_map f call.Quiesce xs no_begin = refl
+after_map f (call.Await other place) xs no_begin = refl
+after_map f call.Dump xs no_begin = refl
 
 -- ---- one entry more
 
@@ -128,8 +131,11 @@ begins_have P begins (e ∷ mine) had all =
     one (call.Dict o c) begins is all = all
     one (call.List o c) begins is all = all
     one (call.Set o c) begins is all = all
+    one (call.Deque o c) begins is all = all
     one (call.Next n) begins is all = all
     one call.Quiesce begins is all = all
+    one (call.Await other place) begins is all = all
+    one call.Dump begins is all = all
 
 low_from : (xs : List NamedEntry) (a : ℕ) → map (λ e. e.index) xs ≡ range_with_len (a + 1) (length xs) → All (λ e. e.index ≤ a + length xs) xs
 low_from [] a is = All-nil (λ e. e.index ≤ a + 0)
@@ -160,8 +166,11 @@ open_more thread mine e indexes own index =
     by (call.Dict o c) begins low = all_more thread mine e own begins low
     by (call.List o c) begins low = all_more thread mine e own begins low
     by (call.Set o c) begins low = all_more thread mine e own begins low
+    by (call.Deque o c) begins low = all_more thread mine e own begins low
     by (call.Next n) begins low = all_more thread mine e own begins low
     by call.Quiesce begins low = all_more thread mine e own begins low
+    by (call.Await other place) begins low = all_more thread mine e own begins low
+    by call.Dump begins low = all_more thread mine e own begins low
 
 -- ---- the innermost section is taken up again
 

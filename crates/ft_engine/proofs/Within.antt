@@ -12,7 +12,7 @@ use Rattle.ft_model.specs.declared.call.SetCall.TheVariants as set
 use Rattle.ft_model.specs.declared.cursor.Cursor.{Cursor}
 use Rattle.ft_model.specs.declared.reply.Reply.{Reply}
 use Rattle.std.specs.Prelude.{List}
-use Rattle.ft_model.specs.Calls.{cursor_of_dict, cursor_of_list, cursor_of_set, is_locked_dict, is_locked_list, is_locked_set, moved_cursor}
+use Rattle.ft_model.specs.Calls.{cursor_of_dict, cursor_of_list, cursor_of_set, is_locked_dict, is_locked_list, is_locked_set, moved_cursor, is_locked_deque, cursor_of_deque}
 use Rattle.ft_model.specs.Worlds.{container_of}
 use Rattle.ft_trace.specs.declared.Shape.{Shape}
 use Rattle.ft_trace.specs.declared.View.{View}
@@ -34,6 +34,8 @@ use Rattle.ft_closing.proofs.Walked.{walked_plain}
 use Rattle.ft_engine.specs.Answering.{MakesEntry, HasLockedFor, HasWalked, IsLockedFor}
 use Rattle.ft_engine.specs.Contentions.{may_look}
 use Rattle.ft_engine.specs.Flights.{objects_of}
+use Rattle.ft_model.specs.declared.call.DequeCall.{DequeCall}
+use Rattle.ft_model.specs.declared.call.DequeCall.TheVariants as deque
 
 -- of locks the pass has taken only such as are of these containers, and whom it has found it has found for good
 pub record HasWithin (objects : Objects) (v w : View) : Type 0 where
@@ -99,25 +101,34 @@ walked_none called said stamp v w none x number =
 
 looks_dict : (c : DictCall) → not (is_locked_dict c) ≡ true → cursor_of_dict c ≡ None
 looks_dict (dict.Iter m) e = absurd (let x : false ≡ true = e in cc)
+looks_dict (dict.Reversed m) e = absurd (let x : false ≡ true = e in cc)
 looks_dict c e = refl
 
 looks_list : (c : ListCall) → not (is_locked_list c) ≡ true → cursor_of_list c ≡ None
 looks_list (list.Iter m) e = absurd (let x : false ≡ true = e in cc)
+looks_list (list.Reversed m) e = absurd (let x : false ≡ true = e in cc)
 looks_list c e = refl
 
 looks_set : (c : SetCall) → not (is_locked_set c) ≡ true → cursor_of_set c ≡ None
 looks_set (set.Iter m) e = absurd (let x : false ≡ true = e in cc)
 looks_set c e = refl
 
+looks_deque : (c : DequeCall) → not (is_locked_deque c) ≡ true → cursor_of_deque c ≡ None
+looks_deque (deque.Iter m) e = absurd (let x : false ≡ true = e in cc)
+looks_deque c e = refl
+
 -- none that may be made by a look does
 pub looks_still : (called : Call) → may_look called ≡ true → moved_cursor called ≡ None
 looks_still (call.Dict o c) may = looks_dict c may
 looks_still (call.List o c) may = looks_list c may
 looks_still (call.Set o c) may = looks_set c may
+looks_still (call.Deque o c) may = looks_deque c may
 looks_still (call.Next number) may = absurd (let e : false ≡ true = may in cc)
 looks_still (call.Begin first second) may = refl
 looks_still call.End may = refl
 looks_still call.Quiesce may = refl
+looks_still (call.Await thread index) may = refl
+looks_still call.Dump may = refl
 
 -- where the try has its answer
 abbrev pub WalkedBy : Call → View → View → Step → Type 0

@@ -84,8 +84,11 @@ IsEndOf (call.Begin first second) marks said = Unit {0}
 IsEndOf (call.Dict o dc) marks said = Unit {0}
 IsEndOf (call.List o lc) marks said = Unit {0}
 IsEndOf (call.Set o sc) marks said = Unit {0}
+IsEndOf (call.Deque o qc) marks said = Unit {0}
 IsEndOf (call.Next number) marks said = Unit {0}
 IsEndOf call.Quiesce marks said = Unit {0}
+IsEndOf (call.Await thread index) marks said = Unit {0}
+IsEndOf call.Dump marks said = Unit {0}
 
 -- the cursors go over the containers that they went over, but for the one that an `iter` has made (Python manual,
 -- Iterator Types)

@@ -17,16 +17,20 @@ use Rattle.ft_trace.specs.Addresses.{containers_in}
 use Rattle.ft_bank.specs.KeyHashes.{IsKeyIn}
 use Rattle.ft_bank.specs.PassSections.{Stack}
 use Rattle.ft_engine.specs.Callers.{IsOfKindIn}
+use Rattle.ft_model.specs.Landed.{is_landed_dict, is_landed_list}
 
--- the call is one on a dict, a list or a set
+-- the call is one on a dict, a list, a set or a deque
 abbrev pub IsOnContainers : Call → Type 0
 IsOnContainers (call.Dict o dc) = Unit {0}
 IsOnContainers (call.List o lc) = Unit {0}
 IsOnContainers (call.Set o sc) = Unit {0}
+IsOnContainers (call.Deque o qc) = Unit {0}
 IsOnContainers (call.Next number) = ⊥
 IsOnContainers (call.Begin first second) = ⊥
 IsOnContainers call.End = ⊥
 IsOnContainers call.Quiesce = ⊥
+IsOnContainers (call.Await thread index) = ⊥
+IsOnContainers call.Dump = ⊥
 
 -- the container that a call names, and the other one, are there and of this kind
 abbrev pub AreOfKindIn : Shape → Kind → ℕ → Option ℕ → Type 0
@@ -54,6 +58,12 @@ key_of_dict dict.Clear = None
 key_of_dict (dict.CopyTo other) = None
 key_of_dict (dict.Eq other) = None
 key_of_dict (dict.Iter cursor) = None
+key_of_dict (dict.KeysAnd other) = None
+key_of_dict (dict.KeysSub other) = None
+key_of_dict (dict.KeysOr other) = None
+key_of_dict (dict.KeysXor other) = None
+key_of_dict (dict.ItemsHas key value) = Some key
+key_of_dict (dict.Reversed cursor) = None
 
 -- the element that a call on a set names, if it names one (Python manual, Set Types)
 abbrev pub key_of_set : SetCall → Option Key
@@ -78,18 +88,24 @@ key_of_set (set.Iter cursor) = None
 abbrev pub HasKeyIn : Shape → Option Key → Type 0
 HasKeyIn k key = IfSome key (λ named. IsKeyIn k named)
 
--- the containers, cursors and strings that a call names are there (profile)
+-- the containers, cursors and strings that a call names are there, and the bank can make the call: no call of a deque,
+-- no `await`, no dump and no view or reversed cursor so far (profile)
 abbrev pub IsCallIn : Shape → List (Option Cursor) → Call → Type 0
 IsCallIn k hands (call.Dict o dc) =
     AreOfKindIn k kind.Dict o (other_dict dc) × HasRoomFor hands (cursor_of_dict dc) × HasKeyIn k (key_of_dict dc)
-IsCallIn k hands (call.List o lc) = AreOfKindIn k kind.List o (other_list lc) × HasRoomFor hands (cursor_of_list lc)
+    × (is_landed_dict dc ≡ true)
+IsCallIn k hands (call.List o lc) =
+    AreOfKindIn k kind.List o (other_list lc) × HasRoomFor hands (cursor_of_list lc) × (is_landed_list lc ≡ true)
 IsCallIn k hands (call.Set o sc) =
     AreOfKindIn k kind.Set o (other_set sc) × HasRoomFor hands (cursor_of_set sc) × HasKeyIn k (key_of_set sc)
+IsCallIn k hands (call.Deque o qc) = ⊥
 IsCallIn k hands (call.Next number) = (number < length hands) × (is_some (cursor_at hands number) ≡ true)
 IsCallIn k hands (call.Begin first second) =
     (first < containers_in k) × IfSome second (λ other. other < containers_in k)
 IsCallIn k hands call.End = Unit {0}
 IsCallIn k hands call.Quiesce = Unit {0}
+IsCallIn k hands (call.Await thread index) = ⊥
+IsCallIn k hands call.Dump = ⊥
 
 -- at most 16 sections are open at once, and an `end` ends one (profile)
 abbrev pub FitsSections : Stack → Call → Type 0
@@ -98,5 +114,8 @@ FitsSections s call.End = 0 < length s.sections
 FitsSections s (call.Dict o dc) = Unit {0}
 FitsSections s (call.List o lc) = Unit {0}
 FitsSections s (call.Set o sc) = Unit {0}
+FitsSections s (call.Deque o qc) = Unit {0}
 FitsSections s (call.Next number) = Unit {0}
 FitsSections s call.Quiesce = Unit {0}
+FitsSections s (call.Await thread index) = Unit {0}
+FitsSections s call.Dump = Unit {0}

@@ -1,5 +1,5 @@
 -- What clauses see of an engine and of a caller.
-use Rattle.std.specs.Prelude.{◌≡◌, ℕ, suc, ◌+◌, ◌-◌, ◌^◌, ◌<◌, ◌≤◌, List, [], ◌∷◌, length, replicate, Option, Some, None}
+use Rattle.std.specs.Prelude.{◌≡◌, ℕ, suc, ◌+◌, ◌-◌, ◌^◌, ◌<◌, ◌≤◌, List, [], ◌∷◌, length, replicate, Option, Some, None, true}
 use Rattle.std.specs.List.{AllByRecursion}
 use Rattle.ft_model.specs.declared.cursor.Cursor.{Cursor}
 use Rattle.ft_model.specs.declared.script.Kind.{Kind}
@@ -19,6 +19,7 @@ use Rattle.ft_engine.specs.declared.caller.Flight.{Flight}
 use Rattle.ft_engine.specs.declared.caller.Flight.TheVariants as flight
 use Rattle.ft_engine.specs.declared.engine.Engine.{Engine}
 use Rattle.ft_engine.specs.Flights.{IsIn}
+use Rattle.ft_iter.specs.CursorCalls.{is_landed_cursor}
 
 abbrev pub bank_of : Engine → Bank
 bank_of e = e.bank
@@ -52,13 +53,13 @@ taken_of c = (view c.pass).lists
 
 -- a container of the bank, of this kind
 abbrev pub IsOfKindIn : Shape → Kind → ℕ → Type 0
-IsOfKindIn k kind o = (o < containers_in k) × (kind_in k.kinds o ≡ kind)
+IsOfKindIn k kind o = (o < containers_in k) × (kind_in k.starts o ≡ kind)
 
--- each cursor that was made goes over a container of its kind
+-- each cursor that was made is one that the bank can move, and goes over a container of its kind
 abbrev pub AreOver : Shape → List (Option Cursor) → Type 0
 AreOver k hands =
     (number : ℕ) (walker : Cursor) → cursor_at hands number ≡ Some walker
-    → IsOfKindIn k (cursor_kind walker) (container_of walker)
+    → IsOfKindIn k (cursor_kind walker) (container_of walker) × (is_landed_cursor walker ≡ true)
 
 -- A caller of the engine: its pass is one of the bank's and has come as far as the call in flight. It counts the
 -- entries of its pass, which may make as many as the shape says. Its cursors are those that its own entries leave.

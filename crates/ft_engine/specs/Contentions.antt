@@ -6,7 +6,7 @@ use Rattle.ft_model.specs.declared.call.Call.TheVariants as call
 use Rattle.ft_model.specs.declared.call.ListCall.{ListCall}
 use Rattle.ft_model.specs.declared.call.ListCall.TheVariants as list
 use Rattle.ft_model.specs.declared.data.Key.{Key}
-use Rattle.ft_model.specs.Calls.{is_locked_dict, is_locked_list, is_locked_set, other_dict, other_list, other_set}
+use Rattle.ft_model.specs.Calls.{is_locked_dict, is_locked_list, is_locked_set, other_dict, other_list, other_set, is_locked_deque, other_deque}
 use Rattle.ft_trace.specs.declared.Act.{Act}
 use Rattle.ft_trace.specs.declared.Shape.{Shape}
 use Rattle.ft_trace.specs.declared.View.{View}
@@ -20,10 +20,13 @@ abbrev pub may_look : Call → Bool
 may_look (call.Dict o dc) = not (is_locked_dict dc)
 may_look (call.List o lc) = not (is_locked_list lc)
 may_look (call.Set o sc) = not (is_locked_set sc)
+may_look (call.Deque o qc) = not (is_locked_deque qc)
 may_look (call.Next number) = false
 may_look (call.Begin first second) = false
 may_look call.End = false
 may_look call.Quiesce = false
+may_look (call.Await thread index) = false
+may_look call.Dump = false
 
 -- two loads of the version of the container, or of one of the two, gave a and then b, and a is odd or they differ
 abbrev pub StopsAtOne : ℕ → Option ℕ → ℕ → ℕ → List Act → Type 0
@@ -51,10 +54,13 @@ abbrev pub StopsCall : Shape → Call → ℕ → ℕ → List Act → Type 0
 StopsCall k (call.Dict o dc) a b part = StopsKeyed k o (other_dict dc) (key_of_dict dc) a b part
 StopsCall k (call.List o lc) a b part = StopsList o lc a b part
 StopsCall k (call.Set o sc) a b part = StopsKeyed k o (other_set sc) (key_of_set sc) a b part
+StopsCall k (call.Deque o qc) a b part = StopsAtOne o (other_deque qc) a b part
 StopsCall k (call.Next number) a b part = ⊥
 StopsCall k (call.Begin first second) a b part = ⊥
 StopsCall k call.End a b part = ⊥
 StopsCall k call.Quiesce a b part = ⊥
+StopsCall k (call.Await thread index) a b part = ⊥
+StopsCall k call.Dump a b part = ⊥
 
 -- After the first of these moments and before the second a look at what the call names was stopped. With the floor
 -- none is.

@@ -3,7 +3,7 @@ use Rattle.std.specs.Prelude.{◌≡◌, ℕ, Bool, true, false, List, Option, S
 use Rattle.ft_model.specs.declared.call.Call.{Call}
 use Rattle.ft_model.specs.declared.call.Call.TheVariants as call
 use Rattle.ft_model.specs.declared.cursor.Cursor.{Cursor}
-use Rattle.ft_model.specs.Calls.{other_dict, other_list, other_set}
+use Rattle.ft_model.specs.Calls.{other_dict, other_list, other_set, other_deque}
 use Rattle.ft_model.specs.Worlds.{container_of, cursor_at}
 use Rattle.ft_bank.specs.declared.bank.Bank.{Bank}
 use Rattle.ft_bank.specs.declared.pass.Pass.{Pass}
@@ -23,10 +23,13 @@ abbrev pub objects_of : List (Option Cursor) → Call → Option Objects
 objects_of hands (call.Dict o dc) = Some (objects_by o (other_dict dc))
 objects_of hands (call.List o lc) = Some (objects_by o (other_list lc))
 objects_of hands (call.Set o sc) = Some (objects_by o (other_set sc))
+objects_of hands (call.Deque o qc) = Some (objects_by o (other_deque qc))
 objects_of hands (call.Next number) = option_map (λ walker. One (container_of walker)) (cursor_at hands number)
 objects_of hands (call.Begin first second) = Some (objects_by first second)
 objects_of hands call.End = None
 objects_of hands call.Quiesce = None
+objects_of hands (call.Await thread index) = None
+objects_of hands call.Dump = None
 
 -- whether the call begins a section
 abbrev pub is_begin : Call → Bool
@@ -34,9 +37,12 @@ is_begin (call.Begin first second) = true
 is_begin (call.Dict o dc) = false
 is_begin (call.List o lc) = false
 is_begin (call.Set o sc) = false
+is_begin (call.Deque o qc) = false
 is_begin (call.Next number) = false
 is_begin call.End = false
 is_begin call.Quiesce = false
+is_begin (call.Await thread index) = false
+is_begin call.Dump = false
 
 -- How far the pass has come. Between two calls it is ready for the next one. A call without an answer may be tried
 -- again, on the locks of its containers. One with an answer has the innermost section to take up again, of which a

@@ -7,6 +7,7 @@ pub mod Keeping
 pub mod Stacks
 pub mod Answering
 pub mod Attempts
+pub mod Refusals
 pub mod Halves
 pub mod Calling
 pub mod Visits

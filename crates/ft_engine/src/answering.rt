@@ -54,6 +54,14 @@ fn make(
             container,
             call: SetCall::Iter { cursor },
         } => iter(bank, pass, cursors, *container, Kind::Set, *cursor),
+        Call::Dict {
+            call: DictCall::Reversed { .. },
+            ..
+        }
+        | Call::List {
+            call: ListCall::Reversed { .. },
+            ..
+        } => unreachable!(),
         Call::Dict { .. } | Call::List { .. } | Call::Set { .. } => {
             call_container(bank, pass, alloc, call)
         }
@@ -61,6 +69,7 @@ fn make(
         Call::Begin { first, second } => begin(bank, pass, *first, *second),
         Call::End => end(bank, pass),
         Call::Quiesce => quiesce(bank, pass),
+        Call::Deque { .. } | Call::Await { .. } | Call::Dump => unreachable!(),
     }
 }
 

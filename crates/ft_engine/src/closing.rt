@@ -4,6 +4,7 @@ ghost use Rattle.std.specs.List.{flat_map};
 ghost use Rattle.std.specs.List.Sorted.{IsPermutation, IsSorted};
 ghost use Rattle.ft_model.specs.declared.script.ScriptParts.{ScriptParts};
 ghost use Rattle.ft_model.specs.Histories.{history_cmp};
+ghost use Rattle.ft_model.specs.Scripts.{IsScript};
 ghost use Rattle.ft_bank.specs.Closings.{shape_in, lists_in, had_in, found_in};
 ghost use Rattle.ft_bank.specs.Passes.{shape_of, view};
 ghost use Rattle.ft_closing.specs.Numbering.{HaveNamedEntries};
@@ -41,7 +42,7 @@ impl Engine {
         ensures numbered { IfOk result (λ made. (script : ScriptParts) →
             AreOfScript script (shape_of (bank_of self)) (map (λ list. list.items) lists.items) →
             AreNumberedFor script (map (λ list. list.items) lists.items)) }
-        ensures legal { IfOk result (λ made. (script : ScriptParts) →
+        ensures legal { IfOk result (λ made. (script : ScriptParts) → IsScript script →
             AreOfScript script (shape_of (bank_of self)) (map (λ list. list.items) lists.items) →
             HaveScriptCalls script (map (λ list. list.items) lists.items) → IsLegalFor script made.0.items) }
     {

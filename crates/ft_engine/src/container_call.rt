@@ -39,6 +39,7 @@ fn try_locked(bank: &Bank, pass: &mut Pass, alloc: Global, call: &Call) -> Step
         Call::Begin { .. } => unreachable!(),
         Call::End => unreachable!(),
         Call::Quiesce => unreachable!(),
+        Call::Deque { .. } | Call::Await { .. } | Call::Dump => unreachable!(),
     }
 }
 

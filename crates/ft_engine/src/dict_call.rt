@@ -1,9 +1,10 @@
 //! Tries of calls on dicts.
-ghost use Rattle.std.specs.Prelude.{◌≡◌, ◌<◌, None, List, Option, is_some};
+ghost use Rattle.std.specs.Prelude.{◌≡◌, ◌<◌, None, List, Option, is_some, true};
 ghost use Rattle.ft_model.specs.declared.call.Call.TheVariants as calls;
 ghost use Rattle.ft_model.specs.declared.cursor.Cursor.{Cursor};
 ghost use Rattle.ft_model.specs.declared.script.Kind.TheVariants as kind;
 ghost use Rattle.ft_model.specs.Calls.{cursor_of_dict, other_dict};
+ghost use Rattle.ft_model.specs.Landed.{is_landed_dict};
 ghost use Rattle.ft_trace.specs.Acts.{announces};
 ghost use Rattle.ft_bank.specs.Passes.{shape_of, view, IsPassOf};
 ghost use Rattle.ft_bank.specs.PassSections.{stack_of};
@@ -36,6 +37,7 @@ fn look_any_dict(
     requires pass { IsPassOf bank.now pass.old }
     requires names { AreOfKindIn (shape_of bank.now) kind.Dict d (other_dict call.now) }
     requires key { HasKeyIn (shape_of bank.now) (key_of_dict call.now) }
+    requires landed { is_landed_dict call.now ≡ true }
     requires online { 0 < announces (view pass.old).log }
     requires left { 0 < (view pass.old).left }
     ensures pass { IsPassOf bank.now pass.new }
@@ -60,6 +62,12 @@ fn look_any_dict(
         | DictCall::Clear
         | DictCall::CopyTo { .. }
         | DictCall::Iter { .. } => None,
+        DictCall::KeysAnd { .. }
+        | DictCall::KeysSub { .. }
+        | DictCall::KeysOr { .. }
+        | DictCall::KeysXor { .. }
+        | DictCall::ItemsHas { .. }
+        | DictCall::Reversed { .. } => unreachable!(),
     }
 }
 
@@ -75,6 +83,7 @@ pub(crate) fn look_dict(
     requires pass { IsPassOf bank.now pass.old }
     requires names { AreOfKindIn (shape_of bank.now) kind.Dict d (other_dict call.now) }
     requires key { HasKeyIn (shape_of bank.now) (key_of_dict call.now) }
+    requires landed { is_landed_dict call.now ≡ true }
     requires online { 0 < announces (view pass.old).log }
     requires left { 0 < (view pass.old).left }
     ensures pass { IsPassOf bank.now pass.new }
@@ -96,6 +105,7 @@ fn try_any_dict(bank: &Bank, pass: &mut Pass, alloc: Global, d: Object, call: &D
     requires names { AreOfKindIn (shape_of bank.now) kind.Dict d (other_dict call.now) }
     requires key { HasKeyIn (shape_of bank.now) (key_of_dict call.now) }
     requires no_cursor { cursor_of_dict call.now ≡ None }
+    requires landed { is_landed_dict call.now ≡ true }
     requires left { 0 < (view pass.old).left }
     ensures { (hands : List (Option Cursor)) → IsTryOfCall bank.now hands (calls.Dict d call.now) pass.old pass.new result }
 {
@@ -115,7 +125,13 @@ fn try_any_dict(bank: &Bank, pass: &mut Pass, alloc: Global, d: Object, call: &D
         DictCall::Eq { other } => try_eq(bank, pass, d, other),
         DictCall::Update { other } => try_update(bank, pass, d, other),
         DictCall::CopyTo { other } => try_copyto(bank, pass, d, other),
-        DictCall::Iter { .. } => unreachable!(),
+        DictCall::Iter { .. }
+        | DictCall::KeysAnd { .. }
+        | DictCall::KeysSub { .. }
+        | DictCall::KeysOr { .. }
+        | DictCall::KeysXor { .. }
+        | DictCall::ItemsHas { .. }
+        | DictCall::Reversed { .. } => unreachable!(),
     }
 }
 
@@ -132,6 +148,7 @@ pub(crate) fn try_dict(
     requires names { AreOfKindIn (shape_of bank.now) kind.Dict d (other_dict call.now) }
     requires key { HasKeyIn (shape_of bank.now) (key_of_dict call.now) }
     requires no_cursor { cursor_of_dict call.now ≡ None }
+    requires landed { is_landed_dict call.now ≡ true }
     requires left { 0 < (view pass.old).left }
     ensures { (hands : List (Option Cursor)) → IsTryOfCall bank.now hands (calls.Dict d call.now) pass.old pass.new result }
 {

@@ -1,6 +1,7 @@
 //! The engine: a bank, and the callers that are made with it.
-ghost use Rattle.std.specs.Prelude.{◌≡◌, length};
+ghost use Rattle.std.specs.Prelude.{◌≡◌, length, map};
 ghost use Rattle.ft_bank.specs.Passes.{shape_of};
+ghost use Rattle.ft_model.specs.Worlds.{start_as};
 
 use crate::caller::{Caller, Flight};
 use ft_bank::{Bank, MakeFault, Pass, Shape};
@@ -13,7 +14,7 @@ pub struct Engine {
     pub(crate) bank: Bank,
     pub(crate) kinds: Vec<Kind>,
     pub(crate) texts: u64,
-    ghost kinds_are: { (shape_of bank).kinds ≡ kinds.items },
+    ghost starts_are: { (shape_of bank).starts ≡ map start_as kinds.items },
     ghost texts_are: { length (shape_of bank).texts ≡ texts },
 }
 

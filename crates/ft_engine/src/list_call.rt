@@ -1,10 +1,11 @@
 //! Tries of calls on lists: a look without the lock, where the call may be made so, and then the call under its
 //! locks.
-ghost use Rattle.std.specs.Prelude.{◌≡◌, ◌<◌, List, Option, None, is_some};
+ghost use Rattle.std.specs.Prelude.{◌≡◌, ◌<◌, List, Option, None, is_some, true};
 ghost use Rattle.ft_model.specs.declared.call.Call.TheVariants as calls;
 ghost use Rattle.ft_model.specs.declared.cursor.Cursor.{Cursor};
 ghost use Rattle.ft_model.specs.declared.script.Kind.TheVariants as kind;
 ghost use Rattle.ft_model.specs.Calls.{cursor_of_list, other_list};
+ghost use Rattle.ft_model.specs.Landed.{is_landed_list};
 ghost use Rattle.ft_trace.specs.Acts.{announces};
 ghost use Rattle.ft_bank.specs.Passes.{shape_of, view, IsPassOf};
 ghost use Rattle.ft_bank.specs.PassSections.{stack_of};
@@ -61,7 +62,8 @@ fn look_any_list(
         | ListCall::Extend { .. }
         | ListCall::Slice { .. }
         | ListCall::Clear
-        | ListCall::Iter { .. } => None,
+        | ListCall::Iter { .. }
+        | ListCall::Reversed { .. } => None,
     }
 }
 
@@ -96,6 +98,7 @@ fn try_any_list(bank: &Bank, pass: &mut Pass, alloc: Global, l: Object, call: &L
     requires may { MayTry bank.now pass.old (objects_by l (other_list call.now)) }
     requires names { AreOfKindIn (shape_of bank.now) kind.List l (other_list call.now) }
     requires no_cursor { cursor_of_list call.now ≡ None }
+    requires landed { is_landed_list call.now ≡ true }
     requires left { 0 < (view pass.old).left }
     ensures { (hands : List (Option Cursor)) → IsTryOfCall bank.now hands (calls.List l call.now) pass.old pass.new result }
 {
@@ -118,6 +121,7 @@ fn try_any_list(bank: &Bank, pass: &mut Pass, alloc: Global, l: Object, call: &L
         ListCall::Items => try_items(bank, pass, alloc, l),
         ListCall::Eq { other } => try_eq(bank, pass, l, other),
         ListCall::Iter { .. } => unreachable!(),
+        ListCall::Reversed { .. } => unreachable!(),
     }
 }
 
@@ -133,6 +137,7 @@ pub(crate) fn try_list(
     requires may { MayTry bank.now pass.old (objects_by l (other_list call.now)) }
     requires names { AreOfKindIn (shape_of bank.now) kind.List l (other_list call.now) }
     requires no_cursor { cursor_of_list call.now ≡ None }
+    requires landed { is_landed_list call.now ≡ true }
     requires left { 0 < (view pass.old).left }
     ensures { (hands : List (Option Cursor)) → IsTryOfCall bank.now hands (calls.List l call.now) pass.old pass.new result }
 {

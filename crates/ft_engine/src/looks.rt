@@ -36,6 +36,9 @@ fn is_looking(call: &Call) -> bool
         Call::Begin { .. } => false,
         Call::End => false,
         Call::Quiesce => false,
+        Call::Deque { call, .. } => !call.is_locked(),
+        Call::Await { .. } => false,
+        Call::Dump => false,
     }
 }
 
@@ -59,12 +62,13 @@ pub(crate) fn look_call(bank: &Bank, pass: &mut Pass, alloc: Global, call: &Call
         Call::Begin { .. } => None,
         Call::End => None,
         Call::Quiesce => None,
+        Call::Deque { .. } | Call::Await { .. } | Call::Dump => unreachable!(),
     }
 }
 
 impl Caller {
     /// Whether no call is in flight.
-    fn is_idle(&self) -> bool
+    pub fn is_idle(&self) -> bool
         ensures { IsTrue result ↔ IsIdle self.now }
     {
         match &self.flight {

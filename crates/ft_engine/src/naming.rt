@@ -24,7 +24,8 @@ fn dict_key(call: &DictCall) -> Option<Key>
         | DictCall::Pop { key }
         | DictCall::PopOr { key, .. }
         | DictCall::SetDefault { key, .. }
-        | DictCall::Has { key } => Some(key),
+        | DictCall::Has { key }
+        | DictCall::ItemsHas { key, .. } => Some(key),
         _ => None,
     }
 }
@@ -86,7 +87,7 @@ impl Engine {
         }
     }
 
-    /// Whether the containers, cursors and strings that a call names are there.
+    /// Whether the containers, cursors and strings that a call names are there, and the bank can make the call.
     #[inline(always)]
     pub fn has_named(&self, caller: &Caller, call: &Call) -> bool
         ensures { IsTrue result ↔ IsCallIn (shape_of (bank_of self.now)) (hands_of caller.now) call.now }
@@ -96,10 +97,12 @@ impl Engine {
                 self.are_of_kind(Kind::Dict, container, call.other())
                     && caller.has_room(call.cursor())
                     && self.has_key(dict_key(&call))
+                    && call.is_landed()
             }
             Call::List { container, call } => {
                 self.are_of_kind(Kind::List, container, call.other())
                     && caller.has_room(call.cursor())
+                    && call.is_landed()
             }
             Call::Set { container, call } => {
                 self.are_of_kind(Kind::Set, container, call.other())
@@ -109,6 +112,7 @@ impl Engine {
             Call::Next { cursor } => caller.has_cursor(cursor),
             Call::Begin { first, second } => self.are_there(first, second),
             Call::End | Call::Quiesce => true,
+            Call::Deque { .. } | Call::Await { .. } | Call::Dump => false,
         }
     }
 

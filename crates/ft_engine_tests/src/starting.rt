@@ -22,7 +22,7 @@ const CALLS: u32 = 1_000;
 fn kinds_of(alloc: Global, script: &ScriptParts) -> Result<Vec<Kind>, Fail> {
     let mut kinds = Vec::new(alloc);
     for declaration in script.containers.as_slice() {
-        kinds.push(declaration.kind)?;
+        kinds.push(declaration.start.kind)?;
     }
     Ok(kinds)
 }

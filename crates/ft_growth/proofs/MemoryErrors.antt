@@ -28,7 +28,7 @@ module _ (v : View) (n : ℕ) where
 
   -- a load leaves what the bank may have
   pub has_before : (stored : StoredWorld) → MayHave after stored → MayHave v stored
-  has_before stored has = record { agrees = has.agrees; containers = has.containers; kinds = has.kinds; order = has.order; words = has.words }
+  has_before stored has = record { agrees = has.agrees; containers = has.containers; kinds = has.kinds; order = has.order; unsplit = has.unsplit; words = has.words }
 
   pub no_table_shown : (called : Call) (class : ℕ) (rest : List Act) → 0 < v.left → v.log ≡ ReadCount class 0 ∷ rest → owes rest ≡ 0
       → ((stored : StoredWorld) → MayHave v stored → CanLackMemory stored.world called × (would_pass stored.world called ≡ false) × (takes_in stored called ≡ Some class))

@@ -15,7 +15,7 @@ use Rattle.ft_trace.specs.Acts.{has_lock, is_writing, stage, stage_next, debt, d
 use Rattle.ft_trace.specs.Addresses.{containers_in}
 use Rattle.ft_trace.specs.Holds.{held, known}
 use Rattle.ft_trace.specs.Pictures.{root_in, Stands}
-use Rattle.ft_trace.specs.ContainerStates.{changes}
+use Rattle.ft_trace.specs.ContainerStates.{changes, kinds_in}
 use Rattle.ft_trace.proofs.Cases.{hit, miss}
 use Rattle.ft_bank.specs.Whole.{SameWork, OnlyLoaded, OnlyPut, EndsWrite, Wrote, hand_after, debt_after, write_entry}
 use Rattle.ft_bank.specs.WriteSteps.{KeepsUnwritten, MayHave}
@@ -70,7 +70,8 @@ module _ (called : Call) (said : Reply) (n : ℕ) (v u w : View) (l : OnlyFilled
           agrees = λ p low mine. x.has.agrees p (subst (λ (k : Shape). p < containers_in k) (sym s) low) (l.work.pass.locks p ∙ mine) ∙ work_knows v u p l.work;
           containers = x.has.containers ∙ ap containers_in s;
           order = x.has.order;
-          kinds = x.has.kinds ∙ ap (λ (k : Shape). k.kinds) s;
+          kinds = x.has.kinds ∙ ap (λ (k : Shape). kinds_in k.starts) s;
+          unsplit = x.has.unsplit;
           words = x.has.words;
         };
         content = x.content;
@@ -147,7 +148,8 @@ module _ (called : Call) (said : Reply) (number f root : ℕ) (v r u w : View) w
           agrees = λ p low mine. ends.has.agrees p (subst (λ (k : Shape). p < containers_in k) (sym p1.shape) low) (p1.locks p ∙ mine) ∙ work_knows rooted u p w1;
           containers = ends.has.containers ∙ ap containers_in p1.shape;
           order = ends.has.order;
-          kinds = ends.has.kinds ∙ ap (λ (k : Shape). k.kinds) p1.shape;
+          kinds = ends.has.kinds ∙ ap (λ (k : Shape). kinds_in k.starts) p1.shape;
+          unsplit = ends.has.unsplit;
           words = ends.has.words;
         };
         content = ends.content;

@@ -1,7 +1,8 @@
 -- What is kept of tables, one write further.
-use Rattle.std.proofs.Common.{◌≡◌, ℕ, ◌+◌, ◌-◌, ◌<◌, true, List, [], ◌∷◌, ◌++◌, map, length, get_or, None, refl, sym, ap, ◌∙◌, arith, cond, replicate}
+use Rattle.std.proofs.Common.{◌≡◌, ℕ, zero, suc, ◌+◌, ◌-◌, ◌<◌, true, List, [], ◌∷◌, ◌++◌, map, length, get_or, None, refl, sym, ap, subst, ◌∙◌, arith, cond, inl, inr, replicate}
 use Rattle.std.specs.Prelude.{All, ◌^◌}
-use Rattle.std.proofs.lemmas.Bool.{false≢true}
+use Rattle.std.proofs.lemmas.Bool.{and_parts, false≢true}
+use Rattle.std.proofs.lemmas.List.Elements.{All-head, All-tail}
 use Rattle.std.proofs.lemmas.List.{get_or-replicate, get_or_default}
 use Rattle.std.proofs.lemmas.List.Sums.{fold_push}
 use Rattle.ft_model.specs.declared.call.Call.{Call}
@@ -12,6 +13,8 @@ use Rattle.ft_model.specs.declared.call.ListCall.{ListCall}
 use Rattle.ft_model.specs.declared.call.ListCall.TheVariants as list
 use Rattle.ft_model.specs.declared.call.SetCall.{SetCall}
 use Rattle.ft_model.specs.declared.call.SetCall.TheVariants as set_call
+use Rattle.ft_model.specs.declared.call.DequeCall.{DequeCall}
+use Rattle.ft_model.specs.declared.call.DequeCall.TheVariants as deque
 use Rattle.ft_model.specs.declared.content.Content.{Content}
 use Rattle.ft_model.specs.declared.entry.Entry.{Entry}
 use Rattle.ft_model.specs.declared.entry.Storage.{Storage}
@@ -21,17 +24,19 @@ use Rattle.ft_model.specs.declared.reply.Reply.TheVariants as reply
 use Rattle.ft_model.specs.declared.reply.Raise.TheVariants as raise
 use Rattle.ft_model.specs.declared.script.Declaration.{Declaration}
 use Rattle.ft_model.specs.declared.script.ScriptParts.{ScriptParts}
-use Rattle.ft_model.specs.Calls.{cursor_of_dict, cursor_of_list, cursor_of_set, dict_change, list_change, set_change, adds, can_add}
+use Rattle.ft_model.specs.Calls.{cursor_of_dict, cursor_of_list, cursor_of_set, cursor_of_deque, dict_change, list_change, set_change, deque_change, adds, can_add}
 use Rattle.ft_model.specs.Classes.{least_class, class_count}
 use Rattle.ft_model.proofs.StoredLaws.{takes_push}
 use Rattle.ft_model.proofs.Takings.{takes_class_few}
-use Rattle.ft_model.specs.declared.script.Kind.{Kind}
+use Rattle.ft_model.proofs.SplitDicts.{unsplit_takes, unsplit_leaves}
+use Rattle.ft_model.specs.declared.script.Start.{Start}
+use Rattle.ft_model.specs.declared.table.KeptTable.{KeptTable}
 use Rattle.ft_model.specs.Scripts.{cursor_of}
-use Rattle.ft_model.specs.Worlds.{kinds_of}
+use Rattle.ft_model.specs.Worlds.{starts_of, start_in, dict_at}
 use Rattle.ft_model.specs.Answers.{after_write, is_memory}
-use Rattle.ft_model.specs.TableUses.{TableUse, no_table, StoredWorld, start_stored, takes_class, leaves_tables, after_stored, stored_after, takings, is_class, takes, IsEarned, IsEarnedReply, table_count}
+use Rattle.ft_model.specs.TableUses.{TableUse, no_table, start_table, table_at, StoredWorld, start_stored, takes_class, leaves_tables, after_stored, stored_after, takings, is_class, is_split, takes_out, can_leave_split, takes, Supply, supply_of, IsEarned, IsEarnedReply, table_count}
 use Rattle.ft_history.specs.declared.account.TableAccount.{TableAccount}
-use Rattle.ft_history.specs.Internal.Accounts.{tables_of, IsAccount, CountsCall}
+use Rattle.ft_history.specs.Internal.Accounts.{tables_of, IsAccount, CountsTaking, CountsCall, plain_takes, plain_leaves, CountsDict}
 
 -- ---- one write further
 
@@ -54,7 +59,7 @@ module _ (script : ScriptParts) (calls : List Call) (called : Call) (old new : L
             goes.takings.takings class is
             ∙ ap (λ n. n + cond (is_class class (takes_class old new (tables_of before.tables.items) called)) 1 0) (kept.takings class is)
             ∙ ap (λ n. takes script class calls + n) (same_for_stored (λ o n ts. cond (is_class class (takes_class o n ts called)) 1 0))
-            ∙ sym (takes_push (kinds_of script.containers) class calls called);
+            ∙ sym (takes_push (starts_of script.containers) class calls called);
       }
 
 -- no class is taken more often than there are writes
@@ -64,50 +69,92 @@ few_takings script calls account is few k d low =
     let within : k < 14 = omega (arith, is.classes) in
     let same : k ≡ (k + 3) - 3 = omega arith in
     let counted : get_or items k 0 ≡ takes script (k + 3) calls = ap (λ n. get_or items n 0) same ∙ is.takings (k + 3) (record { least = omega arith; greatest = omega arith }) in
-    omega (arith, get_or_default items k d 0 low, counted, takes_class_few (kinds_of script.containers) (k + 3) calls, few)
+    omega (arith, get_or_default items k d 0 low, counted, takes_class_few (starts_of script.containers) (k + 3) calls, few)
 
 -- ---- a call that can add makes no cursor
 
 adding_dict : (called : DictCall) → adds (dict_change called) ≡ true → cursor_of_dict called ≡ None
 adding_dict (dict.Iter cursor) can = absurd (false≢true can)
+adding_dict (dict.Reversed cursor) can = absurd (false≢true can)
 adding_dict _ can = refl
 
 adding_list : (called : ListCall) → adds (list_change called) ≡ true → cursor_of_list called ≡ None
 adding_list (list.Iter cursor) can = absurd (false≢true can)
+adding_list (list.Reversed cursor) can = absurd (false≢true can)
 adding_list _ can = refl
 
 adding_set : (called : SetCall) → adds (set_change called) ≡ true → cursor_of_set called ≡ None
 adding_set (set_call.Iter cursor) can = absurd (false≢true can)
 adding_set _ can = refl
 
+adding_deque : (called : DequeCall) → adds (deque_change called) ≡ true → cursor_of_deque called ≡ None
+adding_deque (deque.Iter cursor) can = absurd (false≢true can)
+adding_deque _ can = refl
+
 adding : (called : Call) → can_add called ≡ true → cursor_of called ≡ None
 adding (call.Dict place dict_call) can = adding_dict dict_call can
 adding (call.List place list_call) can = adding_list list_call can
 adding (call.Set place set_call) can = adding_set set_call can
+adding (call.Deque place deque_call) can = adding_deque deque_call can
 adding _ can = refl
 
-earned_adds : (kinds : List Kind) (tables : List ℕ) (threads : ℕ) (calls : List Call) (mine : List Entry) (called : Call) (said : Reply) → IsEarnedReply kinds tables threads calls mine called said → is_memory said ≡ true → can_add called ≡ true
-earned_adds kinds tables threads calls mine called (reply.Raised (raise.Memory class)) earned memory = earned.0.adds
-earned_adds kinds tables threads calls mine called (reply.Raised raise.Over) earned memory = earned.0.adds
-earned_adds kinds tables threads calls mine called (reply.Raised raise.Heap) earned memory = absurd earned
-earned_adds kinds tables threads calls mine called _ earned memory = absurd (false≢true memory)
+taking_dict : (called : DictCall) → takes_out called ≡ true → cursor_of_dict called ≡ None
+taking_dict (dict.Iter cursor) can = absurd (false≢true can)
+taking_dict (dict.Reversed cursor) can = absurd (false≢true can)
+taking_dict _ can = refl
+
+leaving : (starts : List Start) (called : Call) → can_leave_split starts called ≡ true → cursor_of called ≡ None
+leaving starts (call.Dict place dict_call) can = taking_dict dict_call (and_parts (takes_out dict_call) (is_split (start_in starts place).keys) can).0
+leaving starts _ can = absurd (false≢true can)
+
+earned_makes_none : (starts : List Start) (supply : Supply) (calls : List Call) (mine : List Entry) (called : Call) (said : Reply) → IsEarnedReply starts supply calls mine called said → is_memory said ≡ true → cursor_of called ≡ None
+earned_makes_none starts supply calls mine called (reply.Raised (raise.Memory class)) (inl lacks, passes, class_earned) memory = adding called lacks.adds
+earned_makes_none starts supply calls mine called (reply.Raised (raise.Memory class)) (inr leaves, passes, class_earned) memory = leaving starts called leaves.leaves
+earned_makes_none starts supply calls mine called (reply.Raised raise.Over) earned memory = adding called earned.0.adds
+earned_makes_none starts supply calls mine called (reply.Raised raise.Heap) earned memory = absurd (false≢true earned.landed)
+earned_makes_none starts supply calls mine called _ earned memory = absurd (false≢true memory)
 
 -- a call that raises a MemoryError makes no cursor
 pub earned_no_cursor : (s : Storage) (script : ScriptParts) (calls : List Call) (mine : List Entry) (entry : Entry) → IsEarned s script calls mine entry → is_memory entry.reply ≡ true → cursor_of entry.call ≡ None
 earned_no_cursor storage.Plain script calls mine entry earned memory = absurd (false≢true (sym earned ∙ memory))
 earned_no_cursor storage.Tables script calls mine entry earned memory =
-    adding entry.call (earned_adds (kinds_of script.containers) script.tables (length script.threads) calls mine entry.call entry.reply earned memory)
+    earned_makes_none (starts_of script.containers) (supply_of script) calls mine entry.call entry.reply earned memory
+
+-- ---- a dict that is not split
+
+unsplit_at : (kept : List KeptTable) (place : ℕ) → (table_at (tables_of kept) place).keys ≡ []
+unsplit_at [] place = refl
+unsplit_at (first ∷ kept) zero = refl
+unsplit_at (first ∷ kept) (suc place) = unsplit_at kept place
+
+-- what is kept of a call of a dict that is not split is what is kept of any
+pub counts_of_dict : (old new : List Content) (place : ℕ) (called : DictCall) (before after : TableAccount) → CountsDict old new place called before after → CountsCall old new (call.Dict place called) before after
+counts_of_dict old new place called before after counts =
+    let tables = tables_of before.tables.items in
+    let none : (table_at tables place).keys ≡ [] = unsplit_at before.tables.items place in
+    let grown = plain_takes (table_at tables place) called (dict_at old place) (dict_at new place) in
+    let takes : takes_class old new tables (call.Dict place called) ≡ grown = unsplit_takes (table_at tables place) called (dict_at old place) (dict_at new place) none in
+    let left = plain_leaves tables place called (dict_at old place) (dict_at new place) grown in
+    let leaves : leaves_tables old new tables (call.Dict place called) (takes_class old new tables (call.Dict place called)) ≡ left =
+    ap (leaves_tables old new tables (call.Dict place called)) takes
+    ∙ unsplit_leaves tables place called (dict_at old place) (dict_at new place) grown none in
+    record {
+      tables = counts.tables ∙ sym leaves;
+      takings = subst (λ taking. CountsTaking taking before.takings.items after.takings.items) (sym takes) counts.takings;
+    }
 
 -- ---- at the start
 
-pub tables_at_start : (containers : List Declaration) → replicate (length containers) no_table ≡ map (λ (kind : Kind). no_table) (kinds_of containers)
-tables_at_start [] = refl
-tables_at_start (container ∷ containers) = ap (λ (tables : List TableUse). no_table ∷ tables) (tables_at_start containers)
+pub tables_at_start : (containers : List Declaration) → All (λ (container : Declaration). container.start.keys ≡ []) containers → replicate (length containers) no_table ≡ map start_table (starts_of containers)
+tables_at_start [] unsplit = refl
+tables_at_start (container ∷ containers) unsplit =
+    let none : container.start.keys ≡ [] = All-head (λ (c : Declaration). c.start.keys ≡ []) container containers unsplit in
+    λ i. (let table : TableUse = record { class = None; fill = 0; keys = sym none i } in table) ∷ tables_at_start containers (All-tail (λ (c : Declaration). c.start.keys ≡ []) container containers unsplit) i
 
-pub account_at_start : (script : ScriptParts) (account : TableAccount) → tables_of account.tables.items ≡ replicate (length script.containers) no_table → account.takings.items ≡ replicate class_count 0 → IsAccount script [] account
-account_at_start script account tables takings =
+pub account_at_start : (script : ScriptParts) (account : TableAccount) → All (λ (container : Declaration). container.start.keys ≡ []) script.containers → tables_of account.tables.items ≡ replicate (length script.containers) no_table → account.takings.items ≡ replicate class_count 0 → IsAccount script [] account
+account_at_start script account unsplit tables takings =
     record {
-      tables = tables ∙ tables_at_start script.containers;
+      tables = tables ∙ tables_at_start script.containers unsplit;
       classes = ap (λ (counts : List ℕ). length counts) takings;
       takings = λ class is. ap (λ (counts : List ℕ). table_count counts class) takings ∙ get_or-replicate class_count (class - least_class) 0 0 (let low = is.least in let high = is.greatest in omega arith);
     }

@@ -17,6 +17,10 @@ use Rattle.ft_model.specs.declared.call.ListCall.{ListCall}
 use Rattle.ft_model.specs.declared.call.ListCall.TheVariants as list
 use Rattle.ft_model.specs.declared.call.SetCall.{SetCall}
 use Rattle.ft_model.specs.declared.call.SetCall.TheVariants as set
+use Rattle.ft_model.specs.declared.call.DequeCall.{DequeCall}
+use Rattle.ft_model.specs.declared.call.DequeCall.TheVariants as deque
+use Rattle.ft_model.specs.declared.reply.Shown.{Shown}
+use Rattle.ft_model.specs.declared.reply.Shown.TheVariants as shown
 use Rattle.ft_model.specs.declared.reply.Reply.{Reply}
 use Rattle.ft_model.specs.declared.reply.Reply.TheVariants as reply
 use Rattle.ft_model.specs.declared.reply.Raise.{Raise}
@@ -32,6 +36,8 @@ use Rattle.ft_model.specs.contracts.call.CallEq.TheImpl.Laws.{laws-law}
 use Rattle.ft_model.specs.contracts.call.DictCallPartialEq.TheImpl as dicts
 use Rattle.ft_model.specs.contracts.call.ListCallPartialEq.TheImpl as lists
 use Rattle.ft_model.specs.contracts.call.SetCallPartialEq.TheImpl as sets
+use Rattle.ft_model.specs.contracts.call.DequeCallPartialEq.TheImpl as deques
+use Rattle.ft_model.specs.contracts.reply.ShownPartialEq.TheImpl as showns
 
 key_exact : (a b : Key) → (keys.ghosts).eq a b ≡ true → a ≡ b
 key_exact (key.Int x) (key.Int y) h = ap key.Int ((signed_Decides x y).0 h)
@@ -76,6 +82,12 @@ dict_exact dict.Clear dict.Clear h = refl
 dict_exact (dict.CopyTo x0) (dict.CopyTo y0) h = ap dict.CopyTo (eqb-true x0 y0 h)
 dict_exact (dict.Eq x0) (dict.Eq y0) h = ap dict.Eq (eqb-true x0 y0 h)
 dict_exact (dict.Iter x0) (dict.Iter y0) h = ap dict.Iter (eqb-true x0 y0 h)
+dict_exact (dict.KeysAnd x0) (dict.KeysAnd y0) h = ap dict.KeysAnd (eqb-true x0 y0 h)
+dict_exact (dict.KeysSub x0) (dict.KeysSub y0) h = ap dict.KeysSub (eqb-true x0 y0 h)
+dict_exact (dict.KeysOr x0) (dict.KeysOr y0) h = ap dict.KeysOr (eqb-true x0 y0 h)
+dict_exact (dict.KeysXor x0) (dict.KeysXor y0) h = ap dict.KeysXor (eqb-true x0 y0 h)
+dict_exact (dict.ItemsHas x0 x1) (dict.ItemsHas y0 y1) h = let both = and_parts _ _ h in λ i. dict.ItemsHas (key_exact x0 y0 both.0 i) (value_exact x1 y1 both.1 i)
+dict_exact (dict.Reversed x0) (dict.Reversed y0) h = ap dict.Reversed (eqb-true x0 y0 h)
 dict_exact _ _ h = absurd (false≢true h)
 
 list_exact : (a b : ListCall) → (lists.ghosts).eq a b ≡ true → a ≡ b
@@ -97,6 +109,7 @@ list_exact list.Len list.Len h = refl
 list_exact list.Items list.Items h = refl
 list_exact (list.Eq x0) (list.Eq y0) h = ap list.Eq (eqb-true x0 y0 h)
 list_exact (list.Iter x0) (list.Iter y0) h = ap list.Iter (eqb-true x0 y0 h)
+list_exact (list.Reversed x0) (list.Reversed y0) h = ap list.Reversed (eqb-true x0 y0 h)
 list_exact _ _ h = absurd (false≢true h)
 
 set_exact : (a b : SetCall) → (sets.ghosts).eq a b ≡ true → a ≡ b
@@ -118,14 +131,33 @@ set_exact set.Clear set.Clear h = refl
 set_exact (set.Iter x0) (set.Iter y0) h = ap set.Iter (eqb-true x0 y0 h)
 set_exact _ _ h = absurd (false≢true h)
 
+deque_exact : (a b : DequeCall) → (deques.ghosts).eq a b ≡ true → a ≡ b
+deque_exact (deque.Append x0) (deque.Append y0) h = ap deque.Append (value_exact x0 y0 h)
+deque_exact (deque.AppendLeft x0) (deque.AppendLeft y0) h = ap deque.AppendLeft (value_exact x0 y0 h)
+deque_exact deque.Pop deque.Pop h = refl
+deque_exact deque.PopLeft deque.PopLeft h = refl
+deque_exact (deque.Extend x0) (deque.Extend y0) h = ap deque.Extend (eqb-true x0 y0 h)
+deque_exact (deque.ExtendLeft x0) (deque.ExtendLeft y0) h = ap deque.ExtendLeft (eqb-true x0 y0 h)
+deque_exact (deque.Rotate x0) (deque.Rotate y0) h = ap deque.Rotate (int_exact x0 y0 h)
+deque_exact deque.Clear deque.Clear h = refl
+deque_exact (deque.Get x0) (deque.Get y0) h = ap deque.Get (int_exact x0 y0 h)
+deque_exact deque.Len deque.Len h = refl
+deque_exact deque.Items deque.Items h = refl
+deque_exact (deque.Has x0) (deque.Has y0) h = ap deque.Has (value_exact x0 y0 h)
+deque_exact (deque.Iter x0) (deque.Iter y0) h = ap deque.Iter (eqb-true x0 y0 h)
+deque_exact _ _ h = absurd (false≢true h)
+
 pub call_exact : (a b : Call) → (calls.ghosts).eq a b ≡ true → a ≡ b
 call_exact (call.Dict x0 x1) (call.Dict y0 y1) h = let both = and_parts _ _ h in λ i. call.Dict (eqb-true x0 y0 both.0 i) (dict_exact x1 y1 both.1 i)
 call_exact (call.List x0 x1) (call.List y0 y1) h = let both = and_parts _ _ h in λ i. call.List (eqb-true x0 y0 both.0 i) (list_exact x1 y1 both.1 i)
 call_exact (call.Set x0 x1) (call.Set y0 y1) h = let both = and_parts _ _ h in λ i. call.Set (eqb-true x0 y0 both.0 i) (set_exact x1 y1 both.1 i)
+call_exact (call.Deque x0 x1) (call.Deque y0 y1) h = let both = and_parts _ _ h in λ i. call.Deque (eqb-true x0 y0 both.0 i) (deque_exact x1 y1 both.1 i)
 call_exact (call.Next x0) (call.Next y0) h = ap call.Next (eqb-true x0 y0 h)
 call_exact (call.Begin x0 x1) (call.Begin y0 y1) h = let both = and_parts _ _ h in λ i. call.Begin (eqb-true x0 y0 both.0 i) (place_exact x1 y1 both.1 i)
 call_exact call.End call.End h = refl
 call_exact call.Quiesce call.Quiesce h = refl
+call_exact (call.Await x0 x1) (call.Await y0 y1) h = let both = and_parts _ _ h in λ i. call.Await (eqb-true x0 y0 both.0 i) (eqb-true x1 y1 both.1 i)
+call_exact call.Dump call.Dump h = refl
 call_exact _ _ h = absurd (false≢true h)
 
 raise_exact : (a b : Raise) → (raises.ghosts).eq a b ≡ true → a ≡ b
@@ -134,6 +166,7 @@ raise_exact raise.NoIndex raise.NoIndex h = refl
 raise_exact raise.NoValue raise.NoValue h = refl
 raise_exact raise.Size raise.Size h = refl
 raise_exact raise.Keys raise.Keys h = refl
+raise_exact raise.Moved raise.Moved h = refl
 raise_exact (raise.Memory x) (raise.Memory y) h = ap raise.Memory (eqb-true x y h)
 raise_exact raise.Over raise.Over h = refl
 raise_exact raise.Heap raise.Heap h = refl
@@ -153,6 +186,12 @@ bool_exact true true h = refl
 bool_exact false false h = refl
 bool_exact _ _ h = absurd (false≢true h)
 
+shown_exact : (a b : Shown) → (showns.ghosts).eq a b ≡ true → a ≡ b
+shown_exact (shown.Dict x) (shown.Dict y) h = ap shown.Dict (lists_exact _ pair_exact x y h)
+shown_exact (shown.List x) (shown.List y) h = ap shown.List (lists_exact _ value_exact x y h)
+shown_exact (shown.Set x) (shown.Set y) h = ap shown.Set (lists_exact _ key_exact x y h)
+shown_exact _ _ h = absurd (false≢true h)
+
 pub reply_exact : (a b : Reply) → (replies.ghosts).eq a b ≡ true → a ≡ b
 reply_exact reply.Done reply.Done h = refl
 reply_exact (reply.Value x) (reply.Value y) h = ap reply.Value (value_exact x y h)
@@ -162,6 +201,7 @@ reply_exact (reply.Count x) (reply.Count y) h = ap reply.Count (eqb-true x y h)
 reply_exact (reply.Dict x) (reply.Dict y) h = ap reply.Dict (lists_exact _ pair_exact x y h)
 reply_exact (reply.List x) (reply.List y) h = ap reply.List (lists_exact _ value_exact x y h)
 reply_exact (reply.Set x) (reply.Set y) h = ap reply.Set (lists_exact _ key_exact x y h)
+reply_exact (reply.World x) (reply.World y) h = ap reply.World (lists_exact _ shown_exact x y h)
 reply_exact reply.Stop reply.Stop h = refl
 reply_exact reply.Entered reply.Entered h = refl
 reply_exact reply.Kept reply.Kept h = refl

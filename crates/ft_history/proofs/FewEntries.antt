@@ -18,7 +18,7 @@ use Rattle.ft_model.specs.Scripts.{IsScript}
 use Rattle.ft_model.specs.declared.call.Call.{Call}
 use Rattle.ft_model.specs.declared.content.Content.{Content}
 use Rattle.ft_model.specs.declared.cursor.Cursor.{Cursor}
-use Rattle.ft_model.specs.Worlds.{kinds_of, IsDeclared, HasRoom}
+use Rattle.ft_model.specs.Worlds.{starts_of, IsDeclared, HasRoom}
 use Rattle.ft_model.specs.Answers.{world_by}
 use Rattle.ft_model.specs.Histories.{writes, entries_of, calls_of}
 use Rattle.ft_model.specs.Judging.{IsNext}
@@ -26,8 +26,7 @@ use Rattle.ft_model.proofs.FewSerials.{serials_by, room_for}
 use Rattle.ft_model.proofs.Takings.{sum_both}
 use Rattle.ft_history.specs.Internal.States.{world_before}
 use Rattle.ft_history.specs.Internal.Steps.{IsUnbrokenBefore}
-use Rattle.ft_history.proofs.HistoryPlaces.{by_places, take_next, filter_next}
-use Rattle.ft_history.proofs.ScriptLemmas.{no_calls}
+use Rattle.ft_history.proofs.HistoryPlaces.{by_places, filter_next}
 use Rattle.ft_history.proofs.GoesAfterLemmas.{few_writes}
 
 -- ---- sums over the threads of a script
@@ -139,4 +138,4 @@ pub room_before : (script : ScriptParts) (entries : List Entry) (place : ℕ) (w
 room_before script entries place world hands called within few is declared =
     let calls = writes (take place entries) in
     let count = few_writes entries place within in
-    subst (λ w. HasRoom w called) (sym is) (room_for (world_by (kinds_of script.containers) calls) hands (length calls) called (omega arith) (serials_by (kinds_of script.containers) calls) (subst (λ w. IsDeclared w hands called) is declared))
+    subst (λ w. HasRoom w called) (sym is) (room_for (world_by (starts_of script.containers) calls) hands (length calls) called (omega arith) (serials_by (starts_of script.containers) calls) (subst (λ w. IsDeclared w hands called) is declared))

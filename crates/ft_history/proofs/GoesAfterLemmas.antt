@@ -20,7 +20,7 @@ use Rattle.ft_model.specs.declared.script.Thread.{Thread}
 use Rattle.ft_model.specs.declared.script.ScriptParts.{ScriptParts}
 use Rattle.ft_model.specs.Calls.{is_changing, containers_of}
 use Rattle.ft_model.specs.Scripts.{IsScript, IsCallOf, AreMade, cursor_of}
-use Rattle.ft_model.specs.Worlds.{start_world, kinds_of, kind_of}
+use Rattle.ft_model.specs.Worlds.{start_world, starts_of, kind_of}
 use Rattle.ft_model.specs.Answers.{answer, after_write, is_memory, is_raised, is_write}
 use Rattle.ft_model.specs.Histories.{writes, world_at, hands_at, calls_of, cursors_of, names, is_marked, IsReplied}
 use Rattle.ft_model.specs.Judging.{IsNext, IsStamped, HasRightReply, Holds}
@@ -55,12 +55,16 @@ write_alike : (called : Call) (said plain : Reply) → IsReplied called said pla
 write_alike (call.Begin first second) said plain right none = refl
 write_alike call.End said plain right none = refl
 write_alike call.Quiesce said plain right none = refl
+write_alike (call.Await other index) said plain right none = refl
+write_alike call.Dump said plain right none = refl
 write_alike (call.Dict container dict_call) said plain (inl memory) none = absurd (false≢true (sym none ∙ memory))
 write_alike (call.Dict container dict_call) said plain (inr same) none = ap (is_write (call.Dict container dict_call)) (sym same)
 write_alike (call.List container list_call) said plain (inl memory) none = absurd (false≢true (sym none ∙ memory))
 write_alike (call.List container list_call) said plain (inr same) none = ap (is_write (call.List container list_call)) (sym same)
 write_alike (call.Set container set_call) said plain (inl memory) none = absurd (false≢true (sym none ∙ memory))
+write_alike (call.Deque container deque_call) said plain (inl memory) none = absurd (false≢true (sym none ∙ memory))
 write_alike (call.Set container set_call) said plain (inr same) none = ap (is_write (call.Set container set_call)) (sym same)
+write_alike (call.Deque container deque_call) said plain (inr same) none = ap (is_write (call.Deque container deque_call)) (sym same)
 write_alike (call.Next cursor) said plain (inl memory) none = absurd (false≢true (sym none ∙ memory))
 write_alike (call.Next cursor) said plain (inr same) none = ap (is_write (call.Next cursor)) (sym same)
 
@@ -151,7 +155,7 @@ module _ (script : ScriptParts) (is_script : IsScript script) (entries : List En
         let done = writes (take place entries) in
         subst (λ (calls : List Call). IsAccount script calls new.account) (sym (writes_next entries place entry at))
         (elim entry.wrote as (λ b. entry.wrote ≡ b → IsAccount script (done ++ cond b (entry.call ∷ []) []) new.account) [
-          | true ↦ λ wrote. account_next script done entry.call old.world new.world old.account new.account (is_state.world ∙ sym (stored_world (kinds_of script.containers) done)) (written wrote) is_state.account (goes.taking wrote)
+          | true ↦ λ wrote. account_next script done entry.call old.world new.world old.account new.account (is_state.world ∙ sym (stored_world (starts_of script.containers) done)) (written wrote) is_state.account (goes.taking wrote)
           | false ↦ λ calm. subst (λ (calls : List Call). IsAccount script calls new.account) (sym (append-nil done)) (subst (IsAccount script done) (sym (goes.same calm)) is_state.account)
         ] refl)
 
@@ -267,6 +271,7 @@ finds_all s script entries place entry None first late = all
     all rule.Stamp = first rule.Stamp (omega arith)
     all rule.Order = first rule.Order (omega arith)
     all rule.Reply = first rule.Reply (omega arith)
+    all rule.Await = late.awaits
     all rule.Mark = late.mark
     all rule.Kept = late.kept
     all rule.Suspended = late.suspended

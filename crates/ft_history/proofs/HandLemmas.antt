@@ -56,7 +56,10 @@ pub own_cursors : (script : ScriptParts) (cursors : ℕ) (called : Call) → Nam
 own_cursors script cursors (call.Dict place dict_call) names number is = subst (λ o. IfSome o (λ n. n < cursors)) is names.made
 own_cursors script cursors (call.List place list_call) names number is = subst (λ o. IfSome o (λ n. n < cursors)) is names.made
 own_cursors script cursors (call.Set place set_call) names number is = subst (λ o. IfSome o (λ n. n < cursors)) is names.made
+own_cursors script cursors (call.Deque place deque_call) names number is = subst (λ o. IfSome o (λ n. n < cursors)) is names.made
 own_cursors script cursors (call.Next n) names number is = absurd (let e : None ≡ Some number = is in cc)
 own_cursors script cursors (call.Begin first second) names number is = absurd (let e : None ≡ Some number = is in cc)
 own_cursors script cursors call.End names number is = absurd (let e : None ≡ Some number = is in cc)
 own_cursors script cursors call.Quiesce names number is = absurd (let e : None ≡ Some number = is in cc)
+own_cursors script cursors (call.Await other index) names number is = absurd (let e : None ≡ Some number = is in cc)
+own_cursors script cursors call.Dump names number is = absurd (let e : None ≡ Some number = is in cc)

@@ -1,5 +1,5 @@
--- What the judge's tests say of the rules on marks and sections.
-use Rattle.std.proofs.Common.{◌≡◌, ◌≢◌, ◌↔◌, IsTrue, ℕ, ◌+◌, ◌-◌, ◌<◌, Bool, true, false, ◌||◌, List, [], ◌∷◌, ◌++◌, map, length, take, drop, Option, Some, refl, sym, ap, subst, ◌∙◌, arith, inl, inr, cond}
+-- What the judge's tests say of the rules on awaits, marks and sections.
+use Rattle.std.proofs.Common.{◌≡◌, ◌≢◌, ◌↔◌, IsTrue, ℕ, ◌+◌, ◌-◌, ◌<◌, ◌≤◌, Bool, true, false, ◌||◌, List, [], ◌∷◌, ◌++◌, map, length, take, drop, Option, Some, refl, sym, ap, subst, ◌∙◌, arith, inl, inr, cond}
 use Rattle.std.specs.Prelude.{slice_get, IfSome, All}
 use Rattle.std.specs.Option.{option_map_or}
 use Rattle.std.specs.List.{list_any, count_by, between, AllByRecursion}
@@ -17,12 +17,14 @@ use Rattle.ft_model.specs.declared.entry.Entry.{Entry}
 use Rattle.ft_model.specs.declared.script.ScriptParts.{ScriptParts}
 use Rattle.std.specs.Global.{Vec}
 use Rattle.ft_model.specs.Worlds.{containers_used}
-use Rattle.ft_model.specs.Histories.{Section, innermost, after_section, has_call_on, needs_at, disturbs, is_disturbed, is_marked, marks_between, IfInnermost, IfEnds, IsKeptBy, IsCountedAs, IsCountedBy, IsMarked, IsKept, IsCounted}
+use Rattle.ft_model.specs.Histories.{Section, innermost, after_section, has_call_on, needs_at, disturbs, is_disturbed, is_marked, marks_between, IfInnermost, IfEnds, IsKeptBy, IsCountedAs, IsCountedBy, IsMarked, IsKept, IsCounted, IsAwaitedIn, IsAwaited}
 use Rattle.ft_model.specs.declared.call.Containers.{Containers}
 use Rattle.ft_model.specs.Calls.{container_list}
 use Rattle.ft_history.specs.declared.progress.ThreadProgress.{ThreadProgress}
 use Rattle.ft_history.specs.declared.writers.LastWrites.{LastWrites}
-use Rattle.ft_history.specs.Internal.States.{BegunSection, is_used, AreUsers, all_begun, after_begun, inner_begun, section_of, IsOpen, IsProgress, AreLastWrites, is_written_since, is_written_on, IsKeptSince}
+use Rattle.ft_history.specs.declared.state.State.{State}
+use Rattle.ft_history.specs.Internal.Steps.{IsState}
+use Rattle.ft_history.specs.Internal.States.{BegunSection, is_used, AreUsers, all_begun, after_begun, inner_begun, section_of, IsOpen, IsProgress, AreLastWrites, is_written_since, is_written_on, IsKeptSince, NamesThread, HasMade}
 use Rattle.ft_history.proofs.ProgressLemmas.{sections_alike}
 use Rattle.ft_history.proofs.LastWriteLemmas.{any_of_containers}
 
@@ -33,6 +35,32 @@ any_alike p q (x ∷ xs) same = λ i. same x i || any_alike p q xs same i
 any_alike_on : {X : Type 0} (p q : X → Bool) (xs : List X) → AllByRecursion (λ x. p x ≡ q x) xs → list_any p xs ≡ list_any q xs
 any_alike_on p q [] same = refl
 any_alike_on p q (x ∷ xs) same = λ i. same.0 i || any_alike_on p q xs same.1 i
+
+-- ---- awaits
+
+module _ (script : ScriptParts) (entries : List Entry) (place : ℕ) (entry : Entry) (state : State) (is_state : IsState script entries place state) where
+  made_by : (called : Call) → IsAwaitedIn entries place called → HasMade state.threads.items called
+  made_by (call.Await thread index) before =
+      elim (slice_get_cases state.threads.items thread).1 [
+        | inl found ↦ subst (λ o. IfSome o (λ (p : ThreadProgress). index ≤ p.made)) (sym found.2) (let n : index ≤ found.0.made = (let made = (is_state.progress thread found.0 found.2).made in omega (arith, before, made)) in n)
+        | inr past ↦ subst (λ o. IfSome o (λ (p : ThreadProgress). index ≤ p.made)) (sym past.1) tt
+      ]
+  made_by called before = tt
+
+  awaited_by : (called : Call) → NamesThread (length state.threads.items) called → HasMade state.threads.items called → IsAwaitedIn entries place called
+  awaited_by (call.Await thread index) low made =
+      elim (slice_get_cases state.threads.items thread).1 [
+        | inl found ↦
+            let n : index ≤ found.0.made = subst (λ o. IfSome o (λ (p : ThreadProgress). index ≤ p.made)) found.2 made in
+            let is = (is_state.progress thread found.0 found.2).made in
+            omega (arith, n, is)
+        | inr past ↦ absurd (let high = past.0 in omega (arith, low, high))
+      ]
+  awaited_by called low made = tt
+
+  -- the entry that an await names stands before it where its thread has made it
+  pub awaited_iff : (r : Bool) → NamesThread (length state.threads.items) entry.call → IsTrue r ↔ HasMade state.threads.items entry.call → IsTrue r ↔ IsAwaited entries place entry
+  awaited_iff r names is = (λ yes. awaited_by entry.call names (is.0 yes), λ awaited. is.1 (made_by entry.call awaited))
 
 -- ---- marks
 
@@ -67,9 +95,12 @@ ends_iff sections call.End R Q P each same = inner_iff sections R Q P each same
 ends_iff sections (call.Dict container dict_call) R Q P each same = (λ _. tt, λ _. tt)
 ends_iff sections (call.List container list_call) R Q P each same = (λ _. tt, λ _. tt)
 ends_iff sections (call.Set container set_call) R Q P each same = (λ _. tt, λ _. tt)
+ends_iff sections (call.Deque container deque_call) R Q P each same = (λ _. tt, λ _. tt)
 ends_iff sections (call.Next cursor) R Q P each same = (λ _. tt, λ _. tt)
 ends_iff sections (call.Begin first second) R Q P each same = (λ _. tt, λ _. tt)
 ends_iff sections call.Quiesce R Q P each same = (λ _. tt, λ _. tt)
+ends_iff sections (call.Await other index) R Q P each same = (λ _. tt, λ _. tt)
+ends_iff sections call.Dump R Q P each same = (λ _. tt, λ _. tt)
 
 -- ---- kept
 
@@ -97,6 +128,7 @@ module _ (script : ScriptParts) (entries : List Entry) (place : ℕ) (thread : �
   kept_alike (reply.Dict pairs) section is_open = (λ _. tt, λ _. tt)
   kept_alike (reply.List items) section is_open = (λ _. tt, λ _. tt)
   kept_alike (reply.Set elements) section is_open = (λ _. tt, λ _. tt)
+  kept_alike (reply.World world) section is_open = (λ _. tt, λ _. tt)
   kept_alike reply.Stop section is_open = (λ _. tt, λ _. tt)
   kept_alike reply.Entered section is_open = (λ _. tt, λ _. tt)
   kept_alike (reply.Suspended n) section is_open = (λ _. tt, λ _. tt)
@@ -131,6 +163,7 @@ module _ (script : ScriptParts) (entries : List Entry) (place thread marks : ℕ
   counted_alike (reply.Dict pairs) section is_open = (λ _. tt, λ _. tt)
   counted_alike (reply.List items) section is_open = (λ _. tt, λ _. tt)
   counted_alike (reply.Set elements) section is_open = (λ _. tt, λ _. tt)
+  counted_alike (reply.World world) section is_open = (λ _. tt, λ _. tt)
   counted_alike reply.Stop section is_open = (λ _. tt, λ _. tt)
   counted_alike reply.Entered section is_open = (λ _. tt, λ _. tt)
   counted_alike (reply.Raised raise) section is_open = (λ _. tt, λ _. tt)

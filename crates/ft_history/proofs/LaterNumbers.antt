@@ -16,7 +16,7 @@ use Rattle.ft_model.specs.Answers.{answer, world_by, is_memory}
 use Rattle.ft_model.specs.Histories.{cursors_of, after_stamped, IsReplied, IfEnds}
 use Rattle.ft_model.specs.Numbers.{world_after, hands_after, number_after, after_begins, begins_of, begun_containers, needs_after, IsKeptFrom, IsRightAfter}
 use Rattle.ft_model.specs.TableUses.{IsEarned, IsFitting}
-use Rattle.ft_model.specs.Worlds.{kinds_of, start_hands, containers_used}
+use Rattle.ft_model.specs.Worlds.{starts_of, start_hands, containers_used}
 use Rattle.ft_history.proofs.HistoryPlaces.{slice_get_left}
 
 stamp_within : (entry : Entry) (n : ℕ) → number_after entry ≤ n → entry.stamp ≤ n
@@ -24,13 +24,13 @@ stamp_within entry n low = elim entry.wrote as (λ b. cond {A = ℕ} b (entry.st
 
 module _ (script : ScriptParts) (calls more : List Call) where
   same_world : (n : ℕ) → n ≤ length calls → world_after script calls n ≡ world_after script (calls ++ more) n
-  same_world n low = ap (world_by (kinds_of script.containers)) (sym (take-append-le n calls more low))
+  same_world n low = ap (world_by (starts_of script.containers)) (sym (take-append-le n calls more low))
 
-  same_after : (hands : List (Option Cursor)) (before : List Entry) → All (λ earlier. earlier.stamp ≤ length calls) before → fold (after_stamped (kinds_of script.containers) calls) hands before ≡ fold (after_stamped (kinds_of script.containers) (calls ++ more)) hands before
+  same_after : (hands : List (Option Cursor)) (before : List Entry) → All (λ earlier. earlier.stamp ≤ length calls) before → fold (after_stamped (starts_of script.containers) calls) hands before ≡ fold (after_stamped (starts_of script.containers) (calls ++ more)) hands before
   same_after hands [] low = refl
   same_after hands (entry ∷ before) low =
-      ap (λ w. fold (after_stamped (kinds_of script.containers) calls) (cond (is_memory entry.reply) hands (answer w hands entry.call).hands) before) (same_world entry.stamp (All-head (λ (e : Entry). e.stamp ≤ length calls) entry before low))
-      ∙ same_after (after_stamped (kinds_of script.containers) (calls ++ more) hands entry) before (All-tail (λ (e : Entry). e.stamp ≤ length calls) entry before low)
+      ap (λ w. fold (after_stamped (starts_of script.containers) calls) (cond (is_memory entry.reply) hands (answer w hands entry.call).hands) before) (same_world entry.stamp (All-head (λ (e : Entry). e.stamp ≤ length calls) entry before low))
+      ∙ same_after (after_stamped (starts_of script.containers) (calls ++ more) hands entry) before (All-tail (λ (e : Entry). e.stamp ≤ length calls) entry before low)
 
 module _ (storage : Storage) (script : ScriptParts) (calls more : List Call) (before : List Entry) (entry : Entry) (is : IsRightAfter storage script calls before entry) where
   same_calls : take entry.stamp calls ≡ take entry.stamp (calls ++ more)

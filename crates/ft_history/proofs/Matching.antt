@@ -47,8 +47,11 @@ leads_append (call.End ∷ xs) ys a b c first second = (first.0, leads_append xs
 leads_append (call.Dict container dict_call ∷ xs) ys a b c first second = leads_append xs ys a b c first second
 leads_append (call.List container list_call ∷ xs) ys a b c first second = leads_append xs ys a b c first second
 leads_append (call.Set container set_call ∷ xs) ys a b c first second = leads_append xs ys a b c first second
+leads_append (call.Deque container deque_call ∷ xs) ys a b c first second = leads_append xs ys a b c first second
 leads_append (call.Next cursor ∷ xs) ys a b c first second = leads_append xs ys a b c first second
 leads_append (call.Quiesce ∷ xs) ys a b c first second = leads_append xs ys a b c first second
+leads_append (call.Await other index ∷ xs) ys a b c first second = leads_append xs ys a b c first second
+leads_append (call.Dump ∷ xs) ys a b c first second = leads_append xs ys a b c first second
 
 -- calls that end all that they begin, and nothing else, leave what was open before them
 -- F stands for what the calls after this one make of open sections
@@ -62,8 +65,11 @@ one_closed call.End place depth (section ∷ inner) base rest F go is leads = go
 one_closed (call.Dict container dict_call) place depth inner base rest F go is leads = go depth inner is leads
 one_closed (call.List container list_call) place depth inner base rest F go is leads = go depth inner is leads
 one_closed (call.Set container set_call) place depth inner base rest F go is leads = go depth inner is leads
+one_closed (call.Deque container deque_call) place depth inner base rest F go is leads = go depth inner is leads
 one_closed (call.Next cursor) place depth inner base rest F go is leads = go depth inner is leads
 one_closed call.Quiesce place depth inner base rest F go is leads = go depth inner is leads
+one_closed (call.Await other index) place depth inner base rest F go is leads = go depth inner is leads
+one_closed call.Dump place depth inner base rest F go is leads = go depth inner is leads
 
 closed : (thread : ℕ) (xs : List Entry) (place depth : ℕ) (inner base : List Section) → length inner ≡ depth → LeadsTo depth 0 (map (λ (e : Entry). e.call) (entries_of thread xs))
     → fold (after_numbered thread) (inner ++ base) (enumerate_from place xs) ≡ base
@@ -192,8 +198,11 @@ module _ (entries : List Entry) (thread place : ℕ) (entry : Entry) (at : slice
   since_after (call.Dict container dict_call) is mine sections since = moved_since (call.Dict container dict_call) is mine 0 0 (λ n a b is_a is_b. (let e : a ≡ b = omega arith in e)) sections since
   since_after (call.List container list_call) is mine sections since = moved_since (call.List container list_call) is mine 0 0 (λ n a b is_a is_b. (let e : a ≡ b = omega arith in e)) sections since
   since_after (call.Set container set_call) is mine sections since = moved_since (call.Set container set_call) is mine 0 0 (λ n a b is_a is_b. (let e : a ≡ b = omega arith in e)) sections since
+  since_after (call.Deque container deque_call) is mine sections since = moved_since (call.Deque container deque_call) is mine 0 0 (λ n a b is_a is_b. (let e : a ≡ b = omega arith in e)) sections since
   since_after (call.Next cursor) is mine sections since = moved_since (call.Next cursor) is mine 0 0 (λ n a b is_a is_b. (let e : a ≡ b = omega arith in e)) sections since
   since_after call.Quiesce is mine sections since = moved_since call.Quiesce is mine 0 0 (λ n a b is_a is_b. (let e : a ≡ b = omega arith in e)) sections since
+  since_after (call.Await other index) is mine sections since = moved_since (call.Await other index) is mine 0 0 (λ n a b is_a is_b. (let e : a ≡ b = omega arith in e)) sections since
+  since_after call.Dump is mine sections since = moved_since call.Dump is mine 0 0 (λ n a b is_a is_b. (let e : a ≡ b = omega arith in e)) sections since
 
 all_since : (entries : List Entry) (thread place : ℕ) → place ≤ length entries → AreSince entries thread place 0 (sections_at entries thread place)
 all_since entries thread =
@@ -213,8 +222,11 @@ nested_after call.End place (section ∷ sections) rest nested = subst (λ n. Ar
 nested_after (call.Dict container dict_call) place sections rest nested = nested
 nested_after (call.List container list_call) place sections rest nested = nested
 nested_after (call.Set container set_call) place sections rest nested = nested
+nested_after (call.Deque container deque_call) place sections rest nested = nested
 nested_after (call.Next cursor) place sections rest nested = nested
 nested_after call.Quiesce place sections rest nested = nested
+nested_after (call.Await other index) place sections rest nested = nested.1
+nested_after call.Dump place sections rest nested = nested
 
 module _ (script : ScriptParts) (is_script : IsScript script) (entries : List Entry) (next : (place : ℕ) (entry : Entry) → slice_get entries place ≡ Some entry → IsNext script entries place entry) where
   nested_at_start : (thread : ℕ) → AreNested 0 (calls_of script thread)

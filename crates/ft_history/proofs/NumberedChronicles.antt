@@ -15,7 +15,9 @@ use Rattle.ft_model.specs.declared.entry.Storage.{Storage}
 use Rattle.ft_model.specs.declared.script.ScriptParts.{ScriptParts}
 use Rattle.ft_model.specs.Histories.{writes, entries_of, EachAt, IsWhole, IsChronicle}
 use Rattle.ft_model.specs.Numbers.{IsRightAfter, IsMarkedAfter, AreNumbered, AreFitting}
+use Rattle.ft_model.specs.Scripts.{IsScript}
 use Rattle.ft_history.proofs.RightEntries.{IsLegalAt, legal_at}
+use Rattle.ft_history.proofs.ScriptLemmas.{awaited_of_script}
 use Rattle.ft_history.proofs.KeysOnce.{count_both, keys_in_range}
 use Rattle.ft_history.proofs.FilteredParts.{key_at, passed_at, passed_before}
 use Rattle.ft_history.proofs.StampedLists.{written, AreStamped, count_writes}
@@ -95,10 +97,11 @@ module _ (storage : Storage) (script : ScriptParts) (calls : List Call) (entries
       (subst (λ cs. IsRightAfter storage script cs before entry) (sym written_by_numbers) (right_at place entry at))
       (subst (λ cs. IsMarkedAfter script cs before entry) (sym written_by_numbers) (among_all (IsMarkedAfter script calls) (λ thread. (is.done thread).marked) place entry at))
 
-  pub chronicle_by_numbers : IsChronicle storage script entries
-  chronicle_by_numbers =
+  pub chronicle_by_numbers : IsScript script → IsChronicle storage script entries
+  chronicle_by_numbers rule =
       record {
         whole = whole;
+        awaited = awaited_of_script script rule entries whole;
         answered = λ place entry at. (each place entry at).answered;
         marked = λ place entry at. (each place entry at).marked;
         kept = λ place entry at. (each place entry at).kept;

@@ -11,6 +11,7 @@ use Rattle.ft_model.specs.declared.entry.Entry.{Entry}
 use Rattle.ft_model.specs.declared.entry.Storage.{Storage}
 use Rattle.ft_model.specs.declared.script.ScriptParts.{ScriptParts}
 use Rattle.ft_model.specs.Answers.{is_write}
+use Rattle.ft_model.specs.Scripts.{IsScript}
 use Rattle.ft_model.specs.Histories.{history_cmp, writes, entries_of, EachAt, IsWhole, IsLegal}
 use Rattle.ft_model.specs.Numbers.{is_number, IsRightAfter, IsMarkedAfter, IsNumberedThread, IsDone, AreNumbered, AreFitting, IsHistoryOf}
 use Rattle.ft_history.proofs.RightEntries.{IsLegalAt, call_at, marked_after, passed_from, right_after}
@@ -24,7 +25,7 @@ use Rattle.ft_history.proofs.WriteNumbers.{write_numbers}
 
 -- ---- from entries with numbers
 
-module _ (storage : Storage) (script : ScriptParts) (calls : List Call) (entries history : List Entry) (is : AreNumbered storage script calls entries) (moved : IsPermutation entries history) (sorted : IsSorted history_cmp history) where
+module _ (storage : Storage) (script : ScriptParts) (calls : List Call) (entries history : List Entry) (rule : IsScript script) (is : AreNumbered storage script calls entries) (moved : IsPermutation entries history) (sorted : IsSorted history_cmp history) where
   was_whole : IsWhole script entries
   was_whole = record { calls = λ thread. (is.done thread).made; indexes = λ thread. (is.threads thread).indexes }
 
@@ -48,7 +49,7 @@ module _ (storage : Storage) (script : ScriptParts) (calls : List Call) (entries
   pub history_by_numbers : IsHistoryOf storage script calls history
   history_by_numbers =
       record {
-        legal = record { order = sorted; chronicle = chronicle_by_numbers storage script calls history still_numbered rises };
+        legal = record { order = sorted; chronicle = chronicle_by_numbers storage script calls history still_numbered rises rule };
         fitting = fitting_by_numbers storage script calls history still_numbered rises;
         written = written_by_numbers storage script calls history still_numbered rises;
       }

@@ -19,18 +19,20 @@ rule_of n =
     if n == 1 then rule.Stamp else (
     if n == 2 then rule.Order else (
     if n == 3 then rule.Reply else (
-    if n == 4 then rule.Mark else (
-    if n == 5 then rule.Kept else (
-    if n == 6 then rule.Suspended else (
-    if n == 7 then rule.Memory else (
-    if n == 8 then rule.Missing else (
-    rule.World)))))))))
+    if n == 4 then rule.Await else (
+    if n == 5 then rule.Mark else (
+    if n == 6 then rule.Kept else (
+    if n == 7 then rule.Suspended else (
+    if n == 8 then rule.Memory else (
+    if n == 9 then rule.Missing else (
+    rule.World))))))))))
 
 rule_of-rank_of : (r : Rule) → rule_of (rank_of r) ≡ r
 rule_of-rank_of rule.Whole = refl
 rule_of-rank_of rule.Stamp = refl
 rule_of-rank_of rule.Order = refl
 rule_of-rank_of rule.Reply = refl
+rule_of-rank_of rule.Await = refl
 rule_of-rank_of rule.Mark = refl
 rule_of-rank_of rule.Kept = refl
 rule_of-rank_of rule.Suspended = refl

@@ -1,15 +1,16 @@
 -- Whether a call would leave a container with more than the largest table holds.
-use Rattle.std.proofs.Common.{◌≡◌, ℕ, zero, suc, ◌+◌, ◌<◌, ◌≤◌, Bool, true, false, not, ◌&&◌, ◌||◌, List, [], ◌∷◌, ◌++◌, map, length, get_or, set, Some, None, refl, sym, ap, ◌∙◌, arith, cond, eqb, ltb, ℤ}
+use Rattle.std.proofs.Common.{◌≡◌, ℕ, zero, suc, ◌+◌, ◌-◌, ◌==◌, ◌<◌, ◌≤◌, Bool, true, false, not, ◌&&◌, ◌||◌, List, [], ◌∷◌, ◌++◌, map, length, get_or, reverse, set, Option, Some, None, refl, sym, ap, ◌∙◌, arith, cond, eqb, ltb, ℤ}
 use Rattle.std.specs.Prelude.{pos, negsuc}
 use Rattle.std.specs.List.{list_any}
 use Rattle.std.specs.Option.{option_map_or}
 use Rattle.std.proofs.lemmas.Bool.{eqb-true, eqb-false}
-use Rattle.std.proofs.lemmas.List.{get_or-set_same, get_or-set_other, length-append, length_push}
+use Rattle.std.proofs.lemmas.List.{get_or-set_same, get_or-set_other, length-append, length-drop, length-take, length-reverse, length_push}
 use Rattle.std.proofs.lemmas.List.Edits.{length-insert}
 use Rattle.ft_model.specs.declared.call.Call.TheVariants as call
 use Rattle.ft_model.specs.declared.call.DictCall.TheVariants as dict
 use Rattle.ft_model.specs.declared.call.ListCall.TheVariants as list
 use Rattle.ft_model.specs.declared.call.SetCall.TheVariants as set_call
+use Rattle.ft_model.specs.declared.call.DequeCall.TheVariants as deque
 use Rattle.ft_model.specs.declared.content.Content.{Content}
 use Rattle.ft_model.specs.declared.content.Content.TheVariants as content
 use Rattle.ft_model.specs.declared.content.DictPair.{DictPair}
@@ -21,11 +22,13 @@ use Rattle.ft_model.specs.declared.script.Kind.TheVariants as kind
 use Rattle.ft_model.specs.Calls.{one_or_two}
 use Rattle.ft_model.specs.Contents.{DictContent, SetContent, is_at, has_key, has_element, dict_get, dict_set, dict_update, dict_copy, set_add, those_not_in, elements_from}
 use Rattle.ft_model.specs.Lists.{clamped_in, list_insert}
-use Rattle.ft_model.specs.Worlds.{IsOfKind, dict_at, list_at, set_at, no_hands}
+use Rattle.ft_model.specs.Deques.{DequeContent, right_within, left_within, with_deque_items, deque_append, deque_append_left, deque_extend, deque_extend_left}
+use Rattle.ft_model.specs.Worlds.{IsOfKind, dict_at, list_at, set_at, deque_at, no_hands}
 use Rattle.ft_model.specs.Answers.{shows, puts}
 use Rattle.ft_model.specs.TableUses.{passes_cap, would_pass}
 use Rattle.ft_model.proofs.WorldPlaces.{is_there}
 use Rattle.ft_model.proofs.Copies.{length-pairs_from, length-elements_from}
+use Rattle.ft_history.specs.Internal.Accounts.{length_within, length_with_items}
 use Rattle.ft_history.proofs.UpdatedDicts.{length-dict_set}
 
 -- what stands where there is no container
@@ -80,6 +83,7 @@ passes_dict [] place is = absurd (let e : None ≡ Some kind.Dict = is in cc)
 passes_dict (content.Dict d ∷ world) zero is = refl
 passes_dict (content.List items ∷ world) zero is = absurd (let e : Some kind.List ≡ Some kind.Dict = is in cc)
 passes_dict (content.Set s ∷ world) zero is = absurd (let e : Some kind.Set ≡ Some kind.Dict = is in cc)
+passes_dict (content.Deque q ∷ world) zero is = absurd (let e : Some (kind.Deque q.bound) ≡ Some kind.Dict = is in cc)
 passes_dict (first ∷ world) (suc place) is = passes_dict world place is
 
 passes_list : (world : List Content) (place : ℕ) → IsOfKind world kind.List place → passes_cap (get_or world place empty) ≡ ltb 65536 (length (list_at world place))
@@ -87,6 +91,7 @@ passes_list [] place is = absurd (let e : None ≡ Some kind.List = is in cc)
 passes_list (content.List items ∷ world) zero is = refl
 passes_list (content.Dict d ∷ world) zero is = absurd (let e : Some kind.Dict ≡ Some kind.List = is in cc)
 passes_list (content.Set s ∷ world) zero is = absurd (let e : Some kind.Set ≡ Some kind.List = is in cc)
+passes_list (content.Deque q ∷ world) zero is = absurd (let e : Some (kind.Deque q.bound) ≡ Some kind.List = is in cc)
 passes_list (first ∷ world) (suc place) is = passes_list world place is
 
 passes_set : (world : List Content) (place : ℕ) → IsOfKind world kind.Set place → passes_cap (get_or world place empty) ≡ ltb 39321 (length (set_at world place).elements)
@@ -94,7 +99,16 @@ passes_set [] place is = absurd (let e : None ≡ Some kind.Set = is in cc)
 passes_set (content.Set s ∷ world) zero is = refl
 passes_set (content.Dict d ∷ world) zero is = absurd (let e : Some kind.Dict ≡ Some kind.Set = is in cc)
 passes_set (content.List items ∷ world) zero is = absurd (let e : Some kind.List ≡ Some kind.Set = is in cc)
+passes_set (content.Deque q ∷ world) zero is = absurd (let e : Some (kind.Deque q.bound) ≡ Some kind.Set = is in cc)
 passes_set (first ∷ world) (suc place) is = passes_set world place is
+
+passes_deque : (world : List Content) (place : ℕ) → IsOfKind world (kind.Deque None) place → passes_cap (get_or world place empty) ≡ ltb 65536 (length (deque_at world place).items)
+passes_deque [] place is = absurd (let e : None ≡ Some (kind.Deque is.0) = is.1 in cc)
+passes_deque (content.Deque q ∷ world) zero is = refl
+passes_deque (content.Dict d ∷ world) zero is = absurd (let e : Some kind.Dict ≡ Some (kind.Deque is.0) = is.1 in cc)
+passes_deque (content.List items ∷ world) zero is = absurd (let e : Some kind.List ≡ Some (kind.Deque is.0) = is.1 in cc)
+passes_deque (content.Set s ∷ world) zero is = absurd (let e : Some kind.Set ≡ Some (kind.Deque is.0) = is.1 in cc)
+passes_deque (first ∷ world) (suc place) is = passes_deque world place is
 
 -- ---- dicts
 
@@ -158,6 +172,62 @@ module _ (world : List Content) (place : ℕ) (one : IsOfKind world kind.List pl
       ap (λ n. ltb 65536 n || (not (eqb place other) && ltb 65536 (length (list_at world other)))) (sym (length-append (list_at world place) (list_at world other)))
       ∙ ap (λ b. passes_cap longer || (not (eqb place other) && b)) (sym (passes_list world other both))
       ∙ sym (written_two world place longer low_list other)
+
+-- ---- deques
+
+length-right_within : (bound : Option ℕ) (items : List Value) → length (right_within bound items) ≡ length_within bound (length items)
+length-right_within None items = refl
+length-right_within (Some most) items = omega (arith, length-drop (length items - most) items)
+
+length-left_within : (bound : Option ℕ) (items : List Value) → length (left_within bound items) ≡ length_within bound (length items)
+length-left_within None items = refl
+length-left_within (Some most) items = omega (arith, length-take most items)
+
+length-extended : (q : DequeContent) (others : List Value) → length (deque_extend q others).items ≡ length_with_items q (length others)
+length-extended q others =
+    elim (length others == 0) as (λ b. length (cond b q (with_deque_items q (right_within q.bound (q.items ++ others)))).items ≡ cond b (length q.items) (length_within q.bound (length q.items + length others))) [
+      | true ↦ refl
+      | false ↦ length-right_within q.bound (q.items ++ others) ∙ ap (length_within q.bound) (length-append q.items others)
+    ]
+
+length-extended_left : (q : DequeContent) (others : List Value) → length (deque_extend_left q others).items ≡ length_with_items q (length others)
+length-extended_left q others =
+    let n : length (reverse others ++ q.items) ≡ length q.items + length others = omega (arith, length-append (reverse others) q.items, length-reverse others) in
+    elim (length others == 0) as (λ b. length (cond b q (with_deque_items q (left_within q.bound (reverse others ++ q.items)))).items ≡ cond b (length q.items) (length_within q.bound (length q.items + length others))) [
+      | true ↦ refl
+      | false ↦ length-left_within q.bound (reverse others ++ q.items) ∙ ap (length_within q.bound) n
+    ]
+
+module _ (world : List Content) (place : ℕ) (one : IsOfKind world (kind.Deque None) place) where
+  low_deque : place < length world
+  low_deque = is_there world (kind.Deque one.0) place one.1
+
+  pub deque_append_passes : (value : Value) → ltb 65536 (length_with_items (deque_at world place) 1) ≡ would_pass world (call.Deque place (deque.Append value))
+  deque_append_passes value =
+      let q : DequeContent = deque_at world place in
+      ap (λ n. ltb 65536 n) (sym (length-right_within q.bound (q.items ++ value ∷ []) ∙ ap (length_within q.bound) (length_push q.items value)))
+      ∙ sym (written_one world place (content.Deque (deque_append q value)) low_deque)
+
+  pub deque_append_left_passes : (value : Value) → ltb 65536 (length_with_items (deque_at world place) 1) ≡ would_pass world (call.Deque place (deque.AppendLeft value))
+  deque_append_left_passes value =
+      let q : DequeContent = deque_at world place in
+      let n : length (value ∷ q.items) ≡ length q.items + 1 = omega arith in
+      ap (λ n. ltb 65536 n) (sym (length-left_within q.bound (value ∷ q.items) ∙ ap (length_within q.bound) n))
+      ∙ sym (written_one world place (content.Deque (deque_append_left q value)) low_deque)
+
+  -- a deque that is changed, and another one
+  both_pass : (left : DequeContent) (other after : ℕ) → length left.items ≡ after → IsOfKind world (kind.Deque None) other
+      → (ltb 65536 after || (not (eqb place other) && ltb 65536 (length (deque_at world other).items))) ≡ some_passes (set world place (content.Deque left)) (one_or_two place (Some other))
+  both_pass left other after long both =
+      ap (λ n. ltb 65536 n || (not (eqb place other) && ltb 65536 (length (deque_at world other).items))) (sym long)
+      ∙ ap (λ b. passes_cap (content.Deque left) || (not (eqb place other) && b)) (sym (passes_deque world other both))
+      ∙ sym (written_two world place (content.Deque left) low_deque other)
+
+  pub deque_extend_passes : (other : ℕ) → IsOfKind world (kind.Deque None) other → (ltb 65536 (length_with_items (deque_at world place) (length (deque_at world other).items)) || (not (eqb place other) && ltb 65536 (length (deque_at world other).items))) ≡ would_pass world (call.Deque place (deque.Extend other))
+  deque_extend_passes other both = both_pass (deque_extend (deque_at world place) (deque_at world other).items) other _ (length-extended (deque_at world place) (deque_at world other).items) both
+
+  pub deque_extend_left_passes : (other : ℕ) → IsOfKind world (kind.Deque None) other → (ltb 65536 (length_with_items (deque_at world place) (length (deque_at world other).items)) || (not (eqb place other) && ltb 65536 (length (deque_at world other).items))) ≡ would_pass world (call.Deque place (deque.ExtendLeft other))
+  deque_extend_left_passes other both = both_pass (deque_extend_left (deque_at world place) (deque_at world other).items) other _ (length-extended_left (deque_at world place) (deque_at world other).items) both
 
 -- ---- sets
 

@@ -27,8 +27,11 @@ sections_alike place marks call.End sections = sym (drop-map section_of 1 sectio
 sections_alike place marks (call.Dict container dict_call) sections = refl
 sections_alike place marks (call.List container list_call) sections = refl
 sections_alike place marks (call.Set container set_call) sections = refl
+sections_alike place marks (call.Deque container deque_call) sections = refl
 sections_alike place marks (call.Next cursor) sections = refl
 sections_alike place marks call.Quiesce sections = refl
+sections_alike place marks (call.Await other index) sections = refl
+sections_alike place marks call.Dump sections = refl
 
 module _ (script : ScriptParts) (entries : List Entry) (thread place : ℕ) where
   still_open : (sections : List BegunSection) → AllByRecursion (IsOpen script entries thread place) sections → AllByRecursion (IsOpen script entries thread (place + 1)) sections
@@ -43,8 +46,11 @@ module _ (script : ScriptParts) (entries : List Entry) (thread place : ℕ) wher
   open_after marks (call.Dict container dict_call) sections count containers is_open = still_open sections is_open
   open_after marks (call.List container list_call) sections count containers is_open = still_open sections is_open
   open_after marks (call.Set container set_call) sections count containers is_open = still_open sections is_open
+  open_after marks (call.Deque container deque_call) sections count containers is_open = still_open sections is_open
   open_after marks (call.Next cursor) sections count containers is_open = still_open sections is_open
   open_after marks call.Quiesce sections count containers is_open = still_open sections is_open
+  open_after marks (call.Await other index) sections count containers is_open = still_open sections is_open
+  open_after marks call.Dump sections count containers is_open = still_open sections is_open
 
 -- ---- one entry further
 

@@ -1,22 +1,35 @@
 -- What the rule of scripts says of threads and of their calls.
-use Rattle.std.proofs.Common.{◌≡◌, ℕ, ◌<◌, ◌≤◌, true, false, List, [], ◌∷◌, length, get_or, Option, Some, None, sym, ap, subst, ◌∙◌, arith, cond, eqb}
-use Rattle.std.specs.Prelude.{slice_get, All, IfSome}
+use Rattle.std.proofs.Common.{◌≡◌, ℕ, ◌<◌, ◌≤◌, true, false, List, [], ◌∷◌, length, take, get_or, Option, Some, None, refl, sym, ap, subst, ◌∙◌, arith, cond, eqb, inl, inr, ◌==◌}
+use Rattle.std.specs.Prelude.{slice_get, filter, option_map, All, IfSome}
 use Rattle.std.specs.Option.{option_map_or}
 use Rattle.std.proofs.lemmas.List.Elements.{All-from_recursion}
-use Rattle.std.proofs.lemmas.Option.{slice_get-map, slice_get_within, get_or_from_slice_get, slice_get_past, IfSome_then}
+use Rattle.std.proofs.lemmas.Option.{slice_get-map, slice_get_within, slice_get_cases, get_or_from_slice_get, slice_get_past, IfSome_then}
+use Rattle.std.proofs.lemmas.Bool.{and_parts, eq-eqb, false≢true}
 use Rattle.std.proofs.lemmas.List.{length-map}
 use Rattle.ft_model.specs.declared.call.Call.{Call}
 use Rattle.ft_model.specs.declared.call.Call.TheVariants as call
 use Rattle.ft_model.specs.declared.script.Declaration.{Declaration}
+use Rattle.ft_model.specs.declared.data.Key.{Key}
+use Rattle.ft_model.specs.declared.entry.Entry.{Entry}
 use Rattle.ft_model.specs.declared.script.Kind.{Kind}
+use Rattle.ft_model.specs.declared.script.Kind.TheVariants as kind
 use Rattle.ft_model.specs.declared.script.Thread.{Thread}
 use Rattle.ft_model.specs.declared.script.ScriptParts.{ScriptParts}
 use Rattle.ft_model.specs.Calls.{one_or_two, containers_of}
-use Rattle.ft_model.specs.Scripts.{IsDeclaredAs, NamesOf, IsCallOf, IsThread, IsScript}
-use Rattle.ft_model.specs.Histories.{calls_of, cursors_of}
+use Rattle.ft_model.specs.Landed.{shares_none, is_landed_call}
+use Rattle.ft_model.specs.Scripts.{kind_at, IsDeclaredAs, NamesOf, IsCallOf, IsThread, IsScript}
+use Rattle.ft_model.specs.Histories.{calls_of, cursors_of, EachAt, IsAwaitedIn, IsAwaited, IsWhole}
+use Rattle.ft_history.specs.Internal.States.{NamesThread}
+use Rattle.ft_history.proofs.FilteredParts.{passed_at}
+
+kind_within : (containers : List Declaration) (k : Kind) (place : ℕ) → kind_at containers place ≡ Some k → place < length containers
+kind_within containers k place is = omega (arith, length-map containers (λ (c : Declaration). c.start.kind), slice_get_within _ place k (slice_get-map (λ (c : Declaration). c.start.kind) containers place ∙ is))
 
 declared_within : (containers : List Declaration) (k : Kind) (place : ℕ) → IsDeclaredAs containers k place → place < length containers
-declared_within containers k place is = omega (arith, length-map containers (λ (c : Declaration). c.kind), slice_get_within _ place k (slice_get-map (λ (c : Declaration). c.kind) containers place ∙ is))
+declared_within containers kind.Dict place is = kind_within containers kind.Dict place is
+declared_within containers kind.List place is = kind_within containers kind.List place is
+declared_within containers kind.Set place is = kind_within containers kind.Set place is
+declared_within containers (kind.Deque _) place is = kind_within containers (kind.Deque is.0) place is.1
 
 one_or_two_within : (n first : ℕ) (second : Option ℕ) → first < n → IfSome second (λ place. place < n) → All (λ which. which < n) (one_or_two first second)
 one_or_two_within n first None low both = All-from_recursion (λ which. which < n) (first ∷ []) (low, tt)
@@ -31,13 +44,16 @@ none_within n = All-from_recursion (λ which. which < n) [] tt
 
 -- the containers that a call of a script names are declared
 pub named_within : (containers : List Declaration) (cursors : ℕ) (called : Call) → NamesOf containers cursors called → All (λ which. which < length containers) (containers_of called)
-named_within containers cursors (call.Dict place dict_call) names = one_or_two_within _ place _ (declared_within containers _ place names.container) (IfSome_then _ names.second (λ other is. declared_within containers _ other is))
-named_within containers cursors (call.List place list_call) names = one_or_two_within _ place _ (declared_within containers _ place names.container) (IfSome_then _ names.second (λ other is. declared_within containers _ other is))
-named_within containers cursors (call.Set place set_call) names = one_or_two_within _ place _ (declared_within containers _ place names.container) (IfSome_then _ names.second (λ other is. declared_within containers _ other is))
+named_within containers cursors (call.Dict place dict_call) names = one_or_two_within _ place _ (declared_within containers kind.Dict place names.container) (IfSome_then _ names.second (λ other is. declared_within containers kind.Dict other is))
+named_within containers cursors (call.List place list_call) names = one_or_two_within _ place _ (declared_within containers kind.List place names.container) (IfSome_then _ names.second (λ other is. declared_within containers kind.List other is))
+named_within containers cursors (call.Set place set_call) names = one_or_two_within _ place _ (declared_within containers kind.Set place names.container) (IfSome_then _ names.second (λ other is. declared_within containers kind.Set other is))
+named_within containers cursors (call.Deque place deque_call) names = one_or_two_within _ place _ (declared_within containers (kind.Deque None) place names.container) (IfSome_then _ names.second (λ other is. declared_within containers (kind.Deque None) other is))
 named_within containers cursors (call.Next number) names = none_within (length containers)
 named_within containers cursors (call.Begin first second) names = one_or_two_within _ first second names.0 names.1
 named_within containers cursors call.End names = none_within (length containers)
 named_within containers cursors call.Quiesce names = none_within (length containers)
+named_within containers cursors (call.Await other index) names = none_within (length containers)
+named_within containers cursors call.Dump names = none_within (length containers)
 
 -- ---- threads
 
@@ -71,3 +87,41 @@ no_calls script thread place called past at =
     let none : calls_of script thread ≡ [] = ap (λ (o : Option Thread). option_map_or (λ (f : Thread). f.calls) o []) (slice_get_past script.threads thread past) in
     let e : None ≡ Some called = ap (λ (cs : List Call). slice_get cs place) (sym none) ∙ at in
     cc
+
+-- ---- what is landed
+
+-- each call of a script is
+pub landed_call : (script : ScriptParts) → IsScript script → (thread place : ℕ) (called : Call) → slice_get (calls_of script thread) place ≡ Some called → is_landed_call called ≡ true
+landed_call script rule thread place called here =
+    elim (slice_get_cases script.threads thread).1 [
+      | inl found ↦
+          let at : slice_get found.0.calls place ≡ Some called = ap (λ (cs : List Call). slice_get cs place) (sym (calls_of_thread script rule thread found.0 found.2)) ∙ here in
+          subst (λ (c : Call). is_landed_call c ≡ true) (get_or_from_slice_get found.0.calls place called called at) ((is_thread script rule thread found.0 found.2).landed place called (slice_get_within found.0.calls place called at))
+      | inr past ↦ absurd (no_calls script thread place called past.0 here)
+    ]
+
+-- such a call is no await
+pub landed_awaited : (entries : List Entry) (place : ℕ) (called : Call) → is_landed_call called ≡ true → IsAwaitedIn entries place called
+landed_awaited entries place (call.Await thread index) landed = absurd (false≢true landed)
+landed_awaited entries place called landed = tt
+
+pub landed_names : (threads : ℕ) (called : Call) → is_landed_call called ≡ true → NamesThread threads called
+landed_names threads (call.Await thread index) landed = absurd (false≢true landed)
+landed_names threads called landed = tt
+
+-- so no entry of a whole list of a script's calls is of an await
+pub awaited_of_script : (script : ScriptParts) → IsScript script → (entries : List Entry) → IsWhole script entries → EachAt entries (IsAwaited entries)
+awaited_of_script script rule entries whole place entry at =
+    let mine = λ (e : Entry). e.thread == entry.thread in
+    let k = length (filter mine (take place entries)) in
+    let there : slice_get (filter mine entries) k ≡ Some entry = passed_at mine entries place entry at (eq-eqb entry.thread entry.thread refl) in
+    let called : slice_get (calls_of script entry.thread) k ≡ Some entry.call = ap (λ (cs : List Call). slice_get cs k) (sym (whole.calls entry.thread)) ∙ slice_get-map (λ (e : Entry). e.call) (filter mine entries) k ∙ ap (option_map (λ (e : Entry). e.call)) there in
+    landed_awaited entries place entry.call (landed_call script rule entry.thread k entry.call called)
+
+-- every container starts so
+pub unsplit_start : (script : ScriptParts) → IsScript script → All (λ (container : Declaration). container.start.keys ≡ []) script.containers
+unsplit_start script rule place d low = no_keys (get_or script.containers place d).start.keys (and_parts _ _ (rule.starts place d low).landed).1
+  where
+    no_keys : (keys : List Key) → shares_none keys ≡ true → keys ≡ []
+    no_keys [] none = refl
+    no_keys (key ∷ keys) none = absurd (false≢true none)

@@ -51,8 +51,11 @@ begun_after entries thread place entry call.End (section ∷ sections) at mine i
 begun_after entries thread place entry (call.Dict container dict_call) sections at mine is begun = still_begun entries thread place sections begun
 begun_after entries thread place entry (call.List container list_call) sections at mine is begun = still_begun entries thread place sections begun
 begun_after entries thread place entry (call.Set container set_call) sections at mine is begun = still_begun entries thread place sections begun
+begun_after entries thread place entry (call.Deque container deque_call) sections at mine is begun = still_begun entries thread place sections begun
 begun_after entries thread place entry (call.Next cursor) sections at mine is begun = still_begun entries thread place sections begun
 begun_after entries thread place entry call.Quiesce sections at mine is begun = still_begun entries thread place sections begun
+begun_after entries thread place entry (call.Await other index) sections at mine is begun = still_begun entries thread place sections begun
+begun_after entries thread place entry call.Dump sections at mine is begun = still_begun entries thread place sections begun
 
 pub sections_begun : (entries : List Entry) (thread place : ℕ) → place ≤ length entries → AreBegun entries thread place (sections_at entries thread place)
 sections_begun entries thread =

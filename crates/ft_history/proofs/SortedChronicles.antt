@@ -12,6 +12,7 @@ use Rattle.std.proofs.lemmas.Option.{slice_get-get_or}
 use Rattle.ft_model.specs.declared.entry.Entry.{Entry}
 use Rattle.ft_model.specs.declared.entry.Storage.{Storage}
 use Rattle.ft_model.specs.declared.script.ScriptParts.{ScriptParts}
+use Rattle.ft_model.specs.Scripts.{IsScript}
 use Rattle.ft_model.specs.Histories.{history_cmp, writes, entries_of, IsWhole, IsChronicle, IsLegal}
 use Rattle.ft_history.proofs.Agreement.{Agree, chronicle_of_agreement}
 use Rattle.ft_history.proofs.FilteredParts.{key_at}
@@ -63,7 +64,7 @@ module _ (entries : List Entry) (numbered : AreStamped entries) where
 pub same_written : (script : ScriptParts) (chronicle history : List Entry) → IsWhole script chronicle → AreStamped chronicle → IsPermutation chronicle history → IsSorted history_cmp history → written chronicle ≡ written history
 same_written script chronicle history whole numbered moved sorted = same_passed chronicle history moved sorted (λ (e : Entry). e.wrote) (written_sorted chronicle numbered) (written_differ chronicle numbered)
 
-module _ (storage : Storage) (script : ScriptParts) (chronicle history : List Entry) (is : IsChronicle storage script chronicle) (moved : IsPermutation chronicle history) (sorted : IsSorted history_cmp history) where
+module _ (storage : Storage) (script : ScriptParts) (chronicle history : List Entry) (rule : IsScript script) (is : IsChronicle storage script chronicle) (moved : IsPermutation chronicle history) (sorted : IsSorted history_cmp history) where
   stamps_right : AreStamped chronicle
   stamps_right place entry at = (is.answered place entry at).stamp
 
@@ -92,4 +93,4 @@ module _ (storage : Storage) (script : ScriptParts) (chronicle history : List En
       }
 
   pub legal_when_sorted : IsLegal storage script history
-  legal_when_sorted = record { order = sorted; chronicle = chronicle_of_agreement storage script chronicle history agreement is }
+  legal_when_sorted = record { order = sorted; chronicle = chronicle_of_agreement storage script chronicle history rule agreement is }

@@ -18,14 +18,15 @@ use Rattle.ft_model.specs.Histories.{calls_of}
 use Rattle.ft_history.specs.declared.progress.ThreadProgress.{ThreadProgress}
 use Rattle.ft_history.specs.Internal.States.{IsFreshProgress, IsProgress, AreHandsOf, IsOpen, all_begun, section_of}
 
-pub kinds_at_start : (containers : List Declaration) → map kind_of (start_world containers) ≡ map (λ (c : Declaration). c.kind) containers
+pub kinds_at_start : (containers : List Declaration) → map kind_of (start_world containers) ≡ map (λ (c : Declaration). c.start.kind) containers
 kinds_at_start [] = refl
-kinds_at_start (c ∷ containers) = λ i. same c.kind i ∷ kinds_at_start containers i
+kinds_at_start (c ∷ containers) = λ i. same c.start.kind i ∷ kinds_at_start containers i
   where
     same : (k : Kind) → kind_of (empty_content k) ≡ k
     same kind.Dict = refl
     same kind.List = refl
     same kind.Set = refl
+    same (kind.Deque bound) = refl
 
 no_cursor : (n number : ℕ) → cursor_at (start_hands n) number ≡ None
 no_cursor n number =

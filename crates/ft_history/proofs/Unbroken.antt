@@ -78,6 +78,7 @@ module _ (storage : Storage) (script : ScriptParts) (entries : List Entry) (lega
   holds_of_legal place entry at rule.Stamp = record { stamp = (legal.chronicle.answered place entry at).stamp; wrote = (legal.chronicle.answered place entry at).wrote }
   holds_of_legal place entry at rule.Order = after_of_legal place entry at
   holds_of_legal place entry at rule.Reply = subst (λ n. IsReplied entry.call entry.reply (answer (world_at script entries n) (hands_at script entries entry.thread place) entry.call).reply) (legal.chronicle.answered place entry at).stamp (legal.chronicle.answered place entry at).reply
+  holds_of_legal place entry at rule.Await = legal.chronicle.awaited place entry at
   holds_of_legal place entry at rule.Mark = legal.chronicle.marked place entry at
   holds_of_legal place entry at rule.Kept = legal.chronicle.kept place entry at
   holds_of_legal place entry at rule.Suspended = legal.chronicle.counted place entry at
@@ -94,6 +95,7 @@ module _ (storage : Storage) (script : ScriptParts) (entries : List Entry) (lega
   holds_at_end rule.Stamp = tt
   holds_at_end rule.Order = tt
   holds_at_end rule.Reply = tt
+  holds_at_end rule.Await = tt
   holds_at_end rule.Mark = tt
   holds_at_end rule.Kept = tt
   holds_at_end rule.Suspended = tt
@@ -171,6 +173,7 @@ module _ (storage : Storage) (script : ScriptParts) (entries : List Entry) (unbr
                 wrote = (stamped place entry at).wrote;
                 reply = subst (λ n. IsReplied entry.call entry.reply (answer (world_at script entries n) (hands_at script entries entry.thread place) entry.call).reply) (sym (stamped place entry at).stamp) ((unbroken place rule.Reply).entry entry at);
               };
+          awaited = λ place entry at. (unbroken place rule.Await).entry entry at;
           marked = λ place entry at. (unbroken place rule.Mark).entry entry at;
           kept = λ place entry at. (unbroken place rule.Kept).entry entry at;
           counted = λ place entry at. (unbroken place rule.Suspended).entry entry at;

@@ -70,19 +70,21 @@ module _ (s : Storage) (script : ScriptParts) (entries : List Entry) (unbroken :
   holds_after rule.Stamp complete = tt
   holds_after rule.Order complete = tt
   holds_after rule.Reply complete = tt
+  holds_after rule.Await complete = tt
   holds_after rule.Mark complete = tt
   holds_after rule.Kept complete = tt
   holds_after rule.Suspended complete = tt
   holds_after rule.Memory complete = tt
   holds_after rule.World complete = tt
 
-  holds_lower : (r : Rule) → rank_of r < 8 → HoldsAtEnd script entries r
+  holds_lower : (r : Rule) → rank_of r < 9 → HoldsAtEnd script entries r
   holds_lower rule.Missing low = absurd (omega arith)
   holds_lower rule.World low = tt
   holds_lower rule.Whole low = tt
   holds_lower rule.Stamp low = tt
   holds_lower rule.Order low = tt
   holds_lower rule.Reply low = tt
+  holds_lower rule.Await low = tt
   holds_lower rule.Mark low = tt
   holds_lower rule.Kept low = tt
   holds_lower rule.Suspended low = tt

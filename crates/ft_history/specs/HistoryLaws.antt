@@ -23,8 +23,11 @@ LeadsTo from to (call.End ∷ calls) = (0 < from) × LeadsTo (from - 1) to calls
 LeadsTo from to (call.Dict container dict_call ∷ calls) = LeadsTo from to calls
 LeadsTo from to (call.List container list_call ∷ calls) = LeadsTo from to calls
 LeadsTo from to (call.Set container set_call ∷ calls) = LeadsTo from to calls
+LeadsTo from to (call.Deque container deque_call ∷ calls) = LeadsTo from to calls
 LeadsTo from to (call.Next cursor ∷ calls) = LeadsTo from to calls
 LeadsTo from to (call.Quiesce ∷ calls) = LeadsTo from to calls
+LeadsTo from to (call.Await other index ∷ calls) = LeadsTo from to calls
+LeadsTo from to (call.Dump ∷ calls) = LeadsTo from to calls
 
 -- the calls of a thread from one place to another, which is left out
 abbrev pub calls_in : List Entry → ℕ → ℕ → ℕ → List Call

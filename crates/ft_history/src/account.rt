@@ -8,11 +8,11 @@ ghost use Rattle.ft_model.specs.declared.call.Call.TheVariants as call_of;
 ghost use Rattle.ft_model.specs.declared.script.ScriptParts.{ScriptParts};
 ghost use Rattle.ft_model.specs.Classes.{class_count, IsClass};
 ghost use Rattle.ft_model.specs.TableUses.{table_of, no_table, grown_table};
-ghost use Rattle.ft_history.specs.Internal.Accounts.{tables_of, IsAccount, CountsTaking, CountsCall, size_at};
+ghost use Rattle.ft_history.specs.Internal.Accounts.{tables_of, IsAccount, CountsTaking, CountsCall, CountsDict, size_at};
 
-use crate::sizes::{Size, length_of_list, size_of_dict, size_of_set};
+use crate::sizes::{Size, length_of_deque, length_of_list, size_of_dict, size_of_set};
 use ft_model::{
-    CLASS_COUNT, Call, DictCall, KeptTable, LEAST_CLASS, ListCall, ScriptParts, SetCall,
+    CLASS_COUNT, Call, DequeCall, DictCall, KeptTable, LEAST_CLASS, ListCall, ScriptParts, SetCall,
     TableChange, World, table_of_copy, taken_by_copy, taken_by_dict, taken_by_list, taken_by_set,
 };
 use std::alloc::{AllocError, Global};
@@ -28,6 +28,7 @@ pub struct TableAccount {
 
 /// The account at the start of a script.
 pub fn start_account(alloc: Global, parts: &ScriptParts) -> Result<TableAccount, AllocError>
+    requires { All (λ container. container.start.keys ≡ []) parts.now.containers }
     ensures { IfOk result (λ account. IsAccount parts.now [] account) }
 {
     Ok(TableAccount {
@@ -57,14 +58,20 @@ pub fn note_taking(account: &mut TableAccount, world: &World, call: &Call, befor
         Call::Dict { container, call } => note_dict(account, world, *container, call, before),
         Call::List { container, call } => note_list(account, world, *container, call),
         Call::Set { container, call } => note_set(account, world, *container, call, before),
-        Call::Next { .. } | Call::Begin { .. } | Call::End | Call::Quiesce => {}
+        Call::Deque { container, call } => note_deque(account, world, *container, call),
+        Call::Next { .. }
+        | Call::Begin { .. }
+        | Call::End
+        | Call::Quiesce
+        | Call::Await { .. }
+        | Call::Dump => {}
     }
 }
 
 fn note_dict(account: &mut TableAccount, world: &World, place: u32, call: &DictCall, before: Size)
     requires classes { vec_len account.old.takings ≡ class_count }
     requires few { All (λ taken. taken < 2 ^ 63) account.old.takings.items }
-    ensures { (old : List Content) → before ≡ size_at old (call_of.Dict place call.now) → CountsCall old world.now (call_of.Dict place call.now) account.old account.new }
+    ensures { (old : List Content) → before ≡ size_at old (call_of.Dict place call.now) → CountsDict old world.now place call.now account.old account.new }
 {
     match call.table_change() {
         TableChange::Stays => {}
@@ -95,6 +102,24 @@ fn note_list(account: &mut TableAccount, world: &World, place: u32, call: &ListC
         TableChange::Grows => {
             let table = table_at(&account.tables, place);
             let taking = taken_by_list(table, length_of_list(world, place));
+            grow(account, place, taking, 0, 0);
+        }
+        TableChange::GivesUp => {
+            put(&mut account.tables, place, none_kept());
+        }
+    }
+}
+
+fn note_deque(account: &mut TableAccount, world: &World, place: u32, call: &DequeCall)
+    requires classes { vec_len account.old.takings ≡ class_count }
+    requires few { All (λ taken. taken < 2 ^ 63) account.old.takings.items }
+    ensures { (old : List Content) → CountsCall old world.now (call_of.Deque place call.now) account.old account.new }
+{
+    match call.table_change() {
+        TableChange::Stays | TableChange::CopiesTo(_) => {}
+        TableChange::Grows => {
+            let table = table_at(&account.tables, place);
+            let taking = taken_by_list(table, length_of_deque(world, place));
             grow(account, place, taking, 0, 0);
         }
         TableChange::GivesUp => {

@@ -1,6 +1,6 @@
 //! The judge: it goes through the entries of a history once, with the plain containers beside it,
 //! and stops at the first rule that is broken.
-ghost use Rattle.std.specs.Prelude.{◌≡◌, ◌↔◌, ℕ, List, IsTrue, ◌+◌, ◌<◌, ◌≤◌, ◌^◌, All, length, take, IfOk, IfNone, Some, slice_get, vec_len};
+ghost use Rattle.std.specs.Prelude.{◌≡◌, ◌↔◌, ℕ, List, [], IsTrue, ◌+◌, ◌<◌, ◌≤◌, ◌^◌, All, length, take, IfOk, IfNone, Some, slice_get, vec_len};
 ghost use Rattle.ft_model.specs.Scripts.{IsScript};
 ghost use Rattle.ft_model.specs.Judging.{IsNext};
 ghost use Rattle.ft_model.specs.declared.entry.Entry.{Entry};
@@ -9,20 +9,20 @@ ghost use Rattle.ft_model.specs.declared.script.ScriptParts.{ScriptParts};
 ghost use Rattle.ft_model.specs.Calls.{containers_of};
 ghost use Rattle.ft_model.specs.Worlds.{IsDeclared, HasRoom};
 ghost use Rattle.ft_model.specs.Classes.{class_count};
-ghost use Rattle.ft_model.specs.Histories.{writes, world_at, IsEarnedAt};
+ghost use Rattle.ft_model.specs.Histories.{writes, world_at, IsAwaited, IsEarnedAt};
 ghost use Rattle.ft_history.specs.Internal.Accounts.{AreOfKind};
 ghost use Rattle.ft_history.specs.declared.progress.ThreadProgress.{ThreadProgress};
 ghost use Rattle.ft_history.specs.Verdicts.{IsVerdict};
 ghost use Rattle.ft_history.specs.declared.verdict.Verdict.TheVariants as verdict;
-ghost use Rattle.ft_history.specs.Internal.States.{AreUsers, IsAskable};
+ghost use Rattle.ft_history.specs.Internal.States.{AreUsers, IsAskable, NamesThread};
 ghost use Rattle.ft_history.specs.Internal.Steps.{IsState, IsUnbrokenBefore, FindsEarly, FindsLate, FindsBroken, GoesAfter, HaveMadeAll};
 
 use crate::account::note_taking;
 use crate::memory::is_earned;
 use crate::progress::{ThreadProgress, go_through};
 use crate::rules::{
-    containers_needed, inner_containers, is_after, is_counted_right, is_kept_right,
-    is_marked_right, is_memory_error, is_next, is_stamped,
+    containers_needed, inner_containers, is_after, is_awaited_right, is_counted_right,
+    is_kept_right, is_marked_right, is_memory_error, is_next, is_stamped,
 };
 use crate::sizes::size_of_own;
 use crate::state::{State, start};
@@ -131,7 +131,7 @@ fn early_rule(
     None
 }
 
-/// Of the rules on marks, sections and MemoryErrors, the first that the entry breaks.
+/// Of the rules on awaits, marks, sections and MemoryErrors, the first that the entry breaks.
 fn late_rule(
     storage: Storage,
     parts: &ScriptParts,
@@ -141,8 +141,13 @@ fn late_rule(
 ) -> Option<Rule>
     requires thread { entry.now.thread < vec_len state.now.threads }
     requires kinds { AreOfKind state.now.world entry.now.call }
+    requires awaits { NamesThread (vec_len state.now.threads) entry.now.call }
+    requires unsplit { All (λ container. container.start.keys ≡ []) parts.now.containers }
     ensures { (entries : List Entry) (place : ℕ) → slice_get entries place ≡ Some entry.now → AreUsers parts.now users.now → IsState parts.now entries place state.now → FindsLate storage parts.now entries place entry.now result }
 {
+    if !has_awaited(state, entry) {
+        return Some(Rule::Await);
+    }
     let progress = &state.threads[entry.thread as usize];
     let own = containers_needed(&progress.hands, &entry.call);
     if !is_marked_right(
@@ -165,9 +170,18 @@ fn late_rule(
     None
 }
 
+/// Whether the call that an await names stands before it.
+fn has_awaited(state: &State, entry: &Entry) -> bool
+    requires { NamesThread (vec_len state.now.threads) entry.now.call }
+    ensures { (entries : List Entry) (place : ℕ) → (script : ScriptParts) → IsState script entries place state.now → IsTrue result ↔ IsAwaited entries place entry.now }
+{
+    is_awaited_right(&state.threads, &entry.call)
+}
+
 /// Whether the reply is a MemoryError where one is due, and nowhere without cause.
 fn has_cause(storage: Storage, parts: &ScriptParts, state: &State, entry: &Entry) -> bool
-    requires { AreOfKind state.now.world entry.now.call }
+    requires kinds { AreOfKind state.now.world entry.now.call }
+    requires unsplit { All (λ container. container.start.keys ≡ []) parts.now.containers }
     ensures { (entries : List Entry) (place : ℕ) → IsState parts.now entries place state.now → IsTrue result ↔ IsEarnedAt storage parts.now entries place entry.now }
 {
     match storage {

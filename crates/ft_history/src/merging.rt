@@ -7,6 +7,7 @@ ghost use Rattle.ft_model.specs.declared.call.Call.{Call};
 ghost use Rattle.ft_model.specs.declared.entry.Storage.{Storage};
 ghost use Rattle.ft_model.specs.declared.script.ScriptParts.{ScriptParts};
 ghost use Rattle.ft_model.specs.Histories.{history_cmp};
+ghost use Rattle.ft_model.specs.Scripts.{IsScript};
 ghost use Rattle.ft_model.specs.Numbers.{AreNumberedLists, AreDone, IsHistoryOf};
 
 use ft_model::Entry;
@@ -26,13 +27,13 @@ pub fn history_order(a: &Entry, b: &Entry) -> Ordering
 }
 
 /// One history of the entries that each thread made: every entry of the lists, each as often as it
-/// stands there, in the order of a history. Where the lists are those of the threads, all done and
-/// each entry right by the numbers of the writes, it is a legal history with those writes. It takes
-/// n log n comparisons for n entries.
+/// stands there, in the order of a history. Where the lists are those of the threads of a script, all
+/// done and each entry right by the numbers of the writes, it is a legal history with those writes. It
+/// takes n log n comparisons for n entries.
 pub fn merge(alloc: Global, lists: Vec<Vec<Entry>>) -> Result<Vec<Entry>, AllocError>
     ensures entries { IfOk result (λ history. IsPermutation (flat_map (λ list. list.items) lists.items) history.items) }
     ensures order { IfOk result (λ history. IsSorted history_cmp history.items) }
-    ensures legal { IfOk result (λ history. (storage : Storage) (script : ScriptParts) (calls : List Call) → AreNumberedLists storage script calls (map (λ list. list.items) lists.items) → AreDone script calls (map (λ list. list.items) lists.items) → IsHistoryOf storage script calls history.items) }
+    ensures legal { IfOk result (λ history. (storage : Storage) (script : ScriptParts) (calls : List Call) → IsScript script → AreNumberedLists storage script calls (map (λ list. list.items) lists.items) → AreDone script calls (map (λ list. list.items) lists.items) → IsHistoryOf storage script calls history.items) }
 {
     let mut history = concat(alloc, lists)?;
     history.sort_by(history_order)?;

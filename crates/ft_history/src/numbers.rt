@@ -14,13 +14,14 @@ ghost use Rattle.ft_model.specs.declared.script.ScriptParts.{ScriptParts};
 ghost use Rattle.ft_model.specs.Answers.{answer};
 ghost use Rattle.ft_model.specs.Worlds.{no_hands};
 ghost use Rattle.ft_model.specs.Histories.{history_cmp};
+ghost use Rattle.ft_model.specs.Scripts.{IsScript};
 ghost use Rattle.ft_model.specs.Numbers.{calls_after, needs_after, IsRightAfter, IsNextEntry, AreNumbered, AreNumberedLists, AreDone, IsHistoryOf};
 
-/// Entries with numbers, put in the order of a history, are a legal history. Its writes are those
+/// Entries with numbers of a script, put in the order of a history, are a legal history. Its writes are those
 /// calls, in the order of their numbers, and each MemoryError of a class stands on a call that would
 /// take a table of that class.
 pub fn numbered_entries_are_legal()
-    ensures { (storage : Storage) (script : ScriptParts) (calls : List Call) (entries history : List Entry) → AreNumbered storage script calls entries → IsPermutation entries history → IsSorted history_cmp history → IsHistoryOf storage script calls history }
+    ensures { (storage : Storage) (script : ScriptParts) (calls : List Call) (entries history : List Entry) → IsScript script → AreNumbered storage script calls entries → IsPermutation entries history → IsSorted history_cmp history → IsHistoryOf storage script calls history }
 {}
 
 /// Nothing less would do: the entries of such a history have the numbers of its writes.

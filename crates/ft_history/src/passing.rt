@@ -1,17 +1,17 @@
 //! Whether a call would leave a container with more than the largest table holds, from the lengths of
 //! the containers alone.
-ghost use Rattle.std.specs.Prelude.{◌≡◌, ◌+◌, ◌^◌, ◌<◌, ◌&&◌, ◌||◌, ◌==◌, not, nat_lt, IfSome, length, filter, if◌then◌else◌};
+ghost use Rattle.std.specs.Prelude.{◌≡◌, ◌+◌, ◌^◌, ◌<◌, ◌&&◌, ◌||◌, ◌==◌, not, nat_lt, IfSome, None, length, filter, if◌then◌else◌};
 ghost use Rattle.ft_model.specs.declared.call.Call.TheVariants as call_of;
 ghost use Rattle.ft_model.specs.declared.script.Kind.TheVariants as kind;
-ghost use Rattle.ft_model.specs.Calls.{other_dict, other_list, other_set};
+ghost use Rattle.ft_model.specs.Calls.{other_dict, other_list, other_set, other_deque};
 ghost use Rattle.ft_model.specs.Contents.{has_key, has_element, those_not_in, dict_update};
 ghost use Rattle.ft_model.specs.TableUses.{would_pass};
 ghost use Rattle.ft_model.specs.Worlds.{IsOfKind};
-ghost use Rattle.ft_history.specs.Internal.Accounts.{AreOfKind};
+ghost use Rattle.ft_history.specs.Internal.Accounts.{AreOfKind, length_with_items};
 
 use ft_model::{
-    Call, Dict, DictCall, DictPair, Key, ListCall, MOST_ELEMENTS, MOST_ITEMS, MOST_PAIRS, Set,
-    SetCall, World,
+    Call, Deque, DequeCall, Dict, DictCall, DictPair, Key, ListCall, MOST_ELEMENTS, MOST_ITEMS,
+    MOST_PAIRS, Set, SetCall, World,
 };
 
 /// Whether the call can add, and would leave a container that it names with more than the largest
@@ -24,7 +24,13 @@ pub fn would_pass(world: &World, call: &Call) -> bool
         Call::Dict { container, call } => dict_would_pass(world, *container, call),
         Call::List { container, call } => list_would_pass(world, *container, call),
         Call::Set { container, call } => set_would_pass(world, *container, call),
-        Call::Next { .. } | Call::Begin { .. } | Call::End | Call::Quiesce => false,
+        Call::Deque { container, call } => deque_would_pass(world, *container, call),
+        Call::Next { .. }
+        | Call::Begin { .. }
+        | Call::End
+        | Call::Quiesce
+        | Call::Await { .. }
+        | Call::Dump => false,
     }
 }
 
@@ -60,7 +66,13 @@ fn dict_would_pass(world: &World, place: u32, call: &DictCall) -> bool
         | DictCall::Items
         | DictCall::Clear
         | DictCall::Eq { .. }
-        | DictCall::Iter { .. } => false,
+        | DictCall::Iter { .. }
+        | DictCall::KeysAnd { .. }
+        | DictCall::KeysSub { .. }
+        | DictCall::KeysOr { .. }
+        | DictCall::KeysXor { .. }
+        | DictCall::ItemsHas { .. }
+        | DictCall::Reversed { .. } => false,
     }
 }
 
@@ -91,7 +103,8 @@ fn list_would_pass(world: &World, place: u32, call: &ListCall) -> bool
         | ListCall::Len
         | ListCall::Items
         | ListCall::Eq { .. }
-        | ListCall::Iter { .. } => false,
+        | ListCall::Iter { .. }
+        | ListCall::Reversed { .. } => false,
     }
 }
 
@@ -131,11 +144,57 @@ fn set_would_pass(world: &World, place: u32, call: &SetCall) -> bool
     }
 }
 
+fn deque_would_pass(world: &World, place: u32, call: &DequeCall) -> bool
+    requires one { IsOfKind world.now (kind.Deque None) place }
+    requires both { IfSome (other_deque call.now) (λ other. IsOfKind world.now (kind.Deque None) other) }
+    ensures { result ≡ would_pass world.now (call_of.Deque place call.now) }
+{
+    let deque = world.deque(place);
+    match *call {
+        DequeCall::Append { .. } => length_with_items(deque, 1) > MOST_ITEMS,
+        DequeCall::AppendLeft { .. } => length_with_items(deque, 1) > MOST_ITEMS,
+        DequeCall::Extend { other } => {
+            let count = world.deque(other).len();
+            let after = length_with_items(deque, count);
+            one_passes(MOST_ITEMS, after, count, place, other)
+        }
+        DequeCall::ExtendLeft { other } => {
+            let count = world.deque(other).len();
+            let after = length_with_items(deque, count);
+            one_passes(MOST_ITEMS, after, count, place, other)
+        }
+        DequeCall::Pop
+        | DequeCall::PopLeft
+        | DequeCall::Rotate { .. }
+        | DequeCall::Clear
+        | DequeCall::Get { .. }
+        | DequeCall::Len
+        | DequeCall::Items
+        | DequeCall::Has { .. }
+        | DequeCall::Iter { .. } => false,
+    }
+}
+
 /// Whether a container has more than most after a call, or the other one does, where it is another.
 fn one_passes(most: usize, after: usize, others: usize, place: u32, other: u32) -> bool
     ensures { result ≡ (nat_lt most after || (not (place == other) && nat_lt most others)) }
 {
     after > most || (place != other && others > most)
+}
+
+/// How many items a deque has to which that many are added.
+fn length_with_items(deque: &Deque, added: usize) -> usize
+    requires { added < 2 ^ 63 }
+    ensures { result ≡ length_with_items deque.now added }
+{
+    if added == 0 {
+        return deque.len();
+    }
+    let count = deque.len() + added;
+    match deque.bound() {
+        Some(most) => count.min(most as usize),
+        None => count,
+    }
 }
 
 /// How many pairs a dict has that has the key too.

@@ -85,8 +85,11 @@ fn go_on(progress: &mut ThreadProgress, place: u64, entry: &Entry) -> Result<(),
         Call::Dict { .. }
         | Call::List { .. }
         | Call::Set { .. }
+        | Call::Deque { .. }
         | Call::Next { .. }
-        | Call::Quiesce => {}
+        | Call::Quiesce
+        | Call::Await { .. }
+        | Call::Dump => {}
     }
     Ok(())
 }

@@ -28,10 +28,13 @@ pub fn is_replied(
     match entry.call {
         Call::Begin { .. } => Ok(matches!(entry.reply, Reply::Entered)),
         Call::End => Ok(matches!(entry.reply, Reply::Kept | Reply::Suspended(_))),
-        Call::Quiesce => Ok(matches!(entry.reply, Reply::Done)),
-        Call::Dict { .. } | Call::List { .. } | Call::Set { .. } | Call::Next { .. } => {
-            is_answered(alloc, world, hands, entry)
-        }
+        Call::Quiesce | Call::Await { .. } => Ok(matches!(entry.reply, Reply::Done)),
+        Call::Dict { .. }
+        | Call::List { .. }
+        | Call::Set { .. }
+        | Call::Deque { .. }
+        | Call::Next { .. }
+        | Call::Dump => is_answered(alloc, world, hands, entry),
     }
 }
 

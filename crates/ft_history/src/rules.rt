@@ -7,11 +7,11 @@ ghost use Rattle.ft_model.specs.Answers.{is_write, is_memory};
 ghost use Rattle.std.specs.Ordering.{is_lt};
 ghost use Rattle.ft_model.specs.Histories.{history_cmp, IsCountedAs, IfEnds};
 ghost use Rattle.ft_model.specs.Judging.{IsAfter};
-ghost use Rattle.ft_history.specs.Internal.States.{is_used, all_begun, after_begun, inner_begun, is_written_on, IsKeptSince};
+ghost use Rattle.ft_history.specs.Internal.States.{is_used, all_begun, after_begun, inner_begun, is_written_on, IsKeptSince, NamesThread, HasMade};
 
 use crate::equal::same_call;
 use crate::merging::history_order;
-use crate::progress::OpenSection;
+use crate::progress::{OpenSection, ThreadProgress};
 use crate::writers::{LastWrites, wrote_after};
 use ft_model::{Call, Containers, Entry, Hands, Raise, Reply};
 
@@ -64,6 +64,25 @@ pub fn is_memory_error(reply: &Reply) -> bool
         reply,
         Reply::Raised(Raise::Memory(_) | Raise::Over | Raise::Heap)
     )
+}
+
+/// Whether the call that an await names was made.
+pub fn is_awaited_right(threads: &[ThreadProgress], call: &Call) -> bool
+    requires { NamesThread (length threads.now) call.now }
+    ensures { IsTrue result ↔ HasMade threads.now call.now }
+{
+    match *call {
+        Call::Await { thread, index } => u64::from(index) <= threads[thread as usize].made,
+        Call::Dict { .. }
+        | Call::List { .. }
+        | Call::Set { .. }
+        | Call::Deque { .. }
+        | Call::Next { .. }
+        | Call::Begin { .. }
+        | Call::End
+        | Call::Quiesce
+        | Call::Dump => true,
+    }
 }
 
 /// Whether the mark names another thread, which has a call on one of the containers.
@@ -119,9 +138,12 @@ pub fn containers_needed(hands: &Hands, call: &Call) -> Containers
         Call::Dict { .. }
         | Call::List { .. }
         | Call::Set { .. }
+        | Call::Deque { .. }
         | Call::Begin { .. }
         | Call::End
-        | Call::Quiesce => call.containers(),
+        | Call::Quiesce
+        | Call::Await { .. }
+        | Call::Dump => call.containers(),
     }
 }
 
@@ -135,8 +157,11 @@ pub fn inner_containers(sections: &[OpenSection], call: &Call) -> Containers
         Call::Dict { .. }
         | Call::List { .. }
         | Call::Set { .. }
+        | Call::Deque { .. }
         | Call::Next { .. }
-        | Call::Quiesce => innermost(sections),
+        | Call::Quiesce
+        | Call::Await { .. }
+        | Call::Dump => innermost(sections),
     }
 }
 
@@ -172,9 +197,12 @@ pub fn is_kept_right(containers: &[LastWrites], sections: &[OpenSection], entry:
         Call::Dict { .. }
         | Call::List { .. }
         | Call::Set { .. }
+        | Call::Deque { .. }
         | Call::Next { .. }
         | Call::Begin { .. }
-        | Call::Quiesce => true,
+        | Call::Quiesce
+        | Call::Await { .. }
+        | Call::Dump => true,
     }
 }
 
@@ -217,8 +245,11 @@ pub fn is_counted_right(marks: u64, sections: &[OpenSection], entry: &Entry) -> 
         Call::Dict { .. }
         | Call::List { .. }
         | Call::Set { .. }
+        | Call::Deque { .. }
         | Call::Next { .. }
         | Call::Begin { .. }
-        | Call::Quiesce => true,
+        | Call::Quiesce
+        | Call::Await { .. }
+        | Call::Dump => true,
     }
 }

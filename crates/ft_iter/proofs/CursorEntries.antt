@@ -10,8 +10,6 @@ use Rattle.ft_model.specs.declared.script.Kind.{Kind}
 use Rattle.ft_model.specs.declared.script.Kind.TheVariants as kind
 use Rattle.ft_model.specs.Calls.{moved_cursor}
 use Rattle.ft_model.specs.Worlds.{kind_of}
-use Rattle.std.proofs.Math.Logic.{∥∥₁_elim}
-use Rattle.std.proofs.Math.Nat.{ℕ_set}
 use Rattle.ft_trace.specs.declared.Act.{Act}
 use Rattle.ft_trace.specs.declared.Act.TheVariants.{AnswerCursor, ReadCounter}
 use Rattle.ft_trace.specs.declared.Shape.{Shape}
@@ -23,7 +21,6 @@ use Rattle.ft_trace.specs.Holds.{known}
 use Rattle.ft_trace.specs.BegunSections.{begun}
 use Rattle.ft_trace.specs.Traces.{Possible}
 use Rattle.ft_trace.specs.ContainerStates.{ContainerState, kind_in}
-use Rattle.ft_trace.proofs.Known.{kind_known}
 use Rattle.ft_trace.proofs.Cases.{hit, miss}
 use Rattle.ft_bank.specs.declared.bank.Bank.{Bank}
 use Rattle.ft_bank.specs.declared.pass.Pass.{Pass}
@@ -40,6 +37,7 @@ use Rattle.ft_section.proofs.MidstOfCall.{making_stays}
 use Rattle.ft_search.proofs.ReadMidst.{still_loaded}
 use Rattle.ft_iter.specs.CursorCalls.{KeepsOtherCursors}
 use Rattle.ft_iter.proofs.Moves.{Holds, holds-known}
+use Rattle.ft_search.proofs.Changing.{kind_is}
 
 -- right of the content that the pass knows, so right of whatever the bank may have
 pub cursor-shown : (v u : View) (o n number : ℕ) (called : Call) (said : Reply) (left : Cursor) → OnlyLoaded v u → 0 < v.left → moved_cursor called ≡ Some number → o < containers_in v.shape → has_lock o v.log ≡ true
@@ -93,31 +91,21 @@ making-moved b p q called said n number left m pass stack a =
 
 -- ---- the kind of what a pass knows
 
-abbrev code : Kind → ℕ
-code kind.Dict = 0
-code kind.List = 1
-code kind.Set = 2
+pub kind-held : (v : View) (o : ℕ) → ∥ Possible v ∥₁ → has_lock o v.log ≡ true → kind_of (known o v).content ≡ kind_in v.shape.starts o
+kind-held v o possible mine = kind_is v.shape v o refl possible mine
 
-one-kind : (a b : Kind) → code a ≡ code b → a ≡ b
-one-kind kind.Dict kind.Dict e = refl
-one-kind kind.Dict kind.List e = absurd (omega (arith, e))
-one-kind kind.Dict kind.Set e = absurd (omega (arith, e))
-one-kind kind.List kind.Dict e = absurd (omega (arith, e))
-one-kind kind.List kind.List e = refl
-one-kind kind.List kind.Set e = absurd (omega (arith, e))
-one-kind kind.Set kind.Dict e = absurd (omega (arith, e))
-one-kind kind.Set kind.List e = absurd (omega (arith, e))
-one-kind kind.Set kind.Set e = refl
+-- 1 for a list
+abbrev list_code : Kind → ℕ
+list_code kind.Dict = 0
+list_code kind.List = 1
+list_code kind.Set = 0
+list_code (kind.Deque bound) = 0
 
-pub kind-held : (v : View) (o : ℕ) → ∥ Possible v ∥₁ → has_lock o v.log ≡ true → kind_of (known o v).content ≡ kind_in v.shape.kinds o
-kind-held v o possible mine =
-    one-kind (kind_of (known o v).content) (kind_in v.shape.kinds o)
-    (∥∥₁_elim {P = code (kind_of (known o v).content) ≡ code (kind_in v.shape.kinds o)} possible (ℕ_set _ _) (λ p. ap code (kind_known v o mine p)))
-
-as-list : (c : Content) → code (kind_of c) ≡ 1 → (items : List Value) × (c ≡ content.List items)
+as-list : (c : Content) → list_code (kind_of c) ≡ 1 → (items : List Value) × (c ≡ content.List items)
 as-list (content.Dict dict) is = absurd (omega (arith, is))
 as-list (content.List items) is = (items, refl)
 as-list (content.Set set) is = absurd (omega (arith, is))
+as-list (content.Deque deque) is = absurd (omega (arith, is))
 
-pub list-known : (v : View) (o : ℕ) → ∥ Possible v ∥₁ → has_lock o v.log ≡ true → kind_in v.shape.kinds o ≡ kind.List → (items : List Value) × ((known o v).content ≡ content.List items)
-list-known v o possible mine is = as-list (known o v).content (ap code (kind-held v o possible mine ∙ is))
+pub list-known : (v : View) (o : ℕ) → ∥ Possible v ∥₁ → has_lock o v.log ≡ true → kind_in v.shape.starts o ≡ kind.List → (items : List Value) × ((known o v).content ≡ content.List items)
+list-known v o possible mine is = as-list (known o v).content (ap list_code (kind-held v o possible mine ∙ is))

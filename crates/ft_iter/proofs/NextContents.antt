@@ -48,13 +48,14 @@ set-in-dict n = omega arith
 abbrev pub IsKeyedContent : Content → Type 0
 IsKeyedContent c = ((dict : DictContent) × (c ≡ content.Dict dict)) ⊎ ((set : SetContent) × (c ≡ content.Set set))
 
-pub keyed-known : (v : View) (o : ℕ) → ∥ Possible v ∥₁ → has_lock o v.log ≡ true → IsKeyed (kind_in v.shape.kinds o) → IsKeyedContent (known o v).content
-keyed-known v o possible mine keyed = by (kind_in v.shape.kinds o) refl keyed
+pub keyed-known : (v : View) (o : ℕ) → ∥ Possible v ∥₁ → has_lock o v.log ≡ true → IsKeyed (kind_in v.shape.starts o) → IsKeyedContent (known o v).content
+keyed-known v o possible mine keyed = by (kind_in v.shape.starts o) refl keyed
   where
-    by : (k : Kind) → kind_in v.shape.kinds o ≡ k → IsKeyed k → IsKeyedContent (known o v).content
+    by : (k : Kind) → kind_in v.shape.starts o ≡ k → IsKeyed k → IsKeyedContent (known o v).content
     by kind.Dict is keyed' = inl (dict_known v o possible mine is)
     by kind.Set is keyed' = inr (set_known v o possible mine is)
     by kind.List is keyed' = absurd keyed'
+    by (kind.Deque bound) is keyed' = absurd keyed'
 
 -- ---- where there is no table
 

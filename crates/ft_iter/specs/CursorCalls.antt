@@ -1,5 +1,5 @@
 -- What `iter` and `next` answer under the lock of the container, and the cursors that they leave.
-use Rattle.std.specs.Prelude.{◌≡◌, ◌≢◌, ℕ, Option, Some, None, false}
+use Rattle.std.specs.Prelude.{◌≡◌, ◌≢◌, ℕ, Option, Some, None, false, Bool, true}
 use Rattle.ft_model.specs.declared.call.Call.{Call}
 use Rattle.ft_model.specs.declared.call.Call.TheVariants as call
 use Rattle.ft_model.specs.declared.call.DictCall.TheVariants as dict
@@ -12,8 +12,8 @@ use Rattle.ft_model.specs.declared.cursor.CursorState.TheVariants as walk
 use Rattle.ft_model.specs.declared.reply.Reply.{Reply}
 use Rattle.ft_model.specs.declared.script.Kind.{Kind}
 use Rattle.ft_model.specs.declared.script.Kind.TheVariants as kind
-use Rattle.ft_model.specs.Cursors.{CursorStep, dict_next, list_next, set_next}
-use Rattle.ft_model.specs.Worlds.{container_of, cursor_kind, dict_of, list_of, set_of}
+use Rattle.ft_model.specs.Cursors.{CursorStep, dict_next, list_next, set_next, deque_next, dict_back_next, list_back_next}
+use Rattle.ft_model.specs.Worlds.{container_of, cursor_kind, dict_of, list_of, set_of, deque_of}
 use Rattle.ft_trace.specs.declared.View.{View}
 use Rattle.ft_trace.specs.Hands.{cursor_in}
 use Rattle.ft_bank.specs.Answered.{AnsweredCursor}
@@ -23,12 +23,25 @@ use Rattle.ft_section.specs.declared.answers.Step.TheVariants as step
 use Rattle.ft_section.specs.Locking.{OnlyLocked, FoundOwner, LocksWithin}
 use Rattle.ft_section.specs.LockTakings.{IsOf}
 use Rattle.ft_trace.specs.Owners.{SameOwners}
+use Rattle.ft_model.specs.declared.call.DequeCall.TheVariants as deque
 
 -- one `next` of a cursor over a container with this content (Python manual, Iterator Types)
 abbrev pub step_in : Content → Cursor → CursorStep
 step_in c (cursor.Dict o walk size expected last) = dict_next (dict_of c).pairs o walk size expected last
 step_in c (cursor.List o index ended) = list_next (list_of c) o index ended
 step_in c (cursor.Set o walk size last) = set_next (set_of c).elements o walk size last
+step_in c (cursor.Deque o moves index) = deque_next (deque_of c) o moves index
+step_in c (cursor.DictBack o walk size last) = dict_back_next (dict_of c).pairs o walk size last
+step_in c (cursor.ListBack o index) = list_back_next (list_of c) o index
+
+-- whether the cursor is one that the bank can move so far: none of a deque and no reversed one (profile)
+abbrev pub is_landed_cursor : Cursor → Bool
+is_landed_cursor (cursor.Dict o walk size expected last) = true
+is_landed_cursor (cursor.List o index ended) = true
+is_landed_cursor (cursor.Set o walk size last) = true
+is_landed_cursor (cursor.Deque o moves index) = false
+is_landed_cursor (cursor.DictBack o walk size last) = false
+is_landed_cursor (cursor.ListBack o index) = false
 
 -- the pass took the lock of the container o, gave this reply with this stamp, which it loaded while it had it, and let
 -- go of the lock; this cursor is its own under the number then
@@ -47,9 +60,9 @@ pub record MovedUnderLock (o : ℕ) (called : Call) (said : Reply) (stamp number
 abbrev pub KeepsOtherCursors : ℕ → View → View → Type 0
 KeepsOtherCursors number v w = (other : ℕ) → other ≢ number → cursor_in other w.log ≡ cursor_in other v.log
 
--- a cursor goes over this container of this kind
+-- a cursor that the bank can move goes over this container of this kind
 abbrev pub IsOver : Kind → ℕ → Cursor → Type 0
-IsOver kind o walker = (container_of walker ≡ o) × (cursor_kind walker ≡ kind)
+IsOver kind o walker = (container_of walker ≡ o) × (cursor_kind walker ≡ kind) × (is_landed_cursor walker ≡ true)
 
 -- The call gave its reply so, and the caller has the cursor that it leaves, over the same container; or a step of it
 -- found another pass with the lock of the container, and the caller's cursor stays. It takes no table and no memory. (C
@@ -65,13 +78,15 @@ IsMoveOf kind o called number had v w (step.Moved a b) left = ⊥
 IsMoveOf kind o called number had v w step.NoMemory left = ⊥
 
 -- the call `iter` on a container of a kind, and the cursor that it makes there, where there are this many pairs, items
--- or elements (Python manual, Iterator Types)
+-- or elements (Python manual, Iterator Types); a deque of a bank was never changed yet (profile)
 abbrev pub iter_call : Kind → ℕ → ℕ → Call
 iter_call kind.Dict o number = call.Dict o (dict.Iter number)
 iter_call kind.List o number = call.List o (list.Iter number)
+iter_call (kind.Deque bound) o number = call.Deque o (deque.Iter number)
 iter_call kind.Set o number = call.Set o (set.Iter number)
 
 abbrev pub iter_cursor : Kind → ℕ → ℕ → Cursor
 iter_cursor kind.Dict o size = cursor.Dict o walk.Live size size None
 iter_cursor kind.List o size = cursor.List o 0 false
+iter_cursor (kind.Deque bound) o size = cursor.Deque o 0 0
 iter_cursor kind.Set o size = cursor.Set o walk.Live size None

@@ -15,3 +15,4 @@ IsNextOf (content.Dict dict) last given =
 IsNextOf (content.Set set) last given =
     option_map entry_of_pair given ≡ option_map used_element (next_element set.elements last)
 IsNextOf (content.List items) last given = ⊥
+IsNextOf (content.Deque deque) last given = ⊥

@@ -11,6 +11,7 @@ ghost use Rattle.ft_trace.specs.Addresses.{containers_in};
 ghost use Rattle.ft_trace.specs.Holds.{held, known};
 ghost use Rattle.ft_trace.specs.Pictures.{Stands};
 ghost use Rattle.ft_trace.specs.ContainerStates.{kind_in};
+ghost use Rattle.ft_trace.specs.Kinds.{HasVersions};
 ghost use Rattle.ft_bank.specs.Answered.{AnsweredCursor};
 ghost use Rattle.ft_bank.specs.Passes.{shape_of, view, cursor_under, IsPassOf};
 ghost use Rattle.ft_bank.specs.Reads.{IsCursorShown};
@@ -20,12 +21,14 @@ ghost use Rattle.ft_search.specs.KeyLooks.{AreLooks};
 ghost use Rattle.ft_section.specs.declared.answers.Objects.TheVariants.{One};
 ghost use Rattle.ft_section.specs.Ready.{MayTry};
 ghost use Rattle.ft_section.specs.Trying.{SectionsAfter};
-ghost use Rattle.ft_iter.specs.CursorCalls.{step_in, iter_call, iter_cursor, IsOver, IsMoveOf, KeepsOtherCursors};
+ghost use Rattle.ft_iter.specs.CursorCalls.{step_in, iter_call, iter_cursor, is_landed_cursor, IsOver, IsMoveOf, KeepsOtherCursors};
 ghost use Rattle.ft_iter.specs.Moves.{IsStep};
 
 use crate::walks::{USED, next_dict, next_list, next_set};
 use ft_bank::{Bank, Pass};
-use ft_model::{Advanced, Call, Cursor, CursorState, DictCall, Kind, ListCall, Reply, SetCall};
+use ft_model::{
+    Advanced, Call, Cursor, CursorState, DequeCall, DictCall, Kind, ListCall, Reply, SetCall,
+};
 use ft_section::{Got, Object, Objects, Stamp, Step, let_go, take_for};
 
 /// Loads the counter and answers an `iter` or a `next` with that stamp, by a pass that has the lock of the
@@ -59,7 +62,8 @@ fn answer_moved(
 fn step(bank: &Bank, pass: &mut Pass, cursor: Cursor) -> Advanced
     requires pass { IsPassOf bank.now pass.old }
     requires container { container_of cursor < containers_in (shape_of bank.now) }
-    requires kind { kind_in (shape_of bank.now).kinds (container_of cursor) ≡ cursor_kind cursor }
+    requires kind { kind_in (shape_of bank.now).starts (container_of cursor) ≡ cursor_kind cursor }
+    requires landed { is_landed_cursor cursor ≡ true }
     requires locked { has_lock (container_of cursor) (view pass.old).log ≡ true }
     requires stands { Stands (shape_of bank.now).texts (held (container_of cursor) (view pass.old)) (known (container_of cursor) (view pass.old)) }
     ensures pass { IsPassOf bank.now pass.new }
@@ -85,6 +89,7 @@ fn step(bank: &Bank, pass: &mut Pass, cursor: Cursor) -> Advanced
             size,
             last,
         } => next_set(bank, pass, container, walk, size, last),
+        Cursor::Deque { .. } | Cursor::DictBack { .. } | Cursor::ListBack { .. } => unreachable!(),
     }
 }
 
@@ -93,7 +98,8 @@ fn step(bank: &Bank, pass: &mut Pass, cursor: Cursor) -> Advanced
 fn next_locked(bank: &Bank, pass: &mut Pass, number: u32, cursor: &mut Cursor) -> (Reply, Stamp)
     requires pass { IsPassOf bank.now pass.old }
     requires container { container_of cursor.old < containers_in (shape_of bank.now) }
-    requires kind { kind_in (shape_of bank.now).kinds (container_of cursor.old) ≡ cursor_kind cursor.old }
+    requires kind { kind_in (shape_of bank.now).starts (container_of cursor.old) ≡ cursor_kind cursor.old }
+    requires landed { is_landed_cursor cursor.old ≡ true }
     requires locked { has_lock (container_of cursor.old) (view pass.old).log ≡ true }
     requires stands { Stands (shape_of bank.now).texts (held (container_of cursor.old) (view pass.old)) (known (container_of cursor.old) (view pass.old)) }
     requires left { 0 < (view pass.old).left }
@@ -122,7 +128,8 @@ fn next_locked(bank: &Bank, pass: &mut Pass, number: u32, cursor: &mut Cursor) -
 pub fn try_next(bank: &Bank, pass: &mut Pass, number: u32, cursor: &mut Cursor) -> Step
     requires may { MayTry bank.now pass.old (One (container_of cursor.old)) }
     requires container { container_of cursor.old < containers_in (shape_of bank.now) }
-    requires kind { kind_in (shape_of bank.now).kinds (container_of cursor.old) ≡ cursor_kind cursor.old }
+    requires kind { kind_in (shape_of bank.now).starts (container_of cursor.old) ≡ cursor_kind cursor.old }
+    requires landed { is_landed_cursor cursor.old ≡ true }
     requires left { 0 < (view pass.old).left }
     requires cursor { cursor_under pass.old number ≡ Some cursor.old }
     ensures may { MayTry bank.now pass.new (One (container_of cursor.old)) }
@@ -144,6 +151,7 @@ pub fn try_next(bank: &Bank, pass: &mut Pass, number: u32, cursor: &mut Cursor) 
 
 /// The cursor that `iter` makes over a container that has this many pairs, items or elements.
 fn start_of(kind: Kind, container: Object, size: u64) -> Cursor
+    requires landed { HasVersions kind }
     ensures { result ≡ iter_cursor kind container size }
 {
     match kind {
@@ -165,6 +173,7 @@ fn start_of(kind: Kind, container: Object, size: u64) -> Cursor
             size,
             last: None,
         },
+        Kind::Deque(_) => unreachable!(),
     }
 }
 
@@ -185,6 +194,10 @@ fn call_of(kind: Kind, container: Object, cursor: u32) -> Call
             container,
             call: SetCall::Iter { cursor },
         },
+        Kind::Deque(_) => Call::Deque {
+            container,
+            call: DequeCall::Iter { cursor },
+        },
     }
 }
 
@@ -199,7 +212,7 @@ fn iter_locked(
 ) -> (Reply, Stamp)
     requires pass { IsPassOf bank.now pass.old }
     requires container { o < containers_in (shape_of bank.now) }
-    requires kind { kind_in (shape_of bank.now).kinds o ≡ kind }
+    requires kind { kind_in (shape_of bank.now).starts o ≡ kind }
     requires locked { has_lock o (view pass.old).log ≡ true }
     requires stands { Stands (shape_of bank.now).texts (held o (view pass.old)) (known o (view pass.old)) }
     requires left { 0 < (view pass.old).left }
@@ -234,7 +247,7 @@ pub fn try_iter(
 ) -> Step
     requires may { MayTry bank.now pass.old (One o) }
     requires container { o < containers_in (shape_of bank.now) }
-    requires kind { kind_in (shape_of bank.now).kinds o ≡ kind }
+    requires kind { kind_in (shape_of bank.now).starts o ≡ kind }
     requires left { 0 < (view pass.old).left }
     ensures may { MayTry bank.now pass.new (One o) }
     ensures moved { IsMoveOf kind o (iter_call kind o number) number slot.old (view pass.old) (view pass.new) result slot.new }

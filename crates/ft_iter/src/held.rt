@@ -90,7 +90,7 @@ fn seek_in(
 pub(crate) fn next_of(bank: &Bank, pass: &mut Pass, o: u32, after: Option<u64>) -> Option<Pair>
     requires pass { IsPassOf bank.now pass.old }
     requires container { o < containers_in (shape_of bank.now) }
-    requires keyed { IsKeyed (kind_in (shape_of bank.now).kinds o) }
+    requires keyed { IsKeyed (kind_in (shape_of bank.now).starts o) }
     requires locked { has_lock o (view pass.old).log ≡ true }
     requires stands { Stands (shape_of bank.now).texts (held o (view pass.old)) (known o (view pass.old)) }
     ensures pass { IsPassOf bank.now pass.new }

@@ -74,7 +74,7 @@ fn walk_dict(
 ) -> Advanced
     requires pass { IsPassOf bank.now pass.old }
     requires container { container < containers_in (shape_of bank.now) }
-    requires dict { kind_in (shape_of bank.now).kinds container ≡ kind.Dict }
+    requires dict { kind_in (shape_of bank.now).starts container ≡ kind.Dict }
     requires locked { has_lock container (view pass.old).log ≡ true }
     requires stands { Stands (shape_of bank.now).texts (held container (view pass.old)) (known container (view pass.old)) }
     ensures pass { IsPassOf bank.now pass.new }
@@ -122,7 +122,7 @@ pub(crate) fn next_dict(
 ) -> Advanced
     requires pass { IsPassOf bank.now pass.old }
     requires container { container < containers_in (shape_of bank.now) }
-    requires dict { kind_in (shape_of bank.now).kinds container ≡ kind.Dict }
+    requires dict { kind_in (shape_of bank.now).starts container ≡ kind.Dict }
     requires locked { has_lock container (view pass.old).log ≡ true }
     requires stands { Stands (shape_of bank.now).texts (held container (view pass.old)) (known container (view pass.old)) }
     ensures pass { IsPassOf bank.now pass.new }
@@ -169,7 +169,7 @@ fn give_element(pair: Pair, container: u32, size: u64) -> Advanced
 fn walk_set(bank: &Bank, pass: &mut Pass, container: u32, size: u64, last: Option<u64>) -> Advanced
     requires pass { IsPassOf bank.now pass.old }
     requires container { container < containers_in (shape_of bank.now) }
-    requires set { kind_in (shape_of bank.now).kinds container ≡ kind.Set }
+    requires set { kind_in (shape_of bank.now).starts container ≡ kind.Set }
     requires locked { has_lock container (view pass.old).log ≡ true }
     requires stands { Stands (shape_of bank.now).texts (held container (view pass.old)) (known container (view pass.old)) }
     ensures pass { IsPassOf bank.now pass.new }
@@ -214,7 +214,7 @@ pub(crate) fn next_set(
 ) -> Advanced
     requires pass { IsPassOf bank.now pass.old }
     requires container { container < containers_in (shape_of bank.now) }
-    requires set { kind_in (shape_of bank.now).kinds container ≡ kind.Set }
+    requires set { kind_in (shape_of bank.now).starts container ≡ kind.Set }
     requires locked { has_lock container (view pass.old).log ≡ true }
     requires stands { Stands (shape_of bank.now).texts (held container (view pass.old)) (known container (view pass.old)) }
     ensures pass { IsPassOf bank.now pass.new }
@@ -251,7 +251,7 @@ pub(crate) fn next_list(
 ) -> Advanced
     requires pass { IsPassOf bank.now pass.old }
     requires container { container < containers_in (shape_of bank.now) }
-    requires list { kind_in (shape_of bank.now).kinds container ≡ kind.List }
+    requires list { kind_in (shape_of bank.now).starts container ≡ kind.List }
     requires locked { has_lock container (view pass.old).log ≡ true }
     requires stands { Stands (shape_of bank.now).texts (held container (view pass.old)) (known container (view pass.old)) }
     ensures pass { IsPassOf bank.now pass.new }

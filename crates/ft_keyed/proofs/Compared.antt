@@ -56,7 +56,7 @@ compared_reply k how o m is_so x y stored is is' stands stands' shows =
     truth_in how o m stored is is' ∙ ap reply.Truth (sym (shows (state_at stored o) is stands (state_at stored m) is' stands'))
 
 -- by a pass that has both locks
-pub compared_shown : (k : Shape) (how : Comparison) (o m : ℕ) (v : View) → v.shape ≡ k → ∥ Possible v ∥₁ → MayWriteEntries k o v → MayWriteEntries k m v → kind_in k.kinds o ≡ kind_compared how → kind_in k.kinds m ≡ kind_compared how
+pub compared_shown : (k : Shape) (how : Comparison) (o m : ℕ) (v : View) → v.shape ≡ k → ∥ Possible v ∥₁ → MayWriteEntries k o v → MayWriteEntries k m v → kind_in k.starts o ≡ kind_compared how → kind_in k.starts m ≡ kind_compared how
     → (is_so : Bool) → IsComparedAs k how is_so (held o v) (held m v) → IsShownBy (compared how o m) (reply.Truth is_so) v
 compared_shown k how o m v shape possible may other is is' is_so shows =
     let plain = compared_plain how o m is_so in

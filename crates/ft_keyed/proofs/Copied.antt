@@ -33,9 +33,9 @@ use Rattle.ft_search.proofs.Lengths.{IsPlain}
 use Rattle.ft_search.proofs.ReadMidst.{LeavesSections}
 use Rattle.ft_bank.specs.WriteSteps.{MayHave}
 use Rattle.ft_bank.specs.declared.pass.Pass.{Pass}
-use Rattle.ft_list.specs.Copies.{AreCopied, HasSome, TakesMemory}
-use Rattle.ft_list.specs.Indexes.{Reads}
-use Rattle.ft_list.proofs.Indexes.{reads_map}
+use Rattle.ft_reads.specs.Copies.{AreCopied, HasSome, TakesMemory}
+use Rattle.ft_reads.specs.Reads.{Reads}
+use Rattle.ft_reads.proofs.Agreeing.{reads_map}
 use Rattle.ft_keyed.specs.Items.{items_call, reply_of_used, HasEntry, IsAllIn, IsAllOf, IsItemsReply}
 use Rattle.ft_keyed.specs.TableEntries.{OfUsed, live_key, plain_pair}
 use Rattle.ft_keyed.proofs.Gathered.{elements_gathered, no_dict, no_set, of_dict, of_set, pairs_gathered}
@@ -110,7 +110,7 @@ items_sections way.Set c = λ n l sections. refl
 
 -- ---- under the lock
 
-module _ (way : Way) (k : Shape) (c : ℕ) (v : View) (shape : v.shape ≡ k) (possible : ∥ Possible v ∥₁) (may : MayWriteEntries k c v) (is : kind_in k.kinds c ≡ kind_by way) where
+module _ (way : Way) (k : Shape) (c : ℕ) (v : View) (shape : v.shape ≡ k) (possible : ∥ Possible v ∥₁) (may : MayWriteEntries k c v) (is : kind_in k.starts c ≡ kind_by way) where
   all_now : (made : Result Reply AllocError) → IsAllIn way k made (held c v) → (stored : StoredWorld) → MayHave v stored → IsAllOf made (reply_in stored (items_call way c))
   all_now made shows stored has = all_replied way k c made (held c v) stored (had_kind k c v shape possible may stored has ∙ is) (had_stands k c v shape possible may stored has) shows
 

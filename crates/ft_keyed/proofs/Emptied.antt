@@ -26,7 +26,7 @@ use Rattle.ft_trace.specs.Holds.{held, known}
 use Rattle.ft_trace.specs.Kinds.{IsKeyed, version_at}
 use Rattle.ft_trace.specs.Traces.{Possible}
 use Rattle.ft_trace.specs.Pictures.{Picture, root_in, Stands}
-use Rattle.ft_trace.specs.ContainerStates.{ContainerState, changes, kind_in, may_empty, reply_in}
+use Rattle.ft_trace.specs.ContainerStates.{ContainerState, changes, kind_in, may_empty, reply_in, kinds_in}
 use Rattle.ft_trace.proofs.Cases.{hit}
 use Rattle.ft_trace.proofs.Clearing.{held_shut}
 use Rattle.ft_bank.specs.declared.table.Table.{Table}
@@ -39,6 +39,7 @@ use Rattle.ft_search.specs.OneEntryWrites.{HasTable, Leaves, MayWriteEntries}
 use Rattle.ft_search.proofs.Calling.{plain_replied}
 use Rattle.ft_search.proofs.Changing.{kind_is}
 use Rattle.ft_keyed.specs.Clearing.{cleared, cleared_kept}
+use Rattle.ft_model.specs.declared.data.Key.{Key}
 
 -- ---- the root that was read
 
@@ -76,6 +77,7 @@ pub empty_stands : (texts : List ℕ) (words : Picture) (c : Content) → IsKeye
 empty_stands texts words (content.Dict dict) keyed head = record { head = head; used = []; table = refl; filled = refl; entries = record { live = refl; below = All-nil (λ (entry : UsedEntry). entry.serial < dict.next) } }
 empty_stands texts words (content.Set set) keyed head = record { head = head; used = []; table = refl; filled = refl; entries = record { live = refl; below = All-nil (λ (entry : UsedEntry). entry.serial < set.next) } }
 empty_stands texts words (content.List values) keyed head = absurd keyed
+empty_stands texts words (content.Deque deque) keyed head = absurd keyed
 
 no_pairs : (used : List UsedEntry) (pairs : List DictPair) → used ≡ [] → filter is_live used ≡ map used_pair pairs → pairs ≡ []
 no_pairs used [] none live = refl
@@ -85,35 +87,36 @@ no_elements : (used : List UsedEntry) (elements : List Element) → used ≡ [] 
 no_elements used [] none live = refl
 no_elements used (element ∷ elements) none live = let e = sym (ap (λ (l : List UsedEntry). filter is_live l) none) ∙ live in absurd (cc)
 
-dict_bare : (texts block words : List ℕ) (class : Option ℕ) (fill : ℕ) (dict : DictContent) → IsDictWords texts block words class fill dict → slice_index block 0 ≡ 0 → cleared_kept (record { content = content.Dict dict; table = record { class = class; fill = fill } }) ≡ record { content = content.Dict dict; table = record { class = class; fill = fill } }
-dict_bare texts block words None fill dict says bare =
+dict_bare : (texts block words : List ℕ) (class : Option ℕ) (fill : ℕ) (keys : List Key) (dict : DictContent) → keys ≡ [] → IsDictWords texts block words class fill dict → slice_index block 0 ≡ 0 → cleared_kept (record { content = content.Dict dict; table = record { class = class; fill = fill; keys = keys } }) ≡ record { content = content.Dict dict; table = record { class = class; fill = fill; keys = keys } }
+dict_bare texts block words None fill keys dict none says bare =
     let nothing = no_pairs says.used dict.pairs says.table says.entries.live in
     let zero_fill : 0 ≡ fill = ap length (sym says.table) ∙ says.filled in
-    λ i. record { content = content.Dict (record { next = dict.next; pairs = sym nothing i }); table = record { class = None; fill = zero_fill i } }
-dict_bare texts block words (Some class) fill dict says bare = absurd (let is = says.head.root.1.2 in omega (arith, is, bare))
+    λ i. record { content = content.Dict (record { next = dict.next; pairs = sym nothing i }); table = record { class = None; fill = zero_fill i; keys = sym none i } }
+dict_bare texts block words (Some class) fill keys dict none says bare = absurd (let is = says.head.root.1.2 in omega (arith, is, bare))
 
-set_bare : (texts block words : List ℕ) (class : Option ℕ) (fill : ℕ) (set : SetContent) → IsSetWords texts block words class fill set → slice_index block 0 ≡ 0 → cleared_kept (record { content = content.Set set; table = record { class = class; fill = fill } }) ≡ record { content = content.Set set; table = record { class = class; fill = fill } }
-set_bare texts block words None fill set says bare =
+set_bare : (texts block words : List ℕ) (class : Option ℕ) (fill : ℕ) (keys : List Key) (set : SetContent) → keys ≡ [] → IsSetWords texts block words class fill set → slice_index block 0 ≡ 0 → cleared_kept (record { content = content.Set set; table = record { class = class; fill = fill; keys = keys } }) ≡ record { content = content.Set set; table = record { class = class; fill = fill; keys = keys } }
+set_bare texts block words None fill keys set none says bare =
     let nothing = no_elements says.used set.elements says.table says.entries.live in
     let zero_fill : 0 ≡ fill = ap length (sym says.table) ∙ says.filled in
-    λ i. record { content = content.Set (record { next = set.next; elements = sym nothing i }); table = record { class = None; fill = zero_fill i } }
-set_bare texts block words (Some class) fill set says bare = absurd (let is = says.head.root.1.2 in omega (arith, is, bare))
+    λ i. record { content = content.Set (record { next = set.next; elements = sym nothing i }); table = record { class = None; fill = zero_fill i; keys = sym none i } }
+set_bare texts block words (Some class) fill keys set none says bare = absurd (let is = says.head.root.1.2 in omega (arith, is, bare))
 
 -- where the root names no table, a clear leaves the same
-pub bare_stays : (texts : List ℕ) (words : Picture) (kept : ContainerState) → IsKeyed (kind_of kept.content) → Stands texts words kept → root_in words ≡ 0 → cleared_kept kept ≡ kept
-bare_stays texts words kept keyed stands bare = by kept.content kept.table keyed stands
+pub bare_stays : (texts : List ℕ) (words : Picture) (kept : ContainerState) → kept.table.keys ≡ [] → IsKeyed (kind_of kept.content) → Stands texts words kept → root_in words ≡ 0 → cleared_kept kept ≡ kept
+bare_stays texts words kept unshared keyed stands bare = by kept.content kept.table unshared keyed stands
   where
-    by : (c : Content) (table : TableUse) → IsKeyed (kind_of c) → StandsAs texts words.block (0 ∷ 0 ∷ words.table) table c → cleared_kept (record { content = c; table = table }) ≡ record { content = c; table = table }
-    by (content.Dict dict) table is s = dict_bare texts words.block (0 ∷ 0 ∷ words.table) table.class table.fill dict s bare
-    by (content.Set set) table is s = set_bare texts words.block (0 ∷ 0 ∷ words.table) table.class table.fill set s bare
-    by (content.List values) table is s = absurd is
+    by : (c : Content) (table : TableUse) → table.keys ≡ [] → IsKeyed (kind_of c) → StandsAs texts words.block (0 ∷ 0 ∷ words.table) table c → cleared_kept (record { content = c; table = table }) ≡ record { content = c; table = table }
+    by (content.Dict dict) table none is s = dict_bare texts words.block (0 ∷ 0 ∷ words.table) table.class table.fill table.keys dict none s bare
+    by (content.Set set) table none is s = set_bare texts words.block (0 ∷ 0 ∷ words.table) table.class table.fill table.keys set none s bare
+    by (content.List values) table none is s = absurd is
+    by (content.Deque deque) table none is s = absurd is
 
 -- ---- the root becomes 0
 
 -- no version of an entry is odd before the write
 known_shut : (k : Shape) (v : View) (o : ℕ) → v.shape ≡ k → ∥ Possible v ∥₁ → MayWriteEntries k o v → IsShut o v
 known_shut k v o shape possible may t names p row =
-    ∥∥₁_elim {P = slice_index (held o v).table (version_at (kind_in v.shape.kinds o) (class_of t) p) % 2 ≡ 0} possible (ℕ_set _ _)
+    ∥∥₁_elim {P = slice_index (held o v).table (version_at (kind_in v.shape.starts o) (class_of t) p) % 2 ≡ 0} possible (ℕ_set _ _)
     (λ (x : Possible v). held_shut v o t (subst (λ (z : Shape). o < containers_in z) (sym shape) may.container) x may.locked may.even names p row)
 
 pub may_put_none : (k : Shape) (o : ℕ) (v s : View) (f : ℕ) → v.shape ≡ k → ∥ Possible v ∥₁ → MayWriteEntries k o v → used v.log ≡ false → s ≡ noted (StartWrite o f) v → MayPutRoot s o None
@@ -180,8 +183,9 @@ module _ (k : Shape) (o : ℕ) (table : Table) (called : Call) (f : ℕ) (v s r 
   has_before stored has = record {
     agrees = λ p low mine. has.agrees p (subst (λ (z : Shape). p < containers_in z) (sym shape_then) low) (locks_then p ∙ mine) ∙ known_then p;
     containers = has.containers ∙ ap containers_in shape_then;
-    kinds = has.kinds ∙ ap (λ (z : Shape). z.kinds) shape_then;
+    kinds = has.kinds ∙ ap (λ (z : Shape). kinds_in z.starts) shape_then;
     order = has.order;
+    unsplit = has.unsplit;
     words = has.words;
   }
 

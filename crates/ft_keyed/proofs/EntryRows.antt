@@ -143,6 +143,7 @@ entries_of k x kept t keyed stands names = by kept.content keyed stands
         let says = subst (λ (z : Option ℕ). IsSetWords k.texts x.block (0 ∷ 0 ∷ x.table) z kept.table.fill set) class_eq s in
         (way.Set, (says.used, says.table, says.filled ∙ sym says.head.fill_is, says.entries))
     by (content.List values) is s = absurd is
+    by (content.Deque deque) is s = absurd is
 
 -- ---- a table has no such place
 

@@ -107,6 +107,7 @@ module _ (k : Shape) (t fill : ℕ) (x : Picture) (holds : List UsedEntry → Ty
           let says = subst (λ (z : Option ℕ). IsDictWords k.texts x.block (0 ∷ 0 ∷ x.table) z kept.table.fill dict) (class_known k.texts x kept t stands names) s in
           f says.used dict says.entries (stands_for_dict k.texts x.block (0 ∷ 0 ∷ x.table) (Some (class_of t)) kept.table.fill dict says) (of_used names way.Dict says.used says.table (filled ∙ (says.head.fill_is ∙ sym says.filled)))
       by (content.List values) e s = absurd (cc)
+      by (content.Deque deque) e s = absurd (cc)
       by (content.Set set) e s = absurd (cc)
 
   -- a set has no more entries than its table has room for
@@ -120,6 +121,7 @@ module _ (k : Shape) (t fill : ℕ) (x : Picture) (holds : List UsedEntry → Ty
           let all : set_room (class_mask (class_of t)) ≡ set_entries (class_of t) = set_room_is (class_of t) in
           f says.used set says.entries (stands_for_set k.texts x.block (0 ∷ 0 ∷ x.table) (Some (class_of t)) kept.table.fill set says) (omega (arith, few, all)) (of_used names way.Set says.used says.table (filled ∙ (says.head.fill_is ∙ sym says.filled)))
       by (content.List values) e s = absurd (cc)
+      by (content.Deque deque) e s = absurd (cc)
       by (content.Dict dict) e s = absurd (cc)
 
   pub of_set : (then : SetContent → Type 0) → ((used : List UsedEntry) (set : SetContent) → AreSetEntries used set → IsSet set.next set.elements → holds used → then set) → IsOfSet k then x
@@ -136,6 +138,7 @@ module _ (k : Shape) (x : Picture) (bare : root_in x ≡ 0) where
       by : (c : Content) → kind_of c ≡ kind.Dict → length_of c ≡ 0 → then (dict_of c)
       by (content.Dict dict) e none = f dict (no_items dict.pairs none)
       by (content.List values) e none = absurd (cc)
+      by (content.Deque deque) e none = absurd (cc)
       by (content.Set set) e none = absurd (cc)
 
   pub no_set : (then : SetContent → Type 0) → ((set : SetContent) → set.elements ≡ [] → then set) → IsOfSet k then x
@@ -144,4 +147,5 @@ module _ (k : Shape) (x : Picture) (bare : root_in x ≡ 0) where
       by : (c : Content) → kind_of c ≡ kind.Set → length_of c ≡ 0 → then (set_of c)
       by (content.Set set) e none = f set (no_items set.elements none)
       by (content.List values) e none = absurd (cc)
+      by (content.Deque deque) e none = absurd (cc)
       by (content.Dict dict) e none = absurd (cc)

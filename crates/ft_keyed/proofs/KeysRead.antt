@@ -46,12 +46,14 @@ dict_has : (x : Content) (key : Key) (read : Option (ℕ × ℕ)) → kind_of x 
 dict_has (content.Dict dict) key (Some words) is fits each h = any_found (is_at key) dict.pairs ∙ ap is_some (looked.there dict key fits each (some_words (under (content.Dict dict) key) words.0 words.1 h.0 h.1)).1
 dict_has (content.Dict dict) key None is fits each h = h
 dict_has (content.List values) key read is fits each h = absurd h
+dict_has (content.Deque deque) key read is fits each h = absurd h
 dict_has (content.Set set) key read is fits each h = absurd (cc)
 
 set_has : (x : Content) (key : Key) (read : Option (ℕ × ℕ)) → kind_of x ≡ kind.Set → FitsKey key → FitsContent x → IsHeldAt x key read → has_element (set_of x).elements key ≡ is_some read
 set_has (content.Set set) key (Some words) is fits each h = looked.element_there set key fits each (some_words (under (content.Set set) key) words.0 words.1 h.0 h.1)
 set_has (content.Set set) key None is fits each h = h
 set_has (content.List values) key read is fits each h = absurd h
+set_has (content.Deque deque) key read is fits each h = absurd h
 set_has (content.Dict dict) key read is fits each h = absurd (cc)
 
 pub has_sections : (way : Way) (c : ℕ) (key : Key) → LeavesSections (has_call way c key)
@@ -69,7 +71,7 @@ module _ (k : Shape) (c : ℕ) (key : Key) (read : Option (ℕ × ℕ)) (v u : V
     here : (state_at stored c).content ≡ (known c v).content
     here = ap (λ (z : ContainerState). z.content) (may.agrees c within (loaded.work.pass.locks c ∙ locked)) ∙ ap (λ (z : ContainerState). z.content) (work_knows v u c loaded.work)
 
-    kind_here : kind_of (state_at stored c).content ≡ kind_in k.kinds c
+    kind_here : kind_of (state_at stored c).content ≡ kind_in k.starts c
     kind_here = ap kind_of here ∙ kind_is k v c shape possible locked
 
     each : FitsContent (state_at stored c).content
@@ -78,7 +80,7 @@ module _ (k : Shape) (c : ℕ) (key : Key) (read : Option (ℕ × ℕ)) (v u : V
     held_here : IsHeldAt (state_at stored c).content key read
     held_here = subst (λ (z : Content). IsHeldAt z key read) (sym here) held
 
-    replied : (way : Way) → kind_in k.kinds c ≡ kind_by way → reply_in stored (has_call way c key) ≡ reply.Truth (is_some read)
+    replied : (way : Way) → kind_in k.starts c ≡ kind_by way → reply_in stored (has_call way c key) ≡ reply.Truth (is_some read)
     replied way.Dict is =
         let at = kind_here ∙ is in
         ap (λ (z : DictContent). reply.Truth (has_key z.pairs key)) (dict_there stored.world c at) ∙ ap reply.Truth (dict_has (state_at stored c).content key read at fits each held_here)
@@ -86,6 +88,6 @@ module _ (k : Shape) (c : ℕ) (key : Key) (read : Option (ℕ × ℕ)) (v u : V
         let at = kind_here ∙ is in
         ap (λ (z : SetContent). reply.Truth (has_element z.elements key)) (set_there stored.world c at) ∙ ap reply.Truth (set_has (state_at stored c).content key read at fits each held_here)
 
-  pub has_shown : (way : Way) → kind_in k.kinds c ≡ kind_by way → IsShown w (has_call way c key) (reply.Truth (is_some read)) n
+  pub has_shown : (way : Way) → kind_in k.starts c ≡ kind_by way → IsShown w (has_call way c key) (reply.Truth (is_some read)) n
   has_shown way.Dict is = held_shown v u n loaded left (call.Dict c (dict.Has key)) (reply.Truth (is_some read)) refl refl (λ stored may. inr (sym (replied stored may way.Dict is))) (λ stored. refl)
   has_shown way.Set is = held_shown v u n loaded left (call.Set c (set.Has key)) (reply.Truth (is_some read)) refl refl (λ stored may. inr (sym (replied stored may way.Set is))) (λ stored. refl)

@@ -14,7 +14,7 @@ use Rattle.ft_trace.specs.Addresses.{containers_in}
 use Rattle.ft_trace.specs.Holds.{held}
 use Rattle.ft_trace.specs.Traces.{Possible}
 use Rattle.ft_trace.specs.Pictures.{Picture, Stands}
-use Rattle.ft_trace.specs.ContainerStates.{ContainerState, state_at, kind_in}
+use Rattle.ft_trace.specs.ContainerStates.{ContainerState, state_at, kind_in, kinds_in}
 use Rattle.ft_bank.specs.declared.pass.Pass.{Pass}
 use Rattle.ft_bank.specs.Passes.{view}
 use Rattle.ft_bank.specs.Whole.{OnlyLoaded}
@@ -24,9 +24,9 @@ use Rattle.ft_search.specs.MadeCalls.{IsShownBy}
 use Rattle.ft_search.specs.OneEntryWrites.{MayWriteEntries}
 use Rattle.ft_search.proofs.Changing.{kind_is}
 use Rattle.ft_search.proofs.Spotting.{may_loaded}
-use Rattle.ft_list.specs.Indexes.{Reads}
-use Rattle.ft_list.specs.Pairs.{ReadsBoth}
-use Rattle.ft_list.proofs.Indexes.{reads_loaded}
+use Rattle.ft_reads.specs.Reads.{Reads}
+use Rattle.ft_reads.specs.Pairs.{ReadsBoth}
+use Rattle.ft_reads.proofs.Agreeing.{reads_loaded}
 
 -- ---- what was read
 
@@ -51,7 +51,7 @@ module _ (k : Shape) (o : ℕ) (v : View) (shape : v.shape ≡ k) (possible : �
   low : o < containers_in v.shape
   low = subst (λ (z : Shape). o < containers_in z) (sym shape) may.container
 
-  pub had_kind : kind_of (state_at stored o).content ≡ kind_in k.kinds o
+  pub had_kind : kind_of (state_at stored o).content ≡ kind_in k.starts o
   had_kind = ap (λ (z : ContainerState). kind_of z.content) (has.agrees o low may.locked) ∙ kind_is k v o shape possible may.locked
 
   pub had_stands : Stands k.texts (held o v) (state_at stored o)
@@ -85,6 +85,7 @@ shown_then called said v u l s = record {
       agrees = λ p low mine. has.agrees p (subst (λ (z : Shape). p < containers_in z) (sym l.work.pass.shape) low) (l.work.pass.locks p ∙ mine) ∙ work_knows v u p l.work;
       containers = has.containers ∙ ap containers_in l.work.pass.shape;
       order = has.order;
-      kinds = has.kinds ∙ ap (λ (z : Shape). z.kinds) l.work.pass.shape;
+      kinds = has.kinds ∙ ap (λ (z : Shape). kinds_in z.starts) l.work.pass.shape;
+      unsplit = has.unsplit;
       words = has.words;
     }

@@ -18,8 +18,8 @@ use Rattle.ft_search.specs.TableWords.{MadeAccess}
 use Rattle.ft_search.proofs.KnownTableWords.{after_header, entry_after_header}
 use Rattle.ft_search.proofs.WordPlaces.{entry_is}
 use Rattle.ft_search.proofs.Running.{ran}
-use Rattle.ft_list.specs.Indexes.{Reads}
-use Rattle.ft_list.proofs.Indexes.{reads_map, reads_none, reads_table, reads_then}
+use Rattle.ft_reads.specs.Reads.{Reads}
+use Rattle.ft_reads.proofs.Agreeing.{reads_map, reads_none, reads_table, reads_then}
 
 -- the table is one of the bank, and this its last slot
 abbrev pub IsMaskOf : Shape → Table → ℕ → Type 0

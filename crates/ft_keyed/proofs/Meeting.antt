@@ -11,9 +11,9 @@ use Rattle.ft_model.specs.Keys.{is_value}
 use Rattle.ft_model.specs.Worlds.{dict_of, set_of}
 use Rattle.ft_trace.specs.declared.Shape.{Shape}
 use Rattle.ft_bank.specs.declared.pass.Pass.{Pass}
-use Rattle.ft_list.specs.Indexes.{Reads}
-use Rattle.ft_list.specs.Pairs.{ReadsBoth}
-use Rattle.ft_list.proofs.Both.{both_map, both_then, of_first, of_second}
+use Rattle.ft_reads.specs.Reads.{Reads}
+use Rattle.ft_reads.specs.Pairs.{ReadsBoth}
+use Rattle.ft_reads.proofs.Both.{both_map, both_then, of_first, of_second}
 use Rattle.ft_keyed.specs.Comparing.{DiffersAt, IsValueIn, MeetsAt, WithDict, WithSet, is_met, lacks_value}
 use Rattle.ft_keyed.specs.TableEntries.{HashIs, IsKeyAt, IsPlainAt, OfUsed}
 use Rattle.ft_keyed.specs.FoundKeys.{IsFoundIn}

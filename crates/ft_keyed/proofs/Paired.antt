@@ -26,8 +26,8 @@ use Rattle.ft_trace.specs.declared.Shape.{Shape}
 use Rattle.ft_trace.specs.Pictures.{Picture, Stands}
 use Rattle.ft_trace.specs.ContainerStates.{ContainerState}
 use Rattle.ft_bank.specs.declared.pass.Pass.{Pass}
-use Rattle.ft_list.specs.Pairs.{ReadsBoth}
-use Rattle.ft_list.proofs.Indexes.{reads_none}
+use Rattle.ft_reads.specs.Pairs.{ReadsBoth}
+use Rattle.ft_reads.proofs.Agreeing.{reads_none}
 use Rattle.ft_keyed.specs.Comparing.{lacks_value}
 use Rattle.ft_keyed.specs.TableEntries.{live_key, plain_pair, plain_with}
 use Rattle.ft_keyed.specs.FoundKeys.{IsAtKey}
@@ -117,6 +117,7 @@ pub at_set : (c : Content) (key : Key) (read : Option (ℕ × ℕ)) → kind_of 
 at_set (content.Set set) key read is at = at
 at_set (content.Dict dict) key read is at = absurd (cc)
 at_set (content.List values) key read is at = absurd (cc)
+at_set (content.Deque deque) key read is at = absurd (cc)
 
 -- ---- dicts
 
@@ -157,6 +158,7 @@ dict_is k x kept is stands = by kept.content is stands
     by : (c : Content) → kind_of c ≡ kind.Dict → StandsAs k.texts x.block (0 ∷ 0 ∷ x.table) kept.table c → IsDict (dict_of c).next (dict_of c).pairs
     by (content.Dict dict) e s = stands_for_dict k.texts x.block (0 ∷ 0 ∷ x.table) kept.table.class kept.table.fill dict s
     by (content.List values) e s = absurd (cc)
+    by (content.Deque deque) e s = absurd (cc)
     by (content.Set set) e s = absurd (cc)
 
 -- a key and what was read at it there
@@ -165,6 +167,7 @@ at_dict (content.Dict dict) key None is at found none some = at ∙ sym (none re
 at_dict (content.Dict dict) key (Some read) is at found none some = at.1 ∙ sym (some read.0 read.1 refl at.0 at.2)
 at_dict (content.Set set) key read is at found none some = absurd (cc)
 at_dict (content.List values) key read is at found none some = absurd (cc)
+at_dict (content.Deque deque) key read is at found none some = absurd (cc)
 
 -- ---- reads of two containers
 

@@ -9,8 +9,8 @@ use Rattle.ft_model.specs.declared.data.Key.{Key}
 use Rattle.ft_model.specs.declared.data.Value.{Value}
 use Rattle.ft_trace.specs.declared.Shape.{Shape}
 use Rattle.ft_bank.specs.declared.pass.Pass.{Pass}
-use Rattle.ft_list.specs.Indexes.{Reads}
-use Rattle.ft_list.proofs.Indexes.{reads_map, reads_none, reads_then}
+use Rattle.ft_reads.specs.Reads.{Reads}
+use Rattle.ft_reads.proofs.Agreeing.{reads_map, reads_none, reads_then}
 use Rattle.ft_keyed.specs.TableEntries.{IsKeyAt, IsPlainAt, KeyIs, OfUsed, PlainIs, live_key}
 use Rattle.ft_keyed.specs.Places.{NoneThere}
 

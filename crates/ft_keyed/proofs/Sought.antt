@@ -117,9 +117,11 @@ module _ (laws : EntryLaws) (k : Shape) (x : Picture) (how : Way) (key : Key) (k
       by way.Dict (content.Dict dict) e s = not_found dict.pairs key (dict_bare laws.missing_key k.texts x.block (0 ∷ 0 ∷ x.table) kept.table.class kept.table.fill dict key s bare)
       by way.Dict (content.Set set) e s = absurd (cc)
       by way.Dict (content.List values) e s = absurd (cc)
+      by way.Dict (content.Deque deque) e s = absurd (cc)
       by way.Set (content.Set set) e s = set_bare laws.missing_element k.texts x.block (0 ∷ 0 ∷ x.table) kept.table.class kept.table.fill set key s bare
       by way.Set (content.Dict dict) e s = absurd (cc)
       by way.Set (content.List values) e s = absurd (cc)
+      by way.Set (content.Deque deque) e s = absurd (cc)
 
   pub sought_table : (table : Table) → IsTableIn k table → hash_of k.texts key < 2 ^ 64 → root_in x ≡ suc (name_of table) → (read : Option (ℕ × ℕ)) → SearchesTable table how (hash_of k.texts key) key read x → IsAtKey kept.content key read
   sought_table table is_in low names read searches = by how kept.content is stands (searches names)
@@ -131,6 +133,8 @@ module _ (laws : EntryLaws) (k : Shape) (x : Picture) (how : Way) (key : Key) (k
       by way.Dict (content.Dict dict) e s f = dict_found laws k table.class kept.table.fill x key low read dict (subst (λ (z : Option ℕ). IsDictWords k.texts x.block (0 ∷ 0 ∷ x.table) z kept.table.fill dict) class_eq s) f
       by way.Dict (content.Set set) e s f = absurd (cc)
       by way.Dict (content.List values) e s f = absurd (cc)
+      by way.Dict (content.Deque deque) e s f = absurd (cc)
       by way.Set (content.Set set) e s f = set_found laws k table.class kept.table.fill x key low read set (subst (λ (z : Option ℕ). IsSetWords k.texts x.block (0 ∷ 0 ∷ x.table) z kept.table.fill set) class_eq s) f
       by way.Set (content.Dict dict) e s f = absurd (cc)
       by way.Set (content.List values) e s f = absurd (cc)
+      by way.Set (content.Deque deque) e s f = absurd (cc)

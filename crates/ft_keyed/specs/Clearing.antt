@@ -29,6 +29,7 @@ abbrev pub cleared : Content → Content
 cleared (content.Dict dict) = content.Dict (dict_clear dict)
 cleared (content.Set set) = content.Set (set_clear set)
 cleared (content.List values) = content.List values
+cleared (content.Deque deque) = content.Deque deque
 
 -- and it has no table (profile)
 abbrev pub cleared_kept : ContainerState → ContainerState

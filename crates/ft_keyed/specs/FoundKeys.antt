@@ -42,6 +42,7 @@ IsAtKey (content.Dict dict) key (Some read) =
     (value : Value) × (dict_get dict.pairs key ≡ Some value) × IsStored read.0 read.1 (Plain value)
 IsAtKey (content.Set set) key read = has_element set.elements key ≡ is_some read
 IsAtKey (content.List values) key read = ⊥
+IsAtKey (content.Deque deque) key read = ⊥
 
 -- where this is the key's hash, and these words stand for a dict or a set that is searched this way
 abbrev pub IsFoundIn : Shape → Way → ℕ → Key → Option (ℕ × ℕ) → Picture → Type 0

@@ -18,7 +18,7 @@ use Rattle.ft_model.specs.Answers.{items_of}
 use Rattle.ft_model.specs.Contents.{DictContent, SetContent}
 use Rattle.ft_trace.specs.declared.Shape.{Shape}
 use Rattle.ft_trace.specs.Pictures.{Picture}
-use Rattle.ft_list.specs.Copies.{HasSome}
+use Rattle.ft_reads.specs.Copies.{HasSome}
 use Rattle.ft_keyed.specs.ShownContents.{IsOfDict, IsOfSet}
 use Rattle.ft_keyed.specs.TableEntries.{live_key, plain_pair}
 

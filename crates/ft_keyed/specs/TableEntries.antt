@@ -61,3 +61,4 @@ abbrev pub AreEntriesOf : List UsedEntry → Content → Type 0
 AreEntriesOf used (content.Dict dict) = AreDictEntries used dict
 AreEntriesOf used (content.Set set) = AreSetEntries used set
 AreEntriesOf used (content.List values) = ⊥
+AreEntriesOf used (content.Deque deque) = ⊥

@@ -12,7 +12,7 @@ ghost use Rattle.ft_bank.specs.PassSections.{stack_of};
 ghost use Rattle.ft_bank.specs.Whole.{OnlyLoaded, OnlyPut, Wrote};
 ghost use Rattle.ft_bank.specs.WriteSteps.{with_block};
 ghost use Rattle.ft_search.specs.OneEntryWrites.{HasTable, Leaves, MayWriteEntries};
-ghost use Rattle.ft_list.specs.Clears.{IsCleared};
+ghost use Rattle.ft_reads.specs.Clears.{IsCleared};
 ghost use Rattle.ft_keyed.specs.Clearing.{HasRootOf, cleared_kept};
 
 use ft_bank::{Bank, Pass, Table};

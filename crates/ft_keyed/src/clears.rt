@@ -11,7 +11,7 @@ ghost use Rattle.ft_section.specs.Trying.{SectionsAfter};
 ghost use Rattle.ft_growth.specs.Adding.{KeepsCursors};
 ghost use Rattle.ft_search.specs.OneEntryWrites.{MayWriteEntries};
 ghost use Rattle.ft_search.specs.Rounds.{kind_by};
-ghost use Rattle.ft_list.specs.Clears.{IsCleared, IsClearOf};
+ghost use Rattle.ft_reads.specs.Clears.{IsCleared, IsClearOf};
 ghost use Rattle.ft_keyed.specs.Clearing.{clear_call};
 
 use crate::clearing::clear_keyed;
@@ -41,7 +41,7 @@ fn clearing_call(way: Way, container: Object) -> Call
 pub fn clear_as(bank: &Bank, pass: &mut Pass, way: Way, c: Object) -> Stamp
     requires pass { IsPassOf bank.now pass.old }
     requires may { MayWriteEntries (shape_of bank.now) c (view pass.old) }
-    requires kind { kind_in (shape_of bank.now).kinds c ≡ kind_by way }
+    requires kind { kind_in (shape_of bank.now).starts c ≡ kind_by way }
     requires used { used (view pass.old).log ≡ false }
     requires idle { flight (view pass.old).log ≡ 0 }
     ensures pass { IsPassOf bank.now pass.new }
@@ -62,7 +62,7 @@ pub fn clear_as(bank: &Bank, pass: &mut Pass, way: Way, c: Object) -> Stamp
 pub fn try_clear_as(bank: &Bank, pass: &mut Pass, way: Way, c: Object) -> Step
     requires may { MayTry bank.now pass.old (One c) }
     requires container { c < containers_in (shape_of bank.now) }
-    requires kind { kind_in (shape_of bank.now).kinds c ≡ kind_by way }
+    requires kind { kind_in (shape_of bank.now).starts c ≡ kind_by way }
     requires left { 0 < (view pass.old).left }
     ensures may { MayTry bank.now pass.new (One c) }
     ensures tried { IsClearOf c (clear_call way c) (view pass.old) (view pass.new) result }

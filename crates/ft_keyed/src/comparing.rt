@@ -11,8 +11,8 @@ ghost use Rattle.ft_trace.specs.Addresses.{containers_in};
 ghost use Rattle.ft_bank.specs.Passes.{shape_of, IsPassOf};
 ghost use Rattle.ft_bank.specs.PassSections.{stack_of};
 ghost use Rattle.ft_bank.specs.TableNames.{name_of, IsTableIn};
-ghost use Rattle.ft_list.specs.Indexes.{Reads};
-ghost use Rattle.ft_list.specs.Pairs.{ReadsBoth};
+ghost use Rattle.ft_reads.specs.Reads.{Reads};
+ghost use Rattle.ft_reads.specs.Pairs.{ReadsBoth};
 ghost use Rattle.ft_keyed.specs.Comparing.{AreOfDicts, AreOfSets, DiffersAt, IsValueIn, MeetsAt};
 ghost use Rattle.ft_keyed.specs.Comparing.{WithDict, WithSet, is_met, lacks_value};
 ghost use Rattle.ft_keyed.specs.TableEntries.{live_key, plain_pair};
@@ -165,7 +165,7 @@ fn find_value(bank: &Bank, pass: &mut Pass, d: Object, key: Key, hash: u64) -> O
 }
 
 /// Whether this is the value that was found.
-#[tactic(auto, using(ft_list::proofs::Equal::value_equal))]
+#[tactic(auto, using(ft_reads::proofs::Equal::value_equal))]
 fn is_that(found: Option<Value>, value: Value) -> bool
     ensures { result ≡ option_map_or (λ (v : Value). is_value v value) found false }
 {

@@ -12,13 +12,13 @@ ghost use Rattle.ft_section.specs.Ready.{MayTry};
 ghost use Rattle.ft_section.specs.Trying.{SectionsAfter};
 ghost use Rattle.ft_search.specs.MadeCalls.{MadeAs, IsMadeOf};
 ghost use Rattle.ft_search.specs.OneEntryWrites.{MayWriteEntries};
-ghost use Rattle.ft_list.specs.Glances.{SawBoth};
-ghost use Rattle.ft_list.specs.Pairs.{IsGlanceOfBoth, ReadsBoth};
+ghost use Rattle.ft_reads.specs.Glances.{SawBoth};
+ghost use Rattle.ft_reads.specs.Pairs.{IsGlanceOfBoth, ReadsBoth};
 ghost use Rattle.ft_keyed.specs.Comparisons.{IsComparedAs, compared, kind_compared};
 
 use crate::comparing::{are_same_dicts, are_same_sets, is_apart, is_within};
 use ft_bank::{Bank, Pass};
-use ft_list::Window;
+use ft_reads::Window;
 use ft_model::{Call, DictCall, Reply, SetCall};
 use ft_search::{answer_look, answer_made};
 use ft_section::{Got, Look, Object, Objects, Stamp, Step, let_go, take_for};
@@ -92,8 +92,8 @@ fn compare_locked(
     requires pass { IsPassOf bank.now pass.old }
     requires may { MayWriteEntries (shape_of bank.now) c (view pass.old) }
     requires other { MayWriteEntries (shape_of bank.now) other (view pass.old) }
-    requires kind { kind_in (shape_of bank.now).kinds c ≡ kind_compared how }
-    requires other_kind { kind_in (shape_of bank.now).kinds other ≡ kind_compared how }
+    requires kind { kind_in (shape_of bank.now).starts c ≡ kind_compared how }
+    requires other_kind { kind_in (shape_of bank.now).starts other ≡ kind_compared how }
     ensures pass { IsPassOf bank.now pass.new }
     ensures stack { stack_of pass.new ≡ stack_of pass.old }
     ensures made { MadeAs (compared how c other) result.0 result.1 (view pass.old) (view pass.new) }
@@ -121,8 +121,8 @@ pub fn try_comparison(
     requires may { MayTry bank.now pass.old (Two c other) }
     requires container { c < containers_in (shape_of bank.now) }
     requires other { other < containers_in (shape_of bank.now) }
-    requires kind { kind_in (shape_of bank.now).kinds c ≡ kind_compared how }
-    requires other_kind { kind_in (shape_of bank.now).kinds other ≡ kind_compared how }
+    requires kind { kind_in (shape_of bank.now).starts c ≡ kind_compared how }
+    requires other_kind { kind_in (shape_of bank.now).starts other ≡ kind_compared how }
     requires left { 0 < (view pass.old).left }
     ensures may { MayTry bank.now pass.new (Two c other) }
     ensures made { IsMadeOf (Two c other) (compared how c other) (view pass.old) (view pass.new) result }
@@ -193,8 +193,8 @@ pub fn look_comparison(
     requires pass { IsPassOf bank.now pass.old }
     requires container { c < containers_in (shape_of bank.now) }
     requires other { other < containers_in (shape_of bank.now) }
-    requires kind { kind_in (shape_of bank.now).kinds c ≡ kind_compared how }
-    requires other_kind { kind_in (shape_of bank.now).kinds other ≡ kind_compared how }
+    requires kind { kind_in (shape_of bank.now).starts c ≡ kind_compared how }
+    requires other_kind { kind_in (shape_of bank.now).starts other ≡ kind_compared how }
     requires left { 0 < (view pass.old).left }
     ensures pass { IsPassOf bank.now pass.new }
     ensures sections { stack_of pass.new ≡ stack_of pass.old }

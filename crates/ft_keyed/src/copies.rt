@@ -6,8 +6,8 @@ ghost use Rattle.ft_trace.specs.Addresses.{containers_in};
 ghost use Rattle.ft_bank.specs.Passes.{shape_of, IsPassOf};
 ghost use Rattle.ft_bank.specs.PassSections.{stack_of};
 ghost use Rattle.ft_bank.specs.TableNames.{name_of, IsTableIn};
-ghost use Rattle.ft_list.specs.Indexes.{Reads};
-ghost use Rattle.ft_list.specs.Copies.{AreCopied};
+ghost use Rattle.ft_reads.specs.Reads.{Reads};
+ghost use Rattle.ft_reads.specs.Copies.{AreCopied};
 ghost use Rattle.ft_keyed.specs.TableEntries.{OfUsed, live_key, plain_pair};
 ghost use Rattle.ft_keyed.specs.Items.{reply_of_used, IsAllIn, IsAllOf, IsItemsReply};
 

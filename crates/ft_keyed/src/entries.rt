@@ -9,7 +9,7 @@ ghost use Rattle.ft_trace.specs.Pictures.{entry_field, root_in};
 ghost use Rattle.ft_bank.specs.Passes.{shape_of, IsPassOf};
 ghost use Rattle.ft_bank.specs.PassSections.{stack_of};
 ghost use Rattle.ft_bank.specs.TableNames.{name_of, IsTableIn};
-ghost use Rattle.ft_list.specs.Indexes.{Reads};
+ghost use Rattle.ft_reads.specs.Reads.{Reads};
 ghost use Rattle.ft_keyed.specs.TableEntries.{HashIs, IsKeyAt, IsPlainAt, OfUsed};
 
 use crate::values::value_of;

@@ -11,7 +11,7 @@ ghost use Rattle.ft_bank.specs.PassSections.{stack_of};
 ghost use Rattle.ft_bank.specs.TableNames.{IsTableIn};
 ghost use Rattle.ft_search.specs.Held.{ReadsEntry};
 ghost use Rattle.ft_search.specs.TableWords.{CanLoad, MadeAccess, SamePlace};
-ghost use Rattle.ft_list.specs.Indexes.{Reads};
+ghost use Rattle.ft_reads.specs.Reads.{Reads};
 ghost use Rattle.ft_keyed.specs.FoundKeys.{IsFoundIn, SearchesTable};
 
 use ft_bank::{Bank, Pass, Table};

@@ -9,14 +9,14 @@ ghost use Rattle.ft_section.specs.Ready.{MayTry};
 ghost use Rattle.ft_section.specs.Trying.{SectionsAfter};
 ghost use Rattle.ft_search.specs.OneEntryWrites.{MayWriteEntries};
 ghost use Rattle.ft_search.specs.Rounds.{kind_by};
-ghost use Rattle.ft_list.specs.Copies.{IsCopied, IsCopyOf};
-ghost use Rattle.ft_list.specs.Glances.{Saw, IsCopyGlanceOf};
+ghost use Rattle.ft_reads.specs.Copies.{IsCopied, IsCopyOf};
+ghost use Rattle.ft_reads.specs.Glances.{Saw, IsCopyGlanceOf};
 ghost use Rattle.ft_keyed.specs.Items.{items_call, HasEntry, IsAllIn, IsItemsReply};
 
 use crate::copies::copy_all;
 use ft_bank::{Bank, Pass};
 use ft_keys::Way;
-use ft_list::Window;
+use ft_reads::Window;
 use ft_model::{Call, DictCall, Reply, SetCall};
 use ft_search::{answer_look, answer_made};
 use ft_section::{Got, Look, Object, Objects, Stamp, Step, let_go, take_for};
@@ -49,7 +49,7 @@ fn items_locked(
 ) -> Result<(Reply, Stamp), AllocError>
     requires pass { IsPassOf bank.now pass.old }
     requires may { MayWriteEntries (shape_of bank.now) c (view pass.old) }
-    requires kind { kind_in (shape_of bank.now).kinds c ≡ kind_by way }
+    requires kind { kind_in (shape_of bank.now).starts c ≡ kind_by way }
     ensures pass { IsPassOf bank.now pass.new }
     ensures stack { stack_of pass.new ≡ stack_of pass.old }
     ensures copied { IsCopied (items_call way c) (view pass.old) (view pass.new) result }
@@ -69,7 +69,7 @@ fn items_locked(
 pub fn try_all_items(bank: &Bank, pass: &mut Pass, alloc: Global, way: Way, c: Object) -> Step
     requires may { MayTry bank.now pass.old (One c) }
     requires container { c < containers_in (shape_of bank.now) }
-    requires kind { kind_in (shape_of bank.now).kinds c ≡ kind_by way }
+    requires kind { kind_in (shape_of bank.now).starts c ≡ kind_by way }
     requires left { 0 < (view pass.old).left }
     ensures may { MayTry bank.now pass.new (One c) }
     ensures made { IsCopyOf (One c) (items_call way c) (view pass.old) (view pass.new) result }
@@ -126,7 +126,7 @@ fn copy_between(
 pub fn look_all_items(bank: &Bank, pass: &mut Pass, alloc: Global, way: Way, c: Object) -> Look
     requires pass { IsPassOf bank.now pass.old }
     requires container { c < containers_in (shape_of bank.now) }
-    requires kind { kind_in (shape_of bank.now).kinds c ≡ kind_by way }
+    requires kind { kind_in (shape_of bank.now).starts c ≡ kind_by way }
     requires left { 0 < (view pass.old).left }
     ensures pass { IsPassOf bank.now pass.new }
     ensures sections { stack_of pass.new ≡ stack_of pass.old }

@@ -44,7 +44,7 @@ fn asking_call(way: Way, container: Object, key: Key) -> Call
 fn has_locked(bank: &Bank, pass: &mut Pass, way: Way, c: Object, key: Key) -> (Reply, Stamp)
     requires pass { IsPassOf bank.now pass.old }
     requires container { c < containers_in (shape_of bank.now) }
-    requires kind { kind_in (shape_of bank.now).kinds c ≡ kind_by way }
+    requires kind { kind_in (shape_of bank.now).starts c ≡ kind_by way }
     requires key { IsKeyIn (shape_of bank.now) key }
     requires locked { has_lock c (view pass.old).log ≡ true }
     requires stands { Stands (shape_of bank.now).texts (held c (view pass.old)) (known c (view pass.old)) }
@@ -69,7 +69,7 @@ fn has_locked(bank: &Bank, pass: &mut Pass, way: Way, c: Object, key: Key) -> (R
 pub fn try_has_key(bank: &Bank, pass: &mut Pass, way: Way, c: Object, key: Key) -> Step
     requires may { MayTry bank.now pass.old (One c) }
     requires container { c < containers_in (shape_of bank.now) }
-    requires kind { kind_in (shape_of bank.now).kinds c ≡ kind_by way }
+    requires kind { kind_in (shape_of bank.now).starts c ≡ kind_by way }
     requires key { IsKeyIn (shape_of bank.now) key }
     requires left { 0 < (view pass.old).left }
     ensures may { MayTry bank.now pass.new (One c) }

@@ -3,7 +3,7 @@ ghost use Rattle.std.specs.Prelude.{◌≡◌};
 ghost use Rattle.ft_bank.specs.Passes.{shape_of, IsPassOf};
 ghost use Rattle.ft_bank.specs.PassSections.{stack_of};
 ghost use Rattle.ft_bank.specs.TableNames.{name_of, IsTableIn};
-ghost use Rattle.ft_list.specs.Indexes.{Reads};
+ghost use Rattle.ft_reads.specs.Reads.{Reads};
 ghost use Rattle.ft_keyed.specs.TableEntries.{OfUsed};
 ghost use Rattle.ft_keyed.specs.Places.{IsFirst, IsLast};
 

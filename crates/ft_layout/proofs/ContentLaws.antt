@@ -190,7 +190,7 @@ stands_for_set texts block words class fill content f =
 
 -- ---- what stands for nothing
 
-no_table : (block : List ℕ) → IsBlank block → IsBlock block None 0 0 0
+pub no_table : (block : List ℕ) → IsBlank block → IsBlock block None 0 0 0
 no_table block blank = subst (λ (b : List ℕ). IsBlock b None 0 0 0) (sym blank) (record { size = refl; root = refl; count_is = refl; fill_is = refl; next_is = refl; spare = (refl, refl) })
 
 pub no_dict : (texts block words : List ℕ) → IsBlank block → IsDictWords texts block words None 0 (dict_with 0 [])

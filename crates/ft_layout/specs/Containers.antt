@@ -7,7 +7,8 @@ use Rattle.ft_model.specs.declared.content.Element.{Element}
 use Rattle.ft_model.specs.declared.content.Content.{Content}
 use Rattle.ft_model.specs.declared.content.Content.TheVariants as content
 use Rattle.ft_model.specs.Contents.{DictContent, SetContent}
-use Rattle.ft_model.specs.TableUses.{TableUse}
+use Rattle.ft_model.specs.Deques.{empty_deque}
+use Rattle.ft_model.specs.TableUses.{TableUse, no_table}
 use Rattle.ft_layout.specs.declared.slot.Stored.TheVariants.{Empty, Plain}
 use Rattle.ft_layout.specs.Words.{IsRootOf}
 use Rattle.ft_layout.specs.Tables.{UsedEntry, is_live, IsDictTable, IsSetTable, IsListTable}
@@ -91,8 +92,11 @@ pub record IsListWords (block words : List ℕ) (class : Option ℕ) (values : L
   pub head : IsBlock block class (length values) 0 0
   pub table : InListTable words class values
 
--- By its kind: the words stand for the content of a container, with this class and fill of its table.
+-- By its kind: the words stand for the content of a container, with this class and fill of its table. No words stand
+-- yet for a deque that had an item: its block is blank.
 abbrev pub StandsAs : List ℕ → List ℕ → List ℕ → TableUse → Content → Type 0
 StandsAs texts block words table (content.Dict dict) = IsDictWords texts block words table.class table.fill dict
 StandsAs texts block words table (content.Set set) = IsSetWords texts block words table.class table.fill set
 StandsAs texts block words table (content.List values) = IsListWords block words table.class values × (table.fill ≡ 0)
+StandsAs texts block words table (content.Deque deque) =
+    IsBlank block × (table ≡ no_table) × (deque ≡ empty_deque deque.bound)

@@ -57,7 +57,8 @@ pub fn list_words_are_of_one_list()
 pub fn words_are_of_one_content()
     ensures one { (texts block words : List ℕ) (table other : TableUse) (content second : Content) →
         kind_of content ≡ kind_of second → StandsAs texts block words table content →
-        StandsAs texts block words other second → (table ≡ other) × (content ≡ second) }
+        StandsAs texts block words other second →
+        (table.class ≡ other.class) × (table.fill ≡ other.fill) × (content ≡ second) }
     ensures head { (texts block words : List ℕ) (table : TableUse) (content : Content) →
         StandsAs texts block words table content →
         IsBlock block table.class (length_of content) table.fill (serial_of content) }

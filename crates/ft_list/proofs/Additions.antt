@@ -15,7 +15,7 @@ use Rattle.ft_trace.specs.declared.Shape.{Shape}
 use Rattle.ft_trace.specs.declared.View.{View}
 use Rattle.ft_trace.specs.Acts.{owes, stage}
 use Rattle.ft_trace.specs.Addresses.{containers_in, class_of, slots}
-use Rattle.ft_trace.specs.ContainerStates.{ContainerState}
+use Rattle.ft_trace.specs.ContainerStates.{ContainerState, kinds_in}
 use Rattle.ft_trace.specs.Holds.{known}
 use Rattle.ft_trace.specs.Traces.{Possible}
 use Rattle.ft_bank.specs.declared.table.Table.{Table}
@@ -39,6 +39,7 @@ use Rattle.ft_list.proofs.GrownLists.{knows_content, knows_on}
 use Rattle.ft_list.proofs.LookRounds.{slots_are}
 use Rattle.ft_list.proofs.Wanted.{list_use, wanted_some}
 use Rattle.ft_list.proofs.WholeListWrites.{grows_from}
+use Rattle.ft_search.proofs.Changing.{no_keys}
 
 module _ (k : Shape) (o : ℕ) (old : Option Table) (v : View) (list : KnowsList k o old v) (shape : v.shape ≡ k) (possible : ∥ Possible v ∥₁) (lc : ListCall) (total : ℕ) (news : List Value) (adds : Adds o lc (known_items o v) news v) (long : length news ≡ total) where
   abbrev values : List Value
@@ -54,7 +55,7 @@ module _ (k : Shape) (o : ℕ) (old : Option Table) (v : View) (list : KnowsList
   few_is few = let n = long in le-ltb most_items (length news) (omega (arith, n, few))
 
   wanted_is : list_takes (known o v).table (length news) ≡ list_takes (list_use_of old) total
-  wanted_is = λ d. list_takes (list_use k o old v list is_list d) (long d)
+  wanted_is = λ d. list_takes (list_use k o old v list is_list (no_keys v o possible list.locked) d) (long d)
 
   pub room_changes : total ≤ most_items → list_takes (list_use_of old) total ≡ None → Changes o lc reply.Done values news v
   room_changes few none = adds_changes o lc values news v low list.locked is_list adds (few_is few) (wanted_is ∙ none)
@@ -118,8 +119,9 @@ module _ (F : ℕ → Type 0) (v u : View) (same : SamePass v u) (keeps : KeepsB
   tried_has stored has = record {
     agrees = λ p low mine. has.agrees p (subst (λ (z : Shape). p < containers_in z) (sym same.shape) low) (same.locks p ∙ mine) ∙ (keeps.held.words p low mine).1;
     containers = has.containers ∙ ap containers_in same.shape;
-    kinds = has.kinds ∙ ap (λ (z : Shape). z.kinds) same.shape;
+    kinds = has.kinds ∙ ap (λ (z : Shape). kinds_in z.starts) same.shape;
     order = has.order;
+    unsplit = has.unsplit;
     words = has.words;
   }
 
@@ -157,7 +159,7 @@ module _ (F : ℕ → Type 0) (v u : View) (same : SamePass v u) (keeps : KeepsB
 pub adds_items : (k : Shape) (o n : ℕ) (old : Option Table) (v u w : View) (total : ℕ) (called : Call) (what : Added) → OnlyLoaded v u → KnowsList k o old u → u.shape ≡ k → ∥ Possible u ∥₁ → total ≡ length (known_items o v) + n → IsAdded k (list_takes (list_use_of old) total) (nat_lt most_items total) called reply.Done u w what → AddsItems k o called n v w what
 adds_items k o n old v u w total called what loaded list shape possible total_is is =
     let same : known o u ≡ known o v = work_knows v u o loaded.work in
-    let table = list_use k o old u list (knows_content k o old u shape possible list) in
+    let table = list_use k o old u list (knows_content k o old u shape possible list) (no_keys u o possible list.locked) in
     let takes : list_takes (list_use_of old) total ≡ list_takes (known o v).table (length (known_items o v) + n) =
     λ d. list_takes ((sym table ∙ ap (λ (z : ContainerState). z.table) same) d) (total_is d) in
     let over : nat_lt most_items total ≡ nat_lt most_items (length (known_items o v) + n) = ap (λ (z : ℕ). nat_lt most_items z) total_is in

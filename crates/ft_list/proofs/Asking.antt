@@ -24,7 +24,7 @@ use Rattle.ft_search.specs.KeyLooks.{AreLooks}
 use Rattle.ft_search.proofs.Asking.{looks_own, looks_newer}
 use Rattle.ft_list.specs.ItemLooks.{ShowsItem, ShowsPast, StopsItemLook, IsItemContended}
 
-module _ (v w : View) (k : Shape) (o index n : ℕ) (part : List Act) (loaded : OnlyLoaded v w) (looks : AreLooks part) (own : w.log ≡ part ++ v.log) (counted : Among (ReadCounter n) part) (same : w.shape ≡ k) (low : o < containers_in k) (left : 0 < v.left) (is : kind_in k.kinds o ≡ kind.List) where
+module _ (v w : View) (k : Shape) (o index n : ℕ) (part : List Act) (loaded : OnlyLoaded v w) (looks : AreLooks part) (own : w.log ≡ part ++ v.log) (counted : Among (ReadCounter n) part) (same : w.shape ≡ k) (low : o < containers_in k) (left : 0 < v.left) (is : kind_in k.starts o ≡ kind.List) where
   may_ask : MayAsk w o n
   may_ask = record {
     low = subst (λ (z : Shape). o < containers_in z) (sym same) low;
@@ -37,8 +37,8 @@ module _ (v w : View) (k : Shape) (o index n : ℕ) (part : List Act) (loaded : 
     };
   }
 
-  here : kind_in w.shape.kinds o ≡ kind.List
-  here = ap (λ (z : Shape). kind_in z.kinds o) same ∙ is
+  here : kind_in w.shape.starts o ≡ kind.List
+  here = ap (λ (z : Shape). kind_in z.starts o) same ∙ is
 
   pub past_shown : ShowsPast o index n w.log → IsShown w (call.List o (list.Get (pos index))) (item_reply None) n
   past_shown shows = past_items_are_shown w o index n may_ask here shows

@@ -1,6 +1,6 @@
 -- Reads of the words of two lists, one after the other.
-use Rattle.std.proofs.Common.{◌≡◌, ℕ, ◌<◌, Bool, true, false, List, ◌++◌, length, Option, Some, refl, sym, ap, ◌∙◌, subst, inr}
-use Rattle.std.specs.Prelude.{slice_index, slice_index_or, nat_lt, if◌then◌else◌}
+use Rattle.std.proofs.Common.{◌≡◌, ℕ, ◌<◌, Bool, List, length, Option, Some, refl, sym, ap, ◌∙◌, subst, inr}
+use Rattle.std.specs.Prelude.{slice_index, slice_index_or}
 use Rattle.ft_model.specs.declared.call.Call.TheVariants as call
 use Rattle.ft_model.specs.declared.call.ListCall.TheVariants as list
 use Rattle.ft_model.specs.declared.reply.Reply.TheVariants as reply
@@ -9,74 +9,43 @@ use Rattle.ft_model.specs.declared.data.Value.{Value}
 use Rattle.ft_model.specs.declared.data.Value.TheVariants.{Nothing}
 use Rattle.ft_model.specs.Worlds.{kind_of, list_of}
 use Rattle.ft_trace.specs.declared.Shape.{Shape}
-use Rattle.ft_trace.specs.declared.View.{View}
-use Rattle.ft_trace.specs.Acts.{has_lock}
 use Rattle.ft_trace.specs.Addresses.{containers_in}
 use Rattle.ft_trace.specs.Holds.{held, known}
-use Rattle.ft_trace.specs.LoggedReads.{Agrees}
-use Rattle.ft_trace.specs.Pictures.{Picture}
 use Rattle.ft_bank.specs.declared.pass.Pass.{Pass}
 use Rattle.ft_bank.specs.Passes.{view}
-use Rattle.ft_bank.specs.Whole.{OnlyLoaded}
-use Rattle.ft_bank.proofs.KnownAfterWrites.{loaded_held}
-use Rattle.ft_section.specs.declared.answers.Objects.TheVariants.{Two}
-use Rattle.ft_section.specs.LockTakings.{AreIn, HasLocks}
 use Rattle.ft_search.proofs.Lengths.{IsPlain}
-use Rattle.ft_search.proofs.Rounding.{looks_append, looks_load}
-use Rattle.ft_search.proofs.Running.{did_trans}
 use Rattle.ft_list.specs.ListWrites.{MayWriteList}
-use Rattle.ft_list.specs.Indexes.{Reads, IsItemAt}
+use Rattle.ft_list.specs.Indexes.{IsItemAt}
+use Rattle.ft_reads.specs.Reads.{Reads}
 use Rattle.ft_list.specs.ListItemWrites.{known_items}
-use Rattle.ft_list.specs.Pairs.{ReadsBoth, AreOfItems}
+use Rattle.ft_list.specs.Pairs.{AreOfItems}
+use Rattle.ft_reads.specs.Pairs.{ReadsBoth}
 use Rattle.ft_search.specs.MadeCalls.{IsReplyTo}
 use Rattle.ft_list.proofs.Commits.{list_is}
 use Rattle.ft_list.proofs.Lists.{content_of}
-use Rattle.ft_list.proofs.Indexes.{agrees_append, agrees_newer, agrees_older, items_counted}
+use Rattle.ft_list.proofs.Indexes.{items_counted}
 use Rattle.ft_list.proofs.ValueLists.{AlikeBefore}
+use Rattle.ft_reads.proofs.Both.{of_first, of_second, both_map, both_then}
 
 module _ (k : Shape) (o m : ℕ) where
-  pub of_first : (P : Picture → Type 0) (p q : Pass) → Reads k o P p q → ReadsBoth k o m (λ x y. P x) p q
-  of_first P p q r = (r.0, r.1, r.2, (λ x y f g. r.3 x f), r.4)
-
-  pub of_second : (P : Picture → Type 0) (p q : Pass) → Reads k m P p q → ReadsBoth k o m (λ x y. P y) p q
-  of_second P p q r = (r.0, r.1, r.2, (λ x y f g. r.3 y g), r.4)
-
-  pub both_map : (P Q : Picture → Picture → Type 0) (p q : Pass) → ReadsBoth k o m P p q → ((x y : Picture) → P x y → Q x y) → ReadsBoth k o m Q p q
-  both_map P Q p q r f = (r.0, r.1, r.2, (λ x y g h. f x y (r.3 x y g h)), r.4)
-
-  pub both_loaded : (P : Picture → Picture → Type 0) (p q : Pass) → ReadsBoth k o m P p q → OnlyLoaded (view p) (view q)
-  both_loaded P p q r = subst (OnlyLoaded (view p)) (sym r.2.1) (looks_load r.0 (view p) r.1)
-
-  pub both_then : (P Q : Picture → Picture → Type 0) (p q r : Pass) → ReadsBoth k o m P p q → ReadsBoth k o m Q q r → ReadsBoth k o m (λ x y. P x y × Q x y) p r
-  both_then P Q p q r a b =
-      let loaded = both_loaded P p q a in (
-        b.0 ++ a.0,
-        looks_append b.0 a.0 b.1 a.1,
-        did_trans b.0 a.0 p q r a.2 b.2,
-        (λ x y f g. (a.3 x y (agrees_older k o x b.0 a.0 f) (agrees_older k m y b.0 a.0 g), b.3 x y (agrees_newer k o x b.0 a.0 f) (agrees_newer k m y b.0 a.0 g))),
-        (λ c low mine.
-            let same = loaded_held (view p) (view q) c loaded in
-            agrees_append k c (held c (view p)) b.0 a.0 (subst (λ (z : Picture). Agrees k c b.0 z) same (b.4 c low (loaded.work.pass.locks c ∙ mine))) (a.4 c low mine)),
-      )
-
   -- how many items each has
   pub both_counted : (count other : ℕ) (p q r : Pass) → Reads k o (λ x. count ≡ slice_index x.block 1) p q → Reads k m (λ y. other ≡ slice_index y.block 1) q r → ReadsBoth k o m (AreOfItems k (λ xs ys. (count ≡ length xs) × (other ≡ length ys))) p r
   both_counted count other p q r a b =
-      both_map (λ x y. (count ≡ slice_index x.block 1) × (other ≡ slice_index y.block 1)) (AreOfItems k (λ xs ys. (count ≡ length xs) × (other ≡ length ys))) p r
-      (both_then (λ x y. count ≡ slice_index x.block 1) (λ x y. other ≡ slice_index y.block 1) p q r (of_first (λ x. count ≡ slice_index x.block 1) p q a) (of_second (λ y. other ≡ slice_index y.block 1) q r b))
+      both_map k o m (λ x y. (count ≡ slice_index x.block 1) × (other ≡ slice_index y.block 1)) (AreOfItems k (λ xs ys. (count ≡ length xs) × (other ≡ length ys))) p r
+      (both_then k o m (λ x y. count ≡ slice_index x.block 1) (λ x y. other ≡ slice_index y.block 1) p q r (of_first k o m (λ x. count ≡ slice_index x.block 1) p q a) (of_second k o m (λ y. other ≡ slice_index y.block 1) q r b))
       (λ x y both one two is is' stands stands'. (items_counted k x count both.0 one is stands, items_counted k y other both.1 two is' stands'))
 
   -- the next item of each was read
   pub both_more : (holds after : List Value → List Value → Type 0) (place : ℕ) (early late : Option Value) (p q r s : Pass) → ReadsBoth k o m (AreOfItems k holds) p q → Reads k o (IsItemAt k place early) q r → Reads k m (IsItemAt k place late) r s
       → ((xs ys : List Value) → holds xs ys → (place < length xs → early ≡ Some (slice_index_or xs place Nothing)) → (place < length ys → late ≡ Some (slice_index_or ys place Nothing)) → after xs ys) → ReadsBoth k o m (AreOfItems k after) p s
   both_more holds after place early late p q r s a b d f =
-      both_map (λ x y. AreOfItems k holds x y × (IsItemAt k place early x × IsItemAt k place late y)) (AreOfItems k after) p s
-      (both_then (AreOfItems k holds) (λ x y. IsItemAt k place early x × IsItemAt k place late y) p q s a
-      (both_then (λ x y. IsItemAt k place early x) (λ x y. IsItemAt k place late y) q r s (of_first (IsItemAt k place early) q r b) (of_second (IsItemAt k place late) r s d)))
+      both_map k o m (λ x y. AreOfItems k holds x y × (IsItemAt k place early x × IsItemAt k place late y)) (AreOfItems k after) p s
+      (both_then k o m (AreOfItems k holds) (λ x y. IsItemAt k place early x × IsItemAt k place late y) p q s a
+      (both_then k o m (λ x y. IsItemAt k place early x) (λ x y. IsItemAt k place late y) q r s (of_first k o m (IsItemAt k place early) q r b) (of_second k o m (IsItemAt k place late) r s d)))
       (λ x y both one two is is' stands stands'. f (list_of one.content) (list_of two.content) (both.0 one two is is' stands stands') (both.1.0 one is stands) (both.1.1 two is' stands'))
 
   pub so_of_both : (holds after : List Value → List Value → Type 0) (p q : Pass) → ReadsBoth k o m (AreOfItems k holds) p q → ((xs ys : List Value) → holds xs ys → after xs ys) → ReadsBoth k o m (AreOfItems k after) p q
-  so_of_both holds after p q a f = both_map (AreOfItems k holds) (AreOfItems k after) p q a (λ x y h one two is is' stands stands'. f (list_of one.content) (list_of two.content) (h one two is is' stands stands'))
+  so_of_both holds after p q a f = both_map k o m (AreOfItems k holds) (AreOfItems k after) p q a (λ x y h one two is is' stands stands'. f (list_of one.content) (list_of two.content) (h one two is is' stands stands'))
 
 -- as many items, alike before this place
 abbrev pub AlikeYet : ℕ → ℕ → List Value → List Value → Type 0
@@ -99,19 +68,3 @@ module _ (k : Shape) (o m : ℕ) (holds : List Value → List Value → Type 0) 
 
 pub eq_plain : (o m : ℕ) (alike : Bool) → IsPlain (call.List o (list.Eq m)) (reply.Truth alike)
 eq_plain o m alike = record { reads = refl; cursor = refl; adds = refl; memory = refl; replied = λ plain is. inr is; cause = λ stored log n. refl }
-
--- ---- the locks of both
-
-pub has_each : (v : View) (a b : ℕ) → HasLocks v (Two a b) → (has_lock a v.log ≡ true) × (has_lock b v.log ≡ true)
-has_each v a b h = by (nat_lt b a) h
-  where
-    by : (c : Bool) → (has_lock (if c then b else a) v.log ≡ true) × (has_lock (if c then a else b) v.log ≡ true) → (has_lock a v.log ≡ true) × (has_lock b v.log ≡ true)
-    by true x = (x.1, x.0)
-    by false x = x
-
-pub are_in : (k : Shape) (a b : ℕ) → a < containers_in k → b < containers_in k → AreIn k (Two a b)
-are_in k a b low high = by (nat_lt b a)
-  where
-    by : (c : Bool) → ((if c then b else a) < containers_in k) × ((if c then a else b) < containers_in k)
-    by true = (high, low)
-    by false = (low, high)

@@ -70,8 +70,8 @@ module _ (k : Shape) (o : ℕ) (table : Table) (v : View) (list : WritesList k o
   abbrev ws : List ℕ
   ws = (held o v).table
 
-  is_kind : kind_in v.shape.kinds o ≡ kind.List
-  is_kind = ap (λ (z : Shape). kind_in z.kinds o) shape ∙ list.kind
+  is_kind : kind_in v.shape.starts o ≡ kind.List
+  is_kind = ap (λ (z : Shape). kind_in z.starts o) shape ∙ list.kind
 
   cares : (i x : ℕ) → ItemCareful (slots c) ws (list_of (known o v).content) i x → Timely (version_at kind.List c) (rows kind.List c) i x (has_committed o v.log) → IsCareful v o t i x
   cares i x care timely = record {
@@ -103,9 +103,9 @@ module _ (k : Shape) (o : ℕ) (table : Table) (v : View) (list : WritesList k o
 pub item_room : (k : Shape) (o : ℕ) (table : Table) (v : View) → WritesList k o table v → v.shape ≡ k → ∥ Possible v ∥₁ → k.passes * k.calls < 2 ^ 46 → (place : ℕ) → place < slots (class_of (name_of table)) → item_field (held o v).table place 0 < 2 ^ 63
 item_room k o table v list shape possible few place low =
     let t = name_of table in
-    let is_kind : kind_in v.shape.kinds o ≡ kind.List = ap (λ (z : Shape). kind_in z.kinds o) shape ∙ list.kind in
+    let is_kind : kind_in v.shape.starts o ≡ kind.List = ap (λ (z : Shape). kind_in z.starts o) shape ∙ list.kind in
     let here : o < containers_in v.shape = subst (λ (z : Shape). o < containers_in z) (sym shape) list.container in
-    let row : place < rows (kind_in v.shape.kinds o) (class_of t) = subst (λ (z : Kind). place < rows z (class_of t)) (sym is_kind) low in
+    let row : place < rows (kind_in v.shape.starts o) (class_of t) = subst (λ (z : Kind). place < rows z (class_of t)) (sym is_kind) low in
     let calls : v.shape.passes * v.shape.calls < 2 ^ 46 = subst (λ (z : Shape). z.passes * z.calls < 2 ^ 46) (sym shape) few in
     subst (λ (z : Kind). slice_index (held o v).table (version_at z (class_of t) place) < 2 ^ 63) is_kind (version_room v o t place possible here list.locked list.root row calls)
 

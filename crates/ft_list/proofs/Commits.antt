@@ -64,7 +64,7 @@ module _ (o : ℕ) (lc : ListCall) (said : Reply) (values news : List Value) (v 
   table_stays stays = ap (λ (z : TableChange). table_at (change_leaves stored.tables o z (grown_table (table_at stored.tables o) (takes_in stored (call.List o lc)) 0 0) no_table) o) stays
 
 module _ (k : Shape) (o : ℕ) (table : Table) (first past : ℕ) (lc : ListCall) (said : Reply) (values news : List Value) (v : View) (list : WritesList k o table v) (shape : v.shape ≡ k) (is_list : (known o v).content ≡ content.List values) (call_is : IsListWrite o lc said values news v)
-    (table_after : (stored : StoredWorld) → MayHave v stored → table_at (after_stored stored (call.List o lc)).tables o ≡ record { class = Some (class_of (name_of table)); fill = 0 })
+    (table_after : (stored : StoredWorld) → MayHave v stored → table_at (after_stored stored (call.List o lc)).tables o ≡ record { class = Some (class_of (name_of table)); fill = 0; keys = [] })
     (takes_owed : (stored : StoredWorld) (c : ℕ) → MayHave v stored → owes v.log ≡ suc c → takes_in stored (call.List o lc) ≡ Some c)
     (changing : IsChanging (class_of (name_of table)) values news first past (held o v).table) where
   abbrev called : Call
@@ -79,10 +79,10 @@ module _ (k : Shape) (o : ℕ) (table : Table) (first past : ℕ) (lc : ListCall
   low' : o < containers_in v.shape
   low' = subst (λ (z : Shape). o < containers_in z) (sym shape) list.container
 
-  is_kind : kind.List ≡ kind_in v.shape.kinds o
-  is_kind = sym (ap (λ (z : Shape). kind_in z.kinds o) shape ∙ list.kind)
+  is_kind : kind.List ≡ kind_in v.shape.starts o
+  is_kind = sym (ap (λ (z : Shape). kind_in z.starts o) shape ∙ list.kind)
 
-  left_after : (stored : StoredWorld) → MayHave v stored → state_at (after_stored stored called) o ≡ record { content = content.List news; table = record { class = Some class; fill = 0 } }
+  left_after : (stored : StoredWorld) → MayHave v stored → state_at (after_stored stored called) o ≡ record { content = content.List news; table = record { class = Some class; fill = 0; keys = [] } }
   left_after stored has =
       let c = content_after o lc said values news v low' list.locked is_list stored has (call_is.answered stored has) in
       let t = table_after stored has in
@@ -95,10 +95,10 @@ module _ (k : Shape) (o : ℕ) (table : Table) (first past : ℕ) (lc : ListCall
   clear : ItemClear (slots class) (held o v).table values news
   clear = record { keeps = changing.shut; short = few }
 
-  clears : (stored : StoredWorld) (t : ℕ) → MayHave v stored → root_in (held o v) ≡ suc t → ClearAs (kind_in v.shape.kinds o) v.shape.texts (class_of t) (held o v).table (known o v).content (state_at (after_stored stored called) o).content
+  clears : (stored : StoredWorld) (t : ℕ) → MayHave v stored → root_in (held o v) ≡ suc t → ClearAs (kind_in v.shape.starts o) v.shape.texts (class_of t) (held o v).table (known o v).content (state_at (after_stored stored called) o).content
   clears stored t has names =
       let same : name_of table ≡ t = let e : suc (name_of table) ≡ suc t = sym list.root ∙ names in omega (arith, e) in
-      subst (λ (n : ℕ). ClearAs (kind_in v.shape.kinds o) v.shape.texts (class_of n) (held o v).table (known o v).content (state_at (after_stored stored called) o).content) same
+      subst (λ (n : ℕ). ClearAs (kind_in v.shape.starts o) v.shape.texts (class_of n) (held o v).table (known o v).content (state_at (after_stored stored called) o).content) same
       (subst (λ (z : Kind × Content × Content). ClearAs z.0 v.shape.texts class (held o v).table z.1 z.2) (λ d. (is_kind d, sym is_list d, sym (ap (λ (z : ContainerState). z.content) (left_after stored has)) d)) clear)
 
   declared : (stored : StoredWorld) → MayHave v stored → IsDeclared stored.world no_hands called
@@ -120,7 +120,7 @@ module _ (k : Shape) (o : ℕ) (table : Table) (first past : ℕ) (lc : ListCall
       reply_is = λ stored has. inr (sym (ap (λ (z : Answer). z.reply) (answer_is o lc said values news v low' list.locked is_list stored has (call_is.answered stored has))));
       declared = declared;
       fits = call_is.caps;
-      clear = subst (λ (n : ℕ). (stored : StoredWorld) (t : ℕ) → MayHave v stored → root_in (held n v) ≡ suc t → ClearAs (kind_in v.shape.kinds n) v.shape.texts (class_of t) (held n v).table (known n v).content (state_at (after_stored stored called) n).content) (sym changed) clears;
+      clear = subst (λ (n : ℕ). (stored : StoredWorld) (t : ℕ) → MayHave v stored → root_in (held n v) ≡ suc t → ClearAs (kind_in v.shape.starts n) v.shape.texts (class_of t) (held n v).table (known n v).content (state_at (after_stored stored called) n).content) (sym changed) clears;
       takes = takes_owed;
       empties = λ e. absurd (true≢false (sym e ∙ subst (λ (n : ℕ). has_emptied n v.log ≡ false) (sym changed) full));
     };

@@ -34,6 +34,7 @@ use Rattle.ft_list.proofs.Commits.{content_after, in_tables, in_world, list_ther
 use Rattle.ft_list.proofs.Extending.{none_alike}
 use Rattle.ft_list.proofs.GrownLists.{knows_content, knows_shut, list_bare, list_head}
 use Rattle.ft_list.proofs.Wanted.{list_use}
+use Rattle.ft_search.proofs.Changing.{no_keys}
 
 -- the call
 abbrev pub clear_of : ℕ → Call
@@ -182,7 +183,7 @@ bare_leaves k o v may shape possible =
     let is_list = knows_content k o None v shape possible knows in
     let values = known_items o v in
     let empty : [] ≡ values = none_alike [] values refl (list_bare k o v knows is_list) in
-    let no_use = list_use k o None v knows is_list in
+    let no_use = list_use k o None v knows is_list (no_keys v o possible knows.locked) in
     record {
       write = refl;
       changed = refl;

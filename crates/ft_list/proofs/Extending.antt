@@ -63,7 +63,7 @@ class_few class is = (slots_range class is).1
 
 module _ (k : Shape) (m : ℕ) (v : View) (list : KnowsItems k m v) (shape : v.shape ≡ k) (possible : ∥ Possible v ∥₁) where
   pub knows_list : (known m v).content ≡ content.List (known_items m v)
-  knows_list = list_content v m possible list.locked (ap (λ (z : Shape). kind_in z.kinds m) shape ∙ list.kind)
+  knows_list = list_content v m possible list.locked (ap (λ (z : Shape). kind_in z.starts m) shape ∙ list.kind)
 
   room_at : (t : ℕ) → root_in (held m v) ≡ suc t → (length (known_items m v) ≤ slots (class_of t)) × (length (known_items m v) ≤ 65536)
   room_at t names =

@@ -1,5 +1,5 @@
 -- What a list and its words are once its write is committed and its versions are even.
-use Rattle.std.proofs.Common.{◌≡◌, ℕ, suc, ◌<◌, List, length, Option, Some, refl, sym, ap, ◌∙◌, subst, arith, ◌≢◌, length-set, get_or-set_same, get_or-set_other}
+use Rattle.std.proofs.Common.{◌≡◌, ℕ, suc, ◌<◌, List, length, Option, Some, refl, sym, ap, ◌∙◌, subst, arith, ◌≢◌, length-set, get_or-set_same, get_or-set_other, []}
 use Rattle.std.specs.Prelude.{slice_index, slice_set}
 use Rattle.ft_model.specs.declared.call.Call.{Call}
 use Rattle.ft_model.specs.declared.content.Content.TheVariants as content
@@ -27,7 +27,7 @@ use Rattle.ft_list.proofs.PutItems.{all_shut}
 
 -- a list with these items and a table of this class
 abbrev pub list_kept : Table → List Value → ContainerState
-list_kept table values = record { content = content.List values; table = record { class = Some (class_of (name_of table)); fill = 0 } }
+list_kept table values = record { content = content.List values; table = record { class = Some (class_of (name_of table)); fill = 0; keys = [] } }
 
 pub kept_after : (o : ℕ) (table : Table) (called : Call) (said : Reply) (first past : ℕ) (u w : View) → (m : MayFinishItems o table called said first past u) → Committed u w called → known o w ≡ list_kept table m.after
 kept_after o table called said first past u w m committed = committed.left o ∙ m.left committed.found committed.has
@@ -40,9 +40,9 @@ pub list_is_shut : (k : Shape) (o : ℕ) (table : Table) (v : View) (before now 
 list_is_shut k o table v before now past list shape changing t names =
     let class = class_of (name_of table) in
     let same : name_of table ≡ t = let e : suc (name_of table) ≡ suc t = sym list.root ∙ names in omega (arith, e) in
-    let is_kind : kind.List ≡ kind_in v.shape.kinds o = sym (ap (λ (z : Shape). kind_in z.kinds o) shape ∙ list.kind) in
+    let is_kind : kind.List ≡ kind_in v.shape.starts o = sym (ap (λ (z : Shape). kind_in z.starts o) shape ∙ list.kind) in
     let shut : Shut (version_at kind.List class) (rows kind.List class) (held o v).table = all_shut class before now past past (held o v).table changing (omega arith) in
-    subst (λ (n : ℕ). Shut (version_at (kind_in v.shape.kinds o) (class_of n)) (rows (kind_in v.shape.kinds o) (class_of n)) (held o v).table) same
+    subst (λ (n : ℕ). Shut (version_at (kind_in v.shape.starts o) (class_of n)) (rows (kind_in v.shape.starts o) (class_of n)) (held o v).table) same
     (subst (λ (z : Kind). Shut (version_at z class) (rows z class) (held o v).table) is_kind shut)
 
 -- the words stand for the list once its versions are even

@@ -98,8 +98,8 @@ module _ (k : Shape) (o : ℕ) (old : Option Table) (table : Table) (v : View) (
   abbrev ws : List ℕ
   ws = in_hand (name_of table) v
 
-  list_kind : kind_in v.shape.kinds o ≡ kind.List
-  list_kind = ap (λ (z : Shape). kind_in z.kinds o) shape ∙ may.list.kind
+  list_kind : kind_in v.shape.starts o ≡ kind.List
+  list_kind = ap (λ (z : Shape). kind_in z.starts o) shape ∙ may.list.kind
 
   low : o < containers_in v.shape
   low = subst (λ (z : Shape). o < containers_in z) (sym shape) may.list.container
@@ -111,22 +111,22 @@ module _ (k : Shape) (o : ℕ) (old : Option Table) (table : Table) (v : View) (
   the_one t e = ap (λ (z : Option Table). unwrap_or z table) e
 
   module _ (filled : IsFilled c (known_items o v) (slots c) ws) (room : length (known_items o v) ≤ slots c) where
-    sound_here : SoundAs (kind_in v.shape.kinds o) v.shape.texts c ws (known o v).content
+    sound_here : SoundAs (kind_in v.shape.starts o) v.shape.texts c ws (known o v).content
     sound_here = subst (λ (z : Kind). SoundAs z v.shape.texts c ws (known o v).content) (sym list_kind) (filled_sound c (table_class k table may.table_in) (known_items o v) ws filled room)
 
-    young_here : (p : ℕ) → p < rows (kind_in v.shape.kinds o) c → slice_index ws (version_at (kind_in v.shape.kinds o) c p) ≡ 0
+    young_here : (p : ℕ) → p < rows (kind_in v.shape.starts o) c → slice_index ws (version_at (kind_in v.shape.starts o) c p) ≡ 0
     young_here = subst (λ (z : Kind). (p : ℕ) → p < rows z c → slice_index ws (version_at z c p) ≡ 0) (sym list_kind) filled.version
 
-    shut_here : (t : ℕ) → root_in (held o v) ≡ suc t → Shut (version_at (kind_in v.shape.kinds o) (class_of t)) (rows (kind_in v.shape.kinds o) (class_of t)) (held o v).table
+    shut_here : (t : ℕ) → root_in (held o v) ≡ suc t → Shut (version_at (kind_in v.shape.starts o) (class_of t)) (rows (kind_in v.shape.starts o) (class_of t)) (held o v).table
     shut_here t names = subst (λ (z : Kind). Shut (version_at z (class_of t)) (rows z (class_of t)) (held o v).table) (sym list_kind) (list_shut v o t possible low may.list.locked may.list.even list_kind names)
 
     pub may_root : (f : ℕ) → MayPutRoot (noted (StartWrite o f) v) o (Some table)
     may_root f = record {
       odd = hit o true (is_writing o v.log);
       fresh = λ t e. subst (λ (z : Table). stage (name_of z) v.log ≡ 1) (the_one t e) may.fresh;
-      sound = λ t e. subst (λ (z : Table). SoundAs (kind_in v.shape.kinds o) v.shape.texts (class_of (name_of z)) (in_hand (name_of z) v) (known o v).content) (the_one t e) sound_here;
+      sound = λ t e. subst (λ (z : Table). SoundAs (kind_in v.shape.starts o) v.shape.texts (class_of (name_of z)) (in_hand (name_of z) v) (known o v).content) (the_one t e) sound_here;
       young = λ t p e row.
-          let here = subst (λ (z : Table). (q : ℕ) → q < rows (kind_in v.shape.kinds o) (class_of (name_of z)) → slice_index (in_hand (name_of z) v) (version_at (kind_in v.shape.kinds o) (class_of (name_of z)) q) ≡ 0) (the_one t e) young_here p row in
+          let here = subst (λ (z : Table). (q : ℕ) → q < rows (kind_in v.shape.starts o) (class_of (name_of z)) → slice_index (in_hand (name_of z) v) (version_at (kind_in v.shape.starts o) (class_of (name_of z)) q) ≡ 0) (the_one t e) young_here p row in
           (omega (arith, here), (λ late. here));
       shut = shut_here;
       spare = λ some_one. may.used;
@@ -152,15 +152,15 @@ list_bare k o v list is = elim (cases_eq (length (known_items o v)) 0) [ inl e �
 
 -- a pass of a bank knows that it is one
 pub knows_content : (k : Shape) (o : ℕ) (old : Option Table) (v : View) → v.shape ≡ k → ∥ Possible v ∥₁ → KnowsList k o old v → (known o v).content ≡ content.List (known_items o v)
-knows_content k o old v shape possible list = list_content v o possible list.locked (ap (λ (z : Shape). kind_in z.kinds o) shape ∙ list.kind)
+knows_content k o old v shape possible list = list_content v o possible list.locked (ap (λ (z : Shape). kind_in z.starts o) shape ∙ list.kind)
 
 -- loads leave the words of a table in hand
 pub hand_loaded : (t : ℕ) (v w : View) → OnlyLoaded v w → in_hand t w ≡ in_hand t v
 hand_loaded t v w l = ap (λ (z : Shape). table_words z t (mem z w.log)) l.work.pass.shape ∙ ap (λ (ws : List ℕ). table_words v.shape t ws) l.words
 
 -- no version is odd in the table of a list that nobody writes
-pub knows_shut : (k : Shape) (o : ℕ) (old : Option Table) (v : View) → v.shape ≡ k → ∥ Possible v ∥₁ → KnowsList k o old v → (t : ℕ) → root_in (held o v) ≡ suc t → Shut (version_at (kind_in v.shape.kinds o) (class_of t)) (rows (kind_in v.shape.kinds o) (class_of t)) (held o v).table
+pub knows_shut : (k : Shape) (o : ℕ) (old : Option Table) (v : View) → v.shape ≡ k → ∥ Possible v ∥₁ → KnowsList k o old v → (t : ℕ) → root_in (held o v) ≡ suc t → Shut (version_at (kind_in v.shape.starts o) (class_of t)) (rows (kind_in v.shape.starts o) (class_of t)) (held o v).table
 knows_shut k o old v shape possible list t names =
-    let is_kind : kind_in v.shape.kinds o ≡ kind.List = ap (λ (z : Shape). kind_in z.kinds o) shape ∙ list.kind in
+    let is_kind : kind_in v.shape.starts o ≡ kind.List = ap (λ (z : Shape). kind_in z.starts o) shape ∙ list.kind in
     let low : o < containers_in v.shape = subst (λ (z : Shape). o < containers_in z) (sym shape) list.container in
     subst (λ (z : Kind). Shut (version_at z (class_of t)) (rows z (class_of t)) (held o v).table) (sym is_kind) (list_shut v o t possible low list.locked list.even is_kind names)

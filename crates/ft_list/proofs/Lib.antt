@@ -14,11 +14,9 @@ pub mod Indexes
 pub mod ValueLists
 pub mod ListMidst
 pub mod Scanning
-pub mod Equal
 pub mod Turned
 pub mod EmptyWrites
 pub mod Both
-pub mod Windowed
 pub mod Filling
 pub mod Wanted
 pub mod GrownLists

@@ -191,7 +191,7 @@ module _ (o : ℕ) (lc : ListCall) (values news : List Value) (v : View) (low : 
     stays_so none =
         let T = table_at stored.tables o in
         let fill_is : T.fill + 0 ≡ T.fill = omega arith in
-        leaves_grown None (takes_wanted ∙ none) ∙ (λ d. record { class = T.class; fill = fill_is d })
+        leaves_grown None (takes_wanted ∙ none) ∙ (λ d. record { class = T.class; fill = fill_is d; keys = T.keys })
 
     lacks_so : is_raised (answer stored.world no_hands (call.List o lc)).reply ≡ false
     lacks_so = ap (λ (z : Given). is_raised z.reply) (answer_is o lc reply.Done values news v low mine is_list stored has (call_is.answered stored has))

@@ -1,8 +1,7 @@
 -- Calls under locks: what a pass in the midst of a call may do with a list, and that it is in the midst of its call still
 -- once it has.
 use Rattle.std.proofs.Common.{◌≡◌, ℕ, ◌<◌, ◌≤◌, Bool, true, false, List, ◌∷◌, ◌++◌, Some, None, refl, sym, ap, ◌∙◌, subst, inr}
-use Rattle.std.specs.Prelude.{◌&&◌, not, if◌then◌else◌, Result, Ok, Err}
-use Rattle.std.specs.declared.alloc.AllocError.{AllocError}
+use Rattle.std.specs.Prelude.{◌&&◌, not, if◌then◌else◌}
 use Rattle.std.specs.Option.{unwrap_or}
 use Rattle.ft_model.specs.declared.call.Call.{Call}
 use Rattle.ft_model.specs.declared.call.Call.TheVariants as call
@@ -29,23 +28,20 @@ use Rattle.ft_trace.specs.ContainerStates.{kind_in, changes, reply_in}
 use Rattle.ft_bank.specs.declared.bank.Bank.{Bank}
 use Rattle.ft_bank.specs.declared.pass.Pass.{Pass}
 use Rattle.ft_bank.specs.Answered.{Answered}
-use Rattle.ft_bank.specs.Passes.{shape_of, view, IsPassOf}
+use Rattle.ft_bank.specs.Passes.{shape_of, view}
 use Rattle.ft_bank.specs.Reads.{IsShown}
-use Rattle.ft_bank.specs.PassSections.{stack_of}
 use Rattle.ft_bank.specs.Whole.{OnlyLoaded, Wrote}
 use Rattle.ft_bank.specs.WriteSteps.{MayHave}
 use Rattle.ft_bank.proofs.KnownAfterWrites.{loaded_by, loaded_held, loaded_then, work_knows}
 use Rattle.ft_section.specs.declared.answers.Stamp.{Stamp}
 use Rattle.ft_section.specs.Ready.{IsMaking}
-use Rattle.ft_section.proofs.MidstOfCall.{making_stays}
 use Rattle.ft_search.proofs.Asking.{held_shown, answered_locked}
-use Rattle.ft_search.proofs.Calling.{loaded_answered, loaded_wrote, making_made, replied_loaded, wrote_as as written}
+use Rattle.ft_search.proofs.Calling.{loaded_answered, loaded_wrote, replied_loaded, wrote_as as written}
 use Rattle.ft_search.proofs.Lengths.{IsPlain}
-use Rattle.ft_search.proofs.ReadMidst.{LeavesSections, still_loaded, making_stands}
+use Rattle.ft_search.proofs.ReadMidst.{making_stands}
 use Rattle.ft_list.specs.ListWrites.{MayWriteList, Changes, Raises}
 use Rattle.ft_list.specs.ListItemWrites.{known_items}
 use Rattle.ft_search.specs.MadeCalls.{IsReplyTo, KeepsTables, MadeAs}
-use Rattle.ft_list.specs.Copies.{IsCopied}
 use Rattle.ft_list.proofs.Commits.{list_is}
 use Rattle.ft_list.proofs.Lists.{content_of}
 use Rattle.ft_list.proofs.WholeListWrites.{has_before}
@@ -53,7 +49,7 @@ use Rattle.ft_list.proofs.Raising.{raised, and_false}
 
 -- ---- before the call
 
-pub may_write : (b : Bank) (p : Pass) (o : ℕ) → IsMaking b p → o < containers_in (shape_of b) → kind_in (shape_of b).kinds o ≡ kind.List → has_lock o (view p).log ≡ true → 0 < (view p).left → MayWriteList (shape_of b) o (view p)
+pub may_write : (b : Bank) (p : Pass) (o : ℕ) → IsMaking b p → o < containers_in (shape_of b) → kind_in (shape_of b).starts o ≡ kind.List → has_lock o (view p).log ≡ true → 0 < (view p).left → MayWriteList (shape_of b) o (view p)
 may_write b p o m low is mine left =
     let same = m.inside.0.1 in
     record {
@@ -122,17 +118,6 @@ module _ (k : Shape) (o : ℕ) (lc : ListCall) (said : Reply) (v u w : View) (sh
       made_read called said stamp v w (replied_loaded v u loaded called said (reply_raises o lc said (known_items o u) u inside may.locked is_list r))
       (ap (λ (b : Bool). is_changing_list lc && not b) (raised said r.raises) ∙ and_false (is_changing_list lc)) wrote
       (loaded_answered v u loaded called said stamp.number w part log x)
-
--- ---- after the call
-
--- loads in the midst of it
-pub making_loaded : (b : Bank) (p q : Pass) → IsMaking b p → IsPassOf b q → stack_of q ≡ stack_of p → OnlyLoaded (view p) (view q) → IsMaking b q
-making_loaded b p q m pass stack l = making_stays b p q m pass stack l.work.pass.shape l.work.pass.locks l.work.pass.begun (still_loaded (view p) (view q) l m.inside.1.still)
-
--- a call that takes memory
-pub making_copied : (b : Bank) (p q : Pass) (asked : Call) (copied : Result (Reply × Stamp) AllocError) → LeavesSections asked → IsMaking b p → IsPassOf b q → stack_of q ≡ stack_of p → IsCopied asked (view p) (view q) copied → IsMaking b q
-making_copied b p q asked (Ok made) leaves m pass stack x = making_made b p q asked made.0 made.1 leaves m pass stack x
-making_copied b p q asked (Err e) leaves m pass stack x = making_loaded b p q m pass stack x.0
 
 -- ---- calls that read, with the stamp that is loaded under the lock
 

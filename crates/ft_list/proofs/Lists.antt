@@ -1,5 +1,5 @@
 -- What a pass with the lock of a list knows of it.
-use Rattle.std.proofs.Common.{◌≡◌, ℕ, suc, ◌%◌, ◌<◌, true, false, List, ◌∷◌, length, Option, Some, None, ◌≢◌, refl, sym, ap, ◌∙◌, subst, arith}
+use Rattle.std.proofs.Common.{◌≡◌, ℕ, suc, ◌%◌, ◌<◌, true, false, List, ◌∷◌, length, Option, Some, None, ◌≢◌, refl, sym, ap, ◌∙◌, subst, arith, []}
 use Rattle.std.specs.Prelude.{slice_index}
 use Rattle.std.proofs.Math.Nat.{ℕ_set}
 use Rattle.std.proofs.Math.Logic.{∥∥₁_elim}
@@ -35,30 +35,32 @@ list_code : Kind → ℕ
 list_code kind.Dict = 0
 list_code kind.List = 1
 list_code kind.Set = 0
+list_code (kind.Deque bound) = 0
 
 as_list : (c : Content) → list_code (kind_of c) ≡ 1 → c ≡ content.List (list_of c)
 unfolding list_code
 as_list (content.List values) is = refl
 as_list (content.Dict dict) is = absurd (omega (arith, is))
 as_list (content.Set set) is = absurd (omega (arith, is))
+as_list (content.Deque deque) is = absurd (omega (arith, is))
 
-pub list_content : (v : View) (o : ℕ) → ∥ Possible v ∥₁ → has_lock o v.log ≡ true → kind_in v.shape.kinds o ≡ kind.List → (known o v).content ≡ content.List (known_items o v)
+pub list_content : (v : View) (o : ℕ) → ∥ Possible v ∥₁ → has_lock o v.log ≡ true → kind_in v.shape.starts o ≡ kind.List → (known o v).content ≡ content.List (known_items o v)
 unfolding list_code
 list_content v o possible mine is =
     as_list (known o v).content (∥∥₁_elim {P = list_code (kind_of (known o v).content) ≡ 1} possible (ℕ_set _ _) (λ p. ap list_code (kind_known v o mine p ∙ is)))
 
 -- its items and its table
-pub list_known : (texts : List ℕ) (v : View) (o t : ℕ) → (known o v).content ≡ content.List (known_items o v) → Stands texts (held o v) (known o v) → root_in (held o v) ≡ suc t → IsListWords (held o v).block (0 ∷ 0 ∷ (held o v).table) (Some (class_of t)) (known_items o v) × ((known o v).table ≡ record { class = Some (class_of t); fill = 0 })
+pub list_known : (texts : List ℕ) (v : View) (o t : ℕ) → (known o v).content ≡ content.List (known_items o v) → Stands texts (held o v) (known o v) → root_in (held o v) ≡ suc t → IsListWords (held o v).block (0 ∷ 0 ∷ (held o v).table) (Some (class_of t)) (known_items o v) × ((known o v).table.keys ≡ [] → (known o v).table ≡ record { class = Some (class_of t); fill = 0; keys = [] })
 list_known texts v o t is stands names =
     let class = class_known texts (held o v) (known o v) t stands names in
     let says : IsListWords (held o v).block (0 ∷ 0 ∷ (held o v).table) (known o v).table.class (known_items o v) × ((known o v).table.fill ≡ 0) = subst (λ (z : Content). StandsAs texts (held o v).block (0 ∷ 0 ∷ (held o v).table) (known o v).table z) is stands in
     let fill = says.1 in (
       subst (λ (z : Option ℕ). IsListWords (held o v).block (0 ∷ 0 ∷ (held o v).table) z (known_items o v)) class says.0,
-      (λ d. record { class = class d; fill = fill d }),
+      (λ none d. record { class = class d; fill = fill d; keys = none d }),
     )
 
 -- no version of its items is odd
-pub list_shut : (v : View) (o t : ℕ) → ∥ Possible v ∥₁ → o < containers_in v.shape → has_lock o v.log ≡ true → is_writing o v.log ≡ false → kind_in v.shape.kinds o ≡ kind.List → root_in (held o v) ≡ suc t → (p : ℕ) → p < slots (class_of t) → item_field (held o v).table p 0 % 2 ≡ 0
+pub list_shut : (v : View) (o t : ℕ) → ∥ Possible v ∥₁ → o < containers_in v.shape → has_lock o v.log ≡ true → is_writing o v.log ≡ false → kind_in v.shape.starts o ≡ kind.List → root_in (held o v) ≡ suc t → (p : ℕ) → p < slots (class_of t) → item_field (held o v).table p 0 % 2 ≡ 0
 list_shut v o t possible low mine even is names p row =
     ∥∥₁_elim {P = item_field (held o v).table p 0 % 2 ≡ 0} possible (ℕ_set _ _)
     (λ (x : Possible v). subst (λ (z : Kind). Shut (version_at z (class_of t)) (rows z (class_of t)) (held o v).table) is (held_shut v o t low x mine even names) p row)
@@ -97,7 +99,7 @@ items_loaded o v w only = ap (λ (z : ContainerState). list_of z.content) (work_
 
 -- a pass of a bank that may write a list knows that it is one
 pub content_of : (k : Shape) (o : ℕ) (v : View) → v.shape ≡ k → ∥ Possible v ∥₁ → MayWriteList k o v → (known o v).content ≡ content.List (known_items o v)
-content_of k o v same possible may = list_content v o possible may.locked (ap (λ (z : Shape). kind_in z.kinds o) same ∙ may.kind)
+content_of k o v same possible may = list_content v o possible may.locked (ap (λ (z : Shape). kind_in z.starts o) same ∙ may.kind)
 
 pub table_loaded : (k : Shape) (o : ℕ) (table : Table) (v w : View) → OnlyLoaded v w → HasTable k o table v → HasTable k o table w
 table_loaded k o table v w only has = record { table_in = has.table_in; root = ap root_in (loaded_held v w o only) ∙ has.root }

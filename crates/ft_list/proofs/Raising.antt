@@ -47,9 +47,12 @@ caused stored log o lc said n values r = ⊎_elim
     (λ (e : said ≡ reply.Raised raise.NoIndex). subst (λ (z : Reply). HasCause stored log (call.List o lc) z n) (sym e) (r.caps stored.world))
     (λ (e : said ≡ reply.Raised raise.NoValue). subst (λ (z : Reply). HasCause stored log (call.List o lc) z n) (sym e) (r.caps stored.world)) r.raises
 
--- an `iter` raises nothing
+-- an `iter` raises nothing, and no reversed one
 asks_none : (lc : ListCall) (o : ℕ) (said : Reply) (values : List Value) → Raises o lc said values → cursor_of_list lc ≡ None
 asks_none (list.Iter m) o said values r =
+    let done : reply.Done ≡ said = ap (λ (z : Given). z.reply) (r.answered []) in
+    absurd (true≢false (sym (raised said r.raises) ∙ ap is_raised (sym done)))
+asks_none (list.Reversed m) o said values r =
     let done : reply.Done ≡ said = ap (λ (z : Given). z.reply) (r.answered []) in
     absurd (true≢false (sym (raised said r.raises) ∙ ap is_raised (sym done)))
 asks_none lc o said values r = refl

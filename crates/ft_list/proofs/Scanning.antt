@@ -1,5 +1,5 @@
 -- Loops over the items of a list, step by step, and what they show in the end.
-use Rattle.std.proofs.Common.{◌≡◌, ℕ, ◌<◌, ◌≤◌, ℤ, Bool, true, List, [], ◌++◌, length, take, Option, Some, None, refl, sym, ap, ◌∙◌, subst, inr, arith}
+use Rattle.std.proofs.Common.{◌≡◌, ℕ, ◌<◌, ◌≤◌, ℤ, Bool, true, List, ◌++◌, length, take, Option, Some, None, refl, sym, ap, ◌∙◌, subst, inr, arith}
 use Rattle.std.specs.Prelude.{slice_index, slice_index_or, is_some, pos, negsuc, Result}
 use Rattle.std.specs.Global.{Vec}
 use Rattle.std.specs.declared.alloc.AllocError.{AllocError}
@@ -29,12 +29,14 @@ use Rattle.ft_search.proofs.Lengths.{IsPlain}
 use Rattle.ft_search.proofs.Running.{did_log}
 use Rattle.ft_list.specs.ListWrites.{MayWriteList}
 use Rattle.ft_list.specs.ListItemWrites.{known_items}
-use Rattle.ft_list.specs.Indexes.{Reads, IsItemAt}
-use Rattle.ft_list.specs.Copies.{AreCopied, HasSome, TakesMemory}
+use Rattle.ft_list.specs.Indexes.{IsItemAt}
+use Rattle.ft_reads.specs.Reads.{Reads}
+use Rattle.ft_reads.specs.Copies.{AreCopied, HasSome, TakesMemory}
 use Rattle.ft_list.specs.Scans.{IsOfItems}
 use Rattle.ft_search.specs.MadeCalls.{IsReplyTo}
 use Rattle.ft_list.proofs.ListMidst.{reply_of_list}
-use Rattle.ft_list.proofs.Indexes.{reads_none, reads_map, reads_then, reads_loaded, items_counted}
+use Rattle.ft_list.proofs.Indexes.{items_counted}
+use Rattle.ft_reads.proofs.Agreeing.{reads_none, reads_map, reads_then, reads_loaded}
 use Rattle.ft_list.proofs.Lists.{content_of, may_loaded}
 use Rattle.ft_list.proofs.ValueLists.{NoneBefore, has_first}
 

@@ -19,11 +19,13 @@ items_at : (kind : Kind) → IsItems kind → (c index : ℕ) → version_at kin
 items_at kind.Dict is c index = absurd is
 items_at kind.Set is c index = absurd is
 items_at kind.List is c index = refl
+items_at (kind.Deque bound) is c index = absurd is
 
 items_rows : (kind : Kind) → IsItems kind → (c : ℕ) → rows kind c ≡ slots c
 items_rows kind.Dict is c = absurd is
 items_rows kind.Set is c = absurd is
 items_rows kind.List is c = refl
+items_rows (kind.Deque bound) is c = absurd is
 
 pub floor_items_stand : FloorItemsStand
 floor_items_stand w part p l o index a b low items stops =
@@ -32,7 +34,7 @@ floor_items_stand w part p l o index a b low items stops =
     let t = x.0 in
     let e = x.2 in
     let n = item_offset index 0 in
-    let k = kind_in w.shape.kinds o in
+    let k = kind_in w.shape.starts o in
     let found = both_same w part p l e.newer e.mid e.rest (ReadTable t n a) (ReadTable t n b) e.is in
     let even = even_row w part p l o t index low x.1 (subst (λ (z : ℕ). index < z) (sym (items_rows k items (class_of t))) e.low) in
     not_moved (word w.shape p.0 (cell t n)) a b (ap (λ (z : ℕ). word w.shape p.0 (cell t z) % 2) (sym (items_at k items (class_of t) index)) ∙ even) found.1 found.0 e.moved)

@@ -1,5 +1,5 @@
 -- Which table a list takes for its items, by the table that it has.
-use Rattle.std.proofs.Common.{◌≡◌, ℕ, zero, suc, ◌<◌, ◌≤◌, Bool, true, false, true≢false, List, ◌∷◌, Option, Some, None, refl, sym, ap, ◌∙◌, subst, arith, ltb-true, ltb-false, lt-ltb}
+use Rattle.std.proofs.Common.{◌≡◌, ℕ, zero, suc, ◌<◌, ◌≤◌, Bool, true, false, true≢false, List, ◌∷◌, Option, Some, None, refl, sym, ap, ◌∙◌, subst, arith, ltb-true, ltb-false, lt-ltb, []}
 use Rattle.std.specs.Prelude.{◌&&◌, nat_lt, is_some, slice_index, if◌then◌else◌}
 use Rattle.std.specs.Option.{unwrap_or}
 use Rattle.ft_model.specs.declared.content.Content.{Content}
@@ -77,11 +77,11 @@ no_class : (block words : List ℕ) (class : Option ℕ) (values : List Value) �
 no_class block words None values says none = refl
 no_class block words (Some class) values says none = absurd (let r = says.head.root.1.2 in omega (arith, none, r))
 
-pub list_use : (k : Shape) (o : ℕ) (old : Option Table) (v : View) → KnowsList k o old v → (known o v).content ≡ content.List (known_items o v) → (known o v).table ≡ list_use_of old
-list_use k o None v list is =
+pub list_use : (k : Shape) (o : ℕ) (old : Option Table) (v : View) → KnowsList k o old v → (known o v).content ≡ content.List (known_items o v) → (known o v).table.keys ≡ [] → (known o v).table ≡ list_use_of old
+list_use k o None v list is keys =
     let says : IsListWords (held o v).block (0 ∷ 0 ∷ (held o v).table) (known o v).table.class (known_items o v) × ((known o v).table.fill ≡ 0) = subst (λ (z : Content). StandsAs k.texts (held o v).block (0 ∷ 0 ∷ (held o v).table) (known o v).table z) is list.stands in
     let none = no_class (held o v).block (0 ∷ 0 ∷ (held o v).table) (known o v).table.class (known_items o v) says.0 list.root in
-    λ d. record { class = none d; fill = says.1 d }
-list_use k o (Some t) v list is =
-    (list_known k.texts v o (name_of t) is list.stands list.root).1
-    ∙ ap (λ (n : ℕ). record { class = Some n; fill = 0 }) (class_is t (list.table_in t refl).2)
+    λ d. record { class = none d; fill = says.1 d; keys = keys d }
+list_use k o (Some t) v list is keys =
+    (list_known k.texts v o (name_of t) is list.stands list.root).1 keys
+    ∙ ap (λ (n : ℕ). record { class = Some n; fill = 0; keys = [] }) (class_is t (list.table_in t refl).2)

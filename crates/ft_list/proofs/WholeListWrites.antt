@@ -1,5 +1,5 @@
 -- A whole write of a list, from the version made odd to its end.
-use Rattle.std.proofs.Common.{◌≡◌, ℕ, ◌<◌, Bool, true, false, List, length, Some, sym, ap, ◌∙◌, subst, arith}
+use Rattle.std.proofs.Common.{◌≡◌, ℕ, ◌<◌, Bool, true, false, List, length, Some, sym, ap, ◌∙◌, subst, arith, []}
 use Rattle.std.specs.Prelude.{if◌then◌else◌, None}
 use Rattle.std.specs.Option.{unwrap_or}
 use Rattle.ft_model.specs.declared.call.Call.{Call}
@@ -17,7 +17,7 @@ use Rattle.ft_trace.specs.declared.Shape.{Shape}
 use Rattle.ft_trace.specs.declared.View.{View}
 use Rattle.ft_trace.specs.Addresses.{containers_in, class_of}
 use Rattle.ft_trace.specs.Acts.{has_lock, is_writing, has_emptied, owes, noted}
-use Rattle.ft_trace.specs.ContainerStates.{ContainerState, changes}
+use Rattle.ft_trace.specs.ContainerStates.{ContainerState, changes, kinds_in}
 use Rattle.ft_trace.specs.Pictures.{root_in}
 use Rattle.ft_trace.specs.Holds.{held, known}
 use Rattle.ft_trace.proofs.Cases.{hit}
@@ -59,8 +59,9 @@ module _ (v u : View) (same_known : (p : ℕ) → known p u ≡ known p v) (same
   has_before stored has = record {
     agrees = λ p low mine. has.agrees p (subst (λ (z : Shape). p < containers_in z) (sym same_shape) low) (same_locks p mine) ∙ same_known p;
     containers = has.containers ∙ ap containers_in same_shape;
-    kinds = has.kinds ∙ ap (λ (z : Shape). z.kinds) same_shape;
+    kinds = has.kinds ∙ ap (λ (z : Shape). kinds_in z.starts) same_shape;
     order = has.order;
+    unsplit = has.unsplit;
     words = has.words;
   }
 
@@ -91,7 +92,7 @@ module _ (k : Shape) (o : ℕ) (table : Table) (v s u : View) (f : ℕ) (may : M
     table = λ stored has. call_is.table stored (has_before v u same_known same_shape locks_on stored has);
   }
 
-  pub finishing : (first past : ℕ) (lc : ListCall) (called : Call) (said : Reply) (values news : List Value) → called ≡ call.List o lc → Changes o lc said values news v → (known o v).content ≡ content.List values → (known o v).table ≡ record { class = Some (class_of (name_of table)); fill = 0 } → WritesList k o table u → u.shape ≡ k → IsChanging (class_of (name_of table)) values news first past (held o u).table → IsBlock (held o u).block (Some (class_of (name_of table))) (length news) 0 0
+  pub finishing : (first past : ℕ) (lc : ListCall) (called : Call) (said : Reply) (values news : List Value) → called ≡ call.List o lc → Changes o lc said values news v → (known o v).content ≡ content.List values → (known o v).table ≡ record { class = Some (class_of (name_of table)); fill = 0; keys = [] } → WritesList k o table u → u.shape ≡ k → IsChanging (class_of (name_of table)) values news first past (held o u).table → IsBlock (held o u).block (Some (class_of (name_of table))) (length news) 0 0
       → MayFinishItems o table called said first past u
   finishing first past lc called said values news is call_is is_list kept list shape changing head =
       let none : owes u.log ≡ 0 = puts.work.owes ∙ (ap (λ (z : View). owes z.log) begun ∙ may.owes) in

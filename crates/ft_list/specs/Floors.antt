@@ -14,4 +14,4 @@ use Rattle.ft_list.specs.ItemLooks.{StopsItemLook}
 abbrev pub FloorItemsStand : Type 0
 FloorItemsStand =
     (w : View) (part : List Act) → Possible w → LooksWithFloor w part → (o index a b : ℕ) → o < containers_in w.shape
-    → IsItems (kind_in w.shape.kinds o) → StopsItemLook o index a b part → ⊥
+    → IsItems (kind_in w.shape.starts o) → StopsItemLook o index a b part → ⊥

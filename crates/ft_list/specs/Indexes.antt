@@ -1,5 +1,5 @@
 -- Items of a list by their indexes, negative ones from the end too, and what loads of its words show of them.
-use Rattle.std.specs.Prelude.{◌≡◌, ℕ, ℤ, pos, negsuc, true, suc, ◌<◌, List, length, option_map, Option, Some, slice_index_or}
+use Rattle.std.specs.Prelude.{◌≡◌, ℕ, ℤ, pos, negsuc, suc, ◌<◌, List, length, option_map, Option, Some, slice_index_or}
 use Rattle.ft_layout.specs.declared.slot.Stored.TheVariants.{Plain}
 use Rattle.ft_layout.specs.Words.{IsStored}
 use Rattle.ft_model.specs.declared.call.Call.TheVariants as call
@@ -13,17 +13,10 @@ use Rattle.ft_trace.specs.declared.Act.{Act}
 use Rattle.ft_trace.specs.declared.Act.TheVariants.{ReadCounter}
 use Rattle.ft_trace.specs.declared.Shape.{Shape}
 use Rattle.ft_trace.specs.declared.View.{View}
-use Rattle.ft_trace.specs.Acts.{has_lock}
-use Rattle.ft_trace.specs.Addresses.{containers_in}
-use Rattle.ft_trace.specs.Holds.{held}
 use Rattle.ft_trace.specs.LoggedReads.{Agrees, Among, Between}
 use Rattle.ft_trace.specs.Pictures.{Picture, root_in, item_field, Stands}
 use Rattle.ft_trace.specs.ContainerStates.{ContainerState}
-use Rattle.ft_bank.specs.declared.pass.Pass.{Pass}
-use Rattle.ft_bank.specs.Passes.{view}
-use Rattle.ft_bank.specs.Series.{DidAll}
 use Rattle.ft_section.specs.declared.answers.Look.{Look}
-use Rattle.ft_search.specs.KeyLooks.{AreLooks}
 use Rattle.ft_search.specs.Lengths.{StopsAtVersion, IsGlanceOf}
 use Rattle.ft_list.specs.declared.gets.AtIndex.{AtIndex}
 use Rattle.ft_list.specs.declared.gets.AtIndex.TheVariants.{Found, Contended}
@@ -33,13 +26,6 @@ use Rattle.ft_list.specs.ItemLooks.{IsGetOf}
 abbrev pub item_named : List Value → ℤ → Option Value
 item_named values index =
     option_map (λ place. slice_index_or values place value.Nothing) (index_in (length values) index)
-
--- The pass only loaded words, and this is so of all words of the container o that answer so. What the pass knows of
--- each container whose lock it has answers so. (profile)
-abbrev pub Reads : Shape → ℕ → (Picture → Type 0) → Pass → Pass → Type 0
-Reads k o shows p q =
-    (part : List Act) × AreLooks part × DidAll part p q × ((x : Picture) → Agrees k o part x → shows x)
-    × ((c : ℕ) → c < containers_in k → has_lock c (view p).log ≡ true → Agrees k c part (held c (view p)))
 
 -- where the root names the table t, and the item at the place is a value, it is this
 abbrev pub IsItemValue : ℕ → ℕ → Option Value → Picture → Type 0

@@ -28,7 +28,7 @@ use Rattle.ft_bank.specs.WriteSteps.{MayHave, MayCommit}
 -- The pass writes the list o, whose root names the table. (profile)
 pub record WritesList (k : Shape) (o : ℕ) (table : Table) (v : View) : Type 0 where
   pub container : o < containers_in k
-  pub kind : kind_in k.kinds o ≡ kind.List
+  pub kind : kind_in k.starts o ≡ kind.List
   pub table_in : IsTableIn k table
   pub locked : has_lock o v.log ≡ true
   pub odd : is_writing o v.log ≡ true
@@ -108,6 +108,6 @@ pub record MayFinishItems
   pub after : List Value
   pub left : (stored : StoredWorld) → MayHave v stored
       → state_at (after_stored stored called) o
-      ≡ record { content = content.List after; table = record { class = Some (class_of (name_of table)); fill = 0 } }
+      ≡ record { content = content.List after; table = record { class = Some (class_of (name_of table)); fill = 0; keys = [] } }
   pub head : IsBlock (held o v).block (Some (class_of (name_of table))) (length after) 0 0
   pub changing : IsChanging (class_of (name_of table)) before after first past (held o v).table

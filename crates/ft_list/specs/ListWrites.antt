@@ -1,5 +1,5 @@
 -- What calls do to a list, and what a pass is to have that makes one.
-use Rattle.std.specs.Prelude.{◌≡◌, ◌⊎◌, ℕ, ◌<◌, nat_lt, true, false, List, length, IfSome, Some, None}
+use Rattle.std.specs.Prelude.{◌≡◌, ◌⊎◌, ℕ, ◌<◌, nat_lt, true, false, List, length, IfSome, Some, None, []}
 use Rattle.ft_model.specs.declared.call.Call.{Call}
 use Rattle.ft_model.specs.declared.call.Call.TheVariants as call
 use Rattle.ft_model.specs.declared.call.ListCall.{ListCall}
@@ -39,7 +39,7 @@ use Rattle.ft_section.specs.Ready.{MayTry}
 -- there, the pass has lowered no count of a class that it hasn't raised again, and it has a call left. (profile)
 pub record MayWriteList (k : Shape) (o : ℕ) (v : View) : Type 0 where
   pub container : o < containers_in k
-  pub kind : kind_in k.kinds o ≡ kind.List
+  pub kind : kind_in k.starts o ≡ kind.List
   pub locked : has_lock o v.log ≡ true
   pub even : is_writing o v.log ≡ false
   pub stands : Stands k.texts (held o v) (known o v)
@@ -72,7 +72,7 @@ pub record Grows (o : ℕ) (lc : ListCall) (values news : List Value) (class : �
   pub write : IsListWrite o lc reply.Done values news v
   pub takes : (stored : StoredWorld) → MayHave v stored → takes_in stored (call.List o lc) ≡ Some class
   pub table : (stored : StoredWorld) → MayHave v stored
-      → table_at (after_stored stored (call.List o lc)).tables o ≡ record { class = Some class; fill = 0 }
+      → table_at (after_stored stored (call.List o lc)).tables o ≡ record { class = Some class; fill = 0; keys = [] }
 
 -- A call adds to the list o: where the list has these values, the plain containers reply that it is done, and the list
 -- has `news` then, whatever else the bank has that agrees with what the pass knows; the pass has the locks of the
@@ -109,4 +109,4 @@ Made called said stamp v w =
 pub record MayCallList (b : Bank) (p : Pass) (l : ℕ) : Type 0 where
   pub may : MayTry b p (One l)
   pub low : l < containers_in (shape_of b)
-  pub kind : kind_in (shape_of b).kinds l ≡ kind.List
+  pub kind : kind_in (shape_of b).starts l ≡ kind.List

@@ -1,45 +1,14 @@
--- What loads of the words of two lists show of the items of both, and what `l == m` answers.
-use Rattle.std.specs.Prelude.{◌≡◌, ◌⊎◌, ℕ, ◌<◌, true, false, List}
-use Rattle.ft_model.specs.declared.call.Call.{Call}
+-- What loads of the words of two lists show of the items of both.
+use Rattle.std.specs.Prelude.{◌≡◌, List}
 use Rattle.ft_model.specs.declared.data.Value.{Value}
 use Rattle.ft_model.specs.declared.script.Kind.TheVariants as kind
 use Rattle.ft_model.specs.Worlds.{kind_of, list_of}
-use Rattle.ft_trace.specs.declared.Act.{Act}
 use Rattle.ft_trace.specs.declared.Shape.{Shape}
-use Rattle.ft_trace.specs.declared.View.{View}
-use Rattle.ft_trace.specs.Acts.{has_lock}
-use Rattle.ft_trace.specs.Addresses.{containers_in}
-use Rattle.ft_trace.specs.Holds.{held}
-use Rattle.ft_trace.specs.LoggedReads.{Agrees}
 use Rattle.ft_trace.specs.Pictures.{Picture, Stands}
 use Rattle.ft_trace.specs.ContainerStates.{ContainerState}
-use Rattle.ft_bank.specs.declared.pass.Pass.{Pass}
-use Rattle.ft_bank.specs.Answered.{Answered}
-use Rattle.ft_bank.specs.Passes.{view}
-use Rattle.ft_bank.specs.Series.{DidAll}
-use Rattle.ft_section.specs.declared.answers.Look.{Look}
-use Rattle.ft_section.specs.declared.answers.Look.TheVariants as look
-use Rattle.ft_search.specs.Lengths.{IsStopped}
-use Rattle.ft_search.specs.KeyLooks.{AreLooks}
-
--- The pass only loaded words, and this is so of all words of the containers o and m that answer so. What the pass knows
--- of each container whose lock it has answers so. (profile)
-abbrev pub ReadsBoth : Shape → ℕ → ℕ → (Picture → Picture → Type 0) → Pass → Pass → Type 0
-ReadsBoth k o m shows p q =
-    (part : List Act) × AreLooks part × DidAll part p q
-    × ((x y : Picture) → Agrees k o part x → Agrees k m part y → shows x y)
-    × ((c : ℕ) → c < containers_in k → has_lock c (view p).log ≡ true → Agrees k c part (held c (view p)))
 
 -- where these words stand for two lists, this is so of the items of both
 abbrev pub AreOfItems : Shape → (List Value → List Value → Type 0) → Picture → Picture → Type 0
 AreOfItems k holds x y =
     (one other : ContainerState) → kind_of one.content ≡ kind.List → kind_of other.content ≡ kind.List
     → Stands k.texts x one → Stands k.texts y other → holds (list_of one.content) (list_of other.content)
-
--- What a call answers that reads two containers, each between two loads of its version. It gave a reply, which is the
--- one that its entry has, with a stamp that it loaded; or the version of one of the two stopped it. It takes no memory.
-abbrev pub IsGlanceOfBoth : ℕ → ℕ → Call → View → View → Look → Type 0
-IsGlanceOfBoth o m called v w (look.Done said stamp) =
-    Answered called said stamp.number v w × (stamp.wrote ≡ false)
-IsGlanceOfBoth o m called v w (look.Contended a b) = IsStopped o a b v w ⊎ IsStopped m a b v w
-IsGlanceOfBoth o m called v w look.NoMemory = ⊥

@@ -288,7 +288,7 @@ pub fn extend_by(bank: &Bank, pass: &mut Pass, l: Object, m: Object) -> Added
 pub fn try_append(bank: &Bank, pass: &mut Pass, l: Object, value: Value) -> Step
     requires may { MayTry bank.now pass.old (One l) }
     requires container { l < containers_in (shape_of bank.now) }
-    requires list { kind_in (shape_of bank.now).kinds l ≡ kind.List }
+    requires list { kind_in (shape_of bank.now).starts l ≡ kind.List }
     requires left { 0 < (view pass.old).left }
     ensures may { MayTry bank.now pass.new (One l) }
     ensures sections { SectionsAfter bank.now (One l) pass.old pass.new result }
@@ -315,7 +315,7 @@ pub fn try_append(bank: &Bank, pass: &mut Pass, l: Object, value: Value) -> Step
 pub fn try_insert(bank: &Bank, pass: &mut Pass, l: Object, index: i64, value: Value) -> Step
     requires may { MayTry bank.now pass.old (One l) }
     requires container { l < containers_in (shape_of bank.now) }
-    requires list { kind_in (shape_of bank.now).kinds l ≡ kind.List }
+    requires list { kind_in (shape_of bank.now).starts l ≡ kind.List }
     requires left { 0 < (view pass.old).left }
     ensures may { MayTry bank.now pass.new (One l) }
     ensures sections { SectionsAfter bank.now (One l) pass.old pass.new result }
@@ -344,8 +344,8 @@ pub fn try_extend(bank: &Bank, pass: &mut Pass, l: Object, m: Object) -> Step
     requires may { MayTry bank.now pass.old (Two l m) }
     requires container { l < containers_in (shape_of bank.now) }
     requires other { m < containers_in (shape_of bank.now) }
-    requires list { kind_in (shape_of bank.now).kinds l ≡ kind.List }
-    requires other_list { kind_in (shape_of bank.now).kinds m ≡ kind.List }
+    requires list { kind_in (shape_of bank.now).starts l ≡ kind.List }
+    requires other_list { kind_in (shape_of bank.now).starts m ≡ kind.List }
     requires left { 0 < (view pass.old).left }
     ensures may { MayTry bank.now pass.new (Two l m) }
     ensures sections { SectionsAfter bank.now (Two l m) pass.old pass.new result }

@@ -18,7 +18,7 @@ ghost use Rattle.ft_section.specs.Ready.{MayTry};
 ghost use Rattle.ft_section.specs.Trying.{SectionsAfter};
 ghost use Rattle.ft_growth.specs.Adding.{KeepsCursors};
 ghost use Rattle.ft_list.specs.ListWrites.{MayWriteList};
-ghost use Rattle.ft_list.specs.Clears.{IsCleared, IsClearOf};
+ghost use Rattle.ft_reads.specs.Clears.{IsCleared, IsClearOf};
 ghost use Rattle.ft_list.specs.Internal.NewListTables.{MayAdd};
 
 use crate::adding::root_table;
@@ -104,7 +104,7 @@ pub fn clear_by(bank: &Bank, pass: &mut Pass, l: Object) -> Stamp
 pub fn try_clear(bank: &Bank, pass: &mut Pass, l: Object) -> Step
     requires may { MayTry bank.now pass.old (One l) }
     requires container { l < containers_in (shape_of bank.now) }
-    requires list { kind_in (shape_of bank.now).kinds l ≡ kind.List }
+    requires list { kind_in (shape_of bank.now).starts l ≡ kind.List }
     requires left { 0 < (view pass.old).left }
     ensures may { MayTry bank.now pass.new (One l) }
     ensures sections { SectionsAfter bank.now (One l) pass.old pass.new result }

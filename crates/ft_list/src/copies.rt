@@ -7,9 +7,9 @@ ghost use Rattle.ft_trace.specs.Addresses.{containers_in};
 ghost use Rattle.ft_bank.specs.Passes.{shape_of, view, IsPassOf};
 ghost use Rattle.ft_bank.specs.PassSections.{stack_of};
 ghost use Rattle.ft_list.specs.ListWrites.{MayWriteList};
-ghost use Rattle.ft_list.specs.Indexes.{Reads};
+ghost use Rattle.ft_reads.specs.Reads.{Reads};
 ghost use Rattle.ft_list.specs.Scans.{IsOfItems};
-ghost use Rattle.ft_list.specs.Copies.{AreCopied, IsCopied};
+ghost use Rattle.ft_reads.specs.Copies.{AreCopied, IsCopied};
 
 use crate::locked::LENGTH;
 use crate::reads::read_item;

@@ -78,7 +78,7 @@ pub(crate) fn found_of(kind: u64, payload: u64) -> Option<Option<Value>>
 fn find_value(bank: &Bank, pass: &mut Pass, l: Object, index: u64) -> AtIndex
     requires pass { IsPassOf bank.now pass.old }
     requires container { l < containers_in (shape_of bank.now) }
-    requires list { kind_in (shape_of bank.now).kinds l ≡ kind.List }
+    requires list { kind_in (shape_of bank.now).starts l ≡ kind.List }
     requires online { 0 < announces (view pass.old).log }
     requires left { 0 < (view pass.old).left }
     ensures pass { IsPassOf bank.now pass.new }
@@ -105,7 +105,7 @@ fn find_value(bank: &Bank, pass: &mut Pass, l: Object, index: u64) -> AtIndex
 pub fn look_item(bank: &Bank, pass: &mut Pass, l: Object, index: u64) -> Look
     requires pass { IsPassOf bank.now pass.old }
     requires container { l < containers_in (shape_of bank.now) }
-    requires list { kind_in (shape_of bank.now).kinds l ≡ kind.List }
+    requires list { kind_in (shape_of bank.now).starts l ≡ kind.List }
     requires index { index < 2 ^ 63 }
     requires online { 0 < announces (view pass.old).log }
     requires left { 0 < (view pass.old).left }

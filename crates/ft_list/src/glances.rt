@@ -12,9 +12,10 @@ ghost use Rattle.ft_trace.specs.ContainerStates.{kind_in};
 ghost use Rattle.ft_bank.specs.Passes.{shape_of, view, IsPassOf};
 ghost use Rattle.ft_bank.specs.PassSections.{stack_of};
 ghost use Rattle.ft_search.specs.Lengths.{IsGlanceOf};
-ghost use Rattle.ft_list.specs.Copies.{AreCopied};
-ghost use Rattle.ft_list.specs.Glances.{HasMoved, WasStill, Saw, SawBoth, IsCopyGlanceOf};
-ghost use Rattle.ft_list.specs.Pairs.{AreOfItems, IsGlanceOfBoth};
+ghost use Rattle.ft_reads.specs.Copies.{AreCopied};
+ghost use Rattle.ft_reads.specs.Glances.{HasMoved, WasStill, Saw, SawBoth, IsCopyGlanceOf};
+ghost use Rattle.ft_list.specs.Pairs.{AreOfItems};
+ghost use Rattle.ft_reads.specs.Pairs.{IsGlanceOfBoth};
 ghost use Rattle.ft_list.specs.Scans.{IsOfItems};
 
 use crate::copies::copy_items;
@@ -22,30 +23,10 @@ use crate::pairs::are_alike;
 use crate::scans::first_equal;
 use ft_bank::{Bank, Pass};
 use ft_model::{Call, ListCall, Reply, Value, Values};
+use ft_reads::Window;
 use ft_search::answer_look;
 use ft_section::{Look, Object};
 use std::alloc::{AllocError, Global};
-
-/// Two loads of the version of a container, and the load of the counter between them.
-#[derive(Clone, Copy)]
-pub struct Window {
-    /// The version at first.
-    pub opened: u64,
-    /// The counter.
-    pub number: u64,
-    /// The version at last.
-    pub closed: u64,
-}
-
-impl Window {
-    /// Whether a write may have come between: the version was odd, or it moved.
-    pub fn has_moved(self) -> bool
-        ensures moved { result ≡ true → HasMoved self }
-        ensures still { result ≡ false → WasStill self }
-    {
-        self.closed != self.opened || self.opened % 2 != 0
-    }
-}
 
 /// Looks for the first equal item, and loads the counter, between two loads of the version of the list.
 fn find_between(bank: &Bank, pass: &mut Pass, l: Object, value: Value) -> (Option<u64>, Window)
@@ -105,7 +86,7 @@ fn copy_between(
 pub fn look_has(bank: &Bank, pass: &mut Pass, l: Object, value: Value) -> Look
     requires pass { IsPassOf bank.now pass.old }
     requires container { l < containers_in (shape_of bank.now) }
-    requires list { kind_in (shape_of bank.now).kinds l ≡ kind.List }
+    requires list { kind_in (shape_of bank.now).starts l ≡ kind.List }
     requires left { 0 < (view pass.old).left }
     ensures pass { IsPassOf bank.now pass.new }
     ensures sections { stack_of pass.new ≡ stack_of pass.old }
@@ -137,7 +118,7 @@ pub fn look_has(bank: &Bank, pass: &mut Pass, l: Object, value: Value) -> Look
 pub fn look_items(bank: &Bank, pass: &mut Pass, alloc: Global, l: Object) -> Look
     requires pass { IsPassOf bank.now pass.old }
     requires container { l < containers_in (shape_of bank.now) }
-    requires list { kind_in (shape_of bank.now).kinds l ≡ kind.List }
+    requires list { kind_in (shape_of bank.now).starts l ≡ kind.List }
     requires left { 0 < (view pass.old).left }
     ensures pass { IsPassOf bank.now pass.new }
     ensures sections { stack_of pass.new ≡ stack_of pass.old }
@@ -206,8 +187,8 @@ pub fn look_eq(bank: &Bank, pass: &mut Pass, l: Object, m: Object) -> Look
     requires pass { IsPassOf bank.now pass.old }
     requires container { l < containers_in (shape_of bank.now) }
     requires other { m < containers_in (shape_of bank.now) }
-    requires list { kind_in (shape_of bank.now).kinds l ≡ kind.List }
-    requires other_list { kind_in (shape_of bank.now).kinds m ≡ kind.List }
+    requires list { kind_in (shape_of bank.now).starts l ≡ kind.List }
+    requires other_list { kind_in (shape_of bank.now).starts m ≡ kind.List }
     requires left { 0 < (view pass.old).left }
     ensures pass { IsPassOf bank.now pass.new }
     ensures sections { stack_of pass.new ≡ stack_of pass.old }

@@ -50,7 +50,7 @@ fn read_between(bank: &Bank, pass: &mut Pass, l: Object, index: i64) -> AtIndex
 fn look_between(bank: &Bank, pass: &mut Pass, l: Object, index: i64) -> Look
     requires pass { IsPassOf bank.now pass.old }
     requires container { l < containers_in (shape_of bank.now) }
-    requires list { kind_in (shape_of bank.now).kinds l ≡ kind.List }
+    requires list { kind_in (shape_of bank.now).starts l ≡ kind.List }
     requires left { 0 < (view pass.old).left }
     ensures pass { IsPassOf bank.now pass.new }
     ensures sections { stack_of pass.new ≡ stack_of pass.old }
@@ -80,7 +80,7 @@ fn look_between(bank: &Bank, pass: &mut Pass, l: Object, index: i64) -> Look
 pub fn look_get(bank: &Bank, pass: &mut Pass, l: Object, index: i64) -> Look
     requires pass { IsPassOf bank.now pass.old }
     requires container { l < containers_in (shape_of bank.now) }
-    requires list { kind_in (shape_of bank.now).kinds l ≡ kind.List }
+    requires list { kind_in (shape_of bank.now).starts l ≡ kind.List }
     requires online { 0 < announces (view pass.old).log }
     requires left { 0 < (view pass.old).left }
     ensures pass { IsPassOf bank.now pass.new }
@@ -97,7 +97,7 @@ pub fn look_get(bank: &Bank, pass: &mut Pass, l: Object, index: i64) -> Look
 fn get_locked(bank: &Bank, pass: &mut Pass, l: Object, index: i64) -> (Reply, Stamp)
     requires pass { IsPassOf bank.now pass.old }
     requires container { l < containers_in (shape_of bank.now) }
-    requires list { kind_in (shape_of bank.now).kinds l ≡ kind.List }
+    requires list { kind_in (shape_of bank.now).starts l ≡ kind.List }
     requires locked { has_lock l (view pass.old).log ≡ true }
     requires stands { Stands (shape_of bank.now).texts (held l (view pass.old)) (known l (view pass.old)) }
     requires left { 0 < (view pass.old).left }
@@ -123,7 +123,7 @@ fn get_locked(bank: &Bank, pass: &mut Pass, l: Object, index: i64) -> (Reply, St
 pub fn try_get(bank: &Bank, pass: &mut Pass, l: Object, index: i64) -> Step
     requires may { MayTry bank.now pass.old (One l) }
     requires container { l < containers_in (shape_of bank.now) }
-    requires list { kind_in (shape_of bank.now).kinds l ≡ kind.List }
+    requires list { kind_in (shape_of bank.now).starts l ≡ kind.List }
     requires left { 0 < (view pass.old).left }
     ensures may { MayTry bank.now pass.new (One l) }
     ensures sections { SectionsAfter bank.now (One l) pass.old pass.new result }

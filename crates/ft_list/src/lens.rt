@@ -27,7 +27,7 @@ use ft_section::{Look, Object, Step};
 pub fn look_len(bank: &Bank, pass: &mut Pass, l: Object) -> Look
     requires pass { IsPassOf bank.now pass.old }
     requires container { l < containers_in (shape_of bank.now) }
-    requires list { kind_in (shape_of bank.now).kinds l ≡ kind.List }
+    requires list { kind_in (shape_of bank.now).starts l ≡ kind.List }
     requires left { 0 < (view pass.old).left }
     ensures pass { IsPassOf bank.now pass.new }
     ensures sections { stack_of pass.new ≡ stack_of pass.old }
@@ -49,7 +49,7 @@ pub fn look_len(bank: &Bank, pass: &mut Pass, l: Object) -> Look
 pub fn try_len(bank: &Bank, pass: &mut Pass, l: Object) -> Step
     requires may { MayTry bank.now pass.old (One l) }
     requires container { l < containers_in (shape_of bank.now) }
-    requires list { kind_in (shape_of bank.now).kinds l ≡ kind.List }
+    requires list { kind_in (shape_of bank.now).starts l ≡ kind.List }
     requires left { 0 < (view pass.old).left }
     ensures may { MayTry bank.now pass.new (One l) }
     ensures sections { SectionsAfter bank.now (One l) pass.old pass.new result }

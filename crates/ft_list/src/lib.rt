@@ -34,7 +34,7 @@ pub use crate::adding::{append_by, extend_by, insert_by, try_append, try_extend,
 pub use crate::clearing::{clear_by, try_clear};
 pub use crate::floors::floor_items_stand;
 pub use crate::gets::look_item;
-pub use crate::glances::{Window, look_eq, look_has, look_items};
+pub use crate::glances::{look_eq, look_has, look_items};
 pub use crate::indexing::{look_get, try_get};
 pub use crate::lens::{look_len, try_len};
 pub use crate::locked::{del_locked, set_locked};

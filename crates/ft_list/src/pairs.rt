@@ -12,7 +12,8 @@ ghost use Rattle.ft_section.specs.declared.answers.Objects.TheVariants.{Two};
 ghost use Rattle.ft_section.specs.Ready.{MayTry};
 ghost use Rattle.ft_section.specs.Trying.{SectionsAfter};
 ghost use Rattle.ft_list.specs.ListWrites.{MayWriteList};
-ghost use Rattle.ft_list.specs.Pairs.{ReadsBoth, AreOfItems};
+ghost use Rattle.ft_list.specs.Pairs.{AreOfItems};
+ghost use Rattle.ft_reads.specs.Pairs.{ReadsBoth};
 ghost use Rattle.ft_search.specs.MadeCalls.{MadeAs, IsMadeOf};
 
 use crate::locked::LENGTH;
@@ -74,8 +75,8 @@ pub fn try_eq(bank: &Bank, pass: &mut Pass, l: Object, m: Object) -> Step
     requires may { MayTry bank.now pass.old (Two l m) }
     requires container { l < containers_in (shape_of bank.now) }
     requires other { m < containers_in (shape_of bank.now) }
-    requires list { kind_in (shape_of bank.now).kinds l ≡ kind.List }
-    requires other_list { kind_in (shape_of bank.now).kinds m ≡ kind.List }
+    requires list { kind_in (shape_of bank.now).starts l ≡ kind.List }
+    requires other_list { kind_in (shape_of bank.now).starts m ≡ kind.List }
     requires left { 0 < (view pass.old).left }
     ensures may { MayTry bank.now pass.new (Two l m) }
     ensures sections { SectionsAfter bank.now (Two l m) pass.old pass.new result }

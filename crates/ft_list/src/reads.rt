@@ -11,7 +11,8 @@ ghost use Rattle.ft_bank.specs.Passes.{shape_of, view, IsPassOf};
 ghost use Rattle.ft_bank.specs.PassSections.{stack_of};
 ghost use Rattle.ft_bank.specs.TableNames.{name_of, IsTableIn};
 ghost use Rattle.ft_bank.specs.Whole.{OnlyLoaded};
-ghost use Rattle.ft_list.specs.Indexes.{Reads, IsItemValue, IsItemAt, IsItemNamed};
+ghost use Rattle.ft_list.specs.Indexes.{IsItemValue, IsItemAt, IsItemNamed};
+ghost use Rattle.ft_reads.specs.Reads.{Reads};
 
 use crate::gets::found_of;
 use crate::items::word_at;

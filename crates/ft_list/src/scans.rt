@@ -4,7 +4,7 @@ ghost use Rattle.std.specs.Prelude.{◌≡◌, ◌<◌};
 ghost use Rattle.ft_model.specs.Lists.{index_of, count_of};
 ghost use Rattle.ft_trace.specs.Addresses.{containers_in};
 ghost use Rattle.ft_bank.specs.Passes.{shape_of, view, IsPassOf};
-ghost use Rattle.ft_list.specs.Indexes.{Reads};
+ghost use Rattle.ft_reads.specs.Reads.{Reads};
 ghost use Rattle.ft_list.specs.Scans.{IsOfItems};
 
 use crate::locked::LENGTH;

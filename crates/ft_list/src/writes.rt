@@ -1,6 +1,6 @@
 //! What calls do to a list whose lock the pass has and whose table has room: each is one whole write, in
 //! which the items that change are put one by one.
-ghost use Rattle.std.specs.Prelude.{◌≡◌, ℕ, ◌+◌, ◌<◌, ◌≤◌, List, false, true, cond, length, Some, slice_get, slice_set, slice_index_or};
+ghost use Rattle.std.specs.Prelude.{◌≡◌, ℕ, ◌+◌, ◌<◌, ◌≤◌, List, false, true, cond, length, Some, slice_get, slice_set, slice_index_or, []};
 ghost use Rattle.std.specs.List.{insert, remove};
 ghost use Rattle.ft_model.specs.declared.call.Call.TheVariants as call;
 ghost use Rattle.ft_model.specs.declared.call.ListCall.{ListCall};
@@ -46,7 +46,7 @@ pub(crate) fn begin(bank: &Bank, pass: &mut Pass, o: u32, table: Table)
         IsPutting (class_of (name_of table)) (known_items o (view pass.old)) first past
         (stored_item (known_items o (view pass.old))) (held o (view pass.new)).table }
     ensures content { (known o (view pass.old)).content ≡ content.List (known_items o (view pass.old)) }
-    ensures table { (known o (view pass.old)).table ≡ record { class = Some (class_of (name_of table)); fill = 0 } }
+    ensures table { (known o (view pass.old)).table ≡ record { class = Some (class_of (name_of table)); fill = 0; keys = [] } }
     ensures head { IsBlock (held o (view pass.new)).block (Some (class_of (name_of table)))
         (length (known_items o (view pass.old))) 0 0 }
     ensures few { length (known_items o (view pass.old)) ≤ slots (class_of (name_of table)) }

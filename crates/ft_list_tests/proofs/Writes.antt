@@ -18,7 +18,7 @@ use Rattle.ft_bank.proofs.KnownAfterWrites.{loaded_by, loaded_held}
 use Rattle.ft_list.specs.ListItemWrites.{WritesList}
 
 module _ (k : Shape) (o root f : ℕ) (v u w : View) (read : u ≡ noted (ReadBlock o 0 root) v) (start : w ≡ noted (StartWrite o f) u) where
-  pub begun_list : (t : Table) → o < containers_in k → kind_in k.kinds o ≡ kind.List → has_lock o v.log ≡ true → root ≡ root_in (held o v) → root ≡ suc (name_of t) → IsTableIn k t → WritesList k o t w
+  pub begun_list : (t : Table) → o < containers_in k → kind_in k.starts o ≡ kind.List → has_lock o v.log ≡ true → root ≡ root_in (held o v) → root ≡ suc (name_of t) → IsTableIn k t → WritesList k o t w
   begun_list t low list locked found names is = record {
     container = low;
     kind = list;
@@ -28,7 +28,7 @@ module _ (k : Shape) (o root f : ℕ) (v u w : View) (read : u ≡ noted (ReadBl
     root = ap (λ (z : View). root_in (held o z)) start ∙ (ap root_in (loaded_held v u o (loaded_by (ReadBlock o 0 root) v u tt read)) ∙ (sym found ∙ names));
   }
 
-  pub begun_lists : (result : Option Table) → IfSome result (λ (t : Table). root ≡ suc (name_of t)) → IfSome result (λ (t : Table). IsTableIn k t) → o < containers_in k → kind_in k.kinds o ≡ kind.List → has_lock o v.log ≡ true → root ≡ root_in (held o v) → IfSome result (λ (t : Table). WritesList k o t w)
+  pub begun_lists : (result : Option Table) → IfSome result (λ (t : Table). root ≡ suc (name_of t)) → IfSome result (λ (t : Table). IsTableIn k t) → o < containers_in k → kind_in k.starts o ≡ kind.List → has_lock o v.log ≡ true → root ≡ root_in (held o v) → IfSome result (λ (t : Table). WritesList k o t w)
   begun_lists None names is low list locked found = tt
   begun_lists (Some t) names is low list locked found = begun_list t low list locked found names is
 

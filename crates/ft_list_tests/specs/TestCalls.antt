@@ -6,10 +6,11 @@ use Rattle.ft_bank.specs.declared.pass.Pass.{Pass}
 use Rattle.ft_bank.specs.Passes.{shape_of}
 use Rattle.ft_section.specs.declared.answers.Objects.{Objects}
 use Rattle.ft_section.specs.Ready.{MayTry}
+use Rattle.ft_model.specs.Worlds.{start_as}
 
 -- the bank has two lists, and nothing else
 abbrev pub HasTwoLists : Bank → Type 0
-HasTwoLists b = (shape_of b).kinds ≡ kind.List ∷ kind.List ∷ []
+HasTwoLists b = (shape_of b).starts ≡ start_as kind.List ∷ start_as kind.List ∷ []
 
 -- the pass may try a call on any containers
 abbrev pub MayTryAny : Bank → Pass → Type 0

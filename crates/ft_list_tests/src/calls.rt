@@ -32,7 +32,7 @@ fn made(step: Step) -> Option<(Reply, Stamp)>
 pub(crate) fn is_list(bank: &Bank, l: u32) -> bool
     requires lists { HasTwoLists bank.now }
     ensures container { result ≡ true → l < containers_in (shape_of bank.now) }
-    ensures list { kind_in (shape_of bank.now).kinds l ≡ kind.List }
+    ensures list { kind_in (shape_of bank.now).starts l ≡ kind.List }
 {
     let _ = bank;
     l < 2

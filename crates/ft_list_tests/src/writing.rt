@@ -37,7 +37,7 @@ fn version_at(place: u64) -> u64
 fn begin(bank: &Bank, writer: &mut Pass, l: u32) -> Option<Table>
     requires pass { IsPassOf bank.now writer.old }
     requires container { l < containers_in (shape_of bank.now) }
-    requires list { kind_in (shape_of bank.now).kinds l ≡ kind.List }
+    requires list { kind_in (shape_of bank.now).starts l ≡ kind.List }
     requires locked { has_lock l (view writer.old).log ≡ true }
     requires even { is_writing l (view writer.old).log ≡ false }
     ensures pass { IsPassOf bank.now writer.new }

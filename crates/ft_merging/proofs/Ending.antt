@@ -76,18 +76,21 @@ module _ (laws : Laws) (texts : List ℕ) (x : Picture) (t : ℕ) (is_class : Is
   right_of (content.Dict pairs) kept is keyed stands p key low live = dict.dict_right laws.pairs texts x.block c kept.table.fill is_class pairs x.table (dict_says pairs kept is stands) p key low live
   right_of (content.Set elements) kept is keyed stands p key low live = set.set_right laws.elements texts x.block c kept.table.fill is_class elements x.table (set_says elements kept is stands) p key low live
   right_of (content.List values) kept is keyed stands p key low live = absurd keyed
+  right_of (content.Deque deque) kept is keyed stands p key low live = absurd keyed
 
   -- what may be committed that leaves this
   pub clear_of : (d : Content) (kept : ContainerState) → kept.content ≡ d → IsKeyed (kind_of d) → Stands texts x kept → (before : Content) → ((p : ℕ) (key : Key) → p < rows (kind_of d) c → entry_field n x.table p 0 % 2 ≡ 0 → HasLiveKey n x.table p key → under d key ≡ under before key) → ClearAs (kind_of d) texts c x.table before d
   clear_of (content.Dict pairs) kept is keyed stands before same = record { keeps = λ p key low even live. same p key low even live; adds = λ key fits none some. dict.dict_reached laws.pairs texts x.block c kept.table.fill is_class pairs x.table (dict_says pairs kept is stands) key fits some }
   clear_of (content.Set elements) kept is keyed stands before same = record { keeps = λ p key low even live. same p key low even live; adds = λ key fits none some. set.set_reached laws.elements texts x.block c kept.table.fill is_class elements x.table (set_says elements kept is stands) key fits some }
   clear_of (content.List values) kept is keyed stands before same = absurd keyed
+  clear_of (content.Deque deque) kept is keyed stands before same = absurd keyed
 
   -- a version may be made even
   close_of : (d : Content) (kept : ContainerState) → kept.content ≡ d → IsKeyed (kind_of d) → Stands texts x kept → (p : ℕ) → p < rows (kind_of d) c → entry_field n x.table p 0 % 2 ≡ 1 → ((key : Key) → IsDead n x.table p key → under d key ≡ []) → CarefulAs (kind_of d) c x.table d (entry_offset n p 0) (entry_field n x.table p 0 + 1)
   close_of (content.Dict pairs) kept is keyed stands p low odd gone = entry_close n (places c) x.table (under (content.Dict pairs)) p (entry_field n x.table p 0 + 1) refl (omega (arith, odd)) (λ key live. right_of (content.Dict pairs) kept is keyed stands p key low live) gone
   close_of (content.Set elements) kept is keyed stands p low odd gone = entry_close n (set_entries c) x.table (under (content.Set elements)) p (entry_field n x.table p 0 + 1) refl (omega (arith, odd)) (λ key live. right_of (content.Set elements) kept is keyed stands p key low live) gone
   close_of (content.List values) kept is keyed stands p low odd gone = absurd keyed
+  close_of (content.Deque deque) kept is keyed stands p low odd gone = absurd keyed
 
   -- a version that is put into an entry changes nothing
   version_put : dict.EntryVersionsChangeNothing → (d : Content) (kept : ContainerState) → kept.content ≡ d → IsKeyed (kind_of d) → Stands texts x kept → (p y : ℕ) → Stands texts (with_table x (entry_offset n p 0) y) kept
@@ -109,6 +112,7 @@ module _ (laws : Laws) (texts : List ℕ) (x : Picture) (t : ℕ) (is_class : Is
       let here : Stands texts (with_table x (entry_offset n p 0) y) (record { content = content.Set elements; table = kept.table }) = subst (λ (z : Option ℕ). IsSetWords texts x.block (0 ∷ 0 ∷ slice_set x.table (entry_offset n p 0) y) z kept.table.fill elements) (sym (class_known texts x kept t stands names)) now in
       subst (λ (z : Content). Stands texts (with_table x (entry_offset n p 0) y) (record { content = z; table = kept.table })) (sym is) here
   version_put versions (content.List values) kept is keyed stands p y = absurd keyed
+  version_put versions (content.Deque deque) kept is keyed stands p y = absurd keyed
 
 -- ---- one version
 
@@ -167,7 +171,7 @@ module _ (k : Shape) (o : ℕ) (table : Table) (from fill : ℕ) (v w : View) (o
   lt = name_of table
 
   abbrev lm : ℕ
-  lm = rows (kind_in k.kinds o) (class_of lt)
+  lm = rows (kind_in k.starts o) (class_of lt)
 
   held_back : held o v ≡ held o w
   held_back = sym (loaded_held v w o only)
@@ -182,7 +186,7 @@ module _ (k : Shape) (o : ℕ) (table : Table) (from fill : ℕ) (v w : View) (o
     shut = subst (λ (y : Picture). (p : ℕ) → p < lm → p < from → version_of lt y p % 2 ≡ 0) held_back closing.shut;
   }
 
-module _ (laws : Laws) (k : Shape) (o : ℕ) (table : Table) (place fill : ℕ) (v : View) (shape : v.shape ≡ k) (possible : ∥ Possible v ∥₁) (low : place < rows (kind_in k.kinds o) (class_of (name_of table))) (closing : IsClosing k o table place fill v) where
+module _ (laws : Laws) (k : Shape) (o : ℕ) (table : Table) (place fill : ℕ) (v : View) (shape : v.shape ≡ k) (possible : ∥ Possible v ∥₁) (low : place < rows (kind_in k.starts o) (class_of (name_of table))) (closing : IsClosing k o table place fill v) where
   abbrev ct : ℕ
   ct = name_of table
 
@@ -190,12 +194,12 @@ module _ (laws : Laws) (k : Shape) (o : ℕ) (table : Table) (place fill : ℕ) 
   cn = slots (class_of ct)
 
   abbrev cm : ℕ
-  cm = rows (kind_in k.kinds o) (class_of ct)
+  cm = rows (kind_in k.starts o) (class_of ct)
 
   abbrev at : ℕ
   at = entry_offset cn place 0
 
-  kind_eq : kind_of (known o v).content ≡ kind_in k.kinds o
+  kind_eq : kind_of (known o v).content ≡ kind_in k.starts o
   kind_eq = kind_is k v o shape possible closing.writes.locked
 
   is_keyed : IsKeyed (kind_of (known o v).content)
@@ -205,15 +209,15 @@ module _ (laws : Laws) (k : Shape) (o : ℕ) (table : Table) (place fill : ℕ) 
   class_is = table_class k table closing.writes.table_in
 
   inside : at < length (held o v).table
-  inside = subst (λ (z : ℕ). at < z) (sym (table_is_long v o ct closing.writes.root)) (keyed_low (kind_in k.kinds o) closing.writes.keyed (class_of ct) place 0 low (omega arith))
+  inside = subst (λ (z : ℕ). at < z) (sym (table_is_long v o ct closing.writes.root)) (keyed_low (kind_in k.starts o) closing.writes.keyed (class_of ct) place 0 low (omega arith))
 
   -- the version may be made even
   pub closing_care : version_of ct (held o v) place % 2 ≡ 1 → IsCareful v o ct at (entry_field cn (held o v).table place 0 + 1)
   closing_care odd =
       let care = close_of laws k.texts (held o v) ct class_is closing.writes.root (known o v).content (known o v) refl is_keyed closing.stands place (subst (λ (z : Kind). place < rows z (class_of ct)) (sym kind_eq) low) odd (λ key dead. closing.gone place key low odd dead) in
       record {
-        care = subst (λ (z : Kind). CarefulAs z (class_of ct) (held o v).table (known o v).content at (entry_field cn (held o v).table place 0 + 1)) (kind_eq ∙ sym (ap (λ (z : Shape). kind_in z.kinds o) shape)) care;
-        timely = subst (λ (b : Bool). Timely (version_at (kind_in v.shape.kinds o) (class_of ct)) (rows (kind_in v.shape.kinds o) (class_of ct)) at (entry_field cn (held o v).table place 0 + 1) b) (sym closing.late)
+        care = subst (λ (z : Kind). CarefulAs z (class_of ct) (held o v).table (known o v).content at (entry_field cn (held o v).table place 0 + 1)) (kind_eq ∙ sym (ap (λ (z : Shape). kind_in z.starts o) shape)) care;
+        timely = subst (λ (b : Bool). Timely (version_at (kind_in v.shape.starts o) (class_of ct)) (rows (kind_in v.shape.starts o) (class_of ct)) at (entry_field cn (held o v).table place 0 + 1) b) (sym closing.late)
             (record { before = λ q less is one. absurd (omega (arith, one, odd)); later = λ q less is two. refl });
       }
 
@@ -251,7 +255,7 @@ module _ (k : Shape) (o : ℕ) (table : Table) (fill : ℕ) (called : Call) (sai
   ft = name_of table
 
   abbrev fm : ℕ
-  fm = rows (kind_in k.kinds o) (class_of ft)
+  fm = rows (kind_in k.starts o) (class_of ft)
 
   held_then : held o u ≡ held o w
   held_then = sym (ap (held o) is)
@@ -293,9 +297,9 @@ pub closing_shut : (k : Shape) (o : ℕ) (table : Table) (fill : ℕ) (v : View)
 closing_shut k o table fill v shape closing q names =
     let t = name_of table in
     let same : t ≡ q = let e : suc t ≡ suc q = sym closing.writes.root ∙ names in omega (arith, e) in
-    let m = rows (kind_in k.kinds o) (class_of t) in
-    let here : Shut (version_at (kind_in k.kinds o) (class_of t)) m (held o v).table =
+    let m = rows (kind_in k.starts o) (class_of t) in
+    let here : Shut (version_at (kind_in k.starts o) (class_of t)) m (held o v).table =
     λ p less.
     let even : version_of t (held o v) p % 2 ≡ 0 = ⊎_elim (λ (e : version_of t (held o v) p % 2 ≡ 0). e) (λ (odd : version_of t (held o v) p % 2 ≡ 1). closing.shut p less (closing.opened p less odd)) (parity (version_of t (held o v) p)) in
-    subst (λ (i : ℕ). slice_index (held o v).table i % 2 ≡ 0) (sym (keyed_version (kind_in k.kinds o) closing.writes.keyed (class_of t) p)) even in
-    subst (λ (y : Shape × ℕ). Shut (version_at (kind_in y.0.kinds o) (class_of y.1)) (rows (kind_in y.0.kinds o) (class_of y.1)) (held o v).table) (λ d. (sym shape d, same d)) here
+    subst (λ (i : ℕ). slice_index (held o v).table i % 2 ≡ 0) (sym (keyed_version (kind_in k.starts o) closing.writes.keyed (class_of t) p)) even in
+    subst (λ (y : Shape × ℕ). Shut (version_at (kind_in y.0.starts o) (class_of y.1)) (rows (kind_in y.0.starts o) (class_of y.1)) (held o v).table) (λ d. (sym shape d, same d)) here

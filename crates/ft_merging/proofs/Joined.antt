@@ -66,13 +66,13 @@ joining_loaded k o by own t table goal end place counts v w only j =
       kind_is = j.kind_is;
       count_is = j.count_is;
       next_is = j.next_is;
-      alive = subst (λ (x : Picture). NoneGone (name_of own) (rows (kind_in k.kinds o) (class_of (name_of own))) x) mine j.alive;
+      alive = subst (λ (x : Picture). NoneGone (name_of own) (rows (kind_in k.starts o) (class_of (name_of own))) x) mine j.alive;
       room = j.room;
       used = j.used;
       filled = j.filled ∙ ap (λ (z : ContainerState). z.table.fill) (sym (work_knows v w t only.work));
       source = subst (λ (x : Picture). IsTableOf by k.texts (class_mask (class_of (name_of table))) j.used (0 ∷ 0 ∷ x.table)) other j.source;
       left = j.left;
-      ahead = subst (λ (x : Picture). NoneAhead (name_of own) (rows (kind_in k.kinds o) (class_of (name_of own))) x (drop place j.used)) mine j.ahead;
+      ahead = subst (λ (x : Picture). NoneAhead (name_of own) (rows (kind_in k.starts o) (class_of (name_of own))) x (drop place j.used)) mine j.ahead;
     }
 
 -- ---- one more entry
@@ -92,7 +92,7 @@ module _ (k : Shape) (o : ℕ) (by : Way) (own : Table) (t : ℕ) (table : Table
 
   -- the entries that are left after it
   abbrev m : ℕ
-  m = rows (kind_in k.kinds o) (class_of (name_of own))
+  m = rows (kind_in k.starts o) (class_of (name_of own))
 
   ahead_here : NoneAhead (name_of own) m (held o v) (e ∷ later)
   ahead_here = subst (NoneAhead (name_of own) m (held o v)) (drop_more j.used place any inside) j.ahead
@@ -138,10 +138,10 @@ module _ (k : Shape) (o : ℕ) (by : Way) (own : Table) (t : ℕ) (table : Table
           (λ (odd : version_of (name_of own) (held o v) at % 2 ≡ 1). absurd (ahead_here at key there_low odd fits live 0 e (omega arith) (ap is_some is) (sym same)))
           (parity (version_of (name_of own) (held o v) at))
 
-      kinds : kind_of j.mid ≡ kind_in k.kinds o
+      kinds : kind_of j.mid ≡ kind_in k.starts o
       kinds = j.same_kind ∙ sym j.kind_is
 
-      pub joining_may : (before : Content) → MayPuts (kind_in k.kinds o) (name_of own) before false (held o v) (stored_puts (slots (class_of (name_of own))) (held o v).table at stored)
+      pub joining_may : (before : Content) → MayPuts (kind_in k.starts o) (name_of own) before false (held o v) (stored_puts (slots (class_of (name_of own))) (held o v).table at stored)
       joining_may before = there_may laws k o own counts.fill v at key fits there_low live even j.mid stored j.midway kinds stores ok before
 
       pub joining_there : holds j.mid key ≡ true → (z : View) → OnlyPut o v z → held o z ≡ with_puts (held o v) (stored_puts (slots (class_of (name_of own))) (held o v).table at stored) → WritesEntries k o own z → held t z ≡ held t v → IsJoining k o by own t table goal end (place + 1) counts z
@@ -173,7 +173,7 @@ module _ (k : Shape) (o : ℕ) (by : Way) (own : Table) (t : ℕ) (table : Table
       abbrev next : AreLeft (kind_by by) (with_key j.mid key stored) goal (counts.fill + 1) end later × (counts.fill < end) × (length_of j.mid < 65536) × (serial_of j.mid + 1 < 2 ^ 63)
       next = left_new (kind_by by) j.mid goal j.same_kind counts.fill end key e.serial later stored (step key (Some stored) same is) (holds_none j.mid key absent)
 
-      pub new_room : counts.fill < rows (kind_in k.kinds o) (class_of (name_of own))
+      pub new_room : counts.fill < rows (kind_in k.starts o) (class_of (name_of own))
       new_room = let n = next.1 in let r = j.room in omega (arith, n, r)
 
       pub new_few : (counts.count < 65536) × (counts.next + 1 < 2 ^ 63)
@@ -213,6 +213,7 @@ pub cap_few : (d : Content) → passes_cap d ≡ false → length_of d ≤ most_
 cap_few (content.Dict pairs) not = ltb-false _ _ not
 cap_few (content.Set elements) not = ltb-false _ _ not
 cap_few (content.List values) not = ltb-false _ _ not
+cap_few (content.Deque deque) not = ltb-false _ _ not
 
 -- what there is then
 pub joined_more : (k : Shape) (by : Way) (t : ℕ) (table : Table) (v : View) (s : Source k by t table v) (d : Content) → kind_of d ≡ kind_by by → (length_of (joined d (known t v).content) ≡ length_of d + lacking d s.used) × (new_keys d (known t v).content ≡ lacking d s.used) × (serial_of (joined d (known t v).content) ≡ serial_of d + lacking d s.used)
@@ -223,8 +224,8 @@ joined_more k by t table v s d same_kind =
     let r : serial_of (joined d (known t v).content) ≡ serial_of d + lacking d s.used = ap serial_of (sym comes) ∙ counts.1 in
     (n, omega (arith, r), r)
 
-pub joining_begins : (k : Shape) (o : ℕ) (by : Way) (own : Table) (t : ℕ) (table : Table) (d : Content) (counts : Counts) (more : ℕ) (u : View) → IsMidway k o own (record { content = d; table = use_with (class_of (name_of own)) counts.fill }) u → kind_of d ≡ kind_by by → kind_in k.kinds o ≡ kind_by by → counts.count ≡ length_of d → counts.next ≡ serial_of d
-    → NoneGone (name_of own) (rows (kind_in k.kinds o) (class_of (name_of own))) (held o u) → ((p : ℕ) → p < rows (kind_in k.kinds o) (class_of (name_of own)) → version_of (name_of own) (held o u) p % 2 ≡ 0) → Source k by t table u → passes_cap (joined d (known t u).content) ≡ false → serial_of d + 65536 < 2 ^ 63 → more ≡ new_keys d (known t u).content → counts.fill + more ≤ rows (kind_in k.kinds o) (class_of (name_of own))
+pub joining_begins : (k : Shape) (o : ℕ) (by : Way) (own : Table) (t : ℕ) (table : Table) (d : Content) (counts : Counts) (more : ℕ) (u : View) → IsMidway k o own (record { content = d; table = use_with (class_of (name_of own)) counts.fill }) u → kind_of d ≡ kind_by by → kind_in k.starts o ≡ kind_by by → counts.count ≡ length_of d → counts.next ≡ serial_of d
+    → NoneGone (name_of own) (rows (kind_in k.starts o) (class_of (name_of own))) (held o u) → ((p : ℕ) → p < rows (kind_in k.starts o) (class_of (name_of own)) → version_of (name_of own) (held o u) p % 2 ≡ 0) → Source k by t table u → passes_cap (joined d (known t u).content) ≡ false → serial_of d + 65536 < 2 ^ 63 → more ≡ new_keys d (known t u).content → counts.fill + more ≤ rows (kind_in k.starts o) (class_of (name_of own))
     → IsJoining k o by own t table (joined d (known t u).content) (counts.fill + more) 0 counts u
 joining_begins k o by own t table d counts more u midway same_kind kind_eq count_is next_is alive evens s cap serials more_is room =
     let j = joined_more k by t table u s d same_kind in
@@ -284,8 +285,8 @@ module _ (laws : Laws) (k : Shape) (o : ℕ) (by : Way) (own : Table) (t : ℕ) 
   kind_goal : kind_of goal ≡ kind_by by
   kind_goal = ap kind_of (sym at_end.comes) ∙ j.same_kind
 
-  kind_u : kind_of goal ≡ kind_in u.shape.kinds o
-  kind_u = kind_goal ∙ (sym j.kind_is ∙ sym (ap (λ (z : Shape). kind_in z.kinds o) (since.shape ∙ shape)))
+  kind_u : kind_of goal ≡ kind_in u.shape.starts o
+  kind_u = kind_goal ∙ (sym j.kind_is ∙ sym (ap (λ (z : Shape). kind_in z.starts o) (since.shape ∙ shape)))
 
   texts_u : k.texts ≡ u.shape.texts
   texts_u = sym (ap (λ (z : Shape). z.texts) (since.shape ∙ shape))
@@ -298,11 +299,11 @@ module _ (laws : Laws) (k : Shape) (o : ℕ) (by : Way) (own : Table) (t : ℕ) 
       clear_of laws k.texts (held o u) (name_of own) (table_class k own midway.writes.table_in) midway.writes.root goal left refl (subst IsKeyed (sym (kind_goal ∙ sym j.kind_is)) midway.writes.keyed) midway.stands (known o v).content
       (λ p key less even live. midway.same p key (subst (λ (z : Kind). p < rows z c) (kind_goal ∙ sym j.kind_is) less) even live ∙ ap (λ (z : ContainerState). under z.content key) (since.knows o))
 
-  clears : (found : StoredWorld) (q : ℕ) → MayHave u found → root_in (held o u) ≡ suc q → ClearAs (kind_in u.shape.kinds o) u.shape.texts (class_of q) (held o u).table (known o u).content (state_at (after_stored found called) o).content
+  clears : (found : StoredWorld) (q : ℕ) → MayHave u found → root_in (held o u) ≡ suc q → ClearAs (kind_in u.shape.starts o) u.shape.texts (class_of q) (held o u).table (known o u).content (state_at (after_stored found called) o).content
   clears found q has names =
       let same : name_of own ≡ q = let e : suc (name_of own) ≡ suc q = sym midway.writes.root ∙ names in omega (arith, e) in
       let l = left_since found has in
-      subst (λ (n : ℕ). ClearAs (kind_in u.shape.kinds o) u.shape.texts (class_of n) (held o u).table (known o u).content (state_at (after_stored found called) o).content) same
+      subst (λ (n : ℕ). ClearAs (kind_in u.shape.starts o) u.shape.texts (class_of n) (held o u).table (known o u).content (state_at (after_stored found called) o).content) same
       (subst (λ (z : Kind × List ℕ × ContainerState × ContainerState). ClearAs z.0 z.1 c (held o u).table z.2.content z.3.content) (λ d. (kind_u d, texts_u d, sym (since.knows o) d, sym l d)) here)
 
   commits : MayCommit u called reply.Done
@@ -317,7 +318,7 @@ module _ (laws : Laws) (k : Shape) (o : ℕ) (by : Way) (own : Table) (t : ℕ) 
         reply_is = λ found has. plain_replied called reply.Done (reply_in found called) joins.write (joins.replied found (has_since o v u since found has));
         declared = λ found has. joins.declared found (has_since o v u since found has);
         fits = λ found has. joins.over found (has_since o v u since found has) ∙ cap;
-        clear = subst (λ (n : ℕ). (found : StoredWorld) (q : ℕ) → MayHave u found → root_in (held n u) ≡ suc q → ClearAs (kind_in u.shape.kinds n) u.shape.texts (class_of q) (held n u).table (known n u).content (state_at (after_stored found called) n).content) name clears;
+        clear = subst (λ (n : ℕ). (found : StoredWorld) (q : ℕ) → MayHave u found → root_in (held n u) ≡ suc q → ClearAs (kind_in u.shape.starts n) u.shape.texts (class_of q) (held n u).table (known n u).content (state_at (after_stored found called) n).content) name clears;
         takes = λ found class has owed. takes found class (has_since o v u since found has) (sym since.owes ∙ owed);
         empties = λ e. absurd (true≢false (sym e ∙ subst (λ (n : ℕ). has_emptied n u.log ≡ false) name since.emptied));
         locks = λ p e. since.locks p ∙ joins.locks p e;

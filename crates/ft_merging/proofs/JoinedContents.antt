@@ -58,6 +58,7 @@ holds_other (content.Dict pairs) key (Boxed block) other stores ne = absurd stor
 holds_other (content.Set elements) key (Plain value) other stores ne = absurd stores
 holds_other (content.Set elements) key (Boxed block) other stores ne = absurd stores
 holds_other (content.List values) key stored other stores ne = absurd stores
+holds_other (content.Deque deque) key stored other stores ne = absurd stores
 
 -- it is one more, where it wasn't there
 pub counts_more : (d : Content) (key : Key) (stored : Stored) → StoresAs (kind_of d) stored → holds d key ≡ false → (length_of (with_key d key stored) ≡ length_of d + 1) × (serial_of (with_key d key stored) ≡ serial_of d + 1)
@@ -68,6 +69,7 @@ counts_more (content.Dict pairs) key (Boxed block) stores missing = absurd store
 counts_more (content.Set elements) key (Plain value) stores missing = absurd stores
 counts_more (content.Set elements) key (Boxed block) stores missing = absurd stores
 counts_more (content.List values) key stored stores missing = absurd stores
+counts_more (content.Deque deque) key stored stores missing = absurd stores
 
 -- an element that is there stays
 set_there : (elements : SetContent) (key : Key) → has_element elements.elements key ≡ true → set_add elements key ≡ elements
@@ -86,12 +88,14 @@ counts_same (content.Dict pairs) key (Boxed block) stores there = absurd stores
 counts_same (content.Set elements) key (Plain value) stores there = absurd stores
 counts_same (content.Set elements) key (Boxed block) stores there = absurd stores
 counts_same (content.List values) key stored stores there = absurd stores
+counts_same (content.Deque deque) key stored stores there = absurd stores
 
 -- of a set nothing changes
 pub set_same : (d : Content) (key : Key) (stored : Stored) → kind_of d ≡ kind.Set → holds d key ≡ true → with_key d key stored ≡ d
 set_same (content.Set elements) key stored sets there = ap content.Set (set_there elements key there)
 set_same (content.Dict pairs) key stored sets there = absurd (cc)
 set_same (content.List values) key stored sets there = absurd (cc)
+set_same (content.Deque deque) key stored sets there = absurd (cc)
 
 pub kind_with : (d : Content) (key : Key) (stored : Stored) → StoresAs (kind_of d) stored → kind_of (with_key d key stored) ≡ kind_of d
 kind_with (content.Dict pairs) key (Plain value) stores = refl
@@ -101,6 +105,7 @@ kind_with (content.Dict pairs) key (Boxed block) stores = absurd stores
 kind_with (content.Set elements) key (Plain value) stores = absurd stores
 kind_with (content.Set elements) key (Boxed block) stores = absurd stores
 kind_with (content.List values) key stored stores = absurd stores
+kind_with (content.Deque deque) key stored stores = absurd stores
 
 -- ---- entries that are left
 

@@ -42,8 +42,8 @@ use Rattle.ft_merging.proofs.JoinedPairs.{source_known}
 use Rattle.ft_merging.proofs.JoinedReads.{knows_put}
 use Rattle.ft_merging.proofs.JoinedStarts.{knows_rooted}
 
-module _ (heads : Heads) (laws : Laws) (k : Shape) (o : ℕ) (by : Way) (old : Option Table) (new : Table) (t : ℕ) (table : Table) (counts : Counts) (more : ℕ) (x y z : View) (f was : ℕ) (shape : x.shape ≡ k) (possible : ∥ Possible x ∥₁) (two : o ≢ t) (may : MayGrowKeyed k o old new x) (other : KnowsKeyed k t (Some table) x) (kind_eq : kind_in k.kinds o ≡ kind_by by) (kind_t : kind_in k.kinds t ≡ kind_by by)
-    (filled : IsFilledWith k.texts (class_of (name_of new)) (known o x).content (in_hand (name_of new) x)) (are : AreCounts (held o x).block counts) (more_is : more ≡ new_keys (known o x).content (known t x).content) (cap : passes_cap (joined (known o x).content (known t x).content) ≡ false) (serials : serial_of (known o x).content + 65536 < 2 ^ 63) (room : counts.count + more ≤ rows (kind_in k.kinds o) (class_of (name_of new)))
+module _ (heads : Heads) (laws : Laws) (k : Shape) (o : ℕ) (by : Way) (old : Option Table) (new : Table) (t : ℕ) (table : Table) (counts : Counts) (more : ℕ) (x y z : View) (f was : ℕ) (shape : x.shape ≡ k) (possible : ∥ Possible x ∥₁) (two : o ≢ t) (may : MayGrowKeyed k o old new x) (other : KnowsKeyed k t (Some table) x) (kind_eq : kind_in k.starts o ≡ kind_by by) (kind_t : kind_in k.starts t ≡ kind_by by)
+    (filled : IsFilledWith k.texts (class_of (name_of new)) (known o x).content (in_hand (name_of new) x)) (are : AreCounts (held o x).block counts) (more_is : more ≡ new_keys (known o x).content (known t x).content) (cap : passes_cap (joined (known o x).content (known t x).content) ≡ false) (serials : serial_of (known o x).content + 65536 < 2 ^ 63) (room : counts.count + more ≤ rows (kind_in k.starts o) (class_of (name_of new)))
     (did : y ≡ noted (PutRoot o (suc (name_of new)) was) (noted (StartWrite o f) x)) (keeps : KeepsUnwritten (noted (StartWrite o f) x) y) (words : held o y ≡ record { block = slice_set (held o x).block 0 (suc (name_of new)); table = in_hand (name_of new) x }) (shape_y : y.shape ≡ k)
     (only : OnlyPut o y z) (put : held o z ≡ record { block = counted (held o y).block counts.count counts.count counts.next; table = (held o y).table }) (writes : WritesEntries k o new z) (shape_z : z.shape ≡ k) (possible_z : ∥ Possible z ∥₁) where
   abbrev c : ℕ
@@ -55,7 +55,7 @@ module _ (heads : Heads) (laws : Laws) (k : Shape) (o : ℕ) (by : Way) (old : O
   abbrev all : Counts
   all = record { count = counts.count; fill = counts.count; next = counts.next }
 
-  kinds : kind_of d ≡ kind_in k.kinds o
+  kinds : kind_of d ≡ kind_in k.starts o
   kinds = kind_is k x o shape possible may.keyed.locked
 
   many : (counts.count ≡ length_of d) × (counts.next ≡ serial_of d)
@@ -76,13 +76,13 @@ module _ (heads : Heads) (laws : Laws) (k : Shape) (o : ℕ) (by : Way) (old : O
       subst (λ (w : ℕ × ℕ). StandsAs k.texts (counted (slice_set (held o x).block 0 (suc (name_of new))) w.0 w.0 w.1) (0 ∷ 0 ∷ in_hand (name_of new) x) (use_with c w.0) d) (λ i. (sym n i, sym r i)) says in
       subst (λ (w : Picture). Stands k.texts w (record { content = d; table = use_with c counts.count })) (sym words_on) here
 
-  evens : (p : ℕ) → p < rows (kind_in k.kinds o) c → version_of (name_of new) (held o z) p % 2 ≡ 0
+  evens : (p : ℕ) → p < rows (kind_in k.starts o) c → version_of (name_of new) (held o z) p % 2 ≡ 0
   evens p less =
       let zero = filled.versions p (subst (λ (w : Kind). p < rows w c) (sym kinds) less) in
       let same : version_of (name_of new) (held o z) p ≡ entry_field (slots c) (in_hand (name_of new) x) p 0 = ap (λ (w : Picture). version_of (name_of new) w p) words_on in
       omega (arith, zero, same)
 
-  alive : NoneGone (name_of new) (rows (kind_in k.kinds o) c) (held o z)
+  alive : NoneGone (name_of new) (rows (kind_in k.starts o) c) (held o z)
   alive p key less odd dead = let e = evens p less in omega (arith, e, odd)
 
   midway : IsMidway k o new (record { content = d; table = use_with c counts.count }) z

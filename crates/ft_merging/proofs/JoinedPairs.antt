@@ -100,11 +100,12 @@ dict_source pairs k t table v knows others is =
     comes (content.Dict base) kind_eq used live = joined_pairs used base others.pairs live
     comes (content.Set elements) kind_eq used live = absurd (cc)
     comes (content.List values) kind_eq used live = absurd (cc)
+    comes (content.Deque deque) kind_eq used live = absurd (cc)
 
 -- of a container whose lock the pass has
-pub source_known : Laws → (k : Shape) (t : ℕ) (table : Table) (v : View) → v.shape ≡ k → ∥ Possible v ∥₁ → KnowsKeyed k t (Some table) v → (by : Way) → kind_in k.kinds t ≡ kind_by by → Source k by t table v
-source_known laws k t table v shape possible knows way.Dict kind_eq = let d = of_way way.Dict v t possible knows.locked (ap (λ (z : Shape). kind_in z.kinds t) shape ∙ kind_eq) in dict_source laws.pairs k t table v knows d.0 d.1
-source_known laws k t table v shape possible knows way.Set kind_eq = let d = of_way way.Set v t possible knows.locked (ap (λ (z : Shape). kind_in z.kinds t) shape ∙ kind_eq) in set_source laws.elements k t table v knows d.0 d.1
+pub source_known : Laws → (k : Shape) (t : ℕ) (table : Table) (v : View) → v.shape ≡ k → ∥ Possible v ∥₁ → KnowsKeyed k t (Some table) v → (by : Way) → kind_in k.starts t ≡ kind_by by → Source k by t table v
+source_known laws k t table v shape possible knows way.Dict kind_eq = let d = of_way way.Dict v t possible knows.locked (ap (λ (z : Shape). kind_in z.starts t) shape ∙ kind_eq) in dict_source laws.pairs k t table v knows d.0 d.1
+source_known laws k t table v shape possible knows way.Set kind_eq = let d = of_way way.Set v t possible knows.locked (ap (λ (z : Shape). kind_in z.starts t) shape ∙ kind_eq) in set_source laws.elements k t table v knows d.0 d.1
 
 -- ---- a dict that is updated with itself
 

@@ -161,24 +161,27 @@ set_source elements k t table v knows others is =
     comes (content.Set s) kind_eq used apart live = joined_elements used s others.elements apart live
     comes (content.Dict pairs) kind_eq used apart live = absurd (cc)
     comes (content.List values) kind_eq used apart live = absurd (cc)
+    comes (content.Deque deque) kind_eq used apart live = absurd (cc)
 
 -- ---- keys that were sought
 
 -- a key that is held is there
 pub holds_some : (k : Shape) (x : Picture) (kept : ContainerState) (class : ℕ) → Stands k.texts x kept → kept.table.class ≡ Some class → (key : Key) (a b : ℕ) → FitsKey key → IsHeldAt kept.content key (Some (a, b)) → holds kept.content key ≡ true
-holds_some k x kept class stands class_is key a b fits there = by kept.content (subst (λ (z : Option ℕ). StandsAs k.texts x.block (0 ∷ 0 ∷ x.table) (record { class = z; fill = kept.table.fill }) kept.content) class_is stands) there
+holds_some k x kept class stands class_is key a b fits there = by kept.content (subst (λ (z : Option ℕ). StandsAs k.texts x.block (0 ∷ 0 ∷ x.table) (record { class = z; fill = kept.table.fill; keys = kept.table.keys }) kept.content) class_is stands) there
   where
-    by : (d : Content) → StandsAs k.texts x.block (0 ∷ 0 ∷ x.table) (record { class = Some class; fill = kept.table.fill }) d → IsHeldAt d key (Some (a, b)) → holds d key ≡ true
+    by : (d : Content) → StandsAs k.texts x.block (0 ∷ 0 ∷ x.table) (record { class = Some class; fill = kept.table.fill; keys = kept.table.keys }) d → IsHeldAt d key (Some (a, b)) → holds d key ≡ true
     by (content.Set others) says h = element_there others key fits (set_fits_words k.texts x.block (0 ∷ 0 ∷ x.table) class kept.table.fill others says) (λ none. absurd (let e = sym h.1 ∙ none in cc))
     by (content.Dict pairs) says h =
         let found = replies.there pairs key fits (dict_fits_words k.texts x.block (0 ∷ 0 ∷ x.table) class kept.table.fill pairs says) (λ none. absurd (let e = sym h.1 ∙ none in cc)) in
         any_found (is_at key) pairs.pairs ∙ ap is_some found.1
     by (content.List values) says h = absurd h
+    by (content.Deque deque) says h = absurd h
 
 pub holds_none : (d : Content) (key : Key) → IsHeldAt d key None → holds d key ≡ false
 holds_none (content.Dict pairs) key none = none
 holds_none (content.Set elements) key none = none
 holds_none (content.List values) key none = absurd none
+holds_none (content.Deque deque) key none = absurd none
 
 -- where a key was found in the table
 pub holds_at : (k : Shape) (v : View) (o : ℕ) (table : Table) (key : Key) (a b : ℕ) → MayWriteEntries k o v → HasTable k o table v → FitsKey key → IsHeldAt (known o v).content key (Some (a, b)) → holds (known o v).content key ≡ true

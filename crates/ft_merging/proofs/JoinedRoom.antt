@@ -1,5 +1,5 @@
 -- Which table a dict or a set has once another one is joined to it, and that it has room.
-use Rattle.std.proofs.Common.{◌≡◌, ℕ, zero, suc, ◌+◌, ◌*◌, ◌^◌, ◌<◌, ◌≤◌, Bool, true, false, true≢false, length, Option, Some, None, refl, sym, ap, ◌∙◌, subst, arith, lt-ltb, ltb-false}
+use Rattle.std.proofs.Common.{◌≡◌, ℕ, zero, suc, ◌+◌, ◌*◌, ◌^◌, ◌<◌, ◌≤◌, Bool, true, false, true≢false, length, Option, Some, None, refl, sym, ap, ◌∙◌, subst, arith, lt-ltb, ltb-false, []}
 use Rattle.std.specs.Prelude.{◌&&◌, is_some, nat_lt, if◌then◌else◌}
 use Rattle.std.specs.Option.{unwrap_or}
 use Rattle.ft_model.specs.declared.content.Content.{Content}
@@ -52,7 +52,9 @@ keys_room (content.Set elements) way.Set t fill (suc more) same low none =
 keys_room (content.Dict pairs) way.Set t fill more same low none = absurd (cc)
 keys_room (content.Set elements) way.Dict t fill more same low none = absurd (cc)
 keys_room (content.List values) way.Dict t fill more same low none = absurd (cc)
+keys_room (content.Deque deque) way.Dict t fill more same low none = absurd (cc)
 keys_room (content.List values) way.Set t fill more same low none = absurd (cc)
+keys_room (content.Deque deque) way.Set t fill more same low none = absurd (cc)
 
 -- and a new one has
 pub taken_room : (d : Content) (by : Way) (was : TableUse) (class more : ℕ) → kind_of d ≡ kind_by by → length_of d + more ≤ most_of d → keys_take d was more ≡ Some class → length_of d + more ≤ rows (kind_by by) class
@@ -68,7 +70,9 @@ taken_room (content.Set elements) way.Set was class more same few takes =
 taken_room (content.Dict pairs) way.Set was class more same few takes = absurd (cc)
 taken_room (content.Set elements) way.Dict was class more same few takes = absurd (cc)
 taken_room (content.List values) way.Dict was class more same few takes = absurd (cc)
+taken_room (content.Deque deque) way.Dict was class more same few takes = absurd (cc)
 taken_room (content.List values) way.Set was class more same few takes = absurd (cc)
+taken_room (content.Deque deque) way.Set was class more same few takes = absurd (cc)
 
 -- a container without a table takes one for a new key
 pub bare_none : (d : Content) (by : Way) (fill more : ℕ) → kind_of d ≡ kind_by by → keys_take d (use_of None fill) more ≡ None → more ≡ 0
@@ -84,18 +88,20 @@ bare_none (content.Set elements) way.Set fill (suc more) same none = absurd (tru
 bare_none (content.Dict pairs) way.Set fill (suc more) same none = absurd (cc)
 bare_none (content.Set elements) way.Dict fill (suc more) same none = absurd (cc)
 bare_none (content.List values) way.Dict fill (suc more) same none = absurd (cc)
+bare_none (content.Deque deque) way.Dict fill (suc more) same none = absurd (cc)
 bare_none (content.List values) way.Set fill (suc more) same none = absurd (cc)
+bare_none (content.Deque deque) way.Set fill (suc more) same none = absurd (cc)
 
 -- ---- the table that it has then
 
 pub stays_table : (kept : ContainerState) (others : Content) (own : Table) (fill more : ℕ) → kept.table ≡ use_of (Some own) fill → join_takes kept others ≡ None → more ≡ new_keys kept.content others → class_of (name_of own) ≡ own.class → (joined_state kept others).table ≡ use_with (class_of (name_of own)) (fill + more)
 stays_table kept others own fill more is none more_is same =
     ap (λ (z : Option ℕ). grown_table kept.table z (new_keys kept.content others) (length_of (joined kept.content others))) none
-    ∙ (λ i. record { class = (ap (λ (z : TableUse). z.class) is ∙ ap (λ (n : ℕ). Some n) (sym same)) i; fill = (is i).fill + sym more_is i })
+    ∙ (λ i. record { class = (ap (λ (z : TableUse). z.class) is ∙ ap (λ (n : ℕ). Some n) (sym same)) i; fill = (is i).fill + sym more_is i; keys = (is i).keys })
 
 pub taken_table : (kept : ContainerState) (others : Content) (class count : ℕ) → join_takes kept others ≡ Some class → length_of (joined kept.content others) ≡ count → (joined_state kept others).table ≡ use_with class count
 taken_table kept others class count takes all =
-    ap (λ (z : Option ℕ). grown_table kept.table z (new_keys kept.content others) (length_of (joined kept.content others))) takes ∙ (λ i. record { class = Some class; fill = all i })
+    ap (λ (z : Option ℕ). grown_table kept.table z (new_keys kept.content others) (length_of (joined kept.content others))) takes ∙ (λ i. record { class = Some class; fill = all i; keys = [] })
 
 -- ---- where nothing is new
 
@@ -104,26 +110,30 @@ same_kept kept others same =
     let n : new_keys kept.content others ≡ 0 = let s = ap serial_of same in omega (arith, s) in
     let none : join_takes kept others ≡ None = ap (keys_take kept.content kept.table) n ∙ takes_none kept.content kept.table in
     let fill : kept.table.fill + new_keys kept.content others ≡ kept.table.fill = omega (arith, n) in
-    let table : (joined_state kept others).table ≡ kept.table = ap (λ (z : Option ℕ). grown_table kept.table z (new_keys kept.content others) (length_of (joined kept.content others))) none ∙ (λ i. record { class = kept.table.class; fill = fill i }) in
+    let table : (joined_state kept others).table ≡ kept.table = ap (λ (z : Option ℕ). grown_table kept.table z (new_keys kept.content others) (length_of (joined kept.content others))) none ∙ (λ i. record { class = kept.table.class; fill = fill i; keys = kept.table.keys }) in
     ((λ i. record { content = same i; table = table i }), none)
   where
     takes_none : (d : Content) (was : TableUse) → keys_take d was 0 ≡ None
     takes_none (content.Dict pairs) was = refl
     takes_none (content.Set elements) was = refl
     takes_none (content.List values) was = refl
+    takes_none (content.Deque deque) was = refl
 
 -- whether there are too many, by how many there are
 pub cap_is : (d : Content) → passes_cap d ≡ nat_lt (most_of d) (length_of d)
 cap_is (content.Dict pairs) = refl
 cap_is (content.Set elements) = refl
 cap_is (content.List values) = refl
+cap_is (content.Deque deque) = refl
 
 pub most_joined : (d others : Content) → most_of (joined d others) ≡ most_of d
 most_joined (content.Dict pairs) others = refl
 most_joined (content.Set elements) others = refl
 most_joined (content.List values) others = refl
+most_joined (content.Deque deque) others = refl
 
 pub kind_joined : (d others : Content) → kind_of (joined d others) ≡ kind_of d
 kind_joined (content.Dict pairs) others = refl
 kind_joined (content.Set elements) others = refl
 kind_joined (content.List values) others = refl
+kind_joined (content.Deque deque) others = refl

@@ -46,10 +46,13 @@ pub none_joined : (d others : Content) → kind_of others ≡ kind_of d → leng
 none_joined (content.Dict base) (content.Dict others) same none = ap (λ (es : List DictPair). content.Dict (dict_update base es)) (no_length others.pairs none)
 none_joined (content.Set base) (content.Set others) same none = ap content.Set (ap (set_or base) (no_length others.elements none) ∙ or_none base)
 none_joined (content.List values) others same none = refl
+none_joined (content.Deque deque) others same none = refl
 none_joined (content.Dict base) (content.Set others) same none = absurd (cc)
 none_joined (content.Dict base) (content.List others) same none = absurd (cc)
+none_joined (content.Dict base) (content.Deque others) same none = absurd (cc)
 none_joined (content.Set base) (content.Dict others) same none = absurd (cc)
 none_joined (content.Set base) (content.List others) same none = absurd (cc)
+none_joined (content.Set base) (content.Deque others) same none = absurd (cc)
 
 -- one that has no new keys, to one that has none
 pub bare_joined : (d others : Content) → length_of d ≡ 0 → new_keys d others ≡ 0 → joined d others ≡ d
@@ -64,6 +67,7 @@ bare_joined (content.Set base) others bare none =
     let empty : ys ≡ [] = no_length ys (omega (arith, none)) in
     ap content.Set ((λ i. record { next = base.next + length (empty i); elements = base.elements ++ elements_from base.next (empty i) }) ∙ or_none base)
 bare_joined (content.List values) others bare none = refl
+bare_joined (content.Deque deque) others bare none = refl
 
 -- ---- as a pass knows a container whose lock it has
 
@@ -71,13 +75,14 @@ keyed_way : (kind : Kind) → IsKeyed kind → (by : Way) × (kind ≡ kind_by b
 keyed_way kind.Dict keyed = (way.Dict, refl)
 keyed_way kind.Set keyed = (way.Set, refl)
 keyed_way kind.List keyed = absurd keyed
+keyed_way (kind.Deque bound) keyed = absurd keyed
 
-module _ (k : Shape) (o : ℕ) (v : View) (shape : v.shape ≡ k) (possible : ∥ Possible v ∥₁) (keyed : IsKeyed (kind_in k.kinds o)) (mine : has_lock o v.log ≡ true) (stands : Stands k.texts (held o v) (known o v)) where
+module _ (k : Shape) (o : ℕ) (v : View) (shape : v.shape ≡ k) (possible : ∥ Possible v ∥₁) (keyed : IsKeyed (kind_in k.starts o)) (mine : has_lock o v.log ≡ true) (stands : Stands k.texts (held o v) (known o v)) where
   abbrev words : List ℕ
   words = 0 ∷ 0 ∷ (held o v).table
 
   known_way : (by : Way) × IsOfWay by (known o v).content
-  known_way = let w = keyed_way (kind_in k.kinds o) keyed in (w.0, of_way w.0 v o possible mine (ap (λ (z : Shape). kind_in z.kinds o) shape ∙ w.1))
+  known_way = let w = keyed_way (kind_in k.starts o) keyed in (w.0, of_way w.0 v o possible mine (ap (λ (z : Shape). kind_in z.starts o) shape ∙ w.1))
 
   stands_as : (d : Content) → (known o v).content ≡ d → StandsAs k.texts (held o v).block words (known o v).table d
   stands_as d is = subst (λ (z : Content). StandsAs k.texts (held o v).block words (known o v).table z) is stands

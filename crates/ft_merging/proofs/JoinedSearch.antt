@@ -36,8 +36,10 @@ of_kind way.Dict (content.Dict pairs) is = (pairs, refl)
 of_kind way.Set (content.Set elements) is = (elements, refl)
 of_kind way.Dict (content.Set elements) is = absurd (cc)
 of_kind way.Dict (content.List values) is = absurd (cc)
+of_kind way.Dict (content.Deque deque) is = absurd (cc)
 of_kind way.Set (content.Dict pairs) is = absurd (cc)
 of_kind way.Set (content.List values) is = absurd (cc)
+of_kind way.Set (content.Deque deque) is = absurd (cc)
 
 module _ (missing_key : MissingKeys) (missing_element : MissingElements) (first_pair : dict.FirstEntriesArePairs) (first_element : set.FirstEntriesAreElements) (free : FirstFreeSlots) (k : Shape) (x : Picture) (by : Way) (table : Table) (in_bank : IsTableIn k table) (names : root_in x ≡ suc (name_of table)) (key : Key) (fits : FitsKey key) (low : hash_of k.texts key < 2 ^ 64) (left : List ℕ) (kept : ContainerState) (kind_eq : kind_of kept.content ≡ kind_by by) (stands : Stands k.texts x kept) where
   abbrev mask : ℕ

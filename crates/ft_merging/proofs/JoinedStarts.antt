@@ -1,5 +1,5 @@
 -- The beginning of a write that joins another container to a dict or a set, in the table that it has.
-use Rattle.std.proofs.Common.{◌≡◌, ◌≢◌, ℕ, ◌+◌, ◌^◌, ◌%◌, ◌<◌, ◌≤◌, Bool, true, false, cond, ne_eqb, Option, Some, None, refl, sym, ap, ◌∙◌, subst, arith}
+use Rattle.std.proofs.Common.{◌≡◌, ◌≢◌, ℕ, ◌+◌, ◌^◌, ◌%◌, ◌<◌, ◌≤◌, Bool, true, false, cond, ne_eqb, Option, Some, None, refl, sym, ap, ◌∙◌, subst, arith, []}
 use Rattle.ft_model.specs.declared.content.Content.{Content}
 use Rattle.ft_model.specs.declared.script.Kind.{Kind}
 use Rattle.ft_model.specs.TableUses.{TableUse, passes_cap}
@@ -65,7 +65,7 @@ may_write k o old v may = record {
 
 -- ---- in the table that it has
 
-module _ (heads : Heads) (laws : Laws) (k : Shape) (o : ℕ) (by : Way) (own : Table) (t : ℕ) (table : Table) (counts : Counts) (more : ℕ) (v u : View) (f : ℕ) (shape : v.shape ≡ k) (possible : ∥ Possible v ∥₁) (two : o ≢ t) (may : MayAddKey k o (Some own) v) (other : KnowsKeyed k t (Some table) v) (kind_eq : kind_in k.kinds o ≡ kind_by by) (kind_t : kind_in k.kinds t ≡ kind_by by)
+module _ (heads : Heads) (laws : Laws) (k : Shape) (o : ℕ) (by : Way) (own : Table) (t : ℕ) (table : Table) (counts : Counts) (more : ℕ) (v u : View) (f : ℕ) (shape : v.shape ≡ k) (possible : ∥ Possible v ∥₁) (two : o ≢ t) (may : MayAddKey k o (Some own) v) (other : KnowsKeyed k t (Some table) v) (kind_eq : kind_in k.starts o ≡ kind_by by) (kind_t : kind_in k.starts t ≡ kind_by by)
     (are : AreCounts (held o v).block counts) (more_is : more ≡ new_keys (known o v).content (known t v).content) (cap : passes_cap (joined (known o v).content (known t v).content) ≡ false) (serials : serial_of (known o v).content + 65536 < 2 ^ 63) (none : join_takes (known o v) (known t v).content ≡ None) (begun : u ≡ noted (StartWrite o f) v) (shape_u : u.shape ≡ k) (possible_u : ∥ Possible u ∥₁) where
   abbrev c : ℕ
   c = class_of (name_of own)
@@ -79,19 +79,19 @@ module _ (heads : Heads) (laws : Laws) (k : Shape) (o : ℕ) (by : Way) (own : T
   class_same : class_of (name_of own) ≡ own.class
   class_same = class_is own table_in.2
 
-  kinds : kind_of d ≡ kind_in k.kinds o
+  kinds : kind_of d ≡ kind_in k.starts o
   kinds = kind_is k v o shape possible may.keyed.locked
 
   keyed : IsKeyed (kind_of d)
   keyed = subst IsKeyed (sym kinds) may.keyed.keyed
 
   pub here_table : (known o v).table ≡ use_of (Some own) counts.fill
-  here_table = use_known heads k o (Some own) v counts may.keyed are
+  here_table = use_known heads k o (Some own) v counts may.keyed are possible
 
   use_is : (known o v).table ≡ use_with c counts.fill
-  use_is = here_table ∙ (λ i. record { class = Some (sym class_same i); fill = counts.fill })
+  use_is = here_table ∙ (λ i. record { class = Some (sym class_same i); fill = counts.fill; keys = [] })
 
-  evens : (p : ℕ) → p < rows (kind_in k.kinds o) c → version_of (name_of own) (held o v) p % 2 ≡ 0
+  evens : (p : ℕ) → p < rows (kind_in k.starts o) c → version_of (name_of own) (held o v) p % 2 ≡ 0
   evens p less = entry_shut (kind_of d) keyed c (rows (kind_of d) c) (held o v).table (shut_here heads k o own v shape possible may.keyed by kind_eq) p (subst (λ (z : Kind). p < rows z c) (sym kinds) less)
 
   held_back : held o v ≡ held o u
@@ -100,10 +100,10 @@ module _ (heads : Heads) (laws : Laws) (k : Shape) (o : ℕ) (by : Way) (own : T
   known_back : (p : ℕ) → known p v ≡ known p u
   known_back p = sym (ap (known p) begun)
 
-  evens_on : (p : ℕ) → p < rows (kind_in k.kinds o) c → version_of (name_of own) (held o u) p % 2 ≡ 0
-  evens_on = subst (λ (x : Picture). (p : ℕ) → p < rows (kind_in k.kinds o) c → version_of (name_of own) x p % 2 ≡ 0) held_back evens
+  evens_on : (p : ℕ) → p < rows (kind_in k.starts o) c → version_of (name_of own) (held o u) p % 2 ≡ 0
+  evens_on = subst (λ (x : Picture). (p : ℕ) → p < rows (kind_in k.starts o) c → version_of (name_of own) x p % 2 ≡ 0) held_back evens
 
-  alive : NoneGone (name_of own) (rows (kind_in k.kinds o) c) (held o u)
+  alive : NoneGone (name_of own) (rows (kind_in k.starts o) c) (held o u)
   alive p key less odd dead = let e = evens_on p less in omega (arith, e, odd)
 
   midway : IsMidway k o own (record { content = d; table = use_with c counts.fill }) u
@@ -116,7 +116,7 @@ module _ (heads : Heads) (laws : Laws) (k : Shape) (o : ℕ) (by : Way) (own : T
     opened = λ p less odd. let e = evens_on p less in absurd (omega (arith, e, odd));
   }
 
-  pub here_room : counts.fill + more ≤ rows (kind_in k.kinds o) c
+  pub here_room : counts.fill + more ≤ rows (kind_in k.starts o) c
   here_room =
       let s = source_known laws k o own v shape possible may.keyed by kind_eq in
       let few = s.few in

@@ -71,6 +71,7 @@ next_payload first_pair first_element texts b l class fill (content.Set elements
     let u = is.table.unused fill (omega (arith, filled)) (omega (arith, room, low)) in
     sym (word_is (λ hash. set_slots hash (class_mask class) (class_mask class + 14)) (set_room (class_mask class)) texts class is_class is.used l is.table fill 3) ∙ u.payload
 next_payload first_pair first_element texts b l class fill (content.List values) keyed is_class is low = absurd keyed
+next_payload first_pair first_element texts b l class fill (content.Deque deque) keyed is_class is low = absurd keyed
 
 laid_other : (n p word value : ℕ) (calls : List Access) (l : List ℕ) → word ≢ 3 → slice_index (laid n (unless_zero p word value ++ calls) l) (entry_offset n p 3) ≡ slice_index (laid n calls l) (entry_offset n p 3)
 laid_other n p word zero calls l ne = refl
@@ -93,8 +94,8 @@ payload_laid n p entry l none long =
     ∙ (laid_other n p 4 (word 4) three l (λ e. absurd (omega (arith, e)))
     ∙ laid_here n p (word 3) one l (get_or-set_other l (entry_offset n p 1) (entry_offset n p 3) (word 1) 0 (λ e. absurd (omega (arith, e))) ∙ none) (omega (arith, long, size))))
 
-module _ (laws : PlaceLaws) (k : Shape) (o : ℕ) (by : Way) (own : Table) (mid : Content) (counts : Counts) (v : View) (midway : IsMidway k o own (record { content = mid; table = use_with (class_of (name_of own)) counts.fill }) v) (same_kind : kind_of mid ≡ kind_by by) (kind_eq : kind_in k.kinds o ≡ kind_by by) (count_is : counts.count ≡ length_of mid)
-    (alive : NoneGone (name_of own) (rows (kind_in k.kinds o) (class_of (name_of own))) (held o v)) (slot : ℕ) (key : Key) (stored : Stored) (fits : FitsKey key) (low : hash_of k.texts key < 2 ^ 64) (stores : StoresAs (kind_of mid) stored) (ok : FitsStored stored) (absent : IsHeldAt mid key None) (free : IsFreeFor k.texts by own.class key (held o v).table slot) (room : counts.fill < rows (kind_by by) (class_of (name_of own))) where
+module _ (laws : PlaceLaws) (k : Shape) (o : ℕ) (by : Way) (own : Table) (mid : Content) (counts : Counts) (v : View) (midway : IsMidway k o own (record { content = mid; table = use_with (class_of (name_of own)) counts.fill }) v) (same_kind : kind_of mid ≡ kind_by by) (kind_eq : kind_in k.starts o ≡ kind_by by) (count_is : counts.count ≡ length_of mid)
+    (alive : NoneGone (name_of own) (rows (kind_in k.starts o) (class_of (name_of own))) (held o v)) (slot : ℕ) (key : Key) (stored : Stored) (fits : FitsKey key) (low : hash_of k.texts key < 2 ^ 64) (stores : StoresAs (kind_of mid) stored) (ok : FitsStored stored) (absent : IsHeldAt mid key None) (free : IsFreeFor k.texts by own.class key (held o v).table slot) (room : counts.fill < rows (kind_by by) (class_of (name_of own))) where
   abbrev t : ℕ
   t = name_of own
 
@@ -116,13 +117,13 @@ module _ (laws : PlaceLaws) (k : Shape) (o : ℕ) (by : Way) (own : Table) (mid 
   class_same : class_of t ≡ own.class
   class_same = class_is own midway.writes.table_in.2
 
-  kinds : kind_of mid ≡ kind_in k.kinds o
+  kinds : kind_of mid ≡ kind_in k.starts o
   kinds = same_kind ∙ sym kind_eq
 
-  row : (q : ℕ) → q < m → q < rows (kind_in k.kinds o) c
+  row : (q : ℕ) → q < m → q < rows (kind_in k.starts o) c
   row q less = subst (λ (z : Kind). q < rows z c) kinds less
 
-  unrow : (q : ℕ) → q < rows (kind_in k.kinds o) c → q < m
+  unrow : (q : ℕ) → q < rows (kind_in k.starts o) c → q < m
   unrow q less = subst (λ (z : Kind). q < rows z c) (sym kinds) less
 
   room_here : p < m
@@ -154,7 +155,7 @@ module _ (laws : PlaceLaws) (k : Shape) (o : ℕ) (by : Way) (own : Table) (mid 
         head = laws.head k.texts x.block (0 ∷ 0 ∷ x.table) (use_with c counts.fill) mid midway.stands;
         count_is = count_is;
         room = room_here;
-        long = subst (λ (z : Kind). n + 8 * rows z c ≤ length x.table) (sym kinds) (let f = keyed_fit (kind_in k.kinds o) midway.writes.keyed c in omega (arith, f, long));
+        long = subst (λ (z : Kind). n + 8 * rows z c ≤ length x.table) (sym kinds) (let f = keyed_fit (kind_in k.starts o) midway.writes.keyed c in omega (arith, f, long));
         in_index = omega (arith, some, slot_low, last);
         free = subst (λ (z : Way × ℕ). FirstFree (0 ∷ 0 ∷ x.table) (walk_slots z.0 (hash_of k.texts key) (class_mask z.1)) (Some slot)) (λ i. (sym (way_is mid by same_kind) i, sym class_same i)) free.1;
         absent = absent;
@@ -173,7 +174,7 @@ module _ (laws : PlaceLaws) (k : Shape) (o : ℕ) (by : Way) (own : Table) (mid 
   un : IsUnused n m x.table slot p
   un = place_unused laws k.texts x t slot counts mid key stored fresh_midway
 
-  pub unused_here : IsUnused n (rows (kind_in k.kinds o) c) x.table slot p
+  pub unused_here : IsUnused n (rows (kind_in k.starts o) c) x.table slot p
   unused_here = subst (λ (z : Kind). IsUnused n (rows z c) x.table slot p) kinds un
 
   abbrev l : List ℕ
@@ -223,7 +224,7 @@ module _ (laws : PlaceLaws) (k : Shape) (o : ℕ) (by : Way) (own : Table) (mid 
   apart q even e = let o = odd_now in let same : version_of t y q ≡ version_of t y p = ap (version_of t y) e in omega (arith, o, same, even)
 
   -- an entry with an even version says what the container had
-  same_now : (q : ℕ) (a : Key) → q < rows (kind_in k.kinds o) c → version_of t y q % 2 ≡ 0 → HasLiveKey n y.table q a → under news a ≡ under (known o v).content a
+  same_now : (q : ℕ) (a : Key) → q < rows (kind_in k.starts o) c → version_of t y q % 2 ≡ 0 → HasLiveKey n y.table q a → under news a ≡ under (known o v).content a
   same_now q a less even live =
       let ne = apart q even in
       let was = others_same q 0 ne (omega arith) in
@@ -237,13 +238,13 @@ module _ (laws : PlaceLaws) (k : Shape) (o : ℕ) (by : Way) (own : Table) (mid 
       ∙ (said ∙ (sym (right_in laws.first_pair laws.first_element k.texts x.block x.table c p mid keyed fresh_midway.is_class midway.stands q a (unrow q less) old)
       ∙ midway.same q a less (omega (arith, was, even)) old))
 
-  opened_then : (q : ℕ) → q < rows (kind_in k.kinds o) c → version_of t y q % 2 ≡ 1 → q < p + 1
+  opened_then : (q : ℕ) → q < rows (kind_in k.starts o) c → version_of t y q % 2 ≡ 1 → q < p + 1
   opened_then q less odd =
       dite (ℕ_discrete q p)
       (λ (e : q ≡ p). omega (arith, e))
       (λ ne. let was = others_same q 0 ne (omega arith) in let up = midway.opened q less (omega (arith, was, odd)) in omega (arith, up))
 
-  alive_then : NoneGone t (rows (kind_in k.kinds o) c) y
+  alive_then : NoneGone t (rows (kind_in k.starts o) c) y
   alive_then q a less odd dead =
       dite (ℕ_discrete q p)
       (λ (e : q ≡ p).
@@ -257,7 +258,7 @@ module _ (laws : PlaceLaws) (k : Shape) (o : ℕ) (by : Way) (own : Table) (mid 
       (λ ne. let was = others_same q 0 ne (omega arith) in alive q a less (omega (arith, was, odd)) (dead_before q a ne dead))
 
   -- the key that is put is none of those that are left
-  ahead_then : (left : List UsedEntry) → NoneAhead t (rows (kind_in k.kinds o) c) x left → NoneOf key left → NoneAhead t (rows (kind_in k.kinds o) c) y left
+  ahead_then : (left : List UsedEntry) → NoneAhead t (rows (kind_in k.starts o) c) x left → NoneOf key left → NoneAhead t (rows (kind_in k.starts o) c) y left
   ahead_then left before none q a less odd fits_a live =
       dite (ℕ_discrete q p)
       (λ (e : q ≡ p).
@@ -273,18 +274,18 @@ module _ (laws : PlaceLaws) (k : Shape) (o : ℕ) (by : Way) (own : Table) (mid 
     knows : known o v ≡ known o z
     knows = sym (work_knows v z o only.work)
 
-    pub alive_put : NoneGone t (rows (kind_in k.kinds o) c) (held o z)
-    alive_put = subst (λ (w : Picture). NoneGone t (rows (kind_in k.kinds o) c) w) back alive_then
+    pub alive_put : NoneGone t (rows (kind_in k.starts o) c) (held o z)
+    alive_put = subst (λ (w : Picture). NoneGone t (rows (kind_in k.starts o) c) w) back alive_then
 
-    pub ahead_put : (left : List UsedEntry) → NoneAhead t (rows (kind_in k.kinds o) c) x left → NoneOf key left → NoneAhead t (rows (kind_in k.kinds o) c) (held o z) left
-    ahead_put left before none = subst (λ (w : Picture). NoneAhead t (rows (kind_in k.kinds o) c) w left) back (ahead_then left before none)
+    pub ahead_put : (left : List UsedEntry) → NoneAhead t (rows (kind_in k.starts o) c) x left → NoneOf key left → NoneAhead t (rows (kind_in k.starts o) c) (held o z) left
+    ahead_put left before none = subst (λ (w : Picture). NoneAhead t (rows (kind_in k.starts o) c) w left) back (ahead_then left before none)
 
     pub midway_put : IsMidway k o own (record { content = news; table = use_with c (p + 1) }) z
     midway_put = record {
       writes = writes;
       early = only.work.committed o ∙ midway.early;
       stands = subst (λ (w : Picture). Stands k.texts w (record { content = news; table = use_with c (p + 1) })) back says_now.0;
-      same = subst (λ (w : Picture × ContainerState). (q : ℕ) (a : Key) → q < rows (kind_in k.kinds o) c → version_of t w.0 q % 2 ≡ 0 → HasLiveKey n w.0.table q a → under news a ≡ under w.1.content a) (λ i. (back i, knows i)) same_now;
+      same = subst (λ (w : Picture × ContainerState). (q : ℕ) (a : Key) → q < rows (kind_in k.starts o) c → version_of t w.0 q % 2 ≡ 0 → HasLiveKey n w.0.table q a → under news a ≡ under w.1.content a) (λ i. (back i, knows i)) same_now;
       gone = λ q a less odd dead. absurd (alive_put q a less odd dead);
-      opened = subst (λ (w : Picture). (q : ℕ) → q < rows (kind_in k.kinds o) c → version_of t w q % 2 ≡ 1 → q < p + 1) back opened_then;
+      opened = subst (λ (w : Picture). (q : ℕ) → q < rows (kind_in k.starts o) c → version_of t w q % 2 ≡ 1 → q < p + 1) back opened_then;
     }

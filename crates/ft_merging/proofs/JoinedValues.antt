@@ -47,13 +47,13 @@ use Rattle.ft_merging.proofs.JoinedContents.{set_same}
 -- The entry at this place was written, whose key stays, and no other.
 pub record IsPutThere (k : Shape) (o : ℕ) (own : Table) (mid : Content) (fill at : ℕ) (v z : View) : Type 0 where
   pub midway : IsMidway k o own (record { content = mid; table = use_with (class_of (name_of own)) fill }) z
-  pub alive : NoneGone (name_of own) (rows (kind_in k.kinds o) (class_of (name_of own))) (held o z)
+  pub alive : NoneGone (name_of own) (rows (kind_in k.starts o) (class_of (name_of own))) (held o z)
   pub keys : (q w : ℕ) → (w ≡ 2) ⊎ (w ≡ 3) → entry_field (slots (class_of (name_of own))) (held o z).table q w ≡ entry_field (slots (class_of (name_of own))) (held o v).table q w
   pub others : (q : ℕ) → q ≢ at → version_of (name_of own) (held o z) q ≡ version_of (name_of own) (held o v) q
 
 -- the key is none of those that are left
 pub ahead_there : (k : Shape) (o : ℕ) (own : Table) (mid : Content) (fill at : ℕ) (v z : View) → IsPutThere k o own mid fill at v z → (key : Key) → FitsKey key → HasLiveKey (slots (class_of (name_of own))) (held o v).table at key → (left : List UsedEntry)
-    → NoneAhead (name_of own) (rows (kind_in k.kinds o) (class_of (name_of own))) (held o v) left → NoneOf key left → NoneAhead (name_of own) (rows (kind_in k.kinds o) (class_of (name_of own))) (held o z) left
+    → NoneAhead (name_of own) (rows (kind_in k.starts o) (class_of (name_of own))) (held o v) left → NoneOf key left → NoneAhead (name_of own) (rows (kind_in k.starts o) (class_of (name_of own))) (held o z) left
 ahead_there k o own mid fill at v z put key fits live left before none q a less odd fits_a live_now =
     let was : HasLiveKey (slots (class_of (name_of own))) (held o v).table q a = (sym (put.keys q 2 (inl refl)) ∙ live_now.0, sym (put.keys q 3 (inr refl)) ∙ live_now.1) in
     dite (ℕ_discrete q at)
@@ -64,7 +64,7 @@ ahead_there k o own mid fill at v z put key fits live left before none q a less 
 
 -- ---- a dict
 
-module _ (laws : ValueLaws) (k : Shape) (o : ℕ) (own : Table) (pairs : DictContent) (fill : ℕ) (v : View) (midway : IsMidway k o own (record { content = content.Dict pairs; table = use_with (class_of (name_of own)) fill }) v) (kind_eq : kind_in k.kinds o ≡ kind.Dict) (at : ℕ) (key : Key) (value : Value) (fits : FitsKey key) (ok : FitsStored (Plain value)) (low : at < rows (kind_in k.kinds o) (class_of (name_of own))) (live : HasLiveKey (slots (class_of (name_of own))) (held o v).table at key)
+module _ (laws : ValueLaws) (k : Shape) (o : ℕ) (own : Table) (pairs : DictContent) (fill : ℕ) (v : View) (midway : IsMidway k o own (record { content = content.Dict pairs; table = use_with (class_of (name_of own)) fill }) v) (kind_eq : kind_in k.starts o ≡ kind.Dict) (at : ℕ) (key : Key) (value : Value) (fits : FitsKey key) (ok : FitsStored (Plain value)) (low : at < rows (kind_in k.starts o) (class_of (name_of own))) (live : HasLiveKey (slots (class_of (name_of own))) (held o v).table at key)
     (even : version_of (name_of own) (held o v) at % 2 ≡ 0) where
   abbrev t : ℕ
   t = name_of own
@@ -79,7 +79,7 @@ module _ (laws : ValueLaws) (k : Shape) (o : ℕ) (own : Table) (pairs : DictCon
   n = slots c
 
   abbrev m : ℕ
-  m = rows (kind_in k.kinds o) c
+  m = rows (kind_in k.starts o) c
 
   abbrev was : Pairs
   was = under (content.Dict pairs)
@@ -111,7 +111,7 @@ module _ (laws : ValueLaws) (k : Shape) (o : ℕ) (own : Table) (pairs : DictCon
   abbrev y : Picture
   y = with_puts x (value_puts n x.table at value)
 
-  pub dict_may : (before : Content) → MayPuts (kind_in k.kinds o) t before false x (value_puts n x.table at value)
+  pub dict_may : (before : Content) → MayPuts (kind_in k.starts o) t before false x (value_puts n x.table at value)
   dict_may before = subst (λ (z : Kind). MayPuts z t before false x (value_puts n x.table at value)) (sym kind_eq) (value_early laws k.texts x (use_with c fill) t is_class pairs says refl midway.writes.root long at key value even (row at low) live fits ok before)
 
   used_here : at < fill
@@ -188,9 +188,9 @@ module _ (laws : ValueLaws) (k : Shape) (o : ℕ) (own : Table) (pairs : DictCon
 
 -- ---- either
 
-module _ (laws : ValueLaws) (k : Shape) (o : ℕ) (own : Table) (fill : ℕ) (v : View) (at : ℕ) (key : Key) (fits : FitsKey key) (low : at < rows (kind_in k.kinds o) (class_of (name_of own))) (live : HasLiveKey (slots (class_of (name_of own))) (held o v).table at key) (even : version_of (name_of own) (held o v) at % 2 ≡ 0) where
-  pub there_may : (mid : Content) (stored : Stored) → IsMidway k o own (record { content = mid; table = use_with (class_of (name_of own)) fill }) v → kind_of mid ≡ kind_in k.kinds o → StoresAs (kind_of mid) stored → FitsStored stored → (before : Content)
-      → MayPuts (kind_in k.kinds o) (name_of own) before false (held o v) (stored_puts (slots (class_of (name_of own))) (held o v).table at stored)
+module _ (laws : ValueLaws) (k : Shape) (o : ℕ) (own : Table) (fill : ℕ) (v : View) (at : ℕ) (key : Key) (fits : FitsKey key) (low : at < rows (kind_in k.starts o) (class_of (name_of own))) (live : HasLiveKey (slots (class_of (name_of own))) (held o v).table at key) (even : version_of (name_of own) (held o v) at % 2 ≡ 0) where
+  pub there_may : (mid : Content) (stored : Stored) → IsMidway k o own (record { content = mid; table = use_with (class_of (name_of own)) fill }) v → kind_of mid ≡ kind_in k.starts o → StoresAs (kind_of mid) stored → FitsStored stored → (before : Content)
+      → MayPuts (kind_in k.starts o) (name_of own) before false (held o v) (stored_puts (slots (class_of (name_of own))) (held o v).table at stored)
   there_may (content.Dict pairs) (Plain value) midway kinds stores ok before = dict_may laws k o own pairs fill v midway (sym kinds) at key value fits ok low live even before
   there_may (content.Dict pairs) Empty midway kinds stores ok before = tt
   there_may (content.Dict pairs) (Boxed block) midway kinds stores ok before = tt
@@ -198,22 +198,23 @@ module _ (laws : ValueLaws) (k : Shape) (o : ℕ) (own : Table) (fill : ℕ) (v 
   there_may (content.Set elements) (Plain value) midway kinds stores ok before = absurd stores
   there_may (content.Set elements) (Boxed block) midway kinds stores ok before = tt
   there_may (content.List values) stored midway kinds stores ok before = absurd stores
+  there_may (content.Deque deque) stored midway kinds stores ok before = absurd stores
 
-  pub there_put : (mid : Content) (stored : Stored) → IsMidway k o own (record { content = mid; table = use_with (class_of (name_of own)) fill }) v → kind_of mid ≡ kind_in k.kinds o → StoresAs (kind_of mid) stored → FitsStored stored → holds mid key ≡ true → NoneGone (name_of own) (rows (kind_in k.kinds o) (class_of (name_of own))) (held o v)
+  pub there_put : (mid : Content) (stored : Stored) → IsMidway k o own (record { content = mid; table = use_with (class_of (name_of own)) fill }) v → kind_of mid ≡ kind_in k.starts o → StoresAs (kind_of mid) stored → FitsStored stored → holds mid key ≡ true → NoneGone (name_of own) (rows (kind_in k.starts o) (class_of (name_of own))) (held o v)
       → (z : View) → OnlyPut o v z → held o z ≡ with_puts (held o v) (stored_puts (slots (class_of (name_of own))) (held o v).table at stored) → WritesEntries k o own z → IsPutThere k o own (with_key mid key stored) fill at v z
   there_put (content.Dict pairs) (Plain value) midway kinds stores ok there alive z only words writes = dict_put laws k o own pairs fill v midway (sym kinds) at key value fits ok low live even alive z only words writes
   there_put (content.Set elements) Empty midway kinds stores ok there alive z only words writes =
       let back : held o v ≡ held o z = sym words in
       let knows : known o v ≡ known o z = sym (work_knows v z o only.work) in
-      let gone = subst (λ (w : Picture). NoneGone (name_of own) (rows (kind_in k.kinds o) (class_of (name_of own))) w) back alive in
+      let gone = subst (λ (w : Picture). NoneGone (name_of own) (rows (kind_in k.starts o) (class_of (name_of own))) w) back alive in
       subst (λ (d : Content). IsPutThere k o own d fill at v z) (sym (set_same (content.Set elements) key Empty refl there)) (record {
         midway = record {
           writes = writes;
           early = only.work.committed o ∙ midway.early;
           stands = subst (λ (w : Picture). Stands k.texts w (record { content = content.Set elements; table = use_with (class_of (name_of own)) fill })) back midway.stands;
-          same = subst (λ (w : Picture × ContainerState). (q : ℕ) (a : Key) → q < rows (kind_in k.kinds o) (class_of (name_of own)) → version_of (name_of own) w.0 q % 2 ≡ 0 → HasLiveKey (slots (class_of (name_of own))) w.0.table q a → under (content.Set elements) a ≡ under w.1.content a) (λ i. (back i, knows i)) midway.same;
+          same = subst (λ (w : Picture × ContainerState). (q : ℕ) (a : Key) → q < rows (kind_in k.starts o) (class_of (name_of own)) → version_of (name_of own) w.0 q % 2 ≡ 0 → HasLiveKey (slots (class_of (name_of own))) w.0.table q a → under (content.Set elements) a ≡ under w.1.content a) (λ i. (back i, knows i)) midway.same;
           gone = λ q a less odd dead. absurd (gone q a less odd dead);
-          opened = subst (λ (w : Picture). (q : ℕ) → q < rows (kind_in k.kinds o) (class_of (name_of own)) → version_of (name_of own) w q % 2 ≡ 1 → q < fill) back midway.opened;
+          opened = subst (λ (w : Picture). (q : ℕ) → q < rows (kind_in k.starts o) (class_of (name_of own)) → version_of (name_of own) w q % 2 ≡ 1 → q < fill) back midway.opened;
         };
         alive = gone;
         keys = λ q w which. ap (λ (u : Picture). entry_field (slots (class_of (name_of own))) u.table q w) words;
@@ -224,3 +225,4 @@ module _ (laws : ValueLaws) (k : Shape) (o : ℕ) (own : Table) (fill : ℕ) (v 
   there_put (content.Set elements) (Plain value) midway kinds stores ok there alive z only words writes = absurd stores
   there_put (content.Set elements) (Boxed block) midway kinds stores ok there alive z only words writes = absurd stores
   there_put (content.List values) stored midway kinds stores ok there alive z only words writes = absurd stores
+  there_put (content.Deque deque) stored midway kinds stores ok there alive z only words writes = absurd stores

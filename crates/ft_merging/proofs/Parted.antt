@@ -98,7 +98,7 @@ has_words (e ∷ es) key there = by (λ is. has_words es key is) (same_key e.key
 
 -- ---- once all are joined
 
-module _ (elements : set.FirstEntriesAreElements) (k : Shape) (s t : ℕ) (own table : Table) (v u w : View) (f : ℕ) (shape : v.shape ≡ k) (possible : ∥ Possible v ∥₁) (may : MayWriteEntries k s v) (is : kind_in k.kinds s ≡ kind.Set) (has : HasTable k s own v) (begun : u ≡ noted (StartWrite s f) v) (only : OnlyPut s u w) (fill end others_fill : ℕ) (counts : Counts) (fill_is : fill ≡ (known s v).table.fill)
+module _ (elements : set.FirstEntriesAreElements) (k : Shape) (s t : ℕ) (own table : Table) (v u w : View) (f : ℕ) (shape : v.shape ≡ k) (possible : ∥ Possible v ∥₁) (may : MayWriteEntries k s v) (is : kind_in k.starts s ≡ kind.Set) (has : HasTable k s own v) (begun : u ≡ noted (StartWrite s f) v) (only : OnlyPut s u w) (fill end others_fill : ℕ) (counts : Counts) (fill_is : fill ≡ (known s v).table.fill)
     (j : IsJoining k s way.Set own t table (joined (known s v).content (known t v).content) end others_fill counts w) (all : others_fill ≡ (known t w).table.fill) (keeps : KeepsBelow (name_of own) fill (held s u) (held s w)) where
   abbrev c : ℕ
   c = class_of (name_of own)

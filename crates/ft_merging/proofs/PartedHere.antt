@@ -59,7 +59,7 @@ parts_here s t called v class fill more first parts is table more_is none few =
     let drawn = part_draws kept.content others first is in
     let left : (parted_state kept others).table ≡ use_with class (fill + more) =
     ap (λ (z : Option ℕ). grown_table kept.table z ((parted kept.content others).next - (set_of kept.content).next) (length (parted kept.content others).elements)) none
-    ∙ (λ i. record { class = (table i).class; fill = (table i).fill + (drawn ∙ sym more_is) i }) in
+    ∙ (λ i. record { class = (table i).class; fill = (table i).fill + (drawn ∙ sym more_is) i; keys = (table i).keys }) in
     record {
       write = parts.write;
       changed = parts.changed;

@@ -280,7 +280,7 @@ midway_loaded k o table mid v w only b =
     let back : held o v ≡ held o w = sym (loaded_held v w o only) in
     let knows : known o v ≡ known o w = sym (work_knows v w o only.work) in
     let t = name_of table in
-    let m = rows (kind_in k.kinds o) (class_of t) in
+    let m = rows (kind_in k.starts o) (class_of t) in
     record {
       writes = writes_on k o table v w (loaded_put v w o only) (ap root_in (sym back)) b.writes;
       early = only.work.committed o ∙ b.early;
@@ -295,7 +295,7 @@ module _ (k : Shape) (s : ℕ) (table : Table) (kept : Bool) (others first : Set
   lt = name_of table
 
   abbrev lm : ℕ
-  lm = rows (kind_in k.kinds s) (class_of lt)
+  lm = rows (kind_in k.starts s) (class_of lt)
 
   back' : held s v ≡ held s w
   back' = sym (loaded_held v w s only)
@@ -315,7 +315,7 @@ module _ (k : Shape) (s : ℕ) (table : Table) (kept : Bool) (others first : Set
     rest = subst (λ (y : Picture). (p : ℕ) (key : Key) → p < lm → last ≤ p → FitsKey key → HasLiveKey (slots (class_of lt)) y.table p key → spared kept others first key ≡ true) back' th.rest;
   }
 
-module _ (k : Shape) (s : ℕ) (table : Table) (kept : Bool) (others first : SetContent) (to : ContainerState) (last place : ℕ) (v : View) (is : kind_in k.kinds s ≡ kind.Set) (th : IsThinned k s table kept others first to last place v) where
+module _ (k : Shape) (s : ℕ) (table : Table) (kept : Bool) (others first : SetContent) (to : ContainerState) (last place : ℕ) (v : View) (is : kind_in k.starts s ≡ kind.Set) (th : IsThinned k s table kept others first to last place v) where
   abbrev vt : ℕ
   vt = name_of table
 
@@ -343,10 +343,10 @@ module _ (k : Shape) (s : ℕ) (table : Table) (kept : Bool) (others first : Set
   says_now : IsSetWords k.texts words_now.block (0 ∷ 0 ∷ words_now.table) (Some (class_of vt)) tab.fill th.mid
   says_now = subst (λ (z : Option ℕ). IsSetWords k.texts words_now.block (0 ∷ 0 ∷ words_now.table) z tab.fill th.mid) class_some th.midway.stands
 
-  row : (p : ℕ) → p < vm → p < rows (kind_in k.kinds s) (class_of vt)
+  row : (p : ℕ) → p < vm → p < rows (kind_in k.starts s) (class_of vt)
   row p less = subst (λ (z : Kind). p < rows z (class_of vt)) (sym is) less
 
-  unrow : (p : ℕ) → p < rows (kind_in k.kinds s) (class_of vt) → p < vm
+  unrow : (p : ℕ) → p < rows (kind_in k.starts s) (class_of vt) → p < vm
   unrow p less = subst (λ (z : Kind). p < rows z (class_of vt)) is less
 
   -- ---- the entry at this place, where a key is there
@@ -362,7 +362,7 @@ module _ (k : Shape) (s : ℕ) (table : Table) (kept : Bool) (others first : Set
     pub was_there : has_element first.elements key ≡ true
     was_there = element_there first key fits th.fits (λ none. there laws k.texts words_now tab vt class_is th.mid says_now place key low live fits (th.midway.same place key (row place low) even_here live ∙ (ap (λ (z : Content). under z key) th.first_is ∙ none)))
 
-    pub may_go : MayPuts (kind_in k.kinds s) vt (known s v).content false words_now (deletion vt place key words_now)
+    pub may_go : MayPuts (kind_in k.starts s) vt (known s v).content false words_now (deletion vt place key words_now)
     may_go =
         subst (λ (z : Kind). MayPuts z vt (known s v).content false words_now (deletion vt place key words_now)) (sym is)
         (may_delete laws k.texts words_now tab vt class_is th.mid says_now place key low live fits class_some th.midway.writes.root (set.set_is_long v s vt th.midway.writes.root) even_here (known s v).content)
@@ -399,31 +399,31 @@ module _ (k : Shape) (s : ℕ) (table : Table) (kept : Bool) (others first : Set
       live_before : (p : ℕ) (a : Key) → p ≢ place → HasLiveKey vn words_then.table p a → HasLiveKey vn words_now.table p a
       live_before p a ne l = other_live laws k.texts words_now tab vt class_is th.mid says_now place key low live fits class_some th.midway.writes.root long even_here p a ne l
 
-      same_then : (p : ℕ) (a : Key) → p < rows (kind_in k.kinds s) (class_of vt) → version_of vt words_then p % 2 ≡ 0 → HasLiveKey vn words_then.table p a → under mid_then a ≡ under (known s v).content a
+      same_then : (p : ℕ) (a : Key) → p < rows (kind_in k.starts s) (class_of vt) → version_of vt words_then p % 2 ≡ 0 → HasLiveKey vn words_then.table p a → under mid_then a ≡ under (known s v).content a
       same_then p a less two l =
           let ne = apart p two in
           let e = same_word p 0 ne (omega arith) in
           keeps_under laws k.texts words_now tab vt class_is th.mid says_now place key low live fits class_some th.midway.writes.root long even_here p a (unrow p less) two l
           ∙ th.midway.same p a less (omega (arith, e, two)) (live_before p a ne l)
 
-      gone_then : NoneDead vt (rows (kind_in k.kinds s) (class_of vt)) words_then (record { content = mid_then; table = tab })
+      gone_then : NoneDead vt (rows (kind_in k.starts s) (class_of vt)) words_then (record { content = mid_then; table = tab })
       gone_then p a less odd dead =
           dead_under laws k.texts words_now tab vt class_is th.mid says_now place key low live fits class_some th.midway.writes.root long even_here
           (λ q b small. th.midway.gone q b (row q small)) p a (unrow p less) odd dead
 
-      opened_then : (p : ℕ) → p < rows (kind_in k.kinds s) (class_of vt) → version_of vt words_then p % 2 ≡ 1 → p < tab.fill
+      opened_then : (p : ℕ) → p < rows (kind_in k.starts s) (class_of vt) → version_of vt words_then p % 2 ≡ 1 → p < tab.fill
       opened_then p less odd =
           dite (ℕ_discrete p place)
           (λ (e : p ≡ place). let u = used_place laws k.texts words_now tab vt class_is th.mid says_now place key low live fits in omega (arith, e, u))
           (λ ne. let e = same_word p 0 ne (omega arith) in th.midway.opened p less (omega (arith, e, odd)))
 
-      even_then : (p : ℕ) → p < rows (kind_in k.kinds s) (class_of vt) → place + 1 ≤ p → p < last → version_of vt words_then p % 2 ≡ 0
+      even_then : (p : ℕ) → p < rows (kind_in k.starts s) (class_of vt) → place + 1 ≤ p → p < last → version_of vt words_then p % 2 ≡ 0
       even_then p less up before =
           let e = same_word p 0 (λ (same : p ≡ place). omega (arith, same, up)) (omega arith) in
           let old = th.even p less (omega (arith, up)) before in
           omega (arith, e, old)
 
-      done_then : (p : ℕ) (a : Key) → p < rows (kind_in k.kinds s) (class_of vt) → p < place + 1 → FitsKey a → HasLiveKey vn words_then.table p a → spared kept others first a ≡ true
+      done_then : (p : ℕ) (a : Key) → p < rows (kind_in k.starts s) (class_of vt) → p < place + 1 → FitsKey a → HasLiveKey vn words_then.table p a → spared kept others first a ≡ true
       done_then p a less up ok l =
           dite (ℕ_discrete p place)
           (λ (e : p ≡ place). absurd (not_live laws k.texts words_now tab vt class_is th.mid says_now place key low live fits class_some th.midway.writes.root long even_here a (subst (λ (q : ℕ). HasLiveKey vn words_then.table q a) e l)))
@@ -432,7 +432,7 @@ module _ (k : Shape) (s : ℕ) (table : Table) (kept : Bool) (others first : Set
           before : (a b : ℕ) → a ≢ b → a < b + 1 → a < b
           before a b ne up = dite (dec_lt a b) (λ (less : a < b). less) (λ past. absurd (ne (omega (arith, past, up))))
 
-      rest_then : (p : ℕ) (a : Key) → p < rows (kind_in k.kinds s) (class_of vt) → last ≤ p → FitsKey a → HasLiveKey vn words_then.table p a → spared kept others first a ≡ true
+      rest_then : (p : ℕ) (a : Key) → p < rows (kind_in k.starts s) (class_of vt) → last ≤ p → FitsKey a → HasLiveKey vn words_then.table p a → spared kept others first a ≡ true
       rest_then p a less up ok l = th.rest p a less up ok (live_before p a (λ (e : p ≡ place). omega (arith, e, up, early)) l)
 
       midway_then : IsMidway k s table (record { content = mid_then; table = tab }) z
@@ -440,9 +440,9 @@ module _ (k : Shape) (s : ℕ) (table : Table) (kept : Bool) (others first : Set
         writes = writes_on k s table v z only (ap root_in puts ∙ now_root laws k.texts words_now tab vt class_is th.mid says_now place key low live fits class_some th.midway.writes.root long even_here) th.midway.writes;
         early = only.work.committed s ∙ th.midway.early;
         stands = subst (λ (y : Picture). Stands k.texts y (record { content = mid_then; table = tab })) back (now_stands laws k.texts words_now tab vt class_is th.mid says_now place key low live fits class_some th.midway.writes.root long even_here);
-        same = subst (λ (y : Picture × ContainerState). (p : ℕ) (a : Key) → p < rows (kind_in k.kinds s) (class_of vt) → version_of vt y.0 p % 2 ≡ 0 → HasLiveKey vn y.0.table p a → under mid_then a ≡ under y.1.content a) (λ d. (back d, knows d)) same_then;
-        gone = subst (λ (y : Picture). NoneDead vt (rows (kind_in k.kinds s) (class_of vt)) y (record { content = mid_then; table = tab })) back gone_then;
-        opened = subst (λ (y : Picture). (p : ℕ) → p < rows (kind_in k.kinds s) (class_of vt) → version_of vt y p % 2 ≡ 1 → p < tab.fill) back opened_then;
+        same = subst (λ (y : Picture × ContainerState). (p : ℕ) (a : Key) → p < rows (kind_in k.starts s) (class_of vt) → version_of vt y.0 p % 2 ≡ 0 → HasLiveKey vn y.0.table p a → under mid_then a ≡ under y.1.content a) (λ d. (back d, knows d)) same_then;
+        gone = subst (λ (y : Picture). NoneDead vt (rows (kind_in k.starts s) (class_of vt)) y (record { content = mid_then; table = tab })) back gone_then;
+        opened = subst (λ (y : Picture). (p : ℕ) → p < rows (kind_in k.starts s) (class_of vt) → version_of vt y p % 2 ≡ 1 → p < tab.fill) back opened_then;
       }
 
       pub thinned_goes : IsThinned k s table kept others first to last (place + 1) z
@@ -452,9 +452,9 @@ module _ (k : Shape) (s : ℕ) (table : Table) (kept : Bool) (others first : Set
         first_is = ap (λ (y : ContainerState). y.content) (sym knows) ∙ th.first_is;
         fits = th.fits;
         comes = ap (λ (es : List Element). content.Set (record { next = th.mid.next; elements = es })) (discard_stays (spared kept others first) key out th.mid.elements) ∙ th.comes;
-        even = subst (λ (y : Picture). (p : ℕ) → p < rows (kind_in k.kinds s) (class_of vt) → place + 1 ≤ p → p < last → version_of vt y p % 2 ≡ 0) back even_then;
-        done = subst (λ (y : Picture). (p : ℕ) (a : Key) → p < rows (kind_in k.kinds s) (class_of vt) → p < place + 1 → FitsKey a → HasLiveKey vn y.table p a → spared kept others first a ≡ true) back done_then;
-        rest = subst (λ (y : Picture). (p : ℕ) (a : Key) → p < rows (kind_in k.kinds s) (class_of vt) → last ≤ p → FitsKey a → HasLiveKey vn y.table p a → spared kept others first a ≡ true) back rest_then;
+        even = subst (λ (y : Picture). (p : ℕ) → p < rows (kind_in k.starts s) (class_of vt) → place + 1 ≤ p → p < last → version_of vt y p % 2 ≡ 0) back even_then;
+        done = subst (λ (y : Picture). (p : ℕ) (a : Key) → p < rows (kind_in k.starts s) (class_of vt) → p < place + 1 → FitsKey a → HasLiveKey vn y.table p a → spared kept others first a ≡ true) back done_then;
+        rest = subst (λ (y : Picture). (p : ℕ) (a : Key) → p < rows (kind_in k.starts s) (class_of vt) → last ≤ p → FitsKey a → HasLiveKey vn y.table p a → spared kept others first a ≡ true) back rest_then;
       }
 
   -- ---- where it stays, or none is there

@@ -30,7 +30,7 @@ use Rattle.ft_trace.specs.Kinds.{ClearAs, rows, under, version_at}
 use Rattle.ft_trace.specs.OddVersions.{Shut}
 use Rattle.ft_trace.specs.Traces.{Possible}
 use Rattle.ft_trace.specs.Pictures.{Picture, root_in, Stands}
-use Rattle.ft_trace.specs.ContainerStates.{ContainerState, kind_in}
+use Rattle.ft_trace.specs.ContainerStates.{ContainerState, kind_in, kinds_in}
 use Rattle.ft_trace.proofs.Cases.{hit}
 use Rattle.ft_trace.proofs.FitCalls.{set_fits_words}
 use Rattle.ft_trace.proofs.Known.{class_known}
@@ -55,15 +55,15 @@ use Rattle.ft_merging.proofs.Ending.{Laws, clear_of}
 use Rattle.ft_merging.proofs.Thinned.{spared_own, thinned_all}
 
 -- what the pass knows is a set
-pub is_set : (k : Shape) (v : View) (s : ℕ) → v.shape ≡ k → ∥ Possible v ∥₁ → has_lock s v.log ≡ true → kind_in k.kinds s ≡ kind.Set → (known s v).content ≡ content.Set (set_of (known s v).content)
+pub is_set : (k : Shape) (v : View) (s : ℕ) → v.shape ≡ k → ∥ Possible v ∥₁ → has_lock s v.log ≡ true → kind_in k.starts s ≡ kind.Set → (known s v).content ≡ content.Set (set_of (known s v).content)
 is_set k v s shape possible mine is =
-    let p = set_known v s possible mine (ap (λ (z : Shape). kind_in z.kinds s) shape ∙ is) in
+    let p = set_known v s possible mine (ap (λ (z : Shape). kind_in z.starts s) shape ∙ is) in
     p.1 ∙ sym (ap (λ (z : Content). content.Set (set_of z)) p.1)
 
 -- ---- another set
 
 -- its element was found, or it wasn't
-pub found_there : (k : Shape) (v : View) (t : ℕ) (table : Table) (key : Key) (a b : ℕ) → v.shape ≡ k → ∥ Possible v ∥₁ → MayWriteEntries k t v → HasTable k t table v → kind_in k.kinds t ≡ kind.Set → FitsKey key → IsHeldAt (known t v).content key (Some (a, b)) → has_element (set_of (known t v).content).elements key ≡ true
+pub found_there : (k : Shape) (v : View) (t : ℕ) (table : Table) (key : Key) (a b : ℕ) → v.shape ≡ k → ∥ Possible v ∥₁ → MayWriteEntries k t v → HasTable k t table v → kind_in k.starts t ≡ kind.Set → FitsKey key → IsHeldAt (known t v).content key (Some (a, b)) → has_element (set_of (known t v).content).elements key ≡ true
 found_there k v t table key a b shape possible may has is fits there =
     let others = set_of (known t v).content in
     let set_is = is_set k v t shape possible may.locked is in
@@ -73,7 +73,7 @@ found_there k v t table key a b shape possible may has is fits there =
     element_there others key fits (set_fits_words k.texts (held t v).block (0 ∷ 0 ∷ (held t v).table) (class_of (name_of table)) (known t v).table.fill others says)
     (λ none. absurd (let e = sym here.1 ∙ none in cc))
 
-pub missing_there : (k : Shape) (v : View) (t : ℕ) (key : Key) → v.shape ≡ k → ∥ Possible v ∥₁ → MayWriteEntries k t v → kind_in k.kinds t ≡ kind.Set → IsHeldAt (known t v).content key None → has_element (set_of (known t v).content).elements key ≡ false
+pub missing_there : (k : Shape) (v : View) (t : ℕ) (key : Key) → v.shape ≡ k → ∥ Possible v ∥₁ → MayWriteEntries k t v → kind_in k.starts t ≡ kind.Set → IsHeldAt (known t v).content key None → has_element (set_of (known t v).content).elements key ≡ false
 missing_there k v t key shape possible may is none = subst (λ (z : Content). IsHeldAt z key None) (is_set k v t shape possible may.locked is) none
 
 -- it may be read on, while the first one is written
@@ -116,7 +116,7 @@ goes_found false false others key is ne = absurd (ne refl)
 
 -- ---- a set that has a table
 
-module _ (k : Shape) (s : ℕ) (table : Table) (kept : Bool) (others : SetContent) (v u : View) (f : ℕ) (shape : v.shape ≡ k) (possible : ∥ Possible v ∥₁) (may : MayWriteEntries k s v) (is : kind_in k.kinds s ≡ kind.Set) (has : HasTable k s table v) (begun : u ≡ noted (StartWrite s f) v) where
+module _ (k : Shape) (s : ℕ) (table : Table) (kept : Bool) (others : SetContent) (v u : View) (f : ℕ) (shape : v.shape ≡ k) (possible : ∥ Possible v ∥₁) (may : MayWriteEntries k s v) (is : kind_in k.starts s ≡ kind.Set) (has : HasTable k s table v) (begun : u ≡ noted (StartWrite s f) v) where
   abbrev t : ℕ
   t = name_of table
 
@@ -145,7 +145,7 @@ module _ (k : Shape) (s : ℕ) (table : Table) (kept : Bool) (others : SetConten
       let r = set.room_is elements k.texts (held s v).block (class_of t) (known s v).table.fill (table_class k table has.table_in) first (held s v).table first_says in
       omega (arith, f, g, r)
 
-  pub evens : (p : ℕ) → p < rows (kind_in k.kinds s) (class_of t) → version_of t (held s v) p % 2 ≡ 0
+  pub evens : (p : ℕ) → p < rows (kind_in k.starts s) (class_of t) → version_of t (held s v) p % 2 ≡ 0
   evens p less =
       let shut : Shut (version_at kind.Set (class_of t)) (rows kind.Set (class_of t)) (held s v).table = subst (λ (z : Kind). Shut (version_at z (class_of t)) (rows z (class_of t)) (held s v).table) (ap kind_of first_known) (shut_known k v s t shape possible may.container may.locked may.even has.root) in
       shut p (subst (λ (z : Kind). p < rows z (class_of t)) is less)
@@ -175,15 +175,15 @@ module _ (k : Shape) (s : ℕ) (table : Table) (kept : Bool) (others : SetConten
       early = ap (λ (z : View). has_committed s z.log) begun ∙ hit s false (has_committed s v.log);
       stands = subst (λ (z : Picture). Stands k.texts z (record { content = content.Set first; table = (known s v).table })) held_back first_stands;
       same = λ p key less even live. ap (λ (z : Content). under z key) (sym first_known ∙ ap (λ (z : ContainerState). z.content) known_back);
-      gone = subst (λ (z : Picture). (p : ℕ) (key : Key) → p < rows (kind_in k.kinds s) (class_of t) → version_of t z p % 2 ≡ 1 → IsDead (slots (class_of t)) z.table p key → under (content.Set first) key ≡ []) held_back (λ p key less odd dead. let e = evens p less in absurd (omega (arith, e, odd)));
-      opened = subst (λ (z : Picture). (p : ℕ) → p < rows (kind_in k.kinds s) (class_of t) → version_of t z p % 2 ≡ 1 → p < (known s v).table.fill) held_back (λ p less odd. let e = evens p less in absurd (omega (arith, e, odd)));
+      gone = subst (λ (z : Picture). (p : ℕ) (key : Key) → p < rows (kind_in k.starts s) (class_of t) → version_of t z p % 2 ≡ 1 → IsDead (slots (class_of t)) z.table p key → under (content.Set first) key ≡ []) held_back (λ p key less odd dead. let e = evens p less in absurd (omega (arith, e, odd)));
+      opened = subst (λ (z : Picture). (p : ℕ) → p < rows (kind_in k.starts s) (class_of t) → version_of t z p % 2 ≡ 1 → p < (known s v).table.fill) held_back (λ p less odd. let e = evens p less in absurd (omega (arith, e, odd)));
     };
     first_is = ap (λ (z : ContainerState). z.content) (sym known_back) ∙ first_known;
     fits = set_fits_words k.texts (held s v).block (0 ∷ 0 ∷ (held s v).table) (class_of t) (known s v).table.fill first first_says;
     comes = ap (λ (es : List Element). content.Set (record { next = first.next; elements = es })) (spared_own kept others first first.elements (λ key there. there));
-    even = subst (λ (z : Picture). (p : ℕ) → p < rows (kind_in k.kinds s) (class_of t) → 0 ≤ p → p < (known s v).table.fill → version_of t z p % 2 ≡ 0) held_back (λ p less up low. evens p less);
+    even = subst (λ (z : Picture). (p : ℕ) → p < rows (kind_in k.starts s) (class_of t) → 0 ≤ p → p < (known s v).table.fill → version_of t z p % 2 ≡ 0) held_back (λ p less up low. evens p less);
     done = λ p key less none ok live. absurd (omega (arith, none));
-    rest = subst (λ (z : Picture). (p : ℕ) (key : Key) → p < rows (kind_in k.kinds s) (class_of t) → (known s v).table.fill ≤ p → FitsKey key → HasLiveKey (slots (class_of t)) z.table p key → spared kept others first key ≡ true) held_back
+    rest = subst (λ (z : Picture). (p : ℕ) (key : Key) → p < rows (kind_in k.starts s) (class_of t) → (known s v).table.fill ≤ p → FitsKey key → HasLiveKey (slots (class_of t)) z.table p key → spared kept others first key ≡ true) held_back
         (λ p key less up ok live. absurd (unused elements p key (subst (λ (z : Kind). p < rows z (class_of t)) is less) up live));
   }
 
@@ -203,10 +203,10 @@ module _ (k : Shape) (s : ℕ) (table : Table) (kept : Bool) (others : SetConten
         clear_of laws k.texts (held s w) t (table_class k table has.table_in) midway.writes.root (content.Set left) after refl tt midway.stands (known s v).content
         (λ p key low even live. midway.same p key (subst (λ (z : Kind). p < rows z (class_of t)) (sym is) low) even live ∙ ap (λ (z : ContainerState). under z.content key) known_now)
 
-    clears : (q : ℕ) → root_in (held s w) ≡ suc q → ClearAs (kind_in v.shape.kinds s) v.shape.texts (class_of q) (held s w).table (known s v).content after.content
+    clears : (q : ℕ) → root_in (held s w) ≡ suc q → ClearAs (kind_in v.shape.starts s) v.shape.texts (class_of q) (held s w).table (known s v).content after.content
     clears q names =
         let same : t ≡ q = let e : suc t ≡ suc q = sym midway.writes.root ∙ names in omega (arith, e) in
-        let kind_now : kind.Set ≡ kind_in v.shape.kinds s = sym (ap (λ (z : Shape). kind_in z.kinds s) shape ∙ is) in
+        let kind_now : kind.Set ≡ kind_in v.shape.starts s = sym (ap (λ (z : Shape). kind_in z.starts s) shape ∙ is) in
         let texts_now : k.texts ≡ v.shape.texts = sym (ap (λ (z : Shape). z.texts) shape) in
         let class_now : class_of t ≡ class_of q = ap class_of same in
         subst (λ (z : Kind × List ℕ × ℕ). ClearAs z.0 z.1 z.2 (held s w).table (known s v).content (content.Set left)) (λ d. (kind_now d, texts_now d, class_now d)) here
@@ -224,7 +224,7 @@ module _ (k : Shape) (s : ℕ) (table : Table) (kept : Bool) (others : SetConten
 -- ---- a set that has none
 
 -- it has no elements
-pub none_thinned : (k : Shape) (v : View) (s : ℕ) (kept : Bool) (others : ContainerState) → v.shape ≡ k → ∥ Possible v ∥₁ → MayWriteEntries k s v → kind_in k.kinds s ≡ kind.Set → root_in (held s v) ≡ 0 → thinned_state kept others (known s v) ≡ known s v
+pub none_thinned : (k : Shape) (v : View) (s : ℕ) (kept : Bool) (others : ContainerState) → v.shape ≡ k → ∥ Possible v ∥₁ → MayWriteEntries k s v → kind_in k.starts s ≡ kind.Set → root_in (held s v) ≡ 0 → thinned_state kept others (known s v) ≡ known s v
 none_thinned k v s kept others shape possible may is bare =
     let set_is = is_set k v s shape possible may.locked is in
     let first = set_of (known s v).content in
@@ -251,8 +251,9 @@ module _ (v u : View) (l : OnlyLoaded v u) where
   had stored has = record {
     agrees = λ p low mine. has.agrees p (subst (λ (z : Shape). p < containers_in z) (sym l.work.pass.shape) low) (l.work.pass.locks p ∙ mine) ∙ work_knows v u p l.work;
     containers = has.containers ∙ ap containers_in l.work.pass.shape;
-    kinds = has.kinds ∙ ap (λ (z : Shape). z.kinds) l.work.pass.shape;
+    kinds = has.kinds ∙ ap (λ (z : Shape). kinds_in z.starts) l.work.pass.shape;
     order = has.order;
+    unsplit = has.unsplit;
     words = has.words;
   }
 

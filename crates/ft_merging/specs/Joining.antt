@@ -28,6 +28,7 @@ abbrev pub joined : Content → Content → Content
 joined (content.Dict dict) others = content.Dict (dict_update dict (dict_of others).pairs)
 joined (content.Set set) others = content.Set (set_or set (set_of others).elements)
 joined (content.List values) others = content.List values
+joined (content.Deque deque) others = content.Deque deque
 
 -- how many new keys it has then: each draws a serial (profile)
 abbrev pub new_keys : Content → Content → ℕ

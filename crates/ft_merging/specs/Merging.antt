@@ -17,8 +17,8 @@ use Rattle.ft_merging.specs.Joining.{new_keys}
 pub record MayMerge (k : Shape) (kind : Kind) (merge : Merge) (v : View) : Type 0 where
   pub two : merge.o ≢ merge.t
   pub other : KnowsKeyed k merge.t (Some merge.table) v
-  pub way : kind_in k.kinds merge.o ≡ kind
-  pub other_way : kind_in k.kinds merge.t ≡ kind
+  pub way : kind_in k.starts merge.o ≡ kind
+  pub other_way : kind_in k.starts merge.t ≡ kind
   pub others : merge.others ≡ (known merge.t v).table.fill
   pub counts : AreCounts (held merge.o v).block merge.counts
   pub more : merge.more ≡ new_keys (known merge.o v).content (known merge.t v).content

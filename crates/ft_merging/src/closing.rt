@@ -23,7 +23,7 @@ use ft_section::Object;
 /// Makes the version of the entry at a place even, where it is odd.
 fn close_at(bank: &Bank, pass: &mut Pass, o: Object, table: Table, place: u64, fill: u64)
     requires pass { IsPassOf bank.now pass.old }
-    requires place { place < rows (kind_in (shape_of bank.now).kinds o) (class_of (name_of table)) }
+    requires place { place < rows (kind_in (shape_of bank.now).starts o) (class_of (name_of table)) }
     requires closing { IsClosing (shape_of bank.now) o table place fill (view pass.old) }
     ensures pass { IsPassOf bank.now pass.new }
     ensures stack { stack_of pass.new ≡ stack_of pass.old }
@@ -43,7 +43,7 @@ fn close_at(bank: &Bank, pass: &mut Pass, o: Object, table: Table, place: u64, f
 /// Makes the versions of as many entries even, where they are odd.
 fn close_all(bank: &Bank, pass: &mut Pass, o: Object, table: Table, fill: u64)
     requires pass { IsPassOf bank.now pass.old }
-    requires fill { fill ≤ rows (kind_in (shape_of bank.now).kinds o) (class_of (name_of table)) }
+    requires fill { fill ≤ rows (kind_in (shape_of bank.now).starts o) (class_of (name_of table)) }
     requires closing { IsClosing (shape_of bank.now) o table 0 fill (view pass.old) }
     ensures pass { IsPassOf bank.now pass.new }
     ensures stack { stack_of pass.new ≡ stack_of pass.old }
@@ -67,7 +67,7 @@ pub(crate) fn finish_entries(
     said: &Reply,
 ) -> u64
     requires pass { IsPassOf bank.now pass.old }
-    requires fill { fill ≤ rows (kind_in (shape_of bank.now).kinds o) (class_of (name_of table)) }
+    requires fill { fill ≤ rows (kind_in (shape_of bank.now).starts o) (class_of (name_of table)) }
     requires may { MayFinishAll (shape_of bank.now) o table fill called.now said.now (view pass.old) }
     ensures pass { IsPassOf bank.now pass.new }
     ensures stack { stack_of pass.new ≡ stack_of pass.old }

@@ -35,8 +35,8 @@ fn is_new_at(
     requires pass { IsPassOf bank.now pass.old }
     requires may { MayWriteEntries (shape_of bank.now) o (view pass.old) }
     requires other { KnowsKeyed (shape_of bank.now) t (Some table) (view pass.old) }
-    requires way { kind_in (shape_of bank.now).kinds o ≡ kind_by way }
-    requires other_way { kind_in (shape_of bank.now).kinds t ≡ kind_by way }
+    requires way { kind_in (shape_of bank.now).starts o ≡ kind_by way }
+    requires other_way { kind_in (shape_of bank.now).starts t ≡ kind_by way }
     requires place { place < (known t (view pass.old)).table.fill }
     ensures pass { IsPassOf bank.now pass.new }
     ensures stack { stack_of pass.new ≡ stack_of pass.old }
@@ -73,8 +73,8 @@ pub(crate) fn count_new(
     requires pass { IsPassOf bank.now pass.old }
     requires may { MayWriteEntries (shape_of bank.now) o (view pass.old) }
     requires other { KnowsKeyed (shape_of bank.now) t (Some table) (view pass.old) }
-    requires way { kind_in (shape_of bank.now).kinds o ≡ kind_by way }
-    requires other_way { kind_in (shape_of bank.now).kinds t ≡ kind_by way }
+    requires way { kind_in (shape_of bank.now).starts o ≡ kind_by way }
+    requires other_way { kind_in (shape_of bank.now).starts t ≡ kind_by way }
     requires fill { fill ≡ (known t (view pass.old)).table.fill }
     ensures pass { IsPassOf bank.now pass.new }
     ensures stack { stack_of pass.new ≡ stack_of pass.old }

@@ -251,8 +251,8 @@ fn join_from(
     requires other { KnowsKeyed (shape_of bank.now) t (Some table) (view pass.old) }
     requires used { used (view pass.old).log ≡ false }
     requires idle { flight (view pass.old).log ≡ 0 }
-    requires way { kind_in (shape_of bank.now).kinds o ≡ kind_by way }
-    requires other_way { kind_in (shape_of bank.now).kinds t ≡ kind_by way }
+    requires way { kind_in (shape_of bank.now).starts o ≡ kind_by way }
+    requires other_way { kind_in (shape_of bank.now).starts t ≡ kind_by way }
     requires serials { serial_of (known o (view pass.old)).content + 65536 < 2 ^ 63 }
     requires joins { JoinsKeys o t called.now (view pass.old) }
     ensures pass { IsPassOf bank.now pass.new }
@@ -310,8 +310,8 @@ pub fn join_by(bank: &Bank, pass: &mut Pass, o: Object, t: Object, way: Way, cal
     requires other { MayWriteEntries (shape_of bank.now) t (view pass.old) }
     requires used { used (view pass.old).log ≡ false }
     requires idle { flight (view pass.old).log ≡ 0 }
-    requires way { kind_in (shape_of bank.now).kinds o ≡ kind_by way }
-    requires other_way { kind_in (shape_of bank.now).kinds t ≡ kind_by way }
+    requires way { kind_in (shape_of bank.now).starts o ≡ kind_by way }
+    requires other_way { kind_in (shape_of bank.now).starts t ≡ kind_by way }
     requires serials { serial_of (known o (view pass.old)).content + 65536 < 2 ^ 63 }
     requires joins { JoinsKeys o t called.now (view pass.old) }
     ensures pass { IsPassOf bank.now pass.new }

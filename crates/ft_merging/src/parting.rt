@@ -40,8 +40,8 @@ pub fn count_lacking(
     requires pass { IsPassOf bank.now pass.old }
     requires may { MayWriteEntries (shape_of bank.now) s (view pass.old) }
     requires other { KnowsKeyed (shape_of bank.now) t (Some table) (view pass.old) }
-    requires set { kind_in (shape_of bank.now).kinds s ≡ kind.Set }
-    requires other_set { kind_in (shape_of bank.now).kinds t ≡ kind.Set }
+    requires set { kind_in (shape_of bank.now).starts s ≡ kind.Set }
+    requires other_set { kind_in (shape_of bank.now).starts t ≡ kind.Set }
     requires fill { fill ≡ (known t (view pass.old)).table.fill }
     ensures pass { IsPassOf bank.now pass.new }
     ensures stack { stack_of pass.new ≡ stack_of pass.old }

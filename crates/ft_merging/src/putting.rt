@@ -80,11 +80,11 @@ fn put_stored(
 )
     requires pass { IsPassOf bank.now pass.old }
     requires writes { WritesEntries (shape_of bank.now) o own (view pass.old) }
-    requires place { place < rows (kind_in (shape_of bank.now).kinds o) (class_of (name_of own)) }
+    requires place { place < rows (kind_in (shape_of bank.now).starts o) (class_of (name_of own)) }
     requires early { has_committed o (view pass.old).log ≡ false }
     requires old_kind { old.0 ≡ entry_field (slots (class_of (name_of own))) (held o (view pass.old)).table place 4 }
     requires old_payload { old.1 ≡ entry_field (slots (class_of (name_of own))) (held o (view pass.old)).table place 5 }
-    requires may { MayPuts (kind_in (shape_of bank.now).kinds o) (name_of own) (known o (view pass.old)).content false
+    requires may { MayPuts (kind_in (shape_of bank.now).starts o) (name_of own) (known o (view pass.old)).content false
         (held o (view pass.old))
         (stored_puts (slots (class_of (name_of own))) (held o (view pass.old)).table place stored) }
     ensures pass { IsPassOf bank.now pass.new }
@@ -129,7 +129,7 @@ fn join_at(
     requires pass { IsPassOf bank.now pass.old }
     requires two { o ≢ t }
     requires other { KnowsKeyed (shape_of bank.now) t (Some table) (view pass.old) }
-    requires other_way { kind_in (shape_of bank.now).kinds t ≡ kind_by way }
+    requires other_way { kind_in (shape_of bank.now).starts t ≡ kind_by way }
     requires place { place < (known t (view pass.old)).table.fill }
     requires joining { IsJoining (shape_of bank.now) o way own t table
         (joined (known o (view pass.old)).content (known t (view pass.old)).content) end place counts (view pass.old) }
@@ -187,7 +187,7 @@ pub(crate) fn join_all(
     requires pass { IsPassOf bank.now pass.old }
     requires two { o ≢ t }
     requires other { KnowsKeyed (shape_of bank.now) t (Some table) (view pass.old) }
-    requires other_way { kind_in (shape_of bank.now).kinds t ≡ kind_by way }
+    requires other_way { kind_in (shape_of bank.now).starts t ≡ kind_by way }
     requires fill { fill ≡ (known t (view pass.old)).table.fill }
     requires joining { IsJoining (shape_of bank.now) o way own t table
         (joined (known o (view pass.old)).content (known t (view pass.old)).content) end 0 first (view pass.old) }
@@ -224,7 +224,7 @@ pub(crate) fn join_table(
     requires pass { IsPassOf bank.now pass.old }
     requires two { o ≢ t }
     requires other { KnowsKeyed (shape_of bank.now) t (Some table) (view pass.old) }
-    requires other_way { kind_in (shape_of bank.now).kinds t ≡ kind_by way }
+    requires other_way { kind_in (shape_of bank.now).starts t ≡ kind_by way }
     requires fill { fill ≡ (known t (view pass.old)).table.fill }
     requires joining { IsJoining (shape_of bank.now) o way own t table
         (joined (known o (view pass.old)).content (known t (view pass.old)).content) end 0 first (view pass.old) }

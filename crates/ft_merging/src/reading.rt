@@ -30,10 +30,10 @@ use ft_section::Object;
 pub fn word_of(bank: &Bank, pass: &mut Pass, o: Object, table: Table, place: u64, word: u64) -> u64
     requires pass { IsPassOf bank.now pass.old }
     requires container { o < containers_in (shape_of bank.now) }
-    requires keyed { IsKeyed (kind_in (shape_of bank.now).kinds o) }
+    requires keyed { IsKeyed (kind_in (shape_of bank.now).starts o) }
     requires table { IsTableIn (shape_of bank.now) table }
     requires knows { KnowsTable o (name_of table) (view pass.old) }
-    requires place { place < rows (kind_in (shape_of bank.now).kinds o) (class_of (name_of table)) }
+    requires place { place < rows (kind_in (shape_of bank.now).starts o) (class_of (name_of table)) }
     requires word { word < 8 }
     ensures pass { IsPassOf bank.now pass.new }
     ensures stack { stack_of pass.new ≡ stack_of pass.old }
@@ -49,10 +49,10 @@ pub fn word_of(bank: &Bank, pass: &mut Pass, o: Object, table: Table, place: u64
 pub fn key_at(bank: &Bank, pass: &mut Pass, o: Object, table: Table, place: u64) -> Option<Key>
     requires pass { IsPassOf bank.now pass.old }
     requires container { o < containers_in (shape_of bank.now) }
-    requires keyed { IsKeyed (kind_in (shape_of bank.now).kinds o) }
+    requires keyed { IsKeyed (kind_in (shape_of bank.now).starts o) }
     requires table { IsTableIn (shape_of bank.now) table }
     requires knows { KnowsTable o (name_of table) (view pass.old) }
-    requires place { place < rows (kind_in (shape_of bank.now).kinds o) (class_of (name_of table)) }
+    requires place { place < rows (kind_in (shape_of bank.now).starts o) (class_of (name_of table)) }
     ensures pass { IsPassOf bank.now pass.new }
     ensures stack { stack_of pass.new ≡ stack_of pass.old }
     ensures only { OnlyLoaded (view pass.old) (view pass.new) }
@@ -92,10 +92,10 @@ pub(crate) fn pair_at(
 ) -> Option<Pair>
     requires pass { IsPassOf bank.now pass.old }
     requires container { o < containers_in (shape_of bank.now) }
-    requires keyed { IsKeyed (kind_in (shape_of bank.now).kinds o) }
+    requires keyed { IsKeyed (kind_in (shape_of bank.now).starts o) }
     requires table { IsTableIn (shape_of bank.now) table }
     requires knows { KnowsTable o (name_of table) (view pass.old) }
-    requires place { place < rows (kind_in (shape_of bank.now).kinds o) (class_of (name_of table)) }
+    requires place { place < rows (kind_in (shape_of bank.now).starts o) (class_of (name_of table)) }
     ensures pass { IsPassOf bank.now pass.new }
     ensures stack { stack_of pass.new ≡ stack_of pass.old }
     ensures only { OnlyLoaded (view pass.old) (view pass.new) }

@@ -41,7 +41,7 @@ const FILL: u64 = block_word::FILL - block_word::ROOT;
 /// Whether an element of a set is one of another set, or of this set itself.
 fn is_in(bank: &Bank, pass: &mut Pass, s: Object, t: Object, key: Key, hash: u64) -> bool
     requires pass { IsPassOf bank.now pass.old }
-    requires set { kind_in (shape_of bank.now).kinds t ≡ kind.Set }
+    requires set { kind_in (shape_of bank.now).starts t ≡ kind.Set }
     requires hash { hash ≡ hash_of (shape_of bank.now).texts key }
     requires fits { FitsKey key }
     requires other { s ≢ t → MayWriteEntries (shape_of bank.now) t (view pass.old) }
@@ -72,8 +72,8 @@ fn goes_at(
     place: u64,
 ) -> Option<Key>
     requires pass { IsPassOf bank.now pass.old }
-    requires set { kind_in (shape_of bank.now).kinds s ≡ kind.Set }
-    requires other_set { kind_in (shape_of bank.now).kinds t ≡ kind.Set }
+    requires set { kind_in (shape_of bank.now).starts s ≡ kind.Set }
+    requires other_set { kind_in (shape_of bank.now).starts t ≡ kind.Set }
     requires place { place < rows kind.Set (class_of (name_of table)) }
     requires other { s ≢ t → MayWriteEntries (shape_of bank.now) t (view pass.old) }
     requires thinned { (to : ContainerState) × (last : ℕ) × (place < last) × IsThinned (shape_of bank.now) s table kept
@@ -106,8 +106,8 @@ fn goes_at(
 /// Takes the element of the entry at a place out, where it is to go.
 fn thin_at(bank: &Bank, pass: &mut Pass, s: Object, table: Table, t: Object, kept: bool, place: u64)
     requires pass { IsPassOf bank.now pass.old }
-    requires set { kind_in (shape_of bank.now).kinds s ≡ kind.Set }
-    requires other_set { kind_in (shape_of bank.now).kinds t ≡ kind.Set }
+    requires set { kind_in (shape_of bank.now).starts s ≡ kind.Set }
+    requires other_set { kind_in (shape_of bank.now).starts t ≡ kind.Set }
     requires place { place < rows kind.Set (class_of (name_of table)) }
     requires other { s ≢ t → MayWriteEntries (shape_of bank.now) t (view pass.old) }
     requires thinned { (to : ContainerState) × (last : ℕ) × (place < last) × IsThinned (shape_of bank.now) s table kept
@@ -141,8 +141,8 @@ pub(crate) fn thin_all(
     fill: u64,
 )
     requires pass { IsPassOf bank.now pass.old }
-    requires set { kind_in (shape_of bank.now).kinds s ≡ kind.Set }
-    requires other_set { kind_in (shape_of bank.now).kinds t ≡ kind.Set }
+    requires set { kind_in (shape_of bank.now).starts s ≡ kind.Set }
+    requires other_set { kind_in (shape_of bank.now).starts t ≡ kind.Set }
     requires fill { fill ≤ rows kind.Set (class_of (name_of table)) }
     requires other { s ≢ t → MayWriteEntries (shape_of bank.now) t (view pass.old) }
     requires thinned { (to : ContainerState) × IsThinned (shape_of bank.now) s table kept
@@ -177,8 +177,8 @@ fn thin_table(
     requires pass { IsPassOf bank.now pass.old }
     requires may { MayWriteEntries (shape_of bank.now) s (view pass.old) }
     requires other { MayWriteEntries (shape_of bank.now) t (view pass.old) }
-    requires set { kind_in (shape_of bank.now).kinds s ≡ kind.Set }
-    requires other_set { kind_in (shape_of bank.now).kinds t ≡ kind.Set }
+    requires set { kind_in (shape_of bank.now).starts s ≡ kind.Set }
+    requires other_set { kind_in (shape_of bank.now).starts t ≡ kind.Set }
     requires table { HasTable (shape_of bank.now) s table (view pass.old) }
     requires fill { fill ≡ (known s (view pass.old)).table.fill }
     requires leaves { Leaves s called.now reply.Done
@@ -202,8 +202,8 @@ pub fn thin_by(bank: &Bank, pass: &mut Pass, s: Object, t: Object, kept: bool, c
     requires pass { IsPassOf bank.now pass.old }
     requires may { MayWriteEntries (shape_of bank.now) s (view pass.old) }
     requires other { MayWriteEntries (shape_of bank.now) t (view pass.old) }
-    requires set { kind_in (shape_of bank.now).kinds s ≡ kind.Set }
-    requires other_set { kind_in (shape_of bank.now).kinds t ≡ kind.Set }
+    requires set { kind_in (shape_of bank.now).starts s ≡ kind.Set }
+    requires other_set { kind_in (shape_of bank.now).starts t ≡ kind.Set }
     requires leaves { Leaves s called.now reply.Done
         (thinned_state kept (known t (view pass.old)) (known s (view pass.old))) (view pass.old) }
     ensures pass { IsPassOf bank.now pass.new }

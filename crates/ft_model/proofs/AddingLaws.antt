@@ -10,11 +10,14 @@ use Rattle.ft_model.specs.declared.call.ListCall.{ListCall}
 use Rattle.ft_model.specs.declared.call.ListCall.TheVariants as list
 use Rattle.ft_model.specs.declared.call.SetCall.{SetCall}
 use Rattle.ft_model.specs.declared.call.SetCall.TheVariants as set_call
+use Rattle.ft_model.specs.declared.call.DequeCall.{DequeCall}
+use Rattle.ft_model.specs.declared.call.DequeCall.TheVariants as deque
+use Rattle.ft_model.specs.Deques.{DequeContent}
 use Rattle.ft_model.specs.declared.data.Value.{Value}
-use Rattle.ft_model.specs.Answers.{Answer, answer, answer_dict, answer_list, answer_set, is_raised}
-use Rattle.ft_model.specs.Calls.{adds, can_add, dict_change, list_change, set_change}
+use Rattle.ft_model.specs.Answers.{Answer, answer, answer_dict, answer_list, answer_set, answer_deque, is_raised}
+use Rattle.ft_model.specs.Calls.{adds, can_add, dict_change, list_change, set_change, deque_change}
 use Rattle.ft_model.specs.Contents.{DictContent, SetContent, dict_get}
-use Rattle.ft_model.specs.Worlds.{WorldContent, HandsContent, dict_at, list_at, set_at}
+use Rattle.ft_model.specs.Worlds.{WorldContent, HandsContent, dict_at, list_at, set_at, deque_at}
 
 module _ (world : WorldContent) (hands : HandsContent) (place : ℕ) where
   either : (found : Option Value) (f : Value → Answer) (none : Answer) → ((v : Value) → is_raised (f v).reply ≡ false) → is_raised none.reply ≡ false → is_raised (option_map_or f found none).reply ≡ false
@@ -40,8 +43,16 @@ module _ (world : WorldContent) (hands : HandsContent) (place : ℕ) where
   set_raises old (set_call.Xor other) can = refl
   set_raises old _ can = absurd (false≢true can)
 
+  deque_raises : (old : DequeContent) (called : DequeCall) → adds (deque_change called) ≡ true → is_raised (answer_deque world hands place old called).reply ≡ false
+  deque_raises old (deque.Append value) can = refl
+  deque_raises old (deque.AppendLeft value) can = refl
+  deque_raises old (deque.Extend other) can = refl
+  deque_raises old (deque.ExtendLeft other) can = refl
+  deque_raises old _ can = absurd (false≢true can)
+
 pub adding_raises : (world : WorldContent) (hands : HandsContent) (called : Call) → can_add called ≡ true → is_raised (answer world hands called).reply ≡ false
 adding_raises world hands (call.Dict place dict_call) can = dict_raises world hands place (dict_at world place) dict_call can
 adding_raises world hands (call.List place list_call) can = list_raises world hands place (list_at world place) list_call can
 adding_raises world hands (call.Set place set_call) can = set_raises world hands place (set_at world place) set_call can
+adding_raises world hands (call.Deque place deque_call) can = deque_raises world hands place (deque_at world place) deque_call can
 adding_raises world hands _ can = absurd (false≢true can)

@@ -1,6 +1,6 @@
 -- In a legal history on tables the tables are in order at each place.
 use Rattle.std.proofs.Common.{◌≡◌, ℕ, suc, zero, ◌<◌, Bool, true, false, not, List, [], ◌∷◌, ◌++◌, length, map, take, Option, Some, None, refl, sym, ap, subst, ◌∙◌, arith, inl, inr}
-use Rattle.std.specs.Prelude.{◌==◌, ◌⊎◌, if◌then◌else◌, All, IfSome, filter, slice_get}
+use Rattle.std.specs.Prelude.{◌==◌, ◌⊎◌, if◌then◌else◌, All, IfSome, filter, option_map, slice_get}
 use Rattle.std.specs.Option.{option_map_or}
 use Rattle.std.proofs.lemmas.Bool.{eq-eqb, false≢true, not-true, and_parts}
 use Rattle.std.proofs.Math.ListN.{get_or-map}
@@ -16,6 +16,7 @@ use Rattle.ft_model.specs.declared.reply.Reply.{Reply}
 use Rattle.ft_model.specs.declared.reply.Reply.TheVariants as reply
 use Rattle.ft_model.specs.declared.script.Declaration.{Declaration}
 use Rattle.ft_model.specs.declared.script.Kind.{Kind}
+use Rattle.ft_model.specs.declared.script.Start.{Start}
 use Rattle.ft_model.specs.declared.script.Kind.TheVariants as kind
 use Rattle.ft_model.specs.declared.call.DictCall.{DictCall}
 use Rattle.ft_model.specs.declared.call.DictCall.TheVariants as dict
@@ -23,19 +24,21 @@ use Rattle.ft_model.specs.declared.call.ListCall.{ListCall}
 use Rattle.ft_model.specs.declared.call.ListCall.TheVariants as list
 use Rattle.ft_model.specs.declared.call.SetCall.{SetCall}
 use Rattle.ft_model.specs.declared.call.SetCall.TheVariants as set_call
+use Rattle.ft_model.specs.declared.call.DequeCall.{DequeCall}
+use Rattle.ft_model.specs.declared.call.DequeCall.TheVariants as deque
 use Rattle.ft_model.specs.declared.script.ScriptParts.{ScriptParts}
-use Rattle.ft_model.specs.Calls.{is_changing, is_changing_dict, is_changing_list, is_changing_set, other_dict, other_list, other_set, cursor_of_dict, cursor_of_list, cursor_of_set}
-use Rattle.ft_model.specs.Scripts.{IsScript, IsThread, NamesOf, IsDeclaredAs}
-use Rattle.ft_model.specs.Worlds.{WorldContent, kind_of, kinds_of, no_hands, empty_world, IsOfKind, IsDeclared}
+use Rattle.ft_model.specs.Calls.{is_changing, is_changing_dict, is_changing_list, is_changing_set, is_changing_deque, other_dict, other_list, other_set, other_deque, cursor_of_dict, cursor_of_list, cursor_of_set, cursor_of_deque}
+use Rattle.ft_model.specs.Scripts.{IsScript, IsThread, NamesOf, IsDeclaredAs, kind_at}
+use Rattle.ft_model.specs.Worlds.{WorldContent, kind_of, starts_of, no_hands, empty_content, empty_world, IsOfKind, IsDeclared}
 use Rattle.ft_model.specs.Answers.{is_raised}
-use Rattle.ft_model.specs.TableUses.{StoredWorld, empty_stored, after_stored, stored_by, stored_after, would_pass, IsEarnedReply}
+use Rattle.ft_model.specs.TableUses.{StoredWorld, empty_stored, after_stored, stored_by, stored_after, would_pass, Supply, supply_of, IsEarnedReply}
 use Rattle.ft_model.specs.Histories.{writes, entries_of, calls_of, cursors_of, IsLegal, IsWhole}
 use Rattle.ft_model.specs.TablesInOrder.{AreTablesInOrder}
 use Rattle.ft_model.proofs.AnswerLaws.{answer_containers}
 use Rattle.ft_model.proofs.TableOrder.{order-start, order-step}
 
 -- of the elements that pass a test, what holds of all holds of each
-each_passed : {X : Type 0} (P : X → Type 0) (test : X → Bool) (xs : List X) → All P (filter test xs) → (place : ℕ) (x : X) → slice_get xs place ≡ Some x → test x ≡ true → P x
+pub each_passed : {X : Type 0} (P : X → Type 0) (test : X → Bool) (xs : List X) → All P (filter test xs) → (place : ℕ) (x : X) → slice_get xs place ≡ Some x → test x ≡ true → P x
 each_passed P test [] each place x at passes = absurd (let none : None ≡ Some x = at in cc)
 each_passed {X = X} P test (first ∷ xs) each zero x at passes =
     let is : first ≡ x = let some : Some first ≡ Some x = at in cc in
@@ -47,7 +50,7 @@ each_passed P test (first ∷ xs) each (suc place) x at passes =
       | false ↦ λ gone. each_passed P test xs (simp gone at each) place x at passes
     ] refl
 
-each_some : {X : Type 0} (P : X → Type 0) (xs : List X) → All P xs → (place : ℕ) (x : X) → slice_get xs place ≡ Some x → P x
+pub each_some : {X : Type 0} (P : X → Type 0) (xs : List X) → All P xs → (place : ℕ) (x : X) → slice_get xs place ≡ Some x → P x
 each_some P [] each place x at = absurd (let none : None ≡ Some x = at in cc)
 each_some P (first ∷ xs) each zero x at = subst P (let some : Some first ≡ Some x = at in let is : first ≡ x = cc in is) (each zero first (omega arith))
 each_some P (first ∷ xs) each (suc place) x at = each_some P xs (λ k d low. each (suc k) d (omega arith)) place x at
@@ -71,19 +74,39 @@ entry_named script entries is whole place entry at =
 -- no call of a changing kind makes a cursor
 no_cursor_dict : (c : DictCall) → is_changing_dict c ≡ true → IfSome (cursor_of_dict c) (λ number. number < 0)
 no_cursor_dict (dict.Iter cursor) changes = absurd (false≢true changes)
+no_cursor_dict (dict.Reversed cursor) changes = absurd (false≢true changes)
 no_cursor_dict other changes = tt
 
 no_cursor_list : (c : ListCall) → is_changing_list c ≡ true → IfSome (cursor_of_list c) (λ number. number < 0)
 no_cursor_list (list.Iter cursor) changes = absurd (false≢true changes)
+no_cursor_list (list.Reversed cursor) changes = absurd (false≢true changes)
 no_cursor_list other changes = tt
 
 no_cursor_set : (c : SetCall) → is_changing_set c ≡ true → IfSome (cursor_of_set c) (λ number. number < 0)
 no_cursor_set (set_call.Iter cursor) changes = absurd (false≢true changes)
 no_cursor_set other changes = tt
 
-module _ (containers : List Declaration) (world : WorldContent) (kinds : map kind_of world ≡ kinds_of containers) (cursors : ℕ) where
+no_cursor_deque : (c : DequeCall) → is_changing_deque c ≡ true → IfSome (cursor_of_deque c) (λ number. number < 0)
+no_cursor_deque (deque.Iter cursor) changes = absurd (false≢true changes)
+no_cursor_deque other changes = tt
+
+-- the kinds of containers that start so
+abbrev kinds_in : List Start → List Kind
+kinds_in starts = map (λ start. start.kind) starts
+
+module _ (containers : List Declaration) (world : WorldContent) (kinds : map kind_of world ≡ kinds_in (starts_of containers)) (cursors : ℕ) where
+  same_kind : (place : ℕ) → option_map kind_of (slice_get world place) ≡ kind_at containers place
+  same_kind place = sym (slice_get-map kind_of world place) ∙ ap (λ (ks : List Kind). slice_get ks place) kinds ∙ slice_get-map (λ (s : Start). s.kind) (starts_of containers) place ∙ ap (option_map (λ (s : Start). s.kind)) (slice_get-map (λ (c : Declaration). c.start) containers place) ∙ mapped (slice_get containers place)
+    where
+      mapped : (found : Option Declaration) → option_map (λ (s : Start). s.kind) (option_map (λ (c : Declaration). c.start) found) ≡ option_map (λ (c : Declaration). c.start.kind) found
+      mapped None = refl
+      mapped (Some found) = refl
+
   of_kind : (kind : Kind) (place : ℕ) → IsDeclaredAs containers kind place → IsOfKind world kind place
-  of_kind kind place is = sym (slice_get-map kind_of world place) ∙ ap (λ (ks : List Kind). slice_get ks place) kinds ∙ slice_get-map (λ (c : Declaration). c.kind) containers place ∙ is
+  of_kind kind.Dict place is = same_kind place ∙ is
+  of_kind kind.List place is = same_kind place ∙ is
+  of_kind kind.Set place is = same_kind place ∙ is
+  of_kind (kind.Deque bound) place is = (is.0, same_kind place ∙ is.1)
 
   if_some : {X : Type 0} (P Q : X → Type 0) (o : Option X) → ((x : X) → P x → Q x) → IfSome o P → IfSome o Q
   if_some P Q None f h = tt
@@ -94,16 +117,19 @@ module _ (containers : List Declaration) (world : WorldContent) (kinds : map kin
   write_declared (call.Dict place c) changes names = record { one = of_kind kind.Dict place names.container; both = if_some _ _ (other_dict c) (of_kind kind.Dict) names.second; room = no_cursor_dict c changes }
   write_declared (call.List place c) changes names = record { one = of_kind kind.List place names.container; both = if_some _ _ (other_list c) (of_kind kind.List) names.second; room = no_cursor_list c changes }
   write_declared (call.Set place c) changes names = record { one = of_kind kind.Set place names.container; both = if_some _ _ (other_set c) (of_kind kind.Set) names.second; room = no_cursor_set c changes }
+  write_declared (call.Deque place c) changes names = record { one = of_kind (kind.Deque None) place names.container; both = if_some _ _ (other_deque c) (of_kind (kind.Deque None)) names.second; room = no_cursor_deque c changes }
   write_declared (call.Next number) changes names = absurd (false≢true changes)
   write_declared (call.Begin first second) changes names = absurd (false≢true changes)
   write_declared call.End changes names = absurd (false≢true changes)
   write_declared call.Quiesce changes names = absurd (false≢true changes)
+  write_declared (call.Await thread index) changes names = absurd (false≢true changes)
+  write_declared call.Dump changes names = absurd (false≢true changes)
 
 -- a write that is right passes no cap
-write_within : (kinds : List Kind) (tables : List ℕ) (threads : ℕ) (calls : List Call) (mine : List Entry) (called : Call) (said : Reply) → is_raised said ≡ false → IsEarnedReply kinds tables threads calls mine called said → would_pass (stored_by kinds calls).world called ≡ false
-write_within kinds tables threads calls mine called reply.Done well earned = earned
-write_within kinds tables threads calls mine called (reply.Raised raise) well earned = absurd (false≢true (sym well))
-write_within kinds tables threads calls mine called said well earned = earned
+write_within : (starts : List Start) (supply : Supply) (calls : List Call) (mine : List Entry) (called : Call) (said : Reply) → is_raised said ≡ false → IsEarnedReply starts supply calls mine called said → would_pass (stored_by starts calls).world called ≡ false
+write_within starts supply calls mine called reply.Done well earned = earned
+write_within starts supply calls mine called (reply.Raised raise) well earned = absurd (false≢true (sym well))
+write_within starts supply calls mine called said well earned = earned
 
 -- ---- place by place
 
@@ -128,22 +154,26 @@ writes_push entries entry =
 -- the tables are in order there, and the containers are of their kinds
 pub record IsSound (script : ScriptParts) (calls : List Call) : Type 0 where
   pub tables : AreTablesInOrder (stored_after script calls)
-  pub kinds : map kind_of (stored_after script calls).world ≡ kinds_of script.containers
+  pub kinds : map kind_of (stored_after script calls).world ≡ kinds_in (starts_of script.containers)
 
-kinds_at_start : (kinds : List Kind) → map kind_of (empty_world kinds) ≡ kinds
+kind_empty : (kind : Kind) → kind_of (empty_content kind) ≡ kind
+kind_empty kind.Dict = refl
+kind_empty kind.List = refl
+kind_empty kind.Set = refl
+kind_empty (kind.Deque bound) = refl
+
+kinds_at_start : (starts : List Start) → map kind_of (empty_world starts) ≡ kinds_in starts
 kinds_at_start [] = refl
-kinds_at_start (kind.Dict ∷ kinds) = ap (λ (rest : List Kind). kind.Dict ∷ rest) (kinds_at_start kinds)
-kinds_at_start (kind.List ∷ kinds) = ap (λ (rest : List Kind). kind.List ∷ rest) (kinds_at_start kinds)
-kinds_at_start (kind.Set ∷ kinds) = ap (λ (rest : List Kind). kind.Set ∷ rest) (kinds_at_start kinds)
+kinds_at_start (start ∷ starts) = ap (λ (k : Kind). k ∷ map kind_of (empty_world starts)) (kind_empty start.kind) ∙ ap (λ (rest : List Kind). start.kind ∷ rest) (kinds_at_start starts)
 
 sound_start : (script : ScriptParts) → IsSound script []
-sound_start script = record { tables = order-start (kinds_of script.containers); kinds = kinds_at_start (kinds_of script.containers) }
+sound_start script = record { tables = order-start (starts_of script.containers); kinds = kinds_at_start (starts_of script.containers) }
 
 sound_write : (script : ScriptParts) (calls : List Call) (cursors : ℕ) (called : Call) → is_changing called ≡ true → NamesOf script.containers cursors called → would_pass (stored_after script calls).world called ≡ false → IsSound script calls → IsSound script (calls ++ called ∷ [])
 sound_write script calls cursors called changes names few sound =
     let stored = stored_after script calls in
     let declared = write_declared script.containers stored.world sound.kinds cursors called changes names in
-    let next : stored_after script (calls ++ called ∷ []) ≡ after_stored stored called = fold_push after_stored (empty_stored (kinds_of script.containers)) calls called in
+    let next : stored_after script (calls ++ called ∷ []) ≡ after_stored stored called = fold_push after_stored (empty_stored (starts_of script.containers)) calls called in
     record {
       tables = subst AreTablesInOrder (sym next) (order-step stored no_hands called declared few sound.tables);
       kinds = ap (λ (s : StoredWorld). map kind_of s.world) next ∙ answer_containers stored.world no_hands called declared ∙ sound.kinds;
@@ -167,7 +197,7 @@ sound_place script entries is legal (suc place) =
           | true ↦ λ wrote.
               let write = and_parts (is_changing entry.call) (not (is_raised entry.reply)) (sym (chronicle.answered place entry at).wrote ∙ wrote) in
               sound_write script (writes (take place entries)) (cursors_of script entry.thread) entry.call write.0 (entry_named script entries is chronicle.whole place entry at)
-              (write_within (kinds_of script.containers) script.tables (length script.threads) (writes (take place entries)) (entries_of entry.thread (take place entries)) entry.call entry.reply (not-true (is_raised entry.reply) write.1) (chronicle.earned place entry at))
+              (write_within (starts_of script.containers) (supply_of script) (writes (take place entries)) (entries_of entry.thread (take place entries)) entry.call entry.reply (not-true (is_raised entry.reply) write.1) (chronicle.earned place entry at))
               before
         ] refl))
 

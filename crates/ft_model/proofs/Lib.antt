@@ -13,6 +13,10 @@ pub mod WorldPlaces
 pub mod AnswerLaws
 pub mod SetLaws
 pub mod ListLaws
+pub mod Deques
+pub mod DequeSteps
+pub mod LaterDeques
+pub mod DequeCursors
 pub mod CursorLaws
 pub mod ClassLemmas
 pub mod KnownKeys
@@ -20,7 +24,12 @@ pub mod FewSerials
 pub mod StoredLaws
 pub mod AddingLaws
 pub mod Untouched
+pub mod SplitDicts
 pub mod ClassRooms
 pub mod TableOrder
 pub mod LegalTables
+pub mod LandedCalls
 pub mod Takings
+pub mod SplitLaws
+pub mod WalkLaws
+pub mod ViewLaws

@@ -1,10 +1,10 @@
 -- A write takes one table at most, so that all classes together are taken no more often than there are writes.
+use Rattle.ft_model.specs.declared.script.Start.{Start}
 use Rattle.std.proofs.Common.{◌≡◌, ℕ, suc, zero, ◌+◌, ◌<◌, ◌≤◌, cond, List, [], ◌∷◌, length, Option, Some, None, refl, ap, arith, inl, inr}
 use Rattle.std.specs.List.{count_by, sum_by, range_with_len}
 use Rattle.std.proofs.lemmas.Bool.Decides.{eqb_tells}
 use Rattle.std.proofs.lemmas.List.Sums.{sum_by-cons, count_by-le-length}
 use Rattle.ft_model.specs.declared.call.Call.{Call}
-use Rattle.ft_model.specs.declared.script.Kind.{Kind}
 use Rattle.ft_model.specs.Classes.{least_class, class_count}
 use Rattle.ft_model.specs.TableUses.{StoredWorld, empty_stored, after_stored, takings, is_class, takes_by}
 
@@ -50,8 +50,8 @@ length-takings : (stored : StoredWorld) (calls : List Call) → length (takings 
 length-takings stored [] = refl
 length-takings stored (called ∷ calls) = ap suc (length-takings (after_stored stored called) calls)
 
-pub takes_few : (kinds : List Kind) (calls : List Call) → sum_by (λ class. takes_by kinds class calls) (range_with_len least_class class_count) ≤ length calls
+pub takes_few : (kinds : List Start) (calls : List Call) → sum_by (λ class. takes_by kinds class calls) (range_with_len least_class class_count) ≤ length calls
 takes_few kinds calls = omega (arith, classes_taken (takings (empty_stored kinds) calls) least_class class_count, length-takings (empty_stored kinds) calls)
 
-pub takes_class_few : (kinds : List Kind) (class : ℕ) (calls : List Call) → takes_by kinds class calls ≤ length calls
+pub takes_class_few : (kinds : List Start) (class : ℕ) (calls : List Call) → takes_by kinds class calls ≤ length calls
 takes_class_few kinds class calls = omega (arith, count_by-le-length (is_class class) (takings (empty_stored kinds) calls), length-takings (empty_stored kinds) calls)

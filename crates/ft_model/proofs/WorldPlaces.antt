@@ -1,12 +1,12 @@
 -- What stands at a place of a world.
 use Rattle.std.proofs.Common.{◌≡◌, ℕ, zero, suc, ◌<◌, List, [], ◌∷◌, length, get_or, set, Some, None, sym, ap, ◌∙◌, arith}
-use Rattle.std.specs.Prelude.{Result, Ok, Err, OnOk}
+use Rattle.std.specs.Prelude.{Result, Ok, Err, OnOk, option_map, slice_get}
 use Rattle.std.proofs.lemmas.List.{set-get_or, get_or_default}
 use Rattle.ft_model.specs.declared.data.Value.{Value}
 use Rattle.ft_model.specs.declared.content.Content.{Content}
 use Rattle.ft_model.specs.declared.content.Content.TheVariants as content
 use Rattle.ft_model.specs.declared.script.Kind.{Kind}
-use Rattle.ft_model.specs.Worlds.{IsOfKind, list_of, list_at}
+use Rattle.ft_model.specs.Worlds.{kind_of, list_of, list_at}
 
 pub stands : (world : List Content) (place : ℕ) (there d : Content) → get_or world place d ≡ there → set world place there ≡ world
 stands world place there d is = ap (λ (c : Content). set world place c) (sym is) ∙ set-get_or world place d
@@ -19,7 +19,7 @@ on_ok (Ok x) h f = f h
 on_ok (Err e) h f = tt
 
 -- a container of a kind is declared
-pub is_there : (world : List Content) (kind : Kind) (place : ℕ) → IsOfKind world kind place → place < length world
+pub is_there : (world : List Content) (kind : Kind) (place : ℕ) → option_map kind_of (slice_get world place) ≡ Some kind → place < length world
 is_there [] kind place h = absurd (let none : None ≡ Some kind = h in cc)
 is_there (first ∷ world) kind zero h = omega arith
 is_there (first ∷ world) kind (suc place) h = let low = is_there world kind place h in omega arith

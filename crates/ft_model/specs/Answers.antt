@@ -13,12 +13,17 @@ use Rattle.ft_model.specs.declared.call.ListCall.{ListCall}
 use Rattle.ft_model.specs.declared.call.ListCall.TheVariants as list
 use Rattle.ft_model.specs.declared.call.SetCall.{SetCall}
 use Rattle.ft_model.specs.declared.call.SetCall.TheVariants as set
+use Rattle.ft_model.specs.declared.call.DequeCall.{DequeCall}
+use Rattle.ft_model.specs.declared.call.DequeCall.TheVariants as deque
 use Rattle.ft_model.specs.declared.reply.Raise.TheVariants as raise
 use Rattle.ft_model.specs.declared.reply.Reply.{Reply}
 use Rattle.ft_model.specs.declared.reply.Reply.TheVariants as reply
+use Rattle.ft_model.specs.declared.reply.Shown.{Shown}
+use Rattle.ft_model.specs.declared.reply.Shown.TheVariants as shown
 use Rattle.ft_model.specs.declared.content.Content.{Content}
 use Rattle.ft_model.specs.declared.content.Content.TheVariants as content
 use Rattle.ft_model.specs.declared.content.DictPair.{DictPair}
+use Rattle.ft_model.specs.declared.content.Element.{Element}
 use Rattle.ft_model.specs.declared.cursor.Cursor.{Cursor}
 use Rattle.ft_model.specs.declared.cursor.Cursor.TheVariants as cursor
 use Rattle.ft_model.specs.Keys.{as_value}
@@ -26,9 +31,12 @@ use Rattle.ft_model.specs.Calls.{is_changing}
 use Rattle.ft_model.specs.Contents.{DictContent, SetContent, dict_get, has_key, dict_set, dict_del, dict_clear, dict_update, dict_copy, same_pairs}
 use Rattle.ft_model.specs.Contents.{has_element, set_add, set_discard, set_clear, set_or, set_and, set_sub, set_xor, is_subset, same_elements, is_disjoint}
 use Rattle.ft_model.specs.Lists.{index_in, list_slice, list_insert, has_value, index_of, count_of, same_items}
+use Rattle.ft_model.specs.Deques.{DequeContent, deque_append, deque_append_left, deque_extend, deque_extend_left, last_item, deque_pop, first_item, deque_pop_left, deque_rotate, deque_clear, deque_get}
+use Rattle.ft_model.specs.Views.{keys_and, keys_sub, keys_or, keys_xor, has_item}
 use Rattle.ft_model.specs.Cursors.{CursorStep, dict_iter, dict_next, list_iter, list_next, set_iter, set_next}
-use Rattle.ft_model.specs.declared.script.Kind.{Kind}
-use Rattle.ft_model.specs.Worlds.{empty_world, dict_at, list_at, set_at, cursor_at, no_hands}
+use Rattle.ft_model.specs.Cursors.{deque_iter, deque_next, dict_reversed, dict_back_next, list_reversed, list_back_next}
+use Rattle.ft_model.specs.declared.script.Start.{Start}
+use Rattle.ft_model.specs.Worlds.{empty_world, dict_at, list_at, set_at, deque_at, cursor_at, no_hands}
 
 -- the reply to a call, and what it leaves (profile)
 pub record Answer : Type 0 where
@@ -112,6 +120,21 @@ answer_dict world hands place old (dict.Eq other) =
     shows world hands (reply.Truth (same_pairs old.pairs (dict_at world other).pairs))
 -- iter(d.items())
 answer_dict world hands place old (dict.Iter cursor) = moves world hands cursor (dict_iter place old.pairs) reply.Done
+-- d.keys() & e.keys(), d.keys() - e.keys(), d.keys() | e.keys(), d.keys() ^ e.keys()
+answer_dict world hands place old (dict.KeysAnd other) =
+    shows world hands (reply.Set (keys_and old.pairs (dict_at world other).pairs))
+answer_dict world hands place old (dict.KeysSub other) =
+    shows world hands (reply.Set (keys_sub old.pairs (dict_at world other).pairs))
+answer_dict world hands place old (dict.KeysOr other) =
+    shows world hands (reply.Set (keys_or old.pairs (dict_at world other).pairs))
+answer_dict world hands place old (dict.KeysXor other) =
+    shows world hands (reply.Set (keys_xor old.pairs (dict_at world other).pairs))
+-- (k, v) in d.items()
+answer_dict world hands place old (dict.ItemsHas key value) =
+    shows world hands (reply.Truth (has_item old.pairs key value))
+-- reversed(d.items())
+answer_dict world hands place old (dict.Reversed cursor) =
+    moves world hands cursor (dict_reversed place old.pairs) reply.Done
 
 -- ---- lists
 
@@ -171,8 +194,15 @@ answer_list world hands place items (list.Eq other) =
     shows world hands (reply.Truth (same_items items (list_at world other)))
 -- iter(l)
 answer_list world hands place items (list.Iter cursor) = moves world hands cursor (list_iter place) reply.Done
+-- reversed(l)
+answer_list world hands place items (list.Reversed cursor) =
+    moves world hands cursor (list_reversed place items) reply.Done
 
 -- ---- sets
+
+-- all elements, in the order in which they were added (profile)
+abbrev pub elements_of : List Element → List Key
+elements_of elements = map (λ element. element.key) elements
 
 -- the set without its first element
 abbrev pub without_first : SetContent → SetContent
@@ -200,7 +230,7 @@ answer_set world hands place old (set.Has key) = shows world hands (reply.Truth 
 -- len(s)
 answer_set world hands place old set.Len = shows world hands (reply.Count (length old.elements))
 -- all elements, in the order in which they were added (profile)
-answer_set world hands place old set.Items = shows world hands (reply.Set (map (λ element. element.key) old.elements))
+answer_set world hands place old set.Items = shows world hands (reply.Set (elements_of old.elements))
 -- s == t
 answer_set world hands place old (set.Eq other) =
     shows world hands (reply.Truth (same_elements old.elements (set_at world other).elements))
@@ -227,6 +257,48 @@ answer_set world hands place old set.Clear = puts world hands place (content.Set
 -- iter(s)
 answer_set world hands place old (set.Iter cursor) = moves world hands cursor (set_iter place old.elements) reply.Done
 
+-- ---- deques
+
+-- a call of the deque at a place (Python manual, collections.deque)
+abbrev pub answer_deque : List Content → List (Option Cursor) → ℕ → DequeContent → DequeCall → Answer
+-- q.append(v)
+answer_deque world hands place old (deque.Append value) =
+    puts world hands place (content.Deque (deque_append old value)) reply.Done
+-- q.appendleft(v)
+answer_deque world hands place old (deque.AppendLeft value) =
+    puts world hands place (content.Deque (deque_append_left old value)) reply.Done
+-- q.pop(): if no elements are present, raises an IndexError
+answer_deque world hands place old deque.Pop =
+    option_map_or (λ value. puts world hands place (content.Deque (deque_pop old)) (reply.Value value))
+    (last_item old.items) (shows world hands (reply.Raised raise.NoIndex))
+-- q.popleft(): if no elements are present, raises an IndexError
+answer_deque world hands place old deque.PopLeft =
+    option_map_or (λ value. puts world hands place (content.Deque (deque_pop_left old)) (reply.Value value))
+    (first_item old.items) (shows world hands (reply.Raised raise.NoIndex))
+-- q.extend(r)
+answer_deque world hands place old (deque.Extend other) =
+    puts world hands place (content.Deque (deque_extend old (deque_at world other).items)) reply.Done
+-- q.extendleft(r)
+answer_deque world hands place old (deque.ExtendLeft other) =
+    puts world hands place (content.Deque (deque_extend_left old (deque_at world other).items)) reply.Done
+-- q.rotate(n)
+answer_deque world hands place old (deque.Rotate steps) =
+    puts world hands place (content.Deque (deque_rotate old steps)) reply.Done
+-- q.clear()
+answer_deque world hands place old deque.Clear = puts world hands place (content.Deque (deque_clear old)) reply.Done
+-- q[i]
+answer_deque world hands place old (deque.Get index) =
+    option_map_or (λ value. shows world hands (reply.Value value)) (deque_get old.items index)
+    (shows world hands (reply.Raised raise.NoIndex))
+-- len(q)
+answer_deque world hands place old deque.Len = shows world hands (reply.Count (length old.items))
+-- all items, in order
+answer_deque world hands place old deque.Items = shows world hands (reply.List old.items)
+-- v in q
+answer_deque world hands place old (deque.Has value) = shows world hands (reply.Truth (has_value old.items value))
+-- iter(q)
+answer_deque world hands place old (deque.Iter cursor) = moves world hands cursor (deque_iter place old) reply.Done
+
 -- ---- cursors
 
 -- one `next` of a cursor over a container of the world (Python manual, Iterator Types)
@@ -236,23 +308,39 @@ cursor_step world (cursor.Dict container walk size expected last) =
 cursor_step world (cursor.List container index ended) = list_next (list_at world container) container index ended
 cursor_step world (cursor.Set container walk size last) =
     set_next (set_at world container).elements container walk size last
+cursor_step world (cursor.Deque container moves index) = deque_next (deque_at world container) container moves index
+cursor_step world (cursor.DictBack container walk size last) =
+    dict_back_next (dict_at world container).pairs container walk size last
+cursor_step world (cursor.ListBack container index) = list_back_next (list_at world container) container index
 
 -- how many pairs, items or elements the cursor's container has
 abbrev pub walked_length : List Content → Cursor → ℕ
 walked_length world (cursor.Dict container walk size expected last) = length (dict_at world container).pairs
 walked_length world (cursor.List container index ended) = length (list_at world container)
 walked_length world (cursor.Set container walk size last) = length (set_at world container).elements
+walked_length world (cursor.Deque container moves index) = length (deque_at world container).items
+walked_length world (cursor.DictBack container walk size last) = length (dict_at world container).pairs
+walked_length world (cursor.ListBack container index) = length (list_at world container)
 
 -- ---- all calls
 
--- what the plain containers of one thread reply to a call, and what it leaves; the calls of sections and `quiesce` ask
--- no container, and leave all as it is
+-- what a container is shown to have: all pairs, items or elements, in order (profile)
+abbrev pub shown_of : Content → Shown
+shown_of (content.Dict dict) = shown.Dict (items_of dict.pairs)
+shown_of (content.List items) = shown.List items
+shown_of (content.Set set) = shown.Set (elements_of set.elements)
+shown_of (content.Deque deque) = shown.List deque.items
+
+-- what the plain containers of one thread reply to a call, and what it leaves; a dump shows what each of them has; the
+-- calls of sections, `quiesce` and `await` ask no container, and leave all as it is
 abbrev pub answer : List Content → List (Option Cursor) → Call → Answer
 answer world hands (call.Dict container dict_call) =
     answer_dict world hands container (dict_at world container) dict_call
 answer world hands (call.List container list_call) =
     answer_list world hands container (list_at world container) list_call
 answer world hands (call.Set container set_call) = answer_set world hands container (set_at world container) set_call
+answer world hands (call.Deque container deque_call) =
+    answer_deque world hands container (deque_at world container) deque_call
 answer world hands (call.Next number) =
     option_map_or
     (λ cursor. moves world hands number (cursor_step world cursor).cursor (cursor_step world cursor).reply)
@@ -260,6 +348,8 @@ answer world hands (call.Next number) =
 answer world hands (call.Begin first second) = shows world hands reply.Done
 answer world hands call.End = shows world hands reply.Done
 answer world hands call.Quiesce = shows world hands reply.Done
+answer world hands (call.Await thread index) = shows world hands reply.Done
+answer world hands call.Dump = shows world hands (reply.World (map shown_of world))
 
 -- ---- writes
 
@@ -267,9 +357,9 @@ answer world hands call.Quiesce = shows world hands reply.Done
 abbrev pub after_write : List Content → Call → List Content
 after_write world call = (answer world no_hands call).world
 
--- what these writes leave, in their order, of containers of these kinds that are empty at the start (profile)
-abbrev pub world_by : List Kind → List Call → List Content
-world_by kinds calls = fold after_write (empty_world kinds) calls
+-- what these writes leave, in their order, of containers that start so (profile)
+abbrev pub world_by : List Start → List Call → List Content
+world_by starts calls = fold after_write (empty_world starts) calls
 
 -- whether a reply is an exception (profile)
 abbrev pub is_raised : Reply → Bool

@@ -11,6 +11,8 @@ use Rattle.ft_model.specs.declared.call.ListCall.{ListCall}
 use Rattle.ft_model.specs.declared.call.ListCall.TheVariants as list
 use Rattle.ft_model.specs.declared.call.SetCall.{SetCall}
 use Rattle.ft_model.specs.declared.call.SetCall.TheVariants as set
+use Rattle.ft_model.specs.declared.call.DequeCall.{DequeCall}
+use Rattle.ft_model.specs.declared.call.DequeCall.TheVariants as deque
 use Rattle.ft_model.specs.declared.call.TableChange.{TableChange}
 use Rattle.ft_model.specs.declared.call.TableChange.TheVariants as change
 
@@ -34,6 +36,12 @@ is_changing_dict dict.Clear = true
 is_changing_dict (dict.CopyTo other) = true
 is_changing_dict (dict.Eq other) = false
 is_changing_dict (dict.Iter cursor) = false
+is_changing_dict (dict.KeysAnd other) = false
+is_changing_dict (dict.KeysSub other) = false
+is_changing_dict (dict.KeysOr other) = false
+is_changing_dict (dict.KeysXor other) = false
+is_changing_dict (dict.ItemsHas key value) = false
+is_changing_dict (dict.Reversed cursor) = false
 
 -- whether a call is of a kind that changes a list (Python manual, Mutable Sequence Types)
 abbrev pub is_changing_list : ListCall → Bool
@@ -55,6 +63,7 @@ is_changing_list list.Len = false
 is_changing_list list.Items = false
 is_changing_list (list.Eq other) = false
 is_changing_list (list.Iter cursor) = false
+is_changing_list (list.Reversed cursor) = false
 
 -- whether a call is of a kind that changes a set (Python manual, Set Types)
 abbrev pub is_changing_set : SetCall → Bool
@@ -75,15 +84,34 @@ is_changing_set (set.Disjoint other) = false
 is_changing_set set.Clear = true
 is_changing_set (set.Iter cursor) = false
 
+-- whether a call is of a kind that changes a deque (Python manual, collections.deque)
+abbrev pub is_changing_deque : DequeCall → Bool
+is_changing_deque (deque.Append value) = true
+is_changing_deque (deque.AppendLeft value) = true
+is_changing_deque deque.Pop = true
+is_changing_deque deque.PopLeft = true
+is_changing_deque (deque.Extend other) = true
+is_changing_deque (deque.ExtendLeft other) = true
+is_changing_deque (deque.Rotate steps) = true
+is_changing_deque deque.Clear = true
+is_changing_deque (deque.Get index) = false
+is_changing_deque deque.Len = false
+is_changing_deque deque.Items = false
+is_changing_deque (deque.Has value) = false
+is_changing_deque (deque.Iter cursor) = false
+
 -- whether a call is of a kind that changes a container (profile)
 abbrev pub is_changing : Call → Bool
 is_changing (call.Dict container dict_call) = is_changing_dict dict_call
 is_changing (call.List container list_call) = is_changing_list list_call
 is_changing (call.Set container set_call) = is_changing_set set_call
+is_changing (call.Deque container deque_call) = is_changing_deque deque_call
 is_changing (call.Next cursor) = false
 is_changing (call.Begin first second) = false
 is_changing call.End = false
 is_changing call.Quiesce = false
+is_changing (call.Await thread index) = false
+is_changing call.Dump = false
 
 -- ---- containers
 
@@ -105,6 +133,12 @@ other_dict dict.Clear = None
 other_dict (dict.CopyTo other) = Some other
 other_dict (dict.Eq other) = Some other
 other_dict (dict.Iter cursor) = None
+other_dict (dict.KeysAnd other) = Some other
+other_dict (dict.KeysSub other) = Some other
+other_dict (dict.KeysOr other) = Some other
+other_dict (dict.KeysXor other) = Some other
+other_dict (dict.ItemsHas key value) = None
+other_dict (dict.Reversed cursor) = None
 
 -- the other container that a call of a list names
 abbrev pub other_list : ListCall → Option ℕ
@@ -126,6 +160,7 @@ other_list list.Len = None
 other_list list.Items = None
 other_list (list.Eq other) = Some other
 other_list (list.Iter cursor) = None
+other_list (list.Reversed cursor) = None
 
 -- the other container that a call of a set names
 abbrev pub other_set : SetCall → Option ℕ
@@ -146,20 +181,39 @@ other_set (set.Disjoint other) = Some other
 other_set set.Clear = None
 other_set (set.Iter cursor) = None
 
+-- the other container that a call of a deque names
+abbrev pub other_deque : DequeCall → Option ℕ
+other_deque (deque.Append value) = None
+other_deque (deque.AppendLeft value) = None
+other_deque deque.Pop = None
+other_deque deque.PopLeft = None
+other_deque (deque.Extend other) = Some other
+other_deque (deque.ExtendLeft other) = Some other
+other_deque (deque.Rotate steps) = None
+other_deque deque.Clear = None
+other_deque (deque.Get index) = None
+other_deque deque.Len = None
+other_deque deque.Items = None
+other_deque (deque.Has value) = None
+other_deque (deque.Iter cursor) = None
+
 -- one container or two; two equal ones count as one (C API, critical sections)
 abbrev pub one_or_two : ℕ → Option ℕ → List ℕ
 one_or_two first None = first ∷ []
 one_or_two first (Some second) = if first == second then first ∷ [] else first ∷ second ∷ []
 
--- the containers that a call names; a `next` names a cursor and no container
+-- the containers that a call names; a `next` names a cursor and no container, and a dump names none
 abbrev pub containers_of : Call → List ℕ
 containers_of (call.Dict container dict_call) = one_or_two container (other_dict dict_call)
 containers_of (call.List container list_call) = one_or_two container (other_list list_call)
 containers_of (call.Set container set_call) = one_or_two container (other_set set_call)
+containers_of (call.Deque container deque_call) = one_or_two container (other_deque deque_call)
 containers_of (call.Next cursor) = []
 containers_of (call.Begin first second) = one_or_two first second
 containers_of call.End = []
 containers_of call.Quiesce = []
+containers_of (call.Await thread index) = []
+containers_of call.Dump = []
 
 -- those containers as a list
 abbrev pub container_list : Containers → List ℕ
@@ -187,6 +241,12 @@ cursor_of_dict dict.Clear = None
 cursor_of_dict (dict.CopyTo other) = None
 cursor_of_dict (dict.Eq other) = None
 cursor_of_dict (dict.Iter cursor) = Some cursor
+cursor_of_dict (dict.KeysAnd other) = None
+cursor_of_dict (dict.KeysSub other) = None
+cursor_of_dict (dict.KeysOr other) = None
+cursor_of_dict (dict.KeysXor other) = None
+cursor_of_dict (dict.ItemsHas key value) = None
+cursor_of_dict (dict.Reversed cursor) = Some cursor
 
 abbrev pub cursor_of_list : ListCall → Option ℕ
 cursor_of_list (list.Append value) = None
@@ -207,6 +267,7 @@ cursor_of_list list.Len = None
 cursor_of_list list.Items = None
 cursor_of_list (list.Eq other) = None
 cursor_of_list (list.Iter cursor) = Some cursor
+cursor_of_list (list.Reversed cursor) = Some cursor
 
 abbrev pub cursor_of_set : SetCall → Option ℕ
 cursor_of_set (set.Add key) = None
@@ -226,15 +287,33 @@ cursor_of_set (set.Disjoint other) = None
 cursor_of_set set.Clear = None
 cursor_of_set (set.Iter cursor) = Some cursor
 
+abbrev pub cursor_of_deque : DequeCall → Option ℕ
+cursor_of_deque (deque.Append value) = None
+cursor_of_deque (deque.AppendLeft value) = None
+cursor_of_deque deque.Pop = None
+cursor_of_deque deque.PopLeft = None
+cursor_of_deque (deque.Extend other) = None
+cursor_of_deque (deque.ExtendLeft other) = None
+cursor_of_deque (deque.Rotate steps) = None
+cursor_of_deque deque.Clear = None
+cursor_of_deque (deque.Get index) = None
+cursor_of_deque deque.Len = None
+cursor_of_deque deque.Items = None
+cursor_of_deque (deque.Has value) = None
+cursor_of_deque (deque.Iter cursor) = Some cursor
+
 -- the cursor that a call makes or moves; no other call changes a thread's cursors
 abbrev pub moved_cursor : Call → Option ℕ
 moved_cursor (call.Dict container dict_call) = cursor_of_dict dict_call
 moved_cursor (call.List container list_call) = cursor_of_list list_call
 moved_cursor (call.Set container set_call) = cursor_of_set set_call
+moved_cursor (call.Deque container deque_call) = cursor_of_deque deque_call
 moved_cursor (call.Next cursor) = Some cursor
 moved_cursor (call.Begin first second) = None
 moved_cursor call.End = None
 moved_cursor call.Quiesce = None
+moved_cursor (call.Await thread index) = None
+moved_cursor call.Dump = None
 
 -- ---- locks
 
@@ -257,6 +336,12 @@ is_locked_dict dict.Clear = true
 is_locked_dict (dict.CopyTo other) = true
 is_locked_dict (dict.Eq other) = false
 is_locked_dict (dict.Iter cursor) = true
+is_locked_dict (dict.KeysAnd other) = true
+is_locked_dict (dict.KeysSub other) = true
+is_locked_dict (dict.KeysOr other) = true
+is_locked_dict (dict.KeysXor other) = true
+is_locked_dict (dict.ItemsHas key value) = false
+is_locked_dict (dict.Reversed cursor) = true
 
 -- whether a call of a list does
 abbrev pub is_locked_list : ListCall → Bool
@@ -278,6 +363,7 @@ is_locked_list list.Len = false
 is_locked_list list.Items = false
 is_locked_list (list.Eq other) = false
 is_locked_list (list.Iter cursor) = true
+is_locked_list (list.Reversed cursor) = true
 
 -- whether a call of a set does
 abbrev pub is_locked_set : SetCall → Bool
@@ -298,6 +384,22 @@ is_locked_set (set.Disjoint other) = true
 is_locked_set set.Clear = true
 is_locked_set (set.Iter cursor) = true
 
+-- whether a call of a deque does
+abbrev pub is_locked_deque : DequeCall → Bool
+is_locked_deque (deque.Append value) = true
+is_locked_deque (deque.AppendLeft value) = true
+is_locked_deque deque.Pop = true
+is_locked_deque deque.PopLeft = true
+is_locked_deque (deque.Extend other) = true
+is_locked_deque (deque.ExtendLeft other) = true
+is_locked_deque (deque.Rotate steps) = true
+is_locked_deque deque.Clear = true
+is_locked_deque (deque.Get index) = false
+is_locked_deque deque.Len = false
+is_locked_deque deque.Items = false
+is_locked_deque (deque.Has value) = true
+is_locked_deque (deque.Iter cursor) = true
+
 -- how many locks a call takes from the start: those of the containers that it names, for a `next` that of its cursor's
 -- container (profile)
 abbrev pub locks_of : Call → ℕ
@@ -307,14 +409,18 @@ locks_of (call.List container list_call) =
     if is_locked_list list_call then length (containers_of (call.List container list_call)) else 0
 locks_of (call.Set container set_call) =
     if is_locked_set set_call then length (containers_of (call.Set container set_call)) else 0
+locks_of (call.Deque container deque_call) =
+    if is_locked_deque deque_call then length (containers_of (call.Deque container deque_call)) else 0
 locks_of (call.Next cursor) = 1
 locks_of (call.Begin first second) = length (containers_of (call.Begin first second))
 locks_of call.End = 0
 locks_of call.Quiesce = 0
+locks_of (call.Await thread index) = 0
+locks_of call.Dump = 0
 
 -- ---- tables
 
--- what a call of a dict does to tables (profile)
+-- what a call of a dict does to tables, where it is not split (profile)
 abbrev pub dict_change : DictCall → TableChange
 dict_change (dict.Get key) = change.Stays
 dict_change (dict.GetOr key default) = change.Stays
@@ -332,6 +438,12 @@ dict_change dict.Clear = change.GivesUp
 dict_change (dict.CopyTo other) = change.CopiesTo other
 dict_change (dict.Eq other) = change.Stays
 dict_change (dict.Iter cursor) = change.Stays
+dict_change (dict.KeysAnd other) = change.Stays
+dict_change (dict.KeysSub other) = change.Stays
+dict_change (dict.KeysOr other) = change.Stays
+dict_change (dict.KeysXor other) = change.Stays
+dict_change (dict.ItemsHas key value) = change.Stays
+dict_change (dict.Reversed cursor) = change.Stays
 
 -- what a call of a list does
 abbrev pub list_change : ListCall → TableChange
@@ -353,6 +465,7 @@ list_change list.Len = change.Stays
 list_change list.Items = change.Stays
 list_change (list.Eq other) = change.Stays
 list_change (list.Iter cursor) = change.Stays
+list_change (list.Reversed cursor) = change.Stays
 
 -- what a call of a set does
 abbrev pub set_change : SetCall → TableChange
@@ -373,6 +486,22 @@ set_change (set.Disjoint other) = change.Stays
 set_change set.Clear = change.GivesUp
 set_change (set.Iter cursor) = change.Stays
 
+-- what a call of a deque does
+abbrev pub deque_change : DequeCall → TableChange
+deque_change (deque.Append value) = change.Grows
+deque_change (deque.AppendLeft value) = change.Grows
+deque_change deque.Pop = change.Stays
+deque_change deque.PopLeft = change.Stays
+deque_change (deque.Extend other) = change.Grows
+deque_change (deque.ExtendLeft other) = change.Grows
+deque_change (deque.Rotate steps) = change.Stays
+deque_change deque.Clear = change.GivesUp
+deque_change (deque.Get index) = change.Stays
+deque_change deque.Len = change.Stays
+deque_change deque.Items = change.Stays
+deque_change (deque.Has value) = change.Stays
+deque_change (deque.Iter cursor) = change.Stays
+
 -- whether a call that does this to tables can put something new into a container
 abbrev pub adds : TableChange → Bool
 adds change.Stays = false
@@ -385,7 +514,10 @@ abbrev pub can_add : Call → Bool
 can_add (call.Dict container dict_call) = adds (dict_change dict_call)
 can_add (call.List container list_call) = adds (list_change list_call)
 can_add (call.Set container set_call) = adds (set_change set_call)
+can_add (call.Deque container deque_call) = adds (deque_change deque_call)
 can_add (call.Next cursor) = false
 can_add (call.Begin first second) = false
 can_add call.End = false
 can_add call.Quiesce = false
+can_add (call.Await thread index) = false
+can_add call.Dump = false

@@ -15,8 +15,8 @@ use Rattle.ft_model.specs.declared.entry.Entry.{Entry}
 use Rattle.ft_model.specs.declared.entry.Storage.{Storage}
 use Rattle.ft_model.specs.declared.script.ScriptParts.{ScriptParts}
 use Rattle.ft_model.specs.Calls.{containers_of}
-use Rattle.ft_model.specs.declared.script.Kind.{Kind}
-use Rattle.ft_model.specs.Worlds.{kinds_of, start_hands, containers_used}
+use Rattle.ft_model.specs.declared.script.Start.{Start}
+use Rattle.ft_model.specs.Worlds.{starts_of, start_hands, containers_used}
 use Rattle.ft_model.specs.Answers.{answer, world_by, is_memory, is_write}
 use Rattle.ft_model.specs.TableUses.{IsEarned}
 
@@ -36,7 +36,7 @@ writes entries = map (λ entry. entry.call) (filter (λ entry. entry.wrote) entr
 
 -- the start world after the first n writes of the history (profile)
 abbrev pub world_at : ScriptParts → List Entry → ℕ → List Content
-world_at script entries n = world_by (kinds_of script.containers) (take n (writes entries))
+world_at script entries n = world_by (starts_of script.containers) (take n (writes entries))
 
 -- a thread's entries, in order (profile)
 abbrev pub entries_of : ℕ → List Entry → List Entry
@@ -52,22 +52,22 @@ cursors_of script thread = option_map_or (λ found. length found.cursors) (slice
 
 -- the hands that an entry leaves to its thread, where `calls` are all writes in their order; a MemoryError leaves them
 -- as they were (profile)
-abbrev pub after_stamped : List Kind → List Call → List (Option Cursor) → Entry → List (Option Cursor)
-after_stamped kinds calls hands entry =
-    if is_memory entry.reply then hands else (answer (world_by kinds (take entry.stamp calls)) hands entry.call).hands
+abbrev pub after_stamped : List Start → List Call → List (Option Cursor) → Entry → List (Option Cursor)
+after_stamped starts calls hands entry =
+    if is_memory entry.reply then hands else (answer (world_by starts (take entry.stamp calls)) hands entry.call).hands
 
 -- the hands that these entries of a thread leave to it, with room for that many cursors
-abbrev pub hands_by : List Kind → List Call → ℕ → List Entry → List (Option Cursor)
-hands_by kinds calls room mine = fold (after_stamped kinds calls) (start_hands room) mine
+abbrev pub hands_by : List Start → List Call → ℕ → List Entry → List (Option Cursor)
+hands_by starts calls room mine = fold (after_stamped starts calls) (start_hands room) mine
 
 -- those that an entry of a history leaves
 abbrev pub after_entry : ScriptParts → List Entry → List (Option Cursor) → Entry → List (Option Cursor)
-after_entry script entries = after_stamped (kinds_of script.containers) (writes entries)
+after_entry script entries = after_stamped (starts_of script.containers) (writes entries)
 
 -- the hands of a thread at a place: those that its entries before it leave (profile)
 abbrev pub hands_at : ScriptParts → List Entry → ℕ → ℕ → List (Option Cursor)
 hands_at script entries thread place =
-    hands_by (kinds_of script.containers) (writes entries) (cursors_of script thread)
+    hands_by (starts_of script.containers) (writes entries) (cursors_of script thread)
     (entries_of thread (take place entries))
 
 -- ---- answers
@@ -82,10 +82,13 @@ abbrev pub IsReplied : Call → Reply → Reply → Type 0
 IsReplied (call.Begin first second) said plain = said ≡ reply.Entered
 IsReplied call.End said plain = (said ≡ reply.Kept) ⊎ ((count : ℕ) × (said ≡ reply.Suspended count))
 IsReplied call.Quiesce said plain = said ≡ reply.Done
+IsReplied (call.Await thread index) said plain = said ≡ reply.Done
 IsReplied (call.Dict container dict_call) said plain = IsPlainReply said plain
 IsReplied (call.List container list_call) said plain = IsPlainReply said plain
 IsReplied (call.Set container set_call) said plain = IsPlainReply said plain
+IsReplied (call.Deque container deque_call) said plain = IsPlainReply said plain
 IsReplied (call.Next cursor) said plain = IsPlainReply said plain
+IsReplied call.Dump said plain = IsPlainReply said plain
 
 -- an entry is what the plain containers reply at its place (profile)
 pub record IsAnswered (script : ScriptParts) (entries : List Entry) (place : ℕ) (entry : Entry) : Type 0 where
@@ -113,8 +116,11 @@ open_sections_after opened call.End sections = drop 1 sections
 open_sections_after opened (call.Dict container dict_call) sections = sections
 open_sections_after opened (call.List container list_call) sections = sections
 open_sections_after opened (call.Set container set_call) sections = sections
+open_sections_after opened (call.Deque container deque_call) sections = sections
 open_sections_after opened (call.Next cursor) sections = sections
 open_sections_after opened call.Quiesce sections = sections
+open_sections_after opened (call.Await thread index) sections = sections
+open_sections_after opened call.Dump sections = sections
 
 -- this holds for the innermost open section, where there is one
 abbrev pub IfInnermost : {T : Type 0} → List T → (T → Type 0) → Type 0
@@ -127,9 +133,12 @@ IfEnds sections call.End P = IfInnermost sections P
 IfEnds sections (call.Dict container dict_call) P = Unit {0}
 IfEnds sections (call.List container list_call) P = Unit {0}
 IfEnds sections (call.Set container set_call) P = Unit {0}
+IfEnds sections (call.Deque container deque_call) P = Unit {0}
 IfEnds sections (call.Next cursor) P = Unit {0}
 IfEnds sections (call.Begin first second) P = Unit {0}
 IfEnds sections call.Quiesce P = Unit {0}
+IfEnds sections (call.Await thread index) P = Unit {0}
+IfEnds sections call.Dump P = Unit {0}
 
 -- an open section: its containers, and the place of its `begin` in the history (C API, critical sections)
 pub record Section : Type 0 where
@@ -227,6 +236,25 @@ IsMarked script entries place entry =
     (λ thread. (thread ≢ entry.thread)
     × (list_any (has_call_on script thread) (needs_at script entries place entry) ≡ true))
 
+-- ---- awaits
+
+-- of an `await`, the call that it names stands before a place: so many of the named thread's entries do (profile)
+abbrev pub IsAwaitedIn : List Entry → ℕ → Call → Type 0
+IsAwaitedIn entries place (call.Await thread index) = index ≤ length (entries_of thread (take place entries))
+IsAwaitedIn entries place (call.Dict container dict_call) = Unit {0}
+IsAwaitedIn entries place (call.List container list_call) = Unit {0}
+IsAwaitedIn entries place (call.Set container set_call) = Unit {0}
+IsAwaitedIn entries place (call.Deque container deque_call) = Unit {0}
+IsAwaitedIn entries place (call.Next cursor) = Unit {0}
+IsAwaitedIn entries place (call.Begin first second) = Unit {0}
+IsAwaitedIn entries place call.End = Unit {0}
+IsAwaitedIn entries place call.Quiesce = Unit {0}
+IsAwaitedIn entries place call.Dump = Unit {0}
+
+-- and so it does where the entry is of an `await`
+abbrev pub IsAwaited : List Entry → ℕ → Entry → Type 0
+IsAwaited entries place entry = IsAwaitedIn entries place entry.call
+
 -- ---- legal histories
 
 -- this holds of each entry at its place
@@ -242,6 +270,7 @@ IsEarnedAt storage script entries place entry =
 pub record IsChronicle (storage : Storage) (script : ScriptParts) (entries : List Entry) : Type 0 where
   pub whole : IsWhole script entries
   pub answered : EachAt entries (IsAnswered script entries)
+  pub awaited : EachAt entries (IsAwaited entries)
   pub marked : EachAt entries (IsMarked script entries)
   pub kept : EachAt entries (IsKept entries)
   pub counted : EachAt entries (IsCounted entries)

@@ -7,7 +7,7 @@ use Rattle.ft_model.specs.declared.entry.Rule.TheVariants as rule
 use Rattle.ft_model.specs.declared.entry.Storage.{Storage}
 use Rattle.ft_model.specs.declared.script.ScriptParts.{ScriptParts}
 use Rattle.ft_model.specs.Answers.{answer, is_write}
-use Rattle.ft_model.specs.Histories.{history_cmp, writes, world_at, entries_of, calls_of, hands_at, IsReplied, IsMarked, IsKept, IsCounted, IsEarnedAt}
+use Rattle.ft_model.specs.Histories.{history_cmp, writes, world_at, entries_of, calls_of, hands_at, IsReplied, IsAwaited, IsMarked, IsKept, IsCounted, IsEarnedAt}
 
 -- ---- the rules at a place (profile)
 
@@ -43,6 +43,7 @@ Holds storage script entries rule.Whole place entry = IsNext script entries plac
 Holds storage script entries rule.Stamp place entry = IsStamped entries place entry
 Holds storage script entries rule.Order place entry = IsAfter entries place entry
 Holds storage script entries rule.Reply place entry = HasRightReply script entries place entry
+Holds storage script entries rule.Await place entry = IsAwaited entries place entry
 Holds storage script entries rule.Mark place entry = IsMarked script entries place entry
 Holds storage script entries rule.Kept place entry = IsKept entries place entry
 Holds storage script entries rule.Suspended place entry = IsCounted entries place entry
@@ -71,12 +72,13 @@ rank_of rule.Whole = 0
 rank_of rule.Stamp = 1
 rank_of rule.Order = 2
 rank_of rule.Reply = 3
-rank_of rule.Mark = 4
-rank_of rule.Kept = 5
-rank_of rule.Suspended = 6
-rank_of rule.Memory = 7
-rank_of rule.Missing = 8
-rank_of rule.World = 9
+rank_of rule.Await = 4
+rank_of rule.Mark = 5
+rank_of rule.Kept = 6
+rank_of rule.Suspended = 7
+rank_of rule.Memory = 8
+rank_of rule.Missing = 9
+rank_of rule.World = 10
 
 -- ---- the first broken rule
 

@@ -17,6 +17,17 @@ most_cursors = 256
 abbrev pub most_sections : ℕ
 most_sections = 16
 
+-- lists of keys that split dicts share, and the keys of each
+abbrev pub most_shared : ℕ
+most_shared = 64
+
+abbrev pub most_shared_keys : ℕ
+most_shared_keys = 10
+
+-- the bound of a deque
+abbrev pub most_bound : ℕ
+most_bound = 65536
+
 -- calls of all threads together
 abbrev pub most_calls : ℕ
 most_calls = 500000

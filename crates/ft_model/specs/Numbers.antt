@@ -11,7 +11,7 @@ use Rattle.ft_model.specs.declared.entry.Entry.{Entry}
 use Rattle.ft_model.specs.declared.entry.Storage.{Storage}
 use Rattle.ft_model.specs.declared.script.ScriptParts.{ScriptParts}
 use Rattle.ft_model.specs.Calls.{containers_of}
-use Rattle.ft_model.specs.Worlds.{kinds_of, containers_used}
+use Rattle.ft_model.specs.Worlds.{starts_of, containers_used}
 use Rattle.ft_model.specs.Answers.{answer, world_by, is_write}
 use Rattle.ft_model.specs.TableUses.{IsEarned, IsFitting}
 use Rattle.ft_model.specs.Histories.{writes, entries_of, calls_of, cursors_of, names, has_call_on, is_marked, hands_by, open_sections_after, IfEnds, EachAt, IsReplied, IsCountedAs, IsLegal}
@@ -23,11 +23,11 @@ use Rattle.ft_model.specs.Histories.{writes, entries_of, calls_of, cursors_of, n
 
 -- the world after the first n writes (profile)
 abbrev pub world_after : ScriptParts → List Call → ℕ → List Content
-world_after script calls n = world_by (kinds_of script.containers) (take n calls)
+world_after script calls n = world_by (starts_of script.containers) (take n calls)
 
 -- the hands that a thread's entries so far leave to it (profile)
 abbrev pub hands_after : ScriptParts → List Call → ℕ → List Entry → List (Option Cursor)
-hands_after script calls thread before = hands_by (kinds_of script.containers) calls (cursors_of script thread) before
+hands_after script calls thread before = hands_by (starts_of script.containers) calls (cursors_of script thread) before
 
 -- what the plain containers reply to the entry's call, after as many writes as its stamp says (profile)
 abbrev pub plain_reply : ScriptParts → List Call → List Entry → Entry → Reply

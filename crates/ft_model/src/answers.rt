@@ -4,16 +4,18 @@ ghost use Rattle.std.specs.Prelude.{◌≡◌, ◌≢◌, ℕ, IsTrue, false, le
 ghost use Rattle.ft_model.specs.declared.call.Call.TheVariants.{Next};
 ghost use Rattle.ft_model.specs.Calls.{containers_of, moved_cursor};
 ghost use Rattle.ft_model.specs.Worlds.{IsDeclared, HasRoom, kind_of};
-ghost use Rattle.ft_model.specs.Answers.{answer, is_raised, is_write};
+ghost use Rattle.ft_model.specs.Answers.{answer, is_raised, is_write, shown_of};
 
 use crate::call::Call;
-use crate::reply::Reply;
+use crate::content::Content;
+use crate::reply::{Reply, Shown};
+use crate::sequence::Sequence;
 use crate::world::{Hands, World};
-use crate::{cursor_calls, dict_calls, list_calls, set_calls};
+use crate::{cursor_calls, deque_calls, dict_calls, list_calls, set_calls};
 use std::alloc::{AllocError, Global};
 
 /// Answers a call as the plain containers of one thread do, as the Python manual says under Mapping
-/// Types, Sequence Types, Set Types and Iterator Types. An exception is a reply, and an `Err` says
+/// Types, Sequence Types, Set Types, collections.deque and Iterator Types. An exception is a reply, and an `Err` says
 /// that memory ran out: neither changes what a container has.
 #[tactic(auto, using(crate::proofs::AnswerLaws::answer_exceptions, crate::proofs::AnswerLaws::answer_only_writes, crate::proofs::AnswerLaws::answer_containers, crate::proofs::AnswerLaws::answer_others, crate::proofs::AnswerLaws::answer_cursors))]
 pub fn apply(
@@ -60,8 +62,12 @@ fn answer_any(
             list_calls::answer(alloc, world, hands, *container, call)
         }
         Call::Set { container, call } => set_calls::answer(alloc, world, hands, *container, call),
+        Call::Deque { container, call } => {
+            deque_calls::answer(alloc, world, hands, *container, call)
+        }
         Call::Next { cursor } => Ok(next(world, hands, *cursor)),
-        Call::Begin { .. } | Call::End | Call::Quiesce => unreachable!(),
+        Call::Dump => Ok(Reply::World(dump(alloc, world)?)),
+        Call::Begin { .. } | Call::End | Call::Quiesce | Call::Await { .. } => unreachable!(),
     }
 }
 
@@ -78,5 +84,41 @@ fn next(world: &World, hands: &mut Hands, number: u32) -> Reply
             step.reply
         }
         None => unreachable!(),
+    }
+}
+
+/// What each container has, in the order of declaration.
+fn dump(alloc: Global, world: &World) -> Result<Sequence<Shown>, AllocError>
+    ensures { IfOk result (λ all. all ≡ map shown_of world.now) }
+{
+    let contents = world.contents();
+    let mut all = Vec::new(alloc);
+    for content in contents {
+        all.push(show(alloc, content)?)?;
+    }
+    Ok(Sequence::from_vec(all))
+}
+
+/// All pairs, items or elements of a container, in order.
+fn show(alloc: Global, content: &Content) -> Result<Shown, AllocError>
+    ensures { IfOk result (λ shown. shown ≡ shown_of content.now) }
+{
+    match content {
+        Content::Dict(dict) => {
+            let pairs = dict_calls::items(alloc, dict)?;
+            Ok(Shown::Dict(Sequence::from_vec(pairs)))
+        }
+        Content::List(list) => {
+            let items = Vec::from_slice(alloc, list.items())?;
+            Ok(Shown::List(Sequence::from_vec(items)))
+        }
+        Content::Set(set) => {
+            let keys = set_calls::keys(alloc, set)?;
+            Ok(Shown::Set(Sequence::from_vec(keys)))
+        }
+        Content::Deque(deque) => {
+            let items = deque.copy_items(alloc)?;
+            Ok(Shown::List(Sequence::from_vec(items)))
+        }
     }
 }

@@ -26,6 +26,13 @@ pub enum Call {
         /// What is called.
         call: SetCall,
     },
+    /// A call of a deque (Python manual, collections.deque).
+    Deque {
+        /// The deque.
+        container: u32,
+        /// What is called.
+        call: DequeCall,
+    },
     /// `next(c)`: the cursor's next pair, item or element, or the end of its walk (Python manual,
     /// Iterator Types).
     Next {
@@ -44,6 +51,15 @@ pub enum Call {
     End,
     /// Says that the thread uses nothing that it read before.
     Quiesce,
+    /// Goes on once another thread's call has finished.
+    Await {
+        /// The thread, by its place in the script, which stands before the one that waits.
+        thread: u32,
+        /// Which of its calls, from 1.
+        index: u32,
+    },
+    /// What all containers have, at one place of the history.
+    Dump,
 }
 
 /// A call of a dict (Python manual, Mapping Types).
@@ -123,6 +139,38 @@ pub enum DictCall {
     },
     /// `c = iter(d.items())`.
     Iter {
+        /// The number of the cursor that is made, or made anew.
+        cursor: u32,
+    },
+    /// `d.keys() & e.keys()`: the keys that both have, in this dict's order.
+    KeysAnd {
+        /// The dict whose keys are compared.
+        other: u32,
+    },
+    /// `d.keys() - e.keys()`: the keys that the other hasn't, in this dict's order.
+    KeysSub {
+        /// The dict whose keys are left out.
+        other: u32,
+    },
+    /// `d.keys() | e.keys()`: this dict's keys, then the others of the other dict, each in its order.
+    KeysOr {
+        /// The dict whose keys come after.
+        other: u32,
+    },
+    /// `d.keys() ^ e.keys()`: the keys that one of the two alone has, this dict's first.
+    KeysXor {
+        /// The dict whose keys are compared.
+        other: u32,
+    },
+    /// `(k, v) in d.items()`.
+    ItemsHas {
+        /// The key.
+        key: Key,
+        /// The value that it is to have.
+        value: Value,
+    },
+    /// `c = reversed(d.items())`.
+    Reversed {
         /// The number of the cursor that is made, or made anew.
         cursor: u32,
     },
@@ -216,6 +264,11 @@ pub enum ListCall {
         /// The number of the cursor that is made, or made anew.
         cursor: u32,
     },
+    /// `c = reversed(l)`.
+    Reversed {
+        /// The number of the cursor that is made, or made anew.
+        cursor: u32,
+    },
 }
 
 /// A call of a set (Python manual, Set Types). Elements are walked in the order in which they were
@@ -286,6 +339,62 @@ pub enum SetCall {
     /// `s.clear()`.
     Clear,
     /// `c = iter(s)`.
+    Iter {
+        /// The number of the cursor that is made, or made anew.
+        cursor: u32,
+    },
+}
+
+/// A call of a deque (Python manual, collections.deque). A negative index counts from the end. Where
+/// a bounded deque would have more than its bound, it drops items at the end that is not added to.
+#[derive(Clone, Copy, Debug, PartialEq, Eq, Hash)]
+pub enum DequeCall {
+    /// `q.append(v)`.
+    Append {
+        /// What goes last.
+        value: Value,
+    },
+    /// `q.appendleft(v)`.
+    AppendLeft {
+        /// What goes first.
+        value: Value,
+    },
+    /// `q.pop()`: takes the last item out, an IndexError where there is none.
+    Pop,
+    /// `q.popleft()`: takes the first item out, an IndexError where there is none.
+    PopLeft,
+    /// `q.extend(r)`: appends each item of the other deque, in its order.
+    Extend {
+        /// The deque whose items are appended.
+        other: u32,
+    },
+    /// `q.extendleft(r)`: appends each item of the other deque at the left, in its order.
+    ExtendLeft {
+        /// The deque whose items are appended.
+        other: u32,
+    },
+    /// `q.rotate(n)`: that many steps to the right, to the left where it is negative.
+    Rotate {
+        /// How many steps.
+        steps: i64,
+    },
+    /// `q.clear()`.
+    Clear,
+    /// `q[i]`, an IndexError where there is no such item.
+    Get {
+        /// Which item.
+        index: i64,
+    },
+    /// `len(q)`.
+    Len,
+    /// All items, in order.
+    Items,
+    /// `v in q`.
+    Has {
+        /// What is looked for.
+        value: Value,
+    },
+    /// `c = iter(q)`.
     Iter {
         /// The number of the cursor that is made, or made anew.
         cursor: u32,

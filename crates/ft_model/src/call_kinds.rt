@@ -2,7 +2,7 @@
 //! changes one, which locks it takes, what it does to tables.
 ghost use Rattle.std.specs.Prelude.{◌≡◌, length};
 
-use crate::call::{Call, Containers, DictCall, ListCall, SetCall, TableChange};
+use crate::call::{Call, Containers, DequeCall, DictCall, ListCall, SetCall, TableChange};
 
 impl Containers {
     ghost use Rattle.ft_model.specs.Calls.{one_or_two, container_list};
@@ -40,11 +40,18 @@ impl Call {
             Call::Dict { call, .. } => call.is_changing(),
             Call::List { call, .. } => call.is_changing(),
             Call::Set { call, .. } => call.is_changing(),
-            Call::Next { .. } | Call::Begin { .. } | Call::End | Call::Quiesce => false,
+            Call::Deque { call, .. } => call.is_changing(),
+            Call::Next { .. }
+            | Call::Begin { .. }
+            | Call::End
+            | Call::Quiesce
+            | Call::Await { .. }
+            | Call::Dump => false,
         }
     }
 
-    /// The containers that the call names. A `next` names a cursor and no container.
+    /// The containers that the call names. A `next` names a cursor and no container, and a dump
+    /// names none.
     pub fn containers(&self) -> Containers
         ensures { container_list result ≡ containers_of self.now }
     {
@@ -52,8 +59,11 @@ impl Call {
             Call::Dict { container, call } => Containers::of(container, call.other()),
             Call::List { container, call } => Containers::of(container, call.other()),
             Call::Set { container, call } => Containers::of(container, call.other()),
+            Call::Deque { container, call } => Containers::of(container, call.other()),
             Call::Begin { first, second } => Containers::of(first, second),
-            Call::Next { .. } | Call::End | Call::Quiesce => Containers::None,
+            Call::Next { .. } | Call::End | Call::Quiesce | Call::Await { .. } | Call::Dump => {
+                Containers::None
+            }
         }
     }
 
@@ -66,9 +76,10 @@ impl Call {
             Call::Dict { call, .. } => call.is_locked(),
             Call::List { call, .. } => call.is_locked(),
             Call::Set { call, .. } => call.is_locked(),
+            Call::Deque { call, .. } => call.is_locked(),
             Call::Begin { .. } => true,
             Call::Next { .. } => return 1,
-            Call::End | Call::Quiesce => return 0,
+            Call::End | Call::Quiesce | Call::Await { .. } | Call::Dump => return 0,
         };
         if locked { self.containers().count() } else { 0 }
     }
@@ -82,7 +93,13 @@ impl Call {
             Call::Dict { call, .. } => call.table_change().adds(),
             Call::List { call, .. } => call.table_change().adds(),
             Call::Set { call, .. } => call.table_change().adds(),
-            Call::Next { .. } | Call::Begin { .. } | Call::End | Call::Quiesce => false,
+            Call::Deque { call, .. } => call.table_change().adds(),
+            Call::Next { .. }
+            | Call::Begin { .. }
+            | Call::End
+            | Call::Quiesce
+            | Call::Await { .. }
+            | Call::Dump => false,
         }
     }
 }
@@ -124,7 +141,13 @@ impl DictCall {
             | DictCall::Len
             | DictCall::Items
             | DictCall::Eq { .. }
-            | DictCall::Iter { .. } => false,
+            | DictCall::Iter { .. }
+            | DictCall::KeysAnd { .. }
+            | DictCall::KeysSub { .. }
+            | DictCall::KeysOr { .. }
+            | DictCall::KeysXor { .. }
+            | DictCall::ItemsHas { .. }
+            | DictCall::Reversed { .. } => false,
         }
     }
 
@@ -133,9 +156,13 @@ impl DictCall {
         ensures { result ≡ other_dict self.now }
     {
         match *self {
-            DictCall::Update { other } | DictCall::CopyTo { other } | DictCall::Eq { other } => {
-                Some(other)
-            }
+            DictCall::Update { other }
+            | DictCall::CopyTo { other }
+            | DictCall::Eq { other }
+            | DictCall::KeysAnd { other }
+            | DictCall::KeysSub { other }
+            | DictCall::KeysOr { other }
+            | DictCall::KeysXor { other } => Some(other),
             DictCall::Get { .. }
             | DictCall::GetOr { .. }
             | DictCall::Set { .. }
@@ -148,7 +175,9 @@ impl DictCall {
             | DictCall::Len
             | DictCall::Items
             | DictCall::Clear
-            | DictCall::Iter { .. } => None,
+            | DictCall::Iter { .. }
+            | DictCall::ItemsHas { .. }
+            | DictCall::Reversed { .. } => None,
         }
     }
 
@@ -157,7 +186,7 @@ impl DictCall {
         ensures { result ≡ cursor_of_dict self.now }
     {
         match *self {
-            DictCall::Iter { cursor } => Some(cursor),
+            DictCall::Iter { cursor } | DictCall::Reversed { cursor } => Some(cursor),
             DictCall::Get { .. }
             | DictCall::GetOr { .. }
             | DictCall::Set { .. }
@@ -172,7 +201,12 @@ impl DictCall {
             | DictCall::Update { .. }
             | DictCall::Clear
             | DictCall::CopyTo { .. }
-            | DictCall::Eq { .. } => None,
+            | DictCall::Eq { .. }
+            | DictCall::KeysAnd { .. }
+            | DictCall::KeysSub { .. }
+            | DictCall::KeysOr { .. }
+            | DictCall::KeysXor { .. }
+            | DictCall::ItemsHas { .. } => None,
         }
     }
 
@@ -186,7 +220,8 @@ impl DictCall {
             | DictCall::Has { .. }
             | DictCall::Len
             | DictCall::Items
-            | DictCall::Eq { .. } => false,
+            | DictCall::Eq { .. }
+            | DictCall::ItemsHas { .. } => false,
             DictCall::Set { .. }
             | DictCall::Del { .. }
             | DictCall::Pop { .. }
@@ -196,11 +231,16 @@ impl DictCall {
             | DictCall::Update { .. }
             | DictCall::Clear
             | DictCall::CopyTo { .. }
-            | DictCall::Iter { .. } => true,
+            | DictCall::Iter { .. }
+            | DictCall::KeysAnd { .. }
+            | DictCall::KeysSub { .. }
+            | DictCall::KeysOr { .. }
+            | DictCall::KeysXor { .. }
+            | DictCall::Reversed { .. } => true,
         }
     }
 
-    /// What the call does to tables.
+    /// What the call does to tables, where the dict is not split.
     pub fn table_change(&self) -> TableChange
         ensures { result ≡ dict_change self.now }
     {
@@ -219,7 +259,13 @@ impl DictCall {
             | DictCall::Len
             | DictCall::Items
             | DictCall::Eq { .. }
-            | DictCall::Iter { .. } => TableChange::Stays,
+            | DictCall::Iter { .. }
+            | DictCall::KeysAnd { .. }
+            | DictCall::KeysSub { .. }
+            | DictCall::KeysOr { .. }
+            | DictCall::KeysXor { .. }
+            | DictCall::ItemsHas { .. }
+            | DictCall::Reversed { .. } => TableChange::Stays,
         }
     }
 }
@@ -249,7 +295,8 @@ impl ListCall {
             | ListCall::Len
             | ListCall::Items
             | ListCall::Eq { .. }
-            | ListCall::Iter { .. } => false,
+            | ListCall::Iter { .. }
+            | ListCall::Reversed { .. } => false,
         }
     }
 
@@ -274,7 +321,8 @@ impl ListCall {
             | ListCall::Clear
             | ListCall::Len
             | ListCall::Items
-            | ListCall::Iter { .. } => None,
+            | ListCall::Iter { .. }
+            | ListCall::Reversed { .. } => None,
         }
     }
 
@@ -283,7 +331,7 @@ impl ListCall {
         ensures { result ≡ cursor_of_list self.now }
     {
         match *self {
-            ListCall::Iter { cursor } => Some(cursor),
+            ListCall::Iter { cursor } | ListCall::Reversed { cursor } => Some(cursor),
             ListCall::Append { .. }
             | ListCall::Insert { .. }
             | ListCall::Get { .. }
@@ -326,7 +374,8 @@ impl ListCall {
             | ListCall::Extend { .. }
             | ListCall::Slice { .. }
             | ListCall::Clear
-            | ListCall::Iter { .. } => true,
+            | ListCall::Iter { .. }
+            | ListCall::Reversed { .. } => true,
         }
     }
 
@@ -351,7 +400,8 @@ impl ListCall {
             | ListCall::Len
             | ListCall::Items
             | ListCall::Eq { .. }
-            | ListCall::Iter { .. } => TableChange::Stays,
+            | ListCall::Iter { .. }
+            | ListCall::Reversed { .. } => TableChange::Stays,
         }
     }
 }
@@ -471,6 +521,112 @@ impl SetCall {
             | SetCall::Subset { .. }
             | SetCall::Disjoint { .. }
             | SetCall::Iter { .. } => TableChange::Stays,
+        }
+    }
+}
+
+impl DequeCall {
+    ghost use Rattle.ft_model.specs.Calls.{is_changing_deque, other_deque, cursor_of_deque, is_locked_deque, deque_change};
+
+    /// Whether the call is of a kind that changes a deque.
+    pub fn is_changing(&self) -> bool
+        ensures { result ≡ is_changing_deque self.now }
+    {
+        match self {
+            DequeCall::Append { .. }
+            | DequeCall::AppendLeft { .. }
+            | DequeCall::Pop
+            | DequeCall::PopLeft
+            | DequeCall::Extend { .. }
+            | DequeCall::ExtendLeft { .. }
+            | DequeCall::Rotate { .. }
+            | DequeCall::Clear => true,
+            DequeCall::Get { .. }
+            | DequeCall::Len
+            | DequeCall::Items
+            | DequeCall::Has { .. }
+            | DequeCall::Iter { .. } => false,
+        }
+    }
+
+    /// The other deque that the call names.
+    pub fn other(&self) -> Option<u32>
+        ensures { result ≡ other_deque self.now }
+    {
+        match *self {
+            DequeCall::Extend { other } | DequeCall::ExtendLeft { other } => Some(other),
+            DequeCall::Append { .. }
+            | DequeCall::AppendLeft { .. }
+            | DequeCall::Pop
+            | DequeCall::PopLeft
+            | DequeCall::Rotate { .. }
+            | DequeCall::Clear
+            | DequeCall::Get { .. }
+            | DequeCall::Len
+            | DequeCall::Items
+            | DequeCall::Has { .. }
+            | DequeCall::Iter { .. } => None,
+        }
+    }
+
+    /// The cursor that the call makes.
+    pub fn cursor(&self) -> Option<u32>
+        ensures { result ≡ cursor_of_deque self.now }
+    {
+        match *self {
+            DequeCall::Iter { cursor } => Some(cursor),
+            DequeCall::Append { .. }
+            | DequeCall::AppendLeft { .. }
+            | DequeCall::Pop
+            | DequeCall::PopLeft
+            | DequeCall::Extend { .. }
+            | DequeCall::ExtendLeft { .. }
+            | DequeCall::Rotate { .. }
+            | DequeCall::Clear
+            | DequeCall::Get { .. }
+            | DequeCall::Len
+            | DequeCall::Items
+            | DequeCall::Has { .. } => None,
+        }
+    }
+
+    /// Whether the call takes the locks of what it names from the start.
+    pub fn is_locked(&self) -> bool
+        ensures { result ≡ is_locked_deque self.now }
+    {
+        match self {
+            DequeCall::Get { .. } | DequeCall::Len | DequeCall::Items => false,
+            DequeCall::Append { .. }
+            | DequeCall::AppendLeft { .. }
+            | DequeCall::Pop
+            | DequeCall::PopLeft
+            | DequeCall::Extend { .. }
+            | DequeCall::ExtendLeft { .. }
+            | DequeCall::Rotate { .. }
+            | DequeCall::Clear
+            | DequeCall::Has { .. }
+            | DequeCall::Iter { .. } => true,
+        }
+    }
+
+    /// What the call does to tables.
+    pub fn table_change(&self) -> TableChange
+        ensures { result ≡ deque_change self.now }
+    {
+        match *self {
+            DequeCall::Append { .. }
+            | DequeCall::AppendLeft { .. }
+            | DequeCall::Extend { .. }
+            | DequeCall::ExtendLeft { .. } => TableChange::Grows,
+            DequeCall::Clear => TableChange::GivesUp,
+            DequeCall::Pop
+            | DequeCall::PopLeft
+            | DequeCall::Rotate { .. }
+            | DequeCall::Get { .. }
+            | DequeCall::Len
+            | DequeCall::Items
+            | DequeCall::Has { .. }
+            | DequeCall::Iter { .. } => TableChange::Stays,
         }
     }
 }

@@ -1,5 +1,6 @@
 //! What a container has, as a reader sees it.
 use crate::data::{Key, Value};
+use crate::deque::Deque;
 use crate::dict::Dict;
 use crate::list::List;
 use crate::script::Kind;
@@ -34,6 +35,8 @@ pub enum Content {
     List(List),
     /// A set's elements and its next serial.
     Set(Set),
+    /// A deque's items, its bound and how often it was changed.
+    Deque(Deque),
 }
 
 impl Content {
@@ -48,6 +51,7 @@ impl Content {
             Content::Dict(_) => Kind::Dict,
             Content::List(_) => Kind::List,
             Content::Set(_) => Kind::Set,
+            Content::Deque(deque) => Kind::Deque(deque.bound()),
         }
     }
 
@@ -60,6 +64,7 @@ impl Content {
             Content::Dict(dict) => dict.len(),
             Content::List(list) => list.len(),
             Content::Set(set) => set.len(),
+            Content::Deque(deque) => deque.len(),
         }
     }
 }

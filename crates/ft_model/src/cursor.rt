@@ -49,6 +49,33 @@ pub enum Cursor {
         /// The serial of the element that was given last.
         last: Option<u64>,
     },
+    /// A cursor over the items of a deque.
+    Deque {
+        /// The deque.
+        container: u32,
+        /// How many changes the deque had seen when the cursor was made.
+        moves: u64,
+        /// The index of the next item.
+        index: u64,
+    },
+    /// A reversed cursor over the pairs of a dict.
+    DictBack {
+        /// The dict.
+        container: u32,
+        /// How far the walk has come.
+        walk: CursorState,
+        /// How many pairs there were when the cursor was made.
+        size: u64,
+        /// The serial of the pair that was given last.
+        last: Option<u64>,
+    },
+    /// A reversed cursor over the items of a list.
+    ListBack {
+        /// The list.
+        container: u32,
+        /// The index of the next item, or none where the walk has ended for good.
+        index: Option<u64>,
+    },
 }
 
 impl Cursor {
@@ -62,18 +89,22 @@ impl Cursor {
         match *self {
             Cursor::Dict { container, .. }
             | Cursor::List { container, .. }
-            | Cursor::Set { container, .. } => container,
+            | Cursor::Set { container, .. }
+            | Cursor::Deque { container, .. }
+            | Cursor::DictBack { container, .. }
+            | Cursor::ListBack { container, .. } => container,
         }
     }
 
-    /// What that container is.
+    /// What that container is. The cursor of a deque doesn't know the deque's bound.
     pub fn kind(&self) -> Kind
         ensures { result ≡ cursor_kind self.now }
     {
         match self {
-            Cursor::Dict { .. } => Kind::Dict,
-            Cursor::List { .. } => Kind::List,
+            Cursor::Dict { .. } | Cursor::DictBack { .. } => Kind::Dict,
+            Cursor::List { .. } | Cursor::ListBack { .. } => Kind::List,
             Cursor::Set { .. } => Kind::Set,
+            Cursor::Deque { .. } => Kind::Deque(None),
         }
     }
 }

@@ -3,6 +3,7 @@
 ghost use Rattle.std.specs.Prelude.{◌≡◌, ◌<◌, true, AllPairs};
 ghost use Rattle.ft_model.specs.declared.reply.Reply.TheVariants.{Stop};
 ghost use Rattle.ft_model.specs.Cursors.{dict_walk, dict_next, set_walk, set_next, list_next};
+ghost use Rattle.ft_model.specs.Cursors.{is_before, prior_pair, dict_back_walk, dict_back_next, list_back_next, deque_next};
 ghost use Rattle.ft_model.specs.Cursors.{is_given, has_size, is_ended, GoesOn};
 ghost use Rattle.ft_model.specs.Worlds.{IsOfKind, cursor_kind, container_of};
 ghost use Rattle.ft_model.specs.Answers.{cursor_step, walked_length};
@@ -10,6 +11,7 @@ ghost use Rattle.ft_model.specs.Answers.{cursor_step, walked_length};
 use crate::content::{DictPair, Element};
 use crate::cursor::{Cursor, CursorState};
 use crate::data::{Key, Value};
+use crate::deque::Deque;
 use crate::members::first_after;
 use crate::reply::{Raise, Reply};
 use crate::world::World;
@@ -69,6 +71,20 @@ fn step_of(world: &World, cursor: &Cursor) -> Advanced
             size,
             last,
         } => step_set(world.set(container).elements(), container, walk, size, last),
+        Cursor::Deque {
+            container,
+            moves,
+            index,
+        } => step_deque(world.deque(container), container, moves, index),
+        Cursor::DictBack {
+            container,
+            walk,
+            size,
+            last,
+        } => step_dict_back(world.dict(container).pairs(), container, walk, size, last),
+        Cursor::ListBack { container, index } => {
+            step_list_back(world.list(container).items(), container, index)
+        }
     }
 }
 
@@ -241,6 +257,152 @@ fn walk_set(element: Option<Element>, container: u32, size: u64, last: Option<u6
                 walk: CursorState::Live,
                 size,
                 last: Some(element.serial),
+            },
+        },
+    }
+}
+
+/// One `next` of a cursor over the items of a deque.
+fn step_deque(deque: &Deque, container: u32, moves: u64, index: u64) -> Advanced
+    ensures reply { result.reply ≡ (deque_next deque.now container moves index).reply }
+    ensures cursor { result.cursor ≡ (deque_next deque.now container moves index).cursor }
+{
+    if deque.moves() != moves {
+        return Advanced {
+            reply: Reply::Raised(Raise::Moved),
+            cursor: Cursor::Deque {
+                container,
+                moves,
+                index,
+            },
+        };
+    }
+    match deque.items().get(index as usize) {
+        Some(value) => Advanced {
+            reply: Reply::Value(*value),
+            cursor: Cursor::Deque {
+                container,
+                moves,
+                index: index + 1,
+            },
+        },
+        None => Advanced {
+            reply: Reply::Stop,
+            cursor: Cursor::Deque {
+                container,
+                moves,
+                index,
+            },
+        },
+    }
+}
+
+/// One `next` of a reversed cursor over the pairs of a dict.
+fn step_dict_back(
+    pairs: &[DictPair],
+    container: u32,
+    walk: CursorState,
+    size: u64,
+    last: Option<u64>,
+) -> Advanced
+    ensures reply { result.reply ≡ (dict_back_next pairs.now container walk size last).reply }
+    ensures cursor { result.cursor ≡ (dict_back_next pairs.now container walk size last).cursor }
+{
+    match walk {
+        CursorState::Ended => Advanced {
+            reply: Reply::Stop,
+            cursor: Cursor::DictBack {
+                container,
+                walk,
+                size,
+                last,
+            },
+        },
+        CursorState::Live if pairs.len() as u64 == size => {
+            walk_dict_back(prior_pair(pairs, last), container, size, last)
+        }
+        CursorState::Live | CursorState::Reported => Advanced {
+            reply: Reply::Raised(Raise::Size),
+            cursor: Cursor::DictBack {
+                container,
+                walk: CursorState::Reported,
+                size,
+                last,
+            },
+        },
+    }
+}
+
+/// Goes back to the pair, or to the end, in a dict of the size that it had.
+fn walk_dict_back(pair: Option<DictPair>, container: u32, size: u64, last: Option<u64>) -> Advanced
+    ensures reply { result.reply ≡ (dict_back_walk pair container size last).reply }
+    ensures cursor { result.cursor ≡ (dict_back_walk pair container size last).cursor }
+{
+    match pair {
+        None => Advanced {
+            reply: Reply::Stop,
+            cursor: Cursor::DictBack {
+                container,
+                walk: CursorState::Ended,
+                size,
+                last,
+            },
+        },
+        Some(pair) => Advanced {
+            reply: Reply::Pair(pair.key, pair.value),
+            cursor: Cursor::DictBack {
+                container,
+                walk: CursorState::Live,
+                size,
+                last: Some(pair.serial),
+            },
+        },
+    }
+}
+
+/// The pair with the greatest serial before the last one given.
+fn prior_pair(pairs: &[DictPair], last: Option<u64>) -> Option<DictPair>
+    ensures { result ≡ prior_pair pairs.now last }
+{
+    pairs
+        .iter()
+        .rev()
+        .copied()
+        .find(|pair| is_before(last, pair.serial))
+}
+
+/// Whether the serial is before the last one given.
+fn is_before(last: Option<u64>, serial: u64) -> bool
+    ensures { result ≡ is_before last serial }
+{
+    match last {
+        Some(last) => serial < last,
+        None => true,
+    }
+}
+
+/// One `next` of a reversed cursor over the items of a list.
+fn step_list_back(items: &[Value], container: u32, index: Option<u64>) -> Advanced
+    ensures reply { result.reply ≡ (list_back_next items.now container index).reply }
+    ensures cursor { result.cursor ≡ (list_back_next items.now container index).cursor }
+{
+    let found = match index {
+        Some(index) => items.get(index as usize).copied(),
+        None => None,
+    };
+    match (index, found) {
+        (Some(index), Some(value)) => Advanced {
+            reply: Reply::Value(value),
+            cursor: Cursor::ListBack {
+                container,
+                index: index.checked_sub(1),
+            },
+        },
+        _ => Advanced {
+            reply: Reply::Stop,
+            cursor: Cursor::ListBack {
+                container,
+                index: None,
             },
         },
     }

@@ -48,6 +48,38 @@ pub(crate) fn answer(
             Ok(Reply::Dict(Sequence::from_vec(pairs)))
         },
         DictCall::Eq { other } => { Ok(Reply::Truth(world.dict(place).equals(world.dict(other)))) }
+        DictCall::KeysAnd { other } => {
+            let keys = world.dict(place).keys_and(alloc, world.dict(other))?;
+            Ok(Reply::Set(Sequence::from_vec(keys)))
+        }
+        DictCall::KeysSub { other } => {
+            let keys = world.dict(place).keys_sub(alloc, world.dict(other))?;
+            Ok(Reply::Set(Sequence::from_vec(keys)))
+        }
+        DictCall::KeysOr { other } => {
+            let keys = world.dict(place).keys_or(alloc, world.dict(other))?;
+            Ok(Reply::Set(Sequence::from_vec(keys)))
+        }
+        DictCall::KeysXor { other } => {
+            let keys = world.dict(place).keys_xor(alloc, world.dict(other))?;
+            Ok(Reply::Set(Sequence::from_vec(keys)))
+        }
+        DictCall::ItemsHas { key, value } => {
+            Ok(Reply::Truth(world.dict(place).has_item(key, value)))
+        }
+        DictCall::Reversed { cursor } => {
+            let size = world.dict(place).len() as u64;
+            hands.put(
+                cursor,
+                Cursor::DictBack {
+                    container: place,
+                    walk: CursorState::Live,
+                    size,
+                    last: None,
+                },
+            );
+            Ok(Reply::Done)
+        }
         DictCall::Iter { cursor } => {
             let size = world.dict(place).len() as u64;
             hands.put(
@@ -81,7 +113,7 @@ pub(crate) fn answer(
 }
 
 /// `d.items()`.
-fn items(alloc: Global, dict: &Dict) -> Result<Vec<(Key, Value)>, AllocError>
+pub(crate) fn items(alloc: Global, dict: &Dict) -> Result<Vec<(Key, Value)>, AllocError>
     ensures { IfOk result (λ items. items.items ≡ items_of dict.now.pairs) }
 {
     dict.pairs()
@@ -191,6 +223,12 @@ fn change(dict: &mut Dict, call: &DictCall) -> Result<Reply, AllocError>
         | DictCall::Update { .. }
         | DictCall::CopyTo { .. }
         | DictCall::Eq { .. }
-        | DictCall::Iter { .. } => unreachable!(),
+        | DictCall::Iter { .. }
+        | DictCall::KeysAnd { .. }
+        | DictCall::KeysSub { .. }
+        | DictCall::KeysOr { .. }
+        | DictCall::KeysXor { .. }
+        | DictCall::ItemsHas { .. }
+        | DictCall::Reversed { .. } => unreachable!(),
     }
 }

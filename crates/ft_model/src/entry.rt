@@ -41,6 +41,8 @@ pub enum Rule {
     Order,
     /// A reply isn't the plain container's.
     Reply,
+    /// The call that an `await` names does not stand before it.
+    Await,
     /// A mark names no thread that could have held the lock.
     Mark,
     /// A section is reported kept round another thread's write on its containers.

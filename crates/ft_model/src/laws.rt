@@ -6,7 +6,7 @@ ghost use Rattle.ft_model.specs.declared.content.Content.{Content};
 ghost use Rattle.ft_model.specs.declared.cursor.Cursor.{Cursor};
 ghost use Rattle.ft_model.specs.declared.entry.Entry.{Entry};
 ghost use Rattle.ft_model.specs.declared.entry.Storage.TheVariants.{Tables};
-ghost use Rattle.ft_model.specs.declared.script.Kind.{Kind};
+ghost use Rattle.ft_model.specs.declared.script.Start.{Start};
 ghost use Rattle.ft_model.specs.declared.script.ScriptParts.{ScriptParts};
 ghost use Rattle.ft_model.specs.Worlds.{IsDeclared, HasRoom};
 ghost use Rattle.ft_model.specs.Answers.{answer, world_by};
@@ -22,20 +22,20 @@ ghost use Rattle.ft_model.specs.Serials.{IsContent, HasFewSerials};
 pub fn worlds_keep_their_rule()
     ensures call { (world : List Content) (hands : List (Option Cursor)) (called : Call) →
         All IsContent world → All IsContent (answer world hands called).world }
-    ensures calls { (kinds : List Kind) (calls : List Call) → All IsContent (world_by kinds calls) }
+    ensures calls { (starts : List Start) (calls : List Call) → All IsContent (world_by starts calls) }
 {}
 
 /// From the start on a container has no more keys than calls were made, and has drawn no more
 /// serials than the square of their number.
 pub fn serials_are_few()
-    ensures { (kinds : List Kind) (calls : List Call) → All (HasFewSerials (length calls)) (world_by kinds calls) }
+    ensures { (starts : List Start) (calls : List Call) → All (HasFewSerials (length calls)) (world_by starts calls) }
 {}
 
 /// As many calls as a script may have leave serials for the next one.
 pub fn calls_have_room()
-    ensures { (kinds : List Kind) (calls : List Call) (hands : List (Option Cursor)) (called : Call) →
-        length calls ≤ 500000 → IsDeclared (world_by kinds calls) hands called →
-        HasRoom (world_by kinds calls) called }
+    ensures { (starts : List Start) (calls : List Call) (hands : List (Option Cursor)) (called : Call) →
+        length calls ≤ 500000 → IsDeclared (world_by starts calls) hands called →
+        HasRoom (world_by starts calls) called }
 {}
 
 /// A call changes one container at most, and the table of that one alone. The others have what they
@@ -55,7 +55,7 @@ pub fn others_are_untouched()
 /// Tables that are in order stay so at each write that passes no cap, and are so at the start. Where
 /// they are in order, no container has more than the largest table holds.
 pub fn tables_stay_in_order()
-    ensures start { (kinds : List Kind) → AreTablesInOrder (empty_stored kinds) }
+    ensures start { (starts : List Start) → AreTablesInOrder (empty_stored starts) }
     ensures write { (stored : StoredWorld) (hands : List (Option Cursor)) (called : Call) →
         IsDeclared stored.world hands called → would_pass stored.world called ≡ false →
         AreTablesInOrder stored → AreTablesInOrder (after_stored stored called) }
@@ -74,7 +74,7 @@ pub fn tables_are_in_order()
 /// A write takes one table at most, whether it names one container or two: no class is taken more
 /// often than there are writes, nor are all classes together.
 pub fn a_write_takes_one_table()
-    ensures class { (kinds : List Kind) (class : ℕ) (calls : List Call) → takes_by kinds class calls ≤ length calls }
-    ensures all { (kinds : List Kind) (calls : List Call) →
-        sum_by (λ class. takes_by kinds class calls) (range_with_len least_class class_count) ≤ length calls }
+    ensures class { (starts : List Start) (class : ℕ) (calls : List Call) → takes_by starts class calls ≤ length calls }
+    ensures all { (starts : List Start) (calls : List Call) →
+        sum_by (λ class. takes_by starts class calls) (range_with_len least_class class_count) ≤ length calls }
 {}

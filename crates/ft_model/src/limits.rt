@@ -1,6 +1,6 @@
 //! How much a script may have: each limit of the format once, by the names that the definitions
 //! give them.
-ghost use Rattle.ft_model.specs.Limits.{heap_step, most_calls, most_containers, most_cursors, most_heap, most_sections, most_string_bytes, most_strings, most_tables, most_threads, most_turns};
+ghost use Rattle.ft_model.specs.Limits.{heap_step, most_bound, most_calls, most_containers, most_cursors, most_heap, most_sections, most_shared, most_shared_keys, most_string_bytes, most_strings, most_tables, most_threads, most_turns};
 ghost use Rattle.std.specs.Prelude.{◌≡◌};
 
 /// The most threads.
@@ -14,6 +14,15 @@ pub const MOST_CURSORS: usize = 256;
 
 /// The most sections of a thread that are open at once.
 pub const MOST_SECTIONS: u32 = 16;
+
+/// The most lists of keys that split dicts share.
+pub const MOST_SHARED: usize = 64;
+
+/// The most keys of each.
+pub const MOST_SHARED_KEYS: usize = 10;
+
+/// The greatest bound of a deque.
+pub const MOST_BOUND: u32 = 65_536;
 
 /// The most calls of all threads together.
 pub const MOST_CALLS: u32 = 500_000;
@@ -42,6 +51,9 @@ pub fn limits_are_defined()
     ensures containers { MOST_CONTAINERS ≡ most_containers }
     ensures cursors { MOST_CURSORS ≡ most_cursors }
     ensures sections { MOST_SECTIONS ≡ most_sections }
+    ensures shared { MOST_SHARED ≡ most_shared }
+    ensures shared_keys { MOST_SHARED_KEYS ≡ most_shared_keys }
+    ensures bound { MOST_BOUND ≡ most_bound }
     ensures calls { MOST_CALLS ≡ most_calls }
     ensures strings { MOST_STRINGS ≡ most_strings }
     ensures string_bytes { MOST_STRING_BYTES ≡ most_string_bytes }

@@ -221,7 +221,7 @@ fn part(alloc: Global, items: &[Value], start: i64, end: i64) -> Result<Vec<Valu
 
 /// The place that an index names among that many items: a negative one counts from the end, and one
 /// that is then outside names none (Python manual, Sequence Types).
-fn place_in(len: usize, index: i64) -> Option<usize>
+pub(crate) fn place_in(len: usize, index: i64) -> Option<usize>
     ensures answer { result ≡ index_in len index }
     ensures within { IfSome result (λ place. place < len) }
 {

@@ -50,6 +50,17 @@ pub(crate) fn answer(
             Ok(Reply::List(Sequence::from_vec(items)))
         }
         ListCall::Eq { other } => { Ok(Reply::Truth(world.list(place).equals(world.list(other)))) }
+        ListCall::Reversed { cursor } => {
+            let index = (world.list(place).len() as u64).checked_sub(1);
+            hands.put(
+                cursor,
+                Cursor::ListBack {
+                    container: place,
+                    index,
+                },
+            );
+            Ok(Reply::Done)
+        }
         ListCall::Iter { cursor } => {
             hands.put(
                 cursor,
@@ -167,6 +178,7 @@ fn change(list: &mut List, call: &ListCall) -> Result<Reply, AllocError>
         | ListCall::Len
         | ListCall::Items
         | ListCall::Eq { .. }
-        | ListCall::Iter { .. } => unreachable!(),
+        | ListCall::Iter { .. }
+        | ListCall::Reversed { .. } => unreachable!(),
     }
 }

@@ -27,12 +27,26 @@ pub enum Raise {
     Size,
     /// RuntimeError: the dict's keys changed since the cursor was made, though its size did not.
     Keys,
+    /// RuntimeError: the deque was changed since the cursor was made (Python manual,
+    /// collections.deque).
+    Moved,
     /// MemoryError: every table of this class was taken.
     Memory(u32),
     /// MemoryError: more than the largest table holds.
     Over,
     /// MemoryError: every place of the thread's heap was in use.
     Heap,
+}
+
+/// What a container is shown to have.
+#[derive(Debug, PartialEq, Eq, Drop)]
+pub enum Shown {
+    /// All pairs of a dict.
+    Dict(Pairs),
+    /// All items of a list or a deque.
+    List(Values),
+    /// All elements of a set.
+    Set(Keys),
 }
 
 /// What a call answers.
@@ -63,6 +77,8 @@ pub enum Reply {
     /// The section that ends let its locks go while a number of its calls waited (C API, critical
     /// sections: a thread that would block may let them go).
     Suspended(u32),
+    /// What each container has, in the order of declaration.
+    World(Sequence<Shown>),
     /// The exception that the call raised.
     Raised(Raise),
 }

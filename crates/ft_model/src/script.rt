@@ -1,6 +1,7 @@
 //! A script, which keeps its rule: names that differ, calls that are its own, sections that are
 //! ended, and all limits. Who is given one may rest on that.
 use crate::call::Call;
+use crate::data::Key;
 use crate::sequence::Sequence;
 use std::marker::Model;
 
@@ -16,15 +17,38 @@ pub enum Kind {
     List,
     /// A set (Python manual, Set Types).
     Set,
+    /// A deque, with the most items that it may have, where there is such a bound (Python manual,
+    /// collections.deque).
+    Deque(Option<u32>),
+}
+
+/// How a container starts: empty, and a dict may start split, over keys that it shares with others
+/// (PEP 412).
+#[derive(Debug, Drop)]
+pub struct Start {
+    /// What the container is.
+    pub kind: Kind,
+    /// The keys that a split dict shares, in order: 1 to 10 that differ. Every other container has
+    /// none.
+    pub keys: Sequence<Key>,
 }
 
 /// A container of a script.
 #[derive(Debug, Drop)]
 pub struct Declaration {
-    /// What the container is.
-    pub kind: Kind,
+    /// How the container starts.
+    pub start: Start,
     /// The name that the script gives it.
     pub name: Text,
+}
+
+/// Keys that split dicts of a script share.
+#[derive(Debug, Drop)]
+pub struct SharedKeys {
+    /// The name that the script gives them, which no container has.
+    pub name: Text,
+    /// The keys, in order.
+    pub keys: Sequence<Key>,
 }
 
 /// A thread of a script, with its calls in order.
@@ -44,6 +68,8 @@ pub struct Thread {
 pub struct ScriptParts {
     /// The containers, which calls name by their places here.
     pub containers: Sequence<Declaration>,
+    /// The keys that its split dicts share, in the order of declaration.
+    pub shared: Sequence<SharedKeys>,
     /// The threads, which entries name by their places here.
     pub threads: Sequence<Thread>,
     /// The distinct strings.

@@ -5,7 +5,7 @@ ghost use Rattle.ft_model.specs.declared.content.Content.TheVariants as content;
 ghost use Rattle.ft_model.specs.declared.script.Kind.TheVariants as kind;
 ghost use Rattle.ft_model.specs.Calls.{is_changing_set, other_set, cursor_of_set};
 ghost use Rattle.ft_model.specs.Worlds.{WorldContent, HandsContent, IsOfKind, IsNamed, HasRoom, set_at};
-ghost use Rattle.ft_model.specs.Answers.{answer_set};
+ghost use Rattle.ft_model.specs.Answers.{answer_set, elements_of};
 
 use crate::call::SetCall;
 use crate::content::Content;
@@ -80,8 +80,8 @@ pub(crate) fn answer(
 }
 
 /// All elements, in order.
-fn keys(alloc: Global, set: &Set) -> Result<Vec<Key>, AllocError>
-    ensures { IfOk result (λ keys. keys.items ≡ map (λ element. element.key) set.now.elements) }
+pub(crate) fn keys(alloc: Global, set: &Set) -> Result<Vec<Key>, AllocError>
+    ensures { IfOk result (λ keys. keys.items ≡ elements_of set.now.elements) }
 {
     set.elements()
         .iter()

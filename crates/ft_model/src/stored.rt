@@ -3,7 +3,7 @@
 //! nothing: their contracts are the laws, for whoever goes by writes and not by whole histories.
 ghost use Rattle.std.specs.Prelude.{◌≡◌, ◌≤◌, ◌<◌, ℕ, List, reverse, true, false};
 ghost use Rattle.ft_model.specs.declared.call.Call.{Call};
-ghost use Rattle.ft_model.specs.declared.script.Kind.{Kind};
+ghost use Rattle.ft_model.specs.declared.script.Start.{Start};
 ghost use Rattle.ft_model.specs.Answers.{answer, world_by, is_raised};
 ghost use Rattle.ft_model.specs.Calls.{can_add};
 ghost use Rattle.ft_model.specs.Classes.{IsClass, dict_entries, set_entries, list_items, most_pairs, most_elements, most_items, class_for, dict_class, set_class, list_class};
@@ -13,13 +13,13 @@ ghost use Rattle.ft_model.specs.Worlds.{WorldContent, HandsContent};
 /// What writes leave, and how many tables of a class they take, is the same by the newest write
 /// first.
 pub fn newest_first_is_the_same()
-    ensures stored { (kinds : List Kind) (calls : List Call) → stored_newest kinds calls ≡ stored_by kinds (reverse calls) }
-    ensures takes { (kinds : List Kind) (class : ℕ) (calls : List Call) → takes_newest kinds class calls ≡ takes_by kinds class (reverse calls) }
+    ensures stored { (starts : List Start) (calls : List Call) → stored_newest starts calls ≡ stored_by starts (reverse calls) }
+    ensures takes { (starts : List Start) (class : ℕ) (calls : List Call) → takes_newest starts class calls ≡ takes_by starts class (reverse calls) }
 {}
 
 /// Tables change nothing of what containers have: that is what the writes leave without any.
 pub fn tables_leave_contents_alone()
-    ensures { (kinds : List Kind) (calls : List Call) → (stored_by kinds calls).world ≡ world_by kinds calls }
+    ensures { (starts : List Start) (calls : List Call) → (stored_by starts calls).world ≡ world_by starts calls }
 {}
 
 /// A call that can put something new into a container raises nothing but a MemoryError.

@@ -1,10 +1,11 @@
 //! The containers of a script and the cursors of a thread, for whoever answers calls.
-ghost use Rattle.std.specs.Prelude.{◌≡◌, ◌<◌, length, Some, slice_set, IfOk};
-ghost use Rattle.ft_model.specs.Worlds.{start_world, IsOfKind, dict_at, list_at, set_at};
+ghost use Rattle.std.specs.Prelude.{◌≡◌, ◌<◌, length, Some, None, slice_set, IfOk};
+ghost use Rattle.ft_model.specs.Worlds.{start_world, IsOfKind, dict_at, list_at, set_at, deque_at};
 ghost use Rattle.ft_model.specs.declared.script.Kind.TheVariants as kind;
 
 use crate::content::Content;
 use crate::cursor::Cursor;
+use crate::deque::Deque;
 use crate::dict::Dict;
 use crate::list::List;
 use crate::script::{Declaration, Kind};
@@ -34,10 +35,11 @@ impl World {
     {
         let mut contents = Vec::new(alloc);
         for container in containers {
-            contents.push(match container.kind {
+            contents.push(match container.start.kind {
                 Kind::Dict => Content::Dict(Dict::new(alloc)),
                 Kind::List => Content::List(List::new(alloc)),
                 Kind::Set => Content::Set(Set::new(alloc)),
+                Kind::Deque(bound) => Content::Deque(Deque::new(alloc, bound)),
             })?;
         }
         Ok(World { contents })
@@ -72,6 +74,17 @@ impl World {
     {
         match &self.contents[place as usize] {
             Content::Set(set) => set,
+            _ => unreachable!(),
+        }
+    }
+
+    /// The deque at a place.
+    pub fn deque(&self, place: u32) -> &Deque
+        requires { IsOfKind self.now (kind.Deque None) place }
+        ensures { result.now ≡ deque_at self.now place }
+    {
+        match &self.contents[place as usize] {
+            Content::Deque(deque) => deque,
             _ => unreachable!(),
         }
     }

@@ -1,12 +1,15 @@
 //! Calls that are made one after the other on plain containers, and what each replies as Python prints it.
 
+mod deques;
 mod printing;
 mod reading;
 mod tables;
+mod views;
 
+use deques::DEQUES;
 use ft_model::{
-    Declaration, Hands, KeptTable, Kind, Sequence, World, apply, dict_class, has_room, is_declared,
-    list_class, set_class, table_of_copy, taken_by_dict, taken_by_list, taken_by_set,
+    Declaration, Hands, KeptTable, Key, Kind, Sequence, Start, World, apply, dict_class, has_room,
+    is_declared, list_class, set_class, table_of_copy, taken_by_dict, taken_by_list, taken_by_set,
 };
 use printing::{print_content, print_reply};
 use reading::read_call;
@@ -14,6 +17,7 @@ use std::alloc::{AllocError, Global};
 use std::process::Abort;
 use std::test::Fail;
 use tables::{CLASSES, DICTS, KINDS, LISTS, SETS};
+use views::{SPLITS, VIEWS};
 
 /// Calls that are made one after the other, what each replies, and what the containers named have
 /// in the end.
@@ -24,20 +28,35 @@ pub struct Case {
 }
 
 /// The kinds of the containers, in the order of their numbers.
-const DECLARED: [Kind; 6] = [
+const DECLARED: [Kind; 9] = [
     Kind::Dict,
     Kind::Dict,
     Kind::List,
     Kind::List,
     Kind::Set,
     Kind::Set,
+    Kind::Deque(None),
+    Kind::Deque(None),
+    Kind::Deque(Some(3)),
 ];
 
-fn start(alloc: Global) -> Result<World, Fail> {
+/// The keys that the dicts share which start split.
+const SHARED: [Key; 2] = [Key::Int(1), Key::Int(2)];
+
+/// The containers at the start, where dicts share the keys.
+fn start(alloc: Global, shared: &[Key]) -> Result<World, Fail> {
     let mut declared = Vec::new(alloc);
     for kind in &DECLARED {
-        let name = Sequence::new(alloc);
-        declared.push(Declaration { kind: *kind, name })?;
+        let mut keys = Sequence::new(alloc);
+        if let Kind::Dict = kind {
+            for key in shared {
+                keys.push(*key)?;
+            }
+        }
+        declared.push(Declaration {
+            start: Start { kind: *kind, keys },
+            name: Sequence::new(alloc),
+        })?;
     }
     Ok(World::start(alloc, &declared)?)
 }
@@ -78,8 +97,14 @@ fn contents_of(alloc: Global, world: &World) -> Result<String, AllocError> {
     Ok(contents)
 }
 
-fn check(rt: &(impl Abort + AllocGlobal), case: &Case) -> Result<(), Fail> {
-    let mut world = start(rt.alloc())?;
+fn check(rt: &(impl Abort + AllocGlobal), shared: &[Key], cases: &[Case]) -> Result<(), Fail> {
+    for case in cases {
+        check_case(rt, start(rt.alloc(), shared)?, case)?;
+    }
+    Ok(())
+}
+
+fn check_case(rt: &(impl Abort + AllocGlobal), mut world: World, case: &Case) -> Result<(), Fail> {
     let replies = replies_to(rt, &mut world, case.calls)?;
     assert_eq!(rt; replies.as_str(), case.replies, "{}", case.calls);
     let contents = contents_of(rt.alloc(), &world)?;
@@ -89,26 +114,32 @@ fn check(rt: &(impl Abort + AllocGlobal), case: &Case) -> Result<(), Fail> {
 
 #[test]
 fn dicts_answer_as_in_python(rt: HostRuntime) -> Result<(), Fail> {
-    for case in &DICTS {
-        check(&rt, case)?;
-    }
-    Ok(())
+    check(&rt, &[], &DICTS)
 }
 
 #[test]
 fn lists_answer_as_in_python(rt: HostRuntime) -> Result<(), Fail> {
-    for case in &LISTS {
-        check(&rt, case)?;
-    }
-    Ok(())
+    check(&rt, &[], &LISTS)
 }
 
 #[test]
 fn sets_answer_as_in_python_in_the_order_of_adding(rt: HostRuntime) -> Result<(), Fail> {
-    for case in &SETS {
-        check(&rt, case)?;
-    }
-    Ok(())
+    check(&rt, &[], &SETS)
+}
+
+#[test]
+fn deques_answer_as_in_python(rt: HostRuntime) -> Result<(), Fail> {
+    check(&rt, &[], &DEQUES)
+}
+
+#[test]
+fn views_and_reversed_cursors_answer_as_in_python(rt: HostRuntime) -> Result<(), Fail> {
+    check(&rt, &[], &VIEWS)
+}
+
+#[test]
+fn split_dicts_answer_as_in_python(rt: HostRuntime) -> Result<(), Fail> {
+    check(&rt, &SHARED, &SPLITS)
 }
 
 #[test]

@@ -4,3 +4,9 @@
 
 #[cfg(test)]
 mod calls;
+mod splits;
+
+pub use splits::{
+    clears_and_copies_end_it, deques_grow_like_lists, keys_in_order_stay_split,
+    keys_out_of_order_take_tables, pairs_taken_out_take_tables, updates_that_add_take_tables,
+};

@@ -7,7 +7,7 @@ use Rattle.std.proofs.lemmas.Option.{none-some, same_Some}
 use Rattle.ft_model.specs.declared.call.Call.{Call}
 use Rattle.ft_model.specs.declared.call.Call.TheVariants as call
 use Rattle.ft_model.specs.declared.cursor.Cursor.{Cursor}
-use Rattle.ft_model.specs.Calls.{is_locked_dict, is_locked_list, is_locked_set, one_or_two, other_dict, other_list, other_set}
+use Rattle.ft_model.specs.Calls.{is_locked_dict, is_locked_list, is_locked_set, one_or_two, other_dict, other_list, other_set, other_deque, is_locked_deque}
 use Rattle.ft_model.specs.Worlds.{container_of, cursor_at}
 use Rattle.ft_trace.specs.declared.Shape.{Shape}
 use Rattle.ft_trace.specs.Addresses.{containers_in}
@@ -20,7 +20,7 @@ use Rattle.ft_engine.specs.Flights.{objects_by, objects_of}
 use Rattle.ft_engine.specs.Asked.{IsCallIn}
 use Rattle.ft_turns.specs.Orders.{cursor_containers, locks_taken, lower_first}
 use Rattle.ft_ordering.specs.Placings.{pair_of}
-use Rattle.ft_ordering.proofs.Needed.{begin_locked, dict_free, dict_locked, list_free, list_locked, one_pair, set_free, set_locked, two_pair}
+use Rattle.ft_ordering.proofs.Needed.{begin_locked, dict_free, dict_locked, list_free, list_locked, one_pair, set_free, set_locked, two_pair, deque_free, deque_locked}
 
 -- ---- which containers
 
@@ -47,6 +47,7 @@ pub asks : (before : List Call) (hands : List (Option Cursor)) (called : Call) (
 asks before hands (call.Dict o c) objects walks is locked = named o (other_dict c) objects (locks_taken before (call.Dict o c)) is (dict_locked before o c (not_false (is_locked_dict c) locked))
 asks before hands (call.List o c) objects walks is locked = named o (other_list c) objects (locks_taken before (call.List o c)) is (list_locked before o c (not_false (is_locked_list c) locked))
 asks before hands (call.Set o c) objects walks is locked = named o (other_set c) objects (locks_taken before (call.Set o c)) is (set_locked before o c (not_false (is_locked_set c) locked))
+asks before hands (call.Deque o c) objects walks is locked = named o (other_deque c) objects (locks_taken before (call.Deque o c)) is (deque_locked before o c (not_false (is_locked_deque c) locked))
 asks before hands (call.Next number) objects walks is locked =
     elim (cursor_at hands number) as (λ o. cursor_at hands number ≡ o → option_map (λ walker. One (container_of walker)) o ≡ Some objects → lower_first (cursor_containers before number) ≡ pair_of (lower_of objects) (upper_of objects)) [
       | None ↦ λ none is_none. absurd (none-some objects is_none)
@@ -57,6 +58,8 @@ asks before hands (call.Next number) objects walks is locked =
 asks before hands (call.Begin first second) objects walks is locked = named first second objects (locks_taken before (call.Begin first second)) is (begin_locked before first second)
 asks before hands call.End objects walks is locked = absurd (none-some objects is)
 asks before hands call.Quiesce objects walks is locked = absurd (none-some objects is)
+asks before hands (call.Await thread index) objects walks is locked = absurd (none-some objects is)
+asks before hands call.Dump objects walks is locked = absurd (none-some objects is)
 
 -- a call that is looked first, or that names no container, takes none
 pub asks_none : (before : List Call) (hands : List (Option Cursor)) (called : Call) → (may_look called ≡ true) ⊎ (objects_of hands called ≡ None)
@@ -66,13 +69,17 @@ asks_none before hands (call.Dict o c) (inr none) walks = absurd (none-some (obj
 asks_none before hands (call.List o c) (inl looks) walks = list_free before o c (not_true (is_locked_list c) looks)
 asks_none before hands (call.List o c) (inr none) walks = absurd (none-some (objects_by o (other_list c)) (sym none))
 asks_none before hands (call.Set o c) (inl looks) walks = set_free before o c (not_true (is_locked_set c) looks)
+asks_none before hands (call.Deque o c) (inl looks) walks = deque_free before o c (not_true (is_locked_deque c) looks)
 asks_none before hands (call.Set o c) (inr none) walks = absurd (none-some (objects_by o (other_set c)) (sym none))
+asks_none before hands (call.Deque o c) (inr none) walks = absurd (none-some (objects_by o (other_deque c)) (sym none))
 asks_none before hands (call.Next number) (inl looks) walks = absurd cc
 asks_none before hands (call.Next number) (inr none) walks = absurd (walks number refl none)
 asks_none before hands (call.Begin first second) (inl looks) walks = absurd cc
 asks_none before hands (call.Begin first second) (inr none) walks = absurd (none-some (objects_by first second) (sym none))
 asks_none before hands call.End which walks = refl
 asks_none before hands call.Quiesce which walks = refl
+asks_none before hands (call.Await thread index) which walks = refl
+asks_none before hands call.Dump which walks = refl
 
 -- ---- which are there
 
@@ -101,11 +108,14 @@ pub are_low : (k : Shape) (hands : List (Option Cursor)) (called : Call) (object
 are_low k hands (call.Dict o c) objects names over is = by_low o (other_dict c) objects (containers_in k) is names.0.0.0 (weaker (other_dict c) _ (λ p. p < containers_in k) (λ p there. there.0) names.0.1)
 are_low k hands (call.List o c) objects names over is = by_low o (other_list c) objects (containers_in k) is names.0.0.0 (weaker (other_list c) _ (λ p. p < containers_in k) (λ p there. there.0) names.0.1)
 are_low k hands (call.Set o c) objects names over is = by_low o (other_set c) objects (containers_in k) is names.0.0.0 (weaker (other_set c) _ (λ p. p < containers_in k) (λ p there. there.0) names.0.1)
+are_low k hands (call.Deque o c) objects names over is = absurd names
 are_low k hands (call.Next number) objects names over is =
     elim (cursor_at hands number) as (λ o. cursor_at hands number ≡ o → option_map (λ walker. One (container_of walker)) o ≡ Some objects → upper_of objects < containers_in k) [
       | None ↦ λ none is_none. absurd (none-some objects is_none)
-      | Some walker ↦ λ at is_one. subst (λ (os : Objects). upper_of os < containers_in k) (same_Some (One (container_of walker)) objects is_one) (over number walker at).0
+      | Some walker ↦ λ at is_one. subst (λ (os : Objects). upper_of os < containers_in k) (same_Some (One (container_of walker)) objects is_one) (over number walker at).0.0
     ] refl is
 are_low k hands (call.Begin first second) objects names over is = by_low first second objects (containers_in k) is names.0 names.1
 are_low k hands call.End objects names over is = absurd (none-some objects is)
 are_low k hands call.Quiesce objects names over is = absurd (none-some objects is)
+are_low k hands (call.Await thread index) objects names over is = absurd (none-some objects is)
+are_low k hands call.Dump objects names over is = absurd (none-some objects is)

@@ -37,7 +37,7 @@ use Rattle.ft_ordering.proofs.TurnOutcomes.{Comes}
 -- ---- the script's containers
 
 pub count_for : (script : ScriptParts) (k : Shape) → IsFor script k → containers_in k ≡ length script.containers
-count_for script k is = ap length is.kinds ∙ length-map script.containers (λ (one : Declaration). one.kind)
+count_for script k is = ap length is.starts ∙ length-map script.containers (λ (one : Declaration). one.start)
 
 pub owned_after : (script : ScriptParts) (turns : List ℕ) → IsOwned script (after_turns script turns)
 owned_after script turns = turns_keep script (IsOwned script) (owned_steps script) (start_machine script) turns (owned_start script)

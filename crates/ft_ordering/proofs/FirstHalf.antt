@@ -164,4 +164,7 @@ module _ (script : ScriptParts) (machine : Machine) (thread : ℕ) (hands : List
         | call.Begin first second ↦ λ is left. begin_now first second unfixed is left own_is (top (ap is_begin is))
         | call.End ↦ λ is left. end_now unfixed is left (none (ap (objects_of hands) is))
         | call.Quiesce ↦ λ is left. plain_now unfixed (stays call.Quiesce is refl) left
+        | call.Await other index ↦ λ is left. plain_now unfixed (stays (call.Await other index) is refl) left
+        | call.Deque o c ↦ λ is left. plain_now unfixed (stays (call.Deque o c) is refl) left
+        | call.Dump ↦ λ is left. plain_now unfixed (stays call.Dump is refl) left
       ] refl after

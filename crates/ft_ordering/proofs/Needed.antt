@@ -12,12 +12,14 @@ use Rattle.ft_model.specs.declared.call.ListCall.TheVariants as list
 use Rattle.ft_model.specs.declared.call.SetCall.{SetCall}
 use Rattle.ft_model.specs.declared.call.SetCall.TheVariants as set
 use Rattle.ft_model.specs.declared.entry.Entry.{Entry}
-use Rattle.ft_model.specs.Calls.{containers_of, cursor_of_dict, cursor_of_list, cursor_of_set, is_locked_dict, is_locked_list, is_locked_set, one_or_two, other_dict, other_list, other_set}
+use Rattle.ft_model.specs.Calls.{containers_of, cursor_of_dict, cursor_of_list, cursor_of_set, is_locked_dict, is_locked_list, is_locked_set, one_or_two, other_dict, other_list, other_set, other_deque, cursor_of_deque, is_locked_deque}
 use Rattle.ft_section.specs.declared.answers.Objects.TheVariants.{One, Two}
 use Rattle.ft_section.specs.LockTakings.{lower_of, upper_of}
 use Rattle.ft_closing.specs.Marks.{over_after, walked_after, walked_by}
 use Rattle.ft_turns.specs.Orders.{cursor_containers, locks_taken, lower_first, makes}
 use Rattle.ft_ordering.specs.Placings.{pair_of}
+use Rattle.ft_model.specs.declared.call.DequeCall.{DequeCall}
+use Rattle.ft_model.specs.declared.call.DequeCall.TheVariants as deque
 
 -- ---- one container or two
 
@@ -68,6 +70,9 @@ list_locked before o c is = all_named (is_locked_list c) o (other_list c) is
 pub set_locked : (before : List Call) (o : ℕ) (c : SetCall) → is_locked_set c ≡ true → locks_taken before (call.Set o c) ≡ one_or_two o (other_set c)
 set_locked before o c is = all_named (is_locked_set c) o (other_set c) is
 
+pub deque_locked : (before : List Call) (o : ℕ) (c : DequeCall) → is_locked_deque c ≡ true → locks_taken before (call.Deque o c) ≡ one_or_two o (other_deque c)
+deque_locked before o c is = all_named (is_locked_deque c) o (other_deque c) is
+
 pub dict_free : (before : List Call) (o : ℕ) (c : DictCall) → is_locked_dict c ≡ false → locks_taken before (call.Dict o c) ≡ []
 dict_free before o c is = none_named (is_locked_dict c) o (other_dict c) is
 
@@ -76,6 +81,9 @@ list_free before o c is = none_named (is_locked_list c) o (other_list c) is
 
 pub set_free : (before : List Call) (o : ℕ) (c : SetCall) → is_locked_set c ≡ false → locks_taken before (call.Set o c) ≡ []
 set_free before o c is = none_named (is_locked_set c) o (other_set c) is
+
+pub deque_free : (before : List Call) (o : ℕ) (c : DequeCall) → is_locked_deque c ≡ false → locks_taken before (call.Deque o c) ≡ []
+deque_free before o c is = none_named (is_locked_deque c) o (other_deque c) is
 
 pub begin_locked : (before : List Call) (first : ℕ) (second : Option ℕ) → locks_taken before (call.Begin first second) ≡ one_or_two first second
 begin_locked before first second = all_named true first second refl
@@ -88,15 +96,21 @@ over_list over = option_map_or (λ o. o ∷ []) over []
 -- an `iter` names the one container of its cursor
 dict_iter : (o made : ℕ) (c : DictCall) → cursor_of_dict c ≡ Some made → one_or_two o (other_dict c) ≡ o ∷ []
 dict_iter o made (dict.Iter cursor) is = refl
+dict_iter o made (dict.Reversed cursor) is = refl
 dict_iter o made other is = absurd cc
 
 list_iter : (o made : ℕ) (c : ListCall) → cursor_of_list c ≡ Some made → one_or_two o (other_list c) ≡ o ∷ []
 list_iter o made (list.Iter cursor) is = refl
+list_iter o made (list.Reversed cursor) is = refl
 list_iter o made other is = absurd cc
 
 set_iter : (o made : ℕ) (c : SetCall) → cursor_of_set c ≡ Some made → one_or_two o (other_set c) ≡ o ∷ []
 set_iter o made (set.Iter cursor) is = refl
 set_iter o made other is = absurd cc
+
+deque_iter : (o made : ℕ) (c : DequeCall) → cursor_of_deque c ≡ Some made → one_or_two o (other_deque c) ≡ o ∷ []
+deque_iter o made (deque.Iter cursor) is = refl
+deque_iter o made other is = absurd cc
 
 -- after a call that makes this cursor, or none
 made_same : (number o : ℕ) (cursor over : Option ℕ) (named : List ℕ) → ((made : ℕ) → cursor ≡ Some made → named ≡ o ∷ [])
@@ -109,10 +123,13 @@ call_same : (number : ℕ) (called : Call) (over : Option ℕ) → (if makes num
 call_same number (call.Dict o c) over = made_same number o (cursor_of_dict c) over (one_or_two o (other_dict c)) (λ made is. dict_iter o made c is)
 call_same number (call.List o c) over = made_same number o (cursor_of_list c) over (one_or_two o (other_list c)) (λ made is. list_iter o made c is)
 call_same number (call.Set o c) over = made_same number o (cursor_of_set c) over (one_or_two o (other_set c)) (λ made is. set_iter o made c is)
+call_same number (call.Deque o c) over = made_same number o (cursor_of_deque c) over (one_or_two o (other_deque c)) (λ made is. deque_iter o made c is)
 call_same number (call.Next cursor) over = refl
 call_same number (call.Begin first second) over = refl
 call_same number call.End over = refl
 call_same number call.Quiesce over = refl
+call_same number (call.Await thread index) over = refl
+call_same number call.Dump over = refl
 
 walk_same : (number : ℕ) (mine : List Entry) (over : Option ℕ)
     → fold (λ containers called. if makes number called then containers_of called else containers) (over_list over) (map (λ (e : Entry). e.call) mine)

@@ -216,7 +216,7 @@ module _ (storage : Storage) (script : ScriptParts) (calls : List Call) (lists :
         chronicle = chronicle;
         same = IsPermutation-trans chronicle (flat_map (λ (mine : List Entry). mine) lists) history to_lists moved;
         order = same_order;
-        chronicled = rising_entries storage script calls chronicle numbered rising;
+        chronicled = rising_entries storage script calls chronicle rule numbered rising;
       }
 
 pub order_runs : AnsweredEntriesAreOrderRuns

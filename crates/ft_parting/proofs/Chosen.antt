@@ -36,7 +36,7 @@ use Rattle.ft_parting.specs.Choosing.{apart_pair}
 
 -- ---- a set
 
-module _ (k : Shape) (t : ℕ) (v : View) (shape : v.shape ≡ k) (possible : ∥ Possible v ∥₁) (is : kind_in k.kinds t ≡ kind.Set) where
+module _ (k : Shape) (t : ℕ) (v : View) (shape : v.shape ≡ k) (possible : ∥ Possible v ∥₁) (is : kind_in k.starts t ≡ kind.Set) where
   abbrev set : SetContent
   set = set_of (known t v).content
 

@@ -120,7 +120,7 @@ module _ (kept others : ContainerState) (first : SetContent) (is : kept.content 
   thin_kept =
       let fill : kept.table.fill + 0 ≡ kept.table.fill = omega arith in
       let table : (parted_state kept others.content).table ≡ kept.table =
-      (λ i. grown_table kept.table (thin_takes i) (drawn i) (length (parted kept.content others.content).elements)) ∙ (λ i. record { class = kept.table.class; fill = fill i }) in
+      (λ i. grown_table kept.table (thin_takes i) (drawn i) (length (parted kept.content others.content).elements)) ∙ (λ i. record { class = kept.table.class; fill = fill i; keys = kept.table.keys }) in
       λ i. record { content = content.Set (thin_same i); table = table i }
 
   pub thin_cap : passes_cap kept.content ≡ false → passes_cap (content.Set (parted kept.content others.content)) ≡ false

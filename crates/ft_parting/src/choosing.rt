@@ -43,7 +43,7 @@ use ft_section::Object;
 /// Whether a set, which has this table or none, has a key.
 fn has_key(bank: &Bank, pass: &mut Pass, t: Object, own: Option<Table>, key: Key, hash: u64) -> bool
     requires pass { IsPassOf bank.now pass.old }
-    requires set { kind_in (shape_of bank.now).kinds t ≡ kind.Set }
+    requires set { kind_in (shape_of bank.now).starts t ≡ kind.Set }
     requires keyed { KnowsKeyed (shape_of bank.now) t own (view pass.old) }
     requires hash { hash ≡ hash_of (shape_of bank.now).texts key }
     ensures pass { IsPassOf bank.now pass.new }
@@ -131,8 +131,8 @@ fn apart_at(
     place: u64,
 ) -> Option<Pair>
     requires pass { IsPassOf bank.now pass.old }
-    requires set { kind_in (shape_of bank.now).kinds s ≡ kind.Set }
-    requires other_set { kind_in (shape_of bank.now).kinds t ≡ kind.Set }
+    requires set { kind_in (shape_of bank.now).starts s ≡ kind.Set }
+    requires other_set { kind_in (shape_of bank.now).starts t ≡ kind.Set }
     requires keyed { KnowsKeyed (shape_of bank.now) s (Some from) (view pass.old) }
     requires other_keyed { KnowsKeyed (shape_of bank.now) t other (view pass.old) }
     requires place { place < rows kind.Set (class_of (name_of from)) }
@@ -189,8 +189,8 @@ fn choose_at(
     count: u64,
 ) -> u64
     requires pass { IsPassOf bank.now pass.old }
-    requires set { kind_in (shape_of bank.now).kinds s ≡ kind.Set }
-    requires other_set { kind_in (shape_of bank.now).kinds t ≡ kind.Set }
+    requires set { kind_in (shape_of bank.now).starts s ≡ kind.Set }
+    requires other_set { kind_in (shape_of bank.now).starts t ≡ kind.Set }
     requires keyed { KnowsKeyed (shape_of bank.now) s (Some from) (view pass.old) }
     requires other_keyed { KnowsKeyed (shape_of bank.now) t other (view pass.old) }
     requires place { place < rows kind.Set (class_of (name_of from)) }
@@ -235,8 +235,8 @@ fn choose_all(
     start: u64,
 ) -> u64
     requires pass { IsPassOf bank.now pass.old }
-    requires set { kind_in (shape_of bank.now).kinds s ≡ kind.Set }
-    requires other_set { kind_in (shape_of bank.now).kinds t ≡ kind.Set }
+    requires set { kind_in (shape_of bank.now).starts s ≡ kind.Set }
+    requires other_set { kind_in (shape_of bank.now).starts t ≡ kind.Set }
     requires keyed { KnowsKeyed (shape_of bank.now) s (Some from) (view pass.old) }
     requires other_keyed { KnowsKeyed (shape_of bank.now) t other (view pass.old) }
     requires fill { fill ≡ (known s (view pass.old)).table.fill }
@@ -274,8 +274,8 @@ fn keep_apart(
     table: Table,
 ) -> u64
     requires pass { IsPassOf bank.now pass.old }
-    requires set { kind_in (shape_of bank.now).kinds s ≡ kind.Set }
-    requires other_set { kind_in (shape_of bank.now).kinds t ≡ kind.Set }
+    requires set { kind_in (shape_of bank.now).starts s ≡ kind.Set }
+    requires other_set { kind_in (shape_of bank.now).starts t ≡ kind.Set }
     requires keyed { KnowsKeyed (shape_of bank.now) s old (view pass.old) }
     requires other_keyed { KnowsKeyed (shape_of bank.now) t other (view pass.old) }
     requires fill { fill ≡ (known s (view pass.old)).table.fill }
@@ -312,8 +312,8 @@ pub(crate) fn fill_parted(
     table: Table,
 )
     requires pass { IsPassOf bank.now pass.old }
-    requires set { kind_in (shape_of bank.now).kinds s ≡ kind.Set }
-    requires other_set { kind_in (shape_of bank.now).kinds t ≡ kind.Set }
+    requires set { kind_in (shape_of bank.now).starts s ≡ kind.Set }
+    requires other_set { kind_in (shape_of bank.now).starts t ≡ kind.Set }
     requires keyed { KnowsKeyed (shape_of bank.now) s old (view pass.old) }
     requires other_keyed { KnowsKeyed (shape_of bank.now) t (Some other) (view pass.old) }
     requires counts { AreCounts (held s (view pass.old)).block counts }

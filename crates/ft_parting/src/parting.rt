@@ -46,8 +46,8 @@ fn count_staying(
     requires pass { IsPassOf bank.now pass.old }
     requires keyed { KnowsKeyed (shape_of bank.now) s old (view pass.old) }
     requires other { MayWriteEntries (shape_of bank.now) t (view pass.old) }
-    requires set { kind_in (shape_of bank.now).kinds s ≡ kind.Set }
-    requires other_set { kind_in (shape_of bank.now).kinds t ≡ kind.Set }
+    requires set { kind_in (shape_of bank.now).starts s ≡ kind.Set }
+    requires other_set { kind_in (shape_of bank.now).starts t ≡ kind.Set }
     requires fill { fill ≡ (known s (view pass.old)).table.fill }
     ensures pass { IsPassOf bank.now pass.new }
     ensures stack { stack_of pass.new ≡ stack_of pass.old }
@@ -67,8 +67,8 @@ fn part_thin(bank: &Bank, pass: &mut Pass, s: Object, t: Object, called: &Call) 
     requires pass { IsPassOf bank.now pass.old }
     requires may { MayWriteEntries (shape_of bank.now) s (view pass.old) }
     requires other { MayWriteEntries (shape_of bank.now) t (view pass.old) }
-    requires set { kind_in (shape_of bank.now).kinds s ≡ kind.Set }
-    requires other_set { kind_in (shape_of bank.now).kinds t ≡ kind.Set }
+    requires set { kind_in (shape_of bank.now).starts s ≡ kind.Set }
+    requires other_set { kind_in (shape_of bank.now).starts t ≡ kind.Set }
     requires none { new_keys (known s (view pass.old)).content (known t (view pass.old)).content ≡ 0 }
     requires parts { PartsSets s t called.now (view pass.old) }
     ensures pass { IsPassOf bank.now pass.new }
@@ -216,8 +216,8 @@ fn part_from(
     requires other { KnowsKeyed (shape_of bank.now) t (Some table) (view pass.old) }
     requires used { used (view pass.old).log ≡ false }
     requires idle { flight (view pass.old).log ≡ 0 }
-    requires set { kind_in (shape_of bank.now).kinds s ≡ kind.Set }
-    requires other_set { kind_in (shape_of bank.now).kinds t ≡ kind.Set }
+    requires set { kind_in (shape_of bank.now).starts s ≡ kind.Set }
+    requires other_set { kind_in (shape_of bank.now).starts t ≡ kind.Set }
     requires serials { serial_of (known s (view pass.old)).content + 65536 < 2 ^ 63 }
     requires parts { PartsSets s t called.now (view pass.old) }
     ensures pass { IsPassOf bank.now pass.new }
@@ -259,8 +259,8 @@ pub fn part_by(bank: &Bank, pass: &mut Pass, s: Object, t: Object, called: &Call
     requires other { MayWriteEntries (shape_of bank.now) t (view pass.old) }
     requires used { used (view pass.old).log ≡ false }
     requires idle { flight (view pass.old).log ≡ 0 }
-    requires set { kind_in (shape_of bank.now).kinds s ≡ kind.Set }
-    requires other_set { kind_in (shape_of bank.now).kinds t ≡ kind.Set }
+    requires set { kind_in (shape_of bank.now).starts s ≡ kind.Set }
+    requires other_set { kind_in (shape_of bank.now).starts t ≡ kind.Set }
     requires serials { serial_of (known s (view pass.old)).content + 65536 < 2 ^ 63 }
     requires parts { PartsSets s t called.now (view pass.old) }
     ensures pass { IsPassOf bank.now pass.new }

@@ -51,6 +51,7 @@ replaces_later o called left takes v u has locks r = record {
 pub dict_of_kind : (c : Content) → kind_of c ≡ kind.Dict → (pairs : DictContent) × (c ≡ content.Dict pairs)
 dict_of_kind (content.Dict pairs) e = (pairs, refl)
 dict_of_kind (content.List values) e = absurd (cc)
+dict_of_kind (content.Deque deque) e = absurd (cc)
 dict_of_kind (content.Set elements) e = absurd (cc)
 
 -- the largest table holds the pairs of a dict

@@ -115,6 +115,7 @@ module _ (called : Call) (said : Reply) (number f t g : ℕ) (snap : Snap) (v u 
           containers = committed.has.containers;
           kinds = committed.has.kinds;
           order = committed.has.order;
+          unsplit = committed.has.unsplit;
           words = committed.has.words;
         };
         content = work_knows rooted u at w1 ∙ committed.left at;

@@ -22,7 +22,7 @@ use Rattle.ft_trace.specs.Kinds.{IsKeyed, rows, version_at, SoundAs}
 use Rattle.ft_trace.specs.OddVersions.{Shut}
 use Rattle.ft_trace.specs.Traces.{Possible}
 use Rattle.ft_trace.specs.Pictures.{Picture, root_in, Stands}
-use Rattle.ft_trace.specs.ContainerStates.{ContainerState, changes, kind_in}
+use Rattle.ft_trace.specs.ContainerStates.{ContainerState, changes, kind_in, kinds_in}
 use Rattle.ft_trace.proofs.Addresses.{at_apart}
 use Rattle.ft_trace.proofs.Cases.{hit, miss}
 use Rattle.ft_trace.proofs.DictWrites.{FirstEntriesArePairs}
@@ -76,7 +76,7 @@ pub record Swapping (k : Shape) (o : ℕ) (old : Option Table) (table : Table) (
   pub shape : v.shape ≡ k
   pub possible : ∥ Possible v ∥₁
   pub other : root_in (held o v) ≢ suc (name_of table)
-  pub kind_is : kind_of left ≡ kind_in k.kinds o
+  pub kind_is : kind_of left ≡ kind_in k.starts o
   pub filled : IsFilledWith k.texts (class_of (name_of table)) left (in_hand (name_of table) v)
   pub replaces : Replaces o called left (Some (class_of (name_of table))) v
   pub started : s ≡ noted (StartWrite o f) v
@@ -86,7 +86,7 @@ pub record Swapping (k : Shape) (o : ℕ) (old : Option Table) (table : Table) (
 -- 0 may be put into the root
 pub may_put_none : (k : Shape) (o : ℕ) (old : Option Table) (table : Table) (v s : View) (f : ℕ) → v.shape ≡ k → ∥ Possible v ∥₁ → MayGrowKeyed k o old table v → s ≡ noted (StartWrite o f) v → MayPutRoot s o None
 may_put_none k o old table v s f shape possible may is =
-    let kind_v : kind_of (known o v).content ≡ kind_in v.shape.kinds o = kind_is k v o shape possible may.keyed.locked ∙ sym (ap (λ (z : Shape). kind_in z.kinds o) shape) in
+    let kind_v : kind_of (known o v).content ≡ kind_in v.shape.starts o = kind_is k v o shape possible may.keyed.locked ∙ sym (ap (λ (z : Shape). kind_in z.starts o) shape) in
     subst (λ (u : View). MayPutRoot u o None) (sym is)
     (record {
       odd = hit o true (is_writing o v.log);
@@ -159,8 +159,9 @@ module _ (k : Shape) (o : ℕ) (old : Option Table) (table : Table) (called : Ca
   has_before stored has = record {
     agrees = λ p low mine. has.agrees p (subst (λ (z : Shape). p < containers_in z) (sym shape_then) low) (locks_then p ∙ mine) ∙ known_then p;
     containers = has.containers ∙ ap containers_in shape_then;
-    kinds = has.kinds ∙ ap (λ (z : Shape). z.kinds) shape_then;
+    kinds = has.kinds ∙ ap (λ (z : Shape). kinds_in z.starts) shape_then;
     order = has.order;
+    unsplit = has.unsplit;
     words = has.words;
   }
 
@@ -220,15 +221,15 @@ module _ (k : Shape) (o : ℕ) (old : Option Table) (table : Table) (called : Ca
     the_one : (q : Table) → Some table ≡ Some q → table ≡ q
     the_one q is = ap (λ (z : Option Table). unwrap_or z table) is
 
-    kind_c : kind_of left ≡ kind_in c.shape.kinds o
-    kind_c = e.kind_is ∙ sym (ap (λ (z : Shape). kind_in z.kinds o) shape_c)
+    kind_c : kind_of left ≡ kind_in c.shape.starts o
+    kind_c = e.kind_is ∙ sym (ap (λ (z : Shape). kind_in z.starts o) shape_c)
 
-    sound_here : SoundAs (kind_in c.shape.kinds o) c.shape.texts class (in_hand t c) (known o c).content
+    sound_here : SoundAs (kind_in c.shape.starts o) c.shape.texts class (in_hand t c) (known o c).content
     sound_here =
         subst (λ (z : Kind × List ℕ × List ℕ × Content). SoundAs z.0 z.1 class z.2 z.3) (λ i. (kind_c i, (sym shape_c i).texts, sym hand_then i, sym content_then i))
         (sound_in e.first_pair e.first_element k.texts last ws class (length_of left) left keyed is_class says)
 
-    zero_here : (p : ℕ) → p < rows (kind_in c.shape.kinds o) class → slice_index (in_hand t c) (version_at (kind_in c.shape.kinds o) class p) ≡ 0
+    zero_here : (p : ℕ) → p < rows (kind_in c.shape.starts o) class → slice_index (in_hand t c) (version_at (kind_in c.shape.starts o) class p) ≡ 0
     zero_here =
         subst (λ (z : Kind × List ℕ). (p : ℕ) → p < rows z.0 class → slice_index z.1 (version_at z.0 class p) ≡ 0) (λ i. (kind_c i, sym hand_then i))
         (λ p low. ap (slice_index ws) (keyed_version (kind_of left) keyed class p) ∙ e.filled.versions p low)
@@ -240,9 +241,9 @@ module _ (k : Shape) (o : ℕ) (old : Option Table) (table : Table) (called : Ca
     may_put_table = record {
       odd = ap (λ (z : View). is_writing o z.log) all_made ∙ hit o true (is_writing o v.log);
       fresh = λ q is. subst (λ (z : Table). stage (name_of z) c.log ≡ 1) (the_one q is) fresh_then;
-      sound = λ q is. subst (λ (z : Table). SoundAs (kind_in c.shape.kinds o) c.shape.texts (class_of (name_of z)) (in_hand (name_of z) c) (known o c).content) (the_one q is) sound_here;
+      sound = λ q is. subst (λ (z : Table). SoundAs (kind_in c.shape.starts o) c.shape.texts (class_of (name_of z)) (in_hand (name_of z) c) (known o c).content) (the_one q is) sound_here;
       young = λ q p is row.
-          let zero = subst (λ (z : Table). (p : ℕ) → p < rows (kind_in c.shape.kinds o) (class_of (name_of z)) → slice_index (in_hand (name_of z) c) (version_at (kind_in c.shape.kinds o) (class_of (name_of z)) p) ≡ 0) (the_one q is) zero_here p row in
+          let zero = subst (λ (z : Table). (p : ℕ) → p < rows (kind_in c.shape.starts o) (class_of (name_of z)) → slice_index (in_hand (name_of z) c) (version_at (kind_in c.shape.starts o) (class_of (name_of z)) p) ≡ 0) (the_one q is) zero_here p row in
           (omega (arith, zero), (λ late. zero));
       shut = λ q names. let none = root_c in absurd (omega (arith, none, names));
       spare = λ some_one. absurd (some_one root_c);
@@ -278,8 +279,8 @@ module _ (k : Shape) (o : ℕ) (old : Option Table) (table : Table) (called : Ca
       shape_u : u.shape ≡ k
       shape_u = puts.work.pass.shape ∙ (ap (λ (y : View). y.shape) rooted ∙ shape_c)
 
-      kind_u : kind_of left ≡ kind_in u.shape.kinds o
-      kind_u = e.kind_is ∙ sym (ap (λ (y : Shape). kind_in y.kinds o) shape_u)
+      kind_u : kind_of left ≡ kind_in u.shape.starts o
+      kind_u = e.kind_is ∙ sym (ap (λ (y : Shape). kind_in y.starts o) shape_u)
 
       pub shut_u : IsShut o u
       shut_u q names =

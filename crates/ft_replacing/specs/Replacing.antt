@@ -21,7 +21,7 @@ use Rattle.ft_growth.specs.declared.adding.Added.{Added}
 use Rattle.ft_growth.specs.declared.adding.Added.TheVariants as added
 use Rattle.ft_growth.specs.Adding.{IsAdded}
 use Rattle.ft_search.specs.MadeCalls.{IsReplyTo}
-use Rattle.ft_list.specs.Clears.{IsCleared}
+use Rattle.ft_reads.specs.Clears.{IsCleared}
 
 -- what a dict has that gets a copy of another one (profile); nothing else does
 abbrev pub copied : Content → Content → Content

@@ -46,7 +46,7 @@ fn fill_copy(
 )
     requires pass { IsPassOf bank.now pass.old }
     requires keyed { KnowsKeyed (shape_of bank.now) d from (view pass.old) }
-    requires dict { kind_in (shape_of bank.now).kinds d ≡ kind.Dict }
+    requires dict { kind_in (shape_of bank.now).starts d ≡ kind.Dict }
     requires counts { AreCounts (held d (view pass.old)).block counts }
     requires table { IsTableIn (shape_of bank.now) table }
     requires fresh { stage (name_of table) (view pass.old).log ≡ 1 }
@@ -81,8 +81,8 @@ fn copy_in_taken(
     requires pass { IsPassOf bank.now pass.old }
     requires keyed { KnowsKeyed (shape_of bank.now) d from (view pass.old) }
     requires may { MayAddKey (shape_of bank.now) e old (view pass.old) }
-    requires dict { kind_in (shape_of bank.now).kinds d ≡ kind.Dict }
-    requires other_dict { kind_in (shape_of bank.now).kinds e ≡ kind.Dict }
+    requires dict { kind_in (shape_of bank.now).starts d ≡ kind.Dict }
+    requires other_dict { kind_in (shape_of bank.now).starts e ≡ kind.Dict }
     requires counts { AreCounts (held d (view pass.old)).block counts }
     requires next { next ≡ serial_of (known e (view pass.old)).content }
     requires serials { next + counts.count < 2 ^ 63 }
@@ -124,8 +124,8 @@ pub fn copy_into(bank: &Bank, pass: &mut Pass, d: u32, e: u32, called: &Call) ->
     requires pass { IsPassOf bank.now pass.old }
     requires may { MayWriteEntries (shape_of bank.now) d (view pass.old) }
     requires other { MayWriteEntries (shape_of bank.now) e (view pass.old) }
-    requires dict { kind_in (shape_of bank.now).kinds d ≡ kind.Dict }
-    requires other_dict { kind_in (shape_of bank.now).kinds e ≡ kind.Dict }
+    requires dict { kind_in (shape_of bank.now).starts d ≡ kind.Dict }
+    requires other_dict { kind_in (shape_of bank.now).starts e ≡ kind.Dict }
     requires used { used (view pass.old).log ≡ false }
     requires idle { flight (view pass.old).log ≡ 0 }
     requires replaces { Replaces e called.now

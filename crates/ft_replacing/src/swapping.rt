@@ -54,7 +54,7 @@ pub fn swap_table(
     requires pass { IsPassOf bank.now pass.old }
     requires may { MayGrowKeyed (shape_of bank.now) o old table (view pass.old) }
     requires other { root_in (held o (view pass.old)) ≢ suc (name_of table) }
-    requires gets { (left : Content) × (kind_of left ≡ kind_in (shape_of bank.now).kinds o)
+    requires gets { (left : Content) × (kind_of left ≡ kind_in (shape_of bank.now).starts o)
         × (count ≡ length_of left) × (next ≡ serial_of left)
         × IsFilledWith (shape_of bank.now).texts (class_of (name_of table)) left
         (in_hand (name_of table) (view pass.old))

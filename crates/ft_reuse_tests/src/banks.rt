@@ -37,7 +37,7 @@ fn some_left(pass: &Pass) -> Result<(), Fail>
 fn append(bank: &Bank, pass: &mut Pass, l: u32, value: i64) -> Result<(), Fail>
     requires may { MayTry bank.now pass.old (One l) }
     requires container { l < containers_in (shape_of bank.now) }
-    requires list { kind_in (shape_of bank.now).kinds l ≡ kind.List }
+    requires list { kind_in (shape_of bank.now).starts l ≡ kind.List }
     ensures may { MayTry bank.now pass.new (One l) }
     ensures next { (view pass.new).next ≡ (view pass.old).next }
 {
@@ -52,7 +52,7 @@ fn append(bank: &Bank, pass: &mut Pass, l: u32, value: i64) -> Result<(), Fail>
 pub(crate) fn fill_list(bank: &Bank, pass: &mut Pass, l: u32, count: u32) -> Result<(), Fail>
     requires may { MayTry bank.now pass.old (One l) }
     requires container { l < containers_in (shape_of bank.now) }
-    requires list { kind_in (shape_of bank.now).kinds l ≡ kind.List }
+    requires list { kind_in (shape_of bank.now).starts l ≡ kind.List }
     ensures may { MayTry bank.now pass.new (One l) }
     ensures next { (view pass.new).next ≡ (view pass.old).next }
 {

@@ -1,10 +1,11 @@
 -- Each entry of a legal history of a script that was read is one that a line of a transcript can have.
 use Rattle.std.proofs.Common.{◌≡◌, ◌≢◌, ◌⊎◌, ◌∙◌, ℕ, ℤ, ◌+◌, ◌<◌, ◌≤◌, ◌^◌, Bool, true, false, List, map, length, get_or, take, Option, Some, None, refl, sym, ap, subst, inl, inr, arith}
-use Rattle.std.specs.Prelude.{All, IfSome, slice_get}
+use Rattle.std.specs.Prelude.{◌==◌, All, IfSome, slice_get}
 use Rattle.std.specs.List.{list_any}
 use Rattle.std.specs.Option.{option_map_or}
 use Rattle.std.proofs.lemmas.Bool.{cases_lt, false≢true, true≢false}
 use Rattle.std.proofs.lemmas.List.{length-map}
+use Rattle.std.proofs.lemmas.List.Elements.{All-filter, All-take}
 use Rattle.std.proofs.lemmas.List.Folds.{Any-from_list_any}
 use Rattle.std.proofs.lemmas.Option.{get_or_from_slice_get, slice_get-get_or, slice_get_cases, slice_get_within}
 use Rattle.ft_model.specs.declared.call.Call.{Call}
@@ -15,6 +16,8 @@ use Rattle.ft_model.specs.declared.call.ListCall.{ListCall}
 use Rattle.ft_model.specs.declared.call.ListCall.TheVariants as list
 use Rattle.ft_model.specs.declared.call.SetCall.{SetCall}
 use Rattle.ft_model.specs.declared.call.SetCall.TheVariants as set
+use Rattle.ft_model.specs.declared.call.DequeCall.{DequeCall}
+use Rattle.ft_model.specs.declared.call.DequeCall.TheVariants as deque
 use Rattle.ft_model.specs.declared.content.Content.{Content}
 use Rattle.ft_model.specs.declared.cursor.Cursor.{Cursor}
 use Rattle.ft_model.specs.declared.data.Key.{Key}
@@ -26,12 +29,13 @@ use Rattle.ft_model.specs.declared.reply.Raise.{Raise}
 use Rattle.ft_model.specs.declared.reply.Raise.TheVariants as raise
 use Rattle.ft_model.specs.declared.reply.Reply.{Reply}
 use Rattle.ft_model.specs.declared.reply.Reply.TheVariants as reply
-use Rattle.ft_model.specs.declared.script.Kind.{Kind}
+use Rattle.ft_model.specs.declared.script.Start.{Start}
 use Rattle.ft_model.specs.declared.script.ScriptParts.{ScriptParts}
 use Rattle.ft_model.specs.declared.script.Thread.{Thread}
 use Rattle.ft_model.specs.Answers.{answer, is_memory, shows}
-use Rattle.ft_model.specs.TableUses.{IsEarnedReply}
-use Rattle.ft_model.specs.Worlds.{kinds_of, list_at}
+use Rattle.ft_model.specs.TableUses.{supply_of, IsEarnedReply, Supply}
+use Rattle.ft_model.specs.Landed.{is_landed_call}
+use Rattle.ft_model.specs.Worlds.{kind_of, list_at, start_hands, start_world, starts_of}
 use Rattle.ft_model.specs.Histories.{calls_of, cursors_of, entries_of, has_call_on, hands_at, names, needs_at, writes, world_at, IsAnswered, IsLegal, IsReplied}
 use Rattle.ft_model.specs.Judging.{IsNext}
 use Rattle.ft_model.specs.Keys.{as_value}
@@ -41,16 +45,18 @@ use Rattle.ft_model.specs.Scripts.{AreStringsOf, IsCallOf, IsKeyOf, IsScript, Is
 use Rattle.ft_history.proofs.FewEntries.{few_of_script}
 use Rattle.ft_history.proofs.GoesAfterLemmas.{few_writes}
 use Rattle.ft_history.proofs.Judged.{few_made}
-use Rattle.ft_history.proofs.ScriptLemmas.{call_of_thread, calls_of-at, no_calls}
+use Rattle.ft_history.proofs.ScriptLemmas.{call_of_thread, calls_of-at, landed_call, no_calls}
 use Rattle.ft_history.proofs.Unbroken.{next_of_legal}
-use Rattle.ft_script.specs.Transcripts.{counts, counts_dict, counts_list, counts_set, IsReadable, IsReadableReply, IsWideCall, IsWideKey, IsWideReply, IsWideValue}
+use Rattle.ft_script.specs.Transcripts.{counts, counts_dict, counts_list, counts_set, counts_deque, IsReadable, IsReadableReply, IsWideCall, IsWideKey, IsWideReply, IsWideValue}
 use Rattle.ft_turns.specs.Internal.Counting.{counted_in}
 use Rattle.ft_turns.specs.ShortReplies.{HasShortReply, IsShortReply}
-use Rattle.ft_turns.proofs.AnswerFacts.{plain_answer}
-use Rattle.ft_turns.proofs.CallParts.{is_counting, is_counting_dict, is_counting_list, is_counting_set, IsCallBy, IsDictCallBy, IsListCallBy, IsSetCallBy}
+use Rattle.ft_turns.proofs.AnswerFacts.{AreOver, IsPlainAnswer, landed_reply, plain_answer}
+use Rattle.ft_turns.proofs.AnswerForms.{is_uncommon}
+use Rattle.ft_turns.proofs.CallParts.{is_counting, is_counting_dict, is_counting_list, is_counting_set, is_counting_deque, IsCallBy, IsDictCallBy, IsListCallBy, IsSetCallBy, IsDequeCallBy}
 use Rattle.ft_turns.proofs.ContentFacts.{GoTogether, IsReplyBy}
-use Rattle.ft_turns.proofs.Going.{asked_of}
+use Rattle.ft_turns.proofs.Going.{asked_of, same_over}
 use Rattle.ft_runner.specs.Findings.{stored}
+use Rattle.ft_runner.proofs.LandedHands.{all_keep, landed_cursors, over_start, KeepsOver}
 use Rattle.ft_runner.proofs.TableHistories.{counted_low, short_end}
 use Rattle.ft_runner.proofs.WorldLemmas.{changes_where_marked, served_at, IsServed}
 
@@ -80,6 +86,7 @@ dict_fits n place (dict.Pop k) s w = (s, w.1.0)
 dict_fits n place (dict.PopOr k v) s w = ((s.0, w.1.0), (s.1, w.1.1.0))
 dict_fits n place (dict.SetDefault k v) s w = ((s.0, w.1.0), (s.1, w.1.1.0))
 dict_fits n place (dict.Has k) s w = (s, w.1.0)
+dict_fits n place (dict.ItemsHas k v) s w = ((s.0, w.1.0), (s.1, w.1.1.0))
 dict_fits n place other s w = tt
 
 list_fits : (n place : ℕ) (called : ListCall) → AreStringsOf n (call.List place called) → IsWideCall (call.List place called) → IsListCallBy (KeyFits n) (ValueFits n) called
@@ -99,10 +106,17 @@ set_fits n place (set.Remove k) s w = (s, w.1.0)
 set_fits n place (set.Has k) s w = (s, w.1.0)
 set_fits n place other s w = tt
 
+deque_fits : (n place : ℕ) (called : DequeCall) → AreStringsOf n (call.Deque place called) → IsWideCall (call.Deque place called) → IsDequeCallBy (KeyFits n) (ValueFits n) called
+deque_fits n place (deque.Append v) s w = (s, w.1.0)
+deque_fits n place (deque.AppendLeft v) s w = (s, w.1.0)
+deque_fits n place (deque.Has v) s w = (s, w.1.0)
+deque_fits n place other s w = tt
+
 pub call_fits : (n : ℕ) (called : Call) → AreStringsOf n called → IsWideCall called → IsCallBy (KeyFits n) (ValueFits n) called
 call_fits n (call.Dict place dict_call) s w = dict_fits n place dict_call s w
 call_fits n (call.List place list_call) s w = list_fits n place list_call s w
 call_fits n (call.Set place set_call) s w = set_fits n place set_call s w
+call_fits n (call.Deque place deque_call) s w = deque_fits n place deque_call s w
 call_fits n other s w = tt
 
 -- ---- calls that count
@@ -119,10 +133,15 @@ counts_set_is : (called : SetCall) → is_counting_set called ≡ counts_set cal
 counts_set_is set.Len = refl
 counts_set_is other = refl
 
+counts_deque_is : (called : DequeCall) → is_counting_deque called ≡ counts_deque called
+counts_deque_is deque.Len = refl
+counts_deque_is other = refl
+
 counts_is : (called : Call) → is_counting called ≡ counts called
 counts_is (call.Dict place dict_call) = counts_dict_is dict_call
 counts_is (call.List place list_call) = counts_list_is list_call
 counts_is (call.Set place set_call) = counts_set_is set_call
+counts_is (call.Deque place deque_call) = counts_deque_is deque_call
 counts_is other = refl
 
 -- no integer as a value
@@ -147,10 +166,15 @@ counted_set : (world : List Content) (hands : List (Option Cursor)) (place : ℕ
 counted_set world hands place set.Len is = tt
 counted_set world hands place other is = absurd (false≢true is)
 
+counted_deque : (world : List Content) (hands : List (Option Cursor)) (place : ℕ) (called : DequeCall) → counts_deque called ≡ true → IsNoInteger (answer world hands (call.Deque place called)).reply
+counted_deque world hands place deque.Len is = tt
+counted_deque world hands place other is = absurd (false≢true is)
+
 counted_reply : (world : List Content) (hands : List (Option Cursor)) (called : Call) → counts called ≡ true → IsNoInteger (answer world hands called).reply
 counted_reply world hands (call.Dict place dict_call) is = counted_dict world hands place dict_call is
 counted_reply world hands (call.List place list_call) is = counted_list world hands place list_call is
 counted_reply world hands (call.Set place set_call) is = counted_set world hands place set_call is
+counted_reply world hands (call.Deque place deque_call) is = counted_deque world hands place deque_call is
 counted_reply world hands other is = absurd (false≢true is)
 
 -- ---- replies
@@ -161,16 +185,17 @@ record ReplyFits (n : ℕ) (counted : Bool) (said : Reply) : Type 0 where
   wide : IsWideReply said
   readable : IsReadableReply counted said
 
-unraised : (n : ℕ) (counted : Bool) (raised : Raise) → is_memory (reply.Raised raised) ≡ false → ReplyFits n counted (reply.Raised raised)
+unraised : (n : ℕ) (counted : Bool) (raised : Raise) → is_uncommon (reply.Raised raised) ≡ false → ReplyFits n counted (reply.Raised raised)
+unraised n counted raise.Moved h = absurd (true≢false h)
 unraised n counted (raise.Memory class) h = absurd (true≢false h)
 unraised n counted other h = record { of_script = tt; wide = tt; readable = tt }
 
 -- a MemoryError that has its cause is of a class
-lacking : (n : ℕ) (counted : Bool) (kinds : List Kind) (tables : List ℕ) (threads : ℕ) (calls : List Call) (mine : List Entry) (called : Call) (said : Reply) → IsEarnedReply kinds tables threads calls mine called said → is_memory said ≡ true → ReplyFits n counted said
-lacking n counted kinds tables threads calls mine called (reply.Raised (raise.Memory class)) earned h = record { of_script = tt; wide = tt; readable = (earned.2.is_class.least, earned.2.is_class.greatest) }
-lacking n counted kinds tables threads calls mine called (reply.Raised raise.Over) earned h = record { of_script = tt; wide = tt; readable = tt }
-lacking n counted kinds tables threads calls mine called (reply.Raised raise.Heap) earned h = absurd earned
-lacking n counted kinds tables threads calls mine called said earned h = absurd (false≢true h)
+lacking : (n : ℕ) (counted : Bool) (starts : List Start) (supply : Supply) (calls : List Call) (mine : List Entry) (called : Call) (said : Reply) → IsEarnedReply starts supply calls mine called said → is_memory said ≡ true → ReplyFits n counted said
+lacking n counted starts supply calls mine called (reply.Raised (raise.Memory class)) earned h = record { of_script = tt; wide = tt; readable = (earned.2.is_class.least, earned.2.is_class.greatest) }
+lacking n counted starts supply calls mine called (reply.Raised raise.Over) earned h = record { of_script = tt; wide = tt; readable = tt }
+lacking n counted starts supply calls mine called (reply.Raised raise.Heap) earned h = absurd (false≢true earned.landed)
+lacking n counted starts supply calls mine called said earned h = absurd (false≢true h)
 
 uncounted : (counted : Bool) (i : ℤ) → (counted ≡ true → IsNoInteger (reply.Value (value.Int i))) → counted ≡ false
 uncounted true i none = absurd (none refl)
@@ -185,20 +210,21 @@ value_reply n counted (value.Text symbol) h none = record { of_script = h.0; wid
 abbrev Counts : Bool → ℕ → Type 0
 Counts counted count = (counted ≡ true) × (count < 2 ^ 63)
 
-reply_fits : (n : ℕ) (counted : Bool) (said : Reply) → IsReplyBy (KeyFits n) (ValueFits n) (Counts counted) said → (counted ≡ true → IsNoInteger said) → is_memory said ≡ false → ReplyFits n counted said
-reply_fits n counted reply.Done h none memory = record { of_script = tt; wide = tt; readable = tt }
-reply_fits n counted (reply.Value v) h none memory = value_reply n counted v h none
-reply_fits n counted (reply.Pair k v) h none memory = record { of_script = (h.0.0, h.1.0); wide = (h.0.1, h.1.1); readable = tt }
-reply_fits n counted (reply.Truth b) h none memory = record { of_script = tt; wide = tt; readable = tt }
-reply_fits n counted (reply.Count count) h none memory = record { of_script = tt; wide = tt; readable = h }
-reply_fits n counted (reply.Dict pairs) h none memory = record { of_script = λ i d low. ((h i d low).0.0, (h i d low).1.0); wide = λ i d low. ((h i d low).0.1, (h i d low).1.1); readable = tt }
-reply_fits n counted (reply.List items) h none memory = record { of_script = λ i d low. (h i d low).0; wide = λ i d low. (h i d low).1; readable = tt }
-reply_fits n counted (reply.Set elements) h none memory = record { of_script = λ i d low. (h i d low).0; wide = λ i d low. (h i d low).1; readable = tt }
-reply_fits n counted reply.Stop h none memory = record { of_script = tt; wide = tt; readable = tt }
-reply_fits n counted reply.Entered h none memory = record { of_script = tt; wide = tt; readable = tt }
-reply_fits n counted reply.Kept h none memory = record { of_script = tt; wide = tt; readable = tt }
-reply_fits n counted (reply.Suspended count) h none memory = absurd h
-reply_fits n counted (reply.Raised raised) h none memory = unraised n counted raised memory
+reply_fits : (n : ℕ) (counted : Bool) (said : Reply) → IsReplyBy (KeyFits n) (ValueFits n) (Counts counted) said → (counted ≡ true → IsNoInteger said) → is_uncommon said ≡ false → ReplyFits n counted said
+reply_fits n counted reply.Done h none common = record { of_script = tt; wide = tt; readable = tt }
+reply_fits n counted (reply.Value v) h none common = value_reply n counted v h none
+reply_fits n counted (reply.Pair k v) h none common = record { of_script = (h.0.0, h.1.0); wide = (h.0.1, h.1.1); readable = tt }
+reply_fits n counted (reply.Truth b) h none common = record { of_script = tt; wide = tt; readable = tt }
+reply_fits n counted (reply.Count count) h none common = record { of_script = tt; wide = tt; readable = h }
+reply_fits n counted (reply.Dict pairs) h none common = record { of_script = λ i d low. ((h i d low).0.0, (h i d low).1.0); wide = λ i d low. ((h i d low).0.1, (h i d low).1.1); readable = tt }
+reply_fits n counted (reply.List items) h none common = record { of_script = λ i d low. (h i d low).0; wide = λ i d low. (h i d low).1; readable = tt }
+reply_fits n counted (reply.Set elements) h none common = record { of_script = λ i d low. (h i d low).0; wide = λ i d low. (h i d low).1; readable = tt }
+reply_fits n counted (reply.World world) h none common = absurd (true≢false common)
+reply_fits n counted reply.Stop h none common = record { of_script = tt; wide = tt; readable = tt }
+reply_fits n counted reply.Entered h none common = record { of_script = tt; wide = tt; readable = tt }
+reply_fits n counted reply.Kept h none common = record { of_script = tt; wide = tt; readable = tt }
+reply_fits n counted (reply.Suspended count) h none common = absurd h
+reply_fits n counted (reply.Raised raised) h none common = unraised n counted raised common
 
 ended_fits : (n : ℕ) (said : Reply) → (said ≡ reply.Kept) ⊎ ((count : ℕ) × (said ≡ reply.Suspended count)) → IsShortReply said → ReplyFits n false said
 ended_fits n said (inl kept) short = subst (ReplyFits n false) (sym kept) (record { of_script = tt; wide = tt; readable = tt })
@@ -219,6 +245,9 @@ replied_fits n call.Quiesce said plain replied short lacks fits = subst (ReplyFi
 replied_fits n (call.Dict place dict_call) said plain replied short lacks fits = plain_is n _ said plain replied lacks fits
 replied_fits n (call.List place list_call) said plain replied short lacks fits = plain_is n _ said plain replied lacks fits
 replied_fits n (call.Set place set_call) said plain replied short lacks fits = plain_is n _ said plain replied lacks fits
+replied_fits n (call.Deque place deque_call) said plain replied short lacks fits = plain_is n _ said plain replied lacks fits
+replied_fits n call.Dump said plain replied short lacks fits = plain_is n _ said plain replied lacks fits
+replied_fits n (call.Await other index) said plain replied short lacks fits = subst (ReplyFits n false) (sym replied) (record { of_script = tt; wide = tt; readable = tt })
 replied_fits n (call.Next cursor) said plain replied short lacks fits = plain_is n _ said plain replied lacks fits
 
 -- ---- entries
@@ -262,6 +291,7 @@ module _ (script : ScriptParts) (rule : IsScript script) where
         call : IsCallOf script (cursors_of script entry.thread) entry.call
         fits : IsCallBy (KeyFits (length script.strings)) (ValueFits (length script.strings)) entry.call
         wide_of : IsWideCall entry.call
+        landed : is_landed_call entry.call ≡ true
 
       own_call : (place : ℕ) (entry : Entry) → slice_get entries place ≡ Some entry → IsOwn entry
       own_call place entry at =
@@ -273,7 +303,7 @@ module _ (script : ScriptParts) (rule : IsScript script) where
             | inr past ↦ absurd (no_calls script entry.thread made entry.call past.0 next.call)
           ] in
           let wide_of = wide_call entry.thread made entry.call next.call in
-          record { thread = low; call = call; fits = call_fits (length script.strings) entry.call call.strings wide_of; wide_of = wide_of }
+          record { thread = low; call = call; fits = call_fits (length script.strings) entry.call call.strings wide_of; wide_of = wide_of; landed = landed_call script rule entry.thread made entry.call next.call }
 
       own_at : (place : ℕ) (d : Entry) → place < length entries → IsOwn (get_or entries place d)
       own_at place d low = own_call place (get_or entries place d) (slice_get-get_or entries place d low)
@@ -295,6 +325,38 @@ module _ (script : ScriptParts) (rule : IsScript script) where
       few : length entries ≤ 500000
       few = few_of_script script entries rule (λ thread. let same : length (map (λ (e : Entry). e.call) (entries_of thread entries)) ≡ length (calls_of script thread) = ap length (legal.chronicle.whole.calls thread) in omega (arith, length-map (entries_of thread entries) (λ (e : Entry). e.call)))
 
+      -- what a call counts there is within what a reply can count
+      counting_at : (place : ℕ) (entry : Entry) → slice_get entries place ≡ Some entry → is_counting entry.call ≡ true → (count : ℕ) → count ≤ counted_in (world_at script entries entry.stamp) entry.call → Counts (counts entry.call) count
+      counting_at place entry at is count le = (sym (counts_is entry.call) ∙ is, let most = counted_low script entries rule legal place entry at in omega (arith, le, most))
+
+      plain_at : (place : ℕ) (entry : Entry) → slice_get entries place ≡ Some entry → (hands : List (Option Cursor)) → IsPlainAnswer (KeyFits (length script.strings)) (ValueFits (length script.strings)) (Counts (counts entry.call)) (world_at script entries entry.stamp) hands entry.call
+      plain_at place entry at hands =
+          let strings = length script.strings in
+          let own = own_call place entry at in
+          let there = served entry.stamp in
+          plain_answer (KeyFits strings) (ValueFits strings) (Counts (counts entry.call)) (fit_together strings) (world_at script entries entry.stamp) there.contents hands entry.call own.fits (asked_of script.containers (world_at script entries entry.stamp) there.kinds (cursors_of script entry.thread) entry.call own.call.names) (counting_at place entry at)
+
+      -- the world at a place has the kinds of the first one
+      same_kinds : (n : ℕ) → map kind_of (world_at script entries n) ≡ map kind_of (start_world script.containers)
+      same_kinds n = (served n).kinds ∙ sym (served 0).kinds
+
+      keeps_over : All (KeepsOver (starts_of script.containers) (writes entries) (start_world script.containers)) entries
+      keeps_over place d low = λ hands over.
+          let entry = get_or entries place d in
+          let world = world_at script entries entry.stamp in
+          let left = (answer world hands entry.call).hands in
+          let at : slice_get entries place ≡ Some entry = slice_get-get_or entries place d low in
+          same_over world (start_world script.containers) left (sym (same_kinds entry.stamp)) ((plain_at place entry at hands).fits (same_over (start_world script.containers) world hands (same_kinds entry.stamp) over))
+
+      hands_over : (thread place n : ℕ) → AreOver (world_at script entries n) (hands_at script entries thread place)
+      hands_over thread place n =
+          let start = start_world script.containers in
+          let Keeps = KeepsOver (starts_of script.containers) (writes entries) start in
+          same_over start (world_at script entries n) (hands_at script entries thread place) (same_kinds n)
+          (all_keep (starts_of script.containers) (writes entries) start (entries_of thread (take place entries)) (start_hands (cursors_of script thread))
+          (All-filter (λ (e : Entry). e.thread == thread) Keeps (take place entries) (All-take Keeps place entries keeps_over))
+          (over_start start (cursors_of script thread)))
+
       reply_at : (place : ℕ) (entry : Entry) → slice_get entries place ≡ Some entry → ReplyFits (length script.strings) (counts entry.call) entry.reply
       reply_at place entry at =
           let strings = length script.strings in
@@ -303,17 +365,18 @@ module _ (script : ScriptParts) (rule : IsScript script) where
           let world = world_at script entries entry.stamp in
           let hands = hands_at script entries entry.thread place in
           let there = served entry.stamp in
-          let counting : is_counting entry.call ≡ true → (count : ℕ) → count ≤ counted_in world entry.call → Counts (counts entry.call) count =
-          λ is count le. (sym (counts_is entry.call) ∙ is, let most = counted_low script entries rule legal place entry at in omega (arith, le, most)) in
-          let plain = plain_answer (KeyFits strings) (ValueFits strings) (Counts (counts entry.call)) (fit_together strings) world there.contents hands entry.call own.fits (asked_of script.containers world there.kinds (cursors_of script entry.thread) entry.call own.call.names) counting in
+          let plain = plain_at place entry at hands in
           let plain_reply = (answer world hands entry.call).reply in
+          let common : is_uncommon plain_reply ≡ false =
+              landed_reply (KeyFits strings) (ValueFits strings) (Counts (counts entry.call)) (fit_together strings) world there.contents hands entry.call own.fits (asked_of script.containers world there.kinds (cursors_of script entry.thread) entry.call own.call.names) (counting_at place entry at) own.landed
+              (landed_cursors script rule world there.kinds hands (hands_over entry.thread place entry.stamp)) in
           replied_fits strings entry.call entry.reply plain_reply answered.reply (λ ends. short_end script entries rule legal few place entry at ends)
-          (lacking strings (counts entry.call) (kinds_of script.containers) script.tables (length script.threads) (writes (take place entries)) (entries_of entry.thread (take place entries)) entry.call entry.reply (legal.chronicle.earned place entry at))
+          (lacking strings (counts entry.call) (starts_of script.containers) (supply_of script) (writes (take place entries)) (entries_of entry.thread (take place entries)) entry.call entry.reply (legal.chronicle.earned place entry at))
           (λ is memory.
           reply_fits strings (counts entry.call) entry.reply
           (subst (IsReplyBy (KeyFits strings) (ValueFits strings) (Counts (counts entry.call))) (sym is) plain.reply)
           (λ counted. subst IsNoInteger (sym is) (counted_reply world hands entry.call counted))
-          memory)
+          (ap is_uncommon is ∙ common))
 
       pub readable_at : (place : ℕ) (entry : Entry) → slice_get entries place ≡ Some entry → IsReadable script entry
       readable_at place entry at =
@@ -336,6 +399,7 @@ module _ (script : ScriptParts) (rule : IsScript script) where
             first_index = omega arith;
             last_index = omega arith;
             stamp = omega arith;
+            landed = own.landed;
             call = own.wide_of;
             reply = fits.readable;
             said = fits.wide;

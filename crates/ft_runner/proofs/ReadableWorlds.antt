@@ -32,30 +32,35 @@ as_reply : Content → Reply
 as_reply (content.Dict dict) = reply.Dict (map (λ (pair : DictPair). (pair.key, pair.value)) dict.pairs)
 as_reply (content.List items) = reply.List items
 as_reply (content.Set set) = reply.Set (map (λ (element : Element). element.key) set.elements)
+as_reply (content.Deque deque) = reply.List deque.items
 
-said_alike : (strings : List (List ℕ)) (c : Content) → content_text strings c ≡ reply_text strings (as_reply c)
+said_alike : (script : ScriptParts) (c : Content) → content_text script.strings c ≡ reply_text script (as_reply c)
 unfolding as_reply
-said_alike strings (content.Dict dict) = ap braced_text (sym (map-map (pair_text strings) (λ (pair : DictPair). (pair.key, pair.value)) dict.pairs))
-said_alike strings (content.List items) = refl
-said_alike strings (content.Set set) = ap elements_text (sym (map-map (key_text strings) (λ (element : Element). element.key) set.elements))
+said_alike script (content.Dict dict) = ap braced_text (sym (map-map (pair_text script.strings) (λ (pair : DictPair). (pair.key, pair.value)) dict.pairs))
+said_alike script (content.List items) = refl
+said_alike script (content.Set set) = ap elements_text (sym (map-map (key_text script.strings) (λ (element : Element). element.key) set.elements))
+said_alike script (content.Deque deque) = refl
 
 whole : (c : Content) → IsContentReply (as_reply c)
 unfolding as_reply
 whole (content.Dict dict) = tt
 whole (content.List items) = tt
 whole (content.Set set) = tt
+whole (content.Deque deque) = tt
 
 module _ (n : ℕ) where
   of_script : (c : Content) → IsContentBy (KeyFits n) (ValueFits n) c → IsReplyOf n (as_reply c)
   unfolding as_reply
   of_script (content.Dict dict) h = All-map (λ (pair : Key × Value). IsKeyOf n pair.0 × IsValueOf n pair.1) (λ (pair : DictPair). (pair.key, pair.value)) dict.pairs (λ i d low. ((h i d low).0.0, (h i d low).1.0))
   of_script (content.List items) h = λ i d low. (h i d low).0
+  of_script (content.Deque deque) h = λ i d low. (h i d low).0
   of_script (content.Set set) h = All-map (IsKeyOf n) (λ (element : Element). element.key) set.elements (λ i d low. (h i d low).0)
 
   wide : (c : Content) → IsContentBy (KeyFits n) (ValueFits n) c → IsWideReply (as_reply c)
   unfolding as_reply
   wide (content.Dict dict) h = All-map (λ (pair : Key × Value). IsWideKey pair.0 × IsWideValue pair.1) (λ (pair : DictPair). (pair.key, pair.value)) dict.pairs (λ i d low. ((h i d low).0.1, (h i d low).1.1))
   wide (content.List items) h = λ i d low. (h i d low).1
+  wide (content.Deque deque) h = λ i d low. (h i d low).1
   wide (content.Set set) h = All-map IsWideKey (λ (element : Element). element.key) set.elements (λ i d low. (h i d low).1)
 
 -- ---- its line
@@ -86,7 +91,7 @@ module _ (script : ScriptParts) where
         whole = whole c;
         of_script = of_script (length script.strings) c fits;
         wide = wide (length script.strings) c fits;
-        written = ap₂ (λ (front text : List ℕ). line (front ∷ codes "=" ∷ text ∷ [])) name (said_alike script.strings c);
+        written = ap₂ (λ (front text : List ℕ). line (front ∷ codes "=" ∷ text ∷ [])) name (said_alike script c);
       }
 
   pub readable_lines : (world : List Content) → length world ≡ length script.containers → All (IsContentBy (KeyFits (length script.strings)) (ValueFits (length script.strings))) world → All (IsContentLine script) (lines_of_world world)

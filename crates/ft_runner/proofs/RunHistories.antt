@@ -1,7 +1,7 @@
 -- What a run has made is a legal history: judging it finds so. Its MemoryErrors fit.
-use Rattle.std.proofs.Common.{◌≡◌, ℕ, List, Ok, Option, Some, None, refl, sym, ap, subst, inl, inr, take}
+use Rattle.std.proofs.Common.{◌≡◌, ℕ, Bool, true, false, List, Ok, Option, Some, None, refl, sym, ap, subst, inl, inr, take}
 use Rattle.std.specs.Prelude.{All, length}
-use Rattle.std.proofs.lemmas.Bool.{cases_eq}
+use Rattle.std.proofs.lemmas.Bool.{cases_eq, false≢true}
 use Rattle.std.proofs.lemmas.Grind.{not_there}
 use Rattle.std.proofs.lemmas.Option.{none-some}
 use Rattle.ft_history.proofs.OneVerdict.{one_verdict}
@@ -16,6 +16,7 @@ use Rattle.ft_model.specs.declared.reply.Raise.TheVariants as raise
 use Rattle.ft_model.specs.declared.reply.Reply.{Reply}
 use Rattle.ft_model.specs.declared.reply.Reply.TheVariants as reply
 use Rattle.ft_model.specs.declared.script.ScriptParts.{ScriptParts}
+use Rattle.ft_model.specs.Boxings.{boxes}
 use Rattle.ft_model.specs.Histories.{writes, world_at, IsLegal}
 use Rattle.ft_model.specs.Numbers.{AreFitting, IsHistoryOf}
 use Rattle.ft_model.specs.Parts.{IsEntryOf, IsWorldOf}
@@ -41,8 +42,13 @@ class_there (Some other) class twice =
       | inr differs ↦ absurd (twice (λ same. differs (let is : other ≡ class = cc in is)))
     ]
 
+is_there : (b : Bool) → ¬ (¬ (b ≡ true)) → b ≡ true
+is_there true twice = refl
+is_there false twice = absurd (twice (λ same. false≢true same))
+
 fits_there : (stored : StoredWorld) (called : Call) (said : Reply) → ¬ (¬ (IsFittingReply stored called said)) → IsFittingReply stored called said
 fits_there stored called (reply.Raised (raise.Memory class)) twice = class_there (takes_in stored called) class twice
+fits_there stored called (reply.Raised raise.Heap) twice = is_there (boxes stored.world called) twice
 fits_there stored called other twice = tt
 
 -- its MemoryErrors fit

@@ -1,6 +1,6 @@
 -- What holds of a legal history whose containers are on tables: they have no more than the largest table holds, so that
 -- what replies count is low.
-use Rattle.std.proofs.Common.{◌≡◌, ◌∙◌, ℕ, zero, suc, ◌+◌, ◌≤◌, false, List, [], ◌∷◌, length, get_or, take, Some, refl, sym, ap, subst, inl, inr, arith, ◌⊎◌}
+use Rattle.std.proofs.Common.{◌≡◌, ◌∙◌, ℕ, zero, suc, ◌+◌, ◌≤◌, false, List, [], ◌∷◌, length, get_or, take, None, Some, refl, sym, ap, subst, inl, inr, arith, ◌⊎◌}
 use Rattle.std.specs.Prelude.{All, slice_get}
 use Rattle.std.specs.List.{between}
 use Rattle.std.proofs.lemmas.Bool.{ltb-false}
@@ -23,7 +23,8 @@ use Rattle.ft_model.specs.Contents.{empty_dict, empty_set}
 use Rattle.ft_model.specs.Histories.{hands_at, is_marked, marks_between, sections_at, writes, world_at, IfEnds, IfInnermost, IsAnswered, IsCountedBy, IsLegal, IsReplied, Section}
 use Rattle.ft_model.specs.Scripts.{IsScript}
 use Rattle.ft_model.specs.TableUses.{passes_cap, stored_after}
-use Rattle.ft_model.specs.Worlds.{dict_of, kinds_of, list_of, set_of}
+use Rattle.ft_model.specs.Deques.{empty_deque}
+use Rattle.ft_model.specs.Worlds.{deque_of, dict_of, list_of, set_of, starts_of}
 use Rattle.ft_model.proofs.LegalTables.{order-legal}
 use Rattle.ft_model.proofs.StoredLaws.{stored_world}
 use Rattle.ft_model.proofs.TableOrder.{order-caps}
@@ -47,29 +48,39 @@ dict_low : (there : Content) → IsCapped there → length (dict_of there).pairs
 dict_low (content.Dict dict) capped = let le : length dict.pairs ≤ 43690 = ltb-false most_pairs (length dict.pairs) capped in omega (arith, le)
 dict_low (content.List items) capped = omega arith
 dict_low (content.Set set) capped = omega arith
+dict_low (content.Deque deque) capped = omega arith
 
 list_low : (there : Content) → IsCapped there → length (list_of there) ≤ 65536
 list_low (content.Dict dict) capped = omega arith
 list_low (content.List items) capped = let le : length items ≤ 65536 = ltb-false most_items (length items) capped in omega (arith, le)
 list_low (content.Set set) capped = omega arith
+list_low (content.Deque deque) capped = omega arith
 
 set_low : (there : Content) → IsCapped there → length (set_of there).elements ≤ 65536
 set_low (content.Dict dict) capped = omega arith
 set_low (content.List items) capped = omega arith
 set_low (content.Set set) capped = let le : length set.elements ≤ 39321 = ltb-false most_elements (length set.elements) capped in omega (arith, le)
+set_low (content.Deque deque) capped = omega arith
+
+deque_low : (there : Content) → IsCapped there → length (deque_of there).items ≤ 65536
+deque_low (content.Dict dict) capped = omega arith
+deque_low (content.List items) capped = omega arith
+deque_low (content.Set set) capped = omega arith
+deque_low (content.Deque deque) capped = let le : length deque.items ≤ 65536 = ltb-false most_items (length deque.items) capped in omega (arith, le)
 
 counted_capped : (world : List Content) → All IsCapped world → (called : Call) → counted_in world called ≤ 65536
 counted_capped world each (call.Dict place dict_call) = dict_low (get_or world place (content.Dict empty_dict)) (at_or world place (content.Dict empty_dict) refl each)
 counted_capped world each (call.List place list_call) = list_low (get_or world place (content.List [])) (at_or world place (content.List []) refl each)
 counted_capped world each (call.Set place set_call) = set_low (get_or world place (content.Set empty_set)) (at_or world place (content.Set empty_set) refl each)
+counted_capped world each (call.Deque place deque_call) = deque_low (get_or world place (content.Deque (empty_deque None))) (at_or world place (content.Deque (empty_deque None)) refl each)
 counted_capped world each other = omega arith
 
 -- ---- the world that an entry finds
 
 stored_here : (script : ScriptParts) (entries : List Entry) (place stamp : ℕ) → stamp ≡ length (writes (take place entries)) → (stored_after script (writes (take place entries))).world ≡ world_at script entries stamp
 stored_here script entries place stamp is =
-    let kinds = kinds_of script.containers in
-    stored_world kinds (writes (take place entries)) ∙ ap (world_by kinds) (sym (writes_before entries place)) ∙ ap (world_at script entries) (sym is)
+    let starts = starts_of script.containers in
+    stored_world starts (writes (take place entries)) ∙ ap (world_by starts) (sym (writes_before entries place)) ∙ ap (world_at script entries) (sym is)
 
 -- where a call counts, it counts no more than the largest table holds
 pub counted_low : (script : ScriptParts) (entries : List Entry) → IsScript script → IsLegal storage.Tables script entries → (place : ℕ) (entry : Entry) → slice_get entries place ≡ Some entry → counted_in (world_at script entries entry.stamp) entry.call ≤ 65536

@@ -15,12 +15,13 @@ use Rattle.ft_model.specs.declared.script.Declaration.{Declaration}
 use Rattle.ft_model.specs.declared.script.Kind.{Kind}
 use Rattle.ft_model.specs.declared.script.Kind.TheVariants as kind
 use Rattle.ft_model.specs.declared.script.ScriptParts.{ScriptParts}
+use Rattle.ft_model.specs.declared.script.Start.{Start}
 use Rattle.ft_model.specs.Answers.{after_write}
 use Rattle.ft_model.specs.Calls.{is_changing}
 use Rattle.ft_model.specs.Histories.{cursors_of, writes, world_at, IsLegal}
 use Rattle.ft_model.specs.Parts.{IsEntryOf, IsWorldOf}
 use Rattle.ft_model.specs.Scripts.{IsKeyOf, IsValueOf, NamesOf}
-use Rattle.ft_model.specs.Worlds.{empty_content, kind_of, kinds_of, no_hands, start_world}
+use Rattle.ft_model.specs.Worlds.{empty_content, kind_of, no_hands, start_world, starts_of}
 use Rattle.ft_history.proofs.StartLemmas.{kinds_at_start}
 use Rattle.ft_turns.proofs.AnswerFacts.{IsAny, contents_of, plain_answer, strings_together}
 use Rattle.ft_turns.proofs.CallParts.{IsCallBy, strings_of}
@@ -33,7 +34,7 @@ module _ (script : ScriptParts) (K : Key → Type 0) (V : Value → Type 0) (tog
   pub record IsServed (world : List Content) : Type 0 where
     pub contents : All (IsContentBy K V) world
     pub containers : length world ≡ length script.containers
-    pub kinds : map kind_of world ≡ map (λ (declared : Declaration). declared.kind) script.containers
+    pub kinds : map kind_of world ≡ map (λ (declared : Declaration). declared.start.kind) script.containers
 
   -- a call that changes, which names what the script declares, and of whose keys and values it is said
   pub record IsFair (called : Call) : Type 0 where
@@ -55,12 +56,13 @@ module _ (script : ScriptParts) (K : Key → Type 0) (V : Value → Type 0) (tog
   nothing_in kind.Dict = All-nil (IsPairBy K V)
   nothing_in kind.List = All-nil V
   nothing_in kind.Set = All-nil (IsElementBy K)
+  nothing_in (kind.Deque bound) = All-nil V
 
   at_start : IsServed (start_world script.containers)
   at_start =
       record {
-        contents = All-map (IsContentBy K V) empty_content (kinds_of script.containers) (λ place d low. nothing_in (get_or (kinds_of script.containers) place d));
-        containers = length-map (kinds_of script.containers) empty_content ∙ length-map script.containers (λ (c : Declaration). c.kind);
+        contents = All-map (IsContentBy K V) (λ (start : Start). empty_content start.kind) (starts_of script.containers) (λ place d low. nothing_in (get_or (starts_of script.containers) place d).kind);
+        containers = length-map (starts_of script.containers) (λ (start : Start). empty_content start.kind) ∙ length-map script.containers (λ (c : Declaration). c.start);
         kinds = kinds_at_start script.containers;
       }
 

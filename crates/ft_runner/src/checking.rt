@@ -167,6 +167,7 @@ fn rule_word(rule: Rule) -> &'static str
         Rule::Stamp => "stamp",
         Rule::Order => "order",
         Rule::Reply => "reply",
+        Rule::Await => "await",
         Rule::Mark => "mark",
         Rule::Kept => "kept",
         Rule::Suspended => "suspended",

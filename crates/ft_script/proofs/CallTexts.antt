@@ -5,7 +5,7 @@ use Rattle.std.specs.List.{AllByRecursion}
 use Rattle.std.specs.Fmt.{signed_decimal}
 use Rattle.std.specs.Option.{option_map_or}
 use Rattle.std.specs.Str.{bytes_eq}
-use Rattle.std.proofs.lemmas.Bool.{ne_eqb, le-ltb}
+use Rattle.std.proofs.lemmas.Bool.{false≢true, ne_eqb, le-ltb}
 use Rattle.std.proofs.lemmas.Option.{slice_get-get_or}
 use Rattle.ft_model.specs.declared.data.Key.{Key}
 use Rattle.ft_model.specs.declared.data.Key.TheVariants as key
@@ -19,13 +19,15 @@ use Rattle.ft_model.specs.declared.call.ListCall.{ListCall}
 use Rattle.ft_model.specs.declared.call.ListCall.TheVariants as list
 use Rattle.ft_model.specs.declared.call.SetCall.{SetCall}
 use Rattle.ft_model.specs.declared.call.SetCall.TheVariants as set
+use Rattle.ft_model.specs.declared.call.DequeCall.TheVariants as deque
 use Rattle.ft_model.specs.declared.script.Declaration.{Declaration}
 use Rattle.ft_model.specs.declared.script.Kind.{Kind}
 use Rattle.ft_model.specs.declared.script.Kind.TheVariants as kind
 use Rattle.ft_model.specs.declared.script.ScriptParts.{ScriptParts}
 use Rattle.ft_model.specs.Histories.{cursors_of}
 use Rattle.ft_model.specs.Names.{is_container_name, IsString}
-use Rattle.ft_model.specs.Scripts.{IsKeyOf, IsValueOf, IsDeclaredAs, IsCallOf}
+use Rattle.ft_model.specs.Landed.{is_landed_call}
+use Rattle.ft_model.specs.Scripts.{IsKeyOf, IsValueOf, kind_at, IsDeclaredAs, IsCallOf}
 use Rattle.ft_model.specs.Keys.{as_value}
 use Rattle.ft_script.specs.declared.call_words.CallWord.{CallWord}
 use Rattle.ft_script.specs.declared.call_words.CallWord.TheVariants.{Next, Begin, End, Quiesce, On}
@@ -55,10 +57,16 @@ pub record Declares (script : ScriptParts) (thread : ℕ) : Type 0 where
   pub cursor_place : (number : ℕ) → number < cursors_of script thread → text_place (draft_at script thread).cursors (cursor_name script thread number) ≡ Some number
   pub cursor_form : (number : ℕ) → number < cursors_of script thread → is_container_name (cursor_name script thread number) ≡ true
 
+kind_low : (containers : List Declaration) (of_kind : Kind) (place : ℕ) → kind_at containers place ≡ Some of_kind → place < length containers
+kind_low [] of_kind place h = absurd cc
+kind_low (c ∷ containers) of_kind zero h = omega arith
+kind_low (c ∷ containers) of_kind (suc place) h = let low : place < length containers = kind_low containers of_kind place h in omega arith
+
 declared_low : (containers : List Declaration) (of_kind : Kind) (place : ℕ) → IsDeclaredAs containers of_kind place → place < length containers
-declared_low [] of_kind place h = absurd cc
-declared_low (c ∷ containers) of_kind zero h = omega arith
-declared_low (c ∷ containers) of_kind (suc place) h = let low : place < length containers = declared_low containers of_kind place h in omega arith
+declared_low containers kind.Dict place h = kind_low containers kind.Dict place h
+declared_low containers kind.List place h = kind_low containers kind.List place h
+declared_low containers kind.Set place h = kind_low containers kind.Set place h
+declared_low containers (kind.Deque _) place h = kind_low containers (kind.Deque h.0) place h.1
 
 pub container_name_at : (script : ScriptParts) (place : ℕ) (d : Declaration) → place < length script.containers → container_name script place ≡ (get_or script.containers place d).name
 container_name_at script place d low = ap (λ (o : Option Declaration). option_map_or (λ (found : Declaration). found.name) o []) (slice_get-get_or script.containers place d low)
@@ -66,7 +74,7 @@ container_name_at script place d low = ap (λ (o : Option Declaration). option_m
 pub container_place_at : (script : ScriptParts) (place : ℕ) → AllPairs (λ a b. a.name ≢ b.name) script.containers → place < length script.containers → container_place script.containers (container_name script place) ≡ Some place
 container_place_at script place differ low =
     let name : List ℕ = container_name script place in
-    let d : Declaration = record { kind = kind.Dict; name = [] } in
+    let d : Declaration = record { start = record { kind = kind.Dict; keys = [] }; name = [] } in
     let is : name ≡ (get_or script.containers place d).name = container_name_at script place d low in
     position_at (λ container. bytes_eq container.name name) script.containers place d low
     (λ k below. bytes_differ (get_or script.containers k d).name name (λ same. differ k place d below low (same ∙ is)))
@@ -137,6 +145,12 @@ head_is (call.Dict place dict.Clear) = (word_is_cut (codes "clear") (refl, refl)
 head_is (call.Dict place (dict.CopyTo o)) = (word_is_cut (codes "copyto") (refl, refl), refl)
 head_is (call.Dict place (dict.Eq o)) = (word_is_cut (codes "eq") (refl, refl), refl)
 head_is (call.Dict place (dict.Iter c)) = (word_is_cut (codes "iter") (refl, refl), refl)
+head_is (call.Dict place (dict.KeysAnd o)) = (word_is_cut (codes "keysand") (refl, refl), refl)
+head_is (call.Dict place (dict.KeysSub o)) = (word_is_cut (codes "keyssub") (refl, refl), refl)
+head_is (call.Dict place (dict.KeysOr o)) = (word_is_cut (codes "keysor") (refl, refl), refl)
+head_is (call.Dict place (dict.KeysXor o)) = (word_is_cut (codes "keysxor") (refl, refl), refl)
+head_is (call.Dict place (dict.ItemsHas k v)) = (word_is_cut (codes "itemshas") (refl, refl), refl)
+head_is (call.Dict place (dict.Reversed c)) = (word_is_cut (codes "riter") (refl, refl), refl)
 head_is (call.List place (list.Append v)) = (word_is_cut (codes "append") (refl, refl), refl)
 head_is (call.List place (list.Insert i v)) = (word_is_cut (codes "insert") (refl, refl), refl)
 head_is (call.List place (list.Get i)) = (word_is_cut (codes "get") (refl, refl), refl)
@@ -156,6 +170,7 @@ head_is (call.List place list.Len) = (word_is_cut (codes "len") (refl, refl), re
 head_is (call.List place list.Items) = (word_is_cut (codes "items") (refl, refl), refl)
 head_is (call.List place (list.Eq o)) = (word_is_cut (codes "eq") (refl, refl), refl)
 head_is (call.List place (list.Iter c)) = (word_is_cut (codes "iter") (refl, refl), refl)
+head_is (call.List place (list.Reversed c)) = (word_is_cut (codes "riter") (refl, refl), refl)
 head_is (call.Set place (set.Add k)) = (word_is_cut (codes "add") (refl, refl), refl)
 head_is (call.Set place (set.Discard k)) = (word_is_cut (codes "discard") (refl, refl), refl)
 head_is (call.Set place (set.Remove k)) = (word_is_cut (codes "remove") (refl, refl), refl)
@@ -172,15 +187,30 @@ head_is (call.Set place (set.Subset o)) = (word_is_cut (codes "subset") (refl, r
 head_is (call.Set place (set.Disjoint o)) = (word_is_cut (codes "disjoint") (refl, refl), refl)
 head_is (call.Set place set.Clear) = (word_is_cut (codes "clear") (refl, refl), refl)
 head_is (call.Set place (set.Iter c)) = (word_is_cut (codes "iter") (refl, refl), refl)
+head_is (call.Deque place (deque.Append v)) = (word_is_cut (codes "append") (refl, refl), refl)
+head_is (call.Deque place (deque.AppendLeft v)) = (word_is_cut (codes "appendleft") (refl, refl), refl)
+head_is (call.Deque place deque.Pop) = (word_is_cut (codes "pop") (refl, refl), refl)
+head_is (call.Deque place deque.PopLeft) = (word_is_cut (codes "popleft") (refl, refl), refl)
+head_is (call.Deque place (deque.Extend o)) = (word_is_cut (codes "extend") (refl, refl), refl)
+head_is (call.Deque place (deque.ExtendLeft o)) = (word_is_cut (codes "extendleft") (refl, refl), refl)
+head_is (call.Deque place (deque.Rotate i)) = (word_is_cut (codes "rotate") (refl, refl), refl)
+head_is (call.Deque place deque.Clear) = (word_is_cut (codes "clear") (refl, refl), refl)
+head_is (call.Deque place (deque.Get i)) = (word_is_cut (codes "get") (refl, refl), refl)
+head_is (call.Deque place deque.Len) = (word_is_cut (codes "len") (refl, refl), refl)
+head_is (call.Deque place deque.Items) = (word_is_cut (codes "items") (refl, refl), refl)
+head_is (call.Deque place (deque.Has v)) = (word_is_cut (codes "has") (refl, refl), refl)
+head_is (call.Deque place (deque.Iter c)) = (word_is_cut (codes "iter") (refl, refl), refl)
 head_is (call.Next number) = (word_is_cut (codes "next") (refl, refl), refl)
 head_is (call.Begin first None) = (word_is_cut (codes "begin") (refl, refl), refl)
 head_is (call.Begin first (Some second)) = (word_is_cut (codes "begin") (refl, refl), refl)
 head_is call.End = (word_is_cut (codes "end") (refl, refl), refl)
 head_is call.Quiesce = (word_is_cut (codes "quiesce") (refl, refl), refl)
+head_is (call.Await other index) = (word_is_cut (codes "await") (refl, refl), refl)
+head_is call.Dump = (word_is_cut (codes "dump") (refl, refl), refl)
 
 -- ---- arguments
 
-arguments_are : (script : ScriptParts) (thread : ℕ) (called : Call) → IsCallOf script (cursors_of script thread) called → AllByRecursion (IsArgumentOf script thread) (call_form called).arguments
+pub arguments_are : (script : ScriptParts) (thread : ℕ) (called : Call) → IsCallOf script (cursors_of script thread) called → AllByRecursion (IsArgumentOf script thread) (call_form called).arguments
 arguments_are script thread (call.Dict place (dict.Get k)) h = (declared_low script.containers kind.Dict place h.names.container, (h.strings, tt))
 arguments_are script thread (call.Dict place (dict.GetOr k v)) h = (declared_low script.containers kind.Dict place h.names.container, (h.strings.0, (h.strings.1, tt)))
 arguments_are script thread (call.Dict place (dict.Set k v)) h = (declared_low script.containers kind.Dict place h.names.container, (h.strings.0, (h.strings.1, tt)))
@@ -197,6 +227,12 @@ arguments_are script thread (call.Dict place dict.Clear) h = (declared_low scrip
 arguments_are script thread (call.Dict place (dict.CopyTo o)) h = (declared_low script.containers kind.Dict place h.names.container, (declared_low script.containers kind.Dict o h.names.second, tt))
 arguments_are script thread (call.Dict place (dict.Eq o)) h = (declared_low script.containers kind.Dict place h.names.container, (declared_low script.containers kind.Dict o h.names.second, tt))
 arguments_are script thread (call.Dict place (dict.Iter c)) h = (declared_low script.containers kind.Dict place h.names.container, (h.names.made, tt))
+arguments_are script thread (call.Dict place (dict.KeysAnd o)) h = (declared_low script.containers kind.Dict place h.names.container, (declared_low script.containers kind.Dict o h.names.second, tt))
+arguments_are script thread (call.Dict place (dict.KeysSub o)) h = (declared_low script.containers kind.Dict place h.names.container, (declared_low script.containers kind.Dict o h.names.second, tt))
+arguments_are script thread (call.Dict place (dict.KeysOr o)) h = (declared_low script.containers kind.Dict place h.names.container, (declared_low script.containers kind.Dict o h.names.second, tt))
+arguments_are script thread (call.Dict place (dict.KeysXor o)) h = (declared_low script.containers kind.Dict place h.names.container, (declared_low script.containers kind.Dict o h.names.second, tt))
+arguments_are script thread (call.Dict place (dict.ItemsHas k v)) h = (declared_low script.containers kind.Dict place h.names.container, (h.strings.0, (h.strings.1, tt)))
+arguments_are script thread (call.Dict place (dict.Reversed c)) h = (declared_low script.containers kind.Dict place h.names.container, (h.names.made, tt))
 arguments_are script thread (call.List place (list.Append v)) h = (declared_low script.containers kind.List place h.names.container, (h.strings, tt))
 arguments_are script thread (call.List place (list.Insert i v)) h = (declared_low script.containers kind.List place h.names.container, (tt, (h.strings, tt)))
 arguments_are script thread (call.List place (list.Get i)) h = (declared_low script.containers kind.List place h.names.container, (tt, tt))
@@ -216,6 +252,7 @@ arguments_are script thread (call.List place list.Len) h = (declared_low script.
 arguments_are script thread (call.List place list.Items) h = (declared_low script.containers kind.List place h.names.container, tt)
 arguments_are script thread (call.List place (list.Eq o)) h = (declared_low script.containers kind.List place h.names.container, (declared_low script.containers kind.List o h.names.second, tt))
 arguments_are script thread (call.List place (list.Iter c)) h = (declared_low script.containers kind.List place h.names.container, (h.names.made, tt))
+arguments_are script thread (call.List place (list.Reversed c)) h = (declared_low script.containers kind.List place h.names.container, (h.names.made, tt))
 arguments_are script thread (call.Set place (set.Add k)) h = (declared_low script.containers kind.Set place h.names.container, (h.strings, tt))
 arguments_are script thread (call.Set place (set.Discard k)) h = (declared_low script.containers kind.Set place h.names.container, (h.strings, tt))
 arguments_are script thread (call.Set place (set.Remove k)) h = (declared_low script.containers kind.Set place h.names.container, (h.strings, tt))
@@ -232,11 +269,26 @@ arguments_are script thread (call.Set place (set.Subset o)) h = (declared_low sc
 arguments_are script thread (call.Set place (set.Disjoint o)) h = (declared_low script.containers kind.Set place h.names.container, (declared_low script.containers kind.Set o h.names.second, tt))
 arguments_are script thread (call.Set place set.Clear) h = (declared_low script.containers kind.Set place h.names.container, tt)
 arguments_are script thread (call.Set place (set.Iter c)) h = (declared_low script.containers kind.Set place h.names.container, (h.names.made, tt))
+arguments_are script thread (call.Deque place (deque.Append v)) h = (declared_low script.containers (kind.Deque None) place h.names.container, (h.strings, tt))
+arguments_are script thread (call.Deque place (deque.AppendLeft v)) h = (declared_low script.containers (kind.Deque None) place h.names.container, (h.strings, tt))
+arguments_are script thread (call.Deque place deque.Pop) h = (declared_low script.containers (kind.Deque None) place h.names.container, tt)
+arguments_are script thread (call.Deque place deque.PopLeft) h = (declared_low script.containers (kind.Deque None) place h.names.container, tt)
+arguments_are script thread (call.Deque place (deque.Extend o)) h = (declared_low script.containers (kind.Deque None) place h.names.container, (declared_low script.containers (kind.Deque None) o h.names.second, tt))
+arguments_are script thread (call.Deque place (deque.ExtendLeft o)) h = (declared_low script.containers (kind.Deque None) place h.names.container, (declared_low script.containers (kind.Deque None) o h.names.second, tt))
+arguments_are script thread (call.Deque place (deque.Rotate i)) h = (declared_low script.containers (kind.Deque None) place h.names.container, (tt, tt))
+arguments_are script thread (call.Deque place deque.Clear) h = (declared_low script.containers (kind.Deque None) place h.names.container, tt)
+arguments_are script thread (call.Deque place (deque.Get i)) h = (declared_low script.containers (kind.Deque None) place h.names.container, (tt, tt))
+arguments_are script thread (call.Deque place deque.Len) h = (declared_low script.containers (kind.Deque None) place h.names.container, tt)
+arguments_are script thread (call.Deque place deque.Items) h = (declared_low script.containers (kind.Deque None) place h.names.container, tt)
+arguments_are script thread (call.Deque place (deque.Has v)) h = (declared_low script.containers (kind.Deque None) place h.names.container, (h.strings, tt))
+arguments_are script thread (call.Deque place (deque.Iter c)) h = (declared_low script.containers (kind.Deque None) place h.names.container, (h.names.made, tt))
 arguments_are script thread (call.Next number) h = (h.names, tt)
 arguments_are script thread (call.Begin first None) h = (h.names.0, tt)
 arguments_are script thread (call.Begin first (Some second)) h = (h.names.0, (h.names.1, tt))
 arguments_are script thread call.End h = tt
 arguments_are script thread call.Quiesce h = tt
+arguments_are script thread (call.Await other index) h = (tt, tt)
+arguments_are script thread call.Dump h = tt
 
 low_other : (word : List ℕ) → BeginsLow word → is_other word ≡ true
 low_other [] h = absurd h
@@ -252,11 +304,12 @@ name_is name form = let h = container_word name form in (word_is_cut name h.0, l
 
 argument_is : (script : ScriptParts) (thread : ℕ) → Declares script thread → (given : Argument) → IsArgumentOf script thread given → IsWideArgument given → IsCallWord (argument_text script thread given)
 argument_is script thread facts (argument.Container place) low wide =
-    let d : Declaration = record { kind = kind.Dict; name = [] } in
+    let d : Declaration = record { start = record { kind = kind.Dict; keys = [] }; name = [] } in
     name_is (container_name script place) (ap is_container_name (container_name_at script place d low) ∙ facts.names_are place d low)
 argument_is script thread facts (argument.Cursor number) low wide = name_is (cursor_name script thread number) (facts.cursor_form number low)
 argument_is script thread facts (argument.Key found) low wide = (key_is_cut script.strings found wide, shown_other (key_text script.strings found) (key_begins script.strings found wide))
 argument_is script thread facts (argument.Value found) low wide = (value_is_cut script.strings found wide, shown_other (value_text script.strings found) (value_begins script.strings found wide))
+argument_is script thread facts (argument.Call other index) low wide = absurd wide
 argument_is script thread facts (argument.Index n) low wide = (value_is_cut script.strings (value.Int n) wide, shown_other (signed_decimal n) (value_begins script.strings (value.Int n) wide))
 
 all_are : (script : ScriptParts) (thread : ℕ) → Declares script thread → (given : List Argument) → AllByRecursion (IsArgumentOf script thread) given → AllByRecursion IsWideArgument given → AllByRecursion IsCallWord (map (argument_text script thread) given)
@@ -279,14 +332,9 @@ module _ (script : ScriptParts) (thread : ℕ) (facts : Declares script thread) 
   unfolding read_container
   container_back place low = rw (container_place_at script place facts.names_differ low) refl
 
-  same_back : (of_kind : Kind) → same_kind of_kind of_kind ≡ true
-  same_back kind.Dict = refl
-  same_back kind.List = refl
-  same_back kind.Set = refl
-
-  other_back : (of_kind : Kind) (place : ℕ) → IsDeclaredAs script.containers of_kind place → read_other draft of_kind (container_name script place) ≡ Ok place
+  other_back : (of_kind : Kind) (place : ℕ) → same_kind of_kind of_kind ≡ true → kind_at script.containers place ≡ Some of_kind → read_other draft of_kind (container_name script place) ≡ Ok place
   unfolding read_other
-  other_back of_kind place declared = rw (container_back place (declared_low script.containers of_kind place declared), declared, same_back of_kind) refl
+  other_back of_kind place same declared = rw (container_back place (kind_low script.containers of_kind place declared), declared, same) refl
 
   symbol_back : (symbol : ℕ) → symbol < length strings → read_symbol draft (slice_index_or strings symbol []) ≡ Ok (symbol, draft)
   unfolding read_symbol
@@ -360,9 +408,9 @@ module _ (script : ScriptParts) (thread : ℕ) (facts : Declares script thread) 
   unfolding just_index_and_value read_index_and_value
   index_value_back i v first low wide = rw (index_signed i first, value_of_back v low wide) refl
 
-  other_in_back : (of_kind : Kind) (place : ℕ) → IsDeclaredAs script.containers of_kind place → just_other draft of_kind (container_name script place ∷ []) ≡ Ok place
+  other_in_back : (of_kind : Kind) (place : ℕ) → same_kind of_kind of_kind ≡ true → kind_at script.containers place ≡ Some of_kind → just_other draft of_kind (container_name script place ∷ []) ≡ Ok place
   unfolding just_other
-  other_in_back of_kind place declared = other_back of_kind place declared
+  other_in_back of_kind place same declared = other_back of_kind place same declared
 
   made_in_back : (number : ℕ) → number < cursors_of script thread → just_made_cursor draft (cursor_name script thread number ∷ []) ≡ Ok (number, draft)
   unfolding just_made_cursor read_made_cursor
@@ -386,10 +434,10 @@ module _ (script : ScriptParts) (thread : ℕ) (facts : Declares script thread) 
   unfolding just_call
   by_word word words = rw (word_back word) refl
 
-  on_back : (operation : Operation) (of_kind : Kind) (place : ℕ) (words : List (List ℕ)) → IsDeclaredAs script.containers of_kind place → just_call draft (operation_text operation ∷ container_name script place ∷ words) ≡ call_at draft place operation words (Some of_kind)
+  on_back : (operation : Operation) (of_kind : Kind) (place : ℕ) (words : List (List ℕ)) → kind_at script.containers place ≡ Some of_kind → just_call draft (operation_text operation ∷ container_name script place ∷ words) ≡ call_at draft place operation words (Some of_kind)
   unfolding read_call container_call
   on_back operation of_kind place words declared =
-      by_word (On operation) (container_name script place ∷ words) ∙ rw (container_back place (declared_low script.containers of_kind place declared), declared) refl
+      by_word (On operation) (container_name script place ∷ words) ∙ rw (container_back place (kind_low script.containers of_kind place declared), declared) refl
 
   dict_is : (place : ℕ) (operation : Operation) (words : List (List ℕ)) (inner : DictCall) → IsDeclaredAs script.containers kind.Dict place → dict_call draft operation words ≡ Ok (inner, draft) → just_call draft (operation_text operation ∷ container_name script place ∷ words) ≡ Ok (call.Dict place inner, draft)
   unfolding call_at
@@ -403,61 +451,71 @@ module _ (script : ScriptParts) (thread : ℕ) (facts : Declares script thread) 
   unfolding call_at
   set_is place operation words inner declared is = on_back operation kind.Set place words declared ∙ rw is refl
 
-  pub call_back : (called : Call) → IsCallOf script (cursors_of script thread) called → IsWideCall called → just_call draft (call_words script thread called) ≡ Ok (called, draft)
+  pub call_back : (called : Call) → IsCallOf script (cursors_of script thread) called → is_landed_call called ≡ true → IsWideCall called → just_call draft (call_words script thread called) ≡ Ok (called, draft)
   unfolding read_call dict_call list_call set_call
-  call_back (call.Dict place (dict.Get k)) h wide = dict_is place of.Get (key_text strings k ∷ []) (dict.Get k) h.names.container (rw (key_in_back k h.strings wide.1.0) refl)
-  call_back (call.Dict place (dict.GetOr k v)) h wide = dict_is place of.GetOr (key_text strings k ∷ value_text strings v ∷ []) (dict.GetOr k v) h.names.container (rw (pair_in_back k v h.strings.0 wide.1.0 h.strings.1 wide.1.1.0) refl)
-  call_back (call.Dict place (dict.Set k v)) h wide = dict_is place of.Set (key_text strings k ∷ value_text strings v ∷ []) (dict.Set k v) h.names.container (rw (pair_in_back k v h.strings.0 wide.1.0 h.strings.1 wide.1.1.0) refl)
-  call_back (call.Dict place (dict.Del k)) h wide = dict_is place of.Del (key_text strings k ∷ []) (dict.Del k) h.names.container (rw (key_in_back k h.strings wide.1.0) refl)
-  call_back (call.Dict place (dict.Pop k)) h wide = dict_is place of.Pop (key_text strings k ∷ []) (dict.Pop k) h.names.container (rw (key_in_back k h.strings wide.1.0) refl)
-  call_back (call.Dict place (dict.PopOr k v)) h wide = dict_is place of.PopOr (key_text strings k ∷ value_text strings v ∷ []) (dict.PopOr k v) h.names.container (rw (pair_in_back k v h.strings.0 wide.1.0 h.strings.1 wide.1.1.0) refl)
-  call_back (call.Dict place dict.PopItem) h wide = dict_is place of.PopItem ([]) dict.PopItem h.names.container (rw (nothing_back) refl)
-  call_back (call.Dict place (dict.SetDefault k v)) h wide = dict_is place of.SetDefault (key_text strings k ∷ value_text strings v ∷ []) (dict.SetDefault k v) h.names.container (rw (pair_in_back k v h.strings.0 wide.1.0 h.strings.1 wide.1.1.0) refl)
-  call_back (call.Dict place (dict.Has k)) h wide = dict_is place of.Has (key_text strings k ∷ []) (dict.Has k) h.names.container (rw (key_in_back k h.strings wide.1.0) refl)
-  call_back (call.Dict place dict.Len) h wide = dict_is place of.Len ([]) dict.Len h.names.container (rw (nothing_back) refl)
-  call_back (call.Dict place dict.Items) h wide = dict_is place of.Items ([]) dict.Items h.names.container (rw (nothing_back) refl)
-  call_back (call.Dict place (dict.Update o)) h wide = dict_is place of.Update (container_name script o ∷ []) (dict.Update o) h.names.container (rw (other_in_back kind.Dict o h.names.second) refl)
-  call_back (call.Dict place dict.Clear) h wide = dict_is place of.Clear ([]) dict.Clear h.names.container (rw (nothing_back) refl)
-  call_back (call.Dict place (dict.CopyTo o)) h wide = dict_is place of.CopyTo (container_name script o ∷ []) (dict.CopyTo o) h.names.container (rw (other_in_back kind.Dict o h.names.second) refl)
-  call_back (call.Dict place (dict.Eq o)) h wide = dict_is place of.Eq (container_name script o ∷ []) (dict.Eq o) h.names.container (rw (other_in_back kind.Dict o h.names.second) refl)
-  call_back (call.Dict place (dict.Iter c)) h wide = dict_is place of.Iter (cursor_name script thread c ∷ []) (dict.Iter c) h.names.container (rw (made_in_back c h.names.made) refl)
-  call_back (call.List place (list.Append v)) h wide = list_is place of.Append (value_text strings v ∷ []) (list.Append v) h.names.container (rw (value_in_back v h.strings wide.1.0) refl)
-  call_back (call.List place (list.Insert i v)) h wide = list_is place of.Insert (signed_decimal i ∷ value_text strings v ∷ []) (list.Insert i v) h.names.container (rw (index_value_back i v wide.1.0 h.strings wide.1.1.0) refl)
-  call_back (call.List place (list.Get i)) h wide = list_is place of.Get (signed_decimal i ∷ []) (list.Get i) h.names.container (rw (index_in_back i wide.1.0) refl)
-  call_back (call.List place (list.Set i v)) h wide = list_is place of.Set (signed_decimal i ∷ value_text strings v ∷ []) (list.Set i v) h.names.container (rw (index_value_back i v wide.1.0 h.strings wide.1.1.0) refl)
-  call_back (call.List place (list.Del i)) h wide = list_is place of.Del (signed_decimal i ∷ []) (list.Del i) h.names.container (rw (index_in_back i wide.1.0) refl)
-  call_back (call.List place (list.Pop None)) h wide = list_is place of.Pop ([]) (list.Pop None) h.names.container (rw (no_index_back) refl)
-  call_back (call.List place (list.Pop (Some i))) h wide = list_is place of.Pop (signed_decimal i ∷ []) (list.Pop (Some i)) h.names.container (rw (some_index_back i wide.1.0) refl)
-  call_back (call.List place (list.Remove v)) h wide = list_is place of.Remove (value_text strings v ∷ []) (list.Remove v) h.names.container (rw (value_in_back v h.strings wide.1.0) refl)
-  call_back (call.List place (list.Index v)) h wide = list_is place of.Index (value_text strings v ∷ []) (list.Index v) h.names.container (rw (value_in_back v h.strings wide.1.0) refl)
-  call_back (call.List place (list.Count v)) h wide = list_is place of.Count (value_text strings v ∷ []) (list.Count v) h.names.container (rw (value_in_back v h.strings wide.1.0) refl)
-  call_back (call.List place (list.Has v)) h wide = list_is place of.Has (value_text strings v ∷ []) (list.Has v) h.names.container (rw (value_in_back v h.strings wide.1.0) refl)
-  call_back (call.List place list.Reverse) h wide = list_is place of.Reverse ([]) list.Reverse h.names.container (rw (nothing_back) refl)
-  call_back (call.List place (list.Extend o)) h wide = list_is place of.Extend (container_name script o ∷ []) (list.Extend o) h.names.container (rw (other_in_back kind.List o h.names.second) refl)
-  call_back (call.List place (list.Slice i j)) h wide = list_is place of.Slice (signed_decimal i ∷ signed_decimal j ∷ []) (list.Slice i j) h.names.container (rw (indices_back i j wide.1.0 wide.1.1.0) refl)
-  call_back (call.List place list.Clear) h wide = list_is place of.Clear ([]) list.Clear h.names.container (rw (nothing_back) refl)
-  call_back (call.List place list.Len) h wide = list_is place of.Len ([]) list.Len h.names.container (rw (nothing_back) refl)
-  call_back (call.List place list.Items) h wide = list_is place of.Items ([]) list.Items h.names.container (rw (nothing_back) refl)
-  call_back (call.List place (list.Eq o)) h wide = list_is place of.Eq (container_name script o ∷ []) (list.Eq o) h.names.container (rw (other_in_back kind.List o h.names.second) refl)
-  call_back (call.List place (list.Iter c)) h wide = list_is place of.Iter (cursor_name script thread c ∷ []) (list.Iter c) h.names.container (rw (made_in_back c h.names.made) refl)
-  call_back (call.Set place (set.Add k)) h wide = set_is place of.Add (key_text strings k ∷ []) (set.Add k) h.names.container (rw (key_in_back k h.strings wide.1.0) refl)
-  call_back (call.Set place (set.Discard k)) h wide = set_is place of.Discard (key_text strings k ∷ []) (set.Discard k) h.names.container (rw (key_in_back k h.strings wide.1.0) refl)
-  call_back (call.Set place (set.Remove k)) h wide = set_is place of.Remove (key_text strings k ∷ []) (set.Remove k) h.names.container (rw (key_in_back k h.strings wide.1.0) refl)
-  call_back (call.Set place set.Pop) h wide = set_is place of.Pop ([]) set.Pop h.names.container (rw (nothing_back) refl)
-  call_back (call.Set place (set.Has k)) h wide = set_is place of.Has (key_text strings k ∷ []) (set.Has k) h.names.container (rw (key_in_back k h.strings wide.1.0) refl)
-  call_back (call.Set place set.Len) h wide = set_is place of.Len ([]) set.Len h.names.container (rw (nothing_back) refl)
-  call_back (call.Set place set.Items) h wide = set_is place of.Items ([]) set.Items h.names.container (rw (nothing_back) refl)
-  call_back (call.Set place (set.Eq o)) h wide = set_is place of.Eq (container_name script o ∷ []) (set.Eq o) h.names.container (rw (other_in_back kind.Set o h.names.second) refl)
-  call_back (call.Set place (set.Or o)) h wide = set_is place of.Or (container_name script o ∷ []) (set.Or o) h.names.container (rw (other_in_back kind.Set o h.names.second) refl)
-  call_back (call.Set place (set.And o)) h wide = set_is place of.And (container_name script o ∷ []) (set.And o) h.names.container (rw (other_in_back kind.Set o h.names.second) refl)
-  call_back (call.Set place (set.Sub o)) h wide = set_is place of.Sub (container_name script o ∷ []) (set.Sub o) h.names.container (rw (other_in_back kind.Set o h.names.second) refl)
-  call_back (call.Set place (set.Xor o)) h wide = set_is place of.Xor (container_name script o ∷ []) (set.Xor o) h.names.container (rw (other_in_back kind.Set o h.names.second) refl)
-  call_back (call.Set place (set.Subset o)) h wide = set_is place of.Subset (container_name script o ∷ []) (set.Subset o) h.names.container (rw (other_in_back kind.Set o h.names.second) refl)
-  call_back (call.Set place (set.Disjoint o)) h wide = set_is place of.Disjoint (container_name script o ∷ []) (set.Disjoint o) h.names.container (rw (other_in_back kind.Set o h.names.second) refl)
-  call_back (call.Set place set.Clear) h wide = set_is place of.Clear ([]) set.Clear h.names.container (rw (nothing_back) refl)
-  call_back (call.Set place (set.Iter c)) h wide = set_is place of.Iter (cursor_name script thread c ∷ []) (set.Iter c) h.names.container (rw (made_in_back c h.names.made) refl)
-  call_back (call.Next number) h wide = by_word Next (cursor_name script thread number ∷ []) ∙ rw (cursor_in_back number h.names) refl
-  call_back (call.Begin first None) h wide = by_word Begin (container_name script first ∷ []) ∙ rw (section_one first h.names.0) refl
-  call_back (call.Begin first (Some second)) h wide = by_word Begin (container_name script first ∷ container_name script second ∷ []) ∙ rw (section_two first second h.names.0 h.names.1) refl
-  call_back call.End h wide = by_word End [] ∙ rw nothing_back refl
-  call_back call.Quiesce h wide = by_word Quiesce [] ∙ rw nothing_back refl
+  call_back (call.Dict place (dict.Get k)) h landed wide = dict_is place of.Get (key_text strings k ∷ []) (dict.Get k) h.names.container (rw (key_in_back k h.strings wide.1.0) refl)
+  call_back (call.Dict place (dict.GetOr k v)) h landed wide = dict_is place of.GetOr (key_text strings k ∷ value_text strings v ∷ []) (dict.GetOr k v) h.names.container (rw (pair_in_back k v h.strings.0 wide.1.0 h.strings.1 wide.1.1.0) refl)
+  call_back (call.Dict place (dict.Set k v)) h landed wide = dict_is place of.Set (key_text strings k ∷ value_text strings v ∷ []) (dict.Set k v) h.names.container (rw (pair_in_back k v h.strings.0 wide.1.0 h.strings.1 wide.1.1.0) refl)
+  call_back (call.Dict place (dict.Del k)) h landed wide = dict_is place of.Del (key_text strings k ∷ []) (dict.Del k) h.names.container (rw (key_in_back k h.strings wide.1.0) refl)
+  call_back (call.Dict place (dict.Pop k)) h landed wide = dict_is place of.Pop (key_text strings k ∷ []) (dict.Pop k) h.names.container (rw (key_in_back k h.strings wide.1.0) refl)
+  call_back (call.Dict place (dict.PopOr k v)) h landed wide = dict_is place of.PopOr (key_text strings k ∷ value_text strings v ∷ []) (dict.PopOr k v) h.names.container (rw (pair_in_back k v h.strings.0 wide.1.0 h.strings.1 wide.1.1.0) refl)
+  call_back (call.Dict place dict.PopItem) h landed wide = dict_is place of.PopItem ([]) dict.PopItem h.names.container (rw (nothing_back) refl)
+  call_back (call.Dict place (dict.SetDefault k v)) h landed wide = dict_is place of.SetDefault (key_text strings k ∷ value_text strings v ∷ []) (dict.SetDefault k v) h.names.container (rw (pair_in_back k v h.strings.0 wide.1.0 h.strings.1 wide.1.1.0) refl)
+  call_back (call.Dict place (dict.Has k)) h landed wide = dict_is place of.Has (key_text strings k ∷ []) (dict.Has k) h.names.container (rw (key_in_back k h.strings wide.1.0) refl)
+  call_back (call.Dict place dict.Len) h landed wide = dict_is place of.Len ([]) dict.Len h.names.container (rw (nothing_back) refl)
+  call_back (call.Dict place dict.Items) h landed wide = dict_is place of.Items ([]) dict.Items h.names.container (rw (nothing_back) refl)
+  call_back (call.Dict place (dict.Update o)) h landed wide = dict_is place of.Update (container_name script o ∷ []) (dict.Update o) h.names.container (rw (other_in_back kind.Dict o refl h.names.second) refl)
+  call_back (call.Dict place dict.Clear) h landed wide = dict_is place of.Clear ([]) dict.Clear h.names.container (rw (nothing_back) refl)
+  call_back (call.Dict place (dict.CopyTo o)) h landed wide = dict_is place of.CopyTo (container_name script o ∷ []) (dict.CopyTo o) h.names.container (rw (other_in_back kind.Dict o refl h.names.second) refl)
+  call_back (call.Dict place (dict.Eq o)) h landed wide = dict_is place of.Eq (container_name script o ∷ []) (dict.Eq o) h.names.container (rw (other_in_back kind.Dict o refl h.names.second) refl)
+  call_back (call.Dict place (dict.Iter c)) h landed wide = dict_is place of.Iter (cursor_name script thread c ∷ []) (dict.Iter c) h.names.container (rw (made_in_back c h.names.made) refl)
+  call_back (call.Dict place (dict.KeysAnd o)) h landed wide = absurd (false≢true landed)
+  call_back (call.Dict place (dict.KeysSub o)) h landed wide = absurd (false≢true landed)
+  call_back (call.Dict place (dict.KeysOr o)) h landed wide = absurd (false≢true landed)
+  call_back (call.Dict place (dict.KeysXor o)) h landed wide = absurd (false≢true landed)
+  call_back (call.Dict place (dict.ItemsHas k v)) h landed wide = absurd (false≢true landed)
+  call_back (call.Dict place (dict.Reversed c)) h landed wide = absurd (false≢true landed)
+  call_back (call.List place (list.Append v)) h landed wide = list_is place of.Append (value_text strings v ∷ []) (list.Append v) h.names.container (rw (value_in_back v h.strings wide.1.0) refl)
+  call_back (call.List place (list.Insert i v)) h landed wide = list_is place of.Insert (signed_decimal i ∷ value_text strings v ∷ []) (list.Insert i v) h.names.container (rw (index_value_back i v wide.1.0 h.strings wide.1.1.0) refl)
+  call_back (call.List place (list.Get i)) h landed wide = list_is place of.Get (signed_decimal i ∷ []) (list.Get i) h.names.container (rw (index_in_back i wide.1.0) refl)
+  call_back (call.List place (list.Set i v)) h landed wide = list_is place of.Set (signed_decimal i ∷ value_text strings v ∷ []) (list.Set i v) h.names.container (rw (index_value_back i v wide.1.0 h.strings wide.1.1.0) refl)
+  call_back (call.List place (list.Del i)) h landed wide = list_is place of.Del (signed_decimal i ∷ []) (list.Del i) h.names.container (rw (index_in_back i wide.1.0) refl)
+  call_back (call.List place (list.Pop None)) h landed wide = list_is place of.Pop ([]) (list.Pop None) h.names.container (rw (no_index_back) refl)
+  call_back (call.List place (list.Pop (Some i))) h landed wide = list_is place of.Pop (signed_decimal i ∷ []) (list.Pop (Some i)) h.names.container (rw (some_index_back i wide.1.0) refl)
+  call_back (call.List place (list.Remove v)) h landed wide = list_is place of.Remove (value_text strings v ∷ []) (list.Remove v) h.names.container (rw (value_in_back v h.strings wide.1.0) refl)
+  call_back (call.List place (list.Index v)) h landed wide = list_is place of.Index (value_text strings v ∷ []) (list.Index v) h.names.container (rw (value_in_back v h.strings wide.1.0) refl)
+  call_back (call.List place (list.Count v)) h landed wide = list_is place of.Count (value_text strings v ∷ []) (list.Count v) h.names.container (rw (value_in_back v h.strings wide.1.0) refl)
+  call_back (call.List place (list.Has v)) h landed wide = list_is place of.Has (value_text strings v ∷ []) (list.Has v) h.names.container (rw (value_in_back v h.strings wide.1.0) refl)
+  call_back (call.List place list.Reverse) h landed wide = list_is place of.Reverse ([]) list.Reverse h.names.container (rw (nothing_back) refl)
+  call_back (call.List place (list.Extend o)) h landed wide = list_is place of.Extend (container_name script o ∷ []) (list.Extend o) h.names.container (rw (other_in_back kind.List o refl h.names.second) refl)
+  call_back (call.List place (list.Slice i j)) h landed wide = list_is place of.Slice (signed_decimal i ∷ signed_decimal j ∷ []) (list.Slice i j) h.names.container (rw (indices_back i j wide.1.0 wide.1.1.0) refl)
+  call_back (call.List place list.Clear) h landed wide = list_is place of.Clear ([]) list.Clear h.names.container (rw (nothing_back) refl)
+  call_back (call.List place list.Len) h landed wide = list_is place of.Len ([]) list.Len h.names.container (rw (nothing_back) refl)
+  call_back (call.List place list.Items) h landed wide = list_is place of.Items ([]) list.Items h.names.container (rw (nothing_back) refl)
+  call_back (call.List place (list.Eq o)) h landed wide = list_is place of.Eq (container_name script o ∷ []) (list.Eq o) h.names.container (rw (other_in_back kind.List o refl h.names.second) refl)
+  call_back (call.List place (list.Iter c)) h landed wide = list_is place of.Iter (cursor_name script thread c ∷ []) (list.Iter c) h.names.container (rw (made_in_back c h.names.made) refl)
+  call_back (call.List place (list.Reversed c)) h landed wide = absurd (false≢true landed)
+  call_back (call.Set place (set.Add k)) h landed wide = set_is place of.Add (key_text strings k ∷ []) (set.Add k) h.names.container (rw (key_in_back k h.strings wide.1.0) refl)
+  call_back (call.Set place (set.Discard k)) h landed wide = set_is place of.Discard (key_text strings k ∷ []) (set.Discard k) h.names.container (rw (key_in_back k h.strings wide.1.0) refl)
+  call_back (call.Set place (set.Remove k)) h landed wide = set_is place of.Remove (key_text strings k ∷ []) (set.Remove k) h.names.container (rw (key_in_back k h.strings wide.1.0) refl)
+  call_back (call.Set place set.Pop) h landed wide = set_is place of.Pop ([]) set.Pop h.names.container (rw (nothing_back) refl)
+  call_back (call.Set place (set.Has k)) h landed wide = set_is place of.Has (key_text strings k ∷ []) (set.Has k) h.names.container (rw (key_in_back k h.strings wide.1.0) refl)
+  call_back (call.Set place set.Len) h landed wide = set_is place of.Len ([]) set.Len h.names.container (rw (nothing_back) refl)
+  call_back (call.Set place set.Items) h landed wide = set_is place of.Items ([]) set.Items h.names.container (rw (nothing_back) refl)
+  call_back (call.Set place (set.Eq o)) h landed wide = set_is place of.Eq (container_name script o ∷ []) (set.Eq o) h.names.container (rw (other_in_back kind.Set o refl h.names.second) refl)
+  call_back (call.Set place (set.Or o)) h landed wide = set_is place of.Or (container_name script o ∷ []) (set.Or o) h.names.container (rw (other_in_back kind.Set o refl h.names.second) refl)
+  call_back (call.Set place (set.And o)) h landed wide = set_is place of.And (container_name script o ∷ []) (set.And o) h.names.container (rw (other_in_back kind.Set o refl h.names.second) refl)
+  call_back (call.Set place (set.Sub o)) h landed wide = set_is place of.Sub (container_name script o ∷ []) (set.Sub o) h.names.container (rw (other_in_back kind.Set o refl h.names.second) refl)
+  call_back (call.Set place (set.Xor o)) h landed wide = set_is place of.Xor (container_name script o ∷ []) (set.Xor o) h.names.container (rw (other_in_back kind.Set o refl h.names.second) refl)
+  call_back (call.Set place (set.Subset o)) h landed wide = set_is place of.Subset (container_name script o ∷ []) (set.Subset o) h.names.container (rw (other_in_back kind.Set o refl h.names.second) refl)
+  call_back (call.Set place (set.Disjoint o)) h landed wide = set_is place of.Disjoint (container_name script o ∷ []) (set.Disjoint o) h.names.container (rw (other_in_back kind.Set o refl h.names.second) refl)
+  call_back (call.Set place set.Clear) h landed wide = set_is place of.Clear ([]) set.Clear h.names.container (rw (nothing_back) refl)
+  call_back (call.Set place (set.Iter c)) h landed wide = set_is place of.Iter (cursor_name script thread c ∷ []) (set.Iter c) h.names.container (rw (made_in_back c h.names.made) refl)
+  call_back (call.Deque place inner) h landed wide = absurd (false≢true landed)
+  call_back (call.Next number) h landed wide = by_word Next (cursor_name script thread number ∷ []) ∙ rw (cursor_in_back number h.names) refl
+  call_back (call.Begin first None) h landed wide = by_word Begin (container_name script first ∷ []) ∙ rw (section_one first h.names.0) refl
+  call_back (call.Begin first (Some second)) h landed wide = by_word Begin (container_name script first ∷ container_name script second ∷ []) ∙ rw (section_two first second h.names.0 h.names.1) refl
+  call_back call.End h landed wide = by_word End [] ∙ rw nothing_back refl
+  call_back call.Quiesce h landed wide = by_word Quiesce [] ∙ rw nothing_back refl
+  call_back (call.Await other index) h landed wide = absurd (false≢true landed)
+  call_back call.Dump h landed wide = absurd (false≢true landed)

@@ -5,6 +5,7 @@ use Rattle.ft_model.specs.declared.entry.Entry.{Entry}
 use Rattle.ft_model.specs.declared.reply.Reply.{Reply}
 use Rattle.ft_model.specs.declared.script.ScriptParts.{ScriptParts}
 use Rattle.ft_model.specs.Histories.{cursors_of}
+use Rattle.ft_model.specs.Landed.{is_landed_call}
 use Rattle.ft_model.specs.Scripts.{IsScript, IsCallOf}
 use Rattle.ft_script.specs.declared.fault.Fault.{Fault}
 use Rattle.ft_script.specs.declared.fault.LineError.{LineError}
@@ -19,19 +20,19 @@ use Rattle.ft_script.proofs.EntryTexts.{entry_adds_nothing}
 use Rattle.ft_script.proofs.LineCases.{readable_by, entry_fits, no_entry_by_fault, no_entry_by_other, content_fits, content_by, no_content_by_fault, no_content_by_other}
 
 abbrev Checked : ScriptParts → Entry → Bool → Type 0
-Checked script entry b = IsTrue b ↔ ((1 ≤ entry.index) × IsCallOf script (cursors_of script entry.thread) entry.call)
+Checked script entry b = IsTrue b ↔ ((1 ≤ entry.index) × IsCallOf script (cursors_of script entry.thread) entry.call × (is_landed_call entry.call ≡ true))
 
 pub readable_checked : (script : ScriptParts) (tokens : List (List ℕ)) (entry : Entry) (b : Bool) → read_entry script tokens ≡ Ok entry → Checked script entry b → (IsTrue b → IsWideCall entry.call) → b ≡ true → IsReadable script entry
 readable_checked script tokens entry b read checked wide is =
     let both = checked.0 is in
-    readable_by script entry (entry_fits script tokens entry read) both.0 both.1 (wide is)
+    readable_by script entry (entry_fits script tokens entry read) both.0 both.1 both.2 (wide is)
 
 pub not_both : (b : Bool) → b ≡ false → b ≡ true → ⊥
 not_both b f t = let e : false ≡ true = sym f ∙ t in absurd cc
 
 pub no_entry_checked : (script : ScriptParts) (line : List ℕ) (tokens : List (List ℕ)) (entry : Entry) (b : Bool) → IsScript script → tokens ≡ tokens_of line → read_entry script tokens ≡ Ok entry → Checked script entry b → b ≡ false → NoEntry script line
 no_entry_checked script line tokens entry b rule are read checked is =
-    no_entry_by_other script line entry rule (ap (read_entry script) (sym are) ∙ read) (λ h same. not_both b is (checked.1 (h.first_index, h.of_script.call)))
+    no_entry_by_other script line entry rule (ap (read_entry script) (sym are) ∙ read) (λ h same. not_both b is (checked.1 (h.first_index, h.of_script.call, h.landed)))
 
 pub no_entry_printed : (script : ScriptParts) (line : List ℕ) (tokens : List (List ℕ)) (entry : Entry) → IsScript script → tokens ≡ tokens_of line → read_entry script tokens ≡ Ok entry → (entry_line script entry ≡ line → ⊥) → NoEntry script line
 no_entry_printed script line tokens entry rule are read differs =

@@ -179,14 +179,14 @@ module _ (script : ScriptParts) (entry : Entry) (rule : IsScript script) (h : Is
 
   pub words_cut : IsCut (join_with_byte 32 (entry_line_words script entry)) (entry_tokens script entry)
   words_cut =
-      let said : List ℕ = reply_text script.strings entry.reply in
+      let said : List ℕ = reply_text script entry.reply in
       let tokens : List (List ℕ) = reply_tokens script.strings entry.reply in
       let marks : List (List ℕ) = mark_words script entry.waited in
       let call : List (List ℕ) = call_words script entry.thread entry.call in
       let place : List ℕ = place_word script entry in
       let stamp : List ℕ = stamp_word entry in
       let after : List ℕ = (32 ∷ codes "=") ++ ((32 ∷ said) ++ each_after 32 marks) in
-      let reply_cut : IsCut said tokens = reply_is_cut script.strings (counts entry.call) entry.reply h.said h.reply in
+      let reply_cut : IsCut said tokens = reply_is_cut script (counts entry.call) entry.reply h.said h.reply in
       let said_tail : IsTail ((32 ∷ said) ++ each_after 32 marks) (tokens ++ marks) = tail_tail (32 ∷ said) (each_after 32 marks) tokens marks (after_space said tokens reply_cut) (marks_are script entry.waited rule h.of_script.mark) in
       let equals_tail : IsTail after (codes "=" ∷ (tokens ++ marks)) = tail_tail (32 ∷ codes "=") ((32 ∷ said) ++ each_after 32 marks) (codes "=" ∷ []) (tokens ++ marks) (after_space (codes "=") (codes "=" ∷ []) (word_is_cut (codes "=") (refl, refl))) said_tail in
       let call_tail : IsTail (each_after 32 call ++ after) (call ++ (codes "=" ∷ (tokens ++ marks))) = tail_tail (each_after 32 call) after call (codes "=" ∷ (tokens ++ marks)) (words_tail call (cuts call call_are)) equals_tail in
@@ -206,11 +206,11 @@ module _ (script : ScriptParts) (entry : Entry) (rule : IsScript script) (h : Is
   none_waited = reply_other script.strings (counts entry.call) entry.reply h.said h.reply
 
   pub adds_nothing : AddsNothing script entry.thread (before_word (codes "=") (drop 2 (entry_tokens script entry)))
-  adds_nothing = (entry.call, ap (just_call (draft_at script entry.thread)) call_words_at ∙ call_back script entry.thread facts entry.call h.of_script.call h.call)
+  adds_nothing = (entry.call, ap (just_call (draft_at script entry.thread)) call_words_at ∙ call_back script entry.thread facts entry.call h.of_script.call h.landed h.call)
 
   thread_call_back : thread_call script entry.thread (before_word (codes "=") (drop 2 (entry_tokens script entry))) ≡ Ok entry.call
   unfolding thread_call
-  thread_call_back = rw call_words_at (rw (call_back script entry.thread facts entry.call h.of_script.call h.call) refl)
+  thread_call_back = rw call_words_at (rw (call_back script entry.thread facts entry.call h.of_script.call h.landed h.call) refl)
 
   said_back : read_reply script.strings (counts entry.call) (before_word (codes "waited") (after_word (codes "=") (drop 2 (entry_tokens script entry)))) ≡ Ok entry.reply
   said_back =
@@ -251,6 +251,7 @@ whole_readable (reply.Count count) h = absurd h
 whole_readable (reply.Dict pairs) h = tt
 whole_readable (reply.List items) h = tt
 whole_readable (reply.Set elements) h = tt
+whole_readable (reply.World world) h = absurd h
 whole_readable reply.Stop h = absurd h
 whole_readable reply.Entered h = absurd h
 whole_readable reply.Kept h = absurd h
@@ -258,23 +259,23 @@ whole_readable (reply.Suspended count) h = absurd h
 whole_readable (reply.Raised raised) h = absurd h
 
 container_form : (script : ScriptParts) (container : ℕ) → IsScript script → container < length script.containers → is_container_name (container_name script container) ≡ true
-container_form script container rule low = ap is_container_name (container_name_at script container (get_or script.containers container (record { kind = kind.Dict; name = [] })) low) ∙ rule.container_names container _ low
+container_form script container rule low = ap is_container_name (container_name_at script container (get_or script.containers container (record { start = record { kind = kind.Dict; keys = [] }; name = [] })) low) ∙ rule.container_names container _ low
 
 pub container_begins : (script : ScriptParts) (container : ℕ) → IsScript script → container < length script.containers → BeginsLow (container_name script container)
 container_begins script container rule low = (container_word (container_name script container) (container_form script container rule low)).1
 
 module _ (script : ScriptParts) (container : ℕ) (content : Reply) (rule : IsScript script) (low : container < length script.containers) (whole : IsContentReply content) (of_script : IsReplyOf (length script.strings) content) (wide : IsWideReply content) where
-  pub content_cut : IsCut (join_with_byte 32 (container_name script container ∷ codes "=" ∷ reply_text script.strings content ∷ [])) (container_name script container ∷ codes "=" ∷ reply_tokens script.strings content)
+  pub content_cut : IsCut (join_with_byte 32 (container_name script container ∷ codes "=" ∷ reply_text script content ∷ [])) (container_name script container ∷ codes "=" ∷ reply_tokens script.strings content)
   content_cut =
       let name : List ℕ = container_name script container in
-      let said : List ℕ = reply_text script.strings content in
+      let said : List ℕ = reply_text script content in
       let tokens : List (List ℕ) = reply_tokens script.strings content in
-      let reply_cut : IsCut said tokens = reply_is_cut script.strings false content wide (whole_readable content whole) in
+      let reply_cut : IsCut said tokens = reply_is_cut script false content wide (whole_readable content whole) in
       let equals : IsCut (codes "=" ++ (32 ∷ said)) (codes "=" ∷ tokens) = cut_tail (codes "=") (32 ∷ said) (codes "=" ∷ []) tokens (word_is_cut (codes "=") (refl, refl)) (after_space said tokens reply_cut) in
       cut_tail name (32 ∷ (codes "=" ++ (32 ∷ said))) (name ∷ []) (codes "=" ∷ tokens) (word_is_cut name (container_word name (container_form script container rule low)).0) (after_space (codes "=" ++ (32 ∷ said)) (codes "=" ∷ tokens) equals)
 
   pub content_back : read_content script (tokens_of (content_line script container content)) ≡ Ok (container, content)
   unfolding read_content
   content_back =
-      rw (line_cut (join_with_byte 32 (container_name script container ∷ codes "=" ∷ reply_text script.strings content ∷ [])) (container_name script container ∷ codes "=" ∷ reply_tokens script.strings content) content_cut)
+      rw (line_cut (join_with_byte 32 (container_name script container ∷ codes "=" ∷ reply_text script content ∷ [])) (container_name script container ∷ codes "=" ∷ reply_tokens script.strings content) content_cut)
       (rw (container_place_at script container rule.containers_differ low, reply_back script.strings false content rule.strings_differ of_script wide (whole_readable content whole)) refl)

@@ -4,7 +4,7 @@ use Rattle.std.specs.Prelude.{All, AllPairs, IfSome, IfOk}
 use Rattle.std.specs.List.{list_all, AllByRecursion}
 use Rattle.std.specs.Str.{IsUtf8, bytes_eq}
 use Rattle.std.specs.Str.Parse.{signed_digits_value}
-use Rattle.std.proofs.lemmas.Bool.{cases_lt, ltb-true, ltb-false}
+use Rattle.std.proofs.lemmas.Bool.{cases_lt, false≢true, ltb-true, ltb-false}
 use Rattle.std.proofs.lemmas.List.{length-append}
 use Rattle.std.proofs.lemmas.List.Elements.{All-push}
 use Rattle.ft_model.specs.declared.data.Key.{Key}
@@ -21,7 +21,7 @@ use Rattle.ft_script.specs.declared.fault.Fault.TheVariants as fault
 use Rattle.ft_script.specs.Transcripts.{IsWideKey, IsWideValue}
 use Rattle.ft_script.specs.LineWords.{integer_of, is_integer, is_string, is_wide, text_of}
 use Rattle.ft_script.specs.Drafts.{◌>>=◌, or_fault, container_place, text_place}
-use Rattle.ft_script.specs.Arguments.{read_symbol, read_index, read_two_indices, read_key, read_value, read_container, kind_at, is_of_kind, read_other, read_made_cursor, just_key, read_key_and_value, just_key_and_value, just_value, just_index, just_some_index, just_two_indices, read_index_and_value, just_index_and_value, just_other, just_made_cursor, just_cursor, just_section, read_two_containers, just_nothing, read_cursor}
+use Rattle.ft_script.specs.Arguments.{read_symbol, read_index, read_two_indices, read_key, read_value, read_container, kind_at, is_of_kind, read_other, read_made_cursor, just_key, read_key_and_value, just_key_and_value, just_value, just_index, just_some_index, just_two_indices, read_index_and_value, just_index_and_value, just_other, just_made_cursor, just_cursor, just_section, read_two_containers, read_cursor}
 use Rattle.ft_script.proofs.MoreCalls.{key_grows}
 use Rattle.ft_script.proofs.DistinctNames.{absent_text, differ_push, place_within}
 use Rattle.ft_script.proofs.WordLemmas.{integer_by}
@@ -146,24 +146,35 @@ unfolding read_container
 container_keeps d name = or_holds _ (container_place d.containers name) (λ place. place < length d.containers) (λ place found. place_within (λ container. bytes_eq container.name name) d.containers place found)
 
 of_kind : (kind : Kind) (found : Option Kind) → is_of_kind kind found ≡ true → found ≡ Some kind
-of_kind kind.Dict None h = absurd cc
-of_kind kind.List None h = absurd cc
-of_kind kind.Set None h = absurd cc
+of_kind kind None h = absurd (false≢true h)
 of_kind kind.Dict (Some kind.Dict) h = refl
-of_kind kind.Dict (Some kind.List) h = absurd cc
-of_kind kind.Dict (Some kind.Set) h = absurd cc
-of_kind kind.List (Some kind.Dict) h = absurd cc
+of_kind kind.Dict (Some kind.List) h = absurd (false≢true h)
+of_kind kind.Dict (Some kind.Set) h = absurd (false≢true h)
+of_kind kind.Dict (Some (kind.Deque bound)) h = absurd (false≢true h)
+of_kind kind.List (Some kind.Dict) h = absurd (false≢true h)
 of_kind kind.List (Some kind.List) h = refl
-of_kind kind.List (Some kind.Set) h = absurd cc
-of_kind kind.Set (Some kind.Dict) h = absurd cc
-of_kind kind.Set (Some kind.List) h = absurd cc
+of_kind kind.List (Some kind.Set) h = absurd (false≢true h)
+of_kind kind.List (Some (kind.Deque bound)) h = absurd (false≢true h)
+of_kind kind.Set (Some kind.Dict) h = absurd (false≢true h)
+of_kind kind.Set (Some kind.List) h = absurd (false≢true h)
 of_kind kind.Set (Some kind.Set) h = refl
+of_kind kind.Set (Some (kind.Deque bound)) h = absurd (false≢true h)
+of_kind (kind.Deque bound) (Some kind.Dict) h = absurd (false≢true h)
+of_kind (kind.Deque bound) (Some kind.List) h = absurd (false≢true h)
+of_kind (kind.Deque bound) (Some kind.Set) h = absurd (false≢true h)
+of_kind (kind.Deque bound) (Some (kind.Deque other)) h = absurd (false≢true h)
+
+declared_as : (d : Draft) (kind : Kind) (place : ℕ) → is_of_kind kind (kind_at d place) ≡ true → IsDeclaredAs d.containers kind place
+declared_as d kind.Dict place is = of_kind kind.Dict (kind_at d place) is
+declared_as d kind.List place is = of_kind kind.List (kind_at d place) is
+declared_as d kind.Set place is = of_kind kind.Set (kind_at d place) is
+declared_as d (kind.Deque bound) place is = (bound, of_kind (kind.Deque bound) (kind_at d place) is)
 
 other_keeps : (d : Draft) (kind : Kind) (name : List ℕ) → IfOk (read_other d kind name) (IsDeclaredAs d.containers kind)
 unfolding read_other
 other_keeps d kind name =
     bind_holds (read_container d name) _ (λ place. place < length d.containers) (IsDeclaredAs d.containers kind) (container_keeps d name) (λ place low.
-    cond_holds (is_of_kind kind (kind_at d place)) _ _ (IsDeclaredAs d.containers kind) (λ is. of_kind kind (kind_at d place) is) (λ _. tt))
+    cond_holds (is_of_kind kind (kind_at d place)) _ _ (IsDeclaredAs d.containers kind) (λ is. declared_as d kind place is) (λ _. tt))
 
 cursor_keeps : (d : Draft) (name : List ℕ) → IfOk (read_cursor d name) (λ number. number < length d.cursors)
 unfolding read_cursor

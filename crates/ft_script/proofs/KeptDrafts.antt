@@ -10,6 +10,7 @@ use Rattle.ft_model.specs.declared.script.Declaration.{Declaration}
 use Rattle.ft_model.specs.declared.script.Thread.{Thread}
 use Rattle.ft_model.specs.declared.script.ScriptParts.{ScriptParts}
 use Rattle.ft_model.specs.Names.{is_container_name, is_thread_name}
+use Rattle.ft_model.specs.Landed.{is_landed_kind}
 use Rattle.ft_model.specs.Scripts.{AreMade, IsCallOf, IsThread, cursor_of}
 use Rattle.ft_model.specs.Classes.{class_count}
 use Rattle.ft_script.specs.Drafts.{Draft}
@@ -21,7 +22,7 @@ use Rattle.ft_script.proofs.MoreCalls.{call_grows}
 use Rattle.ft_script.proofs.DistinctNames.{absent, differ_push}
 use Rattle.std.specs.Option.{is_some}
 use Rattle.ft_script.proofs.Kept.{IsTable, IsCursors, cond_holds, some_holds}
-use Rattle.ft_script.proofs.KeptLines.{depth_after_all, nested_from}
+use Rattle.ft_script.proofs.KeptLines.{IsLandedCall, depth_after_all, nested_from}
 
 -- a name that a further thread may have
 pub record IsNew (threads : List Thread) (name : List ℕ) : Type 0 where
@@ -39,6 +40,11 @@ calls_in threads = sum (map (λ thread. length thread.calls) threads)
 -- each integer of the thread's calls is of 64 bits
 abbrev pub HasWideCalls : Thread → Type 0
 HasWideCalls thread = All IsWideCall thread.calls
+
+-- a container that may start so: of a kind that is read, with no keys that it shares
+pub record IsPlainStart (container : Declaration) : Type 0 where
+  pub kind : is_landed_kind container.start.kind ≡ true
+  pub keys : container.start.keys ≡ []
 
 pub record IsDraft (d : Draft) : Type 0 where
   pub few_containers : length d.containers ≤ 256
@@ -63,6 +69,8 @@ pub record IsDraft (d : Draft) : Type 0 where
   pub all_made : AllMade d.cursors d.calls
   pub nested : depth_after_all 0 d.calls ≡ Ok d.depth
   pub wide : All IsWideCall d.calls
+  pub landed : All IsLandedCall d.calls
+  pub starts : All IsPlainStart d.containers
   pub wide_threads : All HasWideCalls d.threads
 
 -- a thread stays one where the script has more
@@ -77,6 +85,7 @@ thread_grows script larger more same strings thread h =
       calls = All-weaker (IsCallOf script n) (IsCallOf larger n) (λ called g. call_grows script larger more n n called same strings (omega arith) g) thread.calls h.calls;
       made = h.made;
       nested = h.nested;
+      landed = h.landed;
     }
 
 pub no_names : IsCursors []
@@ -123,7 +132,8 @@ ended d name h named closed =
       cursors_differ = h.cursors_are.differ;
       calls = h.calls_are;
       made = h.made;
-      nested = nested_from 0 d.calls nested;
+      nested = nested_from 0 d.calls nested h.landed;
+      landed = h.landed;
     } in
     record {
       few_containers = h.few_containers;
@@ -148,6 +158,8 @@ ended d name h named closed =
       all_made = λ n low. absurd (omega arith);
       nested = ap (λ (n : ℕ). open_at n) (sym closed);
       wide = All-nil IsWideCall;
+      landed = All-nil IsLandedCall;
+      starts = h.starts;
       wide_threads = All-push HasWideCalls d.threads thread h.wide_threads h.wide;
     }
 

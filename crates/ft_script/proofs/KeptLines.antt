@@ -1,8 +1,11 @@
 -- What the reading of lines keeps of a draft, so that it becomes a script.
 use Rattle.std.proofs.Common.{◌≡◌, ◌≢◌, ℕ, ◌+◌, ◌-◌, ◌<◌, Bool, true, false, cond, eqb, ltb, List, [], ◌∷◌, ◌++◌, Option, Result, Ok, Err, refl, sym, ap, ◌∙◌, subst, arith}
-use Rattle.std.proofs.lemmas.Bool.{ltb-true, eqb-false}
+use Rattle.std.specs.Prelude.{All}
+use Rattle.std.proofs.lemmas.Bool.{false≢true, ltb-true, eqb-false}
+use Rattle.std.proofs.lemmas.List.Elements.{All-head, All-tail}
 use Rattle.ft_model.specs.declared.call.Call.{Call}
 use Rattle.ft_model.specs.declared.call.Call.TheVariants as call
+use Rattle.ft_model.specs.Landed.{is_landed_call}
 use Rattle.ft_model.specs.Scripts.{AreNested}
 use Rattle.ft_script.specs.declared.fault.Fault.{Fault}
 use Rattle.ft_script.specs.Drafts.{◌>>=◌}
@@ -47,19 +50,26 @@ end_depth : (depth next : ℕ) → depth_after depth call.End ≡ Ok next → (0
 unfolding depth_after
 end_depth depth next h = let p = passed_right (eqb depth 0) (depth - 1) next _ h in let some : depth ≢ 0 = eqb-false depth 0 p.0 in (omega arith, p.1)
 
-pub nested_from : (depth : ℕ) (calls : List Call) → depth_after_all depth calls ≡ Ok 0 → AreNested depth calls
+-- a script may have the call
+abbrev pub IsLandedCall : Call → Type 0
+IsLandedCall called = is_landed_call called ≡ true
+
+pub nested_from : (depth : ℕ) (calls : List Call) → depth_after_all depth calls ≡ Ok 0 → All IsLandedCall calls → AreNested depth calls
 unfolding depth_after
-nested_from depth [] is = cc
-nested_from depth (call.Begin first second ∷ calls) is =
+nested_from depth [] is landed = cc
+nested_from depth (call.Begin first second ∷ calls) is landed =
     let b = bind_ok (depth_after depth (call.Begin first second)) (λ next. depth_after_all next calls) 0 is in
     let p = begin_depth depth first second b.0 b.1 in
-    (p.0, subst (λ (n : ℕ). AreNested n calls) (sym p.1) (nested_from b.0 calls b.2))
-nested_from depth (call.End ∷ calls) is =
+    (p.0, subst (λ (n : ℕ). AreNested n calls) (sym p.1) (nested_from b.0 calls b.2 (All-tail IsLandedCall _ calls landed)))
+nested_from depth (call.End ∷ calls) is landed =
     let b = bind_ok (depth_after depth call.End) (λ next. depth_after_all next calls) 0 is in
     let p = end_depth depth b.0 b.1 in
-    (p.0, subst (λ (n : ℕ). AreNested n calls) (sym p.1) (nested_from b.0 calls b.2))
-nested_from depth (call.Dict place inner ∷ calls) is = nested_from depth calls is
-nested_from depth (call.List place inner ∷ calls) is = nested_from depth calls is
-nested_from depth (call.Set place inner ∷ calls) is = nested_from depth calls is
-nested_from depth (call.Next number ∷ calls) is = nested_from depth calls is
-nested_from depth (call.Quiesce ∷ calls) is = nested_from depth calls is
+    (p.0, subst (λ (n : ℕ). AreNested n calls) (sym p.1) (nested_from b.0 calls b.2 (All-tail IsLandedCall _ calls landed)))
+nested_from depth (call.Dict place inner ∷ calls) is landed = nested_from depth calls is (All-tail IsLandedCall _ calls landed)
+nested_from depth (call.List place inner ∷ calls) is landed = nested_from depth calls is (All-tail IsLandedCall _ calls landed)
+nested_from depth (call.Set place inner ∷ calls) is landed = nested_from depth calls is (All-tail IsLandedCall _ calls landed)
+nested_from depth (call.Deque place inner ∷ calls) is landed = nested_from depth calls is (All-tail IsLandedCall _ calls landed)
+nested_from depth (call.Next number ∷ calls) is landed = nested_from depth calls is (All-tail IsLandedCall _ calls landed)
+nested_from depth (call.Quiesce ∷ calls) is landed = nested_from depth calls is (All-tail IsLandedCall _ calls landed)
+nested_from depth (call.Await other index ∷ calls) is landed = absurd (false≢true (All-head IsLandedCall (call.Await other index) calls landed))
+nested_from depth (call.Dump ∷ calls) is landed = nested_from depth calls is (All-tail IsLandedCall _ calls landed)

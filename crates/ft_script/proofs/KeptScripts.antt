@@ -4,10 +4,19 @@ use Rattle.std.specs.Prelude.{IfSome, IfOk, All, min}
 use Rattle.std.specs.Option.{unwrap_or, is_some}
 use Rattle.std.specs.Str.{IsUtf8}
 use Rattle.std.proofs.lemmas.List.{length-map}
-use Rattle.std.proofs.lemmas.List.Elements.{All-nil, All-replicate, All-append, All-cons}
+use Rattle.std.proofs.lemmas.List.Elements.{All-nil, All-replicate, All-append, All-cons, All-weaker}
+use Rattle.std.proofs.lemmas.Bool.{and_from, false≢true}
+use Rattle.std.proofs.lemmas.Option.{get_or_from_slice_get, slice_get_within}
 use Rattle.ft_model.specs.declared.script.ScriptParts.{ScriptParts}
 use Rattle.ft_model.specs.Names.{IsString, is_container_name}
-use Rattle.ft_model.specs.Scripts.{IsCallOf, IsScript, IsThread, default_tables}
+use Rattle.ft_model.specs.declared.call.Call.{Call}
+use Rattle.ft_model.specs.declared.call.Call.TheVariants as call
+use Rattle.ft_model.specs.declared.script.Declaration.{Declaration}
+use Rattle.ft_model.specs.declared.script.Kind.{Kind}
+use Rattle.ft_model.specs.declared.script.Kind.TheVariants as of
+use Rattle.ft_model.specs.declared.script.Start.{Start}
+use Rattle.ft_model.specs.Landed.{is_landed_kind, is_landed_start, shares_none}
+use Rattle.ft_model.specs.Scripts.{HasBound, HasStartKeys, IsAwaitOf, IsCallOf, IsScript, IsShared, IsStartOf, IsThread, default_tables}
 use Rattle.ft_model.specs.Classes.{class_count}
 use Rattle.ft_script.specs.Drafts.{Draft}
 use Rattle.ft_script.specs.declared.fault.Fault.{Fault}
@@ -19,7 +28,8 @@ use Rattle.ft_script.specs.ReadScripts.{line_after, read_lines, reported_at}
 use Rattle.ft_script.specs.Transcripts.{IsWideCall}
 use Rattle.ft_script.proofs.Encoded.{AreEncoded, BeginsNoThread, begins_no_thread, line_good, lines_encoded}
 use Rattle.ft_script.proofs.Kept.{AreGoodWords, IsTable, bind_holds, cond_holds, or_holds, some_holds}
-use Rattle.ft_script.proofs.KeptDrafts.{HasWideCalls, IsDraft, calls_in, end_thread_keeps, no_names, none_made, IsNew}
+use Rattle.ft_script.proofs.KeptDrafts.{HasWideCalls, IsPlainStart, IsDraft, calls_in, end_thread_keeps, no_names, none_made, IsNew}
+use Rattle.ft_script.proofs.KeptLines.{IsLandedCall}
 use Rattle.ft_script.proofs.KeptStatements.{statement_keeps}
 use Rattle.std.proofs.lemmas.Slice.Zip.{length-zip}
 use Rattle.ft_script.specs.Internal.Outcomes.{HasFewThreads, LeavesDraft, reported}
@@ -116,6 +126,8 @@ empty_is_draft =
       all_made = λ n low. absurd (omega arith);
       nested = refl;
       wide = All-nil IsWideCall;
+      landed = All-nil IsLandedCall;
+      starts = All-nil IsPlainStart;
       wide_threads = All-nil HasWideCalls;
     }
 
@@ -145,12 +157,39 @@ heap_or_least : (heap : Option ℕ) → IfSome heap (λ n. (64 ≤ n) × (n ≤ 
 heap_or_least None h = (omega arith, omega arith, refl)
 heap_or_least (Some n) h = h
 
+landed_start : (start : Start) → is_landed_kind start.kind ≡ true → start.keys ≡ [] → is_landed_start start ≡ true
+landed_start start kind none = and_from (is_landed_kind start.kind) (shares_none start.keys) kind (ap shares_none none)
+
+has_bound : (kind : Kind) → is_landed_kind kind ≡ true → HasBound kind
+has_bound of.Dict landed = tt
+has_bound of.List landed = tt
+has_bound of.Set landed = tt
+has_bound (of.Deque bound) landed = absurd (false≢true landed)
+
+start_is : (script : ScriptParts) (container : Declaration) → IsPlainStart container → IsStartOf script container.start
+start_is script container h =
+    record {
+      keys = subst (HasStartKeys script.shared container.start) (sym h.keys) tt;
+      bound = has_bound container.start.kind h.kind;
+      landed = landed_start container.start h.kind h.keys;
+    }
+
+no_await : (threads : List Thread) (number : ℕ) (called : Call) → IsLandedCall called → IsAwaitOf threads number called
+no_await threads number (call.Await thread index) landed = absurd (false≢true landed)
+no_await threads number called landed = tt
+
 script_is : (d : Draft) → IsDraft d → IsScript (script_of d)
 script_is d h =
     let heap = heap_or_least d.heap h.places in
     let all : calls_in d.threads + length d.calls ≡ d.called = h.counted in
     let most : d.called ≤ 500000 = h.few_calls in
     record {
+      starts = All-weaker IsPlainStart (λ (c : Declaration). IsStartOf (script_of d) c.start) (start_is (script_of d)) d.containers h.starts;
+      few_shared = omega arith;
+      shared = All-nil (IsShared (script_of d));
+      shared_differ = λ i j each low high. absurd (omega arith);
+      awaits = λ number thread at. All-weaker IsLandedCall (IsAwaitOf d.threads number) (no_await d.threads number) thread.calls
+          (subst (λ (t : Thread). All IsLandedCall t.calls) (get_or_from_slice_get d.threads number thread thread at) (h.threads_are number thread (slice_get_within d.threads number thread at)).landed);
       few_containers = h.few_containers;
       container_names = h.container_names;
       containers_differ = h.containers_differ;

@@ -16,6 +16,7 @@ use Rattle.ft_model.specs.declared.script.Kind.{Kind}
 use Rattle.ft_model.specs.declared.script.Kind.TheVariants as kind
 use Rattle.ft_model.specs.Classes.{class_count}
 use Rattle.ft_model.specs.Names.{is_container_name, is_thread_name}
+use Rattle.ft_model.specs.Landed.{is_landed_kind}
 use Rattle.ft_model.specs.Scripts.{AreMade, IsCallOf, IsThread, NamesOf, cursor_of}
 use Rattle.ft_script.specs.declared.call_words.CallWord.{CallWord}
 use Rattle.ft_script.specs.Drafts.{Draft}
@@ -30,8 +31,8 @@ use Rattle.ft_script.proofs.Encoded.{BeginsNoThread}
 use Rattle.ft_script.proofs.MoreCalls.{call_grows}
 use Rattle.ft_script.proofs.Kept.{AreGoodWords, anything, bind_holds, cond_holds, or_holds}
 use Rattle.ft_script.proofs.KeptCalls.{CallRead, Called, call_keeps}
-use Rattle.ft_script.proofs.KeptDrafts.{AllMade, IsDraft, calls_in, no_place, passed, same_containers, thread_grows, thread_line_keeps}
-use Rattle.ft_script.proofs.KeptLines.{after_push, depth_after_all}
+use Rattle.ft_script.proofs.KeptDrafts.{AllMade, IsPlainStart, IsDraft, calls_in, no_place, passed, same_containers, thread_grows, thread_line_keeps}
+use Rattle.ft_script.proofs.KeptLines.{IsLandedCall, after_push, depth_after_all}
 use Rattle.ft_script.proofs.DistinctNames.{absent, differ_push, place_within}
 
 -- ---- a draft that has more
@@ -44,27 +45,28 @@ calls_grow d e more a b containers strings le are = All-weaker (IsCallOf (script
 
 -- ---- declarations
 
-container_added : (d : Draft) (container : Declaration) → IsDraft d → is_container_name container.name ≡ true → All (λ other. other.name ≢ container.name) d.containers → length d.containers < 256 → IsDraft (record d { containers = d.containers ++ container ∷ [] })
-container_added d container h form differs room =
+container_added : (d : Draft) (container : Declaration) → IsDraft d → IsPlainStart container → is_container_name container.name ≡ true → All (λ other. other.name ≢ container.name) d.containers → length d.containers < 256 → IsDraft (record d { containers = d.containers ++ container ∷ [] })
+container_added d container h start form differs room =
     let next : Draft = record d { containers = d.containers ++ container ∷ [] } in
     let longer : length (d.containers ++ container ∷ []) ≡ length d.containers + 1 = length-append d.containers (container ∷ []) in
     let few : length (d.containers ++ container ∷ []) ≤ 256 = omega arith in
     let names : All (λ c. is_container_name c.name ≡ true) (d.containers ++ container ∷ []) = All-push (λ c. is_container_name c.name ≡ true) d.containers container h.container_names form in
     let differ : AllPairs (λ a b. a.name ≢ b.name) (d.containers ++ container ∷ []) = differ_push (λ (c : Declaration). c.name) d.containers container h.containers_differ differs in
+    let starts : All IsPlainStart (d.containers ++ container ∷ []) = All-push IsPlainStart d.containers container h.starts start in
     let threads_are : All (IsThread (script_of next)) d.threads = threads_grow d next (container ∷ []) refl (omega arith) h.threads_are in
     let calls_are : All (IsCallOf (script_of next) (length d.cursors)) d.calls = calls_grow d next (container ∷ []) (length d.cursors) (length d.cursors) refl (omega arith) (omega arith) h.calls_are in
     search
 
-container_line_keeps : (d : Draft) (kind : Kind) (words : List (List ℕ)) → IsDraft d → IfOk (container_line d kind words) IsDraft
+container_line_keeps : (d : Draft) (kind : Kind) (words : List (List ℕ)) → is_landed_kind kind ≡ true → IsDraft d → IfOk (container_line d kind words) IsDraft
 unfolding container_line
-container_line_keeps d kind [] h = tt
-container_line_keeps d kind (name ∷ []) h =
+container_line_keeps d kind [] landed h = tt
+container_line_keeps d kind (name ∷ []) landed h =
     cond_holds (not (is_container_name name)) _ _ IsDraft (λ _. tt) (λ form.
     cond_holds (is_some (container_place d.containers name)) _ _ IsDraft (λ _. tt) (λ new.
     cond_holds (ltb (length d.containers) 256) _ _ IsDraft
-    (λ room. container_added d (record { kind = kind; name = name }) h (passed (is_container_name name) form) (absent (λ (c : Declaration). c.name) d.containers name (no_place (container_place d.containers name) new)) (ltb-true (length d.containers) 256 room))
+    (λ room. container_added d (record { start = record { kind = kind; keys = [] }; name = name }) h (record { kind = landed; keys = refl }) (passed (is_container_name name) form) (absent (λ (c : Declaration). c.name) d.containers name (no_place (container_place d.containers name) new)) (ltb-true (length d.containers) 256 room))
     (λ _. tt)))
-container_line_keeps d kind (name ∷ other ∷ words) h = tt
+container_line_keeps d kind (name ∷ other ∷ words) landed h = tt
 
 -- an integer between two numbers is a number
 between : (low high : ℕ) (n : ℤ) → (int_le (pos low) n && int_le n (pos high)) ≡ true → (low ≤ natural_of n) × (natural_of n ≤ high)
@@ -127,9 +129,9 @@ heap_line_keeps d (count ∷ other ∷ words) h = tt
 declaration_keeps : (d : Draft) (word : List ℕ) (words : List (List ℕ)) → IsDraft d → IfOk (declaration d word words) IsDraft
 unfolding declaration
 declaration_keeps d word words h =
-    cond_holds (bytes_eq word (codes "dict")) _ _ IsDraft (λ _. container_line_keeps d kind.Dict words h) (λ _.
-    cond_holds (bytes_eq word (codes "list")) _ _ IsDraft (λ _. container_line_keeps d kind.List words h) (λ _.
-    cond_holds (bytes_eq word (codes "set")) _ _ IsDraft (λ _. container_line_keeps d kind.Set words h) (λ _.
+    cond_holds (bytes_eq word (codes "dict")) _ _ IsDraft (λ _. container_line_keeps d kind.Dict words refl h) (λ _.
+    cond_holds (bytes_eq word (codes "list")) _ _ IsDraft (λ _. container_line_keeps d kind.List words refl h) (λ _.
+    cond_holds (bytes_eq word (codes "set")) _ _ IsDraft (λ _. container_line_keeps d kind.Set words refl h) (λ _.
     cond_holds (bytes_eq word (codes "tables")) _ _ IsDraft (λ _. tables_line_keeps d words h) (λ _.
     cond_holds (bytes_eq word (codes "heap")) _ _ IsDraft (λ _. heap_line_keeps d words h) (λ _. tt)))))
 
@@ -218,6 +220,7 @@ call_added d e called depth h room named read deeper =
     let all_made : AllMade read.cursors all = λ k low. elim (read.fresh k low) [ inl old ↦ any_before (λ c. cursor_of c ≡ Some k) d.calls called (h.all_made k old) | inr made ↦ Any-push (λ c. cursor_of c ≡ Some k) d.calls called made ] in
     let nested : depth_after_all 0 all ≡ Ok depth = after_push 0 d.calls called d.depth depth h.nested deeper in
     let wide : All IsWideCall all = All-push IsWideCall d.calls called h.wide read.wide in
+    let landed : All IsLandedCall all = All-push IsLandedCall d.calls called h.landed read.landed in
     let is : IsDraft next = search in
     subst (λ (x : Draft). IsDraft (record x { calls = x.calls ++ called ∷ []; called = d.called + 1; depth = depth })) (sym read.is) is
 

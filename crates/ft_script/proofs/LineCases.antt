@@ -10,6 +10,7 @@ use Rattle.ft_model.specs.declared.entry.Entry.{Entry}
 use Rattle.ft_model.specs.declared.reply.Reply.{Reply}
 use Rattle.ft_model.specs.declared.script.ScriptParts.{ScriptParts}
 use Rattle.ft_model.specs.Histories.{cursors_of}
+use Rattle.ft_model.specs.Landed.{is_landed_call}
 use Rattle.ft_model.specs.Scripts.{IsScript, IsCallOf}
 use Rattle.ft_script.specs.declared.fault.Fault.{Fault}
 use Rattle.ft_script.specs.Internal.Candidates.{read_entry, read_content, read_numbered}
@@ -41,12 +42,13 @@ first_line (a ∷ front) (b ∷ bs) x y ha hb same =
 
 -- ---- entries
 
-pub readable_by : (script : ScriptParts) (entry : Entry) → EntryFits script entry → 1 ≤ entry.index → IsCallOf script (cursors_of script entry.thread) entry.call → IsWideCall entry.call → IsReadable script entry
-readable_by script entry fits index called wide = record {
+pub readable_by : (script : ScriptParts) (entry : Entry) → EntryFits script entry → 1 ≤ entry.index → IsCallOf script (cursors_of script entry.thread) entry.call → is_landed_call entry.call ≡ true → IsWideCall entry.call → IsReadable script entry
+readable_by script entry fits index called landed wide = record {
   of_script = record { thread = fits.thread; call = called; reply = fits.reply.of_script; mark = fits.waited };
   first_index = index;
   last_index = fits.index;
   stamp = fits.stamp;
+  landed = landed;
   call = wide;
   reply = fits.reply.readable;
   said = fits.reply.wide;
@@ -175,7 +177,7 @@ same_line line text below more is feedless same =
 -- the text of a content has no line feed
 pub content_feedless : (script : ScriptParts) (text : List ℕ) → IsScript script → IsContentLine script text → is_feedless text ≡ true
 content_feedless script text rule h =
-    let words : List (List ℕ) = container_name script h.container ∷ codes "=" ∷ reply_text script.strings h.content ∷ [] in
+    let words : List (List ℕ) = container_name script h.container ∷ codes "=" ∷ reply_text script h.content ∷ [] in
     let e : text ≡ join_with_byte 32 words = append_cancel_right text (join_with_byte 32 words) (10 ∷ []) h.written in
     ap is_feedless e ∙ (content_cut script h.container h.content rule h.declared h.whole h.of_script h.wide).feedless
 

@@ -14,11 +14,14 @@ use Rattle.ft_model.specs.declared.call.ListCall.{ListCall}
 use Rattle.ft_model.specs.declared.call.ListCall.TheVariants as list
 use Rattle.ft_model.specs.declared.call.SetCall.{SetCall}
 use Rattle.ft_model.specs.declared.call.SetCall.TheVariants as set
+use Rattle.ft_model.specs.declared.call.DequeCall.{DequeCall}
+use Rattle.ft_model.specs.declared.call.DequeCall.TheVariants as deque
 use Rattle.ft_model.specs.declared.script.Declaration.{Declaration}
 use Rattle.ft_model.specs.declared.script.Kind.{Kind}
+use Rattle.ft_model.specs.declared.script.Kind.TheVariants as of
 use Rattle.ft_model.specs.declared.script.ScriptParts.{ScriptParts}
-use Rattle.ft_model.specs.Calls.{other_dict, other_list, other_set, cursor_of_dict, cursor_of_list, cursor_of_set}
-use Rattle.ft_model.specs.Scripts.{IsKeyOf, IsValueOf, AreStringsOfDict, AreStringsOfList, AreStringsOfSet, AreStringsOf, IsDeclaredAs, AreNamesOf, NamesOf, IsCallOf}
+use Rattle.ft_model.specs.Calls.{other_dict, other_list, other_set, other_deque, cursor_of_dict, cursor_of_list, cursor_of_set, cursor_of_deque}
+use Rattle.ft_model.specs.Scripts.{IsKeyOf, IsValueOf, AreStringsOfDict, AreStringsOfList, AreStringsOfSet, AreStringsOfDeque, AreStringsOf, kind_at, IsDeclaredAs, AreNamesOf, NamesOf, IsCallOf}
 
 -- ---- strings
 
@@ -48,6 +51,12 @@ dict_strings_grow a b dict.Clear more h = tt
 dict_strings_grow a b (dict.CopyTo o) more h = tt
 dict_strings_grow a b (dict.Eq o) more h = tt
 dict_strings_grow a b (dict.Iter c) more h = tt
+dict_strings_grow a b (dict.KeysAnd o) more h = tt
+dict_strings_grow a b (dict.KeysSub o) more h = tt
+dict_strings_grow a b (dict.KeysOr o) more h = tt
+dict_strings_grow a b (dict.KeysXor o) more h = tt
+dict_strings_grow a b (dict.ItemsHas k v) more h = (key_grows a b k more h.0, value_grows a b v more h.1)
+dict_strings_grow a b (dict.Reversed c) more h = tt
 
 list_strings_grow : (a b : ℕ) (called : ListCall) → a ≤ b → AreStringsOfList a called → AreStringsOfList b called
 list_strings_grow a b (list.Append v) more h = value_grows a b v more h
@@ -68,6 +77,7 @@ list_strings_grow a b list.Len more h = tt
 list_strings_grow a b list.Items more h = tt
 list_strings_grow a b (list.Eq o) more h = tt
 list_strings_grow a b (list.Iter c) more h = tt
+list_strings_grow a b (list.Reversed c) more h = tt
 
 set_strings_grow : (a b : ℕ) (called : SetCall) → a ≤ b → AreStringsOfSet a called → AreStringsOfSet b called
 set_strings_grow a b (set.Add k) more h = key_grows a b k more h
@@ -87,14 +97,23 @@ set_strings_grow a b (set.Disjoint o) more h = tt
 set_strings_grow a b set.Clear more h = tt
 set_strings_grow a b (set.Iter c) more h = tt
 
+deque_strings_grow : (a b : ℕ) (called : DequeCall) → a ≤ b → AreStringsOfDeque a called → AreStringsOfDeque b called
+deque_strings_grow a b (deque.Append v) more h = value_grows a b v more h
+deque_strings_grow a b (deque.AppendLeft v) more h = value_grows a b v more h
+deque_strings_grow a b (deque.Has v) more h = value_grows a b v more h
+deque_strings_grow a b other more h = tt
+
 strings_grow : (a b : ℕ) (called : Call) → a ≤ b → AreStringsOf a called → AreStringsOf b called
 strings_grow a b (call.Dict place inner) more h = dict_strings_grow a b inner more h
 strings_grow a b (call.List place inner) more h = list_strings_grow a b inner more h
 strings_grow a b (call.Set place inner) more h = set_strings_grow a b inner more h
+strings_grow a b (call.Deque place inner) more h = deque_strings_grow a b inner more h
 strings_grow a b (call.Next number) more h = tt
 strings_grow a b (call.Begin first second) more h = tt
 strings_grow a b call.End more h = tt
 strings_grow a b call.Quiesce more h = tt
+strings_grow a b (call.Await other index) more h = tt
+strings_grow a b call.Dump more h = tt
 
 -- ---- containers and cursors
 
@@ -104,12 +123,18 @@ get_grows [] more place container h = absurd cc
 get_grows (c ∷ containers) more zero container h = h
 get_grows (c ∷ containers) more (suc place) container h = get_grows containers more place container h
 
-declared_by : (containers more : List Declaration) (kind : Kind) (place : ℕ) (found : Option Declaration) → slice_get containers place ≡ found → option_map (λ container. container.kind) found ≡ Some kind → IsDeclaredAs (containers ++ more) kind place
-declared_by containers more kind place None is h = absurd cc
-declared_by containers more kind place (Some container) is h = ap (option_map (λ c. c.kind)) (get_grows containers more place container is) ∙ h
+kind_by : (containers more : List Declaration) (kind : Kind) (place : ℕ) (found : Option Declaration) → slice_get containers place ≡ found → option_map (λ container. container.start.kind) found ≡ Some kind → kind_at (containers ++ more) place ≡ Some kind
+kind_by containers more kind place None is h = absurd cc
+kind_by containers more kind place (Some container) is h = ap (option_map (λ c. c.start.kind)) (get_grows containers more place container is) ∙ h
+
+kind_grows : (containers more : List Declaration) (kind : Kind) (place : ℕ) → kind_at containers place ≡ Some kind → kind_at (containers ++ more) place ≡ Some kind
+kind_grows containers more kind place h = kind_by containers more kind place (slice_get containers place) refl h
 
 declared_grows : (containers more : List Declaration) (kind : Kind) (place : ℕ) → IsDeclaredAs containers kind place → IsDeclaredAs (containers ++ more) kind place
-declared_grows containers more kind place h = declared_by containers more kind place (slice_get containers place) refl h
+declared_grows containers more of.Dict place h = kind_grows containers more of.Dict place h
+declared_grows containers more of.List place h = kind_grows containers more of.List place h
+declared_grows containers more of.Set place h = kind_grows containers more of.Set place h
+declared_grows containers more (of.Deque _) place h = (h.0, kind_grows containers more (of.Deque h.0) place h.1)
 
 other_grows : (containers more : List Declaration) (kind : Kind) (other : Option ℕ) → IfSome other (λ place. IsDeclaredAs containers kind place) → IfSome other (λ place. IsDeclaredAs (containers ++ more) kind place)
 other_grows containers more kind None h = tt
@@ -127,12 +152,15 @@ names_grow : (containers more : List Declaration) (a b : ℕ) (called : Call) �
 names_grow containers more a b (call.Dict place inner) le h = names_of_grow containers more a b _ place (other_dict inner) (cursor_of_dict inner) le h
 names_grow containers more a b (call.List place inner) le h = names_of_grow containers more a b _ place (other_list inner) (cursor_of_list inner) le h
 names_grow containers more a b (call.Set place inner) le h = names_of_grow containers more a b _ place (other_set inner) (cursor_of_set inner) le h
+names_grow containers more a b (call.Deque place inner) le h = names_of_grow containers more a b _ place (other_deque inner) (cursor_of_deque inner) le h
 names_grow containers more a b (call.Next number) le h = omega arith
 names_grow containers more a b (call.Begin first second) le h =
     let longer : length containers ≤ length (containers ++ more) = omega (arith, length-append containers more) in
     (omega arith, below_grows (length containers) (length (containers ++ more)) second longer h.1)
 names_grow containers more a b call.End le h = tt
 names_grow containers more a b call.Quiesce le h = tt
+names_grow containers more a b (call.Await other index) le h = tt
+names_grow containers more a b call.Dump le h = tt
 
 pub call_grows : (script larger : ScriptParts) (more : List Declaration) (a b : ℕ) (called : Call) → larger.containers ≡ script.containers ++ more → length script.strings ≤ length larger.strings → a ≤ b → IsCallOf script a called → IsCallOf larger b called
 call_grows script larger more a b called same strings le h =

@@ -1,5 +1,5 @@
 -- No line of a script's text is `---`: it is read nowhere.
-use Rattle.std.proofs.Common.{◌≡◌, ◌≢◌, ◌⊎◌, ◌∙◌, ℕ, Bool, true, false, cond, eqb, List, [], ◌∷◌, ◌++◌, length, Option, Some, None, Result, Ok, Err, refl, sym, ap, inl, inr, append_assoc}
+use Rattle.std.proofs.Common.{◌≡◌, ◌∙◌, ℕ, Bool, true, false, cond, eqb, List, [], ◌∷◌, ◌++◌, length, Result, Ok, Err, refl, sym, ap}
 use Rattle.std.specs.Prelude.{codes}
 use Rattle.std.specs.Option.{is_some}
 use Rattle.ft_model.specs.declared.script.ScriptParts.{ScriptParts}
@@ -8,11 +8,10 @@ use Rattle.ft_script.specs.declared.fault.Fault.{Fault}
 use Rattle.ft_script.specs.declared.fault.Fault.TheVariants as fault
 use Rattle.ft_script.specs.declared.fault.ScriptFault.{ScriptFault}
 use Rattle.ft_script.specs.Drafts.{empty_draft}
-use Rattle.ft_script.specs.Lines.{lines_of, with_first, words_from, first_word}
+use Rattle.ft_script.specs.Lines.{lines_of, with_first, words_from}
 use Rattle.ft_script.specs.CallWords.{call_word_of}
 use Rattle.ft_script.specs.ScriptLines.{declaration, open_line, other_statement, plain_statement, read_line, statement, thread_statement, unordered_statement, words_line}
 use Rattle.ft_script.specs.ReadScripts.{line_after, read_lines, read_script, reported_at}
-use Rattle.ft_script.proofs.LineLemmas.{lines_cons, no_lines}
 use Rattle.ft_script.proofs.ReadScripts.{is_read}
 
 -- ---- the line

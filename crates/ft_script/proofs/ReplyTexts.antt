@@ -16,6 +16,7 @@ use Rattle.ft_model.specs.declared.reply.Raise.{Raise}
 use Rattle.ft_model.specs.declared.reply.Raise.TheVariants as raise
 use Rattle.ft_model.specs.declared.reply.Reply.{Reply}
 use Rattle.ft_model.specs.declared.reply.Reply.TheVariants as reply
+use Rattle.ft_model.specs.declared.script.ScriptParts.{ScriptParts}
 use Rattle.ft_model.specs.Parts.{IsReplyOf}
 use Rattle.ft_model.specs.Scripts.{IsKeyOf, IsValueOf}
 use Rattle.ft_model.specs.Classes.{least_class, greatest_class}
@@ -44,6 +45,7 @@ raise_tokens raise.NoIndex = codes "IndexError" ∷ []
 raise_tokens raise.NoValue = codes "ValueError" ∷ []
 raise_tokens raise.Size = codes "RuntimeError" ∷ codes "size" ∷ []
 raise_tokens raise.Keys = codes "RuntimeError" ∷ codes "keys" ∷ []
+raise_tokens raise.Moved = codes "RuntimeError" ∷ codes "moved" ∷ []
 raise_tokens (raise.Memory class) = codes "MemoryError" ∷ decimal class ∷ []
 raise_tokens raise.Over = codes "MemoryError" ∷ codes "over" ∷ []
 raise_tokens raise.Heap = codes "MemoryError" ∷ codes "heap" ∷ []
@@ -59,6 +61,7 @@ reply_tokens strings (reply.Dict pairs) = codes "{" ∷ flat_map (pair_tokens st
 reply_tokens strings (reply.List items) = codes "[" ∷ map (value_text strings) items ++ codes "]" ∷ []
 reply_tokens strings (reply.Set []) = codes "set()" ∷ []
 reply_tokens strings (reply.Set (element ∷ elements)) = codes "{" ∷ map (key_text strings) (element ∷ elements) ++ codes "}" ∷ []
+reply_tokens strings (reply.World world) = codes "world" ∷ []
 reply_tokens strings reply.Stop = codes "StopIteration" ∷ []
 reply_tokens strings reply.Entered = codes "entered" ∷ []
 reply_tokens strings reply.Kept = codes "kept" ∷ []
@@ -110,34 +113,36 @@ raise_is_cut counted raise.NoIndex h = word_is_cut (codes "IndexError") (refl, r
 raise_is_cut counted raise.NoValue h = word_is_cut (codes "ValueError") (refl, refl)
 raise_is_cut counted raise.Size h = two_words (codes "RuntimeError") (codes "size") (word_is_cut (codes "RuntimeError") (refl, refl)) (word_is_cut (codes "size") (refl, refl))
 raise_is_cut counted raise.Keys h = two_words (codes "RuntimeError") (codes "keys") (word_is_cut (codes "RuntimeError") (refl, refl)) (word_is_cut (codes "keys") (refl, refl))
+raise_is_cut counted raise.Moved h = absurd h
 raise_is_cut counted (raise.Memory class) h = let high : class ≤ greatest_class = h.1 in two_words (codes "MemoryError") (decimal class) (word_is_cut (codes "MemoryError") (refl, refl)) (decimal_is_cut class (omega arith))
 raise_is_cut counted raise.Over h = two_words (codes "MemoryError") (codes "over") (word_is_cut (codes "MemoryError") (refl, refl)) (word_is_cut (codes "over") (refl, refl))
 raise_is_cut counted raise.Heap h = two_words (codes "MemoryError") (codes "heap") (word_is_cut (codes "MemoryError") (refl, refl)) (word_is_cut (codes "heap") (refl, refl))
 
-pub reply_is_cut : (strings : List (List ℕ)) (counted : Bool) (said : Reply) → IsWideReply said → IsReadableReply counted said → IsCut (reply_text strings said) (reply_tokens strings said)
-reply_is_cut strings counted reply.Done wide h = word_is_cut (codes "ok") (refl, refl)
-reply_is_cut strings counted (reply.Value found) wide h = value_is_cut strings found wide
-reply_is_cut strings counted (reply.Pair first second) wide h = pair_is_cut strings (first, second) wide
-reply_is_cut strings counted (reply.Truth true) wide h = word_is_cut (codes "True") (refl, refl)
-reply_is_cut strings counted (reply.Truth false) wide h = word_is_cut (codes "False") (refl, refl)
-reply_is_cut strings counted (reply.Count count) wide h = let low : count < 2 ^ 63 = h.1 in decimal_is_cut count (omega arith)
-reply_is_cut strings counted (reply.Dict pairs) wide h =
-    let all = listed_cut (pair_text strings) (pair_tokens strings) (λ pair. IsWideKey pair.0 × IsWideValue pair.1) (pair_is_cut strings) pairs wide in
-    between_marks 123 125 (listed (map (pair_text strings) pairs)) (flat_map (pair_tokens strings) pairs) refl refl refl refl refl refl all.cut all.feedless
-reply_is_cut strings counted (reply.List items) wide h =
-    let all = listed_cut (value_text strings) (λ found. value_text strings found ∷ []) IsWideValue (value_is_cut strings) items wide in
-    let e = singly (value_text strings) items in
-    between_marks 91 93 (listed (map (value_text strings) items)) (map (value_text strings) items) refl refl refl refl refl refl (λ rest ends. all.cut rest ends ∙ ap (λ (l : List (List ℕ)). l ++ tokens_of rest) e) all.feedless
-reply_is_cut strings counted (reply.Set []) wide h = word_is_cut (codes "set()") (refl, refl)
-reply_is_cut strings counted (reply.Set (element ∷ elements)) wide h =
-    let all = listed_cut (key_text strings) (λ found. key_text strings found ∷ []) IsWideKey (key_is_cut strings) (element ∷ elements) wide in
-    let e = singly (key_text strings) (element ∷ elements) in
-    between_marks 123 125 (listed (map (key_text strings) (element ∷ elements))) (map (key_text strings) (element ∷ elements)) refl refl refl refl refl refl (λ rest ends. all.cut rest ends ∙ ap (λ (l : List (List ℕ)). l ++ tokens_of rest) e) all.feedless
-reply_is_cut strings counted reply.Stop wide h = word_is_cut (codes "StopIteration") (refl, refl)
-reply_is_cut strings counted reply.Entered wide h = word_is_cut (codes "entered") (refl, refl)
-reply_is_cut strings counted reply.Kept wide h = word_is_cut (codes "kept") (refl, refl)
-reply_is_cut strings counted (reply.Suspended count) wide h = let low : count < 2 ^ 32 = wide in two_words (codes "suspended") (decimal count) (word_is_cut (codes "suspended") (refl, refl)) (decimal_is_cut count (omega arith))
-reply_is_cut strings counted (reply.Raised raised) wide h = raise_is_cut counted raised h
+pub reply_is_cut : (script : ScriptParts) (counted : Bool) (said : Reply) → IsWideReply said → IsReadableReply counted said → IsCut (reply_text script said) (reply_tokens script.strings said)
+reply_is_cut script counted reply.Done wide h = word_is_cut (codes "ok") (refl, refl)
+reply_is_cut script counted (reply.Value found) wide h = value_is_cut script.strings found wide
+reply_is_cut script counted (reply.Pair first second) wide h = pair_is_cut script.strings (first, second) wide
+reply_is_cut script counted (reply.Truth true) wide h = word_is_cut (codes "True") (refl, refl)
+reply_is_cut script counted (reply.Truth false) wide h = word_is_cut (codes "False") (refl, refl)
+reply_is_cut script counted (reply.Count count) wide h = let low : count < 2 ^ 63 = h.1 in decimal_is_cut count (omega arith)
+reply_is_cut script counted (reply.Dict pairs) wide h =
+    let all = listed_cut (pair_text script.strings) (pair_tokens script.strings) (λ pair. IsWideKey pair.0 × IsWideValue pair.1) (pair_is_cut script.strings) pairs wide in
+    between_marks 123 125 (listed (map (pair_text script.strings) pairs)) (flat_map (pair_tokens script.strings) pairs) refl refl refl refl refl refl all.cut all.feedless
+reply_is_cut script counted (reply.List items) wide h =
+    let all = listed_cut (value_text script.strings) (λ found. value_text script.strings found ∷ []) IsWideValue (value_is_cut script.strings) items wide in
+    let e = singly (value_text script.strings) items in
+    between_marks 91 93 (listed (map (value_text script.strings) items)) (map (value_text script.strings) items) refl refl refl refl refl refl (λ rest ends. all.cut rest ends ∙ ap (λ (l : List (List ℕ)). l ++ tokens_of rest) e) all.feedless
+reply_is_cut script counted (reply.Set []) wide h = word_is_cut (codes "set()") (refl, refl)
+reply_is_cut script counted (reply.Set (element ∷ elements)) wide h =
+    let all = listed_cut (key_text script.strings) (λ found. key_text script.strings found ∷ []) IsWideKey (key_is_cut script.strings) (element ∷ elements) wide in
+    let e = singly (key_text script.strings) (element ∷ elements) in
+    between_marks 123 125 (listed (map (key_text script.strings) (element ∷ elements))) (map (key_text script.strings) (element ∷ elements)) refl refl refl refl refl refl (λ rest ends. all.cut rest ends ∙ ap (λ (l : List (List ℕ)). l ++ tokens_of rest) e) all.feedless
+reply_is_cut script counted (reply.World world) wide h = absurd h
+reply_is_cut script counted reply.Stop wide h = word_is_cut (codes "StopIteration") (refl, refl)
+reply_is_cut script counted reply.Entered wide h = word_is_cut (codes "entered") (refl, refl)
+reply_is_cut script counted reply.Kept wide h = word_is_cut (codes "kept") (refl, refl)
+reply_is_cut script counted (reply.Suspended count) wide h = let low : count < 2 ^ 32 = wide in two_words (codes "suspended") (decimal count) (word_is_cut (codes "suspended") (refl, refl)) (decimal_is_cut count (omega arith))
+reply_is_cut script counted (reply.Raised raised) wide h = raise_is_cut counted raised h
 
 -- ---- reading back
 
@@ -337,6 +342,7 @@ raise_back strings counted raise.NoIndex h = by_word strings counted word.IndexE
 raise_back strings counted raise.NoValue h = by_word strings counted word.ValueError []
 raise_back strings counted raise.Size h = by_word strings counted word.RuntimeError (codes "size" ∷ []) ∙ worded_runtime strings (codes "size" ∷ []) raise.Size size_back
 raise_back strings counted raise.Keys h = by_word strings counted word.RuntimeError (codes "keys" ∷ []) ∙ worded_runtime strings (codes "keys" ∷ []) raise.Keys keys_back
+raise_back strings counted raise.Moved h = absurd h
 raise_back strings counted (raise.Memory class) h = by_word strings counted word.MemoryError (decimal class ∷ []) ∙ worded_memory strings (decimal class ∷ []) (raise.Memory class) (memory_back class h.0 h.1)
 raise_back strings counted raise.Over h = by_word strings counted word.MemoryError (codes "over" ∷ []) ∙ worded_memory strings (codes "over" ∷ []) raise.Over over_back
 raise_back strings counted raise.Heap h = by_word strings counted word.MemoryError (codes "heap" ∷ []) ∙ worded_memory strings (codes "heap" ∷ []) raise.Heap heap_back
@@ -363,6 +369,7 @@ reply_back strings counted (reply.Dict pairs) differ of wide h = dict_back strin
 reply_back strings counted (reply.List items) differ of wide h = list_back strings counted items differ of wide
 reply_back strings counted (reply.Set []) differ of wide h = by_word strings counted word.NoElements []
 reply_back strings counted (reply.Set (element ∷ elements)) differ of wide h = set_back strings counted element elements differ of wide
+reply_back strings counted (reply.World world) differ of wide h = absurd h
 reply_back strings counted reply.Stop differ of wide h = by_word strings counted word.Stop []
 reply_back strings counted reply.Entered differ of wide h = by_word strings counted word.Entered []
 reply_back strings counted reply.Kept differ of wide h = by_word strings counted word.Kept []
@@ -406,6 +413,7 @@ raise_other counted raise.NoIndex h = refl
 raise_other counted raise.NoValue h = refl
 raise_other counted raise.Size h = refl
 raise_other counted raise.Keys h = refl
+raise_other counted raise.Moved h = absurd h
 raise_other counted (raise.Memory class) h = let high : class ≤ greatest_class = h.1 in and_from (is_other (decimal class)) true (number_other class (omega arith)) refl
 raise_other counted raise.Over h = refl
 raise_other counted raise.Heap h = refl
@@ -422,6 +430,7 @@ reply_other strings counted (reply.Dict pairs) wide h = closed_other (flat_map (
 reply_other strings counted (reply.List items) wide h = closed_other (map (value_text strings) items) (codes "]") (mapped_other (value_text strings) IsWideValue (value_begins strings) items wide) refl
 reply_other strings counted (reply.Set []) wide h = refl
 reply_other strings counted (reply.Set (element ∷ elements)) wide h = closed_other (map (key_text strings) (element ∷ elements)) (codes "}") (mapped_other (key_text strings) IsWideKey (key_begins strings) (element ∷ elements) wide) refl
+reply_other strings counted (reply.World world) wide h = absurd h
 reply_other strings counted reply.Stop wide h = refl
 reply_other strings counted reply.Entered wide h = refl
 reply_other strings counted reply.Kept wide h = refl

@@ -1,8 +1,8 @@
 -- What is read of tokens is of the script, and no number of it is too great.
-use Rattle.std.proofs.Common.{◌≡◌, ℕ, ℤ, pos, negsuc, ◌-◌, ◌^◌, ◌<◌, ◌≤◌, Bool, true, false, ltb, leb, ◌&&◌, List, [], ◌∷◌, length, Option, Some, None, Result, Ok, Err, refl, sym, ap, ◌∙◌, arith}
+use Rattle.std.proofs.Common.{◌≡◌, ℕ, pos, negsuc, ◌-◌, ◌^◌, ◌<◌, ◌≤◌, Bool, true, false, ltb, leb, ◌&&◌, List, [], ◌∷◌, length, Option, Some, None, Result, Ok, Err, refl, sym, ◌∙◌, arith}
 use Rattle.std.specs.Prelude.{All, IfOk, IfSome, codes}
 use Rattle.std.specs.Str.{bytes_eq}
-use Rattle.std.specs.Str.Parse.{digits_value, signed_digits_value}
+use Rattle.std.specs.Str.Parse.{digits_value}
 use Rattle.std.proofs.lemmas.Bool.{and_parts, leb-true, ltb-true}
 use Rattle.std.proofs.lemmas.List.Elements.{All-nil, All-cons}
 use Rattle.ft_model.specs.declared.data.Key.{Key}
@@ -27,11 +27,10 @@ use Rattle.ft_script.specs.Arguments.{read_index}
 use Rattle.ft_script.specs.Internal.Candidates.{is_decimal, natural_in, read_u64, read_u32, known_key, known_value, known_pair, read_each, read_pairs, read_reply_word, read_suspended, read_runtime_error, read_class_error, read_memory_error, has_pairs, read_braced, but_last, worded_reply, counted_reply, shown_reply, first_reply, read_reply, read_thread, read_numbered, read_stamp, read_waited, thread_call, read_entry, read_content}
 use Rattle.ft_script.specs.Drafts.{or_fault, text_place, thread_place, container_place}
 use Rattle.ft_script.specs.Transcripts.{counts, IsWideKey, IsWideValue, IsWideReply, IsReadableReply}
-use Rattle.ft_script.specs.LineWords.{is_integer, is_wide, integer_of, is_string, text_of}
+use Rattle.ft_script.specs.LineWords.{is_wide, is_string, text_of}
 use Rattle.ft_script.proofs.Kept.{bind_holds, cond_holds, or_holds, anything, index_keeps}
 use Rattle.ft_script.proofs.DistinctNames.{place_within}
 use Rattle.ft_script.proofs.NumberLemmas.{natural_by}
-use Rattle.ft_script.proofs.WordLemmas.{integer_by}
 
 -- ---- numbers
 
@@ -113,6 +112,7 @@ pub record ReplyFits (strings : List (List ℕ)) (counted : Bool) (said : Reply)
 
 abbrev RaiseFits : Raise → Type 0
 RaiseFits (raise.Memory class) = (least_class ≤ class) × (class ≤ greatest_class)
+RaiseFits raise.Moved = ⊥
 RaiseFits other = Unit {0}
 
 runtime_sound : (tokens : List (List ℕ)) → IfOk (read_runtime_error tokens) RaiseFits
@@ -137,6 +137,7 @@ raise_fits strings counted raise.NoIndex h = record { of_script = tt; wide = tt;
 raise_fits strings counted raise.NoValue h = record { of_script = tt; wide = tt; readable = tt }
 raise_fits strings counted raise.Size h = record { of_script = tt; wide = tt; readable = tt }
 raise_fits strings counted raise.Keys h = record { of_script = tt; wide = tt; readable = tt }
+raise_fits strings counted raise.Moved h = absurd h
 raise_fits strings counted (raise.Memory class) h = record { of_script = tt; wide = tt; readable = h }
 raise_fits strings counted raise.Over h = record { of_script = tt; wide = tt; readable = tt }
 raise_fits strings counted raise.Heap h = record { of_script = tt; wide = tt; readable = tt }

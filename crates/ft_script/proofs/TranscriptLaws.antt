@@ -34,11 +34,11 @@ words_text script entry = join_with_byte 32 (entry_line_words script entry)
 
 entry_high : (script : ScriptParts) (entry : Entry) → IsScript script → IsReadable script entry → BeginsHigh (words_text script entry)
 entry_high script entry rule h =
-    subst BeginsHigh (sym (join_with_byte-cons 32 (place_word script entry) (stamp_word entry ∷ (call_words script entry.thread entry.call ++ (codes "=" ∷ reply_text script.strings entry.reply ∷ mark_words script entry.waited)))))
+    subst BeginsHigh (sym (join_with_byte-cons 32 (place_word script entry) (stamp_word entry ∷ (call_words script entry.thread entry.call ++ (codes "=" ∷ reply_text script entry.reply ∷ mark_words script entry.waited)))))
     (high_front (place_word script entry) _ (high_front (thread_name script entry.thread) _ (thread_begins script entry.thread rule h.of_script.thread)))
 
 content_low : (script : ScriptParts) (text : List ℕ) → IsScript script → (h : IsContentLine script text) → BeginsLow (text ++ 10 ∷ [])
-content_low script text rule h = subst BeginsLow (sym h.written) (low_front (container_name script h.container ++ (32 ∷ join_with_byte 32 (codes "=" ∷ reply_text script.strings h.content ∷ []))) (10 ∷ []) (low_front (container_name script h.container) (32 ∷ join_with_byte 32 (codes "=" ∷ reply_text script.strings h.content ∷ [])) (container_begins script h.container rule h.declared)))
+content_low script text rule h = subst BeginsLow (sym h.written) (low_front (container_name script h.container ++ (32 ∷ join_with_byte 32 (codes "=" ∷ reply_text script h.content ∷ []))) (10 ∷ []) (low_front (container_name script h.container) (32 ∷ join_with_byte 32 (codes "=" ∷ reply_text script h.content ∷ [])) (container_begins script h.container rule h.declared)))
 
 -- ---- texts line by line
 

@@ -51,20 +51,16 @@ read_value draft word =
 unfoldable pub read_container : Draft → List ℕ → Result ℕ Fault
 read_container draft name = or_fault fault.Name (container_place draft.containers name)
 
+-- whether two containers are of one kind, and their calls are read
 abbrev pub same_kind : Kind → Kind → Bool
 same_kind kind.Dict kind.Dict = true
-same_kind kind.Dict kind.List = false
-same_kind kind.Dict kind.Set = false
-same_kind kind.List kind.Dict = false
 same_kind kind.List kind.List = true
-same_kind kind.List kind.Set = false
-same_kind kind.Set kind.Dict = false
-same_kind kind.Set kind.List = false
 same_kind kind.Set kind.Set = true
+same_kind one other = false
 
 -- the kind of the container at a place
 abbrev pub kind_at : Draft → ℕ → Option Kind
-kind_at draft place = option_map (λ container. container.kind) (slice_get draft.containers place)
+kind_at draft place = option_map (λ container. container.start.kind) (slice_get draft.containers place)
 
 abbrev pub is_of_kind : Kind → Option Kind → Bool
 is_of_kind kind None = false

@@ -1,6 +1,6 @@
 -- What the lines above a place say, and what names and strings stand for there. (profile)
-use Rattle.std.specs.Prelude.{◌≡◌, ℕ, ◌+◌, ◌≤◌, ◌==◌, List, [], ◌∷◌, ◌++◌, map, replicate, length, position, slice_get, Option, Some, None, Result, Ok, Err, if◌then◌else◌}
-use Rattle.std.specs.Option.{is_some, unwrap_or, option_map_or}
+use Rattle.std.specs.Prelude.{ℕ, ◌==◌, List, [], ◌∷◌, ◌++◌, map, replicate, position, slice_get, Option, Some, None, Result, Ok, Err, if◌then◌else◌}
+use Rattle.std.specs.Option.{unwrap_or, option_map_or}
 use Rattle.std.specs.List.{zip}
 use Rattle.std.specs.Str.{bytes_eq}
 use Rattle.ft_model.specs.Classes.{class_count}
@@ -87,6 +87,7 @@ draft_at script thread =
 -- for it, and 64 places in each heap
 abbrev pub script_of : Draft → ScriptParts
 script_of draft = record {
+  shared = [];
   containers = draft.containers;
   threads = draft.threads;
   strings = draft.strings;

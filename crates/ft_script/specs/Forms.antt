@@ -8,6 +8,8 @@ use Rattle.ft_model.specs.declared.call.ListCall.{ListCall}
 use Rattle.ft_model.specs.declared.call.ListCall.TheVariants as list
 use Rattle.ft_model.specs.declared.call.SetCall.{SetCall}
 use Rattle.ft_model.specs.declared.call.SetCall.TheVariants as set
+use Rattle.ft_model.specs.declared.call.DequeCall.{DequeCall}
+use Rattle.ft_model.specs.declared.call.DequeCall.TheVariants as deque
 use Rattle.ft_model.specs.declared.script.ScriptParts.{ScriptParts}
 use Rattle.ft_model.specs.Histories.{cursors_of}
 use Rattle.ft_model.specs.Scripts.{IsKeyOf, IsValueOf}
@@ -40,6 +42,13 @@ dict_form this dict.Clear = form (codes "clear") (this ∷ [])
 dict_form this (dict.CopyTo other) = form (codes "copyto") (this ∷ argument.Container other ∷ [])
 dict_form this (dict.Eq other) = form (codes "eq") (this ∷ argument.Container other ∷ [])
 dict_form this (dict.Iter cursor) = form (codes "iter") (this ∷ argument.Cursor cursor ∷ [])
+dict_form this (dict.KeysAnd other) = form (codes "keysand") (this ∷ argument.Container other ∷ [])
+dict_form this (dict.KeysSub other) = form (codes "keyssub") (this ∷ argument.Container other ∷ [])
+dict_form this (dict.KeysOr other) = form (codes "keysor") (this ∷ argument.Container other ∷ [])
+dict_form this (dict.KeysXor other) = form (codes "keysxor") (this ∷ argument.Container other ∷ [])
+dict_form this (dict.ItemsHas key value) =
+    form (codes "itemshas") (this ∷ argument.Key key ∷ argument.Value value ∷ [])
+dict_form this (dict.Reversed cursor) = form (codes "riter") (this ∷ argument.Cursor cursor ∷ [])
 
 -- `pop` of a list has an index or none
 abbrev pub pop_arguments : Argument → Option ℤ → List Argument
@@ -66,6 +75,7 @@ list_form this list.Len = form (codes "len") (this ∷ [])
 list_form this list.Items = form (codes "items") (this ∷ [])
 list_form this (list.Eq other) = form (codes "eq") (this ∷ argument.Container other ∷ [])
 list_form this (list.Iter cursor) = form (codes "iter") (this ∷ argument.Cursor cursor ∷ [])
+list_form this (list.Reversed cursor) = form (codes "riter") (this ∷ argument.Cursor cursor ∷ [])
 
 abbrev pub set_form : Argument → SetCall → Form
 set_form this (set.Add key) = form (codes "add") (this ∷ argument.Key key ∷ [])
@@ -85,6 +95,21 @@ set_form this (set.Disjoint other) = form (codes "disjoint") (this ∷ argument.
 set_form this set.Clear = form (codes "clear") (this ∷ [])
 set_form this (set.Iter cursor) = form (codes "iter") (this ∷ argument.Cursor cursor ∷ [])
 
+abbrev pub deque_form : Argument → DequeCall → Form
+deque_form this (deque.Append value) = form (codes "append") (this ∷ argument.Value value ∷ [])
+deque_form this (deque.AppendLeft value) = form (codes "appendleft") (this ∷ argument.Value value ∷ [])
+deque_form this deque.Pop = form (codes "pop") (this ∷ [])
+deque_form this deque.PopLeft = form (codes "popleft") (this ∷ [])
+deque_form this (deque.Extend other) = form (codes "extend") (this ∷ argument.Container other ∷ [])
+deque_form this (deque.ExtendLeft other) = form (codes "extendleft") (this ∷ argument.Container other ∷ [])
+deque_form this (deque.Rotate steps) = form (codes "rotate") (this ∷ argument.Index steps ∷ [])
+deque_form this deque.Clear = form (codes "clear") (this ∷ [])
+deque_form this (deque.Get index) = form (codes "get") (this ∷ argument.Index index ∷ [])
+deque_form this deque.Len = form (codes "len") (this ∷ [])
+deque_form this deque.Items = form (codes "items") (this ∷ [])
+deque_form this (deque.Has value) = form (codes "has") (this ∷ argument.Value value ∷ [])
+deque_form this (deque.Iter cursor) = form (codes "iter") (this ∷ argument.Cursor cursor ∷ [])
+
 abbrev pub begin_arguments : ℕ → Option ℕ → List Argument
 begin_arguments first None = argument.Container first ∷ []
 begin_arguments first (Some second) = argument.Container first ∷ argument.Container second ∷ []
@@ -93,10 +118,13 @@ abbrev pub call_form : Call → Form
 call_form (call.Dict container dict_call) = dict_form (argument.Container container) dict_call
 call_form (call.List container list_call) = list_form (argument.Container container) list_call
 call_form (call.Set container set_call) = set_form (argument.Container container) set_call
+call_form (call.Deque container deque_call) = deque_form (argument.Container container) deque_call
 call_form (call.Next cursor) = form (codes "next") (argument.Cursor cursor ∷ [])
 call_form (call.Begin first second) = form (codes "begin") (begin_arguments first second)
 call_form call.End = form (codes "end") []
 call_form call.Quiesce = form (codes "quiesce") []
+call_form (call.Await thread index) = form (codes "await") (argument.Call thread index ∷ [])
+call_form call.Dump = form (codes "dump") []
 
 -- what stands after a thread's call is the script's
 abbrev pub IsArgumentOf : ScriptParts → ℕ → Argument → Type 0
@@ -105,3 +133,4 @@ IsArgumentOf script thread (argument.Cursor number) = number < cursors_of script
 IsArgumentOf script thread (argument.Key key) = IsKeyOf (length script.strings) key
 IsArgumentOf script thread (argument.Value value) = IsValueOf (length script.strings) value
 IsArgumentOf script thread (argument.Index index) = Unit {0}
+IsArgumentOf script thread (argument.Call other index) = Unit {0}

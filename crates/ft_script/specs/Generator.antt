@@ -69,9 +69,11 @@ made_thread calls place = record {
 -- (profile)
 abbrev pub made_head : ScriptParts
 made_head = record {
+  shared = [];
   containers =
-      record { kind = kind.Dict; name = codes "d" } ∷ record { kind = kind.List; name = codes "l" }
-      ∷ record { kind = kind.Set; name = codes "s" } ∷ [];
+      record { start = record { kind = kind.Dict; keys = [] }; name = codes "d" }
+      ∷ record { start = record { kind = kind.List; keys = [] }; name = codes "l" }
+      ∷ record { start = record { kind = kind.Set; keys = [] }; name = codes "s" } ∷ [];
   threads = [];
   strings = [];
   tables = slice_set default_tables 9 16;

@@ -147,6 +147,7 @@ call_at draft place operation words (Some kind.List) =
     list_call draft operation words >>= λ read. Ok (call.List place read.0, read.1)
 call_at draft place operation words (Some kind.Set) =
     set_call draft operation words >>= λ read. Ok (call.Set place read.0, read.1)
+call_at draft place operation words (Some (kind.Deque bound)) = Err fault.WrongKind
 
 -- a call whose first argument is a container, which says what stands after it
 unfoldable pub container_call : Draft → Operation → List (List ℕ) → Result (Call × Draft) Fault
@@ -174,8 +175,11 @@ depth_after depth call.End = if depth == 0 then Err fault.EndWithoutBegin else O
 depth_after depth (call.Dict container dict_call) = Ok depth
 depth_after depth (call.List container list_call) = Ok depth
 depth_after depth (call.Set container set_call) = Ok depth
+depth_after depth (call.Deque container deque_call) = Ok depth
 depth_after depth (call.Next cursor) = Ok depth
 depth_after depth call.Quiesce = Ok depth
+depth_after depth (call.Await thread index) = Ok depth
+depth_after depth call.Dump = Ok depth
 
 -- the line of a call that isn't one too many
 unfoldable pub counted_call : Draft → CallWord → List (List ℕ) → Result Draft Fault
@@ -217,7 +221,9 @@ container_line draft kind (name ∷ []) =
     if not (is_container_name name) then Err fault.Name else (
     if is_some (container_place draft.containers name) then Err fault.NameTwice else (
     if nat_lt (length draft.containers) most_containers
-    then Ok (record draft { containers = draft.containers ++ record { kind = kind; name = name } ∷ [] })
+    then Ok (record draft {
+      containers = draft.containers ++ record { start = record { kind = kind; keys = [] }; name = name } ∷ [];
+    })
     else Err (fault.Limit which.Containers)))
 container_line draft kind others = Err fault.WordCount
 

@@ -12,6 +12,8 @@ use Rattle.ft_model.specs.declared.reply.Raise.{Raise}
 use Rattle.ft_model.specs.declared.reply.Raise.TheVariants as raise
 use Rattle.ft_model.specs.declared.reply.Reply.{Reply}
 use Rattle.ft_model.specs.declared.reply.Reply.TheVariants as reply
+use Rattle.ft_model.specs.declared.reply.Shown.{Shown}
+use Rattle.ft_model.specs.declared.reply.Shown.TheVariants as shown
 use Rattle.ft_model.specs.declared.content.Content.{Content}
 use Rattle.ft_model.specs.declared.content.Content.TheVariants as content
 use Rattle.ft_model.specs.declared.content.DictPair.{DictPair}
@@ -64,6 +66,10 @@ abbrev pub cursor_name : ScriptParts → ℕ → ℕ → List ℕ
 cursor_name script thread cursor =
     option_map_or (λ found. slice_index_or found.cursors cursor []) (slice_get script.threads thread) []
 
+-- a call of a thread: the thread's name and the index, parted by a dot
+abbrev pub call_place : ScriptParts → ℕ → ℕ → List ℕ
+call_place script thread index = thread_name script thread ++ 46 ∷ decimal index
+
 -- a word after the word of a call
 abbrev pub argument_text : ScriptParts → ℕ → Argument → List ℕ
 argument_text script thread (argument.Container place) = container_name script place
@@ -71,6 +77,7 @@ argument_text script thread (argument.Cursor number) = cursor_name script thread
 argument_text script thread (argument.Key key) = key_text script.strings key
 argument_text script thread (argument.Value value) = value_text script.strings value
 argument_text script thread (argument.Index index) = signed_decimal index
+argument_text script thread (argument.Call other index) = call_place script other index
 
 abbrev pub form_words : ScriptParts → ℕ → Form → List (List ℕ)
 form_words script thread form = form.word ∷ map (argument_text script thread) form.arguments
@@ -109,31 +116,48 @@ raise_text raise.NoIndex = codes "IndexError"
 raise_text raise.NoValue = codes "ValueError"
 raise_text raise.Size = codes "RuntimeError size"
 raise_text raise.Keys = codes "RuntimeError keys"
+raise_text raise.Moved = codes "RuntimeError moved"
 raise_text (raise.Memory class) = codes "MemoryError " ++ decimal class
 raise_text raise.Over = codes "MemoryError over"
 raise_text raise.Heap = codes "MemoryError heap"
 
-abbrev pub reply_text : List (List ℕ) → Reply → List ℕ
-reply_text strings reply.Done = codes "ok"
-reply_text strings (reply.Value value) = value_text strings value
-reply_text strings (reply.Pair key value) = pair_text strings (key, value)
-reply_text strings (reply.Truth true) = codes "True"
-reply_text strings (reply.Truth false) = codes "False"
-reply_text strings (reply.Count count) = decimal count
-reply_text strings (reply.Dict pairs) = braced_text (map (pair_text strings) pairs)
-reply_text strings (reply.List items) = list_text strings items
-reply_text strings (reply.Set elements) = elements_text (map (key_text strings) elements)
-reply_text strings reply.Stop = codes "StopIteration"
-reply_text strings reply.Entered = codes "entered"
-reply_text strings reply.Kept = codes "kept"
-reply_text strings (reply.Suspended count) = codes "suspended " ++ decimal count
-reply_text strings (reply.Raised raise) = raise_text raise
+-- what a container is shown to have
+abbrev pub shown_text : List (List ℕ) → Shown → List ℕ
+shown_text strings (shown.Dict pairs) = braced_text (map (pair_text strings) pairs)
+shown_text strings (shown.List items) = list_text strings items
+shown_text strings (shown.Set elements) = elements_text (map (key_text strings) elements)
+
+-- a space, the name of a container, a space, and what it has
+abbrev pub named_text : List (List ℕ) → Declaration × Shown → List ℕ
+named_text strings one = 32 ∷ one.0.name ++ 32 ∷ shown_text strings one.1
+
+-- what all containers have, in the order of declaration, with a semicolon between two
+abbrev pub all_text : ScriptParts → List Shown → List ℕ
+all_text script world =
+    codes "world" ++ join_with_byte 59 (map (named_text script.strings) (zip script.containers world))
+
+abbrev pub reply_text : ScriptParts → Reply → List ℕ
+reply_text script reply.Done = codes "ok"
+reply_text script (reply.Value value) = value_text script.strings value
+reply_text script (reply.Pair key value) = pair_text script.strings (key, value)
+reply_text script (reply.Truth true) = codes "True"
+reply_text script (reply.Truth false) = codes "False"
+reply_text script (reply.Count count) = decimal count
+reply_text script (reply.Dict pairs) = braced_text (map (pair_text script.strings) pairs)
+reply_text script (reply.List items) = list_text script.strings items
+reply_text script (reply.Set elements) = elements_text (map (key_text script.strings) elements)
+reply_text script (reply.World world) = all_text script world
+reply_text script reply.Stop = codes "StopIteration"
+reply_text script reply.Entered = codes "entered"
+reply_text script reply.Kept = codes "kept"
+reply_text script (reply.Suspended count) = codes "suspended " ++ decimal count
+reply_text script (reply.Raised raise) = raise_text raise
 
 -- ---- entries
 
--- the thread's name and the index, parted by a dot
+-- the entry's call
 abbrev pub place_word : ScriptParts → Entry → List ℕ
-place_word script entry = thread_name script entry.thread ++ 46 ∷ decimal entry.index
+place_word script entry = call_place script entry.thread entry.index
 
 -- `w` for a write and `r` for any other call, with the stamp
 abbrev pub stamp_word : Entry → List ℕ
@@ -146,7 +170,7 @@ mark_words script (Some thread) = codes "waited" ∷ thread_name script thread �
 abbrev pub entry_line_words : ScriptParts → Entry → List (List ℕ)
 entry_line_words script entry =
     place_word script entry ∷ stamp_word entry ∷ call_words script entry.thread entry.call ++ codes "="
-    ∷ reply_text script.strings entry.reply ∷ mark_words script entry.waited
+    ∷ reply_text script entry.reply ∷ mark_words script entry.waited
 
 abbrev pub entry_line : ScriptParts → Entry → List ℕ
 entry_line script entry = line (entry_line_words script entry)
@@ -163,6 +187,7 @@ abbrev pub content_text : List (List ℕ) → Content → List ℕ
 content_text strings (content.Dict dict) = braced_text (map (dict_pair_text strings) dict.pairs)
 content_text strings (content.List items) = list_text strings items
 content_text strings (content.Set set) = elements_text (map (element_text strings) set.elements)
+content_text strings (content.Deque deque) = list_text strings deque.items
 
 abbrev pub world_line : ScriptParts → Declaration → Content → List ℕ
 world_line script container content = line (container.name ∷ codes "=" ∷ content_text script.strings content ∷ [])

@@ -13,11 +13,14 @@ use Rattle.ft_model.specs.declared.call.ListCall.{ListCall}
 use Rattle.ft_model.specs.declared.call.ListCall.TheVariants as list
 use Rattle.ft_model.specs.declared.call.SetCall.{SetCall}
 use Rattle.ft_model.specs.declared.call.SetCall.TheVariants as set
+use Rattle.ft_model.specs.declared.call.DequeCall.{DequeCall}
+use Rattle.ft_model.specs.declared.call.DequeCall.TheVariants as deque
 use Rattle.ft_model.specs.declared.entry.Entry.{Entry}
 use Rattle.ft_model.specs.declared.reply.Reply.{Reply}
 use Rattle.ft_model.specs.declared.reply.Reply.TheVariants as reply
 use Rattle.ft_model.specs.declared.reply.Raise.TheVariants as raise
 use Rattle.ft_model.specs.declared.script.ScriptParts.{ScriptParts}
+use Rattle.ft_model.specs.Landed.{is_landed_call}
 use Rattle.ft_model.specs.Parts.{IsEntryOf, IsReplyOf}
 use Rattle.ft_model.specs.Classes.{least_class, greatest_class}
 use Rattle.ft_script.specs.declared.forms.Argument.{Argument}
@@ -28,7 +31,7 @@ use Rattle.ft_script.specs.LineWords.{is_wide}
 
 -- ---- entries
 
--- the calls of a dict whose reply is a count, and of a list, and of a set
+-- the calls of a dict whose reply is a count, and of a list, of a set, of a deque
 abbrev pub counts_dict : DictCall → Bool
 counts_dict (dict.Get key) = false
 counts_dict (dict.GetOr key default) = false
@@ -46,6 +49,12 @@ counts_dict dict.Clear = false
 counts_dict (dict.CopyTo other) = false
 counts_dict (dict.Eq other) = false
 counts_dict (dict.Iter cursor) = false
+counts_dict (dict.KeysAnd other) = false
+counts_dict (dict.KeysSub other) = false
+counts_dict (dict.KeysOr other) = false
+counts_dict (dict.KeysXor other) = false
+counts_dict (dict.ItemsHas key value) = false
+counts_dict (dict.Reversed cursor) = false
 
 abbrev pub counts_list : ListCall → Bool
 counts_list (list.Append value) = false
@@ -66,6 +75,7 @@ counts_list list.Len = true
 counts_list list.Items = false
 counts_list (list.Eq other) = false
 counts_list (list.Iter cursor) = false
+counts_list (list.Reversed cursor) = false
 
 abbrev pub counts_set : SetCall → Bool
 counts_set (set.Add key) = false
@@ -85,22 +95,43 @@ counts_set (set.Disjoint other) = false
 counts_set set.Clear = false
 counts_set (set.Iter cursor) = false
 
+abbrev pub counts_deque : DequeCall → Bool
+counts_deque (deque.Append value) = false
+counts_deque (deque.AppendLeft value) = false
+counts_deque deque.Pop = false
+counts_deque deque.PopLeft = false
+counts_deque (deque.Extend other) = false
+counts_deque (deque.ExtendLeft other) = false
+counts_deque (deque.Rotate steps) = false
+counts_deque deque.Clear = false
+counts_deque (deque.Get index) = false
+counts_deque deque.Len = true
+counts_deque deque.Items = false
+counts_deque (deque.Has value) = false
+counts_deque (deque.Iter cursor) = false
+
 -- the calls whose reply is a count
 abbrev pub counts : Call → Bool
 counts (call.Dict place dict_call) = counts_dict dict_call
 counts (call.List place list_call) = counts_list list_call
 counts (call.Set place set_call) = counts_set set_call
+counts (call.Deque place deque_call) = counts_deque deque_call
 counts (call.Next cursor) = false
 counts (call.Begin first second) = false
 counts call.End = false
 counts call.Quiesce = false
+counts (call.Await thread index) = false
+counts call.Dump = false
 
 -- an integer stands for a count where the call counts and it isn't negative, and else for a value; a count, too, is
--- within 64 signed bits; MemoryError has a class from 3 to 16
+-- within 64 signed bits; MemoryError has a class from 3 to 16; no line is read that shows all containers, nor one that
+-- says that a deque was changed
 abbrev pub IsReadableReply : Bool → Reply → Type 0
 IsReadableReply counted (reply.Count count) = (counted ≡ true) × (count < 2 ^ 63)
 IsReadableReply counted (reply.Value (value.Int n)) = (count : ℕ) → n ≡ pos count → counted ≡ false
 IsReadableReply counted (reply.Raised (raise.Memory class)) = (least_class ≤ class) × (class ≤ greatest_class)
+IsReadableReply counted (reply.Raised raise.Moved) = ⊥
+IsReadableReply counted (reply.World world) = ⊥
 IsReadableReply counted other = Unit {0}
 
 -- an integer of 64 bits, if it is one
@@ -113,12 +144,14 @@ IsWideValue value.Nothing = Unit {0}
 IsWideValue (value.Int n) = is_wide n ≡ true
 IsWideValue (value.Text symbol) = Unit {0}
 
+-- no line is read that names a call
 abbrev pub IsWideArgument : Argument → Type 0
 IsWideArgument (argument.Container place) = Unit {0}
 IsWideArgument (argument.Cursor number) = Unit {0}
 IsWideArgument (argument.Key found) = IsWideKey found
 IsWideArgument (argument.Value found) = IsWideValue found
 IsWideArgument (argument.Index n) = is_wide n ≡ true
+IsWideArgument (argument.Call other index) = ⊥
 
 -- each integer of a call is of 64 bits
 abbrev pub IsWideCall : Call → Type 0
@@ -134,13 +167,14 @@ IsWideReply (reply.Set elements) = All IsWideKey elements
 IsWideReply (reply.Suspended count) = count < 2 ^ 32
 IsWideReply other = Unit {0}
 
--- an entry that a line can have: it names what the script has, its calls are numbered from 1, and no number is too
--- great
+-- an entry that a line can have: it names what the script has, its call is one that a script may have and numbered from
+-- 1, and no number is too great
 pub record IsReadable (script : ScriptParts) (entry : Entry) : Type 0 where
   pub of_script : IsEntryOf script entry
   pub first_index : 1 ≤ entry.index
   pub last_index : entry.index < 2 ^ 32
   pub stamp : entry.stamp < 2 ^ 64
+  pub landed : is_landed_call entry.call ≡ true
   pub call : IsWideCall entry.call
   pub reply : IsReadableReply (counts entry.call) entry.reply
   pub said : IsWideReply entry.reply
@@ -157,7 +191,7 @@ IsContentReply other = ⊥
 -- the line of a container and a content
 abbrev pub content_line : ScriptParts → ℕ → Reply → List ℕ
 content_line script container content =
-    line (container_name script container ∷ codes "=" ∷ reply_text script.strings content ∷ [])
+    line (container_name script container ∷ codes "=" ∷ reply_text script content ∷ [])
 
 -- the line of a content, without its line feed: the name of a container, and the text of a container of any kind
 pub record IsContentLine (script : ScriptParts) (text : List ℕ) : Type 0 where

@@ -97,7 +97,7 @@ impl Draft {
     {
         let containers = self.containers.as_slice();
         let container = containers.get(place as usize)?;
-        Some(container.kind)
+        Some(container.start.kind)
     }
 
     /// The number of a cursor that stands above in the thread.

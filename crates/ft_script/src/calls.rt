@@ -313,6 +313,7 @@ impl Draft {
                 let call = self.set_call(alloc, operation, words)?;
                 Ok(Call::Set { container, call })
             }
+            Some(Kind::Deque(_)) => Err(Fault::WrongKind.into()),
         }
     }
 
@@ -426,7 +427,10 @@ fn depth_after(depth: u32, call: &Call) -> Result<u32, Fault>
         Call::Dict { .. }
         | Call::List { .. }
         | Call::Set { .. }
+        | Call::Deque { .. }
         | Call::Next { .. }
-        | Call::Quiesce => Ok(depth),
+        | Call::Quiesce
+        | Call::Await { .. }
+        | Call::Dump => Ok(depth),
     }
 }

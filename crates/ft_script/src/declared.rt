@@ -1,5 +1,6 @@
 //! Whether calls name what a script declares.
 ghost use Rattle.ft_model.specs.Calls.{cursor_of_dict, cursor_of_list, cursor_of_set, other_dict, other_list, other_set};
+ghost use Rattle.ft_model.specs.Landed.{is_landed_call};
 ghost use Rattle.ft_model.specs.Scripts.{AreNamesOf, AreStringsOfDict, AreStringsOfList, AreStringsOfSet, IsCallOf, IsDeclaredAs, IsKeyOf, IsValueOf};
 ghost use Rattle.ft_script.specs.declared.forms.Argument.TheVariants as argument;
 ghost use Rattle.ft_script.specs.Forms.{dict_form, list_form, set_form};
@@ -10,9 +11,19 @@ ghost use Rattle.std.specs.Prelude.{◌↔◌, ◌≡◌, ℕ, true, IsTrue, len
 
 use ft_model::{Call, DictCall, Key, Kind, ListCall, ScriptParts, SetCall, Value};
 
-/// Whether the call names containers of its kind, cursors below this number and strings of the
-/// script.
+/// Whether the call is one that a script may have, and names containers of its kind, cursors below
+/// this number and strings of the script.
 pub(crate) fn is_call_of(script: &ScriptParts, cursors: usize, call: &Call) -> bool
+    ensures declared { IsTrue result ↔ (IsCallOf script.now cursors call.now × (is_landed_call call.now ≡ true)) }
+    ensures wide { IsTrue result → IsWideCall call.now }
+{
+    call.is_landed() && names_declared(script, cursors, call)
+}
+
+/// Whether such a call names containers of its kind, cursors below this number and strings of the
+/// script.
+fn names_declared(script: &ScriptParts, cursors: usize, call: &Call) -> bool
+    requires { is_landed_call call.now ≡ true }
     ensures declared { IsTrue result ↔ IsCallOf script.now cursors call.now }
     ensures wide { IsTrue result → IsWideCall call.now }
 {
@@ -55,16 +66,23 @@ pub(crate) fn is_call_of(script: &ScriptParts, cursors: usize, call: &Call) -> b
                 && second.is_none_or(|place| (place as usize) < containers)
         }
         Call::End | Call::Quiesce => true,
+        Call::Deque { .. } | Call::Await { .. } | Call::Dump => false,
     }
 }
 
-/// Whether the container at a place is declared, and of that kind.
+/// Whether the container at a place is declared, and of that kind; a deque is one whatever bounds it.
 fn is_declared_as(script: &ScriptParts, kind: Kind, place: u32) -> bool
     ensures { IsTrue result ↔ IsDeclaredAs script.now.containers kind place }
 {
-    match script.containers.as_slice().get(place as usize) {
-        Some(container) => container.kind == kind,
-        None => false,
+    let Some(container) = script.containers.as_slice().get(place as usize) else {
+        return false;
+    };
+    match (kind, container.start.kind) {
+        (Kind::Dict, Kind::Dict)
+        | (Kind::List, Kind::List)
+        | (Kind::Set, Kind::Set)
+        | (Kind::Deque(_), Kind::Deque(_)) => true,
+        (Kind::Dict | Kind::List | Kind::Set | Kind::Deque(_), _) => false,
     }
 }
 
@@ -129,7 +147,9 @@ fn are_strings_of_dict(strings: usize, call: &DictCall) -> bool
         | DictCall::SetDefault { key, default } => {
             is_key_of(strings, key) && is_value_of(strings, default)
         }
-        DictCall::Set { key, value } => is_key_of(strings, key) && is_value_of(strings, value),
+        DictCall::Set { key, value } | DictCall::ItemsHas { key, value } => {
+            is_key_of(strings, key) && is_value_of(strings, value)
+        }
         DictCall::PopItem
         | DictCall::Len
         | DictCall::Items
@@ -137,7 +157,12 @@ fn are_strings_of_dict(strings: usize, call: &DictCall) -> bool
         | DictCall::Clear
         | DictCall::CopyTo { .. }
         | DictCall::Eq { .. }
-        | DictCall::Iter { .. } => true,
+        | DictCall::Iter { .. }
+        | DictCall::KeysAnd { .. }
+        | DictCall::KeysSub { .. }
+        | DictCall::KeysOr { .. }
+        | DictCall::KeysXor { .. }
+        | DictCall::Reversed { .. } => true,
     }
 }
 
@@ -164,7 +189,8 @@ fn are_strings_of_list(strings: usize, call: &ListCall) -> bool
         | ListCall::Len
         | ListCall::Items
         | ListCall::Eq { .. }
-        | ListCall::Iter { .. } => true,
+        | ListCall::Iter { .. }
+        | ListCall::Reversed { .. } => true,
     }
 }
 

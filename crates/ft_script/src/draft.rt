@@ -95,6 +95,7 @@ impl Draft {
     {
         let tables = table_counts(alloc, &self.tables)?;
         Ok(ScriptParts {
+            shared: Sequence::new(alloc),
             containers: self.containers.into_sequence(),
             threads: self.threads,
             strings: Sequence::from_vec(self.strings.into_texts()?),

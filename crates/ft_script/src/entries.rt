@@ -8,7 +8,7 @@ ghost use Rattle.ft_script.specs.Internal.Outcomes.{Gives, draft_of};
 ghost use Rattle.ft_script.specs.ScriptLines.{read_call};
 ghost use Rattle.ft_script.specs.Internal.Readers.{AddsNothing, IsReaderOf, IsUnchanged};
 ghost use Rattle.ft_script.specs.Internal.Tokens.{before_word};
-ghost use Rattle.ft_script.specs.Transcripts.{counts, counts_dict, counts_list, counts_set};
+ghost use Rattle.ft_script.specs.Transcripts.{counts, counts_dict, counts_list, counts_set, counts_deque};
 ghost use Rattle.std.specs.List.{after_first, before_first};
 ghost use Rattle.std.specs.Prelude.{◌≡◌, ◌≢◌, ◌==◌, ◌<◌, ◌≤◌, All, AllPairs, IfOk, OnOk, codes, drop, length, map};
 
@@ -20,8 +20,8 @@ use crate::replies::{reply_of, u32_of, u64_of};
 use crate::strings::Strings;
 use crate::tokens::split_at_word;
 use ft_model::{
-    Call, Declaration, DictCall, Entry, ListCall, Reply, ScriptParts, Sequence, SetCall, Text,
-    Thread,
+    Call, Declaration, DequeCall, DictCall, Entry, ListCall, Reply, ScriptParts, Sequence, SetCall,
+    Start, Text, Thread,
 };
 use std::alloc::{AllocError, Global};
 use std::mem;
@@ -34,7 +34,13 @@ fn counts(call: &Call) -> bool
         Call::Dict { call, .. } => counts_dict(call),
         Call::List { call, .. } => counts_list(call),
         Call::Set { call, .. } => counts_set(call),
-        Call::Next { .. } | Call::Begin { .. } | Call::End | Call::Quiesce => false,
+        Call::Deque { call, .. } => counts_deque(call),
+        Call::Next { .. }
+        | Call::Begin { .. }
+        | Call::End
+        | Call::Quiesce
+        | Call::Await { .. }
+        | Call::Dump => false,
     }
 }
 
@@ -57,7 +63,13 @@ fn counts_dict(call: &DictCall) -> bool
         | DictCall::Clear
         | DictCall::CopyTo { .. }
         | DictCall::Eq { .. }
-        | DictCall::Iter { .. } => false,
+        | DictCall::Iter { .. }
+        | DictCall::KeysAnd { .. }
+        | DictCall::KeysSub { .. }
+        | DictCall::KeysOr { .. }
+        | DictCall::KeysXor { .. }
+        | DictCall::ItemsHas { .. }
+        | DictCall::Reversed { .. } => false,
     }
 }
 
@@ -80,7 +92,8 @@ fn counts_list(call: &ListCall) -> bool
         | ListCall::Clear
         | ListCall::Items
         | ListCall::Eq { .. }
-        | ListCall::Iter { .. } => false,
+        | ListCall::Iter { .. }
+        | ListCall::Reversed { .. } => false,
     }
 }
 
@@ -104,6 +117,26 @@ fn counts_set(call: &SetCall) -> bool
         | SetCall::Disjoint { .. }
         | SetCall::Clear
         | SetCall::Iter { .. } => false,
+    }
+}
+
+fn counts_deque(call: &DequeCall) -> bool
+    ensures { result ≡ counts_deque call.now }
+{
+    match call {
+        DequeCall::Len => true,
+        DequeCall::Append { .. }
+        | DequeCall::AppendLeft { .. }
+        | DequeCall::Pop
+        | DequeCall::PopLeft
+        | DequeCall::Extend { .. }
+        | DequeCall::ExtendLeft { .. }
+        | DequeCall::Rotate { .. }
+        | DequeCall::Clear
+        | DequeCall::Get { .. }
+        | DequeCall::Items
+        | DequeCall::Has { .. }
+        | DequeCall::Iter { .. } => false,
     }
 }
 
@@ -196,9 +229,13 @@ fn copied_containers(
 fn copied_container(alloc: Global, container: &Declaration) -> Result<Declaration, AllocError>
     ensures { IfOk result (λ copied. copied ≡ container.now) }
 {
+    let keys = Sequence::from_vec(Vec::from_slice(alloc, container.start.keys.as_slice())?);
     let name = copied_name(alloc, &container.name)?;
     Ok(Declaration {
-        kind: container.kind,
+        start: Start {
+            kind: container.start.kind,
+            keys,
+        },
         name,
     })
 }

@@ -6,11 +6,11 @@ ghost use Rattle.ft_model.specs.Calls.{other_dict, other_list, other_set, cursor
 ghost use Rattle.ft_model.specs.Histories.{cursors_of};
 ghost use Rattle.ft_model.specs.Scripts.{IsCallOf, AreNamesOf, AreStringsOfDict, AreStringsOfList, AreStringsOfSet};
 ghost use Rattle.ft_script.specs.declared.forms.Argument.TheVariants as argument;
-ghost use Rattle.ft_script.specs.Forms.{IsArgumentOf, dict_form, list_form, set_form};
-ghost use Rattle.ft_script.specs.Texts.{container_name, cursor_name, argument_text, form_words, call_words};
+ghost use Rattle.ft_script.specs.Forms.{IsArgumentOf, dict_form, list_form, set_form, deque_form};
+ghost use Rattle.ft_script.specs.Texts.{container_name, thread_name, cursor_name, call_place, argument_text, form_words, call_words};
 
 use crate::shown::{Shown, push_integer};
-use ft_model::{Call, DictCall, Key, ListCall, ScriptParts, SetCall, Value};
+use ft_model::{Call, DequeCall, DictCall, Key, ListCall, ScriptParts, SetCall, Value};
 use std::alloc::AllocError;
 
 /// What stands after the word of a call.
@@ -24,8 +24,10 @@ pub(crate) enum Argument {
     Key(Key),
     /// A value.
     Value(Value),
-    /// An index of a list.
+    /// An index of a list or a deque, or a number of steps.
     Index(i64),
+    /// A call of a thread, by the thread's place and the call's index.
+    Call(u32, u32),
 }
 
 /// Adds the words of a thread's call, parted by one space.
@@ -42,6 +44,7 @@ pub(crate) fn push_call(
         Call::Dict { container, call } => push_dict_call(out, script, thread, *container, call),
         Call::List { container, call } => push_list_call(out, script, thread, *container, call),
         Call::Set { container, call } => push_set_call(out, script, thread, *container, call),
+        Call::Deque { container, call } => push_deque_call(out, script, thread, *container, call),
         Call::Next { cursor } => push_form(
             out,
             script,
@@ -70,6 +73,19 @@ pub(crate) fn push_call(
         }
         Call::End => push_form(out, script, thread, b"end", &[]),
         Call::Quiesce => push_form(out, script, thread, b"quiesce", &[]),
+        Call::Await {
+            thread: other,
+            index,
+        } => {
+            push_form(
+                out,
+                script,
+                thread,
+                b"await",
+                &[Argument::Call(*other, *index)],
+            )
+        }
+        Call::Dump => push_form(out, script, thread, b"dump", &[]),
     }
 }
 
@@ -172,6 +188,48 @@ fn push_dict_call(
             script,
             thread,
             b"iter",
+            &[this, Argument::Cursor(cursor)],
+        ),
+        DictCall::KeysAnd { other } => push_form(
+            out,
+            script,
+            thread,
+            b"keysand",
+            &[this, Argument::Container(other)],
+        ),
+        DictCall::KeysSub { other } => push_form(
+            out,
+            script,
+            thread,
+            b"keyssub",
+            &[this, Argument::Container(other)],
+        ),
+        DictCall::KeysOr { other } => push_form(
+            out,
+            script,
+            thread,
+            b"keysor",
+            &[this, Argument::Container(other)],
+        ),
+        DictCall::KeysXor { other } => push_form(
+            out,
+            script,
+            thread,
+            b"keysxor",
+            &[this, Argument::Container(other)],
+        ),
+        DictCall::ItemsHas { key, value } => push_form(
+            out,
+            script,
+            thread,
+            b"itemshas",
+            &[this, Argument::Key(key), Argument::Value(value)],
+        ),
+        DictCall::Reversed { cursor } => push_form(
+            out,
+            script,
+            thread,
+            b"riter",
             &[this, Argument::Cursor(cursor)],
         ),
     }
@@ -293,6 +351,13 @@ fn push_list_call(
             b"iter",
             &[this, Argument::Cursor(cursor)],
         ),
+        ListCall::Reversed { cursor } => push_form(
+            out,
+            script,
+            thread,
+            b"riter",
+            &[this, Argument::Cursor(cursor)],
+        ),
     }
 }
 
@@ -388,6 +453,82 @@ fn push_set_call(
     }
 }
 
+fn push_deque_call(
+    out: &mut Vec<u8>,
+    script: &ScriptParts,
+    thread: u32,
+    container: u32,
+    call: &DequeCall,
+) -> Result<(), AllocError>
+    requires { AllByRecursion (IsArgumentOf script.now thread) (deque_form (argument.Container container) call.now).arguments }
+    ensures { OnOk result (out.new.items ≡ out.old.items ++ join_with_byte 32 (form_words script.now thread (deque_form (argument.Container container) call.now))) }
+{
+    let this = Argument::Container(container);
+    match *call {
+        DequeCall::Append { value } => push_form(
+            out,
+            script,
+            thread,
+            b"append",
+            &[this, Argument::Value(value)],
+        ),
+        DequeCall::AppendLeft { value } => push_form(
+            out,
+            script,
+            thread,
+            b"appendleft",
+            &[this, Argument::Value(value)],
+        ),
+        DequeCall::Pop => push_form(out, script, thread, b"pop", &[this]),
+        DequeCall::PopLeft => push_form(out, script, thread, b"popleft", &[this]),
+        DequeCall::Extend { other } => push_form(
+            out,
+            script,
+            thread,
+            b"extend",
+            &[this, Argument::Container(other)],
+        ),
+        DequeCall::ExtendLeft { other } => push_form(
+            out,
+            script,
+            thread,
+            b"extendleft",
+            &[this, Argument::Container(other)],
+        ),
+        DequeCall::Rotate { steps } => push_form(
+            out,
+            script,
+            thread,
+            b"rotate",
+            &[this, Argument::Index(steps)],
+        ),
+        DequeCall::Clear => push_form(out, script, thread, b"clear", &[this]),
+        DequeCall::Get { index } => push_form(
+            out,
+            script,
+            thread,
+            b"get",
+            &[this, Argument::Index(index)],
+        ),
+        DequeCall::Len => push_form(out, script, thread, b"len", &[this]),
+        DequeCall::Items => push_form(out, script, thread, b"items", &[this]),
+        DequeCall::Has { value } => push_form(
+            out,
+            script,
+            thread,
+            b"has",
+            &[this, Argument::Value(value)],
+        ),
+        DequeCall::Iter { cursor } => push_form(
+            out,
+            script,
+            thread,
+            b"iter",
+            &[this, Argument::Cursor(cursor)],
+        ),
+    }
+}
+
 fn push_form(
     out: &mut Vec<u8>,
     script: &ScriptParts,
@@ -422,7 +563,36 @@ fn push_argument(
         Argument::Key(key) => key.push_to(out, strings),
         Argument::Value(value) => value.push_to(out, strings),
         Argument::Index(index) => push_integer(out, index),
+        Argument::Call(other, index) => push_call_place(out, script, other, index),
     }
+}
+
+/// Adds the name of a thread, which is none where there is no such thread.
+pub(crate) fn push_thread(
+    out: &mut Vec<u8>,
+    script: &ScriptParts,
+    thread: u32,
+) -> Result<(), AllocError>
+    ensures { OnOk result (out.new.items ≡ out.old.items ++ thread_name script.now thread) }
+{
+    match script.threads.as_slice().get(thread as usize) {
+        Some(declaration) => out.extend_from_slice(declaration.name.as_slice()),
+        None => Ok(()),
+    }
+}
+
+/// Adds the name of a thread and the index of a call of it, which a dot parts.
+pub(crate) fn push_call_place(
+    out: &mut Vec<u8>,
+    script: &ScriptParts,
+    thread: u32,
+    index: u32,
+) -> Result<(), AllocError>
+    ensures { OnOk result (out.new.items ≡ out.old.items ++ call_place script.now thread index) }
+{
+    push_thread(out, script, thread)?;
+    out.push(b'.')?;
+    push_integer(out, index)
 }
 
 pub(crate) fn push_container(

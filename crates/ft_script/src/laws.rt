@@ -1,10 +1,11 @@
 //! What holds of every script and transcript. The functions do nothing: their contracts are the laws.
 ghost use Rattle.ft_model.specs.Limits.{most_calls};
-ghost use Rattle.std.specs.Prelude.{◌≡◌, ◌<◌, ◌≤◌, ℕ, All, List, Ok, length};
+ghost use Rattle.std.specs.Prelude.{◌≡◌, ◌<◌, ◌≤◌, ℕ, All, List, Ok, length, true};
 ghost use Rattle.ft_model.specs.declared.call.Call.{Call};
 ghost use Rattle.ft_model.specs.declared.entry.Entry.{Entry};
 ghost use Rattle.ft_model.specs.declared.script.ScriptParts.{ScriptParts};
 ghost use Rattle.ft_model.specs.Histories.{cursors_of};
+ghost use Rattle.ft_model.specs.Landed.{is_landed_call};
 ghost use Rattle.ft_model.specs.Scripts.{IsCallOf, IsScript};
 ghost use Rattle.ft_script.specs.Drafts.{draft_at};
 ghost use Rattle.ft_script.specs.Generator.{made_script, made_text};
@@ -24,10 +25,10 @@ pub fn what_is_read_is_wide()
         → All (λ thread. All IsWideCall thread.calls) script.threads }
 {}
 
-/// The words of a thread's call, as they are printed, are read as that call where what it names is
-/// declared above it, and they declare nothing new.
+/// The words of a thread's call that is read yet, as they are printed, are read as that call where
+/// what it names is declared above it, and they declare nothing new.
 pub fn calls_are_read_back()
-    ensures { (script : ScriptParts) (thread : ℕ) (called : Call) → IsScript script → thread < length script.threads → IsCallOf script (cursors_of script thread) called → IsWideCall called → just_call (draft_at script thread) (call_words script thread called) ≡ Ok (called, draft_at script thread) }
+    ensures { (script : ScriptParts) (thread : ℕ) (called : Call) → IsScript script → thread < length script.threads → IsCallOf script (cursors_of script thread) called → is_landed_call called ≡ true → IsWideCall called → just_call (draft_at script thread) (call_words script thread called) ≡ Ok (called, draft_at script thread) }
 {}
 
 /// Bytes are the transcript of no more than one list of entries and one list of contents: what is

@@ -1,10 +1,10 @@
 //! Prints transcripts.
-ghost use Rattle.std.specs.Prelude.{◌≡◌, ◌<◌, ◌∷◌, ◌++◌, length, OnOk, IfOk, IfSome};
+ghost use Rattle.std.specs.Prelude.{◌≡◌, ◌<◌, ◌∷◌, ◌++◌, length, OnOk, IfOk};
 ghost use Rattle.std.specs.List.{flat_map};
 ghost use Rattle.ft_model.specs.Parts.{IsContentOf, IsEntryOf, IsWorldOf};
-ghost use Rattle.ft_script.specs.Texts.{thread_name, mark_words, place_word, stamp_word, entry_line, world_line, world_text};
+ghost use Rattle.ft_script.specs.Texts.{mark_words, place_word, stamp_word, entry_line, world_line, world_text};
 
-use crate::forms::push_call;
+use crate::forms::{push_call, push_call_place, push_thread};
 use crate::shown::{push_content, push_integer, push_reply};
 use ft_model::{Content, Declaration, Entry, Script, ScriptParts, World};
 use std::alloc::{AllocError, Global};
@@ -52,7 +52,7 @@ pub(crate) fn push_entry_line(
     out.push(b' ')?;
     push_call(out, script, entry.thread, &entry.call)?;
     out.extend_from_slice(b" = ")?;
-    push_reply(out, script.strings.as_slice(), &entry.reply)?;
+    push_reply(out, script, &entry.reply)?;
     push_mark(out, script, entry.waited)?;
     out.push(b'\n')?;
     Ok(())
@@ -81,21 +81,10 @@ fn push_world_lines(
     Ok(())
 }
 
-fn push_thread(out: &mut Vec<u8>, script: &ScriptParts, thread: u32) -> Result<(), AllocError>
-    requires { thread < length script.now.threads }
-    ensures { OnOk result (out.new.items ≡ out.old.items ++ thread_name script.now thread) }
-{
-    let declaration = &script.threads.as_slice()[thread as usize];
-    out.extend_from_slice(declaration.name.as_slice())
-}
-
 fn push_place(out: &mut Vec<u8>, script: &ScriptParts, entry: &Entry) -> Result<(), AllocError>
-    requires { entry.now.thread < length script.now.threads }
     ensures { OnOk result (out.new.items ≡ out.old.items ++ place_word script.now entry.now) }
 {
-    push_thread(out, script, entry.thread)?;
-    out.push(b'.')?;
-    push_integer(out, entry.index)
+    push_call_place(out, script, entry.thread, entry.index)
 }
 
 fn push_stamp(out: &mut Vec<u8>, entry: &Entry) -> Result<(), AllocError>
@@ -106,7 +95,6 @@ fn push_stamp(out: &mut Vec<u8>, entry: &Entry) -> Result<(), AllocError>
 }
 
 fn push_mark(out: &mut Vec<u8>, script: &ScriptParts, waited: Option<u32>) -> Result<(), AllocError>
-    requires { IfSome waited (λ thread. thread < length script.now.threads) }
     ensures { OnOk result (out.new.items ≡ out.old.items ++ flat_map (λ word. 32 ∷ word) (mark_words script.now waited)) }
 {
     if let Some(thread) = waited {

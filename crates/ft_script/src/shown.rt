@@ -3,12 +3,15 @@ ghost use Rattle.std.specs.Prelude.{◌≡◌, ◌<◌, [], ◌++◌, length, ma
 ghost use Rattle.std.specs.List.{flat_map};
 ghost use Rattle.std.specs.Fmt.{decimal};
 ghost use Rattle.ft_model.specs.Scripts.{IsKeyOf, IsValueOf};
-ghost use Rattle.ft_model.specs.Parts.{IsReplyOf, IsContentOf};
-ghost use Rattle.ft_script.specs.Texts.{escaped, quoted, listed, braced_text, pair_text, list_text, elements_text, reply_text, raise_text, content_text};
+ghost use Rattle.ft_model.specs.Parts.{IsReplyOf, IsShownOf, IsContentOf};
+ghost use Rattle.ft_script.specs.Texts.{escaped, quoted, listed, braced_text, pair_text, list_text, elements_text, reply_text, raise_text, content_text, all_text, named_text};
 
-use ft_model::{Content, DictPair, Element, Key, Raise, Reply, Sym, Text, Value};
+use ft_model::{
+    Content, Declaration, DictPair, Element, Key, Raise, Reply, ScriptParts, Sym, Text, Value,
+};
 use itoa::{Buffer, Integer};
 use std::alloc::AllocError;
+use std::collections::VecDeque;
 
 /// What stands in the text of a container: keys, values and pairs.
 pub(crate) trait Shown {
@@ -179,6 +182,26 @@ fn push_values(out: &mut Vec<u8>, strings: &[Text], items: &[Value]) -> Result<(
     Ok(())
 }
 
+/// Adds the items of a deque, as those of a list.
+fn push_deque(
+    out: &mut Vec<u8>,
+    strings: &[Text],
+    items: &VecDeque<Value>,
+) -> Result<(), AllocError>
+    requires { All (IsValueOf (length strings.now)) items.now.items }
+    ensures { OnOk result (out.new.items ≡ out.old.items ++ list_text strings.now items.now.items) }
+{
+    out.push(b'[')?;
+    for place in 0..items.len() {
+        if place > 0 {
+            out.extend_from_slice(b", ")?;
+        }
+        items[place].push_to(out, strings)?;
+    }
+    out.push(b']')?;
+    Ok(())
+}
+
 fn push_elements<T: Shown>(
     out: &mut Vec<u8>,
     strings: &[Text],
@@ -196,12 +219,13 @@ fn push_elements<T: Shown>(
 /// Adds the text of a reply.
 pub(crate) fn push_reply(
     out: &mut Vec<u8>,
-    strings: &[Text],
+    script: &ScriptParts,
     reply: &Reply,
 ) -> Result<(), AllocError>
-    requires { IsReplyOf (length strings.now) reply.now }
-    ensures { OnOk result (out.new.items ≡ out.old.items ++ reply_text strings.now reply.now) }
+    requires { IsReplyOf (length script.now.strings) reply.now }
+    ensures { OnOk result (out.new.items ≡ out.old.items ++ reply_text script.now reply.now) }
 {
+    let strings = script.strings.as_slice();
     match reply {
         Reply::Done => out.extend_from_slice(b"ok"),
         Reply::Value(value) => value.push_to(out, strings),
@@ -212,11 +236,53 @@ pub(crate) fn push_reply(
         Reply::Dict(pairs) => push_braced(out, strings, pairs.as_slice()),
         Reply::List(items) => push_values(out, strings, items.as_slice()),
         Reply::Set(elements) => push_elements(out, strings, elements.as_slice()),
+        Reply::World(world) => push_all(out, script, world.as_slice()),
         Reply::Stop => out.extend_from_slice(b"StopIteration"),
         Reply::Entered => out.extend_from_slice(b"entered"),
         Reply::Kept => out.extend_from_slice(b"kept"),
         Reply::Suspended(count) => push_numbered(out, b"suspended ", *count),
         Reply::Raised(raise) => push_raise(out, *raise),
+    }
+}
+
+/// Adds what all containers are shown to have, each with its name.
+fn push_all(
+    out: &mut Vec<u8>,
+    script: &ScriptParts,
+    world: &[ft_model::Shown],
+) -> Result<(), AllocError>
+    requires { All (IsShownOf (length script.now.strings)) world.now }
+    ensures { OnOk result (out.new.items ≡ out.old.items ++ all_text script.now world.now) }
+{
+    let strings = script.strings.as_slice();
+    let containers = script.containers.as_slice();
+    out.extend_from_slice(b"world")?;
+    for place in 0..containers.len().min(world.len()) {
+        if place > 0 {
+            out.push(b';')?;
+        }
+        push_named(out, strings, &containers[place], &world[place])?;
+    }
+    Ok(())
+}
+
+/// Adds a space, the name of a container, a space, and what it is shown to have.
+fn push_named(
+    out: &mut Vec<u8>,
+    strings: &[Text],
+    container: &Declaration,
+    shown: &ft_model::Shown,
+) -> Result<(), AllocError>
+    requires { IsShownOf (length strings.now) shown.now }
+    ensures { OnOk result (out.new.items ≡ out.old.items ++ named_text strings.now (container.now, shown.now)) }
+{
+    out.push(b' ')?;
+    out.extend_from_slice(container.name.as_slice())?;
+    out.push(b' ')?;
+    match shown {
+        ft_model::Shown::Dict(pairs) => push_braced(out, strings, pairs.as_slice()),
+        ft_model::Shown::List(items) => push_values(out, strings, items.as_slice()),
+        ft_model::Shown::Set(elements) => push_elements(out, strings, elements.as_slice()),
     }
 }
 
@@ -229,6 +295,7 @@ fn push_raise(out: &mut Vec<u8>, raise: Raise) -> Result<(), AllocError>
         Raise::NoValue => out.extend_from_slice(b"ValueError"),
         Raise::Size => out.extend_from_slice(b"RuntimeError size"),
         Raise::Keys => out.extend_from_slice(b"RuntimeError keys"),
+        Raise::Moved => out.extend_from_slice(b"RuntimeError moved"),
         Raise::Memory(class) => push_numbered(out, b"MemoryError ", class),
         Raise::Over => out.extend_from_slice(b"MemoryError over"),
         Raise::Heap => out.extend_from_slice(b"MemoryError heap"),
@@ -255,5 +322,6 @@ pub(crate) fn push_content(
         Content::Dict(dict) => push_braced(out, strings, dict.pairs()),
         Content::List(list) => push_values(out, strings, list.items()),
         Content::Set(set) => push_elements(out, strings, set.elements()),
+        Content::Deque(deque) => push_deque(out, strings, deque.items()),
     }
 }

@@ -14,7 +14,7 @@ use crate::lines::{ends_thread, is_comment, words_of};
 use crate::words::{is_container_name, is_thread_name};
 use ft_model::{
     Declaration, GREATEST_CLASS, HEAP_STEP, Kind, LEAST_CLASS, MOST_CONTAINERS, MOST_HEAP,
-    MOST_TABLES, MOST_THREADS, MOST_TURNS, Sequence,
+    MOST_TABLES, MOST_THREADS, MOST_TURNS, Sequence, Start,
 };
 use std::alloc::Global;
 
@@ -63,7 +63,11 @@ impl Draft {
             return Err(Fault::Limit(Which::Containers).into());
         }
         let name = Sequence::from_vec(Vec::from_slice(alloc, name)?);
-        self.containers.push(Declaration { kind, name })?;
+        let start = Start {
+            kind,
+            keys: Sequence::new(alloc),
+        };
+        self.containers.push(Declaration { start, name })?;
         Ok(())
     }
 

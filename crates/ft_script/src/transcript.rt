@@ -1,6 +1,7 @@
 //! Reads transcripts.
 ghost use Rattle.ft_model.specs.Histories.{cursors_of};
 ghost use Rattle.ft_model.specs.Parts.{IsEntryOf, IsReplyOf};
+ghost use Rattle.ft_model.specs.Landed.{is_landed_call};
 ghost use Rattle.ft_model.specs.Scripts.{IsCallOf, IsScript};
 ghost use Rattle.ft_script.specs.Internal.Outcomes.{draft_of};
 ghost use Rattle.ft_script.specs.Internal.Readers.{AddsContent, AddsEntry, IfFault, IsLine, IsReaderOf, NoContent, NoEntry, but_feed, is_feedless, refused, reported_line};
@@ -215,10 +216,11 @@ fn prints_entry(
     Ok(printed.as_slice() == line)
 }
 
-/// Whether the call of an entry that was read names what the script declares, and has a number.
+/// Whether the call of an entry that was read names what the script declares, is one that a script
+/// may have, and has a number.
 fn is_readable(script: &ScriptParts, entry: &Entry) -> bool
     requires { entry.now.thread < length script.now.threads }
-    ensures call { IsTrue result ↔ ((1 ≤ entry.now.index) × IsCallOf script.now (cursors_of script.now entry.now.thread) entry.now.call) }
+    ensures call { IsTrue result ↔ ((1 ≤ entry.now.index) × IsCallOf script.now (cursors_of script.now entry.now.thread) entry.now.call × (is_landed_call entry.now.call ≡ true)) }
     ensures wide { IsTrue result → IsWideCall entry.now.call }
 {
     let thread = &script.threads.as_slice()[entry.thread as usize];
@@ -298,7 +300,7 @@ fn push_content_line(
 {
     push_container(out, script, container)?;
     out.extend_from_slice(b" = ")?;
-    push_reply(out, script.strings.as_slice(), content)?;
+    push_reply(out, script, content)?;
     out.push(b'\n')?;
     Ok(())
 }

@@ -71,31 +71,31 @@ module _ (v w : View) (k : Shape) (o : ℕ) (key : Key) (n : ℕ) (part : List A
   ask : MayAsk w o n
   ask = may_ask v w k o n part loaded looks own counted same low left
 
-  pub key_absent : kind_in k.kinds o ≡ kind.Dict → ShowsAbsent k o key n w.log → KeyIsShown w o key None n
+  pub key_absent : kind_in k.starts o ≡ kind.Dict → ShowsAbsent k o key n w.log → KeyIsShown w o key None n
   key_absent is shows =
-      let here : (kind_in w.shape.kinds o ≡ kind.Dict) × ShowsAbsent w.shape o key n w.log = subst (λ (z : Shape). (kind_in z.kinds o ≡ kind.Dict) × ShowsAbsent z o key n w.log) (sym same) (is, shows) in
+      let here : (kind_in w.shape.starts o ≡ kind.Dict) × ShowsAbsent w.shape o key n w.log = subst (λ (z : Shape). (kind_in z.starts o ≡ kind.Dict) × ShowsAbsent z o key n w.log) (sym same) (is, shows) in
       (misses_are_shown w o key n ask fits here.1).0 here.0
 
-  pub element_absent : kind_in k.kinds o ≡ kind.Set → ShowsAbsent k o key n w.log → IsShown w (call.Set o (set.Has key)) (reply.Truth false) n
+  pub element_absent : kind_in k.starts o ≡ kind.Set → ShowsAbsent k o key n w.log → IsShown w (call.Set o (set.Has key)) (reply.Truth false) n
   element_absent is shows =
-      let here : (kind_in w.shape.kinds o ≡ kind.Set) × ShowsAbsent w.shape o key n w.log = subst (λ (z : Shape). (kind_in z.kinds o ≡ kind.Set) × ShowsAbsent z o key n w.log) (sym same) (is, shows) in
+      let here : (kind_in w.shape.starts o ≡ kind.Set) × ShowsAbsent w.shape o key n w.log = subst (λ (z : Shape). (kind_in z.starts o ≡ kind.Set) × ShowsAbsent z o key n w.log) (sym same) (is, shows) in
       (misses_are_shown w o key n ask fits here.1).1 here.0
 
   module _ (value_kind payload : ℕ) (shows : ShowsHere k o key value_kind payload n w.log) where
-    pub key_here : kind_in k.kinds o ≡ kind.Dict → (value : Value) → IsStored value_kind payload (Plain value) → KeyIsShown w o key (Some value) n
+    pub key_here : kind_in k.starts o ≡ kind.Dict → (value : Value) → IsStored value_kind payload (Plain value) → KeyIsShown w o key (Some value) n
     key_here is value stored =
-        let here : kind_in w.shape.kinds o ≡ kind.Dict = ap (λ (z : Shape). kind_in z.kinds o) same ∙ is in
+        let here : kind_in w.shape.starts o ≡ kind.Dict = ap (λ (z : Shape). kind_in z.starts o) same ∙ is in
         (dict_hits_are_shown w o shows.t shows.place key n ask here fits (subst (λ z. shows.place < rows z (class_of shows.t)) is shows.low) shows.hit).1 value_kind payload shows.read value stored
 
     -- the words that were read are those of a value
-    pub value_here : Possible w → kind_in k.kinds o ≡ kind.Dict → (value : Value) × IsStored value_kind payload (Plain value)
+    pub value_here : Possible w → kind_in k.starts o ≡ kind.Dict → (value : Value) × IsStored value_kind payload (Plain value)
     value_here possible is =
-        let here : kind_in w.shape.kinds o ≡ kind.Dict = ap (λ (z : Shape). kind_in z.kinds o) same ∙ is in
+        let here : kind_in w.shape.starts o ≡ kind.Dict = ap (λ (z : Shape). kind_in z.starts o) same ∙ is in
         values_are_read w o shows.t shows.place key n possible ask.low here fits (subst (λ z. shows.place < rows z (class_of shows.t)) is shows.low) shows.hit value_kind payload shows.read
 
-    pub element_here : kind_in k.kinds o ≡ kind.Set → IsShown w (call.Set o (set.Has key)) (reply.Truth true) n
+    pub element_here : kind_in k.starts o ≡ kind.Set → IsShown w (call.Set o (set.Has key)) (reply.Truth true) n
     element_here is =
-        let here : kind_in w.shape.kinds o ≡ kind.Set = ap (λ (z : Shape). kind_in z.kinds o) same ∙ is in
+        let here : kind_in w.shape.starts o ≡ kind.Set = ap (λ (z : Shape). kind_in z.starts o) same ∙ is in
         set_hits_are_shown w o shows.t shows.place key n ask here fits (subst (λ z. shows.place < rows z (class_of shows.t)) is shows.low) shows.hit
 
 -- an entry that follows such loads

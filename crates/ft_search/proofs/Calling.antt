@@ -18,7 +18,7 @@ use Rattle.ft_trace.specs.Addresses.{containers_in}
 use Rattle.ft_trace.specs.Holds.{held, known}
 use Rattle.ft_trace.specs.Pictures.{Picture, root_in, Stands}
 use Rattle.ft_trace.specs.Kinds.{IsKeyed}
-use Rattle.ft_trace.specs.ContainerStates.{ContainerState, changes, kind_in, reply_in}
+use Rattle.ft_trace.specs.ContainerStates.{ContainerState, changes, kind_in, reply_in, kinds_in}
 use Rattle.ft_trace.proofs.Cases.{hit}
 use Rattle.ft_bank.specs.declared.bank.Bank.{Bank}
 use Rattle.ft_bank.specs.declared.pass.Pass.{Pass}
@@ -44,6 +44,9 @@ plain_replied (call.Next cursor) said plain write is = inr (sym is)
 plain_replied (call.Begin one other) said plain write is = absurd (true≢false (sym write))
 plain_replied call.End said plain write is = absurd (true≢false (sym write))
 plain_replied call.Quiesce said plain write is = absurd (true≢false (sym write))
+plain_replied (call.Deque o qc) said plain write is = inr (sym is)
+plain_replied (call.Await thread index) said plain write is = absurd (true≢false (sym write))
+plain_replied call.Dump said plain write is = absurd (true≢false (sym write))
 
 -- ---- after loads
 
@@ -53,7 +56,8 @@ module _ (v u : View) (l : OnlyLoaded v u) where
     agrees = λ p low mine. has.agrees p (subst (λ (k : Shape). p < containers_in k) l.work.pass.shape low) (sym (l.work.pass.locks p) ∙ mine) ∙ sym (work_knows v u p l.work);
     containers = has.containers ∙ sym (ap containers_in l.work.pass.shape);
     order = has.order;
-    kinds = has.kinds ∙ sym (ap (λ (k : Shape). k.kinds) l.work.pass.shape);
+    kinds = has.kinds ∙ sym (ap (λ (k : Shape). kinds_in k.starts) l.work.pass.shape);
+    unsplit = has.unsplit;
     words = has.words;
   }
 
@@ -86,7 +90,8 @@ module _ (v u : View) (l : OnlyLoaded v u) where
             agrees = λ p low mine. x.has.agrees p (subst (λ (k : Shape). p < containers_in k) (sym s) low) (l.work.pass.locks p ∙ mine) ∙ work_knows v u p l.work;
             containers = x.has.containers ∙ ap containers_in s;
             order = x.has.order;
-            kinds = x.has.kinds ∙ ap (λ (k : Shape). k.kinds) s;
+            kinds = x.has.kinds ∙ ap (λ (k : Shape). kinds_in k.starts) s;
+            unsplit = x.has.unsplit;
             words = x.has.words;
           };
           content = x.content;
@@ -180,7 +185,7 @@ pub loaded_same : (v : View) → OnlyLoaded v v
 loaded_same v = record { work = same_work v; words = refl }
 
 pub shown_replied : (called : Call) (said : Reply) (v : View) (n : ℕ) → IsShownBy called said v → (stored : StoredWorld) → MayHave (noted (ReadCounter n) v) stored → IsReplied called said (reply_in stored called)
-shown_replied called said v n x stored has = x.plain stored (x.replied stored (record { agrees = has.agrees; containers = has.containers; order = has.order; kinds = has.kinds; words = has.words }))
+shown_replied called said v n x stored has = x.plain stored (x.replied stored (record { agrees = has.agrees; containers = has.containers; order = has.order; kinds = has.kinds; unsplit = has.unsplit; words = has.words }))
 
 -- ---- after loads, for whoever looked for a key first
 
@@ -195,7 +200,7 @@ answer_loaded called said given stamp v u w part loaded log is made = subst (λ 
 
 -- ---- before the call
 
-pub making_may : (b : Bank) (p : Pass) (k : Shape) (o : ℕ) → IsMaking b p → (view p).shape ≡ k → o < containers_in k → IsKeyed (kind_in k.kinds o) → has_lock o (view p).log ≡ true → 0 < (view p).left → MayWriteEntries k o (view p)
+pub making_may : (b : Bank) (p : Pass) (k : Shape) (o : ℕ) → IsMaking b p → (view p).shape ≡ k → o < containers_in k → IsKeyed (kind_in k.starts o) → has_lock o (view p).log ≡ true → 0 < (view p).left → MayWriteEntries k o (view p)
 making_may b p k o m shape low keyed mine left = record {
   container = low;
   keyed = keyed;

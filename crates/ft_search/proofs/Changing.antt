@@ -1,5 +1,5 @@
 -- A write that changes one entry of a dict or a set: what its words have to meet before the commit and after it.
-use Rattle.std.proofs.Common.{◌≡◌, ◌≢◌, ℕ, suc, ◌+◌, ◌%◌, ◌<◌, ◌≤◌, Bool, true, false, List, ◌∷◌, Option, Some, refl, sym, ap, ◌∙◌, subst, arith, length-set, get_or-set_same, get_or-set_other}
+use Rattle.std.proofs.Common.{◌≡◌, ◌≢◌, ℕ, suc, ◌+◌, ◌%◌, ◌<◌, ◌≤◌, Bool, true, false, List, ◌∷◌, Option, Some, refl, sym, ap, ◌∙◌, subst, arith, length-set, get_or-set_same, get_or-set_other, None, [], true≢false}
 use Rattle.std.specs.Prelude.{All, IsTrue, slice_get, slice_index, slice_set}
 use Rattle.std.proofs.Math.Logic.{∥∥₁_elim}
 use Rattle.std.proofs.Math.Nat.{ℕ_set}
@@ -21,7 +21,7 @@ use Rattle.ft_trace.specs.Addresses.{containers_in, class_of, slots}
 use Rattle.ft_trace.specs.Acts.{has_lock, is_writing, has_committed}
 use Rattle.ft_trace.specs.Carefuls.{HasLiveKey}
 use Rattle.ft_trace.specs.Holds.{held, known}
-use Rattle.ft_trace.specs.Kinds.{rows, version_at, CarefulAs, ClearAs}
+use Rattle.ft_trace.specs.Kinds.{rows, version_at, CarefulAs, ClearAs, HasVersions}
 use Rattle.ft_trace.specs.OddVersions.{Shut, Timely}
 use Rattle.ft_trace.specs.Traces.{Possible}
 use Rattle.ft_trace.specs.Pictures.{Picture, root_in, entry_offset, entry_field, Stands}
@@ -33,6 +33,11 @@ use Rattle.ft_trace.proofs.Known.{after_header, kind_known}
 use Rattle.ft_trace.proofs.Tellings.{live_tells, key_words}
 use Rattle.ft_bank.specs.WriteSteps.{IsCareful}
 use Rattle.ft_search.specs.OneEntryWrites.{raised_at}
+use Rattle.ft_model.specs.TableUses.{is_split}
+use Rattle.ft_trace.proofs.UnsplitTables.{known_unsplit}
+use Rattle.ft_trace.proofs.LandedStarts.{has_versions}
+use Rattle.ft_trace.proofs.Announcing.{fits}
+use Rattle.std.proofs.Math.Bool.{Bool-set}
 
 -- The puts before the commit may be made; then it may be made, and the version of the entry be made even again, the only one
 -- that is odd. Then the words stand for what is left.
@@ -50,6 +55,8 @@ code : Kind → ℕ
 code kind.Dict = 0
 code kind.List = 1
 code kind.Set = 2
+code (kind.Deque None) = 3
+code (kind.Deque (Some bound)) = 4 + bound
 
 same_code : (a b : Kind) → code a ≡ code b → a ≡ b
 unfolding code
@@ -62,20 +69,57 @@ same_code kind.List kind.Set e = absurd (omega (arith, e))
 same_code kind.Set kind.Dict e = absurd (omega (arith, e))
 same_code kind.Set kind.List e = absurd (omega (arith, e))
 same_code kind.Set kind.Set e = refl
+same_code (kind.Deque None) (kind.Deque None) e = refl
+same_code (kind.Deque (Some bound)) (kind.Deque (Some other)) e = ap (λ (n : ℕ). kind.Deque (Some n)) (omega (arith, e))
+same_code (kind.Deque None) (kind.Deque (Some other)) e = absurd (omega (arith, e))
+same_code (kind.Deque (Some bound)) (kind.Deque None) e = absurd (omega (arith, e))
+same_code kind.Dict (kind.Deque None) e = absurd (omega (arith, e))
+same_code (kind.Deque None) kind.Dict e = absurd (omega (arith, e))
+same_code kind.Dict (kind.Deque (Some bound)) e = absurd (omega (arith, e))
+same_code (kind.Deque (Some bound)) kind.Dict e = absurd (omega (arith, e))
+same_code kind.List (kind.Deque None) e = absurd (omega (arith, e))
+same_code (kind.Deque None) kind.List e = absurd (omega (arith, e))
+same_code kind.List (kind.Deque (Some bound)) e = absurd (omega (arith, e))
+same_code (kind.Deque (Some bound)) kind.List e = absurd (omega (arith, e))
+same_code kind.Set (kind.Deque None) e = absurd (omega (arith, e))
+same_code (kind.Deque None) kind.Set e = absurd (omega (arith, e))
+same_code kind.Set (kind.Deque (Some bound)) e = absurd (omega (arith, e))
+same_code (kind.Deque (Some bound)) kind.Set e = absurd (omega (arith, e))
 
-pub kind_is : (k : Shape) (v : View) (o : ℕ) → v.shape ≡ k → ∥ Possible v ∥₁ → has_lock o v.log ≡ true → kind_of (known o v).content ≡ kind_in k.kinds o
+-- no container of a bank is a deque yet
+versions_prop : (kind : Kind) (a b : HasVersions kind) → a ≡ b
+versions_prop kind.Dict a b = refl
+versions_prop kind.List a b = refl
+versions_prop kind.Set a b = refl
+versions_prop (kind.Deque bound) a b = absurd a
+
+pub versions_in : (v : View) (o : ℕ) → ∥ Possible v ∥₁ → HasVersions (kind_in v.shape.starts o)
+versions_in v o possible =
+    ∥∥₁_elim {P = HasVersions (kind_in v.shape.starts o)} possible (versions_prop (kind_in v.shape.starts o)) (λ p. has_versions v.shape (fits v.shape p.0 p.2.0) o)
+
+-- no dict of a bank is split yet: a container whose lock the pass has shares no keys
+none_split : (keys : List Key) → is_split keys ≡ false → keys ≡ []
+none_split [] e = refl
+none_split (key ∷ keys) e = absurd (true≢false e)
+
+pub no_keys : (v : View) (o : ℕ) → ∥ Possible v ∥₁ → has_lock o v.log ≡ true → (known o v).table.keys ≡ []
+no_keys v o possible mine =
+    none_split (known o v).table.keys
+    (∥∥₁_elim {P = is_split (known o v).table.keys ≡ false} possible (Bool-set _ _) (λ p. ap is_split (known_unsplit v o mine p)))
+
+pub kind_is : (k : Shape) (v : View) (o : ℕ) → v.shape ≡ k → ∥ Possible v ∥₁ → has_lock o v.log ≡ true → kind_of (known o v).content ≡ kind_in k.starts o
 kind_is k v o shape possible mine =
-    same_code (kind_of (known o v).content) (kind_in k.kinds o)
-    (∥∥₁_elim {P = code (kind_of (known o v).content) ≡ code (kind_in k.kinds o)} possible (ℕ_set _ _)
-    (λ p. ap code (kind_known v o mine p ∙ ap (λ (z : Shape). kind_in z.kinds o) shape)))
+    same_code (kind_of (known o v).content) (kind_in k.starts o)
+    (∥∥₁_elim {P = code (kind_of (known o v).content) ≡ code (kind_in k.starts o)} possible (ℕ_set _ _)
+    (λ p. ap code (kind_known v o mine p ∙ ap (λ (z : Shape). kind_in z.starts o) shape)))
 
 -- ---- puts
 
 -- a put that may be made on these words is one that readers aren't misled by
-pub put_at : (k : Shape) (o t i y : ℕ) (committed : Bool) (words : Picture) (c : Content) (w : View) → w.shape ≡ k → has_committed o w.log ≡ committed → held o w ≡ words → (known o w).content ≡ c → MayPut (kind_in k.kinds o) t c committed words (to_table i y) → IsCareful w o t i y
+pub put_at : (k : Shape) (o t i y : ℕ) (committed : Bool) (words : Picture) (c : Content) (w : View) → w.shape ≡ k → has_committed o w.log ≡ committed → held o w ≡ words → (known o w).content ≡ c → MayPut (kind_in k.starts o) t c committed words (to_table i y) → IsCareful w o t i y
 put_at k o t i y committed words c w shape late is content may =
-    let care : CarefulAs (kind_in w.shape.kinds o) (class_of t) (held o w).table (known o w).content i y = subst (λ (z : Shape × Picture × Content). CarefulAs (kind_in z.0.kinds o) (class_of t) z.1.table z.2 i y) (sym (λ d. (shape d, is d, content d))) may.2 in
-    let timely : Timely (version_at (kind_in w.shape.kinds o) (class_of t)) (rows (kind_in w.shape.kinds o) (class_of t)) i y (has_committed o w.log) = subst (λ (z : Shape × Bool). Timely (version_at (kind_in z.0.kinds o) (class_of t)) (rows (kind_in z.0.kinds o) (class_of t)) i y z.1) (sym (λ d. (shape d, late d))) may.3 in
+    let care : CarefulAs (kind_in w.shape.starts o) (class_of t) (held o w).table (known o w).content i y = subst (λ (z : Shape × Picture × Content). CarefulAs (kind_in z.0.starts o) (class_of t) z.1.table z.2 i y) (sym (λ d. (shape d, is d, content d))) may.2 in
+    let timely : Timely (version_at (kind_in w.shape.starts o) (class_of t)) (rows (kind_in w.shape.starts o) (class_of t)) i y (has_committed o w.log) = subst (λ (z : Shape × Bool). Timely (version_at (kind_in z.0.starts o) (class_of t)) (rows (kind_in z.0.starts o) (class_of t)) i y z.1) (sym (λ d. (shape d, late d))) may.3 in
     record { care = care; timely = timely }
 
 -- a block that counts another number of pairs or elements
@@ -95,11 +139,11 @@ with_count b class old new fill next h =
 -- no version of an entry is odd before the write
 pub shut_known : (k : Shape) (v : View) (o t : ℕ) → v.shape ≡ k → ∥ Possible v ∥₁ → o < containers_in k → has_lock o v.log ≡ true → is_writing o v.log ≡ false → root_in (held o v) ≡ suc t → Shut (version_at (kind_of (known o v).content) (class_of t)) (rows (kind_of (known o v).content) (class_of t)) (held o v).table
 shut_known k v o t shape possible low mine even names p less =
-    let kind_eq : kind_of (known o v).content ≡ kind_in v.shape.kinds o = kind_is k v o shape possible mine ∙ sym (ap (λ (z : Shape). kind_in z.kinds o) shape) in
+    let kind_eq : kind_of (known o v).content ≡ kind_in v.shape.starts o = kind_is k v o shape possible mine ∙ sym (ap (λ (z : Shape). kind_in z.starts o) shape) in
     let here : o < containers_in v.shape = subst (λ (z : Shape). o < containers_in z) (sym shape) low in
-    let row : p < rows (kind_in v.shape.kinds o) (class_of t) = subst (λ (z : Kind). p < rows z (class_of t)) kind_eq less in
-    let even_now : slice_index (held o v).table (version_at (kind_in v.shape.kinds o) (class_of t) p) % 2 ≡ 0 =
-    ∥∥₁_elim {P = slice_index (held o v).table (version_at (kind_in v.shape.kinds o) (class_of t) p) % 2 ≡ 0} possible (ℕ_set _ _) (λ x. held_shut v o t here x mine even names p row) in
+    let row : p < rows (kind_in v.shape.starts o) (class_of t) = subst (λ (z : Kind). p < rows z (class_of t)) kind_eq less in
+    let even_now : slice_index (held o v).table (version_at (kind_in v.shape.starts o) (class_of t) p) % 2 ≡ 0 =
+    ∥∥₁_elim {P = slice_index (held o v).table (version_at (kind_in v.shape.starts o) (class_of t) p) % 2 ≡ 0} possible (ℕ_set _ _) (λ x. held_shut v o t here x mine even names p row) in
     subst (λ (z : Kind). slice_index (held o v).table (version_at z (class_of t) p) % 2 ≡ 0) (sym kind_eq) even_now
 
 -- ---- the entry that changes

@@ -275,13 +275,14 @@ module _ (dicts : DictLaws) (sets : SetLaws) (texts : List ℕ) (x : Picture) (t
       let says : IsSetWords texts x.block (0 ∷ 0 ∷ x.table) (Some (class_of t)) tab.fill elements = subst (λ (z : Option ℕ). IsSetWords texts x.block (0 ∷ 0 ∷ x.table) z tab.fill elements) class stands in
       key_deleted texts x tab t is_class (set_entries sets texts t tab is_class class) elements says names long shut p key low live fits
   deletes (content.List values) tab keyed stands low shut = absurd keyed
+  deletes (content.Deque deque) tab keyed stands low shut = absurd keyed
 
 -- as the pass knows the container
 pub deletes_known : DictLaws → SetLaws → (k : Shape) (o : ℕ) (table : Table) (v : View) → v.shape ≡ k → ∥ Possible v ∥₁ → MayWriteEntries k o v → HasTable k o table v → (place : ℕ) (key : Key) → IsLiveEntry k o table place key v
     → Changing k.texts (name_of table) (held o v) (known o v) place (deletion (name_of table) place key (held o v)) (record { content = without_key (known o v).content key; table = (known o v).table }) × (0 < slice_index (held o v).block 1)
 deletes_known dicts sets k o table v shape possible may has place key entry =
     let t = name_of table in
-    let kind_eq : kind_of (known o v).content ≡ kind_in k.kinds o = kind_is k v o shape possible may.locked in
+    let kind_eq : kind_of (known o v).content ≡ kind_in k.starts o = kind_is k v o shape possible may.locked in
     deletes dicts sets k.texts (held o v) t (table_class k table has.table_in) has.root (table_is_long v o t has.root) place key entry.live entry.fits
     (known o v).content (known o v).table (subst IsKeyed (sym kind_eq) may.keyed) may.stands
     (subst (λ (z : Kind). place < rows z (class_of t)) (sym kind_eq) entry.low)
@@ -290,7 +291,7 @@ deletes_known dicts sets k o table v shape possible may has place key entry =
 -- ---- the puts, one after the other
 
 module _ (k : Shape) (o : ℕ) (table : Table) (place : ℕ) (key : Key) (v w1 w2 : View) (count : ℕ) (shape : v.shape ≡ k) (writes : WritesEntries k o table v) (early : has_committed o v.log ≡ false) (only1 : OnlyLoaded v w1) (is : count ≡ slice_index (held o v).block 1) (only2 : OnlyPut o w1 w2) (held2 : held o w2 ≡ with_block (held o w1) 1 (count - 1))
-    (may : MayPuts (kind_in k.kinds o) (name_of table) (known o v).content false (held o v) (deletion (name_of table) place key (held o v))) where
+    (may : MayPuts (kind_in k.starts o) (name_of table) (known o v).content false (held o v) (deletion (name_of table) place key (held o v))) where
   abbrev pt : ℕ
   pt = name_of table
 

@@ -47,24 +47,27 @@ abbrev code : Kind → ℕ
 code kind.Dict = 0
 code kind.List = 1
 code kind.Set = 2
+code (kind.Deque bound) = 3
 
 as_dict : (c : Content) → code (kind_of c) ≡ 0 → (pairs : DictContent) × (c ≡ content.Dict pairs)
 as_dict (content.Dict pairs) is = (pairs, refl)
 as_dict (content.List values) is = absurd (omega (arith, is))
+as_dict (content.Deque deque) is = absurd (omega (arith, is))
 as_dict (content.Set elements) is = absurd (omega (arith, is))
 
 as_set : (c : Content) → code (kind_of c) ≡ 2 → (elements : SetContent) × (c ≡ content.Set elements)
 as_set (content.Dict pairs) is = absurd (omega (arith, is))
 as_set (content.List values) is = absurd (omega (arith, is))
+as_set (content.Deque deque) is = absurd (omega (arith, is))
 as_set (content.Set elements) is = (elements, refl)
 
-kind_code : (v : View) (o : ℕ) → ∥ Possible v ∥₁ → has_lock o v.log ≡ true → code (kind_of (known o v).content) ≡ code (kind_in v.shape.kinds o)
-kind_code v o possible mine = ∥∥₁_elim {P = code (kind_of (known o v).content) ≡ code (kind_in v.shape.kinds o)} possible (ℕ_set _ _) (λ p. ap code (kind_known v o mine p))
+kind_code : (v : View) (o : ℕ) → ∥ Possible v ∥₁ → has_lock o v.log ≡ true → code (kind_of (known o v).content) ≡ code (kind_in v.shape.starts o)
+kind_code v o possible mine = ∥∥₁_elim {P = code (kind_of (known o v).content) ≡ code (kind_in v.shape.starts o)} possible (ℕ_set _ _) (λ p. ap code (kind_known v o mine p))
 
-pub dict_known : (v : View) (o : ℕ) → ∥ Possible v ∥₁ → has_lock o v.log ≡ true → kind_in v.shape.kinds o ≡ kind.Dict → (pairs : DictContent) × ((known o v).content ≡ content.Dict pairs)
+pub dict_known : (v : View) (o : ℕ) → ∥ Possible v ∥₁ → has_lock o v.log ≡ true → kind_in v.shape.starts o ≡ kind.Dict → (pairs : DictContent) × ((known o v).content ≡ content.Dict pairs)
 dict_known v o possible mine is = as_dict (known o v).content (kind_code v o possible mine ∙ ap code is)
 
-pub set_known : (v : View) (o : ℕ) → ∥ Possible v ∥₁ → has_lock o v.log ≡ true → kind_in v.shape.kinds o ≡ kind.Set → (elements : SetContent) × ((known o v).content ≡ content.Set elements)
+pub set_known : (v : View) (o : ℕ) → ∥ Possible v ∥₁ → has_lock o v.log ≡ true → kind_in v.shape.starts o ≡ kind.Set → (elements : SetContent) × ((known o v).content ≡ content.Set elements)
 set_known v o possible mine is = as_set (known o v).content (kind_code v o possible mine ∙ ap code is)
 
 -- ---- where there is no table
@@ -132,7 +135,7 @@ abbrev pub IsOfWay : Way → Content → Type 0
 IsOfWay way.Dict c = (pairs : DictContent) × (c ≡ content.Dict pairs)
 IsOfWay way.Set c = (elements : SetContent) × (c ≡ content.Set elements)
 
-pub of_way : (way : Way) (v : View) (o : ℕ) → ∥ Possible v ∥₁ → has_lock o v.log ≡ true → kind_in v.shape.kinds o ≡ kind_by way → IsOfWay way (known o v).content
+pub of_way : (way : Way) (v : View) (o : ℕ) → ∥ Possible v ∥₁ → has_lock o v.log ≡ true → kind_in v.shape.starts o ≡ kind_by way → IsOfWay way (known o v).content
 of_way way.Dict v o possible mine is = dict_known v o possible mine is
 of_way way.Set v o possible mine is = set_known v o possible mine is
 

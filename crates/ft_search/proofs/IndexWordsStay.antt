@@ -33,7 +33,7 @@ use Rattle.ft_search.specs.Stays.{UsedSlotsStay}
 
 -- ---- from one moment to a later one
 
-module _ (k : Shape) (o t s slot : ℕ) (keyed : IsKeyed (kind_in k.kinds o)) (table : IsTableName k t) (two : s % 5 ≡ 2) (low : slot < slots (class_of t)) where
+module _ (k : Shape) (o t s slot : ℕ) (keyed : IsKeyed (kind_in k.starts o)) (table : IsTableName k t) (two : s % 5 ≡ 2) (low : slot < slots (class_of t)) where
   -- the table was current at the age s, and was not given back since
   later_same : (newer older : List Event) → Valid k (newer ++ older) → s ≤ age older t → age (newer ++ older) t ≤ s + 2 → (age older t ≡ s → whose older t ≡ o) → index_field (tab k older t) slot ≢ 0
       → index_field (tab k (newer ++ older) t) slot ≡ index_field (tab k older t) slot
@@ -49,7 +49,7 @@ module _ (k : Shape) (o t s slot : ℕ) (keyed : IsKeyed (kind_in k.kinds o)) (t
       let whose_is : whose es t ≡ o = whose_same newer older t (is ∙ sym first) ∙ whom first in
       let current : age es t % 5 ≡ 2 = ap (λ (z : ℕ). z % 5) is ∙ two in
       let one = subst (λ (z : ℕ). LaterIn k z t (tab k es t) (tab k (e ∷ es) t)) whose_is (later_one k es e valid t table current) in
-      (keyed_later (kind_in k.kinds o) keyed (class_of t) (tab k es t) (tab k (e ∷ es) t) one).index slot low (λ none. used (sym same ∙ none)) ∙ same)
+      (keyed_later (kind_in k.starts o) keyed (class_of t) (tab k es t) (tab k (e ∷ es) t) one).index slot low (λ none. used (sym same ∙ none)) ∙ same)
       (λ ne.
       let not_one : age es t % 5 ≢ 1 = λ z. absurd (omega (arith, z, ne, rise, from, up, to, two)) in
       let not_two : age es t % 5 ≢ 2 = λ z. absurd (omega (arith, z, ne, rise, from, up, to, two)) in

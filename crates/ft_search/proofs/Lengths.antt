@@ -4,7 +4,7 @@ use Rattle.std.specs.Prelude.{slice_index, slice_index_or}
 use Rattle.ft_model.specs.Answers.{answer}
 use Rattle.ft_model.specs.Contents.{DictContent, SetContent, empty_dict, empty_set}
 use Rattle.ft_model.specs.TableUses.{StoredWorld, TableUse}
-use Rattle.ft_model.specs.Worlds.{no_hands, dict_of, list_of, set_of, kind_of, length_of}
+use Rattle.ft_model.specs.Worlds.{no_hands, dict_of, list_of, set_of, kind_of, length_of, deque_of, start_as}
 use Rattle.ft_model.specs.declared.call.Call.{Call}
 use Rattle.ft_model.specs.declared.content.Content.{Content}
 use Rattle.ft_model.specs.declared.content.Content.TheVariants as content
@@ -40,6 +40,8 @@ use Rattle.ft_search.specs.Lengths.{len_of, ShowsCount, StopsAtVersion}
 use Rattle.ft_search.proofs.Asking.{held_shown}
 use Rattle.ft_search.proofs.Running.{did_trans}
 use Rattle.ft_search.proofs.ReadMidst.{LeavesSections}
+use Rattle.ft_model.specs.Deques.{DequeContent, empty_deque}
+use Rattle.ft_model.specs.declared.script.Start.{Start}
 
 -- ---- the plain containers
 
@@ -53,10 +55,16 @@ set_there [] o set e = absurd (cc)
 set_there (x ∷ world) zero set e = e
 set_there (x ∷ world) (suc o) set e = set_there world o set e
 
+deque_there : (world : List Content) (o : ℕ) (deque : DequeContent) → slice_index_or world o (content.List []) ≡ content.Deque deque → slice_index_or world o (content.Deque (empty_deque None)) ≡ content.Deque deque
+deque_there [] o deque e = absurd (cc)
+deque_there (x ∷ world) zero deque e = e
+deque_there (x ∷ world) (suc o) deque e = deque_there world o deque e
+
 -- `len` is the number of pairs, items or elements
 len_is : (world : List Content) (o : ℕ) (c : Content) → slice_index_or world o (content.List []) ≡ c → (answer world no_hands (len_of (kind_of c) o)).reply ≡ reply.Count (length_of c)
 len_is world o (content.Dict dict) e = ap (λ (z : Content). reply.Count (length (dict_of z).pairs)) (dict_there world o dict e)
 len_is world o (content.List items) e = ap (λ (z : Content). reply.Count (length (list_of z))) e
+len_is world o (content.Deque deque) e = ap (λ (z : Content). reply.Count (length (deque_of z).items)) (deque_there world o deque e)
 len_is world o (content.Set set) e = ap (λ (z : Content). reply.Count (length (set_of z).elements)) (set_there world o set e)
 
 pub len_replied : (kind : Kind) (stored : StoredWorld) (o : ℕ) → kind_of (state_at stored o).content ≡ kind → reply_in stored (len_of kind o) ≡ reply.Count (length_of (state_at stored o).content)
@@ -70,6 +78,7 @@ count_is texts x kept stands = by kept.content kept.table stands
     by (content.Dict dict) table s = s.head.count_is
     by (content.List items) table s = s.0.head.count_is
     by (content.Set set) table s = s.head.count_is
+    by (content.Deque deque) table s = ap (λ (block : List ℕ). slice_index block 1) s.0 ∙ ap (λ (z : DequeContent). length z.items) (sym s.2)
 
 -- ---- the call
 
@@ -85,11 +94,13 @@ pub record IsPlain (called : Call) (said : Reply) : Type 0 where
 pub len_plain : (kind : Kind) (o count : ℕ) → IsPlain (len_of kind o) (reply.Count count)
 len_plain kind.Dict o count = record { reads = refl; cursor = refl; adds = refl; memory = refl; replied = λ plain is. inr is; cause = λ stored log n. refl }
 len_plain kind.List o count = record { reads = refl; cursor = refl; adds = refl; memory = refl; replied = λ plain is. inr is; cause = λ stored log n. refl }
+len_plain (kind.Deque bound) o count = record { reads = refl; cursor = refl; adds = refl; memory = refl; replied = λ plain is. inr is; cause = λ stored log n. refl }
 len_plain kind.Set o count = record { reads = refl; cursor = refl; adds = refl; memory = refl; replied = λ plain is. inr is; cause = λ stored log n. refl }
 
 pub len_sections : (kind : Kind) (o : ℕ) → LeavesSections (len_of kind o)
 len_sections kind.Dict o = λ n l sections. refl
 len_sections kind.List o = λ n l sections. refl
+len_sections (kind.Deque bound) o = λ n l sections. refl
 len_sections kind.Set o = λ n l sections. refl
 
 -- ---- without the lock
@@ -141,10 +152,10 @@ count_counted o count n part s =
           ∙ sym (append_assoc b.newer (x ∷ c.newer) (ReadCounter n ∷ (c.rest ++ x ∷ b.rest)))));
     }
 
-pub len_shown : (v w : View) (called : Call) (o count n : ℕ) (part : List Act) → MayAsk w o n → w.log ≡ part ++ v.log → called ≡ len_of (kind_in w.shape.kinds o) o → ShowsCount o count n part → IsShown w called (reply.Count count) n
+pub len_shown : (v w : View) (called : Call) (o count n : ℕ) (part : List Act) → MayAsk w o n → w.log ≡ part ++ v.log → called ≡ len_of (kind_in w.shape.starts o) o → ShowsCount o count n part → IsShown w called (reply.Count count) n
 len_shown v w called o count n part ask own is s =
     let k = w.shape in
-    let kind = kind_in k.kinds o in
+    let kind = kind_in k.starts o in
     let plain = len_plain kind o count in
     let looked : LookedAtOne k (len_of kind o) o (reply.Count count) n w.log = record {
       mid = s.mid;
@@ -157,16 +168,16 @@ len_shown v w called o count n part ask own is s =
 -- ---- under the lock
 
 -- the kind of what is stored
-pub kind_had : (v : View) (stored : StoredWorld) (o : ℕ) → MayHave v stored → kind_of (state_at stored o).content ≡ kind_in v.shape.kinds o
-kind_had v stored o may = sym (mapped kind_of stored.world o (content.List [])) ∙ ap (λ (l : List Kind). slice_index_or l o kind.List) may.kinds
+pub kind_had : (v : View) (stored : StoredWorld) (o : ℕ) → MayHave v stored → kind_of (state_at stored o).content ≡ kind_in v.shape.starts o
+kind_had v stored o may = sym (mapped kind_of stored.world o (content.List [])) ∙ (ap (λ (l : List Kind). slice_index_or l o kind.List) may.kinds ∙ mapped (λ (start : Start). start.kind) v.shape.starts o (start_as kind.List))
 
-pub len_held : (v u : View) (called : Call) (o count n : ℕ) → OnlyLoaded v u → 0 < v.left → o < containers_in v.shape → has_lock o v.log ≡ true → called ≡ len_of (kind_in v.shape.kinds o) o → count ≡ length_of (known o v).content → IsShown (noted (ReadCounter n) u) called (reply.Count count) n
+pub len_held : (v u : View) (called : Call) (o count n : ℕ) → OnlyLoaded v u → 0 < v.left → o < containers_in v.shape → has_lock o v.log ≡ true → called ≡ len_of (kind_in v.shape.starts o) o → count ≡ length_of (known o v).content → IsShown (noted (ReadCounter n) u) called (reply.Count count) n
 len_held v u called o count n loaded left low mine is counts =
-    let kind = kind_in v.shape.kinds o in
+    let kind = kind_in v.shape.starts o in
     let w = noted (ReadCounter n) u in
     let plain = len_plain kind o count in
     let right : (stored : StoredWorld) → MayHave w stored → IsReplied (len_of kind o) (reply.Count count) (reply_in stored (len_of kind o)) = λ stored may.
-    let kinds : kind_of (state_at stored o).content ≡ kind = kind_had w stored o may ∙ ap (λ (k : Shape). kind_in k.kinds o) loaded.work.pass.shape in
+    let kinds : kind_of (state_at stored o).content ≡ kind = kind_had w stored o may ∙ ap (λ (k : Shape). kind_in k.starts o) loaded.work.pass.shape in
     let kept : state_at stored o ≡ known o v = may.agrees o (subst (λ (k : Shape). o < containers_in k) (sym loaded.work.pass.shape) low) (loaded.work.pass.locks o ∙ mine) ∙ work_knows v u o loaded.work in
     plain.replied (reply_in stored (len_of kind o)) (ap reply.Count (counts ∙ ap (λ (z : ContainerState). length_of z.content) (sym kept)) ∙ sym (len_replied kind stored o kinds)) in
     subst (λ (z : Call). IsShown w z (reply.Count count) n) (sym is)

@@ -194,7 +194,7 @@ module _ (laws : ValueLaws) (texts : List ℕ) (x : Picture) (tab : TableUse) (t
   }
 
 -- as the pass knows the dict
-pub values_known : ValueLaws → (k : Shape) (o : ℕ) (table : Table) (v : View) → v.shape ≡ k → ∥ Possible v ∥₁ → MayWriteEntries k o v → kind_in k.kinds o ≡ kind.Dict → HasTable k o table v → (place : ℕ) (key : Key) (value : Value) → FitsStored (Plain value) → IsLiveEntry k o table place key v
+pub values_known : ValueLaws → (k : Shape) (o : ℕ) (table : Table) (v : View) → v.shape ≡ k → ∥ Possible v ∥₁ → MayWriteEntries k o v → kind_in k.starts o ≡ kind.Dict → HasTable k o table v → (place : ℕ) (key : Key) (value : Value) → FitsStored (Plain value) → IsLiveEntry k o table place key v
     → Changing k.texts (name_of table) (held o v) (known o v) place (value_puts (slots (class_of (name_of table))) (held o v).table place value) (record { content = with_value_at (known o v).content key value; table = (known o v).table })
 values_known laws k o table v shape possible may is has place key value fits entry =
     by (known o v).content (known o v).table (kind_is k v o shape possible may.locked ∙ is) may.stands
@@ -211,17 +211,18 @@ values_known laws k o table v shape possible may is has place key value fits ent
         value_changes laws k.texts (held o v) u t (table_class k table has.table_in) pairs says class has.root (omega (arith, long)) place key value (shut place low) low entry.live entry.fits fits shut
     by (content.Set elements) u e stands low shut = absurd (cc)
     by (content.List values) u e stands low shut = absurd (cc)
+    by (content.Deque deque) u e stands low shut = absurd (cc)
 
 -- ---- the puts, one after the other
 
-pub value_opens : (k : Shape) (o : ℕ) (table : Table) (place : ℕ) (value : Value) (v : View) → v.shape ≡ k → has_committed o v.log ≡ false → MayPuts (kind_in k.kinds o) (name_of table) (known o v).content false (held o v) (value_puts (slots (class_of (name_of table))) (held o v).table place value)
+pub value_opens : (k : Shape) (o : ℕ) (table : Table) (place : ℕ) (value : Value) (v : View) → v.shape ≡ k → has_committed o v.log ≡ false → MayPuts (kind_in k.starts o) (name_of table) (known o v).content false (held o v) (value_puts (slots (class_of (name_of table))) (held o v).table place value)
     → IsCareful v o (name_of table) (entry_offset (slots (class_of (name_of table))) place 0) (entry_field (slots (class_of (name_of table))) (held o v).table place 0 + 1)
 value_opens k o table place value v shape early may =
     let n = slots (class_of (name_of table)) in
     put_at k o (name_of table) (entry_offset n place 0) (entry_field n (held o v).table place 0 + 1) false (held o v) (known o v).content v shape early refl refl may.0
 
 module _ (k : Shape) (o : ℕ) (table : Table) (place : ℕ) (value : Value) (v w1 : View) (shape : v.shape ≡ k) (early : has_committed o v.log ≡ false) (only1 : OnlyPut o v w1) (held1 : held o w1 ≡ raised_at (name_of table) place (held o v))
-    (may : MayPuts (kind_in k.kinds o) (name_of table) (known o v).content false (held o v) (value_puts (slots (class_of (name_of table))) (held o v).table place value)) where
+    (may : MayPuts (kind_in k.starts o) (name_of table) (known o v).content false (held o v) (value_puts (slots (class_of (name_of table))) (held o v).table place value)) where
   abbrev pt : ℕ
   pt = name_of table
 

@@ -72,36 +72,38 @@ writes_loaded k o table a v w load is writes =
     writes_on k o table v w (loaded_put v w o l) (ap root_in (loaded_held v w o l)) writes
 
 -- a version has room for one more write
-version_room : (v : View) (o t p : ℕ) → ∥ Possible v ∥₁ → o < containers_in v.shape → has_lock o v.log ≡ true → root_in (held o v) ≡ suc t → p < rows (kind_in v.shape.kinds o) (class_of t) → v.shape.passes * v.shape.calls < 2 ^ 46 → slice_index (held o v).table (version_at (kind_in v.shape.kinds o) (class_of t) p) < 2 ^ 63
+version_room : (v : View) (o t p : ℕ) → ∥ Possible v ∥₁ → o < containers_in v.shape → has_lock o v.log ≡ true → root_in (held o v) ≡ suc t → p < rows (kind_in v.shape.starts o) (class_of t) → v.shape.passes * v.shape.calls < 2 ^ 46 → slice_index (held o v).table (version_at (kind_in v.shape.starts o) (class_of t) p) < 2 ^ 63
 version_room v o t p possible low mine names row few =
-    ∥∥₁_elim {P = slice_index (held o v).table (version_at (kind_in v.shape.kinds o) (class_of t) p) < 2 ^ 63} possible le_prop
+    ∥∥₁_elim {P = slice_index (held o v).table (version_at (kind_in v.shape.starts o) (class_of t) p) < 2 ^ 63} possible le_prop
     (λ (x : Possible v).
     let k = v.shape in
     let table = table_known v o low t mine names x.0 x.1 x.2 in
     let high = (lows k x.0 x.2.0 o low t table.1).odd p row in
     let count = counter_room k x.0 x.2.0 in
-    let same = ap (λ (l : List ℕ). slice_index l (version_at (kind_in k.kinds o) (class_of t) p)) table.0 in
-    let low : slice_index (held o v).table (version_at (kind_in k.kinds o) (class_of t) p) < 2 ^ 63 = omega (arith, high, count, same, few) in
+    let same = ap (λ (l : List ℕ). slice_index l (version_at (kind_in k.starts o) (class_of t) p)) table.0 in
+    let low : slice_index (held o v).table (version_at (kind_in k.starts o) (class_of t) p) < 2 ^ 63 = omega (arith, high, count, same, few) in
     low)
 
 pub keyed_version : (kind : Kind) → IsKeyed kind → (c p : ℕ) → version_at kind c p ≡ entry_offset (slots c) p 0
 keyed_version kind.Dict keyed c p = refl
 keyed_version kind.Set keyed c p = refl
 keyed_version kind.List keyed c p = absurd keyed
+keyed_version (kind.Deque bound) keyed c p = absurd keyed
 
 pub keyed_careful : (kind : Kind) → IsKeyed kind → (c : ℕ) (ws : List ℕ) (d : Content) (i x : ℕ) → Careful (slots c) (rows kind c) ws (under d) i x → CarefulAs kind c ws d i x
 keyed_careful kind.Dict keyed c ws d i x care = care
 keyed_careful kind.Set keyed c ws d i x care = care
 keyed_careful kind.List keyed c ws d i x care = absurd keyed
+keyed_careful (kind.Deque bound) keyed c ws d i x care = absurd keyed
 
-pub entry_room : (k : Shape) (o : ℕ) (table : Table) (v : View) → WritesEntries k o table v → v.shape ≡ k → ∥ Possible v ∥₁ → k.passes * k.calls < 2 ^ 46 → (place : ℕ) → place < rows (kind_in k.kinds o) (class_of (name_of table)) → entry_field (slots (class_of (name_of table))) (held o v).table place 0 < 2 ^ 63
+pub entry_room : (k : Shape) (o : ℕ) (table : Table) (v : View) → WritesEntries k o table v → v.shape ≡ k → ∥ Possible v ∥₁ → k.passes * k.calls < 2 ^ 46 → (place : ℕ) → place < rows (kind_in k.starts o) (class_of (name_of table)) → entry_field (slots (class_of (name_of table))) (held o v).table place 0 < 2 ^ 63
 entry_room k o table v writes shape possible few place low =
     let t = name_of table in
     let here : o < containers_in v.shape = subst (λ (z : Shape). o < containers_in z) (sym shape) writes.container in
-    let row : place < rows (kind_in v.shape.kinds o) (class_of t) = subst (λ (z : Shape). place < rows (kind_in z.kinds o) (class_of t)) (sym shape) low in
+    let row : place < rows (kind_in v.shape.starts o) (class_of t) = subst (λ (z : Shape). place < rows (kind_in z.starts o) (class_of t)) (sym shape) low in
     let calls : v.shape.passes * v.shape.calls < 2 ^ 46 = subst (λ (z : Shape). z.passes * z.calls < 2 ^ 46) (sym shape) few in
-    let keyed : IsKeyed (kind_in v.shape.kinds o) = subst (λ (z : Shape). IsKeyed (kind_in z.kinds o)) (sym shape) writes.keyed in
-    subst (λ (z : ℕ). slice_index (held o v).table z < 2 ^ 63) (keyed_version (kind_in v.shape.kinds o) keyed (class_of t) place) (version_room v o t place possible here writes.locked writes.root row calls)
+    let keyed : IsKeyed (kind_in v.shape.starts o) = subst (λ (z : Shape). IsKeyed (kind_in z.starts o)) (sym shape) writes.keyed in
+    subst (λ (z : ℕ). slice_index (held o v).table z < 2 ^ 63) (keyed_version (kind_in v.shape.starts o) keyed (class_of t) place) (version_room v o t place possible here writes.locked writes.root row calls)
 
 -- what readers aren't misled by stays so after loads
 pub careful_loaded : (v w : View) (o t i x : ℕ) → OnlyLoaded v w → IsCareful v o t i x → IsCareful w o t i x
@@ -111,6 +113,6 @@ careful_loaded v w o t i x only care =
     let shape = only.work.pass.shape in
     let late = only.work.committed o in
     record {
-      care = subst (λ (z : Shape × Picture × ContainerState). CarefulAs (kind_in z.0.kinds o) (class_of t) z.1.table z.2.content i x) (sym (λ d. (shape d, same d, knows d))) care.care;
-      timely = subst (λ (z : Shape × Bool). Timely (version_at (kind_in z.0.kinds o) (class_of t)) (rows (kind_in z.0.kinds o) (class_of t)) i x z.1) (sym (λ d. (shape d, late d))) care.timely;
+      care = subst (λ (z : Shape × Picture × ContainerState). CarefulAs (kind_in z.0.starts o) (class_of t) z.1.table z.2.content i x) (sym (λ d. (shape d, same d, knows d))) care.care;
+      timely = subst (λ (z : Shape × Bool). Timely (version_at (kind_in z.0.starts o) (class_of t)) (rows (kind_in z.0.starts o) (class_of t)) i x z.1) (sym (λ d. (shape d, late d))) care.timely;
     }

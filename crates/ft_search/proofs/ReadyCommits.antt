@@ -21,7 +21,7 @@ use Rattle.ft_trace.specs.Kinds.{rows, version_at, CarefulAs, ClearAs, IsKeyed}
 use Rattle.ft_trace.specs.OddVersions.{Shut, Timely}
 use Rattle.ft_trace.specs.Traces.{Possible}
 use Rattle.ft_trace.specs.Pictures.{Picture, root_in, entry_offset, entry_field, Stands}
-use Rattle.ft_trace.specs.ContainerStates.{ContainerState, state_at, kind_in, changes, reply_in}
+use Rattle.ft_trace.specs.ContainerStates.{ContainerState, state_at, kind_in, changes, reply_in, kinds_in}
 use Rattle.ft_trace.specs.WholeWrites.{Put, with_puts}
 use Rattle.ft_trace.proofs.Cases.{hit}
 use Rattle.ft_trace.proofs.Clearing.{held_shut}
@@ -47,8 +47,9 @@ module _ (o : ℕ) (v s u : View) (f : ℕ) (begun : s ≡ noted (StartWrite o f
   has_before stored has = record {
     agrees = λ p low mine. has.agrees p (subst (λ (z : Shape). p < containers_in z) (sym same_shape) low) (puts.work.pass.locks p ∙ (ap (λ (z : View). has_lock p z.log) begun ∙ mine)) ∙ same_known p;
     containers = has.containers ∙ ap containers_in same_shape;
-    kinds = has.kinds ∙ ap (λ (z : Shape). z.kinds) same_shape;
+    kinds = has.kinds ∙ ap (λ (z : Shape). kinds_in z.starts) same_shape;
     order = has.order;
+    unsplit = has.unsplit;
     words = has.words;
   }
 
@@ -67,15 +68,15 @@ module _ (o : ℕ) (v s u : View) (f : ℕ) (begun : s ≡ noted (StartWrite o f
 
   -- where its words say what it leaves, it may be committed
   pub may_commit : (called : Call) (said : Reply) (left : ContainerState) → Leaves o called said left v → o < containers_in v.shape → 0 < v.left → owes v.log ≡ 0
-      → ((t : ℕ) → root_in (held o u) ≡ suc t → ClearAs (kind_in v.shape.kinds o) v.shape.texts (class_of t) (held o u).table (known o v).content left.content)
+      → ((t : ℕ) → root_in (held o u) ≡ suc t → ClearAs (kind_in v.shape.starts o) v.shape.texts (class_of t) (held o u).table (known o v).content left.content)
       → MayCommit u called said
   may_commit called said left l low some none clear =
       let late = leaves_later called said left l in
       let odd : is_writing o u.log ≡ true = puts.work.pass.writes o ∙ (ap (λ (z : View). is_writing o z.log) begun ∙ hit o true (is_writing o v.log)) in
       let empty : has_emptied o u.log ≡ false = puts.work.emptied o ∙ (ap (λ (z : View). has_emptied o z.log) begun ∙ hit o false (has_emptied o v.log)) in
       let owed : owes u.log ≡ 0 = puts.work.owes ∙ (ap (λ (z : View). owes z.log) begun ∙ none) in
-      let clears : (stored : StoredWorld) (t : ℕ) → MayHave u stored → root_in (held o u) ≡ suc t → ClearAs (kind_in u.shape.kinds o) u.shape.texts (class_of t) (held o u).table (known o u).content (state_at (after_stored stored called) o).content =
-      λ stored t has names. subst (λ (z : Shape × ContainerState × ContainerState). ClearAs (kind_in z.0.kinds o) z.0.texts (class_of t) (held o u).table z.1.content z.2.content)
+      let clears : (stored : StoredWorld) (t : ℕ) → MayHave u stored → root_in (held o u) ≡ suc t → ClearAs (kind_in u.shape.starts o) u.shape.texts (class_of t) (held o u).table (known o u).content (state_at (after_stored stored called) o).content =
+      λ stored t has names. subst (λ (z : Shape × ContainerState × ContainerState). ClearAs (kind_in z.0.starts o) z.0.texts (class_of t) (held o u).table z.1.content z.2.content)
       (sym (λ d. (same_shape d, same_known o d, late.left_is stored has d))) (clear t names) in
       let at : o ≡ changes called = sym l.changed in
       record {
@@ -87,7 +88,7 @@ module _ (o : ℕ) (v s u : View) (f : ℕ) (begun : s ≡ noted (StartWrite o f
         reply_is = λ stored has. plain_replied called said (reply_in stored called) l.write (late.replied stored has);
         declared = late.declared;
         fits = late.fits;
-        clear = subst (λ (n : ℕ). (stored : StoredWorld) (t : ℕ) → MayHave u stored → root_in (held n u) ≡ suc t → ClearAs (kind_in u.shape.kinds n) u.shape.texts (class_of t) (held n u).table (known n u).content (state_at (after_stored stored called) n).content) at clears;
+        clear = subst (λ (n : ℕ). (stored : StoredWorld) (t : ℕ) → MayHave u stored → root_in (held n u) ≡ suc t → ClearAs (kind_in u.shape.starts n) u.shape.texts (class_of t) (held n u).table (known n u).content (state_at (after_stored stored called) n).content) at clears;
         takes = λ stored class has e. absurd (omega (arith, e, owed));
         locks = late.locks;
         empties = λ e. absurd (true≢false (sym e ∙ subst (λ (n : ℕ). has_emptied n u.log ≡ false) at empty));
@@ -125,9 +126,9 @@ module _ (o : ℕ) (table : Table) (place : ℕ) (called : Call) (said : Reply) 
       let made : View = noted (Commit called said number snap) u in
       let odd = m.odd in
       let now : known o made ≡ m.left = subst (λ (z : View). known o z ≡ m.left) is (left_known w committed) in
-      let care : CarefulAs (kind_in u.shape.kinds o) (class_of t) (held o u).table (known o made).content (entry_offset n place 0) (entry_field n (held o u).table place 0 + 1) =
-      subst (λ (z : ContainerState). CarefulAs (kind_in u.shape.kinds o) (class_of t) (held o u).table z.content (entry_offset n place 0) (entry_field n (held o u).table place 0 + 1)) (sym now) m.close in
-      let timely : Timely (version_at (kind_in u.shape.kinds o) (class_of t)) (rows (kind_in u.shape.kinds o) (class_of t)) (entry_offset n place 0) (entry_field n (held o u).table place 0 + 1) true =
+      let care : CarefulAs (kind_in u.shape.starts o) (class_of t) (held o u).table (known o made).content (entry_offset n place 0) (entry_field n (held o u).table place 0 + 1) =
+      subst (λ (z : ContainerState). CarefulAs (kind_in u.shape.starts o) (class_of t) (held o u).table z.content (entry_offset n place 0) (entry_field n (held o u).table place 0 + 1)) (sym now) m.close in
+      let timely : Timely (version_at (kind_in u.shape.starts o) (class_of t)) (rows (kind_in u.shape.starts o) (class_of t)) (entry_offset n place 0) (entry_field n (held o u).table place 0 + 1) true =
       record { before = λ q less at one. absurd (omega (arith, one, odd)); later = λ q less at two. refl } in
       let all : IsCareful made o t (entry_offset n place 0) (entry_field n (held o made).table place 0 + 1) = record { care = care; timely = timely } in
       subst (λ (z : View). IsCareful z o t (entry_offset n place 0) (entry_field n (held o z).table place 0 + 1)) (sym is) all
@@ -146,9 +147,9 @@ module _ (o : ℕ) (table : Table) (place : ℕ) (called : Call) (said : Reply) 
     pub shut_then : root_in (held o z) ≡ suc t → IsShut o z
     shut_then root q names =
         let same : t ≡ q = let e : suc t ≡ suc q = sym root ∙ names in omega (arith, e) in
-        let here : Shut (version_at (kind_in z.shape.kinds o) (class_of t)) (rows (kind_in z.shape.kinds o) (class_of t)) (held o z).table =
-        subst (λ (x : Shape × Picture). Shut (version_at (kind_in x.0.kinds o) (class_of t)) (rows (kind_in x.0.kinds o) (class_of t)) x.1.table) (sym (λ d. (shape_is d, words_are d))) m.shut in
-        subst (λ (r : ℕ). Shut (version_at (kind_in z.shape.kinds o) (class_of r)) (rows (kind_in z.shape.kinds o) (class_of r)) (held o z).table) same here
+        let here : Shut (version_at (kind_in z.shape.starts o) (class_of t)) (rows (kind_in z.shape.starts o) (class_of t)) (held o z).table =
+        subst (λ (x : Shape × Picture). Shut (version_at (kind_in x.0.starts o) (class_of t)) (rows (kind_in x.0.starts o) (class_of t)) x.1.table) (sym (λ d. (shape_is d, words_are d))) m.shut in
+        subst (λ (r : ℕ). Shut (version_at (kind_in z.shape.starts o) (class_of r)) (rows (kind_in z.shape.starts o) (class_of r)) (held o z).table) same here
 
     pub ends_then : (stop : ℕ) (x : View) → seen_writes u ≤ number → root_in (held o z) ≡ root_in (held o u) → x ≡ noted (StopWrite o stop) z → EndsWrite called said number u x
     ends_then stop x seen root stopped =
@@ -165,18 +166,19 @@ clear_same : (kind : Kind) → IsKeyed kind → (texts : List ℕ) (c : ℕ) (ws
 clear_same kind.Dict keyed texts c ws d = record { keeps = λ p key low even live. refl; adds = λ key fits none some. absurd (some none) }
 clear_same kind.Set keyed texts c ws d = record { keeps = λ p key low even live. refl; adds = λ key fits none some. absurd (some none) }
 clear_same kind.List keyed texts c ws d = absurd keyed
+clear_same (kind.Deque bound) keyed texts c ws d = absurd keyed
 
 module _ (k : Shape) (o : ℕ) (v s : View) (f : ℕ) (may : MayWriteEntries k o v) (shape : v.shape ≡ k) (begun : s ≡ noted (StartWrite o f) v) (called : Call) (said : Reply) (leaves : Leaves o called said (known o v) v) where
   low' : o < containers_in v.shape
   low' = subst (λ (z : Shape). o < containers_in z) (sym shape) may.container
 
-  keyed' : IsKeyed (kind_in v.shape.kinds o)
-  keyed' = subst (λ (z : Shape). IsKeyed (kind_in z.kinds o)) (sym shape) may.keyed
+  keyed' : IsKeyed (kind_in v.shape.starts o)
+  keyed' = subst (λ (z : Shape). IsKeyed (kind_in z.starts o)) (sym shape) may.keyed
 
   pub nothing_commits : MayCommit s called said
   nothing_commits =
       may_commit o v s s f begun (put_same s o) called said (known o v) leaves low' may.left may.owes
-      (λ t names. clear_same (kind_in v.shape.kinds o) keyed' v.shape.texts (class_of t) (held o s).table (known o v).content)
+      (λ t names. clear_same (kind_in v.shape.starts o) keyed' v.shape.texts (class_of t) (held o s).table (known o v).content)
 
   module _ (number : ℕ) (snap : Snap) (w : View) (is : w ≡ noted (Commit called said number snap) s) (committed : Committed s w called) where
     same_held : held o w ≡ held o v
@@ -194,10 +196,10 @@ module _ (k : Shape) (o : ℕ) (v s : View) (f : ℕ) (may : MayWriteEntries k o
     pub nothing_shut : ∥ Possible v ∥₁ → IsShut o w
     nothing_shut possible q names p less =
         let root : root_in (held o v) ≡ suc q = ap root_in (sym same_held) ∙ names in
-        let row : p < rows (kind_in v.shape.kinds o) (class_of q) = subst (λ (x : Shape). p < rows (kind_in x.kinds o) (class_of q)) shape_now less in
-        let before : slice_index (held o v).table (version_at (kind_in v.shape.kinds o) (class_of q) p) % 2 ≡ 0 =
-        ∥∥₁_elim {P = slice_index (held o v).table (version_at (kind_in v.shape.kinds o) (class_of q) p) % 2 ≡ 0} possible (ℕ_set _ _) (λ x. held_shut v o q low' x may.locked may.even root p row) in
-        subst (λ (x : Shape × Picture). slice_index x.1.table (version_at (kind_in x.0.kinds o) (class_of q) p) % 2 ≡ 0) (sym (λ d. (shape_now d, same_held d))) before
+        let row : p < rows (kind_in v.shape.starts o) (class_of q) = subst (λ (x : Shape). p < rows (kind_in x.starts o) (class_of q)) shape_now less in
+        let before : slice_index (held o v).table (version_at (kind_in v.shape.starts o) (class_of q) p) % 2 ≡ 0 =
+        ∥∥₁_elim {P = slice_index (held o v).table (version_at (kind_in v.shape.starts o) (class_of q) p) % 2 ≡ 0} possible (ℕ_set _ _) (λ x. held_shut v o q low' x may.locked may.even root p row) in
+        subst (λ (x : Shape × Picture). slice_index x.1.table (version_at (kind_in x.0.starts o) (class_of q) p) % 2 ≡ 0) (sym (λ d. (shape_now d, same_held d))) before
 
     pub nothing_wrote : (stop : ℕ) (x : View) → seen_writes s ≤ number → x ≡ noted (StopWrite o stop) w → Wrote called said number v x
     nothing_wrote stop x seen stopped =
@@ -214,7 +216,7 @@ module _ (k : Shape) (o : ℕ) (v s : View) (f : ℕ) (may : MayWriteEntries k o
 -- ---- a write that changes one entry
 
 module _ (k : Shape) (o : ℕ) (table : Table) (v s u : View) (f : ℕ) (may : MayWriteEntries k o v) (shape : v.shape ≡ k) (begun : s ≡ noted (StartWrite o f) v) (only : OnlyPut o s u) (place : ℕ) (early : List Put) (left : ContainerState) (change : Changing k.texts (name_of table) (held o v) (known o v) place early left)
-    (kind_eq : kind_of (known o v).content ≡ kind_in k.kinds o) (words : held o u ≡ with_puts (held o v) early) (root : root_in (held o u) ≡ suc (name_of table)) (called : Call) (said : Reply) (leaves : Leaves o called said left v) where
+    (kind_eq : kind_of (known o v).content ≡ kind_in k.starts o) (words : held o u ≡ with_puts (held o v) early) (root : root_in (held o u) ≡ suc (name_of table)) (called : Call) (said : Reply) (leaves : Leaves o called said left v) where
   abbrev c' : ℕ
   c' = class_of (name_of table)
 
@@ -224,19 +226,19 @@ module _ (k : Shape) (o : ℕ) (table : Table) (v s u : View) (f : ℕ) (may : M
   low'' : o < containers_in v.shape
   low'' = subst (λ (z : Shape). o < containers_in z) (sym shape) may.container
 
-  kind_v : kind_of (known o v).content ≡ kind_in v.shape.kinds o
-  kind_v = kind_eq ∙ sym (ap (λ (z : Shape). kind_in z.kinds o) shape)
+  kind_v : kind_of (known o v).content ≡ kind_in v.shape.starts o
+  kind_v = kind_eq ∙ sym (ap (λ (z : Shape). kind_in z.starts o) shape)
 
-  kind_u : kind_of (known o v).content ≡ kind_in u.shape.kinds o
-  kind_u = kind_v ∙ sym (ap (λ (z : Shape). kind_in z.kinds o) (same_shape o v s u f begun only))
+  kind_u : kind_of (known o v).content ≡ kind_in u.shape.starts o
+  kind_u = kind_v ∙ sym (ap (λ (z : Shape). kind_in z.starts o) (same_shape o v s u f begun only))
 
   texts_u : k.texts ≡ u.shape.texts
   texts_u = sym (ap (λ (z : Shape). z.texts) (same_shape o v s u f begun only ∙ shape))
 
-  clears : (t : ℕ) → root_in (held o u) ≡ suc t → ClearAs (kind_in v.shape.kinds o) v.shape.texts (class_of t) (held o u).table (known o v).content left.content
+  clears : (t : ℕ) → root_in (held o u) ≡ suc t → ClearAs (kind_in v.shape.starts o) v.shape.texts (class_of t) (held o u).table (known o v).content left.content
   clears t names =
       let same : name_of table ≡ t = let e : suc (name_of table) ≡ suc t = sym root ∙ names in omega (arith, e) in
-      subst (λ (n : ℕ). ClearAs (kind_in v.shape.kinds o) v.shape.texts (class_of n) (held o u).table (known o v).content left.content) same
+      subst (λ (n : ℕ). ClearAs (kind_in v.shape.starts o) v.shape.texts (class_of n) (held o u).table (known o v).content left.content) same
       (subst (λ (z : Kind × List ℕ × Picture). ClearAs z.0 z.1 c' z.2.table (known o v).content left.content) (λ d. (kind_v d, sym (ap (λ (z : Shape). z.texts) shape) d, sym words d)) change.clear)
 
   pub entry_finishes : MayFinish o table place called said u

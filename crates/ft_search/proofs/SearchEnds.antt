@@ -25,7 +25,7 @@ module _ (k : Shape) (o t : ℕ) (key : Key) (slot place : ℕ) (earlier : List 
   N = slots (class_of t)
 
   abbrev m : ℕ
-  m = rows (kind_in k.kinds o) (class_of t)
+  m = rows (kind_in k.starts o) (class_of t)
 
   abbrev entry : ℕ → ℕ → Act
   entry w f = ReadTable t (entry_offset N place w) f
@@ -160,8 +160,8 @@ module _ (k : Shape) (o t : ℕ) (key : Key) where
   -- the walk ended at a slot never used, which was loaded after the counter
   pub closes_free : (n slot : ℕ) (left rest : List ℕ) (part : List Act) → Walked k o t key part left → left ≡ slot ∷ rest → ClosesAt k o t key (ReadTable t slot 0 ∷ (ReadCounter n ∷ part)) (Absent n)
   closes_free n slot left rest part w is =
-      let m = rows (kind_in k.kinds o) (class_of t) in
-      let probe = walk_of (kind_in k.kinds o) k.texts (class_of t) key in
+      let m = rows (kind_in k.starts o) (class_of t) in
+      let probe = walk_of (kind_in k.starts o) k.texts (class_of t) key in
       let split : probe ≡ w.passed ++ slot ∷ rest = w.split ∙ ap (λ (z : List ℕ). w.passed ++ z) is in
       let here : slice_index probe (length w.passed) ≡ slot = ap (λ (z : List ℕ). slice_index z (length w.passed)) split ∙ slot_at w.passed slot rest in
       let long : length probe ≡ length (w.passed ++ slot ∷ rest) = ap length split in
@@ -182,14 +182,14 @@ module _ (k : Shape) (o t : ℕ) (key : Key) where
         record { newer = ReadTable t slot 0 ∷ []; rest = part; is = refl },
       )
     where
-      low_step : (passed : List ℕ) (slot : ℕ) (rest : List ℕ) → length (walk_of (kind_in k.kinds o) k.texts (class_of t) key) ≡ length (passed ++ slot ∷ rest) → length passed < length (walk_of (kind_in k.kinds o) k.texts (class_of t) key)
+      low_step : (passed : List ℕ) (slot : ℕ) (rest : List ℕ) → length (walk_of (kind_in k.starts o) k.texts (class_of t) key) ≡ length (passed ++ slot ∷ rest) → length passed < length (walk_of (kind_in k.starts o) k.texts (class_of t) key)
       low_step passed slot rest long = let e = length-append passed (slot ∷ rest) in omega (arith, long, e)
 
   -- every slot was passed before the counter was loaded
   pub closes_full : (n : ℕ) (left : List ℕ) (part : List Act) → Walked k o t key part left → left ≡ [] → ClosesAt k o t key (ReadCounter n ∷ part) (Absent n)
   closes_full n left part w none =
-      let m = rows (kind_in k.kinds o) (class_of t) in
-      let probe = walk_of (kind_in k.kinds o) k.texts (class_of t) key in
+      let m = rows (kind_in k.starts o) (class_of t) in
+      let probe = walk_of (kind_in k.starts o) k.texts (class_of t) key in
       let split : probe ≡ w.passed ++ [] = w.split ∙ ap (λ (z : List ℕ). w.passed ++ z) none in
       let long : length probe ≡ length w.passed = ap length (split ∙ append-nil w.passed) in (
         (λ log window.

@@ -67,7 +67,7 @@ module _ (s0 s2 : TableWords) (key : Key) (number : ℕ) (first left : List ℕ)
   own_is : own ++ part ≡ map f s.calls ++ ReadCounter number ∷ part
   own_is = append_assoc (map f s.calls) (ReadCounter number ∷ []) part
 
-  pub on : rows (kind_in k.kinds o) (class_of t) ≤ dict_room s0.mask → Walked k o t key part first → Walked k o t key (own ++ part) (unpassed found left)
+  pub on : rows (kind_in k.starts o) (class_of t) ≤ dict_room s0.mask → Walked k o t key part first → Walked k o t key (own ++ part) (unpassed found left)
   on few w =
       subst (λ (z : List Act). Walked k o t key z (unpassed found left)) (sym own_is)
       (walked_on k o t key s0.mask first left found s.calls (ReadCounter number ∷ part) few (walked_more k o t key first (ReadCounter number ∷ []) part w) s.loads)
@@ -78,7 +78,7 @@ module _ (s0 s2 : TableWords) (key : Key) (number : ℕ) (first left : List ℕ)
       own_is ∙ (ap (λ (z : List Access). map f z ++ ReadCounter number ∷ part) s.loads.is ∙ ap (λ (z : List Access). map f (z ++ s.loads.earlier) ++ ReadCounter number ∷ part) named.1)
 
   -- what followed goes on from there
-  pub after_met : (slot place kind : ℕ) (s3 : TableWords) (result : Option Looked) → NamesEntry s0.mask key slot place kind s.loads.last → rows (kind_in k.kinds o) (class_of t) ≤ dict_room s0.mask → unpassed found left ≡ slot ∷ left → Walked k o t key part first
+  pub after_met : (slot place kind : ℕ) (s3 : TableWords) (result : Option Looked) → NamesEntry s0.mask key slot place kind s.loads.last → rows (kind_in k.starts o) (class_of t) ≤ dict_room s0.mask → unpassed found left ≡ slot ∷ left → Walked k o t key part first
       → ((slot : ℕ) (earlier : List Act) (left : List ℕ) → Walked k o t key (met_acts t slot place key kind earlier) (slot ∷ left) → TurnsAfter k o t key (met_acts t slot place key kind earlier) left result s2.pass.now s3.pass.now)
       → TurnsAfter k o t key part left result s0.pass.now s3.pass.now
   after_met slot place kind s3 result named few is w turns =
@@ -110,7 +110,7 @@ free_again s0 s2 key number slot first left s part long w =
     (own_acts, s.inner, s.did, subst (λ (z : List Act). ClosesAt k o t key z (Absent number)) whole (closes_free k o t key number slot first h.ends.0 part w same))
 
 -- every slot was passed; then the counter was loaded
-pub spent_at : (s0 s2 s3 : TableWords) (key : Key) (number last : ℕ) (first left : List ℕ) (s : Sought s0 s2 key number first left Spent) (part : List Act) → rows (kind_in (shape_of s0.bank.now).kinds s0.o) (class_of (name_of s0.table)) ≤ dict_room s0.mask
+pub spent_at : (s0 s2 s3 : TableWords) (key : Key) (number last : ℕ) (first left : List ℕ) (s : Sought s0 s2 key number first left Spent) (part : List Act) → rows (kind_in (shape_of s0.bank.now).starts s0.o) (class_of (name_of s0.table)) ≤ dict_room s0.mask
     → DidAll (ReadCounter last ∷ []) s2.pass.now s3.pass.now → Walked (shape_of s0.bank.now) s0.o (name_of s0.table) key part first
     → TurnsAfter (shape_of s0.bank.now) s0.o (name_of s0.table) key part left (Some (Absent last)) s0.pass.now s3.pass.now
 spent_at s0 s2 s3 key number last first left s part few stamped w =

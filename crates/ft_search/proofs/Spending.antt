@@ -105,7 +105,7 @@ counted_or t u i f acts P mine other =
     (λ high. subst P (sym (index_past t u i f acts (subst (λ (z : ℕ). slots (class_of z) ≤ i) (sym e) (let z : slots (class_of t) ≤ i = omega (arith, high) in z)))) other))
     (λ ne. subst P (sym (index_other t u i f acts ne)) other)
 
-module _ (v : View) (possible : ∥ Possible v ∥₁) (o t : ℕ) (keyed : IsKeyed (kind_in v.shape.kinds o)) (rest : List Act) where
+module _ (v : View) (possible : ∥ Possible v ∥₁) (o t : ℕ) (keyed : IsKeyed (kind_in v.shape.starts o)) (rest : List Act) where
   abbrev base : List Act
   base = ReadRoot o (suc t) ∷ rest
 
@@ -180,10 +180,10 @@ no_reads : (t : ℕ) (acts : List Act) → indexed t acts ≡ [] → index_reads
 no_reads t acts none = count_is t acts ∙ ap index_loads none
 
 -- the loads of a walk in the table that the root named
-pub walk_round : (v : View) → ∥ Possible v ∥₁ → (o t : ℕ) (way : Way) (hash mask : ℕ) (walk left : List ℕ) (part rest : List Act) → kind_in v.shape.kinds o ≡ kind_by way → walk ≡ walk_slots way hash mask → slots (class_of t) ≡ mask + 1
+pub walk_round : (v : View) → ∥ Possible v ∥₁ → (o t : ℕ) (way : Way) (hash mask : ℕ) (walk left : List ℕ) (part rest : List Act) → kind_in v.shape.starts o ≡ kind_by way → walk ≡ walk_slots way hash mask → slots (class_of t) ≡ mask + 1
     → v.log ≡ part ++ ReadRoot o (suc t) ∷ rest → Inner part → WalksOn t walk part left → IsRound way (suc t) part
 walk_round v possible o t way hash mask walk left part rest kind is last log inner on =
-    let keyed = kind_keyed way (kind_in v.shape.kinds o) kind in
+    let keyed = kind_keyed way (kind_in v.shape.starts o) kind in
     let stays = stay_used v possible o t keyed rest [] part log inner in
     let c = slots_of_class (class_of t) in
     let same : mask ≡ class_mask (class_of t) = omega (arith, c, last) in
@@ -232,7 +232,7 @@ own_reads t (act ∷ acts) rest q none = absurd q
 -- ---- a walk over the words of a table that the root named
 
 -- the round is known in two ways: by what it shows, and by what it spends
-pub searched_round : (s0 s1 : TableWords) (way : Way) (hash root : ℕ) (walk left : List ℕ) (part spent rest : List Act) → CanLoad s0 → CanLoad s1 → kind_in (shape_of s0.bank.now).kinds s0.o ≡ kind_by way → root ≡ suc (name_of s0.table)
+pub searched_round : (s0 s1 : TableWords) (way : Way) (hash root : ℕ) (walk left : List ℕ) (part spent rest : List Act) → CanLoad s0 → CanLoad s1 → kind_in (shape_of s0.bank.now).starts s0.o ≡ kind_by way → root ≡ suc (name_of s0.table)
     → walk ≡ walk_slots way hash s0.mask → (view s0.pass.now).log ≡ ReadRoot s0.o root ∷ rest → Inner part → DidAll part s0.pass.now s1.pass.now → DidAll spent s0.pass.now s1.pass.now → WalksOn (name_of s0.table) walk spent left → IsRound way root part
 searched_round s0 s1 way hash root walk left part spent rest can now kind named is last inner did did_spent on =
     let t = name_of s0.table in
@@ -241,7 +241,7 @@ searched_round s0 s1 way hash root walk left part spent rest can now kind named 
     let q = s1.pass.now in
     let same : spent ≡ part = one_part spent part p q did_spent did in
     let shape : (view q).shape ≡ k = noted_shape part p q did ∙ can.pass.1 in
-    let kind_here : kind_in (view q).shape.kinds s0.o ≡ kind_by way = ap (λ (z : Shape). kind_in z.kinds s0.o) shape ∙ kind in
+    let kind_here : kind_in (view q).shape.starts s0.o ≡ kind_by way = ap (λ (z : Shape). kind_in z.starts s0.o) shape ∙ kind in
     let log : (view q).log ≡ part ++ ReadRoot s0.o (suc t) ∷ rest = did_log part p q did ∙ (ap (λ (z : List Act). part ++ z) last ∙ ap (λ (z : ℕ). part ++ ReadRoot s0.o z ∷ rest) named) in
     subst (λ (z : ℕ). IsRound way z part) (sym named)
     (walk_round (view q) q.possible s0.o t way hash s0.mask walk left part rest kind_here is (slots_is k s0.table s0.mask can.table can.mask) log inner (subst (λ (z : List Act). WalksOn t walk z left) same on))

@@ -108,7 +108,7 @@ module _ (first_pair : dict.FirstEntriesArePairs) (first_element : set.FirstEntr
   none_spent way.Set is s = let says = set_says is.0 is.1 in s.finds way.Set k.texts says.used says.table low refl
 
 module _ (missing_key : MissingKeys) (missing_element : MissingElements) (first_pair : dict.FirstEntriesArePairs) (first_element : set.FirstEntriesAreElements) (free : FirstFreeSlots) (k : Shape) (o : ℕ) (key : Key) (v : View) (by : Way) (table : Table) (in_bank : IsTableIn k table) (names : root_in (held o v) ≡ suc (name_of table)) (stands : Stands k.texts (held o v) (known o v))
-    (of : IsOfWay by (known o v).content) (kind_eq : kind_in k.kinds o ≡ kind_by by) (fits : FitsKey key) (low : hash_of k.texts key < 2 ^ 64) (left : List ℕ) where
+    (of : IsOfWay by (known o v).content) (kind_eq : kind_in k.starts o ≡ kind_by by) (fits : FitsKey key) (low : hash_of k.texts key < 2 ^ 64) (left : List ℕ) where
   abbrev x : Picture
   x = held o v
 

@@ -114,18 +114,19 @@ keyed_at : (kind : Kind) → IsKeyed kind → (c place : ℕ) → version_at kin
 keyed_at kind.Dict is c place = refl
 keyed_at kind.Set is c place = refl
 keyed_at kind.List is c place = absurd is
+keyed_at (kind.Deque bound) is c place = absurd is
 
 -- the version of a row of the table that a root was found to name
-pub even_row : (w : View) (part : List Act) (p : Possible w) → LooksWithFloor w part → (o t row : ℕ) → o < containers_in w.shape → Among (ReadRoot o (suc t)) part → row < rows (kind_in w.shape.kinds o) (class_of t)
-    → word w.shape p.0 (cell t (version_at (kind_in w.shape.kinds o) (class_of t) row)) % 2 ≡ 0
+pub even_row : (w : View) (part : List Act) (p : Possible w) → LooksWithFloor w part → (o t row : ℕ) → o < containers_in w.shape → Among (ReadRoot o (suc t)) part → row < rows (kind_in w.shape.starts o) (class_of t)
+    → word w.shape p.0 (cell t (version_at (kind_in w.shape.starts o) (class_of t) row)) % 2 ≡ 0
 even_row w part p l o t row low named in_table =
     let k = w.shape in
     let es = p.0 in
     let root : word k es (block o 0) ≡ suc t = sym (among_found w part p l (ReadRoot o (suc t)) named) in
     let table : IsTableName k t = root_table k es p.2.0 o low t root in
-    let spot = version_at (kind_in k.kinds o) (class_of t) row in
+    let spot = version_at (kind_in k.starts o) (class_of t) row in
     let shut = quiet_shut k es p.2.0 o low (even_now w part p l o low) t root row in_table in
-    ap (λ (n : ℕ). n % 2) (sym (table_at k t (run k es).words spot (row_low (kind_in k.kinds o) (class_of t) row table.0 in_table))) ∙ shut
+    ap (λ (n : ℕ). n % 2) (sym (table_at k t (run k es).words spot (row_low (kind_in k.starts o) (class_of t) row table.0 in_table))) ∙ shut
 
 pub floor_entries_stand : FloorEntriesStand
 floor_entries_stand w part p l o key a b low keyed stops =
@@ -136,7 +137,7 @@ floor_entries_stand w part p l o key a b low keyed stops =
     let n = entry_offset (slots (class_of t)) e.place 0 in
     let found = both_same w part p l e.newer e.mid e.rest (ReadTable t n a) (ReadTable t n b) e.is in
     let even = even_row w part p l o t e.place low x.1 e.low in
-    not_moved (word w.shape p.0 (cell t n)) a b (ap (λ (z : ℕ). word w.shape p.0 (cell t z) % 2) (sym (keyed_at (kind_in w.shape.kinds o) keyed (class_of t) e.place)) ∙ even) found.1 found.0 e.moved)
+    not_moved (word w.shape p.0 (cell t n)) a b (ap (λ (z : ℕ). word w.shape p.0 (cell t z) % 2) (sym (keyed_at (kind_in w.shape.starts o) keyed (class_of t) e.place)) ∙ even) found.1 found.0 e.moved)
     (λ (x : StopsAtContainer o a b part).
     let found = both_same w part p l x.newer x.mid x.rest (Version o a) (Version o b) x.is in
     not_moved (word w.shape p.0 (version_of o)) a b (even_now w part p l o low) found.1 found.0 x.moved) stops

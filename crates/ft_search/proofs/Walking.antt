@@ -108,9 +108,9 @@ slots_passed o t m mask key (slot ∷ passed) loads rest few tries =
 
 module _ (k : Shape) (o t : ℕ) (key : Key) where
   abbrev m : ℕ
-  m = rows (kind_in k.kinds o) (class_of t)
+  m = rows (kind_in k.starts o) (class_of t)
 
-  pub walked_none : (left : List ℕ) → left ≡ walk_of (kind_in k.kinds o) k.texts (class_of t) key → Walked k o t key [] left
+  pub walked_none : (left : List ℕ) → left ≡ walk_of (kind_in k.starts o) k.texts (class_of t) key → Walked k o t key [] left
   walked_none left is = record { passed = []; split = sym is; rightly = All-nil (λ slot. Passed [] t m slot key) }
 
   pub walked_more : (left : List ℕ) (new part : List Act) → Walked k o t key part left → Walked k o t key (new ++ part) left

@@ -29,4 +29,4 @@ FloorVersionsStand =
 abbrev pub FloorEntriesStand : Type 0
 FloorEntriesStand =
     (w : View) (part : List Act) → Possible w → LooksWithFloor w part → (o : ℕ) (key : Key) (a b : ℕ)
-    → o < containers_in w.shape → IsKeyed (kind_in w.shape.kinds o) → Stops w.shape o key a b part → ⊥
+    → o < containers_in w.shape → IsKeyed (kind_in w.shape.starts o) → Stops w.shape o key a b part → ⊥

@@ -29,6 +29,7 @@ ReadsEntry mask words found None = Unit {0}
 -- has no keys.
 abbrev pub IsHeldAt : Content → Key → Option (ℕ × ℕ) → Type 0
 IsHeldAt (content.List values) key read = ⊥
+IsHeldAt (content.Deque deque) key read = ⊥
 IsHeldAt (content.Dict dict) key (Some read) =
     (serial : ℕ) × (under (content.Dict dict) key ≡ read.0 ∷ read.1 ∷ serial ∷ [])
 IsHeldAt (content.Dict dict) key None = has_key dict.pairs key ≡ false

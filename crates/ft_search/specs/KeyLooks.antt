@@ -36,7 +36,7 @@ AreLooks (act ∷ l) = ⊥
 pub record ShowsHere (k : Shape) (o : ℕ) (key : Key) (value_kind value n : ℕ) (log : List Act) : Type 0 where
   pub t : ℕ
   pub place : ℕ
-  pub low : place < rows (kind_in k.kinds o) (class_of t)
+  pub low : place < rows (kind_in k.starts o) (class_of t)
   pub hit : Hit log o t place key n
   pub read : IsValueRead t place value_kind value hit.mid
 
@@ -49,7 +49,7 @@ ShowsAbsent k o key n log = ((t : ℕ) × IsAbsent k log o t key n) ⊎ Bare log
 -- the entry was read to be the key's, or to be a deleted one of it.
 pub record StopsAtEntry (k : Shape) (o t : ℕ) (key : Key) (a b : ℕ) (part : List Act) : Type 0 where
   pub place : ℕ
-  pub low : place < rows (kind_in k.kinds o) (class_of t)
+  pub low : place < rows (kind_in k.starts o) (class_of t)
   pub newer : List Act
   pub mid : List Act
   pub rest : List Act

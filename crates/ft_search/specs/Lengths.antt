@@ -18,12 +18,14 @@ use Rattle.ft_section.specs.declared.answers.Look.TheVariants as look
 use Rattle.ft_search.specs.declared.lens.Counted.{Counted}
 use Rattle.ft_search.specs.declared.lens.Counted.TheVariants.{Seen, Contended}
 use Rattle.ft_search.specs.KeyLooks.{AreLooks}
+use Rattle.ft_model.specs.declared.call.DequeCall.TheVariants as deque
 
 -- the call that asks how many pairs, items or elements the container o has, which is of this kind (Python manual,
 -- Built-in Functions: len)
 abbrev pub len_of : Kind → ℕ → Call
 len_of kind.Dict o = call.Dict o dict.Len
 len_of kind.List o = call.List o list.Len
+len_of (kind.Deque bound) o = call.Deque o deque.Len
 len_of kind.Set o = call.Set o set.Len
 
 -- Two loads of the version of the container gave a and then b, and a is odd or they differ.

@@ -35,7 +35,7 @@ use Rattle.ft_search.specs.MadeCalls.{IsReplyTo}
 -- left. (profile)
 pub record MayWriteEntries (k : Shape) (o : ℕ) (v : View) : Type 0 where
   pub container : o < containers_in k
-  pub keyed : IsKeyed (kind_in k.kinds o)
+  pub keyed : IsKeyed (kind_in k.starts o)
   pub locked : has_lock o v.log ≡ true
   pub even : is_writing o v.log ≡ false
   pub stands : Stands k.texts (held o v) (known o v)
@@ -50,7 +50,7 @@ pub record HasTable (k : Shape) (o : ℕ) (table : Table) (v : View) : Type 0 wh
 -- The pass writes the container o, a dict or a set, whose root names the table. (profile)
 pub record WritesEntries (k : Shape) (o : ℕ) (table : Table) (v : View) : Type 0 where
   pub container : o < containers_in k
-  pub keyed : IsKeyed (kind_in k.kinds o)
+  pub keyed : IsKeyed (kind_in k.starts o)
   pub table_in : IsTableIn k table
   pub locked : has_lock o v.log ≡ true
   pub odd : is_writing o v.log ≡ true
@@ -71,7 +71,7 @@ pub record Leaves (o : ℕ) (called : Call) (said : Reply) (left : ContainerStat
 
 -- the place is one of an entry of the container's table that is there with this key
 pub record IsLiveEntry (k : Shape) (o : ℕ) (table : Table) (place : ℕ) (key : Key) (v : View) : Type 0 where
-  pub low : place < rows (kind_in k.kinds o) (class_of (name_of table))
+  pub low : place < rows (kind_in k.starts o) (class_of (name_of table))
   pub live : HasLiveKey (slots (class_of (name_of table))) (held o v).table place key
   pub fits : FitsKey key
 
@@ -80,6 +80,7 @@ abbrev pub without_key : Content → Key → Content
 without_key (content.Dict dict) key = content.Dict (dict_del dict key)
 without_key (content.Set set) key = content.Set (set_discard set key)
 without_key (content.List values) key = content.List values
+without_key (content.Deque deque) key = content.Deque deque
 
 -- the words of a container once the version of the entry at a place of its table t is raised by one
 abbrev pub raised_at : ℕ → ℕ → Picture → Picture
@@ -95,12 +96,12 @@ pub record MayFinish (o : ℕ) (table : Table) (place : ℕ) (called : Call) (sa
   pub left : ContainerState
   pub left_is : (stored : StoredWorld) → MayHave v stored → state_at (after_stored stored called) o ≡ left
   pub odd : entry_field (slots (class_of (name_of table))) (held o v).table place 0 % 2 ≡ 1
-  pub close : CarefulAs (kind_in v.shape.kinds o) (class_of (name_of table)) (held o v).table left.content
+  pub close : CarefulAs (kind_in v.shape.starts o) (class_of (name_of table)) (held o v).table left.content
       (entry_offset (slots (class_of (name_of table))) place 0)
       (entry_field (slots (class_of (name_of table))) (held o v).table place 0 + 1)
   pub stands : Stands v.shape.texts (raised_at (name_of table) place (held o v)) left
-  pub shut : Shut (version_at (kind_in v.shape.kinds o) (class_of (name_of table)))
-      (rows (kind_in v.shape.kinds o) (class_of (name_of table))) (raised_at (name_of table) place (held o v)).table
+  pub shut : Shut (version_at (kind_in v.shape.starts o) (class_of (name_of table)))
+      (rows (kind_in v.shape.starts o) (class_of (name_of table))) (raised_at (name_of table) place (held o v)).table
 
 -- What a deletion puts before the commit: it counts one pair or element fewer, makes the version of the entry odd, and
 -- then changes the kind of its key to that of a deleted one. (profile)
@@ -113,3 +114,4 @@ abbrev pub with_value_at : Content → Key → Value → Content
 with_value_at (content.Dict dict) key value = content.Dict (dict_set dict key value)
 with_value_at (content.Set set) key value = content.Set set
 with_value_at (content.List values) key value = content.List values
+with_value_at (content.Deque deque) key value = content.Deque deque

@@ -44,8 +44,8 @@ entry_acts t place seen =
 -- these slots of the key's probe are left, and the others were passed by right
 pub record Walked (k : Shape) (o t : ℕ) (key : Key) (part : List Act) (left : List ℕ) : Type 0 where
   pub passed : List ℕ
-  pub split : walk_of (kind_in k.kinds o) k.texts (class_of t) key ≡ passed ++ left
-  pub rightly : All (λ slot. Passed part t (rows (kind_in k.kinds o) (class_of t)) slot key) passed
+  pub split : walk_of (kind_in k.starts o) k.texts (class_of t) key ≡ passed ++ left
+  pub rightly : All (λ slot. Passed part t (rows (kind_in k.starts o) (class_of t)) slot key) passed
 
 -- what these loads of the table t show of the key, once the root is read again and still names the table
 abbrev pub ClosesAt : Shape → ℕ → ℕ → Key → List Act → Looked → Type 0

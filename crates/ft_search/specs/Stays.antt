@@ -12,7 +12,7 @@ use Rattle.ft_trace.specs.ContainerStates.{kind_in}
 -- table before and the pass has announced nothing in between, whether the root names the table still or not.
 abbrev pub UsedSlotsStay : View → Type 0
 UsedSlotsStay v =
-    (o t slot later earlier : ℕ) (newer mid inner rest : List Act) → IsKeyed (kind_in v.shape.kinds o)
+    (o t slot later earlier : ℕ) (newer mid inner rest : List Act) → IsKeyed (kind_in v.shape.starts o)
     → slot < slots (class_of t)
     → v.log ≡ newer ++ ReadTable t slot later ∷ (mid ++ ReadTable t slot (suc earlier) ∷ (inner
     ++ ReadRoot o (suc t) ∷ rest))

@@ -30,10 +30,10 @@ const COUNT: u64 = block_word::USED - block_word::ROOT;
 pub fn put_deleted(bank: &Bank, pass: &mut Pass, o: u32, table: Table, place: u64, key: Key)
     requires pass { IsPassOf bank.now pass.old }
     requires writes { WritesEntries (shape_of bank.now) o table (view pass.old) }
-    requires place { place < rows (kind_in (shape_of bank.now).kinds o) (class_of (name_of table)) }
+    requires place { place < rows (kind_in (shape_of bank.now).starts o) (class_of (name_of table)) }
     requires early { has_committed o (view pass.old).log ≡ false }
     requires some { 0 < slice_index (held o (view pass.old)).block 1 }
-    requires may { MayPuts (kind_in (shape_of bank.now).kinds o) (name_of table) (known o (view pass.old)).content false
+    requires may { MayPuts (kind_in (shape_of bank.now).starts o) (name_of table) (known o (view pass.old)).content false
         (held o (view pass.old)) (deletion (name_of table) place key (held o (view pass.old))) }
     ensures pass { IsPassOf bank.now pass.new }
     ensures stack { stack_of pass.new ≡ stack_of pass.old }

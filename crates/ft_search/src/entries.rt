@@ -38,7 +38,7 @@ pub(crate) fn read_entry(
 ) -> u64
     requires pass { IsPassOf bank.now pass.old }
     requires writes { WritesEntries (shape_of bank.now) o table (view pass.old) }
-    requires place { place < rows (kind_in (shape_of bank.now).kinds o) (class_of (name_of table)) }
+    requires place { place < rows (kind_in (shape_of bank.now).starts o) (class_of (name_of table)) }
     requires word { word < 8 }
     ensures pass { IsPassOf bank.now pass.new }
     ensures stack { stack_of pass.new ≡ stack_of pass.old }
@@ -64,7 +64,7 @@ pub(crate) fn put_entry(
 )
     requires pass { IsPassOf bank.now pass.old }
     requires writes { WritesEntries (shape_of bank.now) o table (view pass.old) }
-    requires place { place < rows (kind_in (shape_of bank.now).kinds o) (class_of (name_of table)) }
+    requires place { place < rows (kind_in (shape_of bank.now).starts o) (class_of (name_of table)) }
     requires word { word < 8 }
     requires care { IsCareful (view pass.old) o (name_of table) (entry_offset (slots (class_of (name_of table))) place word)
         value }
@@ -83,7 +83,7 @@ pub(crate) fn put_entry(
 pub fn raise_version(bank: &Bank, pass: &mut Pass, o: u32, table: Table, place: u64)
     requires pass { IsPassOf bank.now pass.old }
     requires writes { WritesEntries (shape_of bank.now) o table (view pass.old) }
-    requires place { place < rows (kind_in (shape_of bank.now).kinds o) (class_of (name_of table)) }
+    requires place { place < rows (kind_in (shape_of bank.now).starts o) (class_of (name_of table)) }
     requires care { IsCareful (view pass.old) o (name_of table) (entry_offset (slots (class_of (name_of table))) place 0)
         (entry_field (slots (class_of (name_of table))) (held o (view pass.old)).table place 0 + 1) }
     ensures pass { IsPassOf bank.now pass.new }

@@ -29,7 +29,7 @@ pub fn finish_entry(
 ) -> u64
     requires pass { IsPassOf bank.now pass.old }
     requires writes { WritesEntries (shape_of bank.now) o table (view pass.old) }
-    requires place { place < rows (kind_in (shape_of bank.now).kinds o) (class_of (name_of table)) }
+    requires place { place < rows (kind_in (shape_of bank.now).starts o) (class_of (name_of table)) }
     requires may { MayFinish o table place called.now said.now (view pass.old) }
     ensures pass { IsPassOf bank.now pass.new }
     ensures stack { stack_of pass.new ≡ stack_of pass.old }

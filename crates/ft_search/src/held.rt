@@ -180,7 +180,7 @@ pub fn read_in(
 pub fn read_key(bank: &Bank, pass: &mut Pass, o: u32, way: Way, key: Key) -> Option<(u64, u64)>
     requires pass { IsPassOf bank.now pass.old }
     requires container { o < containers_in (shape_of bank.now) }
-    requires way { kind_in (shape_of bank.now).kinds o ≡ kind_by way }
+    requires way { kind_in (shape_of bank.now).starts o ≡ kind_by way }
     requires key { IsKeyIn (shape_of bank.now) key }
     requires locked { has_lock o (view pass.old).log ≡ true }
     requires stands { Stands (shape_of bank.now).texts (held o (view pass.old)) (known o (view pass.old)) }

@@ -62,7 +62,7 @@ fn look_count(bank: &Bank, pass: &mut Pass, o: Object) -> Counted
 pub fn look_len(bank: &Bank, pass: &mut Pass, o: Object, call: &Call) -> Look
     requires pass { IsPassOf bank.now pass.old }
     requires container { o < containers_in (shape_of bank.now) }
-    requires call { call.now ≡ len_of (kind_in (shape_of bank.now).kinds o) o }
+    requires call { call.now ≡ len_of (kind_in (shape_of bank.now).starts o) o }
     requires left { 0 < (view pass.old).left }
     ensures pass { IsPassOf bank.now pass.new }
     ensures sections { stack_of pass.new ≡ stack_of pass.old }
@@ -80,7 +80,7 @@ pub fn look_len(bank: &Bank, pass: &mut Pass, o: Object, call: &Call) -> Look
 fn len_locked(bank: &Bank, pass: &mut Pass, o: Object, call: &Call) -> (Reply, Stamp)
     requires pass { IsPassOf bank.now pass.old }
     requires container { o < containers_in (shape_of bank.now) }
-    requires call { call.now ≡ len_of (kind_in (shape_of bank.now).kinds o) o }
+    requires call { call.now ≡ len_of (kind_in (shape_of bank.now).starts o) o }
     requires locked { has_lock o (view pass.old).log ≡ true }
     requires stands { Stands (shape_of bank.now).texts (held o (view pass.old)) (known o (view pass.old)) }
     requires left { 0 < (view pass.old).left }
@@ -102,7 +102,7 @@ fn len_locked(bank: &Bank, pass: &mut Pass, o: Object, call: &Call) -> (Reply, S
 pub fn try_len(bank: &Bank, pass: &mut Pass, o: Object, call: &Call) -> Step
     requires may { MayTry bank.now pass.old (One o) }
     requires container { o < containers_in (shape_of bank.now) }
-    requires call { call.now ≡ len_of (kind_in (shape_of bank.now).kinds o) o }
+    requires call { call.now ≡ len_of (kind_in (shape_of bank.now).starts o) o }
     requires left { 0 < (view pass.old).left }
     ensures may { MayTry bank.now pass.new (One o) }
     ensures sections { SectionsAfter bank.now (One o) pass.old pass.new result }

@@ -41,7 +41,7 @@ fn look_in(
 ) -> Round
     requires pass { IsPassOf bank.now pass.old }
     requires container { o < containers_in (shape_of bank.now) }
-    requires way { kind_in (shape_of bank.now).kinds o ≡ kind_by way }
+    requires way { kind_in (shape_of bank.now).starts o ≡ kind_by way }
     requires hash { hash ≡ hash_of (shape_of bank.now).texts key }
     requires online { 0 < announces (view pass.old).log }
     requires table { IsTableIn (shape_of bank.now) table }
@@ -77,7 +77,7 @@ fn look_round(
 ) -> Round
     requires pass { IsPassOf bank.now pass.old }
     requires container { o < containers_in (shape_of bank.now) }
-    requires way { kind_in (shape_of bank.now).kinds o ≡ kind_by way }
+    requires way { kind_in (shape_of bank.now).starts o ≡ kind_by way }
     requires hash { hash ≡ hash_of (shape_of bank.now).texts key }
     requires online { 0 < announces (view pass.old).log }
     requires table { (t : ℕ) → root ≡ suc t → IsTableName (shape_of bank.now) t }
@@ -117,7 +117,7 @@ pub(crate) fn key_fits(key: Key)
 pub fn look_up(bank: &Bank, pass: &mut Pass, o: u32, way: Way, key: Key) -> Looked
     requires pass { IsPassOf bank.now pass.old }
     requires container { o < containers_in (shape_of bank.now) }
-    requires way { kind_in (shape_of bank.now).kinds o ≡ kind_by way }
+    requires way { kind_in (shape_of bank.now).starts o ≡ kind_by way }
     requires key { IsKeyIn (shape_of bank.now) key }
     requires online { 0 < announces (view pass.old).log }
     ensures pass { IsPassOf bank.now pass.new }

@@ -55,7 +55,7 @@ fn entries_of(way: Way, class: u32) -> u64
 fn look_at(words: &mut TableWords, place: u64, entries: u64, key: Key) -> Option<Looked>
     requires can { CanLoad words.old }
     requires place { place < dict_room words.old.mask }
-    requires entries { entries ≡ rows (kind_in (shape_of words.old.bank.now).kinds words.old.o) (class_of (name_of words.old.table)) }
+    requires entries { entries ≡ rows (kind_in (shape_of words.old.bank.now).starts words.old.o) (class_of (name_of words.old.table)) }
     ensures can { CanLoad words.new }
     ensures same { SamePlace words.old words.new }
     ensures turns { (slot : ℕ) (earlier : List Act) (left : List ℕ) →
@@ -83,7 +83,7 @@ fn look_at(words: &mut TableWords, place: u64, entries: u64, key: Key) -> Option
 fn look_at_deleted(words: &mut TableWords, place: u64, entries: u64) -> Option<Looked>
     requires can { CanLoad words.old }
     requires place { place < dict_room words.old.mask }
-    requires entries { entries ≡ rows (kind_in (shape_of words.old.bank.now).kinds words.old.o) (class_of (name_of words.old.table)) }
+    requires entries { entries ≡ rows (kind_in (shape_of words.old.bank.now).starts words.old.o) (class_of (name_of words.old.table)) }
     ensures can { CanLoad words.new }
     ensures same { SamePlace words.old words.new }
     ensures turns { (key : Key) (slot : ℕ) (earlier : List Act) (left : List ℕ) →
@@ -110,7 +110,7 @@ fn look_at_deleted(words: &mut TableWords, place: u64, entries: u64) -> Option<L
 fn search_on(words: &mut TableWords, walk: &mut Walk, key: Key, entries: u64) -> Option<Looked>
     requires can { CanLoad words.old }
     requires mask { words.old.mask ≡ walk.old.mask }
-    requires entries { entries ≡ rows (kind_in (shape_of words.old.bank.now).kinds words.old.o) (class_of (name_of words.old.table)) }
+    requires entries { entries ≡ rows (kind_in (shape_of words.old.bank.now).starts words.old.o) (class_of (name_of words.old.table)) }
     requires room { entries ≤ dict_room words.old.mask }
     ensures can { CanLoad words.new }
     ensures same { SamePlace words.old words.new }
@@ -147,9 +147,9 @@ fn search_on(words: &mut TableWords, walk: &mut Walk, key: Key, entries: u64) ->
 fn search_walk(words: &mut TableWords, walk: &mut Walk, key: Key, entries: u64) -> Looked
     requires can { CanLoad words.old }
     requires mask { words.old.mask ≡ walk.old.mask }
-    requires entries { entries ≡ rows (kind_in (shape_of words.old.bank.now).kinds words.old.o) (class_of (name_of words.old.table)) }
+    requires entries { entries ≡ rows (kind_in (shape_of words.old.bank.now).starts words.old.o) (class_of (name_of words.old.table)) }
     requires room { entries ≤ dict_room words.old.mask }
-    requires whole { walk.old.left ≡ walk_of (kind_in (shape_of words.old.bank.now).kinds words.old.o)
+    requires whole { walk.old.left ≡ walk_of (kind_in (shape_of words.old.bank.now).starts words.old.o)
         (shape_of words.old.bank.now).texts (class_of (name_of words.old.table)) key }
     requires low { All (λ slot. slot < slots (class_of (name_of words.old.table))) walk.old.left }
     ensures can { CanLoad words.new }
@@ -177,7 +177,7 @@ pub(crate) fn search_table(
     root: u64,
 ) -> Round
     requires can { CanLoad words.old }
-    requires way { kind_in (shape_of words.old.bank.now).kinds words.old.o ≡ kind_by way }
+    requires way { kind_in (shape_of words.old.bank.now).starts words.old.o ≡ kind_by way }
     requires hash { hash ≡ hash_of (shape_of words.old.bank.now).texts key }
     requires root { root ≡ suc (name_of words.old.table) }
     requires online { 0 < announces (view words.old.pass.now).log }

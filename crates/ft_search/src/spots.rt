@@ -53,7 +53,7 @@ pub fn spot_of(table: Table, found: Found, read: Option<(u64, u64)>) -> Spot
 #[inline(always)]
 pub fn seek_by(bank: &Bank, pass: &mut Pass, o: u32, way: Way, key: Key, hash: u64) -> Spot
     requires pass { IsPassOf bank.now pass.old }
-    requires way { kind_in (shape_of bank.now).kinds o ≡ kind_by way }
+    requires way { kind_in (shape_of bank.now).starts o ≡ kind_by way }
     requires hash { hash ≡ hash_of (shape_of bank.now).texts key }
     requires may { MayWriteEntries (shape_of bank.now) o (view pass.old) }
     ensures pass { IsPassOf bank.now pass.new }
@@ -82,7 +82,7 @@ pub fn seek_by(bank: &Bank, pass: &mut Pass, o: u32, way: Way, key: Key, hash: u
 #[inline(always)]
 pub fn seek_key(bank: &Bank, pass: &mut Pass, o: u32, way: Way, key: Key) -> Spot
     requires pass { IsPassOf bank.now pass.old }
-    requires way { kind_in (shape_of bank.now).kinds o ≡ kind_by way }
+    requires way { kind_in (shape_of bank.now).starts o ≡ kind_by way }
     requires key { IsKeyIn (shape_of bank.now) key }
     requires may { MayWriteEntries (shape_of bank.now) o (view pass.old) }
     ensures pass { IsPassOf bank.now pass.new }

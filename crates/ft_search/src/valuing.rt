@@ -41,7 +41,7 @@ fn put_other(
 )
     requires pass { IsPassOf bank.now pass.old }
     requires writes { WritesEntries (shape_of bank.now) o table (view pass.old) }
-    requires place { place < rows (kind_in (shape_of bank.now).kinds o) (class_of (name_of table)) }
+    requires place { place < rows (kind_in (shape_of bank.now).starts o) (class_of (name_of table)) }
     requires word { word < 8 }
     requires found { found ≡ entry_field (slots (class_of (name_of table))) (held o (view pass.old)).table place word }
     requires care { IsCareful (view pass.old) o (name_of table) (entry_offset (slots (class_of (name_of table))) place word)
@@ -71,11 +71,11 @@ pub fn put_value(
 )
     requires pass { IsPassOf bank.now pass.old }
     requires writes { WritesEntries (shape_of bank.now) o table (view pass.old) }
-    requires place { place < rows (kind_in (shape_of bank.now).kinds o) (class_of (name_of table)) }
+    requires place { place < rows (kind_in (shape_of bank.now).starts o) (class_of (name_of table)) }
     requires early { has_committed o (view pass.old).log ≡ false }
     requires old_kind { old.0 ≡ entry_field (slots (class_of (name_of table))) (held o (view pass.old)).table place 4 }
     requires old_payload { old.1 ≡ entry_field (slots (class_of (name_of table))) (held o (view pass.old)).table place 5 }
-    requires may { MayPuts (kind_in (shape_of bank.now).kinds o) (name_of table) (known o (view pass.old)).content false
+    requires may { MayPuts (kind_in (shape_of bank.now).starts o) (name_of table) (known o (view pass.old)).content false
         (held o (view pass.old))
         (value_puts (slots (class_of (name_of table))) (held o (view pass.old)).table place value) }
     ensures pass { IsPassOf bank.now pass.new }
@@ -128,7 +128,7 @@ pub fn set_entry(
 ) -> u64
     requires pass { IsPassOf bank.now pass.old }
     requires may { MayWriteEntries (shape_of bank.now) d (view pass.old) }
-    requires dict { kind_in (shape_of bank.now).kinds d ≡ kind.Dict }
+    requires dict { kind_in (shape_of bank.now).starts d ≡ kind.Dict }
     requires table { HasTable (shape_of bank.now) d table (view pass.old) }
     requires entry { IsLiveEntry (shape_of bank.now) d table place key (view pass.old) }
     requires old_kind { old.0 ≡ entry_field (slots (class_of (name_of table))) (held d (view pass.old)).table place 4 }

@@ -24,7 +24,7 @@ pub(crate) fn small(alloc: Global) -> Result<Shape, Fail>
 
 /// A bank of that shape, and its two passes, which are ready for a call.
 pub(crate) fn ready_two(alloc: Global) -> Result<(Bank, Pass, Pass), Fail>
-    ensures lists { IfOk result (λ made. length (shape_of made.0).kinds ≡ 2) }
+    ensures lists { IfOk result (λ made. length (shape_of made.0).starts ≡ 2) }
     ensures ready { IfOk result (λ made. IsReady made.0 made.1 × IsReady made.0 made.2) }
     ensures none { IfOk result (λ made. (stack_of made.1 ≡ no_sections) × (stack_of made.2 ≡ no_sections)) }
     ensures left { IfOk result (λ made. ((view made.1).left ≡ 10) × ((view made.2).left ≡ 10)) }

@@ -34,7 +34,7 @@ use Rattle.ft_set.proofs.Leaving.{many, many_tables, set_is, table_is, there}
 
 -- ---- what such a call leaves, whatever it makes of the two
 
-module _ (f : SetContent → List Element → SetContent) (k : Shape) (s t : ℕ) (v : View) (shape : v.shape ≡ k) (possible : ∥ Possible v ∥₁) (may : MayWriteEntries k s v) (other : MayWriteEntries k t v) (is : kind_in k.kinds s ≡ kind.Set) (other_is : kind_in k.kinds t ≡ kind.Set) where
+module _ (f : SetContent → List Element → SetContent) (k : Shape) (s t : ℕ) (v : View) (shape : v.shape ≡ k) (possible : ∥ Possible v ∥₁) (may : MayWriteEntries k s v) (other : MayWriteEntries k t v) (is : kind_in k.starts s ≡ kind.Set) (other_is : kind_in k.starts t ≡ kind.Set) where
   abbrev elements : SetContent
   elements = set_of (known s v).content
 
@@ -102,7 +102,7 @@ module _ (f : SetContent → List Element → SetContent) (k : Shape) (s t : ℕ
     declared_at found.world t (content.Set others) (many t v others other_low other.locked other_known found has) (there t v others other_low other.locked other_known found has),
   )
 
-module _ (k : Shape) (s t : ℕ) (v : View) (shape : v.shape ≡ k) (possible : ∥ Possible v ∥₁) (may : MayWriteEntries k s v) (other : MayWriteEntries k t v) (is : kind_in k.kinds s ≡ kind.Set) (other_is : kind_in k.kinds t ≡ kind.Set) (few : passes_cap (known t v).content ≡ false) where
+module _ (k : Shape) (s t : ℕ) (v : View) (shape : v.shape ≡ k) (possible : ∥ Possible v ∥₁) (may : MayWriteEntries k s v) (other : MayWriteEntries k t v) (is : kind_in k.starts s ≡ kind.Set) (other_is : kind_in k.starts t ≡ kind.Set) (few : passes_cap (known t v).content ≡ false) where
   -- ---- those of the other one are added
 
   abbrev mine : SetContent

@@ -50,9 +50,9 @@ some_words : (words : List ℕ) (a b c : ℕ) → words ≡ a ∷ b ∷ c ∷ []
 some_words words a b c is none = let e = sym is ∙ none in absurd (cc)
 
 -- a pass that may write a set knows that it is one
-pub known_set : (k : Shape) (v : View) (s : ℕ) → v.shape ≡ k → ∥ Possible v ∥₁ → MayWriteEntries k s v → kind_in k.kinds s ≡ kind.Set → (elements : SetContent) × ((known s v).content ≡ content.Set elements) × (s < containers_in v.shape)
+pub known_set : (k : Shape) (v : View) (s : ℕ) → v.shape ≡ k → ∥ Possible v ∥₁ → MayWriteEntries k s v → kind_in k.starts s ≡ kind.Set → (elements : SetContent) × ((known s v).content ≡ content.Set elements) × (s < containers_in v.shape)
 known_set k v s shape possible may is =
-    let p = set_known v s possible may.locked (ap (λ (z : Shape). kind_in z.kinds s) shape ∙ is) in
+    let p = set_known v s possible may.locked (ap (λ (z : Shape). kind_in z.starts s) shape ∙ is) in
     (p.0, p.1, subst (λ (z : Shape). s < containers_in z) (sym shape) may.container)
 
 -- nothing is taken out that isn't there
@@ -210,7 +210,7 @@ module _ (s : ℕ) (v : View) (elements news : SetContent) (sc : SetCall) (said 
       ap (λ (z : TableChange). table_at (change_leaves stored.tables s z (grown_table T (takes_in stored called) drawn many_elements) no_table) s) grows
       ∙ (get_or-set_same stored.tables s (grown_table T (takes_in stored called) drawn many_elements) no_table (many_tables s v elements low mine is_set stored has)
       ∙ (ap (λ (z : Option ℕ). grown_table T z drawn many_elements) takes_none
-      ∙ ((λ i. record { class = T.class; fill = fill_is i }) ∙ table_is s v elements low mine is_set stored has))) in
+      ∙ ((λ i. record { class = T.class; fill = fill_is i; keys = T.keys }) ∙ table_is s v elements low mine is_set stored has))) in
       λ i. record { content = c i; table = t i }
 
   few : length news.elements ≤ most_elements

@@ -137,7 +137,7 @@ first_bare k x bare = no_set k x bare (IsFirstElement k None x) (λ set none. ap
 
 -- ---- by a pass with the lock
 
-module _ (k : Shape) (s : ℕ) (v : View) (shape : v.shape ≡ k) (possible : ∥ Possible v ∥₁) (may : MayWriteEntries k s v) (is : kind_in k.kinds s ≡ kind.Set) where
+module _ (k : Shape) (s : ℕ) (v : View) (shape : v.shape ≡ k) (possible : ∥ Possible v ∥₁) (may : MayWriteEntries k s v) (is : kind_in k.starts s ≡ kind.Set) where
   low' : s < containers_in v.shape
   low' = subst (λ (z : Shape). s < containers_in z) (sym shape) may.container
 
@@ -150,6 +150,7 @@ module _ (k : Shape) (s : ℕ) (v : View) (shape : v.shape ≡ k) (possible : �
   as_set : (c : Content) → kind_of c ≡ kind.Set → c ≡ content.Set (set_of c)
   as_set (content.Set elements) e = refl
   as_set (content.List values) e = absurd (cc)
+  as_set (content.Deque deque) e = absurd (cc)
   as_set (content.Dict dict) e = absurd (cc)
 
   is_set' : (known s v).content ≡ content.Set elements'

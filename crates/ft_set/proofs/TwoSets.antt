@@ -23,7 +23,7 @@ use Rattle.ft_merging.proofs.ThinningEnds.{is_set}
 use Rattle.ft_search.specs.OneEntryWrites.{Leaves, MayWriteEntries}
 use Rattle.ft_set.proofs.Leaving.{many, set_is, table_is, there}
 
-module _ (k : Shape) (s t : ℕ) (v : View) (shape : v.shape ≡ k) (possible : ∥ Possible v ∥₁) (may : MayWriteEntries k s v) (other : MayWriteEntries k t v) (is : kind_in k.kinds s ≡ kind.Set) (other_is : kind_in k.kinds t ≡ kind.Set) where
+module _ (k : Shape) (s t : ℕ) (v : View) (shape : v.shape ≡ k) (possible : ∥ Possible v ∥₁) (may : MayWriteEntries k s v) (other : MayWriteEntries k t v) (is : kind_in k.starts s ≡ kind.Set) (other_is : kind_in k.starts t ≡ kind.Set) where
   abbrev elements : SetContent
   elements = set_of (known s v).content
 

@@ -37,7 +37,7 @@ pub fn add_by(bank: &Bank, pass: &mut Pass, s: Object, key: Key) -> Added
     requires may { MayWriteEntries (shape_of bank.now) s (view pass.old) }
     requires used { used (view pass.old).log ≡ false }
     requires idle { flight (view pass.old).log ≡ 0 }
-    requires set { kind_in (shape_of bank.now).kinds s ≡ kind.Set }
+    requires set { kind_in (shape_of bank.now).starts s ≡ kind.Set }
     requires key { IsKeyIn (shape_of bank.now) key }
     ensures pass { IsPassOf bank.now pass.new }
     ensures stack { stack_of pass.new ≡ stack_of pass.old }
@@ -90,7 +90,7 @@ pub fn add_by(bank: &Bank, pass: &mut Pass, s: Object, key: Key) -> Added
 pub fn try_add(bank: &Bank, pass: &mut Pass, s: Object, key: Key) -> Step
     requires may { MayTry bank.now pass.old (One s) }
     requires container { s < containers_in (shape_of bank.now) }
-    requires set { kind_in (shape_of bank.now).kinds s ≡ kind.Set }
+    requires set { kind_in (shape_of bank.now).starts s ≡ kind.Set }
     requires key { IsKeyIn (shape_of bank.now) key }
     requires left { 0 < (view pass.old).left }
     ensures may { MayTry bank.now pass.new (One s) }

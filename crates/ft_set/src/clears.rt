@@ -14,7 +14,7 @@ ghost use Rattle.ft_section.specs.Ready.{MayTry};
 ghost use Rattle.ft_section.specs.Trying.{SectionsAfter};
 ghost use Rattle.ft_growth.specs.Adding.{KeepsCursors};
 ghost use Rattle.ft_search.specs.OneEntryWrites.{MayWriteEntries};
-ghost use Rattle.ft_list.specs.Clears.{IsCleared, IsClearOf};
+ghost use Rattle.ft_reads.specs.Clears.{IsCleared, IsClearOf};
 
 use ft_bank::{Bank, Pass};
 use ft_keyed::{clear_as, try_clear_as};
@@ -25,7 +25,7 @@ use ft_section::{Object, Stamp, Step};
 pub fn clear_by(bank: &Bank, pass: &mut Pass, s: Object) -> Stamp
     requires pass { IsPassOf bank.now pass.old }
     requires may { MayWriteEntries (shape_of bank.now) s (view pass.old) }
-    requires set { kind_in (shape_of bank.now).kinds s ≡ kind.Set }
+    requires set { kind_in (shape_of bank.now).starts s ≡ kind.Set }
     requires used { used (view pass.old).log ≡ false }
     requires idle { flight (view pass.old).log ≡ 0 }
     ensures pass { IsPassOf bank.now pass.new }
@@ -45,7 +45,7 @@ pub fn clear_by(bank: &Bank, pass: &mut Pass, s: Object) -> Stamp
 pub fn try_clear(bank: &Bank, pass: &mut Pass, s: Object) -> Step
     requires may { MayTry bank.now pass.old (One s) }
     requires container { s < containers_in (shape_of bank.now) }
-    requires set { kind_in (shape_of bank.now).kinds s ≡ kind.Set }
+    requires set { kind_in (shape_of bank.now).starts s ≡ kind.Set }
     requires left { 0 < (view pass.old).left }
     ensures may { MayTry bank.now pass.new (One s) }
     ensures tried { IsClearOf s (call.Set s set.Clear) (view pass.old) (view pass.new) result }

@@ -12,7 +12,7 @@ ghost use Rattle.ft_section.specs.declared.answers.Objects.TheVariants.{Two};
 ghost use Rattle.ft_section.specs.Ready.{MayTry};
 ghost use Rattle.ft_section.specs.Trying.{SectionsAfter};
 ghost use Rattle.ft_search.specs.MadeCalls.{IsMadeOf};
-ghost use Rattle.ft_list.specs.Pairs.{IsGlanceOfBoth};
+ghost use Rattle.ft_reads.specs.Pairs.{IsGlanceOfBoth};
 
 use ft_bank::{Bank, Pass};
 use ft_keyed::{Comparison, look_comparison, try_comparison};
@@ -30,8 +30,8 @@ pub fn try_eq(bank: &Bank, pass: &mut Pass, s: Object, t: Object) -> Step
     requires may { MayTry bank.now pass.old (Two s t) }
     requires container { s < containers_in (shape_of bank.now) }
     requires other { t < containers_in (shape_of bank.now) }
-    requires set { kind_in (shape_of bank.now).kinds s ≡ kind.Set }
-    requires other_set { kind_in (shape_of bank.now).kinds t ≡ kind.Set }
+    requires set { kind_in (shape_of bank.now).starts s ≡ kind.Set }
+    requires other_set { kind_in (shape_of bank.now).starts t ≡ kind.Set }
     requires left { 0 < (view pass.old).left }
     ensures may { MayTry bank.now pass.new (Two s t) }
     ensures made { IsMadeOf (Two s t) (call.Set s (set.Eq t)) (view pass.old) (view pass.new) result }
@@ -51,8 +51,8 @@ pub fn look_eq(bank: &Bank, pass: &mut Pass, s: Object, t: Object) -> Look
     requires pass { IsPassOf bank.now pass.old }
     requires container { s < containers_in (shape_of bank.now) }
     requires other { t < containers_in (shape_of bank.now) }
-    requires set { kind_in (shape_of bank.now).kinds s ≡ kind.Set }
-    requires other_set { kind_in (shape_of bank.now).kinds t ≡ kind.Set }
+    requires set { kind_in (shape_of bank.now).starts s ≡ kind.Set }
+    requires other_set { kind_in (shape_of bank.now).starts t ≡ kind.Set }
     requires left { 0 < (view pass.old).left }
     ensures pass { IsPassOf bank.now pass.new }
     ensures sections { stack_of pass.new ≡ stack_of pass.old }
@@ -73,8 +73,8 @@ pub fn try_subset(bank: &Bank, pass: &mut Pass, s: Object, t: Object) -> Step
     requires may { MayTry bank.now pass.old (Two s t) }
     requires container { s < containers_in (shape_of bank.now) }
     requires other { t < containers_in (shape_of bank.now) }
-    requires set { kind_in (shape_of bank.now).kinds s ≡ kind.Set }
-    requires other_set { kind_in (shape_of bank.now).kinds t ≡ kind.Set }
+    requires set { kind_in (shape_of bank.now).starts s ≡ kind.Set }
+    requires other_set { kind_in (shape_of bank.now).starts t ≡ kind.Set }
     requires left { 0 < (view pass.old).left }
     ensures may { MayTry bank.now pass.new (Two s t) }
     ensures made { IsMadeOf (Two s t) (call.Set s (set.Subset t)) (view pass.old) (view pass.new) result }
@@ -95,8 +95,8 @@ pub fn try_disjoint(bank: &Bank, pass: &mut Pass, s: Object, t: Object) -> Step
     requires may { MayTry bank.now pass.old (Two s t) }
     requires container { s < containers_in (shape_of bank.now) }
     requires other { t < containers_in (shape_of bank.now) }
-    requires set { kind_in (shape_of bank.now).kinds s ≡ kind.Set }
-    requires other_set { kind_in (shape_of bank.now).kinds t ≡ kind.Set }
+    requires set { kind_in (shape_of bank.now).starts s ≡ kind.Set }
+    requires other_set { kind_in (shape_of bank.now).starts t ≡ kind.Set }
     requires left { 0 < (view pass.old).left }
     ensures may { MayTry bank.now pass.new (Two s t) }
     ensures made { IsMadeOf (Two s t) (call.Set s (set.Disjoint t)) (view pass.old) (view pass.new) result }

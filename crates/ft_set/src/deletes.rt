@@ -24,7 +24,7 @@ use ft_section::{Object, Stamp};
 fn discard_none(bank: &Bank, pass: &mut Pass, s: Object, key: Key) -> (Reply, Stamp)
     requires pass { IsPassOf bank.now pass.old }
     requires may { MayWriteEntries (shape_of bank.now) s (view pass.old) }
-    requires set { kind_in (shape_of bank.now).kinds s ≡ kind.Set }
+    requires set { kind_in (shape_of bank.now).starts s ≡ kind.Set }
     requires key { FitsKey key }
     requires none { IsHeldAt (known s (view pass.old)).content key None }
     ensures pass { IsPassOf bank.now pass.new }
@@ -44,7 +44,7 @@ fn discard_none(bank: &Bank, pass: &mut Pass, s: Object, key: Key) -> (Reply, St
 pub fn discard_locked(bank: &Bank, pass: &mut Pass, s: Object, key: Key) -> (Reply, Stamp)
     requires pass { IsPassOf bank.now pass.old }
     requires may { MayWriteEntries (shape_of bank.now) s (view pass.old) }
-    requires set { kind_in (shape_of bank.now).kinds s ≡ kind.Set }
+    requires set { kind_in (shape_of bank.now).starts s ≡ kind.Set }
     requires key { IsKeyIn (shape_of bank.now) key }
     ensures pass { IsPassOf bank.now pass.new }
     ensures stack { stack_of pass.new ≡ stack_of pass.old }
@@ -70,7 +70,7 @@ pub fn discard_locked(bank: &Bank, pass: &mut Pass, s: Object, key: Key) -> (Rep
 pub fn remove_locked(bank: &Bank, pass: &mut Pass, s: Object, key: Key) -> (Reply, Stamp)
     requires pass { IsPassOf bank.now pass.old }
     requires may { MayWriteEntries (shape_of bank.now) s (view pass.old) }
-    requires set { kind_in (shape_of bank.now).kinds s ≡ kind.Set }
+    requires set { kind_in (shape_of bank.now).starts s ≡ kind.Set }
     requires key { IsKeyIn (shape_of bank.now) key }
     ensures pass { IsPassOf bank.now pass.new }
     ensures stack { stack_of pass.new ≡ stack_of pass.old }

@@ -14,7 +14,7 @@ ghost use Rattle.ft_section.specs.Ready.{MayTry};
 ghost use Rattle.ft_section.specs.Trying.{SectionsAfter};
 ghost use Rattle.ft_search.specs.MadeCalls.{MadeAs, IsMadeOf};
 ghost use Rattle.ft_search.specs.OneEntryWrites.{MayWriteEntries};
-ghost use Rattle.ft_list.specs.Indexes.{Reads};
+ghost use Rattle.ft_reads.specs.Reads.{Reads};
 ghost use Rattle.ft_set.specs.Firsts.{IsFirstIn, IsFirstOf};
 
 use ft_bank::{Bank, Pass, Table};
@@ -88,7 +88,7 @@ fn first_element(bank: &Bank, pass: &mut Pass, s: Object) -> Option<First>
 pub fn pop_locked(bank: &Bank, pass: &mut Pass, s: Object) -> (Reply, Stamp)
     requires pass { IsPassOf bank.now pass.old }
     requires may { MayWriteEntries (shape_of bank.now) s (view pass.old) }
-    requires set { kind_in (shape_of bank.now).kinds s ≡ kind.Set }
+    requires set { kind_in (shape_of bank.now).starts s ≡ kind.Set }
     ensures pass { IsPassOf bank.now pass.new }
     ensures stack { stack_of pass.new ≡ stack_of pass.old }
     ensures made { MadeAs (call.Set s set.Pop) result.0 result.1 (view pass.old) (view pass.new) }
@@ -125,7 +125,7 @@ pub fn pop_locked(bank: &Bank, pass: &mut Pass, s: Object) -> (Reply, Stamp)
 pub fn try_pop(bank: &Bank, pass: &mut Pass, s: Object) -> Step
     requires may { MayTry bank.now pass.old (One s) }
     requires container { s < containers_in (shape_of bank.now) }
-    requires set { kind_in (shape_of bank.now).kinds s ≡ kind.Set }
+    requires set { kind_in (shape_of bank.now).starts s ≡ kind.Set }
     requires left { 0 < (view pass.old).left }
     ensures may { MayTry bank.now pass.new (One s) }
     ensures made { IsMadeOf (One s) (call.Set s set.Pop) (view pass.old) (view pass.new) result }

@@ -27,7 +27,7 @@ use ft_section::{Look, Object, Step};
 pub fn look_len(bank: &Bank, pass: &mut Pass, s: Object) -> Look
     requires pass { IsPassOf bank.now pass.old }
     requires container { s < containers_in (shape_of bank.now) }
-    requires set { kind_in (shape_of bank.now).kinds s ≡ kind.Set }
+    requires set { kind_in (shape_of bank.now).starts s ≡ kind.Set }
     requires left { 0 < (view pass.old).left }
     ensures pass { IsPassOf bank.now pass.new }
     ensures sections { stack_of pass.new ≡ stack_of pass.old }
@@ -49,7 +49,7 @@ pub fn look_len(bank: &Bank, pass: &mut Pass, s: Object) -> Look
 pub fn try_len(bank: &Bank, pass: &mut Pass, s: Object) -> Step
     requires may { MayTry bank.now pass.old (One s) }
     requires container { s < containers_in (shape_of bank.now) }
-    requires set { kind_in (shape_of bank.now).kinds s ≡ kind.Set }
+    requires set { kind_in (shape_of bank.now).starts s ≡ kind.Set }
     requires left { 0 < (view pass.old).left }
     ensures may { MayTry bank.now pass.new (One s) }
     ensures sections { SectionsAfter bank.now (One s) pass.old pass.new result }

@@ -31,7 +31,7 @@ use ft_section::{Look, Object};
 pub fn look_has(bank: &Bank, pass: &mut Pass, s: Object, key: Key) -> Look
     requires pass { IsPassOf bank.now pass.old }
     requires container { s < containers_in (shape_of bank.now) }
-    requires set { kind_in (shape_of bank.now).kinds s ≡ kind.Set }
+    requires set { kind_in (shape_of bank.now).starts s ≡ kind.Set }
     requires key { IsKeyIn (shape_of bank.now) key }
     requires online { 0 < announces (view pass.old).log }
     requires left { 0 < (view pass.old).left }

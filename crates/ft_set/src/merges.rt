@@ -34,8 +34,8 @@ fn and_locked(bank: &Bank, pass: &mut Pass, s: Object, t: Object) -> (Reply, Sta
     requires pass { IsPassOf bank.now pass.old }
     requires may { MayWriteEntries (shape_of bank.now) s (view pass.old) }
     requires other { MayWriteEntries (shape_of bank.now) t (view pass.old) }
-    requires set { kind_in (shape_of bank.now).kinds s ≡ kind.Set }
-    requires other_set { kind_in (shape_of bank.now).kinds t ≡ kind.Set }
+    requires set { kind_in (shape_of bank.now).starts s ≡ kind.Set }
+    requires other_set { kind_in (shape_of bank.now).starts t ≡ kind.Set }
     ensures pass { IsPassOf bank.now pass.new }
     ensures stack { stack_of pass.new ≡ stack_of pass.old }
     ensures made { MadeAs (call.Set s (set.And t)) result.0 result.1 (view pass.old) (view pass.new) }
@@ -53,8 +53,8 @@ fn sub_locked(bank: &Bank, pass: &mut Pass, s: Object, t: Object) -> (Reply, Sta
     requires pass { IsPassOf bank.now pass.old }
     requires may { MayWriteEntries (shape_of bank.now) s (view pass.old) }
     requires other { MayWriteEntries (shape_of bank.now) t (view pass.old) }
-    requires set { kind_in (shape_of bank.now).kinds s ≡ kind.Set }
-    requires other_set { kind_in (shape_of bank.now).kinds t ≡ kind.Set }
+    requires set { kind_in (shape_of bank.now).starts s ≡ kind.Set }
+    requires other_set { kind_in (shape_of bank.now).starts t ≡ kind.Set }
     ensures pass { IsPassOf bank.now pass.new }
     ensures stack { stack_of pass.new ≡ stack_of pass.old }
     ensures made { MadeAs (call.Set s (set.Sub t)) result.0 result.1 (view pass.old) (view pass.new) }
@@ -78,8 +78,8 @@ pub fn try_and(bank: &Bank, pass: &mut Pass, s: Object, t: Object) -> Step
     requires may { MayTry bank.now pass.old (Two s t) }
     requires container { s < containers_in (shape_of bank.now) }
     requires other { t < containers_in (shape_of bank.now) }
-    requires set { kind_in (shape_of bank.now).kinds s ≡ kind.Set }
-    requires other_set { kind_in (shape_of bank.now).kinds t ≡ kind.Set }
+    requires set { kind_in (shape_of bank.now).starts s ≡ kind.Set }
+    requires other_set { kind_in (shape_of bank.now).starts t ≡ kind.Set }
     requires left { 0 < (view pass.old).left }
     ensures may { MayTry bank.now pass.new (Two s t) }
     ensures made { IsMadeOf (Two s t) (call.Set s (set.And t)) (view pass.old) (view pass.new) result }
@@ -105,8 +105,8 @@ pub fn try_sub(bank: &Bank, pass: &mut Pass, s: Object, t: Object) -> Step
     requires may { MayTry bank.now pass.old (Two s t) }
     requires container { s < containers_in (shape_of bank.now) }
     requires other { t < containers_in (shape_of bank.now) }
-    requires set { kind_in (shape_of bank.now).kinds s ≡ kind.Set }
-    requires other_set { kind_in (shape_of bank.now).kinds t ≡ kind.Set }
+    requires set { kind_in (shape_of bank.now).starts s ≡ kind.Set }
+    requires other_set { kind_in (shape_of bank.now).starts t ≡ kind.Set }
     requires left { 0 < (view pass.old).left }
     ensures may { MayTry bank.now pass.new (Two s t) }
     ensures made { IsMadeOf (Two s t) (call.Set s (set.Sub t)) (view pass.old) (view pass.new) result }
@@ -134,8 +134,8 @@ pub fn or_by(bank: &Bank, pass: &mut Pass, s: Object, t: Object) -> Added
     requires other { MayWriteEntries (shape_of bank.now) t (view pass.old) }
     requires used { used (view pass.old).log ≡ false }
     requires idle { flight (view pass.old).log ≡ 0 }
-    requires set { kind_in (shape_of bank.now).kinds s ≡ kind.Set }
-    requires other_set { kind_in (shape_of bank.now).kinds t ≡ kind.Set }
+    requires set { kind_in (shape_of bank.now).starts s ≡ kind.Set }
+    requires other_set { kind_in (shape_of bank.now).starts t ≡ kind.Set }
     ensures pass { IsPassOf bank.now pass.new }
     ensures stack { stack_of pass.new ≡ stack_of pass.old }
     ensures added { JoinsBy (shape_of bank.now) s t (call.Set s (set.Or t)) (view pass.old) (view pass.new) result }
@@ -161,8 +161,8 @@ pub fn try_or(bank: &Bank, pass: &mut Pass, s: Object, t: Object) -> Step
     requires may { MayTry bank.now pass.old (Two s t) }
     requires container { s < containers_in (shape_of bank.now) }
     requires other { t < containers_in (shape_of bank.now) }
-    requires set { kind_in (shape_of bank.now).kinds s ≡ kind.Set }
-    requires other_set { kind_in (shape_of bank.now).kinds t ≡ kind.Set }
+    requires set { kind_in (shape_of bank.now).starts s ≡ kind.Set }
+    requires other_set { kind_in (shape_of bank.now).starts t ≡ kind.Set }
     requires left { 0 < (view pass.old).left }
     ensures may { MayTry bank.now pass.new (Two s t) }
     ensures tried { IsTryOf (Two s t) (JoinsBy (shape_of bank.now) s t (call.Set s (set.Or t))) reply.Done (view pass.old)
@@ -192,8 +192,8 @@ pub fn xor_by(bank: &Bank, pass: &mut Pass, s: Object, t: Object) -> Added
     requires other { MayWriteEntries (shape_of bank.now) t (view pass.old) }
     requires used { used (view pass.old).log ≡ false }
     requires idle { flight (view pass.old).log ≡ 0 }
-    requires set { kind_in (shape_of bank.now).kinds s ≡ kind.Set }
-    requires other_set { kind_in (shape_of bank.now).kinds t ≡ kind.Set }
+    requires set { kind_in (shape_of bank.now).starts s ≡ kind.Set }
+    requires other_set { kind_in (shape_of bank.now).starts t ≡ kind.Set }
     ensures pass { IsPassOf bank.now pass.new }
     ensures stack { stack_of pass.new ≡ stack_of pass.old }
     ensures added { PartsBy (shape_of bank.now) s t (call.Set s (set.Xor t)) (view pass.old) (view pass.new) result }
@@ -218,8 +218,8 @@ pub fn try_xor(bank: &Bank, pass: &mut Pass, s: Object, t: Object) -> Step
     requires may { MayTry bank.now pass.old (Two s t) }
     requires container { s < containers_in (shape_of bank.now) }
     requires other { t < containers_in (shape_of bank.now) }
-    requires set { kind_in (shape_of bank.now).kinds s ≡ kind.Set }
-    requires other_set { kind_in (shape_of bank.now).kinds t ≡ kind.Set }
+    requires set { kind_in (shape_of bank.now).starts s ≡ kind.Set }
+    requires other_set { kind_in (shape_of bank.now).starts t ≡ kind.Set }
     requires left { 0 < (view pass.old).left }
     ensures may { MayTry bank.now pass.new (Two s t) }
     ensures tried { IsTryOf (Two s t) (PartsBy (shape_of bank.now) s t (call.Set s (set.Xor t))) reply.Done

@@ -26,7 +26,7 @@ use ft_section::{Got, Object, Objects, Step, let_go, take_for};
 pub fn try_discard(bank: &Bank, pass: &mut Pass, s: Object, key: Key) -> Step
     requires may { MayTry bank.now pass.old (One s) }
     requires container { s < containers_in (shape_of bank.now) }
-    requires set { kind_in (shape_of bank.now).kinds s ≡ kind.Set }
+    requires set { kind_in (shape_of bank.now).starts s ≡ kind.Set }
     requires key { IsKeyIn (shape_of bank.now) key }
     requires left { 0 < (view pass.old).left }
     ensures may { MayTry bank.now pass.new (One s) }
@@ -52,7 +52,7 @@ pub fn try_discard(bank: &Bank, pass: &mut Pass, s: Object, key: Key) -> Step
 pub fn try_remove(bank: &Bank, pass: &mut Pass, s: Object, key: Key) -> Step
     requires may { MayTry bank.now pass.old (One s) }
     requires container { s < containers_in (shape_of bank.now) }
-    requires set { kind_in (shape_of bank.now).kinds s ≡ kind.Set }
+    requires set { kind_in (shape_of bank.now).starts s ≡ kind.Set }
     requires key { IsKeyIn (shape_of bank.now) key }
     requires left { 0 < (view pass.old).left }
     ensures may { MayTry bank.now pass.new (One s) }

@@ -13,10 +13,11 @@ empty_is : (strings : ℕ) (of_kind : Kind) → IsContentOf strings (empty_conte
 empty_is strings kind.Dict = λ i d low. absurd (omega arith)
 empty_is strings kind.List = λ i d low. absurd (omega arith)
 empty_is strings kind.Set = λ i d low. absurd (omega arith)
+empty_is strings (kind.Deque bound) = λ i d low. absurd (omega arith)
 
 all_empty : (strings : ℕ) (containers : List Declaration) → All (IsContentOf strings) (start_world containers)
 all_empty strings [] i d low = absurd (omega arith)
-all_empty strings (c ∷ containers) zero d low = empty_is strings c.kind
+all_empty strings (c ∷ containers) zero d low = empty_is strings c.start.kind
 all_empty strings (c ∷ containers) (suc i) d low = all_empty strings containers i d (omega arith)
 
 as_many : (containers : List Declaration) → length (start_world containers) ≡ length containers

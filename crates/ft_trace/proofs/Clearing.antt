@@ -64,10 +64,10 @@ put_default (x ∷ xs) zero d = refl
 put_default (x ∷ xs) (suc i) d = put_default xs i d
 
 -- who has the lock and does not write knows a table none of whose versions is odd
-pub held_shut : (v : View) (o q : ℕ) → o < containers_in v.shape → Possible v → has_lock o v.log ≡ true → is_writing o v.log ≡ false → root_in (held o v) ≡ suc q → Shut (version_at (kind_in v.shape.kinds o) (class_of q)) (rows (kind_in v.shape.kinds o) (class_of q)) (held o v).table
+pub held_shut : (v : View) (o q : ℕ) → o < containers_in v.shape → Possible v → has_lock o v.log ≡ true → is_writing o v.log ≡ false → root_in (held o v) ≡ suc q → Shut (version_at (kind_in v.shape.starts o) (class_of q)) (rows (kind_in v.shape.starts o) (class_of q)) (held o v).table
 held_shut v o q low p mine quiet names =
     let w = table_known v o low q mine names p.0 p.1 p.2 in
-    subst (Shut (version_at (kind_in v.shape.kinds o) (class_of q)) (rows (kind_in v.shape.kinds o) (class_of q))) (sym w.0) (holder_shut v.shape p.0 p.2.0 o low p.1 v p.2.1 mine quiet q w.1)
+    subst (Shut (version_at (kind_in v.shape.starts o) (class_of q)) (rows (kind_in v.shape.starts o) (class_of q))) (sym w.0) (holder_shut v.shape p.0 p.2.0 o low p.1 v p.2.1 mine quiet q w.1)
 
 -- start, root 0, length 0, commit, stop, unlock
 module _ (v : View) (o : ℕ) (values : List Value) (live : IsAwake v) (possible : Possible v) (small : v.shape.passes * v.shape.calls < 2 ^ 46) (low : o < containers_in v.shape) (mine : has_lock o v.log ≡ true) (quiet : is_writing o v.log ≡ false) (spare : used v.log ≡ false) (none : owes v.log ≡ 0) (room : 0 < v.left) (is_list : (known o v).content ≡ content.List values) where
@@ -158,10 +158,10 @@ module _ (v : View) (o : ℕ) (values : List Value) (live : IsAwake v) (possible
       λ d. record { content = c d; table = t d }
 
   -- the container is a list at every moment
-  declared : (n : ℕ) → Sure (c3 n) (λ es. IsDeclared (stored_newest k.kinds (history es)).world no_hands clears)
+  declared : (n : ℕ) → Sure (c3 n) (λ es. IsDeclared (stored_newest k.starts (history es)).world no_hands clears)
   declared n es id knows =
-      let world = (stored_newest k.kinds (history es)).world in
-      let there = there_is world o (content.List []) (subst (λ (z : ℕ). o < z) (sym (as_many k.kinds (history es))) low) in
+      let world = (stored_newest k.starts (history es)).world in
+      let there = there_is world o (content.List []) (subst (λ (z : ℕ). o < z) (sym (as_many k.starts (history es))) low) in
       let is : slice_index_or world o (content.List []) ≡ content.List values = ap (λ (z : ContainerState). z.content) (sym (content_known (c3 n) o mine es id knows)) ∙ is_list in
       record { one = ap (option_map kind_of) (there ∙ ap Some is); both = tt; room = tt }
 
@@ -176,7 +176,7 @@ module _ (v : View) (o : ℕ) (values : List Value) (live : IsAwake v) (possible
         odd,
         root_known (c1 n) o low mine es id knows,
         (λ t' (e : 0 ≡ suc t'). absurd (omega (arith, e))),
-        (λ q names. subst (Shut (version_at (kind_in k.kinds o) (class_of q)) (rows (kind_in k.kinds o) (class_of q))) (table_known (c1 n) o low q mine names es id knows).0 (held_shut v o q low possible mine quiet names)),
+        (λ q names. subst (Shut (version_at (kind_in k.starts o) (class_of q)) (rows (kind_in k.starts o) (class_of q))) (table_known (c1 n) o low q mine names es id knows).0 (held_shut v o q low possible mine quiet names)),
         (λ _. spare),
         (λ t' (e : 0 ≡ suc t'). absurd (omega (arith, e))),
         (λ _. not_yet),

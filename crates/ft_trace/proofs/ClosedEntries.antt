@@ -12,7 +12,7 @@ use Rattle.ft_model.specs.declared.call.Call.{Call}
 use Rattle.ft_trace.specs.declared.Entry.{Entry}
 use Rattle.std.specs.List.{flat_map}
 use Rattle.ft_trace.specs.Acts.{place, Reports, starter, noted, entries_next, maker, made, both, spent, sender, note, all_entries}
-use Rattle.ft_model.specs.declared.script.Kind.{Kind}
+use Rattle.ft_model.specs.declared.script.Start.{Start}
 use Rattle.ft_model.specs.Histories.{IsReplied}
 use Rattle.ft_model.specs.TableUses.{stored_newest}
 use Rattle.ft_model.specs.Answers.{answer}
@@ -31,55 +31,55 @@ number_stays : (b : Act) (cs : List Call) (n : ℕ) (c : Call) → IsNumber cs n
 number_stays (Commit d r f s) cs n c is = inr is
 number_stays act cs n c is = is
 
-right_stays : (kinds : List Kind) (b : Act) (cs : List Call) (e : Entry) → Right kinds cs e → Right kinds (writes_of b cs) e
-right_stays kinds b cs e r = record {
+right_stays : (starts : List Start) (b : Act) (cs : List Call) (e : Entry) → Right starts cs e → Right starts (writes_of b cs) e
+right_stays starts b cs e r = record {
   wrote = r.wrote;
   write = λ w. number_stays b cs e.stamp e.call (r.write w);
   low = le_trans r.low (grows_by b cs);
   hands = r.hands;
-  reply = subst (λ (l : List Call). IsReplied e.call e.reply (answer (stored_newest kinds l).world r.hands e.call).reply) (sym (writes_stay e.stamp b cs r.low)) r.reply;
+  reply = subst (λ (l : List Call). IsReplied e.call e.reply (answer (stored_newest starts l).world r.hands e.call).reply) (sym (writes_stay e.stamp b cs r.low)) r.reply;
 }
 
-all_stay : (kinds : List Kind) (b : Act) (cs : List Call) (es : List Entry) → AllRight kinds cs es → AllRight kinds (writes_of b cs) es
-all_stay kinds b cs [] all = tt
-all_stay kinds b cs (e ∷ es) all = (right_stays kinds b cs e all.0, all_stay kinds b cs es all.1)
+all_stay : (starts : List Start) (b : Act) (cs : List Call) (es : List Entry) → AllRight starts cs es → AllRight starts (writes_of b cs) es
+all_stay starts b cs [] all = tt
+all_stay starts b cs (e ∷ es) all = (right_stays starts b cs e all.0, all_stay starts b cs es all.1)
 
-all-append : (kinds : List Kind) (cs : List Call) (xs ys : List Entry) → AllRight kinds cs xs → AllRight kinds cs ys → AllRight kinds cs (xs ++ ys)
-all-append kinds cs [] ys a b = b
-all-append kinds cs (x ∷ xs) ys a b = (a.0, all-append kinds cs xs ys a.1 b)
+all-append : (starts : List Start) (cs : List Call) (xs ys : List Entry) → AllRight starts cs xs → AllRight starts cs ys → AllRight starts cs (xs ++ ys)
+all-append starts cs [] ys a b = b
+all-append starts cs (x ∷ xs) ys a b = (a.0, all-append starts cs xs ys a.1 b)
 
-right_next : (k : Shape) (es : List Event) → count k es ≡ length (history es) → (v : View) (b : Act) → Reports b (word k es (place b)) → May k (run k es) (history es) v b → (fs : List Entry) → AllRight k.kinds (writes_of b (history es)) fs → AllRight k.kinds (writes_of b (history es)) (entries_next b fs)
+right_next : (k : Shape) (es : List Event) → count k es ≡ length (history es) → (v : View) (b : Act) → Reports b (word k es (place b)) → May k (run k es) (history es) v b → (fs : List Entry) → AllRight k.starts (writes_of b (history es)) fs → AllRight k.starts (writes_of b (history es)) (entries_next b fs)
 right_next k es count v (Commit c r f s) found may fs all =
     let is : f ≡ length (history es) = found ∙ count in
     let all_of : first_writes f (c ∷ history es) ≡ history es = writes_stay f (Commit c r f s) (history es) (omega (arith, is)) ∙ (ap (λ (z : ℕ). first_writes z (history es)) is ∙ all_writes (history es)) in
-    (record { wrote = sym may.0; write = λ _. inl (is, refl); low = omega (arith, is); hands = no_hands; reply = subst (λ (l : List Call). IsReplied c r (reply_in (stored_newest k.kinds l) c)) (sym all_of) may.4 }, all)
+    (record { wrote = sym may.0; write = λ _. inl (is, refl); low = omega (arith, is); hands = no_hands; reply = subst (λ (l : List Call). IsReplied c r (reply_in (stored_newest k.starts l) c)) (sym all_of) may.4 }, all)
 right_next k es count v (Answer c x n) found may fs all = (record { wrote = sym may.0; write = λ no. absurd (true≢false (sym no)); low = (let low = may.1 in omega arith); hands = no_hands; reply = may.2 }, all)
 right_next k es count v (AnswerCursor c x n m had left) found may fs all = (record { wrote = sym (moved_reads c m may.0 x); write = λ no. absurd (true≢false (sym no)); low = (let low = may.1 in omega arith); hands = hands_with m had; reply = moved_replied c m may.0 x _ (moved_reply _ c m had x left may.2) }, all)
 right_next k es count v act found may fs all = all
 
 -- each entry of each pass is right
-pub all_right : (k : Shape) (es : List Event) → Valid k es → (j : ℕ) (u : View) → get_elem? (run k es).views j ≡ some u → AllRight k.kinds (history es) (all_entries u)
-all_right k [] valid = one_view (λ j u. AllRight k.kinds [] (all_entries u)) (starter k) tt
+pub all_right : (k : Shape) (es : List Event) → Valid k es → (j : ℕ) (u : View) → get_elem? (run k es).views j ≡ some u → AllRight k.starts (history es) (all_entries u)
+all_right k [] valid = one_view (λ j u. AllRight k.starts [] (all_entries u)) (starter k) tt
 all_right k (did id v a ∷ es) valid =
     let old = all_right k es valid.0 in
-    let P : ℕ → View → Type 0 = λ j u. AllRight k.kinds (writes_of a (history es)) (all_entries u) in
+    let P : ℕ → View → Type 0 = λ j u. AllRight k.starts (writes_of a (history es)) (all_entries u) in
     set_views P _ id (noted a v)
-    (subst (AllRight k.kinds (writes_of a (history es))) (next_all a v.entries (flat_map (λ (l : List Entry). l) v.lists)) (right_next k es (counted k es valid.0) v a valid.1.2 valid.1.3 (all_entries v) (all_stay k.kinds a (history es) (all_entries v) (old id v valid.1.0))))
-    (λ j u _ e. all_stay k.kinds a (history es) (all_entries u) (old j u e))
+    (subst (AllRight k.starts (writes_of a (history es))) (next_all a v.entries (flat_map (λ (l : List Entry). l) v.lists)) (right_next k es (counted k es valid.0) v a valid.1.2 valid.1.3 (all_entries v) (all_stay k.starts a (history es) (all_entries v) (old id v valid.1.0))))
+    (λ j u _ e. all_stay k.starts a (history es) (all_entries u) (old j u e))
 all_right k (forked id v ∷ es) valid =
     let old = all_right k es valid.0 in
-    let P : ℕ → View → Type 0 = λ j u. AllRight k.kinds (history es) (all_entries u) in
+    let P : ℕ → View → Type 0 = λ j u. AllRight k.starts (history es) (all_entries u) in
     one_more P _ (made v) tt (set_views P _ id (maker v) (old id v valid.1.0) (λ j u _ e. old j u e))
 all_right k (sent id v given ∷ es) valid =
     let old = all_right k es valid.0 in
-    let P : ℕ → View → Type 0 = λ j u. AllRight k.kinds (history es) (all_entries u) in
+    let P : ℕ → View → Type 0 = λ j u. AllRight k.starts (history es) (all_entries u) in
     one_more P _ (note given v) tt (set_views P _ id (sender given v) (old id v valid.1.0) (λ j u _ e. old j u e))
 all_right k (joined id v other w ∷ es) valid =
     let old = all_right k es valid.0 in
-    let P : ℕ → View → Type 0 = λ j u. AllRight k.kinds (history es) (all_entries u) in
+    let P : ℕ → View → Type 0 = λ j u. AllRight k.starts (history es) (all_entries u) in
     set_views P _ other spent tt
     (λ j u _. set_views P _ id (both v w)
-    (subst (AllRight k.kinds (history es)) (sym (both_all v w (has_none k es valid.0 other w valid.1.2).entries)) (all-append k.kinds (history es) (all_entries v) (all_entries w) (old id v valid.1.0) (old other w valid.1.2)))
+    (subst (AllRight k.starts (history es)) (sym (both_all v w (has_none k es valid.0 other w valid.1.2).entries)) (all-append k.starts (history es) (all_entries v) (all_entries w) (old id v valid.1.0) (old other w valid.1.2)))
     (λ j u _ e. old j u e) j u)
 
 below_next : (m n : ℕ) → cond (eqb m n) 1 0 + cond (ltb n m) 1 0 ≡ cond (ltb n (suc m)) 1 0
@@ -133,7 +133,7 @@ zero_or zero never = refl
 zero_or (suc n) never = absurd (never (λ e. omega arith))
 
 -- who stands for all passes has the whole history
-pub closes : (k : Shape) (es : List Event) → Valid k es → 0 < k.passes → (id : ℕ) (v : View) → get_elem? (run k es).views id ≡ some v → v.parts ≡ k.passes → Numbered k.kinds (history es) (all_entries v)
+pub closes : (k : Shape) (es : List Event) → Valid k es → 0 < k.passes → (id : ℕ) (v : View) → get_elem? (run k es).views id ≡ some v → v.parts ≡ k.passes → Numbered k.starts (history es) (all_entries v)
 closes k es valid some_pass id v at all = record {
   right = all_right k es valid id v at;
   once = λ n.

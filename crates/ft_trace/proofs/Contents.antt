@@ -1,6 +1,6 @@
 -- The counter is the number of writes, and while a version is even the words stand for the history.
 use Prim.Native.Nat.{zero}
-use Rattle.std.proofs.Common.{◌≡◌, ℕ, suc, ◌%◌, ◌<◌, true, List, [], ◌∷◌, ◌++◌, length, refl, sym, ap, ◌∙◌, subst, arith}
+use Rattle.std.proofs.Common.{◌≡◌, ℕ, None, suc, ◌%◌, ◌<◌, true, List, [], ◌∷◌, ◌++◌, length, refl, sym, ap, ◌∙◌, subst, arith}
 use mathlib.Core.Option.{some}
 use mathlib.Core.Logic.{dite}
 use native.Mathlib.Decide.{ℕ_discrete}
@@ -13,13 +13,15 @@ use Rattle.ft_trace.specs.Addresses.{Word, counter, block, cell, Inside, contain
 use Rattle.ft_trace.specs.Acts.{is_writing, noted}
 use Rattle.ft_model.specs.declared.script.Kind.{Kind}
 use Rattle.ft_model.specs.declared.script.Kind.TheVariants as kind
-use Rattle.ft_model.specs.Worlds.{empty_content}
-use Rattle.ft_model.specs.TableUses.{no_table}
+use Rattle.ft_model.specs.declared.script.Start.{Start}
+use Rattle.ft_model.specs.Worlds.{start_as, empty_content}
+use Rattle.ft_model.specs.TableUses.{no_table, start_table}
 use Rattle.std.specs.Prelude.{replicate, map, slice_index_or}
 use Rattle.ft_trace.specs.ContainerStates.{ContainerState, container_after, kind_in}
+use Rattle.ft_trace.proofs.LandedStarts.{starts_unsplit}
 use Rattle.ft_trace.proofs.Untouched.{untouched}
 use Rattle.ft_trace.specs.Pictures.{table_words, inner, Picture, picture, Stands}
-use Rattle.ft_trace.specs.Traces.{Event, did, forked, joined, sent, run, word, writes_of, history, StandsFor, May, Valid}
+use Rattle.ft_trace.specs.Traces.{Event, did, forked, joined, sent, run, word, writes_of, history, StandsFor, May, Fits, Valid}
 use Rattle.ft_trace.proofs.Sizes.{set_at}
 use Rattle.ft_trace.proofs.Cases.{hit, off}
 use Rattle.ft_trace.proofs.Addresses.{block_first}
@@ -84,9 +86,9 @@ alters k es valid id v at o low never x in_it of act may = stays k es id v act m
 -- nothing that an even version stands for changes
 pub record Still (k : Shape) (es now : List Event) (o : ℕ) : Type 0 where
   pub picture : picture k o (run k now).words ≡ picture k o (run k es).words
-  pub content : container_after k.kinds (history now) o ≡ container_after k.kinds (history es) o
+  pub content : container_after k.starts (history now) o ≡ container_after k.starts (history es) o
 
-pub still_of : (k : Shape) (es now : List Event) → Valid k es → (o : ℕ) → o < containers_in k → ((x : Word) → Inside k x → Of k es o x → word k now x ≡ word k es x) → container_after k.kinds (history now) o ≡ container_after k.kinds (history es) o → Still k es now o
+pub still_of : (k : Shape) (es now : List Event) → Valid k es → (o : ℕ) → o < containers_in k → ((x : Word) → Inside k x → Of k es o x → word k now x ≡ word k es x) → container_after k.starts (history now) o ≡ container_after k.starts (history es) o → Still k es now o
 still_of k es now valid o low words content = record {
   picture =
       (picture_same k o (run k now).words (run k es).words (λ i small. words (block o i) (low, small) refl)
@@ -94,8 +96,8 @@ still_of k es now valid o low words content = record {
   content = content;
 }
 
-pub content_by : (k : Shape) (es : List Event) (v : View) (o : ℕ) → (is_writing o v.log ≡ true → ⊥) → (a : Act) → May k (run k es) (history es) v a → container_after k.kinds (writes_of a (history es)) o ≡ container_after k.kinds (history es) o
-content_by k es v o never (Commit c r f s) may = untouched k.kinds c (history es) o (λ e. never (subst (λ (z : ℕ). is_writing z v.log ≡ true) e may.1))
+pub content_by : (k : Shape) (es : List Event) (v : View) (o : ℕ) → (is_writing o v.log ≡ true → ⊥) → (a : Act) → May k (run k es) (history es) v a → container_after k.starts (writes_of a (history es)) o ≡ container_after k.starts (history es) o
+content_by k es v o never (Commit c r f s) may = untouched k.starts c (history es) o (λ e. never (subst (λ (z : ℕ). is_writing z v.log ≡ true) e may.1))
 content_by k es v o never act may = refl
 
 -- an action of a pass that does not write o
@@ -125,17 +127,19 @@ pub empty_stands : (texts : List ℕ) (kind : Kind) → Stands texts (record { b
 empty_stands texts kind.Dict = record { head = record { size = refl; root = refl; count_is = refl; fill_is = refl; next_is = refl; spare = (refl, refl) }; used = []; table = refl; filled = refl; entries = record { live = refl; below = λ i _ none. absurd (omega arith) } }
 empty_stands texts kind.Set = record { head = record { size = refl; root = refl; count_is = refl; fill_is = refl; next_is = refl; spare = (refl, refl) }; used = []; table = refl; filled = refl; entries = record { live = refl; below = λ i _ none. absurd (omega arith) } }
 empty_stands texts kind.List = (record { head = record { size = refl; root = refl; count_is = refl; fill_is = refl; next_is = refl; spare = (refl, refl) }; table = refl }, refl)
+empty_stands texts (kind.Deque bound) = (refl, refl, refl)
 
 mapped : {A B : Type 0} (f : A → B) (l : List A) (i : ℕ) (d : A) → slice_index_or (map f l) i (f d) ≡ f (slice_index_or l i d)
 mapped f [] i d = refl
 mapped f (x ∷ xs) zero d = refl
 mapped f (x ∷ xs) (suc i) d = mapped f xs i d
 
-pub opened_kept : (kinds : List Kind) (o : ℕ) → container_after kinds [] o ≡ record { content = empty_content (kind_in kinds o); table = no_table }
-opened_kept kinds o =
-    let c = mapped empty_content kinds o kind.List in
-    let t = mapped (λ (z : Kind). no_table) kinds o kind.List in
-    λ d. record { content = c d; table = t d }
+pub opened_kept : (k : Shape) → Fits k → (o : ℕ) → container_after k.starts [] o ≡ record { content = empty_content (kind_in k.starts o); table = no_table }
+opened_kept k fits o =
+    let c = mapped (λ (start : Start). empty_content start.kind) k.starts o (start_as kind.List) in
+    let t = mapped start_table k.starts o (start_as kind.List) in
+    let none = starts_unsplit k fits o in
+    λ d. record { content = c d; table = (t ∙ (λ e. record { class = None; fill = 0; keys = none e })) d }
 
 pub stands_for : (k : Shape) (es now : List Event) (o : ℕ) → Still k es now o → StandsFor k (run k es) (history es) o → StandsFor k (run k now) (history now) o
 stands_for k es now o same old = subst (λ (z : Picture × ContainerState). Stands k.texts z.0 z.1) (λ i. (sym same.picture i, sym same.content i)) old
@@ -148,7 +152,7 @@ stands k [] valid o low even =
     let b = block_zero k o (run k []).words zeros in
     let none : Picture = record { block = replicate 6 0; table = [] } in
     let p : picture k o (run k []).words ≡ none = λ d. record { block = b d; table = inner k (r d) (run k []).words } in
-    subst (λ (z : Picture × ContainerState). Stands k.texts z.0 z.1) (λ i. (sym p i, sym (opened_kept k.kinds o) i)) (empty_stands k.texts (kind_in k.kinds o))
+    subst (λ (z : Picture × ContainerState). Stands k.texts z.0 z.1) (λ i. (sym p i, sym (opened_kept k valid o) i)) (empty_stands k.texts (kind_in k.starts o))
 stands k (did id v a ∷ es) valid o low even =
     dite (ℕ_discrete (version k es o % 2) 0)
     (λ (was : version k es o % 2 ≡ 0). stands_for k es (did id v a ∷ es) o (still k es (did id v a) valid o low was) (stands k es valid.0 o low was))

@@ -48,7 +48,8 @@ use Rattle.ft_trace.proofs.Tellings.{live_tells, live_is_right, live_below, few_
 use Rattle.ft_trace.proofs.EntryPuts.{value_open, value_kind, value_payload, value_clear, value_late, value_shut, value_time}
 use Rattle.ft_trace.proofs.ListWrites.{may_begin}
 use Rattle.ft_trace.proofs.Naming.{one_locked}
-use Rattle.ft_trace.proofs.KnownContents.{use_of, known_use, known_says, known_shut, in_tables, content_there, table_there, content_left}
+use Rattle.ft_model.proofs.SplitDicts.{unsplit_takes, unsplit_leaves}
+use Rattle.ft_trace.proofs.KnownContents.{use_of, known_use, known_says, known_shut, in_tables, content_there, table_there, keys_there, content_left}
 use Rattle.ft_trace.proofs.WriteFacts.{facts_suffice}
 
 -- ---- laws of tables and of their dicts, as they are cited
@@ -80,12 +81,13 @@ table_version versions walk room texts c is_class used l place x within table =
     let r = (slots_range c is_class).0 in
     subst (λ (z : List ℕ). IsTable walk room texts (class_mask c) used z) (after_header l (layout.entry_at (class_mask c) place 0) (entry_offset (slots c) place 0) x (omega (arith, r))) (versions walk room texts (class_mask c) used (0 ∷ 0 ∷ l) place x within table)
 
-pub version_stands : EntryVersionsChangeNothing → (texts block l : List ℕ) (c fill place x : ℕ) → IsClass c → (d : Content) → IsKeyed (kind_of d) → StandsAs texts block (0 ∷ 0 ∷ l) (record { class = Some c; fill = fill }) d → StandsAs texts block (0 ∷ 0 ∷ slice_set l (entry_offset (slots c) place 0) x) (record { class = Some c; fill = fill }) d
+pub version_stands : EntryVersionsChangeNothing → (texts block l : List ℕ) (c fill place x : ℕ) → IsClass c → (d : Content) → IsKeyed (kind_of d) → StandsAs texts block (0 ∷ 0 ∷ l) (record { class = Some c; fill = fill; keys = [] }) d → StandsAs texts block (0 ∷ 0 ∷ slice_set l (entry_offset (slots c) place 0) x) (record { class = Some c; fill = fill; keys = [] }) d
 version_stands versions texts block l c fill place x is_class (content.Dict pairs) keyed is =
     record { head = is.head; used = is.used; table = table_version versions (λ hash. dict_slots hash (class_mask c) (class_mask c + 14)) (dict_room (class_mask c)) texts c is_class is.used l place x (λ hash. dict_slots-within hash (class_mask c) (class_mask c + 14)) is.table; filled = is.filled; entries = is.entries }
 version_stands versions texts block l c fill place x is_class (content.Set elements) keyed is =
     record { head = is.head; used = is.used; table = table_version versions (λ hash. set_slots hash (class_mask c) (class_mask c + 14)) (set_room (class_mask c)) texts c is_class is.used l place x (λ hash. set_slots-within hash (class_mask c) (class_mask c + 14)) is.table; filled = is.filled; entries = is.entries }
 version_stands versions texts block l c fill place x is_class (content.List values) keyed is = absurd keyed
+version_stands versions texts block l c fill place x is_class (content.Deque deque) keyed is = absurd keyed
 
 -- ---- what words that stand for a dict say under its keys
 
@@ -130,9 +132,9 @@ dict_clear first texts block before c fill more is_class pairs news ws zs says n
 
 -- ---- d[k] = v, in each history that agrees with what a pass with the lock of the dict knows
 
-module _ (v : View) (o : ℕ) (pairs : DictContent) (low : o < containers_in v.shape) (mine : has_lock o v.log ≡ true) (is_dict : (known o v).content ≡ content.Dict pairs) (calls : List Call) (agree : AgreesWith v (stored_newest v.shape.kinds calls)) where
+module _ (v : View) (o : ℕ) (pairs : DictContent) (low : o < containers_in v.shape) (mine : has_lock o v.log ≡ true) (is_dict : (known o v).content ≡ content.Dict pairs) (calls : List Call) (agree : AgreesWith v (stored_newest v.shape.starts calls)) where
   abbrev stored : StoredWorld
-  stored = stored_newest v.shape.kinds calls
+  stored = stored_newest v.shape.starts calls
 
   pub dict_found : dict_at stored.world o ≡ pairs
   dict_found = ap dict_of (content_there v o (content.Dict pairs) low mine is_dict calls agree (content.Dict empty_dict))
@@ -287,15 +289,18 @@ module _ (versions : EntryVersionsChangeNothing) (follow : WordsFollowAValue) (l
 
   -- ---- in each history that agrees with what the pass knows
 
-  module _ (calls : List Call) (agree : AgreesWith v (stored_newest k.kinds calls)) where
+  module _ (calls : List Call) (agree : AgreesWith v (stored_newest k.starts calls)) where
     abbrev found : StoredWorld
-    found = stored_newest k.kinds calls
+    found = stored_newest k.starts calls
 
     abbrev left : List Content
     left = after_write found.world called
 
     abbrev T : TableUse
     T = table_at found.tables o
+
+    no_keys : T.keys ≡ []
+    no_keys = keys_there v o (content.Dict pairs) may.low may.mine is_dict calls agree may.possible
 
     left_is : dict_at left o ≡ news
     left_is = dict_left v o pairs may.low may.mine is_dict calls agree key value
@@ -309,16 +314,19 @@ module _ (versions : EntryVersionsChangeNothing) (follow : WordsFollowAValue) (l
         omega (arith, a, e, same)
 
     takes_none : takes_in found called ≡ None
-    takes_none = ap (λ (z : ℕ). if outgrows_dict T z then Some (dict_class (length (dict_at left o).pairs)) else None) none_drawn
+    takes_none =
+        unsplit_takes T (dict.Set key value) (dict_at found.world o) (dict_at left o) no_keys
+        ∙ ap (λ (z : ℕ). if outgrows_dict T z then Some (dict_class (length (dict_at left o).pairs)) else None) none_drawn
 
     table_after : table_at (after_stored found called).tables o ≡ use_of t fill
     table_after =
         let drawn = (dict_at left o).next - (dict_at found.world o).next in
         let count = length (dict_at left o).pairs in
         let fill_is : T.fill + drawn ≡ T.fill = let e = none_drawn in omega (arith, e) in
-        get_or-set_same found.tables o (grown_table T (takes_in found called) drawn count) no_table (in_tables v o (content.Dict pairs) may.low may.mine is_dict calls agree)
+        ap (λ (z : List TableUse). table_at z o) (unsplit_leaves found.tables o (dict.Set key value) (dict_at found.world o) (dict_at left o) (takes_in found called) no_keys)
+        ∙ (get_or-set_same found.tables o (grown_table T (takes_in found called) drawn count) no_table (in_tables v o (content.Dict pairs) may.low may.mine is_dict calls agree)
         ∙ (ap (λ (z : Option ℕ). grown_table T z drawn count) takes_none
-        ∙ ((λ d. record { class = T.class; fill = fill_is d }) ∙ (table_there v o (content.Dict pairs) may.low may.mine is_dict calls agree ∙ known_use v o t (content.Dict pairs) may is_dict names)))
+        ∙ ((λ d. record { class = T.class; fill = fill_is d; keys = T.keys }) ∙ (table_there v o (content.Dict pairs) may.low may.mine is_dict calls agree ∙ known_use v o t (content.Dict pairs) may is_dict names))))
 
   pub value_possible : (start number : ℕ) × (s : Snap) × (stop : ℕ) × Possible (after_write_of v o t write start number s stop)
   value_possible =

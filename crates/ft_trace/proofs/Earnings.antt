@@ -32,7 +32,7 @@ use Rattle.ft_trace.proofs.RisingStamps.{empty_earned}
 use Rattle.ft_trace.proofs.Stamps.{writes_stay, all_writes}
 
 -- a reply that is no MemoryError
-plain_earned : (k : Shape) (cs : List Call) (called : Call) (said : Reply) → is_memory said ≡ false → would_pass (stored_newest k.kinds cs).world called ≡ false → IsEarnedSo k cs called said
+plain_earned : (k : Shape) (cs : List Call) (called : Call) (said : Reply) → is_memory said ≡ false → would_pass (stored_newest k.starts cs).world called ≡ false → IsEarnedSo k cs called said
 plain_earned k cs called (reply.Raised (raise.Memory class)) plain short = absurd (true≢false plain)
 plain_earned k cs called (reply.Raised raise.Over) plain short = absurd (true≢false plain)
 plain_earned k cs called (reply.Raised raise.Heap) plain short = absurd (true≢false plain)
@@ -48,7 +48,7 @@ no_memory called (reply.Raised raised) wrote = absurd (true≢false (sym wrote �
 no_memory called said wrote = refl
 
 -- a cause that a log shows
-cause_earned : (k : Shape) (es : List Event) → Valid k es → (id : ℕ) (v : View) → get_elem? (run k es).views id ≡ some v → (called : Call) (said : Reply) (n : ℕ) → HasCause (stored_newest k.kinds (first_writes n (history es))) v.log called said n → IsEarnedSo k (first_writes n (history es)) called said
+cause_earned : (k : Shape) (es : List Event) → Valid k es → (id : ℕ) (v : View) → get_elem? (run k es).views id ≡ some v → (called : Call) (said : Reply) (n : ℕ) → HasCause (stored_newest k.starts (first_writes n (history es))) v.log called said n → IsEarnedSo k (first_writes n (history es)) called said
 cause_earned k es valid id v at called (reply.Raised (raise.Memory class)) n cause =
     let f = cause.3 in
     let w = was k es valid id v at f.newer (ReadCounter n) (f.mid ++ ReadCount class 0 ∷ f.rest) f.is in
@@ -67,10 +67,10 @@ earned_next k es valid id v at (Commit c r f s) found may fs all =
 earned_next k es valid id v at (Answer c r n) found may fs all = (cause_earned k es valid id v at c r n may.4, all)
 earned_next k es valid id v at (AnswerCursor c r n m had left) found may fs all =
     let cs = first_writes n (history es) in
-    (plain_earned k cs c r (moved_plain (stored_newest k.kinds cs).world c m may.0 had r left may.2) (moved_short (stored_newest k.kinds cs).world c m may.0), all)
+    (plain_earned k cs c r (moved_plain (stored_newest k.starts cs).world c m may.0 had r left may.2) (moved_short (stored_newest k.starts cs).world c m may.0), all)
 earned_next k es valid id v at act found may fs all = all
 
-earned_stays : (k : Shape) (b : Act) (cs : List Call) (fs : List Entry) → AllRight k.kinds cs fs → AllEarned k cs fs → AllEarned k (writes_of b cs) fs
+earned_stays : (k : Shape) (b : Act) (cs : List Call) (fs : List Entry) → AllRight k.starts cs fs → AllEarned k cs fs → AllEarned k (writes_of b cs) fs
 earned_stays k b cs [] right all = tt
 earned_stays k b cs (e ∷ fs) right all = (subst (λ (l : List Call). IsEarnedSo k l e.call e.reply) (sym (writes_stay e.stamp b cs right.0.low)) all.0, earned_stays k b cs fs right.1 all.1)
 

@@ -27,7 +27,7 @@ use Rattle.ft_trace.specs.EntryWrites.{entry_closed}
 use Rattle.ft_trace.specs.DeleteWrites.{delete_puts}
 use Rattle.ft_trace.proofs.ByKind.{keyed_fit}
 use Rattle.ft_trace.proofs.Known.{in_bank, table_is_long}
-use Rattle.ft_trace.proofs.KnownContents.{use_of, known_use, known_shut, table_there}
+use Rattle.ft_trace.proofs.KnownContents.{use_of, known_use, known_shut, table_there, keys_there}
 use Rattle.ft_trace.proofs.KeyedWrites.{versions_lie, clear_keyed, keyed_put}
 use Rattle.ft_trace.proofs.EntryPuts.{dead_open, dead_kind, dead_same, dead_late, dead_shut, dead_is}
 use Rattle.ft_trace.proofs.ListWrites.{may_begin}
@@ -92,8 +92,8 @@ module _ (versions : EntryVersionsChangeNothing) (v : View) (o t p count : ℕ) 
 
   module _ (now : StandsAs v.shape.texts block (0 ∷ 0 ∷ put) (use_of t fill) news) (gone : (a : Key) → (key_kind a ≡ key_kind key) × (key_payload a ≡ key_payload key) → under news a ≡ [])
       (clears : ((q w : ℕ) → q < m → entry_field n put q 0 % 2 ≡ 0 → w < 8 → entry_field n put q w ≡ entry_field n ws q w) → Clear (walk_of kind v.shape.texts c) n m put (under x) (under news)) (facts : CallFacts v o kind called reply.Done)
-      (answered : (calls : List Call) → AgreesWith v (stored_newest v.shape.kinds calls) → answer (stored_newest v.shape.kinds calls).world no_hands called ≡ puts (stored_newest v.shape.kinds calls).world no_hands o news reply.Done)
-      (stays : (stored : StoredWorld) → (would_pass stored.world called ≡ false) × (table_at (after_stored stored called).tables o ≡ table_at stored.tables o)) where
+      (answered : (calls : List Call) → AgreesWith v (stored_newest v.shape.starts calls) → answer (stored_newest v.shape.starts calls).world no_hands called ≡ puts (stored_newest v.shape.starts calls).world no_hands o news reply.Done)
+      (stays : (stored : StoredWorld) → (table_at stored.tables o).keys ≡ [] → (would_pass stored.world called ≡ false) × (table_at (after_stored stored called).tables o ≡ table_at stored.tables o)) where
     late : MayPuts kind t news true (at_commit v o write) (entry_closed n ws p)
     late =
         let e = even in
@@ -114,8 +114,8 @@ module _ (versions : EntryVersionsChangeNothing) (v : View) (o t p count : ℕ) 
           shut = subst (λ (at : ℕ → ℕ). Shut at m (at_end v o write).table) (versions_lie kind keyed c) (dead_shut n m ws p key low long even live shut);
           history = λ calls agree. record {
             answered = answered calls agree;
-            table_after = (stays (stored_newest v.shape.kinds calls)).1 ∙ (table_there v o x may.low may.mine is calls agree ∙ known_use v o t x may is names);
-            within = (stays (stored_newest v.shape.kinds calls)).0;
+            table_after = (stays (stored_newest v.shape.starts calls) (keys_there v o x may.low may.mine is calls agree may.possible)).1 ∙ (table_there v o x may.low may.mine is calls agree ∙ known_use v o t x may is names);
+            within = (stays (stored_newest v.shape.starts calls) (keys_there v o x may.low may.mine is calls agree may.possible)).0;
             takes = λ class e. absurd (let none = may.none in omega (arith, e, none));
           };
         })

@@ -79,7 +79,7 @@ module _ (versions : EntryVersionsChangeNothing) (v : View) (o t p count next : 
   -- what the words of the new table say, and what is under keys before and after
   module _ (words : StandsAs v.shape.texts block (0 ∷ 0 ∷ zs) (use_of t count) news) (size_is : length block ≡ 6) (right : (q : ℕ) (a : Key) → q < m → HasLiveKey n zs q a → under news a ≡ said_of n zs q) (names_keys : (s q : ℕ) → s < n → index_field zs s ≡ suc q → entry_field n zs q 2 ≢ 0)
       (reached : (a : Key) → FitsKey a → under news a ≢ [] → Reached n m zs (walk_of kind v.shape.texts c a) a) (apart : (q : ℕ) (a : Key) → q < m → q ≢ p → HasLiveKey n zs q a → is_key key a ≡ true → ⊥) (other : (a : Key) → is_key key a ≡ false → under news a ≡ under x a) (there_still : (a : Key) → under x a ≢ [] → under news a ≢ [])
-      (facts : CallFacts v o kind called reply.Done) (history : (calls : List Call) → AgreesWith v (stored_newest v.shape.kinds calls) → PutsContent v o news (use_of t count) write (stored_newest v.shape.kinds calls)) where
+      (facts : CallFacts v o kind called reply.Done) (history : (calls : List Call) → AgreesWith v (stored_newest v.shape.starts calls) → PutsContent v o news (use_of t count) write (stored_newest v.shape.starts calls)) where
     -- another entry that is live is of another key
     others_stay : (q : ℕ) (a : Key) → q < m → entry_field n zs q 0 % 2 ≡ 0 → HasLiveKey n zs q a → under news a ≡ under x a
     others_stay q a less two l =

@@ -32,8 +32,8 @@ ShutAt k es o t = ShutFor k (run k es).words o t
 abbrev pub Evens : Shape → List Event → ℕ → Type 0
 Evens k es t = age es t % 5 ≡ 2 → version k es (whose es t) % 2 ≡ 0 → ShutAt k es (whose es t) t
 
-shut_same : (k : Shape) (o t : ℕ) (ws zs : List ℕ) → zs ≡ ws → Shut (version_at (kind_in k.kinds o) (class_of t)) (rows (kind_in k.kinds o) (class_of t)) ws → Shut (version_at (kind_in k.kinds o) (class_of t)) (rows (kind_in k.kinds o) (class_of t)) zs
-shut_same k o t ws zs e h = subst (Shut (version_at (kind_in k.kinds o) (class_of t)) (rows (kind_in k.kinds o) (class_of t))) (sym e) h
+shut_same : (k : Shape) (o t : ℕ) (ws zs : List ℕ) → zs ≡ ws → Shut (version_at (kind_in k.starts o) (class_of t)) (rows (kind_in k.starts o) (class_of t)) ws → Shut (version_at (kind_in k.starts o) (class_of t)) (rows (kind_in k.starts o) (class_of t)) zs
+shut_same k o t ws zs e h = subst (Shut (version_at (kind_in k.starts o) (class_of t)) (rows (kind_in k.starts o) (class_of t))) (sym e) h
 
 -- an action that leaves the words of t
 pub left_alone : (k : Shape) (es : List Event) (id : ℕ) (v : View) (t : ℕ) (table : IsTableName k t) (a : Act) → May k (run k es) (history es) v a → ((i : ℕ) → place a ≢ cell t i) → tab k (did id v a ∷ es) t ≡ tab k es t

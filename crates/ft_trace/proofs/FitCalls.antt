@@ -1,6 +1,6 @@
 -- Calls whose keys and values words can represent leave contents whose keys and values words can represent.
-use Rattle.std.proofs.Common.{◌≡◌, ℕ, suc, zero, ◌+◌, ◌-◌, Bool, true, false, not, List, [], ◌∷◌, ◌++◌, length, map, take, drop, reverse, get_or, set, Option, Some, None, sym, ap, subst}
-use Rattle.std.specs.Prelude.{All, IfSome, nat_lt, negsuc, slice_get, slice_set, remove, if◌then◌else◌}
+use Rattle.std.proofs.Common.{◌≡◌, ℕ, suc, zero, ◌+◌, ◌-◌, ◌%◌, Bool, true, false, not, List, [], ◌∷◌, ◌++◌, length, map, take, drop, reverse, get_or, set, Option, Some, None, sym, ap, subst}
+use Rattle.std.specs.Prelude.{All, IfSome, ◌==◌, nat_le, nat_lt, ℤ, pos, negsuc, slice_get, slice_set, remove, if◌then◌else◌}
 use Rattle.std.specs.Option.{option_map_or, unwrap_or}
 use mathlib.Core.List.{reverse-cons}
 use Rattle.std.proofs.lemmas.List.Elements.{All-nil, All-cons, All-head, All-tail, All-append, All-set, All-push, All-weaker, All-take, All-drop, All-map, All-filter}
@@ -14,17 +14,21 @@ use Rattle.ft_model.specs.declared.call.ListCall.{ListCall}
 use Rattle.ft_model.specs.declared.call.ListCall.TheVariants as list
 use Rattle.ft_model.specs.declared.call.SetCall.{SetCall}
 use Rattle.ft_model.specs.declared.call.SetCall.TheVariants as set_call
+use Rattle.ft_model.specs.declared.call.DequeCall.{DequeCall}
+use Rattle.ft_model.specs.declared.call.DequeCall.TheVariants as deque
 use Rattle.ft_model.specs.declared.content.Content.{Content}
 use Rattle.ft_model.specs.declared.content.Content.TheVariants as content
 use Rattle.ft_model.specs.declared.content.DictPair.{DictPair}
 use Rattle.ft_model.specs.declared.content.Element.{Element}
 use Rattle.ft_model.specs.declared.script.Kind.{Kind}
 use Rattle.ft_model.specs.declared.script.Kind.TheVariants as kind
+use Rattle.ft_model.specs.declared.script.Start.{Start}
 use Rattle.ft_model.specs.Keys.{same_key}
 use Rattle.ft_model.specs.Contents.{DictContent, SetContent, empty_dict, empty_set, is_at, dict_get, has_key, dict_set, dict_update, with_value, pairs_from, has_element, those_not_in, elements_from}
+use Rattle.ft_model.specs.Deques.{empty_deque, right_within, left_within, rotated, with_deque_items, last_item, first_item, deque_get}
 use Rattle.ft_model.specs.Lists.{index_in, index_of, clamped_in}
-use Rattle.ft_model.specs.Worlds.{WorldContent, HandsContent, cursor_at, dict_of, list_of, set_of, dict_at, list_at, set_at, no_hands, empty_content}
-use Rattle.ft_model.specs.Answers.{Answer, answer_dict, answer_list, answer_set, answer}
+use Rattle.ft_model.specs.Worlds.{WorldContent, HandsContent, cursor_at, dict_of, list_of, set_of, deque_of, dict_at, list_at, set_at, deque_at, no_hands, empty_content}
+use Rattle.ft_model.specs.Answers.{Answer, answer_dict, answer_list, answer_set, answer_deque, answer}
 use Rattle.ft_model.specs.TableUses.{stored_newest}
 use Rattle.ft_layout.specs.declared.slot.Stored.{Stored}
 use Rattle.ft_layout.specs.Words.{FitsKey, FitsStored, IsEntry}
@@ -34,7 +38,7 @@ use Rattle.ft_trace.specs.declared.Shape.{Shape}
 use Rattle.ft_trace.specs.declared.View.{View}
 use Rattle.ft_trace.specs.declared.Act.{Act}
 use Rattle.ft_trace.specs.declared.Act.TheVariants.{Commit}
-use Rattle.ft_trace.specs.FitCalls.{FitsValue, FitsCall, FitsDictCall, FitsListCall, FitsSetCall, FitsContent}
+use Rattle.ft_trace.specs.FitCalls.{FitsValue, FitsCall, FitsDictCall, FitsListCall, FitsSetCall, FitsDequeCall, FitsContent}
 use Rattle.ft_trace.specs.ContainerStates.{first_writes}
 use Rattle.ft_trace.specs.Traces.{Event, did, forked, joined, sent, run, writes_of, history, May, Valid}
 
@@ -55,16 +59,19 @@ of_dict : (there : Content) → FitsContent there → All FitsPair (dict_of ther
 of_dict (content.Dict dict) fits = fits
 of_dict (content.List items) fits = All-nil FitsPair
 of_dict (content.Set set) fits = All-nil FitsPair
+of_dict (content.Deque deque) fits = All-nil FitsPair
 
 of_list : (there : Content) → FitsContent there → All FitsValue (list_of there)
 of_list (content.Dict dict) fits = All-nil FitsValue
 of_list (content.List items) fits = fits
 of_list (content.Set set) fits = All-nil FitsValue
+of_list (content.Deque deque) fits = All-nil FitsValue
 
 of_set : (there : Content) → FitsContent there → All FitsElement (set_of there).elements
 of_set (content.Dict dict) fits = All-nil FitsElement
 of_set (content.List items) fits = All-nil FitsElement
 of_set (content.Set set) fits = fits
+of_set (content.Deque deque) fits = All-nil FitsElement
 
 -- ---- lists
 
@@ -99,6 +106,28 @@ elements_fit next (element ∷ elements) each = All-cons FitsElement (record ele
 joined_fits : (front others some : List Element) (next : ℕ) → All FitsElement front → All FitsElement others → All FitsElement (front ++ elements_from next (those_not_in some others))
 joined_fits front others some next one more = All-append FitsElement front (elements_from next (those_not_in some others)) one (elements_fit next (those_not_in some others) (All-filter (λ element. not (has_element some element.key)) FitsElement others more))
 
+of_deque : (there : Content) → FitsContent there → All FitsValue (deque_of there).items
+of_deque (content.Dict dict) fits = All-nil FitsValue
+of_deque (content.List items) fits = All-nil FitsValue
+of_deque (content.Set set) fits = All-nil FitsValue
+of_deque (content.Deque deque) fits = fits
+
+-- those that a bound leaves, and those that were rotated
+right_fits : (bound : Option ℕ) (items : List Value) → All FitsValue items → All FitsValue (right_within bound items)
+right_fits None items fits = fits
+right_fits (Some most) items fits = All-drop FitsValue (length items - most) items fits
+
+left_fits : (bound : Option ℕ) (items : List Value) → All FitsValue items → All FitsValue (left_within bound items)
+left_fits None items fits = fits
+left_fits (Some most) items fits = All-take FitsValue most items fits
+
+turned_fits : (items : List Value) (n : ℕ) → All FitsValue items → All FitsValue (drop n items ++ take n items)
+turned_fits items n fits = All-append FitsValue (drop n items) (take n items) (All-drop FitsValue n items fits) (All-take FitsValue n items fits)
+
+rotated_fits : (items : List Value) (steps : ℤ) → All FitsValue items → All FitsValue (rotated items steps)
+rotated_fits items (pos steps) fits = turned_fits items (length items - steps % length items) fits
+rotated_fits items (negsuc below) fits = turned_fits items (suc below % length items) fits
+
 -- ---- one call
 
 found : (R : Answer → Type 0) {X : Type 0} (f : X → Answer) (o : Option X) (none : Answer) → ((x : X) → R (f x)) → R none → R (option_map_or f o none)
@@ -117,6 +146,9 @@ module _ (world : WorldContent) (each : All FitsContent world) where
 
   elements_fits : (place : ℕ) → All FitsElement (set_at world place).elements
   elements_fits place = of_set _ (at_or FitsContent world place (content.Set empty_set) (All-nil FitsElement) each)
+
+  items_fit : (place : ℕ) → All FitsValue (deque_at world place).items
+  items_fit place = of_deque _ (at_or FitsContent world place (content.Deque (empty_deque None)) (All-nil FitsValue) each)
 
   put_fits : (place : ℕ) (there : Content) → FitsContent there → All FitsContent (slice_set world place there)
   put_fits place there fits = All-set FitsContent world place there fits each
@@ -141,6 +173,12 @@ module _ (world : WorldContent) (each : All FitsContent world) where
   by_dict hands place (dict.CopyTo other) fits = put_fits other _ (pairs_fit (dict_at world other).next (dict_at world place).pairs (dict_fits place))
   by_dict hands place (dict.Eq other) fits = each
   by_dict hands place (dict.Iter cursor) fits = each
+  by_dict hands place (dict.KeysAnd other) fits = each
+  by_dict hands place (dict.KeysSub other) fits = each
+  by_dict hands place (dict.KeysOr other) fits = each
+  by_dict hands place (dict.KeysXor other) fits = each
+  by_dict hands place (dict.ItemsHas key value) fits = each
+  by_dict hands place (dict.Reversed cursor) fits = each
 
   by_list : (hands : HandsContent) (place : ℕ) (c : ListCall) → FitsListCall c → Left (answer_list world hands place (list_at world place) c)
   by_list hands place (list.Append value) fits = put_fits place _ (All-push FitsValue (list_at world place) value (list_fits place) fits)
@@ -164,6 +202,7 @@ module _ (world : WorldContent) (each : All FitsContent world) where
   by_list hands place list.Items fits = each
   by_list hands place (list.Eq other) fits = each
   by_list hands place (list.Iter cursor) fits = each
+  by_list hands place (list.Reversed cursor) fits = each
 
   by_set : (hands : HandsContent) (place : ℕ) (c : SetCall) → FitsSetCall c → Left (answer_set world hands place (set_at world place) c)
   by_set hands place (set_call.Add key) fits = put_fits place _ (pick (λ (z : SetContent). All FitsElement z.elements) (has_element (set_at world place).elements key) _ _ (elements_fits place) (All-push FitsElement (set_at world place).elements (record { serial = (set_at world place).next; key = key }) (elements_fits place) fits))
@@ -183,14 +222,36 @@ module _ (world : WorldContent) (each : All FitsContent world) where
   by_set hands place set_call.Clear fits = put_fits place _ (All-nil FitsElement)
   by_set hands place (set_call.Iter cursor) fits = each
 
+  deque_fits : (place : ℕ) (stays_so : Bool) (items : List Value) → All FitsValue items → All FitsContent (slice_set world place (content.Deque (if stays_so then deque_at world place else with_deque_items (deque_at world place) items)))
+  deque_fits place true items fits = put_fits place _ (items_fit place)
+  deque_fits place false items fits = put_fits place _ fits
+
+  by_deque : (hands : HandsContent) (place : ℕ) (c : DequeCall) → FitsDequeCall c → Left (answer_deque world hands place (deque_at world place) c)
+  by_deque hands place (deque.Append value) fits = put_fits place _ (right_fits (deque_at world place).bound _ (All-push FitsValue (deque_at world place).items value (items_fit place) fits))
+  by_deque hands place (deque.AppendLeft value) fits = put_fits place _ (left_fits (deque_at world place).bound _ (All-cons FitsValue value (deque_at world place).items fits (items_fit place)))
+  by_deque hands place deque.Pop fits = found Left _ (last_item (deque_at world place).items) _ (λ v. put_fits place _ (All-take FitsValue (length (deque_at world place).items - 1) (deque_at world place).items (items_fit place))) each
+  by_deque hands place deque.PopLeft fits = found Left _ (first_item (deque_at world place).items) _ (λ v. put_fits place _ (All-drop FitsValue 1 (deque_at world place).items (items_fit place))) each
+  by_deque hands place (deque.Extend other) fits = deque_fits place (length (deque_at world other).items == 0) _ (right_fits (deque_at world place).bound _ (All-append FitsValue (deque_at world place).items (deque_at world other).items (items_fit place) (items_fit other)))
+  by_deque hands place (deque.ExtendLeft other) fits = deque_fits place (length (deque_at world other).items == 0) _ (left_fits (deque_at world place).bound _ (All-append FitsValue (reverse (deque_at world other).items) (deque_at world place).items (reversed FitsValue (deque_at world other).items (items_fit other)) (items_fit place)))
+  by_deque hands place (deque.Rotate steps) fits = deque_fits place (nat_le (length (deque_at world place).items) 1) _ (rotated_fits (deque_at world place).items steps (items_fit place))
+  by_deque hands place deque.Clear fits = deque_fits place (length (deque_at world place).items == 0) [] (All-nil FitsValue)
+  by_deque hands place (deque.Get index) fits = found Left _ (deque_get (deque_at world place).items index) _ (λ v. each) each
+  by_deque hands place deque.Len fits = each
+  by_deque hands place deque.Items fits = each
+  by_deque hands place (deque.Has value) fits = each
+  by_deque hands place (deque.Iter cursor) fits = each
+
   by_call : (hands : HandsContent) (called : Call) → FitsCall called → Left (answer world hands called)
   by_call hands (call.Dict place c) fits = by_dict hands place c fits
   by_call hands (call.List place c) fits = by_list hands place c fits
   by_call hands (call.Set place c) fits = by_set hands place c fits
+  by_call hands (call.Deque place c) fits = by_deque hands place c fits
   by_call hands (call.Next number) fits = found Left _ (cursor_at hands number) _ (λ cursor. each) each
   by_call hands (call.Begin first second) fits = each
   by_call hands call.End fits = each
   by_call hands call.Quiesce fits = each
+  by_call hands (call.Await thread index) fits = each
+  by_call hands call.Dump fits = each
 
 -- ---- many calls
 
@@ -198,10 +259,11 @@ empty_fits : (kind : Kind) → FitsContent (empty_content kind)
 empty_fits kind.Dict = All-nil FitsPair
 empty_fits kind.List = All-nil FitsValue
 empty_fits kind.Set = All-nil FitsElement
+empty_fits (kind.Deque bound) = All-nil FitsValue
 
-stored_fits : (kinds : List Kind) (calls : List Call) → All FitsCall calls → All FitsContent (stored_newest kinds calls).world
-stored_fits kinds [] fits = All-map FitsContent empty_content kinds (λ k d low. empty_fits (get_or kinds k d))
-stored_fits kinds (called ∷ calls) fits = by_call (stored_newest kinds calls).world (stored_fits kinds calls (All-tail FitsCall called calls fits)) no_hands called (All-head FitsCall called calls fits)
+stored_fits : (starts : List Start) (calls : List Call) → All FitsCall calls → All FitsContent (stored_newest starts calls).world
+stored_fits starts [] fits = All-map FitsContent (λ (start : Start). empty_content start.kind) starts (λ k d low. empty_fits (get_or starts k d).kind)
+stored_fits starts (called ∷ calls) fits = by_call (stored_newest starts calls).world (stored_fits starts calls (All-tail FitsCall called calls fits)) no_hands called (All-head FitsCall called calls fits)
 
 first_fit : (n : ℕ) (calls : List Call) → All FitsCall calls → All FitsCall (first_writes n calls)
 first_fit n [] fits = fits
@@ -255,8 +317,8 @@ calls_fit k (forked id v ∷ es) valid = calls_fit k es valid.0
 calls_fit k (sent id v given ∷ es) valid = calls_fit k es valid.0
 calls_fit k (joined id v other w ∷ es) valid = calls_fit k es valid.0
 
-pub contents_fit : (k : Shape) (es : List Event) → Valid k es → All FitsContent (stored_newest k.kinds (history es)).world
-contents_fit k es valid = stored_fits k.kinds (history es) (calls_fit k es valid)
+pub contents_fit : (k : Shape) (es : List Event) → Valid k es → All FitsContent (stored_newest k.starts (history es)).world
+contents_fit k es valid = stored_fits k.starts (history es) (calls_fit k es valid)
 
-pub contents_fit_at : (k : Shape) (es : List Event) → Valid k es → (n : ℕ) → All FitsContent (stored_newest k.kinds (first_writes n (history es))).world
-contents_fit_at k es valid n = stored_fits k.kinds (first_writes n (history es)) (first_fit n (history es) (calls_fit k es valid))
+pub contents_fit_at : (k : Shape) (es : List Event) → Valid k es → (n : ℕ) → All FitsContent (stored_newest k.starts (first_writes n (history es))).world
+contents_fit_at k es valid n = stored_fits k.starts (first_writes n (history es)) (first_fit n (history es) (calls_fit k es valid))

@@ -1,5 +1,5 @@
 -- Whoever was found with a lock had taken it.
-use Rattle.std.proofs.Common.{◌≡◌, ◌≢◌, ℕ, zero, suc, eqb, eq-eqb, ne_eqb, ◌<◌, ◌⊎◌, Bool, true, false, cond, List, [], ◌∷◌, ◌++◌, set, inl, inr, ⊎_elim, refl, sym, ap, ◌∙◌, subst}
+use Rattle.std.proofs.Common.{◌≡◌, ◌≢◌, ℕ, eqb, ◌<◌, true, List, [], ◌∷◌, ◌++◌, set, ⊎_elim, sym, ap, ◌∙◌, subst}
 use Rattle.std.proofs.lemmas.Bool.{eqb-true}
 use mathlib.Core.Option.{some, some-injective}
 use mathlib.Core.Logic.{dite}
@@ -7,12 +7,12 @@ use native.Mathlib.Decide.{ℕ_discrete}
 use lib.ListN.{get_elem?}
 use Rattle.atomic_table.proofs.Lists.{set_else, at_longer}
 use Rattle.ft_trace.specs.declared.Act.{Act}
-use Rattle.ft_trace.specs.declared.Act.TheVariants.{Lock, Unlock, TookOver}
+use Rattle.ft_trace.specs.declared.Act.TheVariants.{Lock, TookOver}
 use Rattle.ft_trace.specs.declared.Owner.{Owner}
 use Rattle.ft_trace.specs.declared.Shape.{Shape}
 use Rattle.ft_trace.specs.declared.View.{View}
 use Rattle.ft_trace.specs.Addresses.{lock_of, containers_in}
-use Rattle.ft_trace.specs.Acts.{place, Reports, has_lock, has_lock_next, starter, noted, maker, made, both, spent, sender, note}
+use Rattle.ft_trace.specs.Acts.{place, Reports, starter, noted, maker, made, both, spent, sender, note}
 use Rattle.ft_trace.specs.TraceLaws.{FoundOwnersHadLocks, OneKnowsAllOwners}
 use Rattle.ft_trace.specs.Owners.{is_owner_in, had_locks, found_owners, found_owners_next}
 use Rattle.ft_trace.specs.Traces.{Event, did, forked, joined, sent, run, word, history, May, Valid}

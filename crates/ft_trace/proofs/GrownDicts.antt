@@ -32,7 +32,8 @@ use Rattle.ft_trace.proofs.FitCalls.{dict_fits_words, set_fit}
 use Rattle.ft_trace.proofs.Tellings.{other_key}
 use Rattle.ft_trace.proofs.DictWrites.{EntryVersionsChangeNothing, FirstEntriesArePairs, room_is, dict_right, dict_reached, dict_named, dict_short, dict_found, dict_answered, dict_left, dict_passes_not}
 use Rattle.ft_trace.proofs.Naming.{one_locked}
-use Rattle.ft_trace.proofs.KnownContents.{in_tables, table_there}
+use Rattle.ft_model.proofs.SplitDicts.{unsplit_takes, unsplit_leaves}
+use Rattle.ft_trace.proofs.KnownContents.{in_tables, table_there, keys_there}
 use Rattle.ft_trace.proofs.EntryGrows.{grow_possible}
 
 -- ---- what is under a key of a dict with one more pair
@@ -109,9 +110,9 @@ module _ (versions : EntryVersionsChangeNothing) (first : FirstEntriesArePairs) 
 
   -- ---- in each history that agrees with what the pass knows
 
-  module _ (calls : List Call) (agree : AgreesWith v (stored_newest k.kinds calls)) where
+  module _ (calls : List Call) (agree : AgreesWith v (stored_newest k.starts calls)) where
     abbrev found : StoredWorld
-    found = stored_newest k.kinds calls
+    found = stored_newest k.starts calls
 
     abbrev left : List Content
     left = after_write found.world called
@@ -119,21 +120,25 @@ module _ (versions : EntryVersionsChangeNothing) (first : FirstEntriesArePairs) 
     abbrev T : TableUse
     T = table_at found.tables o
 
+    no_keys : T.keys ≡ []
+    no_keys = keys_there v o (content.Dict pairs) begin.low begin.mine is_dict calls agree begin.possible
+
     takes_one : takes_in found called ≡ Some c
     takes_one =
         let a = table_there v o (content.Dict pairs) begin.low begin.mine is_dict calls agree in
         let b = dict_found v o pairs begin.low begin.mine is_dict calls agree in
         let d = dict_left v o pairs begin.low begin.mine is_dict calls agree key value in
-        (λ i. dict_takes (a i) (b i) (d i)) ∙ has.takes
+        unsplit_takes T (dict.Set key value) (dict_at found.world o) (dict_at left o) no_keys ∙ ((λ i. dict_takes (a i) (b i) (d i)) ∙ has.takes)
 
-    table_after : table_at (after_stored found called).tables o ≡ record { class = Some c; fill = fill }
+    table_after : table_at (after_stored found called).tables o ≡ record { class = Some c; fill = fill; keys = [] }
     table_after =
         let drawn = (dict_at left o).next - (dict_at found.world o).next in
         let count = length (dict_at left o).pairs in
         let count_is : count ≡ fill = ap (λ (d : DictContent). length d.pairs) (dict_left v o pairs begin.low begin.mine is_dict calls agree key value) ∙ added_length pairs key value has.missing in
-        get_or-set_same found.tables o (grown_table T (takes_in found called) drawn count) no_table (in_tables v o (content.Dict pairs) begin.low begin.mine is_dict calls agree)
+        ap (λ (z : List TableUse). table_at z o) (unsplit_leaves found.tables o (dict.Set key value) (dict_at found.world o) (dict_at left o) (takes_in found called) no_keys)
+        ∙ (get_or-set_same found.tables o (grown_table T (takes_in found called) drawn count) no_table (in_tables v o (content.Dict pairs) begin.low begin.mine is_dict calls agree)
         ∙ (ap (λ (z : Option ℕ). grown_table T z drawn count) takes_one
-        ∙ ap (λ (z : ℕ). taken c z) count_is)
+        ∙ ap (λ (z : ℕ). taken c z) count_is))
 
   pub dict_grow_possible : (start number : ℕ) × (s : Snap) × (stop : ℕ) × Possible (after_write_of v o t write start number s stop)
   dict_grow_possible =

@@ -23,11 +23,11 @@ words_known v o low mine es id knows =
     picture_same k o (mem k v.log) (run k es).words (λ i small. im.words (block o i) (low, small) mine)
     (λ t names. table_same k t (mem k v.log) (run k es).words (λ i small. im.words (cell t i) (root_table k es knows.0 o low t names, small) (inr (o, low, mine, names))))
 
-pub content_known : (v : View) (o : ℕ) → has_lock o v.log ≡ true → Sure v (λ es. known o v ≡ container_after v.shape.kinds (history es) o)
+pub content_known : (v : View) (o : ℕ) → has_lock o v.log ≡ true → Sure v (λ es. known o v ≡ container_after v.shape.starts (history es) o)
 content_known v o mine es id knows = (imaged v.shape es knows.0 id v knows.1).content o mine
 
 -- what is stored has what the pass knows
-pub agrees_now : (v : View) → Sure v (λ es. AgreesWith v (stored_newest v.shape.kinds (history es)))
+pub agrees_now : (v : View) → Sure v (λ es. AgreesWith v (stored_newest v.shape.starts (history es)))
 agrees_now v es id knows p low mine = sym (content_known v p mine es id knows)
 
 -- and those of a table that is fresh in hand
@@ -64,14 +64,14 @@ module _ (v : View) (o : ℕ) (low : o < containers_in v.shape) where
       let there = sym (root_known mine es id knows) ∙ names in
       (ap (λ (x : Picture). x.table) p ∙ by_inner (root_of v.shape o (run v.shape es).words) (run v.shape es).words t there, there)
 
-  pub put_sure : (t i x : ℕ) → has_lock o v.log ≡ true → root_in (held o v) ≡ suc t → CarefulAs (kind_in v.shape.kinds o) (class_of t) (held o v).table (known o v).content i x → Sure v (λ es. (root_of v.shape o (run v.shape es).words ≡ suc t) × CarefulFor v.shape (run v.shape es).words o t (container_after v.shape.kinds (history es) o).content i x)
+  pub put_sure : (t i x : ℕ) → has_lock o v.log ≡ true → root_in (held o v) ≡ suc t → CarefulAs (kind_in v.shape.starts o) (class_of t) (held o v).table (known o v).content i x → Sure v (λ es. (root_of v.shape o (run v.shape es).words ≡ suc t) × CarefulFor v.shape (run v.shape es).words o t (container_after v.shape.starts (history es) o).content i x)
   put_sure t i x mine names care es id knows =
       let w = table_known t mine names es id knows in
       let c = content_known v o mine es id knows in
-      (w.1, subst (λ (z : List ℕ × ContainerState). CarefulAs (kind_in v.shape.kinds o) (class_of t) z.0 z.1.content i x) (λ d. (w.0 d, c d)) care)
+      (w.1, subst (λ (z : List ℕ × ContainerState). CarefulAs (kind_in v.shape.starts o) (class_of t) z.0 z.1.content i x) (λ d. (w.0 d, c d)) care)
 
-  pub sound_sure : (t : ℕ) → IsTableName v.shape t → has_lock o v.log ≡ true → stage t v.log ≡ 1 → SoundAs (kind_in v.shape.kinds o) v.shape.texts (class_of t) (in_hand t v) (known o v).content → Sure v (λ es. SoundFor v.shape (run v.shape es).words o t (container_after v.shape.kinds (history es) o).content)
+  pub sound_sure : (t : ℕ) → IsTableName v.shape t → has_lock o v.log ≡ true → stage t v.log ≡ 1 → SoundAs (kind_in v.shape.starts o) v.shape.texts (class_of t) (in_hand t v) (known o v).content → Sure v (λ es. SoundFor v.shape (run v.shape es).words o t (container_after v.shape.starts (history es) o).content)
   sound_sure t table mine fresh sound es id knows =
       let w = hand_known v t table fresh es id knows in
       let c = content_known v o mine es id knows in
-      subst (λ (z : List ℕ × ContainerState). SoundAs (kind_in v.shape.kinds o) v.shape.texts (class_of t) z.0 z.1.content) (λ d. (w d, c d)) sound
+      subst (λ (z : List ℕ × ContainerState). SoundAs (kind_in v.shape.starts o) v.shape.texts (class_of t) z.0 z.1.content) (λ d. (w d, c d)) sound

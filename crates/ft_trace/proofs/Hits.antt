@@ -25,7 +25,7 @@ use Rattle.ft_trace.proofs.ByKind.{keyed_low, keyed_later, keyed_sound}
 use Rattle.ft_trace.proofs.Sounds.{LaterIn, sound_at}
 use Rattle.ft_trace.proofs.Spots.{under_trans, stamp_then, Spot, Back, go, Opened, open_window, named_by, found}
 
-module _ (k : Shape) (es : List Event) (valid : Valid k es) (o t p : ℕ) (key : Key) (n : ℕ) (low : o < containers_in k) (keyed : IsKeyed (kind_in k.kinds o)) (small : p < rows (kind_in k.kinds o) (class_of t)) (j : ℕ) (u : View) (at : get_elem? (run k es).views j ≡ some u) (h : Hit u.log o t p key n) where
+module _ (k : Shape) (es : List Event) (valid : Valid k es) (o t p : ℕ) (key : Key) (n : ℕ) (low : o < containers_in k) (keyed : IsKeyed (kind_in k.starts o)) (small : p < rows (kind_in k.starts o) (class_of t)) (j : ℕ) (u : View) (at : get_elem? (run k es).views j ≡ some u) (h : Hit u.log o t p key n) where
   abbrev N : ℕ
   N = slots (class_of t)
 
@@ -51,8 +51,8 @@ module _ (k : Shape) (es : List Event) (valid : Valid k es) (o t p : ℕ) (key :
   whom_now = top.whom ∙ open_.whom
 
   -- what stays of the table, which is that of o all the while
-  later_from : (from : List Event) (a : Act) (rest : List Act) → whose from t ≡ o → (b : Back k t j start from a rest) → Later N (rows (kind_in k.kinds o) (class_of t)) (tab k b.spot.es t) (tab k from t)
-  later_from from a rest whom b = keyed_later (kind_in k.kinds o) keyed (class_of t) (tab k b.spot.es t) (tab k from t) (subst (λ (z : ℕ). LaterIn k z t (tab k b.spot.es t) (tab k from t)) whom b.later)
+  later_from : (from : List Event) (a : Act) (rest : List Act) → whose from t ≡ o → (b : Back k t j start from a rest) → Later N (rows (kind_in k.starts o) (class_of t)) (tab k b.spot.es t) (tab k from t)
+  later_from from a rest whom b = keyed_later (kind_in k.starts o) keyed (class_of t) (tab k b.spot.es t) (tab k from t) (subst (λ (z : ℕ). LaterIn k z t (tab k b.spot.es t) (tab k from t)) whom b.later)
 
   pub in_now : (a : Act) (m : Among a h.mid) → Back k t j start now a (m.rest ++ load ∷ h.rest)
   in_now a m = back (h.mid ++ load ∷ h.rest) top.spot m.newer a (m.rest ++ load ∷ h.rest) (ap (λ (l : List Act). l ++ load ∷ h.rest) m.is ∙ append_assoc m.newer (a ∷ m.rest) (load ∷ h.rest))
@@ -68,8 +68,8 @@ module _ (k : Shape) (es : List Event) (valid : Valid k es) (o t p : ℕ) (key :
   same_version a m =
       let w = in_now a m in
       let f = first a m in
-      let end : h.version ≡ entry_field N (tab k now t) p 0 = found k t j (entry_offset N p 0) h.version start (h.mid ++ load ∷ h.rest) open_.spot.es (keyed_low (kind_in k.kinds o) keyed (class_of t) p 0 small (omega arith)) top in
-      let begin : h.version ≡ entry_field N (tab k f.spot.es t) p 0 = found k t j (entry_offset N p 0) h.version start h.rest w.spot.es (keyed_low (kind_in k.kinds o) keyed (class_of t) p 0 small (omega arith)) f in
+      let end : h.version ≡ entry_field N (tab k now t) p 0 = found k t j (entry_offset N p 0) h.version start (h.mid ++ load ∷ h.rest) open_.spot.es (keyed_low (kind_in k.starts o) keyed (class_of t) p 0 small (omega arith)) top in
+      let begin : h.version ≡ entry_field N (tab k f.spot.es t) p 0 = found k t j (entry_offset N p 0) h.version start h.rest w.spot.es (keyed_low (kind_in k.starts o) keyed (class_of t) p 0 small (omega arith)) f in
       let up = (later_from now a (m.rest ++ load ∷ h.rest) whom_now w).version p small in
       let from = (later_from w.spot.es load h.rest (whom_in a m) f).version p small in
       (sym end, omega (arith, end, begin, up, from))
@@ -87,7 +87,7 @@ module _ (k : Shape) (es : List Event) (valid : Valid k es) (o t p : ℕ) (key :
   word_then : (w f : ℕ) → 0 < w → w < 8 → Among (ReadTable t (entry_offset N p w) f) h.mid → entry_field N (tab k then_ t) p w ≡ f
   word_then w f up less m =
       let b = in_now (ReadTable t (entry_offset N p w) f) m in
-      let e : f ≡ entry_field N (tab k b.spot.es t) p w = found k t j (entry_offset N p w) f start (m.rest ++ load ∷ h.rest) now (keyed_low (kind_in k.kinds o) keyed (class_of t) p w small (omega arith)) b in
+      let e : f ≡ entry_field N (tab k b.spot.es t) p w = found k t j (entry_offset N p w) f start (m.rest ++ load ∷ h.rest) now (keyed_low (kind_in k.starts o) keyed (class_of t) p w small (omega arith)) b in
       sym (same_word (ReadCounter n) h.stamp w up less) ∙ (same_word (ReadTable t (entry_offset N p w) f) m w up less ∙ sym e)
 
   kind_then : entry_field N (tab k then_ t) p 2 ≡ key_kind key
@@ -103,29 +103,29 @@ module _ (k : Shape) (es : List Event) (valid : Valid k es) (o t p : ℕ) (key :
       let uw = back (h.between ++ ua ∷ h.before) kw.spot h.between ua h.before refl in
       let f_whom = f.whom ∙ whom_in (ReadCounter n) h.stamp in
       let k_whom = kw.whom ∙ f_whom in
-      let key_read : key_payload key ≡ entry_field N (tab k kw.spot.es t) p 3 = found k t j (entry_offset N p 3) (key_payload key) start (h.between ++ ua ∷ h.before) f.spot.es (keyed_low (kind_in k.kinds o) keyed (class_of t) p 3 small (omega arith)) kw in
-      let use_read : key_kind key ≡ entry_field N (tab k uw.spot.es t) p 2 = found k t j (entry_offset N p 2) (key_kind key) start h.before kw.spot.es (keyed_low (kind_in k.kinds o) keyed (class_of t) p 2 small (omega arith)) uw in
+      let key_read : key_payload key ≡ entry_field N (tab k kw.spot.es t) p 3 = found k t j (entry_offset N p 3) (key_payload key) start (h.between ++ ua ∷ h.before) f.spot.es (keyed_low (kind_in k.starts o) keyed (class_of t) p 3 small (omega arith)) kw in
+      let use_read : key_kind key ≡ entry_field N (tab k uw.spot.es t) p 2 = found k t j (entry_offset N p 2) (key_kind key) start h.before kw.spot.es (keyed_low (kind_in k.starts o) keyed (class_of t) p 2 small (omega arith)) uw in
       let some_kind = (kind_is key).0 in
       let l1 = later_from kw.spot.es ua h.before k_whom uw in
       let l2 = later_from f.spot.es ka (h.between ++ ua ∷ h.before) f_whom kw in
       let l3 = later_from then_ load h.rest (whom_in (ReadCounter n) h.stamp) f in
       let used0 : entry_field N (tab k uw.spot.es t) p 2 ≢ 0 = λ none. omega (arith, none, use_read, some_kind) in
-      let used = later_used N (rows (kind_in k.kinds o) (class_of t)) (tab k uw.spot.es t) (tab k kw.spot.es t) l1 p small used0 in
-      l3.key p small (later_used N (rows (kind_in k.kinds o) (class_of t)) (tab k kw.spot.es t) (tab k f.spot.es t) l2 p small used) ∙ (l2.key p small used ∙ sym key_read)
+      let used = later_used N (rows (kind_in k.starts o) (class_of t)) (tab k uw.spot.es t) (tab k kw.spot.es t) l1 p small used0 in
+      l3.key p small (later_used N (rows (kind_in k.starts o) (class_of t)) (tab k kw.spot.es t) (tab k f.spot.es t) l2 p small used) ∙ (l2.key p small used ∙ sym key_read)
 
   -- the content at the stamp has under the key what the entry said then
-  pub hit_at : (n ≤ count k es) × (under (container_after k.kinds (first_writes n (history es)) o).content key ≡ said_of N (tab k then_ t) p)
+  pub hit_at : (n ≤ count k es) × (under (container_after k.starts (first_writes n (history es)) o).content key ≡ said_of N (tab k then_ t) p)
   hit_at =
       let w = in_now (ReadCounter n) h.stamp in
       let v = same_version (ReadCounter n) h.stamp in
       let names = named_by k then_ w.spot.valid o t open_.table w.spot.now (whom_in (ReadCounter n) h.stamp) in
-      let sound = keyed_sound (kind_in k.kinds o) keyed k.texts (class_of t) (tab k then_ t) (container_after k.kinds (history then_) o).content (sound_at k then_ w.spot.valid o low t names) in
+      let sound = keyed_sound (kind_in k.starts o) keyed k.texts (class_of t) (tab k then_ t) (container_after k.starts (history then_) o).content (sound_at k then_ w.spot.valid o low t names) in
       let right = sound.right p key small (ap (λ (z : ℕ). z % 2) v.1 ∙ h.even) (kind_then, key_then) in
       let s = stamp_then k then_ es w.spot.valid valid (under_trans then_ now es w.under (under_trans now open_.spot.es es top.under open_.under)) n w.tells in
-      (s.0, ap (λ (cs : List Call). under (container_after k.kinds cs o).content key) s.1 ∙ right)
+      (s.0, ap (λ (cs : List Call). under (container_after k.starts cs o).content key) s.1 ∙ right)
 
   -- a word of the value or serial that was read between
-  pub hit_word : (w f : ℕ) → w < 3 → Among (ReadTable t (entry_offset N p (4 + w)) f) h.mid → slice_index (under (container_after k.kinds (first_writes n (history es)) o).content key) w ≡ f
+  pub hit_word : (w f : ℕ) → w < 3 → Among (ReadTable t (entry_offset N p (4 + w)) f) h.mid → slice_index (under (container_after k.starts (first_writes n (history es)) o).content key) w ≡ f
   hit_word w f less m = ap (λ (l : List ℕ). slice_index l w) hit_at.1 ∙ (by w less ∙ word_then (4 + w) f (omega arith) (omega arith) m)
     where
       by : (w : ℕ) → w < 3 → slice_index (said_of N (tab k then_ t) p) w ≡ entry_field N (tab k then_ t) p (4 + w)

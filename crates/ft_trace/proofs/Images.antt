@@ -38,7 +38,7 @@ Owner u = ((o : ℕ) × (has_lock o u.log ≡ true)) ⊎ ((t : ℕ) × (stage t 
 pub record Imaged (k : Shape) (es : List Event) (u : View) : Type 0 where
   pub wide : Owner u → length (mem k u.log) ≡ extent k
   pub words : (x : Word) → Inside k x → Owns k es u x → slice_index (mem k u.log) (at k x) ≡ word k es x
-  pub content : (o : ℕ) → has_lock o u.log ≡ true → container_after k.kinds (past u.log) o ≡ container_after k.kinds (history es) o
+  pub content : (o : ℕ) → has_lock o u.log ≡ true → container_after k.starts (past u.log) o ≡ container_after k.starts (history es) o
 
 -- a word that no action but a put may change
 abbrev IsData : Word → Type 0
@@ -110,7 +110,7 @@ fresh k es id v a s is m p h same =
     let words : mem k (a ∷ v.log) ≡ (run k es).words = m ∙ ap (λ (z : Snap). z.words) is in record {
       wide = λ _. ap (λ (l : List ℕ). length l) words ∙ wide k es;
       words = λ x in_it owns. ap (λ (l : List ℕ). slice_index l (at k x)) words ∙ sym (same x in_it (data_of k (did id v a ∷ es) (noted a v) x owns));
-      content = λ o _. ap (λ (cs : List Call). container_after k.kinds cs o) (p ∙ (ap (λ (z : Snap). z.calls) is ∙ sym h));
+      content = λ o _. ap (λ (cs : List Call). container_after k.starts cs o) (p ∙ (ap (λ (z : Snap). z.calls) is ∙ sym h));
     }
 
 -- what the pass has after an action it had before
@@ -123,7 +123,7 @@ calm : (k : Shape) (es : List Event) (id : ℕ) (v : View) (a : Act) → Imaged 
 calm k es id v a old m p h has_before stage_before same = record {
   wide = λ e. ap (λ (l : List ℕ). length l) m ∙ old.wide (⊎_elim (λ (x : (o : ℕ) × (has_lock o (a ∷ v.log) ≡ true)). inl (x.0, has_before x.0 x.1)) (λ (x : (t : ℕ) × (stage t (a ∷ v.log) ≡ 1)). inr (x.0, stage_before x.0 x.1)) e);
   words = λ x in_it owns. ap (λ (l : List ℕ). slice_index l (at k x)) m ∙ (old.words x in_it (backward x in_it owns) ∙ sym (same x in_it (data_of k (did id v a ∷ es) (noted a v) x owns)));
-  content = λ o mine. ap (λ (cs : List Call). container_after k.kinds cs o) p ∙ (old.content o (has_before o mine) ∙ ap (λ (cs : List Call). container_after k.kinds cs o) (sym h));
+  content = λ o mine. ap (λ (cs : List Call). container_after k.starts cs o) p ∙ (old.content o (has_before o mine) ∙ ap (λ (cs : List Call). container_after k.starts cs o) (sym h));
 }
   where
     backward : Backward k es (did id v a ∷ es) v (noted a v)
@@ -159,7 +159,7 @@ stored k es id v a y valid may old in_place m l p h same_has long backward = rec
       one ∙ sym two)
       (λ ne. get_or-set_other (mem k v.log) (at k (place a)) (at k x) y 0 ne ∙ (mine ∙ sym (get_or-set_other (run k es).words (at k (place a)) (at k x) y 0 ne)))
       ∙ sym now);
-  content = λ o mine. ap (λ (cs : List Call). container_after k.kinds cs o) p ∙ (old.content o (sym (same_has o) ∙ mine) ∙ ap (λ (cs : List Call). container_after k.kinds cs o) (sym h));
+  content = λ o mine. ap (λ (cs : List Call). container_after k.starts cs o) p ∙ (old.content o (sym (same_has o) ∙ mine) ∙ ap (λ (cs : List Call). container_after k.starts cs o) (sym h));
 }
 
 -- where roots and what the pass has are as before
@@ -223,7 +223,7 @@ own k es id v valid here_ old (Commit c r f s) may =
     record {
       wide = old.wide;
       words = λ x in_it owns. old.words x in_it (same_back k es id v (Commit c r f s) (λ o. refl) (λ t. refl) (λ o low. same (block o 0) (low, omega arith) tt) x in_it owns) ∙ sym (same x in_it (data_of k (did id v (Commit c r f s) ∷ es) (noted (Commit c r f s) v) x owns));
-      content = λ o mine. ap (λ (z : Snap). container_after k.kinds (c ∷ z.calls) o) may.7;
+      content = λ o mine. ap (λ (z : Snap). container_after k.starts (c ∷ z.calls) o) may.7;
     }
 own k es id v valid here_ old (PutBlock p i x) may =
     stored k es id v (PutBlock p i x) x valid may old (may.0, may.1) refl refl refl refl (λ o. refl) (old.wide (inl (p, writer_has k es valid p id v here_ may.2)))

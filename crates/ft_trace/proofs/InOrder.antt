@@ -12,7 +12,7 @@ use Rattle.ft_model.specs.declared.reply.Reply.{Reply}
 use Rattle.ft_model.specs.declared.reply.Reply.TheVariants as reply
 use Rattle.ft_model.specs.declared.reply.Raise.TheVariants as raise
 use Rattle.ft_model.specs.declared.entry.Entry.{Entry as NamedEntry}
-use Rattle.ft_model.specs.declared.script.Kind.{Kind}
+use Rattle.ft_model.specs.declared.script.Start.{Start}
 use Rattle.ft_model.specs.Answers.{answer, world_by}
 use Rattle.ft_model.specs.Histories.{IsReplied}
 use Rattle.ft_model.specs.TableUses.{StoredWorld, stored_by, stored_newest, takes_by, takes_newest, CanLackMemory, IsEarnedReply, IsFittingReply, takes_in, would_pass}
@@ -21,7 +21,7 @@ use Rattle.ft_trace.specs.declared.Entry.{Entry}
 use Rattle.ft_trace.specs.declared.Shape.{Shape}
 use Rattle.ft_trace.specs.Earnings.{IsEarnedSo, AllEarned}
 use Rattle.ft_trace.specs.Entries.{IsNumber, Right, AllRight}
-use Rattle.ft_trace.specs.InOrder.{StandsInOrder, NumberedEntriesAreInOrder}
+use Rattle.ft_trace.specs.InOrder.{supply_in, StandsInOrder, NumberedEntriesAreInOrder}
 use Rattle.ft_trace.specs.ContainerStates.{first_writes}
 
 -- ---- lists from the newest to the first, and in order
@@ -52,11 +52,11 @@ first_in_order n (c ∷ cs) =
     ap (λ (b : Bool). reverse (cond b (c ∷ cs) (first_writes n cs))) (le-ltb (length cs) n (omega (arith, few)))
     ∙ (first_in_order n cs ∙ (sym (take_front (reverse cs) (c ∷ []) n (omega (arith, few, l))) ∙ ap (take n) (sym (reverse-cons c cs)))))
 
-pub stored_in_order : (kinds : List Kind) (n : ℕ) (cs : List Call) → stored_newest kinds (first_writes n cs) ≡ stored_by kinds (take n (reverse cs))
-stored_in_order kinds n cs = newest_stored kinds (first_writes n cs) ∙ ap (stored_by kinds) (first_in_order n cs)
+pub stored_in_order : (starts : List Start) (n : ℕ) (cs : List Call) → stored_newest starts (first_writes n cs) ≡ stored_by starts (take n (reverse cs))
+stored_in_order starts n cs = newest_stored starts (first_writes n cs) ∙ ap (stored_by starts) (first_in_order n cs)
 
-takes_in_order : (kinds : List Kind) (class n : ℕ) (cs : List Call) → takes_newest kinds class (first_writes n cs) ≡ takes_by kinds class (take n (reverse cs))
-takes_in_order kinds class n cs = newest_takes kinds class (first_writes n cs) ∙ ap (takes_by kinds class) (first_in_order n cs)
+takes_in_order : (starts : List Start) (class n : ℕ) (cs : List Call) → takes_newest starts class (first_writes n cs) ≡ takes_by starts class (take n (reverse cs))
+takes_in_order starts class n cs = newest_takes starts class (first_writes n cs) ∙ ap (takes_by starts class) (first_in_order n cs)
 
 pub get_front : {A : Type 0} (l m : List A) (n : ℕ) → n < length l → slice_get (l ++ m) n ≡ slice_get l n
 get_front [] m n low = absurd (omega (arith, low))
@@ -100,12 +100,12 @@ order_numbered (d ∷ cs) n c e =
 
 -- ---- what is earned
 
-earned_so : (k : Shape) (cs calls : List Call) → stored_newest k.kinds cs ≡ stored_by k.kinds calls → ((class : ℕ) → takes_newest k.kinds class cs ≡ takes_by k.kinds class calls) → (mine : List NamedEntry) (called : Call) (said : Reply) → IsEarnedSo k cs called said
-    → IsEarnedReply k.kinds k.tables k.passes calls mine called said × IsFittingReply (stored_by k.kinds calls) called said
+earned_so : (k : Shape) (cs calls : List Call) → stored_newest k.starts cs ≡ stored_by k.starts calls → ((class : ℕ) → takes_newest k.starts class cs ≡ takes_by k.starts class calls) → (mine : List NamedEntry) (called : Call) (said : Reply) → IsEarnedSo k cs called said
+    → IsEarnedReply k.starts (supply_in k) calls mine called said × IsFittingReply (stored_by k.starts calls) called said
 earned_so k cs calls stored takes mine called (reply.Raised (raise.Memory class)) e =
     let t = takes class in
     let few = e.4 in (
-      (subst (λ (z : StoredWorld). CanLackMemory z.world called) stored e.0, ap (λ (z : StoredWorld). would_pass z.world called) (sym stored) ∙ e.1, record { is_class = e.3; all_taken = omega (arith, few, t) }),
+      (inl (subst (λ (z : StoredWorld). CanLackMemory z.world called) stored e.0), ap (λ (z : StoredWorld). would_pass z.world called) (sym stored) ∙ e.1, record { is_class = e.3; all_taken = omega (arith, few, t) }),
       ap (λ (z : StoredWorld). takes_in z called) (sym stored) ∙ e.2,
     )
 earned_so k cs calls stored takes mine called (reply.Raised raise.Over) e = ((subst (λ (z : StoredWorld). CanLackMemory z.world called) stored e.0, ap (λ (z : StoredWorld). would_pass z.world called) (sym stored) ∙ e.1), tt)
@@ -114,24 +114,24 @@ earned_so k cs calls stored takes mine called said e = (ap (λ (z : StoredWorld)
 
 -- ---- the entries
 
-stands : (k : Shape) (cs : List Call) (e : Entry) → Right k.kinds cs e → IsEarnedSo k (first_writes e.stamp cs) e.call e.reply → StandsInOrder k (reverse cs) e
+stands : (k : Shape) (cs : List Call) (e : Entry) → Right k.starts cs e → IsEarnedSo k (first_writes e.stamp cs) e.call e.reply → StandsInOrder k (reverse cs) e
 stands k cs e right earned =
     let calls = take e.stamp (reverse cs) in
-    let stored = stored_in_order k.kinds e.stamp cs in
+    let stored = stored_in_order k.starts e.stamp cs in
     let low = right.low in
     let l = length-reverse cs in
-    let world : (stored_newest k.kinds (first_writes e.stamp cs)).world ≡ world_by k.kinds calls = ap (λ (z : StoredWorld). z.world) stored ∙ stored_world k.kinds calls in
+    let world : (stored_newest k.starts (first_writes e.stamp cs)).world ≡ world_by k.starts calls = ap (λ (z : StoredWorld). z.world) stored ∙ stored_world k.starts calls in
     record {
       within = omega (arith, low, l);
       wrote = right.wrote;
       number = λ w. number_in_order cs e.stamp e.call (right.write w);
       hands = right.hands;
       reply = subst (λ z. IsReplied e.call e.reply (answer z right.hands e.call).reply) world right.reply;
-      earned = λ mine. (earned_so k (first_writes e.stamp cs) calls stored (λ class. takes_in_order k.kinds class e.stamp cs) mine e.call e.reply earned).0;
-      fitting = (earned_so k (first_writes e.stamp cs) calls stored (λ class. takes_in_order k.kinds class e.stamp cs) [] e.call e.reply earned).1;
+      earned = λ mine. (earned_so k (first_writes e.stamp cs) calls stored (λ class. takes_in_order k.starts class e.stamp cs) mine e.call e.reply earned).0;
+      fitting = (earned_so k (first_writes e.stamp cs) calls stored (λ class. takes_in_order k.starts class e.stamp cs) [] e.call e.reply earned).1;
     }
 
-all_stand : (k : Shape) (cs : List Call) (entries : List Entry) → AllRight k.kinds cs entries → AllEarned k cs entries → All (StandsInOrder k (reverse cs)) entries
+all_stand : (k : Shape) (cs : List Call) (entries : List Entry) → AllRight k.starts cs entries → AllEarned k cs entries → All (StandsInOrder k (reverse cs)) entries
 all_stand k cs [] right earned = All-nil (StandsInOrder k (reverse cs))
 all_stand k cs (e ∷ entries) right earned = All-cons (StandsInOrder k (reverse cs)) e entries (stands k cs e right.0 earned.0) (all_stand k cs entries right.1 earned.1)
 

@@ -23,7 +23,7 @@ use Rattle.ft_trace.proofs.ByKind.{items_fit, items_later, items_sound}
 use Rattle.ft_trace.proofs.Sounds.{LaterIn, sound_at}
 use Rattle.ft_trace.proofs.Spots.{under_trans, stamp_then, Spot, Back, go, Opened, open_window, named_by, found}
 
-module _ (k : Shape) (es : List Event) (valid : Valid k es) (o t p n : ℕ) (low : o < containers_in k) (items : IsItems (kind_in k.kinds o)) (small : p < slots (class_of t)) (j : ℕ) (u : View) (at : get_elem? (run k es).views j ≡ some u) (h : ItemHit u.log o t p n) where
+module _ (k : Shape) (es : List Event) (valid : Valid k es) (o t p n : ℕ) (low : o < containers_in k) (items : IsItems (kind_in k.starts o)) (small : p < slots (class_of t)) (j : ℕ) (u : View) (at : get_elem? (run k es).views j ≡ some u) (h : ItemHit u.log o t p n) where
   abbrev load : Act
   load = ReadTable t (item_offset p 0) h.version
 
@@ -46,7 +46,7 @@ module _ (k : Shape) (es : List Event) (valid : Valid k es) (o t p n : ℕ) (low
   whom_now = top.whom ∙ open_.whom
 
   later_from : (from : List Event) (a : Act) (rest : List Act) → whose from t ≡ o → (b : Back k t j start from a rest) → ItemLater (slots (class_of t)) (tab k b.spot.es t) (tab k from t)
-  later_from from a rest whom b = items_later (kind_in k.kinds o) items (class_of t) (tab k b.spot.es t) (tab k from t) (subst (λ (z : ℕ). LaterIn k z t (tab k b.spot.es t) (tab k from t)) whom b.later)
+  later_from from a rest whom b = items_later (kind_in k.starts o) items (class_of t) (tab k b.spot.es t) (tab k from t) (subst (λ (z : ℕ). LaterIn k z t (tab k b.spot.es t) (tab k from t)) whom b.later)
 
   pub in_now : (a : Act) (m : Among a h.mid) → Back k t j start now a (m.rest ++ load ∷ h.rest)
   in_now a m = back (h.mid ++ load ∷ h.rest) top.spot m.newer a (m.rest ++ load ∷ h.rest) (ap (λ (l : List Act). l ++ load ∷ h.rest) m.is ∙ append_assoc m.newer (a ∷ m.rest) (load ∷ h.rest))
@@ -85,18 +85,18 @@ module _ (k : Shape) (es : List Event) (valid : Valid k es) (o t p n : ℕ) (low
       sym (same_word (ReadCounter n) h.stamp w up less) ∙ (same_word (ReadTable t (item_offset p w) f) m w up less ∙ sym (read_is w f (m.rest ++ load ∷ h.rest) now less b))
 
   -- the list at the stamp has at the index what the item said then
-  pub item_hit_at : (n ≤ count k es) × (words_at (list_of (container_after k.kinds (first_writes n (history es)) o).content) p ≡ said_at (tab k then_ t) p)
+  pub item_hit_at : (n ≤ count k es) × (words_at (list_of (container_after k.starts (first_writes n (history es)) o).content) p ≡ said_at (tab k then_ t) p)
   item_hit_at =
       let w = in_now (ReadCounter n) h.stamp in
       let v = same_version (ReadCounter n) h.stamp in
       let names = named_by k then_ w.spot.valid o t open_.table w.spot.now (whom_in (ReadCounter n) h.stamp) in
-      let sound = items_sound (kind_in k.kinds o) items k.texts (class_of t) (tab k then_ t) (container_after k.kinds (history then_) o).content (sound_at k then_ w.spot.valid o low t names) in
+      let sound = items_sound (kind_in k.starts o) items k.texts (class_of t) (tab k then_ t) (container_after k.starts (history then_) o).content (sound_at k then_ w.spot.valid o low t names) in
       let right = sound.right p small (ap (λ (z : ℕ). z % 2) v.1 ∙ h.even) in
       let s = stamp_then k then_ es w.spot.valid valid (under_trans then_ now es w.under (under_trans now open_.spot.es es top.under open_.under)) n w.tells in
-      (s.0, ap (λ (cs : List Call). words_at (list_of (container_after k.kinds cs o).content) p) s.1 ∙ right)
+      (s.0, ap (λ (cs : List Call). words_at (list_of (container_after k.starts cs o).content) p) s.1 ∙ right)
 
   -- a word of the item that was read between
-  pub item_word : (w f : ℕ) → w < 2 → Among (ReadTable t (item_offset p (1 + w)) f) h.mid → slice_index (words_at (list_of (container_after k.kinds (first_writes n (history es)) o).content) p) w ≡ f
+  pub item_word : (w f : ℕ) → w < 2 → Among (ReadTable t (item_offset p (1 + w)) f) h.mid → slice_index (words_at (list_of (container_after k.starts (first_writes n (history es)) o).content) p) w ≡ f
   item_word w f less m = ap (λ (l : List ℕ). slice_index l w) item_hit_at.1 ∙ (by w less ∙ word_then (1 + w) f (omega arith) (omega arith) m)
     where
       by : (w : ℕ) → w < 2 → slice_index (said_at (tab k then_ t) p) w ≡ item_field (tab k then_ t) p (1 + w)
@@ -105,11 +105,11 @@ module _ (k : Shape) (es : List Event) (valid : Valid k es) (o t p n : ℕ) (low
       by (suc (suc w)) less = absurd (omega arith)
 
 -- the list at the stamp is no longer than the table
-pub item_past_at : (k : Shape) (es : List Event) (valid : Valid k es) (o t n : ℕ) (low : o < containers_in k) (items : IsItems (kind_in k.kinds o)) (j : ℕ) (u : View) (at : get_elem? (run k es).views j ≡ some u) → ItemPast u.log o t n → (n ≤ count k es) × (length (list_of (container_after k.kinds (first_writes n (history es)) o).content) ≤ slots (class_of t))
+pub item_past_at : (k : Shape) (es : List Event) (valid : Valid k es) (o t n : ℕ) (low : o < containers_in k) (items : IsItems (kind_in k.starts o)) (j : ℕ) (u : View) (at : get_elem? (run k es).views j ≡ some u) → ItemPast u.log o t n → (n ≤ count k es) × (length (list_of (container_after k.starts (first_writes n (history es)) o).content) ≤ slots (class_of t))
 item_past_at k es valid o t n low items j u at h =
     let open_ = open_window k es valid j u at o t low h.walk h.window in
     let b = go k t j h.window.rest h.walk open_.table h.window.before open_.spot h.stamp.newer (ReadCounter n) h.stamp.rest h.stamp.is in
     let names = named_by k b.spot.es b.spot.valid o t open_.table b.spot.now (b.whom ∙ open_.whom) in
-    let sound = items_sound (kind_in k.kinds o) items k.texts (class_of t) (tab k b.spot.es t) (container_after k.kinds (history b.spot.es) o).content (sound_at k b.spot.es b.spot.valid o low t names) in
+    let sound = items_sound (kind_in k.starts o) items k.texts (class_of t) (tab k b.spot.es t) (container_after k.starts (history b.spot.es) o).content (sound_at k b.spot.es b.spot.valid o low t names) in
     let s = stamp_then k b.spot.es es b.spot.valid valid (under_trans b.spot.es open_.spot.es es b.under open_.under) n b.tells in
-    (s.0, subst (λ (cs : List Call). length (list_of (container_after k.kinds cs o).content) ≤ slots (class_of t)) (sym s.1) sound.short)
+    (s.0, subst (λ (cs : List Call). length (list_of (container_after k.starts cs o).content) ≤ slots (class_of t)) (sym s.1) sound.short)

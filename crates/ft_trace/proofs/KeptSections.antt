@@ -1,6 +1,6 @@
 -- No other pass writes on the containers of a section while its locks are held.
-use Rattle.std.proofs.Common.{◌≡◌, ◌≢◌, ◌⊎◌, ⊎_elim, inl, inr, ℕ, suc, eqb, eq-eqb, ◌<◌, ◌≤◌, Bool, true, false, cond, List, [], ◌∷◌, ◌++◌, map, drop, length, refl, sym, ap, ◌∙◌, subst, arith}
-use Rattle.std.specs.Prelude.{◌==◌, ◌&&◌, ◌||◌}
+use Rattle.std.proofs.Common.{◌≡◌, ⊎_elim, ℕ, eqb, eq-eqb, ◌<◌, ◌≤◌, Bool, true, false, cond, List, [], ◌∷◌, ◌++◌, map, drop, length, refl, sym, ap, ◌∙◌, subst, arith}
+use Rattle.std.specs.Prelude.{◌&&◌, ◌||◌}
 use Rattle.std.specs.List.{list_any}
 use mathlib.Core.Option.{some}
 use mathlib.Core.Logic.{dite}
@@ -18,9 +18,9 @@ use Rattle.ft_trace.specs.declared.View.{View}
 use Rattle.ft_trace.specs.Addresses.{containers_in}
 use Rattle.ft_trace.specs.Acts.{place, Reports, has_lock, starter, noted, maker, made, both, spent, sender, note}
 use Rattle.ft_trace.specs.Entries.{IsNumber}
-use Rattle.ft_trace.specs.OwnOrder.{is_write_of, HasWritesOn, KeptSectionsAreUntouched}
+use Rattle.ft_trace.specs.OwnOrder.{is_write_of, KeptSectionsAreUntouched}
 use Rattle.ft_trace.specs.BegunSections.{Begun, begun, begun_by, is_among, without, since_load, all_since_load}
-use Rattle.ft_trace.specs.Traces.{Event, did, forked, joined, sent, run, word, writes_of, history, May, Valid}
+use Rattle.ft_trace.specs.Traces.{Event, did, forked, joined, sent, run, word, history, May, Valid}
 use Rattle.ft_trace.proofs.Cases.{hit, miss, here, off, same_or}
 use Rattle.ft_trace.proofs.Contents.{counted}
 use Rattle.ft_trace.proofs.InOrder.{number_low}
@@ -108,8 +108,11 @@ each_held (a ∷ l) = by a (each_held l)
     of_call (call.Dict o c) n each = each
     of_call (call.List o c) n each = each
     of_call (call.Set o c) n each = each
+    of_call (call.Deque o c) n each = each
     of_call (call.Next c) n each = each
     of_call call.Quiesce n each = each
+    of_call (call.Await thread index) n each = each
+    of_call call.Dump n each = each
 
     by : (a : Act) → EachHeld l (begun l) → EachHeld (a ∷ l) (begun (a ∷ l))
     by (Answer c r n) each = each_same l (Answer c r n ∷ l) (begun_by c n l (begun l)) (λ o m e. e) (of_call c n each)

@@ -18,22 +18,26 @@ pub versions_lie : (kind : Kind) → IsKeyed kind → (c : ℕ) → (λ q. entry
 versions_lie kind.Dict is c = refl
 versions_lie kind.Set is c = refl
 versions_lie kind.List is c = absurd is
+versions_lie (kind.Deque bound) is c = absurd is
 
 -- what is careful, clear and sound for entries is so for the kind
 pub careful_keyed : (kind : Kind) → IsKeyed kind → (c : ℕ) (ws : List ℕ) (d : Content) (i x : ℕ) → Careful (slots c) (rows kind c) ws (under d) i x → CarefulAs kind c ws d i x
 careful_keyed kind.Dict is c ws d i x care = care
 careful_keyed kind.Set is c ws d i x care = care
 careful_keyed kind.List is c ws d i x care = absurd is
+careful_keyed (kind.Deque bound) is c ws d i x care = absurd is
 
 pub clear_keyed : (kind : Kind) → IsKeyed kind → (texts : List ℕ) (c : ℕ) (ws : List ℕ) (d e : Content) → Clear (walk_of kind texts c) (slots c) (rows kind c) ws (under d) (under e) → ClearAs kind texts c ws d e
 clear_keyed kind.Dict is texts c ws d e clear = clear
 clear_keyed kind.Set is texts c ws d e clear = clear
 clear_keyed kind.List is texts c ws d e clear = absurd is
+clear_keyed (kind.Deque bound) is texts c ws d e clear = absurd is
 
 pub sound_keyed : (kind : Kind) → IsKeyed kind → (texts : List ℕ) (c : ℕ) (ws : List ℕ) (d : Content) → Sound (walk_of kind texts c) (slots c) (rows kind c) ws (under d) → SoundAs kind texts c ws d
 sound_keyed kind.Dict is texts c ws d sound = sound
 sound_keyed kind.Set is texts c ws d sound = sound
 sound_keyed kind.List is texts c ws d sound = absurd is
+sound_keyed (kind.Deque bound) is texts c ws d sound = absurd is
 
 -- a word of an entry may be put
 pub keyed_put : (kind : Kind) → IsKeyed kind → (t : ℕ) (d : Content) (committed : Bool) (words : Picture) (p w x : ℕ) → root_in words ≡ suc t → p < rows kind (class_of t) → w < 8 → Careful (slots (class_of t)) (rows kind (class_of t)) words.table (under d) (entry_offset (slots (class_of t)) p w) x

@@ -41,7 +41,8 @@ use Rattle.ft_trace.proofs.ListWrites.{may_begin}
 use Rattle.ft_trace.proofs.DictWrites.{EntryVersionsChangeNothing, version_stands, FirstEntriesArePairs, dict_right, dict_short, dict_clear, dict_found, dict_answered, dict_left, dict_passes_not, room_is}
 use Rattle.ft_trace.proofs.Tellings.{word_is}
 use Rattle.ft_trace.proofs.Naming.{one_locked}
-use Rattle.ft_trace.proofs.KnownContents.{use_of, known_use, known_says, known_shut, in_tables, table_there}
+use Rattle.ft_model.proofs.SplitDicts.{unsplit_takes, unsplit_leaves}
+use Rattle.ft_trace.proofs.KnownContents.{use_of, known_use, known_says, known_shut, in_tables, table_there, keys_there}
 use Rattle.ft_trace.proofs.WriteFacts.{facts_suffice}
 use Rattle.ft_trace.proofs.KeyedWrites.{put_while_open, counts_may_be_put, root_stays}
 
@@ -212,15 +213,18 @@ module _ (versions : EntryVersionsChangeNothing) (first : FirstEntriesArePairs) 
 
   -- ---- in each history that agrees with what the pass knows
 
-  module _ (calls : List Call) (agree : AgreesWith v (stored_newest k.kinds calls)) where
+  module _ (calls : List Call) (agree : AgreesWith v (stored_newest k.starts calls)) where
     abbrev found : StoredWorld
-    found = stored_newest k.kinds calls
+    found = stored_newest k.starts calls
 
     abbrev left : List Content
     left = after_write found.world called
 
     abbrev T : TableUse
     T = table_at found.tables o
+
+    no_keys : T.keys ≡ []
+    no_keys = keys_there v o (content.Dict pairs) may.low may.mine is_dict calls agree may.possible
 
     -- one serial is drawn, and the table has room for it
     one_drawn : (dict_at left o).next - (dict_at found.world o).next ≡ 1
@@ -237,11 +241,13 @@ module _ (versions : EntryVersionsChangeNothing) (first : FirstEntriesArePairs) 
         let class_here : T.class ≡ Some c = ap (λ (z : TableUse). z.class) table_is in
         let fill_here : T.fill ≡ p = ap (λ (z : TableUse). z.fill) table_is in
         let drawn = one_drawn in
-        (λ d. outgrows_dict (record { class = class_here d; fill = fill_here d }) (drawn d))
+        (λ d. outgrows_dict (record { class = class_here d; fill = fill_here d; keys = T.keys }) (drawn d))
         ∙ (ap (λ (z : Bool). nat_lt 0 1 && z) (le-ltb (dict_entries c) (p + 1) (omega (arith, room))) ∙ and_false (nat_lt 0 1))
 
     takes_none : takes_in found called ≡ None
-    takes_none = ap (λ (z : Bool). if z then Some (dict_class (length (dict_at left o).pairs)) else None) not_outgrown
+    takes_none =
+        unsplit_takes T (dict.Set key value) (dict_at found.world o) (dict_at left o) no_keys
+        ∙ ap (λ (z : Bool). if z then Some (dict_class (length (dict_at left o).pairs)) else None) not_outgrown
 
     table_after : table_at (after_stored found called).tables o ≡ use_of t (p + 1)
     table_after =
@@ -249,9 +255,10 @@ module _ (versions : EntryVersionsChangeNothing) (first : FirstEntriesArePairs) 
         let count = length (dict_at left o).pairs in
         let table_is = table_there v o (content.Dict pairs) may.low may.mine is_dict calls agree ∙ known_use v o t (content.Dict pairs) may is_dict names in
         let one = one_drawn in
-        get_or-set_same found.tables o (grown_table T (takes_in found called) drawn count) no_table (in_tables v o (content.Dict pairs) may.low may.mine is_dict calls agree)
+        ap (λ (z : List TableUse). table_at z o) (unsplit_leaves found.tables o (dict.Set key value) (dict_at found.world o) (dict_at left o) (takes_in found called) no_keys)
+        ∙ (get_or-set_same found.tables o (grown_table T (takes_in found called) drawn count) no_table (in_tables v o (content.Dict pairs) may.low may.mine is_dict calls agree)
         ∙ (ap (λ (z : Option ℕ). grown_table T z drawn count) takes_none
-        ∙ (λ d. record { class = (table_is d).class; fill = (table_is d).fill + one d }))
+        ∙ (λ d. record { class = (table_is d).class; fill = (table_is d).fill + one d; keys = (table_is d).keys })))
 
   pub add_possible : (start number : ℕ) × (s : Snap) × (stop : ℕ) × Possible (after_write_of v o t write start number s stop)
   add_possible =

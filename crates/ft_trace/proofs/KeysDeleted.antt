@@ -1,5 +1,5 @@
 -- That a key may be taken out of a dict by a pass that has its lock, as a whole write.
-use Rattle.std.proofs.Common.{◌≡◌, ℕ, ◌-◌, Bool, [], ◌∷◌, length, Option, refl, ap, ◌∙◌, inr}
+use Rattle.std.proofs.Common.{◌≡◌, ℕ, ◌-◌, Bool, [], ◌∷◌, length, Option, refl, ap, ◌∙◌, inr, List}
 use Rattle.std.specs.Prelude.{◌&&◌, ◌==◌, find, All, if◌then◌else◌}
 use Rattle.std.specs.Option.{option_map_or}
 use Rattle.ft_model.specs.declared.call.Call.TheVariants as call
@@ -9,10 +9,10 @@ use Rattle.ft_model.specs.declared.content.DictPair.{DictPair}
 use Rattle.ft_model.specs.declared.data.Key.{Key}
 use Rattle.ft_model.specs.declared.reply.Raise.TheVariants as raise
 use Rattle.ft_model.specs.declared.reply.Reply.TheVariants as reply
-use Rattle.ft_model.specs.Answers.{answer_dict, puts, shows}
+use Rattle.ft_model.specs.Answers.{answer_dict, puts, shows, after_write}
 use Rattle.ft_model.specs.Contents.{DictContent, dict_del, empty_dict, is_at}
-use Rattle.ft_model.specs.Worlds.{dict_of, no_hands}
-use Rattle.ft_model.specs.TableUses.{stored_newest}
+use Rattle.ft_model.specs.Worlds.{dict_of, no_hands, dict_at}
+use Rattle.ft_model.specs.TableUses.{TableUse, table_at, takes_in, stored_newest}
 use Rattle.ft_layout.specs.Words.{FitsKey, key_kind, key_payload}
 use Rattle.ft_trace.specs.Addresses.{class_of}
 use Rattle.ft_trace.specs.FitCalls.{FitsValue}
@@ -22,6 +22,7 @@ use Rattle.ft_trace.specs.WholeWrites.{at_commit}
 use Rattle.ft_trace.specs.DeleteWrites.{dict_del_write, KeysMayBeDeleted}
 use Rattle.ft_trace.proofs.FitCalls.{dict_fits_words}
 use Rattle.ft_trace.proofs.Known.{in_bank}
+use Rattle.ft_model.proofs.SplitDicts.{unsplit_leaves}
 use Rattle.ft_trace.proofs.KnownContents.{known_says, content_there}
 use Rattle.ft_trace.proofs.SameKeys.{same_keys, none_left}
 use Rattle.ft_trace.proofs.DictWrites.{EntryVersionsChangeNothing, FirstEntriesArePairs, dict_clear}
@@ -45,7 +46,7 @@ keys_may_be_deleted versions first v o t place key pairs may is_dict names low l
     (dict_clear first v.shape.texts at.block (held o v).block (class_of t) fill fill (in_bank v o t may.low may.possible may.mine names).0 pairs news (held o v).table at.table says now)
     (record { of = refl; wrote = refl; fits = fits; locks = one_locked o v.log may.mine; replied = λ r e. inr e; declared = λ world one. record { one = one; both = tt; room = tt } })
     (λ calls agree.
-    let world = (stored_newest v.shape.kinds calls).world in
+    let world = (stored_newest v.shape.starts calls).world in
     ap (λ (z : DictContent). answer_dict world no_hands o z (dict.Del key)) (ap dict_of (content_there v o (content.Dict pairs) may.low may.mine is_dict calls agree (content.Dict empty_dict)))
     ∙ ap (λ (z : Bool). if z then puts world no_hands o (content.Dict news) reply.Done else shows world no_hands (reply.Raised raise.NoKey)) there)
-    (λ stored. (refl, refl))
+    (λ stored no_keys. (refl, ap (λ (z : List TableUse). table_at z o) (unsplit_leaves stored.tables o (dict.Del key) (dict_at stored.world o) (dict_at (after_write stored.world (call.Dict o (dict.Del key))) o) (takes_in stored (call.Dict o (dict.Del key))) no_keys)))

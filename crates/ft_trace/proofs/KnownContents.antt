@@ -18,23 +18,25 @@ use Rattle.ft_trace.specs.Pictures.{root_in}
 use Rattle.ft_trace.specs.Kinds.{rows, version_at}
 use Rattle.ft_trace.specs.OddVersions.{Shut}
 use Rattle.ft_trace.specs.Holds.{held, known, AgreesWith}
+use Rattle.ft_trace.specs.Traces.{Possible}
 use Rattle.ft_trace.specs.Grants.{MayWrite}
 use Rattle.ft_trace.proofs.Held.{held_stands}
 use Rattle.ft_trace.proofs.Clearing.{held_shut}
 use Rattle.ft_trace.proofs.Untouched.{as_many}
+use Rattle.ft_trace.proofs.UnsplitTables.{tables_unsplit, known_unsplit}
 use Rattle.ft_trace.proofs.Known.{kind_known, class_known, at_any, tables_as_many}
 
 -- a table of the class of its number, with this fill
 abbrev pub use_of : ℕ → ℕ → TableUse
-use_of t fill = record { class = Some (class_of t); fill = fill }
+use_of t fill = record { class = Some (class_of t); fill = fill; keys = [] }
 
 -- what it knows of one with a table, whose number is t
 module _ (v : View) (o t : ℕ) (x : Content) (may : MayWrite v o) (is : (known o v).content ≡ x) (names : root_in (held o v) ≡ suc t) where
-  pub known_kind : kind_of x ≡ kind_in v.shape.kinds o
+  pub known_kind : kind_of x ≡ kind_in v.shape.starts o
   known_kind = sym (ap kind_of is) ∙ kind_known v o may.mine may.possible
 
   pub known_use : (known o v).table ≡ use_of t (known o v).table.fill
-  known_use = let e = class_known v.shape.texts (held o v) (known o v) t (held_stands v o may.low may.possible may.mine may.quiet) names in λ d. record { class = e d; fill = (known o v).table.fill }
+  known_use = let e = class_known v.shape.texts (held o v) (known o v) t (held_stands v o may.low may.possible may.mine may.quiet) names in let none = known_unsplit v o may.mine may.possible in λ d. record { class = e d; fill = (known o v).table.fill; keys = none d }
 
   pub known_says : StandsAs v.shape.texts (held o v).block (0 ∷ 0 ∷ (held o v).table) (use_of t (known o v).table.fill) x
   known_says = let e = known_use in subst (λ (z : TableUse × Content). StandsAs v.shape.texts (held o v).block (0 ∷ 0 ∷ (held o v).table) z.0 z.1) (λ d. (e d, is d)) (held_stands v o may.low may.possible may.mine may.quiet)
@@ -43,21 +45,24 @@ module _ (v : View) (o t : ℕ) (x : Content) (may : MayWrite v o) (is : (known 
   known_shut = subst (λ (z : Kind). Shut (version_at z (class_of t)) (rows z (class_of t)) (held o v).table) (sym known_kind) (held_shut v o t may.low may.possible may.mine may.quiet names)
 
 -- in each history that agrees with what it knows
-module _ (v : View) (o : ℕ) (x : Content) (low : o < containers_in v.shape) (mine : has_lock o v.log ≡ true) (is : (known o v).content ≡ x) (calls : List Call) (agree : AgreesWith v (stored_newest v.shape.kinds calls)) where
+module _ (v : View) (o : ℕ) (x : Content) (low : o < containers_in v.shape) (mine : has_lock o v.log ≡ true) (is : (known o v).content ≡ x) (calls : List Call) (agree : AgreesWith v (stored_newest v.shape.starts calls)) where
   abbrev stored : StoredWorld
-  stored = stored_newest v.shape.kinds calls
+  stored = stored_newest v.shape.starts calls
 
   pub in_world : o < length stored.world
-  in_world = subst (λ (z : ℕ). o < z) (sym (as_many v.shape.kinds calls)) low
+  in_world = subst (λ (z : ℕ). o < z) (sym (as_many v.shape.starts calls)) low
 
   pub in_tables : o < length stored.tables
-  in_tables = subst (λ (z : ℕ). o < z) (sym (tables_as_many v.shape.kinds calls)) low
+  in_tables = subst (λ (z : ℕ). o < z) (sym (tables_as_many v.shape.starts calls)) low
 
   pub content_there : (d : Content) → slice_index_or stored.world o d ≡ x
   content_there d = at_any stored.world o d (content.List []) in_world ∙ (ap (λ (z : ContainerState). z.content) (agree o low mine) ∙ is)
 
   pub table_there : table_at stored.tables o ≡ (known o v).table
   table_there = ap (λ (z : ContainerState). z.table) (agree o low mine)
+
+  pub keys_there : Possible v → (table_at stored.tables o).keys ≡ []
+  keys_there p = tables_unsplit v.shape p.0 p.2.0 calls o
 
   -- what a call leaves that puts another content in its place
   pub content_left : (called : Call) (r : Reply) (news : Content) → answer stored.world no_hands called ≡ puts stored.world no_hands o news r → (d : Content) → slice_index_or (after_write stored.world called) o d ≡ news

@@ -145,9 +145,9 @@ module _ (versions : VersionsChangeNothing) (one : PutsChangeOneItem) (follow : 
   few = let r = (slots_range c class_is).1 in let s = short in omega (arith, r, s)
 
   -- in each history that agrees with what it knows
-  module _ (calls : List Call) (agree : AgreesWith v (stored_newest n.kinds calls)) where
+  module _ (calls : List Call) (agree : AgreesWith v (stored_newest n.starts calls)) where
     abbrev found : StoredWorld
-    found = stored_newest n.kinds calls
+    found = stored_newest n.starts calls
 
     abbrev left : List Content
     left = after_write found.world called
@@ -167,7 +167,7 @@ module _ (versions : VersionsChangeNothing) (one : PutsChangeOneItem) (follow : 
     not_outgrown =
         let count_is : length (list_at left o) ≡ count + 1 = ap (λ (z : Content). length (list_of z)) content_after ∙ longer in
         let class_is : T.class ≡ Some c = ap (λ (z : TableUse). z.class) (table_there v o (content.List values) may.low may.mine is_list calls agree ∙ known_use v o t (content.List values) may is_list names) in
-        (λ d. outgrows_list (record { class = class_is d; fill = T.fill }) (count_is d))
+        (λ d. outgrows_list (record { class = class_is d; fill = T.fill; keys = T.keys }) (count_is d))
         ∙ (ap (λ (z : Bool). nat_lt 0 (count + 1) && z) (le-ltb (list_items c) (count + 1) (omega (arith, room))) ∙ and_false (nat_lt 0 (count + 1)))
 
     takes_none : takes_in found called ≡ None
@@ -178,7 +178,7 @@ module _ (versions : VersionsChangeNothing) (one : PutsChangeOneItem) (follow : 
         let fill_is : T.fill + 0 ≡ T.fill = omega arith in
         get_or-set_same found.tables o (grown_table T (takes_in found called) 0 0) no_table (in_tables v o (content.List values) may.low may.mine is_list calls agree)
         ∙ (ap (λ (z : Option ℕ). grown_table T z 0 0) takes_none
-        ∙ ((λ d. record { class = T.class; fill = fill_is d }) ∙ (table_there v o (content.List values) may.low may.mine is_list calls agree ∙ known_use v o t (content.List values) may is_list names)))
+        ∙ ((λ d. record { class = T.class; fill = fill_is d; keys = T.keys }) ∙ (table_there v o (content.List values) may.low may.mine is_list calls agree ∙ known_use v o t (content.List values) may is_list names)))
 
     passes_not : would_pass found.world called ≡ false
     passes_not =

@@ -148,9 +148,9 @@ module _ (versions : VersionsChangeNothing) (v : View) (o t : ℕ) (value : Valu
   few = let r = (slots_range c class_is).1 in let s = fits_in in omega (arith, r, s)
 
   -- in each history that agrees with what it knows
-  module _ (calls : List Call) (agree : AgreesWith v (stored_newest k.kinds calls)) where
+  module _ (calls : List Call) (agree : AgreesWith v (stored_newest k.starts calls)) where
     abbrev found : StoredWorld
-    found = stored_newest k.kinds calls
+    found = stored_newest k.starts calls
 
     abbrev left : List Content
     left = after_write found.world called
@@ -170,7 +170,7 @@ module _ (versions : VersionsChangeNothing) (v : View) (o t : ℕ) (value : Valu
         let b : length (list_at left o) ≡ p + 1 = ap (λ (z : Content). length (list_of z)) content_after ∙ longer in
         (λ i. list_takes (a i) (b i)) ∙ has.takes
 
-    table_after : table_at (after_stored found called).tables o ≡ record { class = Some c; fill = 0 }
+    table_after : table_at (after_stored found called).tables o ≡ record { class = Some c; fill = 0; keys = [] }
     table_after =
         get_or-set_same found.tables o (grown_table T (takes_in found called) 0 0) no_table (in_tables v o (content.List values) begin.low begin.mine is_list calls agree) ∙ ap (λ (z : Option ℕ). grown_table T z 0 0) takes_one
 

@@ -75,9 +75,9 @@ module _ (v : View) (o t : ℕ) (values : List Value) (may : MayWrite v o) (is_l
   slots_fit = let f = list_says.0.table.fill in let r = (slots_range (class_of t) (in_bank v o t may.low may.possible may.mine names).0).0 in omega (arith, f, r)
 
   -- in each history that agrees with what it knows
-  module _ (calls : List Call) (agree : AgreesWith v (stored_newest k.kinds calls)) where
+  module _ (calls : List Call) (agree : AgreesWith v (stored_newest k.starts calls)) where
     abbrev world : List Content
-    world = (stored_newest k.kinds calls).world
+    world = (stored_newest k.starts calls).world
 
     pub list_is : list_at world o ≡ values
     list_is = ap list_of (content_there v o (content.List values) may.low may.mine is_list calls agree (content.List []))
@@ -137,9 +137,9 @@ module _ (versions : VersionsChangeNothing) (one : PutsChangeOneItem) (follow : 
       item_closed_stands versions one c class_is ws place (ver + 1) in_table values value fits says.0.table b (ver + 2) news (follow b (0 ∷ 0 ∷ slice_set ws (item_offset place 0) (ver + 1)) (0 ∷ 0 ∷ (at_commit v o write).table) c values place value opened low said.0 said.1)
 
   -- in each history that agrees with what it knows
-  module _ (calls : List Call) (agree : AgreesWith v (stored_newest n.kinds calls)) where
+  module _ (calls : List Call) (agree : AgreesWith v (stored_newest n.starts calls)) where
     abbrev found : List Content
-    found = (stored_newest n.kinds calls).world
+    found = (stored_newest n.starts calls).world
 
     answered : answer found no_hands called ≡ puts found no_hands o (content.List news) reply.Done
     answered =

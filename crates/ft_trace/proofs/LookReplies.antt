@@ -75,11 +75,13 @@ dict_is : (c : Content) → kind_of c ≡ kind.Dict → c ≡ content.Dict (dict
 dict_is (content.Dict dict) e = refl
 dict_is (content.List items) e = absurd (cc)
 dict_is (content.Set set) e = absurd (cc)
+dict_is (content.Deque deque) e = absurd (cc)
 
 set_is : (c : Content) → kind_of c ≡ kind.Set → c ≡ content.Set (set_of c)
 set_is (content.Dict dict) e = absurd (cc)
 set_is (content.List items) e = absurd (cc)
 set_is (content.Set set) e = refl
+set_is (content.Deque deque) e = absurd (cc)
 
 -- ---- what a dict, a set or a list replies
 
@@ -185,35 +187,35 @@ module _ (k : Shape) (es : List Event) (valid : Valid k es) (o n : ℕ) (low : o
   past : Earlier k n (history es)
   past = earlier k es valid n
 
-  stored_is : stored_newest k.kinds (history past.older) ≡ then_
-  stored_is = ap (stored_newest k.kinds) past.is
+  stored_is : stored_newest k.starts (history past.older) ≡ then_
+  stored_is = ap (stored_newest k.starts) past.is
 
   many : o < length then_.world
-  many = let l = as_many k.kinds (first_writes n (history es)) in omega (arith, l, low)
+  many = let l = as_many k.starts (first_writes n (history es)) in omega (arith, l, low)
 
   fit : FitsContent at
   fit = subst (All FitsContent) (ap (λ (z : StoredWorld). z.world) stored_is) (contents_fit k past.older past.valid) o (content.List []) many
 
-  kind_is : kind_of at ≡ kind_in k.kinds o
+  kind_is : kind_of at ≡ kind_in k.starts o
   kind_is = ap (λ (z : StoredWorld). kind_of (state_at z o).content) (sym stored_is) ∙ kind_then k past.older past.valid o
 
-  dict_there : kind_in k.kinds o ≡ kind.Dict → at ≡ content.Dict (dict_at then_.world o)
+  dict_there : kind_in k.starts o ≡ kind.Dict → at ≡ content.Dict (dict_at then_.world o)
   dict_there is = dict_is at (kind_is ∙ is) ∙ ap (λ (z : Content). content.Dict (dict_of z)) (at_any then_.world o (content.List []) (content.Dict empty_dict) many)
 
-  set_there : kind_in k.kinds o ≡ kind.Set → at ≡ content.Set (set_at then_.world o)
+  set_there : kind_in k.starts o ≡ kind.Set → at ≡ content.Set (set_at then_.world o)
   set_there is = set_is at (kind_is ∙ is) ∙ ap (λ (z : Content). content.Set (set_of z)) (at_any then_.world o (content.List []) (content.Set empty_set) many)
 
-  pairs_fit : (is : kind_in k.kinds o ≡ kind.Dict) → All (λ pair. FitsKey pair.key × FitsValue pair.value) (dict_at then_.world o).pairs
+  pairs_fit : (is : kind_in k.starts o ≡ kind.Dict) → All (λ pair. FitsKey pair.key × FitsValue pair.value) (dict_at then_.world o).pairs
   pairs_fit is = subst FitsContent (dict_there is) fit
 
-  elements_fit : (is : kind_in k.kinds o ≡ kind.Set) → All (λ element. FitsKey element.key) (set_at then_.world o).elements
+  elements_fit : (is : kind_in k.starts o ≡ kind.Set) → All (λ element. FitsKey element.key) (set_at then_.world o).elements
   elements_fit is = subst FitsContent (set_there is) fit
 
   -- nothing under a key, or nothing at all
-  absent_dict : (key : Key) → FitsKey key → (is : kind_in k.kinds o ≡ kind.Dict) → under at key ≡ [] → DictReplies then_ o key None
+  absent_dict : (key : Key) → FitsKey key → (is : kind_in k.starts o ≡ kind.Dict) → under at key ≡ [] → DictReplies then_ o key None
   absent_dict key fits is none = replies then_ o key None (not_there (dict_at then_.world o) key fits (pairs_fit is) (ap (λ (z : Content). under z key) (sym (dict_there is)) ∙ none))
 
-  absent_set : (key : Key) → FitsKey key → (is : kind_in k.kinds o ≡ kind.Set) → under at key ≡ [] → reply_in then_ (call.Set o (set.Has key)) ≡ reply.Truth false
+  absent_set : (key : Key) → FitsKey key → (is : kind_in k.starts o ≡ kind.Set) → under at key ≡ [] → reply_in then_ (call.Set o (set.Has key)) ≡ reply.Truth false
   absent_set key fits is none = ap reply.Truth (element_missing (set_at then_.world o) key fits (elements_fit is) (ap (λ (z : Content). under z key) (sym (set_there is)) ∙ none))
 
 empty_under : (c : Content) (key : Key) → length_of c ≡ 0 → under c key ≡ []
@@ -223,6 +225,7 @@ empty_under (content.Dict dict) key none = by dict.pairs none
     by [] e = refl
     by (x ∷ xs) e = absurd (omega (arith, e))
 empty_under (content.List items) key none = refl
+empty_under (content.Deque deque) key none = refl
 empty_under (content.Set set) key none = by set.elements none
   where
     by : (elements : List Element) → length elements ≡ 0 → option_map_or element_words (find (λ element. is_key element.key key) elements) [] ≡ []
@@ -233,6 +236,7 @@ empty_list : (c : Content) → length_of c ≡ 0 → length (list_of c) ≡ 0
 empty_list (content.Dict dict) none = refl
 empty_list (content.List items) none = none
 empty_list (content.Set set) none = refl
+empty_list (content.Deque deque) none = refl
 
 -- ---- the laws
 
@@ -252,7 +256,7 @@ dict_hits_are_replied k es valid o t place key n low is fits small j u at h =
     let content_is = dict_there k es valid o n low is in
     let each = pairs_fit k es valid o n low is in
     let some_words : under (content.Dict dict) key ≢ [] = λ e. r.1 (ap (λ (z : Content). under z key) content_is ∙ e) in
-    let word : (w : ℕ) → slice_index (under (container_after k.kinds (first_writes n (history es)) o).content key) w ≡ slice_index (under (content.Dict dict) key) w = λ w. ap (λ (z : Content). slice_index (under z key) w) content_is in
+    let word : (w : ℕ) → slice_index (under (container_after k.starts (first_writes n (history es)) o).content key) w ≡ slice_index (under (content.Dict dict) key) w = λ w. ap (λ (z : Content). slice_index (under z key) w) content_is in
     let p = there dict key fits each some_words in (
       (replies (stored_at k es n) o key (Some p.0.value) (ap (option_map (λ (pair : DictPair). pair.value)) p.1)).has,
       λ kind payload read.
@@ -267,16 +271,17 @@ set_hits_are_replied k es valid o t place key n low is fits small j u at h =
 
 pub misses_are_replied : MissesAreReplied
 misses_are_replied k es valid o key n low fits j u at (inl m) =
-    let none : (is : IsKeyed (kind_in k.kinds o)) → under (container_after k.kinds (first_writes n (history es)) o).content key ≡ [] = λ keyed. (misses_are_right k es valid o m.0 key n fits low keyed j u at m.1).1 in
+    let none : (is : IsKeyed (kind_in k.starts o)) → under (container_after k.starts (first_writes n (history es)) o).content key ≡ [] = λ keyed. (misses_are_right k es valid o m.0 key n fits low keyed j u at m.1).1 in
     (λ is. absent_dict k es valid o n low key fits is (none (keyed_dict is)), λ is. absent_set k es valid o n low key fits is (none (keyed_set is)))
 misses_are_replied k es valid o key n low fits j u at (inr bare) =
-    let none = empty_under (container_after k.kinds (first_writes n (history es)) o).content key (bare_roots_are_right k es valid o n low j u at bare).1.1 in
+    let none = empty_under (container_after k.starts (first_writes n (history es)) o).content key (bare_roots_are_right k es valid o n low j u at bare).1.1 in
     (λ is. absent_dict k es valid o n low key fits is none, λ is. absent_set k es valid o n low key fits is none)
 
 list_fits : (c : Content) → FitsContent c → All FitsValue (list_of c)
 list_fits (content.Dict dict) f = λ i d low. absurd (let none : i < 0 = low in omega (arith, none))
 list_fits (content.List items) f = f
 list_fits (content.Set set) f = λ i d low. absurd (let none : i < 0 = low in omega (arith, none))
+list_fits (content.Deque deque) f = λ i d low. absurd (let none : i < 0 = low in omega (arith, none))
 
 got : (items : List Value) (i : ℕ) (value : Value) → All FitsValue items → slice_get items i ≡ Some value → FitsValue value
 got [] i value each e = absurd (cc)
@@ -298,7 +303,7 @@ items_are_replied k es valid o t place n low is small j u at h kind payload read
     let stored = stored_at k es n in
     let items = list_at stored.world o in
     let r = items_are_right k es valid o t place n low (listed is) small j u at h in
-    let fits : All FitsValue items = list_fits (container_after k.kinds (first_writes n (history es)) o).content (fit k es valid o n low) in
+    let fits : All FitsValue items = list_fits (container_after k.starts (first_writes n (history es)) o).content (fit k es valid o n low) in
     ⊎_elim
     (λ some_one. inl (some_one.0, some_one.1, item_in stored o place (Some some_one.0) some_one.2))
     (λ none. inr (none.0, item_in stored o place None none.1))
@@ -310,5 +315,5 @@ past_items_are_replied k es valid o index n low is j u at (inl p) =
     let beyond = p.1 in
     item_in (stored_at k es n) o index None (none_at (list_at (stored_at k es n).world o) index (omega (arith, short, beyond)))
 past_items_are_replied k es valid o index n low is j u at (inr bare) =
-    let none = empty_list (container_after k.kinds (first_writes n (history es)) o).content (bare_roots_are_right k es valid o n low j u at bare).1.1 in
+    let none = empty_list (container_after k.starts (first_writes n (history es)) o).content (bare_roots_are_right k es valid o n low j u at bare).1.1 in
     item_in (stored_at k es n) o index None (none_at (list_at (stored_at k es n).world o) index (omega (arith, none)))

@@ -31,10 +31,10 @@ use Rattle.ft_trace.proofs.Sounds.{content, on_cells, put_tab}
 use Rattle.ft_trace.proofs.NoWrap.{counter_room}
 
 abbrev V : Shape → ℕ → ℕ → ℕ → ℕ
-V k o t p = version_at (kind_in k.kinds o) (class_of t) p
+V k o t p = version_at (kind_in k.starts o) (class_of t) p
 
 abbrev R : Shape → ℕ → ℕ → ℕ
-R k o t = rows (kind_in k.kinds o) (class_of t)
+R k o t = rows (kind_in k.starts o) (class_of t)
 
 -- what holds of the versions, as far as the pass that writes o has come
 pub record Lows (k : Shape) (es : List Event) (o t : ℕ) : Type 0 where
@@ -97,7 +97,7 @@ lows k (did id v a ∷ es) valid o low t e =
     let is : zs ≡ slice_set ws i x = put_tab k es id v q t i x table may.2 in
     let long = table_long k t (run k es).words in
     let else : (p : ℕ) → i ≢ V k o t p → slice_index zs (V k o t p) ≡ slice_index ws (V k o t p) = λ p ne. ap (λ (z : List ℕ). slice_index z (V k o t p)) is ∙ get_or-set_other ws i (V k o t p) x 0 (λ e. ne (sym e)) in
-    let there : (p : ℕ) → p < R k o t → i ≡ V k o t p → (slice_index zs (V k o t p) ≡ x) × (x ≡ slice_index ws (V k o t p) + 1) = λ p less e. (ap (λ (z : List ℕ). slice_index z (V k o t p)) is ∙ (ap (λ (z : ℕ). slice_index (slice_set ws z x) (V k o t p)) e ∙ get_or-set_same ws (V k o t p) x 0 (subst (λ (z : ℕ). V k o t p < z) (sym long) (row_low (kind_in k.kinds o) (class_of t) p table.0 less))), as_version (kind_in k.kinds o) (class_of t) ws (content k es o) i x care p less e) in
+    let there : (p : ℕ) → p < R k o t → i ≡ V k o t p → (slice_index zs (V k o t p) ≡ x) × (x ≡ slice_index ws (V k o t p) + 1) = λ p less e. (ap (λ (z : List ℕ). slice_index z (V k o t p)) is ∙ (ap (λ (z : ℕ). slice_index (slice_set ws z x) (V k o t p)) e ∙ get_or-set_same ws (V k o t p) x 0 (subst (λ (z : ℕ). V k o t p < z) (sym long) (row_low (kind_in k.starts o) (class_of t) p table.0 less))), as_version (kind_in k.starts o) (class_of t) ws (content k es o) i x care p less e) in
     record {
       even = λ p less two.
           dite (ℕ_discrete i (V k o t p))

@@ -29,21 +29,21 @@ use Rattle.ft_trace.proofs.Sounds.{LaterIn, sound_at}
 use Rattle.ft_trace.proofs.Spots.{Under, under_trans, stamp_then, Spot, Back, go, Opened, open_window, named_by, found}
 
 -- an entry that was passed on the walk is not one that the key's walk meets
-module _ (k : Shape) (o : ℕ) (key : Key) (t j : ℕ) (low : o < containers_in k) (keyed : IsKeyed (kind_in k.kinds o)) (table : IsTableName k t) (start walk : List Act) (read : reads t start ≡ true) (s : Spot k t j start walk) (whom : whose s.es t ≡ o) (slot place p : ℕ) (in_table : slot < slots (class_of t)) (low_place : place < rows (kind_in k.kinds o) (class_of t)) (low_p : p < rows (kind_in k.kinds o) (class_of t))
+module _ (k : Shape) (o : ℕ) (key : Key) (t j : ℕ) (low : o < containers_in k) (keyed : IsKeyed (kind_in k.starts o)) (table : IsTableName k t) (start walk : List Act) (read : reads t start ≡ true) (s : Spot k t j start walk) (whom : whose s.es t ≡ o) (slot place p : ℕ) (in_table : slot < slots (class_of t)) (low_place : place < rows (kind_in k.starts o) (class_of t)) (low_p : p < rows (kind_in k.starts o) (class_of t))
     (here : index_field (tab k s.es t) slot ≡ suc p) (mine : HasLiveKey (slots (class_of t)) (tab k s.es t) p key ⊎ IsDead (slots (class_of t)) (tab k s.es t) p key) (alive : (entry_field (slots (class_of t)) (tab k s.es t) p 2 ≡ key_kind key) ⊎ (entry_field (slots (class_of t)) (tab k s.es t) p 0 % 2 ≡ 1)) where
   abbrev N : ℕ
   N = slots (class_of t)
 
   abbrev M : ℕ
-  M = rows (kind_in k.kinds o) (class_of t)
+  M = rows (kind_in k.starts o) (class_of t)
 
   back : (walk : List Act) (s : Spot k t j start walk) (xs : List Act) (a : Act) (rest : List Act) → walk ≡ xs ++ a ∷ rest → Back k t j start s.es a rest
   back walk s xs a rest is = go k t j start walk table read s xs a rest is
 
   later_from : (from : List Event) (a : Act) (rest : List Act) → whose from t ≡ o → (b : Back k t j start from a rest) → Later N M (tab k b.spot.es t) (tab k from t)
-  later_from from a rest whom b = keyed_later (kind_in k.kinds o) keyed (class_of t) (tab k b.spot.es t) (tab k from t) (subst (λ (z : ℕ). LaterIn k z t (tab k b.spot.es t) (tab k from t)) whom b.later)
+  later_from from a rest whom b = keyed_later (kind_in k.starts o) keyed (class_of t) (tab k b.spot.es t) (tab k from t) (subst (λ (z : ℕ). LaterIn k z t (tab k b.spot.es t) (tab k from t)) whom b.later)
 
-  pub beyond_table : Beyond walk t (rows (kind_in k.kinds o) (class_of t)) slot → ⊥
+  pub beyond_table : Beyond walk t (rows (kind_in k.starts o) (class_of t)) slot → ⊥
   beyond_table h =
       let ia : Act = ReadTable t slot (suc h.place) in
       let iw = back walk s h.newer ia h.rest h.is in
@@ -67,7 +67,7 @@ module _ (k : Shape) (o : ℕ) (key : Key) (t j : ℕ) (low : o < containers_in 
     iw = back (mid ++ ia ∷ rest) kw.spot mid ia rest refl
 
     word_read : f ≡ entry_field N (tab k kw.spot.es t) place w
-    word_read = found k t j (entry_offset N place w) f start (mid ++ ia ∷ rest) s.es (keyed_low (kind_in k.kinds o) keyed (class_of t) place w low_place small) kw
+    word_read = found k t j (entry_offset N place w) f start (mid ++ ia ∷ rest) s.es (keyed_low (kind_in k.starts o) keyed (class_of t) place w low_place small) kw
 
     index_read : suc place ≡ index_field (tab k iw.spot.es t) slot
     index_read = found k t j slot (suc place) start rest kw.spot.es (omega arith) iw
@@ -81,7 +81,7 @@ module _ (k : Shape) (o : ℕ) (key : Key) (t j : ℕ) (low : o < containers_in 
     used : entry_field N (tab k kw.spot.es t) place 2 ≢ 0
     used =
         let names = named_by k iw.spot.es iw.spot.valid o t table iw.spot.now (iw.whom ∙ (kw.whom ∙ whom)) in
-        let sound = keyed_sound (kind_in k.kinds o) keyed k.texts (class_of t) (tab k iw.spot.es t) (container_after k.kinds (history iw.spot.es) o).content (sound_at k iw.spot.es iw.spot.valid o low t names) in
+        let sound = keyed_sound (kind_in k.starts o) keyed k.texts (class_of t) (tab k iw.spot.es t) (container_after k.starts (history iw.spot.es) o).content (sound_at k iw.spot.es iw.spot.valid o low t names) in
         later_used N M (tab k iw.spot.es t) (tab k kw.spot.es t) i_later place low_place (sound.named slot place in_table low_place (sym index_read))
 
     same : place ≡ p
@@ -138,8 +138,8 @@ module _ (k : Shape) (o : ℕ) (key : Key) (t j : ℕ) (low : o < containers_in 
       let i_later = later_from s.es ia h.older whom iw in
       let index_read : suc place ≡ index_field (tab k iw.spot.es t) slot = found k t j slot (suc place) start h.older s.es (omega arith) iw in
       let same : place ≡ p = (let x = i_later.index slot in_table (λ none. absurd (omega (arith, none, index_read))) in omega (arith, x, index_read, here)) in
-      let dead : gone_kind key ≡ entry_field N (tab k dw.spot.es t) place 2 = found k t j (entry_offset N place 2) (gone_kind key) start h.rest vw.spot.es (keyed_low (kind_in k.kinds o) keyed (class_of t) place 2 low_place (omega arith)) dw in
-      let version : h.version ≡ entry_field N (tab k vw.spot.es t) place 0 = found k t j (entry_offset N place 0) h.version start (h.mid ++ da ∷ h.rest) s.es (keyed_low (kind_in k.kinds o) keyed (class_of t) place 0 low_place (omega arith)) vw in
+      let dead : gone_kind key ≡ entry_field N (tab k dw.spot.es t) place 2 = found k t j (entry_offset N place 2) (gone_kind key) start h.rest vw.spot.es (keyed_low (kind_in k.starts o) keyed (class_of t) place 2 low_place (omega arith)) dw in
+      let version : h.version ≡ entry_field N (tab k vw.spot.es t) place 0 = found k t j (entry_offset N place 0) h.version start (h.mid ++ da ∷ h.rest) s.es (keyed_low (kind_in k.starts o) keyed (class_of t) place 0 low_place (omega arith)) vw in
       let ks = kind_is key in
       let k0 = ks.0 in
       let k1 = ks.1 in
@@ -155,32 +155,32 @@ module _ (k : Shape) (o : ℕ) (key : Key) (t j : ℕ) (low : o < containers_in 
       ⊎_elim (λ (live : entry_field N (tab k s.es t) p 2 ≡ key_kind key). absurd (omega (arith, live, kind_p, now_dead, high1, k1))) (λ (odd : entry_field N (tab k s.es t) p 0 % 2 ≡ 1). absurd (omega (arith, odd, version_p, now_even))) alive
 
 -- a slot that was passed is not one that the key's walk meets
-pub passed_by : (k : Shape) (o : ℕ) (key : Key) (t j : ℕ) (low : o < containers_in k) (keyed : IsKeyed (kind_in k.kinds o)) (table : IsTableName k t) (start walk : List Act) (read : reads t start ≡ true) (s : Spot k t j start walk) (whom : whose s.es t ≡ o) (slot : ℕ) (in_table : slot < slots (class_of t)) (probe : List ℕ)
-    (r : Reached (slots (class_of t)) (rows (kind_in k.kinds o) (class_of t)) (tab k s.es t) probe key) → index_field (tab k s.es t) slot ≡ suc r.place → Passed walk t (rows (kind_in k.kinds o) (class_of t)) slot key → ⊥
+pub passed_by : (k : Shape) (o : ℕ) (key : Key) (t j : ℕ) (low : o < containers_in k) (keyed : IsKeyed (kind_in k.starts o)) (table : IsTableName k t) (start walk : List Act) (read : reads t start ≡ true) (s : Spot k t j start walk) (whom : whose s.es t ≡ o) (slot : ℕ) (in_table : slot < slots (class_of t)) (probe : List ℕ)
+    (r : Reached (slots (class_of t)) (rows (kind_in k.starts o) (class_of t)) (tab k s.es t) probe key) → index_field (tab k s.es t) slot ≡ suc r.place → Passed walk t (rows (kind_in k.starts o) (class_of t)) slot key → ⊥
 passed_by k o key t j low keyed table start walk read s whom slot in_table probe r here =
     ⊎_elim
-    (λ (v : Visit walk t (rows (kind_in k.kinds o) (class_of t)) slot key).
+    (λ (v : Visit walk t (rows (kind_in k.starts o) (class_of t)) slot key).
     ⊎_elim
     (other_kind k o key t j low keyed table start walk read s whom slot v.place r.place in_table v.low r.low here r.mine r.alive)
     (λ rest. ⊎_elim
     (other_payload k o key t j low keyed table start walk read s whom slot v.place r.place in_table v.low r.low here r.mine r.alive)
     (dead_entry k o key t j low keyed table start walk read s whom slot v.place r.place in_table v.low r.low here r.mine r.alive) rest)
     v.how)
-    (λ (b : Beyond walk t (rows (kind_in k.kinds o) (class_of t)) slot). beyond_table k o key t j low keyed table start walk read s whom slot r.place r.place in_table r.low r.low here r.mine r.alive b)
+    (λ (b : Beyond walk t (rows (kind_in k.starts o) (class_of t)) slot). beyond_table k o key t j low keyed table start walk read s whom slot r.place r.place in_table r.low r.low here r.mine r.alive b)
 
 -- from a moment at which no entry of the key is met
-absent_at : (k : Shape) (es : List Event) (valid : Valid k es) (o t : ℕ) (key : Key) (n : ℕ) (fits : FitsKey key) (low : o < containers_in k) (keyed : IsKeyed (kind_in k.kinds o)) (table : IsTableName k t) (j : ℕ) (start rest : List Act) (s : Spot k t j start rest) → Under s.es es → whose s.es t ≡ o → n ≡ count k s.es
-    → (Reached (slots (class_of t)) (rows (kind_in k.kinds o) (class_of t)) (tab k s.es t) (walk_of (kind_in k.kinds o) k.texts (class_of t) key) key → ⊥) → (n ≤ count k es) × (under (container_after k.kinds (first_writes n (history es)) o).content key ≡ [])
+absent_at : (k : Shape) (es : List Event) (valid : Valid k es) (o t : ℕ) (key : Key) (n : ℕ) (fits : FitsKey key) (low : o < containers_in k) (keyed : IsKeyed (kind_in k.starts o)) (table : IsTableName k t) (j : ℕ) (start rest : List Act) (s : Spot k t j start rest) → Under s.es es → whose s.es t ≡ o → n ≡ count k s.es
+    → (Reached (slots (class_of t)) (rows (kind_in k.starts o) (class_of t)) (tab k s.es t) (walk_of (kind_in k.starts o) k.texts (class_of t) key) key → ⊥) → (n ≤ count k es) × (under (container_after k.starts (first_writes n (history es)) o).content key ≡ [])
 absent_at k es valid o t key n fits low keyed table j start rest s below whom is never =
     let names = named_by k s.es s.valid o t table s.now whom in
-    let sound = keyed_sound (kind_in k.kinds o) keyed k.texts (class_of t) (tab k s.es t) (container_after k.kinds (history s.es) o).content (sound_at k s.es s.valid o low t names) in
-    let none : under (container_after k.kinds (history s.es) o).content key ≡ [] = ⊎_elim (λ e. e) (λ there. absurd (never (sound.reached key fits there))) (none_or (under (container_after k.kinds (history s.es) o).content key)) in
+    let sound = keyed_sound (kind_in k.starts o) keyed k.texts (class_of t) (tab k s.es t) (container_after k.starts (history s.es) o).content (sound_at k s.es s.valid o low t names) in
+    let none : under (container_after k.starts (history s.es) o).content key ≡ [] = ⊎_elim (λ e. e) (λ there. absurd (never (sound.reached key fits there))) (none_or (under (container_after k.starts (history s.es) o).content key)) in
     let c = stamp_then k s.es es s.valid valid below n is in
-    (c.0, ap (λ (cs : List Call). under (container_after k.kinds cs o).content key) c.1 ∙ none)
+    (c.0, ap (λ (cs : List Call). under (container_after k.starts cs o).content key) c.1 ∙ none)
 
-module _ (k : Shape) (es : List Event) (valid : Valid k es) (o t : ℕ) (key : Key) (n : ℕ) (fits : FitsKey key) (low : o < containers_in k) (keyed : IsKeyed (kind_in k.kinds o)) (j : ℕ) (u : View) (at : get_elem? (run k es).views j ≡ some u) (h : Miss u.log o t (rows (kind_in k.kinds o) (class_of t)) (walk_of (kind_in k.kinds o) k.texts (class_of t) key) key n) where
+module _ (k : Shape) (es : List Event) (valid : Valid k es) (o t : ℕ) (key : Key) (n : ℕ) (fits : FitsKey key) (low : o < containers_in k) (keyed : IsKeyed (kind_in k.starts o)) (j : ℕ) (u : View) (at : get_elem? (run k es).views j ≡ some u) (h : Miss u.log o t (rows (kind_in k.starts o) (class_of t)) (walk_of (kind_in k.starts o) k.texts (class_of t) key) key n) where
   abbrev probe : List ℕ
-  probe = walk_of (kind_in k.kinds o) k.texts (class_of t) key
+  probe = walk_of (kind_in k.starts o) k.texts (class_of t) key
 
   abbrev last : Act
   last = ReadTable t (slice_index probe h.steps) 0
@@ -206,11 +206,11 @@ module _ (k : Shape) (es : List Event) (valid : Valid k es) (o t : ℕ) (key : K
   still_free : slice_index probe h.steps < slots (class_of t) → index_field (tab k then_ t) (slice_index probe h.steps) ≡ 0
   still_free less =
       let free : 0 ≡ index_field (tab k top.spot.es t) (slice_index probe h.steps) = found k t j (slice_index probe h.steps) 0 start (h.mid ++ ReadCounter n ∷ h.rest) open_.spot.es (omega arith) top in
-      let l = keyed_later (kind_in k.kinds o) keyed (class_of t) (tab k then_ t) (tab k top.spot.es t) (subst (λ (z : ℕ). LaterIn k z t (tab k then_ t) (tab k top.spot.es t)) (top.whom ∙ open_.whom) loaded.later) in
+      let l = keyed_later (kind_in k.starts o) keyed (class_of t) (tab k then_ t) (tab k top.spot.es t) (subst (λ (z : ℕ). LaterIn k z t (tab k then_ t) (tab k top.spot.es t)) (top.whom ∙ open_.whom) loaded.later) in
       dite (ℕ_discrete (index_field (tab k then_ t) (slice_index probe h.steps)) 0) (λ e. e)
       (λ used. absurd (used (sym (l.index (slice_index probe h.steps) less used) ∙ sym free)))
 
-  never : Reached (slots (class_of t)) (rows (kind_in k.kinds o) (class_of t)) (tab k then_ t) probe key → ⊥
+  never : Reached (slots (class_of t)) (rows (kind_in k.starts o) (class_of t)) (tab k then_ t) probe key → ⊥
   never r =
       let m = r.met in
       dite (ℕ_discrete m.step h.steps)
@@ -225,10 +225,10 @@ module _ (k : Shape) (es : List Event) (valid : Valid k es) (o t : ℕ) (key : K
       (λ no. m.before h.steps (omega arith) (still_free (m.inside h.steps (omega arith)))))
 
   -- the miss
-  pub miss_at : (n ≤ count k es) × (under (container_after k.kinds (first_writes n (history es)) o).content key ≡ [])
+  pub miss_at : (n ≤ count k es) × (under (container_after k.starts (first_writes n (history es)) o).content key ≡ [])
   miss_at = absent_at k es valid o t key n fits low keyed open_.table j start h.rest loaded.spot (under_trans then_ top.spot.es es loaded.under (under_trans top.spot.es open_.spot.es es top.under open_.under)) whom_then loaded.tells never
 
-module _ (k : Shape) (es : List Event) (valid : Valid k es) (o t : ℕ) (key : Key) (n : ℕ) (fits : FitsKey key) (low : o < containers_in k) (keyed : IsKeyed (kind_in k.kinds o)) (j : ℕ) (u : View) (at : get_elem? (run k es).views j ≡ some u) (h : Full u.log o t (rows (kind_in k.kinds o) (class_of t)) (walk_of (kind_in k.kinds o) k.texts (class_of t) key) key n) where
+module _ (k : Shape) (es : List Event) (valid : Valid k es) (o t : ℕ) (key : Key) (n : ℕ) (fits : FitsKey key) (low : o < containers_in k) (keyed : IsKeyed (kind_in k.starts o)) (j : ℕ) (u : View) (at : get_elem? (run k es).views j ≡ some u) (h : Full u.log o t (rows (kind_in k.starts o) (class_of t)) (walk_of (kind_in k.starts o) k.texts (class_of t) key) key n) where
   abbrev begin : List Act
   begin = h.window.rest
 
@@ -239,9 +239,9 @@ module _ (k : Shape) (es : List Event) (valid : Valid k es) (o t : ℕ) (key : K
   counted_at = go k t j begin h.walk opened_at.table h.window.before opened_at.spot h.mid (ReadCounter n) h.rest h.is
 
   -- the miss where every slot was used
-  pub full_at : (n ≤ count k es) × (under (container_after k.kinds (first_writes n (history es)) o).content key ≡ [])
+  pub full_at : (n ≤ count k es) × (under (container_after k.starts (first_writes n (history es)) o).content key ≡ [])
   full_at =
       absent_at k es valid o t key n fits low keyed opened_at.table j begin h.rest counted_at.spot (under_trans counted_at.spot.es opened_at.spot.es es counted_at.under opened_at.under) (counted_at.whom ∙ opened_at.whom) counted_at.tells
       (λ r.
       let m = r.met in
-      passed_by k o key t j low keyed opened_at.table begin h.rest h.window.before counted_at.spot (counted_at.whom ∙ opened_at.whom) (slice_index (walk_of (kind_in k.kinds o) k.texts (class_of t) key) m.step) (m.inside m.step (le_refl m.step)) (walk_of (kind_in k.kinds o) k.texts (class_of t) key) r m.here (h.visits m.step m.low))
+      passed_by k o key t j low keyed opened_at.table begin h.rest h.window.before counted_at.spot (counted_at.whom ∙ opened_at.whom) (slice_index (walk_of (kind_in k.starts o) k.texts (class_of t) key) m.step) (m.inside m.step (le_refl m.step)) (walk_of (kind_in k.starts o) k.texts (class_of t) key) r m.here (h.visits m.step m.low))

@@ -3,6 +3,7 @@ use Rattle.std.proofs.Common.{◌≡◌, ℕ, List, [], ◌∷◌, length, Optio
 use Rattle.std.specs.Prelude.{map, filter}
 use Rattle.ft_model.specs.declared.content.Content.{Content}
 use Rattle.ft_model.specs.declared.content.Content.TheVariants as content
+use Rattle.ft_model.specs.Deques.{DequeContent}
 use Rattle.ft_model.specs.Worlds.{length_of}
 use Rattle.ft_model.specs.TableUses.{TableUse}
 use Rattle.ft_layout.specs.Tables.{is_live}
@@ -30,6 +31,7 @@ nothing_in texts block words table (content.Set d) none s =
 nothing_in texts block words table (content.List values) none s =
     let is = subst (λ (z : Option ℕ). InListTable words z values) none s.0.table in
     ap (λ l. length l) is
+nothing_in texts block words table (content.Deque deque) none s = ap (λ (d : DequeContent). length_of (content.Deque d)) s.2
 
 pub no_table_stands : (texts : List ℕ) (x : Picture) (kept : ContainerState) → root_in x ≡ 0 → Stands texts x kept → IsNothing kept
 no_table_stands texts x kept zero_is s =

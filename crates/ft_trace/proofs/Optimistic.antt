@@ -69,14 +69,14 @@ module _ (k : Shape) (es : List Event) (valid : Valid k es) (o : ℕ) (low : o <
   still_now a m = quiet_to k (in_now a m).older now top.valid (under_now a m) o low (ap (λ (n : ℕ). n % 2) (same a m) ∙ even_now) (sym (same a m))
 
   -- a load of the counter between them
-  pub at_stamp : (s : ℕ) → Among (ReadCounter s) mid → (s ≤ count k es) × (container_after k.kinds (first_writes s (history es)) o ≡ container_after k.kinds (history now) o)
+  pub at_stamp : (s : ℕ) → Among (ReadCounter s) mid → (s ≤ count k es) × (container_after k.starts (first_writes s (history es)) o ≡ container_after k.starts (history now) o)
   at_stamp s m =
       let w = in_now (ReadCounter s) m in
       let h = stamp_then k w.older es w.valid valid (under_trans w.older now es (under_now (ReadCounter s) m) (record { newer = top.newer; is = top.split })) s w.tells in
-      (h.0, ap (λ (cs : List Call). container_after k.kinds cs o) h.1 ∙ sym (still_now (ReadCounter s) m).content)
+      (h.0, ap (λ (cs : List Call). container_after k.starts cs o) h.1 ∙ sym (still_now (ReadCounter s) m).content)
 
   -- its kind
-  pub kind_at : (s : ℕ) → Among (ReadCounter s) mid → kind_of (container_after k.kinds (first_writes s (history es)) o).content ≡ kind_in k.kinds o
+  pub kind_at : (s : ℕ) → Among (ReadCounter s) mid → kind_of (container_after k.starts (first_writes s (history es)) o).content ≡ kind_in k.starts o
   kind_at s m = ap (λ (z : ContainerState). kind_of z.content) (at_stamp s m).1 ∙ kind_then k now top.valid o
 
   -- the words of the container between them
@@ -107,20 +107,20 @@ module _ (k : Shape) (es : List Event) (valid : Valid k es) (o : ℕ) (low : o <
   }
 
   -- the optimistic read: what follows from the answers, on whatever words and whatever else is stored, holds of what was stored at the load of the counter
-  pub looked : (P : StoredWorld → Type 0) → ((x : Picture) (t : StoredWorld) → kind_of (state_at t o).content ≡ kind_in k.kinds o → Stands k.texts x (state_at t o) → Agrees k o mid x → P t) → (s : ℕ) → Among (ReadCounter s) mid → (s ≤ count k es) × P (stored_newest k.kinds (first_writes s (history es)))
+  pub looked : (P : StoredWorld → Type 0) → ((x : Picture) (t : StoredWorld) → kind_of (state_at t o).content ≡ kind_in k.starts o → Stands k.texts x (state_at t o) → Agrees k o mid x → P t) → (s : ℕ) → Among (ReadCounter s) mid → (s ≤ count k es) × P (stored_newest k.starts (first_writes s (history es)))
   looked P gives s st =
       let a = at_stamp s st in
-      (a.0, gives shown (stored_newest k.kinds (first_writes s (history es))) (kind_at s st) (subst (Stands k.texts shown) (sym a.1) (stands k now top.valid o low even_now)) agrees)
+      (a.0, gives shown (stored_newest k.starts (first_writes s (history es))) (kind_at s st) (subst (Stands k.texts shown) (sym a.1) (stands k now top.valid o low even_now)) agrees)
 
 -- a call may be answered that was looked up so
-pub looked_at : (k : Shape) (es : List Event) (valid : Valid k es) (call : Call) (o : ℕ) → o < containers_in k → (j : ℕ) (u : View) → get_elem? (run k es).views j ≡ some u → (r : Reply) (n : ℕ) → LookedAtOne k call o r n u.log → (n ≤ count k es) × (reply_in (stored_newest k.kinds (first_writes n (history es))) call ≡ r)
+pub looked_at : (k : Shape) (es : List Event) (valid : Valid k es) (call : Call) (o : ℕ) → o < containers_in k → (j : ℕ) (u : View) → get_elem? (run k es).views j ≡ some u → (r : Reply) (n : ℕ) → LookedAtOne k call o r n u.log → (n ≤ count k es) × (reply_in (stored_newest k.starts (first_writes n (history es))) call ≡ r)
 looked_at k es valid call o low j u at r n h = looked k es valid o low j u at h.mid h.between (λ t. reply_in t call ≡ r) h.answers n h.stamp
 
 -- and one that was looked up in two containers
 pub looked_at_both : (k : Shape) (es : List Event) (valid : Valid k es) (call : Call) (o p : ℕ) → o < containers_in k → p < containers_in k → (j : ℕ) (u : View) → get_elem? (run k es).views j ≡ some u → (r : Reply) (n : ℕ) → LookedAtBoth k call o p r n u.log
-    → (n ≤ count k es) × (reply_in (stored_newest k.kinds (first_writes n (history es))) call ≡ r)
+    → (n ≤ count k es) × (reply_in (stored_newest k.starts (first_writes n (history es))) call ≡ r)
 looked_at_both k es valid call o p low low_too j u at r n h =
-    let stored = stored_newest k.kinds (first_writes n (history es)) in
+    let stored = stored_newest k.starts (first_writes n (history es)) in
     let a = at_stamp k es valid o low j u at h.one h.between.0 n h.stamp.0 in
     let b = at_stamp k es valid p low_too j u at h.other h.between.1 n h.stamp.1 in
     let s = stands k (now k es valid o low j u at h.one h.between.0) (top k es valid o low j u at h.one h.between.0).valid o low (even_now k es valid o low j u at h.one h.between.0) in
@@ -136,7 +136,7 @@ looked_at_both k es valid call o p low low_too j u at r n h =
     )
 
 -- a root that is 0: there is no table at the counter that was loaded
-pub bare_at : (k : Shape) (es : List Event) (valid : Valid k es) (o n : ℕ) → o < containers_in k → (j : ℕ) (u : View) → get_elem? (run k es).views j ≡ some u → Bare u.log o n → (n ≤ count k es) × IsNothing (container_after k.kinds (first_writes n (history es)) o)
+pub bare_at : (k : Shape) (es : List Event) (valid : Valid k es) (o n : ℕ) → o < containers_in k → (j : ℕ) (u : View) → get_elem? (run k es).views j ≡ some u → Bare u.log o n → (n ≤ count k es) × IsNothing (container_after k.starts (first_writes n (history es)) o)
 bare_at k es valid o n low j u at h =
     looked k es valid o low j u at h.mid h.between (λ t. IsNothing (state_at t o))
     (λ x t is s a. no_table_stands k.texts x (state_at t o) (sym (a.root 0 h.root)) s)

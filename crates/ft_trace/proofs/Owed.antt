@@ -188,19 +188,19 @@ earned_since k es valid j u at c low newer rest is none =
 abbrev taken_one : ℕ → Option ℕ → ℕ
 taken_one c taken = cond (is_class c taken) 1 0
 
-took_by : (k : Shape) (es : List Event) (id : ℕ) (v : View) (c : ℕ) (b : Act) → May k (run k es) (history es) v b → took c es ≤ takes_newest k.kinds c (history es) → took c (did id v b ∷ es) ≤ takes_newest k.kinds c (history (did id v b ∷ es))
+took_by : (k : Shape) (es : List Event) (id : ℕ) (v : View) (c : ℕ) (b : Act) → May k (run k es) (history es) v b → took c es ≤ takes_newest k.starts c (history es) → took c (did id v b ∷ es) ≤ takes_newest k.starts c (history (did id v b ∷ es))
 took_by k es id v c (Commit d r f s) may old =
     dite (ℕ_discrete (owes v.log) (suc c))
     (λ (e : owes v.log ≡ suc c).
-    let is : takes_in (stored_newest k.kinds (history es)) d ≡ Some c = may.8 c e in
-    let one : taken_one c (takes_in (stored_newest k.kinds (history es)) d) ≡ 1 = ap (taken_one c) is ∙ here c c 1 0 refl in
+    let is : takes_in (stored_newest k.starts (history es)) d ≡ Some c = may.8 c e in
+    let one : taken_one c (takes_in (stored_newest k.starts (history es)) d) ≡ 1 = ap (taken_one c) is ∙ here c c 1 0 refl in
     let y = own_low c (owes v.log) in
     omega (arith, one, y, old))
-    (λ ne. let y : own c (owes v.log) ≡ 0 = own_not c (owes v.log) ne in let p : 0 ≤ taken_one c (takes_in (stored_newest k.kinds (history es)) d) = omega arith in omega (arith, y, old, p))
+    (λ ne. let y : own c (owes v.log) ≡ 0 = own_not c (owes v.log) ne in let p : 0 ≤ taken_one c (takes_in (stored_newest k.starts (history es)) d) = omega arith in omega (arith, y, old, p))
 took_by k es id v c act may old = old
 
 -- what logs say of takings is what the writes take by the rule of tables
-pub took_low : (k : Shape) (es : List Event) → Valid k es → (c : ℕ) → took c es ≤ takes_newest k.kinds c (history es)
+pub took_low : (k : Shape) (es : List Event) → Valid k es → (c : ℕ) → took c es ≤ takes_newest k.starts c (history es)
 took_low k [] valid c = omega arith
 took_low k (did id v a ∷ es) valid c = took_by k es id v c a valid.1.3 (took_low k es valid.0 c)
 took_low k (forked id v ∷ es) valid c = took_low k es valid.0 c

@@ -81,10 +81,10 @@ module _ (k : Shape) (es : List Event) (valid : Valid k es) (j : ℕ) (u : View)
   calls = reverse (history es)
 
   abbrev hands_of : List NamedEntry → List (Option Cursor)
-  hands_of mine = hands_by k.kinds calls room mine
+  hands_of mine = hands_by k.starts calls room mine
 
   abbrev world_at : ℕ → List Content
-  world_at n = world_by k.kinds (take n calls)
+  world_at n = world_by k.starts (take n calls)
 
   -- the entry is right where these come before it
   abbrev RightAfter : List NamedEntry → NamedEntry → Type 0
@@ -97,12 +97,12 @@ module _ (k : Shape) (es : List Event) (valid : Valid k es) (j : ℕ) (u : View)
 
   -- one entry more, and the cursors that the log has then
   record Next (before : List NamedEntry) (x : NamedEntry) (log : List Act) : Type 0 where
-    pub size : length (after_stamped k.kinds calls (hands_of before) x) ≡ room
-    pub same : (n : ℕ) → n < room → cursor_at (after_stamped k.kinds calls (hands_of before) x) n ≡ cursor_in n log
+    pub size : length (after_stamped k.starts calls (hands_of before) x) ≡ room
+    pub same : (n : ℕ) → n < room → cursor_at (after_stamped k.starts calls (hands_of before) x) n ≡ cursor_in n log
     pub right : RightAfter before x
 
-  after_one : (before : List NamedEntry) (x : NamedEntry) → hands_of (before ++ x ∷ []) ≡ after_stamped k.kinds calls (hands_of before) x
-  after_one before x = fold-append (after_stamped k.kinds calls) (start_hands room) before (x ∷ [])
+  after_one : (before : List NamedEntry) (x : NamedEntry) → hands_of (before ++ x ∷ []) ≡ after_stamped k.starts calls (hands_of before) x
+  after_one before x = fold-append (after_stamped k.starts calls) (start_hands room) before (x ∷ [])
 
   goes_on : (before : List NamedEntry) (x : NamedEntry) (l log : List Act) → Good before l → Next before x log → Good (before ++ x ∷ []) log
   goes_on before x l log g n = record {
@@ -121,19 +121,19 @@ module _ (k : Shape) (es : List Event) (valid : Valid k es) (j : ℕ) (u : View)
   }
 
   -- the world at a stamp, then and now
-  world_then : (newer older : List Event) → newer ++ older ≡ es → Valid k older → (n : ℕ) → n ≤ count k older → (stored_newest k.kinds (first_writes n (history older))).world ≡ world_at n
+  world_then : (newer older : List Event) → newer ++ older ≡ es → Valid k older → (n : ℕ) → n ≤ count k older → (stored_newest k.starts (first_writes n (history older))).world ≡ world_at n
   world_then newer older split was_valid n low =
       let number = counted k older was_valid in
       let then_ : first_writes n (history es) ≡ first_writes n (history older) = subst (λ (z : List Event). first_writes n (history z) ≡ first_writes n (history older)) split (stays n newer older (omega (arith, low, number))) in
-      ap (λ (cs : List Call). (stored_newest k.kinds cs).world) (sym then_)
-      ∙ (ap (λ (z : StoredWorld). z.world) (stored_in_order k.kinds n (history es)) ∙ stored_world k.kinds (take n calls))
+      ap (λ (cs : List Call). (stored_newest k.starts cs).world) (sym then_)
+      ∙ (ap (λ (z : StoredWorld). z.world) (stored_in_order k.starts n (history es)) ∙ stored_world k.starts (take n calls))
 
   -- an entry that is no `iter` or `next`
   plain_next : (before : List NamedEntry) (x : NamedEntry) (l log : List Act) → Good before l → moved_cursor x.call ≡ None → ((n : ℕ) → cursor_in n log ≡ cursor_in n l) → IsReplied x.call x.reply (answer (world_at x.stamp) no_hands x.call).reply → Next before x log
   plain_next before x l log g none stay replied =
       let plain = plain_answer (hands_of before) (world_at x.stamp) x.call none in
       let left : (answer (world_at x.stamp) (hands_of before) x.call).hands ≡ hands_of before = ap (λ (z : Answer). z.hands) plain in
-      let now : after_stamped k.kinds calls (hands_of before) x ≡ hands_of before = same_if (is_memory x.reply) _ _ left in
+      let now : after_stamped k.starts calls (hands_of before) x ≡ hands_of before = same_if (is_memory x.reply) _ _ left in
       record {
         size = ap length now ∙ g.size;
         same = λ n low. ap (λ (hs : List (Option Cursor)). cursor_at hs n) now ∙ (g.same n low ∙ sym (stay n));
@@ -147,7 +147,7 @@ module _ (k : Shape) (es : List Event) (valid : Valid k es) (j : ℕ) (u : View)
       let hands = hands_of before in
       let ans : answer (world_at x.stamp) hands x.call ≡ moves (world_at x.stamp) hands m left x.reply = is hands (g.same m low ∙ sym had_is) in
       let plain = moved_plain (world_at x.stamp) x.call m moved had x.reply left is in
-      let now : after_stamped k.kinds calls hands x ≡ slice_set hands m (Some left) = if_false (is_memory x.reply) _ _ plain ∙ ap (λ (z : Answer). z.hands) ans in
+      let now : after_stamped k.starts calls hands x ≡ slice_set hands m (Some left) = if_false (is_memory x.reply) _ _ plain ∙ ap (λ (z : Answer). z.hands) ans in
       let size = g.size in
       record {
         size = ap length now ∙ (length-set hands m (Some left) ∙ g.size);
@@ -188,7 +188,7 @@ module _ (k : Shape) (es : List Event) (valid : Valid k es) (j : ℕ) (u : View)
       let g = before mine rest (All-tail (AsksWithin room) x mine within) in
       let found : f ≡ count k w.older = w.tells in
       let then_ = (stamp_then k w.older es w.valid valid (record { newer = w.newer; is = w.split }) f found).1 in
-      let world : (stored_newest k.kinds (history w.older)).world ≡ world_at f = ap (λ (cs : List Call). (stored_newest k.kinds cs).world) (sym then_) ∙ (ap (λ (z : StoredWorld). z.world) (stored_in_order k.kinds f (history es)) ∙ stored_world k.kinds (take f calls)) in
+      let world : (stored_newest k.starts (history w.older)).world ≡ world_at f = ap (λ (cs : List Call). (stored_newest k.starts cs).world) (sym then_) ∙ (ap (λ (z : StoredWorld). z.world) (stored_in_order k.starts f (history es)) ∙ stored_world k.starts (take f calls)) in
       let none : moved_cursor c ≡ None = writes_no_cursor c r (w.may tt).0 in
       let replied : IsReplied c r (answer (world_at f) no_hands c).reply = subst (λ (z : List Content). IsReplied c r (answer z no_hands c).reply) world (w.may tt).4 in
       more l (Commit c r f s ∷ l) x mine g

@@ -1,17 +1,17 @@
 -- The entries of each pass are in its order.
-use Rattle.std.proofs.Common.{◌≡◌, ◌≢◌, ⊎_elim, inl, inr, ℕ, suc, ◌+◌, ◌<◌, ◌≤◌, le_trans, le_refl, Bool, true, false, true≢false, cond, List, [], ◌∷◌, ◌++◌, map, drop, length, reverse, refl, sym, ap, ◌∙◌, subst, arith}
-use Rattle.std.specs.Prelude.{All, ◌==◌, ◌&&◌, Some, slice_get}
-use Rattle.std.specs.List.{list_any, flat_map}
+use Rattle.std.proofs.Common.{◌≡◌, ⊎_elim, ℕ, ◌+◌, ◌<◌, ◌≤◌, le_trans, le_refl, true, false, true≢false, List, [], ◌∷◌, ◌++◌, map, drop, length, reverse, refl, sym, ap, ◌∙◌, subst, arith}
+use Rattle.std.specs.Prelude.{All, Some}
+use Rattle.std.specs.List.{flat_map}
 use Rattle.std.proofs.lemmas.List.Elements.{All-nil, All-cons, All-head, All-tail, All-append, All-weaker}
 use mathlib.Core.Option.{some}
 use mathlib.Core.Logic.{dite}
 use native.Mathlib.Decide.{ℕ_discrete}
-use lib.ListN.{get_elem?, length-reverse}
+use lib.ListN.{get_elem?}
 use Rattle.ft_model.specs.declared.call.Call.{Call}
 use Rattle.ft_model.specs.declared.call.Call.TheVariants as call
 use Rattle.ft_model.specs.declared.reply.Reply.{Reply}
 use Rattle.ft_model.specs.declared.reply.Reply.TheVariants as reply
-use Rattle.ft_model.specs.declared.script.Kind.{Kind}
+use Rattle.ft_model.specs.declared.script.Start.{Start}
 use Rattle.ft_model.specs.Answers.{is_write}
 use Rattle.ft_model.specs.Calls.{containers_of, moved_cursor}
 use Rattle.ft_model.specs.TableUses.{StoredWorld, stored_newest}
@@ -23,15 +23,14 @@ use Rattle.ft_trace.specs.declared.View.{View}
 use Rattle.ft_trace.specs.Acts.{place, Reports, starter, noted, maker, made, both, spent, sender, note, all_lists, lists_of}
 use Rattle.ft_trace.specs.Causes.{HasCause, least_stamp}
 use Rattle.ft_trace.specs.Entries.{IsNumber, AllRight}
-use Rattle.ft_trace.specs.OwnOrder.{number_after, is_write_of, after_begins, begins_in, HasWritesOn, FollowsOwn, AreInOwnOrder, IsWriteIn, OwnEntriesAreInOrder, OwnOrderStays}
-use Rattle.ft_trace.specs.BegunSections.{Begun, begun, begun_by, is_among, without, since_load, IsInnermostHeld}
+use Rattle.ft_trace.specs.OwnOrder.{number_after, after_begins, begins_in, FollowsOwn, AreInOwnOrder, IsWriteIn, OwnEntriesAreInOrder, OwnOrderStays}
+use Rattle.ft_trace.specs.BegunSections.{Begun, begun, begun_by, is_among, without, IsInnermostHeld}
 use Rattle.ft_trace.specs.Traces.{Event, did, forked, joined, sent, run, word, writes_of, history, May, Valid}
 use Rattle.ft_trace.specs.ContainerStates.{first_writes}
-use Rattle.ft_trace.proofs.AllEntries.{has_none}
 use Rattle.ft_trace.proofs.Cases.{here, miss, off}
 use Rattle.ft_trace.proofs.ClosedEntries.{all_right}
 use Rattle.ft_trace.proofs.Contents.{counted}
-use Rattle.ft_trace.proofs.InOrder.{number_low, order_numbered, get_front}
+use Rattle.ft_trace.proofs.InOrder.{order_numbered, get_front}
 use Rattle.ft_trace.proofs.KeptSections.{EachHeld, each_held, own_writes}
 use Rattle.ft_trace.proofs.Sizes.{set_views, one_more, one_view}
 use Rattle.ft_trace.proofs.RisingStamps.{least_low, loaded_up}
@@ -100,8 +99,11 @@ alike_write call.End e r wrote begins = off wrote
 alike_write (call.Dict o c) e r wrote begins = refl
 alike_write (call.List o c) e r wrote begins = refl
 alike_write (call.Set o c) e r wrote begins = refl
+alike_write (call.Deque o c) e r wrote begins = refl
 alike_write (call.Next c) e r wrote begins = refl
 alike_write call.Quiesce e r wrote begins = refl
+alike_write (call.Await thread index) e r wrote begins = refl
+alike_write call.Dump e r wrote begins = refl
 
 alike_call : (c : Call) (r : Reply) (n : ℕ) (l : List Act) (es : List Entry) (bs : List Begun) → Alike es bs → Alike (after_begins (record { call = c; reply = r; stamp = n; wrote = false }) c es) (begun_by c n l bs)
 alike_call (call.Begin x y) r n l es bs a = (refl, refl, a)
@@ -109,8 +111,11 @@ alike_call call.End r n l es bs a = alike_drop es bs a
 alike_call (call.Dict o c) r n l es bs a = a
 alike_call (call.List o c) r n l es bs a = a
 alike_call (call.Set o c) r n l es bs a = a
+alike_call (call.Deque o c) r n l es bs a = a
 alike_call (call.Next c) r n l es bs a = a
 alike_call call.Quiesce r n l es bs a = a
+alike_call (call.Await thread index) r n l es bs a = a
+alike_call call.Dump r n l es bs a = a
 
 -- an `iter` or a `next` begins and ends no section
 alike_cursor : (c : Call) (n : ℕ) → moved_cursor c ≡ Some n → (e : Entry) (begins : List Entry) → after_begins e c begins ≡ begins
@@ -119,8 +124,11 @@ alike_cursor call.End n moved e begins = absurd (cc)
 alike_cursor (call.Dict o c) n moved e begins = refl
 alike_cursor (call.List o c) n moved e begins = refl
 alike_cursor (call.Set o c) n moved e begins = refl
+alike_cursor (call.Deque o c) n moved e begins = refl
 alike_cursor (call.Next c) n moved e begins = refl
 alike_cursor call.Quiesce n moved e begins = refl
+alike_cursor (call.Await thread index) n moved e begins = refl
+alike_cursor call.Dump n moved e begins = refl
 
 abbrev AlikeIn : ℕ → View → Type 0
 AlikeIn j u = Alike (begins_in u.entries) (begun u.log)
@@ -169,20 +177,20 @@ own_where P Q m (e ∷ before) low same own =
       own_where P Q m before (All-tail (λ e. e.stamp ≤ m) e before low) same own.1,
     )
 
-right_low : (kinds : List Kind) (cs : List Call) (entries : List Entry) → AllRight kinds cs entries → All (λ e. e.stamp ≤ length cs) entries
-right_low kinds cs [] all = All-nil (λ e. e.stamp ≤ length cs)
-right_low kinds cs (e ∷ entries) all = All-cons (λ e. e.stamp ≤ length cs) e entries all.0.low (right_low kinds cs entries all.1)
+right_low : (starts : List Start) (cs : List Call) (entries : List Entry) → AllRight starts cs entries → All (λ e. e.stamp ≤ length cs) entries
+right_low starts cs [] all = All-nil (λ e. e.stamp ≤ length cs)
+right_low starts cs (e ∷ entries) all = All-cons (λ e. e.stamp ≤ length cs) e entries all.0.low (right_low starts cs entries all.1)
 
-right_parts : (kinds : List Kind) (cs : List Call) (xs ys : List Entry) → AllRight kinds cs (xs ++ ys) → AllRight kinds cs xs × AllRight kinds cs ys
-right_parts kinds cs [] ys all = (tt, all)
-right_parts kinds cs (x ∷ xs) ys all = let r = right_parts kinds cs xs ys all.1 in ((all.0, r.0), r.1)
+right_parts : (starts : List Start) (cs : List Call) (xs ys : List Entry) → AllRight starts cs (xs ++ ys) → AllRight starts cs xs × AllRight starts cs ys
+right_parts starts cs [] ys all = (tt, all)
+right_parts starts cs (x ∷ xs) ys all = let r = right_parts starts cs xs ys all.1 in ((all.0, r.0), r.1)
 
 older_number : (b : Act) (cs : List Call) (n : ℕ) (called : Call) → n < length cs → IsNumber (writes_of b cs) n called → IsNumber cs n called
 older_number (Commit c r f s) cs n called low is = ⊎_elim (λ (e : (n ≡ length cs) × (called ≡ c)). let at = e.0 in absurd (omega (arith, at, low))) (λ older. older) is
 older_number act cs n called low is = is
 
-own_stays : (kinds : List Kind) (b : Act) (cs : List Call) (entries : List Entry) → AllRight kinds cs entries → AreInOwnOrder (IsNumber cs) entries → AreInOwnOrder (IsNumber (writes_of b cs)) entries
-own_stays kinds b cs entries right own = own_where (IsNumber cs) (IsNumber (writes_of b cs)) (length cs) entries (right_low kinds cs entries right) (older_number b cs) own
+own_stays : (starts : List Start) (b : Act) (cs : List Call) (entries : List Entry) → AllRight starts cs entries → AreInOwnOrder (IsNumber cs) entries → AreInOwnOrder (IsNumber (writes_of b cs)) entries
+own_stays starts b cs entries right own = own_where (IsNumber cs) (IsNumber (writes_of b cs)) (length cs) entries (right_low starts cs entries right) (older_number b cs) own
 
 pub own_order_stays : OwnOrderStays
 own_order_stays calls more entries low own =
@@ -210,7 +218,7 @@ own_next k es valid id v at (Answer c r n) found may old =
         rises = All-weaker (λ e. number_after e ≤ least_stamp v.log) (λ e. number_after e ≤ n) (λ e past. le_trans past up) v.entries before;
         kept = λ is_end is_kept first outer opens o m called among named low past is.
             let f = alike_first first outer (begun v.log) (subst (λ (l : List Entry). Alike l (begun v.log)) opens (alike k es valid id v at)) in
-            let held = kept_cause (stored_newest k.kinds (first_writes n (history es))) v.log c r n is_kept may.4 f.0 f.1 f.2 in
+            let held = kept_cause (stored_newest k.starts (first_writes n (history es))) v.log c r n is_kept may.4 f.0 f.1 f.2 in
             let since = (subst (EachHeld v.log) f.2 (each_held v.log)).0 held o (ap (is_among o) (sym f.3) ∙ among) in
             own_writes k es valid o f.0.stamp id v at since m called named (subst (λ (z : ℕ). z ≤ m) f.4 low) is;
       },
@@ -232,12 +240,12 @@ own_next k es valid id v at act found may old = old
 abbrev InOrder : Shape → List Event → ℕ → View → Type 0
 InOrder k es j u = All (AreInOwnOrder (IsNumber (history es))) (all_lists u)
 
-right_lists : (k : Shape) (b : Act) (cs : List Call) (lists : List (List Entry)) → AllRight k.kinds cs (flat_map (λ (m : List Entry). m) lists) → All (AreInOwnOrder (IsNumber cs)) lists → All (AreInOwnOrder (IsNumber (writes_of b cs))) lists
+right_lists : (k : Shape) (b : Act) (cs : List Call) (lists : List (List Entry)) → AllRight k.starts cs (flat_map (λ (m : List Entry). m) lists) → All (AreInOwnOrder (IsNumber cs)) lists → All (AreInOwnOrder (IsNumber (writes_of b cs))) lists
 right_lists k b cs [] right all = All-nil (AreInOwnOrder (IsNumber (writes_of b cs)))
 right_lists k b cs (l ∷ lists) right all =
-    let p = right_parts k.kinds cs l (flat_map (λ (m : List Entry). m) lists) right in
+    let p = right_parts k.starts cs l (flat_map (λ (m : List Entry). m) lists) right in
     All-cons (AreInOwnOrder (IsNumber (writes_of b cs))) l lists
-    (own_stays k.kinds b cs l p.0 (All-head (AreInOwnOrder (IsNumber cs)) l lists all))
+    (own_stays k.starts b cs l p.0 (All-head (AreInOwnOrder (IsNumber cs)) l lists all))
     (right_lists k b cs lists p.1 (All-tail (AreInOwnOrder (IsNumber cs)) l lists all))
 
 given_lists : (P : List Entry → Type 0) (w : View) → All P (all_lists w) → All P (lists_of w)

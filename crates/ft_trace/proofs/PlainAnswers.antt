@@ -10,14 +10,17 @@ use Rattle.ft_model.specs.declared.call.ListCall.{ListCall}
 use Rattle.ft_model.specs.declared.call.ListCall.TheVariants as list
 use Rattle.ft_model.specs.declared.call.SetCall.{SetCall}
 use Rattle.ft_model.specs.declared.call.SetCall.TheVariants as set
+use Rattle.ft_model.specs.declared.call.DequeCall.{DequeCall}
+use Rattle.ft_model.specs.declared.call.DequeCall.TheVariants as deque
 use Rattle.ft_model.specs.declared.content.Content.{Content}
 use Rattle.ft_model.specs.declared.cursor.Cursor.{Cursor}
 use Rattle.ft_model.specs.declared.data.Value.{Value}
-use Rattle.ft_model.specs.Answers.{Answer, answer, answer_dict, answer_list, answer_set}
-use Rattle.ft_model.specs.Calls.{moved_cursor, cursor_of_dict, cursor_of_list, cursor_of_set}
+use Rattle.ft_model.specs.Answers.{Answer, answer, answer_dict, answer_list, answer_set, answer_deque}
+use Rattle.ft_model.specs.Calls.{moved_cursor, cursor_of_dict, cursor_of_list, cursor_of_set, cursor_of_deque}
 use Rattle.ft_model.specs.Contents.{DictContent, SetContent, dict_get, has_key, has_element}
+use Rattle.ft_model.specs.Deques.{DequeContent, last_item, first_item, deque_get}
 use Rattle.ft_model.specs.Lists.{index_in, index_of}
-use Rattle.ft_model.specs.Worlds.{no_hands, dict_at, list_at, set_at}
+use Rattle.ft_model.specs.Worlds.{no_hands, dict_at, list_at, set_at, deque_at}
 
 -- the answer with these hands left in place of what it leaves
 abbrev pub with_hands : List (Option Cursor) → Answer → Answer
@@ -41,6 +44,7 @@ module _ (hands : List (Option Cursor)) where
     plain_dict old dict.PopItem none = found _ _ (slice_get old.pairs (length old.pairs - 1)) _ _ (λ v. refl) refl
     plain_dict old (dict.SetDefault key default) none = found _ _ (dict_get old.pairs key) _ _ (λ v. refl) refl
     plain_dict old (dict.Iter m) none = absurd (cc)
+    plain_dict old (dict.Reversed m) none = absurd (cc)
     plain_dict old c none = refl
 
     plain_list : (items : List Value) (c : ListCall) → cursor_of_list c ≡ None → answer_list world hands place items c ≡ with_hands hands (answer_list world no_hands place items c)
@@ -51,6 +55,7 @@ module _ (hands : List (Option Cursor)) where
     plain_list items (list.Remove value) none = found _ _ (index_of items value) _ _ (λ v. refl) refl
     plain_list items (list.Index value) none = found _ _ (index_of items value) _ _ (λ v. refl) refl
     plain_list items (list.Iter m) none = absurd (cc)
+    plain_list items (list.Reversed m) none = absurd (cc)
     plain_list items c none = refl
 
     plain_set : (old : SetContent) (c : SetCall) → cursor_of_set c ≡ None → answer_set world hands place old c ≡ with_hands hands (answer_set world no_hands place old c)
@@ -59,12 +64,22 @@ module _ (hands : List (Option Cursor)) where
     plain_set old (set.Iter m) none = absurd (cc)
     plain_set old c none = refl
 
+    plain_deque : (old : DequeContent) (c : DequeCall) → cursor_of_deque c ≡ None → answer_deque world hands place old c ≡ with_hands hands (answer_deque world no_hands place old c)
+    plain_deque old deque.Pop none = found _ _ (last_item old.items) _ _ (λ v. refl) refl
+    plain_deque old deque.PopLeft none = found _ _ (first_item old.items) _ _ (λ v. refl) refl
+    plain_deque old (deque.Get index) none = found _ _ (deque_get old.items index) _ _ (λ v. refl) refl
+    plain_deque old (deque.Iter m) none = absurd (cc)
+    plain_deque old c none = refl
+
   -- it answers the same to every thread, and leaves its cursors
   pub plain_answer : (world : List Content) (c : Call) → moved_cursor c ≡ None → answer world hands c ≡ with_hands hands (answer world no_hands c)
   plain_answer world (call.Dict o c) none = plain_dict world o (dict_at world o) c none
   plain_answer world (call.List o c) none = plain_list world o (list_at world o) c none
   plain_answer world (call.Set o c) none = plain_set world o (set_at world o) c none
+  plain_answer world (call.Deque o c) none = plain_deque world o (deque_at world o) c none
   plain_answer world (call.Next m) none = absurd (cc)
   plain_answer world (call.Begin a b) none = refl
   plain_answer world call.End none = refl
   plain_answer world call.Quiesce none = refl
+  plain_answer world (call.Await thread index) none = refl
+  plain_answer world call.Dump none = refl

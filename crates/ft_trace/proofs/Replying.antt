@@ -38,8 +38,8 @@ replies_may_be_given v call said live p some_call not_write no_cursor right =
     let number : n ≡ length (history es) = counted k es p.2.0 in
     let all : first_writes n (history es) ≡ history es = ap (λ (z : ℕ). first_writes z (history es)) number ∙ all_writes (history es) in
     let r = right (history es) n (agrees_now v es id p.2) in
-    let replied : IsReplied call said (reply_in (stored_newest k.kinds (first_writes n (history es))) call) = subst (λ (z : List Call). IsReplied call said (reply_in (stored_newest k.kinds z) call)) (sym all) r.0 in
-    let cause : HasCause (stored_newest k.kinds (first_writes n (history es))) u.log call said n = subst (λ (z : List Call). HasCause (stored_newest k.kinds z) u.log call said n) (sym all) r.1 in
+    let replied : IsReplied call said (reply_in (stored_newest k.starts (first_writes n (history es))) call) = subst (λ (z : List Call). IsReplied call said (reply_in (stored_newest k.starts z) call)) (sym all) r.0 in
+    let cause : HasCause (stored_newest k.starts (first_writes n (history es))) u.log call said n = subst (λ (z : List Call). HasCause (stored_newest k.starts z) u.log call said n) (sym all) r.1 in
     let own : Loaded n u.log = record { newer = []; rest = v.log; is = refl; own = tt } in
     let may : May k (run k now) (history now) u (Answer call said n) = (not_write, omega (arith, same), replied, own, cause, some_call, no_cursor) in
     (n, (did id u (Answer call said n) ∷ now, id, (((p.2.0, (p.2.1, live.0, refl, tt, live.1)), (at, live.0, tt, may, live.1)), set_at (run k now).views id u (noted (Answer call said n) u) at)))
@@ -58,7 +58,7 @@ cursors_may_be_moved v call said number left live p some_call moved right =
     let count_is : n ≡ length (history es) = counted k es p.2.0 in
     let all : first_writes n (history es) ≡ history es = ap (λ (z : ℕ). first_writes z (history es)) count_is ∙ all_writes (history es) in
     let had = cursor_in number v.log in
-    let is : MovesCursor (stored_newest k.kinds (first_writes n (history es))).world call number had said left = subst (λ (z : List Call). MovesCursor (stored_newest k.kinds z).world call number had said left) (sym all) (right (history es) (agrees_now v es id p.2)) in
+    let is : MovesCursor (stored_newest k.starts (first_writes n (history es))).world call number had said left = subst (λ (z : List Call). MovesCursor (stored_newest k.starts z).world call number had said left) (sym all) (right (history es) (agrees_now v es id p.2)) in
     let own : Loaded n u.log = record { newer = []; rest = v.log; is = refl; own = tt } in
     let b : Act = AnswerCursor call said n number had left in
     let may : May k (run k now) (history now) u b = (moved, omega (arith, same), is, own, refl, some_call) in
@@ -73,10 +73,13 @@ pub memory_replied : (said : Reply) → is_memory said ≡ true → (called : Ca
 memory_replied said memory (call.Dict o c) adds plain = inl memory
 memory_replied said memory (call.List o c) adds plain = inl memory
 memory_replied said memory (call.Set o c) adds plain = inl memory
+memory_replied said memory (call.Deque o c) adds plain = inl memory
 memory_replied said memory (call.Next cursor) adds plain = absurd (true≢false (sym adds))
 memory_replied said memory (call.Begin one other) adds plain = absurd (true≢false (sym adds))
 memory_replied said memory call.End adds plain = absurd (true≢false (sym adds))
 memory_replied said memory call.Quiesce adds plain = absurd (true≢false (sym adds))
+memory_replied said memory (call.Await thread index) adds plain = absurd (true≢false (sym adds))
+memory_replied said memory call.Dump adds plain = absurd (true≢false (sym adds))
 
 pub memory_errors_may_be_answered : MemoryErrorsMayBeAnswered
 memory_errors_may_be_answered v call class newer rest live p some_call is own none right =
@@ -85,4 +88,4 @@ memory_errors_may_be_answered v call class newer rest live p some_call is own no
     replies_may_be_given v call (lacks class) live p some_call (never_writes (is_changing call)) (adds_no_cursor call adds)
     (λ calls number agree.
     let r = right calls agree in
-    (memory_replied (lacks class) refl call r.0.adds (reply_in (stored_newest v.shape.kinds calls) call), (r.0, r.1, r.2, record { newer = []; mid = newer; rest = rest; is = ap (λ (l : List Act). ReadCounter number ∷ l) is; own = (tt, own); none = none })))
+    (memory_replied (lacks class) refl call r.0.adds (reply_in (stored_newest v.shape.starts calls) call), (r.0, r.1, r.2, record { newer = []; mid = newer; rest = rest; is = ap (λ (l : List Act). ReadCounter number ∷ l) is; own = (tt, own); none = none })))

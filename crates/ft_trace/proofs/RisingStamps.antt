@@ -115,7 +115,7 @@ loads_rise k es valid j u at newer mid rest m n is =
     omega (arith, a, b, up)
 
 -- a MemoryError of a class, at its stamp
-pub empty_earned : (k : Shape) (es : List Event) → Valid k es → (j : ℕ) (u : View) → get_elem? (run k es).views j ≡ some u → (class n : ℕ) → IsClass class → FoundEmpty class n u.log → tables_in k class ≤ takes_newest k.kinds class (first_writes n (history es)) + (k.passes - 1)
+pub empty_earned : (k : Shape) (es : List Event) → Valid k es → (j : ℕ) (u : View) → get_elem? (run k es).views j ≡ some u → (class n : ℕ) → IsClass class → FoundEmpty class n u.log → tables_in k class ≤ takes_newest k.starts class (first_writes n (history es)) + (k.passes - 1)
 empty_earned k es valid j u at class n is h =
     let w = was k es valid j u at h.newer (ReadCounter n) (h.mid ++ ReadCount class 0 ∷ h.rest) h.is in
     let m = length (history w.older) in
@@ -124,5 +124,5 @@ empty_earned k es valid j u at class n is h =
     let took = took_low k w.older w.valid class in
     let one : first_writes m (history es) ≡ first_writes m (history w.older) = subst (λ (l : List Event). first_writes m (history l) ≡ first_writes m (history w.older)) w.split (stays m w.newer w.older (let z : m ≤ m = omega arith in z)) in
     let same : first_writes n (history es) ≡ history w.older = ap (λ (z : ℕ). first_writes z (history es)) number ∙ (one ∙ all_writes (history w.older)) in
-    let takes : takes_newest k.kinds class (first_writes n (history es)) ≡ takes_newest k.kinds class (history w.older) = ap (takes_newest k.kinds class) same in
+    let takes : takes_newest k.starts class (first_writes n (history es)) ≡ takes_newest k.starts class (history w.older) = ap (takes_newest k.starts class) same in
     omega (arith, few, took, takes)

@@ -221,4 +221,4 @@ pub words_lie_apart : WordsLieApart
 words_lie_apart k x y a b = (in_part k x a, at_apart k x y a b)
 
 pub stored_tables_are_in_order : StoredTablesAreInOrder
-stored_tables_are_in_order k es valid = let order = in_order k es valid in (order, order-caps (stored_newest k.kinds (history es)) order)
+stored_tables_are_in_order k es valid = let order = in_order k es valid in (order, order-caps (stored_newest k.starts (history es)) order)

@@ -194,9 +194,9 @@ module _ (versions : EntryVersionsChangeNothing) (first : FirstEntriesAreElement
 
   -- ---- in each history that agrees with what the pass knows
 
-  module _ (calls : List Call) (agree : AgreesWith v (stored_newest k.kinds calls)) where
+  module _ (calls : List Call) (agree : AgreesWith v (stored_newest k.starts calls)) where
     abbrev found : StoredWorld
-    found = stored_newest k.kinds calls
+    found = stored_newest k.starts calls
 
     abbrev left : List Content
     left = after_write found.world called
@@ -218,7 +218,7 @@ module _ (versions : EntryVersionsChangeNothing) (first : FirstEntriesAreElement
         let class_here : T.class ≡ Some c = ap (λ (z : TableUse). z.class) table_is in
         let fill_here : T.fill ≡ p = ap (λ (z : TableUse). z.fill) table_is in
         let drawn = one_drawn in
-        (λ d. outgrows_set (record { class = class_here d; fill = fill_here d }) (drawn d))
+        (λ d. outgrows_set (record { class = class_here d; fill = fill_here d; keys = T.keys }) (drawn d))
         ∙ (ap (λ (z : Bool). nat_lt 0 1 && z) (le-ltb (3 * 2 ^ c) (5 * (p + 1)) (omega (arith, room))) ∙ and_false (nat_lt 0 1))
 
     takes_none : takes_in found called ≡ None
@@ -232,7 +232,7 @@ module _ (versions : EntryVersionsChangeNothing) (first : FirstEntriesAreElement
         let one = one_drawn in
         get_or-set_same found.tables o (grown_table T (takes_in found called) drawn count) no_table (in_tables v o (content.Set elements) may.low may.mine is_set calls agree)
         ∙ (ap (λ (z : Option ℕ). grown_table T z drawn count) takes_none
-        ∙ (λ d. record { class = (table_is d).class; fill = (table_is d).fill + one d }))
+        ∙ (λ d. record { class = (table_is d).class; fill = (table_is d).fill + one d; keys = (table_is d).keys }))
 
   pub add_possible : (start number : ℕ) × (s : Snap) × (stop : ℕ) × Possible (after_write_of v o t write start number s stop)
   add_possible =

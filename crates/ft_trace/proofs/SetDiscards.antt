@@ -43,5 +43,5 @@ elements_may_be_discarded versions first v o t place key elements may is_set nam
     (λ a same. none_under elements key a fits (set_fits_words v.shape.texts (held o v).block (0 ∷ 0 ∷ (held o v).table) (class_of t) fill elements says) same)
     (set_clear first v.shape.texts at.block (held o v).block (class_of t) fill fill (in_bank v o t may.low may.possible may.mine names).0 elements news (held o v).table at.table says now)
     (record { of = refl; wrote = refl; fits = fits; locks = one_locked o v.log may.mine; replied = λ r e. inr e; declared = λ world one. record { one = one; both = tt; room = tt } })
-    (λ calls agree. ap (λ (z : SetContent). answer_set (stored_newest v.shape.kinds calls).world no_hands o z (set.Discard key)) (ap set_of (content_there v o (content.Set elements) may.low may.mine is_set calls agree (content.Set empty_set))))
-    (λ stored. (refl, refl))
+    (λ calls agree. ap (λ (z : SetContent). answer_set (stored_newest v.shape.starts calls).world no_hands o z (set.Discard key)) (ap set_of (content_there v o (content.Set elements) may.low may.mine is_set calls agree (content.Set empty_set))))
+    (λ stored no_keys. (refl, refl))

@@ -97,9 +97,9 @@ module _ (versions : EntryVersionsChangeNothing) (first : FirstEntriesAreElement
 
   -- ---- in each history that agrees with what the pass knows
 
-  module _ (calls : List Call) (agree : AgreesWith v (stored_newest k.kinds calls)) where
+  module _ (calls : List Call) (agree : AgreesWith v (stored_newest k.starts calls)) where
     abbrev found : StoredWorld
-    found = stored_newest k.kinds calls
+    found = stored_newest k.starts calls
 
     abbrev left : List Content
     left = after_write found.world called
@@ -114,7 +114,7 @@ module _ (versions : EntryVersionsChangeNothing) (first : FirstEntriesAreElement
         let d = set_left v o elements begin.low begin.mine is_set calls agree key in
         (λ i. set_takes (a i) (b i) (d i)) ∙ has.takes
 
-    table_after : table_at (after_stored found called).tables o ≡ record { class = Some c; fill = fill }
+    table_after : table_at (after_stored found called).tables o ≡ record { class = Some c; fill = fill; keys = [] }
     table_after =
         let drawn = (set_at left o).next - (set_at found.world o).next in
         let count = length (set_at left o).elements in

@@ -78,9 +78,9 @@ set_clear first texts block before c fill more is_class elements news ws zs says
 
 -- ---- s.add(k), in each history that agrees with what a pass with the lock of the set knows
 
-module _ (v : View) (o : ℕ) (elements : SetContent) (low : o < containers_in v.shape) (mine : has_lock o v.log ≡ true) (is_set : (known o v).content ≡ content.Set elements) (calls : List Call) (agree : AgreesWith v (stored_newest v.shape.kinds calls)) where
+module _ (v : View) (o : ℕ) (elements : SetContent) (low : o < containers_in v.shape) (mine : has_lock o v.log ≡ true) (is_set : (known o v).content ≡ content.Set elements) (calls : List Call) (agree : AgreesWith v (stored_newest v.shape.starts calls)) where
   abbrev stored : StoredWorld
-  stored = stored_newest v.shape.kinds calls
+  stored = stored_newest v.shape.starts calls
 
   pub set_found : set_at stored.world o ≡ elements
   set_found = ap set_of (content_there v o (content.Set elements) low mine is_set calls agree (content.Set empty_set))

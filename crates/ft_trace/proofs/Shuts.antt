@@ -22,6 +22,8 @@ use Rattle.ft_trace.proofs.Evens.{left_alone, evens}
 use Rattle.ft_trace.proofs.Hands.{handed}
 use Rattle.ft_trace.proofs.Pieces.{table_at}
 use Rattle.ft_trace.proofs.TablePlaces.{on_table, placed}
+use Rattle.ft_trace.proofs.Announcing.{fits}
+use Rattle.ft_trace.proofs.LandedStarts.{has_versions}
 use Rattle.ft_trace.proofs.Rests.{rests}
 
 -- what is said of t, while it is neither fresh in a hand nor current
@@ -32,6 +34,7 @@ Shuts k es t = age es t % 5 ≢ 1 → age es t % 5 ≢ 2 → IsAllShut (class_of
 first_shut : (k : Shape) (t : ℕ) → IsTableName k t → IsAllShut (class_of t) (tab k [] t)
 first_shut k t table = (
   kind.Dict,
+  tt,
   λ p low.
       let fits = keyed_low kind.Dict tt (class_of t) p 0 low (omega arith) in
       ap (λ (n : ℕ). n % 2) (table_at k t (opened k).words (entry_offset (slots (class_of t)) p 0) fits ∙ cell_first k t (entry_offset (slots (class_of t)) p 0) table fits),
@@ -66,7 +69,7 @@ shuts k (did id v a ∷ es) valid t table =
     absurd (not_two (omega (arith, now, was, one))))
     (λ o r ne ok _ _.
     let same = left_alone k es id v t table (PutRoot o r (suc t)) ok.1.3 (λ i e. absurd (cc)) in
-    subst (IsAllShut (class_of t)) (sym same) (kind_in k.kinds o, ok.1.3.4 t refl))
+    subst (IsAllShut (class_of t)) (sym same) (kind_in k.starts o, has_versions k (fits k es valid.0) o, ok.1.3.4 t refl))
     (λ f ok _ _.
     let same = left_alone k es id v t table (Retire t f) ok.1.3 (λ i e. absurd (cc)) in
     let three : n ≡ 3 = ok.1.3.1 in
@@ -88,7 +91,7 @@ odd_versions_are_in_writes k es valid t table no_hand quiet =
     dite (ℕ_discrete (age es t % 5) 2)
     (λ (two : age es t % 5 ≡ 2).
     let current = its.current two in
-    (kind_in k.kinds (whose es t), evens k es valid t table two (quiet (whose es t) current.0 current.1)))
+    (kind_in k.starts (whose es t), has_versions k (fits k es valid) (whose es t), evens k es valid t table two (quiet (whose es t) current.0 current.1)))
     (λ not_two. dite (ℕ_discrete (age es t % 5) 1)
     (λ (one : age es t % 5 ≡ 1).
     let h = handed k es valid t table (λ z. absurd (omega (arith, one, z))) not_two (λ z. absurd (omega (arith, one, z))) in

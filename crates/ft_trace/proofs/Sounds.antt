@@ -28,19 +28,19 @@ use Rattle.ft_trace.proofs.ByKind.{as_self, as_trans, as_later, as_sound, as_cle
 
 -- what stays of t while it is the table of o, and what holds of it
 abbrev pub LaterIn : Shape → ℕ → ℕ → List ℕ → List ℕ → Type 0
-LaterIn k o t ws zs = LaterAs (kind_in k.kinds o) (class_of t) ws zs
+LaterIn k o t ws zs = LaterAs (kind_in k.starts o) (class_of t) ws zs
 
 abbrev pub SoundIn : Shape → ℕ → ℕ → List ℕ → Content → Type 0
-SoundIn k o t ws c = SoundAs (kind_in k.kinds o) k.texts (class_of t) ws c
+SoundIn k o t ws c = SoundAs (kind_in k.starts o) k.texts (class_of t) ws c
 
 abbrev pub content : Shape → List Event → ℕ → Content
-content k es o = (container_after k.kinds (history es) o).content
+content k es o = (container_after k.starts (history es) o).content
 
 pub in_self : (k : Shape) (o t : ℕ) (ws : List ℕ) → LaterIn k o t ws ws
-in_self k o t ws = as_self (kind_in k.kinds o) (class_of t) ws
+in_self k o t ws = as_self (kind_in k.starts o) (class_of t) ws
 
 pub in_trans : (k : Shape) (o t : ℕ) (ws ys zs : List ℕ) → LaterIn k o t ws ys → LaterIn k o t ys zs → LaterIn k o t ws zs
-in_trans k o t ws ys zs a b = as_trans (kind_in k.kinds o) (class_of t) ws ys zs a b
+in_trans k o t ws ys zs a b = as_trans (kind_in k.starts o) (class_of t) ws ys zs a b
 
 -- what the action is to the words of t
 module _ (k : Shape) (es : List Event) (id : ℕ) (v : View) (t : ℕ) (table : IsTableName k t) (F : Act → Type 0) (put : (o i x : ℕ) → F (PutTable o t i x)) (fill : (i x : ℕ) → F (PutFresh t i x)) (other : (a : Act) → (May k (run k es) (history es) v a → tab k (did id v a ∷ es) t ≡ tab k es t) → F a) where
@@ -72,7 +72,7 @@ later_one k es (did id v a) valid t table two =
     (λ p i x may.
     let same : p ≡ o = sym ((placed k es valid.0 t table).roots p may.0 may.4).1 in
     let care = subst (λ (z : ℕ). CarefulFor k (run k es).words z t (content k es z) i x) same may.5 in
-    subst (LaterIn k o t ws) (sym (put_tab k es id v p t i x table may.2)) (as_later (kind_in k.kinds o) (class_of t) ws (content k es o) i x (table_long k t (run k es).words) may.2 care))
+    subst (LaterIn k o t ws) (sym (put_tab k es id v p t i x table may.2)) (as_later (kind_in k.starts o) (class_of t) ws (content k es o) i x (table_long k t (run k es).words) may.2 care))
     (λ i x may. absurd (not_fresh k es valid.0 id v valid.1.0 t i x two may))
     (λ b same may. subst (LaterIn k o t ws) (sym (same may)) (in_self k o t ws))
     a valid.1.3
@@ -92,15 +92,15 @@ laters k (e ∷ newer) older valid t table two same =
     in_trans k (whose older t) t (tab k older t) (tab k (newer ++ older) t) (tab k (e ∷ (newer ++ older)) t) (laters k newer older valid.0 t table two here) one_here
 
 -- a commit that is clear
-sound_content : (k : Shape) (es : List Event) (v : View) (o t : ℕ) → root k es o ≡ suc t → SoundIn k o t (tab k es t) (content k es o) → (b : Act) → May k (run k es) (history es) v b → SoundIn k o t (tab k es t) (container_after k.kinds (writes_of b (history es)) o).content
+sound_content : (k : Shape) (es : List Event) (v : View) (o t : ℕ) → root k es o ≡ suc t → SoundIn k o t (tab k es t) (content k es o) → (b : Act) → May k (run k es) (history es) v b → SoundIn k o t (tab k es t) (container_after k.starts (writes_of b (history es)) o).content
 sound_content k es v o t names old (Commit call r f s) may =
     let ws = tab k es t in
     let cs = history es in
     dite (ℕ_discrete (changes call) o)
     (λ (e : changes call ≡ o).
-    let clear : ClearFor k (run k es).words o t (container_after k.kinds cs o).content (container_after k.kinds (call ∷ cs) o).content = subst (λ (z : ℕ). (q : ℕ) → root k es z ≡ suc q → ClearFor k (run k es).words z q (container_after k.kinds cs z).content (container_after k.kinds (call ∷ cs) z).content) e may.5 t names in
-    as_clear (kind_in k.kinds o) k.texts (class_of t) ws (container_after k.kinds cs o).content (container_after k.kinds (call ∷ cs) o).content clear old)
-    (λ ne. subst (λ (z : ContainerState). SoundIn k o t ws z.content) (sym (untouched k.kinds call cs o ne)) old)
+    let clear : ClearFor k (run k es).words o t (container_after k.starts cs o).content (container_after k.starts (call ∷ cs) o).content = subst (λ (z : ℕ). (q : ℕ) → root k es z ≡ suc q → ClearFor k (run k es).words z q (container_after k.starts cs z).content (container_after k.starts (call ∷ cs) z).content) e may.5 t names in
+    as_clear (kind_in k.starts o) k.texts (class_of t) ws (container_after k.starts cs o).content (container_after k.starts (call ∷ cs) o).content clear old)
+    (λ ne. subst (λ (z : ContainerState). SoundIn k o t ws z.content) (sym (untouched k.starts call cs o ne)) old)
 sound_content k es v o t names old act may = old
 
 -- also while the container's version is odd
@@ -118,14 +118,14 @@ sound_at k (did id v a ∷ es) valid o low t e =
     let names : root k es o ≡ suc t = sym (stay ok.1.3) ∙ now in
     let two = (placed k es ok.0 t table).roots o low names in
     let then_ = sound_content k es v o t names (sound_at k es ok.0 o low t names) b ok.1.3 in
-    let G : Act → Type 0 = λ b. May k (run k es) (history es) v b → SoundIn k o t (tab k es t) (container_after k.kinds (writes_of b (history es)) o).content → SoundIn k o t (tab k (did id v b ∷ es) t) (container_after k.kinds (writes_of b (history es)) o).content in
+    let G : Act → Type 0 = λ b. May k (run k es) (history es) v b → SoundIn k o t (tab k es t) (container_after k.starts (writes_of b (history es)) o).content → SoundIn k o t (tab k (did id v b ∷ es) t) (container_after k.starts (writes_of b (history es)) o).content in
     on_cells k es id v t table G
     (λ p i x may old.
     let same : p ≡ o = sym ((placed k es ok.0 t table).roots p may.0 may.4).1 ∙ two.1 in
     let care = subst (λ (z : ℕ). CarefulFor k (run k es).words z t (content k es z) i x) same may.5 in
-    subst (λ (z : List ℕ). SoundIn k o t z (content k es o)) (sym (put_tab k es id v p t i x table may.2)) (as_sound (kind_in k.kinds o) k.texts (class_of t) (tab k es t) (content k es o) i x (table_long k t (run k es).words) may.2 care old))
+    subst (λ (z : List ℕ). SoundIn k o t z (content k es o)) (sym (put_tab k es id v p t i x table may.2)) (as_sound (kind_in k.starts o) k.texts (class_of t) (tab k es t) (content k es o) i x (table_long k t (run k es).words) may.2 care old))
     (λ i x may old. absurd (not_fresh k es ok.0 id v ok.1.0 t i x two.0 may))
-    (λ b same may old. subst (λ (z : List ℕ). SoundIn k o t z (container_after k.kinds (writes_of b (history es)) o).content) (sym (same may)) old)
+    (λ b same may old. subst (λ (z : List ℕ). SoundIn k o t z (container_after k.starts (writes_of b (history es)) o).content) (sym (same may)) old)
     b ok.1.3 then_)
     a valid e
 sound_at k (forked id v ∷ es) valid o low t e = sound_at k es valid.0 o low t e

@@ -5,7 +5,7 @@ use Rattle.std.specs.Prelude.{slice_get, slice_index_or}
 use Rattle.std.specs.Option.{unwrap_or}
 use Rattle.ft_model.specs.declared.call.Call.{Call}
 use Rattle.ft_model.specs.declared.content.Content.TheVariants as content
-use Rattle.ft_model.specs.declared.script.Kind.{Kind}
+use Rattle.ft_model.specs.declared.script.Start.{Start}
 use Rattle.ft_model.specs.TablesInOrder.{changed_by}
 use Rattle.ft_model.specs.Worlds.{empty_content, no_hands}
 use Rattle.ft_model.specs.TableUses.{StoredWorld, no_table, stored_newest, after_stored}
@@ -29,13 +29,13 @@ untouched_in s c o ne =
     let table = same_at _ _ o no_table (other_tables s c o other) in
     λ i. record { content = world i; table = table i }
 
-pub untouched : (kinds : List Kind) (c : Call) (cs : List Call) (o : ℕ) → changes c ≢ o → container_after kinds (c ∷ cs) o ≡ container_after kinds cs o
-untouched kinds c cs o ne = untouched_in (stored_newest kinds cs) c o ne
+pub untouched : (starts : List Start) (c : Call) (cs : List Call) (o : ℕ) → changes c ≢ o → container_after starts (c ∷ cs) o ≡ container_after starts cs o
+untouched starts c cs o ne = untouched_in (stored_newest starts cs) c o ne
 
 -- there is a content for each container
-pub as_many : (kinds : List Kind) (cs : List Call) → length (stored_newest kinds cs).world ≡ length kinds
-as_many kinds [] = length-map kinds empty_content
-as_many kinds (c ∷ cs) = as_many_contents (stored_newest kinds cs).world no_hands c ∙ as_many kinds cs
+pub as_many : (starts : List Start) (cs : List Call) → length (stored_newest starts cs).world ≡ length starts
+as_many starts [] = length-map starts (λ (start : Start). empty_content start.kind)
+as_many starts (c ∷ cs) = as_many_contents (stored_newest starts cs).world no_hands c ∙ as_many starts cs
 
 pub there_is : {A : Type 0} (l : List A) (i : ℕ) (d : A) → i < length l → slice_get l i ≡ Some (slice_index_or l i d)
 there_is [] i d low = absurd (omega arith)

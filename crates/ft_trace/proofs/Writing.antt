@@ -109,7 +109,7 @@ module _ (v : View) (live : IsAwake v) (o t : ℕ) (low : o < containers_in v.sh
   k = v.shape
 
   abbrev kind : Kind
-  kind = kind_in k.kinds o
+  kind = kind_in k.starts o
 
   long : (log : List Act) → Possible (with_log v log) → has_lock o log ≡ true → length (mem k log) ≡ extent k
   long log p mine = (imaged k p.0 p.2.0 p.1 (with_log v log) p.2.1).wide (inl (o, mine))
@@ -118,7 +118,7 @@ module _ (v : View) (live : IsAwake v) (o t : ℕ) (low : o < containers_in v.sh
   named : (log : List Act) → Possible (with_log v log) → has_lock o log ≡ true → (q : ℕ) → root_in (picture k o (mem k log)) ≡ suc q → IsTableName k q
   named log p mine q names = root_table k p.0 p.2.0 o low q (sym (root_known (with_log v log) o low mine p.0 p.1 p.2) ∙ names)
 
-  pub puts_possible : (puts : List Put) (log : List Act) (words : Picture) (content : Content) (committed : Bool) → Possible (with_log v log) → has_lock o log ≡ true → is_writing o log ≡ true → has_committed o log ≡ committed → picture k o (mem k log) ≡ words → (container_after k.kinds (past log) o).content ≡ content → MayPuts kind t content committed words puts
+  pub puts_possible : (puts : List Put) (log : List Act) (words : Picture) (content : Content) (committed : Bool) → Possible (with_log v log) → has_lock o log ≡ true → is_writing o log ≡ true → has_committed o log ≡ committed → picture k o (mem k log) ≡ words → (container_after k.starts (past log) o).content ≡ content → MayPuts kind t content committed words puts
       → Possible (with_log v (log_of o t puts log)) × (picture k o (mem k (log_of o t puts log)) ≡ with_puts words puts)
   puts_possible [] log words content committed p mine odd done is has may = (p, is)
   puts_possible (to_block i x ∷ puts) log words content committed p mine odd done is has may =
@@ -143,7 +143,7 @@ module _ (v : View) (o t : ℕ) (write : WholeWrite) (begin : MayBegin v o) (may
   n = v.shape
 
   abbrev its : Kind
-  its = kind_in n.kinds o
+  its = kind_in n.starts o
 
   abbrev old : ℕ
   old = root_in (held o v)
@@ -206,7 +206,7 @@ module _ (v : View) (o t : ℕ) (write : WholeWrite) (begin : MayBegin v o) (may
         begin.low,
         odd start,
         root_known u o begin.low begin.mine es id knows,
-        (λ q2 (e : suc q ≡ suc q2). let same : q ≡ q2 = cc in subst (λ (z : ℕ). IsTableName n z × (stage z v.log ≡ 1) × SoundFor n (run n es).words o z (container_after n.kinds (history es) o).content) same (m.0, m.1, sound_sure u o begin.low q m.0 begin.mine m.1 m.2 es id knows)),
+        (λ q2 (e : suc q ≡ suc q2). let same : q ≡ q2 = cc in subst (λ (z : ℕ). IsTableName n z × (stage z v.log ≡ 1) × SoundFor n (run n es).words o z (container_after n.starts (history es) o).content) same (m.0, m.1, sound_sure u o begin.low q m.0 begin.mine m.1 m.2 es id knows)),
         shut_old start es id knows,
         (λ _. begin.spare),
         (λ q2 (e : suc q ≡ suc q2). let same : q ≡ q2 = cc in subst (λ (z : ℕ). Low (version_at its (class_of z)) (rows its (class_of z)) (table_words n z (run n es).words) (word n es counter) (has_committed o (l1 start))) same (young q m.0 m.1 m.3 start es id knows)),
@@ -242,14 +242,14 @@ module _ (v : View) (o t : ℕ) (write : WholeWrite) (begin : MayBegin v o) (may
       let l2 = log_of_root o old write.root (l1 start) in
       let r = rooted write.root may.root start p in
       let mine : has_lock o l2 ≡ true = r.2 o ∙ begin.mine in
-      let content : (container_after n.kinds (past l2) o).content ≡ (known o v).content = ap (λ (cs : List Call). (container_after n.kinds cs o).content) r.6 in
+      let content : (container_after n.starts (past l2) o).content ≡ (known o v).content = ap (λ (cs : List Call). (container_after n.starts cs o).content) r.6 in
       let puts = puts_possible v begin.live o t begin.low write.early l2 (with_root_put v o write.root) (known o v).content false r.0 mine r.3 r.4 r.1 content may.early in
       let same = puts_alike o t write.early l2 in
       (puts.0, puts.1, (λ q. same.0 q ∙ r.2 q), same.1 o ∙ r.3, same.4 ∙ r.5, same.5 ∙ r.6, λ e. r.7 (sym (same.3 o) ∙ e))
 
   -- the writes of a trace in which the pass is so far agree with what it knew
-  agreeing : (log : List Act) → Ready log → Sure (with_log v log) (λ es. AgreesWith v (stored_newest n.kinds (history es)))
-  agreeing log r es id knows p low mine = agrees_now (with_log v log) es id knows p low (r.2 p ∙ mine) ∙ ap (λ (cs : List Call). container_after n.kinds cs p) r.5
+  agreeing : (log : List Act) → Ready log → Sure (with_log v log) (λ es. AgreesWith v (stored_newest n.starts (history es)))
+  agreeing log r es id knows p low mine = agrees_now (with_log v log) es id knows p low (r.2 p ∙ mine) ∙ ap (λ (cs : List Call). container_after n.starts cs p) r.5
 
   committed : (log : List Act) → Ready log → Sure (with_log v log) (λ es. May n (run n es) (history es) (with_log v log) (Commit write.call write.reply (word n es counter) (snap (run n es) (history es))))
   committed log r es id knows =
@@ -259,17 +259,17 @@ module _ (v : View) (o t : ℕ) (write : WholeWrite) (begin : MayBegin v o) (may
       let few = begin.few in
       let up = counter_room n es knows.0 in
       let mine : has_lock o log ≡ true = r.2 o ∙ begin.mine in
-      let clear : (q : ℕ) → root_of n o (run n es).words ≡ suc q → ClearFor n (run n es).words o q (container_after n.kinds (history es) o).content (container_after n.kinds (write.call ∷ history es) o).content = λ q names.
+      let clear : (q : ℕ) → root_of n o (run n es).words ≡ suc q → ClearFor n (run n es).words o q (container_after n.starts (history es) o).content (container_after n.starts (write.call ∷ history es) o).content = λ q names.
       let known_root : root_in (held o u) ≡ suc q = root_known u o begin.low mine es id knows ∙ names in
       let words : (at_commit v o write).table ≡ table_words n q (run n es).words = ap (λ (z : Picture). z.table) (sym r.1) ∙ (table_known u o begin.low q mine known_root es id knows).0 in
-      let content : (known o v).content ≡ (container_after n.kinds (history es) o).content = ap (λ (z : ContainerState). z.content) (sym (agree o begin.low begin.mine)) in
-      subst (λ (z : List ℕ × Content). ClearAs its n.texts (class_of q) z.0 z.1 (container_after n.kinds (write.call ∷ history es) o).content) (λ d. (words d, content d)) (c.clear q (ap root_in (sym r.1) ∙ known_root)) in (
+      let content : (known o v).content ≡ (container_after n.starts (history es) o).content = ap (λ (z : ContainerState). z.content) (sym (agree o begin.low begin.mine)) in
+      subst (λ (z : List ℕ × Content). ClearAs its n.texts (class_of q) z.0 z.1 (container_after n.starts (write.call ∷ history es) o).content) (λ d. (words d, content d)) (c.clear q (ap root_in (sym r.1) ∙ known_root)) in (
         may.wrote,
         subst (λ (z : ℕ). is_writing z log ≡ true) (sym may.of) r.3,
         omega (arith, up, few),
         begin.room,
         c.replied,
-        subst (λ (z : ℕ). (q : ℕ) → root_of n z (run n es).words ≡ suc q → ClearFor n (run n es).words z q (container_after n.kinds (history es) z).content (container_after n.kinds (write.call ∷ history es) z).content) (sym may.of) clear,
+        subst (λ (z : ℕ). (q : ℕ) → root_of n z (run n es).words ≡ suc q → ClearFor n (run n es).words z q (container_after n.starts (history es) z).content (container_after n.starts (write.call ∷ history es) z).content) (sym may.of) clear,
         subst (λ (z : ℕ). z < containers_in n) (sym may.of) begin.low,
         refl,
         (λ class e. c.takes class (sym r.4 ∙ e)),
@@ -292,7 +292,7 @@ module _ (v : View) (o t : ℕ) (write : WholeWrite) (begin : MayBegin v o) (may
       let s = snap (run n es) (history es) in
       let a : Act = Commit write.call write.reply m s in
       let c = may.commit (history es) (agreeing log r es id knows) in
-      let after : ContainerState = container_after n.kinds (write.call ∷ history es) o in
+      let after : ContainerState = container_after n.starts (write.call ∷ history es) o in
       let w = noted a v in
       let p4 : Possible (with_log w (a ∷ log)) = (did id u a ∷ es, id, ((knows.0, (knows.1, begin.live.0, refl, committed log r es id knows, begin.live.1)), set_at (run n es).views id u (noted a u) knows.1)) in
       let mine : has_lock o log ≡ true = r.2 o ∙ begin.mine in
@@ -302,7 +302,7 @@ module _ (v : View) (o t : ℕ) (write : WholeWrite) (begin : MayBegin v o) (may
       let u5 = with_log w l5 in
       let mine5 : has_lock o l5 ≡ true = same.0 o ∙ mine in
       let odd5 : is_writing o l5 ≡ true = same.1 o ∙ r.3 in
-      let content5 : known o u5 ≡ after = ap (λ (cs : List Call). container_after n.kinds cs o) same.5 in
+      let content5 : known o u5 ≡ after = ap (λ (cs : List Call). container_after n.starts cs o) same.5 in
       let stands5 : Stands n.texts (held o u5) (known o u5) = subst (λ (z : Picture × ContainerState). Stands n.texts z.0 z.1) (λ d. (sym puts.1 d, sym content5 d)) c.stands in
       let p6 =
       next_possible u5 begin.live puts.0 (λ f. StopWrite o f) (version_of o) (λ f. refl) (λ f. refl)

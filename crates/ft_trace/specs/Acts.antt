@@ -415,7 +415,7 @@ both v w =
     }
 
 abbrev pub no_shape : Shape
-no_shape = record { kinds = []; texts = []; tables = []; heap = 0; passes = 0; calls = 0 }
+no_shape = record { starts = []; texts = []; tables = []; heap = 0; passes = 0; calls = 0 }
 
 abbrev pub spent : View
 spent =

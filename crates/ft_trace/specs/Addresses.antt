@@ -23,7 +23,7 @@ pub data Word : Type 0 where
   cell : ℕ → ℕ → Word
 
 abbrev pub containers_in : Shape → ℕ
-containers_in k = length k.kinds
+containers_in k = length k.starts
 
 -- how many tables the bank has of a class
 abbrev pub tables_in : Shape → ℕ → ℕ

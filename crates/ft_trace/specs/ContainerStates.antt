@@ -1,5 +1,5 @@
 -- What containers have after a history of writes, newest first, and which tables.
-use Rattle.std.specs.Prelude.{ℕ, cond, nat_lt, List, [], ◌∷◌, length, slice_index_or, Bool, true, false, ◌||◌}
+use Rattle.std.specs.Prelude.{ℕ, cond, nat_lt, List, [], ◌∷◌, length, map, slice_index_or, Bool, true, false, ◌||◌}
 use Rattle.ft_model.specs.declared.call.Call.{Call}
 use Rattle.ft_model.specs.declared.call.Call.TheVariants as call
 use Rattle.ft_model.specs.declared.call.SetCall.{SetCall}
@@ -8,12 +8,12 @@ use Rattle.ft_model.specs.declared.content.Content.{Content}
 use Rattle.ft_model.specs.declared.content.Content.TheVariants as content
 use Rattle.ft_model.specs.declared.reply.Reply.{Reply}
 use Rattle.ft_model.specs.declared.script.Kind.{Kind}
-use Rattle.ft_model.specs.declared.script.Kind.TheVariants as kind
-use Rattle.ft_model.specs.Worlds.{no_hands}
+use Rattle.ft_model.specs.declared.script.Start.{Start}
+use Rattle.ft_model.specs.Worlds.{no_hands, start_in}
 use Rattle.ft_model.specs.Answers.{answer}
 use Rattle.ft_model.specs.declared.call.TableChange.{TableChange}
 use Rattle.ft_model.specs.declared.call.TableChange.TheVariants as change
-use Rattle.ft_model.specs.Calls.{dict_change, list_change, set_change}
+use Rattle.ft_model.specs.Calls.{dict_change, list_change, set_change, deque_change}
 use Rattle.std.specs.Option.{unwrap_or}
 use Rattle.ft_model.specs.TablesInOrder.{changed_by}
 use Rattle.ft_model.specs.TableUses.{TableUse, StoredWorld, table_at, stored_newest}
@@ -27,8 +27,8 @@ abbrev pub state_at : StoredWorld → ℕ → ContainerState
 state_at stored o =
     record { content = slice_index_or stored.world o (content.List []); table = table_at stored.tables o }
 
-abbrev pub container_after : List Kind → List Call → ℕ → ContainerState
-container_after kinds calls o = state_at (stored_newest kinds calls) o
+abbrev pub container_after : List Start → List Call → ℕ → ContainerState
+container_after starts calls o = state_at (stored_newest starts calls) o
 
 -- the first n of these writes, newest first
 abbrev pub first_writes : ℕ → List Call → List Call
@@ -36,8 +36,12 @@ first_writes n [] = []
 first_writes n (called ∷ calls) = cond (nat_lt (length calls) n) (called ∷ calls) (first_writes n calls)
 
 -- the kind of a container
-abbrev pub kind_in : List Kind → ℕ → Kind
-kind_in kinds o = slice_index_or kinds o kind.List
+abbrev pub kind_in : List Start → ℕ → Kind
+kind_in starts o = (start_in starts o).kind
+
+-- the kinds of all containers
+abbrev pub kinds_in : List Start → List Kind
+kinds_in starts = map (λ start. start.kind) starts
 
 -- the container that a call changes, if it is a write
 abbrev pub changes : Call → ℕ
@@ -77,7 +81,10 @@ abbrev pub may_empty : Call → Bool
 may_empty (call.Dict o dict_call) = gives_up_root (dict_change dict_call)
 may_empty (call.List o list_call) = gives_up_root (list_change list_call)
 may_empty (call.Set o set_call) = gives_up_root (set_change set_call) || is_xor set_call
+may_empty (call.Deque o deque_call) = gives_up_root (deque_change deque_call)
 may_empty (call.Next cursor) = false
 may_empty (call.Begin one other) = false
 may_empty call.End = false
 may_empty call.Quiesce = false
+may_empty (call.Await thread index) = false
+may_empty call.Dump = false

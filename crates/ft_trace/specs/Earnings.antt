@@ -21,15 +21,15 @@ use Rattle.ft_trace.specs.TraceLaws.{HasView}
 -- would leave that. No value is in a heap yet. (profile)
 abbrev pub IsEarnedSo : Shape → List Call → Call → Reply → Type 0
 IsEarnedSo k cs call (reply.Raised (raise.Memory class)) =
-    CanLackMemory (stored_newest k.kinds cs).world call
-    × (would_pass (stored_newest k.kinds cs).world call ≡ false)
-    × (takes_in (stored_newest k.kinds cs) call ≡ Some class)
+    CanLackMemory (stored_newest k.starts cs).world call
+    × (would_pass (stored_newest k.starts cs).world call ≡ false)
+    × (takes_in (stored_newest k.starts cs) call ≡ Some class)
     × IsClass class
-    × (tables_in k class ≤ takes_newest k.kinds class cs + (k.passes - 1))
+    × (tables_in k class ≤ takes_newest k.starts class cs + (k.passes - 1))
 IsEarnedSo k cs call (reply.Raised raise.Over) =
-    CanLackMemory (stored_newest k.kinds cs).world call × (would_pass (stored_newest k.kinds cs).world call ≡ true)
+    CanLackMemory (stored_newest k.starts cs).world call × (would_pass (stored_newest k.starts cs).world call ≡ true)
 IsEarnedSo k cs call (reply.Raised raise.Heap) = ⊥
-IsEarnedSo k cs call said = would_pass (stored_newest k.kinds cs).world call ≡ false
+IsEarnedSo k cs call said = would_pass (stored_newest k.starts cs).world call ≡ false
 
 -- each of these entries, after as many writes as its stamp says
 abbrev pub AllEarned : Shape → List Call → List Entry → Type 0

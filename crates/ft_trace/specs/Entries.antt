@@ -1,8 +1,8 @@
 -- What is said of the entries of all passes.
 use Rattle.std.specs.Prelude.{◌≡◌, ◌⊎◌, ℕ, ◌+◌, ◌≤◌, ◌==◌, ◌&&◌, true, cond, nat_lt, List, [], ◌∷◌, length, Option}
 use Rattle.ft_model.specs.declared.call.Call.{Call}
-use Rattle.ft_model.specs.declared.script.Kind.{Kind}
 use Rattle.ft_model.specs.declared.cursor.Cursor.{Cursor}
+use Rattle.ft_model.specs.declared.script.Start.{Start}
 use Rattle.ft_model.specs.Answers.{answer, is_write}
 use Rattle.ft_model.specs.Histories.{IsReplied}
 use Rattle.ft_model.specs.TableUses.{stored_newest}
@@ -31,22 +31,22 @@ IsNumber (d ∷ cs) n c = ((n ≡ length cs) × (c ≡ d)) ⊎ IsNumber cs n c
 
 -- The entry is that of the write with its number, or is no write. It has the plain containers' reply after as many
 -- writes as its stamp says, to a thread with some cursors, or that of a section, or a MemoryError.
-pub record Right (kinds : List Kind) (cs : List Call) (e : Entry) : Type 0 where
+pub record Right (starts : List Start) (cs : List Call) (e : Entry) : Type 0 where
   pub wrote : e.wrote ≡ is_write e.call e.reply
   pub write : e.wrote ≡ true → IsNumber cs e.stamp e.call
   pub low : e.stamp ≤ length cs
   pub hands : List (Option Cursor)
   pub reply : IsReplied e.call e.reply
-      (answer (stored_newest kinds (first_writes e.stamp cs)).world hands e.call).reply
+      (answer (stored_newest starts (first_writes e.stamp cs)).world hands e.call).reply
 
-abbrev pub AllRight : List Kind → List Call → List Entry → Type 0
-AllRight kinds cs [] = Unit {0}
-AllRight kinds cs (e ∷ es) = Right kinds cs e × AllRight kinds cs es
+abbrev pub AllRight : List Start → List Call → List Entry → Type 0
+AllRight starts cs [] = Unit {0}
+AllRight starts cs (e ∷ es) = Right starts cs e × AllRight starts cs es
 
 abbrev pub number_count : ℕ → Entry → ℕ
 number_count n e = cond (e.wrote && (e.stamp == n)) 1 0
 
 -- there are these writes: each entry is right, and each number stands once
-pub record Numbered (kinds : List Kind) (cs : List Call) (entries : List Entry) : Type 0 where
-  pub right : AllRight kinds cs entries
+pub record Numbered (starts : List Start) (cs : List Call) (entries : List Entry) : Type 0 where
+  pub right : AllRight starts cs entries
   pub once : (n : ℕ) → total (number_count n) entries ≡ cond (nat_lt n (length cs)) 1 0

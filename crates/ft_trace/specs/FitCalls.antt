@@ -9,6 +9,8 @@ use Rattle.ft_model.specs.declared.call.ListCall.{ListCall}
 use Rattle.ft_model.specs.declared.call.ListCall.TheVariants as list
 use Rattle.ft_model.specs.declared.call.SetCall.{SetCall}
 use Rattle.ft_model.specs.declared.call.SetCall.TheVariants as set
+use Rattle.ft_model.specs.declared.call.DequeCall.{DequeCall}
+use Rattle.ft_model.specs.declared.call.DequeCall.TheVariants as deque
 use Rattle.ft_model.specs.declared.data.Value.{Value}
 use Rattle.ft_model.specs.declared.content.Content.{Content}
 use Rattle.ft_model.specs.declared.content.Content.TheVariants as content
@@ -39,6 +41,12 @@ FitsDictCall dict.Clear = Unit {0}
 FitsDictCall (dict.CopyTo other) = Unit {0}
 FitsDictCall (dict.Eq other) = Unit {0}
 FitsDictCall (dict.Iter cursor) = Unit {0}
+FitsDictCall (dict.KeysAnd other) = Unit {0}
+FitsDictCall (dict.KeysSub other) = Unit {0}
+FitsDictCall (dict.KeysOr other) = Unit {0}
+FitsDictCall (dict.KeysXor other) = Unit {0}
+FitsDictCall (dict.ItemsHas key value) = FitsKey key × FitsValue value
+FitsDictCall (dict.Reversed cursor) = Unit {0}
 
 -- words can represent the value of a call on a list
 abbrev pub FitsListCall : ListCall → Type 0
@@ -60,6 +68,7 @@ FitsListCall list.Len = Unit {0}
 FitsListCall list.Items = Unit {0}
 FitsListCall (list.Eq other) = Unit {0}
 FitsListCall (list.Iter cursor) = Unit {0}
+FitsListCall (list.Reversed cursor) = Unit {0}
 
 -- words can represent the key of a call on a set
 abbrev pub FitsSetCall : SetCall → Type 0
@@ -80,15 +89,34 @@ FitsSetCall (set.Disjoint other) = Unit {0}
 FitsSetCall set.Clear = Unit {0}
 FitsSetCall (set.Iter cursor) = Unit {0}
 
+-- words can represent the value of a call on a deque
+abbrev pub FitsDequeCall : DequeCall → Type 0
+FitsDequeCall (deque.Append value) = FitsValue value
+FitsDequeCall (deque.AppendLeft value) = FitsValue value
+FitsDequeCall deque.Pop = Unit {0}
+FitsDequeCall deque.PopLeft = Unit {0}
+FitsDequeCall (deque.Extend other) = Unit {0}
+FitsDequeCall (deque.ExtendLeft other) = Unit {0}
+FitsDequeCall (deque.Rotate steps) = Unit {0}
+FitsDequeCall deque.Clear = Unit {0}
+FitsDequeCall (deque.Get index) = Unit {0}
+FitsDequeCall deque.Len = Unit {0}
+FitsDequeCall deque.Items = Unit {0}
+FitsDequeCall (deque.Has value) = FitsValue value
+FitsDequeCall (deque.Iter cursor) = Unit {0}
+
 -- words can represent the keys and values of a call
 abbrev pub FitsCall : Call → Type 0
 FitsCall (call.Dict o dict_call) = FitsDictCall dict_call
 FitsCall (call.List o list_call) = FitsListCall list_call
 FitsCall (call.Set o set_call) = FitsSetCall set_call
+FitsCall (call.Deque o deque_call) = FitsDequeCall deque_call
 FitsCall (call.Next cursor) = Unit {0}
 FitsCall (call.Begin one other) = Unit {0}
 FitsCall call.End = Unit {0}
 FitsCall call.Quiesce = Unit {0}
+FitsCall (call.Await thread index) = Unit {0}
+FitsCall call.Dump = Unit {0}
 
 -- ---- contents
 
@@ -97,3 +125,4 @@ abbrev pub FitsContent : Content → Type 0
 FitsContent (content.Dict dict) = All (λ pair. FitsKey pair.key × FitsValue pair.value) dict.pairs
 FitsContent (content.List values) = All FitsValue values
 FitsContent (content.Set set) = All (λ element. FitsKey element.key) set.elements
+FitsContent (content.Deque deque) = All FitsValue deque.items

@@ -13,7 +13,7 @@ held o v = picture v.shape o (mem v.shape v.log)
 
 -- what the history makes of o
 abbrev pub known : ℕ → View → ContainerState
-known o v = container_after v.shape.kinds (past v.log) o
+known o v = container_after v.shape.starts (past v.log) o
 
 -- the words of a table that is fresh in its hand
 abbrev pub in_hand : ℕ → View → List ℕ

@@ -40,7 +40,7 @@ IsNothing kept = (kept.table.class ≡ None) × (length_of kept.content ≡ 0)
 -- the call has this reply wherever o is of its kind and has words that answer as the reads of mid did
 abbrev pub AnswersOn : Shape → Call → ℕ → Reply → List Act → Type 0
 AnswersOn k call o r mid =
-    (x : Picture) (t : StoredWorld) → kind_of (state_at t o).content ≡ kind_in k.kinds o
+    (x : Picture) (t : StoredWorld) → kind_of (state_at t o).content ≡ kind_in k.starts o
     → Stands k.texts x (state_at t o) → Agrees k o mid x → reply_in t call ≡ r
 
 -- the reply to a call about o was read between two equal even loads of its version, and the counter loaded between them
@@ -57,7 +57,7 @@ pub record LookedAtBoth (k : Shape) (call : Call) (o p : ℕ) (r : Reply) (numbe
   pub other : List Act
   pub between : Between log o one × Between log p other
   pub stamp : Among (ReadCounter number) one × Among (ReadCounter number) other
-  pub answers : (x y : Picture) (t : StoredWorld) → kind_of (state_at t o).content ≡ kind_in k.kinds o
-      → kind_of (state_at t p).content ≡ kind_in k.kinds p → Stands k.texts x (state_at t o)
+  pub answers : (x y : Picture) (t : StoredWorld) → kind_of (state_at t o).content ≡ kind_in k.starts o
+      → kind_of (state_at t p).content ≡ kind_in k.starts p → Stands k.texts x (state_at t o)
       → Stands k.texts y (state_at t p)
       → Agrees k o one x → Agrees k p other y → reply_in t call ≡ r

@@ -44,8 +44,9 @@ IsItemRead t place kind payload mid =
 -- the slots of the key's probe were passed, up to one that was never used or all of them
 abbrev pub IsAbsent : Shape → List Act → ℕ → ℕ → Key → ℕ → Type 0
 IsAbsent k log o t key n =
-    Miss log o t (rows (kind_in k.kinds o) (class_of t)) (walk_of (kind_in k.kinds o) k.texts (class_of t) key) key n
-    ⊎ Full log o t (rows (kind_in k.kinds o) (class_of t)) (walk_of (kind_in k.kinds o) k.texts (class_of t) key) key n
+    Miss log o t (rows (kind_in k.starts o) (class_of t)) (walk_of (kind_in k.starts o) k.texts (class_of t) key) key n
+    ⊎ Full log o t (rows (kind_in k.starts o) (class_of t)) (walk_of (kind_in k.starts o) k.texts (class_of t) key) key
+    n
 
 -- ---- replies
 
@@ -70,14 +71,14 @@ pub record DictReplies (stored : StoredWorld) (o : ℕ) (key : Key) (found : Opt
 
 -- what is stored after the first n writes of the trace
 abbrev pub stored_at : Shape → List Event → ℕ → StoredWorld
-stored_at k es n = stored_newest k.kinds (first_writes n (history es))
+stored_at k es n = stored_newest k.starts (first_writes n (history es))
 
 -- A key that was found in a dict is there at the stamp. The words that were read of its value are those of one value,
 -- and with it the dict replies.
 abbrev pub DictHitsAreReplied : Type 0
 DictHitsAreReplied =
     (k : Shape) (es : List Event) → Valid k es → (o t place : ℕ) (key : Key) (n : ℕ) → o < containers_in k
-    → kind_in k.kinds o ≡ kind.Dict → FitsKey key → place < rows kind.Dict (class_of t) → (j : ℕ) (u : View)
+    → kind_in k.starts o ≡ kind.Dict → FitsKey key → place < rows kind.Dict (class_of t) → (j : ℕ) (u : View)
     → HasView k es j u → (h : Hit u.log o t place key n)
     → (reply_in (stored_at k es n) (call.Dict o (dict.Has key)) ≡ reply.Truth true)
     × ((kind payload : ℕ) → IsValueRead t place kind payload h.mid
@@ -87,7 +88,7 @@ DictHitsAreReplied =
 abbrev pub SetHitsAreReplied : Type 0
 SetHitsAreReplied =
     (k : Shape) (es : List Event) → Valid k es → (o t place : ℕ) (key : Key) (n : ℕ) → o < containers_in k
-    → kind_in k.kinds o ≡ kind.Set → FitsKey key → place < rows kind.Set (class_of t) → (j : ℕ) (u : View)
+    → kind_in k.starts o ≡ kind.Set → FitsKey key → place < rows kind.Set (class_of t) → (j : ℕ) (u : View)
     → HasView k es j u → Hit u.log o t place key n
     → reply_in (stored_at k es n) (call.Set o (set.Has key)) ≡ reply.Truth true
 
@@ -96,15 +97,15 @@ abbrev pub MissesAreReplied : Type 0
 MissesAreReplied =
     (k : Shape) (es : List Event) → Valid k es → (o : ℕ) (key : Key) (n : ℕ) → o < containers_in k → FitsKey key
     → (j : ℕ) (u : View) → HasView k es j u → ((t : ℕ) × IsAbsent k u.log o t key n) ⊎ Bare u.log o n
-    → (kind_in k.kinds o ≡ kind.Dict → DictReplies (stored_at k es n) o key None)
-    × (kind_in k.kinds o ≡ kind.Set → reply_in (stored_at k es n) (call.Set o (set.Has key)) ≡ reply.Truth false)
+    → (kind_in k.starts o ≡ kind.Dict → DictReplies (stored_at k es n) o key None)
+    × (kind_in k.starts o ≡ kind.Set → reply_in (stored_at k es n) (call.Set o (set.Has key)) ≡ reply.Truth false)
 
 -- an item whose words were read is at its index at the stamp, where they are those of a value; words of nothing stand
 -- where the list has no such item
 abbrev pub ItemsAreReplied : Type 0
 ItemsAreReplied =
     (k : Shape) (es : List Event) → Valid k es → (o t place n : ℕ) → o < containers_in k
-    → kind_in k.kinds o ≡ kind.List → place < rows kind.List (class_of t) → (j : ℕ) (u : View) → HasView k es j u
+    → kind_in k.starts o ≡ kind.List → place < rows kind.List (class_of t) → (j : ℕ) (u : View) → HasView k es j u
     → (h : ItemHit u.log o t place n) (kind payload : ℕ) → IsItemRead t place kind payload h.mid
     → ((value : Value) × IsStored kind payload (Plain value)
     × (reply_in (stored_at k es n) (call.List o (list.Get (pos place))) ≡ item_reply (Some value)))
@@ -115,6 +116,6 @@ ItemsAreReplied =
 abbrev pub PastItemsAreReplied : Type 0
 PastItemsAreReplied =
     (k : Shape) (es : List Event) → Valid k es → (o index n : ℕ) → o < containers_in k
-    → kind_in k.kinds o ≡ kind.List → (j : ℕ) (u : View) → HasView k es j u
+    → kind_in k.starts o ≡ kind.List → (j : ℕ) (u : View) → HasView k es j u
     → ((t : ℕ) × (slots (class_of t) ≤ index) × ItemPast u.log o t n) ⊎ Bare u.log o n
     → reply_in (stored_at k es n) (call.List o (list.Get (pos index))) ≡ item_reply None

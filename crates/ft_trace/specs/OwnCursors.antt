@@ -28,7 +28,7 @@ abbrev pub CursorsAreHands : Type 0
 CursorsAreHands =
     (k : Shape) (es : List Event) → Valid k es → (j : ℕ) (u : View) → HasView k es j u → (room : ℕ)
     → (mine : List NamedEntry) → map plain_entry (reverse mine) ≡ own_entries u.log → All (AsksWithin room) mine
-    → ((n : ℕ) → n < room → cursor_at (hands_by k.kinds (reverse (history es)) room mine) n ≡ cursor_in n u.log)
+    → ((n : ℕ) → n < room → cursor_at (hands_by k.starts (reverse (history es)) room mine) n ≡ cursor_in n u.log)
     × EachAt mine (λ place e. IsReplied e.call e.reply
-    (answer (world_by k.kinds (take e.stamp (reverse (history es))))
-    (hands_by k.kinds (reverse (history es)) room (take place mine)) e.call).reply)
+    (answer (world_by k.starts (take e.stamp (reverse (history es))))
+    (hands_by k.starts (reverse (history es)) room (take place mine)) e.call).reply)

@@ -71,6 +71,7 @@ unfoldable pub walk_of : Kind → List ℕ → ℕ → Key → List ℕ
 walk_of kind.Dict texts class key = dict_slots (hash_of texts key) (class_mask class) (class_mask class + 14)
 walk_of kind.Set texts class key = set_slots (hash_of texts key) (class_mask class) (class_mask class + 14)
 walk_of kind.List texts class key = []
+walk_of (kind.Deque bound) texts class key = []
 
 -- the walk meets this number at a slot, and before it no slot never used
 pub record Met (n : ℕ) (ws walk : List ℕ) (x : ℕ) : Type 0 where

@@ -30,9 +30,9 @@ abbrev pub RepliesMayBeGiven : Type 0
 RepliesMayBeGiven =
     (v : View) (call : Call) (said : Reply) → IsAwake v → Possible v → 0 < v.left → is_write call said ≡ false
     → moved_cursor call ≡ None
-    → ((calls : List Call) (number : ℕ) → AgreesWith v (stored_newest v.shape.kinds calls)
-    → IsReplied call said (reply_in (stored_newest v.shape.kinds calls) call)
-    × HasCause (stored_newest v.shape.kinds calls) (ReadCounter number ∷ v.log) call said number)
+    → ((calls : List Call) (number : ℕ) → AgreesWith v (stored_newest v.shape.starts calls)
+    → IsReplied call said (reply_in (stored_newest v.shape.starts calls) call)
+    × HasCause (stored_newest v.shape.starts calls) (ReadCounter number ∷ v.log) call said number)
     → (number : ℕ) × Possible (after_answer v call said number)
 
 -- what a pass knows that loaded the counter and answered an `iter` or a `next` of its cursor under a number, with that
@@ -47,8 +47,8 @@ abbrev pub CursorsMayBeMoved : Type 0
 CursorsMayBeMoved =
     (v : View) (call : Call) (said : Reply) (number : ℕ) (left : Cursor) → IsAwake v → Possible v → 0 < v.left
     → moved_cursor call ≡ Some number
-    → ((calls : List Call) → AgreesWith v (stored_newest v.shape.kinds calls)
-    → MovesCursor (stored_newest v.shape.kinds calls).world call number (cursor_in number v.log) said left)
+    → ((calls : List Call) → AgreesWith v (stored_newest v.shape.starts calls)
+    → MovesCursor (stored_newest v.shape.starts calls).world call number (cursor_in number v.log) said left)
     → (stamp : ℕ) × Possible (after_cursor v call said stamp number left)
 
 -- the reply that a call raises which found no memory of a class
@@ -61,8 +61,8 @@ abbrev pub MemoryErrorsMayBeAnswered : Type 0
 MemoryErrorsMayBeAnswered =
     (v : View) (call : Call) (class : ℕ) (newer rest : List Act) → IsAwake v → Possible v
     → 0 < v.left → v.log ≡ newer ++ ReadCount class 0 ∷ rest → AreOfOneCall newer → owes rest ≡ 0
-    → ((calls : List Call) → AgreesWith v (stored_newest v.shape.kinds calls)
-    → CanLackMemory (stored_newest v.shape.kinds calls).world call
-    × (would_pass (stored_newest v.shape.kinds calls).world call ≡ false)
-    × (takes_in (stored_newest v.shape.kinds calls) call ≡ Some class))
+    → ((calls : List Call) → AgreesWith v (stored_newest v.shape.starts calls)
+    → CanLackMemory (stored_newest v.shape.starts calls).world call
+    × (would_pass (stored_newest v.shape.starts calls).world call ≡ false)
+    × (takes_in (stored_newest v.shape.starts calls) call ≡ Some class))
     → (number : ℕ) × Possible (after_answer v call (lacks class) number)

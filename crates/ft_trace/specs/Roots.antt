@@ -34,7 +34,7 @@ pub record BeganBare (k : Shape) (es : List Event) (o j : ℕ) (log : List Act) 
   pub own : List Act
   pub is : log ≡ own ++ StartWrite o found ∷ view.log
   pub one : OfOneWrite o own
-  pub nothing : IsNothing (container_after k.kinds (history older) o)
+  pub nothing : IsNothing (container_after k.starts (history older) o)
 
 -- A root that is 0 while the version is odd: the pass that writes put 0 there in this write, or the container had no
 -- table and nothing in it when the write began. A call that is committed after that put is one that may give up its

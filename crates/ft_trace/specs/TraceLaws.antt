@@ -112,7 +112,7 @@ NumbersAreOnce =
 abbrev pub EntriesAreRight : Type 0
 EntriesAreRight =
     (k : Shape) (es : List Event) → Valid k es → (j : ℕ) (u : View) → HasView k es j u
-    → AllRight k.kinds (history es) (all_entries u)
+    → AllRight k.starts (history es) (all_entries u)
 
 -- stamps of a pass never fall, and rise after a write; and what its loads of the counter gave never falls
 abbrev pub StampsRise : Type 0
@@ -130,13 +130,13 @@ abbrev pub MemoryErrorsAreEarned : Type 0
 MemoryErrorsAreEarned =
     (k : Shape) (es : List Event) → Valid k es → (j : ℕ) (u : View) → HasView k es j u → (class n : ℕ) → IsClass class
     → FoundEmpty class n u.log
-    → tables_in k class ≤ takes_newest k.kinds class (first_writes n (history es)) + (k.passes - 1)
+    → tables_in k class ≤ takes_newest k.starts class (first_writes n (history es)) + (k.passes - 1)
 
 -- a pass that stands for all passes has an entry for each write, and each of its entries is right
 abbrev pub OneHasAllEntries : Type 0
 OneHasAllEntries =
     (k : Shape) (es : List Event) → Valid k es → (j : ℕ) (u : View) → HasView k es j u → u.parts ≡ k.passes
-    → Numbered k.kinds (history es) (all_entries u)
+    → Numbered k.starts (history es) (all_entries u)
 
 -- it has one entry for each call that no pass has left
 abbrev pub CallsAreCounted : Type 0
@@ -157,21 +157,21 @@ EvenWordsStand =
 abbrev pub StoredTablesAreInOrder : Type 0
 StoredTablesAreInOrder =
     (k : Shape) (es : List Event) → Valid k es
-    → AreTablesInOrder (stored_newest k.kinds (history es))
-    × All (λ content. passes_cap content ≡ false) (stored_newest k.kinds (history es)).world
+    → AreTablesInOrder (stored_newest k.starts (history es))
+    × All (λ content. passes_cap content ≡ false) (stored_newest k.starts (history es)).world
 
 -- words can represent each key and value that a container has, or had after the first writes of the history
 abbrev pub ContentsFit : Type 0
 ContentsFit =
     (k : Shape) (es : List Event) → Valid k es
-    → All FitsContent (stored_newest k.kinds (history es)).world
-    × ((n : ℕ) → All FitsContent (stored_newest k.kinds (first_writes n (history es))).world)
+    → All FitsContent (stored_newest k.starts (history es)).world
+    × ((n : ℕ) → All FitsContent (stored_newest k.starts (first_writes n (history es))).world)
 
 -- a root that is 0 while the version is even is that of a container with no table and nothing in it
 abbrev pub ZeroRootsHaveNothing : Type 0
 ZeroRootsHaveNothing =
     (k : Shape) (es : List Event) → Valid k es → (o : ℕ) → o < containers_in k → word k es (version_of o) % 2 ≡ 0
-    → word k es (block o 0) ≡ 0 → IsNothing (container_after k.kinds (history es) o)
+    → word k es (block o 0) ≡ 0 → IsNothing (container_after k.starts (history es) o)
 
 -- a pass knows the words and the content of a container whose lock it has, and the words of a table fresh in its hand
 abbrev pub HoldersKnow : Type 0
@@ -179,7 +179,7 @@ HoldersKnow =
     (v : View) (es : List Event) (j : ℕ) → Knows v es j
     → ((o : ℕ) → o < containers_in v.shape → has_lock o v.log ≡ true
     → (held o v ≡ picture v.shape o (run v.shape es).words)
-    × (known o v ≡ container_after v.shape.kinds (history es) o))
+    × (known o v ≡ container_after v.shape.starts (history es) o))
     × ((t : ℕ) → IsTableName v.shape t → stage t v.log ≡ 1 → in_hand t v ≡ table_words v.shape t (run v.shape es).words)
 
 -- ---- tables
@@ -219,7 +219,7 @@ CountsStand =
 abbrev pub TablesAreOwed : Type 0
 TablesAreOwed =
     (k : Shape) (es : List Event) → Valid k es → (c : ℕ) → IsClass c
-    → tables_in k c ≤ word k es (count_of_class c) + (takes_newest k.kinds c (history es)
+    → tables_in k c ≤ word k es (count_of_class c) + (takes_newest k.starts c (history es)
     + total (owing c) (run k es).views)
 
 -- where a pass that owed none of it found the count of a class 0, writes took its tables, but for one for each other
@@ -228,7 +228,7 @@ abbrev pub EmptyClassesAreEarned : Type 0
 EmptyClassesAreEarned =
     (k : Shape) (es : List Event) → Valid k es → (j : ℕ) (u : View) → HasView k es j u → (c : ℕ) → IsClass c
     → (newer rest : List Act) → u.log ≡ newer ++ ReadCount c 0 ∷ rest → owes rest ≡ 0
-    → tables_in k c ≤ takes_newest k.kinds c (history es) + (k.passes - 1)
+    → tables_in k c ≤ takes_newest k.starts c (history es) + (k.passes - 1)
 
 -- ---- announced numbers
 
@@ -278,61 +278,61 @@ GivenUpTablesRest =
 abbrev pub TablesAreSound : Type 0
 TablesAreSound =
     (k : Shape) (es : List Event) → Valid k es → (o : ℕ) → o < containers_in k → (t : ℕ) → word k es (block o 0) ≡ suc t
-    → SoundFor k (run k es).words o t (container_after k.kinds (history es) o).content
+    → SoundFor k (run k es).words o t (container_after k.starts (history es) o).content
 
 -- what stays of it from then on until it is taken out of the root
 abbrev pub TableWordsStay : Type 0
 TableWordsStay =
     (k : Shape) (newer older : List Event) → Valid k (newer ++ older) → (o : ℕ) → o < containers_in k → (t : ℕ)
     → word k older (block o 0) ≡ suc t → age (newer ++ older) t ≡ age older t
-    → LaterAs (kind_in k.kinds o) (class_of t) (table_words k t (run k older).words) (table_words k t (run k (newer
+    → LaterAs (kind_in k.starts o) (class_of t) (table_words k t (run k older).words) (table_words k t (run k (newer
     ++ older)).words)
 
 -- a key that was found is there at the stamp, with the words that were read of it
 abbrev pub HitsAreRight : Type 0
 HitsAreRight =
     (k : Shape) (es : List Event) → Valid k es → (o t p : ℕ) (key : Key) (n : ℕ) → o < containers_in k
-    → IsKeyed (kind_in k.kinds o) → p < rows (kind_in k.kinds o) (class_of t) → (j : ℕ) (u : View) → HasView k es j u
+    → IsKeyed (kind_in k.starts o) → p < rows (kind_in k.starts o) (class_of t) → (j : ℕ) (u : View) → HasView k es j u
     → (h : Hit u.log o t p key n)
     → (n ≤ word k es counter)
-    × (under (container_after k.kinds (first_writes n (history es)) o).content key ≢ [])
+    × (under (container_after k.starts (first_writes n (history es)) o).content key ≢ [])
     × ((w f : ℕ) → w < 3 → Among (ReadTable t (entry_offset (slots (class_of t)) p (4 + w)) f) h.mid
-    → slice_index (under (container_after k.kinds (first_writes n (history es)) o).content key) w ≡ f)
+    → slice_index (under (container_after k.starts (first_writes n (history es)) o).content key) w ≡ f)
 
 -- a key that fits its words is absent at the stamp that was not found on its probe, up to a slot never used or over all
 -- its slots
 abbrev pub MissesAreRight : Type 0
 MissesAreRight =
     (k : Shape) (es : List Event) → Valid k es → (o t : ℕ) (key : Key) (n : ℕ) → FitsKey key → o < containers_in k
-    → IsKeyed (kind_in k.kinds o) → (j : ℕ) (u : View) → HasView k es j u
-    → Miss u.log o t (rows (kind_in k.kinds o) (class_of t)) (walk_of (kind_in k.kinds o) k.texts (class_of t) key) key
-    n
-    ⊎ Full u.log o t (rows (kind_in k.kinds o) (class_of t)) (walk_of (kind_in k.kinds o) k.texts (class_of t) key) key
-    n
-    → (n ≤ word k es counter) × (under (container_after k.kinds (first_writes n (history es)) o).content key ≡ [])
+    → IsKeyed (kind_in k.starts o) → (j : ℕ) (u : View) → HasView k es j u
+    → Miss u.log o t (rows (kind_in k.starts o) (class_of t))
+    (walk_of (kind_in k.starts o) k.texts (class_of t) key) key n
+    ⊎ Full u.log o t (rows (kind_in k.starts o) (class_of t))
+    (walk_of (kind_in k.starts o) k.texts (class_of t) key) key n
+    → (n ≤ word k es counter) × (under (container_after k.starts (first_writes n (history es)) o).content key ≡ [])
 
 -- where the root was read 0 there is nothing at the stamp
 abbrev pub BareRootsAreRight : Type 0
 BareRootsAreRight =
     (k : Shape) (es : List Event) → Valid k es → (o n : ℕ) → o < containers_in k → (j : ℕ) (u : View) → HasView k es j u
-    → Bare u.log o n → (n ≤ word k es counter) × IsNothing (container_after k.kinds (first_writes n (history es)) o)
+    → Bare u.log o n → (n ≤ word k es counter) × IsNothing (container_after k.starts (first_writes n (history es)) o)
 
 -- an item that was read is the list's at the stamp
 abbrev pub ItemsAreRight : Type 0
 ItemsAreRight =
-    (k : Shape) (es : List Event) → Valid k es → (o t p n : ℕ) → o < containers_in k → IsItems (kind_in k.kinds o)
+    (k : Shape) (es : List Event) → Valid k es → (o t p n : ℕ) → o < containers_in k → IsItems (kind_in k.starts o)
     → p < slots (class_of t) → (j : ℕ) (u : View) → HasView k es j u → (h : ItemHit u.log o t p n)
     → (n ≤ word k es counter)
     × ((w f : ℕ) → w < 2 → Among (ReadTable t (item_offset p (1 + w)) f) h.mid
-    → slice_index (words_at (list_of (container_after k.kinds (first_writes n (history es)) o).content) p) w ≡ f)
+    → slice_index (words_at (list_of (container_after k.starts (first_writes n (history es)) o).content) p) w ≡ f)
 
 -- at the stamp a list is no longer than the table that its root named
 abbrev pub ListsFitTheirTables : Type 0
 ListsFitTheirTables =
-    (k : Shape) (es : List Event) → Valid k es → (o t n : ℕ) → o < containers_in k → IsItems (kind_in k.kinds o)
+    (k : Shape) (es : List Event) → Valid k es → (o t n : ℕ) → o < containers_in k → IsItems (kind_in k.starts o)
     → (j : ℕ) (u : View) → HasView k es j u → ItemPast u.log o t n
     → (n ≤ word k es counter)
-    × (length (list_of (container_after k.kinds (first_writes n (history es)) o).content) ≤ slots (class_of t))
+    × (length (list_of (container_after k.starts (first_writes n (history es)) o).content) ≤ slots (class_of t))
 
 -- what was read between two equal even loads of the version is the reply at the stamp
 abbrev pub LooksAreRight : Type 0
@@ -340,7 +340,7 @@ LooksAreRight =
     (k : Shape) (es : List Event) → Valid k es → (call : Call) (o : ℕ) → o < containers_in k → (j : ℕ) (u : View)
     → HasView k es j u
     → (r : Reply) (n : ℕ) → LookedAtOne k call o r n u.log
-    → (n ≤ word k es counter) × (reply_in (stored_newest k.kinds (first_writes n (history es))) call ≡ r)
+    → (n ≤ word k es counter) × (reply_in (stored_newest k.starts (first_writes n (history es))) call ≡ r)
 
 -- and of two containers
 abbrev pub LooksAtBothAreRight : Type 0
@@ -348,7 +348,7 @@ LooksAtBothAreRight =
     (k : Shape) (es : List Event) → Valid k es → (call : Call) (o p : ℕ) → o < containers_in k → p < containers_in k
     → (j : ℕ) (u : View) → HasView k es j u
     → (r : Reply) (n : ℕ) → LookedAtBoth k call o p r n u.log
-    → (n ≤ word k es counter) × (reply_in (stored_newest k.kinds (first_writes n (history es))) call ≡ r)
+    → (n ≤ word k es counter) × (reply_in (stored_newest k.starts (first_writes n (history es))) call ≡ r)
 
 -- a root that has changed since the pass read it names a table that the pass has not found since it last announced
 abbrev pub ChangedRootsAreNew : Type 0
@@ -370,7 +370,7 @@ NumbersHaveRoom =
 abbrev pub NextSerialsAreLow : Type 0
 NextSerialsAreLow =
     (k : Shape) (es : List Event) → Valid k es → (o : ℕ)
-    → serial_of (container_after k.kinds (history es) o).content ≤ 2 ^ 16 * word k es counter
+    → serial_of (container_after k.starts (history es) o).content ≤ 2 ^ 16 * word k es counter
 
 -- ---- what contents say
 

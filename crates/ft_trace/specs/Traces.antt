@@ -13,6 +13,7 @@ use Rattle.ft_model.specs.Histories.{IsReplied}
 use Rattle.ft_model.specs.Worlds.{no_hands, IsDeclared}
 use Rattle.ft_model.specs.TableUses.{stored_newest, takes_in, would_pass}
 use Rattle.ft_model.specs.Classes.{IsClass}
+use Rattle.ft_model.specs.Landed.{AreLanded}
 use Rattle.ft_trace.specs.declared.Act.{Act}
 use Rattle.ft_trace.specs.declared.Act.TheVariants.{Lock, Unlock, StartWrite, PutBlock, PutRoot, PutTable, PutFresh, PutHeader, ReadHeader, Commit, StopWrite, Version, ReadBlock, ReadRoot, ReadTable, ReadCounter, Answer, AnswerCursor, LowerCount, RaiseCount, ReadCount, ReadFree, TakeTable, GiveTable, Retire, Announce, ReadAnnounced, WriteNumber, TakeFloor, TookOver}
 use Rattle.ft_trace.specs.declared.Shape.{Shape}
@@ -22,7 +23,7 @@ use Rattle.ft_trace.specs.Addresses.{Word, counter, write_number, version_of, co
 use Rattle.ft_trace.specs.Acts.{place, word_after, Reports, has_lock, is_writing, has_committed, has_emptied, stage, goal, announces, clear, used, debt, flight, owes, noted, starter, maker, made, both, spent, sender, note}
 use Rattle.ft_trace.specs.ContainerStates.{container_after, first_writes, kind_in, changes, may_empty, reply_in}
 use Rattle.ft_trace.specs.Pictures.{table_words, root_of, picture, Stands}
-use Rattle.ft_trace.specs.Kinds.{rows, version_at, SoundAs, CarefulAs, ClearAs}
+use Rattle.ft_trace.specs.Kinds.{rows, version_at, SoundAs, CarefulAs, ClearAs, HasVersions}
 use Rattle.ft_trace.specs.OddVersions.{Shut, Timely, Low}
 use Rattle.ft_trace.specs.FitCalls.{FitsCall}
 use Rattle.ft_trace.specs.Causes.{Loaded, HasCause}
@@ -82,36 +83,37 @@ history (sent id v given ∷ es) = history es
 
 -- the words of o stand for what the history makes of it
 abbrev pub StandsFor : Shape → Moment → List Call → ℕ → Type 0
-StandsFor k m cs o = Stands k.texts (picture k o m.words) (container_after k.kinds cs o)
+StandsFor k m cs o = Stands k.texts (picture k o m.words) (container_after k.starts cs o)
 
 abbrev pub snap : Moment → List Call → Snap
 snap m cs = record { words = m.words; calls = cs }
 
 -- of the table t, while it is that of the container o or is to be
 abbrev pub SoundFor : Shape → List ℕ → ℕ → ℕ → Content → Type 0
-SoundFor k ws o t c = SoundAs (kind_in k.kinds o) k.texts (class_of t) (table_words k t ws) c
+SoundFor k ws o t c = SoundAs (kind_in k.starts o) k.texts (class_of t) (table_words k t ws) c
 
 abbrev pub CarefulFor : Shape → List ℕ → ℕ → ℕ → Content → ℕ → ℕ → Type 0
-CarefulFor k ws o t c i x = CarefulAs (kind_in k.kinds o) (class_of t) (table_words k t ws) c i x
+CarefulFor k ws o t c i x = CarefulAs (kind_in k.starts o) (class_of t) (table_words k t ws) c i x
 
 abbrev pub ClearFor : Shape → List ℕ → ℕ → ℕ → Content → Content → Type 0
-ClearFor k ws o t c d = ClearAs (kind_in k.kinds o) k.texts (class_of t) (table_words k t ws) c d
+ClearFor k ws o t c d = ClearAs (kind_in k.starts o) k.texts (class_of t) (table_words k t ws) c d
 
 abbrev pub ShutFor : Shape → List ℕ → ℕ → ℕ → Type 0
 ShutFor k ws o t =
-    Shut (version_at (kind_in k.kinds o) (class_of t)) (rows (kind_in k.kinds o) (class_of t)) (table_words k t ws)
+    Shut (version_at (kind_in k.starts o) (class_of t)) (rows (kind_in k.starts o) (class_of t)) (table_words k t ws)
 
 abbrev pub TimelyFor : Shape → ℕ → ℕ → ℕ → ℕ → Bool → Type 0
 TimelyFor k o t i x committed =
-    Timely (version_at (kind_in k.kinds o) (class_of t)) (rows (kind_in k.kinds o) (class_of t)) i x committed
+    Timely (version_at (kind_in k.starts o) (class_of t)) (rows (kind_in k.starts o) (class_of t)) i x committed
 
--- of a table of this class with these words no version is odd, by the kind of container that it was filled for
+-- Of a table of this class with these words no version is odd, by the kind of container that it was filled for, which
+-- is one with versions.
 abbrev pub IsAllShut : ℕ → List ℕ → Type 0
-IsAllShut class ws = (kind : Kind) × Shut (version_at kind class) (rows kind class) ws
+IsAllShut class ws = (kind : Kind) × HasVersions kind × Shut (version_at kind class) (rows kind class) ws
 
 abbrev pub LowFor : Shape → List ℕ → ℕ → ℕ → ℕ → Bool → Type 0
 LowFor k ws o t count committed =
-    Low (version_at (kind_in k.kinds o) (class_of t)) (rows (kind_in k.kinds o) (class_of t))
+    Low (version_at (kind_in k.starts o) (class_of t)) (rows (kind_in k.starts o) (class_of t))
     (table_words k t ws) count committed
 
 -- What a pass with the view v may do at the moment m, after the history cs.
@@ -133,7 +135,7 @@ May k m cs v (PutRoot o r old) =
     × (is_writing o v.log ≡ true)
     × (old ≡ root_of k o m.words)
     × ((t : ℕ) → r ≡ suc t → IsTableName k t × (stage t v.log ≡ 1)
-    × SoundFor k m.words o t (container_after k.kinds cs o).content)
+    × SoundFor k m.words o t (container_after k.starts cs o).content)
     × ((q : ℕ) → old ≡ suc q → ShutFor k m.words o q)
     × (old ≢ 0 → used v.log ≡ false)
     × ((t : ℕ) → r ≡ suc t → LowFor k m.words o t (word_in k m counter) (has_committed o v.log))
@@ -145,7 +147,7 @@ May k m cs v (PutTable o t i x) =
     × (i < size (class_of t))
     × (is_writing o v.log ≡ true)
     × (root_of k o m.words ≡ suc t)
-    × CarefulFor k m.words o t (container_after k.kinds cs o).content i x
+    × CarefulFor k m.words o t (container_after k.starts cs o).content i x
     × TimelyFor k o t i x (has_committed o v.log)
 -- a word of a table that it took and that has stood in no root since
 May k m cs v (PutFresh t i x) = IsTableName k t × (i < size (class_of t)) × (stage t v.log ≡ 1)
@@ -162,16 +164,16 @@ May k m cs v (Commit c r f s) =
     × (is_writing (changes c) v.log ≡ true)
     × (word_in k m counter + 1 < 2 ^ 64)
     × (0 < v.left)
-    × IsReplied c r (reply_in (stored_newest k.kinds cs) c)
+    × IsReplied c r (reply_in (stored_newest k.starts cs) c)
     × ((t : ℕ) → root_of k (changes c) m.words ≡ suc t
-    → ClearFor k m.words (changes c) t (container_after k.kinds cs (changes c)).content (container_after k.kinds (c
+    → ClearFor k m.words (changes c) t (container_after k.starts cs (changes c)).content (container_after k.starts (c
     ∷ cs) (changes c)).content)
     × (changes c < containers_in k)
     × (s ≡ snap m cs)
-    × ((class : ℕ) → owes v.log ≡ suc class → takes_in (stored_newest k.kinds cs) c ≡ Some class)
-    × (would_pass (stored_newest k.kinds cs).world c ≡ false)
+    × ((class : ℕ) → owes v.log ≡ suc class → takes_in (stored_newest k.starts cs) c ≡ Some class)
+    × (would_pass (stored_newest k.starts cs).world c ≡ false)
     × (has_emptied (changes c) v.log ≡ true → may_empty c ≡ true)
-    × IsDeclared (stored_newest k.kinds cs).world no_hands c
+    × IsDeclared (stored_newest k.starts cs).world no_hands c
     × FitsCall c
     × HasLocksOf c v.log
 -- It has made the version odd and has committed since. The words stand for the content at the counter, with its class
@@ -197,9 +199,9 @@ May k m cs v (ReadCounter f) = Unit {0}
 May k m cs v (Answer c r n) =
     (is_write c r ≡ false)
     × (n ≤ word_in k m counter)
-    × IsReplied c r (reply_in (stored_newest k.kinds (first_writes n cs)) c)
+    × IsReplied c r (reply_in (stored_newest k.starts (first_writes n cs)) c)
     × Loaded n v.log
-    × HasCause (stored_newest k.kinds (first_writes n cs)) v.log c r n
+    × HasCause (stored_newest k.starts (first_writes n cs)) v.log c r n
     × (0 < v.left)
     × (moved_cursor c ≡ None)
 -- The call is an `iter` or a `next` of the cursor under this number, and a load of the counter since the last entry
@@ -208,7 +210,7 @@ May k m cs v (Answer c r n) =
 May k m cs v (AnswerCursor c r n number had left) =
     (moved_cursor c ≡ Some number)
     × (n ≤ word_in k m counter)
-    × MovesCursor (stored_newest k.kinds (first_writes n cs)).world c number had r left
+    × MovesCursor (stored_newest k.starts (first_writes n cs)).world c number had r left
     × Loaded n v.log
     × (had ≡ cursor_in number v.log)
     × (0 < v.left)
@@ -242,11 +244,12 @@ May k m cs v (TakeFloor f s) = (v.tokens ≡ k.passes) × (s ≡ snap m cs)
 -- this is part of a join alone
 May k m cs v (TookOver tables had found) = ⊥
 
--- there are at most 64 passes and 1,024 tables of a class
+-- there are at most 64 passes and 1,024 tables of a class, and no deque and no dict that starts with shared keys yet
 pub record Fits (k : Shape) : Type 0 where
   pub some_pass : 0 < k.passes
   pub passes : k.passes ≤ 64
   pub tables : (c : ℕ) → IsClass c → tables_in k c ≤ 1024
+  pub landed : AreLanded k.starts
 
 -- The pass is offline and has no lock. It has no table but such as it retired, which who takes it in takes over, where
 -- their goals stand in their headers. It has committed what it began, and is in the midst of no taking or giving.

@@ -147,25 +147,25 @@ MayReplace v o call (Some zero) = may_empty call ≡ true
 MayReplace v o call (Some (suc t)) =
     IsTableName v.shape t
     × (stage t v.log ≡ 1)
-    × SoundAs (kind_in v.shape.kinds o) v.shape.texts (class_of t) (in_hand t v) (known o v).content
-    × ((p : ℕ) → p < rows (kind_in v.shape.kinds o) (class_of t)
-    → slice_index (in_hand t v) (version_at (kind_in v.shape.kinds o) (class_of t) p) ≤ 1)
+    × SoundAs (kind_in v.shape.starts o) v.shape.texts (class_of t) (in_hand t v) (known o v).content
+    × ((p : ℕ) → p < rows (kind_in v.shape.starts o) (class_of t)
+    → slice_index (in_hand t v) (version_at (kind_in v.shape.starts o) (class_of t) p) ≤ 1)
 
 -- The call may be committed after these writes: its reply is that of the plain containers, no content passes its
 -- greatest length, and where a count was lowered it takes a table of that class. What even versions say stays. Then the
 -- late puts may be made, and at the end the words stand for the content.
 pub record MayCommitWrite (v : View) (o t : ℕ) (write : WholeWrite) (calls : List Call) : Type 0 where
-  pub replied : IsReplied write.call write.reply (reply_in (stored_newest v.shape.kinds calls) write.call)
-  pub within : would_pass (stored_newest v.shape.kinds calls).world write.call ≡ false
-  pub declared : IsDeclared (stored_newest v.shape.kinds calls).world no_hands write.call
+  pub replied : IsReplied write.call write.reply (reply_in (stored_newest v.shape.starts calls) write.call)
+  pub within : would_pass (stored_newest v.shape.starts calls).world write.call ≡ false
+  pub declared : IsDeclared (stored_newest v.shape.starts calls).world no_hands write.call
   pub takes : (class : ℕ) → owes v.log ≡ suc class
-      → takes_in (stored_newest v.shape.kinds calls) write.call ≡ Some class
+      → takes_in (stored_newest v.shape.starts calls) write.call ≡ Some class
   pub clear : (q : ℕ) → root_in (at_commit v o write) ≡ suc q
-      → ClearAs (kind_in v.shape.kinds o) v.shape.texts (class_of q) (at_commit v o write).table
-      (known o v).content (container_after v.shape.kinds (write.call ∷ calls) o).content
-  pub late : MayPuts (kind_in v.shape.kinds o) t (container_after v.shape.kinds (write.call ∷ calls) o).content true
+      → ClearAs (kind_in v.shape.starts o) v.shape.texts (class_of q) (at_commit v o write).table
+      (known o v).content (container_after v.shape.starts (write.call ∷ calls) o).content
+  pub late : MayPuts (kind_in v.shape.starts o) t (container_after v.shape.starts (write.call ∷ calls) o).content true
       (at_commit v o write) write.late
-  pub stands : Stands v.shape.texts (at_end v o write) (container_after v.shape.kinds (write.call ∷ calls) o)
+  pub stands : Stands v.shape.texts (at_end v o write) (container_after v.shape.starts (write.call ∷ calls) o)
 
 -- The write is one of o, the pass has the lock of each container that it names, and words can represent its keys and
 -- values: what it puts before its commit may be put, it may be committed after whatever writes agree with what the pass
@@ -176,10 +176,11 @@ pub record MayWriteSo (v : View) (o t : ℕ) (write : WholeWrite) : Type 0 where
   pub fits : FitsCall write.call
   pub locks : HasLocksOf write.call v.log
   pub root : MayReplace v o write.call write.root
-  pub early : MayPuts (kind_in v.shape.kinds o) t (known o v).content false (with_root_put v o write.root) write.early
-  pub commit : (calls : List Call) → AgreesWith v (stored_newest v.shape.kinds calls) → MayCommitWrite v o t write calls
+  pub early : MayPuts (kind_in v.shape.starts o) t (known o v).content false (with_root_put v o write.root) write.early
+  pub commit : (calls : List Call) → AgreesWith v (stored_newest v.shape.starts calls)
+      → MayCommitWrite v o t write calls
   pub shut : (q : ℕ) → root_in (at_end v o write) ≡ suc q
-      → Shut (version_at (kind_in v.shape.kinds o) (class_of q)) (rows (kind_in v.shape.kinds o) (class_of q))
+      → Shut (version_at (kind_in v.shape.starts o) (class_of q)) (rows (kind_in v.shape.starts o) (class_of q))
       (at_end v o write).table
 
 -- a write whose words are right may be made whole, in each of its steps, whatever other passes have done

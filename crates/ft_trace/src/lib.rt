@@ -28,7 +28,7 @@
 //! the words of that law alone.
 #![tactic(auto)]
 
-use ft_model::{Call, Cursor, Kind, Reply};
+use ft_model::{Call, Cursor, Reply, Start};
 use std::collections::LinkedList;
 
 /// What stood in the bank at one moment: its words, and the writes before it, newest first.
@@ -137,8 +137,8 @@ pub struct Entry {
 
 /// How large the bank is.
 pub struct Shape {
-    /// The kind of each container.
-    pub kinds: LinkedList<Kind>,
+    /// How each container starts.
+    pub starts: LinkedList<Start>,
     /// The hash of each string.
     pub texts: LinkedList<u64>,
     /// How many tables there are of each class, the least class first.

@@ -154,7 +154,7 @@ new_turned e script seats t bank are count nobody_owns some =
     let gives = nobody_owns.1 in
     let passes = subst (NoneOwns (view (pass_of c))) count nobody_owns.2 in
     let threads : length (standings_of seats) ≡ length script.threads = length-map seats standing_at ∙ (count ∙ (bank.passes ∙ max_some (length script.threads) (λ none. omega (arith, some, none)))) in
-    let containers : containers_in (shape_of (bank_of e)) ≡ length script.containers = ap length bank.kinds ∙ length-map script.containers (λ (one : Declaration). one.kind) in (
+    let containers : containers_in (shape_of (bank_of e)) ≡ length script.containers = ap length bank.starts ∙ length-map script.containers (λ (one : Declaration). one.start) in (
       c,
       gives,
       new_in_step script (view (pass_of c)) (standings_of seats) threads (all_nobody e script seats are)

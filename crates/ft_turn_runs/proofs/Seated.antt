@@ -191,7 +191,7 @@ module _ (e : Engine) (script : ScriptParts) (i : ℕ) (c d : Caller) (mine afte
       left_between e script i d x after (after_it true has) (omega (arith, last, longer)) same caller kept offline
 
 pub for_bank : (e : Engine) (script : ScriptParts) → IsBankFor script (shape_of (bank_of e)) → 0 < length script.threads → IsFor script (shape_of (bank_of e))
-for_bank e script bank some = record { kinds = bank.kinds; tables = bank.tables; passes = bank.passes ∙ max_some (length script.threads) (λ none. omega (arith, some, none)) }
+for_bank e script bank some = record { starts = bank.starts; tables = bank.tables; heap = bank.heap; passes = bank.passes ∙ max_some (length script.threads) (λ none. omega (arith, some, none)) }
 
 set_found : {X : Type 0} (xs : List X) (i : ℕ) (x : X) → slice_get xs i ≡ Some x → slice_set xs i x ≡ xs
 set_found [] i x at = refl

@@ -54,7 +54,7 @@ module _ (e : Engine) (c d : Caller) (is_c : IsCallerOf e c) (is_d : IsCallerOf 
 
   pub visited_step : (script : ScriptParts) (turns : List ℕ) (standings : List Standing) → IsBankFor script (shape_of (bank_of e)) → AreInStep script turns (view c.pass) standings → AreInStep script turns (view d.pass) standings
   visited_step script turns standings bank was =
-      let count : containers_in (view c.pass).shape ≡ length script.containers = ap containers_in is_c.pass.1 ∙ (ap length bank.kinds ∙ length-map script.containers (λ (one : Declaration). one.kind)) in
+      let count : containers_in (view c.pass).shape ≡ length script.containers = ap containers_in is_c.pass.1 ∙ (ap length bank.starts ∙ length-map script.containers (λ (one : Declaration). one.start)) in
       record {
         machine = record {
           count = was.machine.count;

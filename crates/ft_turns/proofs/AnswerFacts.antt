@@ -1,11 +1,11 @@
 -- What every answer says and leaves.
-use Rattle.std.proofs.Common.{map, ◌≡◌, ℕ, ◌-◌, ◌<◌, ◌≤◌, Bool, true, false, not, List, [], ◌∷◌, length, get_or, Option, None, Some, refl, sym, ap, subst, ◌∙◌, inl, inr, zero, suc}
+use Rattle.std.proofs.Common.{map, ◌≡◌, ℕ, ◌-◌, ◌<◌, ◌≤◌, Bool, true, false, not, List, [], ◌∷◌, length, get_or, reverse, Option, None, Some, refl, sym, ap, subst, ◌∙◌, inl, inr, zero, suc}
 use Rattle.std.specs.Prelude.{◌⊎◌, if◌then◌else◌, All, slice_get, slice_set, slice_index_or, ◌&&◌, ◌==◌, IfSome}
 use Rattle.std.specs.Option.{option_map_or}
 use Rattle.std.proofs.lemmas.Bool.{true≢false, false≢true, cases_eq, cases_lt, eq-eqb, ne_eqb}
 use Rattle.std.proofs.lemmas.Option.{none-some, same_Some}
 use Rattle.std.proofs.lemmas.List.{length-set, get_or-set_same, get_or-set_other, get_or_past}
-use Rattle.std.proofs.lemmas.List.Elements.{All-nil, All-set, All-weaker}
+use Rattle.std.proofs.lemmas.List.Elements.{All-nil, All-map, All-set, All-weaker}
 use Rattle.ft_model.specs.declared.data.Key.{Key}
 use Rattle.ft_model.specs.declared.data.Key.TheVariants as key
 use Rattle.ft_model.specs.declared.data.Value.{Value}
@@ -17,8 +17,12 @@ use Rattle.ft_model.specs.declared.call.ListCall.{ListCall}
 use Rattle.ft_model.specs.declared.call.ListCall.TheVariants as list
 use Rattle.ft_model.specs.declared.call.SetCall.{SetCall}
 use Rattle.ft_model.specs.declared.call.SetCall.TheVariants as set
+use Rattle.ft_model.specs.declared.call.DequeCall.{DequeCall}
+use Rattle.ft_model.specs.declared.call.DequeCall.TheVariants as deque
 use Rattle.ft_model.specs.declared.reply.Reply.{Reply}
 use Rattle.ft_model.specs.declared.reply.Reply.TheVariants as reply
+use Rattle.ft_model.specs.declared.reply.Shown.{Shown}
+use Rattle.ft_model.specs.declared.reply.Shown.TheVariants as in_dump
 use Rattle.ft_model.specs.declared.reply.Raise.TheVariants as raise
 use Rattle.ft_model.specs.declared.content.Content.{Content}
 use Rattle.ft_model.specs.declared.content.Content.TheVariants as content
@@ -28,20 +32,23 @@ use Rattle.ft_model.specs.declared.cursor.Cursor.{Cursor}
 use Rattle.ft_model.specs.declared.cursor.Cursor.TheVariants as cursor
 use Rattle.ft_model.specs.declared.cursor.CursorState.{CursorState}
 use Rattle.ft_model.specs.declared.cursor.CursorState.TheVariants as walk
-use Rattle.ft_model.specs.Calls.{is_changing, one_or_two, containers_of, other_dict, other_list, other_set, cursor_of_dict, cursor_of_list, cursor_of_set}
+use Rattle.ft_model.specs.Calls.{is_changing, one_or_two, containers_of, other_dict, other_list, other_set, other_deque, cursor_of_dict, cursor_of_list, cursor_of_set, cursor_of_deque}
 use Rattle.ft_model.specs.Contents.{empty_dict, empty_set}
-use Rattle.ft_model.specs.Cursors.{CursorStep, is_after, next_pair, dict_walk, dict_next, next_element, set_walk, set_next, list_walk, list_next}
+use Rattle.ft_model.specs.Cursors.{CursorStep, is_after, next_pair, dict_walk, dict_next, next_element, set_walk, set_next, list_walk, list_next, deque_walk, deque_next, is_before, prior_pair, dict_back_walk, dict_back_next, list_back_walk, list_back_next}
 use Rattle.ft_model.specs.declared.script.Kind.{Kind}
 use Rattle.ft_model.specs.declared.script.Kind.TheVariants as kind
-use Rattle.ft_model.specs.Worlds.{IsOfKind, kind_of, cursor_kind, dict_of, list_of, set_of, dict_at, list_at, set_at, cursor_at, container_of, no_hands}
+use Rattle.ft_model.specs.Worlds.{IsOfKind, kind_of, cursor_kind, dict_of, list_of, set_of, deque_of, dict_at, list_at, set_at, deque_at, cursor_at, container_of, no_hands}
 use Rattle.ft_model.specs.Keys.{as_value}
+use Rattle.ft_model.specs.Landed.{is_landed_call}
 use Rattle.ft_model.specs.Scripts.{IsKeyOf, IsValueOf, cursor_of}
-use Rattle.ft_model.specs.Parts.{IsReplyOf, IsContentOf}
-use Rattle.ft_model.specs.Answers.{Answer, shows, moves, answer_dict, answer_list, answer_set, cursor_step, answer, is_raised, is_memory, is_write}
+use Rattle.ft_model.specs.Parts.{IsReplyOf, IsShownOf, IsContentOf}
+use Rattle.ft_model.specs.Deques.{DequeContent, empty_deque}
+use Rattle.ft_model.specs.Answers.{Answer, shows, moves, answer_dict, answer_list, answer_set, answer_deque, shown_of, cursor_step, answer, is_raised, is_memory, is_write}
+use Rattle.ft_history.proofs.Effects.{HasKind, deque_kind}
 use Rattle.ft_turns.specs.Internal.Counting.{counted_in}
 use Rattle.ft_turns.proofs.CallParts.{IsCallBy, is_counting}
-use Rattle.ft_turns.proofs.ContentFacts.{IsPairBy, IsElementBy, IsReplyBy, IsContentBy, GoTogether, held_at, found_in}
-use Rattle.ft_turns.proofs.AnswerForms.{Form, shown, put, made, form_dict, form_list, form_set}
+use Rattle.ft_turns.proofs.ContentFacts.{IsPairBy, IsElementBy, IsShownBy, IsReplyBy, IsContentBy, GoTogether, held_at, found_in, all_reversed}
+use Rattle.ft_turns.proofs.AnswerForms.{Form, is_uncommon, uncommon_memory, unwritten_raised, unwritten_uncommon, shown, put, made, form_dict, form_list, form_set, form_deque}
 
 -- the container that the cursor goes over, where it was made
 abbrev pub walked : List (Option Cursor) → ℕ → List ℕ
@@ -60,6 +67,7 @@ abbrev pub IsAsked : List Content → Call → Type 0
 IsAsked world (call.Dict container dict_call) = IsOfKind world kind.Dict container × IfSome (other_dict dict_call) (λ other. IsOfKind world kind.Dict other)
 IsAsked world (call.List container list_call) = IsOfKind world kind.List container × IfSome (other_list list_call) (λ other. IsOfKind world kind.List other)
 IsAsked world (call.Set container set_call) = IsOfKind world kind.Set container × IfSome (other_set set_call) (λ other. IsOfKind world kind.Set other)
+IsAsked world (call.Deque container deque_call) = IsOfKind world (kind.Deque None) container × IfSome (other_deque deque_call) (λ other. IsOfKind world (kind.Deque None) other)
 IsAsked world other = Unit {0}
 
 -- what an answer says and leaves, whatever the call
@@ -81,9 +89,14 @@ IsAny count = Unit {0}
 abbrev pub IsPlainAnswerOf : ℕ → List Content → List (Option Cursor) → Call → Type 0
 IsPlainAnswerOf n world hands called = IsPlainAnswer (IsKeyOf n) (IsValueOf n) IsAny world hands called
 
+-- a cursor over no deque
+abbrev pub IsLandedCursor : Cursor → Type 0
+IsLandedCursor (cursor.Deque container moves index) = ⊥
+IsLandedCursor it = Unit {0}
+
 -- ---- what is put in place of another
 
-kinds_set : (world : List Content) (place : ℕ) (left : Content) → IsOfKind world (kind_of left) place → map kind_of (slice_set world place left) ≡ map kind_of world
+kinds_set : (world : List Content) (place : ℕ) (left : Content) → HasKind world (kind_of left) place → map kind_of (slice_set world place left) ≡ map kind_of world
 kinds_set [] place left same = refl
 kinds_set (first ∷ world) zero left same = ap (λ (k : Kind). k ∷ map kind_of world) (sym (same_Some (kind_of first) (kind_of left) same))
 kinds_set (first ∷ world) (suc place) left same = ap (λ (ks : List Kind). kind_of first ∷ ks) (kinds_set world place left same)
@@ -97,58 +110,54 @@ set_cursor (first ∷ hands) (suc number) (suc other) it jt at = set_cursor hand
 
 -- ---- what its form tells
 
-raised_memory : (said : Reply) → is_raised said ≡ false → is_memory said ≡ false
-raised_memory (reply.Raised one) h = absurd (true≢false h)
-raised_memory other h = refl
-
 module _ (world : List Content) (K : Key → Type 0) (V : Value → Type 0) (C : ℕ → Type 0) (k : Kind) (container : ℕ) (changing : Bool) (makes_one : Option ℕ) where
-  form_memory : (f : List (Option Cursor) → Answer) (hands : List (Option Cursor)) → Form world K V C k container changing makes_one f → is_memory (f hands).reply ≡ false
-  form_memory f hands (shown none said memory strings) = memory
-  form_memory f hands (put none changes place left said done strings contents kinds there) = raised_memory said done
-  form_memory f hands (made number is still cursor over kinds here) = refl
+  form_common : (f : List (Option Cursor) → Answer) (hands : List (Option Cursor)) → Form world K V C k container changing makes_one f → is_uncommon (f hands).reply ≡ false
+  form_common f hands (shown none said common strings) = common
+  form_common f hands (put none changes place left said done strings contents kinds there) = unwritten_uncommon said done
+  form_common f hands (made number is still cursor over here) = refl
 
   form_alike : (f : List (Option Cursor) → Answer) (hands others : List (Option Cursor)) → Form world K V C k container changing makes_one f → changing ≡ true → (f hands).world ≡ (f others).world
   form_alike f hands others (shown none said memory strings) changes = refl
   form_alike f hands others (put none is place left said done strings contents kinds there) changes = refl
-  form_alike f hands others (made number is still cursor over kinds here) changes = refl
+  form_alike f hands others (made number is still cursor over here) changes = refl
 
   form_quiet : (f : List (Option Cursor) → Answer) (hands : List (Option Cursor)) → Form world K V C k container changing makes_one f → (changing && not (is_raised (f hands).reply)) ≡ false → (f hands).world ≡ world
   form_quiet f hands (shown none said memory strings) reads = refl
-  form_quiet f hands (put none changes place left said done strings contents kinds there) reads = absurd (true≢false (ap (λ b. true && not b) (sym done) ∙ ap (λ b. b && not (is_raised said)) (sym changes) ∙ reads))
-  form_quiet f hands (made number is still cursor over kinds here) reads = refl
+  form_quiet f hands (put none changes place left said done strings contents kinds there) reads = absurd (true≢false (ap (λ b. true && not b) (sym (unwritten_raised said done)) ∙ ap (λ b. b && not (is_raised said)) (sym changes) ∙ reads))
+  form_quiet f hands (made number is still cursor over here) reads = refl
 
   form_reply : (f : List (Option Cursor) → Answer) (hands : List (Option Cursor)) → Form world K V C k container changing makes_one f → IsReplyBy K V C (f hands).reply
   form_reply f hands (shown none said memory strings) = strings
   form_reply f hands (put none changes place left said done strings contents kinds there) = strings
-  form_reply f hands (made number is still cursor over kinds here) = tt
+  form_reply f hands (made number is still cursor over here) = tt
 
   form_contents : (f : List (Option Cursor) → Answer) (hands : List (Option Cursor)) → Form world K V C k container changing makes_one f → All (IsContentBy K V) world → All (IsContentBy K V) (f hands).world
   form_contents f hands (shown none said memory strings) old = old
   form_contents f hands (put none changes place left said done strings contents kinds there) old = All-set (IsContentBy K V) world place left contents old
-  form_contents f hands (made number is still cursor over kinds here) old = old
+  form_contents f hands (made number is still cursor over here) old = old
 
   form_containers : (f : List (Option Cursor) → Answer) (hands : List (Option Cursor)) → Form world K V C k container changing makes_one f → length (f hands).world ≡ length world
   form_containers f hands (shown none said memory strings) = refl
   form_containers f hands (put none changes place left said done strings contents kinds there) = length-set world place left
-  form_containers f hands (made number is still cursor over kinds here) = refl
+  form_containers f hands (made number is still cursor over here) = refl
 
   form_room : (f : List (Option Cursor) → Answer) (hands : List (Option Cursor)) → Form world K V C k container changing makes_one f → length (f hands).hands ≡ length hands
   form_room f hands (shown none said memory strings) = refl
   form_room f hands (put none changes place left said done strings contents kinds there) = refl
-  form_room f hands (made number is still cursor over kinds here) = length-set hands number (Some cursor)
+  form_room f hands (made number is still cursor over here) = length-set hands number (Some cursor)
 
   form_kinds : (f : List (Option Cursor) → Answer) (hands : List (Option Cursor)) → Form world K V C k container changing makes_one f → map kind_of (f hands).world ≡ map kind_of world
   form_kinds f hands (shown none said memory strings) = refl
-  form_kinds f hands (put none changes place left said done strings contents kinds there) = kinds_set world place left (subst (λ one. IsOfKind world one place) (sym kinds) there)
-  form_kinds f hands (made number is still cursor over kinds here) = refl
+  form_kinds f hands (put none changes place left said done strings contents kinds there) = kinds_set world place left (subst (λ one. HasKind world one place) (sym kinds) there)
+  form_kinds f hands (made number is still cursor over here) = refl
 
   form_fits : (f : List (Option Cursor) → Answer) (hands : List (Option Cursor)) → Form world K V C k container changing makes_one f → AreOver world hands → AreOver world (f hands).hands
   form_fits f hands (shown none said memory strings) fits = fits
   form_fits f hands (put none changes place left said done strings contents kinds there) fits = fits
-  form_fits f hands (made one is still it over kinds here) fits = λ number jt at.
+  form_fits f hands (made one is still it over here) fits = λ number jt at.
       elim (set_cursor hands one number it jt at) [
         | inl before ↦ fits number jt before
-        | inr now ↦ subst (λ (c : Cursor). IsOfKind world (cursor_kind c) (container_of c)) now (subst (λ kd. IsOfKind world kd (container_of it)) (sym kinds) (subst (IsOfKind world k) (sym over) here))
+        | inr now ↦ subst (λ (c : Cursor). IsOfKind world (cursor_kind c) (container_of c)) now (subst (IsOfKind world (cursor_kind it)) (sym over) here)
       ]
 
   no_cursor : (hands : List (Option Cursor)) (named : List ℕ) (number : ℕ) → makes_one ≡ None → walked hands number ≡ walked_after hands makes_one named number
@@ -158,7 +167,7 @@ module _ (world : List Content) (K : Key → Type 0) (V : Value → Type 0) (C :
       → walked (f hands).hands number ≡ walked_after hands makes_one named number
   form_walks f hands named number (shown none said memory strings) room only = no_cursor hands named number none
   form_walks f hands named number (put none changes place left said done strings contents kinds there) room only = no_cursor hands named number none
-  form_walks f hands named number (made one is still it over kinds here) room only =
+  form_walks f hands named number (made one is still it over here) room only =
       let low : one < length hands = subst (λ o. IfSome o (λ k. k < length hands)) is room in
       elim (cases_eq one number) [
         | inl same ↦
@@ -179,16 +188,31 @@ module _ (K : Key → Type 0) (V : Value → Type 0) (C : ℕ → Type 0) (toget
   of_dict (content.Dict dict) h = h
   of_dict (content.List items) h = All-nil (IsPairBy K V)
   of_dict (content.Set set) h = All-nil (IsPairBy K V)
+  of_dict (content.Deque deque) h = All-nil (IsPairBy K V)
 
   of_list : (c : Content) → IsContentBy K V c → All V (list_of c)
   of_list (content.Dict dict) h = All-nil V
   of_list (content.List items) h = h
   of_list (content.Set set) h = All-nil V
+  of_list (content.Deque deque) h = All-nil V
 
   of_set : (c : Content) → IsContentBy K V c → All (IsElementBy K) (set_of c).elements
   of_set (content.Dict dict) h = All-nil (IsElementBy K)
   of_set (content.List items) h = All-nil (IsElementBy K)
   of_set (content.Set set) h = h
+  of_set (content.Deque deque) h = All-nil (IsElementBy K)
+
+  of_deque : (c : Content) → IsContentBy K V c → All V (deque_of c).items
+  of_deque (content.Dict dict) h = All-nil V
+  of_deque (content.List items) h = All-nil V
+  of_deque (content.Set set) h = All-nil V
+  of_deque (content.Deque deque) h = h
+
+  shown_by : (c : Content) → IsContentBy K V c → IsShownBy K V (shown_of c)
+  shown_by (content.Dict dict) h = All-map (λ (pair : Key × Value). K pair.0 × V pair.1) (λ (pair : DictPair). (pair.key, pair.value)) dict.pairs h
+  shown_by (content.List items) h = h
+  shown_by (content.Set set) h = All-map K (λ (element : Element). element.key) set.elements h
+  shown_by (content.Deque deque) h = h
 
   content_at : (place : ℕ) (empty : Content) → IsContentBy K V empty → IsContentBy K V (slice_index_or world place empty)
   content_at place empty none =
@@ -206,50 +230,98 @@ module _ (K : Key → Type 0) (V : Value → Type 0) (C : ℕ → Type 0) (toget
   pub sets_of : (place : ℕ) → All (IsElementBy K) (set_at world place).elements
   sets_of place = of_set (slice_index_or world place (content.Set empty_set)) (content_at place (content.Set empty_set) (All-nil (IsElementBy K)))
 
+  pub deques_of : (place : ℕ) → All V (deque_at world place).items
+  deques_of place = of_deque (slice_index_or world place (content.Deque (empty_deque None))) (content_at place (content.Deque (empty_deque None)) (All-nil V))
+
   -- ---- cursors
 
-  abbrev IsStep : Cursor → CursorStep → Type 0
-  IsStep before step = (is_memory step.reply ≡ false) × IsReplyBy K V C step.reply × (container_of step.cursor ≡ container_of before) × (cursor_kind step.cursor ≡ cursor_kind before)
+  abbrev IsStepBut : (Reply → Bool) → Cursor → CursorStep → Type 0
+  IsStepBut never before step = (never step.reply ≡ false) × IsReplyBy K V C step.reply × (container_of step.cursor ≡ container_of before) × (cursor_kind step.cursor ≡ cursor_kind before)
 
-  dict_step : (pairs : List DictPair) (container : ℕ) (state : CursorState) (size expected : ℕ) (last : Option ℕ) → All (IsPairBy K V) pairs → IsStep (cursor.Dict container state size expected last) (dict_next pairs container state size expected last)
+  dict_step : (pairs : List DictPair) (container : ℕ) (state : CursorState) (size expected : ℕ) (last : Option ℕ) → All (IsPairBy K V) pairs → IsStepBut is_uncommon (cursor.Dict container state size expected last) (dict_next pairs container state size expected last)
   dict_step pairs container walk.Ended size expected last of = (refl, tt, refl, refl)
   dict_step pairs container walk.Reported size expected last of = (refl, tt, refl, refl)
   dict_step pairs container walk.Live size expected last of =
-      elim (length pairs == size) as (λ b. IsStep (cursor.Dict container walk.Live size expected last) (if b then dict_walk (next_pair pairs last) container size expected last else record { reply = reply.Raised raise.Size; cursor = cursor.Dict container walk.Reported size expected last })) [
+      elim (length pairs == size) as (λ b. IsStepBut is_uncommon (cursor.Dict container walk.Live size expected last) (if b then dict_walk (next_pair pairs last) container size expected last else record { reply = reply.Raised raise.Size; cursor = cursor.Dict container walk.Reported size expected last })) [
         | false ↦ (refl, tt, refl, refl)
-        | true ↦ elim (next_pair pairs last) as (λ o. next_pair pairs last ≡ o → IsStep (cursor.Dict container walk.Live size expected last) (dict_walk o container size expected last)) [
+        | true ↦ elim (next_pair pairs last) as (λ o. next_pair pairs last ≡ o → IsStepBut is_uncommon (cursor.Dict container walk.Live size expected last) (dict_walk o container size expected last)) [
           | None ↦ λ _. (refl, tt, refl, refl)
-          | Some pair ↦ λ found. elim (expected == 0) as (λ b. IsStep (cursor.Dict container walk.Live size expected last) (if b then record { reply = reply.Raised raise.Keys; cursor = cursor.Dict container walk.Ended size expected last } else record { reply = reply.Pair pair.key pair.value; cursor = cursor.Dict container walk.Live size (expected - 1) (Some pair.serial) })) [
+          | Some pair ↦ λ found. elim (expected == 0) as (λ b. IsStepBut is_uncommon (cursor.Dict container walk.Live size expected last) (if b then record { reply = reply.Raised raise.Keys; cursor = cursor.Dict container walk.Ended size expected last } else record { reply = reply.Pair pair.key pair.value; cursor = cursor.Dict container walk.Live size (expected - 1) (Some pair.serial) })) [
             | true ↦ (refl, tt, refl, refl)
             | false ↦ (refl, found_in (IsPairBy K V) (λ (p : DictPair). is_after last p.serial) pairs pair of found, refl, refl)
           ]
         ] refl
       ]
 
-  set_step : (elements : List Element) (container : ℕ) (state : CursorState) (size : ℕ) (last : Option ℕ) → All (IsElementBy K) elements → IsStep (cursor.Set container state size last) (set_next elements container state size last)
+  set_step : (elements : List Element) (container : ℕ) (state : CursorState) (size : ℕ) (last : Option ℕ) → All (IsElementBy K) elements → IsStepBut is_uncommon (cursor.Set container state size last) (set_next elements container state size last)
   set_step elements container walk.Ended size last of = (refl, tt, refl, refl)
   set_step elements container walk.Reported size last of = (refl, tt, refl, refl)
   set_step elements container walk.Live size last of =
-      elim (length elements == size) as (λ b. IsStep (cursor.Set container walk.Live size last) (if b then set_walk (next_element elements last) container size last else record { reply = reply.Raised raise.Size; cursor = cursor.Set container walk.Reported size last })) [
+      elim (length elements == size) as (λ b. IsStepBut is_uncommon (cursor.Set container walk.Live size last) (if b then set_walk (next_element elements last) container size last else record { reply = reply.Raised raise.Size; cursor = cursor.Set container walk.Reported size last })) [
         | false ↦ (refl, tt, refl, refl)
-        | true ↦ elim (next_element elements last) as (λ o. next_element elements last ≡ o → IsStep (cursor.Set container walk.Live size last) (set_walk o container size last)) [
+        | true ↦ elim (next_element elements last) as (λ o. next_element elements last ≡ o → IsStepBut is_uncommon (cursor.Set container walk.Live size last) (set_walk o container size last)) [
           | None ↦ λ _. (refl, tt, refl, refl)
           | Some element ↦ λ found. (refl, together.key_value element.key (found_in (IsElementBy K) (λ (e : Element). is_after last e.serial) elements element of found), refl, refl)
         ] refl
       ]
 
-  list_step : (items : List Value) (container index : ℕ) (ended : Bool) → All V items → IsStep (cursor.List container index ended) (list_next items container index ended)
+  list_step : (items : List Value) (container index : ℕ) (ended : Bool) → All V items → IsStepBut is_uncommon (cursor.List container index ended) (list_next items container index ended)
   list_step items container index true of = (refl, tt, refl, refl)
   list_step items container index false of =
-      elim (slice_get items index) as (λ o. slice_get items index ≡ o → IsStep (cursor.List container index false) (list_walk o container index)) [
+      elim (slice_get items index) as (λ o. slice_get items index ≡ o → IsStepBut is_uncommon (cursor.List container index false) (list_walk o container index)) [
         | None ↦ λ _. (refl, tt, refl, refl)
         | Some one ↦ λ found. (refl, held_at V items index one of found, refl, refl)
       ] refl
 
-  steps_of : (it : Cursor) → IsStep it (cursor_step world it)
-  steps_of (cursor.Dict container state size expected last) = dict_step (dict_at world container).pairs container state size expected last (dicts_of container)
-  steps_of (cursor.List container index ended) = list_step (list_at world container) container index ended (lists_of container)
-  steps_of (cursor.Set container state size last) = set_step (set_at world container).elements container state size last (sets_of container)
+  deque_step : (deque : DequeContent) (container moves index : ℕ) → All V deque.items → IsStepBut is_memory (cursor.Deque container moves index) (deque_next deque container moves index)
+  deque_step deque container moves index of =
+      elim (deque.moves == moves) as (λ b. IsStepBut is_memory (cursor.Deque container moves index) (if b then deque_walk (slice_get deque.items index) container moves index else record { reply = reply.Raised raise.Moved; cursor = cursor.Deque container moves index })) [
+        | false ↦ (refl, tt, refl, refl)
+        | true ↦ elim (slice_get deque.items index) as (λ o. slice_get deque.items index ≡ o → IsStepBut is_memory (cursor.Deque container moves index) (deque_walk o container moves index)) [
+          | None ↦ λ _. (refl, tt, refl, refl)
+          | Some one ↦ λ found. (refl, held_at V deque.items index one of found, refl, refl)
+        ] refl
+      ]
+
+  dict_back_step : (pairs : List DictPair) (container : ℕ) (state : CursorState) (size : ℕ) (last : Option ℕ) → All (IsPairBy K V) pairs → IsStepBut is_uncommon (cursor.DictBack container state size last) (dict_back_next pairs container state size last)
+  dict_back_step pairs container walk.Ended size last of = (refl, tt, refl, refl)
+  dict_back_step pairs container walk.Reported size last of = (refl, tt, refl, refl)
+  dict_back_step pairs container walk.Live size last of =
+      elim (length pairs == size) as (λ b. IsStepBut is_uncommon (cursor.DictBack container walk.Live size last) (if b then dict_back_walk (prior_pair pairs last) container size last else record { reply = reply.Raised raise.Size; cursor = cursor.DictBack container walk.Reported size last })) [
+        | false ↦ (refl, tt, refl, refl)
+        | true ↦ elim (prior_pair pairs last) as (λ o. prior_pair pairs last ≡ o → IsStepBut is_uncommon (cursor.DictBack container walk.Live size last) (dict_back_walk o container size last)) [
+          | None ↦ λ _. (refl, tt, refl, refl)
+          | Some pair ↦ λ found. (refl, found_in (IsPairBy K V) (λ (p : DictPair). is_before last p.serial) (reverse pairs) pair (all_reversed (IsPairBy K V) pairs of) found, refl, refl)
+        ] refl
+      ]
+
+  list_back_step : (items : List Value) (container : ℕ) (index : Option ℕ) → All V items → IsStepBut is_uncommon (cursor.ListBack container index) (list_back_next items container index)
+  list_back_step items container None of = (refl, tt, refl, refl)
+  list_back_step items container (Some index) of =
+      elim (slice_get items index) as (λ o. slice_get items index ≡ o → IsStepBut is_uncommon (cursor.ListBack container (Some index)) (list_back_walk o container index)) [
+        | None ↦ λ _. (refl, tt, refl, refl)
+        | Some one ↦ λ found. (refl, held_at V items index one of found, refl, refl)
+      ] refl
+
+  -- of a cursor that goes over no deque
+  common_step : (it : Cursor) → IsLandedCursor it → IsStepBut is_uncommon it (cursor_step world it)
+  common_step (cursor.Dict container state size expected last) landed = dict_step (dict_at world container).pairs container state size expected last (dicts_of container)
+  common_step (cursor.List container index ended) landed = list_step (list_at world container) container index ended (lists_of container)
+  common_step (cursor.Set container state size last) landed = set_step (set_at world container).elements container state size last (sets_of container)
+  common_step (cursor.Deque container moves index) landed = absurd landed
+  common_step (cursor.DictBack container state size last) landed = dict_back_step (dict_at world container).pairs container state size last (dicts_of container)
+  common_step (cursor.ListBack container index) landed = list_back_step (list_at world container) container index (lists_of container)
+
+  plain_step : (it : Cursor) → IsStepBut is_uncommon it (cursor_step world it) → IsStepBut is_memory it (cursor_step world it)
+  plain_step it step = (uncommon_memory (cursor_step world it).reply step.0, step.1, step.2, step.3)
+
+  steps_of : (it : Cursor) → IsStepBut is_memory it (cursor_step world it)
+  steps_of (cursor.Dict container state size expected last) = plain_step (cursor.Dict container state size expected last) (common_step (cursor.Dict container state size expected last) tt)
+  steps_of (cursor.List container index ended) = plain_step (cursor.List container index ended) (common_step (cursor.List container index ended) tt)
+  steps_of (cursor.Set container state size last) = plain_step (cursor.Set container state size last) (common_step (cursor.Set container state size last) tt)
+  steps_of (cursor.Deque container moves index) = deque_step (deque_at world container) container moves index (deques_of container)
+  steps_of (cursor.DictBack container state size last) = plain_step (cursor.DictBack container state size last) (common_step (cursor.DictBack container state size last) tt)
+  steps_of (cursor.ListBack container index) = plain_step (cursor.ListBack container index) (common_step (cursor.ListBack container index) tt)
 
   next_walks : (hands : List (Option Cursor)) (number other : ℕ) → walked (answer world hands (call.Next number)).hands other ≡ walked hands other
   next_walks hands number other =
@@ -271,22 +343,28 @@ module _ (K : Key → Type 0) (V : Value → Type 0) (C : ℕ → Type 0) (toget
 
   only_dict : (dict_call : DictCall) (container one : ℕ) → cursor_of_dict dict_call ≡ Some one → one_or_two container (other_dict dict_call) ≡ container ∷ []
   only_dict (dict.Iter it) container one is = refl
+  only_dict (dict.Reversed it) container one is = refl
   only_dict other container one is = absurd cc
 
   only_list : (list_call : ListCall) (container one : ℕ) → cursor_of_list list_call ≡ Some one → one_or_two container (other_list list_call) ≡ container ∷ []
   only_list (list.Iter it) container one is = refl
+  only_list (list.Reversed it) container one is = refl
   only_list other container one is = absurd cc
 
   only_set : (set_call : SetCall) (container one : ℕ) → cursor_of_set set_call ≡ Some one → one_or_two container (other_set set_call) ≡ container ∷ []
   only_set (set.Iter it) container one is = refl
   only_set other container one is = absurd cc
 
+  only_deque : (deque_call : DequeCall) (container one : ℕ) → cursor_of_deque deque_call ≡ Some one → one_or_two container (other_deque deque_call) ≡ container ∷ []
+  only_deque (deque.Iter it) container one is = refl
+  only_deque other container one is = absurd cc
+
   -- an answer of a form is a plain one
   of_form : (hands : List (Option Cursor)) (called : Call) {k : Kind} {container : ℕ} {makes : Option ℕ} → Form world K V C k container (is_changing called) makes (λ h. answer world h called) → IsPlainAnswer K V C world hands called
   of_form hands called {k} {container} {makes} form =
       let f : List (Option Cursor) → Answer = λ h. answer world h called in
       record {
-        memory = form_memory world K V C k container _ makes f hands form;
+        memory = uncommon_memory _ (form_common world K V C k container _ makes f hands form);
         alike = form_alike world K V C k container _ makes f hands no_hands form;
         quiet = form_quiet world K V C k container _ makes f hands form;
         reply = form_reply world K V C k container _ makes f hands form;
@@ -301,6 +379,7 @@ module _ (K : Key → Type 0) (V : Value → Type 0) (C : ℕ → Type 0) (toget
   plain_answer hands (call.Dict container dict_call) said asked few = of_form hands (call.Dict container dict_call) (form_dict K V C together world container (dict_at world container) (dicts_of container) dicts_of asked.0 dict_call said asked.1 few)
   plain_answer hands (call.List container list_call) said asked few = of_form hands (call.List container list_call) (form_list K V C together world container (list_at world container) (lists_of container) lists_of asked.0 list_call said asked.1 few)
   plain_answer hands (call.Set container set_call) said asked few = of_form hands (call.Set container set_call) (form_set K V C together world container (set_at world container) (sets_of container) sets_of asked.0 set_call said asked.1 few)
+  plain_answer hands (call.Deque container deque_call) said asked few = of_form hands (call.Deque container deque_call) (form_deque K V C together world container (deque_at world container) (deques_of container) deques_of asked.0 (deque_kind world container None asked.0) deque_call said few)
   plain_answer hands (call.Next number) said asked few =
       let stepped : Option Cursor → Answer = λ o. option_map_or (λ it. moves world hands number (cursor_step world it).cursor (cursor_step world it).reply) o (shows world hands reply.Stop) in
       record {
@@ -323,6 +402,25 @@ module _ (K : Key → Type 0) (V : Value → Type 0) (C : ℕ → Type 0) (toget
   plain_answer hands (call.Begin first second) said asked few = record { memory = refl; alike = λ _. refl; quiet = λ _. refl; reply = tt; contents = contents; containers = refl; kinds = refl; fits = λ fits. fits; room = refl }
   plain_answer hands call.End said asked few = record { memory = refl; alike = λ _. refl; quiet = λ _. refl; reply = tt; contents = contents; containers = refl; kinds = refl; fits = λ fits. fits; room = refl }
   plain_answer hands call.Quiesce said asked few = record { memory = refl; alike = λ _. refl; quiet = λ _. refl; reply = tt; contents = contents; containers = refl; kinds = refl; fits = λ fits. fits; room = refl }
+  plain_answer hands (call.Await other index) said asked few = record { memory = refl; alike = λ _. refl; quiet = λ _. refl; reply = tt; contents = contents; containers = refl; kinds = refl; fits = λ fits. fits; room = refl }
+  plain_answer hands call.Dump said asked few = record { memory = refl; alike = λ _. refl; quiet = λ _. refl; reply = All-map (IsShownBy K V) shown_of world (λ i d low. shown_by (get_or world i d) (contents i d low)); contents = contents; containers = refl; kinds = refl; fits = λ fits. fits; room = refl }
+
+  -- a call that is landed, by cursors over no deques, says nothing of deques or of all containers
+  pub landed_reply : (hands : List (Option Cursor)) (called : Call) → IsCallBy K V called → IsAsked world called → (is_counting called ≡ true → (count : ℕ) → count ≤ counted_in world called → C count) → is_landed_call called ≡ true → ((number : ℕ) (it : Cursor) → cursor_at hands number ≡ Some it → IsLandedCursor it) → is_uncommon (answer world hands called).reply ≡ false
+  landed_reply hands (call.Dict container dict_call) said asked few landed cursors = form_common world K V C _ _ _ _ (λ h. answer_dict world h container (dict_at world container) dict_call) hands (form_dict K V C together world container (dict_at world container) (dicts_of container) dicts_of asked.0 dict_call said asked.1 few)
+  landed_reply hands (call.List container list_call) said asked few landed cursors = form_common world K V C _ _ _ _ (λ h. answer_list world h container (list_at world container) list_call) hands (form_list K V C together world container (list_at world container) (lists_of container) lists_of asked.0 list_call said asked.1 few)
+  landed_reply hands (call.Set container set_call) said asked few landed cursors = form_common world K V C _ _ _ _ (λ h. answer_set world h container (set_at world container) set_call) hands (form_set K V C together world container (set_at world container) (sets_of container) sets_of asked.0 set_call said asked.1 few)
+  landed_reply hands (call.Deque container deque_call) said asked few landed cursors = absurd (false≢true landed)
+  landed_reply hands (call.Next number) said asked few landed cursors =
+      elim (cursor_at hands number) as (λ o. cursor_at hands number ≡ o → is_uncommon (option_map_or (λ it. moves world hands number (cursor_step world it).cursor (cursor_step world it).reply) o (shows world hands reply.Stop)).reply ≡ false) [
+        | None ↦ λ _. refl
+        | Some it ↦ λ is. (common_step it (cursors number it is)).0
+      ] refl
+  landed_reply hands (call.Begin first second) said asked few landed cursors = refl
+  landed_reply hands call.End said asked few landed cursors = refl
+  landed_reply hands call.Quiesce said asked few landed cursors = refl
+  landed_reply hands (call.Await other index) said asked few landed cursors = absurd (false≢true landed)
+  landed_reply hands call.Dump said asked few landed cursors = absurd (false≢true landed)
 
   -- which container each cursor goes over then
   pub plain_walks : (hands : List (Option Cursor)) (called : Call) → IsCallBy K V called → IsAsked world called → (is_counting called ≡ true → (count : ℕ) → count ≤ counted_in world called → C count) → IfSome (cursor_of called) (λ one. one < length hands) → (number : ℕ) → walked (answer world hands called).hands number ≡ walked_after hands (cursor_of called) (containers_of called) number
@@ -332,10 +430,14 @@ module _ (K : Key → Type 0) (V : Value → Type 0) (C : ℕ → Type 0) (toget
       form_walks world K V C kind.List container _ _ (λ h. answer_list world h container (list_at world container) list_call) hands (containers_of (call.List container list_call)) number (form_list K V C together world container (list_at world container) (lists_of container) lists_of asked.0 list_call said asked.1 few) room (only_list list_call container)
   plain_walks hands (call.Set container set_call) said asked few room number =
       form_walks world K V C kind.Set container _ _ (λ h. answer_set world h container (set_at world container) set_call) hands (containers_of (call.Set container set_call)) number (form_set K V C together world container (set_at world container) (sets_of container) sets_of asked.0 set_call said asked.1 few) room (only_set set_call container)
+  plain_walks hands (call.Deque container deque_call) said asked few room number =
+      form_walks world K V C (kind.Deque (deque_at world container).bound) container _ _ (λ h. answer_deque world h container (deque_at world container) deque_call) hands (containers_of (call.Deque container deque_call)) number (form_deque K V C together world container (deque_at world container) (deques_of container) deques_of asked.0 (deque_kind world container None asked.0) deque_call said few) room (only_deque deque_call container)
   plain_walks hands (call.Next one) said asked few room number = next_walks hands one number
   plain_walks hands (call.Begin first second) said asked few room number = refl
   plain_walks hands call.End said asked few room number = refl
   plain_walks hands call.Quiesce said asked few room number = refl
+  plain_walks hands (call.Await other index) said asked few room number = refl
+  plain_walks hands call.Dump said asked few room number = refl
 
 -- ---- that their strings are among that many
 
@@ -350,11 +452,13 @@ content_by : (n : ℕ) (c : Content) → IsContentOf n c → IsContentBy (IsKeyO
 content_by n (content.Dict dict) h = h
 content_by n (content.List items) h = h
 content_by n (content.Set set) h = h
+content_by n (content.Deque deque) h = h
 
 content_of : (n : ℕ) (c : Content) → IsContentBy (IsKeyOf n) (IsValueOf n) c → IsContentOf n c
 content_of n (content.Dict dict) h = h
 content_of n (content.List items) h = h
 content_of n (content.Set set) h = h
+content_of n (content.Deque deque) h = h
 
 pub contents_by : (n : ℕ) (world : List Content) → All (IsContentOf n) world → All (IsContentBy (IsKeyOf n) (IsValueOf n)) world
 contents_by n world h = All-weaker (IsContentOf n) (IsContentBy (IsKeyOf n) (IsValueOf n)) (content_by n) world h
@@ -362,7 +466,13 @@ contents_by n world h = All-weaker (IsContentOf n) (IsContentBy (IsKeyOf n) (IsV
 pub contents_of : (n : ℕ) (world : List Content) → All (IsContentBy (IsKeyOf n) (IsValueOf n)) world → All (IsContentOf n) world
 contents_of n world h = All-weaker (IsContentBy (IsKeyOf n) (IsValueOf n)) (IsContentOf n) (content_of n) world h
 
+shown_of_by : (n : ℕ) (said : Shown) → IsShownBy (IsKeyOf n) (IsValueOf n) said → IsShownOf n said
+shown_of_by n (in_dump.Dict pairs) h = h
+shown_of_by n (in_dump.List items) h = h
+shown_of_by n (in_dump.Set elements) h = h
+
 pub reply_of : (n : ℕ) (said : Reply) → IsReplyBy (IsKeyOf n) (IsValueOf n) IsAny said → IsReplyOf n said
 reply_of n (reply.Value v) h = h
+reply_of n (reply.World world) h = All-weaker (IsShownBy (IsKeyOf n) (IsValueOf n)) (IsShownOf n) (shown_of_by n) world h
 reply_of n (reply.Suspended count) h = absurd h
 reply_of n other h = h

@@ -33,8 +33,11 @@ noted_count call.End noted count = refl
 noted_count (call.Dict container dict_call) noted count = refl
 noted_count (call.List container list_call) noted count = refl
 noted_count (call.Set container set_call) noted count = refl
+noted_count (call.Deque container deque_call) noted count = refl
 noted_count (call.Next cursor) noted count = refl
 noted_count call.Quiesce noted count = refl
+noted_count (call.Await other index) noted count = refl
+noted_count call.Dump noted count = refl
 
 mark_counts : (mark : Option ℕ) → (if is_some mark then 1 else 0) ≤ 1
 mark_counts None = omega arith

@@ -10,7 +10,7 @@ use Rattle.ft_model.specs.declared.content.Content.{Content}
 use Rattle.ft_model.specs.declared.cursor.Cursor.{Cursor}
 use Rattle.ft_model.specs.declared.script.ScriptParts.{ScriptParts}
 use Rattle.ft_model.specs.declared.script.Thread.{Thread}
-use Rattle.ft_model.specs.Calls.{one_or_two, containers_of, other_dict, other_list, other_set}
+use Rattle.ft_model.specs.Calls.{one_or_two, containers_of, other_dict, other_list, other_set, other_deque}
 use Rattle.ft_model.specs.Worlds.{IsOfKind, cursor_kind, container_of, cursor_at, IsDeclared}
 use Rattle.ft_model.specs.Scripts.{cursor_of, IsCallOf, IsThread, IsScript}
 use Rattle.ft_model.specs.Histories.{calls_of, cursors_of}
@@ -32,10 +32,13 @@ maker_names : (called : Call) (number : ℕ) → cursor_of called ≡ Some numbe
 maker_names (call.Dict container dict_call) number makes_it = named_some container (other_dict dict_call)
 maker_names (call.List container list_call) number makes_it = named_some container (other_list list_call)
 maker_names (call.Set container set_call) number makes_it = named_some container (other_set set_call)
+maker_names (call.Deque container deque_call) number makes_it = named_some container (other_deque deque_call)
 maker_names (call.Next cursor) number makes_it = absurd (none-some number makes_it)
 maker_names (call.Begin first second) number makes_it = absurd (none-some number makes_it)
 maker_names call.End number makes_it = absurd (none-some number makes_it)
 maker_names call.Quiesce number makes_it = absurd (none-some number makes_it)
+maker_names (call.Await other index) number makes_it = absurd (none-some number makes_it)
+maker_names call.Dump number makes_it = absurd (none-some number makes_it)
 
 made_by : (one : Option ℕ) (number : ℕ) → option_map_or (λ made. made == number) one false ≡ true → one ≡ Some number
 made_by None number h = absurd (false≢true h)
@@ -91,6 +94,7 @@ module _ (script : ScriptParts) (calls_ok : CallsOf script) (made : CursorsMade 
   declared_by (call.Dict container dict_call) is asked room asks = record { one = asked.0; both = asked.1; room = room }
   declared_by (call.List container list_call) is asked room asks = record { one = asked.0; both = asked.1; room = room }
   declared_by (call.Set container set_call) is asked room asks = record { one = asked.0; both = asked.1; room = room }
+  declared_by (call.Deque container deque_call) is asked room asks = record { one = asked.0; both = asked.1; room = room }
   declared_by (call.Next number) is asked room asks =
       let marks = length (thread_at progress.machine thread).marks in
       let calls = calls_of script thread in
@@ -102,6 +106,8 @@ module _ (script : ScriptParts) (calls_ok : CallsOf script) (made : CursorsMade 
   declared_by (call.Begin first second) is asked room asks = absurd (false≢true asks)
   declared_by call.End is asked room asks = absurd (false≢true asks)
   declared_by call.Quiesce is asked room asks = absurd (false≢true asks)
+  declared_by (call.Await other index) is asked room asks = absurd (false≢true asks)
+  declared_by call.Dump is asked room asks = tt
 
   pub next_declared : asks_container called ≡ true → IsDeclared progress.world (hands_of progress thread) called
   next_declared asks =

@@ -8,9 +8,11 @@ use Rattle.ft_model.specs.declared.call.ListCall.{ListCall}
 use Rattle.ft_model.specs.declared.call.ListCall.TheVariants as list
 use Rattle.ft_model.specs.declared.call.SetCall.{SetCall}
 use Rattle.ft_model.specs.declared.call.SetCall.TheVariants as set
+use Rattle.ft_model.specs.declared.call.DequeCall.{DequeCall}
+use Rattle.ft_model.specs.declared.call.DequeCall.TheVariants as deque
 use Rattle.ft_model.specs.declared.data.Key.{Key}
 use Rattle.ft_model.specs.declared.data.Value.{Value}
-use Rattle.ft_model.specs.Scripts.{IsKeyOf, IsValueOf, AreStringsOf, AreStringsOfDict, AreStringsOfList, AreStringsOfSet}
+use Rattle.ft_model.specs.Scripts.{IsKeyOf, IsValueOf, AreStringsOf, AreStringsOfDict, AreStringsOfList, AreStringsOfSet, AreStringsOfDeque}
 
 abbrev pub IsDictCallBy : (Key → Type 0) → (Value → Type 0) → DictCall → Type 0
 IsDictCallBy K V (dict.Get key) = K key
@@ -21,6 +23,7 @@ IsDictCallBy K V (dict.Pop key) = K key
 IsDictCallBy K V (dict.PopOr key default) = K key × V default
 IsDictCallBy K V (dict.SetDefault key default) = K key × V default
 IsDictCallBy K V (dict.Has key) = K key
+IsDictCallBy K V (dict.ItemsHas key value) = K key × V value
 IsDictCallBy K V other = Unit {0}
 
 abbrev pub IsListCallBy : (Key → Type 0) → (Value → Type 0) → ListCall → Type 0
@@ -40,10 +43,17 @@ IsSetCallBy K V (set.Remove key) = K key
 IsSetCallBy K V (set.Has key) = K key
 IsSetCallBy K V other = Unit {0}
 
+abbrev pub IsDequeCallBy : (Key → Type 0) → (Value → Type 0) → DequeCall → Type 0
+IsDequeCallBy K V (deque.Append value) = V value
+IsDequeCallBy K V (deque.AppendLeft value) = V value
+IsDequeCallBy K V (deque.Has value) = V value
+IsDequeCallBy K V other = Unit {0}
+
 abbrev pub IsCallBy : (Key → Type 0) → (Value → Type 0) → Call → Type 0
 IsCallBy K V (call.Dict place dict_call) = IsDictCallBy K V dict_call
 IsCallBy K V (call.List place list_call) = IsListCallBy K V list_call
 IsCallBy K V (call.Set place set_call) = IsSetCallBy K V set_call
+IsCallBy K V (call.Deque place deque_call) = IsDequeCallBy K V deque_call
 IsCallBy K V other = Unit {0}
 
 -- ---- which calls count
@@ -62,10 +72,15 @@ abbrev pub is_counting_set : SetCall → Bool
 is_counting_set set.Len = true
 is_counting_set other = false
 
+abbrev pub is_counting_deque : DequeCall → Bool
+is_counting_deque deque.Len = true
+is_counting_deque other = false
+
 abbrev pub is_counting : Call → Bool
 is_counting (call.Dict place dict_call) = is_counting_dict dict_call
 is_counting (call.List place list_call) = is_counting_list list_call
 is_counting (call.Set place set_call) = is_counting_set set_call
+is_counting (call.Deque place deque_call) = is_counting_deque deque_call
 is_counting other = false
 
 -- ---- that their strings are among that many
@@ -82,8 +97,13 @@ strings_of_set : (n : ℕ) (called : SetCall) → AreStringsOfSet n called → I
 strings_of_set n (set.Add key) h = h
 strings_of_set n other h = h
 
+strings_of_deque : (n : ℕ) (called : DequeCall) → AreStringsOfDeque n called → IsDequeCallBy (IsKeyOf n) (IsValueOf n) called
+strings_of_deque n (deque.Append value) h = h
+strings_of_deque n other h = h
+
 pub strings_of : (n : ℕ) (called : Call) → AreStringsOf n called → IsCallBy (IsKeyOf n) (IsValueOf n) called
 strings_of n (call.Dict place dict_call) h = strings_of_dict n dict_call h
 strings_of n (call.List place list_call) h = strings_of_list n list_call h
 strings_of n (call.Set place set_call) h = strings_of_set n set_call h
+strings_of n (call.Deque place deque_call) h = strings_of_deque n deque_call h
 strings_of n other h = tt

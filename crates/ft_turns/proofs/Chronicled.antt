@@ -21,6 +21,7 @@ use Rattle.ft_model.specs.Worlds.{start_world}
 use Rattle.ft_model.specs.Answers.{after_write, is_write}
 use Rattle.ft_model.specs.Histories.{writes, entries_of, calls_of, cursors_of, IsWhole, Section, after_section, sections_at, innermost, IfEnds, names, IsKeptBy, IsCountedBy, IsKept, IsMarked, has_call_on, needs_at}
 use Rattle.ft_model.specs.Judging.{IsNext}
+use Rattle.ft_history.proofs.ScriptLemmas.{awaited_of_script}
 use Rattle.ft_history.proofs.Unbroken.{IsFront, fronts}
 use Rattle.ft_turns.specs.Orders.{Machine, thread_at, turn, turns_of, start_machine, last_machine, next_call, answer_try, finish_try, Ordered, ordered_in, order_of, ordered_entry}
 use Rattle.ft_turns.specs.AnsweredTurns.{Progress, start_progress, with_turn, has_answered, has_finished, mark_given, answered_turn, last_progress, marked_entry, answered_turns}
@@ -118,9 +119,12 @@ kept_by_count entries thread place (section ∷ sections) call.End other counted
 kept_by_count entries thread place (section ∷ sections) (call.Dict container dict_call) said counted calm = tt
 kept_by_count entries thread place (section ∷ sections) (call.List container list_call) said counted calm = tt
 kept_by_count entries thread place (section ∷ sections) (call.Set container set_call) said counted calm = tt
+kept_by_count entries thread place (section ∷ sections) (call.Deque container deque_call) said counted calm = tt
 kept_by_count entries thread place (section ∷ sections) (call.Next cursor) said counted calm = tt
 kept_by_count entries thread place (section ∷ sections) (call.Begin first second) said counted calm = tt
 kept_by_count entries thread place (section ∷ sections) call.Quiesce said counted calm = tt
+kept_by_count entries thread place (section ∷ sections) (call.Await other index) said counted calm = tt
+kept_by_count entries thread place (section ∷ sections) call.Dump said counted calm = tt
 
 writes_changing : (entry : Entry) → is_write entry.call entry.reply ≡ true → is_changing entry.call ≡ true
 writes_changing entry wrote = (and_parts (is_changing entry.call) _ wrote).0
@@ -345,6 +349,7 @@ module _ (script : ScriptParts) (rule : IsScript script) (all_finish : AllFinish
         chronicled = record {
           whole = whole;
           answered = λ place entry at. (done_at place entry at).answered;
+          awaited = awaited_of_script script rule (answered_turns script) whole;
           marked = marked;
           kept = kept;
           counted = λ place entry at. (done_at place entry at).counted;

@@ -1,11 +1,11 @@
 -- What is said of keys and values stays so of what a content has after each change of it, where it is so of what it had and of the call's.
-use Rattle.std.proofs.Common.{◌≡◌, ℕ, suc, ◌+◌, ◌-◌, ◌<◌, Bool, true, false, List, [], ◌∷◌, ◌++◌, length, get_or, take, drop, reverse, None, Some, refl, sym, subst, arith, cond, inl, inr, ℤ}
-use Rattle.std.specs.Prelude.{if◌then◌else◌, All, slice_get, slice_index_or}
+use Rattle.std.proofs.Common.{◌≡◌, ℕ, suc, ◌+◌, ◌-◌, ◌<◌, Bool, true, false, List, [], ◌∷◌, ◌++◌, length, get_or, take, drop, reverse, Option, None, Some, refl, sym, subst, arith, cond, inl, inr, ℤ, pos, negsuc, ◌==◌}
+use Rattle.std.specs.Prelude.{if◌then◌else◌, All, slice_get, slice_index_or, filter, nat_le, ◌%◌}
 use Rattle.std.specs.List.{find, remove}
 use Rattle.std.specs.Option.{option_map}
 use Rattle.std.proofs.lemmas.Bool.{cases_lt}
 use Rattle.std.proofs.lemmas.List.{get_or-reverse, length-reverse, get_or_past}
-use Rattle.std.proofs.lemmas.List.Elements.{All-cons, All-head, All-tail, All-push, All-append, All-map, All-take, All-drop}
+use Rattle.std.proofs.lemmas.List.Elements.{All-nil, All-cons, All-head, All-tail, All-push, All-append, All-map, All-filter, All-take, All-drop}
 use Rattle.std.proofs.lemmas.Option.{none-some, slice_get_within, get_or_from_slice_get}
 use Rattle.ft_model.specs.declared.data.Key.{Key}
 use Rattle.ft_model.specs.declared.data.Value.{Value}
@@ -16,9 +16,13 @@ use Rattle.ft_model.specs.declared.content.DictPair.{DictPair}
 use Rattle.ft_model.specs.declared.content.Element.{Element}
 use Rattle.ft_model.specs.declared.reply.Reply.{Reply}
 use Rattle.ft_model.specs.declared.reply.Reply.TheVariants as reply
+use Rattle.ft_model.specs.declared.reply.Shown.{Shown}
+use Rattle.ft_model.specs.declared.reply.Shown.TheVariants as shown
 use Rattle.ft_model.specs.Keys.{as_value}
 use Rattle.ft_model.specs.Contents.{DictContent, SetContent, is_at, has_key, with_value, dict_get, dict_set, dict_update, pairs_from, has_element, set_add, elements_from}
-use Rattle.ft_model.specs.Lists.{list_slice, clamped_in, list_insert}
+use Rattle.ft_model.specs.Lists.{index_in, list_slice, clamped_in, list_insert}
+use Rattle.ft_model.specs.Deques.{DequeContent, right_within, left_within, with_deque_items, deque_extend, deque_extend_left, rotated, deque_rotate, deque_clear, deque_get}
+use Rattle.ft_model.specs.Views.{keys_in}
 
 -- what stands in a list keeps to what all keep to
 pub held_at : {X : Type 0} (P : X → Type 0) (xs : List X) (place : ℕ) (x : X) → All P xs → slice_get xs place ≡ Some x → P x
@@ -35,12 +39,22 @@ found_in P p (y ∷ xs) x all found =
 All-remove : {X : Type 0} (P : X → Type 0) (xs : List X) (place : ℕ) → All P xs → All P (remove xs place)
 All-remove P xs place all = All-append P (take place xs) (drop (suc place) xs) (All-take P place xs all) (All-drop P (suc place) xs all)
 
+pub all_reversed : {X : Type 0} (P : X → Type 0) (xs : List X) → All P xs → All P (reverse xs)
+all_reversed P xs all place d low =
+    let within : place < length xs = omega (arith, length-reverse xs) in
+    subst P (sym (get_or-reverse xs place d within)) (all (length xs - 1 - place) d (omega arith))
+
 -- of a pair, an element, a reply and a content, where it is said of keys, of values and of counts; no container says that calls waited
 abbrev pub IsPairBy : (Key → Type 0) → (Value → Type 0) → DictPair → Type 0
 IsPairBy K V pair = K pair.key × V pair.value
 
 abbrev pub IsElementBy : (Key → Type 0) → Element → Type 0
 IsElementBy K element = K element.key
+
+abbrev pub IsShownBy : (Key → Type 0) → (Value → Type 0) → Shown → Type 0
+IsShownBy K V (shown.Dict pairs) = All (λ pair. K pair.0 × V pair.1) pairs
+IsShownBy K V (shown.List items) = All V items
+IsShownBy K V (shown.Set elements) = All K elements
 
 abbrev pub IsReplyBy : (Key → Type 0) → (Value → Type 0) → (ℕ → Type 0) → Reply → Type 0
 IsReplyBy K V C (reply.Value v) = V v
@@ -49,6 +63,7 @@ IsReplyBy K V C (reply.Count count) = C count
 IsReplyBy K V C (reply.Dict pairs) = All (λ pair. K pair.0 × V pair.1) pairs
 IsReplyBy K V C (reply.List items) = All V items
 IsReplyBy K V C (reply.Set elements) = All K elements
+IsReplyBy K V C (reply.World world) = All (IsShownBy K V) world
 IsReplyBy K V C (reply.Suspended count) = ⊥
 IsReplyBy K V C other = Unit {0}
 
@@ -56,6 +71,7 @@ abbrev pub IsContentBy : (Key → Type 0) → (Value → Type 0) → Content →
 IsContentBy K V (content.Dict dict) = All (IsPairBy K V) dict.pairs
 IsContentBy K V (content.List items) = All V items
 IsContentBy K V (content.Set set) = All (IsElementBy K) set.elements
+IsContentBy K V (content.Deque deque) = All V deque.items
 
 -- it is said of None, and of a key that stands as a value
 pub record GoTogether (K : Key → Type 0) (V : Value → Type 0) : Type 0 where
@@ -113,9 +129,7 @@ module _ (K : Key → Type 0) (V : Value → Type 0) where
   sliced_items items start end all = All-drop V (clamped_in (length items) start) (take (clamped_in (length items) end) items) (All-take V (clamped_in (length items) end) items all)
 
   pub reversed_items : (items : List Value) → All V items → All V (reverse items)
-  reversed_items items all place d low =
-      let within : place < length items = omega (arith, length-reverse items) in
-      subst V (sym (get_or-reverse items place d within)) (all (length items - 1 - place) d (omega arith))
+  reversed_items items all = all_reversed V items all
 
   -- ---- sets
 
@@ -129,3 +143,63 @@ module _ (K : Key → Type 0) (V : Value → Type 0) where
   pub renumbered : (next : ℕ) (elements : List Element) → All (IsElementBy K) elements → All (IsElementBy K) (elements_from next elements)
   renumbered next [] old = old
   renumbered next (element ∷ elements) old = All-cons (IsElementBy K) (record element { serial = next }) (elements_from (next + 1) elements) (All-head (IsElementBy K) element elements old) (renumbered (next + 1) elements (All-tail (IsElementBy K) element elements old))
+
+  -- ---- keys
+
+  pub all_keys : (pairs : List DictPair) → All (IsPairBy K V) pairs → All K (keys_in pairs)
+  all_keys pairs all = All-map K (λ (pair : DictPair). pair.key) pairs (λ i d low. (all i d low).0)
+
+  pub kept_keys : (keeps : DictPair → Bool) (pairs : List DictPair) → All (IsPairBy K V) pairs → All K (keys_in (filter keeps pairs))
+  kept_keys keeps pairs all = all_keys (filter keeps pairs) (All-filter keeps (IsPairBy K V) pairs all)
+
+  -- ---- deques
+
+  pub right_items : (bound : Option ℕ) (items : List Value) → All V items → All V (right_within bound items)
+  right_items None items all = all
+  right_items (Some most) items all = All-drop V (length items - most) items all
+
+  pub left_items : (bound : Option ℕ) (items : List Value) → All V items → All V (left_within bound items)
+  left_items None items all = all
+  left_items (Some most) items all = All-take V most items all
+
+  pub extended_items : (deque : DequeContent) (others : List Value) → All V deque.items → All V others → All V (deque_extend deque others).items
+  extended_items deque others old new =
+      elim (length others == 0) as (λ b. let left : DequeContent = if b then deque else with_deque_items deque (right_within deque.bound (deque.items ++ others)) in All V left.items) [
+        | true ↦ old
+        | false ↦ right_items deque.bound (deque.items ++ others) (All-append V deque.items others old new)
+      ]
+
+  pub extended_left_items : (deque : DequeContent) (others : List Value) → All V deque.items → All V others → All V (deque_extend_left deque others).items
+  extended_left_items deque others old new =
+      elim (length others == 0) as (λ b. let left : DequeContent = if b then deque else with_deque_items deque (left_within deque.bound (reverse others ++ deque.items)) in All V left.items) [
+        | true ↦ old
+        | false ↦ left_items deque.bound (reverse others ++ deque.items) (All-append V (reverse others) deque.items (reversed_items others new) old)
+      ]
+
+  turned : (items : List Value) (n : ℕ) → All V items → All V (drop n items ++ take n items)
+  turned items n all = All-append V (drop n items) (take n items) (All-drop V n items all) (All-take V n items all)
+
+  rotated_all : (items : List Value) (steps : ℤ) → All V items → All V (rotated items steps)
+  rotated_all items (pos steps) all = turned items (length items - steps % length items) all
+  rotated_all items (negsuc below) all = turned items (suc below % length items) all
+
+  pub rotated_items : (deque : DequeContent) (steps : ℤ) → All V deque.items → All V (deque_rotate deque steps).items
+  rotated_items deque steps old =
+      elim (nat_le (length deque.items) 1) as (λ b. let left : DequeContent = if b then deque else with_deque_items deque (rotated deque.items steps) in All V left.items) [
+        | true ↦ old
+        | false ↦ rotated_all deque.items steps old
+      ]
+
+  pub cleared_items : (deque : DequeContent) → All V deque.items → All V (deque_clear deque).items
+  cleared_items deque old =
+      elim (length deque.items == 0) as (λ b. let left : DequeContent = if b then deque else with_deque_items deque [] in All V left.items) [
+        | true ↦ old
+        | false ↦ All-nil V
+      ]
+
+  pub got_item : V value.Nothing → (items : List Value) (index : ℤ) (v : Value) → All V items → deque_get items index ≡ Some v → V v
+  got_item nothing items index v all got =
+      elim (index_in (length items) index) as (λ o. option_map (λ found. slice_index_or items found value.Nothing) o ≡ Some v → V v) [
+        | None ↦ λ none. absurd (none-some v none)
+        | Some found ↦ λ some. (let is : slice_index_or items found value.Nothing ≡ v = cc in subst V is (item_value nothing items found all))
+      ] got

@@ -69,8 +69,11 @@ module _ (entries : List Entry) (place : ℕ) (entry : Entry) (at : slice_get en
   tallied_call count (call.Dict container dict_call) sections noted tallied = tallied
   tallied_call count (call.List container list_call) sections noted tallied = tallied
   tallied_call count (call.Set container set_call) sections noted tallied = tallied
+  tallied_call count (call.Deque container deque_call) sections noted tallied = tallied
   tallied_call count (call.Next cursor) sections noted tallied = tallied
   tallied_call count call.Quiesce sections noted tallied = tallied
+  tallied_call count (call.Await other index) sections noted tallied = tallied
+  tallied_call count call.Dump sections noted tallied = tallied
 
 -- so an `end` counts the marks
 pub ended_counts : (entries : List Entry) (thread place : ℕ) (section : Section) (count : ℕ) → marks_between entries thread place section ≡ count → IsCountedBy entries thread place section (ended_reply count)
@@ -91,9 +94,12 @@ counted_call entries thread place world hands tally call.End (section ∷ sectio
 counted_call entries thread place world hands tally (call.Dict container dict_call) (section ∷ sections) (first ∷ noted) is tallied = tt
 counted_call entries thread place world hands tally (call.List container list_call) (section ∷ sections) (first ∷ noted) is tallied = tt
 counted_call entries thread place world hands tally (call.Set container set_call) (section ∷ sections) (first ∷ noted) is tallied = tt
+counted_call entries thread place world hands tally (call.Deque container deque_call) (section ∷ sections) (first ∷ noted) is tallied = tt
 counted_call entries thread place world hands tally (call.Next cursor) (section ∷ sections) (first ∷ noted) is tallied = tt
 counted_call entries thread place world hands tally (call.Begin one two) (section ∷ sections) (first ∷ noted) is tallied = tt
 counted_call entries thread place world hands tally call.Quiesce (section ∷ sections) (first ∷ noted) is tallied = tt
+counted_call entries thread place world hands tally (call.Await other index) (section ∷ sections) (first ∷ noted) is tallied = tt
+counted_call entries thread place world hands tally call.Dump (section ∷ sections) (first ∷ noted) is tallied = tt
 
 -- ---- replies
 
@@ -108,9 +114,12 @@ pub replied : (world : List Content) (hands : List (Option Cursor)) (tally : Tal
 replied world hands tally (call.Begin first second) = refl
 replied world hands tally call.End = ended_replied (waited_inside tally)
 replied world hands tally call.Quiesce = refl
+replied world hands tally (call.Await other index) = refl
+replied world hands tally call.Dump = inr refl
 replied world hands tally (call.Dict container dict_call) = inr refl
 replied world hands tally (call.List container list_call) = inr refl
 replied world hands tally (call.Set container set_call) = inr refl
+replied world hands tally (call.Deque container deque_call) = inr refl
 replied world hands tally (call.Next cursor) = inr refl
 
 -- ---- what follows

@@ -1,6 +1,6 @@
 -- What is known of the turns so far, whatever comes after them: worlds, hands and entries are of the script.
 use Rattle.std.proofs.Common.{◌≡◌, ℕ, zero, suc, ◌+◌, ◌-◌, ◌<◌, ◌≤◌, Bool, true, false, List, [], ◌∷◌, ◌++◌, length, take, map, get_or, Option, None, Some, refl, sym, ap, subst, ◌∙◌, arith, inl, inr}
-use Rattle.std.specs.Prelude.{slice_get, slice_set, slice_index_or, ◌⊎◌, is_some, ◌==◌, if◌then◌else◌, IfSome}
+use Rattle.std.specs.Prelude.{slice_get, slice_set, slice_index_or, option_map, ◌⊎◌, is_some, ◌==◌, if◌then◌else◌, IfSome}
 use Rattle.std.specs.Option.{option_map_or}
 use Rattle.std.proofs.lemmas.Bool.{cases_eq, cases_lt}
 use Rattle.std.proofs.lemmas.Option.{none-some, same_Some, slice_get_cases, slice_get_within, slice_get-map}
@@ -15,18 +15,20 @@ use Rattle.ft_model.specs.declared.entry.Entry.{Entry}
 use Rattle.ft_model.specs.declared.reply.Reply.TheVariants as reply
 use Rattle.ft_model.specs.declared.script.Declaration.{Declaration}
 use Rattle.ft_model.specs.declared.script.Kind.{Kind}
+use Rattle.ft_model.specs.declared.script.Start.{Start}
 use Rattle.ft_model.specs.declared.script.Kind.TheVariants as kind
 use Rattle.ft_model.specs.declared.script.ScriptParts.{ScriptParts}
 use Rattle.ft_model.specs.declared.script.Thread.{Thread}
 use Rattle.ft_model.specs.declared.content.DictPair.{DictPair}
 use Rattle.ft_model.specs.declared.content.Element.{Element}
-use Rattle.ft_model.specs.Calls.{containers_of, other_dict, other_list, other_set}
+use Rattle.ft_model.specs.Calls.{containers_of, other_dict, other_list, other_set, other_deque}
 use Rattle.ft_model.specs.Scripts.{IsKeyOf, IsValueOf, IsCallOf, cursor_of, NamesOf, IsDeclaredAs}
 use Rattle.ft_model.specs.Parts.{IsReplyOf, IsContentOf, IsWorldOf}
-use Rattle.ft_model.specs.Worlds.{kinds_of, start_world, start_hands, no_hands, empty_content, container_of, IsOfKind, kind_of, cursor_at}
+use Rattle.ft_model.specs.Worlds.{starts_of, start_world, start_hands, no_hands, empty_content, container_of, IsOfKind, kind_of, cursor_kind, cursor_at}
 use Rattle.ft_model.specs.Answers.{answer, is_write, is_memory}
 use Rattle.ft_model.specs.Histories.{calls_of, cursors_of}
 use Rattle.ft_history.proofs.HistoryPlaces.{take_next, slice_get_left, slice_get_at}
+use Rattle.ft_history.proofs.Effects.{HasKind}
 use Rattle.ft_turns.specs.Orders.{makes, cursor_containers, ThreadState, take_locks, thread_at, next_call, without_locks, waiting_machine, sections_after, answered_machine, with_taken, finished_machine}
 use Rattle.ft_turns.specs.AnsweredTurns.{Tally, no_tally, ended_reply, waited_inside, thread_reply, Progress, start_progress}
 use Rattle.ft_turns.proofs.ProgressWords.{hands_of, tally_of, next_entry, with_answer, with_mark}
@@ -51,8 +53,11 @@ reply_memory world hands tally call.End h = ended_memory (waited_inside tally)
 reply_memory world hands tally (call.Dict container dict_call) h = h
 reply_memory world hands tally (call.List container list_call) h = h
 reply_memory world hands tally (call.Set container set_call) h = h
+reply_memory world hands tally (call.Deque container deque_call) h = h
 reply_memory world hands tally (call.Next cursor) h = h
 reply_memory world hands tally call.Quiesce h = h
+reply_memory world hands tally (call.Await other index) h = h
+reply_memory world hands tally call.Dump h = h
 
 reply_strings : (n : ℕ) (world : List Content) (hands : List (Option Cursor)) (tally : Tally) (called : Call) → IsReplyOf n (answer world hands called).reply → IsReplyOf n (thread_reply world hands tally called)
 reply_strings n world hands tally (call.Begin first second) h = tt
@@ -60,8 +65,11 @@ reply_strings n world hands tally call.End h = ended_strings n (waited_inside ta
 reply_strings n world hands tally (call.Dict container dict_call) h = h
 reply_strings n world hands tally (call.List container list_call) h = h
 reply_strings n world hands tally (call.Set container set_call) h = h
+reply_strings n world hands tally (call.Deque container deque_call) h = h
 reply_strings n world hands tally (call.Next cursor) h = h
 reply_strings n world hands tally call.Quiesce h = h
+reply_strings n world hands tally (call.Await other index) h = h
+reply_strings n world hands tally call.Dump h = h
 
 pub reply_writes : (world : List Content) (hands : List (Option Cursor)) (tally : Tally) (called : Call) → is_write called (thread_reply world hands tally called) ≡ is_write called (answer world hands called).reply
 reply_writes world hands tally (call.Begin first second) = refl
@@ -69,8 +77,11 @@ reply_writes world hands tally call.End = refl
 reply_writes world hands tally (call.Dict container dict_call) = refl
 reply_writes world hands tally (call.List container list_call) = refl
 reply_writes world hands tally (call.Set container set_call) = refl
+reply_writes world hands tally (call.Deque container deque_call) = refl
 reply_writes world hands tally (call.Next cursor) = refl
 reply_writes world hands tally call.Quiesce = refl
+reply_writes world hands tally (call.Await other index) = refl
+reply_writes world hands tally call.Dump = refl
 
 -- ---- the invariant
 
@@ -88,7 +99,7 @@ pub record IsGoing (script : ScriptParts) (progress : Progress) : Type 0 where
   pub counts : length progress.entries ≡ length progress.machine.answered
   pub bare : (place : ℕ) (entry : Entry) → slice_get progress.entries place ≡ Some entry → IsBare script progress.machine.answered place entry
   pub world : IsWorldOf script progress.world
-  pub kinds : map kind_of progress.world ≡ map (λ declared. declared.kind) script.containers
+  pub kinds : map kind_of progress.world ≡ map (λ declared. declared.start.kind) script.containers
   pub fits : (thread : ℕ) → AreOver progress.world (hands_of progress thread)
   pub hands : length progress.hands ≡ length script.threads
   pub room : (thread : ℕ) → thread < length script.threads → length (hands_of progress thread) ≡ cursors_of script thread
@@ -103,10 +114,13 @@ pub cursor_room : (containers : List Declaration) (cursors : ℕ) (called : Call
 cursor_room containers cursors (call.Dict container dict_call) names = names.made
 cursor_room containers cursors (call.List container list_call) names = names.made
 cursor_room containers cursors (call.Set container set_call) names = names.made
+cursor_room containers cursors (call.Deque container deque_call) names = names.made
 cursor_room containers cursors (call.Next number) names = tt
 cursor_room containers cursors (call.Begin first second) names = tt
 cursor_room containers cursors call.End names = tt
 cursor_room containers cursors call.Quiesce names = tt
+cursor_room containers cursors (call.Await other index) names = tt
+cursor_room containers cursors call.Dump names = tt
 
 -- what stands in a list with one more at its end
 pub slice_get_push : {X : Type 0} (xs : List X) (x y : X) (place : ℕ) → slice_get (xs ++ x ∷ []) place ≡ Some y → (slice_get xs place ≡ Some y) ⊎ ((place ≡ length xs) × (x ≡ y))
@@ -128,8 +142,9 @@ empty_strings : (n : ℕ) (k : Kind) → IsContentOf n (empty_content k)
 empty_strings n kind.Dict = All-nil (λ (pair : DictPair). IsKeyOf n pair.key × IsValueOf n pair.value)
 empty_strings n kind.List = All-nil (IsValueOf n)
 empty_strings n kind.Set = All-nil (λ (element : Element). IsKeyOf n element.key)
+empty_strings n (kind.Deque bound) = All-nil (IsValueOf n)
 
-none_made : (count number : ℕ) → cursor_at (start_hands count) number ≡ None
+pub none_made : (count number : ℕ) → cursor_at (start_hands count) number ≡ None
 none_made count number =
     elim (cases_lt number count) [
       | inl low ↦ get_or-replicate count number None None low
@@ -140,31 +155,50 @@ empty_kind : (k : Kind) → kind_of (empty_content k) ≡ k
 empty_kind kind.Dict = refl
 empty_kind kind.List = refl
 empty_kind kind.Set = refl
+empty_kind (kind.Deque bound) = refl
 
-empty_kinds : (containers : List Declaration) → map kind_of (start_world containers) ≡ map (λ declared. declared.kind) containers
+empty_kinds : (containers : List Declaration) → map kind_of (start_world containers) ≡ map (λ declared. declared.start.kind) containers
 empty_kinds [] = refl
-empty_kinds (first ∷ containers) = ap (λ (k : Kind). k ∷ map kind_of (start_world containers)) (empty_kind first.kind) ∙ ap (λ (ks : List Kind). first.kind ∷ ks) (empty_kinds containers)
+empty_kinds (first ∷ containers) = ap (λ (k : Kind). k ∷ map kind_of (start_world containers)) (empty_kind first.start.kind) ∙ ap (λ (ks : List Kind). first.start.kind ∷ ks) (empty_kinds containers)
 
 -- a container that is declared has a content of its kind
-pub of_kind : (containers : List Declaration) (world : List Content) → map kind_of world ≡ map (λ declared. declared.kind) containers → (k : Kind) (place : ℕ) → IsDeclaredAs containers k place → IsOfKind world k place
-of_kind containers world kinds k place declared = sym (slice_get-map kind_of world place) ∙ ap (λ (ks : List Kind). slice_get ks place) kinds ∙ slice_get-map (λ (c : Declaration). c.kind) containers place ∙ declared
+has_kind : (containers : List Declaration) (world : List Content) → map kind_of world ≡ map (λ declared. declared.start.kind) containers → (k : Kind) (place : ℕ) → option_map (λ (c : Declaration). c.start.kind) (slice_get containers place) ≡ Some k → HasKind world k place
+has_kind containers world kinds k place declared = sym (slice_get-map kind_of world place) ∙ ap (λ (ks : List Kind). slice_get ks place) kinds ∙ slice_get-map (λ (c : Declaration). c.start.kind) containers place ∙ declared
 
-other_of_kind : (containers : List Declaration) (world : List Content) → map kind_of world ≡ map (λ declared. declared.kind) containers → (k : Kind) (other : Option ℕ) → IfSome other (λ place. IsDeclaredAs containers k place) → IfSome other (λ place. IsOfKind world k place)
+pub of_kind : (containers : List Declaration) (world : List Content) → map kind_of world ≡ map (λ declared. declared.start.kind) containers → (k : Kind) (place : ℕ) → IsDeclaredAs containers k place → IsOfKind world k place
+of_kind containers world kinds kind.Dict place declared = has_kind containers world kinds kind.Dict place declared
+of_kind containers world kinds kind.List place declared = has_kind containers world kinds kind.List place declared
+of_kind containers world kinds kind.Set place declared = has_kind containers world kinds kind.Set place declared
+of_kind containers world kinds (kind.Deque _) place declared = (declared.0, has_kind containers world kinds (kind.Deque declared.0) place declared.1)
+
+other_of_kind : (containers : List Declaration) (world : List Content) → map kind_of world ≡ map (λ declared. declared.start.kind) containers → (k : Kind) (other : Option ℕ) → IfSome other (λ place. IsDeclaredAs containers k place) → IfSome other (λ place. IsOfKind world k place)
 other_of_kind containers world kinds k None declared = tt
 other_of_kind containers world kinds k (Some place) declared = of_kind containers world kinds k place declared
 
-pub asked_of : (containers : List Declaration) (world : List Content) → map kind_of world ≡ map (λ declared. declared.kind) containers → (cursors : ℕ) (called : Call) → NamesOf containers cursors called → IsAsked world called
+pub asked_of : (containers : List Declaration) (world : List Content) → map kind_of world ≡ map (λ declared. declared.start.kind) containers → (cursors : ℕ) (called : Call) → NamesOf containers cursors called → IsAsked world called
 asked_of containers world kinds cursors (call.Dict container dict_call) names = (of_kind containers world kinds kind.Dict container names.container, other_of_kind containers world kinds kind.Dict (other_dict dict_call) names.second)
 asked_of containers world kinds cursors (call.List container list_call) names = (of_kind containers world kinds kind.List container names.container, other_of_kind containers world kinds kind.List (other_list list_call) names.second)
 asked_of containers world kinds cursors (call.Set container set_call) names = (of_kind containers world kinds kind.Set container names.container, other_of_kind containers world kinds kind.Set (other_set set_call) names.second)
+asked_of containers world kinds cursors (call.Deque container deque_call) names = (of_kind containers world kinds (kind.Deque None) container names.container, other_of_kind containers world kinds (kind.Deque None) (other_deque deque_call) names.second)
 asked_of containers world kinds cursors (call.Next number) names = tt
 asked_of containers world kinds cursors (call.Begin first second) names = tt
 asked_of containers world kinds cursors call.End names = tt
 asked_of containers world kinds cursors call.Quiesce names = tt
+asked_of containers world kinds cursors (call.Await other index) names = tt
+asked_of containers world kinds cursors call.Dump names = tt
 
 -- a world of the same kinds serves the same cursors
-same_over : (world left : List Content) (hands : List (Option Cursor)) → map kind_of left ≡ map kind_of world → AreOver world hands → AreOver left hands
-same_over world left hands kinds over number it at = sym (slice_get-map kind_of left (container_of it)) ∙ ap (λ (ks : List Kind). slice_get ks (container_of it)) kinds ∙ slice_get-map kind_of world (container_of it) ∙ over number it at
+pub same_over : (world left : List Content) (hands : List (Option Cursor)) → map kind_of left ≡ map kind_of world → AreOver world hands → AreOver left hands
+same_over world left hands kinds over number it at = still_of_kind (cursor_kind it) (over number it at)
+  where
+    still : (k : Kind) → HasKind world k (container_of it) → HasKind left k (container_of it)
+    still k has = sym (slice_get-map kind_of left (container_of it)) ∙ ap (λ (ks : List Kind). slice_get ks (container_of it)) kinds ∙ slice_get-map kind_of world (container_of it) ∙ has
+
+    still_of_kind : (k : Kind) → IsOfKind world k (container_of it) → IsOfKind left k (container_of it)
+    still_of_kind kind.Dict has = still kind.Dict has
+    still_of_kind kind.List has = still kind.List has
+    still_of_kind kind.Set has = still kind.Set has
+    still_of_kind (kind.Deque _) has = (has.0, still (kind.Deque has.0) has.1)
 
 none_walked : (count number : ℕ) → walked (start_hands count) number ≡ []
 none_walked count number =
@@ -197,8 +231,8 @@ going_start script =
       counts = refl;
       bare = λ place entry at. absurd (none-some entry at);
       world = record {
-        containers = length-map (kinds_of script.containers) empty_content ∙ length-map script.containers (λ (c : Declaration). c.kind);
-        strings = All-map (IsContentOf (length script.strings)) empty_content (kinds_of script.containers) (λ place d low. empty_strings (length script.strings) (get_or (kinds_of script.containers) place d));
+        containers = length-map (starts_of script.containers) (λ (start : Start). empty_content start.kind) ∙ length-map script.containers (λ (c : Declaration). c.start);
+        strings = All-map (IsContentOf (length script.strings)) (λ (start : Start). empty_content start.kind) (starts_of script.containers) (λ place d low. empty_strings (length script.strings) (get_or (starts_of script.containers) place d).kind);
       };
       kinds = empty_kinds script.containers;
       fits = λ thread number it at. absurd (none-some it (sym (none_made (cursors_of script thread) number) ∙ ap (λ h. cursor_at h number) (sym (hands_at_start script thread)) ∙ at));

@@ -13,9 +13,11 @@ use Rattle.ft_model.specs.declared.call.ListCall.{ListCall}
 use Rattle.ft_model.specs.declared.call.ListCall.TheVariants as list
 use Rattle.ft_model.specs.declared.call.SetCall.{SetCall}
 use Rattle.ft_model.specs.declared.call.SetCall.TheVariants as set
+use Rattle.ft_model.specs.declared.call.DequeCall.{DequeCall}
+use Rattle.ft_model.specs.declared.call.DequeCall.TheVariants as deque
 use Rattle.ft_model.specs.declared.entry.Entry.{Entry}
 use Rattle.ft_model.specs.declared.script.ScriptParts.{ScriptParts}
-use Rattle.ft_model.specs.Calls.{is_changing, is_changing_dict, is_changing_list, is_changing_set, is_locked_dict, is_locked_list, is_locked_set, one_or_two, containers_of, other_dict, other_list, other_set}
+use Rattle.ft_model.specs.Calls.{is_changing, is_changing_dict, is_changing_list, is_changing_set, is_changing_deque, is_locked_dict, is_locked_list, is_locked_set, is_locked_deque, one_or_two, containers_of, other_dict, other_list, other_set, other_deque}
 use Rattle.ft_model.specs.Histories.{calls_of, Section, after_section, sections_at, IfEnds, names, is_disturbed, marks_between}
 use Rattle.ft_history.proofs.HistoryPlaces.{slice_get_at}
 use Rattle.ft_turns.specs.Orders.{locks_taken, lower_first, OpenSection, ThreadState, Machine, fresh_thread, start_machine, take_locks, holder_of, thread_at, without_locks, waiting_machine, sections_after, answered_machine, innermost_containers, with_taken, finished_machine}
@@ -41,6 +43,7 @@ locked_dict (dict.Has key) h = absurd (false≢true h)
 locked_dict dict.Len h = absurd (false≢true h)
 locked_dict dict.Items h = absurd (false≢true h)
 locked_dict (dict.Eq other) h = absurd (false≢true h)
+locked_dict (dict.ItemsHas key value) h = absurd (false≢true h)
 locked_dict other h = refl
 
 locked_list : (list_call : ListCall) → is_changing_list list_call ≡ true → is_locked_list list_call ≡ true
@@ -58,6 +61,12 @@ locked_set set.Items h = absurd (false≢true h)
 locked_set (set.Eq other) h = absurd (false≢true h)
 locked_set other h = refl
 
+locked_deque : (deque_call : DequeCall) → is_changing_deque deque_call ≡ true → is_locked_deque deque_call ≡ true
+locked_deque (deque.Get index) h = absurd (false≢true h)
+locked_deque deque.Len h = absurd (false≢true h)
+locked_deque deque.Items h = absurd (false≢true h)
+locked_deque other h = refl
+
 all_named : (locked : Bool) (first : ℕ) (second : Option ℕ) → locked ≡ true → (if (if locked then length (one_or_two first second) else 0) == 0 then [] else one_or_two first second) ≡ one_or_two first second
 all_named locked first second is =
     ap (λ b. if (if b then length (one_or_two first second) else 0) == 0 then [] else one_or_two first second) is ∙ ap (λ b. if b then [] else one_or_two first second) (some_named first second)
@@ -67,10 +76,13 @@ pub changing_takes : (before : List Call) (called : Call) → is_changing called
 changing_takes before (call.Dict container dict_call) h = all_named (is_locked_dict dict_call) container (other_dict dict_call) (locked_dict dict_call h)
 changing_takes before (call.List container list_call) h = all_named (is_locked_list list_call) container (other_list list_call) (locked_list list_call h)
 changing_takes before (call.Set container set_call) h = all_named (is_locked_set set_call) container (other_set set_call) (locked_set set_call h)
+changing_takes before (call.Deque container deque_call) h = all_named (is_locked_deque deque_call) container (other_deque deque_call) (locked_deque deque_call h)
 changing_takes before (call.Next number) h = absurd (false≢true h)
 changing_takes before (call.Begin first second) h = absurd (false≢true h)
 changing_takes before call.End h = absurd (false≢true h)
 changing_takes before call.Quiesce h = absurd (false≢true h)
+changing_takes before (call.Await other index) h = absurd (false≢true h)
+changing_takes before call.Dump h = absurd (false≢true h)
 
 begin_takes : (before : List Call) (first : ℕ) (second : Option ℕ) → locks_taken before (call.Begin first second) ≡ containers_of (call.Begin first second)
 begin_takes before first second = all_named true first second refl
@@ -138,9 +150,12 @@ calm_at_end entries thread place limit quiet (section ∷ sections) (open_sectio
 calm_at_end entries thread place limit quiet (section ∷ sections) (open_section ∷ open_sections) (call.Dict container dict_call) ends secured = tt
 calm_at_end entries thread place limit quiet (section ∷ sections) (open_section ∷ open_sections) (call.List container list_call) ends secured = tt
 calm_at_end entries thread place limit quiet (section ∷ sections) (open_section ∷ open_sections) (call.Set container set_call) ends secured = tt
+calm_at_end entries thread place limit quiet (section ∷ sections) (open_section ∷ open_sections) (call.Deque container deque_call) ends secured = tt
 calm_at_end entries thread place limit quiet (section ∷ sections) (open_section ∷ open_sections) (call.Next cursor) ends secured = tt
 calm_at_end entries thread place limit quiet (section ∷ sections) (open_section ∷ open_sections) (call.Begin first second) ends secured = tt
 calm_at_end entries thread place limit quiet (section ∷ sections) (open_section ∷ open_sections) call.Quiesce ends secured = tt
+calm_at_end entries thread place limit quiet (section ∷ sections) (open_section ∷ open_sections) (call.Await other index) ends secured = tt
+calm_at_end entries thread place limit quiet (section ∷ sections) (open_section ∷ open_sections) call.Dump ends secured = tt
 
 -- each event so far has its entry
 places_within : (script : ScriptParts) (mark_of : ℕ → ℕ → Option ℕ) (events : List (ℕ × ℕ)) (entries : List Entry) → AreEntriesFor script mark_of events entries → (machine : Machine) → IsFollowed events mark_of machine → length machine.answered ≤ length entries

@@ -109,8 +109,11 @@ answer_parts which call.End own (section ∷ sections) ended = rw (ended refl) (
 answer_parts which (call.Dict container dict_call) own sections ended = refl
 answer_parts which (call.List container list_call) own sections ended = refl
 answer_parts which (call.Set container set_call) own sections ended = refl
+answer_parts which (call.Deque container deque_call) own sections ended = refl
 answer_parts which (call.Next cursor) own sections ended = refl
 answer_parts which call.Quiesce own sections ended = refl
+answer_parts which (call.Await other index) own sections ended = refl
+answer_parts which call.Dump own sections ended = refl
 
 finish_parts : (which : ℕ) (own : List ℕ) (sections : List OpenSection) → (sections ≡ [] → own ≡ []) → occ which (flat (with_taken own sections)) ≡ occ which own + occ which (flat sections)
 finish_parts which own [] bare = rw (bare refl) (omega (arith, occ-nil which))

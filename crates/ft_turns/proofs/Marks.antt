@@ -86,9 +86,12 @@ taken_about which before (call.Next number) h = h
 taken_about which before (call.Dict container dict_call) h = some_or_none which (locks_of (call.Dict container dict_call)) (containers_of (call.Dict container dict_call)) h
 taken_about which before (call.List container list_call) h = some_or_none which (locks_of (call.List container list_call)) (containers_of (call.List container list_call)) h
 taken_about which before (call.Set container set_call) h = some_or_none which (locks_of (call.Set container set_call)) (containers_of (call.Set container set_call)) h
+taken_about which before (call.Deque container deque_call) h = some_or_none which (locks_of (call.Deque container deque_call)) (containers_of (call.Deque container deque_call)) h
 taken_about which before (call.Begin first second) h = some_or_none which (locks_of (call.Begin first second)) (containers_of (call.Begin first second)) h
 taken_about which before call.End h = h
 taken_about which before call.Quiesce h = h
+taken_about which before (call.Await other index) h = h
+taken_about which before call.Dump h = h
 
 -- the containers that a thread's calls are about are named by its calls
 cursor_named : (which number : ℕ) (containers : List ℕ) (calls : List Call) → 1 ≤ occ which (fold (λ so_far called. if makes number called then containers_of called else so_far) containers calls) → (1 ≤ occ which containers) ⊎ (list_any (names which) calls ≡ true)
@@ -120,9 +123,12 @@ about_named which index calls (call.Next number) at there =
 about_named which index calls (call.Dict container dict_call) at there = named_at which index calls (call.Dict container dict_call) at there
 about_named which index calls (call.List container list_call) at there = named_at which index calls (call.List container list_call) at there
 about_named which index calls (call.Set container set_call) at there = named_at which index calls (call.Set container set_call) at there
+about_named which index calls (call.Deque container deque_call) at there = named_at which index calls (call.Deque container deque_call) at there
 about_named which index calls (call.Begin first second) at there = named_at which index calls (call.Begin first second) at there
 about_named which index calls call.End at there = named_at which index calls call.End at there
 about_named which index calls call.Quiesce at there = named_at which index calls call.Quiesce at there
+about_named which index calls (call.Await other place) at there = named_at which index calls (call.Await other place) at there
+about_named which index calls call.Dump at there = named_at which index calls call.Dump at there
 
 -- ---- the invariant
 
@@ -155,8 +161,11 @@ after_containers call.End own (section ∷ sections) = refl
 after_containers (call.Dict container dict_call) own sections = refl
 after_containers (call.List container list_call) own sections = refl
 after_containers (call.Set container set_call) own sections = refl
+after_containers (call.Deque container deque_call) own sections = refl
 after_containers (call.Next cursor) own sections = refl
 after_containers call.Quiesce own sections = refl
+after_containers (call.Await other index) own sections = refl
+after_containers call.Dump own sections = refl
 
 innermost_first : (sections : List OpenSection) → innermost_containers sections ≡ first_of_stack (containers_in sections)
 innermost_first [] = refl
@@ -169,8 +178,11 @@ stack_named P call.End (containers ∷ stack) here rest = rest.1
 stack_named P (call.Dict container dict_call) stack here rest = rest
 stack_named P (call.List container list_call) stack here rest = rest
 stack_named P (call.Set container set_call) stack here rest = rest
+stack_named P (call.Deque container deque_call) stack here rest = rest
 stack_named P (call.Next cursor) stack here rest = rest
 stack_named P call.Quiesce stack here rest = rest
+stack_named P (call.Await other index) stack here rest = rest
+stack_named P call.Dump stack here rest = rest
 
 first_named : (P : List ℕ → Type 0) (stack : List (List ℕ)) → P [] → AllByRecursion P stack → P (first_of_stack stack)
 first_named P [] none all = none

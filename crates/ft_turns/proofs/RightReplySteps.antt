@@ -42,8 +42,11 @@ section_containers place call.End (section ∷ sections) = refl
 section_containers place (call.Dict container dict_call) sections = refl
 section_containers place (call.List container list_call) sections = refl
 section_containers place (call.Set container set_call) sections = refl
+section_containers place (call.Deque container deque_call) sections = refl
 section_containers place (call.Next cursor) sections = refl
 section_containers place call.Quiesce sections = refl
+section_containers place (call.Await other index) sections = refl
+section_containers place call.Dump sections = refl
 
 -- a call is about what its hands tell, as they are of its thread's calls
 about_calls : (hands : List (Option Cursor)) (before : List Call) (called : Call) → ((number : ℕ) → containers_used hands (call.Next number) ≡ own_containers before (call.Next number)) → containers_used hands called ≡ own_containers before called
@@ -51,9 +54,12 @@ about_calls hands before (call.Next number) walks = walks number
 about_calls hands before (call.Dict container dict_call) walks = refl
 about_calls hands before (call.List container list_call) walks = refl
 about_calls hands before (call.Set container set_call) walks = refl
+about_calls hands before (call.Deque container deque_call) walks = refl
 about_calls hands before (call.Begin first second) walks = refl
 about_calls hands before call.End walks = refl
 about_calls hands before call.Quiesce walks = refl
+about_calls hands before (call.Await other index) walks = refl
+about_calls hands before call.Dump walks = refl
 
 writes_changing : (changing raised : Bool) → (changing && raised) ≡ true → changing ≡ true
 writes_changing true raised h = refl

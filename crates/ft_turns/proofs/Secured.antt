@@ -131,8 +131,11 @@ module _ (entries : List Entry) (place : ℕ) (entry : Entry) (at : slice_get en
   secured_after quiet (call.Dict container dict_call) own sections open_sections begins secured = secured
   secured_after quiet (call.List container list_call) own sections open_sections begins secured = secured
   secured_after quiet (call.Set container set_call) own sections open_sections begins secured = secured
+  secured_after quiet (call.Deque container deque_call) own sections open_sections begins secured = secured
   secured_after quiet (call.Next cursor) own sections open_sections begins secured = secured
   secured_after quiet call.Quiesce own sections open_sections begins secured = secured
+  secured_after quiet (call.Await other index) own sections open_sections begins secured = secured
+  secured_after quiet call.Dump own sections open_sections begins secured = secured
 
   -- ---- the sections that the call in flight stands inside
 
@@ -157,8 +160,11 @@ module _ (entries : List Entry) (place : ℕ) (entry : Entry) (at : slice_get en
   marked_after (call.Dict container dict_call) sections mine marked below = drop_marked (place + 1) 1 sections (all_marked sections mine marked below)
   marked_after (call.List container list_call) sections mine marked below = drop_marked (place + 1) 1 sections (all_marked sections mine marked below)
   marked_after (call.Set container set_call) sections mine marked below = drop_marked (place + 1) 1 sections (all_marked sections mine marked below)
+  marked_after (call.Deque container deque_call) sections mine marked below = drop_marked (place + 1) 1 sections (all_marked sections mine marked below)
   marked_after (call.Next cursor) sections mine marked below = drop_marked (place + 1) 1 sections (all_marked sections mine marked below)
   marked_after call.Quiesce sections mine marked below = drop_marked (place + 1) 1 sections (all_marked sections mine marked below)
+  marked_after (call.Await other index) sections mine marked below = drop_marked (place + 1) 1 sections (all_marked sections mine marked below)
+  marked_after call.Dump sections mine marked below = drop_marked (place + 1) 1 sections (all_marked sections mine marked below)
 
   still_marked : (sections : List Section) → AllBelow place sections → AllMarked place sections → AllMarked (place + 1) sections
   still_marked [] below marked = tt

@@ -6,7 +6,7 @@ use Rattle.ft_model.specs.declared.call.Call.{Call}
 use Rattle.ft_model.specs.declared.cursor.Cursor.{Cursor}
 use Rattle.ft_model.specs.declared.script.ScriptParts.{ScriptParts}
 use Rattle.ft_model.specs.Scripts.{IsScript}
-use Rattle.ft_model.specs.Worlds.{kinds_of, IsDeclared, HasRoom}
+use Rattle.ft_model.specs.Worlds.{starts_of, IsDeclared, HasRoom}
 use Rattle.ft_model.specs.Answers.{answer}
 use Rattle.ft_model.specs.Histories.{calls_of}
 use Rattle.ft_model.proofs.FewSerials.{FewAfter, few_start, few_call, few_contents, room_for}
@@ -36,7 +36,7 @@ roomy_steps script calls_ok =
 pub room_now : (script : ScriptParts) → IsScript script → CallsOf script → (turns : List ℕ) (hands : List (Option Cursor)) (called : Call) → IsDeclared (fold (answered_turn script) (start_progress script) turns).world hands called → HasRoom (fold (answered_turn script) (start_progress script) turns).world called
 room_now script rule calls_ok turns hands called declared =
     let progress = fold (answered_turn script) (start_progress script) turns in
-    let roomy : IsGoing script progress × IsRoomy progress = answered_turns_keep script (λ p. IsGoing script p × IsRoomy p) (roomy_steps script calls_ok) (start_progress script) turns (going_start script, few_start (kinds_of script.containers)) in
+    let roomy : IsGoing script progress × IsRoomy progress = answered_turns_keep script (λ p. IsGoing script p × IsRoomy p) (roomy_steps script calls_ok) (start_progress script) turns (going_start script, few_start (starts_of script.containers)) in
     let indexed : IsGoing script progress × IsIndexed script progress = answered_turns_keep script (λ p. IsGoing script p × IsIndexed script p) (indexed_steps script calls_ok) (start_progress script) turns (going_start script, indexed_start script calls_ok) in
     let few : length progress.entries ≤ 500000 = few_of_script script progress.entries rule (λ thread. subst (λ n. n ≤ length (calls_of script thread)) (sym (indexed.1.own thread)) (indexed.1.bound thread)) in
     room_for progress.world hands (length progress.entries) called few (few_contents (length progress.entries) progress.world roomy.1) declared

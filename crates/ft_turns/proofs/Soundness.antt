@@ -134,8 +134,11 @@ answer_split call.End own taken (section ∷ sections) ended container = let non
 answer_split (call.Dict place dict_call) own taken sections ended container = omega (arith, times-append container own taken, times-append container own (section_locks sections))
 answer_split (call.List place list_call) own taken sections ended container = omega (arith, times-append container own taken, times-append container own (section_locks sections))
 answer_split (call.Set place set_call) own taken sections ended container = omega (arith, times-append container own taken, times-append container own (section_locks sections))
+answer_split (call.Deque place deque_call) own taken sections ended container = omega (arith, times-append container own taken, times-append container own (section_locks sections))
 answer_split (call.Next number) own taken sections ended container = omega (arith, times-append container own taken, times-append container own (section_locks sections))
 answer_split call.Quiesce own taken sections ended container = omega (arith, times-append container own taken, times-append container own (section_locks sections))
+answer_split (call.Await other index) own taken sections ended container = omega (arith, times-append container own taken, times-append container own (section_locks sections))
+answer_split call.Dump own taken sections ended container = omega (arith, times-append container own taken, times-append container own (section_locks sections))
 
 answer_nested : (called : Call) (own : List ℕ) (sections : List OpenSection) (calls : List Call) → AreNested (length sections) (called ∷ calls) → AreNested (length (sections_after called own sections)) calls
 answer_nested (call.Begin first second) own sections calls nested = rw (← add-one (length sections)) nested.1
@@ -144,8 +147,11 @@ answer_nested call.End own (section ∷ sections) calls nested = let less : suc 
 answer_nested (call.Dict place dict_call) own sections calls nested = nested
 answer_nested (call.List place list_call) own sections calls nested = nested
 answer_nested (call.Set place set_call) own sections calls nested = nested
+answer_nested (call.Deque place deque_call) own sections calls nested = nested
 answer_nested (call.Next number) own sections calls nested = nested
 answer_nested call.Quiesce own sections calls nested = nested
+answer_nested (call.Await other index) own sections calls nested = nested.1
+answer_nested call.Dump own sections calls nested = nested
 
 answer_sections : (n : ℕ) (called : Call) (own : List ℕ) (sections : List OpenSection) → AreTwo n (containers_of called) → AreSections n sections → AreSections n (sections_after called own sections)
 answer_sections n (call.Begin first second) own sections two are = (two, are)
@@ -154,8 +160,11 @@ answer_sections n call.End own (section ∷ sections) two are = are.1
 answer_sections n (call.Dict place dict_call) own sections two are = are
 answer_sections n (call.List place list_call) own sections two are = are
 answer_sections n (call.Set place set_call) own sections two are = are
+answer_sections n (call.Deque place deque_call) own sections two are = are
 answer_sections n (call.Next number) own sections two are = are
 answer_sections n call.Quiesce own sections two are = are
+answer_sections n (call.Await other index) own sections two are = are
+answer_sections n call.Dump own sections two are = are
 
 -- who wants nothing has nothing of its own, and takes nothing
 pub own_none : (own locks wants : List ℕ) → wants ≡ [] → IsOwn own locks wants → own ≡ []

@@ -10,8 +10,9 @@ use Rattle.ft_model.specs.declared.call.Call.{Call}
 use Rattle.ft_model.specs.declared.call.Call.TheVariants as call
 use Rattle.ft_model.specs.declared.script.Declaration.{Declaration}
 use Rattle.ft_model.specs.declared.script.Kind.{Kind}
+use Rattle.ft_model.specs.declared.script.Kind.TheVariants as kind
 use Rattle.ft_model.specs.declared.script.ScriptParts.{ScriptParts}
-use Rattle.ft_model.specs.Calls.{one_or_two, containers_of, other_dict, other_list, other_set}
+use Rattle.ft_model.specs.Calls.{one_or_two, containers_of, other_dict, other_list, other_set, other_deque}
 use Rattle.ft_model.specs.Scripts.{IsDeclaredAs, IsCallOf, NamesOf}
 use Rattle.ft_turns.specs.Orders.{lower_first, locks_taken, makes}
 
@@ -47,25 +48,31 @@ one_or_two_are : (n first : ℕ) (second : Option ℕ) → first < n → IfSome 
 one_or_two_are n first None one two = one
 one_or_two_are n first (Some second) one two = two_at (first == second) n first second refl one two
 
-declared_at : (found : Option Declaration) (containers : List Declaration) (kind : Kind) (place : ℕ) → slice_get containers place ≡ found → option_map (λ (one : Declaration). one.kind) found ≡ Some kind → place < length containers
+declared_at : (found : Option Declaration) (containers : List Declaration) (kind : Kind) (place : ℕ) → slice_get containers place ≡ found → option_map (λ (one : Declaration). one.start.kind) found ≡ Some kind → place < length containers
 declared_at None containers kind place is named = absurd (cc)
 declared_at (Some one) containers kind place is named = slice_get_within containers place one is
 
 declared : (containers : List Declaration) (kind : Kind) (place : ℕ) → IsDeclaredAs containers kind place → place < length containers
-declared containers kind place is = declared_at (slice_get containers place) containers kind place refl is
+declared containers kind.Dict place is = declared_at (slice_get containers place) containers kind.Dict place refl is
+declared containers kind.List place is = declared_at (slice_get containers place) containers kind.List place refl is
+declared containers kind.Set place is = declared_at (slice_get containers place) containers kind.Set place refl is
+declared containers (kind.Deque _) place is = declared_at (slice_get containers place) containers (kind.Deque is.0) place refl is.1
 
 other_declared : (containers : List Declaration) (kind : Kind) (other : Option ℕ) → IfSome other (λ place. IsDeclaredAs containers kind place) → IfSome other (λ place. place < length containers)
 other_declared containers kind None is = tt
 other_declared containers kind (Some place) is = declared containers kind place is
 
 pub named_are_two : (containers : List Declaration) (cursors : ℕ) (called : Call) → NamesOf containers cursors called → AreTwo (length containers) (containers_of called)
-named_are_two containers cursors (call.Dict place dict_call) named = one_or_two_are (length containers) place (other_dict dict_call) (declared containers _ place named.container) (other_declared containers _ (other_dict dict_call) named.second)
-named_are_two containers cursors (call.List place list_call) named = one_or_two_are (length containers) place (other_list list_call) (declared containers _ place named.container) (other_declared containers _ (other_list list_call) named.second)
-named_are_two containers cursors (call.Set place set_call) named = one_or_two_are (length containers) place (other_set set_call) (declared containers _ place named.container) (other_declared containers _ (other_set set_call) named.second)
+named_are_two containers cursors (call.Dict place dict_call) named = one_or_two_are (length containers) place (other_dict dict_call) (declared containers kind.Dict place named.container) (other_declared containers kind.Dict (other_dict dict_call) named.second)
+named_are_two containers cursors (call.List place list_call) named = one_or_two_are (length containers) place (other_list list_call) (declared containers kind.List place named.container) (other_declared containers kind.List (other_list list_call) named.second)
+named_are_two containers cursors (call.Set place set_call) named = one_or_two_are (length containers) place (other_set set_call) (declared containers kind.Set place named.container) (other_declared containers kind.Set (other_set set_call) named.second)
+named_are_two containers cursors (call.Deque place deque_call) named = one_or_two_are (length containers) place (other_deque deque_call) (declared containers (kind.Deque None) place named.container) (other_declared containers (kind.Deque None) (other_deque deque_call) named.second)
 named_are_two containers cursors (call.Next number) named = tt
 named_are_two containers cursors (call.Begin first second) named = one_or_two_are (length containers) first second named.0 named.1
 named_are_two containers cursors call.End named = tt
 named_are_two containers cursors call.Quiesce named = tt
+named_are_two containers cursors (call.Await other index) named = tt
+named_are_two containers cursors call.Dump named = tt
 
 cursor_at : (made : Bool) (n : ℕ) (containers others : List ℕ) → AreTwo n containers → AreTwo n others → AreTwo n (if made then others else containers)
 cursor_at true n containers others one two = two
@@ -88,6 +95,9 @@ taken_are_two script cursors before (call.Next number) all this = cursors_are_tw
 taken_are_two script cursors before (call.Dict place dict_call) all this = taken_at _ (length script.containers) (containers_of (call.Dict place dict_call)) (named_are_two script.containers cursors (call.Dict place dict_call) this.names)
 taken_are_two script cursors before (call.List place list_call) all this = taken_at _ (length script.containers) (containers_of (call.List place list_call)) (named_are_two script.containers cursors (call.List place list_call) this.names)
 taken_are_two script cursors before (call.Set place set_call) all this = taken_at _ (length script.containers) (containers_of (call.Set place set_call)) (named_are_two script.containers cursors (call.Set place set_call) this.names)
+taken_are_two script cursors before (call.Deque place deque_call) all this = taken_at _ (length script.containers) (containers_of (call.Deque place deque_call)) (named_are_two script.containers cursors (call.Deque place deque_call) this.names)
 taken_are_two script cursors before (call.Begin first second) all this = taken_at _ (length script.containers) (containers_of (call.Begin first second)) (named_are_two script.containers cursors (call.Begin first second) this.names)
 taken_are_two script cursors before call.End all this = tt
 taken_are_two script cursors before call.Quiesce all this = tt
+taken_are_two script cursors before (call.Await other index) all this = tt
+taken_are_two script cursors before call.Dump all this = tt

@@ -33,8 +33,11 @@ noted_after call.End noted count = record { count = count; noted = drop 1 noted 
 noted_after (call.Dict container dict_call) noted count = record { count = count; noted = noted }
 noted_after (call.List container list_call) noted count = record { count = count; noted = noted }
 noted_after (call.Set container set_call) noted count = record { count = count; noted = noted }
+noted_after (call.Deque container deque_call) noted count = record { count = count; noted = noted }
 noted_after (call.Next cursor) noted count = record { count = count; noted = noted }
 noted_after call.Quiesce noted count = record { count = count; noted = noted }
+noted_after (call.Await other index) noted count = record { count = count; noted = noted }
+noted_after call.Dump noted count = record { count = count; noted = noted }
 
 abbrev pub tally_after : Tally → Call → Option ℕ → Tally
 tally_after tally called waited = noted_after called tally.noted (tally.count + (if is_some waited then 1 else 0))
@@ -55,9 +58,12 @@ abbrev pub asks_container : Call → Bool
 asks_container (call.Begin first second) = false
 asks_container call.End = false
 asks_container call.Quiesce = false
+asks_container (call.Await other index) = false
+asks_container call.Dump = true
 asks_container (call.Dict container dict_call) = true
 asks_container (call.List container list_call) = true
 asks_container (call.Set container set_call) = true
+asks_container (call.Deque container deque_call) = true
 asks_container (call.Next cursor) = true
 
 -- the reply to a call of a thread with these hands, in this world
@@ -69,8 +75,12 @@ thread_reply world hands tally (call.Dict container dict_call) =
 thread_reply world hands tally (call.List container list_call) =
     (answer world hands (call.List container list_call)).reply
 thread_reply world hands tally (call.Set container set_call) = (answer world hands (call.Set container set_call)).reply
+thread_reply world hands tally (call.Deque container deque_call) =
+    (answer world hands (call.Deque container deque_call)).reply
 thread_reply world hands tally (call.Next cursor) = (answer world hands (call.Next cursor)).reply
 thread_reply world hands tally call.Quiesce = (answer world hands call.Quiesce).reply
+thread_reply world hands tally (call.Await other index) = (answer world hands (call.Await other index)).reply
+thread_reply world hands tally call.Dump = (answer world hands call.Dump).reply
 
 -- ---- what has been answered
 

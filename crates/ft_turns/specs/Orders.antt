@@ -34,10 +34,15 @@ locks_taken before (call.List container list_call) =
     if locks_of (call.List container list_call) == 0 then [] else containers_of (call.List container list_call)
 locks_taken before (call.Set container set_call) =
     if locks_of (call.Set container set_call) == 0 then [] else containers_of (call.Set container set_call)
+locks_taken before (call.Deque container deque_call) =
+    if locks_of (call.Deque container deque_call) == 0 then [] else containers_of (call.Deque container deque_call)
 locks_taken before (call.Begin first second) =
     if locks_of (call.Begin first second) == 0 then [] else containers_of (call.Begin first second)
 locks_taken before call.End = if locks_of call.End == 0 then [] else containers_of call.End
 locks_taken before call.Quiesce = if locks_of call.Quiesce == 0 then [] else containers_of call.Quiesce
+locks_taken before (call.Await other index) =
+    if locks_of (call.Await other index) == 0 then [] else containers_of (call.Await other index)
+locks_taken before call.Dump = if locks_of call.Dump == 0 then [] else containers_of call.Dump
 
 -- the lower number first
 abbrev pub lower_first : List ℕ → List ℕ
@@ -166,8 +171,11 @@ lets_go call.End own sections = innermost_taken sections
 lets_go (call.Dict container dict_call) own sections = own
 lets_go (call.List container list_call) own sections = own
 lets_go (call.Set container set_call) own sections = own
+lets_go (call.Deque container deque_call) own sections = own
 lets_go (call.Next cursor) own sections = own
 lets_go call.Quiesce own sections = own
+lets_go (call.Await other index) own sections = own
+lets_go call.Dump own sections = own
 
 -- a thread when the answer of its call is fixed
 abbrev pub answered_thread : ThreadState → Call → ThreadState

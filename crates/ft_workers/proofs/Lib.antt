@@ -7,3 +7,4 @@ pub mod NextCalls
 pub mod Between
 pub mod Entries
 pub mod WholeLists
+mod LandedShapes

@@ -28,15 +28,19 @@ use Rattle.ft_workers.specs.Workers.{AreCallsOn, IsMember}
 use Rattle.ft_workers.proofs.ThreadDepths.{FitsDepth, depth_unanswered, fits_at, fits_sections, own_entries, step_depth}
 use Rattle.ft_workers.proofs.Made.{cursor_there}
 use Rattle.ft_workers.proofs.Named.{named_in}
+use Rattle.ft_model.specs.Landed.{is_landed_call}
 
 made_moves : (called : Call) (n : ℕ) → cursor_of called ≡ Some n → moved_cursor called ≡ Some n
 made_moves (call.Dict o dc) n is = is
 made_moves (call.List o lc) n is = is
 made_moves (call.Set o sc) n is = is
+made_moves (call.Deque o qc) n is = is
 made_moves (call.Next number) n is = absurd (let none : None ≡ Some n = is in cc)
 made_moves (call.Begin first second) n is = is
 made_moves call.End n is = is
 made_moves call.Quiesce n is = is
+made_moves (call.Await thread index) n is = is
+made_moves call.Dump n is = is
 
 -- an entry that was kept is one of the pass
 in_pass : (mine : List NamedEntry) (entries : List Entry) (j : ℕ) (m : NamedEntry) → entries ≡ reverse (map plain_entry mine) → slice_get mine j ≡ Some m → slice_get entries (length mine - 1 - j) ≡ Some (plain_entry m)
@@ -86,11 +90,14 @@ module _ (e : Engine) (i : ℕ) (calls : List Call) (c : Caller) (mine : List Na
     call_is : IsCallOf are.script (length are.own.cursors) called
     call_is = subst (IsCallOf are.script (length are.own.cursors)) (get_or_from_slice_get are.own.calls place called called at_own) (are.thread.calls place called (slice_get_within are.own.calls place called at_own))
 
+    landed : is_landed_call called ≡ true
+    landed = subst (λ (x : Call). is_landed_call x ≡ true) (get_or_from_slice_get are.own.calls place called called at_own) (are.thread.landed place called (slice_get_within are.own.calls place called at_own))
+
     named : (IsFlightAnswered c.flight → ⊥) → IsCallIn (shape_of (bank_of e)) (hands_of c) called
     named unanswered =
         let few = are.thread.few_cursors in
         let room : (n : ℕ) → n < length are.own.cursors → n < length (hands_of c) = λ n small. let cs = cursors in omega (arith, small, few, cs) in
-        named_in are.script (shape_of (bank_of e)) are.bank.kinds (ap length are.bank.texts ∙ length-map are.script.strings text_hash) (hands_of c) (length are.own.cursors) called room call_is
+        named_in are.script (shape_of (bank_of e)) are.bank.starts (ap length are.bank.texts ∙ length-map are.script.strings text_hash) (hands_of c) (length are.own.cursors) called room call_is landed
         (λ number next.
         there unanswered number (room number (subst (λ (x : Call). IsCallOf are.script (length are.own.cursors) x) next call_is).names)
         (subst (λ (cs : List Call). Any (λ earlier. cursor_of earlier ≡ Some number) (take place cs)) are.are

@@ -25,10 +25,13 @@ moved_within : (script : ScriptParts) (cursors : ℕ) (called : Call) → IsCall
 moved_within script cursors (call.Dict o dc) is = is.names.made
 moved_within script cursors (call.List o lc) is = is.names.made
 moved_within script cursors (call.Set o sc) is = is.names.made
+moved_within script cursors (call.Deque o qc) is = is.names.made
 moved_within script cursors (call.Next number) is = is.names
 moved_within script cursors (call.Begin first second) is = tt
 moved_within script cursors call.End is = tt
 moved_within script cursors call.Quiesce is = tt
+moved_within script cursors (call.Await thread index) is = tt
+moved_within script cursors call.Dump is = tt
 
 -- each call of a thread is one of the script, with the thread's cursors
 abbrev CallsAre : ScriptParts → Option Thread → Type 0

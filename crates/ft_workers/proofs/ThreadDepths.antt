@@ -27,8 +27,11 @@ step_depth depth call.End = depth - 1
 step_depth depth (call.Dict o dc) = depth
 step_depth depth (call.List o lc) = depth
 step_depth depth (call.Set o sc) = depth
+step_depth depth (call.Deque o qc) = depth
 step_depth depth (call.Next number) = depth
 step_depth depth call.Quiesce = depth
+step_depth depth (call.Await thread index) = depth
+step_depth depth call.Dump = depth
 
 -- that many open sections allow the call
 abbrev pub FitsDepth : ℕ → Call → Type 0
@@ -37,8 +40,11 @@ FitsDepth depth call.End = 0 < depth
 FitsDepth depth (call.Dict o dc) = Unit {0}
 FitsDepth depth (call.List o lc) = Unit {0}
 FitsDepth depth (call.Set o sc) = Unit {0}
+FitsDepth depth (call.Deque o qc) = Unit {0}
 FitsDepth depth (call.Next number) = Unit {0}
 FitsDepth depth call.Quiesce = Unit {0}
+FitsDepth depth (call.Await thread index) = Unit {0}
+FitsDepth depth call.Dump = Unit {0}
 
 head_fits : (c : Call) (cs : List Call) (depth : ℕ) → AreNested depth (c ∷ cs) → FitsDepth depth c
 head_fits (call.Begin first second) cs depth nested = nested.0
@@ -46,8 +52,11 @@ head_fits call.End cs depth nested = nested.0
 head_fits (call.Dict o dc) cs depth nested = tt
 head_fits (call.List o lc) cs depth nested = tt
 head_fits (call.Set o sc) cs depth nested = tt
+head_fits (call.Deque o qc) cs depth nested = tt
 head_fits (call.Next number) cs depth nested = tt
 head_fits call.Quiesce cs depth nested = tt
+head_fits (call.Await thread index) cs depth nested = tt
+head_fits call.Dump cs depth nested = tt
 
 tail_nested : (c : Call) (cs : List Call) (depth : ℕ) → AreNested depth (c ∷ cs) → AreNested (step_depth depth c) cs
 tail_nested (call.Begin first second) cs depth nested = nested.1
@@ -55,8 +64,11 @@ tail_nested call.End cs depth nested = nested.1
 tail_nested (call.Dict o dc) cs depth nested = nested
 tail_nested (call.List o lc) cs depth nested = nested
 tail_nested (call.Set o sc) cs depth nested = nested
+tail_nested (call.Deque o qc) cs depth nested = nested
 tail_nested (call.Next number) cs depth nested = nested
 tail_nested call.Quiesce cs depth nested = nested
+tail_nested (call.Await thread index) cs depth nested = nested.1
+tail_nested call.Dump cs depth nested = nested
 
 pub fits_at : (cs : List Call) (depth : ℕ) → AreNested depth cs → (n : ℕ) (c : Call) → slice_get cs n ≡ Some c → FitsDepth (fold step_depth depth (take n cs)) c
 fits_at [] depth nested n c at = absurd (let none : None ≡ Some c = at in cc)
@@ -79,8 +91,11 @@ one_step e call.End begins = length_drop begins
 one_step e (call.Dict o dc) begins = refl
 one_step e (call.List o lc) begins = refl
 one_step e (call.Set o sc) begins = refl
+one_step e (call.Deque o qc) begins = refl
 one_step e (call.Next number) begins = refl
 one_step e call.Quiesce begins = refl
+one_step e (call.Await thread index) begins = refl
+one_step e call.Dump begins = refl
 
 depth_by : (mine begins : List NamedEntry) → length (fold (λ begins entry. after_begins entry entry.call begins) begins mine) ≡ fold step_depth (length begins) (map (λ entry. entry.call) mine)
 depth_by [] begins = refl
@@ -123,5 +138,8 @@ fits_sections s call.End fits = fits
 fits_sections s (call.Dict o dc) fits = tt
 fits_sections s (call.List o lc) fits = tt
 fits_sections s (call.Set o sc) fits = tt
+fits_sections s (call.Deque o qc) fits = tt
 fits_sections s (call.Next number) fits = tt
 fits_sections s call.Quiesce fits = tt
+fits_sections s (call.Await thread index) fits = tt
+fits_sections s call.Dump fits = tt

@@ -120,6 +120,7 @@ empty_history script none =
         chronicle = record {
           whole = record { calls = λ t. sym (calls_past script t (omega (arith, none))); indexes = λ t. refl };
           answered = no_place _;
+          awaited = no_place _;
           marked = no_place _;
           kept = no_place _;
           counted = no_place _;
@@ -148,14 +149,14 @@ module _ (script : ScriptParts) (k : Shape) (lists : List (List Entry)) (is : Is
   of_script some =
       let few : max (length script.threads) 1 ≡ length script.threads = max_some (length script.threads) some in
       record {
-        shape = record { kinds = bank.kinds; tables = bank.tables; passes = bank.passes ∙ few };
+        shape = record { starts = bank.starts; tables = bank.tables; heap = bank.heap; passes = bank.passes ∙ few };
         cursors = own_asked script lists is made;
         count = all ∙ (bank.passes ∙ few);
       }
 
-  pub ended_legal : (history : List Entry) → IsPermutation (flat_map (λ mine. mine) lists) history → (AreOfScript script k lists → HaveScriptCalls script lists → IsLegalFor script history) → IsLegalFor script history
+  pub ended_legal : (history : List Entry) → IsPermutation (flat_map (λ mine. mine) lists) history → (IsScript script → AreOfScript script k lists → HaveScriptCalls script lists → IsLegalFor script history) → IsLegalFor script history
   ended_legal history moved closed =
       dite (ℕ_discrete (length script.threads) 0)
       (λ (none : length script.threads ≡ 0).
       subst (IsLegalFor script) (sym (nothing_made script lists history none made moved)) ∣ ([], empty_history script none) ∣₁)
-      (λ some. closed (of_script some) made)
+      (λ some. closed is (of_script some) made)

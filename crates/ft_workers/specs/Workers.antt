@@ -8,7 +8,7 @@ use Rattle.ft_model.specs.declared.script.Thread.{Thread}
 use Rattle.ft_model.specs.Histories.{calls_of}
 use Rattle.ft_model.specs.Limits.{most_calls, most_cursors}
 use Rattle.ft_model.specs.Scripts.{IsThread}
-use Rattle.ft_model.specs.Worlds.{kinds_of}
+use Rattle.ft_model.specs.Worlds.{starts_of}
 use Rattle.ft_trace.specs.declared.Shape.{Shape}
 use Rattle.ft_trace.specs.Acts.{announces}
 use Rattle.ft_bank.specs.NewPasses.{next_of}
@@ -26,7 +26,7 @@ use Rattle.ft_workers.specs.declared.workers.Worker.{Worker}
 -- The bank is made for the script: it has its containers, its strings, its tables and its heaps, a pass for each
 -- thread, one at least, and for each pass as many calls as a script has at most. (profile)
 pub record IsBankFor (script : ScriptParts) (k : Shape) : Type 0 where
-  pub kinds : k.kinds ≡ kinds_of script.containers
+  pub starts : k.starts ≡ starts_of script.containers
   pub texts : k.texts ≡ map text_hash script.strings
   pub tables : k.tables ≡ script.tables
   pub heap : k.heap ≡ script.heap

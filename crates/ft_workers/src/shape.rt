@@ -3,7 +3,6 @@ ghost use Rattle.std.specs.Prelude.{◌≡◌, All, IfOk, map};
 ghost use Rattle.ft_bank.specs.Shapes.{IsShape, plan};
 ghost use Rattle.ft_hash.specs.Hashes.{text_hash};
 ghost use Rattle.ft_model.specs.Names.{IsString};
-ghost use Rattle.ft_model.specs.Worlds.{kinds_of};
 ghost use Rattle.ft_workers.specs.Workers.{IsBankFor};
 
 use ft_bank::Shape;
@@ -14,11 +13,11 @@ use std::str;
 
 /// The kinds of the containers.
 fn kinds(alloc: Global, containers: &[Declaration]) -> Result<Vec<Kind>, AllocError>
-    ensures { IfOk result (λ kinds. kinds.items ≡ kinds_of containers.now) }
+    ensures { IfOk result (λ kinds. kinds.items ≡ map (λ declaration. declaration.start.kind) containers.now) }
 {
     containers
         .iter()
-        .map(|declaration| declaration.kind)
+        .map(|declaration| declaration.start.kind)
         .collect(alloc)
 }
 

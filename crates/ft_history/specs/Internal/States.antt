@@ -1,5 +1,5 @@
 -- What the judge keeps of the entries before a place.
-use Rattle.std.specs.Prelude.{◌≡◌, ℕ, Bool, false, ◌+◌, ◌<◌, nat_le, ◌==◌, List, [], ◌∷◌, map, reverse, take, drop, length, All, Option, Some, None, if◌then◌else◌, IfSome, IsSome, slice_get, slice_index_or}
+use Rattle.std.specs.Prelude.{◌≡◌, ℕ, Bool, false, ◌+◌, ◌<◌, ◌≤◌, nat_le, ◌==◌, List, [], ◌∷◌, map, reverse, take, drop, length, All, Option, Some, None, if◌then◌else◌, IfSome, IsSome, slice_get, slice_index_or}
 use Rattle.std.specs.Option.{option_map_or}
 use Rattle.ft_model.specs.declared.call.Call.{Call}
 use Rattle.ft_model.specs.declared.call.Call.TheVariants as call
@@ -38,9 +38,12 @@ abbrev pub IsAskable : List Content → List (Option Cursor) → Call → Type 0
 IsAskable world hands (call.Begin first second) = Unit {0}
 IsAskable world hands call.End = Unit {0}
 IsAskable world hands call.Quiesce = Unit {0}
+IsAskable world hands (call.Await other index) = Unit {0}
+IsAskable world hands call.Dump = IsDeclared world hands call.Dump
 IsAskable world hands (call.Dict container dict_call) = IsDeclared world hands (call.Dict container dict_call)
 IsAskable world hands (call.List container list_call) = IsDeclared world hands (call.List container list_call)
 IsAskable world hands (call.Set container set_call) = IsDeclared world hands (call.Set container set_call)
+IsAskable world hands (call.Deque container deque_call) = IsDeclared world hands (call.Deque container deque_call)
 IsAskable world hands (call.Next cursor) = IsDeclared world hands (call.Next cursor)
 
 -- ---- who uses what
@@ -118,6 +121,19 @@ pub record AreHandsOf (script : ScriptParts) (thread made : ℕ) (hands : List (
       (λ cursor. IsDeclaredAs script.containers (cursor_kind cursor) (container_of cursor))
   pub cursors : (number : ℕ) → Any (λ called. cursor_of called ≡ Some number) (take made (calls_of script thread))
       → IsSome (cursor_at hands number)
+
+-- ---- awaits
+
+-- the thread that an await names is there, of that many
+abbrev pub NamesThread : ℕ → Call → Type 0
+NamesThread threads (call.Await thread index) = thread < threads
+NamesThread threads called = Unit {0}
+
+-- and it has made the call that the await names
+abbrev pub HasMade : List ThreadProgress → Call → Type 0
+HasMade threads (call.Await thread index) =
+    IfSome (slice_get threads thread) (λ (progress : ThreadProgress). index ≤ progress.made)
+HasMade threads called = Unit {0}
 
 -- ---- the last writes on a container
 

@@ -19,7 +19,7 @@ use Rattle.ft_history.specs.Internal.States.{world_before, all_begun, after_begu
 -- the state says what the entries before a place come to
 pub record IsState (script : ScriptParts) (entries : List Entry) (place : ℕ) (state : State) : Type 0 where
   pub world : state.world ≡ world_before script entries place
-  pub kinds : map kind_of state.world ≡ map (λ container. container.kind) script.containers
+  pub kinds : map kind_of state.world ≡ map (λ container. container.start.kind) script.containers
   pub count : state.writes ≡ length (writes (take place entries))
   pub threads : length state.threads.items ≡ length script.threads
   pub progress : (thread : ℕ) (progress : ThreadProgress) → slice_get state.threads.items thread ≡ Some progress
@@ -79,6 +79,7 @@ FindsEarly storage script entries place entry (Some rule) = BreaksFirst storage 
 -- of those after the fourth, the first that the entry breaks
 pub record HoldsLate (storage : Storage) (script : ScriptParts) (entries : List Entry) (place : ℕ)
     (entry : Entry) : Type 0 where
+  pub awaits : Holds storage script entries rule.Await place entry
   pub mark : Holds storage script entries rule.Mark place entry
   pub kept : Holds storage script entries rule.Kept place entry
   pub suspended : Holds storage script entries rule.Suspended place entry

@@ -35,7 +35,7 @@ with_added (All other more) v values = values ++ known_items other v
 -- (profile)
 pub record KnowsItems (k : Shape) (o : ℕ) (v : View) : Type 0 where
   pub container : o < containers_in k
-  pub kind : kind_in k.kinds o ≡ kind.List
+  pub kind : kind_in k.starts o ≡ kind.List
   pub locked : has_lock o v.log ≡ true
   pub even : is_writing o v.log ≡ false
   pub stands : Stands k.texts (held o v) (known o v)

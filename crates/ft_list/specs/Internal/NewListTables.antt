@@ -1,5 +1,5 @@
 -- Lists that get another table: what a pass is to have and to know for that, and the words of the new table.
-use Rattle.std.specs.Prelude.{◌≡◌, ℕ, suc, ◌<◌, true, false, List, length, Option, Some, None, slice_set}
+use Rattle.std.specs.Prelude.{◌≡◌, ℕ, suc, ◌<◌, true, false, List, length, Option, Some, None, slice_set, []}
 use Rattle.ft_model.specs.declared.data.Value.{Value}
 use Rattle.ft_model.specs.declared.script.Kind.TheVariants as kind
 use Rattle.ft_model.specs.TableUses.{TableUse, no_table}
@@ -19,13 +19,13 @@ use Rattle.ft_list.specs.ListItemWrites.{stored_item}
 -- what a list has that has this table, or none
 abbrev pub list_use_of : Option Table → TableUse
 list_use_of None = no_table
-list_use_of (Some t) = record { class = Some t.class; fill = 0 }
+list_use_of (Some t) = record { class = Some t.class; fill = 0; keys = [] }
 
 -- The pass has the lock of the list o, whose root names this table or none; no version is odd there, and its words
 -- stand for what the pass knows of it. (profile)
 pub record KnowsList (k : Shape) (o : ℕ) (old : Option Table) (v : View) : Type 0 where
   pub container : o < containers_in k
-  pub kind : kind_in k.kinds o ≡ kind.List
+  pub kind : kind_in k.starts o ≡ kind.List
   pub locked : has_lock o v.log ≡ true
   pub even : is_writing o v.log ≡ false
   pub stands : Stands k.texts (held o v) (known o v)

@@ -34,12 +34,12 @@ pub record IsMidway (k : Shape) (o : ℕ) (table : Table) (mid : ContainerState)
   pub writes : WritesEntries k o table v
   pub early : has_committed o v.log ≡ false
   pub stands : Stands k.texts (held o v) mid
-  pub same : (p : ℕ) (key : Key) → p < rows (kind_in k.kinds o) (class_of (name_of table))
+  pub same : (p : ℕ) (key : Key) → p < rows (kind_in k.starts o) (class_of (name_of table))
       → version_of (name_of table) (held o v) p % 2 ≡ 0
       → HasLiveKey (slots (class_of (name_of table))) (held o v).table p key
       → under mid.content key ≡ under (known o v).content key
-  pub gone : NoneDead (name_of table) (rows (kind_in k.kinds o) (class_of (name_of table))) (held o v) mid
-  pub opened : (p : ℕ) → p < rows (kind_in k.kinds o) (class_of (name_of table))
+  pub gone : NoneDead (name_of table) (rows (kind_in k.starts o) (class_of (name_of table))) (held o v) mid
+  pub opened : (p : ℕ) → p < rows (kind_in k.starts o) (class_of (name_of table))
       → version_of (name_of table) (held o v) p % 2 ≡ 1 → p < mid.table.fill
 
 -- The counter is raised; the versions of the entries before this place are even again. (profile)
@@ -47,10 +47,10 @@ pub record IsClosing (k : Shape) (o : ℕ) (table : Table) (from fill : ℕ) (v 
   pub writes : WritesEntries k o table v
   pub late : has_committed o v.log ≡ true
   pub stands : Stands k.texts (held o v) (known o v)
-  pub gone : NoneDead (name_of table) (rows (kind_in k.kinds o) (class_of (name_of table))) (held o v) (known o v)
-  pub opened : (p : ℕ) → p < rows (kind_in k.kinds o) (class_of (name_of table))
+  pub gone : NoneDead (name_of table) (rows (kind_in k.starts o) (class_of (name_of table))) (held o v) (known o v)
+  pub opened : (p : ℕ) → p < rows (kind_in k.starts o) (class_of (name_of table))
       → version_of (name_of table) (held o v) p % 2 ≡ 1 → p < fill
-  pub shut : (p : ℕ) → p < rows (kind_in k.kinds o) (class_of (name_of table)) → p < from
+  pub shut : (p : ℕ) → p < rows (kind_in k.starts o) (class_of (name_of table)) → p < from
       → version_of (name_of table) (held o v) p % 2 ≡ 0
 
 -- The call may be committed, and the words say what it leaves of the container; that many entries of its table are

@@ -106,19 +106,19 @@ pub record IsJoining (k : Shape) (o : ℕ) (way : Way) (own : Table) (t : ℕ) (
   pub mid : Content
   pub midway : IsMidway k o own (record {
     content = mid;
-    table = record { class = Some (class_of (name_of own)); fill = counts.fill };
+    table = record { class = Some (class_of (name_of own)); fill = counts.fill; keys = [] };
   }) v
   pub same_kind : kind_of mid ≡ kind_by way
-  pub kind_is : kind_in k.kinds o ≡ kind_by way
+  pub kind_is : kind_in k.starts o ≡ kind_by way
   pub count_is : counts.count ≡ length_of mid
   pub next_is : counts.next ≡ serial_of mid
-  pub alive : NoneGone (name_of own) (rows (kind_in k.kinds o) (class_of (name_of own))) (held o v)
-  pub room : end ≤ rows (kind_in k.kinds o) (class_of (name_of own))
+  pub alive : NoneGone (name_of own) (rows (kind_in k.starts o) (class_of (name_of own))) (held o v)
+  pub room : end ≤ rows (kind_in k.starts o) (class_of (name_of own))
   pub used : List UsedEntry
   pub filled : length used ≡ (known t v).table.fill
   pub source : IsTableOf way k.texts (class_mask (class_of (name_of table))) used (0 ∷ 0 ∷ (held t v).table)
   pub left : AreLeft (kind_by way) mid goal counts.fill end (drop place used)
-  pub ahead : NoneAhead (name_of own) (rows (kind_in k.kinds o) (class_of (name_of own))) (held o v) (drop place used)
+  pub ahead : NoneAhead (name_of own) (rows (kind_in k.starts o) (class_of (name_of own))) (held o v) (drop place used)
 
 -- Where a key is in the table of a container that is written, whose words stand for this content: in the entry at this
 -- place, with these words of its value; or nowhere, and this slot is the one for it. No search there ends otherwise.

@@ -33,9 +33,9 @@ pub record IsThinned (k : Shape) (s : ℕ) (table : Table) (kept : Bool) (others
     next = mid.next;
     elements = filter (λ element. spared kept others first element.key) mid.elements;
   }) ≡ to.content
-  pub even : (p : ℕ) → p < rows (kind_in k.kinds s) (class_of (name_of table)) → place ≤ p → p < last
+  pub even : (p : ℕ) → p < rows (kind_in k.starts s) (class_of (name_of table)) → place ≤ p → p < last
       → version_of (name_of table) (held s v) p % 2 ≡ 0
-  pub done : (p : ℕ) (key : Key) → p < rows (kind_in k.kinds s) (class_of (name_of table)) → p < place → FitsKey key
+  pub done : (p : ℕ) (key : Key) → p < rows (kind_in k.starts s) (class_of (name_of table)) → p < place → FitsKey key
       → HasLiveKey (slots (class_of (name_of table))) (held s v).table p key → spared kept others first key ≡ true
-  pub rest : (p : ℕ) (key : Key) → p < rows (kind_in k.kinds s) (class_of (name_of table)) → last ≤ p → FitsKey key
+  pub rest : (p : ℕ) (key : Key) → p < rows (kind_in k.starts s) (class_of (name_of table)) → last ≤ p → FitsKey key
       → HasLiveKey (slots (class_of (name_of table))) (held s v).table p key → spared kept others first key ≡ true

@@ -1,5 +1,5 @@
 //! Prints replies and contents as Python prints them.
-use ft_model::{Content, DictPair, Element, Key, Raise, Reply, Value};
+use ft_model::{Content, Key, Raise, Reply, Shown, Value};
 use std::alloc::{AllocError, Global};
 
 pub(super) fn print_reply(alloc: Global, reply: &Reply) -> Result<String, AllocError> {
@@ -15,6 +15,7 @@ pub(super) fn print_reply(alloc: Global, reply: &Reply) -> Result<String, AllocE
         Reply::Set(keys) => print_keys(alloc, keys.as_slice()),
         Reply::Stop => String::from_str(alloc, "StopIteration"),
         Reply::Entered | Reply::Kept | Reply::Suspended(_) => String::from_str(alloc, "section"),
+        Reply::World(all) => print_world(alloc, all.as_slice()),
         Reply::Raised(raise) => String::from_str(alloc, name_of(*raise)),
     }
 }
@@ -26,6 +27,7 @@ fn name_of(raise: Raise) -> &'static str {
         Raise::NoValue => "ValueError",
         Raise::Size => "RuntimeError size",
         Raise::Keys => "RuntimeError keys",
+        Raise::Moved => "RuntimeError moved",
         Raise::Memory(_) | Raise::Over | Raise::Heap => "MemoryError",
     }
 }
@@ -49,6 +51,29 @@ pub(super) fn print_content(alloc: Global, content: &Content) -> Result<String, 
                 .collect(alloc)?;
             print_keys(alloc, &keys)
         }
+        Content::Deque(deque) => print_values(alloc, &deque.copy_items(alloc)?),
+    }
+}
+
+/// The names of the containers, in the order of their numbers.
+const NAMES: [&str; 9] = ["d", "e", "l", "m", "s", "t", "q", "r", "p"];
+
+fn print_world(alloc: Global, all: &[Shown]) -> Result<String, AllocError> {
+    let mut text = String::from_str(alloc, "world")?;
+    for (index, (name, shown)) in NAMES.iter().zip(all).enumerate() {
+        text.push_str(if index > 0 { "; " } else { " " })?;
+        text.push_str(name)?;
+        text.push_str(" ")?;
+        text.push_str(print_shown(alloc, shown)?.as_str())?;
+    }
+    Ok(text)
+}
+
+fn print_shown(alloc: Global, shown: &Shown) -> Result<String, AllocError> {
+    match shown {
+        Shown::Dict(pairs) => print_pairs(alloc, pairs.as_slice()),
+        Shown::List(values) => print_values(alloc, values.as_slice()),
+        Shown::Set(keys) => print_keys(alloc, keys.as_slice()),
     }
 }
 

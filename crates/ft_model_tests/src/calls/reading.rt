@@ -1,10 +1,13 @@
-//! Reads the calls of the tables. The containers are the dicts d and e, the lists l and m and the sets
-//! s and t, the cursors a, b and c, and the strings 'a' to 'z'.
-use ft_model::{Call, DictCall, Key, ListCall, SetCall, Sym, Value};
+//! Reads the calls of the tables. The containers are the dicts d and e, the lists l and m, the sets s
+//! and t and the deques q, r and p, the cursors a, b and c, and the strings 'a' to 'z'.
+use ft_model::{Call, DequeCall, DictCall, Key, ListCall, SetCall, Sym, Value};
 
 pub(super) fn read_call(text: &str) -> Option<Call> {
     let mut words = text.split(' ');
     let word = words.next()?;
+    if word == "dump" {
+        return Some(Call::Dump);
+    }
     let name = words.next()?;
     let first = words.next().unwrap_or("");
     let second = words.next().unwrap_or("");
@@ -23,9 +26,13 @@ pub(super) fn read_call(text: &str) -> Option<Call> {
             container,
             call: read_list_call(word, first, second)?,
         }),
-        _ => Some(Call::Set {
+        "s" | "t" => Some(Call::Set {
             container,
             call: read_set_call(word, first)?,
+        }),
+        _ => Some(Call::Deque {
+            container,
+            call: read_deque_call(word, first)?,
         }),
     }
 }
@@ -38,6 +45,9 @@ fn place(name: &str) -> Option<u32> {
         "m" => Some(3),
         "s" => Some(4),
         "t" => Some(5),
+        "q" => Some(6),
+        "r" => Some(7),
+        "p" => Some(8),
         _ => None,
     }
 }
@@ -48,8 +58,9 @@ fn read_dict_call(word: &str, first: &str, second: &str) -> Option<DictCall> {
         "len" => Some(DictCall::Len),
         "items" => Some(DictCall::Items),
         "clear" => Some(DictCall::Clear),
-        "update" | "copyto" | "eq" | "iter" => read_dict_place(word, place(first)?),
-        "set" | "getd" | "popd" | "setdefault" => {
+        "update" | "copyto" | "eq" | "iter" | "riter" => read_dict_place(word, place(first)?),
+        "keysand" | "keyssub" | "keysor" | "keysxor" => read_dict_view(word, place(first)?),
+        "set" | "getd" | "popd" | "setdefault" | "itemshas" => {
             read_dict_pair(word, key(first)?, value(second)?)
         }
         _ => read_dict_key(word, key(first)?),
@@ -63,6 +74,18 @@ fn read_dict_place(word: &str, other: u32) -> Option<DictCall> {
         "copyto" => Some(DictCall::CopyTo { other }),
         "eq" => Some(DictCall::Eq { other }),
         "iter" => Some(DictCall::Iter { cursor: other }),
+        "riter" => Some(DictCall::Reversed { cursor: other }),
+        _ => None,
+    }
+}
+
+/// A call on the keys of a dict and of another.
+fn read_dict_view(word: &str, other: u32) -> Option<DictCall> {
+    match word {
+        "keysand" => Some(DictCall::KeysAnd { other }),
+        "keyssub" => Some(DictCall::KeysSub { other }),
+        "keysor" => Some(DictCall::KeysOr { other }),
+        "keysxor" => Some(DictCall::KeysXor { other }),
         _ => None,
     }
 }
@@ -75,6 +98,7 @@ fn read_dict_pair(word: &str, key: Key, value: Value) -> Option<DictCall> {
         "getd" => Some(DictCall::GetOr { key, default }),
         "popd" => Some(DictCall::PopOr { key, default }),
         "setdefault" => Some(DictCall::SetDefault { key, default }),
+        "itemshas" => Some(DictCall::ItemsHas { key, value }),
         _ => None,
     }
 }
@@ -106,6 +130,9 @@ fn read_list_call(word: &str, first: &str, second: &str) -> Option<ListCall> {
             other: place(first)?,
         }),
         "iter" => Some(ListCall::Iter {
+            cursor: place(first)?,
+        }),
+        "riter" => Some(ListCall::Reversed {
             cursor: place(first)?,
         }),
         "get" | "del" | "insert" | "set" | "slice" => {
@@ -173,6 +200,44 @@ fn read_set_place(word: &str, other: u32) -> Option<SetCall> {
         "subset" => Some(SetCall::Subset { other }),
         "disjoint" => Some(SetCall::Disjoint { other }),
         "iter" => Some(SetCall::Iter { cursor: other }),
+        _ => None,
+    }
+}
+
+fn read_deque_call(word: &str, first: &str) -> Option<DequeCall> {
+    match word {
+        "pop" => Some(DequeCall::Pop),
+        "popleft" => Some(DequeCall::PopLeft),
+        "clear" => Some(DequeCall::Clear),
+        "len" => Some(DequeCall::Len),
+        "items" => Some(DequeCall::Items),
+        "rotate" => Some(DequeCall::Rotate {
+            steps: integer(first)?,
+        }),
+        "get" => Some(DequeCall::Get {
+            index: integer(first)?,
+        }),
+        "extend" | "extendleft" | "iter" => read_deque_place(word, place(first)?),
+        _ => read_deque_value(word, value(first)?),
+    }
+}
+
+/// A call on a deque that names another deque or a cursor.
+fn read_deque_place(word: &str, other: u32) -> Option<DequeCall> {
+    match word {
+        "extend" => Some(DequeCall::Extend { other }),
+        "extendleft" => Some(DequeCall::ExtendLeft { other }),
+        "iter" => Some(DequeCall::Iter { cursor: other }),
+        _ => None,
+    }
+}
+
+/// A call on a deque that names a value.
+fn read_deque_value(word: &str, value: Value) -> Option<DequeCall> {
+    match word {
+        "append" => Some(DequeCall::Append { value }),
+        "appendleft" => Some(DequeCall::AppendLeft { value }),
+        "has" => Some(DequeCall::Has { value }),
         _ => None,
     }
 }

@@ -502,7 +502,7 @@ pub const SETS: [Case; 31] = [
 ];
 
 // Whether each kind of call changes a container, and how many locks it takes from the start.
-pub const KINDS: [(&str, bool, u32); 57] = [
+pub const KINDS: [(&str, bool, u32); 81] = [
     ("get d 1", false, 0),
     ("getd d 1 2", false, 0),
     ("set d 1 2", true, 1),
@@ -560,6 +560,30 @@ pub const KINDS: [(&str, bool, u32); 57] = [
     ("disjoint s t", false, 2),
     ("clear s", true, 1),
     ("iter s c", false, 1),
+    ("keysand d e", false, 2),
+    ("keysand d d", false, 1),
+    ("keyssub d e", false, 2),
+    ("keysor d e", false, 2),
+    ("keysxor d e", false, 2),
+    ("itemshas d 1 2", false, 0),
+    ("riter d c", false, 1),
+    ("riter l c", false, 1),
+    ("append q 1", true, 1),
+    ("appendleft q 1", true, 1),
+    ("pop q", true, 1),
+    ("popleft q", true, 1),
+    ("extend q r", true, 2),
+    ("extend q q", true, 1),
+    ("extendleft q r", true, 2),
+    ("extendleft q q", true, 1),
+    ("rotate q 1", true, 1),
+    ("clear q", true, 1),
+    ("get q 0", false, 0),
+    ("len q", false, 0),
+    ("items q", false, 0),
+    ("has q 1", false, 1),
+    ("iter q c", false, 1),
+    ("dump", false, 0),
 ];
 
 /// A number of pairs, elements or items, and the classes of tables that a dict, a set and a list

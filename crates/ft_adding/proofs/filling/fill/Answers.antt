@@ -58,6 +58,6 @@ returns-in-None-clause-filled c =
     let keyed = c.requires.keyed in
     let head = c.words_are_of_one_content.ensures.head k.texts (held a.o v).block (0 ∷ 0 ∷ (held a.o v).table) x.table x.content keyed.stands in
     let none = no_class (held a.o v).block x.table.class (length_of x.content) x.table.fill _ head (keyed.root ∙ ap root_for c.in-None.is) in
-    let stands = subst (λ (z : Option ℕ). StandsAs k.texts (held a.o v).block (0 ∷ 0 ∷ (held a.o v).table) (record { class = z; fill = x.table.fill }) x.content) none keyed.stands in
-    bare_filled c.changed_words_are_of_a_table.ensures.blank k.texts (held a.o v).block (0 ∷ 0 ∷ (held a.o v).table) (class_of (name_of a.table)) x.table.fill x.content (in_hand (name_of a.table) (view c.blank.new.pass)) (table_class k a.table c.requires.table)
+    let stands = subst (λ (z : Option ℕ). StandsAs k.texts (held a.o v).block (0 ∷ 0 ∷ (held a.o v).table) (record { class = z; fill = x.table.fill; keys = x.table.keys }) x.content) none keyed.stands in
+    bare_filled c.changed_words_are_of_a_table.ensures.blank k.texts (held a.o v).block (0 ∷ 0 ∷ (held a.o v).table) (class_of (name_of a.table)) x.table.fill x.table.keys x.content (in_hand (name_of a.table) (view c.blank.new.pass)) (table_class k a.table c.requires.table)
     (subst IsKeyed (sym (kind_is k v a.o c.requires.pass.1 a.pass.now.possible keyed.locked)) keyed.keyed) stands c.blank.ensures.blank

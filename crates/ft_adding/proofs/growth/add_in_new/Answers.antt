@@ -87,7 +87,7 @@ absent c = subst (λ (z : ContainerState). IsHeldAt z.content c.args.key None) (
 counts : (c : After-fill) → AreCounts (held c.args.o (view c.fill.new.pass)).block c.args.counts
 counts c = subst (λ (z : Picture). AreCounts z.block c.args.counts) (sym (same c).0) c.requires.counts
 
-kind_eq : (c : After-fill) → kind_of (known c.args.o (view c.fill.new.pass)).content ≡ kind_in (shape_of c.args.bank.now).kinds c.args.o
+kind_eq : (c : After-fill) → kind_of (known c.args.o (view c.fill.new.pass)).content ≡ kind_in (shape_of c.args.bank.now).starts c.args.o
 kind_eq c = kind_is (shape_of c.args.bank.now) (view c.fill.new.pass) c.args.o c.fill.ensures.pass.1 c.fill.new.pass.possible (grow c).keyed.locked
 
 pub begin_in-requires-clause-may : goal.begin_in-requires-clause-may

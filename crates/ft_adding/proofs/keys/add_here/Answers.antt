@@ -23,7 +23,7 @@ kind_eq c = kind_is (shape_of c.args.bank.now) (view c.args.pass.now) c.args.o c
 table_is : (c : In-Some) → (known c.args.o (view c.args.pass.now)).table ≡ use_of (Some c.in-Some.table) c.args.counts.fill
 table_is c =
     let a = c.args in
-    use_known c.words_are_of_one_content.ensures.head (shape_of a.bank.now) a.o a.old (view a.pass.now) a.counts c.requires.may.keyed c.requires.counts
+    use_known c.words_are_of_one_content.ensures.head (shape_of a.bank.now) a.o a.old (view a.pass.now) a.counts c.requires.may.keyed c.requires.counts c.args.pass.now.possible
     ∙ ap (λ (z : Option Table). use_of z a.counts.fill) c.in-Some.is
 
 few_is : (c : In-Some) → length_of (known c.args.o (view c.args.pass.now)).content < most_of (known c.args.o (view c.args.pass.now)).content
@@ -71,5 +71,5 @@ unreachable-requires c =
     let a = c.args in
     let x = known a.o (view a.pass.now) in
     let kinds : kind_of x.content ≡ kind_by a.way = kind_is (shape_of a.bank.now) (view a.pass.now) a.o c.requires.pass.1 a.pass.now.possible c.requires.may.keyed.locked ∙ c.requires.way in
-    let table : x.table ≡ use_of None a.counts.fill = use_known c.words_are_of_one_content.ensures.head (shape_of a.bank.now) a.o a.old (view a.pass.now) a.counts c.requires.may.keyed c.requires.counts ∙ ap (λ (z : Option Table). use_of z a.counts.fill) c.in-None.is in
+    let table : x.table ≡ use_of None a.counts.fill = use_known c.words_are_of_one_content.ensures.head (shape_of a.bank.now) a.o a.old (view a.pass.now) a.counts c.requires.may.keyed c.requires.counts a.pass.now.possible ∙ ap (λ (z : Option Table). use_of z a.counts.fill) c.in-None.is in
     bare_takes x.content a.way a.counts.fill kinds (subst (λ (z : TableUse). key_takes x.content z ≡ None) table c.requires.room)

@@ -57,7 +57,7 @@ takes : (c : After-read_counts-counts) (result : Option ℕ) → ((content : Con
 takes c result wanted =
     let a = c.args in
     let x = known a.o (view c.read_counts-counts.new.pass) in
-    let table = use_known c.words_are_of_one_content.ensures.head (shape_of a.bank.now) a.o a.old (view c.read_counts-counts.new.pass) c.read_counts-counts.result (may c).keyed (counts c) in
+    let table = use_known c.words_are_of_one_content.ensures.head (shape_of a.bank.now) a.o a.old (view c.read_counts-counts.new.pass) c.read_counts-counts.result (may c).keyed (counts c) c.read_counts-counts.new.pass.possible in
     ap (λ (z : TableUse). key_takes x.content z) table ∙ sym (wanted x.content (kinds c) (sym (many c)))
 
 not_over : (c : After-read_counts-counts) → c.read_counts-counts.result.count < most_of (known c.args.o (view c.read_counts-counts.new.pass)).content → nat_lt (most_of (known c.args.o (view c.read_counts-counts.new.pass)).content) (length_of (known c.args.o (view c.read_counts-counts.new.pass)).content + 1) ≡ false

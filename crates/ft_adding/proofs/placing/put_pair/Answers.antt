@@ -33,7 +33,7 @@ pub place_in-requires-clause-place : goal.place_in-requires-clause-place
 place_in-requires-clause-place c =
     let a = c.args in
     let k = shape_of a.bank.now in
-    let f = keyed_fit (kind_in k.kinds a.o) c.requires.writes.keyed (class_of (name_of a.table)) in
+    let f = keyed_fit (kind_in k.starts a.o) c.requires.writes.keyed (class_of (name_of a.table)) in
     let e = places_is k a.table c.mask_of-mask.result c.requires.writes.table_in c.mask_of-mask.ensures in
     let low = c.requires.unused.low in
     omega (arith, f, e, low)

@@ -55,7 +55,7 @@ put_key-requires-clause-unused c =
     let v = view a.pass.now in
     let d = (goal.at.put_key-requires-clause-unused c).After-start_write in
     let n = slots (class_of (name_of a.table)) in
-    subst (λ (z : View). IsUnused n (rows (kind_in k.kinds a.o) (class_of (name_of a.table))) (held a.o z).table a.slot a.counts.fill) (sym c.start_write.ensures.1)
+    subst (λ (z : View). IsUnused n (rows (kind_in k.starts a.o) (class_of (name_of a.table))) (held a.o z).table a.slot a.counts.fill) (sym c.start_write.ensures.1)
     (subst (λ (z : Kind). IsUnused n (rows z (class_of (name_of a.table))) (held a.o v).table a.slot a.counts.fill) (kind_is k v a.o c.requires.pass.1 a.pass.now.possible c.requires.may.locked)
     (place_unused (laws d) k.texts (held a.o v) (name_of a.table) a.slot a.counts (known a.o v).content a.key a.stored (fresh d)))
 

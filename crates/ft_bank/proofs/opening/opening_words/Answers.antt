@@ -1,5 +1,7 @@
 use Rattle.std.proofs.Common.{◌≡◌, ℕ, ◌-◌, length, ◌++◌, ap, ◌∙◌, arith}
 use Rattle.std.specs.Prelude.{replicate}
+use Rattle.std.proofs.lemmas.List.{length-map}
+use Rattle.ft_model.specs.Worlds.{start_as}
 use Rattle.ft_layout.specs.Starts.{bank_size}
 use Rattle.ft_trace.specs.Addresses.{extent, free_counts, free_words}
 use Rattle.ft_bank.specs.Shapes.{plan}
@@ -11,7 +13,8 @@ returns c =
     let k = plan c.args.shape.now in
     let counts = free_counts k.tables 3 14 in
     let free = free_words k.tables 0 224 in
-    let count : c.len-containers.result ≡ length k.kinds = omega (arith, c.len-containers.ensures, c.args.shape.now.kinds.ok.0) in
+    let many = length-map c.args.shape.now.kinds.items start_as in
+    let count : c.len-containers.result ≡ length k.starts = omega (arith, many, c.len-containers.ensures, c.args.shape.now.kinds.ok.0) in
     let whole : c.bank_size-size.result ≡ extent k = c.bank_size-size.ensures.is ∙ ((λ d. bank_size (record { containers = count d; heap = k.heap; passes = k.passes; tables = c.as_slice.ensures.value d })) ∙ size_is k) in
     let size = ap (λ (n : ℕ). n - 304) whole in
     let zeros = c.in_ok-announced.ensures.items_if_clones_equal (λ y e. e) in

@@ -14,7 +14,7 @@ pub unreachable-requires : goal.unreachable-requires
 unreachable-requires c =
     let v = view c.args.pass.now in
     let d = c.args.d in
-    let is = dict_known v d c.args.pass.now.possible c.requires.locked (ap (λ (k : Shape). kind_in k.kinds d) c.requires.pass.1 ∙ c.requires.dict) in
+    let is = dict_known v d c.args.pass.now.possible c.requires.locked (ap (λ (k : Shape). kind_in k.starts d) c.requires.pass.1 ∙ c.requires.dict) in
     let h = subst (λ (z : Content). IsHeldAt z c.args.key (Some (c.args.value_kind, c.args.payload))) is.1 c.requires.held in
     let low = subst (λ (k : Shape). d < containers_in k) (sym c.requires.pass.1) c.requires.container in
     ∥∥₁_elim c.args.pass.now.possible (λ a b. absurd a)
@@ -26,6 +26,6 @@ pub returns : goal.returns
 returns c =
     let v = view c.args.pass.now in
     let d = c.args.d in
-    let is = dict_known v d c.args.pass.now.possible c.requires.locked (ap (λ (k : Shape). kind_in k.kinds d) c.requires.pass.1 ∙ c.requires.dict) in
+    let is = dict_known v d c.args.pass.now.possible c.requires.locked (ap (λ (k : Shape). kind_in k.starts d) c.requires.pass.1 ∙ c.requires.dict) in
     let h = subst (λ (z : Content). IsHeldAt z c.args.key (Some (c.args.value_kind, c.args.payload))) is.1 c.requires.held in
     (is.0, is.1, (c.args.value_kind, c.args.payload, h.0, h.1, (c.value_of.ensures c.in-Some.value).1 c.in-Some.is))

@@ -1,8 +1,8 @@
 use Rattle.std.proofs.Common.{ℕ, Option, None, Some, sym, subst}
 use Rattle.ft_bank.specs.Passes.{shape_of}
 use Rattle.ft_bank.specs.TableNames.{name_of}
-use Rattle.ft_list.specs.Indexes.{Reads}
-use Rattle.ft_list.proofs.Indexes.{reads_map, reads_then}
+use Rattle.ft_reads.specs.Reads.{Reads}
+use Rattle.ft_reads.proofs.Agreeing.{reads_map, reads_then}
 use Rattle.ft_keyed.specs.TableEntries.{IsPlainAt, OfUsed}
 use Rattle.ft_keyed.specs.Places.{IsLast}
 use Rattle.ft_dict.specs.declared.lasts.Last.{Last}

@@ -1,7 +1,7 @@
 use Rattle.std.proofs.Common.{◌≡◌, None, refl, sym, ◌∙◌, arith}
 use Rattle.std.specs.Prelude.{slice_index}
 use Rattle.ft_bank.specs.Passes.{shape_of}
-use Rattle.ft_list.proofs.Indexes.{reads_block, reads_map, reads_then}
+use Rattle.ft_reads.proofs.Agreeing.{reads_block, reads_map, reads_then}
 use Rattle.ft_dict.specs.Lasts.{IsLastIn, IsLastOf}
 use Rattle.ft_dict.proofs.Popping.{last_bare, last_of}
 use Rattle.ft_dict.proofs.lasts.last_pair.Goals as goal

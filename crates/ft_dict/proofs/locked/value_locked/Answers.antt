@@ -15,7 +15,7 @@ pub unreachable-requires : goal.unreachable-requires
 unreachable-requires c =
     let v = view c.args.pass.now in
     let d = c.args.d in
-    let is = dict_known v d c.args.pass.now.possible c.requires.locked (ap (λ (k : Shape). kind_in k.kinds d) c.requires.pass.1 ∙ c.requires.dict) in
+    let is = dict_known v d c.args.pass.now.possible c.requires.locked (ap (λ (k : Shape). kind_in k.starts d) c.requires.pass.1 ∙ c.requires.dict) in
     let h = subst (λ (z : Content). IsHeldAt z c.args.key (Some (c.in-Some.kind, c.in-Some.payload))) is.1 c.in-Some.ensures.held in
     let low = subst (λ (k : Shape). d < containers_in k) (sym c.requires.pass.1) c.requires.container in
     ∥∥₁_elim c.args.pass.now.possible (λ a b. absurd a)
@@ -37,7 +37,7 @@ pub returns-in-Some-value_of-clause-value : goal.returns-in-Some-value_of-clause
 returns-in-Some-value_of-clause-value c =
     let v = view c.args.pass.now in
     let d = c.args.d in
-    let is = dict_known v d c.args.pass.now.possible c.requires.locked (ap (λ (k : Shape). kind_in k.kinds d) c.requires.pass.1 ∙ c.requires.dict) in
+    let is = dict_known v d c.args.pass.now.possible c.requires.locked (ap (λ (k : Shape). kind_in k.starts d) c.requires.pass.1 ∙ c.requires.dict) in
     let h = subst (λ (z : Content). IsHeldAt z c.args.key (Some (c.in-Some.kind, c.in-Some.payload))) is.1 c.in-Some.ensures.held in
     (is.0, is.1, (c.in-Some.kind, c.in-Some.payload, h.0, h.1, (c.value_of.ensures c.in-Some-value_of.value).1 c.in-Some-value_of.is))
 
@@ -45,5 +45,5 @@ pub returns-in-None-clause-value : goal.returns-in-None-clause-value
 returns-in-None-clause-value c =
     let v = view c.args.pass.now in
     let d = c.args.d in
-    let is = dict_known v d c.args.pass.now.possible c.requires.locked (ap (λ (k : Shape). kind_in k.kinds d) c.requires.pass.1 ∙ c.requires.dict) in
+    let is = dict_known v d c.args.pass.now.possible c.requires.locked (ap (λ (k : Shape). kind_in k.starts d) c.requires.pass.1 ∙ c.requires.dict) in
     (is.0, is.1, subst (λ (z : Content). IsHeldAt z c.args.key None) is.1 c.in-None.ensures.held)

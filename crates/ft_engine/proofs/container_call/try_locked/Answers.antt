@@ -20,6 +20,9 @@ try_dict-requires-clause-key c = (subst (IsCallIn (shape_of c.args.bank.now) c.r
 pub try_dict-requires-clause-no_cursor : goal.try_dict-requires-clause-no_cursor
 try_dict-requires-clause-no_cursor c = subst (λ (x : Call). moved_cursor x ≡ None) c.in-Dict.is c.requires.no_cursor
 
+pub try_dict-requires-clause-landed : goal.try_dict-requires-clause-landed
+try_dict-requires-clause-landed c = (subst (IsCallIn (shape_of c.args.bank.now) c.requires.names.0) c.in-Dict.is c.requires.names.1).3
+
 pub returns-in-Dict : goal.returns-in-Dict
 returns-in-Dict c hands = subst (λ (x : Call). IsTryOfCall c.args.bank.now hands x c.args.pass.now c.try_dict.new.pass c.try_dict.result) (sym c.in-Dict.is) (c.try_dict.ensures hands)
 
@@ -31,6 +34,9 @@ try_list-requires-clause-names c = (subst (IsCallIn (shape_of c.args.bank.now) c
 
 pub try_list-requires-clause-no_cursor : goal.try_list-requires-clause-no_cursor
 try_list-requires-clause-no_cursor c = subst (λ (x : Call). moved_cursor x ≡ None) c.in-List.is c.requires.no_cursor
+
+pub try_list-requires-clause-landed : goal.try_list-requires-clause-landed
+try_list-requires-clause-landed c = (subst (IsCallIn (shape_of c.args.bank.now) c.requires.names.0) c.in-List.is c.requires.names.1).2
 
 pub returns-in-List : goal.returns-in-List
 returns-in-List c hands = subst (λ (x : Call). IsTryOfCall c.args.bank.now hands x c.args.pass.now c.try_list.new.pass c.try_list.result) (sym c.in-List.is) (c.try_list.ensures hands)

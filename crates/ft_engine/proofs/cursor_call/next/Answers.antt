@@ -8,6 +8,11 @@ use Rattle.ft_iter.specs.CursorCalls.{IsMoveOf}
 use Rattle.ft_engine.proofs.CursorCalls.{at_read, hands_by, next_tried}
 use Rattle.ft_engine.proofs.cursor_call.next.Goals as goal
 
+pub try_next-step-requires-clause-landed : goal.try_next-step-requires-clause-landed
+try_next-step-requires-clause-landed c =
+    let at : cursor_at c.args.cursors.now.items c.args.number ≡ Some c.in-Some.cursor = sym (at_read c.args.cursors.now.items c.args.number c.index.result.now c.requires.room c.index.ensures) ∙ c.in-Some.is in
+    (c.requires.hands.over c.args.number c.in-Some.cursor at).1
+
 pub returns-clause-tried : goal.returns-clause-tried
 returns-clause-tried c =
     let at : cursor_at c.args.cursors.now.items c.args.number ≡ Some c.in-Some.cursor = sym (at_read c.args.cursors.now.items c.args.number c.index.result.now c.requires.room c.index.ensures) ∙ c.in-Some.is in
@@ -21,5 +26,5 @@ returns-clause-hands c =
     let o = container_of c.in-Some.cursor in
     let left = Some c.try_next-step.new.cursor in
     let at : cursor_at c.args.cursors.now.items c.args.number ≡ Some c.in-Some.cursor = sym (at_read c.args.cursors.now.items c.args.number c.index.result.now c.requires.room c.index.ensures) ∙ c.in-Some.is in
-    (hands_by (shape_of c.args.bank.now) v w c.args.cursors.now.items kind o c.args.number (call.Next c.args.number) left c.try_next-step.result c.requires.hands c.requires.room c.try_next-step.ensures.others (c.requires.hands.over c.args.number c.in-Some.cursor at)
+    (hands_by (shape_of c.args.bank.now) v w c.args.cursors.now.items kind o c.args.number (call.Next c.args.number) left c.try_next-step.result c.requires.hands c.requires.room c.try_next-step.ensures.others (c.requires.hands.over c.args.number c.in-Some.cursor at).0
     (subst (λ (had : Option Cursor). IsMoveOf kind o (call.Next c.args.number) c.args.number had v w c.try_next-step.result left) (sym at) c.try_next-step.ensures.moved)).0

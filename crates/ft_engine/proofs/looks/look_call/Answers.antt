@@ -13,6 +13,9 @@ look_dict-requires-clause-names c = (subst (IsCallIn (shape_of c.args.bank.now) 
 pub look_dict-requires-clause-key : goal.look_dict-requires-clause-key
 look_dict-requires-clause-key c = (subst (IsCallIn (shape_of c.args.bank.now) c.requires.names.0) c.in-Dict.is c.requires.names.1).2
 
+pub look_dict-requires-clause-landed : goal.look_dict-requires-clause-landed
+look_dict-requires-clause-landed c = (subst (IsCallIn (shape_of c.args.bank.now) c.requires.names.0) c.in-Dict.is c.requires.names.1).3
+
 pub returns-in-Dict-clause-looked : goal.returns-in-Dict-clause-looked
 returns-in-Dict-clause-looked c = subst (λ (x : Call). IsLookedIfAny x c.args.pass.now c.look_dict.new.pass c.look_dict.result) (sym c.in-Dict.is) c.look_dict.ensures.looked
 

@@ -12,4 +12,4 @@ pub returns-clause-ties : goal.returns-clause-ties
 returns-clause-ties c = c.in_ok-sort_by.ensures.stable _ history_ranks (answers_always _ _ _ (λ f a r f' k. ap is_lt k.met))
 
 pub returns-clause-legal : goal.returns-clause-legal
-returns-clause-legal c = λ storage script is. legal_when_sorted storage script c.args.entries.items c.sort_by.new.self.items is c.in_ok-sort_by.ensures.permutation (returns-clause-order c)
+returns-clause-legal c = λ storage script rule is. legal_when_sorted storage script c.args.entries.items c.sort_by.new.self.items rule is c.in_ok-sort_by.ensures.permutation (returns-clause-order c)

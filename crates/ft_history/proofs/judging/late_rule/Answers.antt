@@ -34,13 +34,18 @@ counted : (parts : ScriptParts) (entries : List Entry) (place : ℕ) (entry : En
     → IsTrue r ↔ IfEnds (all_begun sections) entry.call (λ section. IsCountedAs (progress.marks - section.marks) entry.reply) → IsTrue r ↔ IsCounted entries place entry
 counted parts entries place entry progress r sections same so_far is = counted_iff parts entries place entry progress r so_far (subst (λ ss. IsTrue r ↔ IfEnds (all_begun ss) entry.call (λ section. IsCountedAs (progress.marks - section.marks) entry.reply)) same is)
 
+pub returns-then-not-has_awaited : goal.returns-then-not-has_awaited
+returns-then-not-has_awaited c = λ entries place at users is_state first.
+    record { before = first; broken = refuted c.has_awaited.result c.if-not-has_awaited.true (c.has_awaited.ensures entries place c.args.parts.now is_state) }
+
 pub returns-then-not-is_marked_right : goal.returns-then-not-is_marked_right
 returns-then-not-is_marked_right c = λ entries place at users is_state first.
     let parts = c.args.parts.now in
     let progress : ThreadProgress = c.index-progress.result.now in
     let so_far = there parts entries place c.args.entry.now.thread c.args.state.now progress is_state (omega (arith, c.requires.thread, c.args.state.now.threads.ok.0)) c.index-progress.ensures in
     let inner = λ (at marks : ℕ). c.inner_containers.ensures at marks ∙ ap (λ ss. inner_begun (after_begun at marks c.args.entry.now.call (all_begun ss))) c.deref.ensures.value in
-    record { before = first; broken = refuted c.is_marked_right.result c.if-not-is_marked_right.true (marked_iff parts entries place c.args.entry.now progress c.args.users.now _ _ c.is_marked_right.result users so_far c.containers_needed-own.ensures inner c.is_marked_right.ensures) }
+    let awaited = (c.has_awaited.ensures entries place parts is_state).0 c.if-not-has_awaited.false in
+    record { before = holds_more c.args.storage parts entries place c.args.entry.now 4 rule.Await refl first awaited; broken = refuted c.is_marked_right.result c.if-not-is_marked_right.true (marked_iff parts entries place c.args.entry.now progress c.args.users.now _ _ c.is_marked_right.result users so_far c.containers_needed-own.ensures inner c.is_marked_right.ensures) }
 
 pub returns-then-not-is_kept_right : goal.returns-then-not-is_kept_right
 returns-then-not-is_kept_right c = λ entries place at users is_state first.
@@ -50,8 +55,10 @@ returns-then-not-is_kept_right c = λ entries place at users is_state first.
     let so_far = there parts entries place entry.thread c.args.state.now progress is_state (omega (arith, c.requires.thread, c.args.state.now.threads.ok.0)) c.index-progress.ensures in
     let inner = λ (at marks : ℕ). c.inner_containers.ensures at marks ∙ ap (λ ss. inner_begun (after_begun at marks entry.call (all_begun ss))) c.deref.ensures.value in
     let marked = (marked_iff parts entries place entry progress c.args.users.now _ _ c.is_marked_right.result users so_far c.containers_needed-own.ensures inner c.is_marked_right.ensures).0 c.if-not-is_marked_right.false in
+    let awaited = (c.has_awaited.ensures entries place parts is_state).0 c.if-not-has_awaited.false in
+    let awaits = holds_more c.args.storage parts entries place entry 4 rule.Await refl first awaited in
     record {
-      before = holds_more c.args.storage parts entries place entry 4 rule.Mark refl first marked;
+      before = holds_more c.args.storage parts entries place entry 5 rule.Mark refl awaits marked;
       broken = refuted c.is_kept_right.result c.if-not-is_kept_right.true (kept parts entries place entry c.args.state.now progress c.is_kept_right.result _ _ c.deref-2.ensures.value c.deref-3.ensures.value is_state so_far c.is_kept_right.ensures);
     }
 
@@ -64,8 +71,10 @@ returns-then-not-is_counted_right c = λ entries place at users is_state first.
     let inner = λ (at marks : ℕ). c.inner_containers.ensures at marks ∙ ap (λ ss. inner_begun (after_begun at marks entry.call (all_begun ss))) c.deref.ensures.value in
     let marked = (marked_iff parts entries place entry progress c.args.users.now _ _ c.is_marked_right.result users so_far c.containers_needed-own.ensures inner c.is_marked_right.ensures).0 c.if-not-is_marked_right.false in
     let is_kept = (kept parts entries place entry c.args.state.now progress c.is_kept_right.result _ _ c.deref-2.ensures.value c.deref-3.ensures.value is_state so_far c.is_kept_right.ensures).0 c.if-not-is_kept_right.false in
+    let awaited = (c.has_awaited.ensures entries place parts is_state).0 c.if-not-has_awaited.false in
+    let awaits = holds_more c.args.storage parts entries place entry 4 rule.Await refl first awaited in
     record {
-      before = holds_more c.args.storage parts entries place entry 5 rule.Kept refl (holds_more c.args.storage parts entries place entry 4 rule.Mark refl first marked) is_kept;
+      before = holds_more c.args.storage parts entries place entry 6 rule.Kept refl (holds_more c.args.storage parts entries place entry 5 rule.Mark refl awaits marked) is_kept;
       broken = refuted c.is_counted_right.result c.if-not-is_counted_right.true (counted parts entries place entry progress c.is_counted_right.result _ c.deref-4.ensures.value so_far c.is_counted_right.ensures);
     }
 
@@ -79,8 +88,10 @@ returns-then-not-has_cause c = λ entries place at users is_state first.
     let marked = (marked_iff parts entries place entry progress c.args.users.now _ _ c.is_marked_right.result users so_far c.containers_needed-own.ensures inner c.is_marked_right.ensures).0 c.if-not-is_marked_right.false in
     let is_kept = (kept parts entries place entry c.args.state.now progress c.is_kept_right.result _ _ c.deref-2.ensures.value c.deref-3.ensures.value is_state so_far c.is_kept_right.ensures).0 c.if-not-is_kept_right.false in
     let is_counted = (counted parts entries place entry progress c.is_counted_right.result _ c.deref-4.ensures.value so_far c.is_counted_right.ensures).0 c.if-not-is_counted_right.false in
+    let awaited = (c.has_awaited.ensures entries place parts is_state).0 c.if-not-has_awaited.false in
+    let awaits = holds_more c.args.storage parts entries place entry 4 rule.Await refl first awaited in
     record {
-      before = holds_more c.args.storage parts entries place entry 6 rule.Suspended refl (holds_more c.args.storage parts entries place entry 5 rule.Kept refl (holds_more c.args.storage parts entries place entry 4 rule.Mark refl first marked) is_kept) is_counted;
+      before = holds_more c.args.storage parts entries place entry 7 rule.Suspended refl (holds_more c.args.storage parts entries place entry 6 rule.Kept refl (holds_more c.args.storage parts entries place entry 5 rule.Mark refl awaits marked) is_kept) is_counted;
       broken = refuted c.has_cause.result c.if-not-has_cause.true (c.has_cause.ensures entries place is_state);
     }
 
@@ -92,6 +103,7 @@ returns c = λ entries place at users is_state.
     let so_far = there parts entries place entry.thread c.args.state.now progress is_state (omega (arith, c.requires.thread, c.args.state.now.threads.ok.0)) c.index-progress.ensures in
     let inner = λ (at marks : ℕ). c.inner_containers.ensures at marks ∙ ap (λ ss. inner_begun (after_begun at marks entry.call (all_begun ss))) c.deref.ensures.value in
     record {
+      awaits = (c.has_awaited.ensures entries place parts is_state).0 c.if-not-has_awaited.false;
       mark = (marked_iff parts entries place entry progress c.args.users.now _ _ c.is_marked_right.result users so_far c.containers_needed-own.ensures inner c.is_marked_right.ensures).0 c.if-not-is_marked_right.false;
       kept = (kept parts entries place entry c.args.state.now progress c.is_kept_right.result _ _ c.deref-2.ensures.value c.deref-3.ensures.value is_state so_far c.is_kept_right.ensures).0 c.if-not-is_kept_right.false;
       suspended = (counted parts entries place entry progress c.is_counted_right.result _ c.deref-4.ensures.value so_far c.is_counted_right.ensures).0 c.if-not-is_counted_right.false;

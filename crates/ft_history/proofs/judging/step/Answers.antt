@@ -9,6 +9,7 @@ use Rattle.ft_model.specs.Histories.{writes, entries_of}
 use Rattle.ft_history.proofs.Judged.{few_made}
 use Rattle.ft_history.proofs.FewEntries.{room_before}
 use Rattle.ft_history.proofs.AccountLemmas.{earned_no_cursor, few_takings}
+use Rattle.ft_history.proofs.ScriptLemmas.{landed_call, landed_names, unsplit_start}
 use Rattle.ft_history.proofs.GoesAfterLemmas.{state_after, askable_at, of_kind_at, within_containers, thread_within, few_writes, few_marks, breaks_reply, holds_four, finds_all, where_none}
 use Rattle.ft_history.proofs.judging.step.Goals as goal
 
@@ -26,6 +27,14 @@ late_rule-late-requires-clause-thread c =
     let at = here c.args.entries.now c.args.place c.index-entries-place.result c.requires.place c.index-entries-place.is in
     let next = c.in_default.ensures c.args.storage rule.Whole (omega arith) in
     omega (arith, c.args.state.now.threads.ok.0, thread_within c.args.parts.now c.requires.script c.args.entries.now c.args.place c.index-entries-place.result at next c.args.state.now c.requires.state)
+
+pub late_rule-late-requires-clause-awaits : goal.late_rule-late-requires-clause-awaits
+late_rule-late-requires-clause-awaits c =
+    let next = c.in_default.ensures c.args.storage rule.Whole (omega arith) in
+    landed_names _ c.index-entries-place.result.call (landed_call c.args.parts.now c.requires.script _ _ c.index-entries-place.result.call next.call)
+
+pub late_rule-late-requires-clause-unsplit : goal.late_rule-late-requires-clause-unsplit
+late_rule-late-requires-clause-unsplit c = unsplit_start c.args.parts.now c.requires.script
 
 pub late_rule-late-requires-clause-kinds : goal.late_rule-late-requires-clause-kinds
 late_rule-late-requires-clause-kinds c =

@@ -6,6 +6,7 @@ use Rattle.ft_model.specs.declared.call.Call.TheVariants as call
 use Rattle.ft_model.specs.declared.call.DictCall.{DictCall}
 use Rattle.ft_model.specs.declared.call.ListCall.{ListCall}
 use Rattle.ft_model.specs.declared.call.SetCall.{SetCall}
+use Rattle.ft_model.specs.declared.call.DequeCall.{DequeCall}
 use Rattle.ft_model.specs.declared.reply.Reply.{Reply}
 use Rattle.ft_model.specs.Answers.{answer, is_memory}
 use Rattle.ft_model.specs.Histories.{IsReplied}
@@ -17,7 +18,9 @@ IsOnContainers called =
     ((container : ℕ) × (asked : DictCall) × (called ≡ call.Dict container asked))
     ⊎ ((container : ℕ) × (asked : ListCall) × (called ≡ call.List container asked))
     ⊎ ((container : ℕ) × (asked : SetCall) × (called ≡ call.Set container asked))
+    ⊎ ((container : ℕ) × (asked : DequeCall) × (called ≡ call.Deque container asked))
     ⊎ ((cursor : ℕ) × (called ≡ call.Next cursor))
+    ⊎ (called ≡ call.Dump)
 
 -- such a call is replied to as the containers do
 by_containers : (called : Call) (said plain : Reply) → IsOnContainers called
@@ -25,7 +28,9 @@ by_containers : (called : Call) (said plain : Reply) → IsOnContainers called
 by_containers called said plain (inl dict) right so = rw dict.2 so
 by_containers called said plain (inr (inl list)) right so = rw list.2 so
 by_containers called said plain (inr (inr (inl set))) right so = rw set.2 so
-by_containers called said plain (inr (inr (inr next))) right so = rw next.1 so
+by_containers called said plain (inr (inr (inr (inl deque)))) right so = rw deque.2 so
+by_containers called said plain (inr (inr (inr (inr (inl next))))) right so = rw next.1 so
+by_containers called said plain (inr (inr (inr (inr (inr dump))))) right so = rw dump so
 
 pub returns-in-Dict : goal.returns-in-Dict
 returns-in-Dict c =

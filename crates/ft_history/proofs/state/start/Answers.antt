@@ -8,6 +8,7 @@ use Rattle.ft_history.specs.declared.progress.ThreadProgress.{ThreadProgress}
 use Rattle.ft_history.specs.declared.writers.LastWrites.{LastWrites}
 use Rattle.ft_history.specs.Internal.States.{IsFreshProgress}
 use Rattle.ft_history.proofs.LastWriteLemmas.{last_at_start}
+use Rattle.ft_history.proofs.ScriptLemmas.{unsplit_start}
 use Rattle.ft_history.proofs.StartLemmas.{kinds_at_start, progress_at_start, hands_at_start}
 use Rattle.ft_history.proofs.state.start.Goals as goal
 
@@ -48,3 +49,6 @@ returns c = λ entries.
       lasts = λ container last at. last_at_start entries container last (ap (λ (w : LastWrites). w.last) (last_is container last at)) (ap (λ (w : LastWrites). w.other) (last_is container last at));
       account = c.in_ok-start_account.ensures;
     }
+
+pub start_account-requires : goal.start_account-requires
+start_account-requires c = unsplit_start c.args.parts.now c.requires

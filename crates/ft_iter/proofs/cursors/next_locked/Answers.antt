@@ -48,4 +48,4 @@ pub returns-clause-over : goal.returns-clause-over
 returns-clause-over c =
     let walker = c.args.cursor.now in
     let o = container_of walker in
-    subst (IsOver (cursor_kind walker) o) (sym c.step-advanced.ensures.next.1) (step-over (known o (view c.args.pass.now)).content walker)
+    subst (IsOver (cursor_kind walker) o) (sym c.step-advanced.ensures.next.1) (step-over (known o (view c.args.pass.now)).content walker c.requires.landed)

@@ -20,7 +20,7 @@ returns-in-Dict-clause-next c =
     let o = c.in-Dict.container in
     let is = c.in-Dict.is in
     let r = c.next_dict.result in
-    let kind_is = ap (λ (z : Shape). kind_in z.kinds o) c.requires.pass.1 ∙ subst (λ (z : Cursor). kind_in (shape_of c.args.bank.now).kinds (container_of z) ≡ cursor_kind z) is c.requires.kind in
+    let kind_is = ap (λ (z : Shape). kind_in z.starts o) c.requires.pass.1 ∙ subst (λ (z : Cursor). kind_in (shape_of c.args.bank.now).starts (container_of z) ≡ cursor_kind z) is c.requires.kind in
     let locked : has_lock o v.log ≡ true = subst (λ (z : Cursor). has_lock (container_of z) v.log ≡ true) is c.requires.locked in
     let d = dict_known v o c.args.pass.now.possible locked kind_is in
     subst (λ (z : Cursor). IsStep r (step_in (known (container_of z) v).content z)) (sym is)
@@ -32,7 +32,7 @@ returns-in-List-clause-next c =
     let o = c.in-List.container in
     let is = c.in-List.is in
     let r = c.next_list.result in
-    let kind_is = ap (λ (z : Shape). kind_in z.kinds o) c.requires.pass.1 ∙ subst (λ (z : Cursor). kind_in (shape_of c.args.bank.now).kinds (container_of z) ≡ cursor_kind z) is c.requires.kind in
+    let kind_is = ap (λ (z : Shape). kind_in z.starts o) c.requires.pass.1 ∙ subst (λ (z : Cursor). kind_in (shape_of c.args.bank.now).starts (container_of z) ≡ cursor_kind z) is c.requires.kind in
     let locked : has_lock o v.log ≡ true = subst (λ (z : Cursor). has_lock (container_of z) v.log ≡ true) is c.requires.locked in
     let d = list-known v o c.args.pass.now.possible locked kind_is in
     subst (λ (z : Cursor). IsStep r (step_in (known (container_of z) v).content z)) (sym is)
@@ -44,7 +44,7 @@ returns-in-Set-clause-next c =
     let o = c.in-Set.container in
     let is = c.in-Set.is in
     let r = c.next_set.result in
-    let kind_is = ap (λ (z : Shape). kind_in z.kinds o) c.requires.pass.1 ∙ subst (λ (z : Cursor). kind_in (shape_of c.args.bank.now).kinds (container_of z) ≡ cursor_kind z) is c.requires.kind in
+    let kind_is = ap (λ (z : Shape). kind_in z.starts o) c.requires.pass.1 ∙ subst (λ (z : Cursor). kind_in (shape_of c.args.bank.now).starts (container_of z) ≡ cursor_kind z) is c.requires.kind in
     let locked : has_lock o v.log ≡ true = subst (λ (z : Cursor). has_lock (container_of z) v.log ≡ true) is c.requires.locked in
     let d = set_known v o c.args.pass.now.possible locked kind_is in
     subst (λ (z : Cursor). IsStep r (step_in (known (container_of z) v).content z)) (sym is)

@@ -16,7 +16,8 @@ use Rattle.ft_trace.specs.declared.Shape.{Shape}
 use Rattle.ft_trace.specs.Holds.{held, known}
 use Rattle.ft_trace.specs.ContainerStates.{kind_in}
 use Rattle.ft_bank.specs.Passes.{shape_of, view}
-use Rattle.ft_list.specs.Indexes.{Reads, IsItemNamed, item_named}
+use Rattle.ft_list.specs.Indexes.{IsItemNamed, item_named}
+use Rattle.ft_reads.specs.Reads.{Reads}
 use Rattle.ft_list.proofs.Indexes.{reads_held}
 use Rattle.ft_iter.specs.Moves.{IsStep}
 use Rattle.ft_iter.proofs.ListSteps.{named-at, list-short, far-none}
@@ -39,7 +40,7 @@ returns-in-Some-clause-next c items is =
     let v = view c.args.pass.now in
     let index = c.args.index in
     let k = shape_of c.args.bank.now in
-    let list = ap (λ (z : Shape). kind_in z.kinds o) c.requires.pass.1 ∙ c.requires.list in
+    let list = ap (λ (z : Shape). kind_in z.starts o) c.requires.pass.1 ∙ c.requires.list in
     let fits : SFits w64 c.in-Ok.place = subst (λ (z : ℤ). SFits w64 z) (sym c.in-Ok.ensures.1) c.in-Ok.ensures.0 in
     let reads = subst (λ (z : ℤ). Reads k o (IsItemNamed k z c.read_named.result) c.args.pass.now c.read_named.new.pass) (to_z-of_z w64 c.in-Ok.place fits) c.read_named.ensures.reads in
     let found = reads_held k o c.in-Ok.place c.read_named.result c.args.pass.now c.read_named.new.pass reads c.requires.container list c.args.pass.now.possible c.requires.locked c.requires.stands in
@@ -56,7 +57,7 @@ returns-in-None-clause-next c items is =
     let index = c.args.index in
     let k = shape_of c.args.bank.now in
     let r = c.stop_list-in-None.result in
-    let list = ap (λ (z : Shape). kind_in z.kinds o) c.requires.pass.1 ∙ c.requires.list in
+    let list = ap (λ (z : Shape). kind_in z.starts o) c.requires.pass.1 ∙ c.requires.list in
     let fits : SFits w64 c.in-Ok.place = subst (λ (z : ℤ). SFits w64 z) (sym c.in-Ok.ensures.1) c.in-Ok.ensures.0 in
     let reads = subst (λ (z : ℤ). Reads k o (IsItemNamed k z c.read_named.result) c.args.pass.now c.read_named.new.pass) (to_z-of_z w64 c.in-Ok.place fits) c.read_named.ensures.reads in
     let found = reads_held k o c.in-Ok.place c.read_named.result c.args.pass.now c.read_named.new.pass reads c.requires.container list c.args.pass.now.possible c.requires.locked c.requires.stands in

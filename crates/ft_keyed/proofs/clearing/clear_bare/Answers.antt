@@ -5,7 +5,7 @@ use Rattle.ft_trace.specs.ContainerStates.{ContainerState}
 use Rattle.ft_model.specs.declared.reply.Reply.TheVariants as reply
 use Rattle.ft_bank.specs.Passes.{shape_of, view}
 use Rattle.ft_search.specs.OneEntryWrites.{Leaves}
-use Rattle.ft_search.proofs.Changing.{kind_is}
+use Rattle.ft_search.proofs.Changing.{kind_is, no_keys}
 use Rattle.ft_keyed.proofs.Emptied.{bare_stays}
 use Rattle.ft_keyed.proofs.clearing.clear_bare.Goals as goal
 
@@ -15,5 +15,5 @@ write_nothing-requires-clause-leaves c =
     let k = shape_of a.bank.now in
     let v = view a.pass.now in
     subst (λ (z : ContainerState). Leaves a.o a.called.now reply.Done z v)
-    (bare_stays k.texts (held a.o v) (known a.o v) (subst IsKeyed (sym (kind_is k v a.o c.requires.pass.1 a.pass.now.possible c.requires.may.locked)) c.requires.may.keyed) c.requires.may.stands c.requires.bare)
+    (bare_stays k.texts (held a.o v) (known a.o v) (no_keys v a.o a.pass.now.possible c.requires.may.locked) (subst IsKeyed (sym (kind_is k v a.o c.requires.pass.1 a.pass.now.possible c.requires.may.locked)) c.requires.may.keyed) c.requires.may.stands c.requires.bare)
     c.requires.leaves

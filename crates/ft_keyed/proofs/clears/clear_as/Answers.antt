@@ -6,7 +6,7 @@ use Rattle.ft_trace.specs.Holds.{known}
 use Rattle.ft_bank.specs.Passes.{shape_of, view}
 use Rattle.ft_growth.proofs.Cursors.{given_cursors}
 use Rattle.ft_search.specs.OneEntryWrites.{Leaves}
-use Rattle.ft_list.specs.Clears.{IsCleared}
+use Rattle.ft_reads.specs.Clears.{IsCleared}
 use Rattle.ft_keyed.specs.Clearing.{cleared_kept}
 use Rattle.ft_keyed.proofs.Cleared.{clear_empties, clear_leaves}
 use Rattle.ft_keyed.proofs.clears.clear_as.Goals as goal

@@ -10,7 +10,7 @@ use Rattle.ft_keyed.proofs.clears.try_clear_as.Goals as goal
 
 pub clear_as-stamp-requires-clause-may : goal.clear_as-stamp-requires-clause-may
 clear_as-stamp-requires-clause-may c =
-    making_may c.args.bank.now c.take_for.new.pass (shape_of c.args.bank.now) c.args.c c.in-Have.ensures.making c.in-Have.ensures.making.inside.0.1 c.requires.container (kind_keyed c.args.way (kind_in (shape_of c.args.bank.now).kinds c.args.c) c.requires.kind) c.in-Have.ensures.has.0.0
+    making_may c.args.bank.now c.take_for.new.pass (shape_of c.args.bank.now) c.args.c c.in-Have.ensures.making c.in-Have.ensures.making.inside.0.1 c.requires.container (kind_keyed c.args.way (kind_in (shape_of c.args.bank.now).starts c.args.c) c.requires.kind) c.in-Have.ensures.has.0.0
     (subst (λ (n : ℕ). 0 < n) (sym c.in-Have.ensures.locked.left) c.requires.left)
 
 pub let_go-requires : goal.let_go-requires

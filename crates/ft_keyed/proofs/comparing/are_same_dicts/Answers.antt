@@ -5,7 +5,7 @@ use Rattle.ft_model.specs.Contents.{DictContent, has_pair, same_pairs}
 use Rattle.ft_model.specs.Worlds.{dict_of}
 use Rattle.ft_trace.specs.Pictures.{Picture}
 use Rattle.ft_bank.specs.Passes.{shape_of}
-use Rattle.ft_list.proofs.Both.{both_map, both_then}
+use Rattle.ft_reads.proofs.Both.{both_map, both_then}
 use Rattle.ft_keyed.specs.Comparing.{AreOfDicts}
 use Rattle.ft_keyed.proofs.Paired.{both_swap}
 use Rattle.ft_keyed.proofs.comparing.are_same_dicts.Goals as goal

@@ -4,7 +4,7 @@ use Rattle.ft_model.specs.Contents.{SetContent, is_subset, same_elements}
 use Rattle.ft_model.specs.Worlds.{set_of}
 use Rattle.ft_trace.specs.Pictures.{Picture}
 use Rattle.ft_bank.specs.Passes.{shape_of}
-use Rattle.ft_list.proofs.Both.{both_map, both_then}
+use Rattle.ft_reads.proofs.Both.{both_map, both_then}
 use Rattle.ft_keyed.specs.Comparing.{AreOfSets}
 use Rattle.ft_keyed.proofs.Paired.{both_swap}
 use Rattle.ft_keyed.proofs.comparing.are_same_sets.Goals as goal

@@ -6,8 +6,8 @@ use Rattle.ft_model.specs.Worlds.{dict_of}
 use Rattle.ft_trace.specs.Pictures.{Picture}
 use Rattle.ft_bank.specs.Passes.{shape_of}
 use Rattle.ft_bank.specs.TableNames.{name_of}
-use Rattle.ft_list.proofs.Both.{both_map, both_then, of_first}
-use Rattle.ft_list.proofs.Indexes.{reads_block, reads_then}
+use Rattle.ft_reads.proofs.Both.{both_map, both_then, of_first}
+use Rattle.ft_reads.proofs.Agreeing.{reads_block, reads_then}
 use Rattle.ft_keyed.specs.Comparing.{AreOfDicts, WithDict, lacks_value}
 use Rattle.ft_keyed.specs.ShownContents.{IsOfDict}
 use Rattle.ft_keyed.specs.TableEntries.{plain_pair}

@@ -6,7 +6,7 @@ use Rattle.ft_layout.specs.Words.{FitsKey}
 use Rattle.ft_trace.specs.Addresses.{class_of, places}
 use Rattle.ft_bank.specs.Passes.{shape_of}
 use Rattle.ft_bank.specs.TableNames.{name_of}
-use Rattle.ft_list.specs.Indexes.{Reads}
+use Rattle.ft_reads.specs.Reads.{Reads}
 use Rattle.ft_keyed.specs.TableEntries.{IsPlainAt}
 use Rattle.ft_keyed.proofs.Meeting.{differs_none, differs_some}
 use Rattle.ft_keyed.proofs.comparing.differs_at.Goals as goal

@@ -3,7 +3,7 @@ use Rattle.ft_layout.specs.declared.slot.Stored.TheVariants.{Plain}
 use Rattle.ft_layout.specs.Words.{IsStored}
 use Rattle.ft_keys.specs.declared.walk.Way.TheVariants as way
 use Rattle.ft_bank.specs.Passes.{shape_of}
-use Rattle.ft_list.proofs.Indexes.{reads_map}
+use Rattle.ft_reads.proofs.Agreeing.{reads_map}
 use Rattle.ft_keyed.specs.Comparing.{IsValueIn}
 use Rattle.ft_keyed.specs.FoundKeys.{IsFoundIn}
 use Rattle.ft_keyed.proofs.Paired.{at_dict}

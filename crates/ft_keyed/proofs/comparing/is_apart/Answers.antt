@@ -3,7 +3,7 @@ use Rattle.std.specs.List.{list_any}
 use Rattle.ft_model.specs.declared.content.Element.{Element}
 use Rattle.ft_model.specs.Contents.{is_disjoint}
 use Rattle.ft_bank.specs.Passes.{shape_of}
-use Rattle.ft_list.proofs.Both.{both_map}
+use Rattle.ft_reads.proofs.Both.{both_map}
 use Rattle.ft_keyed.specs.Comparing.{AreOfSets, is_met}
 use Rattle.ft_keyed.proofs.comparing.is_apart.Goals as goal
 

@@ -4,7 +4,7 @@ use Rattle.ft_model.specs.declared.content.Element.{Element}
 use Rattle.ft_model.specs.Contents.{has_element, is_subset}
 use Rattle.ft_model.specs.Worlds.{set_of}
 use Rattle.ft_bank.specs.Passes.{shape_of}
-use Rattle.ft_list.proofs.Both.{both_map}
+use Rattle.ft_reads.proofs.Both.{both_map}
 use Rattle.ft_keyed.specs.Comparing.{AreOfSets, is_met}
 use Rattle.ft_keyed.proofs.Paired.{all_not}
 use Rattle.ft_keyed.proofs.comparing.is_within.Goals as goal

@@ -3,7 +3,7 @@ use Rattle.std.specs.List.{filter_map, list_any}
 use Rattle.ft_bank.specs.Passes.{shape_of, IsPassOf}
 use Rattle.ft_bank.specs.PassSections.{stack_of}
 use Rattle.ft_bank.specs.TableNames.{name_of}
-use Rattle.ft_list.specs.Pairs.{ReadsBoth}
+use Rattle.ft_reads.specs.Pairs.{ReadsBoth}
 use Rattle.ft_keyed.specs.Comparing.{WithDict, lacks_value}
 use Rattle.ft_keyed.specs.TableEntries.{plain_pair}
 use Rattle.ft_keyed.proofs.comparing.some_differs.Given as goal

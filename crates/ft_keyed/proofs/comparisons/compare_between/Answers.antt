@@ -1,5 +1,5 @@
 use Rattle.ft_bank.specs.Passes.{shape_of}
-use Rattle.ft_list.proofs.Windowed.{saw_both_between}
+use Rattle.ft_reads.proofs.Windowed.{saw_both_between}
 use Rattle.ft_keyed.specs.Comparisons.{IsComparedAs}
 use Rattle.ft_keyed.proofs.comparisons.compare_between.Goals as goal
 

@@ -7,7 +7,7 @@ use Rattle.ft_search.specs.MadeCalls.{IsShownBy, MadeAs}
 use Rattle.ft_search.proofs.Calling.{answer_loaded}
 use Rattle.ft_search.proofs.Running.{did_log}
 use Rattle.ft_search.proofs.Spotting.{may_loaded}
-use Rattle.ft_list.proofs.Both.{both_loaded}
+use Rattle.ft_reads.proofs.Both.{both_loaded}
 use Rattle.ft_keyed.specs.Comparisons.{IsComparedAs, compared}
 use Rattle.ft_keyed.proofs.Compared.{compared_shown}
 use Rattle.ft_keyed.proofs.KnownContents.{both_show, shown_then}

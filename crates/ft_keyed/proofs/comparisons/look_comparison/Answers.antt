@@ -5,8 +5,8 @@ use Rattle.ft_trace.specs.declared.Act.TheVariants.{Answer}
 use Rattle.ft_trace.specs.Acts.{noted}
 use Rattle.ft_bank.specs.Passes.{shape_of, view}
 use Rattle.ft_bank.specs.Reads.{IsShown}
-use Rattle.ft_list.specs.Pairs.{IsGlanceOfBoth}
-use Rattle.ft_list.proofs.Windowed.{saw_both_answered, saw_both_shown, saw_first_stopped, saw_other_stopped}
+use Rattle.ft_reads.specs.Pairs.{IsGlanceOfBoth}
+use Rattle.ft_reads.proofs.Windowed.{saw_both_answered, saw_both_shown, saw_first_stopped, saw_other_stopped}
 use Rattle.ft_keyed.specs.Comparisons.{IsComparedAs, compared}
 use Rattle.ft_keyed.proofs.Compared.{compared_plain, compared_reply}
 use Rattle.ft_keyed.proofs.comparisons.look_comparison.Goals as goal

@@ -5,7 +5,7 @@ use Rattle.ft_bank.specs.Passes.{shape_of, view}
 use Rattle.ft_section.specs.declared.answers.Objects.TheVariants.{Two}
 use Rattle.ft_section.proofs.TriedSections.{let_gone}
 use Rattle.ft_search.proofs.Calling.{making_made, making_may}
-use Rattle.ft_list.proofs.Both.{are_in, has_each}
+use Rattle.ft_reads.proofs.Both.{are_in, has_each}
 use Rattle.ft_keyed.specs.Comparisons.{compared}
 use Rattle.ft_keyed.proofs.Compared.{compared_keyed, compared_sections}
 use Rattle.ft_keyed.proofs.comparisons.try_comparison.Goals as goal

@@ -2,7 +2,7 @@ use Rattle.std.proofs.Common.{◌≡◌, [], length, refl, sym, ◌∙◌, subst
 use Rattle.std.specs.Prelude.{slice_index, Ok}
 use Rattle.ft_bank.specs.Passes.{shape_of}
 use Rattle.ft_bank.specs.TableNames.{name_of}
-use Rattle.ft_list.proofs.Indexes.{reads_block, reads_map, reads_then}
+use Rattle.ft_reads.proofs.Agreeing.{reads_block, reads_map, reads_then}
 use Rattle.ft_keyed.specs.Items.{reply_of_used, IsAllIn, IsAllOf, IsItemsReply}
 use Rattle.ft_keyed.specs.TableEntries.{OfUsed}
 use Rattle.ft_keyed.proofs.Copied.{all_of_used, none_there, used_reply}

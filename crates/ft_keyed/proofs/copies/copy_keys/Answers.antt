@@ -5,7 +5,7 @@ use Rattle.std.proofs.lemmas.List.{take_all}
 use Rattle.std.proofs.lemmas.Result.{err_from_is_err_and}
 use Rattle.ft_bank.specs.Passes.{shape_of}
 use Rattle.ft_bank.specs.TableNames.{name_of}
-use Rattle.ft_list.specs.Copies.{AreCopied}
+use Rattle.ft_reads.specs.Copies.{AreCopied}
 use Rattle.ft_keyed.specs.TableEntries.{live_key}
 use Rattle.ft_keyed.proofs.Gathered.{gathered_more, gathered_some}
 use Rattle.ft_keyed.proofs.Paired.{no_entry}

@@ -3,7 +3,7 @@ use Rattle.std.specs.List.{filter_map}
 use Rattle.ft_bank.specs.Passes.{shape_of, IsPassOf}
 use Rattle.ft_bank.specs.PassSections.{stack_of}
 use Rattle.ft_bank.specs.TableNames.{name_of}
-use Rattle.ft_list.specs.Indexes.{Reads}
+use Rattle.ft_reads.specs.Reads.{Reads}
 use Rattle.ft_keyed.specs.TableEntries.{OfUsed, live_key}
 use Rattle.ft_keyed.proofs.copies.copy_keys.Given as goal
 

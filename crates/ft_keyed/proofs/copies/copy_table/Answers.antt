@@ -10,7 +10,7 @@ use Rattle.ft_bank.specs.declared.table.Table.{Table}
 use Rattle.ft_bank.specs.declared.pass.Pass.{Pass}
 use Rattle.ft_bank.specs.Passes.{shape_of}
 use Rattle.ft_bank.specs.TableNames.{name_of}
-use Rattle.ft_list.specs.Indexes.{Reads}
+use Rattle.ft_reads.specs.Reads.{Reads}
 use Rattle.ft_keyed.specs.Items.{reply_of_used, IsAllOf}
 use Rattle.ft_keyed.specs.TableEntries.{OfUsed, live_key, plain_pair}
 use Rattle.ft_keyed.proofs.Copied.{said_copied, said_failed}

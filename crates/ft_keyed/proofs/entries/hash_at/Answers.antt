@@ -3,7 +3,7 @@ use Rattle.ft_trace.specs.Addresses.{class_of, slots}
 use Rattle.ft_trace.specs.Pictures.{entry_field, root_in}
 use Rattle.ft_bank.specs.Passes.{shape_of}
 use Rattle.ft_bank.specs.TableNames.{name_of}
-use Rattle.ft_list.proofs.Indexes.{reads_map}
+use Rattle.ft_reads.proofs.Agreeing.{reads_map}
 use Rattle.ft_keyed.specs.TableEntries.{HashIs, OfUsed}
 use Rattle.ft_keyed.proofs.EntryRows.{word_is}
 use Rattle.ft_keyed.proofs.entries.hash_at.Goals as goal

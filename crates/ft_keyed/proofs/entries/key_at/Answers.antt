@@ -5,7 +5,7 @@ use Rattle.ft_trace.specs.Pictures.{entry_field, root_in}
 use Rattle.ft_bank.specs.Passes.{shape_of}
 use Rattle.ft_bank.specs.TableNames.{name_of}
 use Rattle.ft_bank.proofs.TableAddresses.{class_is}
-use Rattle.ft_list.proofs.Indexes.{reads_map, reads_none, reads_then}
+use Rattle.ft_reads.proofs.Agreeing.{reads_map, reads_none, reads_then}
 use Rattle.ft_keyed.specs.TableEntries.{IsKeyAt}
 use Rattle.ft_keyed.proofs.EntryRows.{key_read, past_key, places_of, within_key}
 use Rattle.ft_keyed.proofs.entries.key_at.Goals as goal

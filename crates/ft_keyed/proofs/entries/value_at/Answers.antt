@@ -7,8 +7,8 @@ use Rattle.ft_trace.specs.Addresses.{class_of, places, slots}
 use Rattle.ft_trace.specs.Pictures.{Picture, entry_field, root_in}
 use Rattle.ft_bank.specs.Passes.{shape_of}
 use Rattle.ft_bank.specs.TableNames.{name_of}
-use Rattle.ft_list.specs.Indexes.{Reads}
-use Rattle.ft_list.proofs.Indexes.{reads_map, reads_then}
+use Rattle.ft_reads.specs.Reads.{Reads}
+use Rattle.ft_reads.proofs.Agreeing.{reads_map, reads_then}
 use Rattle.ft_keyed.specs.TableEntries.{IsKeyAt, IsPlainAt}
 use Rattle.ft_keyed.proofs.EntryRows.{missing_read, value_read, within_pair}
 use Rattle.ft_keyed.proofs.entries.value_at.Goals as goal

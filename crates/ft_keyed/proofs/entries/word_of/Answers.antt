@@ -8,8 +8,8 @@ use Rattle.ft_bank.specs.Passes.{shape_of}
 use Rattle.ft_bank.specs.TableNames.{name_of}
 use Rattle.ft_bank.proofs.TableAddresses.{named}
 use Rattle.ft_search.proofs.Puts.{few_mask, few_places}
-use Rattle.ft_list.specs.Indexes.{Reads}
-use Rattle.ft_list.proofs.Indexes.{reads_table}
+use Rattle.ft_reads.specs.Reads.{Reads}
+use Rattle.ft_reads.proofs.Agreeing.{reads_table}
 use Rattle.ft_search.proofs.WordPlaces.{entry_is}
 use Rattle.ft_keyed.proofs.entries.word_of.Goals as goal
 use Rattle.ft_keyed.proofs.entries.word_of.Goals.{Start, After-mask_of}

@@ -1,7 +1,7 @@
 use Rattle.std.proofs.Common.{◌≡◌, ℕ, ◌^◌, ◌<◌, None, sym, ◌∙◌, refl, subst, arith}
 use Rattle.std.specs.Prelude.{slice_index}
 use Rattle.ft_bank.specs.Passes.{shape_of}
-use Rattle.ft_list.proofs.Indexes.{reads_block, reads_map, reads_then}
+use Rattle.ft_reads.proofs.Agreeing.{reads_block, reads_map, reads_then}
 use Rattle.ft_keyed.specs.FoundKeys.{IsFoundIn, SearchesTable}
 use Rattle.ft_keyed.proofs.Sought.{sought_bare, sought_table}
 use Rattle.ft_keyed.proofs.finding.find_key.Goals as goal

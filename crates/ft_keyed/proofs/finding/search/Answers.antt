@@ -9,7 +9,7 @@ use Rattle.ft_keys.proofs.Shown.{runs-append, loads-append, fits-append, loads-l
 use Rattle.ft_search.specs.Held.{ReadsEntry}
 use Rattle.ft_search.specs.TableWords.{MadeAccess}
 use Rattle.ft_search.proofs.WordPlaces.{mask_is}
-use Rattle.ft_list.proofs.Indexes.{reads_map}
+use Rattle.ft_reads.proofs.Agreeing.{reads_map}
 use Rattle.ft_keyed.specs.FoundKeys.{FindsIn, SearchesTable}
 use Rattle.ft_keyed.proofs.Loaded.{AnswerAll, ran_reads}
 use Rattle.ft_keyed.proofs.finding.search.Goals as goal

@@ -1,5 +1,5 @@
 use Rattle.ft_bank.specs.Passes.{shape_of}
-use Rattle.ft_list.proofs.Windowed.{saw_between}
+use Rattle.ft_reads.proofs.Windowed.{saw_between}
 use Rattle.ft_keyed.specs.Items.{IsAllIn}
 use Rattle.ft_keyed.proofs.items.copy_between.Goals as goal
 

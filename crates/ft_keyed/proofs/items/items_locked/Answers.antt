@@ -10,8 +10,8 @@ use Rattle.ft_bank.specs.Whole.{OnlyLoaded}
 use Rattle.ft_search.specs.MadeCalls.{IsShownBy, MadeAs}
 use Rattle.ft_search.proofs.Calling.{answer_loaded}
 use Rattle.ft_search.proofs.Running.{did_log}
-use Rattle.ft_list.proofs.Indexes.{reads_loaded}
-use Rattle.ft_list.specs.Copies.{IsCopied}
+use Rattle.ft_reads.proofs.Agreeing.{reads_loaded}
+use Rattle.ft_reads.specs.Copies.{IsCopied}
 use Rattle.ft_keyed.specs.Items.{items_call, IsAllIn, IsItemsReply}
 use Rattle.ft_keyed.proofs.Copied.{items_shown, items_taken}
 use Rattle.ft_keyed.proofs.KnownContents.{read_may, read_shows, shown_then}

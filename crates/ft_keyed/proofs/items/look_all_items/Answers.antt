@@ -6,8 +6,8 @@ use Rattle.ft_model.specs.declared.reply.Reply.{Reply}
 use Rattle.ft_trace.specs.ContainerStates.{reply_in}
 use Rattle.ft_bank.specs.Passes.{shape_of, view}
 use Rattle.ft_bank.specs.Reads.{IsShown}
-use Rattle.ft_list.proofs.Windowed.{saw_answered, saw_loaded, saw_shown, saw_some, saw_stopped}
-use Rattle.ft_list.specs.Glances.{IsCopyGlanceOf}
+use Rattle.ft_reads.proofs.Windowed.{saw_answered, saw_loaded, saw_shown, saw_some, saw_stopped}
+use Rattle.ft_reads.specs.Glances.{IsCopyGlanceOf}
 use Rattle.ft_keyed.specs.Items.{items_call, HasEntry, IsAllIn, IsAllOf, IsItemsReply}
 use Rattle.ft_keyed.proofs.Copied.{all_replied, items_plain, not_kept, some_there}
 use Rattle.ft_keyed.proofs.items.look_all_items.Goals as goal

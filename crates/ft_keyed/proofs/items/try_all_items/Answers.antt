@@ -5,8 +5,8 @@ use Rattle.ft_section.specs.declared.answers.Objects.TheVariants.{One}
 use Rattle.ft_section.proofs.TriedSections.{let_gone}
 use Rattle.ft_search.proofs.Calling.{making_may}
 use Rattle.ft_search.proofs.Spending.{kind_keyed}
-use Rattle.ft_list.specs.Copies.{IsCopied}
-use Rattle.ft_list.proofs.ListMidst.{making_copied}
+use Rattle.ft_reads.specs.Copies.{IsCopied}
+use Rattle.ft_reads.proofs.CopyMidst.{making_copied}
 use Rattle.ft_keyed.specs.Items.{items_call}
 use Rattle.ft_keyed.proofs.Copied.{items_sections}
 use Rattle.ft_keyed.proofs.items.try_all_items.Goals as goal
@@ -16,7 +16,7 @@ items_locked-copied-requires-clause-pass c = c.in-Have.ensures.making.inside.0
 
 pub items_locked-copied-requires-clause-may : goal.items_locked-copied-requires-clause-may
 items_locked-copied-requires-clause-may c =
-    making_may c.args.bank.now c.take_for.new.pass (shape_of c.args.bank.now) c.args.c c.in-Have.ensures.making c.in-Have.ensures.making.inside.0.1 c.requires.container (kind_keyed c.args.way (kind_in (shape_of c.args.bank.now).kinds c.args.c) c.requires.kind) c.in-Have.ensures.has.0.0
+    making_may c.args.bank.now c.take_for.new.pass (shape_of c.args.bank.now) c.args.c c.in-Have.ensures.making c.in-Have.ensures.making.inside.0.1 c.requires.container (kind_keyed c.args.way (kind_in (shape_of c.args.bank.now).starts c.args.c) c.requires.kind) c.in-Have.ensures.has.0.0
     (subst (λ (n : ℕ). 0 < n) (sym c.in-Have.ensures.locked.left) c.requires.left)
 
 pub let_go-requires : goal.let_go-requires

@@ -2,7 +2,7 @@ use Rattle.std.specs.Prelude.{◌≡◌, ◌≤◌, length}
 use Rattle.ft_bank.specs.Passes.{shape_of, IsPassOf}
 use Rattle.ft_bank.specs.PassSections.{stack_of}
 use Rattle.ft_bank.specs.TableNames.{name_of}
-use Rattle.ft_list.specs.Indexes.{Reads}
+use Rattle.ft_reads.specs.Reads.{Reads}
 use Rattle.ft_keyed.specs.TableEntries.{OfUsed}
 use Rattle.ft_keyed.specs.Places.{NoneThere}
 use Rattle.ft_keyed.proofs.places.last_place.Given as goal

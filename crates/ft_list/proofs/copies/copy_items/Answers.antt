@@ -1,8 +1,8 @@
 use Rattle.std.proofs.Common.{◌≤◌, ℕ, length, take, drop, ap, ◌∙◌, arith}
 use Rattle.std.proofs.Math.Seq.{take-length}
 use Rattle.ft_bank.specs.Passes.{shape_of}
-use Rattle.ft_list.specs.Copies.{AreCopied}
-use Rattle.ft_list.proofs.Indexes.{reads_block}
+use Rattle.ft_reads.specs.Copies.{AreCopied}
+use Rattle.ft_reads.proofs.Agreeing.{reads_block}
 use Rattle.ft_list.proofs.Scanning.{after_count, copied_same}
 use Rattle.ft_list.proofs.copies.copy_items.Goals as goal
 

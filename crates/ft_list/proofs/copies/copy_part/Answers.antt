@@ -6,7 +6,7 @@ use Rattle.std.proofs.lemmas.List.{length-drop, length-take-le}
 use Rattle.std.proofs.lemmas.Result.{err_from_is_err_and}
 use Rattle.ft_model.specs.declared.data.Value.TheVariants.{Nothing}
 use Rattle.ft_bank.specs.Passes.{shape_of}
-use Rattle.ft_list.specs.Copies.{AreCopied}
+use Rattle.ft_reads.specs.Copies.{AreCopied}
 use Rattle.ft_list.proofs.Scanning.{one_more, so_of_items, nothing_read}
 use Rattle.ft_list.proofs.ValueLists.{part_more, part_none, part_short}
 use Rattle.ft_list.proofs.copies.copy_part.Goals as goal

@@ -1,6 +1,6 @@
 use Rattle.std.proofs.Common.{◌≡◌, ◌≤◌, ◌⊎◌, length, take, drop}
 use Rattle.ft_bank.specs.Passes.{shape_of, IsPassOf}
-use Rattle.ft_list.specs.Indexes.{Reads}
+use Rattle.ft_reads.specs.Reads.{Reads}
 use Rattle.ft_list.specs.Scans.{IsOfItems}
 use Rattle.ft_list.proofs.copies.copy_part.Given as goal
 

@@ -3,8 +3,8 @@ use mir.Syntax.{w64}
 use Rattle.std.proofs.Math.Facts.{to_z-of_z}
 use Rattle.ft_model.specs.Lists.{clamped_in, list_slice}
 use Rattle.ft_bank.specs.Passes.{shape_of}
-use Rattle.ft_list.specs.Copies.{AreCopied}
-use Rattle.ft_list.proofs.Indexes.{reads_block}
+use Rattle.ft_reads.specs.Copies.{AreCopied}
+use Rattle.ft_reads.proofs.Agreeing.{reads_block}
 use Rattle.ft_list.proofs.Scanning.{after_count, copied_same, clamped_low}
 use Rattle.ft_list.proofs.copies.copy_slice.Goals as goal
 

@@ -7,7 +7,7 @@ use Rattle.ft_trace.specs.Addresses.{containers_in}
 use Rattle.ft_bank.specs.Passes.{shape_of, view}
 use Rattle.ft_list.specs.ListItemWrites.{known_items}
 use Rattle.ft_search.specs.MadeCalls.{IsReplyTo}
-use Rattle.ft_list.specs.Copies.{AreCopied, IsCopied}
+use Rattle.ft_reads.specs.Copies.{AreCopied, IsCopied}
 use Rattle.ft_list.proofs.Lists.{content_of}
 use Rattle.ft_list.proofs.Scanning.{items_hold, scan_loaded, scan_log, items_replied, items_plain, takes_memory}
 use Rattle.ft_list.proofs.ListMidst.{read_shown, read_made}

@@ -2,7 +2,7 @@ use Rattle.std.proofs.Common.{◌≡◌}
 use Rattle.ft_model.specs.Lists.{same_items}
 use Rattle.ft_bank.specs.Passes.{shape_of}
 use Rattle.ft_list.specs.Pairs.{AreOfItems}
-use Rattle.ft_list.proofs.Windowed.{saw_both_between}
+use Rattle.ft_reads.proofs.Windowed.{saw_both_between}
 use Rattle.ft_list.proofs.glances.alike_between.Goals as goal
 
 pub returns-clause-saw : goal.returns-clause-saw

@@ -1,7 +1,7 @@
 use Rattle.ft_bank.specs.Passes.{shape_of}
-use Rattle.ft_list.specs.Copies.{AreCopied}
+use Rattle.ft_reads.specs.Copies.{AreCopied}
 use Rattle.ft_list.specs.Scans.{IsOfItems}
-use Rattle.ft_list.proofs.Windowed.{saw_between}
+use Rattle.ft_reads.proofs.Windowed.{saw_between}
 use Rattle.ft_list.proofs.glances.copy_between.Goals as goal
 
 pub returns-clause-saw : goal.returns-clause-saw

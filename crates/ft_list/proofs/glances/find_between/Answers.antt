@@ -2,7 +2,7 @@ use Rattle.std.proofs.Common.{◌≡◌}
 use Rattle.ft_model.specs.Lists.{index_of}
 use Rattle.ft_bank.specs.Passes.{shape_of}
 use Rattle.ft_list.specs.Scans.{IsOfItems}
-use Rattle.ft_list.proofs.Windowed.{saw_between}
+use Rattle.ft_reads.proofs.Windowed.{saw_between}
 use Rattle.ft_list.proofs.glances.find_between.Goals as goal
 
 pub returns-clause-saw : goal.returns-clause-saw

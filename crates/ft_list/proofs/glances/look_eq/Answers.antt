@@ -5,9 +5,10 @@ use Rattle.ft_model.specs.declared.reply.Reply.TheVariants as reply
 use Rattle.ft_model.specs.Lists.{same_items}
 use Rattle.ft_trace.specs.ContainerStates.{state_at}
 use Rattle.ft_bank.specs.Passes.{shape_of, view}
-use Rattle.ft_list.specs.Pairs.{AreOfItems, IsGlanceOfBoth}
+use Rattle.ft_list.specs.Pairs.{AreOfItems}
+use Rattle.ft_reads.specs.Pairs.{IsGlanceOfBoth}
 use Rattle.ft_list.proofs.Both.{eq_plain}
-use Rattle.ft_list.proofs.Windowed.{saw_first_stopped, saw_other_stopped, saw_both_answered, saw_both_shown}
+use Rattle.ft_reads.proofs.Windowed.{saw_first_stopped, saw_other_stopped, saw_both_answered, saw_both_shown}
 use Rattle.ft_list.proofs.glances.look_eq.Goals as goal
 
 pub answer_look-requires-clause-shown : goal.answer_look-requires-clause-shown

@@ -11,7 +11,7 @@ use Rattle.ft_search.specs.Lengths.{IsGlanceOf}
 use Rattle.ft_list.specs.Scans.{IsOfItems}
 use Rattle.ft_list.proofs.Scanning.{has_plain}
 use Rattle.ft_list.proofs.ValueLists.{has_first}
-use Rattle.ft_list.proofs.Windowed.{saw_stopped, saw_answered, saw_shown}
+use Rattle.ft_reads.proofs.Windowed.{saw_stopped, saw_answered, saw_shown}
 use Rattle.ft_list.proofs.glances.look_has.Goals as goal
 
 pub answer_look-requires-clause-shown : goal.answer_look-requires-clause-shown

@@ -7,11 +7,11 @@ use Rattle.ft_model.specs.declared.reply.Reply.TheVariants as reply
 use Rattle.ft_model.specs.Worlds.{list_of}
 use Rattle.ft_trace.specs.ContainerStates.{state_at}
 use Rattle.ft_bank.specs.Passes.{shape_of, view}
-use Rattle.ft_list.specs.Copies.{AreCopied}
-use Rattle.ft_list.specs.Glances.{IsCopyGlanceOf}
+use Rattle.ft_reads.specs.Copies.{AreCopied}
+use Rattle.ft_reads.specs.Glances.{IsCopyGlanceOf}
 use Rattle.ft_list.specs.Scans.{IsOfItems}
 use Rattle.ft_list.proofs.Scanning.{items_plain}
-use Rattle.ft_list.proofs.Windowed.{saw_loaded, saw_some, saw_stopped, saw_answered, saw_shown}
+use Rattle.ft_reads.proofs.Windowed.{saw_loaded, saw_some, saw_stopped, saw_answered, saw_shown}
 use Rattle.ft_list.proofs.glances.look_items.Goals as goal
 
 pub answer_look-requires-clause-shown : goal.answer_look-requires-clause-shown

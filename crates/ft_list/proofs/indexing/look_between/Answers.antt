@@ -36,7 +36,7 @@ answer_look-requires-clause-shown c =
     let own = did_log m.0 a.pass.now c.read_between.new.pass m.2 in
     let shown : IsShown w (call.List o (list.Get z)) (item_reply found) n = get_shown v w o z found n m.0
     (may_ask v w k o n m.0 loaded m.1 own (named_counted k o z found n m.0 m.3) same c.requires.container c.requires.left)
-    own (ap (λ (x : Shape). kind_in x.kinds o) same ∙ c.requires.list) (subst (λ (x : Shape). ShowsNamed x o z found n m.0) (sym same) m.3) in
+    own (ap (λ (x : Shape). kind_in x.starts o) same ∙ c.requires.list) (subst (λ (x : Shape). ShowsNamed x o z found n m.0) (sym same) m.3) in
     subst (λ (r : Reply). IsShown w (call.List o (list.Get z)) r n) (sym c.reply_of.ensures) shown
 
 pub returns-in-Found-clause-looked : goal.returns-in-Found-clause-looked

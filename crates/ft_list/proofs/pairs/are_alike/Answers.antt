@@ -4,8 +4,8 @@ use Rattle.ft_model.specs.declared.data.Value.TheVariants.{Nothing}
 use Rattle.ft_model.specs.Lists.{same_items}
 use Rattle.ft_bank.specs.Passes.{shape_of}
 use Rattle.ft_list.proofs.Both.{AlikeYet, both_counted, both_more, so_of_both}
-use Rattle.ft_list.proofs.Equal.{items_equal, items_differ, differs_not, differs_so}
-use Rattle.ft_list.proofs.Indexes.{reads_block}
+use Rattle.ft_reads.proofs.Equal.{items_equal, items_differ, differs_not, differs_so}
+use Rattle.ft_reads.proofs.Agreeing.{reads_block}
 use Rattle.ft_list.proofs.ValueLists.{alike_more, alike, unlike, unlike_length}
 use Rattle.ft_list.proofs.pairs.are_alike.Goals as goal
 

@@ -1,5 +1,6 @@
 use Rattle.ft_bank.specs.Passes.{shape_of, IsPassOf}
-use Rattle.ft_list.specs.Pairs.{ReadsBoth, AreOfItems}
+use Rattle.ft_list.specs.Pairs.{AreOfItems}
+use Rattle.ft_reads.specs.Pairs.{ReadsBoth}
 use Rattle.ft_list.proofs.Both.{AlikeYet}
 use Rattle.ft_list.proofs.pairs.are_alike.Given as goal
 

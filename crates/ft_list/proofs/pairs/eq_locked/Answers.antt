@@ -6,7 +6,8 @@ use Rattle.ft_model.specs.Lists.{same_items}
 use Rattle.ft_bank.specs.Passes.{shape_of, view}
 use Rattle.ft_search.proofs.Running.{did_log}
 use Rattle.ft_list.specs.Pairs.{AreOfItems}
-use Rattle.ft_list.proofs.Both.{both_loaded, both_hold, eq_replied, eq_plain}
+use Rattle.ft_list.proofs.Both.{both_hold, eq_replied, eq_plain}
+use Rattle.ft_reads.proofs.Both.{both_loaded}
 use Rattle.ft_list.proofs.ListMidst.{read_shown, read_made}
 use Rattle.ft_list.proofs.pairs.eq_locked.Goals as goal
 

@@ -3,7 +3,7 @@ use Rattle.ft_model.specs.declared.call.Call.TheVariants as call
 use Rattle.ft_model.specs.declared.call.ListCall.TheVariants as list
 use Rattle.ft_bank.specs.Passes.{shape_of, view}
 use Rattle.ft_section.specs.declared.answers.Objects.TheVariants.{Two}
-use Rattle.ft_list.proofs.Both.{has_each, are_in}
+use Rattle.ft_reads.proofs.Both.{has_each, are_in}
 use Rattle.ft_search.proofs.Calling.{making_made}
 use Rattle.ft_list.proofs.ListMidst.{may_write}
 use Rattle.ft_section.proofs.TriedSections.{let_gone}

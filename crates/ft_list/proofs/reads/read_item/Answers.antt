@@ -6,7 +6,8 @@ use Rattle.ft_bank.specs.Passes.{shape_of}
 use Rattle.ft_bank.specs.TableNames.{name_of}
 use Rattle.ft_list.specs.Indexes.{IsItemValue, IsItemAt}
 use Rattle.ft_list.proofs.Cares.{table_class}
-use Rattle.ft_list.proofs.Indexes.{reads_map, reads_then, reads_block, item_says, no_items}
+use Rattle.ft_list.proofs.Indexes.{item_says, no_items}
+use Rattle.ft_reads.proofs.Agreeing.{reads_map, reads_then, reads_block}
 use Rattle.ft_list.proofs.LookRounds.{slots_are}
 use Rattle.ft_list.proofs.reads.read_item.Goals as goal
 

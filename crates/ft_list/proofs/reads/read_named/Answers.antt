@@ -7,8 +7,10 @@ use Rattle.ft_model.specs.declared.data.Value.TheVariants as value
 use Rattle.ft_model.specs.Lists.{index_in}
 use Rattle.ft_model.specs.Worlds.{list_of}
 use Rattle.ft_bank.specs.Passes.{shape_of}
-use Rattle.ft_list.specs.Indexes.{Reads, IsItemAt, IsItemNamed}
-use Rattle.ft_list.proofs.Indexes.{reads_map, reads_then, reads_block, named_by}
+use Rattle.ft_list.specs.Indexes.{IsItemAt, IsItemNamed}
+use Rattle.ft_reads.specs.Reads.{Reads}
+use Rattle.ft_list.proofs.Indexes.{named_by}
+use Rattle.ft_reads.proofs.Agreeing.{reads_map, reads_then, reads_block}
 use Rattle.ft_list.proofs.reads.read_named.Goals as goal
 
 pub returns-in-Some-clause-reads : goal.returns-in-Some-clause-reads

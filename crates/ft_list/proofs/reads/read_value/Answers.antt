@@ -11,9 +11,10 @@ use Rattle.ft_bank.specs.Passes.{shape_of, view}
 use Rattle.ft_bank.specs.Series.{DidAll}
 use Rattle.ft_bank.specs.TableNames.{name_of}
 use Rattle.ft_bank.proofs.TableAddresses.{named}
-use Rattle.ft_list.specs.Indexes.{Reads, IsItemValue}
+use Rattle.ft_list.specs.Indexes.{IsItemValue}
+use Rattle.ft_reads.specs.Reads.{Reads}
 use Rattle.ft_list.proofs.Cares.{few_slots, inside}
-use Rattle.ft_list.proofs.Indexes.{reads_map, reads_then, reads_table}
+use Rattle.ft_reads.proofs.Agreeing.{reads_map, reads_then, reads_table}
 use Rattle.ft_list.proofs.reads.read_value.Goals as goal
 
 pub word_at-requires-clause-place : goal.word_at-requires-clause-place

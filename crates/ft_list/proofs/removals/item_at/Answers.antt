@@ -5,7 +5,7 @@ use Rattle.ft_model.specs.declared.data.Value.TheVariants as value
 use Rattle.ft_bank.specs.Passes.{shape_of, view}
 use Rattle.ft_list.specs.Indexes.{IsItemAt}
 use Rattle.ft_list.specs.ListItemWrites.{known_items}
-use Rattle.ft_list.proofs.Indexes.{reads_loaded}
+use Rattle.ft_reads.proofs.Agreeing.{reads_loaded}
 use Rattle.ft_list.proofs.Scanning.{item_held}
 use Rattle.ft_list.proofs.removals.item_at.Goals as goal
 

@@ -5,8 +5,8 @@ use Rattle.ft_model.specs.declared.data.Value.{Value}
 use Rattle.ft_model.specs.declared.data.Value.TheVariants.{Nothing}
 use Rattle.ft_model.specs.Lists.{count_of}
 use Rattle.ft_bank.specs.Passes.{shape_of}
-use Rattle.ft_list.proofs.Equal.{item_is, item_differs}
-use Rattle.ft_list.proofs.Indexes.{reads_block}
+use Rattle.ft_reads.proofs.Equal.{item_is, item_differs}
+use Rattle.ft_reads.proofs.Agreeing.{reads_block}
 use Rattle.ft_list.proofs.Scanning.{EqualYet, counted, one_more, so_of_items}
 use Rattle.ft_list.proofs.ValueLists.{count_yes, count_no}
 use Rattle.ft_list.proofs.scans.count_equal.Goals as goal

@@ -1,6 +1,6 @@
 use Rattle.std.proofs.Common.{◌≤◌}
 use Rattle.ft_bank.specs.Passes.{shape_of, IsPassOf}
-use Rattle.ft_list.specs.Indexes.{Reads}
+use Rattle.ft_reads.specs.Reads.{Reads}
 use Rattle.ft_list.specs.Scans.{IsOfItems}
 use Rattle.ft_list.proofs.Scanning.{EqualYet}
 use Rattle.ft_list.proofs.scans.count_equal.Given as goal

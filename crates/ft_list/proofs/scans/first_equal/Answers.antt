@@ -3,9 +3,9 @@ use Rattle.std.specs.Prelude.{slice_index_or}
 use Rattle.ft_model.specs.declared.data.Value.TheVariants.{Nothing}
 use Rattle.ft_model.specs.Lists.{index_of}
 use Rattle.ft_bank.specs.Passes.{shape_of}
-use Rattle.ft_list.proofs.Indexes.{reads_block}
+use Rattle.ft_reads.proofs.Agreeing.{reads_block}
 use Rattle.ft_list.proofs.Scanning.{NoneYet, counted, one_more, so_of_items}
-use Rattle.ft_list.proofs.Equal.{item_is, item_differs}
+use Rattle.ft_reads.proofs.Equal.{item_is, item_differs}
 use Rattle.ft_list.proofs.ValueLists.{none_more, first_at, first_none}
 use Rattle.ft_list.proofs.scans.first_equal.Goals as goal
 

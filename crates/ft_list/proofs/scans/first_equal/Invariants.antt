@@ -1,5 +1,5 @@
 use Rattle.ft_bank.specs.Passes.{shape_of, IsPassOf}
-use Rattle.ft_list.specs.Indexes.{Reads}
+use Rattle.ft_reads.specs.Reads.{Reads}
 use Rattle.ft_list.specs.Scans.{IsOfItems}
 use Rattle.ft_list.proofs.Scanning.{NoneYet}
 use Rattle.ft_list.proofs.scans.first_equal.Given as goal

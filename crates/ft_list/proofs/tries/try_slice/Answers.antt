@@ -6,8 +6,9 @@ use Rattle.ft_model.specs.declared.call.Call.TheVariants as call
 use Rattle.ft_model.specs.declared.call.ListCall.TheVariants as list
 use Rattle.ft_bank.specs.Passes.{view}
 use Rattle.ft_section.specs.declared.answers.Objects.TheVariants.{One}
-use Rattle.ft_list.specs.Copies.{IsCopied}
-use Rattle.ft_list.proofs.ListMidst.{may_write, making_copied}
+use Rattle.ft_reads.specs.Copies.{IsCopied}
+use Rattle.ft_list.proofs.ListMidst.{may_write}
+use Rattle.ft_reads.proofs.CopyMidst.{making_copied}
 use Rattle.ft_section.proofs.TriedSections.{let_gone}
 use Rattle.ft_list.proofs.tries.try_slice.Goals as goal
 

@@ -13,26 +13,28 @@ use Rattle.ft_list.proofs.Cares.{table_class}
 use Rattle.ft_list.proofs.Lists.{list_content, list_known, list_shut}
 use Rattle.ft_list.proofs.ItemWordsPut.{putting_starts, list_few}
 use Rattle.ft_list.proofs.writes.begin.Goals as goal
+use Rattle.ft_search.proofs.Changing.{no_keys}
 
 pub returns-clause-content : goal.returns-clause-content
 returns-clause-content c =
     let a = c.args in
-    let is_kind : kind_in (view a.pass.now).shape.kinds a.o ≡ kind.List = ap (λ (z : Shape). kind_in z.kinds a.o) c.requires.pass.1 ∙ c.requires.may.kind in
+    let is_kind : kind_in (view a.pass.now).shape.starts a.o ≡ kind.List = ap (λ (z : Shape). kind_in z.starts a.o) c.requires.pass.1 ∙ c.requires.may.kind in
     list_content (view a.pass.now) a.o a.pass.now.possible c.requires.may.locked is_kind
 
 pub returns-clause-table : goal.returns-clause-table
 returns-clause-table c =
     let a = c.args in
     let v = view a.pass.now in
-    let is_kind : kind_in v.shape.kinds a.o ≡ kind.List = ap (λ (z : Shape). kind_in z.kinds a.o) c.requires.pass.1 ∙ c.requires.may.kind in
+    let is_kind : kind_in v.shape.starts a.o ≡ kind.List = ap (λ (z : Shape). kind_in z.starts a.o) c.requires.pass.1 ∙ c.requires.may.kind in
     let content = list_content v a.o a.pass.now.possible c.requires.may.locked is_kind in
     (list_known (shape_of a.bank.now).texts v a.o (name_of a.table) content c.requires.may.stands c.requires.table.root).1
+    (no_keys v a.o a.pass.now.possible c.requires.may.locked)
 
 pub returns-clause-head : goal.returns-clause-head
 returns-clause-head c =
     let a = c.args in
     let v = view a.pass.now in
-    let is_kind : kind_in v.shape.kinds a.o ≡ kind.List = ap (λ (z : Shape). kind_in z.kinds a.o) c.requires.pass.1 ∙ c.requires.may.kind in
+    let is_kind : kind_in v.shape.starts a.o ≡ kind.List = ap (λ (z : Shape). kind_in z.starts a.o) c.requires.pass.1 ∙ c.requires.may.kind in
     let content = list_content v a.o a.pass.now.possible c.requires.may.locked is_kind in
     let words = (list_known (shape_of a.bank.now).texts v a.o (name_of a.table) content c.requires.may.stands c.requires.table.root).0 in
     subst (λ (z : View). IsBlock (held a.o z).block (Some (class_of (name_of a.table))) (length (known_items a.o v)) 0 0) (sym c.start_write.ensures.1) words.head
@@ -42,7 +44,7 @@ returns-clause-putting c first past =
     let a = c.args in
     let v = view a.pass.now in
     let class = class_of (name_of a.table) in
-    let is_kind : kind_in v.shape.kinds a.o ≡ kind.List = ap (λ (z : Shape). kind_in z.kinds a.o) c.requires.pass.1 ∙ c.requires.may.kind in
+    let is_kind : kind_in v.shape.starts a.o ≡ kind.List = ap (λ (z : Shape). kind_in z.starts a.o) c.requires.pass.1 ∙ c.requires.may.kind in
     let low : a.o < containers_in v.shape = subst (λ (z : Shape). a.o < containers_in z) (sym c.requires.pass.1) c.requires.may.container in
     let content = list_content v a.o a.pass.now.possible c.requires.may.locked is_kind in
     let words = (list_known (shape_of a.bank.now).texts v a.o (name_of a.table) content c.requires.may.stands c.requires.table.root).0 in
@@ -54,6 +56,6 @@ pub returns-clause-few : goal.returns-clause-few
 returns-clause-few c =
     let a = c.args in
     let v = view a.pass.now in
-    let is_kind : kind_in v.shape.kinds a.o ≡ kind.List = ap (λ (z : Shape). kind_in z.kinds a.o) c.requires.pass.1 ∙ c.requires.may.kind in
+    let is_kind : kind_in v.shape.starts a.o ≡ kind.List = ap (λ (z : Shape). kind_in z.starts a.o) c.requires.pass.1 ∙ c.requires.may.kind in
     let content = list_content v a.o a.pass.now.possible c.requires.may.locked is_kind in
     list_few (class_of (name_of a.table)) (table_class (shape_of a.bank.now) a.table c.requires.table.table_in) (known_items a.o v) _ (list_known (shape_of a.bank.now).texts v a.o (name_of a.table) content c.requires.may.stands c.requires.table.root).0.table

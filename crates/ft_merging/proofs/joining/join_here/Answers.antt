@@ -23,7 +23,7 @@ use Rattle.ft_merging.proofs.joining.join_here.Goals.{After-start_write}
 shape : (c : After-start_write) → (view c.start_write.new.pass).shape ≡ shape_of c.args.bank.now
 shape c = ap (λ (z : View). z.shape) c.start_write.ensures.1 ∙ c.requires.pass.1
 
-room : (c : After-start_write) → c.args.merge.now.counts.fill + c.args.merge.now.more ≤ rows (kind_in (shape_of c.args.bank.now).kinds c.args.merge.now.o) (class_of (name_of c.args.own))
+room : (c : After-start_write) → c.args.merge.now.counts.fill + c.args.merge.now.more ≤ rows (kind_in (shape_of c.args.bank.now).starts c.args.merge.now.o) (class_of (name_of c.args.own))
 room c =
     let a = c.args in
     here_room c.words_are_of_one_content.ensures.head (record { pairs = c.used_entries_follow_a_dict.ensures.first; elements = c.used_entries_follow_a_set.ensures.first }) (shape_of a.bank.now) a.merge.now.o a.way a.own a.merge.now.t a.merge.now.table a.merge.now.counts a.merge.now.more (view a.pass.now) (view c.start_write.new.pass) c.start_write.result c.requires.pass.1 a.pass.now.possible c.requires.merge.two c.requires.may c.requires.merge.other c.requires.merge.way c.requires.merge.other_way
@@ -33,7 +33,7 @@ pub overflow_add-end : goal.overflow_add-end
 overflow_add-end c =
     let a = c.args in
     let k = shape_of a.bank.now in
-    let few = few_rows k a.own (kind_in k.kinds a.merge.now.o) (a.merge.now.counts.fill + a.merge.now.more) (c.requires.may.keyed.table_in a.own refl) c.requires.may.keyed.keyed (room (goal.at.overflow_add-end c).After-start_write) in
+    let few = few_rows k a.own (kind_in k.starts a.merge.now.o) (a.merge.now.counts.fill + a.merge.now.more) (c.requires.may.keyed.table_in a.own refl) c.requires.may.keyed.keyed (room (goal.at.overflow_add-end c).After-start_write) in
     omega (arith, few)
 
 pub join_table-number-requires-clause-joining : goal.join_table-number-requires-clause-joining

@@ -58,7 +58,7 @@ room c =
     let r = new_room (shape_of a.bank.now) a.way a.merge.now.t a.merge.now.table v (source c) (known a.merge.now.o v) (class_of (name_of a.new)) (kinds c) c.requires.few c.requires.takes in
     omega (arith, n, m, r)
 
-row : (c : After-words_are_of_one_content) → c.args.merge.now.counts.count + c.args.merge.now.more ≤ rows (kind_in (shape_of c.args.bank.now).kinds c.args.merge.now.o) (class_of (name_of c.args.new))
+row : (c : After-words_are_of_one_content) → c.args.merge.now.counts.count + c.args.merge.now.more ≤ rows (kind_in (shape_of c.args.bank.now).starts c.args.merge.now.o) (class_of (name_of c.args.new))
 row c = subst (λ (z : Kind). c.args.merge.now.counts.count + c.args.merge.now.more ≤ rows z (class_of (name_of c.args.new))) (sym c.requires.merge.way) (room c)
 
 pub fill-requires-clause-room : goal.fill-requires-clause-room
@@ -72,7 +72,7 @@ pub overflow_add-end : goal.overflow_add-end
 overflow_add-end c =
     let a = c.args in
     let k = shape_of a.bank.now in
-    let few = few_rows k a.new (kind_in k.kinds a.merge.now.o) (a.merge.now.counts.count + a.merge.now.more) c.requires.may.table_in c.requires.may.keyed.keyed (row (goal.at.overflow_add-end c).After-words_are_of_one_content) in
+    let few = few_rows k a.new (kind_in k.starts a.merge.now.o) (a.merge.now.counts.count + a.merge.now.more) c.requires.may.table_in c.requires.may.keyed.keyed (row (goal.at.overflow_add-end c).After-words_are_of_one_content) in
     omega (arith, few)
 
 -- ---- after it

@@ -22,7 +22,7 @@ same c =
     let e = (known a.merge.now.t v).content in
     let may = subst (λ (z : Option Table). MayAddKey k a.merge.now.o z v) c.in-None.is c.requires.may in
     let kinds = kind_is k v a.merge.now.o c.requires.pass.1 a.pass.now.possible may.keyed.locked ∙ c.requires.merge.way in
-    let table = use_known c.words_are_of_one_content.ensures.head k a.merge.now.o None v a.merge.now.counts may.keyed c.requires.merge.counts in
+    let table = use_known c.words_are_of_one_content.ensures.head k a.merge.now.o None v a.merge.now.counts may.keyed c.requires.merge.counts a.pass.now.possible in
     let none = bare_none d a.way a.merge.now.counts.fill (new_keys d e) kinds ((λ i. keys_take d (sym table i) (new_keys d e)) ∙ c.requires.room) in
     bare_joined d e (known_bare k a.merge.now.o v c.requires.pass.1 a.pass.now.possible may.keyed.keyed may.keyed.locked may.keyed.stands may.keyed.root) none
 

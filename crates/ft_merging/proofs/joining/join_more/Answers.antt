@@ -43,7 +43,7 @@ takes c result wanted =
     let a = c.args in
     let v = view a.pass.now in
     let x = known a.merge.now.o v in
-    let table = use_known c.words_are_of_one_content.ensures.head (shape_of a.bank.now) a.merge.now.o a.old v a.merge.now.counts c.requires.may.keyed c.requires.merge.counts in
+    let table = use_known c.words_are_of_one_content.ensures.head (shape_of a.bank.now) a.merge.now.o a.old v a.merge.now.counts c.requires.may.keyed c.requires.merge.counts a.pass.now.possible in
     (λ i. keys_take x.content (table i) (sym c.requires.merge.more i)) ∙ sym (wanted x.content (kinds c) (sym (count c)))
 
 few : (c : After-words_are_of_one_content) → c.args.merge.now.counts.count + c.args.merge.now.more ≤ most_of (known c.args.merge.now.o (view c.args.pass.now)).content → passes_cap (joined (known c.args.merge.now.o (view c.args.pass.now)).content (known c.args.merge.now.t (view c.args.pass.now)).content) ≡ false

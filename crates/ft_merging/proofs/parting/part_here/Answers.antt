@@ -1,4 +1,4 @@
-use Rattle.std.proofs.Common.{◌≡◌, ◌+◌, ◌≤◌, ℕ, ◌∷◌, false, Some, None, refl, sym, ap, ◌∙◌, subst, arith}
+use Rattle.std.proofs.Common.{◌≡◌, ◌+◌, ◌≤◌, ℕ, ◌∷◌, false, Some, None, refl, sym, ap, ◌∙◌, subst, arith, []}
 use Rattle.ft_model.specs.declared.content.Content.TheVariants as content
 use Rattle.ft_model.specs.declared.reply.Reply.TheVariants as reply
 use Rattle.ft_model.specs.declared.script.Kind.{Kind}
@@ -53,7 +53,7 @@ table_is : (c : After-start_write) → (known c.args.merge.now.o (view c.args.pa
 table_is c =
     let a = c.args in
     let same = class_is a.own (c.requires.may.keyed.table_in a.own refl).2 in
-    use_known c.words_are_of_one_content.ensures.head (shape_of a.bank.now) a.merge.now.o (Some a.own) (view a.pass.now) a.merge.now.counts c.requires.may.keyed c.requires.merge.counts ∙ (λ i. record { class = Some (sym same i); fill = a.merge.now.counts.fill })
+    use_known c.words_are_of_one_content.ensures.head (shape_of a.bank.now) a.merge.now.o (Some a.own) (view a.pass.now) a.merge.now.counts c.requires.may.keyed c.requires.merge.counts a.pass.now.possible ∙ (λ i. record { class = Some (sym same i); fill = a.merge.now.counts.fill; keys = [] })
 
 none : (c : After-start_write) → join_takes (known c.args.merge.now.o (view c.args.pass.now)) (known c.args.merge.now.t (view c.args.pass.now)).content ≡ None
 none c =
@@ -74,7 +74,7 @@ room c =
     let v = view a.pass.now in
     let d = (known a.merge.now.o v).content in
     let same = class_is a.own (c.requires.may.keyed.table_in a.own refl).2 in
-    let uses = use_known c.words_are_of_one_content.ensures.head (shape_of a.bank.now) a.merge.now.o (Some a.own) v a.merge.now.counts c.requires.may.keyed c.requires.merge.counts in
+    let uses = use_known c.words_are_of_one_content.ensures.head (shape_of a.bank.now) a.merge.now.o (Some a.own) v a.merge.now.counts c.requires.may.keyed c.requires.merge.counts a.pass.now.possible in
     subst (λ (n : ℕ). a.merge.now.counts.fill + a.merge.now.more ≤ rows kind.Set n) (sym same)
     (keys_room d way.Set a.own a.merge.now.counts.fill a.merge.now.more (kind_is (shape_of a.bank.now) v a.merge.now.o c.requires.pass.1 a.pass.now.possible c.requires.may.keyed.locked ∙ c.requires.merge.way) (subst (λ (n : ℕ). a.merge.now.counts.fill ≤ rows kind.Set n) same (low c))
     ((λ i. keys_take d (sym uses i) (c.requires.merge.more i)) ∙ none c))

@@ -1,4 +1,4 @@
-use Rattle.std.proofs.Common.{◌≡◌, ◌<◌, ◌≤◌, ◌+◌, ℕ, false, Option, Some, None, refl, sym, ap, ◌∙◌, subst, arith}
+use Rattle.std.proofs.Common.{◌≡◌, ◌<◌, ◌≤◌, ◌+◌, ℕ, false, Option, Some, None, refl, sym, ap, ◌∙◌, subst, arith, []}
 use Rattle.std.specs.Prelude.{pos, slice_index_or}
 use Rattle.ft_model.specs.declared.content.Content.{Content}
 use Rattle.ft_model.specs.declared.data.Key.{Key}
@@ -160,7 +160,7 @@ came c key found is =
     let k = shape_of a.bank.now in
     let j = c.requires.joining in
     let same = loaded_held (view a.pass.now) (view c.pair_at.new.pass) a.o c.pair_at.ensures.only in
-    let mid : ContainerState = record { content = j.mid; table = record { class = Some (class_of (name_of a.own)); fill = a.counts.fill } } in
+    let mid : ContainerState = record { content = j.mid; table = record { class = Some (class_of (name_of a.own)); fill = a.counts.fill; keys = [] } } in
     subst (λ (x : Picture). IsSought k a.way a.own key x j.mid found) same (is mid j.same_kind (subst (λ (x : Picture). Stands k.texts x mid) (sym same) j.midway.stands))
 
 pub returns-in-Bare-clause-only : goal.returns-in-Bare-clause-only
@@ -220,7 +220,7 @@ put_stored-requires-clause-may c =
     let p = there d.In-Some in
     let f = came d.After-seek_in c.in-Some.pair.key (spot.At c.in-At.field-0 c.in-At.at c.in-At.kind c.in-At.payload) c.in-At.ensures.spot in
     let u = view c.seek_in.new.pass in
-    subst (λ (x : Picture). MayPuts (kind_in k.kinds a.o) (name_of a.own) (known a.o u).content false x (stored_puts (slots (class_of (name_of a.own))) x.table c.in-At.at c.in-Some.pair.value)) (sym (held_on d.After-seek_in))
+    subst (λ (x : Picture). MayPuts (kind_in k.starts a.o) (name_of a.own) (known a.o u).content false x (stored_puts (slots (class_of (name_of a.own))) x.table c.in-At.at c.in-Some.pair.value)) (sym (held_on d.After-seek_in))
     (joining_may k a.o a.way a.own a.t a.table (done d.After-words_follow_a_set) a.end a.place a.counts (view a.pass.now) c.requires.joining c.requires.place any c.in-Some.pair.key c.in-Some.pair.value p.1 p.0 (value_laws d.After-words_follow_a_set) p.3 p.4 c.in-At.at f.0 f.1 (known a.o u).content)
 
 pub returns-in-At-clause-only : goal.returns-in-At-clause-only
@@ -281,7 +281,7 @@ put_key-requires-clause-unused c =
     let n = slots (class_of (name_of a.own)) in
     let ok = stores k a.o a.way a.own a.t a.table (done d) a.end a.place a.counts v j c.requires.place any c.in-Some.pair.key c.in-Some.pair.value p.1 p.0 in
     let room = new_room k a.o a.way a.own a.t a.table (done d) a.end a.place a.counts v j c.requires.place any c.in-Some.pair.key c.in-Some.pair.value p.1 p.0 f.1 in
-    subst (λ (x : Picture). IsUnused n (rows (kind_in k.kinds a.o) (class_of (name_of a.own))) x.table c.in-Free.slot a.counts.fill) (sym (held_on at.After-seek_in))
+    subst (λ (x : Picture). IsUnused n (rows (kind_in k.starts a.o) (class_of (name_of a.own))) x.table c.in-Free.slot a.counts.fill) (sym (held_on at.After-seek_in))
     (unused_here (laws d) k a.o a.way a.own j.mid a.counts v j.midway j.same_kind j.kind_is j.count_is j.alive c.in-Free.slot c.in-Some.pair.key c.in-Some.pair.value p.3 c.seek_in.ensures.low ok p.4 f.1 f.0 (subst (λ (z : Kind). a.counts.fill < rows z (class_of (name_of a.own))) j.kind_is room))
 
 pub put_key-requires-clause-value : goal.put_key-requires-clause-value

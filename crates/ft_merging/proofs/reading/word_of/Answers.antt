@@ -15,7 +15,7 @@ use Rattle.ft_merging.proofs.reading.word_of.Goals as goal
 use Rattle.ft_merging.proofs.reading.word_of.Goals.{Start, After-mask_of}
 
 few : (c : Start) → c.args.place < 65536
-few c = few_places (shape_of c.args.bank.now) c.args.table (kind_in (shape_of c.args.bank.now).kinds c.args.o) c.args.place c.requires.table c.requires.keyed c.requires.place
+few c = few_places (shape_of c.args.bank.now) c.args.table (kind_in (shape_of c.args.bank.now).starts c.args.o) c.args.place c.requires.table c.requires.keyed c.requires.place
 
 small : (c : After-mask_of) → c.mask_of.result < 65536
 small c = subst (λ (n : ℕ). n < 65536) (sym c.mask_of.ensures) (few_mask (shape_of c.args.bank.now) c.args.table c.requires.table)
@@ -24,7 +24,7 @@ lies : (c : After-mask_of) → 8 * c.args.place + c.args.word + c.mask_of.result
 lies c = entry_is (shape_of c.args.bank.now) c.args.table c.mask_of.result c.args.place c.args.word c.requires.table c.mask_of.ensures
 
 inside : (c : After-mask_of) → 8 * c.args.place + c.args.word + c.mask_of.result + 1 < size (class_of (name_of c.args.table))
-inside c = subst (λ (i : ℕ). i < size (class_of (name_of c.args.table))) (sym (lies c)) (keyed_low (kind_in (shape_of c.args.bank.now).kinds c.args.o) c.requires.keyed (class_of (name_of c.args.table)) c.args.place c.args.word c.requires.place c.requires.word)
+inside c = subst (λ (i : ℕ). i < size (class_of (name_of c.args.table))) (sym (lies c)) (keyed_low (kind_in (shape_of c.args.bank.now).starts c.args.o) c.requires.keyed (class_of (name_of c.args.table)) c.args.place c.args.word c.requires.place c.requires.word)
 
 pub overflow_mul-at : goal.overflow_mul-at
 overflow_mul-at c = let f = few (goal.at.overflow_mul-at c).Start in omega (arith, f)

@@ -20,10 +20,10 @@ use Rattle.ft_search.proofs.Spotting.{may_loaded}
 use Rattle.ft_merging.proofs.Thinned.{hash_is, was_there}
 use Rattle.ft_merging.proofs.thinning.goes_at.Goals.{Start, After-word_of-hash}
 
-keyed : (c : Start) → IsKeyed (kind_in (shape_of c.args.bank.now).kinds c.args.s)
+keyed : (c : Start) → IsKeyed (kind_in (shape_of c.args.bank.now).starts c.args.s)
 keyed c = subst IsKeyed (sym c.requires.set) tt
 
-row : (c : Start) → c.args.place < rows (kind_in (shape_of c.args.bank.now).kinds c.args.s) (class_of (name_of c.args.table))
+row : (c : Start) → c.args.place < rows (kind_in (shape_of c.args.bank.now).starts c.args.s) (class_of (name_of c.args.table))
 row c = subst (λ (z : Kind). c.args.place < rows z (class_of (name_of c.args.table))) (sym c.requires.set) c.requires.place
 
 pub key_at-requires-clause-container : goal.key_at-requires-clause-container

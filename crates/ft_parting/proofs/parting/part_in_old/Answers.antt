@@ -46,7 +46,7 @@ part_thin-requires-clause-none c =
     let e = (known a.merge.now.t v).content in
     let may = subst (λ (z : Option Table). MayAddKey k a.merge.now.o z v) c.in-None.is c.requires.may in
     let kinds = kind_is k v a.merge.now.o c.requires.pass.1 a.pass.now.possible may.keyed.locked ∙ c.requires.merge.way in
-    let table = use_known c.words_are_of_one_content.ensures.head k a.merge.now.o None v a.merge.now.counts may.keyed c.requires.merge.counts in
+    let table = use_known c.words_are_of_one_content.ensures.head k a.merge.now.o None v a.merge.now.counts may.keyed c.requires.merge.counts a.pass.now.possible in
     let joins = join_stays (known a.merge.now.o v) e (set_of d) (is_set k v a.merge.now.o c.requires.pass.1 a.pass.now.possible may.keyed.locked c.requires.merge.way) c.requires.room in
     bare_none d way.Set a.merge.now.counts.fill (new_keys d e) kinds ((λ i. keys_take d (sym table i) (new_keys d e)) ∙ joins)
 

@@ -43,7 +43,7 @@ takes c =
     let a = c.args in
     let v = view a.pass.now in
     let d = (known a.merge.now.o v).content in
-    let table = use_known c.words_are_of_one_content.ensures.head (shape_of a.bank.now) a.merge.now.o a.old v a.merge.now.counts c.requires.may.keyed c.requires.merge.counts in
+    let table = use_known c.words_are_of_one_content.ensures.head (shape_of a.bank.now) a.merge.now.o a.old v a.merge.now.counts c.requires.may.keyed c.requires.merge.counts a.pass.now.possible in
     let drawn = part_draws d (known a.merge.now.t v).content (set_of d) (is_first c) ∙ sym c.requires.merge.more in
     let all = many c ∙ ap (λ (n : ℕ). n + a.merge.now.more) c.requires.stay in
     λ i. if outgrows_set (table i) (drawn i) then Some (set_class (all i)) else None

@@ -69,7 +69,7 @@ put_deleted-requires-clause-may c =
     let v = view a.pass.now in
     let kind_eq = kind_is k v a.o c.requires.pass.1 a.pass.now.possible c.requires.may.locked in
     let puts = (change (goal.at.put_deleted-requires-clause-may c).After-start_write).0.puts in
-    subst (λ (z : View). MayPuts (kind_in k.kinds a.o) (name_of a.table) (known a.o z).content false (held a.o z) (deletion (name_of a.table) a.place a.key (held a.o z))) (sym c.start_write.ensures.1)
+    subst (λ (z : View). MayPuts (kind_in k.starts a.o) (name_of a.table) (known a.o z).content false (held a.o z) (deletion (name_of a.table) a.place a.key (held a.o z))) (sym c.start_write.ensures.1)
     (subst (λ (z : Kind). MayPuts z (name_of a.table) (known a.o v).content false (held a.o v) (deletion (name_of a.table) a.place a.key (held a.o v))) kind_eq puts)
 
 pub finish_entry-requires-clause-place : goal.finish_entry-requires-clause-place

@@ -15,13 +15,13 @@ pub word_at-at-requires-clause-mask : goal.word_at-at-requires-clause-mask
 word_at-at-requires-clause-mask c = subst (λ (n : ℕ). n < 65536) (sym c.mask_of.ensures) (few_mask (shape_of c.args.bank.now) c.args.table c.requires.writes.table_in)
 
 pub word_at-at-requires-clause-place : goal.word_at-at-requires-clause-place
-word_at-at-requires-clause-place c = few_places (shape_of c.args.bank.now) c.args.table (kind_in (shape_of c.args.bank.now).kinds c.args.o) c.args.place c.requires.writes.table_in c.requires.writes.keyed c.requires.place
+word_at-at-requires-clause-place c = few_places (shape_of c.args.bank.now) c.args.table (kind_in (shape_of c.args.bank.now).starts c.args.o) c.args.place c.requires.writes.table_in c.requires.writes.keyed c.requires.place
 
 pub put_table-requires-clause-word : goal.put_table-requires-clause-word
 put_table-requires-clause-word c =
     let a = c.args in
     let e : c.word_at-at.result ≡ entry_offset (slots (class_of (name_of a.table))) a.place a.word = c.word_at-at.ensures ∙ entry_is (shape_of a.bank.now) a.table c.mask_of.result a.place a.word c.requires.writes.table_in c.mask_of.ensures in
-    subst (λ (n : ℕ). n < size (class_of (name_of a.table))) (sym e) (keyed_low (kind_in (shape_of a.bank.now).kinds a.o) c.requires.writes.keyed (class_of (name_of a.table)) a.place a.word c.requires.place c.requires.word)
+    subst (λ (n : ℕ). n < size (class_of (name_of a.table))) (sym e) (keyed_low (kind_in (shape_of a.bank.now).starts a.o) c.requires.writes.keyed (class_of (name_of a.table)) a.place a.word c.requires.place c.requires.word)
 
 pub put_table-requires-clause-care : goal.put_table-requires-clause-care
 put_table-requires-clause-care c =

@@ -50,7 +50,7 @@ returns-in-None-clause-held c =
     let v = view c.args.pass.now in
     let o = c.args.o in
     let none = c.in-None.ensures.none in
-    let kind_is = ap (λ (k : Shape). kind_in k.kinds o) c.requires.pass.1 ∙ c.requires.way in
+    let kind_is = ap (λ (k : Shape). kind_in k.starts o) c.requires.pass.1 ∙ c.requires.way in
     bare_held c.used_entries_follow_a_dict.ensures.missing c.used_entries_follow_a_set.ensures.missing (shape_of c.args.bank.now).texts (held o v) (known o v) c.requires.stands c.args.key
     c.args.way (of_way c.args.way v o c.args.pass.now.possible c.requires.locked kind_is) (sym (c.read_block-root.ensures.held c.requires.locked) ∙ none)
 
@@ -63,7 +63,7 @@ returns-in-Some-clause-held c =
     let key = c.args.key in
     let table = c.in-Some.table in
     let in_bank = c.in-Some.ensures.in_bank in
-    let kind_is = ap (λ (z : Shape). kind_in z.kinds o) c.requires.pass.1 ∙ c.requires.way in
+    let kind_is = ap (λ (z : Shape). kind_in z.starts o) c.requires.pass.1 ∙ c.requires.way in
     let names : root_in (held o v) ≡ suc (name_of table) = sym (c.read_block-root.ensures.held c.requires.locked) ∙ c.in-Some.ensures.named in
     let same : held o w ≡ held o v = ap (held o) c.read_block-root.ensures.did.1 in
     let found = c.read_in.result.0 in

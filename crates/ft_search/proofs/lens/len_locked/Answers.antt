@@ -24,7 +24,7 @@ answer_held-requires-clause-shown c n =
     let count = c.read_block-count.result in
     let loaded = loaded_by (ReadBlock o 1 count) v u tt c.read_block-count.ensures.did.1 in
     let low = subst (λ (z : Shape). o < containers_in z) (sym c.requires.pass.1) c.requires.container in
-    let is = c.requires.call ∙ ap (λ (z : Shape). len_of (kind_in z.kinds o) o) (sym c.requires.pass.1) in
+    let is = c.requires.call ∙ ap (λ (z : Shape). len_of (kind_in z.starts o) o) (sym c.requires.pass.1) in
     let counts : count ≡ length_of (known o v).content = c.read_block-count.ensures.held c.requires.locked ∙ count_is k.texts (held o v) (known o v) c.requires.stands in
     len_held v u c.args.call.now o count n loaded c.requires.left low c.requires.locked is counts
 

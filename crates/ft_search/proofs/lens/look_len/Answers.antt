@@ -22,7 +22,7 @@ answer_look-requires-clause-shown c =
     let same = c.look_count.ensures.pass.1 in
     let loaded : OnlyLoaded v w = subst (OnlyLoaded v) (sym m.2.1) (looks_load m.0 v m.1) in
     let own = did_log m.0 c.args.pass.now c.look_count.new.pass m.2 in
-    let is : c.args.call.now ≡ len_of (kind_in w.shape.kinds o) o = c.requires.call ∙ ap (λ (k : Shape). len_of (kind_in k.kinds o) o) (sym same) in
+    let is : c.args.call.now ≡ len_of (kind_in w.shape.starts o) o = c.requires.call ∙ ap (λ (k : Shape). len_of (kind_in k.starts o) o) (sym same) in
     len_shown v w c.args.call.now o count n m.0
     (may_ask v w (shape_of c.args.bank.now) o n m.0 loaded m.1 own (count_counted o count n m.0 m.3) same c.requires.container c.requires.left)
     own is m.3

@@ -30,7 +30,7 @@ pub let_go-requires : goal.let_go-requires
 let_go-requires c =
     let r = c.len_locked-reply.result in
     let e = c.len_locked-reply.ensures in
-    let kind = kind_in (shape_of c.args.bank.now).kinds c.args.o in
+    let kind = kind_in (shape_of c.args.bank.now).starts c.args.o in
     let leaves : LeavesSections c.args.call.now = subst (λ (z : Call). LeavesSections z) (sym c.requires.call) (len_sections kind c.args.o) in
     making_read c.args.bank.now c.take_for.new.pass c.len_locked-reply.new.pass c.args.call.now r.0 r.1.number leaves c.in-Have.ensures.making e.pass
     e.sections e.answered

@@ -45,7 +45,7 @@ met c found loads slot place kind s3 result named is same turns part w =
     let s0 = c.args.words.now in
     let s2 = c.seek.new.self in
     let key = c.args.key in
-    let few : rows (kind_in (shape_of s0.bank.now).kinds s0.o) (class_of (name_of s0.table)) ≤ dict_room s0.mask = omega (arith, c.requires.entries, c.requires.room) in
+    let few : rows (kind_in (shape_of s0.bank.now).starts s0.o) (class_of (name_of s0.table)) ≤ dict_room s0.mask = omega (arith, c.requires.entries, c.requires.room) in
     after_met s0 s2 key c.stamp-number.result c.args.walk.now.left c.seek.new.walk.left found (searched c found loads) part slot place kind s3 result named few is w
     (at_same
     (λ k o t. (slot : ℕ) (earlier : List Act) (left : List ℕ) → Walked k o t key (met_acts t slot place key kind earlier) (slot ∷ left) → TurnsAfter k o t key (met_acts t slot place key kind earlier) left result s2.pass.now s3.pass.now)
@@ -66,7 +66,7 @@ returns-then-count-passed-clause-turns c part w =
     let first = c.args.walk.now.left in
     let left = c.seek.new.walk.left in
     let s = searched (goal.at.returns-then-count-passed-clause-turns c).After-seek (Free c.in-Free.field-0) c.in-Free.ensures.loads in
-    let few : rows (kind_in (shape_of s0.bank.now).kinds s0.o) (class_of (name_of s0.table)) ≤ dict_room s0.mask = omega (arith, c.requires.entries, c.requires.room) in
+    let few : rows (kind_in (shape_of s0.bank.now).starts s0.o) (class_of (name_of s0.table)) ≤ dict_room s0.mask = omega (arith, c.requires.entries, c.requires.room) in
     (own s0 s2 c.args.key c.stamp-number.result first left (Free c.in-Free.field-0) s part, s.inner, s.did, on s0 s2 c.args.key c.stamp-number.result first left (Free c.in-Free.field-0) s part few w)
 
 pub returns-in-At-clause-turns : goal.returns-in-At-clause-turns
@@ -102,7 +102,7 @@ returns-in-Spent-clause-turns c part w =
     let first = c.args.walk.now.left in
     let left = c.seek.new.walk.left in
     let s = searched (goal.at.returns-in-Spent-clause-turns c).After-seek Spent c.in-Spent.ensures.loads in
-    let few : rows (kind_in (shape_of s0.bank.now).kinds s0.o) (class_of (name_of s0.table)) ≤ dict_room s0.mask = omega (arith, c.requires.entries, c.requires.room) in
+    let few : rows (kind_in (shape_of s0.bank.now).starts s0.o) (class_of (name_of s0.table)) ≤ dict_room s0.mask = omega (arith, c.requires.entries, c.requires.room) in
     spent_at s0 s2 s3 c.args.key c.stamp-number.result c.stamp-number-in-Spent.result first left s part few c.stamp-number-in-Spent.ensures.did w
 
 pub returns-then-count-passed-clause-spends : goal.returns-then-count-passed-clause-spends

@@ -62,7 +62,7 @@ returns-in-Some-clause-spot c =
     let key = c.args.key in
     let table = c.in-Some.table in
     let in_bank = c.in-Some.ensures.in_bank in
-    let kind_is = ap (λ (z : Shape). kind_in z.kinds o) c.requires.pass.1 ∙ c.requires.way in
+    let kind_is = ap (λ (z : Shape). kind_in z.starts o) c.requires.pass.1 ∙ c.requires.way in
     let names : root_in (held o v) ≡ suc (name_of table) = sym (c.read_block-root.ensures.held c.requires.may.locked) ∙ c.in-Some.ensures.named in
     let same : held o w ≡ held o v = ap (held o) c.read_block-root.ensures.did.1 in
     let found = c.read_by-found.result.0 in
@@ -96,7 +96,7 @@ returns-in-None-clause-spot c =
     let o = c.args.o in
     let k = shape_of c.args.bank.now in
     let none = c.in-None.ensures.none in
-    let kind_is = ap (λ (z : Shape). kind_in z.kinds o) c.requires.pass.1 ∙ c.requires.way in
+    let kind_is = ap (λ (z : Shape). kind_in z.starts o) c.requires.pass.1 ∙ c.requires.way in
     let root : root_in (held o v) ≡ 0 = sym (c.read_block-root.ensures.held c.requires.may.locked) ∙ none in
     let held_none = bare_held c.used_entries_follow_a_dict.ensures.missing c.used_entries_follow_a_set.ensures.missing k.texts (held o v) (known o v) c.requires.may.stands c.args.key c.args.way (of_way c.args.way v o c.args.pass.now.possible c.requires.may.locked kind_is) root in
     spot_loaded k o v (view c.read_block-root.new.pass) (bare_only (goal.at.returns-in-None-clause-spot c).In-None) c.args.way c.args.key spot.Bare (root, held_none)

@@ -62,7 +62,7 @@ put_value-requires-clause-may c =
     let v = view a.pass.now in
     let kind_eq = kind_is k v a.d c.requires.pass.1 a.pass.now.possible c.requires.may.locked in
     let puts = (change (goal.at.put_value-requires-clause-may c).After-start_write).puts in
-    subst (λ (z : View). MayPuts (kind_in k.kinds a.d) (name_of a.table) (known a.d z).content false (held a.d z) (value_puts (slots (class_of (name_of a.table))) (held a.d z).table a.place a.value)) (sym c.start_write.ensures.1)
+    subst (λ (z : View). MayPuts (kind_in k.starts a.d) (name_of a.table) (known a.d z).content false (held a.d z) (value_puts (slots (class_of (name_of a.table))) (held a.d z).table a.place a.value)) (sym c.start_write.ensures.1)
     (subst (λ (z : Kind). MayPuts z (name_of a.table) (known a.d v).content false (held a.d v) (value_puts (slots (class_of (name_of a.table))) (held a.d v).table a.place a.value)) kind_eq puts)
 
 pub finish_entry-requires-clause-place : goal.finish_entry-requires-clause-place

@@ -20,6 +20,6 @@ returns-clause-numbered c script of =
     (λ x. (x.0, x.1, λ made. c.marks_are_right.ensures script x.0 (lists_in closed) kept (had_in closed) (found_in closed) are first c.owners_are_known.ensures of.cursors x.1 made))
 
 pub returns-clause-legal : goal.returns-clause-legal
-returns-clause-legal c script of made =
+returns-clause-legal c script rule of made =
     ∥∥₁_map (returns-clause-numbered c script of)
-    (λ x. (x.0, c.in_ok-history.ensures.legal storage.Tables script x.0 x.1 (x.2 made)))
+    (λ x. (x.0, c.in_ok-history.ensures.legal storage.Tables script x.0 rule x.1 (x.2 made)))

@@ -11,7 +11,7 @@ use Rattle.ft_trace.specs.declared.Shape.{Shape}
 use Rattle.ft_trace.specs.declared.View.{View}
 use Rattle.ft_trace.specs.Acts.{noted, shown}
 use Rattle.ft_trace.specs.Addresses.{containers_in}
-use Rattle.ft_trace.specs.LoggedReads.{Agrees, Among, Between, LookedAtOne, LookedAtBoth}
+use Rattle.ft_trace.specs.LoggedReads.{Among, Between, LookedAtOne, LookedAtBoth}
 use Rattle.ft_trace.specs.Traces.{Possible}
 use Rattle.ft_trace.specs.Pictures.{Picture, Stands}
 use Rattle.ft_trace.specs.ContainerStates.{kind_in, state_at, reply_in}
@@ -28,11 +28,11 @@ use Rattle.ft_search.proofs.Asking.{may_ask, answered_after}
 use Rattle.ft_search.proofs.Lengths.{IsPlain, between_own}
 use Rattle.ft_search.proofs.Rounding.{looks_append, looks_load}
 use Rattle.ft_search.proofs.Running.{did_log, did_trans}
-use Rattle.ft_list.specs.Indexes.{Reads}
-use Rattle.ft_list.specs.Pairs.{ReadsBoth}
-use Rattle.ft_list.proofs.Indexes.{agrees_newer, agrees_older}
-use Rattle.ft_list.specs.declared.glances.Window.{Window}
-use Rattle.ft_list.specs.Glances.{HasMoved, WasStill, LoadedSome, Saw, SawBoth}
+use Rattle.ft_reads.specs.Reads.{Reads}
+use Rattle.ft_reads.specs.Pairs.{ReadsBoth}
+use Rattle.ft_reads.proofs.Agreeing.{agrees_newer, agrees_older}
+use Rattle.ft_reads.specs.declared.window.Window.{Window}
+use Rattle.ft_reads.specs.Glances.{HasMoved, WasStill, LoadedSome, Saw, SawBoth}
 
 -- ---- the loads, one after the other
 
@@ -99,7 +99,7 @@ module _ (k : Shape) (o : ℕ) (shows : Picture → Type 0) (w : Window) (p q : 
   pub saw_answered : (called : Call) (said : Reply) (z : View) → z ≡ noted (Answer called said w.number) (view q) → (view p).learnt ≤ shown (view p).log → ∥ Possible z ∥₁ → Answered called said w.number (view p) z
   saw_answered called said z did settled possible = answered_after (view p) (view q) z called said w.number acts saw_loaded own counted did settled possible
 
-  module _ (called : Call) (said : Reply) (plain : IsPlain called said) (other : said ≢ reply.Kept) (replied : (x : Picture) (stored : StoredWorld) → kind_of (state_at stored o).content ≡ kind_in k.kinds o → Stands k.texts x (state_at stored o) → shows x → reply_in stored called ≡ said) where
+  module _ (called : Call) (said : Reply) (plain : IsPlain called said) (other : said ≢ reply.Kept) (replied : (x : Picture) (stored : StoredWorld) → kind_of (state_at stored o).content ≡ kind_in k.starts o → Stands k.texts x (state_at stored o) → shows x → reply_in stored called ≡ said) where
     looked : WasStill w → LookedAtOne k called o said w.number (view q).log
     looked still = record {
       mid = ReadCounter w.number ∷ part;
@@ -176,7 +176,7 @@ module _ (k : Shape) (o m : ℕ) (shows : Picture → Picture → Type 0) (w u :
   )
 
   module _ (called : Call) (said : Reply) (plain : IsPlain called said) (other : said ≢ reply.Kept)
-      (replied : (x y : Picture) (stored : StoredWorld) → kind_of (state_at stored o).content ≡ kind_in k.kinds o → kind_of (state_at stored m).content ≡ kind_in k.kinds m → Stands k.texts x (state_at stored o) → Stands k.texts y (state_at stored m) → shows x y → reply_in stored called ≡ said) where
+      (replied : (x y : Picture) (stored : StoredWorld) → kind_of (state_at stored o).content ≡ kind_in k.starts o → kind_of (state_at stored m).content ≡ kind_in k.starts m → Stands k.texts x (state_at stored o) → Stands k.texts y (state_at stored m) → shows x y → reply_in stored called ≡ said) where
     looked_at_both : WasStill w → WasStill u → LookedAtBoth k called o m said w.number (view q).log
     looked_at_both still calm =
         let between = both_between still calm in

@@ -1,0 +1,63 @@
+//! A call that is made until it is done.
+ghost use Rattle.std.specs.Prelude.{◌≡◌};
+ghost use Rattle.ft_engine.specs.Callers.{thread_of};
+ghost use Rattle.ft_facade.specs.Kept.{IsIdleAfter, IsNotAgain, IsRefusedOnly, KeepsEntries};
+ghost use Rattle.ft_facade.specs.Sessions.{IsOnlineCaller};
+
+use crate::session::Session;
+use crate::stepping::{Stepped, give_up};
+use ft_engine::{Called, Caller, Engine};
+use ft_model::Call;
+use std::alloc::Global;
+use std::sync::Wait;
+
+/// A call of a caller that is online, until it is done.
+fn call<R: Wait>(
+    rt: &R,
+    engine: &Engine,
+    alloc: Global,
+    caller: &mut Caller,
+    call: &Call,
+) -> Stepped
+    requires { IsOnlineCaller engine.now caller.old }
+    ensures caller { IsOnlineCaller engine.now caller.new }
+    ensures kept { KeepsEntries call.now result caller.old caller.new }
+    ensures refused { IsRefusedOnly engine.now call.now result caller.old caller.new }
+    ensures idle { IsIdleAfter result caller.new }
+    ensures over { IsNotAgain result }
+    ensures thread { thread_of caller.new ≡ thread_of caller.old }
+{
+    if let Some(cause) = engine.refusal(caller, call) {
+        return Stepped::Refused(cause);
+    }
+    match engine.call(rt, alloc, caller, call) {
+        Called::Done(reply, stamp, mark) => Stepped::Done(reply, stamp, mark),
+        Called::NoMemory => {
+            give_up(engine, caller);
+            Stepped::NoMemory
+        }
+    }
+}
+
+impl Session {
+    ghost use Rattle.std.specs.Arc.{arc_value};
+    ghost use Rattle.ft_facade.specs.Sessions.{IsSession, with_caller};
+
+    /// Makes a call until it is done: it never answers `Again`. It may wait for other threads, and nothing says that it
+    /// returns. The rest is as `step` says.
+    pub fn call<R: Wait>(&mut self, rt: &R, alloc: Global, made: &Call) -> Stepped
+        requires { IsSession self.old }
+        ensures session { IsSession self.new }
+        ensures same { self.new ≡ with_caller self.old self.new.caller }
+        ensures kept { KeepsEntries made.now result self.old.caller self.new.caller }
+        ensures refused { IsRefusedOnly (arc_value self.old.engine) made.now result self.old.caller self.new.caller }
+        ensures idle { IsIdleAfter result self.new.caller }
+        ensures over { IsNotAgain result }
+        ensures thread { thread_of self.new.caller ≡ thread_of self.old.caller }
+    {
+        if !self.is_online {
+            return Stepped::Offline;
+        }
+        call(rt, &self.engine, alloc, &mut self.caller, made)
+    }
+}

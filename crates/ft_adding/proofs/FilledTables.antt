@@ -24,16 +24,16 @@ use Rattle.ft_keys.specs.Ways.{room, IsTableOf}
 use Rattle.ft_trace.specs.declared.Shape.{Shape}
 use Rattle.ft_trace.specs.declared.View.{View}
 use Rattle.ft_trace.specs.Addresses.{class_of, slots, places, size}
-use Rattle.ft_trace.specs.Holds.{held, known, in_hand}
+use Rattle.ft_trace.specs.Holds.{held_words, known_state, in_hand}
 use Rattle.ft_trace.specs.Kinds.{rows, IsKeyed}
-use Rattle.ft_trace.specs.Traces.{Possible}
+use Rattle.ft_trace.specs.Traces.{IsReachable}
 use Rattle.ft_trace.specs.Pictures.{entry_offset, entry_field}
 use Rattle.ft_trace.specs.ContainerStates.{kind_in}
 use Rattle.ft_trace.proofs.Known.{class_known}
 use Rattle.ft_bank.specs.declared.table.Table.{Table}
 use Rattle.ft_bank.specs.Passes.{view}
 use Rattle.ft_bank.specs.PassSections.{stack_of}
-use Rattle.ft_bank.specs.TableNames.{name_of}
+use Rattle.ft_bank.specs.TableNames.{table_id}
 use Rattle.ft_bank.proofs.TableAddresses.{class_is}
 use Rattle.ft_growth.specs.Adding.{OnlyFilled}
 use Rattle.ft_growth.proofs.Rooting.{filled_same, filled_then}
@@ -240,31 +240,31 @@ fill_room texts b l class fill (content.Set elements) keyed is = let f = is.tabl
 fill_room texts b l class fill (content.List values) keyed is = absurd keyed
 fill_room texts b l class fill (content.Deque deque) keyed is = absurd keyed
 
-module _ (k : Shape) (o : ℕ) (old : Table) (v : View) (keyed : KnowsKeyed k o (Some old) v) (shape : v.shape ≡ k) (possible : ∥ Possible v ∥₁) (by : Way) (kind_eq : kind_in k.starts o ≡ kind_by by) where
+module _ (k : Shape) (o : ℕ) (old : Table) (v : View) (keyed : KnowsKeyed k o (Some old) v) (shape : v.shape ≡ k) (possible : ∥ IsReachable v ∥₁) (by : Way) (kind_eq : kind_in k.starts o ≡ kind_by by) where
   abbrev d : Content
-  d = (known o v).content
+  d = (known_state o v).content
 
   abbrev fill : ℕ
-  fill = (known o v).table.fill
+  fill = (known_state o v).table.fill
 
   content_kind : kind_of d ≡ kind_in k.starts o
   content_kind = kind_is k v o shape possible keyed.locked
 
-  old_says : StandsAs k.texts (held o v).block (0 ∷ 0 ∷ (held o v).table) (use_with old.class fill) d
+  old_says : StandsAs k.texts (held_words o v).block (0 ∷ 0 ∷ (held_words o v).table) (use_with old.class fill) d
   old_says =
-      let class = class_known k.texts (held o v) (known o v) (name_of old) keyed.stands keyed.root ∙ ap (λ (n : ℕ). Some n) (class_is old (keyed.table_in old refl).2) in
-      subst (λ (z : Option ℕ × List Key). StandsAs k.texts (held o v).block (0 ∷ 0 ∷ (held o v).table) (record { class = z.0; fill = fill; keys = z.1 }) d) (λ i. (class i, no_keys v o possible keyed.locked i)) keyed.stands
+      let class = class_known k.texts (held_words o v) (known_state o v) (table_id old) keyed.stands keyed.root ∙ ap (λ (n : ℕ). Some n) (class_is old (keyed.table_in old refl).2) in
+      subst (λ (z : Option ℕ × List Key). StandsAs k.texts (held_words o v).block (0 ∷ 0 ∷ (held_words o v).table) (record { class = z.0; fill = fill; keys = z.1 }) d) (λ i. (class i, no_keys v o possible keyed.locked i)) keyed.stands
 
   pub old_fits : (mask : ℕ) → mask ≡ class_mask old.class → fill ≤ dict_room mask
-  old_fits mask is = subst (λ (m : ℕ). fill ≤ dict_room m) (sym is) (fill_room k.texts (held o v).block (held o v).table old.class fill d (subst IsKeyed (sym content_kind) keyed.keyed) old_says)
+  old_fits mask is = subst (λ (m : ℕ). fill ≤ dict_room m) (sym is) (fill_room k.texts (held_words o v).block (held_words o v).table old.class fill d (subst IsKeyed (sym content_kind) keyed.keyed) old_says)
 
-  pub filled_by : BlankHolds → LivePairs → LiveElements → KeepsVersions → (s t : FreshWords) (class most result : ℕ) → IsClass class → s.mask ≡ class_mask class → s.old_mask ≡ class_mask old.class → HasZeroWords class (in_hand (name_of s.table) (view s.pass.now)) → old_words s ≡ 0 ∷ 0 ∷ (held o v).table → length_of d ≤ rows (kind_by by) class
-      → (n : ℕ) → n ≡ fill → Moves FreshMade s.mask s t most result (Rebuilds by s.mask n result) → IsFilledWith k.texts class d (in_hand (name_of s.table) (view t.pass.now))
+  pub filled_by : BlankHolds → LivePairs → LiveElements → KeepsVersions → (s t : FreshWords) (class most result : ℕ) → IsClass class → s.mask ≡ class_mask class → s.old_mask ≡ class_mask old.class → HasZeroWords class (in_hand (table_id s.table) (view s.pass.now)) → old_words s ≡ 0 ∷ 0 ∷ (held_words o v).table → length_of d ≤ rows (kind_by by) class
+      → (n : ℕ) → n ≡ fill → Moves FreshMade s.mask s t most result (Rebuilds by s.mask n result) → IsFilledWith k.texts class d (in_hand (table_id s.table) (view t.pass.now))
   filled_by holds pairs_live elements_live keeps s t class most result is_class last old_last blank words few n same_fill moves =
       let r = ran_fresh s moves.calls t moves.runs in
-      let made : 0 ∷ 0 ∷ in_hand (name_of s.table) (view t.pass.now) ≡ after s.mask moves.calls (fresh_words s) = ap (λ (z : Table). 0 ∷ 0 ∷ in_hand (name_of z) (view t.pass.now)) (sym r.table) ∙ r.words in
+      let made : 0 ∷ 0 ∷ in_hand (table_id s.table) (view t.pass.now) ≡ after s.mask moves.calls (fresh_words s) = ap (λ (z : Table). 0 ∷ 0 ∷ in_hand (table_id z) (view t.pass.now)) (sym r.table) ∙ r.words in
       let done = moves.done (fresh_words s) (old_words s) s.old_mask r.fits r.fits_old in
-      copied holds pairs_live elements_live keeps k.texts (held o v).block (held o v).table old.class class fill result moves.calls (in_hand (name_of s.table) (view s.pass.now)) (in_hand (name_of s.table) (view t.pass.now)) is_class (keyed.table_in old refl).0 blank
+      copied holds pairs_live elements_live keeps k.texts (held_words o v).block (held_words o v).table old.class class fill result moves.calls (in_hand (table_id s.table) (view s.pass.now)) (in_hand (table_id s.table) (view t.pass.now)) is_class (keyed.table_in old refl).0 blank
       (subst (λ (m : ℕ). PutBelow m result moves.calls) last moves.below)
       (made ∙ ap (λ (m : ℕ). after m moves.calls (fresh_words s)) last)
       d by result (content_kind ∙ kind_eq) old_says few

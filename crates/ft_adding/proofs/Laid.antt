@@ -11,13 +11,13 @@ use Rattle.ft_trace.specs.declared.Shape.{Shape}
 use Rattle.ft_trace.specs.declared.View.{View}
 use Rattle.ft_trace.specs.Acts.{has_committed}
 use Rattle.ft_trace.specs.Addresses.{class_of, slots}
-use Rattle.ft_trace.specs.Holds.{held, known}
+use Rattle.ft_trace.specs.Holds.{held_words, known_state}
 use Rattle.ft_trace.specs.Kinds.{rows, version_at, CarefulAs}
 use Rattle.ft_trace.specs.OddVersions.{Timely}
-use Rattle.ft_trace.specs.Pictures.{Picture, entry_offset}
+use Rattle.ft_trace.specs.Pictures.{ContainerWords, entry_offset}
 use Rattle.ft_trace.specs.ContainerStates.{ContainerState, kind_in}
 use Rattle.ft_bank.specs.Passes.{view}
-use Rattle.ft_bank.specs.TableNames.{name_of}
+use Rattle.ft_bank.specs.TableNames.{table_id}
 use Rattle.ft_bank.specs.Whole.{OnlyPut}
 use Rattle.ft_bank.specs.WriteSteps.{IsCareful}
 use Rattle.ft_bank.proofs.KnownAfterWrites.{put_same, put_then, work_knows}
@@ -49,8 +49,8 @@ bare a b e = cc
 
 pub record Laid (s : TableWords) (n : ℕ) (calls : List Access) (t : TableWords) : Type 0 where
   pub knows : KnowsWords t
-  pub table : (held s.o (view t.pass.now)).table ≡ laid n calls (held s.o (view s.pass.now)).table
-  pub block : (held s.o (view t.pass.now)).block ≡ (held s.o (view s.pass.now)).block
+  pub table : (held_words s.o (view t.pass.now)).table ≡ laid n calls (held_words s.o (view s.pass.now)).table
+  pub block : (held_words s.o (view t.pass.now)).block ≡ (held_words s.o (view s.pass.now)).block
   pub only : OnlyPut s.o (view s.pass.now) (view t.pass.now)
 
 pub ran_laid : (s : TableWords) (n : ℕ) → n ≡ s.mask + 1 → (calls : List Access) (t : TableWords) → Runs MadeAccess s calls t → KnowsWords s → Laid s n calls t
@@ -63,15 +63,15 @@ ran_laid s n is (a ∷ calls) t r knows =
     let left = g.left old.knows in
     let last : t.o ≡ s.o = g.same.o ∙ place.o in
     let size : n ≡ m.mask + 1 = is ∙ sym (ap (λ (z : ℕ). z + 1) place.mask) in
-    let made : (held t.o (view t.pass.now)).table ≡ put_in n a (held m.o (view m.pass.now)).table = bare _ _ (left.1 ∙ put_in_after m.mask n size a (held m.o (view m.pass.now)).table) in
+    let made : (held_words t.o (view t.pass.now)).table ≡ put_in n a (held_words m.o (view m.pass.now)).table = bare _ _ (left.1 ∙ put_in_after m.mask n size a (held_words m.o (view m.pass.now)).table) in
     record {
       knows = left.0;
-      table = ap (λ (o : ℕ). (held o (view t.pass.now)).table) (sym last) ∙ (made ∙ (ap (λ (o : ℕ). put_in n a (held o (view m.pass.now)).table) place.o ∙ ap (put_in n a) old.table));
-      block = ap (λ (o : ℕ). (held o (view t.pass.now)).block) (sym place.o) ∙ (left.2 ∙ (ap (λ (o : ℕ). (held o (view m.pass.now)).block) place.o ∙ old.block));
+      table = ap (λ (o : ℕ). (held_words o (view t.pass.now)).table) (sym last) ∙ (made ∙ (ap (λ (o : ℕ). put_in n a (held_words o (view m.pass.now)).table) place.o ∙ ap (put_in n a) old.table));
+      block = ap (λ (o : ℕ). (held_words o (view t.pass.now)).block) (sym place.o) ∙ (left.2 ∙ (ap (λ (o : ℕ). (held_words o (view m.pass.now)).block) place.o ∙ old.block));
       only = put_then (view s.pass.now) (view m.pass.now) (view t.pass.now) s.o old.only (subst (λ (o : ℕ). OnlyPut o (view m.pass.now) (view t.pass.now)) place.o g.only);
     }
 
-pub laid_words : (s : TableWords) (n : ℕ) (calls : List Access) (t : TableWords) → Laid s n calls t → held s.o (view t.pass.now) ≡ record { block = (held s.o (view s.pass.now)).block; table = laid n calls (held s.o (view s.pass.now)).table }
+pub laid_words : (s : TableWords) (n : ℕ) (calls : List Access) (t : TableWords) → Laid s n calls t → held_words s.o (view t.pass.now) ≡ record { block = (held_words s.o (view s.pass.now)).block; table = laid n calls (held_words s.o (view s.pass.now)).table }
 laid_words s n calls t l = let b = l.block in let w = l.table in λ i. record { block = b i; table = w i }
 
 -- ---- calls that readers without the lock aren't misled by
@@ -88,42 +88,42 @@ abbrev pub AreCarefulCalls : Kind → ℕ → Content → List ℕ → List Acce
 AreCarefulCalls kind c d l [] = Unit {0}
 AreCarefulCalls kind c d l (access ∷ earlier) = AreCarefulCalls kind c d l earlier × IsCarefulCall kind c d (laid (slots c) earlier l) access
 
-pub careful_at : (k : Shape) (o t i x : ℕ) (l : List ℕ) (d : Content) (w : View) → w.shape ≡ k → has_committed o w.log ≡ false → (held o w).table ≡ l → (known o w).content ≡ d
+pub careful_at : (k : Shape) (o t i x : ℕ) (l : List ℕ) (d : Content) (w : View) → w.shape ≡ k → has_committed o w.log ≡ false → (held_words o w).table ≡ l → (known_state o w).content ≡ d
     → CarefulAs (kind_in k.starts o) (class_of t) l d i x → Timely (version_at (kind_in k.starts o) (class_of t)) (rows (kind_in k.starts o) (class_of t)) i x false → IsCareful w o t i x
 careful_at k o t i x l d w shape early words content care timely = record {
   care = subst (λ (z : Shape × List ℕ × Content). CarefulAs (kind_in z.0.starts o) (class_of t) z.1 z.2 i x) (sym (λ j. (shape j, words j, content j))) care;
   timely = subst (λ (z : Shape × Bool). Timely (version_at (kind_in z.0.starts o) (class_of t)) (rows (kind_in z.0.starts o) (class_of t)) i x z.1) (sym (λ j. (shape j, early j))) timely;
 }
 
-module _ (s : TableWords) (k : Shape) (shape : (view s.pass.now).shape ≡ k) (size : slots (class_of (name_of s.table)) ≡ s.mask + 1) (knows : KnowsWords s) (early : has_committed s.o (view s.pass.now).log ≡ false) where
+module _ (s : TableWords) (k : Shape) (shape : (view s.pass.now).shape ≡ k) (size : slots (class_of (table_id s.table)) ≡ s.mask + 1) (knows : KnowsWords s) (early : has_committed s.o (view s.pass.now).log ≡ false) where
   abbrev kind : Kind
   kind = kind_in k.starts s.o
 
   abbrev c : ℕ
-  c = class_of (name_of s.table)
+  c = class_of (table_id s.table)
 
   abbrev d : Content
-  d = (known s.o (view s.pass.now)).content
+  d = (known_state s.o (view s.pass.now)).content
 
   abbrev ws : List ℕ
-  ws = (held s.o (view s.pass.now)).table
+  ws = (held_words s.o (view s.pass.now)).table
 
   may_make : (calls : List Access) (between : TableWords) → Runs MadeAccess s calls between → (a : Access) → IsCarefulCall kind c d (laid (slots c) calls ws) a → MayMake between a
   may_make calls between runs a care =
       let l = ran_laid s (slots c) size calls between runs knows in
       let place = (ran s calls between runs).0 in
       let w = view between.pass.now in
-      let at : (i x : ℕ) → CarefulAs kind c (laid (slots c) calls ws) d i x → Timely (version_at kind c) (rows kind c) i x false → IsCareful w between.o (name_of between.table) i x =
+      let at : (i x : ℕ) → CarefulAs kind c (laid (slots c) calls ws) d i x → Timely (version_at kind c) (rows kind c) i x false → IsCareful w between.o (table_id between.table) i x =
       λ i x h time.
-      subst (λ (z : ℕ × ℕ). IsCareful w z.0 z.1 i x) (sym (λ j. (place.o j, name_of (place.table j))))
-      (careful_at k s.o (name_of s.table) i x (laid (slots c) calls ws) d w (l.only.work.pass.shape ∙ shape) (l.only.work.committed s.o ∙ early) l.table
+      subst (λ (z : ℕ × ℕ). IsCareful w z.0 z.1 i x) (sym (λ j. (place.o j, table_id (place.table j))))
+      (careful_at k s.o (table_id s.table) i x (laid (slots c) calls ws) d w (l.only.work.pass.shape ∙ shape) (l.only.work.committed s.o ∙ early) l.table
       (ap (λ (z : ContainerState). z.content) (work_knows (view s.pass.now) w s.o l.only.work)) h time) in
       by place at a care
     where
-      by : SamePlace s between → ((i x : ℕ) → CarefulAs kind c (laid (slots c) calls ws) d i x → Timely (version_at kind c) (rows kind c) i x false → IsCareful (view between.pass.now) between.o (name_of between.table) i x) → (a : Access) → IsCarefulCall kind c d (laid (slots c) calls ws) a → MayMake between a
+      by : SamePlace s between → ((i x : ℕ) → CarefulAs kind c (laid (slots c) calls ws) d i x → Timely (version_at kind c) (rows kind c) i x false → IsCareful (view between.pass.now) between.o (table_id between.table) i x) → (a : Access) → IsCarefulCall kind c d (laid (slots c) calls ws) a → MayMake between a
       by place at (PutIndex slot value) care = at slot value care.0 care.1
       by place at (PutEntry p w value) care =
-          subst (λ (z : ℕ). IsCareful (view between.pass.now) between.o (name_of between.table) (entry_offset (slots (class_of z)) p w) value) (sym (λ j. name_of (place.table j)))
+          subst (λ (z : ℕ). IsCareful (view between.pass.now) between.o (table_id between.table) (entry_offset (slots (class_of z)) p w) value) (sym (λ j. table_id (place.table j)))
           (at (entry_offset (slots c) p w) value care.0 care.1)
       by place at (Index slot value) care = tt
       by place at (Entry p w value) care = tt

@@ -11,13 +11,13 @@ use Rattle.ft_trace.specs.declared.Shape.{Shape}
 use Rattle.ft_trace.specs.declared.View.{View}
 use Rattle.ft_trace.specs.Acts.{has_committed}
 use Rattle.ft_trace.specs.Addresses.{class_of, slots}
-use Rattle.ft_trace.specs.Holds.{held, known}
+use Rattle.ft_trace.specs.Holds.{held_words, known_state}
 use Rattle.ft_trace.specs.Kinds.{rows, IsKeyed}
-use Rattle.ft_trace.specs.Pictures.{Picture, root_in, entry_offset, entry_field}
+use Rattle.ft_trace.specs.Pictures.{ContainerWords, root_in, entry_offset, entry_field}
 use Rattle.ft_trace.specs.ContainerStates.{ContainerState, kind_in}
 use Rattle.ft_bank.specs.declared.table.Table.{Table}
 use Rattle.ft_bank.specs.Passes.{view}
-use Rattle.ft_bank.specs.TableNames.{name_of}
+use Rattle.ft_bank.specs.TableNames.{table_id}
 use Rattle.ft_bank.specs.WriteSteps.{IsCareful}
 use Rattle.ft_bank.proofs.KnownAfterWrites.{work_knows}
 use Rattle.ft_search.specs.declared.words.TableWords.{TableWords}
@@ -36,27 +36,27 @@ counts_root b count fill next =
     ∙ get_or-set_other b 1 0 count 0 (λ e. absurd (omega (arith, e))))
 
 -- the version of the entry may be made odd
-pub pair_opens : (k : Shape) (o : ℕ) (table : Table) (v : View) (slot place : ℕ) → v.shape ≡ k → WritesEntries k o table v → has_committed o v.log ≡ false → IsUnused (slots (class_of (name_of table))) (rows (kind_in k.starts o) (class_of (name_of table))) (held o v).table slot place
-    → IsCareful v o (name_of table) (entry_offset (slots (class_of (name_of table))) place 0) (entry_field (slots (class_of (name_of table))) (held o v).table place 0 + 1)
+pub pair_opens : (k : Shape) (o : ℕ) (table : Table) (v : View) (slot place : ℕ) → v.shape ≡ k → WritesEntries k o table v → has_committed o v.log ≡ false → IsUnused (slots (class_of (table_id table))) (rows (kind_in k.starts o) (class_of (table_id table))) (held_words o v).table slot place
+    → IsCareful v o (table_id table) (entry_offset (slots (class_of (table_id table))) place 0) (entry_field (slots (class_of (table_id table))) (held_words o v).table place 0 + 1)
 pair_opens k o table v slot place shape writes early un =
-    let c = class_of (name_of table) in
+    let c = class_of (table_id table) in
     let kind = kind_in k.starts o in
     let at = entry_offset (slots c) place 0 in
-    let x = entry_field (slots c) (held o v).table place 0 + 1 in
-    careful_at k o (name_of table) at x (held o v).table (known o v).content v shape early refl refl
-    (as_careful kind writes.keyed c (held o v).table (known o v).content at x (open_careful (slots c) (rows kind c) (held o v).table slot place un _))
-    (in_time kind c at x (open_odd (slots c) (rows kind c) (held o v).table slot place un))
+    let x = entry_field (slots c) (held_words o v).table place 0 + 1 in
+    careful_at k o (table_id table) at x (held_words o v).table (known_state o v).content v shape early refl refl
+    (as_careful kind writes.keyed c (held_words o v).table (known_state o v).content at x (open_careful (slots c) (rows kind c) (held_words o v).table slot place un _))
+    (in_time kind c at x (open_odd (slots c) (rows kind c) (held_words o v).table slot place un))
 
 -- then the other words may be put
-pub pair_allowed : (s : TableWords) (k : Shape) (x : Picture) (slot place : ℕ) (pair : Pair) → (view s.pass.now).shape ≡ k → IsKeyed (kind_in k.starts s.o) → slots (class_of (name_of s.table)) ≡ s.mask + 1 → KnowsWords s → has_committed s.o (view s.pass.now).log ≡ false
-    → held s.o (view s.pass.now) ≡ raised_at (name_of s.table) place x → IsUnused (slots (class_of (name_of s.table))) (rows (kind_in k.starts s.o) (class_of (name_of s.table))) x.table slot place → Allows MadeAccess MayMake s (place_puts slot place (entry_words pair))
+pub pair_allowed : (s : TableWords) (k : Shape) (x : ContainerWords) (slot place : ℕ) (pair : Pair) → (view s.pass.now).shape ≡ k → IsKeyed (kind_in k.starts s.o) → slots (class_of (table_id s.table)) ≡ s.mask + 1 → KnowsWords s → has_committed s.o (view s.pass.now).log ≡ false
+    → held_words s.o (view s.pass.now) ≡ raised_at (table_id s.table) place x → IsUnused (slots (class_of (table_id s.table))) (rows (kind_in k.starts s.o) (class_of (table_id s.table))) x.table slot place → Allows MadeAccess MayMake s (place_puts slot place (entry_words pair))
 pair_allowed s k x slot place pair shape keyed size knows early words un =
-    let c = class_of (name_of s.table) in
-    let d = (known s.o (view s.pass.now)).content in
+    let c = class_of (table_id s.table) in
+    let d = (known_state s.o (view s.pass.now)).content in
     allows_calls s k shape size knows early (place_puts slot place (entry_words pair))
-    (subst (λ (z : Picture). AreCarefulCalls (kind_in k.starts s.o) c d z.table (place_puts slot place (entry_words pair))) (sym words)
+    (subst (λ (z : ContainerWords). AreCarefulCalls (kind_in k.starts s.o) c d z.table (place_puts slot place (entry_words pair))) (sym words)
     (place_careful (kind_in k.starts s.o) keyed c d x.table slot place un pair))
 
 -- places are few
-pub few_used : (k : Shape) (o : ℕ) (table : Table) (v : View) (slot place : ℕ) (words : List ℕ) → WritesEntries k o table v → IsUnused (slots (class_of (name_of table))) (rows (kind_in k.starts o) (class_of (name_of table))) words slot place → place < 65536
+pub few_used : (k : Shape) (o : ℕ) (table : Table) (v : View) (slot place : ℕ) (words : List ℕ) → WritesEntries k o table v → IsUnused (slots (class_of (table_id table))) (rows (kind_in k.starts o) (class_of (table_id table))) words slot place → place < 65536
 few_used k o table v slot place words writes un = few_places k table (kind_in k.starts o) place writes.table_in writes.keyed un.low

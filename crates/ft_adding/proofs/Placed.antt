@@ -35,7 +35,7 @@ use Rattle.ft_trace.specs.Addresses.{class_of, slots, places}
 use Rattle.ft_trace.specs.Carefuls.{HasLiveKey, said_of}
 use Rattle.ft_trace.specs.Kinds.{under, rows, version_at, CarefulAs, ClearAs, IsKeyed}
 use Rattle.ft_trace.specs.OddVersions.{Shut}
-use Rattle.ft_trace.specs.Pictures.{Picture, root_in, index_field, entry_offset, entry_field, Stands}
+use Rattle.ft_trace.specs.Pictures.{ContainerWords, root_in, index_field, entry_offset, entry_field, Represents}
 use Rattle.ft_trace.specs.ContainerStates.{ContainerState}
 use Rattle.ft_trace.proofs.DictWrites as dict
 use Rattle.ft_trace.proofs.DictWrites.{EntryVersionsChangeNothing, FirstEntriesArePairs}
@@ -237,7 +237,7 @@ kind_shut (kind.Deque bound) keyed c m l h = absurd keyed
 
 -- What a new key asks of the words of a container whose root names the table t: they stand for the content, but that
 -- the block may count other entries that were used; the slot is the first for the key that was never used.
-pub record Fresh (texts : List ℕ) (x : Picture) (t slot : ℕ) (counts : Counts) (d : Content) (key : Key) (stored : Stored) : Type 0 where
+pub record Fresh (texts : List ℕ) (x : ContainerWords) (t slot : ℕ) (counts : Counts) (d : Content) (key : Key) (stored : Stored) : Type 0 where
   pub is_class : IsClass (class_of t)
   pub keyed : IsKeyed (kind_of d)
   pub fits : FitsKey key
@@ -256,7 +256,7 @@ pub record Fresh (texts : List ℕ) (x : Picture) (t slot : ℕ) (counts : Count
   pub absent : IsHeldAt d key None
   pub even : entry_field (slots (class_of t)) x.table counts.fill 0 % 2 ≡ 0
 
-module _ (laws : PlaceLaws) (texts : List ℕ) (x : Picture) (t slot : ℕ) (counts : Counts) (d : Content) (key : Key) (stored : Stored) (fresh : Fresh texts x t slot counts d key stored) where
+module _ (laws : PlaceLaws) (texts : List ℕ) (x : ContainerWords) (t slot : ℕ) (counts : Counts) (d : Content) (key : Key) (stored : Stored) (fresh : Fresh texts x t slot counts d key stored) where
   abbrev c : ℕ
   c = class_of t
 
@@ -275,7 +275,7 @@ module _ (laws : PlaceLaws) (texts : List ℕ) (x : Picture) (t slot : ℕ) (cou
   abbrev pair : Pair
   pair = pair_for texts d key stored
 
-  abbrev y : Picture
+  abbrev y : ContainerWords
   y = with_entry t slot counts pair x
 
   abbrev news : Content

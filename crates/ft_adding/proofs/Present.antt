@@ -10,7 +10,7 @@ use Rattle.ft_model.specs.Worlds.{length_of}
 use Rattle.ft_trace.specs.declared.Shape.{Shape}
 use Rattle.ft_trace.specs.declared.View.{View}
 use Rattle.ft_trace.specs.Acts.{flight, used}
-use Rattle.ft_trace.specs.Holds.{held, known}
+use Rattle.ft_trace.specs.Holds.{held_words, known_state}
 use Rattle.ft_trace.specs.Pictures.{root_in}
 use Rattle.ft_trace.specs.ContainerStates.{ContainerState, changes}
 use Rattle.ft_bank.specs.declared.table.Table.{Table}
@@ -38,24 +38,24 @@ abbrev puts_over : ContainerState → Key → Bool
 puts_over x key = if holds x.content key then false else nat_lt (most_of x.content) (length_of x.content + 1)
 
 module _ (k : Shape) (o : ℕ) (key : Key) (called : Call) (said : Reply) (v u w : View) (only : OnlyLoaded v u) where
-  same : known o u ≡ known o v
+  same : known_state o u ≡ known_state o v
   same = work_knows v u o only.work
 
   -- it is there
-  pub puts_present : (stamp : Stamp) → changes called ≡ o → holds (known o u).content key ≡ true → stamp.wrote ≡ true → Wrote called said stamp.number u w → root_in (held o w) ≡ root_in (held o u) → PutsKey k o key called said v w (added.Made stamp)
+  pub puts_present : (stamp : Stamp) → changes called ≡ o → holds (known_state o u).content key ≡ true → stamp.wrote ≡ true → Wrote called said stamp.number u w → root_in (held_words o w) ≡ root_in (held_words o u) → PutsKey k o key called said v w (added.Made stamp)
   puts_present stamp at there is wrote root =
-      let takes : None ≡ puts_takes (known o v) key = sym (ap (λ (b : Bool). if b then None else key_takes (known o u).content (known o u).table) there) ∙ ap (λ (z : ContainerState). puts_takes z key) same in
-      let over : false ≡ puts_over (known o v) key = sym (ap (λ (b : Bool). if b then false else nat_lt (most_of (known o u).content) (length_of (known o u).content + 1)) there) ∙ ap (λ (z : ContainerState). puts_over z key) same in
-      let root_at = subst (λ (n : ℕ). root_in (held n w) ≡ root_in (held n u)) (sym at) root in
+      let takes : None ≡ puts_takes (known_state o v) key = sym (ap (λ (b : Bool). if b then None else key_takes (known_state o u).content (known_state o u).table) there) ∙ ap (λ (z : ContainerState). puts_takes z key) same in
+      let over : false ≡ puts_over (known_state o v) key = sym (ap (λ (b : Bool). if b then false else nat_lt (most_of (known_state o u).content) (length_of (known_state o u).content + 1)) there) ∙ ap (λ (z : ContainerState). puts_over z key) same in
+      let root_at = subst (λ (n : ℕ). root_in (held_words n w) ≡ root_in (held_words n u)) (sym at) root in
       let made : IsAdded k None false called said u w (added.Made stamp) = (refl, is, record { wrote = wrote; root = root_at }) in
       (u, only, subst (λ (z : Option ℕ × Bool). IsAdded k z.0 z.1 called said u w (added.Made stamp)) (λ i. (takes i, over i)) made)
 
   -- it isn't
-  pub puts_absent : (what : Added) → IsHeldAt (known o u).content key None → AddsOne k o called said u w what → PutsKey k o key called said v w what
+  pub puts_absent : (what : Added) → IsHeldAt (known_state o u).content key None → AddsOne k o called said u w what → PutsKey k o key called said v w what
   puts_absent what none is =
-      let not = holds_not (known o u).content key none in
-      let takes : key_takes (known o u).content (known o u).table ≡ puts_takes (known o v) key = sym (ap (λ (b : Bool). if b then None else key_takes (known o u).content (known o u).table) not) ∙ ap (λ (z : ContainerState). puts_takes z key) same in
-      let over : nat_lt (most_of (known o u).content) (length_of (known o u).content + 1) ≡ puts_over (known o v) key = sym (ap (λ (b : Bool). if b then false else nat_lt (most_of (known o u).content) (length_of (known o u).content + 1)) not) ∙ ap (λ (z : ContainerState). puts_over z key) same in
+      let not = holds_not (known_state o u).content key none in
+      let takes : key_takes (known_state o u).content (known_state o u).table ≡ puts_takes (known_state o v) key = sym (ap (λ (b : Bool). if b then None else key_takes (known_state o u).content (known_state o u).table) not) ∙ ap (λ (z : ContainerState). puts_takes z key) same in
+      let over : nat_lt (most_of (known_state o u).content) (length_of (known_state o u).content + 1) ≡ puts_over (known_state o v) key = sym (ap (λ (b : Bool). if b then false else nat_lt (most_of (known_state o u).content) (length_of (known_state o u).content + 1)) not) ∙ ap (λ (z : ContainerState). puts_over z key) same in
       let x = is.0 in
       (x, loaded_then v u x only is.1, subst (λ (z : Option ℕ × Bool). IsAdded k z.0 z.1 called said x w what) (λ i. (takes i, over i)) is.2)
 
@@ -70,9 +70,9 @@ may_add k o old v u only unused idle may keyed = record {
 }
 
 -- what it comes to after loads, seen from before them
-pub adds_one : (k : Shape) (o : ℕ) (called : Call) (said : Reply) (v u w : View) (what : Added) (takes : Option ℕ) (over : Bool) → OnlyLoaded v u → key_takes (known o u).content (known o u).table ≡ takes → nat_lt (most_of (known o u).content) (length_of (known o u).content + 1) ≡ over → IsAdded k takes over called said u w what → AddsOne k o called said v w what
+pub adds_one : (k : Shape) (o : ℕ) (called : Call) (said : Reply) (v u w : View) (what : Added) (takes : Option ℕ) (over : Bool) → OnlyLoaded v u → key_takes (known_state o u).content (known_state o u).table ≡ takes → nat_lt (most_of (known_state o u).content) (length_of (known_state o u).content + 1) ≡ over → IsAdded k takes over called said u w what → AddsOne k o called said v w what
 adds_one k o called said v u w what takes over only same_takes same_over is =
-    let known_same : known o u ≡ known o v = work_knows v u o only.work in
-    let t : takes ≡ key_takes (known o v).content (known o v).table = sym same_takes ∙ ap (λ (z : ContainerState). key_takes z.content z.table) known_same in
-    let b : over ≡ nat_lt (most_of (known o v).content) (length_of (known o v).content + 1) = sym same_over ∙ ap (λ (z : ContainerState). nat_lt (most_of z.content) (length_of z.content + 1)) known_same in
+    let known_same : known_state o u ≡ known_state o v = work_knows v u o only.work in
+    let t : takes ≡ key_takes (known_state o v).content (known_state o v).table = sym same_takes ∙ ap (λ (z : ContainerState). key_takes z.content z.table) known_same in
+    let b : over ≡ nat_lt (most_of (known_state o v).content) (length_of (known_state o v).content + 1) = sym same_over ∙ ap (λ (z : ContainerState). nat_lt (most_of z.content) (length_of z.content + 1)) known_same in
     (u, only, subst (λ (z : Option ℕ × Bool). IsAdded k z.0 z.1 called said u w what) (λ i. (t i, b i)) is)

@@ -21,14 +21,14 @@ use Rattle.ft_keys.specs.Ways.{walk_slots, IsTableOf}
 use Rattle.ft_trace.specs.declared.Act.TheVariants.{StartWrite}
 use Rattle.ft_trace.specs.declared.Shape.{Shape}
 use Rattle.ft_trace.specs.declared.View.{View}
-use Rattle.ft_trace.specs.Acts.{has_lock, is_writing, mem, noted, stage}
-use Rattle.ft_trace.specs.Addresses.{containers_in, class_of, slots, size}
+use Rattle.ft_trace.specs.Acts.{has_lock, is_writing, mem, view_after, stage}
+use Rattle.ft_trace.specs.Addresses.{container_count, class_of, slots, size}
 use Rattle.ft_trace.specs.Carefuls.{Sound}
-use Rattle.ft_trace.specs.Holds.{held, known, in_hand}
+use Rattle.ft_trace.specs.Holds.{held_words, known_state, in_hand}
 use Rattle.ft_trace.specs.Kinds.{rows, version_at, SoundAs, IsKeyed}
 use Rattle.ft_trace.specs.OddVersions.{Shut}
-use Rattle.ft_trace.specs.Traces.{Possible}
-use Rattle.ft_trace.specs.Pictures.{Picture, root_in, entry_offset, entry_field, Stands}
+use Rattle.ft_trace.specs.Traces.{IsReachable}
+use Rattle.ft_trace.specs.Pictures.{ContainerWords, root_in, entry_offset, entry_field, Represents}
 use Rattle.ft_trace.specs.ContainerStates.{ContainerState, kind_in}
 use Rattle.ft_trace.proofs.ByKind.{keyed_fit}
 use Rattle.ft_trace.proofs.Cases.{hit}
@@ -38,7 +38,7 @@ use Rattle.ft_trace.proofs.Pieces.{table_long}
 use Rattle.ft_trace.proofs.SetKnown as set
 use Rattle.ft_trace.proofs.SetKnown.{FirstEntriesAreElements}
 use Rattle.ft_bank.specs.declared.table.Table.{Table}
-use Rattle.ft_bank.specs.TableNames.{name_of, IsTableIn}
+use Rattle.ft_bank.specs.TableNames.{table_id, IsTableIn}
 use Rattle.ft_bank.specs.WriteSteps.{IsShut, MayPutRoot}
 use Rattle.ft_bank.proofs.TableAddresses.{class_is, named}
 use Rattle.ft_search.specs.Held.{IsHeldAt}
@@ -82,15 +82,15 @@ absent_in texts b l class fill (content.Deque deque) way.Set key same is absent 
 
 -- ---- a block with another root
 
-pub rooted_head : (b : List ℕ) (class : Option ℕ) (k : Shape) (table : Table) (count fill next : ℕ) → IsBlock b class count fill next → IsTableIn k table → IsBlock (slice_set b 0 (suc (name_of table))) (Some (class_of (name_of table))) count fill next
+pub rooted_head : (b : List ℕ) (class : Option ℕ) (k : Shape) (table : Table) (count fill next : ℕ) → IsBlock b class count fill next → IsTableIn k table → IsBlock (slice_set b 0 (suc (table_id table))) (Some (class_of (table_id table))) count fill next
 rooted_head b class k table count fill next h table_in =
     let size_is = h.size in
-    let names : slice_index (slice_set b 0 (suc (name_of table))) 0 ≡ suc (name_of table) = get_or-set_same b 0 (suc (name_of table)) 0 (omega (arith, size_is)) in
-    let other : (i : ℕ) → i ≢ 0 → slice_index (slice_set b 0 (suc (name_of table))) i ≡ slice_index b i = λ i ne. get_or-set_other b 0 i (suc (name_of table)) 0 ne in
+    let names : slice_index (slice_set b 0 (suc (table_id table))) 0 ≡ suc (table_id table) = get_or-set_same b 0 (suc (table_id table)) 0 (omega (arith, size_is)) in
+    let other : (i : ℕ) → i ≢ 0 → slice_index (slice_set b 0 (suc (table_id table))) i ≡ slice_index b i = λ i ne. get_or-set_other b 0 i (suc (table_id table)) 0 ne in
     let c = class_is table table_in.2 in
     record {
-      size = length-set b 0 (suc (name_of table)) ∙ h.size;
-      root = subst (λ (r : ℕ). IsRoot r (Some (class_of (name_of table)))) (sym names) (table.number, (table_class k table table_in, table_in.2, omega (arith, c)));
+      size = length-set b 0 (suc (table_id table)) ∙ h.size;
+      root = subst (λ (r : ℕ). IsRoot r (Some (class_of (table_id table)))) (sym names) (table.number, (table_class k table table_in, table_in.2, omega (arith, c)));
       count_is = other 1 (λ e. absurd (omega (arith, e))) ∙ h.count_is;
       fill_is = other 2 (λ e. absurd (omega (arith, e))) ∙ h.fill_is;
       next_is = other 3 (λ e. absurd (omega (arith, e))) ∙ h.next_is;
@@ -99,18 +99,18 @@ rooted_head b class k table count fill next h table_in =
 
 -- ---- the root
 
-module _ (first_pair : FirstEntriesArePairs) (first_element : FirstEntriesAreElements) (heads : Heads) (k : Shape) (o : ℕ) (old : Option Table) (table : Table) (v : View) (may : MayGrowKeyed k o old table v) (shape : v.shape ≡ k) (possible : ∥ Possible v ∥₁) (filled : IsFilledWith k.texts (class_of (name_of table)) (known o v).content (in_hand (name_of table) v)) where
+module _ (first_pair : FirstEntriesArePairs) (first_element : FirstEntriesAreElements) (heads : Heads) (k : Shape) (o : ℕ) (old : Option Table) (table : Table) (v : View) (may : MayGrowKeyed k o old table v) (shape : v.shape ≡ k) (possible : ∥ IsReachable v ∥₁) (filled : IsFilledWith k.texts (class_of (table_id table)) (known_state o v).content (in_hand (table_id table) v)) where
   abbrev c : ℕ
-  c = class_of (name_of table)
+  c = class_of (table_id table)
 
   abbrev d : Content
-  d = (known o v).content
+  d = (known_state o v).content
 
   abbrev ws : List ℕ
-  ws = in_hand (name_of table) v
+  ws = in_hand (table_id table) v
 
   abbrev b : List ℕ
-  b = slice_set (held o v).block 0 (suc (name_of table))
+  b = slice_set (held_words o v).block 0 (suc (table_id table))
 
   content_kind : kind_of d ≡ kind_in k.starts o
   content_kind = kind_is k v o shape possible may.keyed.locked
@@ -121,14 +121,14 @@ module _ (first_pair : FirstEntriesArePairs) (first_element : FirstEntriesAreEle
   is_class : IsClass c
   is_class = (named k table may.table_in).0
 
-  head : IsBlock b (Some c) (length_of d) (known o v).table.fill (serial_of d)
-  head = rooted_head (held o v).block (known o v).table.class k table (length_of d) (known o v).table.fill (serial_of d) (heads k.texts (held o v).block (0 ∷ 0 ∷ (held o v).table) (known o v).table d may.keyed.stands) may.table_in
+  head : IsBlock b (Some c) (length_of d) (known_state o v).table.fill (serial_of d)
+  head = rooted_head (held_words o v).block (known_state o v).table.class k table (length_of d) (known_state o v).table.fill (serial_of d) (heads k.texts (held_words o v).block (0 ∷ 0 ∷ (held_words o v).table) (known_state o v).table d may.keyed.stands) may.table_in
 
   abbrev before : List ℕ
   before = counted b (length_of d) (length_of d) (serial_of d)
 
   pub filled_says : StandsAs k.texts before (0 ∷ 0 ∷ ws) (use_with c (length_of d)) d
-  filled_says = filled.says before (counted_head b (Some c) (length_of d) (known o v).table.fill (serial_of d) (length_of d) (length_of d) (serial_of d) head)
+  filled_says = filled.says before (counted_head b (Some c) (length_of d) (known_state o v).table.fill (serial_of d) (length_of d) (length_of d) (serial_of d) head)
 
   the_one : (t : Table) → Some table ≡ Some t → table ≡ t
   the_one t e = ap (λ (z : Option Table). unwrap_or z table) e
@@ -148,15 +148,15 @@ module _ (first_pair : FirstEntriesArePairs) (first_element : FirstEntriesAreEle
       (λ p low. ap (slice_index ws) (keyed_version (kind_of d) keyed_d c p) ∙ filled.versions p low)
 
   shut_here : IsShut o v
-  shut_here t names = subst (λ (z : Kind). Shut (version_at z (class_of t)) (rows z (class_of t)) (held o v).table) kind_v (shut_known k v o t shape possible may.keyed.container may.keyed.locked may.keyed.even names)
+  shut_here t names = subst (λ (z : Kind). Shut (version_at z (class_of t)) (rows z (class_of t)) (held_words o v).table) kind_v (shut_known k v o t shape possible may.keyed.container may.keyed.locked may.keyed.even names)
 
-  pub may_root : (f : ℕ) → MayPutRoot (noted (StartWrite o f) v) o (Some table)
+  pub may_root : (f : ℕ) → MayPutRoot (view_after (StartWrite o f) v) o (Some table)
   may_root f = record {
     odd = hit o true (is_writing o v.log);
-    fresh = λ t e. subst (λ (z : Table). stage (name_of z) v.log ≡ 1) (the_one t e) may.fresh;
-    sound = λ t e. subst (λ (z : Table). SoundAs (kind_in v.shape.starts o) v.shape.texts (class_of (name_of z)) (in_hand (name_of z) v) d) (the_one t e) sound_here;
+    fresh = λ t e. subst (λ (z : Table). stage (table_id z) v.log ≡ 1) (the_one t e) may.fresh;
+    sound = λ t e. subst (λ (z : Table). SoundAs (kind_in v.shape.starts o) v.shape.texts (class_of (table_id z)) (in_hand (table_id z) v) d) (the_one t e) sound_here;
     young = λ t p e row.
-        let here = subst (λ (z : Table). (q : ℕ) → q < rows (kind_in v.shape.starts o) (class_of (name_of z)) → slice_index (in_hand (name_of z) v) (version_at (kind_in v.shape.starts o) (class_of (name_of z)) q) ≡ 0) (the_one t e) young_here p row in
+        let here = subst (λ (z : Table). (q : ℕ) → q < rows (kind_in v.shape.starts o) (class_of (table_id z)) → slice_index (in_hand (table_id z) v) (version_at (kind_in v.shape.starts o) (class_of (table_id z)) q) ≡ 0) (the_one t e) young_here p row in
         (omega (arith, here), (λ late. here));
     shut = shut_here;
     spare = λ some_one. may.used;
@@ -168,8 +168,8 @@ module _ (first_pair : FirstEntriesArePairs) (first_element : FirstEntriesAreEle
   shut_rooted = kind_shut (kind_of d) keyed_d c (rows (kind_of d) c) ws (λ p less. let z = filled.versions p less in omega (arith, z))
 
   -- a new key there
-  pub fresh_rooted : (by : Way) → kind_in k.starts o ≡ kind_by by → (slot : ℕ) (counts : Counts) (key : Key) (stored : Stored) → AreCounts (held o v).block counts → FitsKey key → hash_of k.texts key < 2 ^ 64 → StoresAs (kind_by by) stored → FitsStored stored → IsHeldAt d key None → IsFreeFor k.texts by table.class key ws slot → counts.count < rows (kind_by by) c
-      → Fresh k.texts (record { block = b; table = ws }) (name_of table) slot (record { count = counts.count; fill = counts.count; next = counts.next }) d key stored
+  pub fresh_rooted : (by : Way) → kind_in k.starts o ≡ kind_by by → (slot : ℕ) (counts : Counts) (key : Key) (stored : Stored) → AreCounts (held_words o v).block counts → FitsKey key → hash_of k.texts key < 2 ^ 64 → StoresAs (kind_by by) stored → FitsStored stored → IsHeldAt d key None → IsFreeFor k.texts by table.class key ws slot → counts.count < rows (kind_by by) c
+      → Fresh k.texts (record { block = b; table = ws }) (table_id table) slot (record { count = counts.count; fill = counts.count; next = counts.next }) d key stored
   fresh_rooted by kind_eq slot counts key stored are fits low stores ok absent free room =
       let same = class_is table may.table_in.2 in
       let kinds : kind_of d ≡ kind_by by = content_kind ∙ kind_eq in
@@ -177,7 +177,7 @@ module _ (first_pair : FirstEntriesArePairs) (first_element : FirstEntriesAreEle
       let some = slots_of_class c in
       let slot_low = free.0 in
       let last : class_mask table.class ≡ class_mask c = ap class_mask (sym same) in
-      let long = table_long v.shape (name_of table) (mem v.shape v.log) in
+      let long = table_long v.shape (table_id table) (mem v.shape v.log) in
       record {
         is_class = is_class;
         keyed = keyed_d;
@@ -187,7 +187,7 @@ module _ (first_pair : FirstEntriesArePairs) (first_element : FirstEntriesAreEle
         ok = ok;
         before = before;
         says = subst (λ (n : ℕ). StandsAs k.texts before (0 ∷ 0 ∷ ws) (use_with c n) d) (sym many) filled_says;
-        had = (known o v).table.fill;
+        had = (known_state o v).table.fill;
         head = head;
         count_is = many;
         room = subst (λ (z : Kind). counts.count < rows z c) (sym kinds) room;

@@ -10,12 +10,12 @@ use Rattle.ft_layout.specs.declared.slot.Stored.{Stored}
 use Rattle.ft_trace.specs.declared.Shape.{Shape}
 use Rattle.ft_trace.specs.declared.View.{View}
 use Rattle.ft_trace.specs.Acts.{has_lock, owes, stage}
-use Rattle.ft_trace.specs.Addresses.{containers_in, class_of}
-use Rattle.ft_trace.specs.Holds.{held, known}
-use Rattle.ft_trace.specs.Traces.{Possible}
+use Rattle.ft_trace.specs.Addresses.{container_count, class_of}
+use Rattle.ft_trace.specs.Holds.{held_words, known_state}
+use Rattle.ft_trace.specs.Traces.{IsReachable}
 use Rattle.ft_trace.specs.ContainerStates.{ContainerState, kinds_in}
 use Rattle.ft_bank.specs.declared.table.Table.{Table}
-use Rattle.ft_bank.specs.TableNames.{name_of, IsTableIn}
+use Rattle.ft_bank.specs.TableNames.{table_id, IsTableIn}
 use Rattle.ft_bank.specs.Takings.{KeepsBut}
 use Rattle.ft_bank.specs.Whole.{OnlyLoaded, SamePass}
 use Rattle.ft_bank.specs.WriteSteps.{MayHave}
@@ -26,7 +26,7 @@ use Rattle.ft_adding.specs.Placing.{with_key}
 use Rattle.ft_adding.proofs.Grown.{knows_on}
 
 -- a call that adds a key adds it later too, where the pass knows the same
-pub adds_later : (o : ℕ) (called : Call) (said : Reply) (key : Key) (stored : Stored) (v u : View) → ((found : StoredWorld) → MayHave u found → MayHave v found) → ((p : ℕ) → has_lock p u.log ≡ has_lock p v.log) → known o u ≡ known o v → AddsKey o called said key stored v → AddsKey o called said key stored u
+pub adds_later : (o : ℕ) (called : Call) (said : Reply) (key : Key) (stored : Stored) (v u : View) → ((found : StoredWorld) → MayHave u found → MayHave v found) → ((p : ℕ) → has_lock p u.log ≡ has_lock p v.log) → known_state o u ≡ known_state o v → AddsKey o called said key stored v → AddsKey o called said key stored u
 adds_later o called said key stored v u has locks same adds = record {
   write = adds.write;
   changed = adds.changed;
@@ -46,8 +46,8 @@ module _ (F : ℕ → Type 0) (v u : View) (same : SamePass v u) (keeps : KeepsB
   -- what the bank may have then, it may have had before
   pub tried_has : (found : StoredWorld) → MayHave u found → MayHave v found
   tried_has found has = record {
-    agrees = λ p low mine. has.agrees p (subst (λ (z : Shape). p < containers_in z) (sym same.shape) low) (same.locks p ∙ mine) ∙ (keeps.held.words p low mine).1;
-    containers = has.containers ∙ ap containers_in same.shape;
+    agrees = λ p low mine. has.agrees p (subst (λ (z : Shape). p < container_count z) (sym same.shape) low) (same.locks p ∙ mine) ∙ (keeps.held.words p low mine).1;
+    containers = has.containers ∙ ap container_count same.shape;
     kinds = has.kinds ∙ ap (λ (z : Shape). kinds_in z.starts) same.shape;
     order = has.order;
     unsplit = has.unsplit;
@@ -55,14 +55,14 @@ module _ (F : ℕ → Type 0) (v u : View) (same : SamePass v u) (keeps : KeepsB
   }
 
   module _ (k : Shape) (o : ℕ) (old : Option Table) (shape : v.shape ≡ k) (keyed : KnowsKeyed k o old v) where
-    pub tried_words : (held o u ≡ held o v) × (known o u ≡ known o v)
-    tried_words = keeps.held.words o (subst (λ (z : Shape). o < containers_in z) (sym shape) keyed.container) keyed.locked
+    pub tried_words : (held_words o u ≡ held_words o v) × (known_state o u ≡ known_state o v)
+    tried_words = keeps.held.words o (subst (λ (z : Shape). o < container_count z) (sym shape) keyed.container) keyed.locked
 
     pub tried_knows : KnowsKeyed k o old u
     tried_knows = knows_on k o old v u tried_words.0 tried_words.1 (same.locks o) (same.writes o) keyed
 
   -- it may put the table into the root
-  pub tried_may : (k : Shape) (o : ℕ) (old : Option Table) (table : Table) (class : ℕ) → v.shape ≡ k → MayAddKey k o old v → IsTableIn k table → table.class ≡ class → stage (name_of table) u.log ≡ 1 → owes u.log ≡ suc class → MayGrowKeyed k o old table u
+  pub tried_may : (k : Shape) (o : ℕ) (old : Option Table) (table : Table) (class : ℕ) → v.shape ≡ k → MayAddKey k o old v → IsTableIn k table → table.class ≡ class → stage (table_id table) u.log ≡ 1 → owes u.log ≡ suc class → MayGrowKeyed k o old table u
   tried_may k o old table class shape may table_in of_class fresh owed = record {
     keyed = tried_knows k o old shape may.keyed;
     used = keeps.held.used ∙ may.used;
@@ -74,7 +74,7 @@ module _ (F : ℕ → Type 0) (v u : View) (same : SamePass v u) (keeps : KeepsB
 
 -- ---- after loads
 
-module _ (k : Shape) (o : ℕ) (old : Option Table) (v u : View) (only : OnlyLoaded v u) (same : held o u ≡ held o v) where
+module _ (k : Shape) (o : ℕ) (old : Option Table) (v u : View) (only : OnlyLoaded v u) (same : held_words o u ≡ held_words o v) where
   pub may_loaded : MayAddKey k o old v → MayAddKey k o old u
   may_loaded may = record {
     keyed = knows_on k o old v u same (work_knows v u o only.work) (only.work.pass.locks o) (only.work.pass.writes o) may.keyed;
@@ -86,8 +86,8 @@ module _ (k : Shape) (o : ℕ) (old : Option Table) (v u : View) (only : OnlyLoa
 
   pub has_loaded : (found : StoredWorld) → MayHave u found → MayHave v found
   has_loaded found has = record {
-    agrees = λ p low mine. has.agrees p (subst (λ (z : Shape). p < containers_in z) (sym only.work.pass.shape) low) (only.work.pass.locks p ∙ mine) ∙ work_knows v u p only.work;
-    containers = has.containers ∙ ap containers_in only.work.pass.shape;
+    agrees = λ p low mine. has.agrees p (subst (λ (z : Shape). p < container_count z) (sym only.work.pass.shape) low) (only.work.pass.locks p ∙ mine) ∙ work_knows v u p only.work;
+    containers = has.containers ∙ ap container_count only.work.pass.shape;
     kinds = has.kinds ∙ ap (λ (z : Shape). kinds_in z.starts) only.work.pass.shape;
     order = has.order;
     unsplit = has.unsplit;

@@ -15,7 +15,7 @@ use Rattle.ft_keys.specs.declared.walk.Way.TheVariants as way
 use Rattle.ft_trace.specs.Addresses.{class_of, places}
 use Rattle.ft_trace.specs.Kinds.{rows}
 use Rattle.ft_bank.specs.declared.table.Table.{Table}
-use Rattle.ft_bank.specs.TableNames.{name_of}
+use Rattle.ft_bank.specs.TableNames.{table_id}
 use Rattle.ft_search.specs.Rounds.{kind_by}
 use Rattle.ft_adding.specs.KeyGrowth.{key_takes, most_of, use_of}
 
@@ -76,7 +76,7 @@ takes_room (content.Deque deque) way.Set was class same few takes = absurd (cc)
 
 -- ---- the table that it has then
 
-pub stays_use : (d : Content) (t : Table) (fill : ℕ) (was : TableUse) → was ≡ use_of (Some t) fill → key_takes d was ≡ None → class_of (name_of t) ≡ t.class → grown_table was (key_takes d was) 1 (length_of d + 1) ≡ record { class = Some (class_of (name_of t)); fill = fill + 1; keys = [] }
+pub stays_use : (d : Content) (t : Table) (fill : ℕ) (was : TableUse) → was ≡ use_of (Some t) fill → key_takes d was ≡ None → class_of (table_id t) ≡ t.class → grown_table was (key_takes d was) 1 (length_of d + 1) ≡ record { class = Some (class_of (table_id t)); fill = fill + 1; keys = [] }
 stays_use d t fill was is none same =
     ap (λ (z : Option ℕ). grown_table was z 1 (length_of d + 1)) none ∙ (λ i. record { class = (ap (λ (z : TableUse). z.class) is ∙ ap (λ (n : ℕ). Some n) (sym same)) i; fill = (is i).fill + 1; keys = (is i).keys })
 

@@ -20,15 +20,15 @@ use Rattle.ft_keys.specs.Ways.{walk_slots}
 use Rattle.ft_trace.specs.declared.Shape.{Shape}
 use Rattle.ft_trace.specs.declared.View.{View}
 use Rattle.ft_trace.specs.Acts.{has_lock, is_writing, owes, stage, used, flight}
-use Rattle.ft_trace.specs.Addresses.{containers_in, class_of}
+use Rattle.ft_trace.specs.Addresses.{container_count, class_of}
 use Rattle.ft_trace.specs.FitCalls.{FitsCall}
-use Rattle.ft_trace.specs.Holds.{held, known}
+use Rattle.ft_trace.specs.Holds.{held_words, known_state}
 use Rattle.ft_trace.specs.Kinds.{IsKeyed}
 use Rattle.ft_trace.specs.BegunSections.{HasLocksOf}
-use Rattle.ft_trace.specs.Pictures.{root_in, Stands}
+use Rattle.ft_trace.specs.Pictures.{root_in, Represents}
 use Rattle.ft_trace.specs.ContainerStates.{state_at, kind_in, changes}
 use Rattle.ft_bank.specs.declared.table.Table.{Table}
-use Rattle.ft_bank.specs.TableNames.{name_of, root_for, IsTableIn}
+use Rattle.ft_bank.specs.TableNames.{table_id, root_for, IsTableIn}
 use Rattle.ft_bank.specs.Whole.{OnlyLoaded}
 use Rattle.ft_bank.specs.WriteSteps.{MayHave}
 use Rattle.ft_growth.specs.declared.adding.Added.{Added}
@@ -41,13 +41,13 @@ use Rattle.ft_adding.specs.Placing.{with_key}
 -- The pass has the lock of the container o, a dict or a set, whose root names this table or none; no version is odd
 -- there, and its words stand for what the pass knows of it. (profile)
 pub record KnowsKeyed (k : Shape) (o : ℕ) (old : Option Table) (v : View) : Type 0 where
-  pub container : o < containers_in k
+  pub container : o < container_count k
   pub keyed : IsKeyed (kind_in k.starts o)
   pub locked : has_lock o v.log ≡ true
   pub even : is_writing o v.log ≡ false
-  pub stands : Stands k.texts (held o v) (known o v)
+  pub stands : Represents k.texts (held_words o v) (known_state o v)
   pub table_in : (t : Table) → old ≡ Some t → IsTableIn k t
-  pub root : root_in (held o v) ≡ root_for old
+  pub root : root_in (held_words o v) ≡ root_for old
 
 -- Besides it is in the midst of no taking or giving of a table, and of no other write that took a table out of a root;
 -- it has lowered no count of a class that it hasn't raised again, and it has a call left. (profile)
@@ -62,8 +62,8 @@ pub record MayAddKey (k : Shape) (o : ℕ) (old : Option Table) (v : View) : Typ
 pub record MayGrowKeyed (k : Shape) (o : ℕ) (old : Option Table) (table : Table) (v : View) : Type 0 where
   pub keyed : KnowsKeyed k o old v
   pub used : used v.log ≡ false
-  pub owed : owes v.log ≡ suc (class_of (name_of table))
-  pub fresh : stage (name_of table) v.log ≡ 1
+  pub owed : owes v.log ≡ suc (class_of (table_id table))
+  pub fresh : stage (table_id table) v.log ≡ 1
   pub table_in : IsTableIn k table
   pub left : 0 < v.left
 
@@ -112,13 +112,13 @@ pub record AddsKey (o : ℕ) (called : Call) (said : Reply) (key : Key) (stored 
   pub declared : (found : StoredWorld) → MayHave v found → IsDeclared found.world no_hands called
   pub lacks : (found : StoredWorld) → MayHave v found → CanLackMemory found.world called
   pub over : (found : StoredWorld) → MayHave v found
-      → would_pass found.world called ≡ nat_lt (most_of (known o v).content) (length_of (known o v).content + 1)
+      → would_pass found.world called ≡ nat_lt (most_of (known_state o v).content) (length_of (known_state o v).content + 1)
   pub takes : (found : StoredWorld) → MayHave v found
-      → takes_in found called ≡ key_takes (known o v).content (known o v).table
+      → takes_in found called ≡ key_takes (known_state o v).content (known_state o v).table
   pub left_is : (found : StoredWorld) → MayHave v found → state_at (after_stored found called) o ≡ record {
-    content = with_key (known o v).content key stored;
-    table = grown_table (known o v).table (key_takes (known o v).content (known o v).table) 1
-        (length_of (known o v).content + 1);
+    content = with_key (known_state o v).content key stored;
+    table = grown_table (known_state o v).table (key_takes (known_state o v).content (known_state o v).table) 1
+        (length_of (known_state o v).content + 1);
   }
 
 -- whether a dict or a set has the key (Python manual, Mapping Types, Set Types)
@@ -135,9 +135,9 @@ abbrev pub PutsKey : Shape → ℕ → Key → Call → Reply → View → View 
 PutsKey k o key called said v w what =
     (u : View) × OnlyLoaded v u
     × IsAdded k
-    (if holds (known o v).content key then None else key_takes (known o v).content (known o v).table)
-    (if holds (known o v).content key then false
-    else nat_lt (most_of (known o v).content) (length_of (known o v).content + 1))
+    (if holds (known_state o v).content key then None else key_takes (known_state o v).content (known_state o v).table)
+    (if holds (known_state o v).content key then false
+    else nat_lt (most_of (known_state o v).content) (length_of (known_state o v).content + 1))
     called said u w what
 
 -- What such a call comes to under the lock whose key isn't there: after loads, by the class of the table that the
@@ -146,5 +146,5 @@ PutsKey k o key called said v w what =
 abbrev pub AddsOne : Shape → ℕ → Call → Reply → View → View → Added → Type 0
 AddsOne k o called said v w what =
     (u : View) × OnlyLoaded v u
-    × IsAdded k (key_takes (known o v).content (known o v).table)
-    (nat_lt (most_of (known o v).content) (length_of (known o v).content + 1)) called said u w what
+    × IsAdded k (key_takes (known_state o v).content (known_state o v).table)
+    (nat_lt (most_of (known_state o v).content) (length_of (known_state o v).content + 1)) called said u w what

@@ -14,7 +14,7 @@ use Rattle.ft_keys.specs.declared.words.Access.{Access}
 use Rattle.ft_keys.specs.declared.words.Access.TheVariants.{PutIndex, PutEntry}
 use Rattle.ft_keys.specs.TableChanges.{place_puts}
 use Rattle.ft_trace.specs.Addresses.{class_of, slots}
-use Rattle.ft_trace.specs.Pictures.{Picture, index_field, entry_offset, entry_field}
+use Rattle.ft_trace.specs.Pictures.{ContainerWords, index_field, entry_offset, entry_field}
 use Rattle.ft_adding.specs.declared.counts.Counts.{Counts}
 use Rattle.ft_search.specs.OneEntryWrites.{raised_at}
 
@@ -53,12 +53,12 @@ laid n [] words = words
 laid n (access ∷ earlier) words = put_in n access (laid n earlier words)
 
 -- a table's words once the entry at a place has this pair, with its version odd, and a slot names it
-abbrev pub with_pair : ℕ → ℕ → ℕ → Pair → Picture → List ℕ
+abbrev pub with_pair : ℕ → ℕ → ℕ → Pair → ContainerWords → List ℕ
 with_pair t slot place pair x =
     laid (slots (class_of t)) (place_puts slot place (entry_words pair)) (raised_at t place x).table
 
 -- the words of a container with a new pair after the entries that were used
-abbrev pub with_entry : ℕ → ℕ → Counts → Pair → Picture → Picture
+abbrev pub with_entry : ℕ → ℕ → Counts → Pair → ContainerWords → ContainerWords
 with_entry t slot counts pair x =
     record {
       block = counted x.block (counts.count + 1) (counts.fill + 1) (pair.serial + 1);

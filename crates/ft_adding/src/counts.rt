@@ -1,8 +1,8 @@
 //! What the block of a dict or a set counts.
 ghost use Rattle.std.specs.Prelude.{◌≡◌, ◌<◌, true};
 ghost use Rattle.ft_trace.specs.Acts.{has_lock};
-ghost use Rattle.ft_trace.specs.Addresses.{containers_in};
-ghost use Rattle.ft_trace.specs.Holds.{held};
+ghost use Rattle.ft_trace.specs.Addresses.{container_count};
+ghost use Rattle.ft_trace.specs.Holds.{held_words};
 ghost use Rattle.ft_bank.specs.Passes.{shape_of, view, IsPassOf};
 ghost use Rattle.ft_bank.specs.PassSections.{stack_of};
 ghost use Rattle.ft_bank.specs.Whole.{OnlyLoaded};
@@ -34,12 +34,12 @@ pub struct Counts {
 /// What the block of a dict or a set counts, whose lock the pass has.
 pub fn read_counts(bank: &Bank, pass: &mut Pass, o: u32) -> Counts
     requires pass { IsPassOf bank.now pass.old }
-    requires container { o < containers_in (shape_of bank.now) }
+    requires container { o < container_count (shape_of bank.now) }
     requires locked { has_lock o (view pass.old).log ≡ true }
     ensures pass { IsPassOf bank.now pass.new }
     ensures stack { stack_of pass.new ≡ stack_of pass.old }
     ensures only { OnlyLoaded (view pass.old) (view pass.new) }
-    ensures counts { AreCounts (held o (view pass.old)).block result }
+    ensures counts { AreCounts (held_words o (view pass.old)).block result }
 {
     let count = bank.read_block(pass, o, COUNT);
     let fill = bank.read_block(pass, o, FILL);

@@ -6,14 +6,14 @@ ghost use Rattle.ft_keys.specs.TableChanges.{Moves, Rebuilds};
 ghost use Rattle.ft_model.specs.declared.content.Content.{Content};
 ghost use Rattle.ft_model.specs.Worlds.{length_of};
 ghost use Rattle.ft_trace.specs.Acts.{has_lock, is_writing, stage};
-ghost use Rattle.ft_trace.specs.Addresses.{containers_in, class_of};
-ghost use Rattle.ft_trace.specs.Holds.{held, in_hand, known};
+ghost use Rattle.ft_trace.specs.Addresses.{container_count, class_of};
+ghost use Rattle.ft_trace.specs.Holds.{held_words, in_hand, known_state};
 ghost use Rattle.ft_trace.specs.Kinds.{rows};
-ghost use Rattle.ft_trace.specs.Pictures.{root_in, Stands};
+ghost use Rattle.ft_trace.specs.Pictures.{root_in, Represents};
 ghost use Rattle.ft_trace.specs.ContainerStates.{kind_in};
 ghost use Rattle.ft_bank.specs.Passes.{shape_of, view, IsPassOf};
 ghost use Rattle.ft_bank.specs.PassSections.{stack_of};
-ghost use Rattle.ft_bank.specs.TableNames.{name_of, IsTableIn};
+ghost use Rattle.ft_bank.specs.TableNames.{table_id, IsTableIn};
 ghost use Rattle.ft_growth.specs.Adding.{OnlyFilled};
 ghost use Rattle.ft_search.specs.Rounds.{kind_by};
 ghost use Rattle.ft_adding.specs.Fresh.{CanFill, FreshMade, HasZeroWords, IsFilledWith, old_entries};
@@ -32,11 +32,11 @@ use ft_search::mask_of;
 pub fn blank(bank: &Bank, pass: &mut Pass, table: Table)
     requires pass { IsPassOf bank.now pass.old }
     requires table { IsTableIn (shape_of bank.now) table }
-    requires fresh { stage (name_of table) (view pass.old).log ≡ 1 }
+    requires fresh { stage (table_id table) (view pass.old).log ≡ 1 }
     ensures pass { IsPassOf bank.now pass.new }
     ensures stack { stack_of pass.new ≡ stack_of pass.old }
     ensures only { OnlyFilled (view pass.old) (view pass.new) }
-    ensures blank { HasZeroWords (class_of (name_of table)) (in_hand (name_of table) (view pass.new)) }
+    ensures blank { HasZeroWords (class_of (table_id table)) (in_hand (table_id table) (view pass.new)) }
 {
     for at in 0..table_size(table.class) - 2 {
         bank.put_fresh(pass, table, at, 0);
@@ -71,15 +71,15 @@ fn copy_entries(
     requires keyed { KnowsKeyed (shape_of bank.now) o (Some old) (view pass.old) }
     requires way { kind_in (shape_of bank.now).starts o ≡ kind_by way }
     requires table { IsTableIn (shape_of bank.now) table }
-    requires fresh { stage (name_of table) (view pass.old).log ≡ 1 }
-    requires blank { HasZeroWords (class_of (name_of table)) (in_hand (name_of table) (view pass.old)) }
-    requires fill { old_fill ≡ (known o (view pass.old)).table.fill }
-    requires room { length_of (known o (view pass.old)).content ≤ rows (kind_by way) (class_of (name_of table)) }
+    requires fresh { stage (table_id table) (view pass.old).log ≡ 1 }
+    requires blank { HasZeroWords (class_of (table_id table)) (in_hand (table_id table) (view pass.old)) }
+    requires fill { old_fill ≡ (known_state o (view pass.old)).table.fill }
+    requires room { length_of (known_state o (view pass.old)).content ≤ rows (kind_by way) (class_of (table_id table)) }
     ensures pass { IsPassOf bank.now pass.new }
     ensures stack { stack_of pass.new ≡ stack_of pass.old }
     ensures only { OnlyFilled (view pass.old) (view pass.new) }
-    ensures filled { IsFilledWith (shape_of bank.now).texts (class_of (name_of table)) (known o (view pass.old)).content
-        (in_hand (name_of table) (view pass.new)) }
+    ensures filled { IsFilledWith (shape_of bank.now).texts (class_of (table_id table)) (known_state o (view pass.old)).content
+        (in_hand (table_id table) (view pass.new)) }
 {
     calls_keep_versions();
     changed_words_are_of_a_table();
@@ -113,14 +113,14 @@ pub fn fill(
     requires keyed { KnowsKeyed (shape_of bank.now) o old (view pass.old) }
     requires way { kind_in (shape_of bank.now).starts o ≡ kind_by way }
     requires table { IsTableIn (shape_of bank.now) table }
-    requires fresh { stage (name_of table) (view pass.old).log ≡ 1 }
-    requires fill { old_fill ≡ (known o (view pass.old)).table.fill }
-    requires room { length_of (known o (view pass.old)).content ≤ rows (kind_by way) (class_of (name_of table)) }
+    requires fresh { stage (table_id table) (view pass.old).log ≡ 1 }
+    requires fill { old_fill ≡ (known_state o (view pass.old)).table.fill }
+    requires room { length_of (known_state o (view pass.old)).content ≤ rows (kind_by way) (class_of (table_id table)) }
     ensures pass { IsPassOf bank.now pass.new }
     ensures stack { stack_of pass.new ≡ stack_of pass.old }
     ensures only { OnlyFilled (view pass.old) (view pass.new) }
-    ensures filled { IsFilledWith (shape_of bank.now).texts (class_of (name_of table)) (known o (view pass.old)).content
-        (in_hand (name_of table) (view pass.new)) }
+    ensures filled { IsFilledWith (shape_of bank.now).texts (class_of (table_id table)) (known_state o (view pass.old)).content
+        (in_hand (table_id table) (view pass.new)) }
 {
     changed_words_are_of_a_table();
     words_are_of_one_content();

@@ -8,9 +8,9 @@ ghost use Rattle.ft_layout.specs.Tables.{UsedEntry, is_live};
 ghost use Rattle.ft_layout.specs.Words.{FitsKey, FitsStored};
 ghost use Rattle.ft_keys.specs.Ways.{IsTableOf};
 ghost use Rattle.ft_trace.specs.declared.Act.TheVariants.{StartWrite, PutRoot};
-ghost use Rattle.ft_trace.specs.Acts.{noted};
-ghost use Rattle.ft_trace.specs.Addresses.{containers_in, class_of};
-ghost use Rattle.ft_trace.specs.Holds.{held, known, in_hand};
+ghost use Rattle.ft_trace.specs.Acts.{view_after};
+ghost use Rattle.ft_trace.specs.Addresses.{container_count, class_of};
+ghost use Rattle.ft_trace.specs.Holds.{held_words, known_state, in_hand};
 ghost use Rattle.ft_trace.specs.Kinds.{rows};
 ghost use Rattle.ft_trace.specs.Pictures.{root_in};
 ghost use Rattle.ft_trace.specs.ContainerStates.{kind_in};
@@ -18,7 +18,7 @@ ghost use Rattle.ft_bank.specs.KeyHashes.{IsKeyIn};
 ghost use Rattle.ft_bank.specs.Passes.{shape_of, view, IsPassOf};
 ghost use Rattle.ft_bank.specs.PassSections.{stack_of};
 ghost use Rattle.ft_bank.specs.Series.{DidAll};
-ghost use Rattle.ft_bank.specs.TableNames.{name_of, IsTableIn};
+ghost use Rattle.ft_bank.specs.TableNames.{table_id, IsTableIn};
 ghost use Rattle.ft_bank.specs.Whole.{OnlyLoaded, Wrote};
 ghost use Rattle.ft_bank.specs.WriteSteps.{KeepsUnwritten};
 ghost use Rattle.ft_search.specs.Held.{IsHeldAt, KnowsTable};
@@ -44,16 +44,16 @@ use ft_search::{finish_entry, read_in};
 pub fn begin_in(bank: &Bank, pass: &mut Pass, o: u32, old: Option<Table>, table: Table)
     requires pass { IsPassOf bank.now pass.old }
     requires may { MayGrowKeyed (shape_of bank.now) o old table (view pass.old) }
-    requires filled { IsFilledWith (shape_of bank.now).texts (class_of (name_of table)) (known o (view pass.old)).content
-        (in_hand (name_of table) (view pass.old)) }
+    requires filled { IsFilledWith (shape_of bank.now).texts (class_of (table_id table)) (known_state o (view pass.old)).content
+        (in_hand (table_id table) (view pass.old)) }
     ensures pass { IsPassOf bank.now pass.new }
     ensures did { (f : ℕ) × DidAll
-        (PutRoot o (suc (name_of table)) (root_in (held o (view pass.old))) ∷ StartWrite o f ∷ []) pass.old pass.new
-        × KeepsUnwritten (noted (StartWrite o f) (view pass.old)) (view pass.new) }
+        (PutRoot o (suc (table_id table)) (root_in (held_words o (view pass.old))) ∷ StartWrite o f ∷ []) pass.old pass.new
+        × KeepsUnwritten (view_after (StartWrite o f) (view pass.old)) (view pass.new) }
     ensures writes { WritesEntries (shape_of bank.now) o table (view pass.new) }
-    ensures words { held o (view pass.new) ≡ record {
-      block = slice_set (held o (view pass.old)).block 0 (suc (name_of table));
-      table = in_hand (name_of table) (view pass.old);
+    ensures words { held_words o (view pass.new) ≡ record {
+      block = slice_set (held_words o (view pass.old)).block 0 (suc (table_id table));
+      table = in_hand (table_id table) (view pass.old);
     } }
 {
     let _ = old;
@@ -67,16 +67,16 @@ pub fn begin_in(bank: &Bank, pass: &mut Pass, o: u32, old: Option<Table>, table:
 /// The first slot for a key that was never used, in the table of a container that hasn't the key.
 fn free_slot(bank: &Bank, pass: &mut Pass, o: u32, way: Way, key: Key, table: Table) -> u64
     requires pass { IsPassOf bank.now pass.old }
-    requires container { o < containers_in (shape_of bank.now) }
+    requires container { o < container_count (shape_of bank.now) }
     requires key { IsKeyIn (shape_of bank.now) key }
     requires table { IsTableIn (shape_of bank.now) table }
-    requires knows { KnowsTable o (name_of table) (view pass.old) }
+    requires knows { KnowsTable o (table_id table) (view pass.old) }
     requires absent { (used : List UsedEntry) × IsTableOf way (shape_of bank.now).texts (class_mask table.class) used
-        (0 ∷ 0 ∷ (held o (view pass.old)).table) × All (λ entry. entry.key ≢ key) (filter is_live used) }
+        (0 ∷ 0 ∷ (held_words o (view pass.old)).table) × All (λ entry. entry.key ≢ key) (filter is_live used) }
     ensures pass { IsPassOf bank.now pass.new }
     ensures stack { stack_of pass.new ≡ stack_of pass.old }
     ensures only { OnlyLoaded (view pass.old) (view pass.new) }
-    ensures slot { IsFreeFor (shape_of bank.now).texts way table.class key (held o (view pass.old)).table result }
+    ensures slot { IsFreeFor (shape_of bank.now).texts way table.class key (held_words o (view pass.old)).table result }
 {
     searches_end_at_the_first_free_slot();
     let (found, _) = read_in(bank, pass, o, way, key, table);
@@ -106,23 +106,23 @@ pub(crate) fn add_in_new(
     requires pass { IsPassOf bank.now pass.old }
     requires may { MayGrowKeyed (shape_of bank.now) o old table (view pass.old) }
     requires way { kind_in (shape_of bank.now).starts o ≡ kind_by way }
-    requires other { root_in (held o (view pass.old)) ≢ suc (name_of table) }
+    requires other { root_in (held_words o (view pass.old)) ≢ suc (table_id table) }
     requires key { IsKeyIn (shape_of bank.now) key }
     requires fits { FitsKey key }
-    requires absent { IsHeldAt (known o (view pass.old)).content key None }
-    requires counts { AreCounts (held o (view pass.old)).block counts }
-    requires room { counts.count < rows (kind_by way) (class_of (name_of table)) }
-    requires serials { serial_of (known o (view pass.old)).content < 2 ^ 63 }
+    requires absent { IsHeldAt (known_state o (view pass.old)).content key None }
+    requires counts { AreCounts (held_words o (view pass.old)).block counts }
+    requires room { counts.count < rows (kind_by way) (class_of (table_id table)) }
+    requires serials { serial_of (known_state o (view pass.old)).content < 2 ^ 63 }
     requires stores { StoresAs (kind_by way) stored }
     requires value { FitsStored stored }
     requires adds { AddsKey o called.now said.now key stored (view pass.old) }
-    requires few { nat_lt (most_of (known o (view pass.old)).content) (length_of (known o (view pass.old)).content + 1) ≡ false }
-    requires takes { key_takes (known o (view pass.old)).content (known o (view pass.old)).table
-        ≡ Some (class_of (name_of table)) }
+    requires few { nat_lt (most_of (known_state o (view pass.old)).content) (length_of (known_state o (view pass.old)).content + 1) ≡ false }
+    requires takes { key_takes (known_state o (view pass.old)).content (known_state o (view pass.old)).table
+        ≡ Some (class_of (table_id table)) }
     ensures pass { IsPassOf bank.now pass.new }
     ensures stack { stack_of pass.new ≡ stack_of pass.old }
     ensures wrote { Wrote called.now said.now result (view pass.old) (view pass.new) }
-    ensures root { root_in (held o (view pass.new)) ≡ suc (name_of table) }
+    ensures root { root_in (held_words o (view pass.new)) ≡ suc (table_id table) }
 {
     versions_change_nothing();
     placed_pairs_are_of_a_table();

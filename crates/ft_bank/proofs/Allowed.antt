@@ -12,8 +12,8 @@ use Rattle.ft_trace.specs.declared.View.{View}
 use Rattle.ft_trace.specs.declared.Act.{Act}
 use Rattle.ft_trace.specs.declared.Snap.{Snap}
 use Rattle.ft_trace.specs.Addresses.{at}
-use Rattle.ft_trace.specs.Acts.{place, word_after, Reports, noted, maker, made, both, spent, sender, note, shown}
-use Rattle.ft_trace.specs.Traces.{Event, did, forked, joined, sent, run, history, snap, Valid, Knows, Possible, Ready, ReadyAs, Does, DoesAs, MayFork, IsFree, IsQuiet, IsAwake}
+use Rattle.ft_trace.specs.Acts.{place, word_after, Reports, view_after, maker, made, both, spent, sender, note, shown}
+use Rattle.ft_trace.specs.Traces.{Event, did, forked, joined, sent, run, history, snap, Valid, Knows, IsReachable, Ready, ReadyAs, Does, DoesAs, MayFork, IsFree, IsQuiet, IsAwake}
 use Rattle.ft_trace.proofs.Sizes.{sized, set_at}
 use Rattle.ft_trace.proofs.Seeing.{shown_up}
 use Rattle.ft_bank.specs.Rules.{HasTrace, Notes, Acted}
@@ -37,7 +37,7 @@ module _ {S : Type 0} (me : Me S View) (id i : ℕ) (f : ℕ → ℕ) (act : ℕ
   -- the state with the action noted
   abbrev Noted : Shape → State S View → Type 0
   Noted k s =
-      (z : Snap) × HasTrace k (stepped s i (f (slice_index s.words i)) id me.1 (noted (act (slice_index s.words i) z) me.0) keeps)
+      (z : Snap) × HasTrace k (stepped s i (f (slice_index s.words i)) id me.1 (view_after (act (slice_index s.words i) z) me.0) keeps)
       × Acted me.0 (act (slice_index s.words i) z)
 
   core : (homes : List (Option S)) (es : List Event) → Knows me.0 es id → slice_index (run me.0.shape es).words i < 2 ^ 64 → Fit (slice_index (run me.0.shape es).words i)
@@ -77,10 +77,10 @@ module _ {S : Type 0} (me : Me S View) (id i : ℕ) (f : ℕ → ℕ) (act : ℕ
       subst (λ (z : Shape). Valid z h.0 → (run z h.0).words ≡ s.words → (run z h.0).views ≡ s.views → Noted z s) same (at_own s h.0 at small fit) h.1 h.2 h.3
 
 -- what a pass that did this knows is possible
-pub acted_knows : (v : View) (a : Act) (d : Acted v a) → Knows (noted a v) (did d.1 v a ∷ d.0) d.1
-acted_knows v a d = (d.2, set_at (run v.shape d.0).views d.1 v (noted a v) d.2.1.0)
+pub acted_knows : (v : View) (a : Act) (d : Acted v a) → Knows (view_after a v) (did d.1 v a ∷ d.0) d.1
+acted_knows v a d = (d.2, set_at (run v.shape d.0).views d.1 v (view_after a v) d.2.1.0)
 
-pub acted_possible : (v : View) (a : Act) → Acted v a → Possible (noted a v)
+pub acted_possible : (v : View) (a : Act) → Acted v a → IsReachable (view_after a v)
 acted_possible v a d = (did d.1 v a ∷ d.0, d.1, acted_knows v a d)
 
 -- a pass that is there has a number and a token
@@ -95,8 +95,8 @@ token_kept m n same token = omega (arith, same, token)
 pub same_settled : (w v : View) → w ≡ v → v.learnt ≤ shown v.log → w.learnt ≤ shown w.log
 same_settled w v same old = subst (λ (u : View). u.learnt ≤ shown u.log) (sym same) old
 
-pub still_settled : (v : View) (a : Act) (w : View) → w ≡ noted a v → v.learnt ≤ shown v.log → w.learnt ≤ shown w.log
-still_settled v a w same old = same_settled w (noted a v) same (le_trans old (shown_up a v.log))
+pub still_settled : (v : View) (a : Act) (w : View) → w ≡ view_after a v → v.learnt ≤ shown v.log → w.learnt ≤ shown w.log
+still_settled v a w same old = same_settled w (view_after a v) same (le_trans old (shown_up a v.log))
 
 module _ {S : Type 0} (me : Me S View) (id i : ℕ) (f : ℕ → ℕ) (live : IsAwake me.0) where
   -- a step that keeps what stood in the bank
@@ -104,21 +104,21 @@ module _ {S : Type 0} (me : Me S View) (id i : ℕ) (f : ℕ → ℕ) (live : Is
   kept act does ready k slots s h deep at small =
       let n = slice_index s.words i in
       let r = noted_at me id i f act live ready k s h at small (λ z. ((does n z).0, (does n z).1 n)) in
-      (noted (act n r.0) me.0, keeps, tt, r.1, (r.0, (refl, refl, r.2)))
+      (view_after (act n r.0) me.0, keeps, tt, r.1, (r.0, (refl, refl, r.2)))
 
   -- a step that finds a number
   pub found : (act : ℕ → Act) → Does me.0 i f act → Ready me.0 i act → (k : Shape) (slots : ℕ) → Allows (HasTrace k) slots id me i f (Notes act me)
   found act does ready k slots s h deep at small =
       let n = slice_index s.words i in
       let r = noted_at me id i f (λ n' _. act n') live ready k s h at small (λ z. ((does n z).0, (does n z).1 n)) in
-      (noted (act n) me.0, keeps, tt, r.1, (refl, refl, r.2))
+      (view_after (act n) me.0, keeps, tt, r.1, (refl, refl, r.2))
 
   -- a store, which finds nothing
   pub stored : (x : ℕ) (act : ℕ → Act) → act x ≡ act 0 → Does me.0 i f (λ _. act 0) → Ready me.0 i (λ _. act 0) → (k : Shape) (slots : ℕ) → Allows (HasTrace k) slots id me i f (λ _. Notes act me x)
   stored x act same does ready k slots s h deep at small =
       let n = slice_index s.words i in
       let r = noted_at me id i f (λ _ _. act 0) live ready k s h at small (λ z. ((does n z).0, (does n z).1 n)) in
-      (noted (act 0) me.0, keeps, tt, r.1, (ap (λ (z : Act). noted z me.0) (sym same), refl, subst (Acted me.0) (sym same) r.2))
+      (view_after (act 0) me.0, keeps, tt, r.1, (ap (λ (z : Act). view_after z me.0) (sym same), refl, subst (Acted me.0) (sym same) r.2))
 
 -- a load that is an action only where it finds another number than 0
 pub looked : {S : Type 0} (me : Me S View) (id i : ℕ) → IsAwake me.0 → (act : ℕ → Snap → Act) → ((n : ℕ) (z : Snap) → n ≢ 0 → (at me.0.shape (place (act n z)) ≡ i) × (word_after me.0.number (act n z) n ≡ n)) → ReadyAs me.0 i act → (k : Shape) (slots : ℕ)
@@ -130,7 +130,7 @@ looked me id i live act fit ready k slots s h deep at small =
     (me.0, keeps, tt, (h.0, h.1, h.2 ∙ sym (set_own s.words i), h.3 ∙ sym (set_same s.views id me.0 at)), ((λ _. refl), (λ ne. absurd (ne none)))))
     (λ (some_one : n ≢ 0).
     let r = noted_at me id i (λ x. x) act live ready k s h at small (λ z. fit n z some_one) in
-    (noted (act n r.0) me.0, keeps, tt, r.1, ((λ e. absurd (some_one e)), (λ _. (r.0, (refl, refl, r.2))))))
+    (view_after (act n r.0) me.0, keeps, tt, r.1, ((λ e. absurd (some_one e)), (λ _. (r.0, (refl, refl, r.2))))))
 
 pub cuts : {S : Type 0} (k : Shape) (id : ℕ) (v : View) → MayFork v → Splits (HasTrace {S = S} k) id v (maker v) (made v)
 cuts k id v may s h at =

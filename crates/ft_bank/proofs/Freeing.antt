@@ -15,11 +15,11 @@ use Rattle.ft_trace.specs.declared.Shape.{Shape}
 use Rattle.ft_trace.specs.declared.Snap.{Snap}
 use Rattle.ft_trace.specs.declared.View.{View}
 use Rattle.ft_trace.specs.Bits.{bit, bit_on, bit_off}
-use Rattle.ft_trace.specs.Addresses.{containers_in, class_of, number_of, free_word_of, free_bit_of, tables_in, bits, cell, extent, IsTableName}
+use Rattle.ft_trace.specs.Addresses.{container_count, class_of, number_of, free_word_of, free_bit_of, tables_in, bits, cell, extent, IsTableName}
 use Rattle.ft_trace.specs.Ages.{age}
 use Rattle.ft_trace.specs.Pictures.{table_words}
-use Rattle.ft_trace.specs.Acts.{clear, place, has_lock, has_lock_next, is_writing_next, has_committed_next, has_emptied_next, stage, stage_next, used_next, debt_next, announces_next, left_next, entries_next, flight, owes, noted}
-use Rattle.ft_trace.specs.Holds.{held, known, in_hand}
+use Rattle.ft_trace.specs.Acts.{clear, place, has_lock, has_lock_next, is_writing_next, has_committed_next, has_emptied_next, stage, stage_next, used_next, debt_next, announces_next, left_next, entries_next, flight, owes, view_after}
+use Rattle.ft_trace.specs.Holds.{held_words, known_state, in_hand}
 use Rattle.ft_trace.specs.Traces.{Event, did, run, word, writes_of, history, IsAllShut, May, Ready, ReadyAs}
 use Rattle.ft_trace.specs.ContainerStates.{container_after}
 use Rattle.ft_trace.proofs.Addresses.{class_of_number, number_of_number, at_low}
@@ -35,7 +35,7 @@ use Rattle.ft_trace.proofs.OneWord.{stays}
 use Rattle.ft_bank.specs.declared.table.Table.{Table}
 use Rattle.ft_bank.specs.Rules.{Acted}
 use Rattle.ft_bank.specs.Series.{noted_all}
-use Rattle.ft_bank.specs.TableNames.{name_of, IsTableIn}
+use Rattle.ft_bank.specs.TableNames.{table_id, IsTableIn}
 use Rattle.ft_bank.specs.declared.takings.Search.{Search}
 use Rattle.ft_bank.specs.declared.takings.Search.TheVariants as search
 use Rattle.ft_bank.specs.Takings.{KeepsHeld, KeepsBut, Each, NotTable, IsShutIn, IsUnclaimed, MayGive, HasFound, IsSearch, IsBitCleared, Cleared, word_of_class, loads_of_none}
@@ -58,11 +58,11 @@ pub record IsAside (a : Act) : Type 0 where
   pub inside : (t i : ℕ) → place a ≢ cell t i
 
 module _ (F : ℕ → Type 0) (v : View) (a : Act) (aside : IsAside a) (same : (t n : ℕ) → F t → stage_next t a n ≡ n) (d : Acted v a) where
-  words_keep : (o : ℕ) → o < containers_in v.shape → has_lock o v.log ≡ true → (held o (noted a v) ≡ held o v) × (known o (noted a v) ≡ known o v)
+  words_keep : (o : ℕ) → o < container_count v.shape → has_lock o v.log ≡ true → (held_words o (view_after a v) ≡ held_words o v) × (known_state o (view_after a v) ≡ known_state o v)
   words_keep o low mine =
       let k = v.shape in
       let es = d.0 in
-      let w = noted a v in
+      let w = view_after a v in
       let now = did d.1 v a ∷ es in
       let next = acted_knows v a d in
       let still = still_of k es now d.2.0 o low (λ x in_it of. stays k es d.1 v a d.2.1.3 x in_it (λ e. aside.apart k es o (subst (Of k es o) (sym e) of))) (ap (λ (cs : List Call). container_after k.starts cs o) (aside.writes (history es))) in
@@ -71,17 +71,17 @@ module _ (F : ℕ → Type 0) (v : View) (a : Act) (aside : IsAside a) (same : (
         content_known w o has now d.1 next ∙ (still.content ∙ sym (content_known v o mine es d.1 (d.2.0, d.2.1.0))),
       )
 
-  hand_keeps : (t : ℕ) → F t → IsTableName v.shape t → stage t v.log ≡ 1 → in_hand t (noted a v) ≡ in_hand t v
+  hand_keeps : (t : ℕ) → F t → IsTableName v.shape t → stage t v.log ≡ 1 → in_hand t (view_after a v) ≡ in_hand t v
   hand_keeps t of table mine =
       let k = v.shape in
       let es = d.0 in
-      let w = noted a v in
+      let w = view_after a v in
       let now = did d.1 v a ∷ es in
       let has : stage t w.log ≡ 1 = same t (stage t v.log) of ∙ mine in
       let words : tab k now t ≡ tab k es t = table_same k t (run k now).words (run k es).words (λ i small. stays k es d.1 v a d.2.1.3 (cell t i) (table, small) (aside.inside t i)) in
       hand_known w t table has now d.1 (acted_knows v a d) ∙ (words ∙ sym (hand_known v t table mine es d.1 (d.2.0, d.2.1.0)))
 
-  pub keeps_held : KeepsHeld F v (noted a v)
+  pub keeps_held : KeepsHeld F v (view_after a v)
   keeps_held = record {
     number = refl;
     next = refl;
@@ -101,7 +101,7 @@ module _ (F : ℕ → Type 0) (v : View) (a : Act) (aside : IsAside a) (same : (
     hands = hand_keeps;
   }
 
-  pub keeps_but : ((n : ℕ) → announces_next a n ≡ n) → ((n : ℕ) → debt_next a n ≡ n) → KeepsBut F v (noted a v)
+  pub keeps_but : ((n : ℕ) → announces_next a n ≡ n) → ((n : ℕ) → debt_next a n ≡ n) → KeepsBut F v (view_after a v)
   keeps_but says owns = record { held = keeps_held; announces = says _; debt = owns _ }
 
 pub held_same : (F : ℕ → Type 0) (v : View) → KeepsHeld F v v
@@ -145,7 +145,7 @@ held_then F G u v w a b of = record {
   used = b.used ∙ a.used;
   words = λ o low mine.
       let one = a.words o low mine in
-      let two = b.words o (subst (λ (z : Shape). o < containers_in z) (sym a.shape) low) (a.locks o ∙ mine) in
+      let two = b.words o (subst (λ (z : Shape). o < container_count z) (sym a.shape) low) (a.locks o ∙ mine) in
       (two.0 ∙ one.0, two.1 ∙ one.1);
   stages = λ t is. b.stages t (of t is) ∙ a.stages t is;
   hands = λ t is table mine.
@@ -175,7 +175,7 @@ lower_aside c old f = record {
   inside = λ t' i e. absurd (cc);
 }
 
-pub lower_keeps : (v : View) (c old f : ℕ) → Acted v (LowerCount c old f) → KeepsBut Each v (noted (LowerCount c old f) v)
+pub lower_keeps : (v : View) (c old f : ℕ) → Acted v (LowerCount c old f) → KeepsBut Each v (view_after (LowerCount c old f) v)
 lower_keeps v c old f d = keeps_but Each v (LowerCount c old f) (lower_aside c old f) (λ t n of. refl) d (λ n. refl) (λ n. refl)
 
 raise_aside : (c f : ℕ) → IsAside (RaiseCount c f)
@@ -192,7 +192,7 @@ raise_aside c f = record {
   inside = λ t' i e. absurd (cc);
 }
 
-pub raise_keeps : (v : View) (c f : ℕ) → Acted v (RaiseCount c f) → KeepsBut Each v (noted (RaiseCount c f) v)
+pub raise_keeps : (v : View) (c f : ℕ) → Acted v (RaiseCount c f) → KeepsBut Each v (view_after (RaiseCount c f) v)
 raise_keeps v c f d = keeps_but Each v (RaiseCount c f) (raise_aside c f) (λ t n of. refl) d (λ n. refl) (λ n. refl)
 
 count_aside : (c f : ℕ) → IsAside (ReadCount c f)
@@ -209,7 +209,7 @@ count_aside c f = record {
   inside = λ t' i e. absurd (cc);
 }
 
-pub count_keeps : (v : View) (c f : ℕ) → Acted v (ReadCount c f) → KeepsBut Each v (noted (ReadCount c f) v)
+pub count_keeps : (v : View) (c f : ℕ) → Acted v (ReadCount c f) → KeepsBut Each v (view_after (ReadCount c f) v)
 count_keeps v c f d = keeps_but Each v (ReadCount c f) (count_aside c f) (λ t n of. refl) d (λ n. refl) (λ n. refl)
 
 free_aside : (w f : ℕ) → IsAside (ReadFree w f)
@@ -226,7 +226,7 @@ free_aside w f = record {
   inside = λ t' i e. absurd (cc);
 }
 
-pub free_keeps : (v : View) (w f : ℕ) → Acted v (ReadFree w f) → KeepsBut Each v (noted (ReadFree w f) v)
+pub free_keeps : (v : View) (w f : ℕ) → Acted v (ReadFree w f) → KeepsBut Each v (view_after (ReadFree w f) v)
 free_keeps v w f d = keeps_but Each v (ReadFree w f) (free_aside w f) (λ t n of. refl) d (λ n. refl) (λ n. refl)
 
 take_aside : (t f : ℕ) (s : Snap) → IsAside (TakeTable t f s)
@@ -243,16 +243,16 @@ take_aside t f s = record {
   inside = λ t' i e. absurd (cc);
 }
 
-pub take_keeps : (v : View) (q : Table) (f : ℕ) (s : Snap) → Acted v (TakeTable (name_of q) f s) → KeepsBut (NotTable q) v (noted (TakeTable (name_of q) f s) v)
-take_keeps v q f s d = keeps_but (NotTable q) v (TakeTable (name_of q) f s) (take_aside (name_of q) f s) (λ t n of. miss (name_of q) t _ n (λ e. of (sym e))) d (λ n. refl) (λ n. refl)
+pub take_keeps : (v : View) (q : Table) (f : ℕ) (s : Snap) → Acted v (TakeTable (table_id q) f s) → KeepsBut (NotTable q) v (view_after (TakeTable (table_id q) f s) v)
+take_keeps v q f s d = keeps_but (NotTable q) v (TakeTable (table_id q) f s) (take_aside (table_id q) f s) (λ t n of. miss (table_id q) t _ n (λ e. of (sym e))) d (λ n. refl) (λ n. refl)
 
 -- where the bit was not set any more, no table changed hands
-pub lost_keeps : (v : View) (q : Table) (f : ℕ) (s : Snap) → bit (free_bit_of (name_of q)) f ≢ 1 → Acted v (TakeTable (name_of q) f s) → KeepsBut Each v (noted (TakeTable (name_of q) f s) v)
+pub lost_keeps : (v : View) (q : Table) (f : ℕ) (s : Snap) → bit (free_bit_of (table_id q)) f ≢ 1 → Acted v (TakeTable (table_id q) f s) → KeepsBut Each v (view_after (TakeTable (table_id q) f s) v)
 lost_keeps v q f s ne d =
-    keeps_but Each v (TakeTable (name_of q) f s) (take_aside (name_of q) f s)
+    keeps_but Each v (TakeTable (table_id q) f s) (take_aside (table_id q) f s)
     (λ t n of.
-    dite (ℕ_discrete (name_of q) t) (λ (e : name_of q ≡ t). here (name_of q) t _ n e ∙ miss (bit (free_bit_of t) f) 1 1 n (λ z. ne (ap (λ (x : ℕ). bit (free_bit_of x) f) e ∙ z)))
-    (λ far. miss (name_of q) t _ n far)) d (λ n. refl) (λ n. refl)
+    dite (ℕ_discrete (table_id q) t) (λ (e : table_id q ≡ t). here (table_id q) t _ n e ∙ miss (bit (free_bit_of t) f) 1 1 n (λ z. ne (ap (λ (x : ℕ). bit (free_bit_of x) f) e ∙ z)))
+    (λ far. miss (table_id q) t _ n far)) d (λ n. refl) (λ n. refl)
 
 give_aside : (t : ℕ) → IsAside (GiveTable t)
 give_aside t = record {
@@ -268,27 +268,27 @@ give_aside t = record {
   inside = λ t' i e. absurd (cc);
 }
 
-pub give_keeps : (v : View) (q : Table) → Acted v (GiveTable (name_of q)) → KeepsBut (NotTable q) v (noted (GiveTable (name_of q)) v)
-give_keeps v q d = keeps_but (NotTable q) v (GiveTable (name_of q)) (give_aside (name_of q)) (λ t n of. miss (name_of q) t 0 n (λ e. of (sym e))) d (λ n. refl) (λ n. refl)
+pub give_keeps : (v : View) (q : Table) → Acted v (GiveTable (table_id q)) → KeepsBut (NotTable q) v (view_after (GiveTable (table_id q)) v)
+give_keeps v q d = keeps_but (NotTable q) v (GiveTable (table_id q)) (give_aside (table_id q)) (λ t n of. miss (table_id q) t 0 n (λ e. of (sym e))) d (λ n. refl) (λ n. refl)
 
 -- ---- free tables
 
 -- where the bits of a class's tables lie
-pub word_is : (t : Table) → IsClass t.class → t.number < 1024 → free_word_of (name_of t) ≡ word_of_class t.class (t.number / 64)
+pub word_is : (t : Table) → IsClass t.class → t.number < 1024 → free_word_of (table_id t) ≡ word_of_class t.class (t.number / 64)
 unfolding free_word_of
 word_is t class low = let c = class_of_number t.class t.number low in let n = number_of_number t.class t.number low in let l = class.least in omega (arith, c, n, l)
 
-pub bit_is : (t : Table) → t.number < 1024 → free_bit_of (name_of t) ≡ t.number % 64
+pub bit_is : (t : Table) → t.number < 1024 → free_bit_of (table_id t) ≡ t.number % 64
 unfolding free_bit_of
 bit_is t low = let n = number_of_number t.class t.number low in omega (arith, n)
 
 -- each bit that is set in a free word of a class is that of a table of the bank, which no pass has
-pub unclaimed : (v : View) (class j f n : ℕ) → IsClass class → j < 16 → n < 64 → bit n f ≡ 1 → Acted v (ReadFree (word_of_class class j) f) → IsUnclaimed v.shape (record { class = class; number = 64 * j + n }) (noted (ReadFree (word_of_class class j) f) v)
+pub unclaimed : (v : View) (class j f n : ℕ) → IsClass class → j < 16 → n < 64 → bit n f ≡ 1 → Acted v (ReadFree (word_of_class class j) f) → IsUnclaimed v.shape (record { class = class; number = 64 * j + n }) (view_after (ReadFree (word_of_class class j) f) v)
 unclaimed v class j f n is low small one d =
     let k = v.shape in
     let es = d.0 in
     let q : Table = record { class = class; number = 64 * j + n } in
-    let t = name_of q in
+    let t = table_id q in
     let less : 64 * j + n < 1024 = omega (arith, low, small) in
     let c : class_of t ≡ class = class_of_number class (64 * j + n) less in
     let m : number_of t ≡ 64 * j + n = number_of_number class (64 * j + n) less in
@@ -311,41 +311,41 @@ unclaimed v class j f n is low small one d =
 
 -- ---- the bit of a table, cleared
 
-pub take_ready : (v : View) (j r : ℕ) (q : Table) → r ≡ name_of q → IsTableIn v.shape q → stage (name_of q) v.log ≡ 0 → flight v.log ≡ 2 * q.class + 1 → ReadyAs v j (λ n s. TakeTable r n s)
+pub take_ready : (v : View) (j r : ℕ) (q : Table) → r ≡ table_id q → IsTableIn v.shape q → stage (table_id q) v.log ≡ 0 → flight v.log ≡ 2 * q.class + 1 → ReadyAs v j (λ n s. TakeTable r n s)
 take_ready v j r q e is none lowered es id knows small =
     let table : IsTableName v.shape r = subst (IsTableName v.shape) (sym e) (named v.shape q is) in
     let c : class_of r ≡ q.class = ap class_of e ∙ class_of_number q.class q.number is.2 in
     (refl, (table, ap (λ (z : ℕ). stage z v.log) e ∙ none, refl, omega (arith, lowered, c)))
 
-pub off_at : (q : Table) (r m : ℕ) → q.number < 1024 → r ≡ name_of q → bit_off (free_bit_of r) m ≡ bit_and m (bit_not w64 (1 * 2 ^ (q.number % 64) % 2 ^ 64))
+pub off_at : (q : Table) (r m : ℕ) → q.number < 1024 → r ≡ table_id q → bit_off (free_bit_of r) m ≡ bit_and m (bit_not w64 (1 * 2 ^ (q.number % 64) % 2 ^ 64))
 off_at q r m low e = off_is (free_bit_of r) m ∙ ap (λ (b : ℕ). bit_and m (bit_not w64 (1 * 2 ^ b % 2 ^ 64))) (ap free_bit_of e ∙ bit_is q low)
 
-pub on_at : (q : Table) (r m : ℕ) → q.number < 1024 → r ≡ name_of q → bit_on (free_bit_of r) m ≡ bit_or m (1 * 2 ^ (q.number % 64) % 2 ^ 64)
+pub on_at : (q : Table) (r m : ℕ) → q.number < 1024 → r ≡ table_id q → bit_on (free_bit_of r) m ≡ bit_or m (1 * 2 ^ (q.number % 64) % 2 ^ 64)
 on_at q r m low e = on_is (free_bit_of r) m ∙ ap (λ (b : ℕ). bit_or m (1 * 2 ^ b % 2 ^ 64)) (ap free_bit_of e ∙ bit_is q low)
 
-pub word_at : (q : Table) (r : ℕ) → IsClass q.class → q.number < 1024 → r ≡ name_of q → 80 + free_word_of r ≡ 80 + 16 * (q.class - 3) + q.number / 64
+pub word_at : (q : Table) (r : ℕ) → IsClass q.class → q.number < 1024 → r ≡ table_id q → 80 + free_word_of r ≡ 80 + 16 * (q.class - 3) + q.number / 64
 word_at q r class low e = let w = ap free_word_of e ∙ word_is q class low in omega (arith, w)
 
 pub word_low : (k : Shape) (class j : ℕ) → IsClass class → j < 16 → 80 + 16 * (class - 3) + j < extent k
 word_low k class j is low = let l = is.least in let h = is.greatest in let a = at_low k (bits (word_of_class class j)) (omega (arith, l, h, low)) in omega (arith, a)
 
 -- the bit of a table in a word, as code reads it
-pub bit_read : (q : Table) (f : ℕ) → q.number < 1024 → bit (free_bit_of (name_of q)) f ≡ f / 2 ^ (q.number % 64) % 2
+pub bit_read : (q : Table) (f : ℕ) → q.number < 1024 → bit (free_bit_of (table_id q)) f ≡ f / 2 ^ (q.number % 64) % 2
 unfolding bit
 bit_read q f low = ap (λ (b : ℕ). f / 2 ^ b % 2) (bit_is q low)
 
 -- a table that was free has no odd version
-taken_shut : (v : View) (t f : ℕ) (s : Snap) → Acted v (TakeTable t f s) → bit (free_bit_of t) f ≡ 1 → IsShutIn t (noted (TakeTable t f s) v)
+taken_shut : (v : View) (t f : ℕ) (s : Snap) → Acted v (TakeTable t f s) → bit (free_bit_of t) f ≡ 1 → IsShutIn t (view_after (TakeTable t f s) v)
 taken_shut v t f s d one =
     let may = d.2.1.3 in
     let free : age d.0 t % 5 ≡ 0 = (placed v.shape d.0 d.2.0 t may.0).free_is (ap (bit (free_bit_of t)) (sym d.2.1.2) ∙ one) in
     subst (λ (z : Snap). IsAllShut (class_of t) (table_words v.shape t z.words)) (sym may.2)
     (shuts v.shape d.0 d.2.0 t may.0 (λ e. absurd (omega (arith, free, e))) (λ e. absurd (omega (arith, free, e))))
 
-module _ (v w : View) (q : Table) (f : ℕ) (s : Snap) (is : w ≡ noted (TakeTable (name_of q) f s) v) (d : Acted v (TakeTable (name_of q) f s)) where
-  pub found_has : (k : Shape) → IsTableIn k q → stage (name_of q) v.log ≡ 0 → bit (free_bit_of (name_of q)) f ≡ 1 → HasFound k q.class (search.Found q) v w
+module _ (v w : View) (q : Table) (f : ℕ) (s : Snap) (is : w ≡ view_after (TakeTable (table_id q) f s) v) (d : Acted v (TakeTable (table_id q) f s)) where
+  pub found_has : (k : Shape) → IsTableIn k q → stage (table_id q) v.log ≡ 0 → bit (free_bit_of (table_id q)) f ≡ 1 → HasFound k q.class (search.Found q) v w
   found_has k table none one =
-      let t = name_of q in
+      let t = table_id q in
       let n = stage t v.log in (
         table,
         refl,
@@ -359,17 +359,17 @@ module _ (v w : View) (q : Table) (f : ℕ) (s : Snap) (is : w ≡ noted (TakeTa
   pub found_keeps : KeepsBut (NotTable q) v w
   found_keeps = subst (KeepsBut (NotTable q) v) (sym is) (take_keeps v q f s d)
 
-  pub lost_has : (k : Shape) (a b : ℕ) → bit (free_bit_of (name_of q)) f ≢ 1 → HasFound k q.class (search.Lost a b) v w
-  lost_has k a b ne = (ap (λ (u : View). flight u.log) is ∙ miss (bit (free_bit_of (name_of q)) f) 1 0 (flight v.log) ne, ap (λ (u : View). owes u.log) is)
+  pub lost_has : (k : Shape) (a b : ℕ) → bit (free_bit_of (table_id q)) f ≢ 1 → HasFound k q.class (search.Lost a b) v w
+  lost_has k a b ne = (ap (λ (u : View). flight u.log) is ∙ miss (bit (free_bit_of (table_id q)) f) 1 0 (flight v.log) ne, ap (λ (u : View). owes u.log) is)
 
-  pub lost_stays : bit (free_bit_of (name_of q)) f ≢ 1 → KeepsBut Each v w
+  pub lost_stays : bit (free_bit_of (table_id q)) f ≢ 1 → KeepsBut Each v w
   lost_stays ne = subst (KeepsBut Each v) (sym is) (lost_keeps v q f s ne d)
 
 -- ---- the bit of a table, set
 
-pub give_ready : (v : View) (j r : ℕ) (q : Table) → r ≡ name_of q → IsTableIn v.shape q → MayGive (name_of q) v → flight v.log ≡ 0 → Ready v j (λ n. GiveTable r)
+pub give_ready : (v : View) (j r : ℕ) (q : Table) → r ≡ table_id q → IsTableIn v.shape q → MayGive (table_id q) v → flight v.log ≡ 0 → Ready v j (λ n. GiveTable r)
 give_ready v j r q e is may idle es id knows small =
-    let t = name_of q in
+    let t = table_id q in
     let table = named v.shape q is in
     let given = ⊎_elim (λ (x : (stage t v.log ≡ 1) × IsShutIn t v). inl (x.0, subst (IsAllShut (class_of t)) (hand_known v t table x.0 es id knows) x.1)) (λ (x : (stage t v.log ≡ 4) × ((p : ℕ) → 0 < p → p ≤ v.shape.passes → clear t p v.log ≡ true)). inr x) may in
     subst (λ (z : ℕ). Unit {0} × May v.shape (run v.shape es) (history es) v (GiveTable z)) (sym e) (tt, (table, given, idle))
@@ -377,17 +377,17 @@ give_ready v j r q e is may idle es id knows small =
 -- ---- a search
 
 -- what a try at the bit of a table ends a search with
-pub search_ends : (class j loaded f : ℕ) (q : Table) (s : Snap) (r : Search) → j < 16 → free_word_of (name_of q) ≡ word_of_class class j → IsBitCleared q loaded f r → IsSearch class r (TakeTable (name_of q) f s ∷ ReadFree (word_of_class class j) loaded ∷ loads_of_none class j)
+pub search_ends : (class j loaded f : ℕ) (q : Table) (s : Snap) (r : Search) → j < 16 → free_word_of (table_id q) ≡ word_of_class class j → IsBitCleared q loaded f r → IsSearch class r (TakeTable (table_id q) f s ∷ ReadFree (word_of_class class j) loaded ∷ loads_of_none class j)
 search_ends class j loaded f q s (search.Found t) low of is = (
   loaded,
   f,
-  subst (λ (z : Table). bit (free_bit_of (name_of z)) f ≡ 1) (sym is.0) is.1,
-  subst (λ (z : Table). Cleared class z loaded f (TakeTable (name_of q) f s ∷ ReadFree (word_of_class class j) loaded ∷ loads_of_none class j)) (sym is.0) (record { word = j; low = low; of = of; snap = s; is = refl }),
+  subst (λ (z : Table). bit (free_bit_of (table_id z)) f ≡ 1) (sym is.0) is.1,
+  subst (λ (z : Table). Cleared class z loaded f (TakeTable (table_id q) f s ∷ ReadFree (word_of_class class j) loaded ∷ loads_of_none class j)) (sym is.0) (record { word = j; low = low; of = of; snap = s; is = refl }),
 )
 search_ends class j loaded f q s (search.Lost a b) low of is = (
   (λ e. is.2 (sym is.0 ∙ (e ∙ is.1))),
   q,
-  subst (λ (z : ℕ × ℕ). Cleared class q z.0 z.1 (TakeTable (name_of q) f s ∷ ReadFree (word_of_class class j) loaded ∷ loads_of_none class j)) (λ i. (sym is.0 i, sym is.1 i)) (record { word = j; low = low; of = of; snap = s; is = refl }),
+  subst (λ (z : ℕ × ℕ). Cleared class q z.0 z.1 (TakeTable (table_id q) f s ∷ ReadFree (word_of_class class j) loaded ∷ loads_of_none class j)) (λ i. (sym is.0 i, sym is.1 i)) (record { word = j; low = low; of = of; snap = s; is = refl }),
 )
 search_ends class j loaded f q s search.Nothing low of is = absurd is
 
@@ -400,7 +400,7 @@ lowest_set n ne small = let r = bit_at-trailing_zeros w64 n (omega (arith, ne)) 
 
 pub noted_then : (xs ys : List Act) (v : View) → noted_all (xs ++ ys) v ≡ noted_all xs (noted_all ys v)
 noted_then [] ys v = refl
-noted_then (a ∷ xs) ys v = ap (noted a) (noted_then xs ys v)
+noted_then (a ∷ xs) ys v = ap (view_after a) (noted_then xs ys v)
 
 -- the actions of a search after those before it
 pub all_then : (xs ys : List Act) (u v w : View) → w ≡ noted_all xs v → v ≡ noted_all ys u → w ≡ noted_all (xs ++ ys) u

@@ -7,13 +7,13 @@ use Rattle.ft_trace.specs.declared.View.{View}
 use Rattle.ft_trace.specs.declared.Snap.{Snap}
 use Rattle.ft_trace.specs.declared.Act.{Act}
 use Rattle.ft_trace.specs.declared.Act.TheVariants.{Lock, ReadBlock, ReadRoot, ReadTable, ReadCounter}
-use Rattle.ft_trace.specs.Addresses.{containers_in, counter, lock_of, block, cell, class_of, size, IsTableName}
-use Rattle.ft_trace.specs.Acts.{has_lock, has_lock_next, is_writing, stage, noted, spent}
+use Rattle.ft_trace.specs.Addresses.{container_count, counter, lock_of, block, cell, class_of, size, IsTableName}
+use Rattle.ft_trace.specs.Acts.{has_lock, has_lock_next, is_writing, stage, view_after, spent}
 use Rattle.ft_trace.specs.Causes.{Loaded}
 use Rattle.ft_trace.specs.LoggedLookUps.{IsNew}
-use Rattle.ft_trace.specs.Pictures.{Picture, root_in, picture, Stands}
+use Rattle.ft_trace.specs.Pictures.{ContainerWords, root_in, picture, Represents}
 use Rattle.ft_trace.specs.ContainerStates.{container_after}
-use Rattle.ft_trace.specs.Holds.{held, known, in_hand}
+use Rattle.ft_trace.specs.Holds.{held_words, known_state, in_hand}
 use Rattle.ft_trace.specs.Traces.{Event, did, run, word, Valid, Sure}
 use Rattle.ft_trace.proofs.Cases.{hit, not_true}
 use Rattle.ft_trace.proofs.Seats.{same_seat, holder_lives}
@@ -34,7 +34,7 @@ use Rattle.ft_bank.specs.WriteSteps.{KeepsUnwritten}
 use Rattle.ft_bank.proofs.Allowed.{acted_possible, acted_knows}
 
 -- a lock word that isn't 0 is the number of another pass
-pub other_pass : (v : View) (o f : ℕ) (s : Snap) → o < containers_in v.shape → has_lock o v.log ≡ false → f ≢ 0 → Acted v (Lock o f s) → (f ≢ v.number) × (f ≤ v.shape.passes) × (f ≤ 64)
+pub other_pass : (v : View) (o f : ℕ) (s : Snap) → o < container_count v.shape → has_lock o v.log ≡ false → f ≢ 0 → Acted v (Lock o f s) → (f ≢ v.number) × (f ≤ v.shape.passes) × (f ≤ 64)
 other_pass v o f s low free some_one d =
     let k = v.shape in
     let es = d.0 in
@@ -54,13 +54,13 @@ other_pass v o f s low free some_one d =
     )
 
 -- with the lock the pass knows words that stand for what it knows of the content
-pub lock_stands : (v : View) (o : ℕ) (s : Snap) → o < containers_in v.shape → has_lock o v.log ≡ false → Acted v (Lock o 0 s) → Stands v.shape.texts (held o (noted (Lock o 0 s) v)) (known o (noted (Lock o 0 s) v))
+pub lock_stands : (v : View) (o : ℕ) (s : Snap) → o < container_count v.shape → has_lock o v.log ≡ false → Acted v (Lock o 0 s) → Represents v.shape.texts (held_words o (view_after (Lock o 0 s) v)) (known_state o (view_after (Lock o 0 s) v))
 lock_stands v o s low free d =
     let quiet : is_writing o v.log ≡ false = not_true (is_writing o v.log) (λ w. true≢false (sym (writer_has v.shape d.0 d.2.0 o d.1 v d.2.1.0 w) ∙ free)) in
-    held_stands (noted (Lock o 0 s) v) o low (acted_possible v (Lock o 0 s) d) (hit o true (has_lock o v.log)) quiet
+    held_stands (view_after (Lock o 0 s) v) o low (acted_possible v (Lock o 0 s) d) (hit o true (has_lock o v.log)) quiet
 
 -- and it knows the same of the other containers that it has
-pub lock_keeps : (v : View) (o f : ℕ) (s : Snap) → Acted v (Lock o f s) → KeepsOthers o v (noted (Lock o f s) v)
+pub lock_keeps : (v : View) (o f : ℕ) (s : Snap) → Acted v (Lock o f s) → KeepsOthers o v (view_after (Lock o f s) v)
 lock_keeps v o f s d p low other mine =
     let k = v.shape in
     let is = d.2.1.3.2 in (
@@ -69,18 +69,18 @@ lock_keeps v o f s d p low other mine =
     )
 
 -- a load with the lock finds what the pass knows
-pub block_found : (v : View) (o i n : ℕ) → o < containers_in v.shape → i < 6 → has_lock o v.log ≡ true → Acted v (ReadBlock o i n) → n ≡ slice_index (held o v).block i
+pub block_found : (v : View) (o i n : ℕ) → o < container_count v.shape → i < 6 → has_lock o v.log ≡ true → Acted v (ReadBlock o i n) → n ≡ slice_index (held_words o v).block i
 block_found v o i n low small mine d =
     let k = v.shape in
     let is : n ≡ word k d.0 (block o i) = d.2.1.2 in
-    is ∙ (sym (block_at k o (run k d.0).words i small) ∙ ap (λ (x : Picture). slice_index x.block i) (sym (words_known v o low mine d.0 d.1 (d.2.0, d.2.1.0))))
+    is ∙ (sym (block_at k o (run k d.0).words i small) ∙ ap (λ (x : ContainerWords). slice_index x.block i) (sym (words_known v o low mine d.0 d.1 (d.2.0, d.2.1.0))))
 
 -- a root that is read names a table, which is new to the pass where the root has changed
-pub root_found : (v : View) (o n : ℕ) → o < containers_in v.shape → Acted v (ReadRoot o n) → ((t : ℕ) → n ≡ suc t → IsTableName v.shape t) × IsNew o n v.log
+pub root_found : (v : View) (o n : ℕ) → o < container_count v.shape → Acted v (ReadRoot o n) → ((t : ℕ) → n ≡ suc t → IsTableName v.shape t) × IsNew o n v.log
 root_found v o n low d =
     let p = acted_possible v (ReadRoot o n) d in (
-      (λ t e. found_table v.shape p.0 p.2.0 p.1 (noted (ReadRoot o n) v) p.2.1 o t low v.log (ap (λ (z : ℕ). ReadRoot o z ∷ v.log) e)),
-      is_new v.shape p.0 p.2.0 p.1 (noted (ReadRoot o n) v) p.2.1 o n low v.log refl,
+      (λ t e. found_table v.shape p.0 p.2.0 p.1 (view_after (ReadRoot o n) v) p.2.1 o t low v.log (ap (λ (z : ℕ). ReadRoot o z ∷ v.log) e)),
+      is_new v.shape p.0 p.2.0 p.1 (view_after (ReadRoot o n) v) p.2.1 o n low v.log refl,
     )
 
 -- a number that a load of the counter gave is at most the counter
@@ -101,7 +101,7 @@ left_low v a d =
     omega (arith, t, l)
 
 -- a load of a word of the table of a container whose lock the pass has, or of a table fresh in its hand
-pub table_found : (v : View) (o t i n : ℕ) → o < containers_in v.shape → i < size (class_of t) → has_lock o v.log ≡ true → root_in (held o v) ≡ suc t → Acted v (ReadTable t i n) → n ≡ slice_index (held o v).table i
+pub table_found : (v : View) (o t i n : ℕ) → o < container_count v.shape → i < size (class_of t) → has_lock o v.log ≡ true → root_in (held_words o v) ≡ suc t → Acted v (ReadTable t i n) → n ≡ slice_index (held_words o v).table i
 table_found v o t i n low small mine names d =
     let k = v.shape in
     let is : n ≡ word k d.0 (cell t i) = d.2.1.2 in
@@ -114,11 +114,11 @@ fresh_found v t i n table small mine d =
     is ∙ (sym (table_at k t (run k d.0).words i small) ∙ ap (λ (x : List ℕ). slice_index x i) (sym (hand_known v t table mine d.0 d.1 (d.2.0, d.2.1.0))))
 
 -- what a pass does leaves what it knows of the containers that it has and doesn't write
-pub keeps_unwritten : (v : View) (a : Act) → ((p : ℕ) (b : Bool) → has_lock_next p a b ≡ b) → Acted v a → KeepsUnwritten v (noted a v)
+pub keeps_unwritten : (v : View) (a : Act) → ((p : ℕ) (b : Bool) → has_lock_next p a b ≡ b) → Acted v a → KeepsUnwritten v (view_after a v)
 keeps_unwritten v a locks d p low mine quiet =
     let k = v.shape in
     let es = d.0 in
-    let w = noted a v in
+    let w = view_after a v in
     let now = did d.1 v a ∷ es in
     let next = acted_knows v a d in
     let still = unwritten k es d.1 v a d.2 p low (λ (writes : is_writing p v.log ≡ true). true≢false (sym writes ∙ quiet)) in

@@ -11,11 +11,11 @@ use Rattle.ft_trace.specs.declared.Act.TheVariants.{StartWrite, PutBlock, PutTab
 use Rattle.ft_trace.specs.declared.Snap.{Snap}
 use Rattle.ft_trace.specs.declared.Shape.{Shape}
 use Rattle.ft_trace.specs.declared.View.{View}
-use Rattle.ft_trace.specs.Addresses.{containers_in}
-use Rattle.ft_trace.specs.Acts.{is_writing, stage, debt, mem, noted, shown, seen_writes}
+use Rattle.ft_trace.specs.Addresses.{container_count}
+use Rattle.ft_trace.specs.Acts.{is_writing, stage, debt, mem, view_after, shown, seen_writes}
 use Rattle.ft_trace.specs.ContainerStates.{container_after, changes, kinds_in}
-use Rattle.ft_trace.specs.Pictures.{picture, root_in, Stands}
-use Rattle.ft_trace.specs.Holds.{held, known}
+use Rattle.ft_trace.specs.Pictures.{picture, root_in, Represents}
+use Rattle.ft_trace.specs.Holds.{held_words, known_state}
 use Rattle.ft_bank.specs.WriteSteps.{Committed, KeepsUnwritten}
 use Rattle.ft_trace.proofs.Cases.{hit, miss}
 use Rattle.ft_trace.proofs.Owning.{owners_then}
@@ -37,7 +37,7 @@ IsCalm (PutTable o t i x) = Unit {0}
 IsCalm (PutFresh t i x) = Unit {0}
 IsCalm act = ⊥
 
-pub calm : (a : Act) (v : View) → IsCalm a → SameWork v (noted a v)
+pub calm : (a : Act) (v : View) → IsCalm a → SameWork v (view_after a v)
 calm (Version o f) v ok = record { pass = record { number = refl; next = refl; parts = refl; shape = refl; locks = λ p. refl; writes = λ p. refl; announced = refl; flight = refl; begun = refl; cursors = λ n. refl; tokens = refl; learnt = refl; lists = refl; floor = refl; since = refl; owners = record { had = refl; found = refl }; seen = le_refl (seen_writes v) }; left = refl; entries = refl; committed = λ p. refl; emptied = λ p. refl; hands = λ t. refl; used = refl; debt = refl; owes = refl; past = refl }
 calm (ReadBlock o i f) v ok = record { pass = record { number = refl; next = refl; parts = refl; shape = refl; locks = λ p. refl; writes = λ p. refl; announced = refl; flight = refl; begun = refl; cursors = λ n. refl; tokens = refl; learnt = refl; lists = refl; floor = refl; since = refl; owners = record { had = refl; found = refl }; seen = le_refl (seen_writes v) }; left = refl; entries = refl; committed = λ p. refl; emptied = λ p. refl; hands = λ t. refl; used = refl; debt = refl; owes = refl; past = refl }
 calm (ReadTable t i f) v ok = record { pass = record { number = refl; next = refl; parts = refl; shape = refl; locks = λ p. refl; writes = λ p. refl; announced = refl; flight = refl; begun = refl; cursors = λ n. refl; tokens = refl; learnt = refl; lists = refl; floor = refl; since = refl; owners = record { had = refl; found = refl }; seen = le_refl (seen_writes v) }; left = refl; entries = refl; committed = λ p. refl; emptied = λ p. refl; hands = λ t. refl; used = refl; debt = refl; owes = refl; past = refl }
@@ -57,7 +57,7 @@ IsLoad (ReadCounter f) = Unit {0}
 IsLoad (ReadRoot o f) = Unit {0}
 IsLoad act = ⊥
 
-load_only : (a : Act) (v : View) → IsLoad a → OnlyLoaded v (noted a v)
+load_only : (a : Act) (v : View) → IsLoad a → OnlyLoaded v (view_after a v)
 load_only (Version o f) v ok = record { work = calm (Version o f) v tt; words = refl }
 load_only (ReadBlock o i f) v ok = record { work = calm (ReadBlock o i f) v tt; words = refl }
 load_only (ReadTable t i f) v ok = record { work = calm (ReadTable t i f) v tt; words = refl }
@@ -65,7 +65,7 @@ load_only (ReadCounter f) v ok = record { work = calm (ReadCounter f) v tt; word
 load_only (ReadRoot o f) v ok = record { work = calm (ReadRoot o f) v tt; words = refl }
 load_only a v ok = absurd ok
 
-pub loaded_by : (a : Act) (v w : View) → IsLoad a → w ≡ noted a v → OnlyLoaded v w
+pub loaded_by : (a : Act) (v w : View) → IsLoad a → w ≡ view_after a v → OnlyLoaded v w
 loaded_by a v w ok is = subst (OnlyLoaded v) (sym is) (load_only a v ok)
 
 pub same_pass : (v : View) → SamePass v v
@@ -120,15 +120,15 @@ module _ (u v w : View) where
   put_then o a b = record {
     work = work_then a.work b.work;
     others = λ p low ne mine quiet.
-        b.others p (subst (λ (k : Shape). p < containers_in k) (sym a.work.pass.shape) low) ne (a.work.pass.locks p ∙ mine) (a.work.pass.writes p ∙ quiet)
+        b.others p (subst (λ (k : Shape). p < container_count k) (sym a.work.pass.shape) low) ne (a.work.pass.locks p ∙ mine) (a.work.pass.writes p ∙ quiet)
         ∙ a.others p low ne mine quiet;
   }
 
 -- what a pass knows of a content is the same
-pub work_knows : (v w : View) (p : ℕ) → SameWork v w → known p w ≡ known p v
+pub work_knows : (v w : View) (p : ℕ) → SameWork v w → known_state p w ≡ known_state p v
 work_knows v w p a = (λ d. container_after (a.pass.shape d).starts (a.past d) p)
 
-pub loaded_held : (v w : View) (p : ℕ) → OnlyLoaded v w → held p w ≡ held p v
+pub loaded_held : (v w : View) (p : ℕ) → OnlyLoaded v w → held_words p w ≡ held_words p v
 loaded_held v w p a = ap (λ (k : Shape). picture k p (mem k w.log)) a.work.pass.shape ∙ ap (λ (ws : List ℕ). picture v.shape p ws) a.words
 
 pub put_same : (v : View) (o : ℕ) → OnlyPut o v v
@@ -138,7 +138,7 @@ pub loaded_put : (v w : View) (o : ℕ) → OnlyLoaded v w → OnlyPut o v w
 loaded_put v w o a = record { work = a.work; others = λ p low ne mine quiet. loaded_held v w p a }
 
 -- a put, which leaves what the pass knows of containers that it doesn't write
-pub put_by : (a : Act) (v w : View) (o : ℕ) → IsCalm a → w ≡ noted a v → KeepsUnwritten v w → OnlyPut o v w
+pub put_by : (a : Act) (v w : View) (o : ℕ) → IsCalm a → w ≡ view_after a v → KeepsUnwritten v w → OnlyPut o v w
 put_by a v w o ok is keeps = record {
   work = subst (SameWork v) (sym is) (calm a v ok);
   others = λ p low ne mine quiet. (keeps p low mine quiet).0;
@@ -153,15 +153,15 @@ module _ (called : Call) (said : Reply) (number g : ℕ) (snap : Snap) (u c z w 
   o = changes called
 
   abbrev made : View
-  made = noted (Commit called said number snap) u
+  made = view_after (Commit called said number snap) u
 
   abbrev done : View
-  done = noted (StopWrite o g) z
+  done = view_after (StopWrite o g) z
 
   others_stop : (p : ℕ) → p ≢ o → is_writing p done.log ≡ is_writing p z.log
   others_stop p ne = miss o p false (is_writing p z.log) (λ e. ne (sym e))
 
-  ends_at : seen_writes u ≤ number → OnlyPut o made z → Committed u made called → 0 < u.left → root_in (held o z) ≡ root_in (held o u) → Stands u.shape.texts (held o z) (known o z) → EndsWrite called said number u done
+  ends_at : seen_writes u ≤ number → OnlyPut o made z → Committed u made called → 0 < u.left → root_in (held_words o z) ≡ root_in (held_words o u) → Represents u.shape.texts (held_words o z) (known_state o z) → EndsWrite called said number u done
   ends_at low puts committed some root stands =
       let w1 = puts.work in
       let p1 = w1.pass in
@@ -202,7 +202,7 @@ module _ (called : Call) (said : Reply) (number g : ℕ) (snap : Snap) (u c z w 
         stands = stands;
       }
 
-  pub write_ends : seen_writes u ≤ number → c ≡ made → Committed u c called → 0 < u.left → OnlyPut o c z → root_in (held o z) ≡ root_in (held o u) → Stands u.shape.texts (held o z) (known o z) → w ≡ done → EndsWrite called said number u w
+  pub write_ends : seen_writes u ≤ number → c ≡ made → Committed u c called → 0 < u.left → OnlyPut o c z → root_in (held_words o z) ≡ root_in (held_words o u) → Represents u.shape.texts (held_words o z) (known_state o z) → w ≡ done → EndsWrite called said number u w
   write_ends low is committed some puts root stands end =
       subst (EndsWrite called said number u) (sym end)
       (ends_at low (subst (λ (y : View). OnlyPut o y z) is puts) (subst (λ (y : View). Committed u y called) is committed) some root stands)
@@ -213,7 +213,7 @@ module _ (called : Call) (said : Reply) (number f : ℕ) (v s u w : View) where
   o' = changes called
 
   abbrev begun : View
-  begun = noted (StartWrite o' f) v
+  begun = view_after (StartWrite o' f) v
 
   others_start : (p : ℕ) → p ≢ o' → is_writing p begun.log ≡ is_writing p v.log
   others_start p ne = miss o' p true (is_writing p v.log) (λ e. ne (sym e))
@@ -228,11 +228,11 @@ module _ (called : Call) (said : Reply) (number f : ℕ) (v s u w : View) where
   same_root t r n = hit r n t
 
   -- a write that leaves the root
-  plain_at : is_writing o' v.log ≡ false → OnlyPut o' begun u → EndsWrite called said number u w → root_in (held o' u) ≡ root_in (held o' v) → Wrote called said number v w
+  plain_at : is_writing o' v.log ≡ false → OnlyPut o' begun u → EndsWrite called said number u w → root_in (held_words o' u) ≡ root_in (held_words o' v) → Wrote called said number v w
   plain_at quiet puts ends root =
       let w1 = puts.work in
       let p1 = w1.pass in
-      let whole : root_in (held o' w) ≡ root_in (held o' v) = ends.root ∙ root in
+      let whole : root_in (held_words o' w) ≡ root_in (held_words o' v) = ends.root ∙ root in
       record {
         pass = record {
           number = ends.same_number ∙ p1.number;
@@ -257,28 +257,28 @@ module _ (called : Call) (said : Reply) (number f : ℕ) (v s u w : View) where
         shows = ends.shows;
         left = sym w1.left ∙ ends.left;
         entries = ends.entries ∙ ap (λ es. write_entry called said number ∷ es) w1.entries;
-        hands = λ t. ends.hands t ∙ (w1.hands t ∙ sym (ap (λ (r : ℕ). hand_after o' (root_in (held o' v)) r t (stage t v.log)) whole ∙ hit (root_in (held o' v)) (stage t v.log) _));
-        debt = ends.debt ∙ (w1.debt ∙ sym (ap (λ (r : ℕ). debt_after o' (root_in (held o' v)) r (debt v.log)) whole ∙ hit (root_in (held o' v)) (debt v.log) _));
+        hands = λ t. ends.hands t ∙ (w1.hands t ∙ sym (ap (λ (r : ℕ). hand_after o' (root_in (held_words o' v)) r t (stage t v.log)) whole ∙ hit (root_in (held_words o' v)) (stage t v.log) _));
+        debt = ends.debt ∙ (w1.debt ∙ sym (ap (λ (r : ℕ). debt_after o' (root_in (held_words o' v)) r (debt v.log)) whole ∙ hit (root_in (held_words o' v)) (debt v.log) _));
         used = ends.used;
         owes = ends.owes;
         others = λ p low ne mine quiet'.
-            let low' = subst (λ (k : Shape). p < containers_in k) (sym p1.shape) low in
+            let low' = subst (λ (k : Shape). p < container_count k) (sym p1.shape) low in
             let e = ends.others p low' ne (p1.locks p ∙ mine) ((p1.writes p ∙ others_start p ne) ∙ quiet') in (
               e.0 ∙ puts.others p low ne mine (others_start p ne ∙ quiet'),
               e.1 ∙ work_knows begun u p w1,
             );
         found = ends.found;
         has = record {
-          agrees = λ p low mine. ends.has.agrees p (subst (λ (k : Shape). p < containers_in k) (sym p1.shape) low) (p1.locks p ∙ mine) ∙ work_knows begun u p w1;
-          containers = ends.has.containers ∙ ap containers_in p1.shape;
+          agrees = λ p low mine. ends.has.agrees p (subst (λ (k : Shape). p < container_count k) (sym p1.shape) low) (p1.locks p ∙ mine) ∙ work_knows begun u p w1;
+          containers = ends.has.containers ∙ ap container_count p1.shape;
           order = ends.has.order;
           unsplit = ends.has.unsplit;
           kinds = ends.has.kinds ∙ ap (λ (k : Shape). kinds_in k.starts) p1.shape;
           words = ends.has.words;
         };
         content = ends.content;
-        stands = subst (λ (k : Shape). Stands k.texts (held o' w) (known o' w)) p1.shape ends.stands;
+        stands = subst (λ (k : Shape). Represents k.texts (held_words o' w) (known_state o' w)) p1.shape ends.stands;
       }
 
-  pub plain_write : s ≡ begun → is_writing o' v.log ≡ false → OnlyPut o' s u → EndsWrite called said number u w → root_in (held o' u) ≡ root_in (held o' v) → Wrote called said number v w
+  pub plain_write : s ≡ begun → is_writing o' v.log ≡ false → OnlyPut o' s u → EndsWrite called said number u w → root_in (held_words o' u) ≡ root_in (held_words o' v) → Wrote called said number v w
   plain_write is quiet puts ends root = plain_at quiet (subst (λ (y : View). OnlyPut o' y u) is puts) ends root

@@ -7,13 +7,13 @@ use Rattle.ft_model.specs.TableUses.{stored_newest}
 use Rattle.ft_trace.specs.declared.Snap.{Snap}
 use Rattle.ft_trace.specs.declared.View.{View}
 use Rattle.ft_trace.specs.declared.Act.TheVariants.{StartWrite, ReadTable, PutRoot, PutTable, PutFresh, Commit, StopWrite}
-use Rattle.ft_trace.specs.Addresses.{containers_in, class_of, size, IsTableName, counter}
-use Rattle.ft_trace.specs.Acts.{has_lock, is_writing, has_committed, stage, noted}
+use Rattle.ft_trace.specs.Addresses.{container_count, class_of, size, IsTableName, counter}
+use Rattle.ft_trace.specs.Acts.{has_lock, is_writing, has_committed, stage, view_after}
 use Rattle.ft_trace.specs.ContainerStates.{ContainerState, container_after, kind_in, changes}
-use Rattle.ft_trace.specs.Pictures.{root_in, Stands}
+use Rattle.ft_trace.specs.Pictures.{root_in, Represents}
 use Rattle.ft_trace.specs.Kinds.{rows, version_at, ClearAs}
 use Rattle.ft_trace.specs.OddVersions.{Shut, Low}
-use Rattle.ft_trace.specs.Holds.{held, known, in_hand}
+use Rattle.ft_trace.specs.Holds.{held_words, known_state, in_hand}
 use Rattle.ft_trace.specs.Traces.{run, history, snap, Ready, ReadyAs, Sure, word, SoundFor, LowFor}
 use Rattle.ft_trace.proofs.FitCalls.{contents_fit}
 use Rattle.ft_trace.proofs.Known.{kinds_stay}
@@ -24,7 +24,7 @@ use Rattle.ft_trace.proofs.Held.{content_known, root_known, table_known, stop_su
 use Rattle.ft_trace.proofs.Untouched.{as_many}
 use Rattle.ft_trace.proofs.Orders.{in_order}
 use Rattle.ft_bank.specs.declared.table.Table.{Table}
-use Rattle.ft_bank.specs.TableNames.{name_of, root_for}
+use Rattle.ft_bank.specs.TableNames.{table_id, root_for}
 use Rattle.ft_bank.specs.Rules.{Acted}
 use Rattle.ft_bank.specs.WriteSteps.{MayHave, Committed, MayCommit, MayPutRoot, IsCareful, IsShut}
 
@@ -43,12 +43,12 @@ has_now v es id knows = record {
   words = contents_fit v.shape es knows.0;
 }
 
-pub start_ready : (v : View) (i o : ℕ) → AreFew v → o < containers_in v.shape → has_lock o v.log ≡ true → is_writing o v.log ≡ false → Ready v i (λ n. StartWrite o n)
+pub start_ready : (v : View) (i o : ℕ) → AreFew v → o < container_count v.shape → has_lock o v.log ≡ true → is_writing o v.log ≡ false → Ready v i (λ n. StartWrite o n)
 start_ready v i o few low mine quiet es id knows small =
     let r = version_room v.shape es knows.0 o low in
     (refl, (low, mine, quiet, omega (arith, r, few)))
 
-pub stop_ready : (v : View) (i o : ℕ) → AreFew v → o < containers_in v.shape → is_writing o v.log ≡ true → has_committed o v.log ≡ true → Stands v.shape.texts (held o v) (known o v) → IsShut o v → Ready v i (λ n. StopWrite o n)
+pub stop_ready : (v : View) (i o : ℕ) → AreFew v → o < container_count v.shape → is_writing o v.log ≡ true → has_committed o v.log ≡ true → Represents v.shape.texts (held_words o v) (known_state o v) → IsShut o v → Ready v i (λ n. StopWrite o n)
 stop_ready v i o few low odd done stands shut es id knows small =
     let mine = writer_has v.shape es knows.0 o id v knows.1 odd in
     let r = version_room v.shape es knows.0 o low in (
@@ -98,7 +98,7 @@ commit_ready v c r few may es id knows small =
     )
 
 -- what the pass knows of every container after its write
-pub commit_leaves : (v : View) (c : Call) (r : Reply) (n : ℕ) (s : Snap) → Acted v (Commit c r n s) → Committed v (noted (Commit c r n s) v) c
+pub commit_leaves : (v : View) (c : Call) (r : Reply) (n : ℕ) (s : Snap) → Acted v (Commit c r n s) → Committed v (view_after (Commit c r n s) v) c
 commit_leaves v c r n s d =
     let k = v.shape in
     let es = d.0 in
@@ -114,14 +114,14 @@ read_ready v j t i table small es id knows low = (refl, (table, small))
 pub fresh_ready : (v : View) (j t i x : ℕ) → IsTableName v.shape t → i < size (class_of t) → stage t v.log ≡ 1 → Ready v j (λ n. PutFresh t i x)
 fresh_ready v j t i x table small mine es id knows low = (tt, (table, small, mine))
 
-pub put_ready : (v : View) (j o t i x : ℕ) → o < containers_in v.shape → IsTableName v.shape t → i < size (class_of t) → is_writing o v.log ≡ true → root_in (held o v) ≡ suc t → IsCareful v o t i x → Ready v j (λ n. PutTable o t i x)
+pub put_ready : (v : View) (j o t i x : ℕ) → o < container_count v.shape → IsTableName v.shape t → i < size (class_of t) → is_writing o v.log ≡ true → root_in (held_words o v) ≡ suc t → IsCareful v o t i x → Ready v j (λ n. PutTable o t i x)
 put_ready v j o t i x low table small odd names careful es id knows less =
     let mine = writer_has v.shape es knows.0 o id v knows.1 odd in
     let s = put_sure v o low t i x mine names careful.care es id knows in
     (tt, (low, table, small, odd, s.0, s.1, careful.timely))
 
 -- the root that names a table
-pub root_names : (root : Option Table) (t : ℕ) → root_for root ≡ suc t → (q : Table) × (root ≡ Some q) × (name_of q ≡ t)
+pub root_names : (root : Option Table) (t : ℕ) → root_for root ≡ suc t → (q : Table) × (root ≡ Some q) × (table_id q ≡ t)
 root_names None t e = absurd (omega (arith, e))
 root_names (Some q) t e = (q, refl, omega (arith, e))
 
@@ -137,7 +137,7 @@ young_low at m ws count committed young = record {
   written = λ done p low. let y = (young p low).1 done in omega (arith, y);
 }
 
-pub root_ready : (v : View) (j o : ℕ) (root : Option Table) → o < containers_in v.shape → ((t : Table) → root ≡ Some t → IsTableName v.shape (name_of t)) → MayPutRoot v o root → Ready v j (λ n. PutRoot o (root_for root) (root_in (held o v)))
+pub root_ready : (v : View) (j o : ℕ) (root : Option Table) → o < container_count v.shape → ((t : Table) → root ≡ Some t → IsTableName v.shape (table_id t)) → MayPutRoot v o root → Ready v j (λ n. PutRoot o (root_for root) (root_in (held_words o v)))
 root_ready v j o root low tables may es id knows less =
     let k = v.shape in
     let kind = kind_in k.starts o in
@@ -150,13 +150,13 @@ root_ready v j o root low tables may es id knows less =
         now,
         (λ t e.
             let q = root_names root t e in
-            subst (λ (z : ℕ). IsTableName k z × (stage z v.log ≡ 1) × SoundFor k (run k es).words o z (container_after k.starts (history es) o).content) q.2 (tables q.0 q.1, may.fresh q.0 q.1, sound_sure v o low (name_of q.0) (tables q.0 q.1) mine (may.fresh q.0 q.1) (may.sound q.0 q.1) es id knows)),
+            subst (λ (z : ℕ). IsTableName k z × (stage z v.log ≡ 1) × SoundFor k (run k es).words o z (container_after k.starts (history es) o).content) q.2 (tables q.0 q.1, may.fresh q.0 q.1, sound_sure v o low (table_id q.0) (tables q.0 q.1) mine (may.fresh q.0 q.1) (may.sound q.0 q.1) es id knows)),
         (λ q names.
             subst (Shut (version_at kind (class_of q)) (rows kind (class_of q))) (table_known v o low q mine names es id knows).0 (may.shut q names)),
         may.spare,
         (λ t e.
             let q = root_names root t e in
-            let n = name_of q.0 in
+            let n = table_id q.0 in
             subst (λ (z : ℕ). LowFor k (run k es).words o z (word k es counter) (has_committed o v.log)) q.2
             (subst (λ (l : List ℕ). Low (version_at kind (class_of n)) (rows kind (class_of n)) l (word k es counter) (has_committed o v.log)) (hand_known v n (tables q.0 q.1) (may.fresh q.0 q.1) es id knows) (young_low (version_at kind (class_of n)) (rows kind (class_of n)) (in_hand n v) (word k es counter) (has_committed o v.log) (λ p less. may.young q.0 p q.1 less)))),
         (λ e. may.early (root_none root e)),

@@ -7,8 +7,8 @@ use Rattle.ft_trace.specs.declared.Act.TheVariants.{PutHeader, ReadHeader, Retir
 use Rattle.ft_trace.specs.declared.Shape.{Shape}
 use Rattle.ft_trace.specs.declared.View.{View}
 use Rattle.ft_trace.specs.Addresses.{write_number, IsTableName}
-use Rattle.ft_trace.specs.Acts.{stage, goal, has_goal, debt, noted}
-use Rattle.ft_trace.specs.Traces.{Event, did, forked, joined, sent, word, Valid, Possible, Ready, Sure}
+use Rattle.ft_trace.specs.Acts.{stage, goal, has_goal, debt, view_after}
+use Rattle.ft_trace.specs.Traces.{Event, did, forked, joined, sent, word, Valid, IsReachable, Ready, Sure}
 use Rattle.ft_trace.proofs.Announcing.{on_write_number, fits}
 use Rattle.ft_trace.proofs.Budgets.{goals_room, number_low}
 use Rattle.ft_trace.proofs.Cases.{miss}
@@ -19,18 +19,18 @@ use Rattle.ft_trace.proofs.OneWord.{stays, moves}
 use Rattle.ft_bank.specs.declared.table.Table.{Table}
 use Rattle.ft_bank.specs.Reuse.{HasLoaded, MayAnnounce}
 use Rattle.ft_bank.specs.Rules.{Acted}
-use Rattle.ft_bank.specs.TableNames.{name_of}
+use Rattle.ft_bank.specs.TableNames.{table_id}
 use Rattle.ft_bank.specs.Takings.{KeepsHeld, KeepsBut, Each, NotTable}
 use Rattle.ft_bank.proofs.Freeing.{IsAside, keeps_held, keeps_but}
 
 -- the number of a pass is that of one of the shape's passes
-pub number_small : (v : View) → ∥ Possible v ∥₁ → v.number ≤ 64
+pub number_small : (v : View) → ∥ IsReachable v ∥₁ → v.number ≤ 64
 number_small v p =
     dite (dec_lt 64 v.number)
     (λ (big : 64 < v.number).
     absurd
     (∥∥₁_elim {P = ⊥} p (hlevel)
-    (λ (x : Possible v).
+    (λ (x : IsReachable v).
     let f = fits v.shape x.0 x.2.0 in
     let n = number_low v.shape x.0 f.some_pass x.2.0 x.1 v x.2.1 in
     let m = f.passes in
@@ -114,7 +114,7 @@ write_number_aside f = record {
   inside = λ t' i e. absurd (cc);
 }
 
-pub write_number_keeps : (v : View) (f : ℕ) → Acted v (WriteNumber f) → KeepsBut Each v (noted (WriteNumber f) v)
+pub write_number_keeps : (v : View) (f : ℕ) → Acted v (WriteNumber f) → KeepsBut Each v (view_after (WriteNumber f) v)
 write_number_keeps v f d = keeps_but Each v (WriteNumber f) (write_number_aside f) (λ t' n' of. refl) d (λ n'. refl) (λ n'. refl)
 
 announce_aside : (p x : ℕ) → IsAside (Announce p x)
@@ -131,7 +131,7 @@ announce_aside p x = record {
   inside = λ t' i e. absurd (cc);
 }
 
-pub announce_keeps : (v : View) (p x : ℕ) → Acted v (Announce p x) → KeepsHeld Each v (noted (Announce p x) v)
+pub announce_keeps : (v : View) (p x : ℕ) → Acted v (Announce p x) → KeepsHeld Each v (view_after (Announce p x) v)
 announce_keeps v p x d = keeps_held Each v (Announce p x) (announce_aside p x) (λ t n of. refl) d
 
 announced_aside : (p f : ℕ) → IsAside (ReadAnnounced p f)
@@ -148,7 +148,7 @@ announced_aside p f = record {
   inside = λ t' i e. absurd (cc);
 }
 
-pub announced_keeps : (v : View) (p f : ℕ) → Acted v (ReadAnnounced p f) → KeepsBut Each v (noted (ReadAnnounced p f) v)
+pub announced_keeps : (v : View) (p f : ℕ) → Acted v (ReadAnnounced p f) → KeepsBut Each v (view_after (ReadAnnounced p f) v)
 announced_keeps v p f d = keeps_but Each v (ReadAnnounced p f) (announced_aside p f) (λ t' n' of. refl) d (λ n'. refl) (λ n'. refl)
 
 retire_aside : (t f : ℕ) → IsAside (Retire t f)
@@ -165,8 +165,8 @@ retire_aside t f = record {
   inside = λ t' i e. absurd (cc);
 }
 
-pub retire_keeps : (v : View) (q : Table) (f : ℕ) → Acted v (Retire (name_of q) f) → KeepsHeld (NotTable q) v (noted (Retire (name_of q) f) v)
-retire_keeps v q f d = keeps_held (NotTable q) v (Retire (name_of q) f) (retire_aside (name_of q) f) (λ t n of. miss (name_of q) t 4 n (λ e. of (sym e))) d
+pub retire_keeps : (v : View) (q : Table) (f : ℕ) → Acted v (Retire (table_id q) f) → KeepsHeld (NotTable q) v (view_after (Retire (table_id q) f) v)
+retire_keeps v q f d = keeps_held (NotTable q) v (Retire (table_id q) f) (retire_aside (table_id q) f) (λ t n of. miss (table_id q) t 4 n (λ e. of (sym e))) d
 
 put_goal_aside : (t x : ℕ) → IsAside (PutHeader t x)
 put_goal_aside t x = record {
@@ -182,7 +182,7 @@ put_goal_aside t x = record {
   inside = λ t' i e. absurd (cc);
 }
 
-pub put_goal_keeps : (v : View) (t x : ℕ) → Acted v (PutHeader t x) → KeepsBut Each v (noted (PutHeader t x) v)
+pub put_goal_keeps : (v : View) (t x : ℕ) → Acted v (PutHeader t x) → KeepsBut Each v (view_after (PutHeader t x) v)
 put_goal_keeps v t x d = keeps_but Each v (PutHeader t x) (put_goal_aside t x) (λ t' n' of. refl) d (λ n'. refl) (λ n'. refl)
 
 header_aside : (t f : ℕ) → IsAside (ReadHeader t f)
@@ -199,5 +199,5 @@ header_aside t f = record {
   inside = λ t' i e. absurd (cc);
 }
 
-pub header_keeps : (v : View) (t f : ℕ) → Acted v (ReadHeader t f) → KeepsBut Each v (noted (ReadHeader t f) v)
+pub header_keeps : (v : View) (t f : ℕ) → Acted v (ReadHeader t f) → KeepsBut Each v (view_after (ReadHeader t f) v)
 header_keeps v t f d = keeps_but Each v (ReadHeader t f) (header_aside t f) (λ t' n' of. refl) d (λ n'. refl) (λ n'. refl)

@@ -11,8 +11,8 @@ use Rattle.ft_trace.specs.declared.Snap.{Snap}
 use Rattle.ft_trace.specs.LoggedReads.{Among}
 use Rattle.ft_model.specs.declared.call.Call.{Call}
 use Rattle.ft_model.specs.declared.reply.Reply.{Reply}
-use Rattle.ft_trace.specs.Acts.{noted, both, sender, note, shown, seen_writes, floor_known}
-use Rattle.ft_trace.specs.Traces.{Possible, IsFree}
+use Rattle.ft_trace.specs.Acts.{view_after, both, sender, note, shown, seen_writes, floor_known}
+use Rattle.ft_trace.specs.Traces.{IsReachable, IsFree}
 use Rattle.ft_trace.proofs.Cases.{miss}
 use Rattle.ft_trace.proofs.Seeing.{shown_up, seen_is_low, loads_see_all}
 use Rattle.ft_bank.specs.Slips.{slip}
@@ -29,14 +29,14 @@ pub commit_sees : (v : View) (c : Call) (r : Reply) (n : ℕ) (s : Snap) → Act
 commit_sees v c r n s d = (seen_is_low v.shape d.0 d.2.0).2 d.1 n v c r s d.2
 
 -- so the log shows what it has learnt
-pub load_settles : (v : View) (n : ℕ) (w : View) → w ≡ noted (ReadCounter n) v → Acted v (ReadCounter n) → w.learnt ≤ shown w.log
-load_settles v n w same d = same_settled w (noted (ReadCounter n) v) same (le_trans (le_trans (le-max_left v.learnt (shown v.log)) (load_sees v n d)) (le-max_right (shown v.log) n))
+pub load_settles : (v : View) (n : ℕ) (w : View) → w ≡ view_after (ReadCounter n) v → Acted v (ReadCounter n) → w.learnt ≤ shown w.log
+load_settles v n w same d = same_settled w (view_after (ReadCounter n) v) same (le_trans (le_trans (le-max_left v.learnt (shown v.log)) (load_sees v n d)) (le-max_right (shown v.log) n))
 
 add_none : (n : ℕ) → n + 0 ≡ n
 add_none n = omega arith
 
 -- what a pass knows that has learnt a note and loaded the counter
-pub knowing_is : (n m : ℕ) (v : View) → noted (ReadCounter m) (both v (slip n)) ≡ noted (ReadCounter m) (knowing n v)
+pub knowing_is : (n m : ℕ) (v : View) → view_after (ReadCounter m) (both v (slip n)) ≡ view_after (ReadCounter m) (knowing n v)
 knowing_is n m v = λ i. record {
   number = v.number;
   next = v.next;
@@ -69,17 +69,17 @@ seen_rises [] rest = le_refl (shown rest)
 seen_rises (a ∷ newer) rest = le_trans (seen_rises newer rest) (shown_up a (newer ++ rest))
 
 -- each load of the counter gave at least what the log showed before it
-pub stamp_seen : (v : View) → ∥ Possible v ∥₁ → (newer rest : List Act) (n : ℕ) → v.log ≡ newer ++ ReadCounter n ∷ rest → shown rest ≤ n
+pub stamp_seen : (v : View) → ∥ IsReachable v ∥₁ → (newer rest : List Act) (n : ℕ) → v.log ≡ newer ++ ReadCounter n ∷ rest → shown rest ≤ n
 stamp_seen v possible newer rest n is = ∥∥₁_elim possible le_prop (λ p. loads_see_all v.shape p.0 p.2.0 p.1 v p.2.1 newer rest n is)
 
 -- so does a load among the last actions, of what the pass had seen before them
-pub among_seen : (v w : View) (part : List Act) (n : ℕ) → w.log ≡ part ++ v.log → Among (ReadCounter n) part → v.learnt ≤ shown v.log → ∥ Possible w ∥₁ → seen_writes v ≤ n
+pub among_seen : (v w : View) (part : List Act) (n : ℕ) → w.log ≡ part ++ v.log → Among (ReadCounter n) part → v.learnt ≤ shown v.log → ∥ IsReachable w ∥₁ → seen_writes v ≤ n
 among_seen v w part n own among settled possible =
     let is : w.log ≡ among.newer ++ ReadCounter n ∷ (among.rest ++ v.log) = own ∙ (ap (λ (l : List Act). l ++ v.log) among.is ∙ append_assoc among.newer (ReadCounter n ∷ among.rest) v.log) in
     max-le (le_trans settled (le_trans (seen_rises among.rest v.log) (stamp_seen w possible among.newer (among.rest ++ v.log) n is))) (le_trans (seen_rises among.rest v.log) (stamp_seen w possible among.newer (among.rest ++ v.log) n is))
 
 -- an entry with such a stamp
-pub answered_seen : (v w z : View) (called : Call) (said : Reply) (part : List Act) (n : ℕ) → w.log ≡ part ++ v.log → Among (ReadCounter n) part → z ≡ noted (Answer called said n) w → v.learnt ≤ shown v.log → ∥ Possible z ∥₁ → seen_writes v ≤ n
+pub answered_seen : (v w z : View) (called : Call) (said : Reply) (part : List Act) (n : ℕ) → w.log ≡ part ++ v.log → Among (ReadCounter n) part → z ≡ view_after (Answer called said n) w → v.learnt ≤ shown v.log → ∥ IsReachable z ∥₁ → seen_writes v ≤ n
 answered_seen v w z called said part n own among is settled possible =
     among_seen v z (Answer called said n ∷ part) n (ap (λ (u : View). u.log) is ∙ ap (λ (l : List Act). Answer called said n ∷ l) own)
     (record { newer = Answer called said n ∷ among.newer; rest = among.rest; is = ap (λ (l : List Act). Answer called said n ∷ l) among.is }) settled possible

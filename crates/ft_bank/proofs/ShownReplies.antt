@@ -33,9 +33,9 @@ use Rattle.ft_trace.specs.declared.View.{View}
 use Rattle.ft_trace.specs.Acts.{has_lock, past}
 use Rattle.ft_trace.specs.Causes.{AreOfOneCall, HasCause}
 use Rattle.ft_trace.specs.ContainerStates.{ContainerState, kind_in, kinds_in, container_after, first_writes, reply_in}
-use Rattle.ft_trace.specs.Addresses.{containers_in}
-use Rattle.ft_trace.specs.Holds.{known}
-use Rattle.ft_trace.specs.Traces.{Event, Valid, Knows, run, history, Possible, Sure}
+use Rattle.ft_trace.specs.Addresses.{container_count}
+use Rattle.ft_trace.specs.Holds.{known_state}
+use Rattle.ft_trace.specs.Traces.{Event, Valid, Knows, run, history, IsReachable, Sure}
 use Rattle.ft_trace.specs.LookReplies.{key_reply, item_reply, stored_at, DictReplies}
 use Rattle.ft_trace.proofs.LookReplies.{dict_hits_are_replied, set_hits_are_replied, misses_are_replied, items_are_replied, past_items_are_replied}
 use Rattle.ft_trace.proofs.CursorAnswers.{adds_no_cursor}
@@ -223,8 +223,8 @@ loaded_then v n l es id knows =
     let pasts : past v.log ≡ past w.view.log = ap past l.is ∙ (keep.1 ∙ ap past (sym w.log)) in
     subst (λ (cs : List Call). MayHave v (stored_newest k.starts cs)) (sym then_)
     (record {
-      agrees = λ p low mine. had.agrees p (subst (λ (z : Shape). p < containers_in z) (sym shape) low) (sym (locks p) ∙ mine) ∙ (λ d. container_after (shape d).starts (sym pasts d) p);
-      containers = had.containers ∙ ap containers_in shape;
+      agrees = λ p low mine. had.agrees p (subst (λ (z : Shape). p < container_count z) (sym shape) low) (sym (locks p) ∙ mine) ∙ (λ d. container_after (shape d).starts (sym pasts d) p);
+      containers = had.containers ∙ ap container_count shape;
       kinds = had.kinds ∙ ap (λ (z : Shape). kinds_in z.starts) shape;
       order = had.order;
       unsplit = had.unsplit;
@@ -276,12 +276,12 @@ overs_are_shown v call n l right =
 
 pub serials_have_room : SerialsHaveRoom
 serials_have_room v o possible few mine =
-    ∥∥₁_elim {P = serial_of (known o v).content + 2 ^ 16 < 2 ^ 63} possible le_prop
-    (λ (x : Possible v).
+    ∥∥₁_elim {P = serial_of (known_state o v).content + 2 ^ 16 < 2 ^ 63} possible le_prop
+    (λ (x : IsReachable v).
     let k = v.shape in
     let es = x.0 in
     let same = ap (λ (z : ContainerState). serial_of z.content) (content_known v o mine es x.1 x.2) in
     let next = rule.next_serials_are_low k es x.2.0 o in
     let count = counter_room k es x.2.0 in
-    let room : serial_of (known o v).content + 2 ^ 16 < 2 ^ 63 = omega (arith, same, next, count, few) in
+    let room : serial_of (known_state o v).content + 2 ^ 16 < 2 ^ 63 = omega (arith, same, next, count, few) in
     room)

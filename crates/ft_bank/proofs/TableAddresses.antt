@@ -5,18 +5,18 @@ use Rattle.ft_layout.specs.Sizes.{table_size}
 use Rattle.ft_layout.specs.Starts.{words_below, table_start}
 use Rattle.ft_model.specs.Classes.{IsClass}
 use Rattle.ft_trace.specs.declared.Shape.{Shape}
-use Rattle.ft_trace.specs.Addresses.{containers_in, class_of, number_of, tables_in, far, start_of, extent, at, cell, size, IsTableName}
+use Rattle.ft_trace.specs.Addresses.{container_count, class_of, number_of, tables_in, far, start_of, extent, at, cell, size, IsTableName}
 use Rattle.ft_trace.proofs.Addresses.{class_of_number, number_of_number, start_high}
 use Rattle.ft_bank.specs.declared.table.Table.{Table}
-use Rattle.ft_bank.specs.TableNames.{name_of, IsTableIn, starts_from, sizes_from}
+use Rattle.ft_bank.specs.TableNames.{table_id, IsTableIn, starts_from, sizes_from}
 
-pub class_is : (t : Table) → t.number < 1024 → class_of (name_of t) ≡ t.class
+pub class_is : (t : Table) → t.number < 1024 → class_of (table_id t) ≡ t.class
 class_is t low = class_of_number t.class t.number low
 
-pub number_is : (t : Table) → t.number < 1024 → number_of (name_of t) ≡ t.number
+pub number_is : (t : Table) → t.number < 1024 → number_of (table_id t) ≡ t.number
 number_is t low = number_of_number t.class t.number low
 
-pub named : (k : Shape) (t : Table) → IsTableIn k t → IsTableName k (name_of t)
+pub named : (k : Shape) (t : Table) → IsTableIn k t → IsTableName k (table_id t)
 named k t is =
     let c = class_is t is.2 in
     let n = number_is t is.2 in
@@ -62,23 +62,23 @@ sizes_long c zero = refl
 sizes_long c (suc n) = ap suc (sizes_long (suc c) n)
 
 -- where the first table of a class begins
-pub start_first : (k : Shape) (c : ℕ) → table_start (containers_in k) k.heap k.passes k.tables c 0 ≡ far k + words_below k.tables c
+pub start_first : (k : Shape) (c : ℕ) → table_start (container_count k) k.heap k.passes k.tables c 0 ≡ far k + words_below k.tables c
 unfolding far
 start_first k c = omega arith
 
 -- where a table begins
-pub start_at : (k : Shape) (t : Table) → t.number < 1024 → start_of k (name_of t) ≡ far k + words_below k.tables t.class + t.number * table_size t.class
+pub start_at : (k : Shape) (t : Table) → t.number < 1024 → start_of k (table_id t) ≡ far k + words_below k.tables t.class + t.number * table_size t.class
 unfolding start_of
 start_at k t low = (λ d. far k + words_below k.tables (class_is t low d) + number_is t low d * table_size (class_is t low d))
 
 -- where its words lie after its header, and that they do
 pub cell_sum : (k : Shape) (t : Table) (x y n : ℕ) → IsTableIn k t → x ≡ far k + words_below k.tables t.class → y ≡ table_size t.class → n ≡ t.number
-    → (x + n * y + 2 ≡ at k (cell (name_of t) 0)) × (x + n * y + 2 + size (class_of (name_of t)) ≤ extent k)
+    → (x + n * y + 2 ≡ at k (cell (table_id t) 0)) × (x + n * y + 2 + size (class_of (table_id t)) ≤ extent k)
 cell_sum k t x y n is a b e =
     let s = start_at k t is.2 in
     let p : n * y ≡ t.number * table_size t.class = λ d. e d * b d in
-    let h = start_high k (name_of t) (named k t is) in
+    let h = start_high k (table_id t) (named k t is) in
     (omega (arith, a, p, s), omega (arith, a, p, s, h))
 
-pub each_named : (k l : Shape) (root : Option Table) → l ≡ k → ((t : Table) → root ≡ Some t → IsTableIn k t) → (t : Table) → root ≡ Some t → IsTableName l (name_of t)
-each_named k l root same is t e = subst (λ (z : Shape). IsTableName z (name_of t)) (sym same) (named k t (is t e))
+pub each_named : (k l : Shape) (root : Option Table) → l ≡ k → ((t : Table) → root ≡ Some t → IsTableIn k t) → (t : Table) → root ≡ Some t → IsTableName l (table_id t)
+each_named k l root same is t e = subst (λ (z : Shape). IsTableName z (table_id t)) (sym same) (named k t (is t e))

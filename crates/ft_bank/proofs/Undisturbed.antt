@@ -13,12 +13,12 @@ use Rattle.ft_trace.specs.declared.Act.TheVariants.{LowerCount, RaiseCount, Read
 use Rattle.ft_trace.specs.declared.Shape.{Shape}
 use Rattle.ft_trace.specs.declared.View.{View}
 use Rattle.ft_trace.specs.Addresses.{Word, at, bits, count_of_class, free_word_of, tables_in}
-use Rattle.ft_trace.specs.Acts.{floor_words, noted}
+use Rattle.ft_trace.specs.Acts.{floor_words, view_after}
 use Rattle.ft_trace.specs.Bits.{bit}
 use Rattle.ft_trace.specs.Counts.{giving, ones, sum_to, taking, word_bits}
 use Rattle.ft_trace.specs.Entries.{total}
 use Rattle.ft_trace.specs.Floors.{FoundAsKnown}
-use Rattle.ft_trace.specs.Traces.{Event, Possible, Valid, run, word}
+use Rattle.ft_trace.specs.Traces.{Event, IsReachable, Valid, run, word}
 use Rattle.ft_trace.proofs.Addresses.{at_apart, at_low}
 use Rattle.ft_trace.proofs.Announcing.{fits}
 use Rattle.ft_trace.proofs.Counts.{count_low}
@@ -30,7 +30,7 @@ use Rattle.ft_bank.specs.declared.takings.Search.TheVariants as search
 use Rattle.ft_bank.specs.declared.takings.Took.{Took}
 use Rattle.ft_bank.specs.declared.takings.Took.TheVariants as took
 use Rattle.ft_bank.specs.Series.{noted_all}
-use Rattle.ft_bank.specs.TableNames.{name_of}
+use Rattle.ft_bank.specs.TableNames.{table_id}
 use Rattle.ft_bank.specs.Takings.{IsSearch, IsTaking, loads_of_none, lowered, word_of_class}
 
 -- ---- actions in a row
@@ -145,11 +145,11 @@ module _ (k : Shape) (n : ℕ) (class : ℕ) (l : List Act) where
   lost_alone a b count raised rest acts lost is found =
       let c = lost.2 in
       let t = lost.1 in
-      let all : acts ≡ RaiseCount class raised ∷ ((TakeTable (name_of t) b c.snap ∷ ReadFree (word_of_class class c.word) a ∷ loads_of_none class c.word) ++ lowered class count) = is ∙ ap (λ (x : List Act). RaiseCount class raised ∷ (x ++ lowered class count)) c.is in
+      let all : acts ≡ RaiseCount class raised ∷ ((TakeTable (table_id t) b c.snap ∷ ReadFree (word_of_class class c.word) a ∷ loads_of_none class c.word) ++ lowered class count) = is ∙ ap (λ (x : List Act). RaiseCount class raised ∷ (x ++ lowered class count)) c.is in
       let f = subst (λ (x : List Act). FoundAsKnown k n (x ++ l)) all found in
-      lost.0 (word_alone k n (name_of t) (word_of_class class c.word) a b c.snap ((loads_of_none class c.word ++ lowered class count) ++ l) c.of f.1)
+      lost.0 (word_alone k n (table_id t) (word_of_class class c.word) a b c.snap ((loads_of_none class c.word ++ lowered class count) ++ l) c.of f.1)
 
-pub taking_alone : (v w : View) (class a b : ℕ) (acts : List Act) → IsClass class → w ≡ noted_all acts v → IsTaking class (took.Moved a b) acts → ∥ Possible w ∥₁ → v.has_floor ≡ true → ⊥
+pub taking_alone : (v w : View) (class a b : ℕ) (acts : List Act) → IsClass class → w ≡ noted_all acts v → IsTaking class (took.Moved a b) acts → ∥ IsReachable w ∥₁ → v.has_floor ≡ true → ⊥
 taking_alone v w class a b acts is did taking possible has =
     ∥∥₁_elim possible (λ x y. absurd x)
     (λ p.

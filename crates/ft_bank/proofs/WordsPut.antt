@@ -4,10 +4,10 @@ use Rattle.std.specs.Prelude.{slice_index, slice_set}
 use Rattle.ft_trace.specs.declared.Shape.{Shape}
 use Rattle.ft_trace.specs.declared.View.{View}
 use Rattle.ft_trace.specs.declared.Act.TheVariants.{PutBlock, PutRoot, PutTable, PutFresh}
-use Rattle.ft_trace.specs.Addresses.{Word, block, cell, containers_in, class_of, size, IsTableName, at, Inside}
-use Rattle.ft_trace.specs.Acts.{is_writing, stage, mem, noted}
+use Rattle.ft_trace.specs.Addresses.{Word, block, cell, container_count, class_of, size, IsTableName, at, Inside}
+use Rattle.ft_trace.specs.Acts.{is_writing, stage, mem, view_after}
 use Rattle.ft_trace.specs.Pictures.{block_of, root_of, inner, root_in}
-use Rattle.ft_trace.specs.Holds.{held, in_hand}
+use Rattle.ft_trace.specs.Holds.{held_words, in_hand}
 use Rattle.ft_trace.specs.Traces.{Knows}
 use Rattle.ft_trace.proofs.Addresses.{at_low, at_apart}
 use Rattle.ft_trace.proofs.Pieces.{piece_set, block_same, block_at, table_same, table_set}
@@ -18,7 +18,7 @@ use Rattle.ft_trace.proofs.Held.{root_known}
 use Rattle.ft_bank.specs.Rules.{Acted}
 use Rattle.ft_bank.specs.WriteSteps.{with_block, with_root, with_table}
 use Rattle.ft_bank.specs.declared.table.Table.{Table}
-use Rattle.ft_bank.specs.TableNames.{name_of, root_for, words_for}
+use Rattle.ft_bank.specs.TableNames.{table_id, root_for, words_for}
 use Rattle.ft_bank.proofs.Readying.{root_names}
 
 -- a put leaves each other word
@@ -42,7 +42,7 @@ inner_stays k ws x z (suc t) in_it apart tables = table_same k t (slice_set ws (
 in_block : (o i t j : ℕ) → cell t j ≢ block o i
 in_block o i t j e = absurd (cc)
 
-pub block_put : (v : View) (o i x : ℕ) → o < containers_in v.shape → i ≢ 0 → i < 6 → is_writing o v.log ≡ true → Acted v (PutBlock o i x) → held o (noted (PutBlock o i x) v) ≡ with_block (held o v) i x
+pub block_put : (v : View) (o i x : ℕ) → o < container_count v.shape → i ≢ 0 → i < 6 → is_writing o v.log ≡ true → Acted v (PutBlock o i x) → held_words o (view_after (PutBlock o i x) v) ≡ with_block (held_words o v) i x
 block_put v o i x low ne small odd d =
     let k = v.shape in
     let ws = mem k v.log in
@@ -56,7 +56,7 @@ block_put v o i x low ne small odd d =
     let tables = ap (λ (r : ℕ). inner k r (slice_set ws (at k (block o i)) x)) root ∙ inner_stays k ws (block o i) x (root_of k o ws) (low, small) (in_block o i) names in
     λ j. record { block = words j; table = tables j }
 
-pub table_put : (v : View) (o t i x : ℕ) → o < containers_in v.shape → IsTableName v.shape t → i < size (class_of t) → is_writing o v.log ≡ true → root_in (held o v) ≡ suc t → Acted v (PutTable o t i x) → held o (noted (PutTable o t i x) v) ≡ with_table (held o v) i x
+pub table_put : (v : View) (o t i x : ℕ) → o < container_count v.shape → IsTableName v.shape t → i < size (class_of t) → is_writing o v.log ≡ true → root_in (held_words o v) ≡ suc t → Acted v (PutTable o t i x) → held_words o (view_after (PutTable o t i x) v) ≡ with_table (held_words o v) i x
 table_put v o t i x low table small odd names d =
     let k = v.shape in
     let ws = mem k v.log in
@@ -71,7 +71,7 @@ table_put v o t i x low table small odd names d =
     let tables = ap (λ (r : ℕ). inner k r ys) after ∙ (table_set k t ws i x small (omega (arith, wide, there)) ∙ sym (ap (λ (r : ℕ). slice_set (inner k r ws) i x) before)) in
     λ j. record { block = words j; table = tables j }
 
-pub fresh_put : (v : View) (t i x : ℕ) → IsTableName v.shape t → i < size (class_of t) → stage t v.log ≡ 1 → Acted v (PutFresh t i x) → in_hand t (noted (PutFresh t i x) v) ≡ slice_set (in_hand t v) i x
+pub fresh_put : (v : View) (t i x : ℕ) → IsTableName v.shape t → i < size (class_of t) → stage t v.log ≡ 1 → Acted v (PutFresh t i x) → in_hand t (view_after (PutFresh t i x) v) ≡ slice_set (in_hand t v) i x
 fresh_put v t i x table small mine d =
     let k = v.shape in
     let wide = (imaged k d.0 d.2.0 d.1 v d.2.1.0).wide (inr (t, mine)) in
@@ -82,7 +82,7 @@ inner_for : (root : Option Table) (v : View) → inner v.shape (root_for root) (
 inner_for None v = refl
 inner_for (Some t) v = refl
 
-pub root_put : (v : View) (o : ℕ) (root : Option Table) (old : ℕ) → o < containers_in v.shape → ((t : Table) → root ≡ Some t → IsTableName v.shape (name_of t)) → is_writing o v.log ≡ true → Acted v (PutRoot o (root_for root) old) → held o (noted (PutRoot o (root_for root) old) v) ≡ with_root (held o v) root v
+pub root_put : (v : View) (o : ℕ) (root : Option Table) (old : ℕ) → o < container_count v.shape → ((t : Table) → root ≡ Some t → IsTableName v.shape (table_id t)) → is_writing o v.log ≡ true → Acted v (PutRoot o (root_for root) old) → held_words o (view_after (PutRoot o (root_for root) old) v) ≡ with_root (held_words o v) root v
 root_put v o root old low tables odd d =
     let k = v.shape in
     let r = root_for root in

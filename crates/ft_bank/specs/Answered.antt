@@ -6,7 +6,7 @@ use Rattle.ft_model.specs.declared.cursor.Cursor.{Cursor}
 use Rattle.ft_trace.specs.declared.Act.{Act}
 use Rattle.ft_trace.specs.declared.Act.TheVariants.{Answer, AnswerCursor, ReadCounter}
 use Rattle.ft_trace.specs.declared.View.{View}
-use Rattle.ft_trace.specs.Acts.{noted, seen_writes}
+use Rattle.ft_trace.specs.Acts.{view_after, seen_writes}
 use Rattle.ft_trace.specs.Hands.{cursor_in}
 use Rattle.ft_trace.specs.LoggedReads.{Among}
 use Rattle.ft_bank.specs.Whole.{OnlyLoaded}
@@ -19,7 +19,7 @@ pub record Answered (called : Call) (said : Reply) (number : ℕ) (v w : View) :
   pub part : List Act
   pub own : before.log ≡ part ++ v.log
   pub counted : Among (ReadCounter number) part
-  pub answered : w ≡ noted (Answer called said number) before
+  pub answered : w ≡ view_after (Answer called said number) before
   pub seen : seen_writes v ≤ number
 
 -- The pass loaded words of the bank, and then gave this reply to an `iter` or a `next` of its cursor under this number,
@@ -32,5 +32,5 @@ pub record AnsweredCursor
   pub part : List Act
   pub own : before.log ≡ part ++ v.log
   pub counted : Among (ReadCounter stamp) part
-  pub answered : w ≡ noted (AnswerCursor called said stamp number (cursor_in number v.log) cursor) before
+  pub answered : w ≡ view_after (AnswerCursor called said stamp number (cursor_in number v.log) cursor) before
   pub seen : seen_writes v ≤ stamp

@@ -4,7 +4,7 @@ use Rattle.ft_model.specs.declared.cursor.Cursor.{Cursor}
 use Rattle.ft_trace.specs.declared.Shape.{Shape}
 use Rattle.ft_trace.specs.declared.View.{View}
 use Rattle.ft_trace.specs.declared.Act.{Act}
-use Rattle.ft_trace.specs.Acts.{noted}
+use Rattle.ft_trace.specs.Acts.{view_after}
 use Rattle.ft_trace.specs.Hands.{cursor_in}
 use Rattle.ft_bank.specs.Shapes.{plan}
 use Rattle.ft_bank.specs.declared.bank.Bank.{Bank}
@@ -26,7 +26,7 @@ IsPassOf b p = (p.seat.table_id ≡ b.table.shared.table_id) × (p.seat.me.0.sha
 -- the pass has done this, and nothing else; its sections stay
 abbrev pub Did : Act → Pass → Pass → Type 0
 Did a p q =
-    (q.seat.table_id ≡ p.seat.table_id) × (q.seat.me.0 ≡ noted a p.seat.me.0) × (stack_of q ≡ stack_of p)
+    (q.seat.table_id ≡ p.seat.table_id) × (q.seat.me.0 ≡ view_after a p.seat.me.0) × (stack_of q ≡ stack_of p)
 
 -- the pass is of the same bank, and knows the same
 abbrev pub KeepsAll : Pass → Pass → Type 0

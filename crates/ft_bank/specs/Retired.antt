@@ -7,7 +7,7 @@ use Rattle.ft_trace.specs.Addresses.{IsTableName, free_word_of, free_bit_of}
 use Rattle.ft_trace.specs.Acts.{goal, has_goal, has_goal_next}
 use Rattle.ft_trace.specs.Bits.{bit}
 use Rattle.ft_bank.specs.declared.table.Table.{Table}
-use Rattle.ft_bank.specs.TableNames.{name_of, IsTableIn}
+use Rattle.ft_bank.specs.TableNames.{table_id, IsTableIn}
 
 -- the table of a bit of the free words
 abbrev pub table_of_bit : ℕ → ℕ → Table
@@ -18,9 +18,9 @@ table_of_bit word b = record { class = 3 + word / 16; number = 64 * (word % 16) 
 pub record AreRetired (words : List ℕ) (v : View) : Type 0 where
   pub long : length words ≡ 224
   pub some : (w b : ℕ) → w < 224 → b < 64 → bit b (slice_index words w) ≡ 1
-      → IsTableIn v.shape (table_of_bit w b) × (has_goal (name_of (table_of_bit w b)) v.log ≡ true)
-  pub all : (t : Table) → IsTableIn v.shape t → has_goal (name_of t) v.log ≡ true
-      → bit (free_bit_of (name_of t)) (slice_index words (free_word_of (name_of t))) ≡ 1
+      → IsTableIn v.shape (table_of_bit w b) × (has_goal (table_id (table_of_bit w b)) v.log ≡ true)
+  pub all : (t : Table) → IsTableIn v.shape t → has_goal (table_id t) v.log ≡ true
+      → bit (free_bit_of (table_id t)) (slice_index words (free_word_of (table_id t))) ≡ 1
 
 -- The tables of the bank that the other pass kept retired are this pass's then, with their goals, and it keeps its own.
 pub record TakesOver (v other w : View) : Type 0 where

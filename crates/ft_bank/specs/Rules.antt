@@ -5,7 +5,7 @@ use Rattle.ft_trace.specs.declared.Shape.{Shape}
 use Rattle.ft_trace.specs.declared.View.{View}
 use Rattle.ft_trace.specs.declared.Act.{Act}
 use Rattle.ft_trace.specs.declared.Snap.{Snap}
-use Rattle.ft_trace.specs.Acts.{noted, left_next}
+use Rattle.ft_trace.specs.Acts.{view_after, left_next}
 use Rattle.ft_trace.specs.Traces.{Event, did, Valid, Traced}
 
 -- there is a valid trace that gives the words and what each pass knows
@@ -18,7 +18,7 @@ Acted v a = (es : List Event) × (id : ℕ) × Valid v.shape (did id v a ∷ es)
 
 -- the pass has noted the action that the number found makes it
 abbrev pub Notes : {S : Type 0} → (ℕ → Act) → Me S View → ℕ → Me S View → Type 0
-Notes act m n w = (w.0 ≡ noted (act n) m.0) × (w.1 ≡ m.1) × Acted m.0 (act n)
+Notes act m n w = (w.0 ≡ view_after (act n) m.0) × (w.1 ≡ m.1) × Acted m.0 (act n)
 
 abbrev pub Plays : {S : Type 0} → (ℕ → Act) → Step S → Me S View → ℕ → Me S View → Type 0
 Plays act st m n w = Notes act m n w

@@ -25,22 +25,22 @@ use Rattle.ft_trace.specs.declared.Act.{Act}
 use Rattle.ft_trace.specs.declared.Act.TheVariants.{ReadCounter, Lock, Unlock, TakeTable}
 use Rattle.ft_trace.specs.declared.View.{View}
 use Rattle.ft_trace.specs.Acts.{has_lock}
-use Rattle.ft_trace.specs.Addresses.{containers_in, class_of, slots}
+use Rattle.ft_trace.specs.Addresses.{container_count, class_of, slots}
 use Rattle.ft_trace.specs.Causes.{AreOfOneCall, Loaded, FoundEmpty, HasCause}
 use Rattle.ft_trace.specs.Hands.{cursor_in, MovesCursor}
-use Rattle.ft_trace.specs.Holds.{known}
+use Rattle.ft_trace.specs.Holds.{known_state}
 use Rattle.ft_trace.specs.LoggedLookUps.{Hit, Bare, ItemHit, ItemPast}
 use Rattle.ft_trace.specs.Kinds.{rows}
 use Rattle.ft_trace.specs.LookReplies.{IsValueRead, IsItemRead, IsAbsent, key_reply, item_reply}
 use Rattle.ft_trace.specs.LoggedReads.{LookedAtOne, LookedAtBoth}
-use Rattle.ft_trace.specs.Traces.{Possible}
+use Rattle.ft_trace.specs.Traces.{IsReachable}
 use Rattle.ft_trace.specs.ContainerStates.{kind_in, reply_in}
 use Rattle.ft_bank.specs.Reads.{IsShown, IsCursorShown}
 use Rattle.ft_bank.specs.WriteSteps.{MayHave}
 
 -- a pass may ask of the container o: it has a call left, and a load of the counter since its last entry gave the stamp
 pub record MayAsk (v : View) (o n : ℕ) : Type 0 where
-  pub low : o < containers_in v.shape
+  pub low : o < container_count v.shape
   pub left : 0 < v.left
   pub loaded : Loaded n v.log
 
@@ -65,7 +65,7 @@ DictHitsAreShown =
 -- the words that were read of its value are those of one
 abbrev pub ValuesAreRead : Type 0
 ValuesAreRead =
-    (v : View) (o t place : ℕ) (key : Key) (n : ℕ) → Possible v → o < containers_in v.shape
+    (v : View) (o t place : ℕ) (key : Key) (n : ℕ) → IsReachable v → o < container_count v.shape
     → kind_in v.shape.starts o ≡ kind.Dict → FitsKey key → place < rows kind.Dict (class_of t)
     → (h : Hit v.log o t place key n) (kind payload : ℕ) → IsValueRead t place kind payload h.mid
     → (value : Value) × IsStored kind payload (Plain value)
@@ -100,7 +100,7 @@ ItemsAreShown =
 -- and they are one of the two
 abbrev pub ItemsAreRead : Type 0
 ItemsAreRead =
-    (v : View) (o t place n : ℕ) → Possible v → o < containers_in v.shape → kind_in v.shape.starts o ≡ kind.List
+    (v : View) (o t place n : ℕ) → IsReachable v → o < container_count v.shape → kind_in v.shape.starts o ≡ kind.List
     → place < rows kind.List (class_of t) → (h : ItemHit v.log o t place n) (kind payload : ℕ)
     → IsItemRead t place kind payload h.mid
     → ((value : Value) × IsStored kind payload (Plain value)) ⊎ IsStored kind payload Empty
@@ -125,7 +125,7 @@ LooksAreShown =
 -- and one that was read of two containers
 abbrev pub LooksAtBothAreShown : Type 0
 LooksAtBothAreShown =
-    (v : View) (call : Call) (o p : ℕ) (said : Reply) (n : ℕ) → MayAsk v o n → p < containers_in v.shape
+    (v : View) (call : Call) (o p : ℕ) (said : Reply) (n : ℕ) → MayAsk v o n → p < container_count v.shape
     → is_write call said ≡ false → moved_cursor call ≡ None → can_add call ≡ false → is_memory said ≡ false
     → said ≢ reply.Kept
     → IsReplied call said said → LookedAtBoth v.shape call o p said n v.log → IsShown v call said n
@@ -190,5 +190,5 @@ OversAreShown =
 -- drawn.
 abbrev pub SerialsHaveRoom : Type 0
 SerialsHaveRoom =
-    (v : View) (o : ℕ) → ∥ Possible v ∥₁ → v.shape.passes * v.shape.calls < 2 ^ 46 → has_lock o v.log ≡ true
-    → serial_of (known o v).content + 2 ^ 16 < 2 ^ 63
+    (v : View) (o : ℕ) → ∥ IsReachable v ∥₁ → v.shape.passes * v.shape.calls < 2 ^ 46 → has_lock o v.log ≡ true
+    → serial_of (known_state o v).content + 2 ^ 16 < 2 ^ 63

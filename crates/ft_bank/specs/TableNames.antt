@@ -10,8 +10,8 @@ use Rattle.ft_trace.specs.Holds.{in_hand}
 use Rattle.ft_bank.specs.declared.table.Table.{Table}
 
 -- the root word of the table less 1
-abbrev pub name_of : Table → ℕ
-name_of t = 65536 * t.class + t.number
+abbrev pub table_id : Table → ℕ
+table_id t = 65536 * t.class + t.number
 
 -- the bank has this table
 abbrev pub IsTableIn : Shape → Table → Type 0
@@ -19,17 +19,17 @@ IsTableIn k t = IsClass t.class × (t.number < tables_in k t.class) × (t.number
 
 -- where the words of the table begin after its header, all inside the bank
 abbrev pub IsPlaceOf : Shape → Table → ℕ → Type 0
-IsPlaceOf k t start = (start ≡ at k (cell (name_of t) 0)) × (start + size (class_of (name_of t)) ≤ extent k)
+IsPlaceOf k t start = (start ≡ at k (cell (table_id t) 0)) × (start + size (class_of (table_id t)) ≤ extent k)
 
 -- the root that names the table, or no table
 abbrev pub root_for : Option Table → ℕ
 root_for None = 0
-root_for (Some t) = suc (name_of t)
+root_for (Some t) = suc (table_id t)
 
 -- the words of the table that the pass has in hand, or of no table
 abbrev pub words_for : Option Table → View → List ℕ
 words_for None v = []
-words_for (Some t) v = in_hand (name_of t) v
+words_for (Some t) v = in_hand (table_id t) v
 
 -- where the tables of each class begin, from class c on
 abbrev pub starts_from : Shape → ℕ → ℕ → List ℕ

@@ -5,17 +5,17 @@ use Rattle.ft_trace.specs.declared.Act.TheVariants.{LowerCount, RaiseCount, Read
 use Rattle.ft_trace.specs.declared.Shape.{Shape}
 use Rattle.ft_trace.specs.declared.Snap.{Snap}
 use Rattle.ft_trace.specs.declared.View.{View}
-use Rattle.ft_trace.specs.Addresses.{containers_in, class_of, IsTableName, free_word_of, free_bit_of}
+use Rattle.ft_trace.specs.Addresses.{container_count, class_of, IsTableName, free_word_of, free_bit_of}
 use Rattle.ft_trace.specs.Acts.{has_lock, is_writing, has_committed, has_emptied, stage, clear, announces, used, debt, flight, owes}
 use Rattle.ft_trace.specs.Bits.{bit}
-use Rattle.ft_trace.specs.Holds.{held, known, in_hand}
+use Rattle.ft_trace.specs.Holds.{held_words, known_state, in_hand}
 use Rattle.ft_trace.specs.Traces.{IsAllShut}
 use Rattle.ft_bank.specs.declared.table.Table.{Table}
 use Rattle.ft_bank.specs.declared.takings.Took.{Took}
 use Rattle.ft_bank.specs.declared.takings.Took.TheVariants as took
 use Rattle.ft_bank.specs.declared.takings.Search.{Search}
 use Rattle.ft_bank.specs.declared.takings.Search.TheVariants as search
-use Rattle.ft_bank.specs.TableNames.{name_of, IsTableIn}
+use Rattle.ft_bank.specs.TableNames.{table_id, IsTableIn}
 
 -- ---- what stays
 
@@ -36,8 +36,8 @@ pub record KeepsHeld (F : ℕ → Type 0) (v w : View) : Type 0 where
   pub committed : (o : ℕ) → has_committed o w.log ≡ has_committed o v.log
   pub emptied : (o : ℕ) → has_emptied o w.log ≡ has_emptied o v.log
   pub used : used w.log ≡ used v.log
-  pub words : (o : ℕ) → o < containers_in v.shape → has_lock o v.log ≡ true
-      → (held o w ≡ held o v) × (known o w ≡ known o v)
+  pub words : (o : ℕ) → o < container_count v.shape → has_lock o v.log ≡ true
+      → (held_words o w ≡ held_words o v) × (known_state o w ≡ known_state o v)
   pub stages : (t : ℕ) → F t → stage t w.log ≡ stage t v.log
   pub hands : (t : ℕ) → F t → IsTableName v.shape t → stage t v.log ≡ 1 → in_hand t w ≡ in_hand t v
 
@@ -53,13 +53,13 @@ Each t = Unit {0}
 
 -- every table but this one
 abbrev pub NotTable : Table → ℕ → Type 0
-NotTable q t = t ≢ name_of q
+NotTable q t = t ≢ table_id q
 
 -- ---- free tables
 
 -- the bank has this table, and the pass has it not
 abbrev pub IsUnclaimed : Shape → Table → View → Type 0
-IsUnclaimed k t v = IsTableIn k t × (stage (name_of t) v.log ≡ 0)
+IsUnclaimed k t v = IsTableIn k t × (stage (table_id t) v.log ≡ 0)
 
 -- no version is odd in the words that the pass knows of a table fresh in its hand, by the kind of container that it was
 -- filled for
@@ -89,16 +89,16 @@ loads_of_none class (suc n) = ReadFree (word_of_class class n) 0 ∷ loads_of_no
 pub record Cleared (class : ℕ) (t : Table) (loaded found : ℕ) (acts : List Act) : Type 0 where
   pub word : ℕ
   pub low : word < 16
-  pub of : free_word_of (name_of t) ≡ word_of_class class word
+  pub of : free_word_of (table_id t) ≡ word_of_class class word
   pub snap : Snap
-  pub is : acts ≡ TakeTable (name_of t) found snap ∷ ReadFree (word_of_class class word) loaded
+  pub is : acts ≡ TakeTable (table_id t) found snap ∷ ReadFree (word_of_class class word) loaded
       ∷ loads_of_none class word
 
 -- What a search of the free words of a class did: it took a bit that was still set; or it came too late for one, whose
 -- word moved between two steps of this search; or each word was 0 at its load.
 abbrev pub IsSearch : ℕ → Search → List Act → Type 0
 IsSearch class (search.Found t) acts =
-    (loaded found : ℕ) × (bit (free_bit_of (name_of t)) found ≡ 1) × Cleared class t loaded found acts
+    (loaded found : ℕ) × (bit (free_bit_of (table_id t)) found ≡ 1) × Cleared class t loaded found acts
 IsSearch class (search.Lost a b) acts = (a ≢ b) × (t : Table) × Cleared class t a b acts
 IsSearch class search.Nothing acts = acts ≡ loads_of_none class 16
 
@@ -106,8 +106,8 @@ IsSearch class search.Nothing acts = acts ≡ loads_of_none class 16
 -- in the midst of the taking. What it owes stays.
 abbrev pub HasFound : Shape → ℕ → Search → View → View → Type 0
 HasFound k class (search.Found t) v w =
-    IsTableIn k t × (t.class ≡ class) × (stage (name_of t) v.log ≡ 0) × (stage (name_of t) w.log ≡ 1)
-    × (flight w.log ≡ 0) × (owes w.log ≡ owes v.log) × IsShutIn (name_of t) w
+    IsTableIn k t × (t.class ≡ class) × (stage (table_id t) v.log ≡ 0) × (stage (table_id t) w.log ≡ 1)
+    × (flight w.log ≡ 0) × (owes w.log ≡ owes v.log) × IsShutIn (table_id t) w
 HasFound k class (search.Lost a b) v w = (flight w.log ≡ flight v.log) × (owes w.log ≡ owes v.log)
 HasFound k class search.Nothing v w = (flight w.log ≡ flight v.log) × (owes w.log ≡ owes v.log)
 
@@ -120,9 +120,9 @@ StaysInSearch search.Nothing t = Each t
 -- What a try to clear the bit of a table answers that was set in this word at its load: it was set in what was found
 -- too; or it was not, so that the word has moved.
 abbrev pub IsBitCleared : Table → ℕ → ℕ → Search → Type 0
-IsBitCleared t loaded found (search.Found q) = (q ≡ t) × (bit (free_bit_of (name_of t)) found ≡ 1)
+IsBitCleared t loaded found (search.Found q) = (q ≡ t) × (bit (free_bit_of (table_id t)) found ≡ 1)
 IsBitCleared t loaded found (search.Lost a b) =
-    (a ≡ loaded) × (b ≡ found) × (loaded ≢ found) × (bit (free_bit_of (name_of t)) found ≢ 1)
+    (a ≡ loaded) × (b ≡ found) × (loaded ≢ found) × (bit (free_bit_of (table_id t)) found ≢ 1)
 IsBitCleared t loaded found search.Nothing = ⊥
 
 -- ---- a taking
@@ -150,8 +150,8 @@ IsTaking class (took.Moved a b) acts =
 -- odd version, and it owes its class; or it owes nothing, as before.
 abbrev pub HasTook : Shape → ℕ → Took → View → View → Type 0
 HasTook k class (took.Taken t) v w =
-    IsTableIn k t × (t.class ≡ class) × (stage (name_of t) v.log ≡ 0) × (stage (name_of t) w.log ≡ 1)
-    × (owes w.log ≡ suc class) × IsShutIn (name_of t) w
+    IsTableIn k t × (t.class ≡ class) × (stage (table_id t) v.log ≡ 0) × (stage (table_id t) w.log ≡ 1)
+    × (owes w.log ≡ suc class) × IsShutIn (table_id t) w
 HasTook k class took.AllTaken v w = owes w.log ≡ 0
 HasTook k class (took.Moved a b) v w = owes w.log ≡ 0
 

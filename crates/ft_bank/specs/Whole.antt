@@ -6,15 +6,15 @@ use Rattle.ft_model.specs.TableUses.{StoredWorld, after_stored}
 use Rattle.ft_trace.specs.declared.Act.TheVariants.{PutRoot}
 use Rattle.ft_trace.specs.declared.Entry.{Entry}
 use Rattle.ft_trace.specs.declared.View.{View}
-use Rattle.ft_trace.specs.Addresses.{containers_in}
+use Rattle.ft_trace.specs.Addresses.{container_count}
 use Rattle.ft_trace.specs.Acts.{has_lock, is_writing, has_committed, has_emptied, stage, stage_next, announces, used, debt, debt_next, flight, owes, mem, past, seen_writes}
 use Rattle.ft_trace.specs.Floors.{at_floor}
 use Rattle.ft_trace.specs.Owners.{SameOwners}
 use Rattle.ft_trace.specs.Hands.{cursor_in}
 use Rattle.ft_trace.specs.BegunSections.{begun}
 use Rattle.ft_trace.specs.ContainerStates.{state_at, changes}
-use Rattle.ft_trace.specs.Pictures.{root_in, Stands}
-use Rattle.ft_trace.specs.Holds.{held, known}
+use Rattle.ft_trace.specs.Pictures.{root_in, Represents}
+use Rattle.ft_trace.specs.Holds.{held_words, known_state}
 use Rattle.ft_bank.specs.WriteSteps.{MayHave}
 
 -- It is the same pass: it has the same locks, has made the same versions odd, announces the same, is in the midst of
@@ -63,8 +63,8 @@ pub record OnlyLoaded (v w : View) : Type 0 where
 -- container whose lock it has and that it doesn't write it knows the same words. (profile)
 pub record OnlyPut (o : ℕ) (v w : View) : Type 0 where
   pub work : SameWork v w
-  pub others : (p : ℕ) → p < containers_in v.shape → p ≢ o → has_lock p v.log ≡ true → is_writing p v.log ≡ false
-      → held p w ≡ held p v
+  pub others : (p : ℕ) → p < container_count v.shape → p ≢ o → has_lock p v.log ≡ true → is_writing p v.log ≡ false
+      → held_words p w ≡ held_words p v
 
 -- the entry of a write
 abbrev pub write_entry : Call → Reply → ℕ → Entry
@@ -108,14 +108,14 @@ pub record EndsWrite (called : Call) (said : Reply) (number : ℕ) (v w : View) 
   pub debt : debt w.log ≡ debt v.log
   pub used : used w.log ≡ false
   pub owes : owes w.log ≡ 0
-  pub root : root_in (held (changes called) w) ≡ root_in (held (changes called) v)
-  pub others : (p : ℕ) → p < containers_in v.shape → p ≢ changes called → has_lock p v.log ≡ true
+  pub root : root_in (held_words (changes called) w) ≡ root_in (held_words (changes called) v)
+  pub others : (p : ℕ) → p < container_count v.shape → p ≢ changes called → has_lock p v.log ≡ true
       → is_writing p v.log ≡ false
-      → (held p w ≡ held p v) × (known p w ≡ known p v)
+      → (held_words p w ≡ held_words p v) × (known_state p w ≡ known_state p v)
   pub found : StoredWorld
   pub has : MayHave v found
-  pub content : known (changes called) w ≡ state_at (after_stored found called) (changes called)
-  pub stands : Stands v.shape.texts (held (changes called) w) (known (changes called) w)
+  pub content : known_state (changes called) w ≡ state_at (after_stored found called) (changes called)
+  pub stands : Represents v.shape.texts (held_words (changes called) w) (known_state (changes called) w)
 
 -- The pass made this call as one whole write, with this reply, and the write has this number: at least all writes that
 -- the pass had seen, and it has then seen the write. It has one entry more, and a call less left. It knows the same of
@@ -129,16 +129,16 @@ pub record Wrote (called : Call) (said : Reply) (number : ℕ) (v w : View) : Ty
   pub left : v.left ≡ suc w.left
   pub entries : w.entries ≡ write_entry called said number ∷ v.entries
   pub hands : (t : ℕ) → stage t w.log
-      ≡ hand_after (changes called) (root_in (held (changes called) v)) (root_in (held (changes called) w)) t
+      ≡ hand_after (changes called) (root_in (held_words (changes called) v)) (root_in (held_words (changes called) w)) t
       (stage t v.log)
   pub debt : debt w.log
-      ≡ debt_after (changes called) (root_in (held (changes called) v)) (root_in (held (changes called) w)) (debt v.log)
+      ≡ debt_after (changes called) (root_in (held_words (changes called) v)) (root_in (held_words (changes called) w)) (debt v.log)
   pub used : used w.log ≡ false
   pub owes : owes w.log ≡ 0
-  pub others : (p : ℕ) → p < containers_in v.shape → p ≢ changes called → has_lock p v.log ≡ true
+  pub others : (p : ℕ) → p < container_count v.shape → p ≢ changes called → has_lock p v.log ≡ true
       → is_writing p v.log ≡ false
-      → (held p w ≡ held p v) × (known p w ≡ known p v)
+      → (held_words p w ≡ held_words p v) × (known_state p w ≡ known_state p v)
   pub found : StoredWorld
   pub has : MayHave v found
-  pub content : known (changes called) w ≡ state_at (after_stored found called) (changes called)
-  pub stands : Stands v.shape.texts (held (changes called) w) (known (changes called) w)
+  pub content : known_state (changes called) w ≡ state_at (after_stored found called) (changes called)
+  pub stands : Represents v.shape.texts (held_words (changes called) w) (known_state (changes called) w)

@@ -8,24 +8,24 @@ use Rattle.ft_model.specs.Histories.{IsReplied}
 use Rattle.ft_model.specs.TableUses.{StoredWorld, after_stored, takes_in, would_pass, table_at}
 use Rattle.ft_model.specs.Worlds.{kind_of, no_hands, IsDeclared}
 use Rattle.ft_trace.specs.declared.View.{View}
-use Rattle.ft_trace.specs.Addresses.{containers_in, class_of}
+use Rattle.ft_trace.specs.Addresses.{container_count, class_of}
 use Rattle.ft_trace.specs.Acts.{has_lock, is_writing, has_committed, has_emptied, owes, stage, used}
 use Rattle.ft_trace.specs.ContainerStates.{state_at, kind_in, kinds_in, changes, may_empty, reply_in}
-use Rattle.ft_trace.specs.Pictures.{Picture, root_in}
+use Rattle.ft_trace.specs.Pictures.{ContainerWords, root_in}
 use Rattle.ft_trace.specs.Kinds.{rows, version_at, SoundAs, CarefulAs, ClearAs}
 use Rattle.ft_trace.specs.OddVersions.{Shut, Timely}
 use Rattle.ft_trace.specs.FitCalls.{FitsCall, FitsContent}
 use Rattle.ft_trace.specs.BegunSections.{HasLocksOf}
-use Rattle.ft_trace.specs.Holds.{held, known, in_hand, AgreesWith}
+use Rattle.ft_trace.specs.Holds.{held_words, known_state, in_hand, AgreesWith}
 use Rattle.ft_bank.specs.declared.table.Table.{Table}
-use Rattle.ft_bank.specs.TableNames.{name_of, root_for, words_for}
+use Rattle.ft_bank.specs.TableNames.{table_id, root_for, words_for}
 
 -- a stored world that the bank may have where a pass knows this: it has every container, those whose locks the pass has
 -- as the pass knows them, each is of its kind, its tables are in order and no dict is split, and words can represent
 -- what it has
 pub record MayHave (v : View) (stored : StoredWorld) : Type 0 where
   pub agrees : AgreesWith v stored
-  pub containers : length stored.world ≡ containers_in v.shape
+  pub containers : length stored.world ≡ container_count v.shape
   pub kinds : map kind_of stored.world ≡ kinds_in v.shape.starts
   pub order : AreTablesInOrder stored
   pub unsplit : (place : ℕ) → (table_at stored.tables place).keys ≡ []
@@ -39,16 +39,16 @@ pub record MayHave (v : View) (stored : StoredWorld) : Type 0 where
 -- has put 0 into the root, the call is one that may. The pass has the lock of each container that the call names.
 pub record MayCommit (v : View) (call : Call) (reply : Reply) : Type 0 where
   pub write : is_write call reply ≡ true
-  pub container : changes call < containers_in v.shape
+  pub container : changes call < container_count v.shape
   pub odd : is_writing (changes call) v.log ≡ true
   pub left : 0 < v.left
   pub words : FitsCall call
   pub reply_is : (stored : StoredWorld) → MayHave v stored → IsReplied call reply (reply_in stored call)
   pub declared : (stored : StoredWorld) → MayHave v stored → IsDeclared stored.world no_hands call
   pub fits : (stored : StoredWorld) → MayHave v stored → would_pass stored.world call ≡ false
-  pub clear : (stored : StoredWorld) (t : ℕ) → MayHave v stored → root_in (held (changes call) v) ≡ suc t
-      → ClearAs (kind_in v.shape.starts (changes call)) v.shape.texts (class_of t) (held (changes call) v).table
-      (known (changes call) v).content (state_at (after_stored stored call) (changes call)).content
+  pub clear : (stored : StoredWorld) (t : ℕ) → MayHave v stored → root_in (held_words (changes call) v) ≡ suc t
+      → ClearAs (kind_in v.shape.starts (changes call)) v.shape.texts (class_of t) (held_words (changes call) v).table
+      (known_state (changes call) v).content (state_at (after_stored stored call) (changes call)).content
   pub takes : (stored : StoredWorld) (class : ℕ) → MayHave v stored → owes v.log ≡ suc class
       → takes_in stored call ≡ Some class
   pub empties : has_emptied (changes call) v.log ≡ true → may_empty call ≡ true
@@ -59,48 +59,48 @@ pub record MayCommit (v : View) (call : Call) (reply : Reply) : Type 0 where
 pub record Committed (v w : View) (call : Call) : Type 0 where
   pub found : StoredWorld
   pub has : MayHave v found
-  pub left : (p : ℕ) → known p w ≡ state_at (after_stored found call) p
+  pub left : (p : ℕ) → known_state p w ≡ state_at (after_stored found call) p
 
 -- no version of an entry or item is odd in the table that the root of o names, as the pass knows it
 abbrev pub IsShut : ℕ → View → Type 0
 IsShut o v =
-    (t : ℕ) → root_in (held o v) ≡ suc t
+    (t : ℕ) → root_in (held_words o v) ≡ suc t
     → Shut (version_at (kind_in v.shape.starts o) (class_of t)) (rows (kind_in v.shape.starts o) (class_of t))
-    (held o v).table
+    (held_words o v).table
 
 -- The root of o may become this. A table that it names is fresh in hand, as it must be for readers of the content, and
 -- its versions are 0, or before the commit at most 1. No version is odd in the table that the root names now, and the
 -- pass has taken no other out of a root since its last commit. 0 is put before the commit alone.
 pub record MayPutRoot (v : View) (o : ℕ) (root : Option Table) : Type 0 where
   pub odd : is_writing o v.log ≡ true
-  pub fresh : (t : Table) → root ≡ Some t → stage (name_of t) v.log ≡ 1
+  pub fresh : (t : Table) → root ≡ Some t → stage (table_id t) v.log ≡ 1
   pub sound : (t : Table) → root ≡ Some t
-      → SoundAs (kind_in v.shape.starts o) v.shape.texts (class_of (name_of t)) (in_hand (name_of t) v)
-      (known o v).content
-  pub young : (t : Table) (p : ℕ) → root ≡ Some t → p < rows (kind_in v.shape.starts o) (class_of (name_of t))
-      → (slice_index (in_hand (name_of t) v) (version_at (kind_in v.shape.starts o) (class_of (name_of t)) p) ≤ 1)
+      → SoundAs (kind_in v.shape.starts o) v.shape.texts (class_of (table_id t)) (in_hand (table_id t) v)
+      (known_state o v).content
+  pub young : (t : Table) (p : ℕ) → root ≡ Some t → p < rows (kind_in v.shape.starts o) (class_of (table_id t))
+      → (slice_index (in_hand (table_id t) v) (version_at (kind_in v.shape.starts o) (class_of (table_id t)) p) ≤ 1)
       × (has_committed o v.log ≡ true
-      → slice_index (in_hand (name_of t) v) (version_at (kind_in v.shape.starts o) (class_of (name_of t)) p) ≡ 0)
+      → slice_index (in_hand (table_id t) v) (version_at (kind_in v.shape.starts o) (class_of (table_id t)) p) ≡ 0)
   pub shut : IsShut o v
-  pub spare : root_in (held o v) ≢ 0 → used v.log ≡ false
+  pub spare : root_in (held_words o v) ≢ 0 → used v.log ≡ false
   pub early : root ≡ None → has_committed o v.log ≡ false
 
 -- the words of a container with one of its block changed that is not the root
-abbrev pub with_block : Picture → ℕ → ℕ → Picture
+abbrev pub with_block : ContainerWords → ℕ → ℕ → ContainerWords
 with_block x i value = record { block = slice_set x.block i value; table = x.table }
 
 -- the words of a container with one of its table changed
-abbrev pub with_table : Picture → ℕ → ℕ → Picture
+abbrev pub with_table : ContainerWords → ℕ → ℕ → ContainerWords
 with_table x i value = record { block = x.block; table = slice_set x.table i value }
 
 -- the words of a container with this root, and of the table in hand that it names
-abbrev pub with_root : Picture → Option Table → View → Picture
+abbrev pub with_root : ContainerWords → Option Table → View → ContainerWords
 with_root x root v = record { block = slice_set x.block 0 (root_for root); table = words_for root v }
 
 -- The word of the table that the root of o names may become this while others read it without the lock. A version of an
 -- entry or item becomes odd before the commit of the write, and even after it.
 pub record IsCareful (v : View) (o t i value : ℕ) : Type 0 where
-  pub care : CarefulAs (kind_in v.shape.starts o) (class_of t) (held o v).table (known o v).content i value
+  pub care : CarefulAs (kind_in v.shape.starts o) (class_of t) (held_words o v).table (known_state o v).content i value
   pub timely : Timely (version_at (kind_in v.shape.starts o) (class_of t))
       (rows (kind_in v.shape.starts o) (class_of t)) i
       value (has_committed o v.log)
@@ -108,5 +108,5 @@ pub record IsCareful (v : View) (o t i value : ℕ) : Type 0 where
 -- the pass knows the same as before of each container whose lock it has and that it doesn't write
 abbrev pub KeepsUnwritten : View → View → Type 0
 KeepsUnwritten v w =
-    (p : ℕ) → p < containers_in v.shape → has_lock p v.log ≡ true → is_writing p v.log ≡ false
-    → (held p w ≡ held p v) × (known p w ≡ known p v)
+    (p : ℕ) → p < container_count v.shape → has_lock p v.log ≡ true → is_writing p v.log ≡ false
+    → (held_words p w ≡ held_words p v) × (known_state p w ≡ known_state p v)

@@ -3,7 +3,7 @@
 ghost use Rattle.std.specs.Prelude.{◌≡◌, ◌+◌, ◌<◌, ◌^◌, ◌*◌, [], length, IfOk, ℕ};
 ghost use Rattle.ft_trace.specs.declared.Act.TheVariants.{ReadCounter};
 ghost use Rattle.ft_trace.specs.Addresses.{extent};
-ghost use Rattle.ft_trace.specs.Acts.{starter, maker, made, both, noted, all_lists};
+ghost use Rattle.ft_trace.specs.Acts.{starter, maker, made, both, view_after, all_lists};
 ghost use Rattle.ft_trace.specs.Traces.{MayFork, IsFree};
 ghost use Rattle.ft_bank.specs.Shapes.{plan, IsShape};
 ghost use Rattle.ft_bank.specs.TableNames.{starts_from, sizes_from};
@@ -114,7 +114,7 @@ impl Bank {
         requires sections { (stack_of other).sections ≡ [] }
         ensures pass { IsPassOf self.now pass.new }
         ensures sections { stack_of pass.new ≡ stack_of pass.old }
-        ensures view { (n : ℕ) × (view pass.new ≡ noted (ReadCounter n) (both (view pass.old) (view other))) }
+        ensures view { (n : ℕ) × (view pass.new ≡ view_after (ReadCounter n) (both (view pass.old) (view other))) }
         ensures tables { TakesOver (view pass.old) (view other) (view pass.new) }
     {
         let Pass {

@@ -3,7 +3,7 @@
 ghost use Rattle.std.specs.Prelude.{◌≡◌, ◌≢◌, ◌<◌, ℕ, true, []};
 ghost use Rattle.ft_trace.specs.declared.Act.TheVariants.{ReadCounter, TakeFloor};
 ghost use Rattle.ft_trace.specs.declared.Snap.{Snap};
-ghost use Rattle.ft_trace.specs.Acts.{noted, both, sender, note, floor_words};
+ghost use Rattle.ft_trace.specs.Acts.{view_after, both, sender, note, floor_words};
 ghost use Rattle.ft_trace.specs.Traces.{IsFree, IsQuiet};
 ghost use Rattle.ft_bank.specs.Retired.{TakesOver};
 ghost use Rattle.ft_bank.specs.Floors.{rests, carried, IsRestingOf, AreTokensOf, stack_at_rest};
@@ -58,7 +58,7 @@ impl Bank {
         requires tokens { AreTokensOf self.now tokens }
         ensures pass { IsPassOf self.now pass.new }
         ensures sections { stack_of pass.new ≡ stack_of pass.old }
-        ensures view { (n : ℕ) × (view pass.new ≡ noted (ReadCounter n) (both (view pass.old) (carried tokens))) }
+        ensures view { (n : ℕ) × (view pass.new ≡ view_after (ReadCounter n) (both (view pass.old) (carried tokens))) }
     {
         let Tokens { seat } = tokens;
         self.settle_as::<Brand>(&mut pass.seat, seat);
@@ -81,7 +81,7 @@ impl Bank {
         requires all { (carried tokens).tokens ≡ (shape_of self.now).passes }
         ensures pass { IsPassOf self.now result }
         ensures sections { stack_of result ≡ stack_at_rest resting }
-        ensures view { (n : ℕ) × (s : Snap) × (view result ≡ noted (TakeFloor n s) (both (rests resting) (carried tokens)))
+        ensures view { (n : ℕ) × (s : Snap) × (view result ≡ view_after (TakeFloor n s) (both (rests resting) (carried tokens)))
             × ((carried tokens).floor ≢ [] → s.words ≡ (carried tokens).floor) }
     {
         let Resting {
@@ -118,7 +118,7 @@ impl Bank {
         requires sections { (stack_at_rest other).sections ≡ [] }
         ensures pass { IsPassOf self.now pass.new }
         ensures sections { stack_of pass.new ≡ stack_of pass.old }
-        ensures view { (n : ℕ) × (view pass.new ≡ noted (ReadCounter n) (both (view pass.old) (rests other))) }
+        ensures view { (n : ℕ) × (view pass.new ≡ view_after (ReadCounter n) (both (view pass.old) (rests other))) }
         ensures tables { TakesOver (view pass.old) (rests other) (view pass.new) }
     {
         let Resting {

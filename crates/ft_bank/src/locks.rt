@@ -3,10 +3,10 @@
 ghost use Rattle.std.specs.Prelude.{◌≡◌, ◌≢◌, ℕ, ◌<◌, ◌+◌, true, false, OnOk, IfErr};
 ghost use Rattle.ft_trace.specs.declared.Act.TheVariants.{Lock, Unlock};
 ghost use Rattle.ft_trace.specs.declared.Snap.{Snap};
-ghost use Rattle.ft_trace.specs.Addresses.{containers_in};
+ghost use Rattle.ft_trace.specs.Addresses.{container_count};
 ghost use Rattle.ft_trace.specs.Acts.{has_lock, is_writing};
-ghost use Rattle.ft_trace.specs.Pictures.{Stands};
-ghost use Rattle.ft_trace.specs.Holds.{held, known};
+ghost use Rattle.ft_trace.specs.Pictures.{Represents};
+ghost use Rattle.ft_trace.specs.Holds.{held_words, known_state};
 ghost use Rattle.ft_bank.specs.Locks.{lock_found, KeepsOthers};
 
 use crate::bank::Bank;
@@ -22,12 +22,12 @@ impl Bank {
     /// and what they stand for.
     pub fn try_lock(&self, pass: &mut Pass, o: u32) -> Result<(), u32>
         requires pass { IsPassOf self.now pass.old }
-        requires container { o < containers_in (shape_of self.now) }
+        requires container { o < container_count (shape_of self.now) }
         requires free { has_lock o (view pass.old).log ≡ false }
         ensures did { (s : Snap) × Did (Lock o (lock_found result) s) pass.old pass.new }
         ensures other { IfErr result (λ q. (q + 1 ≢ (view pass.old).number) × (q < (shape_of self.now).passes)) }
         ensures lock { OnOk result (has_lock o (view pass.new).log ≡ true) }
-        ensures stands { OnOk result (Stands (shape_of self.now).texts (held o (view pass.new)) (known o (view pass.new))) }
+        ensures stands { OnOk result (Represents (shape_of self.now).texts (held_words o (view pass.new)) (known_state o (view pass.new))) }
         ensures keeps { KeepsOthers o (view pass.old) (view pass.new) }
     {
         let word = self.block_of(o);
@@ -45,7 +45,7 @@ impl Bank {
     /// Lets go of the lock of a container, whose version is even. No open section notes it as taken.
     pub fn unlock(&self, pass: &mut Pass, o: u32)
         requires pass { IsPassOf self.now pass.old }
-        requires container { o < containers_in (shape_of self.now) }
+        requires container { o < container_count (shape_of self.now) }
         requires locked { has_lock o (view pass.old).log ≡ true }
         requires even { is_writing o (view pass.old).log ≡ false }
         requires struck { noted_in o (stack_of pass.old).sections ≡ 0 }

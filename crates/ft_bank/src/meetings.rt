@@ -2,7 +2,7 @@
 //! two stand in one history that begins with what each had seen.
 ghost use Rattle.std.specs.Prelude.{◌≡◌, ◌≤◌, ℕ};
 ghost use Rattle.ft_trace.specs.declared.Act.TheVariants.{ReadCounter};
-ghost use Rattle.ft_trace.specs.Acts.{noted};
+ghost use Rattle.ft_trace.specs.Acts.{view_after};
 ghost use Rattle.ft_bank.specs.Notes.{says, writes_seen, knowing, IsNoteOf};
 
 use crate::bank::Bank;
@@ -33,7 +33,7 @@ impl Bank {
         requires note { IsNoteOf self.now note }
         ensures pass { IsPassOf self.now pass.new }
         ensures sections { stack_of pass.new ≡ stack_of pass.old }
-        ensures view { (n : ℕ) × (view pass.new ≡ noted (ReadCounter n) (knowing (says note) (view pass.old)))
+        ensures view { (n : ℕ) × (view pass.new ≡ view_after (ReadCounter n) (knowing (says note) (view pass.old)))
             × (says note ≤ n) × (writes_seen pass.old ≤ n) }
         ensures seen { (says note ≤ writes_seen pass.new) × (writes_seen pass.old ≤ writes_seen pass.new) }
     {

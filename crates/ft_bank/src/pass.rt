@@ -2,7 +2,7 @@
 //! the calls that it may still make, and its critical sections. What it knows is a view of `ft_trace`.
 ghost use Rattle.std.specs.Prelude.{◌≡◌, ◌+◌, ◌<◌, ◌≤◌, [], suc};
 ghost use Rattle.ft_trace.specs.Acts.{shown};
-ghost use Rattle.ft_trace.specs.Traces.{Possible};
+ghost use Rattle.ft_trace.specs.Traces.{IsReachable};
 ghost use Rattle.ft_bank.specs.Retired.{AreRetired};
 
 use crate::retired::RETIRED;
@@ -28,7 +28,7 @@ pub struct Pass {
     ghost awake: { 0 < seat.me.0.tokens },
     ghost settled: { seat.me.0.learnt ≤ shown seat.me.0.log },
     ghost retiring: { AreRetired retired seat.me.0 },
-    ghost possible: { ∥ Possible seat.me.0 ∥₁ },
+    ghost possible: { ∥ IsReachable seat.me.0 ∥₁ },
 }
 
 impl Pass {
@@ -38,7 +38,7 @@ impl Pass {
     /// The number of the pass, from 0 on; the lock of a container names its holder by it.
     pub fn number(&self) -> u32
         ensures number { (view self.now).number ≡ result + 1 }
-        ensures possible { ∥ Possible (view self.now) ∥₁ }
+        ensures possible { ∥ IsReachable (view self.now) ∥₁ }
     {
         self.number
     }

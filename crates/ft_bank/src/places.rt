@@ -1,7 +1,7 @@
 //! Where the words of a bank lie, for its steps: plain arithmetic, with no branch by class.
 ghost use Rattle.std.specs.Prelude.{◌≡◌, ◌≤◌, ◌<◌, ◌+◌, ◌*◌};
-ghost use Rattle.ft_trace.specs.Addresses.{containers_in, extent, at, cell, size, class_of};
-ghost use Rattle.ft_bank.specs.TableNames.{name_of, IsPlaceOf, IsTableIn};
+ghost use Rattle.ft_trace.specs.Addresses.{container_count, extent, at, cell, size, class_of};
+ghost use Rattle.ft_bank.specs.TableNames.{table_id, IsPlaceOf, IsTableIn};
 
 use crate::bank::Bank;
 use crate::table::Table;
@@ -13,7 +13,7 @@ impl Bank {
 
     /// Where the block of a container begins: its lock, and after it its version, its root and the rest.
     pub(crate) fn block_of(&self, o: u32) -> u64
-        requires container { o < containers_in (shape_of self.now) }
+        requires container { o < container_count (shape_of self.now) }
         ensures is { result ≡ 304 + 8 * o }
         ensures low { result + 8 ≤ extent (shape_of self.now) }
     {
@@ -24,8 +24,8 @@ impl Bank {
     #[inline(always)]
     pub fn cell_of(&self, t: Table) -> u64
         requires table { IsTableIn (shape_of self.now) t }
-        ensures is { result ≡ at (shape_of self.now) (cell (name_of t) 0) }
-        ensures low { result + size (class_of (name_of t)) ≤ extent (shape_of self.now) }
+        ensures is { result ≡ at (shape_of self.now) (cell (table_id t) 0) }
+        ensures low { result + size (class_of (table_id t)) ≤ extent (shape_of self.now) }
         ensures place { IsPlaceOf (shape_of self.now) t result }
     {
         let class = (t.class - LEAST_CLASS) as usize;

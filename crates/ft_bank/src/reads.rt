@@ -1,13 +1,13 @@
 //! Loads of the bank's words, and the entries of calls that only read.
 ghost use Rattle.std.specs.Prelude.{◌≡◌, ◌≤◌, ℕ, suc, ◌<◌, ◌+◌, true, false, slice_index};
 ghost use Rattle.ft_trace.specs.declared.Act.TheVariants.{Version, ReadBlock, ReadRoot, ReadTable, ReadCounter, Answer, AnswerCursor};
-ghost use Rattle.ft_trace.specs.Addresses.{containers_in, class_of, size, IsTableName};
+ghost use Rattle.ft_trace.specs.Addresses.{container_count, class_of, size, IsTableName};
 ghost use Rattle.ft_trace.specs.Acts.{has_lock, announces, seen_writes, stage};
 ghost use Rattle.ft_trace.specs.LoggedLookUps.{IsNew};
-ghost use Rattle.ft_trace.specs.Holds.{held, in_hand};
+ghost use Rattle.ft_trace.specs.Holds.{held_words, in_hand};
 ghost use Rattle.ft_trace.specs.Pictures.{root_in};
 ghost use Rattle.ft_bank.specs.Reads.{IsShown, IsCursorShown};
-ghost use Rattle.ft_bank.specs.TableNames.{name_of, IsPlaceOf, IsTableIn};
+ghost use Rattle.ft_bank.specs.TableNames.{table_id, IsPlaceOf, IsTableIn};
 
 use crate::bank::Bank;
 use crate::pass::Pass;
@@ -22,7 +22,7 @@ impl Bank {
     /// Loads the version of a container.
     pub fn seq(&self, pass: &mut Pass, o: u32) -> u64
         requires pass { IsPassOf self.now pass.old }
-        requires container { o < containers_in (shape_of self.now) }
+        requires container { o < container_count (shape_of self.now) }
         ensures { Did (Version o result) pass.old pass.new }
     {
         let word = self.block_of(o) + 1;
@@ -33,11 +33,11 @@ impl Bank {
     /// lock it is the word that the pass knows. Word 0 is the root, which names a table of the bank.
     pub fn read_block(&self, pass: &mut Pass, o: u32, word: u64) -> u64
         requires pass { IsPassOf self.now pass.old }
-        requires container { o < containers_in (shape_of self.now) }
+        requires container { o < container_count (shape_of self.now) }
         requires word { word < 6 }
         ensures did { Did (ReadBlock o word result) pass.old pass.new }
         ensures held { has_lock o (view pass.old).log ≡ true →
-            result ≡ slice_index (held o (view pass.old)).block word }
+            result ≡ slice_index (held_words o (view pass.old)).block word }
         ensures table { (t : ℕ) → word ≡ 0 → result ≡ suc t → IsTableName (shape_of self.now) t }
     {
         let start = self.block_of(o) + 2;
@@ -49,7 +49,7 @@ impl Bank {
     /// found since it last announced.
     pub fn read_root(&self, pass: &mut Pass, o: u32) -> u64
         requires pass { IsPassOf self.now pass.old }
-        requires container { o < containers_in (shape_of self.now) }
+        requires container { o < container_count (shape_of self.now) }
         requires online { 0 < announces (view pass.old).log }
         ensures did { Did (ReadRoot o result) pass.old pass.new }
         ensures table { (t : ℕ) → result ≡ suc t → IsTableName (shape_of self.now) t }
@@ -64,13 +64,13 @@ impl Bank {
     pub fn read_table(&self, pass: &mut Pass, t: Table, word: u64) -> u64
         requires pass { IsPassOf self.now pass.old }
         requires table { IsTableIn (shape_of self.now) t }
-        requires word { word < size (class_of (name_of t)) }
-        ensures did { Did (ReadTable (name_of t) word result) pass.old pass.new }
-        ensures held { (o : ℕ) → o < containers_in (shape_of self.now) → has_lock o (view pass.old).log ≡ true →
-            root_in (held o (view pass.old)) ≡ suc (name_of t) →
-            result ≡ slice_index (held o (view pass.old)).table word }
-        ensures fresh { stage (name_of t) (view pass.old).log ≡ 1 →
-            result ≡ slice_index (in_hand (name_of t) (view pass.old)) word }
+        requires word { word < size (class_of (table_id t)) }
+        ensures did { Did (ReadTable (table_id t) word result) pass.old pass.new }
+        ensures held { (o : ℕ) → o < container_count (shape_of self.now) → has_lock o (view pass.old).log ≡ true →
+            root_in (held_words o (view pass.old)) ≡ suc (table_id t) →
+            result ≡ slice_index (held_words o (view pass.old)).table word }
+        ensures fresh { stage (table_id t) (view pass.old).log ≡ 1 →
+            result ≡ slice_index (in_hand (table_id t) (view pass.old)) word }
     {
         let start = self.cell_of(t);
         self.read_word(pass, t, start, word)
@@ -81,13 +81,13 @@ impl Bank {
         requires pass { IsPassOf self.now pass.old }
         requires table { IsTableIn (shape_of self.now) t }
         requires place { IsPlaceOf (shape_of self.now) t start }
-        requires word { word < size (class_of (name_of t)) }
-        ensures did { Did (ReadTable (name_of t) word result) pass.old pass.new }
-        ensures held { (o : ℕ) → o < containers_in (shape_of self.now) → has_lock o (view pass.old).log ≡ true →
-            root_in (held o (view pass.old)) ≡ suc (name_of t) →
-            result ≡ slice_index (held o (view pass.old)).table word }
-        ensures fresh { stage (name_of t) (view pass.old).log ≡ 1 →
-            result ≡ slice_index (in_hand (name_of t) (view pass.old)) word }
+        requires word { word < size (class_of (table_id t)) }
+        ensures did { Did (ReadTable (table_id t) word result) pass.old pass.new }
+        ensures held { (o : ℕ) → o < container_count (shape_of self.now) → has_lock o (view pass.old).log ≡ true →
+            root_in (held_words o (view pass.old)) ≡ suc (table_id t) →
+            result ≡ slice_index (held_words o (view pass.old)).table word }
+        ensures fresh { stage (table_id t) (view pass.old).log ≡ 1 →
+            result ≡ slice_index (in_hand (table_id t) (view pass.old)) word }
     {
         self.load_as::<Brand>(pass, start + word, 0, t.name(), word)
     }

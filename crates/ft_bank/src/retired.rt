@@ -4,7 +4,7 @@ ghost use Rattle.std.specs.Prelude.{◌≡◌, ◌<◌, ℕ, length, bit_or, sli
 ghost use Rattle.ft_model.specs.Classes.{IsClass};
 ghost use Rattle.ft_trace.specs.Addresses.{free_word_of, free_bit_of};
 ghost use Rattle.ft_trace.specs.Bits.{bit_on, bit_off};
-ghost use Rattle.ft_bank.specs.TableNames.{name_of};
+ghost use Rattle.ft_bank.specs.TableNames.{table_id};
 
 use crate::table::Table;
 use ft_model::LEAST_CLASS;
@@ -20,7 +20,7 @@ const BITS: u32 = 64;
 fn word_of(table: Table) -> usize
     requires class { IsClass table.class }
     requires number { table.number < 1024 }
-    ensures is { result ≡ free_word_of (name_of table) }
+    ensures is { result ≡ free_word_of (table_id table) }
     ensures low { result < 224 }
 {
     (WORDS * (table.class - LEAST_CLASS) + table.number / BITS) as usize
@@ -30,8 +30,8 @@ fn word_of(table: Table) -> usize
 pub(crate) fn set_bit(words: &mut [u64; RETIRED], table: Table)
     requires class { IsClass table.class }
     requires number { table.number < 1024 }
-    ensures { words.new ≡ slice_set words.old (free_word_of (name_of table))
-        (bit_on (free_bit_of (name_of table)) (slice_index words.old (free_word_of (name_of table)))) }
+    ensures { words.new ≡ slice_set words.old (free_word_of (table_id table))
+        (bit_on (free_bit_of (table_id table)) (slice_index words.old (free_word_of (table_id table)))) }
 {
     words[word_of(table)] |= 1 << (table.number % BITS);
 }
@@ -40,8 +40,8 @@ pub(crate) fn set_bit(words: &mut [u64; RETIRED], table: Table)
 pub(crate) fn clear_bit(words: &mut [u64; RETIRED], table: Table)
     requires class { IsClass table.class }
     requires number { table.number < 1024 }
-    ensures { words.new ≡ slice_set words.old (free_word_of (name_of table))
-        (bit_off (free_bit_of (name_of table)) (slice_index words.old (free_word_of (name_of table)))) }
+    ensures { words.new ≡ slice_set words.old (free_word_of (table_id table))
+        (bit_off (free_bit_of (table_id table)) (slice_index words.old (free_word_of (table_id table)))) }
 {
     words[word_of(table)] &= !(1 << (table.number % BITS));
 }

@@ -8,7 +8,7 @@ ghost use Rattle.ft_trace.specs.Bits.{bit};
 ghost use Rattle.ft_bank.specs.Reuse.{MayAnnounce};
 ghost use Rattle.ft_bank.specs.Retired.{table_of_bit};
 ghost use Rattle.ft_bank.specs.Takings.{Each, KeepsBut, KeepsHeld, NotTable};
-ghost use Rattle.ft_bank.specs.TableNames.{name_of, IsTableIn};
+ghost use Rattle.ft_bank.specs.TableNames.{table_id, IsTableIn};
 
 use crate::bank::Bank;
 use crate::pass::Pass;
@@ -25,9 +25,9 @@ impl Pass {
         requires word { word < 224 }
         ensures some { (b : ℕ) → b < 64 → bit b result ≡ 1 →
             IsTableIn (view self.now).shape (table_of_bit word b)
-            × (has_goal (name_of (table_of_bit word b)) (view self.now).log ≡ true) }
-        ensures all { (t : Table) → IsTableIn (view self.now).shape t → free_word_of (name_of t) ≡ word →
-            has_goal (name_of t) (view self.now).log ≡ true → bit (free_bit_of (name_of t)) result ≡ 1 }
+            × (has_goal (table_id (table_of_bit word b)) (view self.now).log ≡ true) }
+        ensures all { (t : Table) → IsTableIn (view self.now).shape t → free_word_of (table_id t) ≡ word →
+            has_goal (table_id t) (view self.now).log ≡ true → bit (free_bit_of (table_id t)) result ≡ 1 }
     {
         self.retired[word as usize]
     }
@@ -83,9 +83,9 @@ impl Bank {
     pub fn retire(&self, pass: &mut Pass, table: Table) -> u64
         requires pass { IsPassOf self.now pass.old }
         requires table { IsTableIn (shape_of self.now) table }
-        requires out { stage (name_of table) (view pass.old).log ≡ 3 }
+        requires out { stage (table_id table) (view pass.old).log ≡ 3 }
         requires debt { 0 < debt (view pass.old).log }
-        ensures did { (n : ℕ) × (result ≡ n + 1) × Did (Retire (name_of table) n) pass.old pass.new }
+        ensures did { (n : ℕ) × (result ≡ n + 1) × Did (Retire (table_id table) n) pass.old pass.new }
         ensures keeps { KeepsHeld (NotTable table) (view pass.old) (view pass.new) }
         ensures announces { announces (view pass.new).log ≡ announces (view pass.old).log }
     {
@@ -98,9 +98,9 @@ impl Bank {
     pub fn put_goal(&self, pass: &mut Pass, table: Table, number: u64)
         requires pass { IsPassOf self.now pass.old }
         requires table { IsTableIn (shape_of self.now) table }
-        requires retired { stage (name_of table) (view pass.old).log ≡ 4 }
-        requires goal { number ≡ goal (name_of table) (view pass.old).log }
-        ensures did { Did (PutHeader (name_of table) number) pass.old pass.new }
+        requires retired { stage (table_id table) (view pass.old).log ≡ 4 }
+        requires goal { number ≡ goal (table_id table) (view pass.old).log }
+        ensures did { Did (PutHeader (table_id table) number) pass.old pass.new }
         ensures keeps { KeepsBut Each (view pass.old) (view pass.new) }
     {
         let word = self.cell_of(table) - 1;
@@ -111,10 +111,10 @@ impl Bank {
     pub fn goal(&self, pass: &mut Pass, table: Table) -> u64
         requires pass { IsPassOf self.now pass.old }
         requires table { IsTableIn (shape_of self.now) table }
-        requires kept { has_goal (name_of table) (view pass.old).log ≡ true }
-        ensures did { Did (ReadHeader (name_of table) result) pass.old pass.new }
-        ensures is { result ≡ goal (name_of table) (view pass.old).log }
-        ensures stage { stage (name_of table) (view pass.old).log ≡ 4 }
+        requires kept { has_goal (table_id table) (view pass.old).log ≡ true }
+        ensures did { Did (ReadHeader (table_id table) result) pass.old pass.new }
+        ensures is { result ≡ goal (table_id table) (view pass.old).log }
+        ensures stage { stage (table_id table) (view pass.old).log ≡ 4 }
         ensures keeps { KeepsBut Each (view pass.old) (view pass.new) }
     {
         let word = self.cell_of(table) - 1;
@@ -126,12 +126,12 @@ impl Bank {
     pub fn give_retired(&self, pass: &mut Pass, table: Table)
         requires pass { IsPassOf self.now pass.old }
         requires table { IsTableIn (shape_of self.now) table }
-        requires retired { stage (name_of table) (view pass.old).log ≡ 4 }
-        requires clear { (p : ℕ) → 0 < p → p ≤ (shape_of self.now).passes → clear (name_of table) p (view pass.old).log ≡ true }
+        requires retired { stage (table_id table) (view pass.old).log ≡ 4 }
+        requires clear { (p : ℕ) → 0 < p → p ≤ (shape_of self.now).passes → clear (table_id table) p (view pass.old).log ≡ true }
         requires idle { flight (view pass.old).log ≡ 0 }
         ensures pass { IsPassOf self.now pass.new }
-        ensures did { (n : ℕ) × DidAll (RaiseCount table.class n ∷ GiveTable (name_of table) ∷ []) pass.old pass.new }
-        ensures given { stage (name_of table) (view pass.new).log ≡ 0 }
+        ensures did { (n : ℕ) × DidAll (RaiseCount table.class n ∷ GiveTable (table_id table) ∷ []) pass.old pass.new }
+        ensures given { stage (table_id table) (view pass.new).log ≡ 0 }
         ensures owes { owes (view pass.new).log ≡ cond (owes (view pass.old).log == suc table.class) 0 (owes (view pass.old).log) }
         ensures idle { flight (view pass.new).log ≡ 0 }
         ensures keeps { KeepsBut (NotTable table) (view pass.old) (view pass.new) }

@@ -4,11 +4,11 @@ ghost use Rattle.std.specs.Prelude.{◌≡◌, ◌≢◌, ℕ, ◌+◌, ◌%◌,
 ghost use prog.Atomic.{either};
 ghost use Rattle.ft_trace.specs.declared.Snap.{Snap};
 ghost use Rattle.ft_trace.specs.Addresses.{extent, at};
-ghost use Rattle.ft_trace.specs.Acts.{place, word_after, left_next, noted, both};
+ghost use Rattle.ft_trace.specs.Acts.{place, word_after, left_next, view_after, both};
 ghost use Rattle.ft_trace.specs.Traces.{IsFree, IsAwake, Ready, ReadyAs, Does as Acts, DoesAs};
 ghost use Rattle.ft_trace.specs.declared.Act.TheVariants.{GiveTable, PutHeader};
 ghost use Rattle.ft_bank.specs.Retired.{LeavesRetired};
-ghost use Rattle.ft_bank.specs.TableNames.{name_of, IsTableIn};
+ghost use Rattle.ft_bank.specs.TableNames.{table_id, IsTableIn};
 ghost use Rattle.ft_bank.specs.Rules.{Acted, LeavesWrites};
 
 use crate::bank::Bank;
@@ -137,9 +137,9 @@ impl Bank {
         requires table { IsTableIn (shape_of self.now) table }
         requires act { Acts (view pass.old) word (λ n. bit_or n mask) A.act }
         requires ready { Ready (view pass.old) word A.act }
-        requires is { (n : ℕ) → A.act n ≡ GiveTable (name_of table) }
-        ensures did { Did (GiveTable (name_of table)) pass.old pass.new }
-        ensures acted { Acted (view pass.old) (GiveTable (name_of table)) }
+        requires is { (n : ℕ) → A.act n ≡ GiveTable (table_id table) }
+        ensures did { Did (GiveTable (table_id table)) pass.old pass.new }
+        ensures acted { Acted (view pass.old) (GiveTable (table_id table)) }
     {
         self.table
             .shared
@@ -154,9 +154,9 @@ impl Bank {
         requires table { IsTableIn (shape_of self.now) table }
         requires act { Acts (view pass.old) word (λ _. goal) (λ _. A.act 0) }
         requires ready { Ready (view pass.old) word (λ _. A.act 0) }
-        requires is { (n : ℕ) → A.act n ≡ PutHeader (name_of table) goal }
-        ensures did { Did (PutHeader (name_of table) goal) pass.old pass.new }
-        ensures acted { Acted (view pass.old) (PutHeader (name_of table) goal) }
+        requires is { (n : ℕ) → A.act n ≡ PutHeader (table_id table) goal }
+        ensures did { Did (PutHeader (table_id table) goal) pass.old pass.new }
+        ensures acted { Acted (view pass.old) (PutHeader (table_id table) goal) }
     {
         self.table
             .shared
@@ -280,7 +280,7 @@ impl Bank {
         requires act { Acts (both seat.old.me.0 other.me.0) 0 (λ n. n) A.act }
         requires ready { Ready (both seat.old.me.0 other.me.0) 0 A.act }
         ensures table { seat.new.table_id ≡ seat.old.table_id }
-        ensures view { (n : ℕ) × (seat.new.me.0 ≡ noted (A.act n) (both seat.old.me.0 other.me.0))
+        ensures view { (n : ℕ) × (seat.new.me.0 ≡ view_after (A.act n) (both seat.old.me.0 other.me.0))
             × Acted (both seat.old.me.0 other.me.0) (A.act n) }
         ensures bare { seat.new.me.1 ≡ seat.old.me.1 }
     {

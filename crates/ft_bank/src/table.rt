@@ -2,7 +2,7 @@
 ghost use Rattle.std.specs.Prelude.{◌≡◌, ◌<◌, Some};
 ghost use Rattle.ft_bank.specs.declared.table.Table.{Table};
 ghost use Rattle.ft_model.specs.Classes.{IsClass};
-ghost use Rattle.ft_bank.specs.TableNames.{name_of, root_for};
+ghost use Rattle.ft_bank.specs.TableNames.{table_id, root_for};
 
 use ft_layout::root_word;
 
@@ -20,7 +20,7 @@ impl Table {
     pub(crate) fn name(&self) -> u64
         requires class { IsClass self.now.class }
         requires number { self.now.number < 1024 }
-        ensures { result ≡ name_of self.now }
+        ensures { result ≡ table_id self.now }
     {
         root_word(self.class, self.number) - 1
     }

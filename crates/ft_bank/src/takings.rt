@@ -11,7 +11,7 @@ ghost use Rattle.ft_trace.specs.Acts.{flight, owes, stage};
 ghost use Rattle.ft_trace.specs.Addresses.{free_bit_of};
 ghost use Rattle.ft_trace.specs.Bits.{bit};
 ghost use Rattle.ft_bank.specs.Takings.{Each, HasNotMoved, HasTook, IsSearch, IsTaking, KeepsBut, NotTable, StaysIn, HasFound, StaysInSearch, IsBitCleared, IsShutIn, IsUnclaimed, MayGive, word_of_class};
-ghost use Rattle.ft_bank.specs.TableNames.{name_of, IsTableIn};
+ghost use Rattle.ft_bank.specs.TableNames.{table_id, IsTableIn};
 
 use crate::bank::Bank;
 use crate::pass::Pass;
@@ -93,12 +93,12 @@ impl Bank {
     pub fn give_table(&self, pass: &mut Pass, table: Table)
         requires pass { IsPassOf self.now pass.old }
         requires table { IsTableIn (shape_of self.now) table }
-        requires fresh { stage (name_of table) (view pass.old).log ≡ 1 }
-        requires shut { IsShutIn (name_of table) (view pass.old) }
+        requires fresh { stage (table_id table) (view pass.old).log ≡ 1 }
+        requires shut { IsShutIn (table_id table) (view pass.old) }
         requires idle { flight (view pass.old).log ≡ 0 }
         ensures pass { IsPassOf self.now pass.new }
-        ensures did { (n : ℕ) × DidAll (RaiseCount table.class n ∷ GiveTable (name_of table) ∷ []) pass.old pass.new }
-        ensures given { stage (name_of table) (view pass.new).log ≡ 0 }
+        ensures did { (n : ℕ) × DidAll (RaiseCount table.class n ∷ GiveTable (table_id table) ∷ []) pass.old pass.new }
+        ensures given { stage (table_id table) (view pass.new).log ≡ 0 }
         ensures owes { owes (view pass.new).log ≡ cond (owes (view pass.old).log == suc table.class) 0 (owes (view pass.old).log) }
         ensures idle { flight (view pass.new).log ≡ 0 }
         ensures keeps { KeepsBut (NotTable table) (view pass.old) (view pass.new) }
@@ -135,11 +135,11 @@ impl Bank {
     fn clear_bit(&self, pass: &mut Pass, table: Table, loaded: u64) -> Search
         requires pass { IsPassOf self.now pass.old }
         requires table { IsTableIn (shape_of self.now) table }
-        requires set { bit (free_bit_of (name_of table)) loaded ≡ 1 }
-        requires apart { stage (name_of table) (view pass.old).log ≡ 0 }
+        requires set { bit (free_bit_of (table_id table)) loaded ≡ 1 }
+        requires apart { stage (table_id table) (view pass.old).log ≡ 0 }
         requires lowered { flight (view pass.old).log ≡ 2 * table.class + 1 }
         ensures pass { IsPassOf self.now pass.new }
-        ensures did { (found : ℕ) × (s : Snap) × Did (TakeTable (name_of table) found s) pass.old pass.new
+        ensures did { (found : ℕ) × (s : Snap) × Did (TakeTable (table_id table) found s) pass.old pass.new
             × IsBitCleared table loaded found result }
         ensures has { HasFound (shape_of self.now) table.class result (view pass.old) (view pass.new) }
         ensures keeps { KeepsBut (StaysInSearch result) (view pass.old) (view pass.new) }
@@ -158,9 +158,9 @@ impl Bank {
     pub(crate) fn set_bit(&self, pass: &mut Pass, table: Table)
         requires pass { IsPassOf self.now pass.old }
         requires table { IsTableIn (shape_of self.now) table }
-        requires may { MayGive (name_of table) (view pass.old) }
+        requires may { MayGive (table_id table) (view pass.old) }
         requires idle { flight (view pass.old).log ≡ 0 }
-        ensures did { Did (GiveTable (name_of table)) pass.old pass.new }
+        ensures did { Did (GiveTable (table_id table)) pass.old pass.new }
         ensures keeps { KeepsBut (NotTable table) (view pass.old) (view pass.new) }
     {
         let word = free_word(table.class, table.number / BITS);

@@ -1,7 +1,7 @@
 //! A pass that rests, and tokens on their way from one pass to another.
 ghost use Rattle.std.specs.Prelude.{◌≡◌, ◌<◌, ◌≤◌, [], suc};
 ghost use Rattle.ft_trace.specs.Acts.{shown};
-ghost use Rattle.ft_trace.specs.Traces.{Possible};
+ghost use Rattle.ft_trace.specs.Traces.{IsReachable};
 ghost use Rattle.ft_bank.specs.Retired.{AreRetired};
 ghost use Rattle.ft_bank.specs.Slips.{slip_with};
 
@@ -29,7 +29,7 @@ pub struct Resting {
     ghost still: { seat.me.0.tokens ≡ 0 },
     ghost wordless: { seat.me.0.floor ≡ [] },
     ghost retiring: { AreRetired retired seat.me.0 },
-    ghost possible: { ∥ Possible seat.me.0 ∥₁ },
+    ghost possible: { ∥ IsReachable seat.me.0 ∥₁ },
 }
 
 /// Tokens of a pass, with what it had seen, and the words of the bank where it had the floor.

@@ -3,13 +3,13 @@
 ghost use Rattle.std.specs.Prelude.{◌≡◌, ◌≢◌, ◌⊎◌, ℕ, suc, ◌<◌, ◌≤◌, ◌+◌, true, false, Some, slice_set};
 ghost use Rattle.ft_trace.specs.declared.Act.TheVariants.{StartWrite, PutBlock, PutRoot, PutTable, PutFresh, Commit, StopWrite};
 ghost use Rattle.ft_trace.specs.declared.Snap.{Snap};
-ghost use Rattle.ft_trace.specs.Addresses.{containers_in, class_of, size};
+ghost use Rattle.ft_trace.specs.Addresses.{container_count, class_of, size};
 ghost use Rattle.ft_trace.specs.Acts.{has_lock, is_writing, has_committed, seen_writes, stage};
-ghost use Rattle.ft_trace.specs.Pictures.{root_in, Stands};
-ghost use Rattle.ft_trace.specs.Holds.{held, known, in_hand};
+ghost use Rattle.ft_trace.specs.Pictures.{root_in, Represents};
+ghost use Rattle.ft_trace.specs.Holds.{held_words, known_state, in_hand};
 ghost use Rattle.ft_bank.specs.WriteSteps.{Committed, MayCommit, MayPutRoot, IsCareful, IsShut, KeepsUnwritten, with_block, with_root, with_table};
 ghost use Rattle.ft_bank.specs.declared.table.Table.{Table};
-ghost use Rattle.ft_bank.specs.TableNames.{name_of, root_for, IsTableIn};
+ghost use Rattle.ft_bank.specs.TableNames.{table_id, root_for, IsTableIn};
 
 use crate::bank::Bank;
 use crate::pass::Pass;
@@ -23,7 +23,7 @@ impl Bank {
     /// Makes the version of a container odd, and answers what it was.
     pub fn start_write(&self, pass: &mut Pass, o: u32) -> u64
         requires pass { IsPassOf self.now pass.old }
-        requires container { o < containers_in (shape_of self.now) }
+        requires container { o < container_count (shape_of self.now) }
         requires locked { has_lock o (view pass.old).log ≡ true }
         requires even { is_writing o (view pass.old).log ≡ false }
         ensures { Did (StartWrite o result) pass.old pass.new }
@@ -36,11 +36,11 @@ impl Bank {
     /// 1 on.
     pub fn put_block(&self, pass: &mut Pass, o: u32, word: u64, value: u64)
         requires pass { IsPassOf self.now pass.old }
-        requires container { o < containers_in (shape_of self.now) }
+        requires container { o < container_count (shape_of self.now) }
         requires odd { is_writing o (view pass.old).log ≡ true }
         requires word { (word ≢ 0) × (word < 6) }
         ensures did { Did (PutBlock o word value) pass.old pass.new }
-        ensures held { held o (view pass.new) ≡ with_block (held o (view pass.old)) word value }
+        ensures held { held_words o (view pass.new) ≡ with_block (held_words o (view pass.old)) word value }
         ensures keeps { KeepsUnwritten (view pass.old) (view pass.new) }
     {
         let start = self.block_of(o) + 2;
@@ -51,11 +51,11 @@ impl Bank {
     /// the commit. The table that the root named is then the pass's, to be retired.
     pub fn put_root(&self, pass: &mut Pass, o: u32, root: Option<Table>)
         requires pass { IsPassOf self.now pass.old }
-        requires container { o < containers_in (shape_of self.now) }
+        requires container { o < container_count (shape_of self.now) }
         requires table { (t : Table) → root ≡ Some t → IsTableIn (shape_of self.now) t }
         requires may { MayPutRoot (view pass.old) o root }
-        ensures did { Did (PutRoot o (root_for root) (root_in (held o (view pass.old)))) pass.old pass.new }
-        ensures held { held o (view pass.new) ≡ with_root (held o (view pass.old)) root (view pass.old) }
+        ensures did { Did (PutRoot o (root_for root) (root_in (held_words o (view pass.old)))) pass.old pass.new }
+        ensures held { held_words o (view pass.new) ≡ with_root (held_words o (view pass.old)) root (view pass.old) }
         ensures keeps { KeepsUnwritten (view pass.old) (view pass.new) }
     {
         let word = self.block_of(o) + 2;
@@ -67,14 +67,14 @@ impl Bank {
     /// care for those who read it without the lock.
     pub fn put_table(&self, pass: &mut Pass, o: u32, t: Table, word: u64, value: u64)
         requires pass { IsPassOf self.now pass.old }
-        requires container { o < containers_in (shape_of self.now) }
+        requires container { o < container_count (shape_of self.now) }
         requires table { IsTableIn (shape_of self.now) t }
-        requires word { word < size (class_of (name_of t)) }
+        requires word { word < size (class_of (table_id t)) }
         requires odd { is_writing o (view pass.old).log ≡ true }
-        requires root { root_in (held o (view pass.old)) ≡ suc (name_of t) }
-        requires care { IsCareful (view pass.old) o (name_of t) word value }
-        ensures did { Did (PutTable o (name_of t) word value) pass.old pass.new }
-        ensures held { held o (view pass.new) ≡ with_table (held o (view pass.old)) word value }
+        requires root { root_in (held_words o (view pass.old)) ≡ suc (table_id t) }
+        requires care { IsCareful (view pass.old) o (table_id t) word value }
+        ensures did { Did (PutTable o (table_id t) word value) pass.old pass.new }
+        ensures held { held_words o (view pass.new) ≡ with_table (held_words o (view pass.old)) word value }
         ensures keeps { KeepsUnwritten (view pass.old) (view pass.new) }
     {
         let start = self.cell_of(t);
@@ -85,11 +85,11 @@ impl Bank {
     pub fn put_fresh(&self, pass: &mut Pass, t: Table, word: u64, value: u64)
         requires pass { IsPassOf self.now pass.old }
         requires table { IsTableIn (shape_of self.now) t }
-        requires word { word < size (class_of (name_of t)) }
-        requires fresh { stage (name_of t) (view pass.old).log ≡ 1 }
-        ensures did { Did (PutFresh (name_of t) word value) pass.old pass.new }
-        ensures fresh { in_hand (name_of t) (view pass.new) ≡
-            slice_set (in_hand (name_of t) (view pass.old)) word value }
+        requires word { word < size (class_of (table_id t)) }
+        requires fresh { stage (table_id t) (view pass.old).log ≡ 1 }
+        ensures did { Did (PutFresh (table_id t) word value) pass.old pass.new }
+        ensures fresh { in_hand (table_id t) (view pass.new) ≡
+            slice_set (in_hand (table_id t) (view pass.old)) word value }
         ensures keeps { KeepsUnwritten (view pass.old) (view pass.new) }
     {
         let start = self.cell_of(t);
@@ -111,10 +111,10 @@ impl Bank {
     /// Makes the version of a container even again, whose words stand for what the pass knows of it.
     pub fn stop_write(&self, pass: &mut Pass, o: u32) -> u64
         requires pass { IsPassOf self.now pass.old }
-        requires container { o < containers_in (shape_of self.now) }
+        requires container { o < container_count (shape_of self.now) }
         requires odd { is_writing o (view pass.old).log ≡ true }
         requires committed { has_committed o (view pass.old).log ≡ true }
-        requires stands { Stands (shape_of self.now).texts (held o (view pass.old)) (known o (view pass.old)) }
+        requires stands { Represents (shape_of self.now).texts (held_words o (view pass.old)) (known_state o (view pass.old)) }
         requires shut { IsShut o (view pass.old) }
         ensures { Did (StopWrite o result) pass.old pass.new }
     {

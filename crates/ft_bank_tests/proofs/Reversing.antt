@@ -20,13 +20,13 @@ use Rattle.ft_trace.specs.declared.Act.TheVariants.{StartWrite, Commit, StopWrit
 use Rattle.ft_trace.specs.declared.Shape.{Shape}
 use Rattle.ft_trace.specs.declared.Snap.{Snap}
 use Rattle.ft_trace.specs.declared.View.{View}
-use Rattle.ft_trace.specs.Addresses.{containers_in}
-use Rattle.ft_trace.specs.Acts.{has_lock, is_writing, has_emptied, noted, seen_writes}
+use Rattle.ft_trace.specs.Addresses.{container_count}
+use Rattle.ft_trace.specs.Acts.{has_lock, is_writing, has_emptied, view_after, seen_writes}
 use Rattle.ft_trace.specs.LoggedReads.{IsNothing}
-use Rattle.ft_trace.specs.Traces.{Possible}
+use Rattle.ft_trace.specs.Traces.{IsReachable}
 use Rattle.ft_trace.specs.ContainerStates.{ContainerState, state_at, kind_in}
-use Rattle.ft_trace.specs.Pictures.{Picture, root_in, Stands}
-use Rattle.ft_trace.specs.Holds.{held, known}
+use Rattle.ft_trace.specs.Pictures.{ContainerWords, root_in, Represents}
+use Rattle.ft_trace.specs.Holds.{held_words, known_state}
 use Rattle.ft_trace.proofs.Cases.{hit}
 use Rattle.ft_trace.proofs.Known.{declared_at, kind_known}
 use Rattle.ft_trace.proofs.Naming.{one_locked}
@@ -58,22 +58,22 @@ as_empty (content.Dict dict) is none = absurd (omega (arith, is))
 as_empty (content.Set set) is none = absurd (omega (arith, is))
 as_empty (content.Deque deque) is none = absurd (omega (arith, is))
 
-module _ (k : Shape) (l : ℕ) (v : View) (possible : ∥ Possible v ∥₁) (shape : v.shape ≡ k) (may : MayReverse k l v) (bare : root_in (held l v) ≡ 0) where
-  low : l < containers_in v.shape
-  low = subst (λ (z : Shape). l < containers_in z) (sym shape) may.container
+module _ (k : Shape) (l : ℕ) (v : View) (possible : ∥ IsReachable v ∥₁) (shape : v.shape ≡ k) (may : MayReverse k l v) (bare : root_in (held_words l v) ≡ 0) where
+  low : l < container_count v.shape
+  low = subst (λ (z : Shape). l < container_count z) (sym shape) may.container
 
   is_kind : kind_in v.shape.starts l ≡ kind.List
   is_kind = ap (λ (z : Shape). kind_in z.starts l) shape ∙ may.kind
 
   -- the list has nothing
-  empty : (known l v).content ≡ content.List []
+  empty : (known_state l v).content ≡ content.List []
   unfolding list_code
   empty =
-      let nothing = no_table_stands k.texts (held l v) (known l v) bare may.stands in
-      let code : list_code (kind_of (known l v).content) ≡ 1 = ∥∥₁_elim {P = list_code (kind_of (known l v).content) ≡ 1} possible (ℕ_set _ _) (λ p. ap list_code (kind_known v l may.locked p ∙ is_kind)) in
-      as_empty (known l v).content code nothing.1
+      let nothing = no_table_stands k.texts (held_words l v) (known_state l v) bare may.stands in
+      let code : list_code (kind_of (known_state l v).content) ≡ 1 = ∥∥₁_elim {P = list_code (kind_of (known_state l v).content) ≡ 1} possible (ℕ_set _ _) (λ p. ap list_code (kind_known v l may.locked p ∙ is_kind)) in
+      as_empty (known_state l v).content code nothing.1
 
-  module _ (stored : StoredWorld) (agrees : state_at stored l ≡ known l v) (containers : length stored.world ≡ containers_in v.shape) where
+  module _ (stored : StoredWorld) (agrees : state_at stored l ≡ known_state l v) (containers : length stored.world ≡ container_count v.shape) where
     there : slice_index_or stored.world l (content.List []) ≡ content.List []
     there = ap (λ (z : ContainerState). z.content) agrees ∙ empty
 
@@ -89,7 +89,7 @@ module _ (k : Shape) (l : ℕ) (v : View) (possible : ∥ Possible v ∥₁) (sh
     content_after = get_or-set_same stored.world l (content.List (reverse (list_at stored.world l))) (content.List []) in_world ∙ ap content.List turned
 
     -- it leaves the list as it is
-    kept_after : state_at (after_stored stored (reversal l)) l ≡ known l v
+    kept_after : state_at (after_stored stored (reversal l)) l ≡ known_state l v
     kept_after =
         let c = content_after ∙ sym empty in
         let t = ap (λ (z : ContainerState). z.table) agrees in
@@ -97,7 +97,7 @@ module _ (k : Shape) (l : ℕ) (v : View) (possible : ∥ Possible v ∥₁) (sh
 
   module _ (f : ℕ) where
     abbrev begun : View
-    begun = noted (StartWrite l f) v
+    begun = view_after (StartWrite l f) v
 
     may_commit_begun : MayCommit begun (reversal l) reply.Done
     may_commit_begun = record {
@@ -122,43 +122,43 @@ module _ (k : Shape) (l : ℕ) (v : View) (possible : ∥ Possible v ∥₁) (sh
     pub may_commit : (s : View) → s ≡ begun → MayCommit s (reversal l) reply.Done
     may_commit s is = subst (λ (z : View). MayCommit z (reversal l) reply.Done) (sym is) may_commit_begun
 
-    module _ (number : ℕ) (snap : Snap) (c : View) (committed : Committed begun c (reversal l)) (is : c ≡ noted (Commit (reversal l) reply.Done number snap) begun) where
-      known_after : known l c ≡ known l v
+    module _ (number : ℕ) (snap : Snap) (c : View) (committed : Committed begun c (reversal l)) (is : c ≡ view_after (Commit (reversal l) reply.Done number snap) begun) where
+      known_after : known_state l c ≡ known_state l v
       known_after = committed.left l ∙ kept_after committed.found (committed.has.agrees l low may.locked) committed.has.containers
 
-      held_after : held l c ≡ held l v
-      held_after = ap (λ (z : View). held l z) is
+      held_after : held_words l c ≡ held_words l v
+      held_after = ap (λ (z : View). held_words l z) is
 
-      stands_begun : Stands k.texts (held l c) (known l c)
-      stands_begun = subst (λ (z : Picture × ContainerState). Stands k.texts z.0 z.1) (λ d. (sym held_after d, sym known_after d)) may.stands
+      stands_begun : Represents k.texts (held_words l c) (known_state l c)
+      stands_begun = subst (λ (z : ContainerWords × ContainerState). Represents k.texts z.0 z.1) (λ d. (sym held_after d, sym known_after d)) may.stands
 
       shut_begun : IsShut l c
       shut_begun t names = let root = ap root_in held_after ∙ bare in absurd (omega (arith, names, root))
 
-      wrote_begun : seen_writes begun ≤ number → (g : ℕ) (w : View) → w ≡ noted (StopWrite l g) c → Wrote (reversal l) reply.Done number v w × (root_in (held l w) ≡ 0)
+      wrote_begun : seen_writes begun ≤ number → (g : ℕ) (w : View) → w ≡ view_after (StopWrite l g) c → Wrote (reversal l) reply.Done number v w × (root_in (held_words l w) ≡ 0)
       wrote_begun seen g w stopped = (
         plain_write (reversal l) reply.Done number f v begun begun w refl may.even (put_same begun l)
             (write_ends (reversal l) reply.Done number g snap begun c c w seen is committed may.left (put_same c l)
             (ap root_in held_after)
-            (subst (λ (z : Shape). Stands z.texts (held l c) (known l c)) (sym shape) stands_begun)
+            (subst (λ (z : Shape). Represents z.texts (held_words l c) (known_state l c)) (sym shape) stands_begun)
             stopped) refl,
-        ap (λ (z : View). root_in (held l z)) stopped ∙ (ap root_in held_after ∙ bare),
+        ap (λ (z : View). root_in (held_words l z)) stopped ∙ (ap root_in held_after ∙ bare),
       )
 
-    module _ (s : View) (is_begun : s ≡ begun) (number : ℕ) (snap : Snap) (c : View) (committed : Committed s c (reversal l)) (is : c ≡ noted (Commit (reversal l) reply.Done number snap) s) where
+    module _ (s : View) (is_begun : s ≡ begun) (number : ℕ) (snap : Snap) (c : View) (committed : Committed s c (reversal l)) (is : c ≡ view_after (Commit (reversal l) reply.Done number snap) s) where
       committed_begun : Committed begun c (reversal l)
       committed_begun = subst (λ (z : View). Committed z c (reversal l)) is_begun committed
 
-      is_at : c ≡ noted (Commit (reversal l) reply.Done number snap) begun
-      is_at = is ∙ ap (λ (z : View). noted (Commit (reversal l) reply.Done number snap) z) is_begun
+      is_at : c ≡ view_after (Commit (reversal l) reply.Done number snap) begun
+      is_at = is ∙ ap (λ (z : View). view_after (Commit (reversal l) reply.Done number snap) z) is_begun
 
-      pub stands_after : Stands k.texts (held l c) (known l c)
+      pub stands_after : Represents k.texts (held_words l c) (known_state l c)
       stands_after = stands_begun number snap c committed_begun is_at
 
       pub shut_after : IsShut l c
       shut_after = shut_begun number snap c committed_begun is_at
 
-      pub wrote : seen_writes s ≤ number → (g : ℕ) (w : View) → w ≡ noted (StopWrite l g) c → Wrote (reversal l) reply.Done number v w × (root_in (held l w) ≡ 0)
+      pub wrote : seen_writes s ≤ number → (g : ℕ) (w : View) → w ≡ view_after (StopWrite l g) c → Wrote (reversal l) reply.Done number v w × (root_in (held_words l w) ≡ 0)
       wrote seen g w stopped = wrote_begun number snap c committed_begun is_at (subst (λ (z : View). seen_writes z ≤ number) is_begun seen) g w stopped
 
 -- a load of the root leaves all that
@@ -171,7 +171,7 @@ may_loaded k l v w only may =
       kind = may.kind;
       locked = only.work.pass.locks l ∙ may.locked;
       even = only.work.pass.writes l ∙ may.even;
-      stands = subst (λ (z : Picture × ContainerState). Stands k.texts z.0 z.1) (λ d. (sym h d, sym n d)) may.stands;
+      stands = subst (λ (z : ContainerWords × ContainerState). Represents k.texts z.0 z.1) (λ d. (sym h d, sym n d)) may.stands;
       owes = only.work.owes ∙ may.owes;
       left = subst (λ (z : ℕ). 0 < z) (sym only.work.left) may.left;
     }

@@ -6,21 +6,21 @@ use Rattle.ft_model.specs.declared.reply.Reply.TheVariants as reply
 use Rattle.ft_model.specs.declared.script.Kind.TheVariants as kind
 use Rattle.ft_trace.specs.declared.Shape.{Shape}
 use Rattle.ft_trace.specs.declared.View.{View}
-use Rattle.ft_trace.specs.Addresses.{containers_in}
+use Rattle.ft_trace.specs.Addresses.{container_count}
 use Rattle.ft_trace.specs.Acts.{has_lock, is_writing, owes}
 use Rattle.ft_trace.specs.ContainerStates.{kind_in}
-use Rattle.ft_trace.specs.Pictures.{root_in, Stands}
-use Rattle.ft_trace.specs.Holds.{held, known}
+use Rattle.ft_trace.specs.Pictures.{root_in, Represents}
+use Rattle.ft_trace.specs.Holds.{held_words, known_state}
 use Rattle.ft_bank.specs.Whole.{OnlyLoaded, Wrote}
 
 -- The pass may reverse the list l: it has its lock, and the list's words stand for what the pass knows of it; no
 -- version is odd there, the pass owes no table, and it has a call left.
 pub record MayReverse (k : Shape) (l : ℕ) (v : View) : Type 0 where
-  pub container : l < containers_in k
+  pub container : l < container_count k
   pub kind : kind_in k.starts l ≡ kind.List
   pub locked : has_lock l v.log ≡ true
   pub even : is_writing l v.log ≡ false
-  pub stands : Stands k.texts (held l v) (known l v)
+  pub stands : Represents k.texts (held_words l v) (known_state l v)
   pub owes : owes v.log ≡ 0
   pub left : 0 < v.left
 
@@ -28,6 +28,6 @@ pub record MayReverse (k : Shape) (l : ℕ) (v : View) : Type 0 where
 pub record Reversed (l number : ℕ) (v w : View) : Type 0 where
   pub loaded : View
   pub only : OnlyLoaded v loaded
-  pub bare : root_in (held l loaded) ≡ 0
+  pub bare : root_in (held_words l loaded) ≡ 0
   pub wrote : Wrote (call.List l list.Reverse) reply.Done number loaded w
-  pub still_bare : root_in (held l w) ≡ 0
+  pub still_bare : root_in (held_words l w) ≡ 0

@@ -3,7 +3,7 @@ use Rattle.std.specs.Prelude.{◌≡◌, ℕ, ◌+◌, ◌*◌, ◌<◌, ◌≤�
 use Rattle.ft_model.specs.declared.script.Kind.TheVariants as kind
 use Rattle.ft_trace.specs.declared.Shape.{Shape}
 use Rattle.ft_trace.specs.declared.View.{View}
-use Rattle.ft_trace.specs.Addresses.{containers_in}
+use Rattle.ft_trace.specs.Addresses.{container_count}
 use Rattle.ft_trace.specs.ContainerStates.{kind_in}
 use Rattle.ft_bank.specs.declared.bank.Bank.{Bank}
 use Rattle.ft_bank.specs.declared.pass.Pass.{Pass}
@@ -13,7 +13,7 @@ use Rattle.ft_bank_tests.specs.TestRounds.{IsIdlePass}
 
 -- the container is a list of the bank
 pub record IsListIn (k : Shape) (l : ℕ) : Type 0 where
-  pub low : l < containers_in k
+  pub low : l < container_count k
   pub kind : kind_in k.starts l ≡ kind.List
 
 -- the pass is one of the bank's, between its rounds

@@ -1,6 +1,6 @@
 //! A pass that goes round on one container, as a thread's work: nothing of it is left but what it loaded.
 ghost use Rattle.std.specs.Prelude.{◌≡◌, ◌≤◌, ◌<◌};
-ghost use Rattle.ft_trace.specs.Addresses.{containers_in};
+ghost use Rattle.ft_trace.specs.Addresses.{container_count};
 ghost use Rattle.ft_bank.specs.Passes.{shape_of, view, IsPassOf};
 ghost use Rattle.ft_bank.specs.PassSections.{stack_of, no_sections};
 ghost use Rattle.ft_bank_tests.specs.TestRounds.{IsIdlePass, IsOnwards};
@@ -11,7 +11,7 @@ use ft_bank::{Bank, Pass};
 /// the lock was free.
 fn try_round(bank: &Bank, pass: &mut Pass) -> bool
     requires pass { IsPassOf bank.now pass.old }
-    requires container { 0 < containers_in (shape_of bank.now) }
+    requires container { 0 < container_count (shape_of bank.now) }
     requires idle { IsIdlePass (view pass.old) }
     requires sections { stack_of pass.old ≡ no_sections }
     ensures pass { IsPassOf bank.now pass.new }
@@ -30,7 +30,7 @@ fn try_round(bank: &Bank, pass: &mut Pass) -> bool
 /// Does that in each round, and counts how often the lock was free.
 pub fn go_round(bank: &Bank, pass: &mut Pass, rounds: u32) -> u32
     requires pass { IsPassOf bank.now pass.old }
-    requires container { 0 < containers_in (shape_of bank.now) }
+    requires container { 0 < container_count (shape_of bank.now) }
     requires idle { IsIdlePass (view pass.old) }
     requires sections { stack_of pass.old ≡ no_sections }
     ensures count { result ≤ rounds }
@@ -51,7 +51,7 @@ pub fn go_round(bank: &Bank, pass: &mut Pass, rounds: u32) -> u32
 /// The same for a pass of the caller's own, which it gets back.
 pub fn go_round_with(bank: &Bank, mut pass: Pass, rounds: u32) -> (Pass, u32)
     requires pass { IsPassOf bank.now pass }
-    requires container { 0 < containers_in (shape_of bank.now) }
+    requires container { 0 < container_count (shape_of bank.now) }
     requires idle { IsIdlePass (view pass) }
     requires sections { stack_of pass ≡ no_sections }
     ensures count { result.1 ≤ rounds }

@@ -1,6 +1,6 @@
 //! Two threads with a pass each share one bank.
 ghost use Rattle.std.specs.Prelude.{◌≡◌, ◌<◌, IfOk, length};
-ghost use Rattle.ft_trace.specs.Addresses.{containers_in};
+ghost use Rattle.ft_trace.specs.Addresses.{container_count};
 ghost use Rattle.ft_bank.specs.Passes.{shape_of, view, IsPassOf};
 ghost use Rattle.ft_bank.specs.PassSections.{stack_of, no_sections};
 ghost use Rattle.ft_bank_tests.specs.TestRounds.{IsIdlePass, IsOnwards};
@@ -27,13 +27,13 @@ fn two_threads_share_a_bank(rt: HostRuntime) -> Result<(), Fail> {
     let ((mut first, ours), (second, theirs)) = thread::join(
         &rt,
         move || -> (Pass, u32)
-            requires { IsPassOf bank.now first × (0 < containers_in (shape_of bank.now)) × IsIdlePass (view first)
+            requires { IsPassOf bank.now first × (0 < container_count (shape_of bank.now)) × IsIdlePass (view first)
                 × (stack_of first ≡ no_sections) }
             ensures { IsPassOf bank.entry.now result.0 × IsIdlePass (view result.0)
                 × (stack_of result.0 ≡ no_sections) × IsOnwards (view first) (view result.0) }
         { go_round_with(bank, first, 2_000) },
         move || -> (Pass, u32)
-            requires { IsPassOf bank.now second × (0 < containers_in (shape_of bank.now)) × IsIdlePass (view second)
+            requires { IsPassOf bank.now second × (0 < container_count (shape_of bank.now)) × IsIdlePass (view second)
                 × (stack_of second ≡ no_sections) }
             ensures { IsPassOf bank.entry.now result.0 × IsIdlePass (view result.0)
                 × (stack_of result.0 ≡ no_sections) × IsOnwards (view second) (view result.0) }

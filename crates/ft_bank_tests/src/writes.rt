@@ -4,7 +4,7 @@ ghost use Rattle.ft_model.specs.declared.call.Call.TheVariants as call;
 ghost use Rattle.ft_model.specs.declared.call.ListCall.TheVariants as list;
 ghost use Rattle.ft_model.specs.declared.reply.Reply.TheVariants as reply;
 ghost use Rattle.ft_trace.specs.Pictures.{root_in};
-ghost use Rattle.ft_trace.specs.Holds.{held};
+ghost use Rattle.ft_trace.specs.Holds.{held_words};
 ghost use Rattle.ft_bank.specs.Passes.{shape_of, view, IsPassOf};
 ghost use Rattle.ft_bank.specs.PassSections.{stack_of};
 ghost use Rattle.ft_bank.specs.Whole.{OnlyLoaded, Wrote};
@@ -17,11 +17,11 @@ use ft_model::{Call, ListCall, Reply};
 fn reverse(bank: &Bank, pass: &mut Pass, l: u32) -> u64
     requires pass { IsPassOf bank.now pass.old }
     requires may { MayReverse (shape_of bank.now) l (view pass.old) }
-    requires bare { root_in (held l (view pass.old)) ≡ 0 }
+    requires bare { root_in (held_words l (view pass.old)) ≡ 0 }
     ensures pass { IsPassOf bank.now pass.new }
     ensures stack { stack_of pass.new ≡ stack_of pass.old }
     ensures wrote { Wrote (call.List l list.Reverse) reply.Done result (view pass.old) (view pass.new) }
-    ensures still_bare { root_in (held l (view pass.new)) ≡ 0 }
+    ensures still_bare { root_in (held_words l (view pass.new)) ≡ 0 }
 {
     let called = Call::List {
         container: l,

@@ -22,7 +22,7 @@ use Rattle.ft_trace.specs.declared.Act.TheVariants.{Commit}
 use Rattle.ft_trace.specs.declared.Entry.{Entry}
 use Rattle.ft_trace.specs.declared.Shape.{Shape}
 use Rattle.ft_trace.specs.declared.View.{View}
-use Rattle.ft_trace.specs.Acts.{entries_next, starter, noted, maker, made, both, spent, sender, note, all_lists, all_entries, lists_of}
+use Rattle.ft_trace.specs.Acts.{entries_next, starter, view_after, maker, made, both, spent, sender, note, all_lists, all_entries, lists_of}
 use Rattle.ft_trace.specs.Entries.{AllRight}
 use Rattle.ft_trace.specs.Hands.{own_entries}
 use Rattle.ft_trace.specs.OwnCursors.{plain_entry}
@@ -86,7 +86,7 @@ OfLog j u = u.entries ≡ own_entries u.log
 
 of_log : (k : Shape) (es : List Event) → Valid k es → (j : ℕ) (u : View) → get_elem? (run k es).views j ≡ some u → OfLog j u
 of_log k [] valid = one_view OfLog (starter k) refl
-of_log k (did id v a ∷ es) valid = let old = of_log k es valid.0 in set_views OfLog _ id (noted a v) (ap (entries_next a) (old id v valid.1.0)) (λ j u _ e. old j u e)
+of_log k (did id v a ∷ es) valid = let old = of_log k es valid.0 in set_views OfLog _ id (view_after a v) (ap (entries_next a) (old id v valid.1.0)) (λ j u _ e. old j u e)
 of_log k (forked id v ∷ es) valid = let old = of_log k es valid.0 in one_more OfLog _ (made v) refl (set_views OfLog _ id (maker v) (old id v valid.1.0) (λ j u _ e. old j u e))
 of_log k (sent id v given ∷ es) valid = let old = of_log k es valid.0 in one_more OfLog _ (note given v) refl (set_views OfLog _ id (sender given v) (old id v valid.1.0) (λ j u _ e. old j u e))
 of_log k (joined id v other w ∷ es) valid = let old = of_log k es valid.0 in set_views OfLog _ other spent refl (λ j u _. set_views OfLog _ id (both v w) (old id v valid.1.0) (λ j u _ e. old j u e) j u)
@@ -109,7 +109,7 @@ lists_replied k (did id v a ∷ es) valid =
     let P : ℕ → View → Type 0 = λ j u. All (Replied k.starts (writes_of a (history es))) u.lists in
     let stay : (u : View) → AllRight k.starts (history es) (all_entries u) → All (Replied k.starts (history es)) u.lists → All (Replied k.starts (writes_of a (history es))) u.lists = λ u r all.
     lists_stay k.starts a (history es) u.lists (low_parts k.starts (history es) u.entries (flat_map (λ (l : List Entry). l) u.lists) r).1 all in
-    set_views P _ id (noted a v) (stay v (right id v valid.1.0) (old id v valid.1.0)) (λ j u _ e. stay u (right j u e) (old j u e))
+    set_views P _ id (view_after a v) (stay v (right id v valid.1.0) (old id v valid.1.0)) (λ j u _ e. stay u (right j u e) (old j u e))
 lists_replied k (forked id v ∷ es) valid =
     let old = lists_replied k es valid.0 in
     let P : ℕ → View → Type 0 = λ j u. All (Replied k.starts (history es)) u.lists in

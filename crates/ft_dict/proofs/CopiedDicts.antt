@@ -18,9 +18,9 @@ use Rattle.ft_model.proofs.Copies.{length-pairs_from}
 use Rattle.ft_layout.specs.Containers.{StandsAs}
 use Rattle.ft_trace.specs.declared.Shape.{Shape}
 use Rattle.ft_trace.specs.declared.View.{View}
-use Rattle.ft_trace.specs.Addresses.{containers_in}
-use Rattle.ft_trace.specs.Holds.{held, known}
-use Rattle.ft_trace.specs.Traces.{Possible}
+use Rattle.ft_trace.specs.Addresses.{container_count}
+use Rattle.ft_trace.specs.Holds.{held_words, known_state}
+use Rattle.ft_trace.specs.Traces.{IsReachable}
 use Rattle.ft_trace.specs.ContainerStates.{state_at, kind_in}
 use Rattle.ft_trace.proofs.Known.{declared_at}
 use Rattle.ft_trace.proofs.Naming.{named_locked}
@@ -32,14 +32,14 @@ use Rattle.ft_dict.proofs.Deleted.{known_dict}
 use Rattle.ft_dict.proofs.Leaving.{dict_is, many, many_tables, there}
 use Rattle.ft_model.proofs.SplitDicts.{unsplit_takes, unsplit_leaves}
 
-module _ (k : Shape) (d e : ℕ) (v : View) (shape : v.shape ≡ k) (possible : ∥ Possible v ∥₁) (may : MayWriteEntries k d v) (other : MayWriteEntries k e v) (is : kind_in k.starts d ≡ kind.Dict) (other_is : kind_in k.starts e ≡ kind.Dict) where
+module _ (k : Shape) (d e : ℕ) (v : View) (shape : v.shape ≡ k) (possible : ∥ IsReachable v ∥₁) (may : MayWriteEntries k d v) (other : MayWriteEntries k e v) (is : kind_in k.starts d ≡ kind.Dict) (other_is : kind_in k.starts e ≡ kind.Dict) where
   abbrev called : Call
   called = call.Dict d (dict.CopyTo e)
 
-  one : (pairs : DictContent) × ((known d v).content ≡ content.Dict pairs) × (d < containers_in v.shape)
+  one : (pairs : DictContent) × ((known_state d v).content ≡ content.Dict pairs) × (d < container_count v.shape)
   one = known_dict k v d shape possible may is
 
-  two : (pairs : DictContent) × ((known e v).content ≡ content.Dict pairs) × (e < containers_in v.shape)
+  two : (pairs : DictContent) × ((known_state e v).content ≡ content.Dict pairs) × (e < container_count v.shape)
   two = known_dict k v e shape possible other other_is
 
   abbrev pairs : DictContent
@@ -53,8 +53,8 @@ module _ (k : Shape) (d e : ℕ) (v : View) (shape : v.shape ≡ k) (possible : 
 
   few : length pairs.pairs ≤ most_pairs
   few =
-      pairs_few k.texts (held d v).block (0 ∷ 0 ∷ (held d v).table) (known d v).table pairs
-      (subst (λ (z : Content). StandsAs k.texts (held d v).block (0 ∷ 0 ∷ (held d v).table) (known d v).table z) one.1 may.stands)
+      pairs_few k.texts (held_words d v).block (0 ∷ 0 ∷ (held_words d v).table) (known_state d v).table pairs
+      (subst (λ (z : Content). StandsAs k.texts (held_words d v).block (0 ∷ 0 ∷ (held_words d v).table) (known_state d v).table z) one.1 may.stands)
 
   long : length_of left ≡ length pairs.pairs
   long = length-pairs_from given.next pairs.pairs
@@ -129,5 +129,5 @@ module _ (k : Shape) (d e : ℕ) (v : View) (shape : v.shape ≡ k) (possible : 
     left_is = λ stored has. kept stored has ∙ ap (λ (n : ℕ). record { content = left; table = replaced_table (copy_takes (length pairs.pairs)) n }) (sym long);
   }
 
-  pub copies : Replaces e called (copied (known e v).content (known d v).content) (copy_takes (length_of (known d v).content)) v
+  pub copies : Replaces e called (copied (known_state e v).content (known_state d v).content) (copy_takes (length_of (known_state d v).content)) v
   copies = subst (λ (z : Content × Content). Replaces e called (copied z.0 z.1) (copy_takes (length_of z.1)) v) (λ i. (sym two.1 i, sym one.1 i)) copies_by

@@ -23,9 +23,9 @@ use Rattle.ft_model.specs.Worlds.{dict_of, dict_at, named_in, no_hands, IsOfKind
 use Rattle.ft_layout.proofs.Powers.{slots_range}
 use Rattle.ft_trace.specs.declared.View.{View}
 use Rattle.ft_trace.specs.Acts.{has_lock}
-use Rattle.ft_trace.specs.Addresses.{containers_in}
+use Rattle.ft_trace.specs.Addresses.{container_count}
 use Rattle.ft_trace.specs.FitCalls.{FitsDictCall, FitsContent}
-use Rattle.ft_trace.specs.Holds.{known}
+use Rattle.ft_trace.specs.Holds.{known_state}
 use Rattle.ft_trace.specs.ContainerStates.{ContainerState, state_at, reply_in}
 use Rattle.ft_trace.proofs.Known.{declared_at, at_any}
 use Rattle.ft_trace.proofs.Naming.{named_locked}
@@ -39,7 +39,7 @@ set_own [] i x e low is = absurd (omega (arith, low))
 set_own (y ∷ l) zero x e low is = ap (λ z. z ∷ l) (sym is)
 set_own (y ∷ l) (suc i) x e low is = ap (λ z. y ∷ z) (set_own l i x e (omega (arith, low)) is)
 
-module _ (d : ℕ) (v : View) (pairs : DictContent) (low : d < containers_in v.shape) (mine : has_lock d v.log ≡ true) (is_dict : (known d v).content ≡ content.Dict pairs) (stored : StoredWorld) (has : MayHave v stored) where
+module _ (d : ℕ) (v : View) (pairs : DictContent) (low : d < container_count v.shape) (mine : has_lock d v.log ≡ true) (is_dict : (known_state d v).content ≡ content.Dict pairs) (stored : StoredWorld) (has : MayHave v stored) where
   abbrev world : List Content
   world = stored.world
 
@@ -58,7 +58,7 @@ module _ (d : ℕ) (v : View) (pairs : DictContent) (low : d < containers_in v.s
   pub each_fits : FitsContent (content.Dict pairs)
   each_fits = subst FitsContent there (has.words d (content.List []) many)
 
-  pub table_is : table_at stored.tables d ≡ (known d v).table
+  pub table_is : table_at stored.tables d ≡ (known_state d v).table
   table_is = ap (λ (z : ContainerState). z.table) (has.agrees d low mine)
 
   -- a reply that leaves the dict as it is
@@ -83,7 +83,7 @@ module _ (d : ℕ) (v : View) (pairs : DictContent) (low : d < containers_in v.s
       pub left_at : (e : Content) → slice_index_or (after_write world (call.Dict d dc)) d e ≡ content.Dict news
       left_at e = ap (λ (z : Answer). slice_index_or z.world d e) answer_is ∙ get_or-set_same world d (content.Dict news) e many
 
-      stays : dict_change dc ≡ change.Stays → state_at (after_stored stored (call.Dict d dc)) d ≡ record { content = content.Dict news; table = (known d v).table }
+      stays : dict_change dc ≡ change.Stays → state_at (after_stored stored (call.Dict d dc)) d ≡ record { content = content.Dict news; table = (known_state d v).table }
       stays same =
           let c = left_at (content.List []) in
           let u = unsplit_leaves stored.tables d dc (dict_at world d) (dict_at (after_write world (call.Dict d dc)) d) (takes_in stored (call.Dict d dc)) (has.unsplit d) in
@@ -91,9 +91,9 @@ module _ (d : ℕ) (v : View) (pairs : DictContent) (low : d < containers_in v.s
           λ i. record { content = c i; table = t i }
 
 -- a call that stores nothing new
-pub leaves_stay : (d : ℕ) (v : View) (pairs news : DictContent) (dc : DictCall) (said : Reply) → d < containers_in v.shape → has_lock d v.log ≡ true → (known d v).content ≡ content.Dict pairs → is_changing_dict dc ≡ true → is_raised said ≡ false → other_dict dc ≡ None → cursor_of_dict dc ≡ None → dict_change dc ≡ change.Stays → FitsDictCall dc
+pub leaves_stay : (d : ℕ) (v : View) (pairs news : DictContent) (dc : DictCall) (said : Reply) → d < container_count v.shape → has_lock d v.log ≡ true → (known_state d v).content ≡ content.Dict pairs → is_changing_dict dc ≡ true → is_raised said ≡ false → other_dict dc ≡ None → cursor_of_dict dc ≡ None → dict_change dc ≡ change.Stays → FitsDictCall dc
     → ((stored : StoredWorld) → MayHave v stored → answer_dict stored.world no_hands d pairs dc ≡ puts stored.world no_hands d (content.Dict news) said)
-    → Leaves d (call.Dict d dc) said (record { content = content.Dict news; table = (known d v).table }) v
+    → Leaves d (call.Dict d dc) said (record { content = content.Dict news; table = (known_state d v).table }) v
 leaves_stay d v pairs news dc said low mine is_dict changing quiet other cursor same fits answered = record {
   write = (λ i. changing i && not (quiet i));
   changed = (λ i. unwrap_or (if changing i then Some (changed_dict d (same i)) else None) 0);
@@ -111,7 +111,7 @@ table_short : (n : ℕ) (class : Option ℕ) (fill : ℕ) → HasTableFor n clas
 table_short n None fill h = let z = h.0 in omega (arith, z)
 table_short n (Some c) fill h = let a = h.1 in let b = h.2 in let r = (slots_range c h.0).1 in omega (arith, a, b, r)
 
-module _ (d : ℕ) (v : View) (pairs news : DictContent) (dc : DictCall) (said : Reply) (low : d < containers_in v.shape) (mine : has_lock d v.log ≡ true) (is_dict : (known d v).content ≡ content.Dict pairs) (other : other_dict dc ≡ None) (grows : dict_change dc ≡ change.Grows) (draws : news.next ≡ pairs.next) (count : length news.pairs ≡ length pairs.pairs) (stored : StoredWorld) (has : MayHave v stored)
+module _ (d : ℕ) (v : View) (pairs news : DictContent) (dc : DictCall) (said : Reply) (low : d < container_count v.shape) (mine : has_lock d v.log ≡ true) (is_dict : (known_state d v).content ≡ content.Dict pairs) (other : other_dict dc ≡ None) (grows : dict_change dc ≡ change.Grows) (draws : news.next ≡ pairs.next) (count : length news.pairs ≡ length pairs.pairs) (stored : StoredWorld) (has : MayHave v stored)
     (answered : answer_dict stored.world no_hands d pairs dc ≡ puts stored.world no_hands d (content.Dict news) said) where
   abbrev called : Call
   called = call.Dict d dc
@@ -137,13 +137,13 @@ module _ (d : ℕ) (v : View) (pairs news : DictContent) (dc : DictCall) (said :
       ∙ (ap (λ (z : TableChange). change_takes z (dict_takes T (dict_at stored.world d) (dict_at after d)) (copy_takes (length (dict_at stored.world d).pairs))) grows
       ∙ ap (λ (z : ℕ). if outgrows_dict T z then Some (dict_class (length (dict_at after d).pairs)) else None) none_drawn)
 
-  pub same_kept : state_at (after_stored stored called) d ≡ record { content = content.Dict news; table = (known d v).table }
+  pub same_kept : state_at (after_stored stored called) d ≡ record { content = content.Dict news; table = (known_state d v).table }
   same_kept =
       let drawn = (dict_at after d).next - (dict_at stored.world d).next in
       let many_pairs = length (dict_at after d).pairs in
       let fill_is : T.fill + drawn ≡ T.fill = let e = none_drawn in omega (arith, e) in
       let c = left_is (content.List []) in
-      let t : table_at (after_stored stored called).tables d ≡ (known d v).table =
+      let t : table_at (after_stored stored called).tables d ≡ (known_state d v).table =
       ap (λ (z : List TableUse). table_at z d) (unsplit_leaves stored.tables d dc (dict_at stored.world d) (dict_at after d) (takes_in stored called) (has.unsplit d))
       ∙ (ap (λ (z : TableChange). table_at (change_leaves stored.tables d z (grown_table T (takes_in stored called) drawn many_pairs) (copy_leaves (length (dict_at stored.world d).pairs))) d) grows
       ∙ (get_or-set_same stored.tables d (grown_table T (takes_in stored called) drawn many_pairs) no_table (many_tables d v pairs low mine is_dict stored has)
@@ -163,9 +163,9 @@ module _ (d : ℕ) (v : View) (pairs news : DictContent) (dc : DictCall) (said :
       (λ i. adds (grows i) && list_any passes_cap (map (λ place. slice_index_or after place (content.List [])) (one_or_two d (other i))))
       ∙ (ap (λ (z : Content). passes_cap z || false) (left_is (content.List [])) ∙ ap (λ (z : Bool). z || false) (le-ltb most_pairs (length news.pairs) few))
 
-pub leaves_same : (d : ℕ) (v : View) (pairs news : DictContent) (dc : DictCall) (said : Reply) → d < containers_in v.shape → has_lock d v.log ≡ true → (known d v).content ≡ content.Dict pairs → is_changing_dict dc ≡ true → is_raised said ≡ false → other_dict dc ≡ None → cursor_of_dict dc ≡ None → dict_change dc ≡ change.Grows → FitsDictCall dc
+pub leaves_same : (d : ℕ) (v : View) (pairs news : DictContent) (dc : DictCall) (said : Reply) → d < container_count v.shape → has_lock d v.log ≡ true → (known_state d v).content ≡ content.Dict pairs → is_changing_dict dc ≡ true → is_raised said ≡ false → other_dict dc ≡ None → cursor_of_dict dc ≡ None → dict_change dc ≡ change.Grows → FitsDictCall dc
     → ((stored : StoredWorld) → MayHave v stored → (news.next ≡ pairs.next) × (length news.pairs ≡ length pairs.pairs) × (answer_dict stored.world no_hands d pairs dc ≡ puts stored.world no_hands d (content.Dict news) said))
-    → Leaves d (call.Dict d dc) said (record { content = content.Dict news; table = (known d v).table }) v
+    → Leaves d (call.Dict d dc) said (record { content = content.Dict news; table = (known_state d v).table }) v
 leaves_same d v pairs news dc said low mine is_dict changing quiet other cursor grows fits all = record {
   write = (λ i. changing i && not (quiet i));
   changed = (λ i. unwrap_or (if changing i then Some (changed_dict d (grows i)) else None) 0);

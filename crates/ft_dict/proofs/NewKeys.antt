@@ -26,9 +26,9 @@ use Rattle.ft_layout.specs.declared.slot.Stored.TheVariants.{Plain}
 use Rattle.ft_layout.specs.Words.{FitsKey}
 use Rattle.ft_trace.specs.declared.View.{View}
 use Rattle.ft_trace.specs.Acts.{has_lock}
-use Rattle.ft_trace.specs.Addresses.{containers_in}
+use Rattle.ft_trace.specs.Addresses.{container_count}
 use Rattle.ft_trace.specs.FitCalls.{FitsDictCall, FitsValue}
-use Rattle.ft_trace.specs.Holds.{known}
+use Rattle.ft_trace.specs.Holds.{known_state}
 use Rattle.ft_trace.specs.ContainerStates.{state_at}
 use Rattle.ft_trace.proofs.GrownDicts.{added_next, added_length}
 use Rattle.ft_trace.proofs.Naming.{named_locked}
@@ -39,7 +39,7 @@ use Rattle.ft_dict.proofs.Reading.{not_found}
 use Rattle.ft_dict.proofs.Leaving.{dict_is, table_is, many_tables, replies, declared, left_at}
 use Rattle.ft_model.proofs.SplitDicts.{unsplit_takes, unsplit_leaves}
 
-module _ (d : ℕ) (v : View) (pairs : DictContent) (low : d < containers_in v.shape) (mine : has_lock d v.log ≡ true) (is_dict : (known d v).content ≡ content.Dict pairs) (key : Key) (value : Value) (missing : has_key pairs.pairs key ≡ false) (dc : DictCall) (said : Reply) (other : other_dict dc ≡ None) (cursor : cursor_of_dict dc ≡ None) (grows : dict_change dc ≡ change.Grows) (quiet : is_raised said ≡ false) where
+module _ (d : ℕ) (v : View) (pairs : DictContent) (low : d < container_count v.shape) (mine : has_lock d v.log ≡ true) (is_dict : (known_state d v).content ≡ content.Dict pairs) (key : Key) (value : Value) (missing : has_key pairs.pairs key ≡ false) (dc : DictCall) (said : Reply) (other : other_dict dc ≡ None) (cursor : cursor_of_dict dc ≡ None) (grows : dict_change dc ≡ change.Grows) (quiet : is_raised said ≡ false) where
   abbrev called : Call
   called = call.Dict d dc
 
@@ -47,7 +47,7 @@ module _ (d : ℕ) (v : View) (pairs : DictContent) (low : d < containers_in v.s
   news = dict_set pairs key value
 
   abbrev had : TableUse
-  had = (known d v).table
+  had = (known_state d v).table
 
   module _ (found : StoredWorld) (has : MayHave v found) (answered : answer_dict found.world no_hands d pairs dc ≡ puts found.world no_hands d (content.Dict news) said) where
     abbrev after : List Content
@@ -124,7 +124,7 @@ module _ (d : ℕ) (v : View) (pairs : DictContent) (low : d < containers_in v.s
     left_is = λ found has. left_kept found has (answered found has) ∙ (λ i. record { content = with_key (sym is_dict i) key (Plain value); table = grown_table had (key_takes (sym is_dict i) had) 1 (length_of (sym is_dict i) + 1) });
   }
 
-module _ (d : ℕ) (v : View) (pairs : DictContent) (low : d < containers_in v.shape) (mine : has_lock d v.log ≡ true) (is_dict : (known d v).content ≡ content.Dict pairs) (key : Key) (value : Value) (fits : FitsKey key) (fit : FitsValue value) (missing : has_key pairs.pairs key ≡ false) where
+module _ (d : ℕ) (v : View) (pairs : DictContent) (low : d < container_count v.shape) (mine : has_lock d v.log ≡ true) (is_dict : (known_state d v).content ≡ content.Dict pairs) (key : Key) (value : Value) (fits : FitsKey key) (fit : FitsValue value) (missing : has_key pairs.pairs key ≡ false) where
   pub set_adds : AddsKey d (call.Dict d (dict.Set key value)) reply.Done key (Plain value) v
   set_adds = adds_key d v pairs low mine is_dict key value missing (dict.Set key value) reply.Done refl refl refl refl refl (fits, fit) (λ found has. refl)
 

@@ -24,15 +24,15 @@ use Rattle.ft_model.specs.Contents.{DictContent, IsDict, dict_del}
 use Rattle.ft_model.specs.Worlds.{dict_of, kind_of, no_hands}
 use Rattle.ft_trace.specs.declared.Shape.{Shape}
 use Rattle.ft_trace.specs.declared.View.{View}
-use Rattle.ft_trace.specs.Addresses.{class_of, containers_in, places}
-use Rattle.ft_trace.specs.Holds.{held, known}
+use Rattle.ft_trace.specs.Addresses.{class_of, container_count, places}
+use Rattle.ft_trace.specs.Holds.{held_words, known_state}
 use Rattle.ft_trace.specs.Kinds.{rows}
-use Rattle.ft_trace.specs.Traces.{Possible}
+use Rattle.ft_trace.specs.Traces.{IsReachable}
 use Rattle.ft_trace.proofs.DictWrites.{LiveEntriesArePairs}
-use Rattle.ft_trace.specs.Pictures.{Picture, root_in}
+use Rattle.ft_trace.specs.Pictures.{ContainerWords, root_in}
 use Rattle.ft_trace.specs.ContainerStates.{ContainerState, kind_in}
 use Rattle.ft_bank.specs.declared.table.Table.{Table}
-use Rattle.ft_bank.specs.TableNames.{IsTableIn, name_of}
+use Rattle.ft_bank.specs.TableNames.{IsTableIn, table_id}
 use Rattle.ft_search.specs.MadeCalls.{IsShownBy}
 use Rattle.ft_search.specs.OneEntryWrites.{HasTable, IsLiveEntry, Leaves, MayWriteEntries, without_key}
 use Rattle.ft_search.proofs.Changing.{kind_is}
@@ -54,7 +54,7 @@ LastEntriesAreLast =
 -- ---- in a table
 
 -- the entry at the place was read
-pub last_some : (k : Shape) (table : Table) (fill place : ℕ) (key : Key) (value : Value) (x : Picture) → IsTableIn k table → place < places (class_of (name_of table)) → FitsKey key → OfUsed k (name_of table) (IsLast fill (Some place)) x → IsPlainAt k (name_of table) place (Some (key, value)) x
+pub last_some : (k : Shape) (table : Table) (fill place : ℕ) (key : Key) (value : Value) (x : ContainerWords) → IsTableIn k table → place < places (class_of (table_id table)) → FitsKey key → OfUsed k (table_id table) (IsLast fill (Some place)) x → IsPlainAt k (table_id table) place (Some (key, value)) x
     → IsLastIn k table fill (Some (record { table = table; place = place; key = key; value = value })) x
 last_some k table fill place key value x is_in low fits last at = (
   refl,
@@ -69,14 +69,14 @@ no_pairs [] e = refl
 no_pairs (pair ∷ pairs) e = absurd (cc)
 
 -- no entry is there
-pub last_none : (k : Shape) (table : Table) (fill : ℕ) (x : Picture) → OfUsed k (name_of table) (IsLast fill None) x → IsLastIn k table fill None x
+pub last_none : (k : Shape) (table : Table) (fill : ℕ) (x : ContainerWords) → OfUsed k (table_id table) (IsLast fill None) x → IsLastIn k table fill None x
 last_none k table fill x last names way used table_is filled dict are is = no_pairs dict.pairs (sym (none_live used fill filled (last names way used table_is filled)) ∙ are.live)
 
 -- an entry of a dict that is there has a value
 plain_live : (e : UsedEntry) (pair : DictPair) → e ≡ used_pair pair → plain_pair e ≡ Some (pair.key, pair.value)
 plain_live e pair is = ap plain_pair is
 
-pub last_odd : LiveEntriesArePairs → (k : Shape) (table : Table) (fill place : ℕ) (x : Picture) → OfUsed k (name_of table) (IsLast fill (Some place)) x → IsPlainAt k (name_of table) place None x → IsLastIn k table fill None x
+pub last_odd : LiveEntriesArePairs → (k : Shape) (table : Table) (fill place : ℕ) (x : ContainerWords) → OfUsed k (table_id table) (IsLast fill (Some place)) x → IsPlainAt k (table_id table) place None x → IsLastIn k table fill None x
 last_odd lives k table fill place x last at names way used table_is filled dict are is =
     let found = last names way used table_is filled in
     let low : place < length used = let less = found.0 in omega (arith, less, filled) in
@@ -86,7 +86,7 @@ last_odd lives k table fill place x last at names way used table_is filled dict 
     absurd (let some = at.0 names way used table_is any low ∙ plain_live e pair.0 pair.1 in cc)
 
 -- whatever was read there
-pub last_found : LiveEntriesArePairs → (k : Shape) (table : Table) (fill place : ℕ) (x : Picture) → IsTableIn k table → (found : Option (Key × Value)) → IfSome found (λ pair. (place < places (class_of (name_of table))) × FitsKey pair.0) → OfUsed k (name_of table) (IsLast fill (Some place)) x → IsPlainAt k (name_of table) place found x
+pub last_found : LiveEntriesArePairs → (k : Shape) (table : Table) (fill place : ℕ) (x : ContainerWords) → IsTableIn k table → (found : Option (Key × Value)) → IfSome found (λ pair. (place < places (class_of (table_id table))) × FitsKey pair.0) → OfUsed k (table_id table) (IsLast fill (Some place)) x → IsPlainAt k (table_id table) place found x
     → IsLastIn k table fill (option_map (λ (pair : Key × Value). record { table = table; place = place; key = pair.0; value = pair.1 }) found) x
 last_found lives k table fill place x is_in None within last at = last_odd lives k table fill place x last at
 last_found lives k table fill place x is_in (Some pair) within last at = last_some k table fill place pair.0 pair.1 x is_in within.0 within.1 last at
@@ -105,11 +105,11 @@ live_plain e p is = by e.stored is
     by (Some s) same = refl
     by None same = absurd (cc)
 
-pub last_of : LiveEntriesArePairs → LastEntriesAreLast → (k : Shape) (table : Table) (fill : ℕ) (found : Option Last) (x : Picture) → root_in x ≡ suc (name_of table) → fill ≡ slice_index x.block 2 → IsLastIn k table fill found x → IsLastOf k found x
+pub last_of : LiveEntriesArePairs → LastEntriesAreLast → (k : Shape) (table : Table) (fill : ℕ) (found : Option Last) (x : ContainerWords) → root_in x ≡ suc (table_id table) → fill ≡ slice_index x.block 2 → IsLastIn k table fill found x → IsLastOf k found x
 last_of lives lasts k table fill None x names filled last =
-    of_dict k (name_of table) fill x (λ used. (dict : DictContent) → AreDictEntries used dict → IsDict dict.next dict.pairs → length dict.pairs ≡ 0) names filled last (IsLastPair k None x) (λ used dict are is holds. holds dict are is)
+    of_dict k (table_id table) fill x (λ used. (dict : DictContent) → AreDictEntries used dict → IsDict dict.next dict.pairs → length dict.pairs ≡ 0) names filled last (IsLastPair k None x) (λ used dict are is holds. holds dict are is)
 last_of lives lasts k table fill (Some last) x names filled is_last =
-    of_dict k (name_of table) fill x (λ used. (fill ≡ length used) × (last.place < fill) × NoneThere (last.place + 1) fill used × ((any : UsedEntry) → plain_pair (slice_index_or used last.place any) ≡ Some (last.key, last.value))) names filled
+    of_dict k (table_id table) fill x (λ used. (fill ≡ length used) × (last.place < fill) × NoneThere (last.place + 1) fill used × ((any : UsedEntry) → plain_pair (slice_index_or used last.place any) ≡ Some (last.key, last.value))) names filled
     (λ named way used is many. let all = is_last.2 named way used is many in (many, all.0, all.1, all.2)) (IsLastPair k (Some last) x)
     (λ used dict are is holds.
     let any : UsedEntry = record { key = last.key; serial = 0; stored = None } in
@@ -121,26 +121,26 @@ last_of lives lasts k table fill (Some last) x names filled is_last =
     let both : Some (pair.0.key, pair.0.value) ≡ Some (last.key, last.value) = sym (plain_live e pair.0 pair.1) ∙ holds.3 any in
     let one : pair.0.key ≡ last.key = ap (λ (z : Option (Key × Value)). (found_in z (last.key, last.value)).0) both in
     let two : pair.0.value ≡ last.value = ap (λ (z : Option (Key × Value)). (found_in z (last.key, last.value)).1) both in (
-      names ∙ ap (λ (t : Table). suc (name_of t)) (sym is_last.0),
+      names ∙ ap (λ (t : Table). suc (table_id t)) (sym is_last.0),
       is_last.1,
       (pair.0.serial, all.0 ∙ (λ i. Some (record { serial = pair.0.serial; key = one i; value = two i }))),
       subst (λ (z : Key). dict_del dict z ≡ without_last dict) one all.1,
     ))
 
-pub last_bare : (k : Shape) (x : Picture) → root_in x ≡ 0 → IsLastOf k None x
+pub last_bare : (k : Shape) (x : ContainerWords) → root_in x ≡ 0 → IsLastOf k None x
 last_bare k x bare = no_dict k x bare (IsLastPair k None x) (λ dict none. ap length none)
 
 -- ---- by a pass with the lock
 
-module _ (k : Shape) (d : ℕ) (v : View) (shape : v.shape ≡ k) (possible : ∥ Possible v ∥₁) (may : MayWriteEntries k d v) (is : kind_in k.starts d ≡ kind.Dict) where
-  low' : d < containers_in v.shape
-  low' = subst (λ (z : Shape). d < containers_in z) (sym shape) may.container
+module _ (k : Shape) (d : ℕ) (v : View) (shape : v.shape ≡ k) (possible : ∥ IsReachable v ∥₁) (may : MayWriteEntries k d v) (is : kind_in k.starts d ≡ kind.Dict) where
+  low' : d < container_count v.shape
+  low' = subst (λ (z : Shape). d < container_count z) (sym shape) may.container
 
-  known_kind : kind_of (known d v).content ≡ kind.Dict
+  known_kind : kind_of (known_state d v).content ≡ kind.Dict
   known_kind = kind_is k v d shape possible may.locked ∙ is
 
   abbrev pairs' : DictContent
-  pairs' = dict_of (known d v).content
+  pairs' = dict_of (known_state d v).content
 
   as_dict : (c : Content) → kind_of c ≡ kind.Dict → c ≡ content.Dict (dict_of c)
   as_dict (content.Dict dict) e = refl
@@ -148,35 +148,35 @@ module _ (k : Shape) (d : ℕ) (v : View) (shape : v.shape ≡ k) (possible : �
   as_dict (content.Deque deque) e = absurd (cc)
   as_dict (content.Set set) e = absurd (cc)
 
-  is_dict' : (known d v).content ≡ content.Dict pairs'
-  is_dict' = as_dict (known d v).content known_kind
+  is_dict' : (known_state d v).content ≡ content.Dict pairs'
+  is_dict' = as_dict (known_state d v).content known_kind
 
-  module _ (last : Last) (found : IsLastOf k (Some last) (held d v)) where
-    here : IsLastPair k (Some last) (held d v) pairs'
-    here = found (known d v) known_kind may.stands
+  module _ (last : Last) (found : IsLastOf k (Some last) (held_words d v)) where
+    here : IsLastPair k (Some last) (held_words d v) pairs'
+    here = found (known_state d v) known_kind may.stands
 
     pub popped_table : HasTable k d last.table v
     popped_table = record { table_in = here.1.table_in; root = here.0 }
 
     pub popped_entry : IsLiveEntry k d last.table last.place last.key v
     popped_entry = record {
-      low = subst (λ (z : Kind). last.place < rows z (class_of (name_of last.table))) (sym is) here.1.low;
+      low = subst (λ (z : Kind). last.place < rows z (class_of (table_id last.table))) (sym is) here.1.low;
       live = here.1.live here.0;
       fits = here.1.fits;
     }
 
-    pub popped_leaves : Leaves d (call.Dict d dict.PopItem) (reply.Pair last.key last.value) (record { content = without_key (known d v).content last.key; table = (known d v).table }) v
+    pub popped_leaves : Leaves d (call.Dict d dict.PopItem) (reply.Pair last.key last.value) (record { content = without_key (known_state d v).content last.key; table = (known_state d v).table }) v
     popped_leaves =
-        let same : record { content = content.Dict (dict_del pairs' last.key); table = (known d v).table } ≡ record { content = without_key (known d v).content last.key; table = (known d v).table } = λ i. record { content = without_key (sym is_dict' i) last.key; table = (known d v).table } in
+        let same : record { content = content.Dict (dict_del pairs' last.key); table = (known_state d v).table } ≡ record { content = without_key (known_state d v).content last.key; table = (known_state d v).table } = λ i. record { content = without_key (sym is_dict' i) last.key; table = (known_state d v).table } in
         subst (λ (z : ContainerState). Leaves d (call.Dict d dict.PopItem) (reply.Pair last.key last.value) z v) same
         (leaves_stay d v pairs' (dict_del pairs' last.key) dict.PopItem (reply.Pair last.key last.value) low' may.locked is_dict' refl refl refl refl refl tt
         (λ stored has.
         ap (λ (z : Option DictPair). option_map_or (λ (pair : DictPair). puts stored.world no_hands d (content.Dict (without_last pairs')) (reply.Pair pair.key pair.value)) z (shows stored.world no_hands (reply.Raised raise.NoKey))) here.2.1
         ∙ ap (λ (z : DictContent). puts stored.world no_hands d (content.Dict z) (reply.Pair last.key last.value)) (sym here.3)))
 
-  module _ (found : IsLastOf k None (held d v)) where
+  module _ (found : IsLastOf k None (held_words d v)) where
     empty : length pairs'.pairs ≡ 0
-    empty = found (known d v) known_kind may.stands
+    empty = found (known_state d v) known_kind may.stands
 
     no_last : (pairs : List DictPair) → length pairs ≡ 0 → slice_get pairs (length pairs - 1) ≡ None
     no_last [] e = refl

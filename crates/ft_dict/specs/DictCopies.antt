@@ -6,7 +6,7 @@ use Rattle.ft_model.specs.TableUses.{copy_takes}
 use Rattle.ft_model.specs.Worlds.{length_of}
 use Rattle.ft_trace.specs.declared.Shape.{Shape}
 use Rattle.ft_trace.specs.declared.View.{View}
-use Rattle.ft_trace.specs.Holds.{known}
+use Rattle.ft_trace.specs.Holds.{known_state}
 use Rattle.ft_growth.specs.declared.adding.Added.{Added}
 use Rattle.ft_replacing.specs.Replacing.{IsReplaced}
 
@@ -14,4 +14,4 @@ use Rattle.ft_replacing.specs.Replacing.{IsReplaced}
 -- as d has, always, or none where d has no pairs. (profile)
 abbrev pub CopiesTo : Shape → ℕ → ℕ → View → View → Added → Type 0
 CopiesTo k d e v w what =
-    IsReplaced k (copy_takes (length_of (known d v).content)) (call.Dict d (dict.CopyTo e)) v w what
+    IsReplaced k (copy_takes (length_of (known_state d v).content)) (call.Dict d (dict.CopyTo e)) v w what

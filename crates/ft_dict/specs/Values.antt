@@ -12,7 +12,7 @@ use Rattle.ft_model.specs.Contents.{dict_get}
 use Rattle.ft_model.specs.Worlds.{dict_of}
 use Rattle.ft_trace.specs.declared.Shape.{Shape}
 use Rattle.ft_trace.specs.declared.View.{View}
-use Rattle.ft_trace.specs.Holds.{known}
+use Rattle.ft_trace.specs.Holds.{known_state}
 use Rattle.ft_growth.specs.declared.adding.Added.{Added}
 use Rattle.ft_adding.specs.KeyGrowth.{PutsKey}
 
@@ -24,5 +24,5 @@ default_reply content key default = reply.Value (unwrap_or (dict_get (dict_of co
 -- what it comes to under the lock, with this reply
 abbrev pub SetsDefault : Shape → ℕ → Key → Value → Reply → View → View → Added → Type 0
 SetsDefault k d key default said v w what =
-    (said ≡ default_reply (known d v).content key default)
+    (said ≡ default_reply (known_state d v).content key default)
     × PutsKey k d key (call.Dict d (dict.SetDefault key default)) said v w what

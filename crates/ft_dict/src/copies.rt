@@ -4,7 +4,7 @@ ghost use Rattle.std.specs.Prelude.{◌≡◌, ◌<◌, false};
 ghost use Rattle.ft_model.specs.declared.reply.Reply.TheVariants as reply;
 ghost use Rattle.ft_model.specs.declared.script.Kind.TheVariants as kind;
 ghost use Rattle.ft_trace.specs.Acts.{flight, used};
-ghost use Rattle.ft_trace.specs.Addresses.{containers_in};
+ghost use Rattle.ft_trace.specs.Addresses.{container_count};
 ghost use Rattle.ft_trace.specs.ContainerStates.{kind_in};
 ghost use Rattle.ft_bank.specs.Passes.{shape_of, view, IsPassOf};
 ghost use Rattle.ft_bank.specs.PassSections.{stack_of};
@@ -57,8 +57,8 @@ pub fn copyto_by(bank: &Bank, pass: &mut Pass, d: Object, e: Object) -> Added
 /// Whatever it answers, the pass has the cursors that it had.
 pub fn try_copyto(bank: &Bank, pass: &mut Pass, d: Object, e: Object) -> Step
     requires may { MayTry bank.now pass.old (Two d e) }
-    requires container { d < containers_in (shape_of bank.now) }
-    requires other { e < containers_in (shape_of bank.now) }
+    requires container { d < container_count (shape_of bank.now) }
+    requires other { e < container_count (shape_of bank.now) }
     requires dict { kind_in (shape_of bank.now).starts d ≡ kind.Dict }
     requires other_dict { kind_in (shape_of bank.now).starts e ≡ kind.Dict }
     requires left { 0 < (view pass.old).left }

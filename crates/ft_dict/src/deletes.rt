@@ -7,8 +7,8 @@ ghost use Rattle.ft_model.specs.declared.call.Call.TheVariants as call;
 ghost use Rattle.ft_model.specs.declared.call.DictCall.TheVariants as dict;
 ghost use Rattle.ft_model.specs.declared.script.Kind.TheVariants as kind;
 ghost use Rattle.ft_trace.specs.Acts.{has_lock};
-ghost use Rattle.ft_trace.specs.Addresses.{containers_in};
-ghost use Rattle.ft_trace.specs.Holds.{known};
+ghost use Rattle.ft_trace.specs.Addresses.{container_count};
+ghost use Rattle.ft_trace.specs.Holds.{known_state};
 ghost use Rattle.ft_trace.specs.ContainerStates.{kind_in};
 ghost use Rattle.ft_bank.specs.KeyHashes.{IsKeyIn};
 ghost use Rattle.ft_bank.specs.Passes.{shape_of, view, IsPassOf};
@@ -35,12 +35,12 @@ pub(crate) fn value_at(
     payload: u64,
 ) -> Value
     requires pass { IsPassOf bank.now pass.now }
-    requires container { d < containers_in (shape_of bank.now) }
+    requires container { d < container_count (shape_of bank.now) }
     requires dict { kind_in (shape_of bank.now).starts d ≡ kind.Dict }
     requires locked { has_lock d (view pass.now).log ≡ true }
     requires key { FitsKey key }
-    requires held { IsHeldAt (known d (view pass.now)).content key (Some (value_kind, payload)) }
-    ensures { HasValue (known d (view pass.now)).content key (Some result) }
+    requires held { IsHeldAt (known_state d (view pass.now)).content key (Some (value_kind, payload)) }
+    ensures { HasValue (known_state d (view pass.now)).content key (Some result) }
 {
     let (_, _, _) = (bank, d, key);
     let Some(value) = value_of(value_kind, payload) else {
@@ -114,7 +114,7 @@ fn write_default(
     requires may { MayWriteEntries (shape_of bank.now) d (view pass.old) }
     requires dict { kind_in (shape_of bank.now).starts d ≡ kind.Dict }
     requires key { FitsKey key }
-    requires none { IsHeldAt (known d (view pass.old)).content key None }
+    requires none { IsHeldAt (known_state d (view pass.old)).content key None }
     ensures pass { IsPassOf bank.now pass.new }
     ensures stack { stack_of pass.new ≡ stack_of pass.old }
     ensures made { MadeAs (call.Dict d (dict.PopOr key default)) result.0 result.1 (view pass.old) (view pass.new) }

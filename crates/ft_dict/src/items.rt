@@ -3,7 +3,7 @@ ghost use Rattle.std.specs.Prelude.{◌≡◌, ◌<◌, length};
 ghost use Rattle.ft_model.specs.declared.call.Call.TheVariants as call;
 ghost use Rattle.ft_model.specs.declared.call.DictCall.TheVariants as dict;
 ghost use Rattle.ft_model.specs.declared.script.Kind.TheVariants as kind;
-ghost use Rattle.ft_trace.specs.Addresses.{containers_in};
+ghost use Rattle.ft_trace.specs.Addresses.{container_count};
 ghost use Rattle.ft_trace.specs.ContainerStates.{kind_in};
 ghost use Rattle.ft_bank.specs.Passes.{shape_of, view, IsPassOf};
 ghost use Rattle.ft_bank.specs.PassSections.{stack_of};
@@ -29,7 +29,7 @@ use std::alloc::Global;
 /// `Moved`.
 pub fn try_items(bank: &Bank, pass: &mut Pass, alloc: Global, d: Object) -> Step
     requires may { MayTry bank.now pass.old (One d) }
-    requires container { d < containers_in (shape_of bank.now) }
+    requires container { d < container_count (shape_of bank.now) }
     requires dict { kind_in (shape_of bank.now).starts d ≡ kind.Dict }
     requires left { 0 < (view pass.old).left }
     ensures may { MayTry bank.now pass.new (One d) }
@@ -47,7 +47,7 @@ pub fn try_items(bank: &Bank, pass: &mut Pass, alloc: Global, d: Object) -> Step
 /// memory for the copy ran out. The pass only loaded words then.
 pub fn look_items(bank: &Bank, pass: &mut Pass, alloc: Global, d: Object) -> Look
     requires pass { IsPassOf bank.now pass.old }
-    requires container { d < containers_in (shape_of bank.now) }
+    requires container { d < container_count (shape_of bank.now) }
     requires dict { kind_in (shape_of bank.now).starts d ≡ kind.Dict }
     requires left { 0 < (view pass.old).left }
     ensures pass { IsPassOf bank.now pass.new }

@@ -5,7 +5,7 @@ ghost use Rattle.ft_model.specs.declared.call.DictCall.TheVariants as dict;
 ghost use Rattle.ft_model.specs.declared.data.Key.{Key};
 ghost use Rattle.ft_model.specs.declared.data.Value.{Value};
 ghost use Rattle.ft_model.specs.declared.script.Kind.TheVariants as kind;
-ghost use Rattle.ft_trace.specs.Addresses.{containers_in};
+ghost use Rattle.ft_trace.specs.Addresses.{container_count};
 ghost use Rattle.ft_trace.specs.ContainerStates.{kind_in};
 ghost use Rattle.ft_bank.specs.Passes.{shape_of, view, IsPassOf};
 ghost use Rattle.ft_bank.specs.PassSections.{stack_of};
@@ -78,7 +78,7 @@ fn last_in(bank: &Bank, pass: &mut Pass, d: Object, table: Table, fill: u64) -> 
 /// The last pair of a dict.
 fn last_pair(bank: &Bank, pass: &mut Pass, d: Object) -> Option<Last>
     requires pass { IsPassOf bank.now pass.old }
-    requires container { d < containers_in (shape_of bank.now) }
+    requires container { d < container_count (shape_of bank.now) }
     ensures pass { IsPassOf bank.now pass.new }
     ensures stack { stack_of pass.new ≡ stack_of pass.old }
     ensures reads { Reads (shape_of bank.now) d (IsLastOf (shape_of bank.now) result) pass.old pass.new }
@@ -126,7 +126,7 @@ pub fn popitem_locked(bank: &Bank, pass: &mut Pass, d: Object) -> (Reply, Stamp)
 /// answers `Moved` or `NoMemory`.
 pub fn try_popitem(bank: &Bank, pass: &mut Pass, d: Object) -> Step
     requires may { MayTry bank.now pass.old (One d) }
-    requires container { d < containers_in (shape_of bank.now) }
+    requires container { d < container_count (shape_of bank.now) }
     requires dict { kind_in (shape_of bank.now).starts d ≡ kind.Dict }
     requires left { 0 < (view pass.old).left }
     ensures may { MayTry bank.now pass.new (One d) }

@@ -4,7 +4,7 @@ ghost use Rattle.std.specs.Prelude.{◌≡◌, ◌<◌};
 ghost use Rattle.ft_model.specs.declared.call.Call.TheVariants as call;
 ghost use Rattle.ft_model.specs.declared.call.DictCall.TheVariants as dict;
 ghost use Rattle.ft_model.specs.declared.script.Kind.TheVariants as kind;
-ghost use Rattle.ft_trace.specs.Addresses.{containers_in};
+ghost use Rattle.ft_trace.specs.Addresses.{container_count};
 ghost use Rattle.ft_trace.specs.ContainerStates.{kind_in};
 ghost use Rattle.ft_bank.specs.Passes.{shape_of, view, IsPassOf};
 ghost use Rattle.ft_bank.specs.PassSections.{stack_of};
@@ -26,7 +26,7 @@ use ft_section::{Look, Object, Step};
 /// answers `NoMemory`.
 pub fn look_len(bank: &Bank, pass: &mut Pass, d: Object) -> Look
     requires pass { IsPassOf bank.now pass.old }
-    requires container { d < containers_in (shape_of bank.now) }
+    requires container { d < container_count (shape_of bank.now) }
     requires dict { kind_in (shape_of bank.now).starts d ≡ kind.Dict }
     requires left { 0 < (view pass.old).left }
     ensures pass { IsPassOf bank.now pass.new }
@@ -48,7 +48,7 @@ pub fn look_len(bank: &Bank, pass: &mut Pass, d: Object) -> Look
 /// never answers `Moved` or `NoMemory`.
 pub fn try_len(bank: &Bank, pass: &mut Pass, d: Object) -> Step
     requires may { MayTry bank.now pass.old (One d) }
-    requires container { d < containers_in (shape_of bank.now) }
+    requires container { d < container_count (shape_of bank.now) }
     requires dict { kind_in (shape_of bank.now).starts d ≡ kind.Dict }
     requires left { 0 < (view pass.old).left }
     ensures may { MayTry bank.now pass.new (One d) }

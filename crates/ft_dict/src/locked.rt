@@ -6,9 +6,9 @@ ghost use Rattle.ft_model.specs.declared.call.DictCall.TheVariants as dict;
 ghost use Rattle.ft_model.specs.declared.script.Kind.TheVariants as kind;
 ghost use Rattle.ft_trace.specs.declared.Act.{Act};
 ghost use Rattle.ft_trace.specs.Acts.{has_lock};
-ghost use Rattle.ft_trace.specs.Addresses.{containers_in};
-ghost use Rattle.ft_trace.specs.Holds.{held, known};
-ghost use Rattle.ft_trace.specs.Pictures.{Stands};
+ghost use Rattle.ft_trace.specs.Addresses.{container_count};
+ghost use Rattle.ft_trace.specs.Holds.{held_words, known_state};
+ghost use Rattle.ft_trace.specs.Pictures.{Represents};
 ghost use Rattle.ft_trace.specs.ContainerStates.{kind_in};
 ghost use Rattle.ft_bank.specs.Answered.{Answered};
 ghost use Rattle.ft_bank.specs.KeyHashes.{IsKeyIn};
@@ -28,17 +28,17 @@ use ft_section::{Object, Stamp};
 /// The value at a key of a dict whose lock the pass has.
 fn value_locked(bank: &Bank, pass: &mut Pass, d: Object, key: Key) -> Option<Value>
     requires pass { IsPassOf bank.now pass.old }
-    requires container { d < containers_in (shape_of bank.now) }
+    requires container { d < container_count (shape_of bank.now) }
     requires dict { kind_in (shape_of bank.now).starts d ≡ kind.Dict }
     requires key { IsKeyIn (shape_of bank.now) key }
     requires locked { has_lock d (view pass.old).log ≡ true }
-    requires stands { Stands (shape_of bank.now).texts (held d (view pass.old)) (known d (view pass.old)) }
+    requires stands { Represents (shape_of bank.now).texts (held_words d (view pass.old)) (known_state d (view pass.old)) }
     ensures pass { IsPassOf bank.now pass.new }
     ensures sections { stack_of pass.new ≡ stack_of pass.old }
     ensures key { FitsKey key }
     ensures keeps { OnlyLoaded (view pass.old) (view pass.new) }
     ensures loads { (part : List Act) × ((view pass.new).log ≡ part ++ (view pass.old).log) }
-    ensures value { HasValue (known d (view pass.old)).content key result }
+    ensures value { HasValue (known_state d (view pass.old)).content key result }
 {
     match read_key(bank, pass, d, Way::Dict, key) {
         Some((kind, payload)) => {
@@ -56,11 +56,11 @@ fn value_locked(bank: &Bank, pass: &mut Pass, d: Object, key: Key) -> Option<Val
 /// Types). The counter is loaded while it has the lock.
 pub(crate) fn get_locked(bank: &Bank, pass: &mut Pass, d: Object, key: Key) -> (Reply, Stamp)
     requires pass { IsPassOf bank.now pass.old }
-    requires container { d < containers_in (shape_of bank.now) }
+    requires container { d < container_count (shape_of bank.now) }
     requires dict { kind_in (shape_of bank.now).starts d ≡ kind.Dict }
     requires key { IsKeyIn (shape_of bank.now) key }
     requires locked { has_lock d (view pass.old).log ≡ true }
-    requires stands { Stands (shape_of bank.now).texts (held d (view pass.old)) (known d (view pass.old)) }
+    requires stands { Represents (shape_of bank.now).texts (held_words d (view pass.old)) (known_state d (view pass.old)) }
     requires left { 0 < (view pass.old).left }
     ensures pass { IsPassOf bank.now pass.new }
     ensures sections { stack_of pass.new ≡ stack_of pass.old }
@@ -85,11 +85,11 @@ pub(crate) fn getd_locked(
     default: Value,
 ) -> (Reply, Stamp)
     requires pass { IsPassOf bank.now pass.old }
-    requires container { d < containers_in (shape_of bank.now) }
+    requires container { d < container_count (shape_of bank.now) }
     requires dict { kind_in (shape_of bank.now).starts d ≡ kind.Dict }
     requires key { IsKeyIn (shape_of bank.now) key }
     requires locked { has_lock d (view pass.old).log ≡ true }
-    requires stands { Stands (shape_of bank.now).texts (held d (view pass.old)) (known d (view pass.old)) }
+    requires stands { Represents (shape_of bank.now).texts (held_words d (view pass.old)) (known_state d (view pass.old)) }
     requires left { 0 < (view pass.old).left }
     ensures pass { IsPassOf bank.now pass.new }
     ensures sections { stack_of pass.new ≡ stack_of pass.old }

@@ -5,7 +5,7 @@ ghost use Rattle.ft_model.specs.declared.call.Call.TheVariants as call;
 ghost use Rattle.ft_model.specs.declared.call.DictCall.TheVariants as dict;
 ghost use Rattle.ft_model.specs.declared.script.Kind.TheVariants as kind;
 ghost use Rattle.ft_trace.specs.Acts.{announces};
-ghost use Rattle.ft_trace.specs.Addresses.{containers_in};
+ghost use Rattle.ft_trace.specs.Addresses.{container_count};
 ghost use Rattle.ft_trace.specs.LookReplies.{key_reply};
 ghost use Rattle.ft_trace.specs.ContainerStates.{kind_in};
 ghost use Rattle.ft_bank.specs.KeyHashes.{IsKeyIn};
@@ -46,7 +46,7 @@ pub(crate) fn reply_of(found: Option<Value>) -> Reply
 #[inline(always)]
 fn find_value(bank: &Bank, pass: &mut Pass, d: Object, key: Key) -> AtKey
     requires pass { IsPassOf bank.now pass.old }
-    requires container { d < containers_in (shape_of bank.now) }
+    requires container { d < container_count (shape_of bank.now) }
     requires dict { kind_in (shape_of bank.now).starts d ≡ kind.Dict }
     requires key { IsKeyIn (shape_of bank.now) key }
     requires online { 0 < announces (view pass.old).log }
@@ -77,7 +77,7 @@ fn find_value(bank: &Bank, pass: &mut Pass, d: Object, key: Key) -> AtKey
 #[inline(always)]
 pub fn look_get(bank: &Bank, pass: &mut Pass, d: Object, key: Key) -> Look
     requires pass { IsPassOf bank.now pass.old }
-    requires container { d < containers_in (shape_of bank.now) }
+    requires container { d < container_count (shape_of bank.now) }
     requires dict { kind_in (shape_of bank.now).starts d ≡ kind.Dict }
     requires key { IsKeyIn (shape_of bank.now) key }
     requires online { 0 < announces (view pass.old).log }
@@ -105,7 +105,7 @@ pub fn look_get(bank: &Bank, pass: &mut Pass, d: Object, key: Key) -> Look
 /// Those of [`look_get`].
 pub fn look_getd(bank: &Bank, pass: &mut Pass, d: Object, key: Key, default: Value) -> Look
     requires pass { IsPassOf bank.now pass.old }
-    requires container { d < containers_in (shape_of bank.now) }
+    requires container { d < container_count (shape_of bank.now) }
     requires dict { kind_in (shape_of bank.now).starts d ≡ kind.Dict }
     requires key { IsKeyIn (shape_of bank.now) key }
     requires online { 0 < announces (view pass.old).log }
@@ -135,7 +135,7 @@ pub fn look_getd(bank: &Bank, pass: &mut Pass, d: Object, key: Key, default: Val
 /// Those of [`look_get`].
 pub fn look_has(bank: &Bank, pass: &mut Pass, d: Object, key: Key) -> Look
     requires pass { IsPassOf bank.now pass.old }
-    requires container { d < containers_in (shape_of bank.now) }
+    requires container { d < container_count (shape_of bank.now) }
     requires dict { kind_in (shape_of bank.now).starts d ≡ kind.Dict }
     requires key { IsKeyIn (shape_of bank.now) key }
     requires online { 0 < announces (view pass.old).log }

@@ -3,7 +3,7 @@ ghost use Rattle.std.specs.Prelude.{◌≡◌, ◌<◌};
 ghost use Rattle.ft_model.specs.declared.call.Call.TheVariants as call;
 ghost use Rattle.ft_model.specs.declared.call.DictCall.TheVariants as dict;
 ghost use Rattle.ft_model.specs.declared.script.Kind.TheVariants as kind;
-ghost use Rattle.ft_trace.specs.Addresses.{containers_in};
+ghost use Rattle.ft_trace.specs.Addresses.{container_count};
 ghost use Rattle.ft_trace.specs.ContainerStates.{kind_in};
 ghost use Rattle.ft_bank.specs.KeyHashes.{IsKeyIn};
 ghost use Rattle.ft_bank.specs.Passes.{shape_of, view};
@@ -27,7 +27,7 @@ use ft_section::{Got, Object, Objects, Step, let_go, take_for};
 /// next. It never answers `Moved` or `NoMemory`.
 pub fn try_get(bank: &Bank, pass: &mut Pass, d: Object, key: Key) -> Step
     requires may { MayTry bank.now pass.old (One d) }
-    requires container { d < containers_in (shape_of bank.now) }
+    requires container { d < container_count (shape_of bank.now) }
     requires dict { kind_in (shape_of bank.now).starts d ≡ kind.Dict }
     requires key { IsKeyIn (shape_of bank.now) key }
     requires left { 0 < (view pass.old).left }
@@ -53,7 +53,7 @@ pub fn try_get(bank: &Bank, pass: &mut Pass, d: Object, key: Key) -> Step
 /// next. It never answers `Moved` or `NoMemory`.
 pub fn try_getd(bank: &Bank, pass: &mut Pass, d: Object, key: Key, default: Value) -> Step
     requires may { MayTry bank.now pass.old (One d) }
-    requires container { d < containers_in (shape_of bank.now) }
+    requires container { d < container_count (shape_of bank.now) }
     requires dict { kind_in (shape_of bank.now).starts d ≡ kind.Dict }
     requires key { IsKeyIn (shape_of bank.now) key }
     requires left { 0 < (view pass.old).left }
@@ -79,7 +79,7 @@ pub fn try_getd(bank: &Bank, pass: &mut Pass, d: Object, key: Key, default: Valu
 /// next. It never answers `Moved` or `NoMemory`.
 pub fn try_has(bank: &Bank, pass: &mut Pass, d: Object, key: Key) -> Step
     requires may { MayTry bank.now pass.old (One d) }
-    requires container { d < containers_in (shape_of bank.now) }
+    requires container { d < container_count (shape_of bank.now) }
     requires dict { kind_in (shape_of bank.now).starts d ≡ kind.Dict }
     requires key { IsKeyIn (shape_of bank.now) key }
     requires left { 0 < (view pass.old).left }

@@ -7,7 +7,7 @@ ghost use Rattle.ft_model.specs.declared.reply.Reply.{Reply};
 ghost use Rattle.ft_model.specs.declared.reply.Reply.TheVariants as reply;
 ghost use Rattle.ft_model.specs.declared.script.Kind.TheVariants as kind;
 ghost use Rattle.ft_trace.specs.Acts.{flight, used};
-ghost use Rattle.ft_trace.specs.Addresses.{containers_in};
+ghost use Rattle.ft_trace.specs.Addresses.{container_count};
 ghost use Rattle.ft_trace.specs.ContainerStates.{kind_in};
 ghost use Rattle.ft_bank.specs.KeyHashes.{IsKeyIn};
 ghost use Rattle.ft_bank.specs.Passes.{shape_of, view, IsPassOf};
@@ -166,7 +166,7 @@ pub fn setdefault_by(
 #[inline(always)]
 pub fn try_set(bank: &Bank, pass: &mut Pass, d: Object, key: Key, value: Value) -> Step
     requires may { MayTry bank.now pass.old (One d) }
-    requires container { d < containers_in (shape_of bank.now) }
+    requires container { d < container_count (shape_of bank.now) }
     requires dict { kind_in (shape_of bank.now).starts d ≡ kind.Dict }
     requires key { IsKeyIn (shape_of bank.now) key }
     requires left { 0 < (view pass.old).left }
@@ -194,7 +194,7 @@ pub fn try_set(bank: &Bank, pass: &mut Pass, d: Object, key: Key, value: Value) 
 /// As those of [`try_set`].
 pub fn try_setdefault(bank: &Bank, pass: &mut Pass, d: Object, key: Key, default: Value) -> Step
     requires may { MayTry bank.now pass.old (One d) }
-    requires container { d < containers_in (shape_of bank.now) }
+    requires container { d < container_count (shape_of bank.now) }
     requires dict { kind_in (shape_of bank.now).starts d ≡ kind.Dict }
     requires key { IsKeyIn (shape_of bank.now) key }
     requires left { 0 < (view pass.old).left }

@@ -7,7 +7,7 @@ use Rattle.ft_trace.specs.declared.Act.TheVariants.{ReadCounter, TakeFloor}
 use Rattle.ft_trace.specs.declared.Shape.{Shape}
 use Rattle.ft_trace.specs.declared.Snap.{Snap}
 use Rattle.ft_trace.specs.declared.View.{View}
-use Rattle.ft_trace.specs.Acts.{announces, both, floor_known, floor_words, has_lock, note, noted, seen_writes, sender, shown}
+use Rattle.ft_trace.specs.Acts.{announces, both, floor_known, floor_words, has_lock, note, view_after, seen_writes, sender, shown}
 use Rattle.ft_trace.specs.Floors.{at_floor}
 use Rattle.ft_trace.specs.Traces.{IsFree, IsQuiet}
 use Rattle.ft_trace.proofs.Cases.{here}
@@ -47,10 +47,10 @@ seen_given v t =
     le_trans (le_trans (le-max_left t.learnt (shown t.log)) (le-max_right v.learnt theirs)) (le-max_left (max v.learnt theirs) (shown v.log))
 
 -- the pass has taken tokens
-pub gathered_steady : (v t : View) (n : ℕ) → t ≡ slip_with t.tokens t.learnt t.floor → IsStill v → IsSteady v (noted (ReadCounter n) (both v t))
+pub gathered_steady : (v t : View) (n : ℕ) → t ≡ slip_with t.tokens t.learnt t.floor → IsStill v → IsSteady v (view_after (ReadCounter n) (both v t))
 gathered_steady v t n blank s =
     let u = slip_with t.tokens t.learnt t.floor in
-    subst (λ (z : View). IsSteady v (noted (ReadCounter n) (both v z))) (sym blank)
+    subst (λ (z : View). IsSteady v (view_after (ReadCounter n) (both v z))) (sym blank)
     (record {
       number = refl;
       next = refl;
@@ -68,7 +68,7 @@ gathered_steady v t n blank s =
     })
 
 -- it has taken the floor
-pub floored_steady : (v : View) (n : ℕ) (snap : Snap) → IsStill v → IsSteady v (noted (TakeFloor n snap) v)
+pub floored_steady : (v : View) (n : ℕ) (snap : Snap) → IsStill v → IsSteady v (view_after (TakeFloor n snap) v)
 floored_steady v n snap s = record {
   number = refl;
   next = refl;
@@ -86,10 +86,10 @@ floored_steady v n snap s = record {
 }
 
 -- it had given its tokens away, has taken others, and the floor
-pub woken_steady : (v t : View) (k n : ℕ) (snap : Snap) → t ≡ slip_with t.tokens t.learnt t.floor → IsStill v → IsSteady v (noted (TakeFloor n snap) (both (sender k v) t))
+pub woken_steady : (v t : View) (k n : ℕ) (snap : Snap) → t ≡ slip_with t.tokens t.learnt t.floor → IsStill v → IsSteady v (view_after (TakeFloor n snap) (both (sender k v) t))
 woken_steady v t k n snap blank s =
     let u = slip_with t.tokens t.learnt t.floor in
-    subst (λ (z : View). IsSteady v (noted (TakeFloor n snap) (both (sender k v) z))) (sym blank)
+    subst (λ (z : View). IsSteady v (view_after (TakeFloor n snap) (both (sender k v) z))) (sym blank)
     (record {
       number = refl;
       next = refl;
@@ -144,9 +144,9 @@ hands_all k c t shape is has =
 
 -- ---- waking
 
-module _ (e : Engine) (c : Caller) (r : RestingCaller) (t : Tokens) (d : Caller) (n : ℕ) (snap : Snap) (is : IsCallerOf e c) (at_rest : RestsAs c r) (seen : view d.pass ≡ noted (TakeFloor n snap) (both (rests r.pass) (carried t))) (stack : stack_of d.pass ≡ stack_at_rest r.pass) (same : HasSame c d) where
-  woken_view : view d.pass ≡ noted (TakeFloor n snap) (both (sender (view c.pass).tokens (view c.pass)) (carried t))
-  woken_view = seen ∙ ap (λ (z : View). noted (TakeFloor n snap) (both z (carried t))) at_rest.pass
+module _ (e : Engine) (c : Caller) (r : RestingCaller) (t : Tokens) (d : Caller) (n : ℕ) (snap : Snap) (is : IsCallerOf e c) (at_rest : RestsAs c r) (seen : view d.pass ≡ view_after (TakeFloor n snap) (both (rests r.pass) (carried t))) (stack : stack_of d.pass ≡ stack_at_rest r.pass) (same : HasSame c d) where
+  woken_view : view d.pass ≡ view_after (TakeFloor n snap) (both (sender (view c.pass).tokens (view c.pass)) (carried t))
+  woken_view = seen ∙ ap (λ (z : View). view_after (TakeFloor n snap) (both z (carried t))) at_rest.pass
 
   woken_is_steady : IsSteady (view c.pass) (view d.pass)
   woken_is_steady = subst (IsSteady (view c.pass)) (sym woken_view) (woken_steady (view c.pass) (carried t) (view c.pass).tokens n snap t.blank (still_of e c is))
@@ -160,7 +160,7 @@ module _ (e : Engine) (c : Caller) (r : RestingCaller) (t : Tokens) (d : Caller)
   pub woken_before : IsAsBefore c d
   woken_before = as_before c d same woken_stack woken_is_steady (ap (λ (z : View). announces z.log) woken_view)
 
-pub woken_has : (r : View) (t : Tokens) (d : Caller) (n : ℕ) (snap : Snap) → view d.pass ≡ noted (TakeFloor n snap) (both r (carried t)) → ((carried t).floor ≢ [] → snap.words ≡ (carried t).floor) → IsWoken t d
+pub woken_has : (r : View) (t : Tokens) (d : Caller) (n : ℕ) (snap : Snap) → view d.pass ≡ view_after (TakeFloor n snap) (both r (carried t)) → ((carried t).floor ≢ [] → snap.words ≡ (carried t).floor) → IsWoken t d
 woken_has r t d n snap is brought =
     let now : floor_words (view d.pass).shape (view d.pass).number (view d.pass).log ≡ snap.words = ap (λ (z : View). floor_words z.shape z.number z.log) is in
     record {
@@ -187,7 +187,7 @@ rest_free e c r is at_rest done =
     let offline = sym (ap (λ (z : View). announces z.log) at_rest.pass) ∙ done.offline in
     subst IsFree (sym at_rest.pass) (locks, s.hands, s.used, s.flight, s.owes, offline)
 
-pub rest_in : (v w : View) (c : Caller) (r : RestingCaller) (n : ℕ) → RestsAs c r → w ≡ noted (ReadCounter n) (both v (rests r.pass)) → TakesIn v (view c.pass) w
+pub rest_in : (v w : View) (c : Caller) (r : RestingCaller) (n : ℕ) → RestsAs c r → w ≡ view_after (ReadCounter n) (both v (rests r.pass)) → TakesIn v (view c.pass) w
 rest_in v w c r n at_rest is =
     let u = view c.pass in
-    subst (TakesIn v u) (sym (is ∙ ap (λ (z : View). noted (ReadCounter n) (both v z)) at_rest.pass)) (record { number = refl; entries = refl; lists = refl; had = refl; found = refl; cursors = λ k. refl })
+    subst (TakesIn v u) (sym (is ∙ ap (λ (z : View). view_after (ReadCounter n) (both v z)) at_rest.pass)) (record { number = refl; entries = refl; lists = refl; had = refl; found = refl; cursors = λ k. refl })

@@ -8,7 +8,7 @@ use Rattle.ft_trace.specs.declared.Act.TheVariants.{ReadCounter}
 use Rattle.ft_trace.specs.declared.Entry.{Entry}
 use Rattle.ft_trace.specs.declared.Owner.{Owner}
 use Rattle.ft_trace.specs.declared.View.{View}
-use Rattle.ft_trace.specs.Acts.{all_lists, both, lists_of, noted}
+use Rattle.ft_trace.specs.Acts.{all_lists, both, lists_of, view_after}
 use Rattle.ft_trace.specs.Hands.{cursor_in}
 use Rattle.ft_trace.specs.Owners.{AreOwners, found_owners, had_locks, is_owner_in}
 use Rattle.ft_trace.proofs.Cases.{miss}
@@ -123,7 +123,7 @@ pub record TakesIn (v u w : View) : Type 0 where
   pub found : found_owners w.log ≡ found_owners u.log ++ found_owners v.log
   pub cursors : (k : ℕ) → cursor_in k w.log ≡ cursor_in k v.log
 
-pub joined_in : (v u w : View) (n : ℕ) → w ≡ noted (ReadCounter n) (both v u) → TakesIn v u w
+pub joined_in : (v u w : View) (n : ℕ) → w ≡ view_after (ReadCounter n) (both v u) → TakesIn v u w
 joined_in v u w n is = subst (TakesIn v u) (sym is) (record { number = refl; entries = refl; lists = refl; had = refl; found = refl; cursors = λ k. refl })
 
 module _ (c d other : Caller) (m : List NamedEntry) (mine theirs : List (List NamedEntry)) (is : TakesIn (view c.pass) (view other.pass) (view d.pass)) (stack : stack_of d.pass ≡ stack_of c.pass) (flies : d.flight ≡ c.flight) (live : (view other.pass).number ≢ 0) (are : WereAnswered c (m ∷ mine)) (more : WereAnswered other theirs) (next : thread_of other ≡ thread_of c + length (m ∷ mine)) where

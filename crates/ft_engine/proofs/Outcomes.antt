@@ -9,7 +9,7 @@ use Rattle.ft_trace.specs.declared.Act.TheVariants.{Answer, PutHeader, Retire}
 use Rattle.ft_trace.specs.declared.Entry.{Entry}
 use Rattle.ft_trace.specs.declared.Shape.{Shape}
 use Rattle.ft_trace.specs.declared.View.{View}
-use Rattle.ft_trace.specs.Acts.{announces, noted, seen_writes}
+use Rattle.ft_trace.specs.Acts.{announces, view_after, seen_writes}
 use Rattle.ft_trace.specs.Floors.{at_floor}
 use Rattle.ft_trace.specs.Hands.{cursor_in}
 use Rattle.ft_trace.proofs.Seeing.{seen_up}
@@ -157,7 +157,7 @@ retired_nothing zero v w is = subst (MakesNoEntry v) (sym is) (record { pass = r
 retired_nothing (suc t) v w (n, is) =
     subst (MakesNoEntry v) (sym is)
     (record {
-      pass = record { number = refl; next = refl; parts = refl; shape = refl; lists = refl; online = λ on. on; floor = refl; since = refl; seen = le_trans (seen_up (Retire t n) v) (seen_up (PutHeader t (n + 1)) (noted (Retire t n) v)) };
+      pass = record { number = refl; next = refl; parts = refl; shape = refl; lists = refl; online = λ on. on; floor = refl; since = refl; seen = le_trans (seen_up (Retire t n) v) (seen_up (PutHeader t (n + 1)) (view_after (Retire t n) v)) };
       entries = refl;
       left = refl;
       cursors = λ number. refl;

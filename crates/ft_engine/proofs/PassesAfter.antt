@@ -5,14 +5,14 @@ use Rattle.std.proofs.Math.Nat.{le-max_left, le-max_right, max-le}
 use Rattle.ft_trace.specs.declared.Act.TheVariants.{Announce, ReadCounter, WriteNumber}
 use Rattle.ft_trace.specs.declared.Shape.{Shape}
 use Rattle.ft_trace.specs.declared.View.{View}
-use Rattle.ft_trace.specs.Acts.{both, hands_over, has_lock, is_handed, noted, seen_writes, shown, stage}
-use Rattle.ft_trace.specs.Addresses.{containers_in}
+use Rattle.ft_trace.specs.Acts.{both, hands_over, has_lock, is_handed, view_after, seen_writes, shown, stage}
+use Rattle.ft_trace.specs.Addresses.{container_count}
 use Rattle.ft_trace.specs.Floors.{at_floor}
 use Rattle.ft_trace.specs.Hands.{cursor_in}
-use Rattle.ft_trace.specs.Holds.{held, known}
+use Rattle.ft_trace.specs.Holds.{held_words, known_state}
 use Rattle.ft_trace.specs.Owners.{SameOwners}
 use Rattle.ft_trace.specs.BegunSections.{begun}
-use Rattle.ft_trace.specs.Pictures.{Picture, Stands}
+use Rattle.ft_trace.specs.Pictures.{ContainerWords, Represents}
 use Rattle.ft_trace.specs.ContainerStates.{ContainerState}
 use Rattle.ft_trace.proofs.Owning.{owners_then}
 use Rattle.ft_trace.proofs.Seeing.{seen_up}
@@ -131,16 +131,16 @@ calm_then u v w a b = record {
 }
 
 -- what stands of locks stands where the pass knows the same
-stands_by : (v w : View) → IsStill v → w.shape ≡ v.shape → ((o : ℕ) → has_lock o w.log ≡ has_lock o v.log) → ((o : ℕ) → o < containers_in v.shape → has_lock o v.log ≡ true → (held o w ≡ held o v) × (known o w ≡ known o v)) → (o : ℕ) → o < containers_in w.shape → has_lock o w.log ≡ true → Stands w.shape.texts (held o w) (known o w)
+stands_by : (v w : View) → IsStill v → w.shape ≡ v.shape → ((o : ℕ) → has_lock o w.log ≡ has_lock o v.log) → ((o : ℕ) → o < container_count v.shape → has_lock o v.log ≡ true → (held_words o w ≡ held_words o v) × (known_state o w ≡ known_state o v)) → (o : ℕ) → o < container_count w.shape → has_lock o w.log ≡ true → Represents w.shape.texts (held_words o w) (known_state o w)
 stands_by v w s shape locks words o low has =
-    let low' : o < containers_in v.shape = subst (λ (k : Shape). o < containers_in k) shape low in
+    let low' : o < container_count v.shape = subst (λ (k : Shape). o < container_count k) shape low in
     let had : has_lock o v.log ≡ true = sym (locks o) ∙ has in
     let e = words o low' had in
-    subst (λ (x : Shape × Picture × ContainerState). Stands x.0.texts x.1 x.2) (λ d. (sym shape d, sym e.0 d, sym e.1 d)) (s.stands o low' had)
+    subst (λ (x : Shape × ContainerWords × ContainerState). Represents x.0.texts x.1 x.2) (λ d. (sym shape d, sym e.0 d, sym e.1 d)) (s.stands o low' had)
 
 -- ---- one step
 
-pub counted_calm : (v : View) (n : ℕ) → IsStill v → IsCalm v (noted (ReadCounter n) v)
+pub counted_calm : (v : View) (n : ℕ) → IsStill v → IsCalm v (view_after (ReadCounter n) v)
 counted_calm v n s = record {
   number = refl;
   next = refl;
@@ -159,7 +159,7 @@ counted_calm v n s = record {
   still = record { even = s.even; hands = s.hands; used = s.used; owes = s.owes; flight = s.flight; stands = s.stands };
 }
 
-pub offline_calm : (v : View) (m : ℕ) → IsStill v → IsCalm v (noted (Announce m 0) v)
+pub offline_calm : (v : View) (m : ℕ) → IsStill v → IsCalm v (view_after (Announce m 0) v)
 offline_calm v m s = record {
   number = refl;
   next = refl;
@@ -231,7 +231,7 @@ same_calm v s = record {
 }
 
 -- it has learnt a note
-pub learnt_calm : (v : View) (m n : ℕ) → IsStill v → IsCalm v (noted (ReadCounter n) (knowing m v))
+pub learnt_calm : (v : View) (m n : ℕ) → IsStill v → IsCalm v (view_after (ReadCounter n) (knowing m v))
 learnt_calm v m n s = record {
   number = refl;
   next = refl;
@@ -255,10 +255,10 @@ over_or_was : (b : Bool) (n : ℕ) → (n ≡ 0) ⊎ (n ≡ 4) → (cond b 4 n �
 over_or_was true n was = inr refl
 over_or_was false n was = was
 
-pub joined_still : (v u : View) (n : ℕ) → IsStill v → IsStill (noted (ReadCounter n) (both v u))
+pub joined_still : (v u : View) (n : ℕ) → IsStill v → IsStill (view_after (ReadCounter n) (both v u))
 joined_still v u n s = record { even = s.even; hands = λ t. over_or_was (is_handed t (hands_over u.log)) (stage t v.log) (s.hands t); used = s.used; owes = s.owes; flight = s.flight; stands = s.stands }
 
-pub ready_joined : (b : Bank) (p q : Pass) (u : View) (n : ℕ) → IsReady b p → IsPassOf b q → stack_of q ≡ stack_of p → view q ≡ noted (ReadCounter n) (both (view p) u) → IsReady b q
+pub ready_joined : (b : Bank) (p q : Pass) (u : View) (n : ℕ) → IsReady b p → IsPassOf b q → stack_of q ≡ stack_of p → view q ≡ view_after (ReadCounter n) (both (view p) u) → IsReady b q
 ready_joined b p q u n r pass stack is =
     let v = view p in
     let locks : (o : ℕ) → has_lock o (view q).log ≡ has_lock o v.log = λ o. ap (λ (z : View). has_lock o z.log) is in
@@ -272,7 +272,7 @@ ready_joined b p q u n r pass stack is =
     }
 
 -- it has announced anew and collected
-pub enters_calm : (v : View) (n m : ℕ) → IsStill v → IsCalm v (noted (Announce m n) (noted (WriteNumber n) v))
+pub enters_calm : (v : View) (n m : ℕ) → IsStill v → IsCalm v (view_after (Announce m n) (view_after (WriteNumber n) v))
 enters_calm v n m s = record {
   number = refl;
   next = refl;
@@ -287,11 +287,11 @@ enters_calm v n m s = record {
   floor = refl;
   since = refl;
   owners = record { had = refl; found = refl };
-  seen = le_trans (seen_up (WriteNumber n) v) (seen_up (Announce m n) (noted (WriteNumber n) v));
+  seen = le_trans (seen_up (WriteNumber n) v) (seen_up (Announce m n) (view_after (WriteNumber n) v));
   still = record { even = s.even; hands = s.hands; used = s.used; owes = s.owes; flight = s.flight; stands = s.stands };
 }
 
-pub quiesced_calm : (v w : View) → IsStill v → (n : ℕ) × (freed : ℕ) × Collected (noted (Announce v.number n) (noted (WriteNumber n) v)) w freed → IsCalm v w
+pub quiesced_calm : (v w : View) → IsStill v → (n : ℕ) × (freed : ℕ) × Collected (view_after (Announce v.number n) (view_after (WriteNumber n) v)) w freed → IsCalm v w
 quiesced_calm v w s (n, freed, collected) =
     let first = enters_calm v n v.number s in
-    calm_then v (noted (Announce v.number n) (noted (WriteNumber n) v)) w first (collected_calm (noted (Announce v.number n) (noted (WriteNumber n) v)) w freed first.still collected)
+    calm_then v (view_after (Announce v.number n) (view_after (WriteNumber n) v)) w first (collected_calm (view_after (Announce v.number n) (view_after (WriteNumber n) v)) w freed first.still collected)

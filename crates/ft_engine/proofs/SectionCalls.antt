@@ -12,7 +12,7 @@ use Rattle.ft_model.specs.Histories.{IsCountedAs}
 use Rattle.ft_trace.specs.declared.Act.TheVariants.{Answer, ReadCounter}
 use Rattle.ft_trace.specs.declared.Entry.{Entry}
 use Rattle.ft_trace.specs.declared.View.{View}
-use Rattle.ft_trace.specs.Acts.{announces, has_lock, noted, seen_writes}
+use Rattle.ft_trace.specs.Acts.{announces, has_lock, view_after, seen_writes}
 use Rattle.ft_trace.specs.Floors.{at_floor}
 use Rattle.ft_trace.specs.Hands.{cursor_in}
 use Rattle.ft_trace.specs.BegunSections.{begun}
@@ -106,7 +106,7 @@ answered_pass called said n v = record {
   online = λ on. on;
   floor = refl;
   since = refl;
-  seen = le_trans (seen_up (ReadCounter n) v) (seen_up (Answer called said n) (noted (ReadCounter n) v));
+  seen = le_trans (seen_up (ReadCounter n) v) (seen_up (Answer called said n) (view_after (ReadCounter n) v));
 }
 
 answered_entries : (called : Call) (said : Reply) (stamp : Stamp) (v : View) → stamp.wrote ≡ false → (answered_view called said stamp.number v).entries ≡ made_entry called said stamp ∷ v.entries

@@ -16,7 +16,7 @@ use Rattle.ft_trace.specs.declared.Shape.{Shape}
 use Rattle.ft_trace.specs.declared.View.{View}
 use Rattle.ft_trace.specs.Acts.{is_writing}
 use Rattle.ft_trace.specs.Kinds.{IsItems, IsKeyed}
-use Rattle.ft_trace.specs.Traces.{Possible}
+use Rattle.ft_trace.specs.Traces.{IsReachable}
 use Rattle.ft_bank.specs.declared.bank.Bank.{Bank}
 use Rattle.ft_bank.specs.declared.pass.Pass.{Pass}
 use Rattle.ft_bank.specs.Passes.{shape_of, view}
@@ -39,7 +39,7 @@ StandsWithFloor v (Some (look.Done said stamp)) = Unit {0}
 StandsWithFloor v (Some look.NoMemory) = Unit {0}
 StandsWithFloor v None = Unit {0}
 
-module _ (w : View) (part : List Act) (p : Possible w) (l : LooksWithFloor w part) where
+module _ (w : View) (part : List Act) (p : IsReachable w) (l : LooksWithFloor w part) where
   one_stands : (kind : Kind) (o : ℕ) (other : Option ℕ) (a b : ℕ) → AreOfKindIn w.shape kind o other → StopsAtOne o other a b part → ⊥
   one_stands kind o None a b are stops = floor_versions_stand w part p l o a b are.0.0 stops
   one_stands kind o (Some m) a b are stops =
@@ -74,14 +74,14 @@ module _ (called : Call) (p q : Pass) (a b : ℕ) (still : (o : ℕ) → is_writ
   with_floor : (view p).has_floor ≡ true → LooksWithFloor (view q) x.0
   with_floor has = record { older = (view p).log; is = x.1; looks = x.4; floor = x.2.work.pass.floor ∙ has; still = λ o. x.2.work.pass.writes o ∙ still o }
 
-  pub never_contended : ((part : List Act) → Possible (view q) → LooksWithFloor (view q) part → StopsCall (view q).shape called a b part → ⊥) → (view p).has_floor ≡ false
+  pub never_contended : ((part : List Act) → IsReachable (view q) → LooksWithFloor (view q) part → StopsCall (view q).shape called a b part → ⊥) → (view p).has_floor ≡ false
   never_contended stands = by (view p).has_floor refl
     where
       by : (f : Bool) → (view p).has_floor ≡ f → f ≡ false
       by false e = refl
       by true e =
           absurd (∥∥₁_elim q.possible (λ y z. absurd y)
-          (λ (pos : Possible (view q)). stands x.0 pos (with_floor e) (subst (λ (k : Shape). StopsCall k called a b x.0) (sym x.2.work.pass.shape) x.3)))
+          (λ (pos : IsReachable (view q)). stands x.0 pos (with_floor e) (subst (λ (k : Shape). StopsCall k called a b x.0) (sym x.2.work.pass.shape) x.3)))
 
 still_may : (b : Bank) (p : Pass) (objects : Objects) → MayTry b p objects → (o : ℕ) → is_writing o (view p).log ≡ false
 still_may b p objects may = ⊎_elim (λ (r : IsReady b p). r.inside.1.still.even) (λ (w : IsWaiting b p objects). w.inside.1.still.even) may

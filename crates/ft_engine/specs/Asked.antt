@@ -13,7 +13,7 @@ use Rattle.ft_model.specs.declared.script.Kind.TheVariants as kind
 use Rattle.ft_model.specs.Calls.{cursor_of_dict, cursor_of_list, cursor_of_set, other_dict, other_list, other_set}
 use Rattle.ft_model.specs.Worlds.{cursor_at}
 use Rattle.ft_trace.specs.declared.Shape.{Shape}
-use Rattle.ft_trace.specs.Addresses.{containers_in}
+use Rattle.ft_trace.specs.Addresses.{container_count}
 use Rattle.ft_bank.specs.KeyHashes.{IsKeyIn}
 use Rattle.ft_bank.specs.PassSections.{Stack}
 use Rattle.ft_engine.specs.Callers.{IsOfKindIn}
@@ -101,7 +101,7 @@ IsCallIn k hands (call.Set o sc) =
 IsCallIn k hands (call.Deque o qc) = ⊥
 IsCallIn k hands (call.Next number) = (number < length hands) × (is_some (cursor_at hands number) ≡ true)
 IsCallIn k hands (call.Begin first second) =
-    (first < containers_in k) × IfSome second (λ other. other < containers_in k)
+    (first < container_count k) × IfSome second (λ other. other < container_count k)
 IsCallIn k hands call.End = Unit {0}
 IsCallIn k hands call.Quiesce = Unit {0}
 IsCallIn k hands (call.Await thread index) = ⊥

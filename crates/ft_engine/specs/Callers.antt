@@ -6,7 +6,7 @@ use Rattle.ft_model.specs.declared.script.Kind.{Kind}
 use Rattle.ft_model.specs.Worlds.{container_of, cursor_at, cursor_kind}
 use Rattle.ft_trace.specs.declared.Entry.{Entry}
 use Rattle.ft_trace.specs.declared.Shape.{Shape}
-use Rattle.ft_trace.specs.Addresses.{containers_in}
+use Rattle.ft_trace.specs.Addresses.{container_count}
 use Rattle.ft_trace.specs.Hands.{cursor_in}
 use Rattle.ft_trace.specs.ContainerStates.{kind_in}
 use Rattle.ft_bank.specs.declared.bank.Bank.{Bank}
@@ -53,7 +53,7 @@ taken_of c = (view c.pass).lists
 
 -- a container of the bank, of this kind
 abbrev pub IsOfKindIn : Shape → Kind → ℕ → Type 0
-IsOfKindIn k kind o = (o < containers_in k) × (kind_in k.starts o ≡ kind)
+IsOfKindIn k kind o = (o < container_count k) × (kind_in k.starts o ≡ kind)
 
 -- each cursor that was made is one that the bank can move, and goes over a container of its kind
 abbrev pub AreOver : Shape → List (Option Cursor) → Type 0

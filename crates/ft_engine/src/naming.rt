@@ -1,7 +1,7 @@
 //! Whether a call may be tried: whoever has a call as data asks before it is made.
 ghost use Rattle.std.specs.Prelude.{◌≡◌, ◌<◌, ◌↔◌, IsTrue, IfSome};
 ghost use Rattle.ft_trace.specs.Acts.{announces};
-ghost use Rattle.ft_trace.specs.Addresses.{containers_in};
+ghost use Rattle.ft_trace.specs.Addresses.{container_count};
 ghost use Rattle.ft_bank.specs.Passes.{shape_of, view};
 ghost use Rattle.ft_engine.specs.Attempts.{MayAttempt};
 ghost use Rattle.ft_engine.specs.Callers.{IsOfKindIn, bank_of, hands_of, pass_of};
@@ -67,8 +67,8 @@ impl Engine {
 
     /// Whether the containers of a `begin` are there.
     fn are_there(&self, first: Object, second: Option<Object>) -> bool
-        ensures { IsTrue result ↔ ((first < containers_in (shape_of self.now.bank))
-            × IfSome second (λ other. other < containers_in (shape_of self.now.bank))) }
+        ensures { IsTrue result ↔ ((first < container_count (shape_of self.now.bank))
+            × IfSome second (λ other. other < container_count (shape_of self.now.bank))) }
     {
         let count = self.kinds.len();
         match second {

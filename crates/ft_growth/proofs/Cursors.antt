@@ -5,7 +5,7 @@ use Rattle.ft_model.specs.declared.reply.Reply.{Reply}
 use Rattle.ft_trace.specs.declared.Shape.{Shape}
 use Rattle.ft_trace.specs.declared.View.{View}
 use Rattle.ft_trace.specs.Hands.{cursor_in}
-use Rattle.ft_trace.specs.Holds.{held}
+use Rattle.ft_trace.specs.Holds.{held_words}
 use Rattle.ft_trace.specs.Pictures.{root_in}
 use Rattle.ft_trace.specs.ContainerStates.{changes}
 use Rattle.ft_bank.specs.Answered.{Answered}
@@ -22,11 +22,11 @@ module _ (called : Call) (said : Reply) (stamp : ℕ) (v w : View) where
   answered_cursors a number = ap (λ (u : View). cursor_in number u.log) a.answered ∙ a.loaded.work.pass.cursors number
 
   pub given_cursors : GaveUp called said stamp v w → KeepsCursors v w
-  given_cursors gave number = (retired_same (root_in (held (changes called) v)) gave.done w gave.retired).cursors number ∙ gave.wrote.pass.cursors number
+  given_cursors gave number = (retired_same (root_in (held_words (changes called) v)) gave.done w gave.retired).cursors number ∙ gave.wrote.pass.cursors number
 
   grew_cursors : (k : Shape) (class : ℕ) → Grew k class called said stamp v w → KeepsCursors v w
   grew_cursors k class grew number =
-      (retired_same (root_in (held (changes called) grew.taken)) grew.done w grew.retired).cursors number
+      (retired_same (root_in (held_words (changes called) grew.taken)) grew.done w grew.retired).cursors number
       ∙ (grew.wrote.pass.cursors number ∙ grew.tried.same.cursors number)
 
   written_cursors : (k : Shape) (takes : Option ℕ) → WroteWith k takes called said stamp v w → KeepsCursors v w

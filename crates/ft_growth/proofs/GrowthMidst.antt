@@ -7,10 +7,10 @@ use Rattle.ft_model.specs.declared.reply.Reply.{Reply}
 use Rattle.ft_trace.specs.declared.Act.TheVariants.{PutHeader, Retire, PutRoot}
 use Rattle.ft_trace.specs.declared.Shape.{Shape}
 use Rattle.ft_trace.specs.declared.View.{View}
-use Rattle.ft_trace.specs.Acts.{has_lock, is_writing, stage, stage_next, owes, used, flight, noted, seen_writes}
-use Rattle.ft_trace.specs.Addresses.{containers_in}
-use Rattle.ft_trace.specs.Holds.{held, known}
-use Rattle.ft_trace.specs.Pictures.{Picture, root_in, Stands}
+use Rattle.ft_trace.specs.Acts.{has_lock, is_writing, stage, stage_next, owes, used, flight, view_after, seen_writes}
+use Rattle.ft_trace.specs.Addresses.{container_count}
+use Rattle.ft_trace.specs.Holds.{held_words, known_state}
+use Rattle.ft_trace.specs.Pictures.{ContainerWords, root_in, Represents}
 use Rattle.ft_trace.specs.ContainerStates.{ContainerState, changes}
 use Rattle.ft_trace.specs.BegunSections.{begun}
 use Rattle.ft_trace.proofs.Cases.{hit, miss, here}
@@ -21,7 +21,7 @@ use Rattle.ft_bank.specs.declared.takings.Took.TheVariants as took
 use Rattle.ft_bank.specs.Answered.{Answered}
 use Rattle.ft_bank.specs.Passes.{view, IsPassOf}
 use Rattle.ft_bank.specs.PassSections.{stack_of}
-use Rattle.ft_bank.specs.TableNames.{name_of}
+use Rattle.ft_bank.specs.TableNames.{table_id}
 use Rattle.ft_bank.specs.Whole.{OnlyLoaded, SamePass, Wrote, hand_after}
 use Rattle.ft_bank.proofs.KnownAfterWrites.{same_pass, pass_then}
 use Rattle.ft_section.specs.Ready.{IsStill, IsMaking}
@@ -43,17 +43,17 @@ module _ (called : Call) (said : Reply) (n : ℕ) (v w : View) (s : IsStill v) (
   abbrev o : ℕ
   o = changes called
 
-  stands_after : (p : ℕ) → p < containers_in w.shape → has_lock p w.log ≡ true → Stands w.shape.texts (held p w) (known p w)
+  stands_after : (p : ℕ) → p < container_count w.shape → has_lock p w.log ≡ true → Represents w.shape.texts (held_words p w) (known_state p w)
   stands_after p low has =
       let shape = wrote.pass.shape in
-      let low' : p < containers_in v.shape = subst (λ (k : Shape). p < containers_in k) shape low in
+      let low' : p < container_count v.shape = subst (λ (k : Shape). p < container_count k) shape low in
       let mine : has_lock p v.log ≡ true = sym (wrote.pass.locks p) ∙ has in
-      subst (λ (k : Shape). Stands k.texts (held p w) (known p w)) (sym shape)
+      subst (λ (k : Shape). Represents k.texts (held_words p w) (known_state p w)) (sym shape)
       (dite (ℕ_discrete p o)
-      (λ (e : p ≡ o). subst (λ (q : ℕ). Stands v.shape.texts (held q w) (known q w)) (sym e) wrote.stands)
+      (λ (e : p ≡ o). subst (λ (q : ℕ). Represents v.shape.texts (held_words q w) (known_state q w)) (sym e) wrote.stands)
       (λ ne.
       let e = wrote.others p low' ne mine (s.even p) in
-      subst (λ (x : Picture × ContainerState). Stands v.shape.texts x.0 x.1) (λ d. (sym e.0 d, sym e.1 d)) (s.stands p low' mine)))
+      subst (λ (x : ContainerWords × ContainerState). Represents v.shape.texts x.0 x.1) (λ d. (sym e.0 d, sym e.1 d)) (s.stands p low' mine)))
 
   -- where the tables are in no hand that it leaves
   wrote_still_so : ((t : ℕ) → IsOut (stage t w.log)) → IsStill w
@@ -66,10 +66,10 @@ module _ (called : Call) (said : Reply) (n : ℕ) (v w : View) (s : IsStill v) (
     stands = stands_after;
   }
 
-  pub wrote_still : root_in (held o w) ≡ root_in (held o v) → IsStill w
+  pub wrote_still : root_in (held_words o w) ≡ root_in (held_words o v) → IsStill w
   wrote_still root =
       wrote_still_so
-      (λ t. subst IsOut (sym (wrote.hands t ∙ (ap (λ (z : ℕ). hand_after o (root_in (held o v)) z t (stage t v.log)) root ∙ hit (root_in (held o v)) (stage t v.log) _))) (s.hands t))
+      (λ t. subst IsOut (sym (wrote.hands t ∙ (ap (λ (z : ℕ). hand_after o (root_in (held_words o v)) z t (stage t v.log)) root ∙ hit (root_in (held_words o v)) (stage t v.log) _))) (s.hands t))
 
 -- ---- takings
 
@@ -77,14 +77,14 @@ module _ (k : Shape) (class : ℕ) (r : Took) (v w : View) (s : IsStill v) (trie
   pub tried_out : (t : ℕ) → (stage t w.log ≡ stage t v.log) ⊎ (stage t w.log ≡ 0) → IsOut (stage t w.log)
   tried_out t either = ⊎_elim (λ (e : stage t w.log ≡ stage t v.log). subst IsOut (sym e) (s.hands t)) (λ (e : stage t w.log ≡ 0). inl e) either
 
-  pub tried_stands : (p : ℕ) → p < containers_in w.shape → has_lock p w.log ≡ true → Stands w.shape.texts (held p w) (known p w)
+  pub tried_stands : (p : ℕ) → p < container_count w.shape → has_lock p w.log ≡ true → Represents w.shape.texts (held_words p w) (known_state p w)
   tried_stands p low has =
       let shape = tried.same.shape in
-      let low' : p < containers_in v.shape = subst (λ (z : Shape). p < containers_in z) shape low in
+      let low' : p < container_count v.shape = subst (λ (z : Shape). p < container_count z) shape low in
       let mine : has_lock p v.log ≡ true = sym (tried.same.locks p) ∙ has in
       let e = tried.keeps.held.words p low' mine in
-      subst (λ (z : Shape). Stands z.texts (held p w) (known p w)) (sym shape)
-      (subst (λ (x : Picture × ContainerState). Stands v.shape.texts x.0 x.1) (λ d. (sym e.0 d, sym e.1 d)) (s.stands p low' mine))
+      subst (λ (z : Shape). Represents z.texts (held_words p w) (known_state p w)) (sym shape)
+      (subst (λ (x : ContainerWords × ContainerState). Represents v.shape.texts x.0 x.1) (λ d. (sym e.0 d, sym e.1 d)) (s.stands p low' mine))
 
   -- a taking that has no table
   pub tried_still : ((t : ℕ) → IsOut (stage t w.log)) → owes w.log ≡ 0 → IsStill w
@@ -107,9 +107,9 @@ retired_same (suc t) v w is =
     (record { number = refl; next = refl; parts = refl; shape = refl; locks = λ p. refl; writes = λ p. refl; announced = refl; flight = refl; begun = refl; cursors = λ n. refl; tokens = refl; lists = refl; floor = refl; since = refl; owners = record { had = refl; found = refl }; learnt = refl; seen = le_refl (seen_writes v) })
 
 -- the pass knows the same words and contents, and owes and has used the same
-pub retired_knows : (root : ℕ) (v w : View) → Retires root v w → (p : ℕ) → (held p w ≡ held p v) × (known p w ≡ known p v)
-retired_knows zero v w is p = (ap (λ (u : View). held p u) is, ap (λ (u : View). known p u) is)
-retired_knows (suc t) v w is p = (ap (λ (u : View). held p u) is.1, ap (λ (u : View). known p u) is.1)
+pub retired_knows : (root : ℕ) (v w : View) → Retires root v w → (p : ℕ) → (held_words p w ≡ held_words p v) × (known_state p w ≡ known_state p v)
+retired_knows zero v w is p = (ap (λ (u : View). held_words p u) is, ap (λ (u : View). known_state p u) is)
+retired_knows (suc t) v w is p = (ap (λ (u : View). held_words p u) is.1, ap (λ (u : View). known_state p u) is.1)
 
 retired_work : (root : ℕ) (v w : View) → Retires root v w → (used w.log ≡ used v.log) × (owes w.log ≡ owes v.log)
 retired_work zero v w is = (ap (λ (u : View). used u.log) is, ap (λ (u : View). owes u.log) is)
@@ -133,10 +133,10 @@ module _ (k : Shape) (class : ℕ) (called : Call) (said : Reply) (n : ℕ) (v w
   taken = grew.taken
 
   abbrev old : ℕ
-  old = root_in (held at taken)
+  old = root_in (held_words at taken)
 
   abbrev new : ℕ
-  new = name_of grew.table
+  new = table_id grew.table
 
   -- of the new root
   hands_written : (t : ℕ) → stage t grew.done.log ≡ cond (eqb (suc new) (suc t)) 0 (cond (eqb old (suc t)) 3 (stage t taken.log))
@@ -160,22 +160,22 @@ module _ (k : Shape) (class : ℕ) (called : Call) (said : Reply) (n : ℕ) (v w
       subst IsOut (sym same) (tried_out k class (took.Taken grew.table) v taken s grew.tried t (grew.tried.hands t (λ e. ne' (ap suc (sym e)))))))
 
   -- the words stand for the content once the write is made
-  stands_written : (p : ℕ) → p < containers_in w.shape → has_lock p w.log ≡ true → Stands w.shape.texts (held p w) (known p w)
+  stands_written : (p : ℕ) → p < container_count w.shape → has_lock p w.log ≡ true → Represents w.shape.texts (held_words p w) (known_state p w)
   stands_written p low has =
       let same = retired_same old grew.done w grew.retired in
       let shape : w.shape ≡ taken.shape = same.shape ∙ grew.wrote.pass.shape in
-      let low' : p < containers_in taken.shape = subst (λ (z : Shape). p < containers_in z) shape low in
+      let low' : p < container_count taken.shape = subst (λ (z : Shape). p < container_count z) shape low in
       let mine : has_lock p taken.log ≡ true = sym (grew.wrote.pass.locks p) ∙ (sym (same.locks p) ∙ has) in
       let quiet : is_writing p taken.log ≡ false = grew.tried.same.writes p ∙ s.even p in
       let e = retired_knows old grew.done w grew.retired p in
-      let done : Stands taken.shape.texts (held p grew.done) (known p grew.done) =
+      let done : Represents taken.shape.texts (held_words p grew.done) (known_state p grew.done) =
       dite (ℕ_discrete p at)
-      (λ (x : p ≡ at). subst (λ (q : ℕ). Stands taken.shape.texts (held q grew.done) (known q grew.done)) (sym x) grew.wrote.stands)
+      (λ (x : p ≡ at). subst (λ (q : ℕ). Represents taken.shape.texts (held_words q grew.done) (known_state q grew.done)) (sym x) grew.wrote.stands)
       (λ ne.
       let o = grew.wrote.others p low' ne mine quiet in
-      subst (λ (x : Picture × ContainerState). Stands taken.shape.texts x.0 x.1) (λ d. (sym o.0 d, sym o.1 d)) (tried_stands k class (took.Taken grew.table) v taken s grew.tried p low' mine)) in
-      subst (λ (z : Shape). Stands z.texts (held p w) (known p w)) (sym shape)
-      (subst (λ (x : Picture × ContainerState). Stands taken.shape.texts x.0 x.1) (λ d. (sym e.0 d, sym e.1 d)) done)
+      subst (λ (x : ContainerWords × ContainerState). Represents taken.shape.texts x.0 x.1) (λ d. (sym o.0 d, sym o.1 d)) (tried_stands k class (took.Taken grew.table) v taken s grew.tried p low' mine)) in
+      subst (λ (z : Shape). Represents z.texts (held_words p w) (known_state p w)) (sym shape)
+      (subst (λ (x : ContainerWords × ContainerState). Represents taken.shape.texts x.0 x.1) (λ d. (sym e.0 d, sym e.1 d)) done)
 
   pub grew_same : SamePass v w
   grew_same = pass_then v taken w grew.tried.same (pass_then taken grew.done w grew.wrote.pass (retired_same old grew.done w grew.retired))
@@ -235,7 +235,7 @@ module _ (called : Call) (said : Reply) (n : ℕ) (v w : View) (s : IsStill v) (
   here_ = changes called
 
   abbrev before : ℕ
-  before = root_in (held here_ v)
+  before = root_in (held_words here_ v)
 
   either_way : (b : Bool) (x y : ℕ) → y ≡ x → cond b x y ≡ x
   either_way true x y e = refl
@@ -268,8 +268,8 @@ module _ (called : Call) (said : Reply) (n : ℕ) (v w : View) (s : IsStill v) (
         flight = given_same.flight ∙ s.flight;
         stands = λ p low has.
             let e = retired_knows before given.done w given.retired p in
-            let old = stands_after called said n v given.done s given.wrote p (subst (λ (z : Shape). p < containers_in z) same.shape low) (sym (same.locks p) ∙ has) in
-            subst (λ (x : Shape × Picture × ContainerState). Stands x.0.texts x.1 x.2) (λ d. (sym same.shape d, sym e.0 d, sym e.1 d)) old;
+            let old = stands_after called said n v given.done s given.wrote p (subst (λ (z : Shape). p < container_count z) same.shape low) (sym (same.locks p) ∙ has) in
+            subst (λ (x : Shape × ContainerWords × ContainerState). Represents x.0.texts x.1 x.2) (λ d. (sym same.shape d, sym e.0 d, sym e.1 d)) old;
       }
 
 pub making_given : (b : Bank) (p q : Pass) → IsMaking b p → IsPassOf b q → stack_of q ≡ stack_of p → (u : View) → OnlyLoaded (view p) u → (called : Call) (said : Reply) (n : ℕ) → GaveUp called said n u (view q) → IsMaking b q

@@ -9,8 +9,8 @@ use Rattle.ft_model.specs.TableUses.{StoredWorld, CanLackMemory, takes_in, would
 use Rattle.ft_trace.specs.declared.Act.{Act}
 use Rattle.ft_trace.specs.declared.Act.TheVariants.{ReadCounter, ReadCount, Answer}
 use Rattle.ft_trace.specs.declared.View.{View}
-use Rattle.ft_trace.specs.Acts.{noted, owes, shown}
-use Rattle.ft_trace.specs.Traces.{Possible}
+use Rattle.ft_trace.specs.Acts.{view_after, owes, shown}
+use Rattle.ft_trace.specs.Traces.{IsReachable}
 use Rattle.ft_bank.specs.Answered.{Answered}
 use Rattle.ft_bank.specs.Reads.{IsShown}
 use Rattle.ft_bank.specs.WriteSteps.{MayHave}
@@ -19,12 +19,12 @@ use Rattle.ft_bank.proofs.KnownAfterWrites.{same_work}
 use Rattle.ft_search.proofs.Asking.{answered_locked}
 
 -- an entry at a load of the counter
-pub answered_at : (v w : View) (called : Call) (said : Reply) (n : ℕ) → w ≡ noted (Answer called said n) (noted (ReadCounter n) v) → v.learnt ≤ shown v.log → ∥ Possible w ∥₁ → Answered called said n v w
+pub answered_at : (v w : View) (called : Call) (said : Reply) (n : ℕ) → w ≡ view_after (Answer called said n) (view_after (ReadCounter n) v) → v.learnt ≤ shown v.log → ∥ IsReachable w ∥₁ → Answered called said n v w
 answered_at v w called said n is settled possible = answered_locked v v w called said n [] (record { work = same_work v; words = refl }) refl is settled possible
 
 module _ (v : View) (n : ℕ) where
   abbrev after : View
-  after = noted (ReadCounter n) v
+  after = view_after (ReadCounter n) v
 
   -- a load leaves what the bank may have
   pub has_before : (stored : StoredWorld) → MayHave after stored → MayHave v stored

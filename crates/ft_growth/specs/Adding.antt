@@ -8,9 +8,9 @@ use Rattle.ft_trace.specs.declared.Act.{Act}
 use Rattle.ft_trace.specs.declared.Act.TheVariants.{PutHeader, Retire}
 use Rattle.ft_trace.specs.declared.Shape.{Shape}
 use Rattle.ft_trace.specs.declared.View.{View}
-use Rattle.ft_trace.specs.Acts.{flight, has_goal, noted}
+use Rattle.ft_trace.specs.Acts.{flight, has_goal, view_after}
 use Rattle.ft_trace.specs.Hands.{cursor_in}
-use Rattle.ft_trace.specs.Holds.{held}
+use Rattle.ft_trace.specs.Holds.{held_words}
 use Rattle.ft_trace.specs.Owners.{SameOwners}
 use Rattle.ft_trace.specs.Pictures.{root_in}
 use Rattle.ft_trace.specs.ContainerStates.{changes}
@@ -19,7 +19,7 @@ use Rattle.ft_bank.specs.declared.takings.Took.{Took}
 use Rattle.ft_bank.specs.declared.takings.Took.TheVariants as took
 use Rattle.ft_bank.specs.Answered.{Answered}
 use Rattle.ft_bank.specs.Series.{noted_all}
-use Rattle.ft_bank.specs.TableNames.{name_of}
+use Rattle.ft_bank.specs.TableNames.{table_id}
 use Rattle.ft_bank.specs.Takings.{HasNotMoved, HasTook, IsTaking, KeepsBut, StaysIn}
 use Rattle.ft_bank.specs.Whole.{SamePass, SameWork, Wrote}
 use Rattle.ft_bank.specs.WriteSteps.{KeepsUnwritten}
@@ -58,7 +58,7 @@ pub record OnlyFilled (v w : View) : Type 0 where
 -- the table that a root named is retired, if it named one
 abbrev pub Retires : ℕ → View → View → Type 0
 Retires zero v w = w ≡ v
-Retires (suc t) v w = (n : ℕ) × (w ≡ noted (PutHeader t (n + 1)) (noted (Retire t n) v))
+Retires (suc t) v w = (n : ℕ) × (w ≡ view_after (PutHeader t (n + 1)) (view_after (Retire t n) v))
 
 -- The pass has the cursors that it had, so that its walks go on after the call. (Python manual, Iterator Types)
 abbrev pub KeepsCursors : View → View → Type 0
@@ -69,7 +69,7 @@ KeepsCursors v w = (number : ℕ) → cursor_in number w.log ≡ cursor_in numbe
 -- The pass made the call as one whole write, which left the root of the container. (profile)
 pub record WroteInPlace (called : Call) (said : Reply) (number : ℕ) (v w : View) : Type 0 where
   pub wrote : Wrote called said number v w
-  pub root : root_in (held (changes called) w) ≡ root_in (held (changes called) v)
+  pub root : root_in (held_words (changes called) w) ≡ root_in (held_words (changes called) v)
 
 -- The pass took a table of this class and made the call as one whole write that put it into the root of the container
 -- in the place of another table or of none, and then retired the table that the root named before. (profile)
@@ -77,19 +77,19 @@ pub record Grew (k : Shape) (class : ℕ) (called : Call) (said : Reply) (number
   pub table : Table
   pub taken : View
   pub tried : TriedTaking k class (took.Taken table) v taken
-  pub other : root_in (held (changes called) taken) ≢ suc (name_of table)
+  pub other : root_in (held_words (changes called) taken) ≢ suc (table_id table)
   pub done : View
   pub wrote : Wrote called said number taken done
-  pub root : root_in (held (changes called) done) ≡ suc (name_of table)
-  pub retired : Retires (root_in (held (changes called) taken)) done w
+  pub root : root_in (held_words (changes called) done) ≡ suc (table_id table)
+  pub retired : Retires (root_in (held_words (changes called) taken)) done w
 
 -- The pass made the call as one whole write that left the container no table, and then retired the table that it had,
 -- if it had one. (profile)
 pub record GaveUp (called : Call) (said : Reply) (number : ℕ) (v w : View) : Type 0 where
   pub done : View
   pub wrote : Wrote called said number v done
-  pub root : root_in (held (changes called) done) ≡ 0
-  pub retired : Retires (root_in (held (changes called) v)) done w
+  pub root : root_in (held_words (changes called) done) ≡ 0
+  pub retired : Retires (root_in (held_words (changes called) v)) done w
 
 -- the write of a call that takes no table, or one of this class
 abbrev pub WroteWith : Shape → Option ℕ → Call → Reply → ℕ → View → View → Type 0

@@ -14,12 +14,12 @@ use Rattle.ft_trace.specs.declared.Act.{Act}
 use Rattle.ft_trace.specs.declared.Act.TheVariants.{AnswerCursor, ReadCounter}
 use Rattle.ft_trace.specs.declared.Shape.{Shape}
 use Rattle.ft_trace.specs.declared.View.{View}
-use Rattle.ft_trace.specs.Acts.{has_lock, noted, seen_writes}
-use Rattle.ft_trace.specs.Addresses.{containers_in}
+use Rattle.ft_trace.specs.Acts.{has_lock, view_after, seen_writes}
+use Rattle.ft_trace.specs.Addresses.{container_count}
 use Rattle.ft_trace.specs.Hands.{cursor_in, MovesCursor}
-use Rattle.ft_trace.specs.Holds.{known}
+use Rattle.ft_trace.specs.Holds.{known_state}
 use Rattle.ft_trace.specs.BegunSections.{begun}
-use Rattle.ft_trace.specs.Traces.{Possible}
+use Rattle.ft_trace.specs.Traces.{IsReachable}
 use Rattle.ft_trace.specs.ContainerStates.{ContainerState, kind_in}
 use Rattle.ft_trace.proofs.Cases.{hit, miss}
 use Rattle.ft_bank.specs.declared.bank.Bank.{Bank}
@@ -40,26 +40,26 @@ use Rattle.ft_iter.proofs.Moves.{Holds, holds-known}
 use Rattle.ft_search.proofs.Changing.{kind_is}
 
 -- right of the content that the pass knows, so right of whatever the bank may have
-pub cursor-shown : (v u : View) (o n number : ℕ) (called : Call) (said : Reply) (left : Cursor) → OnlyLoaded v u → 0 < v.left → moved_cursor called ≡ Some number → o < containers_in v.shape → has_lock o v.log ≡ true
-    → ((world : List Content) → Holds world o (known o v).content → MovesCursor world called number (cursor_in number v.log) said left) → IsCursorShown (noted (ReadCounter n) u) called said n number left
+pub cursor-shown : (v u : View) (o n number : ℕ) (called : Call) (said : Reply) (left : Cursor) → OnlyLoaded v u → 0 < v.left → moved_cursor called ≡ Some number → o < container_count v.shape → has_lock o v.log ≡ true
+    → ((world : List Content) → Holds world o (known_state o v).content → MovesCursor world called number (cursor_in number v.log) said left) → IsCursorShown (view_after (ReadCounter n) u) called said n number left
 cursor-shown v u o n number called said left loaded some_call moved low mine right =
-    cursors_under_locks_are_shown (noted (ReadCounter n) u) called said n number left
+    cursors_under_locks_are_shown (view_after (ReadCounter n) u) called said n number left
     (record { left = subst (λ (z : ℕ). 0 < z) (sym loaded.work.left) some_call; newer = []; rest = u.log; is = refl; own = tt; locks = tt }) moved
     (λ stored may.
-    let holds = holds-known (noted (ReadCounter n) u) o stored may (subst (λ (k : Shape). o < containers_in k) (sym loaded.work.pass.shape) low) (loaded.work.pass.locks o ∙ mine) in
-    let same : (known o u).content ≡ (known o v).content = ap (λ (z : ContainerState). z.content) (work_knows v u o loaded.work) in
+    let holds = holds-known (view_after (ReadCounter n) u) o stored may (subst (λ (k : Shape). o < container_count k) (sym loaded.work.pass.shape) low) (loaded.work.pass.locks o ∙ mine) in
+    let same : (known_state o u).content ≡ (known_state o v).content = ap (λ (z : ContainerState). z.content) (work_knows v u o loaded.work) in
     subst (λ (z : Option Cursor). MovesCursor stored.world called number z said left) (sym (loaded.work.pass.cursors number)) (right stored.world (λ d. holds d ∙ same)))
 
 -- the entry that follows
 pub answered-moved : (v u z : View) (called : Call) (said : Reply) (n number : ℕ) (left : Cursor) (part : List Act) → OnlyLoaded v u → u.log ≡ part ++ v.log
-    → z ≡ noted (AnswerCursor called said n number (cursor_in number u.log) left) (noted (ReadCounter n) u) → seen_writes u ≤ n → AnsweredCursor called said n number left v z
+    → z ≡ view_after (AnswerCursor called said n number (cursor_in number u.log) left) (view_after (ReadCounter n) u) → seen_writes u ≤ n → AnsweredCursor called said n number left v z
 answered-moved v u z called said n number left part loaded own is seen = record {
-  before = noted (ReadCounter n) u;
-  loaded = loaded_then v u (noted (ReadCounter n) u) loaded (loaded_by (ReadCounter n) u (noted (ReadCounter n) u) tt refl);
+  before = view_after (ReadCounter n) u;
+  loaded = loaded_then v u (view_after (ReadCounter n) u) loaded (loaded_by (ReadCounter n) u (view_after (ReadCounter n) u) tt refl);
   part = ReadCounter n ∷ part;
   own = ap (λ (l : List Act). ReadCounter n ∷ l) own;
   counted = record { newer = []; rest = part; is = refl };
-  answered = is ∙ ap (λ (had : Option Cursor). noted (AnswerCursor called said n number had left) (noted (ReadCounter n) u)) (loaded.work.pass.cursors number);
+  answered = is ∙ ap (λ (had : Option Cursor). view_after (AnswerCursor called said n number had left) (view_after (ReadCounter n) u)) (loaded.work.pass.cursors number);
   seen = le_trans loaded.work.pass.seen seen;
 }
 
@@ -75,7 +75,7 @@ cursors-kept v u w z called said n number left took a gone other differs =
     ∙ (miss number other (Some left) (cursor_in other a.before.log) (λ same. differs (sym same))
     ∙ (a.loaded.work.pass.cursors other ∙ took.cursors other)))
 
-still-moved : (called : Call) (said : Reply) (n number : ℕ) (had : Option Cursor) (left : Cursor) (u : View) → IsStill u → IsStill (noted (AnswerCursor called said n number had left) u)
+still-moved : (called : Call) (said : Reply) (n number : ℕ) (had : Option Cursor) (left : Cursor) (u : View) → IsStill u → IsStill (view_after (AnswerCursor called said n number had left) u)
 still-moved called said n number had left u s = record { even = s.even; hands = s.hands; used = s.used; owes = s.owes; flight = s.flight; stands = s.stands }
 
 -- a pass in the midst of a call is in the midst of it still
@@ -91,7 +91,7 @@ making-moved b p q called said n number left m pass stack a =
 
 -- ---- the kind of what a pass knows
 
-pub kind-held : (v : View) (o : ℕ) → ∥ Possible v ∥₁ → has_lock o v.log ≡ true → kind_of (known o v).content ≡ kind_in v.shape.starts o
+pub kind-held : (v : View) (o : ℕ) → ∥ IsReachable v ∥₁ → has_lock o v.log ≡ true → kind_of (known_state o v).content ≡ kind_in v.shape.starts o
 kind-held v o possible mine = kind_is v.shape v o refl possible mine
 
 -- 1 for a list
@@ -107,5 +107,5 @@ as-list (content.List items) is = (items, refl)
 as-list (content.Set set) is = absurd (omega (arith, is))
 as-list (content.Deque deque) is = absurd (omega (arith, is))
 
-pub list-known : (v : View) (o : ℕ) → ∥ Possible v ∥₁ → has_lock o v.log ≡ true → kind_in v.shape.starts o ≡ kind.List → (items : List Value) × ((known o v).content ≡ content.List items)
-list-known v o possible mine is = as-list (known o v).content (ap list_code (kind-held v o possible mine ∙ is))
+pub list-known : (v : View) (o : ℕ) → ∥ IsReachable v ∥₁ → has_lock o v.log ≡ true → kind_in v.shape.starts o ≡ kind.List → (items : List Value) × ((known_state o v).content ≡ content.List items)
+list-known v o possible mine is = as-list (known_state o v).content (ap list_code (kind-held v o possible mine ∙ is))

@@ -10,7 +10,7 @@ use Rattle.ft_model.specs.declared.data.Value.{Value}
 use Rattle.ft_model.specs.declared.data.Value.TheVariants as value
 use Rattle.ft_layout.specs.Containers.{IsListWords, StandsAs}
 use Rattle.ft_layout.proofs.Powers.{slots_range}
-use Rattle.ft_trace.specs.Pictures.{Picture, Stands}
+use Rattle.ft_trace.specs.Pictures.{ContainerWords, Represents}
 use Rattle.ft_trace.specs.ContainerStates.{ContainerState}
 use Rattle.ft_list.specs.Indexes.{item_named}
 
@@ -44,7 +44,7 @@ short-words block words (Some c) items says =
     omega (arith, few, low, high)
 
 -- no list is longer than the largest table holds
-pub list-short : (texts : List ℕ) (x : Picture) (kept : ContainerState) (items : List Value) → Stands texts x kept → kept.content ≡ content.List items → length items ≤ 2 ^ 16
+pub list-short : (texts : List ℕ) (x : ContainerWords) (kept : ContainerState) (items : List Value) → Represents texts x kept → kept.content ≡ content.List items → length items ≤ 2 ^ 16
 list-short texts x kept items stands is =
     let says = subst (λ (c : Content). StandsAs texts x.block (0 ∷ 0 ∷ x.table) kept.table c) is stands in
     short-words x.block (0 ∷ 0 ∷ x.table) kept.table.class items says.0

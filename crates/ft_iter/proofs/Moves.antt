@@ -22,9 +22,9 @@ use Rattle.ft_model.specs.Cursors.{CursorStep, dict_next, dict_walk, next_pair, 
 use Rattle.ft_model.specs.TableUses.{StoredWorld}
 use Rattle.ft_model.specs.Worlds.{container_of, cursor_kind, dict_of, list_of, set_of, kind_of, length_of, deque_of}
 use Rattle.ft_trace.specs.Acts.{has_lock}
-use Rattle.ft_trace.specs.Addresses.{containers_in}
+use Rattle.ft_trace.specs.Addresses.{container_count}
 use Rattle.ft_trace.specs.Hands.{MovesCursor}
-use Rattle.ft_trace.specs.Holds.{known}
+use Rattle.ft_trace.specs.Holds.{known_state}
 use Rattle.ft_trace.specs.ContainerStates.{ContainerState}
 use Rattle.ft_trace.specs.declared.View.{View}
 use Rattle.ft_bank.specs.WriteSteps.{MayHave}
@@ -36,7 +36,7 @@ use Rattle.ft_trace.specs.Kinds.{HasVersions}
 abbrev pub Holds : List Content → ℕ → Content → Type 0
 Holds world o c = (d : Content) → slice_index_or world o d ≡ c
 
-pub holds-known : (v : View) (o : ℕ) (stored : StoredWorld) → MayHave v stored → o < containers_in v.shape → has_lock o v.log ≡ true → Holds stored.world o (known o v).content
+pub holds-known : (v : View) (o : ℕ) (stored : StoredWorld) → MayHave v stored → o < container_count v.shape → has_lock o v.log ≡ true → Holds stored.world o (known_state o v).content
 holds-known v o stored may low mine d =
     at_any stored.world o d (content.List []) (subst (λ (n : ℕ). o < n) (sym may.containers) low) ∙ ap (λ (z : ContainerState). z.content) (may.agrees o low mine)
 

@@ -13,16 +13,16 @@ use Rattle.ft_layout.specs.Containers.{class_mask, used_pair, used_element, IsDi
 use Rattle.ft_layout.specs.Tables.{UsedEntry, is_live, dict_room}
 use Rattle.ft_keys.specs.declared.walk.Way.TheVariants as way
 use Rattle.ft_trace.specs.Acts.{has_lock}
-use Rattle.ft_trace.specs.Holds.{known}
+use Rattle.ft_trace.specs.Holds.{known_state}
 use Rattle.ft_trace.specs.Kinds.{IsKeyed}
-use Rattle.ft_trace.specs.Traces.{Possible}
-use Rattle.ft_trace.specs.Pictures.{Picture, root_in, Stands}
+use Rattle.ft_trace.specs.Traces.{IsReachable}
+use Rattle.ft_trace.specs.Pictures.{ContainerWords, root_in, Represents}
 use Rattle.ft_trace.specs.ContainerStates.{ContainerState, kind_in}
 use Rattle.ft_trace.specs.declared.Shape.{Shape}
 use Rattle.ft_trace.specs.declared.View.{View}
 use Rattle.ft_trace.proofs.Known.{class_known}
 use Rattle.ft_bank.specs.declared.table.Table.{Table}
-use Rattle.ft_bank.specs.TableNames.{name_of, IsTableIn}
+use Rattle.ft_bank.specs.TableNames.{table_id, IsTableIn}
 use Rattle.ft_bank.proofs.TableAddresses.{class_is}
 use Rattle.ft_search.proofs.FoundInContents.{dict_known, set_known}
 use Rattle.ft_iter.specs.Following.{IsNextOf}
@@ -48,10 +48,10 @@ set-in-dict n = omega arith
 abbrev pub IsKeyedContent : Content → Type 0
 IsKeyedContent c = ((dict : DictContent) × (c ≡ content.Dict dict)) ⊎ ((set : SetContent) × (c ≡ content.Set set))
 
-pub keyed-known : (v : View) (o : ℕ) → ∥ Possible v ∥₁ → has_lock o v.log ≡ true → IsKeyed (kind_in v.shape.starts o) → IsKeyedContent (known o v).content
+pub keyed-known : (v : View) (o : ℕ) → ∥ IsReachable v ∥₁ → has_lock o v.log ≡ true → IsKeyed (kind_in v.shape.starts o) → IsKeyedContent (known_state o v).content
 keyed-known v o possible mine keyed = by (kind_in v.shape.starts o) refl keyed
   where
-    by : (k : Kind) → kind_in v.shape.starts o ≡ k → IsKeyed k → IsKeyedContent (known o v).content
+    by : (k : Kind) → kind_in v.shape.starts o ≡ k → IsKeyed k → IsKeyedContent (known_state o v).content
     by kind.Dict is keyed' = inl (dict_known v o possible mine is)
     by kind.Set is keyed' = inr (set_known v o possible mine is)
     by kind.List is keyed' = absurd keyed'
@@ -69,7 +69,7 @@ set-bare texts block words (Some class) fill set last says bare = absurd (let is
 
 -- ---- by the words that are held
 
-module _ (texts : List ℕ) (x : Picture) (kept : ContainerState) (stands : Stands texts x kept) where
+module _ (texts : List ℕ) (x : ContainerWords) (kept : ContainerState) (stands : Represents texts x kept) where
   abbrev words : List ℕ
   words = 0 ∷ 0 ∷ x.table
 
@@ -77,12 +77,12 @@ module _ (texts : List ℕ) (x : Picture) (kept : ContainerState) (stands : Stan
   bare-next last (inl d) bare = subst (λ (c : Content). IsNextOf c last None) (sym d.1) (dict-bare texts x.block words kept.table.class kept.table.fill d.0 last (subst (λ (c : Content). StandsAs texts x.block words kept.table c) d.1 stands) bare)
   bare-next last (inr s) bare = subst (λ (c : Content). IsNextOf c last None) (sym s.1) (set-bare texts x.block words kept.table.class kept.table.fill s.0 last (subst (λ (c : Content). StandsAs texts x.block words kept.table c) s.1 stands) bare)
 
-  module _ (k : Shape) (table : Table) (in_bank : IsTableIn k table) (names : root_in x ≡ suc (name_of table)) where
+  module _ (k : Shape) (table : Table) (in_bank : IsTableIn k table) (names : root_in x ≡ suc (table_id table)) where
     abbrev mask : ℕ
     mask = class_mask table.class
 
     class-is : kept.table.class ≡ Some table.class
-    class-is = class_known texts x kept (name_of table) stands names ∙ ap Some (class_is table in_bank.2)
+    class-is = class_known texts x kept (table_id table) stands names ∙ ap Some (class_is table in_bank.2)
 
     dict-says : (d : (dict : DictContent) × (kept.content ≡ content.Dict dict)) → IsDictWords texts x.block words (Some table.class) kept.table.fill d.0
     dict-says d = subst (λ (z : Option ℕ). IsDictWords texts x.block words z kept.table.fill d.0) class-is (subst (λ (c : Content). StandsAs texts x.block words kept.table c) d.1 stands)

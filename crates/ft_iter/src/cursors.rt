@@ -6,10 +6,10 @@ ghost use Rattle.ft_model.specs.declared.cursor.Cursor.{Cursor};
 ghost use Rattle.ft_model.specs.Worlds.{container_of, cursor_kind};
 ghost use Rattle.ft_trace.specs.declared.Act.{Act};
 ghost use Rattle.ft_trace.specs.declared.Act.TheVariants.{AnswerCursor, ReadCounter};
-ghost use Rattle.ft_trace.specs.Acts.{has_lock, noted, seen_writes};
-ghost use Rattle.ft_trace.specs.Addresses.{containers_in};
-ghost use Rattle.ft_trace.specs.Holds.{held, known};
-ghost use Rattle.ft_trace.specs.Pictures.{Stands};
+ghost use Rattle.ft_trace.specs.Acts.{has_lock, view_after, seen_writes};
+ghost use Rattle.ft_trace.specs.Addresses.{container_count};
+ghost use Rattle.ft_trace.specs.Holds.{held_words, known_state};
+ghost use Rattle.ft_trace.specs.Pictures.{Represents};
 ghost use Rattle.ft_trace.specs.ContainerStates.{kind_in};
 ghost use Rattle.ft_trace.specs.Kinds.{HasVersions};
 ghost use Rattle.ft_bank.specs.Answered.{AnsweredCursor};
@@ -42,7 +42,7 @@ fn answer_moved(
     cursor: &Cursor,
 ) -> (Reply, Stamp)
     requires pass { IsPassOf bank.now pass.old }
-    requires shown { (stamp : ℕ) → IsCursorShown (noted (ReadCounter stamp) (view pass.old)) call.now reply stamp number cursor.now }
+    requires shown { (stamp : ℕ) → IsCursorShown (view_after (ReadCounter stamp) (view pass.old)) call.now reply stamp number cursor.now }
     ensures pass { IsPassOf bank.now pass.new }
     ensures did { DidAll (AnswerCursor call.now reply result.1.number number (cursor_under pass.old number) cursor.now
         ∷ ReadCounter result.1.number ∷ []) pass.old pass.new }
@@ -61,14 +61,14 @@ fn answer_moved(
 /// One `next` of a cursor over a container whose lock the pass has.
 fn step(bank: &Bank, pass: &mut Pass, cursor: Cursor) -> Advanced
     requires pass { IsPassOf bank.now pass.old }
-    requires container { container_of cursor < containers_in (shape_of bank.now) }
+    requires container { container_of cursor < container_count (shape_of bank.now) }
     requires kind { kind_in (shape_of bank.now).starts (container_of cursor) ≡ cursor_kind cursor }
     requires landed { is_landed_cursor cursor ≡ true }
     requires locked { has_lock (container_of cursor) (view pass.old).log ≡ true }
-    requires stands { Stands (shape_of bank.now).texts (held (container_of cursor) (view pass.old)) (known (container_of cursor) (view pass.old)) }
+    requires stands { Represents (shape_of bank.now).texts (held_words (container_of cursor) (view pass.old)) (known_state (container_of cursor) (view pass.old)) }
     ensures pass { IsPassOf bank.now pass.new }
     ensures looks { (part : List Act) × AreLooks part × DidAll part pass.old pass.new }
-    ensures next { IsStep result (step_in (known (container_of cursor) (view pass.old)).content cursor) }
+    ensures next { IsStep result (step_in (known_state (container_of cursor) (view pass.old)).content cursor) }
 {
     match cursor {
         Cursor::Dict {
@@ -97,11 +97,11 @@ fn step(bank: &Bank, pass: &mut Pass, cursor: Cursor) -> Advanced
 /// lock.
 fn next_locked(bank: &Bank, pass: &mut Pass, number: u32, cursor: &mut Cursor) -> (Reply, Stamp)
     requires pass { IsPassOf bank.now pass.old }
-    requires container { container_of cursor.old < containers_in (shape_of bank.now) }
+    requires container { container_of cursor.old < container_count (shape_of bank.now) }
     requires kind { kind_in (shape_of bank.now).starts (container_of cursor.old) ≡ cursor_kind cursor.old }
     requires landed { is_landed_cursor cursor.old ≡ true }
     requires locked { has_lock (container_of cursor.old) (view pass.old).log ≡ true }
-    requires stands { Stands (shape_of bank.now).texts (held (container_of cursor.old) (view pass.old)) (known (container_of cursor.old) (view pass.old)) }
+    requires stands { Represents (shape_of bank.now).texts (held_words (container_of cursor.old) (view pass.old)) (known_state (container_of cursor.old) (view pass.old)) }
     requires left { 0 < (view pass.old).left }
     requires cursor { cursor_under pass.old number ≡ Some cursor.old }
     ensures pass { IsPassOf bank.now pass.new }
@@ -127,7 +127,7 @@ fn next_locked(bank: &Bank, pass: &mut Pass, number: u32, cursor: &mut Cursor) -
 /// next. It never answers `Moved` or `NoMemory`.
 pub fn try_next(bank: &Bank, pass: &mut Pass, number: u32, cursor: &mut Cursor) -> Step
     requires may { MayTry bank.now pass.old (One (container_of cursor.old)) }
-    requires container { container_of cursor.old < containers_in (shape_of bank.now) }
+    requires container { container_of cursor.old < container_count (shape_of bank.now) }
     requires kind { kind_in (shape_of bank.now).starts (container_of cursor.old) ≡ cursor_kind cursor.old }
     requires landed { is_landed_cursor cursor.old ≡ true }
     requires left { 0 < (view pass.old).left }
@@ -211,10 +211,10 @@ fn iter_locked(
     slot: &mut Option<Cursor>,
 ) -> (Reply, Stamp)
     requires pass { IsPassOf bank.now pass.old }
-    requires container { o < containers_in (shape_of bank.now) }
+    requires container { o < container_count (shape_of bank.now) }
     requires kind { kind_in (shape_of bank.now).starts o ≡ kind }
     requires locked { has_lock o (view pass.old).log ≡ true }
-    requires stands { Stands (shape_of bank.now).texts (held o (view pass.old)) (known o (view pass.old)) }
+    requires stands { Represents (shape_of bank.now).texts (held_words o (view pass.old)) (known_state o (view pass.old)) }
     requires left { 0 < (view pass.old).left }
     ensures pass { IsPassOf bank.now pass.new }
     ensures sections { stack_of pass.new ≡ stack_of pass.old }
@@ -246,7 +246,7 @@ pub fn try_iter(
     slot: &mut Option<Cursor>,
 ) -> Step
     requires may { MayTry bank.now pass.old (One o) }
-    requires container { o < containers_in (shape_of bank.now) }
+    requires container { o < container_count (shape_of bank.now) }
     requires kind { kind_in (shape_of bank.now).starts o ≡ kind }
     requires left { 0 < (view pass.old).left }
     ensures may { MayTry bank.now pass.new (One o) }

@@ -5,13 +5,13 @@ ghost use Rattle.ft_layout.specs.Containers.{class_mask};
 ghost use Rattle.ft_layout.specs.Tables.{dict_room};
 ghost use Rattle.ft_trace.specs.declared.Act.{Act};
 ghost use Rattle.ft_trace.specs.Acts.{has_lock};
-ghost use Rattle.ft_trace.specs.Addresses.{containers_in};
-ghost use Rattle.ft_trace.specs.Holds.{held, known};
-ghost use Rattle.ft_trace.specs.Pictures.{Stands};
+ghost use Rattle.ft_trace.specs.Addresses.{container_count};
+ghost use Rattle.ft_trace.specs.Holds.{held_words, known_state};
+ghost use Rattle.ft_trace.specs.Pictures.{Represents};
 ghost use Rattle.ft_trace.specs.ContainerStates.{kind_in};
 ghost use Rattle.ft_bank.specs.Passes.{shape_of, view, IsPassOf};
 ghost use Rattle.ft_bank.specs.Series.{DidAll};
-ghost use Rattle.ft_bank.specs.TableNames.{name_of, IsTableIn};
+ghost use Rattle.ft_bank.specs.TableNames.{table_id, IsTableIn};
 ghost use Rattle.ft_bank.specs.Whole.{OnlyLoaded};
 ghost use Rattle.ft_search.specs.Held.{KnowsTable};
 ghost use Rattle.ft_search.specs.KeyLooks.{AreLooks};
@@ -64,13 +64,13 @@ fn seek_in(
     after: Option<u64>,
 ) -> Option<Pair>
     requires pass { IsPassOf bank.now pass.old }
-    requires container { o < containers_in (shape_of bank.now) }
+    requires container { o < container_count (shape_of bank.now) }
     requires table { IsTableIn (shape_of bank.now) table }
-    requires knows { KnowsTable o (name_of table) (view pass.old) }
+    requires knows { KnowsTable o (table_id table) (view pass.old) }
     requires fill { fill ≤ dict_room (class_mask table.class) }
     ensures pass { IsPassOf bank.now pass.new }
     ensures looks { (part : List Act) × AreLooks part × DidAll part pass.old pass.new }
-    ensures gives { GivesPair (class_mask table.class) (0 ∷ 0 ∷ (held o (view pass.old)).table) fill after result }
+    ensures gives { GivesPair (class_mask table.class) (0 ∷ 0 ∷ (held_words o (view pass.old)).table) fill after result }
 {
     let mask = mask_of(table.class);
     let start = bank.cell_of(table);
@@ -89,14 +89,14 @@ fn seek_in(
 /// of all, of a dict or a set whose lock the pass has: `None` where there is none.
 pub(crate) fn next_of(bank: &Bank, pass: &mut Pass, o: u32, after: Option<u64>) -> Option<Pair>
     requires pass { IsPassOf bank.now pass.old }
-    requires container { o < containers_in (shape_of bank.now) }
+    requires container { o < container_count (shape_of bank.now) }
     requires keyed { IsKeyed (kind_in (shape_of bank.now).starts o) }
     requires locked { has_lock o (view pass.old).log ≡ true }
-    requires stands { Stands (shape_of bank.now).texts (held o (view pass.old)) (known o (view pass.old)) }
+    requires stands { Represents (shape_of bank.now).texts (held_words o (view pass.old)) (known_state o (view pass.old)) }
     ensures pass { IsPassOf bank.now pass.new }
     ensures keeps { OnlyLoaded (view pass.old) (view pass.new) }
     ensures looks { (part : List Act) × AreLooks part × DidAll part pass.old pass.new }
-    ensures next { IsNextOf (known o (view pass.old)).content after result }
+    ensures next { IsNextOf (known_state o (view pass.old)).content after result }
 {
     let root = bank.read_block(pass, o, ROOT);
     let fill = bank.read_block(pass, o, FILL);

@@ -12,9 +12,9 @@ ghost use Rattle.ft_model.specs.declared.cursor.CursorState.TheVariants as walk;
 ghost use Rattle.ft_layout.specs.Containers.{used_pair, used_element};
 ghost use Rattle.ft_trace.specs.declared.Act.{Act};
 ghost use Rattle.ft_trace.specs.Acts.{has_lock};
-ghost use Rattle.ft_trace.specs.Addresses.{containers_in};
-ghost use Rattle.ft_trace.specs.Holds.{held, known};
-ghost use Rattle.ft_trace.specs.Pictures.{Stands};
+ghost use Rattle.ft_trace.specs.Addresses.{container_count};
+ghost use Rattle.ft_trace.specs.Holds.{held_words, known_state};
+ghost use Rattle.ft_trace.specs.Pictures.{Represents};
 ghost use Rattle.ft_trace.specs.ContainerStates.{kind_in};
 ghost use Rattle.ft_bank.specs.Passes.{shape_of, view, IsPassOf};
 ghost use Rattle.ft_bank.specs.Series.{DidAll};
@@ -73,13 +73,13 @@ fn walk_dict(
     last: Option<u64>,
 ) -> Advanced
     requires pass { IsPassOf bank.now pass.old }
-    requires container { container < containers_in (shape_of bank.now) }
+    requires container { container < container_count (shape_of bank.now) }
     requires dict { kind_in (shape_of bank.now).starts container ≡ kind.Dict }
     requires locked { has_lock container (view pass.old).log ≡ true }
-    requires stands { Stands (shape_of bank.now).texts (held container (view pass.old)) (known container (view pass.old)) }
+    requires stands { Represents (shape_of bank.now).texts (held_words container (view pass.old)) (known_state container (view pass.old)) }
     ensures pass { IsPassOf bank.now pass.new }
     ensures looks { (part : List Act) × AreLooks part × DidAll part pass.old pass.new }
-    ensures next { (d : DictContent) → (known container (view pass.old)).content ≡ content.Dict d →
+    ensures next { (d : DictContent) → (known_state container (view pass.old)).content ≡ content.Dict d →
         IsStep result (dict_next d.pairs container walk.Live size expected last) }
 {
     let count = bank.read_block(pass, container, USED);
@@ -121,13 +121,13 @@ pub(crate) fn next_dict(
     last: Option<u64>,
 ) -> Advanced
     requires pass { IsPassOf bank.now pass.old }
-    requires container { container < containers_in (shape_of bank.now) }
+    requires container { container < container_count (shape_of bank.now) }
     requires dict { kind_in (shape_of bank.now).starts container ≡ kind.Dict }
     requires locked { has_lock container (view pass.old).log ≡ true }
-    requires stands { Stands (shape_of bank.now).texts (held container (view pass.old)) (known container (view pass.old)) }
+    requires stands { Represents (shape_of bank.now).texts (held_words container (view pass.old)) (known_state container (view pass.old)) }
     ensures pass { IsPassOf bank.now pass.new }
     ensures looks { (part : List Act) × AreLooks part × DidAll part pass.old pass.new }
-    ensures next { (d : DictContent) → (known container (view pass.old)).content ≡ content.Dict d →
+    ensures next { (d : DictContent) → (known_state container (view pass.old)).content ≡ content.Dict d →
         IsStep result (dict_next d.pairs container walk size expected last) }
 {
     let stays = Cursor::Dict {
@@ -168,13 +168,13 @@ fn give_element(pair: Pair, container: u32, size: u64) -> Advanced
 /// Goes on in a set, where nothing was reported yet and the walk hasn't ended.
 fn walk_set(bank: &Bank, pass: &mut Pass, container: u32, size: u64, last: Option<u64>) -> Advanced
     requires pass { IsPassOf bank.now pass.old }
-    requires container { container < containers_in (shape_of bank.now) }
+    requires container { container < container_count (shape_of bank.now) }
     requires set { kind_in (shape_of bank.now).starts container ≡ kind.Set }
     requires locked { has_lock container (view pass.old).log ≡ true }
-    requires stands { Stands (shape_of bank.now).texts (held container (view pass.old)) (known container (view pass.old)) }
+    requires stands { Represents (shape_of bank.now).texts (held_words container (view pass.old)) (known_state container (view pass.old)) }
     ensures pass { IsPassOf bank.now pass.new }
     ensures looks { (part : List Act) × AreLooks part × DidAll part pass.old pass.new }
-    ensures next { (s : SetContent) → (known container (view pass.old)).content ≡ content.Set s →
+    ensures next { (s : SetContent) → (known_state container (view pass.old)).content ≡ content.Set s →
         IsStep result (set_next s.elements container walk.Live size last) }
 {
     let count = bank.read_block(pass, container, USED);
@@ -213,13 +213,13 @@ pub(crate) fn next_set(
     last: Option<u64>,
 ) -> Advanced
     requires pass { IsPassOf bank.now pass.old }
-    requires container { container < containers_in (shape_of bank.now) }
+    requires container { container < container_count (shape_of bank.now) }
     requires set { kind_in (shape_of bank.now).starts container ≡ kind.Set }
     requires locked { has_lock container (view pass.old).log ≡ true }
-    requires stands { Stands (shape_of bank.now).texts (held container (view pass.old)) (known container (view pass.old)) }
+    requires stands { Represents (shape_of bank.now).texts (held_words container (view pass.old)) (known_state container (view pass.old)) }
     ensures pass { IsPassOf bank.now pass.new }
     ensures looks { (part : List Act) × AreLooks part × DidAll part pass.old pass.new }
-    ensures next { (s : SetContent) → (known container (view pass.old)).content ≡ content.Set s →
+    ensures next { (s : SetContent) → (known_state container (view pass.old)).content ≡ content.Set s →
         IsStep result (set_next s.elements container walk size last) }
 {
     let stays = Cursor::Set {
@@ -250,13 +250,13 @@ pub(crate) fn next_list(
     ended: bool,
 ) -> Advanced
     requires pass { IsPassOf bank.now pass.old }
-    requires container { container < containers_in (shape_of bank.now) }
+    requires container { container < container_count (shape_of bank.now) }
     requires list { kind_in (shape_of bank.now).starts container ≡ kind.List }
     requires locked { has_lock container (view pass.old).log ≡ true }
-    requires stands { Stands (shape_of bank.now).texts (held container (view pass.old)) (known container (view pass.old)) }
+    requires stands { Represents (shape_of bank.now).texts (held_words container (view pass.old)) (known_state container (view pass.old)) }
     ensures pass { IsPassOf bank.now pass.new }
     ensures looks { (part : List Act) × AreLooks part × DidAll part pass.old pass.new }
-    ensures next { (items : List Value) → (known container (view pass.old)).content ≡ content.List items →
+    ensures next { (items : List Value) → (known_state container (view pass.old)).content ≡ content.List items →
         IsStep result (list_next items container index ended) }
 {
     if ended {

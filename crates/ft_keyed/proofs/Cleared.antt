@@ -14,9 +14,9 @@ use Rattle.ft_model.specs.TableUses.{StoredWorld, after_stored, no_table, table_
 use Rattle.ft_model.specs.Worlds.{dict_at, dict_of, kind_of, set_at, set_of, IsOfKind}
 use Rattle.ft_trace.specs.declared.Shape.{Shape}
 use Rattle.ft_trace.specs.declared.View.{View}
-use Rattle.ft_trace.specs.Addresses.{containers_in}
-use Rattle.ft_trace.specs.Holds.{known}
-use Rattle.ft_trace.specs.Traces.{Possible}
+use Rattle.ft_trace.specs.Addresses.{container_count}
+use Rattle.ft_trace.specs.Holds.{known_state}
+use Rattle.ft_trace.specs.Traces.{IsReachable}
 use Rattle.ft_trace.specs.ContainerStates.{ContainerState, kind_in, state_at}
 use Rattle.ft_trace.proofs.Known.{declared_at}
 use Rattle.ft_trace.proofs.Naming.{named_locked}
@@ -64,9 +64,9 @@ table_left way.Set stored c none low = get_or-set_same stored.tables c no_table 
 
 -- ---- the write
 
-module _ (way : Way) (k : Shape) (c : ℕ) (v : View) (shape : v.shape ≡ k) (possible : ∥ Possible v ∥₁) (may : MayWriteEntries k c v) (is : kind_in k.starts c ≡ kind_by way) (stored : StoredWorld) (has : MayHave v stored) where
-  low : c < containers_in v.shape
-  low = subst (λ (z : Shape). c < containers_in z) (sym shape) may.container
+module _ (way : Way) (k : Shape) (c : ℕ) (v : View) (shape : v.shape ≡ k) (possible : ∥ IsReachable v ∥₁) (may : MayWriteEntries k c v) (is : kind_in k.starts c ≡ kind_by way) (stored : StoredWorld) (has : MayHave v stored) where
+  low : c < container_count v.shape
+  low = subst (λ (z : Shape). c < container_count z) (sym shape) may.container
 
   many : c < length stored.world
   many = subst (λ (n : ℕ). c < n) (sym has.containers) low
@@ -80,13 +80,13 @@ module _ (way : Way) (k : Shape) (c : ℕ) (v : View) (shape : v.shape ≡ k) (p
   named : IsOfKind stored.world (kind_by way) c
   named = subst (λ (z : Kind). IsOfKind stored.world z c) here (declared_at stored.world c (state_at stored c).content many refl)
 
-  left_is : state_at (after_stored stored (clear_call way c)) c ≡ cleared_kept (known c v)
+  left_is : state_at (after_stored stored (clear_call way c)) c ≡ cleared_kept (known_state c v)
   left_is =
       let content = content_left way stored.world c many here ∙ ap (λ (z : ContainerState). cleared z.content) (has.agrees c low may.locked) in
       let table = table_left way stored c (has.unsplit c) many_tables in
       λ i. record { content = content i; table = table i }
 
-pub clear_leaves : (way : Way) (k : Shape) (c : ℕ) (v : View) → v.shape ≡ k → ∥ Possible v ∥₁ → MayWriteEntries k c v → kind_in k.starts c ≡ kind_by way → Leaves c (clear_call way c) reply.Done (cleared_kept (known c v)) v
+pub clear_leaves : (way : Way) (k : Shape) (c : ℕ) (v : View) → v.shape ≡ k → ∥ IsReachable v ∥₁ → MayWriteEntries k c v → kind_in k.starts c ≡ kind_by way → Leaves c (clear_call way c) reply.Done (cleared_kept (known_state c v)) v
 clear_leaves way.Dict k c v shape possible may is = record {
   write = refl;
   changed = refl;

@@ -6,10 +6,10 @@ use Rattle.ft_model.specs.TableUses.{StoredWorld}
 use Rattle.ft_model.specs.Worlds.{kind_of}
 use Rattle.ft_trace.specs.declared.Shape.{Shape}
 use Rattle.ft_trace.specs.declared.View.{View}
-use Rattle.ft_trace.specs.Holds.{held}
+use Rattle.ft_trace.specs.Holds.{held_words}
 use Rattle.ft_trace.specs.Kinds.{IsKeyed}
-use Rattle.ft_trace.specs.Traces.{Possible}
-use Rattle.ft_trace.specs.Pictures.{Picture, Stands}
+use Rattle.ft_trace.specs.Traces.{IsReachable}
+use Rattle.ft_trace.specs.Pictures.{ContainerWords, Represents}
 use Rattle.ft_trace.specs.ContainerStates.{state_at, kind_in, reply_in}
 use Rattle.ft_search.specs.MadeCalls.{IsShownBy}
 use Rattle.ft_search.specs.OneEntryWrites.{MayWriteEntries}
@@ -50,14 +50,14 @@ truth_in SameSets o m stored is is' = λ i. reply.Truth (same_elements (set_ther
 truth_in Subset o m stored is is' = λ i. reply.Truth (is_subset (set_there stored.world o is i).elements (set_there stored.world m is' i).elements)
 truth_in Disjoint o m stored is is' = λ i. reply.Truth (is_disjoint (set_there stored.world o is i).elements (set_there stored.world m is' i).elements)
 
-pub compared_reply : (k : Shape) (how : Comparison) (o m : ℕ) (is_so : Bool) (x y : Picture) (stored : StoredWorld) → kind_of (state_at stored o).content ≡ kind_compared how → kind_of (state_at stored m).content ≡ kind_compared how → Stands k.texts x (state_at stored o) → Stands k.texts y (state_at stored m)
+pub compared_reply : (k : Shape) (how : Comparison) (o m : ℕ) (is_so : Bool) (x y : ContainerWords) (stored : StoredWorld) → kind_of (state_at stored o).content ≡ kind_compared how → kind_of (state_at stored m).content ≡ kind_compared how → Represents k.texts x (state_at stored o) → Represents k.texts y (state_at stored m)
     → IsComparedAs k how is_so x y → reply_in stored (compared how o m) ≡ reply.Truth is_so
 compared_reply k how o m is_so x y stored is is' stands stands' shows =
     truth_in how o m stored is is' ∙ ap reply.Truth (sym (shows (state_at stored o) is stands (state_at stored m) is' stands'))
 
 -- by a pass that has both locks
-pub compared_shown : (k : Shape) (how : Comparison) (o m : ℕ) (v : View) → v.shape ≡ k → ∥ Possible v ∥₁ → MayWriteEntries k o v → MayWriteEntries k m v → kind_in k.starts o ≡ kind_compared how → kind_in k.starts m ≡ kind_compared how
-    → (is_so : Bool) → IsComparedAs k how is_so (held o v) (held m v) → IsShownBy (compared how o m) (reply.Truth is_so) v
+pub compared_shown : (k : Shape) (how : Comparison) (o m : ℕ) (v : View) → v.shape ≡ k → ∥ IsReachable v ∥₁ → MayWriteEntries k o v → MayWriteEntries k m v → kind_in k.starts o ≡ kind_compared how → kind_in k.starts m ≡ kind_compared how
+    → (is_so : Bool) → IsComparedAs k how is_so (held_words o v) (held_words m v) → IsShownBy (compared how o m) (reply.Truth is_so) v
 compared_shown k how o m v shape possible may other is is' is_so shows =
     let plain = compared_plain how o m is_so in
     record {
@@ -65,6 +65,6 @@ compared_shown k how o m v shape possible may other is is' is_so shows =
       cursor = plain.cursor;
       plain = λ stored same. plain.replied (reply_in stored (compared how o m)) (sym same);
       replied = λ stored has.
-          compared_reply k how o m is_so (held o v) (held m v) stored (had_kind k o v shape possible may stored has ∙ is) (had_kind k m v shape possible other stored has ∙ is') (had_stands k o v shape possible may stored has) (had_stands k m v shape possible other stored has) shows;
+          compared_reply k how o m is_so (held_words o v) (held_words m v) stored (had_kind k o v shape possible may stored has ∙ is) (had_kind k m v shape possible other stored has ∙ is') (had_stands k o v shape possible may stored has) (had_stands k m v shape possible other stored has) shows;
       cause = plain.cause;
     }

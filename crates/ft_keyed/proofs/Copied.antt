@@ -22,9 +22,9 @@ use Rattle.ft_model.specs.TableUses.{StoredWorld}
 use Rattle.ft_model.specs.Worlds.{dict_of, kind_of, set_of}
 use Rattle.ft_trace.specs.declared.Shape.{Shape}
 use Rattle.ft_trace.specs.declared.View.{View}
-use Rattle.ft_trace.specs.Holds.{held}
-use Rattle.ft_trace.specs.Traces.{Possible}
-use Rattle.ft_trace.specs.Pictures.{Picture, Stands, root_in}
+use Rattle.ft_trace.specs.Holds.{held_words}
+use Rattle.ft_trace.specs.Traces.{IsReachable}
+use Rattle.ft_trace.specs.Pictures.{ContainerWords, Represents, root_in}
 use Rattle.ft_trace.specs.ContainerStates.{state_at, kind_in, reply_in}
 use Rattle.ft_search.specs.MadeCalls.{IsShownBy}
 use Rattle.ft_search.specs.OneEntryWrites.{MayWriteEntries}
@@ -64,16 +64,16 @@ pub used_reply : (way : Way) (used : List UsedEntry) → IsItemsReply way (reply
 used_reply way.Dict used = (filter_map plain_pair used, refl)
 used_reply way.Set used = (filter_map live_key used, refl)
 
-pub all_of_used : (way : Way) (k : Shape) (t fill : ℕ) (x : Picture) (made : Result Reply AllocError) → root_in x ≡ suc t → fill ≡ slice_index x.block 2 → OfUsed k t (λ used. fill ≡ length used → IsAllOf made (reply_of_used way used)) x → IsAllIn way k made x
+pub all_of_used : (way : Way) (k : Shape) (t fill : ℕ) (x : ContainerWords) (made : Result Reply AllocError) → root_in x ≡ suc t → fill ≡ slice_index x.block 2 → OfUsed k t (λ used. fill ≡ length used → IsAllOf made (reply_of_used way used)) x → IsAllIn way k made x
 all_of_used way.Dict k t fill x made names filled of_used =
     of_dict k t fill x (λ used. IsAllOf made (reply.Dict (filter_map plain_pair used))) names filled of_used (λ (dict : DictContent). IsAllOf made (reply.Dict (items_of dict.pairs)))
-    (λ used dict are is held. subst (λ (l : List (Key × Value)). IsAllOf made (reply.Dict l)) (pairs_gathered used dict are) held)
+    (λ used dict are is held_words. subst (λ (l : List (Key × Value)). IsAllOf made (reply.Dict l)) (pairs_gathered used dict are) held_words)
 all_of_used way.Set k t fill x made names filled of_used =
     of_set k t fill x (λ used. IsAllOf made (reply.Set (filter_map live_key used))) names filled of_used (λ (set : SetContent). IsAllOf made (reply.Set (map (λ (e : Element). e.key) set.elements)))
-    (λ used set are is held. subst (λ (l : List Key). IsAllOf made (reply.Set l)) (elements_gathered used set are) held)
+    (λ used set are is held_words. subst (λ (l : List Key). IsAllOf made (reply.Set l)) (elements_gathered used set are) held_words)
 
 -- where there is no table, there is nothing
-pub none_there : (way : Way) (k : Shape) (x : Picture) (said : Reply) → root_in x ≡ 0 → said ≡ reply_of_used way [] → IsAllIn way k (Ok said) x
+pub none_there : (way : Way) (k : Shape) (x : ContainerWords) (said : Reply) → root_in x ≡ 0 → said ≡ reply_of_used way [] → IsAllIn way k (Ok said) x
 none_there way.Dict k x said bare is =
     no_dict k x bare (λ (dict : DictContent). IsAllOf (Ok said) (reply.Dict (items_of dict.pairs))) (λ dict nothing. (is ∙ ap (λ (l : List DictPair). reply.Dict (items_of l)) (sym nothing), tt))
 none_there way.Set k x said bare is =
@@ -81,7 +81,7 @@ none_there way.Set k x said bare is =
 
 -- ---- the reply
 
-pub all_replied : (way : Way) (k : Shape) (c : ℕ) (made : Result Reply AllocError) (x : Picture) (stored : StoredWorld) → kind_of (state_at stored c).content ≡ kind_by way → Stands k.texts x (state_at stored c) → IsAllIn way k made x → IsAllOf made (reply_in stored (items_call way c))
+pub all_replied : (way : Way) (k : Shape) (c : ℕ) (made : Result Reply AllocError) (x : ContainerWords) (stored : StoredWorld) → kind_of (state_at stored c).content ≡ kind_by way → Represents k.texts x (state_at stored c) → IsAllIn way k made x → IsAllOf made (reply_in stored (items_call way c))
 all_replied way.Dict k c made x stored is stands shows =
     subst (λ (z : DictContent). IsAllOf made (reply.Dict (items_of z.pairs))) (sym (dict_there stored.world c is)) (shows (state_at stored c) is stands)
 all_replied way.Set k c made x stored is stands shows =
@@ -92,7 +92,7 @@ some_mapped f [] none = none
 some_mapped f (x ∷ xs) some = omega arith
 
 -- there is one at least where there was no memory for them
-pub some_there : (way : Way) (k : Shape) (error : AllocError) (x : Picture) → IsAllIn way k (Err error) x → HasEntry way k x
+pub some_there : (way : Way) (k : Shape) (error : AllocError) (x : ContainerWords) → IsAllIn way k (Err error) x → HasEntry way k x
 some_there way.Dict k error x shows = λ kept is stands. some_mapped (λ (pair : DictPair). (pair.key, pair.value)) (dict_of kept.content).pairs (shows kept is stands).1
 some_there way.Set k error x shows = λ kept is stands. some_mapped (λ (e : Element). e.key) (set_of kept.content).elements (shows kept is stands).1
 
@@ -110,15 +110,15 @@ items_sections way.Set c = λ n l sections. refl
 
 -- ---- under the lock
 
-module _ (way : Way) (k : Shape) (c : ℕ) (v : View) (shape : v.shape ≡ k) (possible : ∥ Possible v ∥₁) (may : MayWriteEntries k c v) (is : kind_in k.starts c ≡ kind_by way) where
-  all_now : (made : Result Reply AllocError) → IsAllIn way k made (held c v) → (stored : StoredWorld) → MayHave v stored → IsAllOf made (reply_in stored (items_call way c))
-  all_now made shows stored has = all_replied way k c made (held c v) stored (had_kind k c v shape possible may stored has ∙ is) (had_stands k c v shape possible may stored has) shows
+module _ (way : Way) (k : Shape) (c : ℕ) (v : View) (shape : v.shape ≡ k) (possible : ∥ IsReachable v ∥₁) (may : MayWriteEntries k c v) (is : kind_in k.starts c ≡ kind_by way) where
+  all_now : (made : Result Reply AllocError) → IsAllIn way k made (held_words c v) → (stored : StoredWorld) → MayHave v stored → IsAllOf made (reply_in stored (items_call way c))
+  all_now made shows stored has = all_replied way k c made (held_words c v) stored (had_kind k c v shape possible may stored has ∙ is) (had_stands k c v shape possible may stored has) shows
 
   -- a copy without memory takes some
-  pub items_taken : (error : AllocError) → IsAllIn way k (Err error) (held c v) → TakesMemory (items_call way c) v
+  pub items_taken : (error : AllocError) → IsAllIn way k (Err error) (held_words c v) → TakesMemory (items_call way c) v
   items_taken error shows stored has = (all_now (Err error) shows stored has).1
 
-  pub items_shown : (said : Reply) → IsItemsReply way said → IsAllIn way k (Ok said) (held c v) → IsShownBy (items_call way c) said v
+  pub items_shown : (said : Reply) → IsItemsReply way said → IsAllIn way k (Ok said) (held_words c v) → IsShownBy (items_call way c) said v
   items_shown said all shows =
       let plain = items_plain way c said all in
       record {

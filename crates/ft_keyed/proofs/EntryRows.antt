@@ -21,11 +21,11 @@ use Rattle.ft_trace.specs.declared.Shape.{Shape}
 use Rattle.ft_trace.specs.Addresses.{class_of, places, slots}
 use Rattle.ft_trace.specs.Carefuls.{HasLiveKey}
 use Rattle.ft_trace.specs.Kinds.{IsKeyed}
-use Rattle.ft_trace.specs.Pictures.{Picture, Stands, entry_field, root_in}
+use Rattle.ft_trace.specs.Pictures.{ContainerWords, Represents, entry_field, root_in}
 use Rattle.ft_trace.specs.ContainerStates.{ContainerState}
 use Rattle.ft_trace.proofs.Known.{class_known}
 use Rattle.ft_bank.specs.declared.table.Table.{Table}
-use Rattle.ft_bank.specs.TableNames.{IsTableIn, name_of}
+use Rattle.ft_bank.specs.TableNames.{IsTableIn, table_id}
 use Rattle.ft_bank.proofs.TableAddresses.{class_is}
 use Rattle.ft_search.proofs.KnownTableWords.{entry_after_header}
 use Rattle.ft_search.proofs.WordPlaces.{places_is, slots_of_class}
@@ -76,7 +76,7 @@ pair_in None other = other
 
 -- ---- in a table that a root names
 
-module _ (k : Shape) (t place kind payload : ℕ) (x : Picture) (kind_is : root_in x ≡ suc t → kind ≡ entry_field (slots (class_of t)) x.table place 2) (payload_is : root_in x ≡ suc t → payload ≡ entry_field (slots (class_of t)) x.table place 3) where
+module _ (k : Shape) (t place kind payload : ℕ) (x : ContainerWords) (kind_is : root_in x ≡ suc t → kind ≡ entry_field (slots (class_of t)) x.table place 2) (payload_is : root_in x ≡ suc t → payload ≡ entry_field (slots (class_of t)) x.table place 3) where
   abbrev c : ℕ
   c = class_of t
 
@@ -90,7 +90,7 @@ module _ (k : Shape) (t place kind payload : ℕ) (x : Picture) (kind_is : root_
   )
 
 -- the key and the value of an entry, once the key was read
-pub value_read : (k : Shape) (t place value_kind value : ℕ) (x : Picture) (key : Key) → IsKeyAt k t place (Some key) x → (root_in x ≡ suc t → value_kind ≡ entry_field (slots (class_of t)) x.table place 4) → (root_in x ≡ suc t → value ≡ entry_field (slots (class_of t)) x.table place 5)
+pub value_read : (k : Shape) (t place value_kind value : ℕ) (x : ContainerWords) (key : Key) → IsKeyAt k t place (Some key) x → (root_in x ≡ suc t → value_kind ≡ entry_field (slots (class_of t)) x.table place 4) → (root_in x ≡ suc t → value ≡ entry_field (slots (class_of t)) x.table place 5)
     → (found : Option Value) → ((v : Value) → IsStored value_kind value (Plain v) ↔ (found ≡ Some v)) → IsPlainAt k t place (option_map {U = Key × Value} (λ (v : Value). (key, v)) found) x
 value_read k t place value_kind value x key at value_kind_is value_is found says = (
   (λ names way used table any low.
@@ -115,7 +115,7 @@ value_read k t place value_kind value x key at value_kind_is value_is found says
     by (Some w) v other is f = f (ap (λ (z : Option (Key × Value)). (pair_in z (key, w)).0) is)
     by None v other is f = absurd (cc)
 
-pub missing_read : (k : Shape) (t place : ℕ) (x : Picture) → IsKeyAt k t place None x → IsPlainAt k t place None x
+pub missing_read : (k : Shape) (t place : ℕ) (x : ContainerWords) → IsKeyAt k t place None x → IsPlainAt k t place None x
 missing_read k t place x at = (
   (λ names way used table any low. let e = slice_index_or used place any in by e e.stored (at.0 names way used table any low)),
   (λ names key value is. absurd (cc)),
@@ -128,7 +128,7 @@ missing_read k t place x at = (
 -- ---- the used entries of what words stand for
 
 -- a dict or a set whose root names the table t has entries there
-pub entries_of : (k : Shape) (x : Picture) (kept : ContainerState) (t : ℕ) → IsKeyed (kind_of kept.content) → Stands k.texts x kept → root_in x ≡ suc t
+pub entries_of : (k : Shape) (x : ContainerWords) (kept : ContainerState) (t : ℕ) → IsKeyed (kind_of kept.content) → Represents k.texts x kept → root_in x ≡ suc t
     → (way : Way) × ((used : List UsedEntry) × IsTableOf way k.texts (class_mask (class_of t)) used (0 ∷ 0 ∷ x.table) × (length used ≡ slice_index x.block 2) × AreEntriesOf used kept.content)
 entries_of k x kept t keyed stands names = by kept.content keyed stands
   where
@@ -155,9 +155,9 @@ room_low : (way : Way) (mask : ℕ) → room way mask ≤ dict_room mask
 room_low way.Dict mask = omega arith
 room_low way.Set mask = omega arith
 
-module _ (k : Shape) (table : Table) (is_in : IsTableIn k table) (place : ℕ) (past : dict_entries table.class ≤ place) (x : Picture) where
+module _ (k : Shape) (table : Table) (is_in : IsTableIn k table) (place : ℕ) (past : dict_entries table.class ≤ place) (x : ContainerWords) where
   abbrev past_class : ℕ
-  past_class = class_of (name_of table)
+  past_class = class_of (table_id table)
 
   past_place : (way : Way) (used : List UsedEntry) → IsTableOf way k.texts (class_mask past_class) used (0 ∷ 0 ∷ x.table) → length used ≤ place
   past_place way used is =
@@ -168,7 +168,7 @@ module _ (k : Shape) (table : Table) (is_in : IsTableIn k table) (place : ℕ) (
       let more = places_of past_class ∙ ap dict_entries (class_is table is_in.2) in
       omega (arith, few, low, all, more, past)
 
-  pub past_key : IsKeyAt k (name_of table) place None x
+  pub past_key : IsKeyAt k (table_id table) place None x
   past_key = (
     (λ names way used is any low. let few = past_place way used is in absurd (omega (arith, few, low))),
     (λ names key e. absurd (cc)),

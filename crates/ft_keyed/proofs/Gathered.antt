@@ -21,7 +21,7 @@ use Rattle.ft_model.specs.Contents.{DictContent, IsDict, IsSet, SetContent}
 use Rattle.ft_model.specs.Worlds.{dict_of, kind_of, length_of, set_of}
 use Rattle.ft_trace.specs.declared.Shape.{Shape}
 use Rattle.ft_trace.specs.Addresses.{class_of, slots}
-use Rattle.ft_trace.specs.Pictures.{Picture, root_in}
+use Rattle.ft_trace.specs.Pictures.{ContainerWords, root_in}
 use Rattle.ft_trace.proofs.Known.{class_known}
 use Rattle.ft_trace.proofs.NoTable.{no_table_stands}
 use Rattle.ft_search.proofs.WordPlaces.{slots_of_class}
@@ -98,7 +98,7 @@ slots_is_pow c = refl
 set_room_is : (c : ℕ) → set_room (class_mask c) ≡ set_entries c
 set_room_is c = let e : 2 ^ c ≡ class_mask c + 1 = sym (slots_is_pow c) ∙ slots_of_class c in omega (arith, e)
 
-module _ (k : Shape) (t fill : ℕ) (x : Picture) (holds : List UsedEntry → Type 0) (names : root_in x ≡ suc t) (filled : fill ≡ slice_index x.block 2) (of_used : OfUsed k t (λ used. fill ≡ length used → holds used) x) where
+module _ (k : Shape) (t fill : ℕ) (x : ContainerWords) (holds : List UsedEntry → Type 0) (names : root_in x ≡ suc t) (filled : fill ≡ slice_index x.block 2) (of_used : OfUsed k t (λ used. fill ≡ length used → holds used) x) where
   pub of_dict : (then : DictContent → Type 0) → ((used : List UsedEntry) (dict : DictContent) → AreDictEntries used dict → IsDict dict.next dict.pairs → holds used → then dict) → IsOfDict k then x
   of_dict then f kept is stands = by kept.content is stands
     where
@@ -131,7 +131,7 @@ no_items : {X : Type 0} (xs : List X) → length xs ≡ 0 → xs ≡ []
 no_items [] e = refl
 no_items (x ∷ xs) e = absurd (omega (arith, e))
 
-module _ (k : Shape) (x : Picture) (bare : root_in x ≡ 0) where
+module _ (k : Shape) (x : ContainerWords) (bare : root_in x ≡ 0) where
   pub no_dict : (then : DictContent → Type 0) → ((dict : DictContent) → dict.pairs ≡ [] → then dict) → IsOfDict k then x
   no_dict then f kept is stands = by kept.content is (no_table_stands k.texts x kept bare stands).1
     where

@@ -18,12 +18,12 @@ use Rattle.ft_model.specs.Worlds.{dict_of, kind_of, set_of}
 use Rattle.ft_trace.specs.declared.Act.TheVariants.{ReadCounter}
 use Rattle.ft_trace.specs.declared.Shape.{Shape}
 use Rattle.ft_trace.specs.declared.View.{View}
-use Rattle.ft_trace.specs.Acts.{has_lock, noted}
-use Rattle.ft_trace.specs.Addresses.{containers_in}
+use Rattle.ft_trace.specs.Acts.{has_lock, view_after}
+use Rattle.ft_trace.specs.Addresses.{container_count}
 use Rattle.ft_trace.specs.FitCalls.{FitsContent}
-use Rattle.ft_trace.specs.Holds.{known}
+use Rattle.ft_trace.specs.Holds.{known_state}
 use Rattle.ft_trace.specs.Kinds.{under}
-use Rattle.ft_trace.specs.Traces.{Possible}
+use Rattle.ft_trace.specs.Traces.{IsReachable}
 use Rattle.ft_trace.specs.ContainerStates.{ContainerState, kind_in, reply_in, state_at}
 use Rattle.ft_trace.proofs.LookReplies as looked
 use Rattle.ft_trace.proofs.SameKeys.{any_found}
@@ -60,15 +60,15 @@ pub has_sections : (way : Way) (c : ℕ) (key : Key) → LeavesSections (has_cal
 has_sections way.Dict c key = λ n l sections. refl
 has_sections way.Set c key = λ n l sections. refl
 
-module _ (k : Shape) (c : ℕ) (key : Key) (read : Option (ℕ × ℕ)) (v u : View) (shape : v.shape ≡ k) (possible : ∥ Possible v ∥₁) (low : c < containers_in k) (locked : has_lock c v.log ≡ true) (fits : FitsKey key) (left : 0 < v.left) (loaded : OnlyLoaded v u) (held : IsHeldAt (known c v).content key read) (n : ℕ) where
+module _ (k : Shape) (c : ℕ) (key : Key) (read : Option (ℕ × ℕ)) (v u : View) (shape : v.shape ≡ k) (possible : ∥ IsReachable v ∥₁) (low : c < container_count k) (locked : has_lock c v.log ≡ true) (fits : FitsKey key) (left : 0 < v.left) (loaded : OnlyLoaded v u) (held : IsHeldAt (known_state c v).content key read) (n : ℕ) where
   abbrev w : View
-  w = noted (ReadCounter n) u
+  w = view_after (ReadCounter n) u
 
   module _ (stored : StoredWorld) (may : MayHave w stored) where
-    within : c < containers_in w.shape
-    within = subst (λ (z : Shape). c < containers_in z) (sym (loaded.work.pass.shape ∙ shape)) low
+    within : c < container_count w.shape
+    within = subst (λ (z : Shape). c < container_count z) (sym (loaded.work.pass.shape ∙ shape)) low
 
-    here : (state_at stored c).content ≡ (known c v).content
+    here : (state_at stored c).content ≡ (known_state c v).content
     here = ap (λ (z : ContainerState). z.content) (may.agrees c within (loaded.work.pass.locks c ∙ locked)) ∙ ap (λ (z : ContainerState). z.content) (work_knows v u c loaded.work)
 
     kind_here : kind_of (state_at stored c).content ≡ kind_in k.starts c

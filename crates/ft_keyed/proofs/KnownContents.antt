@@ -10,10 +10,10 @@ use Rattle.ft_model.specs.TableUses.{StoredWorld}
 use Rattle.ft_model.specs.Worlds.{dict_at, dict_of, kind_of, set_at, set_of}
 use Rattle.ft_trace.specs.declared.Shape.{Shape}
 use Rattle.ft_trace.specs.declared.View.{View}
-use Rattle.ft_trace.specs.Addresses.{containers_in}
-use Rattle.ft_trace.specs.Holds.{held}
-use Rattle.ft_trace.specs.Traces.{Possible}
-use Rattle.ft_trace.specs.Pictures.{Picture, Stands}
+use Rattle.ft_trace.specs.Addresses.{container_count}
+use Rattle.ft_trace.specs.Holds.{held_words}
+use Rattle.ft_trace.specs.Traces.{IsReachable}
+use Rattle.ft_trace.specs.Pictures.{ContainerWords, Represents}
 use Rattle.ft_trace.specs.ContainerStates.{ContainerState, state_at, kind_in, kinds_in}
 use Rattle.ft_bank.specs.declared.pass.Pass.{Pass}
 use Rattle.ft_bank.specs.Passes.{view}
@@ -30,32 +30,32 @@ use Rattle.ft_reads.proofs.Agreeing.{reads_loaded}
 
 -- ---- what was read
 
-module _ (k : Shape) (o : ℕ) (shows : Picture → Type 0) (p q : Pass) (r : Reads k o shows p q) (may : MayWriteEntries k o (view p)) where
-  pub read_shows : shows (held o (view p))
-  read_shows = r.3 (held o (view p)) (r.4 o may.container may.locked)
+module _ (k : Shape) (o : ℕ) (shows : ContainerWords → Type 0) (p q : Pass) (r : Reads k o shows p q) (may : MayWriteEntries k o (view p)) where
+  pub read_shows : shows (held_words o (view p))
+  read_shows = r.3 (held_words o (view p)) (r.4 o may.container may.locked)
 
   pub read_may : MayWriteEntries k o (view q)
   read_may = may_loaded k o (view p) (view q) (reads_loaded k o shows p q r) may
 
   -- and so it is once the words were loaded
-  pub read_later : shows (held o (view q))
+  pub read_later : shows (held_words o (view q))
   read_later = subst shows (sym (loaded_held (view p) (view q) o (reads_loaded k o shows p q r))) read_shows
 
-module _ (k : Shape) (o m : ℕ) (shows : Picture → Picture → Type 0) (p q : Pass) (r : ReadsBoth k o m shows p q) (may : MayWriteEntries k o (view p)) (other : MayWriteEntries k m (view p)) where
-  pub both_show : shows (held o (view p)) (held m (view p))
-  both_show = r.3 (held o (view p)) (held m (view p)) (r.4 o may.container may.locked) (r.4 m other.container other.locked)
+module _ (k : Shape) (o m : ℕ) (shows : ContainerWords → ContainerWords → Type 0) (p q : Pass) (r : ReadsBoth k o m shows p q) (may : MayWriteEntries k o (view p)) (other : MayWriteEntries k m (view p)) where
+  pub both_show : shows (held_words o (view p)) (held_words m (view p))
+  both_show = r.3 (held_words o (view p)) (held_words m (view p)) (r.4 o may.container may.locked) (r.4 m other.container other.locked)
 
 -- ---- what the bank may have then
 
-module _ (k : Shape) (o : ℕ) (v : View) (shape : v.shape ≡ k) (possible : ∥ Possible v ∥₁) (may : MayWriteEntries k o v) (stored : StoredWorld) (has : MayHave v stored) where
-  low : o < containers_in v.shape
-  low = subst (λ (z : Shape). o < containers_in z) (sym shape) may.container
+module _ (k : Shape) (o : ℕ) (v : View) (shape : v.shape ≡ k) (possible : ∥ IsReachable v ∥₁) (may : MayWriteEntries k o v) (stored : StoredWorld) (has : MayHave v stored) where
+  low : o < container_count v.shape
+  low = subst (λ (z : Shape). o < container_count z) (sym shape) may.container
 
   pub had_kind : kind_of (state_at stored o).content ≡ kind_in k.starts o
   had_kind = ap (λ (z : ContainerState). kind_of z.content) (has.agrees o low may.locked) ∙ kind_is k v o shape possible may.locked
 
-  pub had_stands : Stands k.texts (held o v) (state_at stored o)
-  had_stands = subst (λ (z : ContainerState). Stands k.texts (held o v) z) (sym (has.agrees o low may.locked)) may.stands
+  pub had_stands : Represents k.texts (held_words o v) (state_at stored o)
+  had_stands = subst (λ (z : ContainerState). Represents k.texts (held_words o v) z) (sym (has.agrees o low may.locked)) may.stands
 
 -- ---- the dict or the set at a place of a world
 
@@ -82,8 +82,8 @@ shown_then called said v u l s = record {
   where
     had_before : (stored : StoredWorld) → MayHave u stored → MayHave v stored
     had_before stored has = record {
-      agrees = λ p low mine. has.agrees p (subst (λ (z : Shape). p < containers_in z) (sym l.work.pass.shape) low) (l.work.pass.locks p ∙ mine) ∙ work_knows v u p l.work;
-      containers = has.containers ∙ ap containers_in l.work.pass.shape;
+      agrees = λ p low mine. has.agrees p (subst (λ (z : Shape). p < container_count z) (sym l.work.pass.shape) low) (l.work.pass.locks p ∙ mine) ∙ work_knows v u p l.work;
+      containers = has.containers ∙ ap container_count l.work.pass.shape;
       order = has.order;
       kinds = has.kinds ∙ ap (λ (z : Shape). kinds_in z.starts) l.work.pass.shape;
       unsplit = has.unsplit;

@@ -23,7 +23,7 @@ use Rattle.ft_model.specs.Worlds.{dict_of, kind_of, set_of}
 use Rattle.ft_model.proofs.DictLaws.{absent_in, distinct_tail}
 use Rattle.ft_model.proofs.KeyLemmas.{same_key-true}
 use Rattle.ft_trace.specs.declared.Shape.{Shape}
-use Rattle.ft_trace.specs.Pictures.{Picture, Stands}
+use Rattle.ft_trace.specs.Pictures.{ContainerWords, Represents}
 use Rattle.ft_trace.specs.ContainerStates.{ContainerState}
 use Rattle.ft_bank.specs.declared.pass.Pass.{Pass}
 use Rattle.ft_reads.specs.Pairs.{ReadsBoth}
@@ -152,7 +152,7 @@ none_lacks pairs other distinct =
     (any_same (λ p. not (has_pair other.pairs p)) (λ (p : DictPair). lacks_value other (p.key, p.value)) pairs (λ p. ap not (has_is other.pairs distinct p))
     ∙ sym (any_map (lacks_value other) (λ (p : DictPair). (p.key, p.value)) pairs))
 
-pub dict_is : (k : Shape) (x : Picture) (kept : ContainerState) → kind_of kept.content ≡ kind.Dict → Stands k.texts x kept → IsDict (dict_of kept.content).next (dict_of kept.content).pairs
+pub dict_is : (k : Shape) (x : ContainerWords) (kept : ContainerState) → kind_of kept.content ≡ kind.Dict → Represents k.texts x kept → IsDict (dict_of kept.content).next (dict_of kept.content).pairs
 dict_is k x kept is stands = by kept.content is stands
   where
     by : (c : Content) → kind_of c ≡ kind.Dict → StandsAs k.texts x.block (0 ∷ 0 ∷ x.table) kept.table c → IsDict (dict_of c).next (dict_of c).pairs
@@ -171,10 +171,10 @@ at_dict (content.Deque deque) key read is at found none some = absurd (cc)
 
 -- ---- reads of two containers
 
-pub both_swap : (k : Shape) (o m : ℕ) (P : Picture → Picture → Type 0) (p q : Pass) → ReadsBoth k m o P p q → ReadsBoth k o m (λ x y. P y x) p q
+pub both_swap : (k : Shape) (o m : ℕ) (P : ContainerWords → ContainerWords → Type 0) (p q : Pass) → ReadsBoth k m o P p q → ReadsBoth k o m (λ x y. P y x) p q
 both_swap k o m P p q r = (r.0, r.1, r.2, (λ x y f g. r.3 y x g f), r.4)
 
-pub both_none : (k : Shape) (o m : ℕ) (P : Picture → Picture → Type 0) (p : Pass) → ((x y : Picture) → P x y) → ReadsBoth k o m P p p
+pub both_none : (k : Shape) (o m : ℕ) (P : ContainerWords → ContainerWords → Type 0) (p : Pass) → ((x y : ContainerWords) → P x y) → ReadsBoth k o m P p p
 both_none k o m P p all = let r = reads_none k o (λ x. Unit {0}) p (λ x. tt) in (r.0, r.1, r.2, (λ x y f g. all x y), r.4)
 
 -- an entry for places that no list has

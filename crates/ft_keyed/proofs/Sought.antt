@@ -23,12 +23,12 @@ use Rattle.ft_model.specs.declared.data.Key.{Key}
 use Rattle.ft_model.specs.Contents.{DictContent, IsSet, SetContent, dict_get, has_element, has_key, is_at, set_add}
 use Rattle.ft_model.specs.Worlds.{kind_of}
 use Rattle.ft_trace.specs.declared.Shape.{Shape}
-use Rattle.ft_trace.specs.Pictures.{Picture, Stands, root_in}
+use Rattle.ft_trace.specs.Pictures.{ContainerWords, Represents, root_in}
 use Rattle.ft_trace.specs.ContainerStates.{ContainerState}
 use Rattle.ft_trace.proofs.DictWrites.{LiveEntriesArePairs}
 use Rattle.ft_trace.proofs.Known.{class_known}
 use Rattle.ft_bank.specs.declared.table.Table.{Table}
-use Rattle.ft_bank.specs.TableNames.{IsTableIn, name_of}
+use Rattle.ft_bank.specs.TableNames.{IsTableIn, table_id}
 use Rattle.ft_bank.proofs.TableAddresses.{class_is}
 use Rattle.ft_search.specs.Held.{ReadsEntry}
 use Rattle.ft_search.specs.Rounds.{kind_by}
@@ -57,7 +57,7 @@ pub record EntryLaws : Type 0 where
 
 -- ---- in a table
 
-module _ (laws : EntryLaws) (k : Shape) (class fill : ℕ) (x : Picture) (key : Key) (low : hash_of k.texts key < 2 ^ 64) (read : Option (ℕ × ℕ)) where
+module _ (laws : EntryLaws) (k : Shape) (class fill : ℕ) (x : ContainerWords) (key : Key) (low : hash_of k.texts key < 2 ^ 64) (read : Option (ℕ × ℕ)) where
   abbrev words : List ℕ
   words = 0 ∷ 0 ∷ x.table
 
@@ -109,7 +109,7 @@ module _ (laws : EntryLaws) (k : Shape) (class fill : ℕ) (x : Picture) (key : 
 
 -- ---- by the way in which it is searched
 
-module _ (laws : EntryLaws) (k : Shape) (x : Picture) (how : Way) (key : Key) (kept : ContainerState) (is : kind_of kept.content ≡ kind_by how) (stands : Stands k.texts x kept) where
+module _ (laws : EntryLaws) (k : Shape) (x : ContainerWords) (how : Way) (key : Key) (kept : ContainerState) (is : kind_of kept.content ≡ kind_by how) (stands : Represents k.texts x kept) where
   pub sought_bare : root_in x ≡ 0 → IsAtKey kept.content key None
   sought_bare bare = by how kept.content is stands
     where
@@ -123,11 +123,11 @@ module _ (laws : EntryLaws) (k : Shape) (x : Picture) (how : Way) (key : Key) (k
       by way.Set (content.List values) e s = absurd (cc)
       by way.Set (content.Deque deque) e s = absurd (cc)
 
-  pub sought_table : (table : Table) → IsTableIn k table → hash_of k.texts key < 2 ^ 64 → root_in x ≡ suc (name_of table) → (read : Option (ℕ × ℕ)) → SearchesTable table how (hash_of k.texts key) key read x → IsAtKey kept.content key read
+  pub sought_table : (table : Table) → IsTableIn k table → hash_of k.texts key < 2 ^ 64 → root_in x ≡ suc (table_id table) → (read : Option (ℕ × ℕ)) → SearchesTable table how (hash_of k.texts key) key read x → IsAtKey kept.content key read
   sought_table table is_in low names read searches = by how kept.content is stands (searches names)
     where
       class_eq : kept.table.class ≡ Some table.class
-      class_eq = class_known k.texts x kept (name_of table) stands names ∙ ap Some (class_is table is_in.2)
+      class_eq = class_known k.texts x kept (table_id table) stands names ∙ ap Some (class_is table is_in.2)
 
       by : (w : Way) (c : Content) → kind_of c ≡ kind_by w → StandsAs k.texts x.block (0 ∷ 0 ∷ x.table) kept.table c → FindsIn (class_mask table.class) (0 ∷ 0 ∷ x.table) w (hash_of k.texts key) key read → IsAtKey c key read
       by way.Dict (content.Dict dict) e s f = dict_found laws k table.class kept.table.fill x key low read dict (subst (λ (z : Option ℕ). IsDictWords k.texts x.block (0 ∷ 0 ∷ x.table) z kept.table.fill dict) class_eq s) f

@@ -8,23 +8,23 @@ use Rattle.ft_model.specs.declared.data.Value.{Value}
 use Rattle.ft_model.specs.Contents.{DictContent, SetContent, dict_get, has_element}
 use Rattle.ft_model.specs.Keys.{is_value}
 use Rattle.ft_trace.specs.declared.Shape.{Shape}
-use Rattle.ft_trace.specs.Pictures.{Picture}
+use Rattle.ft_trace.specs.Pictures.{ContainerWords}
 use Rattle.ft_keyed.specs.ShownContents.{IsOfDict, IsOfSet}
 use Rattle.ft_keyed.specs.TableEntries.{OfUsed, live_key, plain_pair}
 
 -- where these words stand for two dicts, or for two sets, this is so of them
-abbrev pub AreOfDicts : Shape → (DictContent → DictContent → Type 0) → Picture → Picture → Type 0
+abbrev pub AreOfDicts : Shape → (DictContent → DictContent → Type 0) → ContainerWords → ContainerWords → Type 0
 AreOfDicts k holds x y = IsOfDict k (λ dict. IsOfDict k (holds dict) y) x
 
-abbrev pub AreOfSets : Shape → (SetContent → SetContent → Type 0) → Picture → Picture → Type 0
+abbrev pub AreOfSets : Shape → (SetContent → SetContent → Type 0) → ContainerWords → ContainerWords → Type 0
 AreOfSets k holds x y = IsOfSet k (λ set. IsOfSet k (holds set) y) x
 
 -- where the root of one names the table t, and the words of the other stand for a dict, or for a set, this is so of the
 -- used entries of the one and of the other
-abbrev pub WithDict : Shape → ℕ → (List UsedEntry → DictContent → Type 0) → Picture → Picture → Type 0
+abbrev pub WithDict : Shape → ℕ → (List UsedEntry → DictContent → Type 0) → ContainerWords → ContainerWords → Type 0
 WithDict k t holds x y = OfUsed k t (λ used. IsOfDict k (holds used) y) x
 
-abbrev pub WithSet : Shape → ℕ → (List UsedEntry → SetContent → Type 0) → Picture → Picture → Type 0
+abbrev pub WithSet : Shape → ℕ → (List UsedEntry → SetContent → Type 0) → ContainerWords → ContainerWords → Type 0
 WithSet k t holds x y = OfUsed k t (λ used. IsOfSet k (holds used) y) x
 
 -- ---- sets
@@ -41,7 +41,7 @@ MeetsAt wanted place found used set =
 -- ---- dicts
 
 -- where this is the key's hash, the words stand for a dict that has this value at the key, or none
-abbrev pub IsValueIn : Shape → ℕ → Key → Option Value → Picture → Type 0
+abbrev pub IsValueIn : Shape → ℕ → Key → Option Value → ContainerWords → Type 0
 IsValueIn k hash key found x = hash ≡ hash_of k.texts key → IsOfDict k (λ dict. dict_get dict.pairs key ≡ found) x
 
 -- the dict hasn't this value at this key (Python manual, Mapping Types)

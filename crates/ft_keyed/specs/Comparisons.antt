@@ -11,7 +11,7 @@ use Rattle.ft_model.specs.Contents.{is_disjoint, is_subset, same_elements, same_
 use Rattle.ft_model.specs.Worlds.{dict_of, kind_of, set_of}
 use Rattle.ft_trace.specs.declared.Shape.{Shape}
 use Rattle.ft_trace.specs.ContainerStates.{ContainerState}
-use Rattle.ft_trace.specs.Pictures.{Picture, Stands}
+use Rattle.ft_trace.specs.Pictures.{ContainerWords, Represents}
 use Rattle.ft_keyed.specs.declared.comparisons.Comparison.{Comparison}
 use Rattle.ft_keyed.specs.declared.comparisons.Comparison.TheVariants.{SameDicts, SameSets, Subset, Disjoint}
 
@@ -38,8 +38,8 @@ is_so_of Subset one other = is_subset (set_of one).elements (set_of other).eleme
 is_so_of Disjoint one other = is_disjoint (set_of one).elements (set_of other).elements
 
 -- where these words stand for two containers of the kind, this is whether it is so of what they have
-abbrev pub IsComparedAs : Shape → Comparison → Bool → Picture → Picture → Type 0
+abbrev pub IsComparedAs : Shape → Comparison → Bool → ContainerWords → ContainerWords → Type 0
 IsComparedAs k how is_so x y =
-    (one : ContainerState) → kind_of one.content ≡ kind_compared how → Stands k.texts x one
-    → (other : ContainerState) → kind_of other.content ≡ kind_compared how → Stands k.texts y other
+    (one : ContainerState) → kind_of one.content ≡ kind_compared how → Represents k.texts x one
+    → (other : ContainerState) → kind_of other.content ≡ kind_compared how → Represents k.texts y other
     → is_so ≡ is_so_of how one.content other.content

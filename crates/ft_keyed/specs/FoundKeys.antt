@@ -16,10 +16,10 @@ use Rattle.ft_model.specs.declared.data.Value.{Value}
 use Rattle.ft_model.specs.Contents.{dict_get, has_element}
 use Rattle.ft_model.specs.Worlds.{kind_of}
 use Rattle.ft_trace.specs.declared.Shape.{Shape}
-use Rattle.ft_trace.specs.Pictures.{Picture, Stands, root_in}
+use Rattle.ft_trace.specs.Pictures.{ContainerWords, Represents, root_in}
 use Rattle.ft_trace.specs.ContainerStates.{ContainerState}
 use Rattle.ft_bank.specs.declared.table.Table.{Table}
-use Rattle.ft_bank.specs.TableNames.{name_of}
+use Rattle.ft_bank.specs.TableNames.{table_id}
 use Rattle.ft_search.specs.Held.{ReadsEntry}
 use Rattle.ft_search.specs.Rounds.{kind_by}
 
@@ -30,9 +30,9 @@ FindsIn mask words way hash key read =
     × ((slot place : ℕ) → end ≢ found.Was slot place) × ReadsEntry mask words end read
 
 -- where the root names the table
-abbrev pub SearchesTable : Table → Way → ℕ → Key → Option (ℕ × ℕ) → Picture → Type 0
+abbrev pub SearchesTable : Table → Way → ℕ → Key → Option (ℕ × ℕ) → ContainerWords → Type 0
 SearchesTable table way hash key read x =
-    root_in x ≡ suc (name_of table) → FindsIn (class_mask table.class) (0 ∷ 0 ∷ x.table) way hash key read
+    root_in x ≡ suc (table_id table) → FindsIn (class_mask table.class) (0 ∷ 0 ∷ x.table) way hash key read
 
 -- What is at the key: the words are those of the value, or there is none. Of a set, whether the element is there.
 -- (Python manual, Mapping Types, Set Types)
@@ -45,7 +45,7 @@ IsAtKey (content.List values) key read = ⊥
 IsAtKey (content.Deque deque) key read = ⊥
 
 -- where this is the key's hash, and these words stand for a dict or a set that is searched this way
-abbrev pub IsFoundIn : Shape → Way → ℕ → Key → Option (ℕ × ℕ) → Picture → Type 0
+abbrev pub IsFoundIn : Shape → Way → ℕ → Key → Option (ℕ × ℕ) → ContainerWords → Type 0
 IsFoundIn k way hash key read x =
-    hash ≡ hash_of k.texts key → (kept : ContainerState) → kind_of kept.content ≡ kind_by way → Stands k.texts x kept
+    hash ≡ hash_of k.texts key → (kept : ContainerState) → kind_of kept.content ≡ kind_by way → Represents k.texts x kept
     → IsAtKey kept.content key read

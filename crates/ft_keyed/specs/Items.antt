@@ -17,7 +17,7 @@ use Rattle.ft_model.specs.declared.reply.Reply.TheVariants as reply
 use Rattle.ft_model.specs.Answers.{items_of}
 use Rattle.ft_model.specs.Contents.{DictContent, SetContent}
 use Rattle.ft_trace.specs.declared.Shape.{Shape}
-use Rattle.ft_trace.specs.Pictures.{Picture}
+use Rattle.ft_trace.specs.Pictures.{ContainerWords}
 use Rattle.ft_reads.specs.Copies.{HasSome}
 use Rattle.ft_keyed.specs.ShownContents.{IsOfDict, IsOfSet}
 use Rattle.ft_keyed.specs.TableEntries.{live_key, plain_pair}
@@ -42,12 +42,12 @@ abbrev pub IsAllOf : Result Reply AllocError → Reply → Type 0
 IsAllOf made all = IfOk made (λ said. said ≡ all) × OnErr made (HasSome all)
 
 -- where these words stand for a dict, or for a set, all that it has was copied so
-abbrev pub IsAllIn : Way → Shape → Result Reply AllocError → Picture → Type 0
+abbrev pub IsAllIn : Way → Shape → Result Reply AllocError → ContainerWords → Type 0
 IsAllIn way.Dict k made = IsOfDict k (λ (dict : DictContent). IsAllOf made (reply.Dict (items_of dict.pairs)))
 IsAllIn way.Set k made =
     IsOfSet k (λ (set : SetContent). IsAllOf made (reply.Set (map (λ (element : Element). element.key) set.elements)))
 
 -- where these words stand for a dict it has a pair, where they stand for a set it has an element
-abbrev pub HasEntry : Way → Shape → Picture → Type 0
+abbrev pub HasEntry : Way → Shape → ContainerWords → Type 0
 HasEntry way.Dict k = IsOfDict k (λ (dict : DictContent). 0 < length dict.pairs)
 HasEntry way.Set k = IsOfSet k (λ (set : SetContent). 0 < length set.elements)

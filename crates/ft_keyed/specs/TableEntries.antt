@@ -13,7 +13,7 @@ use Rattle.ft_model.specs.declared.data.Value.{Value}
 use Rattle.ft_trace.specs.declared.Shape.{Shape}
 use Rattle.ft_trace.specs.Addresses.{class_of, slots}
 use Rattle.ft_trace.specs.Carefuls.{HasLiveKey}
-use Rattle.ft_trace.specs.Pictures.{Picture, root_in}
+use Rattle.ft_trace.specs.Pictures.{ContainerWords, root_in}
 
 -- the key of a used entry, where it is there; with its value, as pairs of a dict have them
 abbrev pub live_key : UsedEntry → Option Key
@@ -27,7 +27,7 @@ abbrev pub plain_pair : UsedEntry → Option (Key × Value)
 plain_pair entry = plain_with entry.key entry.stored
 
 -- where the root names the table t, which has these used entries, this holds of them
-abbrev pub OfUsed : Shape → ℕ → (List UsedEntry → Type 0) → Picture → Type 0
+abbrev pub OfUsed : Shape → ℕ → (List UsedEntry → Type 0) → ContainerWords → Type 0
 OfUsed k t holds x =
     root_in x ≡ suc t → (way : Way) (used : List UsedEntry)
     → IsTableOf way k.texts (class_mask (class_of t)) used (0 ∷ 0 ∷ x.table) → holds used
@@ -44,13 +44,13 @@ abbrev pub PlainIs : ℕ → Option (Key × Value) → List UsedEntry → Type 0
 PlainIs place found used = (any : UsedEntry) → place < length used → found ≡ plain_pair (slice_index_or used place any)
 
 -- where the root names the table t, this is the key of the entry at the place, in words and among used entries
-abbrev pub IsKeyAt : Shape → ℕ → ℕ → Option Key → Picture → Type 0
+abbrev pub IsKeyAt : Shape → ℕ → ℕ → Option Key → ContainerWords → Type 0
 IsKeyAt k t place found x =
     OfUsed k t (KeyIs place found) x
     × (root_in x ≡ suc t → (key : Key) → found ≡ Some key → HasLiveKey (slots (class_of t)) x.table place key)
 
 -- and this is its key and its value
-abbrev pub IsPlainAt : Shape → ℕ → ℕ → Option (Key × Value) → Picture → Type 0
+abbrev pub IsPlainAt : Shape → ℕ → ℕ → Option (Key × Value) → ContainerWords → Type 0
 IsPlainAt k t place found x =
     OfUsed k t (PlainIs place found) x
     × (root_in x ≡ suc t → (key : Key) (value : Value) → found ≡ Some (key, value)

@@ -1,7 +1,7 @@
 //! `clear` of a dict or a set as a call of its kind, under its lock and as a try.
 ghost use Rattle.std.specs.Prelude.{◌≡◌, ◌<◌, false};
 ghost use Rattle.ft_trace.specs.Acts.{flight, used};
-ghost use Rattle.ft_trace.specs.Addresses.{containers_in};
+ghost use Rattle.ft_trace.specs.Addresses.{container_count};
 ghost use Rattle.ft_trace.specs.ContainerStates.{kind_in};
 ghost use Rattle.ft_bank.specs.Passes.{shape_of, view, IsPassOf};
 ghost use Rattle.ft_bank.specs.PassSections.{stack_of};
@@ -61,7 +61,7 @@ pub fn clear_as(bank: &Bank, pass: &mut Pass, way: Way, c: Object) -> Stamp
 /// never answers `Moved` or `NoMemory`.
 pub fn try_clear_as(bank: &Bank, pass: &mut Pass, way: Way, c: Object) -> Step
     requires may { MayTry bank.now pass.old (One c) }
-    requires container { c < containers_in (shape_of bank.now) }
+    requires container { c < container_count (shape_of bank.now) }
     requires kind { kind_in (shape_of bank.now).starts c ≡ kind_by way }
     requires left { 0 < (view pass.old).left }
     ensures may { MayTry bank.now pass.new (One c) }

@@ -7,10 +7,10 @@ ghost use Rattle.std.specs.List.{filter_map, list_all, list_any};
 ghost use Rattle.ft_model.specs.declared.data.Value.{Value};
 ghost use Rattle.ft_model.specs.Keys.{is_value};
 ghost use Rattle.ft_model.specs.Contents.{has_pair, is_disjoint, is_subset, same_elements, same_pairs};
-ghost use Rattle.ft_trace.specs.Addresses.{containers_in};
+ghost use Rattle.ft_trace.specs.Addresses.{container_count};
 ghost use Rattle.ft_bank.specs.Passes.{shape_of, IsPassOf};
 ghost use Rattle.ft_bank.specs.PassSections.{stack_of};
-ghost use Rattle.ft_bank.specs.TableNames.{name_of, IsTableIn};
+ghost use Rattle.ft_bank.specs.TableNames.{table_id, IsTableIn};
 ghost use Rattle.ft_reads.specs.Reads.{Reads};
 ghost use Rattle.ft_reads.specs.Pairs.{ReadsBoth};
 ghost use Rattle.ft_keyed.specs.Comparing.{AreOfDicts, AreOfSets, DiffersAt, IsValueIn, MeetsAt};
@@ -45,12 +45,12 @@ fn meets_at(
     wanted: bool,
 ) -> bool
     requires pass { IsPassOf bank.now pass.old }
-    requires container { s < containers_in (shape_of bank.now) }
-    requires other { other < containers_in (shape_of bank.now) }
+    requires container { s < container_count (shape_of bank.now) }
+    requires other { other < container_count (shape_of bank.now) }
     requires table { IsTableIn (shape_of bank.now) table }
     ensures pass { IsPassOf bank.now pass.new }
     ensures stack { stack_of pass.new ≡ stack_of pass.old }
-    ensures reads { ReadsBoth (shape_of bank.now) s other (WithSet (shape_of bank.now) (name_of table)
+    ensures reads { ReadsBoth (shape_of bank.now) s other (WithSet (shape_of bank.now) (table_id table)
         (MeetsAt wanted place result)) pass.old pass.new }
 {
     match key_at(bank, pass, s, table, place) {
@@ -74,12 +74,12 @@ fn some_meets(
     wanted: bool,
 ) -> bool
     requires pass { IsPassOf bank.now pass.old }
-    requires container { s < containers_in (shape_of bank.now) }
-    requires other { other < containers_in (shape_of bank.now) }
+    requires container { s < container_count (shape_of bank.now) }
+    requires other { other < container_count (shape_of bank.now) }
     requires table { IsTableIn (shape_of bank.now) table }
     ensures pass { IsPassOf bank.now pass.new }
     ensures stack { stack_of pass.new ≡ stack_of pass.old }
-    ensures reads { ReadsBoth (shape_of bank.now) s other (WithSet (shape_of bank.now) (name_of table) (λ used others.
+    ensures reads { ReadsBoth (shape_of bank.now) s other (WithSet (shape_of bank.now) (table_id table) (λ used others.
         fill ≡ length used → result ≡ list_any (is_met wanted others) (filter_map live_key used))) pass.old pass.new }
 {
     for place in 0..fill {
@@ -93,8 +93,8 @@ fn some_meets(
 /// Whether an element of a set is in another set as wanted: there, or not there.
 fn any_meets(bank: &Bank, pass: &mut Pass, s: Object, other: Object, wanted: bool) -> bool
     requires pass { IsPassOf bank.now pass.old }
-    requires container { s < containers_in (shape_of bank.now) }
-    requires other { other < containers_in (shape_of bank.now) }
+    requires container { s < container_count (shape_of bank.now) }
+    requires other { other < container_count (shape_of bank.now) }
     ensures pass { IsPassOf bank.now pass.new }
     ensures stack { stack_of pass.new ≡ stack_of pass.old }
     ensures reads { ReadsBoth (shape_of bank.now) s other (AreOfSets (shape_of bank.now) (λ set others.
@@ -111,8 +111,8 @@ fn any_meets(bank: &Bank, pass: &mut Pass, s: Object, other: Object, wanted: boo
 /// Whether each element of a set is in another one (Python manual, Set Types: issubset).
 pub(crate) fn is_within(bank: &Bank, pass: &mut Pass, s: Object, other: Object) -> bool
     requires pass { IsPassOf bank.now pass.old }
-    requires container { s < containers_in (shape_of bank.now) }
-    requires other { other < containers_in (shape_of bank.now) }
+    requires container { s < container_count (shape_of bank.now) }
+    requires other { other < container_count (shape_of bank.now) }
     ensures pass { IsPassOf bank.now pass.new }
     ensures stack { stack_of pass.new ≡ stack_of pass.old }
     ensures reads { ReadsBoth (shape_of bank.now) s other (AreOfSets (shape_of bank.now) (λ set others.
@@ -124,8 +124,8 @@ pub(crate) fn is_within(bank: &Bank, pass: &mut Pass, s: Object, other: Object) 
 /// Whether no element of a set is in another one (Python manual, Set Types: isdisjoint).
 pub(crate) fn is_apart(bank: &Bank, pass: &mut Pass, s: Object, other: Object) -> bool
     requires pass { IsPassOf bank.now pass.old }
-    requires container { s < containers_in (shape_of bank.now) }
-    requires other { other < containers_in (shape_of bank.now) }
+    requires container { s < container_count (shape_of bank.now) }
+    requires other { other < container_count (shape_of bank.now) }
     ensures pass { IsPassOf bank.now pass.new }
     ensures stack { stack_of pass.new ≡ stack_of pass.old }
     ensures reads { ReadsBoth (shape_of bank.now) s other (AreOfSets (shape_of bank.now) (λ set others.
@@ -137,8 +137,8 @@ pub(crate) fn is_apart(bank: &Bank, pass: &mut Pass, s: Object, other: Object) -
 /// Whether two sets have the same elements (Python manual, Set Types).
 pub(crate) fn are_same_sets(bank: &Bank, pass: &mut Pass, s: Object, other: Object) -> bool
     requires pass { IsPassOf bank.now pass.old }
-    requires container { s < containers_in (shape_of bank.now) }
-    requires other { other < containers_in (shape_of bank.now) }
+    requires container { s < container_count (shape_of bank.now) }
+    requires other { other < container_count (shape_of bank.now) }
     ensures pass { IsPassOf bank.now pass.new }
     ensures stack { stack_of pass.new ≡ stack_of pass.old }
     ensures reads { ReadsBoth (shape_of bank.now) s other (AreOfSets (shape_of bank.now) (λ set others.
@@ -153,7 +153,7 @@ pub(crate) fn are_same_sets(bank: &Bank, pass: &mut Pass, s: Object, other: Obje
 /// The value at a key of a dict, which is looked for by its hash.
 fn find_value(bank: &Bank, pass: &mut Pass, d: Object, key: Key, hash: u64) -> Option<Value>
     requires pass { IsPassOf bank.now pass.old }
-    requires container { d < containers_in (shape_of bank.now) }
+    requires container { d < container_count (shape_of bank.now) }
     ensures pass { IsPassOf bank.now pass.new }
     ensures stack { stack_of pass.new ≡ stack_of pass.old }
     ensures reads { Reads (shape_of bank.now) d (IsValueIn (shape_of bank.now) hash key result) pass.old pass.new }
@@ -185,12 +185,12 @@ fn differs_at(
     other: Object,
 ) -> bool
     requires pass { IsPassOf bank.now pass.old }
-    requires container { d < containers_in (shape_of bank.now) }
-    requires other { other < containers_in (shape_of bank.now) }
+    requires container { d < container_count (shape_of bank.now) }
+    requires other { other < container_count (shape_of bank.now) }
     requires table { IsTableIn (shape_of bank.now) table }
     ensures pass { IsPassOf bank.now pass.new }
     ensures stack { stack_of pass.new ≡ stack_of pass.old }
-    ensures reads { ReadsBoth (shape_of bank.now) d other (WithDict (shape_of bank.now) (name_of table)
+    ensures reads { ReadsBoth (shape_of bank.now) d other (WithDict (shape_of bank.now) (table_id table)
         (DiffersAt place result)) pass.old pass.new }
 {
     match value_at(bank, pass, d, table, place) {
@@ -213,12 +213,12 @@ fn some_differs(
     other: Object,
 ) -> bool
     requires pass { IsPassOf bank.now pass.old }
-    requires container { d < containers_in (shape_of bank.now) }
-    requires other { other < containers_in (shape_of bank.now) }
+    requires container { d < container_count (shape_of bank.now) }
+    requires other { other < container_count (shape_of bank.now) }
     requires table { IsTableIn (shape_of bank.now) table }
     ensures pass { IsPassOf bank.now pass.new }
     ensures stack { stack_of pass.new ≡ stack_of pass.old }
-    ensures reads { ReadsBoth (shape_of bank.now) d other (WithDict (shape_of bank.now) (name_of table) (λ used others.
+    ensures reads { ReadsBoth (shape_of bank.now) d other (WithDict (shape_of bank.now) (table_id table) (λ used others.
         fill ≡ length used → result ≡ list_any (lacks_value others) (filter_map plain_pair used))) pass.old pass.new }
 {
     for place in 0..fill {
@@ -232,8 +232,8 @@ fn some_differs(
 /// Whether another dict has each pair of a dict: the same keys with equal values.
 fn are_within(bank: &Bank, pass: &mut Pass, d: Object, other: Object) -> bool
     requires pass { IsPassOf bank.now pass.old }
-    requires container { d < containers_in (shape_of bank.now) }
-    requires other { other < containers_in (shape_of bank.now) }
+    requires container { d < container_count (shape_of bank.now) }
+    requires other { other < container_count (shape_of bank.now) }
     ensures pass { IsPassOf bank.now pass.new }
     ensures stack { stack_of pass.new ≡ stack_of pass.old }
     ensures reads { ReadsBoth (shape_of bank.now) d other (AreOfDicts (shape_of bank.now) (λ dict others.
@@ -250,8 +250,8 @@ fn are_within(bank: &Bank, pass: &mut Pass, d: Object, other: Object) -> bool
 /// Whether two dicts have the same keys with equal values (Python manual, Mapping Types).
 pub(crate) fn are_same_dicts(bank: &Bank, pass: &mut Pass, d: Object, other: Object) -> bool
     requires pass { IsPassOf bank.now pass.old }
-    requires container { d < containers_in (shape_of bank.now) }
-    requires other { other < containers_in (shape_of bank.now) }
+    requires container { d < container_count (shape_of bank.now) }
+    requires other { other < container_count (shape_of bank.now) }
     ensures pass { IsPassOf bank.now pass.new }
     ensures stack { stack_of pass.new ≡ stack_of pass.old }
     ensures reads { ReadsBoth (shape_of bank.now) d other (AreOfDicts (shape_of bank.now) (λ dict others.

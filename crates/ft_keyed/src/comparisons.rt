@@ -3,7 +3,7 @@
 //!
 //! All four go one way: what loads of the words of both show is whether it is so, and the call answers that.
 ghost use Rattle.std.specs.Prelude.{◌≡◌, ◌<◌};
-ghost use Rattle.ft_trace.specs.Addresses.{containers_in};
+ghost use Rattle.ft_trace.specs.Addresses.{container_count};
 ghost use Rattle.ft_trace.specs.ContainerStates.{kind_in};
 ghost use Rattle.ft_bank.specs.Passes.{shape_of, view, IsPassOf};
 ghost use Rattle.ft_bank.specs.PassSections.{stack_of};
@@ -66,8 +66,8 @@ impl Comparison {
 #[inline]
 fn holds_between(bank: &Bank, pass: &mut Pass, how: Comparison, c: Object, other: Object) -> bool
     requires pass { IsPassOf bank.now pass.old }
-    requires container { c < containers_in (shape_of bank.now) }
-    requires other { other < containers_in (shape_of bank.now) }
+    requires container { c < container_count (shape_of bank.now) }
+    requires other { other < container_count (shape_of bank.now) }
     ensures pass { IsPassOf bank.now pass.new }
     ensures stack { stack_of pass.new ≡ stack_of pass.old }
     ensures reads { ReadsBoth (shape_of bank.now) c other (IsComparedAs (shape_of bank.now) how result) pass.old
@@ -119,8 +119,8 @@ pub fn try_comparison(
     other: Object,
 ) -> Step
     requires may { MayTry bank.now pass.old (Two c other) }
-    requires container { c < containers_in (shape_of bank.now) }
-    requires other { other < containers_in (shape_of bank.now) }
+    requires container { c < container_count (shape_of bank.now) }
+    requires other { other < container_count (shape_of bank.now) }
     requires kind { kind_in (shape_of bank.now).starts c ≡ kind_compared how }
     requires other_kind { kind_in (shape_of bank.now).starts other ≡ kind_compared how }
     requires left { 0 < (view pass.old).left }
@@ -148,8 +148,8 @@ fn compare_between(
     other: Object,
 ) -> (bool, Window, Window)
     requires pass { IsPassOf bank.now pass.old }
-    requires container { c < containers_in (shape_of bank.now) }
-    requires other { other < containers_in (shape_of bank.now) }
+    requires container { c < container_count (shape_of bank.now) }
+    requires other { other < container_count (shape_of bank.now) }
     ensures pass { IsPassOf bank.now pass.new }
     ensures stack { stack_of pass.new ≡ stack_of pass.old }
     ensures saw { SawBoth (shape_of bank.now) c other (IsComparedAs (shape_of bank.now) how result.0) result.1 result.2
@@ -191,8 +191,8 @@ pub fn look_comparison(
     other: Object,
 ) -> Look
     requires pass { IsPassOf bank.now pass.old }
-    requires container { c < containers_in (shape_of bank.now) }
-    requires other { other < containers_in (shape_of bank.now) }
+    requires container { c < container_count (shape_of bank.now) }
+    requires other { other < container_count (shape_of bank.now) }
     requires kind { kind_in (shape_of bank.now).starts c ≡ kind_compared how }
     requires other_kind { kind_in (shape_of bank.now).starts other ≡ kind_compared how }
     requires left { 0 < (view pass.old).left }

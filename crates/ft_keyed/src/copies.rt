@@ -2,10 +2,10 @@
 //! lock, whose loads show that it is all where no write came between them, and by one with the lock.
 ghost use Rattle.std.specs.Prelude.{◌≡◌, ◌<◌, ◌++◌, [], true, is_some, length, IfOk, OnErr, OnOk};
 ghost use Rattle.std.specs.List.{cons_option, filter_map};
-ghost use Rattle.ft_trace.specs.Addresses.{containers_in};
+ghost use Rattle.ft_trace.specs.Addresses.{container_count};
 ghost use Rattle.ft_bank.specs.Passes.{shape_of, IsPassOf};
 ghost use Rattle.ft_bank.specs.PassSections.{stack_of};
-ghost use Rattle.ft_bank.specs.TableNames.{name_of, IsTableIn};
+ghost use Rattle.ft_bank.specs.TableNames.{table_id, IsTableIn};
 ghost use Rattle.ft_reads.specs.Reads.{Reads};
 ghost use Rattle.ft_reads.specs.Copies.{AreCopied};
 ghost use Rattle.ft_keyed.specs.TableEntries.{OfUsed, live_key, plain_pair};
@@ -45,7 +45,7 @@ fn copy_keys(
     requires table { IsTableIn (shape_of bank.now) table }
     ensures pass { IsPassOf bank.now pass.new }
     ensures stack { stack_of pass.new ≡ stack_of pass.old }
-    ensures reads { Reads (shape_of bank.now) s (OfUsed (shape_of bank.now) (name_of table) (λ used.
+    ensures reads { Reads (shape_of bank.now) s (OfUsed (shape_of bank.now) (table_id table) (λ used.
         fill ≡ length used → AreCopied result (filter_map live_key used))) pass.old pass.new }
 {
     let mut keys = Vec::new(alloc);
@@ -70,7 +70,7 @@ fn copy_values(
     requires table { IsTableIn (shape_of bank.now) table }
     ensures pass { IsPassOf bank.now pass.new }
     ensures stack { stack_of pass.new ≡ stack_of pass.old }
-    ensures reads { Reads (shape_of bank.now) d (OfUsed (shape_of bank.now) (name_of table) (λ used.
+    ensures reads { Reads (shape_of bank.now) d (OfUsed (shape_of bank.now) (table_id table) (λ used.
         fill ≡ length used → AreCopied result (filter_map plain_pair used))) pass.old pass.new }
 {
     let mut pairs = Vec::new(alloc);
@@ -97,7 +97,7 @@ fn copy_table(
     ensures pass { IsPassOf bank.now pass.new }
     ensures stack { stack_of pass.new ≡ stack_of pass.old }
     ensures of_kind { IfOk result (IsItemsReply way) }
-    ensures reads { Reads (shape_of bank.now) c (OfUsed (shape_of bank.now) (name_of table) (λ used.
+    ensures reads { Reads (shape_of bank.now) c (OfUsed (shape_of bank.now) (table_id table) (λ used.
         fill ≡ length used → IsAllOf result (reply_of_used way used))) pass.old pass.new }
 {
     match way {
@@ -132,7 +132,7 @@ pub(crate) fn copy_all(
     c: Object,
 ) -> Result<Reply, AllocError>
     requires pass { IsPassOf bank.now pass.old }
-    requires container { c < containers_in (shape_of bank.now) }
+    requires container { c < container_count (shape_of bank.now) }
     ensures pass { IsPassOf bank.now pass.new }
     ensures stack { stack_of pass.new ≡ stack_of pass.old }
     ensures of_kind { IfOk result (IsItemsReply way) }

@@ -8,7 +8,7 @@ ghost use Rattle.ft_trace.specs.Addresses.{class_of, places, slots};
 ghost use Rattle.ft_trace.specs.Pictures.{entry_field, root_in};
 ghost use Rattle.ft_bank.specs.Passes.{shape_of, IsPassOf};
 ghost use Rattle.ft_bank.specs.PassSections.{stack_of};
-ghost use Rattle.ft_bank.specs.TableNames.{name_of, IsTableIn};
+ghost use Rattle.ft_bank.specs.TableNames.{table_id, IsTableIn};
 ghost use Rattle.ft_reads.specs.Reads.{Reads};
 ghost use Rattle.ft_keyed.specs.TableEntries.{HashIs, IsKeyAt, IsPlainAt, OfUsed};
 
@@ -24,12 +24,12 @@ use ft_section::Object;
 fn word_of(bank: &Bank, pass: &mut Pass, o: Object, table: Table, place: u64, word: u64) -> u64
     requires pass { IsPassOf bank.now pass.old }
     requires table { IsTableIn (shape_of bank.now) table }
-    requires place { place < places (class_of (name_of table)) }
+    requires place { place < places (class_of (table_id table)) }
     requires word { word < 8 }
     ensures pass { IsPassOf bank.now pass.new }
     ensures stack { stack_of pass.new ≡ stack_of pass.old }
-    ensures reads { Reads (shape_of bank.now) o (λ x. root_in x ≡ suc (name_of table) →
-        result ≡ entry_field (slots (class_of (name_of table))) x.table place word) pass.old pass.new }
+    ensures reads { Reads (shape_of bank.now) o (λ x. root_in x ≡ suc (table_id table) →
+        result ≡ entry_field (slots (class_of (table_id table))) x.table place word) pass.old pass.new }
 {
     let _ = o;
     let at = 8 * place + word + mask_of(table.class) + 1;
@@ -42,8 +42,8 @@ pub fn key_at(bank: &Bank, pass: &mut Pass, o: Object, table: Table, place: u64)
     requires table { IsTableIn (shape_of bank.now) table }
     ensures pass { IsPassOf bank.now pass.new }
     ensures stack { stack_of pass.new ≡ stack_of pass.old }
-    ensures within { IfSome result (λ key. (place < places (class_of (name_of table))) × FitsKey key) }
-    ensures reads { Reads (shape_of bank.now) o (IsKeyAt (shape_of bank.now) (name_of table) place result)
+    ensures within { IfSome result (λ key. (place < places (class_of (table_id table))) × FitsKey key) }
+    ensures reads { Reads (shape_of bank.now) o (IsKeyAt (shape_of bank.now) (table_id table) place result)
         pass.old pass.new }
 {
     if place >= dict_entries(table.class) {
@@ -58,10 +58,10 @@ pub fn key_at(bank: &Bank, pass: &mut Pass, o: Object, table: Table, place: u64)
 pub fn hash_at(bank: &Bank, pass: &mut Pass, o: Object, table: Table, place: u64) -> u64
     requires pass { IsPassOf bank.now pass.old }
     requires table { IsTableIn (shape_of bank.now) table }
-    requires place { place < places (class_of (name_of table)) }
+    requires place { place < places (class_of (table_id table)) }
     ensures pass { IsPassOf bank.now pass.new }
     ensures stack { stack_of pass.new ≡ stack_of pass.old }
-    ensures reads { Reads (shape_of bank.now) o (OfUsed (shape_of bank.now) (name_of table)
+    ensures reads { Reads (shape_of bank.now) o (OfUsed (shape_of bank.now) (table_id table)
         (HashIs (shape_of bank.now).texts place result)) pass.old pass.new }
 {
     word_of(bank, pass, o, table, place, HASH)
@@ -90,8 +90,8 @@ pub fn value_at(
     requires table { IsTableIn (shape_of bank.now) table }
     ensures pass { IsPassOf bank.now pass.new }
     ensures stack { stack_of pass.new ≡ stack_of pass.old }
-    ensures within { IfSome result (λ pair. (place < places (class_of (name_of table))) × FitsKey pair.0) }
-    ensures reads { Reads (shape_of bank.now) d (IsPlainAt (shape_of bank.now) (name_of table) place result)
+    ensures within { IfSome result (λ pair. (place < places (class_of (table_id table))) × FitsKey pair.0) }
+    ensures reads { Reads (shape_of bank.now) d (IsPlainAt (shape_of bank.now) (table_id table) place result)
         pass.old pass.new }
 {
     match key_at(bank, pass, d, table, place) {

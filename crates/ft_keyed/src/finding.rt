@@ -5,7 +5,7 @@ ghost use Rattle.ft_keys.specs.declared.words.Access.{Access};
 ghost use Rattle.ft_keys.specs.declared.search.Found.TheVariants.{Was};
 ghost use Rattle.ft_keys.specs.Accesses.{AreLoads, AreAnswered, Runs};
 ghost use Rattle.ft_keys.specs.Searches.{IsWithin, Searched};
-ghost use Rattle.ft_trace.specs.Addresses.{containers_in};
+ghost use Rattle.ft_trace.specs.Addresses.{container_count};
 ghost use Rattle.ft_bank.specs.Passes.{shape_of, IsPassOf};
 ghost use Rattle.ft_bank.specs.PassSections.{stack_of};
 ghost use Rattle.ft_bank.specs.TableNames.{IsTableIn};
@@ -85,7 +85,7 @@ fn search_table(
     hash: u64,
 ) -> Option<(u64, u64)>
     requires pass { IsPassOf bank.now pass.old }
-    requires container { o < containers_in (shape_of bank.now) }
+    requires container { o < container_count (shape_of bank.now) }
     requires table { IsTableIn (shape_of bank.now) table }
     ensures pass { IsPassOf bank.now pass.new }
     ensures stack { stack_of pass.new ≡ stack_of pass.old }
@@ -115,7 +115,7 @@ pub fn find_key(
     hash: u64,
 ) -> Option<(u64, u64)>
     requires pass { IsPassOf bank.now pass.old }
-    requires container { o < containers_in (shape_of bank.now) }
+    requires container { o < container_count (shape_of bank.now) }
     ensures pass { IsPassOf bank.now pass.new }
     ensures stack { stack_of pass.new ≡ stack_of pass.old }
     ensures reads { Reads (shape_of bank.now) o (IsFoundIn (shape_of bank.now) way hash key result) pass.old pass.new }

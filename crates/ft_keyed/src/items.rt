@@ -1,6 +1,6 @@
 //! All pairs of a dict or all elements of a set, copied under its lock and without it.
 ghost use Rattle.std.specs.Prelude.{◌≡◌, ◌<◌, IfOk};
-ghost use Rattle.ft_trace.specs.Addresses.{containers_in};
+ghost use Rattle.ft_trace.specs.Addresses.{container_count};
 ghost use Rattle.ft_trace.specs.ContainerStates.{kind_in};
 ghost use Rattle.ft_bank.specs.Passes.{shape_of, view, IsPassOf};
 ghost use Rattle.ft_bank.specs.PassSections.{stack_of};
@@ -68,7 +68,7 @@ fn items_locked(
 /// `Moved`.
 pub fn try_all_items(bank: &Bank, pass: &mut Pass, alloc: Global, way: Way, c: Object) -> Step
     requires may { MayTry bank.now pass.old (One c) }
-    requires container { c < containers_in (shape_of bank.now) }
+    requires container { c < container_count (shape_of bank.now) }
     requires kind { kind_in (shape_of bank.now).starts c ≡ kind_by way }
     requires left { 0 < (view pass.old).left }
     ensures may { MayTry bank.now pass.new (One c) }
@@ -97,7 +97,7 @@ fn copy_between(
     c: Object,
 ) -> (Result<Reply, AllocError>, Window)
     requires pass { IsPassOf bank.now pass.old }
-    requires container { c < containers_in (shape_of bank.now) }
+    requires container { c < container_count (shape_of bank.now) }
     ensures pass { IsPassOf bank.now pass.new }
     ensures stack { stack_of pass.new ≡ stack_of pass.old }
     ensures of_kind { IfOk result.0 (IsItemsReply way) }
@@ -125,7 +125,7 @@ fn copy_between(
 /// where memory for the copy ran out. The pass only loaded words then.
 pub fn look_all_items(bank: &Bank, pass: &mut Pass, alloc: Global, way: Way, c: Object) -> Look
     requires pass { IsPassOf bank.now pass.old }
-    requires container { c < containers_in (shape_of bank.now) }
+    requires container { c < container_count (shape_of bank.now) }
     requires kind { kind_in (shape_of bank.now).starts c ≡ kind_by way }
     requires left { 0 < (view pass.old).left }
     ensures pass { IsPassOf bank.now pass.new }

@@ -1,9 +1,9 @@
 //! Whether a key is in a dict or a set, under its lock.
 ghost use Rattle.std.specs.Prelude.{◌≡◌, ◌<◌, true, false};
 ghost use Rattle.ft_trace.specs.Acts.{has_lock};
-ghost use Rattle.ft_trace.specs.Addresses.{containers_in};
-ghost use Rattle.ft_trace.specs.Holds.{held, known};
-ghost use Rattle.ft_trace.specs.Pictures.{Stands};
+ghost use Rattle.ft_trace.specs.Addresses.{container_count};
+ghost use Rattle.ft_trace.specs.Holds.{held_words, known_state};
+ghost use Rattle.ft_trace.specs.Pictures.{Represents};
 ghost use Rattle.ft_trace.specs.ContainerStates.{kind_in};
 ghost use Rattle.ft_bank.specs.Answered.{Answered};
 ghost use Rattle.ft_bank.specs.KeyHashes.{IsKeyIn};
@@ -43,11 +43,11 @@ fn asking_call(way: Way, container: Object, key: Key) -> Call
 #[inline]
 fn has_locked(bank: &Bank, pass: &mut Pass, way: Way, c: Object, key: Key) -> (Reply, Stamp)
     requires pass { IsPassOf bank.now pass.old }
-    requires container { c < containers_in (shape_of bank.now) }
+    requires container { c < container_count (shape_of bank.now) }
     requires kind { kind_in (shape_of bank.now).starts c ≡ kind_by way }
     requires key { IsKeyIn (shape_of bank.now) key }
     requires locked { has_lock c (view pass.old).log ≡ true }
-    requires stands { Stands (shape_of bank.now).texts (held c (view pass.old)) (known c (view pass.old)) }
+    requires stands { Represents (shape_of bank.now).texts (held_words c (view pass.old)) (known_state c (view pass.old)) }
     requires left { 0 < (view pass.old).left }
     ensures pass { IsPassOf bank.now pass.new }
     ensures sections { stack_of pass.new ≡ stack_of pass.old }
@@ -68,7 +68,7 @@ fn has_locked(bank: &Bank, pass: &mut Pass, way: Way, c: Object, key: Key) -> (R
 #[inline]
 pub fn try_has_key(bank: &Bank, pass: &mut Pass, way: Way, c: Object, key: Key) -> Step
     requires may { MayTry bank.now pass.old (One c) }
-    requires container { c < containers_in (shape_of bank.now) }
+    requires container { c < container_count (shape_of bank.now) }
     requires kind { kind_in (shape_of bank.now).starts c ≡ kind_by way }
     requires key { IsKeyIn (shape_of bank.now) key }
     requires left { 0 < (view pass.old).left }

@@ -2,7 +2,7 @@
 ghost use Rattle.std.specs.Prelude.{◌≡◌};
 ghost use Rattle.ft_bank.specs.Passes.{shape_of, IsPassOf};
 ghost use Rattle.ft_bank.specs.PassSections.{stack_of};
-ghost use Rattle.ft_bank.specs.TableNames.{name_of, IsTableIn};
+ghost use Rattle.ft_bank.specs.TableNames.{table_id, IsTableIn};
 ghost use Rattle.ft_reads.specs.Reads.{Reads};
 ghost use Rattle.ft_keyed.specs.TableEntries.{OfUsed};
 ghost use Rattle.ft_keyed.specs.Places.{IsFirst, IsLast};
@@ -17,7 +17,7 @@ pub fn first_place(bank: &Bank, pass: &mut Pass, o: Object, table: Table, fill: 
     requires table { IsTableIn (shape_of bank.now) table }
     ensures pass { IsPassOf bank.now pass.new }
     ensures stack { stack_of pass.new ≡ stack_of pass.old }
-    ensures reads { Reads (shape_of bank.now) o (OfUsed (shape_of bank.now) (name_of table) (IsFirst fill result))
+    ensures reads { Reads (shape_of bank.now) o (OfUsed (shape_of bank.now) (table_id table) (IsFirst fill result))
         pass.old pass.new }
 {
     for place in 0..fill {
@@ -34,7 +34,7 @@ pub fn last_place(bank: &Bank, pass: &mut Pass, o: Object, table: Table, fill: u
     requires table { IsTableIn (shape_of bank.now) table }
     ensures pass { IsPassOf bank.now pass.new }
     ensures stack { stack_of pass.new ≡ stack_of pass.old }
-    ensures reads { Reads (shape_of bank.now) o (OfUsed (shape_of bank.now) (name_of table) (IsLast fill result))
+    ensures reads { Reads (shape_of bank.now) o (OfUsed (shape_of bank.now) (table_id table) (IsLast fill result))
         pass.old pass.new }
 {
     for place in (0..fill).rev() {

@@ -11,10 +11,10 @@ use Rattle.ft_trace.specs.declared.Act.{Act}
 use Rattle.ft_trace.specs.declared.Act.TheVariants.{ReadCounter}
 use Rattle.ft_trace.specs.declared.Shape.{Shape}
 use Rattle.ft_trace.specs.declared.View.{View}
-use Rattle.ft_trace.specs.Addresses.{containers_in}
+use Rattle.ft_trace.specs.Addresses.{container_count}
 use Rattle.ft_trace.specs.LookReplies.{item_reply}
 use Rattle.ft_trace.specs.LoggedReads.{Among}
-use Rattle.ft_trace.specs.Traces.{Possible}
+use Rattle.ft_trace.specs.Traces.{IsReachable}
 use Rattle.ft_trace.specs.ContainerStates.{kind_in}
 use Rattle.ft_bank.specs.Reads.{IsShown}
 use Rattle.ft_bank.specs.Shown.{MayAsk}
@@ -24,10 +24,10 @@ use Rattle.ft_search.specs.KeyLooks.{AreLooks}
 use Rattle.ft_search.proofs.Asking.{looks_own, looks_newer}
 use Rattle.ft_list.specs.ItemLooks.{ShowsItem, ShowsPast, StopsItemLook, IsItemContended}
 
-module _ (v w : View) (k : Shape) (o index n : ℕ) (part : List Act) (loaded : OnlyLoaded v w) (looks : AreLooks part) (own : w.log ≡ part ++ v.log) (counted : Among (ReadCounter n) part) (same : w.shape ≡ k) (low : o < containers_in k) (left : 0 < v.left) (is : kind_in k.starts o ≡ kind.List) where
+module _ (v w : View) (k : Shape) (o index n : ℕ) (part : List Act) (loaded : OnlyLoaded v w) (looks : AreLooks part) (own : w.log ≡ part ++ v.log) (counted : Among (ReadCounter n) part) (same : w.shape ≡ k) (low : o < container_count k) (left : 0 < v.left) (is : kind_in k.starts o ≡ kind.List) where
   may_ask : MayAsk w o n
   may_ask = record {
-    low = subst (λ (z : Shape). o < containers_in z) (sym same) low;
+    low = subst (λ (z : Shape). o < container_count z) (sym same) low;
     left = subst (λ (z : ℕ). 0 < z) (sym loaded.work.left) left;
     loaded = record {
       newer = counted.newer;
@@ -55,7 +55,7 @@ module _ (v w : View) (k : Shape) (o index n : ℕ) (part : List Act) (loaded : 
     found_shown result plain none None is = item_none (none is)
 
     -- the words that were read are those of a value, or of nothing
-    pub item_either : Possible w → ((value : Value) × IsStored kind payload (Plain value)) ⊎ IsStored kind payload Empty
+    pub item_either : IsReachable w → ((value : Value) × IsStored kind payload (Plain value)) ⊎ IsStored kind payload Empty
     item_either possible = items_are_read w o shows.t index n possible may_ask.low here shows.low shows.hit kind payload shows.read
 
 pub contended_after : (v w : View) (o index a b : ℕ) (part : List Act) → OnlyLoaded v w → AreLooks part → w.log ≡ part ++ v.log → StopsItemLook o index a b part → IsItemContended o index a b v w

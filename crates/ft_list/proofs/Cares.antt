@@ -9,20 +9,20 @@ use Rattle.ft_layout.proofs.Powers.{slots_range}
 use Rattle.ft_trace.specs.declared.Shape.{Shape}
 use Rattle.ft_trace.specs.declared.Act.{Act}
 use Rattle.ft_trace.specs.declared.View.{View}
-use Rattle.ft_trace.specs.Addresses.{containers_in, class_of, slots, size}
-use Rattle.ft_trace.specs.Acts.{has_committed, noted}
+use Rattle.ft_trace.specs.Addresses.{container_count, class_of, slots, size}
+use Rattle.ft_trace.specs.Acts.{has_committed, view_after}
 use Rattle.ft_trace.specs.ContainerStates.{kind_in}
 use Rattle.ft_trace.specs.Pictures.{root_in, item_offset, item_field}
 use Rattle.ft_trace.specs.ItemWords.{said_at, words_at, ItemCareful}
 use Rattle.ft_trace.specs.Kinds.{rows, version_at, CarefulAs}
 use Rattle.ft_trace.specs.OddVersions.{Timely}
-use Rattle.ft_trace.specs.Holds.{held, known}
-use Rattle.ft_trace.specs.Traces.{Possible}
+use Rattle.ft_trace.specs.Holds.{held_words, known_state}
+use Rattle.ft_trace.specs.Traces.{IsReachable}
 use Rattle.ft_trace.proofs.ByKind.{items_fit}
 use Rattle.ft_trace.proofs.Known.{table_is_long}
 use Rattle.ft_trace.proofs.ItemPuts.{item_open, item_word_put, item_close}
 use Rattle.ft_bank.specs.declared.table.Table.{Table}
-use Rattle.ft_bank.specs.TableNames.{name_of, IsTableIn}
+use Rattle.ft_bank.specs.TableNames.{table_id, IsTableIn}
 use Rattle.ft_bank.specs.WriteSteps.{IsCareful}
 use Rattle.ft_bank.specs.Whole.{OnlyPut}
 use Rattle.ft_bank.proofs.TableAddresses.{named}
@@ -30,19 +30,19 @@ use Rattle.ft_bank.proofs.KnownAfterWrites.{IsLoad, loaded_by, loaded_put, loade
 use Rattle.ft_list.specs.ListItemWrites.{WritesList}
 use Rattle.ft_list.proofs.Room.{version_room}
 
-pub table_class : (k : Shape) (t : Table) → IsTableIn k t → IsClass (class_of (name_of t))
+pub table_class : (k : Shape) (t : Table) → IsTableIn k t → IsClass (class_of (table_id t))
 table_class k t is = (named k t is).0
 
 -- places and words of items are few
-pub few_slots : (k : Shape) (t : Table) → IsTableIn k t → slots (class_of (name_of t)) ≤ 65536
+pub few_slots : (k : Shape) (t : Table) → IsTableIn k t → slots (class_of (table_id t)) ≤ 65536
 unfolding slots
-few_slots k t is = (slots_range (class_of (name_of t)) (table_class k t is)).1
+few_slots k t is = (slots_range (class_of (table_id t)) (table_class k t is)).1
 
-pub inside : (k : Shape) (t : Table) → IsTableIn k t → (place word : ℕ) → place < slots (class_of (name_of t)) → word < 4 → item_offset place word < size (class_of (name_of t))
-inside k t is place word low few = let f = items_fit (class_of (name_of t)) (table_class k t is) in omega (arith, f, low, few)
+pub inside : (k : Shape) (t : Table) → IsTableIn k t → (place word : ℕ) → place < slots (class_of (table_id t)) → word < 4 → item_offset place word < size (class_of (table_id t))
+inside k t is place word low few = let f = items_fit (class_of (table_id t)) (table_class k t is) in omega (arith, f, low, few)
 
 -- the pass still writes the list
-pub writes_on : (k : Shape) (o : ℕ) (table : Table) (v w : View) → OnlyPut o v w → root_in (held o w) ≡ root_in (held o v) → WritesList k o table v → WritesList k o table w
+pub writes_on : (k : Shape) (o : ℕ) (table : Table) (v w : View) → OnlyPut o v w → root_in (held_words o w) ≡ root_in (held_words o v) → WritesList k o table v → WritesList k o table w
 writes_on k o table v w only root list = record {
   container = list.container;
   kind = list.kind;
@@ -52,30 +52,30 @@ writes_on k o table v w only root list = record {
   root = root ∙ list.root;
 }
 
-pub writes_loaded : (k : Shape) (o : ℕ) (table : Table) (a : Act) (v w : View) → IsLoad a → w ≡ noted a v → WritesList k o table v → WritesList k o table w
+pub writes_loaded : (k : Shape) (o : ℕ) (table : Table) (a : Act) (v w : View) → IsLoad a → w ≡ view_after a v → WritesList k o table v → WritesList k o table w
 writes_loaded k o table a v w load is list =
     let l = loaded_by a v w load is in
     writes_on k o table v w (loaded_put v w o l) (ap root_in (loaded_held v w o l)) list
 
-pub held_loaded : (o : ℕ) (a : Act) (v w : View) → IsLoad a → w ≡ noted a v → held o w ≡ held o v
+pub held_loaded : (o : ℕ) (a : Act) (v w : View) → IsLoad a → w ≡ view_after a v → held_words o w ≡ held_words o v
 held_loaded o a v w load is = loaded_held v w o (loaded_by a v w load is)
 
 module _ (k : Shape) (o : ℕ) (table : Table) (v : View) (list : WritesList k o table v) (shape : v.shape ≡ k) where
   abbrev t : ℕ
-  t = name_of table
+  t = table_id table
 
   abbrev c : ℕ
   c = class_of t
 
   abbrev ws : List ℕ
-  ws = (held o v).table
+  ws = (held_words o v).table
 
   is_kind : kind_in v.shape.starts o ≡ kind.List
   is_kind = ap (λ (z : Shape). kind_in z.starts o) shape ∙ list.kind
 
-  cares : (i x : ℕ) → ItemCareful (slots c) ws (list_of (known o v).content) i x → Timely (version_at kind.List c) (rows kind.List c) i x (has_committed o v.log) → IsCareful v o t i x
+  cares : (i x : ℕ) → ItemCareful (slots c) ws (list_of (known_state o v).content) i x → Timely (version_at kind.List c) (rows kind.List c) i x (has_committed o v.log) → IsCareful v o t i x
   cares i x care timely = record {
-    care = subst (λ (z : Kind). CarefulAs z c ws (known o v).content i x) (sym is_kind) care;
+    care = subst (λ (z : Kind). CarefulAs z c ws (known_state o v).content i x) (sym is_kind) care;
     timely = subst (λ (z : Kind). Timely (version_at z c) (rows z c) i x (has_committed o v.log)) (sym is_kind) timely;
   }
 
@@ -83,36 +83,36 @@ module _ (k : Shape) (o : ℕ) (table : Table) (v : View) (list : WritesList k o
   open_care place version at is early found even =
       subst (λ (i : ℕ). IsCareful v o t i (version + 1)) (sym is)
       (subst (λ (n : ℕ). IsCareful v o t (item_offset place 0) (n + 1)) (sym found)
-      (cares (item_offset place 0) (item_field ws place 0 + 1) (item_open (slots c) ws (list_of (known o v).content) place (omega (arith, even, found)))
+      (cares (item_offset place 0) (item_field ws place 0 + 1) (item_open (slots c) ws (list_of (known_state o v).content) place (omega (arith, even, found)))
       (record { before = λ q less e one. early; later = λ q less e two. absurd (omega (arith, two, even, found)) })))
 
   pub word_care : (place word at x : ℕ) → at ≡ item_offset place word → 0 < word → word < 4 → item_field ws place 0 % 2 ≡ 1 → IsCareful v o t at x
   word_care place word at x is some few odd =
       subst (λ (i : ℕ). IsCareful v o t i x) (sym is)
-      (cares (item_offset place word) x (item_word_put (slots c) ws (list_of (known o v).content) place word x some few odd)
+      (cares (item_offset place word) x (item_word_put (slots c) ws (list_of (known_state o v).content) place word x some few odd)
       (record { before = λ q less e one. absurd (omega (arith, e, some, few)); later = λ q less e two. absurd (omega (arith, e, some, few)) }))
 
-  pub close_care : (place version at : ℕ) → at ≡ item_offset place 0 → has_committed o v.log ≡ true → version ≡ item_field ws place 0 → version % 2 ≡ 1 → words_at (list_of (known o v).content) place ≡ said_at ws place → IsCareful v o t at (version + 1)
+  pub close_care : (place version at : ℕ) → at ≡ item_offset place 0 → has_committed o v.log ≡ true → version ≡ item_field ws place 0 → version % 2 ≡ 1 → words_at (list_of (known_state o v).content) place ≡ said_at ws place → IsCareful v o t at (version + 1)
   close_care place version at is late found odd says =
       subst (λ (i : ℕ). IsCareful v o t i (version + 1)) (sym is)
       (subst (λ (n : ℕ). IsCareful v o t (item_offset place 0) (n + 1)) (sym found)
-      (cares (item_offset place 0) (item_field ws place 0 + 1) (item_close (slots c) ws (list_of (known o v).content) place (item_field ws place 0 + 1) refl says)
+      (cares (item_offset place 0) (item_field ws place 0 + 1) (item_close (slots c) ws (list_of (known_state o v).content) place (item_field ws place 0 + 1) refl says)
       (record { before = λ q less e one. absurd (omega (arith, one, odd, found)); later = λ q less e two. late })))
 
 -- a version has room for one more write
-pub item_room : (k : Shape) (o : ℕ) (table : Table) (v : View) → WritesList k o table v → v.shape ≡ k → ∥ Possible v ∥₁ → k.passes * k.calls < 2 ^ 46 → (place : ℕ) → place < slots (class_of (name_of table)) → item_field (held o v).table place 0 < 2 ^ 63
+pub item_room : (k : Shape) (o : ℕ) (table : Table) (v : View) → WritesList k o table v → v.shape ≡ k → ∥ IsReachable v ∥₁ → k.passes * k.calls < 2 ^ 46 → (place : ℕ) → place < slots (class_of (table_id table)) → item_field (held_words o v).table place 0 < 2 ^ 63
 item_room k o table v list shape possible few place low =
-    let t = name_of table in
+    let t = table_id table in
     let is_kind : kind_in v.shape.starts o ≡ kind.List = ap (λ (z : Shape). kind_in z.starts o) shape ∙ list.kind in
-    let here : o < containers_in v.shape = subst (λ (z : Shape). o < containers_in z) (sym shape) list.container in
+    let here : o < container_count v.shape = subst (λ (z : Shape). o < container_count z) (sym shape) list.container in
     let row : place < rows (kind_in v.shape.starts o) (class_of t) = subst (λ (z : Kind). place < rows z (class_of t)) (sym is_kind) low in
     let calls : v.shape.passes * v.shape.calls < 2 ^ 46 = subst (λ (z : Shape). z.passes * z.calls < 2 ^ 46) (sym shape) few in
-    subst (λ (z : Kind). slice_index (held o v).table (version_at z (class_of t) place) < 2 ^ 63) is_kind (version_room v o t place possible here list.locked list.root row calls)
+    subst (λ (z : Kind). slice_index (held_words o v).table (version_at z (class_of t) place) < 2 ^ 63) is_kind (version_room v o t place possible here list.locked list.root row calls)
 
 -- the words of an item are there
-pub long_enough : (k : Shape) (o : ℕ) (table : Table) (v : View) → WritesList k o table v → (place : ℕ) → place < slots (class_of (name_of table)) → item_offset place 3 ≤ length (held o v).table
+pub long_enough : (k : Shape) (o : ℕ) (table : Table) (v : View) → WritesList k o table v → (place : ℕ) → place < slots (class_of (table_id table)) → item_offset place 3 ≤ length (held_words o v).table
 long_enough k o table v list place low =
-    let l = table_is_long v o (name_of table) list.root in
+    let l = table_is_long v o (table_id table) list.root in
     let i = inside k table list.table_in place 3 low (omega arith) in
     omega (arith, l, i)
 

@@ -21,22 +21,22 @@ use Rattle.ft_layout.specs.Containers.{IsBlock}
 use Rattle.ft_layout.proofs.Powers.{slots_range}
 use Rattle.ft_trace.specs.declared.Shape.{Shape}
 use Rattle.ft_trace.specs.declared.View.{View}
-use Rattle.ft_trace.specs.Addresses.{containers_in, class_of, slots}
+use Rattle.ft_trace.specs.Addresses.{container_count, class_of, slots}
 use Rattle.ft_trace.specs.Acts.{has_lock, is_writing, has_emptied, owes}
 use Rattle.ft_trace.specs.ContainerStates.{ContainerState, state_at, kind_in, changes}
 use Rattle.ft_trace.specs.Pictures.{root_in}
 use Rattle.ft_trace.specs.ItemWords.{ItemClear}
 use Rattle.ft_trace.specs.Kinds.{ClearAs}
-use Rattle.ft_trace.specs.Holds.{held, known}
+use Rattle.ft_trace.specs.Holds.{held_words, known_state}
 use Rattle.ft_trace.proofs.Known.{declared_at}
 use Rattle.ft_bank.specs.declared.table.Table.{Table}
-use Rattle.ft_bank.specs.TableNames.{name_of}
+use Rattle.ft_bank.specs.TableNames.{table_id}
 use Rattle.ft_bank.specs.WriteSteps.{MayHave}
 use Rattle.ft_list.specs.ListItemWrites.{WritesList, IsChanging, MayFinishItems}
 use Rattle.ft_list.specs.ListWrites.{IsListWrite}
 use Rattle.ft_list.proofs.Cares.{table_class}
 
-module _ (o : ℕ) (lc : ListCall) (said : Reply) (values news : List Value) (v : View) (low : o < containers_in v.shape) (mine : has_lock o v.log ≡ true) (is_list : (known o v).content ≡ content.List values) (stored : StoredWorld) (has : MayHave v stored) where
+module _ (o : ℕ) (lc : ListCall) (said : Reply) (values news : List Value) (v : View) (low : o < container_count v.shape) (mine : has_lock o v.log ≡ true) (is_list : (known_state o v).content ≡ content.List values) (stored : StoredWorld) (has : MayHave v stored) where
   abbrev world : List Content
   world = stored.world
 
@@ -63,21 +63,21 @@ module _ (o : ℕ) (lc : ListCall) (said : Reply) (values news : List Value) (v 
   pub table_stays : list_change lc ≡ change.Stays → table_at (after_stored stored (call.List o lc)).tables o ≡ table_at stored.tables o
   table_stays stays = ap (λ (z : TableChange). table_at (change_leaves stored.tables o z (grown_table (table_at stored.tables o) (takes_in stored (call.List o lc)) 0 0) no_table) o) stays
 
-module _ (k : Shape) (o : ℕ) (table : Table) (first past : ℕ) (lc : ListCall) (said : Reply) (values news : List Value) (v : View) (list : WritesList k o table v) (shape : v.shape ≡ k) (is_list : (known o v).content ≡ content.List values) (call_is : IsListWrite o lc said values news v)
-    (table_after : (stored : StoredWorld) → MayHave v stored → table_at (after_stored stored (call.List o lc)).tables o ≡ record { class = Some (class_of (name_of table)); fill = 0; keys = [] })
+module _ (k : Shape) (o : ℕ) (table : Table) (first past : ℕ) (lc : ListCall) (said : Reply) (values news : List Value) (v : View) (list : WritesList k o table v) (shape : v.shape ≡ k) (is_list : (known_state o v).content ≡ content.List values) (call_is : IsListWrite o lc said values news v)
+    (table_after : (stored : StoredWorld) → MayHave v stored → table_at (after_stored stored (call.List o lc)).tables o ≡ record { class = Some (class_of (table_id table)); fill = 0; keys = [] })
     (takes_owed : (stored : StoredWorld) (c : ℕ) → MayHave v stored → owes v.log ≡ suc c → takes_in stored (call.List o lc) ≡ Some c)
-    (changing : IsChanging (class_of (name_of table)) values news first past (held o v).table) where
+    (changing : IsChanging (class_of (table_id table)) values news first past (held_words o v).table) where
   abbrev called : Call
   called = call.List o lc
 
   abbrev class : ℕ
-  class = class_of (name_of table)
+  class = class_of (table_id table)
 
   changed : changes called ≡ o
   changed = ap (λ (b : Bool). unwrap_or (if b then Some o else None) 0) call_is.changing
 
-  low' : o < containers_in v.shape
-  low' = subst (λ (z : Shape). o < containers_in z) (sym shape) list.container
+  low' : o < container_count v.shape
+  low' = subst (λ (z : Shape). o < container_count z) (sym shape) list.container
 
   is_kind : kind.List ≡ kind_in v.shape.starts o
   is_kind = sym (ap (λ (z : Shape). kind_in z.starts o) shape ∙ list.kind)
@@ -92,14 +92,14 @@ module _ (k : Shape) (o : ℕ) (table : Table) (first past : ℕ) (lc : ListCall
   unfolding slots
   few = let f = changing.table.fill in let r = (slots_range class (table_class k table list.table_in)).0 in omega (arith, f, r)
 
-  clear : ItemClear (slots class) (held o v).table values news
+  clear : ItemClear (slots class) (held_words o v).table values news
   clear = record { keeps = changing.shut; short = few }
 
-  clears : (stored : StoredWorld) (t : ℕ) → MayHave v stored → root_in (held o v) ≡ suc t → ClearAs (kind_in v.shape.starts o) v.shape.texts (class_of t) (held o v).table (known o v).content (state_at (after_stored stored called) o).content
+  clears : (stored : StoredWorld) (t : ℕ) → MayHave v stored → root_in (held_words o v) ≡ suc t → ClearAs (kind_in v.shape.starts o) v.shape.texts (class_of t) (held_words o v).table (known_state o v).content (state_at (after_stored stored called) o).content
   clears stored t has names =
-      let same : name_of table ≡ t = let e : suc (name_of table) ≡ suc t = sym list.root ∙ names in omega (arith, e) in
-      subst (λ (n : ℕ). ClearAs (kind_in v.shape.starts o) v.shape.texts (class_of n) (held o v).table (known o v).content (state_at (after_stored stored called) o).content) same
-      (subst (λ (z : Kind × Content × Content). ClearAs z.0 v.shape.texts class (held o v).table z.1 z.2) (λ d. (is_kind d, sym is_list d, sym (ap (λ (z : ContainerState). z.content) (left_after stored has)) d)) clear)
+      let same : table_id table ≡ t = let e : suc (table_id table) ≡ suc t = sym list.root ∙ names in omega (arith, e) in
+      subst (λ (n : ℕ). ClearAs (kind_in v.shape.starts o) v.shape.texts (class_of n) (held_words o v).table (known_state o v).content (state_at (after_stored stored called) o).content) same
+      (subst (λ (z : Kind × Content × Content). ClearAs z.0 v.shape.texts class (held_words o v).table z.1 z.2) (λ d. (is_kind d, sym is_list d, sym (ap (λ (z : ContainerState). z.content) (left_after stored has)) d)) clear)
 
   declared : (stored : StoredWorld) → MayHave v stored → IsDeclared stored.world no_hands called
   declared stored has = record {
@@ -108,11 +108,11 @@ module _ (k : Shape) (o : ℕ) (table : Table) (first past : ℕ) (lc : ListCall
     room = subst (λ (z : Option ℕ). IfSome z (λ (n : ℕ). n < 0)) (sym call_is.cursor) tt;
   }
 
-  pub may_finish : 0 < v.left → has_emptied o v.log ≡ false → IsBlock (held o v).block (Some class) (length news) 0 0 → MayFinishItems o table called said first past v
+  pub may_finish : 0 < v.left → has_emptied o v.log ≡ false → IsBlock (held_words o v).block (Some class) (length news) 0 0 → MayFinishItems o table called said first past v
   may_finish left full head = record {
     may = record {
       write = (λ d. call_is.changing d && not (call_is.raises d));
-      container = subst (λ (n : ℕ). n < containers_in v.shape) (sym changed) low';
+      container = subst (λ (n : ℕ). n < container_count v.shape) (sym changed) low';
       odd = subst (λ (n : ℕ). is_writing n v.log ≡ true) (sym changed) list.odd;
       left = left;
       words = call_is.fits;
@@ -120,7 +120,7 @@ module _ (k : Shape) (o : ℕ) (table : Table) (first past : ℕ) (lc : ListCall
       reply_is = λ stored has. inr (sym (ap (λ (z : Answer). z.reply) (answer_is o lc said values news v low' list.locked is_list stored has (call_is.answered stored has))));
       declared = declared;
       fits = call_is.caps;
-      clear = subst (λ (n : ℕ). (stored : StoredWorld) (t : ℕ) → MayHave v stored → root_in (held n v) ≡ suc t → ClearAs (kind_in v.shape.starts n) v.shape.texts (class_of t) (held n v).table (known n v).content (state_at (after_stored stored called) n).content) (sym changed) clears;
+      clear = subst (λ (n : ℕ). (stored : StoredWorld) (t : ℕ) → MayHave v stored → root_in (held_words n v) ≡ suc t → ClearAs (kind_in v.shape.starts n) v.shape.texts (class_of t) (held_words n v).table (known_state n v).content (state_at (after_stored stored called) n).content) (sym changed) clears;
       takes = takes_owed;
       empties = λ e. absurd (true≢false (sym e ∙ subst (λ (n : ℕ). has_emptied n v.log ≡ false) (sym changed) full));
     };

@@ -13,11 +13,11 @@ use Rattle.ft_trace.specs.declared.Act.TheVariants.{Commit, PutBlock, PutRoot, S
 use Rattle.ft_trace.specs.declared.Snap.{Snap}
 use Rattle.ft_trace.specs.declared.Shape.{Shape}
 use Rattle.ft_trace.specs.declared.View.{View}
-use Rattle.ft_trace.specs.Acts.{has_lock, is_writing, owes, noted, seen_writes, used}
-use Rattle.ft_trace.specs.Addresses.{containers_in}
-use Rattle.ft_trace.specs.Holds.{held, known}
-use Rattle.ft_trace.specs.Traces.{Possible}
-use Rattle.ft_trace.specs.Pictures.{Picture, root_in, Stands}
+use Rattle.ft_trace.specs.Acts.{has_lock, is_writing, owes, view_after, seen_writes, used}
+use Rattle.ft_trace.specs.Addresses.{container_count}
+use Rattle.ft_trace.specs.Holds.{held_words, known_state}
+use Rattle.ft_trace.specs.Traces.{IsReachable}
+use Rattle.ft_trace.specs.Pictures.{ContainerWords, root_in, Represents}
 use Rattle.ft_trace.specs.ContainerStates.{ContainerState}
 use Rattle.ft_trace.proofs.Cases.{hit}
 use Rattle.ft_trace.proofs.Known.{declared_at}
@@ -44,9 +44,9 @@ clear_of o = call.List o list.Clear
 abbrev pub empty_kept : ContainerState
 empty_kept = record { content = content.List []; table = no_table }
 
-module _ (o : ℕ) (values : List Value) (u : View) (low : o < containers_in u.shape) (mine : has_lock o u.log ≡ true) (is_list : (known o u).content ≡ content.List values) where
+module _ (o : ℕ) (values : List Value) (u : View) (low : o < container_count u.shape) (mine : has_lock o u.log ≡ true) (is_list : (known_state o u).content ≡ content.List values) where
   -- a pass that writes a list whose root names no table may commit it
-  pub may_clear : is_writing o u.log ≡ true → 0 < u.left → owes u.log ≡ 0 → root_in (held o u) ≡ 0 → MayCommit u (clear_of o) reply.Done
+  pub may_clear : is_writing o u.log ≡ true → 0 < u.left → owes u.log ≡ 0 → root_in (held_words o u) ≡ 0 → MayCommit u (clear_of o) reply.Done
   may_clear odd left none bare = record {
     write = refl;
     container = low;
@@ -67,7 +67,7 @@ module _ (o : ℕ) (values : List Value) (u : View) (low : o < containers_in u.s
   }
 
   -- the list is empty then, and has no table
-  pub clear_kept : (c : View) → Committed u c (clear_of o) → known o c ≡ empty_kept
+  pub clear_kept : (c : View) → Committed u c (clear_of o) → known_state o c ≡ empty_kept
   clear_kept c committed =
       let stored = committed.found in
       let has = committed.has in
@@ -76,8 +76,8 @@ module _ (o : ℕ) (values : List Value) (u : View) (low : o < containers_in u.s
       committed.left o ∙ (λ d. record { content = left d; table = table d })
 
 -- the words of an empty list without a table
-pub bare_stands : (texts : List ℕ) (words : Picture) (kept : ContainerState) → kept ≡ empty_kept → IsBlock words.block None 0 0 0 → Stands texts words kept
-bare_stands texts words kept is head = subst (Stands texts words) (sym is) (record { head = head; table = refl }, refl)
+pub bare_stands : (texts : List ℕ) (words : ContainerWords) (kept : ContainerState) → kept ≡ empty_kept → IsBlock words.block None 0 0 0 → Represents texts words kept
+bare_stands texts words kept is head = subst (Represents texts words) (sym is) (record { head = head; table = refl }, refl)
 
 -- a block whose root names no table, and that counts nothing
 pub with_no_root : (b : List ℕ) (class : Option ℕ) (count : ℕ) → IsBlock b class count 0 0 → IsBlock (slice_set (slice_set b 0 0) 1 0) None 0 0 0
@@ -100,7 +100,7 @@ with_no_root b class count h =
     }
 
 -- its root may become 0
-pub may_put_none : (k : Shape) (o : ℕ) (old : Option Table) (v : View) (f : ℕ) → v.shape ≡ k → ∥ Possible v ∥₁ → KnowsList k o old v → used v.log ≡ false → MayPutRoot (noted (StartWrite o f) v) o None
+pub may_put_none : (k : Shape) (o : ℕ) (old : Option Table) (v : View) (f : ℕ) → v.shape ≡ k → ∥ IsReachable v ∥₁ → KnowsList k o old v → used v.log ≡ false → MayPutRoot (view_after (StartWrite o f) v) o None
 may_put_none k o old v f shape possible list free = record {
   odd = hit o true (is_writing o v.log);
   fresh = λ t e. absurd (true≢false (ap is_some (sym e)));
@@ -113,36 +113,36 @@ may_put_none k o old v f shape possible list free = record {
 
 -- ---- the whole write of a list that has a table
 
-module _ (k : Shape) (o : ℕ) (table : Table) (v s r u : View) (f : ℕ) (may : MayAdd k o (Some table) v) (shape : v.shape ≡ k) (possible : ∥ Possible v ∥₁) (started : s ≡ noted (StartWrite o f) v) (rooted : r ≡ noted (PutRoot o 0 (root_in (held o s))) s) (root_held : held o r ≡ with_root (held o s) None s) (keeps : KeepsUnwritten s r) (counted : u ≡ noted (PutBlock o 1 0) r) (count_held : held o u ≡ with_block (held o r) 1 0) (keeps_too : KeepsUnwritten r u) where
-  both_rooted : r ≡ noted (PutRoot o 0 (root_in (held o v))) (noted (StartWrite o f) v)
-  both_rooted = rooted ∙ ap (λ (z : View). noted (PutRoot o 0 (root_in (held o z))) z) started
+module _ (k : Shape) (o : ℕ) (table : Table) (v s r u : View) (f : ℕ) (may : MayAdd k o (Some table) v) (shape : v.shape ≡ k) (possible : ∥ IsReachable v ∥₁) (started : s ≡ view_after (StartWrite o f) v) (rooted : r ≡ view_after (PutRoot o 0 (root_in (held_words o s))) s) (root_held : held_words o r ≡ with_root (held_words o s) None s) (keeps : KeepsUnwritten s r) (counted : u ≡ view_after (PutBlock o 1 0) r) (count_held : held_words o u ≡ with_block (held_words o r) 1 0) (keeps_too : KeepsUnwritten r u) where
+  both_rooted : r ≡ view_after (PutRoot o 0 (root_in (held_words o v))) (view_after (StartWrite o f) v)
+  both_rooted = rooted ∙ ap (λ (z : View). view_after (PutRoot o 0 (root_in (held_words o z))) z) started
 
   puts : OnlyPut o r u
   puts = put_by (PutBlock o 1 0) r u o tt counted keeps_too
 
-  known_then : (p : ℕ) → known p u ≡ known p v
-  known_then p = work_knows r u p puts.work ∙ ap (λ (z : View). known p z) both_rooted
+  known_then : (p : ℕ) → known_state p u ≡ known_state p v
+  known_then p = work_knows r u p puts.work ∙ ap (λ (z : View). known_state p z) both_rooted
 
-  is_list : (known o v).content ≡ content.List (known_items o v)
+  is_list : (known_state o v).content ≡ content.List (known_items o v)
   is_list = knows_content k o (Some table) v shape possible may.list
 
-  low_then : o < containers_in u.shape
-  low_then = subst (λ (z : Shape). o < containers_in z) (sym (puts.work.pass.shape ∙ (ap (λ (z : View). z.shape) both_rooted ∙ shape))) may.list.container
+  low_then : o < container_count u.shape
+  low_then = subst (λ (z : Shape). o < container_count z) (sym (puts.work.pass.shape ∙ (ap (λ (z : View). z.shape) both_rooted ∙ shape))) may.list.container
 
   mine_then : has_lock o u.log ≡ true
   mine_then = puts.work.pass.locks o ∙ (ap (λ (z : View). has_lock o z.log) both_rooted ∙ may.list.locked)
 
-  list_then : (known o u).content ≡ content.List (known_items o v)
+  list_then : (known_state o u).content ≡ content.List (known_items o v)
   list_then = ap (λ (z : ContainerState). z.content) (known_then o) ∙ is_list
 
   -- its block
-  head_then : IsBlock (held o u).block None 0 0 0
+  head_then : IsBlock (held_words o u).block None 0 0 0
   head_then =
-      subst (λ (x : Picture). IsBlock x.block None 0 0 0) (sym (count_held ∙ ap (λ (x : Picture). with_block x 1 0) root_held))
-      (subst (λ (z : View). IsBlock (with_block (with_root (held o z) None z) 1 0).block None 0 0 0) (sym started)
-      (with_no_root (held o v).block (known o v).table.class (length (known_items o v)) (list_head k.texts v o is_list may.list.stands)))
+      subst (λ (x : ContainerWords). IsBlock x.block None 0 0 0) (sym (count_held ∙ ap (λ (x : ContainerWords). with_block x 1 0) root_held))
+      (subst (λ (z : View). IsBlock (with_block (with_root (held_words o z) None z) 1 0).block None 0 0 0) (sym started)
+      (with_no_root (held_words o v).block (known_state o v).table.class (length (known_items o v)) (list_head k.texts v o is_list may.list.stands)))
 
-  pub root_then : root_in (held o u) ≡ 0
+  pub root_then : root_in (held_words o u) ≡ 0
   root_then = head_then.root
 
   pub clear_may_commit : MayCommit u (clear_of o) reply.Done
@@ -154,32 +154,32 @@ module _ (k : Shape) (o : ℕ) (table : Table) (v s r u : View) (f : ℕ) (may :
       root_then
 
   -- after the commit
-  module _ (number g : ℕ) (snap : Snap) (c w : View) (made : c ≡ noted (Commit (clear_of o) reply.Done number snap) u) (committed : Committed u c (clear_of o)) where
-    held_on : held o c ≡ held o u
-    held_on = ap (λ (z : View). held o z) made
+  module _ (number g : ℕ) (snap : Snap) (c w : View) (made : c ≡ view_after (Commit (clear_of o) reply.Done number snap) u) (committed : Committed u c (clear_of o)) where
+    held_on : held_words o c ≡ held_words o u
+    held_on = ap (λ (z : View). held_words o z) made
 
-    pub clear_stands : (texts : List ℕ) → Stands texts (held o c) (known o c)
+    pub clear_stands : (texts : List ℕ) → Represents texts (held_words o c) (known_state o c)
     clear_stands texts =
-        bare_stands texts (held o c) (known o c) (clear_kept o (known_items o v) u low_then mine_then list_then c committed) (subst (λ (x : Picture). IsBlock x.block None 0 0 0) (sym held_on) head_then)
+        bare_stands texts (held_words o c) (known_state o c) (clear_kept o (known_items o v) u low_then mine_then list_then c committed) (subst (λ (x : ContainerWords). IsBlock x.block None 0 0 0) (sym held_on) head_then)
 
-    pub clear_root : root_in (held o c) ≡ 0
+    pub clear_root : root_in (held_words o c) ≡ 0
     clear_root = ap root_in held_on ∙ root_then
 
     pub clear_shut : IsShut o c
     clear_shut t names = let none = clear_root in absurd (omega (arith, none, names))
 
-    pub clear_wrote : seen_writes u ≤ number → w ≡ noted (StopWrite o g) c → Wrote (clear_of o) reply.Done number v w
+    pub clear_wrote : seen_writes u ≤ number → w ≡ view_after (StopWrite o g) c → Wrote (clear_of o) reply.Done number v w
     clear_wrote seen stopped =
-        let some_old : root_in (held o v) ≢ 0 = λ e. let n = may.list.root in omega (arith, e, n) in
+        let some_old : root_in (held_words o v) ≢ 0 = λ e. let n = may.list.root in omega (arith, e, n) in
         rooted_write (clear_of o) reply.Done number f 0 v r u w both_rooted may.list.even some_old (subst (λ (z : View). KeepsUnwritten z r) started keeps) puts root_then
         (write_ends (clear_of o) reply.Done number g snap u c c w seen made committed clear_may_commit.left (put_same c o) (ap root_in held_on) (clear_stands u.shape.texts) stopped)
 
 -- ---- a list that has none is as it was
 
-pub bare_leaves : (k : Shape) (o : ℕ) (v : View) → MayAdd k o None v → v.shape ≡ k → ∥ Possible v ∥₁ → Leaves o (clear_of o) reply.Done (known o v) v
+pub bare_leaves : (k : Shape) (o : ℕ) (v : View) → MayAdd k o None v → v.shape ≡ k → ∥ IsReachable v ∥₁ → Leaves o (clear_of o) reply.Done (known_state o v) v
 bare_leaves k o v may shape possible =
     let knows = may.list in
-    let low : o < containers_in v.shape = subst (λ (z : Shape). o < containers_in z) (sym shape) knows.container in
+    let low : o < container_count v.shape = subst (λ (z : Shape). o < container_count z) (sym shape) knows.container in
     let is_list = knows_content k o None v shape possible knows in
     let values = known_items o v in
     let empty : [] ≡ values = none_alike [] values refl (list_bare k o v knows is_list) in

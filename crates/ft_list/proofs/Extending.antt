@@ -17,13 +17,13 @@ use Rattle.ft_layout.proofs.Powers.{slots_range}
 use Rattle.ft_trace.specs.declared.Shape.{Shape}
 use Rattle.ft_trace.specs.declared.View.{View}
 use Rattle.ft_trace.specs.Acts.{has_lock, is_writing}
-use Rattle.ft_trace.specs.Addresses.{containers_in, class_of, slots}
-use Rattle.ft_trace.specs.Holds.{held, known}
-use Rattle.ft_trace.specs.Traces.{Possible}
-use Rattle.ft_trace.specs.Pictures.{Picture, root_in, Stands, item_field}
+use Rattle.ft_trace.specs.Addresses.{container_count, class_of, slots}
+use Rattle.ft_trace.specs.Holds.{held_words, known_state}
+use Rattle.ft_trace.specs.Traces.{IsReachable}
+use Rattle.ft_trace.specs.Pictures.{ContainerWords, root_in, Represents, item_field}
 use Rattle.ft_trace.specs.ContainerStates.{ContainerState, kind_in}
 use Rattle.ft_bank.specs.declared.table.Table.{Table}
-use Rattle.ft_bank.specs.TableNames.{name_of}
+use Rattle.ft_bank.specs.TableNames.{table_id}
 use Rattle.ft_bank.specs.Whole.{OnlyLoaded, OnlyPut}
 use Rattle.ft_bank.specs.WriteSteps.{with_block}
 use Rattle.ft_bank.proofs.KnownAfterWrites.{loaded_held, work_knows}
@@ -61,34 +61,34 @@ class_few : (class : ℕ) → IsClass class → slots class ≤ 65536
 unfolding slots
 class_few class is = (slots_range class is).1
 
-module _ (k : Shape) (m : ℕ) (v : View) (list : KnowsItems k m v) (shape : v.shape ≡ k) (possible : ∥ Possible v ∥₁) where
-  pub knows_list : (known m v).content ≡ content.List (known_items m v)
+module _ (k : Shape) (m : ℕ) (v : View) (list : KnowsItems k m v) (shape : v.shape ≡ k) (possible : ∥ IsReachable v ∥₁) where
+  pub knows_list : (known_state m v).content ≡ content.List (known_items m v)
   knows_list = list_content v m possible list.locked (ap (λ (z : Shape). kind_in z.starts m) shape ∙ list.kind)
 
-  room_at : (t : ℕ) → root_in (held m v) ≡ suc t → (length (known_items m v) ≤ slots (class_of t)) × (length (known_items m v) ≤ 65536)
+  room_at : (t : ℕ) → root_in (held_words m v) ≡ suc t → (length (known_items m v) ≤ slots (class_of t)) × (length (known_items m v) ≤ 65536)
   room_at t names =
       let says = (list_known k.texts v m t knows_list list.stands names).0 in
       let is_class = says.head.root.1.0 in
-      let few = list_few (class_of t) is_class (known_items m v) (0 ∷ 0 ∷ (held m v).table) says.table in
+      let few = list_few (class_of t) is_class (known_items m v) (0 ∷ 0 ∷ (held_words m v).table) says.table in
       let most = class_few (class_of t) is_class in
       (few, omega (arith, few, most))
 
-  stored_there : (t p : ℕ) → root_in (held m v) ≡ suc t → p < length (known_items m v) → (p < slots (class_of t)) × IsStored (item_field (held m v).table p 1) (item_field (held m v).table p 2) (stored_item (known_items m v) p)
+  stored_there : (t p : ℕ) → root_in (held_words m v) ≡ suc t → p < length (known_items m v) → (p < slots (class_of t)) × IsStored (item_field (held_words m v).table p 1) (item_field (held_words m v).table p 2) (stored_item (known_items m v) p)
   stored_there t p names low =
       let says = (list_known k.texts v m t knows_list list.stands names).0 in
       let few = (room_at t names).0 in (
         omega (arith, few, low),
-        subst (λ (z : Stored). IsStored (item_field (held m v).table p 1) (item_field (held m v).table p 2) z) (sym (stored_some (known_items m v) p value.Nothing low))
-            (at_words (held m v).table p _ (says.table.items p value.Nothing low)),
+        subst (λ (z : Stored). IsStored (item_field (held_words m v).table p 1) (item_field (held_words m v).table p 2) z) (sym (stored_some (known_items m v) p value.Nothing low))
+            (at_words (held_words m v).table p _ (says.table.items p value.Nothing low)),
       )
 
-  bare_there : root_in (held m v) ≡ 0 → length (known_items m v) ≡ 0
+  bare_there : root_in (held_words m v) ≡ 0 → length (known_items m v) ≡ 0
   bare_there none = elim (cases_eq (length (known_items m v)) 0) [ inl e ↦ e | inr ne ↦ absurd (list_rooted k.texts v m knows_list list.stands ne none) ]
 
   pub knows_few : length (known_items m v) ≤ 65536
-  knows_few = at (root_in (held m v)) refl
+  knows_few = at (root_in (held_words m v)) refl
     where
-      at : (root : ℕ) → root_in (held m v) ≡ root → length (known_items m v) ≤ 65536
+      at : (root : ℕ) → root_in (held_words m v) ≡ root → length (known_items m v) ≤ 65536
       at zero none = let e = bare_there none in omega (arith, e)
       at (suc t) names = (room_at t names).1
 
@@ -98,23 +98,23 @@ module _ (k : Shape) (m : ℕ) (v : View) (list : KnowsItems k m v) (shape : v.s
 pub knows_from : (k : Shape) (o : ℕ) (v : View) → MayWriteList k o v → KnowsItems k o v
 knows_from k o v may = record { container = may.container; kind = may.kind; locked = may.locked; even = may.even; stands = may.stands }
 
-pub knows_then : (k : Shape) (o : ℕ) (v w : View) → held o w ≡ held o v → known o w ≡ known o v → has_lock o w.log ≡ has_lock o v.log → is_writing o w.log ≡ is_writing o v.log → KnowsItems k o v → KnowsItems k o w
+pub knows_then : (k : Shape) (o : ℕ) (v w : View) → held_words o w ≡ held_words o v → known_state o w ≡ known_state o v → has_lock o w.log ≡ has_lock o v.log → is_writing o w.log ≡ is_writing o v.log → KnowsItems k o v → KnowsItems k o w
 knows_then k o v w same_words same_content lock writes list = record {
   container = list.container;
   kind = list.kind;
   locked = lock ∙ list.locked;
   even = writes ∙ list.even;
-  stands = subst (λ (x : Picture × ContainerState). Stands k.texts x.0 x.1) (λ d. (sym same_words d, sym same_content d)) list.stands;
+  stands = subst (λ (x : ContainerWords × ContainerState). Represents k.texts x.0 x.1) (λ d. (sym same_words d, sym same_content d)) list.stands;
 }
 
 -- ---- an addition
 
-pub added_on : (addition : Addition) (v w : View) → ((p : ℕ) → known p w ≡ known p v) → (values : List Value) → with_added addition w values ≡ with_added addition v values
+pub added_on : (addition : Addition) (v w : View) → ((p : ℕ) → known_state p w ≡ known_state p v) → (values : List Value) → with_added addition w values ≡ with_added addition v values
 added_on (One place value) v w same values = refl
 added_on (All other more) v w same values = ap (λ (x : ContainerState). values ++ list_of x.content) (same other)
 
 -- or of those whose items it adds
-pub news_on : (k : Shape) (count : ℕ) (addition : Addition) (v w : View) → ((p : ℕ) → KnowsItems k p v → known p w ≡ known p v) → IsAddition k count addition v → (values : List Value) → with_added addition w values ≡ with_added addition v values
+pub news_on : (k : Shape) (count : ℕ) (addition : Addition) (v w : View) → ((p : ℕ) → KnowsItems k p v → known_state p w ≡ known_state p v) → IsAddition k count addition v → (values : List Value) → with_added addition w values ≡ with_added addition v values
 news_on k count (One place value) v w same is values = refl
 news_on k count (All other more) v w same is values = ap (λ (x : ContainerState). values ++ list_of x.content) (same other is.1)
 
@@ -129,12 +129,12 @@ pub first_low : (k : Shape) (count : ℕ) (addition : Addition) (v : View) → I
 first_low k count (One place value) v is = is.0
 first_low k count (All other more) v is = omega arith
 
-pub added_few : (k : Shape) (count : ℕ) (addition : Addition) (v : View) → v.shape ≡ k → ∥ Possible v ∥₁ → IsAddition k count addition v → count_in addition ≤ 65536
+pub added_few : (k : Shape) (count : ℕ) (addition : Addition) (v : View) → v.shape ≡ k → ∥ IsReachable v ∥₁ → IsAddition k count addition v → count_in addition ≤ 65536
 added_few k count (One place value) v shape possible is = omega arith
 added_few k count (All other more) v shape possible is = let f = knows_few k other v is.1 shape possible in let e = is.0 in omega (arith, e, f)
 
 -- where the pass knows the same of each list that it doesn't write
-pub addition_on : (k : Shape) (count : ℕ) (addition : Addition) (v w : View) → ((p : ℕ) → KnowsItems k p v → (held p w ≡ held p v) × (known p w ≡ known p v) × (has_lock p w.log ≡ has_lock p v.log) × (is_writing p w.log ≡ is_writing p v.log)) → IsAddition k count addition v → IsAddition k count addition w
+pub addition_on : (k : Shape) (count : ℕ) (addition : Addition) (v w : View) → ((p : ℕ) → KnowsItems k p v → (held_words p w ≡ held_words p v) × (known_state p w ≡ known_state p v) × (has_lock p w.log ≡ has_lock p v.log) × (is_writing p w.log ≡ is_writing p v.log)) → IsAddition k count addition v → IsAddition k count addition w
 addition_on k count (One place value) v w same is = is
 addition_on k count (All other more) v w same is =
     let x = same other is.1 in
@@ -146,13 +146,13 @@ addition_loaded k count addition v w l is = addition_on k count addition v w (λ
 -- ---- once the pass writes the list o, whose table has its items
 
 module _ (k : Shape) (o : ℕ) (table : Table) (v s : View) (list : WritesList k o table s) (first past : ℕ)
-    (putting : IsPutting (class_of (name_of table)) (known_items o v) first past (stored_item (known_items o v)) (held o s).table)
-    (few : length (known_items o v) ≤ slots (class_of (name_of table)))
-    (known_same : (p : ℕ) → known p s ≡ known p v)
-    (shape : s.shape ≡ k) (possible : ∥ Possible s ∥₁)
-    (others : (p : ℕ) → p ≢ o → KnowsItems k p v → (held p s ≡ held p v) × (has_lock p s.log ≡ has_lock p v.log) × (is_writing p s.log ≡ is_writing p v.log)) where
+    (putting : IsPutting (class_of (table_id table)) (known_items o v) first past (stored_item (known_items o v)) (held_words o s).table)
+    (few : length (known_items o v) ≤ slots (class_of (table_id table)))
+    (known_same : (p : ℕ) → known_state p s ≡ known_state p v)
+    (shape : s.shape ≡ k) (possible : ∥ IsReachable s ∥₁)
+    (others : (p : ℕ) → p ≢ o → KnowsItems k p v → (held_words p s ≡ held_words p v) × (has_lock p s.log ≡ has_lock p v.log) × (is_writing p s.log ≡ is_writing p v.log)) where
   abbrev class : ℕ
-  class = class_of (name_of table)
+  class = class_of (table_id table)
 
   items_same : (p : ℕ) → known_items p s ≡ known_items p v
   items_same p = ap (λ (z : ContainerState). list_of z.content) (known_same p)
@@ -163,12 +163,12 @@ module _ (k : Shape) (o : ℕ) (table : Table) (v s : View) (list : WritesList k
     locked = list.locked;
     quiet = λ ne. absurd (ne refl);
     stores = λ t p names low.
-        let same : name_of table ≡ t = let e : suc (name_of table) ≡ suc t = sym list.root ∙ names in omega (arith, e) in
+        let same : table_id table ≡ t = let e : suc (table_id table) ≡ suc t = sym list.root ∙ names in omega (arith, e) in
         let items = items_same o in
         let long : length (known_items o s) ≡ length (known_items o v) = ap length items in
         let less : p < slots class = omega (arith, low, long, few) in (
           subst (λ (n : ℕ). p < slots (class_of n)) same less,
-          subst (λ (l : List Value). IsStored (item_field (held o s).table p 1) (item_field (held o s).table p 2) (stored_item l p)) (sym items) (putting.items p less),
+          subst (λ (l : List Value). IsStored (item_field (held_words o s).table p 1) (item_field (held_words o s).table p 2) (stored_item l p)) (sym items) (putting.items p less),
         );
     bare = λ none. absurd (let r = list.root in omega (arith, r, none));
   }
@@ -186,7 +186,7 @@ module _ (k : Shape) (o : ℕ) (table : Table) (v s : View) (list : WritesList k
 pub gives_loaded : (k : Shape) (o m : ℕ) (v w : View) → OnlyLoaded v w → GivesItems k o m v → GivesItems k o m w
 gives_loaded k o m v w l gives =
     let h = loaded_held v w m l in
-    let c : known m w ≡ known m v = work_knows v w m l.work in
+    let c : known_state m w ≡ known_state m v = work_knows v w m l.work in
     let long : length (known_items m w) ≡ length (known_items m v) = ap (λ (z : ContainerState). length (list_of z.content)) c in
     record {
       container = gives.container;
@@ -195,7 +195,7 @@ gives_loaded k o m v w l gives =
       stores = λ t p names low.
           let x = gives.stores t p (sym (ap root_in h) ∙ names) (omega (arith, low, long)) in (
             x.0,
-            subst (λ (z : Picture × ContainerState). IsStored (item_field z.0.table p 1) (item_field z.0.table p 2) (stored_item (list_of z.1.content) p)) (λ d. (sym h d, sym c d)) x.1,
+            subst (λ (z : ContainerWords × ContainerState). IsStored (item_field z.0.table p 1) (item_field z.0.table p 2) (stored_item (list_of z.1.content) p)) (λ d. (sym h d, sym c d)) x.1,
           );
       bare = λ none. long ∙ gives.bare (sym (ap root_in h) ∙ none);
     }
@@ -203,42 +203,42 @@ gives_loaded k o m v w l gives =
 -- ---- while the items are put
 
 module _ (k : Shape) (o m : ℕ) (table : Table) (v w : View) (shape : v.shape ≡ k) (only : OnlyPut o v w) (before : WritesList k o table v) (after : WritesList k o table w) (gives : GivesItems k o m v) where
-  there : m < containers_in v.shape
-  there = subst (λ (z : Shape). m < containers_in z) (sym shape) gives.container
+  there : m < container_count v.shape
+  there = subst (λ (z : Shape). m < container_count z) (sym shape) gives.container
 
-  held_same : m ≢ o → held m w ≡ held m v
+  held_same : m ≢ o → held_words m w ≡ held_words m v
   held_same ne = only.others m there ne gives.locked (gives.quiet ne)
 
-  pub root_put : root_in (held m w) ≡ root_in (held m v)
+  pub root_put : root_in (held_words m w) ≡ root_in (held_words m v)
   root_put = elim (cases_eq m o) [
-    | inl e ↦ (subst (λ (q : ℕ). root_in (held q w) ≡ root_in (held q v)) (sym e) (after.root ∙ sym before.root))
+    | inl e ↦ (subst (λ (q : ℕ). root_in (held_words q w) ≡ root_in (held_words q v)) (sym e) (after.root ∙ sym before.root))
     | inr ne ↦ ap root_in (held_same ne)
   ]
 
-  pub gives_put : (values others : List Value) (first past at : ℕ) → IsMoving (class_of (name_of table)) values (values ++ others) first past at (held o w).table → known_items o v ≡ values → length values ≤ at → length values ≤ slots (class_of (name_of table)) → GivesItems k o m w
+  pub gives_put : (values others : List Value) (first past at : ℕ) → IsMoving (class_of (table_id table)) values (values ++ others) first past at (held_words o w).table → known_items o v ≡ values → length values ≤ at → length values ≤ slots (class_of (table_id table)) → GivesItems k o m w
   gives_put values others first past at moving items done few = record {
     container = gives.container;
     locked = only.work.pass.locks m ∙ gives.locked;
     quiet = λ ne. only.work.pass.writes m ∙ gives.quiet ne;
     stores = elim (cases_eq m o) [
-      | inl e ↦ subst (λ (q : ℕ). (t p : ℕ) → root_in (held q w) ≡ suc t → p < length (known_items q w) → (p < slots (class_of t)) × IsStored (item_field (held q w).table p 1) (item_field (held q w).table p 2) (stored_item (known_items q w) p)) (sym e)
+      | inl e ↦ subst (λ (q : ℕ). (t p : ℕ) → root_in (held_words q w) ≡ suc t → p < length (known_items q w) → (p < slots (class_of t)) × IsStored (item_field (held_words q w).table p 1) (item_field (held_words q w).table p 2) (stored_item (known_items q w) p)) (sym e)
           (λ t p names low.
-          let same : name_of table ≡ t = let x : suc (name_of table) ≡ suc t = sym after.root ∙ names in omega (arith, x) in
+          let same : table_id table ≡ t = let x : suc (table_id table) ≡ suc t = sym after.root ∙ names in omega (arith, x) in
           let all : known_items o w ≡ values = ap (λ (z : ContainerState). list_of z.content) (work_knows v w o only.work) ∙ items in
           let long : length (known_items o w) ≡ length values = ap length all in
-          let less : p < slots (class_of (name_of table)) = omega (arith, low, long, few) in (
+          let less : p < slots (class_of (table_id table)) = omega (arith, low, long, few) in (
             subst (λ (n : ℕ). p < slots (class_of n)) same less,
-            subst (λ (z : Stored). IsStored (item_field (held o w).table p 1) (item_field (held o w).table p 2) z)
+            subst (λ (z : Stored). IsStored (item_field (held_words o w).table p 1) (item_field (held_words o w).table p 2) z)
                 (moving.done p (omega (arith, low, long, done)) ∙ (sym (append_low values others p (omega (arith, low, long))) ∙ ap (λ (l : List Value). stored_item l p) (sym all)))
                 (moving.putting.items p less),
           ))
       | inr ne ↦ λ t p names low.
           let h = held_same ne in
-          let c : known m w ≡ known m v = work_knows v w m only.work in
+          let c : known_state m w ≡ known_state m v = work_knows v w m only.work in
           let long : length (known_items m w) ≡ length (known_items m v) = ap (λ (z : ContainerState). length (list_of z.content)) c in
           let x = gives.stores t p (sym (ap root_in h) ∙ names) (omega (arith, low, long)) in (
             x.0,
-            subst (λ (z : Picture × ContainerState). IsStored (item_field z.0.table p 1) (item_field z.0.table p 2) (stored_item (list_of z.1.content) p)) (λ d. (sym h d, sym c d)) x.1,
+            subst (λ (z : ContainerWords × ContainerState). IsStored (item_field z.0.table p 1) (item_field z.0.table p 2) (stored_item (list_of z.1.content) p)) (λ d. (sym h d, sym c d)) x.1,
           )
     ];
     bare = λ none. ap (λ (z : ContainerState). length (list_of z.content)) (work_knows v w m only.work) ∙ gives.bare (sym root_put ∙ none);
@@ -246,13 +246,13 @@ module _ (k : Shape) (o m : ℕ) (table : Table) (v w : View) (shape : v.shape �
 
 -- ---- once they are put, and then the length
 
-module _ (class : ℕ) (is_class : IsClass class) (values news : List Value) (first total : ℕ) (put said : Picture) (moving : IsMoving class values news first total total put.table) (is : said ≡ with_block put 1 total) (short : length values ≤ total) (long : length news ≡ total) (room : total ≤ slots class) where
+module _ (class : ℕ) (is_class : IsClass class) (values news : List Value) (first total : ℕ) (put said : ContainerWords) (moving : IsMoving class values news first total total put.table) (is : said ≡ with_block put 1 total) (short : length values ≤ total) (long : length news ≡ total) (room : total ≤ slots class) where
   pub added_changing : IsChanging class values news first total said.table
   added_changing =
-      moving_ends class is_class values news first total total said.table (subst (λ (w : Picture). IsMoving class values news first total total w.table) (sym is) moving) (omega (arith, long, room))
+      moving_ends class is_class values news first total total said.table (subst (λ (w : ContainerWords). IsMoving class values news first total total w.table) (sym is) moving) (omega (arith, long, room))
       (λ p more. stored_none values p (omega (arith, more, short)) ∙ sym (stored_none news p (omega (arith, more, long))))
 
   pub added_head : IsBlock put.block (Some class) (length values) 0 0 → IsBlock said.block (Some class) (length news) 0 0
   added_head head =
-      subst (λ (w : Picture). IsBlock w.block (Some class) (length news) 0 0) (sym is)
+      subst (λ (w : ContainerWords). IsBlock w.block (Some class) (length news) 0 0) (sym is)
       (subst (λ (n : ℕ). IsBlock (slice_set put.block 1 total) (Some class) n 0 0) (sym long) (with_count put.block (Some class) (length values) total head))

@@ -15,17 +15,17 @@ use Rattle.ft_layout.specs.Containers.{IsRoot, IsBlock, IsListWords, StandsAs}
 use Rattle.ft_trace.specs.declared.Act.TheVariants.{StartWrite}
 use Rattle.ft_trace.specs.declared.Shape.{Shape}
 use Rattle.ft_trace.specs.declared.View.{View}
-use Rattle.ft_trace.specs.Acts.{has_lock, is_writing, mem, noted, stage}
-use Rattle.ft_trace.specs.Addresses.{containers_in, class_of, slots}
-use Rattle.ft_trace.specs.Holds.{held, known, in_hand}
+use Rattle.ft_trace.specs.Acts.{has_lock, is_writing, mem, view_after, stage}
+use Rattle.ft_trace.specs.Addresses.{container_count, class_of, slots}
+use Rattle.ft_trace.specs.Holds.{held_words, known_state, in_hand}
 use Rattle.ft_trace.specs.Kinds.{rows, version_at, SoundAs}
 use Rattle.ft_trace.specs.OddVersions.{Shut}
-use Rattle.ft_trace.specs.Traces.{Possible}
-use Rattle.ft_trace.specs.Pictures.{Picture, root_in, Stands, item_field, table_words}
+use Rattle.ft_trace.specs.Traces.{IsReachable}
+use Rattle.ft_trace.specs.Pictures.{ContainerWords, root_in, Represents, item_field, table_words}
 use Rattle.ft_trace.specs.ContainerStates.{ContainerState, kind_in}
 use Rattle.ft_trace.proofs.Cases.{hit}
 use Rattle.ft_bank.specs.declared.table.Table.{Table}
-use Rattle.ft_bank.specs.TableNames.{name_of, IsTableIn}
+use Rattle.ft_bank.specs.TableNames.{table_id, IsTableIn}
 use Rattle.ft_bank.specs.WriteSteps.{MayPutRoot}
 use Rattle.ft_bank.proofs.TableAddresses.{class_is}
 use Rattle.ft_bank.specs.Whole.{OnlyLoaded}
@@ -39,13 +39,13 @@ use Rattle.ft_list.proofs.ItemWordsPut.{at_words, list_few, stored_some}
 
 -- ---- what a pass knows of a list stays, where it knows the same words and the same content
 
-pub knows_on : (k : Shape) (o : ℕ) (old : Option Table) (v w : View) → held o w ≡ held o v → known o w ≡ known o v → has_lock o w.log ≡ has_lock o v.log → is_writing o w.log ≡ is_writing o v.log → KnowsList k o old v → KnowsList k o old w
+pub knows_on : (k : Shape) (o : ℕ) (old : Option Table) (v w : View) → held_words o w ≡ held_words o v → known_state o w ≡ known_state o v → has_lock o w.log ≡ has_lock o v.log → is_writing o w.log ≡ is_writing o v.log → KnowsList k o old v → KnowsList k o old w
 knows_on k o old v w same_words same_content lock writes list = record {
   container = list.container;
   kind = list.kind;
   locked = lock ∙ list.locked;
   even = writes ∙ list.even;
-  stands = subst (λ (x : Picture × ContainerState). Stands k.texts x.0 x.1) (λ d. (sym same_words d, sym same_content d)) list.stands;
+  stands = subst (λ (x : ContainerWords × ContainerState). Represents k.texts x.0 x.1) (λ d. (sym same_words d, sym same_content d)) list.stands;
   table_in = list.table_in;
   root = ap root_in same_words ∙ list.root;
 }
@@ -53,7 +53,7 @@ knows_on k o old v w same_words same_content lock writes list = record {
 -- after words were put into a fresh table
 pub knows_filled : (k : Shape) (o : ℕ) (old : Option Table) (v w : View) → v.shape ≡ k → OnlyFilled v w → KnowsList k o old v → KnowsList k o old w
 knows_filled k o old v w shape only list =
-    let low : o < containers_in v.shape = subst (λ (z : Shape). o < containers_in z) (sym shape) list.container in
+    let low : o < container_count v.shape = subst (λ (z : Shape). o < container_count z) (sym shape) list.container in
     let x = only.keeps o low list.locked list.even in
     knows_on k o old v w x.0 x.1 (only.work.pass.locks o) (only.work.pass.writes o) list
 
@@ -62,7 +62,7 @@ grow_filled k o old table v w shape only may = record {
   list = knows_filled k o old v w shape only may.list;
   used = only.work.used ∙ may.used;
   owed = only.work.owes ∙ may.owed;
-  fresh = only.work.hands (name_of table) ∙ may.fresh;
+  fresh = only.work.hands (table_id table) ∙ may.fresh;
   table_in = may.table_in;
   left = subst (λ (n : ℕ). 0 < n) (sym only.work.left) may.left;
 }
@@ -70,15 +70,15 @@ grow_filled k o old table v w shape only may = record {
 -- ---- the root
 
 -- a block with another root
-pub with_other_root : (b : List ℕ) (class : Option ℕ) (k : Shape) (table : Table) (count : ℕ) → IsBlock b class count 0 0 → IsTableIn k table → IsBlock (slice_set b 0 (suc (name_of table))) (Some (class_of (name_of table))) count 0 0
+pub with_other_root : (b : List ℕ) (class : Option ℕ) (k : Shape) (table : Table) (count : ℕ) → IsBlock b class count 0 0 → IsTableIn k table → IsBlock (slice_set b 0 (suc (table_id table))) (Some (class_of (table_id table))) count 0 0
 with_other_root b class k table count h table_in =
     let size_is = h.size in
-    let names : slice_index (slice_set b 0 (suc (name_of table))) 0 ≡ suc (name_of table) = get_or-set_same b 0 (suc (name_of table)) 0 (omega (arith, size_is)) in
-    let other : (i : ℕ) → i ≢ 0 → slice_index (slice_set b 0 (suc (name_of table))) i ≡ slice_index b i = λ i ne. get_or-set_other b 0 i (suc (name_of table)) 0 ne in
+    let names : slice_index (slice_set b 0 (suc (table_id table))) 0 ≡ suc (table_id table) = get_or-set_same b 0 (suc (table_id table)) 0 (omega (arith, size_is)) in
+    let other : (i : ℕ) → i ≢ 0 → slice_index (slice_set b 0 (suc (table_id table))) i ≡ slice_index b i = λ i ne. get_or-set_other b 0 i (suc (table_id table)) 0 ne in
     let c = class_is table table_in.2 in
     record {
-      size = length-set b 0 (suc (name_of table)) ∙ h.size;
-      root = subst (λ (r : ℕ). IsRoot r (Some (class_of (name_of table)))) (sym names) (table.number, (table_class k table table_in, table_in.2, omega (arith, c)));
+      size = length-set b 0 (suc (table_id table)) ∙ h.size;
+      root = subst (λ (r : ℕ). IsRoot r (Some (class_of (table_id table)))) (sym names) (table.number, (table_class k table table_in, table_in.2, omega (arith, c)));
       count_is = other 1 (λ e. absurd (omega (arith, e))) ∙ h.count_is;
       fill_is = other 2 (λ e. absurd (omega (arith, e))) ∙ h.fill_is;
       next_is = other 3 (λ e. absurd (omega (arith, e))) ∙ h.next_is;
@@ -86,47 +86,47 @@ with_other_root b class k table count h table_in =
     }
 
 -- the block of a list
-pub list_head : (texts : List ℕ) (v : View) (o : ℕ) → (known o v).content ≡ content.List (known_items o v) → Stands texts (held o v) (known o v) → IsBlock (held o v).block (known o v).table.class (length (known_items o v)) 0 0
+pub list_head : (texts : List ℕ) (v : View) (o : ℕ) → (known_state o v).content ≡ content.List (known_items o v) → Represents texts (held_words o v) (known_state o v) → IsBlock (held_words o v).block (known_state o v).table.class (length (known_items o v)) 0 0
 list_head texts v o is stands =
-    let says : IsListWords (held o v).block (0 ∷ 0 ∷ (held o v).table) (known o v).table.class (known_items o v) × ((known o v).table.fill ≡ 0) = subst (λ (z : Content). StandsAs texts (held o v).block (0 ∷ 0 ∷ (held o v).table) (known o v).table z) is stands in
+    let says : IsListWords (held_words o v).block (0 ∷ 0 ∷ (held_words o v).table) (known_state o v).table.class (known_items o v) × ((known_state o v).table.fill ≡ 0) = subst (λ (z : Content). StandsAs texts (held_words o v).block (0 ∷ 0 ∷ (held_words o v).table) (known_state o v).table z) is stands in
     says.0.head
 
-module _ (k : Shape) (o : ℕ) (old : Option Table) (table : Table) (v : View) (may : MayGrowList k o old table v) (shape : v.shape ≡ k) (possible : ∥ Possible v ∥₁) where
+module _ (k : Shape) (o : ℕ) (old : Option Table) (table : Table) (v : View) (may : MayGrowList k o old table v) (shape : v.shape ≡ k) (possible : ∥ IsReachable v ∥₁) where
   abbrev c : ℕ
-  c = class_of (name_of table)
+  c = class_of (table_id table)
 
   abbrev ws : List ℕ
-  ws = in_hand (name_of table) v
+  ws = in_hand (table_id table) v
 
   list_kind : kind_in v.shape.starts o ≡ kind.List
   list_kind = ap (λ (z : Shape). kind_in z.starts o) shape ∙ may.list.kind
 
-  low : o < containers_in v.shape
-  low = subst (λ (z : Shape). o < containers_in z) (sym shape) may.list.container
+  low : o < container_count v.shape
+  low = subst (λ (z : Shape). o < container_count z) (sym shape) may.list.container
 
-  pub grow_content : (known o v).content ≡ content.List (known_items o v)
+  pub grow_content : (known_state o v).content ≡ content.List (known_items o v)
   grow_content = list_content v o possible may.list.locked list_kind
 
   the_one : (t : Table) → Some table ≡ Some t → table ≡ t
   the_one t e = ap (λ (z : Option Table). unwrap_or z table) e
 
   module _ (filled : IsFilled c (known_items o v) (slots c) ws) (room : length (known_items o v) ≤ slots c) where
-    sound_here : SoundAs (kind_in v.shape.starts o) v.shape.texts c ws (known o v).content
-    sound_here = subst (λ (z : Kind). SoundAs z v.shape.texts c ws (known o v).content) (sym list_kind) (filled_sound c (table_class k table may.table_in) (known_items o v) ws filled room)
+    sound_here : SoundAs (kind_in v.shape.starts o) v.shape.texts c ws (known_state o v).content
+    sound_here = subst (λ (z : Kind). SoundAs z v.shape.texts c ws (known_state o v).content) (sym list_kind) (filled_sound c (table_class k table may.table_in) (known_items o v) ws filled room)
 
     young_here : (p : ℕ) → p < rows (kind_in v.shape.starts o) c → slice_index ws (version_at (kind_in v.shape.starts o) c p) ≡ 0
     young_here = subst (λ (z : Kind). (p : ℕ) → p < rows z c → slice_index ws (version_at z c p) ≡ 0) (sym list_kind) filled.version
 
-    shut_here : (t : ℕ) → root_in (held o v) ≡ suc t → Shut (version_at (kind_in v.shape.starts o) (class_of t)) (rows (kind_in v.shape.starts o) (class_of t)) (held o v).table
-    shut_here t names = subst (λ (z : Kind). Shut (version_at z (class_of t)) (rows z (class_of t)) (held o v).table) (sym list_kind) (list_shut v o t possible low may.list.locked may.list.even list_kind names)
+    shut_here : (t : ℕ) → root_in (held_words o v) ≡ suc t → Shut (version_at (kind_in v.shape.starts o) (class_of t)) (rows (kind_in v.shape.starts o) (class_of t)) (held_words o v).table
+    shut_here t names = subst (λ (z : Kind). Shut (version_at z (class_of t)) (rows z (class_of t)) (held_words o v).table) (sym list_kind) (list_shut v o t possible low may.list.locked may.list.even list_kind names)
 
-    pub may_root : (f : ℕ) → MayPutRoot (noted (StartWrite o f) v) o (Some table)
+    pub may_root : (f : ℕ) → MayPutRoot (view_after (StartWrite o f) v) o (Some table)
     may_root f = record {
       odd = hit o true (is_writing o v.log);
-      fresh = λ t e. subst (λ (z : Table). stage (name_of z) v.log ≡ 1) (the_one t e) may.fresh;
-      sound = λ t e. subst (λ (z : Table). SoundAs (kind_in v.shape.starts o) v.shape.texts (class_of (name_of z)) (in_hand (name_of z) v) (known o v).content) (the_one t e) sound_here;
+      fresh = λ t e. subst (λ (z : Table). stage (table_id z) v.log ≡ 1) (the_one t e) may.fresh;
+      sound = λ t e. subst (λ (z : Table). SoundAs (kind_in v.shape.starts o) v.shape.texts (class_of (table_id z)) (in_hand (table_id z) v) (known_state o v).content) (the_one t e) sound_here;
       young = λ t p e row.
-          let here = subst (λ (z : Table). (q : ℕ) → q < rows (kind_in v.shape.starts o) (class_of (name_of z)) → slice_index (in_hand (name_of z) v) (version_at (kind_in v.shape.starts o) (class_of (name_of z)) q) ≡ 0) (the_one t e) young_here p row in
+          let here = subst (λ (z : Table). (q : ℕ) → q < rows (kind_in v.shape.starts o) (class_of (table_id z)) → slice_index (in_hand (table_id z) v) (version_at (kind_in v.shape.starts o) (class_of (table_id z)) q) ≡ 0) (the_one t e) young_here p row in
           (omega (arith, here), (λ late. here));
       shut = shut_here;
       spare = λ some_one. may.used;
@@ -135,23 +135,23 @@ module _ (k : Shape) (o : ℕ) (old : Option Table) (table : Table) (v : View) (
 
 -- ---- what the table of a list stores
 
-pub list_stores : (k : Shape) (o : ℕ) (table : Table) (v : View) → KnowsList k o (Some table) v → (known o v).content ≡ content.List (known_items o v) → (p : ℕ) → p < length (known_items o v) → (p < slots (class_of (name_of table))) × IsStored (item_field (held o v).table p 1) (item_field (held o v).table p 2) (stored_item (known_items o v) p)
+pub list_stores : (k : Shape) (o : ℕ) (table : Table) (v : View) → KnowsList k o (Some table) v → (known_state o v).content ≡ content.List (known_items o v) → (p : ℕ) → p < length (known_items o v) → (p < slots (class_of (table_id table))) × IsStored (item_field (held_words o v).table p 1) (item_field (held_words o v).table p 2) (stored_item (known_items o v) p)
 list_stores k o table v list is p less =
-    let class = class_of (name_of table) in
+    let class = class_of (table_id table) in
     let is_class = table_class k table (list.table_in table refl) in
-    let words = (list_known k.texts v o (name_of table) is list.stands list.root).0 in
-    let few = list_few class is_class (known_items o v) (0 ∷ 0 ∷ (held o v).table) words.table in (
+    let words = (list_known k.texts v o (table_id table) is list.stands list.root).0 in
+    let few = list_few class is_class (known_items o v) (0 ∷ 0 ∷ (held_words o v).table) words.table in (
       omega (arith, few, less),
-      subst (λ (z : Stored). IsStored (item_field (held o v).table p 1) (item_field (held o v).table p 2) z) (sym (stored_some (known_items o v) p value.Nothing less))
-          (at_words (held o v).table p (Plain (slice_index_or (known_items o v) p value.Nothing)) (words.table.items p value.Nothing less)),
+      subst (λ (z : Stored). IsStored (item_field (held_words o v).table p 1) (item_field (held_words o v).table p 2) z) (sym (stored_some (known_items o v) p value.Nothing less))
+          (at_words (held_words o v).table p (Plain (slice_index_or (known_items o v) p value.Nothing)) (words.table.items p value.Nothing less)),
     )
 
 -- a list without a table stores nothing
-pub list_bare : (k : Shape) (o : ℕ) (v : View) → KnowsList k o None v → (known o v).content ≡ content.List (known_items o v) → length (known_items o v) ≡ 0
+pub list_bare : (k : Shape) (o : ℕ) (v : View) → KnowsList k o None v → (known_state o v).content ≡ content.List (known_items o v) → length (known_items o v) ≡ 0
 list_bare k o v list is = elim (cases_eq (length (known_items o v)) 0) [ inl e ↦ e | inr ne ↦ absurd (list_rooted k.texts v o is list.stands ne list.root) ]
 
 -- a pass of a bank knows that it is one
-pub knows_content : (k : Shape) (o : ℕ) (old : Option Table) (v : View) → v.shape ≡ k → ∥ Possible v ∥₁ → KnowsList k o old v → (known o v).content ≡ content.List (known_items o v)
+pub knows_content : (k : Shape) (o : ℕ) (old : Option Table) (v : View) → v.shape ≡ k → ∥ IsReachable v ∥₁ → KnowsList k o old v → (known_state o v).content ≡ content.List (known_items o v)
 knows_content k o old v shape possible list = list_content v o possible list.locked (ap (λ (z : Shape). kind_in z.starts o) shape ∙ list.kind)
 
 -- loads leave the words of a table in hand
@@ -159,8 +159,8 @@ pub hand_loaded : (t : ℕ) (v w : View) → OnlyLoaded v w → in_hand t w ≡ 
 hand_loaded t v w l = ap (λ (z : Shape). table_words z t (mem z w.log)) l.work.pass.shape ∙ ap (λ (ws : List ℕ). table_words v.shape t ws) l.words
 
 -- no version is odd in the table of a list that nobody writes
-pub knows_shut : (k : Shape) (o : ℕ) (old : Option Table) (v : View) → v.shape ≡ k → ∥ Possible v ∥₁ → KnowsList k o old v → (t : ℕ) → root_in (held o v) ≡ suc t → Shut (version_at (kind_in v.shape.starts o) (class_of t)) (rows (kind_in v.shape.starts o) (class_of t)) (held o v).table
+pub knows_shut : (k : Shape) (o : ℕ) (old : Option Table) (v : View) → v.shape ≡ k → ∥ IsReachable v ∥₁ → KnowsList k o old v → (t : ℕ) → root_in (held_words o v) ≡ suc t → Shut (version_at (kind_in v.shape.starts o) (class_of t)) (rows (kind_in v.shape.starts o) (class_of t)) (held_words o v).table
 knows_shut k o old v shape possible list t names =
     let is_kind : kind_in v.shape.starts o ≡ kind.List = ap (λ (z : Shape). kind_in z.starts o) shape ∙ list.kind in
-    let low : o < containers_in v.shape = subst (λ (z : Shape). o < containers_in z) (sym shape) list.container in
-    subst (λ (z : Kind). Shut (version_at z (class_of t)) (rows z (class_of t)) (held o v).table) (sym is_kind) (list_shut v o t possible low list.locked list.even is_kind names)
+    let low : o < container_count v.shape = subst (λ (z : Shape). o < container_count z) (sym shape) list.container in
+    subst (λ (z : Kind). Shut (version_at z (class_of t)) (rows z (class_of t)) (held_words o v).table) (sym is_kind) (list_shut v o t possible low list.locked list.even is_kind names)

@@ -24,13 +24,13 @@ use Rattle.ft_trace.specs.declared.Act.{Act}
 use Rattle.ft_trace.specs.declared.Act.TheVariants.{Version, ReadCounter}
 use Rattle.ft_trace.specs.declared.Shape.{Shape}
 use Rattle.ft_trace.specs.declared.View.{View}
-use Rattle.ft_trace.specs.Acts.{has_lock, noted}
-use Rattle.ft_trace.specs.Addresses.{containers_in, class_of, slots}
-use Rattle.ft_trace.specs.Holds.{held, known}
+use Rattle.ft_trace.specs.Acts.{has_lock, view_after}
+use Rattle.ft_trace.specs.Addresses.{container_count, class_of, slots}
+use Rattle.ft_trace.specs.Holds.{held_words, known_state}
 use Rattle.ft_trace.specs.LookReplies.{item_reply}
 use Rattle.ft_trace.specs.LoggedReads.{Among, Agrees, LookedAtOne}
-use Rattle.ft_trace.specs.Pictures.{Picture, root_in, item_field, Stands}
-use Rattle.ft_trace.specs.Traces.{Possible}
+use Rattle.ft_trace.specs.Pictures.{ContainerWords, root_in, item_field, Represents}
+use Rattle.ft_trace.specs.Traces.{IsReachable}
 use Rattle.ft_trace.specs.ContainerStates.{ContainerState, state_at, kind_in, reply_in}
 use Rattle.ft_trace.proofs.Known.{class_known}
 use Rattle.ft_trace.proofs.NoTable.{no_table_stands}
@@ -57,7 +57,7 @@ use Rattle.ft_reads.proofs.Agreeing.{among_older, agrees_older}
 
 -- ---- what words say of a list
 
-list_words : (texts : List ℕ) (x : Picture) (kept : ContainerState) → kind_of kept.content ≡ kind.List → Stands texts x kept → IsListWords x.block (0 ∷ 0 ∷ x.table) kept.table.class (list_of kept.content)
+list_words : (texts : List ℕ) (x : ContainerWords) (kept : ContainerState) → kind_of kept.content ≡ kind.List → Represents texts x kept → IsListWords x.block (0 ∷ 0 ∷ x.table) kept.table.class (list_of kept.content)
 list_words texts x kept is stands = by kept.content kept.table is stands
   where
     by : (c : Content) (table : TableUse) → kind_of c ≡ kind.List → StandsAs texts x.block (0 ∷ 0 ∷ x.table) table c → IsListWords x.block (0 ∷ 0 ∷ x.table) table.class (list_of c)
@@ -67,7 +67,7 @@ list_words texts x kept is stands = by kept.content kept.table is stands
     by (content.Deque deque) table e s = absurd (cc)
 
 -- a list has no more items than its table has places, and each says its value
-pub item_says : (texts : List ℕ) (x : Picture) (kept : ContainerState) (t : ℕ) → IsClass (class_of t) → kind_of kept.content ≡ kind.List → Stands texts x kept → root_in x ≡ suc t → (length (list_of kept.content) ≤ slots (class_of t))
+pub item_says : (texts : List ℕ) (x : ContainerWords) (kept : ContainerState) (t : ℕ) → IsClass (class_of t) → kind_of kept.content ≡ kind.List → Represents texts x kept → root_in x ≡ suc t → (length (list_of kept.content) ≤ slots (class_of t))
     × ((place : ℕ) → place < length (list_of kept.content) → IsStored (item_field x.table place 1) (item_field x.table place 2) (Plain (slice_index_or (list_of kept.content) place value.Nothing)))
 item_says texts x kept t class is stands names =
     let values = list_of kept.content in
@@ -78,7 +78,7 @@ item_says texts x kept t class is stands names =
     )
 
 -- one without a table has none
-pub no_items : (texts : List ℕ) (x : Picture) (kept : ContainerState) → root_in x ≡ 0 → Stands texts x kept → length (list_of kept.content) ≡ 0
+pub no_items : (texts : List ℕ) (x : ContainerWords) (kept : ContainerState) → root_in x ≡ 0 → Represents texts x kept → length (list_of kept.content) ≡ 0
 no_items texts x kept none stands = by kept.content (no_table_stands texts x kept none stands).1
   where
     by : (c : Content) → length_of c ≡ 0 → length (list_of c) ≡ 0
@@ -88,12 +88,12 @@ no_items texts x kept none stands = by kept.content (no_table_stands texts x kep
     by (content.Deque deque) e = refl
 
 -- how many items there are, as the block says it
-pub items_counted : (k : Shape) (x : Picture) (count : ℕ) → count ≡ slice_index x.block 1 → (kept : ContainerState) → kind_of kept.content ≡ kind.List → Stands k.texts x kept → count ≡ length (list_of kept.content)
+pub items_counted : (k : Shape) (x : ContainerWords) (count : ℕ) → count ≡ slice_index x.block 1 → (kept : ContainerState) → kind_of kept.content ≡ kind.List → Represents k.texts x kept → count ≡ length (list_of kept.content)
 items_counted k x count counts kept is stands = counts ∙ (list_words k.texts x kept is stands).head.count_is
 
 -- the index by the count that was read
-pub named_by : (k : Shape) (x : Picture) (index : ℤ) (count : ℕ) (found : Option Value) → count ≡ slice_index x.block 1
-    → ((kept : ContainerState) → kind_of kept.content ≡ kind.List → Stands k.texts x kept → count ≡ length (list_of kept.content) → found ≡ option_map (λ place. slice_index_or (list_of kept.content) place value.Nothing) (index_in count index)) → IsItemNamed k index found x
+pub named_by : (k : Shape) (x : ContainerWords) (index : ℤ) (count : ℕ) (found : Option Value) → count ≡ slice_index x.block 1
+    → ((kept : ContainerState) → kind_of kept.content ≡ kind.List → Represents k.texts x kept → count ≡ length (list_of kept.content) → found ≡ option_map (λ place. slice_index_or (list_of kept.content) place value.Nothing) (index_in count index)) → IsItemNamed k index found x
 named_by k x index count found counts right kept is stands =
     let many = items_counted k x count counts kept is stands in
     right kept is stands many ∙ ap (λ (n : ℕ). option_map (λ (place : ℕ). slice_index_or (list_of kept.content) place value.Nothing) (index_in n index)) many
@@ -130,7 +130,7 @@ between_looks o closed n part opened looks = looks_append part (Version o opened
 pub between_stops : (o closed n : ℕ) (part : List Act) (opened : ℕ) → (opened % 2 ≢ 0) ⊎ (closed ≢ opened) → StopsAtVersion o opened closed (between_acts o closed n part opened)
 between_stops o closed n part opened why = record { newer = []; mid = ReadCounter n ∷ part; rest = []; is = refl; moved = why }
 
-pub between_shows : (k : Shape) (o closed n : ℕ) (part : List Act) (opened : ℕ) (index : ℤ) (found : Option Value) → closed ≡ opened → opened % 2 ≡ 0 → ((x : Picture) → Agrees k o part x → IsItemNamed k index found x) → ShowsNamed k o index found n (between_acts o closed n part opened)
+pub between_shows : (k : Shape) (o closed n : ℕ) (part : List Act) (opened : ℕ) (index : ℤ) (found : Option Value) → closed ≡ opened → opened % 2 ≡ 0 → ((x : ContainerWords) → Agrees k o part x → IsItemNamed k index found x) → ShowsNamed k o index found n (between_acts o closed n part opened)
 between_shows k o closed n part opened index found same even shows = record {
   mid = ReadCounter n ∷ part;
   between = record { version = opened; even = even; newer = []; rest = []; is = λ d. Version o (same d) ∷ ((ReadCounter n ∷ part) ++ Version o opened ∷ []) };
@@ -162,15 +162,15 @@ get_shown v w o index found n part ask own is s =
 
 -- ---- under the lock
 
-pub get_held : (v u : View) (o : ℕ) (index : ℤ) (found : Option Value) (n : ℕ) → OnlyLoaded v u → 0 < v.left → o < containers_in v.shape → has_lock o v.log ≡ true → found ≡ item_named (list_of (known o v).content) index → IsShown (noted (ReadCounter n) u) (call.List o (list.Get index)) (item_reply found) n
+pub get_held : (v u : View) (o : ℕ) (index : ℤ) (found : Option Value) (n : ℕ) → OnlyLoaded v u → 0 < v.left → o < container_count v.shape → has_lock o v.log ≡ true → found ≡ item_named (list_of (known_state o v).content) index → IsShown (view_after (ReadCounter n) u) (call.List o (list.Get index)) (item_reply found) n
 get_held v u o index found n loaded left low mine is =
     let called = call.List o (list.Get index) in
     let plain = get_plain o index found in
-    let right : (stored : StoredWorld) → MayHave (noted (ReadCounter n) u) stored → IsReplied called (item_reply found) (reply_in stored called) = λ stored may.
-    let kept : state_at stored o ≡ known o v = may.agrees o (subst (λ (k : Shape). o < containers_in k) (sym loaded.work.pass.shape) low) (loaded.work.pass.locks o ∙ mine) ∙ work_knows v u o loaded.work in
+    let right : (stored : StoredWorld) → MayHave (view_after (ReadCounter n) u) stored → IsReplied called (item_reply found) (reply_in stored called) = λ stored may.
+    let kept : state_at stored o ≡ known_state o v = may.agrees o (subst (λ (k : Shape). o < container_count k) (sym loaded.work.pass.shape) low) (loaded.work.pass.locks o ∙ mine) ∙ work_knows v u o loaded.work in
     plain.replied (reply_in stored called) (sym (get_replied stored o index found (is ∙ ap (λ (z : ContainerState). item_named (list_of z.content) index) (sym kept)))) in
     held_shown v u n loaded left called (item_reply found) plain.reads plain.cursor right (λ stored. plain.cause stored (ReadCounter n ∷ u.log) n)
 
 -- what such a pass reads
-pub reads_held : (k : Shape) (o : ℕ) (index : ℤ) (found : Option Value) (p q : Pass) → Reads k o (IsItemNamed k index found) p q → o < containers_in k → kind_in (view p).shape.starts o ≡ kind.List → ∥ Possible (view p) ∥₁ → has_lock o (view p).log ≡ true → Stands k.texts (held o (view p)) (known o (view p)) → found ≡ item_named (list_of (known o (view p)).content) index
-reads_held k o index found p q r low is possible mine stands = r.3 (held o (view p)) (r.4 o low mine) (known o (view p)) (ap kind_of (list_content (view p) o possible mine is)) stands
+pub reads_held : (k : Shape) (o : ℕ) (index : ℤ) (found : Option Value) (p q : Pass) → Reads k o (IsItemNamed k index found) p q → o < container_count k → kind_in (view p).shape.starts o ≡ kind.List → ∥ IsReachable (view p) ∥₁ → has_lock o (view p).log ≡ true → Represents k.texts (held_words o (view p)) (known_state o (view p)) → found ≡ item_named (list_of (known_state o (view p)).content) index
+reads_held k o index found p q r low is possible mine stands = r.3 (held_words o (view p)) (r.4 o low mine) (known_state o (view p)) (ap kind_of (list_content (view p) o possible mine is)) stands

@@ -15,7 +15,7 @@ use Rattle.ft_layout.specs.Containers.{class_mask}
 use Rattle.ft_model.specs.Classes.{IsClass}
 use Rattle.ft_layout.proofs.Powers.{slots_range}
 use Rattle.ft_trace.specs.Addresses.{slots}
-use Rattle.ft_trace.specs.Pictures.{Picture, item_offset, item_field}
+use Rattle.ft_trace.specs.Pictures.{ContainerWords, item_offset, item_field}
 use Rattle.ft_trace.specs.ItemWords.{value_words, words_at}
 use Rattle.ft_trace.proofs.Cases.{miss, here}
 use Rattle.ft_trace.proofs.Untouched.{there_is}
@@ -65,7 +65,7 @@ module _ (class : ℕ) (is_class : IsClass class) where
   }
 
   -- an item was put
-  pub putting_put : (before : List Value) (first past : ℕ) (now : ℕ → Stored) (old new : Picture) (place : ℕ) (stored : Stored) → IsPutting class before first past now old.table → PutsItem place stored old new → FitsStored stored → first ≤ place → place < past → IsPutting class before first past (but_at now place stored) new.table
+  pub putting_put : (before : List Value) (first past : ℕ) (now : ℕ → Stored) (old new : ContainerWords) (place : ℕ) (stored : Stored) → IsPutting class before first past now old.table → PutsItem place stored old new → FitsStored stored → first ≤ place → place < past → IsPutting class before first past (but_at now place stored) new.table
   putting_put before first past now old new place stored putting puts fits from to =
       let same : (q w : ℕ) → q ≢ place → w < 4 → item_field new.table q w ≡ item_field old.table q w = λ q w ne few. puts.rest (item_offset q w) (elim (cases_lt q place) [ inl less ↦ inl (omega (arith, less, few)) | inr more ↦ inr (omega (arith, more, few, ne)) ]) in
       let now_else : (q : ℕ) → q ≢ place → but_at now place stored q ≡ now q = λ q ne. miss q place stored (now q) ne in
@@ -148,7 +148,7 @@ module _ (class : ℕ) (is_class : IsClass class) (values news : List Value) (fi
   pub moving_further : (at q : ℕ) (ws : List ℕ) → IsMoving class values news first past at ws → at ≤ q → q < slots class → IsStored (item_field ws q 1) (item_field ws q 2) (stored_item values q)
   moving_further at q ws moving from low = subst (λ (z : Stored). IsStored (item_field ws q 1) (item_field ws q 2) z) (moving.rest q from) (moving.putting.items q low)
 
-  pub moving_next : (at : ℕ) (old new : Picture) (stored : Stored) → IsMoving class values news first past at old.table → PutsItem at stored old new → FitsStored stored → stored ≡ stored_item news at → first ≤ at → at < past → IsMoving class values news first past (at + 1) new.table
+  pub moving_next : (at : ℕ) (old new : ContainerWords) (stored : Stored) → IsMoving class values news first past at old.table → PutsItem at stored old new → FitsStored stored → stored ≡ stored_item news at → first ≤ at → at < past → IsMoving class values news first past (at + 1) new.table
   moving_next at old new stored moving puts fits is from to = record {
     now = but_at moving.now at stored;
     putting = putting_put class is_class values first past moving.now old new at stored moving.putting puts fits from to;

@@ -25,19 +25,19 @@ use Rattle.ft_model.specs.Lists.{clamped_in, index_in, index_of}
 use Rattle.ft_model.specs.TableUses.{StoredWorld, CanLackMemory, no_table, takes_in, table_at, change_leaves, change_takes, list_takes, grown_table, passes_cap, would_pass, after_stored}
 use Rattle.ft_model.specs.Worlds.{list_of, list_at, named_in, no_hands, IsOfKind}
 use Rattle.ft_trace.specs.declared.View.{View}
-use Rattle.ft_trace.specs.Addresses.{containers_in}
+use Rattle.ft_trace.specs.Addresses.{container_count}
 use Rattle.ft_trace.specs.Acts.{has_lock}
 use Rattle.ft_trace.specs.FitCalls.{FitsListCall}
 use Rattle.ft_trace.specs.ContainerStates.{ContainerState}
 use Rattle.ft_trace.proofs.Naming.{named_locked}
-use Rattle.ft_trace.specs.Holds.{known}
+use Rattle.ft_trace.specs.Holds.{known_state}
 use Rattle.ft_bank.specs.WriteSteps.{MayHave}
 use Rattle.ft_list.specs.ListWrites.{IsListWrite, Changes, Grows, Adds}
 use Rattle.ft_trace.proofs.Known.{declared_at}
 use Rattle.ft_list.proofs.Commits.{answer_is, content_after, in_tables, in_world, list_is, list_there, table_stays}
 
 -- a call that stores no more than before
-pub changes_stay : (o : ℕ) (lc : ListCall) (said : Reply) (values news : List Value) (v : View) → o < containers_in v.shape → has_lock o v.log ≡ true → (known o v).content ≡ content.List values → is_changing_list lc ≡ true → is_raised said ≡ false → cursor_of_list lc ≡ None → other_list lc ≡ None → list_change lc ≡ change.Stays → FitsListCall lc
+pub changes_stay : (o : ℕ) (lc : ListCall) (said : Reply) (values news : List Value) (v : View) → o < container_count v.shape → has_lock o v.log ≡ true → (known_state o v).content ≡ content.List values → is_changing_list lc ≡ true → is_raised said ≡ false → cursor_of_list lc ≡ None → other_list lc ≡ None → list_change lc ≡ change.Stays → FitsListCall lc
     → ((world : List Content) → answer_list world no_hands o values lc ≡ puts world no_hands o (content.List news) said) → Changes o lc said values news v
 changes_stay o lc said values news v low mine is_list changing raises cursor other stays fits answered = record {
   write = record {
@@ -54,31 +54,31 @@ changes_stay o lc said values news v low mine is_list changing raises cursor oth
 }
 
 -- l[i] = v
-pub set_changes : (o : ℕ) (index : ℤ) (value : Value) (values : List Value) (place : ℕ) (v : View) → o < containers_in v.shape → has_lock o v.log ≡ true → (known o v).content ≡ content.List values → FitsListCall (list.Set index value) → index_in (length values) index ≡ Some place → Changes o (list.Set index value) reply.Done values (slice_set values place value) v
+pub set_changes : (o : ℕ) (index : ℤ) (value : Value) (values : List Value) (place : ℕ) (v : View) → o < container_count v.shape → has_lock o v.log ≡ true → (known_state o v).content ≡ content.List values → FitsListCall (list.Set index value) → index_in (length values) index ≡ Some place → Changes o (list.Set index value) reply.Done values (slice_set values place value) v
 set_changes o index value values place v low mine is_list fits means =
     changes_stay o (list.Set index value) reply.Done values (slice_set values place value) v low mine is_list refl refl refl refl refl fits
     (λ world. ap (λ (z : Option ℕ). option_map_or (λ (i : ℕ). puts world no_hands o (content.List (slice_set values i value)) reply.Done) z (shows world no_hands (reply.Raised raise.NoIndex))) means)
 
 -- del l[i]
-pub del_changes : (o : ℕ) (index : ℤ) (values : List Value) (place : ℕ) (v : View) → o < containers_in v.shape → has_lock o v.log ≡ true → (known o v).content ≡ content.List values → index_in (length values) index ≡ Some place → Changes o (list.Del index) reply.Done values (remove values place) v
+pub del_changes : (o : ℕ) (index : ℤ) (values : List Value) (place : ℕ) (v : View) → o < container_count v.shape → has_lock o v.log ≡ true → (known_state o v).content ≡ content.List values → index_in (length values) index ≡ Some place → Changes o (list.Del index) reply.Done values (remove values place) v
 del_changes o index values place v low mine is_list means =
     changes_stay o (list.Del index) reply.Done values (remove values place) v low mine is_list refl refl refl refl refl tt
     (λ world. ap (λ (z : Option ℕ). option_map_or (λ (i : ℕ). puts world no_hands o (content.List (remove values i)) reply.Done) z (shows world no_hands (reply.Raised raise.NoIndex))) means)
 
 -- l.pop(i)
-pub pop_changes : (o : ℕ) (index : Option ℤ) (values : List Value) (place : ℕ) (v : View) → o < containers_in v.shape → has_lock o v.log ≡ true → (known o v).content ≡ content.List values → index_in (length values) (unwrap_or index (negsuc 0)) ≡ Some place → Changes o (list.Pop index) (reply.Value (slice_index_or values place value.Nothing)) values (remove values place) v
+pub pop_changes : (o : ℕ) (index : Option ℤ) (values : List Value) (place : ℕ) (v : View) → o < container_count v.shape → has_lock o v.log ≡ true → (known_state o v).content ≡ content.List values → index_in (length values) (unwrap_or index (negsuc 0)) ≡ Some place → Changes o (list.Pop index) (reply.Value (slice_index_or values place value.Nothing)) values (remove values place) v
 pop_changes o index values place v low mine is_list means =
     changes_stay o (list.Pop index) (reply.Value (slice_index_or values place value.Nothing)) values (remove values place) v low mine is_list refl refl refl refl refl tt
     (λ world. ap (λ (z : Option ℕ). option_map_or (λ (i : ℕ). puts world no_hands o (content.List (remove values i)) (reply.Value (slice_index_or values i value.Nothing))) z (shows world no_hands (reply.Raised raise.NoIndex))) means)
 
 -- l.remove(v)
-pub remove_changes : (o : ℕ) (value : Value) (values : List Value) (place : ℕ) (v : View) → o < containers_in v.shape → has_lock o v.log ≡ true → (known o v).content ≡ content.List values → FitsListCall (list.Remove value) → index_of values value ≡ Some place → Changes o (list.Remove value) reply.Done values (remove values place) v
+pub remove_changes : (o : ℕ) (value : Value) (values : List Value) (place : ℕ) (v : View) → o < container_count v.shape → has_lock o v.log ≡ true → (known_state o v).content ≡ content.List values → FitsListCall (list.Remove value) → index_of values value ≡ Some place → Changes o (list.Remove value) reply.Done values (remove values place) v
 remove_changes o value values place v low mine is_list fits means =
     changes_stay o (list.Remove value) reply.Done values (remove values place) v low mine is_list refl refl refl refl refl fits
     (λ world. ap (λ (z : Option ℕ). option_map_or (λ (i : ℕ). puts world no_hands o (content.List (remove values i)) reply.Done) z (shows world no_hands (reply.Raised raise.NoValue))) means)
 
 -- l.reverse()
-pub reverse_changes : (o : ℕ) (values : List Value) (v : View) → o < containers_in v.shape → has_lock o v.log ≡ true → (known o v).content ≡ content.List values → Changes o list.Reverse reply.Done values (reverse values) v
+pub reverse_changes : (o : ℕ) (values : List Value) (v : View) → o < container_count v.shape → has_lock o v.log ≡ true → (known_state o v).content ≡ content.List values → Changes o list.Reverse reply.Done values (reverse values) v
 reverse_changes o values v low mine is_list = changes_stay o list.Reverse reply.Done values (reverse values) v low mine is_list refl refl refl refl refl tt (λ world. refl)
 
 -- ---- calls that add items
@@ -92,7 +92,7 @@ not_false true never = absurd (never refl)
 not_false false never = refl
 
 -- a call that adds to one list alone
-adds_alone : (o : ℕ) (lc : ListCall) (values news : List Value) (v : View) → o < containers_in v.shape → has_lock o v.log ≡ true → (known o v).content ≡ content.List values → is_changing_list lc ≡ true → list_change lc ≡ change.Grows → other_list lc ≡ None → cursor_of_list lc ≡ None → FitsListCall lc
+adds_alone : (o : ℕ) (lc : ListCall) (values news : List Value) (v : View) → o < container_count v.shape → has_lock o v.log ≡ true → (known_state o v).content ≡ content.List values → is_changing_list lc ≡ true → list_change lc ≡ change.Grows → other_list lc ≡ None → cursor_of_list lc ≡ None → FitsListCall lc
     → ((world : List Content) → answer_list world no_hands o values lc ≡ puts world no_hands o (content.List news) reply.Done) → Adds o lc values news v
 adds_alone o lc values news v low mine is_list changing grows other cursor fits answered = record {
   changing = changing;
@@ -109,18 +109,18 @@ adds_alone o lc values news v low mine is_list changing grows other cursor fits 
 }
 
 -- l.append(v)
-pub append_adds : (o : ℕ) (value : Value) (values : List Value) (v : View) → o < containers_in v.shape → has_lock o v.log ≡ true → (known o v).content ≡ content.List values → FitsListCall (list.Append value) → Adds o (list.Append value) values (insert values (length values) value) v
+pub append_adds : (o : ℕ) (value : Value) (values : List Value) (v : View) → o < container_count v.shape → has_lock o v.log ≡ true → (known_state o v).content ≡ content.List values → FitsListCall (list.Append value) → Adds o (list.Append value) values (insert values (length values) value) v
 append_adds o value values v low mine is_list fits =
     adds_alone o (list.Append value) values (insert values (length values) value) v low mine is_list refl refl refl refl fits
     (λ world. ap (λ (vs : List Value). puts world no_hands o (content.List vs) reply.Done) (sym (insert_end values value)))
 
 -- l.insert(i, v)
-pub insert_adds : (o : ℕ) (index : ℤ) (value : Value) (values : List Value) (v : View) → o < containers_in v.shape → has_lock o v.log ≡ true → (known o v).content ≡ content.List values → FitsListCall (list.Insert index value) → Adds o (list.Insert index value) values (insert values (clamped_in (length values) index) value) v
+pub insert_adds : (o : ℕ) (index : ℤ) (value : Value) (values : List Value) (v : View) → o < container_count v.shape → has_lock o v.log ≡ true → (known_state o v).content ≡ content.List values → FitsListCall (list.Insert index value) → Adds o (list.Insert index value) values (insert values (clamped_in (length values) index) value) v
 insert_adds o index value values v low mine is_list fits =
     adds_alone o (list.Insert index value) values (insert values (clamped_in (length values) index) value) v low mine is_list refl refl refl refl fits (λ world. refl)
 
 -- l.extend(m)
-module _ (o m : ℕ) (values others : List Value) (v : View) (low : o < containers_in v.shape) (high : m < containers_in v.shape) (mine : has_lock o v.log ≡ true) (theirs : has_lock m v.log ≡ true) (is_list : (known o v).content ≡ content.List values) (is_other : (known m v).content ≡ content.List others) (few : length others ≤ most_items) where
+module _ (o m : ℕ) (values others : List Value) (v : View) (low : o < container_count v.shape) (high : m < container_count v.shape) (mine : has_lock o v.log ≡ true) (theirs : has_lock m v.log ≡ true) (is_list : (known_state o v).content ≡ content.List values) (is_other : (known_state m v).content ≡ content.List others) (few : length others ≤ most_items) where
   abbrev joined : List Value
   joined = values ++ others
 
@@ -157,9 +157,9 @@ module _ (o m : ℕ) (values others : List Value) (v : View) (low : o < containe
   }
 
 -- what such a call takes, and what it leaves
-module _ (o : ℕ) (lc : ListCall) (values news : List Value) (v : View) (low : o < containers_in v.shape) (mine : has_lock o v.log ≡ true) (is_list : (known o v).content ≡ content.List values) (call_is : Adds o lc values news v) where
+module _ (o : ℕ) (lc : ListCall) (values news : List Value) (v : View) (low : o < container_count v.shape) (mine : has_lock o v.log ≡ true) (is_list : (known_state o v).content ≡ content.List values) (call_is : Adds o lc values news v) where
   abbrev wanted : Option ℕ
-  wanted = list_takes (known o v).table (length news)
+  wanted = list_takes (known_state o v).table (length news)
 
   abbrev passes : Bool
   passes = nat_lt most_items (length news)
@@ -171,7 +171,7 @@ module _ (o : ℕ) (lc : ListCall) (values news : List Value) (v : View) (low : 
     content_is : slice_index_or left o (content.List []) ≡ content.List news
     content_is = content_after o lc reply.Done values news v low mine is_list stored has (call_is.answered stored has)
 
-    table_is : table_at stored.tables o ≡ (known o v).table
+    table_is : table_at stored.tables o ≡ (known_state o v).table
     table_is = ap (λ (z : ContainerState). z.table) (has.agrees o low mine)
 
     takes_wanted : takes_in stored (call.List o lc) ≡ wanted

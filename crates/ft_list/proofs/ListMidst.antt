@@ -19,10 +19,10 @@ use Rattle.ft_trace.specs.declared.Act.{Act}
 use Rattle.ft_trace.specs.declared.Act.TheVariants.{Answer, ReadCounter}
 use Rattle.ft_trace.specs.declared.Shape.{Shape}
 use Rattle.ft_trace.specs.declared.View.{View}
-use Rattle.ft_trace.specs.Acts.{has_lock, stage, debt, noted, shown}
-use Rattle.ft_trace.specs.Addresses.{containers_in}
-use Rattle.ft_trace.specs.Holds.{held, known}
-use Rattle.ft_trace.specs.Traces.{Possible}
+use Rattle.ft_trace.specs.Acts.{has_lock, stage, debt, view_after, shown}
+use Rattle.ft_trace.specs.Addresses.{container_count}
+use Rattle.ft_trace.specs.Holds.{held_words, known_state}
+use Rattle.ft_trace.specs.Traces.{IsReachable}
 use Rattle.ft_trace.specs.Pictures.{root_in}
 use Rattle.ft_trace.specs.ContainerStates.{kind_in, changes, reply_in}
 use Rattle.ft_bank.specs.declared.bank.Bank.{Bank}
@@ -49,7 +49,7 @@ use Rattle.ft_list.proofs.Raising.{raised, and_false}
 
 -- ---- before the call
 
-pub may_write : (b : Bank) (p : Pass) (o : ℕ) → IsMaking b p → o < containers_in (shape_of b) → kind_in (shape_of b).starts o ≡ kind.List → has_lock o (view p).log ≡ true → 0 < (view p).left → MayWriteList (shape_of b) o (view p)
+pub may_write : (b : Bank) (p : Pass) (o : ℕ) → IsMaking b p → o < container_count (shape_of b) → kind_in (shape_of b).starts o ≡ kind.List → has_lock o (view p).log ≡ true → 0 < (view p).left → MayWriteList (shape_of b) o (view p)
 may_write b p o m low is mine left =
     let same = m.inside.0.1 in
     record {
@@ -57,14 +57,14 @@ may_write b p o m low is mine left =
       kind = is;
       locked = mine;
       even = m.inside.1.still.even o;
-      stands = making_stands b p (shape_of b).texts o m (ap (λ (k : Shape). k.texts) same) (subst (λ (k : Shape). o < containers_in k) (sym same) low) mine;
+      stands = making_stands b p (shape_of b).texts o m (ap (λ (k : Shape). k.texts) same) (subst (λ (k : Shape). o < container_count k) (sym same) low) mine;
       owes = m.inside.1.still.owes;
       left = left;
     }
 
 -- ---- the reply
 
-module _ (o : ℕ) (lc : ListCall) (said : Reply) (values : List Value) (v : View) (low : o < containers_in v.shape) (mine : has_lock o v.log ≡ true) (is_list : (known o v).content ≡ content.List values) where
+module _ (o : ℕ) (lc : ListCall) (said : Reply) (values : List Value) (v : View) (low : o < container_count v.shape) (mine : has_lock o v.log ≡ true) (is_list : (known_state o v).content ≡ content.List values) where
   -- it is that of the plain list with the items that the pass knows
   pub reply_of_list : ((stored : StoredWorld) → MayHave v stored → (answer_list stored.world no_hands o values lc).reply ≡ said) → IsReplyTo (call.List o lc) said v
   reply_of_list replied stored has = ap (λ (l : List Value). (answer_list stored.world no_hands o l lc).reply) (list_is o lc said values values v low mine is_list stored has) ∙ replied stored has
@@ -95,23 +95,23 @@ made_read called said stamp v w replied read wrote x = record {
 }
 
 -- a list that a pass with its lock has, where the call is a write that leaves its table, or raises
-module _ (k : Shape) (o : ℕ) (lc : ListCall) (said : Reply) (v u w : View) (shape : u.shape ≡ k) (possible : ∥ Possible u ∥₁) (may : MayWriteList k o u) (loaded : OnlyLoaded v u) where
+module _ (k : Shape) (o : ℕ) (lc : ListCall) (said : Reply) (v u w : View) (shape : u.shape ≡ k) (possible : ∥ IsReachable u ∥₁) (may : MayWriteList k o u) (loaded : OnlyLoaded v u) where
   abbrev called : Call
   called = call.List o lc
 
-  inside : o < containers_in u.shape
-  inside = subst (λ (z : Shape). o < containers_in z) (sym shape) may.container
+  inside : o < container_count u.shape
+  inside = subst (λ (z : Shape). o < container_count z) (sym shape) may.container
 
-  is_list : (known o u).content ≡ content.List (known_items o u)
+  is_list : (known_state o u).content ≡ content.List (known_items o u)
   is_list = content_of k o u shape possible may
 
-  pub wrote_as : (n : ℕ) (news : List Value) → Changes o lc said (known_items o u) news u → Wrote called said n u w → root_in (held o w) ≡ root_in (held o u) → MadeAs called said (record { number = n; wrote = true }) v w
+  pub wrote_as : (n : ℕ) (news : List Value) → Changes o lc said (known_items o u) news u → Wrote called said n u w → root_in (held_words o w) ≡ root_in (held_words o u) → MadeAs called said (record { number = n; wrote = true }) v w
   wrote_as n news c x root =
       let at : o ≡ changes called = sym (ap (λ (b : Bool). unwrap_or (if b then Some o else None) 0) c.write.changing) in
       written called said n v w (λ d. c.write.changing d && not (c.write.raises d))
       (replied_loaded v u loaded called said (reply_changes o lc said (known_items o u) u inside may.locked is_list news c))
       (loaded_wrote v u loaded called said n w x)
-      (subst (λ (p : ℕ). root_in (held p w) ≡ root_in (held p v)) at (root ∙ ap root_in (loaded_held v u o loaded)))
+      (subst (λ (p : ℕ). root_in (held_words p w) ≡ root_in (held_words p v)) at (root ∙ ap root_in (loaded_held v u o loaded)))
 
   pub raised_as : (stamp : Stamp) (part : List Act) → u.log ≡ part ++ v.log → Raises o lc said (known_items o u) → stamp.wrote ≡ false → Answered called said stamp.number u w → MadeAs called said stamp v w
   raised_as stamp part log r wrote x =
@@ -122,15 +122,15 @@ module _ (k : Shape) (o : ℕ) (lc : ListCall) (said : Reply) (v u w : View) (sh
 -- ---- calls that read, with the stamp that is loaded under the lock
 
 module _ (called : Call) (said : Reply) (plain : IsPlain called said) (v u : View) (loaded : OnlyLoaded v u) (replied : IsReplyTo called said v) where
-  pub read_shown : (n : ℕ) → 0 < v.left → IsShown (noted (ReadCounter n) u) called said n
+  pub read_shown : (n : ℕ) → 0 < v.left → IsShown (view_after (ReadCounter n) u) called said n
   read_shown n left =
-      let both = loaded_then v u (noted (ReadCounter n) u) loaded (loaded_by (ReadCounter n) u (noted (ReadCounter n) u) tt refl) in
-      let had = has_before v (noted (ReadCounter n) u) (λ p. work_knows v (noted (ReadCounter n) u) p both.work) both.work.pass.shape (λ p mine. both.work.pass.locks p ∙ mine) in
+      let both = loaded_then v u (view_after (ReadCounter n) u) loaded (loaded_by (ReadCounter n) u (view_after (ReadCounter n) u) tt refl) in
+      let had = has_before v (view_after (ReadCounter n) u) (λ p. work_knows v (view_after (ReadCounter n) u) p both.work) both.work.pass.shape (λ p mine. both.work.pass.locks p ∙ mine) in
       held_shown v u n loaded left called said plain.reads plain.cursor
       (λ stored has. plain.replied (reply_in stored called) (sym (replied stored (had stored has))))
       (λ stored. plain.cause stored (ReadCounter n ∷ u.log) n)
 
-  pub read_made : (z : View) (given reply : Reply) (stamp : Stamp) (part : List Act) → u.log ≡ part ++ v.log → z ≡ noted (Answer called given stamp.number) (noted (ReadCounter stamp.number) u) → given ≡ said → reply ≡ given → stamp.wrote ≡ false → v.learnt ≤ shown v.log → ∥ Possible z ∥₁ → MadeAs called reply stamp v z
+  pub read_made : (z : View) (given reply : Reply) (stamp : Stamp) (part : List Act) → u.log ≡ part ++ v.log → z ≡ view_after (Answer called given stamp.number) (view_after (ReadCounter stamp.number) u) → given ≡ said → reply ≡ given → stamp.wrote ≡ false → v.learnt ≤ shown v.log → ∥ IsReachable z ∥₁ → MadeAs called reply stamp v z
   read_made z given reply stamp part own did is same wrote settled possible =
       subst (λ (r : Reply). MadeAs called r stamp v z) (sym (same ∙ is))
-      (made_read called said stamp v z replied plain.reads wrote (answered_locked v u z called said stamp.number part loaded own (did ∙ ap (λ (r : Reply). noted (Answer called r stamp.number) (noted (ReadCounter stamp.number) u)) is) settled possible))
+      (made_read called said stamp v z replied plain.reads wrote (answered_locked v u z called said stamp.number part loaded own (did ∙ ap (λ (r : Reply). view_after (Answer called r stamp.number) (view_after (ReadCounter stamp.number) u)) is) settled possible))

@@ -14,7 +14,7 @@ use Rattle.ft_bank.specs.declared.pass.Pass.{Pass}
 use Rattle.ft_bank.specs.Passes.{view}
 use Rattle.ft_bank.specs.Series.{DidAll}
 use Rattle.ft_bank.specs.declared.table.Table.{Table}
-use Rattle.ft_bank.specs.TableNames.{name_of, IsTableIn}
+use Rattle.ft_bank.specs.TableNames.{table_id, IsTableIn}
 use Rattle.ft_bank.proofs.TableAddresses.{class_is}
 use Rattle.ft_search.specs.Rounds.{IsFresh}
 use Rattle.ft_search.proofs.Running.{did_trans, did_log, window_of}
@@ -138,6 +138,6 @@ pub falls : (k : Shape) (o index root r : ℕ) (p q : Pass) → EndsItemRound k 
 falls k o index root r p q e = round_falls k o (key.Int (pos 0)) root r p q (e.0, e.1, e.2, e.3, e.4)
 
 -- how many items a table has
-pub slots_are : (k : Shape) (t : Table) → IsTableIn k t → slots (class_of (name_of t)) ≡ list_items t.class
+pub slots_are : (k : Shape) (t : Table) → IsTableIn k t → slots (class_of (table_id t)) ≡ list_items t.class
 unfolding slots
 slots_are k t is = ap (λ (n : ℕ). 2 ^ n) (class_is t is.2)

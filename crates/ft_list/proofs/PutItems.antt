@@ -12,7 +12,7 @@ use Rattle.ft_layout.specs.Tables as layout
 use Rattle.ft_layout.specs.WordChanges.{ChangesItem, SaysStored}
 use Rattle.ft_layout.specs.Containers.{class_mask}
 use Rattle.ft_trace.specs.Addresses.{slots}
-use Rattle.ft_trace.specs.Pictures.{Picture, item_offset, item_field}
+use Rattle.ft_trace.specs.Pictures.{ContainerWords, item_offset, item_field}
 use Rattle.ft_trace.specs.ItemWords.{said_at, value_words, words_at}
 use Rattle.ft_trace.proofs.ItemPuts.{VersionsChangeNothing}
 use Rattle.ft_trace.proofs.Known.{after_header, past_header}
@@ -21,14 +21,14 @@ use Rattle.ft_list.specs.ListItemWrites.{with_word, PutsItem, IsChanging}
 
 -- ---- one item is put
 
-module _ (old : Picture) (place x kind payload : ℕ) (low : item_offset place 3 ≤ length old.table) where
-  abbrev one : Picture
+module _ (old : ContainerWords) (place x kind payload : ℕ) (low : item_offset place 3 ≤ length old.table) where
+  abbrev one : ContainerWords
   one = with_word old place 0 x
 
-  abbrev two : Picture
+  abbrev two : ContainerWords
   two = with_word one place 1 kind
 
-  abbrev three : Picture
+  abbrev three : ContainerWords
   three = with_word two place 2 payload
 
   pub version_one : item_field one.table place 0 ≡ x
@@ -87,7 +87,7 @@ table_says mask values ws p table low = elim (cases_lt p (length values)) [
 ]
 
 -- the words that the item at a place stores, and the others as they were
-module _ (mask : ℕ) (values : List Value) (old new : Picture) (place : ℕ) (stored : Stored) (puts : PutsItem place stored old new) (table : IsListTable mask values (0 ∷ 0 ∷ old.table)) (low : place ≤ mask) (fits : FitsStored stored) where
+module _ (mask : ℕ) (values : List Value) (old new : ContainerWords) (place : ℕ) (stored : Stored) (puts : PutsItem place stored old new) (table : IsListTable mask values (0 ∷ 0 ∷ old.table)) (low : place ≤ mask) (fits : FitsStored stored) where
   rest : (i : ℕ) → (i < layout.item_at place 0) ⊎ (layout.item_at place 4 ≤ i) → slice_index (0 ∷ 0 ∷ new.table) i ≡ slice_index (0 ∷ 0 ∷ old.table) i
   rest zero out = refl
   rest (suc zero) out = refl
@@ -137,11 +137,11 @@ module _ (class : ℕ) (before now : List Value) (first past : ℕ) (ws : List �
       }
 
   -- the version of the first item that may be odd is made even, once the list says what it is to have
-  pub changing_closed : VersionsChangeNothing → (b : List ℕ) (new : Picture) (version : ℕ) → before ≡ now → version % 2 ≡ 0 → item_offset first 0 < length ws → new ≡ with_word (record { block = b; table = ws }) first 0 version → IsChanging class before now (suc first) past new.table
+  pub changing_closed : VersionsChangeNothing → (b : List ℕ) (new : ContainerWords) (version : ℕ) → before ≡ now → version % 2 ≡ 0 → item_offset first 0 < length ws → new ≡ with_word (record { block = b; table = ws }) first 0 version → IsChanging class before now (suc first) past new.table
   changing_closed versions b new version same even low is =
       let zs = slice_set ws (item_offset first 0) version in
       let else_ : (q : ℕ) → q ≢ first → item_field zs q 0 ≡ item_field ws q 0 = λ q ne. get_or-set_other ws (item_offset first 0) (item_offset q 0) version 0 (λ e. ne (omega (arith, e))) in
-      subst (λ (x : Picture). IsChanging class before now (suc first) past x.table) (sym is)
+      subst (λ (x : ContainerWords). IsChanging class before now (suc first) past x.table) (sym is)
       (record {
         table = subst (λ (z : List ℕ). IsListTable (class_mask class) now z) (after_header ws (layout.item_at first 0) (item_offset first 0) version (omega arith)) (versions (class_mask class) now (0 ∷ 0 ∷ ws) first version changing.table);
         shut = λ q less two. ap (λ (vs : List Value). words_at vs q) (sym same);

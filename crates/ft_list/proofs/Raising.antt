@@ -21,11 +21,11 @@ use Rattle.ft_model.specs.Worlds.{no_hands}
 use Rattle.ft_trace.specs.declared.Act.{Act}
 use Rattle.ft_trace.specs.declared.Act.TheVariants.{ReadCounter, Answer}
 use Rattle.ft_trace.specs.declared.View.{View}
-use Rattle.ft_trace.specs.Acts.{has_lock, noted, shown}
-use Rattle.ft_trace.specs.Traces.{Possible}
-use Rattle.ft_trace.specs.Addresses.{containers_in}
+use Rattle.ft_trace.specs.Acts.{has_lock, view_after, shown}
+use Rattle.ft_trace.specs.Traces.{IsReachable}
+use Rattle.ft_trace.specs.Addresses.{container_count}
 use Rattle.ft_trace.specs.Causes.{HasCause}
-use Rattle.ft_trace.specs.Holds.{known}
+use Rattle.ft_trace.specs.Holds.{known_state}
 use Rattle.ft_bank.specs.Answered.{Answered}
 use Rattle.ft_bank.specs.Reads.{IsShown}
 use Rattle.ft_bank.proofs.ShownReplies.{replies_under_locks_are_shown}
@@ -58,19 +58,19 @@ asks_none (list.Reversed m) o said values r =
 asks_none lc o said values r = refl
 
 -- after a load of the counter the exception may be the reply
-pub raise_shown : (v w : View) (o : ℕ) (lc : ListCall) (said : Reply) (values : List Value) (n : ℕ) → Raises o lc said values → w ≡ noted (ReadCounter n) v → 0 < v.left → o < containers_in v.shape → has_lock o v.log ≡ true → (known o v).content ≡ content.List values → IsShown w (call.List o lc) said n
+pub raise_shown : (v w : View) (o : ℕ) (lc : ListCall) (said : Reply) (values : List Value) (n : ℕ) → Raises o lc said values → w ≡ view_after (ReadCounter n) v → 0 < v.left → o < container_count v.shape → has_lock o v.log ≡ true → (known_state o v).content ≡ content.List values → IsShown w (call.List o lc) said n
 raise_shown v w o lc said values n r is left low mine is_list =
     subst (λ (z : View). IsShown z (call.List o lc) said n) (sym is)
-    (replies_under_locks_are_shown (noted (ReadCounter n) v) (call.List o lc) said n
+    (replies_under_locks_are_shown (view_after (ReadCounter n) v) (call.List o lc) said n
     (record { left = left; newer = []; rest = v.log; is = refl; own = tt; locks = tt })
     (ap (λ (b : Bool). is_changing_list lc && not b) (raised said r.raises) ∙ and_false (is_changing_list lc))
     (asks_none lc o said values r)
     (λ stored has. (
-      inr (sym (ap (λ (l : List Value). (answer_list stored.world no_hands o l lc).reply) (list_is o lc said values values (noted (ReadCounter n) v) low mine is_list stored has) ∙ ap (λ (z : Given). z.reply) (r.answered stored.world))),
+      inr (sym (ap (λ (l : List Value). (answer_list stored.world no_hands o l lc).reply) (list_is o lc said values values (view_after (ReadCounter n) v) low mine is_list stored has) ∙ ap (λ (z : Given). z.reply) (r.answered stored.world))),
       caused stored (ReadCounter n ∷ v.log) o lc said n values r,
     )))
 
-pub raise_answered : (v w z : View) (called : Call) (said : Reply) (n : ℕ) → w ≡ noted (ReadCounter n) v → z ≡ noted (Answer called said n) w → v.learnt ≤ shown v.log → ∥ Possible z ∥₁ → Answered called said n v z
+pub raise_answered : (v w z : View) (called : Call) (said : Reply) (n : ℕ) → w ≡ view_after (ReadCounter n) v → z ≡ view_after (Answer called said n) w → v.learnt ≤ shown v.log → ∥ IsReachable z ∥₁ → Answered called said n v z
 raise_answered v w z called said n is done settled possible = record {
   before = w;
   loaded = loaded_by (ReadCounter n) v w tt is;

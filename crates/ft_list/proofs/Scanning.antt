@@ -20,8 +20,8 @@ use Rattle.ft_model.specs.Worlds.{kind_of, list_of, no_hands}
 use Rattle.ft_trace.specs.declared.Shape.{Shape}
 use Rattle.ft_trace.specs.declared.View.{View}
 use Rattle.ft_trace.specs.Acts.{has_lock}
-use Rattle.ft_trace.specs.Addresses.{containers_in}
-use Rattle.ft_trace.specs.Holds.{held, known}
+use Rattle.ft_trace.specs.Addresses.{container_count}
+use Rattle.ft_trace.specs.Holds.{held_words, known_state}
 use Rattle.ft_bank.specs.declared.pass.Pass.{Pass}
 use Rattle.ft_bank.specs.Passes.{view}
 use Rattle.ft_bank.specs.Whole.{OnlyLoaded}
@@ -70,7 +70,7 @@ EqualYet value count place equal items = (count ≡ length items) × (equal ≡ 
 module _ (k : Shape) (o : ℕ) (holds : List Value → Type 0) (p q : Pass) (r : Reads k o (IsOfItems k holds) p q) (shape : (view p).shape ≡ k) (may : MayWriteList k o (view p)) where
   -- it holds of the items that the pass knows
   pub items_hold : holds (known_items o (view p))
-  items_hold = r.3 (held o (view p)) (r.4 o may.container may.locked) (known o (view p)) (ap kind_of (content_of k o (view p) shape p.possible may)) may.stands
+  items_hold = r.3 (held_words o (view p)) (r.4 o may.container may.locked) (known_state o (view p)) (ap kind_of (content_of k o (view p) shape p.possible may)) may.stands
 
   pub scan_loaded : OnlyLoaded (view p) (view q)
   scan_loaded = reads_loaded k o (IsOfItems k holds) p q r
@@ -83,11 +83,11 @@ module _ (k : Shape) (o : ℕ) (holds : List Value → Type 0) (p q : Pass) (r :
 
 -- the item at a place, by such a pass
 pub item_held : (k : Shape) (o place : ℕ) (found : Option Value) (p q : Pass) → Reads k o (IsItemAt k place found) p q → (view p).shape ≡ k → MayWriteList k o (view p) → place < length (known_items o (view p)) → found ≡ Some (slice_index_or (known_items o (view p)) place Nothing)
-item_held k o place found p q r shape may low = r.3 (held o (view p)) (r.4 o may.container may.locked) (known o (view p)) (ap kind_of (content_of k o (view p) shape p.possible may)) may.stands low
+item_held k o place found p q r shape may low = r.3 (held_words o (view p)) (r.4 o may.container may.locked) (known_state o (view p)) (ap kind_of (content_of k o (view p) shape p.possible may)) may.stands low
 
 -- ---- what calls reply that search
 
-module _ (o : ℕ) (values : List Value) (v : View) (low : o < containers_in v.shape) (mine : has_lock o v.log ≡ true) (is_list : (known o v).content ≡ content.List values) (value : Value) where
+module _ (o : ℕ) (values : List Value) (v : View) (low : o < container_count v.shape) (mine : has_lock o v.log ≡ true) (is_list : (known_state o v).content ≡ content.List values) (value : Value) where
   pub index_replied : (found : Option ℕ) → found ≡ index_of values value → IsReplyTo (call.List o (list.Index value)) (option_map_or reply.Count found (reply.Raised raise.NoValue)) v
   index_replied found is =
       reply_of_list o (list.Index value) (option_map_or reply.Count found (reply.Raised raise.NoValue)) values v low mine is_list
@@ -139,7 +139,7 @@ pub clamped_low : (n : ℕ) (index : ℤ) → clamped_in n index ≤ n
 clamped_low n (pos index) = min-le_right index n
 clamped_low n (negsuc below) = omega arith
 
-module _ (o : ℕ) (values : List Value) (v : View) (low : o < containers_in v.shape) (mine : has_lock o v.log ≡ true) (is_list : (known o v).content ≡ content.List values) where
+module _ (o : ℕ) (values : List Value) (v : View) (low : o < container_count v.shape) (mine : has_lock o v.log ≡ true) (is_list : (known_state o v).content ≡ content.List values) where
   pub slice_replied : (start end : ℤ) (part : List Value) → part ≡ list_slice values start end → IsReplyTo (call.List o (list.Slice start end)) (reply.List part) v
   slice_replied start end part is = reply_of_list o (list.Slice start end) (reply.List part) values v low mine is_list (λ stored has. ap reply.List (sym is))
 

@@ -8,7 +8,7 @@ use Rattle.ft_model.specs.declared.data.Value.{Value}
 use Rattle.ft_layout.specs.declared.slot.Stored.{Stored}
 use Rattle.ft_layout.specs.Words.{FitsStored, IsStored}
 use Rattle.ft_trace.specs.Addresses.{slots}
-use Rattle.ft_trace.specs.Pictures.{Picture, item_field}
+use Rattle.ft_trace.specs.Pictures.{ContainerWords, item_field}
 use Rattle.ft_trace.proofs.Cases.{miss, here}
 use Rattle.ft_list.specs.ListItemWrites.{PutsItem, IsChanging, IsPutting, stored_item, but_at}
 use Rattle.ft_list.specs.Reversing.{IsTurning}
@@ -72,7 +72,7 @@ module _ (class : ℕ) (is_class : IsClass class) (values : List Value) where
     at_else now p ne ne' = miss p other early (but_at now at late p) ne' ∙ miss p at late (now p) ne
 
     -- the next two items were swapped
-    pub turning_next : (old mid new : Picture) → IsTurning class values at old.table → PutsItem at late old mid → PutsItem other early mid new → IsTurning class values (at + 1) new.table
+    pub turning_next : (old mid new : ContainerWords) → IsTurning class values at old.table → PutsItem at late old mid → PutsItem other early mid new → IsTurning class values (at + 1) new.table
     turning_next old mid new turning puts puts' = record {
       now = swapped turning.now;
       putting = putting_put class is_class values 0 (length values) (but_at turning.now at late) mid new other early

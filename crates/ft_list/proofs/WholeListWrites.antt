@@ -15,14 +15,14 @@ use Rattle.ft_layout.specs.Containers.{IsBlock}
 use Rattle.ft_trace.specs.declared.Act.TheVariants.{StartWrite}
 use Rattle.ft_trace.specs.declared.Shape.{Shape}
 use Rattle.ft_trace.specs.declared.View.{View}
-use Rattle.ft_trace.specs.Addresses.{containers_in, class_of}
-use Rattle.ft_trace.specs.Acts.{has_lock, is_writing, has_emptied, owes, noted}
+use Rattle.ft_trace.specs.Addresses.{container_count, class_of}
+use Rattle.ft_trace.specs.Acts.{has_lock, is_writing, has_emptied, owes, view_after}
 use Rattle.ft_trace.specs.ContainerStates.{ContainerState, changes, kinds_in}
 use Rattle.ft_trace.specs.Pictures.{root_in}
-use Rattle.ft_trace.specs.Holds.{held, known}
+use Rattle.ft_trace.specs.Holds.{held_words, known_state}
 use Rattle.ft_trace.proofs.Cases.{hit}
 use Rattle.ft_bank.specs.declared.table.Table.{Table}
-use Rattle.ft_bank.specs.TableNames.{name_of}
+use Rattle.ft_bank.specs.TableNames.{table_id}
 use Rattle.ft_bank.specs.WriteSteps.{MayHave}
 use Rattle.ft_bank.specs.Whole.{OnlyPut, EndsWrite, Wrote}
 use Rattle.ft_bank.proofs.KnownAfterWrites.{work_knows, plain_write}
@@ -54,11 +54,11 @@ module _ (v u : View) (before : (stored : StoredWorld) → MayHave u stored → 
   }
 
 -- where it knows the same contents
-module _ (v u : View) (same_known : (p : ℕ) → known p u ≡ known p v) (same_shape : u.shape ≡ v.shape) (same_locks : (p : ℕ) → has_lock p v.log ≡ true → has_lock p u.log ≡ true) where
+module _ (v u : View) (same_known : (p : ℕ) → known_state p u ≡ known_state p v) (same_shape : u.shape ≡ v.shape) (same_locks : (p : ℕ) → has_lock p v.log ≡ true → has_lock p u.log ≡ true) where
   pub has_before : (stored : StoredWorld) → MayHave u stored → MayHave v stored
   has_before stored has = record {
-    agrees = λ p low mine. has.agrees p (subst (λ (z : Shape). p < containers_in z) (sym same_shape) low) (same_locks p mine) ∙ same_known p;
-    containers = has.containers ∙ ap containers_in same_shape;
+    agrees = λ p low mine. has.agrees p (subst (λ (z : Shape). p < container_count z) (sym same_shape) low) (same_locks p mine) ∙ same_known p;
+    containers = has.containers ∙ ap container_count same_shape;
     kinds = has.kinds ∙ ap (λ (z : Shape). kinds_in z.starts) same_shape;
     order = has.order;
     unsplit = has.unsplit;
@@ -73,9 +73,9 @@ module _ (v u : View) (same_known : (p : ℕ) → known p u ≡ known p v) (same
 
 -- ---- a write that leaves the list's table
 
-module _ (k : Shape) (o : ℕ) (table : Table) (v s u : View) (f : ℕ) (may : MayWriteList k o v) (begun : s ≡ noted (StartWrite o f) v) (puts : OnlyPut o s u) where
-  same_known : (p : ℕ) → known p u ≡ known p v
-  same_known p = work_knows s u p puts.work ∙ ap (λ (z : View). known p z) begun
+module _ (k : Shape) (o : ℕ) (table : Table) (v s u : View) (f : ℕ) (may : MayWriteList k o v) (begun : s ≡ view_after (StartWrite o f) v) (puts : OnlyPut o s u) where
+  same_known : (p : ℕ) → known_state p u ≡ known_state p v
+  same_known p = work_knows s u p puts.work ∙ ap (λ (z : View). known_state p z) begun
 
   same_shape : u.shape ≡ v.shape
   same_shape = puts.work.pass.shape ∙ ap (λ (z : View). z.shape) begun
@@ -92,11 +92,11 @@ module _ (k : Shape) (o : ℕ) (table : Table) (v s u : View) (f : ℕ) (may : M
     table = λ stored has. call_is.table stored (has_before v u same_known same_shape locks_on stored has);
   }
 
-  pub finishing : (first past : ℕ) (lc : ListCall) (called : Call) (said : Reply) (values news : List Value) → called ≡ call.List o lc → Changes o lc said values news v → (known o v).content ≡ content.List values → (known o v).table ≡ record { class = Some (class_of (name_of table)); fill = 0; keys = [] } → WritesList k o table u → u.shape ≡ k → IsChanging (class_of (name_of table)) values news first past (held o u).table → IsBlock (held o u).block (Some (class_of (name_of table))) (length news) 0 0
+  pub finishing : (first past : ℕ) (lc : ListCall) (called : Call) (said : Reply) (values news : List Value) → called ≡ call.List o lc → Changes o lc said values news v → (known_state o v).content ≡ content.List values → (known_state o v).table ≡ record { class = Some (class_of (table_id table)); fill = 0; keys = [] } → WritesList k o table u → u.shape ≡ k → IsChanging (class_of (table_id table)) values news first past (held_words o u).table → IsBlock (held_words o u).block (Some (class_of (table_id table))) (length news) 0 0
       → MayFinishItems o table called said first past u
   finishing first past lc called said values news is call_is is_list kept list shape changing head =
       let none : owes u.log ≡ 0 = puts.work.owes ∙ (ap (λ (z : View). owes z.log) begun ∙ may.owes) in
-      let low : o < containers_in v.shape = subst (λ (z : Shape). o < containers_in z) (sym shape ∙ same_shape) may.container in
+      let low : o < container_count v.shape = subst (λ (z : Shape). o < container_count z) (sym shape ∙ same_shape) may.container in
       subst (λ (z : Call). MayFinishItems o table z said first past u) (sym is)
       (may_finish k o table first past lc said values news u list shape (ap (λ (z : ContainerState). z.content) (same_known o) ∙ is_list)
       (write_on v u same_known same_shape locks_on o lc said values news call_is.write)
@@ -109,18 +109,18 @@ module _ (k : Shape) (o : ℕ) (table : Table) (v s u : View) (f : ℕ) (may : M
       (puts.work.emptied o ∙ (ap (λ (z : View). has_emptied o z.log) begun ∙ hit o false (has_emptied o v.log)))
       head)
 
-  pub list_wrote : (lc : ListCall) (called : Call) (said : Reply) (number : ℕ) (w : View) → called ≡ call.List o lc → is_changing_list lc ≡ true → EndsWrite called said number u w → root_in (held o u) ≡ root_in (held o v) → Wrote called said number v w
+  pub list_wrote : (lc : ListCall) (called : Call) (said : Reply) (number : ℕ) (w : View) → called ≡ call.List o lc → is_changing_list lc ≡ true → EndsWrite called said number u w → root_in (held_words o u) ≡ root_in (held_words o v) → Wrote called said number v w
   list_wrote lc called said number w is changing ends root =
       let at : o ≡ changes called = sym (ap changes is ∙ ap (λ (b : Bool). unwrap_or (if b then Some o else None) 0) changing) in
       plain_write called said number f v s u w
-      (subst (λ (n : ℕ). s ≡ noted (StartWrite n f) v) at begun)
+      (subst (λ (n : ℕ). s ≡ view_after (StartWrite n f) v) at begun)
       (subst (λ (n : ℕ). is_writing n v.log ≡ false) at may.even)
       (subst (λ (n : ℕ). OnlyPut n s u) at puts)
       ends
-      (subst (λ (n : ℕ). root_in (held n u) ≡ root_in (held n v)) at root)
+      (subst (λ (n : ℕ). root_in (held_words n u) ≡ root_in (held_words n v)) at root)
 
   -- the root stays
-  pub root_wrote : (lc : ListCall) (called : Call) (said : Reply) (number : ℕ) (w : View) → called ≡ call.List o lc → is_changing_list lc ≡ true → EndsWrite called said number u w → root_in (held o u) ≡ root_in (held o v) → root_in (held o w) ≡ root_in (held o v)
+  pub root_wrote : (lc : ListCall) (called : Call) (said : Reply) (number : ℕ) (w : View) → called ≡ call.List o lc → is_changing_list lc ≡ true → EndsWrite called said number u w → root_in (held_words o u) ≡ root_in (held_words o v) → root_in (held_words o w) ≡ root_in (held_words o v)
   root_wrote lc called said number w is changing ends root =
       let at : changes called ≡ o = ap changes is ∙ ap (λ (b : Bool). unwrap_or (if b then Some o else None) 0) changing in
-      subst (λ (n : ℕ). root_in (held n w) ≡ root_in (held n u)) at ends.root ∙ root
+      subst (λ (n : ℕ). root_in (held_words n w) ≡ root_in (held_words n u)) at ends.root ∙ root

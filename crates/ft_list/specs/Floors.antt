@@ -3,9 +3,9 @@
 use Rattle.std.specs.Prelude.{ℕ, ◌<◌, List}
 use Rattle.ft_trace.specs.declared.Act.{Act}
 use Rattle.ft_trace.specs.declared.View.{View}
-use Rattle.ft_trace.specs.Addresses.{containers_in}
+use Rattle.ft_trace.specs.Addresses.{container_count}
 use Rattle.ft_trace.specs.Kinds.{IsItems}
-use Rattle.ft_trace.specs.Traces.{Possible}
+use Rattle.ft_trace.specs.Traces.{IsReachable}
 use Rattle.ft_trace.specs.ContainerStates.{kind_in}
 use Rattle.ft_search.specs.Floors.{LooksWithFloor}
 use Rattle.ft_list.specs.ItemLooks.{StopsItemLook}
@@ -13,5 +13,5 @@ use Rattle.ft_list.specs.ItemLooks.{StopsItemLook}
 -- no version of an item stops them, and none of the list
 abbrev pub FloorItemsStand : Type 0
 FloorItemsStand =
-    (w : View) (part : List Act) → Possible w → LooksWithFloor w part → (o index a b : ℕ) → o < containers_in w.shape
+    (w : View) (part : List Act) → IsReachable w → LooksWithFloor w part → (o index a b : ℕ) → o < container_count w.shape
     → IsItems (kind_in w.shape.starts o) → StopsItemLook o index a b part → ⊥

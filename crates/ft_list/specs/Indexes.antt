@@ -14,7 +14,7 @@ use Rattle.ft_trace.specs.declared.Act.TheVariants.{ReadCounter}
 use Rattle.ft_trace.specs.declared.Shape.{Shape}
 use Rattle.ft_trace.specs.declared.View.{View}
 use Rattle.ft_trace.specs.LoggedReads.{Agrees, Among, Between}
-use Rattle.ft_trace.specs.Pictures.{Picture, root_in, item_field, Stands}
+use Rattle.ft_trace.specs.Pictures.{ContainerWords, root_in, item_field, Represents}
 use Rattle.ft_trace.specs.ContainerStates.{ContainerState}
 use Rattle.ft_section.specs.declared.answers.Look.{Look}
 use Rattle.ft_search.specs.Lengths.{StopsAtVersion, IsGlanceOf}
@@ -28,23 +28,23 @@ item_named values index =
     option_map (λ place. slice_index_or values place value.Nothing) (index_in (length values) index)
 
 -- where the root names the table t, and the item at the place is a value, it is this
-abbrev pub IsItemValue : ℕ → ℕ → Option Value → Picture → Type 0
+abbrev pub IsItemValue : ℕ → ℕ → Option Value → ContainerWords → Type 0
 IsItemValue t place found x =
     root_in x ≡ suc t → (value : Value)
     → IsStored (item_field x.table place 1) (item_field x.table place 2) (Plain value)
     → found ≡ Some value
 
 -- where these words stand for a list that has an item at the place, it is this
-abbrev pub IsItemAt : Shape → ℕ → Option Value → Picture → Type 0
+abbrev pub IsItemAt : Shape → ℕ → Option Value → ContainerWords → Type 0
 IsItemAt k place found x =
-    (kept : ContainerState) → kind_of kept.content ≡ kind.List → Stands k.texts x kept
+    (kept : ContainerState) → kind_of kept.content ≡ kind.List → Represents k.texts x kept
     → place < length (list_of kept.content)
     → found ≡ Some (slice_index_or (list_of kept.content) place value.Nothing)
 
 -- where these words stand for a list, the index names this item of it, or none
-abbrev pub IsItemNamed : Shape → ℤ → Option Value → Picture → Type 0
+abbrev pub IsItemNamed : Shape → ℤ → Option Value → ContainerWords → Type 0
 IsItemNamed k index found x =
-    (kept : ContainerState) → kind_of kept.content ≡ kind.List → Stands k.texts x kept
+    (kept : ContainerState) → kind_of kept.content ≡ kind.List → Represents k.texts x kept
     → found ≡ item_named (list_of kept.content) index
 
 -- Between two loads of the version of the list that gave the same even number, the counter was loaded, and words that
@@ -53,7 +53,7 @@ pub record ShowsNamed (k : Shape) (o : ℕ) (index : ℤ) (found : Option Value)
   pub mid : List Act
   pub between : Between part o mid
   pub counted : Among (ReadCounter n) mid
-  pub shows : (x : Picture) → Agrees k o mid x → IsItemNamed k index found x
+  pub shows : (x : ContainerWords) → Agrees k o mid x → IsItemNamed k index found x
 
 -- what these loads show of the list
 abbrev pub ShowsBetween : Shape → ℕ → ℤ → List Act → AtIndex → Type 0

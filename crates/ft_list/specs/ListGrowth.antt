@@ -8,7 +8,7 @@ use Rattle.ft_model.specs.Classes.{most_items}
 use Rattle.ft_model.specs.TableUses.{list_takes}
 use Rattle.ft_trace.specs.declared.Shape.{Shape}
 use Rattle.ft_trace.specs.declared.View.{View}
-use Rattle.ft_trace.specs.Holds.{known}
+use Rattle.ft_trace.specs.Holds.{known_state}
 use Rattle.ft_bank.specs.Whole.{OnlyLoaded}
 use Rattle.ft_growth.specs.declared.adding.Added.{Added}
 use Rattle.ft_growth.specs.Adding.{IsAdded}
@@ -20,7 +20,7 @@ use Rattle.ft_list.specs.ListItemWrites.{known_items}
 abbrev pub AddsItems : Shape → ℕ → Call → ℕ → View → View → Added → Type 0
 AddsItems k o called n v w what =
     (u : View) × OnlyLoaded v u
-    × IsAdded k (list_takes (known o v).table (length (known_items o v) + n))
+    × IsAdded k (list_takes (known_state o v).table (length (known_items o v) + n))
     (nat_lt most_items (length (known_items o v) + n)) called reply.Done u w what
 
 -- What `o.extend(m)` comes to under the locks of both: it adds as many items as m has. (Python manual, Mutable Sequence

@@ -15,33 +15,33 @@ use Rattle.ft_layout.specs.Tables.{IsListTable, table_length}
 use Rattle.ft_layout.specs.Containers.{class_mask, IsBlock}
 use Rattle.ft_trace.specs.declared.Shape.{Shape}
 use Rattle.ft_trace.specs.declared.View.{View}
-use Rattle.ft_trace.specs.Addresses.{containers_in, class_of, slots}
+use Rattle.ft_trace.specs.Addresses.{container_count, class_of, slots}
 use Rattle.ft_trace.specs.Acts.{has_lock, is_writing}
 use Rattle.ft_trace.specs.ContainerStates.{state_at, kind_in, changes}
-use Rattle.ft_trace.specs.Pictures.{Picture, root_in, item_offset, item_field}
+use Rattle.ft_trace.specs.Pictures.{ContainerWords, root_in, item_offset, item_field}
 use Rattle.ft_trace.specs.ItemWords.{words_at}
-use Rattle.ft_trace.specs.Holds.{held, known}
+use Rattle.ft_trace.specs.Holds.{held_words, known_state}
 use Rattle.ft_bank.specs.declared.table.Table.{Table}
-use Rattle.ft_bank.specs.TableNames.{name_of, IsTableIn}
+use Rattle.ft_bank.specs.TableNames.{table_id, IsTableIn}
 use Rattle.ft_bank.specs.WriteSteps.{MayHave, MayCommit}
 
 -- The pass writes the list o, whose root names the table. (profile)
 pub record WritesList (k : Shape) (o : ℕ) (table : Table) (v : View) : Type 0 where
-  pub container : o < containers_in k
+  pub container : o < container_count k
   pub kind : kind_in k.starts o ≡ kind.List
   pub table_in : IsTableIn k table
   pub locked : has_lock o v.log ≡ true
   pub odd : is_writing o v.log ≡ true
-  pub root : root_in (held o v) ≡ suc (name_of table)
+  pub root : root_in (held_words o v) ≡ suc (table_id table)
 
 -- The words of a list once a word of an item is put. (profile)
-abbrev pub with_word : Picture → ℕ → ℕ → ℕ → Picture
+abbrev pub with_word : ContainerWords → ℕ → ℕ → ℕ → ContainerWords
 with_word words place word value =
     record { block = words.block; table = slice_set words.table (item_offset place word) value }
 
 -- The item at this place stores this: its words say so, and its version is odd unless they said so before. No other
 -- word of the list is changed. (profile)
-pub record PutsItem (place : ℕ) (stored : Stored) (old new : Picture) : Type 0 where
+pub record PutsItem (place : ℕ) (stored : Stored) (old new : ContainerWords) : Type 0 where
   pub block : new.block ≡ old.block
   pub size : length new.table ≡ length old.table
   pub rest : (i : ℕ) → (i < item_offset place 0) ⊎ (item_offset place 3 ≤ i)
@@ -88,14 +88,14 @@ pub record IsMoving (class : ℕ) (values news : List Value) (first past at : �
   pub rest : (p : ℕ) → at ≤ p → now p ≡ stored_item values p
 
 -- The version of the item at this place is even, and no other word of the list is changed. (profile)
-pub record ClosesItem (place : ℕ) (old new : Picture) : Type 0 where
+pub record ClosesItem (place : ℕ) (old new : ContainerWords) : Type 0 where
   pub version : ℕ
   pub even : version % 2 ≡ 0
   pub words : new ≡ with_word old place 0 version
 
 -- what the pass knows of the items of a list
 abbrev pub known_items : ℕ → View → List Value
-known_items o v = list_of (known o v).content
+known_items o v = list_of (known_state o v).content
 
 -- A pass that has put the words of the list o may commit this call, with this reply, and then make versions even: the
 -- call changes o, and leaves it with these items and a table of this class, which the words say already but for
@@ -108,6 +108,6 @@ pub record MayFinishItems
   pub after : List Value
   pub left : (stored : StoredWorld) → MayHave v stored
       → state_at (after_stored stored called) o
-      ≡ record { content = content.List after; table = record { class = Some (class_of (name_of table)); fill = 0; keys = [] } }
-  pub head : IsBlock (held o v).block (Some (class_of (name_of table))) (length after) 0 0
-  pub changing : IsChanging (class_of (name_of table)) before after first past (held o v).table
+      ≡ record { content = content.List after; table = record { class = Some (class_of (table_id table)); fill = 0; keys = [] } }
+  pub head : IsBlock (held_words o v).block (Some (class_of (table_id table))) (length after) 0 0
+  pub changing : IsChanging (class_of (table_id table)) before after first past (held_words o v).table

@@ -18,13 +18,13 @@ use Rattle.ft_model.specs.TableUses.{StoredWorld, table_at, takes_in, would_pass
 use Rattle.ft_model.specs.Worlds.{no_hands, IsOfKind}
 use Rattle.ft_trace.specs.declared.Shape.{Shape}
 use Rattle.ft_trace.specs.declared.View.{View}
-use Rattle.ft_trace.specs.Addresses.{containers_in}
+use Rattle.ft_trace.specs.Addresses.{container_count}
 use Rattle.ft_trace.specs.Acts.{has_lock, is_writing, owes}
 use Rattle.ft_trace.specs.FitCalls.{FitsListCall}
 use Rattle.ft_trace.specs.BegunSections.{HasLocksOf}
 use Rattle.ft_trace.specs.ContainerStates.{kind_in}
-use Rattle.ft_trace.specs.Pictures.{Stands}
-use Rattle.ft_trace.specs.Holds.{held, known}
+use Rattle.ft_trace.specs.Pictures.{Represents}
+use Rattle.ft_trace.specs.Holds.{held_words, known_state}
 use Rattle.ft_bank.specs.Answered.{Answered}
 use Rattle.ft_bank.specs.Whole.{Wrote}
 use Rattle.ft_bank.specs.WriteSteps.{MayHave}
@@ -38,11 +38,11 @@ use Rattle.ft_section.specs.Ready.{MayTry}
 -- The pass may write the list o: it has its lock, and its words stand for what the pass knows of it; no version is odd
 -- there, the pass has lowered no count of a class that it hasn't raised again, and it has a call left. (profile)
 pub record MayWriteList (k : Shape) (o : ℕ) (v : View) : Type 0 where
-  pub container : o < containers_in k
+  pub container : o < container_count k
   pub kind : kind_in k.starts o ≡ kind.List
   pub locked : has_lock o v.log ≡ true
   pub even : is_writing o v.log ≡ false
-  pub stands : Stands k.texts (held o v) (known o v)
+  pub stands : Represents k.texts (held_words o v) (known_state o v)
   pub owes : owes v.log ≡ 0
   pub left : 0 < v.left
 
@@ -108,5 +108,5 @@ Made called said stamp v w =
 -- the pass may try calls on this list of the bank
 pub record MayCallList (b : Bank) (p : Pass) (l : ℕ) : Type 0 where
   pub may : MayTry b p (One l)
-  pub low : l < containers_in (shape_of b)
+  pub low : l < container_count (shape_of b)
   pub kind : kind_in (shape_of b).starts l ≡ kind.List

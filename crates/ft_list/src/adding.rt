@@ -10,8 +10,8 @@ ghost use Rattle.ft_model.specs.Classes.{IsClass, most_items};
 ghost use Rattle.ft_model.specs.Lists.{clamped_in};
 ghost use Rattle.ft_model.specs.TableUses.{list_takes};
 ghost use Rattle.ft_trace.specs.Acts.{flight, used};
-ghost use Rattle.ft_trace.specs.Addresses.{containers_in};
-ghost use Rattle.ft_trace.specs.Holds.{known};
+ghost use Rattle.ft_trace.specs.Addresses.{container_count};
+ghost use Rattle.ft_trace.specs.Holds.{known_state};
 ghost use Rattle.ft_trace.specs.ContainerStates.{kind_in};
 ghost use Rattle.ft_bank.specs.declared.table.Table.{Table};
 ghost use Rattle.ft_bank.specs.Passes.{shape_of, view, IsPassOf};
@@ -287,7 +287,7 @@ pub fn extend_by(bank: &Bank, pass: &mut Pass, l: Object, m: Object) -> Added
 /// Whatever it answers, the pass has the cursors that it had.
 pub fn try_append(bank: &Bank, pass: &mut Pass, l: Object, value: Value) -> Step
     requires may { MayTry bank.now pass.old (One l) }
-    requires container { l < containers_in (shape_of bank.now) }
+    requires container { l < container_count (shape_of bank.now) }
     requires list { kind_in (shape_of bank.now).starts l ≡ kind.List }
     requires left { 0 < (view pass.old).left }
     ensures may { MayTry bank.now pass.new (One l) }
@@ -314,7 +314,7 @@ pub fn try_append(bank: &Bank, pass: &mut Pass, l: Object, value: Value) -> Step
 /// As those of `try_append`.
 pub fn try_insert(bank: &Bank, pass: &mut Pass, l: Object, index: i64, value: Value) -> Step
     requires may { MayTry bank.now pass.old (One l) }
-    requires container { l < containers_in (shape_of bank.now) }
+    requires container { l < container_count (shape_of bank.now) }
     requires list { kind_in (shape_of bank.now).starts l ≡ kind.List }
     requires left { 0 < (view pass.old).left }
     ensures may { MayTry bank.now pass.new (One l) }
@@ -342,8 +342,8 @@ pub fn try_insert(bank: &Bank, pass: &mut Pass, l: Object, index: i64, value: Va
 /// As those of `try_append`, for the locks of both.
 pub fn try_extend(bank: &Bank, pass: &mut Pass, l: Object, m: Object) -> Step
     requires may { MayTry bank.now pass.old (Two l m) }
-    requires container { l < containers_in (shape_of bank.now) }
-    requires other { m < containers_in (shape_of bank.now) }
+    requires container { l < container_count (shape_of bank.now) }
+    requires other { m < container_count (shape_of bank.now) }
     requires list { kind_in (shape_of bank.now).starts l ≡ kind.List }
     requires other_list { kind_in (shape_of bank.now).starts m ≡ kind.List }
     requires left { 0 < (view pass.old).left }

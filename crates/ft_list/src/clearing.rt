@@ -6,8 +6,8 @@ ghost use Rattle.ft_model.specs.declared.call.ListCall.TheVariants as list;
 ghost use Rattle.ft_model.specs.declared.reply.Reply.TheVariants as reply;
 ghost use Rattle.ft_model.specs.declared.script.Kind.TheVariants as kind;
 ghost use Rattle.ft_trace.specs.Acts.{flight, used};
-ghost use Rattle.ft_trace.specs.Addresses.{containers_in};
-ghost use Rattle.ft_trace.specs.Holds.{held};
+ghost use Rattle.ft_trace.specs.Addresses.{container_count};
+ghost use Rattle.ft_trace.specs.Holds.{held_words};
 ghost use Rattle.ft_trace.specs.Pictures.{root_in};
 ghost use Rattle.ft_trace.specs.ContainerStates.{kind_in};
 ghost use Rattle.ft_bank.specs.Passes.{shape_of, view, IsPassOf};
@@ -47,7 +47,7 @@ fn clear_table(bank: &Bank, pass: &mut Pass, l: Object, table: Table) -> u64
     ensures pass { IsPassOf bank.now pass.new }
     ensures stack { stack_of pass.new ≡ stack_of pass.old }
     ensures wrote { Wrote (call.List l list.Clear) reply.Done result (view pass.old) (view pass.new) }
-    ensures root { root_in (held l (view pass.new)) ≡ 0 }
+    ensures root { root_in (held_words l (view pass.new)) ≡ 0 }
 {
     let _ = table;
     let called = clear_call(l);
@@ -66,7 +66,7 @@ fn clear_list(bank: &Bank, pass: &mut Pass, l: Object, old: Option<Table>) -> u6
     ensures pass { IsPassOf bank.now pass.new }
     ensures stack { stack_of pass.new ≡ stack_of pass.old }
     ensures wrote { Wrote (call.List l list.Clear) reply.Done result (view pass.old) (view pass.new) }
-    ensures root { root_in (held l (view pass.new)) ≡ 0 }
+    ensures root { root_in (held_words l (view pass.new)) ≡ 0 }
 {
     match old {
         Some(table) => clear_table(bank, pass, l, table),
@@ -103,7 +103,7 @@ pub fn clear_by(bank: &Bank, pass: &mut Pass, l: Object) -> Stamp
 /// It never answers `Moved` or `NoMemory`.
 pub fn try_clear(bank: &Bank, pass: &mut Pass, l: Object) -> Step
     requires may { MayTry bank.now pass.old (One l) }
-    requires container { l < containers_in (shape_of bank.now) }
+    requires container { l < container_count (shape_of bank.now) }
     requires list { kind_in (shape_of bank.now).starts l ≡ kind.List }
     requires left { 0 < (view pass.old).left }
     ensures may { MayTry bank.now pass.new (One l) }

@@ -3,7 +3,7 @@ ghost use Rattle.std.specs.Prelude.{◌≡◌, ◌≤◌, ◌<◌, drop, take, l
 ghost use Rattle.ft_model.specs.declared.call.Call.TheVariants as call;
 ghost use Rattle.ft_model.specs.declared.call.ListCall.TheVariants as list;
 ghost use Rattle.ft_model.specs.Lists.{clamped_in, list_slice};
-ghost use Rattle.ft_trace.specs.Addresses.{containers_in};
+ghost use Rattle.ft_trace.specs.Addresses.{container_count};
 ghost use Rattle.ft_bank.specs.Passes.{shape_of, view, IsPassOf};
 ghost use Rattle.ft_bank.specs.PassSections.{stack_of};
 ghost use Rattle.ft_list.specs.ListWrites.{MayWriteList};
@@ -41,7 +41,7 @@ fn copy_part(
     past: u64,
 ) -> Result<Vec<Value>, AllocError>
     requires pass { IsPassOf bank.now pass.old }
-    requires container { l < containers_in (shape_of bank.now) }
+    requires container { l < container_count (shape_of bank.now) }
     ensures pass { IsPassOf bank.now pass.new }
     ensures reads { Reads (shape_of bank.now) l (IsOfItems (shape_of bank.now) (λ items. past ≤ length items →
         AreCopied result (drop first (take past items)))) pass.old pass.new }
@@ -64,7 +64,7 @@ fn copy_slice(
     end: i64,
 ) -> Result<Vec<Value>, AllocError>
     requires pass { IsPassOf bank.now pass.old }
-    requires container { l < containers_in (shape_of bank.now) }
+    requires container { l < container_count (shape_of bank.now) }
     ensures pass { IsPassOf bank.now pass.new }
     ensures reads { Reads (shape_of bank.now) l (IsOfItems (shape_of bank.now) (λ items.
         AreCopied result (list_slice items start end))) pass.old pass.new }
@@ -81,7 +81,7 @@ pub(crate) fn copy_items(
     l: Object,
 ) -> Result<Vec<Value>, AllocError>
     requires pass { IsPassOf bank.now pass.old }
-    requires container { l < containers_in (shape_of bank.now) }
+    requires container { l < container_count (shape_of bank.now) }
     ensures pass { IsPassOf bank.now pass.new }
     ensures reads { Reads (shape_of bank.now) l (IsOfItems (shape_of bank.now) (AreCopied result)) pass.old
         pass.new }

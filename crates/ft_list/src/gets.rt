@@ -6,7 +6,7 @@ ghost use Rattle.ft_layout.specs.Words.{IsStored};
 ghost use Rattle.ft_model.specs.declared.data.Value.{Value};
 ghost use Rattle.ft_model.specs.declared.script.Kind.TheVariants as kind;
 ghost use Rattle.ft_trace.specs.Acts.{announces};
-ghost use Rattle.ft_trace.specs.Addresses.{containers_in};
+ghost use Rattle.ft_trace.specs.Addresses.{container_count};
 ghost use Rattle.ft_trace.specs.LookReplies.{item_reply};
 ghost use Rattle.ft_trace.specs.ContainerStates.{kind_in};
 ghost use Rattle.ft_bank.specs.Passes.{shape_of, view, IsPassOf};
@@ -77,7 +77,7 @@ pub(crate) fn found_of(kind: u64, payload: u64) -> Option<Option<Value>>
 #[inline(always)]
 fn find_value(bank: &Bank, pass: &mut Pass, l: Object, index: u64) -> AtIndex
     requires pass { IsPassOf bank.now pass.old }
-    requires container { l < containers_in (shape_of bank.now) }
+    requires container { l < container_count (shape_of bank.now) }
     requires list { kind_in (shape_of bank.now).starts l ≡ kind.List }
     requires online { 0 < announces (view pass.old).log }
     requires left { 0 < (view pass.old).left }
@@ -104,7 +104,7 @@ fn find_value(bank: &Bank, pass: &mut Pass, l: Object, index: u64) -> AtIndex
 #[inline(always)]
 pub fn look_item(bank: &Bank, pass: &mut Pass, l: Object, index: u64) -> Look
     requires pass { IsPassOf bank.now pass.old }
-    requires container { l < containers_in (shape_of bank.now) }
+    requires container { l < container_count (shape_of bank.now) }
     requires list { kind_in (shape_of bank.now).starts l ≡ kind.List }
     requires index { index < 2 ^ 63 }
     requires online { 0 < announces (view pass.old).log }

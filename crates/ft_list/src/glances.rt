@@ -7,7 +7,7 @@ ghost use Rattle.ft_model.specs.declared.call.Call.TheVariants as call;
 ghost use Rattle.ft_model.specs.declared.call.ListCall.TheVariants as list;
 ghost use Rattle.ft_model.specs.declared.script.Kind.TheVariants as kind;
 ghost use Rattle.ft_model.specs.Lists.{index_of, same_items};
-ghost use Rattle.ft_trace.specs.Addresses.{containers_in};
+ghost use Rattle.ft_trace.specs.Addresses.{container_count};
 ghost use Rattle.ft_trace.specs.ContainerStates.{kind_in};
 ghost use Rattle.ft_bank.specs.Passes.{shape_of, view, IsPassOf};
 ghost use Rattle.ft_bank.specs.PassSections.{stack_of};
@@ -31,7 +31,7 @@ use std::alloc::{AllocError, Global};
 /// Looks for the first equal item, and loads the counter, between two loads of the version of the list.
 fn find_between(bank: &Bank, pass: &mut Pass, l: Object, value: Value) -> (Option<u64>, Window)
     requires pass { IsPassOf bank.now pass.old }
-    requires container { l < containers_in (shape_of bank.now) }
+    requires container { l < container_count (shape_of bank.now) }
     ensures pass { IsPassOf bank.now pass.new }
     ensures saw { Saw (shape_of bank.now) l (IsOfItems (shape_of bank.now) (λ items.
         result.0 ≡ index_of items value)) result.1 pass.old pass.new }
@@ -58,7 +58,7 @@ fn copy_between(
     l: Object,
 ) -> (Result<Vec<Value>, AllocError>, Window)
     requires pass { IsPassOf bank.now pass.old }
-    requires container { l < containers_in (shape_of bank.now) }
+    requires container { l < container_count (shape_of bank.now) }
     ensures pass { IsPassOf bank.now pass.new }
     ensures saw { Saw (shape_of bank.now) l (IsOfItems (shape_of bank.now) (AreCopied result.0)) result.1 pass.old
         pass.new }
@@ -85,7 +85,7 @@ fn copy_between(
 /// answers `NoMemory`.
 pub fn look_has(bank: &Bank, pass: &mut Pass, l: Object, value: Value) -> Look
     requires pass { IsPassOf bank.now pass.old }
-    requires container { l < containers_in (shape_of bank.now) }
+    requires container { l < container_count (shape_of bank.now) }
     requires list { kind_in (shape_of bank.now).starts l ≡ kind.List }
     requires left { 0 < (view pass.old).left }
     ensures pass { IsPassOf bank.now pass.new }
@@ -117,7 +117,7 @@ pub fn look_has(bank: &Bank, pass: &mut Pass, l: Object, value: Value) -> Look
 /// `NoMemory` where there was no memory for the items, of which it loaded some. The pass only loaded words then.
 pub fn look_items(bank: &Bank, pass: &mut Pass, alloc: Global, l: Object) -> Look
     requires pass { IsPassOf bank.now pass.old }
-    requires container { l < containers_in (shape_of bank.now) }
+    requires container { l < container_count (shape_of bank.now) }
     requires list { kind_in (shape_of bank.now).starts l ≡ kind.List }
     requires left { 0 < (view pass.old).left }
     ensures pass { IsPassOf bank.now pass.new }
@@ -150,8 +150,8 @@ pub fn look_items(bank: &Bank, pass: &mut Pass, alloc: Global, l: Object) -> Loo
 /// Compares two lists, and loads the counter, between two loads of the version of each.
 fn alike_between(bank: &Bank, pass: &mut Pass, l: Object, m: Object) -> (bool, Window, Window)
     requires pass { IsPassOf bank.now pass.old }
-    requires container { l < containers_in (shape_of bank.now) }
-    requires other { m < containers_in (shape_of bank.now) }
+    requires container { l < container_count (shape_of bank.now) }
+    requires other { m < container_count (shape_of bank.now) }
     ensures pass { IsPassOf bank.now pass.new }
     ensures saw { SawBoth (shape_of bank.now) l m (AreOfItems (shape_of bank.now) (λ items others.
         result.0 ≡ same_items items others)) result.1 result.2 pass.old pass.new }
@@ -185,8 +185,8 @@ fn alike_between(bank: &Bank, pass: &mut Pass, l: Object, m: Object) -> (bool, W
 /// It never answers `NoMemory`.
 pub fn look_eq(bank: &Bank, pass: &mut Pass, l: Object, m: Object) -> Look
     requires pass { IsPassOf bank.now pass.old }
-    requires container { l < containers_in (shape_of bank.now) }
-    requires other { m < containers_in (shape_of bank.now) }
+    requires container { l < container_count (shape_of bank.now) }
+    requires other { m < container_count (shape_of bank.now) }
     requires list { kind_in (shape_of bank.now).starts l ≡ kind.List }
     requires other_list { kind_in (shape_of bank.now).starts m ≡ kind.List }
     requires left { 0 < (view pass.old).left }

@@ -9,14 +9,14 @@ ghost use Rattle.ft_model.specs.declared.reply.Reply.TheVariants as reply;
 ghost use Rattle.ft_layout.specs.Containers.{IsBlock};
 ghost use Rattle.ft_layout.specs.Words.{FitsStored};
 ghost use Rattle.ft_trace.specs.declared.Act.TheVariants.{StartWrite, PutRoot};
-ghost use Rattle.ft_trace.specs.Acts.{noted, stage};
+ghost use Rattle.ft_trace.specs.Acts.{view_after, stage};
 ghost use Rattle.ft_trace.specs.Addresses.{class_of, slots};
-ghost use Rattle.ft_trace.specs.Holds.{held, known, in_hand};
+ghost use Rattle.ft_trace.specs.Holds.{held_words, known_state, in_hand};
 ghost use Rattle.ft_trace.specs.Pictures.{root_in};
 ghost use Rattle.ft_bank.specs.Passes.{shape_of, view, IsPassOf};
 ghost use Rattle.ft_bank.specs.PassSections.{stack_of};
 ghost use Rattle.ft_bank.specs.Series.{DidAll};
-ghost use Rattle.ft_bank.specs.TableNames.{name_of, IsTableIn};
+ghost use Rattle.ft_bank.specs.TableNames.{table_id, IsTableIn};
 ghost use Rattle.ft_bank.specs.Whole.{OnlyLoaded, Wrote};
 ghost use Rattle.ft_bank.specs.WriteSteps.{KeepsUnwritten};
 ghost use Rattle.ft_growth.specs.Adding.{OnlyFilled};
@@ -67,14 +67,14 @@ fn old_item(
 fn fill_item(bank: &Bank, pass: &mut Pass, table: Table, place: u64, stored: Stored)
     requires pass { IsPassOf bank.now pass.old }
     requires table { IsTableIn (shape_of bank.now) table }
-    requires fresh { stage (name_of table) (view pass.old).log ≡ 1 }
-    requires place { place < slots (class_of (name_of table)) }
+    requires fresh { stage (table_id table) (view pass.old).log ≡ 1 }
+    requires place { place < slots (class_of (table_id table)) }
     requires fits { FitsStored stored }
     ensures pass { IsPassOf bank.now pass.new }
     ensures stack { stack_of pass.new ≡ stack_of pass.old }
     ensures filled { OnlyFilled (view pass.old) (view pass.new) }
-    ensures words { in_hand (name_of table) (view pass.new) ≡
-        with_new_item (in_hand (name_of table) (view pass.old)) place stored }
+    ensures words { in_hand (table_id table) (view pass.new) ≡
+        with_new_item (in_hand (table_id table) (view pass.old)) place stored }
 {
     let kind = stored_kind_of(stored);
     let payload = stored_payload_of(stored);
@@ -90,13 +90,13 @@ fn fill(bank: &Bank, pass: &mut Pass, o: u32, old: Option<Table>, table: Table, 
     requires pass { IsPassOf bank.now pass.old }
     requires list { KnowsList (shape_of bank.now) o old (view pass.old) }
     requires table { IsTableIn (shape_of bank.now) table }
-    requires fresh { stage (name_of table) (view pass.old).log ≡ 1 }
+    requires fresh { stage (table_id table) (view pass.old).log ≡ 1 }
     requires count { count ≡ length (known_items o (view pass.old)) }
     ensures pass { IsPassOf bank.now pass.new }
     ensures stack { stack_of pass.new ≡ stack_of pass.old }
     ensures only { OnlyFilled (view pass.old) (view pass.new) }
-    ensures filled { IsFilled (class_of (name_of table)) (known_items o (view pass.old))
-        (slots (class_of (name_of table))) (in_hand (name_of table) (view pass.new)) }
+    ensures filled { IsFilled (class_of (table_id table)) (known_items o (view pass.old))
+        (slots (class_of (table_id table))) (in_hand (table_id table) (view pass.new)) }
 {
     for place in 0..list_items(table.class) {
         let stored = old_item(bank, pass, o, old, place, count);
@@ -108,19 +108,19 @@ fn fill(bank: &Bank, pass: &mut Pass, o: u32, old: Option<Table>, table: Table, 
 fn begin_in(bank: &Bank, pass: &mut Pass, o: u32, old: Option<Table>, table: Table)
     requires pass { IsPassOf bank.now pass.old }
     requires may { MayGrowList (shape_of bank.now) o old table (view pass.old) }
-    requires filled { IsFilled (class_of (name_of table)) (known_items o (view pass.old))
-        (slots (class_of (name_of table))) (in_hand (name_of table) (view pass.old)) }
-    requires room { length (known_items o (view pass.old)) ≤ slots (class_of (name_of table)) }
+    requires filled { IsFilled (class_of (table_id table)) (known_items o (view pass.old))
+        (slots (class_of (table_id table))) (in_hand (table_id table) (view pass.old)) }
+    requires room { length (known_items o (view pass.old)) ≤ slots (class_of (table_id table)) }
     ensures pass { IsPassOf bank.now pass.new }
     ensures did { (f : ℕ) × DidAll
-        (PutRoot o (suc (name_of table)) (root_in (held o (view pass.old))) ∷ StartWrite o f ∷ []) pass.old pass.new
-        × KeepsUnwritten (noted (StartWrite o f) (view pass.old)) (view pass.new) }
+        (PutRoot o (suc (table_id table)) (root_in (held_words o (view pass.old))) ∷ StartWrite o f ∷ []) pass.old pass.new
+        × KeepsUnwritten (view_after (StartWrite o f) (view pass.old)) (view pass.new) }
     ensures list { WritesList (shape_of bank.now) o table (view pass.new) }
     ensures putting { (first past : ℕ) →
-        IsPutting (class_of (name_of table)) (known_items o (view pass.old)) first past
-        (stored_item (known_items o (view pass.old))) (held o (view pass.new)).table }
-    ensures content { (known o (view pass.old)).content ≡ content.List (known_items o (view pass.old)) }
-    ensures head { IsBlock (held o (view pass.new)).block (Some (class_of (name_of table)))
+        IsPutting (class_of (table_id table)) (known_items o (view pass.old)) first past
+        (stored_item (known_items o (view pass.old))) (held_words o (view pass.new)).table }
+    ensures content { (known_state o (view pass.old)).content ≡ content.List (known_items o (view pass.old)) }
+    ensures head { IsBlock (held_words o (view pass.new)).block (Some (class_of (table_id table)))
         (length (known_items o (view pass.old))) 0 0 }
 {
     let _ = old;
@@ -142,16 +142,16 @@ pub(crate) fn add_in(
 ) -> u64
     requires pass { IsPassOf bank.now pass.old }
     requires may { MayGrowList (shape_of bank.now) o old table (view pass.old) }
-    requires other { root_in (held o (view pass.old)) ≢ suc (name_of table) }
+    requires other { root_in (held_words o (view pass.old)) ≢ suc (table_id table) }
     requires addition { IsAddition (shape_of bank.now) count addition (view pass.old) }
     requires count { count ≡ length (known_items o (view pass.old)) }
-    requires room { count + count_in addition ≤ slots (class_of (name_of table)) }
+    requires room { count + count_in addition ≤ slots (class_of (table_id table)) }
     requires call { (lc : ListCall) × (called.now ≡ call.List o lc) × Grows o lc (known_items o (view pass.old))
-        (with_added addition (view pass.old) (known_items o (view pass.old))) (class_of (name_of table)) (view pass.old) }
+        (with_added addition (view pass.old) (known_items o (view pass.old))) (class_of (table_id table)) (view pass.old) }
     ensures pass { IsPassOf bank.now pass.new }
     ensures stack { stack_of pass.new ≡ stack_of pass.old }
     ensures wrote { Wrote called.now reply.Done result (view pass.old) (view pass.new) }
-    ensures root { root_in (held o (view pass.new)) ≡ suc (name_of table) }
+    ensures root { root_in (held_words o (view pass.new)) ≡ suc (table_id table) }
 {
     fill(bank, pass, o, old, table, count);
     begin_in(bank, pass, o, old, table);

@@ -5,9 +5,9 @@ ghost use Rattle.ft_model.specs.declared.call.ListCall.TheVariants as list;
 ghost use Rattle.ft_model.specs.declared.script.Kind.TheVariants as kind;
 ghost use Rattle.ft_trace.specs.declared.Act.{Act};
 ghost use Rattle.ft_trace.specs.Acts.{announces, has_lock};
-ghost use Rattle.ft_trace.specs.Addresses.{containers_in};
-ghost use Rattle.ft_trace.specs.Holds.{held, known};
-ghost use Rattle.ft_trace.specs.Pictures.{Stands};
+ghost use Rattle.ft_trace.specs.Addresses.{container_count};
+ghost use Rattle.ft_trace.specs.Holds.{held_words, known_state};
+ghost use Rattle.ft_trace.specs.Pictures.{Represents};
 ghost use Rattle.ft_trace.specs.ContainerStates.{kind_in};
 ghost use Rattle.ft_bank.specs.Answered.{Answered};
 ghost use Rattle.ft_bank.specs.Passes.{shape_of, view, IsPassOf};
@@ -31,7 +31,7 @@ use ft_section::{Got, Look, Object, Objects, Stamp, Step, let_go, take_for};
 /// Reads the item that an index names, and the counter, between two loads of the version of the list.
 fn read_between(bank: &Bank, pass: &mut Pass, l: Object, index: i64) -> AtIndex
     requires pass { IsPassOf bank.now pass.old }
-    requires container { l < containers_in (shape_of bank.now) }
+    requires container { l < container_count (shape_of bank.now) }
     ensures pass { IsPassOf bank.now pass.new }
     ensures looked { (part : List Act) × AreLooks part × DidAll part pass.old pass.new
         × ShowsBetween (shape_of bank.now) l index part result }
@@ -49,7 +49,7 @@ fn read_between(bank: &Bank, pass: &mut Pass, l: Object, index: i64) -> AtIndex
 /// `l[i]` without the lock, by the version of the list.
 fn look_between(bank: &Bank, pass: &mut Pass, l: Object, index: i64) -> Look
     requires pass { IsPassOf bank.now pass.old }
-    requires container { l < containers_in (shape_of bank.now) }
+    requires container { l < container_count (shape_of bank.now) }
     requires list { kind_in (shape_of bank.now).starts l ≡ kind.List }
     requires left { 0 < (view pass.old).left }
     ensures pass { IsPassOf bank.now pass.new }
@@ -79,7 +79,7 @@ fn look_between(bank: &Bank, pass: &mut Pass, l: Object, index: i64) -> Look
 #[inline(always)]
 pub fn look_get(bank: &Bank, pass: &mut Pass, l: Object, index: i64) -> Look
     requires pass { IsPassOf bank.now pass.old }
-    requires container { l < containers_in (shape_of bank.now) }
+    requires container { l < container_count (shape_of bank.now) }
     requires list { kind_in (shape_of bank.now).starts l ≡ kind.List }
     requires online { 0 < announces (view pass.old).log }
     requires left { 0 < (view pass.old).left }
@@ -96,10 +96,10 @@ pub fn look_get(bank: &Bank, pass: &mut Pass, l: Object, index: i64) -> Look
 /// `l[i]`, by a pass that has the list's lock. The counter is loaded while it has the lock.
 fn get_locked(bank: &Bank, pass: &mut Pass, l: Object, index: i64) -> (Reply, Stamp)
     requires pass { IsPassOf bank.now pass.old }
-    requires container { l < containers_in (shape_of bank.now) }
+    requires container { l < container_count (shape_of bank.now) }
     requires list { kind_in (shape_of bank.now).starts l ≡ kind.List }
     requires locked { has_lock l (view pass.old).log ≡ true }
-    requires stands { Stands (shape_of bank.now).texts (held l (view pass.old)) (known l (view pass.old)) }
+    requires stands { Represents (shape_of bank.now).texts (held_words l (view pass.old)) (known_state l (view pass.old)) }
     requires left { 0 < (view pass.old).left }
     ensures pass { IsPassOf bank.now pass.new }
     ensures sections { stack_of pass.new ≡ stack_of pass.old }
@@ -122,7 +122,7 @@ fn get_locked(bank: &Bank, pass: &mut Pass, l: Object, index: i64) -> (Reply, St
 /// It never answers `Moved` or `NoMemory`.
 pub fn try_get(bank: &Bank, pass: &mut Pass, l: Object, index: i64) -> Step
     requires may { MayTry bank.now pass.old (One l) }
-    requires container { l < containers_in (shape_of bank.now) }
+    requires container { l < container_count (shape_of bank.now) }
     requires list { kind_in (shape_of bank.now).starts l ≡ kind.List }
     requires left { 0 < (view pass.old).left }
     ensures may { MayTry bank.now pass.new (One l) }

@@ -6,12 +6,12 @@ ghost use Rattle.ft_layout.specs.declared.slot.Stored.{Stored};
 ghost use Rattle.ft_layout.specs.Words.{FitsStored, IsStored};
 ghost use Rattle.ft_trace.specs.Acts.{has_committed};
 ghost use Rattle.ft_trace.specs.Addresses.{class_of, slots};
-ghost use Rattle.ft_trace.specs.Holds.{held};
+ghost use Rattle.ft_trace.specs.Holds.{held_words};
 ghost use Rattle.ft_trace.specs.ItemWords.{said_at, words_at};
 ghost use Rattle.ft_trace.specs.Pictures.{item_offset, item_field};
 ghost use Rattle.ft_bank.specs.Passes.{shape_of, view, IsPassOf};
 ghost use Rattle.ft_bank.specs.PassSections.{stack_of};
-ghost use Rattle.ft_bank.specs.TableNames.{name_of};
+ghost use Rattle.ft_bank.specs.TableNames.{table_id};
 ghost use Rattle.ft_bank.specs.Whole.{OnlyLoaded, OnlyPut, EndsWrite};
 ghost use Rattle.ft_list.specs.ListItemWrites.{WritesList, PutsItem, ClosesItem, IsChanging, MayFinishItems, known_items, with_word};
 
@@ -37,14 +37,14 @@ pub(crate) fn word_at(place: u64, word: u64) -> u64
 fn read_word(bank: &Bank, pass: &mut Pass, o: u32, table: Table, place: u64, word: u64) -> u64
     requires pass { IsPassOf bank.now pass.old }
     requires list { WritesList (shape_of bank.now) o table (view pass.old) }
-    requires place { place < slots (class_of (name_of table)) }
+    requires place { place < slots (class_of (table_id table)) }
     requires word { word < 4 }
     ensures pass { IsPassOf bank.now pass.new }
     ensures stack { stack_of pass.new ≡ stack_of pass.old }
     ensures list { WritesList (shape_of bank.now) o table (view pass.new) }
     ensures only { OnlyLoaded (view pass.old) (view pass.new) }
-    ensures held { held o (view pass.new) ≡ held o (view pass.old) }
-    ensures found { result ≡ item_field (held o (view pass.old)).table place word }
+    ensures held { held_words o (view pass.new) ≡ held_words o (view pass.old) }
+    ensures found { result ≡ item_field (held_words o (view pass.old)).table place word }
 {
     let _ = o;
     bank.read_table(pass, table, word_at(place, word))
@@ -55,13 +55,13 @@ fn open_item(bank: &Bank, pass: &mut Pass, o: u32, table: Table, place: u64)
     requires pass { IsPassOf bank.now pass.old }
     requires list { WritesList (shape_of bank.now) o table (view pass.old) }
     requires early { has_committed o (view pass.old).log ≡ false }
-    requires place { place < slots (class_of (name_of table)) }
+    requires place { place < slots (class_of (table_id table)) }
     ensures pass { IsPassOf bank.now pass.new }
     ensures stack { stack_of pass.new ≡ stack_of pass.old }
     ensures list { WritesList (shape_of bank.now) o table (view pass.new) }
     ensures only { OnlyPut o (view pass.old) (view pass.new) }
     ensures words { (version : ℕ) × (version % 2 ≡ 1)
-        × (held o (view pass.new) ≡ with_word (held o (view pass.old)) place 0 version) }
+        × (held_words o (view pass.new) ≡ with_word (held_words o (view pass.old)) place 0 version) }
 {
     let version = read_word(bank, pass, o, table, place, item_word::VERSION);
     if version % 2 == 0 {
@@ -79,14 +79,14 @@ fn open_item(bank: &Bank, pass: &mut Pass, o: u32, table: Table, place: u64)
 pub(crate) fn item(bank: &Bank, pass: &mut Pass, o: u32, table: Table, place: u64) -> Stored
     requires pass { IsPassOf bank.now pass.old }
     requires list { WritesList (shape_of bank.now) o table (view pass.old) }
-    requires place { place < slots (class_of (name_of table)) }
+    requires place { place < slots (class_of (table_id table)) }
     ensures pass { IsPassOf bank.now pass.new }
     ensures stack { stack_of pass.new ≡ stack_of pass.old }
     ensures list { WritesList (shape_of bank.now) o table (view pass.new) }
     ensures only { OnlyLoaded (view pass.old) (view pass.new) }
-    ensures held { held o (view pass.new) ≡ held o (view pass.old) }
+    ensures held { held_words o (view pass.new) ≡ held_words o (view pass.old) }
     ensures stored { (stored : Stored) →
-        IsStored (item_field (held o (view pass.old)).table place 1) (item_field (held o (view pass.old)).table place 2) stored →
+        IsStored (item_field (held_words o (view pass.old)).table place 1) (item_field (held_words o (view pass.old)).table place 2) stored →
         result ≡ stored }
     ensures fits { FitsStored result }
 {
@@ -108,15 +108,15 @@ fn put_word(
 )
     requires pass { IsPassOf bank.now pass.old }
     requires list { WritesList (shape_of bank.now) o table (view pass.old) }
-    requires place { place < slots (class_of (name_of table)) }
+    requires place { place < slots (class_of (table_id table)) }
     requires word { (0 < word) × (word < 4) }
-    requires odd { item_field (held o (view pass.old)).table place 0 % 2 ≡ 1 }
-    requires found { found ≡ item_field (held o (view pass.old)).table place word }
+    requires odd { item_field (held_words o (view pass.old)).table place 0 % 2 ≡ 1 }
+    requires found { found ≡ item_field (held_words o (view pass.old)).table place word }
     ensures pass { IsPassOf bank.now pass.new }
     ensures stack { stack_of pass.new ≡ stack_of pass.old }
     ensures list { WritesList (shape_of bank.now) o table (view pass.new) }
     ensures only { OnlyPut o (view pass.old) (view pass.new) }
-    ensures words { held o (view pass.new) ≡ with_word (held o (view pass.old)) place word value }
+    ensures words { held_words o (view pass.new) ≡ with_word (held_words o (view pass.old)) place word value }
 {
     if found != value {
         bank.put_table(pass, o, table, word_at(place, word), value);
@@ -136,14 +136,14 @@ pub(crate) fn put_item(
     requires pass { IsPassOf bank.now pass.old }
     requires list { WritesList (shape_of bank.now) o table (view pass.old) }
     requires early { has_committed o (view pass.old).log ≡ false }
-    requires place { place < slots (class_of (name_of table)) }
+    requires place { place < slots (class_of (table_id table)) }
     requires fits { FitsStored stored }
     ensures pass { IsPassOf bank.now pass.new }
     ensures stack { stack_of pass.new ≡ stack_of pass.old }
     ensures list { WritesList (shape_of bank.now) o table (view pass.new) }
     ensures only { OnlyPut o (view pass.old) (view pass.new) }
-    ensures block { (held o (view pass.new)).block ≡ (held o (view pass.old)).block }
-    ensures puts { PutsItem place stored (held o (view pass.old)) (held o (view pass.new)) }
+    ensures block { (held_words o (view pass.new)).block ≡ (held_words o (view pass.old)).block }
+    ensures puts { PutsItem place stored (held_words o (view pass.old)) (held_words o (view pass.new)) }
 {
     let kind = stored_kind_of(stored);
     let payload = stored_payload_of(stored);
@@ -181,13 +181,13 @@ fn close_item(bank: &Bank, pass: &mut Pass, o: u32, table: Table, place: u64)
     requires pass { IsPassOf bank.now pass.old }
     requires list { WritesList (shape_of bank.now) o table (view pass.old) }
     requires late { has_committed o (view pass.old).log ≡ true }
-    requires place { place < slots (class_of (name_of table)) }
-    requires says { words_at (known_items o (view pass.old)) place ≡ said_at (held o (view pass.old)).table place }
+    requires place { place < slots (class_of (table_id table)) }
+    requires says { words_at (known_items o (view pass.old)) place ≡ said_at (held_words o (view pass.old)).table place }
     ensures pass { IsPassOf bank.now pass.new }
     ensures stack { stack_of pass.new ≡ stack_of pass.old }
     ensures list { WritesList (shape_of bank.now) o table (view pass.new) }
     ensures only { OnlyPut o (view pass.old) (view pass.new) }
-    ensures item { ClosesItem place (held o (view pass.old)) (held o (view pass.new)) }
+    ensures item { ClosesItem place (held_words o (view pass.old)) (held_words o (view pass.new)) }
 {
     let version = read_word(bank, pass, o, table, place, item_word::VERSION);
     if version % 2 == 1 {
@@ -206,16 +206,16 @@ fn close_items(bank: &Bank, pass: &mut Pass, o: u32, table: Table, first: u64, p
     requires pass { IsPassOf bank.now pass.old }
     requires list { WritesList (shape_of bank.now) o table (view pass.old) }
     requires late { has_committed o (view pass.old).log ≡ true }
-    requires places { past ≤ slots (class_of (name_of table)) }
-    requires changing { IsChanging (class_of (name_of table)) (known_items o (view pass.old))
-        (known_items o (view pass.old)) first past (held o (view pass.old)).table }
+    requires places { past ≤ slots (class_of (table_id table)) }
+    requires changing { IsChanging (class_of (table_id table)) (known_items o (view pass.old))
+        (known_items o (view pass.old)) first past (held_words o (view pass.old)).table }
     ensures pass { IsPassOf bank.now pass.new }
     ensures stack { stack_of pass.new ≡ stack_of pass.old }
     ensures list { WritesList (shape_of bank.now) o table (view pass.new) }
     ensures only { OnlyPut o (view pass.old) (view pass.new) }
-    ensures block { (held o (view pass.new)).block ≡ (held o (view pass.old)).block }
-    ensures closed { IsChanging (class_of (name_of table)) (known_items o (view pass.old))
-        (known_items o (view pass.old)) past past (held o (view pass.new)).table }
+    ensures block { (held_words o (view pass.new)).block ≡ (held_words o (view pass.old)).block }
+    ensures closed { IsChanging (class_of (table_id table)) (known_items o (view pass.old))
+        (known_items o (view pass.old)) past past (held_words o (view pass.new)).table }
 {
     versions_change_nothing();
     for place in first..past {
@@ -237,7 +237,7 @@ pub(crate) fn finish(
 ) -> u64
     requires pass { IsPassOf bank.now pass.old }
     requires list { WritesList (shape_of bank.now) o table (view pass.old) }
-    requires places { (first ≤ past) × (past ≤ slots (class_of (name_of table))) }
+    requires places { (first ≤ past) × (past ≤ slots (class_of (table_id table))) }
     requires may { MayFinishItems o table called.now said.now first past (view pass.old) }
     ensures pass { IsPassOf bank.now pass.new }
     ensures stack { stack_of pass.new ≡ stack_of pass.old }

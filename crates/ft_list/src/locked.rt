@@ -11,8 +11,8 @@ ghost use Rattle.ft_model.specs.declared.reply.Raise.TheVariants as raise;
 ghost use Rattle.ft_model.specs.Lists.{index_in};
 ghost use Rattle.ft_trace.specs.declared.Act.TheVariants.{ReadBlock};
 ghost use Rattle.ft_trace.specs.Acts.{has_lock};
-ghost use Rattle.ft_trace.specs.Addresses.{containers_in};
-ghost use Rattle.ft_trace.specs.Holds.{held};
+ghost use Rattle.ft_trace.specs.Addresses.{container_count};
+ghost use Rattle.ft_trace.specs.Holds.{held_words};
 ghost use Rattle.ft_trace.specs.Pictures.{root_in};
 ghost use Rattle.ft_bank.specs.declared.table.Table.{Table};
 ghost use Rattle.ft_bank.specs.Answered.{Answered};
@@ -66,13 +66,13 @@ pub(crate) fn count_of(bank: &Bank, pass: &mut Pass, l: Object) -> u64
 /// The table that the root of a list names, or none.
 pub(crate) fn table_at_root(bank: &Bank, pass: &mut Pass, l: Object) -> Option<Table>
     requires pass { IsPassOf bank.now pass.old }
-    requires container { l < containers_in (shape_of bank.now) }
+    requires container { l < container_count (shape_of bank.now) }
     requires locked { has_lock l (view pass.old).log ≡ true }
     ensures pass { IsPassOf bank.now pass.new }
     ensures stack { stack_of pass.new ≡ stack_of pass.old }
     ensures only { OnlyLoaded (view pass.old) (view pass.new) }
     ensures table { (t : Table) → result ≡ Some t → IsTableIn (shape_of bank.now) t }
-    ensures root { root_in (held l (view pass.old)) ≡ root_for result }
+    ensures root { root_in (held_words l (view pass.old)) ≡ root_for result }
 {
     let root = bank.read_block(pass, l, 0);
     table_named(root)

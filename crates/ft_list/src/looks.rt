@@ -8,13 +8,13 @@ ghost use Rattle.ft_model.specs.declared.script.Kind.TheVariants as kind;
 ghost use Rattle.ft_trace.specs.declared.Act.{Act};
 ghost use Rattle.ft_trace.specs.declared.Act.TheVariants.{ReadRoot, ReadTable};
 ghost use Rattle.ft_trace.specs.Acts.{announces};
-ghost use Rattle.ft_trace.specs.Addresses.{containers_in, class_of, slots, IsTableName};
+ghost use Rattle.ft_trace.specs.Addresses.{container_count, class_of, slots, IsTableName};
 ghost use Rattle.ft_trace.specs.ContainerStates.{kind_in};
 ghost use Rattle.ft_trace.specs.Pictures.{item_offset};
 ghost use Rattle.ft_bank.specs.Passes.{shape_of, view, IsPassOf};
 ghost use Rattle.ft_bank.specs.PassSections.{stack_of};
 ghost use Rattle.ft_bank.specs.Series.{DidAll};
-ghost use Rattle.ft_bank.specs.TableNames.{name_of, IsPlaceOf, IsTableIn};
+ghost use Rattle.ft_bank.specs.TableNames.{table_id, IsPlaceOf, IsTableIn};
 ghost use Rattle.ft_bank.specs.Whole.{OnlyLoaded};
 ghost use Rattle.ft_search.specs.KeyLooks.{AreLooks};
 ghost use Rattle.ft_list.specs.ItemLooks.{item_acts, EndsItemTable, EndsItemRound, ShowsFound};
@@ -64,10 +64,10 @@ fn load_word(bank: &Bank, pass: &mut Pass, table: Table, start: u64, index: u64,
     requires pass { IsPassOf bank.now pass.old }
     requires table { IsTableIn (shape_of bank.now) table }
     requires place { IsPlaceOf (shape_of bank.now) table start }
-    requires index { index < slots (class_of (name_of table)) }
+    requires index { index < slots (class_of (table_id table)) }
     requires word { word < 4 }
     ensures pass { IsPassOf bank.now pass.new }
-    ensures did { DidAll (ReadTable (name_of table) (item_offset index word) result ∷ []) pass.old pass.new }
+    ensures did { DidAll (ReadTable (table_id table) (item_offset index word) result ∷ []) pass.old pass.new }
 {
     bank.read_word(pass, table, start, word_at(index, word))
 }
@@ -77,9 +77,9 @@ fn load_word(bank: &Bank, pass: &mut Pass, table: Table, start: u64, index: u64,
 fn see_item(bank: &Bank, pass: &mut Pass, table: Table, index: u64) -> SeenItem
     requires pass { IsPassOf bank.now pass.old }
     requires table { IsTableIn (shape_of bank.now) table }
-    requires index { index < slots (class_of (name_of table)) }
+    requires index { index < slots (class_of (table_id table)) }
     ensures pass { IsPassOf bank.now pass.new }
-    ensures did { DidAll (item_acts (name_of table) index result) pass.old pass.new }
+    ensures did { DidAll (item_acts (table_id table) index result) pass.old pass.new }
 {
     let start = bank.cell_of(table);
     let opened = load_word(bank, pass, table, start, index, item_word::VERSION);
@@ -100,14 +100,14 @@ fn see_item(bank: &Bank, pass: &mut Pass, table: Table, index: u64) -> SeenItem
 #[inline(always)]
 fn look_at(bank: &Bank, pass: &mut Pass, o: u32, index: u64, root: u64, table: Table) -> ItemRound
     requires pass { IsPassOf bank.now pass.old }
-    requires container { o < containers_in (shape_of bank.now) }
+    requires container { o < container_count (shape_of bank.now) }
     requires online { 0 < announces (view pass.old).log }
     requires table { IsTableIn (shape_of bank.now) table }
-    requires root { root ≡ suc (name_of table) }
-    requires index { index < slots (class_of (name_of table)) }
+    requires root { root ≡ suc (table_id table) }
+    requires index { index < slots (class_of (table_id table)) }
     requires last { (rest : List Act) × ((view pass.old).log ≡ ReadRoot o root ∷ rest) }
     ensures pass { IsPassOf bank.now pass.new }
-    ensures ended { EndsItemTable (shape_of bank.now) o index (name_of table) pass.old pass.new result }
+    ensures ended { EndsItemTable (shape_of bank.now) o index (table_id table) pass.old pass.new result }
 {
     let seen = see_item(bank, pass, table, index);
     let again = bank.read_root(pass, o);
@@ -123,14 +123,14 @@ fn look_at(bank: &Bank, pass: &mut Pass, o: u32, index: u64, root: u64, table: T
 /// A round over a table that has no such item: the counter, and then the root again.
 fn look_past(bank: &Bank, pass: &mut Pass, o: u32, index: u64, root: u64, table: Table) -> ItemRound
     requires pass { IsPassOf bank.now pass.old }
-    requires container { o < containers_in (shape_of bank.now) }
+    requires container { o < container_count (shape_of bank.now) }
     requires online { 0 < announces (view pass.old).log }
     requires table { IsTableIn (shape_of bank.now) table }
-    requires root { root ≡ suc (name_of table) }
-    requires index { slots (class_of (name_of table)) ≤ index }
+    requires root { root ≡ suc (table_id table) }
+    requires index { slots (class_of (table_id table)) ≤ index }
     requires last { (rest : List Act) × ((view pass.old).log ≡ ReadRoot o root ∷ rest) }
     ensures pass { IsPassOf bank.now pass.new }
-    ensures ended { EndsItemTable (shape_of bank.now) o index (name_of table) pass.old pass.new result }
+    ensures ended { EndsItemTable (shape_of bank.now) o index (table_id table) pass.old pass.new result }
 {
     let _ = (index, table);
     let number = bank.stamp(pass);
@@ -145,7 +145,7 @@ fn look_past(bank: &Bank, pass: &mut Pass, o: u32, index: u64, root: u64, table:
 /// again.
 fn look_bare(bank: &Bank, pass: &mut Pass, o: u32) -> ItemRound
     requires pass { IsPassOf bank.now pass.old }
-    requires container { o < containers_in (shape_of bank.now) }
+    requires container { o < container_count (shape_of bank.now) }
     requires online { 0 < announces (view pass.old).log }
     requires last { (rest : List Act) × ((view pass.old).log ≡ ReadRoot o 0 ∷ rest) }
     ensures pass { IsPassOf bank.now pass.new }
@@ -168,7 +168,7 @@ fn look_bare(bank: &Bank, pass: &mut Pass, o: u32) -> ItemRound
 #[inline(always)]
 fn look_round(bank: &Bank, pass: &mut Pass, o: u32, index: u64, root: u64) -> ItemRound
     requires pass { IsPassOf bank.now pass.old }
-    requires container { o < containers_in (shape_of bank.now) }
+    requires container { o < container_count (shape_of bank.now) }
     requires online { 0 < announces (view pass.old).log }
     requires table { (t : ℕ) → root ≡ suc t → IsTableName (shape_of bank.now) t }
     requires last { (rest : List Act) × ((view pass.old).log ≡ ReadRoot o root ∷ rest) }
@@ -192,7 +192,7 @@ fn look_round(bank: &Bank, pass: &mut Pass, o: u32, index: u64, root: u64) -> It
 #[inline(always)]
 pub(crate) fn find_item(bank: &Bank, pass: &mut Pass, o: u32, index: u64) -> LookedItem
     requires pass { IsPassOf bank.now pass.old }
-    requires container { o < containers_in (shape_of bank.now) }
+    requires container { o < container_count (shape_of bank.now) }
     requires online { 0 < announces (view pass.old).log }
     ensures pass { IsPassOf bank.now pass.new }
     ensures keeps { OnlyLoaded (view pass.old) (view pass.new) }

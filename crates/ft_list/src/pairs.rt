@@ -4,7 +4,7 @@ ghost use Rattle.ft_model.specs.declared.call.Call.TheVariants as call;
 ghost use Rattle.ft_model.specs.declared.call.ListCall.TheVariants as list;
 ghost use Rattle.ft_model.specs.declared.script.Kind.TheVariants as kind;
 ghost use Rattle.ft_model.specs.Lists.{same_items};
-ghost use Rattle.ft_trace.specs.Addresses.{containers_in};
+ghost use Rattle.ft_trace.specs.Addresses.{container_count};
 ghost use Rattle.ft_trace.specs.ContainerStates.{kind_in};
 ghost use Rattle.ft_bank.specs.Passes.{shape_of, view, IsPassOf};
 ghost use Rattle.ft_bank.specs.PassSections.{stack_of};
@@ -26,8 +26,8 @@ use ft_section::{Got, Object, Objects, Stamp, Step, let_go, take_for};
 /// Whether two lists have equal items in the same order.
 pub(crate) fn are_alike(bank: &Bank, pass: &mut Pass, l: Object, m: Object) -> bool
     requires pass { IsPassOf bank.now pass.old }
-    requires container { l < containers_in (shape_of bank.now) }
-    requires other { m < containers_in (shape_of bank.now) }
+    requires container { l < container_count (shape_of bank.now) }
+    requires other { m < container_count (shape_of bank.now) }
     ensures pass { IsPassOf bank.now pass.new }
     ensures reads { ReadsBoth (shape_of bank.now) l m
         (AreOfItems (shape_of bank.now) (λ items others. result ≡ same_items items others)) pass.old pass.new }
@@ -73,8 +73,8 @@ fn eq_locked(bank: &Bank, pass: &mut Pass, l: Object, m: Object) -> (Reply, Stam
 /// comes next. It never answers `Moved` or `NoMemory`.
 pub fn try_eq(bank: &Bank, pass: &mut Pass, l: Object, m: Object) -> Step
     requires may { MayTry bank.now pass.old (Two l m) }
-    requires container { l < containers_in (shape_of bank.now) }
-    requires other { m < containers_in (shape_of bank.now) }
+    requires container { l < container_count (shape_of bank.now) }
+    requires other { m < container_count (shape_of bank.now) }
     requires list { kind_in (shape_of bank.now).starts l ≡ kind.List }
     requires other_list { kind_in (shape_of bank.now).starts m ≡ kind.List }
     requires left { 0 < (view pass.old).left }

@@ -4,12 +4,12 @@ ghost use Rattle.std.specs.Prelude.{◌≡◌, ◌<◌, suc, true};
 ghost use Rattle.ft_layout.specs.declared.slot.Stored.{Stored};
 ghost use Rattle.ft_layout.specs.Words.{IsStored};
 ghost use Rattle.ft_trace.specs.Acts.{has_lock};
-ghost use Rattle.ft_trace.specs.Addresses.{containers_in, class_of, slots};
-ghost use Rattle.ft_trace.specs.Holds.{held};
+ghost use Rattle.ft_trace.specs.Addresses.{container_count, class_of, slots};
+ghost use Rattle.ft_trace.specs.Holds.{held_words};
 ghost use Rattle.ft_trace.specs.Pictures.{item_field, root_in};
 ghost use Rattle.ft_bank.specs.Passes.{shape_of, view, IsPassOf};
 ghost use Rattle.ft_bank.specs.PassSections.{stack_of};
-ghost use Rattle.ft_bank.specs.TableNames.{name_of, IsTableIn};
+ghost use Rattle.ft_bank.specs.TableNames.{table_id, IsTableIn};
 ghost use Rattle.ft_bank.specs.Whole.{OnlyLoaded};
 ghost use Rattle.ft_list.specs.Indexes.{IsItemValue, IsItemAt, IsItemNamed};
 ghost use Rattle.ft_reads.specs.Reads.{Reads};
@@ -26,11 +26,11 @@ use ft_section::Object;
 /// Reads the value of an item in a table.
 fn read_value(bank: &Bank, pass: &mut Pass, l: Object, table: Table, place: u64) -> Option<Value>
     requires pass { IsPassOf bank.now pass.old }
-    requires container { l < containers_in (shape_of bank.now) }
+    requires container { l < container_count (shape_of bank.now) }
     requires table { IsTableIn (shape_of bank.now) table }
-    requires place { place < slots (class_of (name_of table)) }
+    requires place { place < slots (class_of (table_id table)) }
     ensures pass { IsPassOf bank.now pass.new }
-    ensures reads { Reads (shape_of bank.now) l (IsItemValue (name_of table) place result) pass.old pass.new }
+    ensures reads { Reads (shape_of bank.now) l (IsItemValue (table_id table) place result) pass.old pass.new }
 {
     let _ = l;
     let kind = bank.read_table(pass, table, word_at(place, item_word::VALUE_KIND));
@@ -44,16 +44,16 @@ fn read_value(bank: &Bank, pass: &mut Pass, l: Object, table: Table, place: u64)
 /// What an item of a list's table stores, whose lock the pass has.
 pub(crate) fn read_stored(bank: &Bank, pass: &mut Pass, o: u32, table: Table, place: u64) -> Stored
     requires pass { IsPassOf bank.now pass.old }
-    requires container { o < containers_in (shape_of bank.now) }
+    requires container { o < container_count (shape_of bank.now) }
     requires locked { has_lock o (view pass.old).log ≡ true }
     requires table { IsTableIn (shape_of bank.now) table }
-    requires root { root_in (held o (view pass.old)) ≡ suc (name_of table) }
-    requires place { place < slots (class_of (name_of table)) }
+    requires root { root_in (held_words o (view pass.old)) ≡ suc (table_id table) }
+    requires place { place < slots (class_of (table_id table)) }
     ensures pass { IsPassOf bank.now pass.new }
     ensures stack { stack_of pass.new ≡ stack_of pass.old }
     ensures only { OnlyLoaded (view pass.old) (view pass.new) }
     ensures stored { (stored : Stored) →
-        IsStored (item_field (held o (view pass.old)).table place 1) (item_field (held o (view pass.old)).table place 2) stored →
+        IsStored (item_field (held_words o (view pass.old)).table place 1) (item_field (held_words o (view pass.old)).table place 2) stored →
         result ≡ stored }
 {
     let _ = o;
@@ -66,7 +66,7 @@ pub(crate) fn read_stored(bank: &Bank, pass: &mut Pass, o: u32, table: Table, pl
 /// root names none.
 pub(crate) fn read_item(bank: &Bank, pass: &mut Pass, l: Object, place: u64) -> Option<Value>
     requires pass { IsPassOf bank.now pass.old }
-    requires container { l < containers_in (shape_of bank.now) }
+    requires container { l < container_count (shape_of bank.now) }
     ensures pass { IsPassOf bank.now pass.new }
     ensures reads { Reads (shape_of bank.now) l (IsItemAt (shape_of bank.now) place result) pass.old pass.new }
 {
@@ -86,7 +86,7 @@ pub(crate) fn read_item(bank: &Bank, pass: &mut Pass, l: Object, place: u64) -> 
 /// Reads the item that an index names, or none.
 pub fn read_named(bank: &Bank, pass: &mut Pass, l: Object, index: i64) -> Option<Value>
     requires pass { IsPassOf bank.now pass.old }
-    requires container { l < containers_in (shape_of bank.now) }
+    requires container { l < container_count (shape_of bank.now) }
     ensures pass { IsPassOf bank.now pass.new }
     ensures reads { Reads (shape_of bank.now) l (IsItemNamed (shape_of bank.now) index result) pass.old pass.new }
 {

@@ -2,7 +2,7 @@
 //! through where no write came between them, and by one with the lock.
 ghost use Rattle.std.specs.Prelude.{◌≡◌, ◌<◌};
 ghost use Rattle.ft_model.specs.Lists.{index_of, count_of};
-ghost use Rattle.ft_trace.specs.Addresses.{containers_in};
+ghost use Rattle.ft_trace.specs.Addresses.{container_count};
 ghost use Rattle.ft_bank.specs.Passes.{shape_of, view, IsPassOf};
 ghost use Rattle.ft_reads.specs.Reads.{Reads};
 ghost use Rattle.ft_list.specs.Scans.{IsOfItems};
@@ -16,7 +16,7 @@ use ft_section::Object;
 /// The place of the first item that is equal to a value, or `None` where there is none.
 pub(crate) fn first_equal(bank: &Bank, pass: &mut Pass, l: Object, value: Value) -> Option<u64>
     requires pass { IsPassOf bank.now pass.old }
-    requires container { l < containers_in (shape_of bank.now) }
+    requires container { l < container_count (shape_of bank.now) }
     ensures pass { IsPassOf bank.now pass.new }
     ensures reads { Reads (shape_of bank.now) l (IsOfItems (shape_of bank.now) (λ items. result ≡ index_of items value))
         pass.old pass.new }
@@ -34,7 +34,7 @@ pub(crate) fn first_equal(bank: &Bank, pass: &mut Pass, l: Object, value: Value)
 /// How many items are equal to a value.
 pub(crate) fn count_equal(bank: &Bank, pass: &mut Pass, l: Object, value: Value) -> u64
     requires pass { IsPassOf bank.now pass.old }
-    requires container { l < containers_in (shape_of bank.now) }
+    requires container { l < container_count (shape_of bank.now) }
     ensures pass { IsPassOf bank.now pass.new }
     ensures reads { Reads (shape_of bank.now) l (IsOfItems (shape_of bank.now) (λ items. result ≡ count_of items value))
         pass.old pass.new }

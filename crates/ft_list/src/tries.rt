@@ -3,7 +3,7 @@ ghost use Rattle.std.specs.Prelude.{◌≡◌, ◌<◌};
 ghost use Rattle.ft_model.specs.declared.call.Call.TheVariants as call;
 ghost use Rattle.ft_model.specs.declared.call.ListCall.TheVariants as list;
 ghost use Rattle.ft_model.specs.declared.script.Kind.TheVariants as kind;
-ghost use Rattle.ft_trace.specs.Addresses.{containers_in};
+ghost use Rattle.ft_trace.specs.Addresses.{container_count};
 ghost use Rattle.ft_trace.specs.ContainerStates.{kind_in};
 ghost use Rattle.ft_bank.specs.Passes.{shape_of, view};
 ghost use Rattle.ft_section.specs.declared.answers.Objects.TheVariants.{One};
@@ -30,7 +30,7 @@ use std::alloc::Global;
 /// It never answers `Moved` or `NoMemory`.
 pub fn try_set(bank: &Bank, pass: &mut Pass, l: Object, index: i64, value: Value) -> Step
     requires may { MayTry bank.now pass.old (One l) }
-    requires container { l < containers_in (shape_of bank.now) }
+    requires container { l < container_count (shape_of bank.now) }
     requires list { kind_in (shape_of bank.now).starts l ≡ kind.List }
     requires left { 0 < (view pass.old).left }
     ensures may { MayTry bank.now pass.new (One l) }
@@ -55,7 +55,7 @@ pub fn try_set(bank: &Bank, pass: &mut Pass, l: Object, index: i64, value: Value
 /// It never answers `Moved` or `NoMemory`.
 pub fn try_del(bank: &Bank, pass: &mut Pass, l: Object, index: i64) -> Step
     requires may { MayTry bank.now pass.old (One l) }
-    requires container { l < containers_in (shape_of bank.now) }
+    requires container { l < container_count (shape_of bank.now) }
     requires list { kind_in (shape_of bank.now).starts l ≡ kind.List }
     requires left { 0 < (view pass.old).left }
     ensures may { MayTry bank.now pass.new (One l) }
@@ -80,7 +80,7 @@ pub fn try_del(bank: &Bank, pass: &mut Pass, l: Object, index: i64) -> Step
 /// It never answers `Moved` or `NoMemory`.
 pub fn try_pop(bank: &Bank, pass: &mut Pass, l: Object, index: Option<i64>) -> Step
     requires may { MayTry bank.now pass.old (One l) }
-    requires container { l < containers_in (shape_of bank.now) }
+    requires container { l < container_count (shape_of bank.now) }
     requires list { kind_in (shape_of bank.now).starts l ≡ kind.List }
     requires left { 0 < (view pass.old).left }
     ensures may { MayTry bank.now pass.new (One l) }
@@ -105,7 +105,7 @@ pub fn try_pop(bank: &Bank, pass: &mut Pass, l: Object, index: Option<i64>) -> S
 /// It never answers `Moved` or `NoMemory`.
 pub fn try_remove(bank: &Bank, pass: &mut Pass, l: Object, value: Value) -> Step
     requires may { MayTry bank.now pass.old (One l) }
-    requires container { l < containers_in (shape_of bank.now) }
+    requires container { l < container_count (shape_of bank.now) }
     requires list { kind_in (shape_of bank.now).starts l ≡ kind.List }
     requires left { 0 < (view pass.old).left }
     ensures may { MayTry bank.now pass.new (One l) }
@@ -130,7 +130,7 @@ pub fn try_remove(bank: &Bank, pass: &mut Pass, l: Object, value: Value) -> Step
 /// It never answers `Moved` or `NoMemory`.
 pub fn try_index(bank: &Bank, pass: &mut Pass, l: Object, value: Value) -> Step
     requires may { MayTry bank.now pass.old (One l) }
-    requires container { l < containers_in (shape_of bank.now) }
+    requires container { l < container_count (shape_of bank.now) }
     requires list { kind_in (shape_of bank.now).starts l ≡ kind.List }
     requires left { 0 < (view pass.old).left }
     ensures may { MayTry bank.now pass.new (One l) }
@@ -155,7 +155,7 @@ pub fn try_index(bank: &Bank, pass: &mut Pass, l: Object, value: Value) -> Step
 /// It never answers `Moved` or `NoMemory`.
 pub fn try_count(bank: &Bank, pass: &mut Pass, l: Object, value: Value) -> Step
     requires may { MayTry bank.now pass.old (One l) }
-    requires container { l < containers_in (shape_of bank.now) }
+    requires container { l < container_count (shape_of bank.now) }
     requires list { kind_in (shape_of bank.now).starts l ≡ kind.List }
     requires left { 0 < (view pass.old).left }
     ensures may { MayTry bank.now pass.new (One l) }
@@ -180,7 +180,7 @@ pub fn try_count(bank: &Bank, pass: &mut Pass, l: Object, value: Value) -> Step
 /// It never answers `Moved` or `NoMemory`.
 pub fn try_has(bank: &Bank, pass: &mut Pass, l: Object, value: Value) -> Step
     requires may { MayTry bank.now pass.old (One l) }
-    requires container { l < containers_in (shape_of bank.now) }
+    requires container { l < container_count (shape_of bank.now) }
     requires list { kind_in (shape_of bank.now).starts l ≡ kind.List }
     requires left { 0 < (view pass.old).left }
     ensures may { MayTry bank.now pass.new (One l) }
@@ -205,7 +205,7 @@ pub fn try_has(bank: &Bank, pass: &mut Pass, l: Object, value: Value) -> Step
 /// It never answers `Moved` or `NoMemory`.
 pub fn try_reverse(bank: &Bank, pass: &mut Pass, l: Object) -> Step
     requires may { MayTry bank.now pass.old (One l) }
-    requires container { l < containers_in (shape_of bank.now) }
+    requires container { l < container_count (shape_of bank.now) }
     requires list { kind_in (shape_of bank.now).starts l ≡ kind.List }
     requires left { 0 < (view pass.old).left }
     ensures may { MayTry bank.now pass.new (One l) }
@@ -238,7 +238,7 @@ pub fn try_slice(
     end: i64,
 ) -> Step
     requires may { MayTry bank.now pass.old (One l) }
-    requires container { l < containers_in (shape_of bank.now) }
+    requires container { l < container_count (shape_of bank.now) }
     requires list { kind_in (shape_of bank.now).starts l ≡ kind.List }
     requires left { 0 < (view pass.old).left }
     ensures may { MayTry bank.now pass.new (One l) }
@@ -267,7 +267,7 @@ pub fn try_slice(
 /// answers `Moved`.
 pub fn try_items(bank: &Bank, pass: &mut Pass, alloc: Global, l: Object) -> Step
     requires may { MayTry bank.now pass.old (One l) }
-    requires container { l < containers_in (shape_of bank.now) }
+    requires container { l < container_count (shape_of bank.now) }
     requires list { kind_in (shape_of bank.now).starts l ≡ kind.List }
     requires left { 0 < (view pass.old).left }
     ensures may { MayTry bank.now pass.new (One l) }

@@ -14,11 +14,11 @@ ghost use Rattle.ft_layout.specs.Words.{FitsStored, IsStored};
 ghost use Rattle.ft_trace.specs.declared.Act.TheVariants.{StartWrite};
 ghost use Rattle.ft_trace.specs.Acts.{has_committed, has_emptied, owes};
 ghost use Rattle.ft_trace.specs.Addresses.{class_of, slots};
-ghost use Rattle.ft_trace.specs.Holds.{held, known};
+ghost use Rattle.ft_trace.specs.Holds.{held_words, known_state};
 ghost use Rattle.ft_trace.specs.Pictures.{item_field, root_in};
 ghost use Rattle.ft_bank.specs.Passes.{shape_of, view, IsPassOf, Did};
 ghost use Rattle.ft_bank.specs.PassSections.{stack_of};
-ghost use Rattle.ft_bank.specs.TableNames.{name_of};
+ghost use Rattle.ft_bank.specs.TableNames.{table_id};
 ghost use Rattle.ft_bank.specs.Whole.{OnlyLoaded, OnlyPut, Wrote};
 ghost use Rattle.ft_list.specs.ListItemWrites.{WritesList, IsPutting, IsMoving, known_items, stored_item};
 ghost use Rattle.ft_list.specs.ListWrites.{MayWriteList, Changes};
@@ -43,13 +43,13 @@ pub(crate) fn begin(bank: &Bank, pass: &mut Pass, o: u32, table: Table)
     ensures did { (f : ℕ) × Did (StartWrite o f) pass.old pass.new }
     ensures list { WritesList (shape_of bank.now) o table (view pass.new) }
     ensures putting { (first past : ℕ) →
-        IsPutting (class_of (name_of table)) (known_items o (view pass.old)) first past
-        (stored_item (known_items o (view pass.old))) (held o (view pass.new)).table }
-    ensures content { (known o (view pass.old)).content ≡ content.List (known_items o (view pass.old)) }
-    ensures table { (known o (view pass.old)).table ≡ record { class = Some (class_of (name_of table)); fill = 0; keys = [] } }
-    ensures head { IsBlock (held o (view pass.new)).block (Some (class_of (name_of table)))
+        IsPutting (class_of (table_id table)) (known_items o (view pass.old)) first past
+        (stored_item (known_items o (view pass.old))) (held_words o (view pass.new)).table }
+    ensures content { (known_state o (view pass.old)).content ≡ content.List (known_items o (view pass.old)) }
+    ensures table { (known_state o (view pass.old)).table ≡ record { class = Some (class_of (table_id table)); fill = 0; keys = [] } }
+    ensures head { IsBlock (held_words o (view pass.new)).block (Some (class_of (table_id table)))
         (length (known_items o (view pass.old))) 0 0 }
-    ensures few { length (known_items o (view pass.old)) ≤ slots (class_of (name_of table)) }
+    ensures few { length (known_items o (view pass.old)) ≤ slots (class_of (table_id table)) }
 {
     let _ = table;
     bank.start_write(pass, o);
@@ -76,7 +76,7 @@ pub(crate) fn set_item(
     ensures pass { IsPassOf bank.now pass.new }
     ensures stack { stack_of pass.new ≡ stack_of pass.old }
     ensures wrote { Wrote called.now said.now result (view pass.old) (view pass.new) }
-    ensures root { root_in (held o (view pass.new)) ≡ root_in (held o (view pass.old)) }
+    ensures root { root_in (held_words o (view pass.new)) ≡ root_in (held_words o (view pass.old)) }
 {
     begin(bank, pass, o, table);
     put_item(bank, pass, o, table, place, Stored::Plain(value));
@@ -96,19 +96,19 @@ pub(crate) fn shift_up(
     requires pass { IsPassOf bank.now pass.old }
     requires list { WritesList (shape_of bank.now) o table (view pass.old) }
     requires early { has_committed o (view pass.old).log ≡ false }
-    requires place { (place ≤ count) × (count < slots (class_of (name_of table))) }
+    requires place { (place ≤ count) × (count < slots (class_of (table_id table))) }
     requires value { FitsStored (Plain value) }
     requires before { (values : List Value) × (length values ≡ count)
-        × IsPutting (class_of (name_of table)) values place (count + 1) (stored_item values) (held o (view pass.old)).table }
+        × IsPutting (class_of (table_id table)) values place (count + 1) (stored_item values) (held_words o (view pass.old)).table }
     ensures pass { IsPassOf bank.now pass.new }
     ensures stack { stack_of pass.new ≡ stack_of pass.old }
     ensures list { WritesList (shape_of bank.now) o table (view pass.new) }
     ensures only { OnlyPut o (view pass.old) (view pass.new) }
-    ensures block { (held o (view pass.new)).block ≡ (held o (view pass.old)).block }
+    ensures block { (held_words o (view pass.new)).block ≡ (held_words o (view pass.old)).block }
     ensures moved { (values : List Value) → length values ≡ count →
-        IsPutting (class_of (name_of table)) values place (count + 1) (stored_item values) (held o (view pass.old)).table →
-        IsMoving (class_of (name_of table)) values (insert values place value) place (count + 1) (count + 1)
-        (held o (view pass.new)).table }
+        IsPutting (class_of (table_id table)) values place (count + 1) (stored_item values) (held_words o (view pass.old)).table →
+        IsMoving (class_of (table_id table)) values (insert values place value) place (count + 1) (count + 1)
+        (held_words o (view pass.new)).table }
 {
     let mut carried = Stored::Plain(value);
     for at in place..count + 1 {
@@ -134,13 +134,13 @@ pub(crate) fn add_items(
     requires table { HasTable (shape_of bank.now) o table (view pass.old) }
     requires addition { IsAddition (shape_of bank.now) count addition (view pass.old) }
     requires count { count ≡ length (known_items o (view pass.old)) }
-    requires room { count + count_in addition ≤ slots (class_of (name_of table)) }
+    requires room { count + count_in addition ≤ slots (class_of (table_id table)) }
     requires call { (lc : ListCall) × (called.now ≡ call.List o lc) × Changes o lc reply.Done
         (known_items o (view pass.old)) (with_added addition (view pass.old) (known_items o (view pass.old))) (view pass.old) }
     ensures pass { IsPassOf bank.now pass.new }
     ensures stack { stack_of pass.new ≡ stack_of pass.old }
     ensures wrote { Wrote called.now reply.Done result (view pass.old) (view pass.new) }
-    ensures root { root_in (held o (view pass.new)) ≡ root_in (held o (view pass.old)) }
+    ensures root { root_in (held_words o (view pass.new)) ≡ root_in (held_words o (view pass.old)) }
 {
     begin(bank, pass, o, table);
     put_added(bank, pass, o, table, addition, count);
@@ -164,18 +164,18 @@ fn shift_down(bank: &Bank, pass: &mut Pass, o: u32, table: Table, place: u64, co
     requires pass { IsPassOf bank.now pass.old }
     requires list { WritesList (shape_of bank.now) o table (view pass.old) }
     requires early { has_committed o (view pass.old).log ≡ false }
-    requires place { (place < count) × (count ≤ slots (class_of (name_of table))) }
+    requires place { (place < count) × (count ≤ slots (class_of (table_id table))) }
     requires before { (values : List Value) × (length values ≡ count)
-        × IsPutting (class_of (name_of table)) values place count (stored_item values) (held o (view pass.old)).table }
+        × IsPutting (class_of (table_id table)) values place count (stored_item values) (held_words o (view pass.old)).table }
     ensures pass { IsPassOf bank.now pass.new }
     ensures stack { stack_of pass.new ≡ stack_of pass.old }
     ensures list { WritesList (shape_of bank.now) o table (view pass.new) }
     ensures only { OnlyPut o (view pass.old) (view pass.new) }
-    ensures block { (held o (view pass.new)).block ≡ (held o (view pass.old)).block }
+    ensures block { (held_words o (view pass.new)).block ≡ (held_words o (view pass.old)).block }
     ensures moved { (values : List Value) → length values ≡ count →
-        IsPutting (class_of (name_of table)) values place count (stored_item values) (held o (view pass.old)).table →
-        IsMoving (class_of (name_of table)) values (remove values place) place count count
-        (held o (view pass.new)).table }
+        IsPutting (class_of (table_id table)) values place count (stored_item values) (held_words o (view pass.old)).table →
+        IsMoving (class_of (table_id table)) values (remove values place) place count count
+        (held_words o (view pass.new)).table }
 {
     for at in place..count {
         let next = item_or_none(bank, pass, o, table, at + 1, count);
@@ -194,14 +194,14 @@ fn item_or_none(
 ) -> Stored
     requires pass { IsPassOf bank.now pass.old }
     requires list { WritesList (shape_of bank.now) o table (view pass.old) }
-    requires count { count ≤ slots (class_of (name_of table)) }
+    requires count { count ≤ slots (class_of (table_id table)) }
     ensures pass { IsPassOf bank.now pass.new }
     ensures stack { stack_of pass.new ≡ stack_of pass.old }
     ensures list { WritesList (shape_of bank.now) o table (view pass.new) }
     ensures only { OnlyLoaded (view pass.old) (view pass.new) }
-    ensures held { held o (view pass.new) ≡ held o (view pass.old) }
+    ensures held { held_words o (view pass.new) ≡ held_words o (view pass.old) }
     ensures stored { (stored : Stored) → (place < count → IsStored
-        (item_field (held o (view pass.old)).table place 1) (item_field (held o (view pass.old)).table place 2) stored) →
+        (item_field (held_words o (view pass.old)).table place 1) (item_field (held_words o (view pass.old)).table place 2) stored) →
         (count ≤ place → stored ≡ Empty) → result ≡ stored }
     ensures fits { FitsStored result }
 {
@@ -234,7 +234,7 @@ pub(crate) fn remove_item(
     ensures pass { IsPassOf bank.now pass.new }
     ensures stack { stack_of pass.new ≡ stack_of pass.old }
     ensures wrote { Wrote called.now said.now result (view pass.old) (view pass.new) }
-    ensures root { root_in (held o (view pass.new)) ≡ root_in (held o (view pass.old)) }
+    ensures root { root_in (held_words o (view pass.new)) ≡ root_in (held_words o (view pass.old)) }
 {
     begin(bank, pass, o, table);
     shift_down(bank, pass, o, table, place, count);

@@ -5,30 +5,30 @@ use Rattle.ft_model.specs.declared.script.Kind.TheVariants as kind
 use Rattle.ft_trace.specs.declared.Act.TheVariants.{ReadBlock, StartWrite}
 use Rattle.ft_trace.specs.declared.Shape.{Shape}
 use Rattle.ft_trace.specs.declared.View.{View}
-use Rattle.ft_trace.specs.Acts.{has_committed, has_lock, is_writing, noted}
-use Rattle.ft_trace.specs.Addresses.{class_of, containers_in, slots}
-use Rattle.ft_trace.specs.Holds.{held}
+use Rattle.ft_trace.specs.Acts.{has_committed, has_lock, is_writing, view_after}
+use Rattle.ft_trace.specs.Addresses.{class_of, container_count, slots}
+use Rattle.ft_trace.specs.Holds.{held_words}
 use Rattle.ft_trace.specs.Pictures.{root_in}
 use Rattle.ft_trace.specs.ContainerStates.{kind_in}
 use Rattle.ft_trace.proofs.Cases.{hit}
 use Rattle.ft_bank.specs.declared.table.Table.{Table}
-use Rattle.ft_bank.specs.TableNames.{name_of, IsTableIn}
+use Rattle.ft_bank.specs.TableNames.{table_id, IsTableIn}
 use Rattle.ft_bank.proofs.TableAddresses.{class_is}
 use Rattle.ft_bank.proofs.KnownAfterWrites.{loaded_by, loaded_held}
 use Rattle.ft_list.specs.ListItemWrites.{WritesList}
 
-module _ (k : Shape) (o root f : ℕ) (v u w : View) (read : u ≡ noted (ReadBlock o 0 root) v) (start : w ≡ noted (StartWrite o f) u) where
-  pub begun_list : (t : Table) → o < containers_in k → kind_in k.starts o ≡ kind.List → has_lock o v.log ≡ true → root ≡ root_in (held o v) → root ≡ suc (name_of t) → IsTableIn k t → WritesList k o t w
+module _ (k : Shape) (o root f : ℕ) (v u w : View) (read : u ≡ view_after (ReadBlock o 0 root) v) (start : w ≡ view_after (StartWrite o f) u) where
+  pub begun_list : (t : Table) → o < container_count k → kind_in k.starts o ≡ kind.List → has_lock o v.log ≡ true → root ≡ root_in (held_words o v) → root ≡ suc (table_id t) → IsTableIn k t → WritesList k o t w
   begun_list t low list locked found names is = record {
     container = low;
     kind = list;
     table_in = is;
     locked = ap (λ (z : View). has_lock o z.log) start ∙ (ap (λ (z : View). has_lock o z.log) read ∙ locked);
     odd = ap (λ (z : View). is_writing o z.log) start ∙ hit o true (is_writing o u.log);
-    root = ap (λ (z : View). root_in (held o z)) start ∙ (ap root_in (loaded_held v u o (loaded_by (ReadBlock o 0 root) v u tt read)) ∙ (sym found ∙ names));
+    root = ap (λ (z : View). root_in (held_words o z)) start ∙ (ap root_in (loaded_held v u o (loaded_by (ReadBlock o 0 root) v u tt read)) ∙ (sym found ∙ names));
   }
 
-  pub begun_lists : (result : Option Table) → IfSome result (λ (t : Table). root ≡ suc (name_of t)) → IfSome result (λ (t : Table). IsTableIn k t) → o < containers_in k → kind_in k.starts o ≡ kind.List → has_lock o v.log ≡ true → root ≡ root_in (held o v) → IfSome result (λ (t : Table). WritesList k o t w)
+  pub begun_lists : (result : Option Table) → IfSome result (λ (t : Table). root ≡ suc (table_id t)) → IfSome result (λ (t : Table). IsTableIn k t) → o < container_count k → kind_in k.starts o ≡ kind.List → has_lock o v.log ≡ true → root ≡ root_in (held_words o v) → IfSome result (λ (t : Table). WritesList k o t w)
   begun_lists None names is low list locked found = tt
   begun_lists (Some t) names is low list locked found = begun_list t low list locked found names is
 
@@ -36,6 +36,6 @@ module _ (k : Shape) (o root f : ℕ) (v u w : View) (read : u ≡ noted (ReadBl
   begun_early = ap (λ (z : View). has_committed o z.log) start ∙ hit o false (has_committed o u.log)
 
 -- a table of class 3 has a place for item 3
-pub has_third : (k : Shape) (t : Table) → IsTableIn k t → t.class ≡ 3 → 3 < slots (class_of (name_of t))
+pub has_third : (k : Shape) (t : Table) → IsTableIn k t → t.class ≡ 3 → 3 < slots (class_of (table_id t))
 unfolding slots
 has_third k t is class = subst (λ (c : ℕ). 3 < slots c) (sym (class_is t is.2 ∙ class)) (omega arith)

@@ -2,7 +2,7 @@
 ghost use Rattle.std.specs.Prelude.{◌≡◌, ◌<◌, true, IfSome};
 ghost use Rattle.ft_model.specs.declared.script.Kind.TheVariants as kind;
 ghost use Rattle.ft_bank.specs.Passes.{shape_of, IsPassOf};
-ghost use Rattle.ft_trace.specs.Addresses.{containers_in};
+ghost use Rattle.ft_trace.specs.Addresses.{container_count};
 ghost use Rattle.ft_trace.specs.ContainerStates.{kind_in};
 ghost use Rattle.ft_section.specs.declared.answers.Step.TheVariants as steps;
 ghost use Rattle.ft_list_tests.specs.TestCalls.{HasTwoLists, MayTryAny};
@@ -31,7 +31,7 @@ fn made(step: Step) -> Option<(Reply, Stamp)>
 /// Whether it is the number of one of the two lists.
 pub(crate) fn is_list(bank: &Bank, l: u32) -> bool
     requires lists { HasTwoLists bank.now }
-    ensures container { result ≡ true → l < containers_in (shape_of bank.now) }
+    ensures container { result ≡ true → l < container_count (shape_of bank.now) }
     ensures list { kind_in (shape_of bank.now).starts l ≡ kind.List }
 {
     let _ = bank;

@@ -2,11 +2,11 @@
 ghost use Rattle.std.specs.Prelude.{◌≡◌, ◌<◌, true, false, IfSome, OnOk};
 ghost use Rattle.ft_model.specs.declared.script.Kind.TheVariants as kind;
 ghost use Rattle.ft_trace.specs.Acts.{has_committed, has_lock, is_writing};
-ghost use Rattle.ft_trace.specs.Addresses.{class_of, containers_in, slots};
+ghost use Rattle.ft_trace.specs.Addresses.{class_of, container_count, slots};
 ghost use Rattle.ft_trace.specs.Pictures.{item_offset};
 ghost use Rattle.ft_trace.specs.ContainerStates.{kind_in};
 ghost use Rattle.ft_bank.specs.Passes.{shape_of, view, IsPassOf};
-ghost use Rattle.ft_bank.specs.TableNames.{name_of};
+ghost use Rattle.ft_bank.specs.TableNames.{table_id};
 ghost use Rattle.ft_list.specs.ListItemWrites.{WritesList};
 ghost use Rattle.ft_list_tests.specs.TestCalls.{HasTwoLists, MayTryAny};
 
@@ -36,7 +36,7 @@ fn version_at(place: u64) -> u64
 /// Makes the version of a list odd whose lock the pass has, and answers its table.
 fn begin(bank: &Bank, writer: &mut Pass, l: u32) -> Option<Table>
     requires pass { IsPassOf bank.now writer.old }
-    requires container { l < containers_in (shape_of bank.now) }
+    requires container { l < container_count (shape_of bank.now) }
     requires list { kind_in (shape_of bank.now).starts l ≡ kind.List }
     requires locked { has_lock l (view writer.old).log ≡ true }
     requires even { is_writing l (view writer.old).log ≡ false }
@@ -54,7 +54,7 @@ fn open_item(bank: &Bank, writer: &mut Pass, l: u32, table: Table, place: u64) -
     requires pass { IsPassOf bank.now writer.old }
     requires list { WritesList (shape_of bank.now) l table (view writer.old) }
     requires early { has_committed l (view writer.old).log ≡ false }
-    requires place { place < slots (class_of (name_of table)) }
+    requires place { place < slots (class_of (table_id table)) }
 {
     let word = version_at(place);
     let version = bank.read_table(writer, table, word);

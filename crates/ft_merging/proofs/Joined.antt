@@ -19,15 +19,15 @@ use Rattle.ft_keys.specs.Ways.{IsTableOf}
 use Rattle.ft_trace.specs.declared.Shape.{Shape}
 use Rattle.ft_trace.specs.declared.View.{View}
 use Rattle.ft_trace.specs.Acts.{has_emptied, is_writing, owes}
-use Rattle.ft_trace.specs.Addresses.{class_of, containers_in, slots}
+use Rattle.ft_trace.specs.Addresses.{class_of, container_count, slots}
 use Rattle.ft_trace.specs.Carefuls.{HasLiveKey}
-use Rattle.ft_trace.specs.Holds.{held, known}
+use Rattle.ft_trace.specs.Holds.{held_words, known_state}
 use Rattle.ft_trace.specs.Kinds.{ClearAs, IsKeyed, rows, under}
-use Rattle.ft_trace.specs.Pictures.{Picture, root_in}
+use Rattle.ft_trace.specs.Pictures.{ContainerWords, root_in}
 use Rattle.ft_trace.specs.ContainerStates.{ContainerState, changes, state_at, kind_in, reply_in}
 use Rattle.ft_trace.specs.WholeWrites.{MayPuts, with_puts}
 use Rattle.ft_bank.specs.declared.table.Table.{Table}
-use Rattle.ft_bank.specs.TableNames.{name_of}
+use Rattle.ft_bank.specs.TableNames.{table_id}
 use Rattle.ft_bank.specs.Whole.{OnlyLoaded, OnlyPut}
 use Rattle.ft_bank.specs.WriteSteps.{MayCommit, MayHave}
 use Rattle.ft_bank.proofs.KnownAfterWrites.{loaded_held, work_knows}
@@ -57,27 +57,27 @@ use Rattle.ft_merging.proofs.Thinned.{midway_loaded}
 
 pub joining_loaded : (k : Shape) (o : ℕ) (by : Way) (own : Table) (t : ℕ) (table : Table) (goal : Content) (end place : ℕ) (counts : Counts) (v w : View) → OnlyLoaded v w → IsJoining k o by own t table goal end place counts v → IsJoining k o by own t table goal end place counts w
 joining_loaded k o by own t table goal end place counts v w only j =
-    let other : held t v ≡ held t w = sym (loaded_held v w t only) in
-    let mine : held o v ≡ held o w = sym (loaded_held v w o only) in
+    let other : held_words t v ≡ held_words t w = sym (loaded_held v w t only) in
+    let mine : held_words o v ≡ held_words o w = sym (loaded_held v w o only) in
     record {
       mid = j.mid;
-      midway = midway_loaded k o own (record { content = j.mid; table = use_with (class_of (name_of own)) counts.fill }) v w only j.midway;
+      midway = midway_loaded k o own (record { content = j.mid; table = use_with (class_of (table_id own)) counts.fill }) v w only j.midway;
       same_kind = j.same_kind;
       kind_is = j.kind_is;
       count_is = j.count_is;
       next_is = j.next_is;
-      alive = subst (λ (x : Picture). NoneGone (name_of own) (rows (kind_in k.starts o) (class_of (name_of own))) x) mine j.alive;
+      alive = subst (λ (x : ContainerWords). NoneGone (table_id own) (rows (kind_in k.starts o) (class_of (table_id own))) x) mine j.alive;
       room = j.room;
       used = j.used;
       filled = j.filled ∙ ap (λ (z : ContainerState). z.table.fill) (sym (work_knows v w t only.work));
-      source = subst (λ (x : Picture). IsTableOf by k.texts (class_mask (class_of (name_of table))) j.used (0 ∷ 0 ∷ x.table)) other j.source;
+      source = subst (λ (x : ContainerWords). IsTableOf by k.texts (class_mask (class_of (table_id table))) j.used (0 ∷ 0 ∷ x.table)) other j.source;
       left = j.left;
-      ahead = subst (λ (x : Picture). NoneAhead (name_of own) (rows (kind_in k.starts o) (class_of (name_of own))) x (drop place j.used)) mine j.ahead;
+      ahead = subst (λ (x : ContainerWords). NoneAhead (table_id own) (rows (kind_in k.starts o) (class_of (table_id own))) x (drop place j.used)) mine j.ahead;
     }
 
 -- ---- one more entry
 
-module _ (k : Shape) (o : ℕ) (by : Way) (own : Table) (t : ℕ) (table : Table) (goal : Content) (end place : ℕ) (counts : Counts) (v : View) (j : IsJoining k o by own t table goal end place counts v) (low : place < (known t v).table.fill) (any : UsedEntry) where
+module _ (k : Shape) (o : ℕ) (by : Way) (own : Table) (t : ℕ) (table : Table) (goal : Content) (end place : ℕ) (counts : Counts) (v : View) (j : IsJoining k o by own t table goal end place counts v) (low : place < (known_state t v).table.fill) (any : UsedEntry) where
   abbrev e : UsedEntry
   e = slice_index_or j.used place any
 
@@ -92,12 +92,12 @@ module _ (k : Shape) (o : ℕ) (by : Way) (own : Table) (t : ℕ) (table : Table
 
   -- the entries that are left after it
   abbrev m : ℕ
-  m = rows (kind_in k.starts o) (class_of (name_of own))
+  m = rows (kind_in k.starts o) (class_of (table_id own))
 
-  ahead_here : NoneAhead (name_of own) m (held o v) (e ∷ later)
-  ahead_here = subst (NoneAhead (name_of own) m (held o v)) (drop_more j.used place any inside) j.ahead
+  ahead_here : NoneAhead (table_id own) m (held_words o v) (e ∷ later)
+  ahead_here = subst (NoneAhead (table_id own) m (held_words o v)) (drop_more j.used place any inside) j.ahead
 
-  ahead_later : NoneAhead (name_of own) m (held o v) later
+  ahead_later : NoneAhead (table_id own) m (held_words o v) later
   ahead_later p key less odd fits live i d few = ahead_here p key less odd fits live (suc i) d (omega (arith, few))
 
   -- it was deleted
@@ -127,24 +127,24 @@ module _ (k : Shape) (o : ℕ) (by : Way) (own : Table) (t : ℕ) (table : Table
     none_later = rest_none (record { key = key; serial = e.serial; stored = Some stored }) later refl (step key (Some stored) same is).apart
 
     -- its key is there, at this place
-    module _ (laws : ValueLaws) (fits : FitsKey key) (ok : FitsStored stored) (at : ℕ) (room : at < rows (kind_by by) (class_of (name_of own))) (live : HasLiveKey (slots (class_of (name_of own))) (held o v).table at key) where
+    module _ (laws : ValueLaws) (fits : FitsKey key) (ok : FitsStored stored) (at : ℕ) (room : at < rows (kind_by by) (class_of (table_id own))) (live : HasLiveKey (slots (class_of (table_id own))) (held_words o v).table at key) where
       pub there_low : at < m
-      there_low = subst (λ (y : Kind). at < rows y (class_of (name_of own))) (sym j.kind_is) room
+      there_low = subst (λ (y : Kind). at < rows y (class_of (table_id own))) (sym j.kind_is) room
 
       -- it isn't written yet
-      even : version_of (name_of own) (held o v) at % 2 ≡ 0
+      even : version_of (table_id own) (held_words o v) at % 2 ≡ 0
       even =
-          ⊎_elim (λ (two : version_of (name_of own) (held o v) at % 2 ≡ 0). two)
-          (λ (odd : version_of (name_of own) (held o v) at % 2 ≡ 1). absurd (ahead_here at key there_low odd fits live 0 e (omega arith) (ap is_some is) (sym same)))
-          (parity (version_of (name_of own) (held o v) at))
+          ⊎_elim (λ (two : version_of (table_id own) (held_words o v) at % 2 ≡ 0). two)
+          (λ (odd : version_of (table_id own) (held_words o v) at % 2 ≡ 1). absurd (ahead_here at key there_low odd fits live 0 e (omega arith) (ap is_some is) (sym same)))
+          (parity (version_of (table_id own) (held_words o v) at))
 
       kinds : kind_of j.mid ≡ kind_in k.starts o
       kinds = j.same_kind ∙ sym j.kind_is
 
-      pub joining_may : (before : Content) → MayPuts (kind_in k.starts o) (name_of own) before false (held o v) (stored_puts (slots (class_of (name_of own))) (held o v).table at stored)
+      pub joining_may : (before : Content) → MayPuts (kind_in k.starts o) (table_id own) before false (held_words o v) (stored_puts (slots (class_of (table_id own))) (held_words o v).table at stored)
       joining_may before = there_may laws k o own counts.fill v at key fits there_low live even j.mid stored j.midway kinds stores ok before
 
-      pub joining_there : holds j.mid key ≡ true → (z : View) → OnlyPut o v z → held o z ≡ with_puts (held o v) (stored_puts (slots (class_of (name_of own))) (held o v).table at stored) → WritesEntries k o own z → held t z ≡ held t v → IsJoining k o by own t table goal end (place + 1) counts z
+      pub joining_there : holds j.mid key ≡ true → (z : View) → OnlyPut o v z → held_words o z ≡ with_puts (held_words o v) (stored_puts (slots (class_of (table_id own))) (held_words o v).table at stored) → WritesEntries k o own z → held_words t z ≡ held_words t v → IsJoining k o by own t table goal end (place + 1) counts z
       joining_there there z only words writes other =
           let put = there_put laws k o own counts.fill v at key fits there_low live even j.mid stored j.midway kinds stores ok there j.alive z only words writes in
           let more = counts_same j.mid key stored stores there in
@@ -163,7 +163,7 @@ module _ (k : Shape) (o : ℕ) (by : Way) (own : Table) (t : ℕ) (table : Table
             room = j.room;
             used = j.used;
             filled = j.filled ∙ ap (λ (y : ContainerState). y.table.fill) (sym (work_knows v z t only.work));
-            source = subst (λ (x : Picture). IsTableOf by k.texts (class_mask (class_of (name_of table))) j.used (0 ∷ 0 ∷ x.table)) (sym other) j.source;
+            source = subst (λ (x : ContainerWords). IsTableOf by k.texts (class_mask (class_of (table_id table))) j.used (0 ∷ 0 ∷ x.table)) (sym other) j.source;
             left = left_there (kind_by by) j.mid goal j.same_kind counts.fill end key e.serial later stored (step key (Some stored) same is) there;
             ahead = ahead_there k o own (with_key j.mid key stored) counts.fill at v z put key fits live later ahead_later none_later;
           }
@@ -173,15 +173,15 @@ module _ (k : Shape) (o : ℕ) (by : Way) (own : Table) (t : ℕ) (table : Table
       abbrev next : AreLeft (kind_by by) (with_key j.mid key stored) goal (counts.fill + 1) end later × (counts.fill < end) × (length_of j.mid < 65536) × (serial_of j.mid + 1 < 2 ^ 63)
       next = left_new (kind_by by) j.mid goal j.same_kind counts.fill end key e.serial later stored (step key (Some stored) same is) (holds_none j.mid key absent)
 
-      pub new_room : counts.fill < rows (kind_in k.starts o) (class_of (name_of own))
+      pub new_room : counts.fill < rows (kind_in k.starts o) (class_of (table_id own))
       new_room = let n = next.1 in let r = j.room in omega (arith, n, r)
 
       pub new_few : (counts.count < 65536) × (counts.next + 1 < 2 ^ 63)
       new_few = let a = next.2 in let b = next.3 in let c = j.count_is in let d = j.next_is in (omega (arith, a, c), omega (arith, b, d))
 
-      module _ (laws : PlaceLaws) (slot : ℕ) (fits : FitsKey key) (hash : hash_of k.texts key < 2 ^ 64) (ok : FitsStored stored) (free : IsFreeFor k.texts by own.class key (held o v).table slot) (z : View) (only : OnlyPut o v z) (words : held o z ≡ with_entry (name_of own) slot counts (pair_for k.texts j.mid key stored) (held o v)) (writes : WritesEntries k o own z) (other : held t z ≡ held t v) where
-        room_by : counts.fill < rows (kind_by by) (class_of (name_of own))
-        room_by = subst (λ (y : Kind). counts.fill < rows y (class_of (name_of own))) j.kind_is new_room
+      module _ (laws : PlaceLaws) (slot : ℕ) (fits : FitsKey key) (hash : hash_of k.texts key < 2 ^ 64) (ok : FitsStored stored) (free : IsFreeFor k.texts by own.class key (held_words o v).table slot) (z : View) (only : OnlyPut o v z) (words : held_words o z ≡ with_entry (table_id own) slot counts (pair_for k.texts j.mid key stored) (held_words o v)) (writes : WritesEntries k o own z) (other : held_words t z ≡ held_words t v) where
+        room_by : counts.fill < rows (kind_by by) (class_of (table_id own))
+        room_by = subst (λ (y : Kind). counts.fill < rows y (class_of (table_id own))) j.kind_is new_room
 
         pub joining_new : IsJoining k o by own t table goal end (place + 1) (record { count = counts.count + 1; fill = counts.fill + 1; next = counts.next + 1 }) z
         joining_new =
@@ -201,7 +201,7 @@ module _ (k : Shape) (o : ℕ) (by : Way) (own : Table) (t : ℕ) (table : Table
               room = j.room;
               used = j.used;
               filled = j.filled ∙ ap (λ (y : ContainerState). y.table.fill) (sym (work_knows v z t only.work));
-              source = subst (λ (x : Picture). IsTableOf by k.texts (class_mask (class_of (name_of table))) j.used (0 ∷ 0 ∷ x.table)) (sym other) j.source;
+              source = subst (λ (x : ContainerWords). IsTableOf by k.texts (class_mask (class_of (table_id table))) j.used (0 ∷ 0 ∷ x.table)) (sym other) j.source;
               left = next.0;
               ahead = ahead_put laws k o by own j.mid counts v j.midway j.same_kind j.kind_is j.count_is j.alive slot key stored fits hash stores ok absent free room_by z only words writes later ahead_later none_later;
             }
@@ -216,23 +216,23 @@ cap_few (content.List values) not = ltb-false _ _ not
 cap_few (content.Deque deque) not = ltb-false _ _ not
 
 -- what there is then
-pub joined_more : (k : Shape) (by : Way) (t : ℕ) (table : Table) (v : View) (s : Source k by t table v) (d : Content) → kind_of d ≡ kind_by by → (length_of (joined d (known t v).content) ≡ length_of d + lacking d s.used) × (new_keys d (known t v).content ≡ lacking d s.used) × (serial_of (joined d (known t v).content) ≡ serial_of d + lacking d s.used)
+pub joined_more : (k : Shape) (by : Way) (t : ℕ) (table : Table) (v : View) (s : Source k by t table v) (d : Content) → kind_of d ≡ kind_by by → (length_of (joined d (known_state t v).content) ≡ length_of d + lacking d s.used) × (new_keys d (known_state t v).content ≡ lacking d s.used) × (serial_of (joined d (known_state t v).content) ≡ serial_of d + lacking d s.used)
 joined_more k by t table v s d same_kind =
     let comes = s.comes d same_kind in
     let counts = joined_counts (kind_by by) s.used d same_kind s.apart s.stores in
-    let n : length_of (joined d (known t v).content) ≡ length_of d + lacking d s.used = ap length_of (sym comes) ∙ counts.0 in
-    let r : serial_of (joined d (known t v).content) ≡ serial_of d + lacking d s.used = ap serial_of (sym comes) ∙ counts.1 in
+    let n : length_of (joined d (known_state t v).content) ≡ length_of d + lacking d s.used = ap length_of (sym comes) ∙ counts.0 in
+    let r : serial_of (joined d (known_state t v).content) ≡ serial_of d + lacking d s.used = ap serial_of (sym comes) ∙ counts.1 in
     (n, omega (arith, r), r)
 
-pub joining_begins : (k : Shape) (o : ℕ) (by : Way) (own : Table) (t : ℕ) (table : Table) (d : Content) (counts : Counts) (more : ℕ) (u : View) → IsMidway k o own (record { content = d; table = use_with (class_of (name_of own)) counts.fill }) u → kind_of d ≡ kind_by by → kind_in k.starts o ≡ kind_by by → counts.count ≡ length_of d → counts.next ≡ serial_of d
-    → NoneGone (name_of own) (rows (kind_in k.starts o) (class_of (name_of own))) (held o u) → ((p : ℕ) → p < rows (kind_in k.starts o) (class_of (name_of own)) → version_of (name_of own) (held o u) p % 2 ≡ 0) → Source k by t table u → passes_cap (joined d (known t u).content) ≡ false → serial_of d + 65536 < 2 ^ 63 → more ≡ new_keys d (known t u).content → counts.fill + more ≤ rows (kind_in k.starts o) (class_of (name_of own))
-    → IsJoining k o by own t table (joined d (known t u).content) (counts.fill + more) 0 counts u
+pub joining_begins : (k : Shape) (o : ℕ) (by : Way) (own : Table) (t : ℕ) (table : Table) (d : Content) (counts : Counts) (more : ℕ) (u : View) → IsMidway k o own (record { content = d; table = use_with (class_of (table_id own)) counts.fill }) u → kind_of d ≡ kind_by by → kind_in k.starts o ≡ kind_by by → counts.count ≡ length_of d → counts.next ≡ serial_of d
+    → NoneGone (table_id own) (rows (kind_in k.starts o) (class_of (table_id own))) (held_words o u) → ((p : ℕ) → p < rows (kind_in k.starts o) (class_of (table_id own)) → version_of (table_id own) (held_words o u) p % 2 ≡ 0) → Source k by t table u → passes_cap (joined d (known_state t u).content) ≡ false → serial_of d + 65536 < 2 ^ 63 → more ≡ new_keys d (known_state t u).content → counts.fill + more ≤ rows (kind_in k.starts o) (class_of (table_id own))
+    → IsJoining k o by own t table (joined d (known_state t u).content) (counts.fill + more) 0 counts u
 joining_begins k o by own t table d counts more u midway same_kind kind_eq count_is next_is alive evens s cap serials more_is room =
     let j = joined_more k by t table u s d same_kind in
     let n = j.0 in
     let m = j.1 in
-    let few = cap_few (joined d (known t u).content) cap in
-    let most = most_few (joined d (known t u).content) in
+    let few = cap_few (joined d (known_state t u).content) cap in
+    let most = most_few (joined d (known_state t u).content) in
     record {
       mid = d;
       midway = midway;
@@ -258,16 +258,16 @@ joining_begins k o by own t table d counts more u midway same_kind kind_eq count
 
 -- ---- after the last one
 
-module _ (laws : Laws) (k : Shape) (o : ℕ) (by : Way) (own : Table) (t : ℕ) (table : Table) (end fill : ℕ) (counts : Counts) (v u : View) (since : Since o v u) (shape : v.shape ≡ k) (low : o < containers_in k) (some : 0 < v.left) (called : Call) (joins : JoinsKeys o t called v) (cap : passes_cap (joined (known o v).content (known t v).content) ≡ false)
-    (takes : (found : StoredWorld) (class : ℕ) → MayHave v found → owes v.log ≡ suc class → takes_in found called ≡ Some class) (left_table : (joined_state (known o v) (known t v).content).table ≡ use_with (class_of (name_of own)) end) (j : IsJoining k o by own t table (joined (known o v).content (known t v).content) end fill counts u) (all : fill ≡ (known t u).table.fill) where
+module _ (laws : Laws) (k : Shape) (o : ℕ) (by : Way) (own : Table) (t : ℕ) (table : Table) (end fill : ℕ) (counts : Counts) (v u : View) (since : Since o v u) (shape : v.shape ≡ k) (low : o < container_count k) (some : 0 < v.left) (called : Call) (joins : JoinsKeys o t called v) (cap : passes_cap (joined (known_state o v).content (known_state t v).content) ≡ false)
+    (takes : (found : StoredWorld) (class : ℕ) → MayHave v found → owes v.log ≡ suc class → takes_in found called ≡ Some class) (left_table : (joined_state (known_state o v) (known_state t v).content).table ≡ use_with (class_of (table_id own)) end) (j : IsJoining k o by own t table (joined (known_state o v).content (known_state t v).content) end fill counts u) (all : fill ≡ (known_state t u).table.fill) where
   abbrev c : ℕ
-  c = class_of (name_of own)
+  c = class_of (table_id own)
 
   abbrev goal : Content
-  goal = joined (known o v).content (known t v).content
+  goal = joined (known_state o v).content (known_state t v).content
 
   abbrev left : ContainerState
-  left = joined_state (known o v) (known t v).content
+  left = joined_state (known_state o v) (known_state t v).content
 
   none_left : drop fill j.used ≡ []
   none_left = drop_all fill j.used (let f = j.filled in omega (arith, f, all))
@@ -294,31 +294,31 @@ module _ (laws : Laws) (k : Shape) (o : ℕ) (by : Way) (own : Table) (t : ℕ) 
   left_since : (found : StoredWorld) → MayHave u found → state_at (after_stored found called) o ≡ left
   left_since found has = joins.left_is found (has_since o v u since found has)
 
-  here : ClearAs (kind_of goal) k.texts c (held o u).table (known o v).content goal
+  here : ClearAs (kind_of goal) k.texts c (held_words o u).table (known_state o v).content goal
   here =
-      clear_of laws k.texts (held o u) (name_of own) (table_class k own midway.writes.table_in) midway.writes.root goal left refl (subst IsKeyed (sym (kind_goal ∙ sym j.kind_is)) midway.writes.keyed) midway.stands (known o v).content
+      clear_of laws k.texts (held_words o u) (table_id own) (table_class k own midway.writes.table_in) midway.writes.root goal left refl (subst IsKeyed (sym (kind_goal ∙ sym j.kind_is)) midway.writes.keyed) midway.stands (known_state o v).content
       (λ p key less even live. midway.same p key (subst (λ (z : Kind). p < rows z c) (kind_goal ∙ sym j.kind_is) less) even live ∙ ap (λ (z : ContainerState). under z.content key) (since.knows o))
 
-  clears : (found : StoredWorld) (q : ℕ) → MayHave u found → root_in (held o u) ≡ suc q → ClearAs (kind_in u.shape.starts o) u.shape.texts (class_of q) (held o u).table (known o u).content (state_at (after_stored found called) o).content
+  clears : (found : StoredWorld) (q : ℕ) → MayHave u found → root_in (held_words o u) ≡ suc q → ClearAs (kind_in u.shape.starts o) u.shape.texts (class_of q) (held_words o u).table (known_state o u).content (state_at (after_stored found called) o).content
   clears found q has names =
-      let same : name_of own ≡ q = let e : suc (name_of own) ≡ suc q = sym midway.writes.root ∙ names in omega (arith, e) in
+      let same : table_id own ≡ q = let e : suc (table_id own) ≡ suc q = sym midway.writes.root ∙ names in omega (arith, e) in
       let l = left_since found has in
-      subst (λ (n : ℕ). ClearAs (kind_in u.shape.starts o) u.shape.texts (class_of n) (held o u).table (known o u).content (state_at (after_stored found called) o).content) same
-      (subst (λ (z : Kind × List ℕ × ContainerState × ContainerState). ClearAs z.0 z.1 c (held o u).table z.2.content z.3.content) (λ d. (kind_u d, texts_u d, sym (since.knows o) d, sym l d)) here)
+      subst (λ (n : ℕ). ClearAs (kind_in u.shape.starts o) u.shape.texts (class_of n) (held_words o u).table (known_state o u).content (state_at (after_stored found called) o).content) same
+      (subst (λ (z : Kind × List ℕ × ContainerState × ContainerState). ClearAs z.0 z.1 c (held_words o u).table z.2.content z.3.content) (λ d. (kind_u d, texts_u d, sym (since.knows o) d, sym l d)) here)
 
   commits : MayCommit u called reply.Done
   commits =
       let name : o ≡ changes called = sym joins.changed in
       record {
         write = joins.write;
-        container = subst (λ (n : ℕ). n < containers_in u.shape) name (subst (λ (z : Shape). o < containers_in z) (sym (since.shape ∙ shape)) low);
+        container = subst (λ (n : ℕ). n < container_count u.shape) name (subst (λ (z : Shape). o < container_count z) (sym (since.shape ∙ shape)) low);
         odd = subst (λ (n : ℕ). is_writing n u.log ≡ true) name since.odd;
         left = subst (λ (n : ℕ). 0 < n) (sym since.left) some;
         words = joins.words;
         reply_is = λ found has. plain_replied called reply.Done (reply_in found called) joins.write (joins.replied found (has_since o v u since found has));
         declared = λ found has. joins.declared found (has_since o v u since found has);
         fits = λ found has. joins.over found (has_since o v u since found has) ∙ cap;
-        clear = subst (λ (n : ℕ). (found : StoredWorld) (q : ℕ) → MayHave u found → root_in (held n u) ≡ suc q → ClearAs (kind_in u.shape.starts n) u.shape.texts (class_of q) (held n u).table (known n u).content (state_at (after_stored found called) n).content) name clears;
+        clear = subst (λ (n : ℕ). (found : StoredWorld) (q : ℕ) → MayHave u found → root_in (held_words n u) ≡ suc q → ClearAs (kind_in u.shape.starts n) u.shape.texts (class_of q) (held_words n u).table (known_state n u).content (state_at (after_stored found called) n).content) name clears;
         takes = λ found class has owed. takes found class (has_since o v u since found has) (sym since.owes ∙ owed);
         empties = λ e. absurd (true≢false (sym e ∙ subst (λ (n : ℕ). has_emptied n u.log ≡ false) name since.emptied));
         locks = λ p e. since.locks p ∙ joins.locks p e;

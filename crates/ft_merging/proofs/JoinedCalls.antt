@@ -11,12 +11,12 @@ use Rattle.ft_trace.specs.declared.Shape.{Shape}
 use Rattle.ft_trace.specs.declared.View.{View}
 use Rattle.ft_trace.specs.Acts.{has_lock}
 use Rattle.ft_trace.specs.Addresses.{class_of}
-use Rattle.ft_trace.specs.Holds.{held, known}
+use Rattle.ft_trace.specs.Holds.{held_words, known_state}
 use Rattle.ft_trace.specs.Kinds.{IsKeyed, rows}
 use Rattle.ft_trace.specs.Pictures.{root_in}
 use Rattle.ft_trace.specs.ContainerStates.{ContainerState, changes}
 use Rattle.ft_bank.specs.declared.table.Table.{Table}
-use Rattle.ft_bank.specs.TableNames.{name_of, IsTableIn}
+use Rattle.ft_bank.specs.TableNames.{table_id, IsTableIn}
 use Rattle.ft_bank.specs.Whole.{OnlyLoaded, Wrote}
 use Rattle.ft_bank.specs.WriteSteps.{MayHave}
 use Rattle.ft_bank.proofs.KnownAfterWrites.{loaded_then, work_knows}
@@ -35,7 +35,7 @@ use Rattle.ft_merging.proofs.JoinedReads.{Source}
 use Rattle.ft_merging.proofs.JoinedRoom.{cap_is, most_joined, same_kept, taken_room}
 
 -- a call that joins the two joins them later too, where the pass knows the same
-pub joins_later : (o t : ℕ) (called : Call) (v u : View) → ((found : StoredWorld) → MayHave u found → MayHave v found) → ((p : ℕ) → has_lock p u.log ≡ has_lock p v.log) → known o u ≡ known o v → known t u ≡ known t v → JoinsKeys o t called v → JoinsKeys o t called u
+pub joins_later : (o t : ℕ) (called : Call) (v u : View) → ((found : StoredWorld) → MayHave u found → MayHave v found) → ((p : ℕ) → has_lock p u.log ≡ has_lock p v.log) → known_state o u ≡ known_state o v → known_state t u ≡ known_state t v → JoinsKeys o t called v → JoinsKeys o t called u
 joins_later o t called v u has locks mine other joins = record {
   write = joins.write;
   changed = joins.changed;
@@ -50,7 +50,7 @@ joins_later o t called v u has locks mine other joins = record {
 }
 
 -- where nothing is new it leaves what there was
-pub joins_leaves : (o t : ℕ) (called : Call) (v : View) → JoinsKeys o t called v → joined (known o v).content (known t v).content ≡ (known o v).content → passes_cap (known o v).content ≡ false → Leaves o called reply.Done (known o v) v
+pub joins_leaves : (o t : ℕ) (called : Call) (v : View) → JoinsKeys o t called v → joined (known_state o v).content (known_state t v).content ≡ (known_state o v).content → passes_cap (known_state o v).content ≡ false → Leaves o called reply.Done (known_state o v) v
 joins_leaves o t called v joins same few = record {
   write = joins.write;
   changed = joins.changed;
@@ -59,30 +59,30 @@ joins_leaves o t called v joins same few = record {
   replied = joins.replied;
   declared = joins.declared;
   fits = λ found has. joins.over found has ∙ (ap passes_cap same ∙ few);
-  left_is = λ found has. joins.left_is found has ∙ (same_kept (known o v) (known t v).content same).0;
+  left_is = λ found has. joins.left_is found has ∙ (same_kept (known_state o v) (known_state t v).content same).0;
 }
 
 -- ---- the calls
 
-pub made_here : (k : Shape) (o : ℕ) (called : Call) (v w : View) (stamp : Stamp) (number : ℕ) → stamp ≡ record { number = number; wrote = true } → changes called ≡ o → Wrote called reply.Done number v w → root_in (held o w) ≡ root_in (held o v) → IsAdded k None false called reply.Done v w (added.Made stamp)
+pub made_here : (k : Shape) (o : ℕ) (called : Call) (v w : View) (stamp : Stamp) (number : ℕ) → stamp ≡ record { number = number; wrote = true } → changes called ≡ o → Wrote called reply.Done number v w → root_in (held_words o w) ≡ root_in (held_words o v) → IsAdded k None false called reply.Done v w (added.Made stamp)
 made_here k o called v w stamp number is changed wrote root = (
   refl,
   ap (λ (z : Stamp). z.wrote) is,
   record {
     wrote = subst (λ (z : Stamp). Wrote called reply.Done z.number v w) (sym is) wrote;
-    root = subst (λ (n : ℕ). root_in (held n w) ≡ root_in (held n v)) (sym changed) root;
+    root = subst (λ (n : ℕ). root_in (held_words n w) ≡ root_in (held_words n v)) (sym changed) root;
   },
 )
 
 -- a call that joins nothing new comes to that
-pub joins_nothing : (k : Shape) (o t : ℕ) (called : Call) (v w : View) (what : Added) → joined (known o v).content (known t v).content ≡ (known o v).content → passes_cap (known o v).content ≡ false → IsAdded k None false called reply.Done v w what → IsAdded k (join_takes (known o v) (known t v).content) (passes_cap (joined (known o v).content (known t v).content)) called reply.Done v w what
+pub joins_nothing : (k : Shape) (o t : ℕ) (called : Call) (v w : View) (what : Added) → joined (known_state o v).content (known_state t v).content ≡ (known_state o v).content → passes_cap (known_state o v).content ≡ false → IsAdded k None false called reply.Done v w what → IsAdded k (join_takes (known_state o v) (known_state t v).content) (passes_cap (joined (known_state o v).content (known_state t v).content)) called reply.Done v w what
 joins_nothing k o t called v w what same few is =
-    let takes = (same_kept (known o v) (known t v).content same).1 in
+    let takes = (same_kept (known_state o v) (known_state t v).content same).1 in
     let over = ap passes_cap same ∙ few in
     subst (λ (z : Option ℕ × Bool). IsAdded k z.0 z.1 called reply.Done v w what) (λ i. (sym takes i, sym over i)) is
 
 -- and what it comes to after loads, seen from before them
-pub joins_by : (k : Shape) (o t : ℕ) (called : Call) (v u w : View) (what : Added) → OnlyLoaded v u → IsAdded k (join_takes (known o u) (known t u).content) (passes_cap (joined (known o u).content (known t u).content)) called reply.Done u w what → JoinsBy k o t called v w what
+pub joins_by : (k : Shape) (o t : ℕ) (called : Call) (v u w : View) (what : Added) → OnlyLoaded v u → IsAdded k (join_takes (known_state o u) (known_state t u).content) (passes_cap (joined (known_state o u).content (known_state t u).content)) called reply.Done u w what → JoinsBy k o t called v w what
 joins_by k o t called v u w what only is =
     let mine = work_knows v u o only.work in
     let other = work_knows v u t only.work in
@@ -95,17 +95,17 @@ joins_then k o t called v u w what only is = joins_by k o t called v is.0 w what
 -- it leaves the cursors of its pass
 pub joins_cursors : (k : Shape) (o t : ℕ) (called : Call) (v w : View) (what : Added) → JoinsBy k o t called v w what → KeepsCursors v w
 joins_cursors k o t called v w what x number =
-    added_cursors k (join_takes (known o v) (known t v).content) (passes_cap (joined (known o v).content (known t v).content)) called reply.Done x.0 w what x.2 number ∙ x.1.work.pass.cursors number
+    added_cursors k (join_takes (known_state o v) (known_state t v).content) (passes_cap (joined (known_state o v).content (known_state t v).content)) called reply.Done x.0 w what x.2 number ∙ x.1.work.pass.cursors number
 
 -- ---- numbers
 
 -- entries of a table are few
-pub few_rows : (k : Shape) (table : Table) (kind : Kind) (n : ℕ) → IsTableIn k table → IsKeyed kind → n ≤ rows kind (class_of (name_of table)) → n ≤ 65536
+pub few_rows : (k : Shape) (table : Table) (kind : Kind) (n : ℕ) → IsTableIn k table → IsKeyed kind → n ≤ rows kind (class_of (table_id table)) → n ≤ 65536
 few_rows k table kind zero table_in keyed low = omega arith
 few_rows k table kind (suc n) table_in keyed low = let f = few_places k table kind n table_in keyed (omega (arith, low)) in omega (arith, f)
 
 -- there are as many more as are new
-pub many_joined : (k : Shape) (by : Way) (t : ℕ) (table : Table) (v : View) (s : Source k by t table v) (d : Content) → kind_of d ≡ kind_by by → length_of (joined d (known t v).content) ≡ length_of d + new_keys d (known t v).content
+pub many_joined : (k : Shape) (by : Way) (t : ℕ) (table : Table) (v : View) (s : Source k by t table v) (d : Content) → kind_of d ≡ kind_by by → length_of (joined d (known_state t v).content) ≡ length_of d + new_keys d (known_state t v).content
 many_joined k by t table v s d same =
     let j = joined_more k by t table v s d same in
     let n = j.0 in
@@ -123,5 +123,5 @@ pub over_joined : (d others : Content) (n : ℕ) → length_of (joined d others)
 over_joined d others n is many = cap_is (joined d others) ∙ lt-ltb (most_of (joined d others)) (length_of (joined d others)) (let m = most_joined d others in omega (arith, many, m, is))
 
 -- the table that is taken has room
-pub new_room : (k : Shape) (by : Way) (t : ℕ) (table : Table) (v : View) (s : Source k by t table v) (kept : ContainerState) (class : ℕ) → kind_of kept.content ≡ kind_by by → passes_cap (joined kept.content (known t v).content) ≡ false → join_takes kept (known t v).content ≡ Some class → length_of kept.content + new_keys kept.content (known t v).content ≤ rows (kind_by by) class
-new_room k by t table v s kept class same cap takes = taken_room kept.content by kept.table class (new_keys kept.content (known t v).content) same (few_joined kept.content (known t v).content _ (many_joined k by t table v s kept.content same) cap) takes
+pub new_room : (k : Shape) (by : Way) (t : ℕ) (table : Table) (v : View) (s : Source k by t table v) (kept : ContainerState) (class : ℕ) → kind_of kept.content ≡ kind_by by → passes_cap (joined kept.content (known_state t v).content) ≡ false → join_takes kept (known_state t v).content ≡ Some class → length_of kept.content + new_keys kept.content (known_state t v).content ≤ rows (kind_by by) class
+new_room k by t table v s kept class same cap takes = taken_room kept.content by kept.table class (new_keys kept.content (known_state t v).content) same (few_joined kept.content (known_state t v).content _ (many_joined k by t table v s kept.content same) cap) takes

@@ -19,15 +19,15 @@ use Rattle.ft_keys.specs.declared.walk.Way.TheVariants as way
 use Rattle.ft_trace.specs.declared.Shape.{Shape}
 use Rattle.ft_trace.specs.declared.View.{View}
 use Rattle.ft_trace.specs.Addresses.{class_of}
-use Rattle.ft_trace.specs.Holds.{held, known}
-use Rattle.ft_trace.specs.Traces.{Possible}
-use Rattle.ft_trace.specs.Pictures.{Stands}
+use Rattle.ft_trace.specs.Holds.{held_words, known_state}
+use Rattle.ft_trace.specs.Traces.{IsReachable}
+use Rattle.ft_trace.specs.Pictures.{Represents}
 use Rattle.ft_trace.specs.ContainerStates.{kind_in}
 use Rattle.ft_trace.proofs.DictWrites as words
 use Rattle.ft_trace.proofs.GrownDicts as dict
 use Rattle.ft_trace.proofs.Known.{class_known}
 use Rattle.ft_bank.specs.declared.table.Table.{Table}
-use Rattle.ft_bank.specs.TableNames.{name_of}
+use Rattle.ft_bank.specs.TableNames.{table_id}
 use Rattle.ft_search.specs.Rounds.{kind_by}
 use Rattle.ft_search.proofs.FoundInContents.{of_way}
 use Rattle.ft_search.proofs.Puts.{table_class}
@@ -79,20 +79,20 @@ dict_stores (e ∷ used) es live = first (λ ys eq. dict_stores used ys eq) e.st
         let plain : e.stored ≡ Some (Plain y.value) = ap (λ (z : UsedEntry). z.stored) head in
         here (λ t there. subst (λ (z : Stored). StoresAs kind.Dict z) (let same : Some (Plain y.value) ≡ Some t = sym plain ∙ there in let one : Plain y.value ≡ t = cc in one) tt) (rest ys tail)
 
-pub dict_source : words.FirstEntriesArePairs → (k : Shape) (t : ℕ) (table : Table) (v : View) → KnowsKeyed k t (Some table) v → (others : DictContent) → (known t v).content ≡ content.Dict others → Source k way.Dict t table v
+pub dict_source : words.FirstEntriesArePairs → (k : Shape) (t : ℕ) (table : Table) (v : View) → KnowsKeyed k t (Some table) v → (others : DictContent) → (known_state t v).content ≡ content.Dict others → Source k way.Dict t table v
 dict_source pairs k t table v knows others is =
-    let c = class_of (name_of table) in
+    let c = class_of (table_id table) in
     let table_in = knows.table_in table refl in
-    let class = class_known k.texts (held t v) (known t v) (name_of table) knows.stands knows.root in
-    let stands : Stands k.texts (held t v) (record { content = content.Dict others; table = (known t v).table }) = subst (λ (z : Content). Stands k.texts (held t v) (record { content = z; table = (known t v).table })) is knows.stands in
-    let says : IsDictWords k.texts (held t v).block (0 ∷ 0 ∷ (held t v).table) (Some c) (known t v).table.fill others = subst (λ (z : Option ℕ). IsDictWords k.texts (held t v).block (0 ∷ 0 ∷ (held t v).table) z (known t v).table.fill others) class stands in
+    let class = class_known k.texts (held_words t v) (known_state t v) (table_id table) knows.stands knows.root in
+    let stands : Represents k.texts (held_words t v) (record { content = content.Dict others; table = (known_state t v).table }) = subst (λ (z : Content). Represents k.texts (held_words t v) (record { content = z; table = (known_state t v).table })) is knows.stands in
+    let says : IsDictWords k.texts (held_words t v).block (0 ∷ 0 ∷ (held_words t v).table) (Some c) (known_state t v).table.fill others = subst (λ (z : Option ℕ). IsDictWords k.texts (held_words t v).block (0 ∷ 0 ∷ (held_words t v).table) z (known_state t v).table.fill others) class stands in
     record {
       used = says.used;
       table_is = says.table;
       filled = says.filled;
       apart = apart_used says.used says.table.distinct;
       stores = dict_stores says.used others.pairs says.entries.live;
-      few = let f = says.filled in let g = says.table.fill in let r = words.room_is pairs k.texts (held t v).block c (known t v).table.fill (table_class k table table_in) others (held t v).table says in omega (arith, f, g, r);
+      few = let f = says.filled in let g = says.table.fill in let r = words.room_is pairs k.texts (held_words t v).block c (known_state t v).table.fill (table_class k table table_in) others (held_words t v).table says in omega (arith, f, g, r);
       comes = λ d kind_eq. comes d kind_eq says.used says.entries.live ∙ ap (joined d) (sym is);
     }
   where
@@ -103,7 +103,7 @@ dict_source pairs k t table v knows others is =
     comes (content.Deque deque) kind_eq used live = absurd (cc)
 
 -- of a container whose lock the pass has
-pub source_known : Laws → (k : Shape) (t : ℕ) (table : Table) (v : View) → v.shape ≡ k → ∥ Possible v ∥₁ → KnowsKeyed k t (Some table) v → (by : Way) → kind_in k.starts t ≡ kind_by by → Source k by t table v
+pub source_known : Laws → (k : Shape) (t : ℕ) (table : Table) (v : View) → v.shape ≡ k → ∥ IsReachable v ∥₁ → KnowsKeyed k t (Some table) v → (by : Way) → kind_in k.starts t ≡ kind_by by → Source k by t table v
 source_known laws k t table v shape possible knows way.Dict kind_eq = let d = of_way way.Dict v t possible knows.locked (ap (λ (z : Shape). kind_in z.starts t) shape ∙ kind_eq) in dict_source laws.pairs k t table v knows d.0 d.1
 source_known laws k t table v shape possible knows way.Set kind_eq = let d = of_way way.Set v t possible knows.locked (ap (λ (z : Shape). kind_in z.starts t) shape ∙ kind_eq) in set_source laws.elements k t table v knows d.0 d.1
 

@@ -21,10 +21,10 @@ use Rattle.ft_keys.specs.declared.walk.Way.TheVariants as way
 use Rattle.ft_keys.specs.Ways.{IsTableOf, room, walk_slots}
 use Rattle.ft_trace.specs.declared.Shape.{Shape}
 use Rattle.ft_trace.specs.declared.View.{View}
-use Rattle.ft_trace.specs.Addresses.{class_of, containers_in, slots}
-use Rattle.ft_trace.specs.Holds.{held, known}
+use Rattle.ft_trace.specs.Addresses.{class_of, container_count, slots}
+use Rattle.ft_trace.specs.Holds.{held_words, known_state}
 use Rattle.ft_trace.specs.Kinds.{rows}
-use Rattle.ft_trace.specs.Pictures.{Picture, entry_field, root_in, Stands}
+use Rattle.ft_trace.specs.Pictures.{ContainerWords, entry_field, root_in, Represents}
 use Rattle.ft_trace.specs.ContainerStates.{ContainerState}
 use Rattle.ft_trace.proofs.FitCalls.{dict_fits_words, set_fits_words}
 use Rattle.ft_trace.proofs.Known.{class_known}
@@ -34,7 +34,7 @@ use Rattle.ft_trace.proofs.SameKeys.{any_found}
 use Rattle.ft_trace.proofs.SetKnown as set
 use Rattle.ft_trace.proofs.Tellings.{word_is}
 use Rattle.ft_bank.specs.declared.table.Table.{Table}
-use Rattle.ft_bank.specs.TableNames.{name_of, IsTableIn}
+use Rattle.ft_bank.specs.TableNames.{table_id, IsTableIn}
 use Rattle.ft_bank.specs.Whole.{OnlyLoaded, OnlyPut}
 use Rattle.ft_bank.proofs.KnownAfterWrites.{loaded_held, work_knows}
 use Rattle.ft_search.specs.Held.{IsHeldAt, KnowsTable}
@@ -53,8 +53,8 @@ use Rattle.ft_merging.proofs.JoinedContents.{joined_elements}
 pub table_after : (o t : ℕ) (v w : View) → OnlyLoaded v w → KnowsTable o t v → KnowsTable o t w
 table_after o t v w only knows = (only.work.pass.locks o ∙ knows.0, ap root_in (loaded_held v w o only) ∙ knows.1)
 
-pub word_after : (o : ℕ) (n place word : ℕ) (v w : View) → OnlyLoaded v w → (found : ℕ) → found ≡ entry_field n (held o w).table place word → found ≡ entry_field n (held o v).table place word
-word_after o n place word v w only found is = is ∙ ap (λ (x : Picture). entry_field n x.table place word) (loaded_held v w o only)
+pub word_after : (o : ℕ) (n place word : ℕ) (v w : View) → OnlyLoaded v w → (found : ℕ) → found ≡ entry_field n (held_words o w).table place word → found ≡ entry_field n (held_words o v).table place word
+word_after o n place word v w only found is = is ∙ ap (λ (x : ContainerWords). entry_field n x.table place word) (loaded_held v w o only)
 
 pub knows_loaded : (k : Shape) (o : ℕ) (old : Option Table) (v w : View) → OnlyLoaded v w → KnowsKeyed k o old v → KnowsKeyed k o old w
 knows_loaded k o old v w only = knows_on k o old v w (loaded_held v w o only) (work_knows v w o only.work) (only.work.pass.locks o) (only.work.pass.writes o)
@@ -62,7 +62,7 @@ knows_loaded k o old v w only = knows_on k o old v w (loaded_held v w o only) (w
 -- and while another one is written
 pub knows_put : (k : Shape) (o t : ℕ) (old : Option Table) (v w : View) → v.shape ≡ k → o ≢ t → OnlyPut o v w → KnowsKeyed k t old v → KnowsKeyed k t old w
 knows_put k o t old v w shape two only knows =
-    let same : held t w ≡ held t v = only.others t (subst (λ (z : Shape). t < containers_in z) (sym shape) knows.container) (λ e. two (sym e)) knows.locked knows.even in
+    let same : held_words t w ≡ held_words t v = only.others t (subst (λ (z : Shape). t < container_count z) (sym shape) knows.container) (λ e. two (sym e)) knows.locked knows.even in
     knows_on k t old v w same (work_knows v w t only.work) (only.work.pass.locks t) (only.work.pass.writes t) knows
 
 -- ---- used entries
@@ -93,10 +93,10 @@ none_used texts e found is none = by e.stored refl is
     by (Some s) live said = absurd (let no = sym none ∙ said in cc)
 
 -- the words of a used entry, counted after the header
-pub entry_used : (by : Way) (texts : List ℕ) (k : Shape) (table : Table) → IsTableIn k table → (used : List UsedEntry) (ws : List ℕ) → IsTableOf by texts (class_mask (class_of (name_of table))) used (0 ∷ 0 ∷ ws) → (place : ℕ) (any : UsedEntry) → place < length used
-    → IsEntry (entry_field (slots (class_of (name_of table))) ws place) (slot_of texts (slice_index_or used place any))
+pub entry_used : (by : Way) (texts : List ℕ) (k : Shape) (table : Table) → IsTableIn k table → (used : List UsedEntry) (ws : List ℕ) → IsTableOf by texts (class_mask (class_of (table_id table))) used (0 ∷ 0 ∷ ws) → (place : ℕ) (any : UsedEntry) → place < length used
+    → IsEntry (entry_field (slots (class_of (table_id table))) ws place) (slot_of texts (slice_index_or used place any))
 entry_used by texts k table table_in used ws says place any low =
-    let c = class_of (name_of table) in
+    let c = class_of (table_id table) in
     same_entry (entry_word (class_mask c) (0 ∷ 0 ∷ ws) place) (entry_field (slots c) ws place) (word_is (λ hash. walk_slots by hash (class_mask c)) (room by (class_mask c)) texts c (table_class k table table_in) used ws says place) (slot_of texts (slice_index_or used place any)) (says.entries place any low)
   where
     same_entry : (a b : ℕ → ℕ) → ((w : ℕ) → a w ≡ b w) → (said : Slot) → IsEntry a said → IsEntry b said
@@ -114,12 +114,12 @@ apart_used used distinct i j d less low = λ one two. distinct-used used distinc
 -- what a pass finds in the table of a container whose lock it has: the used entries, and what joining them comes to
 pub record Source (k : Shape) (by : Way) (t : ℕ) (table : Table) (v : View) : Type 0 where
   pub used : List UsedEntry
-  pub table_is : IsTableOf by k.texts (class_mask (class_of (name_of table))) used (0 ∷ 0 ∷ (held t v).table)
-  pub filled : length used ≡ (known t v).table.fill
+  pub table_is : IsTableOf by k.texts (class_mask (class_of (table_id table))) used (0 ∷ 0 ∷ (held_words t v).table)
+  pub filled : length used ≡ (known_state t v).table.fill
   pub apart : AllPairs Apart used
   pub stores : All (StoresIn (kind_by by)) used
-  pub few : (known t v).table.fill ≤ rows (kind_by by) (class_of (name_of table))
-  pub comes : (d : Content) → kind_of d ≡ kind_by by → joined_used d used ≡ joined d (known t v).content
+  pub few : (known_state t v).table.fill ≤ rows (kind_by by) (class_of (table_id table))
+  pub comes : (d : Content) → kind_of d ≡ kind_by by → joined_used d used ≡ joined d (known_state t v).content
 
 set_stores : (used : List UsedEntry) (es : List Element) → filter is_live used ≡ map used_element es → All (StoresIn kind.Set) used
 set_stores [] es live = λ i d low. absurd (omega (arith, low))
@@ -139,13 +139,13 @@ set_stores (e ∷ used) es live = first (λ ys eq. set_stores used ys eq) e.stor
         let empty : e.stored ≡ Some Empty = ap (λ (z : UsedEntry). z.stored) head in
         here (λ s there. subst (λ (z : Stored). StoresAs kind.Set z) (let same : Some Empty ≡ Some s = sym empty ∙ there in let one : Empty ≡ s = cc in one) tt) (rest ys tail)
 
-pub set_source : set.FirstEntriesAreElements → (k : Shape) (t : ℕ) (table : Table) (v : View) → KnowsKeyed k t (Some table) v → (others : SetContent) → (known t v).content ≡ content.Set others → Source k way.Set t table v
+pub set_source : set.FirstEntriesAreElements → (k : Shape) (t : ℕ) (table : Table) (v : View) → KnowsKeyed k t (Some table) v → (others : SetContent) → (known_state t v).content ≡ content.Set others → Source k way.Set t table v
 set_source elements k t table v knows others is =
-    let c = class_of (name_of table) in
+    let c = class_of (table_id table) in
     let table_in = knows.table_in table refl in
-    let class = class_known k.texts (held t v) (known t v) (name_of table) knows.stands knows.root in
-    let stands : Stands k.texts (held t v) (record { content = content.Set others; table = (known t v).table }) = subst (λ (z : Content). Stands k.texts (held t v) (record { content = z; table = (known t v).table })) is knows.stands in
-    let says : IsSetWords k.texts (held t v).block (0 ∷ 0 ∷ (held t v).table) (Some c) (known t v).table.fill others = subst (λ (z : Option ℕ). IsSetWords k.texts (held t v).block (0 ∷ 0 ∷ (held t v).table) z (known t v).table.fill others) class stands in
+    let class = class_known k.texts (held_words t v) (known_state t v) (table_id table) knows.stands knows.root in
+    let stands : Represents k.texts (held_words t v) (record { content = content.Set others; table = (known_state t v).table }) = subst (λ (z : Content). Represents k.texts (held_words t v) (record { content = z; table = (known_state t v).table })) is knows.stands in
+    let says : IsSetWords k.texts (held_words t v).block (0 ∷ 0 ∷ (held_words t v).table) (Some c) (known_state t v).table.fill others = subst (λ (z : Option ℕ). IsSetWords k.texts (held_words t v).block (0 ∷ 0 ∷ (held_words t v).table) z (known_state t v).table.fill others) class stands in
     let apart = apart_used says.used says.table.distinct in
     record {
       used = says.used;
@@ -153,7 +153,7 @@ set_source elements k t table v knows others is =
       filled = says.filled;
       apart = apart;
       stores = set_stores says.used others.elements says.entries.live;
-      few = let f = says.filled in let g = says.table.fill in let r = set.room_is elements k.texts (held t v).block c (known t v).table.fill (table_class k table table_in) others (held t v).table says in omega (arith, f, g, r);
+      few = let f = says.filled in let g = says.table.fill in let r = set.room_is elements k.texts (held_words t v).block c (known_state t v).table.fill (table_class k table table_in) others (held_words t v).table says in omega (arith, f, g, r);
       comes = λ d kind_eq. comes d kind_eq says.used apart says.entries.live ∙ ap (joined d) (sym is);
     }
   where
@@ -166,7 +166,7 @@ set_source elements k t table v knows others is =
 -- ---- keys that were sought
 
 -- a key that is held is there
-pub holds_some : (k : Shape) (x : Picture) (kept : ContainerState) (class : ℕ) → Stands k.texts x kept → kept.table.class ≡ Some class → (key : Key) (a b : ℕ) → FitsKey key → IsHeldAt kept.content key (Some (a, b)) → holds kept.content key ≡ true
+pub holds_some : (k : Shape) (x : ContainerWords) (kept : ContainerState) (class : ℕ) → Represents k.texts x kept → kept.table.class ≡ Some class → (key : Key) (a b : ℕ) → FitsKey key → IsHeldAt kept.content key (Some (a, b)) → holds kept.content key ≡ true
 holds_some k x kept class stands class_is key a b fits there = by kept.content (subst (λ (z : Option ℕ). StandsAs k.texts x.block (0 ∷ 0 ∷ x.table) (record { class = z; fill = kept.table.fill; keys = kept.table.keys }) kept.content) class_is stands) there
   where
     by : (d : Content) → StandsAs k.texts x.block (0 ∷ 0 ∷ x.table) (record { class = Some class; fill = kept.table.fill; keys = kept.table.keys }) d → IsHeldAt d key (Some (a, b)) → holds d key ≡ true
@@ -184,8 +184,8 @@ holds_none (content.List values) key none = absurd none
 holds_none (content.Deque deque) key none = absurd none
 
 -- where a key was found in the table
-pub holds_at : (k : Shape) (v : View) (o : ℕ) (table : Table) (key : Key) (a b : ℕ) → MayWriteEntries k o v → HasTable k o table v → FitsKey key → IsHeldAt (known o v).content key (Some (a, b)) → holds (known o v).content key ≡ true
-holds_at k v o table key a b may has fits there = holds_some k (held o v) (known o v) (class_of (name_of table)) may.stands (class_known k.texts (held o v) (known o v) (name_of table) may.stands has.root) key a b fits there
+pub holds_at : (k : Shape) (v : View) (o : ℕ) (table : Table) (key : Key) (a b : ℕ) → MayWriteEntries k o v → HasTable k o table v → FitsKey key → IsHeldAt (known_state o v).content key (Some (a, b)) → holds (known_state o v).content key ≡ true
+holds_at k v o table key a b may has fits there = holds_some k (held_words o v) (known_state o v) (class_of (table_id table)) may.stands (class_known k.texts (held_words o v) (known_state o v) (table_id table) may.stands has.root) key a b fits there
 
 pub none_found : (found : Option Pair) → ((pair : Pair) → found ≡ Some pair → ⊥) → found ≡ None
 none_found None never = refl

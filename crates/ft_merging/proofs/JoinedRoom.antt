@@ -14,7 +14,7 @@ use Rattle.ft_trace.specs.Addresses.{class_of, places}
 use Rattle.ft_trace.specs.Kinds.{rows}
 use Rattle.ft_trace.specs.ContainerStates.{ContainerState}
 use Rattle.ft_bank.specs.declared.table.Table.{Table}
-use Rattle.ft_bank.specs.TableNames.{name_of}
+use Rattle.ft_bank.specs.TableNames.{table_id}
 use Rattle.ft_search.specs.Rounds.{kind_by}
 use Rattle.ft_adding.specs.KeyGrowth.{keys_take, most_of, use_of}
 use Rattle.ft_adding.proofs.Placed.{use_with}
@@ -94,7 +94,7 @@ bare_none (content.Deque deque) way.Set fill (suc more) same none = absurd (cc)
 
 -- ---- the table that it has then
 
-pub stays_table : (kept : ContainerState) (others : Content) (own : Table) (fill more : ℕ) → kept.table ≡ use_of (Some own) fill → join_takes kept others ≡ None → more ≡ new_keys kept.content others → class_of (name_of own) ≡ own.class → (joined_state kept others).table ≡ use_with (class_of (name_of own)) (fill + more)
+pub stays_table : (kept : ContainerState) (others : Content) (own : Table) (fill more : ℕ) → kept.table ≡ use_of (Some own) fill → join_takes kept others ≡ None → more ≡ new_keys kept.content others → class_of (table_id own) ≡ own.class → (joined_state kept others).table ≡ use_with (class_of (table_id own)) (fill + more)
 stays_table kept others own fill more is none more_is same =
     ap (λ (z : Option ℕ). grown_table kept.table z (new_keys kept.content others) (length_of (joined kept.content others))) none
     ∙ (λ i. record { class = (ap (λ (z : TableUse). z.class) is ∙ ap (λ (n : ℕ). Some n) (sym same)) i; fill = (is i).fill + sym more_is i; keys = (is i).keys })

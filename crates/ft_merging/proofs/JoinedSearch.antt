@@ -14,13 +14,13 @@ use Rattle.ft_keys.specs.declared.search.Found.TheVariants.{At, Free, Spent, Was
 use Rattle.ft_keys.specs.declared.walk.Way.{Way}
 use Rattle.ft_keys.specs.declared.walk.Way.TheVariants as way
 use Rattle.ft_trace.specs.declared.Shape.{Shape}
-use Rattle.ft_trace.specs.Pictures.{Picture, root_in, Stands}
+use Rattle.ft_trace.specs.Pictures.{ContainerWords, root_in, Represents}
 use Rattle.ft_trace.specs.ContainerStates.{ContainerState}
 use Rattle.ft_trace.proofs.DictWrites as dict
 use Rattle.ft_trace.proofs.SetKnown as set
 use Rattle.ft_trace.proofs.Known.{class_known}
 use Rattle.ft_bank.specs.declared.table.Table.{Table}
-use Rattle.ft_bank.specs.TableNames.{name_of, IsTableIn}
+use Rattle.ft_bank.specs.TableNames.{table_id, IsTableIn}
 use Rattle.ft_bank.proofs.TableAddresses.{class_is}
 use Rattle.ft_search.specs.Held.{IsHeldAt, ReadsEntry}
 use Rattle.ft_search.specs.Rounds.{kind_by}
@@ -41,7 +41,7 @@ of_kind way.Set (content.Dict pairs) is = absurd (cc)
 of_kind way.Set (content.List values) is = absurd (cc)
 of_kind way.Set (content.Deque deque) is = absurd (cc)
 
-module _ (missing_key : MissingKeys) (missing_element : MissingElements) (first_pair : dict.FirstEntriesArePairs) (first_element : set.FirstEntriesAreElements) (free : FirstFreeSlots) (k : Shape) (x : Picture) (by : Way) (table : Table) (in_bank : IsTableIn k table) (names : root_in x ≡ suc (name_of table)) (key : Key) (fits : FitsKey key) (low : hash_of k.texts key < 2 ^ 64) (left : List ℕ) (kept : ContainerState) (kind_eq : kind_of kept.content ≡ kind_by by) (stands : Stands k.texts x kept) where
+module _ (missing_key : MissingKeys) (missing_element : MissingElements) (first_pair : dict.FirstEntriesArePairs) (first_element : set.FirstEntriesAreElements) (free : FirstFreeSlots) (k : Shape) (x : ContainerWords) (by : Way) (table : Table) (in_bank : IsTableIn k table) (names : root_in x ≡ suc (table_id table)) (key : Key) (fits : FitsKey key) (low : hash_of k.texts key < 2 ^ 64) (left : List ℕ) (kept : ContainerState) (kind_eq : kind_of kept.content ≡ kind_by by) (stands : Represents k.texts x kept) where
   abbrev mask : ℕ
   mask = class_mask table.class
 
@@ -52,7 +52,7 @@ module _ (missing_key : MissingKeys) (missing_element : MissingElements) (first_
   Ends found = Searched mask words key (walk_slots by (hash_of k.texts key) mask) left found
 
   class_some : kept.table.class ≡ Some table.class
-  class_some = class_known k.texts x kept (name_of table) stands names ∙ ap (λ (n : ℕ). Some n) (class_is table in_bank.2)
+  class_some = class_known k.texts x kept (table_id table) stands names ∙ ap (λ (n : ℕ). Some n) (class_is table in_bank.2)
 
   -- the key is there
   pub search_there : (slot place : ℕ) (read : Option (ℕ × ℕ)) → ReadsEntry mask words (At slot place) read → ((s p : ℕ) → At slot place ≢ Was s p) → Ends (At slot place) → holds kept.content key ≡ true

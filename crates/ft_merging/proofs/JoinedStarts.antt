@@ -8,16 +8,16 @@ use Rattle.ft_keys.specs.declared.walk.Way.{Way}
 use Rattle.ft_trace.specs.declared.Act.TheVariants.{PutRoot, StartWrite}
 use Rattle.ft_trace.specs.declared.Shape.{Shape}
 use Rattle.ft_trace.specs.declared.View.{View}
-use Rattle.ft_trace.specs.Acts.{has_committed, has_lock, is_writing, noted}
-use Rattle.ft_trace.specs.Addresses.{class_of, containers_in}
-use Rattle.ft_trace.specs.Holds.{held, known}
+use Rattle.ft_trace.specs.Acts.{has_committed, has_lock, is_writing, view_after}
+use Rattle.ft_trace.specs.Addresses.{class_of, container_count}
+use Rattle.ft_trace.specs.Holds.{held_words, known_state}
 use Rattle.ft_trace.specs.Kinds.{IsKeyed, rows, under}
-use Rattle.ft_trace.specs.Traces.{Possible}
-use Rattle.ft_trace.specs.Pictures.{Picture, Stands}
+use Rattle.ft_trace.specs.Traces.{IsReachable}
+use Rattle.ft_trace.specs.Pictures.{ContainerWords, Represents}
 use Rattle.ft_trace.specs.ContainerStates.{ContainerState, kind_in}
 use Rattle.ft_trace.proofs.Cases.{hit}
 use Rattle.ft_bank.specs.declared.table.Table.{Table}
-use Rattle.ft_bank.specs.TableNames.{name_of, IsTableIn}
+use Rattle.ft_bank.specs.TableNames.{table_id, IsTableIn}
 use Rattle.ft_bank.specs.WriteSteps.{KeepsUnwritten}
 use Rattle.ft_bank.proofs.TableAddresses.{class_is}
 use Rattle.ft_search.specs.Rounds.{kind_by}
@@ -39,16 +39,16 @@ use Rattle.ft_merging.proofs.JoinedPairs.{source_known}
 use Rattle.ft_merging.proofs.JoinedRoom.{keys_room}
 
 -- another container is known as it was, once the version of the one that is written is odd
-pub knows_begun : (k : Shape) (o t : ℕ) (old : Option Table) (v u : View) (f : ℕ) → u ≡ noted (StartWrite o f) v → o ≢ t → KnowsKeyed k t old v → KnowsKeyed k t old u
+pub knows_begun : (k : Shape) (o t : ℕ) (old : Option Table) (v u : View) (f : ℕ) → u ≡ view_after (StartWrite o f) v → o ≢ t → KnowsKeyed k t old v → KnowsKeyed k t old u
 knows_begun k o t old v u f begun two knows =
-    knows_on k t old v u (ap (held t) begun) (ap (known t) begun) (ap (λ (z : View). has_lock t z.log) begun)
+    knows_on k t old v u (ap (held_words t) begun) (ap (known_state t) begun) (ap (λ (z : View). has_lock t z.log) begun)
     (ap (λ (z : View). is_writing t z.log) begun ∙ ap (λ (b : Bool). cond b true (is_writing t v.log)) (ne_eqb o t two)) knows
 
 -- and once its root names another table
-pub knows_rooted : (k : Shape) (o t root was : ℕ) (old : Option Table) (v u : View) (f : ℕ) → v.shape ≡ k → u ≡ noted (PutRoot o root was) (noted (StartWrite o f) v) → KeepsUnwritten (noted (StartWrite o f) v) u → o ≢ t → KnowsKeyed k t old v → KnowsKeyed k t old u
+pub knows_rooted : (k : Shape) (o t root was : ℕ) (old : Option Table) (v u : View) (f : ℕ) → v.shape ≡ k → u ≡ view_after (PutRoot o root was) (view_after (StartWrite o f) v) → KeepsUnwritten (view_after (StartWrite o f) v) u → o ≢ t → KnowsKeyed k t old v → KnowsKeyed k t old u
 knows_rooted k o t root was old v u f shape is keeps two knows =
-    let quiet : is_writing t (noted (StartWrite o f) v).log ≡ is_writing t v.log = ap (λ (b : Bool). cond b true (is_writing t v.log)) (ne_eqb o t two) in
-    let same = keeps t (subst (λ (z : Shape). t < containers_in z) (sym shape) knows.container) knows.locked (quiet ∙ knows.even) in
+    let quiet : is_writing t (view_after (StartWrite o f) v).log ≡ is_writing t v.log = ap (λ (b : Bool). cond b true (is_writing t v.log)) (ne_eqb o t two) in
+    let same = keeps t (subst (λ (z : Shape). t < container_count z) (sym shape) knows.container) knows.locked (quiet ∙ knows.even) in
     knows_on k t old v u same.0 same.1 (ap (λ (z : View). has_lock t z.log) is) (ap (λ (z : View). is_writing t z.log) is ∙ quiet) knows
 
 -- a pass that may add a key may write
@@ -65,18 +65,18 @@ may_write k o old v may = record {
 
 -- ---- in the table that it has
 
-module _ (heads : Heads) (laws : Laws) (k : Shape) (o : ℕ) (by : Way) (own : Table) (t : ℕ) (table : Table) (counts : Counts) (more : ℕ) (v u : View) (f : ℕ) (shape : v.shape ≡ k) (possible : ∥ Possible v ∥₁) (two : o ≢ t) (may : MayAddKey k o (Some own) v) (other : KnowsKeyed k t (Some table) v) (kind_eq : kind_in k.starts o ≡ kind_by by) (kind_t : kind_in k.starts t ≡ kind_by by)
-    (are : AreCounts (held o v).block counts) (more_is : more ≡ new_keys (known o v).content (known t v).content) (cap : passes_cap (joined (known o v).content (known t v).content) ≡ false) (serials : serial_of (known o v).content + 65536 < 2 ^ 63) (none : join_takes (known o v) (known t v).content ≡ None) (begun : u ≡ noted (StartWrite o f) v) (shape_u : u.shape ≡ k) (possible_u : ∥ Possible u ∥₁) where
+module _ (heads : Heads) (laws : Laws) (k : Shape) (o : ℕ) (by : Way) (own : Table) (t : ℕ) (table : Table) (counts : Counts) (more : ℕ) (v u : View) (f : ℕ) (shape : v.shape ≡ k) (possible : ∥ IsReachable v ∥₁) (two : o ≢ t) (may : MayAddKey k o (Some own) v) (other : KnowsKeyed k t (Some table) v) (kind_eq : kind_in k.starts o ≡ kind_by by) (kind_t : kind_in k.starts t ≡ kind_by by)
+    (are : AreCounts (held_words o v).block counts) (more_is : more ≡ new_keys (known_state o v).content (known_state t v).content) (cap : passes_cap (joined (known_state o v).content (known_state t v).content) ≡ false) (serials : serial_of (known_state o v).content + 65536 < 2 ^ 63) (none : join_takes (known_state o v) (known_state t v).content ≡ None) (begun : u ≡ view_after (StartWrite o f) v) (shape_u : u.shape ≡ k) (possible_u : ∥ IsReachable u ∥₁) where
   abbrev c : ℕ
-  c = class_of (name_of own)
+  c = class_of (table_id own)
 
   abbrev d : Content
-  d = (known o v).content
+  d = (known_state o v).content
 
   table_in : IsTableIn k own
   table_in = may.keyed.table_in own refl
 
-  class_same : class_of (name_of own) ≡ own.class
+  class_same : class_of (table_id own) ≡ own.class
   class_same = class_is own table_in.2
 
   kinds : kind_of d ≡ kind_in k.starts o
@@ -85,32 +85,32 @@ module _ (heads : Heads) (laws : Laws) (k : Shape) (o : ℕ) (by : Way) (own : T
   keyed : IsKeyed (kind_of d)
   keyed = subst IsKeyed (sym kinds) may.keyed.keyed
 
-  pub here_table : (known o v).table ≡ use_of (Some own) counts.fill
+  pub here_table : (known_state o v).table ≡ use_of (Some own) counts.fill
   here_table = use_known heads k o (Some own) v counts may.keyed are possible
 
-  use_is : (known o v).table ≡ use_with c counts.fill
+  use_is : (known_state o v).table ≡ use_with c counts.fill
   use_is = here_table ∙ (λ i. record { class = Some (sym class_same i); fill = counts.fill; keys = [] })
 
-  evens : (p : ℕ) → p < rows (kind_in k.starts o) c → version_of (name_of own) (held o v) p % 2 ≡ 0
-  evens p less = entry_shut (kind_of d) keyed c (rows (kind_of d) c) (held o v).table (shut_here heads k o own v shape possible may.keyed by kind_eq) p (subst (λ (z : Kind). p < rows z c) (sym kinds) less)
+  evens : (p : ℕ) → p < rows (kind_in k.starts o) c → version_of (table_id own) (held_words o v) p % 2 ≡ 0
+  evens p less = entry_shut (kind_of d) keyed c (rows (kind_of d) c) (held_words o v).table (shut_here heads k o own v shape possible may.keyed by kind_eq) p (subst (λ (z : Kind). p < rows z c) (sym kinds) less)
 
-  held_back : held o v ≡ held o u
-  held_back = sym (ap (held o) begun)
+  held_back : held_words o v ≡ held_words o u
+  held_back = sym (ap (held_words o) begun)
 
-  known_back : (p : ℕ) → known p v ≡ known p u
-  known_back p = sym (ap (known p) begun)
+  known_back : (p : ℕ) → known_state p v ≡ known_state p u
+  known_back p = sym (ap (known_state p) begun)
 
-  evens_on : (p : ℕ) → p < rows (kind_in k.starts o) c → version_of (name_of own) (held o u) p % 2 ≡ 0
-  evens_on = subst (λ (x : Picture). (p : ℕ) → p < rows (kind_in k.starts o) c → version_of (name_of own) x p % 2 ≡ 0) held_back evens
+  evens_on : (p : ℕ) → p < rows (kind_in k.starts o) c → version_of (table_id own) (held_words o u) p % 2 ≡ 0
+  evens_on = subst (λ (x : ContainerWords). (p : ℕ) → p < rows (kind_in k.starts o) c → version_of (table_id own) x p % 2 ≡ 0) held_back evens
 
-  alive : NoneGone (name_of own) (rows (kind_in k.starts o) c) (held o u)
+  alive : NoneGone (table_id own) (rows (kind_in k.starts o) c) (held_words o u)
   alive p key less odd dead = let e = evens_on p less in omega (arith, e, odd)
 
   midway : IsMidway k o own (record { content = d; table = use_with c counts.fill }) u
   midway = record {
     writes = writes_begun k o own v u f begun (may_write k o (Some own) v may) (record { table_in = table_in; root = may.keyed.root });
     early = ap (λ (z : View). has_committed o z.log) begun ∙ hit o false (has_committed o v.log);
-    stands = subst (λ (x : Picture). Stands k.texts x (record { content = d; table = use_with c counts.fill })) held_back (subst (λ (z : TableUse). Stands k.texts (held o v) (record { content = d; table = z })) use_is may.keyed.stands);
+    stands = subst (λ (x : ContainerWords). Represents k.texts x (record { content = d; table = use_with c counts.fill })) held_back (subst (λ (z : TableUse). Represents k.texts (held_words o v) (record { content = d; table = z })) use_is may.keyed.stands);
     same = λ p key less even live. ap (λ (z : ContainerState). under z.content key) (known_back o);
     gone = λ p key less odd dead. absurd (alive p key less odd dead);
     opened = λ p less odd. let e = evens_on p less in absurd (omega (arith, e, odd));
@@ -120,16 +120,16 @@ module _ (heads : Heads) (laws : Laws) (k : Shape) (o : ℕ) (by : Way) (own : T
   here_room =
       let s = source_known laws k o own v shape possible may.keyed by kind_eq in
       let few = s.few in
-      let full : (known o v).table.fill ≡ counts.fill = ap (λ (z : TableUse). z.fill) here_table in
+      let full : (known_state o v).table.fill ≡ counts.fill = ap (λ (z : TableUse). z.fill) here_table in
       let low : counts.fill ≤ rows (kind_by by) own.class = subst (λ (n : ℕ). counts.fill ≤ rows (kind_by by) n) class_same (omega (arith, few, full)) in
       let stays : keys_take d (use_of (Some own) counts.fill) more ≡ None = (λ i. keys_take d (sym here_table i) (more_is i)) ∙ none in
       subst (λ (z : Kind × ℕ). counts.fill + more ≤ rows z.0 z.1) (λ i. (sym kind_eq i, sym class_same i)) (keys_room d by own counts.fill more (kinds ∙ kind_eq) low stays)
 
-  pub here_begins : IsJoining k o by own t table (joined (known o u).content (known t u).content) (counts.fill + more) 0 counts u
+  pub here_begins : IsJoining k o by own t table (joined (known_state o u).content (known_state t u).content) (counts.fill + more) 0 counts u
   here_begins =
       let n = counts_known heads k o (Some own) v counts may.keyed are in
       let source = source_known laws k t table u shape_u possible_u (knows_begun k o t (Some table) v u f begun two other) by kind_t in
-      let goal : joined d (known t u).content ≡ joined (known o u).content (known t u).content = ap (λ (z : ContainerState). joined z.content (known t u).content) (known_back o) in
+      let goal : joined d (known_state t u).content ≡ joined (known_state o u).content (known_state t u).content = ap (λ (z : ContainerState). joined z.content (known_state t u).content) (known_back o) in
       subst (λ (z : Content). IsJoining k o by own t table z (counts.fill + more) 0 counts u) goal
       (joining_begins k o by own t table d counts more u midway (kinds ∙ kind_eq) kind_eq n.0 n.1 alive evens_on source
       (subst (λ (z : ContainerState). passes_cap (joined d z.content) ≡ false) (known_back t) cap) serials

@@ -25,9 +25,9 @@ use Rattle.ft_trace.specs.declared.Shape.{Shape}
 use Rattle.ft_trace.specs.declared.View.{View}
 use Rattle.ft_trace.specs.Addresses.{class_of, slots}
 use Rattle.ft_trace.specs.Carefuls.{IsDead, HasLiveKey, said_of}
-use Rattle.ft_trace.specs.Holds.{held, known}
+use Rattle.ft_trace.specs.Holds.{held_words, known_state}
 use Rattle.ft_trace.specs.Kinds.{IsKeyed, rows, under}
-use Rattle.ft_trace.specs.Pictures.{Picture, entry_offset, entry_field, Stands}
+use Rattle.ft_trace.specs.Pictures.{ContainerWords, entry_offset, entry_field, Represents}
 use Rattle.ft_trace.specs.ContainerStates.{ContainerState, kind_in}
 use Rattle.ft_trace.proofs.ByKind.{keyed_fit}
 use Rattle.ft_trace.proofs.DictWrites as dict
@@ -37,7 +37,7 @@ use Rattle.ft_trace.proofs.SetKnown as set
 use Rattle.ft_trace.proofs.SetKnown.{FirstEntriesAreElements}
 use Rattle.ft_trace.proofs.Tellings.{word_is}
 use Rattle.ft_bank.specs.declared.table.Table.{Table}
-use Rattle.ft_bank.specs.TableNames.{name_of}
+use Rattle.ft_bank.specs.TableNames.{table_id}
 use Rattle.ft_bank.specs.Whole.{OnlyPut}
 use Rattle.ft_bank.proofs.TableAddresses.{class_is}
 use Rattle.ft_bank.proofs.KnownAfterWrites.{work_knows}
@@ -94,13 +94,13 @@ payload_laid n p entry l none long =
     ∙ (laid_other n p 4 (word 4) three l (λ e. absurd (omega (arith, e)))
     ∙ laid_here n p (word 3) one l (get_or-set_other l (entry_offset n p 1) (entry_offset n p 3) (word 1) 0 (λ e. absurd (omega (arith, e))) ∙ none) (omega (arith, long, size))))
 
-module _ (laws : PlaceLaws) (k : Shape) (o : ℕ) (by : Way) (own : Table) (mid : Content) (counts : Counts) (v : View) (midway : IsMidway k o own (record { content = mid; table = use_with (class_of (name_of own)) counts.fill }) v) (same_kind : kind_of mid ≡ kind_by by) (kind_eq : kind_in k.starts o ≡ kind_by by) (count_is : counts.count ≡ length_of mid)
-    (alive : NoneGone (name_of own) (rows (kind_in k.starts o) (class_of (name_of own))) (held o v)) (slot : ℕ) (key : Key) (stored : Stored) (fits : FitsKey key) (low : hash_of k.texts key < 2 ^ 64) (stores : StoresAs (kind_of mid) stored) (ok : FitsStored stored) (absent : IsHeldAt mid key None) (free : IsFreeFor k.texts by own.class key (held o v).table slot) (room : counts.fill < rows (kind_by by) (class_of (name_of own))) where
+module _ (laws : PlaceLaws) (k : Shape) (o : ℕ) (by : Way) (own : Table) (mid : Content) (counts : Counts) (v : View) (midway : IsMidway k o own (record { content = mid; table = use_with (class_of (table_id own)) counts.fill }) v) (same_kind : kind_of mid ≡ kind_by by) (kind_eq : kind_in k.starts o ≡ kind_by by) (count_is : counts.count ≡ length_of mid)
+    (alive : NoneGone (table_id own) (rows (kind_in k.starts o) (class_of (table_id own))) (held_words o v)) (slot : ℕ) (key : Key) (stored : Stored) (fits : FitsKey key) (low : hash_of k.texts key < 2 ^ 64) (stores : StoresAs (kind_of mid) stored) (ok : FitsStored stored) (absent : IsHeldAt mid key None) (free : IsFreeFor k.texts by own.class key (held_words o v).table slot) (room : counts.fill < rows (kind_by by) (class_of (table_id own))) where
   abbrev t : ℕ
-  t = name_of own
+  t = table_id own
 
-  abbrev x : Picture
-  x = held o v
+  abbrev x : ContainerWords
+  x = held_words o v
 
   abbrev c : ℕ
   c = class_of t
@@ -165,7 +165,7 @@ module _ (laws : PlaceLaws) (k : Shape) (o : ℕ) (by : Way) (own : Table) (mid 
   abbrev pair : Pair
   pair = pair_for k.texts mid key stored
 
-  abbrev y : Picture
+  abbrev y : ContainerWords
   y = with_entry t slot counts pair x
 
   abbrev news : Content
@@ -224,7 +224,7 @@ module _ (laws : PlaceLaws) (k : Shape) (o : ℕ) (by : Way) (own : Table) (mid 
   apart q even e = let o = odd_now in let same : version_of t y q ≡ version_of t y p = ap (version_of t y) e in omega (arith, o, same, even)
 
   -- an entry with an even version says what the container had
-  same_now : (q : ℕ) (a : Key) → q < rows (kind_in k.starts o) c → version_of t y q % 2 ≡ 0 → HasLiveKey n y.table q a → under news a ≡ under (known o v).content a
+  same_now : (q : ℕ) (a : Key) → q < rows (kind_in k.starts o) c → version_of t y q % 2 ≡ 0 → HasLiveKey n y.table q a → under news a ≡ under (known_state o v).content a
   same_now q a less even live =
       let ne = apart q even in
       let was = others_same q 0 ne (omega arith) in
@@ -267,25 +267,25 @@ module _ (laws : PlaceLaws) (k : Shape) (o : ℕ) (by : Way) (own : Table) (mid 
       subst (λ (i : Key). NoneOf i left) (same_key key a fits fits_a kind payload) none)
       (λ ne. let was = others_same q 0 ne (omega arith) in before q a less (omega (arith, was, odd)) fits_a (live_before q a ne live))
 
-  module _ (z : View) (only : OnlyPut o v z) (words : held o z ≡ y) (writes : WritesEntries k o own z) where
-    back : y ≡ held o z
+  module _ (z : View) (only : OnlyPut o v z) (words : held_words o z ≡ y) (writes : WritesEntries k o own z) where
+    back : y ≡ held_words o z
     back = sym words
 
-    knows : known o v ≡ known o z
+    knows : known_state o v ≡ known_state o z
     knows = sym (work_knows v z o only.work)
 
-    pub alive_put : NoneGone t (rows (kind_in k.starts o) c) (held o z)
-    alive_put = subst (λ (w : Picture). NoneGone t (rows (kind_in k.starts o) c) w) back alive_then
+    pub alive_put : NoneGone t (rows (kind_in k.starts o) c) (held_words o z)
+    alive_put = subst (λ (w : ContainerWords). NoneGone t (rows (kind_in k.starts o) c) w) back alive_then
 
-    pub ahead_put : (left : List UsedEntry) → NoneAhead t (rows (kind_in k.starts o) c) x left → NoneOf key left → NoneAhead t (rows (kind_in k.starts o) c) (held o z) left
-    ahead_put left before none = subst (λ (w : Picture). NoneAhead t (rows (kind_in k.starts o) c) w left) back (ahead_then left before none)
+    pub ahead_put : (left : List UsedEntry) → NoneAhead t (rows (kind_in k.starts o) c) x left → NoneOf key left → NoneAhead t (rows (kind_in k.starts o) c) (held_words o z) left
+    ahead_put left before none = subst (λ (w : ContainerWords). NoneAhead t (rows (kind_in k.starts o) c) w left) back (ahead_then left before none)
 
     pub midway_put : IsMidway k o own (record { content = news; table = use_with c (p + 1) }) z
     midway_put = record {
       writes = writes;
       early = only.work.committed o ∙ midway.early;
-      stands = subst (λ (w : Picture). Stands k.texts w (record { content = news; table = use_with c (p + 1) })) back says_now.0;
-      same = subst (λ (w : Picture × ContainerState). (q : ℕ) (a : Key) → q < rows (kind_in k.starts o) c → version_of t w.0 q % 2 ≡ 0 → HasLiveKey n w.0.table q a → under news a ≡ under w.1.content a) (λ i. (back i, knows i)) same_now;
+      stands = subst (λ (w : ContainerWords). Represents k.texts w (record { content = news; table = use_with c (p + 1) })) back says_now.0;
+      same = subst (λ (w : ContainerWords × ContainerState). (q : ℕ) (a : Key) → q < rows (kind_in k.starts o) c → version_of t w.0 q % 2 ≡ 0 → HasLiveKey n w.0.table q a → under news a ≡ under w.1.content a) (λ i. (back i, knows i)) same_now;
       gone = λ q a less odd dead. absurd (alive_put q a less odd dead);
-      opened = subst (λ (w : Picture). (q : ℕ) → q < rows (kind_in k.starts o) c → version_of t w q % 2 ≡ 1 → q < p + 1) back opened_then;
+      opened = subst (λ (w : ContainerWords). (q : ℕ) → q < rows (kind_in k.starts o) c → version_of t w q % 2 ≡ 1 → q < p + 1) back opened_then;
     }

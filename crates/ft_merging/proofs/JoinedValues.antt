@@ -22,16 +22,16 @@ use Rattle.ft_trace.specs.declared.View.{View}
 use Rattle.ft_trace.specs.Addresses.{class_of, places, slots}
 use Rattle.ft_trace.specs.Carefuls.{IsDead, HasLiveKey, Pairs, said_of}
 use Rattle.ft_trace.specs.EntryWrites.{value_puts}
-use Rattle.ft_trace.specs.Holds.{held, known}
+use Rattle.ft_trace.specs.Holds.{held_words, known_state}
 use Rattle.ft_trace.specs.Kinds.{rows, under}
-use Rattle.ft_trace.specs.Pictures.{Picture, entry_field, Stands}
+use Rattle.ft_trace.specs.Pictures.{ContainerWords, entry_field, Represents}
 use Rattle.ft_trace.specs.ContainerStates.{ContainerState, kind_in}
 use Rattle.ft_trace.specs.WholeWrites.{MayPuts, with_puts}
 use Rattle.ft_trace.proofs.DictWrites as dict
 use Rattle.ft_trace.proofs.EntryPuts.{key3, other3, ver3}
 use Rattle.ft_trace.proofs.Known.{table_is_long}
 use Rattle.ft_bank.specs.declared.table.Table.{Table}
-use Rattle.ft_bank.specs.TableNames.{name_of}
+use Rattle.ft_bank.specs.TableNames.{table_id}
 use Rattle.ft_bank.specs.Whole.{OnlyPut}
 use Rattle.ft_bank.proofs.KnownAfterWrites.{work_knows}
 use Rattle.ft_search.specs.OneEntryWrites.{WritesEntries}
@@ -46,31 +46,31 @@ use Rattle.ft_merging.proofs.JoinedContents.{set_same}
 
 -- The entry at this place was written, whose key stays, and no other.
 pub record IsPutThere (k : Shape) (o : ℕ) (own : Table) (mid : Content) (fill at : ℕ) (v z : View) : Type 0 where
-  pub midway : IsMidway k o own (record { content = mid; table = use_with (class_of (name_of own)) fill }) z
-  pub alive : NoneGone (name_of own) (rows (kind_in k.starts o) (class_of (name_of own))) (held o z)
-  pub keys : (q w : ℕ) → (w ≡ 2) ⊎ (w ≡ 3) → entry_field (slots (class_of (name_of own))) (held o z).table q w ≡ entry_field (slots (class_of (name_of own))) (held o v).table q w
-  pub others : (q : ℕ) → q ≢ at → version_of (name_of own) (held o z) q ≡ version_of (name_of own) (held o v) q
+  pub midway : IsMidway k o own (record { content = mid; table = use_with (class_of (table_id own)) fill }) z
+  pub alive : NoneGone (table_id own) (rows (kind_in k.starts o) (class_of (table_id own))) (held_words o z)
+  pub keys : (q w : ℕ) → (w ≡ 2) ⊎ (w ≡ 3) → entry_field (slots (class_of (table_id own))) (held_words o z).table q w ≡ entry_field (slots (class_of (table_id own))) (held_words o v).table q w
+  pub others : (q : ℕ) → q ≢ at → version_of (table_id own) (held_words o z) q ≡ version_of (table_id own) (held_words o v) q
 
 -- the key is none of those that are left
-pub ahead_there : (k : Shape) (o : ℕ) (own : Table) (mid : Content) (fill at : ℕ) (v z : View) → IsPutThere k o own mid fill at v z → (key : Key) → FitsKey key → HasLiveKey (slots (class_of (name_of own))) (held o v).table at key → (left : List UsedEntry)
-    → NoneAhead (name_of own) (rows (kind_in k.starts o) (class_of (name_of own))) (held o v) left → NoneOf key left → NoneAhead (name_of own) (rows (kind_in k.starts o) (class_of (name_of own))) (held o z) left
+pub ahead_there : (k : Shape) (o : ℕ) (own : Table) (mid : Content) (fill at : ℕ) (v z : View) → IsPutThere k o own mid fill at v z → (key : Key) → FitsKey key → HasLiveKey (slots (class_of (table_id own))) (held_words o v).table at key → (left : List UsedEntry)
+    → NoneAhead (table_id own) (rows (kind_in k.starts o) (class_of (table_id own))) (held_words o v) left → NoneOf key left → NoneAhead (table_id own) (rows (kind_in k.starts o) (class_of (table_id own))) (held_words o z) left
 ahead_there k o own mid fill at v z put key fits live left before none q a less odd fits_a live_now =
-    let was : HasLiveKey (slots (class_of (name_of own))) (held o v).table q a = (sym (put.keys q 2 (inl refl)) ∙ live_now.0, sym (put.keys q 3 (inr refl)) ∙ live_now.1) in
+    let was : HasLiveKey (slots (class_of (table_id own))) (held_words o v).table q a = (sym (put.keys q 2 (inl refl)) ∙ live_now.0, sym (put.keys q 3 (inr refl)) ∙ live_now.1) in
     dite (ℕ_discrete q at)
     (λ (e : q ≡ at).
-    let here : HasLiveKey (slots (class_of (name_of own))) (held o v).table at a = subst (λ (i : ℕ). HasLiveKey (slots (class_of (name_of own))) (held o v).table i a) e was in
+    let here : HasLiveKey (slots (class_of (table_id own))) (held_words o v).table at a = subst (λ (i : ℕ). HasLiveKey (slots (class_of (table_id own))) (held_words o v).table i a) e was in
     subst (λ (i : Key). NoneOf i left) (same_key key a fits fits_a (sym live.0 ∙ here.0) (sym live.1 ∙ here.1)) none)
     (λ ne. let same = put.others q ne in before q a less (omega (arith, same, odd)) fits_a was)
 
 -- ---- a dict
 
-module _ (laws : ValueLaws) (k : Shape) (o : ℕ) (own : Table) (pairs : DictContent) (fill : ℕ) (v : View) (midway : IsMidway k o own (record { content = content.Dict pairs; table = use_with (class_of (name_of own)) fill }) v) (kind_eq : kind_in k.starts o ≡ kind.Dict) (at : ℕ) (key : Key) (value : Value) (fits : FitsKey key) (ok : FitsStored (Plain value)) (low : at < rows (kind_in k.starts o) (class_of (name_of own))) (live : HasLiveKey (slots (class_of (name_of own))) (held o v).table at key)
-    (even : version_of (name_of own) (held o v) at % 2 ≡ 0) where
+module _ (laws : ValueLaws) (k : Shape) (o : ℕ) (own : Table) (pairs : DictContent) (fill : ℕ) (v : View) (midway : IsMidway k o own (record { content = content.Dict pairs; table = use_with (class_of (table_id own)) fill }) v) (kind_eq : kind_in k.starts o ≡ kind.Dict) (at : ℕ) (key : Key) (value : Value) (fits : FitsKey key) (ok : FitsStored (Plain value)) (low : at < rows (kind_in k.starts o) (class_of (table_id own))) (live : HasLiveKey (slots (class_of (table_id own))) (held_words o v).table at key)
+    (even : version_of (table_id own) (held_words o v) at % 2 ≡ 0) where
   abbrev t : ℕ
-  t = name_of own
+  t = table_id own
 
-  abbrev x : Picture
-  x = held o v
+  abbrev x : ContainerWords
+  x = held_words o v
 
   abbrev c : ℕ
   c = class_of t
@@ -108,7 +108,7 @@ module _ (laws : ValueLaws) (k : Shape) (o : ℕ) (own : Table) (pairs : DictCon
   says : IsDictWords k.texts x.block (0 ∷ 0 ∷ x.table) (Some c) fill pairs
   says = midway.stands
 
-  abbrev y : Picture
+  abbrev y : ContainerWords
   y = with_puts x (value_puts n x.table at value)
 
   pub dict_may : (before : Content) → MayPuts (kind_in k.starts o) t before false x (value_puts n x.table at value)
@@ -133,7 +133,7 @@ module _ (laws : ValueLaws) (k : Shape) (o : ℕ) (own : Table) (pairs : DictCon
   apart q two e = let o = ver_now in let same : version_of t y q ≡ version_of t y at = ap (version_of t y) e in omega (arith, o, same, two, even)
 
   -- an entry with an even version says what the container had
-  same_now : (q : ℕ) (a : Key) → q < m → version_of t y q % 2 ≡ 0 → HasLiveKey n y.table q a → will a ≡ under (known o v).content a
+  same_now : (q : ℕ) (a : Key) → q < m → version_of t y q % 2 ≡ 0 → HasLiveKey n y.table q a → will a ≡ under (known_state o v).content a
   same_now q a less two live_now =
       let ne = apart q two in
       let ver = others_now q 0 ne (omega arith) in
@@ -167,30 +167,30 @@ module _ (laws : ValueLaws) (k : Shape) (o : ℕ) (own : Table) (pairs : DictCon
       no)
       (λ ne. let ver = others_now q 0 ne (omega arith) in alive q a less (omega (arith, ver, odd)) old)
 
-  pub dict_put : NoneGone t m x → (z : View) → OnlyPut o v z → held o z ≡ y → WritesEntries k o own z → IsPutThere k o own (content.Dict news) fill at v z
+  pub dict_put : NoneGone t m x → (z : View) → OnlyPut o v z → held_words o z ≡ y → WritesEntries k o own z → IsPutThere k o own (content.Dict news) fill at v z
   dict_put alive z only words writes =
-      let back : y ≡ held o z = sym words in
-      let knows : known o v ≡ known o z = sym (work_knows v z o only.work) in
-      let gone : NoneGone t m (held o z) = subst (λ (w : Picture). NoneGone t m w) back (alive_now alive) in
+      let back : y ≡ held_words o z = sym words in
+      let knows : known_state o v ≡ known_state o z = sym (work_knows v z o only.work) in
+      let gone : NoneGone t m (held_words o z) = subst (λ (w : ContainerWords). NoneGone t m w) back (alive_now alive) in
       record {
         midway = record {
           writes = writes;
           early = only.work.committed o ∙ midway.early;
-          stands = subst (λ (w : Picture). Stands k.texts w (record { content = content.Dict news; table = use_with c fill })) back says_now;
-          same = subst (λ (w : Picture × ContainerState). (q : ℕ) (a : Key) → q < m → version_of t w.0 q % 2 ≡ 0 → HasLiveKey n w.0.table q a → will a ≡ under w.1.content a) (λ i. (back i, knows i)) same_now;
+          stands = subst (λ (w : ContainerWords). Represents k.texts w (record { content = content.Dict news; table = use_with c fill })) back says_now;
+          same = subst (λ (w : ContainerWords × ContainerState). (q : ℕ) (a : Key) → q < m → version_of t w.0 q % 2 ≡ 0 → HasLiveKey n w.0.table q a → will a ≡ under w.1.content a) (λ i. (back i, knows i)) same_now;
           gone = λ q a less odd dead. absurd (gone q a less odd dead);
-          opened = subst (λ (w : Picture). (q : ℕ) → q < m → version_of t w q % 2 ≡ 1 → q < fill) back opened_now;
+          opened = subst (λ (w : ContainerWords). (q : ℕ) → q < m → version_of t w q % 2 ≡ 1 → q < fill) back opened_now;
         };
         alive = gone;
-        keys = λ q w which. ap (λ (u : Picture). entry_field n u.table q w) words ∙ keys_now q w which;
-        others = λ q ne. ap (λ (u : Picture). version_of t u q) words ∙ others_now q 0 ne (omega arith);
+        keys = λ q w which. ap (λ (u : ContainerWords). entry_field n u.table q w) words ∙ keys_now q w which;
+        others = λ q ne. ap (λ (u : ContainerWords). version_of t u q) words ∙ others_now q 0 ne (omega arith);
       }
 
 -- ---- either
 
-module _ (laws : ValueLaws) (k : Shape) (o : ℕ) (own : Table) (fill : ℕ) (v : View) (at : ℕ) (key : Key) (fits : FitsKey key) (low : at < rows (kind_in k.starts o) (class_of (name_of own))) (live : HasLiveKey (slots (class_of (name_of own))) (held o v).table at key) (even : version_of (name_of own) (held o v) at % 2 ≡ 0) where
-  pub there_may : (mid : Content) (stored : Stored) → IsMidway k o own (record { content = mid; table = use_with (class_of (name_of own)) fill }) v → kind_of mid ≡ kind_in k.starts o → StoresAs (kind_of mid) stored → FitsStored stored → (before : Content)
-      → MayPuts (kind_in k.starts o) (name_of own) before false (held o v) (stored_puts (slots (class_of (name_of own))) (held o v).table at stored)
+module _ (laws : ValueLaws) (k : Shape) (o : ℕ) (own : Table) (fill : ℕ) (v : View) (at : ℕ) (key : Key) (fits : FitsKey key) (low : at < rows (kind_in k.starts o) (class_of (table_id own))) (live : HasLiveKey (slots (class_of (table_id own))) (held_words o v).table at key) (even : version_of (table_id own) (held_words o v) at % 2 ≡ 0) where
+  pub there_may : (mid : Content) (stored : Stored) → IsMidway k o own (record { content = mid; table = use_with (class_of (table_id own)) fill }) v → kind_of mid ≡ kind_in k.starts o → StoresAs (kind_of mid) stored → FitsStored stored → (before : Content)
+      → MayPuts (kind_in k.starts o) (table_id own) before false (held_words o v) (stored_puts (slots (class_of (table_id own))) (held_words o v).table at stored)
   there_may (content.Dict pairs) (Plain value) midway kinds stores ok before = dict_may laws k o own pairs fill v midway (sym kinds) at key value fits ok low live even before
   there_may (content.Dict pairs) Empty midway kinds stores ok before = tt
   there_may (content.Dict pairs) (Boxed block) midway kinds stores ok before = tt
@@ -200,25 +200,25 @@ module _ (laws : ValueLaws) (k : Shape) (o : ℕ) (own : Table) (fill : ℕ) (v 
   there_may (content.List values) stored midway kinds stores ok before = absurd stores
   there_may (content.Deque deque) stored midway kinds stores ok before = absurd stores
 
-  pub there_put : (mid : Content) (stored : Stored) → IsMidway k o own (record { content = mid; table = use_with (class_of (name_of own)) fill }) v → kind_of mid ≡ kind_in k.starts o → StoresAs (kind_of mid) stored → FitsStored stored → holds mid key ≡ true → NoneGone (name_of own) (rows (kind_in k.starts o) (class_of (name_of own))) (held o v)
-      → (z : View) → OnlyPut o v z → held o z ≡ with_puts (held o v) (stored_puts (slots (class_of (name_of own))) (held o v).table at stored) → WritesEntries k o own z → IsPutThere k o own (with_key mid key stored) fill at v z
+  pub there_put : (mid : Content) (stored : Stored) → IsMidway k o own (record { content = mid; table = use_with (class_of (table_id own)) fill }) v → kind_of mid ≡ kind_in k.starts o → StoresAs (kind_of mid) stored → FitsStored stored → holds mid key ≡ true → NoneGone (table_id own) (rows (kind_in k.starts o) (class_of (table_id own))) (held_words o v)
+      → (z : View) → OnlyPut o v z → held_words o z ≡ with_puts (held_words o v) (stored_puts (slots (class_of (table_id own))) (held_words o v).table at stored) → WritesEntries k o own z → IsPutThere k o own (with_key mid key stored) fill at v z
   there_put (content.Dict pairs) (Plain value) midway kinds stores ok there alive z only words writes = dict_put laws k o own pairs fill v midway (sym kinds) at key value fits ok low live even alive z only words writes
   there_put (content.Set elements) Empty midway kinds stores ok there alive z only words writes =
-      let back : held o v ≡ held o z = sym words in
-      let knows : known o v ≡ known o z = sym (work_knows v z o only.work) in
-      let gone = subst (λ (w : Picture). NoneGone (name_of own) (rows (kind_in k.starts o) (class_of (name_of own))) w) back alive in
+      let back : held_words o v ≡ held_words o z = sym words in
+      let knows : known_state o v ≡ known_state o z = sym (work_knows v z o only.work) in
+      let gone = subst (λ (w : ContainerWords). NoneGone (table_id own) (rows (kind_in k.starts o) (class_of (table_id own))) w) back alive in
       subst (λ (d : Content). IsPutThere k o own d fill at v z) (sym (set_same (content.Set elements) key Empty refl there)) (record {
         midway = record {
           writes = writes;
           early = only.work.committed o ∙ midway.early;
-          stands = subst (λ (w : Picture). Stands k.texts w (record { content = content.Set elements; table = use_with (class_of (name_of own)) fill })) back midway.stands;
-          same = subst (λ (w : Picture × ContainerState). (q : ℕ) (a : Key) → q < rows (kind_in k.starts o) (class_of (name_of own)) → version_of (name_of own) w.0 q % 2 ≡ 0 → HasLiveKey (slots (class_of (name_of own))) w.0.table q a → under (content.Set elements) a ≡ under w.1.content a) (λ i. (back i, knows i)) midway.same;
+          stands = subst (λ (w : ContainerWords). Represents k.texts w (record { content = content.Set elements; table = use_with (class_of (table_id own)) fill })) back midway.stands;
+          same = subst (λ (w : ContainerWords × ContainerState). (q : ℕ) (a : Key) → q < rows (kind_in k.starts o) (class_of (table_id own)) → version_of (table_id own) w.0 q % 2 ≡ 0 → HasLiveKey (slots (class_of (table_id own))) w.0.table q a → under (content.Set elements) a ≡ under w.1.content a) (λ i. (back i, knows i)) midway.same;
           gone = λ q a less odd dead. absurd (gone q a less odd dead);
-          opened = subst (λ (w : Picture). (q : ℕ) → q < rows (kind_in k.starts o) (class_of (name_of own)) → version_of (name_of own) w q % 2 ≡ 1 → q < fill) back midway.opened;
+          opened = subst (λ (w : ContainerWords). (q : ℕ) → q < rows (kind_in k.starts o) (class_of (table_id own)) → version_of (table_id own) w q % 2 ≡ 1 → q < fill) back midway.opened;
         };
         alive = gone;
-        keys = λ q w which. ap (λ (u : Picture). entry_field (slots (class_of (name_of own))) u.table q w) words;
-        others = λ q ne. ap (λ (u : Picture). version_of (name_of own) u q) words;
+        keys = λ q w which. ap (λ (u : ContainerWords). entry_field (slots (class_of (table_id own))) u.table q w) words;
+        others = λ q ne. ap (λ (u : ContainerWords). version_of (table_id own) u q) words;
       })
   there_put (content.Dict pairs) Empty midway kinds stores ok there alive z only words writes = absurd stores
   there_put (content.Dict pairs) (Boxed block) midway kinds stores ok there alive z only words writes = absurd stores

@@ -7,7 +7,7 @@ use Rattle.ft_model.specs.TableUses.{passes_cap}
 use Rattle.ft_trace.specs.declared.Shape.{Shape}
 use Rattle.ft_trace.specs.declared.View.{View}
 use Rattle.ft_trace.specs.Acts.{has_lock}
-use Rattle.ft_trace.specs.Addresses.{containers_in}
+use Rattle.ft_trace.specs.Addresses.{container_count}
 use Rattle.ft_section.specs.declared.answers.Objects.TheVariants.{Two}
 use Rattle.ft_section.specs.LockTakings.{AreIn, HasLocks}
 
@@ -18,10 +18,10 @@ has_each v a b h = by (nat_lt b a) h
     by true x = (x.1, x.0)
     by false x = x
 
-pub are_in : (k : Shape) (a b : ℕ) → a < containers_in k → b < containers_in k → AreIn k (Two a b)
+pub are_in : (k : Shape) (a b : ℕ) → a < container_count k → b < container_count k → AreIn k (Two a b)
 are_in k a b low high = by (nat_lt b a)
   where
-    by : (c : Bool) → ((if c then b else a) < containers_in k) × ((if c then a else b) < containers_in k)
+    by : (c : Bool) → ((if c then b else a) < container_count k) × ((if c then a else b) < container_count k)
     by true = (high, low)
     by false = (low, high)
 

@@ -15,7 +15,7 @@ use Rattle.ft_layout.specs.Containers.{used_element, IsSetWords}
 use Rattle.ft_layout.specs.Tables.{UsedEntry, is_live}
 use Rattle.ft_layout.proofs.Powers.{slots_range}
 use Rattle.ft_trace.specs.declared.View.{View}
-use Rattle.ft_trace.specs.Holds.{known}
+use Rattle.ft_trace.specs.Holds.{known_state}
 use Rattle.ft_trace.specs.ContainerStates.{ContainerState}
 use Rattle.ft_search.specs.OneEntryWrites.{Leaves}
 use Rattle.ft_adding.proofs.Placed.{use_with}
@@ -51,11 +51,11 @@ join_fits texts block words class fill more first d others is_class says is more
     ∙ le-ltb most_elements (length (set_or first (set_of others).elements).elements) (omega (arith, many, few, filled, all, news, room, range))
 
 -- what the call leaves
-pub parts_here : (s t : ℕ) (called : Call) (v : View) (class fill more : ℕ) (first : SetContent) → PartsSets s t called v → (known s v).content ≡ content.Set first → (known s v).table ≡ use_with class fill → more ≡ new_keys (known s v).content (known t v).content → part_takes (known s v) (known t v).content ≡ None → passes_cap (content.Set (parted (known s v).content (known t v).content)) ≡ false
-    → Leaves s called reply.Done (record { content = content.Set (parted (known s v).content (known t v).content); table = use_with class (fill + more) }) v
+pub parts_here : (s t : ℕ) (called : Call) (v : View) (class fill more : ℕ) (first : SetContent) → PartsSets s t called v → (known_state s v).content ≡ content.Set first → (known_state s v).table ≡ use_with class fill → more ≡ new_keys (known_state s v).content (known_state t v).content → part_takes (known_state s v) (known_state t v).content ≡ None → passes_cap (content.Set (parted (known_state s v).content (known_state t v).content)) ≡ false
+    → Leaves s called reply.Done (record { content = content.Set (parted (known_state s v).content (known_state t v).content); table = use_with class (fill + more) }) v
 parts_here s t called v class fill more first parts is table more_is none few =
-    let kept = known s v in
-    let others = (known t v).content in
+    let kept = known_state s v in
+    let others = (known_state t v).content in
     let drawn = part_draws kept.content others first is in
     let left : (parted_state kept others).table ≡ use_with class (fill + more) =
     ap (λ (z : Option ℕ). grown_table kept.table z ((parted kept.content others).next - (set_of kept.content).next) (length (parted kept.content others).elements)) none

@@ -33,9 +33,9 @@ use Rattle.ft_trace.specs.declared.Shape.{Shape}
 use Rattle.ft_trace.specs.declared.View.{View}
 use Rattle.ft_trace.specs.Addresses.{class_of, slots, size}
 use Rattle.ft_trace.specs.Carefuls.{HasLiveKey, IsDead, said_of}
-use Rattle.ft_trace.specs.Holds.{held, known}
+use Rattle.ft_trace.specs.Holds.{held_words, known_state}
 use Rattle.ft_trace.specs.Kinds.{element_words, is_key, rows, under}
-use Rattle.ft_trace.specs.Pictures.{Picture, root_in, entry_offset, entry_field, Stands}
+use Rattle.ft_trace.specs.Pictures.{ContainerWords, root_in, entry_offset, entry_field, Represents}
 use Rattle.ft_trace.specs.ContainerStates.{ContainerState, kind_in}
 use Rattle.ft_trace.specs.WholeWrites.{to_block, to_table, with_puts, MayPut, MayPuts}
 use Rattle.ft_trace.proofs.ByKind.{keyed_low}
@@ -47,7 +47,7 @@ use Rattle.ft_trace.proofs.SetKnown as set
 use Rattle.ft_trace.proofs.SetDiscards as discarded
 use Rattle.ft_trace.proofs.Tellings.{key_is, key_words, live_tells, right_is_live, word_is}
 use Rattle.ft_bank.specs.declared.table.Table.{Table}
-use Rattle.ft_bank.specs.TableNames.{name_of}
+use Rattle.ft_bank.specs.TableNames.{table_id}
 use Rattle.ft_bank.specs.Whole.{OnlyLoaded, OnlyPut}
 use Rattle.ft_bank.proofs.KnownAfterWrites.{loaded_held, loaded_put, work_knows}
 use Rattle.ft_search.specs.OneEntryWrites.{deletion}
@@ -122,7 +122,7 @@ spared_own kept others first (e ∷ es) each =
 
 -- ---- an entry of a set whose other entries may be written too
 
-module _ (laws : SetLaws) (texts : List ℕ) (x : Picture) (tab : TableUse) (t : ℕ) (is_class : IsClass (class_of t)) (elements : SetContent) (says : IsSetWords texts x.block (0 ∷ 0 ∷ x.table) (Some (class_of t)) tab.fill elements) (p : ℕ) (key : Key) (low : p < set_entries (class_of t)) (live : HasLiveKey (slots (class_of t)) x.table p key) (fits : FitsKey key) where
+module _ (laws : SetLaws) (texts : List ℕ) (x : ContainerWords) (tab : TableUse) (t : ℕ) (is_class : IsClass (class_of t)) (elements : SetContent) (says : IsSetWords texts x.block (0 ∷ 0 ∷ x.table) (Some (class_of t)) tab.fill elements) (p : ℕ) (key : Key) (low : p < set_entries (class_of t)) (live : HasLiveKey (slots (class_of t)) x.table p key) (fits : FitsKey key) where
   abbrev c : ℕ
   c = class_of t
 
@@ -184,7 +184,7 @@ module _ (laws : SetLaws) (texts : List ℕ) (x : Picture) (tab : TableUse) (t :
     abbrev put : List ℕ
     put = slice_set opened (entry_offset n p 2) (gone_kind key)
 
-    abbrev after : Picture
+    abbrev after : ContainerWords
     after = record { block = block; table = put }
 
     pub now_odd : entry_field n put p 0 ≡ ver + 1
@@ -223,7 +223,7 @@ module _ (laws : SetLaws) (texts : List ℕ) (x : Picture) (tab : TableUse) (t :
         let moved : IsSetWords texts block (with_deleted (class_mask c) (0 ∷ 0 ∷ opened) p key) (Some c) tab.fill news = subst (λ (z : Key). IsSetWords texts block (with_deleted (class_mask c) (0 ∷ 0 ∷ opened) p z) (Some c) tab.fill (set_discard elements z)) mine.2 made in
         subst (λ (z : List ℕ). IsSetWords texts block z (Some c) tab.fill news) same_words moved
 
-    pub now_stands : Stands texts after (record { content = content.Set news; table = tab })
+    pub now_stands : Represents texts after (record { content = content.Set news; table = tab })
     now_stands = subst (λ (z : Option ℕ). IsSetWords texts block (0 ∷ 0 ∷ put) z tab.fill news) (sym class_eq) now_says
 
     pub now_root : root_in after ≡ root_in x
@@ -277,30 +277,30 @@ module _ (laws : SetLaws) (texts : List ℕ) (x : Picture) (tab : TableUse) (t :
 
 pub midway_loaded : (k : Shape) (o : ℕ) (table : Table) (mid : ContainerState) (v w : View) → OnlyLoaded v w → IsMidway k o table mid v → IsMidway k o table mid w
 midway_loaded k o table mid v w only b =
-    let back : held o v ≡ held o w = sym (loaded_held v w o only) in
-    let knows : known o v ≡ known o w = sym (work_knows v w o only.work) in
-    let t = name_of table in
+    let back : held_words o v ≡ held_words o w = sym (loaded_held v w o only) in
+    let knows : known_state o v ≡ known_state o w = sym (work_knows v w o only.work) in
+    let t = table_id table in
     let m = rows (kind_in k.starts o) (class_of t) in
     record {
       writes = writes_on k o table v w (loaded_put v w o only) (ap root_in (sym back)) b.writes;
       early = only.work.committed o ∙ b.early;
-      stands = subst (λ (y : Picture). Stands k.texts y mid) back b.stands;
-      same = subst (λ (y : Picture × ContainerState). (p : ℕ) (key : Key) → p < m → version_of t y.0 p % 2 ≡ 0 → HasLiveKey (slots (class_of t)) y.0.table p key → under mid.content key ≡ under y.1.content key) (λ d. (back d, knows d)) b.same;
-      gone = subst (λ (y : Picture). NoneDead t m y mid) back b.gone;
-      opened = subst (λ (y : Picture). (p : ℕ) → p < m → version_of t y p % 2 ≡ 1 → p < mid.table.fill) back b.opened;
+      stands = subst (λ (y : ContainerWords). Represents k.texts y mid) back b.stands;
+      same = subst (λ (y : ContainerWords × ContainerState). (p : ℕ) (key : Key) → p < m → version_of t y.0 p % 2 ≡ 0 → HasLiveKey (slots (class_of t)) y.0.table p key → under mid.content key ≡ under y.1.content key) (λ d. (back d, knows d)) b.same;
+      gone = subst (λ (y : ContainerWords). NoneDead t m y mid) back b.gone;
+      opened = subst (λ (y : ContainerWords). (p : ℕ) → p < m → version_of t y p % 2 ≡ 1 → p < mid.table.fill) back b.opened;
     }
 
 module _ (k : Shape) (s : ℕ) (table : Table) (kept : Bool) (others first : SetContent) (to : ContainerState) (last place : ℕ) (v w : View) (only : OnlyLoaded v w) (th : IsThinned k s table kept others first to last place v) where
   abbrev lt : ℕ
-  lt = name_of table
+  lt = table_id table
 
   abbrev lm : ℕ
   lm = rows (kind_in k.starts s) (class_of lt)
 
-  back' : held s v ≡ held s w
+  back' : held_words s v ≡ held_words s w
   back' = sym (loaded_held v w s only)
 
-  knows' : known s v ≡ known s w
+  knows' : known_state s v ≡ known_state s w
   knows' = sym (work_knows v w s only.work)
 
   pub thinned_loaded : IsThinned k s table kept others first to last place w
@@ -310,14 +310,14 @@ module _ (k : Shape) (s : ℕ) (table : Table) (kept : Bool) (others first : Set
     first_is = ap (λ (y : ContainerState). y.content) (sym knows') ∙ th.first_is;
     fits = th.fits;
     comes = th.comes;
-    even = subst (λ (y : Picture). (p : ℕ) → p < lm → place ≤ p → p < last → version_of lt y p % 2 ≡ 0) back' th.even;
-    done = subst (λ (y : Picture). (p : ℕ) (key : Key) → p < lm → p < place → FitsKey key → HasLiveKey (slots (class_of lt)) y.table p key → spared kept others first key ≡ true) back' th.done;
-    rest = subst (λ (y : Picture). (p : ℕ) (key : Key) → p < lm → last ≤ p → FitsKey key → HasLiveKey (slots (class_of lt)) y.table p key → spared kept others first key ≡ true) back' th.rest;
+    even = subst (λ (y : ContainerWords). (p : ℕ) → p < lm → place ≤ p → p < last → version_of lt y p % 2 ≡ 0) back' th.even;
+    done = subst (λ (y : ContainerWords). (p : ℕ) (key : Key) → p < lm → p < place → FitsKey key → HasLiveKey (slots (class_of lt)) y.table p key → spared kept others first key ≡ true) back' th.done;
+    rest = subst (λ (y : ContainerWords). (p : ℕ) (key : Key) → p < lm → last ≤ p → FitsKey key → HasLiveKey (slots (class_of lt)) y.table p key → spared kept others first key ≡ true) back' th.rest;
   }
 
 module _ (k : Shape) (s : ℕ) (table : Table) (kept : Bool) (others first : SetContent) (to : ContainerState) (last place : ℕ) (v : View) (is : kind_in k.starts s ≡ kind.Set) (th : IsThinned k s table kept others first to last place v) where
   abbrev vt : ℕ
-  vt = name_of table
+  vt = table_id table
 
   abbrev vn : ℕ
   vn = slots (class_of vt)
@@ -325,8 +325,8 @@ module _ (k : Shape) (s : ℕ) (table : Table) (kept : Bool) (others first : Set
   abbrev vm : ℕ
   vm = set_entries (class_of vt)
 
-  abbrev words_now : Picture
-  words_now = held s v
+  abbrev words_now : ContainerWords
+  words_now = held_words s v
 
   abbrev tab : TableUse
   tab = to.table
@@ -362,25 +362,25 @@ module _ (k : Shape) (s : ℕ) (table : Table) (kept : Bool) (others first : Set
     pub was_there : has_element first.elements key ≡ true
     was_there = element_there first key fits th.fits (λ none. there laws k.texts words_now tab vt class_is th.mid says_now place key low live fits (th.midway.same place key (row place low) even_here live ∙ (ap (λ (z : Content). under z key) th.first_is ∙ none)))
 
-    pub may_go : MayPuts (kind_in k.starts s) vt (known s v).content false words_now (deletion vt place key words_now)
+    pub may_go : MayPuts (kind_in k.starts s) vt (known_state s v).content false words_now (deletion vt place key words_now)
     may_go =
-        subst (λ (z : Kind). MayPuts z vt (known s v).content false words_now (deletion vt place key words_now)) (sym is)
-        (may_delete laws k.texts words_now tab vt class_is th.mid says_now place key low live fits class_some th.midway.writes.root (set.set_is_long v s vt th.midway.writes.root) even_here (known s v).content)
+        subst (λ (z : Kind). MayPuts z vt (known_state s v).content false words_now (deletion vt place key words_now)) (sym is)
+        (may_delete laws k.texts words_now tab vt class_is th.mid says_now place key low live fits class_some th.midway.writes.root (set.set_is_long v s vt th.midway.writes.root) even_here (known_state s v).content)
 
     pub some_there : 0 < slice_index words_now.block 1
     some_there = some laws k.texts words_now tab vt class_is th.mid says_now place key low live fits class_some th.midway.writes.root (set.set_is_long v s vt th.midway.writes.root) even_here
 
-    module _ (z : View) (only : OnlyPut s v z) (puts : held s z ≡ with_puts words_now (deletion vt place key words_now)) (out : spared kept others first key ≡ false) where
+    module _ (z : View) (only : OnlyPut s v z) (puts : held_words s z ≡ with_puts words_now (deletion vt place key words_now)) (out : spared kept others first key ≡ false) where
       abbrev long : vn + 8 * vm ≤ length words_now.table
       long = set.set_is_long v s vt th.midway.writes.root
 
-      abbrev words_then : Picture
+      abbrev words_then : ContainerWords
       words_then = with_puts words_now (deletion vt place key words_now)
 
-      back : words_then ≡ held s z
+      back : words_then ≡ held_words s z
       back = sym puts
 
-      knows : known s v ≡ known s z
+      knows : known_state s v ≡ known_state s z
       knows = sym (work_knows v z s only.work)
 
       abbrev mid_then : Content
@@ -399,7 +399,7 @@ module _ (k : Shape) (s : ℕ) (table : Table) (kept : Bool) (others first : Set
       live_before : (p : ℕ) (a : Key) → p ≢ place → HasLiveKey vn words_then.table p a → HasLiveKey vn words_now.table p a
       live_before p a ne l = other_live laws k.texts words_now tab vt class_is th.mid says_now place key low live fits class_some th.midway.writes.root long even_here p a ne l
 
-      same_then : (p : ℕ) (a : Key) → p < rows (kind_in k.starts s) (class_of vt) → version_of vt words_then p % 2 ≡ 0 → HasLiveKey vn words_then.table p a → under mid_then a ≡ under (known s v).content a
+      same_then : (p : ℕ) (a : Key) → p < rows (kind_in k.starts s) (class_of vt) → version_of vt words_then p % 2 ≡ 0 → HasLiveKey vn words_then.table p a → under mid_then a ≡ under (known_state s v).content a
       same_then p a less two l =
           let ne = apart p two in
           let e = same_word p 0 ne (omega arith) in
@@ -439,10 +439,10 @@ module _ (k : Shape) (s : ℕ) (table : Table) (kept : Bool) (others first : Set
       midway_then = record {
         writes = writes_on k s table v z only (ap root_in puts ∙ now_root laws k.texts words_now tab vt class_is th.mid says_now place key low live fits class_some th.midway.writes.root long even_here) th.midway.writes;
         early = only.work.committed s ∙ th.midway.early;
-        stands = subst (λ (y : Picture). Stands k.texts y (record { content = mid_then; table = tab })) back (now_stands laws k.texts words_now tab vt class_is th.mid says_now place key low live fits class_some th.midway.writes.root long even_here);
-        same = subst (λ (y : Picture × ContainerState). (p : ℕ) (a : Key) → p < rows (kind_in k.starts s) (class_of vt) → version_of vt y.0 p % 2 ≡ 0 → HasLiveKey vn y.0.table p a → under mid_then a ≡ under y.1.content a) (λ d. (back d, knows d)) same_then;
-        gone = subst (λ (y : Picture). NoneDead vt (rows (kind_in k.starts s) (class_of vt)) y (record { content = mid_then; table = tab })) back gone_then;
-        opened = subst (λ (y : Picture). (p : ℕ) → p < rows (kind_in k.starts s) (class_of vt) → version_of vt y p % 2 ≡ 1 → p < tab.fill) back opened_then;
+        stands = subst (λ (y : ContainerWords). Represents k.texts y (record { content = mid_then; table = tab })) back (now_stands laws k.texts words_now tab vt class_is th.mid says_now place key low live fits class_some th.midway.writes.root long even_here);
+        same = subst (λ (y : ContainerWords × ContainerState). (p : ℕ) (a : Key) → p < rows (kind_in k.starts s) (class_of vt) → version_of vt y.0 p % 2 ≡ 0 → HasLiveKey vn y.0.table p a → under mid_then a ≡ under y.1.content a) (λ d. (back d, knows d)) same_then;
+        gone = subst (λ (y : ContainerWords). NoneDead vt (rows (kind_in k.starts s) (class_of vt)) y (record { content = mid_then; table = tab })) back gone_then;
+        opened = subst (λ (y : ContainerWords). (p : ℕ) → p < rows (kind_in k.starts s) (class_of vt) → version_of vt y p % 2 ≡ 1 → p < tab.fill) back opened_then;
       }
 
       pub thinned_goes : IsThinned k s table kept others first to last (place + 1) z
@@ -452,9 +452,9 @@ module _ (k : Shape) (s : ℕ) (table : Table) (kept : Bool) (others first : Set
         first_is = ap (λ (y : ContainerState). y.content) (sym knows) ∙ th.first_is;
         fits = th.fits;
         comes = ap (λ (es : List Element). content.Set (record { next = th.mid.next; elements = es })) (discard_stays (spared kept others first) key out th.mid.elements) ∙ th.comes;
-        even = subst (λ (y : Picture). (p : ℕ) → p < rows (kind_in k.starts s) (class_of vt) → place + 1 ≤ p → p < last → version_of vt y p % 2 ≡ 0) back even_then;
-        done = subst (λ (y : Picture). (p : ℕ) (a : Key) → p < rows (kind_in k.starts s) (class_of vt) → p < place + 1 → FitsKey a → HasLiveKey vn y.table p a → spared kept others first a ≡ true) back done_then;
-        rest = subst (λ (y : Picture). (p : ℕ) (a : Key) → p < rows (kind_in k.starts s) (class_of vt) → last ≤ p → FitsKey a → HasLiveKey vn y.table p a → spared kept others first a ≡ true) back rest_then;
+        even = subst (λ (y : ContainerWords). (p : ℕ) → p < rows (kind_in k.starts s) (class_of vt) → place + 1 ≤ p → p < last → version_of vt y p % 2 ≡ 0) back even_then;
+        done = subst (λ (y : ContainerWords). (p : ℕ) (a : Key) → p < rows (kind_in k.starts s) (class_of vt) → p < place + 1 → FitsKey a → HasLiveKey vn y.table p a → spared kept others first a ≡ true) back done_then;
+        rest = subst (λ (y : ContainerWords). (p : ℕ) (a : Key) → p < rows (kind_in k.starts s) (class_of vt) → last ≤ p → FitsKey a → HasLiveKey vn y.table p a → spared kept others first a ≡ true) back rest_then;
       }
 
   -- ---- where it stays, or none is there

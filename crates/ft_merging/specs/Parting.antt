@@ -12,7 +12,7 @@ use Rattle.ft_model.specs.Worlds.{IsDeclared, no_hands, set_of}
 use Rattle.ft_trace.specs.declared.Shape.{Shape}
 use Rattle.ft_trace.specs.declared.View.{View}
 use Rattle.ft_trace.specs.FitCalls.{FitsCall}
-use Rattle.ft_trace.specs.Holds.{known}
+use Rattle.ft_trace.specs.Holds.{known_state}
 use Rattle.ft_trace.specs.BegunSections.{HasLocksOf}
 use Rattle.ft_trace.specs.ContainerStates.{ContainerState, changes, state_at, may_empty}
 use Rattle.ft_bank.specs.Whole.{OnlyLoaded}
@@ -54,16 +54,16 @@ pub record PartsSets (s t : ℕ) (called : Call) (v : View) : Type 0 where
   pub declared : (found : StoredWorld) → MayHave v found → IsDeclared found.world no_hands called
   pub lacks : (found : StoredWorld) → MayHave v found → CanLackMemory found.world called
   pub over : (found : StoredWorld) → MayHave v found
-      → would_pass found.world called ≡ passes_cap (content.Set (parted (known s v).content (known t v).content))
+      → would_pass found.world called ≡ passes_cap (content.Set (parted (known_state s v).content (known_state t v).content))
   pub takes : (found : StoredWorld) → MayHave v found
-      → takes_in found called ≡ part_takes (known s v) (known t v).content
+      → takes_in found called ≡ part_takes (known_state s v) (known_state t v).content
   pub left_is : (found : StoredWorld) → MayHave v found
-      → state_at (after_stored found called) s ≡ parted_state (known s v) (known t v).content
+      → state_at (after_stored found called) s ≡ parted_state (known_state s v) (known_state t v).content
 
 -- What such a call comes to under the locks: after loads, by the class of the table that s takes, if it takes one, and
 -- by whether it would have more elements than the largest table holds.
 abbrev pub PartsBy : Shape → ℕ → ℕ → Call → View → View → Added → Type 0
 PartsBy k s t called v w what =
     (u : View) × OnlyLoaded v u
-    × IsAdded k (part_takes (known s v) (known t v).content)
-    (passes_cap (content.Set (parted (known s v).content (known t v).content))) called reply.Done u w what
+    × IsAdded k (part_takes (known_state s v) (known_state t v).content)
+    (passes_cap (content.Set (parted (known_state s v).content (known_state t v).content))) called reply.Done u w what

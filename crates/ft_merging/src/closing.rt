@@ -2,13 +2,13 @@
 //! that was put is made even again, and the container's.
 ghost use Rattle.std.specs.Prelude.{◌≡◌, ◌+◌, ◌<◌, ◌≤◌};
 ghost use Rattle.ft_trace.specs.Addresses.{class_of};
-ghost use Rattle.ft_trace.specs.Holds.{held, known};
+ghost use Rattle.ft_trace.specs.Holds.{held_words, known_state};
 ghost use Rattle.ft_trace.specs.Kinds.{rows};
 ghost use Rattle.ft_trace.specs.Pictures.{root_in};
 ghost use Rattle.ft_trace.specs.ContainerStates.{kind_in};
 ghost use Rattle.ft_bank.specs.Passes.{shape_of, view, IsPassOf};
 ghost use Rattle.ft_bank.specs.PassSections.{stack_of};
-ghost use Rattle.ft_bank.specs.TableNames.{name_of};
+ghost use Rattle.ft_bank.specs.TableNames.{table_id};
 ghost use Rattle.ft_bank.specs.Whole.{EndsWrite, OnlyPut};
 ghost use Rattle.ft_merging.specs.Internal.EntriesAtOnce.{IsClosing, MayFinishAll};
 
@@ -23,7 +23,7 @@ use ft_section::Object;
 /// Makes the version of the entry at a place even, where it is odd.
 fn close_at(bank: &Bank, pass: &mut Pass, o: Object, table: Table, place: u64, fill: u64)
     requires pass { IsPassOf bank.now pass.old }
-    requires place { place < rows (kind_in (shape_of bank.now).starts o) (class_of (name_of table)) }
+    requires place { place < rows (kind_in (shape_of bank.now).starts o) (class_of (table_id table)) }
     requires closing { IsClosing (shape_of bank.now) o table place fill (view pass.old) }
     ensures pass { IsPassOf bank.now pass.new }
     ensures stack { stack_of pass.new ≡ stack_of pass.old }
@@ -43,7 +43,7 @@ fn close_at(bank: &Bank, pass: &mut Pass, o: Object, table: Table, place: u64, f
 /// Makes the versions of as many entries even, where they are odd.
 fn close_all(bank: &Bank, pass: &mut Pass, o: Object, table: Table, fill: u64)
     requires pass { IsPassOf bank.now pass.old }
-    requires fill { fill ≤ rows (kind_in (shape_of bank.now).starts o) (class_of (name_of table)) }
+    requires fill { fill ≤ rows (kind_in (shape_of bank.now).starts o) (class_of (table_id table)) }
     requires closing { IsClosing (shape_of bank.now) o table 0 fill (view pass.old) }
     ensures pass { IsPassOf bank.now pass.new }
     ensures stack { stack_of pass.new ≡ stack_of pass.old }
@@ -67,7 +67,7 @@ pub(crate) fn finish_entries(
     said: &Reply,
 ) -> u64
     requires pass { IsPassOf bank.now pass.old }
-    requires fill { fill ≤ rows (kind_in (shape_of bank.now).starts o) (class_of (name_of table)) }
+    requires fill { fill ≤ rows (kind_in (shape_of bank.now).starts o) (class_of (table_id table)) }
     requires may { MayFinishAll (shape_of bank.now) o table fill called.now said.now (view pass.old) }
     ensures pass { IsPassOf bank.now pass.new }
     ensures stack { stack_of pass.new ≡ stack_of pass.old }

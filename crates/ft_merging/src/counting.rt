@@ -4,11 +4,11 @@ ghost use Rattle.ft_layout.specs.Containers.{class_mask};
 ghost use Rattle.ft_layout.specs.Tables.{UsedEntry, is_live};
 ghost use Rattle.ft_keys.specs.Ways.{IsTableOf};
 ghost use Rattle.ft_trace.specs.Addresses.{class_of};
-ghost use Rattle.ft_trace.specs.Holds.{held, known};
+ghost use Rattle.ft_trace.specs.Holds.{held_words, known_state};
 ghost use Rattle.ft_trace.specs.ContainerStates.{kind_in};
 ghost use Rattle.ft_bank.specs.Passes.{shape_of, view, IsPassOf};
 ghost use Rattle.ft_bank.specs.PassSections.{stack_of};
-ghost use Rattle.ft_bank.specs.TableNames.{name_of};
+ghost use Rattle.ft_bank.specs.TableNames.{table_id};
 ghost use Rattle.ft_bank.specs.Whole.{OnlyLoaded};
 ghost use Rattle.ft_search.specs.Rounds.{kind_by};
 ghost use Rattle.ft_search.specs.OneEntryWrites.{MayWriteEntries};
@@ -37,16 +37,16 @@ fn is_new_at(
     requires other { KnowsKeyed (shape_of bank.now) t (Some table) (view pass.old) }
     requires way { kind_in (shape_of bank.now).starts o ≡ kind_by way }
     requires other_way { kind_in (shape_of bank.now).starts t ≡ kind_by way }
-    requires place { place < (known t (view pass.old)).table.fill }
+    requires place { place < (known_state t (view pass.old)).table.fill }
     ensures pass { IsPassOf bank.now pass.new }
     ensures stack { stack_of pass.new ≡ stack_of pass.old }
     ensures only { OnlyLoaded (view pass.old) (view pass.new) }
     ensures new { (used : List UsedEntry) →
-        IsTableOf way (shape_of bank.now).texts (class_mask (class_of (name_of table))) used
-        (0 ∷ 0 ∷ (held t (view pass.old)).table) →
-        length used ≡ (known t (view pass.old)).table.fill → (any : UsedEntry) →
+        IsTableOf way (shape_of bank.now).texts (class_mask (class_of (table_id table))) used
+        (0 ∷ 0 ∷ (held_words t (view pass.old)).table) →
+        length used ≡ (known_state t (view pass.old)).table.fill → (any : UsedEntry) →
         result ≡ (is_live (slice_index_or used place any)
-        && not (holds (known o (view pass.old)).content (slice_index_or used place any).key)) }
+        && not (holds (known_state o (view pass.old)).content (slice_index_or used place any).key)) }
 {
     used_entries_follow_a_dict();
     used_entries_follow_a_set();
@@ -75,16 +75,16 @@ pub(crate) fn count_new(
     requires other { KnowsKeyed (shape_of bank.now) t (Some table) (view pass.old) }
     requires way { kind_in (shape_of bank.now).starts o ≡ kind_by way }
     requires other_way { kind_in (shape_of bank.now).starts t ≡ kind_by way }
-    requires fill { fill ≡ (known t (view pass.old)).table.fill }
+    requires fill { fill ≡ (known_state t (view pass.old)).table.fill }
     ensures pass { IsPassOf bank.now pass.new }
     ensures stack { stack_of pass.new ≡ stack_of pass.old }
     ensures only { OnlyLoaded (view pass.old) (view pass.new) }
     ensures few { result ≤ fill }
     ensures count { (used : List UsedEntry) →
-        IsTableOf way (shape_of bank.now).texts (class_mask (class_of (name_of table))) used
-        (0 ∷ 0 ∷ (held t (view pass.old)).table) →
-        length used ≡ (known t (view pass.old)).table.fill →
-        result ≡ lacking (known o (view pass.old)).content used }
+        IsTableOf way (shape_of bank.now).texts (class_mask (class_of (table_id table))) used
+        (0 ∷ 0 ∷ (held_words t (view pass.old)).table) →
+        length used ≡ (known_state t (view pass.old)).table.fill →
+        result ≡ lacking (known_state o (view pass.old)).content used }
 {
     let mut count = 0;
     for place in 0..fill {

@@ -8,12 +8,12 @@ ghost use Rattle.ft_model.specs.TableUses.{passes_cap};
 ghost use Rattle.ft_model.specs.Worlds.{length_of, serial_of};
 ghost use Rattle.ft_trace.specs.Acts.{flight, used};
 ghost use Rattle.ft_trace.specs.Addresses.{class_of};
-ghost use Rattle.ft_trace.specs.Holds.{held, known};
+ghost use Rattle.ft_trace.specs.Holds.{held_words, known_state};
 ghost use Rattle.ft_trace.specs.Pictures.{root_in};
 ghost use Rattle.ft_trace.specs.ContainerStates.{kind_in};
 ghost use Rattle.ft_bank.specs.Passes.{shape_of, view, IsPassOf};
 ghost use Rattle.ft_bank.specs.PassSections.{stack_of};
-ghost use Rattle.ft_bank.specs.TableNames.{name_of};
+ghost use Rattle.ft_bank.specs.TableNames.{table_id};
 ghost use Rattle.ft_bank.specs.Whole.{Wrote};
 ghost use Rattle.ft_growth.specs.Adding.{IsAdded};
 ghost use Rattle.ft_search.specs.Rounds.{kind_by};
@@ -49,9 +49,9 @@ fn join_here(
     requires merge { MayMerge (shape_of bank.now) (kind_by way) merge.now (view pass.old) }
     requires may { MayAddKey (shape_of bank.now) merge.now.o (Some own) (view pass.old) }
     requires few { passes_cap
-        (joined (known merge.now.o (view pass.old)).content (known merge.now.t (view pass.old)).content) ≡ false }
+        (joined (known_state merge.now.o (view pass.old)).content (known_state merge.now.t (view pass.old)).content) ≡ false }
     requires joins { JoinsKeys merge.now.o merge.now.t called.now (view pass.old) }
-    requires room { join_takes (known merge.now.o (view pass.old)) (known merge.now.t (view pass.old)).content ≡ None }
+    requires room { join_takes (known_state merge.now.o (view pass.old)) (known_state merge.now.t (view pass.old)).content ≡ None }
     ensures pass { IsPassOf bank.now pass.new }
     ensures stack { stack_of pass.new ≡ stack_of pass.old }
     ensures added { IsAdded (shape_of bank.now) None false called.now reply.Done (view pass.old) (view pass.new) result }
@@ -90,16 +90,16 @@ fn join_in_new(
     requires pass { IsPassOf bank.now pass.old }
     requires merge { MayMerge (shape_of bank.now) (kind_by way) merge.now (view pass.old) }
     requires may { MayGrowKeyed (shape_of bank.now) merge.now.o old new (view pass.old) }
-    requires apart { root_in (held merge.now.o (view pass.old)) ≢ suc (name_of new) }
+    requires apart { root_in (held_words merge.now.o (view pass.old)) ≢ suc (table_id new) }
     requires few { passes_cap
-        (joined (known merge.now.o (view pass.old)).content (known merge.now.t (view pass.old)).content) ≡ false }
+        (joined (known_state merge.now.o (view pass.old)).content (known_state merge.now.t (view pass.old)).content) ≡ false }
     requires joins { JoinsKeys merge.now.o merge.now.t called.now (view pass.old) }
-    requires takes { join_takes (known merge.now.o (view pass.old)) (known merge.now.t (view pass.old)).content
-        ≡ Some (class_of (name_of new)) }
+    requires takes { join_takes (known_state merge.now.o (view pass.old)) (known_state merge.now.t (view pass.old)).content
+        ≡ Some (class_of (table_id new)) }
     ensures pass { IsPassOf bank.now pass.new }
     ensures stack { stack_of pass.new ≡ stack_of pass.old }
     ensures wrote { Wrote called.now reply.Done result (view pass.old) (view pass.new) }
-    ensures root { root_in (held merge.now.o (view pass.new)) ≡ suc (name_of new) }
+    ensures root { root_in (held_words merge.now.o (view pass.new)) ≡ suc (table_id new) }
 {
     used_entries_follow_a_dict();
     used_entries_follow_a_set();
@@ -152,10 +152,10 @@ fn join_in_taken(
     requires merge { MayMerge (shape_of bank.now) (kind_by way) merge.now (view pass.old) }
     requires may { MayAddKey (shape_of bank.now) merge.now.o old (view pass.old) }
     requires few { passes_cap
-        (joined (known merge.now.o (view pass.old)).content (known merge.now.t (view pass.old)).content) ≡ false }
+        (joined (known_state merge.now.o (view pass.old)).content (known_state merge.now.t (view pass.old)).content) ≡ false }
     requires joins { JoinsKeys merge.now.o merge.now.t called.now (view pass.old) }
     requires class { IsClass class }
-    requires takes { join_takes (known merge.now.o (view pass.old)) (known merge.now.t (view pass.old)).content
+    requires takes { join_takes (known_state merge.now.o (view pass.old)) (known_state merge.now.t (view pass.old)).content
         ≡ Some class }
     ensures pass { IsPassOf bank.now pass.new }
     ensures stack { stack_of pass.new ≡ stack_of pass.old }
@@ -186,9 +186,9 @@ fn join_in_old(
     requires merge { MayMerge (shape_of bank.now) (kind_by way) merge.now (view pass.old) }
     requires may { MayAddKey (shape_of bank.now) merge.now.o old (view pass.old) }
     requires few { passes_cap
-        (joined (known merge.now.o (view pass.old)).content (known merge.now.t (view pass.old)).content) ≡ false }
+        (joined (known_state merge.now.o (view pass.old)).content (known_state merge.now.t (view pass.old)).content) ≡ false }
     requires joins { JoinsKeys merge.now.o merge.now.t called.now (view pass.old) }
-    requires room { join_takes (known merge.now.o (view pass.old)) (known merge.now.t (view pass.old)).content ≡ None }
+    requires room { join_takes (known_state merge.now.o (view pass.old)) (known_state merge.now.t (view pass.old)).content ≡ None }
     ensures pass { IsPassOf bank.now pass.new }
     ensures stack { stack_of pass.new ≡ stack_of pass.old }
     ensures added { IsAdded (shape_of bank.now) None false called.now reply.Done (view pass.old) (view pass.new) result }
@@ -219,8 +219,8 @@ fn join_more(
     ensures pass { IsPassOf bank.now pass.new }
     ensures stack { stack_of pass.new ≡ stack_of pass.old }
     ensures added { IsAdded (shape_of bank.now)
-        (join_takes (known merge.now.o (view pass.old)) (known merge.now.t (view pass.old)).content)
-        (passes_cap (joined (known merge.now.o (view pass.old)).content (known merge.now.t (view pass.old)).content))
+        (join_takes (known_state merge.now.o (view pass.old)) (known_state merge.now.t (view pass.old)).content)
+        (passes_cap (joined (known_state merge.now.o (view pass.old)).content (known_state merge.now.t (view pass.old)).content))
         called.now reply.Done (view pass.old) (view pass.new) result }
 {
     used_entries_follow_a_dict();
@@ -253,7 +253,7 @@ fn join_from(
     requires idle { flight (view pass.old).log ≡ 0 }
     requires way { kind_in (shape_of bank.now).starts o ≡ kind_by way }
     requires other_way { kind_in (shape_of bank.now).starts t ≡ kind_by way }
-    requires serials { serial_of (known o (view pass.old)).content + 65536 < 2 ^ 63 }
+    requires serials { serial_of (known_state o (view pass.old)).content + 65536 < 2 ^ 63 }
     requires joins { JoinsKeys o t called.now (view pass.old) }
     ensures pass { IsPassOf bank.now pass.new }
     ensures stack { stack_of pass.new ≡ stack_of pass.old }
@@ -282,12 +282,12 @@ fn join_nothing(bank: &Bank, pass: &mut Pass, o: Object, t: Object, called: &Cal
     requires pass { IsPassOf bank.now pass.old }
     requires may { MayWriteEntries (shape_of bank.now) o (view pass.old) }
     requires joins { JoinsKeys o t called.now (view pass.old) }
-    requires same { joined (known o (view pass.old)).content (known t (view pass.old)).content
-        ≡ (known o (view pass.old)).content }
+    requires same { joined (known_state o (view pass.old)).content (known_state t (view pass.old)).content
+        ≡ (known_state o (view pass.old)).content }
     ensures pass { IsPassOf bank.now pass.new }
     ensures stack { stack_of pass.new ≡ stack_of pass.old }
-    ensures added { IsAdded (shape_of bank.now) (join_takes (known o (view pass.old)) (known t (view pass.old)).content)
-        (passes_cap (joined (known o (view pass.old)).content (known t (view pass.old)).content)) called.now reply.Done
+    ensures added { IsAdded (shape_of bank.now) (join_takes (known_state o (view pass.old)) (known_state t (view pass.old)).content)
+        (passes_cap (joined (known_state o (view pass.old)).content (known_state t (view pass.old)).content)) called.now reply.Done
         (view pass.old) (view pass.new) result }
 {
     used_entries_follow_a_dict();
@@ -312,7 +312,7 @@ pub fn join_by(bank: &Bank, pass: &mut Pass, o: Object, t: Object, way: Way, cal
     requires idle { flight (view pass.old).log ≡ 0 }
     requires way { kind_in (shape_of bank.now).starts o ≡ kind_by way }
     requires other_way { kind_in (shape_of bank.now).starts t ≡ kind_by way }
-    requires serials { serial_of (known o (view pass.old)).content + 65536 < 2 ^ 63 }
+    requires serials { serial_of (known_state o (view pass.old)).content + 65536 < 2 ^ 63 }
     requires joins { JoinsKeys o t called.now (view pass.old) }
     ensures pass { IsPassOf bank.now pass.new }
     ensures stack { stack_of pass.new ≡ stack_of pass.old }

@@ -5,7 +5,7 @@ ghost use Rattle.ft_model.specs.declared.content.Content.TheVariants as content;
 ghost use Rattle.ft_model.specs.declared.reply.Reply.TheVariants as reply;
 ghost use Rattle.ft_model.specs.declared.script.Kind.TheVariants as kind;
 ghost use Rattle.ft_model.specs.TableUses.{passes_cap};
-ghost use Rattle.ft_trace.specs.Holds.{held, known};
+ghost use Rattle.ft_trace.specs.Holds.{held_words, known_state};
 ghost use Rattle.ft_trace.specs.Pictures.{root_in};
 ghost use Rattle.ft_trace.specs.ContainerStates.{kind_in};
 ghost use Rattle.ft_bank.specs.Passes.{shape_of, view, IsPassOf};
@@ -42,12 +42,12 @@ pub fn count_lacking(
     requires other { KnowsKeyed (shape_of bank.now) t (Some table) (view pass.old) }
     requires set { kind_in (shape_of bank.now).starts s ≡ kind.Set }
     requires other_set { kind_in (shape_of bank.now).starts t ≡ kind.Set }
-    requires fill { fill ≡ (known t (view pass.old)).table.fill }
+    requires fill { fill ≡ (known_state t (view pass.old)).table.fill }
     ensures pass { IsPassOf bank.now pass.new }
     ensures stack { stack_of pass.new ≡ stack_of pass.old }
     ensures only { OnlyLoaded (view pass.old) (view pass.new) }
     ensures few { result ≤ fill }
-    ensures count { result ≡ new_keys (known s (view pass.old)).content (known t (view pass.old)).content }
+    ensures count { result ≡ new_keys (known_state s (view pass.old)).content (known_state t (view pass.old)).content }
 {
     used_entries_follow_a_dict();
     used_entries_follow_a_set();
@@ -61,13 +61,13 @@ pub fn part_here(bank: &Bank, pass: &mut Pass, own: Table, merge: &Merge, called
     requires merge { MayMerge (shape_of bank.now) kind.Set merge.now (view pass.old) }
     requires may { MayAddKey (shape_of bank.now) merge.now.o (Some own) (view pass.old) }
     requires few { passes_cap (content.Set
-        (parted (known merge.now.o (view pass.old)).content (known merge.now.t (view pass.old)).content)) ≡ false }
+        (parted (known_state merge.now.o (view pass.old)).content (known_state merge.now.t (view pass.old)).content)) ≡ false }
     requires parts { PartsSets merge.now.o merge.now.t called.now (view pass.old) }
-    requires room { part_takes (known merge.now.o (view pass.old)) (known merge.now.t (view pass.old)).content ≡ None }
+    requires room { part_takes (known_state merge.now.o (view pass.old)) (known_state merge.now.t (view pass.old)).content ≡ None }
     ensures pass { IsPassOf bank.now pass.new }
     ensures stack { stack_of pass.new ≡ stack_of pass.old }
     ensures wrote { Wrote called.now reply.Done result (view pass.old) (view pass.new) }
-    ensures root { root_in (held merge.now.o (view pass.new)) ≡ root_in (held merge.now.o (view pass.old)) }
+    ensures root { root_in (held_words merge.now.o (view pass.new)) ≡ root_in (held_words merge.now.o (view pass.old)) }
 {
     used_entries_follow_a_dict();
     used_entries_follow_a_set();

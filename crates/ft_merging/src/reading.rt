@@ -5,14 +5,14 @@ ghost use Rattle.ft_layout.specs.declared.slot.Slot.{Slot};
 ghost use Rattle.ft_layout.specs.declared.slot.Slot.TheVariants.{Live};
 ghost use Rattle.ft_layout.specs.Words.{IsEntry, IsKey};
 ghost use Rattle.ft_model.specs.declared.data.Key.{Key};
-ghost use Rattle.ft_trace.specs.Addresses.{class_of, containers_in, slots};
-ghost use Rattle.ft_trace.specs.Holds.{held};
+ghost use Rattle.ft_trace.specs.Addresses.{class_of, container_count, slots};
+ghost use Rattle.ft_trace.specs.Holds.{held_words};
 ghost use Rattle.ft_trace.specs.Kinds.{rows, IsKeyed};
 ghost use Rattle.ft_trace.specs.Pictures.{entry_field};
 ghost use Rattle.ft_trace.specs.ContainerStates.{kind_in};
 ghost use Rattle.ft_bank.specs.Passes.{shape_of, view, IsPassOf};
 ghost use Rattle.ft_bank.specs.PassSections.{stack_of};
-ghost use Rattle.ft_bank.specs.TableNames.{name_of, IsTableIn};
+ghost use Rattle.ft_bank.specs.TableNames.{table_id, IsTableIn};
 ghost use Rattle.ft_bank.specs.Whole.{OnlyLoaded};
 ghost use Rattle.ft_search.specs.Held.{KnowsTable};
 ghost use Rattle.ft_search.specs.OneEntryWrites.{MayWriteEntries};
@@ -29,16 +29,16 @@ use ft_section::Object;
 /// Loads a word of an entry.
 pub fn word_of(bank: &Bank, pass: &mut Pass, o: Object, table: Table, place: u64, word: u64) -> u64
     requires pass { IsPassOf bank.now pass.old }
-    requires container { o < containers_in (shape_of bank.now) }
+    requires container { o < container_count (shape_of bank.now) }
     requires keyed { IsKeyed (kind_in (shape_of bank.now).starts o) }
     requires table { IsTableIn (shape_of bank.now) table }
-    requires knows { KnowsTable o (name_of table) (view pass.old) }
-    requires place { place < rows (kind_in (shape_of bank.now).starts o) (class_of (name_of table)) }
+    requires knows { KnowsTable o (table_id table) (view pass.old) }
+    requires place { place < rows (kind_in (shape_of bank.now).starts o) (class_of (table_id table)) }
     requires word { word < 8 }
     ensures pass { IsPassOf bank.now pass.new }
     ensures stack { stack_of pass.new ≡ stack_of pass.old }
     ensures only { OnlyLoaded (view pass.old) (view pass.new) }
-    ensures found { result ≡ entry_field (slots (class_of (name_of table))) (held o (view pass.old)).table place word }
+    ensures found { result ≡ entry_field (slots (class_of (table_id table))) (held_words o (view pass.old)).table place word }
 {
     let _ = o;
     let at = 8 * place + word + mask_of(table.class) + 1;
@@ -48,17 +48,17 @@ pub fn word_of(bank: &Bank, pass: &mut Pass, o: Object, table: Table, place: u64
 /// The key of the entry at a place, if one is there.
 pub fn key_at(bank: &Bank, pass: &mut Pass, o: Object, table: Table, place: u64) -> Option<Key>
     requires pass { IsPassOf bank.now pass.old }
-    requires container { o < containers_in (shape_of bank.now) }
+    requires container { o < container_count (shape_of bank.now) }
     requires keyed { IsKeyed (kind_in (shape_of bank.now).starts o) }
     requires table { IsTableIn (shape_of bank.now) table }
-    requires knows { KnowsTable o (name_of table) (view pass.old) }
-    requires place { place < rows (kind_in (shape_of bank.now).starts o) (class_of (name_of table)) }
+    requires knows { KnowsTable o (table_id table) (view pass.old) }
+    requires place { place < rows (kind_in (shape_of bank.now).starts o) (class_of (table_id table)) }
     ensures pass { IsPassOf bank.now pass.new }
     ensures stack { stack_of pass.new ≡ stack_of pass.old }
     ensures only { OnlyLoaded (view pass.old) (view pass.new) }
     ensures key { (key : Key) →
-        IsKey (entry_field (slots (class_of (name_of table))) (held o (view pass.old)).table place 2)
-        (entry_field (slots (class_of (name_of table))) (held o (view pass.old)).table place 3) key ↔ (result ≡ Some key) }
+        IsKey (entry_field (slots (class_of (table_id table))) (held_words o (view pass.old)).table place 2)
+        (entry_field (slots (class_of (table_id table))) (held_words o (view pass.old)).table place 3) key ↔ (result ≡ Some key) }
 {
     let kind = word_of(bank, pass, o, table, place, KEY_KIND);
     let payload = word_of(bank, pass, o, table, place, KEY);
@@ -91,16 +91,16 @@ pub(crate) fn pair_at(
     place: u64,
 ) -> Option<Pair>
     requires pass { IsPassOf bank.now pass.old }
-    requires container { o < containers_in (shape_of bank.now) }
+    requires container { o < container_count (shape_of bank.now) }
     requires keyed { IsKeyed (kind_in (shape_of bank.now).starts o) }
     requires table { IsTableIn (shape_of bank.now) table }
-    requires knows { KnowsTable o (name_of table) (view pass.old) }
-    requires place { place < rows (kind_in (shape_of bank.now).starts o) (class_of (name_of table)) }
+    requires knows { KnowsTable o (table_id table) (view pass.old) }
+    requires place { place < rows (kind_in (shape_of bank.now).starts o) (class_of (table_id table)) }
     ensures pass { IsPassOf bank.now pass.new }
     ensures stack { stack_of pass.new ≡ stack_of pass.old }
     ensures only { OnlyLoaded (view pass.old) (view pass.new) }
     ensures pair { (said : Slot) →
-        IsEntry (entry_field (slots (class_of (name_of table))) (held o (view pass.old)).table place) said →
+        IsEntry (entry_field (slots (class_of (table_id table))) (held_words o (view pass.old)).table place) said →
         result ≡ pair_in said }
 {
     let hash = word_of(bank, pass, o, table, place, HASH);

@@ -10,13 +10,13 @@ ghost use Rattle.ft_model.specs.Contents.{has_element};
 ghost use Rattle.ft_model.specs.Worlds.{set_of};
 ghost use Rattle.ft_trace.specs.Addresses.{class_of, slots};
 ghost use Rattle.ft_trace.specs.Carefuls.{HasLiveKey};
-ghost use Rattle.ft_trace.specs.Holds.{held, known};
+ghost use Rattle.ft_trace.specs.Holds.{held_words, known_state};
 ghost use Rattle.ft_trace.specs.Kinds.{rows};
 ghost use Rattle.ft_trace.specs.Pictures.{root_in};
 ghost use Rattle.ft_trace.specs.ContainerStates.{ContainerState, kind_in};
 ghost use Rattle.ft_bank.specs.Passes.{shape_of, view, IsPassOf};
 ghost use Rattle.ft_bank.specs.PassSections.{stack_of};
-ghost use Rattle.ft_bank.specs.TableNames.{name_of};
+ghost use Rattle.ft_bank.specs.TableNames.{table_id};
 ghost use Rattle.ft_bank.specs.Whole.{OnlyLoaded, OnlyPut, Wrote};
 ghost use Rattle.ft_search.specs.OneEntryWrites.{HasTable, Leaves, MayWriteEntries};
 ghost use Rattle.ft_merging.specs.Thinning.{stays, thinned_state};
@@ -45,11 +45,11 @@ fn is_in(bank: &Bank, pass: &mut Pass, s: Object, t: Object, key: Key, hash: u64
     requires hash { hash ≡ hash_of (shape_of bank.now).texts key }
     requires fits { FitsKey key }
     requires other { s ≢ t → MayWriteEntries (shape_of bank.now) t (view pass.old) }
-    requires own { s ≡ t → has_element (set_of (known t (view pass.old)).content).elements key ≡ true }
+    requires own { s ≡ t → has_element (set_of (known_state t (view pass.old)).content).elements key ≡ true }
     ensures pass { IsPassOf bank.now pass.new }
     ensures stack { stack_of pass.new ≡ stack_of pass.old }
     ensures only { OnlyLoaded (view pass.old) (view pass.new) }
-    ensures found { result ≡ has_element (set_of (known t (view pass.old)).content).elements key }
+    ensures found { result ≡ has_element (set_of (known_state t (view pass.old)).content).elements key }
 {
     if s == t {
         return true;
@@ -74,20 +74,20 @@ fn goes_at(
     requires pass { IsPassOf bank.now pass.old }
     requires set { kind_in (shape_of bank.now).starts s ≡ kind.Set }
     requires other_set { kind_in (shape_of bank.now).starts t ≡ kind.Set }
-    requires place { place < rows kind.Set (class_of (name_of table)) }
+    requires place { place < rows kind.Set (class_of (table_id table)) }
     requires other { s ≢ t → MayWriteEntries (shape_of bank.now) t (view pass.old) }
     requires thinned { (to : ContainerState) × (last : ℕ) × (place < last) × IsThinned (shape_of bank.now) s table kept
-        (set_of (known t (view pass.old)).content) (set_of (known s (view pass.old)).content) to last place
+        (set_of (known_state t (view pass.old)).content) (set_of (known_state s (view pass.old)).content) to last place
         (view pass.old) }
     ensures pass { IsPassOf bank.now pass.new }
     ensures stack { stack_of pass.new ≡ stack_of pass.old }
     ensures only { OnlyLoaded (view pass.old) (view pass.new) }
     ensures goes { (key : Key) → result ≡ Some key →
-        HasLiveKey (slots (class_of (name_of table))) (held s (view pass.old)).table place key × FitsKey key
-        × (stays kept (set_of (known t (view pass.old)).content) key ≡ false) }
+        HasLiveKey (slots (class_of (table_id table))) (held_words s (view pass.old)).table place key × FitsKey key
+        × (stays kept (set_of (known_state t (view pass.old)).content) key ≡ false) }
     ensures stays { result ≡ None → (key : Key) → FitsKey key →
-        HasLiveKey (slots (class_of (name_of table))) (held s (view pass.old)).table place key →
-        stays kept (set_of (known t (view pass.old)).content) key ≡ true }
+        HasLiveKey (slots (class_of (table_id table))) (held_words s (view pass.old)).table place key →
+        stays kept (set_of (known_state t (view pass.old)).content) key ≡ true }
 {
     versions_change_nothing();
     used_entries_follow_a_set();
@@ -108,19 +108,19 @@ fn thin_at(bank: &Bank, pass: &mut Pass, s: Object, table: Table, t: Object, kep
     requires pass { IsPassOf bank.now pass.old }
     requires set { kind_in (shape_of bank.now).starts s ≡ kind.Set }
     requires other_set { kind_in (shape_of bank.now).starts t ≡ kind.Set }
-    requires place { place < rows kind.Set (class_of (name_of table)) }
+    requires place { place < rows kind.Set (class_of (table_id table)) }
     requires other { s ≢ t → MayWriteEntries (shape_of bank.now) t (view pass.old) }
     requires thinned { (to : ContainerState) × (last : ℕ) × (place < last) × IsThinned (shape_of bank.now) s table kept
-        (set_of (known t (view pass.old)).content) (set_of (known s (view pass.old)).content) to last place
+        (set_of (known_state t (view pass.old)).content) (set_of (known_state s (view pass.old)).content) to last place
         (view pass.old) }
     ensures pass { IsPassOf bank.now pass.new }
     ensures stack { stack_of pass.new ≡ stack_of pass.old }
     ensures only { OnlyPut s (view pass.old) (view pass.new) }
     ensures thinned { (to : ContainerState) (last : ℕ) → place < last →
-        IsThinned (shape_of bank.now) s table kept (set_of (known t (view pass.old)).content)
-        (set_of (known s (view pass.old)).content) to last place (view pass.old) →
-        IsThinned (shape_of bank.now) s table kept (set_of (known t (view pass.old)).content)
-        (set_of (known s (view pass.old)).content) to last (place + 1) (view pass.new) }
+        IsThinned (shape_of bank.now) s table kept (set_of (known_state t (view pass.old)).content)
+        (set_of (known_state s (view pass.old)).content) to last place (view pass.old) →
+        IsThinned (shape_of bank.now) s table kept (set_of (known_state t (view pass.old)).content)
+        (set_of (known_state s (view pass.old)).content) to last (place + 1) (view pass.new) }
 {
     versions_change_nothing();
     used_entries_follow_a_set();
@@ -143,19 +143,19 @@ pub(crate) fn thin_all(
     requires pass { IsPassOf bank.now pass.old }
     requires set { kind_in (shape_of bank.now).starts s ≡ kind.Set }
     requires other_set { kind_in (shape_of bank.now).starts t ≡ kind.Set }
-    requires fill { fill ≤ rows kind.Set (class_of (name_of table)) }
+    requires fill { fill ≤ rows kind.Set (class_of (table_id table)) }
     requires other { s ≢ t → MayWriteEntries (shape_of bank.now) t (view pass.old) }
     requires thinned { (to : ContainerState) × IsThinned (shape_of bank.now) s table kept
-        (set_of (known t (view pass.old)).content) (set_of (known s (view pass.old)).content) to fill 0
+        (set_of (known_state t (view pass.old)).content) (set_of (known_state s (view pass.old)).content) to fill 0
         (view pass.old) }
     ensures pass { IsPassOf bank.now pass.new }
     ensures stack { stack_of pass.new ≡ stack_of pass.old }
     ensures only { OnlyPut s (view pass.old) (view pass.new) }
     ensures thinned { (to : ContainerState) → IsThinned (shape_of bank.now) s table kept
-        (set_of (known t (view pass.old)).content) (set_of (known s (view pass.old)).content) to fill 0
+        (set_of (known_state t (view pass.old)).content) (set_of (known_state s (view pass.old)).content) to fill 0
         (view pass.old) →
-        IsThinned (shape_of bank.now) s table kept (set_of (known t (view pass.old)).content)
-        (set_of (known s (view pass.old)).content) to fill fill (view pass.new) }
+        IsThinned (shape_of bank.now) s table kept (set_of (known_state t (view pass.old)).content)
+        (set_of (known_state s (view pass.old)).content) to fill fill (view pass.new) }
 {
     for place in 0..fill {
         thin_at(bank, pass, s, table, t, kept, place);
@@ -180,13 +180,13 @@ fn thin_table(
     requires set { kind_in (shape_of bank.now).starts s ≡ kind.Set }
     requires other_set { kind_in (shape_of bank.now).starts t ≡ kind.Set }
     requires table { HasTable (shape_of bank.now) s table (view pass.old) }
-    requires fill { fill ≡ (known s (view pass.old)).table.fill }
+    requires fill { fill ≡ (known_state s (view pass.old)).table.fill }
     requires leaves { Leaves s called.now reply.Done
-        (thinned_state kept (known t (view pass.old)) (known s (view pass.old))) (view pass.old) }
+        (thinned_state kept (known_state t (view pass.old)) (known_state s (view pass.old))) (view pass.old) }
     ensures pass { IsPassOf bank.now pass.new }
     ensures stack { stack_of pass.new ≡ stack_of pass.old }
     ensures wrote { Wrote called.now reply.Done result (view pass.old) (view pass.new) }
-    ensures root { root_in (held s (view pass.new)) ≡ root_in (held s (view pass.old)) }
+    ensures root { root_in (held_words s (view pass.new)) ≡ root_in (held_words s (view pass.old)) }
 {
     used_entries_follow_a_dict();
     used_entries_follow_a_set();
@@ -205,11 +205,11 @@ pub fn thin_by(bank: &Bank, pass: &mut Pass, s: Object, t: Object, kept: bool, c
     requires set { kind_in (shape_of bank.now).starts s ≡ kind.Set }
     requires other_set { kind_in (shape_of bank.now).starts t ≡ kind.Set }
     requires leaves { Leaves s called.now reply.Done
-        (thinned_state kept (known t (view pass.old)) (known s (view pass.old))) (view pass.old) }
+        (thinned_state kept (known_state t (view pass.old)) (known_state s (view pass.old))) (view pass.old) }
     ensures pass { IsPassOf bank.now pass.new }
     ensures stack { stack_of pass.new ≡ stack_of pass.old }
     ensures wrote { Wrote called.now reply.Done result (view pass.old) (view pass.new) }
-    ensures root { root_in (held s (view pass.new)) ≡ root_in (held s (view pass.old)) }
+    ensures root { root_in (held_words s (view pass.new)) ≡ root_in (held_words s (view pass.old)) }
 {
     let root = bank.read_block(pass, s, 0);
     let fill = bank.read_block(pass, s, FILL);

@@ -10,7 +10,7 @@ use Rattle.ft_model.specs.declared.cursor.Cursor.{Cursor}
 use Rattle.ft_model.specs.Calls.{is_locked_dict, is_locked_list, is_locked_set, one_or_two, other_dict, other_list, other_set, other_deque, is_locked_deque}
 use Rattle.ft_model.specs.Worlds.{container_of, cursor_at}
 use Rattle.ft_trace.specs.declared.Shape.{Shape}
-use Rattle.ft_trace.specs.Addresses.{containers_in}
+use Rattle.ft_trace.specs.Addresses.{container_count}
 use Rattle.ft_section.specs.declared.answers.Objects.{Objects}
 use Rattle.ft_section.specs.declared.answers.Objects.TheVariants.{One, Two}
 use Rattle.ft_section.specs.LockTakings.{lower_of, upper_of}
@@ -104,17 +104,17 @@ weaker None P Q from holds = tt
 weaker (Some o) P Q from holds = from o holds
 
 -- the containers that a call names are there
-pub are_low : (k : Shape) (hands : List (Option Cursor)) (called : Call) (objects : Objects) → IsCallIn k hands called → AreOver k hands → objects_of hands called ≡ Some objects → upper_of objects < containers_in k
-are_low k hands (call.Dict o c) objects names over is = by_low o (other_dict c) objects (containers_in k) is names.0.0.0 (weaker (other_dict c) _ (λ p. p < containers_in k) (λ p there. there.0) names.0.1)
-are_low k hands (call.List o c) objects names over is = by_low o (other_list c) objects (containers_in k) is names.0.0.0 (weaker (other_list c) _ (λ p. p < containers_in k) (λ p there. there.0) names.0.1)
-are_low k hands (call.Set o c) objects names over is = by_low o (other_set c) objects (containers_in k) is names.0.0.0 (weaker (other_set c) _ (λ p. p < containers_in k) (λ p there. there.0) names.0.1)
+pub are_low : (k : Shape) (hands : List (Option Cursor)) (called : Call) (objects : Objects) → IsCallIn k hands called → AreOver k hands → objects_of hands called ≡ Some objects → upper_of objects < container_count k
+are_low k hands (call.Dict o c) objects names over is = by_low o (other_dict c) objects (container_count k) is names.0.0.0 (weaker (other_dict c) _ (λ p. p < container_count k) (λ p there. there.0) names.0.1)
+are_low k hands (call.List o c) objects names over is = by_low o (other_list c) objects (container_count k) is names.0.0.0 (weaker (other_list c) _ (λ p. p < container_count k) (λ p there. there.0) names.0.1)
+are_low k hands (call.Set o c) objects names over is = by_low o (other_set c) objects (container_count k) is names.0.0.0 (weaker (other_set c) _ (λ p. p < container_count k) (λ p there. there.0) names.0.1)
 are_low k hands (call.Deque o c) objects names over is = absurd names
 are_low k hands (call.Next number) objects names over is =
-    elim (cursor_at hands number) as (λ o. cursor_at hands number ≡ o → option_map (λ walker. One (container_of walker)) o ≡ Some objects → upper_of objects < containers_in k) [
+    elim (cursor_at hands number) as (λ o. cursor_at hands number ≡ o → option_map (λ walker. One (container_of walker)) o ≡ Some objects → upper_of objects < container_count k) [
       | None ↦ λ none is_none. absurd (none-some objects is_none)
-      | Some walker ↦ λ at is_one. subst (λ (os : Objects). upper_of os < containers_in k) (same_Some (One (container_of walker)) objects is_one) (over number walker at).0.0
+      | Some walker ↦ λ at is_one. subst (λ (os : Objects). upper_of os < container_count k) (same_Some (One (container_of walker)) objects is_one) (over number walker at).0.0
     ] refl is
-are_low k hands (call.Begin first second) objects names over is = by_low first second objects (containers_in k) is names.0 names.1
+are_low k hands (call.Begin first second) objects names over is = by_low first second objects (container_count k) is names.0 names.1
 are_low k hands call.End objects names over is = absurd (none-some objects is)
 are_low k hands call.Quiesce objects names over is = absurd (none-some objects is)
 are_low k hands (call.Await thread index) objects names over is = absurd (none-some objects is)

@@ -9,7 +9,7 @@ use Rattle.ft_trace.specs.declared.View.{View}
 use Rattle.ft_trace.specs.declared.Shape.{Shape}
 use Rattle.ft_trace.specs.Acts.{floor_words, seen_writes}
 use Rattle.ft_trace.specs.Addresses.{at, counter, extent, lock_of}
-use Rattle.ft_trace.specs.Traces.{Possible}
+use Rattle.ft_trace.specs.Traces.{IsReachable}
 use Rattle.ft_trace.proofs.Addresses.{at_low}
 use Rattle.ft_trace.proofs.Floored.{floor_stands}
 use Rattle.ft_trace.proofs.OneWord.{wide}
@@ -70,7 +70,7 @@ handed_on script turns v w standings from was =
     }
 
 -- there are words
-some_words : (k : Shape) (v : View) → Possible v → v.shape ≡ k → v.has_floor ≡ true → floor_words v.shape v.number v.log ≡ [] → ⊥
+some_words : (k : Shape) (v : View) → IsReachable v → v.shape ≡ k → v.has_floor ≡ true → floor_words v.shape v.number v.log ≡ [] → ⊥
 some_words k v p is floor none =
     let words = (floor_stands v.shape p.0 p.2.0 p.1 v p.2.1).0 floor in
     let long : length (floor_words v.shape v.number v.log) ≡ extent v.shape = ap length words.1 ∙ wide v.shape p.0 in

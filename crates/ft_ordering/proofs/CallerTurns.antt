@@ -14,7 +14,7 @@ use Rattle.ft_model.specs.declared.script.ScriptParts.{ScriptParts}
 use Rattle.ft_model.specs.Histories.{calls_of}
 use Rattle.ft_model.specs.Worlds.{container_of, cursor_at}
 use Rattle.ft_trace.specs.declared.Shape.{Shape}
-use Rattle.ft_trace.specs.Addresses.{containers_in}
+use Rattle.ft_trace.specs.Addresses.{container_count}
 use Rattle.ft_trace.specs.Hands.{cursor_in}
 use Rattle.ft_bank.specs.Passes.{view}
 use Rattle.ft_closing.specs.Marks.{walked_by}
@@ -36,7 +36,7 @@ use Rattle.ft_ordering.proofs.TurnOutcomes.{Comes}
 
 -- ---- the script's containers
 
-pub count_for : (script : ScriptParts) (k : Shape) → IsFor script k → containers_in k ≡ length script.containers
+pub count_for : (script : ScriptParts) (k : Shape) → IsFor script k → container_count k ≡ length script.containers
 count_for script k is = ap length is.starts ∙ length-map script.containers (λ (one : Declaration). one.start)
 
 pub owned_after : (script : ScriptParts) (turns : List ℕ) → IsOwned script (after_turns script turns)

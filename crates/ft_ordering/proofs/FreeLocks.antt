@@ -7,10 +7,10 @@ use Rattle.std.proofs.lemmas.Option.{none-some, same_Some}
 use Rattle.ft_trace.specs.declared.Shape.{Shape}
 use Rattle.ft_trace.specs.declared.View.{View}
 use Rattle.ft_trace.specs.Acts.{has_lock}
-use Rattle.ft_trace.specs.Addresses.{at, containers_in, lock_of}
+use Rattle.ft_trace.specs.Addresses.{at, container_count, lock_of}
 use Rattle.ft_trace.specs.Floors.{at_floor, lock_of_another}
 use Rattle.ft_trace.specs.NumberPlaces.{top}
-use Rattle.ft_trace.specs.Traces.{Event, did, forked, joined, sent, word, Possible, Valid}
+use Rattle.ft_trace.specs.Traces.{Event, did, forked, joined, sent, word, IsReachable, Valid}
 use Rattle.ft_trace.proofs.Cases.{hit, miss}
 use Rattle.ft_trace.proofs.Floored.{floor_stands}
 use Rattle.ft_trace.proofs.Locks.{holder, names}
@@ -44,7 +44,7 @@ named_is zero thread is = absurd (none-some thread is)
 named_is (suc n) thread is = ap suc (same_Some n thread is)
 
 -- a lock is a pass's of the bank
-owners_low : (v : View) → Possible v → v.has_floor ≡ true → (o : ℕ) → o < containers_in v.shape → (thread : ℕ) → owners_in v o ≡ Some thread → thread < v.shape.passes
+owners_low : (v : View) → IsReachable v → v.has_floor ≡ true → (o : ℕ) → o < container_count v.shape → (thread : ℕ) → owners_in v o ≡ Some thread → thread < v.shape.passes
 owners_low v p floor o low thread is =
     let k = v.shape in
     let es = p.0 in
@@ -58,7 +58,7 @@ owners_low v p floor o low thread is =
     omega arith
 
 -- a pass without the lock isn't the one that the word names
-not_own : (v : View) → Possible v → v.has_floor ≡ true → v.number ≢ 0 → (o : ℕ) → o < containers_in v.shape → has_lock o v.log ≡ false → owners_in v o ≢ Some (v.number - 1)
+not_own : (v : View) → IsReachable v → v.has_floor ≡ true → v.number ≢ 0 → (o : ℕ) → o < container_count v.shape → has_lock o v.log ≡ false → owners_in v o ≢ Some (v.number - 1)
 not_own v p floor live o low lacks is =
     let n = slice_index (at_floor v.log) (at v.shape (lock_of o)) in
     let known : lock_of_another v.number n ≡ suc (v.number - 1) = sym ((known_owners_stay v p floor o low).0 lacks) ∙ named_is (floor_word (lock_of o) v) (v.number - 1) is in
@@ -88,7 +88,7 @@ one_more e v c is none floor from so_far o thread low below =
     elim (cases_eq thread (thread_of c)) [
       | inl same ↦ λ owned. ∥∥₁_elim {P = ⊥} c.pass.possible (hlevel) (λ p.
           not_own (view c.pass) p floor (λ z. (let n = some_number c.pass in absurd (omega arith))) o low (has_none e c is none o) (owned ∙ ap Some same))
-      | inr differs ↦ λ owned. so_far o thread (subst (λ k. o < containers_in k) from.shape low) (omega arith) (same_owners v (view c.pass) from o ∙ owned)
+      | inr differs ↦ λ owned. so_far o thread (subst (λ k. o < container_count k) from.shape low) (omega arith) (same_owners v (view c.pass) from o ∙ owned)
     ]
 
 pub nobodys_are_free : LocksOfNobodyAreFree
@@ -96,7 +96,7 @@ nobodys_are_free e c is floor none o low =
     elim (owners_in (view c.pass) o) as (λ owner. owners_in (view c.pass) o ≡ owner → owners_in (view c.pass) o ≡ None) [
       | None ↦ λ free. free
       | Some thread ↦ λ owned. absurd (∥∥₁_elim {P = ⊥} c.pass.possible (hlevel) (λ p.
-          let here : o < containers_in (view c.pass).shape = rw is.pass.1 low in
+          let here : o < container_count (view c.pass).shape = rw is.pass.1 low in
           let below = owners_low (view c.pass) p floor o here thread owned in
           none o thread here (subst (λ (k : Shape). thread < k.passes) is.pass.1 below) owned))
     ] refl

@@ -5,7 +5,7 @@ use Rattle.std.proofs.Math.Nat.{ℕ_set}
 use Rattle.ft_model.specs.declared.cursor.Cursor.{Cursor}
 use Rattle.ft_trace.specs.declared.View.{View}
 use Rattle.ft_trace.specs.Acts.{has_lock}
-use Rattle.ft_trace.specs.Addresses.{containers_in}
+use Rattle.ft_trace.specs.Addresses.{container_count}
 use Rattle.ft_trace.specs.Floors.{at_floor}
 use Rattle.ft_bank.specs.declared.bank.Bank.{Bank}
 use Rattle.ft_bank.specs.declared.pass.Pass.{Pass}
@@ -57,7 +57,7 @@ floor_between u v w first second =
     }
 
 -- the owners after steps of the pass
-pub owners_then : (p q : Pass) (thread : ℕ) → (view p).number - 1 ≡ thread → SameFloor (view p) (view q) → (view p).has_floor ≡ true → (o : ℕ) → o < containers_in (view p).shape
+pub owners_then : (p q : Pass) (thread : ℕ) → (view p).number - 1 ≡ thread → SameFloor (view p) (view q) → (view p).has_floor ≡ true → (o : ℕ) → o < container_count (view p).shape
     → owners_in (view q) o ≡ owner_after thread (owners_in (view p)) (has_of p) (has_of q) o
 owners_then p q thread is same floor o low =
     let before = owners_in (view q) o in

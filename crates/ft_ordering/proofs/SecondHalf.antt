@@ -4,7 +4,7 @@ use Rattle.std.specs.Prelude.{All}
 use Rattle.std.proofs.lemmas.List.{get_or_push, length_push}
 use Rattle.ft_model.specs.declared.call.Call.{Call}
 use Rattle.ft_model.specs.declared.script.ScriptParts.{ScriptParts}
-use Rattle.ft_trace.specs.Addresses.{containers_in}
+use Rattle.ft_trace.specs.Addresses.{container_count}
 use Rattle.ft_bank.specs.declared.bank.Bank.{Bank}
 use Rattle.ft_bank.specs.declared.pass.Pass.{Pass}
 use Rattle.ft_bank.specs.declared.sections.OpenSection.{OpenSection}
@@ -33,7 +33,7 @@ all_last P xs ys y is all =
     ((subst (All P) is all) (length ys) y (omega (arith, length_push ys y)))
 
 module _ (script : ScriptParts) (machine : Machine) (thread : ℕ) (called : Call) (b : Bank) (p q : Pass)
-    (count : containers_in (view p).shape ≡ length script.containers) (floor : (view p).has_floor ≡ true)
+    (count : container_count (view p).shape ≡ length script.containers) (floor : (view p).has_floor ≡ true)
     (inv : IsOwned script machine) (stands : Stands script machine thread (owners_in (view p)) (has_of p) (stack_of p)) (may : MayResume b p)
     (counted : IsCounted (has_of q) (stack_of q)) (are : (o : ℕ) → o < length script.containers → owners_in (view q) o ≡ owner_after thread (owners_in (view p)) (has_of p) (has_of q) o)
     (next : next_call script thread (thread_at machine thread) ≡ Some called) (fixed : (thread_at machine thread).fixed ≡ true) where

@@ -16,7 +16,7 @@ use Rattle.ft_model.specs.Worlds.{container_of, cursor_at}
 use Rattle.ft_history.proofs.HistoryPlaces.{take_next}
 use Rattle.ft_trace.specs.declared.View.{View}
 use Rattle.ft_trace.specs.Acts.{seen_writes}
-use Rattle.ft_trace.specs.Addresses.{containers_in}
+use Rattle.ft_trace.specs.Addresses.{container_count}
 use Rattle.ft_bank.specs.declared.pass.Pass.{Pass}
 use Rattle.ft_bank.specs.Passes.{shape_of, view}
 use Rattle.ft_bank.specs.PassSections.{Stack, stack_of}
@@ -135,8 +135,8 @@ module _ (script : ScriptParts) (e : Engine) (turns : List ℕ) (standings : Lis
   abbrev Result : Type 0
   Result = Outcome (entries_with_answer thread called t mine)
 
-  count : containers_in (view c.pass).shape ≡ length script.containers
-  count = ap containers_in is.caller.pass.1 ∙ count_for script (shape_of e.bank) made_for
+  count : container_count (view c.pass).shape ≡ length script.containers
+  count = ap container_count is.caller.pass.1 ∙ count_for script (shape_of e.bank) made_for
 
   as_thread : IsAsThread calls state (standing_of c mine)
   as_thread = was.threads thread (standing_of c mine) at
@@ -151,7 +151,7 @@ module _ (script : ScriptParts) (e : Engine) (turns : List ℕ) (standings : Lis
   module _ (p : Pass) (mid : Machine) (said : Reply) (stamp : Stamp)
       (same_turn : turn script machine thread ≡ finish_try mid thread)
       (inv : IsOwned script mid) (now : Stands script mid thread (owners_in (view p)) (has_of p) (stack_of p)) (may : MayResume e.bank p)
-      (floor : (view p).has_floor ≡ true) (low : containers_in (view p).shape ≡ length script.containers) (number : (view p).number - 1 ≡ thread) (onwards : SameFloor (view p) (view d.pass))
+      (floor : (view p).has_floor ≡ true) (low : container_count (view p).shape ≡ length script.containers) (number : (view p).number - 1 ≡ thread) (onwards : SameFloor (view p) (view d.pass))
       (marks : (thread_at mid thread).marks ≡ state.marks) (fixed : (thread_at mid thread).fixed ≡ true)
       (others : (other : ℕ) → other ≢ thread → thread_at mid other ≡ thread_at machine other)
       (taken : IsTakenUp said stamp p d.pass t) (waits : WaitsAnswered called said stamp t d.flight)
@@ -306,7 +306,7 @@ module _ (script : ScriptParts) (e : Engine) (turns : List ℕ) (standings : Lis
         (λ begins outer top cut. answer.0.top begins outer top cut) in
         let after = answered script machine thread called (owners_in (view c.pass)) (owners_in (view mid)) (has_of c.pass) (has_of mid) (stack_of c.pass) (stack_of mid) inv stands counted_mid are_mid next found unfixed now in
         second mid (answered_machine machine thread state called (take_locks thread machine.holders (wanted script machine thread called))) both.said both.stamp
-        after.0 after.1 after.2.stands resume (mid_floor.floor ∙ is.floor) (ap containers_in mid_floor.shape ∙ count) (ap (λ n. n - 1) mid_floor.number) (floor_between (view c.pass) (view mid) (view d.pass) mid_floor same_floor)
+        after.0 after.1 after.2.stands resume (mid_floor.floor ∙ is.floor) (ap container_count mid_floor.shape ∙ count) (ap (λ n. n - 1) mid_floor.number) (floor_between (view c.pass) (view mid) (view d.pass) mid_floor same_floor)
         (ap (λ (s : ThreadState). s.marks) after.2.state) (ap (λ (s : ThreadState). s.fixed) after.2.state) after.2.others both.taken both.waits
         (λ new are. inr (both.stamp, refl, are ∙ ap (λ ss. ss ++ both.stamp ∷ []) (sym before), answer.0.entry.seen, ap length before ∙ (length-map mine entry_stamp ∙ (sym (length-map mine (λ (one : Entry). one.waited)) ∙ ap length as_thread.marks))))
       where

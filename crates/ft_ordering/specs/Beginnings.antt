@@ -4,7 +4,7 @@ use Rattle.ft_model.specs.declared.entry.Entry.{Entry}
 use Rattle.ft_model.specs.declared.script.ScriptParts.{ScriptParts}
 use Rattle.ft_trace.specs.declared.View.{View}
 use Rattle.ft_trace.specs.Acts.{floor_words, seen_writes}
-use Rattle.ft_trace.specs.Addresses.{containers_in}
+use Rattle.ft_trace.specs.Addresses.{container_count}
 use Rattle.ft_bank.specs.declared.tokens.Tokens.{Tokens}
 use Rattle.ft_bank.specs.Passes.{shape_of, view}
 use Rattle.ft_bank.specs.PassSections.{no_sections, stack_of}
@@ -61,7 +61,7 @@ RestingCallersStand =
 
 -- none of the first that many threads has a lock
 abbrev pub NoneOwns : View → ℕ → Type 0
-NoneOwns v count = (o thread : ℕ) → o < containers_in v.shape → thread < count → owners_in v o ≢ Some thread
+NoneOwns v count = (o thread : ℕ) → o < container_count v.shape → thread < count → owners_in v o ≢ Some thread
 
 -- A caller that has been given the floor, and that has no lock itself, knows that of one thread more.
 abbrev pub OneMoreOwnsNone : Type 0
@@ -75,4 +75,4 @@ abbrev pub LocksOfNobodyAreFree : Type 0
 LocksOfNobodyAreFree =
     (e : Engine) (c : Caller) → IsCallerOf e c → (view (pass_of c)).has_floor ≡ true
     → NoneOwns (view (pass_of c)) (shape_of (bank_of e)).passes
-    → (o : ℕ) → o < containers_in (shape_of (bank_of e)) → owners_in (view (pass_of c)) o ≡ None
+    → (o : ℕ) → o < container_count (shape_of (bank_of e)) → owners_in (view (pass_of c)) o ≡ None

@@ -18,12 +18,12 @@ use Rattle.ft_keys.specs.declared.walk.Way.TheVariants as way
 use Rattle.ft_trace.specs.declared.Shape.{Shape}
 use Rattle.ft_trace.specs.declared.View.{View}
 use Rattle.ft_trace.specs.Addresses.{class_of, slots}
-use Rattle.ft_trace.specs.Holds.{held, in_hand, known}
+use Rattle.ft_trace.specs.Holds.{held_words, in_hand, known_state}
 use Rattle.ft_trace.specs.Kinds.{rows}
-use Rattle.ft_trace.specs.Pictures.{Picture, entry_offset, entry_field}
+use Rattle.ft_trace.specs.Pictures.{ContainerWords, entry_offset, entry_field}
 use Rattle.ft_trace.specs.ContainerStates.{ContainerState}
 use Rattle.ft_bank.specs.declared.table.Table.{Table}
-use Rattle.ft_bank.specs.TableNames.{name_of, IsTableIn}
+use Rattle.ft_bank.specs.TableNames.{table_id, IsTableIn}
 use Rattle.ft_search.proofs.Puts.{table_class}
 use Rattle.ft_adding.specs.Fresh.{HasZeroWords, IsFilledWith}
 use Rattle.ft_adding.proofs.FilledTables.{BlankHolds, blank_table}
@@ -138,7 +138,7 @@ none_apart texts others e is = by (is_apart others e) refl
 
 module _ (k : Shape) (s : ℕ) (from : Table) (t : ℕ) (table : Table) (first : Option ℕ) (start : ℕ) (used : List UsedEntry) (mine : List Element) (place count : ℕ) (v : View) (c : IsChosen k s from t table first start used mine place count v) (low : place < length used) (any : UsedEntry) where
   abbrev others : List Element
-  others = (set_of (known t v).content).elements
+  others = (set_of (known_state t v).content).elements
 
   abbrev e : UsedEntry
   e = slice_index_or used place any
@@ -153,20 +153,20 @@ module _ (k : Shape) (s : ℕ) (from : Table) (t : ℕ) (table : Table) (first :
       ∙ (chosen_append others first (take place used) (e ∷ [])
       ∙ (ap (λ (b : Bool). placed ++ at_serials first (length placed) (cond b (e ∷ []) [])) out ∙ append-nil placed))
 
-  pub chosen_stays : (z : View) → held s z ≡ held s v → known s z ≡ known s v → known t z ≡ known t v → in_hand (name_of table) z ≡ in_hand (name_of table) v → apart_pair k.texts others e ≡ None → IsChosen k s from t table first start used mine (place + 1) count z
+  pub chosen_stays : (z : View) → held_words s z ≡ held_words s v → known_state s z ≡ known_state s v → known_state t z ≡ known_state t v → in_hand (table_id table) z ≡ in_hand (table_id table) v → apart_pair k.texts others e ≡ None → IsChosen k s from t table first start used mine (place + 1) count z
   chosen_stays z words mine_known other_known hand is =
       let same = next_out (none_apart k.texts others e is) in
       record {
-        source = subst (λ (x : Picture). IsSetTable k.texts (class_mask (class_of (name_of from))) used (0 ∷ 0 ∷ x.table)) (sym words) c.source;
+        source = subst (λ (x : ContainerWords). IsSetTable k.texts (class_mask (class_of (table_id from))) used (0 ∷ 0 ∷ x.table)) (sym words) c.source;
         filled = c.filled ∙ ap (λ (x : ContainerState). x.table.fill) (sym mine_known);
         started = c.started;
         next = c.next;
         is_set = subst (λ (x : ContainerState). IsSet c.next (mine ++ chosen (set_of x.content).elements first used)) (sym other_known) c.is_set;
-        room = subst (λ (x : ContainerState). length (mine ++ chosen (set_of x.content).elements first used) ≤ rows kind.Set (class_of (name_of table))) (sym other_known) c.room;
+        room = subst (λ (x : ContainerState). length (mine ++ chosen (set_of x.content).elements first used) ≤ rows kind.Set (class_of (table_id table))) (sym other_known) c.room;
         has = subst (λ (x : ContainerState). HasChosen k table (mine ++ chosen (set_of x.content).elements first (take (place + 1) used)) count z) (sym other_known) (subst (λ (l : List Element). HasChosen k table (mine ++ l) count z) (sym same) (record {
           counted = c.has.counted;
-          made = subst (λ (ws : List ℕ). IsSetTable k.texts (class_mask (class_of (name_of table))) (map used_element (mine ++ placed)) (0 ∷ 0 ∷ ws)) (sym hand) c.has.made;
-          versions = λ p less. ap (λ (ws : List ℕ). entry_field (slots (class_of (name_of table))) ws p 0) hand ∙ c.has.versions p less;
+          made = subst (λ (ws : List ℕ). IsSetTable k.texts (class_mask (class_of (table_id table))) (map used_element (mine ++ placed)) (0 ∷ 0 ∷ ws)) (sym hand) c.has.made;
+          versions = λ p less. ap (λ (ws : List ℕ). entry_field (slots (class_of (table_id table))) ws p 0) hand ∙ c.has.versions p less;
         }));
       }
 
@@ -191,7 +191,7 @@ module _ (k : Shape) (s : ℕ) (from : Table) (t : ℕ) (table : Table) (first :
         ∙ (ap (λ (l : List Element). mine ++ l) (chosen_append others first (take (place + 1) used) (drop (place + 1) used) ∙ (ap (λ (l : List Element). l ++ rest) next_in ∙ append_assoc placed (new ∷ []) rest))
         ∙ sym (append_assoc mine placed (new ∷ rest)))
 
-    pub chosen_room : count < rows kind.Set (class_of (name_of table))
+    pub chosen_room : count < rows kind.Set (class_of (table_id table))
     chosen_room =
         let all = ap length whole in
         let n = length-append (mine ++ placed) (new ∷ rest) in
@@ -203,9 +203,9 @@ module _ (k : Shape) (s : ℕ) (from : Table) (t : ℕ) (table : Table) (first :
     chosen_count = let h = c.has.counted in let n = length-append mine placed in let b = c.started in omega (arith, h, n, b)
 
     -- its words were put
-    pub chosen_more : (z : View) (put : Pair) → put.hash ≡ hash_of k.texts e.key → put.key ≡ e.key → put.value ≡ Empty → put.serial ≡ serial_at first (length placed) e.serial → held s z ≡ held s v → known s z ≡ known s v → known t z ≡ known t v
-        → AddsPair way.Set (class_mask (class_of (name_of table))) count put (0 ∷ 0 ∷ in_hand (name_of table) v) (0 ∷ 0 ∷ in_hand (name_of table) z)
-        → ((p : ℕ) → entry_field (slots (class_of (name_of table))) (in_hand (name_of table) z) p 0 ≡ entry_field (slots (class_of (name_of table))) (in_hand (name_of table) v) p 0)
+    pub chosen_more : (z : View) (put : Pair) → put.hash ≡ hash_of k.texts e.key → put.key ≡ e.key → put.value ≡ Empty → put.serial ≡ serial_at first (length placed) e.serial → held_words s z ≡ held_words s v → known_state s z ≡ known_state s v → known_state t z ≡ known_state t v
+        → AddsPair way.Set (class_mask (class_of (table_id table))) count put (0 ∷ 0 ∷ in_hand (table_id table) v) (0 ∷ 0 ∷ in_hand (table_id table) z)
+        → ((p : ℕ) → entry_field (slots (class_of (table_id table))) (in_hand (table_id table) z) p 0 ≡ entry_field (slots (class_of (table_id table))) (in_hand (table_id table) v) p 0)
         → IsChosen k s from t table first start used mine (place + 1) (count + 1) z
     chosen_more z put hash key value serial words mine_known other_known adds versions =
         let pairs : IsSet c.next ((mine ++ placed) ++ new ∷ rest) = subst (IsSet c.next) whole c.is_set in
@@ -222,29 +222,29 @@ module _ (k : Shape) (s : ℕ) (from : Table) (t : ℕ) (table : Table) (first :
         let n2 = length-append placed (new ∷ []) in
         let n3 = length-append mine placed in
         record {
-          source = subst (λ (x : Picture). IsSetTable k.texts (class_mask (class_of (name_of from))) used (0 ∷ 0 ∷ x.table)) (sym words) c.source;
+          source = subst (λ (x : ContainerWords). IsSetTable k.texts (class_mask (class_of (table_id from))) used (0 ∷ 0 ∷ x.table)) (sym words) c.source;
           filled = c.filled ∙ ap (λ (x : ContainerState). x.table.fill) (sym mine_known);
           started = c.started;
           next = c.next;
           is_set = subst (λ (x : ContainerState). IsSet c.next (mine ++ chosen (set_of x.content).elements first used)) (sym other_known) c.is_set;
-          room = subst (λ (x : ContainerState). length (mine ++ chosen (set_of x.content).elements first used) ≤ rows kind.Set (class_of (name_of table))) (sym other_known) c.room;
+          room = subst (λ (x : ContainerState). length (mine ++ chosen (set_of x.content).elements first used) ≤ rows kind.Set (class_of (table_id table))) (sym other_known) c.room;
           has = subst (λ (x : ContainerState). HasChosen k table (mine ++ chosen (set_of x.content).elements first (take (place + 1) used)) (count + 1) z) (sym other_known) (record {
             counted = omega (arith, h, last, n1, n2, n3);
-            made = subst (λ (l : List UsedEntry). IsSetTable k.texts (class_mask (class_of (name_of table))) l (0 ∷ 0 ∷ in_hand (name_of table) z)) entry added;
+            made = subst (λ (l : List UsedEntry). IsSetTable k.texts (class_mask (class_of (table_id table))) l (0 ∷ 0 ∷ in_hand (table_id table) z)) entry added;
             versions = λ p less. versions p ∙ c.has.versions p less;
           });
         }
 
 -- ---- before the first entry, and after the last one
 
-pub blank_has : BlankHolds → (k : Shape) (table : Table) (v : View) → IsTableIn k table → HasZeroWords (class_of (name_of table)) (in_hand (name_of table) v) → HasChosen k table [] 0 v
+pub blank_has : BlankHolds → (k : Shape) (table : Table) (v : View) → IsTableIn k table → HasZeroWords (class_of (table_id table)) (in_hand (table_id table) v) → HasChosen k table [] 0 v
 blank_has holds k table v table_in blank = record {
   counted = refl;
-  made = holds _ (set_room (class_mask (class_of (name_of table)))) k.texts (class_mask (class_of (name_of table))) (0 ∷ 0 ∷ in_hand (name_of table) v) (blank_table (class_of (name_of table)) (table_class k table table_in) (in_hand (name_of table) v) blank);
-  versions = λ p less. blank.zeros (entry_offset (slots (class_of (name_of table))) p 0);
+  made = holds _ (set_room (class_mask (class_of (table_id table)))) k.texts (class_mask (class_of (table_id table))) (0 ∷ 0 ∷ in_hand (table_id table) v) (blank_table (class_of (table_id table)) (table_class k table table_in) (in_hand (table_id table) v) blank);
+  versions = λ p less. blank.zeros (entry_offset (slots (class_of (table_id table))) p 0);
 }
 
-pub has_fills : (k : Shape) (table : Table) (v : View) (set : SetContent) (count : ℕ) → IsSet set.next set.elements → HasChosen k table set.elements count v → IsFilledWith k.texts (class_of (name_of table)) (content.Set set) (in_hand (name_of table) v)
+pub has_fills : (k : Shape) (table : Table) (v : View) (set : SetContent) (count : ℕ) → IsSet set.next set.elements → HasChosen k table set.elements count v → IsFilledWith k.texts (class_of (table_id table)) (content.Set set) (in_hand (table_id table) v)
 has_fills k table v set count rule has = record {
   says = λ block head. record {
     head = head;

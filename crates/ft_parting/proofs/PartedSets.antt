@@ -19,7 +19,7 @@ use Rattle.ft_model.proofs.KnownKeys.{length-filter-le}
 use Rattle.ft_trace.specs.declared.Shape.{Shape}
 use Rattle.ft_trace.specs.declared.View.{View}
 use Rattle.ft_trace.specs.Acts.{has_lock}
-use Rattle.ft_trace.specs.Holds.{known}
+use Rattle.ft_trace.specs.Holds.{known_state}
 use Rattle.ft_trace.specs.Kinds.{rows}
 use Rattle.ft_trace.specs.ContainerStates.{ContainerState}
 use Rattle.ft_bank.specs.Whole.{OnlyLoaded}
@@ -132,7 +132,7 @@ module _ (kept others : ContainerState) (first : SetContent) (is : kept.content 
 
 -- ---- the calls
 
-pub parts_thins : (s t : ℕ) (called : Call) (v : View) → PartsSets s t called v → parted_state (known s v) (known t v).content ≡ thinned_state false (known t v) (known s v) → passes_cap (content.Set (parted (known s v).content (known t v).content)) ≡ false → Leaves s called reply.Done (thinned_state false (known t v) (known s v)) v
+pub parts_thins : (s t : ℕ) (called : Call) (v : View) → PartsSets s t called v → parted_state (known_state s v) (known_state t v).content ≡ thinned_state false (known_state t v) (known_state s v) → passes_cap (content.Set (parted (known_state s v).content (known_state t v).content)) ≡ false → Leaves s called reply.Done (thinned_state false (known_state t v) (known_state s v)) v
 parts_thins s t called v parts same few = record {
   write = parts.write;
   changed = parts.changed;
@@ -145,7 +145,7 @@ parts_thins s t called v parts same few = record {
 }
 
 -- a call that takes a table puts it in the place of the one that was there
-pub parts_replaces : (s t : ℕ) (called : Call) (v : View) (class : ℕ) → PartsSets s t called v → part_takes (known s v) (known t v).content ≡ Some class → passes_cap (content.Set (parted (known s v).content (known t v).content)) ≡ false → Replaces s called (content.Set (parted (known s v).content (known t v).content)) (Some class) v
+pub parts_replaces : (s t : ℕ) (called : Call) (v : View) (class : ℕ) → PartsSets s t called v → part_takes (known_state s v) (known_state t v).content ≡ Some class → passes_cap (content.Set (parted (known_state s v).content (known_state t v).content)) ≡ false → Replaces s called (content.Set (parted (known_state s v).content (known_state t v).content)) (Some class) v
 parts_replaces s t called v class parts takes few = record {
   write = parts.write;
   changed = parts.changed;
@@ -157,11 +157,11 @@ parts_replaces s t called v class parts takes few = record {
   lacks = parts.lacks;
   fits = λ found has. parts.over found has ∙ few;
   takes_is = λ found has. parts.takes found has ∙ takes;
-  left_is = λ found has. parts.left_is found has ∙ (λ i. record { content = content.Set (parted (known s v).content (known t v).content); table = grown_table (known s v).table (takes i) ((parted (known s v).content (known t v).content).next - (set_of (known s v).content).next) (length (parted (known s v).content (known t v).content).elements) });
+  left_is = λ found has. parts.left_is found has ∙ (λ i. record { content = content.Set (parted (known_state s v).content (known_state t v).content); table = grown_table (known_state s v).table (takes i) ((parted (known_state s v).content (known_state t v).content).next - (set_of (known_state s v).content).next) (length (parted (known_state s v).content (known_state t v).content).elements) });
 }
 
 -- a call that parts the two parts them later too, where the pass knows the same
-pub parts_later : (s t : ℕ) (called : Call) (v u : View) → ((found : StoredWorld) → MayHave u found → MayHave v found) → ((p : ℕ) → has_lock p u.log ≡ has_lock p v.log) → known s u ≡ known s v → known t u ≡ known t v → PartsSets s t called v → PartsSets s t called u
+pub parts_later : (s t : ℕ) (called : Call) (v u : View) → ((found : StoredWorld) → MayHave u found → MayHave v found) → ((p : ℕ) → has_lock p u.log ≡ has_lock p v.log) → known_state s u ≡ known_state s v → known_state t u ≡ known_state t v → PartsSets s t called v → PartsSets s t called u
 parts_later s t called v u has locks mine other parts = record {
   write = parts.write;
   changed = parts.changed;
@@ -177,7 +177,7 @@ parts_later s t called v u has locks mine other parts = record {
 }
 
 -- and what it comes to after loads, seen from before them
-pub parts_by : (k : Shape) (s t : ℕ) (called : Call) (v u w : View) (what : Added) → OnlyLoaded v u → IsAdded k (part_takes (known s u) (known t u).content) (passes_cap (content.Set (parted (known s u).content (known t u).content))) called reply.Done u w what → PartsBy k s t called v w what
+pub parts_by : (k : Shape) (s t : ℕ) (called : Call) (v u w : View) (what : Added) → OnlyLoaded v u → IsAdded k (part_takes (known_state s u) (known_state t u).content) (passes_cap (content.Set (parted (known_state s u).content (known_state t u).content))) called reply.Done u w what → PartsBy k s t called v w what
 parts_by k s t called v u w what only is =
     let mine = work_knows v u s only.work in
     let other = work_knows v u t only.work in
@@ -191,4 +191,4 @@ parts_then k s t called v u w what only is =
 -- it leaves the cursors of its pass
 pub parts_cursors : (k : Shape) (s t : ℕ) (called : Call) (v w : View) (what : Added) → PartsBy k s t called v w what → KeepsCursors v w
 parts_cursors k s t called v w what x number =
-    added_cursors k (part_takes (known s v) (known t v).content) (passes_cap (content.Set (parted (known s v).content (known t v).content))) called reply.Done x.0 w what x.2 number ∙ x.1.work.pass.cursors number
+    added_cursors k (part_takes (known_state s v) (known_state t v).content) (passes_cap (content.Set (parted (known_state s v).content (known_state t v).content))) called reply.Done x.0 w what x.2 number ∙ x.1.work.pass.cursors number

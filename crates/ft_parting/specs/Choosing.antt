@@ -11,11 +11,11 @@ use Rattle.ft_layout.specs.Tables.{IsSetTable, UsedEntry, hash_of, is_live}
 use Rattle.ft_trace.specs.declared.Shape.{Shape}
 use Rattle.ft_trace.specs.declared.View.{View}
 use Rattle.ft_trace.specs.Addresses.{class_of, slots}
-use Rattle.ft_trace.specs.Holds.{held, in_hand, known}
+use Rattle.ft_trace.specs.Holds.{held_words, in_hand, known_state}
 use Rattle.ft_trace.specs.Kinds.{rows}
 use Rattle.ft_trace.specs.Pictures.{entry_field}
 use Rattle.ft_bank.specs.declared.table.Table.{Table}
-use Rattle.ft_bank.specs.TableNames.{name_of}
+use Rattle.ft_bank.specs.TableNames.{table_id}
 
 -- whether an entry is there whose key the others haven't (Python manual, Set Types)
 abbrev pub is_apart : List Element → UsedEntry → Bool
@@ -46,21 +46,21 @@ chosen others first used = at_serials first 0 (filter (is_apart others) used)
 -- A table that is fresh in the pass's hand has these elements, that many, and no version that isn't 0. (profile)
 pub record HasChosen (k : Shape) (table : Table) (elements : List Element) (count : ℕ) (v : View) : Type 0 where
   pub counted : count ≡ length elements
-  pub made : IsSetTable k.texts (class_mask (class_of (name_of table))) (map used_element elements)
-      (0 ∷ 0 ∷ in_hand (name_of table) v)
-  pub versions : (p : ℕ) → p < rows kind.Set (class_of (name_of table))
-      → entry_field (slots (class_of (name_of table))) (in_hand (name_of table) v) p 0 ≡ 0
+  pub made : IsSetTable k.texts (class_mask (class_of (table_id table))) (map used_element elements)
+      (0 ∷ 0 ∷ in_hand (table_id table) v)
+  pub versions : (p : ℕ) → p < rows kind.Set (class_of (table_id table))
+      → entry_field (slots (class_of (table_id table))) (in_hand (table_id table) v) p 0 ≡ 0
 
 -- In a table that is fresh in the pass's hand, which has these elements at first, those of the set s are put whose
 -- entries come before this place and that the set t hasn't, with their serials or with new ones: that many elements are
 -- there. For all of them there is room, and then they are a set's. (profile)
 pub record IsChosen (k : Shape) (s : ℕ) (from : Table) (t : ℕ) (table : Table) (first : Option ℕ) (start : ℕ)
     (used : List UsedEntry) (mine : List Element) (place count : ℕ) (v : View) : Type 0 where
-  pub source : IsSetTable k.texts (class_mask (class_of (name_of from))) used (0 ∷ 0 ∷ (held s v).table)
-  pub filled : length used ≡ (known s v).table.fill
+  pub source : IsSetTable k.texts (class_mask (class_of (table_id from))) used (0 ∷ 0 ∷ (held_words s v).table)
+  pub filled : length used ≡ (known_state s v).table.fill
   pub started : length mine ≡ start
   pub next : ℕ
-  pub is_set : IsSet next (mine ++ chosen (set_of (known t v).content).elements first used)
-  pub room : length (mine ++ chosen (set_of (known t v).content).elements first used)
-      ≤ rows kind.Set (class_of (name_of table))
-  pub has : HasChosen k table (mine ++ chosen (set_of (known t v).content).elements first (take place used)) count v
+  pub is_set : IsSet next (mine ++ chosen (set_of (known_state t v).content).elements first used)
+  pub room : length (mine ++ chosen (set_of (known_state t v).content).elements first used)
+      ≤ rows kind.Set (class_of (table_id table))
+  pub has : HasChosen k table (mine ++ chosen (set_of (known_state t v).content).elements first (take place used)) count v

@@ -15,13 +15,13 @@ ghost use Rattle.ft_keys.specs.Ways.{room};
 ghost use Rattle.ft_keys.specs.declared.walk.Way.TheVariants as ways;
 ghost use Rattle.ft_trace.specs.Acts.{stage};
 ghost use Rattle.ft_trace.specs.Addresses.{class_of, slots};
-ghost use Rattle.ft_trace.specs.Holds.{held, in_hand, known};
+ghost use Rattle.ft_trace.specs.Holds.{held_words, in_hand, known_state};
 ghost use Rattle.ft_trace.specs.Kinds.{rows};
 ghost use Rattle.ft_trace.specs.Pictures.{entry_field};
 ghost use Rattle.ft_trace.specs.ContainerStates.{kind_in};
 ghost use Rattle.ft_bank.specs.Passes.{shape_of, view, IsPassOf};
 ghost use Rattle.ft_bank.specs.PassSections.{stack_of};
-ghost use Rattle.ft_bank.specs.TableNames.{name_of, IsTableIn};
+ghost use Rattle.ft_bank.specs.TableNames.{table_id, IsTableIn};
 ghost use Rattle.ft_bank.specs.Whole.{OnlyLoaded};
 ghost use Rattle.ft_growth.specs.Adding.{OnlyFilled};
 ghost use Rattle.ft_adding.specs.Fresh.{CanFill, FreshMade, HasZeroWords, IsFilledWith};
@@ -49,7 +49,7 @@ fn has_key(bank: &Bank, pass: &mut Pass, t: Object, own: Option<Table>, key: Key
     ensures pass { IsPassOf bank.now pass.new }
     ensures stack { stack_of pass.new ≡ stack_of pass.old }
     ensures only { OnlyLoaded (view pass.old) (view pass.new) }
-    ensures found { result ≡ has_element (set_of (known t (view pass.old)).content).elements key }
+    ensures found { result ≡ has_element (set_of (known_state t (view pass.old)).content).elements key }
 {
     let Some(table) = own else {
         return false;
@@ -93,16 +93,16 @@ fn put_last(
     requires pass { IsPassOf bank.now pass.old }
     requires keyed { KnowsKeyed (shape_of bank.now) o (Some old) (view pass.old) }
     requires table { IsTableIn (shape_of bank.now) table }
-    requires fresh { stage (name_of table) (view pass.old).log ≡ 1 }
+    requires fresh { stage (table_id table) (view pass.old).log ≡ 1 }
     requires fill { fill < room ways.Set (class_mask table.class) }
     requires value { FitsStored pair.now.value }
     ensures pass { IsPassOf bank.now pass.new }
     ensures stack { stack_of pass.new ≡ stack_of pass.old }
     ensures only { OnlyFilled (view pass.old) (view pass.new) }
-    ensures adds { AddsPair ways.Set (class_mask table.class) fill pair.now (0 ∷ 0 ∷ in_hand (name_of table) (view pass.old))
-        (0 ∷ 0 ∷ in_hand (name_of table) (view pass.new)) }
-    ensures versions { (place : ℕ) → entry_field (slots (class_of (name_of table))) (in_hand (name_of table) (view pass.new)) place 0
-        ≡ entry_field (slots (class_of (name_of table))) (in_hand (name_of table) (view pass.old)) place 0 }
+    ensures adds { AddsPair ways.Set (class_mask table.class) fill pair.now (0 ∷ 0 ∷ in_hand (table_id table) (view pass.old))
+        (0 ∷ 0 ∷ in_hand (table_id table) (view pass.new)) }
+    ensures versions { (place : ℕ) → entry_field (slots (class_of (table_id table))) (in_hand (table_id table) (view pass.new)) place 0
+        ≡ entry_field (slots (class_of (table_id table))) (in_hand (table_id table) (view pass.old)) place 0 }
 {
     calls_keep_versions();
     let mask = mask_of(table.class);
@@ -135,14 +135,14 @@ fn apart_at(
     requires other_set { kind_in (shape_of bank.now).starts t ≡ kind.Set }
     requires keyed { KnowsKeyed (shape_of bank.now) s (Some from) (view pass.old) }
     requires other_keyed { KnowsKeyed (shape_of bank.now) t other (view pass.old) }
-    requires place { place < rows kind.Set (class_of (name_of from)) }
+    requires place { place < rows kind.Set (class_of (table_id from)) }
     ensures pass { IsPassOf bank.now pass.new }
     ensures stack { stack_of pass.new ≡ stack_of pass.old }
     ensures only { OnlyLoaded (view pass.old) (view pass.new) }
     ensures apart { (used : List UsedEntry) (any : UsedEntry) →
-        IsSetTable (shape_of bank.now).texts (class_mask (class_of (name_of from))) used (0 ∷ 0 ∷ (held s (view pass.old)).table) →
+        IsSetTable (shape_of bank.now).texts (class_mask (class_of (table_id from))) used (0 ∷ 0 ∷ (held_words s (view pass.old)).table) →
         place < length used → result ≡ apart_pair (shape_of bank.now).texts
-        (set_of (known t (view pass.old)).content).elements (slice_index_or used place any) }
+        (set_of (known_state t (view pass.old)).content).elements (slice_index_or used place any) }
     ensures fits { IfSome result (λ pair. FitsStored pair.value) }
 {
     words_are_of_one_content();
@@ -193,9 +193,9 @@ fn choose_at(
     requires other_set { kind_in (shape_of bank.now).starts t ≡ kind.Set }
     requires keyed { KnowsKeyed (shape_of bank.now) s (Some from) (view pass.old) }
     requires other_keyed { KnowsKeyed (shape_of bank.now) t other (view pass.old) }
-    requires place { place < rows kind.Set (class_of (name_of from)) }
+    requires place { place < rows kind.Set (class_of (table_id from)) }
     requires table { IsTableIn (shape_of bank.now) table }
-    requires fresh { stage (name_of table) (view pass.old).log ≡ 1 }
+    requires fresh { stage (table_id table) (view pass.old).log ≡ 1 }
     requires serials { IfSome first (λ next. next + 65536 < 2 ^ 63) }
     requires chosen { (used : List UsedEntry) × (mine : List Element) × (place < length used)
         × IsChosen (shape_of bank.now) s from t table first start used mine place count (view pass.old) }
@@ -239,9 +239,9 @@ fn choose_all(
     requires other_set { kind_in (shape_of bank.now).starts t ≡ kind.Set }
     requires keyed { KnowsKeyed (shape_of bank.now) s (Some from) (view pass.old) }
     requires other_keyed { KnowsKeyed (shape_of bank.now) t other (view pass.old) }
-    requires fill { fill ≡ (known s (view pass.old)).table.fill }
+    requires fill { fill ≡ (known_state s (view pass.old)).table.fill }
     requires table { IsTableIn (shape_of bank.now) table }
-    requires fresh { stage (name_of table) (view pass.old).log ≡ 1 }
+    requires fresh { stage (table_id table) (view pass.old).log ≡ 1 }
     requires serials { IfSome first (λ next. next + 65536 < 2 ^ 63) }
     requires chosen { (used : List UsedEntry) × (mine : List Element)
         × IsChosen (shape_of bank.now) s from t table first start used mine 0 start (view pass.old) }
@@ -278,17 +278,17 @@ fn keep_apart(
     requires other_set { kind_in (shape_of bank.now).starts t ≡ kind.Set }
     requires keyed { KnowsKeyed (shape_of bank.now) s old (view pass.old) }
     requires other_keyed { KnowsKeyed (shape_of bank.now) t other (view pass.old) }
-    requires fill { fill ≡ (known s (view pass.old)).table.fill }
+    requires fill { fill ≡ (known_state s (view pass.old)).table.fill }
     requires table { IsTableIn (shape_of bank.now) table }
-    requires fresh { stage (name_of table) (view pass.old).log ≡ 1 }
-    requires blank { HasZeroWords (class_of (name_of table)) (in_hand (name_of table) (view pass.old)) }
-    requires room { length (those_not_in (set_of (known t (view pass.old)).content).elements
-        (set_of (known s (view pass.old)).content).elements) ≤ rows kind.Set (class_of (name_of table)) }
+    requires fresh { stage (table_id table) (view pass.old).log ≡ 1 }
+    requires blank { HasZeroWords (class_of (table_id table)) (in_hand (table_id table) (view pass.old)) }
+    requires room { length (those_not_in (set_of (known_state t (view pass.old)).content).elements
+        (set_of (known_state s (view pass.old)).content).elements) ≤ rows kind.Set (class_of (table_id table)) }
     ensures pass { IsPassOf bank.now pass.new }
     ensures stack { stack_of pass.new ≡ stack_of pass.old }
     ensures only { OnlyFilled (view pass.old) (view pass.new) }
-    ensures kept { HasChosen (shape_of bank.now) table (those_not_in (set_of (known t (view pass.old)).content).elements
-        (set_of (known s (view pass.old)).content).elements) result (view pass.new) }
+    ensures kept { HasChosen (shape_of bank.now) table (those_not_in (set_of (known_state t (view pass.old)).content).elements
+        (set_of (known_state s (view pass.old)).content).elements) result (view pass.new) }
 {
     changed_words_are_of_a_table();
     words_are_of_one_content();
@@ -316,19 +316,19 @@ pub(crate) fn fill_parted(
     requires other_set { kind_in (shape_of bank.now).starts t ≡ kind.Set }
     requires keyed { KnowsKeyed (shape_of bank.now) s old (view pass.old) }
     requires other_keyed { KnowsKeyed (shape_of bank.now) t (Some other) (view pass.old) }
-    requires counts { AreCounts (held s (view pass.old)).block counts }
-    requires others { others ≡ (known t (view pass.old)).table.fill }
+    requires counts { AreCounts (held_words s (view pass.old)).block counts }
+    requires others { others ≡ (known_state t (view pass.old)).table.fill }
     requires table { IsTableIn (shape_of bank.now) table }
-    requires fresh { stage (name_of table) (view pass.old).log ≡ 1 }
-    requires room { length (parted (known s (view pass.old)).content (known t (view pass.old)).content).elements
-        ≤ rows kind.Set (class_of (name_of table)) }
+    requires fresh { stage (table_id table) (view pass.old).log ≡ 1 }
+    requires room { length (parted (known_state s (view pass.old)).content (known_state t (view pass.old)).content).elements
+        ≤ rows kind.Set (class_of (table_id table)) }
     requires serials { counts.next + 65536 < 2 ^ 63 }
     ensures pass { IsPassOf bank.now pass.new }
     ensures stack { stack_of pass.new ≡ stack_of pass.old }
     ensures only { OnlyFilled (view pass.old) (view pass.new) }
-    ensures filled { IsFilledWith (shape_of bank.now).texts (class_of (name_of table))
-        (content.Set (parted (known s (view pass.old)).content (known t (view pass.old)).content))
-        (in_hand (name_of table) (view pass.new)) }
+    ensures filled { IsFilledWith (shape_of bank.now).texts (class_of (table_id table))
+        (content.Set (parted (known_state s (view pass.old)).content (known_state t (view pass.old)).content))
+        (in_hand (table_id table) (view pass.new)) }
 {
     words_are_of_one_content();
     blank(bank, pass, table);

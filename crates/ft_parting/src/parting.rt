@@ -9,7 +9,7 @@ ghost use Rattle.ft_model.specs.Contents.{those_not_in};
 ghost use Rattle.ft_model.specs.TableUses.{passes_cap};
 ghost use Rattle.ft_model.specs.Worlds.{serial_of, set_of};
 ghost use Rattle.ft_trace.specs.Acts.{flight, used};
-ghost use Rattle.ft_trace.specs.Holds.{known};
+ghost use Rattle.ft_trace.specs.Holds.{known_state};
 ghost use Rattle.ft_trace.specs.ContainerStates.{kind_in};
 ghost use Rattle.ft_bank.specs.Passes.{shape_of, view, IsPassOf};
 ghost use Rattle.ft_bank.specs.PassSections.{stack_of};
@@ -48,13 +48,13 @@ fn count_staying(
     requires other { MayWriteEntries (shape_of bank.now) t (view pass.old) }
     requires set { kind_in (shape_of bank.now).starts s ≡ kind.Set }
     requires other_set { kind_in (shape_of bank.now).starts t ≡ kind.Set }
-    requires fill { fill ≡ (known s (view pass.old)).table.fill }
+    requires fill { fill ≡ (known_state s (view pass.old)).table.fill }
     ensures pass { IsPassOf bank.now pass.new }
     ensures stack { stack_of pass.new ≡ stack_of pass.old }
     ensures only { OnlyLoaded (view pass.old) (view pass.new) }
     ensures few { result ≤ fill }
-    ensures count { result ≡ length (those_not_in (set_of (known t (view pass.old)).content).elements
-        (set_of (known s (view pass.old)).content).elements) }
+    ensures count { result ≡ length (those_not_in (set_of (known_state t (view pass.old)).content).elements
+        (set_of (known_state s (view pass.old)).content).elements) }
 {
     match old {
         Some(own) => count_lacking(bank, pass, t, s, own, fill),
@@ -69,12 +69,12 @@ fn part_thin(bank: &Bank, pass: &mut Pass, s: Object, t: Object, called: &Call) 
     requires other { MayWriteEntries (shape_of bank.now) t (view pass.old) }
     requires set { kind_in (shape_of bank.now).starts s ≡ kind.Set }
     requires other_set { kind_in (shape_of bank.now).starts t ≡ kind.Set }
-    requires none { new_keys (known s (view pass.old)).content (known t (view pass.old)).content ≡ 0 }
+    requires none { new_keys (known_state s (view pass.old)).content (known_state t (view pass.old)).content ≡ 0 }
     requires parts { PartsSets s t called.now (view pass.old) }
     ensures pass { IsPassOf bank.now pass.new }
     ensures stack { stack_of pass.new ≡ stack_of pass.old }
-    ensures added { IsAdded (shape_of bank.now) (part_takes (known s (view pass.old)) (known t (view pass.old)).content)
-        (passes_cap (content.Set (parted (known s (view pass.old)).content (known t (view pass.old)).content))) called.now
+    ensures added { IsAdded (shape_of bank.now) (part_takes (known_state s (view pass.old)) (known_state t (view pass.old)).content)
+        (passes_cap (content.Set (parted (known_state s (view pass.old)).content (known_state t (view pass.old)).content))) called.now
         reply.Done (view pass.old) (view pass.new) result }
 {
     used_entries_follow_a_dict();
@@ -97,12 +97,12 @@ fn part_in_taken(
     requires merge { MayMerge (shape_of bank.now) kind.Set merge.now (view pass.old) }
     requires may { MayAddKey (shape_of bank.now) merge.now.o old (view pass.old) }
     requires count { count ≡ length
-        (parted (known merge.now.o (view pass.old)).content (known merge.now.t (view pass.old)).content).elements }
+        (parted (known_state merge.now.o (view pass.old)).content (known_state merge.now.t (view pass.old)).content).elements }
     requires few { passes_cap (content.Set
-        (parted (known merge.now.o (view pass.old)).content (known merge.now.t (view pass.old)).content)) ≡ false }
+        (parted (known_state merge.now.o (view pass.old)).content (known_state merge.now.t (view pass.old)).content)) ≡ false }
     requires parts { PartsSets merge.now.o merge.now.t called.now (view pass.old) }
     requires class { IsClass class }
-    requires takes { part_takes (known merge.now.o (view pass.old)) (known merge.now.t (view pass.old)).content
+    requires takes { part_takes (known_state merge.now.o (view pass.old)) (known_state merge.now.t (view pass.old)).content
         ≡ Some class }
     ensures pass { IsPassOf bank.now pass.new }
     ensures stack { stack_of pass.new ≡ stack_of pass.old }
@@ -146,9 +146,9 @@ fn part_in_old(
     requires merge { MayMerge (shape_of bank.now) kind.Set merge.now (view pass.old) }
     requires may { MayAddKey (shape_of bank.now) merge.now.o old (view pass.old) }
     requires few { passes_cap (content.Set
-        (parted (known merge.now.o (view pass.old)).content (known merge.now.t (view pass.old)).content)) ≡ false }
+        (parted (known_state merge.now.o (view pass.old)).content (known_state merge.now.t (view pass.old)).content)) ≡ false }
     requires parts { PartsSets merge.now.o merge.now.t called.now (view pass.old) }
-    requires room { part_takes (known merge.now.o (view pass.old)) (known merge.now.t (view pass.old)).content ≡ None }
+    requires room { part_takes (known_state merge.now.o (view pass.old)) (known_state merge.now.t (view pass.old)).content ≡ None }
     ensures pass { IsPassOf bank.now pass.new }
     ensures stack { stack_of pass.new ≡ stack_of pass.old }
     ensures added { IsAdded (shape_of bank.now) None false called.now reply.Done (view pass.old) (view pass.new) result }
@@ -172,16 +172,16 @@ fn part_more(
     requires pass { IsPassOf bank.now pass.old }
     requires merge { MayMerge (shape_of bank.now) kind.Set merge.now (view pass.old) }
     requires may { MayAddKey (shape_of bank.now) merge.now.o old (view pass.old) }
-    requires stay { stay ≡ length (those_not_in (set_of (known merge.now.t (view pass.old)).content).elements
-        (set_of (known merge.now.o (view pass.old)).content).elements) }
+    requires stay { stay ≡ length (those_not_in (set_of (known_state merge.now.t (view pass.old)).content).elements
+        (set_of (known_state merge.now.o (view pass.old)).content).elements) }
     requires few { stay + merge.now.more < 2 ^ 63 }
     requires parts { PartsSets merge.now.o merge.now.t called.now (view pass.old) }
     ensures pass { IsPassOf bank.now pass.new }
     ensures stack { stack_of pass.new ≡ stack_of pass.old }
     ensures added { IsAdded (shape_of bank.now)
-        (part_takes (known merge.now.o (view pass.old)) (known merge.now.t (view pass.old)).content)
+        (part_takes (known_state merge.now.o (view pass.old)) (known_state merge.now.t (view pass.old)).content)
         (passes_cap (content.Set
-        (parted (known merge.now.o (view pass.old)).content (known merge.now.t (view pass.old)).content)))
+        (parted (known_state merge.now.o (view pass.old)).content (known_state merge.now.t (view pass.old)).content)))
         called.now reply.Done (view pass.old) (view pass.new) result }
 {
     words_are_of_one_content();
@@ -218,7 +218,7 @@ fn part_from(
     requires idle { flight (view pass.old).log ≡ 0 }
     requires set { kind_in (shape_of bank.now).starts s ≡ kind.Set }
     requires other_set { kind_in (shape_of bank.now).starts t ≡ kind.Set }
-    requires serials { serial_of (known s (view pass.old)).content + 65536 < 2 ^ 63 }
+    requires serials { serial_of (known_state s (view pass.old)).content + 65536 < 2 ^ 63 }
     requires parts { PartsSets s t called.now (view pass.old) }
     ensures pass { IsPassOf bank.now pass.new }
     ensures stack { stack_of pass.new ≡ stack_of pass.old }
@@ -261,7 +261,7 @@ pub fn part_by(bank: &Bank, pass: &mut Pass, s: Object, t: Object, called: &Call
     requires idle { flight (view pass.old).log ≡ 0 }
     requires set { kind_in (shape_of bank.now).starts s ≡ kind.Set }
     requires other_set { kind_in (shape_of bank.now).starts t ≡ kind.Set }
-    requires serials { serial_of (known s (view pass.old)).content + 65536 < 2 ^ 63 }
+    requires serials { serial_of (known_state s (view pass.old)).content + 65536 < 2 ^ 63 }
     requires parts { PartsSets s t called.now (view pass.old) }
     ensures pass { IsPassOf bank.now pass.new }
     ensures stack { stack_of pass.new ≡ stack_of pass.old }

@@ -10,13 +10,13 @@ use Rattle.ft_trace.specs.declared.Act.TheVariants.{ReadHeader, GiveTable, Raise
 use Rattle.ft_trace.specs.declared.Shape.{Shape}
 use Rattle.ft_trace.specs.declared.View.{View}
 use Rattle.ft_trace.specs.Addresses.{IsTableName, class_of, number_of, free_word_of, free_bit_of}
-use Rattle.ft_trace.specs.Acts.{clear, flight, goal, has_goal, owes, stage, noted}
+use Rattle.ft_trace.specs.Acts.{clear, flight, goal, has_goal, owes, stage, view_after}
 use Rattle.ft_trace.specs.Bits.{bit}
 use Rattle.ft_trace.proofs.Addresses.{bt_low, fw_low, same_bit, table_is}
 use Rattle.ft_trace.proofs.Cases.{miss, here}
 use Rattle.ft_bank.specs.declared.table.Table.{Table}
 use Rattle.ft_bank.specs.Series.{noted_all}
-use Rattle.ft_bank.specs.TableNames.{name_of, IsTableIn}
+use Rattle.ft_bank.specs.TableNames.{table_id, IsTableIn}
 use Rattle.ft_bank.specs.Takings.{KeepsBut, Each, NotTable}
 use Rattle.ft_bank.specs.declared.pass.Pass.{Pass}
 use Rattle.ft_bank.specs.Passes.{view}
@@ -49,7 +49,7 @@ index_low k t is = let a = bt_low t in let b = fw_low k t is in omega (arith, a,
 abbrev pub by_name : (t : ℕ) → Table
 by_name t = record { class = class_of t; number = number_of t }
 
-pub named_so : (k : Shape) (t : ℕ) → IsTableName k t → IsTableIn k (by_name t) × (name_of (by_name t) ≡ t)
+pub named_so : (k : Shape) (t : ℕ) → IsTableName k t → IsTableIn k (by_name t) × (table_id (by_name t) ≡ t)
 named_so k t is = (is, table_is t)
 
 -- bits as code reads them
@@ -72,7 +72,7 @@ unfolding bit
 none_set n b e one = let z = ap (λ (x : ℕ). x / 2 ^ b % 2) e ∙ ap (λ (x : ℕ). x % 2) (zero-div (2 ^ b)) in let o : n / 2 ^ b % 2 ≡ 1 = one in omega (arith, z, o)
 
 -- where no bit is set that is a table's, the pass keeps none of these
-pub none_kept : (v : View) (word result : ℕ) → ((t : Table) → IsTableIn v.shape t → free_word_of (name_of t) ≡ word → has_goal (name_of t) v.log ≡ true → bit (free_bit_of (name_of t)) result ≡ 1) → (t : ℕ) → IsTableName v.shape t → free_word_of t ≡ word → has_goal t v.log ≡ true → bit (free_bit_of t) result ≡ 1
+pub none_kept : (v : View) (word result : ℕ) → ((t : Table) → IsTableIn v.shape t → free_word_of (table_id t) ≡ word → has_goal (table_id t) v.log ≡ true → bit (free_bit_of (table_id t)) result ≡ 1) → (t : ℕ) → IsTableName v.shape t → free_word_of t ≡ word → has_goal t v.log ≡ true → bit (free_bit_of t) result ≡ 1
 none_kept v word result all t table w has =
     let n = named_so v.shape t table in
     subst (λ (z : ℕ). bit (free_bit_of z) result ≡ 1) n.1 (all (by_name t) n.0 (ap free_word_of n.1 ∙ w) (ap (λ (z : ℕ). has_goal z v.log) n.1 ∙ has))
@@ -144,18 +144,18 @@ given_then (a ∷ xs) ys = given_more a (given xs) (given ys) (given (xs ++ ys))
 
 -- ---- one table
 
-module _ (k : Shape) (least : Option ℕ) (q : Table) (v w : View) (shape : v.shape ≡ k) (table : IsTableIn k q) (has : has_goal (name_of q) v.log ≡ true) where
-  own : IsTableName v.shape (name_of q)
-  own = subst (λ (z : Shape). IsTableName z (name_of q)) (sym shape) (named k q table)
+module _ (k : Shape) (least : Option ℕ) (q : Table) (v w : View) (shape : v.shape ≡ k) (table : IsTableIn k q) (has : has_goal (table_id q) v.log ≡ true) where
+  own : IsTableName v.shape (table_id q)
+  own = subst (λ (z : Shape). IsTableName z (table_id q)) (sym shape) (named k q table)
 
   -- a table in the range of one bit
-  the_one : (t : ℕ) → IsTableName v.shape t → bit_index (name_of q) ≤ bit_index t → bit_index t < bit_index (name_of q) + 1 → name_of q ≡ t
-  the_one t is low less = same_index v.shape (name_of q) t own is (omega (arith, low, less))
+  the_one : (t : ℕ) → IsTableName v.shape t → bit_index (table_id q) ≤ bit_index t → bit_index t < bit_index (table_id q) + 1 → table_id q ≡ t
+  the_one t is low less = same_index v.shape (table_id q) t own is (omega (arith, low, less))
 
-  not_one : (t : ℕ) → (bit_index t < bit_index (name_of q)) ⊎ (bit_index (name_of q) + 1 ≤ bit_index t) → name_of q ≢ t
-  not_one t out e = let i = ap bit_index e in ⊎_elim (λ (x : bit_index t < bit_index (name_of q)). omega (arith, x, i)) (λ (x : bit_index (name_of q) + 1 ≤ bit_index t). omega (arith, x, i)) out
+  not_one : (t : ℕ) → (bit_index t < bit_index (table_id q)) ⊎ (bit_index (table_id q) + 1 ≤ bit_index t) → table_id q ≢ t
+  not_one t out e = let i = ap bit_index e in ⊎_elim (λ (x : bit_index t < bit_index (table_id q)). omega (arith, x, i)) (λ (x : bit_index (table_id q) + 1 ≤ bit_index t). omega (arith, x, i)) out
 
-  pub kept_one : (g : ℕ) → w ≡ noted (ReadHeader (name_of q) g) v → KeepsBut Each v w → (IsPast least (goal (name_of q) v.log) → ⊥) → Swept least (bit_index (name_of q)) (bit_index (name_of q) + 1) v w
+  pub kept_one : (g : ℕ) → w ≡ view_after (ReadHeader (table_id q) g) v → KeepsBut Each v w → (IsPast least (goal (table_id q) v.log) → ⊥) → Swept least (bit_index (table_id q)) (bit_index (table_id q) + 1) v w
   kept_one g is keeps not_past = record {
     freed = λ t table' low less has' past. absurd (not_past (subst (λ (z : ℕ). IsPast least (goal z v.log)) (sym (the_one t table' low less)) past));
     kept = λ t table' low less has' past. ap (λ (u : View). has_goal t u.log) is ∙ has';
@@ -168,21 +168,21 @@ module _ (k : Shape) (least : Option ℕ) (q : Table) (v w : View) (shape : v.sh
     keeps = but_then (λ t. has_goal t v.log ≡ false) Each v v w (but_same (λ t. has_goal t v.log ≡ false) v) keeps (λ t no. tt);
   }
 
-  module _ (m : View) (g n : ℕ) (read : m ≡ noted (ReadHeader (name_of q) g) v) (is : w ≡ noted_all (RaiseCount q.class n ∷ GiveTable (name_of q) ∷ []) m) where
-    all : w ≡ noted (RaiseCount q.class n) (noted (GiveTable (name_of q)) (noted (ReadHeader (name_of q) g) v))
-    all = is ∙ ap (λ (u : View). noted (RaiseCount q.class n) (noted (GiveTable (name_of q)) u)) read
+  module _ (m : View) (g n : ℕ) (read : m ≡ view_after (ReadHeader (table_id q) g) v) (is : w ≡ noted_all (RaiseCount q.class n ∷ GiveTable (table_id q) ∷ []) m) where
+    all : w ≡ view_after (RaiseCount q.class n) (view_after (GiveTable (table_id q)) (view_after (ReadHeader (table_id q) g) v))
+    all = is ∙ ap (λ (u : View). view_after (RaiseCount q.class n) (view_after (GiveTable (table_id q)) u)) read
 
-    has_after : (t : ℕ) → has_goal t w.log ≡ cond (eqb (name_of q) t) false (has_goal t v.log)
+    has_after : (t : ℕ) → has_goal t w.log ≡ cond (eqb (table_id q) t) false (has_goal t v.log)
     has_after t = ap (λ (u : View). has_goal t u.log) all
 
-    pub given_one : KeepsBut Each v m → KeepsBut (NotTable q) m w → stage (name_of q) w.log ≡ 0 → flight w.log ≡ 0 → owes w.log ≡ cond (owes m.log == suc q.class) 0 (owes m.log) → IsPast least (goal (name_of q) v.log) → Swept least (bit_index (name_of q)) (bit_index (name_of q) + 1) v w
+    pub given_one : KeepsBut Each v m → KeepsBut (NotTable q) m w → stage (table_id q) w.log ≡ 0 → flight w.log ≡ 0 → owes w.log ≡ cond (owes m.log == suc q.class) 0 (owes m.log) → IsPast least (goal (table_id q) v.log) → Swept least (bit_index (table_id q)) (bit_index (table_id q) + 1) v w
     given_one first then given_back idle owes_is past = record {
       freed = λ t table' low less has' past'.
           let e = the_one t table' low less in
-          (ap (λ (z : ℕ). stage z w.log) (sym e) ∙ given_back, has_after t ∙ here (name_of q) t false (has_goal t v.log) e);
+          (ap (λ (z : ℕ). stage z w.log) (sym e) ∙ given_back, has_after t ∙ here (table_id q) t false (has_goal t v.log) e);
       kept = λ t table' low less has' not_past. absurd (not_past (subst (λ (z : ℕ). IsPast least (goal z v.log)) (the_one t table' low less) past));
-      apart = λ t table' out. has_after t ∙ miss (name_of q) t false (has_goal t v.log) (not_one t out);
-      none = λ t no. has_after t ∙ dite (ℕ_discrete (name_of q) t) (λ (e : name_of q ≡ t). here (name_of q) t false (has_goal t v.log) e) (λ ne. miss (name_of q) t false (has_goal t v.log) ne ∙ no);
+      apart = λ t table' out. has_after t ∙ miss (table_id q) t false (has_goal t v.log) (not_one t out);
+      none = λ t no. has_after t ∙ dite (ℕ_discrete (table_id q) t) (λ (e : table_id q ≡ t). here (table_id q) t false (has_goal t v.log) e) (λ ne. miss (table_id q) t false (has_goal t v.log) ne ∙ no);
       goals = λ t. ap (λ (u : View). goal t u.log) all;
       clears = λ t p. ap (λ (u : View). clear t p u.log) all;
       idle = λ e. idle;

@@ -1,7 +1,7 @@
 //! The announcements of a pass: that it goes online, that it holds on to no table, that it goes offline.
 ghost use Rattle.std.specs.Prelude.{◌≡◌, ℕ, ◌<◌, [], ◌∷◌};
 ghost use Rattle.ft_trace.specs.declared.Act.TheVariants.{Announce, WriteNumber};
-ghost use Rattle.ft_trace.specs.Acts.{announces, debt, flight, noted};
+ghost use Rattle.ft_trace.specs.Acts.{announces, debt, flight, view_after};
 ghost use Rattle.ft_bank.specs.Passes.{view, IsPassOf};
 ghost use Rattle.ft_bank.specs.PassSections.{stack_of};
 ghost use Rattle.ft_bank.specs.Series.{DidAll};
@@ -31,7 +31,7 @@ pub fn quiesce(bank: &Bank, pass: &mut Pass)
     requires idle { flight (view pass.old).log ≡ 0 }
     ensures pass { IsPassOf bank.now pass.new }
     ensures did { (n : ℕ) × (freed : ℕ)
-        × Collected (noted (Announce (view pass.old).number n) (noted (WriteNumber n) (view pass.old)))
+        × Collected (view_after (Announce (view pass.old).number n) (view_after (WriteNumber n) (view pass.old)))
         (view pass.new) freed }
     ensures online { 0 < announces (view pass.new).log }
     ensures sections { stack_of pass.new ≡ stack_of pass.old }
@@ -46,7 +46,7 @@ pub fn leave(bank: &Bank, pass: &mut Pass)
     requires idle { flight (view pass.old).log ≡ 0 }
     ensures pass { IsPassOf bank.now pass.new }
     ensures did { (freed : ℕ)
-        × Collected (noted (Announce (view pass.old).number 0) (view pass.old)) (view pass.new) freed }
+        × Collected (view_after (Announce (view pass.old).number 0) (view pass.old)) (view pass.new) freed }
     ensures offline { announces (view pass.new).log ≡ 0 }
     ensures sections { stack_of pass.new ≡ stack_of pass.old }
 {

@@ -4,7 +4,7 @@ ghost use Rattle.ft_trace.specs.declared.Act.TheVariants.{PutHeader, Retire};
 ghost use Rattle.ft_trace.specs.Acts.{announces, debt, goal, has_goal, stage};
 ghost use Rattle.ft_bank.specs.Passes.{shape_of, view, IsPassOf};
 ghost use Rattle.ft_bank.specs.Series.{DidAll};
-ghost use Rattle.ft_bank.specs.TableNames.{name_of, IsTableIn};
+ghost use Rattle.ft_bank.specs.TableNames.{table_id, IsTableIn};
 ghost use Rattle.ft_bank.specs.Takings.{KeepsHeld, NotTable};
 ghost use Rattle.ft_bank.specs.Whole.{SamePass};
 
@@ -16,13 +16,13 @@ use ft_bank::{Bank, Pass, Table};
 pub fn retire(bank: &Bank, pass: &mut Pass, table: Table)
     requires pass { IsPassOf bank.now pass.old }
     requires table { IsTableIn (shape_of bank.now) table }
-    requires out { stage (name_of table) (view pass.old).log ≡ 3 }
+    requires out { stage (table_id table) (view pass.old).log ≡ 3 }
     requires debt { 0 < debt (view pass.old).log }
     ensures pass { IsPassOf bank.now pass.new }
     ensures did { (n : ℕ)
-        × DidAll (PutHeader (name_of table) (n + 1) ∷ Retire (name_of table) n ∷ []) pass.old pass.new
-        × (goal (name_of table) (view pass.new).log ≡ n + 1) }
-    ensures retired { (stage (name_of table) (view pass.new).log ≡ 4) × (has_goal (name_of table) (view pass.new).log ≡ true) }
+        × DidAll (PutHeader (table_id table) (n + 1) ∷ Retire (table_id table) n ∷ []) pass.old pass.new
+        × (goal (table_id table) (view pass.new).log ≡ n + 1) }
+    ensures retired { (stage (table_id table) (view pass.new).log ≡ 4) × (has_goal (table_id table) (view pass.new).log ≡ true) }
     ensures debt { debt (view pass.new).log + 1 ≡ debt (view pass.old).log }
     ensures announces { announces (view pass.new).log ≡ announces (view pass.old).log }
     ensures same { SamePass (view pass.old) (view pass.new) }

@@ -2,7 +2,7 @@
 ghost use Rattle.std.specs.Prelude.{◌≡◌, ◌↔◌, ◌+◌, ◌*◌, ◌<◌, ◌≤◌, true, IsTrue};
 ghost use Rattle.ft_trace.specs.Acts.{flight, has_goal};
 ghost use Rattle.ft_bank.specs.Passes.{shape_of, view, IsPassOf};
-ghost use Rattle.ft_bank.specs.TableNames.{name_of, IsTableIn};
+ghost use Rattle.ft_bank.specs.TableNames.{table_id, IsTableIn};
 ghost use Rattle.ft_qsbr.specs.Collecting.{IsPast};
 ghost use Rattle.ft_qsbr.specs.Sweeping.{bit_index, Gave, HasSeen, Swept};
 
@@ -19,13 +19,13 @@ const BITS: u32 = 64;
 fn give_past(bank: &Bank, pass: &mut Pass, table: Table, least: Option<u64>) -> u64
     requires pass { IsPassOf bank.now pass.old }
     requires table { IsTableIn (shape_of bank.now) table }
-    requires kept { has_goal (name_of table) (view pass.old).log ≡ true }
+    requires kept { has_goal (table_id table) (view pass.old).log ≡ true }
     requires seen { HasSeen least (view pass.old) }
     requires idle { flight (view pass.old).log ≡ 0 }
     ensures pass { IsPassOf bank.now pass.new }
     ensures few { result ≤ 1 }
     ensures gave { Gave result pass.old pass.new }
-    ensures swept { Swept least (bit_index (name_of table)) (bit_index (name_of table) + 1)
+    ensures swept { Swept least (bit_index (table_id table)) (bit_index (table_id table) + 1)
         (view pass.old) (view pass.new) }
 {
     let goal = bank.goal(pass, table);

@@ -5,10 +5,10 @@ use Rattle.ft_trace.specs.declared.Act.{Act}
 use Rattle.ft_trace.specs.declared.Act.TheVariants.{ReadBlock, ReadRoot, ReadTable}
 use Rattle.ft_trace.specs.declared.Shape.{Shape}
 use Rattle.ft_trace.specs.Acts.{has_lock}
-use Rattle.ft_trace.specs.Addresses.{containers_in, class_of, size, IsTableName}
-use Rattle.ft_trace.specs.Holds.{held}
+use Rattle.ft_trace.specs.Addresses.{container_count, class_of, size, IsTableName}
+use Rattle.ft_trace.specs.Holds.{held_words}
 use Rattle.ft_trace.specs.LoggedReads.{Among, Agrees}
-use Rattle.ft_trace.specs.Pictures.{Picture, root_in}
+use Rattle.ft_trace.specs.Pictures.{ContainerWords, root_in}
 use Rattle.ft_bank.specs.declared.pass.Pass.{Pass}
 use Rattle.ft_bank.specs.Passes.{view}
 use Rattle.ft_bank.specs.Series.{DidAll}
@@ -50,7 +50,7 @@ among_older a b c m = record { newer = b ++ m.newer; rest = m.rest; is = ap (λ 
 
 -- ---- words that answer as loads did
 
-module _ (k : Shape) (o : ℕ) (x : Picture) where
+module _ (k : Shape) (o : ℕ) (x : ContainerWords) where
   pub agrees_append : (b c : List Act) → Agrees k o b x → Agrees k o c x → Agrees k o (b ++ c) x
   agrees_append b c p q = record {
     root = λ f m. ⊎_elim (λ n. p.root f n) (λ n. q.root f n) (among_split (ReadRoot o f) b c m);
@@ -98,13 +98,13 @@ module _ (k : Shape) (o : ℕ) (x : Picture) where
 
 -- ---- reads
 
-pub reads_loaded : (k : Shape) (o : ℕ) (P : Picture → Type 0) (p q : Pass) → Reads k o P p q → OnlyLoaded (view p) (view q)
+pub reads_loaded : (k : Shape) (o : ℕ) (P : ContainerWords → Type 0) (p q : Pass) → Reads k o P p q → OnlyLoaded (view p) (view q)
 reads_loaded k o P p q r = subst (OnlyLoaded (view p)) (sym r.2.1) (looks_load r.0 (view p) r.1)
 
-pub reads_map : (k : Shape) (o : ℕ) (P Q : Picture → Type 0) (p q : Pass) → ((x : Picture) → P x → Q x) → Reads k o P p q → Reads k o Q p q
+pub reads_map : (k : Shape) (o : ℕ) (P Q : ContainerWords → Type 0) (p q : Pass) → ((x : ContainerWords) → P x → Q x) → Reads k o P p q → Reads k o Q p q
 reads_map k o P Q p q f r = (r.0, r.1, r.2, (λ x g. f x (r.3 x g)), r.4)
 
-pub reads_then : (k : Shape) (o : ℕ) (P Q : Picture → Type 0) (p q r : Pass) → Reads k o P p q → Reads k o Q q r → Reads k o (λ x. P x × Q x) p r
+pub reads_then : (k : Shape) (o : ℕ) (P Q : ContainerWords → Type 0) (p q r : Pass) → Reads k o P p q → Reads k o Q q r → Reads k o (λ x. P x × Q x) p r
 reads_then k o P Q p q r a b =
     let loaded = reads_loaded k o P p q a in (
       b.0 ++ a.0,
@@ -113,10 +113,10 @@ reads_then k o P Q p q r a b =
       (λ x g. (a.3 x (agrees_older k o x b.0 a.0 g), b.3 x (agrees_newer k o x b.0 a.0 g))),
       (λ c low mine.
           let same = loaded_held (view p) (view q) c loaded in
-          agrees_append k c (held c (view p)) b.0 a.0 (subst (λ (z : Picture). Agrees k c b.0 z) same (b.4 c low (loaded.work.pass.locks c ∙ mine))) (a.4 c low mine)),
+          agrees_append k c (held_words c (view p)) b.0 a.0 (subst (λ (z : ContainerWords). Agrees k c b.0 z) same (b.4 c low (loaded.work.pass.locks c ∙ mine))) (a.4 c low mine)),
     )
 
-pub reads_none : (k : Shape) (o : ℕ) (P : Picture → Type 0) (p : Pass) → ((x : Picture) → P x) → Reads k o P p p
+pub reads_none : (k : Shape) (o : ℕ) (P : ContainerWords → Type 0) (p : Pass) → ((x : ContainerWords) → P x) → Reads k o P p p
 reads_none k o P p all = (
   [],
   tt,
@@ -129,23 +129,23 @@ reads_none k o P p all = (
   }),
 )
 
-pub reads_block : (k : Shape) (o i f : ℕ) (p q : Pass) → i < 6 → DidAll (ReadBlock o i f ∷ []) p q → (has_lock o (view p).log ≡ true → f ≡ slice_index (held o (view p)).block i) → Reads k o (λ x. f ≡ slice_index x.block i) p q
+pub reads_block : (k : Shape) (o i f : ℕ) (p q : Pass) → i < 6 → DidAll (ReadBlock o i f ∷ []) p q → (has_lock o (view p).log ≡ true → f ≡ slice_index (held_words o (view p)).block i) → Reads k o (λ x. f ≡ slice_index x.block i) p q
 reads_block k o i f p q low did holds = (
   ReadBlock o i f ∷ [],
   tt,
   did,
   (λ x g. g.block i f low (record { newer = []; rest = []; is = refl })),
-  (λ c inside mine. agrees_block k c (held c (view p)) o i f (λ e.
-      let here : f ≡ slice_index (held o (view p)).block i = holds (ap (λ (z : ℕ). has_lock z (view p).log) e ∙ mine) in
-      here ∙ ap (λ (z : ℕ). slice_index (held z (view p)).block i) e)),
+  (λ c inside mine. agrees_block k c (held_words c (view p)) o i f (λ e.
+      let here : f ≡ slice_index (held_words o (view p)).block i = holds (ap (λ (z : ℕ). has_lock z (view p).log) e ∙ mine) in
+      here ∙ ap (λ (z : ℕ). slice_index (held_words z (view p)).block i) e)),
 )
 
-pub reads_table : (k : Shape) (o t i f : ℕ) (p q : Pass) → IsTableName k t → i < size (class_of t) → DidAll (ReadTable t i f ∷ []) p q → ((c : ℕ) → c < containers_in k → has_lock c (view p).log ≡ true → root_in (held c (view p)) ≡ suc t → f ≡ slice_index (held c (view p)).table i)
+pub reads_table : (k : Shape) (o t i f : ℕ) (p q : Pass) → IsTableName k t → i < size (class_of t) → DidAll (ReadTable t i f ∷ []) p q → ((c : ℕ) → c < container_count k → has_lock c (view p).log ≡ true → root_in (held_words c (view p)) ≡ suc t → f ≡ slice_index (held_words c (view p)).table i)
     → Reads k o (λ x. root_in x ≡ suc t → f ≡ slice_index x.table i) p q
 reads_table k o t i f p q is low did holds = (
   ReadTable t i f ∷ [],
   tt,
   did,
   (λ x g names. g.table t i f is low names (record { newer = []; rest = []; is = refl })),
-  (λ c inside mine. agrees_table k c (held c (view p)) t i f (holds c inside mine)),
+  (λ c inside mine. agrees_table k c (held_words c (view p)) t i f (holds c inside mine)),
 )

@@ -4,10 +4,10 @@ use Rattle.std.specs.Prelude.{nat_lt, if◌then◌else◌}
 use Rattle.ft_trace.specs.declared.Shape.{Shape}
 use Rattle.ft_trace.specs.declared.View.{View}
 use Rattle.ft_trace.specs.Acts.{has_lock}
-use Rattle.ft_trace.specs.Addresses.{containers_in}
-use Rattle.ft_trace.specs.Holds.{held}
+use Rattle.ft_trace.specs.Addresses.{container_count}
+use Rattle.ft_trace.specs.Holds.{held_words}
 use Rattle.ft_trace.specs.LoggedReads.{Agrees}
-use Rattle.ft_trace.specs.Pictures.{Picture}
+use Rattle.ft_trace.specs.Pictures.{ContainerWords}
 use Rattle.ft_bank.specs.declared.pass.Pass.{Pass}
 use Rattle.ft_bank.specs.Passes.{view}
 use Rattle.ft_bank.specs.Whole.{OnlyLoaded}
@@ -21,19 +21,19 @@ use Rattle.ft_reads.specs.Pairs.{ReadsBoth}
 use Rattle.ft_reads.proofs.Agreeing.{agrees_append, agrees_newer, agrees_older}
 
 module _ (k : Shape) (o m : ℕ) where
-  pub of_first : (P : Picture → Type 0) (p q : Pass) → Reads k o P p q → ReadsBoth k o m (λ x y. P x) p q
+  pub of_first : (P : ContainerWords → Type 0) (p q : Pass) → Reads k o P p q → ReadsBoth k o m (λ x y. P x) p q
   of_first P p q r = (r.0, r.1, r.2, (λ x y f g. r.3 x f), r.4)
 
-  pub of_second : (P : Picture → Type 0) (p q : Pass) → Reads k m P p q → ReadsBoth k o m (λ x y. P y) p q
+  pub of_second : (P : ContainerWords → Type 0) (p q : Pass) → Reads k m P p q → ReadsBoth k o m (λ x y. P y) p q
   of_second P p q r = (r.0, r.1, r.2, (λ x y f g. r.3 y g), r.4)
 
-  pub both_map : (P Q : Picture → Picture → Type 0) (p q : Pass) → ReadsBoth k o m P p q → ((x y : Picture) → P x y → Q x y) → ReadsBoth k o m Q p q
+  pub both_map : (P Q : ContainerWords → ContainerWords → Type 0) (p q : Pass) → ReadsBoth k o m P p q → ((x y : ContainerWords) → P x y → Q x y) → ReadsBoth k o m Q p q
   both_map P Q p q r f = (r.0, r.1, r.2, (λ x y g h. f x y (r.3 x y g h)), r.4)
 
-  pub both_loaded : (P : Picture → Picture → Type 0) (p q : Pass) → ReadsBoth k o m P p q → OnlyLoaded (view p) (view q)
+  pub both_loaded : (P : ContainerWords → ContainerWords → Type 0) (p q : Pass) → ReadsBoth k o m P p q → OnlyLoaded (view p) (view q)
   both_loaded P p q r = subst (OnlyLoaded (view p)) (sym r.2.1) (looks_load r.0 (view p) r.1)
 
-  pub both_then : (P Q : Picture → Picture → Type 0) (p q r : Pass) → ReadsBoth k o m P p q → ReadsBoth k o m Q q r → ReadsBoth k o m (λ x y. P x y × Q x y) p r
+  pub both_then : (P Q : ContainerWords → ContainerWords → Type 0) (p q r : Pass) → ReadsBoth k o m P p q → ReadsBoth k o m Q q r → ReadsBoth k o m (λ x y. P x y × Q x y) p r
   both_then P Q p q r a b =
       let loaded = both_loaded P p q a in (
         b.0 ++ a.0,
@@ -42,7 +42,7 @@ module _ (k : Shape) (o m : ℕ) where
         (λ x y f g. (a.3 x y (agrees_older k o x b.0 a.0 f) (agrees_older k m y b.0 a.0 g), b.3 x y (agrees_newer k o x b.0 a.0 f) (agrees_newer k m y b.0 a.0 g))),
         (λ c low mine.
             let same = loaded_held (view p) (view q) c loaded in
-            agrees_append k c (held c (view p)) b.0 a.0 (subst (λ (z : Picture). Agrees k c b.0 z) same (b.4 c low (loaded.work.pass.locks c ∙ mine))) (a.4 c low mine)),
+            agrees_append k c (held_words c (view p)) b.0 a.0 (subst (λ (z : ContainerWords). Agrees k c b.0 z) same (b.4 c low (loaded.work.pass.locks c ∙ mine))) (a.4 c low mine)),
       )
 
 -- ---- the locks of both
@@ -54,9 +54,9 @@ has_each v a b h = by (nat_lt b a) h
     by true x = (x.1, x.0)
     by false x = x
 
-pub are_in : (k : Shape) (a b : ℕ) → a < containers_in k → b < containers_in k → AreIn k (Two a b)
+pub are_in : (k : Shape) (a b : ℕ) → a < container_count k → b < container_count k → AreIn k (Two a b)
 are_in k a b low high = by (nat_lt b a)
   where
-    by : (c : Bool) → ((if c then b else a) < containers_in k) × ((if c then a else b) < containers_in k)
+    by : (c : Bool) → ((if c then b else a) < container_count k) × ((if c then a else b) < container_count k)
     by true = (high, low)
     by false = (low, high)

@@ -9,11 +9,11 @@ use Rattle.ft_trace.specs.declared.Act.{Act}
 use Rattle.ft_trace.specs.declared.Act.TheVariants.{Version, ReadCounter, Answer}
 use Rattle.ft_trace.specs.declared.Shape.{Shape}
 use Rattle.ft_trace.specs.declared.View.{View}
-use Rattle.ft_trace.specs.Acts.{noted, shown}
-use Rattle.ft_trace.specs.Addresses.{containers_in}
+use Rattle.ft_trace.specs.Acts.{view_after, shown}
+use Rattle.ft_trace.specs.Addresses.{container_count}
 use Rattle.ft_trace.specs.LoggedReads.{Among, Between, LookedAtOne, LookedAtBoth}
-use Rattle.ft_trace.specs.Traces.{Possible}
-use Rattle.ft_trace.specs.Pictures.{Picture, Stands}
+use Rattle.ft_trace.specs.Traces.{IsReachable}
+use Rattle.ft_trace.specs.Pictures.{ContainerWords, Represents}
 use Rattle.ft_trace.specs.ContainerStates.{kind_in, state_at, reply_in}
 use Rattle.ft_bank.specs.declared.pass.Pass.{Pass}
 use Rattle.ft_bank.specs.Answered.{Answered}
@@ -36,7 +36,7 @@ use Rattle.ft_reads.specs.Glances.{HasMoved, WasStill, LoadedSome, Saw, SawBoth}
 
 -- ---- the loads, one after the other
 
-pub saw_between : (k : Shape) (o : ℕ) (shows : Picture → Type 0) (w : Window) (p q1 q2 q3 q4 : Pass) → DidAll (Version o w.opened ∷ []) p q1 → Reads k o shows q1 q2 → DidAll (ReadCounter w.number ∷ []) q2 q3 → DidAll (Version o w.closed ∷ []) q3 q4 → Saw k o shows w p q4
+pub saw_between : (k : Shape) (o : ℕ) (shows : ContainerWords → Type 0) (w : Window) (p q1 q2 q3 q4 : Pass) → DidAll (Version o w.opened ∷ []) p q1 → Reads k o shows q1 q2 → DidAll (ReadCounter w.number ∷ []) q2 q3 → DidAll (Version o w.closed ∷ []) q3 q4 → Saw k o shows w p q4
 saw_between k o shows w p q1 q2 q3 q4 a r c d =
     let opened = Version o w.opened ∷ [] in (
       r.0,
@@ -45,7 +45,7 @@ saw_between k o shows w p q1 q2 q3 q4 a r c d =
       r.3,
     )
 
-pub saw_both_between : (k : Shape) (o m : ℕ) (shows : Picture → Picture → Type 0) (w u : Window) (p q1 q2 q3 q4 q5 q6 : Pass) → DidAll (Version o w.opened ∷ []) p q1 → DidAll (Version m u.opened ∷ []) q1 q2 → ReadsBoth k o m shows q2 q3 → DidAll (ReadCounter w.number ∷ []) q3 q4 → DidAll (Version m u.closed ∷ []) q4 q5 → DidAll (Version o w.closed ∷ []) q5 q6
+pub saw_both_between : (k : Shape) (o m : ℕ) (shows : ContainerWords → ContainerWords → Type 0) (w u : Window) (p q1 q2 q3 q4 q5 q6 : Pass) → DidAll (Version o w.opened ∷ []) p q1 → DidAll (Version m u.opened ∷ []) q1 q2 → ReadsBoth k o m shows q2 q3 → DidAll (ReadCounter w.number ∷ []) q3 q4 → DidAll (Version m u.closed ∷ []) q4 q5 → DidAll (Version o w.closed ∷ []) q5 q6
     → SawBoth k o m shows w u p q6
 saw_both_between k o m shows w u p q1 q2 q3 q4 q5 q6 a b r c d e =
     let opens = Version m u.opened ∷ (Version o w.opened ∷ []) in
@@ -58,7 +58,7 @@ saw_both_between k o m shows w u p q1 q2 q3 q4 q5 q6 a b r c d e =
 
 -- ---- one container
 
-module _ (k : Shape) (o : ℕ) (shows : Picture → Type 0) (w : Window) (p q : Pass) (saw : Saw k o shows w p q) where
+module _ (k : Shape) (o : ℕ) (shows : ContainerWords → Type 0) (w : Window) (p q : Pass) (saw : Saw k o shows w p q) where
   abbrev part : List Act
   part = saw.0
 
@@ -78,7 +78,7 @@ module _ (k : Shape) (o : ℕ) (shows : Picture → Type 0) (w : Window) (p q : 
   saw_loaded = subst (OnlyLoaded (view p)) (sym saw.2.1) (looks_load acts (view p) looks)
 
   -- what is so wherever that is so was loaded
-  pub saw_some : (some : Picture → Type 0) → ((x : Picture) → shows x → some x) → LoadedSome k o some (view p) (view q)
+  pub saw_some : (some : ContainerWords → Type 0) → ((x : ContainerWords) → shows x → some x) → LoadedSome k o some (view p) (view q)
   saw_some some f = (
     Version o w.closed ∷ (ReadCounter w.number ∷ []),
     part,
@@ -96,10 +96,10 @@ module _ (k : Shape) (o : ℕ) (shows : Picture → Type 0) (w : Window) (p q : 
     stops = record { newer = []; mid = ReadCounter w.number ∷ part; rest = []; is = refl; moved = moved };
   }
 
-  pub saw_answered : (called : Call) (said : Reply) (z : View) → z ≡ noted (Answer called said w.number) (view q) → (view p).learnt ≤ shown (view p).log → ∥ Possible z ∥₁ → Answered called said w.number (view p) z
+  pub saw_answered : (called : Call) (said : Reply) (z : View) → z ≡ view_after (Answer called said w.number) (view q) → (view p).learnt ≤ shown (view p).log → ∥ IsReachable z ∥₁ → Answered called said w.number (view p) z
   saw_answered called said z did settled possible = answered_after (view p) (view q) z called said w.number acts saw_loaded own counted did settled possible
 
-  module _ (called : Call) (said : Reply) (plain : IsPlain called said) (other : said ≢ reply.Kept) (replied : (x : Picture) (stored : StoredWorld) → kind_of (state_at stored o).content ≡ kind_in k.starts o → Stands k.texts x (state_at stored o) → shows x → reply_in stored called ≡ said) where
+  module _ (called : Call) (said : Reply) (plain : IsPlain called said) (other : said ≢ reply.Kept) (replied : (x : ContainerWords) (stored : StoredWorld) → kind_of (state_at stored o).content ≡ kind_in k.starts o → Represents k.texts x (state_at stored o) → shows x → reply_in stored called ≡ said) where
     looked : WasStill w → LookedAtOne k called o said w.number (view q).log
     looked still = record {
       mid = ReadCounter w.number ∷ part;
@@ -109,14 +109,14 @@ module _ (k : Shape) (o : ℕ) (shows : Picture → Type 0) (w : Window) (p q : 
       answers = λ x stored kind_is stands agrees. replied x stored kind_is stands (saw.3 x (agrees_older k o x (ReadCounter w.number ∷ []) part agrees));
     }
 
-    pub saw_shown : WasStill w → (view q).shape ≡ k → o < containers_in k → 0 < (view p).left → IsShown (view q) called said w.number
+    pub saw_shown : WasStill w → (view q).shape ≡ k → o < container_count k → 0 < (view p).left → IsShown (view q) called said w.number
     saw_shown still same low left =
         looks_are_shown (view q) called o said w.number (may_ask (view p) (view q) k o w.number acts saw_loaded looks own counted same low left) plain.reads plain.cursor plain.adds plain.memory other (plain.replied said refl)
         (subst (λ (z : Shape). LookedAtOne z called o said w.number (view q).log) (sym same) (looked still))
 
 -- ---- two containers
 
-module _ (k : Shape) (o m : ℕ) (shows : Picture → Picture → Type 0) (w u : Window) (p q : Pass) (saw : SawBoth k o m shows w u p q) where
+module _ (k : Shape) (o m : ℕ) (shows : ContainerWords → ContainerWords → Type 0) (w u : Window) (p q : Pass) (saw : SawBoth k o m shows w u p q) where
   abbrev both : List Act
   both = saw.0
 
@@ -166,7 +166,7 @@ module _ (k : Shape) (o m : ℕ) (shows : Picture → Picture → Type 0) (w u :
     stops = record { newer = Version o w.closed ∷ []; mid = other_mid; rest = Version o w.opened ∷ []; is = refl; moved = moved };
   }
 
-  pub saw_both_answered : (called : Call) (said : Reply) (z : View) → z ≡ noted (Answer called said w.number) (view q) → (view p).learnt ≤ shown (view p).log → ∥ Possible z ∥₁ → Answered called said w.number (view p) z
+  pub saw_both_answered : (called : Call) (said : Reply) (z : View) → z ≡ view_after (Answer called said w.number) (view q) → (view p).learnt ≤ shown (view p).log → ∥ IsReachable z ∥₁ → Answered called said w.number (view p) z
   saw_both_answered called said z did settled possible = answered_after (view p) (view q) z called said w.number both_acts saw_both_loaded both_own both_counted did settled possible
 
   both_between : WasStill w → WasStill u → Between both_acts o first_mid × Between both_acts m other_mid
@@ -176,7 +176,7 @@ module _ (k : Shape) (o m : ℕ) (shows : Picture → Picture → Type 0) (w u :
   )
 
   module _ (called : Call) (said : Reply) (plain : IsPlain called said) (other : said ≢ reply.Kept)
-      (replied : (x y : Picture) (stored : StoredWorld) → kind_of (state_at stored o).content ≡ kind_in k.starts o → kind_of (state_at stored m).content ≡ kind_in k.starts m → Stands k.texts x (state_at stored o) → Stands k.texts y (state_at stored m) → shows x y → reply_in stored called ≡ said) where
+      (replied : (x y : ContainerWords) (stored : StoredWorld) → kind_of (state_at stored o).content ≡ kind_in k.starts o → kind_of (state_at stored m).content ≡ kind_in k.starts m → Represents k.texts x (state_at stored o) → Represents k.texts y (state_at stored m) → shows x y → reply_in stored called ≡ said) where
     looked_at_both : WasStill w → WasStill u → LookedAtBoth k called o m said w.number (view q).log
     looked_at_both still calm =
         let between = both_between still calm in
@@ -191,8 +191,8 @@ module _ (k : Shape) (o m : ℕ) (shows : Picture → Picture → Type 0) (w u :
               replied x y stored kind_is kind_is' stands stands' (saw.3 x y near far);
         }
 
-    pub saw_both_shown : WasStill w → WasStill u → (view q).shape ≡ k → o < containers_in k → m < containers_in k → 0 < (view p).left → IsShown (view q) called said w.number
+    pub saw_both_shown : WasStill w → WasStill u → (view q).shape ≡ k → o < container_count k → m < container_count k → 0 < (view p).left → IsShown (view q) called said w.number
     saw_both_shown still calm same low high left =
         looks_at_both_are_shown (view q) called o m said w.number (may_ask (view p) (view q) k o w.number both_acts saw_both_loaded both_looks both_own both_counted same low left)
-        (subst (λ (z : Shape). m < containers_in z) (sym same) high) plain.reads plain.cursor plain.adds plain.memory other (plain.replied said refl)
+        (subst (λ (z : Shape). m < container_count z) (sym same) high) plain.reads plain.cursor plain.adds plain.memory other (plain.replied said refl)
         (subst (λ (z : Shape). LookedAtBoth z called o m said w.number (view q).log) (sym same) (looked_at_both still calm))

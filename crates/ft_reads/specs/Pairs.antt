@@ -5,10 +5,10 @@ use Rattle.ft_trace.specs.declared.Act.{Act}
 use Rattle.ft_trace.specs.declared.Shape.{Shape}
 use Rattle.ft_trace.specs.declared.View.{View}
 use Rattle.ft_trace.specs.Acts.{has_lock}
-use Rattle.ft_trace.specs.Addresses.{containers_in}
-use Rattle.ft_trace.specs.Holds.{held}
+use Rattle.ft_trace.specs.Addresses.{container_count}
+use Rattle.ft_trace.specs.Holds.{held_words}
 use Rattle.ft_trace.specs.LoggedReads.{Agrees}
-use Rattle.ft_trace.specs.Pictures.{Picture}
+use Rattle.ft_trace.specs.Pictures.{ContainerWords}
 use Rattle.ft_bank.specs.declared.pass.Pass.{Pass}
 use Rattle.ft_bank.specs.Answered.{Answered}
 use Rattle.ft_bank.specs.Passes.{view}
@@ -20,11 +20,11 @@ use Rattle.ft_search.specs.KeyLooks.{AreLooks}
 
 -- The pass only loaded words, and this is so of all words of the containers o and m that answer so. What the pass knows
 -- of each container whose lock it has answers so. (profile)
-abbrev pub ReadsBoth : Shape → ℕ → ℕ → (Picture → Picture → Type 0) → Pass → Pass → Type 0
+abbrev pub ReadsBoth : Shape → ℕ → ℕ → (ContainerWords → ContainerWords → Type 0) → Pass → Pass → Type 0
 ReadsBoth k o m shows p q =
     (part : List Act) × AreLooks part × DidAll part p q
-    × ((x y : Picture) → Agrees k o part x → Agrees k m part y → shows x y)
-    × ((c : ℕ) → c < containers_in k → has_lock c (view p).log ≡ true → Agrees k c part (held c (view p)))
+    × ((x y : ContainerWords) → Agrees k o part x → Agrees k m part y → shows x y)
+    × ((c : ℕ) → c < container_count k → has_lock c (view p).log ≡ true → Agrees k c part (held_words c (view p)))
 
 -- What a call answers that reads two containers, each between two loads of its version. It gave a reply, which is the
 -- one that its entry has, with a stamp that it loaded; or the version of one of the two stopped it. It takes no memory.

@@ -10,9 +10,9 @@ use Rattle.ft_trace.specs.declared.Act.TheVariants.{StartWrite, PutRoot, Commit,
 use Rattle.ft_trace.specs.declared.Snap.{Snap}
 use Rattle.ft_trace.specs.declared.Shape.{Shape}
 use Rattle.ft_trace.specs.declared.View.{View}
-use Rattle.ft_trace.specs.Acts.{debt, debt_next, is_writing, noted, seen_writes, shown, stage, stage_next}
-use Rattle.ft_trace.specs.Holds.{held, known}
-use Rattle.ft_trace.specs.Pictures.{root_in, Stands}
+use Rattle.ft_trace.specs.Acts.{debt, debt_next, is_writing, view_after, seen_writes, shown, stage, stage_next}
+use Rattle.ft_trace.specs.Holds.{held_words, known_state}
+use Rattle.ft_trace.specs.Pictures.{root_in, Represents}
 use Rattle.ft_trace.specs.ContainerStates.{changes}
 use Rattle.ft_trace.proofs.Cases.{hit, miss}
 use Rattle.ft_trace.proofs.Untouched.{untouched_in}
@@ -25,22 +25,22 @@ module _ (called : Call) (said : Reply) (number f t g : ℕ) (snap : Snap) (v u 
   at = changes called
 
   abbrev old : ℕ
-  old = root_in (held at v)
+  old = root_in (held_words at v)
 
   abbrev begun : View
-  begun = noted (StartWrite at f) v
+  begun = view_after (StartWrite at f) v
 
   abbrev bare : View
-  bare = noted (PutRoot at 0 old) begun
+  bare = view_after (PutRoot at 0 old) begun
 
   abbrev made : View
-  made = noted (Commit called said number snap) bare
+  made = view_after (Commit called said number snap) bare
 
   abbrev rooted : View
-  rooted = noted (PutRoot at (suc t) 0) made
+  rooted = view_after (PutRoot at (suc t) 0) made
 
   abbrev done : View
-  done = noted (StopWrite at g) u
+  done = view_after (StopWrite at g) u
 
   others_start : (p : ℕ) → p ≢ at → is_writing p rooted.log ≡ is_writing p v.log
   others_start p ne = miss at p true (is_writing p v.log) (λ e. ne (sym e))
@@ -68,7 +68,7 @@ module _ (called : Call) (said : Reply) (number f t g : ℕ) (snap : Snap) (v u 
       let n = debt_next (PutRoot at 0 old) (debt v.log) in
       hit 0 n (n + 1) ∙ sym (miss old (suc t) (debt v.log) (debt_next (PutRoot at (suc t) old) (debt v.log)) new)
 
-  swapped_at : is_writing at v.log ≡ false → old ≢ suc t → seen_writes bare ≤ number → 0 < v.left → KeepsUnwritten begun bare → Committed bare made called → KeepsUnwritten made rooted → OnlyPut at rooted u → root_in (held at u) ≡ suc t → Stands u.shape.texts (held at u) (known at u) → Wrote called said number v done
+  swapped_at : is_writing at v.log ≡ false → old ≢ suc t → seen_writes bare ≤ number → 0 < v.left → KeepsUnwritten begun bare → Committed bare made called → KeepsUnwritten made rooted → OnlyPut at rooted u → root_in (held_words at u) ≡ suc t → Represents u.shape.texts (held_words at u) (known_state at u) → Wrote called said number v done
   swapped_at quiet new low some keeps committed kept puts root stands =
       let w1 = puts.work in
       let p1 = w1.pass in
@@ -119,13 +119,13 @@ module _ (called : Call) (said : Reply) (number f t g : ℕ) (snap : Snap) (v u 
           words = committed.has.words;
         };
         content = work_knows rooted u at w1 ∙ committed.left at;
-        stands = subst (λ (k : Shape). Stands k.texts (held at u) (known at u)) p1.shape stands;
+        stands = subst (λ (k : Shape). Represents k.texts (held_words at u) (known_state at u)) p1.shape stands;
       }
 
-  pub swapped_write : (s r c z w : View) → s ≡ begun → r ≡ bare → c ≡ noted (Commit called said number snap) r → z ≡ noted (PutRoot at (suc t) 0) c → w ≡ done → is_writing at v.log ≡ false → old ≢ suc t → seen_writes r ≤ number → 0 < v.left → KeepsUnwritten s r → Committed r c called → KeepsUnwritten c z → OnlyPut at z u → root_in (held at u) ≡ suc t → Stands u.shape.texts (held at u) (known at u) → Wrote called said number v w
+  pub swapped_write : (s r c z w : View) → s ≡ begun → r ≡ bare → c ≡ view_after (Commit called said number snap) r → z ≡ view_after (PutRoot at (suc t) 0) c → w ≡ done → is_writing at v.log ≡ false → old ≢ suc t → seen_writes r ≤ number → 0 < v.left → KeepsUnwritten s r → Committed r c called → KeepsUnwritten c z → OnlyPut at z u → root_in (held_words at u) ≡ suc t → Represents u.shape.texts (held_words at u) (known_state at u) → Wrote called said number v w
   swapped_write s r c z w s_is r_is c_is z_is w_is quiet new low some keeps committed kept puts root stands =
-      let c_at : c ≡ made = c_is ∙ ap (noted (Commit called said number snap)) r_is in
-      let z_at : z ≡ rooted = z_is ∙ ap (noted (PutRoot at (suc t) 0)) c_at in
+      let c_at : c ≡ made = c_is ∙ ap (view_after (Commit called said number snap)) r_is in
+      let z_at : z ≡ rooted = z_is ∙ ap (view_after (PutRoot at (suc t) 0)) c_at in
       subst (Wrote called said number v) (sym w_is)
       (swapped_at quiet new
       (subst (λ (y : View). seen_writes y ≤ number) r_is low)

@@ -15,13 +15,13 @@ use Rattle.ft_trace.specs.declared.Act.TheVariants.{Commit, PutRoot, StartWrite,
 use Rattle.ft_trace.specs.declared.Shape.{Shape}
 use Rattle.ft_trace.specs.declared.Snap.{Snap}
 use Rattle.ft_trace.specs.declared.View.{View}
-use Rattle.ft_trace.specs.Acts.{has_committed, has_lock, is_writing, mem, noted, owes, seen_writes, stage}
-use Rattle.ft_trace.specs.Addresses.{containers_in, class_of, size, at, block, cell, IsTableName}
-use Rattle.ft_trace.specs.Holds.{held, in_hand, known}
+use Rattle.ft_trace.specs.Acts.{has_committed, has_lock, is_writing, mem, view_after, owes, seen_writes, stage}
+use Rattle.ft_trace.specs.Addresses.{container_count, class_of, size, at, block, cell, IsTableName}
+use Rattle.ft_trace.specs.Holds.{held_words, in_hand, known_state}
 use Rattle.ft_trace.specs.Kinds.{IsKeyed, rows, version_at, SoundAs}
 use Rattle.ft_trace.specs.OddVersions.{Shut}
-use Rattle.ft_trace.specs.Traces.{Possible}
-use Rattle.ft_trace.specs.Pictures.{Picture, root_in, Stands}
+use Rattle.ft_trace.specs.Traces.{IsReachable}
+use Rattle.ft_trace.specs.Pictures.{ContainerWords, root_in, Represents}
 use Rattle.ft_trace.specs.ContainerStates.{ContainerState, changes, kind_in, kinds_in}
 use Rattle.ft_trace.proofs.Addresses.{at_apart}
 use Rattle.ft_trace.proofs.Cases.{hit, miss}
@@ -29,7 +29,7 @@ use Rattle.ft_trace.proofs.DictWrites.{FirstEntriesArePairs}
 use Rattle.ft_trace.proofs.Pieces.{table_same}
 use Rattle.ft_trace.proofs.SetKnown.{FirstEntriesAreElements}
 use Rattle.ft_bank.specs.declared.table.Table.{Table}
-use Rattle.ft_bank.specs.TableNames.{name_of}
+use Rattle.ft_bank.specs.TableNames.{table_id}
 use Rattle.ft_bank.specs.Whole.{OnlyPut, Wrote}
 use Rattle.ft_bank.specs.WriteSteps.{Committed, IsShut, KeepsUnwritten, MayCommit, MayHave, MayPutRoot, with_root}
 use Rattle.ft_bank.proofs.TableAddresses.{named}
@@ -61,7 +61,7 @@ no_root b class count fill next h =
     }
 
 -- a root that is put leaves the words of a table
-hand_stays : (k : Shape) (o t x : ℕ) (ws : List ℕ) → o < containers_in k → IsTableName k t → (i : ℕ) → i < size (class_of t) → slice_index (slice_set ws (at k (block o 0)) x) (at k (cell t i)) ≡ slice_index ws (at k (cell t i))
+hand_stays : (k : Shape) (o t x : ℕ) (ws : List ℕ) → o < container_count k → IsTableName k t → (i : ℕ) → i < size (class_of t) → slice_index (slice_set ws (at k (block o 0)) x) (at k (cell t i)) ≡ slice_index ws (at k (cell t i))
 hand_stays k o t x ws low table i small =
     get_or-set_other ws (at k (block o 0)) (at k (cell t i)) x 0
     (λ e. let same = at_apart k (cell t i) (block o 0) (table, small) (low, omega arith) e in absurd (cc))
@@ -74,45 +74,45 @@ pub record Swapping (k : Shape) (o : ℕ) (old : Option Table) (table : Table) (
   pub heads : Heads
   pub may : MayGrowKeyed k o old table v
   pub shape : v.shape ≡ k
-  pub possible : ∥ Possible v ∥₁
-  pub other : root_in (held o v) ≢ suc (name_of table)
+  pub possible : ∥ IsReachable v ∥₁
+  pub other : root_in (held_words o v) ≢ suc (table_id table)
   pub kind_is : kind_of left ≡ kind_in k.starts o
-  pub filled : IsFilledWith k.texts (class_of (name_of table)) left (in_hand (name_of table) v)
-  pub replaces : Replaces o called left (Some (class_of (name_of table))) v
-  pub started : s ≡ noted (StartWrite o f) v
-  pub rooted : r ≡ noted (PutRoot o 0 (root_in (held o s))) s
-  pub root_held : held o r ≡ with_root (held o s) None s
+  pub filled : IsFilledWith k.texts (class_of (table_id table)) left (in_hand (table_id table) v)
+  pub replaces : Replaces o called left (Some (class_of (table_id table))) v
+  pub started : s ≡ view_after (StartWrite o f) v
+  pub rooted : r ≡ view_after (PutRoot o 0 (root_in (held_words o s))) s
+  pub root_held : held_words o r ≡ with_root (held_words o s) None s
 
 -- 0 may be put into the root
-pub may_put_none : (k : Shape) (o : ℕ) (old : Option Table) (table : Table) (v s : View) (f : ℕ) → v.shape ≡ k → ∥ Possible v ∥₁ → MayGrowKeyed k o old table v → s ≡ noted (StartWrite o f) v → MayPutRoot s o None
+pub may_put_none : (k : Shape) (o : ℕ) (old : Option Table) (table : Table) (v s : View) (f : ℕ) → v.shape ≡ k → ∥ IsReachable v ∥₁ → MayGrowKeyed k o old table v → s ≡ view_after (StartWrite o f) v → MayPutRoot s o None
 may_put_none k o old table v s f shape possible may is =
-    let kind_v : kind_of (known o v).content ≡ kind_in v.shape.starts o = kind_is k v o shape possible may.keyed.locked ∙ sym (ap (λ (z : Shape). kind_in z.starts o) shape) in
+    let kind_v : kind_of (known_state o v).content ≡ kind_in v.shape.starts o = kind_is k v o shape possible may.keyed.locked ∙ sym (ap (λ (z : Shape). kind_in z.starts o) shape) in
     subst (λ (u : View). MayPutRoot u o None) (sym is)
     (record {
       odd = hit o true (is_writing o v.log);
       fresh = λ t e. absurd (true≢false (ap is_some (sym e)));
       sound = λ t e. absurd (true≢false (ap is_some (sym e)));
       young = λ t p e. absurd (true≢false (ap is_some (sym e)));
-      shut = λ t names. subst (λ (z : Kind). Shut (version_at z (class_of t)) (rows z (class_of t)) (held o v).table) kind_v (shut_known k v o t shape possible may.keyed.container may.keyed.locked may.keyed.even names);
+      shut = λ t names. subst (λ (z : Kind). Shut (version_at z (class_of t)) (rows z (class_of t)) (held_words o v).table) kind_v (shut_known k v o t shape possible may.keyed.container may.keyed.locked may.keyed.even names);
       spare = λ some_one. may.used;
       early = λ e. hit o false _;
     })
 
 module _ (k : Shape) (o : ℕ) (old : Option Table) (table : Table) (called : Call) (left : Content) (f : ℕ) (v s r : View) (e : Swapping k o old table called left f v s r) where
   abbrev t : ℕ
-  t = name_of table
+  t = table_id table
 
   abbrev class : ℕ
-  class = class_of (name_of table)
+  class = class_of (table_id table)
 
   abbrev ws : List ℕ
-  ws = in_hand (name_of table) v
+  ws = in_hand (table_id table) v
 
-  both_rooted : r ≡ noted (PutRoot o 0 (root_in (held o v))) (noted (StartWrite o f) v)
-  both_rooted = e.rooted ∙ ap (λ (z : View). noted (PutRoot o 0 (root_in (held o z))) z) e.started
+  both_rooted : r ≡ view_after (PutRoot o 0 (root_in (held_words o v))) (view_after (StartWrite o f) v)
+  both_rooted = e.rooted ∙ ap (λ (z : View). view_after (PutRoot o 0 (root_in (held_words o z))) z) e.started
 
-  known_then : (p : ℕ) → known p r ≡ known p v
-  known_then p = ap (λ (z : View). known p z) both_rooted
+  known_then : (p : ℕ) → known_state p r ≡ known_state p v
+  known_then p = ap (λ (z : View). known_state p z) both_rooted
 
   shape_then : r.shape ≡ v.shape
   shape_then = ap (λ (z : View). z.shape) both_rooted
@@ -127,19 +127,19 @@ module _ (k : Shape) (o : ℕ) (old : Option Table) (table : Table) (called : Ca
   is_class = table_class k table e.may.table_in
 
   -- the block before the write
-  old_head : IsBlock (held o v).block (known o v).table.class (length_of (known o v).content) (known o v).table.fill (serial_of (known o v).content)
-  old_head = e.heads k.texts (held o v).block (0 ∷ 0 ∷ (held o v).table) (known o v).table (known o v).content e.may.keyed.stands
+  old_head : IsBlock (held_words o v).block (known_state o v).table.class (length_of (known_state o v).content) (known_state o v).table.fill (serial_of (known_state o v).content)
+  old_head = e.heads k.texts (held_words o v).block (0 ∷ 0 ∷ (held_words o v).table) (known_state o v).table (known_state o v).content e.may.keyed.stands
 
   abbrev b : List ℕ
-  b = slice_set (held o v).block 0 0
+  b = slice_set (held_words o v).block 0 0
 
-  bare_head : IsBlock b None (length_of (known o v).content) (known o v).table.fill (serial_of (known o v).content)
-  bare_head = no_root (held o v).block (known o v).table.class (length_of (known o v).content) (known o v).table.fill (serial_of (known o v).content) old_head
+  bare_head : IsBlock b None (length_of (known_state o v).content) (known_state o v).table.fill (serial_of (known_state o v).content)
+  bare_head = no_root (held_words o v).block (known_state o v).table.class (length_of (known_state o v).content) (known_state o v).table.fill (serial_of (known_state o v).content) old_head
 
-  held_then : held o r ≡ record { block = b; table = [] }
-  held_then = e.root_held ∙ ap (λ (z : View). with_root (held o z) None z) e.started
+  held_then : held_words o r ≡ record { block = b; table = [] }
+  held_then = e.root_held ∙ ap (λ (z : View). with_root (held_words o z) None z) e.started
 
-  root_then : root_in (held o r) ≡ 0
+  root_then : root_in (held_words o r) ≡ 0
   root_then = ap root_in held_then ∙ bare_head.root
 
   -- and after it
@@ -148,8 +148,8 @@ module _ (k : Shape) (o : ℕ) (old : Option Table) (table : Table) (called : Ca
 
   last_head : IsBlock last (Some class) (length_of left) (length_of left) (serial_of left)
   last_head =
-      counted_head (slice_set b 0 (suc t)) (Some class) (length_of (known o v).content) (known o v).table.fill (serial_of (known o v).content) (length_of left) (length_of left) (serial_of left)
-      (rooted_head b None k table (length_of (known o v).content) (known o v).table.fill (serial_of (known o v).content) bare_head e.may.table_in)
+      counted_head (slice_set b 0 (suc t)) (Some class) (length_of (known_state o v).content) (known_state o v).table.fill (serial_of (known_state o v).content) (length_of left) (length_of left) (serial_of left)
+      (rooted_head b None k table (length_of (known_state o v).content) (known_state o v).table.fill (serial_of (known_state o v).content) bare_head e.may.table_in)
 
   says : StandsAs k.texts last (0 ∷ 0 ∷ ws) (use_with class (length_of left)) left
   says = e.filled.says last last_head
@@ -157,8 +157,8 @@ module _ (k : Shape) (o : ℕ) (old : Option Table) (table : Table) (called : Ca
   -- the bank may have the same
   has_before : (stored : StoredWorld) → MayHave r stored → MayHave v stored
   has_before stored has = record {
-    agrees = λ p low mine. has.agrees p (subst (λ (z : Shape). p < containers_in z) (sym shape_then) low) (locks_then p ∙ mine) ∙ known_then p;
-    containers = has.containers ∙ ap containers_in shape_then;
+    agrees = λ p low mine. has.agrees p (subst (λ (z : Shape). p < container_count z) (sym shape_then) low) (locks_then p ∙ mine) ∙ known_then p;
+    containers = has.containers ∙ ap container_count shape_then;
     kinds = has.kinds ∙ ap (λ (z : Shape). kinds_in z.starts) shape_then;
     order = has.order;
     unsplit = has.unsplit;
@@ -171,10 +171,10 @@ module _ (k : Shape) (o : ℕ) (old : Option Table) (table : Table) (called : Ca
       let here : o ≡ changes called = sym l.changed in
       let owed : owes r.log ≡ suc class = ap (λ (z : View). owes z.log) both_rooted ∙ e.may.owed in
       let odd : is_writing o r.log ≡ true = ap (λ (z : View). is_writing o z.log) both_rooted ∙ hit o true (is_writing o v.log) in
-      let none : root_in (held (changes called) r) ≡ 0 = subst (λ (n : ℕ). root_in (held n r) ≡ 0) here root_then in
+      let none : root_in (held_words (changes called) r) ≡ 0 = subst (λ (n : ℕ). root_in (held_words n r) ≡ 0) here root_then in
       record {
         write = l.write;
-        container = subst (λ (n : ℕ). n < containers_in r.shape) here (subst (λ (z : Shape). o < containers_in z) (sym (shape_then ∙ e.shape)) e.may.keyed.container);
+        container = subst (λ (n : ℕ). n < container_count r.shape) here (subst (λ (z : Shape). o < container_count z) (sym (shape_then ∙ e.shape)) e.may.keyed.container);
         odd = subst (λ (n : ℕ). is_writing n r.log ≡ true) here odd;
         left = subst (λ (n : ℕ). 0 < n) (sym (ap (λ (z : View). z.left) both_rooted)) e.may.left;
         words = l.words;
@@ -188,32 +188,32 @@ module _ (k : Shape) (o : ℕ) (old : Option Table) (table : Table) (called : Ca
       }
 
   -- after the commit
-  module _ (number : ℕ) (snap : Snap) (c : View) (made : c ≡ noted (Commit called reply.Done number snap) r) (committed : Committed r c called) where
+  module _ (number : ℕ) (snap : Snap) (c : View) (made : c ≡ view_after (Commit called reply.Done number snap) r) (committed : Committed r c called) where
     abbrev C : View
-    C = noted (Commit called reply.Done number snap) (noted (PutRoot o 0 (root_in (held o v))) (noted (StartWrite o f) v))
+    C = view_after (Commit called reply.Done number snap) (view_after (PutRoot o 0 (root_in (held_words o v))) (view_after (StartWrite o f) v))
 
     all_made : c ≡ C
-    all_made = made ∙ ap (noted (Commit called reply.Done number snap)) both_rooted
+    all_made = made ∙ ap (view_after (Commit called reply.Done number snap)) both_rooted
 
-    content_then : (known o c).content ≡ left
+    content_then : (known_state o c).content ≡ left
     content_then = ap (λ (z : ContainerState). z.content) (committed.left o ∙ e.replaces.left_is committed.found (has_before committed.found committed.has))
 
-    kept_then : known o c ≡ record { content = left; table = replaced_table (Some class) (length_of left) }
+    kept_then : known_state o c ≡ record { content = left; table = replaced_table (Some class) (length_of left) }
     kept_then = committed.left o ∙ e.replaces.left_is committed.found (has_before committed.found committed.has)
 
-    held_c : held o c ≡ record { block = b; table = [] }
-    held_c = ap (λ (z : View). held o z) made ∙ held_then
+    held_c : held_words o c ≡ record { block = b; table = [] }
+    held_c = ap (λ (z : View). held_words o z) made ∙ held_then
 
     hand_then : in_hand t c ≡ ws
     hand_then =
         ap (λ (z : View). in_hand t z) all_made
         ∙ table_same v.shape t (slice_set (mem v.shape v.log) (at v.shape (block o 0)) 0) (mem v.shape v.log)
-        (hand_stays v.shape o t 0 (mem v.shape v.log) (subst (λ (z : Shape). o < containers_in z) (sym e.shape) e.may.keyed.container) (subst (λ (z : Shape). IsTableName z t) (sym e.shape) (named k table e.may.table_in)))
+        (hand_stays v.shape o t 0 (mem v.shape v.log) (subst (λ (z : Shape). o < container_count z) (sym e.shape) e.may.keyed.container) (subst (λ (z : Shape). IsTableName z t) (sym e.shape) (named k table e.may.table_in)))
 
     fresh_then : stage t c.log ≡ 1
     fresh_then =
         ap (λ (z : View). stage t z.log) all_made
-        ∙ (miss 0 (suc t) 0 _ (λ x. absurd (omega (arith, x))) ∙ (miss (root_in (held o v)) (suc t) 3 (stage t v.log) e.other ∙ e.may.fresh))
+        ∙ (miss 0 (suc t) 0 _ (λ x. absurd (omega (arith, x))) ∙ (miss (root_in (held_words o v)) (suc t) 3 (stage t v.log) e.other ∙ e.may.fresh))
 
     shape_c : c.shape ≡ k
     shape_c = ap (λ (z : View). z.shape) all_made ∙ e.shape
@@ -224,7 +224,7 @@ module _ (k : Shape) (o : ℕ) (old : Option Table) (table : Table) (called : Ca
     kind_c : kind_of left ≡ kind_in c.shape.starts o
     kind_c = e.kind_is ∙ sym (ap (λ (z : Shape). kind_in z.starts o) shape_c)
 
-    sound_here : SoundAs (kind_in c.shape.starts o) c.shape.texts class (in_hand t c) (known o c).content
+    sound_here : SoundAs (kind_in c.shape.starts o) c.shape.texts class (in_hand t c) (known_state o c).content
     sound_here =
         subst (λ (z : Kind × List ℕ × List ℕ × Content). SoundAs z.0 z.1 class z.2 z.3) (λ i. (kind_c i, (sym shape_c i).texts, sym hand_then i, sym content_then i))
         (sound_in e.first_pair e.first_element k.texts last ws class (length_of left) left keyed is_class says)
@@ -234,16 +234,16 @@ module _ (k : Shape) (o : ℕ) (old : Option Table) (table : Table) (called : Ca
         subst (λ (z : Kind × List ℕ). (p : ℕ) → p < rows z.0 class → slice_index z.1 (version_at z.0 class p) ≡ 0) (λ i. (kind_c i, sym hand_then i))
         (λ p low. ap (slice_index ws) (keyed_version (kind_of left) keyed class p) ∙ e.filled.versions p low)
 
-    pub root_c : root_in (held o c) ≡ 0
+    pub root_c : root_in (held_words o c) ≡ 0
     root_c = ap root_in held_c ∙ bare_head.root
 
     pub may_put_table : MayPutRoot c o (Some table)
     may_put_table = record {
       odd = ap (λ (z : View). is_writing o z.log) all_made ∙ hit o true (is_writing o v.log);
-      fresh = λ q is. subst (λ (z : Table). stage (name_of z) c.log ≡ 1) (the_one q is) fresh_then;
-      sound = λ q is. subst (λ (z : Table). SoundAs (kind_in c.shape.starts o) c.shape.texts (class_of (name_of z)) (in_hand (name_of z) c) (known o c).content) (the_one q is) sound_here;
+      fresh = λ q is. subst (λ (z : Table). stage (table_id z) c.log ≡ 1) (the_one q is) fresh_then;
+      sound = λ q is. subst (λ (z : Table). SoundAs (kind_in c.shape.starts o) c.shape.texts (class_of (table_id z)) (in_hand (table_id z) c) (known_state o c).content) (the_one q is) sound_here;
       young = λ q p is row.
-          let zero = subst (λ (z : Table). (p : ℕ) → p < rows (kind_in c.shape.starts o) (class_of (name_of z)) → slice_index (in_hand (name_of z) c) (version_at (kind_in c.shape.starts o) (class_of (name_of z)) p) ≡ 0) (the_one q is) zero_here p row in
+          let zero = subst (λ (z : Table). (p : ℕ) → p < rows (kind_in c.shape.starts o) (class_of (table_id z)) → slice_index (in_hand (table_id z) c) (version_at (kind_in c.shape.starts o) (class_of (table_id z)) p) ≡ 0) (the_one q is) zero_here p row in
           (omega (arith, zero), (λ late. zero));
       shut = λ q names. let none = root_c in absurd (omega (arith, none, names));
       spare = λ some_one. absurd (some_one root_c);
@@ -251,13 +251,13 @@ module _ (k : Shape) (o : ℕ) (old : Option Table) (table : Table) (called : Ca
     }
 
     -- after the root and the counts
-    module _ (z u : View) (rooted : z ≡ noted (PutRoot o (suc t) (root_in (held o c))) c) (root_held : held o z ≡ with_root (held o c) (Some table) c) (puts : OnlyPut o z u) (count next : ℕ) (count_is : count ≡ length_of left) (next_is : next ≡ serial_of left) (words : held o u ≡ record { block = counted (held o z).block count count next; table = (held o z).table }) where
-      held_u : held o u ≡ record { block = last; table = ws }
+    module _ (z u : View) (rooted : z ≡ view_after (PutRoot o (suc t) (root_in (held_words o c))) c) (root_held : held_words o z ≡ with_root (held_words o c) (Some table) c) (puts : OnlyPut o z u) (count next : ℕ) (count_is : count ≡ length_of left) (next_is : next ≡ serial_of left) (words : held_words o u ≡ record { block = counted (held_words o z).block count count next; table = (held_words o z).table }) where
+      held_u : held_words o u ≡ record { block = last; table = ws }
       held_u =
-          let at_z : held o z ≡ record { block = slice_set b 0 (suc t); table = ws } = root_held ∙ (λ i. record { block = slice_set (held_c i).block 0 (suc t); table = hand_then i }) in
+          let at_z : held_words o z ≡ record { block = slice_set b 0 (suc t); table = ws } = root_held ∙ (λ i. record { block = slice_set (held_c i).block 0 (suc t); table = hand_then i }) in
           words ∙ (λ i. record { block = counted (at_z i).block (count_is i) (count_is i) (next_is i); table = (at_z i).table })
 
-      pub root_u : root_in (held o u) ≡ suc t
+      pub root_u : root_in (held_words o u) ≡ suc t
       root_u = ap root_in held_u ∙ (let n = (rooted_names last last_head) in n)
         where
           rooted_names : (l : List ℕ) → IsBlock l (Some class) (length_of left) (length_of left) (serial_of left) → slice_index last 0 ≡ suc t
@@ -270,11 +270,11 @@ module _ (k : Shape) (o : ℕ) (old : Option Table) (table : Table) (called : Ca
               ∙ (get_or-set_other b1 2 0 (length_of left) 0 (λ x. absurd (omega (arith, x)))
               ∙ (get_or-set_other b0 1 0 (length_of left) 0 (λ x. absurd (omega (arith, x))) ∙ get_or-set_same b 0 (suc t) 0 (omega (arith, size_is))))
 
-      known_u : known o u ≡ record { content = left; table = replaced_table (Some class) (length_of left) }
-      known_u = work_knows z u o puts.work ∙ (ap (λ (y : View). known o y) rooted ∙ kept_then)
+      known_u : known_state o u ≡ record { content = left; table = replaced_table (Some class) (length_of left) }
+      known_u = work_knows z u o puts.work ∙ (ap (λ (y : View). known_state o y) rooted ∙ kept_then)
 
-      pub stands_u : Stands k.texts (held o u) (known o u)
-      stands_u = subst (λ (y : Picture × ContainerState). Stands k.texts y.0 y.1) (λ i. (sym held_u i, sym known_u i)) says
+      pub stands_u : Represents k.texts (held_words o u) (known_state o u)
+      stands_u = subst (λ (y : ContainerWords × ContainerState). Represents k.texts y.0 y.1) (λ i. (sym held_u i, sym known_u i)) says
 
       shape_u : u.shape ≡ k
       shape_u = puts.work.pass.shape ∙ (ap (λ (y : View). y.shape) rooted ∙ shape_c)
@@ -288,8 +288,8 @@ module _ (k : Shape) (o : ℕ) (old : Option Table) (table : Table) (called : Ca
           subst (λ (y : Kind × ℕ × List ℕ). Shut (version_at y.0 (class_of y.1)) (rows y.0 (class_of y.1)) y.2) (λ i. (kind_u i, same i, (sym held_u i).table))
           (kind_shut (kind_of left) keyed class (rows (kind_of left) class) ws (λ p low. let zero = e.filled.versions p low in omega (arith, zero)))
 
-      all_rooted : z ≡ noted (PutRoot o (suc t) (root_in (held o c))) C
-      all_rooted = rooted ∙ ap (noted (PutRoot o (suc t) (root_in (held o c)))) all_made
+      all_rooted : z ≡ view_after (PutRoot o (suc t) (root_in (held_words o c))) C
+      all_rooted = rooted ∙ ap (view_after (PutRoot o (suc t) (root_in (held_words o c)))) all_made
 
       pub odd_u : is_writing o u.log ≡ true
       odd_u = puts.work.pass.writes o ∙ (ap (λ (y : View). is_writing o y.log) all_rooted ∙ hit o true (is_writing o v.log))
@@ -298,12 +298,12 @@ module _ (k : Shape) (o : ℕ) (old : Option Table) (table : Table) (called : Ca
       committed_u = puts.work.committed o ∙ ap (λ (y : View). has_committed o y.log) all_rooted
 
       -- the whole write
-      module _ (g : ℕ) (w : View) (keeps : KeepsUnwritten s r) (kept : KeepsUnwritten c z) (seen : seen_writes r ≤ number) (stopped : w ≡ noted (StopWrite o g) u) where
+      module _ (g : ℕ) (w : View) (keeps : KeepsUnwritten s r) (kept : KeepsUnwritten c z) (seen : seen_writes r ≤ number) (stopped : w ≡ view_after (StopWrite o g) u) where
         pub swapping_wrote : Wrote called reply.Done number v w
         swapping_wrote =
             subst
-            (λ (n : ℕ). s ≡ noted (StartWrite n f) v → r ≡ noted (PutRoot n 0 (root_in (held n v))) (noted (StartWrite n f) v) → z ≡ noted (PutRoot n (suc t) 0) c → w ≡ noted (StopWrite n g) u → is_writing n v.log ≡ false → root_in (held n v) ≢ suc t → OnlyPut n z u → root_in (held n u) ≡ suc t → Stands u.shape.texts (held n u) (known n u) → Wrote called reply.Done number v w)
+            (λ (n : ℕ). s ≡ view_after (StartWrite n f) v → r ≡ view_after (PutRoot n 0 (root_in (held_words n v))) (view_after (StartWrite n f) v) → z ≡ view_after (PutRoot n (suc t) 0) c → w ≡ view_after (StopWrite n g) u → is_writing n v.log ≡ false → root_in (held_words n v) ≢ suc t → OnlyPut n z u → root_in (held_words n u) ≡ suc t → Represents u.shape.texts (held_words n u) (known_state n u) → Wrote called reply.Done number v w)
             e.replaces.changed
             (λ s_is r_is z_is w_is quiet new puts_at root stands. swapped_write called reply.Done number f t g snap v u s r c z w s_is r_is made z_is w_is quiet new seen e.may.left keeps committed kept puts_at root stands)
-            e.started both_rooted (rooted ∙ ap (λ (x : ℕ). noted (PutRoot o (suc t) x) c) root_c) stopped e.may.keyed.even e.other puts root_u
-            (subst (λ (y : Shape). Stands y.texts (held o u) (known o u)) (sym shape_u) stands_u)
+            e.started both_rooted (rooted ∙ ap (λ (x : ℕ). view_after (PutRoot o (suc t) x) c) root_c) stopped e.may.keyed.even e.other puts root_u
+            (subst (λ (y : Shape). Represents y.texts (held_words o u) (known_state o u)) (sym shape_u) stands_u)

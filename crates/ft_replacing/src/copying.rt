@@ -9,12 +9,12 @@ ghost use Rattle.ft_model.specs.TableUses.{copy_takes};
 ghost use Rattle.ft_model.specs.Worlds.{length_of, serial_of};
 ghost use Rattle.ft_trace.specs.Acts.{flight, stage, used};
 ghost use Rattle.ft_trace.specs.Addresses.{class_of};
-ghost use Rattle.ft_trace.specs.Holds.{held, in_hand, known};
+ghost use Rattle.ft_trace.specs.Holds.{held_words, in_hand, known_state};
 ghost use Rattle.ft_trace.specs.Kinds.{rows};
 ghost use Rattle.ft_trace.specs.ContainerStates.{kind_in};
 ghost use Rattle.ft_bank.specs.Passes.{shape_of, view, IsPassOf};
 ghost use Rattle.ft_bank.specs.PassSections.{stack_of};
-ghost use Rattle.ft_bank.specs.TableNames.{name_of, IsTableIn};
+ghost use Rattle.ft_bank.specs.TableNames.{table_id, IsTableIn};
 ghost use Rattle.ft_growth.specs.Adding.{IsAdded, OnlyFilled};
 ghost use Rattle.ft_search.specs.OneEntryWrites.{MayWriteEntries};
 ghost use Rattle.ft_adding.specs.Fresh.{IsFilledWith};
@@ -47,17 +47,17 @@ fn fill_copy(
     requires pass { IsPassOf bank.now pass.old }
     requires keyed { KnowsKeyed (shape_of bank.now) d from (view pass.old) }
     requires dict { kind_in (shape_of bank.now).starts d ≡ kind.Dict }
-    requires counts { AreCounts (held d (view pass.old)).block counts }
+    requires counts { AreCounts (held_words d (view pass.old)).block counts }
     requires table { IsTableIn (shape_of bank.now) table }
-    requires fresh { stage (name_of table) (view pass.old).log ≡ 1 }
-    requires room { counts.count ≤ rows kind.Dict (class_of (name_of table)) }
+    requires fresh { stage (table_id table) (view pass.old).log ≡ 1 }
+    requires room { counts.count ≤ rows kind.Dict (class_of (table_id table)) }
     requires serials { next + counts.count < 2 ^ 63 }
     ensures pass { IsPassOf bank.now pass.new }
     ensures stack { stack_of pass.new ≡ stack_of pass.old }
     ensures only { OnlyFilled (view pass.old) (view pass.new) }
-    ensures filled { (pairs given : DictContent) → (known d (view pass.old)).content ≡ content.Dict pairs →
-        given.next ≡ next → IsFilledWith (shape_of bank.now).texts (class_of (name_of table))
-        (content.Dict (dict_copy given pairs.pairs)) (in_hand (name_of table) (view pass.new)) }
+    ensures filled { (pairs given : DictContent) → (known_state d (view pass.old)).content ≡ content.Dict pairs →
+        given.next ≡ next → IsFilledWith (shape_of bank.now).texts (class_of (table_id table))
+        (content.Dict (dict_copy given pairs.pairs)) (in_hand (table_id table) (view pass.new)) }
 {
     words_are_of_one_content();
     fill(bank, pass, d, Way::Dict, from, table, counts.fill);
@@ -83,13 +83,13 @@ fn copy_in_taken(
     requires may { MayAddKey (shape_of bank.now) e old (view pass.old) }
     requires dict { kind_in (shape_of bank.now).starts d ≡ kind.Dict }
     requires other_dict { kind_in (shape_of bank.now).starts e ≡ kind.Dict }
-    requires counts { AreCounts (held d (view pass.old)).block counts }
-    requires next { next ≡ serial_of (known e (view pass.old)).content }
+    requires counts { AreCounts (held_words d (view pass.old)).block counts }
+    requires next { next ≡ serial_of (known_state e (view pass.old)).content }
     requires serials { next + counts.count < 2 ^ 63 }
     requires class { IsClass class }
     requires takes { copy_takes counts.count ≡ Some class }
     requires replaces { Replaces e called.now
-        (copied (known e (view pass.old)).content (known d (view pass.old)).content) (Some class) (view pass.old) }
+        (copied (known_state e (view pass.old)).content (known_state d (view pass.old)).content) (Some class) (view pass.old) }
     ensures pass { IsPassOf bank.now pass.new }
     ensures stack { stack_of pass.new ≡ stack_of pass.old }
     ensures added { IsAdded (shape_of bank.now) (Some class) false called.now reply.Done (view pass.old) (view pass.new)
@@ -129,11 +129,11 @@ pub fn copy_into(bank: &Bank, pass: &mut Pass, d: u32, e: u32, called: &Call) ->
     requires used { used (view pass.old).log ≡ false }
     requires idle { flight (view pass.old).log ≡ 0 }
     requires replaces { Replaces e called.now
-        (copied (known e (view pass.old)).content (known d (view pass.old)).content)
-        (copy_takes (length_of (known d (view pass.old)).content)) (view pass.old) }
+        (copied (known_state e (view pass.old)).content (known_state d (view pass.old)).content)
+        (copy_takes (length_of (known_state d (view pass.old)).content)) (view pass.old) }
     ensures pass { IsPassOf bank.now pass.new }
     ensures stack { stack_of pass.new ≡ stack_of pass.old }
-    ensures replaced { IsReplaced (shape_of bank.now) (copy_takes (length_of (known d (view pass.old)).content))
+    ensures replaced { IsReplaced (shape_of bank.now) (copy_takes (length_of (known_state d (view pass.old)).content))
         called.now (view pass.old) (view pass.new) result }
 {
     words_are_of_one_content();

@@ -7,7 +7,7 @@ ghost use Rattle.ft_trace.specs.Addresses.{class_of, slots};
 ghost use Rattle.ft_trace.specs.Holds.{in_hand};
 ghost use Rattle.ft_bank.specs.Passes.{shape_of, view, IsPassOf};
 ghost use Rattle.ft_bank.specs.PassSections.{stack_of};
-ghost use Rattle.ft_bank.specs.TableNames.{name_of, IsTableIn};
+ghost use Rattle.ft_bank.specs.TableNames.{table_id, IsTableIn};
 ghost use Rattle.ft_growth.specs.Adding.{OnlyFilled};
 ghost use Rattle.ft_replacing.specs.Replacing.{renumbered};
 
@@ -19,14 +19,14 @@ use ft_search::mask_of;
 pub(crate) fn renumber(bank: &Bank, pass: &mut Pass, table: Table, count: u64, next: u64)
     requires pass { IsPassOf bank.now pass.old }
     requires table { IsTableIn (shape_of bank.now) table }
-    requires fresh { stage (name_of table) (view pass.old).log ≡ 1 }
+    requires fresh { stage (table_id table) (view pass.old).log ≡ 1 }
     requires room { count ≤ dict_room (class_mask table.class) }
     requires serials { next + count < 2 ^ 64 }
     ensures pass { IsPassOf bank.now pass.new }
     ensures stack { stack_of pass.new ≡ stack_of pass.old }
     ensures only { OnlyFilled (view pass.old) (view pass.new) }
-    ensures words { in_hand (name_of table) (view pass.new) ≡
-        renumbered (slots (class_of (name_of table))) next count (in_hand (name_of table) (view pass.old)) }
+    ensures words { in_hand (table_id table) (view pass.new) ≡
+        renumbered (slots (class_of (table_id table))) next count (in_hand (table_id table) (view pass.old)) }
 {
     let slots = mask_of(table.class) + 1;
     for place in 0..count {

@@ -4,13 +4,13 @@ ghost use Rattle.ft_model.specs.declared.content.Content.{Content};
 ghost use Rattle.ft_model.specs.declared.reply.Reply.TheVariants as reply;
 ghost use Rattle.ft_model.specs.Worlds.{kind_of, length_of, serial_of};
 ghost use Rattle.ft_trace.specs.Acts.{is_writing};
-ghost use Rattle.ft_trace.specs.Addresses.{containers_in, class_of};
-ghost use Rattle.ft_trace.specs.Holds.{held, in_hand};
+ghost use Rattle.ft_trace.specs.Addresses.{container_count, class_of};
+ghost use Rattle.ft_trace.specs.Holds.{held_words, in_hand};
 ghost use Rattle.ft_trace.specs.Pictures.{root_in};
 ghost use Rattle.ft_trace.specs.ContainerStates.{kind_in};
 ghost use Rattle.ft_bank.specs.Passes.{shape_of, view, IsPassOf};
 ghost use Rattle.ft_bank.specs.PassSections.{stack_of};
-ghost use Rattle.ft_bank.specs.TableNames.{name_of};
+ghost use Rattle.ft_bank.specs.TableNames.{table_id};
 ghost use Rattle.ft_bank.specs.Whole.{OnlyPut, Wrote};
 ghost use Rattle.ft_adding.specs.Fresh.{IsFilledWith};
 ghost use Rattle.ft_adding.specs.KeyGrowth.{MayGrowKeyed};
@@ -25,14 +25,14 @@ use ft_model::{Call, Reply};
 /// Puts into the block how many pairs or elements there are, each in an entry, and the next serial.
 fn put_counts(bank: &Bank, pass: &mut Pass, o: u32, count: u64, next: u64)
     requires pass { IsPassOf bank.now pass.old }
-    requires container { o < containers_in (shape_of bank.now) }
+    requires container { o < container_count (shape_of bank.now) }
     requires odd { is_writing o (view pass.old).log ≡ true }
     ensures pass { IsPassOf bank.now pass.new }
     ensures stack { stack_of pass.new ≡ stack_of pass.old }
     ensures only { OnlyPut o (view pass.old) (view pass.new) }
-    ensures words { held o (view pass.new) ≡ record {
-      block = counted (held o (view pass.old)).block count count next;
-      table = (held o (view pass.old)).table;
+    ensures words { held_words o (view pass.new) ≡ record {
+      block = counted (held_words o (view pass.old)).block count count next;
+      table = (held_words o (view pass.old)).table;
     } }
 {
     bank.put_block(pass, o, COUNT, count);
@@ -53,16 +53,16 @@ pub fn swap_table(
 ) -> u64
     requires pass { IsPassOf bank.now pass.old }
     requires may { MayGrowKeyed (shape_of bank.now) o old table (view pass.old) }
-    requires other { root_in (held o (view pass.old)) ≢ suc (name_of table) }
+    requires other { root_in (held_words o (view pass.old)) ≢ suc (table_id table) }
     requires gets { (left : Content) × (kind_of left ≡ kind_in (shape_of bank.now).starts o)
         × (count ≡ length_of left) × (next ≡ serial_of left)
-        × IsFilledWith (shape_of bank.now).texts (class_of (name_of table)) left
-        (in_hand (name_of table) (view pass.old))
-        × Replaces o called.now left (Some (class_of (name_of table))) (view pass.old) }
+        × IsFilledWith (shape_of bank.now).texts (class_of (table_id table)) left
+        (in_hand (table_id table) (view pass.old))
+        × Replaces o called.now left (Some (class_of (table_id table))) (view pass.old) }
     ensures pass { IsPassOf bank.now pass.new }
     ensures stack { stack_of pass.new ≡ stack_of pass.old }
     ensures wrote { Wrote called.now reply.Done result (view pass.old) (view pass.new) }
-    ensures root { root_in (held o (view pass.new)) ≡ suc (name_of table) }
+    ensures root { root_in (held_words o (view pass.new)) ≡ suc (table_id table) }
 {
     let _ = old;
     words_are_of_one_content();

@@ -5,7 +5,7 @@ use Rattle.ft_model.specs.declared.reply.Reply.{Reply}
 use Rattle.ft_trace.specs.declared.Act.TheVariants.{Announce}
 use Rattle.ft_trace.specs.declared.Shape.{Shape}
 use Rattle.ft_trace.specs.declared.View.{View}
-use Rattle.ft_trace.specs.Acts.{has_lock, stage, announces, noted}
+use Rattle.ft_trace.specs.Acts.{has_lock, stage, announces, view_after}
 use Rattle.ft_trace.specs.Traces.{IsFree}
 use Rattle.ft_bank.specs.Whole.{OnlyLoaded}
 use Rattle.ft_section.specs.declared.answers.Objects.{Objects}
@@ -20,11 +20,11 @@ use Rattle.ft_growth.specs.Adding.{Retires, IsAdded, IsTryOf}
 use Rattle.ft_list.specs.ListGrowth.{AddsItems}
 
 -- a pass that has no lock and then goes offline and collects may be taken in
-pub left_is_free : (v w : View) (freed : ℕ) → ((o : ℕ) → has_lock o v.log ≡ false) → IsStill v → Collected (noted (Announce v.number 0) v) w freed → announces w.log ≡ 0 → IsFree w
+pub left_is_free : (v w : View) (freed : ℕ) → ((o : ℕ) → has_lock o v.log ≡ false) → IsStill v → Collected (view_after (Announce v.number 0) v) w freed → announces w.log ≡ 0 → IsFree w
 left_is_free v w freed none still x offline = (
   λ o. x.keeps.held.locks o ∙ none o,
   λ t.
-      let goes : StaysOrGoes (noted (Announce v.number 0) v) w t = subst (λ (u : View). StaysOrGoes (noted (Announce v.number 0) v) u t) (sym x.did) (given_or_kept x.acts x.numbers (noted (Announce v.number 0) v) t x.givings) in
+      let goes : StaysOrGoes (view_after (Announce v.number 0) v) w t = subst (λ (u : View). StaysOrGoes (view_after (Announce v.number 0) v) u t) (sym x.did) (given_or_kept x.acts x.numbers (view_after (Announce v.number 0) v) t x.givings) in
       ⊎_elim (λ (same : stage t w.log ≡ stage t v.log). ⊎_elim (λ (z : stage t v.log ≡ 0). inl (same ∙ z)) (λ (z : stage t v.log ≡ 4). inr (same ∙ z)) (still.hands t)) (λ (gone : stage t w.log ≡ 0). inl gone) goes,
   x.keeps.held.used ∙ still.used,
   x.idle,

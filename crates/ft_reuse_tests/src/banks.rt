@@ -1,7 +1,7 @@
 //! A bank with one list, two passes and one table of each class, and the calls that tests make on it.
 ghost use Rattle.std.specs.Prelude.{◌≡◌, [], ◌∷◌, ◌<◌, IfOk, OnOk};
 ghost use Rattle.ft_model.specs.declared.script.Kind.TheVariants as kind;
-ghost use Rattle.ft_trace.specs.Addresses.{containers_in};
+ghost use Rattle.ft_trace.specs.Addresses.{container_count};
 ghost use Rattle.ft_trace.specs.ContainerStates.{kind_in};
 ghost use Rattle.ft_bank.specs.Passes.{shape_of, view};
 ghost use Rattle.ft_section.specs.declared.answers.Objects.TheVariants.{One};
@@ -36,7 +36,7 @@ fn some_left(pass: &Pass) -> Result<(), Fail>
 #[tactic(auto, using(crate::proofs::PassesLeft::tried_next))]
 fn append(bank: &Bank, pass: &mut Pass, l: u32, value: i64) -> Result<(), Fail>
     requires may { MayTry bank.now pass.old (One l) }
-    requires container { l < containers_in (shape_of bank.now) }
+    requires container { l < container_count (shape_of bank.now) }
     requires list { kind_in (shape_of bank.now).starts l ≡ kind.List }
     ensures may { MayTry bank.now pass.new (One l) }
     ensures next { (view pass.new).next ≡ (view pass.old).next }
@@ -51,7 +51,7 @@ fn append(bank: &Bank, pass: &mut Pass, l: u32, value: i64) -> Result<(), Fail>
 /// Appends the integers below that number, in order.
 pub(crate) fn fill_list(bank: &Bank, pass: &mut Pass, l: u32, count: u32) -> Result<(), Fail>
     requires may { MayTry bank.now pass.old (One l) }
-    requires container { l < containers_in (shape_of bank.now) }
+    requires container { l < container_count (shape_of bank.now) }
     requires list { kind_in (shape_of bank.now).starts l ≡ kind.List }
     ensures may { MayTry bank.now pass.new (One l) }
     ensures next { (view pass.new).next ≡ (view pass.old).next }

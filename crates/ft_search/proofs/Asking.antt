@@ -14,8 +14,8 @@ use Rattle.ft_trace.specs.declared.Act.{Act}
 use Rattle.ft_trace.specs.declared.Act.TheVariants.{ReadBlock, ReadRoot, ReadTable, ReadCounter, Version, Answer}
 use Rattle.ft_trace.specs.declared.Shape.{Shape}
 use Rattle.ft_trace.specs.declared.View.{View}
-use Rattle.ft_trace.specs.Acts.{noted, shown}
-use Rattle.ft_trace.specs.Addresses.{containers_in, class_of}
+use Rattle.ft_trace.specs.Acts.{view_after, shown}
+use Rattle.ft_trace.specs.Addresses.{container_count, class_of}
 use Rattle.ft_trace.specs.Causes.{AreOfOneCall, HasCause}
 use Rattle.ft_model.specs.Answers.{is_write}
 use Rattle.ft_model.specs.Calls.{moved_cursor}
@@ -23,7 +23,7 @@ use Rattle.ft_model.specs.Histories.{IsReplied}
 use Rattle.ft_model.specs.TableUses.{StoredWorld}
 use Rattle.ft_trace.specs.Kinds.{rows}
 use Rattle.ft_trace.specs.LoggedReads.{Among}
-use Rattle.ft_trace.specs.Traces.{Possible}
+use Rattle.ft_trace.specs.Traces.{IsReachable}
 use Rattle.ft_trace.specs.ContainerStates.{kind_in, reply_in}
 use Rattle.ft_bank.specs.Answered.{Answered}
 use Rattle.ft_bank.specs.Reads.{IsShown}
@@ -55,9 +55,9 @@ looks_newer (ReadCounter f ∷ l) rest q = looks_newer l rest q
 looks_newer (act ∷ l) rest q = absurd q
 
 -- a pass that has loaded the counter and words of the bank may ask of a container
-pub may_ask : (v w : View) (k : Shape) (o n : ℕ) (part : List Act) → OnlyLoaded v w → AreLooks part → w.log ≡ part ++ v.log → Among (ReadCounter n) part → w.shape ≡ k → o < containers_in k → 0 < v.left → MayAsk w o n
+pub may_ask : (v w : View) (k : Shape) (o n : ℕ) (part : List Act) → OnlyLoaded v w → AreLooks part → w.log ≡ part ++ v.log → Among (ReadCounter n) part → w.shape ≡ k → o < container_count k → 0 < v.left → MayAsk w o n
 may_ask v w k o n part loaded looks own counted same low left = record {
-  low = subst (λ (z : Shape). o < containers_in z) (sym same) low;
+  low = subst (λ (z : Shape). o < container_count z) (sym same) low;
   left = subst (λ (z : ℕ). 0 < z) (sym loaded.work.left) left;
   loaded = record {
     newer = counted.newer;
@@ -67,7 +67,7 @@ may_ask v w k o n part loaded looks own counted same low left = record {
   };
 }
 
-module _ (v w : View) (k : Shape) (o : ℕ) (key : Key) (n : ℕ) (part : List Act) (loaded : OnlyLoaded v w) (looks : AreLooks part) (own : w.log ≡ part ++ v.log) (counted : Among (ReadCounter n) part) (same : w.shape ≡ k) (low : o < containers_in k) (left : 0 < v.left) (fits : FitsKey key) where
+module _ (v w : View) (k : Shape) (o : ℕ) (key : Key) (n : ℕ) (part : List Act) (loaded : OnlyLoaded v w) (looks : AreLooks part) (own : w.log ≡ part ++ v.log) (counted : Among (ReadCounter n) part) (same : w.shape ≡ k) (low : o < container_count k) (left : 0 < v.left) (fits : FitsKey key) where
   ask : MayAsk w o n
   ask = may_ask v w k o n part loaded looks own counted same low left
 
@@ -88,7 +88,7 @@ module _ (v w : View) (k : Shape) (o : ℕ) (key : Key) (n : ℕ) (part : List A
         (dict_hits_are_shown w o shows.t shows.place key n ask here fits (subst (λ z. shows.place < rows z (class_of shows.t)) is shows.low) shows.hit).1 value_kind payload shows.read value stored
 
     -- the words that were read are those of a value
-    pub value_here : Possible w → kind_in k.starts o ≡ kind.Dict → (value : Value) × IsStored value_kind payload (Plain value)
+    pub value_here : IsReachable w → kind_in k.starts o ≡ kind.Dict → (value : Value) × IsStored value_kind payload (Plain value)
     value_here possible is =
         let here : kind_in w.shape.starts o ≡ kind.Dict = ap (λ (z : Shape). kind_in z.starts o) same ∙ is in
         values_are_read w o shows.t shows.place key n possible ask.low here fits (subst (λ z. shows.place < rows z (class_of shows.t)) is shows.low) shows.hit value_kind payload shows.read
@@ -99,7 +99,7 @@ module _ (v w : View) (k : Shape) (o : ℕ) (key : Key) (n : ℕ) (part : List A
         set_hits_are_shown w o shows.t shows.place key n ask here fits (subst (λ z. shows.place < rows z (class_of shows.t)) is shows.low) shows.hit
 
 -- an entry that follows such loads
-pub answered_after : (v w z : View) (called : Call) (said : Reply) (n : ℕ) (part : List Act) → OnlyLoaded v w → w.log ≡ part ++ v.log → Among (ReadCounter n) part → z ≡ noted (Answer called said n) w → v.learnt ≤ shown v.log → ∥ Possible z ∥₁ → Answered called said n v z
+pub answered_after : (v w z : View) (called : Call) (said : Reply) (n : ℕ) (part : List Act) → OnlyLoaded v w → w.log ≡ part ++ v.log → Among (ReadCounter n) part → z ≡ view_after (Answer called said n) w → v.learnt ≤ shown v.log → ∥ IsReachable z ∥₁ → Answered called said n v z
 answered_after v w z called said n part loaded own counted is settled possible = record { before = w; loaded = loaded; part = part; own = own; counted = counted; answered = is; seen = answered_seen v w z called said part n own counted is settled possible }
 
 pub contended_after : (v w : View) (k : Shape) (o : ℕ) (key : Key) (a b : ℕ) (part : List Act) → v.shape ≡ k → OnlyLoaded v w → AreLooks part → w.log ≡ part ++ v.log → Stops k o key a b part → IsKeyContended o key a b v w
@@ -109,20 +109,20 @@ contended_after v w k o key a b part same loaded looks own stops =
 -- ---- under the lock, with the stamp that is loaded then
 
 -- a reply that is right, with its cause, in each stored world that the bank may have
-pub held_shown : (v u : View) (n : ℕ) → OnlyLoaded v u → 0 < v.left → (called : Call) (said : Reply) → is_write called said ≡ false → moved_cursor called ≡ None → ((stored : StoredWorld) → MayHave (noted (ReadCounter n) u) stored → IsReplied called said (reply_in stored called))
-    → ((stored : StoredWorld) → HasCause stored (ReadCounter n ∷ u.log) called said n) → IsShown (noted (ReadCounter n) u) called said n
+pub held_shown : (v u : View) (n : ℕ) → OnlyLoaded v u → 0 < v.left → (called : Call) (said : Reply) → is_write called said ≡ false → moved_cursor called ≡ None → ((stored : StoredWorld) → MayHave (view_after (ReadCounter n) u) stored → IsReplied called said (reply_in stored called))
+    → ((stored : StoredWorld) → HasCause stored (ReadCounter n ∷ u.log) called said n) → IsShown (view_after (ReadCounter n) u) called said n
 held_shown v u n loaded left called said reads none right cause =
-    replies_under_locks_are_shown (noted (ReadCounter n) u) called said n (record { left = subst (λ (z : ℕ). 0 < z) (sym loaded.work.left) left; newer = []; rest = u.log; is = refl; own = tt; locks = tt }) reads none
+    replies_under_locks_are_shown (view_after (ReadCounter n) u) called said n (record { left = subst (λ (z : ℕ). 0 < z) (sym loaded.work.left) left; newer = []; rest = u.log; is = refl; own = tt; locks = tt }) reads none
     (λ stored may. (right stored may, cause stored))
 
 -- the entry that follows
-pub answered_locked : (v u z : View) (called : Call) (said : Reply) (n : ℕ) (part : List Act) → OnlyLoaded v u → u.log ≡ part ++ v.log → z ≡ noted (Answer called said n) (noted (ReadCounter n) u) → v.learnt ≤ shown v.log → ∥ Possible z ∥₁ → Answered called said n v z
+pub answered_locked : (v u z : View) (called : Call) (said : Reply) (n : ℕ) (part : List Act) → OnlyLoaded v u → u.log ≡ part ++ v.log → z ≡ view_after (Answer called said n) (view_after (ReadCounter n) u) → v.learnt ≤ shown v.log → ∥ IsReachable z ∥₁ → Answered called said n v z
 answered_locked v u z called said n part loaded own is settled possible = record {
-  before = noted (ReadCounter n) u;
-  loaded = loaded_then v u (noted (ReadCounter n) u) loaded (loaded_by (ReadCounter n) u (noted (ReadCounter n) u) tt refl);
+  before = view_after (ReadCounter n) u;
+  loaded = loaded_then v u (view_after (ReadCounter n) u) loaded (loaded_by (ReadCounter n) u (view_after (ReadCounter n) u) tt refl);
   part = ReadCounter n ∷ part;
   own = ap (λ (l : List Act). ReadCounter n ∷ l) own;
   counted = record { newer = []; rest = part; is = refl };
   answered = is;
-  seen = answered_seen v (noted (ReadCounter n) u) z called said (ReadCounter n ∷ part) n (ap (λ (l : List Act). ReadCounter n ∷ l) own) (record { newer = []; rest = part; is = refl }) is settled possible;
+  seen = answered_seen v (view_after (ReadCounter n) u) z called said (ReadCounter n ∷ part) n (ap (λ (l : List Act). ReadCounter n ∷ l) own) (record { newer = []; rest = part; is = refl }) is settled possible;
 }

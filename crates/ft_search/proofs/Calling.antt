@@ -13,10 +13,10 @@ use Rattle.ft_trace.specs.declared.Act.TheVariants.{ReadCounter, Answer}
 use Rattle.ft_trace.specs.declared.Entry.{Entry}
 use Rattle.ft_trace.specs.declared.Shape.{Shape}
 use Rattle.ft_trace.specs.declared.View.{View}
-use Rattle.ft_trace.specs.Acts.{has_lock, stage, debt, noted}
-use Rattle.ft_trace.specs.Addresses.{containers_in}
-use Rattle.ft_trace.specs.Holds.{held, known}
-use Rattle.ft_trace.specs.Pictures.{Picture, root_in, Stands}
+use Rattle.ft_trace.specs.Acts.{has_lock, stage, debt, view_after}
+use Rattle.ft_trace.specs.Addresses.{container_count}
+use Rattle.ft_trace.specs.Holds.{held_words, known_state}
+use Rattle.ft_trace.specs.Pictures.{ContainerWords, root_in, Represents}
 use Rattle.ft_trace.specs.Kinds.{IsKeyed}
 use Rattle.ft_trace.specs.ContainerStates.{ContainerState, changes, kind_in, reply_in, kinds_in}
 use Rattle.ft_trace.proofs.Cases.{hit}
@@ -53,8 +53,8 @@ plain_replied call.Dump said plain write is = absurd (true≢false (sym write))
 module _ (v u : View) (l : OnlyLoaded v u) where
   pub has_loaded : (stored : StoredWorld) → MayHave v stored → MayHave u stored
   has_loaded stored has = record {
-    agrees = λ p low mine. has.agrees p (subst (λ (k : Shape). p < containers_in k) l.work.pass.shape low) (sym (l.work.pass.locks p) ∙ mine) ∙ sym (work_knows v u p l.work);
-    containers = has.containers ∙ sym (ap containers_in l.work.pass.shape);
+    agrees = λ p low mine. has.agrees p (subst (λ (k : Shape). p < container_count k) l.work.pass.shape low) (sym (l.work.pass.locks p) ∙ mine) ∙ sym (work_knows v u p l.work);
+    containers = has.containers ∙ sym (ap container_count l.work.pass.shape);
     order = has.order;
     kinds = has.kinds ∙ sym (ap (λ (k : Shape). kinds_in k.starts) l.work.pass.shape);
     unsplit = has.unsplit;
@@ -78,24 +78,24 @@ module _ (v u : View) (l : OnlyLoaded v u) where
           shows = x.shows;
           left = sym l.work.left ∙ x.left;
           entries = x.entries ∙ ap (λ (es : List Entry). write_entry called said n ∷ es) l.work.entries;
-          hands = λ t. x.hands t ∙ (λ d. hand_after o (root_in (h d)) (root_in (held o w)) t (l.work.hands t d));
-          debt = x.debt ∙ (λ d. debt_after o (root_in (h d)) (root_in (held o w)) (l.work.debt d));
+          hands = λ t. x.hands t ∙ (λ d. hand_after o (root_in (h d)) (root_in (held_words o w)) t (l.work.hands t d));
+          debt = x.debt ∙ (λ d. debt_after o (root_in (h d)) (root_in (held_words o w)) (l.work.debt d));
           used = x.used;
           owes = x.owes;
           others = λ p low ne mine quiet.
-              let e = x.others p (subst (λ (k : Shape). p < containers_in k) (sym s) low) ne (l.work.pass.locks p ∙ mine) (l.work.pass.writes p ∙ quiet) in
+              let e = x.others p (subst (λ (k : Shape). p < container_count k) (sym s) low) ne (l.work.pass.locks p ∙ mine) (l.work.pass.writes p ∙ quiet) in
               (e.0 ∙ loaded_held v u p l, e.1 ∙ work_knows v u p l.work);
           found = x.found;
           has = record {
-            agrees = λ p low mine. x.has.agrees p (subst (λ (k : Shape). p < containers_in k) (sym s) low) (l.work.pass.locks p ∙ mine) ∙ work_knows v u p l.work;
-            containers = x.has.containers ∙ ap containers_in s;
+            agrees = λ p low mine. x.has.agrees p (subst (λ (k : Shape). p < container_count k) (sym s) low) (l.work.pass.locks p ∙ mine) ∙ work_knows v u p l.work;
+            containers = x.has.containers ∙ ap container_count s;
             order = x.has.order;
             kinds = x.has.kinds ∙ ap (λ (k : Shape). kinds_in k.starts) s;
             unsplit = x.has.unsplit;
             words = x.has.words;
           };
           content = x.content;
-          stands = subst (λ (k : Shape). Stands k.texts (held o w) (known o w)) s x.stands;
+          stands = subst (λ (k : Shape). Represents k.texts (held_words o w) (known_state o w)) s x.stands;
         }
 
     pub loaded_answered : (part : List Act) → u.log ≡ part ++ v.log → Answered called said n u w → Answered called said n v w
@@ -125,10 +125,10 @@ module _ (v u : View) (l : OnlyLoaded v u) where
 -- ---- how a call was made
 
 -- as a write that leaves the root
-pub wrote_as : (called : Call) (said : Reply) (n : ℕ) (v w : View) → is_write called said ≡ true → IsReplyTo called said v → Wrote called said n v w → root_in (held (changes called) w) ≡ root_in (held (changes called) v) → MadeAs called said (record { number = n; wrote = true }) v w
+pub wrote_as : (called : Call) (said : Reply) (n : ℕ) (v w : View) → is_write called said ≡ true → IsReplyTo called said v → Wrote called said n v w → root_in (held_words (changes called) w) ≡ root_in (held_words (changes called) v) → MadeAs called said (record { number = n; wrote = true }) v w
 wrote_as called said n v w write replied x root =
     let o = changes called in
-    let old = root_in (held o v) in
+    let old = root_in (held_words o v) in
     record {
       made = inl (refl, x);
       replied = replied;
@@ -140,7 +140,7 @@ wrote_as called said n v w write replied x root =
     }
 
 -- as an entry that isn't a write
-pub answered_as : (called : Call) (said : Reply) (n : ℕ) (v w : View) → is_write called said ≡ false → IsReplyTo called said v → w ≡ noted (Answer called said n) (noted (ReadCounter n) v) → Answered called said n v w → MadeAs called said (record { number = n; wrote = false }) v w
+pub answered_as : (called : Call) (said : Reply) (n : ℕ) (v w : View) → is_write called said ≡ false → IsReplyTo called said v → w ≡ view_after (Answer called said n) (view_after (ReadCounter n) v) → Answered called said n v w → MadeAs called said (record { number = n; wrote = false }) v w
 answered_as called said n v w read replied is x = record {
   made = inr (refl, x);
   replied = replied;
@@ -161,15 +161,15 @@ wrote_still called said n v w s x keeps =
       flight = x.pass.flight ∙ s.flight;
       stands = λ p low has.
           let shape = x.pass.shape in
-          let low' : p < containers_in v.shape = subst (λ (k : Shape). p < containers_in k) shape low in
+          let low' : p < container_count v.shape = subst (λ (k : Shape). p < container_count k) shape low in
           let mine : has_lock p v.log ≡ true = sym (x.pass.locks p) ∙ has in
-          let then_stands : Stands v.shape.texts (held p w) (known p w) =
+          let then_stands : Represents v.shape.texts (held_words p w) (known_state p w) =
           dite (ℕ_discrete p o)
-          (λ (e : p ≡ o). subst (λ (q : ℕ). Stands v.shape.texts (held q w) (known q w)) (sym e) x.stands)
+          (λ (e : p ≡ o). subst (λ (q : ℕ). Represents v.shape.texts (held_words q w) (known_state q w)) (sym e) x.stands)
           (λ ne.
           let e = x.others p low' ne mine (s.even p) in
-          subst (λ (y : Picture × ContainerState). Stands v.shape.texts y.0 y.1) (λ d. (sym e.0 d, sym e.1 d)) (s.stands p low' mine)) in
-          subst (λ (k : Shape). Stands k.texts (held p w) (known p w)) (sym shape) then_stands;
+          subst (λ (y : ContainerWords × ContainerState). Represents v.shape.texts y.0 y.1) (λ d. (sym e.0 d, sym e.1 d)) (s.stands p low' mine)) in
+          subst (λ (k : Shape). Represents k.texts (held_words p w) (known_state p w)) (sym shape) then_stands;
     }
 
 pub making_made : (b : Bank) (p q : Pass) (called : Call) (said : Reply) (stamp : Stamp) → LeavesSections called → IsMaking b p → IsPassOf b q → stack_of q ≡ stack_of p → MadeAs called said stamp (view p) (view q) → IsMaking b q
@@ -184,29 +184,29 @@ making_made b p q called said stamp leaves m pass stack made =
 pub loaded_same : (v : View) → OnlyLoaded v v
 loaded_same v = record { work = same_work v; words = refl }
 
-pub shown_replied : (called : Call) (said : Reply) (v : View) (n : ℕ) → IsShownBy called said v → (stored : StoredWorld) → MayHave (noted (ReadCounter n) v) stored → IsReplied called said (reply_in stored called)
+pub shown_replied : (called : Call) (said : Reply) (v : View) (n : ℕ) → IsShownBy called said v → (stored : StoredWorld) → MayHave (view_after (ReadCounter n) v) stored → IsReplied called said (reply_in stored called)
 shown_replied called said v n x stored has = x.plain stored (x.replied stored (record { agrees = has.agrees; containers = has.containers; order = has.order; kinds = has.kinds; unsplit = has.unsplit; words = has.words }))
 
 -- ---- after loads, for whoever looked for a key first
 
-pub written_made : (o : ℕ) (left : ContainerState) (called : Call) (said : Reply) (n : ℕ) (stamp : Stamp) (v u w : View) (part : List Act) → OnlyLoaded v u → u.log ≡ part ++ v.log → Leaves o called said left u → Wrote called said n u w → root_in (held o w) ≡ root_in (held o u) → stamp ≡ record { number = n; wrote = true } → MadeAs called said stamp v w
+pub written_made : (o : ℕ) (left : ContainerState) (called : Call) (said : Reply) (n : ℕ) (stamp : Stamp) (v u w : View) (part : List Act) → OnlyLoaded v u → u.log ≡ part ++ v.log → Leaves o called said left u → Wrote called said n u w → root_in (held_words o w) ≡ root_in (held_words o u) → stamp ≡ record { number = n; wrote = true } → MadeAs called said stamp v w
 written_made o left called said n stamp v u w part loaded log leaves wrote root is =
     made_loaded v u loaded called said stamp w part log
     (subst (λ (z : Stamp). MadeAs called said z u w) (sym is)
-    (wrote_as called said n u w leaves.write leaves.replied wrote (subst (λ (p : ℕ). root_in (held p w) ≡ root_in (held p u)) (sym leaves.changed) root)))
+    (wrote_as called said n u w leaves.write leaves.replied wrote (subst (λ (p : ℕ). root_in (held_words p w) ≡ root_in (held_words p u)) (sym leaves.changed) root)))
 
 pub answer_loaded : (called : Call) (said given : Reply) (stamp : Stamp) (v u w : View) (part : List Act) → OnlyLoaded v u → u.log ≡ part ++ v.log → given ≡ said → MadeAs called said stamp u w → MadeAs called given stamp v w
 answer_loaded called said given stamp v u w part loaded log is made = subst (λ (z : Reply). MadeAs called z stamp v w) (sym is) (made_loaded v u loaded called said stamp w part log made)
 
 -- ---- before the call
 
-pub making_may : (b : Bank) (p : Pass) (k : Shape) (o : ℕ) → IsMaking b p → (view p).shape ≡ k → o < containers_in k → IsKeyed (kind_in k.starts o) → has_lock o (view p).log ≡ true → 0 < (view p).left → MayWriteEntries k o (view p)
+pub making_may : (b : Bank) (p : Pass) (k : Shape) (o : ℕ) → IsMaking b p → (view p).shape ≡ k → o < container_count k → IsKeyed (kind_in k.starts o) → has_lock o (view p).log ≡ true → 0 < (view p).left → MayWriteEntries k o (view p)
 making_may b p k o m shape low keyed mine left = record {
   container = low;
   keyed = keyed;
   locked = mine;
   even = m.inside.1.still.even o;
-  stands = subst (λ (z : Shape). Stands z.texts (held o (view p)) (known o (view p))) shape (m.inside.1.still.stands o (subst (λ (z : Shape). o < containers_in z) (sym shape) low) mine);
+  stands = subst (λ (z : Shape). Represents z.texts (held_words o (view p)) (known_state o (view p))) shape (m.inside.1.still.stands o (subst (λ (z : Shape). o < container_count z) (sym shape) low) mine);
   owes = m.inside.1.still.owes;
   left = left;
 }

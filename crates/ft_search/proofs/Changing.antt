@@ -17,14 +17,14 @@ use Rattle.ft_layout.proofs.Powers.{slots_range}
 use Rattle.ft_layout.proofs.WordLaws.{same_key}
 use Rattle.ft_trace.specs.declared.Shape.{Shape}
 use Rattle.ft_trace.specs.declared.View.{View}
-use Rattle.ft_trace.specs.Addresses.{containers_in, class_of, slots}
+use Rattle.ft_trace.specs.Addresses.{container_count, class_of, slots}
 use Rattle.ft_trace.specs.Acts.{has_lock, is_writing, has_committed}
 use Rattle.ft_trace.specs.Carefuls.{HasLiveKey}
-use Rattle.ft_trace.specs.Holds.{held, known}
+use Rattle.ft_trace.specs.Holds.{held_words, known_state}
 use Rattle.ft_trace.specs.Kinds.{rows, version_at, CarefulAs, ClearAs, HasVersions}
 use Rattle.ft_trace.specs.OddVersions.{Shut, Timely}
-use Rattle.ft_trace.specs.Traces.{Possible}
-use Rattle.ft_trace.specs.Pictures.{Picture, root_in, entry_offset, entry_field, Stands}
+use Rattle.ft_trace.specs.Traces.{IsReachable}
+use Rattle.ft_trace.specs.Pictures.{ContainerWords, root_in, entry_offset, entry_field, Represents}
 use Rattle.ft_trace.specs.ContainerStates.{ContainerState, kind_in}
 use Rattle.ft_trace.specs.WholeWrites.{Put, to_table, with_puts, MayPut, MayPuts}
 use Rattle.ft_trace.proofs.Clearing.{held_shut}
@@ -41,12 +41,12 @@ use Rattle.std.proofs.Math.Bool.{Bool-set}
 
 -- The puts before the commit may be made; then it may be made, and the version of the entry be made even again, the only one
 -- that is odd. Then the words stand for what is left.
-pub record Changing (texts : List ℕ) (t : ℕ) (x : Picture) (before : ContainerState) (place : ℕ) (early : List Put) (left : ContainerState) : Type 0 where
+pub record Changing (texts : List ℕ) (t : ℕ) (x : ContainerWords) (before : ContainerState) (place : ℕ) (early : List Put) (left : ContainerState) : Type 0 where
   pub puts : MayPuts (kind_of before.content) t before.content false x early
   pub clear : ClearAs (kind_of before.content) texts (class_of t) (with_puts x early).table before.content left.content
   pub odd : entry_field (slots (class_of t)) (with_puts x early).table place 0 % 2 ≡ 1
   pub close : CarefulAs (kind_of before.content) (class_of t) (with_puts x early).table left.content (entry_offset (slots (class_of t)) place 0) (entry_field (slots (class_of t)) (with_puts x early).table place 0 + 1)
-  pub stands : Stands texts (raised_at t place (with_puts x early)) left
+  pub stands : Represents texts (raised_at t place (with_puts x early)) left
   pub shut : Shut (version_at (kind_of before.content) (class_of t)) (rows (kind_of before.content) (class_of t)) (raised_at t place (with_puts x early)).table
 
 -- ---- the kind of what a pass knows
@@ -93,7 +93,7 @@ versions_prop kind.List a b = refl
 versions_prop kind.Set a b = refl
 versions_prop (kind.Deque bound) a b = absurd a
 
-pub versions_in : (v : View) (o : ℕ) → ∥ Possible v ∥₁ → HasVersions (kind_in v.shape.starts o)
+pub versions_in : (v : View) (o : ℕ) → ∥ IsReachable v ∥₁ → HasVersions (kind_in v.shape.starts o)
 versions_in v o possible =
     ∥∥₁_elim {P = HasVersions (kind_in v.shape.starts o)} possible (versions_prop (kind_in v.shape.starts o)) (λ p. has_versions v.shape (fits v.shape p.0 p.2.0) o)
 
@@ -102,23 +102,23 @@ none_split : (keys : List Key) → is_split keys ≡ false → keys ≡ []
 none_split [] e = refl
 none_split (key ∷ keys) e = absurd (true≢false e)
 
-pub no_keys : (v : View) (o : ℕ) → ∥ Possible v ∥₁ → has_lock o v.log ≡ true → (known o v).table.keys ≡ []
+pub no_keys : (v : View) (o : ℕ) → ∥ IsReachable v ∥₁ → has_lock o v.log ≡ true → (known_state o v).table.keys ≡ []
 no_keys v o possible mine =
-    none_split (known o v).table.keys
-    (∥∥₁_elim {P = is_split (known o v).table.keys ≡ false} possible (Bool-set _ _) (λ p. ap is_split (known_unsplit v o mine p)))
+    none_split (known_state o v).table.keys
+    (∥∥₁_elim {P = is_split (known_state o v).table.keys ≡ false} possible (Bool-set _ _) (λ p. ap is_split (known_unsplit v o mine p)))
 
-pub kind_is : (k : Shape) (v : View) (o : ℕ) → v.shape ≡ k → ∥ Possible v ∥₁ → has_lock o v.log ≡ true → kind_of (known o v).content ≡ kind_in k.starts o
+pub kind_is : (k : Shape) (v : View) (o : ℕ) → v.shape ≡ k → ∥ IsReachable v ∥₁ → has_lock o v.log ≡ true → kind_of (known_state o v).content ≡ kind_in k.starts o
 kind_is k v o shape possible mine =
-    same_code (kind_of (known o v).content) (kind_in k.starts o)
-    (∥∥₁_elim {P = code (kind_of (known o v).content) ≡ code (kind_in k.starts o)} possible (ℕ_set _ _)
+    same_code (kind_of (known_state o v).content) (kind_in k.starts o)
+    (∥∥₁_elim {P = code (kind_of (known_state o v).content) ≡ code (kind_in k.starts o)} possible (ℕ_set _ _)
     (λ p. ap code (kind_known v o mine p ∙ ap (λ (z : Shape). kind_in z.starts o) shape)))
 
 -- ---- puts
 
 -- a put that may be made on these words is one that readers aren't misled by
-pub put_at : (k : Shape) (o t i y : ℕ) (committed : Bool) (words : Picture) (c : Content) (w : View) → w.shape ≡ k → has_committed o w.log ≡ committed → held o w ≡ words → (known o w).content ≡ c → MayPut (kind_in k.starts o) t c committed words (to_table i y) → IsCareful w o t i y
+pub put_at : (k : Shape) (o t i y : ℕ) (committed : Bool) (words : ContainerWords) (c : Content) (w : View) → w.shape ≡ k → has_committed o w.log ≡ committed → held_words o w ≡ words → (known_state o w).content ≡ c → MayPut (kind_in k.starts o) t c committed words (to_table i y) → IsCareful w o t i y
 put_at k o t i y committed words c w shape late is content may =
-    let care : CarefulAs (kind_in w.shape.starts o) (class_of t) (held o w).table (known o w).content i y = subst (λ (z : Shape × Picture × Content). CarefulAs (kind_in z.0.starts o) (class_of t) z.1.table z.2 i y) (sym (λ d. (shape d, is d, content d))) may.2 in
+    let care : CarefulAs (kind_in w.shape.starts o) (class_of t) (held_words o w).table (known_state o w).content i y = subst (λ (z : Shape × ContainerWords × Content). CarefulAs (kind_in z.0.starts o) (class_of t) z.1.table z.2 i y) (sym (λ d. (shape d, is d, content d))) may.2 in
     let timely : Timely (version_at (kind_in w.shape.starts o) (class_of t)) (rows (kind_in w.shape.starts o) (class_of t)) i y (has_committed o w.log) = subst (λ (z : Shape × Bool). Timely (version_at (kind_in z.0.starts o) (class_of t)) (rows (kind_in z.0.starts o) (class_of t)) i y z.1) (sym (λ d. (shape d, late d))) may.3 in
     record { care = care; timely = timely }
 
@@ -137,14 +137,14 @@ with_count b class old new fill next h =
     }
 
 -- no version of an entry is odd before the write
-pub shut_known : (k : Shape) (v : View) (o t : ℕ) → v.shape ≡ k → ∥ Possible v ∥₁ → o < containers_in k → has_lock o v.log ≡ true → is_writing o v.log ≡ false → root_in (held o v) ≡ suc t → Shut (version_at (kind_of (known o v).content) (class_of t)) (rows (kind_of (known o v).content) (class_of t)) (held o v).table
+pub shut_known : (k : Shape) (v : View) (o t : ℕ) → v.shape ≡ k → ∥ IsReachable v ∥₁ → o < container_count k → has_lock o v.log ≡ true → is_writing o v.log ≡ false → root_in (held_words o v) ≡ suc t → Shut (version_at (kind_of (known_state o v).content) (class_of t)) (rows (kind_of (known_state o v).content) (class_of t)) (held_words o v).table
 shut_known k v o t shape possible low mine even names p less =
-    let kind_eq : kind_of (known o v).content ≡ kind_in v.shape.starts o = kind_is k v o shape possible mine ∙ sym (ap (λ (z : Shape). kind_in z.starts o) shape) in
-    let here : o < containers_in v.shape = subst (λ (z : Shape). o < containers_in z) (sym shape) low in
+    let kind_eq : kind_of (known_state o v).content ≡ kind_in v.shape.starts o = kind_is k v o shape possible mine ∙ sym (ap (λ (z : Shape). kind_in z.starts o) shape) in
+    let here : o < container_count v.shape = subst (λ (z : Shape). o < container_count z) (sym shape) low in
     let row : p < rows (kind_in v.shape.starts o) (class_of t) = subst (λ (z : Kind). p < rows z (class_of t)) kind_eq less in
-    let even_now : slice_index (held o v).table (version_at (kind_in v.shape.starts o) (class_of t) p) % 2 ≡ 0 =
-    ∥∥₁_elim {P = slice_index (held o v).table (version_at (kind_in v.shape.starts o) (class_of t) p) % 2 ≡ 0} possible (ℕ_set _ _) (λ x. held_shut v o t here x mine even names p row) in
-    subst (λ (z : Kind). slice_index (held o v).table (version_at z (class_of t) p) % 2 ≡ 0) (sym kind_eq) even_now
+    let even_now : slice_index (held_words o v).table (version_at (kind_in v.shape.starts o) (class_of t) p) % 2 ≡ 0 =
+    ∥∥₁_elim {P = slice_index (held_words o v).table (version_at (kind_in v.shape.starts o) (class_of t) p) % 2 ≡ 0} possible (ℕ_set _ _) (λ x. held_shut v o t here x mine even names p row) in
+    subst (λ (z : Kind). slice_index (held_words o v).table (version_at z (class_of t) p) % 2 ≡ 0) (sym kind_eq) even_now
 
 -- ---- the entry that changes
 

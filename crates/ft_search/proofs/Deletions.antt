@@ -25,11 +25,11 @@ use Rattle.ft_trace.specs.Addresses.{class_of, slots, size}
 use Rattle.ft_trace.specs.Carefuls.{HasLiveKey, IsDead}
 use Rattle.ft_trace.specs.Kinds.{under, rows, version_at, CarefulAs, ClearAs, IsKeyed}
 use Rattle.ft_trace.specs.OddVersions.{Shut}
-use Rattle.ft_trace.specs.Pictures.{Picture, root_in, entry_offset, entry_field, Stands}
+use Rattle.ft_trace.specs.Pictures.{ContainerWords, root_in, entry_offset, entry_field, Represents}
 use Rattle.ft_trace.specs.declared.Shape.{Shape}
 use Rattle.ft_trace.specs.declared.View.{View}
-use Rattle.ft_trace.specs.Holds.{held, known}
-use Rattle.ft_trace.specs.Traces.{Possible}
+use Rattle.ft_trace.specs.Holds.{held_words, known_state}
+use Rattle.ft_trace.specs.Traces.{IsReachable}
 use Rattle.ft_trace.specs.ContainerStates.{ContainerState, kind_in}
 use Rattle.ft_trace.specs.WholeWrites.{to_block, to_table, with_puts, MayPut, MayPuts}
 use Rattle.ft_trace.proofs.ByKind.{keyed_fit, keyed_low}
@@ -42,7 +42,7 @@ use Rattle.ft_trace.proofs.KeysDeleted as deleted
 use Rattle.ft_trace.proofs.SetDiscards as discarded
 use Rattle.ft_trace.proofs.Known.{after_header, class_known, table_is_long}
 use Rattle.ft_bank.specs.declared.table.Table.{Table}
-use Rattle.ft_bank.specs.TableNames.{name_of}
+use Rattle.ft_bank.specs.TableNames.{table_id}
 use Rattle.ft_bank.specs.Whole.{OnlyLoaded, OnlyPut}
 use Rattle.ft_bank.specs.WriteSteps.{IsCareful, with_block, with_table}
 use Rattle.ft_bank.proofs.KnownAfterWrites.{loaded_held, loaded_put, put_then, work_knows}
@@ -69,7 +69,7 @@ record Entries (texts : List ℕ) (t : ℕ) (tab : TableUse) : Type 1 where
   versions : EntryVersionsChangeNothing
   within : (hash : ℕ) → All (λ slot. slot ≤ class_mask (class_of t)) (walk hash)
   IsWords : List ℕ → List ℕ → Had → Type 0
-  stands : (x : Picture) (had : Had) → IsWords x.block (0 ∷ 0 ∷ x.table) had → Stands texts x (record { content = content_of had; table = tab })
+  stands : (x : ContainerWords) (had : Had) → IsWords x.block (0 ∷ 0 ∷ x.table) had → Represents texts x (record { content = content_of had; table = tab })
   used : (block words : List ℕ) (had : Had) → IsWords block words had → List UsedEntry
   head : (block words : List ℕ) (had : Had) → IsWords block words had → IsBlock block (Some (class_of t)) (count had) tab.fill (next had)
   table : (block words : List ℕ) (had : Had) (is : IsWords block words had) → IsTable walk room texts (class_mask (class_of t)) (used block words had is) words
@@ -141,7 +141,7 @@ set_entries laws texts t tab is_class class_eq = record {
 
 -- ---- a key is taken out
 
-module _ (texts : List ℕ) (x : Picture) (tab : TableUse) (t : ℕ) (is_class : IsClass (class_of t)) (e : Entries texts t tab) (had : e.Had) (says : e.IsWords x.block (0 ∷ 0 ∷ x.table) had) (names : root_in x ≡ suc t) (whole : length x.table ≡ size (class_of t))
+module _ (texts : List ℕ) (x : ContainerWords) (tab : TableUse) (t : ℕ) (is_class : IsClass (class_of t)) (e : Entries texts t tab) (had : e.Had) (says : e.IsWords x.block (0 ∷ 0 ∷ x.table) had) (names : root_in x ≡ suc t) (whole : length x.table ≡ size (class_of t))
     (shut : Shut (version_at (kind_of (e.content_of had)) (class_of t)) (rows (kind_of (e.content_of had)) (class_of t)) x.table) (p : ℕ) (key : Key) (low : p < rows (kind_of (e.content_of had)) (class_of t)) (live : HasLiveKey (slots (class_of t)) x.table p key) (fits : FitsKey key) where
   abbrev k : Kind
   k = kind_of (e.content_of had)
@@ -263,8 +263,8 @@ module _ (texts : List ℕ) (x : Picture) (tab : TableUse) (t : ℕ) (is_class :
 
 -- ---- by the kind of the content
 
-module _ (dicts : DictLaws) (sets : SetLaws) (texts : List ℕ) (x : Picture) (t : ℕ) (is_class : IsClass (class_of t)) (names : root_in x ≡ suc t) (long : length x.table ≡ size (class_of t)) (p : ℕ) (key : Key) (live : HasLiveKey (slots (class_of t)) x.table p key) (fits : FitsKey key) where
-  pub deletes : (c : Content) (tab : TableUse) → IsKeyed (kind_of c) → Stands texts x (record { content = c; table = tab }) → p < rows (kind_of c) (class_of t) → Shut (version_at (kind_of c) (class_of t)) (rows (kind_of c) (class_of t)) x.table
+module _ (dicts : DictLaws) (sets : SetLaws) (texts : List ℕ) (x : ContainerWords) (t : ℕ) (is_class : IsClass (class_of t)) (names : root_in x ≡ suc t) (long : length x.table ≡ size (class_of t)) (p : ℕ) (key : Key) (live : HasLiveKey (slots (class_of t)) x.table p key) (fits : FitsKey key) where
+  pub deletes : (c : Content) (tab : TableUse) → IsKeyed (kind_of c) → Represents texts x (record { content = c; table = tab }) → p < rows (kind_of c) (class_of t) → Shut (version_at (kind_of c) (class_of t)) (rows (kind_of c) (class_of t)) x.table
       → Changing texts t x (record { content = c; table = tab }) p (deletion t p key x) (record { content = without_key c key; table = tab }) × (0 < slice_index x.block 1)
   deletes (content.Dict pairs) tab keyed stands low shut =
       let class = class_known texts x (record { content = content.Dict pairs; table = tab }) t stands names in
@@ -278,48 +278,48 @@ module _ (dicts : DictLaws) (sets : SetLaws) (texts : List ℕ) (x : Picture) (t
   deletes (content.Deque deque) tab keyed stands low shut = absurd keyed
 
 -- as the pass knows the container
-pub deletes_known : DictLaws → SetLaws → (k : Shape) (o : ℕ) (table : Table) (v : View) → v.shape ≡ k → ∥ Possible v ∥₁ → MayWriteEntries k o v → HasTable k o table v → (place : ℕ) (key : Key) → IsLiveEntry k o table place key v
-    → Changing k.texts (name_of table) (held o v) (known o v) place (deletion (name_of table) place key (held o v)) (record { content = without_key (known o v).content key; table = (known o v).table }) × (0 < slice_index (held o v).block 1)
+pub deletes_known : DictLaws → SetLaws → (k : Shape) (o : ℕ) (table : Table) (v : View) → v.shape ≡ k → ∥ IsReachable v ∥₁ → MayWriteEntries k o v → HasTable k o table v → (place : ℕ) (key : Key) → IsLiveEntry k o table place key v
+    → Changing k.texts (table_id table) (held_words o v) (known_state o v) place (deletion (table_id table) place key (held_words o v)) (record { content = without_key (known_state o v).content key; table = (known_state o v).table }) × (0 < slice_index (held_words o v).block 1)
 deletes_known dicts sets k o table v shape possible may has place key entry =
-    let t = name_of table in
-    let kind_eq : kind_of (known o v).content ≡ kind_in k.starts o = kind_is k v o shape possible may.locked in
-    deletes dicts sets k.texts (held o v) t (table_class k table has.table_in) has.root (table_is_long v o t has.root) place key entry.live entry.fits
-    (known o v).content (known o v).table (subst IsKeyed (sym kind_eq) may.keyed) may.stands
+    let t = table_id table in
+    let kind_eq : kind_of (known_state o v).content ≡ kind_in k.starts o = kind_is k v o shape possible may.locked in
+    deletes dicts sets k.texts (held_words o v) t (table_class k table has.table_in) has.root (table_is_long v o t has.root) place key entry.live entry.fits
+    (known_state o v).content (known_state o v).table (subst IsKeyed (sym kind_eq) may.keyed) may.stands
     (subst (λ (z : Kind). place < rows z (class_of t)) (sym kind_eq) entry.low)
     (shut_known k v o t shape possible may.container may.locked may.even has.root)
 
 -- ---- the puts, one after the other
 
-module _ (k : Shape) (o : ℕ) (table : Table) (place : ℕ) (key : Key) (v w1 w2 : View) (count : ℕ) (shape : v.shape ≡ k) (writes : WritesEntries k o table v) (early : has_committed o v.log ≡ false) (only1 : OnlyLoaded v w1) (is : count ≡ slice_index (held o v).block 1) (only2 : OnlyPut o w1 w2) (held2 : held o w2 ≡ with_block (held o w1) 1 (count - 1))
-    (may : MayPuts (kind_in k.starts o) (name_of table) (known o v).content false (held o v) (deletion (name_of table) place key (held o v))) where
+module _ (k : Shape) (o : ℕ) (table : Table) (place : ℕ) (key : Key) (v w1 w2 : View) (count : ℕ) (shape : v.shape ≡ k) (writes : WritesEntries k o table v) (early : has_committed o v.log ≡ false) (only1 : OnlyLoaded v w1) (is : count ≡ slice_index (held_words o v).block 1) (only2 : OnlyPut o w1 w2) (held2 : held_words o w2 ≡ with_block (held_words o w1) 1 (count - 1))
+    (may : MayPuts (kind_in k.starts o) (table_id table) (known_state o v).content false (held_words o v) (deletion (table_id table) place key (held_words o v))) where
   abbrev pt : ℕ
-  pt = name_of table
+  pt = table_id table
 
   abbrev pn : ℕ
   pn = slots (class_of pt)
 
-  abbrev counted : Picture
-  counted = with_block (held o v) 1 (slice_index (held o v).block 1 - 1)
+  abbrev counted : ContainerWords
+  counted = with_block (held_words o v) 1 (slice_index (held_words o v).block 1 - 1)
 
-  pub counted_words : held o w2 ≡ counted
+  pub counted_words : held_words o w2 ≡ counted
   counted_words = held2 ∙ (λ d. with_block (loaded_held v w1 o only1 d) 1 (is d - 1))
 
   pub counted_only : OnlyPut o v w2
   counted_only = put_then v w1 w2 o (loaded_put v w1 o only1) only2
 
   pub counted_writes : WritesEntries k o table w2
-  counted_writes = writes_on k o table v w2 counted_only (ap root_in counted_words ∙ get_or-set_other (held o v).block 1 0 (slice_index (held o v).block 1 - 1) 0 (λ e. absurd (omega (arith, e)))) writes
+  counted_writes = writes_on k o table v w2 counted_only (ap root_in counted_words ∙ get_or-set_other (held_words o v).block 1 0 (slice_index (held_words o v).block 1 - 1) 0 (λ e. absurd (omega (arith, e)))) writes
 
-  pub opens : IsCareful w2 o pt (entry_offset pn place 0) (entry_field pn (held o w2).table place 0 + 1)
+  pub opens : IsCareful w2 o pt (entry_offset pn place 0) (entry_field pn (held_words o w2).table place 0 + 1)
   opens =
-      subst (λ (z : Picture). IsCareful w2 o pt (entry_offset pn place 0) (entry_field pn z.table place 0 + 1)) (sym counted_words)
-      (put_at k o pt (entry_offset pn place 0) (entry_field pn (held o v).table place 0 + 1) false counted (known o v).content w2 (counted_only.work.pass.shape ∙ shape) (counted_only.work.committed o ∙ early) counted_words (ap (λ (z : ContainerState). z.content) (work_knows v w2 o counted_only.work)) may.1.0)
+      subst (λ (z : ContainerWords). IsCareful w2 o pt (entry_offset pn place 0) (entry_field pn z.table place 0 + 1)) (sym counted_words)
+      (put_at k o pt (entry_offset pn place 0) (entry_field pn (held_words o v).table place 0 + 1) false counted (known_state o v).content w2 (counted_only.work.pass.shape ∙ shape) (counted_only.work.committed o ∙ early) counted_words (ap (λ (z : ContainerState). z.content) (work_knows v w2 o counted_only.work)) may.1.0)
 
-  module _ (w3 : View) (only3 : OnlyPut o w2 w3) (held3 : held o w3 ≡ raised_at pt place (held o w2)) (gone : ℕ) (is_gone : gone ≡ gone_kind key) where
-    abbrev opened' : Picture
+  module _ (w3 : View) (only3 : OnlyPut o w2 w3) (held3 : held_words o w3 ≡ raised_at pt place (held_words o w2)) (gone : ℕ) (is_gone : gone ≡ gone_kind key) where
+    abbrev opened' : ContainerWords
     opened' = raised_at pt place counted
 
-    opened_words : held o w3 ≡ opened'
+    opened_words : held_words o w3 ≡ opened'
     opened_words = held3 ∙ ap (raised_at pt place) counted_words
 
     opened_only : OnlyPut o v w3
@@ -328,10 +328,10 @@ module _ (k : Shape) (o : ℕ) (table : Table) (place : ℕ) (key : Key) (v w1 w
     pub dies : IsCareful w3 o pt (entry_offset pn place 2) gone
     dies =
         subst (λ (z : ℕ). IsCareful w3 o pt (entry_offset pn place 2) z) (sym is_gone)
-        (put_at k o pt (entry_offset pn place 2) (gone_kind key) false opened' (known o v).content w3 (opened_only.work.pass.shape ∙ shape) (opened_only.work.committed o ∙ early) opened_words (ap (λ (z : ContainerState). z.content) (work_knows v w3 o opened_only.work)) may.1.1.0)
+        (put_at k o pt (entry_offset pn place 2) (gone_kind key) false opened' (known_state o v).content w3 (opened_only.work.pass.shape ∙ shape) (opened_only.work.committed o ∙ early) opened_words (ap (λ (z : ContainerState). z.content) (work_knows v w3 o opened_only.work)) may.1.1.0)
 
     pub deleted_only : (w4 : View) → OnlyPut o w3 w4 → OnlyPut o v w4
     deleted_only w4 only4 = put_then v w3 w4 o opened_only only4
 
-    pub deleted_words : (w4 : View) → held o w4 ≡ with_table (held o w3) (entry_offset pn place 2) gone → held o w4 ≡ with_puts (held o v) (deletion pt place key (held o v))
+    pub deleted_words : (w4 : View) → held_words o w4 ≡ with_table (held_words o w3) (entry_offset pn place 2) gone → held_words o w4 ≡ with_puts (held_words o v) (deletion pt place key (held_words o v))
     deleted_words w4 held4 = held4 ∙ (λ d. with_table (opened_words d) (entry_offset pn place 2) (is_gone d))

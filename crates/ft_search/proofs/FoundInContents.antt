@@ -23,10 +23,10 @@ use Rattle.ft_keys.specs.declared.walk.Way.TheVariants as way
 use Rattle.ft_trace.specs.Acts.{has_lock}
 use Rattle.ft_trace.specs.Addresses.{slots}
 use Rattle.ft_trace.specs.Carefuls.{HasLiveKey, said_of}
-use Rattle.ft_trace.specs.Holds.{known}
+use Rattle.ft_trace.specs.Holds.{known_state}
 use Rattle.ft_trace.specs.Kinds.{under}
-use Rattle.ft_trace.specs.Traces.{Possible}
-use Rattle.ft_trace.specs.Pictures.{Picture, entry_field, root_in, Stands}
+use Rattle.ft_trace.specs.Traces.{IsReachable}
+use Rattle.ft_trace.specs.Pictures.{ContainerWords, entry_field, root_in, Represents}
 use Rattle.ft_trace.specs.ContainerStates.{ContainerState, kind_in}
 use Rattle.ft_trace.specs.declared.Shape.{Shape}
 use Rattle.ft_trace.specs.declared.View.{View}
@@ -34,7 +34,7 @@ use Rattle.ft_trace.proofs.DictWrites as dict
 use Rattle.ft_trace.proofs.SetKnown as set
 use Rattle.ft_trace.proofs.Known.{kind_known, class_known}
 use Rattle.ft_bank.specs.declared.table.Table.{Table}
-use Rattle.ft_bank.specs.TableNames.{name_of, IsTableIn}
+use Rattle.ft_bank.specs.TableNames.{table_id, IsTableIn}
 use Rattle.ft_bank.proofs.TableAddresses.{class_is}
 use Rattle.ft_search.specs.Rounds.{kind_by}
 use Rattle.ft_search.specs.Held.{ReadsEntry, IsHeldAt}
@@ -61,14 +61,14 @@ as_set (content.List values) is = absurd (omega (arith, is))
 as_set (content.Deque deque) is = absurd (omega (arith, is))
 as_set (content.Set elements) is = (elements, refl)
 
-kind_code : (v : View) (o : ℕ) → ∥ Possible v ∥₁ → has_lock o v.log ≡ true → code (kind_of (known o v).content) ≡ code (kind_in v.shape.starts o)
-kind_code v o possible mine = ∥∥₁_elim {P = code (kind_of (known o v).content) ≡ code (kind_in v.shape.starts o)} possible (ℕ_set _ _) (λ p. ap code (kind_known v o mine p))
+kind_code : (v : View) (o : ℕ) → ∥ IsReachable v ∥₁ → has_lock o v.log ≡ true → code (kind_of (known_state o v).content) ≡ code (kind_in v.shape.starts o)
+kind_code v o possible mine = ∥∥₁_elim {P = code (kind_of (known_state o v).content) ≡ code (kind_in v.shape.starts o)} possible (ℕ_set _ _) (λ p. ap code (kind_known v o mine p))
 
-pub dict_known : (v : View) (o : ℕ) → ∥ Possible v ∥₁ → has_lock o v.log ≡ true → kind_in v.shape.starts o ≡ kind.Dict → (pairs : DictContent) × ((known o v).content ≡ content.Dict pairs)
-dict_known v o possible mine is = as_dict (known o v).content (kind_code v o possible mine ∙ ap code is)
+pub dict_known : (v : View) (o : ℕ) → ∥ IsReachable v ∥₁ → has_lock o v.log ≡ true → kind_in v.shape.starts o ≡ kind.Dict → (pairs : DictContent) × ((known_state o v).content ≡ content.Dict pairs)
+dict_known v o possible mine is = as_dict (known_state o v).content (kind_code v o possible mine ∙ ap code is)
 
-pub set_known : (v : View) (o : ℕ) → ∥ Possible v ∥₁ → has_lock o v.log ≡ true → kind_in v.shape.starts o ≡ kind.Set → (elements : SetContent) × ((known o v).content ≡ content.Set elements)
-set_known v o possible mine is = as_set (known o v).content (kind_code v o possible mine ∙ ap code is)
+pub set_known : (v : View) (o : ℕ) → ∥ IsReachable v ∥₁ → has_lock o v.log ≡ true → kind_in v.shape.starts o ≡ kind.Set → (elements : SetContent) × ((known_state o v).content ≡ content.Set elements)
+set_known v o possible mine is = as_set (known_state o v).content (kind_code v o possible mine ∙ ap code is)
 
 -- ---- where there is no table
 
@@ -135,11 +135,11 @@ abbrev pub IsOfWay : Way → Content → Type 0
 IsOfWay way.Dict c = (pairs : DictContent) × (c ≡ content.Dict pairs)
 IsOfWay way.Set c = (elements : SetContent) × (c ≡ content.Set elements)
 
-pub of_way : (way : Way) (v : View) (o : ℕ) → ∥ Possible v ∥₁ → has_lock o v.log ≡ true → kind_in v.shape.starts o ≡ kind_by way → IsOfWay way (known o v).content
+pub of_way : (way : Way) (v : View) (o : ℕ) → ∥ IsReachable v ∥₁ → has_lock o v.log ≡ true → kind_in v.shape.starts o ≡ kind_by way → IsOfWay way (known_state o v).content
 of_way way.Dict v o possible mine is = dict_known v o possible mine is
 of_way way.Set v o possible mine is = set_known v o possible mine is
 
-module _ (missing_key : MissingKeys) (missing_element : MissingElements) (texts : List ℕ) (x : Picture) (kept : ContainerState) (stands : Stands texts x kept) (key : Key) where
+module _ (missing_key : MissingKeys) (missing_element : MissingElements) (texts : List ℕ) (x : ContainerWords) (kept : ContainerState) (stands : Represents texts x kept) (key : Key) where
   abbrev all_words : List ℕ
   all_words = 0 ∷ 0 ∷ x.table
 
@@ -147,9 +147,9 @@ module _ (missing_key : MissingKeys) (missing_element : MissingElements) (texts 
   bare_held way.Dict is bare = subst (λ (c : Content). IsHeldAt c key None) (sym is.1) (dict_bare missing_key texts x.block all_words kept.table.class kept.table.fill is.0 key (subst (λ (c : Content). StandsAs texts x.block all_words kept.table c) is.1 stands) bare)
   bare_held way.Set is bare = subst (λ (c : Content). IsHeldAt c key None) (sym is.1) (set_bare missing_element texts x.block all_words kept.table.class kept.table.fill is.0 key (subst (λ (c : Content). StandsAs texts x.block all_words kept.table c) is.1 stands) bare)
 
-  module _ (first_pair : dict.FirstEntriesArePairs) (first_element : set.FirstEntriesAreElements) (k : Shape) (table : Table) (in_bank : IsTableIn k table) (names : root_in x ≡ suc (name_of table)) (low : hash_of texts key < 2 ^ 64) (left : List ℕ) (found : Found) (read : Option (ℕ × ℕ)) (live : (slot place : ℕ) → found ≢ Was slot place) (reads : ReadsEntry (class_mask table.class) all_words found read) where
+  module _ (first_pair : dict.FirstEntriesArePairs) (first_element : set.FirstEntriesAreElements) (k : Shape) (table : Table) (in_bank : IsTableIn k table) (names : root_in x ≡ suc (table_id table)) (low : hash_of texts key < 2 ^ 64) (left : List ℕ) (found : Found) (read : Option (ℕ × ℕ)) (live : (slot place : ℕ) → found ≢ Was slot place) (reads : ReadsEntry (class_mask table.class) all_words found read) where
     class_is_some : kept.table.class ≡ Some table.class
-    class_is_some = class_known texts x kept (name_of table) stands names ∙ ap Some (class_is table in_bank.2)
+    class_is_some = class_known texts x kept (table_id table) stands names ∙ ap Some (class_is table in_bank.2)
 
     pub key_held : (way : Way) → IsOfWay way kept.content → Searched (class_mask table.class) all_words key (walk_slots way (hash_of texts key) (class_mask table.class)) left found → IsHeldAt kept.content key read
     key_held way.Dict is s =

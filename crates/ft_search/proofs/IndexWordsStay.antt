@@ -10,14 +10,14 @@ use Rattle.ft_trace.specs.declared.Shape.{Shape}
 use Rattle.ft_trace.specs.declared.View.{View}
 use Rattle.ft_trace.specs.declared.Act.{Act}
 use Rattle.ft_trace.specs.declared.Act.TheVariants.{ReadRoot, ReadTable, Announce}
-use Rattle.ft_trace.specs.Acts.{reads, starter, noted, maker, made, both, spent, sender, note}
+use Rattle.ft_trace.specs.Acts.{reads, starter, view_after, maker, made, both, spent, sender, note}
 use Rattle.ft_trace.specs.Addresses.{IsTableName, class_of, slots, size}
 use Rattle.ft_trace.specs.Ages.{age, whose, seen, seen_next}
 use Rattle.ft_trace.specs.LoggedLookUps.{Online}
 use Rattle.ft_trace.specs.Kinds.{IsKeyed}
 use Rattle.ft_trace.specs.Pictures.{index_field}
 use Rattle.ft_trace.specs.ContainerStates.{kind_in}
-use Rattle.ft_trace.specs.Traces.{Event, did, forked, joined, sent, run, Valid, Possible}
+use Rattle.ft_trace.specs.Traces.{Event, did, forked, joined, sent, run, Valid, IsReachable}
 use Rattle.ft_trace.proofs.Ages.{ages_one, ages_rise, whose_same, within}
 use Rattle.ft_trace.proofs.ByKind.{keyed_later}
 use Rattle.ft_trace.proofs.Cases.{hit, miss, here}
@@ -119,7 +119,7 @@ module _ (k : Shape) (o t : ℕ) (table : IsTableName k t) where
   rooted [] valid = one_view (RootedAt k o t []) (starter k) (no_root k o t [] 0)
   rooted (did id v b ∷ es) valid =
       let old = rooted es valid.0 in
-      set_views (RootedAt k o t (did id v b ∷ es)) _ id (noted b v)
+      set_views (RootedAt k o t (did id v b ∷ es)) _ id (view_after b v)
       (rooted_front es id v b valid (old id v valid.1.0))
       (λ j u ne e xs rest is on. rooted_later k o t es (did id v b) j (sym (miss id j (seen_next b (reads t v.log) t (age es t) (seen es j t)) (seen es j t) (λ z. ne (sym z)))) (old j u e xs rest is on))
   rooted (forked id v ∷ es) valid =
@@ -145,7 +145,7 @@ online_load : (xs : List Act) (a : Act) → Online xs → Online (a ∷ []) → 
 online_load [] a on one = one
 online_load (x ∷ xs) a on one = online_more x xs (xs ++ a ∷ []) on (online_load xs a (online_rest x xs on) one)
 
-slots_stay_in : (v : View) → Possible v → UsedSlotsStay v
+slots_stay_in : (v : View) → IsReachable v → UsedSlotsStay v
 slots_stay_in v possible o t slot later earlier newer mid inner rest keyed low log on_mid on_inner =
     let k = v.shape in
     let es = possible.0 in
@@ -175,6 +175,6 @@ slots_stay_in v possible o t slot later earlier newer mid inner rest keyed low l
     let stayed = later_same k o t s slot keyed table in2.0 low w2.newer w2.older (subst (Valid k) (sym w2.split) w1.valid) in2.1 (let z : age (w2.newer ++ w2.older) t ≤ s + 2 = omega (arith, split, high, same) in z) whom (λ none. absurd (omega (arith, none, then_))) in
     now ∙ (sym (ap (λ (l : List Event). index_field (tab k l t) slot) w2.split) ∙ (stayed ∙ sym then_))
 
-pub slots_stay : (v : View) → ∥ Possible v ∥₁ → UsedSlotsStay v
+pub slots_stay : (v : View) → ∥ IsReachable v ∥₁ → UsedSlotsStay v
 slots_stay v possible o t slot later earlier newer mid inner rest keyed low log on_mid on_inner =
     ∥∥₁_elim possible (ℕ_set later (suc earlier)) (λ p. slots_stay_in v p o t slot later earlier newer mid inner rest keyed low log on_mid on_inner)

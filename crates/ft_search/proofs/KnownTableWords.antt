@@ -4,9 +4,9 @@ use Rattle.std.specs.Prelude.{slice_index, slice_set}
 use Rattle.ft_layout.specs.Tables.{entry_at}
 use Rattle.ft_trace.specs.declared.View.{View}
 use Rattle.ft_trace.specs.declared.Act.TheVariants.{ReadTable, PutTable}
-use Rattle.ft_trace.specs.Acts.{has_lock, noted}
-use Rattle.ft_trace.specs.Pictures.{Picture, root_in}
-use Rattle.ft_trace.specs.Holds.{held, known}
+use Rattle.ft_trace.specs.Acts.{has_lock, view_after}
+use Rattle.ft_trace.specs.Pictures.{ContainerWords, root_in}
+use Rattle.ft_trace.specs.Holds.{held_words, known_state}
 use Rattle.std.proofs.Common.{true}
 use Rattle.ft_bank.specs.WriteSteps.{with_table}
 
@@ -27,20 +27,20 @@ put_entry_after_header l mask place word x =
 
 -- what a pass knows of the container o and its table t is the same after a load, and but for one word after a put
 abbrev pub Knows : ℕ → ℕ → View → Type 0
-Knows o t v = (has_lock o v.log ≡ true) × (root_in (held o v) ≡ suc t)
+Knows o t v = (has_lock o v.log ≡ true) × (root_in (held_words o v) ≡ suc t)
 
 abbrev pub Leaves : ℕ → ℕ → View → View → List ℕ → Type 0
 Leaves o t v w words =
-    Knows o t w × (0 ∷ 0 ∷ (held o w).table ≡ words) × ((held o w).block ≡ (held o v).block) × (known o w ≡ known o v)
+    Knows o t w × (0 ∷ 0 ∷ (held_words o w).table ≡ words) × ((held_words o w).block ≡ (held_words o v).block) × (known_state o w ≡ known_state o v)
 
-pub loaded_leaves : (v w : View) (o t i f : ℕ) → w ≡ noted (ReadTable t i f) v → Knows o t v → Leaves o t v w (0 ∷ 0 ∷ (held o v).table)
+pub loaded_leaves : (v w : View) (o t i f : ℕ) → w ≡ view_after (ReadTable t i f) v → Knows o t v → Leaves o t v w (0 ∷ 0 ∷ (held_words o v).table)
 loaded_leaves v w o t i f e k =
-    subst (λ (z : View). Leaves o t v z (0 ∷ 0 ∷ (held o v).table)) (sym e) (k, refl, refl, refl)
+    subst (λ (z : View). Leaves o t v z (0 ∷ 0 ∷ (held_words o v).table)) (sym e) (k, refl, refl, refl)
 
-pub put_leaves : (v w : View) (o t i x : ℕ) (words : List ℕ) → w ≡ noted (PutTable o t i x) v → held o w ≡ with_table (held o v) i x → 0 ∷ 0 ∷ slice_set (held o v).table i x ≡ words → Knows o t v → Leaves o t v w words
+pub put_leaves : (v w : View) (o t i x : ℕ) (words : List ℕ) → w ≡ view_after (PutTable o t i x) v → held_words o w ≡ with_table (held_words o v) i x → 0 ∷ 0 ∷ slice_set (held_words o v).table i x ≡ words → Knows o t v → Leaves o t v w words
 put_leaves v w o t i x words e h same k = (
   (ap (λ (z : View). has_lock o z.log) e ∙ k.0, ap root_in h ∙ k.1),
-  ap (λ (z : Picture). 0 ∷ 0 ∷ z.table) h ∙ same,
-  ap (λ (z : Picture). z.block) h,
-  ap (known o) e,
+  ap (λ (z : ContainerWords). 0 ∷ 0 ∷ z.table) h ∙ same,
+  ap (λ (z : ContainerWords). z.block) h,
+  ap (known_state o) e,
 )

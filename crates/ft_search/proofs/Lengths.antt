@@ -20,12 +20,12 @@ use Rattle.ft_trace.specs.declared.Act.{Act}
 use Rattle.ft_trace.specs.declared.Act.TheVariants.{ReadBlock, ReadCounter, Version}
 use Rattle.ft_trace.specs.declared.Shape.{Shape}
 use Rattle.ft_trace.specs.declared.View.{View}
-use Rattle.ft_trace.specs.Acts.{has_lock, noted}
-use Rattle.ft_trace.specs.Addresses.{containers_in}
+use Rattle.ft_trace.specs.Acts.{has_lock, view_after}
+use Rattle.ft_trace.specs.Addresses.{container_count}
 use Rattle.ft_trace.specs.Causes.{HasCause}
-use Rattle.ft_trace.specs.Holds.{known}
+use Rattle.ft_trace.specs.Holds.{known_state}
 use Rattle.ft_trace.specs.LoggedReads.{Between, Among, LookedAtOne}
-use Rattle.ft_trace.specs.Pictures.{Picture, Stands}
+use Rattle.ft_trace.specs.Pictures.{ContainerWords, Represents}
 use Rattle.ft_trace.specs.ContainerStates.{ContainerState, state_at, kind_in, reply_in}
 use Rattle.ft_trace.proofs.Known.{mapped}
 use Rattle.ft_bank.specs.declared.pass.Pass.{Pass}
@@ -71,7 +71,7 @@ pub len_replied : (kind : Kind) (stored : StoredWorld) (o : ℕ) → kind_of (st
 len_replied kind stored o is = ap (λ (z : Kind). reply_in stored (len_of z o)) (sym is) ∙ len_is stored.world o (state_at stored o).content refl
 
 -- the words of a container say it
-pub count_is : (texts : List ℕ) (x : Picture) (kept : ContainerState) → Stands texts x kept → slice_index x.block 1 ≡ length_of kept.content
+pub count_is : (texts : List ℕ) (x : ContainerWords) (kept : ContainerState) → Represents texts x kept → slice_index x.block 1 ≡ length_of kept.content
 count_is texts x kept stands = by kept.content kept.table stands
   where
     by : (c : Content) (table : TableUse) → StandsAs texts x.block (0 ∷ 0 ∷ x.table) table c → slice_index x.block 1 ≡ length_of c
@@ -171,14 +171,14 @@ len_shown v w called o count n part ask own is s =
 pub kind_had : (v : View) (stored : StoredWorld) (o : ℕ) → MayHave v stored → kind_of (state_at stored o).content ≡ kind_in v.shape.starts o
 kind_had v stored o may = sym (mapped kind_of stored.world o (content.List [])) ∙ (ap (λ (l : List Kind). slice_index_or l o kind.List) may.kinds ∙ mapped (λ (start : Start). start.kind) v.shape.starts o (start_as kind.List))
 
-pub len_held : (v u : View) (called : Call) (o count n : ℕ) → OnlyLoaded v u → 0 < v.left → o < containers_in v.shape → has_lock o v.log ≡ true → called ≡ len_of (kind_in v.shape.starts o) o → count ≡ length_of (known o v).content → IsShown (noted (ReadCounter n) u) called (reply.Count count) n
+pub len_held : (v u : View) (called : Call) (o count n : ℕ) → OnlyLoaded v u → 0 < v.left → o < container_count v.shape → has_lock o v.log ≡ true → called ≡ len_of (kind_in v.shape.starts o) o → count ≡ length_of (known_state o v).content → IsShown (view_after (ReadCounter n) u) called (reply.Count count) n
 len_held v u called o count n loaded left low mine is counts =
     let kind = kind_in v.shape.starts o in
-    let w = noted (ReadCounter n) u in
+    let w = view_after (ReadCounter n) u in
     let plain = len_plain kind o count in
     let right : (stored : StoredWorld) → MayHave w stored → IsReplied (len_of kind o) (reply.Count count) (reply_in stored (len_of kind o)) = λ stored may.
     let kinds : kind_of (state_at stored o).content ≡ kind = kind_had w stored o may ∙ ap (λ (k : Shape). kind_in k.starts o) loaded.work.pass.shape in
-    let kept : state_at stored o ≡ known o v = may.agrees o (subst (λ (k : Shape). o < containers_in k) (sym loaded.work.pass.shape) low) (loaded.work.pass.locks o ∙ mine) ∙ work_knows v u o loaded.work in
+    let kept : state_at stored o ≡ known_state o v = may.agrees o (subst (λ (k : Shape). o < container_count k) (sym loaded.work.pass.shape) low) (loaded.work.pass.locks o ∙ mine) ∙ work_knows v u o loaded.work in
     plain.replied (reply_in stored (len_of kind o)) (ap reply.Count (counts ∙ ap (λ (z : ContainerState). length_of z.content) (sym kept)) ∙ sym (len_replied kind stored o kinds)) in
     subst (λ (z : Call). IsShown w z (reply.Count count) n) (sym is)
     (held_shown v u n loaded left (len_of kind o) (reply.Count count) plain.reads plain.cursor right (λ stored. plain.cause stored (ReadCounter n ∷ u.log) n))

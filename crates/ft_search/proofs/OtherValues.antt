@@ -29,11 +29,11 @@ use Rattle.ft_trace.specs.Acts.{has_committed}
 use Rattle.ft_trace.specs.Addresses.{class_of, slots, places, size}
 use Rattle.ft_trace.specs.Carefuls.{HasLiveKey, said_of}
 use Rattle.ft_trace.specs.EntryWrites.{value_puts}
-use Rattle.ft_trace.specs.Holds.{held, known}
+use Rattle.ft_trace.specs.Holds.{held_words, known_state}
 use Rattle.ft_trace.specs.Kinds.{under, rows, version_at, CarefulAs, ClearAs}
 use Rattle.ft_trace.specs.OddVersions.{Shut}
-use Rattle.ft_trace.specs.Traces.{Possible}
-use Rattle.ft_trace.specs.Pictures.{Picture, root_in, entry_offset, entry_field, walk_of, Stands}
+use Rattle.ft_trace.specs.Traces.{IsReachable}
+use Rattle.ft_trace.specs.Pictures.{ContainerWords, root_in, entry_offset, entry_field, walk_of, Represents}
 use Rattle.ft_trace.specs.ContainerStates.{ContainerState, kind_in}
 use Rattle.ft_trace.specs.WholeWrites.{to_table, with_puts, MayPut, MayPuts}
 use Rattle.ft_trace.proofs.ByKind.{keyed_low}
@@ -42,7 +42,7 @@ use Rattle.ft_trace.proofs.DictWrites.{EntryVersionsChangeNothing, WordsFollowAV
 use Rattle.ft_trace.proofs.EntryPuts.{ver3, value_open, value_kind, value_payload, value_clear, value_late, value_shut, value_time}
 use Rattle.ft_trace.proofs.Known.{after_header, class_known, table_is_long}
 use Rattle.ft_bank.specs.declared.table.Table.{Table}
-use Rattle.ft_bank.specs.TableNames.{name_of}
+use Rattle.ft_bank.specs.TableNames.{table_id}
 use Rattle.ft_bank.specs.Whole.{OnlyPut}
 use Rattle.ft_bank.specs.WriteSteps.{IsCareful, with_table}
 use Rattle.ft_bank.proofs.KnownAfterWrites.{put_then, work_knows}
@@ -63,7 +63,7 @@ pub record ValueLaws : Type 0 where
   pub lives : LiveEntriesArePairs
   pub follow : WordsFollowAValue
 
-module _ (laws : ValueLaws) (texts : List ℕ) (x : Picture) (tab : TableUse) (t : ℕ) (is_class : IsClass (class_of t)) (pairs : DictContent) (says : IsDictWords texts x.block (0 ∷ 0 ∷ x.table) (Some (class_of t)) tab.fill pairs) (class_eq : tab.class ≡ Some (class_of t)) (names : root_in x ≡ suc t) (long : slots (class_of t) + 8 * places (class_of t) ≤ length x.table)
+module _ (laws : ValueLaws) (texts : List ℕ) (x : ContainerWords) (tab : TableUse) (t : ℕ) (is_class : IsClass (class_of t)) (pairs : DictContent) (says : IsDictWords texts x.block (0 ∷ 0 ∷ x.table) (Some (class_of t)) tab.fill pairs) (class_eq : tab.class ≡ Some (class_of t)) (names : root_in x ≡ suc t) (long : slots (class_of t) + 8 * places (class_of t) ≤ length x.table)
     (p : ℕ) (key : Key) (value : Value) (even : entry_field (slots (class_of t)) x.table p 0 % 2 ≡ 0) (low : p < places (class_of t)) (live : HasLiveKey (slots (class_of t)) x.table p key) (fits_key : FitsKey key) (fits : FitsStored (Plain value)) where
   abbrev c : ℕ
   c = class_of t
@@ -177,7 +177,7 @@ module _ (laws : ValueLaws) (texts : List ℕ) (x : Picture) (tab : TableUse) (t
   close : CarefulAs kind.Dict c put (content.Dict news) (entry_offset n p 0) (entry_field n put p 0 + 1)
   close = subst (λ (z : ℕ). CarefulAs kind.Dict c put (content.Dict news) (entry_offset n p 0) z) next (value_late n m ws (under (content.Dict pairs)) (under (content.Dict news)) p key kw pw low long even live right_before right_now live_now)
 
-  ends : Stands texts (raised_at t p (record { block = b; table = put })) (record { content = content.Dict news; table = tab })
+  ends : Represents texts (raised_at t p (record { block = b; table = put })) (record { content = content.Dict news; table = tab })
   ends = subst (λ (z : Option ℕ). IsDictWords texts b (0 ∷ 0 ∷ slice_set put (entry_offset n p 0) (entry_field n put p 0 + 1)) z fill news) (sym class_eq) (version_put put (entry_field n put p 0 + 1) news value_stands)
 
   shut_after : Shut (λ q. entry_offset n q 0) m ws → Shut (version_at kind.Dict c) (rows kind.Dict c) (slice_set put (entry_offset n p 0) (entry_field n put p 0 + 1))
@@ -194,37 +194,37 @@ module _ (laws : ValueLaws) (texts : List ℕ) (x : Picture) (tab : TableUse) (t
   }
 
 -- as the pass knows the dict
-pub values_known : ValueLaws → (k : Shape) (o : ℕ) (table : Table) (v : View) → v.shape ≡ k → ∥ Possible v ∥₁ → MayWriteEntries k o v → kind_in k.starts o ≡ kind.Dict → HasTable k o table v → (place : ℕ) (key : Key) (value : Value) → FitsStored (Plain value) → IsLiveEntry k o table place key v
-    → Changing k.texts (name_of table) (held o v) (known o v) place (value_puts (slots (class_of (name_of table))) (held o v).table place value) (record { content = with_value_at (known o v).content key value; table = (known o v).table })
+pub values_known : ValueLaws → (k : Shape) (o : ℕ) (table : Table) (v : View) → v.shape ≡ k → ∥ IsReachable v ∥₁ → MayWriteEntries k o v → kind_in k.starts o ≡ kind.Dict → HasTable k o table v → (place : ℕ) (key : Key) (value : Value) → FitsStored (Plain value) → IsLiveEntry k o table place key v
+    → Changing k.texts (table_id table) (held_words o v) (known_state o v) place (value_puts (slots (class_of (table_id table))) (held_words o v).table place value) (record { content = with_value_at (known_state o v).content key value; table = (known_state o v).table })
 values_known laws k o table v shape possible may is has place key value fits entry =
-    by (known o v).content (known o v).table (kind_is k v o shape possible may.locked ∙ is) may.stands
-    (subst (λ (z : Kind). place < rows z (class_of (name_of table))) is entry.low)
-    (shut_known k v o (name_of table) shape possible may.container may.locked may.even has.root)
+    by (known_state o v).content (known_state o v).table (kind_is k v o shape possible may.locked ∙ is) may.stands
+    (subst (λ (z : Kind). place < rows z (class_of (table_id table))) is entry.low)
+    (shut_known k v o (table_id table) shape possible may.container may.locked may.even has.root)
   where
-    by : (d : Content) (u : TableUse) → kind_of d ≡ kind.Dict → Stands k.texts (held o v) (record { content = d; table = u }) → place < rows kind.Dict (class_of (name_of table)) → Shut (version_at (kind_of d) (class_of (name_of table))) (rows (kind_of d) (class_of (name_of table))) (held o v).table
-        → Changing k.texts (name_of table) (held o v) (record { content = d; table = u }) place (value_puts (slots (class_of (name_of table))) (held o v).table place value) (record { content = with_value_at d key value; table = u })
+    by : (d : Content) (u : TableUse) → kind_of d ≡ kind.Dict → Represents k.texts (held_words o v) (record { content = d; table = u }) → place < rows kind.Dict (class_of (table_id table)) → Shut (version_at (kind_of d) (class_of (table_id table))) (rows (kind_of d) (class_of (table_id table))) (held_words o v).table
+        → Changing k.texts (table_id table) (held_words o v) (record { content = d; table = u }) place (value_puts (slots (class_of (table_id table))) (held_words o v).table place value) (record { content = with_value_at d key value; table = u })
     by (content.Dict pairs) u e stands low shut =
-        let t = name_of table in
-        let class = class_known k.texts (held o v) (record { content = content.Dict pairs; table = u }) t stands has.root in
-        let says : IsDictWords k.texts (held o v).block (0 ∷ 0 ∷ (held o v).table) (Some (class_of t)) u.fill pairs = subst (λ (z : Option ℕ). IsDictWords k.texts (held o v).block (0 ∷ 0 ∷ (held o v).table) z u.fill pairs) class stands in
+        let t = table_id table in
+        let class = class_known k.texts (held_words o v) (record { content = content.Dict pairs; table = u }) t stands has.root in
+        let says : IsDictWords k.texts (held_words o v).block (0 ∷ 0 ∷ (held_words o v).table) (Some (class_of t)) u.fill pairs = subst (λ (z : Option ℕ). IsDictWords k.texts (held_words o v).block (0 ∷ 0 ∷ (held_words o v).table) z u.fill pairs) class stands in
         let long = table_is_long v o t has.root in
-        value_changes laws k.texts (held o v) u t (table_class k table has.table_in) pairs says class has.root (omega (arith, long)) place key value (shut place low) low entry.live entry.fits fits shut
+        value_changes laws k.texts (held_words o v) u t (table_class k table has.table_in) pairs says class has.root (omega (arith, long)) place key value (shut place low) low entry.live entry.fits fits shut
     by (content.Set elements) u e stands low shut = absurd (cc)
     by (content.List values) u e stands low shut = absurd (cc)
     by (content.Deque deque) u e stands low shut = absurd (cc)
 
 -- ---- the puts, one after the other
 
-pub value_opens : (k : Shape) (o : ℕ) (table : Table) (place : ℕ) (value : Value) (v : View) → v.shape ≡ k → has_committed o v.log ≡ false → MayPuts (kind_in k.starts o) (name_of table) (known o v).content false (held o v) (value_puts (slots (class_of (name_of table))) (held o v).table place value)
-    → IsCareful v o (name_of table) (entry_offset (slots (class_of (name_of table))) place 0) (entry_field (slots (class_of (name_of table))) (held o v).table place 0 + 1)
+pub value_opens : (k : Shape) (o : ℕ) (table : Table) (place : ℕ) (value : Value) (v : View) → v.shape ≡ k → has_committed o v.log ≡ false → MayPuts (kind_in k.starts o) (table_id table) (known_state o v).content false (held_words o v) (value_puts (slots (class_of (table_id table))) (held_words o v).table place value)
+    → IsCareful v o (table_id table) (entry_offset (slots (class_of (table_id table))) place 0) (entry_field (slots (class_of (table_id table))) (held_words o v).table place 0 + 1)
 value_opens k o table place value v shape early may =
-    let n = slots (class_of (name_of table)) in
-    put_at k o (name_of table) (entry_offset n place 0) (entry_field n (held o v).table place 0 + 1) false (held o v) (known o v).content v shape early refl refl may.0
+    let n = slots (class_of (table_id table)) in
+    put_at k o (table_id table) (entry_offset n place 0) (entry_field n (held_words o v).table place 0 + 1) false (held_words o v) (known_state o v).content v shape early refl refl may.0
 
-module _ (k : Shape) (o : ℕ) (table : Table) (place : ℕ) (value : Value) (v w1 : View) (shape : v.shape ≡ k) (early : has_committed o v.log ≡ false) (only1 : OnlyPut o v w1) (held1 : held o w1 ≡ raised_at (name_of table) place (held o v))
-    (may : MayPuts (kind_in k.starts o) (name_of table) (known o v).content false (held o v) (value_puts (slots (class_of (name_of table))) (held o v).table place value)) where
+module _ (k : Shape) (o : ℕ) (table : Table) (place : ℕ) (value : Value) (v w1 : View) (shape : v.shape ≡ k) (early : has_committed o v.log ≡ false) (only1 : OnlyPut o v w1) (held1 : held_words o w1 ≡ raised_at (table_id table) place (held_words o v))
+    (may : MayPuts (kind_in k.starts o) (table_id table) (known_state o v).content false (held_words o v) (value_puts (slots (class_of (table_id table))) (held_words o v).table place value)) where
   abbrev pt : ℕ
-  pt = name_of table
+  pt = table_id table
 
   abbrev pn : ℕ
   pn = slots (class_of pt)
@@ -232,19 +232,19 @@ module _ (k : Shape) (o : ℕ) (table : Table) (place : ℕ) (value : Value) (v 
   pub first_word : (kind_word : ℕ) → kind_word ≡ stored_kind (Plain value) → IsCareful w1 o pt (entry_offset pn place 4) kind_word
   first_word kind_word is =
       subst (λ (z : ℕ). IsCareful w1 o pt (entry_offset pn place 4) z) (sym is)
-      (put_at k o pt (entry_offset pn place 4) (stored_kind (Plain value)) false (raised_at pt place (held o v)) (known o v).content w1 (only1.work.pass.shape ∙ shape) (only1.work.committed o ∙ early) held1 (ap (λ (z : ContainerState). z.content) (work_knows v w1 o only1.work)) may.1.0)
+      (put_at k o pt (entry_offset pn place 4) (stored_kind (Plain value)) false (raised_at pt place (held_words o v)) (known_state o v).content w1 (only1.work.pass.shape ∙ shape) (only1.work.committed o ∙ early) held1 (ap (λ (z : ContainerState). z.content) (work_knows v w1 o only1.work)) may.1.0)
 
   -- a word of the entry that the raise leaves
-  pub still_found : (w : ℕ) → 0 < w → (found : ℕ) → found ≡ entry_field pn (held o v).table place w → found ≡ entry_field pn (held o w1).table place w
+  pub still_found : (w : ℕ) → 0 < w → (found : ℕ) → found ≡ entry_field pn (held_words o v).table place w → found ≡ entry_field pn (held_words o w1).table place w
   still_found w some found is =
-      is ∙ (sym (get_or-set_other (held o v).table (entry_offset pn place 0) (entry_offset pn place w) (entry_field pn (held o v).table place 0 + 1) 0 (λ e. absurd (omega (arith, e, some))))
-      ∙ sym (ap (λ (z : Picture). entry_field pn z.table place w) held1))
+      is ∙ (sym (get_or-set_other (held_words o v).table (entry_offset pn place 0) (entry_offset pn place w) (entry_field pn (held_words o v).table place 0 + 1) 0 (λ e. absurd (omega (arith, e, some))))
+      ∙ sym (ap (λ (z : ContainerWords). entry_field pn z.table place w) held1))
 
-  module _ (w2 : View) (kind_word : ℕ) (is_kind : kind_word ≡ stored_kind (Plain value)) (only2 : OnlyPut o w1 w2) (held2 : held o w2 ≡ with_table (held o w1) (entry_offset pn place 4) kind_word) where
-    abbrev with_kind : Picture
-    with_kind = with_table (raised_at pt place (held o v)) (entry_offset pn place 4) (stored_kind (Plain value))
+  module _ (w2 : View) (kind_word : ℕ) (is_kind : kind_word ≡ stored_kind (Plain value)) (only2 : OnlyPut o w1 w2) (held2 : held_words o w2 ≡ with_table (held_words o w1) (entry_offset pn place 4) kind_word) where
+    abbrev with_kind : ContainerWords
+    with_kind = with_table (raised_at pt place (held_words o v)) (entry_offset pn place 4) (stored_kind (Plain value))
 
-    kind_words : held o w2 ≡ with_kind
+    kind_words : held_words o w2 ≡ with_kind
     kind_words = held2 ∙ (λ d. with_table (held1 d) (entry_offset pn place 4) (is_kind d))
 
     kind_only : OnlyPut o v w2
@@ -253,13 +253,13 @@ module _ (k : Shape) (o : ℕ) (table : Table) (place : ℕ) (value : Value) (v 
     pub second_word : (payload : ℕ) → payload ≡ stored_payload (Plain value) → IsCareful w2 o pt (entry_offset pn place 5) payload
     second_word payload is =
         subst (λ (z : ℕ). IsCareful w2 o pt (entry_offset pn place 5) z) (sym is)
-        (put_at k o pt (entry_offset pn place 5) (stored_payload (Plain value)) false with_kind (known o v).content w2 (kind_only.work.pass.shape ∙ shape) (kind_only.work.committed o ∙ early) kind_words (ap (λ (z : ContainerState). z.content) (work_knows v w2 o kind_only.work)) may.1.1.0)
+        (put_at k o pt (entry_offset pn place 5) (stored_payload (Plain value)) false with_kind (known_state o v).content w2 (kind_only.work.pass.shape ∙ shape) (kind_only.work.committed o ∙ early) kind_words (ap (λ (z : ContainerState). z.content) (work_knows v w2 o kind_only.work)) may.1.1.0)
 
-    pub found_on : (found : ℕ) → found ≡ entry_field pn (held o w1).table place 5 → found ≡ entry_field pn (held o w2).table place 5
-    found_on found is = is ∙ (sym (get_or-set_other (held o w1).table (entry_offset pn place 4) (entry_offset pn place 5) kind_word 0 (λ e. absurd (omega (arith, e)))) ∙ sym (ap (λ (z : Picture). entry_field pn z.table place 5) held2))
+    pub found_on : (found : ℕ) → found ≡ entry_field pn (held_words o w1).table place 5 → found ≡ entry_field pn (held_words o w2).table place 5
+    found_on found is = is ∙ (sym (get_or-set_other (held_words o w1).table (entry_offset pn place 4) (entry_offset pn place 5) kind_word 0 (λ e. absurd (omega (arith, e)))) ∙ sym (ap (λ (z : ContainerWords). entry_field pn z.table place 5) held2))
 
     pub value_only : (w3 : View) → OnlyPut o w2 w3 → OnlyPut o v w3
     value_only w3 only3 = put_then v w2 w3 o kind_only only3
 
-    pub value_words : (w3 : View) (payload : ℕ) → payload ≡ stored_payload (Plain value) → held o w3 ≡ with_table (held o w2) (entry_offset pn place 5) payload → held o w3 ≡ with_puts (held o v) (value_puts pn (held o v).table place value)
+    pub value_words : (w3 : View) (payload : ℕ) → payload ≡ stored_payload (Plain value) → held_words o w3 ≡ with_table (held_words o w2) (entry_offset pn place 5) payload → held_words o w3 ≡ with_puts (held_words o v) (value_puts pn (held_words o v).table place value)
     value_words w3 payload is held3 = held3 ∙ (λ d. with_table (kind_words d) (entry_offset pn place 5) (is d))

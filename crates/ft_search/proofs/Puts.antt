@@ -12,34 +12,34 @@ use Rattle.ft_layout.specs.Containers.{class_mask}
 use Rattle.ft_trace.specs.declared.Shape.{Shape}
 use Rattle.ft_trace.specs.declared.Act.{Act}
 use Rattle.ft_trace.specs.declared.View.{View}
-use Rattle.ft_trace.specs.Addresses.{containers_in, class_of, slots, places}
-use Rattle.ft_trace.specs.Acts.{has_lock, noted}
+use Rattle.ft_trace.specs.Addresses.{container_count, class_of, slots, places}
+use Rattle.ft_trace.specs.Acts.{has_lock, view_after}
 use Rattle.ft_trace.specs.ContainerStates.{ContainerState, kind_in}
-use Rattle.ft_trace.specs.Pictures.{Picture, root_in, entry_offset, entry_field}
+use Rattle.ft_trace.specs.Pictures.{ContainerWords, root_in, entry_offset, entry_field}
 use Rattle.ft_trace.specs.Kinds.{under, rows, version_at, CarefulAs, IsKeyed}
 use Rattle.ft_trace.specs.Carefuls.{Careful}
 use Rattle.ft_trace.specs.OddVersions.{Timely}
-use Rattle.ft_trace.specs.Holds.{held}
-use Rattle.ft_trace.specs.Traces.{Possible}
+use Rattle.ft_trace.specs.Holds.{held_words}
+use Rattle.ft_trace.specs.Traces.{IsReachable}
 use Rattle.ft_trace.proofs.ByKind.{keyed_fit}
 use Rattle.ft_trace.proofs.Held.{table_known}
 use Rattle.ft_trace.proofs.Lows.{lows}
 use Rattle.ft_trace.proofs.NoWrap.{counter_room}
 use Rattle.ft_bank.specs.declared.table.Table.{Table}
-use Rattle.ft_bank.specs.TableNames.{name_of, IsTableIn}
+use Rattle.ft_bank.specs.TableNames.{table_id, IsTableIn}
 use Rattle.ft_bank.specs.Whole.{OnlyLoaded, OnlyPut}
 use Rattle.ft_bank.specs.WriteSteps.{IsCareful}
 use Rattle.ft_bank.proofs.TableAddresses.{named}
 use Rattle.ft_bank.proofs.KnownAfterWrites.{IsLoad, loaded_by, loaded_put, loaded_held, work_knows}
 use Rattle.ft_search.specs.OneEntryWrites.{WritesEntries}
 
-pub table_class : (k : Shape) (t : Table) → IsTableIn k t → IsClass (class_of (name_of t))
+pub table_class : (k : Shape) (t : Table) → IsTableIn k t → IsClass (class_of (table_id t))
 table_class k t is = (named k t is).0
 
 -- last slots and places are few
-pub few_slots : (k : Shape) (t : Table) → IsTableIn k t → slots (class_of (name_of t)) ≤ 65536
+pub few_slots : (k : Shape) (t : Table) → IsTableIn k t → slots (class_of (table_id t)) ≤ 65536
 unfolding slots
-few_slots k t is = (slots_range (class_of (name_of t)) (table_class k t is)).1
+few_slots k t is = (slots_range (class_of (table_id t)) (table_class k t is)).1
 
 pub few_mask : (k : Shape) (t : Table) → IsTableIn k t → class_mask t.class < 65536
 few_mask k t is =
@@ -48,15 +48,15 @@ few_mask k t is =
     let high = r.1 in
     omega (arith, low, high)
 
-pub few_places : (k : Shape) (t : Table) (kind : Kind) (place : ℕ) → IsTableIn k t → IsKeyed kind → place < rows kind (class_of (name_of t)) → place < 65536
+pub few_places : (k : Shape) (t : Table) (kind : Kind) (place : ℕ) → IsTableIn k t → IsKeyed kind → place < rows kind (class_of (table_id t)) → place < 65536
 unfolding places slots
 few_places k t kind place is keyed low =
-    let f = keyed_fit kind keyed (class_of (name_of t)) in
-    let r = (slots_range (class_of (name_of t)) (table_class k t is)).1 in
+    let f = keyed_fit kind keyed (class_of (table_id t)) in
+    let r = (slots_range (class_of (table_id t)) (table_class k t is)).1 in
     omega (arith, f, low, r)
 
 -- the pass still writes the container
-pub writes_on : (k : Shape) (o : ℕ) (table : Table) (v w : View) → OnlyPut o v w → root_in (held o w) ≡ root_in (held o v) → WritesEntries k o table v → WritesEntries k o table w
+pub writes_on : (k : Shape) (o : ℕ) (table : Table) (v w : View) → OnlyPut o v w → root_in (held_words o w) ≡ root_in (held_words o v) → WritesEntries k o table v → WritesEntries k o table w
 writes_on k o table v w only root writes = record {
   container = writes.container;
   keyed = writes.keyed;
@@ -66,22 +66,22 @@ writes_on k o table v w only root writes = record {
   root = root ∙ writes.root;
 }
 
-pub writes_loaded : (k : Shape) (o : ℕ) (table : Table) (a : Act) (v w : View) → IsLoad a → w ≡ noted a v → WritesEntries k o table v → WritesEntries k o table w
+pub writes_loaded : (k : Shape) (o : ℕ) (table : Table) (a : Act) (v w : View) → IsLoad a → w ≡ view_after a v → WritesEntries k o table v → WritesEntries k o table w
 writes_loaded k o table a v w load is writes =
     let l = loaded_by a v w load is in
     writes_on k o table v w (loaded_put v w o l) (ap root_in (loaded_held v w o l)) writes
 
 -- a version has room for one more write
-version_room : (v : View) (o t p : ℕ) → ∥ Possible v ∥₁ → o < containers_in v.shape → has_lock o v.log ≡ true → root_in (held o v) ≡ suc t → p < rows (kind_in v.shape.starts o) (class_of t) → v.shape.passes * v.shape.calls < 2 ^ 46 → slice_index (held o v).table (version_at (kind_in v.shape.starts o) (class_of t) p) < 2 ^ 63
+version_room : (v : View) (o t p : ℕ) → ∥ IsReachable v ∥₁ → o < container_count v.shape → has_lock o v.log ≡ true → root_in (held_words o v) ≡ suc t → p < rows (kind_in v.shape.starts o) (class_of t) → v.shape.passes * v.shape.calls < 2 ^ 46 → slice_index (held_words o v).table (version_at (kind_in v.shape.starts o) (class_of t) p) < 2 ^ 63
 version_room v o t p possible low mine names row few =
-    ∥∥₁_elim {P = slice_index (held o v).table (version_at (kind_in v.shape.starts o) (class_of t) p) < 2 ^ 63} possible le_prop
-    (λ (x : Possible v).
+    ∥∥₁_elim {P = slice_index (held_words o v).table (version_at (kind_in v.shape.starts o) (class_of t) p) < 2 ^ 63} possible le_prop
+    (λ (x : IsReachable v).
     let k = v.shape in
     let table = table_known v o low t mine names x.0 x.1 x.2 in
     let high = (lows k x.0 x.2.0 o low t table.1).odd p row in
     let count = counter_room k x.0 x.2.0 in
     let same = ap (λ (l : List ℕ). slice_index l (version_at (kind_in k.starts o) (class_of t) p)) table.0 in
-    let low : slice_index (held o v).table (version_at (kind_in k.starts o) (class_of t) p) < 2 ^ 63 = omega (arith, high, count, same, few) in
+    let low : slice_index (held_words o v).table (version_at (kind_in k.starts o) (class_of t) p) < 2 ^ 63 = omega (arith, high, count, same, few) in
     low)
 
 pub keyed_version : (kind : Kind) → IsKeyed kind → (c p : ℕ) → version_at kind c p ≡ entry_offset (slots c) p 0
@@ -96,14 +96,14 @@ keyed_careful kind.Set keyed c ws d i x care = care
 keyed_careful kind.List keyed c ws d i x care = absurd keyed
 keyed_careful (kind.Deque bound) keyed c ws d i x care = absurd keyed
 
-pub entry_room : (k : Shape) (o : ℕ) (table : Table) (v : View) → WritesEntries k o table v → v.shape ≡ k → ∥ Possible v ∥₁ → k.passes * k.calls < 2 ^ 46 → (place : ℕ) → place < rows (kind_in k.starts o) (class_of (name_of table)) → entry_field (slots (class_of (name_of table))) (held o v).table place 0 < 2 ^ 63
+pub entry_room : (k : Shape) (o : ℕ) (table : Table) (v : View) → WritesEntries k o table v → v.shape ≡ k → ∥ IsReachable v ∥₁ → k.passes * k.calls < 2 ^ 46 → (place : ℕ) → place < rows (kind_in k.starts o) (class_of (table_id table)) → entry_field (slots (class_of (table_id table))) (held_words o v).table place 0 < 2 ^ 63
 entry_room k o table v writes shape possible few place low =
-    let t = name_of table in
-    let here : o < containers_in v.shape = subst (λ (z : Shape). o < containers_in z) (sym shape) writes.container in
+    let t = table_id table in
+    let here : o < container_count v.shape = subst (λ (z : Shape). o < container_count z) (sym shape) writes.container in
     let row : place < rows (kind_in v.shape.starts o) (class_of t) = subst (λ (z : Shape). place < rows (kind_in z.starts o) (class_of t)) (sym shape) low in
     let calls : v.shape.passes * v.shape.calls < 2 ^ 46 = subst (λ (z : Shape). z.passes * z.calls < 2 ^ 46) (sym shape) few in
     let keyed : IsKeyed (kind_in v.shape.starts o) = subst (λ (z : Shape). IsKeyed (kind_in z.starts o)) (sym shape) writes.keyed in
-    subst (λ (z : ℕ). slice_index (held o v).table z < 2 ^ 63) (keyed_version (kind_in v.shape.starts o) keyed (class_of t) place) (version_room v o t place possible here writes.locked writes.root row calls)
+    subst (λ (z : ℕ). slice_index (held_words o v).table z < 2 ^ 63) (keyed_version (kind_in v.shape.starts o) keyed (class_of t) place) (version_room v o t place possible here writes.locked writes.root row calls)
 
 -- what readers aren't misled by stays so after loads
 pub careful_loaded : (v w : View) (o t i x : ℕ) → OnlyLoaded v w → IsCareful v o t i x → IsCareful w o t i x
@@ -113,6 +113,6 @@ careful_loaded v w o t i x only care =
     let shape = only.work.pass.shape in
     let late = only.work.committed o in
     record {
-      care = subst (λ (z : Shape × Picture × ContainerState). CarefulAs (kind_in z.0.starts o) (class_of t) z.1.table z.2.content i x) (sym (λ d. (shape d, same d, knows d))) care.care;
+      care = subst (λ (z : Shape × ContainerWords × ContainerState). CarefulAs (kind_in z.0.starts o) (class_of t) z.1.table z.2.content i x) (sym (λ d. (shape d, same d, knows d))) care.care;
       timely = subst (λ (z : Shape × Bool). Timely (version_at (kind_in z.0.starts o) (class_of t)) (rows (kind_in z.0.starts o) (class_of t)) i x z.1) (sym (λ d. (shape d, late d))) care.timely;
     }

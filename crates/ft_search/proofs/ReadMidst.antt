@@ -6,11 +6,11 @@ use Rattle.ft_trace.specs.declared.Act.{Act}
 use Rattle.ft_trace.specs.declared.Act.TheVariants.{Answer}
 use Rattle.ft_trace.specs.declared.Shape.{Shape}
 use Rattle.ft_trace.specs.declared.View.{View}
-use Rattle.ft_trace.specs.Acts.{has_lock, stage, noted}
-use Rattle.ft_trace.specs.Addresses.{containers_in}
-use Rattle.ft_trace.specs.Holds.{held, known}
+use Rattle.ft_trace.specs.Acts.{has_lock, stage, view_after}
+use Rattle.ft_trace.specs.Addresses.{container_count}
+use Rattle.ft_trace.specs.Holds.{held_words, known_state}
 use Rattle.ft_trace.specs.BegunSections.{Begun, begun, begun_by}
-use Rattle.ft_trace.specs.Pictures.{Picture, Stands}
+use Rattle.ft_trace.specs.Pictures.{ContainerWords, Represents}
 use Rattle.ft_trace.specs.ContainerStates.{ContainerState}
 use Rattle.ft_bank.specs.declared.bank.Bank.{Bank}
 use Rattle.ft_bank.specs.declared.pass.Pass.{Pass}
@@ -36,11 +36,11 @@ still_loaded v u o s =
       owes = o.work.owes ∙ s.owes;
       flight = o.work.pass.flight ∙ s.flight;
       stands = λ p low has.
-          let old = s.stands p (subst (λ (k : Shape). p < containers_in k) o.work.pass.shape low) (sym (o.work.pass.locks p) ∙ has) in
-          subst (λ (x : Shape × Picture × ContainerState). Stands x.0.texts x.1 x.2) (sym (λ d. (o.work.pass.shape d, loaded_held v u p o d, work_knows v u p o.work d))) old;
+          let old = s.stands p (subst (λ (k : Shape). p < container_count k) o.work.pass.shape low) (sym (o.work.pass.locks p) ∙ has) in
+          subst (λ (x : Shape × ContainerWords × ContainerState). Represents x.0.texts x.1 x.2) (sym (λ d. (o.work.pass.shape d, loaded_held v u p o d, work_knows v u p o.work d))) old;
     }
 
-still_answered : (called : Call) (said : Reply) (n : ℕ) (u : View) → IsStill u → IsStill (noted (Answer called said n) u)
+still_answered : (called : Call) (said : Reply) (n : ℕ) (u : View) → IsStill u → IsStill (view_after (Answer called said n) u)
 still_answered called said n u s = record { even = s.even; hands = s.hands; used = s.used; owes = s.owes; flight = s.flight; stands = s.stands }
 
 -- what the entry of a call that isn't a write leaves
@@ -60,5 +60,5 @@ making_read b p q called said n leaves m pass stack a =
     making_stays b p q m pass stack r.0 r.1 r.2 (still_read called said n (view p) (view q) a m.inside.1.still)
 
 -- what such a pass knows of a container whose lock it has
-pub making_stands : (b : Bank) (p : Pass) (texts : List ℕ) (o : ℕ) → IsMaking b p → (view p).shape.texts ≡ texts → o < containers_in (view p).shape → has_lock o (view p).log ≡ true → Stands texts (held o (view p)) (known o (view p))
-making_stands b p texts o m same low mine = subst (λ (t : List ℕ). Stands t (held o (view p)) (known o (view p))) same (m.inside.1.still.stands o low mine)
+pub making_stands : (b : Bank) (p : Pass) (texts : List ℕ) (o : ℕ) → IsMaking b p → (view p).shape.texts ≡ texts → o < container_count (view p).shape → has_lock o (view p).log ≡ true → Represents texts (held_words o (view p)) (known_state o (view p))
+making_stands b p texts o m same low mine = subst (λ (t : List ℕ). Represents t (held_words o (view p)) (known_state o (view p))) same (m.inside.1.still.stands o low mine)

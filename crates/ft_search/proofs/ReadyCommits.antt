@@ -14,19 +14,19 @@ use Rattle.ft_trace.specs.declared.Act.TheVariants.{StartWrite, Commit, StopWrit
 use Rattle.ft_trace.specs.declared.Shape.{Shape}
 use Rattle.ft_trace.specs.declared.Snap.{Snap}
 use Rattle.ft_trace.specs.declared.View.{View}
-use Rattle.ft_trace.specs.Acts.{has_lock, is_writing, has_emptied, owes, noted, seen_writes}
-use Rattle.ft_trace.specs.Addresses.{containers_in, class_of, slots}
-use Rattle.ft_trace.specs.Holds.{held, known}
+use Rattle.ft_trace.specs.Acts.{has_lock, is_writing, has_emptied, owes, view_after, seen_writes}
+use Rattle.ft_trace.specs.Addresses.{container_count, class_of, slots}
+use Rattle.ft_trace.specs.Holds.{held_words, known_state}
 use Rattle.ft_trace.specs.Kinds.{rows, version_at, CarefulAs, ClearAs, IsKeyed}
 use Rattle.ft_trace.specs.OddVersions.{Shut, Timely}
-use Rattle.ft_trace.specs.Traces.{Possible}
-use Rattle.ft_trace.specs.Pictures.{Picture, root_in, entry_offset, entry_field, Stands}
+use Rattle.ft_trace.specs.Traces.{IsReachable}
+use Rattle.ft_trace.specs.Pictures.{ContainerWords, root_in, entry_offset, entry_field, Represents}
 use Rattle.ft_trace.specs.ContainerStates.{ContainerState, state_at, kind_in, changes, reply_in, kinds_in}
 use Rattle.ft_trace.specs.WholeWrites.{Put, with_puts}
 use Rattle.ft_trace.proofs.Cases.{hit}
 use Rattle.ft_trace.proofs.Clearing.{held_shut}
 use Rattle.ft_bank.specs.declared.table.Table.{Table}
-use Rattle.ft_bank.specs.TableNames.{name_of}
+use Rattle.ft_bank.specs.TableNames.{table_id}
 use Rattle.ft_bank.specs.WriteSteps.{Committed, IsCareful, IsShut, MayCommit, MayHave}
 use Rattle.ft_bank.specs.Whole.{OnlyPut, EndsWrite, Wrote}
 use Rattle.ft_bank.proofs.KnownAfterWrites.{work_knows, put_same, plain_write, write_ends}
@@ -36,17 +36,17 @@ use Rattle.ft_search.proofs.Changing.{Changing}
 
 -- ---- from the start of a write to its commit
 
-module _ (o : ℕ) (v s u : View) (f : ℕ) (begun : s ≡ noted (StartWrite o f) v) (puts : OnlyPut o s u) where
-  same_known : (p : ℕ) → known p u ≡ known p v
-  same_known p = work_knows s u p puts.work ∙ ap (λ (z : View). known p z) begun
+module _ (o : ℕ) (v s u : View) (f : ℕ) (begun : s ≡ view_after (StartWrite o f) v) (puts : OnlyPut o s u) where
+  same_known : (p : ℕ) → known_state p u ≡ known_state p v
+  same_known p = work_knows s u p puts.work ∙ ap (λ (z : View). known_state p z) begun
 
   same_shape : u.shape ≡ v.shape
   same_shape = puts.work.pass.shape ∙ ap (λ (z : View). z.shape) begun
 
   has_before : (stored : StoredWorld) → MayHave u stored → MayHave v stored
   has_before stored has = record {
-    agrees = λ p low mine. has.agrees p (subst (λ (z : Shape). p < containers_in z) (sym same_shape) low) (puts.work.pass.locks p ∙ (ap (λ (z : View). has_lock p z.log) begun ∙ mine)) ∙ same_known p;
-    containers = has.containers ∙ ap containers_in same_shape;
+    agrees = λ p low mine. has.agrees p (subst (λ (z : Shape). p < container_count z) (sym same_shape) low) (puts.work.pass.locks p ∙ (ap (λ (z : View). has_lock p z.log) begun ∙ mine)) ∙ same_known p;
+    containers = has.containers ∙ ap container_count same_shape;
     kinds = has.kinds ∙ ap (λ (z : Shape). kinds_in z.starts) same_shape;
     order = has.order;
     unsplit = has.unsplit;
@@ -67,98 +67,98 @@ module _ (o : ℕ) (v s u : View) (f : ℕ) (begun : s ≡ noted (StartWrite o f
   }
 
   -- where its words say what it leaves, it may be committed
-  pub may_commit : (called : Call) (said : Reply) (left : ContainerState) → Leaves o called said left v → o < containers_in v.shape → 0 < v.left → owes v.log ≡ 0
-      → ((t : ℕ) → root_in (held o u) ≡ suc t → ClearAs (kind_in v.shape.starts o) v.shape.texts (class_of t) (held o u).table (known o v).content left.content)
+  pub may_commit : (called : Call) (said : Reply) (left : ContainerState) → Leaves o called said left v → o < container_count v.shape → 0 < v.left → owes v.log ≡ 0
+      → ((t : ℕ) → root_in (held_words o u) ≡ suc t → ClearAs (kind_in v.shape.starts o) v.shape.texts (class_of t) (held_words o u).table (known_state o v).content left.content)
       → MayCommit u called said
   may_commit called said left l low some none clear =
       let late = leaves_later called said left l in
       let odd : is_writing o u.log ≡ true = puts.work.pass.writes o ∙ (ap (λ (z : View). is_writing o z.log) begun ∙ hit o true (is_writing o v.log)) in
       let empty : has_emptied o u.log ≡ false = puts.work.emptied o ∙ (ap (λ (z : View). has_emptied o z.log) begun ∙ hit o false (has_emptied o v.log)) in
       let owed : owes u.log ≡ 0 = puts.work.owes ∙ (ap (λ (z : View). owes z.log) begun ∙ none) in
-      let clears : (stored : StoredWorld) (t : ℕ) → MayHave u stored → root_in (held o u) ≡ suc t → ClearAs (kind_in u.shape.starts o) u.shape.texts (class_of t) (held o u).table (known o u).content (state_at (after_stored stored called) o).content =
-      λ stored t has names. subst (λ (z : Shape × ContainerState × ContainerState). ClearAs (kind_in z.0.starts o) z.0.texts (class_of t) (held o u).table z.1.content z.2.content)
+      let clears : (stored : StoredWorld) (t : ℕ) → MayHave u stored → root_in (held_words o u) ≡ suc t → ClearAs (kind_in u.shape.starts o) u.shape.texts (class_of t) (held_words o u).table (known_state o u).content (state_at (after_stored stored called) o).content =
+      λ stored t has names. subst (λ (z : Shape × ContainerState × ContainerState). ClearAs (kind_in z.0.starts o) z.0.texts (class_of t) (held_words o u).table z.1.content z.2.content)
       (sym (λ d. (same_shape d, same_known o d, late.left_is stored has d))) (clear t names) in
       let at : o ≡ changes called = sym l.changed in
       record {
         write = l.write;
-        container = subst (λ (n : ℕ). n < containers_in u.shape) at (subst (λ (z : Shape). o < containers_in z) (sym same_shape) low);
+        container = subst (λ (n : ℕ). n < container_count u.shape) at (subst (λ (z : Shape). o < container_count z) (sym same_shape) low);
         odd = subst (λ (n : ℕ). is_writing n u.log ≡ true) at odd;
         left = subst (λ (n : ℕ). 0 < n) (sym (puts.work.left ∙ ap (λ (z : View). z.left) begun)) some;
         words = l.words;
         reply_is = λ stored has. plain_replied called said (reply_in stored called) l.write (late.replied stored has);
         declared = late.declared;
         fits = late.fits;
-        clear = subst (λ (n : ℕ). (stored : StoredWorld) (t : ℕ) → MayHave u stored → root_in (held n u) ≡ suc t → ClearAs (kind_in u.shape.starts n) u.shape.texts (class_of t) (held n u).table (known n u).content (state_at (after_stored stored called) n).content) at clears;
+        clear = subst (λ (n : ℕ). (stored : StoredWorld) (t : ℕ) → MayHave u stored → root_in (held_words n u) ≡ suc t → ClearAs (kind_in u.shape.starts n) u.shape.texts (class_of t) (held_words n u).table (known_state n u).content (state_at (after_stored stored called) n).content) at clears;
         takes = λ stored class has e. absurd (omega (arith, e, owed));
         locks = late.locks;
         empties = λ e. absurd (true≢false (sym e ∙ subst (λ (n : ℕ). has_emptied n u.log ≡ false) at empty));
       }
 
-  pub whole_root : (called : Call) (said : Reply) (number : ℕ) (w : View) → changes called ≡ o → EndsWrite called said number u w → root_in (held o u) ≡ root_in (held o v) → root_in (held o w) ≡ root_in (held o v)
-  whole_root called said number w changed ends root = subst (λ (n : ℕ). root_in (held n w) ≡ root_in (held n u)) changed ends.root ∙ root
+  pub whole_root : (called : Call) (said : Reply) (number : ℕ) (w : View) → changes called ≡ o → EndsWrite called said number u w → root_in (held_words o u) ≡ root_in (held_words o v) → root_in (held_words o w) ≡ root_in (held_words o v)
+  whole_root called said number w changed ends root = subst (λ (n : ℕ). root_in (held_words n w) ≡ root_in (held_words n u)) changed ends.root ∙ root
 
   -- the whole write
-  pub whole_write : (called : Call) (said : Reply) (number : ℕ) (w : View) → changes called ≡ o → is_writing o v.log ≡ false → EndsWrite called said number u w → root_in (held o u) ≡ root_in (held o v) → Wrote called said number v w
+  pub whole_write : (called : Call) (said : Reply) (number : ℕ) (w : View) → changes called ≡ o → is_writing o v.log ≡ false → EndsWrite called said number u w → root_in (held_words o u) ≡ root_in (held_words o v) → Wrote called said number v w
   whole_write called said number w changed even ends root =
       let at : o ≡ changes called = sym changed in
       plain_write called said number f v s u w
-      (subst (λ (n : ℕ). s ≡ noted (StartWrite n f) v) at begun)
+      (subst (λ (n : ℕ). s ≡ view_after (StartWrite n f) v) at begun)
       (subst (λ (n : ℕ). is_writing n v.log ≡ false) at even)
       (subst (λ (n : ℕ). OnlyPut n s u) at puts)
       ends
-      (subst (λ (n : ℕ). root_in (held n u) ≡ root_in (held n v)) at root)
+      (subst (λ (n : ℕ). root_in (held_words n u) ≡ root_in (held_words n v)) at root)
 
 -- ---- from the commit on
 
 module _ (o : ℕ) (table : Table) (place : ℕ) (called : Call) (said : Reply) (u : View) (m : MayFinish o table place called said u) where
   abbrev t : ℕ
-  t = name_of table
+  t = table_id table
 
   abbrev n : ℕ
   n = slots (class_of t)
 
-  left_known : (w : View) → Committed u w called → known o w ≡ m.left
+  left_known : (w : View) → Committed u w called → known_state o w ≡ m.left
   left_known w committed = committed.left o ∙ m.left_is committed.found committed.has
 
   -- the version of the entry may be made even
-  pub close_care : (number : ℕ) (snap : Snap) (w : View) → w ≡ noted (Commit called said number snap) u → Committed u w called → IsCareful w o t (entry_offset n place 0) (entry_field n (held o w).table place 0 + 1)
+  pub close_care : (number : ℕ) (snap : Snap) (w : View) → w ≡ view_after (Commit called said number snap) u → Committed u w called → IsCareful w o t (entry_offset n place 0) (entry_field n (held_words o w).table place 0 + 1)
   close_care number snap w is committed =
-      let made : View = noted (Commit called said number snap) u in
+      let made : View = view_after (Commit called said number snap) u in
       let odd = m.odd in
-      let now : known o made ≡ m.left = subst (λ (z : View). known o z ≡ m.left) is (left_known w committed) in
-      let care : CarefulAs (kind_in u.shape.starts o) (class_of t) (held o u).table (known o made).content (entry_offset n place 0) (entry_field n (held o u).table place 0 + 1) =
-      subst (λ (z : ContainerState). CarefulAs (kind_in u.shape.starts o) (class_of t) (held o u).table z.content (entry_offset n place 0) (entry_field n (held o u).table place 0 + 1)) (sym now) m.close in
-      let timely : Timely (version_at (kind_in u.shape.starts o) (class_of t)) (rows (kind_in u.shape.starts o) (class_of t)) (entry_offset n place 0) (entry_field n (held o u).table place 0 + 1) true =
+      let now : known_state o made ≡ m.left = subst (λ (z : View). known_state o z ≡ m.left) is (left_known w committed) in
+      let care : CarefulAs (kind_in u.shape.starts o) (class_of t) (held_words o u).table (known_state o made).content (entry_offset n place 0) (entry_field n (held_words o u).table place 0 + 1) =
+      subst (λ (z : ContainerState). CarefulAs (kind_in u.shape.starts o) (class_of t) (held_words o u).table z.content (entry_offset n place 0) (entry_field n (held_words o u).table place 0 + 1)) (sym now) m.close in
+      let timely : Timely (version_at (kind_in u.shape.starts o) (class_of t)) (rows (kind_in u.shape.starts o) (class_of t)) (entry_offset n place 0) (entry_field n (held_words o u).table place 0 + 1) true =
       record { before = λ q less at one. absurd (omega (arith, one, odd)); later = λ q less at two. refl } in
-      let all : IsCareful made o t (entry_offset n place 0) (entry_field n (held o made).table place 0 + 1) = record { care = care; timely = timely } in
-      subst (λ (z : View). IsCareful z o t (entry_offset n place 0) (entry_field n (held o z).table place 0 + 1)) (sym is) all
+      let all : IsCareful made o t (entry_offset n place 0) (entry_field n (held_words o made).table place 0 + 1) = record { care = care; timely = timely } in
+      subst (λ (z : View). IsCareful z o t (entry_offset n place 0) (entry_field n (held_words o z).table place 0 + 1)) (sym is) all
 
-  module _ (number : ℕ) (snap : Snap) (w z : View) (is : w ≡ noted (Commit called said number snap) u) (committed : Committed u w called) (only : OnlyPut o w z) (raised : held o z ≡ raised_at t place (held o w)) where
-    words_are : held o z ≡ raised_at t place (held o u)
-    words_are = raised ∙ ap (λ (x : View). raised_at t place (held o x)) is
+  module _ (number : ℕ) (snap : Snap) (w z : View) (is : w ≡ view_after (Commit called said number snap) u) (committed : Committed u w called) (only : OnlyPut o w z) (raised : held_words o z ≡ raised_at t place (held_words o w)) where
+    words_are : held_words o z ≡ raised_at t place (held_words o u)
+    words_are = raised ∙ ap (λ (x : View). raised_at t place (held_words o x)) is
 
     shape_is : z.shape ≡ u.shape
     shape_is = only.work.pass.shape ∙ ap (λ (x : View). x.shape) is
 
     -- the words stand for what the call leaves
-    pub stands_then : Stands u.shape.texts (held o z) (known o z)
-    stands_then = subst (λ (x : Picture × ContainerState). Stands u.shape.texts x.0 x.1) (sym (λ d. (words_are d, (work_knows w z o only.work ∙ left_known w committed) d))) m.stands
+    pub stands_then : Represents u.shape.texts (held_words o z) (known_state o z)
+    stands_then = subst (λ (x : ContainerWords × ContainerState). Represents u.shape.texts x.0 x.1) (sym (λ d. (words_are d, (work_knows w z o only.work ∙ left_known w committed) d))) m.stands
 
-    pub shut_then : root_in (held o z) ≡ suc t → IsShut o z
+    pub shut_then : root_in (held_words o z) ≡ suc t → IsShut o z
     shut_then root q names =
         let same : t ≡ q = let e : suc t ≡ suc q = sym root ∙ names in omega (arith, e) in
-        let here : Shut (version_at (kind_in z.shape.starts o) (class_of t)) (rows (kind_in z.shape.starts o) (class_of t)) (held o z).table =
-        subst (λ (x : Shape × Picture). Shut (version_at (kind_in x.0.starts o) (class_of t)) (rows (kind_in x.0.starts o) (class_of t)) x.1.table) (sym (λ d. (shape_is d, words_are d))) m.shut in
-        subst (λ (r : ℕ). Shut (version_at (kind_in z.shape.starts o) (class_of r)) (rows (kind_in z.shape.starts o) (class_of r)) (held o z).table) same here
+        let here : Shut (version_at (kind_in z.shape.starts o) (class_of t)) (rows (kind_in z.shape.starts o) (class_of t)) (held_words o z).table =
+        subst (λ (x : Shape × ContainerWords). Shut (version_at (kind_in x.0.starts o) (class_of t)) (rows (kind_in x.0.starts o) (class_of t)) x.1.table) (sym (λ d. (shape_is d, words_are d))) m.shut in
+        subst (λ (r : ℕ). Shut (version_at (kind_in z.shape.starts o) (class_of r)) (rows (kind_in z.shape.starts o) (class_of r)) (held_words o z).table) same here
 
-    pub ends_then : (stop : ℕ) (x : View) → seen_writes u ≤ number → root_in (held o z) ≡ root_in (held o u) → x ≡ noted (StopWrite o stop) z → EndsWrite called said number u x
+    pub ends_then : (stop : ℕ) (x : View) → seen_writes u ≤ number → root_in (held_words o z) ≡ root_in (held_words o u) → x ≡ view_after (StopWrite o stop) z → EndsWrite called said number u x
     ends_then stop x seen root stopped =
         let at : o ≡ changes called = sym m.changed in
         write_ends called said number stop snap u w z x seen is committed m.may.left
         (subst (λ (p : ℕ). OnlyPut p w z) at only)
-        (subst (λ (p : ℕ). root_in (held p z) ≡ root_in (held p u)) at root)
-        (subst (λ (p : ℕ). Stands u.shape.texts (held p z) (known p z)) at stands_then)
-        (subst (λ (p : ℕ). x ≡ noted (StopWrite p stop) z) at stopped)
+        (subst (λ (p : ℕ). root_in (held_words p z) ≡ root_in (held_words p u)) at root)
+        (subst (λ (p : ℕ). Represents u.shape.texts (held_words p z) (known_state p z)) at stands_then)
+        (subst (λ (p : ℕ). x ≡ view_after (StopWrite p stop) z) at stopped)
 
 -- ---- a write that changes nothing
 
@@ -168,78 +168,78 @@ clear_same kind.Set keyed texts c ws d = record { keeps = λ p key low even live
 clear_same kind.List keyed texts c ws d = absurd keyed
 clear_same (kind.Deque bound) keyed texts c ws d = absurd keyed
 
-module _ (k : Shape) (o : ℕ) (v s : View) (f : ℕ) (may : MayWriteEntries k o v) (shape : v.shape ≡ k) (begun : s ≡ noted (StartWrite o f) v) (called : Call) (said : Reply) (leaves : Leaves o called said (known o v) v) where
-  low' : o < containers_in v.shape
-  low' = subst (λ (z : Shape). o < containers_in z) (sym shape) may.container
+module _ (k : Shape) (o : ℕ) (v s : View) (f : ℕ) (may : MayWriteEntries k o v) (shape : v.shape ≡ k) (begun : s ≡ view_after (StartWrite o f) v) (called : Call) (said : Reply) (leaves : Leaves o called said (known_state o v) v) where
+  low' : o < container_count v.shape
+  low' = subst (λ (z : Shape). o < container_count z) (sym shape) may.container
 
   keyed' : IsKeyed (kind_in v.shape.starts o)
   keyed' = subst (λ (z : Shape). IsKeyed (kind_in z.starts o)) (sym shape) may.keyed
 
   pub nothing_commits : MayCommit s called said
   nothing_commits =
-      may_commit o v s s f begun (put_same s o) called said (known o v) leaves low' may.left may.owes
-      (λ t names. clear_same (kind_in v.shape.starts o) keyed' v.shape.texts (class_of t) (held o s).table (known o v).content)
+      may_commit o v s s f begun (put_same s o) called said (known_state o v) leaves low' may.left may.owes
+      (λ t names. clear_same (kind_in v.shape.starts o) keyed' v.shape.texts (class_of t) (held_words o s).table (known_state o v).content)
 
-  module _ (number : ℕ) (snap : Snap) (w : View) (is : w ≡ noted (Commit called said number snap) s) (committed : Committed s w called) where
-    same_held : held o w ≡ held o v
-    same_held = ap (λ (z : View). held o z) is ∙ ap (λ (z : View). held o z) begun
+  module _ (number : ℕ) (snap : Snap) (w : View) (is : w ≡ view_after (Commit called said number snap) s) (committed : Committed s w called) where
+    same_held : held_words o w ≡ held_words o v
+    same_held = ap (λ (z : View). held_words o z) is ∙ ap (λ (z : View). held_words o z) begun
 
-    same_kept : known o w ≡ known o v
-    same_kept = committed.left o ∙ (leaves_later o v s s f begun (put_same s o) called said (known o v) leaves).left_is committed.found committed.has
+    same_kept : known_state o w ≡ known_state o v
+    same_kept = committed.left o ∙ (leaves_later o v s s f begun (put_same s o) called said (known_state o v) leaves).left_is committed.found committed.has
 
-    pub nothing_stands : Stands k.texts (held o w) (known o w)
-    nothing_stands = subst (λ (x : Picture × ContainerState). Stands k.texts x.0 x.1) (sym (λ d. (same_held d, same_kept d))) may.stands
+    pub nothing_stands : Represents k.texts (held_words o w) (known_state o w)
+    nothing_stands = subst (λ (x : ContainerWords × ContainerState). Represents k.texts x.0 x.1) (sym (λ d. (same_held d, same_kept d))) may.stands
 
     shape_now : w.shape ≡ v.shape
     shape_now = ap (λ (z : View). z.shape) is ∙ ap (λ (z : View). z.shape) begun
 
-    pub nothing_shut : ∥ Possible v ∥₁ → IsShut o w
+    pub nothing_shut : ∥ IsReachable v ∥₁ → IsShut o w
     nothing_shut possible q names p less =
-        let root : root_in (held o v) ≡ suc q = ap root_in (sym same_held) ∙ names in
+        let root : root_in (held_words o v) ≡ suc q = ap root_in (sym same_held) ∙ names in
         let row : p < rows (kind_in v.shape.starts o) (class_of q) = subst (λ (x : Shape). p < rows (kind_in x.starts o) (class_of q)) shape_now less in
-        let before : slice_index (held o v).table (version_at (kind_in v.shape.starts o) (class_of q) p) % 2 ≡ 0 =
-        ∥∥₁_elim {P = slice_index (held o v).table (version_at (kind_in v.shape.starts o) (class_of q) p) % 2 ≡ 0} possible (ℕ_set _ _) (λ x. held_shut v o q low' x may.locked may.even root p row) in
-        subst (λ (x : Shape × Picture). slice_index x.1.table (version_at (kind_in x.0.starts o) (class_of q) p) % 2 ≡ 0) (sym (λ d. (shape_now d, same_held d))) before
+        let before : slice_index (held_words o v).table (version_at (kind_in v.shape.starts o) (class_of q) p) % 2 ≡ 0 =
+        ∥∥₁_elim {P = slice_index (held_words o v).table (version_at (kind_in v.shape.starts o) (class_of q) p) % 2 ≡ 0} possible (ℕ_set _ _) (λ x. held_shut v o q low' x may.locked may.even root p row) in
+        subst (λ (x : Shape × ContainerWords). slice_index x.1.table (version_at (kind_in x.0.starts o) (class_of q) p) % 2 ≡ 0) (sym (λ d. (shape_now d, same_held d))) before
 
-    pub nothing_wrote : (stop : ℕ) (x : View) → seen_writes s ≤ number → x ≡ noted (StopWrite o stop) w → Wrote called said number v x
+    pub nothing_wrote : (stop : ℕ) (x : View) → seen_writes s ≤ number → x ≡ view_after (StopWrite o stop) w → Wrote called said number v x
     nothing_wrote stop x seen stopped =
         let at : o ≡ changes called = sym leaves.changed in
-        let stands : Stands s.shape.texts (held o w) (known o w) = subst (λ (z : Shape). Stands z.texts (held o w) (known o w)) (sym (ap (λ (z : View). z.shape) begun ∙ shape)) nothing_stands in
+        let stands : Represents s.shape.texts (held_words o w) (known_state o w) = subst (λ (z : Shape). Represents z.texts (held_words o w) (known_state o w)) (sym (ap (λ (z : View). z.shape) begun ∙ shape)) nothing_stands in
         let ends : EndsWrite called said number s x =
         write_ends called said number stop snap s w w x seen is committed nothing_commits.left
         (subst (λ (p : ℕ). OnlyPut p w w) at (put_same w o))
-        (subst (λ (p : ℕ). root_in (held p w) ≡ root_in (held p s)) at (ap (λ (z : View). root_in (held o z)) is))
-        (subst (λ (p : ℕ). Stands s.shape.texts (held p w) (known p w)) at stands)
-        (subst (λ (p : ℕ). x ≡ noted (StopWrite p stop) w) at stopped) in
-        whole_write o v s s f begun (put_same s o) called said number x leaves.changed may.even ends (ap (λ (z : View). root_in (held o z)) begun)
+        (subst (λ (p : ℕ). root_in (held_words p w) ≡ root_in (held_words p s)) at (ap (λ (z : View). root_in (held_words o z)) is))
+        (subst (λ (p : ℕ). Represents s.shape.texts (held_words p w) (known_state p w)) at stands)
+        (subst (λ (p : ℕ). x ≡ view_after (StopWrite p stop) w) at stopped) in
+        whole_write o v s s f begun (put_same s o) called said number x leaves.changed may.even ends (ap (λ (z : View). root_in (held_words o z)) begun)
 
 -- ---- a write that changes one entry
 
-module _ (k : Shape) (o : ℕ) (table : Table) (v s u : View) (f : ℕ) (may : MayWriteEntries k o v) (shape : v.shape ≡ k) (begun : s ≡ noted (StartWrite o f) v) (only : OnlyPut o s u) (place : ℕ) (early : List Put) (left : ContainerState) (change : Changing k.texts (name_of table) (held o v) (known o v) place early left)
-    (kind_eq : kind_of (known o v).content ≡ kind_in k.starts o) (words : held o u ≡ with_puts (held o v) early) (root : root_in (held o u) ≡ suc (name_of table)) (called : Call) (said : Reply) (leaves : Leaves o called said left v) where
+module _ (k : Shape) (o : ℕ) (table : Table) (v s u : View) (f : ℕ) (may : MayWriteEntries k o v) (shape : v.shape ≡ k) (begun : s ≡ view_after (StartWrite o f) v) (only : OnlyPut o s u) (place : ℕ) (early : List Put) (left : ContainerState) (change : Changing k.texts (table_id table) (held_words o v) (known_state o v) place early left)
+    (kind_eq : kind_of (known_state o v).content ≡ kind_in k.starts o) (words : held_words o u ≡ with_puts (held_words o v) early) (root : root_in (held_words o u) ≡ suc (table_id table)) (called : Call) (said : Reply) (leaves : Leaves o called said left v) where
   abbrev c' : ℕ
-  c' = class_of (name_of table)
+  c' = class_of (table_id table)
 
   abbrev at' : ℕ
   at' = entry_offset (slots c') place 0
 
-  low'' : o < containers_in v.shape
-  low'' = subst (λ (z : Shape). o < containers_in z) (sym shape) may.container
+  low'' : o < container_count v.shape
+  low'' = subst (λ (z : Shape). o < container_count z) (sym shape) may.container
 
-  kind_v : kind_of (known o v).content ≡ kind_in v.shape.starts o
+  kind_v : kind_of (known_state o v).content ≡ kind_in v.shape.starts o
   kind_v = kind_eq ∙ sym (ap (λ (z : Shape). kind_in z.starts o) shape)
 
-  kind_u : kind_of (known o v).content ≡ kind_in u.shape.starts o
+  kind_u : kind_of (known_state o v).content ≡ kind_in u.shape.starts o
   kind_u = kind_v ∙ sym (ap (λ (z : Shape). kind_in z.starts o) (same_shape o v s u f begun only))
 
   texts_u : k.texts ≡ u.shape.texts
   texts_u = sym (ap (λ (z : Shape). z.texts) (same_shape o v s u f begun only ∙ shape))
 
-  clears : (t : ℕ) → root_in (held o u) ≡ suc t → ClearAs (kind_in v.shape.starts o) v.shape.texts (class_of t) (held o u).table (known o v).content left.content
+  clears : (t : ℕ) → root_in (held_words o u) ≡ suc t → ClearAs (kind_in v.shape.starts o) v.shape.texts (class_of t) (held_words o u).table (known_state o v).content left.content
   clears t names =
-      let same : name_of table ≡ t = let e : suc (name_of table) ≡ suc t = sym root ∙ names in omega (arith, e) in
-      subst (λ (n : ℕ). ClearAs (kind_in v.shape.starts o) v.shape.texts (class_of n) (held o u).table (known o v).content left.content) same
-      (subst (λ (z : Kind × List ℕ × Picture). ClearAs z.0 z.1 c' z.2.table (known o v).content left.content) (λ d. (kind_v d, sym (ap (λ (z : Shape). z.texts) shape) d, sym words d)) change.clear)
+      let same : table_id table ≡ t = let e : suc (table_id table) ≡ suc t = sym root ∙ names in omega (arith, e) in
+      subst (λ (n : ℕ). ClearAs (kind_in v.shape.starts o) v.shape.texts (class_of n) (held_words o u).table (known_state o v).content left.content) same
+      (subst (λ (z : Kind × List ℕ × ContainerWords). ClearAs z.0 z.1 c' z.2.table (known_state o v).content left.content) (λ d. (kind_v d, sym (ap (λ (z : Shape). z.texts) shape) d, sym words d)) change.clear)
 
   pub entry_finishes : MayFinish o table place called said u
   entry_finishes = record {
@@ -247,19 +247,19 @@ module _ (k : Shape) (o : ℕ) (table : Table) (v s u : View) (f : ℕ) (may : M
     changed = leaves.changed;
     left = left;
     left_is = (leaves_later o v s u f begun only called said left leaves).left_is;
-    odd = subst (λ (x : Picture). entry_field (slots c') x.table place 0 % 2 ≡ 1) (sym words) change.odd;
-    close = subst (λ (z : Kind × Picture). CarefulAs z.0 c' z.1.table left.content at' (entry_field (slots c') z.1.table place 0 + 1)) (λ d. (kind_u d, sym words d)) change.close;
-    stands = subst (λ (z : List ℕ × Picture). Stands z.0 (raised_at (name_of table) place z.1) left) (λ d. (texts_u d, sym words d)) change.stands;
-    shut = subst (λ (z : Kind × Picture). Shut (version_at z.0 c') (rows z.0 c') (raised_at (name_of table) place z.1).table) (λ d. (kind_u d, sym words d)) change.shut;
+    odd = subst (λ (x : ContainerWords). entry_field (slots c') x.table place 0 % 2 ≡ 1) (sym words) change.odd;
+    close = subst (λ (z : Kind × ContainerWords). CarefulAs z.0 c' z.1.table left.content at' (entry_field (slots c') z.1.table place 0 + 1)) (λ d. (kind_u d, sym words d)) change.close;
+    stands = subst (λ (z : List ℕ × ContainerWords). Represents z.0 (raised_at (table_id table) place z.1) left) (λ d. (texts_u d, sym words d)) change.stands;
+    shut = subst (λ (z : Kind × ContainerWords). Shut (version_at z.0 c') (rows z.0 c') (raised_at (table_id table) place z.1).table) (λ d. (kind_u d, sym words d)) change.shut;
   }
 
 -- the pass writes the container once it has begun
-pub writes_begun : (k : Shape) (o : ℕ) (table : Table) (v s : View) (f : ℕ) → s ≡ noted (StartWrite o f) v → MayWriteEntries k o v → HasTable k o table v → WritesEntries k o table s
+pub writes_begun : (k : Shape) (o : ℕ) (table : Table) (v s : View) (f : ℕ) → s ≡ view_after (StartWrite o f) v → MayWriteEntries k o v → HasTable k o table v → WritesEntries k o table s
 writes_begun k o table v s f begun may has = record {
   container = may.container;
   keyed = may.keyed;
   table_in = has.table_in;
   locked = ap (λ (z : View). has_lock o z.log) begun ∙ may.locked;
   odd = ap (λ (z : View). is_writing o z.log) begun ∙ hit o true (is_writing o v.log);
-  root = ap (λ (z : View). root_in (held o z)) begun ∙ has.root;
+  root = ap (λ (z : View). root_in (held_words o z)) begun ∙ has.root;
 }

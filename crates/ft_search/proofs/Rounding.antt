@@ -6,7 +6,7 @@ use Rattle.ft_trace.specs.declared.Act.{Act}
 use Rattle.ft_trace.specs.declared.Act.TheVariants.{ReadBlock, ReadRoot, ReadTable, ReadCounter, Version}
 use Rattle.ft_trace.specs.declared.Shape.{Shape}
 use Rattle.ft_trace.specs.declared.View.{View}
-use Rattle.ft_trace.specs.Acts.{noted, reads, announces}
+use Rattle.ft_trace.specs.Acts.{view_after, reads, announces}
 use Rattle.ft_trace.specs.Addresses.{class_of, slots, IsTableName}
 use Rattle.ft_trace.specs.Pictures.{entry_offset}
 use Rattle.ft_trace.specs.LoggedReads.{Among, Between}
@@ -44,11 +44,11 @@ looks_append (act ∷ b) a x y = absurd x
 -- looks are loads and nothing else
 pub looks_load : (l : List Act) (v : View) → AreLooks l → OnlyLoaded v (noted_all l v)
 looks_load [] v q = record { work = same_work v; words = refl }
-looks_load (Version o f ∷ l) v q = loaded_then v (noted_all l v) (noted (Version o f) (noted_all l v)) (looks_load l v q) (loaded_by (Version o f) (noted_all l v) (noted (Version o f) (noted_all l v)) tt refl)
-looks_load (ReadBlock o i f ∷ l) v q = loaded_then v (noted_all l v) (noted (ReadBlock o i f) (noted_all l v)) (looks_load l v q) (loaded_by (ReadBlock o i f) (noted_all l v) (noted (ReadBlock o i f) (noted_all l v)) tt refl)
-looks_load (ReadRoot o f ∷ l) v q = loaded_then v (noted_all l v) (noted (ReadRoot o f) (noted_all l v)) (looks_load l v q) (loaded_by (ReadRoot o f) (noted_all l v) (noted (ReadRoot o f) (noted_all l v)) tt refl)
-looks_load (ReadTable t i f ∷ l) v q = loaded_then v (noted_all l v) (noted (ReadTable t i f) (noted_all l v)) (looks_load l v q) (loaded_by (ReadTable t i f) (noted_all l v) (noted (ReadTable t i f) (noted_all l v)) tt refl)
-looks_load (ReadCounter f ∷ l) v q = loaded_then v (noted_all l v) (noted (ReadCounter f) (noted_all l v)) (looks_load l v q) (loaded_by (ReadCounter f) (noted_all l v) (noted (ReadCounter f) (noted_all l v)) tt refl)
+looks_load (Version o f ∷ l) v q = loaded_then v (noted_all l v) (view_after (Version o f) (noted_all l v)) (looks_load l v q) (loaded_by (Version o f) (noted_all l v) (view_after (Version o f) (noted_all l v)) tt refl)
+looks_load (ReadBlock o i f ∷ l) v q = loaded_then v (noted_all l v) (view_after (ReadBlock o i f) (noted_all l v)) (looks_load l v q) (loaded_by (ReadBlock o i f) (noted_all l v) (view_after (ReadBlock o i f) (noted_all l v)) tt refl)
+looks_load (ReadRoot o f ∷ l) v q = loaded_then v (noted_all l v) (view_after (ReadRoot o f) (noted_all l v)) (looks_load l v q) (loaded_by (ReadRoot o f) (noted_all l v) (view_after (ReadRoot o f) (noted_all l v)) tt refl)
+looks_load (ReadTable t i f ∷ l) v q = loaded_then v (noted_all l v) (view_after (ReadTable t i f) (noted_all l v)) (looks_load l v q) (loaded_by (ReadTable t i f) (noted_all l v) (view_after (ReadTable t i f) (noted_all l v)) tt refl)
+looks_load (ReadCounter f ∷ l) v q = loaded_then v (noted_all l v) (view_after (ReadCounter f) (noted_all l v)) (looks_load l v q) (loaded_by (ReadCounter f) (noted_all l v) (view_after (ReadCounter f) (noted_all l v)) tt refl)
 looks_load (act ∷ l) v q = absurd q
 
 pub looks_announce : (l rest : List Act) → AreLooks l → announces (l ++ rest) ≡ announces rest

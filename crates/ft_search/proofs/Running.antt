@@ -4,7 +4,7 @@ use Rattle.ft_trace.specs.declared.Act.{Act}
 use Rattle.ft_trace.specs.declared.Act.TheVariants.{ReadRoot, ReadTable, ReadCounter, Version}
 use Rattle.ft_trace.specs.declared.Shape.{Shape}
 use Rattle.ft_trace.specs.declared.View.{View}
-use Rattle.ft_trace.specs.Acts.{noted, reads, announces}
+use Rattle.ft_trace.specs.Acts.{view_after, reads, announces}
 use Rattle.ft_trace.specs.LoggedLookUps.{Online, Inner, LookUpWindow}
 use Rattle.ft_trace.proofs.Cases.{hit}
 use Rattle.ft_keys.specs.declared.words.Access.{Access}
@@ -13,7 +13,7 @@ use Rattle.ft_keys.specs.Accesses.{Runs, IsLoad, AreLoads, AreAnswered, Tells, a
 use Rattle.ft_bank.specs.declared.pass.Pass.{Pass}
 use Rattle.ft_bank.specs.Passes.{shape_of, view}
 use Rattle.ft_bank.specs.Series.{noted_all, DidAll}
-use Rattle.ft_bank.specs.TableNames.{name_of}
+use Rattle.ft_bank.specs.TableNames.{table_id}
 use Rattle.ft_search.specs.declared.words.TableWords.{TableWords}
 use Rattle.ft_search.specs.TableWords.{access_act, SamePlace, KnowsWords, known_words, MadeAccess}
 use Rattle.ft_search.specs.KeyLooks.{AreLooks}
@@ -22,7 +22,7 @@ use Rattle.ft_search.specs.KeyLooks.{AreLooks}
 
 pub noted_append : (b a : List Act) (v : View) → noted_all (b ++ a) v ≡ noted_all b (noted_all a v)
 noted_append [] a v = refl
-noted_append (x ∷ b) a v = ap (noted x) (noted_append b a v)
+noted_append (x ∷ b) a v = ap (view_after x) (noted_append b a v)
 
 pub noted_log : (l : List Act) (v : View) → (noted_all l v).log ≡ l ++ v.log
 noted_log [] v = refl
@@ -46,22 +46,22 @@ pub same_trans : (r s t : TableWords) → SamePlace r s → SamePlace s t → Sa
 same_trans r s t a b = record { bank = b.bank ∙ a.bank; pass = b.pass ∙ a.pass; o = b.o ∙ a.o; table = b.table ∙ a.table; mask = b.mask ∙ a.mask; start = b.start ∙ a.start }
 
 -- what is said of the shape, the container and the table of one is said of the other
-pub at_same : (F : Shape → ℕ → ℕ → Type 0) (s t : TableWords) → SamePlace s t → F (shape_of t.bank.now) t.o (name_of t.table) → F (shape_of s.bank.now) s.o (name_of s.table)
-at_same F s t a = subst (λ (x : Shape × ℕ × ℕ). F x.0 x.1 x.2) (λ d. (shape_of (a.bank d).now, a.o d, name_of (a.table d)))
+pub at_same : (F : Shape → ℕ → ℕ → Type 0) (s t : TableWords) → SamePlace s t → F (shape_of t.bank.now) t.o (table_id t.table) → F (shape_of s.bank.now) s.o (table_id s.table)
+at_same F s t a = subst (λ (x : Shape × ℕ × ℕ). F x.0 x.1 x.2) (λ d. (shape_of (a.bank d).now, a.o d, table_id (a.table d)))
 
-pub back_same : (F : Shape → ℕ → ℕ → Type 0) (s t : TableWords) → SamePlace s t → F (shape_of s.bank.now) s.o (name_of s.table) → F (shape_of t.bank.now) t.o (name_of t.table)
-back_same F s t a = subst (λ (x : Shape × ℕ × ℕ). F x.0 x.1 x.2) (sym (λ d. (shape_of (a.bank d).now, a.o d, name_of (a.table d))))
+pub back_same : (F : Shape → ℕ → ℕ → Type 0) (s t : TableWords) → SamePlace s t → F (shape_of s.bank.now) s.o (table_id s.table) → F (shape_of t.bank.now) t.o (table_id t.table)
+back_same F s t a = subst (λ (x : Shape × ℕ × ℕ). F x.0 x.1 x.2) (sym (λ d. (shape_of (a.bank d).now, a.o d, table_id (a.table d))))
 
 -- ---- calls on words
 
-pub ran : (s : TableWords) (calls : List Access) (t : TableWords) → Runs MadeAccess s calls t → SamePlace s t × DidAll (map (access_act s.o (name_of s.table)) calls) s.pass.now t.pass.now
+pub ran : (s : TableWords) (calls : List Access) (t : TableWords) → Runs MadeAccess s calls t → SamePlace s t × DidAll (map (access_act s.o (table_id s.table)) calls) s.pass.now t.pass.now
 ran s [] t r = subst (λ (z : TableWords). SamePlace s z × DidAll [] s.pass.now z.pass.now) r (same_self s, did_none s.pass.now)
 ran s (a ∷ calls) t r =
     let m = r.0 in
     let old = ran s calls m r.1 in
     let g = r.2 in
-    let act : DidAll (access_act s.o (name_of s.table) a ∷ []) m.pass.now t.pass.now = at_same (λ k o n. DidAll (access_act o n a ∷ []) m.pass.now t.pass.now) s m old.0 g.did in
-    (same_trans s m t old.0 g.same, did_trans (access_act s.o (name_of s.table) a ∷ []) (map (access_act s.o (name_of s.table)) calls) s.pass.now m.pass.now t.pass.now old.1 act)
+    let act : DidAll (access_act s.o (table_id s.table) a ∷ []) m.pass.now t.pass.now = at_same (λ k o n. DidAll (access_act o n a ∷ []) m.pass.now t.pass.now) s m old.0 g.did in
+    (same_trans s m t old.0 g.same, did_trans (access_act s.o (table_id s.table) a ∷ []) (map (access_act s.o (table_id s.table)) calls) s.pass.now m.pass.now t.pass.now old.1 act)
 
 -- ---- loads that read no root and announce nothing
 

@@ -17,7 +17,7 @@ use Rattle.ft_keys.specs.Loads.{Loads, TriesSlots, unpassed, NamesEntry}
 use Rattle.ft_keys.proofs.Loading.{loads-are}
 use Rattle.ft_bank.specs.Passes.{shape_of}
 use Rattle.ft_bank.specs.Series.{DidAll}
-use Rattle.ft_bank.specs.TableNames.{name_of}
+use Rattle.ft_bank.specs.TableNames.{table_id}
 use Rattle.ft_search.specs.declared.words.TableWords.{TableWords}
 use Rattle.ft_search.specs.declared.looks.Looked.{Looked}
 use Rattle.ft_search.specs.declared.looks.Looked.TheVariants.{Absent}
@@ -30,20 +30,20 @@ use Rattle.ft_search.proofs.SearchEnds.{closes_free, closes_full}
 -- the pass loaded the counter and searched on
 pub record Sought (s0 s2 : TableWords) (key : Key) (number : ℕ) (first left : List ℕ) (found : Found) : Type 0 where
   pub calls : List Access
-  pub did : DidAll (map (access_act s0.o (name_of s0.table)) calls ++ ReadCounter number ∷ []) s0.pass.now s2.pass.now
-  pub inner : Inner (map (access_act s0.o (name_of s0.table)) calls ++ ReadCounter number ∷ [])
+  pub did : DidAll (map (access_act s0.o (table_id s0.table)) calls ++ ReadCounter number ∷ []) s0.pass.now s2.pass.now
+  pub inner : Inner (map (access_act s0.o (table_id s0.table)) calls ++ ReadCounter number ∷ [])
   pub loads : Loads s0.mask key first left found calls
 
 pub sought : (s0 s1 s2 : TableWords) (key : Key) (number : ℕ) (first left : List ℕ) (found : Found) → SamePlace s0 s1 → DidAll (ReadCounter number ∷ []) s0.pass.now s1.pass.now
-    → ((calls : List Access) × DidAll (map (access_act s1.o (name_of s1.table)) calls) s1.pass.now s2.pass.now × Loads s1.mask key first left found calls) → Sought s0 s2 key number first left found
+    → ((calls : List Access) × DidAll (map (access_act s1.o (table_id s1.table)) calls) s1.pass.now s2.pass.now × Loads s1.mask key first left found calls) → Sought s0 s2 key number first left found
 sought s0 s1 s2 key number first left found same stamped new =
-    let f = access_act s0.o (name_of s0.table) in
+    let f = access_act s0.o (table_id s0.table) in
     let did : DidAll (map f new.0) s1.pass.now s2.pass.now = at_same (λ k o t. DidAll (map (access_act o t) new.0) s1.pass.now s2.pass.now) s0 s1 same new.1 in
     let loads : Loads s0.mask key first left found new.0 = subst (λ (z : ℕ). Loads z key first left found new.0) same.mask new.2 in
     record {
       calls = new.0;
       did = did_trans (map f new.0) (ReadCounter number ∷ []) s0.pass.now s1.pass.now s2.pass.now stamped did;
-      inner = inner_append (map f new.0) (ReadCounter number ∷ []) (inner_calls s0.o (name_of s0.table) new.0 (loads-are s0.mask key first left found new.0 loads)) tt;
+      inner = inner_append (map f new.0) (ReadCounter number ∷ []) (inner_calls s0.o (table_id s0.table) new.0 (loads-are s0.mask key first left found new.0 loads)) tt;
       loads = loads;
     }
 
@@ -55,7 +55,7 @@ module _ (s0 s2 : TableWords) (key : Key) (number : ℕ) (first left : List ℕ)
   o = s0.o
 
   abbrev t : ℕ
-  t = name_of s0.table
+  t = table_id s0.table
 
   abbrev f : Access → Act
   f = access_act o t
@@ -93,12 +93,12 @@ module _ (s0 s2 : TableWords) (key : Key) (number : ℕ) (first left : List ℕ)
       )
 
 -- the search ended at the slot that the one before it ended at, which was never used
-pub free_again : (s0 s2 : TableWords) (key : Key) (number slot : ℕ) (first left : List ℕ) (s : Sought s0 s2 key number first left (Free slot)) (part : List Act) → length first ≤ length left → Walked (shape_of s0.bank.now) s0.o (name_of s0.table) key part first
-    → TurnsAfter (shape_of s0.bank.now) s0.o (name_of s0.table) key part left (Some (Absent number)) s0.pass.now s2.pass.now
+pub free_again : (s0 s2 : TableWords) (key : Key) (number slot : ℕ) (first left : List ℕ) (s : Sought s0 s2 key number first left (Free slot)) (part : List Act) → length first ≤ length left → Walked (shape_of s0.bank.now) s0.o (table_id s0.table) key part first
+    → TurnsAfter (shape_of s0.bank.now) s0.o (table_id s0.table) key part left (Some (Absent number)) s0.pass.now s2.pass.now
 free_again s0 s2 key number slot first left s part long w =
     let k = shape_of s0.bank.now in
     let o = s0.o in
-    let t = name_of s0.table in
+    let t = table_id s0.table in
     let f = access_act o t in
     let h = s.loads in
     let none = none_passed h.passed left first h.split long in
@@ -110,12 +110,12 @@ free_again s0 s2 key number slot first left s part long w =
     (own_acts, s.inner, s.did, subst (λ (z : List Act). ClosesAt k o t key z (Absent number)) whole (closes_free k o t key number slot first h.ends.0 part w same))
 
 -- every slot was passed; then the counter was loaded
-pub spent_at : (s0 s2 s3 : TableWords) (key : Key) (number last : ℕ) (first left : List ℕ) (s : Sought s0 s2 key number first left Spent) (part : List Act) → rows (kind_in (shape_of s0.bank.now).starts s0.o) (class_of (name_of s0.table)) ≤ dict_room s0.mask
-    → DidAll (ReadCounter last ∷ []) s2.pass.now s3.pass.now → Walked (shape_of s0.bank.now) s0.o (name_of s0.table) key part first
-    → TurnsAfter (shape_of s0.bank.now) s0.o (name_of s0.table) key part left (Some (Absent last)) s0.pass.now s3.pass.now
+pub spent_at : (s0 s2 s3 : TableWords) (key : Key) (number last : ℕ) (first left : List ℕ) (s : Sought s0 s2 key number first left Spent) (part : List Act) → rows (kind_in (shape_of s0.bank.now).starts s0.o) (class_of (table_id s0.table)) ≤ dict_room s0.mask
+    → DidAll (ReadCounter last ∷ []) s2.pass.now s3.pass.now → Walked (shape_of s0.bank.now) s0.o (table_id s0.table) key part first
+    → TurnsAfter (shape_of s0.bank.now) s0.o (table_id s0.table) key part left (Some (Absent last)) s0.pass.now s3.pass.now
 spent_at s0 s2 s3 key number last first left s part few stamped w =
     let o = s0.o in
-    let t = name_of s0.table in
+    let t = table_id s0.table in
     let own_acts : List Act = map (access_act o t) s.calls ++ ReadCounter number ∷ [] in (
       ReadCounter last ∷ own_acts,
       s.inner,

@@ -15,11 +15,11 @@ use Rattle.ft_trace.specs.declared.Act.{Act}
 use Rattle.ft_trace.specs.declared.Act.TheVariants.{ReadBlock, ReadRoot, ReadTable, ReadCounter, Version, Answer}
 use Rattle.ft_trace.specs.declared.Shape.{Shape}
 use Rattle.ft_trace.specs.declared.View.{View}
-use Rattle.ft_trace.specs.Acts.{noted, reads}
+use Rattle.ft_trace.specs.Acts.{view_after, reads}
 use Rattle.ft_trace.specs.Addresses.{class_of, slots}
 use Rattle.ft_trace.specs.LoggedLookUps.{Inner}
 use Rattle.ft_trace.specs.Kinds.{IsKeyed}
-use Rattle.ft_trace.specs.Traces.{Possible}
+use Rattle.ft_trace.specs.Traces.{IsReachable}
 use Rattle.ft_trace.specs.Pictures.{entry_offset}
 use Rattle.ft_trace.specs.ContainerStates.{kind_in}
 use Rattle.ft_keys.specs.declared.walk.Way.{Way}
@@ -35,7 +35,7 @@ use Rattle.ft_keys.proofs.Reaching.{walk-within}
 use Rattle.ft_bank.specs.declared.pass.Pass.{Pass}
 use Rattle.ft_bank.specs.Passes.{shape_of, view}
 use Rattle.ft_bank.specs.Series.{DidAll, noted_all}
-use Rattle.ft_bank.specs.TableNames.{name_of}
+use Rattle.ft_bank.specs.TableNames.{table_id}
 use Rattle.ft_search.specs.declared.words.TableWords.{TableWords}
 use Rattle.ft_search.specs.declared.looks.Looked.{Looked}
 use Rattle.ft_search.specs.declared.reading.SeenEntry.{SeenEntry}
@@ -69,9 +69,9 @@ versions_none t place a b u = index_entry u t place 0 b (ReadTable t (entry_offs
 pub version_none : (t place a : ℕ) → LoadsNoIndex (ReadTable t (entry_offset (slots (class_of t)) place 0) a ∷ [])
 version_none t place a u = index_entry u t place 0 a []
 
-module _ (s0 s2 : TableWords) (key : Key) (number : ℕ) (first left : List ℕ) (found : Found) (s : Sought s0 s2 key number first left found) (walked : List ℕ) (acts : List Act) (may : MayWalkOn (name_of s0.table) walked acts first) where
+module _ (s0 s2 : TableWords) (key : Key) (number : ℕ) (first left : List ℕ) (found : Found) (s : Sought s0 s2 key number first left found) (walked : List ℕ) (acts : List Act) (may : MayWalkOn (table_id s0.table) walked acts first) where
   abbrev t : ℕ
-  t = name_of s0.table
+  t = table_id s0.table
 
   abbrev calls : List Act
   calls = map (access_act s0.o t) s.calls
@@ -105,7 +105,7 @@ counted_or t u i f acts P mine other =
     (λ high. subst P (sym (index_past t u i f acts (subst (λ (z : ℕ). slots (class_of z) ≤ i) (sym e) (let z : slots (class_of t) ≤ i = omega (arith, high) in z)))) other))
     (λ ne. subst P (sym (index_other t u i f acts ne)) other)
 
-module _ (v : View) (possible : ∥ Possible v ∥₁) (o t : ℕ) (keyed : IsKeyed (kind_in v.shape.starts o)) (rest : List Act) where
+module _ (v : View) (possible : ∥ IsReachable v ∥₁) (o t : ℕ) (keyed : IsKeyed (kind_in v.shape.starts o)) (rest : List Act) where
   abbrev base : List Act
   base = ReadRoot o (suc t) ∷ rest
 
@@ -180,7 +180,7 @@ no_reads : (t : ℕ) (acts : List Act) → indexed t acts ≡ [] → index_reads
 no_reads t acts none = count_is t acts ∙ ap index_loads none
 
 -- the loads of a walk in the table that the root named
-pub walk_round : (v : View) → ∥ Possible v ∥₁ → (o t : ℕ) (way : Way) (hash mask : ℕ) (walk left : List ℕ) (part rest : List Act) → kind_in v.shape.starts o ≡ kind_by way → walk ≡ walk_slots way hash mask → slots (class_of t) ≡ mask + 1
+pub walk_round : (v : View) → ∥ IsReachable v ∥₁ → (o t : ℕ) (way : Way) (hash mask : ℕ) (walk left : List ℕ) (part rest : List Act) → kind_in v.shape.starts o ≡ kind_by way → walk ≡ walk_slots way hash mask → slots (class_of t) ≡ mask + 1
     → v.log ≡ part ++ ReadRoot o (suc t) ∷ rest → Inner part → WalksOn t walk part left → IsRound way (suc t) part
 walk_round v possible o t way hash mask walk left part rest kind is last log inner on =
     let keyed = kind_keyed way (kind_in v.shape.starts o) kind in
@@ -232,10 +232,10 @@ own_reads t (act ∷ acts) rest q none = absurd q
 -- ---- a walk over the words of a table that the root named
 
 -- the round is known in two ways: by what it shows, and by what it spends
-pub searched_round : (s0 s1 : TableWords) (way : Way) (hash root : ℕ) (walk left : List ℕ) (part spent rest : List Act) → CanLoad s0 → CanLoad s1 → kind_in (shape_of s0.bank.now).starts s0.o ≡ kind_by way → root ≡ suc (name_of s0.table)
-    → walk ≡ walk_slots way hash s0.mask → (view s0.pass.now).log ≡ ReadRoot s0.o root ∷ rest → Inner part → DidAll part s0.pass.now s1.pass.now → DidAll spent s0.pass.now s1.pass.now → WalksOn (name_of s0.table) walk spent left → IsRound way root part
+pub searched_round : (s0 s1 : TableWords) (way : Way) (hash root : ℕ) (walk left : List ℕ) (part spent rest : List Act) → CanLoad s0 → CanLoad s1 → kind_in (shape_of s0.bank.now).starts s0.o ≡ kind_by way → root ≡ suc (table_id s0.table)
+    → walk ≡ walk_slots way hash s0.mask → (view s0.pass.now).log ≡ ReadRoot s0.o root ∷ rest → Inner part → DidAll part s0.pass.now s1.pass.now → DidAll spent s0.pass.now s1.pass.now → WalksOn (table_id s0.table) walk spent left → IsRound way root part
 searched_round s0 s1 way hash root walk left part spent rest can now kind named is last inner did did_spent on =
-    let t = name_of s0.table in
+    let t = table_id s0.table in
     let k = shape_of s0.bank.now in
     let p = s0.pass.now in
     let q = s1.pass.now in
@@ -247,7 +247,7 @@ searched_round s0 s1 way hash root walk left part spent rest can now kind named 
     (walk_round (view q) q.possible s0.o t way hash s0.mask walk left part rest kind_here is (slots_is k s0.table s0.mask can.table can.mask) log inner (subst (λ (z : List Act). WalksOn t walk z left) same on))
 
 -- the entry of the call loads nothing
-pub rounds_answered : (way : Way) (o : ℕ) (v w z : View) (called : Call) (said : Reply) (number : ℕ) → z ≡ noted (Answer called said number) w → LoadsRounds way o v w → LoadsRounds way o v z
+pub rounds_answered : (way : Way) (o : ℕ) (v w z : View) (called : Call) (said : Reply) (number : ℕ) → z ≡ view_after (Answer called said number) w → LoadsRounds way o v w → LoadsRounds way o v z
 rounds_answered way o v w z called said number is h =
     let r = h.2 in
     let answer : List Act = Answer called said number ∷ [] in (

@@ -20,15 +20,15 @@ use Rattle.ft_trace.specs.declared.Shape.{Shape}
 use Rattle.ft_trace.specs.declared.View.{View}
 use Rattle.ft_trace.specs.Addresses.{class_of, slots}
 use Rattle.ft_trace.specs.Carefuls.{HasLiveKey}
-use Rattle.ft_trace.specs.Holds.{held, known}
+use Rattle.ft_trace.specs.Holds.{held_words, known_state}
 use Rattle.ft_trace.specs.Kinds.{rows}
-use Rattle.ft_trace.specs.Pictures.{Picture, root_in, entry_field, Stands}
+use Rattle.ft_trace.specs.Pictures.{ContainerWords, root_in, entry_field, Represents}
 use Rattle.ft_trace.specs.ContainerStates.{ContainerState, kind_in}
 use Rattle.ft_trace.proofs.DictWrites as dict
 use Rattle.ft_trace.proofs.SetKnown as set
 use Rattle.ft_trace.proofs.Known.{class_known}
 use Rattle.ft_bank.specs.declared.table.Table.{Table}
-use Rattle.ft_bank.specs.TableNames.{name_of, IsTableIn}
+use Rattle.ft_bank.specs.TableNames.{table_id, IsTableIn}
 use Rattle.ft_bank.specs.Whole.{OnlyLoaded}
 use Rattle.ft_bank.proofs.TableAddresses.{class_is}
 use Rattle.ft_bank.proofs.KnownAfterWrites.{loaded_held, work_knows}
@@ -46,7 +46,7 @@ abbrev pub FirstFreeSlots : Type 0
 FirstFreeSlots = (mask : ℕ) (words : List ℕ) (key : Key) (first left : List ℕ) (slot : ℕ) → EndsAt mask words key first left (Free slot) → FirstFree words first (Some slot)
 
 -- in the table of a container whose words stand for this
-module _ (first_pair : dict.FirstEntriesArePairs) (first_element : set.FirstEntriesAreElements) (k : Shape) (x : Picture) (kept : ContainerState) (key : Key) (table : Table) (in_bank : IsTableIn k table) (names : root_in x ≡ suc (name_of table)) (stands : Stands k.texts x kept) (low : hash_of k.texts key < 2 ^ 64) (left : List ℕ) where
+module _ (first_pair : dict.FirstEntriesArePairs) (first_element : set.FirstEntriesAreElements) (k : Shape) (x : ContainerWords) (kept : ContainerState) (key : Key) (table : Table) (in_bank : IsTableIn k table) (names : root_in x ≡ suc (table_id table)) (stands : Represents k.texts x kept) (low : hash_of k.texts key < 2 ^ 64) (left : List ℕ) where
   abbrev c : ℕ
   c = table.class
 
@@ -59,11 +59,11 @@ module _ (first_pair : dict.FirstEntriesArePairs) (first_element : set.FirstEntr
   abbrev mask : ℕ
   mask = class_mask c
 
-  same_class : class_of (name_of table) ≡ c
+  same_class : class_of (table_id table) ≡ c
   same_class = class_is table in_bank.2
 
   class_some : kept.table.class ≡ Some c
-  class_some = class_known k.texts x kept (name_of table) stands names ∙ ap Some same_class
+  class_some = class_known k.texts x kept (table_id table) stands names ∙ ap Some same_class
 
   word_is : (place w : ℕ) → entry_word mask words place w ≡ entry_field (slots c) ws place w
   word_is place w = entry_after_header ws mask place w ∙ ap (slice_index ws) (let n = slots_of_class c in let e : 8 * place + w + mask + 1 ≡ 8 * place + w + slots c = omega (arith, n) in e)
@@ -74,13 +74,13 @@ module _ (first_pair : dict.FirstEntriesArePairs) (first_element : set.FirstEntr
   set_says : (elements : SetContent) → kept.content ≡ content.Set elements → IsSetWords k.texts x.block words (Some c) kept.table.fill elements
   set_says elements is = subst (λ (z : Option ℕ). IsSetWords k.texts x.block words z kept.table.fill elements) class_some (subst (λ (z : Content). StandsAs k.texts x.block words kept.table z) is stands)
 
-  here_is : (w : Way) (slot place : ℕ) → place < rows (kind_by w) c → Searched mask words key (walk_slots w (hash_of k.texts key) mask) left (At slot place) → (place < rows (kind_by w) (class_of (name_of table))) × HasLiveKey (slots (class_of (name_of table))) ws place key
+  here_is : (w : Way) (slot place : ℕ) → place < rows (kind_by w) c → Searched mask words key (walk_slots w (hash_of k.texts key) mask) left (At slot place) → (place < rows (kind_by w) (class_of (table_id table))) × HasLiveKey (slots (class_of (table_id table))) ws place key
   here_is w slot place inside s =
       let has = s.ends.4 in
       subst (λ (z : ℕ). (place < rows (kind_by w) z) × HasLiveKey (slots z) ws place key) (sym same_class) (inside, (sym (word_is place 2) ∙ has.0, sym (word_is place 3) ∙ has.1))
 
   -- the entry at which a search ended
-  pub entry_found : (w : Way) → IsOfWay w kept.content → (slot place : ℕ) → Searched mask words key (walk_slots w (hash_of k.texts key) mask) left (At slot place) → (place < rows (kind_by w) (class_of (name_of table))) × HasLiveKey (slots (class_of (name_of table))) ws place key
+  pub entry_found : (w : Way) → IsOfWay w kept.content → (slot place : ℕ) → Searched mask words key (walk_slots w (hash_of k.texts key) mask) left (At slot place) → (place < rows (kind_by w) (class_of (table_id table))) × HasLiveKey (slots (class_of (table_id table))) ws place key
   entry_found way.Dict is slot place s =
       let says = dict_says is.0 is.1 in
       let finds = s.finds way.Dict k.texts says.used says.table low refl in
@@ -97,9 +97,9 @@ module _ (first_pair : dict.FirstEntriesArePairs) (first_element : set.FirstEntr
       here_is way.Set slot place (omega (arith, room, few, inside)) s
 
   -- the words of its value
-  pub value_read : (slot place : ℕ) (read : ℕ × ℕ) → ReadsEntry mask words (At slot place) (Some read) → (read.0 ≡ entry_field (slots (class_of (name_of table))) ws place 4) × (read.1 ≡ entry_field (slots (class_of (name_of table))) ws place 5)
+  pub value_read : (slot place : ℕ) (read : ℕ × ℕ) → ReadsEntry mask words (At slot place) (Some read) → (read.0 ≡ entry_field (slots (class_of (table_id table))) ws place 4) × (read.1 ≡ entry_field (slots (class_of (table_id table))) ws place 5)
   value_read slot place read reads =
-      let at : c ≡ class_of (name_of table) = sym same_class in
+      let at : c ≡ class_of (table_id table) = sym same_class in
       (reads.0 ∙ (word_is place 4 ∙ ap (λ (z : ℕ). entry_field (slots z) ws place 4) at), reads.1 ∙ (word_is place 5 ∙ ap (λ (z : ℕ). entry_field (slots z) ws place 5) at))
 
   -- no search is spent
@@ -107,10 +107,10 @@ module _ (first_pair : dict.FirstEntriesArePairs) (first_element : set.FirstEntr
   none_spent way.Dict is s = let says = dict_says is.0 is.1 in s.finds way.Dict k.texts says.used says.table low refl
   none_spent way.Set is s = let says = set_says is.0 is.1 in s.finds way.Set k.texts says.used says.table low refl
 
-module _ (missing_key : MissingKeys) (missing_element : MissingElements) (first_pair : dict.FirstEntriesArePairs) (first_element : set.FirstEntriesAreElements) (free : FirstFreeSlots) (k : Shape) (o : ℕ) (key : Key) (v : View) (by : Way) (table : Table) (in_bank : IsTableIn k table) (names : root_in (held o v) ≡ suc (name_of table)) (stands : Stands k.texts (held o v) (known o v))
-    (of : IsOfWay by (known o v).content) (kind_eq : kind_in k.starts o ≡ kind_by by) (fits : FitsKey key) (low : hash_of k.texts key < 2 ^ 64) (left : List ℕ) where
-  abbrev x : Picture
-  x = held o v
+module _ (missing_key : MissingKeys) (missing_element : MissingElements) (first_pair : dict.FirstEntriesArePairs) (first_element : set.FirstEntriesAreElements) (free : FirstFreeSlots) (k : Shape) (o : ℕ) (key : Key) (v : View) (by : Way) (table : Table) (in_bank : IsTableIn k table) (names : root_in (held_words o v) ≡ suc (table_id table)) (stands : Represents k.texts (held_words o v) (known_state o v))
+    (of : IsOfWay by (known_state o v).content) (kind_eq : kind_in k.starts o ≡ kind_by by) (fits : FitsKey key) (low : hash_of k.texts key < 2 ^ 64) (left : List ℕ) where
+  abbrev x : ContainerWords
+  x = held_words o v
 
   abbrev last : ℕ
   last = class_mask table.class
@@ -120,15 +120,15 @@ module _ (missing_key : MissingKeys) (missing_element : MissingElements) (first_
 
   pub spot_is : (found : Found) (read : Option (ℕ × ℕ)) → IsWithin last found → ((slot place : ℕ) → found ≢ Was slot place) → ReadsEntry last (0 ∷ 0 ∷ x.table) found read → Searched last (0 ∷ 0 ∷ x.table) key (walk_slots by (hash_of k.texts key) last) left found → IsSpot k o by key v (spot_in table found read)
   spot_is (At slot place) (Some read) within live reads s =
-      let e = entry_found first_pair first_element k x (known o v) key table in_bank names stands low left by of slot place s in
-      let value = value_read first_pair first_element k x (known o v) key table in_bank names stands low left slot place read reads in (
+      let e = entry_found first_pair first_element k x (known_state o v) key table in_bank names stands low left by of slot place s in
+      let value = value_read first_pair first_element k x (known_state o v) key table in_bank names stands low left slot place read reads in (
         has_it,
         record {
-          low = subst (λ (z : Kind). place < rows z (class_of (name_of table))) (sym kind_eq) e.0;
+          low = subst (λ (z : Kind). place < rows z (class_of (table_id table))) (sym kind_eq) e.0;
           live = e.1;
           fits = fits;
         },
-        key_held missing_key missing_element k.texts x (known o v) stands key first_pair first_element k table in_bank names low left (At slot place) (Some read) live reads by of s,
+        key_held missing_key missing_element k.texts x (known_state o v) stands key first_pair first_element k table in_bank names low left (At slot place) (Some read) live reads by of s,
         value.0,
         value.1,
       )
@@ -139,14 +139,14 @@ module _ (missing_key : MissingKeys) (missing_element : MissingElements) (first_
     has_it,
     within,
     free last (0 ∷ 0 ∷ x.table) key (walk_slots by (hash_of k.texts key) last) left slot s.ends,
-    key_held missing_key missing_element k.texts x (known o v) stands key first_pair first_element k table in_bank names low left (Free slot) None live reads by of s,
+    key_held missing_key missing_element k.texts x (known_state o v) stands key first_pair first_element k table in_bank names low left (Free slot) None live reads by of s,
   )
-  spot_is Spent read within live reads s = absurd (none_spent first_pair first_element k x (known o v) key table in_bank names stands low left by of s)
+  spot_is Spent read within live reads s = absurd (none_spent first_pair first_element k x (known_state o v) key table in_bank names stands low left by of s)
 
 -- ---- after loads
 
 module _ (k : Shape) (o : ℕ) (v w : View) (only : OnlyLoaded v w) where
-  same : (held o v ≡ held o w) × (known o v ≡ known o w)
+  same : (held_words o v ≡ held_words o w) × (known_state o v ≡ known_state o w)
   same = (sym (loaded_held v w o only), sym (work_knows v w o only.work))
 
   pub may_loaded : MayWriteEntries k o v → MayWriteEntries k o w
@@ -155,7 +155,7 @@ module _ (k : Shape) (o : ℕ) (v w : View) (only : OnlyLoaded v w) where
     keyed = may.keyed;
     locked = only.work.pass.locks o ∙ may.locked;
     even = only.work.pass.writes o ∙ may.even;
-    stands = subst (λ (z : Picture × ContainerState). Stands k.texts z.0 z.1) (λ d. (same.0 d, same.1 d)) may.stands;
+    stands = subst (λ (z : ContainerWords × ContainerState). Represents k.texts z.0 z.1) (λ d. (same.0 d, same.1 d)) may.stands;
     owes = only.work.owes ∙ may.owes;
     left = subst (λ (z : ℕ). 0 < z) (sym only.work.left) may.left;
   }
@@ -166,7 +166,7 @@ module _ (k : Shape) (o : ℕ) (v w : View) (only : OnlyLoaded v w) where
   entry_loaded : (table : Table) (place : ℕ) (key : Key) → IsLiveEntry k o table place key v → IsLiveEntry k o table place key w
   entry_loaded table place key e = record {
     low = e.low;
-    live = subst (λ (z : Picture). HasLiveKey (slots (class_of (name_of table))) z.table place key) same.0 e.live;
+    live = subst (λ (z : ContainerWords). HasLiveKey (slots (class_of (table_id table))) z.table place key) same.0 e.live;
     fits = e.fits;
   }
 
@@ -175,13 +175,13 @@ module _ (k : Shape) (o : ℕ) (v w : View) (only : OnlyLoaded v w) where
     table_loaded table s.0,
     entry_loaded table place key s.1,
     subst (λ (z : ContainerState). IsHeldAt z.content key (Some (kind, payload))) same.1 s.2,
-    subst (λ (z : Picture). kind ≡ entry_field (slots (class_of (name_of table))) z.table place 4) same.0 s.3,
-    subst (λ (z : Picture). payload ≡ entry_field (slots (class_of (name_of table))) z.table place 5) same.0 s.4,
+    subst (λ (z : ContainerWords). kind ≡ entry_field (slots (class_of (table_id table))) z.table place 4) same.0 s.3,
+    subst (λ (z : ContainerWords). payload ≡ entry_field (slots (class_of (table_id table))) z.table place 5) same.0 s.4,
   )
   spot_loaded way key (spot.Free table slot) s = (
     table_loaded table s.0,
     s.1,
-    subst (λ (z : Picture). FirstFree (0 ∷ 0 ∷ z.table) (walk_slots way (hash_of k.texts key) (class_mask table.class)) (Some slot)) same.0 s.2,
+    subst (λ (z : ContainerWords). FirstFree (0 ∷ 0 ∷ z.table) (walk_slots way (hash_of k.texts key) (class_mask table.class)) (Some slot)) same.0 s.2,
     subst (λ (z : ContainerState). IsHeldAt z.content key None) same.1 s.3,
   )
   spot_loaded way key spot.Bare s = (ap root_in (sym same.0) ∙ s.0, subst (λ (z : ContainerState). IsHeldAt z.content key None) same.1 s.1)

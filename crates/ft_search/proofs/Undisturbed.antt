@@ -8,12 +8,12 @@ use Rattle.ft_trace.specs.declared.Act.{Act}
 use Rattle.ft_trace.specs.declared.Act.TheVariants.{ReadBlock, ReadRoot, ReadTable, ReadCounter, Version}
 use Rattle.ft_trace.specs.declared.Shape.{Shape}
 use Rattle.ft_trace.specs.declared.View.{View}
-use Rattle.ft_trace.specs.Addresses.{at, block, cell, class_of, containers_in, counter, slots, version_of, IsTableName}
+use Rattle.ft_trace.specs.Addresses.{at, block, cell, class_of, container_count, counter, slots, version_of, IsTableName}
 use Rattle.ft_trace.specs.Acts.{floor_words, place, Reports}
 use Rattle.ft_trace.specs.Floors.{FoundAsKnown}
 use Rattle.ft_trace.specs.Kinds.{IsKeyed, rows, version_at}
 use Rattle.ft_trace.specs.LoggedReads.{Among}
-use Rattle.ft_trace.specs.Traces.{Event, Possible, run, word}
+use Rattle.ft_trace.specs.Traces.{Event, IsReachable, run, word}
 use Rattle.ft_trace.specs.Pictures.{entry_offset}
 use Rattle.ft_trace.specs.ContainerStates.{kind_in}
 use Rattle.ft_trace.proofs.ByKind.{row_low}
@@ -73,7 +73,7 @@ module _ (k : Shape) (n : ℕ) where
 
 -- ---- with the floor
 
-module _ (w : View) (part : List Act) (p : Possible w) (l : LooksWithFloor w part) where
+module _ (w : View) (part : List Act) (p : IsReachable w) (l : LooksWithFloor w part) where
   abbrev k : Shape
   k = w.shape
 
@@ -88,7 +88,7 @@ module _ (w : View) (part : List Act) (p : Possible w) (l : LooksWithFloor w par
       subst (λ (ws : List ℕ). Reports a (slice_index ws (at k (place a)))) same
       (each_found k w.number m.newer a m.rest l.older (subst AreLooks m.is l.looks) (subst (λ (x : List Act). FoundAsKnown k w.number (x ++ l.older)) m.is known))
 
-  pub even_now : (o : ℕ) → o < containers_in k → word k es (version_of o) % 2 ≡ 0
+  pub even_now : (o : ℕ) → o < container_count k → word k es (version_of o) % 2 ≡ 0
   even_now o low =
       let now : floor_words k w.number w.log ≡ (run k es).words = ((floored k es p.2.0 p.1 w p.2.1).has l.floor).1 in
       ap (λ (ws : List ℕ). slice_index ws (at k (version_of o)) % 2) (sym now) ∙ versions_even k es p.2.0 p.1 w p.2.1 l.floor o low (l.still o)
@@ -117,7 +117,7 @@ keyed_at kind.List is c place = absurd is
 keyed_at (kind.Deque bound) is c place = absurd is
 
 -- the version of a row of the table that a root was found to name
-pub even_row : (w : View) (part : List Act) (p : Possible w) → LooksWithFloor w part → (o t row : ℕ) → o < containers_in w.shape → Among (ReadRoot o (suc t)) part → row < rows (kind_in w.shape.starts o) (class_of t)
+pub even_row : (w : View) (part : List Act) (p : IsReachable w) → LooksWithFloor w part → (o t row : ℕ) → o < container_count w.shape → Among (ReadRoot o (suc t)) part → row < rows (kind_in w.shape.starts o) (class_of t)
     → word w.shape p.0 (cell t (version_at (kind_in w.shape.starts o) (class_of t) row)) % 2 ≡ 0
 even_row w part p l o t row low named in_table =
     let k = w.shape in

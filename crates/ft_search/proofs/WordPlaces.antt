@@ -18,7 +18,7 @@ use Rattle.ft_trace.specs.Pictures.{walk_of}
 use Rattle.ft_trace.specs.Kinds.{rows}
 use Rattle.ft_search.specs.Rounds.{kind_by}
 use Rattle.ft_bank.specs.declared.table.Table.{Table}
-use Rattle.ft_bank.specs.TableNames.{name_of, IsTableIn}
+use Rattle.ft_bank.specs.TableNames.{table_id, IsTableIn}
 use Rattle.ft_bank.proofs.TableAddresses.{class_is}
 
 -- a table has some slots
@@ -26,15 +26,15 @@ pow_some : (c : ℕ) → 0 < 2 ^ c
 pow_some zero = omega arith
 pow_some (suc c) = let h = pow_some c in let p = pow-suc 2 c in omega (arith, h, p)
 
-pub slots_is : (k : Shape) (t : Table) (mask : ℕ) → IsTableIn k t → mask ≡ class_mask t.class → slots (class_of (name_of t)) ≡ mask + 1
+pub slots_is : (k : Shape) (t : Table) (mask : ℕ) → IsTableIn k t → mask ≡ class_mask t.class → slots (class_of (table_id t)) ≡ mask + 1
 unfolding slots
 slots_is k t mask is last =
     let c = class_is t is.2 in
-    let e : 2 ^ class_of (name_of t) ≡ 2 ^ t.class = ap (λ (z : ℕ). 2 ^ z) c in
+    let e : 2 ^ class_of (table_id t) ≡ 2 ^ t.class = ap (λ (z : ℕ). 2 ^ z) c in
     let p = pow_some t.class in
     omega (arith, e, p, last)
 
-pub places_is : (k : Shape) (t : Table) (mask : ℕ) → IsTableIn k t → mask ≡ class_mask t.class → places (class_of (name_of t)) ≡ dict_room mask
+pub places_is : (k : Shape) (t : Table) (mask : ℕ) → IsTableIn k t → mask ≡ class_mask t.class → places (class_of (table_id t)) ≡ dict_room mask
 unfolding places
 places_is k t mask is last =
     let c = class_is t is.2 in
@@ -42,14 +42,14 @@ places_is k t mask is last =
     let e : 2 ^ t.class ≡ mask + 1 = omega (arith, p, last) in
     ap dict_entries c ∙ ap (λ (z : ℕ). 2 * z / 3) e
 
-pub slot_in : (k : Shape) (t : Table) (mask slot : ℕ) → IsTableIn k t → mask ≡ class_mask t.class → slot ≤ mask → slot < size (class_of (name_of t))
+pub slot_in : (k : Shape) (t : Table) (mask slot : ℕ) → IsTableIn k t → mask ≡ class_mask t.class → slot ≤ mask → slot < size (class_of (table_id t))
 slot_in k t mask slot is last low = let e = slots_is k t mask is last in omega (arith, e, low)
 
-pub entry_in : (k : Shape) (t : Table) (mask place word : ℕ) → IsTableIn k t → mask ≡ class_mask t.class → place < dict_room mask → word < 8 → 8 * place + word + mask + 1 < size (class_of (name_of t))
+pub entry_in : (k : Shape) (t : Table) (mask place word : ℕ) → IsTableIn k t → mask ≡ class_mask t.class → place < dict_room mask → word < 8 → 8 * place + word + mask + 1 < size (class_of (table_id t))
 entry_in k t mask place word is last low small = let e = slots_is k t mask is last in let p = places_is k t mask is last in omega (arith, e, p, low, small)
 
 -- where a word of an entry lies
-pub entry_is : (k : Shape) (t : Table) (mask place word : ℕ) → IsTableIn k t → mask ≡ class_mask t.class → 8 * place + word + mask + 1 ≡ entry_offset (slots (class_of (name_of t))) place word
+pub entry_is : (k : Shape) (t : Table) (mask place word : ℕ) → IsTableIn k t → mask ≡ class_mask t.class → 8 * place + word + mask + 1 ≡ entry_offset (slots (class_of (table_id t))) place word
 entry_is k t mask place word is last = let e = slots_is k t mask is last in omega (arith, e)
 
 -- ---- the slots and entries of a table, by the way in which it is searched

@@ -4,9 +4,9 @@ use Rattle.ft_model.specs.declared.data.Key.{Key}
 use Rattle.ft_trace.specs.declared.Act.{Act}
 use Rattle.ft_trace.specs.declared.View.{View}
 use Rattle.ft_trace.specs.Acts.{is_writing}
-use Rattle.ft_trace.specs.Addresses.{containers_in}
+use Rattle.ft_trace.specs.Addresses.{container_count}
 use Rattle.ft_trace.specs.Kinds.{IsKeyed}
-use Rattle.ft_trace.specs.Traces.{Possible}
+use Rattle.ft_trace.specs.Traces.{IsReachable}
 use Rattle.ft_trace.specs.ContainerStates.{kind_in}
 use Rattle.ft_search.specs.Lengths.{StopsAtVersion}
 use Rattle.ft_search.specs.KeyLooks.{AreLooks, Stops}
@@ -22,11 +22,11 @@ pub record LooksWithFloor (w : View) (part : List Act) : Type 0 where
 -- no version of a container stops them
 abbrev pub FloorVersionsStand : Type 0
 FloorVersionsStand =
-    (w : View) (part : List Act) → Possible w → LooksWithFloor w part → (o a b : ℕ) → o < containers_in w.shape
+    (w : View) (part : List Act) → IsReachable w → LooksWithFloor w part → (o a b : ℕ) → o < container_count w.shape
     → StopsAtVersion o a b part → ⊥
 
 -- nor does an entry of a key
 abbrev pub FloorEntriesStand : Type 0
 FloorEntriesStand =
-    (w : View) (part : List Act) → Possible w → LooksWithFloor w part → (o : ℕ) (key : Key) (a b : ℕ)
-    → o < containers_in w.shape → IsKeyed (kind_in w.shape.starts o) → Stops w.shape o key a b part → ⊥
+    (w : View) (part : List Act) → IsReachable w → LooksWithFloor w part → (o : ℕ) (key : Key) (a b : ℕ)
+    → o < container_count w.shape → IsKeyed (kind_in w.shape.starts o) → Stops w.shape o key a b part → ⊥

@@ -11,7 +11,7 @@ use Rattle.ft_trace.specs.declared.Act.{Act}
 use Rattle.ft_trace.specs.declared.View.{View}
 use Rattle.ft_trace.specs.Acts.{stage, debt}
 use Rattle.ft_trace.specs.Causes.{HasCause}
-use Rattle.ft_trace.specs.Holds.{known}
+use Rattle.ft_trace.specs.Holds.{known_state}
 use Rattle.ft_trace.specs.Owners.{SameOwners}
 use Rattle.ft_trace.specs.ContainerStates.{reply_in}
 use Rattle.ft_bank.specs.Answered.{Answered}

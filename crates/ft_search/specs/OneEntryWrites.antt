@@ -13,20 +13,20 @@ use Rattle.ft_model.specs.Worlds.{no_hands, IsDeclared}
 use Rattle.ft_layout.specs.Words.{FitsKey}
 use Rattle.ft_trace.specs.declared.Shape.{Shape}
 use Rattle.ft_trace.specs.declared.View.{View}
-use Rattle.ft_trace.specs.Addresses.{containers_in, class_of, slots}
+use Rattle.ft_trace.specs.Addresses.{container_count, class_of, slots}
 use Rattle.ft_trace.specs.Acts.{has_lock, is_writing, owes}
 use Rattle.ft_trace.specs.Carefuls.{HasLiveKey}
 use Rattle.ft_trace.specs.DeleteWrites.{delete_puts}
 use Rattle.ft_trace.specs.FitCalls.{FitsCall}
-use Rattle.ft_trace.specs.Holds.{held, known}
+use Rattle.ft_trace.specs.Holds.{held_words, known_state}
 use Rattle.ft_trace.specs.Kinds.{rows, version_at, CarefulAs, IsKeyed}
 use Rattle.ft_trace.specs.OddVersions.{Shut}
 use Rattle.ft_trace.specs.BegunSections.{HasLocksOf}
-use Rattle.ft_trace.specs.Pictures.{Picture, root_in, entry_offset, entry_field, Stands}
+use Rattle.ft_trace.specs.Pictures.{ContainerWords, root_in, entry_offset, entry_field, Represents}
 use Rattle.ft_trace.specs.ContainerStates.{ContainerState, state_at, kind_in, changes}
 use Rattle.ft_trace.specs.WholeWrites.{Put, to_block}
 use Rattle.ft_bank.specs.declared.table.Table.{Table}
-use Rattle.ft_bank.specs.TableNames.{name_of, IsTableIn}
+use Rattle.ft_bank.specs.TableNames.{table_id, IsTableIn}
 use Rattle.ft_bank.specs.WriteSteps.{MayHave, MayCommit, with_table}
 use Rattle.ft_search.specs.MadeCalls.{IsReplyTo}
 
@@ -34,27 +34,27 @@ use Rattle.ft_search.specs.MadeCalls.{IsReplyTo}
 -- it; no version is odd there, the pass has lowered no count of a class that it hasn't raised again, and it has a call
 -- left. (profile)
 pub record MayWriteEntries (k : Shape) (o : ℕ) (v : View) : Type 0 where
-  pub container : o < containers_in k
+  pub container : o < container_count k
   pub keyed : IsKeyed (kind_in k.starts o)
   pub locked : has_lock o v.log ≡ true
   pub even : is_writing o v.log ≡ false
-  pub stands : Stands k.texts (held o v) (known o v)
+  pub stands : Represents k.texts (held_words o v) (known_state o v)
   pub owes : owes v.log ≡ 0
   pub left : 0 < v.left
 
 -- the root of the container names this table
 pub record HasTable (k : Shape) (o : ℕ) (table : Table) (v : View) : Type 0 where
   pub table_in : IsTableIn k table
-  pub root : root_in (held o v) ≡ suc (name_of table)
+  pub root : root_in (held_words o v) ≡ suc (table_id table)
 
 -- The pass writes the container o, a dict or a set, whose root names the table. (profile)
 pub record WritesEntries (k : Shape) (o : ℕ) (table : Table) (v : View) : Type 0 where
-  pub container : o < containers_in k
+  pub container : o < container_count k
   pub keyed : IsKeyed (kind_in k.starts o)
   pub table_in : IsTableIn k table
   pub locked : has_lock o v.log ≡ true
   pub odd : is_writing o v.log ≡ true
-  pub root : root_in (held o v) ≡ suc (name_of table)
+  pub root : root_in (held_words o v) ≡ suc (table_id table)
 
 -- A call is a write of the container o that takes no table: the plain containers reply so to it, whatever else the bank
 -- has that agrees with what the pass knows, and o has this content and this table then; the pass has the locks of the
@@ -71,8 +71,8 @@ pub record Leaves (o : ℕ) (called : Call) (said : Reply) (left : ContainerStat
 
 -- the place is one of an entry of the container's table that is there with this key
 pub record IsLiveEntry (k : Shape) (o : ℕ) (table : Table) (place : ℕ) (key : Key) (v : View) : Type 0 where
-  pub low : place < rows (kind_in k.starts o) (class_of (name_of table))
-  pub live : HasLiveKey (slots (class_of (name_of table))) (held o v).table place key
+  pub low : place < rows (kind_in k.starts o) (class_of (table_id table))
+  pub live : HasLiveKey (slots (class_of (table_id table))) (held_words o v).table place key
   pub fits : FitsKey key
 
 -- what a dict or a set has once a key is taken out (Python manual, Mapping Types, Set Types)
@@ -83,7 +83,7 @@ without_key (content.List values) key = content.List values
 without_key (content.Deque deque) key = content.Deque deque
 
 -- the words of a container once the version of the entry at a place of its table t is raised by one
-abbrev pub raised_at : ℕ → ℕ → Picture → Picture
+abbrev pub raised_at : ℕ → ℕ → ContainerWords → ContainerWords
 raised_at t place x =
     with_table x (entry_offset (slots (class_of t)) place 0) (entry_field (slots (class_of t)) x.table place 0 + 1)
 
@@ -95,17 +95,17 @@ pub record MayFinish (o : ℕ) (table : Table) (place : ℕ) (called : Call) (sa
   pub changed : changes called ≡ o
   pub left : ContainerState
   pub left_is : (stored : StoredWorld) → MayHave v stored → state_at (after_stored stored called) o ≡ left
-  pub odd : entry_field (slots (class_of (name_of table))) (held o v).table place 0 % 2 ≡ 1
-  pub close : CarefulAs (kind_in v.shape.starts o) (class_of (name_of table)) (held o v).table left.content
-      (entry_offset (slots (class_of (name_of table))) place 0)
-      (entry_field (slots (class_of (name_of table))) (held o v).table place 0 + 1)
-  pub stands : Stands v.shape.texts (raised_at (name_of table) place (held o v)) left
-  pub shut : Shut (version_at (kind_in v.shape.starts o) (class_of (name_of table)))
-      (rows (kind_in v.shape.starts o) (class_of (name_of table))) (raised_at (name_of table) place (held o v)).table
+  pub odd : entry_field (slots (class_of (table_id table))) (held_words o v).table place 0 % 2 ≡ 1
+  pub close : CarefulAs (kind_in v.shape.starts o) (class_of (table_id table)) (held_words o v).table left.content
+      (entry_offset (slots (class_of (table_id table))) place 0)
+      (entry_field (slots (class_of (table_id table))) (held_words o v).table place 0 + 1)
+  pub stands : Represents v.shape.texts (raised_at (table_id table) place (held_words o v)) left
+  pub shut : Shut (version_at (kind_in v.shape.starts o) (class_of (table_id table)))
+      (rows (kind_in v.shape.starts o) (class_of (table_id table))) (raised_at (table_id table) place (held_words o v)).table
 
 -- What a deletion puts before the commit: it counts one pair or element fewer, makes the version of the entry odd, and
 -- then changes the kind of its key to that of a deleted one. (profile)
-abbrev pub deletion : ℕ → ℕ → Key → Picture → List Put
+abbrev pub deletion : ℕ → ℕ → Key → ContainerWords → List Put
 deletion t place key x =
     to_block 1 (slice_index x.block 1 - 1) ∷ delete_puts (slots (class_of t)) x.table place key
 

@@ -3,15 +3,15 @@ use Rattle.std.specs.Prelude.{◌≡◌, ℕ, suc, ◌<◌, true, List, ◌∷�
 use Rattle.ft_layout.specs.Containers.{class_mask}
 use Rattle.ft_trace.specs.declared.Act.{Act}
 use Rattle.ft_trace.specs.declared.Act.TheVariants.{ReadTable, PutTable}
-use Rattle.ft_trace.specs.Addresses.{containers_in, class_of, size, slots}
+use Rattle.ft_trace.specs.Addresses.{container_count, class_of, size, slots}
 use Rattle.ft_trace.specs.Acts.{has_lock, is_writing}
 use Rattle.ft_trace.specs.Pictures.{entry_offset, root_in}
-use Rattle.ft_trace.specs.Holds.{held, known}
+use Rattle.ft_trace.specs.Holds.{held_words, known_state}
 use Rattle.ft_keys.specs.declared.words.Access.{Access}
 use Rattle.ft_keys.specs.declared.words.Access.TheVariants.{Index, Entry, PutIndex, PutEntry, OldEntry}
 use Rattle.ft_keys.specs.Accesses.{Tells, put_by}
 use Rattle.ft_bank.specs.Passes.{shape_of, view, IsPassOf, Did}
-use Rattle.ft_bank.specs.TableNames.{name_of, IsPlaceOf, IsTableIn}
+use Rattle.ft_bank.specs.TableNames.{table_id, IsPlaceOf, IsTableIn}
 use Rattle.ft_bank.specs.Whole.{OnlyPut}
 use Rattle.ft_bank.specs.WriteSteps.{IsCareful}
 use Rattle.ft_search.specs.declared.words.TableWords.{TableWords}
@@ -27,7 +27,7 @@ access_act o t (OldEntry place word value) = ReadTable t (entry_offset (slots (c
 -- a table of the bank, its last slot and where its words lie, a container and a pass of the bank
 pub record CanLoad (s : TableWords) : Type 0 where
   pub pass : IsPassOf s.bank.now s.pass.now
-  pub container : s.o < containers_in (shape_of s.bank.now)
+  pub container : s.o < container_count (shape_of s.bank.now)
   pub table : IsTableIn (shape_of s.bank.now) s.table
   pub mask : s.mask ≡ class_mask s.table.class
   pub start : IsPlaceOf (shape_of s.bank.now) s.table s.start
@@ -52,11 +52,11 @@ pub record SamePlace (s t : TableWords) : Type 0 where
 -- the pass has the lock of the container, whose root names the table
 abbrev pub KnowsWords : TableWords → Type 0
 KnowsWords s =
-    (has_lock s.o (view s.pass.now).log ≡ true) × (root_in (held s.o (view s.pass.now)) ≡ suc (name_of s.table))
+    (has_lock s.o (view s.pass.now).log ≡ true) × (root_in (held_words s.o (view s.pass.now)) ≡ suc (table_id s.table))
 
 -- the words of the table that the pass then knows, after a header that says nothing
 abbrev pub known_words : TableWords → List ℕ
-known_words s = 0 ∷ 0 ∷ (held s.o (view s.pass.now)).table
+known_words s = 0 ∷ 0 ∷ (held_words s.o (view s.pass.now)).table
 
 -- words may be put while the pass writes the container
 abbrev pub MayPutAny : TableWords → Type 0
@@ -64,23 +64,23 @@ MayPutAny s = KnowsWords s × (is_writing s.o (view s.pass.now).log ≡ true)
 
 -- a word may be put that is careful for readers without the lock
 abbrev pub MayMake : TableWords → Access → Type 0
-MayMake s (PutIndex slot value) = IsCareful (view s.pass.now) s.o (name_of s.table) slot value
+MayMake s (PutIndex slot value) = IsCareful (view s.pass.now) s.o (table_id s.table) slot value
 MayMake s (PutEntry place word value) =
-    IsCareful (view s.pass.now) s.o (name_of s.table)
-    (entry_offset (slots (class_of (name_of s.table))) place word) value
+    IsCareful (view s.pass.now) s.o (table_id s.table)
+    (entry_offset (slots (class_of (table_id s.table))) place word) value
 MayMake s access = Unit {0}
 
 -- The call was one step of the bank. Where the pass knows the words, they answered it, and have what it put; so did
 -- those of each container whose lock the pass has and whose root names the table.
 pub record MadeAccess (s : TableWords) (access : Access) (t : TableWords) : Type 0 where
   pub same : SamePlace s t
-  pub inside : IsInside (name_of s.table) access
-  pub did : Did (access_act s.o (name_of s.table) access) s.pass.now t.pass.now
-  pub others : (c : ℕ) → c < containers_in (shape_of s.bank.now) → has_lock c (view s.pass.now).log ≡ true
-      → root_in (held c (view s.pass.now)) ≡ suc (name_of s.table)
-      → Tells s.mask access (0 ∷ 0 ∷ (held c (view s.pass.now)).table)
+  pub inside : IsInside (table_id s.table) access
+  pub did : Did (access_act s.o (table_id s.table) access) s.pass.now t.pass.now
+  pub others : (c : ℕ) → c < container_count (shape_of s.bank.now) → has_lock c (view s.pass.now).log ≡ true
+      → root_in (held_words c (view s.pass.now)) ≡ suc (table_id s.table)
+      → Tells s.mask access (0 ∷ 0 ∷ (held_words c (view s.pass.now)).table)
   pub tells : KnowsWords s → Tells s.mask access (known_words s)
   pub left : KnowsWords s → KnowsWords t × (known_words t ≡ put_by s.mask access (known_words s))
-      × ((held s.o (view t.pass.now)).block ≡ (held s.o (view s.pass.now)).block)
-      × (known s.o (view t.pass.now) ≡ known s.o (view s.pass.now))
+      × ((held_words s.o (view t.pass.now)).block ≡ (held_words s.o (view s.pass.now)).block)
+      × (known_state s.o (view t.pass.now) ≡ known_state s.o (view s.pass.now))
   pub only : OnlyPut s.o (view s.pass.now) (view t.pass.now)

@@ -5,7 +5,7 @@ ghost use Rattle.ft_model.specs.declared.data.Key.{Key};
 ghost use Rattle.ft_trace.specs.declared.Act.{Act};
 ghost use Rattle.ft_trace.specs.declared.Act.TheVariants.{ReadRoot};
 ghost use Rattle.ft_trace.specs.Acts.{announces};
-ghost use Rattle.ft_trace.specs.Addresses.{containers_in};
+ghost use Rattle.ft_trace.specs.Addresses.{container_count};
 ghost use Rattle.ft_bank.specs.Passes.{shape_of, view, IsPassOf};
 ghost use Rattle.ft_keys.specs.declared.walk.Way.{Way};
 ghost use Rattle.ft_search.specs.SearchCosts.{SpendsRound};
@@ -18,7 +18,7 @@ use ft_bank::{Bank, Pass};
 /// Loads the container's version, the root again, the counter, and the version again.
 pub(crate) fn look_bare(bank: &Bank, pass: &mut Pass, o: u32) -> Round
     requires pass { IsPassOf bank.now pass.old }
-    requires container { o < containers_in (shape_of bank.now) }
+    requires container { o < container_count (shape_of bank.now) }
     requires online { 0 < announces (view pass.old).log }
     requires last { (rest : List Act) × ((view pass.old).log ≡ ReadRoot o 0 ∷ rest) }
     ensures pass { IsPassOf bank.now pass.new }

@@ -3,14 +3,14 @@
 ghost use Rattle.std.specs.Prelude.{◌≡◌, ◌<◌, false, slice_index};
 ghost use Rattle.ft_trace.specs.Acts.{has_committed};
 ghost use Rattle.ft_trace.specs.Addresses.{class_of};
-ghost use Rattle.ft_trace.specs.Holds.{held, known};
+ghost use Rattle.ft_trace.specs.Holds.{held_words, known_state};
 ghost use Rattle.ft_trace.specs.Kinds.{rows};
 ghost use Rattle.ft_trace.specs.Pictures.{root_in};
 ghost use Rattle.ft_trace.specs.ContainerStates.{kind_in};
 ghost use Rattle.ft_trace.specs.WholeWrites.{MayPuts, with_puts};
 ghost use Rattle.ft_bank.specs.Passes.{shape_of, view, IsPassOf};
 ghost use Rattle.ft_bank.specs.PassSections.{stack_of};
-ghost use Rattle.ft_bank.specs.TableNames.{name_of};
+ghost use Rattle.ft_bank.specs.TableNames.{table_id};
 ghost use Rattle.ft_bank.specs.Whole.{OnlyPut, Wrote};
 ghost use Rattle.ft_search.specs.OneEntryWrites.{HasTable, IsLiveEntry, Leaves, MayWriteEntries, WritesEntries, deletion, without_key};
 
@@ -30,17 +30,17 @@ const COUNT: u64 = block_word::USED - block_word::ROOT;
 pub fn put_deleted(bank: &Bank, pass: &mut Pass, o: u32, table: Table, place: u64, key: Key)
     requires pass { IsPassOf bank.now pass.old }
     requires writes { WritesEntries (shape_of bank.now) o table (view pass.old) }
-    requires place { place < rows (kind_in (shape_of bank.now).starts o) (class_of (name_of table)) }
+    requires place { place < rows (kind_in (shape_of bank.now).starts o) (class_of (table_id table)) }
     requires early { has_committed o (view pass.old).log ≡ false }
-    requires some { 0 < slice_index (held o (view pass.old)).block 1 }
-    requires may { MayPuts (kind_in (shape_of bank.now).starts o) (name_of table) (known o (view pass.old)).content false
-        (held o (view pass.old)) (deletion (name_of table) place key (held o (view pass.old))) }
+    requires some { 0 < slice_index (held_words o (view pass.old)).block 1 }
+    requires may { MayPuts (kind_in (shape_of bank.now).starts o) (table_id table) (known_state o (view pass.old)).content false
+        (held_words o (view pass.old)) (deletion (table_id table) place key (held_words o (view pass.old))) }
     ensures pass { IsPassOf bank.now pass.new }
     ensures stack { stack_of pass.new ≡ stack_of pass.old }
     ensures writes { WritesEntries (shape_of bank.now) o table (view pass.new) }
     ensures only { OnlyPut o (view pass.old) (view pass.new) }
-    ensures words { held o (view pass.new) ≡ with_puts (held o (view pass.old))
-        (deletion (name_of table) place key (held o (view pass.old))) }
+    ensures words { held_words o (view pass.new) ≡ with_puts (held_words o (view pass.old))
+        (deletion (table_id table) place key (held_words o (view pass.old))) }
 {
     let count = bank.read_block(pass, o, COUNT);
     bank.put_block(pass, o, COUNT, count - 1);
@@ -73,12 +73,12 @@ pub fn delete_entry(
     requires table { HasTable (shape_of bank.now) o table (view pass.old) }
     requires entry { IsLiveEntry (shape_of bank.now) o table place key (view pass.old) }
     requires leaves { Leaves o called.now said.now
-        (record { content = without_key (known o (view pass.old)).content key; table = (known o (view pass.old)).table })
+        (record { content = without_key (known_state o (view pass.old)).content key; table = (known_state o (view pass.old)).table })
         (view pass.old) }
     ensures pass { IsPassOf bank.now pass.new }
     ensures stack { stack_of pass.new ≡ stack_of pass.old }
     ensures wrote { Wrote called.now said.now result (view pass.old) (view pass.new) }
-    ensures root { root_in (held o (view pass.new)) ≡ root_in (held o (view pass.old)) }
+    ensures root { root_in (held_words o (view pass.new)) ≡ root_in (held_words o (view pass.old)) }
 {
     versions_change_nothing();
     used_entries_follow_a_dict();

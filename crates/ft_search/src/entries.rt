@@ -2,13 +2,13 @@
 //! each put is one that readers without the lock aren't misled by.
 ghost use Rattle.std.specs.Prelude.{◌≡◌, ℕ, suc, ◌+◌, ◌*◌, ◌<◌, true};
 ghost use Rattle.ft_trace.specs.Addresses.{class_of, slots};
-ghost use Rattle.ft_trace.specs.Holds.{held};
+ghost use Rattle.ft_trace.specs.Holds.{held_words};
 ghost use Rattle.ft_trace.specs.Kinds.{rows};
 ghost use Rattle.ft_trace.specs.Pictures.{entry_offset, entry_field};
 ghost use Rattle.ft_trace.specs.ContainerStates.{kind_in};
 ghost use Rattle.ft_bank.specs.Passes.{shape_of, view, IsPassOf};
 ghost use Rattle.ft_bank.specs.PassSections.{stack_of};
-ghost use Rattle.ft_bank.specs.TableNames.{name_of};
+ghost use Rattle.ft_bank.specs.TableNames.{table_id};
 ghost use Rattle.ft_bank.specs.Whole.{OnlyLoaded, OnlyPut};
 ghost use Rattle.ft_bank.specs.WriteSteps.{IsCareful, with_table};
 ghost use Rattle.ft_search.specs.OneEntryWrites.{WritesEntries, raised_at};
@@ -38,14 +38,14 @@ pub(crate) fn read_entry(
 ) -> u64
     requires pass { IsPassOf bank.now pass.old }
     requires writes { WritesEntries (shape_of bank.now) o table (view pass.old) }
-    requires place { place < rows (kind_in (shape_of bank.now).starts o) (class_of (name_of table)) }
+    requires place { place < rows (kind_in (shape_of bank.now).starts o) (class_of (table_id table)) }
     requires word { word < 8 }
     ensures pass { IsPassOf bank.now pass.new }
     ensures stack { stack_of pass.new ≡ stack_of pass.old }
     ensures writes { WritesEntries (shape_of bank.now) o table (view pass.new) }
     ensures only { OnlyLoaded (view pass.old) (view pass.new) }
-    ensures held { held o (view pass.new) ≡ held o (view pass.old) }
-    ensures found { result ≡ entry_field (slots (class_of (name_of table))) (held o (view pass.old)).table place word }
+    ensures held { held_words o (view pass.new) ≡ held_words o (view pass.old) }
+    ensures found { result ≡ entry_field (slots (class_of (table_id table))) (held_words o (view pass.old)).table place word }
 {
     let _ = o;
     let at = word_at(mask_of(table.class), place, word);
@@ -64,16 +64,16 @@ pub(crate) fn put_entry(
 )
     requires pass { IsPassOf bank.now pass.old }
     requires writes { WritesEntries (shape_of bank.now) o table (view pass.old) }
-    requires place { place < rows (kind_in (shape_of bank.now).starts o) (class_of (name_of table)) }
+    requires place { place < rows (kind_in (shape_of bank.now).starts o) (class_of (table_id table)) }
     requires word { word < 8 }
-    requires care { IsCareful (view pass.old) o (name_of table) (entry_offset (slots (class_of (name_of table))) place word)
+    requires care { IsCareful (view pass.old) o (table_id table) (entry_offset (slots (class_of (table_id table))) place word)
         value }
     ensures pass { IsPassOf bank.now pass.new }
     ensures stack { stack_of pass.new ≡ stack_of pass.old }
     ensures writes { WritesEntries (shape_of bank.now) o table (view pass.new) }
     ensures only { OnlyPut o (view pass.old) (view pass.new) }
-    ensures words { held o (view pass.new)
-        ≡ with_table (held o (view pass.old)) (entry_offset (slots (class_of (name_of table))) place word) value }
+    ensures words { held_words o (view pass.new)
+        ≡ with_table (held_words o (view pass.old)) (entry_offset (slots (class_of (table_id table))) place word) value }
 {
     let at = word_at(mask_of(table.class), place, word);
     bank.put_table(pass, o, table, at, value);
@@ -83,14 +83,14 @@ pub(crate) fn put_entry(
 pub fn raise_version(bank: &Bank, pass: &mut Pass, o: u32, table: Table, place: u64)
     requires pass { IsPassOf bank.now pass.old }
     requires writes { WritesEntries (shape_of bank.now) o table (view pass.old) }
-    requires place { place < rows (kind_in (shape_of bank.now).starts o) (class_of (name_of table)) }
-    requires care { IsCareful (view pass.old) o (name_of table) (entry_offset (slots (class_of (name_of table))) place 0)
-        (entry_field (slots (class_of (name_of table))) (held o (view pass.old)).table place 0 + 1) }
+    requires place { place < rows (kind_in (shape_of bank.now).starts o) (class_of (table_id table)) }
+    requires care { IsCareful (view pass.old) o (table_id table) (entry_offset (slots (class_of (table_id table))) place 0)
+        (entry_field (slots (class_of (table_id table))) (held_words o (view pass.old)).table place 0 + 1) }
     ensures pass { IsPassOf bank.now pass.new }
     ensures stack { stack_of pass.new ≡ stack_of pass.old }
     ensures writes { WritesEntries (shape_of bank.now) o table (view pass.new) }
     ensures only { OnlyPut o (view pass.old) (view pass.new) }
-    ensures words { held o (view pass.new) ≡ raised_at (name_of table) place (held o (view pass.old)) }
+    ensures words { held_words o (view pass.new) ≡ raised_at (table_id table) place (held_words o (view pass.old)) }
 {
     let version = read_entry(bank, pass, o, table, place, entry_word::VERSION);
     put_entry(

@@ -2,13 +2,13 @@
 //! are made even again.
 ghost use Rattle.std.specs.Prelude.{◌≡◌, ◌<◌};
 ghost use Rattle.ft_trace.specs.Addresses.{class_of};
-ghost use Rattle.ft_trace.specs.Holds.{held, known};
+ghost use Rattle.ft_trace.specs.Holds.{held_words, known_state};
 ghost use Rattle.ft_trace.specs.Kinds.{rows};
 ghost use Rattle.ft_trace.specs.Pictures.{root_in};
 ghost use Rattle.ft_trace.specs.ContainerStates.{kind_in};
 ghost use Rattle.ft_bank.specs.Passes.{shape_of, view, IsPassOf};
 ghost use Rattle.ft_bank.specs.PassSections.{stack_of};
-ghost use Rattle.ft_bank.specs.TableNames.{name_of};
+ghost use Rattle.ft_bank.specs.TableNames.{table_id};
 ghost use Rattle.ft_bank.specs.Whole.{EndsWrite, Wrote};
 ghost use Rattle.ft_search.specs.OneEntryWrites.{Leaves, MayFinish, MayWriteEntries, WritesEntries};
 
@@ -29,7 +29,7 @@ pub fn finish_entry(
 ) -> u64
     requires pass { IsPassOf bank.now pass.old }
     requires writes { WritesEntries (shape_of bank.now) o table (view pass.old) }
-    requires place { place < rows (kind_in (shape_of bank.now).starts o) (class_of (name_of table)) }
+    requires place { place < rows (kind_in (shape_of bank.now).starts o) (class_of (table_id table)) }
     requires may { MayFinish o table place called.now said.now (view pass.old) }
     ensures pass { IsPassOf bank.now pass.new }
     ensures stack { stack_of pass.new ≡ stack_of pass.old }
@@ -46,11 +46,11 @@ pub fn finish_entry(
 pub fn write_nothing(bank: &Bank, pass: &mut Pass, o: u32, called: &Call, said: &Reply) -> u64
     requires pass { IsPassOf bank.now pass.old }
     requires may { MayWriteEntries (shape_of bank.now) o (view pass.old) }
-    requires leaves { Leaves o called.now said.now (known o (view pass.old)) (view pass.old) }
+    requires leaves { Leaves o called.now said.now (known_state o (view pass.old)) (view pass.old) }
     ensures pass { IsPassOf bank.now pass.new }
     ensures stack { stack_of pass.new ≡ stack_of pass.old }
     ensures wrote { Wrote called.now said.now result (view pass.old) (view pass.new) }
-    ensures root { root_in (held o (view pass.new)) ≡ root_in (held o (view pass.old)) }
+    ensures root { root_in (held_words o (view pass.new)) ≡ root_in (held_words o (view pass.old)) }
 {
     bank.start_write(pass, o);
     let number = bank.commit(pass, called, said);

@@ -10,14 +10,14 @@ ghost use Rattle.ft_keys.specs.declared.search.Found.TheVariants.{Was};
 ghost use Rattle.ft_keys.specs.declared.walk.Way.{Way};
 ghost use Rattle.ft_trace.specs.declared.Act.{Act};
 ghost use Rattle.ft_trace.specs.Acts.{has_lock};
-ghost use Rattle.ft_trace.specs.Addresses.{containers_in};
-ghost use Rattle.ft_trace.specs.Holds.{held, known};
-ghost use Rattle.ft_trace.specs.Pictures.{Stands};
+ghost use Rattle.ft_trace.specs.Addresses.{container_count};
+ghost use Rattle.ft_trace.specs.Holds.{held_words, known_state};
+ghost use Rattle.ft_trace.specs.Pictures.{Represents};
 ghost use Rattle.ft_trace.specs.ContainerStates.{kind_in};
 ghost use Rattle.ft_bank.specs.KeyHashes.{IsKeyIn};
 ghost use Rattle.ft_bank.specs.Passes.{shape_of, view, IsPassOf};
 ghost use Rattle.ft_bank.specs.Series.{DidAll};
-ghost use Rattle.ft_bank.specs.TableNames.{name_of, IsTableIn};
+ghost use Rattle.ft_bank.specs.TableNames.{table_id, IsTableIn};
 ghost use Rattle.ft_bank.specs.Whole.{OnlyLoaded};
 ghost use Rattle.ft_search.specs.SearchCosts.{AreFewReads, index_reads};
 ghost use Rattle.ft_search.specs.Held.{KnowsTable, ReadsEntry, IsHeldAt};
@@ -119,19 +119,19 @@ pub fn read_by(
     table: Table,
 ) -> (Found, Option<(u64, u64)>)
     requires pass { IsPassOf bank.now pass.old }
-    requires container { o < containers_in (shape_of bank.now) }
+    requires container { o < container_count (shape_of bank.now) }
     requires hash { hash ≡ hash_of (shape_of bank.now).texts key }
     requires table { IsTableIn (shape_of bank.now) table }
-    requires knows { KnowsTable o (name_of table) (view pass.old) }
+    requires knows { KnowsTable o (table_id table) (view pass.old) }
     ensures pass { IsPassOf bank.now pass.new }
     ensures looks { (part : List Act) × AreLooks part × DidAll part pass.old pass.new × AreFewReads way part }
     ensures low { hash_of (shape_of bank.now).texts key < 2 ^ 64 }
     ensures within { IsWithin (class_mask table.class) result.0 }
     ensures searched { (left : List ℕ)
-        × Searched (class_mask table.class) (0 ∷ 0 ∷ (held o (view pass.old)).table) key
+        × Searched (class_mask table.class) (0 ∷ 0 ∷ (held_words o (view pass.old)).table) key
         (walk_slots way (hash_of (shape_of bank.now).texts key) (class_mask table.class)) left result.0
         × ((slot place : ℕ) → result.0 ≢ Was slot place)
-        × ReadsEntry (class_mask table.class) (0 ∷ 0 ∷ (held o (view pass.old)).table) result.0 result.1 }
+        × ReadsEntry (class_mask table.class) (0 ∷ 0 ∷ (held_words o (view pass.old)).table) result.0 result.1 }
 {
     let mask = mask_of(table.class);
     let start = bank.cell_of(table);
@@ -157,19 +157,19 @@ pub fn read_in(
     table: Table,
 ) -> (Found, Option<(u64, u64)>)
     requires pass { IsPassOf bank.now pass.old }
-    requires container { o < containers_in (shape_of bank.now) }
+    requires container { o < container_count (shape_of bank.now) }
     requires key { IsKeyIn (shape_of bank.now) key }
     requires table { IsTableIn (shape_of bank.now) table }
-    requires knows { KnowsTable o (name_of table) (view pass.old) }
+    requires knows { KnowsTable o (table_id table) (view pass.old) }
     ensures pass { IsPassOf bank.now pass.new }
     ensures looks { (part : List Act) × AreLooks part × DidAll part pass.old pass.new × AreFewReads way part }
     ensures low { hash_of (shape_of bank.now).texts key < 2 ^ 64 }
     ensures within { IsWithin (class_mask table.class) result.0 }
     ensures searched { (left : List ℕ)
-        × Searched (class_mask table.class) (0 ∷ 0 ∷ (held o (view pass.old)).table) key
+        × Searched (class_mask table.class) (0 ∷ 0 ∷ (held_words o (view pass.old)).table) key
         (walk_slots way (hash_of (shape_of bank.now).texts key) (class_mask table.class)) left result.0
         × ((slot place : ℕ) → result.0 ≢ Was slot place)
-        × ReadsEntry (class_mask table.class) (0 ∷ 0 ∷ (held o (view pass.old)).table) result.0 result.1 }
+        × ReadsEntry (class_mask table.class) (0 ∷ 0 ∷ (held_words o (view pass.old)).table) result.0 result.1 }
 {
     let hash = bank.hash_of(key);
     read_by(bank, pass, o, way, key, hash, table)
@@ -179,16 +179,16 @@ pub fn read_in(
 /// `None` where the key isn't there. It loads at most as many index words as one search may.
 pub fn read_key(bank: &Bank, pass: &mut Pass, o: u32, way: Way, key: Key) -> Option<(u64, u64)>
     requires pass { IsPassOf bank.now pass.old }
-    requires container { o < containers_in (shape_of bank.now) }
+    requires container { o < container_count (shape_of bank.now) }
     requires way { kind_in (shape_of bank.now).starts o ≡ kind_by way }
     requires key { IsKeyIn (shape_of bank.now) key }
     requires locked { has_lock o (view pass.old).log ≡ true }
-    requires stands { Stands (shape_of bank.now).texts (held o (view pass.old)) (known o (view pass.old)) }
+    requires stands { Represents (shape_of bank.now).texts (held_words o (view pass.old)) (known_state o (view pass.old)) }
     ensures pass { IsPassOf bank.now pass.new }
     ensures key { FitsKey key }
     ensures keeps { OnlyLoaded (view pass.old) (view pass.new) }
     ensures looks { (part : List Act) × AreLooks part × DidAll part pass.old pass.new × AreFewReads way part }
-    ensures held { IsHeldAt (known o (view pass.old)).content key result }
+    ensures held { IsHeldAt (known_state o (view pass.old)).content key result }
 {
     key_fits(key);
     used_entries_follow_a_dict();

@@ -3,9 +3,9 @@
 ghost use Rattle.std.specs.Prelude.{◌≡◌, ◌<◌, List, true, false};
 ghost use Rattle.ft_trace.specs.declared.Act.{Act};
 ghost use Rattle.ft_trace.specs.Acts.{has_lock};
-ghost use Rattle.ft_trace.specs.Addresses.{containers_in};
-ghost use Rattle.ft_trace.specs.Holds.{held, known};
-ghost use Rattle.ft_trace.specs.Pictures.{Stands};
+ghost use Rattle.ft_trace.specs.Addresses.{container_count};
+ghost use Rattle.ft_trace.specs.Holds.{held_words, known_state};
+ghost use Rattle.ft_trace.specs.Pictures.{Represents};
 ghost use Rattle.ft_trace.specs.ContainerStates.{kind_in};
 ghost use Rattle.ft_bank.specs.Answered.{Answered};
 ghost use Rattle.ft_bank.specs.Passes.{shape_of, view, IsPassOf};
@@ -39,7 +39,7 @@ pub(crate) enum Counted {
 /// Loads the number of pairs, items or elements, and the counter, between two loads of the version.
 fn look_count(bank: &Bank, pass: &mut Pass, o: Object) -> Counted
     requires pass { IsPassOf bank.now pass.old }
-    requires container { o < containers_in (shape_of bank.now) }
+    requires container { o < container_count (shape_of bank.now) }
     ensures pass { IsPassOf bank.now pass.new }
     ensures looked { (part : List Act) × AreLooks part × DidAll part pass.old pass.new × ShowsCounted o part result }
 {
@@ -61,7 +61,7 @@ fn look_count(bank: &Bank, pass: &mut Pass, o: Object) -> Counted
 /// never answers `NoMemory`.
 pub fn look_len(bank: &Bank, pass: &mut Pass, o: Object, call: &Call) -> Look
     requires pass { IsPassOf bank.now pass.old }
-    requires container { o < containers_in (shape_of bank.now) }
+    requires container { o < container_count (shape_of bank.now) }
     requires call { call.now ≡ len_of (kind_in (shape_of bank.now).starts o) o }
     requires left { 0 < (view pass.old).left }
     ensures pass { IsPassOf bank.now pass.new }
@@ -79,10 +79,10 @@ pub fn look_len(bank: &Bank, pass: &mut Pass, o: Object, call: &Call) -> Look
 /// `len(o)`, by a pass that has the container's lock. The counter is loaded while it has the lock.
 fn len_locked(bank: &Bank, pass: &mut Pass, o: Object, call: &Call) -> (Reply, Stamp)
     requires pass { IsPassOf bank.now pass.old }
-    requires container { o < containers_in (shape_of bank.now) }
+    requires container { o < container_count (shape_of bank.now) }
     requires call { call.now ≡ len_of (kind_in (shape_of bank.now).starts o) o }
     requires locked { has_lock o (view pass.old).log ≡ true }
-    requires stands { Stands (shape_of bank.now).texts (held o (view pass.old)) (known o (view pass.old)) }
+    requires stands { Represents (shape_of bank.now).texts (held_words o (view pass.old)) (known_state o (view pass.old)) }
     requires left { 0 < (view pass.old).left }
     ensures pass { IsPassOf bank.now pass.new }
     ensures sections { stack_of pass.new ≡ stack_of pass.old }
@@ -101,7 +101,7 @@ fn len_locked(bank: &Bank, pass: &mut Pass, o: Object, call: &Call) -> (Reply, S
 /// next. It never answers `Moved` or `NoMemory`.
 pub fn try_len(bank: &Bank, pass: &mut Pass, o: Object, call: &Call) -> Step
     requires may { MayTry bank.now pass.old (One o) }
-    requires container { o < containers_in (shape_of bank.now) }
+    requires container { o < container_count (shape_of bank.now) }
     requires call { call.now ≡ len_of (kind_in (shape_of bank.now).starts o) o }
     requires left { 0 < (view pass.old).left }
     ensures may { MayTry bank.now pass.new (One o) }

@@ -7,12 +7,12 @@ ghost use Rattle.ft_layout.specs.Words.{FitsKey};
 ghost use Rattle.ft_trace.specs.declared.Act.{Act};
 ghost use Rattle.ft_trace.specs.declared.Act.TheVariants.{ReadRoot};
 ghost use Rattle.ft_trace.specs.Acts.{announces};
-ghost use Rattle.ft_trace.specs.Addresses.{containers_in, IsTableName};
+ghost use Rattle.ft_trace.specs.Addresses.{container_count, IsTableName};
 ghost use Rattle.ft_trace.specs.ContainerStates.{kind_in};
 ghost use Rattle.ft_bank.specs.Passes.{shape_of, view, IsPassOf};
 ghost use Rattle.ft_bank.specs.Series.{DidAll};
 ghost use Rattle.ft_bank.specs.KeyHashes.{IsKeyIn};
-ghost use Rattle.ft_bank.specs.TableNames.{name_of, IsTableIn};
+ghost use Rattle.ft_bank.specs.TableNames.{table_id, IsTableIn};
 ghost use Rattle.ft_bank.specs.Whole.{OnlyLoaded};
 ghost use Rattle.ft_search.specs.SearchCosts.{LoadsRounds, SpendsRound};
 ghost use Rattle.ft_search.specs.KeyLooks.{AreLooks, ShowsLooked};
@@ -40,15 +40,15 @@ fn look_in(
     table: Table,
 ) -> Round
     requires pass { IsPassOf bank.now pass.old }
-    requires container { o < containers_in (shape_of bank.now) }
+    requires container { o < container_count (shape_of bank.now) }
     requires way { kind_in (shape_of bank.now).starts o ≡ kind_by way }
     requires hash { hash ≡ hash_of (shape_of bank.now).texts key }
     requires online { 0 < announces (view pass.old).log }
     requires table { IsTableIn (shape_of bank.now) table }
-    requires root { root ≡ suc (name_of table) }
+    requires root { root ≡ suc (table_id table) }
     requires last { (rest : List Act) × ((view pass.old).log ≡ ReadRoot o root ∷ rest) }
     ensures pass { IsPassOf bank.now pass.new }
-    ensures ended { EndsTable (shape_of bank.now) o key (name_of table) pass.old pass.new result }
+    ensures ended { EndsTable (shape_of bank.now) o key (table_id table) pass.old pass.new result }
     ensures spends { SpendsRound way o root pass.old pass.new result }
 {
     let mask = mask_of(table.class);
@@ -76,7 +76,7 @@ fn look_round(
     root: u64,
 ) -> Round
     requires pass { IsPassOf bank.now pass.old }
-    requires container { o < containers_in (shape_of bank.now) }
+    requires container { o < container_count (shape_of bank.now) }
     requires way { kind_in (shape_of bank.now).starts o ≡ kind_by way }
     requires hash { hash ≡ hash_of (shape_of bank.now).texts key }
     requires online { 0 < announces (view pass.old).log }
@@ -116,7 +116,7 @@ pub(crate) fn key_fits(key: Key)
 #[inline(always)]
 pub fn look_up(bank: &Bank, pass: &mut Pass, o: u32, way: Way, key: Key) -> Looked
     requires pass { IsPassOf bank.now pass.old }
-    requires container { o < containers_in (shape_of bank.now) }
+    requires container { o < container_count (shape_of bank.now) }
     requires way { kind_in (shape_of bank.now).starts o ≡ kind_by way }
     requires key { IsKeyIn (shape_of bank.now) key }
     requires online { 0 < announces (view pass.old).log }

@@ -1,7 +1,7 @@
 //! What a look-up of one key comes to, and the entry of a call that gives its reply by one.
 ghost use Rattle.std.specs.Prelude.{◌≡◌, ℕ, [], ◌∷◌, false};
 ghost use Rattle.ft_trace.specs.declared.Act.TheVariants.{Answer, ReadCounter};
-ghost use Rattle.ft_trace.specs.Acts.{noted};
+ghost use Rattle.ft_trace.specs.Acts.{view_after};
 ghost use Rattle.ft_bank.specs.Passes.{view, IsPassOf, Did};
 ghost use Rattle.ft_bank.specs.Reads.{IsShown};
 ghost use Rattle.ft_bank.specs.Series.{DidAll};
@@ -41,7 +41,7 @@ pub fn answer_look(bank: &Bank, pass: &mut Pass, call: &Call, reply: Reply, numb
 /// the locks of the call's containers.
 pub fn answer_held(bank: &Bank, pass: &mut Pass, call: &Call, reply: Reply) -> (Reply, Stamp)
     requires pass { IsPassOf bank.now pass.old }
-    requires shown { (number : ℕ) → IsShown (noted (ReadCounter number) (view pass.old)) call.now reply number }
+    requires shown { (number : ℕ) → IsShown (view_after (ReadCounter number) (view pass.old)) call.now reply number }
     ensures did { DidAll (Answer call.now reply result.1.number ∷ ReadCounter result.1.number ∷ []) pass.old pass.new }
     ensures said { (result.0 ≡ reply) × (result.1.wrote ≡ false) }
 {

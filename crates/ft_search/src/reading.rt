@@ -12,7 +12,7 @@ ghost use Rattle.ft_trace.specs.Pictures.{entry_offset};
 ghost use Rattle.ft_trace.specs.LoggedLookUps.{IsNew};
 ghost use Rattle.ft_bank.specs.Passes.{shape_of, view};
 ghost use Rattle.ft_bank.specs.Series.{DidAll};
-ghost use Rattle.ft_bank.specs.TableNames.{name_of};
+ghost use Rattle.ft_bank.specs.TableNames.{table_id};
 ghost use Rattle.ft_search.specs.TableWords.{CanLoad, SamePlace, access_act};
 ghost use Rattle.ft_search.specs.Rounds.{entry_acts};
 
@@ -66,7 +66,7 @@ impl<'a> TableWords<'a> {
         ensures count { walk.new.passed + length walk.new.left ≡ walk.old.passed + length walk.old.left }
         ensures within { IsWithin self.old.mask result }
         ensures loads { (calls : List Access)
-            × DidAll (map (access_act self.old.o (name_of self.old.table)) calls) self.old.pass.now self.new.pass.now
+            × DidAll (map (access_act self.old.o (table_id self.old.table)) calls) self.old.pass.now self.new.pass.now
             × Loads self.old.mask key walk.old.left walk.new.left result calls }
     {
         let mut steps: Steps<L> = Steps::new(blank);
@@ -89,8 +89,8 @@ impl<'a> TableWords<'a> {
         requires place { (place < dict_room self.old.mask) × (word < 8) }
         ensures can { CanLoad self.new }
         ensures same { SamePlace self.old self.new }
-        ensures did { DidAll (ReadTable (name_of self.old.table)
-            (entry_offset (slots (class_of (name_of self.old.table))) place word) result ∷ []) self.old.pass.now self.new.pass.now }
+        ensures did { DidAll (ReadTable (table_id self.old.table)
+            (entry_offset (slots (class_of (table_id self.old.table))) place word) result ∷ []) self.old.pass.now self.new.pass.now }
     {
         self.entry(place, word)
     }
@@ -102,7 +102,7 @@ impl<'a> TableWords<'a> {
         requires place { place < dict_room self.old.mask }
         ensures can { CanLoad self.new }
         ensures same { SamePlace self.old self.new }
-        ensures did { DidAll (entry_acts (name_of self.old.table) place result) self.old.pass.now self.new.pass.now }
+        ensures did { DidAll (entry_acts (table_id self.old.table) place result) self.old.pass.now self.new.pass.now }
     {
         let opened = self.word(place, VERSION);
         let key_kind = self.word(place, KEY_KIND);

@@ -15,7 +15,7 @@ ghost use Rattle.ft_trace.specs.Kinds.{rows};
 ghost use Rattle.ft_trace.specs.ContainerStates.{kind_in};
 ghost use Rattle.ft_bank.specs.Passes.{shape_of, view};
 ghost use Rattle.ft_bank.specs.Series.{DidAll};
-ghost use Rattle.ft_bank.specs.TableNames.{name_of};
+ghost use Rattle.ft_bank.specs.TableNames.{table_id};
 ghost use Rattle.ft_search.specs.TableWords.{CanLoad, SamePlace};
 ghost use Rattle.ft_search.specs.SearchCosts.{LoadsNoIndex, MayWalkOn, SpendsRound, SpendsSearch, WalksOn};
 ghost use Rattle.ft_search.specs.Rounds.{kind_by, met_acts, Walked, TurnsAfter, ClosesAt, EndsTable};
@@ -55,14 +55,14 @@ fn entries_of(way: Way, class: u32) -> u64
 fn look_at(words: &mut TableWords, place: u64, entries: u64, key: Key) -> Option<Looked>
     requires can { CanLoad words.old }
     requires place { place < dict_room words.old.mask }
-    requires entries { entries ≡ rows (kind_in (shape_of words.old.bank.now).starts words.old.o) (class_of (name_of words.old.table)) }
+    requires entries { entries ≡ rows (kind_in (shape_of words.old.bank.now).starts words.old.o) (class_of (table_id words.old.table)) }
     ensures can { CanLoad words.new }
     ensures same { SamePlace words.old words.new }
     ensures turns { (slot : ℕ) (earlier : List Act) (left : List ℕ) →
-        Walked (shape_of words.old.bank.now) words.old.o (name_of words.old.table) key
-        (met_acts (name_of words.old.table) slot place key (key_kind key) earlier) (slot ∷ left) →
-        TurnsAfter (shape_of words.old.bank.now) words.old.o (name_of words.old.table) key
-        (met_acts (name_of words.old.table) slot place key (key_kind key) earlier) left result
+        Walked (shape_of words.old.bank.now) words.old.o (table_id words.old.table) key
+        (met_acts (table_id words.old.table) slot place key (key_kind key) earlier) (slot ∷ left) →
+        TurnsAfter (shape_of words.old.bank.now) words.old.o (table_id words.old.table) key
+        (met_acts (table_id words.old.table) slot place key (key_kind key) earlier) left result
         words.old.pass.now words.new.pass.now }
     ensures index { (part : List Act) × DidAll part words.old.pass.now words.new.pass.now × LoadsNoIndex part }
 {
@@ -83,14 +83,14 @@ fn look_at(words: &mut TableWords, place: u64, entries: u64, key: Key) -> Option
 fn look_at_deleted(words: &mut TableWords, place: u64, entries: u64) -> Option<Looked>
     requires can { CanLoad words.old }
     requires place { place < dict_room words.old.mask }
-    requires entries { entries ≡ rows (kind_in (shape_of words.old.bank.now).starts words.old.o) (class_of (name_of words.old.table)) }
+    requires entries { entries ≡ rows (kind_in (shape_of words.old.bank.now).starts words.old.o) (class_of (table_id words.old.table)) }
     ensures can { CanLoad words.new }
     ensures same { SamePlace words.old words.new }
     ensures turns { (key : Key) (slot : ℕ) (earlier : List Act) (left : List ℕ) →
-        Walked (shape_of words.old.bank.now) words.old.o (name_of words.old.table) key
-        (met_acts (name_of words.old.table) slot place key (gone_kind key) earlier) (slot ∷ left) →
-        TurnsAfter (shape_of words.old.bank.now) words.old.o (name_of words.old.table) key
-        (met_acts (name_of words.old.table) slot place key (gone_kind key) earlier) left result
+        Walked (shape_of words.old.bank.now) words.old.o (table_id words.old.table) key
+        (met_acts (table_id words.old.table) slot place key (gone_kind key) earlier) (slot ∷ left) →
+        TurnsAfter (shape_of words.old.bank.now) words.old.o (table_id words.old.table) key
+        (met_acts (table_id words.old.table) slot place key (gone_kind key) earlier) left result
         words.old.pass.now words.new.pass.now }
     ensures index { (part : List Act) × DidAll part words.old.pass.now words.new.pass.now × LoadsNoIndex part }
 {
@@ -110,18 +110,18 @@ fn look_at_deleted(words: &mut TableWords, place: u64, entries: u64) -> Option<L
 fn search_on(words: &mut TableWords, walk: &mut Walk, key: Key, entries: u64) -> Option<Looked>
     requires can { CanLoad words.old }
     requires mask { words.old.mask ≡ walk.old.mask }
-    requires entries { entries ≡ rows (kind_in (shape_of words.old.bank.now).starts words.old.o) (class_of (name_of words.old.table)) }
+    requires entries { entries ≡ rows (kind_in (shape_of words.old.bank.now).starts words.old.o) (class_of (table_id words.old.table)) }
     requires room { entries ≤ dict_room words.old.mask }
     ensures can { CanLoad words.new }
     ensures same { SamePlace words.old words.new }
     ensures mask { walk.new.mask ≡ walk.old.mask }
     ensures fewer { result ≡ None → length walk.new.left < length walk.old.left }
     ensures turns { (part : List Act) →
-        Walked (shape_of words.old.bank.now) words.old.o (name_of words.old.table) key part walk.old.left →
-        TurnsAfter (shape_of words.old.bank.now) words.old.o (name_of words.old.table) key part walk.new.left result
+        Walked (shape_of words.old.bank.now) words.old.o (table_id words.old.table) key part walk.old.left →
+        TurnsAfter (shape_of words.old.bank.now) words.old.o (table_id words.old.table) key part walk.new.left result
         words.old.pass.now words.new.pass.now }
-    ensures spends { (walked : List ℕ) (acts : List Act) → MayWalkOn (name_of words.old.table) walked acts walk.old.left →
-        SpendsSearch (name_of words.old.table) walked acts walk.new.left result words.old.pass.now words.new.pass.now }
+    ensures spends { (walked : List ℕ) (acts : List Act) → MayWalkOn (table_id words.old.table) walked acts walk.old.left →
+        SpendsSearch (table_id words.old.table) walked acts walk.new.left result words.old.pass.now words.new.pass.now }
 {
     let passed = walk.count();
     let number = words.stamp();
@@ -147,17 +147,17 @@ fn search_on(words: &mut TableWords, walk: &mut Walk, key: Key, entries: u64) ->
 fn search_walk(words: &mut TableWords, walk: &mut Walk, key: Key, entries: u64) -> Looked
     requires can { CanLoad words.old }
     requires mask { words.old.mask ≡ walk.old.mask }
-    requires entries { entries ≡ rows (kind_in (shape_of words.old.bank.now).starts words.old.o) (class_of (name_of words.old.table)) }
+    requires entries { entries ≡ rows (kind_in (shape_of words.old.bank.now).starts words.old.o) (class_of (table_id words.old.table)) }
     requires room { entries ≤ dict_room words.old.mask }
     requires whole { walk.old.left ≡ walk_of (kind_in (shape_of words.old.bank.now).starts words.old.o)
-        (shape_of words.old.bank.now).texts (class_of (name_of words.old.table)) key }
-    requires low { All (λ slot. slot < slots (class_of (name_of words.old.table))) walk.old.left }
+        (shape_of words.old.bank.now).texts (class_of (table_id words.old.table)) key }
+    requires low { All (λ slot. slot < slots (class_of (table_id words.old.table))) walk.old.left }
     ensures can { CanLoad words.new }
     ensures same { SamePlace words.old words.new }
     ensures closes { (part : List Act) × Inner part × DidAll part words.old.pass.now words.new.pass.now
-        × ClosesAt (shape_of words.old.bank.now) words.old.o (name_of words.old.table) key part result }
+        × ClosesAt (shape_of words.old.bank.now) words.old.o (table_id words.old.table) key part result }
     ensures spends { (part : List Act) × (left : List ℕ) × DidAll part words.old.pass.now words.new.pass.now
-        × WalksOn (name_of words.old.table) walk.old.left part left }
+        × WalksOn (table_id words.old.table) walk.old.left part left }
 {
     'walk: loop {
         match search_on(words, walk, key, entries) {
@@ -179,12 +179,12 @@ pub(crate) fn search_table(
     requires can { CanLoad words.old }
     requires way { kind_in (shape_of words.old.bank.now).starts words.old.o ≡ kind_by way }
     requires hash { hash ≡ hash_of (shape_of words.old.bank.now).texts key }
-    requires root { root ≡ suc (name_of words.old.table) }
+    requires root { root ≡ suc (table_id words.old.table) }
     requires online { 0 < announces (view words.old.pass.now).log }
     requires last { (rest : List Act) × ((view words.old.pass.now).log ≡ ReadRoot words.old.o root ∷ rest) }
     ensures can { CanLoad words.new }
     ensures same { SamePlace words.old words.new }
-    ensures ended { EndsTable (shape_of words.old.bank.now) words.old.o key (name_of words.old.table)
+    ensures ended { EndsTable (shape_of words.old.bank.now) words.old.o key (table_id words.old.table)
         words.old.pass.now words.new.pass.now result }
     ensures spends { SpendsRound way words.old.o root words.old.pass.now words.new.pass.now result }
 {

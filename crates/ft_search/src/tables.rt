@@ -5,14 +5,14 @@ ghost use Rattle.ft_layout.specs.Containers.{class_mask};
 ghost use Rattle.ft_trace.specs.declared.Shape.{Shape};
 ghost use Rattle.ft_trace.specs.Addresses.{IsTableName};
 ghost use Rattle.ft_bank.specs.Passes.{shape_of};
-ghost use Rattle.ft_bank.specs.TableNames.{name_of, IsTableIn};
+ghost use Rattle.ft_bank.specs.TableNames.{table_id, IsTableIn};
 
 use ft_bank::{Bank, Table};
 use ft_layout::root_of;
 
 /// The table that a root names, or `None` where it names none.
 pub fn table_named(root: u64) -> Option<Table>
-    ensures named { IfSome result (λ table. root ≡ suc (name_of table)) }
+    ensures named { IfSome result (λ table. root ≡ suc (table_id table)) }
     ensures in_bank { (k : Shape) → ((t : ℕ) → root ≡ suc t → IsTableName k t) → IfSome result (λ table. IsTableIn k table) }
     ensures none { (k : Shape) → ((t : ℕ) → root ≡ suc t → IsTableName k t) → IfNone result (root ≡ 0) }
 {
@@ -25,7 +25,7 @@ pub fn table_named(root: u64) -> Option<Table>
 /// The table that a root names which was read in the bank, or `None` where it names none: it isn't tested again.
 pub fn table_at(bank: &Bank, root: u64) -> Option<Table>
     requires { (t : ℕ) → root ≡ suc t → IsTableName (shape_of bank.now) t }
-    ensures named { IfSome result (λ table. root ≡ suc (name_of table)) }
+    ensures named { IfSome result (λ table. root ≡ suc (table_id table)) }
     ensures in_bank { IfSome result (λ table. IsTableIn (shape_of bank.now) table) }
     ensures none { IfNone result (root ≡ 0) }
 {

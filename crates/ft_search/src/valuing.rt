@@ -7,14 +7,14 @@ ghost use Rattle.ft_model.specs.declared.script.Kind.TheVariants as kind;
 ghost use Rattle.ft_trace.specs.Acts.{has_committed};
 ghost use Rattle.ft_trace.specs.Addresses.{class_of, slots};
 ghost use Rattle.ft_trace.specs.EntryWrites.{value_puts};
-ghost use Rattle.ft_trace.specs.Holds.{held, known};
+ghost use Rattle.ft_trace.specs.Holds.{held_words, known_state};
 ghost use Rattle.ft_trace.specs.Kinds.{rows};
 ghost use Rattle.ft_trace.specs.Pictures.{entry_offset, entry_field, root_in};
 ghost use Rattle.ft_trace.specs.ContainerStates.{kind_in};
 ghost use Rattle.ft_trace.specs.WholeWrites.{MayPuts, with_puts};
 ghost use Rattle.ft_bank.specs.Passes.{shape_of, view, IsPassOf};
 ghost use Rattle.ft_bank.specs.PassSections.{stack_of};
-ghost use Rattle.ft_bank.specs.TableNames.{name_of};
+ghost use Rattle.ft_bank.specs.TableNames.{table_id};
 ghost use Rattle.ft_bank.specs.Whole.{OnlyPut, Wrote};
 ghost use Rattle.ft_bank.specs.WriteSteps.{IsCareful, with_table};
 ghost use Rattle.ft_search.specs.OneEntryWrites.{HasTable, IsLiveEntry, Leaves, MayWriteEntries, WritesEntries, with_value_at};
@@ -41,17 +41,17 @@ fn put_other(
 )
     requires pass { IsPassOf bank.now pass.old }
     requires writes { WritesEntries (shape_of bank.now) o table (view pass.old) }
-    requires place { place < rows (kind_in (shape_of bank.now).starts o) (class_of (name_of table)) }
+    requires place { place < rows (kind_in (shape_of bank.now).starts o) (class_of (table_id table)) }
     requires word { word < 8 }
-    requires found { found ≡ entry_field (slots (class_of (name_of table))) (held o (view pass.old)).table place word }
-    requires care { IsCareful (view pass.old) o (name_of table) (entry_offset (slots (class_of (name_of table))) place word)
+    requires found { found ≡ entry_field (slots (class_of (table_id table))) (held_words o (view pass.old)).table place word }
+    requires care { IsCareful (view pass.old) o (table_id table) (entry_offset (slots (class_of (table_id table))) place word)
         value }
     ensures pass { IsPassOf bank.now pass.new }
     ensures stack { stack_of pass.new ≡ stack_of pass.old }
     ensures writes { WritesEntries (shape_of bank.now) o table (view pass.new) }
     ensures only { OnlyPut o (view pass.old) (view pass.new) }
-    ensures words { held o (view pass.new)
-        ≡ with_table (held o (view pass.old)) (entry_offset (slots (class_of (name_of table))) place word) value }
+    ensures words { held_words o (view pass.new)
+        ≡ with_table (held_words o (view pass.old)) (entry_offset (slots (class_of (table_id table))) place word) value }
 {
     if found != value {
         put_entry(bank, pass, o, table, place, word, value);
@@ -71,19 +71,19 @@ pub fn put_value(
 )
     requires pass { IsPassOf bank.now pass.old }
     requires writes { WritesEntries (shape_of bank.now) o table (view pass.old) }
-    requires place { place < rows (kind_in (shape_of bank.now).starts o) (class_of (name_of table)) }
+    requires place { place < rows (kind_in (shape_of bank.now).starts o) (class_of (table_id table)) }
     requires early { has_committed o (view pass.old).log ≡ false }
-    requires old_kind { old.0 ≡ entry_field (slots (class_of (name_of table))) (held o (view pass.old)).table place 4 }
-    requires old_payload { old.1 ≡ entry_field (slots (class_of (name_of table))) (held o (view pass.old)).table place 5 }
-    requires may { MayPuts (kind_in (shape_of bank.now).starts o) (name_of table) (known o (view pass.old)).content false
-        (held o (view pass.old))
-        (value_puts (slots (class_of (name_of table))) (held o (view pass.old)).table place value) }
+    requires old_kind { old.0 ≡ entry_field (slots (class_of (table_id table))) (held_words o (view pass.old)).table place 4 }
+    requires old_payload { old.1 ≡ entry_field (slots (class_of (table_id table))) (held_words o (view pass.old)).table place 5 }
+    requires may { MayPuts (kind_in (shape_of bank.now).starts o) (table_id table) (known_state o (view pass.old)).content false
+        (held_words o (view pass.old))
+        (value_puts (slots (class_of (table_id table))) (held_words o (view pass.old)).table place value) }
     ensures pass { IsPassOf bank.now pass.new }
     ensures stack { stack_of pass.new ≡ stack_of pass.old }
     ensures writes { WritesEntries (shape_of bank.now) o table (view pass.new) }
     ensures only { OnlyPut o (view pass.old) (view pass.new) }
-    ensures words { held o (view pass.new) ≡ with_puts (held o (view pass.old))
-        (value_puts (slots (class_of (name_of table))) (held o (view pass.old)).table place value) }
+    ensures words { held_words o (view pass.new) ≡ with_puts (held_words o (view pass.old))
+        (value_puts (slots (class_of (table_id table))) (held_words o (view pass.old)).table place value) }
 {
     let stored = Stored::Plain(value);
     let kind_word = stored_kind_of(stored);
@@ -131,18 +131,18 @@ pub fn set_entry(
     requires dict { kind_in (shape_of bank.now).starts d ≡ kind.Dict }
     requires table { HasTable (shape_of bank.now) d table (view pass.old) }
     requires entry { IsLiveEntry (shape_of bank.now) d table place key (view pass.old) }
-    requires old_kind { old.0 ≡ entry_field (slots (class_of (name_of table))) (held d (view pass.old)).table place 4 }
-    requires old_payload { old.1 ≡ entry_field (slots (class_of (name_of table))) (held d (view pass.old)).table place 5 }
+    requires old_kind { old.0 ≡ entry_field (slots (class_of (table_id table))) (held_words d (view pass.old)).table place 4 }
+    requires old_payload { old.1 ≡ entry_field (slots (class_of (table_id table))) (held_words d (view pass.old)).table place 5 }
     requires value { FitsStored (Plain value) }
     requires leaves { Leaves d called.now said.now (record {
-      content = with_value_at (known d (view pass.old)).content key value;
-      table = (known d (view pass.old)).table;
+      content = with_value_at (known_state d (view pass.old)).content key value;
+      table = (known_state d (view pass.old)).table;
     })
         (view pass.old) }
     ensures pass { IsPassOf bank.now pass.new }
     ensures stack { stack_of pass.new ≡ stack_of pass.old }
     ensures wrote { Wrote called.now said.now result (view pass.old) (view pass.new) }
-    ensures root { root_in (held d (view pass.new)) ≡ root_in (held d (view pass.old)) }
+    ensures root { root_in (held_words d (view pass.new)) ≡ root_in (held_words d (view pass.old)) }
 {
     let _ = key;
     versions_change_nothing();

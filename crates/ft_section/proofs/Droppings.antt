@@ -16,7 +16,7 @@ use Rattle.ft_section.proofs.InCalls.{one_if, has_counted}
 use Rattle.ft_section.proofs.Resumes.{push_some, none_some}
 use Rattle.ft_trace.specs.declared.Shape.{Shape}
 use Rattle.ft_trace.specs.declared.View.{View}
-use Rattle.ft_trace.specs.Addresses.{containers_in}
+use Rattle.ft_trace.specs.Addresses.{container_count}
 use Rattle.ft_trace.specs.Acts.{has_lock, is_writing}
 use Rattle.ft_trace.specs.BegunSections.{Begun, begun}
 
@@ -30,7 +30,7 @@ may_drop b p q i table same put =
     record {
       pass = (table ∙ i.0.0, ap (λ (v : View). v.shape) same ∙ i.0.1);
       even = λ o. ap (λ (v : View). is_writing o v.log) same ∙ i.1.still.even o;
-      low = λ o some_one. subst (λ (k : Shape). o < containers_in k) i.0.1 (i.1.low o (has_counted o (view p) (λ none. some_one (let a = i.1.locks o in omega (arith, a, none)))));
+      low = λ o some_one. subst (λ (k : Shape). o < container_count k) i.0.1 (i.1.low o (has_counted o (view p) (λ none. some_one (let a = i.1.locks o in omega (arith, a, none)))));
       count = λ o. let a = i.1.locks o in let e = ap (λ (v : View). lock_count o v) same in omega (arith, a, e);
       struck = λ o some_one. ap (λ (s : Stack). noted_in o s.sections) put;
     }

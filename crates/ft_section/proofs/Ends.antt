@@ -19,7 +19,7 @@ use Rattle.ft_section.proofs.Goings.{went_from, count_least}
 use Rattle.ft_section.proofs.Resumes.{push_some, noted_push, none_some}
 use Rattle.ft_trace.specs.declared.Shape.{Shape}
 use Rattle.ft_trace.specs.declared.View.{View}
-use Rattle.ft_trace.specs.Addresses.{containers_in}
+use Rattle.ft_trace.specs.Addresses.{container_count}
 use Rattle.ft_trace.specs.Acts.{is_writing}
 use Rattle.ft_trace.specs.BegunSections.{Begun, begun}
 
@@ -54,7 +54,7 @@ end_may b p q outer top said n r split table same put =
     record {
       pass = (table ∙ i.0.0, ap (λ (v : View). v.shape) same ∙ i.0.1);
       even = λ o. ap (λ (v : View). is_writing o v.log) same ∙ i.1.still.even o;
-      low = λ o some_one. subst (λ (k : Shape). o < containers_in k) i.0.1 (i.1.low o (has_counted o (view p) (λ none. some_one (
+      low = λ o some_one. subst (λ (k : Shape). o < container_count k) i.0.1 (i.1.low o (has_counted o (view p) (λ none. some_one (
           let a = i.1.locks o in let e = ap (noted_in o) split ∙ noted_push o outer top in omega (arith, a, e, none)))));
       count = λ o. let a = i.1.locks o in let e = ap (noted_in o) split ∙ noted_push o outer top in let f = ap (λ (v : View). lock_count o v) same in omega (arith, a, e, f);
       struck = λ o some_one. ap (noted_in o) put ∙ top_struck (view p) (stack_of p) outer top i.1 split o some_one;

@@ -13,17 +13,17 @@ use Rattle.ft_section.specs.Floors.{floor_word, owner_named, owner_of, owner_or,
 use Rattle.ft_trace.specs.declared.Act.TheVariants.{Lock, ReadCounter}
 use Rattle.ft_trace.specs.declared.Snap.{Snap}
 use Rattle.ft_trace.specs.declared.View.{View}
-use Rattle.ft_trace.specs.Acts.{has_lock, noted, floor_words}
-use Rattle.ft_trace.specs.Addresses.{Word, counter, lock_of, at, containers_in, Inside}
-use Rattle.ft_trace.specs.Traces.{Possible}
+use Rattle.ft_trace.specs.Acts.{has_lock, view_after, floor_words}
+use Rattle.ft_trace.specs.Addresses.{Word, counter, lock_of, at, container_count, Inside}
+use Rattle.ft_trace.specs.Traces.{IsReachable}
 use Rattle.ft_trace.proofs.Addresses.{at_apart}
 
 -- the number that a load of the counter gave
-pub counter_known : (v : View) (n : ℕ) → ∥ Possible (noted (ReadCounter n) v) ∥₁ → v.has_floor ≡ true → n ≡ floor_word counter v
+pub counter_known : (v : View) (n : ℕ) → ∥ IsReachable (view_after (ReadCounter n) v) ∥₁ → v.has_floor ≡ true → n ≡ floor_word counter v
 counter_known v n possible has = floor_found v (ReadCounter n) n (floor_word counter v) (λ p. p.0) possible has
 
 -- whose lock it was, where the pass lacked it
-pub tried_known : (v : View) (o f : ℕ) (s : Snap) → has_lock o v.log ≡ false → ∥ Possible (noted (Lock o f s) v) ∥₁ → v.has_floor ≡ true → owner_named f ≡ owner_of o v
+pub tried_known : (v : View) (o f : ℕ) (s : Snap) → has_lock o v.log ≡ false → ∥ IsReachable (view_after (Lock o f s) v) ∥₁ → v.has_floor ≡ true → owner_named f ≡ owner_of o v
 tried_known v o f s free possible has =
     let found : f ≡ floor_word (lock_of o) v = floor_found v (Lock o f s) f (floor_word (lock_of o) v) (λ p. p.0) possible has in
     ap owner_named found ∙ sym (ap (λ (b : Bool). if b then None else owner_named (floor_word (lock_of o) v)) free)
@@ -33,7 +33,7 @@ pub own_known : (v : View) (o : ℕ) → has_lock o v.log ≡ true → owner_of 
 own_known v o had = ap (λ (b : Bool). if b then None else owner_named (floor_word (lock_of o) v)) had
 
 -- the word of another container's lock, and the counter, are as they were
-other_floor : (v : View) (o f : ℕ) (s : Snap) (x : Word) → o < containers_in v.shape → Inside v.shape x → x ≢ lock_of o → floor_word x (noted (Lock o f s) v) ≡ floor_word x v
+other_floor : (v : View) (o f : ℕ) (s : Snap) (x : Word) → o < container_count v.shape → Inside v.shape x → x ≢ lock_of o → floor_word x (view_after (Lock o f s) v) ≡ floor_word x v
 other_floor v o f s x low inside apart =
     get_or-set_other (floor_words v.shape v.number v.log) (at v.shape (lock_of o)) (at v.shape x) _ 0 (λ e. apart (at_apart v.shape x (lock_of o) inside low e))
 
@@ -44,10 +44,10 @@ lock_counter : (o : ℕ) → counter ≢ lock_of o
 lock_counter o e = cc
 
 -- once it has taken a lock that was free
-pub took_finds : (v : View) (o : ℕ) (s : Snap) → has_lock o v.log ≡ false → o < containers_in v.shape → ∥ Possible (noted (Lock o 0 s) v) ∥₁ → FindsSame v (noted (Lock o 0 s) v)
+pub took_finds : (v : View) (o : ℕ) (s : Snap) → has_lock o v.log ≡ false → o < container_count v.shape → ∥ IsReachable (view_after (Lock o 0 s) v) ∥₁ → FindsSame v (view_after (Lock o 0 s) v)
 took_finds v o s free low possible has =
-    let w = noted (Lock o 0 s) v in
-    let owners : (p : ℕ) → p < containers_in v.shape → owner_of p w ≡ owner_of p v = λ p in_bank.
+    let w = view_after (Lock o 0 s) v in
+    let owners : (p : ℕ) → p < container_count v.shape → owner_of p w ≡ owner_of p v = λ p in_bank.
     dite (ℕ_discrete o p)
     (λ (e : o ≡ p).
     let here : has_lock p w.log ≡ true = ap (λ (b : Bool). cond b true (has_lock p v.log)) (eq-eqb o p e) in

@@ -9,20 +9,20 @@ use Rattle.ft_trace.specs.declared.Act.{Act}
 use Rattle.ft_trace.specs.declared.Act.TheVariants.{Lock}
 use Rattle.ft_trace.specs.declared.Snap.{Snap}
 use Rattle.ft_trace.specs.declared.View.{View}
-use Rattle.ft_trace.specs.Addresses.{containers_in}
-use Rattle.ft_trace.specs.Acts.{has_lock, noted}
-use Rattle.ft_trace.specs.Holds.{held, known}
+use Rattle.ft_trace.specs.Addresses.{container_count}
+use Rattle.ft_trace.specs.Acts.{has_lock, view_after}
+use Rattle.ft_trace.specs.Holds.{held_words, known_state}
 use Rattle.ft_trace.specs.Owners.{is_owner_in, had_locks, found_owners, FindsMore, LocksOnly}
-use Rattle.ft_trace.specs.Pictures.{Stands}
+use Rattle.ft_trace.specs.Pictures.{Represents}
 use Rattle.ft_trace.proofs.Cases.{miss}
 use Rattle.ft_trace.proofs.Owning.{one_or, is_first, found_stays, grown_finds_more}
 
 -- a try for a lock that the pass doesn't have
-only_tried : (v : View) (o f : ℕ) (s : Snap) → has_lock o v.log ≡ false → KeepsOthers o v (noted (Lock o f s) v) → OnlyLocked v (noted (Lock o f s) v)
+only_tried : (v : View) (o f : ℕ) (s : Snap) → has_lock o v.log ≡ false → KeepsOthers o v (view_after (Lock o f s) v) → OnlyLocked v (view_after (Lock o f s) v)
 only_tried v o f s free keeps =
-    let w : View = noted (Lock o f s) v in
+    let w : View = view_after (Lock o f s) v in
     let grew : w.log ≡ (Lock o f s ∷ []) ++ v.log = refl in
-    let knows : (p : ℕ) → p < containers_in v.shape → has_lock p v.log ≡ true → has_lock p w.log ≡ true → (held p w ≡ held p v) × (known p w ≡ known p v) = λ p low had has. keeps p low (λ e. true≢false (sym had ∙ (ap (λ (z : ℕ). has_lock z v.log) e ∙ free))) had in
+    let knows : (p : ℕ) → p < container_count v.shape → has_lock p v.log ≡ true → has_lock p w.log ≡ true → (held_words p w ≡ held_words p v) × (known_state p w ≡ known_state p v) = λ p low had has. keeps p low (λ e. true≢false (sym had ∙ (ap (λ (z : ℕ). has_lock z v.log) e ∙ free))) had in
     search
 
 gains : (b h : Bool) → (b ≡ true → h ≡ false) → one_if (cond b true h) ≡ one_if h + one_if b
@@ -39,22 +39,22 @@ pub at_one_is : (o : ℕ) (now : Bool) (r : ℕ) → (if now then at_one o r els
 at_one_is o true r some_one = eqb-true o r (counted (o == r) some_one)
 at_one_is o false r some_one = absurd (some_one refl)
 
-only_one : (v : View) (o : ℕ) (s : Snap) → LocksOnly (λ p. at_one o p ≢ 0) v (noted (Lock o 0 s) v)
+only_one : (v : View) (o : ℕ) (s : Snap) → LocksOnly (λ p. at_one o p ≢ 0) v (view_after (Lock o 0 s) v)
 only_one v o s p q is =
     ⊎_elim (λ (z : ((o == p) ≡ true) × ((v.number == q) ≡ true)). inr (sym (eqb-true v.number q z.1), λ none. let e : at_one o p ≡ 1 = ap one_if z.0 in omega (arith, e, none)))
     (λ (z : is_owner_in p q (had_locks v.number v.log) ≡ true). inl z)
     (one_or p q (o == p) (v.number == q) (is_owner_in p q (had_locks v.number v.log)) is)
 
 -- the lock was free
-pub took_lock : (v : View) (o : ℕ) (s : Snap) → has_lock o v.log ≡ false → o < containers_in v.shape → KeepsOthers o v (noted (Lock o 0 s) v) → Stands v.shape.texts (held o (noted (Lock o 0 s) v)) (known o (noted (Lock o 0 s) v)) → TookLocks (at_one o) v (noted (Lock o 0 s) v)
+pub took_lock : (v : View) (o : ℕ) (s : Snap) → has_lock o v.log ≡ false → o < container_count v.shape → KeepsOthers o v (view_after (Lock o 0 s) v) → Represents v.shape.texts (held_words o (view_after (Lock o 0 s) v)) (known_state o (view_after (Lock o 0 s) v)) → TookLocks (at_one o) v (view_after (Lock o 0 s) v)
 took_lock v o s free low keeps stands =
     let same : (p : ℕ) → at_one o p ≢ 0 → o ≡ p = λ p some_one. eqb-true o p (counted (o == p) some_one) in
     record {
       locked = only_tried v o 0 s free keeps;
       keeps = λ p had. stays (o == p) (has_lock p v.log) had;
       count = λ p. gains (o == p) (has_lock p v.log) (λ e. subst (λ (z : ℕ). has_lock z v.log ≡ false) (eqb-true o p e) free);
-      low = λ p some_one. subst (λ (z : ℕ). z < containers_in v.shape) (same p some_one) low;
-      stands = λ p some_one. subst (λ (z : ℕ). Stands v.shape.texts (held z (noted (Lock o 0 s) v)) (known z (noted (Lock o 0 s) v))) (same p some_one) stands;
+      low = λ p some_one. subst (λ (z : ℕ). z < container_count v.shape) (same p some_one) low;
+      stands = λ p some_one. subst (λ (z : ℕ). Represents v.shape.texts (held_words z (view_after (Lock o 0 s) v)) (known_state z (view_after (Lock o 0 s) v))) (same p some_one) stands;
       begun = refl;
       only = only_one v o s;
     }
@@ -65,9 +65,9 @@ same_has true false h e = refl
 same_has false c h e = refl
 
 -- another pass has it
-pub tried_lock : (v : View) (o f : ℕ) (s : Snap) → has_lock o v.log ≡ false → f ≢ 0 → KeepsOthers o v (noted (Lock o f s) v) → TookLocks (λ p. 0) v (noted (Lock o f s) v)
+pub tried_lock : (v : View) (o f : ℕ) (s : Snap) → has_lock o v.log ≡ false → f ≢ 0 → KeepsOthers o v (view_after (Lock o f s) v) → TookLocks (λ p. 0) v (view_after (Lock o f s) v)
 tried_lock v o f s free found keeps =
-    let same : (p : ℕ) → has_lock p (noted (Lock o f s) v).log ≡ has_lock p v.log = λ p. same_has (o == p) (f == 0) (has_lock p v.log) (ne_eqb f 0 found) in
+    let same : (p : ℕ) → has_lock p (view_after (Lock o f s) v).log ≡ has_lock p v.log = λ p. same_has (o == p) (f == 0) (has_lock p v.log) (ne_eqb f 0 found) in
     record {
       locked = only_tried v o f s free keeps;
       keeps = λ p had. same p ∙ had;

@@ -15,7 +15,7 @@ use Rattle.ft_trace.specs.declared.Act.{Act}
 use Rattle.ft_trace.specs.declared.Act.TheVariants.{Lock}
 use Rattle.ft_trace.specs.declared.Shape.{Shape}
 use Rattle.ft_trace.specs.declared.View.{View}
-use Rattle.ft_trace.specs.Addresses.{containers_in}
+use Rattle.ft_trace.specs.Addresses.{container_count}
 use Rattle.ft_trace.specs.Acts.{has_lock, is_writing, shown, seen_writes}
 use Rattle.ft_bank.proofs.Seen.{seen_rises}
 use Rattle.std.specs.Prelude.{max}
@@ -31,7 +31,7 @@ pub count_least : (o : ℕ) (v : View) → lock_count o v ≤ 1
 count_least o v = one_least (has_lock o v.log)
 
 -- where this was noted before, t is kept after
-pub went_from : (v w : View) (t : Stack) (amount before : ℕ → ℕ) → IsStill v → ((o : ℕ) → before o ≡ lock_count o v) → ((o : ℕ) → has_lock o v.log ≡ true → o < containers_in v.shape) → LetGo amount v w → ((o : ℕ) → noted_in o t.sections + taken_in o t.own + amount o ≡ before o) → All (λ x. IsLockTaking v.shape x.locks) t.sections → AreBegun t.sections (begun v.log) → ((o : ℕ) → amount o ≢ 0 → noted_in o t.sections ≡ 0) → ((q : ℕ) → t.mark ≡ Some q → AreMarked w t.sections) → InCall w t
+pub went_from : (v w : View) (t : Stack) (amount before : ℕ → ℕ) → IsStill v → ((o : ℕ) → before o ≡ lock_count o v) → ((o : ℕ) → has_lock o v.log ≡ true → o < container_count v.shape) → LetGo amount v w → ((o : ℕ) → noted_in o t.sections + taken_in o t.own + amount o ≡ before o) → All (λ x. IsLockTaking v.shape x.locks) t.sections → AreBegun t.sections (begun v.log) → ((o : ℕ) → amount o ≢ 0 → noted_in o t.sections ≡ 0) → ((q : ℕ) → t.mark ≡ Some q → AreMarked w t.sections) → InCall w t
 went_from v w t amount before still locks low go left takings begun' struck marked =
     let had : (o : ℕ) → has_lock o w.log ≡ true → has_lock o v.log ≡ true = λ o has. has_counted o v (λ zero_v. let c = go.count o in let h = counted_has o w has in omega (arith, c, h, zero_v)) in
     record {
@@ -44,7 +44,7 @@ went_from v w t amount before still locks low go left takings begun' struck mark
         stands = λ o _ has. let h = had o has in still_stands v w go.locked o (low o h) h has (still.stands o (low o h) h);
       };
       locks = λ o. let a = locks o in let c = go.count o in let l = left o in omega (arith, a, c, l);
-      low = λ o has. subst (λ (k : Shape). o < containers_in k) (sym go.locked.shape) (low o (had o has));
+      low = λ o has. subst (λ (k : Shape). o < container_count k) (sym go.locked.shape) (low o (had o has));
       sections = subst (λ (k : Shape). All (λ x. IsLockTaking k x.locks) t.sections) (sym go.locked.shape) takings;
       begun = go.begun t.sections begun' struck;
       marked = marked;
@@ -71,7 +71,7 @@ own_may b p q i same put =
     record {
       pass = (same.0 ∙ i.0.0, ap (λ (v : View). v.shape) same.1 ∙ i.0.1);
       even = λ o. ap (λ (v : View). is_writing o v.log) same.1 ∙ i.1.still.even o;
-      low = λ o some_one. subst (λ (k : Shape). o < containers_in k) i.0.1 (i.1.low o (has_counted o (view p) (λ none. some_one (let a = i.1.locks o in omega (arith, a, none)))));
+      low = λ o some_one. subst (λ (k : Shape). o < container_count k) i.0.1 (i.1.low o (has_counted o (view p) (λ none. some_one (let a = i.1.locks o in omega (arith, a, none)))));
       count = λ o. let a = i.1.locks o in let e = ap (λ (v : View). lock_count o v) same.1 in omega (arith, a, e);
       struck = λ o some_one. ap (λ (s : Stack). noted_in o s.sections) put ∙ own_unnoted (view p) (stack_of p) i.1 o some_one;
     }

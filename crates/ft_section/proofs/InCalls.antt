@@ -13,11 +13,11 @@ use Rattle.ft_section.specs.Locking.{OnlyLocked, TookLocks, KeepsStack, with_own
 use Rattle.ft_section.specs.LockTakings.{IsLockTaking, IsOwnFor, HasBoth}
 use Rattle.ft_trace.specs.declared.Shape.{Shape}
 use Rattle.ft_trace.specs.declared.View.{View}
-use Rattle.ft_trace.specs.Addresses.{containers_in}
+use Rattle.ft_trace.specs.Addresses.{container_count}
 use Rattle.ft_trace.specs.Acts.{has_lock}
-use Rattle.ft_trace.specs.Holds.{held, known}
+use Rattle.ft_trace.specs.Holds.{held_words, known_state}
 use Rattle.ft_trace.specs.BegunSections.{Begun}
-use Rattle.ft_trace.specs.Pictures.{Picture, Stands}
+use Rattle.ft_trace.specs.Pictures.{ContainerWords, Represents}
 
 abbrev pub one_if : Bool → ℕ
 one_if b = if b then 1 else 0
@@ -34,12 +34,12 @@ pub counted_has : (o : ℕ) (v : View) → has_lock o v.log ≡ true → lock_co
 counted_has o v has = ap one_if has
 
 -- what stands of a lock that the pass had stands where it knows the same
-pub still_stands : (v w : View) → OnlyLocked v w → (o : ℕ) → o < containers_in v.shape → has_lock o v.log ≡ true → has_lock o w.log ≡ true → Stands v.shape.texts (held o v) (known o v) → Stands w.shape.texts (held o w) (known o w)
+pub still_stands : (v w : View) → OnlyLocked v w → (o : ℕ) → o < container_count v.shape → has_lock o v.log ≡ true → has_lock o w.log ≡ true → Represents v.shape.texts (held_words o v) (known_state o v) → Represents w.shape.texts (held_words o w) (known_state o w)
 still_stands v w l o low had has stands =
     let k = l.knows o low had has in
-    subst (λ (s : Shape). Stands s.texts (held o w) (known o w)) (sym l.shape)
-    (subst (λ (x : Picture). Stands v.shape.texts x (known o w)) (sym k.0)
-    (subst (Stands v.shape.texts (held o v)) (sym k.1) stands))
+    subst (λ (s : Shape). Represents s.texts (held_words o w) (known_state o w)) (sym l.shape)
+    (subst (λ (x : ContainerWords). Represents v.shape.texts x (known_state o w)) (sym k.0)
+    (subst (Represents v.shape.texts (held_words o v)) (sym k.1) stands))
 
 -- the pass has taken locks, which the call in flight notes as its own
 pub took_in_call : (v w : View) (s : Stack) (amount : ℕ → ℕ) (own : Taking) → InCall v s → TookLocks amount v w → ((o : ℕ) → taken_in o own ≡ taken_in o s.own + amount o) → InCall w (with_own s own)
@@ -57,7 +57,7 @@ took_in_call v w s amount own i t is =
             (λ some_one. t.stands o some_one);
       };
       locks = λ o. let a = i.locks o in let b = is o in let c = t.count o in omega (arith, a, b, c);
-      low = λ o has. subst (λ (k : Shape). o < containers_in k) (sym t.locked.shape) (dite (ℕ_discrete (amount o) 0) (λ none. i.low o (had o has none)) (λ some_one. t.low o some_one));
+      low = λ o has. subst (λ (k : Shape). o < container_count k) (sym t.locked.shape) (dite (ℕ_discrete (amount o) 0) (λ none. i.low o (had o has none)) (λ some_one. t.low o some_one));
       sections = subst (λ (k : Shape). All (λ section. IsLockTaking k section.locks) s.sections) (sym t.locked.shape) i.sections;
       begun = subst (λ (b : List Begun). AreBegun s.sections b) (sym t.begun) i.begun;
       marked = λ q e outer top split. let m = i.marked q e outer top split in (m.0, ⊎_elim (λ (x : HasMarks top). inl x) (λ (x : HasBoth v top.locks). inr (t.keeps top.locks.lower x.0, t.keeps top.locks.upper x.1)) m.1);

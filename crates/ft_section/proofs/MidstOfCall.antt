@@ -10,7 +10,7 @@ use Rattle.ft_section.specs.LockTakings.{IsLockTaking, HasBoth}
 use Rattle.ft_section.proofs.InCalls.{one_if}
 use Rattle.ft_trace.specs.declared.Shape.{Shape}
 use Rattle.ft_trace.specs.declared.View.{View}
-use Rattle.ft_trace.specs.Addresses.{containers_in}
+use Rattle.ft_trace.specs.Addresses.{container_count}
 use Rattle.ft_trace.specs.Acts.{has_lock}
 use Rattle.ft_trace.specs.BegunSections.{Begun, begun}
 
@@ -20,7 +20,7 @@ in_call_stays v w s i shape locks sections still =
     record {
       still = still;
       locks = λ o. let a = i.locks o in let e = ap one_if (locks o) in omega (arith, a, e);
-      low = λ o has. subst (λ (k : Shape). o < containers_in k) (sym shape) (i.low o (sym (locks o) ∙ has));
+      low = λ o has. subst (λ (k : Shape). o < container_count k) (sym shape) (i.low o (sym (locks o) ∙ has));
       sections = subst (λ (k : Shape). All (λ x. IsLockTaking k x.locks) s.sections) (sym shape) i.sections;
       begun = subst (λ (b : List Begun). AreBegun s.sections b) (sym sections) i.begun;
       marked = λ q e outer top split.

@@ -22,7 +22,7 @@ use Rattle.ft_trace.specs.declared.Act.{Act}
 use Rattle.ft_trace.specs.declared.Act.TheVariants.{ReadCounter}
 use Rattle.ft_trace.specs.declared.Shape.{Shape}
 use Rattle.ft_trace.specs.declared.View.{View}
-use Rattle.ft_trace.specs.Addresses.{containers_in}
+use Rattle.ft_trace.specs.Addresses.{container_count}
 use Rattle.ft_trace.specs.Acts.{has_lock}
 use Rattle.ft_trace.specs.BegunSections.{Begun, begun, is_among, since_load, all_since_load}
 
@@ -116,7 +116,7 @@ entered b p objects n m low has noted order =
       low = i.low;
       sections = All-push (λ x. IsLockTaking v.shape x.locks) s.sections here i.sections (record {
         order = omega (arith, order, noted.lower, noted.upper);
-        low = subst (λ (k : Shape). s.own.upper < containers_in k) (sym m.inside.0.1) (subst (λ (z : ℕ). z < containers_in (shape_of b)) (sym noted.upper) low.1);
+        low = subst (λ (k : Shape). s.own.upper < container_count k) (sym m.inside.0.1) (subst (λ (z : ℕ). z < container_count (shape_of b)) (sym noted.upper) low.1);
         once = noted.once;
       });
       begun = subst (λ (x : List Begun). AreBegun (s.sections ++ here ∷ []) x) (sym (begun_here objects n v)) (inr (s.sections, here, refl, is_begun, i.begun));

@@ -13,8 +13,8 @@ use Rattle.ft_trace.specs.declared.Act.{Act}
 use Rattle.ft_trace.specs.declared.Act.TheVariants.{Unlock}
 use Rattle.ft_trace.specs.declared.Shape.{Shape}
 use Rattle.ft_trace.specs.declared.View.{View}
-use Rattle.ft_trace.specs.Addresses.{containers_in}
-use Rattle.ft_trace.specs.Acts.{has_lock, noted}
+use Rattle.ft_trace.specs.Addresses.{container_count}
+use Rattle.ft_trace.specs.Acts.{has_lock, view_after}
 use Rattle.ft_trace.specs.BegunSections.{Begun, begun, without, is_among}
 use Rattle.ft_trace.proofs.Owning.{same_owners, owners_then}
 
@@ -48,7 +48,7 @@ only_then u v w l m between =
       knows = λ p low had has.
           let then_has = between p had has in
           let a = l.knows p low had then_has in
-          let b = m.knows p (subst (λ (k : Shape). p < containers_in k) (sym l.shape) low) then_has has in
+          let b = m.knows p (subst (λ (k : Shape). p < container_count k) (sym l.shape) low) then_has has in
           (b.0 ∙ a.0, b.1 ∙ a.1);
     }
 
@@ -57,9 +57,9 @@ only_same v =
     let grew : v.log ≡ [] ++ v.log = refl in
     search
 
-only_unlocked : (v : View) (o : ℕ) → OnlyLocked v (noted (Unlock o) v)
+only_unlocked : (v : View) (o : ℕ) → OnlyLocked v (view_after (Unlock o) v)
 only_unlocked v o =
-    let grew : (noted (Unlock o) v).log ≡ (Unlock o ∷ []) ++ v.log = refl in
+    let grew : (view_after (Unlock o) v).log ≡ (Unlock o ∷ []) ++ v.log = refl in
     search
 
 -- a section that has the lock of o isn't one that no section notes
@@ -92,7 +92,7 @@ pub at_self : (o : ℕ) → at_one o o ≢ 0
 at_self o none = let e : at_one o o ≡ 1 = ap one_if (eq-eqb o o refl) in omega (arith, e, none)
 
 -- one lock is let go
-pub let_one : (v : View) (o : ℕ) → has_lock o v.log ≡ true → LetGo (at_one o) v (noted (Unlock o) v)
+pub let_one : (v : View) (o : ℕ) → has_lock o v.log ≡ true → LetGo (at_one o) v (view_after (Unlock o) v)
 let_one v o has =
     record {
       locked = only_unlocked v o;

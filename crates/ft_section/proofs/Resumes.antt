@@ -17,7 +17,7 @@ use Rattle.ft_section.proofs.InCalls.{one_if}
 use Rattle.ft_section.proofs.Notes.{noted-append}
 use Rattle.ft_section.proofs.Goings.{count_least}
 use Rattle.ft_trace.specs.declared.View.{View}
-use Rattle.ft_trace.specs.Addresses.{containers_in}
+use Rattle.ft_trace.specs.Addresses.{container_count}
 use Rattle.ft_trace.specs.Acts.{has_lock}
 use Rattle.ft_trace.specs.BegunSections.{Begun, begun}
 
@@ -89,7 +89,7 @@ resumed b q r outer top again i split taken lower upper marks once has table sam
       low = i.1.low;
       sections = All-push (λ x. IsLockTaking v.shape x.locks) outer again takings.0 (record {
         order = let o = takings.1.order in omega (arith, o, lower, upper);
-        low = let l = takings.1.low in subst (λ (z : ℕ). z < containers_in v.shape) (sym upper) l;
+        low = let l = takings.1.low in subst (λ (z : ℕ). z < container_count v.shape) (sym upper) l;
         once = once;
       });
       begun = begun_again outer top again (begun v.log) lower upper marks more (subst (λ (xs : List OpenSection). AreBegun xs (begun v.log)) split i.1.begun);

@@ -14,7 +14,7 @@ use Rattle.ft_section.specs.LockTakings.{IsLockTaking}
 use Rattle.ft_section.proofs.InCalls.{has_counted, counted_has, still_stands}
 use Rattle.ft_trace.specs.declared.Shape.{Shape}
 use Rattle.ft_trace.specs.declared.View.{View}
-use Rattle.ft_trace.specs.Addresses.{containers_in}
+use Rattle.ft_trace.specs.Addresses.{container_count}
 use Rattle.ft_trace.specs.Acts.{has_lock, is_writing}
 use Rattle.ft_trace.specs.BegunSections.{Begun, begun}
 
@@ -54,7 +54,7 @@ may_sweep b p q m i table same put =
     record {
       pass = (table ∙ i.0.0, ap (λ (v : View). v.shape) same ∙ i.0.1);
       even = λ o. ap (λ (v : View). is_writing o v.log) same ∙ i.1.still.even o;
-      low = λ o some_one. subst (λ (k : Shape). o < containers_in k) i.0.1 (i.1.low o (has_counted o (view p) (λ none. some_one (let a = i.1.locks o in omega (arith, a, none)))));
+      low = λ o some_one. subst (λ (k : Shape). o < container_count k) i.0.1 (i.1.low o (has_counted o (view p) (λ none. some_one (let a = i.1.locks o in omega (arith, a, none)))));
       count = λ o. let a = i.1.locks o in let e = ap (λ (v : View). lock_count o v) same in omega (arith, a, e);
       struck = λ o some_one. ap (noted_in o) put ∙ suspended_none m o (stack_of p).sections;
     }
@@ -76,8 +76,8 @@ waits v w s q i was go =
           stands = λ o low has. let h = had o has in still_stands v w go.locked o (i.low o h) h has (i.still.stands o (i.low o h) h);
         };
         locks = λ o. let a = i.locks o in let c = go.count o in let z = none o in omega (arith, a, c, z);
-        low = λ o has. subst (λ (k : Shape). o < containers_in k) (sym go.locked.shape) (i.low o (had o has));
-        sections = All-map (λ x. IsLockTaking w.shape x.locks) (suspended m) s.sections (All-weaker (λ x. IsLockTaking v.shape x.locks) (λ x. IsLockTaking w.shape (suspended m x).locks) (λ x is. record { order = is.order; low = subst (λ (k : Shape). x.locks.upper < containers_in k) (sym go.locked.shape) is.low; once = λ e. refl }) s.sections i.sections);
+        low = λ o has. subst (λ (k : Shape). o < container_count k) (sym go.locked.shape) (i.low o (had o has));
+        sections = All-map (λ x. IsLockTaking w.shape x.locks) (suspended m) s.sections (All-weaker (λ x. IsLockTaking v.shape x.locks) (λ x. IsLockTaking w.shape (suspended m x).locks) (λ x is. record { order = is.order; low = subst (λ (k : Shape). x.locks.upper < container_count k) (sym go.locked.shape) is.low; once = λ e. refl }) s.sections i.sections);
         begun = go.begun (map (suspended m) s.sections) (begun_marked m (begun v.log) s.sections all i.begun) (λ o some_one. none o);
         marked = λ p e outer top split. let parts = marked_split (map (suspended m) s.sections) outer top split all in (parts.0, inl parts.1);
       },

@@ -11,7 +11,7 @@ use Rattle.ft_section.specs.declared.answers.Resumed.TheVariants as resumed
 use Rattle.ft_section.specs.LockTakings.{lower_of, upper_of}
 use Rattle.ft_trace.specs.declared.View.{View}
 use Rattle.ft_trace.specs.Acts.{has_lock, floor_words}
-use Rattle.ft_trace.specs.Addresses.{Word, counter, lock_of, at, containers_in}
+use Rattle.ft_trace.specs.Addresses.{Word, counter, lock_of, at, container_count}
 
 -- a word of the bank, as a pass with the floor knows it
 abbrev pub floor_word : Word → View → ℕ
@@ -69,5 +69,5 @@ abbrev pub FindsSame : View → View → Type 0
 FindsSame v w =
     v.has_floor ≡ true
     → (w.has_floor ≡ true)
-    × ((o : ℕ) → o < containers_in v.shape → owner_of o w ≡ owner_of o v)
+    × ((o : ℕ) → o < container_count v.shape → owner_of o w ≡ owner_of o v)
     × (floor_word counter w ≡ floor_word counter v)

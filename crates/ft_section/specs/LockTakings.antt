@@ -6,7 +6,7 @@ use Rattle.ft_section.specs.declared.answers.Objects.{Objects}
 use Rattle.ft_section.specs.declared.answers.Objects.TheVariants.{One, Two}
 use Rattle.ft_trace.specs.declared.Shape.{Shape}
 use Rattle.ft_trace.specs.declared.View.{View}
-use Rattle.ft_trace.specs.Addresses.{containers_in}
+use Rattle.ft_trace.specs.Addresses.{container_count}
 use Rattle.ft_trace.specs.Acts.{has_lock}
 
 -- the container with the lower number
@@ -25,7 +25,7 @@ IsOf o objects = (o ≡ lower_of objects) ⊎ (o ≡ upper_of objects)
 
 -- the bank has these containers
 abbrev pub AreIn : Shape → Objects → Type 0
-AreIn k objects = (lower_of objects < containers_in k) × (upper_of objects < containers_in k)
+AreIn k objects = (lower_of objects < container_count k) × (upper_of objects < container_count k)
 
 -- Of the locks of these containers, the lower one first, the call in flight has at most taken the lower one itself.
 -- (profile)
@@ -36,7 +36,7 @@ IsOwnFor lower upper own =
 -- the lower number comes first, the bank has both, and where there is one alone its lock is noted once
 pub record IsLockTaking (k : Shape) (t : Taking) : Type 0 where
   pub order : t.lower ≤ t.upper
-  pub low : t.upper < containers_in k
+  pub low : t.upper < container_count k
   pub once : t.lower ≡ t.upper → t.took_upper ≡ false
 
 -- the pass has the locks of these containers

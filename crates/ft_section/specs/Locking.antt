@@ -13,14 +13,14 @@ use Rattle.ft_trace.specs.declared.Act.{Act}
 use Rattle.ft_trace.specs.declared.Act.TheVariants.{Lock}
 use Rattle.ft_trace.specs.declared.Snap.{Snap}
 use Rattle.ft_trace.specs.declared.View.{View}
-use Rattle.ft_trace.specs.Addresses.{containers_in}
+use Rattle.ft_trace.specs.Addresses.{container_count}
 use Rattle.ft_trace.specs.Acts.{has_lock, is_writing, has_committed, has_emptied, stage, announces, used, debt, owes, flight}
 use Rattle.ft_trace.specs.Floors.{at_floor}
 use Rattle.ft_trace.specs.Hands.{cursor_in}
 use Rattle.ft_trace.specs.Owners.{LocksOnly, SameOwners}
-use Rattle.ft_trace.specs.Holds.{held, known}
+use Rattle.ft_trace.specs.Holds.{held_words, known_state}
 use Rattle.ft_trace.specs.BegunSections.{begun}
-use Rattle.ft_trace.specs.Pictures.{Stands}
+use Rattle.ft_trace.specs.Pictures.{Represents}
 
 -- The pass has taken locks or let locks go, and done nothing else. Of each container whose lock it had and has it knows
 -- the same. (profile)
@@ -48,8 +48,8 @@ pub record OnlyLocked (v w : View) : Type 0 where
   pub debt : debt w.log ≡ debt v.log
   pub owes : owes w.log ≡ owes v.log
   pub flight : flight w.log ≡ flight v.log
-  pub knows : (p : ℕ) → p < containers_in v.shape → has_lock p v.log ≡ true → has_lock p w.log ≡ true
-      → (held p w ≡ held p v) × (known p w ≡ known p v)
+  pub knows : (p : ℕ) → p < container_count v.shape → has_lock p v.log ≡ true → has_lock p w.log ≡ true
+      → (held_words p w ≡ held_words p v) × (known_state p w ≡ known_state p v)
 
 -- it has each lock that it had
 abbrev pub KeepsLocks : View → View → Type 0
@@ -72,8 +72,8 @@ pub record TookLocks (amount : ℕ → ℕ) (v w : View) : Type 0 where
   pub locked : OnlyLocked v w
   pub keeps : KeepsLocks v w
   pub count : (o : ℕ) → lock_count o w ≡ lock_count o v + amount o
-  pub low : (o : ℕ) → amount o ≢ 0 → o < containers_in v.shape
-  pub stands : (o : ℕ) → amount o ≢ 0 → Stands w.shape.texts (held o w) (known o w)
+  pub low : (o : ℕ) → amount o ≢ 0 → o < container_count v.shape
+  pub stands : (o : ℕ) → amount o ≢ 0 → Represents w.shape.texts (held_words o w) (known_state o w)
   pub begun : begun w.log ≡ begun v.log
   pub only : LocksOnly (λ o. amount o ≢ 0) v w
 
@@ -90,7 +90,7 @@ pub record LetGo (amount : ℕ → ℕ) (v w : View) : Type 0 where
 pub record MayLetGo (amount : ℕ → ℕ) (b : Bank) (p : Pass) : Type 0 where
   pub pass : IsPassOf b p
   pub even : (o : ℕ) → is_writing o (view p).log ≡ false
-  pub low : (o : ℕ) → amount o ≢ 0 → o < containers_in (shape_of b)
+  pub low : (o : ℕ) → amount o ≢ 0 → o < container_count (shape_of b)
   pub count : (o : ℕ) → amount o ≤ lock_count o (view p)
   pub struck : (o : ℕ) → amount o ≢ 0 → noted_in o (stack_of p).sections ≡ 0
 

@@ -8,11 +8,11 @@ use Rattle.ft_bank.specs.PassSections.{Stack, stack_of, taken_in, noted_in, noth
 use Rattle.ft_section.specs.declared.answers.Objects.{Objects}
 use Rattle.ft_section.specs.LockTakings.{IsLockTaking, IsOwnFor, HasBoth, lower_of, upper_of}
 use Rattle.ft_trace.specs.declared.View.{View}
-use Rattle.ft_trace.specs.Addresses.{containers_in}
+use Rattle.ft_trace.specs.Addresses.{container_count}
 use Rattle.ft_trace.specs.Acts.{has_lock, is_writing, stage, used, owes, flight}
-use Rattle.ft_trace.specs.Holds.{held, known}
+use Rattle.ft_trace.specs.Holds.{held_words, known_state}
 use Rattle.ft_trace.specs.BegunSections.{Begun, begun, is_among}
-use Rattle.ft_trace.specs.Pictures.{Stands}
+use Rattle.ft_trace.specs.Pictures.{Represents}
 
 -- A pass is in the midst of no write and of no taking of a table: no version is odd by it, it has no table in hand but
 -- such as it retired, and the words of each container whose lock it has stand for what the writes make of it. (profile)
@@ -22,8 +22,8 @@ pub record IsStill (v : View) : Type 0 where
   pub used : used v.log ≡ false
   pub owes : owes v.log ≡ 0
   pub flight : flight v.log ≡ 0
-  pub stands : (o : ℕ) → o < containers_in v.shape → has_lock o v.log ≡ true
-      → Stands v.shape.texts (held o v) (known o v)
+  pub stands : (o : ℕ) → o < container_count v.shape → has_lock o v.log ≡ true
+      → Represents v.shape.texts (held_words o v) (known_state o v)
 
 -- 1 where the pass has the lock of o, and else 0
 abbrev pub lock_count : ℕ → View → ℕ
@@ -61,7 +61,7 @@ AreMarked v sections =
 pub record InCall (v : View) (s : Stack) : Type 0 where
   pub still : IsStill v
   pub locks : (o : ℕ) → noted_in o s.sections + taken_in o s.own ≡ lock_count o v
-  pub low : (o : ℕ) → has_lock o v.log ≡ true → o < containers_in v.shape
+  pub low : (o : ℕ) → has_lock o v.log ≡ true → o < container_count v.shape
   pub sections : All (λ section. IsLockTaking v.shape section.locks) s.sections
   pub begun : AreBegun s.sections (begun v.log)
   pub marked : (q : ℕ) → s.mark ≡ Some q → AreMarked v s.sections

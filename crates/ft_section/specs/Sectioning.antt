@@ -18,7 +18,7 @@ use Rattle.ft_section.specs.LockTakings.{lower_of, upper_of}
 use Rattle.ft_trace.specs.declared.Act.{Act}
 use Rattle.ft_trace.specs.declared.Act.TheVariants.{ReadCounter, Answer}
 use Rattle.ft_trace.specs.declared.View.{View}
-use Rattle.ft_trace.specs.Acts.{noted}
+use Rattle.ft_trace.specs.Acts.{view_after}
 use Rattle.ft_trace.specs.Causes.{HasCause}
 use Rattle.std.specs.Prelude.{List, ◌∷◌, length}
 use Rattle.ft_trace.specs.Entries.{IsNumber}
@@ -42,7 +42,7 @@ ended_by marks s = if marks == 0 then ended.Kept s else ended.Suspended marks s
 
 -- the pass has loaded the counter, and then made the entry of the call with that number
 abbrev pub answered_view : Call → Reply → ℕ → View → View
-answered_view called said n v = noted (Answer called said n) (noted (ReadCounter n) v)
+answered_view called said n v = view_after (Answer called said n) (view_after (ReadCounter n) v)
 
 -- the call isn't a write and asks no cursor, and a pass with this log may reply so whatever the containers have, at a
 -- load of the counter

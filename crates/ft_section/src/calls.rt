@@ -11,7 +11,7 @@ ghost use Rattle.ft_section.specs.Floors.{FindsSame, KnewOwners};
 ghost use Rattle.ft_section.specs.Sectioning.{AreNoted};
 ghost use Rattle.ft_section.specs.LockTakings.{IsOf, AreIn, HasLocks};
 ghost use Rattle.ft_section.specs.Trying.{HasTaken, WaitsFor};
-ghost use Rattle.ft_trace.specs.Addresses.{containers_in};
+ghost use Rattle.ft_trace.specs.Addresses.{container_count};
 ghost use Rattle.ft_trace.specs.Acts.{has_lock};
 ghost use Rattle.ft_trace.specs.Owners.{SameOwners};
 

@@ -8,7 +8,7 @@ ghost use Rattle.ft_section.specs.Ready.{IsInCall, lock_count};
 ghost use Rattle.ft_section.specs.Locking.{TookLocks, OnlyLocked, KeepsLocks, FoundOwner, KeepsLower, KeepsStack, at_one, with_own};
 ghost use Rattle.ft_section.specs.Floors.{FindsSame, first_found, first_owned, owner_found, owner_of, owner_or};
 ghost use Rattle.ft_section.specs.LockTakings.{IsOwnFor};
-ghost use Rattle.ft_trace.specs.Addresses.{containers_in};
+ghost use Rattle.ft_trace.specs.Addresses.{container_count};
 ghost use Rattle.ft_trace.specs.Acts.{has_lock};
 ghost use Rattle.ft_trace.specs.Owners.{LocksOnly};
 
@@ -47,7 +47,7 @@ pub(crate) fn has(pass: &Pass, o: Object) -> bool
 #[inline(always)]
 fn take_one(bank: &Bank, pass: &mut Pass, o: Object) -> Result<bool, Owner>
     requires inside { IsInCall bank.now pass.old }
-    requires container { o < containers_in (shape_of bank.now) }
+    requires container { o < container_count (shape_of bank.now) }
     ensures stack { KeepsStack pass.old pass.new }
     ensures took { IfOk result (λ now. TookLocks (λ p. if now then at_one o p else 0) (view pass.old) (view pass.new)) }
     ensures now { IfOk result (λ now. now ≡ not (has_lock o (view pass.old).log)) }
@@ -104,7 +104,7 @@ fn noting_upper(own: Taking, now: bool) -> Taking
 /// container and the pass that has it.
 fn take_lower(bank: &Bank, pass: &mut Pass) -> Result<(), (Object, Owner)>
     requires inside { IsInCall bank.now pass.old }
-    requires container { (stack_of pass.old).own.lower < containers_in (shape_of bank.now) }
+    requires container { (stack_of pass.old).own.lower < container_count (shape_of bank.now) }
     ensures inside { IsInCall bank.now pass.new }
     ensures locked { OnlyLocked (view pass.old) (view pass.new) }
     ensures keeps { KeepsLocks (view pass.old) (view pass.new) }
@@ -133,7 +133,7 @@ fn take_lower(bank: &Bank, pass: &mut Pass) -> Result<(), (Object, Owner)>
 /// The same of its upper one, which may be the same.
 fn take_upper(bank: &Bank, pass: &mut Pass) -> Result<(), (Object, Owner)>
     requires inside { IsInCall bank.now pass.old }
-    requires container { (stack_of pass.old).own.upper < containers_in (shape_of bank.now) }
+    requires container { (stack_of pass.old).own.upper < container_count (shape_of bank.now) }
     ensures inside { IsInCall bank.now pass.new }
     ensures locked { OnlyLocked (view pass.old) (view pass.new) }
     ensures keeps { KeepsLocks (view pass.old) (view pass.new) }
@@ -169,7 +169,7 @@ pub(crate) fn take_both(
     upper: Object,
 ) -> Result<(), (Object, Owner)>
     requires inside { IsInCall bank.now pass.old }
-    requires containers { (lower < containers_in (shape_of bank.now)) × (upper < containers_in (shape_of bank.now)) }
+    requires containers { (lower < container_count (shape_of bank.now)) × (upper < container_count (shape_of bank.now)) }
     requires own { IsOwnFor lower upper (stack_of pass.old).own }
     ensures inside { IsInCall bank.now pass.new }
     ensures locked { OnlyLocked (view pass.old) (view pass.new) }

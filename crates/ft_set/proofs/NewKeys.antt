@@ -24,9 +24,9 @@ use Rattle.ft_layout.specs.declared.slot.Stored.TheVariants.{Empty}
 use Rattle.ft_layout.specs.Words.{FitsKey}
 use Rattle.ft_trace.specs.declared.View.{View}
 use Rattle.ft_trace.specs.Acts.{has_lock}
-use Rattle.ft_trace.specs.Addresses.{containers_in}
+use Rattle.ft_trace.specs.Addresses.{container_count}
 use Rattle.ft_trace.specs.FitCalls.{FitsSetCall}
-use Rattle.ft_trace.specs.Holds.{known}
+use Rattle.ft_trace.specs.Holds.{known_state}
 use Rattle.ft_trace.specs.ContainerStates.{state_at}
 use Rattle.ft_trace.proofs.SetGrowing.{added_next, added_length}
 use Rattle.ft_trace.proofs.Naming.{named_locked}
@@ -35,7 +35,7 @@ use Rattle.ft_adding.specs.KeyGrowth.{AddsKey, key_takes, most_of}
 use Rattle.ft_adding.specs.Placing.{with_key}
 use Rattle.ft_set.proofs.Leaving.{set_is, table_is, many_tables, replies, declared, left_at}
 
-module _ (s : ℕ) (v : View) (elements : SetContent) (low : s < containers_in v.shape) (mine : has_lock s v.log ≡ true) (is_set : (known s v).content ≡ content.Set elements) (key : Key) (missing : has_element elements.elements key ≡ false) (sc : SetCall) (said : Reply) (other : other_set sc ≡ None) (cursor : cursor_of_set sc ≡ None) (grows : set_change sc ≡ change.Grows) (quiet : is_raised said ≡ false) where
+module _ (s : ℕ) (v : View) (elements : SetContent) (low : s < container_count v.shape) (mine : has_lock s v.log ≡ true) (is_set : (known_state s v).content ≡ content.Set elements) (key : Key) (missing : has_element elements.elements key ≡ false) (sc : SetCall) (said : Reply) (other : other_set sc ≡ None) (cursor : cursor_of_set sc ≡ None) (grows : set_change sc ≡ change.Grows) (quiet : is_raised said ≡ false) where
   abbrev called : Call
   called = call.Set s sc
 
@@ -43,7 +43,7 @@ module _ (s : ℕ) (v : View) (elements : SetContent) (low : s < containers_in v
   news = set_add elements key
 
   abbrev had : TableUse
-  had = (known s v).table
+  had = (known_state s v).table
 
   module _ (found : StoredWorld) (has : MayHave v found) (answered : answer_set found.world no_hands s elements sc ≡ puts found.world no_hands s (content.Set news) said) where
     abbrev after : List Content
@@ -119,6 +119,6 @@ module _ (s : ℕ) (v : View) (elements : SetContent) (low : s < containers_in v
   }
 
 -- s.add(k) for an element that isn't there
-module _ (s : ℕ) (v : View) (elements : SetContent) (low : s < containers_in v.shape) (mine : has_lock s v.log ≡ true) (is_set : (known s v).content ≡ content.Set elements) (key : Key) (fits : FitsKey key) (missing : has_element elements.elements key ≡ false) where
+module _ (s : ℕ) (v : View) (elements : SetContent) (low : s < container_count v.shape) (mine : has_lock s v.log ≡ true) (is_set : (known_state s v).content ≡ content.Set elements) (key : Key) (fits : FitsKey key) (missing : has_element elements.elements key ≡ false) where
   pub add_adds : AddsKey s (call.Set s (set.Add key)) reply.Done key Empty v
   add_adds = adds_key s v elements low mine is_set key missing (set.Add key) reply.Done refl refl refl refl refl fits (λ found has. refl)

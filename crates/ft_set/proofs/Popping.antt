@@ -25,14 +25,14 @@ use Rattle.ft_model.specs.Keys.{as_value}
 use Rattle.ft_model.specs.Worlds.{kind_of, no_hands, set_of}
 use Rattle.ft_trace.specs.declared.Shape.{Shape}
 use Rattle.ft_trace.specs.declared.View.{View}
-use Rattle.ft_trace.specs.Addresses.{class_of, containers_in, places}
-use Rattle.ft_trace.specs.Holds.{held, known}
+use Rattle.ft_trace.specs.Addresses.{class_of, container_count, places}
+use Rattle.ft_trace.specs.Holds.{held_words, known_state}
 use Rattle.ft_trace.specs.Kinds.{rows}
-use Rattle.ft_trace.specs.Traces.{Possible}
-use Rattle.ft_trace.specs.Pictures.{Picture, root_in}
+use Rattle.ft_trace.specs.Traces.{IsReachable}
+use Rattle.ft_trace.specs.Pictures.{ContainerWords, root_in}
 use Rattle.ft_trace.specs.ContainerStates.{ContainerState, kind_in}
 use Rattle.ft_bank.specs.declared.table.Table.{Table}
-use Rattle.ft_bank.specs.TableNames.{IsTableIn, name_of}
+use Rattle.ft_bank.specs.TableNames.{IsTableIn, table_id}
 use Rattle.ft_search.specs.MadeCalls.{IsShownBy}
 use Rattle.ft_search.specs.OneEntryWrites.{HasTable, IsLiveEntry, Leaves, MayWriteEntries, without_key}
 use Rattle.ft_search.proofs.Changing.{kind_is}
@@ -59,7 +59,7 @@ FirstEntriesAreFirst =
 -- ---- in a table
 
 -- the entry at the place was read
-pub first_some : (k : Shape) (table : Table) (fill place : ℕ) (key : Key) (x : Picture) → IsTableIn k table → FitsKey key → OfUsed k (name_of table) (IsFirst fill (Some place)) x → IsKeyAt k (name_of table) place (Some key) x → IsFirstIn k table fill (Some (record { table = table; place = place; key = key })) x
+pub first_some : (k : Shape) (table : Table) (fill place : ℕ) (key : Key) (x : ContainerWords) → IsTableIn k table → FitsKey key → OfUsed k (table_id table) (IsFirst fill (Some place)) x → IsKeyAt k (table_id table) place (Some key) x → IsFirstIn k table fill (Some (record { table = table; place = place; key = key })) x
 first_some k table fill place key x is_in fits first at = (
   refl,
   record { table_in = is_in; live = λ names. at.1 names key refl; fits = fits },
@@ -73,14 +73,14 @@ no_elements [] e = refl
 no_elements (element ∷ elements) e = absurd (cc)
 
 -- no entry is there
-pub first_none : (k : Shape) (table : Table) (fill : ℕ) (x : Picture) → OfUsed k (name_of table) (IsFirst fill None) x → IsFirstIn k table fill None x
+pub first_none : (k : Shape) (table : Table) (fill : ℕ) (x : ContainerWords) → OfUsed k (table_id table) (IsFirst fill None) x → IsFirstIn k table fill None x
 first_none k table fill x first names way used table_is filled set are is = no_elements set.elements (sym (none_live used fill filled (first names way used table_is filled)) ∙ are.live)
 
 -- an entry that is there has its element
 key_live : (e : UsedEntry) (element : Element) → e ≡ used_element element → live_key e ≡ Some element.key
 key_live e element is = ap live_key is
 
-pub first_odd : LiveEntriesAreElements → (k : Shape) (table : Table) (fill place : ℕ) (x : Picture) → OfUsed k (name_of table) (IsFirst fill (Some place)) x → IsKeyAt k (name_of table) place None x → IsFirstIn k table fill None x
+pub first_odd : LiveEntriesAreElements → (k : Shape) (table : Table) (fill place : ℕ) (x : ContainerWords) → OfUsed k (table_id table) (IsFirst fill (Some place)) x → IsKeyAt k (table_id table) place None x → IsFirstIn k table fill None x
 first_odd lives k table fill place x first at names way used table_is filled set are is =
     let found = first names way used table_is filled in
     let low : place < length used = let less = found.0 in omega (arith, less, filled) in
@@ -90,7 +90,7 @@ first_odd lives k table fill place x first at names way used table_is filled set
     absurd (let some = at.0 names way used table_is any low ∙ key_live e element.0 element.1 in cc)
 
 -- whatever was read there
-pub first_found : LiveEntriesAreElements → (k : Shape) (table : Table) (fill place : ℕ) (x : Picture) → IsTableIn k table → (found : Option Key) → IfSome found (λ key. (place < places (class_of (name_of table))) × FitsKey key) → OfUsed k (name_of table) (IsFirst fill (Some place)) x → IsKeyAt k (name_of table) place found x
+pub first_found : LiveEntriesAreElements → (k : Shape) (table : Table) (fill place : ℕ) (x : ContainerWords) → IsTableIn k table → (found : Option Key) → IfSome found (λ key. (place < places (class_of (table_id table))) × FitsKey key) → OfUsed k (table_id table) (IsFirst fill (Some place)) x → IsKeyAt k (table_id table) place found x
     → IsFirstIn k table fill (option_map (λ (key : Key). record { table = table; place = place; key = key }) found) x
 first_found lives k table fill place x is_in None within first at = first_odd lives k table fill place x first at
 first_found lives k table fill place x is_in (Some key) within first at = first_some k table fill place key x is_in within.1 first at
@@ -109,11 +109,11 @@ live_keyed e p is = by e.stored is
     by (Some s) same = refl
     by None same = absurd (cc)
 
-pub first_of : LiveEntriesAreElements → FirstEntriesAreFirst → (k : Shape) (table : Table) (fill : ℕ) (found : Option First) (x : Picture) → root_in x ≡ suc (name_of table) → fill ≡ slice_index x.block 2 → IsFirstIn k table fill found x → IsFirstOf k found x
+pub first_of : LiveEntriesAreElements → FirstEntriesAreFirst → (k : Shape) (table : Table) (fill : ℕ) (found : Option First) (x : ContainerWords) → root_in x ≡ suc (table_id table) → fill ≡ slice_index x.block 2 → IsFirstIn k table fill found x → IsFirstOf k found x
 first_of lives firsts k table fill None x names filled first =
-    of_set_low k (name_of table) fill x (λ used. (set : SetContent) → AreSetEntries used set → IsSet set.next set.elements → length set.elements ≡ 0) names filled first (IsFirstElement k None x) (λ used set are is few holds. holds set are is)
+    of_set_low k (table_id table) fill x (λ used. (set : SetContent) → AreSetEntries used set → IsSet set.next set.elements → length set.elements ≡ 0) names filled first (IsFirstElement k None x) (λ used set are is few holds. holds set are is)
 first_of lives firsts k table fill (Some first) x names filled is_first =
-    of_set_low k (name_of table) fill x (λ used. (fill ≡ length used) × (first.place < fill) × NoneThere 0 first.place used × ((any : UsedEntry) → live_key (slice_index_or used first.place any) ≡ Some first.key)) names filled
+    of_set_low k (table_id table) fill x (λ used. (fill ≡ length used) × (first.place < fill) × NoneThere 0 first.place used × ((any : UsedEntry) → live_key (slice_index_or used first.place any) ≡ Some first.key)) names filled
     (λ named way used is many. let all = is_first.2 named way used is many in (many, all.0, all.1, all.2)) (IsFirstElement k (Some first) x)
     (λ used set are is few holds.
     let any : UsedEntry = record { key = first.key; serial = 0; stored = None } in
@@ -124,7 +124,7 @@ first_of lives firsts k table fill (Some first) x names filled is_first =
     let all = firsts used set first.place element.0 are is (at ∙ ap Some element.1) (λ j any' small. holds.2 j any' (omega arith) small) in
     let both : Some element.0.key ≡ Some first.key = sym (key_live e element.0 element.1) ∙ holds.3 any in
     let one : element.0.key ≡ first.key = ap (λ (z : Option Key). found_in z first.key) both in
-    let same : name_of first.table ≡ name_of table = ap name_of is_first.0 in (
+    let same : table_id first.table ≡ table_id table = ap table_id is_first.0 in (
       names ∙ ap suc (sym same),
       is_first.1,
       subst (λ (t : ℕ). first.place < set_entries (class_of t)) (sym same) (omega (arith, low, few)),
@@ -132,20 +132,20 @@ first_of lives firsts k table fill (Some first) x names filled is_first =
       subst (λ (z : Key). set_discard set z ≡ without_first set) one all.1,
     ))
 
-pub first_bare : (k : Shape) (x : Picture) → root_in x ≡ 0 → IsFirstOf k None x
+pub first_bare : (k : Shape) (x : ContainerWords) → root_in x ≡ 0 → IsFirstOf k None x
 first_bare k x bare = no_set k x bare (IsFirstElement k None x) (λ set none. ap length none)
 
 -- ---- by a pass with the lock
 
-module _ (k : Shape) (s : ℕ) (v : View) (shape : v.shape ≡ k) (possible : ∥ Possible v ∥₁) (may : MayWriteEntries k s v) (is : kind_in k.starts s ≡ kind.Set) where
-  low' : s < containers_in v.shape
-  low' = subst (λ (z : Shape). s < containers_in z) (sym shape) may.container
+module _ (k : Shape) (s : ℕ) (v : View) (shape : v.shape ≡ k) (possible : ∥ IsReachable v ∥₁) (may : MayWriteEntries k s v) (is : kind_in k.starts s ≡ kind.Set) where
+  low' : s < container_count v.shape
+  low' = subst (λ (z : Shape). s < container_count z) (sym shape) may.container
 
-  known_kind : kind_of (known s v).content ≡ kind.Set
+  known_kind : kind_of (known_state s v).content ≡ kind.Set
   known_kind = kind_is k v s shape possible may.locked ∙ is
 
   abbrev elements' : SetContent
-  elements' = set_of (known s v).content
+  elements' = set_of (known_state s v).content
 
   as_set : (c : Content) → kind_of c ≡ kind.Set → c ≡ content.Set (set_of c)
   as_set (content.Set elements) e = refl
@@ -153,35 +153,35 @@ module _ (k : Shape) (s : ℕ) (v : View) (shape : v.shape ≡ k) (possible : �
   as_set (content.Deque deque) e = absurd (cc)
   as_set (content.Dict dict) e = absurd (cc)
 
-  is_set' : (known s v).content ≡ content.Set elements'
-  is_set' = as_set (known s v).content known_kind
+  is_set' : (known_state s v).content ≡ content.Set elements'
+  is_set' = as_set (known_state s v).content known_kind
 
-  module _ (first : First) (found : IsFirstOf k (Some first) (held s v)) where
-    here : IsFirstElement k (Some first) (held s v) elements'
-    here = found (known s v) known_kind may.stands
+  module _ (first : First) (found : IsFirstOf k (Some first) (held_words s v)) where
+    here : IsFirstElement k (Some first) (held_words s v) elements'
+    here = found (known_state s v) known_kind may.stands
 
     pub popped_table : HasTable k s first.table v
     popped_table = record { table_in = here.1.table_in; root = here.0 }
 
     pub popped_entry : IsLiveEntry k s first.table first.place first.key v
     popped_entry = record {
-      low = subst (λ (z : Kind). first.place < rows z (class_of (name_of first.table))) (sym is) here.2;
+      low = subst (λ (z : Kind). first.place < rows z (class_of (table_id first.table))) (sym is) here.2;
       live = here.1.live here.0;
       fits = here.1.fits;
     }
 
-    pub popped_leaves : Leaves s (call.Set s set.Pop) (reply.Value (as_value first.key)) (record { content = without_key (known s v).content first.key; table = (known s v).table }) v
+    pub popped_leaves : Leaves s (call.Set s set.Pop) (reply.Value (as_value first.key)) (record { content = without_key (known_state s v).content first.key; table = (known_state s v).table }) v
     popped_leaves =
-        let same : record { content = content.Set (set_discard elements' first.key); table = (known s v).table } ≡ record { content = without_key (known s v).content first.key; table = (known s v).table } = λ i. record { content = without_key (sym is_set' i) first.key; table = (known s v).table } in
+        let same : record { content = content.Set (set_discard elements' first.key); table = (known_state s v).table } ≡ record { content = without_key (known_state s v).content first.key; table = (known_state s v).table } = λ i. record { content = without_key (sym is_set' i) first.key; table = (known_state s v).table } in
         subst (λ (z : ContainerState). Leaves s (call.Set s set.Pop) (reply.Value (as_value first.key)) z v) same
         (leaves_stay s v elements' (set_discard elements' first.key) set.Pop (reply.Value (as_value first.key)) low' may.locked is_set' refl refl refl refl refl tt
         (λ stored has.
         ap (λ (z : Option Element). option_map_or (λ (element : Element). puts stored.world no_hands s (content.Set (without_first elements')) (reply.Value (as_value element.key))) z (shows stored.world no_hands (reply.Raised raise.NoKey))) here.3.1
         ∙ ap (λ (z : SetContent). puts stored.world no_hands s (content.Set z) (reply.Value (as_value first.key))) (sym here.4)))
 
-  module _ (found : IsFirstOf k None (held s v)) where
+  module _ (found : IsFirstOf k None (held_words s v)) where
     empty : length elements'.elements ≡ 0
-    empty = found (known s v) known_kind may.stands
+    empty = found (known_state s v) known_kind may.stands
 
     no_first : (elements : List Element) → length elements ≡ 0 → slice_get elements 0 ≡ None
     no_first [] e = refl

@@ -11,9 +11,9 @@ use Rattle.ft_model.specs.TableUses.{StoredWorld}
 use Rattle.ft_model.specs.Worlds.{set_at, set_of}
 use Rattle.ft_trace.specs.declared.Shape.{Shape}
 use Rattle.ft_trace.specs.declared.View.{View}
-use Rattle.ft_trace.specs.Addresses.{containers_in}
-use Rattle.ft_trace.specs.Holds.{known}
-use Rattle.ft_trace.specs.Traces.{Possible}
+use Rattle.ft_trace.specs.Addresses.{container_count}
+use Rattle.ft_trace.specs.Holds.{known_state}
+use Rattle.ft_trace.specs.Traces.{IsReachable}
 use Rattle.ft_trace.specs.ContainerStates.{kind_in}
 use Rattle.ft_trace.proofs.Known.{declared_at}
 use Rattle.ft_trace.proofs.Naming.{named_locked}
@@ -23,23 +23,23 @@ use Rattle.ft_merging.proofs.ThinningEnds.{is_set}
 use Rattle.ft_search.specs.OneEntryWrites.{Leaves, MayWriteEntries}
 use Rattle.ft_set.proofs.Leaving.{many, set_is, table_is, there}
 
-module _ (k : Shape) (s t : ℕ) (v : View) (shape : v.shape ≡ k) (possible : ∥ Possible v ∥₁) (may : MayWriteEntries k s v) (other : MayWriteEntries k t v) (is : kind_in k.starts s ≡ kind.Set) (other_is : kind_in k.starts t ≡ kind.Set) where
+module _ (k : Shape) (s t : ℕ) (v : View) (shape : v.shape ≡ k) (possible : ∥ IsReachable v ∥₁) (may : MayWriteEntries k s v) (other : MayWriteEntries k t v) (is : kind_in k.starts s ≡ kind.Set) (other_is : kind_in k.starts t ≡ kind.Set) where
   abbrev elements : SetContent
-  elements = set_of (known s v).content
+  elements = set_of (known_state s v).content
 
   abbrev others : SetContent
-  others = set_of (known t v).content
+  others = set_of (known_state t v).content
 
-  low : s < containers_in v.shape
-  low = subst (λ (z : Shape). s < containers_in z) (sym shape) may.container
+  low : s < container_count v.shape
+  low = subst (λ (z : Shape). s < container_count z) (sym shape) may.container
 
-  other_low : t < containers_in v.shape
-  other_low = subst (λ (z : Shape). t < containers_in z) (sym shape) other.container
+  other_low : t < container_count v.shape
+  other_low = subst (λ (z : Shape). t < container_count z) (sym shape) other.container
 
-  known_is : (known s v).content ≡ content.Set elements
+  known_is : (known_state s v).content ≡ content.Set elements
   known_is = is_set k v s shape possible may.locked is
 
-  other_known : (known t v).content ≡ content.Set others
+  other_known : (known_state t v).content ≡ content.Set others
   other_known = is_set k v t shape possible other.locked other_is
 
   module _ (stored : StoredWorld) (has : MayHave v stored) where
@@ -56,7 +56,7 @@ module _ (k : Shape) (s t : ℕ) (v : View) (shape : v.shape ≡ k) (possible : 
         ∙ (λ i. content.Set (f (one i) (two i)))
 
   -- `s &= t`
-  pub and_leaves : Leaves s (call.Set s (set.And t)) reply.Done (thinned_state true (known t v) (known s v)) v
+  pub and_leaves : Leaves s (call.Set s (set.And t)) reply.Done (thinned_state true (known_state t v) (known_state s v)) v
   and_leaves = record {
     write = refl;
     changed = refl;
@@ -76,7 +76,7 @@ module _ (k : Shape) (s t : ℕ) (v : View) (shape : v.shape ≡ k) (possible : 
   }
 
   -- `s -= t`
-  pub sub_leaves : Leaves s (call.Set s (set.Sub t)) reply.Done (thinned_state false (known t v) (known s v)) v
+  pub sub_leaves : Leaves s (call.Set s (set.Sub t)) reply.Done (thinned_state false (known_state t v) (known_state s v)) v
   sub_leaves = record {
     write = refl;
     changed = refl;

@@ -5,7 +5,7 @@ ghost use Rattle.ft_model.specs.declared.call.Call.TheVariants as call;
 ghost use Rattle.ft_model.specs.declared.call.SetCall.TheVariants as set;
 ghost use Rattle.ft_model.specs.declared.script.Kind.TheVariants as kind;
 ghost use Rattle.ft_trace.specs.Acts.{flight, used};
-ghost use Rattle.ft_trace.specs.Addresses.{containers_in};
+ghost use Rattle.ft_trace.specs.Addresses.{container_count};
 ghost use Rattle.ft_trace.specs.ContainerStates.{kind_in};
 ghost use Rattle.ft_bank.specs.Passes.{shape_of, view, IsPassOf};
 ghost use Rattle.ft_bank.specs.PassSections.{stack_of};
@@ -44,7 +44,7 @@ pub fn clear_by(bank: &Bank, pass: &mut Pass, s: Object) -> Stamp
 /// answers `Moved` or `NoMemory`.
 pub fn try_clear(bank: &Bank, pass: &mut Pass, s: Object) -> Step
     requires may { MayTry bank.now pass.old (One s) }
-    requires container { s < containers_in (shape_of bank.now) }
+    requires container { s < container_count (shape_of bank.now) }
     requires set { kind_in (shape_of bank.now).starts s ≡ kind.Set }
     requires left { 0 < (view pass.old).left }
     ensures may { MayTry bank.now pass.new (One s) }

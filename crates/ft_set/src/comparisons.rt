@@ -4,7 +4,7 @@ ghost use Rattle.std.specs.Prelude.{◌≡◌, ◌<◌};
 ghost use Rattle.ft_model.specs.declared.call.Call.TheVariants as call;
 ghost use Rattle.ft_model.specs.declared.call.SetCall.TheVariants as set;
 ghost use Rattle.ft_model.specs.declared.script.Kind.TheVariants as kind;
-ghost use Rattle.ft_trace.specs.Addresses.{containers_in};
+ghost use Rattle.ft_trace.specs.Addresses.{container_count};
 ghost use Rattle.ft_trace.specs.ContainerStates.{kind_in};
 ghost use Rattle.ft_bank.specs.Passes.{shape_of, view, IsPassOf};
 ghost use Rattle.ft_bank.specs.PassSections.{stack_of};
@@ -28,8 +28,8 @@ use ft_section::{Look, Object, Step};
 #[inline]
 pub fn try_eq(bank: &Bank, pass: &mut Pass, s: Object, t: Object) -> Step
     requires may { MayTry bank.now pass.old (Two s t) }
-    requires container { s < containers_in (shape_of bank.now) }
-    requires other { t < containers_in (shape_of bank.now) }
+    requires container { s < container_count (shape_of bank.now) }
+    requires other { t < container_count (shape_of bank.now) }
     requires set { kind_in (shape_of bank.now).starts s ≡ kind.Set }
     requires other_set { kind_in (shape_of bank.now).starts t ≡ kind.Set }
     requires left { 0 < (view pass.old).left }
@@ -49,8 +49,8 @@ pub fn try_eq(bank: &Bank, pass: &mut Pass, s: Object, t: Object) -> Step
 #[inline]
 pub fn look_eq(bank: &Bank, pass: &mut Pass, s: Object, t: Object) -> Look
     requires pass { IsPassOf bank.now pass.old }
-    requires container { s < containers_in (shape_of bank.now) }
-    requires other { t < containers_in (shape_of bank.now) }
+    requires container { s < container_count (shape_of bank.now) }
+    requires other { t < container_count (shape_of bank.now) }
     requires set { kind_in (shape_of bank.now).starts s ≡ kind.Set }
     requires other_set { kind_in (shape_of bank.now).starts t ≡ kind.Set }
     requires left { 0 < (view pass.old).left }
@@ -71,8 +71,8 @@ pub fn look_eq(bank: &Bank, pass: &mut Pass, s: Object, t: Object) -> Look
 #[inline]
 pub fn try_subset(bank: &Bank, pass: &mut Pass, s: Object, t: Object) -> Step
     requires may { MayTry bank.now pass.old (Two s t) }
-    requires container { s < containers_in (shape_of bank.now) }
-    requires other { t < containers_in (shape_of bank.now) }
+    requires container { s < container_count (shape_of bank.now) }
+    requires other { t < container_count (shape_of bank.now) }
     requires set { kind_in (shape_of bank.now).starts s ≡ kind.Set }
     requires other_set { kind_in (shape_of bank.now).starts t ≡ kind.Set }
     requires left { 0 < (view pass.old).left }
@@ -93,8 +93,8 @@ pub fn try_subset(bank: &Bank, pass: &mut Pass, s: Object, t: Object) -> Step
 #[inline]
 pub fn try_disjoint(bank: &Bank, pass: &mut Pass, s: Object, t: Object) -> Step
     requires may { MayTry bank.now pass.old (Two s t) }
-    requires container { s < containers_in (shape_of bank.now) }
-    requires other { t < containers_in (shape_of bank.now) }
+    requires container { s < container_count (shape_of bank.now) }
+    requires other { t < container_count (shape_of bank.now) }
     requires set { kind_in (shape_of bank.now).starts s ≡ kind.Set }
     requires other_set { kind_in (shape_of bank.now).starts t ≡ kind.Set }
     requires left { 0 < (view pass.old).left }

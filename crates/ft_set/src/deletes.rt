@@ -5,7 +5,7 @@ ghost use Rattle.ft_layout.specs.Words.{FitsKey};
 ghost use Rattle.ft_model.specs.declared.call.Call.TheVariants as call;
 ghost use Rattle.ft_model.specs.declared.call.SetCall.TheVariants as set;
 ghost use Rattle.ft_model.specs.declared.script.Kind.TheVariants as kind;
-ghost use Rattle.ft_trace.specs.Holds.{known};
+ghost use Rattle.ft_trace.specs.Holds.{known_state};
 ghost use Rattle.ft_trace.specs.ContainerStates.{kind_in};
 ghost use Rattle.ft_bank.specs.KeyHashes.{IsKeyIn};
 ghost use Rattle.ft_bank.specs.Passes.{shape_of, view, IsPassOf};
@@ -26,7 +26,7 @@ fn discard_none(bank: &Bank, pass: &mut Pass, s: Object, key: Key) -> (Reply, St
     requires may { MayWriteEntries (shape_of bank.now) s (view pass.old) }
     requires set { kind_in (shape_of bank.now).starts s ≡ kind.Set }
     requires key { FitsKey key }
-    requires none { IsHeldAt (known s (view pass.old)).content key None }
+    requires none { IsHeldAt (known_state s (view pass.old)).content key None }
     ensures pass { IsPassOf bank.now pass.new }
     ensures stack { stack_of pass.new ≡ stack_of pass.old }
     ensures made { MadeAs (call.Set s (set.Discard key)) result.0 result.1 (view pass.old) (view pass.new) }

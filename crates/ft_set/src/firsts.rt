@@ -4,7 +4,7 @@ ghost use Rattle.ft_model.specs.declared.call.Call.TheVariants as call;
 ghost use Rattle.ft_model.specs.declared.call.SetCall.TheVariants as set;
 ghost use Rattle.ft_model.specs.declared.data.Key.{Key};
 ghost use Rattle.ft_model.specs.declared.script.Kind.TheVariants as kind;
-ghost use Rattle.ft_trace.specs.Addresses.{containers_in};
+ghost use Rattle.ft_trace.specs.Addresses.{container_count};
 ghost use Rattle.ft_trace.specs.ContainerStates.{kind_in};
 ghost use Rattle.ft_bank.specs.Passes.{shape_of, view, IsPassOf};
 ghost use Rattle.ft_bank.specs.PassSections.{stack_of};
@@ -69,7 +69,7 @@ fn first_in(bank: &Bank, pass: &mut Pass, s: Object, table: Table, fill: u64) ->
 /// The first element of a set.
 fn first_element(bank: &Bank, pass: &mut Pass, s: Object) -> Option<First>
     requires pass { IsPassOf bank.now pass.old }
-    requires container { s < containers_in (shape_of bank.now) }
+    requires container { s < container_count (shape_of bank.now) }
     ensures pass { IsPassOf bank.now pass.new }
     ensures stack { stack_of pass.new ≡ stack_of pass.old }
     ensures reads { Reads (shape_of bank.now) s (IsFirstOf (shape_of bank.now) result) pass.old pass.new }
@@ -124,7 +124,7 @@ pub fn pop_locked(bank: &Bank, pass: &mut Pass, s: Object) -> (Reply, Stamp)
 /// answers `Moved` or `NoMemory`.
 pub fn try_pop(bank: &Bank, pass: &mut Pass, s: Object) -> Step
     requires may { MayTry bank.now pass.old (One s) }
-    requires container { s < containers_in (shape_of bank.now) }
+    requires container { s < container_count (shape_of bank.now) }
     requires set { kind_in (shape_of bank.now).starts s ≡ kind.Set }
     requires left { 0 < (view pass.old).left }
     ensures may { MayTry bank.now pass.new (One s) }

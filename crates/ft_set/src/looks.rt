@@ -5,7 +5,7 @@ ghost use Rattle.ft_model.specs.declared.call.Call.TheVariants as call;
 ghost use Rattle.ft_model.specs.declared.call.SetCall.TheVariants as set;
 ghost use Rattle.ft_model.specs.declared.script.Kind.TheVariants as kind;
 ghost use Rattle.ft_trace.specs.Acts.{announces};
-ghost use Rattle.ft_trace.specs.Addresses.{containers_in};
+ghost use Rattle.ft_trace.specs.Addresses.{container_count};
 ghost use Rattle.ft_trace.specs.ContainerStates.{kind_in};
 ghost use Rattle.ft_bank.specs.KeyHashes.{IsKeyIn};
 ghost use Rattle.ft_bank.specs.Passes.{shape_of, view, IsPassOf};
@@ -30,7 +30,7 @@ use ft_section::{Look, Object};
 #[inline(always)]
 pub fn look_has(bank: &Bank, pass: &mut Pass, s: Object, key: Key) -> Look
     requires pass { IsPassOf bank.now pass.old }
-    requires container { s < containers_in (shape_of bank.now) }
+    requires container { s < container_count (shape_of bank.now) }
     requires set { kind_in (shape_of bank.now).starts s ≡ kind.Set }
     requires key { IsKeyIn (shape_of bank.now) key }
     requires online { 0 < announces (view pass.old).log }

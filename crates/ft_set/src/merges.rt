@@ -6,7 +6,7 @@ ghost use Rattle.ft_model.specs.declared.call.SetCall.TheVariants as set;
 ghost use Rattle.ft_model.specs.declared.reply.Reply.TheVariants as reply;
 ghost use Rattle.ft_model.specs.declared.script.Kind.TheVariants as kind;
 ghost use Rattle.ft_trace.specs.Acts.{flight, used};
-ghost use Rattle.ft_trace.specs.Addresses.{containers_in};
+ghost use Rattle.ft_trace.specs.Addresses.{container_count};
 ghost use Rattle.ft_trace.specs.ContainerStates.{kind_in};
 ghost use Rattle.ft_bank.specs.Passes.{shape_of, view, IsPassOf};
 ghost use Rattle.ft_bank.specs.PassSections.{stack_of};
@@ -76,8 +76,8 @@ fn sub_locked(bank: &Bank, pass: &mut Pass, s: Object, t: Object) -> (Reply, Sta
 /// It never answers `Moved` or `NoMemory`.
 pub fn try_and(bank: &Bank, pass: &mut Pass, s: Object, t: Object) -> Step
     requires may { MayTry bank.now pass.old (Two s t) }
-    requires container { s < containers_in (shape_of bank.now) }
-    requires other { t < containers_in (shape_of bank.now) }
+    requires container { s < container_count (shape_of bank.now) }
+    requires other { t < container_count (shape_of bank.now) }
     requires set { kind_in (shape_of bank.now).starts s ≡ kind.Set }
     requires other_set { kind_in (shape_of bank.now).starts t ≡ kind.Set }
     requires left { 0 < (view pass.old).left }
@@ -103,8 +103,8 @@ pub fn try_and(bank: &Bank, pass: &mut Pass, s: Object, t: Object) -> Step
 /// As those of `try_and`.
 pub fn try_sub(bank: &Bank, pass: &mut Pass, s: Object, t: Object) -> Step
     requires may { MayTry bank.now pass.old (Two s t) }
-    requires container { s < containers_in (shape_of bank.now) }
-    requires other { t < containers_in (shape_of bank.now) }
+    requires container { s < container_count (shape_of bank.now) }
+    requires other { t < container_count (shape_of bank.now) }
     requires set { kind_in (shape_of bank.now).starts s ≡ kind.Set }
     requires other_set { kind_in (shape_of bank.now).starts t ≡ kind.Set }
     requires left { 0 < (view pass.old).left }
@@ -159,8 +159,8 @@ pub fn or_by(bank: &Bank, pass: &mut Pass, s: Object, t: Object) -> Added
 /// Whatever it answers, the pass has the cursors that it had.
 pub fn try_or(bank: &Bank, pass: &mut Pass, s: Object, t: Object) -> Step
     requires may { MayTry bank.now pass.old (Two s t) }
-    requires container { s < containers_in (shape_of bank.now) }
-    requires other { t < containers_in (shape_of bank.now) }
+    requires container { s < container_count (shape_of bank.now) }
+    requires other { t < container_count (shape_of bank.now) }
     requires set { kind_in (shape_of bank.now).starts s ≡ kind.Set }
     requires other_set { kind_in (shape_of bank.now).starts t ≡ kind.Set }
     requires left { 0 < (view pass.old).left }
@@ -216,8 +216,8 @@ pub fn xor_by(bank: &Bank, pass: &mut Pass, s: Object, t: Object) -> Added
 /// As those of `try_or`. Whatever it answers, the pass has the cursors that it had.
 pub fn try_xor(bank: &Bank, pass: &mut Pass, s: Object, t: Object) -> Step
     requires may { MayTry bank.now pass.old (Two s t) }
-    requires container { s < containers_in (shape_of bank.now) }
-    requires other { t < containers_in (shape_of bank.now) }
+    requires container { s < container_count (shape_of bank.now) }
+    requires other { t < container_count (shape_of bank.now) }
     requires set { kind_in (shape_of bank.now).starts s ≡ kind.Set }
     requires other_set { kind_in (shape_of bank.now).starts t ≡ kind.Set }
     requires left { 0 < (view pass.old).left }

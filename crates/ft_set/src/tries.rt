@@ -3,7 +3,7 @@ ghost use Rattle.std.specs.Prelude.{◌≡◌, ◌<◌};
 ghost use Rattle.ft_model.specs.declared.call.Call.TheVariants as call;
 ghost use Rattle.ft_model.specs.declared.call.SetCall.TheVariants as set;
 ghost use Rattle.ft_model.specs.declared.script.Kind.TheVariants as kind;
-ghost use Rattle.ft_trace.specs.Addresses.{containers_in};
+ghost use Rattle.ft_trace.specs.Addresses.{container_count};
 ghost use Rattle.ft_trace.specs.ContainerStates.{kind_in};
 ghost use Rattle.ft_bank.specs.KeyHashes.{IsKeyIn};
 ghost use Rattle.ft_bank.specs.Passes.{shape_of, view};
@@ -26,7 +26,7 @@ use ft_section::{Object, Step};
 /// next. It never answers `Moved` or `NoMemory`.
 pub fn try_has(bank: &Bank, pass: &mut Pass, s: Object, key: Key) -> Step
     requires may { MayTry bank.now pass.old (One s) }
-    requires container { s < containers_in (shape_of bank.now) }
+    requires container { s < container_count (shape_of bank.now) }
     requires set { kind_in (shape_of bank.now).starts s ≡ kind.Set }
     requires key { IsKeyIn (shape_of bank.now) key }
     requires left { 0 < (view pass.old).left }

@@ -12,7 +12,7 @@ use Rattle.ft_layout.proofs.Powers.{words_below-more}
 use Rattle.ft_trace.specs.declared.Shape.{Shape}
 use Rattle.ft_trace.specs.Bits.{bit}
 use Rattle.ft_trace.proofs.Bits.{bit_full}
-use Rattle.ft_trace.specs.Addresses.{Word, counter, write_number, announced_of, count_of_class, bits, lock_of, version_of, block, header, cell, containers_in, tables_in, class_of, number_of, free_word_of, free_bit_of, slots, places, size, IsTableName, far, start_of, extent, at, Inside, free_counts, least, free_bits, free_words, opening, sizes_of, part_of}
+use Rattle.ft_trace.specs.Addresses.{Word, counter, write_number, announced_of, count_of_class, bits, lock_of, version_of, block, header, cell, container_count, tables_in, class_of, number_of, free_word_of, free_bit_of, slots, places, size, IsTableName, far, start_of, extent, at, Inside, free_counts, least, free_bits, free_words, opening, sizes_of, part_of}
 
 pub up_mul : (n a b : ℕ) → a ≤ b → a * n ≤ b * n
 up_mul n zero b low = omega arith
@@ -49,7 +49,7 @@ unfolding extent
 extent_is k = refl
 
 -- tables lie after the blocks
-pub far_up : (k : Shape) → 304 + 8 * containers_in k ≤ far k
+pub far_up : (k : Shape) → 304 + 8 * container_count k ≤ far k
 unfolding far
 far_up k = let p : 0 ≤ k.passes * heap_size k.heap = omega arith in omega (arith, p)
 
@@ -60,7 +60,7 @@ pub same_table : (t q : ℕ) → class_of t ≡ class_of q → number_of t ≡ n
 unfolding class_of number_of
 same_table t q c n = omega arith
 
-pub start_low : (k : Shape) (t : ℕ) → 304 + 8 * containers_in k ≤ start_of k t
+pub start_low : (k : Shape) (t : ℕ) → 304 + 8 * container_count k ≤ start_of k t
 start_low k t =
     let e = start_is k t in
     let f = far_up k in
@@ -361,16 +361,16 @@ module _ (k : Shape) where
       let n : i ≡ 304 + (i - 304) = omega arith in
       ap (λ (z : ℕ). get_or (opening k) z 0) n ∙ (part_rest Anns Counts Frees Rest (i - 304) long_anns long_counts long_frees ∙ get_or-replicate {A = ℕ} (extent k - 304) (i - 304) 0 0 (omega arith))
 
-low_first : (k : Shape) (i : ℕ) → 304 ≤ i → i < 304 + 8 * containers_in k → slice_index (opening k) i ≡ 0
+low_first : (k : Shape) (i : ℕ) → 304 ≤ i → i < 304 + 8 * container_count k → slice_index (opening k) i ≡ 0
 low_first k i up low = rest_first k i up (let e = far_up k in let f = far_low k in omega (arith, e, f))
 
-pub lock_first : (k : Shape) (o : ℕ) → o < containers_in k → slice_index (opening k) (at k (lock_of o)) ≡ 0
+pub lock_first : (k : Shape) (o : ℕ) → o < container_count k → slice_index (opening k) (at k (lock_of o)) ≡ 0
 lock_first k o low = low_first k (at k (lock_of o)) (omega arith) (omega arith)
 
-pub version_first : (k : Shape) (o : ℕ) → o < containers_in k → slice_index (opening k) (at k (version_of o)) ≡ 0
+pub version_first : (k : Shape) (o : ℕ) → o < container_count k → slice_index (opening k) (at k (version_of o)) ≡ 0
 version_first k o low = low_first k (at k (version_of o)) (omega arith) (omega arith)
 
-pub block_first : (k : Shape) (o i : ℕ) → o < containers_in k → i < 6 → slice_index (opening k) (at k (block o i)) ≡ 0
+pub block_first : (k : Shape) (o i : ℕ) → o < container_count k → i < 6 → slice_index (opening k) (at k (block o i)) ≡ 0
 block_first k o i low small = low_first k (at k (block o i)) (omega arith) (omega arith)
 
 pub cell_first : (k : Shape) (t i : ℕ) → IsTableName k t → i < size (class_of t) → slice_index (opening k) (at k (cell t i)) ≡ 0

@@ -10,7 +10,7 @@ use Rattle.ft_trace.specs.declared.Act.{Act}
 use Rattle.ft_trace.specs.declared.Act.TheVariants.{TakeTable, GiveTable, PutRoot, Retire, ReadRoot, Announce}
 use Rattle.ft_trace.specs.Bits.{bit}
 use Rattle.ft_trace.specs.Addresses.{IsTableName, free_bit_of}
-use Rattle.ft_trace.specs.Acts.{reads, starter, noted, maker, made, both, spent, sender, note}
+use Rattle.ft_trace.specs.Acts.{reads, starter, view_after, maker, made, both, spent, sender, note}
 use Rattle.ft_trace.specs.Ages.{aged, age, gone_to, whose, seen, seen_next}
 use Rattle.ft_trace.specs.Traces.{Event, did, forked, joined, sent, run, Valid}
 use Rattle.ft_trace.proofs.Sizes.{set_at, set_views, one_more, one_view}
@@ -96,7 +96,7 @@ next_within s g h step two w =
     let c = w.2 in
     (a, omega arith, ⊎_elim (λ (x : h ≤ g + 1). omega arith) (λ (x : h % 5 ≡ 0). absurd (omega arith)) step.small)
 
-seen_mine : (k : Shape) (es : List Event) (id : ℕ) (v : View) (t : ℕ) → IsTableName k t → Seen es t id v → (a : Act) → Valid k (did id v a ∷ es) → (reads t (a ∷ v.log) ≡ true → 2 ≤ aged a t (age es t) % 5) → Seen (did id v a ∷ es) t id (noted a v)
+seen_mine : (k : Shape) (es : List Event) (id : ℕ) (v : View) (t : ℕ) → IsTableName k t → Seen es t id v → (a : Act) → Valid k (did id v a ∷ es) → (reads t (a ∷ v.log) ≡ true → 2 ≤ aged a t (age es t) % 5) → Seen (did id v a ∷ es) t id (view_after a v)
 seen_mine k es id v t table old (Announce p x) ok two r = off r
 seen_mine k es id v t table old (ReadRoot o f) ok two r =
     let s = seen es id t in
@@ -125,11 +125,11 @@ within k (did id v a ∷ es) valid t table =
     let old = within k es valid.0 t table in
     let now = safe k (did id v a ∷ es) valid t table in
     let two : (j : ℕ) (u : View) → get_elem? (run k (did id v a ∷ es)).views j ≡ some u → reads t u.log ≡ true → 2 ≤ aged a t (age es t) % 5 = λ j u e r. ((now j u e).read_is r).0 in
-    set_views (Seen (did id v a ∷ es) t) _ id (noted a v) (seen_mine k es id v t table (old id v valid.1.0) a valid (two id (noted a v) (set_at (run k es).views id v (noted a v) valid.1.0)))
+    set_views (Seen (did id v a ∷ es) t) _ id (view_after a v) (seen_mine k es id v t table (old id v valid.1.0) a valid (two id (view_after a v) (set_at (run k es).views id v (view_after a v) valid.1.0)))
     (λ j u ne e r.
     let s = seen es j t in
     let same : seen (did id v a ∷ es) j t ≡ s = miss id j (seen_next a (reads t v.log) t (age es t) s) s (λ z. ne (sym z)) in
-    subst (λ (z : ℕ). Within z (aged a t (age es t))) (sym same) (next_within s (age es t) (aged a t (age es t)) (ages_by a t (age es t)) (two j u (set_else (run k es).views id j (noted a v) ne ∙ e) r) (old j u e r)))
+    subst (λ (z : ℕ). Within z (aged a t (age es t))) (sym same) (next_within s (age es t) (aged a t (age es t)) (ages_by a t (age es t)) (two j u (set_else (run k es).views id j (view_after a v) ne ∙ e) r) (old j u e r)))
 within k (forked id v ∷ es) valid t table =
     let old = within k es valid.0 t table in
     one_more (Seen es t) _ (made v) (λ e. off e) (set_views (Seen es t) _ id (maker v) (old id v valid.1.0) (λ j u _ e. old j u e))

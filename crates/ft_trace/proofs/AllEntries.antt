@@ -11,7 +11,7 @@ use Rattle.ft_trace.specs.declared.View.{View}
 use Rattle.ft_trace.specs.declared.Act.{Act}
 use Rattle.ft_trace.specs.declared.Act.TheVariants.{Commit, Answer, AnswerCursor}
 use Rattle.ft_trace.specs.declared.Entry.{Entry}
-use Rattle.ft_trace.specs.Acts.{entries_next, starter, noted, maker, made, both, spent, sender, note, all_lists, all_entries, lists_of}
+use Rattle.ft_trace.specs.Acts.{entries_next, starter, view_after, maker, made, both, spent, sender, note, all_lists, all_entries, lists_of}
 use Rattle.ft_trace.specs.Traces.{Event, did, forked, joined, sent, run, Valid}
 use Rattle.ft_trace.proofs.Cases.{here, miss}
 use Rattle.ft_trace.proofs.Sizes.{set_views, one_more, one_view}
@@ -30,7 +30,7 @@ pub record HasNone (u : View) : Type 0 where
 pub has_none : (k : Shape) (es : List Event) → Valid k es → (j : ℕ) (u : View) → get_elem? (run k es).views j ≡ some u → HasNone u
 has_none k [] valid = one_view (λ j u. HasNone u) (starter k) (record { entries = λ _. refl; lists = λ _. refl })
 has_none k (did id v a ∷ es) valid =
-    set_views (λ j u. HasNone u) _ id (noted a v) (record { entries = λ e. absurd (valid.1.1 e); lists = λ e. absurd (valid.1.1 e) }) (λ j u _ e. has_none k es valid.0 j u e)
+    set_views (λ j u. HasNone u) _ id (view_after a v) (record { entries = λ e. absurd (valid.1.1 e); lists = λ e. absurd (valid.1.1 e) }) (λ j u _ e. has_none k es valid.0 j u e)
 has_none k (forked id v ∷ es) valid =
     one_more (λ j u. HasNone u) _ (made v) (record { entries = λ _. refl; lists = λ _. refl })
     (set_views (λ j u. HasNone u) _ id (maker v) (record { entries = λ e. absurd (valid.1.1 e); lists = λ e. absurd (valid.1.1 e) }) (λ j u _ e. has_none k es valid.0 j u e))

@@ -9,7 +9,7 @@ use Rattle.ft_trace.specs.declared.View.{View}
 use Rattle.ft_trace.specs.declared.Act.{Act}
 use Rattle.ft_trace.specs.declared.Act.TheVariants.{ReadRoot, ReadTable, ReadCounter, Version}
 use Rattle.ft_trace.specs.Acts.{reads}
-use Rattle.ft_trace.specs.Addresses.{IsTableName, containers_in}
+use Rattle.ft_trace.specs.Addresses.{IsTableName, container_count}
 use Rattle.ft_trace.specs.LoggedLookUps.{Online, LookUpWindow, Inner, unread, IsNew}
 use Rattle.ft_trace.specs.Traces.{Event, run, Valid}
 use Rattle.ft_trace.proofs.Cases.{miss, here}
@@ -32,12 +32,12 @@ inner_online (ReadCounter f ∷ mid) a q on = inner_online mid a q on
 inner_online (act ∷ mid) a q on = absurd q
 
 -- the table of a root
-pub found_table : (k : Shape) (es : List Event) → Valid k es → (j : ℕ) (u : View) → get_elem? (run k es).views j ≡ some u → (o t : ℕ) → o < containers_in k → (rest : List Act) → u.log ≡ ReadRoot o (suc t) ∷ rest → IsTableName k t
+pub found_table : (k : Shape) (es : List Event) → Valid k es → (j : ℕ) (u : View) → get_elem? (run k es).views j ≡ some u → (o t : ℕ) → o < container_count k → (rest : List Act) → u.log ≡ ReadRoot o (suc t) ∷ rest → IsTableName k t
 found_table k es valid j u at o t low rest is =
     let w = was k es valid j u at [] (ReadRoot o (suc t)) rest is in
     root_table k w.older w.valid o low t (sym w.tells)
 
-pub is_new : (k : Shape) (es : List Event) → Valid k es → (j : ℕ) (u : View) → get_elem? (run k es).views j ≡ some u → (o r : ℕ) → o < containers_in k → (l : List Act) → u.log ≡ ReadRoot o r ∷ l → IsNew o r l
+pub is_new : (k : Shape) (es : List Event) → Valid k es → (j : ℕ) (u : View) → get_elem? (run k es).views j ≡ some u → (o r : ℕ) → o < container_count k → (l : List Act) → u.log ≡ ReadRoot o r ∷ l → IsNew o r l
 is_new k es valid j u at o r low l is t f mid rest names ne log q =
     let whole : u.log ≡ ReadRoot o (suc t) ∷ (mid ++ ReadRoot o f ∷ rest) = is ∙ (ap (λ (z : ℕ). ReadRoot o z ∷ l) names ∙ ap (λ (z : List Act). ReadRoot o (suc t) ∷ z) log) in
     ap (reads t) log ∙ (inner_reads t mid (ReadRoot o f ∷ rest) q ∙ (miss f (suc t) true (reads t rest) (λ e. ne (e ∙ sym names)) ∙ by (reads t rest) refl whole))

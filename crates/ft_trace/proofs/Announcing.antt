@@ -7,7 +7,7 @@ use Rattle.ft_trace.specs.declared.View.{View}
 use Rattle.ft_trace.specs.declared.Act.{Act}
 use Rattle.ft_trace.specs.declared.Act.TheVariants.{Retire, Announce, ReadAnnounced, WriteNumber}
 use Rattle.ft_trace.specs.Addresses.{write_number, announced_of}
-use Rattle.ft_trace.specs.Acts.{announces, announces_next, starter, noted, maker, made, both, spent, sender, note}
+use Rattle.ft_trace.specs.Acts.{announces, announces_next, starter, view_after, maker, made, both, spent, sender, note}
 use Rattle.ft_trace.specs.NumberPlaces.{top}
 use Rattle.ft_trace.specs.Traces.{Fits, Event, did, forked, joined, sent, run, word, history, May, Valid}
 use Rattle.ft_trace.proofs.Sizes.{set_views, one_more, one_view}
@@ -78,7 +78,7 @@ heard k (did id v a ∷ es) valid =
     let W : word k (did id v A ∷ es) write_number ≡ word k es write_number = stays k es id v A may write_number tt (λ e. absurd (cc)) in
     let now : word k (did id v A ∷ es) (announced_of v.number) ≡ x = subst (λ (z : ℕ). word k (did id v A ∷ es) (announced_of z) ≡ x) is (moves k es id v A may) in
     let bound = may.2 in
-    set_views (Heard k (did id v A ∷ es)) _ id (noted A v) (record { word_is = λ _ _. now; low = omega (arith, W) })
+    set_views (Heard k (did id v A ∷ es)) _ id (view_after A v) (record { word_is = λ _ _. now; low = omega (arith, W) })
     (λ j u ne e. let o = old j u e in let l = o.low in record {
       word_is = λ live low. stays k es id v A may (announced_of u.number) (omega arith, low) (λ (z : announced_of p ≡ announced_of u.number). let same : p ≡ u.number = cc in ne (same_seat k es valid.0 j id u v e valid.1.0 live (sym same ∙ is))) ∙ o.word_is live low;
       low = omega (arith, W, l);
@@ -89,14 +89,14 @@ heard k (did id v a ∷ es) valid =
     let up : word k (did id v A ∷ es) write_number ≡ word k es write_number + 1 = moves k es id v A may ∙ one_up (word k es write_number) may.2 in
     let stay : (p : ℕ) → 0 < p → p ≤ 64 → word k (did id v A ∷ es) (announced_of p) ≡ word k es (announced_of p) = λ p up low. stays k es id v A may (announced_of p) (up, low) (λ e. absurd (cc)) in
     let l = mine.low in
-    set_views (Heard k (did id v A ∷ es)) _ id (noted A v) (record { word_is = λ live low. stay v.number (omega arith) low ∙ mine.word_is live low; low = omega (arith, up, l) })
+    set_views (Heard k (did id v A ∷ es)) _ id (view_after A v) (record { word_is = λ live low. stay v.number (omega arith) low ∙ mine.word_is live low; low = omega (arith, up, l) })
     (λ j u ne e. let o = old j u e in let m = o.low in record { word_is = λ live low. stay u.number (omega arith) low ∙ o.word_is live low; low = omega (arith, up, m) }))
     (λ b by ok.
     let aside = by ok.1.3 in
     let W = aside.drawn in
     let l = mine.low in
     let same_ann = aside.ann (announces v.log) in
-    set_views (Heard k (did id v b ∷ es)) _ id (noted b v) (record { word_is = λ live low. aside.said v.number (omega arith) low ∙ (mine.word_is live low ∙ sym same_ann); low = omega (arith, W, l, same_ann) })
+    set_views (Heard k (did id v b ∷ es)) _ id (view_after b v) (record { word_is = λ live low. aside.said v.number (omega arith) low ∙ (mine.word_is live low ∙ sym same_ann); low = omega (arith, W, l, same_ann) })
     (λ j u ne e. let o = old j u e in let m = o.low in record { word_is = λ live low. aside.said u.number (omega arith) low ∙ o.word_is live low; low = omega (arith, W, m) }))
     a valid
 heard k (forked id v ∷ es) valid =

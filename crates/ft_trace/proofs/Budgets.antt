@@ -9,7 +9,7 @@ use Rattle.ft_trace.specs.declared.View.{View}
 use Rattle.ft_trace.specs.declared.Act.{Act}
 use Rattle.ft_trace.specs.declared.Act.TheVariants.{Answer, AnswerCursor, PutRoot, Commit, Retire, WriteNumber}
 use Rattle.ft_trace.specs.Addresses.{write_number}
-use Rattle.ft_trace.specs.Acts.{used, debt, starter, noted, maker, made, both, spent, sender, note}
+use Rattle.ft_trace.specs.Acts.{used, debt, starter, view_after, maker, made, both, spent, sender, note}
 use Rattle.ft_trace.specs.Entries.{total}
 use Rattle.ft_trace.specs.Traces.{Event, did, forked, joined, sent, run, word, history, May, Valid}
 use Rattle.ft_trace.proofs.Sizes.{set_views, one_more, one_view}
@@ -22,7 +22,7 @@ use Rattle.ft_trace.proofs.Totals.{total_set, total_forked}
 -- a live view stands for some pass
 pub some_part : (k : Shape) (es : List Event) → 0 < k.passes → Valid k es → (j : ℕ) (u : View) → get_elem? (run k es).views j ≡ some u → u.number ≢ 0 → 0 < u.parts
 some_part k [] pos valid = one_view (λ j u. u.number ≢ 0 → 0 < u.parts) (starter k) (λ _. pos)
-some_part k (did id v a ∷ es) pos valid = let old = some_part k es pos valid.0 in set_views (λ j u. u.number ≢ 0 → 0 < u.parts) _ id (noted a v) (old id v valid.1.0) (λ j u _ e. old j u e)
+some_part k (did id v a ∷ es) pos valid = let old = some_part k es pos valid.0 in set_views (λ j u. u.number ≢ 0 → 0 < u.parts) _ id (view_after a v) (old id v valid.1.0) (λ j u _ e. old j u e)
 some_part k (forked id v ∷ es) pos valid =
     let old = some_part k es pos valid.0 in
     let more = valid.1.3 in
@@ -57,7 +57,7 @@ by_root b old d parts left some_one spare =
     omega (arith, y, z, w, some_one))
 
 -- one action
-spends : (k : Shape) (es : List Event) (id : ℕ) (v : View) → 0 < v.parts → (a : Act) → May k (run k es) (history es) v a → word k (did id v a ∷ es) write_number + budget (noted a v) ≤ word k es write_number + budget v
+spends : (k : Shape) (es : List Event) (id : ℕ) (v : View) → 0 < v.parts → (a : Act) → May k (run k es) (history es) v a → word k (did id v a ∷ es) write_number + budget (view_after a v) ≤ word k es write_number + budget v
 spends k es id v some_one (PutRoot o r old) may =
     let g = stays k es id v (PutRoot o r old) may write_number tt (λ e. absurd (cc)) in
     let b = by_root (used v.log) old (debt v.log) v.parts v.left some_one may.5 in
@@ -79,7 +79,7 @@ spends k es id v some_one act may = let g = stays k es id v act may write_number
 pub budgets : (k : Shape) (es : List Event) → 0 < k.passes → Valid k es → word k es write_number + total budget (run k es).views ≤ 1 + k.passes * k.calls + k.passes
 budgets k [] pos valid = omega arith
 budgets k (did id v a ∷ es) pos valid =
-    let t = total_set budget (run k es).views id v (noted a v) valid.1.0 in
+    let t = total_set budget (run k es).views id v (view_after a v) valid.1.0 in
     let old = budgets k es pos valid.0 in
     let by = spends k es id v (some_part k es pos valid.0 id v valid.1.0 valid.1.1) a valid.1.3 in
     omega (arith, t, old, by)
@@ -109,7 +109,7 @@ goals_room k es pos valid = let b = budgets k es pos valid in omega (arith, b)
 -- no number is above the passes
 pub number_low : (k : Shape) (es : List Event) → 0 < k.passes → Valid k es → (j : ℕ) (u : View) → get_elem? (run k es).views j ≡ some u → u.number ≤ k.passes
 number_low k [] pos valid = one_view (λ j u. u.number ≤ k.passes) (starter k) (omega arith)
-number_low k (did id v a ∷ es) pos valid = let old = number_low k es pos valid.0 in set_views (λ j u. u.number ≤ k.passes) _ id (noted a v) (old id v valid.1.0) (λ j u _ e. old j u e)
+number_low k (did id v a ∷ es) pos valid = let old = number_low k es pos valid.0 in set_views (λ j u. u.number ≤ k.passes) _ id (view_after a v) (old id v valid.1.0) (λ j u _ e. old j u e)
 number_low k (forked id v ∷ es) pos valid = let old = number_low k es pos valid.0 in one_more (λ j u. u.number ≤ k.passes) _ (made v) valid.1.5 (set_views (λ j u. u.number ≤ k.passes) _ id (maker v) (old id v valid.1.0) (λ j u _ e. old j u e))
 number_low k (sent id v given ∷ es) pos valid = let old = number_low k es pos valid.0 in one_more (λ j u. u.number ≤ k.passes) _ (note given v) (omega arith) (set_views (λ j u. u.number ≤ k.passes) _ id (sender given v) (old id v valid.1.0) (λ j u _ e. old j u e))
 number_low k (joined id v other w ∷ es) pos valid = let old = number_low k es pos valid.0 in set_views (λ j u. u.number ≤ k.passes) _ other spent (omega arith) (λ j u _. set_views (λ j u. u.number ≤ k.passes) _ id (both v w) (old id v valid.1.0) (λ j u _ e. old j u e) j u)

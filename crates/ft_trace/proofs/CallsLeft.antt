@@ -12,7 +12,7 @@ use Rattle.ft_trace.specs.declared.Act.TheVariants.{Commit, Answer, AnswerCursor
 use Rattle.ft_trace.specs.declared.Entry.{Entry}
 use Rattle.ft_trace.specs.declared.Shape.{Shape}
 use Rattle.ft_trace.specs.declared.View.{View}
-use Rattle.ft_trace.specs.Acts.{noted, entries_next, left_next, starter, maker, made, both, spent, sender, note, all_entries}
+use Rattle.ft_trace.specs.Acts.{view_after, entries_next, left_next, starter, maker, made, both, spent, sender, note, all_entries}
 use Rattle.ft_trace.specs.Entries.{total}
 use Rattle.ft_trace.specs.Traces.{Moment, Event, did, forked, joined, sent, run, history, May, Valid}
 use Rattle.ft_trace.proofs.AllEntries.{next_all, has_none, both_all}
@@ -33,10 +33,10 @@ weighs_by k m cs v es act may = refl
 weighs_all : (k : Shape) (es : List Event) → Valid k es → total weighs (run k es).views ≡ k.passes * k.calls
 weighs_all k [] valid = omega arith
 weighs_all k (did id v a ∷ es) valid =
-    let t = total_set weighs (run k es).views id v (noted a v) valid.1.0 in
+    let t = total_set weighs (run k es).views id v (view_after a v) valid.1.0 in
     let old = weighs_all k es valid.0 in
     let by = weighs_by k (run k es) (history es) v (all_entries v) a valid.1.3 in
-    let next : length (all_entries (noted a v)) ≡ length (entries_next a (all_entries v)) = ap (λ (l : List Entry). length l) (sym (next_all a v.entries (flat_map (λ (l : List Entry). l) v.lists))) in
+    let next : length (all_entries (view_after a v)) ≡ length (entries_next a (all_entries v)) = ap (λ (l : List Entry). length l) (sym (next_all a v.entries (flat_map (λ (l : List Entry). l) v.lists))) in
     omega (arith, t, old, by, next)
 weighs_all k (forked id v ∷ es) valid =
     let room = valid.1.4 in
@@ -50,7 +50,7 @@ weighs_all k (joined id v other w ∷ es) valid =
 -- a note and a spent pass have no calls
 no_calls : (k : Shape) (es : List Event) → Valid k es → (j : ℕ) (u : View) → get_elem? (run k es).views j ≡ some u → u.number ≡ 0 → u.left ≡ 0
 no_calls k [] valid = one_view (λ j u. u.number ≡ 0 → u.left ≡ 0) (starter k) (λ e. absurd (omega (arith, e)))
-no_calls k (did id v a ∷ es) valid = set_views (λ j u. u.number ≡ 0 → u.left ≡ 0) _ id (noted a v) (λ e. absurd (valid.1.1 e)) (λ j u _ e. no_calls k es valid.0 j u e)
+no_calls k (did id v a ∷ es) valid = set_views (λ j u. u.number ≡ 0 → u.left ≡ 0) _ id (view_after a v) (λ e. absurd (valid.1.1 e)) (λ j u _ e. no_calls k es valid.0 j u e)
 no_calls k (forked id v ∷ es) valid =
     one_more (λ j u. u.number ≡ 0 → u.left ≡ 0) _ (made v) (λ e. absurd (valid.1.2 e))
     (set_views (λ j u. u.number ≡ 0 → u.left ≡ 0) _ id (maker v) (λ e. absurd (valid.1.1 e)) (λ j u _ e. no_calls k es valid.0 j u e))

@@ -16,14 +16,14 @@ use Rattle.ft_trace.specs.declared.Snap.{Snap}
 use Rattle.ft_trace.specs.declared.View.{View}
 use Rattle.ft_trace.specs.declared.Act.{Act}
 use Rattle.ft_trace.specs.declared.Act.TheVariants.{StartWrite, PutRoot, PutBlock, Commit, StopWrite, Unlock}
-use Rattle.ft_trace.specs.Addresses.{Word, containers_in, counter, version_of, lock_of, block, class_of, at, extent, Inside}
-use Rattle.ft_trace.specs.Acts.{place, Reports, has_lock, is_writing, has_committed, used, owes, mem, noted}
+use Rattle.ft_trace.specs.Addresses.{Word, container_count, counter, version_of, lock_of, block, class_of, at, extent, Inside}
+use Rattle.ft_trace.specs.Acts.{place, Reports, has_lock, is_writing, has_committed, used, owes, mem, view_after}
 use Rattle.ft_trace.specs.ContainerStates.{ContainerState, kind_in}
-use Rattle.ft_trace.specs.Pictures.{root_of, inner, Picture, root_in, picture, Stands}
+use Rattle.ft_trace.specs.Pictures.{root_of, inner, ContainerWords, root_in, picture, Represents}
 use Rattle.ft_trace.specs.Kinds.{rows, version_at}
 use Rattle.ft_trace.specs.OddVersions.{Shut}
-use Rattle.ft_trace.specs.Holds.{held, known}
-use Rattle.ft_trace.specs.Traces.{did, run, word, history, snap, May, Valid, Possible, Sure, IsAwake}
+use Rattle.ft_trace.specs.Holds.{held_words, known_state}
+use Rattle.ft_trace.specs.Traces.{did, run, word, history, snap, May, Valid, IsReachable, Sure, IsAwake}
 use Rattle.ft_trace.proofs.Sizes.{set_at}
 use Rattle.ft_trace.proofs.Cases.{hit}
 use Rattle.ft_trace.proofs.Addresses.{at_low, at_apart}
@@ -40,7 +40,7 @@ use Rattle.ft_trace.proofs.Naming.{one_locked}
 use Rattle.ft_trace.proofs.Contents.{empty_stands}
 
 -- one more action with a snapshot
-pub snap_possible : (v : View) → IsAwake v → Possible v → (act : ℕ → Snap → Act) (x : Word) → ((n : ℕ) (s : Snap) → place (act n s) ≡ x) → ((n : ℕ) (s : Snap) → Reports (act n s) n) → Sure v (λ es. May v.shape (run v.shape es) (history es) v (act (word v.shape es x) (snap (run v.shape es) (history es)))) → (n : ℕ) × (s : Snap) × Possible (noted (act n s) v)
+pub snap_possible : (v : View) → IsAwake v → IsReachable v → (act : ℕ → Snap → Act) (x : Word) → ((n : ℕ) (s : Snap) → place (act n s) ≡ x) → ((n : ℕ) (s : Snap) → Reports (act n s) n) → Sure v (λ es. May v.shape (run v.shape es) (history es) v (act (word v.shape es x) (snap (run v.shape es) (history es)))) → (n : ℕ) × (s : Snap) × IsReachable (view_after (act n s) v)
 snap_possible v live p act x is tells may =
     let k = v.shape in
     let es = p.0 in
@@ -48,7 +48,7 @@ snap_possible v live p act x is tells may =
     let s = snap (run k es) (history es) in
     let a = act n s in
     let found : Reports a (word k es (place a)) = subst (λ (z : Word). Reports a (word k es z)) (sym (is n s)) (tells n s) in
-    (n, s, (did p.1 v a ∷ es, p.1, ((p.2.0, (p.2.1, live.0, found, may es p.1 p.2, live.1)), set_at (run k es).views p.1 v (noted a v) p.2.1)))
+    (n, s, (did p.1 v a ∷ es, p.1, ((p.2.0, (p.2.1, live.0, found, may es p.1 p.2, live.1)), set_at (run k es).views p.1 v (view_after a v) p.2.1)))
 
 -- two words of the bank
 other_word : (k : Shape) (ws : List ℕ) (x y : Word) (z : ℕ) → Inside k x → Inside k y → y ≢ x → slice_index (slice_set ws (at k x) z) (at k y) ≡ slice_index ws (at k y)
@@ -64,18 +64,18 @@ put_default (x ∷ xs) zero d = refl
 put_default (x ∷ xs) (suc i) d = put_default xs i d
 
 -- who has the lock and does not write knows a table none of whose versions is odd
-pub held_shut : (v : View) (o q : ℕ) → o < containers_in v.shape → Possible v → has_lock o v.log ≡ true → is_writing o v.log ≡ false → root_in (held o v) ≡ suc q → Shut (version_at (kind_in v.shape.starts o) (class_of q)) (rows (kind_in v.shape.starts o) (class_of q)) (held o v).table
+pub held_shut : (v : View) (o q : ℕ) → o < container_count v.shape → IsReachable v → has_lock o v.log ≡ true → is_writing o v.log ≡ false → root_in (held_words o v) ≡ suc q → Shut (version_at (kind_in v.shape.starts o) (class_of q)) (rows (kind_in v.shape.starts o) (class_of q)) (held_words o v).table
 held_shut v o q low p mine quiet names =
     let w = table_known v o low q mine names p.0 p.1 p.2 in
     subst (Shut (version_at (kind_in v.shape.starts o) (class_of q)) (rows (kind_in v.shape.starts o) (class_of q))) (sym w.0) (holder_shut v.shape p.0 p.2.0 o low p.1 v p.2.1 mine quiet q w.1)
 
 -- start, root 0, length 0, commit, stop, unlock
-module _ (v : View) (o : ℕ) (values : List Value) (live : IsAwake v) (possible : Possible v) (small : v.shape.passes * v.shape.calls < 2 ^ 46) (low : o < containers_in v.shape) (mine : has_lock o v.log ≡ true) (quiet : is_writing o v.log ≡ false) (spare : used v.log ≡ false) (none : owes v.log ≡ 0) (room : 0 < v.left) (is_list : (known o v).content ≡ content.List values) where
+module _ (v : View) (o : ℕ) (values : List Value) (live : IsAwake v) (possible : IsReachable v) (small : v.shape.passes * v.shape.calls < 2 ^ 46) (low : o < container_count v.shape) (mine : has_lock o v.log ≡ true) (quiet : is_writing o v.log ≡ false) (spare : used v.log ≡ false) (none : owes v.log ≡ 0) (room : 0 < v.left) (is_list : (known_state o v).content ≡ content.List values) where
   abbrev k : Shape
   k = v.shape
 
   abbrev old : ℕ
-  old = root_in (held o v)
+  old = root_in (held_words o v)
 
   abbrev clears : Call
   clears = call.List o list.Clear
@@ -84,19 +84,19 @@ module _ (v : View) (o : ℕ) (values : List Value) (live : IsAwake v) (possible
   version_up u is es id knows = let r = version_room k es (subst (λ (z : Shape). Valid z es) is knows.0) o low in omega (arith, r, small)
 
   abbrev c1 : ℕ → View
-  c1 n = noted (StartWrite o n) v
+  c1 n = view_after (StartWrite o n) v
 
   abbrev c2 : ℕ → View
-  c2 n = noted (PutRoot o 0 old) (c1 n)
+  c2 n = view_after (PutRoot o 0 old) (c1 n)
 
   abbrev c3 : ℕ → View
-  c3 n = noted (PutBlock o 1 0) (c2 n)
+  c3 n = view_after (PutBlock o 1 0) (c2 n)
 
   abbrev c4 : ℕ → ℕ → Snap → View
-  c4 n m s = noted (Commit clears reply.Done m s) (c3 n)
+  c4 n m s = view_after (Commit clears reply.Done m s) (c3 n)
 
   abbrev c5 : ℕ → ℕ → Snap → ℕ → View
-  c5 n m s f = noted (StopWrite o f) (c4 n m s)
+  c5 n m s f = view_after (StopWrite o f) (c4 n m s)
 
   odd : is_writing o (c1 0).log ≡ true
   odd = hit o true (is_writing o v.log)
@@ -105,8 +105,8 @@ module _ (v : View) (o : ℕ) (values : List Value) (live : IsAwake v) (possible
   not_yet = hit o false (has_committed o v.log)
 
   -- the block that is known at first is that of a list
-  head : IsBlock (held o v).block (known o v).table.class (length values) 0 0
-  head = subst (λ (z : Content). StandsAs k.texts (held o v).block (0 ∷ 0 ∷ (held o v).table) (known o v).table z → IsBlock (held o v).block (known o v).table.class (length values) 0 0) (sym is_list) (λ s. s.0.head) (held_stands v o low possible mine quiet)
+  head : IsBlock (held_words o v).block (known_state o v).table.class (length values) 0 0
+  head = subst (λ (z : Content). StandsAs k.texts (held_words o v).block (0 ∷ 0 ∷ (held_words o v).table) (known_state o v).table z → IsBlock (held_words o v).block (known_state o v).table.class (length values) 0 0) (sym is_list) (λ s. s.0.head) (held_stands v o low possible mine quiet)
 
   abbrev ws : List ℕ
   ws = mem k v.log
@@ -121,7 +121,7 @@ module _ (v : View) (o : ℕ) (values : List Value) (live : IsAwake v) (possible
   in_block i less = (low, less)
 
   -- a word that is not put
-  else : (i : ℕ) → 2 ≤ i → i < 6 → slice_index (held o v).block i ≡ 0 → slice_index ys (at k (block o i)) ≡ 0
+  else : (i : ℕ) → 2 ≤ i → i < 6 → slice_index (held_words o v).block i ≡ 0 → slice_index ys (at k (block o i)) ≡ 0
   else i up less zero_is =
       other_word k (slice_set ws (at k (block o 0)) 0) (block o 1) (block o i) 0 (in_block 1 (omega arith)) (in_block i less) (λ e. let z = one_word o i 1 e in omega (arith, z, up))
       ∙ (other_word k ws (block o 0) (block o i) 0 (in_block 0 (omega arith)) (in_block i less) (λ e. let z = one_word o i 0 e in omega (arith, z, up))
@@ -151,7 +151,7 @@ module _ (v : View) (o : ℕ) (values : List Value) (live : IsAwake v) (possible
   root_now : root_in (picture k o ys) ≡ 0
   root_now = ap root_in shown
 
-  after_clear : (n m : ℕ) (s : Snap) → known o (c4 n m s) ≡ record { content = content.List []; table = no_table }
+  after_clear : (n m : ℕ) (s : Snap) → known_state o (c4 n m s) ≡ record { content = content.List []; table = no_table }
   after_clear n m s =
       let c = put_default _ o (content.List []) in
       let t = put_default _ o no_table in
@@ -165,10 +165,10 @@ module _ (v : View) (o : ℕ) (values : List Value) (live : IsAwake v) (possible
       let is : slice_index_or world o (content.List []) ≡ content.List values = ap (λ (z : ContainerState). z.content) (sym (content_known (c3 n) o mine es id knows)) ∙ is_list in
       record { one = ap (option_map kind_of) (there ∙ ap Some is); both = tt; room = tt }
 
-  step1 : (n : ℕ) × Possible (c1 n)
+  step1 : (n : ℕ) × IsReachable (c1 n)
   step1 = next_possible v live possible (λ n. StartWrite o n) (version_of o) (λ n. refl) (λ n. refl) (λ es id knows. (low, mine, quiet, version_up v refl es id knows))
 
-  step2 : (n : ℕ) → Possible (c1 n) → (n2 : ℕ) × Possible (c2 n)
+  step2 : (n : ℕ) → IsReachable (c1 n) → (n2 : ℕ) × IsReachable (c2 n)
   step2 n q =
       next_possible (c1 n) live q (λ _. PutRoot o 0 old) (block o 0) (λ _. refl) (λ _. tt)
       (λ es id knows. (
@@ -182,10 +182,10 @@ module _ (v : View) (o : ℕ) (values : List Value) (live : IsAwake v) (possible
         (λ _. not_yet),
       ))
 
-  step3 : (n : ℕ) → Possible (c2 n) → (n2 : ℕ) × Possible (c3 n)
+  step3 : (n : ℕ) → IsReachable (c2 n) → (n2 : ℕ) × IsReachable (c3 n)
   step3 n q = next_possible (c2 n) live q (λ _. PutBlock o 1 0) (block o 1) (λ _. refl) (λ _. tt) (λ es id knows. (low, omega arith, odd, λ (e : 1 ≡ 0). absurd (omega (arith, e))))
 
-  step4 : (n : ℕ) → Possible (c3 n) → (m : ℕ) × (s : Snap) × Possible (c4 n m s)
+  step4 : (n : ℕ) → IsReachable (c3 n) → (m : ℕ) × (s : Snap) × IsReachable (c4 n m s)
   step4 n q =
       snap_possible (c3 n) live q (λ m s. Commit clears reply.Done m s) counter (λ m s. refl) (λ m s. refl)
       (λ es id knows.
@@ -207,7 +207,7 @@ module _ (v : View) (o : ℕ) (values : List Value) (live : IsAwake v) (possible
         one_locked o (c3 n).log mine,
       ))
 
-  step5 : (n m : ℕ) (s : Snap) → Possible (c4 n m s) → (f : ℕ) × Possible (c5 n m s f)
+  step5 : (n m : ℕ) (s : Snap) → IsReachable (c4 n m s) → (f : ℕ) × IsReachable (c5 n m s f)
   step5 n m s q =
       next_possible (c4 n m s) live q (λ f. StopWrite o f) (version_of o) (λ f. refl) (λ f. refl)
       (λ es id knows.
@@ -215,15 +215,15 @@ module _ (v : View) (o : ℕ) (values : List Value) (live : IsAwake v) (possible
         low,
         odd,
         refl,
-        stop_sure (c4 n m s) o low mine (subst (λ (z : Picture × ContainerState). Stands k.texts z.0 z.1) (λ d. (sym shown d, sym (after_clear n m s) d)) (empty_stands k.texts kind.List)) es id knows,
+        stop_sure (c4 n m s) o low mine (subst (λ (z : ContainerWords × ContainerState). Represents k.texts z.0 z.1) (λ d. (sym shown d, sym (after_clear n m s) d)) (empty_stands k.texts kind.List)) es id knows,
         version_up (c4 n m s) refl es id knows,
         (λ t names. absurd (omega (arith, names, root, root_now))),
       ))
 
-  step6 : (n m : ℕ) (s : Snap) (f : ℕ) → Possible (c5 n m s f) → (n2 : ℕ) × Possible (noted (Unlock o) (c5 n m s f))
+  step6 : (n m : ℕ) (s : Snap) (f : ℕ) → IsReachable (c5 n m s f) → (n2 : ℕ) × IsReachable (view_after (Unlock o) (c5 n m s f))
   step6 n m s f q = next_possible (c5 n m s f) live q (λ _. Unlock o) (lock_of o) (λ _. refl) (λ _. tt) (λ es id knows. (low, mine, hit o false (is_writing o (c4 n m s).log)))
 
-  pub clear_possible : (n m : ℕ) × (s : Snap) × (f : ℕ) × Possible (noted (Unlock o) (c5 n m s f))
+  pub clear_possible : (n m : ℕ) × (s : Snap) × (f : ℕ) × IsReachable (view_after (Unlock o) (c5 n m s f))
   clear_possible =
       let a = step1 in
       let b = step2 a.0 a.1 in

@@ -11,7 +11,7 @@ use Rattle.ft_trace.specs.declared.Act.TheVariants.{Commit, Answer, AnswerCursor
 use Rattle.ft_model.specs.declared.call.Call.{Call}
 use Rattle.ft_trace.specs.declared.Entry.{Entry}
 use Rattle.std.specs.List.{flat_map}
-use Rattle.ft_trace.specs.Acts.{place, Reports, starter, noted, entries_next, maker, made, both, spent, sender, note, all_entries}
+use Rattle.ft_trace.specs.Acts.{place, Reports, starter, view_after, entries_next, maker, made, both, spent, sender, note, all_entries}
 use Rattle.ft_model.specs.declared.script.Start.{Start}
 use Rattle.ft_model.specs.Histories.{IsReplied}
 use Rattle.ft_model.specs.TableUses.{stored_newest}
@@ -63,7 +63,7 @@ all_right k [] valid = one_view (λ j u. AllRight k.starts [] (all_entries u)) (
 all_right k (did id v a ∷ es) valid =
     let old = all_right k es valid.0 in
     let P : ℕ → View → Type 0 = λ j u. AllRight k.starts (writes_of a (history es)) (all_entries u) in
-    set_views P _ id (noted a v)
+    set_views P _ id (view_after a v)
     (subst (AllRight k.starts (writes_of a (history es))) (next_all a v.entries (flat_map (λ (l : List Entry). l) v.lists)) (right_next k es (counted k es valid.0) v a valid.1.2 valid.1.3 (all_entries v) (all_stay k.starts a (history es) (all_entries v) (old id v valid.1.0))))
     (λ j u _ e. all_stay k.starts a (history es) (all_entries u) (old j u e))
 all_right k (forked id v ∷ es) valid =
@@ -114,7 +114,7 @@ stood : (k : Shape) (es : List Event) → Valid k es → 0 < k.passes → (j : �
 stood k [] valid some_pass = one_view (λ j u. Stood u) (starter k) (record { live = λ _. some_pass })
 stood k (did id v a ∷ es) valid some_pass =
     let old = stood k es valid.0 some_pass in
-    set_views (λ j u. Stood u) _ id (noted a v) (record { live = (old id v valid.1.0).live }) (λ j u _ e. old j u e)
+    set_views (λ j u. Stood u) _ id (view_after a v) (record { live = (old id v valid.1.0).live }) (λ j u _ e. old j u e)
 stood k (forked id v ∷ es) valid some_pass =
     let old = stood k es valid.0 some_pass in
     let may = valid.1.3 in

@@ -9,8 +9,8 @@ use Rattle.ft_trace.specs.declared.Shape.{Shape}
 use Rattle.ft_trace.specs.declared.View.{View}
 use Rattle.ft_trace.specs.declared.Act.{Act}
 use Rattle.ft_trace.specs.declared.Act.TheVariants.{StartWrite, PutBlock, PutRoot, PutTable, PutFresh, Commit, StopWrite, ReadBlock, ReadRoot, ReadTable, ReadCounter, Answer, AnswerCursor, TakeFloor, TookOver}
-use Rattle.ft_trace.specs.Addresses.{Word, counter, block, cell, Inside, containers_in}
-use Rattle.ft_trace.specs.Acts.{is_writing, noted}
+use Rattle.ft_trace.specs.Addresses.{Word, counter, block, cell, Inside, container_count}
+use Rattle.ft_trace.specs.Acts.{is_writing, view_after}
 use Rattle.ft_model.specs.declared.script.Kind.{Kind}
 use Rattle.ft_model.specs.declared.script.Kind.TheVariants as kind
 use Rattle.ft_model.specs.declared.script.Start.{Start}
@@ -20,7 +20,7 @@ use Rattle.std.specs.Prelude.{replicate, map, slice_index_or}
 use Rattle.ft_trace.specs.ContainerStates.{ContainerState, container_after, kind_in}
 use Rattle.ft_trace.proofs.LandedStarts.{starts_unsplit}
 use Rattle.ft_trace.proofs.Untouched.{untouched}
-use Rattle.ft_trace.specs.Pictures.{table_words, inner, Picture, picture, Stands}
+use Rattle.ft_trace.specs.Pictures.{table_words, inner, ContainerWords, picture, Represents}
 use Rattle.ft_trace.specs.Traces.{Event, did, forked, joined, sent, run, word, writes_of, history, StandsFor, May, Fits, Valid}
 use Rattle.ft_trace.proofs.Sizes.{set_at}
 use Rattle.ft_trace.proofs.Cases.{hit, off}
@@ -59,7 +59,7 @@ Of k es o (cell t i) = root k es o ≡ suc t
 Of k es o x = ⊥
 
 -- only who writes o changes a word of o
-pub alters : (k : Shape) (es : List Event) → Valid k es → (id : ℕ) (v : View) → get_elem? (run k es).views id ≡ some v → (o : ℕ) → o < containers_in k → (is_writing o v.log ≡ true → ⊥) → (x : Word) → Inside k x → Of k es o x → (a : Act) → May k (run k es) (history es) v a → word k (did id v a ∷ es) x ≡ word k es x
+pub alters : (k : Shape) (es : List Event) → Valid k es → (id : ℕ) (v : View) → get_elem? (run k es).views id ≡ some v → (o : ℕ) → o < container_count k → (is_writing o v.log ≡ true → ⊥) → (x : Word) → Inside k x → Of k es o x → (a : Act) → May k (run k es) (history es) v a → word k (did id v a ∷ es) x ≡ word k es x
 alters k es valid id v at o low never x in_it of (PutBlock p i y) may = stays k es id v (PutBlock p i y) may x in_it (λ e. never (subst (λ (z : ℕ). is_writing z v.log ≡ true) (subst (Of k es o) (sym e) of) may.2))
 alters k es valid id v at o low never x in_it of (PutRoot p r old) may = stays k es id v (PutRoot p r old) may x in_it (λ e. never (subst (λ (z : ℕ). is_writing z v.log ≡ true) (subst (Of k es o) (sym e) of) may.1))
 alters k es valid id v at o low never x in_it of (PutTable p t i y) may =
@@ -88,7 +88,7 @@ pub record Still (k : Shape) (es now : List Event) (o : ℕ) : Type 0 where
   pub picture : picture k o (run k now).words ≡ picture k o (run k es).words
   pub content : container_after k.starts (history now) o ≡ container_after k.starts (history es) o
 
-pub still_of : (k : Shape) (es now : List Event) → Valid k es → (o : ℕ) → o < containers_in k → ((x : Word) → Inside k x → Of k es o x → word k now x ≡ word k es x) → container_after k.starts (history now) o ≡ container_after k.starts (history es) o → Still k es now o
+pub still_of : (k : Shape) (es now : List Event) → Valid k es → (o : ℕ) → o < container_count k → ((x : Word) → Inside k x → Of k es o x → word k now x ≡ word k es x) → container_after k.starts (history now) o ≡ container_after k.starts (history es) o → Still k es now o
 still_of k es now valid o low words content = record {
   picture =
       (picture_same k o (run k now).words (run k es).words (λ i small. words (block o i) (low, small) refl)
@@ -101,18 +101,18 @@ content_by k es v o never (Commit c r f s) may = untouched k.starts c (history e
 content_by k es v o never act may = refl
 
 -- an action of a pass that does not write o
-pub unwritten : (k : Shape) (es : List Event) (id : ℕ) (v : View) (a : Act) → Valid k (did id v a ∷ es) → (o : ℕ) → o < containers_in k → (is_writing o v.log ≡ true → ⊥) → Still k es (did id v a ∷ es) o
+pub unwritten : (k : Shape) (es : List Event) (id : ℕ) (v : View) (a : Act) → Valid k (did id v a ∷ es) → (o : ℕ) → o < container_count k → (is_writing o v.log ≡ true → ⊥) → Still k es (did id v a ∷ es) o
 unwritten k es id v a valid o low never =
     still_of k es (did id v a ∷ es) valid.0 o low (λ x in_it of. alters k es valid.0 id v valid.1.0 o low never x in_it of a valid.1.3) (content_by k es v o never a valid.1.3)
 
-pub still : (k : Shape) (es : List Event) (e : Event) → Valid k (e ∷ es) → (o : ℕ) → o < containers_in k → version k es o % 2 ≡ 0 → Still k es (e ∷ es) o
+pub still : (k : Shape) (es : List Event) (e : Event) → Valid k (e ∷ es) → (o : ℕ) → o < container_count k → version k es o % 2 ≡ 0 → Still k es (e ∷ es) o
 still k es (did id v a) valid o low even = unwritten k es id v a valid o low (λ w. writing_is_odd k es valid.0 o low id v valid.1.0 w even)
 still k es (forked id v) valid o low even = record { picture = refl; content = refl }
 still k es (sent id v given) valid o low even = record { picture = refl; content = refl }
 still k es (joined id v other w) valid o low even = record { picture = refl; content = refl }
 
 -- while an even version stays, nothing changes that it stands for
-pub quiet : (k : Shape) (newer older : List Event) → Valid k (newer ++ older) → (o : ℕ) → o < containers_in k → version k older o % 2 ≡ 0 → version k (newer ++ older) o ≡ version k older o → Still k older (newer ++ older) o
+pub quiet : (k : Shape) (newer older : List Event) → Valid k (newer ++ older) → (o : ℕ) → o < container_count k → version k older o % 2 ≡ 0 → version k (newer ++ older) o ≡ version k older o → Still k older (newer ++ older) o
 quiet k [] older valid o low even same = record { picture = refl; content = refl }
 quiet k (e ∷ newer) older valid o low even same =
     let a = rises k newer older valid.0 o low in
@@ -123,7 +123,7 @@ quiet k (e ∷ newer) older valid o low even same =
     record { picture = one.picture ∙ old.picture; content = one.content ∙ old.content }
 
 -- where all words are 0 the content is empty
-pub empty_stands : (texts : List ℕ) (kind : Kind) → Stands texts (record { block = replicate 6 0; table = [] }) (record { content = empty_content kind; table = no_table })
+pub empty_stands : (texts : List ℕ) (kind : Kind) → Represents texts (record { block = replicate 6 0; table = [] }) (record { content = empty_content kind; table = no_table })
 empty_stands texts kind.Dict = record { head = record { size = refl; root = refl; count_is = refl; fill_is = refl; next_is = refl; spare = (refl, refl) }; used = []; table = refl; filled = refl; entries = record { live = refl; below = λ i _ none. absurd (omega arith) } }
 empty_stands texts kind.Set = record { head = record { size = refl; root = refl; count_is = refl; fill_is = refl; next_is = refl; spare = (refl, refl) }; used = []; table = refl; filled = refl; entries = record { live = refl; below = λ i _ none. absurd (omega arith) } }
 empty_stands texts kind.List = (record { head = record { size = refl; root = refl; count_is = refl; fill_is = refl; next_is = refl; spare = (refl, refl) }; table = refl }, refl)
@@ -142,24 +142,24 @@ opened_kept k fits o =
     λ d. record { content = c d; table = (t ∙ (λ e. record { class = None; fill = 0; keys = none e })) d }
 
 pub stands_for : (k : Shape) (es now : List Event) (o : ℕ) → Still k es now o → StandsFor k (run k es) (history es) o → StandsFor k (run k now) (history now) o
-stands_for k es now o same old = subst (λ (z : Picture × ContainerState). Stands k.texts z.0 z.1) (λ i. (sym same.picture i, sym same.content i)) old
+stands_for k es now o same old = subst (λ (z : ContainerWords × ContainerState). Represents k.texts z.0 z.1) (λ i. (sym same.picture i, sym same.content i)) old
 
 -- the words of o stand for what the history makes of it
-pub stands : (k : Shape) (es : List Event) → Valid k es → (o : ℕ) → o < containers_in k → version k es o % 2 ≡ 0 → StandsFor k (run k es) (history es) o
+pub stands : (k : Shape) (es : List Event) → Valid k es → (o : ℕ) → o < container_count k → version k es o % 2 ≡ 0 → StandsFor k (run k es) (history es) o
 stands k [] valid o low even =
     let zeros : (i : ℕ) → i < 6 → word k [] (block o i) ≡ 0 = λ i small. block_first k o i low small in
     let r = zeros 0 (omega arith) in
     let b = block_zero k o (run k []).words zeros in
-    let none : Picture = record { block = replicate 6 0; table = [] } in
+    let none : ContainerWords = record { block = replicate 6 0; table = [] } in
     let p : picture k o (run k []).words ≡ none = λ d. record { block = b d; table = inner k (r d) (run k []).words } in
-    subst (λ (z : Picture × ContainerState). Stands k.texts z.0 z.1) (λ i. (sym p i, sym (opened_kept k valid o) i)) (empty_stands k.texts (kind_in k.starts o))
+    subst (λ (z : ContainerWords × ContainerState). Represents k.texts z.0 z.1) (λ i. (sym p i, sym (opened_kept k valid o) i)) (empty_stands k.texts (kind_in k.starts o))
 stands k (did id v a ∷ es) valid o low even =
     dite (ℕ_discrete (version k es o % 2) 0)
     (λ (was : version k es o % 2 ≡ 0). stands_for k es (did id v a ∷ es) o (still k es (did id v a) valid o low was) (stands k es valid.0 o low was))
     (λ (odd : version k es o % 2 ≡ 0 → ⊥).
     let F : Act → Type 0 = λ b. Valid k (did id v b ∷ es) → version k (did id v b ∷ es) o % 2 ≡ 0 → StandsFor k (run k (did id v b ∷ es)) (writes_of b (history es)) o in
     on_seq k es id v o low F
-    (λ f ok now. off (sym ((versioned k (did id v (StartWrite o f) ∷ es) ok o low).idle now id (noted (StartWrite o f) v) (set_at (run k es).views id v (noted (StartWrite o f) v) ok.1.0)) ∙ hit o true (is_writing o v.log)))
+    (λ f ok now. off (sym ((versioned k (did id v (StartWrite o f) ∷ es) ok o low).idle now id (view_after (StartWrite o f) v) (set_at (run k es).views id v (view_after (StartWrite o f) v) ok.1.0)) ∙ hit o true (is_writing o v.log)))
     (λ f ok now.
     let same = still_of k es (did id v (StopWrite o f) ∷ es) ok.0 o low (λ x in_it of. stays k es id v (StopWrite o f) ok.1.3 x in_it (λ e. subst (Of k es o) (sym e) of)) refl in
     stands_for k es (did id v (StopWrite o f) ∷ es) o same ok.1.3.3)

@@ -11,7 +11,7 @@ use Rattle.ft_trace.specs.declared.Act.{Act}
 use Rattle.ft_trace.specs.declared.Act.TheVariants.{LowerCount, RaiseCount, ReadCount, ReadFree, TakeTable, GiveTable}
 use Rattle.ft_trace.specs.Bits.{bit}
 use Rattle.ft_trace.specs.Addresses.{tables_in, count_of_class, bits, class_of, number_of, free_word_of, free_bit_of, IsTableName}
-use Rattle.ft_trace.specs.Acts.{place, stage, flight, flight_next, noted, maker, made, both, spent, sender, note}
+use Rattle.ft_trace.specs.Acts.{place, stage, flight, flight_next, view_after, maker, made, both, spent, sender, note}
 use Rattle.ft_trace.specs.Entries.{total}
 use Rattle.ft_trace.specs.Counts.{sum_to, bit_of, set_bits, taking, giving}
 use Rattle.ft_trace.specs.Traces.{Event, did, forked, joined, sent, run, word, history, May, Valid}
@@ -296,7 +296,7 @@ counted_bits k (did id v a ∷ es) valid c low =
     let old = counted_bits k es valid.0 c low in
     let top = bits_low k es c in
     let part = total_at (busy_in c) (run k es).views id v valid.1.0 in
-    let t = total_set (busy_in c) (run k es).views id v (noted a v) valid.1.0 in
+    let t = total_set (busy_in c) (run k es).views id v (view_after a v) valid.1.0 in
     let e = evenly k es id v c small low a valid (omega (arith, old, top, part, small)) in
     omega (arith, old, t, e, part)
 counted_bits k (forked id v ∷ es) valid c low =

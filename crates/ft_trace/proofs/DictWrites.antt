@@ -32,14 +32,14 @@ use Rattle.ft_layout.proofs.WordLaws.{same_key}
 use Rattle.ft_trace.specs.declared.Shape.{Shape}
 use Rattle.ft_trace.specs.declared.Snap.{Snap}
 use Rattle.ft_trace.specs.declared.View.{View}
-use Rattle.ft_trace.specs.Addresses.{containers_in, class_of, slots, places, size}
+use Rattle.ft_trace.specs.Addresses.{container_count, class_of, slots, places, size}
 use Rattle.ft_trace.specs.Acts.{has_lock}
 use Rattle.ft_trace.specs.Pictures.{root_in, index_field, entry_offset, entry_field, walk_of}
 use Rattle.ft_trace.specs.Carefuls.{said_of, HasLiveKey, Reached, Clear}
 use Rattle.ft_trace.specs.Kinds.{under, version_at, IsKeyed}
 use Rattle.ft_trace.specs.OddVersions.{Shut}
-use Rattle.ft_trace.specs.Holds.{held, known, AgreesWith}
-use Rattle.ft_trace.specs.Traces.{Possible}
+use Rattle.ft_trace.specs.Holds.{held_words, known_state, AgreesWith}
+use Rattle.ft_trace.specs.Traces.{IsReachable}
 use Rattle.ft_trace.specs.Grants.{MayWrite}
 use Rattle.ft_trace.specs.WholeWrites.{to_table, MayPut, MayPuts, WholeWrite, at_commit, at_end, after_write_of}
 use Rattle.ft_trace.specs.EntryWrites.{value_puts, entry_closed, dict_set_write, ValuesMayBePut}
@@ -132,7 +132,7 @@ dict_clear first texts block before c fill more is_class pairs news ws zs says n
 
 -- ---- d[k] = v, in each history that agrees with what a pass with the lock of the dict knows
 
-module _ (v : View) (o : ℕ) (pairs : DictContent) (low : o < containers_in v.shape) (mine : has_lock o v.log ≡ true) (is_dict : (known o v).content ≡ content.Dict pairs) (calls : List Call) (agree : AgreesWith v (stored_newest v.shape.starts calls)) where
+module _ (v : View) (o : ℕ) (pairs : DictContent) (low : o < container_count v.shape) (mine : has_lock o v.log ≡ true) (is_dict : (known_state o v).content ≡ content.Dict pairs) (calls : List Call) (agree : AgreesWith v (stored_newest v.shape.starts calls)) where
   abbrev stored : StoredWorld
   stored = stored_newest v.shape.starts calls
 
@@ -160,8 +160,8 @@ module _ (v : View) (o : ℕ) (pairs : DictContent) (low : o < containers_in v.s
 
 -- ---- d[k] = v, where the key is there
 
-module _ (versions : EntryVersionsChangeNothing) (follow : WordsFollowAValue) (lives : LiveEntriesArePairs) (serials : ValuesKeepSerials) (first : FirstEntriesArePairs) (v : View) (o t place : ℕ) (key : Key) (value : Value) (pairs : DictContent) (may : MayWrite v o) (is_dict : (known o v).content ≡ content.Dict pairs) (names : root_in (held o v) ≡ suc t)
-    (low : place < places (class_of t)) (live : HasLiveKey (slots (class_of t)) (held o v).table place key) (fits_key : FitsKey key) (fits : FitsStored (Plain value)) where
+module _ (versions : EntryVersionsChangeNothing) (follow : WordsFollowAValue) (lives : LiveEntriesArePairs) (serials : ValuesKeepSerials) (first : FirstEntriesArePairs) (v : View) (o t place : ℕ) (key : Key) (value : Value) (pairs : DictContent) (may : MayWrite v o) (is_dict : (known_state o v).content ≡ content.Dict pairs) (names : root_in (held_words o v) ≡ suc t)
+    (low : place < places (class_of t)) (live : HasLiveKey (slots (class_of t)) (held_words o v).table place key) (fits_key : FitsKey key) (fits : FitsStored (Plain value)) where
   abbrev k : Shape
   k = v.shape
 
@@ -175,13 +175,13 @@ module _ (versions : EntryVersionsChangeNothing) (follow : WordsFollowAValue) (l
   m = places c
 
   abbrev ws : List ℕ
-  ws = (held o v).table
+  ws = (held_words o v).table
 
   abbrev b : List ℕ
-  b = (held o v).block
+  b = (held_words o v).block
 
   abbrev fill : ℕ
-  fill = (known o v).table.fill
+  fill = (known_state o v).table.fill
 
   abbrev news : DictContent
   news = dict_set pairs key value
@@ -258,7 +258,7 @@ module _ (versions : EntryVersionsChangeNothing) (follow : WordsFollowAValue) (l
   inside : (w : ℕ) → w < 8 → entry_offset n place w < size c
   inside w few = omega (arith, few, low)
 
-  early : MayPuts kind.Dict t (content.Dict pairs) false (held o v) (value_puts n ws place value)
+  early : MayPuts kind.Dict t (content.Dict pairs) false (held_words o v) (value_puts n ws place value)
   early =
       let kind_word = stored_kind (Plain value) in
       let payload = stored_payload (Plain value) in
@@ -266,7 +266,7 @@ module _ (versions : EntryVersionsChangeNothing) (follow : WordsFollowAValue) (l
       let second : List ℕ = slice_set opened (entry_offset n place 4) kind_word in
       let p3 : MayPut kind.Dict t (content.Dict pairs) false (record { block = b; table = second }) (to_table (entry_offset n place 5) payload) = (names, inside 5 (omega arith), value_payload n m ws (under (content.Dict pairs)) (under (content.Dict news)) place key kind_word payload low long even live, time 5 payload (omega arith) (λ e. absurd (omega (arith, e)))) in
       let p2 : MayPut kind.Dict t (content.Dict pairs) false (record { block = b; table = opened }) (to_table (entry_offset n place 4) kind_word) = (names, inside 4 (omega arith), value_kind n m ws (under (content.Dict pairs)) (under (content.Dict news)) place key kind_word payload low long even live, time 4 kind_word (omega arith) (λ e. absurd (omega (arith, e)))) in
-      let p1 : MayPut kind.Dict t (content.Dict pairs) false (held o v) (to_table (entry_offset n place 0) (ver + 1)) = (names, inside 0 (omega arith), value_open n m ws (under (content.Dict pairs)) (under (content.Dict news)) place key kind_word payload low long even live, time 0 (ver + 1) (omega arith) (λ _. let e = even in omega (arith, e))) in
+      let p1 : MayPut kind.Dict t (content.Dict pairs) false (held_words o v) (to_table (entry_offset n place 0) (ver + 1)) = (names, inside 0 (omega arith), value_open n m ws (under (content.Dict pairs)) (under (content.Dict news)) place key kind_word payload low long even live, time 0 (ver + 1) (omega arith) (λ _. let e = even in omega (arith, e))) in
       (p1, (p2, (p3, tt)))
 
   clear : Clear (walk_of kind.Dict k.texts c) n m put (under (content.Dict pairs)) (under (content.Dict news))
@@ -328,7 +328,7 @@ module _ (versions : EntryVersionsChangeNothing) (follow : WordsFollowAValue) (l
         ∙ (ap (λ (z : Option ℕ). grown_table T z drawn count) takes_none
         ∙ ((λ d. record { class = T.class; fill = fill_is d; keys = T.keys }) ∙ (table_there v o (content.Dict pairs) may.low may.mine is_dict calls agree ∙ known_use v o t (content.Dict pairs) may is_dict names))))
 
-  pub value_possible : (start number : ℕ) × (s : Snap) × (stop : ℕ) × Possible (after_write_of v o t write start number s stop)
+  pub value_possible : (start number : ℕ) × (s : Snap) × (stop : ℕ) × IsReachable (after_write_of v o t write start number s stop)
   value_possible =
       facts_suffice v o t (content.Dict pairs) (content.Dict news) (use_of t fill) write (may_begin v o may) is_dict
       (record {

@@ -8,7 +8,7 @@ use Rattle.ft_trace.specs.declared.Shape.{Shape}
 use Rattle.ft_trace.specs.declared.View.{View}
 use Rattle.ft_trace.specs.declared.Act.{Act}
 use Rattle.ft_trace.specs.declared.Act.TheVariants.{ReadRoot, Announce, TookOver}
-use Rattle.ft_trace.specs.Acts.{place, Reports, reads, reads_next, hands_over, starter, noted, maker, made, both, spent, sender, note}
+use Rattle.ft_trace.specs.Acts.{place, Reports, reads, reads_next, hands_over, starter, view_after, maker, made, both, spent, sender, note}
 use Rattle.ft_trace.specs.Owners.{had_locks, found_owners}
 use Rattle.ft_trace.specs.Ages.{age, seen, seen_next}
 use Rattle.ft_trace.specs.LoggedLookUps.{Online}
@@ -132,7 +132,7 @@ pub was : (k : Shape) (es : List Event) → Valid k es → (j : ℕ) (u : View) 
 was k [] valid = one_view (Each k []) (starter k) (no_log k [] 0)
 was k (did id v b ∷ es) valid =
     let old = was k es valid.0 in
-    set_views (Each k (did id v b ∷ es)) _ id (noted b v)
+    set_views (Each k (did id v b ∷ es)) _ id (view_after b v)
     (by_front k es id v b valid (old id v valid.1.0))
     (λ j u ne e xs a rest is. later k es (did id v b) j xs a rest (λ t. sym (miss id j (seen_next b (reads t v.log) t (age es t) (seen es j t)) (seen es j t) (λ z. ne (sym z)))) (old j u e xs a rest is))
 was k (forked id v ∷ es) valid =

@@ -16,7 +16,7 @@ use Rattle.ft_trace.specs.declared.Entry.{Entry}
 use Rattle.ft_trace.specs.declared.Shape.{Shape}
 use Rattle.ft_trace.specs.declared.View.{View}
 use Rattle.std.specs.List.{flat_map}
-use Rattle.ft_trace.specs.Acts.{place, Reports, noted, starter, maker, made, note, sender, both, spent, entries_next, all_entries}
+use Rattle.ft_trace.specs.Acts.{place, Reports, view_after, starter, maker, made, note, sender, both, spent, entries_next, all_entries}
 use Rattle.ft_trace.proofs.AllEntries.{next_all, has_none, both_all}
 use Rattle.ft_trace.specs.Causes.{HasCause}
 use Rattle.ft_trace.specs.Earnings.{IsEarnedSo, AllEarned, EntriesAreEarned}
@@ -84,7 +84,7 @@ entries_are_earned k (did id v a ∷ es) valid =
     let old = entries_are_earned k es valid.0 in
     let right = all_right k es valid.0 in
     let P : ℕ → View → Type 0 = λ j u. AllEarned k (writes_of a (history es)) (all_entries u) in
-    set_views P _ id (noted a v)
+    set_views P _ id (view_after a v)
     (subst (AllEarned k (writes_of a (history es))) (next_all a v.entries (flat_map (λ (l : List Entry). l) v.lists)) (earned_next k es valid.0 id v valid.1.0 a valid.1.2 valid.1.3 (all_entries v) (earned_stays k a (history es) (all_entries v) (right id v valid.1.0) (old id v valid.1.0))))
     (λ j u _ e. earned_stays k a (history es) (all_entries u) (right j u e) (old j u e))
 entries_are_earned k (forked id v ∷ es) valid =

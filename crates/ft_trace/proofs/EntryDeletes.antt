@@ -19,8 +19,8 @@ use Rattle.ft_trace.specs.Pictures.{root_in, entry_offset, entry_field, walk_of}
 use Rattle.ft_trace.specs.Carefuls.{HasLiveKey, Clear}
 use Rattle.ft_trace.specs.Kinds.{under, rows, IsKeyed}
 use Rattle.ft_trace.specs.OddVersions.{Shut}
-use Rattle.ft_trace.specs.Holds.{held, known, AgreesWith}
-use Rattle.ft_trace.specs.Traces.{Possible}
+use Rattle.ft_trace.specs.Holds.{held_words, known_state, AgreesWith}
+use Rattle.ft_trace.specs.Traces.{IsReachable}
 use Rattle.ft_trace.specs.Grants.{MayWrite}
 use Rattle.ft_trace.specs.WholeWrites.{to_block, MayPut, MayPuts, WholeWrite, at_commit, at_end, after_write_of}
 use Rattle.ft_trace.specs.EntryWrites.{entry_closed}
@@ -35,8 +35,8 @@ use Rattle.ft_trace.proofs.DictWrites.{EntryVersionsChangeNothing, version_stand
 use Rattle.ft_trace.proofs.WriteFacts.{CallFacts, facts_suffice}
 
 -- `count` is how many there are afterwards
-module _ (versions : EntryVersionsChangeNothing) (v : View) (o t p count : ℕ) (key : Key) (x news : Content) (keyed : IsKeyed (kind_of x)) (still : IsKeyed (kind_of news)) (called : Call) (may : MayWrite v o) (is : (known o v).content ≡ x) (names : root_in (held o v) ≡ suc t) (low : p < rows (kind_of x) (class_of t))
-    (live : HasLiveKey (slots (class_of t)) (held o v).table p key) where
+module _ (versions : EntryVersionsChangeNothing) (v : View) (o t p count : ℕ) (key : Key) (x news : Content) (keyed : IsKeyed (kind_of x)) (still : IsKeyed (kind_of news)) (called : Call) (may : MayWrite v o) (is : (known_state o v).content ≡ x) (names : root_in (held_words o v) ≡ suc t) (low : p < rows (kind_of x) (class_of t))
+    (live : HasLiveKey (slots (class_of t)) (held_words o v).table p key) where
   abbrev kind : Kind
   kind = kind_of x
 
@@ -50,10 +50,10 @@ module _ (versions : EntryVersionsChangeNothing) (v : View) (o t p count : ℕ) 
   m = rows kind c
 
   abbrev fill : ℕ
-  fill = (known o v).table.fill
+  fill = (known_state o v).table.fill
 
   abbrev ws : List ℕ
-  ws = (held o v).table
+  ws = (held_words o v).table
 
   abbrev ver : ℕ
   ver = entry_field n ws p 0
@@ -80,12 +80,12 @@ module _ (versions : EntryVersionsChangeNothing) (v : View) (o t p count : ℕ) 
   even = shut p low
 
   names_now : slice_index block 0 ≡ suc t
-  names_now = get_or-set_other (held o v).block 1 0 count 0 (λ e. absurd (omega (arith, e))) ∙ names
+  names_now = get_or-set_other (held_words o v).block 1 0 count 0 (λ e. absurd (omega (arith, e))) ∙ names
 
-  early : MayPuts kind t x false (held o v) (to_block 1 count ∷ delete_puts n ws p key)
+  early : MayPuts kind t x false (held_words o v) (to_block 1 count ∷ delete_puts n ws p key)
   early =
       let e = even in
-      let q1 : MayPut kind t x false (held o v) (to_block 1 count) = (omega arith, omega arith) in
+      let q1 : MayPut kind t x false (held_words o v) (to_block 1 count) = (omega arith, omega arith) in
       let q2 = keyed_put kind keyed t x false (record { block = block; table = ws }) p 0 (ver + 1) names_now low (omega arith) (dead_open n m ws p key low long even live (under x)) (record { before = λ q less at one. refl; later = λ q less at two. absurd (omega (arith, two, e)) }) in
       let q3 = keyed_put kind keyed t x false (record { block = block; table = slice_set ws (entry_offset n p 0) (ver + 1) }) p 2 (gone_kind key) names_now low (omega arith) (dead_kind n m ws p key low long even live (under x)) (record { before = λ q less at one. refl; later = λ q less at two. absurd (omega (arith, at)) }) in
       (q1, (q2, (q3, tt)))
@@ -99,7 +99,7 @@ module _ (versions : EntryVersionsChangeNothing) (v : View) (o t p count : ℕ) 
         let e = even in
         (keyed_put kind keyed t news true (at_commit v o write) p 0 (ver + 2) names_now low (omega arith) (dead_late n m ws p key low long even live (under news) (λ a dead. gone a (dead_is n m ws p key low long even live a dead))) (record { before = λ q less at one. absurd (omega (arith, one, e)); later = λ q less at two. refl }), tt)
 
-    pub delete_possible : (start number : ℕ) × (s : Snap) × (stop : ℕ) × Possible (after_write_of v o t write start number s stop)
+    pub delete_possible : (start number : ℕ) × (s : Snap) × (stop : ℕ) × IsReachable (after_write_of v o t write start number s stop)
     delete_possible =
         facts_suffice v o t x news (use_of t fill) write (may_begin v o may) is
         (record {

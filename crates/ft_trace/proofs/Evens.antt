@@ -9,7 +9,7 @@ use Rattle.ft_trace.specs.declared.View.{View}
 use Rattle.ft_trace.specs.declared.Act.{Act}
 use Rattle.ft_trace.specs.declared.Act.TheVariants.{TakeTable, GiveTable, PutRoot, Retire, StopWrite}
 use Rattle.ft_trace.specs.Bits.{bit}
-use Rattle.ft_trace.specs.Addresses.{containers_in, version_of, cell, class_of, IsTableName, free_bit_of}
+use Rattle.ft_trace.specs.Addresses.{container_count, version_of, cell, class_of, IsTableName, free_bit_of}
 use Rattle.ft_trace.specs.Acts.{place, has_lock, is_writing, stage}
 use Rattle.ft_trace.specs.ContainerStates.{kind_in}
 use Rattle.ft_trace.specs.Kinds.{rows, version_at}
@@ -108,12 +108,12 @@ evens k (sent id v given ∷ es) valid t table = evens k es valid.0 t table
 evens k (joined id v other w ∷ es) valid t table = evens k es valid.0 t table
 
 -- the version of an entry or item is odd only in the table of a container whose version is odd
-pub quiet_shut : (k : Shape) (es : List Event) → Valid k es → (o : ℕ) → o < containers_in k → version k es o % 2 ≡ 0 → (t : ℕ) → root k es o ≡ suc t → ShutAt k es o t
+pub quiet_shut : (k : Shape) (es : List Event) → Valid k es → (o : ℕ) → o < container_count k → version k es o % 2 ≡ 0 → (t : ℕ) → root k es o ≡ suc t → ShutAt k es o t
 quiet_shut k es valid o low even t names =
     let table = root_table k es valid o low t names in
     let r = (placed k es valid t table).roots o low names in
     subst (λ (z : ℕ). ShutAt k es z t) r.1 (evens k es valid t table r.0 (ap (λ (z : ℕ). version k es z % 2) r.1 ∙ even))
 
 -- who has the lock and does not write finds every entry closed
-pub holder_shut : (k : Shape) (es : List Event) (valid : Valid k es) (o : ℕ) (low : o < containers_in k) (j : ℕ) (u : View) → get_elem? (run k es).views j ≡ some u → has_lock o u.log ≡ true → is_writing o u.log ≡ false → (t : ℕ) → root k es o ≡ suc t → ShutAt k es o t
+pub holder_shut : (k : Shape) (es : List Event) (valid : Valid k es) (o : ℕ) (low : o < container_count k) (j : ℕ) (u : View) → get_elem? (run k es).views j ≡ some u → has_lock o u.log ≡ true → is_writing o u.log ≡ false → (t : ℕ) → root k es o ≡ suc t → ShutAt k es o t
 holder_shut k es valid o low j u at mine quiet t names = quiet_shut k es valid o low (holder_even k es valid o low j u at mine quiet) t names

@@ -11,7 +11,7 @@ use Rattle.ft_trace.specs.declared.View.{View}
 use Rattle.ft_trace.specs.declared.Act.{Act}
 use Rattle.ft_trace.specs.declared.Act.TheVariants.{TakeFloor, TookOver}
 use Rattle.ft_trace.specs.Addresses.{at, counter}
-use Rattle.ft_trace.specs.Acts.{place, word_after, noted, starter, maker, made, both, spent, sender, note, floor_words, floor_known, has_floor_next, Reports}
+use Rattle.ft_trace.specs.Acts.{place, word_after, view_after, starter, maker, made, both, spent, sender, note, floor_words, floor_known, has_floor_next, Reports}
 use Rattle.ft_trace.specs.Floors.{TokensAreAll, AllTokensAreAlone, FloorStands, FoundAsKnown, FloorTells}
 use Rattle.ft_trace.specs.Traces.{Event, did, forked, joined, sent, run, word, history, May, Valid}
 use Rattle.ft_trace.proofs.Sizes.{set_views, one_more, one_view, sized}
@@ -24,7 +24,7 @@ tokens u = u.tokens
 
 pub tokens_total : TokensAreAll
 tokens_total k [] valid = omega arith
-tokens_total k (did id v a ∷ es) valid = let t = total_set tokens (run k es).views id v (noted a v) valid.1.0 in let old = tokens_total k es valid.0 in omega (arith, t, old)
+tokens_total k (did id v a ∷ es) valid = let t = total_set tokens (run k es).views id v (view_after a v) valid.1.0 in let old = tokens_total k es valid.0 in omega (arith, t, old)
 tokens_total k (forked id v ∷ es) valid = let may = valid.1.6 in total_forked tokens (run k es).views id v (maker v) (made v) valid.1.0 (omega (arith, may)) ∙ tokens_total k es valid.0
 tokens_total k (sent id v given ∷ es) valid = let may = valid.1.2 in total_forked tokens (run k es).views id v (sender given v) (note given v) valid.1.0 (omega (arith, may)) ∙ tokens_total k es valid.0
 tokens_total k (joined id v other w ∷ es) valid = total_joined tokens (run k es).views id other v w (both v w) spent valid.1.0 valid.1.1 valid.1.2 (omega arith) ∙ tokens_total k es valid.0
@@ -120,7 +120,7 @@ floored k (did id v a ∷ es) valid =
     let token = valid.1.4 in
     -- another pass that had all tokens would leave none to this one
     let none : (j : ℕ) (u : View) → j ≢ id → get_elem? (run k es).views j ≡ some u → u.tokens ≡ k.passes → ⊥ = λ j u ne e all. let z = tokens_alone k es valid.0 j id u v e valid.1.0 ne all in omega (arith, z, token) in
-    set_views (Floored k (did id v a ∷ es)) _ id (noted a v)
+    set_views (Floored k (did id v a ∷ es)) _ id (view_after a v)
     (record { has = λ has. own k es id v a valid.1.3 (old id v valid.1.0).has has; given = λ no. absurd (no refl) })
     (λ j u ne e. let o = old j u e in record { has = λ has. absurd (none j u ne e (o.has has).0); given = λ some_words. absurd (none j u ne e (o.given some_words).0) })
 floored k (forked id v ∷ es) valid =
@@ -164,7 +164,7 @@ pub floor_tells : FloorTells
 floor_tells k [] valid = one_view (Tells k) (starter k) (λ no. off no)
 floor_tells k (did id v a ∷ es) valid =
     let old = floor_tells k es valid.0 in
-    set_views (Tells k) _ id (noted a v) (tells_own k es id v a valid.1.2 (λ has. ((floored k es valid.0 id v valid.1.0).has has).1) (old id v valid.1.0)) (λ j u _ e. old j u e)
+    set_views (Tells k) _ id (view_after a v) (tells_own k es id v a valid.1.2 (λ has. ((floored k es valid.0 id v valid.1.0).has has).1) (old id v valid.1.0)) (λ j u _ e. old j u e)
 floor_tells k (forked id v ∷ es) valid =
     let old = floor_tells k es valid.0 in
     one_more (Tells k) _ (made v) (λ no. off no) (set_views (Tells k) _ id (maker v) (λ no. off no) (λ j u _ e. old j u e))

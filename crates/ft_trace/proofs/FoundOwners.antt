@@ -11,8 +11,8 @@ use Rattle.ft_trace.specs.declared.Act.TheVariants.{Lock, TookOver}
 use Rattle.ft_trace.specs.declared.Owner.{Owner}
 use Rattle.ft_trace.specs.declared.Shape.{Shape}
 use Rattle.ft_trace.specs.declared.View.{View}
-use Rattle.ft_trace.specs.Addresses.{lock_of, containers_in}
-use Rattle.ft_trace.specs.Acts.{place, Reports, starter, noted, maker, made, both, spent, sender, note}
+use Rattle.ft_trace.specs.Addresses.{lock_of, container_count}
+use Rattle.ft_trace.specs.Acts.{place, Reports, starter, view_after, maker, made, both, spent, sender, note}
 use Rattle.ft_trace.specs.TraceLaws.{FoundOwnersHadLocks, OneKnowsAllOwners}
 use Rattle.ft_trace.specs.Owners.{is_owner_in, had_locks, found_owners, found_owners_next}
 use Rattle.ft_trace.specs.Traces.{Event, did, forked, joined, sent, run, word, history, May, Valid}
@@ -50,10 +50,10 @@ module _ (k : Shape) (es : List Event) (valid : Valid k es) (id : ℕ) (v : View
   Before = Had (run k es).views o q
 
   later_had : (a : Act) → Before → Had (run k (did id v a ∷ es)).views o q
-  later_had a h = keeps_had (run k es).views o q id (noted a v) v seat (had_grows o q v.number a (had_locks v.number v.log)) h
+  later_had a h = keeps_had (run k es).views o q id (view_after a v) v seat (had_grows o q v.number a (had_locks v.number v.log)) h
 
   -- the lock word names its holder
-  locked_by : (p f : ℕ) → p < containers_in k → f ≡ word k es (lock_of p) → f ≢ 0 → eqb p o ≡ true → eqb f q ≡ true → Before
+  locked_by : (p f : ℕ) → p < container_count k → f ≡ word k es (lock_of p) → f ≢ 0 → eqb p o ≡ true → eqb f q ≡ true → Before
   locked_by p f low found taken same_o same_q =
       let h = holder k es valid p low (λ e. taken (found ∙ e)) in
       let named : f ≡ h.1.number = found ∙ names k es valid p low h.0 h.1 h.2 h.3 in
@@ -94,7 +94,7 @@ finds : (k : Shape) (es : List Event) → Valid k es → (j : ℕ) (u : View) �
 finds k [] valid = one_view (Finds k []) (starter k) (λ o q e. off e)
 finds k (did id v a ∷ es) valid =
     let old = finds k es valid.0 in
-    set_views (Finds k (did id v a ∷ es)) _ id (noted a v)
+    set_views (Finds k (did id v a ∷ es)) _ id (view_after a v)
     (λ o q e. later_had k es valid.0 id v valid.1.0 o q a (step k es valid.0 id v valid.1.0 o q a valid.1.2 valid.1.3 (old id v valid.1.0) e))
     (λ j u _ at o q e. later_had k es valid.0 id v valid.1.0 o q a (old j u at o q e))
 finds k (forked id v ∷ es) valid =

@@ -13,7 +13,7 @@ use Rattle.ft_trace.specs.declared.Owner.{Owner}
 use Rattle.ft_trace.specs.declared.Act.TheVariants.{TakeTable, GiveTable, PutRoot, Retire, ReadAnnounced, ReadRoot, Announce, TookOver}
 use Rattle.ft_trace.specs.Bits.{bit}
 use Rattle.ft_trace.specs.Addresses.{write_number, announced_of, bits, IsTableName, free_word_of, free_bit_of}
-use Rattle.ft_trace.specs.Acts.{stage, stage_next, goal, goal_next, announces, reads, reads_next, clear, clear_next, is_handed, hands_over, starter, noted, maker, made, both, spent, sender, note}
+use Rattle.ft_trace.specs.Acts.{stage, stage_next, goal, goal_next, announces, reads, reads_next, clear, clear_next, is_handed, hands_over, starter, view_after, maker, made, both, spent, sender, note}
 use Rattle.ft_trace.specs.Ages.{aged, age, all_acts}
 use Rattle.ft_trace.specs.Traces.{Event, did, forked, joined, sent, run, word, Valid}
 use Rattle.ft_trace.proofs.Sizes.{set_views, one_more, one_view}
@@ -83,13 +83,13 @@ linked k (did id v a ∷ es) valid t table =
     (λ f ok.
     let three = ok.1.3.1 in
     let mine = (its.hands id v ok.1.0 (λ z. absurd (omega (arith, z, three)))).1 in
-    set_views (λ j u. Linked t (did id v (Retire t f) ∷ es) u) _ id (noted (Retire t f) v)
+    set_views (λ j u. Linked t (did id v (Retire t f) ∷ es) u) _ id (view_after (Retire t f) v)
     (record { goal_is = λ _. hit t (f + 1) (goal t G) ∙ sym (hit t (f + 1) (goal t v.log)); clear_is = λ _ p x. off (sym (hit t false (clear t p v.log)) ∙ x) })
     (λ j u ne e.
     let theirs : stage t u.log ≡ 4 → ⊥ = λ z. ne (sym (its.hands j u e (λ y. absurd (omega (arith, y, z)))).1 ∙ mine) in
     record { goal_is = λ z. absurd (theirs z); clear_is = λ z. absurd (theirs z) }))
     (λ q f ok.
-    set_views (λ j u. Linked t (did id v (ReadAnnounced q f) ∷ es) u) _ id (noted (ReadAnnounced q f) v)
+    set_views (λ j u. Linked t (did id v (ReadAnnounced q f) ∷ es) u) _ id (view_after (ReadAnnounced q f) v)
     (record {
       goal_is = m.goal_is;
       clear_is = λ z p x. subst (λ (y : ℕ). clear_next t p y (ReadAnnounced q f) (clear t p G) ≡ true) (sym (m.goal_is z)) (more (eqb q p) (eqb f 0) (ltb f (goal t v.log)) (clear t p v.log) (clear t p G) (m.clear_is z p) x);
@@ -97,7 +97,7 @@ linked k (did id v a ∷ es) valid t table =
     (λ j u ne e. let o = old j u e in record { goal_is = o.goal_is; clear_is = λ z p x. raise (eqb q p) (eqb f 0) (ltb f (goal t G)) (clear t p G) (o.clear_is z p x) }))
     (λ hs had found ok. absurd ok.1.3)
     (λ b c ok.
-    set_views (λ j u. Linked t (did id v b ∷ es) u) _ id (noted b v)
+    set_views (λ j u. Linked t (did id v b ∷ es) u) _ id (view_after b v)
     (record {
       goal_is = λ z. c.goal (goal t G) ∙ (m.goal_is (c.stage (stage t v.log) z) ∙ sym (c.goal (goal t v.log)));
       clear_is = λ z p x. c.clear p (goal t G) (clear t p G) ∙ m.clear_is (c.stage (stage t v.log) z) p (sym (c.clear p (goal t v.log) (clear t p v.log)) ∙ x);
@@ -154,7 +154,7 @@ safe_calm k es id v t table old (ReadRoot o f) same ok =
     let A : Act = ReadRoot o f in
     let m = old id v ok.1.0 in
     let may = ok.1.3 in
-    set_views (λ j u. SafeAt k t (did id v A ∷ es) u) _ id (noted A v)
+    set_views (λ j u. SafeAt k t (did id v A ∷ es) u) _ id (view_after A v)
     (dite (ℕ_discrete f (suc t))
     (λ (is : f ≡ suc t).
     let current = ((placed k es ok.0 t table).roots o may.0 (sym ok.1.2 ∙ is)).0 in
@@ -162,7 +162,7 @@ safe_calm k es id v t table old (ReadRoot o f) same ok =
     (λ far. let e : reads t (A ∷ v.log) ≡ reads t v.log = miss f (suc t) true (reads t v.log) far in record { read_is = λ r. m.read_is (sym e ∙ r); clear_is = λ g c r. m.clear_is g c (sym e ∙ r) }))
     (λ j u _ e. let x = old j u e in record { read_is = x.read_is; clear_is = x.clear_is })
 safe_calm k es id v t table old (Announce p x) same ok =
-    set_views (λ j u. SafeAt k t (did id v (Announce p x) ∷ es) u) _ id (noted (Announce p x) v) (record { read_is = λ e. off e; clear_is = λ g c e. off e })
+    set_views (λ j u. SafeAt k t (did id v (Announce p x) ∷ es) u) _ id (view_after (Announce p x) v) (record { read_is = λ e. off e; clear_is = λ g c e. off e })
     (λ j u _ e. let o = old j u e in record { read_is = o.read_is; clear_is = o.clear_is })
 safe_calm k es id v t table old (ReadAnnounced q f) same ok =
     let A : Act = ReadAnnounced q f in
@@ -186,7 +186,7 @@ safe_calm k es id v t table old (ReadAnnounced q f) same ok =
           rest)
           (loaded (eqb q u.number) (eqb f 0) (ltb f (goal t G)) (clear t u.number G) c);
     } in
-    set_views (λ j u. SafeAt k t (did id v A ∷ es) u) _ id (noted A v) (lift id v ok.1.0) (λ j u _ e. lift j u e)
+    set_views (λ j u. SafeAt k t (did id v A ∷ es) u) _ id (view_after A v) (lift id v ok.1.0) (λ j u _ e. lift j u e)
 safe_calm k es id v t table old (Retire q f) same ok =
     let A : Act = Retire q f in
     let G = all_acts es in
@@ -197,13 +197,13 @@ safe_calm k es id v t table old (Retire q f) same ok =
     let o = old j u e in
     subst (λ (z : ℕ). Safe k t (A ∷ G) z (reads t u.log) (announces u.log) u.number) (sym same)
     (record { read_is = λ r. let h = o.read_is r in (h.0, (λ four. let x = h.1 four in omega (arith, x, gl)), h.2, h.3, h.4); clear_is = λ four c r. o.clear_is four (sym (cl u.number) ∙ c) r }) in
-    set_views (λ j u. SafeAt k t (did id v A ∷ es) u) _ id (noted A v) (lift id v ok.1.0) (λ j u _ e. lift j u e)
+    set_views (λ j u. SafeAt k t (did id v A ∷ es) u) _ id (view_after A v) (lift id v ok.1.0) (λ j u _ e. lift j u e)
 safe_calm k es id v t table old (TookOver hs had found) same ok = absurd ok.1.3
 safe_calm k es id v t table old act same ok =
     let lift : (j : ℕ) (u : View) → get_elem? (run k es).views j ≡ some u → Safe k t (act ∷ all_acts es) (aged act t (age es t)) (reads t u.log) (announces u.log) u.number = λ j u e.
     let o = old j u e in
     subst (λ (z : ℕ). Safe k t (act ∷ all_acts es) z (reads t u.log) (announces u.log) u.number) (sym same) (record { read_is = o.read_is; clear_is = o.clear_is }) in
-    set_views (λ j u. SafeAt k t (did id v act ∷ es) u) _ id (noted act v) (lift id v ok.1.0) (λ j u _ e. lift j u e)
+    set_views (λ j u. SafeAt k t (did id v act ∷ es) u) _ id (view_after act v) (lift id v ok.1.0) (λ j u _ e. lift j u e)
 
 pub safe : (k : Shape) (es : List Event) → Valid k es → (t : ℕ) → IsTableName k t → (j : ℕ) (u : View) → get_elem? (run k es).views j ≡ some u → SafeAt k t es u
 safe k [] valid t table = one_view (λ j u. SafeAt k t [] u) (starter k) (record { read_is = λ e. off e; clear_is = λ g c e. off e })
@@ -218,7 +218,7 @@ safe k (did id v a ∷ es) valid t table =
     let F : Act → Type 0 = λ b. Valid k (did id v b ∷ es) → (j : ℕ) (u : View) → get_elem? (run k (did id v b ∷ es)).views j ≡ some u → SafeAt k t (did id v b ∷ es) u in
     -- where no pass can have read t
     let none : (b : Act) → Valid k (did id v b ∷ es) → ((r : Bool) → reads_next t b r ≡ r) → ((j : ℕ) (u : View) → get_elem? (run k es).views j ≡ some u → reads t u.log ≡ true → ⊥) → (j : ℕ) (u : View) → get_elem? (run k (did id v b ∷ es)).views j ≡ some u → SafeAt k t (did id v b ∷ es) u = λ b ok same never.
-    set_views (λ j u. SafeAt k t (did id v b ∷ es) u) _ id (noted b v) (not_read k t (b ∷ G) (aged b t g) (reads t (b ∷ v.log)) (announces (b ∷ v.log)) v.number (λ r. never id v ok.1.0 (sym (same (reads t v.log)) ∙ r))) (λ j u _ e. not_read k t (b ∷ G) (aged b t g) (reads t u.log) (announces u.log) u.number (never j u e)) in
+    set_views (λ j u. SafeAt k t (did id v b ∷ es) u) _ id (view_after b v) (not_read k t (b ∷ G) (aged b t g) (reads t (b ∷ v.log)) (announces (b ∷ v.log)) v.number (λ r. never id v ok.1.0 (sym (same (reads t v.log)) ∙ r))) (λ j u _ e. not_read k t (b ∷ G) (aged b t g) (reads t u.log) (announces u.log) u.number (never j u e)) in
     on_table k es id v t table F
     (λ f s one ok.
     let was : g % 5 ≡ 0 = its.free_is (ap (bit (free_bit_of t)) (sym ok.1.2) ∙ one) in
@@ -246,7 +246,7 @@ safe k (did id v a ∷ es) valid t table =
     let lift : (j : ℕ) (u : View) → get_elem? (run k es).views j ≡ some u → Safe k t (A ∷ G) (aged A t g) (reads t u.log) (announces u.log) u.number = λ j u e.
     let o = old j u e in
     record { read_is = λ r. let h = o.read_is r in (omega (arith, now, was), (λ z. absurd (omega (arith, z, now, was))), h.2, h.3, h.4); clear_is = λ z. absurd (omega (arith, z, now, was)) } in
-    set_views (λ j u. SafeAt k t (did id v A ∷ es) u) _ id (noted A v) (lift id v ok.1.0) (λ j u _ e. lift j u e))
+    set_views (λ j u. SafeAt k t (did id v A ∷ es) u) _ id (view_after A v) (lift id v ok.1.0) (λ j u _ e. lift j u e))
     (λ f ok.
     let A : Act = Retire t f in
     let three = ok.1.3.1 in
@@ -258,7 +258,7 @@ safe k (did id v a ∷ es) valid t table =
     let o = old j u e in
     let bound = (hear j u e).low in
     record { read_is = λ r. let h = o.read_is r in (omega (arith, now, was, three), (λ _. omega (arith, goal_is, found, bound)), h.2, h.3, h.4); clear_is = λ z c. off (sym (hit t false (clear t u.number G)) ∙ c) } in
-    set_views (λ j u. SafeAt k t (did id v A ∷ es) u) _ id (noted A v) (lift id v ok.1.0) (λ j u _ e. lift j u e))
+    set_views (λ j u. SafeAt k t (did id v A ∷ es) u) _ id (view_after A v) (lift id v ok.1.0) (λ j u _ e. lift j u e))
     (λ b c ok. safe_calm k es id v t table old b (c.age g) ok)
     a valid.1.2 valid.1.3 valid
 safe k (forked id v ∷ es) valid t table =

@@ -24,8 +24,8 @@ use Rattle.ft_trace.specs.declared.Snap.{Snap}
 use Rattle.ft_trace.specs.declared.View.{View}
 use Rattle.ft_trace.specs.Addresses.{class_of, places}
 use Rattle.ft_trace.specs.Kinds.{is_key, pair_words, under}
-use Rattle.ft_trace.specs.Holds.{known, in_hand, AgreesWith}
-use Rattle.ft_trace.specs.Traces.{Possible}
+use Rattle.ft_trace.specs.Holds.{known_state, in_hand, AgreesWith}
+use Rattle.ft_trace.specs.Traces.{IsReachable}
 use Rattle.ft_trace.specs.WholeWrites.{WholeWrite, at_commit, after_write_of, MayBegin}
 use Rattle.ft_trace.specs.GrowWrites.{dict_grow_write, HasGrown, DictsMayGrow}
 use Rattle.ft_trace.proofs.FitCalls.{dict_fits_words, set_fit}
@@ -80,7 +80,7 @@ module _ (pairs : DictContent) (key : Key) (value : Value) (missing : has_key pa
 
 -- ---- the whole write
 
-module _ (versions : EntryVersionsChangeNothing) (first : FirstEntriesArePairs) (v : View) (o t p : ℕ) (key : Key) (value : Value) (pairs : DictContent) (begin : MayBegin v o) (is_dict : (known o v).content ≡ content.Dict pairs) (has : HasGrown v o t p key value pairs) where
+module _ (versions : EntryVersionsChangeNothing) (first : FirstEntriesArePairs) (v : View) (o t p : ℕ) (key : Key) (value : Value) (pairs : DictContent) (begin : MayBegin v o) (is_dict : (known_state o v).content ≡ content.Dict pairs) (has : HasGrown v o t p key value pairs) where
   abbrev k : Shape
   k = v.shape
 
@@ -140,7 +140,7 @@ module _ (versions : EntryVersionsChangeNothing) (first : FirstEntriesArePairs) 
         ∙ (ap (λ (z : Option ℕ). grown_table T z drawn count) takes_one
         ∙ ap (λ (z : ℕ). taken c z) count_is))
 
-  pub dict_grow_possible : (start number : ℕ) × (s : Snap) × (stop : ℕ) × Possible (after_write_of v o t write start number s stop)
+  pub dict_grow_possible : (start number : ℕ) × (s : Snap) × (stop : ℕ) × IsReachable (after_write_of v o t write start number s stop)
   dict_grow_possible =
       grow_possible versions v o t p fill (pairs.next + 1) key (content.Dict pairs) (content.Dict news) tt tt called begin is_dict has.table has.fresh has.low has.live has.open_entry has.others has.words has.words.head.size (dict_right first k.texts block c fill class_is news zs has.words) (dict_named first k.texts block c fill class_is news zs has.words) (dict_reached first k.texts block c fill class_is news zs has.words)
       (λ q a less ne l yes.

@@ -10,7 +10,7 @@ use Rattle.ft_trace.specs.declared.Act.{Act}
 use Rattle.ft_trace.specs.declared.Act.TheVariants.{TakeTable, GiveTable, PutRoot, Retire, Announce}
 use Rattle.ft_trace.specs.Bits.{bit}
 use Rattle.ft_trace.specs.Addresses.{write_number, IsTableName, free_bit_of}
-use Rattle.ft_trace.specs.Acts.{stage, stage_next, is_handed, hands_over, noted, maker, made, both, spent, sender, note}
+use Rattle.ft_trace.specs.Acts.{stage, stage_next, is_handed, hands_over, view_after, maker, made, both, spent, sender, note}
 use Rattle.ft_trace.specs.Ages.{aged, age, gone_to, keeper}
 use Rattle.ft_trace.specs.Traces.{Event, did, forked, joined, sent, run, word, history, May, Valid}
 use Rattle.ft_trace.proofs.Sizes.{set_at}
@@ -35,7 +35,7 @@ handed k (did id v a ∷ es) valid t table free current out =
     let n = stage t v.log in
     let its = placed k es valid.0 t table in
     let F : Act → Type 0 = λ b. Valid k (did id v b ∷ es) → aged b t g % 5 ≢ 0 → aged b t g % 5 ≢ 2 → aged b t g % 5 ≢ 4 → InHands k (did id v b ∷ es) t in
-    let mine : (b : Act) → Valid k (did id v b ∷ es) → gone_to id b t w ≡ id → stage_next t b n ≡ aged b t g % 5 → InHands k (did id v b ∷ es) t = λ b ok whom is. record { by = noted b v; at = ap (get_elem? (run k (did id v b ∷ es)).views) whom ∙ set_at (run k es).views id v (noted b v) ok.1.0; has = is } in
+    let mine : (b : Act) → Valid k (did id v b ∷ es) → gone_to id b t w ≡ id → stage_next t b n ≡ aged b t g % 5 → InHands k (did id v b ∷ es) t = λ b ok whom is. record { by = view_after b v; at = ap (get_elem? (run k (did id v b ∷ es)).views) whom ∙ set_at (run k es).views id v (view_after b v) ok.1.0; has = is } in
     on_table k es id v t table F
     (λ f s one ok _ _ _.
     let was : g % 5 ≡ 0 = its.free_is (ap (bit (free_bit_of t)) (sym ok.1.2) ∙ one) in
@@ -69,7 +69,7 @@ handed k (did id v a ∷ es) valid t table free current out =
     (λ (e : w ≡ id).
     let same : old.by ≡ v = some-injective old.by v (sym old.at ∙ (ap (get_elem? (run k es).views) e ∙ ok.1.0)) in
     mine b ok (ws ∙ e) (c.stage n ∙ (ap (λ (z : View). stage t z.log) (sym same) ∙ (old.has ∙ ap (λ (z : ℕ). z % 5) (sym gs)))))
-    (λ ne. record { by = old.by; at = ap (get_elem? (run k (did id v b ∷ es)).views) ws ∙ (set_else (run k es).views id w (noted b v) ne ∙ old.at); has = old.has ∙ ap (λ (z : ℕ). z % 5) (sym gs) }))
+    (λ ne. record { by = old.by; at = ap (get_elem? (run k (did id v b ∷ es)).views) ws ∙ (set_else (run k es).views id w (view_after b v) ne ∙ old.at); has = old.has ∙ ap (λ (z : ℕ). z % 5) (sym gs) }))
     a valid.1.2 valid.1.3 valid free current out
 handed k (forked id v ∷ es) valid t table free current out =
     let old = handed k es valid.0 t table free current out in

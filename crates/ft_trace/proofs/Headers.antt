@@ -10,7 +10,7 @@ use Rattle.ft_trace.specs.declared.Shape.{Shape}
 use Rattle.ft_trace.specs.declared.View.{View}
 use Rattle.ft_trace.specs.Addresses.{header, IsTableName, free_bit_of}
 use Rattle.ft_trace.specs.Bits.{bit}
-use Rattle.ft_trace.specs.Acts.{place, stage, stage_next, goal, goal_next, has_goal, has_goal_next, is_handed, hands_over, noted, starter, maker, made, both, spent, sender, note}
+use Rattle.ft_trace.specs.Acts.{place, stage, stage_next, goal, goal_next, has_goal, has_goal_next, is_handed, hands_over, view_after, starter, maker, made, both, spent, sender, note}
 use Rattle.ft_trace.specs.Traces.{Event, did, forked, joined, sent, run, word, history, May, Valid}
 use Rattle.ft_trace.proofs.Sizes.{set_views, one_more, one_view}
 use Rattle.ft_trace.proofs.Cases.{same_or, hit, miss, off}
@@ -77,7 +77,7 @@ pub goals_stand : (k : Shape) (es : List Event) → Valid k es → (t : ℕ) →
 goals_stand k [] valid t table = one_view (Header k [] t) (starter k) (λ e. off e)
 goals_stand k (did id v a ∷ es) valid t table =
     let old = goals_stand k es valid.0 t table in
-    set_views (Header k (did id v a ∷ es) t) _ id (noted a v) (own k es id v t table valid.0 valid.1.0 old a valid.1.3) (theirs k es id v t table valid.0 valid.1.0 old a valid.1.3)
+    set_views (Header k (did id v a ∷ es) t) _ id (view_after a v) (own k es id v t table valid.0 valid.1.0 old a valid.1.3) (theirs k es id v t table valid.0 valid.1.0 old a valid.1.3)
 goals_stand k (forked id v ∷ es) valid t table =
     let old = goals_stand k es valid.0 t table in
     one_more (Header k es t) _ (made v) (λ e. off e) (set_views (Header k es t) _ id (maker v) (old id v valid.1.0) (λ j u _ e. old j u e))

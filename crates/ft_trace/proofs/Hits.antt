@@ -9,7 +9,7 @@ use Rattle.ft_trace.specs.declared.Shape.{Shape}
 use Rattle.ft_trace.specs.declared.View.{View}
 use Rattle.ft_trace.specs.declared.Act.{Act}
 use Rattle.ft_trace.specs.declared.Act.TheVariants.{ReadTable, ReadCounter}
-use Rattle.ft_trace.specs.Addresses.{containers_in, class_of, slots}
+use Rattle.ft_trace.specs.Addresses.{container_count, class_of, slots}
 use Rattle.ft_trace.specs.ContainerStates.{container_after, first_writes, kind_in}
 use Rattle.ft_trace.specs.Pictures.{entry_offset, entry_field}
 use Rattle.ft_trace.specs.Carefuls.{said_of, Later}
@@ -25,7 +25,7 @@ use Rattle.ft_trace.proofs.ByKind.{keyed_low, keyed_later, keyed_sound}
 use Rattle.ft_trace.proofs.Sounds.{LaterIn, sound_at}
 use Rattle.ft_trace.proofs.Spots.{under_trans, stamp_then, Spot, Back, go, Opened, open_window, named_by, found}
 
-module _ (k : Shape) (es : List Event) (valid : Valid k es) (o t p : ℕ) (key : Key) (n : ℕ) (low : o < containers_in k) (keyed : IsKeyed (kind_in k.starts o)) (small : p < rows (kind_in k.starts o) (class_of t)) (j : ℕ) (u : View) (at : get_elem? (run k es).views j ≡ some u) (h : Hit u.log o t p key n) where
+module _ (k : Shape) (es : List Event) (valid : Valid k es) (o t p : ℕ) (key : Key) (n : ℕ) (low : o < container_count k) (keyed : IsKeyed (kind_in k.starts o)) (small : p < rows (kind_in k.starts o) (class_of t)) (j : ℕ) (u : View) (at : get_elem? (run k es).views j ≡ some u) (h : Hit u.log o t p key n) where
   abbrev N : ℕ
   N = slots (class_of t)
 

@@ -12,9 +12,9 @@ use Rattle.ft_trace.specs.declared.View.{View}
 use Rattle.ft_trace.specs.declared.Act.{Act}
 use Rattle.ft_trace.specs.declared.Act.TheVariants.{Lock, Unlock, PutBlock, PutRoot, PutTable, PutFresh, Commit, ReadBlock, ReadRoot, ReadTable, TakeTable, GiveTable, Retire, TookOver}
 use Rattle.ft_trace.specs.Addresses.{Word, counter, write_number, announced_of, bits, count_of_class, lock_of, version_of, block, header, cell, Inside, at, extent}
-use Rattle.ft_trace.specs.Acts.{place, word_after, has_lock, is_writing, stage, stage_next, hands_over, mem, past, starter, noted, maker, made, both, spent, sender, note}
+use Rattle.ft_trace.specs.Acts.{place, word_after, has_lock, is_writing, stage, stage_next, hands_over, mem, past, starter, view_after, maker, made, both, spent, sender, note}
 use Rattle.ft_trace.specs.ContainerStates.{container_after}
-use Rattle.ft_trace.specs.Addresses.{containers_in}
+use Rattle.ft_trace.specs.Addresses.{container_count}
 use Rattle.ft_trace.specs.Traces.{Event, did, forked, joined, sent, run, word, history, snap, May, Valid}
 use Rattle.ft_trace.proofs.Sizes.{set_views, one_more, one_view}
 use Rattle.ft_trace.proofs.Cases.{same_or, hit, miss, off}
@@ -29,7 +29,7 @@ use Rattle.ft_trace.proofs.Contents.{alters, content_by}
 -- the words that a pass has to itself
 abbrev pub Owns : Shape → List Event → View → Word → Type 0
 Owns k es u (block o i) = has_lock o u.log ≡ true
-Owns k es u (cell t i) = (stage t u.log ≡ 1) ⊎ ((o : ℕ) × (o < containers_in k) × (has_lock o u.log ≡ true) × (root k es o ≡ suc t))
+Owns k es u (cell t i) = (stage t u.log ≡ 1) ⊎ ((o : ℕ) × (o < container_count k) × (has_lock o u.log ≡ true) × (root k es o ≡ suc t))
 Owns k es u x = ⊥
 
 abbrev pub Owner : View → Type 0
@@ -78,7 +78,7 @@ fresh_stays k es valid id v at j u ne there t i in_it mine (PutFresh q d y) may 
 fresh_stays k es valid id v at j u ne there t i in_it mine (ReadTable q d f) may = loaded k es id v (ReadTable q d f) (λ n. refl) (cell t i)
 fresh_stays k es valid id v at j u ne there t i in_it mine act may = stays k es id v act may (cell t i) in_it (λ e. absurd (cc))
 
-other : (k : Shape) (es : List Event) (id : ℕ) (v : View) (a : Act) → Valid k (did id v a ∷ es) → (j : ℕ) (u : View) → j ≢ id → get_elem? (run k es).views j ≡ some u → Imaged k es u → (low : (o : ℕ) → has_lock o u.log ≡ true → o < containers_in k) → Imaged k (did id v a ∷ es) u
+other : (k : Shape) (es : List Event) (id : ℕ) (v : View) (a : Act) → Valid k (did id v a ∷ es) → (j : ℕ) (u : View) → j ≢ id → get_elem? (run k es).views j ≡ some u → Imaged k es u → (low : (o : ℕ) → has_lock o u.log ≡ true → o < container_count k) → Imaged k (did id v a ∷ es) u
 other k es id v a valid j u ne there old low = record { wide = old.wide; words = by; content = λ o mine. old.content o mine ∙ sym (content_by k es v o (not_writing o mine) a valid.1.3) }
   where
     not_writing : (o : ℕ) → has_lock o u.log ≡ true → is_writing o v.log ≡ true → ⊥
@@ -89,7 +89,7 @@ other k es id v a valid j u ne there old low = record { wide = old.wide; words =
     by (cell t i) in_it mine =
         ⊎_elim
         (λ (one : stage t u.log ≡ 1). old.words (cell t i) in_it (inl one) ∙ sym (fresh_stays k es valid.0 id v valid.1.0 j u ne there t i in_it one a valid.1.3))
-        (λ (h : (o : ℕ) × (o < containers_in k) × (has_lock o u.log ≡ true) × (root k (did id v a ∷ es) o ≡ suc t)).
+        (λ (h : (o : ℕ) × (o < container_count k) × (has_lock o u.log ≡ true) × (root k (did id v a ∷ es) o ≡ suc t)).
         let never = not_writing h.0 h.2 in
         let same = alters k es valid.0 id v valid.1.0 h.0 h.1 never (block h.0 0) (h.1, omega arith) refl a valid.1.3 in
         let names : root k es h.0 ≡ suc t = sym same ∙ h.3 in
@@ -105,11 +105,11 @@ other k es id v a valid j u ne there old low = record { wide = old.wide; words =
     by (header t) in_it mine = absurd mine
 
 -- the whole bank as it is now
-fresh : (k : Shape) (es : List Event) (id : ℕ) (v : View) (a : Act) (s : Snap) → s ≡ snap (run k es) (history es) → mem k (a ∷ v.log) ≡ s.words → past (a ∷ v.log) ≡ s.calls → history (did id v a ∷ es) ≡ history es → ((x : Word) → Inside k x → IsData x → word k (did id v a ∷ es) x ≡ word k es x) → Imaged k (did id v a ∷ es) (noted a v)
+fresh : (k : Shape) (es : List Event) (id : ℕ) (v : View) (a : Act) (s : Snap) → s ≡ snap (run k es) (history es) → mem k (a ∷ v.log) ≡ s.words → past (a ∷ v.log) ≡ s.calls → history (did id v a ∷ es) ≡ history es → ((x : Word) → Inside k x → IsData x → word k (did id v a ∷ es) x ≡ word k es x) → Imaged k (did id v a ∷ es) (view_after a v)
 fresh k es id v a s is m p h same =
     let words : mem k (a ∷ v.log) ≡ (run k es).words = m ∙ ap (λ (z : Snap). z.words) is in record {
       wide = λ _. ap (λ (l : List ℕ). length l) words ∙ wide k es;
-      words = λ x in_it owns. ap (λ (l : List ℕ). slice_index l (at k x)) words ∙ sym (same x in_it (data_of k (did id v a ∷ es) (noted a v) x owns));
+      words = λ x in_it owns. ap (λ (l : List ℕ). slice_index l (at k x)) words ∙ sym (same x in_it (data_of k (did id v a ∷ es) (view_after a v) x owns));
       content = λ o _. ap (λ (cs : List Call). container_after k.starts cs o) (p ∙ (ap (λ (z : Snap). z.calls) is ∙ sym h));
     }
 
@@ -119,18 +119,18 @@ Backward k es now v w = (x : Word) → Inside k x → Owns k now w x → Owns k 
 
 -- an action that leaves what is known
 calm : (k : Shape) (es : List Event) (id : ℕ) (v : View) (a : Act) → Imaged k es v → mem k (a ∷ v.log) ≡ mem k v.log → past (a ∷ v.log) ≡ past v.log → history (did id v a ∷ es) ≡ history es → ((o : ℕ) → has_lock o (a ∷ v.log) ≡ true → has_lock o v.log ≡ true) → ((t : ℕ) → stage t (a ∷ v.log) ≡ 1 → stage t v.log ≡ 1)
-    → ((x : Word) → Inside k x → IsData x → word k (did id v a ∷ es) x ≡ word k es x) → Imaged k (did id v a ∷ es) (noted a v)
+    → ((x : Word) → Inside k x → IsData x → word k (did id v a ∷ es) x ≡ word k es x) → Imaged k (did id v a ∷ es) (view_after a v)
 calm k es id v a old m p h has_before stage_before same = record {
   wide = λ e. ap (λ (l : List ℕ). length l) m ∙ old.wide (⊎_elim (λ (x : (o : ℕ) × (has_lock o (a ∷ v.log) ≡ true)). inl (x.0, has_before x.0 x.1)) (λ (x : (t : ℕ) × (stage t (a ∷ v.log) ≡ 1)). inr (x.0, stage_before x.0 x.1)) e);
-  words = λ x in_it owns. ap (λ (l : List ℕ). slice_index l (at k x)) m ∙ (old.words x in_it (backward x in_it owns) ∙ sym (same x in_it (data_of k (did id v a ∷ es) (noted a v) x owns)));
+  words = λ x in_it owns. ap (λ (l : List ℕ). slice_index l (at k x)) m ∙ (old.words x in_it (backward x in_it owns) ∙ sym (same x in_it (data_of k (did id v a ∷ es) (view_after a v) x owns)));
   content = λ o mine. ap (λ (cs : List Call). container_after k.starts cs o) p ∙ (old.content o (has_before o mine) ∙ ap (λ (cs : List Call). container_after k.starts cs o) (sym h));
 }
   where
-    backward : Backward k es (did id v a ∷ es) v (noted a v)
+    backward : Backward k es (did id v a ∷ es) v (view_after a v)
     backward (block o i) in_it mine = has_before o mine
     backward (cell t i) in_it mine =
         ⊎_elim (λ (x : stage t (a ∷ v.log) ≡ 1). inl (stage_before t x))
-        (λ (x : (o : ℕ) × (o < containers_in k) × (has_lock o (a ∷ v.log) ≡ true) × (root k (did id v a ∷ es) o ≡ suc t)). inr (x.0, x.1, has_before x.0 x.2, sym (same (block x.0 0) (x.1, omega arith) tt) ∙ x.3))
+        (λ (x : (o : ℕ) × (o < container_count k) × (has_lock o (a ∷ v.log) ≡ true) × (root k (did id v a ∷ es) o ≡ suc t)). inr (x.0, x.1, has_before x.0 x.2, sym (same (block x.0 0) (x.1, omega arith) tt) ∙ x.3))
         mine
     backward counter in_it mine = absurd mine
     backward write_number in_it mine = absurd mine
@@ -143,7 +143,7 @@ calm k es id v a old m p h has_before stage_before same = record {
 
 -- a put into what the pass has
 stored : (k : Shape) (es : List Event) (id : ℕ) (v : View) (a : Act) (y : ℕ) → Valid k es → May k (run k es) (history es) v a → Imaged k es v → Inside k (place a) → mem k (a ∷ v.log) ≡ slice_set (mem k v.log) (at k (place a)) y → word_after v.number a (word k es (place a)) ≡ y → past (a ∷ v.log) ≡ past v.log → history (did id v a ∷ es) ≡ history es → ((o : ℕ) → has_lock o (a ∷ v.log) ≡ has_lock o v.log) → length (mem k v.log) ≡ extent k
-    → Backward k es (did id v a ∷ es) v (noted a v) → Imaged k (did id v a ∷ es) (noted a v)
+    → Backward k es (did id v a ∷ es) v (view_after a v) → Imaged k (did id v a ∷ es) (view_after a v)
 stored k es id v a y valid may old in_place m l p h same_has long backward = record {
   wide = λ _. ap (λ (l : List ℕ). length l) m ∙ (length-set (mem k v.log) (at k (place a)) y ∙ long);
   words = λ x in_it owns.
@@ -163,9 +163,9 @@ stored k es id v a y valid may old in_place m l p h same_has long backward = rec
 }
 
 -- where roots and what the pass has are as before
-same_back : (k : Shape) (es : List Event) (id : ℕ) (v : View) (a : Act) → ((o : ℕ) → has_lock o (a ∷ v.log) ≡ has_lock o v.log) → ((t : ℕ) → stage t (a ∷ v.log) ≡ stage t v.log) → ((o : ℕ) → o < containers_in k → root k (did id v a ∷ es) o ≡ root k es o) → Backward k es (did id v a ∷ es) v (noted a v)
+same_back : (k : Shape) (es : List Event) (id : ℕ) (v : View) (a : Act) → ((o : ℕ) → has_lock o (a ∷ v.log) ≡ has_lock o v.log) → ((t : ℕ) → stage t (a ∷ v.log) ≡ stage t v.log) → ((o : ℕ) → o < container_count k → root k (did id v a ∷ es) o ≡ root k es o) → Backward k es (did id v a ∷ es) v (view_after a v)
 same_back k es id v a h s r (block o i) in_it mine = sym (h o) ∙ mine
-same_back k es id v a h s r (cell t i) in_it mine = ⊎_elim (λ (x : stage t (a ∷ v.log) ≡ 1). inl (sym (s t) ∙ x)) (λ (x : (o : ℕ) × (o < containers_in k) × (has_lock o (a ∷ v.log) ≡ true) × (root k (did id v a ∷ es) o ≡ suc t)). inr (x.0, x.1, sym (h x.0) ∙ x.2, sym (r x.0 x.1) ∙ x.3)) mine
+same_back k es id v a h s r (cell t i) in_it mine = ⊎_elim (λ (x : stage t (a ∷ v.log) ≡ 1). inl (sym (s t) ∙ x)) (λ (x : (o : ℕ) × (o < container_count k) × (has_lock o (a ∷ v.log) ≡ true) × (root k (did id v a ∷ es) o ≡ suc t)). inr (x.0, x.1, sym (h x.0) ∙ x.2, sym (r x.0 x.1) ∙ x.3)) mine
 same_back k es id v a h s r counter in_it mine = absurd mine
 same_back k es id v a h s r write_number in_it mine = absurd mine
 same_back k es id v a h s r (announced_of p) in_it mine = absurd mine
@@ -175,12 +175,12 @@ same_back k es id v a h s r (lock_of o) in_it mine = absurd mine
 same_back k es id v a h s r (version_of o) in_it mine = absurd mine
 same_back k es id v a h s r (header t) in_it mine = absurd mine
 
-root_back : (k : Shape) (es : List Event) (id : ℕ) (v : View) (p r past : ℕ) → May k (run k es) (history es) v (PutRoot p r past) → Backward k es (did id v (PutRoot p r past) ∷ es) v (noted (PutRoot p r past) v)
+root_back : (k : Shape) (es : List Event) (id : ℕ) (v : View) (p r past : ℕ) → May k (run k es) (history es) v (PutRoot p r past) → Backward k es (did id v (PutRoot p r past) ∷ es) v (view_after (PutRoot p r past) v)
 root_back k es id v p r past may (block o i) in_it mine = mine
 root_back k es id v p r past may (cell t i) in_it mine =
     ⊎_elim
     (λ (x : stage_next t (PutRoot p r past) (stage t v.log) ≡ 1). inl (two_ways (eqb r (suc t)) (eqb past (suc t)) (stage t v.log) x))
-    (λ (x : (o : ℕ) × (o < containers_in k) × (has_lock o v.log ≡ true) × (root k (did id v (PutRoot p r past) ∷ es) o ≡ suc t)).
+    (λ (x : (o : ℕ) × (o < container_count k) × (has_lock o v.log ≡ true) × (root k (did id v (PutRoot p r past) ∷ es) o ≡ suc t)).
     dite (ℕ_discrete x.0 p)
     (λ (e : x.0 ≡ p). inl (may.3 t (sym (moves k es id v (PutRoot p r past) may) ∙ (ap (root k (did id v (PutRoot p r past) ∷ es)) (sym e) ∙ x.3))).1)
     (λ ne. inr (x.0, x.1, x.2, sym (stays k es id v (PutRoot p r past) may (block x.0 0) (x.1, omega arith) (λ e. ne (cc))) ∙ x.3)))
@@ -207,7 +207,7 @@ not_one false x n ne e = e
 apart : (k : Shape) (es : List Event) (id : ℕ) (v : View) (a : Act) → May k (run k es) (history es) v a → (IsData (place a) → ⊥) → (x : Word) → Inside k x → IsData x → word k (did id v a ∷ es) x ≡ word k es x
 apart k es id v a may never x in_it d = stays k es id v a may x in_it (λ e. never (subst IsData (sym e) d))
 
-own : (k : Shape) (es : List Event) (id : ℕ) (v : View) → Valid k es → get_elem? (run k es).views id ≡ some v → Imaged k es v → (b : Act) → May k (run k es) (history es) v b → Imaged k (did id v b ∷ es) (noted b v)
+own : (k : Shape) (es : List Event) (id : ℕ) (v : View) → Valid k es → get_elem? (run k es).views id ≡ some v → Imaged k es v → (b : Act) → May k (run k es) (history es) v b → Imaged k (did id v b ∷ es) (view_after b v)
 own k es id v valid here_ old (Lock p f s) may = fresh k es id v (Lock p f s) s may.2 refl refl refl (apart k es id v (Lock p f s) may (λ d. d))
 own k es id v valid here_ old (TakeTable p f s) may = fresh k es id v (TakeTable p f s) s may.2 refl refl refl (apart k es id v (TakeTable p f s) may (λ d. d))
 own k es id v valid here_ old (Unlock p) may =
@@ -222,7 +222,7 @@ own k es id v valid here_ old (Commit c r f s) may =
     let same = apart k es id v (Commit c r f s) may (λ d. d) in
     record {
       wide = old.wide;
-      words = λ x in_it owns. old.words x in_it (same_back k es id v (Commit c r f s) (λ o. refl) (λ t. refl) (λ o low. same (block o 0) (low, omega arith) tt) x in_it owns) ∙ sym (same x in_it (data_of k (did id v (Commit c r f s) ∷ es) (noted (Commit c r f s) v) x owns));
+      words = λ x in_it owns. old.words x in_it (same_back k es id v (Commit c r f s) (λ o. refl) (λ t. refl) (λ o low. same (block o 0) (low, omega arith) tt) x in_it owns) ∙ sym (same x in_it (data_of k (did id v (Commit c r f s) ∷ es) (view_after (Commit c r f s) v) x owns));
       content = λ o mine. ap (λ (z : Snap). container_after k.starts (c ∷ z.calls) o) may.7;
     }
 own k es id v valid here_ old (PutBlock p i x) may =
@@ -241,16 +241,16 @@ own k es id v valid here_ old act may = calm k es id v act old refl refl refl (�
 
 -- a lock is that of an container of the bank
 abbrev Low : Shape → ℕ → View → Type 0
-Low k j u = (o : ℕ) → has_lock o u.log ≡ true → o < containers_in k
+Low k j u = (o : ℕ) → has_lock o u.log ≡ true → o < container_count k
 
-low_next : (k : Shape) (es : List Event) (v : View) (b : Act) → May k (run k es) (history es) v b → ((o : ℕ) → has_lock o v.log ≡ true → o < containers_in k) → (o : ℕ) → has_lock o (b ∷ v.log) ≡ true → o < containers_in k
-low_next k es v (Lock p f s) may old o mine = same_or (λ (z : ℕ). z < containers_in k → cond (eqb z o) (cond (eqb f 0) true (has_lock o v.log)) (has_lock o v.log) ≡ true → o < containers_in k) p o (λ low _. low) (λ ne _ e. old o (sym (miss p o (cond (eqb f 0) true (has_lock o v.log)) (has_lock o v.log) ne) ∙ e)) may.0 mine
-low_next k es v (Unlock p) may old o mine = same_or (λ (z : ℕ). cond (eqb z o) false (has_lock o v.log) ≡ true → o < containers_in k) p o (λ e. off (sym (hit o false (has_lock o v.log)) ∙ e)) (λ ne e. old o (sym (miss p o false (has_lock o v.log) ne) ∙ e)) mine
+low_next : (k : Shape) (es : List Event) (v : View) (b : Act) → May k (run k es) (history es) v b → ((o : ℕ) → has_lock o v.log ≡ true → o < container_count k) → (o : ℕ) → has_lock o (b ∷ v.log) ≡ true → o < container_count k
+low_next k es v (Lock p f s) may old o mine = same_or (λ (z : ℕ). z < container_count k → cond (eqb z o) (cond (eqb f 0) true (has_lock o v.log)) (has_lock o v.log) ≡ true → o < container_count k) p o (λ low _. low) (λ ne _ e. old o (sym (miss p o (cond (eqb f 0) true (has_lock o v.log)) (has_lock o v.log) ne) ∙ e)) may.0 mine
+low_next k es v (Unlock p) may old o mine = same_or (λ (z : ℕ). cond (eqb z o) false (has_lock o v.log) ≡ true → o < container_count k) p o (λ e. off (sym (hit o false (has_lock o v.log)) ∙ e)) (λ ne e. old o (sym (miss p o false (has_lock o v.log) ne) ∙ e)) mine
 low_next k es v act may old o mine = old o mine
 
 pub has_low : (k : Shape) (es : List Event) → Valid k es → (j : ℕ) (u : View) → get_elem? (run k es).views j ≡ some u → Low k j u
 has_low k [] valid = one_view (Low k) (starter k) (λ o no. off no)
-has_low k (did id v a ∷ es) valid = let old = has_low k es valid.0 in set_views (Low k) _ id (noted a v) (low_next k es v a valid.1.3 (old id v valid.1.0)) (λ j u _ e. old j u e)
+has_low k (did id v a ∷ es) valid = let old = has_low k es valid.0 in set_views (Low k) _ id (view_after a v) (low_next k es v a valid.1.3 (old id v valid.1.0)) (λ j u _ e. old j u e)
 has_low k (forked id v ∷ es) valid = let old = has_low k es valid.0 in one_more (Low k) _ (made v) (λ o no. off no) (set_views (Low k) _ id (maker v) (old id v valid.1.0) (λ j u _ e. old j u e))
 has_low k (sent id v given ∷ es) valid = let old = has_low k es valid.0 in one_more (Low k) _ (note given v) (λ o no. off no) (set_views (Low k) _ id (sender given v) (old id v valid.1.0) (λ j u _ e. old j u e))
 has_low k (joined id v third w ∷ es) valid = let old = has_low k es valid.0 in set_views (Low k) _ third spent (λ o no. off no) (λ j u _. set_views (Low k) _ id (both v w) (old id v valid.1.0) (λ j u _ e. old j u e) j u)
@@ -268,7 +268,7 @@ nothing k es u e =
   where
     never : {A : Type 0} (x : Word) → Owns k es u x → A
     never (block o i) mine = off (sym (ap (has_lock o) e) ∙ mine)
-    never (cell t i) mine = ⊎_elim (λ (x : stage t u.log ≡ 1). let z : stage t u.log ≡ 0 = ap (stage t) e in absurd (omega (arith, x, z))) (λ (x : (o : ℕ) × (o < containers_in k) × (has_lock o u.log ≡ true) × (root k es o ≡ suc t)). off (sym (ap (has_lock x.0) e) ∙ x.2)) mine
+    never (cell t i) mine = ⊎_elim (λ (x : stage t u.log ≡ 1). let z : stage t u.log ≡ 0 = ap (stage t) e in absurd (omega (arith, x, z))) (λ (x : (o : ℕ) × (o < container_count k) × (has_lock o u.log ≡ true) × (root k es o ≡ suc t)). off (sym (ap (has_lock x.0) e) ∙ x.2)) mine
     never counter mine = absurd mine
     never write_number mine = absurd mine
     never (announced_of p) mine = absurd mine
@@ -293,7 +293,7 @@ pub imaged : (k : Shape) (es : List Event) → Valid k es → (j : ℕ) (u : Vie
 imaged k [] valid = one_view (λ j u. Imaged k [] u) (starter k) (nothing k [] (starter k) refl)
 imaged k (did id v a ∷ es) valid =
     let old = imaged k es valid.0 in
-    set_views (λ j u. Imaged k (did id v a ∷ es) u) _ id (noted a v) (own k es id v valid.0 valid.1.0 (old id v valid.1.0) a valid.1.3) (λ j u ne e. other k es id v a valid j u ne e (old j u e) (has_low k es valid.0 j u e))
+    set_views (λ j u. Imaged k (did id v a ∷ es) u) _ id (view_after a v) (own k es id v valid.0 valid.1.0 (old id v valid.1.0) a valid.1.3) (λ j u ne e. other k es id v a valid j u ne e (old j u e) (has_low k es valid.0 j u e))
 imaged k (forked id v ∷ es) valid =
     let old = imaged k es valid.0 in
     let P : ℕ → View → Type 0 = λ j u. Imaged k (forked id v ∷ es) u in

@@ -9,7 +9,7 @@ use Rattle.ft_trace.specs.declared.Shape.{Shape}
 use Rattle.ft_trace.specs.declared.View.{View}
 use Rattle.ft_trace.specs.declared.Act.{Act}
 use Rattle.ft_trace.specs.declared.Act.TheVariants.{ReadTable, ReadCounter}
-use Rattle.ft_trace.specs.Addresses.{containers_in, class_of, slots}
+use Rattle.ft_trace.specs.Addresses.{container_count, class_of, slots}
 use Rattle.ft_trace.specs.Ages.{whose}
 use Rattle.ft_trace.specs.ContainerStates.{container_after, first_writes, kind_in}
 use Rattle.ft_trace.specs.Pictures.{item_offset, item_field}
@@ -23,7 +23,7 @@ use Rattle.ft_trace.proofs.ByKind.{items_fit, items_later, items_sound}
 use Rattle.ft_trace.proofs.Sounds.{LaterIn, sound_at}
 use Rattle.ft_trace.proofs.Spots.{under_trans, stamp_then, Spot, Back, go, Opened, open_window, named_by, found}
 
-module _ (k : Shape) (es : List Event) (valid : Valid k es) (o t p n : ℕ) (low : o < containers_in k) (items : IsItems (kind_in k.starts o)) (small : p < slots (class_of t)) (j : ℕ) (u : View) (at : get_elem? (run k es).views j ≡ some u) (h : ItemHit u.log o t p n) where
+module _ (k : Shape) (es : List Event) (valid : Valid k es) (o t p n : ℕ) (low : o < container_count k) (items : IsItems (kind_in k.starts o)) (small : p < slots (class_of t)) (j : ℕ) (u : View) (at : get_elem? (run k es).views j ≡ some u) (h : ItemHit u.log o t p n) where
   abbrev load : Act
   load = ReadTable t (item_offset p 0) h.version
 
@@ -105,7 +105,7 @@ module _ (k : Shape) (es : List Event) (valid : Valid k es) (o t p n : ℕ) (low
       by (suc (suc w)) less = absurd (omega arith)
 
 -- the list at the stamp is no longer than the table
-pub item_past_at : (k : Shape) (es : List Event) (valid : Valid k es) (o t n : ℕ) (low : o < containers_in k) (items : IsItems (kind_in k.starts o)) (j : ℕ) (u : View) (at : get_elem? (run k es).views j ≡ some u) → ItemPast u.log o t n → (n ≤ count k es) × (length (list_of (container_after k.starts (first_writes n (history es)) o).content) ≤ slots (class_of t))
+pub item_past_at : (k : Shape) (es : List Event) (valid : Valid k es) (o t n : ℕ) (low : o < container_count k) (items : IsItems (kind_in k.starts o)) (j : ℕ) (u : View) (at : get_elem? (run k es).views j ≡ some u) → ItemPast u.log o t n → (n ≤ count k es) × (length (list_of (container_after k.starts (first_writes n (history es)) o).content) ≤ slots (class_of t))
 item_past_at k es valid o t n low items j u at h =
     let open_ = open_window k es valid j u at o t low h.walk h.window in
     let b = go k t j h.window.rest h.walk open_.table h.window.before open_.spot h.stamp.newer (ReadCounter n) h.stamp.rest h.stamp.is in

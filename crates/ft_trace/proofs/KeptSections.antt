@@ -15,8 +15,8 @@ use Rattle.ft_trace.specs.declared.Act.TheVariants.{Lock, Unlock, Commit, Answer
 use Rattle.ft_trace.specs.declared.Entry.{Entry}
 use Rattle.ft_trace.specs.declared.Shape.{Shape}
 use Rattle.ft_trace.specs.declared.View.{View}
-use Rattle.ft_trace.specs.Addresses.{containers_in}
-use Rattle.ft_trace.specs.Acts.{place, Reports, has_lock, starter, noted, maker, made, both, spent, sender, note}
+use Rattle.ft_trace.specs.Addresses.{container_count}
+use Rattle.ft_trace.specs.Acts.{place, Reports, has_lock, starter, view_after, maker, made, both, spent, sender, note}
 use Rattle.ft_trace.specs.Entries.{IsNumber}
 use Rattle.ft_trace.specs.OwnOrder.{is_write_of, KeptSectionsAreUntouched}
 use Rattle.ft_trace.specs.BegunSections.{Begun, begun, begun_by, is_among, without, since_load, all_since_load}
@@ -123,25 +123,25 @@ each_held (a ∷ l) = by a (each_held l)
 -- ---- what holds in a trace
 
 -- a lock is that of a container
-pub locked_low : (k : Shape) (es : List Event) → Valid k es → (o j : ℕ) (u : View) → get_elem? (run k es).views j ≡ some u → has_lock o u.log ≡ true → o < containers_in k
-locked_low k [] valid o = one_view (λ j u. has_lock o u.log ≡ true → o < containers_in k) (starter k) (λ no. off no)
+pub locked_low : (k : Shape) (es : List Event) → Valid k es → (o j : ℕ) (u : View) → get_elem? (run k es).views j ≡ some u → has_lock o u.log ≡ true → o < container_count k
+locked_low k [] valid o = one_view (λ j u. has_lock o u.log ≡ true → o < container_count k) (starter k) (λ no. off no)
 locked_low k (did id v a ∷ es) valid o =
     let old = locked_low k es valid.0 o in
-    let P : ℕ → View → Type 0 = λ j u. has_lock o u.log ≡ true → o < containers_in k in
-    let F : Act → Type 0 = λ b. May k (run k es) (history es) v b → has_lock o (b ∷ v.log) ≡ true → o < containers_in k in
-    set_views P _ id (noted a v)
+    let P : ℕ → View → Type 0 = λ j u. has_lock o u.log ≡ true → o < container_count k in
+    let F : Act → Type 0 = λ b. May k (run k es) (history es) v b → has_lock o (b ∷ v.log) ≡ true → o < container_count k in
+    set_views P _ id (view_after a v)
     (on_lock o F (λ f s may _. may.0) (λ may _. may.0) (λ b same apart may e. old id v valid.1.0 (sym (same (has_lock o v.log)) ∙ e)) a valid.1.3)
     (λ j u _ e. old j u e)
 locked_low k (forked id v ∷ es) valid o =
-    let P : ℕ → View → Type 0 = λ j u. has_lock o u.log ≡ true → o < containers_in k in
+    let P : ℕ → View → Type 0 = λ j u. has_lock o u.log ≡ true → o < container_count k in
     let old = locked_low k es valid.0 o in
     one_more P _ (made v) (λ no. off no) (set_views P _ id (maker v) (old id v valid.1.0) (λ j u _ e. old j u e))
 locked_low k (sent id v given ∷ es) valid o =
-    let P : ℕ → View → Type 0 = λ j u. has_lock o u.log ≡ true → o < containers_in k in
+    let P : ℕ → View → Type 0 = λ j u. has_lock o u.log ≡ true → o < container_count k in
     let old = locked_low k es valid.0 o in
     one_more P _ (note given v) (λ no. off no) (set_views P _ id (sender given v) (old id v valid.1.0) (λ j u _ e. old j u e))
 locked_low k (joined id v other w ∷ es) valid o =
-    let P : ℕ → View → Type 0 = λ j u. has_lock o u.log ≡ true → o < containers_in k in
+    let P : ℕ → View → Type 0 = λ j u. has_lock o u.log ≡ true → o < container_count k in
     let old = locked_low k es valid.0 o in
     set_views P _ other spent (λ no. off no) (λ j u _. set_views P _ id (both v w) (old id v valid.1.0) (λ j u _ e. old j u e) j u)
 
@@ -159,7 +159,7 @@ Own k es o n j u =
 
 own_by : (k : Shape) (es : List Event) → Valid k es → (o n id : ℕ) (v : View) → get_elem? (run k es).views id ≡ some v → ((j : ℕ) (u : View) → get_elem? (run k es).views j ≡ some u → Own k es o n j u) → (b : Act) → Reports b (word k es (place b)) → May k (run k es) (history es) v b → (j : ℕ) (u : View) → get_elem? (run k (did id v b ∷ es)).views j ≡ some u → Own k (did id v b ∷ es) o n j u
 own_by k es valid o n id v at old (Commit c r f s) found may =
-    set_views (Own k (did id v (Commit c r f s) ∷ es) o n) _ id (noted (Commit c r f s) v)
+    set_views (Own k (did id v (Commit c r f s) ∷ es) o n) _ id (view_after (Commit c r f s) v)
     (λ held m called named low is. ⊎_elim
     (λ (e : (m ≡ length (history es)) × (called ≡ c)).
     ap (λ (b : Bool). b || list_any (is_write_of m) v.entries) (eq-eqb f m (found ∙ (counted k es valid ∙ sym e.0))))
@@ -171,14 +171,14 @@ own_by k es valid o n id v at old (Commit c r f s) found may =
     absurd (apart (one_holder k es valid o (locked_low k es valid o j u there theirs) j id u v there at theirs ours)))
     (λ is. old j u there held m called named low is) is)
 own_by k es valid o n id v at old (ReadCounter f) found may =
-    set_views (Own k (did id v (ReadCounter f) ∷ es) o n) _ id (noted (ReadCounter f) v)
+    set_views (Own k (did id v (ReadCounter f) ∷ es) o n) _ id (view_after (ReadCounter f) v)
     (λ held m called named low is.
     dite (ℕ_discrete f n)
     (λ (e : f ≡ n). let top = number_low (history es) m called is in let now = found ∙ counted k es valid in absurd (omega (arith, top, now, e, low)))
     (λ ne. old id v at (sym (miss f n (has_lock o v.log) (since_load o n v.log) ne) ∙ held) m called named low is))
     (λ j u _ there. old j u there)
 own_by k es valid o n id v at old (Unlock p) found may =
-    set_views (Own k (did id v (Unlock p) ∷ es) o n) _ id (noted (Unlock p) v)
+    set_views (Own k (did id v (Unlock p) ∷ es) o n) _ id (view_after (Unlock p) v)
     (λ held.
     old id v at
     (same_or (λ (z : ℕ). cond (eqb z o) false (since_load o n v.log) ≡ true → since_load o n v.log ≡ true) p o
@@ -186,14 +186,14 @@ own_by k es valid o n id v at old (Unlock p) found may =
     (λ ne e. sym (miss p o false (since_load o n v.log) ne) ∙ e) held))
     (λ j u _ there. old j u there)
 own_by k es valid o n id v at old (Answer c r x) found may =
-    set_views (Own k (did id v (Answer c r x) ∷ es) o n) _ id (noted (Answer c r x) v)
+    set_views (Own k (did id v (Answer c r x) ∷ es) o n) _ id (view_after (Answer c r x) v)
     (λ held m called named low is. any_later m (record { call = c; reply = r; stamp = x; wrote = false }) v.entries (old id v at held m called named low is))
     (λ j u _ there. old j u there)
 own_by k es valid o n id v at old (AnswerCursor c r x number had left) found may =
-    set_views (Own k (did id v (AnswerCursor c r x number had left) ∷ es) o n) _ id (noted (AnswerCursor c r x number had left) v)
+    set_views (Own k (did id v (AnswerCursor c r x number had left) ∷ es) o n) _ id (view_after (AnswerCursor c r x number had left) v)
     (λ held m called named low is. any_later m (record { call = c; reply = r; stamp = x; wrote = false }) v.entries (old id v at held m called named low is))
     (λ j u _ there. old j u there)
-own_by k es valid o n id v at old act found may = set_views (Own k (did id v act ∷ es) o n) _ id (noted act v) (old id v at) (λ j u _ there. old j u there)
+own_by k es valid o n id v at old act found may = set_views (Own k (did id v act ∷ es) o n) _ id (view_after act v) (old id v at) (λ j u _ there. old j u there)
 
 pub own_writes : (k : Shape) (es : List Event) → Valid k es → (o n j : ℕ) (u : View) → get_elem? (run k es).views j ≡ some u → Own k es o n j u
 own_writes k [] valid o n = one_view (Own k [] o n) (starter k) (λ no. off no)

@@ -5,7 +5,7 @@ use Rattle.ft_model.specs.declared.content.Content.{Content}
 use Rattle.ft_model.specs.declared.script.Kind.{Kind}
 use Rattle.ft_model.specs.declared.script.Kind.TheVariants as kind
 use Rattle.ft_trace.specs.Addresses.{class_of, slots, size}
-use Rattle.ft_trace.specs.Pictures.{Picture, root_in, entry_offset, walk_of}
+use Rattle.ft_trace.specs.Pictures.{ContainerWords, root_in, entry_offset, walk_of}
 use Rattle.ft_trace.specs.Carefuls.{Sound, Careful, Clear}
 use Rattle.ft_trace.specs.Kinds.{under, rows, version_at, SoundAs, CarefulAs, ClearAs, IsKeyed}
 use Rattle.ft_trace.specs.OddVersions.{Timely}
@@ -40,14 +40,14 @@ sound_keyed kind.List is texts c ws d sound = absurd is
 sound_keyed (kind.Deque bound) is texts c ws d sound = absurd is
 
 -- a word of an entry may be put
-pub keyed_put : (kind : Kind) → IsKeyed kind → (t : ℕ) (d : Content) (committed : Bool) (words : Picture) (p w x : ℕ) → root_in words ≡ suc t → p < rows kind (class_of t) → w < 8 → Careful (slots (class_of t)) (rows kind (class_of t)) words.table (under d) (entry_offset (slots (class_of t)) p w) x
+pub keyed_put : (kind : Kind) → IsKeyed kind → (t : ℕ) (d : Content) (committed : Bool) (words : ContainerWords) (p w x : ℕ) → root_in words ≡ suc t → p < rows kind (class_of t) → w < 8 → Careful (slots (class_of t)) (rows kind (class_of t)) words.table (under d) (entry_offset (slots (class_of t)) p w) x
     → Timely (λ q. entry_offset (slots (class_of t)) q 0) (rows kind (class_of t)) (entry_offset (slots (class_of t)) p w) x committed → MayPut kind t d committed words (to_table (entry_offset (slots (class_of t)) p w) x)
 keyed_put kind is t d committed words p w x names low few care time =
     let c = class_of t in
     (names, keyed_low kind is c p w low few, careful_keyed kind is c words.table d (entry_offset (slots c) p w) x care, subst (λ (at : ℕ → ℕ). Timely at (rows kind c) (entry_offset (slots c) p w) x committed) (versions_lie kind is c) time)
 
 -- a word of the table may be put before the commit that makes no version even
-pub put_while_open : (kind : Kind) → IsKeyed kind → (t : ℕ) (d : Content) (words : Picture) (i x : ℕ) → root_in words ≡ suc t → i < size (class_of t) → Careful (slots (class_of t)) (rows kind (class_of t)) words.table (under d) i x → ((q : ℕ) → i ≡ entry_offset (slots (class_of t)) q 0 → x % 2 ≡ 1) → MayPut kind t d false words (to_table i x)
+pub put_while_open : (kind : Kind) → IsKeyed kind → (t : ℕ) (d : Content) (words : ContainerWords) (i x : ℕ) → root_in words ≡ suc t → i < size (class_of t) → Careful (slots (class_of t)) (rows kind (class_of t)) words.table (under d) i x → ((q : ℕ) → i ≡ entry_offset (slots (class_of t)) q 0 → x % 2 ≡ 1) → MayPut kind t d false words (to_table i x)
 put_while_open kind is t d words i x names low care odd =
     let c = class_of t in
     let time : Timely (λ q. entry_offset (slots c) q 0) (rows kind c) i x false = record { before = λ q less e one. refl; later = λ q less e two. absurd (let o = odd q e in omega (arith, two, o)) } in

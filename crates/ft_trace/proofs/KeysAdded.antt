@@ -28,8 +28,8 @@ use Rattle.ft_trace.specs.Pictures.{root_in, index_field, entry_offset, entry_fi
 use Rattle.ft_trace.specs.Carefuls.{Careful, Clear}
 use Rattle.ft_trace.specs.Kinds.{under}
 use Rattle.ft_trace.specs.OddVersions.{Shut}
-use Rattle.ft_trace.specs.Holds.{held, known, AgreesWith}
-use Rattle.ft_trace.specs.Traces.{Possible}
+use Rattle.ft_trace.specs.Holds.{held_words, known_state, AgreesWith}
+use Rattle.ft_trace.specs.Traces.{IsReachable}
 use Rattle.ft_trace.specs.Grants.{MayWrite}
 use Rattle.ft_trace.specs.WholeWrites.{to_table, MayPut, MayPuts, WholeWrite, at_commit, at_end, after_write_of}
 use Rattle.ft_trace.specs.EntryWrites.{entry_closed}
@@ -50,9 +50,9 @@ pub and_false : (b : Bool) → (b && false) ≡ false
 and_false true = refl
 and_false false = refl
 
-module _ (versions : EntryVersionsChangeNothing) (first : FirstEntriesArePairs) (v : View) (o t slot : ℕ) (key : Key) (value : Value) (pairs : DictContent) (may : MayWrite v o) (is_dict : (known o v).content ≡ content.Dict pairs) (names : root_in (held o v) ≡ suc t)
-    (room : (known o v).table.fill < places (class_of t)) (in_index : slot < slots (class_of t)) (free : index_field (held o v).table slot ≡ 0) (missing : has_key pairs.pairs key ≡ false)
-    (now : IsDictWords v.shape.texts (at_commit v o (dict_add_write v o t slot key value pairs)).block (0 ∷ 0 ∷ (at_commit v o (dict_add_write v o t slot key value pairs)).table) (Some (class_of t)) ((known o v).table.fill + 1) (dict_set pairs key value)) where
+module _ (versions : EntryVersionsChangeNothing) (first : FirstEntriesArePairs) (v : View) (o t slot : ℕ) (key : Key) (value : Value) (pairs : DictContent) (may : MayWrite v o) (is_dict : (known_state o v).content ≡ content.Dict pairs) (names : root_in (held_words o v) ≡ suc t)
+    (room : (known_state o v).table.fill < places (class_of t)) (in_index : slot < slots (class_of t)) (free : index_field (held_words o v).table slot ≡ 0) (missing : has_key pairs.pairs key ≡ false)
+    (now : IsDictWords v.shape.texts (at_commit v o (dict_add_write v o t slot key value pairs)).block (0 ∷ 0 ∷ (at_commit v o (dict_add_write v o t slot key value pairs)).table) (Some (class_of t)) ((known_state o v).table.fill + 1) (dict_set pairs key value)) where
   abbrev k : Shape
   k = v.shape
 
@@ -66,10 +66,10 @@ module _ (versions : EntryVersionsChangeNothing) (first : FirstEntriesArePairs) 
   m = places c
 
   abbrev p : ℕ
-  p = (known o v).table.fill
+  p = (known_state o v).table.fill
 
   abbrev ws : List ℕ
-  ws = (held o v).table
+  ws = (held_words o v).table
 
   abbrev news : DictContent
   news = dict_set pairs key value
@@ -95,7 +95,7 @@ module _ (versions : EntryVersionsChangeNothing) (first : FirstEntriesArePairs) 
   long : length ws ≡ n + 8 * m
   long = table_is_long v o t names
 
-  says : IsDictWords k.texts (held o v).block (0 ∷ 0 ∷ ws) (Some c) p pairs
+  says : IsDictWords k.texts (held_words o v).block (0 ∷ 0 ∷ ws) (Some c) p pairs
   says = known_says v o t (content.Dict pairs) may is_dict names
 
   shut : Shut (λ q. entry_offset n q 0) m ws
@@ -107,7 +107,7 @@ module _ (versions : EntryVersionsChangeNothing) (first : FirstEntriesArePairs) 
   -- the entry was never used
   none : entry_field n ws p 2 ≡ 0
   none =
-      let fits : dict_room (class_mask c) ≡ m = room_is first k.texts (held o v).block c p class_is pairs ws says in
+      let fits : dict_room (class_mask c) ≡ m = room_is first k.texts (held_words o v).block c p class_is pairs ws says in
       let filled = says.filled in
       let u = says.table.unused p (omega (arith, filled)) (omega (arith, fits, room)) in
       sym (word_is (λ hash. dict_slots hash (class_mask c) (class_mask c + 14)) (dict_room (class_mask c)) k.texts c class_is says.used ws says.table p 2) ∙ u.kind
@@ -118,7 +118,7 @@ module _ (versions : EntryVersionsChangeNothing) (first : FirstEntriesArePairs) 
   -- ---- the puts
 
   abbrev b0 : List ℕ
-  b0 = (held o v).block
+  b0 = (held_words o v).block
 
   names_now : slice_index block 0 ≡ suc t
   names_now = root_stays b0 (length pairs.pairs + 1) (p + 1) (pairs.next + 1) ∙ names
@@ -192,7 +192,7 @@ module _ (versions : EntryVersionsChangeNothing) (first : FirstEntriesArePairs) 
       let p8 = table_put (slice_set l6 (entry_offset n p 2) (key_kind key)) slot (p + 1) (omega (arith, in_index)) (new_index n m ws p slot room in_index at_least even none free key l6 s6 before) (λ q z. absurd (omega (arith, z, in_index))) in
       (p1, (p2, (p3, (p4, (p5, (p6, (p7, (p8, tt))))))))
 
-  early : MayPuts kind.Dict t (content.Dict pairs) false (held o v) (count_puts (length pairs.pairs + 1) (p + 1) (pairs.next + 1) ++ key_puts n ws p slot (hash_of k.texts key) key value pairs.next)
+  early : MayPuts kind.Dict t (content.Dict pairs) false (held_words o v) (count_puts (length pairs.pairs + 1) (p + 1) (pairs.next + 1) ++ key_puts n ws p slot (hash_of k.texts key) key value pairs.next)
   early = counts_may_be_put kind.Dict t (content.Dict pairs) b0 ws (length pairs.pairs + 1) (p + 1) (pairs.next + 1) (key_puts n ws p slot (hash_of k.texts key) key value pairs.next) puts
 
   clear : Clear (walk_of kind.Dict k.texts c) n m put (under (content.Dict pairs)) (under (content.Dict news))
@@ -260,7 +260,7 @@ module _ (versions : EntryVersionsChangeNothing) (first : FirstEntriesArePairs) 
         ∙ (ap (λ (z : Option ℕ). grown_table T z drawn count) takes_none
         ∙ (λ d. record { class = (table_is d).class; fill = (table_is d).fill + one d; keys = (table_is d).keys })))
 
-  pub add_possible : (start number : ℕ) × (s : Snap) × (stop : ℕ) × Possible (after_write_of v o t write start number s stop)
+  pub add_possible : (start number : ℕ) × (s : Snap) × (stop : ℕ) × IsReachable (after_write_of v o t write start number s stop)
   add_possible =
       facts_suffice v o t (content.Dict pairs) (content.Dict news) (use_of t (p + 1)) write (may_begin v o may) is_dict
       (record {

@@ -18,12 +18,12 @@ use Rattle.ft_trace.specs.declared.Shape.{Shape}
 use Rattle.ft_trace.specs.declared.View.{View}
 use Rattle.ft_trace.specs.declared.Act.{Act}
 use Rattle.ft_trace.specs.declared.Act.TheVariants.{Commit}
-use Rattle.ft_trace.specs.Addresses.{containers_in, class_of, size, IsTableName}
+use Rattle.ft_trace.specs.Addresses.{container_count, class_of, size, IsTableName}
 use Rattle.ft_trace.specs.Acts.{has_lock, mem}
 use Rattle.ft_trace.specs.ContainerStates.{ContainerState, container_after, kind_in, kinds_in}
-use Rattle.ft_trace.specs.Pictures.{root_of, inner, Picture, root_in, Stands}
-use Rattle.ft_trace.specs.Holds.{held, known}
-use Rattle.ft_trace.specs.Traces.{Event, did, forked, joined, sent, run, writes_of, history, May, Valid, Possible}
+use Rattle.ft_trace.specs.Pictures.{root_of, inner, ContainerWords, root_in, Represents}
+use Rattle.ft_trace.specs.Holds.{held_words, known_state}
+use Rattle.ft_trace.specs.Traces.{Event, did, forked, joined, sent, run, writes_of, history, May, Valid, IsReachable}
 use Rattle.ft_trace.proofs.Held.{content_known, root_known}
 use Rattle.ft_trace.proofs.Pieces.{block_at, table_long}
 use Rattle.ft_trace.proofs.TablePlaces.{root_table}
@@ -60,7 +60,7 @@ kind_then k es valid o =
     let world = (stored_newest k.starts (history es)).world in
     sym (mapped kind_of world o (content.List [])) ∙ (ap (λ (l : List Kind). slice_index_or l o kind.List) (kinds_stay k es valid) ∙ mapped (λ (start : Start). start.kind) k.starts o (start_as kind.List))
 
-pub kind_known : (v : View) (o : ℕ) → has_lock o v.log ≡ true → Possible v → kind_of (known o v).content ≡ kind_in v.shape.starts o
+pub kind_known : (v : View) (o : ℕ) → has_lock o v.log ≡ true → IsReachable v → kind_of (known_state o v).content ≡ kind_in v.shape.starts o
 kind_known v o mine p = ap (λ (z : ContainerState). kind_of z.content) (content_known v o mine p.0 p.1 p.2) ∙ kind_then v.shape p.0 p.2.0 o
 
 -- the class of the table that a root names
@@ -69,7 +69,7 @@ unfolding class_of
 named_class root None t is e = absurd (omega (arith, is, e))
 named_class root (Some class) t is e = let low = is.1.1 in let at = is.1.2 in ap Some (omega (arith, low, at, e))
 
-pub class_known : (texts : List ℕ) (words : Picture) (kept : ContainerState) (t : ℕ) → Stands texts words kept → root_in words ≡ suc t → kept.table.class ≡ Some (class_of t)
+pub class_known : (texts : List ℕ) (words : ContainerWords) (kept : ContainerState) (t : ℕ) → Represents texts words kept → root_in words ≡ suc t → kept.table.class ≡ Some (class_of t)
 class_known texts words kept t s names = named_class (root_in words) kept.table.class t (head_of texts words.block (0 ∷ 0 ∷ words.table) kept.table kept.content s).root names
 
 -- what stands first is of its kind
@@ -101,10 +101,10 @@ past_header words i j e = let is : i ≡ suc (suc j) = omega (arith, e) in ap (�
 
 -- the table that the root of a container names whose lock the pass has
 module _ (v : View) (o t : ℕ) where
-  pub in_bank : o < containers_in v.shape → Possible v → has_lock o v.log ≡ true → root_in (held o v) ≡ suc t → IsTableName v.shape t
+  pub in_bank : o < container_count v.shape → IsReachable v → has_lock o v.log ≡ true → root_in (held_words o v) ≡ suc t → IsTableName v.shape t
   in_bank low p mine names = root_table v.shape p.0 p.2.0 o low t (sym (root_known v o low mine p.0 p.1 p.2) ∙ names)
 
-  pub table_is_long : root_in (held o v) ≡ suc t → length (held o v).table ≡ size (class_of t)
+  pub table_is_long : root_in (held_words o v) ≡ suc t → length (held_words o v).table ≡ size (class_of t)
   table_is_long names =
       let ws = mem v.shape v.log in
       let root : root_of v.shape o ws ≡ suc t = sym (block_at v.shape o ws 0 (omega arith)) ∙ names in

@@ -11,14 +11,14 @@ use Rattle.ft_model.specs.Worlds.{kind_of, no_hands}
 use Rattle.ft_model.specs.TableUses.{TableUse, StoredWorld, stored_newest, table_at}
 use Rattle.ft_layout.specs.Containers.{StandsAs}
 use Rattle.ft_trace.specs.declared.View.{View}
-use Rattle.ft_trace.specs.Addresses.{containers_in, class_of}
+use Rattle.ft_trace.specs.Addresses.{container_count, class_of}
 use Rattle.ft_trace.specs.Acts.{has_lock}
 use Rattle.ft_trace.specs.ContainerStates.{ContainerState, kind_in}
 use Rattle.ft_trace.specs.Pictures.{root_in}
 use Rattle.ft_trace.specs.Kinds.{rows, version_at}
 use Rattle.ft_trace.specs.OddVersions.{Shut}
-use Rattle.ft_trace.specs.Holds.{held, known, AgreesWith}
-use Rattle.ft_trace.specs.Traces.{Possible}
+use Rattle.ft_trace.specs.Holds.{held_words, known_state, AgreesWith}
+use Rattle.ft_trace.specs.Traces.{IsReachable}
 use Rattle.ft_trace.specs.Grants.{MayWrite}
 use Rattle.ft_trace.proofs.Held.{held_stands}
 use Rattle.ft_trace.proofs.Clearing.{held_shut}
@@ -31,21 +31,21 @@ abbrev pub use_of : ℕ → ℕ → TableUse
 use_of t fill = record { class = Some (class_of t); fill = fill; keys = [] }
 
 -- what it knows of one with a table, whose number is t
-module _ (v : View) (o t : ℕ) (x : Content) (may : MayWrite v o) (is : (known o v).content ≡ x) (names : root_in (held o v) ≡ suc t) where
+module _ (v : View) (o t : ℕ) (x : Content) (may : MayWrite v o) (is : (known_state o v).content ≡ x) (names : root_in (held_words o v) ≡ suc t) where
   pub known_kind : kind_of x ≡ kind_in v.shape.starts o
   known_kind = sym (ap kind_of is) ∙ kind_known v o may.mine may.possible
 
-  pub known_use : (known o v).table ≡ use_of t (known o v).table.fill
-  known_use = let e = class_known v.shape.texts (held o v) (known o v) t (held_stands v o may.low may.possible may.mine may.quiet) names in let none = known_unsplit v o may.mine may.possible in λ d. record { class = e d; fill = (known o v).table.fill; keys = none d }
+  pub known_use : (known_state o v).table ≡ use_of t (known_state o v).table.fill
+  known_use = let e = class_known v.shape.texts (held_words o v) (known_state o v) t (held_stands v o may.low may.possible may.mine may.quiet) names in let none = known_unsplit v o may.mine may.possible in λ d. record { class = e d; fill = (known_state o v).table.fill; keys = none d }
 
-  pub known_says : StandsAs v.shape.texts (held o v).block (0 ∷ 0 ∷ (held o v).table) (use_of t (known o v).table.fill) x
-  known_says = let e = known_use in subst (λ (z : TableUse × Content). StandsAs v.shape.texts (held o v).block (0 ∷ 0 ∷ (held o v).table) z.0 z.1) (λ d. (e d, is d)) (held_stands v o may.low may.possible may.mine may.quiet)
+  pub known_says : StandsAs v.shape.texts (held_words o v).block (0 ∷ 0 ∷ (held_words o v).table) (use_of t (known_state o v).table.fill) x
+  known_says = let e = known_use in subst (λ (z : TableUse × Content). StandsAs v.shape.texts (held_words o v).block (0 ∷ 0 ∷ (held_words o v).table) z.0 z.1) (λ d. (e d, is d)) (held_stands v o may.low may.possible may.mine may.quiet)
 
-  pub known_shut : Shut (version_at (kind_of x) (class_of t)) (rows (kind_of x) (class_of t)) (held o v).table
-  known_shut = subst (λ (z : Kind). Shut (version_at z (class_of t)) (rows z (class_of t)) (held o v).table) (sym known_kind) (held_shut v o t may.low may.possible may.mine may.quiet names)
+  pub known_shut : Shut (version_at (kind_of x) (class_of t)) (rows (kind_of x) (class_of t)) (held_words o v).table
+  known_shut = subst (λ (z : Kind). Shut (version_at z (class_of t)) (rows z (class_of t)) (held_words o v).table) (sym known_kind) (held_shut v o t may.low may.possible may.mine may.quiet names)
 
 -- in each history that agrees with what it knows
-module _ (v : View) (o : ℕ) (x : Content) (low : o < containers_in v.shape) (mine : has_lock o v.log ≡ true) (is : (known o v).content ≡ x) (calls : List Call) (agree : AgreesWith v (stored_newest v.shape.starts calls)) where
+module _ (v : View) (o : ℕ) (x : Content) (low : o < container_count v.shape) (mine : has_lock o v.log ≡ true) (is : (known_state o v).content ≡ x) (calls : List Call) (agree : AgreesWith v (stored_newest v.shape.starts calls)) where
   abbrev stored : StoredWorld
   stored = stored_newest v.shape.starts calls
 
@@ -58,10 +58,10 @@ module _ (v : View) (o : ℕ) (x : Content) (low : o < containers_in v.shape) (m
   pub content_there : (d : Content) → slice_index_or stored.world o d ≡ x
   content_there d = at_any stored.world o d (content.List []) in_world ∙ (ap (λ (z : ContainerState). z.content) (agree o low mine) ∙ is)
 
-  pub table_there : table_at stored.tables o ≡ (known o v).table
+  pub table_there : table_at stored.tables o ≡ (known_state o v).table
   table_there = ap (λ (z : ContainerState). z.table) (agree o low mine)
 
-  pub keys_there : Possible v → (table_at stored.tables o).keys ≡ []
+  pub keys_there : IsReachable v → (table_at stored.tables o).keys ≡ []
   keys_there p = tables_unsplit v.shape p.0 p.2.0 calls o
 
   -- what a call leaves that puts another content in its place

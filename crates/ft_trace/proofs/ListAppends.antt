@@ -29,8 +29,8 @@ use Rattle.ft_trace.specs.Pictures.{root_in, item_offset, item_field}
 use Rattle.ft_trace.specs.ItemWords.{value_words, words_at}
 use Rattle.ft_trace.specs.Kinds.{rows, version_at}
 use Rattle.ft_trace.specs.OddVersions.{Shut}
-use Rattle.ft_trace.specs.Holds.{held, known, AgreesWith}
-use Rattle.ft_trace.specs.Traces.{Possible}
+use Rattle.ft_trace.specs.Holds.{held_words, known_state, AgreesWith}
+use Rattle.ft_trace.specs.Traces.{IsReachable}
 use Rattle.ft_trace.specs.Grants.{MayWrite}
 use Rattle.ft_trace.specs.WholeWrites.{WholeWrite, at_commit, at_end, after_write_of}
 use Rattle.ft_trace.specs.ItemWrites.{list_append_write, ItemsMayBeAppended}
@@ -58,7 +58,7 @@ get_else [] value (suc q) ne = refl
 get_else (x ∷ xs) value zero ne = refl
 get_else (x ∷ xs) value (suc q) ne = get_else xs value q (λ e. ne (ap suc e))
 
-module _ (versions : VersionsChangeNothing) (one : PutsChangeOneItem) (follow : WordsFollowAnAppend) (v : View) (o t : ℕ) (value : Value) (values : List Value) (may : MayWrite v o) (is_list : (known o v).content ≡ content.List values) (names : root_in (held o v) ≡ suc t) (room : length values < slots (class_of t)) (fits : FitsStored (Plain value)) where
+module _ (versions : VersionsChangeNothing) (one : PutsChangeOneItem) (follow : WordsFollowAnAppend) (v : View) (o t : ℕ) (value : Value) (values : List Value) (may : MayWrite v o) (is_list : (known_state o v).content ≡ content.List values) (names : root_in (held_words o v) ≡ suc t) (room : length values < slots (class_of t)) (fits : FitsStored (Plain value)) where
   abbrev n : Shape
   n = v.shape
 
@@ -66,10 +66,10 @@ module _ (versions : VersionsChangeNothing) (one : PutsChangeOneItem) (follow : 
   count = length values
 
   abbrev ws : List ℕ
-  ws = (held o v).table
+  ws = (held_words o v).table
 
   abbrev old : List ℕ
-  old = (held o v).block
+  old = (held_words o v).block
 
   abbrev b : List ℕ
   b = slice_set old 1 (count + 1)
@@ -101,7 +101,7 @@ module _ (versions : VersionsChangeNothing) (one : PutsChangeOneItem) (follow : 
   short : length news ≤ slots c
   short = let e = longer in omega (arith, room, e)
 
-  says : IsListWords old (0 ∷ 0 ∷ ws) (Some c) values × ((known o v).table.fill ≡ 0)
+  says : IsListWords old (0 ∷ 0 ∷ ws) (Some c) values × ((known_state o v).table.fill ≡ 0)
   says = list_says v o t values may is_list names
 
   shut : Shut (version_at kind.List c) (rows kind.List c) ws
@@ -173,7 +173,7 @@ module _ (versions : VersionsChangeNothing) (one : PutsChangeOneItem) (follow : 
     takes_none : takes_in found called ≡ None
     takes_none = ap (λ (z : Bool). if z then Some (list_class (length (list_at left o))) else None) not_outgrown
 
-    table_after : table_at (after_stored found called).tables o ≡ use_of t (known o v).table.fill
+    table_after : table_at (after_stored found called).tables o ≡ use_of t (known_state o v).table.fill
     table_after =
         let fill_is : T.fill + 0 ≡ T.fill = omega arith in
         get_or-set_same found.tables o (grown_table T (takes_in found called) 0 0) no_table (in_tables v o (content.List values) may.low may.mine is_list calls agree)
@@ -184,9 +184,9 @@ module _ (versions : VersionsChangeNothing) (one : PutsChangeOneItem) (follow : 
     passes_not =
         ap (λ (z : Content). passes_cap z || false) content_after ∙ ap (λ (z : Bool). z || false) (le-ltb most_items (length news) few)
 
-  pub append_possible : (start number : ℕ) × (s : Snap) × (stop : ℕ) × Possible (after_write_of v o t write start number s stop)
+  pub append_possible : (start number : ℕ) × (s : Snap) × (stop : ℕ) × IsReachable (after_write_of v o t write start number s stop)
   append_possible =
-      facts_suffice v o t (content.List values) (content.List news) (use_of t (known o v).table.fill) write (may_begin v o may) is_list
+      facts_suffice v o t (content.List values) (content.List news) (use_of t (known_state o v).table.fill) write (may_begin v o may) is_list
       (record {
         called = record { of = refl; wrote = refl; fits = fits; locks = one_locked o v.log may.mine; replied = λ r e. inr e; declared = λ world one. record { one = one; both = tt; room = tt } };
         root = tt;

@@ -26,8 +26,8 @@ use Rattle.ft_trace.specs.Addresses.{class_of, slots, size}
 use Rattle.ft_trace.specs.Pictures.{item_offset, item_field}
 use Rattle.ft_trace.specs.ItemWords.{ItemSound, ItemClear, value_words, words_at, said_at}
 use Rattle.ft_trace.specs.OddVersions.{Shut}
-use Rattle.ft_trace.specs.Holds.{in_hand, held, known, AgreesWith}
-use Rattle.ft_trace.specs.Traces.{Possible}
+use Rattle.ft_trace.specs.Holds.{in_hand, held_words, known_state, AgreesWith}
+use Rattle.ft_trace.specs.Traces.{IsReachable}
 use Rattle.ft_trace.specs.WholeWrites.{to_table, with_root_put, MayBegin, to_block, MayPuts, WholeWrite, at_commit, at_end, after_write_of}
 use Rattle.ft_trace.specs.ListGrowWrites.{list_grow_write, HasListGrown, ListsMayGrow}
 use Rattle.ft_trace.proofs.ByKind.{items_fit}
@@ -44,7 +44,7 @@ use Rattle.ft_trace.specs.Acts.{mem}
 use Rattle.ft_trace.proofs.KnownContents.{use_of, in_tables, content_there, table_there, content_left}
 use Rattle.ft_trace.proofs.WriteFacts.{replaces, facts_suffice}
 
-module _ (versions : VersionsChangeNothing) (v : View) (o t : ℕ) (value : Value) (values : List Value) (begin : MayBegin v o) (is_list : (known o v).content ≡ content.List values) (has : HasListGrown v o t value values) where
+module _ (versions : VersionsChangeNothing) (v : View) (o t : ℕ) (value : Value) (values : List Value) (begin : MayBegin v o) (is_list : (known_state o v).content ≡ content.List values) (has : HasListGrown v o t value values) where
   abbrev k : Shape
   k = v.shape
 
@@ -115,11 +115,11 @@ module _ (versions : VersionsChangeNothing) (v : View) (o t : ℕ) (value : Valu
 
   names_now : slice_index block 0 ≡ suc t
   names_now =
-      let b0 = slice_set (held o v).block 0 (suc t) in
+      let b0 = slice_set (held_words o v).block 0 (suc t) in
       let s = has.words.head.size in
       let a = length-set b0 1 (p + 1) in
-      let d = length-set (held o v).block 0 (suc t) in
-      get_or-set_other b0 1 0 (p + 1) 0 (λ e. absurd (omega (arith, e))) ∙ get_or-set_same (held o v).block 0 (suc t) 0 (omega (arith, s, a, d))
+      let d = length-set (held_words o v).block 0 (suc t) in
+      get_or-set_other b0 1 0 (p + 1) 0 (λ e. absurd (omega (arith, e))) ∙ get_or-set_same (held_words o v).block 0 (suc t) 0 (omega (arith, s, a, d))
 
   early : (any : Kind) (d : Content) → MayPuts any t d false (with_root_put v o (Some (suc t))) (to_block 1 (p + 1) ∷ [])
   early any d = ((omega arith, omega arith), tt)
@@ -174,7 +174,7 @@ module _ (versions : VersionsChangeNothing) (v : View) (o t : ℕ) (value : Valu
     table_after =
         get_or-set_same found.tables o (grown_table T (takes_in found called) 0 0) no_table (in_tables v o (content.List values) begin.low begin.mine is_list calls agree) ∙ ap (λ (z : Option ℕ). grown_table T z 0 0) takes_one
 
-  pub list_grow_possible : (start number : ℕ) × (s : Snap) × (stop : ℕ) × Possible (after_write_of v o t write start number s stop)
+  pub list_grow_possible : (start number : ℕ) × (s : Snap) × (stop : ℕ) × IsReachable (after_write_of v o t write start number s stop)
   list_grow_possible =
       facts_suffice v o t (content.List values) (content.List news) (use_of t 0) write begin is_list
       (record {

@@ -29,8 +29,8 @@ use Rattle.ft_trace.specs.Pictures.{root_in, item_offset, item_field}
 use Rattle.ft_trace.specs.ItemWords.{value_words, words_at}
 use Rattle.ft_trace.specs.Kinds.{rows, version_at}
 use Rattle.ft_trace.specs.OddVersions.{Shut}
-use Rattle.ft_trace.specs.Holds.{held, known, AgreesWith}
-use Rattle.ft_trace.specs.Traces.{Possible}
+use Rattle.ft_trace.specs.Holds.{held_words, known_state, AgreesWith}
+use Rattle.ft_trace.specs.Traces.{IsReachable}
 use Rattle.ft_trace.specs.Grants.{MayWrite}
 use Rattle.ft_trace.specs.WholeWrites.{WholeWrite, at_commit, at_end, after_write_of, MayBegin}
 use Rattle.ft_trace.specs.ItemWrites.{list_set_write, ItemsMayBePut}
@@ -60,14 +60,14 @@ get_set_other (x ∷ xs) (suc p) zero value ne = refl
 get_set_other (x ∷ xs) (suc p) (suc q) value ne = get_set_other xs p q value (λ e. ne (ap suc e))
 
 -- what a pass with the lock of a list with a table knows of it
-module _ (v : View) (o t : ℕ) (values : List Value) (may : MayWrite v o) (is_list : (known o v).content ≡ content.List values) (names : root_in (held o v) ≡ suc t) where
+module _ (v : View) (o t : ℕ) (values : List Value) (may : MayWrite v o) (is_list : (known_state o v).content ≡ content.List values) (names : root_in (held_words o v) ≡ suc t) where
   abbrev k : Shape
   k = v.shape
 
-  pub list_says : IsListWords (held o v).block (0 ∷ 0 ∷ (held o v).table) (Some (class_of t)) values × ((known o v).table.fill ≡ 0)
+  pub list_says : IsListWords (held_words o v).block (0 ∷ 0 ∷ (held_words o v).table) (Some (class_of t)) values × ((known_state o v).table.fill ≡ 0)
   list_says = known_says v o t (content.List values) may is_list names
 
-  pub list_shut : Shut (version_at kind.List (class_of t)) (rows kind.List (class_of t)) (held o v).table
+  pub list_shut : Shut (version_at kind.List (class_of t)) (rows kind.List (class_of t)) (held_words o v).table
   list_shut = known_shut v o t (content.List values) may is_list names
 
   pub slots_fit : length values ≤ slots (class_of t)
@@ -83,15 +83,15 @@ module _ (v : View) (o t : ℕ) (values : List Value) (may : MayWrite v o) (is_l
     list_is = ap list_of (content_there v o (content.List values) may.low may.mine is_list calls agree (content.List []))
 
 -- l[i] = v
-module _ (versions : VersionsChangeNothing) (one : PutsChangeOneItem) (follow : WordsFollowAPut) (v : View) (o t place : ℕ) (index : ℤ) (value : Value) (values : List Value) (may : MayWrite v o) (is_list : (known o v).content ≡ content.List values) (names : root_in (held o v) ≡ suc t) (means : index_in (length values) index ≡ Some place) (low : place < length values) (fits : FitsStored (Plain value)) where
+module _ (versions : VersionsChangeNothing) (one : PutsChangeOneItem) (follow : WordsFollowAPut) (v : View) (o t place : ℕ) (index : ℤ) (value : Value) (values : List Value) (may : MayWrite v o) (is_list : (known_state o v).content ≡ content.List values) (names : root_in (held_words o v) ≡ suc t) (means : index_in (length values) index ≡ Some place) (low : place < length values) (fits : FitsStored (Plain value)) where
   abbrev n : Shape
   n = v.shape
 
   abbrev ws : List ℕ
-  ws = (held o v).table
+  ws = (held_words o v).table
 
   abbrev b : List ℕ
-  b = (held o v).block
+  b = (held_words o v).block
 
   abbrev news : List Value
   news = slice_set values place value
@@ -120,7 +120,7 @@ module _ (versions : VersionsChangeNothing) (one : PutsChangeOneItem) (follow : 
   short : length news ≤ slots c
   short = let f = slots_fit v o t values may is_list names in let e = length-set values place value in omega (arith, f, e)
 
-  says : IsListWords b (0 ∷ 0 ∷ ws) (Some c) values × ((known o v).table.fill ≡ 0)
+  says : IsListWords b (0 ∷ 0 ∷ ws) (Some c) values × ((known_state o v).table.fill ≡ 0)
   says = list_says v o t values may is_list names
 
   shut : Shut (version_at kind.List c) (rows kind.List c) ws
@@ -146,9 +146,9 @@ module _ (versions : VersionsChangeNothing) (one : PutsChangeOneItem) (follow : 
         ap (λ (l : List Value). answer_list found no_hands o l (list.Set index value)) (list_is v o t values may is_list names calls agree)
         ∙ ap (λ (z : Option ℕ). option_map_or (λ (i : ℕ). puts found no_hands o (content.List (slice_set values i value)) reply.Done) z (shows found no_hands (reply.Raised raise.NoIndex))) means
 
-  pub set_possible : (start number : ℕ) × (s : Snap) × (stop : ℕ) × Possible (after_write_of v o t write start number s stop)
+  pub set_possible : (start number : ℕ) × (s : Snap) × (stop : ℕ) × IsReachable (after_write_of v o t write start number s stop)
   set_possible =
-      facts_suffice v o t (content.List values) (content.List news) (use_of t (known o v).table.fill) write (may_begin v o may) is_list
+      facts_suffice v o t (content.List values) (content.List news) (use_of t (known_state o v).table.fill) write (may_begin v o may) is_list
       (record {
         called = record { of = refl; wrote = refl; fits = fits; locks = one_locked o v.log may.mine; replied = λ r e. inr e; declared = λ world one. record { one = one; both = tt; room = tt } };
         root = tt;

@@ -9,8 +9,8 @@ use Rattle.ft_trace.specs.declared.Shape.{Shape}
 use Rattle.ft_trace.specs.declared.View.{View}
 use Rattle.ft_trace.specs.declared.Act.{Act}
 use Rattle.ft_trace.specs.declared.Act.TheVariants.{Lock, Unlock}
-use Rattle.ft_trace.specs.Addresses.{lock_of, containers_in}
-use Rattle.ft_trace.specs.Acts.{place, Reports, has_lock, has_lock_next, starter, noted, maker, made, both, spent, sender, note}
+use Rattle.ft_trace.specs.Addresses.{lock_of, container_count}
+use Rattle.ft_trace.specs.Acts.{place, Reports, has_lock, has_lock_next, starter, view_after, maker, made, both, spent, sender, note}
 use Rattle.ft_trace.specs.Traces.{Event, did, forked, joined, sent, run, word, history, May, Valid}
 use Rattle.ft_trace.proofs.Sizes.{set_at, set_views, one_more, one_view}
 use Rattle.atomic_table.proofs.Lists.{set_else, at_longer}
@@ -30,7 +30,7 @@ module _ (o : ℕ) (F : Act → Type 0) (lock : (f : ℕ) (s : _) → F (Lock o 
 abbrev pub Names : Shape → List Event → ℕ → ℕ → View → Type 0
 Names k es o j u = has_lock o u.log ≡ true → word k es (lock_of o) ≡ u.number
 
-pub names : (k : Shape) (es : List Event) → Valid k es → (o : ℕ) → o < containers_in k → (j : ℕ) (u : View) → get_elem? (run k es).views j ≡ some u → Names k es o j u
+pub names : (k : Shape) (es : List Event) → Valid k es → (o : ℕ) → o < container_count k → (j : ℕ) (u : View) → get_elem? (run k es).views j ≡ some u → Names k es o j u
 names k [] valid o low = one_view (Names k [] o) (starter k) (λ no. off no)
 names k (did id v a ∷ es) valid o low =
     let old = names k es valid.0 o low in
@@ -40,19 +40,19 @@ names k (did id v a ∷ es) valid o low =
     (λ f s found may. let moved = moves k es id v (Lock o f s) may in
     dite (ℕ_discrete at 0)
     (λ (free : at ≡ 0).
-    set_views (Names k (did id v (Lock o f s) ∷ es) o) _ id (noted (Lock o f s) v) (λ _. moved ∙ ap (λ (b : Bool). either b v.number at) (eq-eqb at 0 free))
+    set_views (Names k (did id v (Lock o f s) ∷ es) o) _ id (view_after (Lock o f s) v) (λ _. moved ∙ ap (λ (b : Bool). either b v.number at) (eq-eqb at 0 free))
     (λ j u apart e mine. absurd (holder_lives k es valid.0 j u e o mine (sym (old j u e mine) ∙ free))))
     (λ (taken : at ≢ 0).
-    set_views (Names k (did id v (Lock o f s) ∷ es) o) _ id (noted (Lock o f s) v)
+    set_views (Names k (did id v (Lock o f s) ∷ es) o) _ id (view_after (Lock o f s) v)
     (λ mine. let b = has_lock o v.log in off (sym (hit o (cond (eqb f 0) true b) b ∙ (miss f 0 true b (λ e. taken (sym found ∙ e)) ∙ may.1)) ∙ mine))
     (λ j u apart e mine. moved ∙ (ap (λ (b : Bool). either b v.number at) (ne_eqb at 0 taken) ∙ old j u e mine))))
     (λ found may.
-    set_views (Names k (did id v (Unlock o) ∷ es) o) _ id (noted (Unlock o) v)
+    set_views (Names k (did id v (Unlock o) ∷ es) o) _ id (view_after (Unlock o) v)
     (λ mine. off (sym (hit o false (has_lock o v.log)) ∙ mine))
     (λ j u apart e mine. absurd (apart (same_seat k es valid.0 j id u v e valid.1.0 (holder_lives k es valid.0 j u e o mine) (sym (old j u e mine) ∙ old id v valid.1.0 may.1)))))
     (λ b same apart found may.
     let stay = stays k es id v b may (lock_of o) low apart in
-    set_views (Names k (did id v b ∷ es) o) _ id (noted b v) (λ mine. stay ∙ old id v valid.1.0 (sym (same (has_lock o v.log)) ∙ mine)) (λ j u _ e mine. stay ∙ old j u e mine))
+    set_views (Names k (did id v b ∷ es) o) _ id (view_after b v) (λ mine. stay ∙ old id v valid.1.0 (sym (same (has_lock o v.log)) ∙ mine)) (λ j u _ e mine. stay ∙ old j u e mine))
     a valid.1.2 valid.1.3
 names k (forked id v ∷ es) valid o low =
     let old = names k es valid.0 o low in
@@ -78,7 +78,7 @@ other_holds views o id w v at keeps h =
     (id, w, set_at views id v w at, keeps (subst (λ (z : View). has_lock o z.log ≡ true) u h.3)))
     (λ ne. (h.0, h.1, set_else views id h.0 w ne ∙ h.2, h.3))
 
-pub holder : (k : Shape) (es : List Event) → Valid k es → (o : ℕ) → o < containers_in k → word k es (lock_of o) ≢ 0 → Holder (run k es).views o
+pub holder : (k : Shape) (es : List Event) → Valid k es → (o : ℕ) → o < container_count k → word k es (lock_of o) ≢ 0 → Holder (run k es).views o
 holder k [] valid o low some_one = absurd (some_one (lock_first k o low))
 holder k (did id v a ∷ es) valid o low here =
     let old = holder k es valid.0 o low in
@@ -89,11 +89,11 @@ holder k (did id v a ∷ es) valid o low here =
     dite (ℕ_discrete at 0)
     (λ (free : at ≡ 0).
     let b = has_lock o v.log in
-    (id, noted (Lock o f s) v, set_at (run k es).views id v (noted (Lock o f s) v) valid.1.0, hit o (cond (eqb f 0) true b) b ∙ ap (λ (z : Bool). cond z true b) (eq-eqb f 0 (found ∙ free))))
-    (λ (taken : at ≢ 0). other_holds (run k es).views o id (noted (Lock o f s) v) v valid.1.0 (λ mine. off (sym may.1 ∙ mine)) (old taken)))
+    (id, view_after (Lock o f s) v, set_at (run k es).views id v (view_after (Lock o f s) v) valid.1.0, hit o (cond (eqb f 0) true b) b ∙ ap (λ (z : Bool). cond z true b) (eq-eqb f 0 (found ∙ free))))
+    (λ (taken : at ≢ 0). other_holds (run k es).views o id (view_after (Lock o f s) v) v valid.1.0 (λ mine. off (sym may.1 ∙ mine)) (old taken)))
     (λ found may some_one. absurd (some_one (moves k es id v (Unlock o) may)))
     (λ b same apart found may some_one.
-    other_holds (run k es).views o id (noted b v) v valid.1.0 (λ mine. same (has_lock o v.log) ∙ mine) (old (λ e. some_one (stays k es id v b may (lock_of o) low apart ∙ e))))
+    other_holds (run k es).views o id (view_after b v) v valid.1.0 (λ mine. same (has_lock o v.log) ∙ mine) (old (λ e. some_one (stays k es id v b may (lock_of o) low apart ∙ e))))
     a valid.1.2 valid.1.3 here
 holder k (forked id v ∷ es) valid o low some_one =
     let h = other_holds (run k es).views o id (maker v) v valid.1.0 (λ mine. mine) (holder k es valid.0 o low some_one) in
@@ -106,6 +106,6 @@ holder k (joined id v other w ∷ es) valid o low some_one =
     other_holds (set (run k es).views id (both v w)) o other spent w (set_else (run k es).views id other (both v w) valid.1.1 ∙ valid.1.2) (λ mine. off (sym (valid.1.5.0 o) ∙ mine)) h
 
 -- one pass at most has a lock
-pub one_holder : (k : Shape) (es : List Event) → Valid k es → (o : ℕ) → o < containers_in k → (i j : ℕ) (u w : View) → get_elem? (run k es).views i ≡ some u → get_elem? (run k es).views j ≡ some w → has_lock o u.log ≡ true → has_lock o w.log ≡ true → i ≡ j
+pub one_holder : (k : Shape) (es : List Event) → Valid k es → (o : ℕ) → o < container_count k → (i j : ℕ) (u w : View) → get_elem? (run k es).views i ≡ some u → get_elem? (run k es).views j ≡ some w → has_lock o u.log ≡ true → has_lock o w.log ≡ true → i ≡ j
 one_holder k es valid o low i j u w at there mine theirs =
     same_seat k es valid i j u w at there (holder_lives k es valid i u at o mine) (sym (names k es valid o low i u at mine) ∙ names k es valid o low j w there theirs)

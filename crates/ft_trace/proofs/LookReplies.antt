@@ -32,7 +32,7 @@ use Rattle.ft_trace.specs.declared.Act.{Act}
 use Rattle.ft_trace.specs.declared.Act.TheVariants.{Commit}
 use Rattle.ft_trace.specs.declared.Shape.{Shape}
 use Rattle.ft_trace.specs.declared.View.{View}
-use Rattle.ft_trace.specs.Addresses.{containers_in, class_of}
+use Rattle.ft_trace.specs.Addresses.{container_count, class_of}
 use Rattle.ft_trace.specs.FitCalls.{FitsValue, FitsContent}
 use Rattle.ft_trace.specs.ItemWords.{value_words, words_at}
 use Rattle.ft_trace.specs.Kinds.{is_key, pair_words, element_words, under, rows, IsKeyed, IsItems}
@@ -177,7 +177,7 @@ module _ (set : SetContent) (key : Key) (fits : FitsKey key) (each : All (λ ele
 
 -- ---- in a trace, after its first writes
 
-module _ (k : Shape) (es : List Event) (valid : Valid k es) (o n : ℕ) (low : o < containers_in k) where
+module _ (k : Shape) (es : List Event) (valid : Valid k es) (o n : ℕ) (low : o < container_count k) where
   abbrev then_ : StoredWorld
   then_ = stored_at k es n
 

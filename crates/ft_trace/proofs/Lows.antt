@@ -11,10 +11,10 @@ use Rattle.ft_trace.specs.declared.View.{View}
 use Rattle.ft_trace.specs.declared.Act.{Act}
 use Rattle.ft_trace.specs.declared.Act.TheVariants.{PutRoot, PutTable, Commit, StartWrite, StopWrite}
 use Rattle.ft_trace.specs.Addresses.{counter, cell, class_of}
-use Rattle.ft_trace.specs.Acts.{is_writing, is_writing_next, has_committed, has_committed_next, noted, maker, made, both, spent, sender, note}
+use Rattle.ft_trace.specs.Acts.{is_writing, is_writing_next, has_committed, has_committed_next, view_after, maker, made, both, spent, sender, note}
 use Rattle.ft_trace.specs.ContainerStates.{kind_in}
 use Rattle.ft_trace.specs.Kinds.{rows, version_at}
-use Rattle.ft_trace.specs.Addresses.{containers_in}
+use Rattle.ft_trace.specs.Addresses.{container_count}
 use Rattle.ft_trace.proofs.ByKind.{as_version, row_low}
 use Rattle.ft_trace.specs.Traces.{Event, did, forked, joined, sent, run, writes_of, history, CarefulFor, TimelyFor, Valid}
 use Rattle.ft_trace.proofs.Sizes.{set_views, one_more}
@@ -53,7 +53,7 @@ come o (StopWrite p f) v w d =
     (λ w. off (sym (hit o false (is_writing o v.log)) ∙ w)) (λ ne w. inl (sym (miss p o false (is_writing o v.log) ne) ∙ w, d)) w
 come o act v w d = inl (w, d)
 
-pub lows : (k : Shape) (es : List Event) → Valid k es → (o : ℕ) → o < containers_in k → (t : ℕ) → root k es o ≡ suc t → Lows k es o t
+pub lows : (k : Shape) (es : List Event) → Valid k es → (o : ℕ) → o < container_count k → (t : ℕ) → root k es o ≡ suc t → Lows k es o t
 lows k [] valid o low t e = let z : root k [] o ≡ 0 = block_first k o 0 low (omega arith) in absurd (omega (arith, z, e))
 lows k (did id v a ∷ es) valid o low t e =
     let table = root_table k (did id v a ∷ es) valid o low t e in
@@ -74,7 +74,7 @@ lows k (did id v a ∷ es) valid o low t e =
     record {
       even = λ p less two. let s = at p in let h = l.even p less (ap (λ (z : ℕ). z % 2) (sym s) ∙ two) in omega (arith, s, h, c);
       odd = λ p less. let s = at p in let h = l.odd p less in omega (arith, s, h, c);
-      written = set_views (λ j u. is_writing o u.log ≡ true → has_committed o u.log ≡ true → (p : ℕ) → p < R k o t → slice_index (tab k (did id v A ∷ es) t) (V k o t p) ≤ 2 * C' A) _ id (noted A v)
+      written = set_views (λ j u. is_writing o u.log ≡ true → has_committed o u.log ≡ true → (p : ℕ) → p < R k o t → slice_index (tab k (did id v A ∷ es) t) (V k o t p) ≤ 2 * C' A) _ id (view_after A v)
           (λ _ d p less. let s = at p in let h = l.written d p less in omega (arith, s, h, c))
           (λ j u ne at w. absurd (alone j u ne at ok.1.3.1 w));
     })
@@ -119,7 +119,7 @@ lows k (did id v a ∷ es) valid o low t e =
           (λ (two : x % 2 ≡ 0). let b = old.written id v ok.1.0 writing (timely.later p less e two) p less in omega (arith, h0, h1, b, c))
           (λ one. let b = old.even p less (omega (arith, h1, one)) in omega (arith, h0, h1, b, c)))
           (λ ne. let s = else p ne in let h = old.odd p less in omega (arith, s, h, c));
-      written = set_views (λ j u. is_writing o u.log ≡ true → has_committed o u.log ≡ true → (p : ℕ) → p < R k o t → slice_index zs (V k o t p) ≤ 2 * C' A) _ id (noted A v)
+      written = set_views (λ j u. is_writing o u.log ≡ true → has_committed o u.log ≡ true → (p : ℕ) → p < R k o t → slice_index zs (V k o t p) ≤ 2 * C' A) _ id (view_after A v)
           (λ w d p less.
           let b = old.written id v ok.1.0 w d p less in
           dite (ℕ_discrete i (V k o t p))
@@ -140,7 +140,7 @@ lows k (did id v a ∷ es) valid o low t e =
     record {
       even = λ p less two. let s = at p in let h = old.even p less (ap (λ (z : ℕ). z % 2) (sym s) ∙ two) in omega (arith, s, h, c);
       odd = λ p less. let s = at p in let h = old.odd p less in omega (arith, s, h, c);
-      written = set_views (λ j u. is_writing o u.log ≡ true → has_committed o u.log ≡ true → (p : ℕ) → p < R k o t → slice_index (tab k (did id v b ∷ es) t) (V k o t p) ≤ 2 * C' b) _ id (noted b v)
+      written = set_views (λ j u. is_writing o u.log ≡ true → has_committed o u.log ≡ true → (p : ℕ) → p < R k o t → slice_index (tab k (did id v b ∷ es) t) (V k o t p) ≤ 2 * C' b) _ id (view_after b v)
           (λ w d p less.
           let s = at p in
           ⊎_elim
@@ -165,5 +165,5 @@ lows k (joined id v other w ∷ es) valid o low t e =
     record { even = old.even; odd = old.odd; written = set_views W _ other spent (λ no. off no) (λ j u _. set_views W _ id (both v w) (old.written id v valid.1.0) (λ j u _ at. old.written j u at) j u) }
 
 -- an entry's version has room for two steps
-pub entry_room : (k : Shape) (es : List Event) → Valid k es → (o : ℕ) → o < containers_in k → (t : ℕ) → root k es o ≡ suc t → (p : ℕ) → p < R k o t → slice_index (tab k es t) (V k o t p) ≤ 2 * (k.passes * k.calls) + 1
+pub entry_room : (k : Shape) (es : List Event) → Valid k es → (o : ℕ) → o < container_count k → (t : ℕ) → root k es o ≡ suc t → (p : ℕ) → p < R k o t → slice_index (tab k es t) (V k o t p) ≤ 2 * (k.passes * k.calls) + 1
 entry_room k es valid o low t names p less = let a = (lows k es valid o low t names).odd p less in let b = counter_room k es valid in omega (arith, a, b)

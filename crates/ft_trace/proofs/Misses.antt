@@ -13,7 +13,7 @@ use Rattle.ft_trace.specs.declared.Shape.{Shape}
 use Rattle.ft_trace.specs.declared.View.{View}
 use Rattle.ft_trace.specs.declared.Act.{Act}
 use Rattle.ft_trace.specs.declared.Act.TheVariants.{ReadTable, ReadCounter}
-use Rattle.ft_trace.specs.Addresses.{containers_in, IsTableName, class_of, slots}
+use Rattle.ft_trace.specs.Addresses.{container_count, IsTableName, class_of, slots}
 use Rattle.ft_trace.specs.Acts.{reads}
 use Rattle.ft_trace.specs.Ages.{whose}
 use Rattle.ft_trace.specs.ContainerStates.{container_after, first_writes, kind_in}
@@ -29,7 +29,7 @@ use Rattle.ft_trace.proofs.Sounds.{LaterIn, sound_at}
 use Rattle.ft_trace.proofs.Spots.{Under, under_trans, stamp_then, Spot, Back, go, Opened, open_window, named_by, found}
 
 -- an entry that was passed on the walk is not one that the key's walk meets
-module _ (k : Shape) (o : ℕ) (key : Key) (t j : ℕ) (low : o < containers_in k) (keyed : IsKeyed (kind_in k.starts o)) (table : IsTableName k t) (start walk : List Act) (read : reads t start ≡ true) (s : Spot k t j start walk) (whom : whose s.es t ≡ o) (slot place p : ℕ) (in_table : slot < slots (class_of t)) (low_place : place < rows (kind_in k.starts o) (class_of t)) (low_p : p < rows (kind_in k.starts o) (class_of t))
+module _ (k : Shape) (o : ℕ) (key : Key) (t j : ℕ) (low : o < container_count k) (keyed : IsKeyed (kind_in k.starts o)) (table : IsTableName k t) (start walk : List Act) (read : reads t start ≡ true) (s : Spot k t j start walk) (whom : whose s.es t ≡ o) (slot place p : ℕ) (in_table : slot < slots (class_of t)) (low_place : place < rows (kind_in k.starts o) (class_of t)) (low_p : p < rows (kind_in k.starts o) (class_of t))
     (here : index_field (tab k s.es t) slot ≡ suc p) (mine : HasLiveKey (slots (class_of t)) (tab k s.es t) p key ⊎ IsDead (slots (class_of t)) (tab k s.es t) p key) (alive : (entry_field (slots (class_of t)) (tab k s.es t) p 2 ≡ key_kind key) ⊎ (entry_field (slots (class_of t)) (tab k s.es t) p 0 % 2 ≡ 1)) where
   abbrev N : ℕ
   N = slots (class_of t)
@@ -155,7 +155,7 @@ module _ (k : Shape) (o : ℕ) (key : Key) (t j : ℕ) (low : o < containers_in 
       ⊎_elim (λ (live : entry_field N (tab k s.es t) p 2 ≡ key_kind key). absurd (omega (arith, live, kind_p, now_dead, high1, k1))) (λ (odd : entry_field N (tab k s.es t) p 0 % 2 ≡ 1). absurd (omega (arith, odd, version_p, now_even))) alive
 
 -- a slot that was passed is not one that the key's walk meets
-pub passed_by : (k : Shape) (o : ℕ) (key : Key) (t j : ℕ) (low : o < containers_in k) (keyed : IsKeyed (kind_in k.starts o)) (table : IsTableName k t) (start walk : List Act) (read : reads t start ≡ true) (s : Spot k t j start walk) (whom : whose s.es t ≡ o) (slot : ℕ) (in_table : slot < slots (class_of t)) (probe : List ℕ)
+pub passed_by : (k : Shape) (o : ℕ) (key : Key) (t j : ℕ) (low : o < container_count k) (keyed : IsKeyed (kind_in k.starts o)) (table : IsTableName k t) (start walk : List Act) (read : reads t start ≡ true) (s : Spot k t j start walk) (whom : whose s.es t ≡ o) (slot : ℕ) (in_table : slot < slots (class_of t)) (probe : List ℕ)
     (r : Reached (slots (class_of t)) (rows (kind_in k.starts o) (class_of t)) (tab k s.es t) probe key) → index_field (tab k s.es t) slot ≡ suc r.place → Passed walk t (rows (kind_in k.starts o) (class_of t)) slot key → ⊥
 passed_by k o key t j low keyed table start walk read s whom slot in_table probe r here =
     ⊎_elim
@@ -169,7 +169,7 @@ passed_by k o key t j low keyed table start walk read s whom slot in_table probe
     (λ (b : Beyond walk t (rows (kind_in k.starts o) (class_of t)) slot). beyond_table k o key t j low keyed table start walk read s whom slot r.place r.place in_table r.low r.low here r.mine r.alive b)
 
 -- from a moment at which no entry of the key is met
-absent_at : (k : Shape) (es : List Event) (valid : Valid k es) (o t : ℕ) (key : Key) (n : ℕ) (fits : FitsKey key) (low : o < containers_in k) (keyed : IsKeyed (kind_in k.starts o)) (table : IsTableName k t) (j : ℕ) (start rest : List Act) (s : Spot k t j start rest) → Under s.es es → whose s.es t ≡ o → n ≡ count k s.es
+absent_at : (k : Shape) (es : List Event) (valid : Valid k es) (o t : ℕ) (key : Key) (n : ℕ) (fits : FitsKey key) (low : o < container_count k) (keyed : IsKeyed (kind_in k.starts o)) (table : IsTableName k t) (j : ℕ) (start rest : List Act) (s : Spot k t j start rest) → Under s.es es → whose s.es t ≡ o → n ≡ count k s.es
     → (Reached (slots (class_of t)) (rows (kind_in k.starts o) (class_of t)) (tab k s.es t) (walk_of (kind_in k.starts o) k.texts (class_of t) key) key → ⊥) → (n ≤ count k es) × (under (container_after k.starts (first_writes n (history es)) o).content key ≡ [])
 absent_at k es valid o t key n fits low keyed table j start rest s below whom is never =
     let names = named_by k s.es s.valid o t table s.now whom in
@@ -178,7 +178,7 @@ absent_at k es valid o t key n fits low keyed table j start rest s below whom is
     let c = stamp_then k s.es es s.valid valid below n is in
     (c.0, ap (λ (cs : List Call). under (container_after k.starts cs o).content key) c.1 ∙ none)
 
-module _ (k : Shape) (es : List Event) (valid : Valid k es) (o t : ℕ) (key : Key) (n : ℕ) (fits : FitsKey key) (low : o < containers_in k) (keyed : IsKeyed (kind_in k.starts o)) (j : ℕ) (u : View) (at : get_elem? (run k es).views j ≡ some u) (h : Miss u.log o t (rows (kind_in k.starts o) (class_of t)) (walk_of (kind_in k.starts o) k.texts (class_of t) key) key n) where
+module _ (k : Shape) (es : List Event) (valid : Valid k es) (o t : ℕ) (key : Key) (n : ℕ) (fits : FitsKey key) (low : o < container_count k) (keyed : IsKeyed (kind_in k.starts o)) (j : ℕ) (u : View) (at : get_elem? (run k es).views j ≡ some u) (h : Miss u.log o t (rows (kind_in k.starts o) (class_of t)) (walk_of (kind_in k.starts o) k.texts (class_of t) key) key n) where
   abbrev probe : List ℕ
   probe = walk_of (kind_in k.starts o) k.texts (class_of t) key
 
@@ -228,7 +228,7 @@ module _ (k : Shape) (es : List Event) (valid : Valid k es) (o t : ℕ) (key : K
   pub miss_at : (n ≤ count k es) × (under (container_after k.starts (first_writes n (history es)) o).content key ≡ [])
   miss_at = absent_at k es valid o t key n fits low keyed open_.table j start h.rest loaded.spot (under_trans then_ top.spot.es es loaded.under (under_trans top.spot.es open_.spot.es es top.under open_.under)) whom_then loaded.tells never
 
-module _ (k : Shape) (es : List Event) (valid : Valid k es) (o t : ℕ) (key : Key) (n : ℕ) (fits : FitsKey key) (low : o < containers_in k) (keyed : IsKeyed (kind_in k.starts o)) (j : ℕ) (u : View) (at : get_elem? (run k es).views j ≡ some u) (h : Full u.log o t (rows (kind_in k.starts o) (class_of t)) (walk_of (kind_in k.starts o) k.texts (class_of t) key) key n) where
+module _ (k : Shape) (es : List Event) (valid : Valid k es) (o t : ℕ) (key : Key) (n : ℕ) (fits : FitsKey key) (low : o < container_count k) (keyed : IsKeyed (kind_in k.starts o)) (j : ℕ) (u : View) (at : get_elem? (run k es).views j ≡ some u) (h : Full u.log o t (rows (kind_in k.starts o) (class_of t)) (walk_of (kind_in k.starts o) k.texts (class_of t) key) key n) where
   abbrev begin : List Act
   begin = h.window.rest
 

@@ -10,7 +10,7 @@ use Rattle.ft_layout.specs.Tables.{is_live}
 use Rattle.ft_layout.specs.Containers.{IsRoot, block_word, used_pair, used_element, InDictTable, InSetTable, InListTable, StandsAs}
 use Rattle.ft_layout.proofs.KindLaws.{head_of}
 use Rattle.ft_trace.specs.ContainerStates.{ContainerState}
-use Rattle.ft_trace.specs.Pictures.{Picture, root_in, Stands}
+use Rattle.ft_trace.specs.Pictures.{ContainerWords, root_in, Represents}
 use Rattle.ft_trace.specs.LoggedReads.{IsNothing}
 
 no_class : (root : ℕ) (class : Option ℕ) → IsRoot root class → root ≡ 0 → class ≡ None
@@ -33,7 +33,7 @@ nothing_in texts block words table (content.List values) none s =
     ap (λ l. length l) is
 nothing_in texts block words table (content.Deque deque) none s = ap (λ (d : DequeContent). length_of (content.Deque d)) s.2
 
-pub no_table_stands : (texts : List ℕ) (x : Picture) (kept : ContainerState) → root_in x ≡ 0 → Stands texts x kept → IsNothing kept
+pub no_table_stands : (texts : List ℕ) (x : ContainerWords) (kept : ContainerState) → root_in x ≡ 0 → Represents texts x kept → IsNothing kept
 no_table_stands texts x kept zero_is s =
     let head = head_of texts x.block (0 ∷ 0 ∷ x.table) kept.table kept.content s in
     let class = no_class (block_word x.block 2) kept.table.class head.root zero_is in

@@ -1,5 +1,5 @@
 -- No word wraps.
-use Rattle.ft_trace.specs.Addresses.{containers_in}
+use Rattle.ft_trace.specs.Addresses.{container_count}
 use Rattle.std.proofs.Common.{◌≡◌, ◌≢◌, ℕ, eqb, ◌+◌, ◌*◌, ◌%◌, ◌<◌, ◌≤◌, Bool, true, false, true≢false, cond, List, [], ◌∷◌, length, refl, sym, ap, ◌∙◌, arith}
 use mathlib.Core.Option.{some}
 use mathlib.Core.Logic.{dite}
@@ -12,7 +12,7 @@ use Rattle.ft_trace.specs.declared.Shape.{Shape}
 use Rattle.ft_trace.specs.declared.View.{View}
 use Rattle.ft_trace.specs.declared.Act.{Act}
 use Rattle.ft_trace.specs.declared.Act.TheVariants.{StartWrite, Commit, StopWrite}
-use Rattle.ft_trace.specs.Acts.{has_lock, is_writing, is_writing_next, has_committed, has_committed_next, starter, noted, maker, made, both, spent, sender, note}
+use Rattle.ft_trace.specs.Acts.{has_lock, is_writing, is_writing_next, has_committed, has_committed_next, starter, view_after, maker, made, both, spent, sender, note}
 use Rattle.ft_trace.specs.Traces.{Event, did, forked, joined, sent, run, writes_of, history, Valid}
 use Rattle.ft_trace.proofs.Sizes.{set_at, set_views, one_more, one_view}
 use Rattle.ft_trace.proofs.Cases.{hit, off}
@@ -42,7 +42,7 @@ commits F commit other (StartWrite p f) = other (StartWrite p f) (λ cs. refl) (
     by false b e = refl
 commits F commit other act = other act (λ cs. refl) (λ o same b. refl)
 
-pub roomy : (k : Shape) (es : List Event) → Valid k es → (o : ℕ) → o < containers_in k → Roomy k es o
+pub roomy : (k : Shape) (es : List Event) → Valid k es → (o : ℕ) → o < container_count k → Roomy k es o
 roomy k [] valid o low =
     let v : version k [] o ≡ 0 = version_first k o low in
     record { odd = omega (arith, v); even = λ _. omega (arith, v); written = one_view (λ j u. is_writing o u.log ≡ true → has_committed o u.log ≡ true → version k [] o + 1 ≤ 2 * count k []) (starter k) (λ e. off e) }
@@ -62,13 +62,13 @@ roomy k (did id v a ∷ es) valid o low =
     let may = ok.1.3 in
     let up : V' (StartWrite o f) ≡ V + 1 = moves k es id v (StartWrite o f) may ∙ one_up V may.3 in
     let c : C' (StartWrite o f) ≡ C = counts (StartWrite o f) ok refl in
-    let odd : V' (StartWrite o f) % 2 ≡ 0 → ⊥ = λ e. true≢false (sym (hit o true (is_writing o v.log)) ∙ (versioned k (did id v (StartWrite o f) ∷ es) ok o low).idle e id (noted (StartWrite o f) v) (set_at (run k es).views id v (noted (StartWrite o f) v) ok.1.0)) in
+    let odd : V' (StartWrite o f) % 2 ≡ 0 → ⊥ = λ e. true≢false (sym (hit o true (is_writing o v.log)) ∙ (versioned k (did id v (StartWrite o f) ∷ es) ok o low).idle e id (view_after (StartWrite o f) v) (set_at (run k es).views id v (view_after (StartWrite o f) v) ok.1.0)) in
     let was : V % 2 ≡ 0 = dite (ℕ_discrete (V % 2) 0) (λ e. e) (λ ne. absurd (odd (omega (arith, ne, ap (λ (n : ℕ). n % 2) up)))) in
     let h = old.even was in
     record {
       odd = omega (arith, up, c);
       even = λ e. absurd (odd e);
-      written = set_views (W (StartWrite o f)) _ id (noted (StartWrite o f) v) (λ w d. off (sym (hit o false (has_committed o v.log)) ∙ d)) (λ j u ne e w d. absurd (others j u ne e may.1 w));
+      written = set_views (W (StartWrite o f)) _ id (view_after (StartWrite o f) v) (λ w d. off (sym (hit o false (has_committed o v.log)) ∙ d)) (λ j u ne e w d. absurd (others j u ne e may.1 w));
     })
     (λ f ok.
     let may = ok.1.3 in
@@ -78,7 +78,7 @@ roomy k (did id v a ∷ es) valid o low =
     record {
       odd = omega (arith, up, c);
       even = λ _. omega (arith, up, c);
-      written = set_views (W (StopWrite o f)) _ id (noted (StopWrite o f) v) (λ w d. off (sym (hit o false (is_writing o v.log)) ∙ w)) (λ j u ne e w d. absurd (others j u ne e (writer_has k es valid.0 o id v valid.1.0 may.1) w));
+      written = set_views (W (StopWrite o f)) _ id (view_after (StopWrite o f) v) (λ w d. off (sym (hit o false (is_writing o v.log)) ∙ w)) (λ j u ne e w d. absurd (others j u ne e (writer_has k es valid.0 o id v valid.1.0 may.1) w));
     })
     (λ b keeps stay ok.
     let G : Act → Type 0 = λ b. Valid k (did id v b ∷ es) → ((x : Bool) → is_writing_next o b x ≡ x) → V' b ≡ V → Roomy k (did id v b ∷ es) o in
@@ -93,7 +93,7 @@ roomy k (did id v a ∷ es) valid o low =
     record {
       odd = (let h = old.odd in omega (arith, v_same, c_same));
       even = λ e. let was : V % 2 ≡ 0 = ap (λ (n : ℕ). n % 2) (sym v_same) ∙ e in let h = old.even was in omega (arith, v_same, c_same);
-      written = set_views (W b) _ id (noted b v)
+      written = set_views (W b) _ id (view_after b v)
           (λ w d. let h = old.written id v valid.1.0 (sym (keeps (is_writing o v.log)) ∙ w) (sym (d_same (has_committed o v.log)) ∙ d) in omega (arith, v_same, c_same))
           (λ j u _ e w d. let h = old.written j u e w d in omega (arith, v_same, c_same));
     })
@@ -113,5 +113,5 @@ roomy k (joined id v other w ∷ es) valid o low =
     record { odd = old.odd; even = old.even; written = set_views W _ other spent (λ e. off e) (λ j u _. set_views W _ id (both v w) (old.written id v valid.1.0) (λ j u _ e. old.written j u e) j u) }
 
 -- a version has room for two steps
-pub version_room : (k : Shape) (es : List Event) → Valid k es → (o : ℕ) → o < containers_in k → version k es o ≤ 2 * (k.passes * k.calls) + 1
+pub version_room : (k : Shape) (es : List Event) → Valid k es → (o : ℕ) → o < container_count k → version k es o ≤ 2 * (k.passes * k.calls) + 1
 version_room k es valid o low = let a = (roomy k es valid o low).odd in let b = counter_room k es valid in omega arith

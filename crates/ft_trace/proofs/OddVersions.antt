@@ -8,8 +8,8 @@ use Rattle.ft_trace.specs.declared.Shape.{Shape}
 use Rattle.ft_trace.specs.declared.View.{View}
 use Rattle.ft_trace.specs.declared.Act.{Act}
 use Rattle.ft_trace.specs.declared.Act.TheVariants.{StartWrite, StopWrite, Version}
-use Rattle.ft_trace.specs.Addresses.{version_of, containers_in}
-use Rattle.ft_trace.specs.Acts.{has_lock, is_writing, is_writing_next, starter, noted, maker, made, both, spent, sender, note}
+use Rattle.ft_trace.specs.Addresses.{version_of, container_count}
+use Rattle.ft_trace.specs.Acts.{has_lock, is_writing, is_writing_next, starter, view_after, maker, made, both, spent, sender, note}
 use Rattle.ft_trace.specs.Traces.{Moment, Event, did, forked, joined, sent, run, word, history, May, Valid}
 use Rattle.ft_trace.proofs.Sizes.{set_at, set_views, one_more, one_view}
 use Rattle.atomic_table.proofs.Lists.{set_else, at_longer}
@@ -35,7 +35,7 @@ writer_has k [] valid o = one_view (Covered o) (starter k) (λ no. off no)
 writer_has k (did id v a ∷ es) valid o =
     let old = writer_has k es valid.0 o in
     let F : Act → Type 0 = λ b. May k (run k es) (history es) v b → is_writing o (b ∷ v.log) ≡ true → has_lock o (b ∷ v.log) ≡ true in
-    set_views (Covered o) _ id (noted a v)
+    set_views (Covered o) _ id (view_after a v)
     (on_lock o F
     (λ f s may mine. off (sym may.1 ∙ old id v valid.1.0 mine))
     (λ may mine. off (sym may.2 ∙ mine))
@@ -56,7 +56,7 @@ abbrev pub version : Shape → List Event → ℕ → ℕ
 version k es o = word k es (version_of o)
 
 -- what the action is to the version of o
-module _ (k : Shape) (es : List Event) (id : ℕ) (v : View) (o : ℕ) (low : o < containers_in k) (F : Act → Type 0) (start : (f : ℕ) → F (StartWrite o f)) (stop : (f : ℕ) → F (StopWrite o f))
+module _ (k : Shape) (es : List Event) (id : ℕ) (v : View) (o : ℕ) (low : o < container_count k) (F : Act → Type 0) (start : (f : ℕ) → F (StartWrite o f)) (stop : (f : ℕ) → F (StopWrite o f))
     (other : (a : Act) → ((b : Bool) → is_writing_next o a b ≡ b) → (May k (run k es) (history es) v a → version k (did id v a ∷ es) o ≡ version k es o) → F a) where
   pub on_seq : (a : Act) → F a
   on_seq (StartWrite p f) = same_or (λ (z : ℕ). F (StartWrite z f)) p o (start f) (λ ne. other (StartWrite p f) (λ b. miss p o true b ne) (λ may. stays k es id v (StartWrite p f) may (version_of o) low (λ e. ne (cc))))
@@ -80,10 +80,10 @@ pub record Versioned (k : Shape) (es : List Event) (o : ℕ) : Type 0 where
   pub busy : version k es o % 2 ≡ 1 → Writer (run k es).views o
 
 -- the writer is the only one
-one_writer : (k : Shape) (es : List Event) → Valid k es → (o : ℕ) → o < containers_in k → (j id : ℕ) (u v : View) → get_elem? (run k es).views j ≡ some u → get_elem? (run k es).views id ≡ some v → is_writing o u.log ≡ true → has_lock o v.log ≡ true → j ≡ id
+one_writer : (k : Shape) (es : List Event) → Valid k es → (o : ℕ) → o < container_count k → (j id : ℕ) (u v : View) → get_elem? (run k es).views j ≡ some u → get_elem? (run k es).views id ≡ some v → is_writing o u.log ≡ true → has_lock o v.log ≡ true → j ≡ id
 one_writer k es valid o low j id u v at there mine theirs = one_holder k es valid o low j id u v at there (writer_has k es valid o j u at mine) theirs
 
-pub versioned : (k : Shape) (es : List Event) → Valid k es → (o : ℕ) → o < containers_in k → Versioned k es o
+pub versioned : (k : Shape) (es : List Event) → Valid k es → (o : ℕ) → o < container_count k → Versioned k es o
 versioned k [] valid o low = record {
   idle = λ _. one_view (λ j u. is_writing o u.log ≡ false) (starter k) refl;
   busy = λ odd. let e : version k [] o ≡ 0 = version_first k o low in absurd (omega (arith, odd, ap (λ (n : ℕ). n % 2) e));
@@ -102,22 +102,22 @@ versioned k (did id v a ∷ es) valid o low =
     off (sym may.2 ∙ subst (λ (z : View). is_writing o z.log ≡ true) u h.3) in
     record {
       idle = λ now. absurd (even (omega (arith, now, ap (λ (z : ℕ). z % 2) up)));
-      busy = λ _. (id, noted (StartWrite o f) v, set_at (run k es).views id v (noted (StartWrite o f) v) valid.1.0, hit o true (is_writing o v.log));
+      busy = λ _. (id, view_after (StartWrite o f) v, set_at (run k es).views id v (view_after (StartWrite o f) v) valid.1.0, hit o true (is_writing o v.log));
     })
     (λ f may.
     let n = version k es o in
     let up : version k (did id v (StopWrite o f) ∷ es) o ≡ n + 1 = moves k es id v (StopWrite o f) may ∙ one_up n may.4 in
     let odd : n % 2 ≡ 0 → ⊥ = λ even. off (sym (old.idle even id v valid.1.0) ∙ may.1) in
     record {
-      idle = λ _. set_views (λ j u. is_writing o u.log ≡ false) _ id (noted (StopWrite o f) v) (hit o false (is_writing o v.log))
+      idle = λ _. set_views (λ j u. is_writing o u.log ≡ false) _ id (view_after (StopWrite o f) v) (hit o false (is_writing o v.log))
           (λ j u apart e. not_true (is_writing o u.log) (λ mine. apart (one_writer k es valid.0 o low j id u v e valid.1.0 mine (writer_has k es valid.0 o id v valid.1.0 may.1))));
       busy = λ now. absurd (odd (omega (arith, now, ap (λ (z : ℕ). z % 2) up)));
     })
     (λ b keeps same_by may.
     let same = same_by may in
     record {
-      idle = λ even. let was : version k es o % 2 ≡ 0 = ap (λ (n : ℕ). n % 2) (sym same) ∙ even in set_views (λ j u. is_writing o u.log ≡ false) _ id (noted b v) (keeps (is_writing o v.log) ∙ old.idle was id v valid.1.0) (λ j u _ e. old.idle was j u e);
-      busy = λ odd. let was : version k es o % 2 ≡ 1 = ap (λ (n : ℕ). n % 2) (sym same) ∙ odd in other_writes (run k es).views o id (noted b v) v valid.1.0 (λ mine. keeps (is_writing o v.log) ∙ mine) (old.busy was);
+      idle = λ even. let was : version k es o % 2 ≡ 0 = ap (λ (n : ℕ). n % 2) (sym same) ∙ even in set_views (λ j u. is_writing o u.log ≡ false) _ id (view_after b v) (keeps (is_writing o v.log) ∙ old.idle was id v valid.1.0) (λ j u _ e. old.idle was j u e);
+      busy = λ odd. let was : version k es o % 2 ≡ 1 = ap (λ (n : ℕ). n % 2) (sym same) ∙ odd in other_writes (run k es).views o id (view_after b v) v valid.1.0 (λ mine. keeps (is_writing o v.log) ∙ mine) (old.busy was);
     })
     a valid.1.3
 versioned k (forked id v ∷ es) valid o low =
@@ -148,11 +148,11 @@ versioned k (joined id v other w ∷ es) valid o low =
 writing_is_odd' : (n : ℕ) → n % 2 ≢ 0 → n % 2 ≡ 1
 writing_is_odd' n ne = omega arith
 
-pub writing_is_odd : (k : Shape) (es : List Event) → Valid k es → (o : ℕ) → o < containers_in k → (id : ℕ) (v : View) → get_elem? (run k es).views id ≡ some v → is_writing o v.log ≡ true → version k es o % 2 ≡ 0 → ⊥
+pub writing_is_odd : (k : Shape) (es : List Event) → Valid k es → (o : ℕ) → o < container_count k → (id : ℕ) (v : View) → get_elem? (run k es).views id ≡ some v → is_writing o v.log ≡ true → version k es o % 2 ≡ 0 → ⊥
 writing_is_odd k es valid o low id v at mine even = off (sym ((versioned k es valid o low).idle even id v at) ∙ mine)
 
 -- a version never falls
-pub rises_one : (k : Shape) (es : List Event) (e : Event) → Valid k (e ∷ es) → (o : ℕ) → o < containers_in k → version k es o ≤ version k (e ∷ es) o
+pub rises_one : (k : Shape) (es : List Event) (e : Event) → Valid k (e ∷ es) → (o : ℕ) → o < container_count k → version k es o ≤ version k (e ∷ es) o
 rises_one k es (did id v a) valid o low =
     let V = version k es o in
     let F : Act → Type 0 = λ b. May k (run k es) (history es) v b → V ≤ version k (did id v b ∷ es) o in
@@ -165,6 +165,6 @@ rises_one k es (forked id v) valid o low = le_refl (version k es o)
 rises_one k es (sent id v given) valid o low = le_refl (version k es o)
 rises_one k es (joined id v other w) valid o low = le_refl (version k es o)
 
-pub rises : (k : Shape) (newer older : List Event) → Valid k (newer ++ older) → (o : ℕ) → o < containers_in k → version k older o ≤ version k (newer ++ older) o
+pub rises : (k : Shape) (newer older : List Event) → Valid k (newer ++ older) → (o : ℕ) → o < container_count k → version k older o ≤ version k (newer ++ older) o
 rises k [] older valid o low = le_refl (version k older o)
 rises k (e ∷ newer) older valid o low = le_trans (rises k newer older valid.0 o low) (rises_one k (newer ++ older) e valid o low)

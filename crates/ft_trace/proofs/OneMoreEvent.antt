@@ -3,9 +3,9 @@ use Rattle.std.proofs.Common.{◌≡◌, ℕ, ◌^◌, ◌<◌, List, ◌∷◌,
 use Rattle.std.specs.Prelude.{slice_index, slice_set}
 use Rattle.ft_trace.specs.declared.View.{View}
 use Rattle.ft_trace.specs.declared.Act.{Act}
-use Rattle.ft_trace.specs.Acts.{word_after, Reports, noted}
+use Rattle.ft_trace.specs.Acts.{word_after, Reports, view_after}
 use Rattle.ft_trace.specs.declared.Snap.{Snap}
-use Rattle.ft_trace.specs.Traces.{Event, did, run, history, snap, Valid, Knows, Possible, ReadyAs, DoesAs, IsAwake}
+use Rattle.ft_trace.specs.Traces.{Event, did, run, history, snap, Valid, Knows, IsReachable, ReadyAs, DoesAs, IsAwake}
 use Rattle.ft_trace.proofs.Sizes.{set_at}
 
 module _ (v : View) (id i : ℕ) (f : ℕ → ℕ) (act : ℕ → Snap → Act) (live : IsAwake v) (does : DoesAs v i f act) (ready : ReadyAs v i act) (es : List Event) (knows : Knows v es id)
@@ -29,5 +29,5 @@ module _ (v : View) (id i : ℕ) (f : ℕ → ℕ) (act : ℕ → Snap → Act) 
       let s = snap (run v.shape es) (history es) in
       ap (λ (j : ℕ). slice_set words j (word_after v.number it (slice_index words j))) (does n s).0 ∙ ap (λ (x : ℕ). slice_set words i x) ((does n s).1 n)
 
-  pub one_more_possible : Possible (noted it v)
-  one_more_possible = (did id v it ∷ es, id, (one_more_valid, set_at (run v.shape es).views id v (noted it v) knows.1))
+  pub one_more_possible : IsReachable (view_after it v)
+  one_more_possible = (did id v it ∷ es, id, (one_more_valid, set_at (run v.shape es).views id v (view_after it v) knows.1))

@@ -4,14 +4,14 @@ use Rattle.ft_trace.specs.declared.Shape.{Shape}
 use Rattle.ft_trace.specs.declared.View.{View}
 use Rattle.ft_trace.specs.declared.Act.TheVariants.{Retire, Announce, ReadAnnounced, GiveTable}
 use Rattle.ft_trace.specs.Addresses.{write_number, announced_of, bits, IsTableName, free_word_of}
-use Rattle.ft_trace.specs.Acts.{stage, debt, flight, clear, goal, noted}
-use Rattle.ft_trace.specs.Traces.{Possible, IsAwake}
+use Rattle.ft_trace.specs.Acts.{stage, debt, flight, clear, goal, view_after}
+use Rattle.ft_trace.specs.Traces.{IsReachable, IsAwake}
 use Rattle.ft_trace.proofs.Cases.{hit}
 use Rattle.ft_trace.proofs.Announcing.{heard}
 use Rattle.ft_trace.proofs.Budgets.{goals_room}
 use Rattle.ft_trace.proofs.NextActions.{next_possible}
 
-module _ (v : View) (t : ℕ) (first : v.number ≡ 1) (possible : Possible v) (one : v.shape.passes ≡ 1) (token : 0 < v.tokens) (small : v.shape.passes * v.shape.calls < 2 ^ 46) (table : IsTableName v.shape t) (three : stage t v.log ≡ 3) (owed : 0 < debt v.log) (idle : flight v.log ≡ 0) where
+module _ (v : View) (t : ℕ) (first : v.number ≡ 1) (possible : IsReachable v) (one : v.shape.passes ≡ 1) (token : 0 < v.tokens) (small : v.shape.passes * v.shape.calls < 2 ^ 46) (table : IsTableName v.shape t) (three : stage t v.log ≡ 3) (owed : 0 < debt v.log) (idle : flight v.log ≡ 0) where
   abbrev k : Shape
   k = v.shape
 
@@ -19,23 +19,23 @@ module _ (v : View) (t : ℕ) (first : v.number ≡ 1) (possible : Possible v) (
   live = ((λ none. absurd (omega (arith, none, first))), token)
 
   abbrev r1 : ℕ → View
-  r1 f = noted (Retire t f) v
+  r1 f = view_after (Retire t f) v
 
   abbrev r2 : ℕ → View
-  r2 f = noted (Announce v.number 0) (r1 f)
+  r2 f = view_after (Announce v.number 0) (r1 f)
 
   abbrev r3 : ℕ → ℕ → View
-  r3 f h = noted (ReadAnnounced v.number h) (r2 f)
+  r3 f h = view_after (ReadAnnounced v.number h) (r2 f)
 
-  step1 : (f : ℕ) × Possible (r1 f)
+  step1 : (f : ℕ) × IsReachable (r1 f)
   step1 = next_possible v live possible (λ f. Retire t f) write_number (λ f. refl) (λ f. refl)
       (λ es id knows. let g = goals_room k es (omega (arith, one)) knows.0 in (table, three, omega (arith, g, one, small), owed))
 
-  step2 : (f : ℕ) → Possible (r1 f) → (n : ℕ) × Possible (r2 f)
+  step2 : (f : ℕ) → IsReachable (r1 f) → (n : ℕ) × IsReachable (r2 f)
   step2 f q = next_possible (r1 f) live q (λ _. Announce v.number 0) (announced_of v.number) (λ _. refl) (λ _. tt) (λ es id knows. (refl, omega (arith, first, one), omega arith, omega (arith, first), omega (arith, first)))
 
   -- it finds itself offline
-  step3 : (f : ℕ) → Possible (r2 f) → (h : ℕ) × (Possible (r3 f h) × (h ≡ 0))
+  step3 : (f : ℕ) → IsReachable (r2 f) → (h : ℕ) × (IsReachable (r3 f h) × (h ≡ 0))
   unfolding next_possible
   step3 f q =
       let n = next_possible (r2 f) live q (λ h. ReadAnnounced v.number h) (announced_of v.number) (λ _. refl) (λ _. refl) (λ es id knows. let z : v.number ≤ k.passes = omega (arith, first, one) in (z, omega (arith, first), omega (arith, first))) in
@@ -52,7 +52,7 @@ module _ (v : View) (t : ℕ) (first : v.number ≡ 1) (possible : Possible v) (
       by : (a c d e : Bool) → a ≡ true → c ≡ true → cond a (cond c true (cond d e true)) e ≡ true
       by a c d e x y = ap (λ (z : Bool). cond z (cond c true (cond d e true)) e) x ∙ ap (λ (z : Bool). cond z true (cond d e true)) y
 
-  pub cycle_possible : (f h : ℕ) × Possible (noted (GiveTable t) (r3 f h))
+  pub cycle_possible : (f h : ℕ) × IsReachable (view_after (GiveTable t) (r3 f h))
   cycle_possible =
       let a = step1 in
       let b = step2 a.0 a.1 in

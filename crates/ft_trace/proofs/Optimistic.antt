@@ -10,9 +10,9 @@ use Rattle.ft_trace.specs.declared.Act.TheVariants.{Version, ReadBlock, ReadRoot
 use Rattle.ft_model.specs.declared.call.Call.{Call}
 use Rattle.ft_model.specs.declared.reply.Reply.{Reply}
 use Rattle.ft_model.specs.TableUses.{StoredWorld, stored_newest}
-use Rattle.ft_trace.specs.Addresses.{containers_in}
+use Rattle.ft_trace.specs.Addresses.{container_count}
 use Rattle.ft_trace.specs.ContainerStates.{ContainerState, state_at, container_after, kind_in, first_writes, reply_in}
-use Rattle.ft_trace.specs.Pictures.{table_words, inner, Picture, root_of, root_in, picture, Stands}
+use Rattle.ft_trace.specs.Pictures.{table_words, inner, ContainerWords, root_of, root_in, picture, Represents}
 use Rattle.ft_trace.specs.LoggedReads.{Between, Among, Agrees, IsNothing, LookedAtOne, LookedAtBoth}
 use Rattle.ft_model.specs.Worlds.{kind_of}
 use Rattle.ft_trace.proofs.Known.{kind_then}
@@ -26,22 +26,22 @@ use Rattle.ft_trace.proofs.Contents.{count, Still, stands, quiet}
 use Rattle.ft_trace.proofs.EarlierMoments.{Was, was}
 use Rattle.ft_trace.proofs.Spots.{Under, under_trans, stamp_then}
 
-rises_to : (k : Shape) (older es : List Event) → Valid k es → Under older es → (o : ℕ) → o < containers_in k → version k older o ≤ version k es o
+rises_to : (k : Shape) (older es : List Event) → Valid k es → Under older es → (o : ℕ) → o < container_count k → version k older o ≤ version k es o
 rises_to k older es valid p o low = subst (λ (l : List Event). version k older o ≤ version k l o) p.is (rises k p.newer older (subst (Valid k) (sym p.is) valid) o low)
 
-quiet_to : (k : Shape) (older es : List Event) → Valid k es → Under older es → (o : ℕ) → o < containers_in k → version k older o % 2 ≡ 0 → version k es o ≡ version k older o → Still k older es o
+quiet_to : (k : Shape) (older es : List Event) → Valid k es → Under older es → (o : ℕ) → o < container_count k → version k older o % 2 ≡ 0 → version k es o ≡ version k older o → Still k older es o
 quiet_to k older es valid p o low even same =
     subst (λ (l : List Event). Still k older l o) p.is (quiet k p.newer older (subst (Valid k) (sym p.is) valid) o low even (subst (λ (l : List Event). version k l o ≡ version k older o) (sym p.is) same))
 
 -- a version is at least what a pass has found
-pub found_before : (k : Shape) (es : List Event) → Valid k es → (o : ℕ) → o < containers_in k → (j : ℕ) (u : View) → get_elem? (run k es).views j ≡ some u → (xs rest : List Act) (n : ℕ) → u.log ≡ xs ++ Version o n ∷ rest → n ≤ version k es o
+pub found_before : (k : Shape) (es : List Event) → Valid k es → (o : ℕ) → o < container_count k → (j : ℕ) (u : View) → get_elem? (run k es).views j ≡ some u → (xs rest : List Act) (n : ℕ) → u.log ≡ xs ++ Version o n ∷ rest → n ≤ version k es o
 found_before k es valid o low j u at xs rest n is =
     let w = was k es valid j u at xs (Version o n) rest is in
     let here : n ≡ version k w.older o = w.tells in
     let up = rises_to k w.older es valid (record { newer = w.newer; is = w.split }) o low in
     omega (arith, here, up)
 
-module _ (k : Shape) (es : List Event) (valid : Valid k es) (o : ℕ) (low : o < containers_in k) (j : ℕ) (u : View) (at : get_elem? (run k es).views j ≡ some u) (mid : List Act) (b : Between u.log o mid) where
+module _ (k : Shape) (es : List Event) (valid : Valid k es) (o : ℕ) (low : o < container_count k) (j : ℕ) (u : View) (at : get_elem? (run k es).views j ≡ some u) (mid : List Act) (b : Between u.log o mid) where
   abbrev top : Was k es j b.newer (Version o b.version) (mid ++ Version o b.version ∷ b.rest)
   top = was k es valid j u at b.newer (Version o b.version) (mid ++ Version o b.version ∷ b.rest) b.is
 
@@ -80,7 +80,7 @@ module _ (k : Shape) (es : List Event) (valid : Valid k es) (o : ℕ) (low : o <
   kind_at s m = ap (λ (z : ContainerState). kind_of z.content) (at_stamp s m).1 ∙ kind_then k now top.valid o
 
   -- the words of the container between them
-  abbrev pub shown : Picture
+  abbrev pub shown : ContainerWords
   shown = picture k o (run k now).words
 
   root_is : (ws : List ℕ) → root_in (picture k o ws) ≡ root_of k o ws
@@ -98,26 +98,26 @@ module _ (k : Shape) (es : List Event) (valid : Valid k es) (o : ℕ) (low : o <
     root = λ f m. root_read (ReadRoot o f) f m (in_now (ReadRoot o f) m).tells;
     block = λ i f small m.
         let w = in_now (ReadBlock o i f) m in
-        w.tells ∙ (sym (block_at k o (run k w.older).words i small) ∙ ap (λ (x : Picture). slice_index x.block i) (sym (still_now (ReadBlock o i f) m).picture));
+        w.tells ∙ (sym (block_at k o (run k w.older).words i small) ∙ ap (λ (x : ContainerWords). slice_index x.block i) (sym (still_now (ReadBlock o i f) m).picture));
     table = λ t i f table small names m.
         let w = in_now (ReadTable t i f) m in
         let s = still_now (ReadTable t i f) m in
         let then_ : root k w.older o ≡ suc t = sym (root_is (run k w.older).words) ∙ (ap root_in (sym s.picture) ∙ names) in
-        w.tells ∙ (sym (table_at k t (run k w.older).words i small) ∙ (sym (by_inner (root k w.older o) (run k w.older).words t i then_) ∙ ap (λ (x : Picture). slice_index x.table i) (sym s.picture)));
+        w.tells ∙ (sym (table_at k t (run k w.older).words i small) ∙ (sym (by_inner (root k w.older o) (run k w.older).words t i then_) ∙ ap (λ (x : ContainerWords). slice_index x.table i) (sym s.picture)));
   }
 
   -- the optimistic read: what follows from the answers, on whatever words and whatever else is stored, holds of what was stored at the load of the counter
-  pub looked : (P : StoredWorld → Type 0) → ((x : Picture) (t : StoredWorld) → kind_of (state_at t o).content ≡ kind_in k.starts o → Stands k.texts x (state_at t o) → Agrees k o mid x → P t) → (s : ℕ) → Among (ReadCounter s) mid → (s ≤ count k es) × P (stored_newest k.starts (first_writes s (history es)))
+  pub looked : (P : StoredWorld → Type 0) → ((x : ContainerWords) (t : StoredWorld) → kind_of (state_at t o).content ≡ kind_in k.starts o → Represents k.texts x (state_at t o) → Agrees k o mid x → P t) → (s : ℕ) → Among (ReadCounter s) mid → (s ≤ count k es) × P (stored_newest k.starts (first_writes s (history es)))
   looked P gives s st =
       let a = at_stamp s st in
-      (a.0, gives shown (stored_newest k.starts (first_writes s (history es))) (kind_at s st) (subst (Stands k.texts shown) (sym a.1) (stands k now top.valid o low even_now)) agrees)
+      (a.0, gives shown (stored_newest k.starts (first_writes s (history es))) (kind_at s st) (subst (Represents k.texts shown) (sym a.1) (stands k now top.valid o low even_now)) agrees)
 
 -- a call may be answered that was looked up so
-pub looked_at : (k : Shape) (es : List Event) (valid : Valid k es) (call : Call) (o : ℕ) → o < containers_in k → (j : ℕ) (u : View) → get_elem? (run k es).views j ≡ some u → (r : Reply) (n : ℕ) → LookedAtOne k call o r n u.log → (n ≤ count k es) × (reply_in (stored_newest k.starts (first_writes n (history es))) call ≡ r)
+pub looked_at : (k : Shape) (es : List Event) (valid : Valid k es) (call : Call) (o : ℕ) → o < container_count k → (j : ℕ) (u : View) → get_elem? (run k es).views j ≡ some u → (r : Reply) (n : ℕ) → LookedAtOne k call o r n u.log → (n ≤ count k es) × (reply_in (stored_newest k.starts (first_writes n (history es))) call ≡ r)
 looked_at k es valid call o low j u at r n h = looked k es valid o low j u at h.mid h.between (λ t. reply_in t call ≡ r) h.answers n h.stamp
 
 -- and one that was looked up in two containers
-pub looked_at_both : (k : Shape) (es : List Event) (valid : Valid k es) (call : Call) (o p : ℕ) → o < containers_in k → p < containers_in k → (j : ℕ) (u : View) → get_elem? (run k es).views j ≡ some u → (r : Reply) (n : ℕ) → LookedAtBoth k call o p r n u.log
+pub looked_at_both : (k : Shape) (es : List Event) (valid : Valid k es) (call : Call) (o p : ℕ) → o < container_count k → p < container_count k → (j : ℕ) (u : View) → get_elem? (run k es).views j ≡ some u → (r : Reply) (n : ℕ) → LookedAtBoth k call o p r n u.log
     → (n ≤ count k es) × (reply_in (stored_newest k.starts (first_writes n (history es))) call ≡ r)
 looked_at_both k es valid call o p low low_too j u at r n h =
     let stored = stored_newest k.starts (first_writes n (history es)) in
@@ -129,14 +129,14 @@ looked_at_both k es valid call o p low low_too j u at r n h =
       h.answers (shown k es valid o low j u at h.one h.between.0) (shown k es valid p low_too j u at h.other h.between.1) stored
           (kind_at k es valid o low j u at h.one h.between.0 n h.stamp.0)
           (kind_at k es valid p low_too j u at h.other h.between.1 n h.stamp.1)
-          (subst (Stands k.texts (shown k es valid o low j u at h.one h.between.0)) (sym a.1) s)
-          (subst (Stands k.texts (shown k es valid p low_too j u at h.other h.between.1)) (sym b.1) t)
+          (subst (Represents k.texts (shown k es valid o low j u at h.one h.between.0)) (sym a.1) s)
+          (subst (Represents k.texts (shown k es valid p low_too j u at h.other h.between.1)) (sym b.1) t)
           (agrees k es valid o low j u at h.one h.between.0)
           (agrees k es valid p low_too j u at h.other h.between.1),
     )
 
 -- a root that is 0: there is no table at the counter that was loaded
-pub bare_at : (k : Shape) (es : List Event) (valid : Valid k es) (o n : ℕ) → o < containers_in k → (j : ℕ) (u : View) → get_elem? (run k es).views j ≡ some u → Bare u.log o n → (n ≤ count k es) × IsNothing (container_after k.starts (first_writes n (history es)) o)
+pub bare_at : (k : Shape) (es : List Event) (valid : Valid k es) (o n : ℕ) → o < container_count k → (j : ℕ) (u : View) → get_elem? (run k es).views j ≡ some u → Bare u.log o n → (n ≤ count k es) × IsNothing (container_after k.starts (first_writes n (history es)) o)
 bare_at k es valid o n low j u at h =
     looked k es valid o low j u at h.mid h.between (λ t. IsNothing (state_at t o))
     (λ x t is s a. no_table_stands k.texts x (state_at t o) (sym (a.root 0 h.root)) s)

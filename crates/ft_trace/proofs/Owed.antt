@@ -10,7 +10,7 @@ use Rattle.ft_trace.specs.declared.View.{View}
 use Rattle.ft_trace.specs.declared.Act.{Act}
 use Rattle.ft_trace.specs.declared.Act.TheVariants.{LowerCount, RaiseCount, ReadCount, Commit}
 use Rattle.ft_trace.specs.Addresses.{tables_in, count_of_class}
-use Rattle.ft_trace.specs.Acts.{owes, owes_next, noted, maker, made, both, spent, sender, note}
+use Rattle.ft_trace.specs.Acts.{owes, owes_next, view_after, maker, made, both, spent, sender, note}
 use Rattle.ft_trace.specs.Entries.{total}
 use Rattle.ft_trace.specs.Counts.{owing, took}
 use Rattle.ft_trace.specs.Traces.{Event, did, forked, joined, sent, run, word, history, May, Valid}
@@ -110,7 +110,7 @@ pub owed : (k : Shape) (es : List Event) → Valid k es → (c : ℕ) → IsClas
 owed k [] valid c low = let b : word k [] (count_of_class c) ≡ tables_in k c = count_first k c low in omega (arith, b)
 owed k (did id v a ∷ es) valid c low =
     let old = owed k es valid.0 c low in
-    let t = total_set (owing c) (run k es).views id v (noted a v) valid.1.0 in
+    let t = total_set (owing c) (run k es).views id v (view_after a v) valid.1.0 in
     let s = step k es id v c low a valid in
     omega (arith, old, t, s)
 owed k (forked id v ∷ es) valid c low =

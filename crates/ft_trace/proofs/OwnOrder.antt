@@ -20,7 +20,7 @@ use Rattle.ft_trace.specs.declared.Act.TheVariants.{Unlock, Commit, Answer, Answ
 use Rattle.ft_trace.specs.declared.Entry.{Entry}
 use Rattle.ft_trace.specs.declared.Shape.{Shape}
 use Rattle.ft_trace.specs.declared.View.{View}
-use Rattle.ft_trace.specs.Acts.{place, Reports, starter, noted, maker, made, both, spent, sender, note, all_lists, lists_of}
+use Rattle.ft_trace.specs.Acts.{place, Reports, starter, view_after, maker, made, both, spent, sender, note, all_lists, lists_of}
 use Rattle.ft_trace.specs.Causes.{HasCause, least_stamp}
 use Rattle.ft_trace.specs.Entries.{IsNumber, AllRight}
 use Rattle.ft_trace.specs.OwnOrder.{number_after, after_begins, begins_in, FollowsOwn, AreInOwnOrder, IsWriteIn, OwnEntriesAreInOrder, OwnOrderStays}
@@ -41,7 +41,7 @@ use Rattle.ft_trace.proofs.RisingStamps.{least_low, loaded_up}
 abbrev Made : ℕ → View → Type 0
 Made j u = All (λ e. number_after e ≤ least_stamp u.log) u.entries
 
-made_by : (k : Shape) (es : List Event) → Valid k es → (id : ℕ) (v : View) → get_elem? (run k es).views id ≡ some v → (b : Act) → Reports b (word k es (place b)) → May k (run k es) (history es) v b → Made id v → Made id (noted b v)
+made_by : (k : Shape) (es : List Event) → Valid k es → (id : ℕ) (v : View) → get_elem? (run k es).views id ≡ some v → (b : Act) → Reports b (word k es (place b)) → May k (run k es) (history es) v b → Made id v → Made id (view_after b v)
 made_by k es valid id v at (Commit c r f s) found may old =
     let low = least_low k es valid id v at in
     let is : f ≡ length (history es) = found ∙ counted k es valid in
@@ -62,7 +62,7 @@ made_all : (k : Shape) (es : List Event) → Valid k es → (j : ℕ) (u : View)
 made_all k [] valid = one_view Made (starter k) (All-nil (λ e. number_after e ≤ 0))
 made_all k (did id v a ∷ es) valid =
     let old = made_all k es valid.0 in
-    set_views Made _ id (noted a v) (made_by k es valid.0 id v valid.1.0 a valid.1.2 valid.1.3 (old id v valid.1.0)) (λ j u _ e. old j u e)
+    set_views Made _ id (view_after a v) (made_by k es valid.0 id v valid.1.0 a valid.1.2 valid.1.3 (old id v valid.1.0)) (λ j u _ e. old j u e)
 made_all k (forked id v ∷ es) valid =
     let old = made_all k es valid.0 in
     one_more Made _ (made v) (All-nil (λ e. number_after e ≤ 0)) (set_views Made _ id (maker v) (old id v valid.1.0) (λ j u _ e. old j u e))
@@ -133,7 +133,7 @@ alike_cursor call.Dump n moved e begins = refl
 abbrev AlikeIn : ℕ → View → Type 0
 AlikeIn j u = Alike (begins_in u.entries) (begun u.log)
 
-alike_by : (k : Shape) (es : List Event) (id : ℕ) (v : View) (b : Act) → May k (run k es) (history es) v b → AlikeIn id v → AlikeIn id (noted b v)
+alike_by : (k : Shape) (es : List Event) (id : ℕ) (v : View) (b : Act) → May k (run k es) (history es) v b → AlikeIn id v → AlikeIn id (view_after b v)
 alike_by k es id v (Commit c r f s) may old = subst (λ (l : List Entry). Alike l (begun v.log)) (sym (alike_write c (record { call = c; reply = r; stamp = f; wrote = true }) r may.0 (begins_in v.entries))) old
 alike_by k es id v (Answer c r n) may old = alike_call c r n v.log (begins_in v.entries) (begun v.log) old
 alike_by k es id v (AnswerCursor c r n number had left) may old = subst (λ (l : List Entry). Alike l (begun v.log)) (sym (alike_cursor c number may.0 (record { call = c; reply = r; stamp = n; wrote = false }) (begins_in v.entries))) old
@@ -144,7 +144,7 @@ alike : (k : Shape) (es : List Event) → Valid k es → (j : ℕ) (u : View) �
 alike k [] valid = one_view AlikeIn (starter k) tt
 alike k (did id v a ∷ es) valid =
     let old = alike k es valid.0 in
-    set_views AlikeIn _ id (noted a v) (alike_by k es id v a valid.1.3 (old id v valid.1.0)) (λ j u _ e. old j u e)
+    set_views AlikeIn _ id (view_after a v) (alike_by k es id v a valid.1.3 (old id v valid.1.0)) (λ j u _ e. old j u e)
 alike k (forked id v ∷ es) valid =
     let old = alike k es valid.0 in
     one_more AlikeIn _ (made v) tt (set_views AlikeIn _ id (maker v) (old id v valid.1.0) (λ j u _ e. old j u e))
@@ -201,7 +201,7 @@ own_order_stays calls more entries low own =
 kept_cause : (stored : StoredWorld) (log : List Act) (c : Call) (r : Reply) (n : ℕ) → r ≡ reply.Kept → HasCause stored log c r n → IsInnermostHeld (begun log)
 kept_cause stored log c r n is cause = (subst (λ (z : Reply). HasCause stored log c z n) is cause).1
 
-own_next : (k : Shape) (es : List Event) → Valid k es → (id : ℕ) (v : View) → get_elem? (run k es).views id ≡ some v → (b : Act) → Reports b (word k es (place b)) → May k (run k es) (history es) v b → AreInOwnOrder (IsNumber (writes_of b (history es))) v.entries → AreInOwnOrder (IsNumber (writes_of b (history es))) (noted b v).entries
+own_next : (k : Shape) (es : List Event) → Valid k es → (id : ℕ) (v : View) → get_elem? (run k es).views id ≡ some v → (b : Act) → Reports b (word k es (place b)) → May k (run k es) (history es) v b → AreInOwnOrder (IsNumber (writes_of b (history es))) v.entries → AreInOwnOrder (IsNumber (writes_of b (history es))) (view_after b v).entries
 own_next k es valid id v at (Commit c r f s) found may old =
     let low = least_low k es valid id v at in
     let before = made_all k es valid id v at in (
@@ -261,8 +261,8 @@ in_order k (did id v a ∷ es) valid =
     let right = all_right k es valid.0 in
     let P : List Entry → Type 0 = AreInOwnOrder (IsNumber (writes_of a (history es))) in
     let mine = right_lists k a (history es) (all_lists v) (right id v valid.1.0) (old id v valid.1.0) in
-    set_views (InOrder k (did id v a ∷ es)) _ id (noted a v)
-    (All-cons P (noted a v).entries v.lists (own_next k es valid.0 id v valid.1.0 a valid.1.2 valid.1.3 (All-head P v.entries v.lists mine)) (All-tail P v.entries v.lists mine))
+    set_views (InOrder k (did id v a ∷ es)) _ id (view_after a v)
+    (All-cons P (view_after a v).entries v.lists (own_next k es valid.0 id v valid.1.0 a valid.1.2 valid.1.3 (All-head P v.entries v.lists mine)) (All-tail P v.entries v.lists mine))
     (λ j u _ e. right_lists k a (history es) (all_lists u) (right j u e) (old j u e))
 in_order k (forked id v ∷ es) valid =
     let old = in_order k es valid.0 in

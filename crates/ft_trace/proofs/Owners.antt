@@ -11,8 +11,8 @@ use Rattle.ft_trace.specs.declared.Snap.{Snap}
 use Rattle.ft_trace.specs.declared.View.{View}
 use Rattle.ft_trace.specs.declared.Act.{Act}
 use Rattle.ft_trace.specs.declared.Act.TheVariants.{Lock, Unlock, TakeFloor}
-use Rattle.ft_trace.specs.Addresses.{at, lock_of, containers_in}
-use Rattle.ft_trace.specs.Acts.{place, Reports, floor_words, has_lock, starter, noted, maker, made, both, spent, sender, note, has_floor_next}
+use Rattle.ft_trace.specs.Addresses.{at, lock_of, container_count}
+use Rattle.ft_trace.specs.Acts.{place, Reports, floor_words, has_lock, starter, view_after, maker, made, both, spent, sender, note, has_floor_next}
 use Rattle.ft_trace.specs.Floors.{at_floor, lock_of_another, OwnersStay, KnownOwnersStay}
 use Rattle.ft_trace.specs.Traces.{Event, did, forked, joined, sent, run, word, history, May, Valid}
 use Rattle.ft_trace.proofs.Sizes.{set_views, one_more, one_view}
@@ -35,7 +35,7 @@ Since k es o j u =
     u.has_floor ≡ true
     → lock_of_another u.number (word k es (lock_of o)) ≡ lock_of_another u.number (slice_index (at_floor u.log) (at k (lock_of o)))
 
-module _ (k : Shape) (es : List Event) (id : ℕ) (v : View) (o : ℕ) (low : o < containers_in k) where
+module _ (k : Shape) (es : List Event) (id : ℕ) (v : View) (o : ℕ) (low : o < container_count k) where
   abbrev by_another : ℕ → ℕ
   by_another n = lock_of_another v.number n
 
@@ -66,12 +66,12 @@ module _ (k : Shape) (es : List Event) (id : ℕ) (v : View) (o : ℕ) (low : o 
       ap by_another (stays k es id v (TakeFloor f s) may (lock_of o) low apart ∙ ap (λ (z : Snap). slice_index z.words (at k (lock_of o))) (sym may.1))
   other_step act apart found may old has = ap by_another (stays k es id v act may (lock_of o) low apart) ∙ old has
 
-since : (k : Shape) (es : List Event) → Valid k es → (o : ℕ) → o < containers_in k → (j : ℕ) (u : View) → get_elem? (run k es).views j ≡ some u → Since k es o j u
+since : (k : Shape) (es : List Event) → Valid k es → (o : ℕ) → o < container_count k → (j : ℕ) (u : View) → get_elem? (run k es).views j ≡ some u → Since k es o j u
 since k [] valid o low = one_view (Since k [] o) (starter k) (λ no. off no)
 since k (did id v a ∷ es) valid o low =
     let old = since k es valid.0 o low in
     let token = valid.1.4 in
-    set_views (Since k (did id v a ∷ es) o) _ id (noted a v)
+    set_views (Since k (did id v a ∷ es) o) _ id (view_after a v)
     (on_lock o (Step k es id v o low) (lock_step k es id v o low)
     (λ found may. unlock_step k es id v o low (names k es valid.0 o low id v valid.1.0 may.1) found may)
     (λ b _ apart. other_step k es id v o low b apart)
@@ -91,7 +91,7 @@ since k (joined id v other w ∷ es) valid o low =
     set_views P _ other spent (λ no. off no) (λ j u _. set_views P _ id (both v w) (old id v valid.1.0) (λ j u _ e. old j u e) j u)
 
 -- a lock that the pass hasn't is that of another, or free
-others_lock : (k : Shape) (es : List Event) → Valid k es → (o : ℕ) → o < containers_in k → (j : ℕ) (u : View) → get_elem? (run k es).views j ≡ some u → has_lock o u.log ≡ false → lock_of_another u.number (word k es (lock_of o)) ≡ word k es (lock_of o)
+others_lock : (k : Shape) (es : List Event) → Valid k es → (o : ℕ) → o < container_count k → (j : ℕ) (u : View) → get_elem? (run k es).views j ≡ some u → has_lock o u.log ≡ false → lock_of_another u.number (word k es (lock_of o)) ≡ word k es (lock_of o)
 others_lock k es valid o low j u seat free =
     let n = word k es (lock_of o) in
     dite (ℕ_discrete n 0)

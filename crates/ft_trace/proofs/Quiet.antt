@@ -7,7 +7,7 @@ use native.Mathlib.Decide.{ℕ_discrete}
 use lib.ListN.{get_elem?}
 use Rattle.ft_trace.specs.declared.View.{View}
 use Rattle.ft_trace.specs.Addresses.{version_of, at}
-use Rattle.ft_trace.specs.Acts.{is_writing, floor_words, is_handed, hands_over, stage, starter, noted, maker, made, both, spent, sender, note}
+use Rattle.ft_trace.specs.Acts.{is_writing, floor_words, is_handed, hands_over, stage, starter, view_after, maker, made, both, spent, sender, note}
 use Rattle.ft_trace.specs.Floors.{RestingPassesAreQuiet, FloorVersionsAreEven, KnownVersionsAreEven}
 use Rattle.ft_trace.specs.Traces.{did, forked, joined, sent, run, IsQuiet}
 use Rattle.ft_trace.proofs.Sizes.{set_views, one_more, one_view}
@@ -30,7 +30,7 @@ pub resting_quiet : RestingPassesAreQuiet
 resting_quiet k [] valid = one_view Rested (starter k) (λ _. ((λ o. refl), (λ t e. omega (arith, e)), refl))
 resting_quiet k (did id v a ∷ es) valid =
     let token = valid.1.4 in
-    set_views Rested _ id (noted a v) (λ none. absurd (omega (arith, none, token))) (λ j u _ e. resting_quiet k es valid.0 j u e)
+    set_views Rested _ id (view_after a v) (λ none. absurd (omega (arith, none, token))) (λ j u _ e. resting_quiet k es valid.0 j u e)
 resting_quiet k (forked id v ∷ es) valid =
     let some_left = valid.1.6 in
     one_more Rested _ (made v) (λ none. absurd (omega (arith, none)))

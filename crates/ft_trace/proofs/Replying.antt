@@ -11,7 +11,7 @@ use Rattle.std.specs.Prelude.{Bool, true, ◌&&◌}
 use Rattle.ft_trace.specs.declared.Act.{Act}
 use Rattle.ft_trace.specs.declared.Act.TheVariants.{Answer, AnswerCursor, ReadCounter}
 use Rattle.ft_trace.specs.Addresses.{counter}
-use Rattle.ft_trace.specs.Acts.{noted}
+use Rattle.ft_trace.specs.Acts.{view_after}
 use Rattle.ft_trace.specs.ContainerStates.{first_writes, reply_in}
 use Rattle.ft_trace.specs.Causes.{Loaded, HasCause}
 use Rattle.ft_trace.specs.Hands.{cursor_in, MovesCursor}
@@ -31,7 +31,7 @@ replies_may_be_given v call said live p some_call not_write no_cursor right =
     let id = p.1 in
     let n = word k es counter in
     let a : Act = ReadCounter n in
-    let u = noted a v in
+    let u = view_after a v in
     let now : List Event = did id v a ∷ es in
     let at = set_at (run k es).views id v u p.2.1 in
     let same : word k now counter ≡ n = loaded k es id v a (λ m. refl) counter in
@@ -42,7 +42,7 @@ replies_may_be_given v call said live p some_call not_write no_cursor right =
     let cause : HasCause (stored_newest k.starts (first_writes n (history es))) u.log call said n = subst (λ (z : List Call). HasCause (stored_newest k.starts z) u.log call said n) (sym all) r.1 in
     let own : Loaded n u.log = record { newer = []; rest = v.log; is = refl; own = tt } in
     let may : May k (run k now) (history now) u (Answer call said n) = (not_write, omega (arith, same), replied, own, cause, some_call, no_cursor) in
-    (n, (did id u (Answer call said n) ∷ now, id, (((p.2.0, (p.2.1, live.0, refl, tt, live.1)), (at, live.0, tt, may, live.1)), set_at (run k now).views id u (noted (Answer call said n) u) at)))
+    (n, (did id u (Answer call said n) ∷ now, id, (((p.2.0, (p.2.1, live.0, refl, tt, live.1)), (at, live.0, tt, may, live.1)), set_at (run k now).views id u (view_after (Answer call said n) u) at)))
 
 pub cursors_may_be_moved : CursorsMayBeMoved
 cursors_may_be_moved v call said number left live p some_call moved right =
@@ -51,7 +51,7 @@ cursors_may_be_moved v call said number left live p some_call moved right =
     let id = p.1 in
     let n = word k es counter in
     let a : Act = ReadCounter n in
-    let u = noted a v in
+    let u = view_after a v in
     let now : List Event = did id v a ∷ es in
     let at = set_at (run k es).views id v u p.2.1 in
     let same : word k now counter ≡ n = loaded k es id v a (λ m. refl) counter in
@@ -62,7 +62,7 @@ cursors_may_be_moved v call said number left live p some_call moved right =
     let own : Loaded n u.log = record { newer = []; rest = v.log; is = refl; own = tt } in
     let b : Act = AnswerCursor call said n number had left in
     let may : May k (run k now) (history now) u b = (moved, omega (arith, same), is, own, refl, some_call) in
-    (n, (did id u b ∷ now, id, (((p.2.0, (p.2.1, live.0, refl, tt, live.1)), (at, live.0, tt, may, live.1)), set_at (run k now).views id u (noted b u) at)))
+    (n, (did id u b ∷ now, id, (((p.2.0, (p.2.1, live.0, refl, tt, live.1)), (at, live.0, tt, may, live.1)), set_at (run k now).views id u (view_after b u) at)))
 
 pub never_writes : (b : Bool) → (b && false) ≡ false
 never_writes true = refl

@@ -5,7 +5,7 @@ use lib.ListN.{get_elem?}
 use Rattle.ft_trace.specs.declared.Shape.{Shape}
 use Rattle.ft_trace.specs.declared.View.{View}
 use Rattle.ft_trace.specs.declared.Act.{Act}
-use Rattle.ft_trace.specs.Addresses.{IsTableName, containers_in}
+use Rattle.ft_trace.specs.Addresses.{IsTableName, container_count}
 use Rattle.ft_trace.specs.Acts.{reads}
 use Rattle.ft_trace.specs.Ages.{age, seen}
 use Rattle.ft_trace.specs.Traces.{Event, did, forked, joined, sent, run, history, May, Valid}
@@ -29,7 +29,7 @@ rests k es (sent id v given) valid t table not_one not_two = refl
 rests k es (joined id v other w) valid t table not_one not_two = refl
 
 -- what a pass has found in a root since it last announced is current, taken out of a root or retired, and if it is in a root, it has been there since
-pub announced : (k : Shape) (es : List Event) → Valid k es → (t : ℕ) → IsTableName k t → (j : ℕ) (u : View) → get_elem? (run k es).views j ≡ some u → reads t u.log ≡ true → (o : ℕ) → o < containers_in k → root k es o ≡ suc t → seen es j t ≡ age es t
+pub announced : (k : Shape) (es : List Event) → Valid k es → (t : ℕ) → IsTableName k t → (j : ℕ) (u : View) → get_elem? (run k es).views j ≡ some u → reads t u.log ≡ true → (o : ℕ) → o < container_count k → root k es o ≡ suc t → seen es j t ≡ age es t
 announced k es valid t table j u at r o low names =
     let w = within k es valid t table j u at r in
     let two = ((placed k es valid t table).roots o low names).0 in
@@ -39,5 +39,5 @@ announced k es valid t table j u at r o low names =
     omega (arith, two, a, b, c)
 
 -- two roots do not name one table
-pub one_root : (k : Shape) (es : List Event) → Valid k es → (t : ℕ) → IsTableName k t → (o q : ℕ) → o < containers_in k → q < containers_in k → root k es o ≡ suc t → root k es q ≡ suc t → o ≡ q
+pub one_root : (k : Shape) (es : List Event) → Valid k es → (t : ℕ) → IsTableName k t → (o q : ℕ) → o < container_count k → q < container_count k → root k es o ≡ suc t → root k es q ≡ suc t → o ≡ q
 one_root k es valid t table o q low less a b = let p = placed k es valid t table in sym (p.roots o low a).1 ∙ (p.roots q less b).1

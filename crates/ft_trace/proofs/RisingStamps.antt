@@ -14,7 +14,7 @@ use Rattle.ft_trace.specs.declared.View.{View}
 use Rattle.ft_trace.specs.declared.Act.{Act}
 use Rattle.ft_trace.specs.declared.Act.TheVariants.{Commit, Answer, AnswerCursor, ReadCounter, ReadCount}
 use Rattle.ft_trace.specs.Addresses.{tables_in}
-use Rattle.ft_trace.specs.Acts.{noted, starter, maker, made, both, spent, sender, note}
+use Rattle.ft_trace.specs.Acts.{view_after, starter, maker, made, both, spent, sender, note}
 use Rattle.ft_trace.specs.ContainerStates.{first_writes}
 use Rattle.ft_trace.specs.Causes.{AreOfOneCall, Loaded, FoundEmpty, least_stamp}
 use Rattle.ft_trace.specs.Traces.{Event, did, forked, joined, sent, run, history, Valid}
@@ -47,7 +47,7 @@ least_low k [] valid = one_view (λ j u. least_stamp u.log ≤ 0) (starter k) (o
 least_low k (did id v a ∷ es) valid =
     let old = least_low k es valid.0 in
     let P : ℕ → View → Type 0 = λ j u. least_stamp u.log ≤ count k (did id v a ∷ es) in
-    set_views P _ id (noted a v) (least_by k es id v a valid (old id v valid.1.0)) (λ j u _ e. le_trans (old j u e) (one_rises k (did id v a) es valid))
+    set_views P _ id (view_after a v) (least_by k es id v a valid (old id v valid.1.0)) (λ j u _ e. le_trans (old j u e) (one_rises k (did id v a) es valid))
 least_low k (forked id v ∷ es) valid =
     let old = least_low k es valid.0 in
     let P : ℕ → View → Type 0 = λ j u. least_stamp u.log ≤ count k es in

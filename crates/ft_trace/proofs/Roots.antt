@@ -7,8 +7,8 @@ use Rattle.ft_trace.specs.Owners.{had_locks, found_owners}
 use Rattle.ft_trace.specs.declared.Act.TheVariants.{StartWrite, StopWrite, PutRoot, PutBlock, ReadBlock, ReadRoot, Commit, TookOver}
 use Rattle.ft_trace.specs.declared.Shape.{Shape}
 use Rattle.ft_trace.specs.declared.View.{View}
-use Rattle.ft_trace.specs.Acts.{is_writing, is_writing_next, has_emptied, has_emptied_next, noted, starter, maker, made, note, sender, both, spent, hands_over}
-use Rattle.ft_trace.specs.Addresses.{block, containers_in}
+use Rattle.ft_trace.specs.Acts.{is_writing, is_writing_next, has_emptied, has_emptied_next, view_after, starter, maker, made, note, sender, both, spent, hands_over}
+use Rattle.ft_trace.specs.Addresses.{block, container_count}
 use Rattle.ft_trace.specs.Roots.{OfOneWrite, BeganBare, ZeroRootsHaveCauses, RetiredTablesAreApart}
 use Rattle.ft_trace.specs.Traces.{Event, did, forked, sent, joined, run, history, May, Valid}
 use Rattle.ft_trace.proofs.Cases.{hit, miss, off, same_or}
@@ -28,7 +28,7 @@ pub record Beside (k : Shape) (es : List Event) (id : ℕ) (v : View) (o : ℕ) 
   pub one : (l : List Act) → OfOneWrite o l → OfOneWrite o (a ∷ l)
   pub root : May k (run k es) (history es) v a → root k (did id v a ∷ es) o ≡ root k es o
 
-module _ (k : Shape) (es : List Event) (id : ℕ) (v : View) (o : ℕ) (low : o < containers_in k) (F : Act → Type 0) (start : (f : ℕ) → F (StartWrite o f)) (stop : (f : ℕ) → F (StopWrite o f)) (put : (r old : ℕ) → F (PutRoot o r old)) (other : (a : Act) → Beside k es id v o a → F a) where
+module _ (k : Shape) (es : List Event) (id : ℕ) (v : View) (o : ℕ) (low : o < container_count k) (F : Act → Type 0) (start : (f : ℕ) → F (StartWrite o f)) (stop : (f : ℕ) → F (StopWrite o f)) (put : (r old : ℕ) → F (PutRoot o r old)) (other : (a : Act) → Beside k es id v o a → F a) where
   on_write : (a : Act) → F a
   on_write (StartWrite p f) = same_or (λ (z : ℕ). F (StartWrite z f)) p o (start f) (λ ne. other (StartWrite p f) (record { writing = λ b. miss p o true b ne; emptied = λ b. miss p o false b ne; one = λ l one. (ne, one); root = λ may. stays k es id v (StartWrite p f) may (block o 0) (low, omega arith) (λ e. absurd (cc)) }))
   on_write (StopWrite p f) = same_or (λ (z : ℕ). F (StopWrite z f)) p o (stop f) (λ ne. other (StopWrite p f) (record { writing = λ b. miss p o false b ne; emptied = λ b. refl; one = λ l one. (ne, one); root = λ may. stays k es id v (StopWrite p f) may (block o 0) (low, omega arith) (λ e. absurd (cc)) }))
@@ -55,7 +55,7 @@ cause_joined k es id v other w o old writes none =
     (λ b. inr (record { newer = joined id v other w ∷ b.newer; older = b.older; view = b.view; found = b.found; split = ap (λ (l : List Event). joined id v other w ∷ l) b.split; own = TookOver (hands_over w.log) (had_locks w.number w.log) (found_owners w.log) ∷ b.own; is = ap (λ (l : List Act). TookOver (hands_over w.log) (had_locks w.number w.log) (found_owners w.log) ∷ l) b.is; one = b.one; nothing = b.nothing }))
     (old writes none)
 
-pub causes : (k : Shape) (es : List Event) → Valid k es → (o : ℕ) → o < containers_in k → (j : ℕ) (u : View) → get_elem? (run k es).views j ≡ some u → Cause k es o j u
+pub causes : (k : Shape) (es : List Event) → Valid k es → (o : ℕ) → o < container_count k → (j : ℕ) (u : View) → get_elem? (run k es).views j ≡ some u → Cause k es o j u
 causes k [] valid o low = one_view (λ j u. Cause k [] o j u) (starter k) (λ no. off no)
 causes k (did id v a ∷ es) valid o low =
     let old = causes k es valid.0 o low in
@@ -67,24 +67,24 @@ causes k (did id v a ∷ es) valid o low =
     on_write k es id v o low F
     (λ f may.
     let same : root k (did id v (StartWrite o f) ∷ es) o ≡ root k es o = stays k es id v (StartWrite o f) may (block o 0) (low, omega arith) (λ e. absurd (cc)) in
-    set_views (P (StartWrite o f)) _ id (noted (StartWrite o f) v)
+    set_views (P (StartWrite o f)) _ id (view_after (StartWrite o f) v)
     (λ writes none.
     let even = holder_even k es valid.0 o low id v valid.1.0 may.1 may.2 in
     inr (record { newer = []; older = es; view = v; found = f; split = refl; own = []; is = refl; one = tt; nothing = zero_roots_have_nothing k es valid.0 o low even (sym same ∙ none) }))
     (λ j u ne e. cause_later k es (did id v (StartWrite o f)) o j u same (old j u e)))
     (λ f may.
     let same : root k (did id v (StopWrite o f) ∷ es) o ≡ root k es o = stays k es id v (StopWrite o f) may (block o 0) (low, omega arith) (λ e. absurd (cc)) in
-    set_views (P (StopWrite o f)) _ id (noted (StopWrite o f) v)
+    set_views (P (StopWrite o f)) _ id (view_after (StopWrite o f) v)
     (λ writes none. off (sym (hit o false (is_writing o v.log)) ∙ writes))
     (λ j u ne e. cause_later k es (did id v (StopWrite o f)) o j u same (old j u e)))
     (λ r past may.
     let now : root k (did id v (PutRoot o r past) ∷ es) o ≡ r = moves k es id v (PutRoot o r past) may in
-    set_views (P (PutRoot o r past)) _ id (noted (PutRoot o r past) v)
+    set_views (P (PutRoot o r past)) _ id (view_after (PutRoot o r past) v)
     (λ writes none. inl (hit o (eqb r 0) (has_emptied o v.log) ∙ eq-eqb r 0 (sym now ∙ none)))
     (λ j u ne e. others (PutRoot o r past) may.1 j u ne e))
     (λ b beside may.
     let same = beside.root may in
-    set_views (P b) _ id (noted b v)
+    set_views (P b) _ id (view_after b v)
     (λ writes none.
     ⊎_elim
     (λ z. inl (beside.emptied (has_emptied o v.log) ∙ z))

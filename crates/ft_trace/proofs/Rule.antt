@@ -52,7 +52,7 @@ use Rattle.ft_trace.proofs.Budgets.{goals_room, some_part}
 use Rattle.std.proofs.Common.{eqb, ◌+◌, ◌%◌}
 use Rattle.ft_trace.specs.Acts.{debt}
 use Rattle.ft_trace.specs.Pictures.{root_in}
-use Rattle.ft_trace.specs.Holds.{held}
+use Rattle.ft_trace.specs.Holds.{held_words}
 use Rattle.ft_trace.specs.Grants.{after_clear, ListsMayBeCleared, ClearedTablesMayBeGivenBack, TakingsEnd}
 use Rattle.ft_trace.proofs.Cases.{miss, here}
 use Rattle.ft_trace.proofs.Clearing.{clear_possible}
@@ -188,8 +188,8 @@ cleared_tables_may_be_given_back v o t values m is first one idle names =
     let a = clear_possible v o values m.live m.possible m.few m.low m.mine m.quiet m.spare m.none m.room is in
     let w = after_clear v o a.0 a.1 a.2 a.3 in
     let n = stage t v.log in
-    let three : stage t w.log ≡ 3 = miss 0 (suc t) 0 (cond (eqb (root_in (held o v)) (suc t)) 3 n) (λ e. omega (arith, e)) ∙ here (root_in (held o v)) (suc t) 3 n names in
-    let more : debt w.log ≡ debt v.log + 1 = miss (root_in (held o v)) 0 (debt v.log) (debt v.log + 1) (λ e. omega (arith, e, names)) in
+    let three : stage t w.log ≡ 3 = miss 0 (suc t) 0 (cond (eqb (root_in (held_words o v)) (suc t)) 3 n) (λ e. omega (arith, e)) ∙ here (root_in (held_words o v)) (suc t) 3 n names in
+    let more : debt w.log ≡ debt v.log + 1 = miss (root_in (held_words o v)) 0 (debt v.log) (debt v.log + 1) (λ e. omega (arith, e, names)) in
     let table = root_table v.shape m.possible.0 m.possible.2.0 o m.low t (sym (root_known v o m.low m.mine m.possible.0 m.possible.1 m.possible.2) ∙ names) in
     let c = cycle_possible w t first a.4 one m.live.1 m.few table three (omega (arith, more)) idle in
     (a.0, a.1, a.2, a.3, c.0, c.1, c.2)

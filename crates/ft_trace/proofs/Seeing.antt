@@ -8,7 +8,7 @@ use Rattle.ft_trace.specs.declared.Shape.{Shape}
 use Rattle.ft_trace.specs.declared.View.{View}
 use Rattle.ft_trace.specs.declared.Act.{Act}
 use Rattle.ft_trace.specs.declared.Act.TheVariants.{Commit, ReadCounter, TakeFloor}
-use Rattle.ft_trace.specs.Acts.{noted, shown, seen_writes, starter, maker, made, both, spent, sender, note}
+use Rattle.ft_trace.specs.Acts.{view_after, shown, seen_writes, starter, maker, made, both, spent, sender, note}
 use Rattle.ft_trace.specs.SeenWrites.{SeenIsLow, SeenIsHandedOn, LoadsSeeAll}
 use Rattle.ft_trace.specs.Traces.{Event, did, forked, joined, sent, run, Valid}
 use Rattle.ft_trace.proofs.Sizes.{set_views, one_more, one_view}
@@ -42,7 +42,7 @@ seen_low k (did id v a ∷ es) valid =
     let old = seen_low k es valid.0 in
     let up = one_rises k (did id v a) es valid in
     let mine = old id v valid.1.0 in
-    set_views (Low k (did id v a ∷ es)) _ id (noted a v)
+    set_views (Low k (did id v a ∷ es)) _ id (view_after a v)
     (max-le (le_trans (le_trans (le-max_left v.learnt (shown v.log)) mine) up) (shown_low k es id v a valid (le_trans (le-max_right v.learnt (shown v.log)) mine)))
     (λ j u _ e. le_trans (old j u e) up)
 seen_low k (forked id v ∷ es) valid =
@@ -72,7 +72,7 @@ shown_up (ReadCounter f) l = le-max_left (shown l) f
 shown_up (TakeFloor f s) l = le-max_left (shown l) f
 shown_up act l = le_refl (shown l)
 
-pub seen_up : (a : Act) (v : View) → seen_writes v ≤ seen_writes (noted a v)
+pub seen_up : (a : Act) (v : View) → seen_writes v ≤ seen_writes (view_after a v)
 seen_up a v = max-le (le-max_left v.learnt (shown (a ∷ v.log))) (le_trans (shown_up a v.log) (le-max_right v.learnt (shown (a ∷ v.log))))
 
 pub seen_own : (v w : View) → seen_writes v ≤ seen_writes (both v w)

@@ -25,8 +25,8 @@ use Rattle.ft_trace.specs.Pictures.{root_in, index_field, entry_offset, entry_fi
 use Rattle.ft_trace.specs.Carefuls.{Careful, Clear}
 use Rattle.ft_trace.specs.Kinds.{under}
 use Rattle.ft_trace.specs.OddVersions.{Shut}
-use Rattle.ft_trace.specs.Holds.{held, known, AgreesWith}
-use Rattle.ft_trace.specs.Traces.{Possible}
+use Rattle.ft_trace.specs.Holds.{held_words, known_state, AgreesWith}
+use Rattle.ft_trace.specs.Traces.{IsReachable}
 use Rattle.ft_trace.specs.Grants.{MayWrite}
 use Rattle.ft_trace.specs.WholeWrites.{to_table, MayPut, MayPuts, WholeWrite, at_commit, at_end, after_write_of}
 use Rattle.ft_trace.specs.EntryWrites.{entry_closed}
@@ -47,9 +47,9 @@ use Rattle.ft_trace.proofs.KnownContents.{use_of, known_use, known_says, known_s
 use Rattle.ft_trace.proofs.WriteFacts.{facts_suffice}
 use Rattle.ft_trace.proofs.KeyedWrites.{put_while_open, counts_may_be_put, root_stays}
 
-module _ (versions : EntryVersionsChangeNothing) (first : FirstEntriesAreElements) (v : View) (o t slot : ℕ) (key : Key) (elements : SetContent) (may : MayWrite v o) (is_set : (known o v).content ≡ content.Set elements) (names : root_in (held o v) ≡ suc t)
-    (room : (known o v).table.fill < set_entries (class_of t)) (in_index : slot < slots (class_of t)) (free : index_field (held o v).table slot ≡ 0) (fits : FitsKey key) (missing : has_element elements.elements key ≡ false)
-    (now : IsSetWords v.shape.texts (at_commit v o (set_add_write v o t slot key elements)).block (0 ∷ 0 ∷ (at_commit v o (set_add_write v o t slot key elements)).table) (Some (class_of t)) ((known o v).table.fill + 1) (set_add elements key)) where
+module _ (versions : EntryVersionsChangeNothing) (first : FirstEntriesAreElements) (v : View) (o t slot : ℕ) (key : Key) (elements : SetContent) (may : MayWrite v o) (is_set : (known_state o v).content ≡ content.Set elements) (names : root_in (held_words o v) ≡ suc t)
+    (room : (known_state o v).table.fill < set_entries (class_of t)) (in_index : slot < slots (class_of t)) (free : index_field (held_words o v).table slot ≡ 0) (fits : FitsKey key) (missing : has_element elements.elements key ≡ false)
+    (now : IsSetWords v.shape.texts (at_commit v o (set_add_write v o t slot key elements)).block (0 ∷ 0 ∷ (at_commit v o (set_add_write v o t slot key elements)).table) (Some (class_of t)) ((known_state o v).table.fill + 1) (set_add elements key)) where
   abbrev k : Shape
   k = v.shape
 
@@ -63,10 +63,10 @@ module _ (versions : EntryVersionsChangeNothing) (first : FirstEntriesAreElement
   m = set_entries c
 
   abbrev p : ℕ
-  p = (known o v).table.fill
+  p = (known_state o v).table.fill
 
   abbrev ws : List ℕ
-  ws = (held o v).table
+  ws = (held_words o v).table
 
   abbrev news : SetContent
   news = set_add elements key
@@ -92,7 +92,7 @@ module _ (versions : EntryVersionsChangeNothing) (first : FirstEntriesAreElement
   at_least : n + 8 * m ≤ length ws
   at_least = set_is_long v o t names
 
-  says : IsSetWords k.texts (held o v).block (0 ∷ 0 ∷ ws) (Some c) p elements
+  says : IsSetWords k.texts (held_words o v).block (0 ∷ 0 ∷ ws) (Some c) p elements
   says = known_says v o t (content.Set elements) may is_set names
 
   shut : Shut (λ q. entry_offset n q 0) m ws
@@ -104,7 +104,7 @@ module _ (versions : EntryVersionsChangeNothing) (first : FirstEntriesAreElement
   -- the entry was never used
   none : entry_field n ws p 2 ≡ 0
   none =
-      let fits : set_room (class_mask c) ≡ m = room_is first k.texts (held o v).block c p class_is elements ws says in
+      let fits : set_room (class_mask c) ≡ m = room_is first k.texts (held_words o v).block c p class_is elements ws says in
       let filled = says.filled in
       let u = says.table.unused p (omega (arith, filled)) (omega (arith, fits, room)) in
       sym (word_is (λ hash. set_slots hash (class_mask c) (class_mask c + 14)) (set_room (class_mask c)) k.texts c class_is says.used ws says.table p 2) ∙ u.kind
@@ -115,7 +115,7 @@ module _ (versions : EntryVersionsChangeNothing) (first : FirstEntriesAreElement
   -- ---- the puts
 
   abbrev b0 : List ℕ
-  b0 = (held o v).block
+  b0 = (held_words o v).block
 
   names_now : slice_index block 0 ≡ suc t
   names_now = root_stays b0 (length elements.elements + 1) (p + 1) (elements.next + 1) ∙ names
@@ -173,7 +173,7 @@ module _ (versions : EntryVersionsChangeNothing) (first : FirstEntriesAreElement
       let p6 = table_put (slice_set l4 (entry_offset n p 2) (key_kind key)) slot (p + 1) (omega (arith, in_index)) (new_index n m ws p slot room in_index at_least even none free key l4 s4 before) (λ q z. absurd (omega (arith, z, in_index))) in
       (p1, (p2, (p3, (p4, (p5, (p6, tt))))))
 
-  early : MayPuts kind.Set t (content.Set elements) false (held o v) (count_puts (length elements.elements + 1) (p + 1) (elements.next + 1) ++ element_puts n ws p slot (hash_of k.texts key) key elements.next)
+  early : MayPuts kind.Set t (content.Set elements) false (held_words o v) (count_puts (length elements.elements + 1) (p + 1) (elements.next + 1) ++ element_puts n ws p slot (hash_of k.texts key) key elements.next)
   early = counts_may_be_put kind.Set t (content.Set elements) b0 ws (length elements.elements + 1) (p + 1) (elements.next + 1) (element_puts n ws p slot (hash_of k.texts key) key elements.next) all_puts
 
   clear : Clear (walk_of kind.Set k.texts c) n m put (under (content.Set elements)) (under (content.Set news))
@@ -234,7 +234,7 @@ module _ (versions : EntryVersionsChangeNothing) (first : FirstEntriesAreElement
         ∙ (ap (λ (z : Option ℕ). grown_table T z drawn count) takes_none
         ∙ (λ d. record { class = (table_is d).class; fill = (table_is d).fill + one d; keys = (table_is d).keys }))
 
-  pub add_possible : (start number : ℕ) × (s : Snap) × (stop : ℕ) × Possible (after_write_of v o t write start number s stop)
+  pub add_possible : (start number : ℕ) × (s : Snap) × (stop : ℕ) × IsReachable (after_write_of v o t write start number s stop)
   add_possible =
       facts_suffice v o t (content.Set elements) (content.Set news) (use_of t (p + 1)) write (may_begin v o may) is_set
       (record {

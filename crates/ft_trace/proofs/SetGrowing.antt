@@ -23,8 +23,8 @@ use Rattle.ft_trace.specs.declared.Snap.{Snap}
 use Rattle.ft_trace.specs.declared.View.{View}
 use Rattle.ft_trace.specs.Addresses.{class_of}
 use Rattle.ft_trace.specs.Kinds.{is_key, element_words, under}
-use Rattle.ft_trace.specs.Holds.{known, in_hand, AgreesWith}
-use Rattle.ft_trace.specs.Traces.{Possible}
+use Rattle.ft_trace.specs.Holds.{known_state, in_hand, AgreesWith}
+use Rattle.ft_trace.specs.Traces.{IsReachable}
 use Rattle.ft_trace.specs.WholeWrites.{WholeWrite, at_commit, after_write_of, MayBegin}
 use Rattle.ft_trace.specs.SetGrowWrites.{set_grow_write, HasSetGrown, SetsMayGrow}
 use Rattle.ft_trace.proofs.Tellings.{other_key}
@@ -67,7 +67,7 @@ module _ (elements : SetContent) (key : Key) (missing : has_element elements.ele
 
 -- ---- the whole write
 
-module _ (versions : EntryVersionsChangeNothing) (first : FirstEntriesAreElements) (v : View) (o t p : ℕ) (key : Key) (elements : SetContent) (begin : MayBegin v o) (is_set : (known o v).content ≡ content.Set elements) (has : HasSetGrown v o t p key elements) where
+module _ (versions : EntryVersionsChangeNothing) (first : FirstEntriesAreElements) (v : View) (o t p : ℕ) (key : Key) (elements : SetContent) (begin : MayBegin v o) (is_set : (known_state o v).content ≡ content.Set elements) (has : HasSetGrown v o t p key elements) where
   abbrev k : Shape
   k = v.shape
 
@@ -123,7 +123,7 @@ module _ (versions : EntryVersionsChangeNothing) (first : FirstEntriesAreElement
         ∙ (ap (λ (z : Option ℕ). grown_table T z drawn count) takes_one
         ∙ ap (λ (z : ℕ). taken c z) count_is)
 
-  pub set_grow_possible : (start number : ℕ) × (s : Snap) × (stop : ℕ) × Possible (after_write_of v o t write start number s stop)
+  pub set_grow_possible : (start number : ℕ) × (s : Snap) × (stop : ℕ) × IsReachable (after_write_of v o t write start number s stop)
   set_grow_possible =
       grow_possible versions v o t p fill (elements.next + 1) key (content.Set elements) (content.Set news) tt tt called begin is_set has.table has.fresh has.low has.live has.open_entry has.others has.words has.words.head.size (set_right first k.texts block c fill class_is news zs has.words) (set_named first k.texts block c fill class_is news zs has.words) (set_reached first k.texts block c fill class_is news zs has.words)
       (λ q a less ne l yes.

@@ -18,12 +18,12 @@ use Rattle.ft_layout.specs.Containers.{class_mask, used_element, AreSetEntries, 
 use Rattle.ft_layout.proofs.FieldLaws.{sizes_of_class}
 use Rattle.ft_layout.proofs.Powers.{slots_range}
 use Rattle.ft_trace.specs.declared.View.{View}
-use Rattle.ft_trace.specs.Addresses.{containers_in, class_of, slots, places}
+use Rattle.ft_trace.specs.Addresses.{container_count, class_of, slots, places}
 use Rattle.ft_trace.specs.Acts.{has_lock}
 use Rattle.ft_trace.specs.Pictures.{root_in, index_field, entry_field, walk_of}
 use Rattle.ft_trace.specs.Carefuls.{said_of, HasLiveKey, Reached, Clear}
 use Rattle.ft_trace.specs.Kinds.{under}
-use Rattle.ft_trace.specs.Holds.{held, known, AgreesWith}
+use Rattle.ft_trace.specs.Holds.{held_words, known_state, AgreesWith}
 use Rattle.ft_trace.proofs.Known.{table_is_long}
 use Rattle.ft_trace.proofs.Tellings.{live_is_right, live_below, few_live, key_reached, key_named, words_clear}
 use Rattle.ft_trace.proofs.KnownContents.{content_there, content_left}
@@ -78,7 +78,7 @@ set_clear first texts block before c fill more is_class elements news ws zs says
 
 -- ---- s.add(k), in each history that agrees with what a pass with the lock of the set knows
 
-module _ (v : View) (o : ℕ) (elements : SetContent) (low : o < containers_in v.shape) (mine : has_lock o v.log ≡ true) (is_set : (known o v).content ≡ content.Set elements) (calls : List Call) (agree : AgreesWith v (stored_newest v.shape.starts calls)) where
+module _ (v : View) (o : ℕ) (elements : SetContent) (low : o < container_count v.shape) (mine : has_lock o v.log ≡ true) (is_set : (known_state o v).content ≡ content.Set elements) (calls : List Call) (agree : AgreesWith v (stored_newest v.shape.starts calls)) where
   abbrev stored : StoredWorld
   stored = stored_newest v.shape.starts calls
 
@@ -106,6 +106,6 @@ module _ (v : View) (o : ℕ) (elements : SetContent) (low : o < containers_in v
 
 -- the words of the table that a set's root names
 module _ (v : View) (o t : ℕ) where
-  pub set_is_long : root_in (held o v) ≡ suc t → slots (class_of t) + 8 * set_entries (class_of t) ≤ length (held o v).table
+  pub set_is_long : root_in (held_words o v) ≡ suc t → slots (class_of t) + 8 * set_entries (class_of t) ≤ length (held_words o v).table
   unfolding places
   set_is_long names = let l = table_is_long v o t names in omega (arith, l)

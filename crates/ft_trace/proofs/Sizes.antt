@@ -5,7 +5,7 @@ use lib.ListN.{get_elem?}
 use Rattle.atomic_table.proofs.Lists.{at_set}
 use Rattle.ft_trace.specs.declared.Shape.{Shape}
 use Rattle.ft_trace.specs.declared.View.{View}
-use Rattle.ft_trace.specs.Acts.{starter, noted, maker, made, both, spent, sender, note}
+use Rattle.ft_trace.specs.Acts.{starter, view_after, maker, made, both, spent, sender, note}
 use Rattle.ft_trace.specs.Traces.{Event, did, forked, joined, sent, run, Valid}
 
 at_end : (l : List View) (a b : View) (j : ℕ) → get_elem? (l ++ a ∷ []) j ≡ some b → (get_elem? l j ≡ some b) ⊎ ((j ≡ length l) × (a ≡ b))
@@ -36,7 +36,7 @@ one_view P w mine (suc j) u e = absurd (some-ne-none u (sym e))
 -- a live view knows how many containers there are
 pub sized : (k : Shape) (es : List Event) → Valid k es → (j : ℕ) (u : View) → get_elem? (run k es).views j ≡ some u → u.number ≢ 0 → u.shape ≡ k
 sized k [] valid = one_view (λ j u. u.number ≢ 0 → u.shape ≡ k) (starter k) (λ _. refl)
-sized k (did id v a ∷ es) valid = set_views (λ j u. u.number ≢ 0 → u.shape ≡ k) _ id (noted a v) (λ live. sized k es valid.0 id v valid.1.0 live) (λ j u _ e. sized k es valid.0 j u e)
+sized k (did id v a ∷ es) valid = set_views (λ j u. u.number ≢ 0 → u.shape ≡ k) _ id (view_after a v) (λ live. sized k es valid.0 id v valid.1.0 live) (λ j u _ e. sized k es valid.0 j u e)
 sized k (forked id v ∷ es) valid =
     one_more (λ j u. u.number ≢ 0 → u.shape ≡ k) _ (made v) (λ live. sized k es valid.0 id v valid.1.0 valid.1.1)
     (set_views (λ j u. u.number ≢ 0 → u.shape ≡ k) _ id (maker v) (λ live. sized k es valid.0 id v valid.1.0 live) (λ j u _ e. sized k es valid.0 j u e))

@@ -9,7 +9,7 @@ use Rattle.ft_trace.specs.declared.Shape.{Shape}
 use Rattle.ft_trace.specs.declared.View.{View}
 use Rattle.ft_trace.specs.declared.Act.{Act}
 use Rattle.ft_trace.specs.declared.Act.TheVariants.{PutRoot, PutTable, PutFresh, Commit, ReadTable}
-use Rattle.ft_trace.specs.Addresses.{containers_in, cell, class_of, size, IsTableName, at}
+use Rattle.ft_trace.specs.Addresses.{container_count, cell, class_of, size, IsTableName, at}
 use Rattle.ft_trace.specs.Acts.{place}
 use Rattle.ft_model.specs.declared.content.Content.{Content}
 use Rattle.ft_trace.specs.ContainerStates.{ContainerState, container_after, kind_in, changes}
@@ -104,7 +104,7 @@ sound_content k es v o t names old (Commit call r f s) may =
 sound_content k es v o t names old act may = old
 
 -- also while the container's version is odd
-pub sound_at : (k : Shape) (es : List Event) → Valid k es → (o : ℕ) → o < containers_in k → (t : ℕ) → root k es o ≡ suc t → SoundIn k o t (tab k es t) (content k es o)
+pub sound_at : (k : Shape) (es : List Event) → Valid k es → (o : ℕ) → o < container_count k → (t : ℕ) → root k es o ≡ suc t → SoundIn k o t (tab k es t) (content k es o)
 sound_at k [] valid o low t e = let z : root k [] o ≡ 0 = block_first k o 0 low (omega arith) in absurd (omega (arith, z, e))
 sound_at k (did id v a ∷ es) valid o low t e =
     let table = root_table k (did id v a ∷ es) valid o low t e in

@@ -7,7 +7,7 @@ use Rattle.ft_trace.specs.declared.Shape.{Shape}
 use Rattle.ft_trace.specs.declared.View.{View}
 use Rattle.ft_trace.specs.declared.Act.{Act}
 use Rattle.ft_trace.specs.declared.Act.TheVariants.{ReadRoot, ReadTable}
-use Rattle.ft_trace.specs.Addresses.{IsTableName, class_of, size, containers_in}
+use Rattle.ft_trace.specs.Addresses.{IsTableName, class_of, size, container_count}
 use Rattle.ft_trace.specs.Acts.{place, Reports, reads}
 use Rattle.ft_trace.specs.Ages.{age, whose}
 use Rattle.ft_trace.specs.LoggedLookUps.{Online, LookUpWindow}
@@ -93,7 +93,7 @@ pub record Opened (k : Shape) (es : List Event) (o t j : ℕ) (start walk : List
   pub whom : whose spot.es t ≡ o
   pub under : Under spot.es es
 
-pub open_window : (k : Shape) (es : List Event) → Valid k es → (j : ℕ) (u : View) → get_elem? (run k es).views j ≡ some u → (o t : ℕ) → o < containers_in k → (walk : List Act) (w : LookUpWindow u.log o t walk) → Opened k es o t j w.rest walk
+pub open_window : (k : Shape) (es : List Event) → Valid k es → (j : ℕ) (u : View) → get_elem? (run k es).views j ≡ some u → (o t : ℕ) → o < container_count k → (walk : List Act) (w : LookUpWindow u.log o t walk) → Opened k es o t j w.rest walk
 open_window k es valid j u at o t low walk win =
     let w = was k es valid j u at win.newer (ReadRoot o (suc t)) (walk ++ win.rest) win.is in
     let names : root k w.older o ≡ suc t = sym w.tells in
@@ -111,7 +111,7 @@ pub named_by : (k : Shape) (es : List Event) → Valid k es → (o t : ℕ) → 
 named_by k es valid o t table two whom = ap (root k es) (sym whom) ∙ ((placed k es valid t table).current two).1
 
 -- at each moment between the two reads the root of o named t
-pub root_again : (k : Shape) (es : List Event) → Valid k es → (j : ℕ) (u : View) → get_elem? (run k es).views j ≡ some u → (o t : ℕ) → o < containers_in k → (walk : List Act) → LookUpWindow u.log o t walk → (xs : List Act) (a : Act) (rest : List Act) → walk ≡ xs ++ a ∷ rest
+pub root_again : (k : Shape) (es : List Event) → Valid k es → (j : ℕ) (u : View) → get_elem? (run k es).views j ≡ some u → (o t : ℕ) → o < container_count k → (walk : List Act) → LookUpWindow u.log o t walk → (xs : List Act) (a : Act) (rest : List Act) → walk ≡ xs ++ a ∷ rest
     → (older : List Event) × Under older es × Valid k older × (Reports a (word k older (place a))) × (root k older o ≡ suc t)
 root_again k es valid j u at o t low walk win xs a rest is =
     let s = open_window k es valid j u at o t low walk win in

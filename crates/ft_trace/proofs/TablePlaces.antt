@@ -10,8 +10,8 @@ use Rattle.ft_trace.specs.declared.View.{View}
 use Rattle.ft_trace.specs.declared.Act.{Act}
 use Rattle.ft_trace.specs.declared.Act.TheVariants.{PutBlock, PutRoot, ReadBlock, ReadRoot, ReadFree, TakeTable, GiveTable, Retire, TookOver}
 use Rattle.ft_trace.specs.Bits.{bit}
-use Rattle.ft_trace.specs.Addresses.{Word, bits, block, IsTableName, free_word_of, free_bit_of, containers_in}
-use Rattle.ft_trace.specs.Acts.{place, word_after, Reports, stage, stage_next, is_handed, hands_over, starter, noted, maker, made, both, spent, sender, note}
+use Rattle.ft_trace.specs.Addresses.{Word, bits, block, IsTableName, free_word_of, free_bit_of, container_count}
+use Rattle.ft_trace.specs.Acts.{place, word_after, Reports, stage, stage_next, is_handed, hands_over, starter, view_after, maker, made, both, spent, sender, note}
 use Rattle.ft_trace.specs.Traces.{Event, did, forked, joined, sent, run, word, history, May, Valid}
 use Rattle.ft_trace.specs.Ages.{aged, age, gone_to, whose, keeper}
 use Rattle.ft_trace.proofs.Sizes.{set_views, one_more, one_view}
@@ -25,7 +25,7 @@ abbrev pub root : Shape → List Event → ℕ → ℕ
 root k es o = word k es (block o 0)
 
 -- what the action is to the root of o
-module _ (k : Shape) (es : List Event) (id : ℕ) (v : View) (o : ℕ) (low : o < containers_in k) (F : Act → Type 0) (put : (r old : ℕ) → F (PutRoot o r old))
+module _ (k : Shape) (es : List Event) (id : ℕ) (v : View) (o : ℕ) (low : o < container_count k) (F : Act → Type 0) (put : (r old : ℕ) → F (PutRoot o r old))
     (other : (a : Act) → (May k (run k es) (history es) v a → root k (did id v a ∷ es) o ≡ root k es o) → F a) where
   pub on_root : (a : Act) → F a
   on_root (PutRoot p r old) = same_or (λ (z : ℕ). F (PutRoot z r old)) p o (put r old) (λ ne. other (PutRoot p r old) (λ may. stays k es id v (PutRoot p r old) may (block o 0) (low, omega arith) (λ e. ne (cc))))
@@ -35,7 +35,7 @@ module _ (k : Shape) (es : List Event) (id : ℕ) (v : View) (o : ℕ) (low : o 
   on_root act = other act (λ may. stays k es id v act may (block o 0) (low, omega arith) (λ e. absurd (cc)))
 
 -- a root names a table of the bank
-pub root_table : (k : Shape) (es : List Event) → Valid k es → (o : ℕ) → o < containers_in k → (t : ℕ) → root k es o ≡ suc t → IsTableName k t
+pub root_table : (k : Shape) (es : List Event) → Valid k es → (o : ℕ) → o < container_count k → (t : ℕ) → root k es o ≡ suc t → IsTableName k t
 root_table k [] valid o low t = λ e. let z : root k [] o ≡ 0 = block_first k o 0 low (omega arith) in absurd (omega (arith, z, e))
 root_table k (did id v a ∷ es) valid o low t =
     let F : Act → Type 0 = λ b. May k (run k es) (history es) v b → root k (did id v b ∷ es) o ≡ suc t → IsTableName k t in
@@ -50,8 +50,8 @@ pub record Calm (k : Shape) (es : List Event) (id : ℕ) (v : View) (t : ℕ) (a
   pub age : (g : ℕ) → aged a t g ≡ g
   pub whose : (w : ℕ) → gone_to id a t w ≡ w
   pub free : bit (free_bit_of t) (word k (did id v a ∷ es) (bits (free_word_of t))) ≡ bit (free_bit_of t) (word k es (bits (free_word_of t)))
-  pub roots : (o : ℕ) → o < containers_in k → root k (did id v a ∷ es) o ≡ suc t → root k es o ≡ suc t
-  pub roots_back : (o : ℕ) → o < containers_in k → root k es o ≡ suc t → root k (did id v a ∷ es) o ≡ suc t
+  pub roots : (o : ℕ) → o < container_count k → root k (did id v a ∷ es) o ≡ suc t → root k es o ≡ suc t
+  pub roots_back : (o : ℕ) → o < container_count k → root k es o ≡ suc t → root k (did id v a ∷ es) o ≡ suc t
 
 module _ (k : Shape) (es : List Event) (id : ℕ) (v : View) (t : ℕ) (table : IsTableName k t) where
   abbrev After : Act → ℕ
@@ -61,10 +61,10 @@ module _ (k : Shape) (es : List Event) (id : ℕ) (v : View) (t : ℕ) (table : 
   Before = bit (free_bit_of t) (word k es (bits (free_word_of t)))
 
   -- an action on no root
-  pub no_root : (a : Act) → May k (run k es) (history es) v a → ((o : ℕ) → place a ≢ block o 0) → (o : ℕ) → o < containers_in k → root k (did id v a ∷ es) o ≡ root k es o
+  pub no_root : (a : Act) → May k (run k es) (history es) v a → ((o : ℕ) → place a ≢ block o 0) → (o : ℕ) → o < container_count k → root k (did id v a ∷ es) o ≡ root k es o
   no_root a may apart o low = stays k es id v a may (block o 0) (low, omega arith) (apart o)
 
-  calm_by : (a : Act) → ((n : ℕ) → stage_next t a n ≡ n) → ((g : ℕ) → aged a t g ≡ g) → ((w : ℕ) → gone_to id a t w ≡ w) → After a ≡ Before → ((o : ℕ) → o < containers_in k → root k (did id v a ∷ es) o ≡ root k es o) → Calm k es id v t a
+  calm_by : (a : Act) → ((n : ℕ) → stage_next t a n ≡ n) → ((g : ℕ) → aged a t g ≡ g) → ((w : ℕ) → gone_to id a t w ≡ w) → After a ≡ Before → ((o : ℕ) → o < container_count k → root k (did id v a ∷ es) o ≡ root k es o) → Calm k es id v t a
   calm_by a s g w b r = record { stage = s; age = g; whose = w; free = b; roots = λ o low e. sym (r o low) ∙ e; roots_back = λ o low e. r o low ∙ e }
 
   pub bit_stays : (a : Act) → May k (run k es) (history es) v a → place a ≢ bits (free_word_of t) → After a ≡ Before
@@ -117,7 +117,7 @@ module _ (k : Shape) (es : List Event) (id : ℕ) (v : View) (t : ℕ) (table : 
         (λ far found may.
         let a : Act = PutRoot o r old in
         let now : root k (did id v a ∷ es) o ≡ r = moves k es id v a may in
-        let elsewhere : (q : ℕ) → q < containers_in k → q ≢ o → root k (did id v a ∷ es) q ≡ root k es q = λ q low apart. stays k es id v a may (block q 0) (low, omega arith) (λ e. apart (cc)) in
+        let elsewhere : (q : ℕ) → q < container_count k → q ≢ o → root k (did id v a ∷ es) q ≡ root k es q = λ q low apart. stays k es id v a may (block q 0) (low, omega arith) (λ e. apart (cc)) in
         other a (record {
           stage = λ n. miss r (suc t) 0 (cond (eqb old (suc t)) 3 n) ne ∙ miss old (suc t) 3 n far;
           age = λ g. miss r (suc t) (g + 1) (cond (eqb old (suc t)) (g + 1) g) ne ∙ miss old (suc t) (g + 1) g far;
@@ -160,8 +160,8 @@ pub record Placed (k : Shape) (es : List Event) (t : ℕ) : Type 0 where
   pub free_is : bit (free_bit_of t) (word k es (bits (free_word_of t))) ≡ 1 → age es t % 5 ≡ 0
   pub is_free : age es t % 5 ≡ 0 → bit (free_bit_of t) (word k es (bits (free_word_of t))) ≡ 1
   pub hands : (j : ℕ) (u : View) → get_elem? (run k es).views j ≡ some u → stage t u.log ≢ 0 → (age es t % 5 ≡ stage t u.log) × (keeper es t ≡ j)
-  pub roots : (o : ℕ) → o < containers_in k → root k es o ≡ suc t → (age es t % 5 ≡ 2) × (whose es t ≡ o)
-  pub current : age es t % 5 ≡ 2 → (whose es t < containers_in k) × (root k es (whose es t) ≡ suc t)
+  pub roots : (o : ℕ) → o < container_count k → root k es o ≡ suc t → (age es t % 5 ≡ 2) × (whose es t ≡ o)
+  pub current : age es t % 5 ≡ 2 → (whose es t < container_count k) × (root k es (whose es t) ≡ suc t)
 
 abbrev Hand : List Event → ℕ → ℕ → View → Type 0
 Hand es t j u = stage t u.log ≢ 0 → (age es t % 5 ≡ stage t u.log) × (keeper es t ≡ j)
@@ -191,7 +191,7 @@ placed k (did id v a ∷ es) valid t table =
     record {
       free_is = λ b. absurd (let z : bit (free_bit_of t) (word k (did id v A ∷ es) (bits (free_word_of t))) ≡ 0 = ap (bit (free_bit_of t)) (moves k es id v A ok.1.3) ∙ off_same (free_bit_of t) (word k es (bits (free_word_of t))) (bt_low t) in omega (arith, z, b));
       is_free = λ z. absurd (omega (arith, z, now, was));
-      hands = set_views (Hand (did id v A ∷ es) t) _ id (noted A v) (λ _. (omega (arith, now, was, mine), whom)) (λ j u _ e some_one. absurd (some_one (let h = (old.hands j u e some_one).0 in omega (arith, h, was))));
+      hands = set_views (Hand (did id v A ∷ es) t) _ id (view_after A v) (λ _. (omega (arith, now, was, mine), whom)) (λ j u _ e some_one. absurd (some_one (let h = (old.hands j u e some_one).0 in omega (arith, h, was))));
       roots = λ o low e. let h = (old.roots o low (sym (no_root k es id v t table A ok.1.3 (λ p x. absurd (cc)) o low) ∙ e)).0 in absurd (omega (arith, h, was));
       current = λ z. absurd (omega (arith, z, now, was));
     })
@@ -206,7 +206,7 @@ placed k (did id v a ∷ es) valid t table =
     record {
       free_is = λ _. zero;
       is_free = λ _. ap (bit (free_bit_of t)) (moves k es id v A may) ∙ on_same (free_bit_of t) (word k es (bits (free_word_of t))) (bt_low t);
-      hands = set_views (Hand (did id v A ∷ es) t) _ id (noted A v) (λ no. absurd (no (hit t 0 n))) (λ j u ne e theirs. absurd (ne (sym (old.hands j u e theirs).1 ∙ h.1)));
+      hands = set_views (Hand (did id v A ∷ es) t) _ id (view_after A v) (λ no. absurd (no (hit t 0 n))) (λ j u ne e theirs. absurd (ne (sym (old.hands j u e theirs).1 ∙ h.1)));
       roots = λ o low e. let r = (old.roots o low (sym (no_root k es id v t table A may (λ p x. absurd (cc)) o low) ∙ e)).0 in absurd (not_two (sym h.0 ∙ r));
       current = λ z. absurd (omega (arith, z, zero));
     })
@@ -224,11 +224,11 @@ placed k (did id v a ∷ es) valid t table =
     record {
       free_is = λ b. absurd (let z = old.free_is (ap (bit (free_bit_of t)) (sym stay) ∙ b) in omega (arith, z, was, mine));
       is_free = λ z. absurd (omega (arith, z, two));
-      hands = set_views (Hand (did id v A ∷ es) t) _ id (noted A v) (λ no. absurd (no (hit (suc t) 0 (cond (eqb past (suc t)) 3 n)))) (λ j u ne e theirs. absurd (ne (sym (old.hands j u e theirs).1 ∙ h.1)));
+      hands = set_views (Hand (did id v A ∷ es) t) _ id (view_after A v) (λ no. absurd (no (hit (suc t) 0 (cond (eqb past (suc t)) 3 n)))) (λ j u ne e theirs. absurd (ne (sym (old.hands j u e theirs).1 ∙ h.1)));
       roots = λ q low e.
           dite (ℕ_discrete q o) (λ (same : q ≡ o). (two, whom ∙ sym same))
           (λ ne. let r = (old.roots q low (sym (stays k es id v A may (block q 0) (low, omega arith) (λ x. ne (cc))) ∙ e)).0 in absurd (omega (arith, r, was, mine)));
-      current = λ _. (subst (λ (z : ℕ). z < containers_in k) (sym whom) may.0, ap (root k (did id v A ∷ es)) whom ∙ word_now);
+      current = λ _. (subst (λ (z : ℕ). z < container_count k) (sym whom) may.0, ap (root k (did id v A ∷ es)) whom ∙ word_now);
     })
     (λ o r ne ok.
     let A : Act = PutRoot o r (suc t) in
@@ -242,7 +242,7 @@ placed k (did id v a ∷ es) valid t table =
     record {
       free_is = λ b. absurd (let z = old.free_is (ap (bit (free_bit_of t)) (sym stay) ∙ b) in omega (arith, z, was));
       is_free = λ z. absurd (omega (arith, z, now, was));
-      hands = set_views (Hand (did id v A ∷ es) t) _ id (noted A v) (λ _. (omega (arith, now, was, mine), whom)) (λ j u _ e theirs. absurd (not_current t u.log (sym (old.hands j u e theirs).0 ∙ was)));
+      hands = set_views (Hand (did id v A ∷ es) t) _ id (view_after A v) (λ _. (omega (arith, now, was, mine), whom)) (λ j u _ e theirs. absurd (not_current t u.log (sym (old.hands j u e theirs).0 ∙ was)));
       roots = λ q low e.
           dite (ℕ_discrete q o) (λ (same : q ≡ o). absurd (ne (sym (moves k es id v A may) ∙ (ap (root k (did id v A ∷ es)) (sym same) ∙ e))))
           (λ apart. absurd (apart (sym (old.roots q low (sym (stays k es id v A may (block q 0) (low, omega arith) (λ x. apart (cc))) ∙ e)).1 ∙ p.1)));
@@ -260,7 +260,7 @@ placed k (did id v a ∷ es) valid t table =
     record {
       free_is = λ b. absurd (let z = old.free_is (ap (bit (free_bit_of t)) (sym stay) ∙ b) in omega (arith, z, was, three));
       is_free = λ z. absurd (omega (arith, z, now, was, three));
-      hands = set_views (Hand (did id v A ∷ es) t) _ id (noted A v) (λ _. (omega (arith, now, was, three, mine), h.1)) (λ j u ne e theirs. absurd (ne (sym (old.hands j u e theirs).1 ∙ h.1)));
+      hands = set_views (Hand (did id v A ∷ es) t) _ id (view_after A v) (λ _. (omega (arith, now, was, three, mine), h.1)) (λ j u ne e theirs. absurd (ne (sym (old.hands j u e theirs).1 ∙ h.1)));
       roots = λ o low e. let r = (old.roots o low (sym (no_root k es id v t table A may (λ p x. absurd (cc)) o low) ∙ e)).0 in absurd (omega (arith, r, was, three));
       current = λ z. absurd (omega (arith, z, now, was, three));
     })
@@ -271,13 +271,13 @@ placed k (did id v a ∷ es) valid t table =
     record {
       free_is = λ e. ap (λ (z : ℕ). z % 5) gs ∙ old.free_is (sym c.free ∙ e);
       is_free = λ e. c.free ∙ old.is_free (ap (λ (z : ℕ). z % 5) (sym gs) ∙ e);
-      hands = set_views (Hand (did id v b ∷ es) t) _ id (noted b v)
+      hands = set_views (Hand (did id v b ∷ es) t) _ id (view_after b v)
           (λ some_one. let h = old.hands id v ok.1.0 (λ z. some_one (c.stage n ∙ z)) in (ap (λ (z : ℕ). z % 5) gs ∙ (h.0 ∙ sym (c.stage n)), ys ∙ h.1))
           (λ j u _ e some_one. let h = old.hands j u e some_one in (ap (λ (z : ℕ). z % 5) gs ∙ h.0, ys ∙ h.1));
       roots = λ o low e. let h = old.roots o low (c.roots o low e) in (ap (λ (z : ℕ). z % 5) gs ∙ h.0, ws ∙ h.1);
       current = λ e.
           let h = old.current (ap (λ (z : ℕ). z % 5) (sym gs) ∙ e) in
-          (subst (λ (z : ℕ). z < containers_in k) (sym ws) h.0, ap (root k (did id v b ∷ es)) ws ∙ c.roots_back w h.0 h.1);
+          (subst (λ (z : ℕ). z < container_count k) (sym ws) h.0, ap (root k (did id v b ∷ es)) ws ∙ c.roots_back w h.0 h.1);
     })
     a valid.1.2 valid.1.3 valid
 placed k (forked id v ∷ es) valid t table =

@@ -9,7 +9,7 @@ use Rattle.ft_trace.specs.declared.Act.TheVariants.{Commit, Answer, AnswerCursor
 use Rattle.ft_model.specs.declared.call.Call.{Call}
 use Rattle.ft_trace.specs.declared.Entry.{Entry}
 use Rattle.std.specs.List.{flat_map}
-use Rattle.ft_trace.specs.Acts.{noted, entries_next, left_next, maker, made, both, spent, sender, note, all_entries}
+use Rattle.ft_trace.specs.Acts.{view_after, entries_next, left_next, maker, made, both, spent, sender, note, all_entries}
 use Rattle.ft_trace.proofs.AllEntries.{next_all, has_none, both_all}
 use Rattle.ft_trace.specs.Traces.{Moment, Event, did, forked, joined, sent, run, writes_of, history, May, Valid}
 use Rattle.ft_trace.specs.Entries.{total, trace_entries}
@@ -65,7 +65,7 @@ weight h u = total h (all_entries u)
 
 pub parts_total : (k : Shape) (es : List Event) → Valid k es → total (λ (u : View). u.parts) (run k es).views ≡ k.passes
 parts_total k [] valid = omega arith
-parts_total k (did id v a ∷ es) valid = let t = total_set (λ (u : View). u.parts) (run k es).views id v (noted a v) valid.1.0 in let old = parts_total k es valid.0 in omega arith
+parts_total k (did id v a ∷ es) valid = let t = total_set (λ (u : View). u.parts) (run k es).views id v (view_after a v) valid.1.0 in let old = parts_total k es valid.0 in omega arith
 parts_total k (forked id v ∷ es) valid = let may = valid.1.3 in total_forked (λ (u : View). u.parts) (run k es).views id v (maker v) (made v) valid.1.0 (omega arith) ∙ parts_total k es valid.0
 parts_total k (sent id v given ∷ es) valid = total_forked (λ (u : View). u.parts) (run k es).views id v (sender given v) (note given v) valid.1.0 (omega arith) ∙ parts_total k es valid.0
 parts_total k (joined id v other w ∷ es) valid = total_joined (λ (u : View). u.parts) (run k es).views id other v w (both v w) spent valid.1.0 valid.1.1 valid.1.2 (omega arith) ∙ parts_total k es valid.0
@@ -80,7 +80,7 @@ left_by k m cs v act may = le_refl (v.left + length cs)
 pub left_total : (k : Shape) (es : List Event) → Valid k es → total (λ (u : View). u.left) (run k es).views + length (history es) ≤ k.passes * k.calls
 left_total k [] valid = omega arith
 left_total k (did id v a ∷ es) valid =
-    let t = total_set (λ (u : View). u.left) (run k es).views id v (noted a v) valid.1.0 in
+    let t = total_set (λ (u : View). u.left) (run k es).views id v (view_after a v) valid.1.0 in
     let old = left_total k es valid.0 in
     let by = left_by k (run k es) (history es) v a valid.1.3 in
     omega arith
@@ -108,10 +108,10 @@ weight_by h act es fs = omega arith
 pub entries_total : (h : Entry → ℕ) (k : Shape) (es : List Event) → Valid k es → total (weight h) (run k es).views ≡ total h (trace_entries es)
 entries_total h k [] valid = refl
 entries_total h k (did id v a ∷ es) valid =
-    let t = total_set (weight h) (run k es).views id v (noted a v) valid.1.0 in
+    let t = total_set (weight h) (run k es).views id v (view_after a v) valid.1.0 in
     let old = entries_total h k es valid.0 in
     let by = weight_by h a (all_entries v) (trace_entries es) in
-    let next : total h (all_entries (noted a v)) ≡ total h (entries_next a (all_entries v)) = ap (total h) (sym (next_all a v.entries (flat_map (λ (l : List Entry). l) v.lists))) in
+    let next : total h (all_entries (view_after a v)) ≡ total h (entries_next a (all_entries v)) = ap (total h) (sym (next_all a v.entries (flat_map (λ (l : List Entry). l) v.lists))) in
     omega (arith, t, old, by, next)
 entries_total h k (forked id v ∷ es) valid = total_forked (weight h) (run k es).views id v (maker v) (made v) valid.1.0 (omega arith) ∙ entries_total h k es valid.0
 entries_total h k (sent id v given ∷ es) valid = total_forked (weight h) (run k es).views id v (sender given v) (note given v) valid.1.0 (omega arith) ∙ entries_total h k es valid.0

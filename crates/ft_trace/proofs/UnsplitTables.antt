@@ -10,8 +10,8 @@ use Rattle.ft_trace.specs.declared.Shape.{Shape}
 use Rattle.ft_trace.specs.declared.View.{View}
 use Rattle.ft_trace.specs.Acts.{has_lock}
 use Rattle.ft_trace.specs.ContainerStates.{ContainerState}
-use Rattle.ft_trace.specs.Holds.{known}
-use Rattle.ft_trace.specs.Traces.{Event, history, Valid, Possible}
+use Rattle.ft_trace.specs.Holds.{known_state}
+use Rattle.ft_trace.specs.Traces.{Event, history, Valid, IsReachable}
 use Rattle.ft_trace.proofs.Announcing.{fits}
 use Rattle.ft_trace.proofs.Held.{content_known}
 
@@ -19,7 +19,7 @@ pub tables_unsplit : (k : Shape) (es : List Event) → Valid k es → (calls : L
 tables_unsplit k es valid calls o = newest_unsplit k.starts (fits k es valid).landed calls o
 
 -- a pass knows it of a container whose lock it has
-pub known_unsplit : (v : View) (o : ℕ) → has_lock o v.log ≡ true → Possible v → (known o v).table.keys ≡ []
+pub known_unsplit : (v : View) (o : ℕ) → has_lock o v.log ≡ true → IsReachable v → (known_state o v).table.keys ≡ []
 known_unsplit v o mine p =
     ap (λ (z : ContainerState). z.table.keys) (content_known v o mine p.0 p.1 p.2)
     ∙ tables_unsplit v.shape p.0 p.2.0 (history p.0) o
@@ -29,7 +29,7 @@ no_keys [] none = refl
 no_keys (key ∷ keys) none = absurd (omega (arith, none))
 
 -- also where no more is known than that some trace has the pass
-pub known_unsplit_in_some : (v : View) (o : ℕ) → has_lock o v.log ≡ true → ∥ Possible v ∥₁ → (known o v).table.keys ≡ []
+pub known_unsplit_in_some : (v : View) (o : ℕ) → has_lock o v.log ≡ true → ∥ IsReachable v ∥₁ → (known_state o v).table.keys ≡ []
 known_unsplit_in_some v o mine possible =
-    no_keys (known o v).table.keys
-    (∥∥₁_elim {P = length (known o v).table.keys ≡ 0} possible (ℕ_set _ _) (λ p. ap length (known_unsplit v o mine p)))
+    no_keys (known_state o v).table.keys
+    (∥∥₁_elim {P = length (known_state o v).table.keys ≡ 0} possible (ℕ_set _ _) (λ p. ap length (known_unsplit v o mine p)))

@@ -17,13 +17,13 @@ use Rattle.ft_trace.specs.declared.View.{View}
 use Rattle.ft_trace.specs.Addresses.{class_of, IsTableName}
 use Rattle.ft_trace.specs.Acts.{owes, stage}
 use Rattle.ft_trace.specs.ContainerStates.{container_after, kind_in, changes, reply_in}
-use Rattle.ft_trace.specs.Pictures.{root_in, Stands}
+use Rattle.ft_trace.specs.Pictures.{root_in, Represents}
 use Rattle.ft_trace.specs.Kinds.{rows, version_at, SoundAs, ClearAs}
 use Rattle.ft_trace.specs.FitCalls.{FitsCall}
 use Rattle.ft_trace.specs.BegunSections.{HasLocksOf}
 use Rattle.ft_trace.specs.OddVersions.{Shut}
-use Rattle.ft_trace.specs.Holds.{known, in_hand, AgreesWith}
-use Rattle.ft_trace.specs.Traces.{Possible}
+use Rattle.ft_trace.specs.Holds.{known_state, in_hand, AgreesWith}
+use Rattle.ft_trace.specs.Traces.{IsReachable}
 use Rattle.ft_trace.specs.WholeWrites.{MayPuts, WholeWrite, with_root_put, at_commit, at_end, after_write_of, MayBegin, MayReplace, MayCommitWrite, MayWriteSo}
 use Rattle.ft_trace.proofs.Known.{kind_known, declared_at}
 use Rattle.ft_trace.proofs.KnownContents.{in_world, content_there, content_left}
@@ -59,15 +59,15 @@ pub record WriteFacts (v : View) (o t : ℕ) (x news : Content) (table : TableUs
   pub history : (calls : List Call) → AgreesWith v (stored_newest v.shape.starts calls) → PutsContent v o news table write (stored_newest v.shape.starts calls)
 
 -- a fresh table may be put in the root that holds for readers what the container has
-pub replaces : (v : View) (o t : ℕ) (x : Content) (called : Call) (begin : MayBegin v o) → (known o v).content ≡ x → IsTableName v.shape t → stage t v.log ≡ 1 → SoundAs (kind_of x) v.shape.texts (class_of t) (in_hand t v) x → ((q : ℕ) → q < rows (kind_of x) (class_of t) → slice_index (in_hand t v) (version_at (kind_of x) (class_of t) q) ≤ 1)
+pub replaces : (v : View) (o t : ℕ) (x : Content) (called : Call) (begin : MayBegin v o) → (known_state o v).content ≡ x → IsTableName v.shape t → stage t v.log ≡ 1 → SoundAs (kind_of x) v.shape.texts (class_of t) (in_hand t v) x → ((q : ℕ) → q < rows (kind_of x) (class_of t) → slice_index (in_hand t v) (version_at (kind_of x) (class_of t) q) ≤ 1)
     → MayReplace v o called (Some (suc t))
 replaces v o t x called begin is named fresh sound young =
     let kind_eq : kind_of x ≡ kind_in v.shape.starts o = sym (ap kind_of is) ∙ kind_known v o begin.mine begin.possible in
-    let sound_as : SoundAs (kind_in v.shape.starts o) v.shape.texts (class_of t) (in_hand t v) (known o v).content = subst (λ (z : Kind × Content). SoundAs z.0 v.shape.texts (class_of t) (in_hand t v) z.1) (λ d. (kind_eq d, sym is d)) sound in
+    let sound_as : SoundAs (kind_in v.shape.starts o) v.shape.texts (class_of t) (in_hand t v) (known_state o v).content = subst (λ (z : Kind × Content). SoundAs z.0 v.shape.texts (class_of t) (in_hand t v) z.1) (λ d. (kind_eq d, sym is d)) sound in
     let low_as : (q : ℕ) → q < rows (kind_in v.shape.starts o) (class_of t) → slice_index (in_hand t v) (version_at (kind_in v.shape.starts o) (class_of t) q) ≤ 1 = subst (λ (z : Kind). (q : ℕ) → q < rows z (class_of t) → slice_index (in_hand t v) (version_at z (class_of t) q) ≤ 1) kind_eq young in
     (named, fresh, sound_as, low_as)
 
-module _ (v : View) (o t : ℕ) (x news : Content) (table : TableUse) (write : WholeWrite) (begin : MayBegin v o) (is : (known o v).content ≡ x) (facts : WriteFacts v o t x news table write) where
+module _ (v : View) (o t : ℕ) (x news : Content) (table : TableUse) (write : WholeWrite) (begin : MayBegin v o) (is : (known_state o v).content ≡ x) (facts : WriteFacts v o t x news table write) where
   kind_eq : kind_of x ≡ kind_in v.shape.starts o
   kind_eq = sym (ap kind_of is) ∙ kind_known v o begin.mine begin.possible
 
@@ -77,15 +77,15 @@ module _ (v : View) (o t : ℕ) (x news : Content) (table : TableUse) (write : W
       let content_after = content_left v o x begin.low begin.mine is calls agree write.call write.reply news past.answered (content.List []) in
       let table_after = past.table_after in
       let after : container_after v.shape.starts (write.call ∷ calls) o ≡ record { content = news; table = table } = λ d. record { content = content_after d; table = table_after d } in
-      let clear_as : ClearAs (kind_in v.shape.starts o) v.shape.texts (class_of t) (at_commit v o write).table (known o v).content (container_after v.shape.starts (write.call ∷ calls) o).content = subst (λ (z : Kind × Content × Content). ClearAs z.0 v.shape.texts (class_of t) (at_commit v o write).table z.1 z.2) (λ d. (kind_eq d, sym is d, sym content_after d)) facts.clear in
+      let clear_as : ClearAs (kind_in v.shape.starts o) v.shape.texts (class_of t) (at_commit v o write).table (known_state o v).content (container_after v.shape.starts (write.call ∷ calls) o).content = subst (λ (z : Kind × Content × Content). ClearAs z.0 v.shape.texts (class_of t) (at_commit v o write).table z.1 z.2) (λ d. (kind_eq d, sym is d, sym content_after d)) facts.clear in
       record {
         replied = facts.called.replied (reply_in (stored_newest v.shape.starts calls) write.call) (sym (ap (λ (z : Answer). z.reply) past.answered));
         within = past.within;
         declared = facts.called.declared (stored_newest v.shape.starts calls).world (declared_at (stored_newest v.shape.starts calls).world o x (in_world v o x begin.low begin.mine is calls agree) (content_there v o x begin.low begin.mine is calls agree (content.List [])));
         takes = past.takes;
-        clear = λ q root. let same : t ≡ q = let r : suc t ≡ suc q = sym facts.names ∙ root in omega (arith, r) in subst (λ (z : ℕ). ClearAs (kind_in v.shape.starts o) v.shape.texts (class_of z) (at_commit v o write).table (known o v).content (container_after v.shape.starts (write.call ∷ calls) o).content) same clear_as;
+        clear = λ q root. let same : t ≡ q = let r : suc t ≡ suc q = sym facts.names ∙ root in omega (arith, r) in subst (λ (z : ℕ). ClearAs (kind_in v.shape.starts o) v.shape.texts (class_of z) (at_commit v o write).table (known_state o v).content (container_after v.shape.starts (write.call ∷ calls) o).content) same clear_as;
         late = subst (λ (z : Kind × Content). MayPuts z.0 t z.1 true (at_commit v o write) write.late) (λ d. (kind_eq d, sym content_after d)) facts.late;
-        stands = subst (Stands v.shape.texts (at_end v o write)) (sym after) facts.ends;
+        stands = subst (Represents v.shape.texts (at_end v o write)) (sym after) facts.ends;
       }
 
   may_write : MayWriteSo v o t write
@@ -100,5 +100,5 @@ module _ (v : View) (o t : ℕ) (x news : Content) (table : TableUse) (write : W
     shut = λ q root. let same : t ≡ q = let r : suc t ≡ suc q = sym facts.names_still ∙ root in omega (arith, r) in subst (λ (z : Kind × ℕ). Shut (version_at z.0 (class_of z.1)) (rows z.0 (class_of z.1)) (at_end v o write).table) (λ d. (kind_eq d, same d)) facts.shut;
   }
 
-  pub facts_suffice : (start number : ℕ) × (s : Snap) × (stop : ℕ) × Possible (after_write_of v o t write start number s stop)
+  pub facts_suffice : (start number : ℕ) × (s : Snap) × (stop : ℕ) × IsReachable (after_write_of v o t write start number s stop)
   facts_suffice = write_possible v o t write begin may_write

@@ -313,8 +313,8 @@ floor_words k number [] = []
 floor_words k number (a ∷ l) = floor_words_next k number a (floor_words k number l)
 
 -- what a pass knows after one more action
-abbrev pub noted : Act → View → View
-noted a v =
+abbrev pub view_after : Act → View → View
+view_after a v =
     record {
       number = v.number;
       next = v.next;

@@ -22,8 +22,8 @@ pub data Word : Type 0 where
   header : ℕ → Word
   cell : ℕ → ℕ → Word
 
-abbrev pub containers_in : Shape → ℕ
-containers_in k = length k.starts
+abbrev pub container_count : Shape → ℕ
+container_count k = length k.starts
 
 -- how many tables the bank has of a class
 abbrev pub tables_in : Shape → ℕ → ℕ
@@ -59,7 +59,7 @@ IsTableName k t = IsClass (class_of t) × (number_of t < tables_in k (class_of t
 
 -- where the tables begin, where one does, and where they end
 unfoldable pub far : Shape → ℕ
-far k = heap_start (containers_in k) k.heap k.passes
+far k = heap_start (container_count k) k.heap k.passes
 
 unfoldable pub start_of : Shape → ℕ → ℕ
 start_of k t = far k + words_below k.tables (class_of t) + number_of t * table_size (class_of t)
@@ -83,9 +83,9 @@ abbrev pub Inside : Shape → Word → Type 0
 Inside k (announced_of p) = (0 < p) × (p ≤ 64)
 Inside k (count_of_class c) = IsClass c
 Inside k (bits w) = w < 224
-Inside k (lock_of o) = o < containers_in k
-Inside k (version_of o) = o < containers_in k
-Inside k (block o i) = (o < containers_in k) × (i < 6)
+Inside k (lock_of o) = o < container_count k
+Inside k (version_of o) = o < container_count k
+Inside k (block o i) = (o < container_count k) × (i < 6)
 Inside k (header t) = IsTableName k t
 Inside k (cell t i) = IsTableName k t × (i < size (class_of t))
 Inside k a = Unit {0}
@@ -116,7 +116,7 @@ opening k =
 
 -- the part of the bank that a word is of
 abbrev pub sizes_of : Shape → BankSizes
-sizes_of k = record { containers = containers_in k; heap = k.heap; passes = k.passes; tables = k.tables }
+sizes_of k = record { containers = container_count k; heap = k.heap; passes = k.passes; tables = k.tables }
 
 abbrev pub part_of : Word → Part
 part_of counter = Counter

@@ -14,8 +14,8 @@ use Rattle.ft_trace.specs.declared.View.{View}
 use Rattle.ft_trace.specs.Addresses.{class_of, slots, places}
 use Rattle.ft_trace.specs.Pictures.{entry_offset, entry_field, root_in}
 use Rattle.ft_trace.specs.Carefuls.{HasLiveKey}
-use Rattle.ft_trace.specs.Holds.{held, known}
-use Rattle.ft_trace.specs.Traces.{Possible}
+use Rattle.ft_trace.specs.Holds.{held_words, known_state}
+use Rattle.ft_trace.specs.Traces.{IsReachable}
 use Rattle.ft_trace.specs.Grants.{MayWrite}
 use Rattle.ft_trace.specs.WholeWrites.{Put, to_table, WholeWrite, after_write_of}
 
@@ -37,17 +37,17 @@ abbrev pub dict_set_write : View → ℕ → ℕ → ℕ → Key → Value → W
 dict_set_write v o t place key value =
     record {
       root = None;
-      early = value_puts (slots (class_of t)) (held o v).table place value;
+      early = value_puts (slots (class_of t)) (held_words o v).table place value;
       call = call.Dict o (dict.Set key value);
       reply = reply.Done;
-      late = entry_closed (slots (class_of t)) (held o v).table place;
+      late = entry_closed (slots (class_of t)) (held_words o v).table place;
     }
 
 -- a pass with the lock of a dict may put another value at a key that is there, whatever other passes have done
 abbrev pub ValuesMayBePut : Type 0
 ValuesMayBePut =
     (v : View) (o t place : ℕ) (key : Key) (value : Value) (pairs : DictContent) → MayWrite v o
-    → (known o v).content ≡ content.Dict pairs → root_in (held o v) ≡ suc t → place < places (class_of t)
-    → HasLiveKey (slots (class_of t)) (held o v).table place key → FitsKey key → FitsStored (Plain value)
+    → (known_state o v).content ≡ content.Dict pairs → root_in (held_words o v) ≡ suc t → place < places (class_of t)
+    → HasLiveKey (slots (class_of t)) (held_words o v).table place key → FitsKey key → FitsStored (Plain value)
     → (start number : ℕ) × (s : Snap) × (stop : ℕ)
-    × Possible (after_write_of v o t (dict_set_write v o t place key value) start number s stop)
+    × IsReachable (after_write_of v o t (dict_set_write v o t place key value) start number s stop)

@@ -4,11 +4,11 @@ use Rattle.ft_trace.specs.declared.Act.{Act}
 use Rattle.ft_trace.specs.declared.Act.TheVariants.{TakeFloor, TookOver}
 use Rattle.ft_trace.specs.declared.Shape.{Shape}
 use Rattle.ft_trace.specs.declared.View.{View}
-use Rattle.ft_trace.specs.Addresses.{lock_of, version_of, containers_in, at}
+use Rattle.ft_trace.specs.Addresses.{lock_of, version_of, container_count, at}
 use Rattle.ft_trace.specs.Acts.{place, Reports, has_lock, is_writing, floor_words}
 use Rattle.ft_trace.specs.Entries.{total}
 use Rattle.ft_trace.specs.TraceLaws.{HasView}
-use Rattle.ft_trace.specs.Traces.{Event, run, Valid, IsQuiet, Possible}
+use Rattle.ft_trace.specs.Traces.{Event, run, Valid, IsQuiet, IsReachable}
 
 -- there are as many tokens as passes
 abbrev pub TokensAreAll : Type 0
@@ -61,7 +61,7 @@ lock_of_another number n = cond (n == number) 0 n
 -- go of one. So of each lock that it hasn't it knows whether another pass has it. What it has no one else had then.
 abbrev pub KeepsOwners : Shape → View → Type 0
 KeepsOwners k u =
-    u.has_floor ≡ true → (o : ℕ) → o < containers_in k
+    u.has_floor ≡ true → (o : ℕ) → o < container_count k
     → (has_lock o u.log ≡ false → slice_index (floor_words k u.number u.log) (at k (lock_of o))
     ≡ lock_of_another u.number (slice_index (at_floor u.log) (at k (lock_of o))))
     × (has_lock o u.log ≡ true → (slice_index (floor_words k u.number u.log) (at k (lock_of o)) ≡ u.number)
@@ -72,7 +72,7 @@ OwnersStay = (k : Shape) (es : List Event) → Valid k es → (j : ℕ) (u : Vie
 
 -- the same of what a pass may know
 abbrev pub KnownOwnersStay : Type 0
-KnownOwnersStay = (v : View) → Possible v → KeepsOwners v.shape v
+KnownOwnersStay = (v : View) → IsReachable v → KeepsOwners v.shape v
 
 -- a pass with no token is quiet: it gave its last one away so, and takes no step without
 abbrev pub RestingPassesAreQuiet : Type 0
@@ -82,7 +82,7 @@ RestingPassesAreQuiet =
 -- while the pass has the floor, each version is even but those that the pass itself has made odd
 abbrev pub HasEvenVersions : Shape → View → Type 0
 HasEvenVersions k u =
-    u.has_floor ≡ true → (o : ℕ) → o < containers_in k → is_writing o u.log ≡ false
+    u.has_floor ≡ true → (o : ℕ) → o < container_count k → is_writing o u.log ≡ false
     → slice_index (floor_words k u.number u.log) (at k (version_of o)) % 2 ≡ 0
 
 abbrev pub FloorVersionsAreEven : Type 0
@@ -91,4 +91,4 @@ FloorVersionsAreEven =
 
 -- the same of what a pass may know
 abbrev pub KnownVersionsAreEven : Type 0
-KnownVersionsAreEven = (v : View) → Possible v → HasEvenVersions v.shape v
+KnownVersionsAreEven = (v : View) → IsReachable v → HasEvenVersions v.shape v

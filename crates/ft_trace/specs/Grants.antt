@@ -8,19 +8,19 @@ use Rattle.ft_model.specs.declared.reply.Reply.TheVariants as reply
 use Rattle.ft_trace.specs.declared.Snap.{Snap}
 use Rattle.ft_trace.specs.declared.View.{View}
 use Rattle.ft_trace.specs.declared.Act.TheVariants.{StartWrite, PutRoot, PutBlock, Commit, StopWrite, Unlock, Retire, Announce, ReadAnnounced, GiveTable}
-use Rattle.ft_trace.specs.Addresses.{containers_in, IsTableName}
-use Rattle.ft_trace.specs.Acts.{has_lock, is_writing, used, owes, flight, stage, noted}
+use Rattle.ft_trace.specs.Addresses.{container_count, IsTableName}
+use Rattle.ft_trace.specs.Acts.{has_lock, is_writing, used, owes, flight, stage, view_after}
 use Rattle.ft_trace.specs.Pictures.{root_in}
-use Rattle.ft_trace.specs.Holds.{held, known}
-use Rattle.ft_trace.specs.Traces.{Possible, IsAwake}
+use Rattle.ft_trace.specs.Holds.{held_words, known_state}
+use Rattle.ft_trace.specs.Traces.{IsReachable, IsAwake}
 
 -- a pass that has the lock of o may begin to write it: it is in the midst of nothing, has a call left, and the bank's
 -- calls are few enough for its words
 pub record MayWrite (v : View) (o : ℕ) : Type 0 where
   pub live : IsAwake v
-  pub possible : Possible v
+  pub possible : IsReachable v
   pub few : v.shape.passes * v.shape.calls < 2 ^ 46
-  pub low : o < containers_in v.shape
+  pub low : o < container_count v.shape
   pub mine : has_lock o v.log ≡ true
   pub quiet : is_writing o v.log ≡ false
   pub spare : used v.log ≡ false
@@ -30,38 +30,38 @@ pub record MayWrite (v : View) (o : ℕ) : Type 0 where
 -- what a pass knows that then cleared a list: numbers that it found, and what stood in the bank at its commit
 abbrev pub after_clear : View → ℕ → ℕ → ℕ → Snap → ℕ → View
 after_clear v o start number s stop =
-    noted (Unlock o)
-    (noted (StopWrite o stop)
-    (noted (Commit (call.List o list.Clear) reply.Done number s)
-    (noted (PutBlock o 1 0) (noted (PutRoot o 0 (root_in (held o v))) (noted (StartWrite o start) v)))))
+    view_after (Unlock o)
+    (view_after (StopWrite o stop)
+    (view_after (Commit (call.List o list.Clear) reply.Done number s)
+    (view_after (PutBlock o 1 0) (view_after (PutRoot o 0 (root_in (held_words o v))) (view_after (StartWrite o start) v)))))
 
 -- a pass with the lock of a list may clear it, whatever other passes have done
 abbrev pub ListsMayBeCleared : Type 0
 ListsMayBeCleared =
-    (v : View) (o : ℕ) (values : List Value) → MayWrite v o → (known o v).content ≡ content.List values
-    → (start number : ℕ) × (s : Snap) × (stop : ℕ) × Possible (after_clear v o start number s stop)
+    (v : View) (o : ℕ) (values : List Value) → MayWrite v o → (known_state o v).content ≡ content.List values
+    → (start number : ℕ) × (s : Snap) × (stop : ℕ) × IsReachable (after_clear v o start number s stop)
 
 -- what a pass knows that retired a table, went offline and gave the table back
 abbrev pub after_retiring : View → ℕ → ℕ → ℕ → View
 after_retiring v t goal found =
-    noted (GiveTable t) (noted (ReadAnnounced v.number found) (noted (Announce v.number 0) (noted (Retire t goal) v)))
+    view_after (GiveTable t) (view_after (ReadAnnounced v.number found) (view_after (Announce v.number 0) (view_after (Retire t goal) v)))
 
 -- the one pass of a bank may retire a table that it took out of a root by a clear, and give it back
 abbrev pub ClearedTablesMayBeGivenBack : Type 0
 ClearedTablesMayBeGivenBack =
-    (v : View) (o t : ℕ) (values : List Value) → MayWrite v o → (known o v).content ≡ content.List values
-    → v.number ≡ 1 → v.shape.passes ≡ 1 → flight v.log ≡ 0 → root_in (held o v) ≡ suc t
+    (v : View) (o t : ℕ) (values : List Value) → MayWrite v o → (known_state o v).content ≡ content.List values
+    → v.number ≡ 1 → v.shape.passes ≡ 1 → flight v.log ≡ 0 → root_in (held_words o v) ≡ suc t
     → (start number : ℕ) × (s : Snap) × (stop goal found : ℕ)
-    × Possible (after_retiring (after_clear v o start number s stop) t goal found)
+    × IsReachable (after_retiring (after_clear v o start number s stop) t goal found)
 
 -- the view is of a pass that is in the midst of no taking or giving
 pub record Ends (v : View) : Type 0 where
   pub view : View
-  pub possible : Possible view
+  pub possible : IsReachable view
   pub idle : flight view.log ≡ 0
 
 -- a pass that found a count above 0 may lower it and take a bit, or raise it again
 abbrev pub TakingsEnd : Type 0
 TakingsEnd =
-    (v : View) → IsAwake v → Possible v → (t old : ℕ) → IsTableName v.shape t → 0 < old → flight v.log ≡ 0
+    (v : View) → IsAwake v → IsReachable v → (t old : ℕ) → IsTableName v.shape t → 0 < old → flight v.log ≡ 0
     → owes v.log ≡ 0 → stage t v.log ≡ 0 → Ends v

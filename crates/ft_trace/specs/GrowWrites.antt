@@ -15,8 +15,8 @@ use Rattle.ft_trace.specs.Addresses.{class_of, slots, places, IsTableName}
 use Rattle.ft_trace.specs.Acts.{owes, stage}
 use Rattle.ft_trace.specs.Pictures.{entry_offset, entry_field}
 use Rattle.ft_trace.specs.Carefuls.{HasLiveKey}
-use Rattle.ft_trace.specs.Holds.{known, in_hand}
-use Rattle.ft_trace.specs.Traces.{Possible}
+use Rattle.ft_trace.specs.Holds.{known_state, in_hand}
+use Rattle.ft_trace.specs.Traces.{IsReachable}
 use Rattle.ft_trace.specs.WholeWrites.{to_table, WholeWrite, at_commit, after_write_of, MayBegin}
 use Rattle.ft_trace.specs.KeyWrites.{count_puts}
 
@@ -39,7 +39,7 @@ pub record HasGrown (v : View) (o t place : ℕ) (key : Key) (value : Value) (pa
   pub fresh : stage t v.log ≡ 1
   pub owed : owes v.log ≡ suc (class_of t)
   pub missing : has_key pairs.pairs key ≡ false
-  pub takes : dict_takes (known o v).table pairs (dict_set pairs key value) ≡ Some (class_of t)
+  pub takes : dict_takes (known_state o v).table pairs (dict_set pairs key value) ≡ Some (class_of t)
   pub words : IsDictWords v.shape.texts (at_commit v o (dict_grow_write v o t place key value pairs)).block
       (0 ∷ 0 ∷ in_hand t v) (Some (class_of t)) (length pairs.pairs + 1) (dict_set pairs key value)
   pub low : place < places (class_of t)
@@ -52,6 +52,6 @@ pub record HasGrown (v : View) (o t place : ℕ) (key : Key) (value : Value) (pa
 abbrev pub DictsMayGrow : Type 0
 DictsMayGrow =
     (v : View) (o t place : ℕ) (key : Key) (value : Value) (pairs : DictContent) → MayBegin v o
-    → (known o v).content ≡ content.Dict pairs → HasGrown v o t place key value pairs
+    → (known_state o v).content ≡ content.Dict pairs → HasGrown v o t place key value pairs
     → (start number : ℕ) × (s : Snap) × (stop : ℕ)
-    × Possible (after_write_of v o t (dict_grow_write v o t place key value pairs) start number s stop)
+    × IsReachable (after_write_of v o t (dict_grow_write v o t place key value pairs) start number s stop)

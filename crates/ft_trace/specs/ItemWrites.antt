@@ -12,8 +12,8 @@ use Rattle.ft_trace.specs.declared.Snap.{Snap}
 use Rattle.ft_trace.specs.declared.View.{View}
 use Rattle.ft_trace.specs.Addresses.{class_of, slots}
 use Rattle.ft_trace.specs.Pictures.{item_offset, item_field, root_in}
-use Rattle.ft_trace.specs.Holds.{held, known}
-use Rattle.ft_trace.specs.Traces.{Possible}
+use Rattle.ft_trace.specs.Holds.{held_words, known_state}
+use Rattle.ft_trace.specs.Traces.{IsReachable}
 use Rattle.ft_trace.specs.Grants.{MayWrite}
 use Rattle.ft_trace.specs.WholeWrites.{Put, to_block, to_table, WholeWrite, after_write_of}
 
@@ -34,37 +34,37 @@ abbrev pub list_set_write : View → ℕ → ℕ → ℤ → Value → WholeWrit
 list_set_write v o place index value =
     record {
       root = None;
-      early = item_puts (held o v).table place value;
+      early = item_puts (held_words o v).table place value;
       call = call.List o (list.Set index value);
       reply = reply.Done;
-      late = item_closed (held o v).table place;
+      late = item_closed (held_words o v).table place;
     }
 
 -- a pass with the lock of a list may put one of its items, whatever other passes have done
 abbrev pub ItemsMayBePut : Type 0
 ItemsMayBePut =
     (v : View) (o t place : ℕ) (index : ℤ) (value : Value) (values : List Value) → MayWrite v o
-    → (known o v).content ≡ content.List values → root_in (held o v) ≡ suc t
+    → (known_state o v).content ≡ content.List values → root_in (held_words o v) ≡ suc t
     → index_in (length values) index ≡ Some place → place < length values → FitsStored (Plain value)
     → (start number : ℕ) × (s : Snap) × (stop : ℕ)
-    × Possible (after_write_of v o t (list_set_write v o place index value) start number s stop)
+    × IsReachable (after_write_of v o t (list_set_write v o place index value) start number s stop)
 
 -- l.append(v), where the table has room: the length is put too, then the item after the last
 abbrev pub list_append_write : View → ℕ → ℕ → Value → WholeWrite
 list_append_write v o count value =
     record {
       root = None;
-      early = to_block 1 (count + 1) ∷ item_puts (held o v).table count value;
+      early = to_block 1 (count + 1) ∷ item_puts (held_words o v).table count value;
       call = call.List o (list.Append value);
       reply = reply.Done;
-      late = item_closed (held o v).table count;
+      late = item_closed (held_words o v).table count;
     }
 
 -- a pass with the lock of a list whose table has room may append an item, whatever other passes have done
 abbrev pub ItemsMayBeAppended : Type 0
 ItemsMayBeAppended =
     (v : View) (o t : ℕ) (value : Value) (values : List Value) → MayWrite v o
-    → (known o v).content ≡ content.List values → root_in (held o v) ≡ suc t → length values < slots (class_of t)
+    → (known_state o v).content ≡ content.List values → root_in (held_words o v) ≡ suc t → length values < slots (class_of t)
     → FitsStored (Plain value)
     → (start number : ℕ) × (s : Snap) × (stop : ℕ)
-    × Possible (after_write_of v o t (list_append_write v o (length values) value) start number s stop)
+    × IsReachable (after_write_of v o t (list_append_write v o (length values) value) start number s stop)

@@ -15,8 +15,8 @@ use Rattle.ft_trace.specs.declared.Snap.{Snap}
 use Rattle.ft_trace.specs.declared.View.{View}
 use Rattle.ft_trace.specs.Addresses.{class_of, slots, places}
 use Rattle.ft_trace.specs.Pictures.{index_field, entry_offset, entry_field, root_in}
-use Rattle.ft_trace.specs.Holds.{held, known}
-use Rattle.ft_trace.specs.Traces.{Possible}
+use Rattle.ft_trace.specs.Holds.{held_words, known_state}
+use Rattle.ft_trace.specs.Traces.{IsReachable}
 use Rattle.ft_trace.specs.Grants.{MayWrite}
 use Rattle.ft_trace.specs.WholeWrites.{Put, to_block, to_table, WholeWrite, at_commit, after_write_of}
 use Rattle.ft_trace.specs.EntryWrites.{entry_closed}
@@ -44,12 +44,12 @@ abbrev pub dict_add_write : View → ℕ → ℕ → ℕ → Key → Value → D
 dict_add_write v o t slot key value pairs =
     record {
       root = None;
-      early = count_puts (length pairs.pairs + 1) ((known o v).table.fill + 1) (pairs.next + 1)
-          ++ key_puts (slots (class_of t)) (held o v).table (known o v).table.fill slot
+      early = count_puts (length pairs.pairs + 1) ((known_state o v).table.fill + 1) (pairs.next + 1)
+          ++ key_puts (slots (class_of t)) (held_words o v).table (known_state o v).table.fill slot
           (hash_of v.shape.texts key) key value pairs.next;
       call = call.Dict o (dict.Set key value);
       reply = reply.Done;
-      late = entry_closed (slots (class_of t)) (held o v).table (known o v).table.fill;
+      late = entry_closed (slots (class_of t)) (held_words o v).table (known_state o v).table.fill;
     }
 
 -- A pass with the lock of a dict whose table has room may add a key, whatever other passes have done, where the index
@@ -57,11 +57,11 @@ dict_add_write v o t slot key value pairs =
 abbrev pub KeysMayBeAdded : Type 0
 KeysMayBeAdded =
     (v : View) (o t slot : ℕ) (key : Key) (value : Value) (pairs : DictContent) → MayWrite v o
-    → (known o v).content ≡ content.Dict pairs → root_in (held o v) ≡ suc t
-    → (known o v).table.fill < places (class_of t) → slot < slots (class_of t) → index_field (held o v).table slot ≡ 0
+    → (known_state o v).content ≡ content.Dict pairs → root_in (held_words o v) ≡ suc t
+    → (known_state o v).table.fill < places (class_of t) → slot < slots (class_of t) → index_field (held_words o v).table slot ≡ 0
     → has_key pairs.pairs key ≡ false
     → IsDictWords v.shape.texts (at_commit v o (dict_add_write v o t slot key value pairs)).block
     (0 ∷ 0 ∷ (at_commit v o (dict_add_write v o t slot key value pairs)).table) (Some (class_of t))
-    ((known o v).table.fill + 1) (dict_set pairs key value)
+    ((known_state o v).table.fill + 1) (dict_set pairs key value)
     → (start number : ℕ) × (s : Snap) × (stop : ℕ)
-    × Possible (after_write_of v o t (dict_add_write v o t slot key value pairs) start number s stop)
+    × IsReachable (after_write_of v o t (dict_add_write v o t slot key value pairs) start number s stop)

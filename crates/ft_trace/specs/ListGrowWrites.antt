@@ -14,8 +14,8 @@ use Rattle.ft_trace.specs.Addresses.{class_of, slots, IsTableName}
 use Rattle.ft_trace.specs.Acts.{owes, stage}
 use Rattle.ft_trace.specs.FitCalls.{FitsValue}
 use Rattle.ft_trace.specs.Pictures.{item_offset, item_field}
-use Rattle.ft_trace.specs.Holds.{known, in_hand}
-use Rattle.ft_trace.specs.Traces.{Possible}
+use Rattle.ft_trace.specs.Holds.{known_state, in_hand}
+use Rattle.ft_trace.specs.Traces.{IsReachable}
 use Rattle.ft_trace.specs.WholeWrites.{to_block, to_table, WholeWrite, at_commit, after_write_of, MayBegin}
 
 -- The new root is put first, then the length, and after the commit the version of the new item is made even, which was
@@ -37,7 +37,7 @@ pub record HasListGrown (v : View) (o t : ℕ) (value : Value) (values : List Va
   pub fresh : stage t v.log ≡ 1
   pub owed : owes v.log ≡ suc (class_of t)
   pub fits : FitsValue value
-  pub takes : list_takes (known o v).table (length values + 1) ≡ Some (class_of t)
+  pub takes : list_takes (known_state o v).table (length values + 1) ≡ Some (class_of t)
   pub words : IsListWords (at_commit v o (list_grow_write v o t value values)).block (0 ∷ 0 ∷ in_hand t v)
       (Some (class_of t)) (values ++ value ∷ [])
   pub open_item : item_field (in_hand t v) (length values) 0 ≡ 1
@@ -48,6 +48,6 @@ pub record HasListGrown (v : View) (o t : ℕ) (value : Value) (values : List Va
 abbrev pub ListsMayGrow : Type 0
 ListsMayGrow =
     (v : View) (o t : ℕ) (value : Value) (values : List Value) → MayBegin v o
-    → (known o v).content ≡ content.List values → HasListGrown v o t value values
+    → (known_state o v).content ≡ content.List values → HasListGrown v o t value values
     → (start number : ℕ) × (s : Snap) × (stop : ℕ)
-    × Possible (after_write_of v o t (list_grow_write v o t value values) start number s stop)
+    × IsReachable (after_write_of v o t (list_grow_write v o t value values) start number s stop)

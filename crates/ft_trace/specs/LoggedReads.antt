@@ -10,7 +10,7 @@ use Rattle.ft_trace.specs.Addresses.{IsTableName, class_of, size}
 use Rattle.std.specs.Prelude.{None}
 use Rattle.ft_model.specs.Worlds.{length_of, kind_of}
 use Rattle.ft_trace.specs.ContainerStates.{ContainerState, state_at, reply_in, kind_in}
-use Rattle.ft_trace.specs.Pictures.{Picture, root_in, Stands}
+use Rattle.ft_trace.specs.Pictures.{ContainerWords, root_in, Represents}
 
 -- the log has these actions, newest first, between two loads of the version of o that found the same even number
 pub record Between (log : List Act) (o : ℕ) (mid : List Act) : Type 0 where
@@ -27,7 +27,7 @@ pub record Among (a : Act) (mid : List Act) : Type 0 where
   pub is : mid ≡ newer ++ a ∷ rest
 
 -- the reads among these found what the picture has
-pub record Agrees (k : Shape) (o : ℕ) (mid : List Act) (x : Picture) : Type 0 where
+pub record Agrees (k : Shape) (o : ℕ) (mid : List Act) (x : ContainerWords) : Type 0 where
   pub root : (f : ℕ) → Among (ReadRoot o f) mid → f ≡ root_in x
   pub block : (i f : ℕ) → i < 6 → Among (ReadBlock o i f) mid → f ≡ slice_index x.block i
   pub table : (t i f : ℕ) → IsTableName k t → i < size (class_of t) → root_in x ≡ suc t → Among (ReadTable t i f) mid
@@ -40,8 +40,8 @@ IsNothing kept = (kept.table.class ≡ None) × (length_of kept.content ≡ 0)
 -- the call has this reply wherever o is of its kind and has words that answer as the reads of mid did
 abbrev pub AnswersOn : Shape → Call → ℕ → Reply → List Act → Type 0
 AnswersOn k call o r mid =
-    (x : Picture) (t : StoredWorld) → kind_of (state_at t o).content ≡ kind_in k.starts o
-    → Stands k.texts x (state_at t o) → Agrees k o mid x → reply_in t call ≡ r
+    (x : ContainerWords) (t : StoredWorld) → kind_of (state_at t o).content ≡ kind_in k.starts o
+    → Represents k.texts x (state_at t o) → Agrees k o mid x → reply_in t call ≡ r
 
 -- the reply to a call about o was read between two equal even loads of its version, and the counter loaded between them
 pub record LookedAtOne (k : Shape) (call : Call) (o : ℕ) (r : Reply) (number : ℕ) (log : List Act) : Type 0 where
@@ -57,7 +57,7 @@ pub record LookedAtBoth (k : Shape) (call : Call) (o p : ℕ) (r : Reply) (numbe
   pub other : List Act
   pub between : Between log o one × Between log p other
   pub stamp : Among (ReadCounter number) one × Among (ReadCounter number) other
-  pub answers : (x y : Picture) (t : StoredWorld) → kind_of (state_at t o).content ≡ kind_in k.starts o
-      → kind_of (state_at t p).content ≡ kind_in k.starts p → Stands k.texts x (state_at t o)
-      → Stands k.texts y (state_at t p)
+  pub answers : (x y : ContainerWords) (t : StoredWorld) → kind_of (state_at t o).content ≡ kind_in k.starts o
+      → kind_of (state_at t p).content ≡ kind_in k.starts p → Represents k.texts x (state_at t o)
+      → Represents k.texts y (state_at t p)
       → Agrees k o one x → Agrees k p other y → reply_in t call ≡ r

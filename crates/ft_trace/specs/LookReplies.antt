@@ -19,7 +19,7 @@ use Rattle.ft_trace.specs.declared.Act.{Act}
 use Rattle.ft_trace.specs.declared.Act.TheVariants.{ReadTable}
 use Rattle.ft_trace.specs.declared.Shape.{Shape}
 use Rattle.ft_trace.specs.declared.View.{View}
-use Rattle.ft_trace.specs.Addresses.{containers_in, class_of, slots}
+use Rattle.ft_trace.specs.Addresses.{container_count, class_of, slots}
 use Rattle.ft_trace.specs.Kinds.{rows}
 use Rattle.ft_trace.specs.Pictures.{entry_offset, item_offset, walk_of}
 use Rattle.ft_trace.specs.ContainerStates.{first_writes, kind_in, reply_in}
@@ -77,7 +77,7 @@ stored_at k es n = stored_newest k.starts (first_writes n (history es))
 -- and with it the dict replies.
 abbrev pub DictHitsAreReplied : Type 0
 DictHitsAreReplied =
-    (k : Shape) (es : List Event) → Valid k es → (o t place : ℕ) (key : Key) (n : ℕ) → o < containers_in k
+    (k : Shape) (es : List Event) → Valid k es → (o t place : ℕ) (key : Key) (n : ℕ) → o < container_count k
     → kind_in k.starts o ≡ kind.Dict → FitsKey key → place < rows kind.Dict (class_of t) → (j : ℕ) (u : View)
     → HasView k es j u → (h : Hit u.log o t place key n)
     → (reply_in (stored_at k es n) (call.Dict o (dict.Has key)) ≡ reply.Truth true)
@@ -87,7 +87,7 @@ DictHitsAreReplied =
 -- a key that was found in a set is there at the stamp
 abbrev pub SetHitsAreReplied : Type 0
 SetHitsAreReplied =
-    (k : Shape) (es : List Event) → Valid k es → (o t place : ℕ) (key : Key) (n : ℕ) → o < containers_in k
+    (k : Shape) (es : List Event) → Valid k es → (o t place : ℕ) (key : Key) (n : ℕ) → o < container_count k
     → kind_in k.starts o ≡ kind.Set → FitsKey key → place < rows kind.Set (class_of t) → (j : ℕ) (u : View)
     → HasView k es j u → Hit u.log o t place key n
     → reply_in (stored_at k es n) (call.Set o (set.Has key)) ≡ reply.Truth true
@@ -95,7 +95,7 @@ SetHitsAreReplied =
 -- a key that was not found on its probe, or where the root was read 0, is not there at the stamp
 abbrev pub MissesAreReplied : Type 0
 MissesAreReplied =
-    (k : Shape) (es : List Event) → Valid k es → (o : ℕ) (key : Key) (n : ℕ) → o < containers_in k → FitsKey key
+    (k : Shape) (es : List Event) → Valid k es → (o : ℕ) (key : Key) (n : ℕ) → o < container_count k → FitsKey key
     → (j : ℕ) (u : View) → HasView k es j u → ((t : ℕ) × IsAbsent k u.log o t key n) ⊎ Bare u.log o n
     → (kind_in k.starts o ≡ kind.Dict → DictReplies (stored_at k es n) o key None)
     × (kind_in k.starts o ≡ kind.Set → reply_in (stored_at k es n) (call.Set o (set.Has key)) ≡ reply.Truth false)
@@ -104,7 +104,7 @@ MissesAreReplied =
 -- where the list has no such item
 abbrev pub ItemsAreReplied : Type 0
 ItemsAreReplied =
-    (k : Shape) (es : List Event) → Valid k es → (o t place n : ℕ) → o < containers_in k
+    (k : Shape) (es : List Event) → Valid k es → (o t place n : ℕ) → o < container_count k
     → kind_in k.starts o ≡ kind.List → place < rows kind.List (class_of t) → (j : ℕ) (u : View) → HasView k es j u
     → (h : ItemHit u.log o t place n) (kind payload : ℕ) → IsItemRead t place kind payload h.mid
     → ((value : Value) × IsStored kind payload (Plain value)
@@ -115,7 +115,7 @@ ItemsAreReplied =
 -- a list has no item at an index past its table, and none where the root was read 0
 abbrev pub PastItemsAreReplied : Type 0
 PastItemsAreReplied =
-    (k : Shape) (es : List Event) → Valid k es → (o index n : ℕ) → o < containers_in k
+    (k : Shape) (es : List Event) → Valid k es → (o index n : ℕ) → o < container_count k
     → kind_in k.starts o ≡ kind.List → (j : ℕ) (u : View) → HasView k es j u
     → ((t : ℕ) × (slots (class_of t) ≤ index) × ItemPast u.log o t n) ⊎ Bare u.log o n
     → reply_in (stored_at k es n) (call.List o (list.Get (pos index))) ≡ item_reply None

@@ -32,19 +32,19 @@ inner k zero ws = []
 inner k (suc t) ws = table_words k t ws
 
 -- what a container's words are: words 2 to 7 of its block, and those of its table
-pub record Picture : Type 0 where
+pub record ContainerWords : Type 0 where
   pub block : List ℕ
   pub table : List ℕ
 
-abbrev pub root_in : Picture → ℕ
+abbrev pub root_in : ContainerWords → ℕ
 root_in x = slice_index x.block 0
 
-abbrev pub picture : Shape → ℕ → List ℕ → Picture
+abbrev pub picture : Shape → ℕ → List ℕ → ContainerWords
 picture k o ws = record { block = block_of k o ws; table = inner k (root_of k o ws) ws }
 
 -- they stand for a content with this class and fill; the two words of a table's header say nothing of it
-abbrev pub Stands : List ℕ → Picture → ContainerState → Type 0
-Stands texts x kept = StandsAs texts x.block (0 ∷ 0 ∷ x.table) kept.table kept.content
+abbrev pub Represents : List ℕ → ContainerWords → ContainerState → Type 0
+Represents texts x kept = StandsAs texts x.block (0 ∷ 0 ∷ x.table) kept.table kept.content
 
 -- ---- words of a table
 

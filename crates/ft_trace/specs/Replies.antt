@@ -12,44 +12,44 @@ use Rattle.ft_model.specs.TableUses.{CanLackMemory, stored_newest, takes_in, wou
 use Rattle.ft_trace.specs.declared.Act.{Act}
 use Rattle.ft_trace.specs.declared.Act.TheVariants.{Answer, AnswerCursor, ReadCounter, ReadCount}
 use Rattle.ft_trace.specs.declared.View.{View}
-use Rattle.ft_trace.specs.Acts.{owes, noted}
+use Rattle.ft_trace.specs.Acts.{owes, view_after}
 use Rattle.ft_trace.specs.ContainerStates.{reply_in}
 use Rattle.ft_trace.specs.Causes.{AreOfOneCall, HasCause}
 use Rattle.ft_trace.specs.Hands.{cursor_in, MovesCursor}
 use Rattle.ft_trace.specs.Holds.{AgreesWith}
-use Rattle.ft_trace.specs.Traces.{Possible, IsAwake}
+use Rattle.ft_trace.specs.Traces.{IsReachable, IsAwake}
 
 -- what a pass knows that loaded the counter and gave a reply with that stamp
 abbrev pub after_answer : View → Call → Reply → ℕ → View
-after_answer v call said number = noted (Answer call said number) (noted (ReadCounter number) v)
+after_answer v call said number = view_after (Answer call said number) (view_after (ReadCounter number) v)
 
 -- A pass with a call left may load the counter and give a reply with that stamp to a call that asks no cursor, where it
 -- is the plain containers' in each history that agrees with what the pass knows of the containers whose locks it has,
 -- and has its cause there.
 abbrev pub RepliesMayBeGiven : Type 0
 RepliesMayBeGiven =
-    (v : View) (call : Call) (said : Reply) → IsAwake v → Possible v → 0 < v.left → is_write call said ≡ false
+    (v : View) (call : Call) (said : Reply) → IsAwake v → IsReachable v → 0 < v.left → is_write call said ≡ false
     → moved_cursor call ≡ None
     → ((calls : List Call) (number : ℕ) → AgreesWith v (stored_newest v.shape.starts calls)
     → IsReplied call said (reply_in (stored_newest v.shape.starts calls) call)
     × HasCause (stored_newest v.shape.starts calls) (ReadCounter number ∷ v.log) call said number)
-    → (number : ℕ) × Possible (after_answer v call said number)
+    → (number : ℕ) × IsReachable (after_answer v call said number)
 
 -- what a pass knows that loaded the counter and answered an `iter` or a `next` of its cursor under a number, with that
 -- stamp
 abbrev pub after_cursor : View → Call → Reply → ℕ → ℕ → Cursor → View
 after_cursor v call said stamp number left =
-    noted (AnswerCursor call said stamp number (cursor_in number v.log) left) (noted (ReadCounter stamp) v)
+    view_after (AnswerCursor call said stamp number (cursor_in number v.log) left) (view_after (ReadCounter stamp) v)
 
 -- A pass with a call left may load the counter and answer an `iter` or a `next` with that stamp, where the plain
 -- containers answer so in each history that agrees with what the pass knows of the containers whose locks it has.
 abbrev pub CursorsMayBeMoved : Type 0
 CursorsMayBeMoved =
-    (v : View) (call : Call) (said : Reply) (number : ℕ) (left : Cursor) → IsAwake v → Possible v → 0 < v.left
+    (v : View) (call : Call) (said : Reply) (number : ℕ) (left : Cursor) → IsAwake v → IsReachable v → 0 < v.left
     → moved_cursor call ≡ Some number
     → ((calls : List Call) → AgreesWith v (stored_newest v.shape.starts calls)
     → MovesCursor (stored_newest v.shape.starts calls).world call number (cursor_in number v.log) said left)
-    → (stamp : ℕ) × Possible (after_cursor v call said stamp number left)
+    → (stamp : ℕ) × IsReachable (after_cursor v call said stamp number left)
 
 -- the reply that a call raises which found no memory of a class
 abbrev pub lacks : ℕ → Reply
@@ -59,10 +59,10 @@ lacks class = reply.Raised (raise.Memory class)
 -- MemoryError of it to a call that would take a table of that class.
 abbrev pub MemoryErrorsMayBeAnswered : Type 0
 MemoryErrorsMayBeAnswered =
-    (v : View) (call : Call) (class : ℕ) (newer rest : List Act) → IsAwake v → Possible v
+    (v : View) (call : Call) (class : ℕ) (newer rest : List Act) → IsAwake v → IsReachable v
     → 0 < v.left → v.log ≡ newer ++ ReadCount class 0 ∷ rest → AreOfOneCall newer → owes rest ≡ 0
     → ((calls : List Call) → AgreesWith v (stored_newest v.shape.starts calls)
     → CanLackMemory (stored_newest v.shape.starts calls).world call
     × (would_pass (stored_newest v.shape.starts calls).world call ≡ false)
     × (takes_in (stored_newest v.shape.starts calls) call ≡ Some class))
-    → (number : ℕ) × Possible (after_answer v call (lacks class) number)
+    → (number : ℕ) × IsReachable (after_answer v call (lacks class) number)

@@ -8,7 +8,7 @@ use Rattle.ft_trace.specs.declared.Shape.{Shape}
 use Rattle.ft_trace.specs.declared.Snap.{Snap}
 use Rattle.ft_trace.specs.declared.View.{View}
 use Rattle.ft_trace.specs.Acts.{is_writing, has_emptied}
-use Rattle.ft_trace.specs.Addresses.{block, bits, containers_in, IsTableName, free_bit_of, free_word_of}
+use Rattle.ft_trace.specs.Addresses.{block, bits, container_count, IsTableName, free_bit_of, free_word_of}
 use Rattle.ft_trace.specs.Ages.{age}
 use Rattle.ft_trace.specs.Bits.{bit}
 use Rattle.ft_trace.specs.LoggedReads.{IsNothing}
@@ -41,7 +41,7 @@ pub record BeganBare (k : Shape) (es : List Event) (o j : ℕ) (log : List Act) 
 -- table first: a clear, a copy, a symmetric difference.
 abbrev pub ZeroRootsHaveCauses : Type 0
 ZeroRootsHaveCauses =
-    (k : Shape) (es : List Event) → Valid k es → (o : ℕ) → o < containers_in k → (j : ℕ) (u : View) → HasView k es j u
+    (k : Shape) (es : List Event) → Valid k es → (o : ℕ) → o < container_count k → (j : ℕ) (u : View) → HasView k es j u
     → (is_writing o u.log ≡ true → word k es (block o 0) ≡ 0
     → (has_emptied o u.log ≡ true) ⊎ BeganBare k es o j u.log)
     × ((newer rest : List Act) (c : Call) (r : Reply) (f : ℕ) (s : Snap) → u.log ≡ newer ++ Commit c r f s ∷ rest
@@ -52,4 +52,4 @@ abbrev pub RetiredTablesAreApart : Type 0
 RetiredTablesAreApart =
     (k : Shape) (es : List Event) → Valid k es → (t : ℕ) → IsTableName k t → age es t % 5 ≡ 4
     → (bit (free_bit_of t) (word k es (bits (free_word_of t))) ≢ 1)
-    × ((o : ℕ) → o < containers_in k → word k es (block o 0) ≢ suc t)
+    × ((o : ℕ) → o < container_count k → word k es (block o 0) ≢ suc t)

@@ -8,7 +8,7 @@ use Rattle.ft_trace.specs.declared.Shape.{Shape}
 use Rattle.ft_trace.specs.declared.Snap.{Snap}
 use Rattle.ft_trace.specs.declared.View.{View}
 use Rattle.ft_trace.specs.Addresses.{counter}
-use Rattle.ft_trace.specs.Acts.{seen_writes, noted, both, sender, note, shown}
+use Rattle.ft_trace.specs.Acts.{seen_writes, view_after, both, sender, note, shown}
 use Rattle.ft_trace.specs.TraceLaws.{HasView}
 use Rattle.ft_trace.specs.Traces.{Event, did, word, Valid}
 
@@ -25,7 +25,7 @@ SeenIsLow =
 -- What a pass has seen never falls, and a note says all that its maker has seen. Who takes in a pass or a note has seen
 -- all that the other had: so two that meet stand in one history that begins with what each had seen.
 pub record SeenIsHandedOn : Type 0 where
-  pub acts : (a : Act) (v : View) → seen_writes v ≤ seen_writes (noted a v)
+  pub acts : (a : Act) (v : View) → seen_writes v ≤ seen_writes (view_after a v)
   pub notes : (given : ℕ) (v : View) → seen_writes (note given v) ≡ seen_writes v
   pub senders : (given : ℕ) (v : View) → seen_writes (sender given v) ≡ seen_writes v
   pub own : (v w : View) → seen_writes v ≤ seen_writes (both v w)

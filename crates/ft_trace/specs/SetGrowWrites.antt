@@ -16,8 +16,8 @@ use Rattle.ft_model.specs.Classes.{set_entries}
 use Rattle.ft_trace.specs.Acts.{owes, stage}
 use Rattle.ft_trace.specs.Pictures.{entry_offset, entry_field}
 use Rattle.ft_trace.specs.Carefuls.{HasLiveKey}
-use Rattle.ft_trace.specs.Holds.{known, in_hand}
-use Rattle.ft_trace.specs.Traces.{Possible}
+use Rattle.ft_trace.specs.Holds.{known_state, in_hand}
+use Rattle.ft_trace.specs.Traces.{IsReachable}
 use Rattle.ft_trace.specs.WholeWrites.{to_table, WholeWrite, at_commit, after_write_of, MayBegin}
 use Rattle.ft_trace.specs.KeyWrites.{count_puts}
 
@@ -41,7 +41,7 @@ pub record HasSetGrown (v : View) (o t place : ℕ) (key : Key) (elements : SetC
   pub owed : owes v.log ≡ suc (class_of t)
   pub fits : FitsKey key
   pub missing : has_element elements.elements key ≡ false
-  pub takes : set_takes (known o v).table elements (set_add elements key) ≡ Some (class_of t)
+  pub takes : set_takes (known_state o v).table elements (set_add elements key) ≡ Some (class_of t)
   pub words : IsSetWords v.shape.texts (at_commit v o (set_grow_write v o t place key elements)).block
       (0 ∷ 0 ∷ in_hand t v) (Some (class_of t)) (length elements.elements + 1) (set_add elements key)
   pub low : place < set_entries (class_of t)
@@ -55,6 +55,6 @@ pub record HasSetGrown (v : View) (o t place : ℕ) (key : Key) (elements : SetC
 abbrev pub SetsMayGrow : Type 0
 SetsMayGrow =
     (v : View) (o t place : ℕ) (key : Key) (elements : SetContent) → MayBegin v o
-    → (known o v).content ≡ content.Set elements → HasSetGrown v o t place key elements
+    → (known_state o v).content ≡ content.Set elements → HasSetGrown v o t place key elements
     → (start number : ℕ) × (s : Snap) × (stop : ℕ)
-    × Possible (after_write_of v o t (set_grow_write v o t place key elements) start number s stop)
+    × IsReachable (after_write_of v o t (set_grow_write v o t place key elements) start number s stop)

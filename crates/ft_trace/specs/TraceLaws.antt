@@ -26,7 +26,7 @@ use Rattle.ft_trace.specs.declared.View.{View}
 use Rattle.ft_trace.specs.Bits.{bit}
 use Rattle.ft_trace.specs.Counts.{word_bits, taking, giving, owing}
 use Rattle.ft_trace.specs.Entries.{total, number_count, AllRight, Numbered}
-use Rattle.ft_trace.specs.Addresses.{Word, Inside, at, sizes_of, part_of, counter, write_number, announced_of, count_of_class, bits, lock_of, version_of, block, header, containers_in, tables_in, class_of, slots, IsTableName, free_word_of, free_bit_of}
+use Rattle.ft_trace.specs.Addresses.{Word, Inside, at, sizes_of, part_of, counter, write_number, announced_of, count_of_class, bits, lock_of, version_of, block, header, container_count, tables_in, class_of, slots, IsTableName, free_word_of, free_bit_of}
 use Rattle.ft_trace.specs.Acts.{has_lock, is_writing, reads, stage, goal, has_goal, clear, announces, owes, all_entries}
 use Rattle.ft_trace.specs.Owners.{is_owner_in, had_locks, found_owners, AreOwners}
 use Rattle.ft_trace.specs.Ages.{age, all_acts}
@@ -34,7 +34,7 @@ use Rattle.ft_trace.specs.ContainerStates.{container_after, first_writes, kind_i
 use Rattle.ft_trace.specs.Pictures.{entry_offset, item_offset, walk_of, table_words, picture}
 use Rattle.ft_trace.specs.ItemWords.{words_at}
 use Rattle.ft_trace.specs.Kinds.{rows, is_key, pair_words, element_words, under, LaterAs, IsKeyed, IsItems}
-use Rattle.ft_trace.specs.Holds.{held, known, in_hand}
+use Rattle.ft_trace.specs.Holds.{held_words, known_state, in_hand}
 use Rattle.ft_trace.specs.FitCalls.{FitsContent}
 use Rattle.ft_trace.specs.LoggedReads.{Among, IsNothing, LookedAtOne, LookedAtBoth}
 use Rattle.ft_trace.specs.LoggedLookUps.{Hit, Miss, Full, Bare, ItemHit, ItemPast, IsNew}
@@ -57,7 +57,7 @@ WordsLieApart =
 -- a lock word is the number of the one pass that has the lock, and 0 where none has it
 abbrev pub LocksNameHolders : Type 0
 LocksNameHolders =
-    (k : Shape) (es : List Event) → Valid k es → (o : ℕ) → o < containers_in k
+    (k : Shape) (es : List Event) → Valid k es → (o : ℕ) → o < container_count k
     → ((j : ℕ) (u : View) → HasView k es j u → has_lock o u.log ≡ true → word k es (lock_of o) ≡ u.number)
     × (word k es (lock_of o) ≢ 0 → (j : ℕ) × (u : View) × HasView k es j u × (has_lock o u.log ≡ true))
     × ((i j : ℕ) (u w : View) → HasView k es i u → HasView k es j w → has_lock o u.log ≡ true
@@ -79,7 +79,7 @@ OneKnowsAllOwners =
 -- the version of a container is odd exactly while a pass writes it, and that pass has its lock
 abbrev pub VersionsAreOddInWrites : Type 0
 VersionsAreOddInWrites =
-    (k : Shape) (es : List Event) → Valid k es → (o : ℕ) → o < containers_in k
+    (k : Shape) (es : List Event) → Valid k es → (o : ℕ) → o < container_count k
     → (word k es (version_of o) % 2 ≡ 1 → (j : ℕ) × (u : View) × HasView k es j u × (is_writing o u.log ≡ true))
     × ((j : ℕ) (u : View) → HasView k es j u → is_writing o u.log ≡ true → (has_lock o u.log ≡ true)
     × (word k es (version_of o) % 2 ≢ 0))
@@ -87,7 +87,7 @@ VersionsAreOddInWrites =
 -- a version of an entry or item is odd only where that of the container is whose root names its table
 abbrev pub EvenTablesAreShut : Type 0
 EvenTablesAreShut =
-    (k : Shape) (es : List Event) → Valid k es → (o : ℕ) → o < containers_in k → word k es (version_of o) % 2 ≡ 0
+    (k : Shape) (es : List Event) → Valid k es → (o : ℕ) → o < container_count k → word k es (version_of o) % 2 ≡ 0
     → (t : ℕ) → word k es (block o 0) ≡ suc t → ShutFor k (run k es).words o t
 
 -- of no other table a version is odd: where the table isn't fresh in a hand, and no container whose version is odd has
@@ -96,7 +96,7 @@ abbrev pub OddVersionsAreInWrites : Type 0
 OddVersionsAreInWrites =
     (k : Shape) (es : List Event) → Valid k es → (t : ℕ) → IsTableName k t
     → ((j : ℕ) (u : View) → HasView k es j u → stage t u.log ≢ 1)
-    → ((o : ℕ) → o < containers_in k → word k es (block o 0) ≡ suc t → word k es (version_of o) % 2 ≡ 0)
+    → ((o : ℕ) → o < container_count k → word k es (block o 0) ≡ suc t → word k es (version_of o) % 2 ≡ 0)
     → IsAllShut (class_of t) (table_words k t (run k es).words)
 
 -- ---- entries
@@ -149,7 +149,7 @@ CallsAreCounted =
 -- while the version is even the words stand for the content at the counter, with its class and fill
 abbrev pub EvenWordsStand : Type 0
 EvenWordsStand =
-    (k : Shape) (es : List Event) → Valid k es → (o : ℕ) → o < containers_in k → word k es (version_of o) % 2 ≡ 0
+    (k : Shape) (es : List Event) → Valid k es → (o : ℕ) → o < container_count k → word k es (version_of o) % 2 ≡ 0
     → StandsFor k (run k es) (history es) o
 
 -- the table of each container is in order: it has room for what is stored, and so no container has more than the
@@ -170,16 +170,16 @@ ContentsFit =
 -- a root that is 0 while the version is even is that of a container with no table and nothing in it
 abbrev pub ZeroRootsHaveNothing : Type 0
 ZeroRootsHaveNothing =
-    (k : Shape) (es : List Event) → Valid k es → (o : ℕ) → o < containers_in k → word k es (version_of o) % 2 ≡ 0
+    (k : Shape) (es : List Event) → Valid k es → (o : ℕ) → o < container_count k → word k es (version_of o) % 2 ≡ 0
     → word k es (block o 0) ≡ 0 → IsNothing (container_after k.starts (history es) o)
 
 -- a pass knows the words and the content of a container whose lock it has, and the words of a table fresh in its hand
 abbrev pub HoldersKnow : Type 0
 HoldersKnow =
     (v : View) (es : List Event) (j : ℕ) → Knows v es j
-    → ((o : ℕ) → o < containers_in v.shape → has_lock o v.log ≡ true
-    → (held o v ≡ picture v.shape o (run v.shape es).words)
-    × (known o v ≡ container_after v.shape.starts (history es) o))
+    → ((o : ℕ) → o < container_count v.shape → has_lock o v.log ≡ true
+    → (held_words o v ≡ picture v.shape o (run v.shape es).words)
+    × (known_state o v ≡ container_after v.shape.starts (history es) o))
     × ((t : ℕ) → IsTableName v.shape t → stage t v.log ≡ 1 → in_hand t v ≡ table_words v.shape t (run v.shape es).words)
 
 -- ---- tables
@@ -189,7 +189,7 @@ abbrev pub TablesAreSomewhere : Type 0
 TablesAreSomewhere =
     (k : Shape) (es : List Event) → Valid k es → (t : ℕ) → IsTableName k t
     → (bit (free_bit_of t) (word k es (bits (free_word_of t))) ≡ 1)
-    ⊎ (((o : ℕ) × (o < containers_in k) × (word k es (block o 0) ≡ suc t))
+    ⊎ (((o : ℕ) × (o < container_count k) × (word k es (block o 0) ≡ suc t))
     ⊎ (((j : ℕ) × (u : View) × HasView k es j u × (stage t u.log ≢ 0))
     ⊎ (age es t % 5 ≡ 4)))
 
@@ -197,13 +197,13 @@ TablesAreSomewhere =
 abbrev pub TablesAreInOnePlace : Type 0
 TablesAreInOnePlace =
     (k : Shape) (es : List Event) → Valid k es → (t : ℕ) → IsTableName k t
-    → ((o q : ℕ) → o < containers_in k → q < containers_in k → word k es (block o 0) ≡ suc t
+    → ((o q : ℕ) → o < container_count k → q < container_count k → word k es (block o 0) ≡ suc t
     → word k es (block q 0) ≡ suc t → o ≡ q)
     × ((i j : ℕ) (u w : View) → HasView k es i u → HasView k es j w → stage t u.log ≢ 0 → stage t w.log ≢ 0 → i ≡ j)
-    × ((o i : ℕ) (u : View) → o < containers_in k → word k es (block o 0) ≡ suc t → HasView k es i u
+    × ((o i : ℕ) (u : View) → o < container_count k → word k es (block o 0) ≡ suc t → HasView k es i u
     → stage t u.log ≡ 0)
     × (bit (free_bit_of t) (word k es (bits (free_word_of t))) ≡ 1
-    → ((o : ℕ) → o < containers_in k → word k es (block o 0) ≢ suc t)
+    → ((o : ℕ) → o < container_count k → word k es (block o 0) ≢ suc t)
     × ((i : ℕ) (u : View) → HasView k es i u → stage t u.log ≡ 0))
 
 -- the set bits of a class are as many as its count word says, one more for each taking that has lowered it and has
@@ -254,7 +254,7 @@ abbrev pub TablesAreFreeBeforeRoots : Type 0
 TablesAreFreeBeforeRoots =
     (k : Shape) (newer es : List Event) (id : ℕ) (v : View) (o r t : ℕ) → r ≢ suc t
     → Valid k (newer ++ did id v (PutRoot o r (suc t)) ∷ es)
-    → (p : ℕ) → p < containers_in k → word k (newer ++ did id v (PutRoot o r (suc t)) ∷ es) (block p 0) ≡ suc t
+    → (p : ℕ) → p < container_count k → word k (newer ++ did id v (PutRoot o r (suc t)) ∷ es) (block p 0) ≡ suc t
     → (later sooner : List Event) × (newer ≡ later ++ sooner)
     × (bit (free_bit_of t) (word k (sooner ++ did id v (PutRoot o r (suc t)) ∷ es) (bits (free_word_of t))) ≡ 1)
 
@@ -277,13 +277,13 @@ GivenUpTablesRest =
 -- what holds at every moment of the table that a root names, also while the version is odd
 abbrev pub TablesAreSound : Type 0
 TablesAreSound =
-    (k : Shape) (es : List Event) → Valid k es → (o : ℕ) → o < containers_in k → (t : ℕ) → word k es (block o 0) ≡ suc t
+    (k : Shape) (es : List Event) → Valid k es → (o : ℕ) → o < container_count k → (t : ℕ) → word k es (block o 0) ≡ suc t
     → SoundFor k (run k es).words o t (container_after k.starts (history es) o).content
 
 -- what stays of it from then on until it is taken out of the root
 abbrev pub TableWordsStay : Type 0
 TableWordsStay =
-    (k : Shape) (newer older : List Event) → Valid k (newer ++ older) → (o : ℕ) → o < containers_in k → (t : ℕ)
+    (k : Shape) (newer older : List Event) → Valid k (newer ++ older) → (o : ℕ) → o < container_count k → (t : ℕ)
     → word k older (block o 0) ≡ suc t → age (newer ++ older) t ≡ age older t
     → LaterAs (kind_in k.starts o) (class_of t) (table_words k t (run k older).words) (table_words k t (run k (newer
     ++ older)).words)
@@ -291,7 +291,7 @@ TableWordsStay =
 -- a key that was found is there at the stamp, with the words that were read of it
 abbrev pub HitsAreRight : Type 0
 HitsAreRight =
-    (k : Shape) (es : List Event) → Valid k es → (o t p : ℕ) (key : Key) (n : ℕ) → o < containers_in k
+    (k : Shape) (es : List Event) → Valid k es → (o t p : ℕ) (key : Key) (n : ℕ) → o < container_count k
     → IsKeyed (kind_in k.starts o) → p < rows (kind_in k.starts o) (class_of t) → (j : ℕ) (u : View) → HasView k es j u
     → (h : Hit u.log o t p key n)
     → (n ≤ word k es counter)
@@ -303,7 +303,7 @@ HitsAreRight =
 -- its slots
 abbrev pub MissesAreRight : Type 0
 MissesAreRight =
-    (k : Shape) (es : List Event) → Valid k es → (o t : ℕ) (key : Key) (n : ℕ) → FitsKey key → o < containers_in k
+    (k : Shape) (es : List Event) → Valid k es → (o t : ℕ) (key : Key) (n : ℕ) → FitsKey key → o < container_count k
     → IsKeyed (kind_in k.starts o) → (j : ℕ) (u : View) → HasView k es j u
     → Miss u.log o t (rows (kind_in k.starts o) (class_of t))
     (walk_of (kind_in k.starts o) k.texts (class_of t) key) key n
@@ -314,13 +314,13 @@ MissesAreRight =
 -- where the root was read 0 there is nothing at the stamp
 abbrev pub BareRootsAreRight : Type 0
 BareRootsAreRight =
-    (k : Shape) (es : List Event) → Valid k es → (o n : ℕ) → o < containers_in k → (j : ℕ) (u : View) → HasView k es j u
+    (k : Shape) (es : List Event) → Valid k es → (o n : ℕ) → o < container_count k → (j : ℕ) (u : View) → HasView k es j u
     → Bare u.log o n → (n ≤ word k es counter) × IsNothing (container_after k.starts (first_writes n (history es)) o)
 
 -- an item that was read is the list's at the stamp
 abbrev pub ItemsAreRight : Type 0
 ItemsAreRight =
-    (k : Shape) (es : List Event) → Valid k es → (o t p n : ℕ) → o < containers_in k → IsItems (kind_in k.starts o)
+    (k : Shape) (es : List Event) → Valid k es → (o t p n : ℕ) → o < container_count k → IsItems (kind_in k.starts o)
     → p < slots (class_of t) → (j : ℕ) (u : View) → HasView k es j u → (h : ItemHit u.log o t p n)
     → (n ≤ word k es counter)
     × ((w f : ℕ) → w < 2 → Among (ReadTable t (item_offset p (1 + w)) f) h.mid
@@ -329,7 +329,7 @@ ItemsAreRight =
 -- at the stamp a list is no longer than the table that its root named
 abbrev pub ListsFitTheirTables : Type 0
 ListsFitTheirTables =
-    (k : Shape) (es : List Event) → Valid k es → (o t n : ℕ) → o < containers_in k → IsItems (kind_in k.starts o)
+    (k : Shape) (es : List Event) → Valid k es → (o t n : ℕ) → o < container_count k → IsItems (kind_in k.starts o)
     → (j : ℕ) (u : View) → HasView k es j u → ItemPast u.log o t n
     → (n ≤ word k es counter)
     × (length (list_of (container_after k.starts (first_writes n (history es)) o).content) ≤ slots (class_of t))
@@ -337,7 +337,7 @@ ListsFitTheirTables =
 -- what was read between two equal even loads of the version is the reply at the stamp
 abbrev pub LooksAreRight : Type 0
 LooksAreRight =
-    (k : Shape) (es : List Event) → Valid k es → (call : Call) (o : ℕ) → o < containers_in k → (j : ℕ) (u : View)
+    (k : Shape) (es : List Event) → Valid k es → (call : Call) (o : ℕ) → o < container_count k → (j : ℕ) (u : View)
     → HasView k es j u
     → (r : Reply) (n : ℕ) → LookedAtOne k call o r n u.log
     → (n ≤ word k es counter) × (reply_in (stored_newest k.starts (first_writes n (history es))) call ≡ r)
@@ -345,7 +345,7 @@ LooksAreRight =
 -- and of two containers
 abbrev pub LooksAtBothAreRight : Type 0
 LooksAtBothAreRight =
-    (k : Shape) (es : List Event) → Valid k es → (call : Call) (o p : ℕ) → o < containers_in k → p < containers_in k
+    (k : Shape) (es : List Event) → Valid k es → (call : Call) (o p : ℕ) → o < container_count k → p < container_count k
     → (j : ℕ) (u : View) → HasView k es j u
     → (r : Reply) (n : ℕ) → LookedAtBoth k call o p r n u.log
     → (n ≤ word k es counter) × (reply_in (stored_newest k.starts (first_writes n (history es))) call ≡ r)
@@ -353,7 +353,7 @@ LooksAtBothAreRight =
 -- a root that has changed since the pass read it names a table that the pass has not found since it last announced
 abbrev pub ChangedRootsAreNew : Type 0
 ChangedRootsAreNew =
-    (k : Shape) (es : List Event) → Valid k es → (j : ℕ) (u : View) → HasView k es j u → (o r : ℕ) → o < containers_in k
+    (k : Shape) (es : List Event) → Valid k es → (j : ℕ) (u : View) → HasView k es j u → (o r : ℕ) → o < container_count k
     → (log : List Act) → u.log ≡ ReadRoot o r ∷ log → IsNew o r log
 
 -- ---- room
@@ -364,7 +364,7 @@ NumbersHaveRoom =
     (k : Shape) (es : List Event) → Valid k es
     → (word k es counter ≤ k.passes * k.calls)
     × (word k es write_number ≤ 1 + k.passes * k.calls + k.passes)
-    × ((o : ℕ) → o < containers_in k → word k es (version_of o) ≤ 2 * (k.passes * k.calls) + 1)
+    × ((o : ℕ) → o < container_count k → word k es (version_of o) ≤ 2 * (k.passes * k.calls) + 1)
 
 -- the next serial of a container is at most the slots of the largest table for each write
 abbrev pub NextSerialsAreLow : Type 0

@@ -19,10 +19,10 @@ use Rattle.ft_trace.specs.declared.Act.TheVariants.{Lock, Unlock, StartWrite, Pu
 use Rattle.ft_trace.specs.declared.Shape.{Shape}
 use Rattle.ft_trace.specs.declared.Snap.{Snap}
 use Rattle.ft_trace.specs.declared.View.{View}
-use Rattle.ft_trace.specs.Addresses.{Word, counter, write_number, version_of, containers_in, tables_in, class_of, size, IsTableName, at, opening}
-use Rattle.ft_trace.specs.Acts.{place, word_after, Reports, has_lock, is_writing, has_committed, has_emptied, stage, goal, announces, clear, used, debt, flight, owes, noted, starter, maker, made, both, spent, sender, note}
+use Rattle.ft_trace.specs.Addresses.{Word, counter, write_number, version_of, container_count, tables_in, class_of, size, IsTableName, at, opening}
+use Rattle.ft_trace.specs.Acts.{place, word_after, Reports, has_lock, is_writing, has_committed, has_emptied, stage, goal, announces, clear, used, debt, flight, owes, view_after, starter, maker, made, both, spent, sender, note}
 use Rattle.ft_trace.specs.ContainerStates.{container_after, first_writes, kind_in, changes, may_empty, reply_in}
-use Rattle.ft_trace.specs.Pictures.{table_words, root_of, picture, Stands}
+use Rattle.ft_trace.specs.Pictures.{table_words, root_of, picture, Represents}
 use Rattle.ft_trace.specs.Kinds.{rows, version_at, SoundAs, CarefulAs, ClearAs, HasVersions}
 use Rattle.ft_trace.specs.OddVersions.{Shut, Timely, Low}
 use Rattle.ft_trace.specs.FitCalls.{FitsCall}
@@ -50,7 +50,7 @@ abbrev pub happens : Shape → Event → Moment → Moment
 happens k (did id v a) m =
     record {
       words = slice_set m.words (at k (place a)) (word_after v.number a (word_in k m (place a)));
-      views = slice_set m.views id (noted a v);
+      views = slice_set m.views id (view_after a v);
     }
 happens k (forked id v) m = record { words = m.words; views = slice_set m.views id (maker v) ++ made v ∷ [] }
 happens k (joined id v other w) m =
@@ -83,7 +83,7 @@ history (sent id v given ∷ es) = history es
 
 -- the words of o stand for what the history makes of it
 abbrev pub StandsFor : Shape → Moment → List Call → ℕ → Type 0
-StandsFor k m cs o = Stands k.texts (picture k o m.words) (container_after k.starts cs o)
+StandsFor k m cs o = Represents k.texts (picture k o m.words) (container_after k.starts cs o)
 
 abbrev pub snap : Moment → List Call → Snap
 snap m cs = record { words = m.words; calls = cs }
@@ -119,19 +119,19 @@ LowFor k ws o t count committed =
 -- What a pass with the view v may do at the moment m, after the history cs.
 abbrev pub May : Shape → Moment → List Call → View → Act → Type 0
 -- it doesn't have the lock
-May k m cs v (Lock o f s) = (o < containers_in k) × (has_lock o v.log ≡ false) × (s ≡ snap m cs)
+May k m cs v (Lock o f s) = (o < container_count k) × (has_lock o v.log ≡ false) × (s ≡ snap m cs)
 -- it has the lock, and the version is even
-May k m cs v (Unlock o) = (o < containers_in k) × (has_lock o v.log ≡ true) × (is_writing o v.log ≡ false)
+May k m cs v (Unlock o) = (o < container_count k) × (has_lock o v.log ≡ true) × (is_writing o v.log ≡ false)
 May k m cs v (StartWrite o f) =
-    (o < containers_in k) × (has_lock o v.log ≡ true) × (is_writing o v.log ≡ false)
+    (o < container_count k) × (has_lock o v.log ≡ true) × (is_writing o v.log ≡ false)
     × (word_in k m (version_of o) + 1 < 2 ^ 64)
 -- it has made the version odd
-May k m cs v (PutBlock o i x) = (o < containers_in k) × (i < 6) × (is_writing o v.log ≡ true) × (i ≢ 0)
+May k m cs v (PutBlock o i x) = (o < container_count k) × (i < 6) × (is_writing o v.log ≡ true) × (i ≢ 0)
 -- Besides: the new root names a table that is fresh in its hand and as it must be for readers, whose versions have
 -- room; no version in the table that the root names now is odd; and no other table was taken out of a root since the
 -- last commit. 0 is put before the commit alone.
 May k m cs v (PutRoot o r old) =
-    (o < containers_in k)
+    (o < container_count k)
     × (is_writing o v.log ≡ true)
     × (old ≡ root_of k o m.words)
     × ((t : ℕ) → r ≡ suc t → IsTableName k t × (stage t v.log ≡ 1)
@@ -142,7 +142,7 @@ May k m cs v (PutRoot o r old) =
     × (r ≡ 0 → has_committed o v.log ≡ false)
 -- a word of the table that the root names, put with care; a version is made odd before the commit, and even after it
 May k m cs v (PutTable o t i x) =
-    (o < containers_in k)
+    (o < container_count k)
     × IsTableName k t
     × (i < size (class_of t))
     × (is_writing o v.log ≡ true)
@@ -168,7 +168,7 @@ May k m cs v (Commit c r f s) =
     × ((t : ℕ) → root_of k (changes c) m.words ≡ suc t
     → ClearFor k m.words (changes c) t (container_after k.starts cs (changes c)).content (container_after k.starts (c
     ∷ cs) (changes c)).content)
-    × (changes c < containers_in k)
+    × (changes c < container_count k)
     × (s ≡ snap m cs)
     × ((class : ℕ) → owes v.log ≡ suc class → takes_in (stored_newest k.starts cs) c ≡ Some class)
     × (would_pass (stored_newest k.starts cs).world c ≡ false)
@@ -179,17 +179,17 @@ May k m cs v (Commit c r f s) =
 -- It has made the version odd and has committed since. The words stand for the content at the counter, with its class
 -- and fill, and no version of an entry or item of the container is odd.
 May k m cs v (StopWrite o f) =
-    (o < containers_in k)
+    (o < container_count k)
     × (is_writing o v.log ≡ true)
     × (has_committed o v.log ≡ true)
     × StandsFor k m cs o
     × (word_in k m (version_of o) + 1 < 2 ^ 64)
     × ((t : ℕ) → root_of k o m.words ≡ suc t → ShutFor k m.words o t)
 -- loads ask nothing but that the word is there
-May k m cs v (Version o f) = o < containers_in k
-May k m cs v (ReadBlock o i f) = (o < containers_in k) × (i < 6)
+May k m cs v (Version o f) = o < container_count k
+May k m cs v (ReadBlock o i f) = (o < container_count k) × (i < 6)
 -- but for a root that is read to search its table without the lock: the pass is online
-May k m cs v (ReadRoot o f) = (o < containers_in k) × (0 < announces v.log) × (v.number ≤ k.passes)
+May k m cs v (ReadRoot o f) = (o < container_count k) × (0 < announces v.log) × (v.number ≤ k.passes)
 May k m cs v (ReadTable t i f) = IsTableName k t × (i < size (class_of t))
 May k m cs v (ReadHeader t f) = IsTableName k t
 May k m cs v (ReadCounter f) = Unit {0}
@@ -301,8 +301,8 @@ abbrev pub Knows : View → List Event → ℕ → Type 0
 Knows v es id = Valid v.shape es × (get_elem? (run v.shape es).views id ≡ some v)
 
 -- what a pass may know
-abbrev pub Possible : View → Type 0
-Possible v = (es : List Event) × (id : ℕ) × Knows v es id
+abbrev pub IsReachable : View → Type 0
+IsReachable v = (es : List Event) × (id : ℕ) × Knows v es id
 
 -- what holds of every trace in which a pass knows this
 abbrev pub Sure : View → (List Event → Type 0) → Type 0

@@ -13,16 +13,16 @@ use Rattle.ft_trace.specs.declared.Act.{Act}
 use Rattle.ft_trace.specs.declared.Act.TheVariants.{StartWrite, PutRoot, PutBlock, PutTable, Commit, StopWrite, Unlock}
 use Rattle.ft_trace.specs.declared.Snap.{Snap}
 use Rattle.ft_trace.specs.declared.View.{View}
-use Rattle.ft_trace.specs.Addresses.{containers_in, class_of, size, IsTableName}
-use Rattle.ft_trace.specs.Acts.{has_lock, is_writing, used, owes, stage, mem, noted}
+use Rattle.ft_trace.specs.Addresses.{container_count, class_of, size, IsTableName}
+use Rattle.ft_trace.specs.Acts.{has_lock, is_writing, used, owes, stage, mem, view_after}
 use Rattle.ft_trace.specs.ContainerStates.{container_after, kind_in, changes, may_empty, reply_in}
-use Rattle.ft_trace.specs.Pictures.{inner, Picture, root_in, Stands}
+use Rattle.ft_trace.specs.Pictures.{inner, ContainerWords, root_in, Represents}
 use Rattle.ft_trace.specs.Kinds.{rows, version_at, SoundAs, CarefulAs, ClearAs}
 use Rattle.ft_trace.specs.FitCalls.{FitsCall}
 use Rattle.ft_trace.specs.BegunSections.{HasLocksOf}
 use Rattle.ft_trace.specs.OddVersions.{Shut, Timely}
-use Rattle.ft_trace.specs.Holds.{held, known, in_hand, AgreesWith}
-use Rattle.ft_trace.specs.Traces.{Possible, IsAwake}
+use Rattle.ft_trace.specs.Holds.{held_words, known_state, in_hand, AgreesWith}
+use Rattle.ft_trace.specs.Traces.{IsReachable, IsAwake}
 
 -- ---- puts
 
@@ -42,17 +42,17 @@ log_of o t [] log = log
 log_of o t (put ∷ puts) log = log_of o t puts (act_of o t put ∷ log)
 
 -- what they leave of the container's words
-abbrev pub with_put : Picture → Put → Picture
+abbrev pub with_put : ContainerWords → Put → ContainerWords
 with_put words (to_block i x) = record { block = slice_set words.block i x; table = words.table }
 with_put words (to_table i x) = record { block = words.block; table = slice_set words.table i x }
 
-abbrev pub with_puts : Picture → List Put → Picture
+abbrev pub with_puts : ContainerWords → List Put → ContainerWords
 with_puts words [] = words
 with_puts words (put ∷ puts) = with_puts (with_put words put) puts
 
 -- A put into the block is of another word than the root. One into the table is careful for readers without the lock,
 -- and a version is made odd before the commit and even after it.
-abbrev pub MayPut : Kind → ℕ → Content → Bool → Picture → Put → Type 0
+abbrev pub MayPut : Kind → ℕ → Content → Bool → ContainerWords → Put → Type 0
 MayPut kind t content committed words (to_block i x) = (0 < i) × (i < 6)
 MayPut kind t content committed words (to_table i x) =
     (root_in words ≡ suc t)
@@ -61,7 +61,7 @@ MayPut kind t content committed words (to_table i x) =
     × Timely (version_at kind (class_of t)) (rows kind (class_of t)) i x committed
 
 -- each of them, after the ones before it
-abbrev pub MayPuts : Kind → ℕ → Content → Bool → Picture → List Put → Type 0
+abbrev pub MayPuts : Kind → ℕ → Content → Bool → ContainerWords → List Put → Type 0
 MayPuts kind t content committed words [] = Unit {0}
 MayPuts kind t content committed words (put ∷ puts) =
     MayPut kind t content committed words put × MayPuts kind t content committed (with_put words put) puts
@@ -81,16 +81,16 @@ log_of_root o old None log = log
 log_of_root o old (Some root) log = PutRoot o root old ∷ log
 
 -- the words of o once this root was put: a table that was fresh in hand is now its own
-abbrev pub with_root_put : View → ℕ → Option ℕ → Picture
-with_root_put v o None = held o v
+abbrev pub with_root_put : View → ℕ → Option ℕ → ContainerWords
+with_root_put v o None = held_words o v
 with_root_put v o (Some root) =
-    record { block = slice_set (held o v).block 0 root; table = inner v.shape root (mem v.shape v.log) }
+    record { block = slice_set (held_words o v).block 0 root; table = inner v.shape root (mem v.shape v.log) }
 
 -- the words of o at the commit, and at the end
-abbrev pub at_commit : View → ℕ → WholeWrite → Picture
+abbrev pub at_commit : View → ℕ → WholeWrite → ContainerWords
 at_commit v o write = with_puts (with_root_put v o write.root) write.early
 
-abbrev pub at_end : View → ℕ → WholeWrite → Picture
+abbrev pub at_end : View → ℕ → WholeWrite → ContainerWords
 at_end v o write = with_puts (at_commit v o write) write.late
 
 -- what a pass knows that has this log in place of its own
@@ -114,15 +114,15 @@ with_log v log =
 -- its log at the commit, where it found this version
 abbrev pub log_at_commit : View → ℕ → ℕ → WholeWrite → ℕ → List Act
 log_at_commit v o t write start =
-    log_of o t write.early (log_of_root o (root_in (held o v)) write.root (StartWrite o start ∷ v.log))
+    log_of o t write.early (log_of_root o (root_in (held_words o v)) write.root (StartWrite o start ∷ v.log))
 
 -- what a pass knows after the whole write, which let go of the lock at its end: numbers that it found, and what stood
 -- in the bank at its commit
 abbrev pub after_write_of : View → ℕ → ℕ → WholeWrite → ℕ → ℕ → Snap → ℕ → View
 after_write_of v o t write start number s stop =
-    noted (Unlock o)
-    (noted (StopWrite o stop)
-    (with_log (noted (Commit write.call write.reply number s) v)
+    view_after (Unlock o)
+    (view_after (StopWrite o stop)
+    (with_log (view_after (Commit write.call write.reply number s) v)
     (log_of o t write.late (Commit write.call write.reply number s ∷ log_at_commit v o t write start))))
 
 -- ---- which may be made
@@ -131,9 +131,9 @@ after_write_of v o t write start number s stop =
 -- last commit, and the bank's calls are few enough for its words
 pub record MayBegin (v : View) (o : ℕ) : Type 0 where
   pub live : IsAwake v
-  pub possible : Possible v
+  pub possible : IsReachable v
   pub few : v.shape.passes * v.shape.calls < 2 ^ 46
-  pub low : o < containers_in v.shape
+  pub low : o < container_count v.shape
   pub mine : has_lock o v.log ≡ true
   pub quiet : is_writing o v.log ≡ false
   pub spare : used v.log ≡ false
@@ -147,7 +147,7 @@ MayReplace v o call (Some zero) = may_empty call ≡ true
 MayReplace v o call (Some (suc t)) =
     IsTableName v.shape t
     × (stage t v.log ≡ 1)
-    × SoundAs (kind_in v.shape.starts o) v.shape.texts (class_of t) (in_hand t v) (known o v).content
+    × SoundAs (kind_in v.shape.starts o) v.shape.texts (class_of t) (in_hand t v) (known_state o v).content
     × ((p : ℕ) → p < rows (kind_in v.shape.starts o) (class_of t)
     → slice_index (in_hand t v) (version_at (kind_in v.shape.starts o) (class_of t) p) ≤ 1)
 
@@ -162,10 +162,10 @@ pub record MayCommitWrite (v : View) (o t : ℕ) (write : WholeWrite) (calls : L
       → takes_in (stored_newest v.shape.starts calls) write.call ≡ Some class
   pub clear : (q : ℕ) → root_in (at_commit v o write) ≡ suc q
       → ClearAs (kind_in v.shape.starts o) v.shape.texts (class_of q) (at_commit v o write).table
-      (known o v).content (container_after v.shape.starts (write.call ∷ calls) o).content
+      (known_state o v).content (container_after v.shape.starts (write.call ∷ calls) o).content
   pub late : MayPuts (kind_in v.shape.starts o) t (container_after v.shape.starts (write.call ∷ calls) o).content true
       (at_commit v o write) write.late
-  pub stands : Stands v.shape.texts (at_end v o write) (container_after v.shape.starts (write.call ∷ calls) o)
+  pub stands : Represents v.shape.texts (at_end v o write) (container_after v.shape.starts (write.call ∷ calls) o)
 
 -- The write is one of o, the pass has the lock of each container that it names, and words can represent its keys and
 -- values: what it puts before its commit may be put, it may be committed after whatever writes agree with what the pass
@@ -176,7 +176,7 @@ pub record MayWriteSo (v : View) (o t : ℕ) (write : WholeWrite) : Type 0 where
   pub fits : FitsCall write.call
   pub locks : HasLocksOf write.call v.log
   pub root : MayReplace v o write.call write.root
-  pub early : MayPuts (kind_in v.shape.starts o) t (known o v).content false (with_root_put v o write.root) write.early
+  pub early : MayPuts (kind_in v.shape.starts o) t (known_state o v).content false (with_root_put v o write.root) write.early
   pub commit : (calls : List Call) → AgreesWith v (stored_newest v.shape.starts calls)
       → MayCommitWrite v o t write calls
   pub shut : (q : ℕ) → root_in (at_end v o write) ≡ suc q
@@ -187,4 +187,4 @@ pub record MayWriteSo (v : View) (o t : ℕ) (write : WholeWrite) : Type 0 where
 abbrev pub WritesMayBeMade : Type 0
 WritesMayBeMade =
     (v : View) (o t : ℕ) (write : WholeWrite) → MayBegin v o → MayWriteSo v o t write
-    → (start number : ℕ) × (s : Snap) × (stop : ℕ) × Possible (after_write_of v o t write start number s stop)
+    → (start number : ℕ) × (s : Snap) × (stop : ℕ) × IsReachable (after_write_of v o t write start number s stop)

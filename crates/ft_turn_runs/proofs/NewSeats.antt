@@ -14,7 +14,7 @@ use Rattle.ft_model.specs.Limits.{most_cursors}
 use Rattle.ft_trace.specs.declared.Act.{Act}
 use Rattle.ft_trace.specs.declared.View.{View}
 use Rattle.ft_trace.specs.Acts.{announces}
-use Rattle.ft_trace.specs.Addresses.{containers_in}
+use Rattle.ft_trace.specs.Addresses.{container_count}
 use Rattle.ft_bank.specs.declared.tokens.Tokens.{Tokens}
 use Rattle.ft_bank.specs.Passes.{shape_of, view}
 use Rattle.ft_bank.specs.PassSections.{no_sections, stack_of}
@@ -95,7 +95,7 @@ idle_between e script i c is none =
 pub none_handed : (e : Engine) (giver d : Caller) (t : Tokens) (count : ℕ) → IsGiver e giver t → IsCallerOf e d → IsWoken t d → NoneOwns (view (pass_of giver)) count → NoneOwns (view (pass_of d)) count
 none_handed e giver d t count gave is_d woken none o thread low below owned =
     let from : HasFloorFrom (view (pass_of giver)) (view (pass_of d)) = woken_have_floor e giver d t gave.caller is_d gave.floor gave.hands woken in
-    none o thread (subst (λ k. o < containers_in k) from.shape low) below (same_owners (view (pass_of giver)) (view (pass_of d)) from o ∙ owned)
+    none o thread (subst (λ k. o < container_count k) from.shape low) below (same_owners (view (pass_of giver)) (view (pass_of d)) from o ∙ owned)
 
 pub one_more_sits : (e : Engine) (i : ℕ) (d : Caller) (t : Tokens) → IsGiver e d t → thread_of d ≡ i → stack_of (pass_of d) ≡ no_sections → NoneOwns (view (pass_of d)) i → NobodyOwns e (i + 1) t
 one_more_sits e i d t gives number stack none = (
@@ -154,7 +154,7 @@ new_turned e script seats t bank are count nobody_owns some =
     let gives = nobody_owns.1 in
     let passes = subst (NoneOwns (view (pass_of c))) count nobody_owns.2 in
     let threads : length (standings_of seats) ≡ length script.threads = length-map seats standing_at ∙ (count ∙ (bank.passes ∙ max_some (length script.threads) (λ none. omega (arith, some, none)))) in
-    let containers : containers_in (shape_of (bank_of e)) ≡ length script.containers = ap length bank.starts ∙ length-map script.containers (λ (one : Declaration). one.start) in (
+    let containers : container_count (shape_of (bank_of e)) ≡ length script.containers = ap length bank.starts ∙ length-map script.containers (λ (one : Declaration). one.start) in (
       c,
       gives,
       new_in_step script (view (pass_of c)) (standings_of seats) threads (all_nobody e script seats are)

@@ -4,7 +4,7 @@ use Rattle.std.specs.Prelude.{if◌then◌else◌}
 use Rattle.std.proofs.lemmas.List.{length-map}
 use Rattle.ft_model.specs.declared.script.Declaration.{Declaration}
 use Rattle.ft_model.specs.declared.script.ScriptParts.{ScriptParts}
-use Rattle.ft_trace.specs.Addresses.{containers_in}
+use Rattle.ft_trace.specs.Addresses.{container_count}
 use Rattle.ft_bank.specs.Passes.{shape_of, view}
 use Rattle.ft_bank.specs.PassSections.{Stack, noted_in, stack_of, taken_in}
 use Rattle.ft_section.specs.Ready.{InCall}
@@ -34,7 +34,7 @@ module _ (e : Engine) (c d : Caller) (is_c : IsCallerOf e c) (is_d : IsCallerOf 
       same_bool (has_of d.pass o) (has_of c.pass o)
       (sym (now.locks o) ∙ (ap (λ (s : Stack). noted_in o s.sections + taken_in o s.own) same.sections ∙ before.locks o))
 
-  pub same_owners_now : (o : ℕ) → o < containers_in (view c.pass).shape → owners_in (view d.pass) o ≡ owners_in (view c.pass) o
+  pub same_owners_now : (o : ℕ) → o < container_count (view c.pass).shape → owners_in (view d.pass) o ≡ owners_in (view c.pass) o
   same_owners_now o low =
       let onwards : SameFloor (view c.pass) (view d.pass) = record { number = same.number; shape = is_d.pass.1 ∙ sym is_c.pass.1; floor = keeps.floor; since = keeps.since } in
       let stays : SameFloor (view c.pass) (view c.pass) = record { number = refl; shape = refl; floor = refl; since = refl } in
@@ -49,12 +49,12 @@ module _ (e : Engine) (c d : Caller) (is_c : IsCallerOf e c) (is_d : IsCallerOf 
   pub visited_none : (count : ℕ) → NoneOwns (view c.pass) count → NoneOwns (view d.pass) count
   visited_none count none o thread low below owned =
       let shape = is_d.pass.1 ∙ sym is_c.pass.1 in
-      let here : o < containers_in (view c.pass).shape = subst (λ k. o < containers_in k) shape low in
+      let here : o < container_count (view c.pass).shape = subst (λ k. o < container_count k) shape low in
       none o thread here below (sym (same_owners_now o here) ∙ owned)
 
   pub visited_step : (script : ScriptParts) (turns : List ℕ) (standings : List Standing) → IsBankFor script (shape_of (bank_of e)) → AreInStep script turns (view c.pass) standings → AreInStep script turns (view d.pass) standings
   visited_step script turns standings bank was =
-      let count : containers_in (view c.pass).shape ≡ length script.containers = ap containers_in is_c.pass.1 ∙ (ap length bank.starts ∙ length-map script.containers (λ (one : Declaration). one.start)) in
+      let count : container_count (view c.pass).shape ≡ length script.containers = ap container_count is_c.pass.1 ∙ (ap length bank.starts ∙ length-map script.containers (λ (one : Declaration). one.start)) in
       record {
         machine = record {
           count = was.machine.count;

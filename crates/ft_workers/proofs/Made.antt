@@ -17,8 +17,8 @@ use Rattle.ft_trace.specs.declared.Entry.{Entry}
 use Rattle.ft_trace.specs.declared.Shape.{Shape}
 use Rattle.ft_trace.specs.declared.View.{View}
 use Rattle.ft_trace.specs.Hands.{cursor_in, own_entries}
-use Rattle.ft_trace.specs.Acts.{both, entries_next, made, maker, note, noted, sender, spent, starter}
-use Rattle.ft_trace.specs.Traces.{Event, Possible, Valid, did, forked, joined, run, sent}
+use Rattle.ft_trace.specs.Acts.{both, entries_next, made, maker, note, view_after, sender, spent, starter}
+use Rattle.ft_trace.specs.Traces.{Event, IsReachable, Valid, did, forked, joined, run, sent}
 use Rattle.ft_trace.proofs.EarlierMoments.{was}
 use Rattle.ft_trace.proofs.CursorAnswers.{moved_changes}
 use Rattle.ft_trace.proofs.Sizes.{one_more, one_view, set_views}
@@ -37,7 +37,7 @@ OfLog j u = u.entries ≡ own_entries u.log
 
 of_log : (k : Shape) (es : List Event) → Valid k es → (j : ℕ) (u : View) → get_elem? (run k es).views j ≡ some u → OfLog j u
 of_log k [] valid = one_view OfLog (starter k) refl
-of_log k (did id v a ∷ es) valid = let old = of_log k es valid.0 in set_views OfLog _ id (noted a v) (ap (entries_next a) (old id v valid.1.0)) (λ j u _ e. old j u e)
+of_log k (did id v a ∷ es) valid = let old = of_log k es valid.0 in set_views OfLog _ id (view_after a v) (ap (entries_next a) (old id v valid.1.0)) (λ j u _ e. old j u e)
 of_log k (forked id v ∷ es) valid = let old = of_log k es valid.0 in one_more OfLog _ (made v) refl (set_views OfLog _ id (maker v) (old id v valid.1.0) (λ j u _ e. old j u e))
 of_log k (sent id v given ∷ es) valid = let old = of_log k es valid.0 in one_more OfLog _ (note given v) refl (set_views OfLog _ id (sender given v) (old id v valid.1.0) (λ j u _ e. old j u e))
 of_log k (joined id v other w ∷ es) valid = let old = of_log k es valid.0 in set_views OfLog _ other spent refl (λ j u _. set_views OfLog _ id (both v w) (old id v valid.1.0) (λ j u _ e. old j u e) j u)
@@ -78,9 +78,9 @@ module _ (k : Shape) (es : List Event) (valid : Valid k es) (j : ℕ) (u : View)
   claimed newer [] is = λ place e found moved. absurd (let none : None ≡ Some e = found in cc)
   claimed newer (a ∷ l) is = step newer a l is (claimed (newer ++ a ∷ []) l (is ∙ sym (append_assoc newer (a ∷ []) l)))
 
-pub cursor_there : (v : View) → ∥ Possible v ∥₁ → (n place : ℕ) (e : Entry) → slice_get v.entries place ≡ Some e → moved_cursor e.call ≡ Some n → is_some (cursor_in n v.log) ≡ true
+pub cursor_there : (v : View) → ∥ IsReachable v ∥₁ → (n place : ℕ) (e : Entry) → slice_get v.entries place ≡ Some e → moved_cursor e.call ≡ Some n → is_some (cursor_in n v.log) ≡ true
 cursor_there v possible n place e found moved =
     ∥∥₁_elim {P = is_some (cursor_in n v.log) ≡ true} possible (Bool-set _ _)
-    (λ (x : Possible v).
+    (λ (x : IsReachable v).
     let own = of_log v.shape x.0 x.2.0 x.1 v x.2.1 in
     claimed v.shape x.0 x.2.0 x.1 v x.2.1 n [] v.log refl place e (ap (λ (es : List Entry). slice_get es place) (sym own) ∙ found) moved)

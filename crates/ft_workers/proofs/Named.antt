@@ -20,7 +20,7 @@ use Rattle.ft_model.specs.Calls.{cursor_of_dict, cursor_of_list, cursor_of_set, 
 use Rattle.ft_model.specs.Scripts.{AreNamesOf, AreStringsOfDict, AreStringsOfSet, IsCallOf, IsDeclaredAs, IsKeyOf, kind_at}
 use Rattle.ft_model.specs.Worlds.{cursor_at, start_as, starts_of}
 use Rattle.ft_trace.specs.declared.Shape.{Shape}
-use Rattle.ft_trace.specs.Addresses.{containers_in}
+use Rattle.ft_trace.specs.Addresses.{container_count}
 use Rattle.ft_bank.specs.KeyHashes.{IsKeyIn}
 use Rattle.ft_engine.specs.Callers.{IsOfKindIn}
 use Rattle.ft_engine.specs.Asked.{AreOfKindIn, IsCallIn, key_of_dict, key_of_set}
@@ -108,7 +108,7 @@ module _ (script : ScriptParts) (k : Shape) (starts : k.starts ≡ starts_of scr
     if_some_both (λ p. IsDeclaredAs script.containers which p) (λ p. IsOfKindIn k which p) declared other names.second,
   )
 
-  count : containers_in k ≡ length script.containers
+  count : container_count k ≡ length script.containers
   count = ap length starts ∙ length-map script.containers (λ (d : Declaration). d.start)
 
   -- to a thread with that many cursors, of which a `next` names one that was made

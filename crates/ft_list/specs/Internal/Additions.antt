@@ -8,9 +8,9 @@ use Rattle.ft_layout.specs.Words.{FitsStored, IsStored}
 use Rattle.ft_trace.specs.declared.Shape.{Shape}
 use Rattle.ft_trace.specs.declared.View.{View}
 use Rattle.ft_trace.specs.Acts.{has_lock, is_writing}
-use Rattle.ft_trace.specs.Addresses.{containers_in, class_of, slots}
-use Rattle.ft_trace.specs.Holds.{held, known}
-use Rattle.ft_trace.specs.Pictures.{root_in, Stands, item_field}
+use Rattle.ft_trace.specs.Addresses.{container_count, class_of, slots}
+use Rattle.ft_trace.specs.Holds.{held_words, known_state}
+use Rattle.ft_trace.specs.Pictures.{root_in, Represents, item_field}
 use Rattle.ft_trace.specs.ContainerStates.{kind_in}
 use Rattle.ft_list.specs.declared.addition.Addition.{Addition}
 use Rattle.ft_list.specs.declared.addition.Addition.TheVariants.{One, All}
@@ -34,11 +34,11 @@ with_added (All other more) v values = values ++ known_items other v
 -- The pass has the lock of the list o; no version is odd there, and its words stand for what the pass knows of it.
 -- (profile)
 pub record KnowsItems (k : Shape) (o : ℕ) (v : View) : Type 0 where
-  pub container : o < containers_in k
+  pub container : o < container_count k
   pub kind : kind_in k.starts o ≡ kind.List
   pub locked : has_lock o v.log ≡ true
   pub even : is_writing o v.log ≡ false
-  pub stands : Stands k.texts (held o v) (known o v)
+  pub stands : Represents k.texts (held_words o v) (known_state o v)
 
 -- The addition is a value that words can represent, at a place of a list of that many items; or all the items of a list
 -- that the pass knows, of which there are as many as it says.
@@ -49,12 +49,12 @@ IsAddition k count (All other more) v = (more ≡ length (known_items other v)) 
 -- The pass has the lock of the list m, which it doesn't write, or which is the list o that it writes; and the table
 -- that the root of m names stores the items of m as they were before that write. (profile)
 pub record GivesItems (k : Shape) (o m : ℕ) (v : View) : Type 0 where
-  pub container : m < containers_in k
+  pub container : m < container_count k
   pub locked : has_lock m v.log ≡ true
   pub quiet : m ≢ o → is_writing m v.log ≡ false
-  pub stores : (t p : ℕ) → root_in (held m v) ≡ suc t → p < length (known_items m v) → (p < slots (class_of t))
-      × IsStored (item_field (held m v).table p 1) (item_field (held m v).table p 2) (stored_item (known_items m v) p)
-  pub bare : root_in (held m v) ≡ 0 → length (known_items m v) ≡ 0
+  pub stores : (t p : ℕ) → root_in (held_words m v) ≡ suc t → p < length (known_items m v) → (p < slots (class_of t))
+      × IsStored (item_field (held_words m v).table p 1) (item_field (held_words m v).table p 2) (stored_item (known_items m v) p)
+  pub bare : root_in (held_words m v) ≡ 0 → length (known_items m v) ≡ 0
 
 -- the same of an addition once the pass writes the list o, of that many items
 abbrev pub IsAdditionTo : Shape → ℕ → ℕ → Addition → View → Type 0

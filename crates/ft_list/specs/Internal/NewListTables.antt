@@ -8,12 +8,12 @@ use Rattle.ft_layout.specs.Words.{IsStored, stored_kind, stored_payload}
 use Rattle.ft_trace.specs.declared.Shape.{Shape}
 use Rattle.ft_trace.specs.declared.View.{View}
 use Rattle.ft_trace.specs.Acts.{has_lock, is_writing, owes, stage, used, flight}
-use Rattle.ft_trace.specs.Addresses.{containers_in, class_of, size}
-use Rattle.ft_trace.specs.Holds.{held, known}
-use Rattle.ft_trace.specs.Pictures.{root_in, Stands, item_offset, item_field}
+use Rattle.ft_trace.specs.Addresses.{container_count, class_of, size}
+use Rattle.ft_trace.specs.Holds.{held_words, known_state}
+use Rattle.ft_trace.specs.Pictures.{root_in, Represents, item_offset, item_field}
 use Rattle.ft_trace.specs.ContainerStates.{kind_in}
 use Rattle.ft_bank.specs.declared.table.Table.{Table}
-use Rattle.ft_bank.specs.TableNames.{name_of, root_for, IsTableIn}
+use Rattle.ft_bank.specs.TableNames.{table_id, root_for, IsTableIn}
 use Rattle.ft_list.specs.ListItemWrites.{stored_item}
 
 -- what a list has that has this table, or none
@@ -24,13 +24,13 @@ list_use_of (Some t) = record { class = Some t.class; fill = 0; keys = [] }
 -- The pass has the lock of the list o, whose root names this table or none; no version is odd there, and its words
 -- stand for what the pass knows of it. (profile)
 pub record KnowsList (k : Shape) (o : ℕ) (old : Option Table) (v : View) : Type 0 where
-  pub container : o < containers_in k
+  pub container : o < container_count k
   pub kind : kind_in k.starts o ≡ kind.List
   pub locked : has_lock o v.log ≡ true
   pub even : is_writing o v.log ≡ false
-  pub stands : Stands k.texts (held o v) (known o v)
+  pub stands : Represents k.texts (held_words o v) (known_state o v)
   pub table_in : (t : Table) → old ≡ Some t → IsTableIn k t
-  pub root : root_in (held o v) ≡ root_for old
+  pub root : root_in (held_words o v) ≡ root_for old
 
 -- Besides it is in the midst of no taking or giving of a table, and of no other write that took a table out of a root;
 -- it has lowered no count of a class that it hasn't raised again, and it has a call left. (profile)
@@ -45,8 +45,8 @@ pub record MayAdd (k : Shape) (o : ℕ) (old : Option Table) (v : View) : Type 0
 pub record MayGrowList (k : Shape) (o : ℕ) (old : Option Table) (table : Table) (v : View) : Type 0 where
   pub list : KnowsList k o old v
   pub used : used v.log ≡ false
-  pub owed : owes v.log ≡ suc (class_of (name_of table))
-  pub fresh : stage (name_of table) v.log ≡ 1
+  pub owed : owes v.log ≡ suc (class_of (table_id table))
+  pub fresh : stage (table_id table) v.log ≡ 1
   pub table_in : IsTableIn k table
   pub left : 0 < v.left
 

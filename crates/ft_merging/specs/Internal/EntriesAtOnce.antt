@@ -9,21 +9,21 @@ use Rattle.ft_trace.specs.declared.View.{View}
 use Rattle.ft_trace.specs.Acts.{has_committed}
 use Rattle.ft_trace.specs.Addresses.{class_of, slots}
 use Rattle.ft_trace.specs.Carefuls.{IsDead, HasLiveKey}
-use Rattle.ft_trace.specs.Holds.{held, known}
+use Rattle.ft_trace.specs.Holds.{held_words, known_state}
 use Rattle.ft_trace.specs.Kinds.{rows, under}
-use Rattle.ft_trace.specs.Pictures.{entry_field, Picture, Stands}
+use Rattle.ft_trace.specs.Pictures.{entry_field, ContainerWords, Represents}
 use Rattle.ft_trace.specs.ContainerStates.{ContainerState, state_at, kind_in, changes}
 use Rattle.ft_bank.specs.declared.table.Table.{Table}
-use Rattle.ft_bank.specs.TableNames.{name_of}
+use Rattle.ft_bank.specs.TableNames.{table_id}
 use Rattle.ft_bank.specs.WriteSteps.{MayCommit, MayHave}
 use Rattle.ft_search.specs.OneEntryWrites.{WritesEntries}
 
 -- the version of the entry at a place of the table t
-abbrev pub version_of : ℕ → Picture → ℕ → ℕ
+abbrev pub version_of : ℕ → ContainerWords → ℕ → ℕ
 version_of t x p = entry_field (slots (class_of t)) x.table p 0
 
 -- no entry whose version is odd has a key that was deleted and that is there
-abbrev pub NoneDead : ℕ → ℕ → Picture → ContainerState → Type 0
+abbrev pub NoneDead : ℕ → ℕ → ContainerWords → ContainerState → Type 0
 NoneDead t m x kept =
     (p : ℕ) (key : Key) → p < m → version_of t x p % 2 ≡ 1 → IsDead (slots (class_of t)) x.table p key
     → under kept.content key ≡ []
@@ -33,25 +33,25 @@ NoneDead t m x kept =
 pub record IsMidway (k : Shape) (o : ℕ) (table : Table) (mid : ContainerState) (v : View) : Type 0 where
   pub writes : WritesEntries k o table v
   pub early : has_committed o v.log ≡ false
-  pub stands : Stands k.texts (held o v) mid
-  pub same : (p : ℕ) (key : Key) → p < rows (kind_in k.starts o) (class_of (name_of table))
-      → version_of (name_of table) (held o v) p % 2 ≡ 0
-      → HasLiveKey (slots (class_of (name_of table))) (held o v).table p key
-      → under mid.content key ≡ under (known o v).content key
-  pub gone : NoneDead (name_of table) (rows (kind_in k.starts o) (class_of (name_of table))) (held o v) mid
-  pub opened : (p : ℕ) → p < rows (kind_in k.starts o) (class_of (name_of table))
-      → version_of (name_of table) (held o v) p % 2 ≡ 1 → p < mid.table.fill
+  pub stands : Represents k.texts (held_words o v) mid
+  pub same : (p : ℕ) (key : Key) → p < rows (kind_in k.starts o) (class_of (table_id table))
+      → version_of (table_id table) (held_words o v) p % 2 ≡ 0
+      → HasLiveKey (slots (class_of (table_id table))) (held_words o v).table p key
+      → under mid.content key ≡ under (known_state o v).content key
+  pub gone : NoneDead (table_id table) (rows (kind_in k.starts o) (class_of (table_id table))) (held_words o v) mid
+  pub opened : (p : ℕ) → p < rows (kind_in k.starts o) (class_of (table_id table))
+      → version_of (table_id table) (held_words o v) p % 2 ≡ 1 → p < mid.table.fill
 
 -- The counter is raised; the versions of the entries before this place are even again. (profile)
 pub record IsClosing (k : Shape) (o : ℕ) (table : Table) (from fill : ℕ) (v : View) : Type 0 where
   pub writes : WritesEntries k o table v
   pub late : has_committed o v.log ≡ true
-  pub stands : Stands k.texts (held o v) (known o v)
-  pub gone : NoneDead (name_of table) (rows (kind_in k.starts o) (class_of (name_of table))) (held o v) (known o v)
-  pub opened : (p : ℕ) → p < rows (kind_in k.starts o) (class_of (name_of table))
-      → version_of (name_of table) (held o v) p % 2 ≡ 1 → p < fill
-  pub shut : (p : ℕ) → p < rows (kind_in k.starts o) (class_of (name_of table)) → p < from
-      → version_of (name_of table) (held o v) p % 2 ≡ 0
+  pub stands : Represents k.texts (held_words o v) (known_state o v)
+  pub gone : NoneDead (table_id table) (rows (kind_in k.starts o) (class_of (table_id table))) (held_words o v) (known_state o v)
+  pub opened : (p : ℕ) → p < rows (kind_in k.starts o) (class_of (table_id table))
+      → version_of (table_id table) (held_words o v) p % 2 ≡ 1 → p < fill
+  pub shut : (p : ℕ) → p < rows (kind_in k.starts o) (class_of (table_id table)) → p < from
+      → version_of (table_id table) (held_words o v) p % 2 ≡ 0
 
 -- The call may be committed, and the words say what it leaves of the container; that many entries of its table are
 -- used. (profile)

@@ -19,13 +19,13 @@ use Rattle.ft_trace.specs.declared.View.{View}
 use Rattle.ft_trace.specs.Addresses.{class_of, slots}
 use Rattle.ft_trace.specs.Carefuls.{IsDead, HasLiveKey}
 use Rattle.ft_trace.specs.EntryWrites.{value_puts}
-use Rattle.ft_trace.specs.Holds.{held, known}
+use Rattle.ft_trace.specs.Holds.{held_words, known_state}
 use Rattle.ft_trace.specs.Kinds.{rows}
-use Rattle.ft_trace.specs.Pictures.{Picture, entry_field}
+use Rattle.ft_trace.specs.Pictures.{ContainerWords, entry_field}
 use Rattle.ft_trace.specs.ContainerStates.{kind_in}
 use Rattle.ft_trace.specs.WholeWrites.{Put}
 use Rattle.ft_bank.specs.declared.table.Table.{Table}
-use Rattle.ft_bank.specs.TableNames.{name_of}
+use Rattle.ft_bank.specs.TableNames.{table_id}
 use Rattle.ft_search.specs.declared.spots.Spot.{Spot}
 use Rattle.ft_search.specs.declared.spots.Spot.TheVariants as spot
 use Rattle.ft_search.specs.Held.{IsHeldAt}
@@ -83,18 +83,18 @@ pub record AreLeft (kind : Kind) (content goal : Content) (fill end : ℕ) (left
 -- ---- the write
 
 -- no entry whose version is odd has a key that was deleted
-abbrev pub NoneGone : ℕ → ℕ → Picture → Type 0
+abbrev pub NoneGone : ℕ → ℕ → ContainerWords → Type 0
 NoneGone t m x =
     (p : ℕ) (key : Key) → p < m → version_of t x p % 2 ≡ 1 → IsDead (slots (class_of t)) x.table p key → ⊥
 
 -- an entry whose version is odd has a key that none of these has, which are still to be put
-abbrev pub NoneAhead : ℕ → ℕ → Picture → List UsedEntry → Type 0
+abbrev pub NoneAhead : ℕ → ℕ → ContainerWords → List UsedEntry → Type 0
 NoneAhead t m x left =
     (p : ℕ) (key : Key) → p < m → version_of t x p % 2 ≡ 1 → FitsKey key → HasLiveKey (slots (class_of t)) x.table p key
     → NoneOf key left
 
 -- the words of entries before this place are as they were
-abbrev pub KeepsBelow : ℕ → ℕ → Picture → Picture → Type 0
+abbrev pub KeepsBelow : ℕ → ℕ → ContainerWords → ContainerWords → Type 0
 KeepsBelow t place before after =
     (p word : ℕ) → p < place → word < 8
     → entry_field (slots (class_of t)) after.table p word ≡ entry_field (slots (class_of t)) before.table p word
@@ -106,29 +106,29 @@ pub record IsJoining (k : Shape) (o : ℕ) (way : Way) (own : Table) (t : ℕ) (
   pub mid : Content
   pub midway : IsMidway k o own (record {
     content = mid;
-    table = record { class = Some (class_of (name_of own)); fill = counts.fill; keys = [] };
+    table = record { class = Some (class_of (table_id own)); fill = counts.fill; keys = [] };
   }) v
   pub same_kind : kind_of mid ≡ kind_by way
   pub kind_is : kind_in k.starts o ≡ kind_by way
   pub count_is : counts.count ≡ length_of mid
   pub next_is : counts.next ≡ serial_of mid
-  pub alive : NoneGone (name_of own) (rows (kind_in k.starts o) (class_of (name_of own))) (held o v)
-  pub room : end ≤ rows (kind_in k.starts o) (class_of (name_of own))
+  pub alive : NoneGone (table_id own) (rows (kind_in k.starts o) (class_of (table_id own))) (held_words o v)
+  pub room : end ≤ rows (kind_in k.starts o) (class_of (table_id own))
   pub used : List UsedEntry
-  pub filled : length used ≡ (known t v).table.fill
-  pub source : IsTableOf way k.texts (class_mask (class_of (name_of table))) used (0 ∷ 0 ∷ (held t v).table)
+  pub filled : length used ≡ (known_state t v).table.fill
+  pub source : IsTableOf way k.texts (class_mask (class_of (table_id table))) used (0 ∷ 0 ∷ (held_words t v).table)
   pub left : AreLeft (kind_by way) mid goal counts.fill end (drop place used)
-  pub ahead : NoneAhead (name_of own) (rows (kind_in k.starts o) (class_of (name_of own))) (held o v) (drop place used)
+  pub ahead : NoneAhead (table_id own) (rows (kind_in k.starts o) (class_of (table_id own))) (held_words o v) (drop place used)
 
 -- Where a key is in the table of a container that is written, whose words stand for this content: in the entry at this
 -- place, with these words of its value; or nowhere, and this slot is the one for it. No search there ends otherwise.
-abbrev pub IsSought : Shape → Way → Table → Key → Picture → Content → Spot → Type 0
+abbrev pub IsSought : Shape → Way → Table → Key → ContainerWords → Content → Spot → Type 0
 IsSought k way own key x mid (spot.At table place kind payload) =
-    (place < rows (kind_by way) (class_of (name_of own)))
-    × HasLiveKey (slots (class_of (name_of own))) x.table place key
+    (place < rows (kind_by way) (class_of (table_id own)))
+    × HasLiveKey (slots (class_of (table_id own))) x.table place key
     × (holds mid key ≡ true)
-    × (kind ≡ entry_field (slots (class_of (name_of own))) x.table place 4)
-    × (payload ≡ entry_field (slots (class_of (name_of own))) x.table place 5)
+    × (kind ≡ entry_field (slots (class_of (table_id own))) x.table place 4)
+    × (payload ≡ entry_field (slots (class_of (table_id own))) x.table place 5)
 IsSought k way own key x mid (spot.Free table slot) =
     IsFreeFor k.texts way own.class key x.table slot × IsHeldAt mid key None
 IsSought k way own key x mid spot.Bare = ⊥

@@ -9,11 +9,11 @@ use Rattle.ft_trace.specs.declared.View.{View}
 use Rattle.ft_trace.specs.Addresses.{class_of, slots}
 use Rattle.ft_trace.specs.Carefuls.{HasLiveKey}
 use Rattle.ft_trace.specs.FitCalls.{FitsContent}
-use Rattle.ft_trace.specs.Holds.{held, known}
+use Rattle.ft_trace.specs.Holds.{held_words, known_state}
 use Rattle.ft_trace.specs.Kinds.{rows}
 use Rattle.ft_trace.specs.ContainerStates.{ContainerState, kind_in}
 use Rattle.ft_bank.specs.declared.table.Table.{Table}
-use Rattle.ft_bank.specs.TableNames.{name_of}
+use Rattle.ft_bank.specs.TableNames.{table_id}
 use Rattle.ft_merging.specs.Thinning.{stays}
 use Rattle.ft_merging.specs.Internal.EntriesAtOnce.{IsMidway, version_of}
 
@@ -27,15 +27,15 @@ pub record IsThinned (k : Shape) (s : ℕ) (table : Table) (kept : Bool) (others
     (last place : ℕ) (v : View) : Type 0 where
   pub mid : SetContent
   pub midway : IsMidway k s table (record { content = content.Set mid; table = to.table }) v
-  pub first_is : (known s v).content ≡ content.Set first
+  pub first_is : (known_state s v).content ≡ content.Set first
   pub fits : FitsContent (content.Set first)
   pub comes : content.Set (record {
     next = mid.next;
     elements = filter (λ element. spared kept others first element.key) mid.elements;
   }) ≡ to.content
-  pub even : (p : ℕ) → p < rows (kind_in k.starts s) (class_of (name_of table)) → place ≤ p → p < last
-      → version_of (name_of table) (held s v) p % 2 ≡ 0
-  pub done : (p : ℕ) (key : Key) → p < rows (kind_in k.starts s) (class_of (name_of table)) → p < place → FitsKey key
-      → HasLiveKey (slots (class_of (name_of table))) (held s v).table p key → spared kept others first key ≡ true
-  pub rest : (p : ℕ) (key : Key) → p < rows (kind_in k.starts s) (class_of (name_of table)) → last ≤ p → FitsKey key
-      → HasLiveKey (slots (class_of (name_of table))) (held s v).table p key → spared kept others first key ≡ true
+  pub even : (p : ℕ) → p < rows (kind_in k.starts s) (class_of (table_id table)) → place ≤ p → p < last
+      → version_of (table_id table) (held_words s v) p % 2 ≡ 0
+  pub done : (p : ℕ) (key : Key) → p < rows (kind_in k.starts s) (class_of (table_id table)) → p < place → FitsKey key
+      → HasLiveKey (slots (class_of (table_id table))) (held_words s v).table p key → spared kept others first key ≡ true
+  pub rest : (p : ℕ) (key : Key) → p < rows (kind_in k.starts s) (class_of (table_id table)) → last ≤ p → FitsKey key
+      → HasLiveKey (slots (class_of (table_id table))) (held_words s v).table p key → spared kept others first key ≡ true

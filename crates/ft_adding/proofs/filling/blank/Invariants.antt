@@ -3,7 +3,7 @@ use Rattle.ft_trace.specs.Addresses.{class_of}
 use Rattle.ft_trace.specs.Holds.{in_hand}
 use Rattle.ft_bank.specs.Passes.{view, IsPassOf}
 use Rattle.ft_bank.specs.PassSections.{stack_of}
-use Rattle.ft_bank.specs.TableNames.{name_of}
+use Rattle.ft_bank.specs.TableNames.{table_id}
 use Rattle.ft_growth.specs.Adding.{OnlyFilled}
 use Rattle.ft_adding.specs.Fresh.{BlankBelow}
 use Rattle.ft_adding.proofs.filling.blank.Given as goal
@@ -13,5 +13,5 @@ invariant-loop-at l = record {
   pass : IsPassOf l.bank l.pass;
   stack : stack_of l.pass ≡ stack_of l.initial.pass;
   only : OnlyFilled (view l.initial.pass) (view l.pass);
-  blank : BlankBelow (class_of (name_of l.table)) l.at (in_hand (name_of l.table) (view l.pass));
+  blank : BlankBelow (class_of (table_id l.table)) l.at (in_hand (table_id l.table) (view l.pass));
 }

@@ -2,10 +2,10 @@ use Rattle.std.proofs.Common.{◌≡◌, ℕ, ◌*◌, ◌<◌, ◌≤◌, refl,
 use Rattle.ft_layout.specs.Containers.{class_mask}
 use Rattle.ft_layout.specs.Tables.{dict_room}
 use Rattle.ft_trace.specs.Addresses.{class_of}
-use Rattle.ft_trace.specs.Holds.{known, in_hand}
+use Rattle.ft_trace.specs.Holds.{known_state, in_hand}
 use Rattle.ft_bank.specs.declared.pass.Pass.{Pass}
 use Rattle.ft_bank.specs.Passes.{shape_of, view, IsPassOf}
-use Rattle.ft_bank.specs.TableNames.{name_of}
+use Rattle.ft_bank.specs.TableNames.{table_id}
 use Rattle.ft_bank.proofs.TableAddresses.{class_is}
 use Rattle.ft_search.proofs.WordPlaces.{mask_is}
 use Rattle.ft_search.proofs.Puts.{table_class}
@@ -47,10 +47,10 @@ returns-clause-filled c =
     let a = c.args in
     let k = shape_of a.bank.now in
     let v = view a.pass.now in
-    let class = class_of (name_of a.table) in
+    let class = class_of (table_id a.table) in
     let last : c.mask_of-mask.result ≡ class_mask class = c.mask_of-mask.ensures ∙ sym (ap class_mask (class_is a.table c.requires.table.2)) in
     let same : c.rebuild_in.new.words.pass.now ≡ c.pass-1.given.0 = search rules in
-    subst (λ (p : Pass). IsFilledWith k.texts class (known a.o v).content (in_hand (name_of a.table) (view p))) same
+    subst (λ (p : Pass). IsFilledWith k.texts class (known_state a.o v).content (in_hand (table_id a.table) (view p))) same
     (filled_by k a.o a.old v c.requires.keyed c.requires.pass.1 a.pass.now.possible a.way c.requires.way
     c.changed_words_are_of_a_table.ensures.blank c.used_entries_follow_a_dict.ensures.live_alone c.used_entries_follow_a_set.ensures.live_alone c.calls_keep_versions.ensures.keep
     _ _ class _ c.rebuild_in.result (table_class k a.table c.requires.table) last c.mask_of-old_mask.ensures c.requires.blank refl c.requires.room

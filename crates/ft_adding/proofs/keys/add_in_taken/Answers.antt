@@ -2,13 +2,13 @@ use Rattle.std.proofs.Common.{◌≡◌, ◌≢◌, ◌<◌, ◌^◌, ◌+◌, �
 use Rattle.std.specs.Prelude.{nat_lt}
 use Rattle.ft_model.specs.Worlds.{kind_of, length_of, serial_of}
 use Rattle.ft_trace.specs.Addresses.{class_of}
-use Rattle.ft_trace.specs.Holds.{held, known}
+use Rattle.ft_trace.specs.Holds.{held_words, known_state}
 use Rattle.ft_trace.specs.Kinds.{rows}
-use Rattle.ft_trace.specs.Pictures.{Picture, root_in}
+use Rattle.ft_trace.specs.Pictures.{ContainerWords, root_in}
 use Rattle.ft_trace.specs.ContainerStates.{ContainerState, changes}
 use Rattle.ft_bank.specs.declared.takings.Took.TheVariants as took
 use Rattle.ft_bank.specs.Passes.{shape_of, view}
-use Rattle.ft_bank.specs.TableNames.{name_of, root_for}
+use Rattle.ft_bank.specs.TableNames.{table_id, root_for}
 use Rattle.ft_bank.proofs.TableAddresses.{class_is}
 use Rattle.ft_growth.specs.Adding.{Retires}
 use Rattle.ft_growth.proofs.Rooting.{taken_out}
@@ -23,14 +23,14 @@ use Rattle.ft_adding.proofs.Wanted.{passes_not, takes_room}
 use Rattle.ft_adding.proofs.keys.add_in_taken.Goals as goal
 use Rattle.ft_adding.proofs.keys.add_in_taken.Goals.{After-take, In-Taken}
 
-few_is : (c : After-take) → length_of (known c.args.o (view c.args.pass.now)).content < most_of (known c.args.o (view c.args.pass.now)).content
+few_is : (c : After-take) → length_of (known_state c.args.o (view c.args.pass.now)).content < most_of (known_state c.args.o (view c.args.pass.now)).content
 few_is c =
     let a = c.args in
     let n = (counts_known c.words_are_of_one_content.ensures.head (shape_of a.bank.now) a.o a.old (view a.pass.now) a.counts c.requires.may.keyed c.requires.counts).0 in
     let few = c.requires.few in
     omega (arith, n, few)
 
-same : (c : In-Taken) → (held c.args.o (view c.take.new.pass) ≡ held c.args.o (view c.args.pass.now)) × (known c.args.o (view c.take.new.pass) ≡ known c.args.o (view c.args.pass.now))
+same : (c : In-Taken) → (held_words c.args.o (view c.take.new.pass) ≡ held_words c.args.o (view c.args.pass.now)) × (known_state c.args.o (view c.take.new.pass) ≡ known_state c.args.o (view c.args.pass.now))
 same c =
     let a = c.args in
     let e = c.in-Taken.ensures in
@@ -43,13 +43,13 @@ grow c =
     let x = e.did.6 in
     tried_may _ (view a.pass.now) (view c.take.new.pass) e.same e.keeps (shape_of a.bank.now) a.o a.old c.in-Taken.table a.class c.requires.pass.1 c.requires.may x.0 x.1 x.3 x.4
 
-other : (c : In-Taken) → root_in (held c.args.o (view c.take.new.pass)) ≢ suc (name_of c.in-Taken.table)
+other : (c : In-Taken) → root_in (held_words c.args.o (view c.take.new.pass)) ≢ suc (table_id c.in-Taken.table)
 other c =
     let a = c.args in
     let g = grow c in
     fresh_other (shape_of a.bank.now) (view c.take.new.pass) a.o c.in-Taken.table (c.in-Taken.ensures.same.shape ∙ c.requires.pass.1) c.take.new.pass.possible g.keyed.container g.keyed.locked g.table_in g.fresh
 
-class_named : (c : In-Taken) → class_of (name_of c.in-Taken.table) ≡ c.args.class
+class_named : (c : In-Taken) → class_of (table_id c.in-Taken.table) ≡ c.args.class
 class_named c = let x = c.in-Taken.ensures.did.6 in class_is c.in-Taken.table x.0.2 ∙ x.1
 
 pub add_in_new-number-requires-clause-may : goal.add_in_new-number-requires-clause-may
@@ -62,13 +62,13 @@ pub add_in_new-number-requires-clause-absent : goal.add_in_new-number-requires-c
 add_in_new-number-requires-clause-absent c = subst (λ (z : ContainerState). IsHeldAt z.content c.args.key None) (sym (same (goal.at.add_in_new-number-requires-clause-absent c).In-Taken).1) c.requires.absent
 
 pub add_in_new-number-requires-clause-counts : goal.add_in_new-number-requires-clause-counts
-add_in_new-number-requires-clause-counts c = subst (λ (z : Picture). AreCounts z.block c.args.counts) (sym (same (goal.at.add_in_new-number-requires-clause-counts c).In-Taken).0) c.requires.counts
+add_in_new-number-requires-clause-counts c = subst (λ (z : ContainerWords). AreCounts z.block c.args.counts) (sym (same (goal.at.add_in_new-number-requires-clause-counts c).In-Taken).0) c.requires.counts
 
 pub add_in_new-number-requires-clause-room : goal.add_in_new-number-requires-clause-room
 add_in_new-number-requires-clause-room c =
     let a = c.args in
     let d = (goal.at.add_in_new-number-requires-clause-room c).In-Taken in
-    let x = known a.o (view a.pass.now) in
+    let x = known_state a.o (view a.pass.now) in
     let k = shape_of a.bank.now in
     let n = (counts_known c.words_are_of_one_content.ensures.head k a.o a.old (view a.pass.now) a.counts c.requires.may.keyed c.requires.counts).0 in
     let kinds = kind_is k (view a.pass.now) a.o c.requires.pass.1 a.pass.now.possible c.requires.may.keyed.locked ∙ c.requires.way in
@@ -88,7 +88,7 @@ add_in_new-number-requires-clause-adds c =
 pub add_in_new-number-requires-clause-few : goal.add_in_new-number-requires-clause-few
 add_in_new-number-requires-clause-few c =
     let d = (goal.at.add_in_new-number-requires-clause-few c).In-Taken in
-    subst (λ (z : ContainerState). nat_lt (most_of z.content) (length_of z.content + 1) ≡ false) (sym (same d).1) (passes_not (known c.args.o (view c.args.pass.now)).content (few_is (goal.at.add_in_new-number-requires-clause-few c).After-take))
+    subst (λ (z : ContainerState). nat_lt (most_of z.content) (length_of z.content + 1) ≡ false) (sym (same d).1) (passes_not (known_state c.args.o (view c.args.pass.now)).content (few_is (goal.at.add_in_new-number-requires-clause-few c).After-take))
 
 pub add_in_new-number-requires-clause-takes : goal.add_in_new-number-requires-clause-takes
 add_in_new-number-requires-clause-takes c =
@@ -102,10 +102,10 @@ retire_old-requires-clause-out c t is =
     let u = view c.take.new.pass in
     let e = c.add_in_new-number.ensures in
     let at = c.requires.adds.changed in
-    let root : root_in (held a.o u) ≡ suc (name_of t) = (grow d).keyed.root ∙ ap root_for is in
-    let before : root_in (held (changes a.called.now) u) ≡ suc (name_of t) = subst (λ (n : ℕ). root_in (held n u) ≡ suc (name_of t)) (sym at) root in
-    let after : root_in (held (changes a.called.now) (view c.add_in_new-number.new.pass)) ≡ suc (name_of c.in-Taken.table) = subst (λ (n : ℕ). root_in (held n (view c.add_in_new-number.new.pass)) ≡ suc (name_of c.in-Taken.table)) (sym at) e.root in
-    let out = taken_out a.called.now a.said.now c.add_in_new-number.result (name_of t) (suc (name_of c.in-Taken.table)) u (view c.add_in_new-number.new.pass) e.wrote before after (λ same_name. other d (root ∙ same_name)) in
+    let root : root_in (held_words a.o u) ≡ suc (table_id t) = (grow d).keyed.root ∙ ap root_for is in
+    let before : root_in (held_words (changes a.called.now) u) ≡ suc (table_id t) = subst (λ (n : ℕ). root_in (held_words n u) ≡ suc (table_id t)) (sym at) root in
+    let after : root_in (held_words (changes a.called.now) (view c.add_in_new-number.new.pass)) ≡ suc (table_id c.in-Taken.table) = subst (λ (n : ℕ). root_in (held_words n (view c.add_in_new-number.new.pass)) ≡ suc (table_id c.in-Taken.table)) (sym at) e.root in
+    let out = taken_out a.called.now a.said.now c.add_in_new-number.result (table_id t) (suc (table_id c.in-Taken.table)) u (view c.add_in_new-number.new.pass) e.wrote before after (λ same_name. other d (root ∙ same_name)) in
     (c.requires.may.keyed.table_in t is, out.0, out.1)
 
 pub answer_no_table-requires-clause-lacks : goal.answer_no_table-requires-clause-lacks
@@ -115,7 +115,7 @@ answer_no_table-requires-clause-lacks c found has =
     let d = (goal.at.answer_no_table-requires-clause-lacks c).After-take in
     let before = tried_has _ (view a.pass.now) (view c.take.new.pass) e.same e.keeps found has in
     let adds = c.requires.adds in
-    (adds.lacks found before, adds.over found before ∙ passes_not (known a.o (view a.pass.now)).content (few_is d), adds.takes found before ∙ c.requires.takes)
+    (adds.lacks found before, adds.over found before ∙ passes_not (known_state a.o (view a.pass.now)).content (few_is d), adds.takes found before ∙ c.requires.takes)
 
 pub returns-in-Taken-clause-added : goal.returns-in-Taken-clause-added
 returns-in-Taken-clause-added c =
@@ -132,10 +132,10 @@ returns-in-Taken-clause-added c =
         table = c.in-Taken.table;
         taken = u;
         tried = record { mid = e.did.0; freed = e.did.1; acts = e.did.2; collected = e.did.3; did = e.did.4; taking = e.did.5; has = e.did.6; floor = e.floor; same = e.same; keeps = e.keeps; hands = e.hands };
-        other = subst (λ (n : ℕ). root_in (held n u) ≢ suc (name_of c.in-Taken.table)) (sym at) (other d);
+        other = subst (λ (n : ℕ). root_in (held_words n u) ≢ suc (table_id c.in-Taken.table)) (sym at) (other d);
         done = done;
         wrote = w.wrote;
-        root = subst (λ (n : ℕ). root_in (held n done) ≡ suc (name_of c.in-Taken.table)) (sym at) w.root;
-        retired = subst (λ (n : ℕ). Retires n done (view c.retire_old.new.pass)) (sym (grow d).keyed.root ∙ sym (ap (λ (n : ℕ). root_in (held n u)) at)) c.retire_old.ensures.retired;
+        root = subst (λ (n : ℕ). root_in (held_words n done) ≡ suc (table_id c.in-Taken.table)) (sym at) w.root;
+        retired = subst (λ (n : ℕ). Retires n done (view c.retire_old.new.pass)) (sym (grow d).keyed.root ∙ sym (ap (λ (n : ℕ). root_in (held_words n u)) at)) c.retire_old.ensures.retired;
       },
     )

@@ -3,8 +3,8 @@ use Rattle.std.specs.Prelude.{nat_lt}
 use Rattle.ft_model.specs.declared.content.Content.{Content}
 use Rattle.ft_model.specs.TableUses.{TableUse}
 use Rattle.ft_model.specs.Worlds.{kind_of, length_of, serial_of}
-use Rattle.ft_trace.specs.Holds.{held, known}
-use Rattle.ft_trace.specs.Pictures.{Picture}
+use Rattle.ft_trace.specs.Holds.{held_words, known_state}
+use Rattle.ft_trace.specs.Pictures.{ContainerWords}
 use Rattle.ft_trace.specs.ContainerStates.{ContainerState}
 use Rattle.ft_bank.specs.Passes.{shape_of, view}
 use Rattle.ft_bank.proofs.KnownAfterWrites.{loaded_held, work_knows}
@@ -21,22 +21,22 @@ use Rattle.ft_adding.proofs.Wanted.{most_few, passes_not}
 use Rattle.ft_adding.proofs.keys.add_key.Goals as goal
 use Rattle.ft_adding.proofs.keys.add_key.Goals.{After-read_counts-counts}
 
-words_same : (c : After-read_counts-counts) → held c.args.o (view c.read_counts-counts.new.pass) ≡ held c.args.o (view c.args.pass.now)
+words_same : (c : After-read_counts-counts) → held_words c.args.o (view c.read_counts-counts.new.pass) ≡ held_words c.args.o (view c.args.pass.now)
 words_same c = loaded_held (view c.args.pass.now) (view c.read_counts-counts.new.pass) c.args.o c.read_counts-counts.ensures.only
 
-same : (c : After-read_counts-counts) → known c.args.o (view c.read_counts-counts.new.pass) ≡ known c.args.o (view c.args.pass.now)
+same : (c : After-read_counts-counts) → known_state c.args.o (view c.read_counts-counts.new.pass) ≡ known_state c.args.o (view c.args.pass.now)
 same c = work_knows (view c.args.pass.now) (view c.read_counts-counts.new.pass) c.args.o c.read_counts-counts.ensures.only.work
 
 may : (c : After-read_counts-counts) → MayAddKey (shape_of c.args.bank.now) c.args.o c.args.old (view c.read_counts-counts.new.pass)
 may c = may_loaded (shape_of c.args.bank.now) c.args.o c.args.old (view c.args.pass.now) (view c.read_counts-counts.new.pass) c.read_counts-counts.ensures.only (words_same c) c.requires.may
 
-counts : (c : After-read_counts-counts) → AreCounts (held c.args.o (view c.read_counts-counts.new.pass)).block c.read_counts-counts.result
-counts c = subst (λ (z : Picture). AreCounts z.block c.read_counts-counts.result) (sym (words_same c)) c.read_counts-counts.ensures.counts
+counts : (c : After-read_counts-counts) → AreCounts (held_words c.args.o (view c.read_counts-counts.new.pass)).block c.read_counts-counts.result
+counts c = subst (λ (z : ContainerWords). AreCounts z.block c.read_counts-counts.result) (sym (words_same c)) c.read_counts-counts.ensures.counts
 
-kinds : (c : After-read_counts-counts) → kind_of (known c.args.o (view c.read_counts-counts.new.pass)).content ≡ kind_by c.args.way
+kinds : (c : After-read_counts-counts) → kind_of (known_state c.args.o (view c.read_counts-counts.new.pass)).content ≡ kind_by c.args.way
 kinds c = kind_is (shape_of c.args.bank.now) (view c.read_counts-counts.new.pass) c.args.o c.read_counts-counts.ensures.pass.1 c.read_counts-counts.new.pass.possible (may c).keyed.locked ∙ c.requires.way
 
-many : (c : After-read_counts-counts) → c.read_counts-counts.result.count ≡ length_of (known c.args.o (view c.read_counts-counts.new.pass)).content
+many : (c : After-read_counts-counts) → c.read_counts-counts.result.count ≡ length_of (known_state c.args.o (view c.read_counts-counts.new.pass)).content
 many c = (counts_known c.words_are_of_one_content.ensures.head (shape_of c.args.bank.now) c.args.o c.args.old (view c.read_counts-counts.new.pass) c.read_counts-counts.result (may c).keyed (counts c)).0
 
 adds : (c : After-read_counts-counts) → AddsKey c.args.o c.args.called.now c.args.said.now c.args.key c.args.stored (view c.read_counts-counts.new.pass)
@@ -47,23 +47,23 @@ adds c =
     let only = c.read_counts-counts.ensures.only in
     adds_later a.o a.called.now a.said.now a.key a.stored v u (has_loaded (shape_of a.bank.now) a.o a.old v u only (words_same c)) only.work.pass.locks (same c) c.requires.adds
 
-absent : (c : After-read_counts-counts) → IsHeldAt (known c.args.o (view c.read_counts-counts.new.pass)).content c.args.key None
+absent : (c : After-read_counts-counts) → IsHeldAt (known_state c.args.o (view c.read_counts-counts.new.pass)).content c.args.key None
 absent c = subst (λ (z : ContainerState). IsHeldAt z.content c.args.key None) (sym (same c)) c.requires.absent
 
-serials : (c : After-read_counts-counts) → serial_of (known c.args.o (view c.read_counts-counts.new.pass)).content < 2 ^ 63
+serials : (c : After-read_counts-counts) → serial_of (known_state c.args.o (view c.read_counts-counts.new.pass)).content < 2 ^ 63
 serials c = subst (λ (z : ContainerState). serial_of z.content < 2 ^ 63) (sym (same c)) c.requires.serials
 
-takes : (c : After-read_counts-counts) (result : Option ℕ) → ((content : Content) → kind_of content ≡ kind_by c.args.way → length_of content ≡ c.read_counts-counts.result.count → result ≡ key_takes content (use_of c.args.old c.read_counts-counts.result.fill)) → key_takes (known c.args.o (view c.read_counts-counts.new.pass)).content (known c.args.o (view c.read_counts-counts.new.pass)).table ≡ result
+takes : (c : After-read_counts-counts) (result : Option ℕ) → ((content : Content) → kind_of content ≡ kind_by c.args.way → length_of content ≡ c.read_counts-counts.result.count → result ≡ key_takes content (use_of c.args.old c.read_counts-counts.result.fill)) → key_takes (known_state c.args.o (view c.read_counts-counts.new.pass)).content (known_state c.args.o (view c.read_counts-counts.new.pass)).table ≡ result
 takes c result wanted =
     let a = c.args in
-    let x = known a.o (view c.read_counts-counts.new.pass) in
+    let x = known_state a.o (view c.read_counts-counts.new.pass) in
     let table = use_known c.words_are_of_one_content.ensures.head (shape_of a.bank.now) a.o a.old (view c.read_counts-counts.new.pass) c.read_counts-counts.result (may c).keyed (counts c) c.read_counts-counts.new.pass.possible in
     ap (λ (z : TableUse). key_takes x.content z) table ∙ sym (wanted x.content (kinds c) (sym (many c)))
 
-not_over : (c : After-read_counts-counts) → c.read_counts-counts.result.count < most_of (known c.args.o (view c.read_counts-counts.new.pass)).content → nat_lt (most_of (known c.args.o (view c.read_counts-counts.new.pass)).content) (length_of (known c.args.o (view c.read_counts-counts.new.pass)).content + 1) ≡ false
+not_over : (c : After-read_counts-counts) → c.read_counts-counts.result.count < most_of (known_state c.args.o (view c.read_counts-counts.new.pass)).content → nat_lt (most_of (known_state c.args.o (view c.read_counts-counts.new.pass)).content) (length_of (known_state c.args.o (view c.read_counts-counts.new.pass)).content + 1) ≡ false
 not_over c few =
     let n = many c in
-    passes_not (known c.args.o (view c.read_counts-counts.new.pass)).content (omega (arith, few, n))
+    passes_not (known_state c.args.o (view c.read_counts-counts.new.pass)).content (omega (arith, few, n))
 
 pub class_wanted-requires-clause-table : goal.class_wanted-requires-clause-table
 class_wanted-requires-clause-table c t is = (c.requires.may.keyed.table_in t is).0
@@ -74,7 +74,7 @@ pub answer_over-requires-clause-over : goal.answer_over-requires-clause-over
 answer_over-requires-clause-over c found has =
     let a = c.args in
     let r = (goal.at.answer_over-requires-clause-over c).After-read_counts-counts in
-    let x = known a.o (view c.read_counts-counts.new.pass) in
+    let x = known_state a.o (view c.read_counts-counts.new.pass) in
     let m = c.most_keys.ensures.most x.content (kinds r) in
     let n = many r in
     let all = adds r in
@@ -85,7 +85,7 @@ pub returns-then-counts-most_keys-clause-added : goal.returns-then-counts-most_k
 returns-then-counts-most_keys-clause-added c =
     let a = c.args in
     let r = (goal.at.returns-then-counts-most_keys-clause-added c).After-read_counts-counts in
-    let x = known a.o (view c.read_counts-counts.new.pass) in
+    let x = known_state a.o (view c.read_counts-counts.new.pass) in
     let m = c.most_keys.ensures.most x.content (kinds r) in
     let n = many r in
     let more : most_of x.content < length_of x.content + 1 = omega (arith, m, n) in
@@ -104,7 +104,7 @@ add_in_taken-requires-clause-counts c = counts (goal.at.add_in_taken-requires-cl
 
 pub add_in_taken-requires-clause-few : goal.add_in_taken-requires-clause-few
 add_in_taken-requires-clause-few c =
-    let m = c.most_keys.ensures.most (known c.args.o (view c.read_counts-counts.new.pass)).content (kinds (goal.at.add_in_taken-requires-clause-few c).After-read_counts-counts) in
+    let m = c.most_keys.ensures.most (known_state c.args.o (view c.read_counts-counts.new.pass)).content (kinds (goal.at.add_in_taken-requires-clause-few c).After-read_counts-counts) in
     omega (arith, m)
 
 pub add_in_taken-requires-clause-serials : goal.add_in_taken-requires-clause-serials
@@ -120,7 +120,7 @@ pub returns-in-Some-clause-added : goal.returns-in-Some-clause-added
 returns-in-Some-clause-added c =
     let a = c.args in
     let r = (goal.at.returns-in-Some-clause-added c).After-read_counts-counts in
-    let m = c.most_keys.ensures.most (known a.o (view c.read_counts-counts.new.pass)).content (kinds r) in
+    let m = c.most_keys.ensures.most (known_state a.o (view c.read_counts-counts.new.pass)).content (kinds r) in
     adds_one (shape_of a.bank.now) a.o a.called.now a.said.now (view a.pass.now) (view c.read_counts-counts.new.pass) (view c.add_in_taken.new.pass) c.add_in_taken.result (Some c.in-Some.class) false c.read_counts-counts.ensures.only (takes r c.class_wanted.result c.class_wanted.ensures.class ∙ c.in-Some.is) (not_over r (omega (arith, m))) c.add_in_taken.ensures.added
 
 -- ---- the same table
@@ -131,7 +131,7 @@ add_here-requires-clause-may c = may (goal.at.add_here-requires-clause-may c).Af
 pub add_here-requires-clause-slot : goal.add_here-requires-clause-slot
 add_here-requires-clause-slot c t is =
     let a = c.args in
-    subst (λ (z : Picture). IsFreeFor (shape_of a.bank.now).texts a.way t.class a.key z.table a.slot) (sym (words_same (goal.at.add_here-requires-clause-slot c).After-read_counts-counts)) (c.requires.slot t is)
+    subst (λ (z : ContainerWords). IsFreeFor (shape_of a.bank.now).texts a.way t.class a.key z.table a.slot) (sym (words_same (goal.at.add_here-requires-clause-slot c).After-read_counts-counts)) (c.requires.slot t is)
 
 pub add_here-requires-clause-absent : goal.add_here-requires-clause-absent
 add_here-requires-clause-absent c = absent (goal.at.add_here-requires-clause-absent c).After-read_counts-counts
@@ -141,7 +141,7 @@ add_here-requires-clause-counts c = counts (goal.at.add_here-requires-clause-cou
 
 pub add_here-requires-clause-few : goal.add_here-requires-clause-few
 add_here-requires-clause-few c =
-    let m = c.most_keys.ensures.most (known c.args.o (view c.read_counts-counts.new.pass)).content (kinds (goal.at.add_here-requires-clause-few c).After-read_counts-counts) in
+    let m = c.most_keys.ensures.most (known_state c.args.o (view c.read_counts-counts.new.pass)).content (kinds (goal.at.add_here-requires-clause-few c).After-read_counts-counts) in
     omega (arith, m)
 
 pub add_here-requires-clause-serials : goal.add_here-requires-clause-serials
@@ -157,5 +157,5 @@ pub returns-in-None-clause-added : goal.returns-in-None-clause-added
 returns-in-None-clause-added c =
     let a = c.args in
     let r = (goal.at.returns-in-None-clause-added c).After-read_counts-counts in
-    let m = c.most_keys.ensures.most (known a.o (view c.read_counts-counts.new.pass)).content (kinds r) in
+    let m = c.most_keys.ensures.most (known_state a.o (view c.read_counts-counts.new.pass)).content (kinds r) in
     adds_one (shape_of a.bank.now) a.o a.called.now a.said.now (view a.pass.now) (view c.read_counts-counts.new.pass) (view c.add_here.new.pass) c.add_here.result None false c.read_counts-counts.ensures.only (takes r c.class_wanted.result c.class_wanted.ensures.class ∙ c.in-None.is) (not_over r (omega (arith, m))) c.add_here.ensures.added

@@ -2,7 +2,7 @@ use Rattle.std.proofs.Common.{◌≡◌, ◌∙◌, sym, ap, subst, reverse}
 use Rattle.std.proofs.Math.Logic.{∥∥₁_map}
 use Rattle.ft_trace.specs.declared.Shape.{Shape}
 use Rattle.ft_trace.specs.Acts.{all_entries, all_lists}
-use Rattle.ft_trace.specs.Traces.{history, Possible}
+use Rattle.ft_trace.specs.Traces.{history, IsReachable}
 use Rattle.ft_trace.proofs.Earnings.{entries_are_earned}
 use Rattle.ft_trace.proofs.InOrder.{numbered_entries_are_in_order}
 use Rattle.ft_trace.proofs.OwnOrder.{own_entries_are_in_order}
@@ -18,7 +18,7 @@ returns c script kept for_it are asks count =
     let b = c.args.closed.now in
     let v = b.pass.seat.me.0 in
     let all : v.parts ≡ v.shape.passes = b.all ∙ sym (ap (λ (z : Shape). z.passes) b.of) in
-    ∥∥₁_map b.pass.possible (λ (x : Possible v).
+    ∥∥₁_map b.pass.possible (λ (x : IsReachable v).
     let numbered = one_pass_has_all_entries v.shape x.0 x.2.0 x.1 v x.2.1 all in
     let earned = entries_are_earned v.shape x.0 x.2.0 x.1 v x.2.1 in
     let in_order = numbered_entries_are_in_order v.shape (history x.0) (all_entries v) numbered earned in

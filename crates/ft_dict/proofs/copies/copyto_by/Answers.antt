@@ -2,7 +2,7 @@ use Rattle.ft_model.specs.declared.call.Call.TheVariants as call
 use Rattle.ft_model.specs.declared.call.DictCall.TheVariants as dict
 use Rattle.ft_model.specs.TableUses.{copy_takes}
 use Rattle.ft_model.specs.Worlds.{length_of}
-use Rattle.ft_trace.specs.Holds.{known}
+use Rattle.ft_trace.specs.Holds.{known_state}
 use Rattle.ft_bank.specs.Passes.{shape_of, view}
 use Rattle.ft_replacing.proofs.Comings.{replaced_cursors}
 use Rattle.ft_dict.proofs.CopiedDicts.{copies}
@@ -16,4 +16,4 @@ copy_into-requires-clause-replaces c =
 pub returns-clause-cursors : goal.returns-clause-cursors
 returns-clause-cursors c =
     let a = c.args in
-    replaced_cursors (shape_of a.bank.now) (copy_takes (length_of (known a.d (view a.pass.now)).content)) (call.Dict a.d (dict.CopyTo a.e)) (view a.pass.now) (view c.copy_into.new.pass) c.copy_into.result c.copy_into.ensures.replaced
+    replaced_cursors (shape_of a.bank.now) (copy_takes (length_of (known_state a.d (view a.pass.now)).content)) (call.Dict a.d (dict.CopyTo a.e)) (view a.pass.now) (view c.copy_into.new.pass) c.copy_into.result c.copy_into.ensures.replaced

@@ -4,7 +4,7 @@ use Rattle.ft_model.specs.declared.call.DictCall.TheVariants as dict
 use Rattle.ft_model.specs.declared.script.Kind.{Kind}
 use Rattle.ft_model.specs.TableUses.{copy_takes}
 use Rattle.ft_model.specs.Worlds.{length_of}
-use Rattle.ft_trace.specs.Holds.{known}
+use Rattle.ft_trace.specs.Holds.{known_state}
 use Rattle.ft_trace.specs.Kinds.{IsKeyed}
 use Rattle.ft_bank.specs.Passes.{shape_of, view}
 use Rattle.ft_section.specs.declared.answers.Objects.TheVariants.{Two}
@@ -33,7 +33,7 @@ pub let_go-requires : goal.let_go-requires
 let_go-requires c =
     let a = c.args in
     let e = c.copyto_by-added.ensures in
-    replaced_making a.bank.now c.take_for.new.pass c.copyto_by-added.new.pass c.in-Have.ensures.making e.pass e.stack (shape_of a.bank.now) (copy_takes (length_of (known a.d (view c.take_for.new.pass)).content)) (call.Dict a.d (dict.CopyTo a.e)) c.copyto_by-added.result (λ n l sections. refl) e.copied
+    replaced_making a.bank.now c.take_for.new.pass c.copyto_by-added.new.pass c.in-Have.ensures.making e.pass e.stack (shape_of a.bank.now) (copy_takes (length_of (known_state a.d (view c.take_for.new.pass)).content)) (call.Dict a.d (dict.CopyTo a.e)) c.copyto_by-added.result (λ n l sections. refl) e.copied
 
 pub returns-in-Have-clause-may : goal.returns-in-Have-clause-may
 returns-in-Have-clause-may c = c.let_go.ensures.may (Two c.args.d c.args.e)

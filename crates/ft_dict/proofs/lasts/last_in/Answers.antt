@@ -1,6 +1,6 @@
 use Rattle.std.proofs.Common.{ℕ, Option, None, Some, sym, subst}
 use Rattle.ft_bank.specs.Passes.{shape_of}
-use Rattle.ft_bank.specs.TableNames.{name_of}
+use Rattle.ft_bank.specs.TableNames.{table_id}
 use Rattle.ft_reads.specs.Reads.{Reads}
 use Rattle.ft_reads.proofs.Agreeing.{reads_map, reads_then}
 use Rattle.ft_keyed.specs.TableEntries.{IsPlainAt, OfUsed}
@@ -14,7 +14,7 @@ pub returns-in-Some-clause-reads : goal.returns-in-Some-clause-reads
 returns-in-Some-clause-reads c =
     let a = c.args in
     let k = shape_of a.bank.now in
-    let t = name_of a.table in
+    let t = table_id a.table in
     let place = c.in-Some.place in
     let found = c.value_at-found.result in
     let p = a.pass.now in
@@ -29,7 +29,7 @@ pub returns-in-None-clause-reads : goal.returns-in-None-clause-reads
 returns-in-None-clause-reads c =
     let a = c.args in
     let k = shape_of a.bank.now in
-    let t = name_of a.table in
+    let t = table_id a.table in
     let p = a.pass.now in
     let q = c.last_place.new.pass in
     let here : Reads k a.d (OfUsed k t (IsLast a.fill None)) p q = subst (λ (z : Option ℕ). Reads k a.d (OfUsed k t (IsLast a.fill z)) p q) c.in-None.is c.last_place.ensures.reads in

@@ -4,8 +4,8 @@ use Rattle.ft_model.specs.declared.call.DictCall.TheVariants as dict
 use Rattle.ft_model.specs.declared.reply.Reply.TheVariants as reply
 use Rattle.ft_trace.specs.declared.Act.TheVariants.{ReadCounter}
 use Rattle.ft_trace.specs.declared.Shape.{Shape}
-use Rattle.ft_trace.specs.Acts.{noted}
-use Rattle.ft_trace.specs.Addresses.{containers_in}
+use Rattle.ft_trace.specs.Acts.{view_after}
+use Rattle.ft_trace.specs.Addresses.{container_count}
 use Rattle.ft_bank.specs.Answered.{Answered}
 use Rattle.ft_bank.specs.Passes.{view}
 use Rattle.ft_bank.specs.Reads.{IsShown}
@@ -19,8 +19,8 @@ answer_held-requires-clause-shown c n =
     let u = view c.value_locked-found.new.pass in
     let d = c.args.d in
     let e = c.value_locked-found.ensures in
-    let low = subst (λ (k : Shape). d < containers_in k) (sym c.requires.pass.1) c.requires.container in
-    subst (λ z. IsShown (noted (ReadCounter n) u) (call.Dict c.args.d (dict.GetOr c.args.key c.args.default)) (reply.Value z) n) (sym c.unwrap_or.ensures)
+    let low = subst (λ (k : Shape). d < container_count k) (sym c.requires.pass.1) c.requires.container in
+    subst (λ z. IsShown (view_after (ReadCounter n) u) (call.Dict c.args.d (dict.GetOr c.args.key c.args.default)) (reply.Value z) n) (sym c.unwrap_or.ensures)
     (get_or_shown v u d c.args.key c.value_locked-found.result e.keeps low c.requires.locked e.key c.requires.left e.value n c.args.default)
 
 pub returns-clause-answered : goal.returns-clause-answered

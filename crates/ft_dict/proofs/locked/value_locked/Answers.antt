@@ -2,7 +2,7 @@ use Rattle.std.proofs.Common.{◌<◌, Some, None, sym, ap, ◌∙◌, subst}
 use Rattle.std.proofs.Math.Logic.{∥∥₁_elim}
 use Rattle.ft_model.specs.declared.content.Content.{Content}
 use Rattle.ft_trace.specs.declared.Shape.{Shape}
-use Rattle.ft_trace.specs.Addresses.{containers_in}
+use Rattle.ft_trace.specs.Addresses.{container_count}
 use Rattle.ft_trace.specs.ContainerStates.{kind_in}
 use Rattle.ft_bank.specs.Passes.{view}
 use Rattle.ft_search.specs.Held.{IsHeldAt}
@@ -17,7 +17,7 @@ unreachable-requires c =
     let d = c.args.d in
     let is = dict_known v d c.args.pass.now.possible c.requires.locked (ap (λ (k : Shape). kind_in k.starts d) c.requires.pass.1 ∙ c.requires.dict) in
     let h = subst (λ (z : Content). IsHeldAt z c.args.key (Some (c.in-Some.kind, c.in-Some.payload))) is.1 c.in-Some.ensures.held in
-    let low = subst (λ (k : Shape). d < containers_in k) (sym c.requires.pass.1) c.requires.container in
+    let low = subst (λ (k : Shape). d < container_count k) (sym c.requires.pass.1) c.requires.container in
     ∥∥₁_elim c.args.pass.now.possible (λ a b. absurd a)
     (λ possible.
     let r = value_known v d c.args.key is.0 c.in-Some.kind c.in-Some.payload h.0 possible low c.requires.locked is.1 c.read_key.ensures.key h.1 in

@@ -10,8 +10,8 @@ use Rattle.ft_model.specs.Worlds.{serial_of}
 use Rattle.ft_layout.specs.declared.slot.Stored.TheVariants.{Plain}
 use Rattle.ft_keys.specs.declared.walk.Way.TheVariants as way
 use Rattle.ft_trace.specs.declared.Shape.{Shape}
-use Rattle.ft_trace.specs.Addresses.{containers_in}
-use Rattle.ft_trace.specs.Holds.{held, known}
+use Rattle.ft_trace.specs.Addresses.{container_count}
+use Rattle.ft_trace.specs.Holds.{held_words, known_state}
 use Rattle.ft_bank.specs.declared.table.Table.{Table}
 use Rattle.ft_bank.specs.Passes.{shape_of, view}
 use Rattle.ft_bank.specs.Whole.{Wrote}
@@ -28,20 +28,20 @@ use Rattle.ft_dict.proofs.values.set_by.Goals as goal
 use Rattle.ft_dict.proofs.values.set_by.Goals.{After-seek_key, In-At}
 
 -- the dict, as it is known once the key was sought
-known_pairs : (c : After-seek_key) → (pairs : DictContent) × ((known c.args.d (view c.seek_key.new.pass)).content ≡ content.Dict pairs) × (c.args.d < containers_in (view c.seek_key.new.pass).shape)
+known_pairs : (c : After-seek_key) → (pairs : DictContent) × ((known_state c.args.d (view c.seek_key.new.pass)).content ≡ content.Dict pairs) × (c.args.d < container_count (view c.seek_key.new.pass).shape)
 known_pairs c = deleted.known_dict (shape_of c.args.bank.now) (view c.seek_key.new.pass) c.args.d c.seek_key.ensures.pass.1 c.seek_key.new.pass.possible c.seek_key.ensures.may c.requires.dict
 
-leaves : (c : In-At) → Leaves c.args.d (call.Dict c.args.d (dict.Set c.args.key c.args.value)) (reply.Done) (record { content = with_value_at (known c.args.d (view c.seek_key.new.pass)).content c.args.key c.args.value; table = (known c.args.d (view c.seek_key.new.pass)).table }) (view c.seek_key.new.pass)
+leaves : (c : In-At) → Leaves c.args.d (call.Dict c.args.d (dict.Set c.args.key c.args.value)) (reply.Done) (record { content = with_value_at (known_state c.args.d (view c.seek_key.new.pass)).content c.args.key c.args.value; table = (known_state c.args.d (view c.seek_key.new.pass)).table }) (view c.seek_key.new.pass)
 leaves c =
     let p = deleted.known_dict (shape_of c.args.bank.now) (view c.seek_key.new.pass) c.args.d c.seek_key.ensures.pass.1 c.seek_key.new.pass.possible c.seek_key.ensures.may c.requires.dict in
     deleted.set_leaves c.args.d (view c.seek_key.new.pass) p.0 p.2 c.seek_key.ensures.may.locked p.1 c.args.key c.seek_key.ensures.key c.args.value c.in-At.value_kind c.in-At.payload c.value_fits.ensures c.in-At.ensures.spot.2
 
-adds : (c : After-seek_key) → IsHeldAt (known c.args.d (view c.seek_key.new.pass)).content c.args.key None → AddsKey c.args.d (call.Dict c.args.d (dict.Set c.args.key c.args.value)) reply.Done c.args.key (Plain c.args.value) (view c.seek_key.new.pass)
+adds : (c : After-seek_key) → IsHeldAt (known_state c.args.d (view c.seek_key.new.pass)).content c.args.key None → AddsKey c.args.d (call.Dict c.args.d (dict.Set c.args.key c.args.value)) reply.Done c.args.key (Plain c.args.value) (view c.seek_key.new.pass)
 adds c none =
     let p = known_pairs c in
     set_adds c.args.d (view c.seek_key.new.pass) p.0 p.2 c.seek_key.ensures.may.locked p.1 c.args.key c.args.value c.seek_key.ensures.key c.value_fits.ensures (subst (λ (z : Content). IsHeldAt z c.args.key None) p.1 none)
 
-serials : (c : After-seek_key) → serial_of (known c.args.d (view c.seek_key.new.pass)).content < 2 ^ 63
+serials : (c : After-seek_key) → serial_of (known_state c.args.d (view c.seek_key.new.pass)).content < 2 ^ 63
 serials c =
     let room = serials_have_room (view c.seek_key.new.pass) c.args.d c.seek_key.new.pass.possible (subst (λ (k : Shape). k.passes * k.calls < 2 ^ 46) (sym c.seek_key.ensures.pass.1) c.args.bank.now.few) c.seek_key.ensures.may.locked in
     omega (arith, room)
@@ -57,7 +57,7 @@ returns-in-At-clause-added c =
     let u = view c.seek_key.new.pass in
     let n = c.set_entry-number.ensures in
     let h = subst (λ (z : Content). IsHeldAt z a.key (Some (c.in-At.value_kind, c.in-At.payload))) p.1 c.in-At.ensures.spot.2 in
-    let there : holds (known a.d u).content a.key ≡ true = ap (λ (z : Content). holds z a.key) p.1 ∙ deleted.has_there a.d u p.0 p.2 c.seek_key.ensures.may.locked p.1 a.key c.seek_key.ensures.key c.in-At.value_kind c.in-At.payload h n.wrote.found n.wrote.has in
+    let there : holds (known_state a.d u).content a.key ≡ true = ap (λ (z : Content). holds z a.key) p.1 ∙ deleted.has_there a.d u p.0 p.2 c.seek_key.ensures.may.locked p.1 a.key c.seek_key.ensures.key c.in-At.value_kind c.in-At.payload h n.wrote.found n.wrote.has in
     puts_present (shape_of a.bank.now) a.d a.key (call.Dict a.d (dict.Set a.key a.value)) reply.Done (view a.pass.now) u (view c.set_entry-number.new.pass) c.seek_key.ensures.keeps c.written.result (leaves at).changed there (ap (λ (z : Stamp). z.wrote) c.written.ensures) (subst (λ (z : Stamp). Wrote (call.Dict a.d (dict.Set a.key a.value)) reply.Done z.number u (view c.set_entry-number.new.pass)) (sym c.written.ensures) n.wrote) n.root
 
 -- ---- a table that has the key nowhere
@@ -71,7 +71,7 @@ add_key-requires-clause-may c =
 pub add_key-requires-clause-slot : goal.add_key-requires-clause-slot
 add_key-requires-clause-slot c t is =
     let a = c.args in
-    subst (λ (z : Table). IsFreeFor (shape_of a.bank.now).texts way.Dict z.class a.key (held a.d (view c.seek_key.new.pass)).table c.in-Free.slot) (ap (λ (z : Option Table). unwrap_or z c.in-Free.table) is) (c.in-Free.ensures.spot.1, c.in-Free.ensures.spot.2)
+    subst (λ (z : Table). IsFreeFor (shape_of a.bank.now).texts way.Dict z.class a.key (held_words a.d (view c.seek_key.new.pass)).table c.in-Free.slot) (ap (λ (z : Option Table). unwrap_or z c.in-Free.table) is) (c.in-Free.ensures.spot.1, c.in-Free.ensures.spot.2)
 
 pub add_key-requires-clause-absent : goal.add_key-requires-clause-absent
 add_key-requires-clause-absent c = c.in-Free.ensures.spot.3

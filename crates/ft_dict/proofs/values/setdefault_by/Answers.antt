@@ -11,8 +11,8 @@ use Rattle.ft_model.specs.Worlds.{dict_of, serial_of}
 use Rattle.ft_layout.specs.declared.slot.Stored.TheVariants.{Plain}
 use Rattle.ft_keys.specs.declared.walk.Way.TheVariants as way
 use Rattle.ft_trace.specs.declared.Shape.{Shape}
-use Rattle.ft_trace.specs.Addresses.{containers_in}
-use Rattle.ft_trace.specs.Holds.{held, known}
+use Rattle.ft_trace.specs.Addresses.{container_count}
+use Rattle.ft_trace.specs.Holds.{held_words, known_state}
 use Rattle.ft_trace.specs.ContainerStates.{ContainerState}
 use Rattle.ft_bank.specs.declared.table.Table.{Table}
 use Rattle.ft_bank.specs.Passes.{shape_of, view}
@@ -33,20 +33,20 @@ use Rattle.ft_dict.proofs.values.setdefault_by.Goals as goal
 use Rattle.ft_dict.proofs.values.setdefault_by.Goals.{After-seek_key, After-value_at}
 
 -- the dict, as it is known once the key was sought
-known_pairs : (c : After-seek_key) → (pairs : DictContent) × ((known c.args.d (view c.seek_key.new.pass)).content ≡ content.Dict pairs) × (c.args.d < containers_in (view c.seek_key.new.pass).shape)
+known_pairs : (c : After-seek_key) → (pairs : DictContent) × ((known_state c.args.d (view c.seek_key.new.pass)).content ≡ content.Dict pairs) × (c.args.d < container_count (view c.seek_key.new.pass).shape)
 known_pairs c = deleted.known_dict (shape_of c.args.bank.now) (view c.seek_key.new.pass) c.args.d c.seek_key.ensures.pass.1 c.seek_key.new.pass.possible c.seek_key.ensures.may c.requires.dict
 
-leaves : (c : After-value_at) → Leaves c.args.d (call.Dict c.args.d (dict.SetDefault c.args.key c.args.default)) (reply.Value c.value_at.result) (known c.args.d (view c.seek_key.new.pass)) (view c.seek_key.new.pass)
+leaves : (c : After-value_at) → Leaves c.args.d (call.Dict c.args.d (dict.SetDefault c.args.key c.args.default)) (reply.Value c.value_at.result) (known_state c.args.d (view c.seek_key.new.pass)) (view c.seek_key.new.pass)
 leaves c =
     let p = deleted.known_dict (shape_of c.args.bank.now) (view c.seek_key.new.pass) c.args.d c.seek_key.ensures.pass.1 c.seek_key.new.pass.possible c.seek_key.ensures.may c.requires.dict in
     deleted.setdefault_leaves c.args.d (view c.seek_key.new.pass) p.0 p.2 c.seek_key.ensures.may.locked p.1 c.args.key c.seek_key.ensures.key c.args.default c.value_at.result c.value_fits.ensures c.value_at.ensures
 
-adds : (c : After-seek_key) → IsHeldAt (known c.args.d (view c.seek_key.new.pass)).content c.args.key None → AddsKey c.args.d (call.Dict c.args.d (dict.SetDefault c.args.key c.args.default)) (reply.Value c.args.default) c.args.key (Plain c.args.default) (view c.seek_key.new.pass)
+adds : (c : After-seek_key) → IsHeldAt (known_state c.args.d (view c.seek_key.new.pass)).content c.args.key None → AddsKey c.args.d (call.Dict c.args.d (dict.SetDefault c.args.key c.args.default)) (reply.Value c.args.default) c.args.key (Plain c.args.default) (view c.seek_key.new.pass)
 adds c none =
     let p = known_pairs c in
     setdefault_adds c.args.d (view c.seek_key.new.pass) p.0 p.2 c.seek_key.ensures.may.locked p.1 c.args.key c.args.default c.seek_key.ensures.key c.value_fits.ensures (subst (λ (z : Content). IsHeldAt z c.args.key None) p.1 none)
 
-serials : (c : After-seek_key) → serial_of (known c.args.d (view c.seek_key.new.pass)).content < 2 ^ 63
+serials : (c : After-seek_key) → serial_of (known_state c.args.d (view c.seek_key.new.pass)).content < 2 ^ 63
 serials c =
     let room = serials_have_room (view c.seek_key.new.pass) c.args.d c.seek_key.new.pass.possible (subst (λ (k : Shape). k.passes * k.calls < 2 ^ 46) (sym c.seek_key.ensures.pass.1) c.args.bank.now.few) c.seek_key.ensures.may.locked in
     omega (arith, room)
@@ -54,11 +54,11 @@ serials c =
 pub write_nothing-number-requires-clause-leaves : goal.write_nothing-number-requires-clause-leaves
 write_nothing-number-requires-clause-leaves c = leaves (goal.at.write_nothing-number-requires-clause-leaves c).After-value_at
 
-same : (c : After-seek_key) → (known c.args.d (view c.seek_key.new.pass)).content ≡ (known c.args.d (view c.args.pass.now)).content
+same : (c : After-seek_key) → (known_state c.args.d (view c.seek_key.new.pass)).content ≡ (known_state c.args.d (view c.args.pass.now)).content
 same c = ap (λ (z : ContainerState). z.content) (work_knows (view c.args.pass.now) (view c.seek_key.new.pass) c.args.d c.seek_key.ensures.keeps.work)
 
 -- the default is what is replied where the key isn't there
-missing : (c : After-seek_key) → IsHeldAt (known c.args.d (view c.seek_key.new.pass)).content c.args.key None → reply.Value c.args.default ≡ default_reply (known c.args.d (view c.args.pass.now)).content c.args.key c.args.default
+missing : (c : After-seek_key) → IsHeldAt (known_state c.args.d (view c.seek_key.new.pass)).content c.args.key None → reply.Value c.args.default ≡ default_reply (known_state c.args.d (view c.args.pass.now)).content c.args.key c.args.default
 missing c none =
     let p = known_pairs c in
     let found = not_found p.0.pairs c.args.key (subst (λ (z : Content). IsHeldAt z c.args.key None) p.1 none) in
@@ -76,8 +76,8 @@ returns-in-At-clause-added c =
     let n = c.write_nothing-number.ensures in
     let said = reply.Value c.value_at.result in
     let h = subst (λ (z : Content). IsHeldAt z a.key (Some (c.in-At.value_kind, c.in-At.payload))) p.1 c.in-At.ensures.spot.2 in
-    let there : holds (known a.d u).content a.key ≡ true = ap (λ (z : Content). holds z a.key) p.1 ∙ deleted.has_there a.d u p.0 p.2 c.seek_key.ensures.may.locked p.1 a.key c.seek_key.ensures.key c.in-At.value_kind c.in-At.payload h n.wrote.found n.wrote.has in
-    let value : c.value_at.result ≡ unwrap_or (dict_get (dict_of (known a.d (view a.pass.now)).content).pairs a.key) a.default =
+    let there : holds (known_state a.d u).content a.key ≡ true = ap (λ (z : Content). holds z a.key) p.1 ∙ deleted.has_there a.d u p.0 p.2 c.seek_key.ensures.may.locked p.1 a.key c.seek_key.ensures.key c.in-At.value_kind c.in-At.payload h n.wrote.found n.wrote.has in
+    let value : c.value_at.result ≡ unwrap_or (dict_get (dict_of (known_state a.d (view a.pass.now)).content).pairs a.key) a.default =
     ap (λ (z : Option Value). unwrap_or z a.default) (sym (deleted.value_there a.d u p.0 p.2 c.seek_key.ensures.may.locked p.1 a.key c.seek_key.ensures.key c.value_at.result c.value_at.ensures n.wrote.found n.wrote.has)) ∙ ap (λ (z : Content). unwrap_or (dict_get (dict_of z).pairs a.key) a.default) (sym p.1 ∙ same s) in (
       ap reply.Value value,
       puts_present (shape_of a.bank.now) a.d a.key (call.Dict a.d (dict.SetDefault a.key a.default)) said (view a.pass.now) u w c.seek_key.ensures.keeps c.written.result (leaves at).changed there (ap (λ (z : Stamp). z.wrote) c.written.ensures) (subst (λ (z : Stamp). Wrote (call.Dict a.d (dict.SetDefault a.key a.default)) said z.number u w) (sym c.written.ensures) n.wrote) n.root,
@@ -94,7 +94,7 @@ add_key-added-requires-clause-may c =
 pub add_key-added-requires-clause-slot : goal.add_key-added-requires-clause-slot
 add_key-added-requires-clause-slot c t is =
     let a = c.args in
-    subst (λ (z : Table). IsFreeFor (shape_of a.bank.now).texts way.Dict z.class a.key (held a.d (view c.seek_key.new.pass)).table c.in-Free.slot) (ap (λ (z : Option Table). unwrap_or z c.in-Free.table) is) (c.in-Free.ensures.spot.1, c.in-Free.ensures.spot.2)
+    subst (λ (z : Table). IsFreeFor (shape_of a.bank.now).texts way.Dict z.class a.key (held_words a.d (view c.seek_key.new.pass)).table c.in-Free.slot) (ap (λ (z : Option Table). unwrap_or z c.in-Free.table) is) (c.in-Free.ensures.spot.1, c.in-Free.ensures.spot.2)
 
 pub add_key-added-requires-clause-absent : goal.add_key-added-requires-clause-absent
 add_key-added-requires-clause-absent c = c.in-Free.ensures.spot.3

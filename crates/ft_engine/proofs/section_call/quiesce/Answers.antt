@@ -3,7 +3,7 @@ use Rattle.ft_model.specs.declared.call.Call.TheVariants as call
 use Rattle.ft_model.specs.declared.reply.Reply.TheVariants as reply
 use Rattle.ft_trace.specs.declared.Act.TheVariants.{Answer}
 use Rattle.ft_trace.specs.declared.View.{View}
-use Rattle.ft_trace.specs.Acts.{noted}
+use Rattle.ft_trace.specs.Acts.{view_after}
 use Rattle.ft_bank.specs.Passes.{view}
 use Rattle.ft_bank.specs.Reads.{IsShown}
 use Rattle.ft_engine.proofs.PassesAfter.{quiesced_calm}
@@ -32,7 +32,7 @@ returns c hands =
     let a = c.answer.ensures in (
       quiesce_answer c.args.bank.now c.args.pass.now q c.answer.new.pass (record { number = n; wrote = false }) c.requires.ready c.requires.left c.quiesce.ensures.pass c.quiesce.ensures.sections (quiesced_calm (view c.args.pass.now) (view q) c.requires.ready.inside.1.still c.quiesce.ensures.did) c.quiesce.ensures.online
           (a.0 ∙ (d.0 ∙ c.quiesce.ensures.pass.0), ap (λ (z : View). z.shape) a.1 ∙ (ap (λ (z : View). z.shape) d.1 ∙ c.quiesce.ensures.pass.1)) (a.2 ∙ d.2)
-          (a.1 ∙ ap (noted (Answer call.Quiesce reply.Done n)) d.1) refl c.stamp-number.ensures.seen,
+          (a.1 ∙ ap (view_after (Answer call.Quiesce reply.Done n)) d.1) refl c.stamp-number.ensures.seen,
       no_containers hands call.Quiesce c.args.pass.now refl,
-      same_for hands call.Quiesce (view c.args.pass.now) (view c.answer.new.pass) (quiesced_owners n (view c.args.pass.now) (view q) (view c.answer.new.pass) (quiesced_calm (view c.args.pass.now) (view q) c.requires.ready.inside.1.still c.quiesce.ensures.did) (a.1 ∙ ap (noted (Answer call.Quiesce reply.Done n)) d.1)),
+      same_for hands call.Quiesce (view c.args.pass.now) (view c.answer.new.pass) (quiesced_owners n (view c.args.pass.now) (view q) (view c.answer.new.pass) (quiesced_calm (view c.args.pass.now) (view q) c.requires.ready.inside.1.still c.quiesce.ensures.did) (a.1 ∙ ap (view_after (Answer call.Quiesce reply.Done n)) d.1)),
     )

@@ -4,9 +4,9 @@ use Rattle.ft_model.specs.declared.cursor.Cursor.{Cursor}
 use Rattle.ft_model.specs.declared.reply.Reply.{Reply}
 use Rattle.ft_model.specs.Worlds.{container_of, cursor_kind}
 use Rattle.ft_trace.specs.declared.Shape.{Shape}
-use Rattle.ft_trace.specs.Addresses.{containers_in}
+use Rattle.ft_trace.specs.Addresses.{container_count}
 use Rattle.ft_trace.specs.Hands.{cursor_in, MovesCursor}
-use Rattle.ft_trace.specs.Holds.{known}
+use Rattle.ft_trace.specs.Holds.{known_state}
 use Rattle.ft_bank.specs.Answered.{AnsweredCursor}
 use Rattle.ft_bank.specs.Passes.{view}
 use Rattle.ft_bank.specs.Whole.{OnlyLoaded}
@@ -26,11 +26,11 @@ answer_moved-answered-requires-clause-shown c n =
     let u = view c.step-advanced.new.pass in
     let looks = c.step-advanced.ensures.looks in
     let loaded : OnlyLoaded v u = subst (OnlyLoaded v) (sym looks.2.1) (looks_load looks.0 v looks.1) in
-    let low = subst (λ (z : Shape). o < containers_in z) (sym c.requires.pass.1) c.requires.container in
-    let s = step_in (known o v).content walker in
+    let low = subst (λ (z : Shape). o < container_count z) (sym c.requires.pass.1) c.requires.container in
+    let s = step_in (known_state o v).content walker in
     cursor-shown v u o n number (call.Next number) c.step-advanced.result.reply c.step-advanced.result.cursor loaded c.requires.left refl low c.requires.locked
     (λ world holds. subst (λ (x : Reply × Cursor). MovesCursor world (call.Next number) number (cursor_in number v.log) x.0 x.1) (sym (λ d. (c.step-advanced.ensures.next.0 d, c.step-advanced.ensures.next.1 d)))
-    (next-moves world (known o v).content walker number (cursor_in number v.log) holds c.requires.cursor))
+    (next-moves world (known_state o v).content walker number (cursor_in number v.log) holds c.requires.cursor))
 
 pub returns-clause-answered : goal.returns-clause-answered
 returns-clause-answered c =
@@ -48,4 +48,4 @@ pub returns-clause-over : goal.returns-clause-over
 returns-clause-over c =
     let walker = c.args.cursor.now in
     let o = container_of walker in
-    subst (IsOver (cursor_kind walker) o) (sym c.step-advanced.ensures.next.1) (step-over (known o (view c.args.pass.now)).content walker c.requires.landed)
+    subst (IsOver (cursor_kind walker) o) (sym c.step-advanced.ensures.next.1) (step-over (known_state o (view c.args.pass.now)).content walker c.requires.landed)

@@ -1,6 +1,6 @@
 use Rattle.std.proofs.Common.{◌<◌, ℕ, refl, inr, sym, ap, ◌∙◌, subst}
 use Rattle.ft_trace.specs.declared.Shape.{Shape}
-use Rattle.ft_trace.specs.Addresses.{containers_in}
+use Rattle.ft_trace.specs.Addresses.{container_count}
 use Rattle.ft_bank.specs.Passes.{shape_of, view}
 use Rattle.ft_section.specs.declared.answers.Objects.TheVariants.{One}
 use Rattle.ft_section.proofs.TriedSections.{let_gone}
@@ -15,7 +15,7 @@ iter_locked-reply-requires-clause-stands c =
     let same = m.inside.0.1 in
     let o = c.args.o in
     making_stands c.args.bank.now c.take_for.new.pass (shape_of c.args.bank.now).texts o m (ap (λ (k : Shape). k.texts) same)
-    (subst (λ (k : Shape). o < containers_in k) (sym same) c.requires.container) c.in-Have.ensures.has.0.0
+    (subst (λ (k : Shape). o < container_count k) (sym same) c.requires.container) c.in-Have.ensures.has.0.0
 
 pub iter_locked-reply-requires-clause-pass : goal.iter_locked-reply-requires-clause-pass
 iter_locked-reply-requires-clause-pass c = c.in-Have.ensures.making.inside.0

@@ -3,7 +3,7 @@ use Rattle.ft_model.specs.declared.call.Call.TheVariants as call
 use Rattle.ft_model.specs.Worlds.{container_of}
 use Rattle.ft_trace.specs.declared.Shape.{Shape}
 use Rattle.ft_trace.specs.Acts.{has_lock}
-use Rattle.ft_trace.specs.Addresses.{containers_in}
+use Rattle.ft_trace.specs.Addresses.{container_count}
 use Rattle.ft_bank.specs.Passes.{shape_of, view}
 use Rattle.ft_section.specs.declared.answers.Objects.TheVariants.{One}
 use Rattle.ft_section.specs.Locking.{LocksWithin}
@@ -21,7 +21,7 @@ next_locked-reply-requires-clause-stands c =
     let same = m.inside.0.1 in
     let o = container_of c.args.cursor.now in
     making_stands c.args.bank.now c.take_for.new.pass (shape_of c.args.bank.now).texts o m (ap (λ (k : Shape). k.texts) same)
-    (subst (λ (k : Shape). o < containers_in k) (sym same) c.requires.container) (subst (λ (z : ℕ). has_lock z (view c.take_for.new.pass).log ≡ true) c.container-container.ensures c.in-Have.ensures.has.0.0)
+    (subst (λ (k : Shape). o < container_count k) (sym same) c.requires.container) (subst (λ (z : ℕ). has_lock z (view c.take_for.new.pass).log ≡ true) c.container-container.ensures c.in-Have.ensures.has.0.0)
 
 pub next_locked-reply-requires-clause-pass : goal.next_locked-reply-requires-clause-pass
 next_locked-reply-requires-clause-pass c = c.in-Have.ensures.making.inside.0

@@ -1,5 +1,5 @@
 use Rattle.std.proofs.Common.{map}
-use Rattle.ft_bank.specs.TableNames.{name_of}
+use Rattle.ft_bank.specs.TableNames.{table_id}
 use Rattle.ft_search.specs.TableWords.{access_act, known_words}
 use Rattle.ft_search.proofs.Running.{ran, ran_known, looks_calls}
 use Rattle.ft_iter.proofs.held.seek_held.Goals as goal
@@ -11,7 +11,7 @@ pub returns-clause-looks : goal.returns-clause-looks
 returns-clause-looks g c =
     let z = c.args.words.now in
     let s = c.seek_pair.ensures.gives in
-    (map (access_act z.o (name_of z.table)) s.0, looks_calls z.o (name_of z.table) s.0 s.2, (ran z s.0 c.seek_pair.new.words s.1).1)
+    (map (access_act z.o (table_id z.table)) s.0, looks_calls z.o (table_id z.table) s.0 s.2, (ran z s.0 c.seek_pair.new.words s.1).1)
 
 pub returns-clause-gives : goal.returns-clause-gives
 returns-clause-gives g c =

@@ -13,7 +13,7 @@ use Rattle.ft_model.specs.declared.reply.Reply.TheVariants as reply
 use Rattle.ft_model.specs.Cursors.{list_walk, list_next}
 use Rattle.ft_model.specs.Worlds.{list_of}
 use Rattle.ft_trace.specs.declared.Shape.{Shape}
-use Rattle.ft_trace.specs.Holds.{held, known}
+use Rattle.ft_trace.specs.Holds.{held_words, known_state}
 use Rattle.ft_trace.specs.ContainerStates.{kind_in}
 use Rattle.ft_bank.specs.Passes.{shape_of, view}
 use Rattle.ft_list.specs.Indexes.{IsItemNamed, item_named}
@@ -29,7 +29,7 @@ returns-in_default-clause-next c items is =
     let v = view c.args.pass.now in
     let index = c.args.index in
     let r = c.stop_list-in_default.result in
-    let short = list-short (shape_of c.args.bank.now).texts (held o v) (known o v) items c.requires.stands is in
+    let short = list-short (shape_of c.args.bank.now).texts (held_words o v) (known_state o v) items c.requires.stands is in
     let far : 2 ^ 16 ≤ index = dite (dec_lt index (2 ^ 16)) (λ (low : index < 2 ^ 16). absurd (c.in_default.ensures (record { sfits = omega (arith, low) }))) (λ high. omega (arith, high)) in
     subst (λ b. IsStep r (list_next items o index b)) (sym c.if-ended.false)
     (subst (λ (z : Option Value). IsStep r (list_walk z o index)) (sym (far-none items index short far)) c.stop_list-in_default.ensures)

@@ -2,7 +2,7 @@ use Rattle.std.proofs.Common.{◌≡◌, true, sym, ◌∙◌, subst}
 use Rattle.ft_model.specs.declared.call.Call.{Call}
 use Rattle.ft_model.specs.declared.reply.Reply.TheVariants as reply
 use Rattle.ft_trace.specs.ContainerStates.{may_empty}
-use Rattle.ft_trace.specs.Holds.{known}
+use Rattle.ft_trace.specs.Holds.{known_state}
 use Rattle.ft_bank.specs.Passes.{shape_of, view}
 use Rattle.ft_growth.proofs.Cursors.{given_cursors}
 use Rattle.ft_search.specs.OneEntryWrites.{Leaves}
@@ -15,7 +15,7 @@ pub clear_keyed-requires-clause-leaves : goal.clear_keyed-requires-clause-leaves
 clear_keyed-requires-clause-leaves c =
     let a = c.args in
     let v = view a.pass.now in
-    subst (λ (z : Call). Leaves a.c z reply.Done (cleared_kept (known a.c v)) v) (sym c.clearing_call-called.ensures) (clear_leaves a.way (shape_of a.bank.now) a.c v c.requires.pass.1 a.pass.now.possible c.requires.may c.requires.kind)
+    subst (λ (z : Call). Leaves a.c z reply.Done (cleared_kept (known_state a.c v)) v) (sym c.clearing_call-called.ensures) (clear_leaves a.way (shape_of a.bank.now) a.c v c.requires.pass.1 a.pass.now.possible c.requires.may c.requires.kind)
 
 pub clear_keyed-requires-clause-empties : goal.clear_keyed-requires-clause-empties
 clear_keyed-requires-clause-empties c = subst (λ (z : Call). may_empty z ≡ true) (sym c.clearing_call-called.ensures) (clear_empties c.args.way c.args.c)

@@ -3,7 +3,7 @@ use Rattle.std.specs.Prelude.{◌&&◌}
 use Rattle.std.specs.List.{list_all}
 use Rattle.ft_model.specs.Contents.{DictContent, has_pair, same_pairs}
 use Rattle.ft_model.specs.Worlds.{dict_of}
-use Rattle.ft_trace.specs.Pictures.{Picture}
+use Rattle.ft_trace.specs.Pictures.{ContainerWords}
 use Rattle.ft_bank.specs.Passes.{shape_of}
 use Rattle.ft_reads.proofs.Both.{both_map, both_then}
 use Rattle.ft_keyed.specs.Comparing.{AreOfDicts}
@@ -30,8 +30,8 @@ returns-clause-reads c =
     let p = a.pass.now in
     let q = c.are_within.new.pass in
     let r = c.are_within-2.new.pass in
-    let one : Picture → Picture → Type 0 = AreOfDicts k (λ (dict others : DictContent). found ≡ list_all (has_pair others.pairs) dict.pairs) in
-    let two : Picture → Picture → Type 0 = AreOfDicts k (λ (dict others : DictContent). back ≡ list_all (has_pair others.pairs) dict.pairs) in
+    let one : ContainerWords → ContainerWords → Type 0 = AreOfDicts k (λ (dict others : DictContent). found ≡ list_all (has_pair others.pairs) dict.pairs) in
+    let two : ContainerWords → ContainerWords → Type 0 = AreOfDicts k (λ (dict others : DictContent). back ≡ list_all (has_pair others.pairs) dict.pairs) in
     both_map k a.d a.other (λ x y. one x y × two y x) (AreOfDicts k (λ (dict others : DictContent). back ≡ same_pairs dict.pairs others.pairs)) p r
     (both_then k a.d a.other one (λ x y. two y x) p q r c.are_within.ensures.reads (both_swap k a.d a.other two q r c.are_within-2.ensures.reads))
     (λ x y both first is stands second is' stands'.

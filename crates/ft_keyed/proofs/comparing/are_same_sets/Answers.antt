@@ -2,7 +2,7 @@ use Rattle.std.proofs.Common.{◌≡◌, Bool, true, false, sym, ap, ◌∙◌}
 use Rattle.std.specs.Prelude.{◌&&◌}
 use Rattle.ft_model.specs.Contents.{SetContent, is_subset, same_elements}
 use Rattle.ft_model.specs.Worlds.{set_of}
-use Rattle.ft_trace.specs.Pictures.{Picture}
+use Rattle.ft_trace.specs.Pictures.{ContainerWords}
 use Rattle.ft_bank.specs.Passes.{shape_of}
 use Rattle.ft_reads.proofs.Both.{both_map, both_then}
 use Rattle.ft_keyed.specs.Comparing.{AreOfSets}
@@ -29,8 +29,8 @@ returns-clause-reads c =
     let p = a.pass.now in
     let q = c.is_within.new.pass in
     let r = c.is_within-2.new.pass in
-    let one : Picture → Picture → Type 0 = AreOfSets k (λ (set others : SetContent). found ≡ is_subset set.elements others.elements) in
-    let two : Picture → Picture → Type 0 = AreOfSets k (λ (set others : SetContent). back ≡ is_subset set.elements others.elements) in
+    let one : ContainerWords → ContainerWords → Type 0 = AreOfSets k (λ (set others : SetContent). found ≡ is_subset set.elements others.elements) in
+    let two : ContainerWords → ContainerWords → Type 0 = AreOfSets k (λ (set others : SetContent). back ≡ is_subset set.elements others.elements) in
     both_map k a.s a.other (λ x y. one x y × two y x) (AreOfSets k (λ (set others : SetContent). back ≡ same_elements set.elements others.elements)) p r
     (both_then k a.s a.other one (λ x y. two y x) p q r c.is_within.ensures.reads (both_swap k a.s a.other two q r c.is_within-2.ensures.reads))
     (λ x y both first is stands second is' stands'.

@@ -3,9 +3,9 @@ use Rattle.std.specs.Prelude.{slice_index}
 use Rattle.std.specs.List.{filter_map, list_all, list_any}
 use Rattle.ft_model.specs.Contents.{DictContent, has_pair}
 use Rattle.ft_model.specs.Worlds.{dict_of}
-use Rattle.ft_trace.specs.Pictures.{Picture}
+use Rattle.ft_trace.specs.Pictures.{ContainerWords}
 use Rattle.ft_bank.specs.Passes.{shape_of}
-use Rattle.ft_bank.specs.TableNames.{name_of}
+use Rattle.ft_bank.specs.TableNames.{table_id}
 use Rattle.ft_reads.proofs.Both.{both_map, both_then, of_first}
 use Rattle.ft_reads.proofs.Agreeing.{reads_block, reads_then}
 use Rattle.ft_keyed.specs.Comparing.{AreOfDicts, WithDict, lacks_value}
@@ -23,7 +23,7 @@ returns-in-Some-clause-reads c =
     let a = c.args in
     let k = shape_of a.bank.now in
     let table = c.in-Some.table in
-    let t = name_of table in
+    let t = table_id table in
     let root = c.read_block-root.result in
     let fill = c.read_block-fill.result in
     let e = c.read_block-root.ensures in
@@ -33,7 +33,7 @@ returns-in-Some-clause-reads c =
     let q = c.read_block-root.new.pass in
     let r = c.read_block-fill.new.pass in
     let z = c.some_differs.new.pass in
-    let one : Picture → Type 0 = λ x. (root ≡ slice_index x.block 0) × (fill ≡ slice_index x.block 2) in
+    let one : ContainerWords → Type 0 = λ x. (root ≡ slice_index x.block 0) × (fill ≡ slice_index x.block 2) in
     both_map k a.d a.other (λ x y. one x × WithDict k t (λ used others. fill ≡ length used → found ≡ list_any (lacks_value others) (filter_map plain_pair used)) x y) (AreOfDicts k (λ dict others. not found ≡ list_all (has_pair others.pairs) dict.pairs)) p z
     (both_then k a.d a.other (λ x y. one x) (WithDict k t (λ used others. fill ≡ length used → found ≡ list_any (lacks_value others) (filter_map plain_pair used))) p r z
     (of_first k a.d a.other one p r (reads_then k a.d (λ x. root ≡ slice_index x.block 0) (λ x. fill ≡ slice_index x.block 2) p q r (reads_block k a.d 0 root p q (omega arith) e.did e.held) (reads_block k a.d 2 fill q r (omega arith) f.did f.held)))
@@ -55,7 +55,7 @@ returns-in-None-clause-reads c =
     let p = a.pass.now in
     let q = c.read_block-root.new.pass in
     let r = c.read_block-fill.new.pass in
-    let one : Picture → Type 0 = λ x. (root ≡ slice_index x.block 0) × (fill ≡ slice_index x.block 2) in
+    let one : ContainerWords → Type 0 = λ x. (root ≡ slice_index x.block 0) × (fill ≡ slice_index x.block 2) in
     both_map k a.d a.other (λ x y. one x) (AreOfDicts k (λ dict others. true ≡ list_all (has_pair others.pairs) dict.pairs)) p r
     (of_first k a.d a.other one p r (reads_then k a.d (λ x. root ≡ slice_index x.block 0) (λ x. fill ≡ slice_index x.block 2) p q r (reads_block k a.d 0 root p q (omega arith) e.did e.held) (reads_block k a.d 2 fill q r (omega arith) f.did f.held)))
     (λ x y both. no_dict k x (sym both.0 ∙ none) (λ (dict : DictContent). IsOfDict k (λ (others : DictContent). true ≡ list_all (has_pair others.pairs) dict.pairs) y) (λ dict nothing kept kind_is stands. sym (ap (list_all (has_pair (dict_of kept.content).pairs)) nothing)))

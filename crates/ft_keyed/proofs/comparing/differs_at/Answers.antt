@@ -5,20 +5,20 @@ use Rattle.ft_model.specs.declared.data.Value.{Value}
 use Rattle.ft_layout.specs.Words.{FitsKey}
 use Rattle.ft_trace.specs.Addresses.{class_of, places}
 use Rattle.ft_bank.specs.Passes.{shape_of}
-use Rattle.ft_bank.specs.TableNames.{name_of}
+use Rattle.ft_bank.specs.TableNames.{table_id}
 use Rattle.ft_reads.specs.Reads.{Reads}
 use Rattle.ft_keyed.specs.TableEntries.{IsPlainAt}
 use Rattle.ft_keyed.proofs.Meeting.{differs_none, differs_some}
 use Rattle.ft_keyed.proofs.comparing.differs_at.Goals as goal
 
 pub hash_at-hash-requires-clause-place : goal.hash_at-hash-requires-clause-place
-hash_at-hash-requires-clause-place c = (subst (λ f. IfSome f (λ pair. (c.args.place < places (class_of (name_of c.args.table))) × FitsKey pair.0)) c.in-Some.is c.value_at.ensures.within).0
+hash_at-hash-requires-clause-place c = (subst (λ f. IfSome f (λ pair. (c.args.place < places (class_of (table_id c.args.table))) × FitsKey pair.0)) c.in-Some.is c.value_at.ensures.within).0
 
 pub returns-in-None-clause-reads : goal.returns-in-None-clause-reads
 returns-in-None-clause-reads c =
     let a = c.args in
     let k = shape_of a.bank.now in
-    let t = name_of a.table in
+    let t = table_id a.table in
     let p = a.pass.now in
     let q = c.value_at.new.pass in
     differs_none k a.d a.other t a.place p q (subst (λ (f : Option (Key × Value)). Reads k a.d (IsPlainAt k t a.place f) p q) c.in-None.is c.value_at.ensures.reads)
@@ -27,7 +27,7 @@ pub returns-in-Some-clause-reads : goal.returns-in-Some-clause-reads
 returns-in-Some-clause-reads c =
     let a = c.args in
     let k = shape_of a.bank.now in
-    let t = name_of a.table in
+    let t = table_id a.table in
     let key = c.in-Some.key in
     let value = c.in-Some.value in
     let p = a.pass.now in

@@ -2,7 +2,7 @@ use Rattle.std.proofs.Common.{◌≡◌, inl, inr, refl, sym, ◌∙◌, subst}
 use Rattle.ft_model.specs.declared.call.Call.{Call}
 use Rattle.ft_model.specs.declared.reply.Reply.TheVariants as reply
 use Rattle.ft_trace.specs.declared.Act.TheVariants.{Answer}
-use Rattle.ft_trace.specs.Acts.{noted}
+use Rattle.ft_trace.specs.Acts.{view_after}
 use Rattle.ft_bank.specs.Passes.{shape_of, view}
 use Rattle.ft_bank.specs.Reads.{IsShown}
 use Rattle.ft_reads.specs.Pairs.{IsGlanceOfBoth}
@@ -44,6 +44,6 @@ returns-clause-looked c =
     let is_so = b.result.0 in
     let called = compared a.how a.c a.other in
     let z = view c.answer_look.new.pass in
-    let did = subst (λ (x : Call). z ≡ noted (Answer x (reply.Truth is_so) b.result.1.number) (view b.new.pass)) c.call_of-called.ensures c.answer_look.ensures.did.1 in
+    let did = subst (λ (x : Call). z ≡ view_after (Answer x (reply.Truth is_so) b.result.1.number) (view b.new.pass)) c.call_of-called.ensures c.answer_look.ensures.did.1 in
     subst (λ r. IsGlanceOfBoth a.c a.other called (view a.pass.now) z r) (sym c.answer_look.ensures.done)
     (saw_both_answered k a.c a.other (IsComparedAs k a.how is_so) b.result.1 b.result.2 a.pass.now b.new.pass b.ensures.saw called (reply.Truth is_so) z did a.pass.now.settled c.answer_look.new.pass.possible, refl)

@@ -1,7 +1,7 @@
 use Rattle.std.proofs.Common.{◌≡◌, [], length, refl, sym, ◌∙◌, subst, arith}
 use Rattle.std.specs.Prelude.{slice_index, Ok}
 use Rattle.ft_bank.specs.Passes.{shape_of}
-use Rattle.ft_bank.specs.TableNames.{name_of}
+use Rattle.ft_bank.specs.TableNames.{table_id}
 use Rattle.ft_reads.proofs.Agreeing.{reads_block, reads_map, reads_then}
 use Rattle.ft_keyed.specs.Items.{reply_of_used, IsAllIn, IsAllOf, IsItemsReply}
 use Rattle.ft_keyed.specs.TableEntries.{OfUsed}
@@ -28,9 +28,9 @@ returns-in-Some-clause-reads c =
     let q = c.read_block-root.new.pass in
     let r = c.read_block-fill.new.pass in
     let z = c.copy_table.new.pass in
-    reads_map k a.c (λ x. ((root ≡ slice_index x.block 0) × (fill ≡ slice_index x.block 2)) × OfUsed k (name_of table) (λ used. fill ≡ length used → IsAllOf made (reply_of_used a.way used)) x) (IsAllIn a.way k made) p z
-    (λ x both. all_of_used a.way k (name_of table) fill x made (sym both.0.0 ∙ c.in-Some.ensures.named) both.0.1 both.1)
-    (reads_then k a.c (λ x. (root ≡ slice_index x.block 0) × (fill ≡ slice_index x.block 2)) (OfUsed k (name_of table) (λ used. fill ≡ length used → IsAllOf made (reply_of_used a.way used))) p r z
+    reads_map k a.c (λ x. ((root ≡ slice_index x.block 0) × (fill ≡ slice_index x.block 2)) × OfUsed k (table_id table) (λ used. fill ≡ length used → IsAllOf made (reply_of_used a.way used)) x) (IsAllIn a.way k made) p z
+    (λ x both. all_of_used a.way k (table_id table) fill x made (sym both.0.0 ∙ c.in-Some.ensures.named) both.0.1 both.1)
+    (reads_then k a.c (λ x. (root ≡ slice_index x.block 0) × (fill ≡ slice_index x.block 2)) (OfUsed k (table_id table) (λ used. fill ≡ length used → IsAllOf made (reply_of_used a.way used))) p r z
     (reads_then k a.c (λ x. root ≡ slice_index x.block 0) (λ x. fill ≡ slice_index x.block 2) p q r (reads_block k a.c 0 root p q (omega arith) e.did e.held) (reads_block k a.c 2 fill q r (omega arith) f.did f.held))
     c.copy_table.ensures.reads)
 

@@ -4,7 +4,7 @@ use Rattle.std.specs.List.{cons_option, filter_map}
 use Rattle.std.proofs.lemmas.List.{take_all}
 use Rattle.std.proofs.lemmas.Result.{err_from_is_err_and}
 use Rattle.ft_bank.specs.Passes.{shape_of}
-use Rattle.ft_bank.specs.TableNames.{name_of}
+use Rattle.ft_bank.specs.TableNames.{table_id}
 use Rattle.ft_reads.specs.Copies.{AreCopied}
 use Rattle.ft_keyed.specs.TableEntries.{plain_pair}
 use Rattle.ft_keyed.proofs.Gathered.{gathered_more, gathered_some}
@@ -18,7 +18,7 @@ loop-place-init c =
     record {
       pass = c.requires.pass;
       stack = refl;
-      reads = scan_none (shape_of a.bank.now) a.d (name_of a.table) (λ used. a.fill ≡ length used → c.new-pairs.result.items ≡ filter_map plain_pair (take 0 used)) a.pass.now (λ used filled. c.new-pairs.ensures.items);
+      reads = scan_none (shape_of a.bank.now) a.d (table_id a.table) (λ used. a.fill ≡ length used → c.new-pairs.result.items ≡ filter_map plain_pair (take 0 used)) a.pass.now (λ used filled. c.new-pairs.ensures.items);
     }
 
 pub loop-place-preserved : goal.loop-place-preserved
@@ -30,7 +30,7 @@ loop-place-preserved c =
     record {
       pass = e.pass;
       stack = e.stack ∙ c.loop-place.invariant.stack;
-      reads = scan_value (shape_of a.bank.now) a.d (name_of a.table) (λ used. a.fill ≡ length used → c.loop-place.pairs.items ≡ filter_map plain_pair (take place used)) (λ used. a.fill ≡ length used → c.push_found.new.items.items ≡ filter_map plain_pair (take (place + 1) used)) place c.value_at-found.result a.pass.now c.loop-place.pass c.value_at-found.new.pass c.loop-place.invariant.reads e.reads
+      reads = scan_value (shape_of a.bank.now) a.d (table_id a.table) (λ used. a.fill ≡ length used → c.loop-place.pairs.items ≡ filter_map plain_pair (take place used)) (λ used. a.fill ≡ length used → c.push_found.new.items.items ≡ filter_map plain_pair (take (place + 1) used)) place c.value_at-found.result a.pass.now c.loop-place.pass c.value_at-found.new.pass c.loop-place.invariant.reads e.reads
           (λ used so is filled.
           let low : place < length used = omega (arith, test, filled) in
           c.in_ok-push_found.ensures.ok ∙ ((λ i. so filled i ++ cons_option (is no_entry low i) []) ∙ sym (gathered_more plain_pair used place no_entry low)));
@@ -42,7 +42,7 @@ returns-in_err-push_found-clause-reads c =
     let place = c.loop-place.place in
     let test = c.loop-place-test.true in
     let failed = err_from_is_err_and c.from_residual.result c.from_residual.ensures.1 in
-    scan_value (shape_of a.bank.now) a.d (name_of a.table) (λ used. a.fill ≡ length used → c.loop-place.pairs.items ≡ filter_map plain_pair (take place used)) (λ used. a.fill ≡ length used → AreCopied c.from_residual.result (filter_map plain_pair used)) place c.value_at-found.result a.pass.now c.loop-place.pass c.value_at-found.new.pass c.loop-place.invariant.reads c.value_at-found.ensures.reads
+    scan_value (shape_of a.bank.now) a.d (table_id a.table) (λ used. a.fill ≡ length used → c.loop-place.pairs.items ≡ filter_map plain_pair (take place used)) (λ used. a.fill ≡ length used → AreCopied c.from_residual.result (filter_map plain_pair used)) place c.value_at-found.result a.pass.now c.loop-place.pass c.value_at-found.new.pass c.loop-place.invariant.reads c.value_at-found.ensures.reads
     (λ used so is filled.
     let low : place < length used = omega (arith, test, filled) in
     subst (λ r. AreCopied r (filter_map plain_pair used)) (sym failed.1) (tt, gathered_some plain_pair used place no_entry low c.value_at-found.result (is no_entry low) c.in_err-push_found.ensures.err))
@@ -53,7 +53,7 @@ returns-clause-reads c =
     let place = c.loop-place.place in
     let past = c.loop-place-test.false in
     let end = c.loop-place.auto.place-end in
-    scan_map (shape_of a.bank.now) a.d (name_of a.table) (λ used. a.fill ≡ length used → c.loop-place.pairs.items ≡ filter_map plain_pair (take place used)) (λ used. a.fill ≡ length used → AreCopied (Ok c.loop-place.pairs) (filter_map plain_pair used)) a.pass.now c.loop-place.pass c.loop-place.invariant.reads
+    scan_map (shape_of a.bank.now) a.d (table_id a.table) (λ used. a.fill ≡ length used → c.loop-place.pairs.items ≡ filter_map plain_pair (take place used)) (λ used. a.fill ≡ length used → AreCopied (Ok c.loop-place.pairs) (filter_map plain_pair used)) a.pass.now c.loop-place.pass c.loop-place.invariant.reads
     (λ used so filled.
     let at : place ≡ length used = omega (arith, filled, past, end) in
     (so filled ∙ ap (filter_map plain_pair) (ap (λ (n : ℕ). take n used) at ∙ take_all (length used) used (omega arith)), tt))

@@ -3,7 +3,7 @@ use Rattle.ft_model.specs.Classes.{dict_entries}
 use Rattle.ft_trace.specs.Addresses.{class_of, places, slots}
 use Rattle.ft_trace.specs.Pictures.{entry_field, root_in}
 use Rattle.ft_bank.specs.Passes.{shape_of}
-use Rattle.ft_bank.specs.TableNames.{name_of}
+use Rattle.ft_bank.specs.TableNames.{table_id}
 use Rattle.ft_bank.proofs.TableAddresses.{class_is}
 use Rattle.ft_reads.proofs.Agreeing.{reads_map, reads_none, reads_then}
 use Rattle.ft_keyed.specs.TableEntries.{IsKeyAt}
@@ -13,7 +13,7 @@ use Rattle.ft_keyed.proofs.entries.key_at.Goals as goal
 pub word_of-kind-requires-clause-place : goal.word_of-kind-requires-clause-place
 word_of-kind-requires-clause-place c =
     let a = c.args in
-    let same = places_of (class_of (name_of a.table)) ∙ ap dict_entries (class_is a.table c.requires.table.2) in
+    let same = places_of (class_of (table_id a.table)) ∙ ap dict_entries (class_is a.table c.requires.table.2) in
     let low = c.if-place-dict_entries.false in
     let e = c.dict_entries.ensures in
     omega (arith, same, low, e)
@@ -21,7 +21,7 @@ word_of-kind-requires-clause-place c =
 pub word_of-payload-requires-clause-place : goal.word_of-payload-requires-clause-place
 word_of-payload-requires-clause-place c =
     let a = c.args in
-    let same = places_of (class_of (name_of a.table)) ∙ ap dict_entries (class_is a.table c.requires.table.2) in
+    let same = places_of (class_of (table_id a.table)) ∙ ap dict_entries (class_is a.table c.requires.table.2) in
     let low = c.if-place-dict_entries.false in
     let e = c.dict_entries.ensures in
     omega (arith, same, low, e)
@@ -32,13 +32,13 @@ returns-then-place-dict_entries-clause-reads c =
     let k = shape_of a.bank.now in
     let past = c.if-place-dict_entries.true in
     let e = c.dict_entries.ensures in
-    reads_none k a.o (IsKeyAt k (name_of a.table) a.place None) a.pass.now (λ x. past_key k a.table c.requires.table a.place (omega (arith, past, e)) x)
+    reads_none k a.o (IsKeyAt k (table_id a.table) a.place None) a.pass.now (λ x. past_key k a.table c.requires.table a.place (omega (arith, past, e)) x)
 
 pub returns-clause-reads : goal.returns-clause-reads
 returns-clause-reads c =
     let a = c.args in
     let k = shape_of a.bank.now in
-    let t = name_of a.table in
+    let t = table_id a.table in
     let n = slots (class_of t) in
     let kind = c.word_of-kind.result in
     let payload = c.word_of-payload.result in
@@ -52,7 +52,7 @@ returns-clause-reads c =
 pub returns-clause-within : goal.returns-clause-within
 returns-clause-within c =
     let a = c.args in
-    let same = places_of (class_of (name_of a.table)) ∙ ap dict_entries (class_is a.table c.requires.table.2) in
+    let same = places_of (class_of (table_id a.table)) ∙ ap dict_entries (class_is a.table c.requires.table.2) in
     let low = c.if-place-dict_entries.false in
     let e = c.dict_entries.ensures in
-    within_key (a.place < places (class_of (name_of a.table))) c.word_of-kind.result c.word_of-payload.result c.key_of.result (omega (arith, same, low, e)) c.key_of.ensures
+    within_key (a.place < places (class_of (table_id a.table))) c.word_of-kind.result c.word_of-payload.result c.key_of.result (omega (arith, same, low, e)) c.key_of.ensures

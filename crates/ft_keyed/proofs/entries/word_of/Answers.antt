@@ -5,7 +5,7 @@ use Rattle.ft_trace.specs.Addresses.{class_of, size, slots}
 use Rattle.ft_trace.specs.Pictures.{entry_offset, root_in}
 use Rattle.ft_trace.proofs.ByKind.{keyed_low}
 use Rattle.ft_bank.specs.Passes.{shape_of}
-use Rattle.ft_bank.specs.TableNames.{name_of}
+use Rattle.ft_bank.specs.TableNames.{table_id}
 use Rattle.ft_bank.proofs.TableAddresses.{named}
 use Rattle.ft_search.proofs.Puts.{few_mask, few_places}
 use Rattle.ft_reads.specs.Reads.{Reads}
@@ -23,11 +23,11 @@ few_after c = few_places (shape_of c.args.bank.now) c.args.table kind.Dict c.arg
 small : (c : After-mask_of) → c.mask_of.result < 65536
 small c = subst (λ (n : ℕ). n < 65536) (sym c.mask_of.ensures) (few_mask (shape_of c.args.bank.now) c.args.table c.requires.table)
 
-lies : (c : After-mask_of) → 8 * c.args.place + c.args.word + c.mask_of.result + 1 ≡ entry_offset (slots (class_of (name_of c.args.table))) c.args.place c.args.word
+lies : (c : After-mask_of) → 8 * c.args.place + c.args.word + c.mask_of.result + 1 ≡ entry_offset (slots (class_of (table_id c.args.table))) c.args.place c.args.word
 lies c = entry_is (shape_of c.args.bank.now) c.args.table c.mask_of.result c.args.place c.args.word c.requires.table c.mask_of.ensures
 
-inside : (c : After-mask_of) → 8 * c.args.place + c.args.word + c.mask_of.result + 1 < size (class_of (name_of c.args.table))
-inside c = subst (λ (i : ℕ). i < size (class_of (name_of c.args.table))) (sym (lies c)) (keyed_low kind.Dict tt (class_of (name_of c.args.table)) c.args.place c.args.word c.requires.place c.requires.word)
+inside : (c : After-mask_of) → 8 * c.args.place + c.args.word + c.mask_of.result + 1 < size (class_of (table_id c.args.table))
+inside c = subst (λ (i : ℕ). i < size (class_of (table_id c.args.table))) (sym (lies c)) (keyed_low kind.Dict tt (class_of (table_id c.args.table)) c.args.place c.args.word c.requires.place c.requires.word)
 
 pub overflow_mul-at : goal.overflow_mul-at
 overflow_mul-at c = let f = few (goal.at.overflow_mul-at c).Start in omega (arith, f)
@@ -62,7 +62,7 @@ returns-clause-reads c =
     let a = c.args in
     let d = (goal.at.returns-clause-reads c).After-mask_of in
     let k = shape_of a.bank.now in
-    let t = name_of a.table in
+    let t = table_id a.table in
     let f = c.read_table.result in
     let p = a.pass.now in
     let q = c.read_table.new.pass in

@@ -1,6 +1,6 @@
 use Rattle.std.proofs.Common.{ℕ, List, ◌∷◌, ◌++◌, ap, subst}
 use Rattle.ft_bank.specs.Passes.{shape_of}
-use Rattle.ft_bank.specs.TableNames.{name_of}
+use Rattle.ft_bank.specs.TableNames.{table_id}
 use Rattle.ft_bank.proofs.TableAddresses.{named}
 use Rattle.ft_keys.specs.declared.words.Access.{Access}
 use Rattle.ft_keys.specs.Accesses.{AreAnswered}
@@ -34,7 +34,7 @@ returns-clause-reads c =
     let first = ap (λ z. z.left) c.new-walk.ensures in
     let calls : List Access = two.0 ++ one.0 in
     let k = shape_of s0.bank.now in
-    let n = name_of s0.table in
+    let n = table_id s0.table in
     let can = c.requires.can in
     let finds : (ws : List ℕ) → AreAnswered mask calls ws → FindsIn mask ws a.way a.hash a.key read =
     λ ws fits.

@@ -2,7 +2,7 @@ use Rattle.std.proofs.Common.{Bool, sym, subst}
 use Rattle.ft_model.specs.declared.call.Call.{Call}
 use Rattle.ft_model.specs.declared.reply.Reply.TheVariants as reply
 use Rattle.ft_trace.specs.declared.Act.TheVariants.{ReadCounter}
-use Rattle.ft_trace.specs.Acts.{noted}
+use Rattle.ft_trace.specs.Acts.{view_after}
 use Rattle.ft_bank.specs.Answered.{Answered}
 use Rattle.ft_bank.specs.Passes.{shape_of, view}
 use Rattle.ft_bank.specs.Reads.{IsShown}
@@ -18,8 +18,8 @@ answer_held-requires-clause-shown c n =
     let r = c.read_key-found in
     let u = view r.new.pass in
     let shown = has_shown (shape_of a.bank.now) a.c a.key r.result (view a.pass.now) u c.requires.pass.1 a.pass.now.possible c.requires.container c.requires.locked r.ensures.key c.requires.left r.ensures.keeps r.ensures.held n a.way c.requires.kind in
-    subst (λ (z : Call). IsShown (noted (ReadCounter n) u) z (reply.Truth c.is_some.result) n) (sym c.asking_call-called.ensures)
-    (subst (λ (z : Bool). IsShown (noted (ReadCounter n) u) (has_call a.way a.c a.key) (reply.Truth z) n) (sym c.is_some.ensures) shown)
+    subst (λ (z : Call). IsShown (view_after (ReadCounter n) u) z (reply.Truth c.is_some.result) n) (sym c.asking_call-called.ensures)
+    (subst (λ (z : Bool). IsShown (view_after (ReadCounter n) u) (has_call a.way a.c a.key) (reply.Truth z) n) (sym c.is_some.ensures) shown)
 
 pub returns-clause-answered : goal.returns-clause-answered
 returns-clause-answered c =

@@ -1,6 +1,6 @@
 use Rattle.std.proofs.Common.{◌<◌, ℕ, inr, sym, ap, subst}
 use Rattle.ft_trace.specs.declared.Shape.{Shape}
-use Rattle.ft_trace.specs.Addresses.{containers_in}
+use Rattle.ft_trace.specs.Addresses.{container_count}
 use Rattle.ft_bank.specs.Passes.{shape_of, view}
 use Rattle.ft_section.specs.declared.answers.Objects.TheVariants.{One}
 use Rattle.ft_search.proofs.ReadMidst.{making_read, making_stands}
@@ -20,7 +20,7 @@ has_locked-reply-requires-clause-stands c =
     let m = c.in-Have.ensures.making in
     let same = m.inside.0.1 in
     making_stands c.args.bank.now c.take_for.new.pass (shape_of c.args.bank.now).texts c.args.c m (ap (λ (k : Shape). k.texts) same)
-    (subst (λ (k : Shape). c.args.c < containers_in k) (sym same) c.requires.container) c.in-Have.ensures.has.0.0
+    (subst (λ (k : Shape). c.args.c < container_count k) (sym same) c.requires.container) c.in-Have.ensures.has.0.0
 
 pub has_locked-reply-requires-clause-left : goal.has_locked-reply-requires-clause-left
 has_locked-reply-requires-clause-left c = subst (λ (n : ℕ). 0 < n) (sym c.in-Have.ensures.locked.left) c.requires.left

@@ -5,8 +5,8 @@ use Rattle.ft_model.specs.declared.reply.Reply.TheVariants as reply
 use Rattle.ft_model.specs.Classes.{list_items}
 use Rattle.ft_model.specs.TableUses.{list_takes}
 use Rattle.ft_trace.specs.declared.Shape.{Shape}
-use Rattle.ft_trace.specs.Addresses.{containers_in}
-use Rattle.ft_trace.specs.Holds.{known}
+use Rattle.ft_trace.specs.Addresses.{container_count}
+use Rattle.ft_trace.specs.Holds.{known_state}
 use Rattle.ft_bank.specs.declared.table.Table.{Table}
 use Rattle.ft_bank.specs.Passes.{shape_of, view}
 use Rattle.ft_bank.specs.TableNames.{root_for}
@@ -64,5 +64,5 @@ write_nothing-number-requires-clause-leaves c =
     let count = c.requires.count in
     let same : news ≡ values = none_alike news values (long ∙ none) (omega (arith, none, count)) in
     let changes = subst (λ (l : List Value). Changes a.l x.0 reply.Done values l v) same (room_changes k a.l a.old v list c.requires.pass.1 a.pass.now.possible x.0 n news x.2 long c.requires.few c.requires.room) in
-    subst (λ (z : Call). Leaves a.l z reply.Done (known a.l v) v) (sym x.1)
-    (leaves_same a.l x.0 reply.Done values v (subst (λ (z : Shape). a.l < containers_in z) (sym c.requires.pass.1) list.container) list.locked (knows_content k a.l a.old v c.requires.pass.1 a.pass.now.possible list) changes)
+    subst (λ (z : Call). Leaves a.l z reply.Done (known_state a.l v) v) (sym x.1)
+    (leaves_same a.l x.0 reply.Done values v (subst (λ (z : Shape). a.l < container_count z) (sym c.requires.pass.1) list.container) list.locked (knows_content k a.l a.old v c.requires.pass.1 a.pass.now.possible list) changes)

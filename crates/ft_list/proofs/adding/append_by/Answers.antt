@@ -5,7 +5,7 @@ use Rattle.ft_model.specs.declared.call.ListCall.TheVariants as list
 use Rattle.ft_model.specs.declared.reply.Reply.TheVariants as reply
 use Rattle.ft_model.specs.Worlds.{list_of}
 use Rattle.ft_trace.specs.declared.Shape.{Shape}
-use Rattle.ft_trace.specs.Addresses.{containers_in}
+use Rattle.ft_trace.specs.Addresses.{container_count}
 use Rattle.ft_trace.specs.ContainerStates.{ContainerState}
 use Rattle.ft_bank.specs.Passes.{shape_of, view}
 use Rattle.ft_bank.proofs.KnownAfterWrites.{loaded_then, work_knows}
@@ -24,7 +24,7 @@ add_to-requires-clause-call c =
     let u = view c.root_table-old.new.pass in
     let e = c.root_table-old.ensures in
     let values = known_items a.l u in
-    let low : a.l < containers_in u.shape = subst (λ (z : Shape). a.l < containers_in z) (sym e.pass.1) e.list.container in
+    let low : a.l < container_count u.shape = subst (λ (z : Shape). a.l < container_count z) (sym e.pass.1) e.list.container in
     let count : length values ≡ c.count_of-count.result = ap (λ (z : ContainerState). length (list_of z.content)) (work_knows (view c.count_of-count.new.pass) u a.l e.only.work) ∙ (ap length c.count_of-count.ensures.items ∙ sym c.count_of-count.ensures.count) in (
       list.Append a.value,
       refl,

@@ -3,7 +3,7 @@ use Rattle.ft_model.specs.declared.call.Call.TheVariants as call
 use Rattle.ft_model.specs.declared.call.ListCall.TheVariants as list
 use Rattle.ft_model.specs.declared.reply.Reply.TheVariants as reply
 use Rattle.ft_trace.specs.declared.Shape.{Shape}
-use Rattle.ft_trace.specs.Addresses.{containers_in}
+use Rattle.ft_trace.specs.Addresses.{container_count}
 use Rattle.ft_bank.specs.Passes.{shape_of, view}
 use Rattle.ft_bank.proofs.KnownAfterWrites.{loaded_then}
 use Rattle.ft_growth.proofs.Cursors.{added_cursors}
@@ -66,7 +66,7 @@ add_to-requires-clause-call c =
     let shape : u.shape ≡ k = e.pass.1 in
     let possible = c.root_table-old.new.pass.possible in
     let other = knows_from k a.m u (may_loaded k a.m y u e.only c.count_of-more.ensures.may) in
-    let inside : (p : ℕ) → p < containers_in k → p < containers_in u.shape = λ p low. subst (λ (z : Shape). p < containers_in z) (sym shape) low in (
+    let inside : (p : ℕ) → p < container_count k → p < container_count u.shape = λ p low. subst (λ (z : Shape). p < container_count z) (sym shape) low in (
       list.Extend a.m,
       refl,
       extend_adds a.l a.m (known_items a.l u) (known_items a.m u) u (inside a.l e.list.container) (inside a.m other.container) e.list.locked other.locked (knows_content k a.l c.root_table-old.result u shape possible e.list) (knows_list k a.m u other shape possible) (knows_few k a.m u other shape possible),

@@ -1,7 +1,7 @@
 use Rattle.std.proofs.Common.{sym, ap, ◌∙◌, subst, arith}
 use Rattle.ft_layout.specs.Words.{FitsStored}
 use Rattle.ft_bank.specs.Passes.{view}
-use Rattle.ft_bank.specs.TableNames.{name_of, root_for}
+use Rattle.ft_bank.specs.TableNames.{table_id, root_for}
 use Rattle.ft_list.specs.ListItemWrites.{known_items, stored_item}
 use Rattle.ft_list.proofs.addition.given_item.Goals as goal
 
@@ -16,7 +16,7 @@ read_stored-requires-clause-root c = c.requires.root ∙ ap root_for c.in-Some.i
 
 pub read_stored-requires-clause-place : goal.read_stored-requires-clause-place
 read_stored-requires-clause-place c =
-    (c.requires.gives.1.stores (name_of c.in-Some.table) c.args.place (c.requires.root ∙ ap root_for c.in-Some.is) c.requires.place).0
+    (c.requires.gives.1.stores (table_id c.in-Some.table) c.args.place (c.requires.root ∙ ap root_for c.in-Some.is) c.requires.place).0
 
 pub unreachable-unreachable : goal.unreachable-unreachable
 unreachable-unreachable c =
@@ -28,9 +28,9 @@ pub returns-clause-stored : goal.returns-clause-stored
 returns-clause-stored c =
     let a = c.args in
     c.read_stored.ensures.stored (stored_item (known_items a.m (view a.pass.now)) a.place)
-    (c.requires.gives.1.stores (name_of c.in-Some.table) a.place (c.requires.root ∙ ap root_for c.in-Some.is) c.requires.place).1
+    (c.requires.gives.1.stores (table_id c.in-Some.table) a.place (c.requires.root ∙ ap root_for c.in-Some.is) c.requires.place).1
 
 pub returns-clause-fits : goal.returns-clause-fits
 returns-clause-fits c =
     subst FitsStored (sym (returns-clause-stored c))
-    (c.requires.gives.1.stores (name_of c.in-Some.table) c.args.place (c.requires.root ∙ ap root_for c.in-Some.is) c.requires.place).1.fits
+    (c.requires.gives.1.stores (table_id c.in-Some.table) c.args.place (c.requires.root ∙ ap root_for c.in-Some.is) c.requires.place).1.fits

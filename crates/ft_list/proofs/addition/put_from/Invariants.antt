@@ -1,11 +1,11 @@
 use Rattle.std.proofs.Common.{◌≡◌, ◌+◌, ◌++◌, false}
 use Rattle.ft_trace.specs.Acts.{has_committed}
 use Rattle.ft_trace.specs.Addresses.{class_of}
-use Rattle.ft_trace.specs.Holds.{held}
+use Rattle.ft_trace.specs.Holds.{held_words}
 use Rattle.ft_trace.specs.Pictures.{root_in}
 use Rattle.ft_bank.specs.Passes.{shape_of, view, IsPassOf}
 use Rattle.ft_bank.specs.PassSections.{stack_of}
-use Rattle.ft_bank.specs.TableNames.{name_of, root_for}
+use Rattle.ft_bank.specs.TableNames.{table_id, root_for}
 use Rattle.ft_bank.specs.Whole.{OnlyPut}
 use Rattle.ft_list.specs.ListItemWrites.{WritesList, IsMoving, known_items}
 use Rattle.ft_list.specs.Internal.Additions.{GivesItems}
@@ -19,8 +19,8 @@ invariant-loop-place l =
       list : WritesList (shape_of l.bank) l.o l.table (view l.pass);
       early : has_committed l.o (view l.pass).log ≡ false;
       only : OnlyPut l.o (view l.initial.pass) (view l.pass);
-      block : (held l.o (view l.pass)).block ≡ (held l.o (view l.initial.pass)).block;
+      block : (held_words l.o (view l.pass)).block ≡ (held_words l.o (view l.initial.pass)).block;
       gives : GivesItems (shape_of l.bank) l.o l.m (view l.pass);
-      root : root_in (held l.m (view l.pass)) ≡ root_for l.from;
-      moving : IsMoving (class_of (name_of l.table)) (known_items l.o (view l.initial.pass)) (known_items l.o (view l.initial.pass) ++ known_items l.m (view l.initial.pass)) l.count (l.count + l.more) (l.count + l.place) (held l.o (view l.pass)).table;
+      root : root_in (held_words l.m (view l.pass)) ≡ root_for l.from;
+      moving : IsMoving (class_of (table_id l.table)) (known_items l.o (view l.initial.pass)) (known_items l.o (view l.initial.pass) ++ known_items l.m (view l.initial.pass)) l.count (l.count + l.more) (l.count + l.place) (held_words l.o (view l.pass)).table;
     }

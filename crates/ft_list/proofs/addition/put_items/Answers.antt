@@ -1,10 +1,10 @@
 use Rattle.std.proofs.Common.{List, ◌++◌, ◌+◌, length, sym, ap, ◌∙◌, subst}
 use Rattle.ft_model.specs.declared.data.Value.{Value}
 use Rattle.ft_trace.specs.Addresses.{class_of}
-use Rattle.ft_trace.specs.Holds.{held}
-use Rattle.ft_trace.specs.Pictures.{Picture, root_in}
+use Rattle.ft_trace.specs.Holds.{held_words}
+use Rattle.ft_trace.specs.Pictures.{ContainerWords, root_in}
 use Rattle.ft_bank.specs.Passes.{shape_of, view}
-use Rattle.ft_bank.specs.TableNames.{name_of}
+use Rattle.ft_bank.specs.TableNames.{table_id}
 use Rattle.ft_bank.proofs.KnownAfterWrites.{put_then, loaded_held, loaded_put}
 use Rattle.ft_list.specs.ListItemWrites.{IsMoving, IsPutting, stored_item}
 use Rattle.ft_list.proofs.Cares.{writes_on}
@@ -50,7 +50,7 @@ put_from-requires-clause-before c =
     let v = view a.pass.now in
     let w = view c.table_at_root-from.new.pass in
     let l = c.table_at_root-from.ensures.only in
-    subst (λ (z : List Value × Picture). IsPutting (class_of (name_of a.table)) z.0 a.count (a.count + a.more) (stored_item z.0) z.1.table) (λ d. (sym (items_loaded a.o v w l) d, sym (loaded_held v w a.o l) d)) c.requires.before
+    subst (λ (z : List Value × ContainerWords). IsPutting (class_of (table_id a.table)) z.0 a.count (a.count + a.more) (stored_item z.0) z.1.table) (λ d. (sym (items_loaded a.o v w l) d, sym (loaded_held v w a.o l) d)) c.requires.before
 
 pub returns-clause-only : goal.returns-clause-only
 returns-clause-only c =
@@ -62,7 +62,7 @@ returns-clause-only c =
 pub returns-clause-block : goal.returns-clause-block
 returns-clause-block c =
     let a = c.args in
-    c.put_from.ensures.block ∙ ap (λ (z : Picture). z.block) (loaded_held (view a.pass.now) (view c.table_at_root-from.new.pass) a.o c.table_at_root-from.ensures.only)
+    c.put_from.ensures.block ∙ ap (λ (z : ContainerWords). z.block) (loaded_held (view a.pass.now) (view c.table_at_root-from.new.pass) a.o c.table_at_root-from.ensures.only)
 
 pub returns-clause-moved : goal.returns-clause-moved
 returns-clause-moved c =
@@ -70,4 +70,4 @@ returns-clause-moved c =
     let v = view a.pass.now in
     let w = view c.table_at_root-from.new.pass in
     let l = c.table_at_root-from.ensures.only in
-    subst (λ (z : List Value × List Value). IsMoving (class_of (name_of a.table)) z.0 (z.0 ++ z.1) a.count (a.count + a.more) (a.count + a.more) (held a.o (view c.put_from.new.pass)).table) (λ d. (items_loaded a.o v w l d, items_loaded a.m v w l d)) c.put_from.ensures.moved
+    subst (λ (z : List Value × List Value). IsMoving (class_of (table_id a.table)) z.0 (z.0 ++ z.1) a.count (a.count + a.more) (a.count + a.more) (held_words a.o (view c.put_from.new.pass)).table) (λ d. (items_loaded a.o v w l d, items_loaded a.m v w l d)) c.put_from.ensures.moved

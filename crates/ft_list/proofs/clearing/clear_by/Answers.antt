@@ -1,7 +1,7 @@
 use Rattle.std.proofs.Common.{ℕ, ◌<◌, refl, sym, ap, ◌∙◌, subst, arith}
 use Rattle.ft_model.specs.declared.reply.Reply.TheVariants as reply
 use Rattle.ft_bank.specs.Passes.{view}
-use Rattle.ft_bank.specs.TableNames.{name_of, root_for}
+use Rattle.ft_bank.specs.TableNames.{table_id, root_for}
 use Rattle.ft_growth.specs.Adding.{Retires}
 use Rattle.ft_growth.proofs.Cursors.{given_cursors}
 use Rattle.ft_growth.proofs.Rooting.{taken_out}
@@ -24,7 +24,7 @@ retire_old-requires-clause-out c t is =
     let a = c.args in
     let list = c.root_table-old.ensures.list in
     let e = c.clear_list-number.ensures in
-    let out = taken_out (clear_of a.l) reply.Done c.clear_list-number.result (name_of t) 0 (view c.root_table-old.new.pass) (view c.clear_list-number.new.pass) e.wrote (list.root ∙ ap root_for is) e.root (λ same. absurd (omega (arith, same))) in
+    let out = taken_out (clear_of a.l) reply.Done c.clear_list-number.result (table_id t) 0 (view c.root_table-old.new.pass) (view c.clear_list-number.new.pass) e.wrote (list.root ∙ ap root_for is) e.root (λ same. absurd (omega (arith, same))) in
     (list.table_in t is, out.0, out.1)
 
 pub returns-clause-cleared : goal.returns-clause-cleared

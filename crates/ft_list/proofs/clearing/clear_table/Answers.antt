@@ -3,8 +3,8 @@ use Rattle.ft_model.specs.declared.call.Call.{Call}
 use Rattle.ft_model.specs.declared.reply.Reply.TheVariants as reply
 use Rattle.ft_trace.specs.declared.Act.TheVariants.{Commit}
 use Rattle.ft_trace.specs.declared.View.{View}
-use Rattle.ft_trace.specs.Acts.{noted}
-use Rattle.ft_trace.specs.Holds.{held}
+use Rattle.ft_trace.specs.Acts.{view_after}
+use Rattle.ft_trace.specs.Holds.{held_words}
 use Rattle.ft_trace.specs.Pictures.{root_in}
 use Rattle.ft_bank.specs.Passes.{shape_of, view}
 use Rattle.ft_bank.specs.WriteSteps.{Committed, MayCommit, MayPutRoot}
@@ -32,7 +32,7 @@ stop_write-requires-clause-stands c =
     let b = c.put_block.ensures in
     let n = c.commit-number in
     let called = c.clear_call-called.ensures in
-    let made = n.ensures.did.1.1 ∙ ap (λ (z : Call). noted (Commit z reply.Done n.result n.ensures.did.0) (view c.put_block.new.pass)) called in
+    let made = n.ensures.did.1.1 ∙ ap (λ (z : Call). view_after (Commit z reply.Done n.result n.ensures.did.0) (view c.put_block.new.pass)) called in
     let committed = subst (λ (z : Call). Committed (view c.put_block.new.pass) (view n.new.pass) z) called n.ensures.committed in
     clear_stands (shape_of a.bank.now) a.l a.table (view a.pass.now) (view c.start_write.new.pass) (view c.put_root.new.pass) (view c.put_block.new.pass) c.start_write.result c.requires.may c.requires.pass.1 a.pass.now.possible c.start_write.ensures.1 r.did.1 r.held r.keeps b.did.1 b.held b.keeps n.result 0 n.ensures.did.0 (view n.new.pass) (view n.new.pass) made committed (shape_of a.bank.now).texts
 
@@ -43,7 +43,7 @@ stop_write-requires-clause-shut c =
     let b = c.put_block.ensures in
     let n = c.commit-number in
     let called = c.clear_call-called.ensures in
-    let made = n.ensures.did.1.1 ∙ ap (λ (z : Call). noted (Commit z reply.Done n.result n.ensures.did.0) (view c.put_block.new.pass)) called in
+    let made = n.ensures.did.1.1 ∙ ap (λ (z : Call). view_after (Commit z reply.Done n.result n.ensures.did.0) (view c.put_block.new.pass)) called in
     let committed = subst (λ (z : Call). Committed (view c.put_block.new.pass) (view n.new.pass) z) called n.ensures.committed in
     clear_shut (shape_of a.bank.now) a.l a.table (view a.pass.now) (view c.start_write.new.pass) (view c.put_root.new.pass) (view c.put_block.new.pass) c.start_write.result c.requires.may c.requires.pass.1 a.pass.now.possible c.start_write.ensures.1 r.did.1 r.held r.keeps b.did.1 b.held b.keeps n.result 0 n.ensures.did.0 (view n.new.pass) (view n.new.pass) made committed
 
@@ -54,7 +54,7 @@ returns-clause-wrote c =
     let b = c.put_block.ensures in
     let n = c.commit-number in
     let called = c.clear_call-called.ensures in
-    let made = n.ensures.did.1.1 ∙ ap (λ (z : Call). noted (Commit z reply.Done n.result n.ensures.did.0) (view c.put_block.new.pass)) called in
+    let made = n.ensures.did.1.1 ∙ ap (λ (z : Call). view_after (Commit z reply.Done n.result n.ensures.did.0) (view c.put_block.new.pass)) called in
     let committed = subst (λ (z : Call). Committed (view c.put_block.new.pass) (view n.new.pass) z) called n.ensures.committed in
     clear_wrote (shape_of a.bank.now) a.l a.table (view a.pass.now) (view c.start_write.new.pass) (view c.put_root.new.pass) (view c.put_block.new.pass) c.start_write.result c.requires.may c.requires.pass.1 a.pass.now.possible c.start_write.ensures.1 r.did.1 r.held r.keeps b.did.1 b.held b.keeps n.result c.stop_write.result n.ensures.did.0 (view n.new.pass) (view c.stop_write.new.pass) made committed n.ensures.seen c.stop_write.ensures.1
 
@@ -65,6 +65,6 @@ returns-clause-root c =
     let b = c.put_block.ensures in
     let n = c.commit-number in
     let called = c.clear_call-called.ensures in
-    let made = n.ensures.did.1.1 ∙ ap (λ (z : Call). noted (Commit z reply.Done n.result n.ensures.did.0) (view c.put_block.new.pass)) called in
+    let made = n.ensures.did.1.1 ∙ ap (λ (z : Call). view_after (Commit z reply.Done n.result n.ensures.did.0) (view c.put_block.new.pass)) called in
     let committed = subst (λ (z : Call). Committed (view c.put_block.new.pass) (view n.new.pass) z) called n.ensures.committed in
-    ap (λ (z : View). root_in (held a.l z)) c.stop_write.ensures.1 ∙ clear_root (shape_of a.bank.now) a.l a.table (view a.pass.now) (view c.start_write.new.pass) (view c.put_root.new.pass) (view c.put_block.new.pass) c.start_write.result c.requires.may c.requires.pass.1 a.pass.now.possible c.start_write.ensures.1 r.did.1 r.held r.keeps b.did.1 b.held b.keeps n.result 0 n.ensures.did.0 (view n.new.pass) (view n.new.pass) made committed
+    ap (λ (z : View). root_in (held_words a.l z)) c.stop_write.ensures.1 ∙ clear_root (shape_of a.bank.now) a.l a.table (view a.pass.now) (view c.start_write.new.pass) (view c.put_root.new.pass) (view c.put_block.new.pass) c.start_write.result c.requires.may c.requires.pass.1 a.pass.now.possible c.start_write.ensures.1 r.did.1 r.held r.keeps b.did.1 b.held b.keeps n.result 0 n.ensures.did.0 (view n.new.pass) (view n.new.pass) made committed

@@ -3,7 +3,7 @@ use Rattle.ft_model.specs.declared.call.Call.TheVariants as call
 use Rattle.ft_model.specs.declared.call.ListCall.TheVariants as list
 use Rattle.ft_model.specs.declared.reply.Reply.TheVariants as reply
 use Rattle.ft_trace.specs.declared.Shape.{Shape}
-use Rattle.ft_trace.specs.Addresses.{containers_in}
+use Rattle.ft_trace.specs.Addresses.{container_count}
 use Rattle.ft_bank.specs.Passes.{shape_of, view}
 use Rattle.ft_list.specs.ListItemWrites.{known_items}
 use Rattle.ft_search.specs.MadeCalls.{IsReplyTo}
@@ -30,7 +30,7 @@ answer_held-requires-clause-shown c n =
     let held = items_hold k a.l (AreCopied made) p q r shape may in
     let here = (subst (λ z. AreCopied z values) c.in_ok-copy.was held).0 in
     let is = c.from_vec.ensures ∙ here in
-    let low = subst (λ (z : Shape). a.l < containers_in z) (sym shape) may.container in
+    let low = subst (λ (z : Shape). a.l < container_count z) (sym shape) may.container in
     let replied : IsReplyTo called said (view p) = items_replied a.l values (view p) low may.locked (content_of k a.l (view p) shape p.possible may) c.from_vec.result is in
     let plain = items_plain a.l c.from_vec.result in
     let loaded = scan_loaded k a.l (AreCopied made) p q r shape may in
@@ -50,7 +50,7 @@ returns-in_err-copy-clause-copied c =
     let called = call.List a.l list.Items in
     let failed = err_from_is_err_and c.from_residual.result c.from_residual.ensures.1 in
     let some = IfErr-at_err (λ e. 0 < length values) c.in_err-copy.was (items_hold k a.l (AreCopied made) p q r shape may).1 in
-    let low = subst (λ (z : Shape). a.l < containers_in z) (sym shape) may.container in
+    let low = subst (λ (z : Shape). a.l < container_count z) (sym shape) may.container in
     let replied = items_replied a.l values (view p) low may.locked (content_of k a.l (view p) shape p.possible may) values refl in
     subst (λ z. IsCopied called (view p) (view q) z) (sym failed.1) (scan_loaded k a.l (AreCopied made) p q r shape may, takes_memory called (view p) values replied some)
 
@@ -70,7 +70,7 @@ returns-clause-copied c =
     let held = items_hold k a.l (AreCopied made) p q r shape may in
     let here = (subst (λ z. AreCopied z values) c.in_ok-copy.was held).0 in
     let is = c.from_vec.ensures ∙ here in
-    let low = subst (λ (z : Shape). a.l < containers_in z) (sym shape) may.container in
+    let low = subst (λ (z : Shape). a.l < container_count z) (sym shape) may.container in
     let replied : IsReplyTo called said (view p) = items_replied a.l values (view p) low may.locked (content_of k a.l (view p) shape p.possible may) c.from_vec.result is in
     let plain = items_plain a.l c.from_vec.result in
     let loaded = scan_loaded k a.l (AreCopied made) p q r shape may in

@@ -7,7 +7,7 @@ use Rattle.ft_model.specs.declared.call.ListCall.TheVariants as list
 use Rattle.ft_model.specs.declared.reply.Reply.TheVariants as reply
 use Rattle.ft_model.specs.Lists.{list_slice}
 use Rattle.ft_trace.specs.declared.Shape.{Shape}
-use Rattle.ft_trace.specs.Addresses.{containers_in}
+use Rattle.ft_trace.specs.Addresses.{container_count}
 use Rattle.ft_bank.specs.Passes.{shape_of, view}
 use Rattle.ft_list.specs.ListItemWrites.{known_items}
 use Rattle.ft_search.specs.MadeCalls.{IsReplyTo, MadeAs}
@@ -37,7 +37,7 @@ answer_held-requires-clause-shown c n =
     let held = items_hold k a.l (λ items. AreCopied made (list_slice items x y)) p q r shape may in
     let here = (subst (λ z. AreCopied z (list_slice values x y)) c.in_ok-part.was held).0 in
     let is = c.from_vec.ensures ∙ here in
-    let low = subst (λ (z : Shape). a.l < containers_in z) (sym shape) may.container in
+    let low = subst (λ (z : Shape). a.l < container_count z) (sym shape) may.container in
     let replied : IsReplyTo called said (view p) = slice_replied a.l values (view p) low may.locked (content_of k a.l (view p) shape p.possible may) x y c.from_vec.result is in
     let plain = slice_plain a.l x y c.from_vec.result in
     let loaded = scan_loaded k a.l (λ items. AreCopied made (list_slice items x y)) p q r shape may in
@@ -60,7 +60,7 @@ returns-in_err-part-clause-copied c =
     let part = list_slice values x y in
     let failed = err_from_is_err_and c.from_residual.result c.from_residual.ensures.1 in
     let some = IfErr-at_err (λ e. 0 < length part) c.in_err-part.was (items_hold k a.l (λ items. AreCopied made (list_slice items x y)) p q r shape may).1 in
-    let low = subst (λ (z : Shape). a.l < containers_in z) (sym shape) may.container in
+    let low = subst (λ (z : Shape). a.l < container_count z) (sym shape) may.container in
     let replied = slice_replied a.l values (view p) low may.locked (content_of k a.l (view p) shape p.possible may) x y part refl in
     let takes = takes_memory (call.List a.l (list.Slice x y)) (view p) part replied some in
     subst (λ z. IsCopied (call.List a.l (list.Slice a.start a.end)) (view p) (view q) z) (sym failed.1)
@@ -85,7 +85,7 @@ returns-clause-copied c =
     let held = items_hold k a.l (λ items. AreCopied made (list_slice items x y)) p q r shape may in
     let here = (subst (λ z. AreCopied z (list_slice values x y)) c.in_ok-part.was held).0 in
     let is = c.from_vec.ensures ∙ here in
-    let low = subst (λ (z : Shape). a.l < containers_in z) (sym shape) may.container in
+    let low = subst (λ (z : Shape). a.l < container_count z) (sym shape) may.container in
     let replied : IsReplyTo called said (view p) = slice_replied a.l values (view p) low may.locked (content_of k a.l (view p) shape p.possible may) x y c.from_vec.result is in
     let plain = slice_plain a.l x y c.from_vec.result in
     let loaded = scan_loaded k a.l (λ items. AreCopied made (list_slice items x y)) p q r shape may in

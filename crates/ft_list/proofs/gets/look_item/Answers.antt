@@ -1,7 +1,7 @@
 use Rattle.std.proofs.Common.{◌≡◌, ℤ, ◌∙◌, refl, sym, subst}
 use Rattle.ft_model.specs.declared.reply.Reply.{Reply}
 use Rattle.ft_trace.specs.declared.Act.TheVariants.{Answer}
-use Rattle.ft_trace.specs.Acts.{noted}
+use Rattle.ft_trace.specs.Acts.{view_after}
 use mir.Syntax.{w64}
 use Rattle.std.specs.Prelude.{pos}
 use Rattle.std.proofs.Math.Facts.{to_z-of_z}
@@ -26,4 +26,4 @@ returns-in-Found-clause-looked c =
     let called = call.List c.args.l (list.Get (pos c.args.index)) in
     let f = c.in-Found.ensures.found in
     subst (λ r. IsGetOf c.args.l c.args.index v z r) (sym c.answer_look.ensures.done)
-    (answered_after v w z called c.reply_of.result c.in-Found.number f.2.0 f.0 f.2.1 f.2.2 (subst (λ (i : ℤ). z ≡ noted (Answer (call.List c.args.l (list.Get i)) c.reply_of.result c.in-Found.number) w) (to_z-of_z {w = w64} {z = c.signed.result} (record { sfits = c.signed.type_inv }) ∙ c.signed.ensures) c.answer_look.ensures.did.1) c.args.pass.now.settled c.answer_look.new.pass.possible, refl)
+    (answered_after v w z called c.reply_of.result c.in-Found.number f.2.0 f.0 f.2.1 f.2.2 (subst (λ (i : ℤ). z ≡ view_after (Answer (call.List c.args.l (list.Get i)) c.reply_of.result c.in-Found.number) w) (to_z-of_z {w = w64} {z = c.signed.result} (record { sfits = c.signed.type_inv }) ∙ c.signed.ensures) c.answer_look.ensures.did.1) c.args.pass.now.settled c.answer_look.new.pass.possible, refl)

@@ -7,7 +7,7 @@ use Rattle.ft_trace.specs.ContainerStates.{ContainerState}
 use Rattle.ft_trace.specs.Holds.{in_hand}
 use Rattle.ft_trace.proofs.Pieces.{table_long}
 use Rattle.ft_bank.specs.Passes.{shape_of, view}
-use Rattle.ft_bank.specs.TableNames.{name_of}
+use Rattle.ft_bank.specs.TableNames.{table_id}
 use Rattle.ft_bank.proofs.KnownAfterWrites.{work_knows}
 use Rattle.ft_growth.proofs.Rooting.{filled_same, filled_then, loaded_filled}
 use Rattle.ft_list.specs.ListItemWrites.{known_items, stored_item}
@@ -26,7 +26,7 @@ loop-place-init c =
       pass = c.requires.pass;
       stack = refl;
       only = filled_same v;
-      filled = filled_none (class_of (name_of a.table)) (table_class k a.table c.requires.table) (known_items a.o v) (in_hand (name_of a.table) v) (table_long v.shape (name_of a.table) (mem v.shape v.log));
+      filled = filled_none (class_of (table_id a.table)) (table_class k a.table c.requires.table) (known_items a.o v) (in_hand (table_id a.table) v) (table_long v.shape (table_id a.table) (mem v.shape v.log));
     }
 
 pub old_item-stored-requires-clause-list : goal.old_item-stored-requires-clause-list
@@ -58,7 +58,7 @@ loop-place-preserved c =
     let i = c.loop-place.invariant in
     let f = c.old_item-stored.ensures in
     let e = c.fill_item.ensures in
-    let class = class_of (name_of a.table) in
+    let class = class_of (table_id a.table) in
     let place = c.loop-place.place in
     let s = slots_are k a.table c.requires.table in
     let t = c.loop-place-test.true in
@@ -66,8 +66,8 @@ loop-place-preserved c =
     let low : place < slots class = omega (arith, s, t, n) in
     let items : known_items a.o x ≡ known_items a.o v = ap (λ (u : ContainerState). list_of u.content) (work_knows v x a.o i.only.work) in
     let is : c.old_item-stored.result ≡ stored_item (known_items a.o v) place = f.stored ∙ ap (λ (l : List Value). stored_item l place) items in
-    let hand : in_hand (name_of a.table) y ≡ in_hand (name_of a.table) x = hand_loaded (name_of a.table) x y f.only in
-    let next = filled_next class (table_class k a.table c.requires.table) (known_items a.o v) place (in_hand (name_of a.table) y) c.old_item-stored.result
+    let hand : in_hand (table_id a.table) y ≡ in_hand (table_id a.table) x = hand_loaded (table_id a.table) x y f.only in
+    let next = filled_next class (table_class k a.table c.requires.table) (known_items a.o v) place (in_hand (table_id a.table) y) c.old_item-stored.result
     (subst (IsFilled class (known_items a.o v) place) (sym hand) i.filled) low is f.fits in
     record {
       pass = e.pass;
@@ -83,5 +83,5 @@ returns-clause-filled c =
     let t = c.loop-place-test.false in
     let e = c.loop-place.auto.place-end in
     let n = c.list_items-place-end.ensures in
-    let at : c.loop-place.place ≡ slots (class_of (name_of a.table)) = omega (arith, s, t, e, n) in
-    subst (λ (m : ℕ). IsFilled (class_of (name_of a.table)) (known_items a.o (view a.pass.now)) m (in_hand (name_of a.table) (view c.loop-place.pass))) at c.loop-place.invariant.filled
+    let at : c.loop-place.place ≡ slots (class_of (table_id a.table)) = omega (arith, s, t, e, n) in
+    subst (λ (m : ℕ). IsFilled (class_of (table_id a.table)) (known_items a.o (view a.pass.now)) m (in_hand (table_id a.table) (view c.loop-place.pass))) at c.loop-place.invariant.filled

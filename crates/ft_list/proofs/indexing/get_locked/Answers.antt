@@ -7,8 +7,8 @@ use Rattle.ft_model.specs.declared.call.ListCall.TheVariants as list
 use Rattle.ft_model.specs.declared.reply.Reply.{Reply}
 use Rattle.ft_trace.specs.declared.Act.TheVariants.{ReadCounter}
 use Rattle.ft_trace.specs.declared.Shape.{Shape}
-use Rattle.ft_trace.specs.Acts.{noted}
-use Rattle.ft_trace.specs.Addresses.{containers_in}
+use Rattle.ft_trace.specs.Acts.{view_after}
+use Rattle.ft_trace.specs.Addresses.{container_count}
 use Rattle.ft_trace.specs.LookReplies.{item_reply}
 use Rattle.ft_trace.specs.ContainerStates.{kind_in}
 use Rattle.ft_bank.specs.Answered.{Answered}
@@ -32,10 +32,10 @@ answer_held-requires-clause-shown c n =
     let r = c.read_named-found.ensures.reads in
     let same = c.requires.pass.1 in
     let z = to_z w64 (of_z w64 a.index) in
-    let low = subst (λ (x : Shape). o < containers_in x) (sym same) c.requires.container in
+    let low = subst (λ (x : Shape). o < container_count x) (sym same) c.requires.container in
     let held = reads_held k o z found p q r c.requires.container (ap (λ (x : Shape). kind_in x.starts o) same ∙ c.requires.list) p.possible c.requires.locked c.requires.stands in
-    let shown : IsShown (noted (ReadCounter n) (view q)) (call.List o (list.Get z)) (item_reply found) n = get_held (view p) (view q) o z found n (reads_loaded k o (IsItemNamed k z found) p q r) c.requires.left low c.requires.locked held in
-    subst (λ (x : Reply). IsShown (noted (ReadCounter n) (view q)) (call.List o (list.Get z)) x n) (sym c.reply_of.ensures) shown
+    let shown : IsShown (view_after (ReadCounter n) (view q)) (call.List o (list.Get z)) (item_reply found) n = get_held (view p) (view q) o z found n (reads_loaded k o (IsItemNamed k z found) p q r) c.requires.left low c.requires.locked held in
+    subst (λ (x : Reply). IsShown (view_after (ReadCounter n) (view q)) (call.List o (list.Get z)) x n) (sym c.reply_of.ensures) shown
 
 pub returns-clause-answered : goal.returns-clause-answered
 returns-clause-answered c =

@@ -5,7 +5,7 @@ use Rattle.std.proofs.Math.Facts.{to_z-of_z}
 use Rattle.ft_model.specs.declared.call.Call.TheVariants as call
 use Rattle.ft_model.specs.declared.call.ListCall.TheVariants as list
 use Rattle.ft_trace.specs.declared.Shape.{Shape}
-use Rattle.ft_trace.specs.Addresses.{containers_in}
+use Rattle.ft_trace.specs.Addresses.{container_count}
 use Rattle.ft_bank.specs.Answered.{Answered}
 use Rattle.ft_bank.specs.Passes.{shape_of, view}
 use Rattle.ft_section.specs.declared.answers.Objects.TheVariants.{One}
@@ -24,7 +24,7 @@ get_locked-reply-requires-clause-stands c =
     let m = c.in-Have.ensures.making in
     let same = m.inside.0.1 in
     making_stands c.args.bank.now c.take_for.new.pass (shape_of c.args.bank.now).texts c.args.l m (ap (λ (k : Shape). k.texts) same)
-    (subst (λ (k : Shape). c.args.l < containers_in k) (sym same) c.requires.container) c.in-Have.ensures.has.0.0
+    (subst (λ (k : Shape). c.args.l < container_count k) (sym same) c.requires.container) c.in-Have.ensures.has.0.0
 
 pub get_locked-reply-requires-clause-left : goal.get_locked-reply-requires-clause-left
 get_locked-reply-requires-clause-left c = subst (λ (n : ℕ). 0 < n) (sym c.in-Have.ensures.locked.left) c.requires.left

@@ -3,11 +3,11 @@ use Rattle.ft_model.specs.declared.data.Value.{Value}
 use Rattle.ft_model.specs.Worlds.{list_of}
 use Rattle.ft_trace.specs.Addresses.{class_of, size}
 use Rattle.ft_trace.specs.ContainerStates.{ContainerState}
-use Rattle.ft_trace.specs.Pictures.{Picture, item_field}
+use Rattle.ft_trace.specs.Pictures.{ContainerWords, item_field}
 use Rattle.ft_trace.specs.ItemWords.{said_at, words_at}
-use Rattle.ft_trace.specs.Holds.{held}
+use Rattle.ft_trace.specs.Holds.{held_words}
 use Rattle.ft_bank.specs.Passes.{shape_of, view}
-use Rattle.ft_bank.specs.TableNames.{name_of}
+use Rattle.ft_bank.specs.TableNames.{table_id}
 use Rattle.ft_bank.proofs.KnownAfterWrites.{work_knows}
 use Rattle.ft_list.specs.ListItemWrites.{known_items}
 use Rattle.ft_list.proofs.Cares.{few_slots, inside, close_care, item_room}
@@ -28,7 +28,7 @@ overflow_add-version c =
 
 pub put_table-requires-clause-word : goal.put_table-requires-clause-word
 put_table-requires-clause-word c =
-    subst (λ (z : ℕ). z < size (class_of (name_of c.args.table))) (sym c.word_at.ensures) (inside (shape_of c.args.bank.now) c.args.table c.requires.list.table_in c.args.place 0 c.requires.place (omega arith))
+    subst (λ (z : ℕ). z < size (class_of (table_id c.args.table))) (sym c.word_at.ensures) (inside (shape_of c.args.bank.now) c.args.table c.requires.list.table_in c.args.place 0 c.requires.place (omega arith))
 
 pub put_table-requires-clause-care : goal.put_table-requires-clause-care
 put_table-requires-clause-care c =
@@ -37,8 +37,8 @@ put_table-requires-clause-care c =
     let v = view a.pass.now in
     let w = view c.read_word-version.new.pass in
     let e = c.read_word-version.ensures in
-    let found : c.read_word-version.result ≡ item_field (held a.o w).table a.place 0 = e.found ∙ sym (ap (λ (z : Picture). item_field z.table a.place 0) e.held) in
+    let found : c.read_word-version.result ≡ item_field (held_words a.o w).table a.place 0 = e.found ∙ sym (ap (λ (z : ContainerWords). item_field z.table a.place 0) e.held) in
     let known_now : known_items a.o w ≡ known_items a.o v = ap (λ (z : ContainerState). list_of z.content) (work_knows v w a.o e.only.work) in
-    let says : words_at (known_items a.o w) a.place ≡ said_at (held a.o w).table a.place =
-    ap (λ (z : List Value). words_at z a.place) known_now ∙ (c.requires.says ∙ sym (ap (λ (z : Picture). said_at z.table a.place) e.held)) in
+    let says : words_at (known_items a.o w) a.place ≡ said_at (held_words a.o w).table a.place =
+    ap (λ (z : List Value). words_at z a.place) known_now ∙ (c.requires.says ∙ sym (ap (λ (z : ContainerWords). said_at z.table a.place) e.held)) in
     close_care k a.o a.table w e.list e.pass.1 a.place c.read_word-version.result c.word_at.result c.word_at.ensures (e.only.work.committed a.o ∙ c.requires.late) found c.if-version-eq1.true says

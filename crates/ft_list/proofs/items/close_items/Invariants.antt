@@ -1,10 +1,10 @@
 use Rattle.std.proofs.Common.{◌≡◌, true}
 use Rattle.ft_trace.specs.Acts.{has_committed}
 use Rattle.ft_trace.specs.Addresses.{class_of}
-use Rattle.ft_trace.specs.Holds.{held}
+use Rattle.ft_trace.specs.Holds.{held_words}
 use Rattle.ft_bank.specs.Passes.{shape_of, view, IsPassOf}
 use Rattle.ft_bank.specs.PassSections.{stack_of}
-use Rattle.ft_bank.specs.TableNames.{name_of}
+use Rattle.ft_bank.specs.TableNames.{table_id}
 use Rattle.ft_bank.specs.Whole.{OnlyPut}
 use Rattle.ft_list.specs.ListItemWrites.{WritesList, IsChanging, known_items}
 use Rattle.ft_list.proofs.items.close_items.Given as goal
@@ -17,6 +17,6 @@ invariant-loop-place l =
       list : WritesList (shape_of l.bank) l.o l.table (view l.pass);
       late : has_committed l.o (view l.pass).log ≡ true;
       only : OnlyPut l.o (view l.initial.pass) (view l.pass);
-      block : (held l.o (view l.pass)).block ≡ (held l.o (view l.initial.pass)).block;
-      changing : IsChanging (class_of (name_of l.table)) (known_items l.o (view l.initial.pass)) (known_items l.o (view l.initial.pass)) l.place l.past (held l.o (view l.pass)).table;
+      block : (held_words l.o (view l.pass)).block ≡ (held_words l.o (view l.initial.pass)).block;
+      changing : IsChanging (class_of (table_id l.table)) (known_items l.o (view l.initial.pass)) (known_items l.o (view l.initial.pass)) l.place l.past (held_words l.o (view l.pass)).table;
     }

@@ -1,9 +1,9 @@
 use Rattle.std.proofs.Common.{◌≡◌, ℕ, ◌%◌, ◌<◌, sym, ap, ◌∙◌, subst, arith}
 use Rattle.ft_trace.specs.Addresses.{class_of, size}
-use Rattle.ft_trace.specs.Pictures.{Picture, item_offset, item_field}
-use Rattle.ft_trace.specs.Holds.{held}
+use Rattle.ft_trace.specs.Pictures.{ContainerWords, item_offset, item_field}
+use Rattle.ft_trace.specs.Holds.{held_words}
 use Rattle.ft_bank.specs.Passes.{shape_of, view}
-use Rattle.ft_bank.specs.TableNames.{name_of}
+use Rattle.ft_bank.specs.TableNames.{table_id}
 use Rattle.ft_list.proofs.Cares.{few_slots, inside, open_care, set_own}
 use Rattle.ft_list.proofs.items.open_item.Goals as goal
 
@@ -15,7 +15,7 @@ word_at-requires-clause-place c =
 
 pub put_table-requires-clause-word : goal.put_table-requires-clause-word
 put_table-requires-clause-word c =
-    subst (λ (z : ℕ). z < size (class_of (name_of c.args.table))) (sym c.word_at.ensures) (inside (shape_of c.args.bank.now) c.args.table c.requires.list.table_in c.args.place 0 c.requires.place (omega arith))
+    subst (λ (z : ℕ). z < size (class_of (table_id c.args.table))) (sym c.word_at.ensures) (inside (shape_of c.args.bank.now) c.args.table c.requires.list.table_in c.args.place 0 c.requires.place (omega arith))
 
 pub put_table-requires-clause-care : goal.put_table-requires-clause-care
 put_table-requires-clause-care c =
@@ -23,7 +23,7 @@ put_table-requires-clause-care c =
     let k = shape_of a.bank.now in
     let w = view c.read_word-version.new.pass in
     let e = c.read_word-version.ensures in
-    let found : c.read_word-version.result ≡ item_field (held a.o w).table a.place 0 = e.found ∙ sym (ap (λ (z : Picture). item_field z.table a.place 0) e.held) in
+    let found : c.read_word-version.result ≡ item_field (held_words a.o w).table a.place 0 = e.found ∙ sym (ap (λ (z : ContainerWords). item_field z.table a.place 0) e.held) in
     open_care k a.o a.table w e.list e.pass.1 a.place c.read_word-version.result c.word_at.result c.word_at.ensures (e.only.work.committed a.o ∙ c.requires.early) found c.if-version-eq0.true
 
 pub returns-else-version-eq0-clause-words : goal.returns-else-version-eq0-clause-words
@@ -34,5 +34,5 @@ returns-else-version-eq0-clause-words c =
     let odd : c.read_word-version.result % 2 ≡ 1 = let n = c.if-version-eq0.false in omega (arith, n) in (
       c.read_word-version.result,
       odd,
-      e.held ∙ (λ d. record { block = (held a.o v).block; table = sym (set_own (held a.o v).table (item_offset a.place 0) c.read_word-version.result e.found) d }),
+      e.held ∙ (λ d. record { block = (held_words a.o v).block; table = sym (set_own (held_words a.o v).table (item_offset a.place 0) c.read_word-version.result e.found) d }),
     )

@@ -1,6 +1,6 @@
 use Rattle.std.proofs.Common.{◌≡◌, ℕ, ◌%◌, sym, ap, ◌∙◌, subst}
-use Rattle.ft_trace.specs.Pictures.{Picture, item_field}
-use Rattle.ft_trace.specs.Holds.{held}
+use Rattle.ft_trace.specs.Pictures.{ContainerWords, item_field}
+use Rattle.ft_trace.specs.Holds.{held_words}
 use Rattle.ft_bank.specs.Passes.{shape_of, view}
 use Rattle.ft_list.specs.ListItemWrites.{PutsItem, with_word}
 use Rattle.ft_list.proofs.Cares.{long_enough}
@@ -14,7 +14,7 @@ put_word-requires-clause-odd c =
     let e = c.read_word-old_payload.ensures in
     let u = view c.read_word-old_payload.new.pass in
     let low = long_enough (shape_of a.bank.now) a.o a.table u e.list a.place c.requires.place in
-    ap (λ (z : Picture). item_field z.table a.place 0 % 2) o.2 ∙ (ap (λ (n : ℕ). n % 2) (version_one (held a.o u) a.place o.0 0 0 low) ∙ o.1)
+    ap (λ (z : ContainerWords). item_field z.table a.place 0 % 2) o.2 ∙ (ap (λ (n : ℕ). n % 2) (version_one (held_words a.o u) a.place o.0 0 0 low) ∙ o.1)
 
 pub put_word-requires-2-clause-odd : goal.put_word-requires-2-clause-odd
 put_word-requires-2-clause-odd c =
@@ -23,8 +23,8 @@ put_word-requires-2-clause-odd c =
     let kind = c.stored_kind_of-kind.result in
     let u = view c.read_word-old_payload.new.pass in
     let low = long_enough (shape_of a.bank.now) a.o a.table u c.read_word-old_payload.ensures.list a.place c.requires.place in
-    ap (λ (z : Picture). item_field z.table a.place 0 % 2) (c.put_word.ensures.words ∙ ap (λ (z : Picture). with_word z a.place 1 kind) o.2)
-    ∙ (ap (λ (n : ℕ). n % 2) (version_two (held a.o u) a.place o.0 kind 0 low) ∙ o.1)
+    ap (λ (z : ContainerWords). item_field z.table a.place 0 % 2) (c.put_word.ensures.words ∙ ap (λ (z : ContainerWords). with_word z a.place 1 kind) o.2)
+    ∙ (ap (λ (n : ℕ). n % 2) (version_two (held_words a.o u) a.place o.0 kind 0 low) ∙ o.1)
 
 pub returns-clause-puts : goal.returns-clause-puts
 returns-clause-puts c =
@@ -35,8 +35,8 @@ returns-clause-puts c =
     let u = view c.read_word-old_payload.new.pass in
     let w = view c.put_word-2.new.pass in
     let low = long_enough (shape_of a.bank.now) a.o a.table u c.read_word-old_payload.ensures.list a.place c.requires.place in
-    let is : held a.o w ≡ with_word (with_word (with_word (held a.o u) a.place 0 o.0) a.place 1 kind) a.place 2 payload =
-    c.put_word-2.ensures.words ∙ (ap (λ (z : Picture). with_word z a.place 2 payload) c.put_word.ensures.words ∙ ap (λ (z : Picture). with_word (with_word z a.place 1 kind) a.place 2 payload) o.2) in
-    let same : held a.o u ≡ held a.o (view a.pass.now) = c.read_word-old_payload.ensures.held ∙ c.read_word-old_kind.ensures.held in
-    subst (λ (z : Picture). PutsItem a.place a.stored z (held a.o w)) same
-    (subst (λ (z : Picture). PutsItem a.place a.stored (held a.o u) z) (sym is) (item_put (held a.o u) a.place o.0 kind payload low a.stored c.stored_kind_of-kind.ensures c.stored_payload_of-payload.ensures o.1))
+    let is : held_words a.o w ≡ with_word (with_word (with_word (held_words a.o u) a.place 0 o.0) a.place 1 kind) a.place 2 payload =
+    c.put_word-2.ensures.words ∙ (ap (λ (z : ContainerWords). with_word z a.place 2 payload) c.put_word.ensures.words ∙ ap (λ (z : ContainerWords). with_word (with_word z a.place 1 kind) a.place 2 payload) o.2) in
+    let same : held_words a.o u ≡ held_words a.o (view a.pass.now) = c.read_word-old_payload.ensures.held ∙ c.read_word-old_kind.ensures.held in
+    subst (λ (z : ContainerWords). PutsItem a.place a.stored z (held_words a.o w)) same
+    (subst (λ (z : ContainerWords). PutsItem a.place a.stored (held_words a.o u) z) (sym is) (item_put (held_words a.o u) a.place o.0 kind payload low a.stored c.stored_kind_of-kind.ensures c.stored_payload_of-payload.ensures o.1))

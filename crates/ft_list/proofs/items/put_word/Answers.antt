@@ -1,7 +1,7 @@
 use Rattle.std.proofs.Common.{ℕ, ◌<◌, sym, subst, arith}
 use Rattle.ft_trace.specs.Addresses.{class_of, size}
 use Rattle.ft_bank.specs.Passes.{shape_of, view}
-use Rattle.ft_bank.specs.TableNames.{name_of}
+use Rattle.ft_bank.specs.TableNames.{table_id}
 use Rattle.ft_list.proofs.Cares.{few_slots, inside, word_care}
 use Rattle.ft_list.proofs.items.put_word.Goals as goal
 
@@ -13,7 +13,7 @@ word_at-requires-clause-place c =
 
 pub put_table-requires-clause-word : goal.put_table-requires-clause-word
 put_table-requires-clause-word c =
-    subst (λ (z : ℕ). z < size (class_of (name_of c.args.table))) (sym c.word_at.ensures) (inside (shape_of c.args.bank.now) c.args.table c.requires.list.table_in c.args.place c.args.word c.requires.place c.requires.word.1)
+    subst (λ (z : ℕ). z < size (class_of (table_id c.args.table))) (sym c.word_at.ensures) (inside (shape_of c.args.bank.now) c.args.table c.requires.list.table_in c.args.place c.args.word c.requires.place c.requires.word.1)
 
 pub put_table-requires-clause-care : goal.put_table-requires-clause-care
 put_table-requires-clause-care c =

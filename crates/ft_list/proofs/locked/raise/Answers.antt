@@ -1,7 +1,7 @@
 use Rattle.std.proofs.Common.{◌<◌, sym, subst}
 use Rattle.ft_model.specs.declared.call.Call.{Call}
 use Rattle.ft_trace.specs.declared.Shape.{Shape}
-use Rattle.ft_trace.specs.Addresses.{containers_in}
+use Rattle.ft_trace.specs.Addresses.{container_count}
 use Rattle.ft_bank.specs.Passes.{shape_of, view}
 use Rattle.ft_bank.specs.Reads.{IsShown}
 use Rattle.ft_list.specs.ListItemWrites.{known_items}
@@ -15,7 +15,7 @@ answer-requires-clause-shown c =
     let k = shape_of a.bank.now in
     let v = view a.pass.now in
     let x = c.requires.call in
-    let low : a.l < containers_in v.shape = subst (λ (z : Shape). a.l < containers_in z) (sym c.requires.pass.1) c.requires.may.container in
+    let low : a.l < container_count v.shape = subst (λ (z : Shape). a.l < container_count z) (sym c.requires.pass.1) c.requires.may.container in
     subst (λ (z : Call). IsShown (view c.stamp-number.new.pass) z a.said.now c.stamp-number.result) (sym x.1)
     (raise_shown v (view c.stamp-number.new.pass) a.l x.0 a.said.now (known_items a.l v) c.stamp-number.result x.2 c.stamp-number.ensures.did.1 c.requires.may.left low c.requires.may.locked (content_of k a.l v c.requires.pass.1 a.pass.now.possible c.requires.may))
 

@@ -10,7 +10,7 @@ use Rattle.ft_model.specs.declared.reply.Raise.TheVariants as raise
 use Rattle.ft_model.specs.Lists.{index_in}
 use Rattle.ft_trace.specs.declared.Act.TheVariants.{ReadBlock}
 use Rattle.ft_trace.specs.declared.Shape.{Shape}
-use Rattle.ft_trace.specs.Addresses.{containers_in}
+use Rattle.ft_trace.specs.Addresses.{container_count}
 use Rattle.ft_bank.specs.Passes.{shape_of, view}
 use Rattle.ft_bank.proofs.KnownAfterWrites.{loaded_then}
 use Rattle.ft_search.specs.MadeCalls.{MadeAs}
@@ -40,7 +40,7 @@ set_item-number-requires-clause-call c =
     let v = view c.table_of-table.new.pass in
     let e = c.table_of-table.ensures in
     let values = known_items a.l v in
-    let low : a.l < containers_in v.shape = subst (λ (z : Shape). a.l < containers_in z) (sym e.pass.1) e.may.container in
+    let low : a.l < container_count v.shape = subst (λ (z : Shape). a.l < container_count z) (sym e.pass.1) e.may.container in
     let long : c.count_of-count.result ≡ length values = c.count_of-count.ensures.count ∙ sym (ap length (e.items ∙ c.count_of-count.ensures.items)) in
     let means : index_in (length values) (to_z w64 (of_z w64 a.index)) ≡ Some c.in-Some.place = ap (λ (n : ℕ). index_in n (to_z w64 (of_z w64 a.index))) (sym long) ∙ (sym c.place_in.ensures.answer ∙ c.in-Some.is) in
     (list.Set (to_z w64 (of_z w64 a.index)) a.value, refl, set_changes a.l (to_z w64 (of_z w64 a.index)) a.value values c.in-Some.place v low e.may.locked (content_of k a.l v e.pass.1 c.table_of-table.new.pass.possible e.may) c.value_fits.ensures means)
@@ -64,7 +64,7 @@ returns-in-Some-clause-made c =
     let e = c.table_of-table.ensures in
     let z = to_z w64 (of_z w64 a.index) in
     let values = known_items a.l w in
-    let low : a.l < containers_in w.shape = subst (λ (y : Shape). a.l < containers_in y) (sym e.pass.1) e.may.container in
+    let low : a.l < container_count w.shape = subst (λ (y : Shape). a.l < container_count y) (sym e.pass.1) e.may.container in
     let long : c.count_of-count.result ≡ length values = c.count_of-count.ensures.count ∙ sym (ap length (e.items ∙ c.count_of-count.ensures.items)) in
     let means : index_in (length values) z ≡ Some c.in-Some.place = ap (λ (n : ℕ). index_in n z) (sym long) ∙ (sym c.place_in.ensures.answer ∙ c.in-Some.is) in
     subst (λ (i : ℤ). MadeAs (call.List a.l (list.Set i a.value)) reply.Done (record { number = c.set_item-number.result; wrote = true }) v x) (to_z-of_z {w = w64} {z = a.index} c.ranges.index)

@@ -3,7 +3,7 @@ use Rattle.ft_trace.specs.declared.Act.TheVariants.{ReadRoot}
 use Rattle.ft_trace.specs.Acts.{announces}
 use Rattle.ft_bank.specs.Passes.{shape_of}
 use Rattle.ft_bank.specs.Series.{DidAll}
-use Rattle.ft_bank.specs.TableNames.{name_of}
+use Rattle.ft_bank.specs.TableNames.{table_id}
 use Rattle.ft_search.proofs.Running.{did_trans, did_log}
 use Rattle.ft_list.specs.ItemLooks.{item_acts}
 use Rattle.ft_list.proofs.LookRounds.{item_closes, item_stops, fresh_root}
@@ -12,13 +12,13 @@ use Rattle.ft_list.proofs.looks.look_at.Goals.{then-seen-via-then-seen, then-see
 
 pub read_root-again-requires-clause-online : goal.read_root-again-requires-clause-online
 read_root-again-requires-clause-online c =
-    let part = item_acts (name_of c.args.table) c.args.index c.see_item-seen.result in
+    let part = item_acts (table_id c.args.table) c.args.index c.see_item-seen.result in
     subst (λ (z : ℕ). 0 < z) (sym (ap announces (did_log part c.args.pass.now c.see_item-seen.new.pass c.see_item-seen.ensures.did))) c.requires.online
 
 pub returns-then-again-root-clause-ended : goal.returns-then-again-root-clause-ended
 returns-then-again-root-clause-ended c =
     let a = c.args in
-    let t = name_of a.table in
+    let t = table_id a.table in
     let part = item_acts t a.index c.see_item-seen.result in
     let r = c.read_root-again in
     let did = c.see_item-seen.ensures.did in
@@ -34,7 +34,7 @@ returns-then-again-root-clause-ended c =
 pub returns-then-seen-clause-ended : goal.returns-then-seen-clause-ended
 returns-then-seen-clause-ended c =
     let a = c.args in
-    let t = name_of a.table in
+    let t = table_id a.table in
     let seen = c.see_item-seen.result in
     let part = item_acts t a.index seen in
     let r = c.read_root-again in
@@ -49,7 +49,7 @@ returns-then-seen-clause-ended c =
 pub returns-clause-ended : goal.returns-clause-ended
 returns-clause-ended c =
     let a = c.args in
-    let t = name_of a.table in
+    let t = table_id a.table in
     let seen = c.see_item-seen.result in
     let part = item_acts t a.index seen in
     let r = c.read_root-again in

@@ -3,7 +3,7 @@ use Rattle.ft_trace.specs.declared.Act.{Act}
 use Rattle.ft_trace.specs.declared.Act.TheVariants.{ReadRoot, ReadCounter}
 use Rattle.ft_bank.specs.Passes.{shape_of}
 use Rattle.ft_bank.specs.Series.{DidAll}
-use Rattle.ft_bank.specs.TableNames.{name_of}
+use Rattle.ft_bank.specs.TableNames.{table_id}
 use Rattle.ft_search.proofs.Running.{did_trans}
 use Rattle.ft_list.proofs.LookRounds.{past_closes, fresh_root}
 use Rattle.ft_list.proofs.looks.look_past.Goals as goal
@@ -11,7 +11,7 @@ use Rattle.ft_list.proofs.looks.look_past.Goals as goal
 pub returns-then-again-root-clause-ended : goal.returns-then-again-root-clause-ended
 returns-then-again-root-clause-ended c =
     let a = c.args in
-    let t = name_of a.table in
+    let t = table_id a.table in
     let part : List Act = ReadCounter c.stamp-number.result ∷ [] in
     let r = c.read_root-again in
     let ne : r.result ≢ suc t = λ e. c.if-again-root.true (e ∙ sym c.requires.root) in
@@ -26,7 +26,7 @@ returns-then-again-root-clause-ended c =
 pub returns-clause-ended : goal.returns-clause-ended
 returns-clause-ended c =
     let a = c.args in
-    let t = name_of a.table in
+    let t = table_id a.table in
     let n = c.stamp-number.result in
     let part : List Act = ReadCounter n ∷ [] in
     let r = c.read_root-again in

@@ -1,7 +1,7 @@
 use Rattle.std.proofs.Common.{ℕ, ◌∷◌, ap, ◌∙◌, sym, subst, arith}
 use Rattle.ft_trace.specs.declared.Act.TheVariants.{ReadRoot}
 use Rattle.ft_bank.specs.Passes.{shape_of}
-use Rattle.ft_bank.specs.TableNames.{name_of}
+use Rattle.ft_bank.specs.TableNames.{table_id}
 use Rattle.ft_list.specs.ItemLooks.{EndsItemRound}
 use Rattle.ft_list.proofs.LookRounds.{at_table, slots_are}
 use Rattle.ft_list.proofs.looks.look_round.Goals as goal
@@ -41,7 +41,7 @@ returns-in-None-clause-ended c =
 
 pub returns-then-index-list_items-clause-ended : goal.returns-then-index-list_items-clause-ended
 returns-then-index-list_items-clause-ended c =
-    let t = name_of c.in-Some.table in
+    let t = table_id c.in-Some.table in
     let is = c.in-Some.ensures.named in
     subst (λ (z : ℕ). EndsItemRound (shape_of c.args.bank.now) c.args.o c.args.index z c.args.pass.now c.look_at.new.pass c.look_at.result) (sym is)
     (at_table (shape_of c.args.bank.now) c.args.o c.args.index t c.args.pass.now c.look_at.new.pass c.look_at.result c.requires.last.0
@@ -49,7 +49,7 @@ returns-then-index-list_items-clause-ended c =
 
 pub returns-else-index-list_items-clause-ended : goal.returns-else-index-list_items-clause-ended
 returns-else-index-list_items-clause-ended c =
-    let t = name_of c.in-Some.table in
+    let t = table_id c.in-Some.table in
     let is = c.in-Some.ensures.named in
     subst (λ (z : ℕ). EndsItemRound (shape_of c.args.bank.now) c.args.o c.args.index z c.args.pass.now c.look_past.new.pass c.look_past.result) (sym is)
     (at_table (shape_of c.args.bank.now) c.args.o c.args.index t c.args.pass.now c.look_past.new.pass c.look_past.result c.requires.last.0

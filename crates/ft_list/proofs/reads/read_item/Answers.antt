@@ -3,7 +3,7 @@ use Rattle.std.specs.Prelude.{slice_index, slice_index_or}
 use Rattle.ft_model.specs.Worlds.{list_of}
 use Rattle.ft_model.specs.declared.data.Value.TheVariants as value
 use Rattle.ft_bank.specs.Passes.{shape_of}
-use Rattle.ft_bank.specs.TableNames.{name_of}
+use Rattle.ft_bank.specs.TableNames.{table_id}
 use Rattle.ft_list.specs.Indexes.{IsItemValue, IsItemAt}
 use Rattle.ft_list.proofs.Cares.{table_class}
 use Rattle.ft_list.proofs.Indexes.{item_says, no_items}
@@ -24,7 +24,7 @@ returns-then-place-list_items-clause-reads c =
     let a = c.args in
     let k = shape_of a.bank.now in
     let table = c.in-Some.table in
-    let t = name_of table in
+    let t = table_id table in
     let root = c.read_block-root.result in
     let e = c.read_block-root.ensures in
     let is_in = c.in-Some.ensures.in_bank k (λ t x. e.table t refl x) in
@@ -50,7 +50,7 @@ returns-else-place-list_items-clause-reads c =
     let q = c.read_block-root.new.pass in
     reads_map k a.l (λ x. root ≡ slice_index x.block 0) (IsItemAt k a.place None) p q
     (λ x block kept is stands low.
-    let few = (item_says k.texts x kept (name_of table) (table_class k table is_in) is stands (sym block ∙ c.in-Some.ensures.named)).0 in
+    let few = (item_says k.texts x kept (table_id table) (table_class k table is_in) is stands (sym block ∙ c.in-Some.ensures.named)).0 in
     let s = slots_are k table is_in in
     let past = c.if-place-list_items.false in
     let many = c.list_items.ensures in

@@ -5,11 +5,11 @@ use Rattle.ft_layout.specs.declared.slot.Stored.TheVariants.{Plain}
 use Rattle.ft_layout.specs.Words.{IsStored}
 use Rattle.ft_trace.specs.declared.Act.TheVariants.{ReadTable}
 use Rattle.ft_trace.specs.Addresses.{class_of, size}
-use Rattle.ft_trace.specs.Holds.{held}
+use Rattle.ft_trace.specs.Holds.{held_words}
 use Rattle.ft_trace.specs.Pictures.{root_in, item_offset}
 use Rattle.ft_bank.specs.Passes.{shape_of, view}
 use Rattle.ft_bank.specs.Series.{DidAll}
-use Rattle.ft_bank.specs.TableNames.{name_of}
+use Rattle.ft_bank.specs.TableNames.{table_id}
 use Rattle.ft_bank.proofs.TableAddresses.{named}
 use Rattle.ft_list.specs.Indexes.{IsItemValue}
 use Rattle.ft_reads.specs.Reads.{Reads}
@@ -31,17 +31,17 @@ word_at-requires-2-clause-place c =
 
 pub read_table-kind-requires-clause-word : goal.read_table-kind-requires-clause-word
 read_table-kind-requires-clause-word c =
-    subst (λ (z : ℕ). z < size (class_of (name_of c.args.table))) (sym c.word_at.ensures) (inside (shape_of c.args.bank.now) c.args.table c.requires.table c.args.place 1 c.requires.place (omega arith))
+    subst (λ (z : ℕ). z < size (class_of (table_id c.args.table))) (sym c.word_at.ensures) (inside (shape_of c.args.bank.now) c.args.table c.requires.table c.args.place 1 c.requires.place (omega arith))
 
 pub read_table-payload-requires-clause-word : goal.read_table-payload-requires-clause-word
 read_table-payload-requires-clause-word c =
-    subst (λ (z : ℕ). z < size (class_of (name_of c.args.table))) (sym c.word_at-2.ensures) (inside (shape_of c.args.bank.now) c.args.table c.requires.table c.args.place 2 c.requires.place (omega arith))
+    subst (λ (z : ℕ). z < size (class_of (table_id c.args.table))) (sym c.word_at-2.ensures) (inside (shape_of c.args.bank.now) c.args.table c.requires.table c.args.place 2 c.requires.place (omega arith))
 
 pub returns-in-Some-clause-reads : goal.returns-in-Some-clause-reads
 returns-in-Some-clause-reads c =
     let a = c.args in
     let k = shape_of a.bank.now in
-    let t = name_of a.table in
+    let t = table_id a.table in
     let p = a.pass.now in
     let q = c.read_table-kind.new.pass in
     let r = c.read_table-payload.new.pass in
@@ -51,10 +51,10 @@ returns-in-Some-clause-reads c =
     let two = item_offset a.place 2 in
     let first : Reads k a.l (λ x. root_in x ≡ suc t → kind ≡ slice_index x.table one) p q = reads_table k a.l t one kind p q (named k a.table c.requires.table) (inside k a.table c.requires.table a.place 1 c.requires.place (omega arith))
     (subst (λ (z : ℕ). DidAll (ReadTable t z kind ∷ []) p q) c.word_at.ensures c.read_table-kind.ensures.did)
-    (λ o low mine names. c.read_table-kind.ensures.held o low mine names ∙ ap (slice_index (held o (view p)).table) c.word_at.ensures) in
+    (λ o low mine names. c.read_table-kind.ensures.held o low mine names ∙ ap (slice_index (held_words o (view p)).table) c.word_at.ensures) in
     let second : Reads k a.l (λ x. root_in x ≡ suc t → payload ≡ slice_index x.table two) q r = reads_table k a.l t two payload q r (named k a.table c.requires.table) (inside k a.table c.requires.table a.place 2 c.requires.place (omega arith))
     (subst (λ (z : ℕ). DidAll (ReadTable t z payload ∷ []) q r) c.word_at-2.ensures c.read_table-payload.ensures.did)
-    (λ o low mine names. c.read_table-payload.ensures.held o low mine names ∙ ap (slice_index (held o (view q)).table) c.word_at-2.ensures) in
+    (λ o low mine names. c.read_table-payload.ensures.held o low mine names ∙ ap (slice_index (held_words o (view q)).table) c.word_at-2.ensures) in
     reads_map k a.l (λ x. (root_in x ≡ suc t → kind ≡ slice_index x.table one) × (root_in x ≡ suc t → payload ≡ slice_index x.table two)) (IsItemValue t a.place c.in-Some.found) p r
     (λ x both names value stored.
     let read : IsStored kind payload (Plain value) = subst (λ (z : ℕ × ℕ). IsStored z.0 z.1 (Plain value)) (λ d. (sym (both.0 names) d, sym (both.1 names) d)) stored in
@@ -67,7 +67,7 @@ pub returns-in-None-clause-reads : goal.returns-in-None-clause-reads
 returns-in-None-clause-reads c =
     let a = c.args in
     let k = shape_of a.bank.now in
-    let t = name_of a.table in
+    let t = table_id a.table in
     let p = a.pass.now in
     let q = c.read_table-kind.new.pass in
     let r = c.read_table-payload.new.pass in
@@ -77,10 +77,10 @@ returns-in-None-clause-reads c =
     let two = item_offset a.place 2 in
     let first : Reads k a.l (λ x. root_in x ≡ suc t → kind ≡ slice_index x.table one) p q = reads_table k a.l t one kind p q (named k a.table c.requires.table) (inside k a.table c.requires.table a.place 1 c.requires.place (omega arith))
     (subst (λ (z : ℕ). DidAll (ReadTable t z kind ∷ []) p q) c.word_at.ensures c.read_table-kind.ensures.did)
-    (λ o low mine names. c.read_table-kind.ensures.held o low mine names ∙ ap (slice_index (held o (view p)).table) c.word_at.ensures) in
+    (λ o low mine names. c.read_table-kind.ensures.held o low mine names ∙ ap (slice_index (held_words o (view p)).table) c.word_at.ensures) in
     let second : Reads k a.l (λ x. root_in x ≡ suc t → payload ≡ slice_index x.table two) q r = reads_table k a.l t two payload q r (named k a.table c.requires.table) (inside k a.table c.requires.table a.place 2 c.requires.place (omega arith))
     (subst (λ (z : ℕ). DidAll (ReadTable t z payload ∷ []) q r) c.word_at-2.ensures c.read_table-payload.ensures.did)
-    (λ o low mine names. c.read_table-payload.ensures.held o low mine names ∙ ap (slice_index (held o (view q)).table) c.word_at-2.ensures) in
+    (λ o low mine names. c.read_table-payload.ensures.held o low mine names ∙ ap (slice_index (held_words o (view q)).table) c.word_at-2.ensures) in
     reads_map k a.l (λ x. (root_in x ≡ suc t → kind ≡ slice_index x.table one) × (root_in x ≡ suc t → payload ≡ slice_index x.table two)) (IsItemValue t a.place None) p r
     (λ x both names value stored.
     let read : IsStored kind payload (Plain value) = subst (λ (z : ℕ × ℕ). IsStored z.0 z.1 (Plain value)) (λ d. (sym (both.0 names) d, sym (both.1 names) d)) stored in

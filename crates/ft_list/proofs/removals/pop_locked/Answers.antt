@@ -15,7 +15,7 @@ use Rattle.ft_model.specs.declared.reply.Raise.TheVariants as raise
 use Rattle.ft_model.specs.Lists.{index_in}
 use Rattle.ft_trace.specs.declared.Act.TheVariants.{ReadBlock}
 use Rattle.ft_trace.specs.declared.Shape.{Shape}
-use Rattle.ft_trace.specs.Addresses.{containers_in}
+use Rattle.ft_trace.specs.Addresses.{container_count}
 use Rattle.ft_bank.specs.Passes.{shape_of, view}
 use Rattle.ft_bank.proofs.KnownAfterWrites.{loaded_then}
 use Rattle.ft_list.specs.ListWrites.{Changes}
@@ -44,7 +44,7 @@ returns-in-Some-clause-made c =
     let same : values ≡ known_items a.l t = items_loaded a.l t y f.only in
     let long : c.count_of-count.result ≡ length values = c.count_of-count.ensures.count ∙ sym (ap length (same ∙ (e.items ∙ c.count_of-count.ensures.items))) in
     let means : index_in (length values) z ≡ Some c.in-Some.place = sym (λ d. index_in (long d) (index d)) ∙ (sym c.place_in.ensures.answer ∙ c.in-Some.is) in
-    let low : a.l < containers_in y.shape = subst (λ (s : Shape). a.l < containers_in s) (sym f.pass.1) may.container in
+    let low : a.l < container_count y.shape = subst (λ (s : Shape). a.l < container_count s) (sym f.pass.1) may.container in
     let item : slice_index_or values c.in-Some.place value.Nothing ≡ c.item_at-item.result = ap (λ (l : List Value). slice_index_or l c.in-Some.place value.Nothing) same ∙ sym f.item in
     let changes = pop_changes a.l a.index values c.in-Some.place y low may.locked (content_of k a.l y f.pass.1 c.item_at-item.new.pass.possible may) means in
     wrote_as k a.l (list.Pop a.index) (reply.Value c.item_at-item.result) v y x f.pass.1 c.item_at-item.new.pass.possible may

@@ -7,7 +7,7 @@ use Rattle.ft_model.specs.declared.reply.Reply.TheVariants as reply
 use Rattle.ft_model.specs.declared.reply.Raise.TheVariants as raise
 use Rattle.ft_model.specs.Lists.{index_of}
 use Rattle.ft_trace.specs.declared.Shape.{Shape}
-use Rattle.ft_trace.specs.Addresses.{containers_in}
+use Rattle.ft_trace.specs.Addresses.{container_count}
 use Rattle.ft_bank.specs.Passes.{shape_of, view}
 use Rattle.ft_bank.proofs.KnownAfterWrites.{loaded_then}
 use Rattle.ft_list.specs.ListItemWrites.{known_items}
@@ -53,7 +53,7 @@ remove_item-number-requires-clause-place c =
     let values = known_items a.l n in
     let items : values ≡ known_items a.l (view p) = e.items ∙ (c.table_of-table.ensures.items ∙ items_loaded a.l (view p) (view q) loaded) in
     let means : index_of values a.value ≡ Some c.in-Some.place = ap (λ (l : List Value). index_of l a.value) items ∙ (sym is ∙ c.in-Some.is) in
-    let low : a.l < containers_in n.shape = subst (λ (z : Shape). a.l < containers_in z) (sym e.pass.1) e.may.container in
+    let low : a.l < container_count n.shape = subst (λ (z : Shape). a.l < container_count z) (sym e.pass.1) e.may.container in
     let inside = first_low values a.value c.in-Some.place means in
     let count : c.count_of-count.result ≡ length values = e.count ∙ sym (ap length e.items) in
     omega (arith, inside, count)
@@ -73,7 +73,7 @@ remove_item-number-requires-clause-call c =
     let values = known_items a.l n in
     let items : values ≡ known_items a.l (view p) = e.items ∙ (c.table_of-table.ensures.items ∙ items_loaded a.l (view p) (view q) loaded) in
     let means : index_of values a.value ≡ Some c.in-Some.place = ap (λ (l : List Value). index_of l a.value) items ∙ (sym is ∙ c.in-Some.is) in
-    let low : a.l < containers_in n.shape = subst (λ (z : Shape). a.l < containers_in z) (sym e.pass.1) e.may.container in
+    let low : a.l < container_count n.shape = subst (λ (z : Shape). a.l < container_count z) (sym e.pass.1) e.may.container in
     (list.Remove a.value, refl, remove_changes a.l a.value values c.in-Some.place n low e.may.locked (content_of k a.l n e.pass.1 c.count_of-count.new.pass.possible e.may) c.value_fits.ensures means)
 
 pub raise-stamp-requires-clause-may : goal.raise-stamp-requires-clause-may
@@ -110,7 +110,7 @@ returns-in-Some-clause-made c =
     let values = known_items a.l n in
     let items : values ≡ known_items a.l (view p) = e.items ∙ (c.table_of-table.ensures.items ∙ items_loaded a.l (view p) (view q) loaded) in
     let means : index_of values a.value ≡ Some c.in-Some.place = ap (λ (l : List Value). index_of l a.value) items ∙ (sym is ∙ c.in-Some.is) in
-    let low : a.l < containers_in n.shape = subst (λ (z : Shape). a.l < containers_in z) (sym e.pass.1) e.may.container in
+    let low : a.l < container_count n.shape = subst (λ (z : Shape). a.l < container_count z) (sym e.pass.1) e.may.container in
     let only = loaded_then (view p) (view q) n loaded (loaded_then (view q) (view c.table_of-table.new.pass) n c.table_of-table.ensures.only e.only) in
     wrote_as k a.l (list.Remove a.value) reply.Done (view p) n (view c.remove_item-number.new.pass) e.pass.1 c.count_of-count.new.pass.possible e.may only c.remove_item-number.result (remove values c.in-Some.place)
     (remove_changes a.l a.value values c.in-Some.place n low e.may.locked (content_of k a.l n e.pass.1 c.count_of-count.new.pass.possible e.may) c.value_fits.ensures means) c.remove_item-number.ensures.wrote c.remove_item-number.ensures.root

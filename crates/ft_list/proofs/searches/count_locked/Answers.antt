@@ -4,7 +4,7 @@ use Rattle.ft_model.specs.declared.call.ListCall.TheVariants as list
 use Rattle.ft_model.specs.declared.reply.Reply.TheVariants as reply
 use Rattle.ft_model.specs.Lists.{count_of}
 use Rattle.ft_trace.specs.declared.Shape.{Shape}
-use Rattle.ft_trace.specs.Addresses.{containers_in}
+use Rattle.ft_trace.specs.Addresses.{container_count}
 use Rattle.ft_bank.specs.Passes.{shape_of, view}
 use Rattle.ft_search.specs.MadeCalls.{IsReplyTo}
 use Rattle.ft_list.proofs.Lists.{content_of}
@@ -25,7 +25,7 @@ answer_held-requires-clause-shown c n =
     let called = call.List a.l (list.Count a.value) in
     let said = reply.Count found in
     let is = items_hold k a.l (λ items. found ≡ count_of items a.value) p q r shape may in
-    let replied : IsReplyTo called said (view p) = count_replied a.l _ (view p) (subst (λ (z : Shape). a.l < containers_in z) (sym shape) may.container) may.locked (content_of k a.l (view p) shape p.possible may) a.value found is in
+    let replied : IsReplyTo called said (view p) = count_replied a.l _ (view p) (subst (λ (z : Shape). a.l < container_count z) (sym shape) may.container) may.locked (content_of k a.l (view p) shape p.possible may) a.value found is in
     let loaded = scan_loaded k a.l (λ items. found ≡ count_of items a.value) p q r shape may in
     (read_shown called said (count_plain a.l a.value found) (view p) (view q) loaded replied n may.left)
 
@@ -42,7 +42,7 @@ returns-clause-made c =
     let called = call.List a.l (list.Count a.value) in
     let said = reply.Count found in
     let is = items_hold k a.l (λ items. found ≡ count_of items a.value) p q r shape may in
-    let replied : IsReplyTo called said (view p) = count_replied a.l _ (view p) (subst (λ (z : Shape). a.l < containers_in z) (sym shape) may.container) may.locked (content_of k a.l (view p) shape p.possible may) a.value found is in
+    let replied : IsReplyTo called said (view p) = count_replied a.l _ (view p) (subst (λ (z : Shape). a.l < container_count z) (sym shape) may.container) may.locked (content_of k a.l (view p) shape p.possible may) a.value found is in
     let loaded = scan_loaded k a.l (λ items. found ≡ count_of items a.value) p q r shape may in
     let e = c.answer_held.ensures in
     let z = view c.answer_held.new.pass in

@@ -6,8 +6,8 @@ use Rattle.ft_model.specs.declared.reply.Reply.TheVariants as reply
 use Rattle.ft_model.specs.Lists.{index_of}
 use Rattle.ft_trace.specs.declared.Act.TheVariants.{ReadCounter}
 use Rattle.ft_trace.specs.declared.Shape.{Shape}
-use Rattle.ft_trace.specs.Acts.{noted}
-use Rattle.ft_trace.specs.Addresses.{containers_in}
+use Rattle.ft_trace.specs.Acts.{view_after}
+use Rattle.ft_trace.specs.Addresses.{container_count}
 use Rattle.ft_bank.specs.Passes.{shape_of, view}
 use Rattle.ft_bank.specs.Reads.{IsShown}
 use Rattle.ft_search.specs.MadeCalls.{IsReplyTo}
@@ -29,9 +29,9 @@ answer_held-requires-clause-shown c n =
     let called = call.List a.l (list.Has a.value) in
     let said = reply.Truth (is_some found) in
     let is = items_hold k a.l (λ items. found ≡ index_of items a.value) p q r shape may in
-    let replied : IsReplyTo called said (view p) = has_replied a.l _ (view p) (subst (λ (z : Shape). a.l < containers_in z) (sym shape) may.container) may.locked (content_of k a.l (view p) shape p.possible may) a.value found is in
+    let replied : IsReplyTo called said (view p) = has_replied a.l _ (view p) (subst (λ (z : Shape). a.l < container_count z) (sym shape) may.container) may.locked (content_of k a.l (view p) shape p.possible may) a.value found is in
     let loaded = scan_loaded k a.l (λ items. found ≡ index_of items a.value) p q r shape may in
-    subst (λ (b : Bool). IsShown (noted (ReadCounter n) (view q)) called (reply.Truth b) n) (sym c.is_some.ensures) (read_shown called said (has_plain a.l a.value (is_some found)) (view p) (view q) loaded replied n may.left)
+    subst (λ (b : Bool). IsShown (view_after (ReadCounter n) (view q)) called (reply.Truth b) n) (sym c.is_some.ensures) (read_shown called said (has_plain a.l a.value (is_some found)) (view p) (view q) loaded replied n may.left)
 
 pub returns-clause-made : goal.returns-clause-made
 returns-clause-made c =
@@ -46,7 +46,7 @@ returns-clause-made c =
     let called = call.List a.l (list.Has a.value) in
     let said = reply.Truth (is_some found) in
     let is = items_hold k a.l (λ items. found ≡ index_of items a.value) p q r shape may in
-    let replied : IsReplyTo called said (view p) = has_replied a.l _ (view p) (subst (λ (z : Shape). a.l < containers_in z) (sym shape) may.container) may.locked (content_of k a.l (view p) shape p.possible may) a.value found is in
+    let replied : IsReplyTo called said (view p) = has_replied a.l _ (view p) (subst (λ (z : Shape). a.l < container_count z) (sym shape) may.container) may.locked (content_of k a.l (view p) shape p.possible may) a.value found is in
     let loaded = scan_loaded k a.l (λ items. found ≡ index_of items a.value) p q r shape may in
     let e = c.answer_held.ensures in
     let z = view c.answer_held.new.pass in

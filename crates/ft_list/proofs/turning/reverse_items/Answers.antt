@@ -3,9 +3,9 @@ use Rattle.std.specs.Prelude.{reverse}
 use Rattle.std.proofs.lemmas.List.{length-reverse}
 use Rattle.ft_layout.specs.Containers.{IsBlock}
 use Rattle.ft_trace.specs.Addresses.{class_of}
-use Rattle.ft_trace.specs.Holds.{held}
+use Rattle.ft_trace.specs.Holds.{held_words}
 use Rattle.ft_bank.specs.Passes.{shape_of, view}
-use Rattle.ft_bank.specs.TableNames.{name_of}
+use Rattle.ft_bank.specs.TableNames.{table_id}
 use Rattle.ft_list.specs.ListItemWrites.{known_items, IsChanging}
 use Rattle.ft_list.specs.Reversing.{IsTurning}
 use Rattle.ft_list.proofs.Cares.{table_class}
@@ -30,13 +30,13 @@ finish-requires-clause-may c =
     let e = c.turn.ensures in
     let values = known_items a.o v in
     let news = reverse values in
-    let class = class_of (name_of a.table) in
+    let class = class_of (table_id a.table) in
     let is_class = table_class k a.table c.requires.table.table_in in
     let count : length values ≡ a.count = sym c.requires.count in
     let turning = e.turned values count (b.putting 0 a.count) in
-    let changing = subst (λ (n : ℕ). IsChanging class values news 0 n (held a.o u).table) count
-    (turning_ends class is_class values (held a.o u).table (subst (λ (n : ℕ). IsTurning class values (n / 2) (held a.o u).table) (sym count) turning) b.few) in
-    let head = subst (λ (n : ℕ). IsBlock (held a.o u).block (Some class) n 0 0) (sym (length-reverse values)) (subst (λ (l : List ℕ). IsBlock l (Some class) (length values) 0 0) (sym e.block) b.head) in
+    let changing = subst (λ (n : ℕ). IsChanging class values news 0 n (held_words a.o u).table) count
+    (turning_ends class is_class values (held_words a.o u).table (subst (λ (n : ℕ). IsTurning class values (n / 2) (held_words a.o u).table) (sym count) turning) b.few) in
+    let head = subst (λ (n : ℕ). IsBlock (held_words a.o u).block (Some class) n 0 0) (sym (length-reverse values)) (subst (λ (l : List ℕ). IsBlock l (Some class) (length values) 0 0) (sym e.block) b.head) in
     let d = b.did in
     let call_is = c.requires.call in
     finishing k a.o a.table v s u d.0 c.requires.may d.1.1 e.only 0 a.count call_is.0 a.called.now a.said.now values news call_is.1 call_is.2 b.content b.table e.list e.pass.1 changing head

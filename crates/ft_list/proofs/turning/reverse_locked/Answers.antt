@@ -6,8 +6,8 @@ use Rattle.ft_model.specs.declared.reply.Reply.TheVariants as reply
 use Rattle.ft_trace.specs.declared.Act.TheVariants.{ReadBlock}
 use Rattle.ft_trace.specs.declared.Shape.{Shape}
 use Rattle.ft_trace.specs.declared.View.{View}
-use Rattle.ft_trace.specs.Addresses.{containers_in}
-use Rattle.ft_trace.specs.Holds.{held, known}
+use Rattle.ft_trace.specs.Addresses.{container_count}
+use Rattle.ft_trace.specs.Holds.{held_words, known_state}
 use Rattle.ft_trace.specs.Pictures.{root_in}
 use Rattle.ft_bank.specs.Passes.{shape_of, view}
 use Rattle.ft_bank.proofs.KnownAfterWrites.{loaded_by, loaded_then, loaded_held}
@@ -35,7 +35,7 @@ reverse_items-number-requires-clause-may c =
     let may = may_loaded k a.l u t only e.may in
     let shape = ap (λ (z : View). z.shape) f.did.1 ∙ e.pass.1 in
     let values = known_items a.l t in
-    let low : a.l < containers_in t.shape = subst (λ (s : Shape). a.l < containers_in s) (sym shape) may.container in
+    let low : a.l < container_count t.shape = subst (λ (s : Shape). a.l < container_count s) (sym shape) may.container in
     let is_list = content_of k a.l t shape c.read_block-root.new.pass.possible may in
     let turned = reverse_changes a.l values t low may.locked is_list in
     may
@@ -54,7 +54,7 @@ reverse_items-number-requires-clause-table c =
     let may = may_loaded k a.l u t only e.may in
     let shape = ap (λ (z : View). z.shape) f.did.1 ∙ e.pass.1 in
     let values = known_items a.l t in
-    let low : a.l < containers_in t.shape = subst (λ (s : Shape). a.l < containers_in s) (sym shape) may.container in
+    let low : a.l < container_count t.shape = subst (λ (s : Shape). a.l < container_count s) (sym shape) may.container in
     let is_list = content_of k a.l t shape c.read_block-root.new.pass.possible may in
     let turned = reverse_changes a.l values t low may.locked is_list in
     record {
@@ -76,7 +76,7 @@ reverse_items-number-requires-clause-count c =
     let may = may_loaded k a.l u t only e.may in
     let shape = ap (λ (z : View). z.shape) f.did.1 ∙ e.pass.1 in
     let values = known_items a.l t in
-    let low : a.l < containers_in t.shape = subst (λ (s : Shape). a.l < containers_in s) (sym shape) may.container in
+    let low : a.l < container_count t.shape = subst (λ (s : Shape). a.l < container_count s) (sym shape) may.container in
     let is_list = content_of k a.l t shape c.read_block-root.new.pass.possible may in
     let turned = reverse_changes a.l values t low may.locked is_list in
     e.count ∙ sym (ap length (items_loaded a.l u t only ∙ e.items))
@@ -95,7 +95,7 @@ reverse_items-number-requires-clause-call c =
     let may = may_loaded k a.l u t only e.may in
     let shape = ap (λ (z : View). z.shape) f.did.1 ∙ e.pass.1 in
     let values = known_items a.l t in
-    let low : a.l < containers_in t.shape = subst (λ (s : Shape). a.l < containers_in s) (sym shape) may.container in
+    let low : a.l < container_count t.shape = subst (λ (s : Shape). a.l < container_count s) (sym shape) may.container in
     let is_list = content_of k a.l t shape c.read_block-root.new.pass.possible may in
     let turned = reverse_changes a.l values t low may.locked is_list in
     (list.Reverse, refl, turned)
@@ -114,7 +114,7 @@ write_nothing-number-requires-clause-may c =
     let may = may_loaded k a.l u t only e.may in
     let shape = ap (λ (z : View). z.shape) f.did.1 ∙ e.pass.1 in
     let values = known_items a.l t in
-    let low : a.l < containers_in t.shape = subst (λ (s : Shape). a.l < containers_in s) (sym shape) may.container in
+    let low : a.l < container_count t.shape = subst (λ (s : Shape). a.l < container_count s) (sym shape) may.container in
     let is_list = content_of k a.l t shape c.read_block-root.new.pass.possible may in
     let turned = reverse_changes a.l values t low may.locked is_list in
     may
@@ -133,11 +133,11 @@ write_nothing-number-requires-clause-bare c =
     let may = may_loaded k a.l u t only e.may in
     let shape = ap (λ (z : View). z.shape) f.did.1 ∙ e.pass.1 in
     let values = known_items a.l t in
-    let low : a.l < containers_in t.shape = subst (λ (s : Shape). a.l < containers_in s) (sym shape) may.container in
+    let low : a.l < container_count t.shape = subst (λ (s : Shape). a.l < container_count s) (sym shape) may.container in
     let is_list = content_of k a.l t shape c.read_block-root.new.pass.possible may in
     let turned = reverse_changes a.l values t low may.locked is_list in
-    let none : root_in (held a.l t) ≡ 0 = ap root_in (loaded_held u t a.l only) ∙ (sym (f.held e.may.locked) ∙ c.in-None.ensures.none k (λ n x. f.table n refl x)) in
-    let same : reverse values ≡ values = reversed_none values (no_items k.texts (held a.l t) (known a.l t) none may.stands) in
+    let none : root_in (held_words a.l t) ≡ 0 = ap root_in (loaded_held u t a.l only) ∙ (sym (f.held e.may.locked) ∙ c.in-None.ensures.none k (λ n x. f.table n refl x)) in
+    let same : reverse values ≡ values = reversed_none values (no_items k.texts (held_words a.l t) (known_state a.l t) none may.stands) in
     let stays = subst (λ (z : List Value). Changes a.l list.Reverse reply.Done values z t) same turned in
     none
 
@@ -155,11 +155,11 @@ write_nothing-number-requires-clause-leaves c =
     let may = may_loaded k a.l u t only e.may in
     let shape = ap (λ (z : View). z.shape) f.did.1 ∙ e.pass.1 in
     let values = known_items a.l t in
-    let low : a.l < containers_in t.shape = subst (λ (s : Shape). a.l < containers_in s) (sym shape) may.container in
+    let low : a.l < container_count t.shape = subst (λ (s : Shape). a.l < container_count s) (sym shape) may.container in
     let is_list = content_of k a.l t shape c.read_block-root.new.pass.possible may in
     let turned = reverse_changes a.l values t low may.locked is_list in
-    let none : root_in (held a.l t) ≡ 0 = ap root_in (loaded_held u t a.l only) ∙ (sym (f.held e.may.locked) ∙ c.in-None.ensures.none k (λ n x. f.table n refl x)) in
-    let same : reverse values ≡ values = reversed_none values (no_items k.texts (held a.l t) (known a.l t) none may.stands) in
+    let none : root_in (held_words a.l t) ≡ 0 = ap root_in (loaded_held u t a.l only) ∙ (sym (f.held e.may.locked) ∙ c.in-None.ensures.none k (λ n x. f.table n refl x)) in
+    let same : reverse values ≡ values = reversed_none values (no_items k.texts (held_words a.l t) (known_state a.l t) none may.stands) in
     let stays = subst (λ (z : List Value). Changes a.l list.Reverse reply.Done values z t) same turned in
     leaves_same a.l list.Reverse reply.Done values t low may.locked is_list stays
 
@@ -177,7 +177,7 @@ returns-in-Some-clause-made c =
     let may = may_loaded k a.l u t only e.may in
     let shape = ap (λ (z : View). z.shape) f.did.1 ∙ e.pass.1 in
     let values = known_items a.l t in
-    let low : a.l < containers_in t.shape = subst (λ (s : Shape). a.l < containers_in s) (sym shape) may.container in
+    let low : a.l < container_count t.shape = subst (λ (s : Shape). a.l < container_count s) (sym shape) may.container in
     let is_list = content_of k a.l t shape c.read_block-root.new.pass.possible may in
     let turned = reverse_changes a.l values t low may.locked is_list in
     wrote_as k a.l list.Reverse reply.Done v t (view c.reverse_items-number.new.pass) shape c.read_block-root.new.pass.possible may (loaded_then v u t e.only only) c.reverse_items-number.result (reverse values) turned
@@ -197,11 +197,11 @@ returns-in-None-clause-made c =
     let may = may_loaded k a.l u t only e.may in
     let shape = ap (λ (z : View). z.shape) f.did.1 ∙ e.pass.1 in
     let values = known_items a.l t in
-    let low : a.l < containers_in t.shape = subst (λ (s : Shape). a.l < containers_in s) (sym shape) may.container in
+    let low : a.l < container_count t.shape = subst (λ (s : Shape). a.l < container_count s) (sym shape) may.container in
     let is_list = content_of k a.l t shape c.read_block-root.new.pass.possible may in
     let turned = reverse_changes a.l values t low may.locked is_list in
-    let none : root_in (held a.l t) ≡ 0 = ap root_in (loaded_held u t a.l only) ∙ (sym (f.held e.may.locked) ∙ c.in-None.ensures.none k (λ n x. f.table n refl x)) in
-    let same : reverse values ≡ values = reversed_none values (no_items k.texts (held a.l t) (known a.l t) none may.stands) in
+    let none : root_in (held_words a.l t) ≡ 0 = ap root_in (loaded_held u t a.l only) ∙ (sym (f.held e.may.locked) ∙ c.in-None.ensures.none k (λ n x. f.table n refl x)) in
+    let same : reverse values ≡ values = reversed_none values (no_items k.texts (held_words a.l t) (known_state a.l t) none may.stands) in
     let stays = subst (λ (z : List Value). Changes a.l list.Reverse reply.Done values z t) same turned in
     wrote_as k a.l list.Reverse reply.Done v t (view c.write_nothing-number.new.pass) shape c.read_block-root.new.pass.possible may (loaded_then v u t e.only only) c.write_nothing-number.result values stays
     c.write_nothing-number.ensures.wrote c.write_nothing-number.ensures.root

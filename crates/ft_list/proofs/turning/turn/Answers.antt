@@ -1,8 +1,8 @@
 use Rattle.std.proofs.Common.{◌≡◌, ℕ, ◌/◌, refl, sym, ◌∙◌, subst, arith}
 use Rattle.ft_trace.specs.Addresses.{class_of}
-use Rattle.ft_trace.specs.Holds.{held}
+use Rattle.ft_trace.specs.Holds.{held_words}
 use Rattle.ft_bank.specs.Passes.{shape_of, view}
-use Rattle.ft_bank.specs.TableNames.{name_of}
+use Rattle.ft_bank.specs.TableNames.{table_id}
 use Rattle.ft_bank.proofs.KnownAfterWrites.{put_same, put_then}
 use Rattle.ft_list.specs.ListItemWrites.{IsPutting, stored_item}
 use Rattle.ft_list.specs.Reversing.{IsTurning}
@@ -14,7 +14,7 @@ pub loop-at-init : goal.loop-at-init
 loop-at-init c =
     let a = c.args in
     let v = view a.pass.now in
-    let class = class_of (name_of a.table) in
+    let class = class_of (table_id a.table) in
     record {
       pass = c.requires.pass;
       stack = refl;
@@ -22,8 +22,8 @@ loop-at-init c =
       early = c.requires.early;
       only = put_same v a.o;
       block = refl;
-      turning = λ values long putting. turning_starts class (table_class (shape_of a.bank.now) a.table c.requires.list.table_in) values (held a.o v).table
-          (subst (λ (n : ℕ). IsPutting class values 0 n (stored_item values) (held a.o v).table) (sym long) putting);
+      turning = λ values long putting. turning_starts class (table_class (shape_of a.bank.now) a.table c.requires.list.table_in) values (held_words a.o v).table
+          (subst (λ (n : ℕ). IsPutting class values 0 n (stored_item values) (held_words a.o v).table) (sym long) putting);
     }
 
 pub loop-at-preserved : goal.loop-at-preserved
@@ -48,4 +48,4 @@ pub returns-clause-turned : goal.returns-clause-turned
 returns-clause-turned c values long putting =
     let a = c.args in
     let at : c.loop-at.at ≡ a.count / 2 = let t = c.loop-at-test.false in let e = c.loop-at.auto.at-end in omega (arith, t, e) in
-    subst (λ (n : ℕ). IsTurning (class_of (name_of a.table)) values n (held a.o (view c.loop-at.pass)).table) at (c.loop-at.invariant.turning values long putting)
+    subst (λ (n : ℕ). IsTurning (class_of (table_id a.table)) values n (held_words a.o (view c.loop-at.pass)).table) at (c.loop-at.invariant.turning values long putting)

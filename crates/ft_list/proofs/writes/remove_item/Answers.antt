@@ -5,10 +5,10 @@ use Rattle.ft_layout.specs.Containers.{IsBlock}
 use Rattle.ft_trace.specs.declared.Act.TheVariants.{PutBlock}
 use Rattle.ft_trace.specs.declared.View.{View}
 use Rattle.ft_trace.specs.Addresses.{class_of}
-use Rattle.ft_trace.specs.Pictures.{Picture}
-use Rattle.ft_trace.specs.Holds.{held}
+use Rattle.ft_trace.specs.Pictures.{ContainerWords}
+use Rattle.ft_trace.specs.Holds.{held_words}
 use Rattle.ft_bank.specs.Passes.{shape_of, view}
-use Rattle.ft_bank.specs.TableNames.{name_of}
+use Rattle.ft_bank.specs.TableNames.{table_id}
 use Rattle.ft_bank.specs.Whole.{OnlyPut}
 use Rattle.ft_bank.proofs.KnownAfterWrites.{put_by, put_then}
 use Rattle.ft_list.specs.ListItemWrites.{IsMoving, known_items}
@@ -33,7 +33,7 @@ finish-requires-clause-may c =
     let e = c.shift_down.ensures in
     let values = known_items a.o v in
     let news = remove values a.place in
-    let class = class_of (name_of a.table) in
+    let class = class_of (table_id a.table) in
     let is_class = table_class k a.table c.requires.table.table_in in
     let count : length values ≡ a.count = sym c.requires.count in
     let place = c.requires.place in
@@ -42,13 +42,13 @@ finish-requires-clause-may c =
     let held_is = c.put_block.ensures.held in
     let last = put_by (PutBlock a.o 1 (a.count - 1)) y u a.o tt c.put_block.ensures.did.1 c.put_block.ensures.keeps in
     let only : OnlyPut a.o s u = put_then s y u a.o e.only last in
-    let moving = subst (λ (w : Picture). IsMoving class values news a.place (a.count) (a.count) w.table) (sym held_is) (e.moved values count (b.putting a.place (a.count))) in
-    let changing = moving_ends class is_class values news a.place (a.count) (a.count) (held a.o u).table moving (omega (arith, long, few, count))
+    let moving = subst (λ (w : ContainerWords). IsMoving class values news a.place (a.count) (a.count) w.table) (sym held_is) (e.moved values count (b.putting a.place (a.count))) in
+    let changing = moving_ends class is_class values news a.place (a.count) (a.count) (held_words a.o u).table moving (omega (arith, long, few, count))
     (λ p more. stored_none values p (omega (arith, more, count)) ∙ sym (stored_none news p (omega (arith, more, long, count, place)))) in
-    let block : (held a.o y).block ≡ (held a.o s).block = e.block in
-    let head = subst (λ (w : Picture). IsBlock w.block (Some class) (length news) 0 0) (sym held_is)
-    (subst (λ (n : ℕ). IsBlock (slice_set (held a.o y).block 1 (a.count - 1)) (Some class) n 0 0) (sym long)
-    (with_count (held a.o y).block (Some class) (length values) (a.count - 1) (subst (λ (l : List ℕ). IsBlock l (Some class) (length values) 0 0) (sym block) b.head))) in
+    let block : (held_words a.o y).block ≡ (held_words a.o s).block = e.block in
+    let head = subst (λ (w : ContainerWords). IsBlock w.block (Some class) (length news) 0 0) (sym held_is)
+    (subst (λ (n : ℕ). IsBlock (slice_set (held_words a.o y).block 1 (a.count - 1)) (Some class) n 0 0) (sym long)
+    (with_count (held_words a.o y).block (Some class) (length values) (a.count - 1) (subst (λ (l : List ℕ). IsBlock l (Some class) (length values) 0 0) (sym block) b.head))) in
     let list = writes_on k a.o a.table y u last (root_stays _ _ _ _ (omega arith) c.put_block.ensures.held) e.list in
     let d = b.did in
     let call_is = c.requires.call in

@@ -3,9 +3,9 @@ use Rattle.std.specs.Prelude.{slice_set}
 use Rattle.ft_layout.specs.declared.slot.Stored.TheVariants.{Plain}
 use Rattle.ft_layout.specs.Containers.{IsBlock}
 use Rattle.ft_trace.specs.Addresses.{class_of}
-use Rattle.ft_trace.specs.Holds.{held}
+use Rattle.ft_trace.specs.Holds.{held_words}
 use Rattle.ft_bank.specs.Passes.{shape_of, view}
-use Rattle.ft_bank.specs.TableNames.{name_of}
+use Rattle.ft_bank.specs.TableNames.{table_id}
 use Rattle.ft_list.specs.ListItemWrites.{known_items, stored_item, but_at}
 use Rattle.ft_list.proofs.Cares.{table_class}
 use Rattle.ft_list.proofs.ItemWordsPut.{putting_put, putting_ends, stored_set}
@@ -29,13 +29,13 @@ finish-requires-clause-may c =
     let e = c.put_item.ensures in
     let values = known_items a.o v in
     let news = slice_set values a.place a.value in
-    let class = class_of (name_of a.table) in
+    let class = class_of (table_id a.table) in
     let is_class = table_class k a.table c.requires.table.table_in in
     let long : length news ≡ length values = length-set values a.place a.value in
     let few = b.few in
-    let putting = putting_put class is_class values a.place (a.place + 1) (stored_item values) (held a.o s) (held a.o u) a.place (Plain a.value) (b.putting a.place (a.place + 1)) e.puts c.requires.value (omega arith) (omega arith) in
-    let changing = putting_ends class is_class values news a.place (a.place + 1) (but_at (stored_item values) a.place (Plain a.value)) (held a.o u).table putting (omega (arith, long, few)) (λ p low. stored_set values a.place p a.value c.requires.place) in
-    let head = subst (λ (n : ℕ). IsBlock (held a.o u).block (Some class) n 0 0) (sym long) (subst (λ (l : List ℕ). IsBlock l (Some class) (length values) 0 0) (sym e.block) b.head) in
+    let putting = putting_put class is_class values a.place (a.place + 1) (stored_item values) (held_words a.o s) (held_words a.o u) a.place (Plain a.value) (b.putting a.place (a.place + 1)) e.puts c.requires.value (omega arith) (omega arith) in
+    let changing = putting_ends class is_class values news a.place (a.place + 1) (but_at (stored_item values) a.place (Plain a.value)) (held_words a.o u).table putting (omega (arith, long, few)) (λ p low. stored_set values a.place p a.value c.requires.place) in
+    let head = subst (λ (n : ℕ). IsBlock (held_words a.o u).block (Some class) n 0 0) (sym long) (subst (λ (l : List ℕ). IsBlock l (Some class) (length values) 0 0) (sym e.block) b.head) in
     let d = b.did in
     let call_is = c.requires.call in
     finishing k a.o a.table v s u d.0 c.requires.may d.1.1 e.only a.place (a.place + 1) call_is.0 a.called.now a.said.now values news call_is.1 call_is.2 b.content b.table e.list e.pass.1 changing head

@@ -1,9 +1,9 @@
 use Rattle.std.proofs.Common.{◌≡◌, ◌%◌, sym, ap, ◌∙◌, arith}
-use Rattle.ft_trace.specs.Holds.{held}
-use Rattle.ft_trace.specs.Pictures.{Picture}
+use Rattle.ft_trace.specs.Holds.{held_words}
+use Rattle.ft_trace.specs.Pictures.{ContainerWords}
 use Rattle.ft_trace.proofs.DictWrites.{EntryVersionsChangeNothing}
 use Rattle.ft_bank.specs.Passes.{shape_of, view}
-use Rattle.ft_bank.specs.TableNames.{name_of}
+use Rattle.ft_bank.specs.TableNames.{table_id}
 use Rattle.ft_bank.proofs.KnownAfterWrites.{loaded_held}
 use Rattle.ft_merging.specs.Internal.EntriesAtOnce.{IsClosing, version_of}
 use Rattle.ft_merging.proofs.Ending.{Laws, closing_care, closing_loaded, closing_raised}
@@ -23,10 +23,10 @@ loaded c =
     let a = c.args in
     closing_loaded (shape_of a.bank.now) a.o a.table a.place a.fill (view a.pass.now) (view c.word_of-version.new.pass) c.word_of-version.ensures.only c.requires.closing
 
-found : (c : After-word_of-version) → c.word_of-version.result ≡ version_of (name_of c.args.table) (held c.args.o (view c.word_of-version.new.pass)) c.args.place
+found : (c : After-word_of-version) → c.word_of-version.result ≡ version_of (table_id c.args.table) (held_words c.args.o (view c.word_of-version.new.pass)) c.args.place
 found c =
     let a = c.args in
-    c.word_of-version.ensures.found ∙ sym (ap (λ (y : Picture). version_of (name_of a.table) y a.place) (loaded_held (view a.pass.now) (view c.word_of-version.new.pass) a.o c.word_of-version.ensures.only))
+    c.word_of-version.ensures.found ∙ sym (ap (λ (y : ContainerWords). version_of (table_id a.table) y a.place) (loaded_held (view a.pass.now) (view c.word_of-version.new.pass) a.o c.word_of-version.ensures.only))
 
 pub word_of-version-requires-clause-container : goal.word_of-version-requires-clause-container
 word_of-version-requires-clause-container c = c.requires.closing.writes.container
@@ -40,7 +40,7 @@ word_of-version-requires-clause-table c = c.requires.closing.writes.table_in
 pub word_of-version-requires-clause-knows : goal.word_of-version-requires-clause-knows
 word_of-version-requires-clause-knows c = (c.requires.closing.writes.locked, c.requires.closing.writes.root)
 
-odd : (c : After-word_of-version) → c.word_of-version.result % 2 ≡ 1 → version_of (name_of c.args.table) (held c.args.o (view c.word_of-version.new.pass)) c.args.place % 2 ≡ 1
+odd : (c : After-word_of-version) → c.word_of-version.result % 2 ≡ 1 → version_of (table_id c.args.table) (held_words c.args.o (view c.word_of-version.new.pass)) c.args.place % 2 ≡ 1
 odd c is = let f = found c in omega (arith, f, is)
 
 pub raise_version-requires-clause-care : goal.raise_version-requires-clause-care

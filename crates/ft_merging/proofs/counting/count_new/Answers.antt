@@ -6,11 +6,11 @@ use Rattle.ft_layout.specs.Containers.{class_mask}
 use Rattle.ft_layout.specs.Tables.{UsedEntry, is_live}
 use Rattle.ft_keys.specs.Ways.{IsTableOf}
 use Rattle.ft_trace.specs.Addresses.{class_of}
-use Rattle.ft_trace.specs.Holds.{known}
-use Rattle.ft_trace.specs.Pictures.{Picture}
+use Rattle.ft_trace.specs.Holds.{known_state}
+use Rattle.ft_trace.specs.Pictures.{ContainerWords}
 use Rattle.ft_trace.specs.ContainerStates.{ContainerState}
 use Rattle.ft_bank.specs.Passes.{shape_of, view}
-use Rattle.ft_bank.specs.TableNames.{name_of}
+use Rattle.ft_bank.specs.TableNames.{table_id}
 use Rattle.ft_bank.proofs.KnownAfterWrites.{loaded_held, loaded_then, work_knows}
 use Rattle.ft_adding.specs.KeyGrowth.{holds}
 use Rattle.ft_merging.specs.Internal.JoiningSteps.{lacking}
@@ -47,8 +47,8 @@ loop-place-preserved c =
       few = omega (arith, more, few, low);
       counted = λ used says filled.
           let was = i.counted used says filled in
-          let here = e.new used (subst (λ (x : Picture). IsTableOf a.way (shape_of a.bank.now).texts (class_mask (class_of (name_of a.table))) used (0 ∷ 0 ∷ x.table)) (sym other) says) (filled ∙ ap (λ (z : ContainerState). z.table.fill) (sym fill)) any in
-          let d = (known a.o v).content in
+          let here = e.new used (subst (λ (x : ContainerWords). IsTableOf a.way (shape_of a.bank.now).texts (class_mask (class_of (table_id a.table))) used (0 ∷ 0 ∷ x.table)) (sym other) says) (filled ∙ ap (λ (z : ContainerState). z.table.fill) (sym fill)) any in
+          let d = (known_state a.o v).content in
           let is : c.is_new_at.result ≡ (is_live (slice_index_or used c.loop-place.place any) && not (holds d (slice_index_or used c.loop-place.place any).key)) = here ∙ ap (λ (z : ContainerState). is_live (slice_index_or used c.loop-place.place any) && not (holds z.content (slice_index_or used c.loop-place.place any).key)) mine in
           let inside = c.loop-place-test.true in
           let all = c.requires.fill in

@@ -1,5 +1,5 @@
 use Rattle.std.proofs.Common.{◌≡◌, ℕ, Some, None, Option, refl, sym, ap, ◌∙◌, subst}
-use Rattle.ft_trace.specs.Holds.{known}
+use Rattle.ft_trace.specs.Holds.{known_state}
 use Rattle.ft_bank.specs.declared.table.Table.{Table}
 use Rattle.ft_bank.specs.Passes.{shape_of, view}
 use Rattle.ft_bank.proofs.KnownAfterWrites.{loaded_held, work_knows}
@@ -18,7 +18,7 @@ pub join_nothing-requires-clause-same : goal.join_nothing-requires-clause-same
 join_nothing-requires-clause-same c =
     let a = c.args in
     let v = view a.pass.now in
-    ap (λ (p : ℕ). joined (known a.o v).content (known p v).content) (sym c.if-o-t.true)
+    ap (λ (p : ℕ). joined (known_state a.o v).content (known_state p v).content) (sym c.if-o-t.true)
     ∙ known_itself (shape_of a.bank.now) a.o v c.requires.pass.1 a.pass.now.possible c.requires.may.keyed c.requires.may.locked c.requires.may.stands
 
 pub returns-then-o-t-clause-added : goal.returns-then-o-t-clause-added
@@ -53,7 +53,7 @@ join_nothing-requires-in_default-clause-same c =
     let bare = subst (λ (z : Option Table). KnowsKeyed k a.t z u) (none_named c.own_table.result c.in_default.not-Some) e.knows in
     let kinds = kind_is k u a.o e.pass.1 c.own_table.new.pass.possible (e.only.work.pass.locks a.o ∙ c.requires.may.locked) ∙ c.requires.way in
     let others = kind_is k u a.t e.pass.1 c.own_table.new.pass.possible bare.locked ∙ c.requires.other_way in
-    none_joined (known a.o u).content (known a.t u).content (others ∙ sym kinds) (known_bare k a.t u e.pass.1 c.own_table.new.pass.possible bare.keyed bare.locked bare.stands bare.root)
+    none_joined (known_state a.o u).content (known_state a.t u).content (others ∙ sym kinds) (known_bare k a.t u e.pass.1 c.own_table.new.pass.possible bare.keyed bare.locked bare.stands bare.root)
 
 pub returns-in_default-clause-added : goal.returns-in_default-clause-added
 returns-in_default-clause-added c =

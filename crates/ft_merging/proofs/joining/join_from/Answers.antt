@@ -1,8 +1,8 @@
 use Rattle.std.proofs.Common.{◌≡◌, ◌+◌, ◌^◌, ◌<◌, ◌∷◌, Some, refl, sym, ap, ◌∙◌, subst, arith}
 use Rattle.ft_model.specs.Worlds.{kind_of, length_of, serial_of}
-use Rattle.ft_trace.specs.Holds.{held, known}
+use Rattle.ft_trace.specs.Holds.{held_words, known_state}
 use Rattle.ft_trace.specs.Kinds.{IsKeyed}
-use Rattle.ft_trace.specs.Pictures.{Picture}
+use Rattle.ft_trace.specs.Pictures.{ContainerWords}
 use Rattle.ft_trace.specs.ContainerStates.{ContainerState}
 use Rattle.ft_bank.specs.Passes.{shape_of, view}
 use Rattle.ft_bank.specs.Whole.{OnlyLoaded}
@@ -46,19 +46,19 @@ source c =
     let a = c.args in
     source_known (record { pairs = c.used_entries_follow_a_dict.ensures.first; elements = c.used_entries_follow_a_set.ensures.first }) (shape_of a.bank.now) a.t a.table (view c.read_counts-counts.new.pass) c.read_counts-counts.ensures.pass.1 c.read_counts-counts.new.pass.possible (mid c) a.way c.requires.other_way
 
-kinds : (c : After-own_table-old) → kind_of (known c.args.o (view c.read_counts-counts.new.pass)).content ≡ kind_by c.args.way
+kinds : (c : After-own_table-old) → kind_of (known_state c.args.o (view c.read_counts-counts.new.pass)).content ≡ kind_by c.args.way
 kinds c =
     let a = c.args in
     kind_is (shape_of a.bank.now) (view c.read_counts-counts.new.pass) a.o c.read_counts-counts.ensures.pass.1 c.read_counts-counts.new.pass.possible ((one c).work.pass.locks a.o ∙ c.requires.may.locked) ∙ c.requires.way
 
-more : (c : After-own_table-old) → c.count_new-more.result ≡ new_keys (known c.args.o (view c.own_table-old.new.pass)).content (known c.args.t (view c.own_table-old.new.pass)).content
+more : (c : After-own_table-old) → c.count_new-more.result ≡ new_keys (known_state c.args.o (view c.own_table-old.new.pass)).content (known_state c.args.t (view c.own_table-old.new.pass)).content
 more c =
     let a = c.args in
     let s = source c in
     let x = view c.read_counts-counts.new.pass in
     let u = view c.own_table-old.new.pass in
     c.count_new-more.ensures.count s.used s.table_is s.filled
-    ∙ (sym (joined_more (shape_of a.bank.now) a.way a.t a.table x s (known a.o x).content (kinds c)).1
+    ∙ (sym (joined_more (shape_of a.bank.now) a.way a.t a.table x s (known_state a.o x).content (kinds c)).1
     ∙ (λ i. new_keys (sym (work_knows x u a.o (two c).work) i).content (sym (work_knows x u a.t (two c).work) i).content))
 
 pub join_more-requires-clause-may : goal.join_more-requires-clause-may
@@ -68,17 +68,17 @@ join_more-requires-clause-may c =
     let k = shape_of a.bank.now in
     may_add k a.o c.own_table-old.result (view a.pass.now) (view c.own_table-old.new.pass) (all d) c.requires.used c.requires.idle (may_loaded k a.o (view a.pass.now) (view c.own_table-old.new.pass) (all d) c.requires.may) c.own_table-old.ensures.knows
 
-counts : (c : After-own_table-old) → AreCounts (held c.args.o (view c.own_table-old.new.pass)).block c.read_counts-counts.result
+counts : (c : After-own_table-old) → AreCounts (held_words c.args.o (view c.own_table-old.new.pass)).block c.read_counts-counts.result
 counts c =
     let a = c.args in
     let v0 = view c.read_counts-others.new.pass in
-    subst (λ (z : Picture). AreCounts z.block c.read_counts-counts.result) (sym (loaded_held v0 (view c.read_counts-counts.new.pass) a.o c.read_counts-counts.ensures.only) ∙ sym (loaded_held (view c.read_counts-counts.new.pass) (view c.own_table-old.new.pass) a.o (two c))) c.read_counts-counts.ensures.counts
+    subst (λ (z : ContainerWords). AreCounts z.block c.read_counts-counts.result) (sym (loaded_held v0 (view c.read_counts-counts.new.pass) a.o c.read_counts-counts.ensures.only) ∙ sym (loaded_held (view c.read_counts-counts.new.pass) (view c.own_table-old.new.pass) a.o (two c))) c.read_counts-counts.ensures.counts
 
-full : (c : After-own_table-old) → c.read_counts-others.result.fill ≡ (known c.args.t (view c.args.pass.now)).table.fill
+full : (c : After-own_table-old) → c.read_counts-others.result.fill ≡ (known_state c.args.t (view c.args.pass.now)).table.fill
 full c =
     let a = c.args in
     let v = view a.pass.now in
-    sym c.read_counts-others.ensures.counts.1 ∙ (c.words_are_of_one_content.ensures.head (shape_of a.bank.now).texts (held a.t v).block (0 ∷ 0 ∷ (held a.t v).table) (known a.t v).table (known a.t v).content c.requires.other.stands).fill_is
+    sym c.read_counts-others.ensures.counts.1 ∙ (c.words_are_of_one_content.ensures.head (shape_of a.bank.now).texts (held_words a.t v).block (0 ∷ 0 ∷ (held_words a.t v).table) (known_state a.t v).table (known_state a.t v).content c.requires.other.stands).fill_is
 
 pub join_more-requires-clause-merge : goal.join_more-requires-clause-merge
 join_more-requires-clause-merge c =
@@ -106,10 +106,10 @@ join_more-requires-clause-few c =
     let u = view c.own_table-old.new.pass in
     let n = (counts_known c.words_are_of_one_content.ensures.head k a.o c.own_table-old.result u c.read_counts-counts.result c.own_table-old.ensures.knows (counts d)).0 in
     let same = ap (λ (z : ContainerState). length_of z.content) (work_knows v u a.o (all d).work) in
-    let cap = cap_few (known a.o v).content (known_cap k a.o v c.requires.pass.1 a.pass.now.possible c.requires.may.keyed c.requires.may.locked c.requires.may.stands (record { pairs = c.used_entries_follow_a_dict.ensures.first; elements = c.used_entries_follow_a_set.ensures.first })) in
-    let most = most_few (known a.o v).content in
+    let cap = cap_few (known_state a.o v).content (known_cap k a.o v c.requires.pass.1 a.pass.now.possible c.requires.may.keyed c.requires.may.locked c.requires.may.stands (record { pairs = c.used_entries_follow_a_dict.ensures.first; elements = c.used_entries_follow_a_set.ensures.first })) in
+    let most = most_few (known_state a.o v).content in
     let s = source_known (record { pairs = c.used_entries_follow_a_dict.ensures.first; elements = c.used_entries_follow_a_set.ensures.first }) k a.t a.table v c.requires.pass.1 a.pass.now.possible c.requires.other a.way c.requires.other_way in
-    let rows_few = few_rows k a.table (kind_by a.way) (known a.t v).table.fill (c.requires.other.table_in a.table refl) (subst IsKeyed c.requires.other_way c.requires.other.keyed) s.few in
+    let rows_few = few_rows k a.table (kind_by a.way) (known_state a.t v).table.fill (c.requires.other.table_in a.table refl) (subst IsKeyed c.requires.other_way c.requires.other.keyed) s.few in
     let less = c.count_new-more.ensures.few in
     let f = full d in
     omega (arith, n, same, cap, most, rows_few, less, f)

@@ -2,11 +2,11 @@ use Rattle.std.proofs.Common.{◌≡◌, ◌+◌, ◌≤◌, refl, sym, ap, ◌�
 use Rattle.ft_model.specs.declared.reply.Reply.TheVariants as reply
 use Rattle.ft_trace.specs.declared.View.{View}
 use Rattle.ft_trace.specs.Addresses.{class_of}
-use Rattle.ft_trace.specs.Holds.{known}
+use Rattle.ft_trace.specs.Holds.{known_state}
 use Rattle.ft_trace.specs.Kinds.{rows}
 use Rattle.ft_trace.specs.ContainerStates.{ContainerState, kind_in}
 use Rattle.ft_bank.specs.Passes.{shape_of, view}
-use Rattle.ft_bank.specs.TableNames.{name_of}
+use Rattle.ft_bank.specs.TableNames.{table_id}
 use Rattle.ft_bank.proofs.TableAddresses.{class_is}
 use Rattle.ft_bank.proofs.KnownAfterWrites.{work_knows}
 use Rattle.ft_search.proofs.ReadyCommits.{whole_root, whole_write}
@@ -23,7 +23,7 @@ use Rattle.ft_merging.proofs.joining.join_here.Goals.{After-start_write}
 shape : (c : After-start_write) → (view c.start_write.new.pass).shape ≡ shape_of c.args.bank.now
 shape c = ap (λ (z : View). z.shape) c.start_write.ensures.1 ∙ c.requires.pass.1
 
-room : (c : After-start_write) → c.args.merge.now.counts.fill + c.args.merge.now.more ≤ rows (kind_in (shape_of c.args.bank.now).starts c.args.merge.now.o) (class_of (name_of c.args.own))
+room : (c : After-start_write) → c.args.merge.now.counts.fill + c.args.merge.now.more ≤ rows (kind_in (shape_of c.args.bank.now).starts c.args.merge.now.o) (class_of (table_id c.args.own))
 room c =
     let a = c.args in
     here_room c.words_are_of_one_content.ensures.head (record { pairs = c.used_entries_follow_a_dict.ensures.first; elements = c.used_entries_follow_a_set.ensures.first }) (shape_of a.bank.now) a.merge.now.o a.way a.own a.merge.now.t a.merge.now.table a.merge.now.counts a.merge.now.more (view a.pass.now) (view c.start_write.new.pass) c.start_write.result c.requires.pass.1 a.pass.now.possible c.requires.merge.two c.requires.may c.requires.merge.other c.requires.merge.way c.requires.merge.other_way
@@ -57,9 +57,9 @@ join_table-number-requires-clause-finishes c w counts only joining =
     c.requires.merge.counts c.requires.merge.more c.requires.few c.requires.merge.serials c.requires.room begun (shape at) c.start_write.new.pass.possible in
     joined_finishes (record { pairs = c.used_entries_follow_a_dict.ensures.first; elements = c.used_entries_follow_a_set.ensures.first }) k a.merge.now.o a.way a.own a.merge.now.t a.merge.now.table (a.merge.now.counts.fill + a.merge.now.more) a.merge.now.others counts v w (since_start a.merge.now.o v u w c.start_write.result begun only) c.requires.pass.1 may.keyed.container may.left a.called.now c.requires.joins c.requires.few
     (λ found class has owed. absurd (omega (arith, none, owed)))
-    (stays_table (known a.merge.now.o v) (known a.merge.now.t v).content a.own a.merge.now.counts.fill a.merge.now.more table c.requires.room c.requires.merge.more (class_is a.own (may.keyed.table_in a.own refl).2))
-    (subst (λ (z : ContainerState × ContainerState). IsJoining k a.merge.now.o a.way a.own a.merge.now.t a.merge.now.table (joined z.0.content z.1.content) (a.merge.now.counts.fill + a.merge.now.more) a.merge.now.others counts w) (λ i. (ap (known a.merge.now.o) begun i, ap (known a.merge.now.t) begun i)) joining)
-    (c.requires.merge.others ∙ sym (ap (λ (z : ContainerState). z.table.fill) (work_knows u w a.merge.now.t only.work ∙ ap (known a.merge.now.t) begun)))
+    (stays_table (known_state a.merge.now.o v) (known_state a.merge.now.t v).content a.own a.merge.now.counts.fill a.merge.now.more table c.requires.room c.requires.merge.more (class_is a.own (may.keyed.table_in a.own refl).2))
+    (subst (λ (z : ContainerState × ContainerState). IsJoining k a.merge.now.o a.way a.own a.merge.now.t a.merge.now.table (joined z.0.content z.1.content) (a.merge.now.counts.fill + a.merge.now.more) a.merge.now.others counts w) (λ i. (ap (known_state a.merge.now.o) begun i, ap (known_state a.merge.now.t) begun i)) joining)
+    (c.requires.merge.others ∙ sym (ap (λ (z : ContainerState). z.table.fill) (work_knows u w a.merge.now.t only.work ∙ ap (known_state a.merge.now.t) begun)))
 
 pub returns-clause-added : goal.returns-clause-added
 returns-clause-added c =

@@ -4,12 +4,12 @@ use Rattle.ft_model.specs.declared.script.Kind.{Kind}
 use Rattle.ft_model.specs.TableUses.{passes_cap}
 use Rattle.ft_model.specs.Worlds.{kind_of, length_of}
 use Rattle.ft_trace.specs.Addresses.{class_of}
-use Rattle.ft_trace.specs.Holds.{held, in_hand, known}
+use Rattle.ft_trace.specs.Holds.{held_words, in_hand, known_state}
 use Rattle.ft_trace.specs.Kinds.{rows}
 use Rattle.ft_trace.specs.Pictures.{root_in}
 use Rattle.ft_trace.specs.ContainerStates.{ContainerState, kind_in}
 use Rattle.ft_bank.specs.Passes.{shape_of, view}
-use Rattle.ft_bank.specs.TableNames.{name_of}
+use Rattle.ft_bank.specs.TableNames.{table_id}
 use Rattle.ft_bank.proofs.KnownAfterWrites.{put_then, work_knows}
 use Rattle.ft_search.specs.Rounds.{kind_by}
 use Rattle.ft_search.proofs.Changing.{kind_is}
@@ -33,12 +33,12 @@ use Rattle.ft_merging.proofs.joining.join_in_new.Goals.{After-fill, After-put_co
 
 -- ---- before the table is filled
 
-many : (c : After-words_are_of_one_content) → c.args.merge.now.counts.count ≡ length_of (known c.args.merge.now.o (view c.args.pass.now)).content
+many : (c : After-words_are_of_one_content) → c.args.merge.now.counts.count ≡ length_of (known_state c.args.merge.now.o (view c.args.pass.now)).content
 many c =
     let a = c.args in
     (counts_known c.words_are_of_one_content.ensures.head (shape_of a.bank.now) a.merge.now.o a.old (view a.pass.now) a.merge.now.counts c.requires.may.keyed c.requires.merge.counts).0
 
-kinds : (c : After-words_are_of_one_content) → kind_of (known c.args.merge.now.o (view c.args.pass.now)).content ≡ kind_by c.args.way
+kinds : (c : After-words_are_of_one_content) → kind_of (known_state c.args.merge.now.o (view c.args.pass.now)).content ≡ kind_by c.args.way
 kinds c =
     let a = c.args in
     kind_is (shape_of a.bank.now) (view a.pass.now) a.merge.now.o c.requires.pass.1 a.pass.now.possible c.requires.may.keyed.locked ∙ c.requires.merge.way
@@ -49,17 +49,17 @@ source c =
     source_known (record { pairs = c.used_entries_follow_a_dict.ensures.first; elements = c.used_entries_follow_a_set.ensures.first }) (shape_of a.bank.now) a.merge.now.t a.merge.now.table (view a.pass.now) c.requires.pass.1 a.pass.now.possible c.requires.merge.other a.way c.requires.merge.other_way
 
 -- it has room for all
-room : (c : After-words_are_of_one_content) → c.args.merge.now.counts.count + c.args.merge.now.more ≤ rows (kind_by c.args.way) (class_of (name_of c.args.new))
+room : (c : After-words_are_of_one_content) → c.args.merge.now.counts.count + c.args.merge.now.more ≤ rows (kind_by c.args.way) (class_of (table_id c.args.new))
 room c =
     let a = c.args in
     let v = view a.pass.now in
     let n = many c in
     let m = c.requires.merge.more in
-    let r = new_room (shape_of a.bank.now) a.way a.merge.now.t a.merge.now.table v (source c) (known a.merge.now.o v) (class_of (name_of a.new)) (kinds c) c.requires.few c.requires.takes in
+    let r = new_room (shape_of a.bank.now) a.way a.merge.now.t a.merge.now.table v (source c) (known_state a.merge.now.o v) (class_of (table_id a.new)) (kinds c) c.requires.few c.requires.takes in
     omega (arith, n, m, r)
 
-row : (c : After-words_are_of_one_content) → c.args.merge.now.counts.count + c.args.merge.now.more ≤ rows (kind_in (shape_of c.args.bank.now).starts c.args.merge.now.o) (class_of (name_of c.args.new))
-row c = subst (λ (z : Kind). c.args.merge.now.counts.count + c.args.merge.now.more ≤ rows z (class_of (name_of c.args.new))) (sym c.requires.merge.way) (room c)
+row : (c : After-words_are_of_one_content) → c.args.merge.now.counts.count + c.args.merge.now.more ≤ rows (kind_in (shape_of c.args.bank.now).starts c.args.merge.now.o) (class_of (table_id c.args.new))
+row c = subst (λ (z : Kind). c.args.merge.now.counts.count + c.args.merge.now.more ≤ rows z (class_of (table_id c.args.new))) (sym c.requires.merge.way) (room c)
 
 pub fill-requires-clause-room : goal.fill-requires-clause-room
 fill-requires-clause-room c =
@@ -82,12 +82,12 @@ grow c =
     let a = c.args in
     grow_filled (shape_of a.bank.now) a.merge.now.o a.old a.new (view a.pass.now) (view c.fill.new.pass) c.requires.pass.1 c.fill.ensures.only c.requires.may
 
-same : (c : After-fill) → (held c.args.merge.now.o (view c.fill.new.pass) ≡ held c.args.merge.now.o (view c.args.pass.now)) × (known c.args.merge.now.o (view c.fill.new.pass) ≡ known c.args.merge.now.o (view c.args.pass.now))
+same : (c : After-fill) → (held_words c.args.merge.now.o (view c.fill.new.pass) ≡ held_words c.args.merge.now.o (view c.args.pass.now)) × (known_state c.args.merge.now.o (view c.fill.new.pass) ≡ known_state c.args.merge.now.o (view c.args.pass.now))
 same c =
     let a = c.args in
     same_filled (shape_of a.bank.now) a.merge.now.o a.old (view a.pass.now) (view c.fill.new.pass) c.requires.pass.1 c.fill.ensures.only c.requires.may.keyed
 
-other : (c : After-fill) → known c.args.merge.now.t (view c.fill.new.pass) ≡ known c.args.merge.now.t (view c.args.pass.now)
+other : (c : After-fill) → known_state c.args.merge.now.t (view c.fill.new.pass) ≡ known_state c.args.merge.now.t (view c.args.pass.now)
 other c =
     let a = c.args in
     (same_filled (shape_of a.bank.now) a.merge.now.t (Some a.merge.now.table) (view a.pass.now) (view c.fill.new.pass) c.requires.pass.1 c.fill.ensures.only c.requires.merge.other).1
@@ -101,15 +101,15 @@ merge c =
     let u = view c.fill.new.pass in
     merge_later k (kind_by a.way) m v u (same c).0 (same c).1 (other c) (knows_filled k m.t (Some m.table) v u c.requires.pass.1 c.fill.ensures.only c.requires.merge.other) c.requires.merge
 
-filled : (c : After-fill) → IsFilledWith (shape_of c.args.bank.now).texts (class_of (name_of c.args.new)) (known c.args.merge.now.o (view c.fill.new.pass)).content (in_hand (name_of c.args.new) (view c.fill.new.pass))
+filled : (c : After-fill) → IsFilledWith (shape_of c.args.bank.now).texts (class_of (table_id c.args.new)) (known_state c.args.merge.now.o (view c.fill.new.pass)).content (in_hand (table_id c.args.new) (view c.fill.new.pass))
 filled c =
     let a = c.args in
-    subst (λ (z : ContainerState). IsFilledWith (shape_of a.bank.now).texts (class_of (name_of a.new)) z.content (in_hand (name_of a.new) (view c.fill.new.pass))) (sym (same c).1) c.fill.ensures.filled
+    subst (λ (z : ContainerState). IsFilledWith (shape_of a.bank.now).texts (class_of (table_id a.new)) z.content (in_hand (table_id a.new) (view c.fill.new.pass))) (sym (same c).1) c.fill.ensures.filled
 
-cap : (c : After-fill) → passes_cap (joined (known c.args.merge.now.o (view c.fill.new.pass)).content (known c.args.merge.now.t (view c.fill.new.pass)).content) ≡ false
+cap : (c : After-fill) → passes_cap (joined (known_state c.args.merge.now.o (view c.fill.new.pass)).content (known_state c.args.merge.now.t (view c.fill.new.pass)).content) ≡ false
 cap c = (λ i. passes_cap (joined ((same c).1 i).content (other c i).content)) ∙ c.requires.few
 
-takes : (c : After-fill) → join_takes (known c.args.merge.now.o (view c.fill.new.pass)) (known c.args.merge.now.t (view c.fill.new.pass)).content ≡ Some (class_of (name_of c.args.new))
+takes : (c : After-fill) → join_takes (known_state c.args.merge.now.o (view c.fill.new.pass)) (known_state c.args.merge.now.t (view c.fill.new.pass)).content ≡ Some (class_of (table_id c.args.new))
 takes c = (λ i. join_takes ((same c).1 i) (other c i).content) ∙ c.requires.takes
 
 joins : (c : After-fill) → JoinsKeys c.args.merge.now.o c.args.merge.now.t c.args.called.now (view c.fill.new.pass)
@@ -132,7 +132,7 @@ join_table-requires-clause-other c =
     let w = (goal.at.join_table-requires-clause-other c).After-words_are_of_one_content in
     let did = c.begin_in.ensures.did in
     let x = view c.fill.new.pass in
-    other_on c.words_are_of_one_content.ensures.head (record { pairs = c.used_entries_follow_a_dict.ensures.first; elements = c.used_entries_follow_a_set.ensures.first }) (shape_of a.bank.now) a.merge.now.o a.way a.old a.new a.merge.now.t a.merge.now.table a.merge.now.counts a.merge.now.more x (view c.begin_in.new.pass) (view c.put_counts.new.pass) did.0 (root_in (held a.merge.now.o x)) c.fill.ensures.pass.1 c.fill.new.pass.possible (merge f).two (grow f) (merge f).other (merge f).way (merge f).other_way
+    other_on c.words_are_of_one_content.ensures.head (record { pairs = c.used_entries_follow_a_dict.ensures.first; elements = c.used_entries_follow_a_set.ensures.first }) (shape_of a.bank.now) a.merge.now.o a.way a.old a.new a.merge.now.t a.merge.now.table a.merge.now.counts a.merge.now.more x (view c.begin_in.new.pass) (view c.put_counts.new.pass) did.0 (root_in (held_words a.merge.now.o x)) c.fill.ensures.pass.1 c.fill.new.pass.possible (merge f).two (grow f) (merge f).other (merge f).way (merge f).other_way
     (filled f) (merge f).counts (merge f).more (cap f) (merge f).serials (row w) did.1.1 did.2 c.begin_in.ensures.words c.begin_in.ensures.pass.1 c.put_counts.ensures.only c.put_counts.ensures.words c.put_counts.ensures.writes c.put_counts.ensures.pass.1 c.put_counts.new.pass.possible
 
 pub join_table-requires-clause-joining : goal.join_table-requires-clause-joining
@@ -142,12 +142,12 @@ join_table-requires-clause-joining c =
     let w = (goal.at.join_table-requires-clause-joining c).After-words_are_of_one_content in
     let did = c.begin_in.ensures.did in
     let x = view c.fill.new.pass in
-    new_begins c.words_are_of_one_content.ensures.head (record { pairs = c.used_entries_follow_a_dict.ensures.first; elements = c.used_entries_follow_a_set.ensures.first }) (shape_of a.bank.now) a.merge.now.o a.way a.old a.new a.merge.now.t a.merge.now.table a.merge.now.counts a.merge.now.more x (view c.begin_in.new.pass) (view c.put_counts.new.pass) did.0 (root_in (held a.merge.now.o x)) c.fill.ensures.pass.1 c.fill.new.pass.possible (merge f).two (grow f) (merge f).other (merge f).way (merge f).other_way
+    new_begins c.words_are_of_one_content.ensures.head (record { pairs = c.used_entries_follow_a_dict.ensures.first; elements = c.used_entries_follow_a_set.ensures.first }) (shape_of a.bank.now) a.merge.now.o a.way a.old a.new a.merge.now.t a.merge.now.table a.merge.now.counts a.merge.now.more x (view c.begin_in.new.pass) (view c.put_counts.new.pass) did.0 (root_in (held_words a.merge.now.o x)) c.fill.ensures.pass.1 c.fill.new.pass.possible (merge f).two (grow f) (merge f).other (merge f).way (merge f).other_way
     (filled f) (merge f).counts (merge f).more (cap f) (merge f).serials (row w) did.1.1 did.2 c.begin_in.ensures.words c.begin_in.ensures.pass.1 c.put_counts.ensures.only c.put_counts.ensures.words c.put_counts.ensures.writes c.put_counts.ensures.pass.1 c.put_counts.new.pass.possible
 
 -- the pass knows the same contents as after the filling
-knows_on : (c : After-put_counts) (p : ℕ) → known p (view c.put_counts.new.pass) ≡ known p (view c.fill.new.pass)
-knows_on c p = work_knows (view c.begin_in.new.pass) (view c.put_counts.new.pass) p c.put_counts.ensures.only.work ∙ ap (known p) c.begin_in.ensures.did.1.1
+knows_on : (c : After-put_counts) (p : ℕ) → known_state p (view c.put_counts.new.pass) ≡ known_state p (view c.fill.new.pass)
+knows_on c p = work_knows (view c.begin_in.new.pass) (view c.put_counts.new.pass) p c.put_counts.ensures.only.work ∙ ap (known_state p) c.begin_in.ensures.did.1.1
 
 pub join_table-requires-clause-finishes : goal.join_table-requires-clause-finishes
 join_table-requires-clause-finishes c w counts_then only joining =
@@ -163,14 +163,14 @@ join_table-requires-clause-finishes c w counts_then only joining =
     let owes = (grow f).owed in
     let n = many b in
     let m = c.requires.merge.more in
-    let all = many_joined k a.way a.merge.now.t a.merge.now.table (view a.pass.now) (source b) (known a.merge.now.o (view a.pass.now)).content (kinds b) in
-    let long : length_of (joined (known a.merge.now.o x).content (known a.merge.now.t x).content) ≡ a.merge.now.counts.count + a.merge.now.more = (λ i. length_of (joined ((same f).1 i).content (other f i).content)) ∙ omega (arith, n, m, all) in
+    let all = many_joined k a.way a.merge.now.t a.merge.now.table (view a.pass.now) (source b) (known_state a.merge.now.o (view a.pass.now)).content (kinds b) in
+    let long : length_of (joined (known_state a.merge.now.o x).content (known_state a.merge.now.t x).content) ≡ a.merge.now.counts.count + a.merge.now.more = (λ i. length_of (joined ((same f).1 i).content (other f i).content)) ∙ omega (arith, n, m, all) in
     joined_finishes (record { pairs = c.used_entries_follow_a_dict.ensures.first; elements = c.used_entries_follow_a_set.ensures.first }) k a.merge.now.o a.way a.new a.merge.now.t a.merge.now.table (a.merge.now.counts.count + a.merge.now.more) a.merge.now.others counts_then x w
-    (since_root a.merge.now.o (name_of a.new) (root_in (held a.merge.now.o x)) x y w did.0 did.1.1 (put_then y z w a.merge.now.o c.put_counts.ensures.only only)) c.fill.ensures.pass.1 c.requires.may.keyed.container (grow f).left a.called.now (joins f) (cap f)
+    (since_root a.merge.now.o (table_id a.new) (root_in (held_words a.merge.now.o x)) x y w did.0 did.1.1 (put_then y z w a.merge.now.o c.put_counts.ensures.only only)) c.fill.ensures.pass.1 c.requires.may.keyed.container (grow f).left a.called.now (joins f) (cap f)
     (λ found class has owed.
-    let is : class_of (name_of a.new) ≡ class = omega (arith, owed, owes) in
+    let is : class_of (table_id a.new) ≡ class = omega (arith, owed, owes) in
     (joins f).takes found has ∙ (takes f ∙ ap (λ (q : ℕ). Some q) is))
-    (taken_table (known a.merge.now.o x) (known a.merge.now.t x).content (class_of (name_of a.new)) (a.merge.now.counts.count + a.merge.now.more) (takes f) long)
+    (taken_table (known_state a.merge.now.o x) (known_state a.merge.now.t x).content (class_of (table_id a.new)) (a.merge.now.counts.count + a.merge.now.more) (takes f) long)
     (subst (λ (q : ContainerState × ContainerState). IsJoining k a.merge.now.o a.way a.new a.merge.now.t a.merge.now.table (joined q.0.content q.1.content) (a.merge.now.counts.count + a.merge.now.more) a.merge.now.others counts_then w) (λ i. (knows_on p a.merge.now.o i, knows_on p a.merge.now.t i)) joining)
     (c.requires.merge.others ∙ sym (ap (λ (q : ContainerState). q.table.fill) (work_knows z w a.merge.now.t only.work ∙ (knows_on p a.merge.now.t ∙ other f))))
 
@@ -184,11 +184,11 @@ returns-clause-wrote c =
     let f = (goal.at.returns-clause-wrote c).After-fill in
     let did = c.begin_in.ensures.did in
     let e = c.join_table.ensures.ends in
-    let root : root_in (held a.merge.now.o x) ≡ root_in (held a.merge.now.o v) = ap root_in (same f).0 in
-    grown_wrote a.merge.now.o (name_of a.new) a.called.now reply.Done c.join_table.result did.0 v x y e.0 (view c.join_table.new.pass) c.requires.joins.changed c.fill.ensures.only root (λ is. c.requires.apart (sym root ∙ is)) (grow f).keyed.even did.1.1 did.2 (put_then y z e.0 a.merge.now.o c.put_counts.ensures.only e.1) e.2 e.3
+    let root : root_in (held_words a.merge.now.o x) ≡ root_in (held_words a.merge.now.o v) = ap root_in (same f).0 in
+    grown_wrote a.merge.now.o (table_id a.new) a.called.now reply.Done c.join_table.result did.0 v x y e.0 (view c.join_table.new.pass) c.requires.joins.changed c.fill.ensures.only root (λ is. c.requires.apart (sym root ∙ is)) (grow f).keyed.even did.1.1 did.2 (put_then y z e.0 a.merge.now.o c.put_counts.ensures.only e.1) e.2 e.3
 
 pub returns-clause-root : goal.returns-clause-root
 returns-clause-root c =
     let a = c.args in
     let e = c.join_table.ensures.ends in
-    subst (λ (n : ℕ). root_in (held n (view c.join_table.new.pass)) ≡ root_in (held n e.0)) c.requires.joins.changed e.3.root ∙ e.2
+    subst (λ (n : ℕ). root_in (held_words n (view c.join_table.new.pass)) ≡ root_in (held_words n e.0)) c.requires.joins.changed e.3.root ∙ e.2

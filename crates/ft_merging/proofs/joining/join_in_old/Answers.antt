@@ -1,6 +1,6 @@
 use Rattle.std.proofs.Common.{◌≡◌, Option, None, sym, ap, ◌∙◌, subst}
 use Rattle.ft_model.specs.TableUses.{passes_cap}
-use Rattle.ft_trace.specs.Holds.{known}
+use Rattle.ft_trace.specs.Holds.{known_state}
 use Rattle.ft_bank.specs.declared.table.Table.{Table}
 use Rattle.ft_bank.specs.Passes.{shape_of, view}
 use Rattle.ft_search.proofs.Changing.{kind_is}
@@ -13,13 +13,13 @@ use Rattle.ft_merging.proofs.JoinedSame.{bare_joined, known_bare}
 use Rattle.ft_merging.proofs.joining.join_in_old.Goals as goal
 use Rattle.ft_merging.proofs.joining.join_in_old.Goals.{In-None}
 
-same : (c : In-None) → joined (known c.args.merge.now.o (view c.args.pass.now)).content (known c.args.merge.now.t (view c.args.pass.now)).content ≡ (known c.args.merge.now.o (view c.args.pass.now)).content
+same : (c : In-None) → joined (known_state c.args.merge.now.o (view c.args.pass.now)).content (known_state c.args.merge.now.t (view c.args.pass.now)).content ≡ (known_state c.args.merge.now.o (view c.args.pass.now)).content
 same c =
     let a = c.args in
     let k = shape_of a.bank.now in
     let v = view a.pass.now in
-    let d = (known a.merge.now.o v).content in
-    let e = (known a.merge.now.t v).content in
+    let d = (known_state a.merge.now.o v).content in
+    let e = (known_state a.merge.now.t v).content in
     let may = subst (λ (z : Option Table). MayAddKey k a.merge.now.o z v) c.in-None.is c.requires.may in
     let kinds = kind_is k v a.merge.now.o c.requires.pass.1 a.pass.now.possible may.keyed.locked ∙ c.requires.merge.way in
     let table = use_known c.words_are_of_one_content.ensures.head k a.merge.now.o None v a.merge.now.counts may.keyed c.requires.merge.counts a.pass.now.possible in

@@ -1,11 +1,11 @@
 use Rattle.std.proofs.Common.{◌≡◌, ◌≢◌, ℕ, suc, Some, refl, sym, ap, ◌∙◌, subst}
 use Rattle.ft_model.specs.declared.reply.Reply.TheVariants as reply
 use Rattle.ft_trace.specs.Addresses.{class_of}
-use Rattle.ft_trace.specs.Holds.{held, known}
+use Rattle.ft_trace.specs.Holds.{held_words, known_state}
 use Rattle.ft_trace.specs.Pictures.{root_in}
 use Rattle.ft_trace.specs.ContainerStates.{changes}
 use Rattle.ft_bank.specs.Passes.{shape_of, view}
-use Rattle.ft_bank.specs.TableNames.{name_of, root_for}
+use Rattle.ft_bank.specs.TableNames.{table_id, root_for}
 use Rattle.ft_bank.proofs.TableAddresses.{class_is}
 use Rattle.ft_bank.specs.Whole.{Wrote}
 use Rattle.ft_growth.specs.Adding.{Retires}
@@ -21,13 +21,13 @@ use Rattle.ft_merging.proofs.Merged.{merge_later}
 use Rattle.ft_merging.proofs.joining.join_in_taken.Goals as goal
 use Rattle.ft_merging.proofs.joining.join_in_taken.Goals.{In-Taken}
 
-mine : (c : In-Taken) → (held c.args.merge.now.o (view c.take.new.pass) ≡ held c.args.merge.now.o (view c.args.pass.now)) × (known c.args.merge.now.o (view c.take.new.pass) ≡ known c.args.merge.now.o (view c.args.pass.now))
+mine : (c : In-Taken) → (held_words c.args.merge.now.o (view c.take.new.pass) ≡ held_words c.args.merge.now.o (view c.args.pass.now)) × (known_state c.args.merge.now.o (view c.take.new.pass) ≡ known_state c.args.merge.now.o (view c.args.pass.now))
 mine c =
     let a = c.args in
     let e = c.in-Taken.ensures in
     tried_words _ (view a.pass.now) (view c.take.new.pass) e.same e.keeps (shape_of a.bank.now) a.merge.now.o a.old c.requires.pass.1 c.requires.may.keyed
 
-other : (c : In-Taken) → known c.args.merge.now.t (view c.take.new.pass) ≡ known c.args.merge.now.t (view c.args.pass.now)
+other : (c : In-Taken) → known_state c.args.merge.now.t (view c.take.new.pass) ≡ known_state c.args.merge.now.t (view c.args.pass.now)
 other c =
     let a = c.args in
     let e = c.in-Taken.ensures in
@@ -40,13 +40,13 @@ grow c =
     let x = e.did.6 in
     tried_may _ (view a.pass.now) (view c.take.new.pass) e.same e.keeps (shape_of a.bank.now) a.merge.now.o a.old c.in-Taken.new a.class c.requires.pass.1 c.requires.may x.0 x.1 x.3 x.4
 
-apart : (c : In-Taken) → root_in (held c.args.merge.now.o (view c.take.new.pass)) ≢ suc (name_of c.in-Taken.new)
+apart : (c : In-Taken) → root_in (held_words c.args.merge.now.o (view c.take.new.pass)) ≢ suc (table_id c.in-Taken.new)
 apart c =
     let a = c.args in
     let g = grow c in
     fresh_other (shape_of a.bank.now) (view c.take.new.pass) a.merge.now.o c.in-Taken.new (c.in-Taken.ensures.same.shape ∙ c.requires.pass.1) c.take.new.pass.possible g.keyed.container g.keyed.locked g.table_in g.fresh
 
-class_named : (c : In-Taken) → class_of (name_of c.in-Taken.new) ≡ c.args.class
+class_named : (c : In-Taken) → class_of (table_id c.in-Taken.new) ≡ c.args.class
 class_named c = let x = c.in-Taken.ensures.did.6 in class_is c.in-Taken.new x.0.2 ∙ x.1
 
 pub join_in_new-number-requires-clause-merge : goal.join_in_new-number-requires-clause-merge
@@ -86,10 +86,10 @@ retire_old-requires-clause-out c t is =
     let w = view c.join_in_new-number.new.pass in
     let e = c.join_in_new-number.ensures in
     let at = c.requires.joins.changed in
-    let root : root_in (held a.merge.now.o u) ≡ suc (name_of t) = (grow d).keyed.root ∙ ap root_for is in
-    let before : root_in (held (changes a.called.now) u) ≡ suc (name_of t) = subst (λ (n : ℕ). root_in (held n u) ≡ suc (name_of t)) (sym at) root in
-    let after : root_in (held (changes a.called.now) w) ≡ suc (name_of c.in-Taken.new) = subst (λ (n : ℕ). root_in (held n w) ≡ suc (name_of c.in-Taken.new)) (sym at) e.root in
-    let out = taken_out a.called.now reply.Done c.join_in_new-number.result (name_of t) (suc (name_of c.in-Taken.new)) u w e.wrote before after (λ same_name. apart d (root ∙ same_name)) in
+    let root : root_in (held_words a.merge.now.o u) ≡ suc (table_id t) = (grow d).keyed.root ∙ ap root_for is in
+    let before : root_in (held_words (changes a.called.now) u) ≡ suc (table_id t) = subst (λ (n : ℕ). root_in (held_words n u) ≡ suc (table_id t)) (sym at) root in
+    let after : root_in (held_words (changes a.called.now) w) ≡ suc (table_id c.in-Taken.new) = subst (λ (n : ℕ). root_in (held_words n w) ≡ suc (table_id c.in-Taken.new)) (sym at) e.root in
+    let out = taken_out a.called.now reply.Done c.join_in_new-number.result (table_id t) (suc (table_id c.in-Taken.new)) u w e.wrote before after (λ same_name. apart d (root ∙ same_name)) in
     (c.requires.may.keyed.table_in t is, out.0, out.1)
 
 pub returns-in-Taken-clause-added : goal.returns-in-Taken-clause-added
@@ -108,10 +108,10 @@ returns-in-Taken-clause-added c =
         table = c.in-Taken.new;
         taken = u;
         tried = record { mid = e.did.0; freed = e.did.1; acts = e.did.2; collected = e.did.3; did = e.did.4; taking = e.did.5; has = e.did.6; floor = e.floor; same = e.same; keeps = e.keeps; hands = e.hands };
-        other = subst (λ (n : ℕ). root_in (held n u) ≢ suc (name_of c.in-Taken.new)) (sym at) (apart d);
+        other = subst (λ (n : ℕ). root_in (held_words n u) ≢ suc (table_id c.in-Taken.new)) (sym at) (apart d);
         done = done;
         wrote = subst (λ (z : Stamp). Wrote a.called.now reply.Done z.number u done) (sym is) w.wrote;
-        root = subst (λ (n : ℕ). root_in (held n done) ≡ suc (name_of c.in-Taken.new)) (sym at) w.root;
-        retired = subst (λ (n : ℕ). Retires n done (view c.retire_old.new.pass)) (sym (grow d).keyed.root ∙ sym (ap (λ (n : ℕ). root_in (held n u)) at)) c.retire_old.ensures.retired;
+        root = subst (λ (n : ℕ). root_in (held_words n done) ≡ suc (table_id c.in-Taken.new)) (sym at) w.root;
+        retired = subst (λ (n : ℕ). Retires n done (view c.retire_old.new.pass)) (sym (grow d).keyed.root ∙ sym (ap (λ (n : ℕ). root_in (held_words n u)) at)) c.retire_old.ensures.retired;
       },
     )

@@ -1,14 +1,14 @@
 use Rattle.std.proofs.Common.{◌≡◌, false}
 use Rattle.ft_model.specs.TableUses.{passes_cap}
 use Rattle.ft_growth.specs.declared.adding.Added.TheVariants as added
-use Rattle.ft_trace.specs.Holds.{known}
+use Rattle.ft_trace.specs.Holds.{known_state}
 use Rattle.ft_bank.specs.Passes.{shape_of, view}
 use Rattle.ft_merging.proofs.JoinedCalls.{joins_leaves, joins_nothing, made_here}
 use Rattle.ft_merging.proofs.JoinedSame.{known_cap}
 use Rattle.ft_merging.proofs.joining.join_nothing.Goals as goal
 use Rattle.ft_merging.proofs.joining.join_nothing.Goals.{After-used_entries_follow_a_set}
 
-few : (c : After-used_entries_follow_a_set) → passes_cap (known c.args.o (view c.args.pass.now)).content ≡ false
+few : (c : After-used_entries_follow_a_set) → passes_cap (known_state c.args.o (view c.args.pass.now)).content ≡ false
 few c = known_cap (shape_of c.args.bank.now) c.args.o (view c.args.pass.now) c.requires.pass.1 c.args.pass.now.possible c.requires.may.keyed c.requires.may.locked c.requires.may.stands (record { pairs = c.used_entries_follow_a_dict.ensures.first; elements = c.used_entries_follow_a_set.ensures.first })
 
 pub write_nothing-requires-clause-leaves : goal.write_nothing-requires-clause-leaves

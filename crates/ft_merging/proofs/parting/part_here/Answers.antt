@@ -9,11 +9,11 @@ use Rattle.ft_layout.specs.Containers.{IsSetWords}
 use Rattle.ft_keys.specs.declared.walk.Way.TheVariants as way
 use Rattle.ft_trace.specs.declared.View.{View}
 use Rattle.ft_trace.specs.Addresses.{class_of}
-use Rattle.ft_trace.specs.Holds.{held, known}
+use Rattle.ft_trace.specs.Holds.{held_words, known_state}
 use Rattle.ft_trace.specs.Kinds.{rows}
 use Rattle.ft_trace.specs.ContainerStates.{ContainerState}
 use Rattle.ft_bank.specs.Passes.{shape_of, view}
-use Rattle.ft_bank.specs.TableNames.{name_of}
+use Rattle.ft_bank.specs.TableNames.{table_id}
 use Rattle.ft_bank.specs.Whole.{OnlyPut}
 use Rattle.ft_bank.proofs.TableAddresses.{class_is}
 use Rattle.ft_bank.proofs.KnownAfterWrites.{put_then, work_knows}
@@ -46,49 +46,49 @@ may c = may_write (shape_of c.args.bank.now) c.args.merge.now.o (Some c.args.own
 has : (c : After-start_write) → HasTable (shape_of c.args.bank.now) c.args.merge.now.o c.args.own (view c.args.pass.now)
 has c = record { table_in = c.requires.may.keyed.table_in c.args.own refl; root = c.requires.may.keyed.root }
 
-is_first : (c : After-start_write) → (known c.args.merge.now.o (view c.args.pass.now)).content ≡ content.Set (set_of (known c.args.merge.now.o (view c.args.pass.now)).content)
+is_first : (c : After-start_write) → (known_state c.args.merge.now.o (view c.args.pass.now)).content ≡ content.Set (set_of (known_state c.args.merge.now.o (view c.args.pass.now)).content)
 is_first c = is_set (shape_of c.args.bank.now) (view c.args.pass.now) c.args.merge.now.o c.requires.pass.1 c.args.pass.now.possible c.requires.may.keyed.locked c.requires.merge.way
 
-table_is : (c : After-start_write) → (known c.args.merge.now.o (view c.args.pass.now)).table ≡ use_with (class_of (name_of c.args.own)) c.args.merge.now.counts.fill
+table_is : (c : After-start_write) → (known_state c.args.merge.now.o (view c.args.pass.now)).table ≡ use_with (class_of (table_id c.args.own)) c.args.merge.now.counts.fill
 table_is c =
     let a = c.args in
     let same = class_is a.own (c.requires.may.keyed.table_in a.own refl).2 in
     use_known c.words_are_of_one_content.ensures.head (shape_of a.bank.now) a.merge.now.o (Some a.own) (view a.pass.now) a.merge.now.counts c.requires.may.keyed c.requires.merge.counts a.pass.now.possible ∙ (λ i. record { class = Some (sym same i); fill = a.merge.now.counts.fill; keys = [] })
 
-none : (c : After-start_write) → join_takes (known c.args.merge.now.o (view c.args.pass.now)) (known c.args.merge.now.t (view c.args.pass.now)).content ≡ None
+none : (c : After-start_write) → join_takes (known_state c.args.merge.now.o (view c.args.pass.now)) (known_state c.args.merge.now.t (view c.args.pass.now)).content ≡ None
 none c =
     let a = c.args in
     let v = view a.pass.now in
-    join_stays (known a.merge.now.o v) (known a.merge.now.t v).content (set_of (known a.merge.now.o v).content) (is_first c) c.requires.room
+    join_stays (known_state a.merge.now.o v) (known_state a.merge.now.t v).content (set_of (known_state a.merge.now.o v).content) (is_first c) c.requires.room
 
-low : (c : After-start_write) → c.args.merge.now.counts.fill ≤ rows kind.Set (class_of (name_of c.args.own))
+low : (c : After-start_write) → c.args.merge.now.counts.fill ≤ rows kind.Set (class_of (table_id c.args.own))
 low c =
     let a = c.args in
     let v = view a.pass.now in
-    let f = fill_fits (shape_of a.bank.now) a.merge.now.o a.own false (set_of (known a.merge.now.t v).content) v (view c.start_write.new.pass) c.start_write.result c.requires.pass.1 a.pass.now.possible (may c) c.requires.merge.way (has c) c.start_write.ensures.1 c.used_entries_follow_a_set.ensures.first in
-    subst (λ (z : TableUse). z.fill ≤ rows kind.Set (class_of (name_of a.own))) (table_is c) f
+    let f = fill_fits (shape_of a.bank.now) a.merge.now.o a.own false (set_of (known_state a.merge.now.t v).content) v (view c.start_write.new.pass) c.start_write.result c.requires.pass.1 a.pass.now.possible (may c) c.requires.merge.way (has c) c.start_write.ensures.1 c.used_entries_follow_a_set.ensures.first in
+    subst (λ (z : TableUse). z.fill ≤ rows kind.Set (class_of (table_id a.own))) (table_is c) f
 
-room : (c : After-start_write) → c.args.merge.now.counts.fill + c.args.merge.now.more ≤ rows kind.Set (class_of (name_of c.args.own))
+room : (c : After-start_write) → c.args.merge.now.counts.fill + c.args.merge.now.more ≤ rows kind.Set (class_of (table_id c.args.own))
 room c =
     let a = c.args in
     let v = view a.pass.now in
-    let d = (known a.merge.now.o v).content in
+    let d = (known_state a.merge.now.o v).content in
     let same = class_is a.own (c.requires.may.keyed.table_in a.own refl).2 in
     let uses = use_known c.words_are_of_one_content.ensures.head (shape_of a.bank.now) a.merge.now.o (Some a.own) v a.merge.now.counts c.requires.may.keyed c.requires.merge.counts a.pass.now.possible in
     subst (λ (n : ℕ). a.merge.now.counts.fill + a.merge.now.more ≤ rows kind.Set n) (sym same)
     (keys_room d way.Set a.own a.merge.now.counts.fill a.merge.now.more (kind_is (shape_of a.bank.now) v a.merge.now.o c.requires.pass.1 a.pass.now.possible c.requires.may.keyed.locked ∙ c.requires.merge.way) (subst (λ (n : ℕ). a.merge.now.counts.fill ≤ rows kind.Set n) same (low c))
     ((λ i. keys_take d (sym uses i) (c.requires.merge.more i)) ∙ none c))
 
-cap : (c : After-start_write) → passes_cap (joined (known c.args.merge.now.o (view c.args.pass.now)).content (known c.args.merge.now.t (view c.args.pass.now)).content) ≡ false
+cap : (c : After-start_write) → passes_cap (joined (known_state c.args.merge.now.o (view c.args.pass.now)).content (known_state c.args.merge.now.t (view c.args.pass.now)).content) ≡ false
 cap c =
     let a = c.args in
     let k = shape_of a.bank.now in
     let v = view a.pass.now in
-    let x = held a.merge.now.o v in
-    let class = class_of (name_of a.own) in
-    let says = first_says k a.merge.now.o a.own false (set_of (known a.merge.now.t v).content) v (view c.start_write.new.pass) c.start_write.result c.requires.pass.1 a.pass.now.possible (may c) c.requires.merge.way (has c) c.start_write.ensures.1 in
-    let here = subst (λ (z : TableUse). IsSetWords k.texts x.block (0 ∷ 0 ∷ x.table) (Some class) z.fill (set_of (known a.merge.now.o v).content)) (table_is c) says in
-    join_fits k.texts x.block (0 ∷ 0 ∷ x.table) class a.merge.now.counts.fill a.merge.now.more (set_of (known a.merge.now.o v).content) (known a.merge.now.o v).content (known a.merge.now.t v).content (table_class k a.own (has c).table_in) here (is_first c) c.requires.merge.more (room c)
+    let x = held_words a.merge.now.o v in
+    let class = class_of (table_id a.own) in
+    let says = first_says k a.merge.now.o a.own false (set_of (known_state a.merge.now.t v).content) v (view c.start_write.new.pass) c.start_write.result c.requires.pass.1 a.pass.now.possible (may c) c.requires.merge.way (has c) c.start_write.ensures.1 in
+    let here = subst (λ (z : TableUse). IsSetWords k.texts x.block (0 ∷ 0 ∷ x.table) (Some class) z.fill (set_of (known_state a.merge.now.o v).content)) (table_is c) says in
+    join_fits k.texts x.block (0 ∷ 0 ∷ x.table) class a.merge.now.counts.fill a.merge.now.more (set_of (known_state a.merge.now.o v).content) (known_state a.merge.now.o v).content (known_state a.merge.now.t v).content (table_class k a.own (has c).table_in) here (is_first c) c.requires.merge.more (room c)
 
 pub overflow_add-end : goal.overflow_add-end
 overflow_add-end c =
@@ -108,7 +108,7 @@ join_all-requires-clause-other c =
     knows_begun (shape_of a.bank.now) a.merge.now.o a.merge.now.t (Some a.merge.now.table) (view a.pass.now) (view c.start_write.new.pass) c.start_write.result c.start_write.ensures.1 c.requires.merge.two c.requires.merge.other
 
 pub join_all-requires-clause-fill : goal.join_all-requires-clause-fill
-join_all-requires-clause-fill c = c.requires.merge.others ∙ sym (ap (λ (z : View). (known c.args.merge.now.t z).table.fill) c.start_write.ensures.1)
+join_all-requires-clause-fill c = c.requires.merge.others ∙ sym (ap (λ (z : View). (known_state c.args.merge.now.t z).table.fill) c.start_write.ensures.1)
 
 pub join_all-requires-clause-joining : goal.join_all-requires-clause-joining
 join_all-requires-clause-joining c =
@@ -120,8 +120,8 @@ join_all-requires-clause-joining c =
 -- ---- those that both had
 
 -- what the pass knows is as it was
-knows : (c : After-join_all) (p : ℕ) → known p (view c.join_all.new.pass) ≡ known p (view c.args.pass.now)
-knows c p = work_knows (view c.start_write.new.pass) (view c.join_all.new.pass) p c.join_all.ensures.only.work ∙ ap (known p) c.start_write.ensures.1
+knows : (c : After-join_all) (p : ℕ) → known_state p (view c.join_all.new.pass) ≡ known_state p (view c.args.pass.now)
+knows c p = work_knows (view c.start_write.new.pass) (view c.join_all.new.pass) p c.join_all.ensures.only.work ∙ ap (known_state p) c.start_write.ensures.1
 
 pub thin_all-requires-clause-fill : goal.thin_all-requires-clause-fill
 thin_all-requires-clause-fill c = low (goal.at.thin_all-requires-clause-fill c).After-start_write
@@ -143,13 +143,13 @@ thin_all-requires-clause-other c ne =
 
 -- what the first one has at the end
 abbrev to : After-join_all → ContainerState
-to c = record { content = content.Set (parted (known c.args.merge.now.o (view c.args.pass.now)).content (known c.args.merge.now.t (view c.args.pass.now)).content); table = use_with (class_of (name_of c.args.own)) (c.args.merge.now.counts.fill + c.args.merge.now.more) }
+to c = record { content = content.Set (parted (known_state c.args.merge.now.o (view c.args.pass.now)).content (known_state c.args.merge.now.t (view c.args.pass.now)).content); table = use_with (class_of (table_id c.args.own)) (c.args.merge.now.counts.fill + c.args.merge.now.more) }
 
 abbrev Thinned : (c : After-join_all) → ℕ → View → Type 0
-Thinned c place w = IsThinned (shape_of c.args.bank.now) c.args.merge.now.o c.args.own false (set_of (known c.args.merge.now.t w).content) (set_of (known c.args.merge.now.o w).content) (to c) c.args.merge.now.counts.fill place w
+Thinned c place w = IsThinned (shape_of c.args.bank.now) c.args.merge.now.o c.args.own false (set_of (known_state c.args.merge.now.t w).content) (set_of (known_state c.args.merge.now.o w).content) (to c) c.args.merge.now.counts.fill place w
 
 -- before the first one goes
-begins : (c : After-join_all) → MayWriteEntries (shape_of c.args.bank.now) c.args.merge.now.o (view c.args.pass.now) → HasTable (shape_of c.args.bank.now) c.args.merge.now.o c.args.own (view c.args.pass.now) → (known c.args.merge.now.o (view c.args.pass.now)).table ≡ use_with (class_of (name_of c.args.own)) c.args.merge.now.counts.fill → Thinned c 0 (view c.join_all.new.pass)
+begins : (c : After-join_all) → MayWriteEntries (shape_of c.args.bank.now) c.args.merge.now.o (view c.args.pass.now) → HasTable (shape_of c.args.bank.now) c.args.merge.now.o c.args.own (view c.args.pass.now) → (known_state c.args.merge.now.o (view c.args.pass.now)).table ≡ use_with (class_of (table_id c.args.own)) c.args.merge.now.counts.fill → Thinned c 0 (view c.join_all.new.pass)
 begins c m h table =
     let a = c.args in
     let k = shape_of a.bank.now in
@@ -158,7 +158,7 @@ begins c m h table =
     let w = view c.join_all.new.pass in
     let begun = c.start_write.ensures.1 in
     let e = c.join_all.ensures in
-    let j = subst (λ (z : ContainerState × ContainerState). IsJoining k a.merge.now.o way.Set a.own a.merge.now.t a.merge.now.table (joined z.0.content z.1.content) (a.merge.now.counts.fill + a.merge.now.more) a.merge.now.others c.join_all.result w) (λ i. (ap (known a.merge.now.o) begun i, ap (known a.merge.now.t) begun i)) e.joining in
+    let j = subst (λ (z : ContainerState × ContainerState). IsJoining k a.merge.now.o way.Set a.own a.merge.now.t a.merge.now.table (joined z.0.content z.1.content) (a.merge.now.counts.fill + a.merge.now.more) a.merge.now.others c.join_all.result w) (λ i. (ap (known_state a.merge.now.o) begun i, ap (known_state a.merge.now.t) begun i)) e.joining in
     subst (λ (z : ContainerState × ContainerState). IsThinned k a.merge.now.o a.own false (set_of z.0.content) (set_of z.1.content) (to c) a.merge.now.counts.fill 0 w) (sym (λ i. (knows c a.merge.now.t i, knows c a.merge.now.o i)))
     (parting_begins c.used_entries_follow_a_set.ensures.first k a.merge.now.o a.merge.now.t a.own a.merge.now.table v u w c.start_write.result c.requires.pass.1 a.pass.now.possible m c.requires.merge.way h begun e.only a.merge.now.counts.fill (a.merge.now.counts.fill + a.merge.now.more) a.merge.now.others c.join_all.result (ap (λ (z : TableUse). z.fill) (sym table))
     j (c.requires.merge.others ∙ sym (ap (λ (z : ContainerState). z.table.fill) (knows c a.merge.now.t))) (e.keeps refl))
@@ -177,7 +177,7 @@ only c = put_then (view c.start_write.new.pass) (view c.join_all.new.pass) (view
 pub finish_entries-requires-clause-fill : goal.finish_entries-requires-clause-fill
 finish_entries-requires-clause-fill c =
     let d = (goal.at.finish_entries-requires-clause-fill c).After-start_write in
-    subst (λ (z : Kind). c.args.merge.now.counts.fill + c.args.merge.now.more ≤ rows z (class_of (name_of c.args.own))) (sym c.requires.merge.way) (room d)
+    subst (λ (z : Kind). c.args.merge.now.counts.fill + c.args.merge.now.more ≤ rows z (class_of (table_id c.args.own))) (sym c.requires.merge.way) (room d)
 
 pub finish_entries-requires-clause-may : goal.finish_entries-requires-clause-may
 finish_entries-requires-clause-may c =
@@ -191,9 +191,9 @@ finish_entries-requires-clause-may c =
     let w = view c.thin_all.new.pass in
     let laws : Laws = record { pairs = c.used_entries_follow_a_dict.ensures.first; elements = c.used_entries_follow_a_set.ensures.first } in
     let th = subst (λ (z : ContainerState × ContainerState). IsThinned k a.merge.now.o a.own false (set_of z.0.content) (set_of z.1.content) (to b) a.merge.now.counts.fill a.merge.now.counts.fill w) (λ i. (knows b a.merge.now.t i, knows b a.merge.now.o i)) (c.thin_all.ensures.thinned (to b) (begins b (may d) (has d) (table_is d))) in
-    thinned_finishes k a.merge.now.o a.own false (set_of (known a.merge.now.t v).content) v u c.start_write.result c.requires.pass.1 a.pass.now.possible (may d) c.requires.merge.way (has d) c.start_write.ensures.1
-    laws w (only at.After-thin_all) a.merge.now.counts.fill (parted (known a.merge.now.o v).content (known a.merge.now.t v).content) (use_with (class_of (name_of a.own)) (a.merge.now.counts.fill + a.merge.now.more)) th a.called.now reply.Done
-    (parts_here a.merge.now.o a.merge.now.t a.called.now v (class_of (name_of a.own)) a.merge.now.counts.fill a.merge.now.more (set_of (known a.merge.now.o v).content) c.requires.parts (is_first d) (table_is d) c.requires.merge.more c.requires.room c.requires.few)
+    thinned_finishes k a.merge.now.o a.own false (set_of (known_state a.merge.now.t v).content) v u c.start_write.result c.requires.pass.1 a.pass.now.possible (may d) c.requires.merge.way (has d) c.start_write.ensures.1
+    laws w (only at.After-thin_all) a.merge.now.counts.fill (parted (known_state a.merge.now.o v).content (known_state a.merge.now.t v).content) (use_with (class_of (table_id a.own)) (a.merge.now.counts.fill + a.merge.now.more)) th a.called.now reply.Done
+    (parts_here a.merge.now.o a.merge.now.t a.called.now v (class_of (table_id a.own)) a.merge.now.counts.fill a.merge.now.more (set_of (known_state a.merge.now.o v).content) c.requires.parts (is_first d) (table_is d) c.requires.merge.more c.requires.room c.requires.few)
 
 pub returns-clause-wrote : goal.returns-clause-wrote
 returns-clause-wrote c =

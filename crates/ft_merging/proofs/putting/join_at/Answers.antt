@@ -12,14 +12,14 @@ use Rattle.ft_layout.specs.declared.slot.Stored.{Stored}
 use Rattle.ft_layout.specs.declared.slot.Stored.TheVariants.{Boxed, Empty, Plain}
 use Rattle.ft_trace.specs.declared.Shape.{Shape}
 use Rattle.ft_trace.specs.declared.View.{View}
-use Rattle.ft_trace.specs.Addresses.{class_of, containers_in, slots}
-use Rattle.ft_trace.specs.Holds.{held, known}
+use Rattle.ft_trace.specs.Addresses.{class_of, container_count, slots}
+use Rattle.ft_trace.specs.Holds.{held_words, known_state}
 use Rattle.ft_trace.specs.Kinds.{rows}
-use Rattle.ft_trace.specs.Pictures.{Picture, entry_field, root_in, Stands}
+use Rattle.ft_trace.specs.Pictures.{ContainerWords, entry_field, root_in, Represents}
 use Rattle.ft_trace.specs.ContainerStates.{ContainerState, kind_in}
 use Rattle.ft_trace.specs.WholeWrites.{MayPuts, with_puts}
 use Rattle.ft_bank.specs.Passes.{shape_of, view}
-use Rattle.ft_bank.specs.TableNames.{name_of}
+use Rattle.ft_bank.specs.TableNames.{table_id}
 use Rattle.ft_bank.specs.Whole.{OnlyLoaded}
 use Rattle.ft_bank.proofs.KnownAfterWrites.{loaded_held, loaded_put, loaded_then, put_then}
 use Rattle.ft_search.proofs.Puts.{writes_on}
@@ -42,11 +42,11 @@ use Rattle.ft_merging.proofs.putting.join_at.Goals as goal
 use Rattle.ft_merging.proofs.putting.join_at.Goals.{After-pair_at, After-seek_in, After-words_follow_a_set, In-Some}
 
 -- loads change no words
-same_below : (t place : ℕ) (v w : View) (o : ℕ) → OnlyLoaded v w → KeepsBelow t place (held o v) (held o w)
-same_below t place v w o only p word less few = ap (λ (x : Picture). entry_field (slots (class_of t)) x.table p word) (loaded_held v w o only)
+same_below : (t place : ℕ) (v w : View) (o : ℕ) → OnlyLoaded v w → KeepsBelow t place (held_words o v) (held_words o w)
+same_below t place v w o only p word less few = ap (λ (x : ContainerWords). entry_field (slots (class_of t)) x.table p word) (loaded_held v w o only)
 
 abbrev done : After-words_follow_a_set → Content
-done c = joined (known c.args.o (view c.args.pass.now)).content (known c.args.t (view c.args.pass.now)).content
+done c = joined (known_state c.args.o (view c.args.pass.now)).content (known_state c.args.t (view c.args.pass.now)).content
 
 laws : After-words_follow_a_set → PlaceLaws
 laws c =
@@ -87,7 +87,7 @@ pair_at-requires-clause-place c =
     let s = source_known (record { pairs = c.used_entries_follow_a_dict.ensures.first; elements = c.used_entries_follow_a_set.ensures.first }) (shape_of a.bank.now) a.t a.table (view a.pass.now) c.requires.pass.1 a.pass.now.possible c.requires.other a.way c.requires.other_way in
     let few = s.few in
     let low = c.requires.place in
-    subst (λ (z : Kind). a.place < rows z (class_of (name_of a.table))) (sym c.requires.other_way) (omega (arith, few, low))
+    subst (λ (z : Kind). a.place < rows z (class_of (table_id a.table))) (sym c.requires.other_way) (omega (arith, few, low))
 
 -- what was found there
 found : (c : After-pair_at) → c.pair_at.result ≡ pair_in (slot_of (shape_of c.args.bank.now).texts (slice_index_or c.requires.joining.used c.args.place any))
@@ -96,7 +96,7 @@ found c =
     let k = shape_of a.bank.now in
     let j = c.requires.joining in
     let low = inside k a.o a.way a.own a.t a.table _ a.end a.place a.counts (view a.pass.now) j c.requires.place any in
-    c.pair_at.ensures.pair (slot_of k.texts (slice_index_or j.used a.place any)) (entry_used a.way k.texts k a.table (c.requires.other.table_in a.table refl) j.used (held a.t (view a.pass.now)).table j.source a.place any low)
+    c.pair_at.ensures.pair (slot_of k.texts (slice_index_or j.used a.place any)) (entry_used a.way k.texts k a.table (c.requires.other.table_in a.table refl) j.used (held_words a.t (view a.pass.now)).table j.source a.place any low)
 
 -- the pair, where one is there
 there : (c : In-Some) → ((slice_index_or c.requires.joining.used c.args.place any).stored ≡ Some c.in-Some.pair.value) × ((slice_index_or c.requires.joining.used c.args.place any).key ≡ c.in-Some.pair.key) × (c.in-Some.pair.hash ≡ hash_of (shape_of c.args.bank.now).texts c.in-Some.pair.key) × FitsKey c.in-Some.pair.key × FitsStored c.in-Some.pair.value
@@ -106,9 +106,9 @@ there c =
     let j = c.requires.joining in
     let low = inside k a.o a.way a.own a.t a.table _ a.end a.place a.counts (view a.pass.now) j c.requires.place any in
     pair_used k.texts (slice_index_or j.used a.place any) c.pair_at.result
-    (c.pair_at.ensures.pair (slot_of k.texts (slice_index_or j.used a.place any)) (entry_used a.way k.texts k a.table (c.requires.other.table_in a.table refl) j.used (held a.t (view a.pass.now)).table j.source a.place any low))
-    (entry_field (slots (class_of (name_of a.table))) (held a.t (view a.pass.now)).table a.place)
-    (entry_used a.way k.texts k a.table (c.requires.other.table_in a.table refl) j.used (held a.t (view a.pass.now)).table j.source a.place any low) c.in-Some.pair c.in-Some.is
+    (c.pair_at.ensures.pair (slot_of k.texts (slice_index_or j.used a.place any)) (entry_used a.way k.texts k a.table (c.requires.other.table_in a.table refl) j.used (held_words a.t (view a.pass.now)).table j.source a.place any low))
+    (entry_field (slots (class_of (table_id a.table))) (held_words a.t (view a.pass.now)).table a.place)
+    (entry_used a.way k.texts k a.table (c.requires.other.table_in a.table refl) j.used (held_words a.t (view a.pass.now)).table j.source a.place any low) c.in-Some.pair c.in-Some.is
 
 -- ---- it was deleted
 
@@ -127,7 +127,7 @@ returns-in_default-clause-joining c =
     (joining_dead k a.o a.way a.own a.t a.table _ a.end a.place a.counts v j c.requires.place any dead)
 
 pub returns-in_default-clause-keeps : goal.returns-in_default-clause-keeps
-returns-in_default-clause-keeps c sets = same_below (name_of c.args.own) c.args.counts.fill (view c.args.pass.now) (view c.pair_at.new.pass) c.args.o c.pair_at.ensures.only
+returns-in_default-clause-keeps c sets = same_below (table_id c.args.own) c.args.counts.fill (view c.args.pass.now) (view c.pair_at.new.pass) c.args.o c.pair_at.ensures.only
 
 -- ---- the search
 
@@ -149,19 +149,19 @@ seek_in-requires-clause-fits c = (there (goal.at.seek_in-requires-clause-fits c)
 loads : (c : After-seek_in) → OnlyLoaded (view c.args.pass.now) (view c.seek_in.new.pass)
 loads c = loaded_then (view c.args.pass.now) (view c.pair_at.new.pass) (view c.seek_in.new.pass) c.pair_at.ensures.only c.seek_in.ensures.only
 
-held_on : (c : After-seek_in) → held c.args.o (view c.seek_in.new.pass) ≡ held c.args.o (view c.args.pass.now)
+held_on : (c : After-seek_in) → held_words c.args.o (view c.seek_in.new.pass) ≡ held_words c.args.o (view c.args.pass.now)
 held_on c = loaded_held (view c.args.pass.now) (view c.seek_in.new.pass) c.args.o (loads c)
 
 -- what it came to
-came : (c : After-seek_in) (key : Key) (found : Spot) → ((mid : ContainerState) → kind_of mid.content ≡ kind_by c.args.way → Stands (shape_of c.args.bank.now).texts (held c.args.o (view c.pair_at.new.pass)) mid → IsSought (shape_of c.args.bank.now) c.args.way c.args.own key (held c.args.o (view c.pair_at.new.pass)) mid.content found)
-    → IsSought (shape_of c.args.bank.now) c.args.way c.args.own key (held c.args.o (view c.args.pass.now)) c.requires.joining.mid found
+came : (c : After-seek_in) (key : Key) (found : Spot) → ((mid : ContainerState) → kind_of mid.content ≡ kind_by c.args.way → Represents (shape_of c.args.bank.now).texts (held_words c.args.o (view c.pair_at.new.pass)) mid → IsSought (shape_of c.args.bank.now) c.args.way c.args.own key (held_words c.args.o (view c.pair_at.new.pass)) mid.content found)
+    → IsSought (shape_of c.args.bank.now) c.args.way c.args.own key (held_words c.args.o (view c.args.pass.now)) c.requires.joining.mid found
 came c key found is =
     let a = c.args in
     let k = shape_of a.bank.now in
     let j = c.requires.joining in
     let same = loaded_held (view a.pass.now) (view c.pair_at.new.pass) a.o c.pair_at.ensures.only in
-    let mid : ContainerState = record { content = j.mid; table = record { class = Some (class_of (name_of a.own)); fill = a.counts.fill; keys = [] } } in
-    subst (λ (x : Picture). IsSought k a.way a.own key x j.mid found) same (is mid j.same_kind (subst (λ (x : Picture). Stands k.texts x mid) (sym same) j.midway.stands))
+    let mid : ContainerState = record { content = j.mid; table = record { class = Some (class_of (table_id a.own)); fill = a.counts.fill; keys = [] } } in
+    subst (λ (x : ContainerWords). IsSought k a.way a.own key x j.mid found) same (is mid j.same_kind (subst (λ (x : ContainerWords). Represents k.texts x mid) (sym same) j.midway.stands))
 
 pub returns-in-Bare-clause-only : goal.returns-in-Bare-clause-only
 returns-in-Bare-clause-only c = loaded_put (view c.args.pass.now) (view c.seek_in.new.pass) c.args.o (loads (goal.at.returns-in-Bare-clause-only c).After-seek_in)
@@ -170,7 +170,7 @@ pub returns-in-Bare-clause-joining : goal.returns-in-Bare-clause-joining
 returns-in-Bare-clause-joining c = let at = goal.at.returns-in-Bare-clause-joining c in absurd (came at.After-seek_in c.in-Some.pair.key spot.Bare c.in-Bare.ensures.spot)
 
 pub returns-in-Bare-clause-keeps : goal.returns-in-Bare-clause-keeps
-returns-in-Bare-clause-keeps c sets = same_below (name_of c.args.own) c.args.counts.fill (view c.args.pass.now) (view c.seek_in.new.pass) c.args.o (loads (goal.at.returns-in-Bare-clause-keeps c).After-seek_in)
+returns-in-Bare-clause-keeps c sets = same_below (table_id c.args.own) c.args.counts.fill (view c.args.pass.now) (view c.seek_in.new.pass) c.args.o (loads (goal.at.returns-in-Bare-clause-keeps c).After-seek_in)
 
 -- ---- its key is there
 
@@ -205,12 +205,12 @@ put_stored-requires-clause-early c = (loads (goal.at.put_stored-requires-clause-
 pub put_stored-requires-clause-old_kind : goal.put_stored-requires-clause-old_kind
 put_stored-requires-clause-old_kind c =
     let s = (goal.at.put_stored-requires-clause-old_kind c).After-seek_in in
-    (came s c.in-Some.pair.key (spot.At c.in-At.field-0 c.in-At.at c.in-At.kind c.in-At.payload) c.in-At.ensures.spot).3 ∙ sym (ap (λ (x : Picture). entry_field (slots (class_of (name_of c.args.own))) x.table c.in-At.at 4) (held_on s))
+    (came s c.in-Some.pair.key (spot.At c.in-At.field-0 c.in-At.at c.in-At.kind c.in-At.payload) c.in-At.ensures.spot).3 ∙ sym (ap (λ (x : ContainerWords). entry_field (slots (class_of (table_id c.args.own))) x.table c.in-At.at 4) (held_on s))
 
 pub put_stored-requires-clause-old_payload : goal.put_stored-requires-clause-old_payload
 put_stored-requires-clause-old_payload c =
     let s = (goal.at.put_stored-requires-clause-old_payload c).After-seek_in in
-    (came s c.in-Some.pair.key (spot.At c.in-At.field-0 c.in-At.at c.in-At.kind c.in-At.payload) c.in-At.ensures.spot).4 ∙ sym (ap (λ (x : Picture). entry_field (slots (class_of (name_of c.args.own))) x.table c.in-At.at 5) (held_on s))
+    (came s c.in-Some.pair.key (spot.At c.in-At.field-0 c.in-At.at c.in-At.kind c.in-At.payload) c.in-At.ensures.spot).4 ∙ sym (ap (λ (x : ContainerWords). entry_field (slots (class_of (table_id c.args.own))) x.table c.in-At.at 5) (held_on s))
 
 pub put_stored-requires-clause-may : goal.put_stored-requires-clause-may
 put_stored-requires-clause-may c =
@@ -220,8 +220,8 @@ put_stored-requires-clause-may c =
     let p = there d.In-Some in
     let f = came d.After-seek_in c.in-Some.pair.key (spot.At c.in-At.field-0 c.in-At.at c.in-At.kind c.in-At.payload) c.in-At.ensures.spot in
     let u = view c.seek_in.new.pass in
-    subst (λ (x : Picture). MayPuts (kind_in k.starts a.o) (name_of a.own) (known a.o u).content false x (stored_puts (slots (class_of (name_of a.own))) x.table c.in-At.at c.in-Some.pair.value)) (sym (held_on d.After-seek_in))
-    (joining_may k a.o a.way a.own a.t a.table (done d.After-words_follow_a_set) a.end a.place a.counts (view a.pass.now) c.requires.joining c.requires.place any c.in-Some.pair.key c.in-Some.pair.value p.1 p.0 (value_laws d.After-words_follow_a_set) p.3 p.4 c.in-At.at f.0 f.1 (known a.o u).content)
+    subst (λ (x : ContainerWords). MayPuts (kind_in k.starts a.o) (table_id a.own) (known_state a.o u).content false x (stored_puts (slots (class_of (table_id a.own))) x.table c.in-At.at c.in-Some.pair.value)) (sym (held_on d.After-seek_in))
+    (joining_may k a.o a.way a.own a.t a.table (done d.After-words_follow_a_set) a.end a.place a.counts (view a.pass.now) c.requires.joining c.requires.place any c.in-Some.pair.key c.in-Some.pair.value p.1 p.0 (value_laws d.After-words_follow_a_set) p.3 p.4 c.in-At.at f.0 f.1 (known_state a.o u).content)
 
 pub returns-in-At-clause-only : goal.returns-in-At-clause-only
 returns-in-At-clause-only c =
@@ -241,15 +241,15 @@ returns-in-At-clause-joining c =
     let f = came d.After-seek_in c.in-Some.pair.key (spot.At c.in-At.field-0 c.in-At.at c.in-At.kind c.in-At.payload) c.in-At.ensures.spot in
     let e = c.put_stored.ensures in
     let stored = c.in-Some.pair.value in
-    let n = slots (class_of (name_of a.own)) in
+    let n = slots (class_of (table_id a.own)) in
     let only = put_then v u z a.o (loaded_put v u a.o (loads d.After-seek_in)) e.only in
     let same = held_on d.After-seek_in in
-    let other = only.others a.t (subst (λ (y : Shape). a.t < containers_in y) (sym c.requires.pass.1) c.requires.other.container) (λ eq. c.requires.two (sym eq)) c.requires.other.locked c.requires.other.even in
-    let words : held a.o z ≡ with_puts (held a.o v) (stored_puts n (held a.o v).table c.in-At.at stored) = e.words ∙ (λ i. with_puts (same i) (stored_puts n (same i).table c.in-At.at stored)) in
+    let other = only.others a.t (subst (λ (y : Shape). a.t < container_count y) (sym c.requires.pass.1) c.requires.other.container) (λ eq. c.requires.two (sym eq)) c.requires.other.locked c.requires.other.even in
+    let words : held_words a.o z ≡ with_puts (held_words a.o v) (stored_puts n (held_words a.o v).table c.in-At.at stored) = e.words ∙ (λ i. with_puts (same i) (stored_puts n (same i).table c.in-At.at stored)) in
     joining_there k a.o a.way a.own a.t a.table (done d.After-words_follow_a_set) a.end a.place a.counts v c.requires.joining c.requires.place any c.in-Some.pair.key stored p.1 p.0 (value_laws d.After-words_follow_a_set) p.3 p.4 c.in-At.at f.0 f.1 f.2 z only words e.writes other
 
 -- an element of a set has no value, and so nothing is put
-no_puts : (stored : Stored) → StoresAs kind.Set stored → (n place : ℕ) (x : Picture) → with_puts x (stored_puts n x.table place stored) ≡ x
+no_puts : (stored : Stored) → StoresAs kind.Set stored → (n place : ℕ) (x : ContainerWords) → with_puts x (stored_puts n x.table place stored) ≡ x
 no_puts Empty ok n place x = refl
 no_puts (Plain value) ok n place x = absurd ok
 no_puts (Boxed block) ok n place x = absurd ok
@@ -263,8 +263,8 @@ returns-in-At-clause-keeps c sets q w less few =
     let p = there at.In-Some in
     let stored = c.in-Some.pair.value in
     let ok = stores k a.o a.way a.own a.t a.table (done at.After-words_follow_a_set) a.end a.place a.counts (view a.pass.now) j c.requires.place any c.in-Some.pair.key stored p.1 p.0 in
-    let none = no_puts stored (subst (λ (z : Kind). StoresAs z stored) (j.same_kind ∙ sets) ok) (slots (class_of (name_of a.own))) c.in-At.at (held a.o (view c.seek_in.new.pass)) in
-    ap (λ (x : Picture). entry_field (slots (class_of (name_of a.own))) x.table q w) (c.put_stored.ensures.words ∙ (none ∙ held_on at.After-seek_in))
+    let none = no_puts stored (subst (λ (z : Kind). StoresAs z stored) (j.same_kind ∙ sets) ok) (slots (class_of (table_id a.own))) c.in-At.at (held_words a.o (view c.seek_in.new.pass)) in
+    ap (λ (x : ContainerWords). entry_field (slots (class_of (table_id a.own))) x.table q w) (c.put_stored.ensures.words ∙ (none ∙ held_on at.After-seek_in))
 
 -- ---- it is new
 
@@ -278,11 +278,11 @@ put_key-requires-clause-unused c =
     let j = c.requires.joining in
     let p = there at.In-Some in
     let f = came at.After-seek_in c.in-Some.pair.key (spot.Free c.in-Free.field-0 c.in-Free.slot) c.in-Free.ensures.spot in
-    let n = slots (class_of (name_of a.own)) in
+    let n = slots (class_of (table_id a.own)) in
     let ok = stores k a.o a.way a.own a.t a.table (done d) a.end a.place a.counts v j c.requires.place any c.in-Some.pair.key c.in-Some.pair.value p.1 p.0 in
     let room = new_room k a.o a.way a.own a.t a.table (done d) a.end a.place a.counts v j c.requires.place any c.in-Some.pair.key c.in-Some.pair.value p.1 p.0 f.1 in
-    subst (λ (x : Picture). IsUnused n (rows (kind_in k.starts a.o) (class_of (name_of a.own))) x.table c.in-Free.slot a.counts.fill) (sym (held_on at.After-seek_in))
-    (unused_here (laws d) k a.o a.way a.own j.mid a.counts v j.midway j.same_kind j.kind_is j.count_is j.alive c.in-Free.slot c.in-Some.pair.key c.in-Some.pair.value p.3 c.seek_in.ensures.low ok p.4 f.1 f.0 (subst (λ (z : Kind). a.counts.fill < rows z (class_of (name_of a.own))) j.kind_is room))
+    subst (λ (x : ContainerWords). IsUnused n (rows (kind_in k.starts a.o) (class_of (table_id a.own))) x.table c.in-Free.slot a.counts.fill) (sym (held_on at.After-seek_in))
+    (unused_here (laws d) k a.o a.way a.own j.mid a.counts v j.midway j.same_kind j.kind_is j.count_is j.alive c.in-Free.slot c.in-Some.pair.key c.in-Some.pair.value p.3 c.seek_in.ensures.low ok p.4 f.1 f.0 (subst (λ (z : Kind). a.counts.fill < rows z (class_of (table_id a.own))) j.kind_is room))
 
 pub put_key-requires-clause-value : goal.put_key-requires-clause-value
 put_key-requires-clause-value c = (there (goal.at.put_key-requires-clause-value c).In-Some).4
@@ -305,10 +305,10 @@ returns-in-Free-clause-joining c =
     let stored = c.in-Some.pair.value in
     let only = put_then v u z a.o (loaded_put v u a.o (loads s)) e.only in
     let same = held_on s in
-    let other = only.others a.t (subst (λ (y : Shape). a.t < containers_in y) (sym c.requires.pass.1) c.requires.other.container) (λ eq. c.requires.two (sym eq)) c.requires.other.locked c.requires.other.even in
+    let other = only.others a.t (subst (λ (y : Shape). a.t < container_count y) (sym c.requires.pass.1) c.requires.other.container) (λ eq. c.requires.two (sym eq)) c.requires.other.locked c.requires.other.even in
     let hash = p.2 in
     let next = j.next_is in
-    let words : held a.o z ≡ with_entry (name_of a.own) c.in-Free.slot a.counts (pair_for k.texts j.mid key stored) (held a.o v) = e.words ∙ (λ i. with_entry (name_of a.own) c.in-Free.slot a.counts (record { hash = hash i; key = key; value = stored; serial = next i }) (same i)) in
+    let words : held_words a.o z ≡ with_entry (table_id a.own) c.in-Free.slot a.counts (pair_for k.texts j.mid key stored) (held_words a.o v) = e.words ∙ (λ i. with_entry (table_id a.own) c.in-Free.slot a.counts (record { hash = hash i; key = key; value = stored; serial = next i }) (same i)) in
     subst (λ (y : Counts). IsJoining k a.o a.way a.own a.t a.table (done d) a.end (a.place + 1) y z) (sym c.one_more.ensures)
     (joining_new k a.o a.way a.own a.t a.table (done d) a.end a.place a.counts v j c.requires.place any key stored p.1 p.0 f.1 (laws d) c.in-Free.slot p.3 c.seek_in.ensures.low p.4 f.0 z only words e.writes other)
 
@@ -330,8 +330,8 @@ returns-in-Free-clause-keeps c sets q w less few =
     let same = held_on at.After-seek_in in
     let hash = p.2 in
     let next = j.next_is in
-    let words : held a.o (view c.put_key.new.pass) ≡ with_entry (name_of a.own) c.in-Free.slot a.counts (pair_for k.texts j.mid key stored) (held a.o v) = c.put_key.ensures.words ∙ (λ i. with_entry (name_of a.own) c.in-Free.slot a.counts (record { hash = hash i; key = key; value = stored; serial = next i }) (same i)) in
+    let words : held_words a.o (view c.put_key.new.pass) ≡ with_entry (table_id a.own) c.in-Free.slot a.counts (pair_for k.texts j.mid key stored) (held_words a.o v) = c.put_key.ensures.words ∙ (λ i. with_entry (table_id a.own) c.in-Free.slot a.counts (record { hash = hash i; key = key; value = stored; serial = next i }) (same i)) in
     let ok = stores k a.o a.way a.own a.t a.table (done d) a.end a.place a.counts v j c.requires.place any key stored p.1 p.0 in
     let room = new_room k a.o a.way a.own a.t a.table (done d) a.end a.place a.counts v j c.requires.place any key stored p.1 p.0 f.1 in
-    ap (λ (x : Picture). entry_field (slots (class_of (name_of a.own))) x.table q w) words
-    ∙ others_same (laws d) k a.o a.way a.own j.mid a.counts v j.midway j.same_kind j.kind_is j.count_is j.alive c.in-Free.slot key stored p.3 c.seek_in.ensures.low ok p.4 f.1 f.0 (subst (λ (z : Kind). a.counts.fill < rows z (class_of (name_of a.own))) j.kind_is room) q w (λ e. omega (arith, e, less)) few
+    ap (λ (x : ContainerWords). entry_field (slots (class_of (table_id a.own))) x.table q w) words
+    ∙ others_same (laws d) k a.o a.way a.own j.mid a.counts v j.midway j.same_kind j.kind_is j.count_is j.alive c.in-Free.slot key stored p.3 c.seek_in.ensures.low ok p.4 f.1 f.0 (subst (λ (z : Kind). a.counts.fill < rows z (class_of (table_id a.own))) j.kind_is room) q w (λ e. omega (arith, e, less)) few

@@ -2,10 +2,10 @@ use Rattle.std.proofs.Common.{◌≡◌, ℕ, Some, ap, ◌∙◌, subst}
 use Rattle.std.specs.Prelude.{◌↔◌}
 use Rattle.ft_layout.specs.Words.{IsKey}
 use Rattle.ft_trace.specs.Addresses.{class_of, slots}
-use Rattle.ft_trace.specs.Holds.{held}
-use Rattle.ft_trace.specs.Pictures.{Picture, entry_field, root_in}
+use Rattle.ft_trace.specs.Holds.{held_words}
+use Rattle.ft_trace.specs.Pictures.{ContainerWords, entry_field, root_in}
 use Rattle.ft_bank.specs.Passes.{view}
-use Rattle.ft_bank.specs.TableNames.{name_of}
+use Rattle.ft_bank.specs.TableNames.{table_id}
 use Rattle.ft_bank.proofs.KnownAfterWrites.{loaded_held, loaded_then}
 use Rattle.ft_merging.proofs.reading.key_at.Goals as goal
 
@@ -23,8 +23,8 @@ returns-clause-only c = loaded_then (view c.args.pass.now) (view c.word_of-kind.
 pub returns-clause-key : goal.returns-clause-key
 returns-clause-key c key =
     let a = c.args in
-    let n = slots (class_of (name_of a.table)) in
-    let x = held a.o (view a.pass.now) in
+    let n = slots (class_of (table_id a.table)) in
+    let x = held_words a.o (view a.pass.now) in
     let same = loaded_held (view a.pass.now) (view c.word_of-kind.new.pass) a.o c.word_of-kind.ensures.only in
-    let payload : c.word_of-payload.result ≡ entry_field n x.table a.place 3 = c.word_of-payload.ensures.found ∙ ap (λ (y : Picture). entry_field n y.table a.place 3) same in
+    let payload : c.word_of-payload.result ≡ entry_field n x.table a.place 3 = c.word_of-payload.ensures.found ∙ ap (λ (y : ContainerWords). entry_field n y.table a.place 3) same in
     subst (λ (z : ℕ × ℕ). IsKey z.0 z.1 key ↔ (c.key_of.result ≡ Some key)) (λ d. (c.word_of-kind.ensures.found d, payload d)) (c.key_of.ensures key)

@@ -3,7 +3,7 @@ use Rattle.std.specs.Prelude.{IfNone, IfSome}
 use Rattle.ft_trace.specs.declared.Act.TheVariants.{ReadBlock}
 use Rattle.ft_bank.specs.declared.table.Table.{Table}
 use Rattle.ft_bank.specs.Passes.{shape_of, view}
-use Rattle.ft_bank.specs.TableNames.{name_of, root_for, IsTableIn}
+use Rattle.ft_bank.specs.TableNames.{table_id, root_for, IsTableIn}
 use Rattle.ft_bank.specs.Whole.{OnlyLoaded}
 use Rattle.ft_bank.proofs.KnownAfterWrites.{loaded_by}
 use Rattle.ft_merging.proofs.JoinedReads.{knows_loaded}
@@ -13,7 +13,7 @@ use Rattle.ft_merging.proofs.reading.own_table.Goals.{After-read_block-root}
 only : (c : After-read_block-root) → OnlyLoaded (view c.args.pass.now) (view c.read_block-root.new.pass)
 only c = loaded_by (ReadBlock c.args.o 0 c.read_block-root.result) (view c.args.pass.now) (view c.read_block-root.new.pass) tt c.read_block-root.ensures.did.1
 
-root_named : (old : Option Table) (root : ℕ) → IfSome old (λ table. root ≡ suc (name_of table)) → IfNone old (root ≡ 0) → root ≡ root_for old
+root_named : (old : Option Table) (root : ℕ) → IfSome old (λ table. root ≡ suc (table_id table)) → IfNone old (root ≡ 0) → root ≡ root_for old
 root_named None root named none = none
 root_named (Some t) root named none = named
 

@@ -5,10 +5,10 @@ use Rattle.ft_layout.specs.declared.slot.Stored.{Stored}
 use Rattle.ft_layout.specs.declared.slot.Stored.TheVariants.{Empty}
 use Rattle.ft_layout.specs.Words.{IsEntry, IsStored}
 use Rattle.ft_trace.specs.Addresses.{class_of, slots}
-use Rattle.ft_trace.specs.Holds.{held}
+use Rattle.ft_trace.specs.Holds.{held_words}
 use Rattle.ft_trace.specs.Pictures.{entry_field}
 use Rattle.ft_bank.specs.Passes.{view}
-use Rattle.ft_bank.specs.TableNames.{name_of}
+use Rattle.ft_bank.specs.TableNames.{table_id}
 use Rattle.ft_bank.specs.Whole.{OnlyLoaded}
 use Rattle.ft_bank.proofs.KnownAfterWrites.{loaded_then}
 use Rattle.ft_merging.proofs.JoinedReads.{table_after, word_after}
@@ -28,19 +28,19 @@ five : (c : After-word_of-value) → OnlyLoaded (view c.args.pass.now) (view c.w
 five c = loaded_then (view c.args.pass.now) (view c.word_of-value_kind.new.pass) (view c.word_of-value.new.pass) (loaded_then (view c.args.pass.now) (view c.word_of-payload.new.pass) (view c.word_of-value_kind.new.pass) (loaded_then (view c.args.pass.now) (view c.word_of-kind.new.pass) (view c.word_of-payload.new.pass) (loaded_then (view c.args.pass.now) (view c.word_of-hash.new.pass) (view c.word_of-kind.new.pass) c.word_of-hash.ensures.only c.word_of-kind.ensures.only) c.word_of-payload.ensures.only) c.word_of-value_kind.ensures.only) c.word_of-value.ensures.only
 
 pub word_of-kind-requires-clause-knows : goal.word_of-kind-requires-clause-knows
-word_of-kind-requires-clause-knows c = table_after c.args.o (name_of c.args.table) (view c.args.pass.now) (view c.word_of-hash.new.pass) c.word_of-hash.ensures.only c.requires.knows
+word_of-kind-requires-clause-knows c = table_after c.args.o (table_id c.args.table) (view c.args.pass.now) (view c.word_of-hash.new.pass) c.word_of-hash.ensures.only c.requires.knows
 
 pub word_of-payload-requires-clause-knows : goal.word_of-payload-requires-clause-knows
-word_of-payload-requires-clause-knows c = table_after c.args.o (name_of c.args.table) (view c.args.pass.now) (view c.word_of-kind.new.pass) (two (goal.at.word_of-payload-requires-clause-knows c).After-word_of-kind) c.requires.knows
+word_of-payload-requires-clause-knows c = table_after c.args.o (table_id c.args.table) (view c.args.pass.now) (view c.word_of-kind.new.pass) (two (goal.at.word_of-payload-requires-clause-knows c).After-word_of-kind) c.requires.knows
 
 pub word_of-value_kind-requires-clause-knows : goal.word_of-value_kind-requires-clause-knows
-word_of-value_kind-requires-clause-knows c = table_after c.args.o (name_of c.args.table) (view c.args.pass.now) (view c.word_of-payload.new.pass) (three (goal.at.word_of-value_kind-requires-clause-knows c).After-word_of-payload) c.requires.knows
+word_of-value_kind-requires-clause-knows c = table_after c.args.o (table_id c.args.table) (view c.args.pass.now) (view c.word_of-payload.new.pass) (three (goal.at.word_of-value_kind-requires-clause-knows c).After-word_of-payload) c.requires.knows
 
 pub word_of-value-requires-clause-knows : goal.word_of-value-requires-clause-knows
-word_of-value-requires-clause-knows c = table_after c.args.o (name_of c.args.table) (view c.args.pass.now) (view c.word_of-value_kind.new.pass) (four (goal.at.word_of-value-requires-clause-knows c).After-word_of-value_kind) c.requires.knows
+word_of-value-requires-clause-knows c = table_after c.args.o (table_id c.args.table) (view c.args.pass.now) (view c.word_of-value_kind.new.pass) (four (goal.at.word_of-value-requires-clause-knows c).After-word_of-value_kind) c.requires.knows
 
 pub word_of-serial-requires-clause-knows : goal.word_of-serial-requires-clause-knows
-word_of-serial-requires-clause-knows c = table_after c.args.o (name_of c.args.table) (view c.args.pass.now) (view c.word_of-value.new.pass) (five (goal.at.word_of-serial-requires-clause-knows c).After-word_of-value) c.requires.knows
+word_of-serial-requires-clause-knows c = table_after c.args.o (table_id c.args.table) (view c.args.pass.now) (view c.word_of-value.new.pass) (five (goal.at.word_of-serial-requires-clause-knows c).After-word_of-value) c.requires.knows
 
 pub returns-clause-only : goal.returns-clause-only
 returns-clause-only c = loaded_then (view c.args.pass.now) (view c.word_of-value.new.pass) (view c.word_of-serial.new.pass) (five (goal.at.returns-clause-only c).After-word_of-value) c.word_of-serial.ensures.only
@@ -68,10 +68,10 @@ pub returns-clause-pair : goal.returns-clause-pair
 returns-clause-pair c said is =
     let a = c.args in
     let v = view a.pass.now in
-    let n = slots (class_of (name_of a.table)) in
+    let n = slots (class_of (table_id a.table)) in
     let d = goal.at.returns-clause-pair c in
     c.pair_said.ensures said
-    (like _ (entry_field n (held a.o v).table a.place)
+    (like _ (entry_field n (held_words a.o v).table a.place)
     c.word_of-hash.ensures.found
     (word_after a.o n a.place 2 v (view c.word_of-hash.new.pass) c.word_of-hash.ensures.only _ c.word_of-kind.ensures.found)
     (word_after a.o n a.place 3 v (view c.word_of-kind.new.pass) (two d.After-word_of-kind) _ c.word_of-payload.ensures.found)

@@ -5,11 +5,11 @@ use Rattle.ft_model.specs.Worlds.{set_of}
 use Rattle.ft_layout.specs.Words.{FitsKey}
 use Rattle.ft_trace.specs.Addresses.{class_of, slots}
 use Rattle.ft_trace.specs.Carefuls.{HasLiveKey}
-use Rattle.ft_trace.specs.Holds.{held, known}
+use Rattle.ft_trace.specs.Holds.{held_words, known_state}
 use Rattle.ft_trace.specs.Kinds.{IsKeyed, rows}
-use Rattle.ft_trace.specs.Pictures.{Picture, root_in}
+use Rattle.ft_trace.specs.Pictures.{ContainerWords, root_in}
 use Rattle.ft_bank.specs.Passes.{shape_of, view}
-use Rattle.ft_bank.specs.TableNames.{name_of}
+use Rattle.ft_bank.specs.TableNames.{table_id}
 use Rattle.ft_bank.proofs.KnownAfterWrites.{loaded_held, loaded_then, work_knows}
 use Rattle.ft_merging.proofs.thinning.goes_at.Goals as goal
 use Rattle.ft_trace.specs.Pictures.{entry_field}
@@ -23,8 +23,8 @@ use Rattle.ft_merging.proofs.thinning.goes_at.Goals.{Start, After-word_of-hash}
 keyed : (c : Start) → IsKeyed (kind_in (shape_of c.args.bank.now).starts c.args.s)
 keyed c = subst IsKeyed (sym c.requires.set) tt
 
-row : (c : Start) → c.args.place < rows (kind_in (shape_of c.args.bank.now).starts c.args.s) (class_of (name_of c.args.table))
-row c = subst (λ (z : Kind). c.args.place < rows z (class_of (name_of c.args.table))) (sym c.requires.set) c.requires.place
+row : (c : Start) → c.args.place < rows (kind_in (shape_of c.args.bank.now).starts c.args.s) (class_of (table_id c.args.table))
+row c = subst (λ (z : Kind). c.args.place < rows z (class_of (table_id c.args.table))) (sym c.requires.set) c.requires.place
 
 pub key_at-requires-clause-container : goal.key_at-requires-clause-container
 key_at-requires-clause-container c = c.requires.thinned.3.midway.writes.container
@@ -54,7 +54,7 @@ laws c =
       deletes = c.words_follow_a_set.ensures.deleted;
     }
 
-stated : (c : After-word_of-hash) → HasLiveKey (slots (class_of (name_of c.args.table))) (held c.args.s (view c.args.pass.now)).table c.args.place c.in-Some.key × FitsKey c.in-Some.key
+stated : (c : After-word_of-hash) → HasLiveKey (slots (class_of (table_id c.args.table))) (held_words c.args.s (view c.args.pass.now)).table c.args.place c.in-Some.key × FitsKey c.in-Some.key
 stated c = let is = (c.key_at.ensures.key c.in-Some.key).1 c.in-Some.is in ((is.kind_is, is.payload_is), is.fits)
 
 only : (c : After-word_of-hash) → OnlyLoaded (view c.args.pass.now) (view c.word_of-hash.new.pass)
@@ -88,8 +88,8 @@ is_in-found-requires-clause-hash c =
     let v = view a.pass.now in
     let t = stated d in
     c.word_of-hash.ensures.found
-    ∙ (ap (λ (x : Picture). entry_field (slots (class_of (name_of a.table))) x.table a.place 1) (loaded_held v (view c.key_at.new.pass) a.s c.key_at.ensures.only)
-    ∙ hash_is (shape_of a.bank.now) a.s a.table a.kept (set_of (known a.t v).content) (set_of (known a.s v).content) c.requires.thinned.0 c.requires.thinned.1 a.place v c.requires.set c.requires.thinned.3 (laws d) c.requires.place c.requires.thinned.2 c.in-Some.key t.0 t.1)
+    ∙ (ap (λ (x : ContainerWords). entry_field (slots (class_of (table_id a.table))) x.table a.place 1) (loaded_held v (view c.key_at.new.pass) a.s c.key_at.ensures.only)
+    ∙ hash_is (shape_of a.bank.now) a.s a.table a.kept (set_of (known_state a.t v).content) (set_of (known_state a.s v).content) c.requires.thinned.0 c.requires.thinned.1 a.place v c.requires.set c.requires.thinned.3 (laws d) c.requires.place c.requires.thinned.2 c.in-Some.key t.0 t.1)
 
 pub is_in-found-requires-clause-fits : goal.is_in-found-requires-clause-fits
 is_in-found-requires-clause-fits c = (stated (goal.at.is_in-found-requires-clause-fits c).After-word_of-hash).1
@@ -105,5 +105,5 @@ is_in-found-requires-clause-own c e =
     let d = (goal.at.is_in-found-requires-clause-own c).After-word_of-hash in
     let v = view a.pass.now in
     let t = stated d in
-    let was = was_there (shape_of a.bank.now) a.s a.table a.kept (set_of (known a.t v).content) (set_of (known a.s v).content) c.requires.thinned.0 c.requires.thinned.1 a.place v c.requires.set c.requires.thinned.3 (laws d) c.requires.place c.requires.thinned.2 c.in-Some.key t.0 t.1 in
-    subst (λ (z : ContainerState). has_element (set_of z.content).elements c.in-Some.key ≡ true) (ap (λ (p : ℕ). known p v) e ∙ sym (work_knows v (view c.word_of-hash.new.pass) a.t (only d).work)) was
+    let was = was_there (shape_of a.bank.now) a.s a.table a.kept (set_of (known_state a.t v).content) (set_of (known_state a.s v).content) c.requires.thinned.0 c.requires.thinned.1 a.place v c.requires.set c.requires.thinned.3 (laws d) c.requires.place c.requires.thinned.2 c.in-Some.key t.0 t.1 in
+    subst (λ (z : ContainerState). has_element (set_of z.content).elements c.in-Some.key ≡ true) (ap (λ (p : ℕ). known_state p v) e ∙ sym (work_knows v (view c.word_of-hash.new.pass) a.t (only d).work)) was

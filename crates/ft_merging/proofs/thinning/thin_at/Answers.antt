@@ -3,11 +3,11 @@ use Rattle.ft_model.specs.declared.data.Key.{Key}
 use Rattle.ft_model.specs.Worlds.{set_of}
 use Rattle.ft_trace.specs.Addresses.{class_of, slots}
 use Rattle.ft_trace.specs.Carefuls.{HasLiveKey}
-use Rattle.ft_trace.specs.Holds.{held, known}
-use Rattle.ft_trace.specs.Pictures.{Picture}
+use Rattle.ft_trace.specs.Holds.{held_words, known_state}
+use Rattle.ft_trace.specs.Pictures.{ContainerWords}
 use Rattle.ft_trace.specs.ContainerStates.{ContainerState}
 use Rattle.ft_bank.specs.Passes.{shape_of, view}
-use Rattle.ft_bank.specs.TableNames.{name_of}
+use Rattle.ft_bank.specs.TableNames.{table_id}
 use Rattle.ft_bank.proofs.KnownAfterWrites.{loaded_held}
 use Rattle.ft_search.proofs.Laws.{SetLaws}
 use Rattle.ft_merging.specs.Internal.ThinningSteps.{IsThinned}
@@ -27,15 +27,15 @@ laws c =
     }
 
 -- the set, after the loads
-thinned : (c : After-goes_at) (to : ContainerState) (last : ℕ) → IsThinned (shape_of c.args.bank.now) c.args.s c.args.table c.args.kept (set_of (known c.args.t (view c.args.pass.now)).content) (set_of (known c.args.s (view c.args.pass.now)).content) to last c.args.place (view c.args.pass.now)
-    → IsThinned (shape_of c.args.bank.now) c.args.s c.args.table c.args.kept (set_of (known c.args.t (view c.args.pass.now)).content) (set_of (known c.args.s (view c.args.pass.now)).content) to last c.args.place (view c.goes_at.new.pass)
+thinned : (c : After-goes_at) (to : ContainerState) (last : ℕ) → IsThinned (shape_of c.args.bank.now) c.args.s c.args.table c.args.kept (set_of (known_state c.args.t (view c.args.pass.now)).content) (set_of (known_state c.args.s (view c.args.pass.now)).content) to last c.args.place (view c.args.pass.now)
+    → IsThinned (shape_of c.args.bank.now) c.args.s c.args.table c.args.kept (set_of (known_state c.args.t (view c.args.pass.now)).content) (set_of (known_state c.args.s (view c.args.pass.now)).content) to last c.args.place (view c.goes_at.new.pass)
 thinned c to last th =
     let a = c.args in
     let v = view a.pass.now in
-    thinned_loaded (shape_of a.bank.now) a.s a.table a.kept (set_of (known a.t v).content) (set_of (known a.s v).content) to last a.place v (view c.goes_at.new.pass) c.goes_at.ensures.only th
+    thinned_loaded (shape_of a.bank.now) a.s a.table a.kept (set_of (known_state a.t v).content) (set_of (known_state a.s v).content) to last a.place v (view c.goes_at.new.pass) c.goes_at.ensures.only th
 
-live : (c : After-goes_at) (key : Key) → HasLiveKey (slots (class_of (name_of c.args.table))) (held c.args.s (view c.args.pass.now)).table c.args.place key → HasLiveKey (slots (class_of (name_of c.args.table))) (held c.args.s (view c.goes_at.new.pass)).table c.args.place key
-live c key is = subst (λ (x : Picture). HasLiveKey (slots (class_of (name_of c.args.table))) x.table c.args.place key) (sym (loaded_held (view c.args.pass.now) (view c.goes_at.new.pass) c.args.s c.goes_at.ensures.only)) is
+live : (c : After-goes_at) (key : Key) → HasLiveKey (slots (class_of (table_id c.args.table))) (held_words c.args.s (view c.args.pass.now)).table c.args.place key → HasLiveKey (slots (class_of (table_id c.args.table))) (held_words c.args.s (view c.goes_at.new.pass)).table c.args.place key
+live c key is = subst (λ (x : ContainerWords). HasLiveKey (slots (class_of (table_id c.args.table))) x.table c.args.place key) (sym (loaded_held (view c.args.pass.now) (view c.goes_at.new.pass) c.args.s c.goes_at.ensures.only)) is
 
 pub put_deleted-requires-clause-some : goal.put_deleted-requires-clause-some
 put_deleted-requires-clause-some c =
@@ -44,7 +44,7 @@ put_deleted-requires-clause-some c =
     let v = view a.pass.now in
     let r = c.requires.thinned in
     let g = c.goes_at.ensures.goes c.in-Some.key c.in-Some.is in
-    some_there (shape_of a.bank.now) a.s a.table a.kept (set_of (known a.t v).content) (set_of (known a.s v).content) r.0 r.1 a.place (view c.goes_at.new.pass) c.requires.set (thinned d r.0 r.1 r.3) (laws d) c.requires.place r.2 c.in-Some.key (live d c.in-Some.key g.0) g.1
+    some_there (shape_of a.bank.now) a.s a.table a.kept (set_of (known_state a.t v).content) (set_of (known_state a.s v).content) r.0 r.1 a.place (view c.goes_at.new.pass) c.requires.set (thinned d r.0 r.1 r.3) (laws d) c.requires.place r.2 c.in-Some.key (live d c.in-Some.key g.0) g.1
 
 pub put_deleted-requires-clause-may : goal.put_deleted-requires-clause-may
 put_deleted-requires-clause-may c =
@@ -53,7 +53,7 @@ put_deleted-requires-clause-may c =
     let v = view a.pass.now in
     let r = c.requires.thinned in
     let g = c.goes_at.ensures.goes c.in-Some.key c.in-Some.is in
-    may_go (shape_of a.bank.now) a.s a.table a.kept (set_of (known a.t v).content) (set_of (known a.s v).content) r.0 r.1 a.place (view c.goes_at.new.pass) c.requires.set (thinned d r.0 r.1 r.3) (laws d) c.requires.place r.2 c.in-Some.key (live d c.in-Some.key g.0) g.1
+    may_go (shape_of a.bank.now) a.s a.table a.kept (set_of (known_state a.t v).content) (set_of (known_state a.s v).content) r.0 r.1 a.place (view c.goes_at.new.pass) c.requires.set (thinned d r.0 r.1 r.3) (laws d) c.requires.place r.2 c.in-Some.key (live d c.in-Some.key g.0) g.1
 
 pub put_deleted-requires-clause-writes : goal.put_deleted-requires-clause-writes
 put_deleted-requires-clause-writes c =
@@ -74,8 +74,8 @@ returns-in-Some-clause-thinned c to last low th =
     let v = view a.pass.now in
     let u = view c.goes_at.new.pass in
     let k = shape_of a.bank.now in
-    let others = set_of (known a.t v).content in
-    let first = set_of (known a.s v).content in
+    let others = set_of (known_state a.t v).content in
+    let first = set_of (known_state a.s v).content in
     let g = c.goes_at.ensures.goes c.in-Some.key c.in-Some.is in
     let e = c.put_deleted.ensures in
     let now = thinned d to last th in
@@ -94,7 +94,7 @@ returns-in_default-clause-thinned c to last low th =
     let a = c.args in
     let d = (goal.at.returns-in_default-clause-thinned c).After-goes_at in
     let v = view a.pass.now in
-    let others = set_of (known a.t v).content in
-    let first = set_of (known a.s v).content in
+    let others = set_of (known_state a.t v).content in
+    let first = set_of (known_state a.s v).content in
     thinned_loaded (shape_of a.bank.now) a.s a.table a.kept others first to last (a.place + 1) v (view c.goes_at.new.pass) c.goes_at.ensures.only
     (thinned_stays (shape_of a.bank.now) a.s a.table a.kept others first to last a.place v c.requires.set th (λ key ok is. spared_stays a.kept others first key (c.goes_at.ensures.stays (none_goes c.goes_at.result c.in_default.not-Some) key ok is)))

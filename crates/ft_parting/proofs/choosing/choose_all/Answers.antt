@@ -1,7 +1,7 @@
 use Rattle.std.proofs.Common.{refl, ◌∙◌, arith}
 use Rattle.ft_trace.specs.Addresses.{class_of}
 use Rattle.ft_bank.specs.Passes.{shape_of, view}
-use Rattle.ft_bank.specs.TableNames.{name_of}
+use Rattle.ft_bank.specs.TableNames.{table_id}
 use Rattle.ft_growth.proofs.Rooting.{filled_same, filled_then}
 use Rattle.ft_adding.proofs.Grown.{knows_filled}
 use Rattle.ft_adding.proofs.FilledTables.{room_of_way}
@@ -23,7 +23,7 @@ choose_at-count-requires-clause-other_keyed c =
     knows_filled (shape_of a.bank.now) a.t a.other (view a.pass.now) (view c.loop-place.pass) c.requires.pass.1 c.loop-place.invariant.only c.requires.other_keyed
 
 pub choose_at-count-requires-clause-fresh : goal.choose_at-count-requires-clause-fresh
-choose_at-count-requires-clause-fresh c = c.loop-place.invariant.only.work.hands (name_of c.args.table) ∙ c.requires.fresh
+choose_at-count-requires-clause-fresh c = c.loop-place.invariant.only.work.hands (table_id c.args.table) ∙ c.requires.fresh
 
 pub choose_at-count-requires-clause-place : goal.choose_at-count-requires-clause-place
 choose_at-count-requires-clause-place c =
@@ -33,7 +33,7 @@ choose_at-count-requires-clause-place c =
     let filled = x.filled in
     let few = x.source.fill in
     let all = c.requires.fill in
-    let room = room_of_way way.Set (class_of (name_of a.from)) (table_class (shape_of a.bank.now) a.from (c.requires.keyed.table_in a.from refl)) in
+    let room = room_of_way way.Set (class_of (table_id a.from)) (table_class (shape_of a.bank.now) a.from (c.requires.keyed.table_in a.from refl)) in
     omega (arith, low, filled, few, all, room)
 
 pub choose_at-count-requires-clause-chosen : goal.choose_at-count-requires-clause-chosen

@@ -9,11 +9,11 @@ use Rattle.ft_model.specs.Worlds.{serial_of, set_of}
 use Rattle.ft_model.proofs.Sets.{IsSet-xor}
 use Rattle.ft_layout.specs.Tables.{UsedEntry}
 use Rattle.ft_trace.specs.Addresses.{class_of}
-use Rattle.ft_trace.specs.Holds.{held, known}
+use Rattle.ft_trace.specs.Holds.{held_words, known_state}
 use Rattle.ft_trace.specs.Kinds.{rows}
 use Rattle.ft_trace.specs.ContainerStates.{ContainerState}
 use Rattle.ft_bank.specs.Passes.{shape_of, view}
-use Rattle.ft_bank.specs.TableNames.{name_of}
+use Rattle.ft_bank.specs.TableNames.{table_id}
 use Rattle.ft_growth.specs.Adding.{OnlyFilled}
 use Rattle.ft_growth.proofs.Rooting.{filled_then}
 use Rattle.ft_adding.specs.KeyGrowth.{KnowsKeyed}
@@ -28,7 +28,7 @@ use Rattle.ft_parting.proofs.choosing.fill_parted.Goals as goal
 use Rattle.ft_parting.proofs.choosing.fill_parted.Goals.{After-blank, After-keep_apart-stay}
 
 -- what the pass knows stays
-one : (c : After-blank) → (known c.args.s (view c.blank.new.pass) ≡ known c.args.s (view c.args.pass.now)) × (known c.args.t (view c.blank.new.pass) ≡ known c.args.t (view c.args.pass.now))
+one : (c : After-blank) → (known_state c.args.s (view c.blank.new.pass) ≡ known_state c.args.s (view c.args.pass.now)) × (known_state c.args.t (view c.blank.new.pass) ≡ known_state c.args.t (view c.args.pass.now))
 one c =
     let a = c.args in
     let k = shape_of a.bank.now in
@@ -45,29 +45,29 @@ keep_apart-stay-requires-clause-fill c =
     let a = c.args in
     let v = view a.pass.now in
     sym c.requires.counts.1
-    ∙ ((c.words_are_of_one_content.ensures.head (shape_of a.bank.now).texts (held a.s v).block (0 ∷ 0 ∷ (held a.s v).table) (known a.s v).table (known a.s v).content c.requires.keyed.stands).fill_is
+    ∙ ((c.words_are_of_one_content.ensures.head (shape_of a.bank.now).texts (held_words a.s v).block (0 ∷ 0 ∷ (held_words a.s v).table) (known_state a.s v).table (known_state a.s v).content c.requires.keyed.stands).fill_is
     ∙ ap (λ (z : ContainerState). z.table.fill) (sym (one (goal.at.keep_apart-stay-requires-clause-fill c).After-blank).0))
 
 pub keep_apart-stay-requires-clause-fresh : goal.keep_apart-stay-requires-clause-fresh
-keep_apart-stay-requires-clause-fresh c = c.blank.ensures.only.work.hands (name_of c.args.table) ∙ c.requires.fresh
+keep_apart-stay-requires-clause-fresh c = c.blank.ensures.only.work.hands (table_id c.args.table) ∙ c.requires.fresh
 
 pub keep_apart-stay-requires-clause-room : goal.keep_apart-stay-requires-clause-room
 keep_apart-stay-requires-clause-room c =
     let a = c.args in
     let v = view a.pass.now in
     let s = one (goal.at.keep_apart-stay-requires-clause-room c).After-blank in
-    let mine = set_of (known a.s v).content in
-    let others = set_of (known a.t v).content in
+    let mine = set_of (known_state a.s v).content in
+    let others = set_of (known_state a.t v).content in
     let n = length-append (those_not_in others.elements mine.elements) (elements_from mine.next (those_not_in mine.elements others.elements)) in
     let r = c.requires.room in
-    subst (λ (z : ContainerState × ContainerState). length (those_not_in (set_of z.1.content).elements (set_of z.0.content).elements) ≤ rows kind.Set (class_of (name_of a.table))) (sym (λ i. (s.0 i, s.1 i))) (omega (arith, n, r))
+    subst (λ (z : ContainerState × ContainerState). length (those_not_in (set_of z.1.content).elements (set_of z.0.content).elements) ≤ rows kind.Set (class_of (table_id a.table))) (sym (λ i. (s.0 i, s.1 i))) (omega (arith, n, r))
 
 -- ---- the elements of the other one
 
 both : (c : After-keep_apart-stay) → OnlyFilled (view c.args.pass.now) (view c.keep_apart-stay.new.pass)
 both c = filled_then (view c.args.pass.now) (view c.blank.new.pass) (view c.keep_apart-stay.new.pass) c.blank.ensures.only c.keep_apart-stay.ensures.only
 
-two : (c : After-keep_apart-stay) → (known c.args.s (view c.keep_apart-stay.new.pass) ≡ known c.args.s (view c.args.pass.now)) × (known c.args.t (view c.keep_apart-stay.new.pass) ≡ known c.args.t (view c.args.pass.now))
+two : (c : After-keep_apart-stay) → (known_state c.args.s (view c.keep_apart-stay.new.pass) ≡ known_state c.args.s (view c.args.pass.now)) × (known_state c.args.t (view c.keep_apart-stay.new.pass) ≡ known_state c.args.t (view c.args.pass.now))
 two c =
     let a = c.args in
     let k = shape_of a.bank.now in
@@ -83,7 +83,7 @@ pub choose_all-requires-clause-fill : goal.choose_all-requires-clause-fill
 choose_all-requires-clause-fill c = c.requires.others ∙ ap (λ (z : ContainerState). z.table.fill) (sym (two (goal.at.choose_all-requires-clause-fill c).After-keep_apart-stay).1)
 
 pub choose_all-requires-clause-fresh : goal.choose_all-requires-clause-fresh
-choose_all-requires-clause-fresh c = (both (goal.at.choose_all-requires-clause-fresh c).After-keep_apart-stay).work.hands (name_of c.args.table) ∙ c.requires.fresh
+choose_all-requires-clause-fresh c = (both (goal.at.choose_all-requires-clause-fresh c).After-keep_apart-stay).work.hands (table_id c.args.table) ∙ c.requires.fresh
 
 keyed_then : (c : After-keep_apart-stay) → KnowsKeyed (shape_of c.args.bank.now) c.args.t (Some c.args.other) (view c.keep_apart-stay.new.pass)
 keyed_then c = let a = c.args in knows_filled (shape_of a.bank.now) a.t (Some a.other) (view a.pass.now) (view c.keep_apart-stay.new.pass) c.requires.pass.1 (both c) c.requires.other_keyed
@@ -92,17 +92,17 @@ abbrev used : After-keep_apart-stay → List UsedEntry
 used c = (set_words (shape_of c.args.bank.now) c.args.t (view c.keep_apart-stay.new.pass) c.keep_apart-stay.ensures.pass.1 c.keep_apart-stay.new.pass.possible c.requires.other_set c.args.other (keyed_then c)).used
 
 -- the new ones, as serials are drawn for them
-news : (c : After-keep_apart-stay) → chosen (set_of (known c.args.s (view c.keep_apart-stay.new.pass)).content).elements (Some c.args.counts.next) (used c) ≡ elements_from c.args.counts.next (those_not_in (set_of (known c.args.s (view c.args.pass.now)).content).elements (set_of (known c.args.t (view c.args.pass.now)).content).elements)
+news : (c : After-keep_apart-stay) → chosen (set_of (known_state c.args.s (view c.keep_apart-stay.new.pass)).content).elements (Some c.args.counts.next) (used c) ≡ elements_from c.args.counts.next (those_not_in (set_of (known_state c.args.s (view c.args.pass.now)).content).elements (set_of (known_state c.args.t (view c.args.pass.now)).content).elements)
 news c =
     let a = c.args in
     let w = view c.keep_apart-stay.new.pass in
     let says = set_words (shape_of a.bank.now) a.t w c.keep_apart-stay.ensures.pass.1 c.keep_apart-stay.new.pass.possible c.requires.other_set a.other (keyed_then c) in
     let k = two c in
-    chosen_new (set_of (known a.s w).content).elements a.counts.next says.used (set_of (known a.t w).content).elements says.entries.live
+    chosen_new (set_of (known_state a.s w).content).elements a.counts.next says.used (set_of (known_state a.t w).content).elements says.entries.live
     ∙ (λ i. elements_from a.counts.next (those_not_in (set_of (k.0 i).content).elements (set_of (k.1 i).content).elements))
 
 -- the next serial
-next_is : (c : After-keep_apart-stay) → c.args.counts.next ≡ serial_of (known c.args.s (view c.args.pass.now)).content
+next_is : (c : After-keep_apart-stay) → c.args.counts.next ≡ serial_of (known_state c.args.s (view c.args.pass.now)).content
 next_is c =
     let a = c.args in
     (counts_known c.words_are_of_one_content.ensures.head (shape_of a.bank.now) a.s a.old (view a.pass.now) a.counts c.requires.keyed c.requires.counts).1
@@ -112,30 +112,30 @@ serial_set d set is = ap serial_of is ∙ sym (ap (λ (z : Content). (set_of z).
 
 -- what there is then
 abbrev all : After-keep_apart-stay → SetContent
-all c = parted (known c.args.s (view c.args.pass.now)).content (known c.args.t (view c.args.pass.now)).content
+all c = parted (known_state c.args.s (view c.args.pass.now)).content (known_state c.args.t (view c.args.pass.now)).content
 
 abbrev mine : After-keep_apart-stay → List Element
-mine c = those_not_in (set_of (known c.args.t (view c.args.pass.now)).content).elements (set_of (known c.args.s (view c.args.pass.now)).content).elements
+mine c = those_not_in (set_of (known_state c.args.t (view c.args.pass.now)).content).elements (set_of (known_state c.args.s (view c.args.pass.now)).content).elements
 
-whole : (c : After-keep_apart-stay) → mine c ++ chosen (set_of (known c.args.s (view c.keep_apart-stay.new.pass)).content).elements (Some c.args.counts.next) (used c) ≡ (all c).elements
+whole : (c : After-keep_apart-stay) → mine c ++ chosen (set_of (known_state c.args.s (view c.keep_apart-stay.new.pass)).content).elements (Some c.args.counts.next) (used c) ≡ (all c).elements
 whole c =
     let a = c.args in
     let v = view a.pass.now in
-    let s = (known a.s v).content in
+    let s = (known_state a.s v).content in
     let next = next_is c ∙ serial_set s (set_of s) (is_set (shape_of a.bank.now) v a.s c.requires.pass.1 a.pass.now.possible c.requires.keyed.locked c.requires.set) in
-    ap (λ (l : List Element). mine c ++ l) (news c ∙ ap (λ (n : ℕ). elements_from n (those_not_in (set_of s).elements (set_of (known a.t v).content).elements)) next)
+    ap (λ (l : List Element). mine c ++ l) (news c ∙ ap (λ (n : ℕ). elements_from n (those_not_in (set_of s).elements (set_of (known_state a.t v).content).elements)) next)
 
 rule : (c : After-keep_apart-stay) → IsSet (all c).next (all c).elements
 rule c =
     let a = c.args in
     let k = shape_of a.bank.now in
     let v = view a.pass.now in
-    let s = set_of (known a.s v).content in
-    let t = set_of (known a.t v).content in
+    let s = set_of (known_state a.s v).content in
+    let t = set_of (known_state a.t v).content in
     IsSet-xor s.next t.next s.elements t.elements (set_rule k a.s v c.requires.pass.1 a.pass.now.possible c.requires.set a.old c.requires.keyed) (set_rule k a.t v c.requires.pass.1 a.pass.now.possible c.requires.other_set (Some a.other) c.requires.other_keyed)
 
 -- before the first one of the other one's
-begins : (c : After-keep_apart-stay) → known c.args.s (view c.blank.new.pass) ≡ known c.args.s (view c.args.pass.now) → known c.args.t (view c.blank.new.pass) ≡ known c.args.t (view c.args.pass.now) → IsChosen (shape_of c.args.bank.now) c.args.t c.args.other c.args.s c.args.table (Some c.args.counts.next) c.keep_apart-stay.result (used c) (mine c) 0 c.keep_apart-stay.result (view c.keep_apart-stay.new.pass)
+begins : (c : After-keep_apart-stay) → known_state c.args.s (view c.blank.new.pass) ≡ known_state c.args.s (view c.args.pass.now) → known_state c.args.t (view c.blank.new.pass) ≡ known_state c.args.t (view c.args.pass.now) → IsChosen (shape_of c.args.bank.now) c.args.t c.args.other c.args.s c.args.table (Some c.args.counts.next) c.keep_apart-stay.result (used c) (mine c) 0 c.keep_apart-stay.result (view c.keep_apart-stay.new.pass)
 begins c own other =
     let a = c.args in
     let k = shape_of a.bank.now in
@@ -149,7 +149,7 @@ begins c own other =
       started = sym has.counted;
       next = (all c).next;
       is_set = subst (IsSet (all c).next) (sym same) (rule c);
-      room = subst (λ (l : List Element). length l ≤ rows kind.Set (class_of (name_of a.table))) (sym same) c.requires.room;
+      room = subst (λ (l : List Element). length l ≤ rows kind.Set (class_of (table_id a.table))) (sym same) c.requires.room;
       has = subst (λ (l : List Element). HasChosen k a.table l c.keep_apart-stay.result w) (sym (append-nil (mine c))) has;
     }
 

@@ -7,11 +7,11 @@ use Rattle.ft_model.specs.Worlds.{set_of}
 use Rattle.ft_model.proofs.Sets.{IsSet-filter}
 use Rattle.ft_layout.specs.Tables.{UsedEntry}
 use Rattle.ft_trace.specs.Addresses.{class_of}
-use Rattle.ft_trace.specs.Holds.{known}
+use Rattle.ft_trace.specs.Holds.{known_state}
 use Rattle.ft_trace.specs.Kinds.{rows}
 use Rattle.ft_bank.specs.declared.table.Table.{Table}
 use Rattle.ft_bank.specs.Passes.{shape_of, view}
-use Rattle.ft_bank.specs.TableNames.{name_of}
+use Rattle.ft_bank.specs.TableNames.{table_id}
 use Rattle.ft_adding.specs.KeyGrowth.{KnowsKeyed}
 use Rattle.ft_adding.proofs.Grown.{same_filled}
 use Rattle.ft_parting.specs.Choosing.{HasChosen, IsChosen, chosen}
@@ -30,12 +30,12 @@ abbrev used : In-Some → List UsedEntry
 used c = (set_words (shape_of c.args.bank.now) c.args.s (view c.args.pass.now) c.requires.pass.1 c.args.pass.now.possible c.requires.set c.in-Some.own (keyed c)).used
 
 -- those that it keeps
-kept : (c : In-Some) → chosen (set_of (known c.args.t (view c.args.pass.now)).content).elements None (used c) ≡ those_not_in (set_of (known c.args.t (view c.args.pass.now)).content).elements (set_of (known c.args.s (view c.args.pass.now)).content).elements
+kept : (c : In-Some) → chosen (set_of (known_state c.args.t (view c.args.pass.now)).content).elements None (used c) ≡ those_not_in (set_of (known_state c.args.t (view c.args.pass.now)).content).elements (set_of (known_state c.args.s (view c.args.pass.now)).content).elements
 kept c =
     let a = c.args in
     let v = view a.pass.now in
     let says = set_words (shape_of a.bank.now) a.s v c.requires.pass.1 a.pass.now.possible c.requires.set c.in-Some.own (keyed c) in
-    chosen_own (set_of (known a.t v).content).elements says.used (set_of (known a.s v).content).elements says.entries.live
+    chosen_own (set_of (known_state a.t v).content).elements says.used (set_of (known_state a.s v).content).elements says.entries.live
 
 -- before the first one
 begins : (c : In-Some) → HasChosen (shape_of c.args.bank.now) c.args.table [] 0 (view c.args.pass.now) → IsChosen (shape_of c.args.bank.now) c.args.s c.in-Some.own c.args.t c.args.table None 0 (used c) [] 0 0 (view c.args.pass.now)
@@ -43,8 +43,8 @@ begins c none =
     let a = c.args in
     let k = shape_of a.bank.now in
     let v = view a.pass.now in
-    let others = (set_of (known a.t v).content).elements in
-    let mine = set_of (known a.s v).content in
+    let others = (set_of (known_state a.t v).content).elements in
+    let mine = set_of (known_state a.s v).content in
     let says = set_words k a.s v c.requires.pass.1 a.pass.now.possible c.requires.set c.in-Some.own (keyed c) in
     let same = kept c in
     record {
@@ -53,7 +53,7 @@ begins c none =
       started = refl;
       next = mine.next;
       is_set = subst (IsSet mine.next) (sym same) (IsSet-filter mine.next mine.elements (λ (element : Element). not (has_element others element.key)) (set_rule k a.s v c.requires.pass.1 a.pass.now.possible c.requires.set a.old c.requires.keyed));
-      room = subst (λ (l : List Element). length l ≤ rows kind.Set (class_of (name_of a.table))) (sym same) c.requires.room;
+      room = subst (λ (l : List Element). length l ≤ rows kind.Set (class_of (table_id a.table))) (sym same) c.requires.room;
       has = none;
     }
 
@@ -84,5 +84,5 @@ returns-in-None-clause-kept c =
     let k = shape_of a.bank.now in
     let v = view a.pass.now in
     let bare = subst (λ (z : Option Table). KnowsKeyed k a.s z v) c.in-None.is c.requires.keyed in
-    subst (λ (l : List Element). HasChosen k a.table (those_not_in (set_of (known a.t v).content).elements l) 0 v) (sym (none_there k a.s v c.requires.pass.1 a.pass.now.possible c.requires.set bare))
+    subst (λ (l : List Element). HasChosen k a.table (those_not_in (set_of (known_state a.t v).content).elements l) 0 v) (sym (none_there k a.s v c.requires.pass.1 a.pass.now.possible c.requires.set bare))
     (blank_has c.changed_words_are_of_a_table.ensures.blank k a.table v c.requires.table c.requires.blank)

@@ -12,7 +12,7 @@ use Rattle.ft_trace.specs.Pictures.{entry_field}
 use Rattle.ft_bank.specs.declared.pass.Pass.{Pass}
 use Rattle.ft_bank.specs.declared.table.Table.{Table}
 use Rattle.ft_bank.specs.Passes.{view}
-use Rattle.ft_bank.specs.TableNames.{name_of}
+use Rattle.ft_bank.specs.TableNames.{table_id}
 use Rattle.ft_bank.proofs.TableAddresses.{class_is}
 use Rattle.ft_search.proofs.WordPlaces.{mask_is}
 use Rattle.ft_adding.specs.Fresh.{fresh_words}
@@ -51,24 +51,24 @@ returns-clause-adds c =
     let m = c.place_in.ensures.puts in
     let same : c.place_in.new.words.pass.now ≡ c.pass-1.given.0 = search rules in
     let r = ran_fresh _ m.calls c.place_in.new.words m.runs in
-    let made : fresh_words c.place_in.new.words ≡ 0 ∷ 0 ∷ in_hand (name_of a.table) (view c.place_in.new.words.pass.now) = ap (λ (z : Table). 0 ∷ 0 ∷ in_hand (name_of z) (view c.place_in.new.words.pass.now)) r.table in
-    subst (λ (p : Pass). AddsPair way.Set (class_mask a.table.class) a.fill a.pair.now (0 ∷ 0 ∷ in_hand (name_of a.table) (view a.pass.now)) (0 ∷ 0 ∷ in_hand (name_of a.table) (view p))) same
-    (subst (λ (z : ℕ × List ℕ). AddsPair way.Set z.0 a.fill a.pair.now (0 ∷ 0 ∷ in_hand (name_of a.table) (view a.pass.now)) z.1) (λ i. (c.mask_of-mask.ensures i, (sym r.words ∙ made) i))
-    (m.done (0 ∷ 0 ∷ in_hand (name_of a.table) (view a.pass.now)) r.fits).1)
+    let made : fresh_words c.place_in.new.words ≡ 0 ∷ 0 ∷ in_hand (table_id a.table) (view c.place_in.new.words.pass.now) = ap (λ (z : Table). 0 ∷ 0 ∷ in_hand (table_id z) (view c.place_in.new.words.pass.now)) r.table in
+    subst (λ (p : Pass). AddsPair way.Set (class_mask a.table.class) a.fill a.pair.now (0 ∷ 0 ∷ in_hand (table_id a.table) (view a.pass.now)) (0 ∷ 0 ∷ in_hand (table_id a.table) (view p))) same
+    (subst (λ (z : ℕ × List ℕ). AddsPair way.Set z.0 a.fill a.pair.now (0 ∷ 0 ∷ in_hand (table_id a.table) (view a.pass.now)) z.1) (λ i. (c.mask_of-mask.ensures i, (sym r.words ∙ made) i))
+    (m.done (0 ∷ 0 ∷ in_hand (table_id a.table) (view a.pass.now)) r.fits).1)
 
 pub returns-clause-versions : goal.returns-clause-versions
 returns-clause-versions c place =
     let a = c.args in
     let m = c.place_in.ensures.puts in
-    let class = class_of (name_of a.table) in
+    let class = class_of (table_id a.table) in
     let same : c.place_in.new.words.pass.now ≡ c.pass-1.given.0 = search rules in
     let r = ran_fresh _ m.calls c.place_in.new.words m.runs in
     let last : c.mask_of-mask.result ≡ class_mask class = c.mask_of-mask.ensures ∙ sym (ap class_mask (class_is a.table c.requires.table.2)) in
-    let made : 0 ∷ 0 ∷ in_hand (name_of a.table) (view c.place_in.new.words.pass.now) ≡ after (class_mask class) m.calls (0 ∷ 0 ∷ in_hand (name_of a.table) (view a.pass.now)) =
-    sym (ap (λ (z : Table). 0 ∷ 0 ∷ in_hand (name_of z) (view c.place_in.new.words.pass.now)) r.table)
-    ∙ (r.words ∙ ap (λ (z : ℕ). after z m.calls (0 ∷ 0 ∷ in_hand (name_of a.table) (view a.pass.now))) last) in
-    subst (λ (p : Pass). entry_field (slots class) (in_hand (name_of a.table) (view p)) place 0 ≡ entry_field (slots class) (in_hand (name_of a.table) (view a.pass.now)) place 0) same
-    (sym (word_here class (in_hand (name_of a.table) (view c.place_in.new.words.pass.now)) place 0)
+    let made : 0 ∷ 0 ∷ in_hand (table_id a.table) (view c.place_in.new.words.pass.now) ≡ after (class_mask class) m.calls (0 ∷ 0 ∷ in_hand (table_id a.table) (view a.pass.now)) =
+    sym (ap (λ (z : Table). 0 ∷ 0 ∷ in_hand (table_id z) (view c.place_in.new.words.pass.now)) r.table)
+    ∙ (r.words ∙ ap (λ (z : ℕ). after z m.calls (0 ∷ 0 ∷ in_hand (table_id a.table) (view a.pass.now))) last) in
+    subst (λ (p : Pass). entry_field (slots class) (in_hand (table_id a.table) (view p)) place 0 ≡ entry_field (slots class) (in_hand (table_id a.table) (view a.pass.now)) place 0) same
+    (sym (word_here class (in_hand (table_id a.table) (view c.place_in.new.words.pass.now)) place 0)
     ∙ (ap (λ (l : List ℕ). entry_word (class_mask class) l place 0) made
-    ∙ (c.calls_keep_versions.ensures.keep (class_mask class) (a.fill + 1) (0 ∷ 0 ∷ in_hand (name_of a.table) (view a.pass.now)) m.calls place (subst (λ (z : ℕ). PutBelow z (a.fill + 1) m.calls) last m.below)
-    ∙ word_here class (in_hand (name_of a.table) (view a.pass.now)) place 0)))
+    ∙ (c.calls_keep_versions.ensures.keep (class_mask class) (a.fill + 1) (0 ∷ 0 ∷ in_hand (table_id a.table) (view a.pass.now)) m.calls place (subst (λ (z : ℕ). PutBelow z (a.fill + 1) m.calls) last m.below)
+    ∙ word_here class (in_hand (table_id a.table) (view a.pass.now)) place 0)))

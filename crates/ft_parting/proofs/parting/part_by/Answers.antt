@@ -1,5 +1,5 @@
 use Rattle.std.proofs.Common.{ℕ, None, Option, sym, ap, ◌∙◌, subst}
-use Rattle.ft_trace.specs.Holds.{known}
+use Rattle.ft_trace.specs.Holds.{known_state}
 use Rattle.ft_bank.specs.declared.table.Table.{Table}
 use Rattle.ft_bank.specs.Passes.{shape_of, view}
 use Rattle.ft_bank.proofs.KnownAfterWrites.{loaded_held, work_knows}
@@ -22,8 +22,8 @@ pub part_thin-requires-clause-none : goal.part_thin-requires-clause-none
 part_thin-requires-clause-none c =
     let a = c.args in
     let v = view a.pass.now in
-    let d = (known a.s v).content in
-    none_drawn d (known a.t v).content (ap (λ (p : ℕ). joined d (known p v).content) (sym c.if-s-t.true)
+    let d = (known_state a.s v).content in
+    none_drawn d (known_state a.t v).content (ap (λ (p : ℕ). joined d (known_state p v).content) (sym c.if-s-t.true)
     ∙ known_itself (shape_of a.bank.now) a.s v c.requires.pass.1 a.pass.now.possible c.requires.may.keyed c.requires.may.locked c.requires.may.stands)
 
 pub returns-then-s-t-clause-added : goal.returns-then-s-t-clause-added
@@ -80,9 +80,9 @@ part_thin-requires-in-None-clause-none c =
     let u = view c.own_table.new.pass in
     let e = c.own_table.ensures in
     let bare = subst (λ (z : Option Table). KnowsKeyed k a.t z u) c.in-None.is e.knows in
-    let d = (known a.s u).content in
-    none_drawn d (known a.t u).content
-    (none_joined d (known a.t u).content
+    let d = (known_state a.s u).content in
+    none_drawn d (known_state a.t u).content
+    (none_joined d (known_state a.t u).content
     (kind_is k u a.t e.pass.1 c.own_table.new.pass.possible bare.locked ∙ (c.requires.other_set ∙ sym (kind_is k u a.s e.pass.1 c.own_table.new.pass.possible (e.only.work.pass.locks a.s ∙ c.requires.may.locked) ∙ c.requires.set)))
     (known_bare k a.t u e.pass.1 c.own_table.new.pass.possible bare.keyed bare.locked bare.stands bare.root))
 

@@ -2,8 +2,8 @@ use Rattle.std.proofs.Common.{◌≡◌, ◌+◌, ◌<◌, ◌^◌, ◌∷◌, l
 use Rattle.std.specs.Prelude.{slice_index}
 use Rattle.ft_model.specs.Contents.{those_not_in}
 use Rattle.ft_model.specs.Worlds.{serial_of, set_of}
-use Rattle.ft_trace.specs.Holds.{held, known}
-use Rattle.ft_trace.specs.Pictures.{Picture}
+use Rattle.ft_trace.specs.Holds.{held_words, known_state}
+use Rattle.ft_trace.specs.Pictures.{ContainerWords}
 use Rattle.ft_trace.specs.ContainerStates.{ContainerState}
 use Rattle.ft_bank.specs.Passes.{shape_of, view}
 use Rattle.ft_bank.specs.Whole.{OnlyLoaded}
@@ -35,21 +35,21 @@ three : (c : After-count_staying-stay) → OnlyLoaded (view c.args.pass.now) (vi
 three c before = loaded_then (view c.args.pass.now) (view c.count_lacking-more.new.pass) (view c.count_staying-stay.new.pass) before c.count_staying-stay.ensures.only
 
 -- how many entries the other one has used, as its block counts them
-others_fill : (c : After-own_table-old) → c.read_counts-others.result.fill ≡ (known c.args.t (view c.args.pass.now)).table.fill
+others_fill : (c : After-own_table-old) → c.read_counts-others.result.fill ≡ (known_state c.args.t (view c.args.pass.now)).table.fill
 others_fill c =
     let a = c.args in
     let v = view a.pass.now in
-    sym c.read_counts-others.ensures.counts.1 ∙ (c.words_are_of_one_content.ensures.head (shape_of a.bank.now).texts (held a.t v).block (0 ∷ 0 ∷ (held a.t v).table) (known a.t v).table (known a.t v).content c.requires.other.stands).fill_is
+    sym c.read_counts-others.ensures.counts.1 ∙ (c.words_are_of_one_content.ensures.head (shape_of a.bank.now).texts (held_words a.t v).block (0 ∷ 0 ∷ (held_words a.t v).table) (known_state a.t v).table (known_state a.t v).content c.requires.other.stands).fill_is
 
 -- and the first one
-own_fill : (c : After-own_table-old) → c.read_counts-counts.result.fill ≡ (known c.args.s (view c.args.pass.now)).table.fill
+own_fill : (c : After-own_table-old) → c.read_counts-counts.result.fill ≡ (known_state c.args.s (view c.args.pass.now)).table.fill
 own_fill c =
     let a = c.args in
     let v = view a.pass.now in
     let u = view c.read_counts-others.new.pass in
     sym c.read_counts-counts.ensures.counts.1
-    ∙ (ap (λ (x : Picture). slice_index x.block 2) (loaded_held v u a.s c.read_counts-others.ensures.only)
-    ∙ (c.words_are_of_one_content.ensures.head (shape_of a.bank.now).texts (held a.s v).block (0 ∷ 0 ∷ (held a.s v).table) (known a.s v).table (known a.s v).content c.requires.may.stands).fill_is)
+    ∙ (ap (λ (x : ContainerWords). slice_index x.block 2) (loaded_held v u a.s c.read_counts-others.ensures.only)
+    ∙ (c.words_are_of_one_content.ensures.head (shape_of a.bank.now).texts (held_words a.s v).block (0 ∷ 0 ∷ (held_words a.s v).table) (known_state a.s v).table (known_state a.s v).content c.requires.may.stands).fill_is)
 
 pub count_lacking-more-requires-clause-may : goal.count_lacking-more-requires-clause-may
 count_lacking-more-requires-clause-may c =
@@ -98,14 +98,14 @@ part_more-requires-clause-may c =
     let late = loaded_then (view c.own_table-old.new.pass) m w c.count_lacking-more.ensures.only c.count_staying-stay.ensures.only in
     may_add k a.s c.own_table-old.result v w all c.requires.used c.requires.idle (may_loaded k a.s v w all c.requires.may) (knows_loaded k a.s c.own_table-old.result (view c.own_table-old.new.pass) w late c.own_table-old.ensures.knows)
 
-stays : (c : After-count_staying-stay) → OnlyLoaded (view c.args.pass.now) (view c.count_lacking-more.new.pass) → c.count_staying-stay.result ≡ length (those_not_in (set_of (known c.args.t (view c.args.pass.now)).content).elements (set_of (known c.args.s (view c.args.pass.now)).content).elements)
+stays : (c : After-count_staying-stay) → OnlyLoaded (view c.args.pass.now) (view c.count_lacking-more.new.pass) → c.count_staying-stay.result ≡ length (those_not_in (set_of (known_state c.args.t (view c.args.pass.now)).content).elements (set_of (known_state c.args.s (view c.args.pass.now)).content).elements)
 stays c before =
     let a = c.args in
     let mine = work_knows (view a.pass.now) (view c.count_lacking-more.new.pass) a.s before.work in
     let other = work_knows (view a.pass.now) (view c.count_lacking-more.new.pass) a.t before.work in
     c.count_staying-stay.ensures.count ∙ (λ i. length (those_not_in (set_of (other i).content).elements (set_of (mine i).content).elements))
 
-news : (c : After-count_lacking-more) → OnlyLoaded (view c.args.pass.now) (view c.own_table-old.new.pass) → c.count_lacking-more.result ≡ new_keys (known c.args.s (view c.args.pass.now)).content (known c.args.t (view c.args.pass.now)).content
+news : (c : After-count_lacking-more) → OnlyLoaded (view c.args.pass.now) (view c.own_table-old.new.pass) → c.count_lacking-more.result ≡ new_keys (known_state c.args.s (view c.args.pass.now)).content (known_state c.args.t (view c.args.pass.now)).content
 news c before =
     let a = c.args in
     let mine = work_knows (view a.pass.now) (view c.own_table-old.new.pass) a.s before.work in
@@ -139,7 +139,7 @@ part_more-requires-clause-merge c =
       way = c.requires.set;
       other_way = c.requires.other_set;
       others = others_fill at.After-own_table-old ∙ ap (λ (z : ContainerState). z.table.fill) (sym other);
-      counts = subst (λ (z : Picture). AreCounts z.block c.read_counts-counts.result) (loaded_held v (view c.read_counts-others.new.pass) a.s c.read_counts-others.ensures.only ∙ sym (loaded_held v w a.s all)) c.read_counts-counts.ensures.counts;
+      counts = subst (λ (z : ContainerWords). AreCounts z.block c.read_counts-counts.result) (loaded_held v (view c.read_counts-others.new.pass) a.s c.read_counts-others.ensures.only ∙ sym (loaded_held v w a.s all)) c.read_counts-counts.ensures.counts;
       more = news at.After-count_lacking-more before ∙ (λ i. new_keys (sym mine i).content (sym other i).content);
       serials = subst (λ (z : ContainerState). serial_of z.content + 65536 < 2 ^ 63) (sym mine) c.requires.serials;
     }
@@ -152,13 +152,13 @@ part_more-requires-clause-few c =
     let v = view a.pass.now in
     let before = one at.After-own_table-old in
     let stay = stays at.After-count_staying-stay (two at.After-count_lacking-more before) in
-    let s = set_of (known a.s v).content in
-    let t = set_of (known a.t v).content in
+    let s = set_of (known_state a.s v).content in
+    let t = set_of (known_state a.t v).content in
     let s_is = is_set k v a.s c.requires.pass.1 a.pass.now.possible c.requires.may.locked c.requires.set in
     let t_is = is_set k v a.t c.requires.pass.1 a.pass.now.possible c.requires.other_may.locked c.requires.other_set in
-    let more = news at.After-count_lacking-more before ∙ new_length (known a.s v).content (known a.t v).content s s_is in
-    let f1 = few_apart (known a.s v).content s t.elements s_is (known_cap k a.s v c.requires.pass.1 a.pass.now.possible c.requires.may.keyed c.requires.may.locked c.requires.may.stands (record { pairs = c.used_entries_follow_a_dict.ensures.first; elements = c.used_entries_follow_a_set.ensures.first })) in
-    let f2 = few_apart (known a.t v).content t s.elements t_is (known_cap k a.t v c.requires.pass.1 a.pass.now.possible c.requires.other_may.keyed c.requires.other_may.locked c.requires.other_may.stands (record { pairs = c.used_entries_follow_a_dict.ensures.first; elements = c.used_entries_follow_a_set.ensures.first })) in
+    let more = news at.After-count_lacking-more before ∙ new_length (known_state a.s v).content (known_state a.t v).content s s_is in
+    let f1 = few_apart (known_state a.s v).content s t.elements s_is (known_cap k a.s v c.requires.pass.1 a.pass.now.possible c.requires.may.keyed c.requires.may.locked c.requires.may.stands (record { pairs = c.used_entries_follow_a_dict.ensures.first; elements = c.used_entries_follow_a_set.ensures.first })) in
+    let f2 = few_apart (known_state a.t v).content t s.elements t_is (known_cap k a.t v c.requires.pass.1 a.pass.now.possible c.requires.other_may.keyed c.requires.other_may.locked c.requires.other_may.stands (record { pairs = c.used_entries_follow_a_dict.ensures.first; elements = c.used_entries_follow_a_set.ensures.first })) in
     omega (arith, stay, more, f1, f2)
 
 pub part_more-requires-clause-parts : goal.part_more-requires-clause-parts

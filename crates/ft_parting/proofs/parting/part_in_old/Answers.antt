@@ -2,7 +2,7 @@ use Rattle.std.proofs.Common.{ℕ, Bool, Option, None, sym, ◌∙◌, subst}
 use Rattle.ft_model.specs.declared.reply.Reply.TheVariants as reply
 use Rattle.ft_model.specs.Worlds.{set_of}
 use Rattle.ft_keys.specs.declared.walk.Way.TheVariants as way
-use Rattle.ft_trace.specs.Holds.{known}
+use Rattle.ft_trace.specs.Holds.{known_state}
 use Rattle.ft_bank.specs.declared.table.Table.{Table}
 use Rattle.ft_bank.specs.Passes.{shape_of, view}
 use Rattle.ft_growth.specs.Adding.{IsAdded}
@@ -42,12 +42,12 @@ part_thin-requires-clause-none c =
     let a = c.args in
     let k = shape_of a.bank.now in
     let v = view a.pass.now in
-    let d = (known a.merge.now.o v).content in
-    let e = (known a.merge.now.t v).content in
+    let d = (known_state a.merge.now.o v).content in
+    let e = (known_state a.merge.now.t v).content in
     let may = subst (λ (z : Option Table). MayAddKey k a.merge.now.o z v) c.in-None.is c.requires.may in
     let kinds = kind_is k v a.merge.now.o c.requires.pass.1 a.pass.now.possible may.keyed.locked ∙ c.requires.merge.way in
     let table = use_known c.words_are_of_one_content.ensures.head k a.merge.now.o None v a.merge.now.counts may.keyed c.requires.merge.counts a.pass.now.possible in
-    let joins = join_stays (known a.merge.now.o v) e (set_of d) (is_set k v a.merge.now.o c.requires.pass.1 a.pass.now.possible may.keyed.locked c.requires.merge.way) c.requires.room in
+    let joins = join_stays (known_state a.merge.now.o v) e (set_of d) (is_set k v a.merge.now.o c.requires.pass.1 a.pass.now.possible may.keyed.locked c.requires.merge.way) c.requires.room in
     bare_none d way.Set a.merge.now.counts.fill (new_keys d e) kinds ((λ i. keys_take d (sym table i) (new_keys d e)) ∙ joins)
 
 pub returns-in-None-clause-added : goal.returns-in-None-clause-added

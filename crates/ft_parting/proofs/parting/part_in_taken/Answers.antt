@@ -6,12 +6,12 @@ use Rattle.ft_model.specs.TableUses.{StoredWorld}
 use Rattle.ft_model.specs.Worlds.{serial_of, set_of}
 use Rattle.ft_trace.specs.Acts.{has_lock}
 use Rattle.ft_trace.specs.Addresses.{class_of}
-use Rattle.ft_trace.specs.Holds.{held, in_hand, known}
+use Rattle.ft_trace.specs.Holds.{held_words, in_hand, known_state}
 use Rattle.ft_trace.specs.Kinds.{rows}
-use Rattle.ft_trace.specs.Pictures.{Picture, root_in}
+use Rattle.ft_trace.specs.Pictures.{ContainerWords, root_in}
 use Rattle.ft_trace.specs.ContainerStates.{ContainerState}
 use Rattle.ft_bank.specs.Passes.{shape_of, view}
-use Rattle.ft_bank.specs.TableNames.{name_of, root_for}
+use Rattle.ft_bank.specs.TableNames.{table_id, root_for}
 use Rattle.ft_bank.specs.Whole.{Wrote}
 use Rattle.ft_bank.specs.WriteSteps.{MayHave}
 use Rattle.ft_bank.proofs.TableAddresses.{class_is}
@@ -34,13 +34,13 @@ use Rattle.ft_parting.proofs.parting.part_in_taken.Goals.{After-take, In-Taken}
 
 -- ---- once it was taken
 
-words_s : (c : In-Taken) → (held c.args.merge.now.o (view c.take.new.pass) ≡ held c.args.merge.now.o (view c.args.pass.now)) × (known c.args.merge.now.o (view c.take.new.pass) ≡ known c.args.merge.now.o (view c.args.pass.now))
+words_s : (c : In-Taken) → (held_words c.args.merge.now.o (view c.take.new.pass) ≡ held_words c.args.merge.now.o (view c.args.pass.now)) × (known_state c.args.merge.now.o (view c.take.new.pass) ≡ known_state c.args.merge.now.o (view c.args.pass.now))
 words_s c =
     let a = c.args in
     let e = c.in-Taken.ensures in
     tried_words _ (view a.pass.now) (view c.take.new.pass) e.same e.keeps (shape_of a.bank.now) a.merge.now.o a.old c.requires.pass.1 c.requires.may.keyed
 
-words_t : (c : In-Taken) → (held c.args.merge.now.t (view c.take.new.pass) ≡ held c.args.merge.now.t (view c.args.pass.now)) × (known c.args.merge.now.t (view c.take.new.pass) ≡ known c.args.merge.now.t (view c.args.pass.now))
+words_t : (c : In-Taken) → (held_words c.args.merge.now.t (view c.take.new.pass) ≡ held_words c.args.merge.now.t (view c.args.pass.now)) × (known_state c.args.merge.now.t (view c.take.new.pass) ≡ known_state c.args.merge.now.t (view c.args.pass.now))
 words_t c =
     let a = c.args in
     let e = c.in-Taken.ensures in
@@ -53,13 +53,13 @@ grow c =
     let x = e.did.6 in
     tried_may _ (view a.pass.now) (view c.take.new.pass) e.same e.keeps (shape_of a.bank.now) a.merge.now.o a.old c.in-Taken.new a.class c.requires.pass.1 c.requires.may x.0 x.1 x.3 x.4
 
-other : (c : In-Taken) → root_in (held c.args.merge.now.o (view c.take.new.pass)) ≢ suc (name_of c.in-Taken.new)
+other : (c : In-Taken) → root_in (held_words c.args.merge.now.o (view c.take.new.pass)) ≢ suc (table_id c.in-Taken.new)
 other c =
     let a = c.args in
     let g = grow c in
     fresh_other (shape_of a.bank.now) (view c.take.new.pass) a.merge.now.o c.in-Taken.new (c.in-Taken.ensures.same.shape ∙ c.requires.pass.1) c.take.new.pass.possible g.keyed.container g.keyed.locked g.table_in g.fresh
 
-class_named : (c : In-Taken) → class_of (name_of c.in-Taken.new) ≡ c.args.class
+class_named : (c : In-Taken) → class_of (table_id c.in-Taken.new) ≡ c.args.class
 class_named c = let x = c.in-Taken.ensures.did.6 in class_is c.in-Taken.new x.0.2 ∙ x.1
 
 pub fill_parted-requires-clause-keyed : goal.fill_parted-requires-clause-keyed
@@ -72,7 +72,7 @@ fill_parted-requires-clause-other_keyed c =
     tried_knows _ (view a.pass.now) (view c.take.new.pass) e.same e.keeps (shape_of a.bank.now) a.merge.now.t (Some a.merge.now.table) c.requires.pass.1 c.requires.merge.other
 
 pub fill_parted-requires-clause-counts : goal.fill_parted-requires-clause-counts
-fill_parted-requires-clause-counts c = subst (λ (z : Picture). AreCounts z.block c.args.merge.now.counts) (sym (words_s (goal.at.fill_parted-requires-clause-counts c).In-Taken).0) c.requires.merge.counts
+fill_parted-requires-clause-counts c = subst (λ (z : ContainerWords). AreCounts z.block c.args.merge.now.counts) (sym (words_s (goal.at.fill_parted-requires-clause-counts c).In-Taken).0) c.requires.merge.counts
 
 pub fill_parted-requires-clause-others : goal.fill_parted-requires-clause-others
 fill_parted-requires-clause-others c = c.requires.merge.others ∙ ap (λ (z : ContainerState). z.table.fill) (sym (words_t (goal.at.fill_parted-requires-clause-others c).In-Taken).1)
@@ -90,11 +90,11 @@ fill_parted-requires-clause-room c =
     let p = (goal.at.fill_parted-requires-clause-room c).In-Taken in
     let s = words_s p in
     let t = words_t p in
-    let fits = part_room (known a.merge.now.o v) (known a.merge.now.t v).content a.class c.requires.few c.requires.takes in
+    let fits = part_room (known_state a.merge.now.o v) (known_state a.merge.now.t v).content a.class c.requires.few c.requires.takes in
     subst (λ (z : ContainerState × ContainerState × ℕ). length (parted z.0.content z.1.content).elements ≤ rows kind.Set z.2) (sym (λ i. (s.1 i, t.1 i, class_named p i))) fits
 
 -- the next serial
-next_is : (c : After-take) → c.args.merge.now.counts.next ≡ serial_of (known c.args.merge.now.o (view c.args.pass.now)).content
+next_is : (c : After-take) → c.args.merge.now.counts.next ≡ serial_of (known_state c.args.merge.now.o (view c.args.pass.now)).content
 next_is c =
     let a = c.args in
     (counts_known c.words_are_of_one_content.ensures.head (shape_of a.bank.now) a.merge.now.o a.old (view a.pass.now) a.merge.now.counts c.requires.may.keyed c.requires.merge.counts).1
@@ -115,7 +115,7 @@ swap_table-number-requires-clause-other c =
     let a = c.args in
     let p = (goal.at.swap_table-number-requires-clause-other c).In-Taken in
     let same = same_filled (shape_of a.bank.now) a.merge.now.o a.old (view c.take.new.pass) (view c.fill_parted.new.pass) (c.in-Taken.ensures.same.shape ∙ c.requires.pass.1) c.fill_parted.ensures.only (grow p).keyed in
-    subst (λ (z : Picture). root_in z ≢ suc (name_of c.in-Taken.new)) (sym same.0) (other p)
+    subst (λ (z : ContainerWords). root_in z ≢ suc (table_id c.in-Taken.new)) (sym same.0) (other p)
 
 pub overflow_add-next : goal.overflow_add-next
 overflow_add-next c =
@@ -124,7 +124,7 @@ overflow_add-next c =
     let n = next_is (goal.at.overflow_add-next c).After-take in
     let s = c.requires.merge.serials in
     let is = is_set (shape_of a.bank.now) v a.merge.now.o c.requires.pass.1 a.pass.now.possible c.requires.may.keyed.locked c.requires.merge.way in
-    let few = part_few (known a.merge.now.o v).content (known a.merge.now.t v).content (set_of (known a.merge.now.o v).content) a.merge.now.more is c.requires.merge.more c.requires.few in
+    let few = part_few (known_state a.merge.now.o v).content (known_state a.merge.now.t v).content (set_of (known_state a.merge.now.o v).content) a.merge.now.more is c.requires.merge.more c.requires.few in
     omega (arith, n, s, few)
 
 pub swap_table-number-requires-clause-gets : goal.swap_table-number-requires-clause-gets
@@ -137,17 +137,17 @@ swap_table-number-requires-clause-gets c =
     let e = c.in-Taken.ensures in
     let s = words_s at.In-Taken in
     let t = words_t at.In-Taken in
-    let class = class_of (name_of c.in-Taken.new) in
-    let all = parted (known a.merge.now.o v).content (known a.merge.now.t v).content in
+    let class = class_of (table_id c.in-Taken.new) in
+    let all = parted (known_state a.merge.now.o v).content (known_state a.merge.now.t v).content in
     let is = is_set (shape_of a.bank.now) v a.merge.now.o c.requires.pass.1 a.pass.now.possible c.requires.may.keyed.locked c.requires.merge.way in
-    let next = parted_next (known a.merge.now.o v).content (known a.merge.now.t v).content (set_of (known a.merge.now.o v).content) a.merge.now.counts.next a.merge.now.more is (next_is at.After-take ∙ ap serial_of is) c.requires.merge.more in
+    let next = parted_next (known_state a.merge.now.o v).content (known_state a.merge.now.t v).content (set_of (known_state a.merge.now.o v).content) a.merge.now.counts.next a.merge.now.more is (next_is at.After-take ∙ ap serial_of is) c.requires.merge.more in
     let before : (found : StoredWorld) → MayHave x found → MayHave v found = λ found has. tried_has _ v u e.same e.keeps found (filled_has u x c.fill_parted.ensures.only found has) in
     let locks : (p : ℕ) → has_lock p x.log ≡ has_lock p v.log = λ p. c.fill_parted.ensures.only.work.pass.locks p ∙ e.same.locks p in (
       content.Set all,
       sym c.requires.merge.way,
       c.requires.count,
       sym next,
-      subst (λ (z : ContainerState × ContainerState). IsFilledWith (shape_of a.bank.now).texts class (content.Set (parted z.0.content z.1.content)) (in_hand (name_of c.in-Taken.new) x)) (λ i. (s.1 i, t.1 i)) c.fill_parted.ensures.filled,
+      subst (λ (z : ContainerState × ContainerState). IsFilledWith (shape_of a.bank.now).texts class (content.Set (parted z.0.content z.1.content)) (in_hand (table_id c.in-Taken.new) x)) (λ i. (s.1 i, t.1 i)) c.fill_parted.ensures.filled,
       subst (λ (z : ℕ). Replaces a.merge.now.o a.called.now (content.Set all) (Some z) x) (sym (class_named at.In-Taken))
           (replaces_later a.merge.now.o a.called.now (content.Set all) (Some a.class) v x before locks (parts_replaces a.merge.now.o a.merge.now.t a.called.now v a.class c.requires.parts c.requires.takes c.requires.few)),
     )
@@ -161,10 +161,10 @@ retire_old-requires-clause-out c t is =
     let same = same_filled (shape_of a.bank.now) a.merge.now.o a.old (view c.take.new.pass) x (c.in-Taken.ensures.same.shape ∙ c.requires.pass.1) c.fill_parted.ensures.only (grow p).keyed in
     let ends = c.swap_table-number.ensures in
     let at = sym c.requires.parts.changed in
-    let root : root_in (held a.merge.now.o (view c.take.new.pass)) ≡ suc (name_of t) = (grow p).keyed.root ∙ ap root_for is in
-    let out = taken_out a.called.now reply.Done c.swap_table-number.result (name_of t) (suc (name_of c.in-Taken.new)) x w ends.wrote
-    (subst (λ (n : ℕ). root_in (held n x) ≡ suc (name_of t)) at (ap root_in same.0 ∙ root))
-    (subst (λ (n : ℕ). root_in (held n w) ≡ suc (name_of c.in-Taken.new)) at ends.root)
+    let root : root_in (held_words a.merge.now.o (view c.take.new.pass)) ≡ suc (table_id t) = (grow p).keyed.root ∙ ap root_for is in
+    let out = taken_out a.called.now reply.Done c.swap_table-number.result (table_id t) (suc (table_id c.in-Taken.new)) x w ends.wrote
+    (subst (λ (n : ℕ). root_in (held_words n x) ≡ suc (table_id t)) at (ap root_in same.0 ∙ root))
+    (subst (λ (n : ℕ). root_in (held_words n w) ≡ suc (table_id c.in-Taken.new)) at ends.root)
     (λ same_name. other p (root ∙ same_name)) in
     (c.requires.may.keyed.table_in t is, out.0, out.1)
 
@@ -192,10 +192,10 @@ returns-in-Taken-clause-added c =
         table = c.in-Taken.new;
         taken = u;
         tried = record { mid = e.did.0; freed = e.did.1; acts = e.did.2; collected = e.did.3; did = e.did.4; taking = e.did.5; has = e.did.6; floor = e.floor; same = e.same; keeps = e.keeps; hands = e.hands };
-        other = subst (λ (n : ℕ). root_in (held n u) ≢ suc (name_of c.in-Taken.new)) (sym at) (other p);
+        other = subst (λ (n : ℕ). root_in (held_words n u) ≢ suc (table_id c.in-Taken.new)) (sym at) (other p);
         done = done;
-        wrote = subst (λ (z : Stamp). Wrote a.called.now reply.Done z.number u done) (sym c.written.ensures) (filled_wrote a.called.now reply.Done c.swap_table-number.result u x done c.fill_parted.ensures.only (subst (λ (n : ℕ). root_in (held n x) ≡ root_in (held n u)) (sym at) (ap root_in same.0)) w.wrote);
-        root = subst (λ (n : ℕ). root_in (held n done) ≡ suc (name_of c.in-Taken.new)) (sym at) w.root;
-        retired = subst (λ (n : ℕ). Retires n done (view c.retire_old.new.pass)) (sym (grow p).keyed.root ∙ sym (ap (λ (n : ℕ). root_in (held n u)) at)) c.retire_old.ensures.retired;
+        wrote = subst (λ (z : Stamp). Wrote a.called.now reply.Done z.number u done) (sym c.written.ensures) (filled_wrote a.called.now reply.Done c.swap_table-number.result u x done c.fill_parted.ensures.only (subst (λ (n : ℕ). root_in (held_words n x) ≡ root_in (held_words n u)) (sym at) (ap root_in same.0)) w.wrote);
+        root = subst (λ (n : ℕ). root_in (held_words n done) ≡ suc (table_id c.in-Taken.new)) (sym at) w.root;
+        retired = subst (λ (n : ℕ). Retires n done (view c.retire_old.new.pass)) (sym (grow p).keyed.root ∙ sym (ap (λ (n : ℕ). root_in (held_words n u)) at)) c.retire_old.ensures.retired;
       },
     )

@@ -7,7 +7,7 @@ use Rattle.ft_model.specs.Contents.{SetContent, those_not_in}
 use Rattle.ft_model.specs.TableUses.{outgrows_set, passes_cap}
 use Rattle.ft_model.specs.Worlds.{set_of}
 use Rattle.ft_growth.specs.Adding.{IsAdded}
-use Rattle.ft_trace.specs.Holds.{known}
+use Rattle.ft_trace.specs.Holds.{known_state}
 use Rattle.ft_bank.specs.Passes.{shape_of, view}
 use Rattle.ft_adding.specs.KeyGrowth.{use_of}
 use Rattle.ft_adding.proofs.Keyed.{use_known}
@@ -18,33 +18,33 @@ use Rattle.ft_parting.proofs.PartedSets.{parted_length}
 use Rattle.ft_parting.proofs.parting.part_more.Goals as goal
 use Rattle.ft_parting.proofs.parting.part_more.Goals.{After-words_are_of_one_content}
 
-is_first : (c : After-words_are_of_one_content) → (known c.args.merge.now.o (view c.args.pass.now)).content ≡ content.Set (set_of (known c.args.merge.now.o (view c.args.pass.now)).content)
+is_first : (c : After-words_are_of_one_content) → (known_state c.args.merge.now.o (view c.args.pass.now)).content ≡ content.Set (set_of (known_state c.args.merge.now.o (view c.args.pass.now)).content)
 is_first c = is_set (shape_of c.args.bank.now) (view c.args.pass.now) c.args.merge.now.o c.requires.pass.1 c.args.pass.now.possible c.requires.may.keyed.locked c.requires.merge.way
 
 -- how many elements there are then
-many : (c : After-words_are_of_one_content) → length (parted (known c.args.merge.now.o (view c.args.pass.now)).content (known c.args.merge.now.t (view c.args.pass.now)).content).elements ≡ c.args.stay + c.args.merge.now.more
+many : (c : After-words_are_of_one_content) → length (parted (known_state c.args.merge.now.o (view c.args.pass.now)).content (known_state c.args.merge.now.t (view c.args.pass.now)).content).elements ≡ c.args.stay + c.args.merge.now.more
 many c =
     let a = c.args in
     let v = view a.pass.now in
-    parted_length (known a.merge.now.o v).content (known a.merge.now.t v).content (set_of (known a.merge.now.o v).content) a.stay a.merge.now.more (is_first c) c.requires.stay c.requires.merge.more
+    parted_length (known_state a.merge.now.o v).content (known_state a.merge.now.t v).content (set_of (known_state a.merge.now.o v).content) a.stay a.merge.now.more (is_first c) c.requires.stay c.requires.merge.more
 
-few : (c : After-words_are_of_one_content) → c.args.stay + c.args.merge.now.more ≤ most_elements → passes_cap (content.Set (parted (known c.args.merge.now.o (view c.args.pass.now)).content (known c.args.merge.now.t (view c.args.pass.now)).content)) ≡ false
-few c low = let m = many c in le-ltb most_elements (length (parted (known c.args.merge.now.o (view c.args.pass.now)).content (known c.args.merge.now.t (view c.args.pass.now)).content).elements) (omega (arith, low, m))
+few : (c : After-words_are_of_one_content) → c.args.stay + c.args.merge.now.more ≤ most_elements → passes_cap (content.Set (parted (known_state c.args.merge.now.o (view c.args.pass.now)).content (known_state c.args.merge.now.t (view c.args.pass.now)).content)) ≡ false
+few c low = let m = many c in le-ltb most_elements (length (parted (known_state c.args.merge.now.o (view c.args.pass.now)).content (known_state c.args.merge.now.t (view c.args.pass.now)).content).elements) (omega (arith, low, m))
 
-over : (c : After-words_are_of_one_content) → most_elements < c.args.stay + c.args.merge.now.more → passes_cap (content.Set (parted (known c.args.merge.now.o (view c.args.pass.now)).content (known c.args.merge.now.t (view c.args.pass.now)).content)) ≡ true
-over c high = let m = many c in lt-ltb most_elements (length (parted (known c.args.merge.now.o (view c.args.pass.now)).content (known c.args.merge.now.t (view c.args.pass.now)).content).elements) (omega (arith, high, m))
+over : (c : After-words_are_of_one_content) → most_elements < c.args.stay + c.args.merge.now.more → passes_cap (content.Set (parted (known_state c.args.merge.now.o (view c.args.pass.now)).content (known_state c.args.merge.now.t (view c.args.pass.now)).content)) ≡ true
+over c high = let m = many c in lt-ltb most_elements (length (parted (known_state c.args.merge.now.o (view c.args.pass.now)).content (known_state c.args.merge.now.t (view c.args.pass.now)).content).elements) (omega (arith, high, m))
 
 -- a set with that many elements
 abbrev staying : After-words_are_of_one_content → SetContent
-staying c = record { next = 0; elements = those_not_in (set_of (known c.args.merge.now.t (view c.args.pass.now)).content).elements (set_of (known c.args.merge.now.o (view c.args.pass.now)).content).elements }
+staying c = record { next = 0; elements = those_not_in (set_of (known_state c.args.merge.now.t (view c.args.pass.now)).content).elements (set_of (known_state c.args.merge.now.o (view c.args.pass.now)).content).elements }
 
-takes : (c : After-words_are_of_one_content) → part_takes (known c.args.merge.now.o (view c.args.pass.now)) (known c.args.merge.now.t (view c.args.pass.now)).content ≡ (if outgrows_set (use_of c.args.old c.args.merge.now.counts.fill) c.args.merge.now.more then Some (set_class (length (staying c).elements + c.args.merge.now.more)) else None)
+takes : (c : After-words_are_of_one_content) → part_takes (known_state c.args.merge.now.o (view c.args.pass.now)) (known_state c.args.merge.now.t (view c.args.pass.now)).content ≡ (if outgrows_set (use_of c.args.old c.args.merge.now.counts.fill) c.args.merge.now.more then Some (set_class (length (staying c).elements + c.args.merge.now.more)) else None)
 takes c =
     let a = c.args in
     let v = view a.pass.now in
-    let d = (known a.merge.now.o v).content in
+    let d = (known_state a.merge.now.o v).content in
     let table = use_known c.words_are_of_one_content.ensures.head (shape_of a.bank.now) a.merge.now.o a.old v a.merge.now.counts c.requires.may.keyed c.requires.merge.counts a.pass.now.possible in
-    let drawn = part_draws d (known a.merge.now.t v).content (set_of d) (is_first c) ∙ sym c.requires.merge.more in
+    let drawn = part_draws d (known_state a.merge.now.t v).content (set_of d) (is_first c) ∙ sym c.requires.merge.more in
     let all = many c ∙ ap (λ (n : ℕ). n + a.merge.now.more) c.requires.stay in
     λ i. if outgrows_set (table i) (drawn i) then Some (set_class (all i)) else None
 

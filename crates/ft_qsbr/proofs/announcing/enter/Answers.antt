@@ -1,7 +1,7 @@
 use Rattle.std.proofs.Common.{ℕ, ◌<◌, [], sym, ap, ◌∙◌, subst, inr}
 use Rattle.ft_trace.specs.declared.View.{View}
 use Rattle.ft_trace.specs.declared.Act.TheVariants.{Announce}
-use Rattle.ft_trace.specs.Acts.{announces, noted}
+use Rattle.ft_trace.specs.Acts.{announces, view_after}
 use Rattle.ft_bank.specs.Passes.{view}
 use Rattle.ft_bank.specs.Takings.{Each}
 use Rattle.ft_bank.proofs.Freeing.{held_then}
@@ -15,7 +15,7 @@ returns-clause-did c =
     let d = c.write_number-number.ensures.did in
     let e = c.announce.ensures.did in
     let n = c.write_number-number.result in
-    (n, (e.0 ∙ d.0, e.1 ∙ ap (λ (u : View). noted (Announce u.number n) u) d.1, e.2 ∙ d.2))
+    (n, (e.0 ∙ d.0, e.1 ∙ ap (λ (u : View). view_after (Announce u.number n) u) d.1, e.2 ∙ d.2))
 
 pub returns-clause-online : goal.returns-clause-online
 returns-clause-online c = subst (λ (z : ℕ). 0 < z) (sym (ap (λ (u : View). announces u.log) c.announce.ensures.did.1)) c.write_number-number.ensures.some

@@ -1,7 +1,7 @@
 use Rattle.std.proofs.Common.{◌≡◌, ℕ, ◌+◌, [], ◌∷◌, length, refl, sym, ap, ◌∙◌, arith}
 use Rattle.ft_trace.specs.declared.View.{View}
 use Rattle.ft_trace.specs.declared.Act.TheVariants.{ReadAnnounced}
-use Rattle.ft_trace.specs.Acts.{noted}
+use Rattle.ft_trace.specs.Acts.{view_after}
 use Rattle.ft_bank.specs.Passes.{view}
 use Rattle.ft_bank.specs.Series.{noted_all}
 use Rattle.ft_bank.specs.Takings.{Each}
@@ -30,7 +30,7 @@ loop-other-preserved c =
         omega (arith, many),
         (
           e.0 ∙ d.2.0,
-          e.1 ∙ (ap (λ (u : View). noted (ReadAnnounced (c.loop-other.other + 1) n) u) d.2.1 ∙ ap (λ (m : ℕ). noted (ReadAnnounced (m + 1) n) (noted_all (loads_of d.0) (view c.args.pass.now))) (sym many)),
+          e.1 ∙ (ap (λ (u : View). view_after (ReadAnnounced (c.loop-other.other + 1) n) u) d.2.1 ∙ ap (λ (m : ℕ). view_after (ReadAnnounced (m + 1) n) (noted_all (loads_of d.0) (view c.args.pass.now))) (sym many)),
           e.2 ∙ d.2.2,
         ),
         least_more d.0 n c.loop-other.least c.lower_of-least.result c.lower_of-least.ensures d.3,

@@ -3,7 +3,7 @@ use Rattle.ft_trace.specs.declared.Shape.{Shape}
 use Rattle.ft_trace.specs.Bits.{bit}
 use Rattle.ft_bank.specs.Passes.{view}
 use Rattle.ft_bank.specs.Retired.{table_of_bit}
-use Rattle.ft_bank.specs.TableNames.{name_of, IsTableIn}
+use Rattle.ft_bank.specs.TableNames.{table_id, IsTableIn}
 use Rattle.ft_bank.proofs.Retiring.{bits_of}
 use Rattle.ft_qsbr.specs.Sweeping.{bit_index, Swept}
 use Rattle.ft_qsbr.proofs.Sweeps.{bit_is_set, bit_is_clear, index_bit, none_kept, swept_none}
@@ -36,5 +36,5 @@ returns-clause-swept c =
     let at = bits_of w b c.requires.word c.requires.bit in
     let fw = at.0 in
     let fb = at.1 in
-    let is : bit_index (name_of (table_of_bit w b)) ≡ 64 * w + b = omega (arith, fw, fb) in
+    let is : bit_index (table_id (table_of_bit w b)) ≡ 64 * w + b = omega (arith, fw, fb) in
     subst (λ (z : ℕ). Swept c.args.least z (z + 1) (view c.args.pass.now) (view c.give_past.new.pass)) is c.give_past.ensures.swept

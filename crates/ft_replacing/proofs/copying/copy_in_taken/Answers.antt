@@ -11,12 +11,12 @@ use Rattle.ft_model.proofs.Copies.{length-pairs_from}
 use Rattle.ft_layout.specs.Containers.{StandsAs}
 use Rattle.ft_trace.specs.Acts.{has_lock}
 use Rattle.ft_trace.specs.Addresses.{class_of}
-use Rattle.ft_trace.specs.Holds.{held, known}
+use Rattle.ft_trace.specs.Holds.{held_words, known_state}
 use Rattle.ft_trace.specs.Kinds.{rows}
-use Rattle.ft_trace.specs.Pictures.{Picture, root_in}
+use Rattle.ft_trace.specs.Pictures.{ContainerWords, root_in}
 use Rattle.ft_trace.specs.ContainerStates.{ContainerState}
 use Rattle.ft_bank.specs.Passes.{shape_of, view}
-use Rattle.ft_bank.specs.TableNames.{name_of, root_for}
+use Rattle.ft_bank.specs.TableNames.{table_id, root_for}
 use Rattle.ft_bank.specs.WriteSteps.{MayHave}
 use Rattle.ft_bank.proofs.TableAddresses.{class_is}
 use Rattle.ft_growth.specs.Adding.{Retires}
@@ -34,33 +34,33 @@ use Rattle.ft_replacing.proofs.copying.copy_in_taken.Goals.{After-take, In-Taken
 
 -- ---- before the table was taken
 
-pairs_of : (c : Start) → (pairs : DictContent) × ((known c.args.d (view c.args.pass.now)).content ≡ content.Dict pairs)
+pairs_of : (c : Start) → (pairs : DictContent) × ((known_state c.args.d (view c.args.pass.now)).content ≡ content.Dict pairs)
 pairs_of c =
     let a = c.args in
-    dict_of_kind (known a.d (view a.pass.now)).content (kind_is (shape_of a.bank.now) (view a.pass.now) a.d c.requires.pass.1 a.pass.now.possible c.requires.keyed.locked ∙ c.requires.dict)
+    dict_of_kind (known_state a.d (view a.pass.now)).content (kind_is (shape_of a.bank.now) (view a.pass.now) a.d c.requires.pass.1 a.pass.now.possible c.requires.keyed.locked ∙ c.requires.dict)
 
-given_of : (c : Start) → (given : DictContent) × ((known c.args.e (view c.args.pass.now)).content ≡ content.Dict given)
+given_of : (c : Start) → (given : DictContent) × ((known_state c.args.e (view c.args.pass.now)).content ≡ content.Dict given)
 given_of c =
     let a = c.args in
-    dict_of_kind (known a.e (view a.pass.now)).content (kind_is (shape_of a.bank.now) (view a.pass.now) a.e c.requires.pass.1 a.pass.now.possible c.requires.may.keyed.locked ∙ c.requires.other_dict)
+    dict_of_kind (known_state a.e (view a.pass.now)).content (kind_is (shape_of a.bank.now) (view a.pass.now) a.e c.requires.pass.1 a.pass.now.possible c.requires.may.keyed.locked ∙ c.requires.other_dict)
 
-count_is : (c : After-take) → c.args.counts.count ≡ length_of (known c.args.d (view c.args.pass.now)).content
+count_is : (c : After-take) → c.args.counts.count ≡ length_of (known_state c.args.d (view c.args.pass.now)).content
 count_is c =
     let a = c.args in
     (counts_known c.words_are_of_one_content.ensures.head (shape_of a.bank.now) a.d a.from (view a.pass.now) a.counts c.requires.keyed c.requires.counts).0
 
-few_is : (c : Start) → length_of (known c.args.d (view c.args.pass.now)).content ≤ most_pairs
+few_is : (c : Start) → length_of (known_state c.args.d (view c.args.pass.now)).content ≤ most_pairs
 few_is c =
     let a = c.args in
     let v = view a.pass.now in
     let p = pairs_of c in
     subst (λ (z : Content). length_of z ≤ most_pairs) (sym p.1)
-    (pairs_few (shape_of a.bank.now).texts (held a.d v).block (0 ∷ 0 ∷ (held a.d v).table) (known a.d v).table p.0
-    (subst (λ (z : Content). StandsAs (shape_of a.bank.now).texts (held a.d v).block (0 ∷ 0 ∷ (held a.d v).table) (known a.d v).table z) p.1 c.requires.keyed.stands))
+    (pairs_few (shape_of a.bank.now).texts (held_words a.d v).block (0 ∷ 0 ∷ (held_words a.d v).table) (known_state a.d v).table p.0
+    (subst (λ (z : Content). StandsAs (shape_of a.bank.now).texts (held_words a.d v).block (0 ∷ 0 ∷ (held_words a.d v).table) (known_state a.d v).table z) p.1 c.requires.keyed.stands))
 
 -- ---- once it was taken
 
-words_d : (c : In-Taken) → (held c.args.d (view c.take.new.pass) ≡ held c.args.d (view c.args.pass.now)) × (known c.args.d (view c.take.new.pass) ≡ known c.args.d (view c.args.pass.now))
+words_d : (c : In-Taken) → (held_words c.args.d (view c.take.new.pass) ≡ held_words c.args.d (view c.args.pass.now)) × (known_state c.args.d (view c.take.new.pass) ≡ known_state c.args.d (view c.args.pass.now))
 words_d c =
     let a = c.args in
     let e = c.in-Taken.ensures in
@@ -73,13 +73,13 @@ grow c =
     let x = e.did.6 in
     tried_may _ (view a.pass.now) (view c.take.new.pass) e.same e.keeps (shape_of a.bank.now) a.e a.old c.in-Taken.table a.class c.requires.pass.1 c.requires.may x.0 x.1 x.3 x.4
 
-other : (c : In-Taken) → root_in (held c.args.e (view c.take.new.pass)) ≢ suc (name_of c.in-Taken.table)
+other : (c : In-Taken) → root_in (held_words c.args.e (view c.take.new.pass)) ≢ suc (table_id c.in-Taken.table)
 other c =
     let a = c.args in
     let g = grow c in
     fresh_other (shape_of a.bank.now) (view c.take.new.pass) a.e c.in-Taken.table (c.in-Taken.ensures.same.shape ∙ c.requires.pass.1) c.take.new.pass.possible g.keyed.container g.keyed.locked g.table_in g.fresh
 
-class_named : (c : In-Taken) → class_of (name_of c.in-Taken.table) ≡ c.args.class
+class_named : (c : In-Taken) → class_of (table_id c.in-Taken.table) ≡ c.args.class
 class_named c = let x = c.in-Taken.ensures.did.6 in class_is c.in-Taken.table x.0.2 ∙ x.1
 
 pub fill_copy-requires-clause-keyed : goal.fill_copy-requires-clause-keyed
@@ -89,7 +89,7 @@ fill_copy-requires-clause-keyed c =
     tried_knows _ (view a.pass.now) (view c.take.new.pass) e.same e.keeps (shape_of a.bank.now) a.d a.from c.requires.pass.1 c.requires.keyed
 
 pub fill_copy-requires-clause-counts : goal.fill_copy-requires-clause-counts
-fill_copy-requires-clause-counts c = subst (λ (z : Picture). AreCounts z.block c.args.counts) (sym (words_d (goal.at.fill_copy-requires-clause-counts c).In-Taken).0) c.requires.counts
+fill_copy-requires-clause-counts c = subst (λ (z : ContainerWords). AreCounts z.block c.args.counts) (sym (words_d (goal.at.fill_copy-requires-clause-counts c).In-Taken).0) c.requires.counts
 
 pub fill_copy-requires-clause-table : goal.fill_copy-requires-clause-table
 fill_copy-requires-clause-table c = c.in-Taken.ensures.did.6.0
@@ -118,7 +118,7 @@ swap_table-number-requires-clause-other c =
     let a = c.args in
     let p = (goal.at.swap_table-number-requires-clause-other c).In-Taken in
     let same = same_filled (shape_of a.bank.now) a.e a.old (view c.take.new.pass) (view c.fill_copy.new.pass) (c.in-Taken.ensures.same.shape ∙ c.requires.pass.1) c.fill_copy.ensures.only (grow p).keyed in
-    subst (λ (z : Picture). root_in z ≢ suc (name_of c.in-Taken.table)) (sym same.0) (other p)
+    subst (λ (z : ContainerWords). root_in z ≢ suc (table_id c.in-Taken.table)) (sym same.0) (other p)
 
 pub swap_table-number-requires-clause-gets : goal.swap_table-number-requires-clause-gets
 swap_table-number-requires-clause-gets c =
@@ -129,13 +129,13 @@ swap_table-number-requires-clause-gets c =
     let u = view c.take.new.pass in
     let x = view c.fill_copy.new.pass in
     let e = c.in-Taken.ensures in
-    let class = class_of (name_of c.in-Taken.table) in
+    let class = class_of (table_id c.in-Taken.table) in
     let pairs = pairs_of at.Start in
     let given = given_of at.Start in
     let long = length-pairs_from given.0.next pairs.0.pairs in
     let n : a.counts.count ≡ length_of (content.Dict pairs.0) = count_is at.After-take ∙ ap length_of pairs.1 in
     let next : given.0.next ≡ a.next = sym (c.requires.next ∙ ap serial_of given.1) in
-    let left : copied (known a.e v).content (known a.d v).content ≡ content.Dict (dict_copy given.0 pairs.0.pairs) = (λ i. copied (given.1 i) (pairs.1 i)) in
+    let left : copied (known_state a.e v).content (known_state a.d v).content ≡ content.Dict (dict_copy given.0 pairs.0.pairs) = (λ i. copied (given.1 i) (pairs.1 i)) in
     let before : (found : StoredWorld) → MayHave x found → MayHave v found = λ found has. tried_has _ v u e.same e.keeps found (filled_has u x c.fill_copy.ensures.only found has) in
     let locks : (p : ℕ) → has_lock p x.log ≡ has_lock p v.log = λ p. c.fill_copy.ensures.only.work.pass.locks p ∙ e.same.locks p in (
       content.Dict (dict_copy given.0 pairs.0.pairs),
@@ -144,7 +144,7 @@ swap_table-number-requires-clause-gets c =
       (λ i. sym next i + n i),
       c.fill_copy.ensures.filled pairs.0 given.0 (ap (λ (z : ContainerState). z.content) (words_d at.In-Taken).1 ∙ pairs.1) next,
       subst (λ (z : Content × ℕ). Replaces a.e a.called.now z.0 (Some z.1) x) (λ i. (left i, sym (class_named at.In-Taken) i))
-          (replaces_later a.e a.called.now (copied (known a.e v).content (known a.d v).content) (Some a.class) v x before locks c.requires.replaces),
+          (replaces_later a.e a.called.now (copied (known_state a.e v).content (known_state a.d v).content) (Some a.class) v x before locks c.requires.replaces),
     )
 
 pub retire_old-requires-clause-out : goal.retire_old-requires-clause-out
@@ -156,10 +156,10 @@ retire_old-requires-clause-out c t is =
     let same = same_filled (shape_of a.bank.now) a.e a.old (view c.take.new.pass) x (c.in-Taken.ensures.same.shape ∙ c.requires.pass.1) c.fill_copy.ensures.only (grow p).keyed in
     let ends = c.swap_table-number.ensures in
     let at = sym c.requires.replaces.changed in
-    let root : root_in (held a.e (view c.take.new.pass)) ≡ suc (name_of t) = (grow p).keyed.root ∙ ap root_for is in
-    let out = taken_out a.called.now reply.Done c.swap_table-number.result (name_of t) (suc (name_of c.in-Taken.table)) x w ends.wrote
-    (subst (λ (n : ℕ). root_in (held n x) ≡ suc (name_of t)) at (ap root_in same.0 ∙ root))
-    (subst (λ (n : ℕ). root_in (held n w) ≡ suc (name_of c.in-Taken.table)) at ends.root)
+    let root : root_in (held_words a.e (view c.take.new.pass)) ≡ suc (table_id t) = (grow p).keyed.root ∙ ap root_for is in
+    let out = taken_out a.called.now reply.Done c.swap_table-number.result (table_id t) (suc (table_id c.in-Taken.table)) x w ends.wrote
+    (subst (λ (n : ℕ). root_in (held_words n x) ≡ suc (table_id t)) at (ap root_in same.0 ∙ root))
+    (subst (λ (n : ℕ). root_in (held_words n w) ≡ suc (table_id c.in-Taken.table)) at ends.root)
     (λ same_name. other p (root ∙ same_name)) in
     (c.requires.may.keyed.table_in t is, out.0, out.1)
 
@@ -187,10 +187,10 @@ returns-in-Taken-clause-added c =
         table = c.in-Taken.table;
         taken = u;
         tried = record { mid = e.did.0; freed = e.did.1; acts = e.did.2; collected = e.did.3; did = e.did.4; taking = e.did.5; has = e.did.6; floor = e.floor; same = e.same; keeps = e.keeps; hands = e.hands };
-        other = subst (λ (n : ℕ). root_in (held n u) ≢ suc (name_of c.in-Taken.table)) (sym at) (other p);
+        other = subst (λ (n : ℕ). root_in (held_words n u) ≢ suc (table_id c.in-Taken.table)) (sym at) (other p);
         done = done;
-        wrote = filled_wrote a.called.now reply.Done c.swap_table-number.result u x done c.fill_copy.ensures.only (subst (λ (n : ℕ). root_in (held n x) ≡ root_in (held n u)) (sym at) (ap root_in same.0)) w.wrote;
-        root = subst (λ (n : ℕ). root_in (held n done) ≡ suc (name_of c.in-Taken.table)) (sym at) w.root;
-        retired = subst (λ (n : ℕ). Retires n done (view c.retire_old.new.pass)) (sym (grow p).keyed.root ∙ sym (ap (λ (n : ℕ). root_in (held n u)) at)) c.retire_old.ensures.retired;
+        wrote = filled_wrote a.called.now reply.Done c.swap_table-number.result u x done c.fill_copy.ensures.only (subst (λ (n : ℕ). root_in (held_words n x) ≡ root_in (held_words n u)) (sym at) (ap root_in same.0)) w.wrote;
+        root = subst (λ (n : ℕ). root_in (held_words n done) ≡ suc (table_id c.in-Taken.table)) (sym at) w.root;
+        retired = subst (λ (n : ℕ). Retires n done (view c.retire_old.new.pass)) (sym (grow p).keyed.root ∙ sym (ap (λ (n : ℕ). root_in (held_words n u)) at)) c.retire_old.ensures.retired;
       },
     )

@@ -8,8 +8,8 @@ use Rattle.ft_model.specs.Worlds.{length_of, serial_of}
 use Rattle.ft_layout.specs.Containers.{StandsAs}
 use Rattle.ft_trace.specs.declared.Shape.{Shape}
 use Rattle.ft_trace.specs.declared.View.{View}
-use Rattle.ft_trace.specs.Holds.{held, known}
-use Rattle.ft_trace.specs.Pictures.{Picture, root_in}
+use Rattle.ft_trace.specs.Holds.{held_words, known_state}
+use Rattle.ft_trace.specs.Pictures.{ContainerWords, root_in}
 use Rattle.ft_trace.specs.ContainerStates.{ContainerState}
 use Rattle.ft_bank.specs.declared.table.Table.{Table}
 use Rattle.ft_bank.specs.Passes.{shape_of, view}
@@ -51,10 +51,10 @@ only_last c =
     c.root_table-old.ensures.only)
     c.read_counts-next.ensures.only
 
-held_last : (c : After-read_counts-next) (o : ℕ) → held o (view c.read_counts-next.new.pass) ≡ held o (view c.args.pass.now)
+held_last : (c : After-read_counts-next) (o : ℕ) → held_words o (view c.read_counts-next.new.pass) ≡ held_words o (view c.args.pass.now)
 held_last c o = loaded_held (view c.args.pass.now) (view c.read_counts-next.new.pass) o (only_last c)
 
-known_last : (c : After-read_counts-next) (o : ℕ) → known o (view c.read_counts-next.new.pass) ≡ known o (view c.args.pass.now)
+known_last : (c : After-read_counts-next) (o : ℕ) → known_state o (view c.read_counts-next.new.pass) ≡ known_state o (view c.args.pass.now)
 known_last c o = work_knows (view c.args.pass.now) (view c.read_counts-next.new.pass) o (only_last c).work
 
 -- ---- what the pass may do after them
@@ -65,7 +65,7 @@ may_d c = may_loaded (shape_of c.args.bank.now) c.args.d (view c.args.pass.now) 
 may_e : (c : After-read_counts-next) → MayWriteEntries (shape_of c.args.bank.now) c.args.e (view c.read_counts-next.new.pass)
 may_e c = may_loaded (shape_of c.args.bank.now) c.args.e (view c.args.pass.now) (view c.read_counts-next.new.pass) (only_last c) c.requires.other
 
-knows_by : (k : Shape) (o : ℕ) (old : Option Table) (v u : View) → MayWriteEntries k o u → held o u ≡ held o v → HasRootOf k o old v → KnowsKeyed k o old u
+knows_by : (k : Shape) (o : ℕ) (old : Option Table) (v u : View) → MayWriteEntries k o u → held_words o u ≡ held_words o v → HasRootOf k o old v → KnowsKeyed k o old u
 knows_by k o old v u may same root = record {
   container = may.container;
   keyed = may.keyed;
@@ -90,43 +90,43 @@ knows_e c =
 
 -- ---- what was counted
 
-counts_d : (c : After-read_counts-next) → AreCounts (held c.args.d (view c.read_counts-next.new.pass)).block c.read_counts-counts.result
+counts_d : (c : After-read_counts-next) → AreCounts (held_words c.args.d (view c.read_counts-next.new.pass)).block c.read_counts-counts.result
 counts_d c =
     let a = c.args in
-    subst (λ (z : Picture). AreCounts z.block c.read_counts-counts.result)
+    subst (λ (z : ContainerWords). AreCounts z.block c.read_counts-counts.result)
     (loaded_held (view a.pass.now) (view c.root_table-from.new.pass) a.d c.root_table-from.ensures.only ∙ sym (held_last c a.d)) c.read_counts-counts.ensures.counts
 
-count_is : (c : After-read_counts-next) → c.read_counts-counts.result.count ≡ length_of (known c.args.d (view c.read_counts-next.new.pass)).content
+count_is : (c : After-read_counts-next) → c.read_counts-counts.result.count ≡ length_of (known_state c.args.d (view c.read_counts-next.new.pass)).content
 count_is c =
     (counts_known c.words_are_of_one_content.ensures.head (shape_of c.args.bank.now) c.args.d c.root_table-from.result (view c.read_counts-next.new.pass) c.read_counts-counts.result (knows_d c) (counts_d c)).0
 
-next_is : (c : After-read_counts-next) → c.read_counts-next.result.next ≡ serial_of (known c.args.e (view c.read_counts-next.new.pass)).content
+next_is : (c : After-read_counts-next) → c.read_counts-next.result.next ≡ serial_of (known_state c.args.e (view c.read_counts-next.new.pass)).content
 next_is c =
     let a = c.args in
     (counts_known c.words_are_of_one_content.ensures.head (shape_of a.bank.now) a.e c.root_table-old.result (view c.read_counts-next.new.pass) c.read_counts-next.result (knows_e c)
-    (subst (λ (z : Picture). AreCounts z.block c.read_counts-next.result) (sym (loaded_held (view c.root_table-old.new.pass) (view c.read_counts-next.new.pass) a.e c.read_counts-next.ensures.only)) c.read_counts-next.ensures.counts)).1
+    (subst (λ (z : ContainerWords). AreCounts z.block c.read_counts-next.result) (sym (loaded_held (view c.root_table-old.new.pass) (view c.read_counts-next.new.pass) a.e c.read_counts-next.ensures.only)) c.read_counts-next.ensures.counts)).1
 
-pairs_of : (c : After-read_counts-next) → (pairs : DictContent) × ((known c.args.d (view c.read_counts-next.new.pass)).content ≡ content.Dict pairs)
+pairs_of : (c : After-read_counts-next) → (pairs : DictContent) × ((known_state c.args.d (view c.read_counts-next.new.pass)).content ≡ content.Dict pairs)
 pairs_of c =
     let a = c.args in
-    dict_of_kind (known a.d (view c.read_counts-next.new.pass)).content (kind_is (shape_of a.bank.now) (view c.read_counts-next.new.pass) a.d c.read_counts-next.ensures.pass.1 c.read_counts-next.new.pass.possible (may_d c).locked ∙ c.requires.dict)
+    dict_of_kind (known_state a.d (view c.read_counts-next.new.pass)).content (kind_is (shape_of a.bank.now) (view c.read_counts-next.new.pass) a.d c.read_counts-next.ensures.pass.1 c.read_counts-next.new.pass.possible (may_d c).locked ∙ c.requires.dict)
 
-given_of : (c : After-read_counts-next) → (given : DictContent) × ((known c.args.e (view c.read_counts-next.new.pass)).content ≡ content.Dict given)
+given_of : (c : After-read_counts-next) → (given : DictContent) × ((known_state c.args.e (view c.read_counts-next.new.pass)).content ≡ content.Dict given)
 given_of c =
     let a = c.args in
-    dict_of_kind (known a.e (view c.read_counts-next.new.pass)).content (kind_is (shape_of a.bank.now) (view c.read_counts-next.new.pass) a.e c.read_counts-next.ensures.pass.1 c.read_counts-next.new.pass.possible (may_e c).locked ∙ c.requires.other_dict)
+    dict_of_kind (known_state a.e (view c.read_counts-next.new.pass)).content (kind_is (shape_of a.bank.now) (view c.read_counts-next.new.pass) a.e c.read_counts-next.ensures.pass.1 c.read_counts-next.new.pass.possible (may_e c).locked ∙ c.requires.other_dict)
 
-few_is : (c : After-read_counts-next) → length_of (known c.args.d (view c.read_counts-next.new.pass)).content ≤ most_pairs
+few_is : (c : After-read_counts-next) → length_of (known_state c.args.d (view c.read_counts-next.new.pass)).content ≤ most_pairs
 few_is c =
     let a = c.args in
     let u = view c.read_counts-next.new.pass in
     let p = pairs_of c in
     subst (λ (z : Content). length_of z ≤ most_pairs) (sym p.1)
-    (pairs_few (shape_of a.bank.now).texts (held a.d u).block (0 ∷ 0 ∷ (held a.d u).table) (known a.d u).table p.0
-    (subst (λ (z : Content). StandsAs (shape_of a.bank.now).texts (held a.d u).block (0 ∷ 0 ∷ (held a.d u).table) (known a.d u).table z) p.1 (may_d c).stands))
+    (pairs_few (shape_of a.bank.now).texts (held_words a.d u).block (0 ∷ 0 ∷ (held_words a.d u).table) (known_state a.d u).table p.0
+    (subst (λ (z : Content). StandsAs (shape_of a.bank.now).texts (held_words a.d u).block (0 ∷ 0 ∷ (held_words a.d u).table) (known_state a.d u).table z) p.1 (may_d c).stands))
 
 -- the call, with the class that was computed
-replaces_as : (c : After-read_counts-next) (takes : Option ℕ) → copy_takes c.read_counts-counts.result.count ≡ takes → Replaces c.args.e c.args.called.now (copied (known c.args.e (view c.read_counts-next.new.pass)).content (known c.args.d (view c.read_counts-next.new.pass)).content) takes (view c.read_counts-next.new.pass)
+replaces_as : (c : After-read_counts-next) (takes : Option ℕ) → copy_takes c.read_counts-counts.result.count ≡ takes → Replaces c.args.e c.args.called.now (copied (known_state c.args.e (view c.read_counts-next.new.pass)).content (known_state c.args.d (view c.read_counts-next.new.pass)).content) takes (view c.read_counts-next.new.pass)
 replaces_as c takes is =
     let a = c.args in
     let v = view a.pass.now in
@@ -134,12 +134,12 @@ replaces_as c takes is =
     let only = only_last c in
     let e = known_last c a.e in
     let d = known_last c a.d in
-    let class : copy_takes (length_of (known a.d v).content) ≡ takes = ap (λ (z : ContainerState). copy_takes (length_of z.content)) (sym d) ∙ (ap copy_takes (sym (count_is c)) ∙ is) in
+    let class : copy_takes (length_of (known_state a.d v).content) ≡ takes = ap (λ (z : ContainerState). copy_takes (length_of z.content)) (sym d) ∙ (ap copy_takes (sym (count_is c)) ∙ is) in
     subst (λ (z : ContainerState × ContainerState × Option ℕ). Replaces a.e a.called.now (copied z.0.content z.1.content) z.2 u) (λ i. (sym e i, sym d i, class i))
-    (replaces_later a.e a.called.now (copied (known a.e v).content (known a.d v).content) (copy_takes (length_of (known a.d v).content)) v u
+    (replaces_later a.e a.called.now (copied (known_state a.e v).content (known_state a.d v).content) (copy_takes (length_of (known_state a.d v).content)) v u
     (λ found has. filled_has v u (loaded_filled v u only) found has) only.work.pass.locks c.requires.replaces)
 
-takes_as : (c : After-read_counts-next) (takes : Option ℕ) → copy_takes c.read_counts-counts.result.count ≡ takes → takes ≡ copy_takes (length_of (known c.args.d (view c.args.pass.now)).content)
+takes_as : (c : After-read_counts-next) (takes : Option ℕ) → copy_takes c.read_counts-counts.result.count ≡ takes → takes ≡ copy_takes (length_of (known_state c.args.d (view c.args.pass.now)).content)
 takes_as c takes is = sym is ∙ (ap copy_takes (count_is c) ∙ ap (λ (z : ContainerState). copy_takes (length_of z.content)) (known_last c c.args.d))
 
 pub read_counts-counts-requires-clause-container : goal.read_counts-counts-requires-clause-container
@@ -202,7 +202,7 @@ clear_keyed-requires-clause-leaves c =
     let given = given_of p in
     let is : copy_takes c.read_counts-counts.result.count ≡ None = sym c.taken_by_copy.ensures.class ∙ c.in-None.is in
     let none : copy_takes (length_of (content.Dict pairs.0)) ≡ None = ap copy_takes (sym (count_is p ∙ ap length_of pairs.1)) ∙ is in
-    copy_clears a.e a.called.now given.0 pairs.0 (known a.e u) u given.1 none
+    copy_clears a.e a.called.now given.0 pairs.0 (known_state a.e u) u given.1 none
     (subst (λ (z : Content × Content). Replaces a.e a.called.now (copied z.0 z.1) None u) (λ i. (given.1 i, pairs.1 i)) (replaces_as p None is))
 
 pub clear_keyed-requires-clause-empties : goal.clear_keyed-requires-clause-empties

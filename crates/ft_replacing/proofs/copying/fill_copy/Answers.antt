@@ -7,9 +7,9 @@ use Rattle.ft_layout.specs.Tables.{dict_room}
 use Rattle.ft_layout.specs.Containers.{class_mask}
 use Rattle.ft_keys.specs.declared.walk.Way.TheVariants as way
 use Rattle.ft_trace.specs.Addresses.{class_of, slots}
-use Rattle.ft_trace.specs.Holds.{held, in_hand, known}
+use Rattle.ft_trace.specs.Holds.{held_words, in_hand, known_state}
 use Rattle.ft_bank.specs.Passes.{shape_of, view}
-use Rattle.ft_bank.specs.TableNames.{name_of}
+use Rattle.ft_bank.specs.TableNames.{table_id}
 use Rattle.ft_bank.proofs.TableAddresses.{class_is, named}
 use Rattle.ft_growth.proofs.Rooting.{filled_then}
 use Rattle.ft_adding.specs.Fresh.{IsFilledWith}
@@ -20,7 +20,7 @@ use Rattle.ft_replacing.proofs.Numbered.{numbered_filled}
 use Rattle.ft_replacing.proofs.copying.fill_copy.Goals as goal
 use Rattle.ft_replacing.proofs.copying.fill_copy.Goals.{After-words_are_of_one_content}
 
-count_is : (c : After-words_are_of_one_content) → c.args.counts.count ≡ length_of (known c.args.d (view c.args.pass.now)).content
+count_is : (c : After-words_are_of_one_content) → c.args.counts.count ≡ length_of (known_state c.args.d (view c.args.pass.now)).content
 count_is c =
     let a = c.args in
     (counts_known c.words_are_of_one_content.ensures.head (shape_of a.bank.now) a.d a.from (view a.pass.now) a.counts c.requires.keyed c.requires.counts).0
@@ -29,7 +29,7 @@ pub fill-requires-clause-fill : goal.fill-requires-clause-fill
 fill-requires-clause-fill c =
     let a = c.args in
     let v = view a.pass.now in
-    let head = c.words_are_of_one_content.ensures.head (shape_of a.bank.now).texts (held a.d v).block _ (known a.d v).table (known a.d v).content c.requires.keyed.stands in
+    let head = c.words_are_of_one_content.ensures.head (shape_of a.bank.now).texts (held_words a.d v).block _ (known_state a.d v).table (known_state a.d v).content c.requires.keyed.stands in
     sym c.requires.counts.1 ∙ head.fill_is
 
 pub fill-requires-clause-room : goal.fill-requires-clause-room
@@ -39,15 +39,15 @@ fill-requires-clause-room c =
     omega (arith, few, n)
 
 pub renumber-requires-clause-fresh : goal.renumber-requires-clause-fresh
-renumber-requires-clause-fresh c = c.fill.ensures.only.work.hands (name_of c.args.table) ∙ c.requires.fresh
+renumber-requires-clause-fresh c = c.fill.ensures.only.work.hands (table_id c.args.table) ∙ c.requires.fresh
 
 pub renumber-requires-clause-room : goal.renumber-requires-clause-room
 renumber-requires-clause-room c =
     let t = c.args.table in
     let room = c.requires.room in
     let class = class_is t c.requires.table.2 in
-    let r = room_of_way way.Dict (class_of (name_of t)) (named (shape_of c.args.bank.now) t c.requires.table).0 in
-    let same : dict_room (class_mask (class_of (name_of t))) ≡ dict_room (class_mask t.class) = ap (λ (z : ℕ). dict_room (class_mask z)) class in
+    let r = room_of_way way.Dict (class_of (table_id t)) (named (shape_of c.args.bank.now) t c.requires.table).0 in
+    let same : dict_room (class_mask (class_of (table_id t))) ≡ dict_room (class_mask t.class) = ap (λ (z : ℕ). dict_room (class_mask z)) class in
     omega (arith, room, r, same)
 
 pub returns-clause-only : goal.returns-clause-only
@@ -57,10 +57,10 @@ pub returns-clause-filled : goal.returns-clause-filled
 returns-clause-filled c pairs given is next =
     let a = c.args in
     let k = shape_of a.bank.now in
-    let class = class_of (name_of a.table) in
+    let class = class_of (table_id a.table) in
     let v = view a.pass.now in
     let n : a.counts.count ≡ length_of (content.Dict pairs) = count_is (goal.at.returns-clause-filled c).After-words_are_of_one_content ∙ ap length_of is in
-    let before = subst (λ (z : Content). IsFilledWith k.texts class z (in_hand (name_of a.table) (view c.fill.new.pass))) is c.fill.ensures.filled in
+    let before = subst (λ (z : Content). IsFilledWith k.texts class z (in_hand (table_id a.table) (view c.fill.new.pass))) is c.fill.ensures.filled in
     subst (IsFilledWith k.texts class (content.Dict (dict_copy given pairs.pairs)))
-    (sym (c.renumber.ensures.words ∙ ap (λ (m : ℕ). renumbered (slots class) a.next m (in_hand (name_of a.table) (view c.fill.new.pass))) n))
-    (numbered_filled k.texts class a.next (named k a.table c.requires.table).0 (in_hand (name_of a.table) (view c.fill.new.pass)) pairs given next before)
+    (sym (c.renumber.ensures.words ∙ ap (λ (m : ℕ). renumbered (slots class) a.next m (in_hand (table_id a.table) (view c.fill.new.pass))) n))
+    (numbered_filled k.texts class a.next (named k a.table c.requires.table).0 (in_hand (table_id a.table) (view c.fill.new.pass)) pairs given next before)

@@ -1,11 +1,11 @@
 use Rattle.std.proofs.Common.{◌≡◌, ℕ, ◌<◌, sym, ap, ◌∙◌, subst}
 use Rattle.ft_trace.specs.Addresses.{class_of, slots, size}
-use Rattle.ft_trace.specs.Holds.{held}
+use Rattle.ft_trace.specs.Holds.{held_words}
 use Rattle.ft_trace.specs.Pictures.{entry_offset}
 use Rattle.ft_trace.specs.ContainerStates.{kind_in}
 use Rattle.ft_trace.proofs.ByKind.{keyed_low}
 use Rattle.ft_bank.specs.Passes.{shape_of, view}
-use Rattle.ft_bank.specs.TableNames.{name_of}
+use Rattle.ft_bank.specs.TableNames.{table_id}
 use Rattle.ft_bank.specs.WriteSteps.{IsCareful, with_table}
 use Rattle.ft_search.proofs.WordPlaces.{entry_is}
 use Rattle.ft_search.proofs.Puts.{few_mask, few_places}
@@ -20,17 +20,17 @@ word_at-at-requires-clause-place c = few_places (shape_of c.args.bank.now) c.arg
 pub put_table-requires-clause-word : goal.put_table-requires-clause-word
 put_table-requires-clause-word c =
     let a = c.args in
-    let e : c.word_at-at.result ≡ entry_offset (slots (class_of (name_of a.table))) a.place a.word = c.word_at-at.ensures ∙ entry_is (shape_of a.bank.now) a.table c.mask_of.result a.place a.word c.requires.writes.table_in c.mask_of.ensures in
-    subst (λ (n : ℕ). n < size (class_of (name_of a.table))) (sym e) (keyed_low (kind_in (shape_of a.bank.now).starts a.o) c.requires.writes.keyed (class_of (name_of a.table)) a.place a.word c.requires.place c.requires.word)
+    let e : c.word_at-at.result ≡ entry_offset (slots (class_of (table_id a.table))) a.place a.word = c.word_at-at.ensures ∙ entry_is (shape_of a.bank.now) a.table c.mask_of.result a.place a.word c.requires.writes.table_in c.mask_of.ensures in
+    subst (λ (n : ℕ). n < size (class_of (table_id a.table))) (sym e) (keyed_low (kind_in (shape_of a.bank.now).starts a.o) c.requires.writes.keyed (class_of (table_id a.table)) a.place a.word c.requires.place c.requires.word)
 
 pub put_table-requires-clause-care : goal.put_table-requires-clause-care
 put_table-requires-clause-care c =
     let a = c.args in
-    let e : c.word_at-at.result ≡ entry_offset (slots (class_of (name_of a.table))) a.place a.word = c.word_at-at.ensures ∙ entry_is (shape_of a.bank.now) a.table c.mask_of.result a.place a.word c.requires.writes.table_in c.mask_of.ensures in
-    subst (λ (n : ℕ). IsCareful (view a.pass.now) a.o (name_of a.table) n a.value) (sym e) c.requires.care
+    let e : c.word_at-at.result ≡ entry_offset (slots (class_of (table_id a.table))) a.place a.word = c.word_at-at.ensures ∙ entry_is (shape_of a.bank.now) a.table c.mask_of.result a.place a.word c.requires.writes.table_in c.mask_of.ensures in
+    subst (λ (n : ℕ). IsCareful (view a.pass.now) a.o (table_id a.table) n a.value) (sym e) c.requires.care
 
 pub returns-clause-words : goal.returns-clause-words
 returns-clause-words c =
     let a = c.args in
-    let e : c.word_at-at.result ≡ entry_offset (slots (class_of (name_of a.table))) a.place a.word = c.word_at-at.ensures ∙ entry_is (shape_of a.bank.now) a.table c.mask_of.result a.place a.word c.requires.writes.table_in c.mask_of.ensures in
-    c.put_table.ensures.held ∙ ap (λ (n : ℕ). with_table (held a.o (view a.pass.now)) n a.value) e
+    let e : c.word_at-at.result ≡ entry_offset (slots (class_of (table_id a.table))) a.place a.word = c.word_at-at.ensures ∙ entry_is (shape_of a.bank.now) a.table c.mask_of.result a.place a.word c.requires.writes.table_in c.mask_of.ensures in
+    c.put_table.ensures.held ∙ ap (λ (n : ℕ). with_table (held_words a.o (view a.pass.now)) n a.value) e

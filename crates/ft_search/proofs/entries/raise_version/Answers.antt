@@ -1,9 +1,9 @@
 use Rattle.std.proofs.Common.{ℕ, ◌+◌, sym, ap, ◌∙◌, subst, arith}
 use Rattle.ft_trace.specs.Addresses.{class_of, slots}
-use Rattle.ft_trace.specs.Holds.{held}
-use Rattle.ft_trace.specs.Pictures.{Picture, entry_offset}
+use Rattle.ft_trace.specs.Holds.{held_words}
+use Rattle.ft_trace.specs.Pictures.{ContainerWords, entry_offset}
 use Rattle.ft_bank.specs.Passes.{shape_of, view}
-use Rattle.ft_bank.specs.TableNames.{name_of}
+use Rattle.ft_bank.specs.TableNames.{table_id}
 use Rattle.ft_bank.specs.WriteSteps.{IsCareful, with_table}
 use Rattle.ft_bank.proofs.KnownAfterWrites.{loaded_put, put_then}
 use Rattle.ft_search.proofs.Puts.{entry_room, careful_loaded}
@@ -20,8 +20,8 @@ pub put_entry-requires-clause-care : goal.put_entry-requires-clause-care
 put_entry-requires-clause-care c =
     let a = c.args in
     let e = c.read_entry-version.ensures in
-    careful_loaded (view a.pass.now) (view c.read_entry-version.new.pass) a.o (name_of a.table) (entry_offset (slots (class_of (name_of a.table))) a.place 0) (c.read_entry-version.result + 1) e.only
-    (subst (λ (n : ℕ). IsCareful (view a.pass.now) a.o (name_of a.table) (entry_offset (slots (class_of (name_of a.table))) a.place 0) (n + 1)) (sym e.found) c.requires.care)
+    careful_loaded (view a.pass.now) (view c.read_entry-version.new.pass) a.o (table_id a.table) (entry_offset (slots (class_of (table_id a.table))) a.place 0) (c.read_entry-version.result + 1) e.only
+    (subst (λ (n : ℕ). IsCareful (view a.pass.now) a.o (table_id a.table) (entry_offset (slots (class_of (table_id a.table))) a.place 0) (n + 1)) (sym e.found) c.requires.care)
 
 pub returns-clause-only : goal.returns-clause-only
 returns-clause-only c =
@@ -33,7 +33,7 @@ pub returns-clause-words : goal.returns-clause-words
 returns-clause-words c =
     let a = c.args in
     let e = c.read_entry-version.ensures in
-    let at = entry_offset (slots (class_of (name_of a.table))) a.place 0 in
+    let at = entry_offset (slots (class_of (table_id a.table))) a.place 0 in
     c.put_entry.ensures.words
-    ∙ (ap (λ (z : Picture). with_table z at (c.read_entry-version.result + 1)) e.held
-    ∙ ap (λ (n : ℕ). with_table (held a.o (view a.pass.now)) at (n + 1)) e.found)
+    ∙ (ap (λ (z : ContainerWords). with_table z at (c.read_entry-version.result + 1)) e.held
+    ∙ ap (λ (n : ℕ). with_table (held_words a.o (view a.pass.now)) at (n + 1)) e.found)

@@ -1,12 +1,12 @@
 use Rattle.std.proofs.Common.{◌≡◌, ℕ, ◌<◌, sym, ap, ◌∙◌, subst}
 use Rattle.std.specs.Prelude.{slice_index}
 use Rattle.ft_trace.specs.Addresses.{class_of, slots, size}
-use Rattle.ft_trace.specs.Holds.{held}
+use Rattle.ft_trace.specs.Holds.{held_words}
 use Rattle.ft_trace.specs.Pictures.{entry_offset}
 use Rattle.ft_trace.specs.ContainerStates.{kind_in}
 use Rattle.ft_trace.proofs.ByKind.{keyed_low}
 use Rattle.ft_bank.specs.Passes.{shape_of, view}
-use Rattle.ft_bank.specs.TableNames.{name_of}
+use Rattle.ft_bank.specs.TableNames.{table_id}
 use Rattle.ft_search.proofs.WordPlaces.{entry_is}
 use Rattle.ft_search.proofs.Puts.{few_mask, few_places}
 use Rattle.ft_search.proofs.entries.read_entry.Goals as goal
@@ -20,12 +20,12 @@ word_at-at-requires-clause-place c = few_places (shape_of c.args.bank.now) c.arg
 pub read_table-requires-clause-word : goal.read_table-requires-clause-word
 read_table-requires-clause-word c =
     let a = c.args in
-    let e : c.word_at-at.result ≡ entry_offset (slots (class_of (name_of a.table))) a.place a.word = c.word_at-at.ensures ∙ entry_is (shape_of a.bank.now) a.table c.mask_of.result a.place a.word c.requires.writes.table_in c.mask_of.ensures in
-    subst (λ (n : ℕ). n < size (class_of (name_of a.table))) (sym e) (keyed_low (kind_in (shape_of a.bank.now).starts a.o) c.requires.writes.keyed (class_of (name_of a.table)) a.place a.word c.requires.place c.requires.word)
+    let e : c.word_at-at.result ≡ entry_offset (slots (class_of (table_id a.table))) a.place a.word = c.word_at-at.ensures ∙ entry_is (shape_of a.bank.now) a.table c.mask_of.result a.place a.word c.requires.writes.table_in c.mask_of.ensures in
+    subst (λ (n : ℕ). n < size (class_of (table_id a.table))) (sym e) (keyed_low (kind_in (shape_of a.bank.now).starts a.o) c.requires.writes.keyed (class_of (table_id a.table)) a.place a.word c.requires.place c.requires.word)
 
 pub returns-clause-found : goal.returns-clause-found
 returns-clause-found c =
     let a = c.args in
-    let e : c.word_at-at.result ≡ entry_offset (slots (class_of (name_of a.table))) a.place a.word = c.word_at-at.ensures ∙ entry_is (shape_of a.bank.now) a.table c.mask_of.result a.place a.word c.requires.writes.table_in c.mask_of.ensures in
+    let e : c.word_at-at.result ≡ entry_offset (slots (class_of (table_id a.table))) a.place a.word = c.word_at-at.ensures ∙ entry_is (shape_of a.bank.now) a.table c.mask_of.result a.place a.word c.requires.writes.table_in c.mask_of.ensures in
     c.read_table.ensures.held a.o c.requires.writes.container c.requires.writes.locked c.requires.writes.root
-    ∙ ap (λ (n : ℕ). slice_index (held a.o (view a.pass.now)).table n) e
+    ∙ ap (λ (n : ℕ). slice_index (held_words a.o (view a.pass.now)).table n) e

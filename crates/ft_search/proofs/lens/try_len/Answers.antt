@@ -1,7 +1,7 @@
 use Rattle.std.proofs.Common.{◌<◌, ℕ, inr, sym, ap, subst}
 use Rattle.ft_model.specs.declared.call.Call.{Call}
 use Rattle.ft_trace.specs.declared.Shape.{Shape}
-use Rattle.ft_trace.specs.Addresses.{containers_in}
+use Rattle.ft_trace.specs.Addresses.{container_count}
 use Rattle.ft_trace.specs.ContainerStates.{kind_in}
 use Rattle.ft_bank.specs.Passes.{shape_of, view}
 use Rattle.ft_section.specs.declared.answers.Objects.TheVariants.{One}
@@ -15,7 +15,7 @@ len_locked-reply-requires-clause-stands c =
     let m = c.in-Have.ensures.making in
     let same = m.inside.0.1 in
     making_stands c.args.bank.now c.take_for.new.pass (shape_of c.args.bank.now).texts c.args.o m (ap (λ (k : Shape). k.texts) same)
-    (subst (λ (k : Shape). c.args.o < containers_in k) (sym same) c.requires.container) c.in-Have.ensures.has.0.0
+    (subst (λ (k : Shape). c.args.o < container_count k) (sym same) c.requires.container) c.in-Have.ensures.has.0.0
 
 pub len_locked-reply-requires-clause-pass : goal.len_locked-reply-requires-clause-pass
 len_locked-reply-requires-clause-pass c = c.in-Have.ensures.making.inside.0

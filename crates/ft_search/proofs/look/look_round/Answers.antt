@@ -1,7 +1,7 @@
 use Rattle.std.proofs.Common.{ℕ, ◌∷◌, ap, ◌∙◌, sym, subst}
 use Rattle.ft_trace.specs.declared.Act.TheVariants.{ReadRoot}
 use Rattle.ft_bank.specs.Passes.{shape_of}
-use Rattle.ft_bank.specs.TableNames.{name_of}
+use Rattle.ft_bank.specs.TableNames.{table_id}
 use Rattle.ft_search.specs.Rounds.{EndsRound}
 use Rattle.ft_search.proofs.Rounding.{at_bare, at_table}
 use Rattle.ft_search.proofs.Spending.{at_root}
@@ -25,7 +25,7 @@ returns-in-None-clause-ended c =
 
 pub returns-in-Some-clause-ended : goal.returns-in-Some-clause-ended
 returns-in-Some-clause-ended c =
-    let t = name_of c.in-Some.table in
+    let t = table_id c.in-Some.table in
     let is = c.in-Some.ensures.named in
     subst (λ (z : ℕ). EndsRound (shape_of c.args.bank.now) c.args.o c.args.key z c.args.pass.now c.look_in.new.pass c.look_in.result) (sym is)
     (at_table (shape_of c.args.bank.now) c.args.o c.args.key t c.args.pass.now c.look_in.new.pass c.look_in.result c.requires.last.0

@@ -1,7 +1,7 @@
 use Rattle.std.proofs.Common.{◌≡◌, [], ◌∷◌, ◌++◌, refl, sym, ◌∙◌, arith}
 use Rattle.ft_layout.specs.Words.{key_kind}
 use Rattle.ft_bank.specs.Passes.{shape_of}
-use Rattle.ft_bank.specs.TableNames.{name_of}
+use Rattle.ft_bank.specs.TableNames.{table_id}
 use Rattle.ft_search.specs.Rounds.{met_acts, entry_acts}
 use Rattle.ft_search.proofs.Running.{did_none}
 use Rattle.ft_search.proofs.Spending.{seen_none}
@@ -13,7 +13,7 @@ pub returns-then-place-entries-clause-turns : goal.returns-then-place-entries-cl
 returns-then-place-entries-clause-turns c slot earlier left w =
     let s = c.args.words.now in
     let k = shape_of s.bank.now in
-    let t = name_of s.table in
+    let t = table_id s.table in
     let key = c.args.key in
     let part = met_acts t slot c.args.place key (key_kind key) earlier in
     let high = c.if-place-entries.true in
@@ -22,7 +22,7 @@ returns-then-place-entries-clause-turns c slot earlier left w =
 pub returns-then-not-stood-clause-turns : goal.returns-then-not-stood-clause-turns
 returns-then-not-stood-clause-turns c slot earlier left w =
     let s = c.args.words.now in
-    let t = name_of s.table in
+    let t = table_id s.table in
     let seen = c.read_between-seen.result in
     (entry_acts t c.args.place seen, tt, c.read_between-seen.ensures.did, stops_seen (shape_of s.bank.now) s.o t c.args.key slot c.args.place earlier (let low = c.if-place-entries.false in omega (arith, low, c.requires.entries)) seen (c.if-not-stood.ensures.no refl))
 
@@ -30,7 +30,7 @@ pub returns-then-seen-kind_of-clause-turns : goal.returns-then-seen-kind_of-clau
 returns-then-seen-kind_of-clause-turns c slot earlier left w =
     let s = c.args.words.now in
     let k = shape_of s.bank.now in
-    let t = name_of s.table in
+    let t = table_id s.table in
     let key = c.args.key in
     let seen = c.read_between-seen.result in
     let stood = c.if-not-stood.ensures.yes refl in
@@ -48,7 +48,7 @@ pub returns-clause-turns : goal.returns-clause-turns
 returns-clause-turns c slot earlier left w =
     let s = c.args.words.now in
     let k = shape_of s.bank.now in
-    let t = name_of s.table in
+    let t = table_id s.table in
     let key = c.args.key in
     let seen = c.read_between-seen.result in
     let stood = c.if-not-stood.ensures.yes refl in
@@ -65,18 +65,18 @@ returns-then-place-entries-clause-index c = ([], did_none c.args.words.now.pass.
 
 pub returns-then-not-stood-clause-index : goal.returns-then-not-stood-clause-index
 returns-then-not-stood-clause-index c =
-    let t = name_of c.args.words.now.table in
+    let t = table_id c.args.words.now.table in
     let seen = c.read_between-seen.result in
     (entry_acts t c.args.place seen, c.read_between-seen.ensures.did, seen_none t c.args.place seen)
 
 pub returns-then-seen-kind_of-clause-index : goal.returns-then-seen-kind_of-clause-index
 returns-then-seen-kind_of-clause-index c =
-    let t = name_of c.args.words.now.table in
+    let t = table_id c.args.words.now.table in
     let seen = c.read_between-seen.result in
     (entry_acts t c.args.place seen, c.read_between-seen.ensures.did, seen_none t c.args.place seen)
 
 pub returns-clause-index : goal.returns-clause-index
 returns-clause-index c =
-    let t = name_of c.args.words.now.table in
+    let t = table_id c.args.words.now.table in
     let seen = c.read_between-seen.result in
     (entry_acts t c.args.place seen, c.read_between-seen.ensures.did, seen_none t c.args.place seen)

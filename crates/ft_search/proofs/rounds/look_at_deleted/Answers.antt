@@ -5,7 +5,7 @@ use Rattle.ft_trace.specs.declared.Act.TheVariants.{ReadTable}
 use Rattle.ft_trace.specs.Addresses.{class_of, slots}
 use Rattle.ft_trace.specs.Pictures.{entry_offset}
 use Rattle.ft_bank.specs.Passes.{shape_of}
-use Rattle.ft_bank.specs.TableNames.{name_of}
+use Rattle.ft_bank.specs.TableNames.{table_id}
 use Rattle.ft_search.specs.Rounds.{met_acts}
 use Rattle.ft_search.proofs.Running.{did_none, did_trans, at_same}
 use Rattle.ft_search.proofs.Spending.{version_none, versions_none}
@@ -18,7 +18,7 @@ pub returns-then-place-entries-clause-turns : goal.returns-then-place-entries-cl
 returns-then-place-entries-clause-turns c key slot earlier left w =
     let s = c.args.words.now in
     let k = shape_of s.bank.now in
-    let t = name_of s.table in
+    let t = table_id s.table in
     let part = met_acts t slot c.args.place key (gone_kind key) earlier in
     let high = c.if-place-entries.true in
     ([], tt, did_none s.pass.now, walked_past k s.o t key slot left part w (beyond_passed k s.o t key slot c.args.place earlier (gone_kind key) (omega (arith, high, c.requires.entries))))
@@ -27,7 +27,7 @@ pub returns-then-opened-eq0-clause-turns : goal.returns-then-opened-eq0-clause-t
 returns-then-opened-eq0-clause-turns c key slot earlier left w =
     let s = c.args.words.now in
     let k = shape_of s.bank.now in
-    let t = name_of s.table in
+    let t = table_id s.table in
     let part = met_acts t slot c.args.place key (gone_kind key) earlier in
     let opened = c.word-opened.result in
     let load : Act = ReadTable t (entry_offset (slots (class_of t)) c.args.place 0) opened in
@@ -45,7 +45,7 @@ returns-clause-turns c key slot earlier left w =
     let s1 = c.word-opened.new.self in
     let s2 = c.word-closed.new.self in
     let k = shape_of s.bank.now in
-    let t = name_of s.table in
+    let t = table_id s.table in
     let opened = c.word-opened.result in
     let closed = c.word-closed.result in
     let first : Act = ReadTable t (entry_offset (slots (class_of t)) c.args.place 0) opened in
@@ -62,7 +62,7 @@ returns-then-place-entries-clause-index c = ([], did_none c.args.words.now.pass.
 
 pub returns-then-opened-eq0-clause-index : goal.returns-then-opened-eq0-clause-index
 returns-then-opened-eq0-clause-index c =
-    let t = name_of c.args.words.now.table in
+    let t = table_id c.args.words.now.table in
     let opened = c.word-opened.result in
     (ReadTable t (entry_offset (slots (class_of t)) c.args.place 0) opened ∷ [], c.word-opened.ensures.did, version_none t c.args.place opened)
 
@@ -71,7 +71,7 @@ returns-clause-index c =
     let s = c.args.words.now in
     let s1 = c.word-opened.new.self in
     let s2 = c.word-closed.new.self in
-    let t = name_of s.table in
+    let t = table_id s.table in
     let opened = c.word-opened.result in
     let closed = c.word-closed.result in
     let first : Act = ReadTable t (entry_offset (slots (class_of t)) c.args.place 0) opened in

@@ -18,7 +18,7 @@ use Rattle.ft_search.specs.TableWords.{access_act, SamePlace}
 use Rattle.ft_search.specs.SearchCosts.{LoadsNoIndex, MayWalkOn, SpendsSearch}
 use Rattle.ft_bank.specs.Passes.{shape_of}
 use Rattle.ft_bank.specs.Series.{DidAll}
-use Rattle.ft_bank.specs.TableNames.{name_of}
+use Rattle.ft_bank.specs.TableNames.{table_id}
 use Rattle.ft_search.specs.Rounds.{met_acts, Walked, TurnsAfter}
 use Rattle.ft_search.proofs.Bounding.{Went, freed}
 use Rattle.ft_search.proofs.Running.{did_none, same_trans, at_same}
@@ -30,7 +30,7 @@ use Rattle.ft_search.proofs.rounds.search_on.Goals.{After-seek}
 -- what the search after the load of the counter loaded, by how it ended
 abbrev Loaded : After-seek → Found → Type 0
 Loaded c found =
-    (calls : List Access) × DidAll (map (access_act c.stamp-number.new.self.o (name_of c.stamp-number.new.self.table)) calls) c.stamp-number.new.self.pass.now c.seek.new.self.pass.now
+    (calls : List Access) × DidAll (map (access_act c.stamp-number.new.self.o (table_id c.stamp-number.new.self.table)) calls) c.stamp-number.new.self.pass.now c.seek.new.self.pass.now
     × Loads c.stamp-number.new.self.mask c.args.key c.args.walk.now.left c.seek.new.walk.left found calls
 
 searched : (c : After-seek) (found : Found) → Loaded c found → Sought c.args.words.now c.seek.new.self c.args.key c.stamp-number.result c.args.walk.now.left c.seek.new.walk.left found
@@ -38,25 +38,25 @@ searched c found = sought c.args.words.now c.stamp-number.new.self c.seek.new.se
 
 -- an entry was met, and then looked at
 met : (c : After-seek) (found : Found) (loads : Loaded c found) (slot place kind : ℕ) (s3 : TableWords) (result : Option Looked) → NamesEntry c.args.words.now.mask c.args.key slot place kind (searched c found loads).loads.last → unpassed found c.seek.new.walk.left ≡ slot ∷ c.seek.new.walk.left → SamePlace c.stamp-number.new.self c.seek.new.self
-    → ((slot : ℕ) (earlier : List Act) (left : List ℕ) → Walked (shape_of c.seek.new.self.bank.now) c.seek.new.self.o (name_of c.seek.new.self.table) c.args.key (met_acts (name_of c.seek.new.self.table) slot place c.args.key kind earlier) (slot ∷ left)
-    → TurnsAfter (shape_of c.seek.new.self.bank.now) c.seek.new.self.o (name_of c.seek.new.self.table) c.args.key (met_acts (name_of c.seek.new.self.table) slot place c.args.key kind earlier) left result c.seek.new.self.pass.now s3.pass.now)
-    → (part : List Act) → Walked (shape_of c.args.words.now.bank.now) c.args.words.now.o (name_of c.args.words.now.table) c.args.key part c.args.walk.now.left → TurnsAfter (shape_of c.args.words.now.bank.now) c.args.words.now.o (name_of c.args.words.now.table) c.args.key part c.seek.new.walk.left result c.args.words.now.pass.now s3.pass.now
+    → ((slot : ℕ) (earlier : List Act) (left : List ℕ) → Walked (shape_of c.seek.new.self.bank.now) c.seek.new.self.o (table_id c.seek.new.self.table) c.args.key (met_acts (table_id c.seek.new.self.table) slot place c.args.key kind earlier) (slot ∷ left)
+    → TurnsAfter (shape_of c.seek.new.self.bank.now) c.seek.new.self.o (table_id c.seek.new.self.table) c.args.key (met_acts (table_id c.seek.new.self.table) slot place c.args.key kind earlier) left result c.seek.new.self.pass.now s3.pass.now)
+    → (part : List Act) → Walked (shape_of c.args.words.now.bank.now) c.args.words.now.o (table_id c.args.words.now.table) c.args.key part c.args.walk.now.left → TurnsAfter (shape_of c.args.words.now.bank.now) c.args.words.now.o (table_id c.args.words.now.table) c.args.key part c.seek.new.walk.left result c.args.words.now.pass.now s3.pass.now
 met c found loads slot place kind s3 result named is same turns part w =
     let s0 = c.args.words.now in
     let s2 = c.seek.new.self in
     let key = c.args.key in
-    let few : rows (kind_in (shape_of s0.bank.now).starts s0.o) (class_of (name_of s0.table)) ≤ dict_room s0.mask = omega (arith, c.requires.entries, c.requires.room) in
+    let few : rows (kind_in (shape_of s0.bank.now).starts s0.o) (class_of (table_id s0.table)) ≤ dict_room s0.mask = omega (arith, c.requires.entries, c.requires.room) in
     after_met s0 s2 key c.stamp-number.result c.args.walk.now.left c.seek.new.walk.left found (searched c found loads) part slot place kind s3 result named few is w
     (at_same
     (λ k o t. (slot : ℕ) (earlier : List Act) (left : List ℕ) → Walked k o t key (met_acts t slot place key kind earlier) (slot ∷ left) → TurnsAfter k o t key (met_acts t slot place key kind earlier) left result s2.pass.now s3.pass.now)
     s0 s2 (same_trans s0 c.stamp-number.new.self s2 c.stamp-number.ensures.same same) turns)
 
 -- what came after the search spends no more loads of index words
-module _ (c : After-seek) (found : Found) (loads : Loaded c found) (walked : List ℕ) (acts : List Act) (may : MayWalkOn (name_of c.args.words.now.table) walked acts c.args.walk.now.left) where
-  abbrev went_on : Went c.args.words.now.o (name_of c.args.words.now.table) walked c.args.words.now.mask c.args.key c.args.walk.now.left c.seek.new.walk.left found (searched c found loads).calls (ReadCounter c.stamp-number.result ∷ acts)
+module _ (c : After-seek) (found : Found) (loads : Loaded c found) (walked : List ℕ) (acts : List Act) (may : MayWalkOn (table_id c.args.words.now.table) walked acts c.args.walk.now.left) where
+  abbrev went_on : Went c.args.words.now.o (table_id c.args.words.now.table) walked c.args.words.now.mask c.args.key c.args.walk.now.left c.seek.new.walk.left found (searched c found loads).calls (ReadCounter c.stamp-number.result ∷ acts)
   went_on = sought_on c.args.words.now c.seek.new.self c.args.key c.stamp-number.result c.args.walk.now.left c.seek.new.walk.left found (searched c found loads) walked acts may
 
-  spends : (more : List Act) (s3 : TableWords) (result : Option Looked) → LoadsNoIndex more → DidAll more c.seek.new.self.pass.now s3.pass.now → (result ≡ None → freed found went_on.before ≤ 1) → SpendsSearch (name_of c.args.words.now.table) walked acts c.seek.new.walk.left result c.args.words.now.pass.now s3.pass.now
+  spends : (more : List Act) (s3 : TableWords) (result : Option Looked) → LoadsNoIndex more → DidAll more c.seek.new.self.pass.now s3.pass.now → (result ≡ None → freed found went_on.before ≤ 1) → SpendsSearch (table_id c.args.words.now.table) walked acts c.seek.new.walk.left result c.args.words.now.pass.now s3.pass.now
   spends = spent_search c.args.words.now c.seek.new.self c.args.key c.stamp-number.result c.args.walk.now.left c.seek.new.walk.left found (searched c found loads) walked acts may
 
 pub returns-then-count-passed-clause-turns : goal.returns-then-count-passed-clause-turns
@@ -66,7 +66,7 @@ returns-then-count-passed-clause-turns c part w =
     let first = c.args.walk.now.left in
     let left = c.seek.new.walk.left in
     let s = searched (goal.at.returns-then-count-passed-clause-turns c).After-seek (Free c.in-Free.field-0) c.in-Free.ensures.loads in
-    let few : rows (kind_in (shape_of s0.bank.now).starts s0.o) (class_of (name_of s0.table)) ≤ dict_room s0.mask = omega (arith, c.requires.entries, c.requires.room) in
+    let few : rows (kind_in (shape_of s0.bank.now).starts s0.o) (class_of (table_id s0.table)) ≤ dict_room s0.mask = omega (arith, c.requires.entries, c.requires.room) in
     (own s0 s2 c.args.key c.stamp-number.result first left (Free c.in-Free.field-0) s part, s.inner, s.did, on s0 s2 c.args.key c.stamp-number.result first left (Free c.in-Free.field-0) s part few w)
 
 pub returns-in-At-clause-turns : goal.returns-in-At-clause-turns
@@ -102,7 +102,7 @@ returns-in-Spent-clause-turns c part w =
     let first = c.args.walk.now.left in
     let left = c.seek.new.walk.left in
     let s = searched (goal.at.returns-in-Spent-clause-turns c).After-seek Spent c.in-Spent.ensures.loads in
-    let few : rows (kind_in (shape_of s0.bank.now).starts s0.o) (class_of (name_of s0.table)) ≤ dict_room s0.mask = omega (arith, c.requires.entries, c.requires.room) in
+    let few : rows (kind_in (shape_of s0.bank.now).starts s0.o) (class_of (table_id s0.table)) ≤ dict_room s0.mask = omega (arith, c.requires.entries, c.requires.room) in
     spent_at s0 s2 s3 c.args.key c.stamp-number.result c.stamp-number-in-Spent.result first left s part few c.stamp-number-in-Spent.ensures.did w
 
 pub returns-then-count-passed-clause-spends : goal.returns-then-count-passed-clause-spends

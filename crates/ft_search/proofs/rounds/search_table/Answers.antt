@@ -9,7 +9,7 @@ use Rattle.ft_trace.specs.Kinds.{rows}
 use Rattle.ft_trace.specs.LoggedLookUps.{IsNew}
 use Rattle.ft_bank.specs.Passes.{shape_of, view}
 use Rattle.ft_bank.specs.Series.{DidAll}
-use Rattle.ft_bank.specs.TableNames.{name_of}
+use Rattle.ft_bank.specs.TableNames.{table_id}
 use Rattle.ft_bank.proofs.TableAddresses.{class_is}
 use Rattle.ft_search.proofs.Running.{did_trans, did_log, at_same, inner_announces}
 use Rattle.ft_search.proofs.WordPlaces.{mask_is, room_for, slots_is, walk_is}
@@ -44,7 +44,7 @@ search_walk-looked-requires-clause-whole c =
 pub search_walk-looked-requires-clause-low : goal.search_walk-looked-requires-clause-low
 search_walk-looked-requires-clause-low c =
     let s = c.args.words.now in
-    walk_low c.args.way c.args.hash s.mask (slots (class_of (name_of s.table))) c.new-walk.result.left (ap (λ z. z.left) c.new-walk.ensures)
+    walk_low c.args.way c.args.hash s.mask (slots (class_of (table_id s.table))) c.new-walk.result.left (ap (λ z. z.left) c.new-walk.ensures)
     (slots_is (shape_of s.bank.now) s.table s.mask c.requires.can.table c.requires.can.mask)
 
 pub root-again-requires-clause-online : goal.root-again-requires-clause-online
@@ -60,7 +60,7 @@ returns-then-again-root-clause-ended c =
     let s0 = c.args.words.now in
     let s1 = c.search_walk-looked.new.words in
     let s2 = c.root-again.new.self in
-    let t = name_of s0.table in
+    let t = table_id s0.table in
     let r = c.root-again.result in
     let m = c.search_walk-looked.ensures.closes in
     let same = c.search_walk-looked.ensures.same in
@@ -82,7 +82,7 @@ returns-clause-ended c =
     let s0 = c.args.words.now in
     let s1 = c.search_walk-looked.new.words in
     let s2 = c.root-again.new.self in
-    let t = name_of s0.table in
+    let t = table_id s0.table in
     let r = c.root-again.result in
     let m = c.search_walk-looked.ensures.closes in
     let again : r ≡ suc t = omega (arith, c.if-again-root.false, c.requires.root) in

@@ -1,7 +1,7 @@
 use Rattle.std.proofs.Common.{ℕ, ◌≤◌, List, [], ◌++◌, Some, None, refl, sym, ◌∙◌, arith}
 use Rattle.ft_trace.specs.declared.Act.{Act}
 use Rattle.ft_bank.specs.Passes.{shape_of}
-use Rattle.ft_bank.specs.TableNames.{name_of}
+use Rattle.ft_bank.specs.TableNames.{table_id}
 use Rattle.ft_search.specs.SearchCosts.{MayWalkOn, SpendsSearch}
 use Rattle.ft_search.specs.Rounds.{Walked, TurnsAfter}
 use Rattle.ft_search.proofs.Running.{did_none, did_trans, same_self, same_trans, at_same, inner_append}
@@ -15,7 +15,7 @@ walk-init c =
       can = c.requires.can;
       same = same_self s;
       mask = c.requires.mask;
-      made = ([], tt, did_none s.pass.now, walked_none (shape_of s.bank.now) s.o (name_of s.table) c.args.key c.args.walk.now.left c.requires.whole);
+      made = ([], tt, did_none s.pass.now, walked_none (shape_of s.bank.now) s.o (table_id s.table) c.args.key c.args.walk.now.left c.requires.whole);
       spent = ([], did_none s.pass.now, (record { follows = refl; once = tt; low = c.requires.low; others = λ u ne. refl }, (let z : 0 ≤ 1 = omega arith in z)));
     }
 

@@ -3,7 +3,7 @@ use Rattle.ft_trace.specs.declared.Act.{Act}
 use Rattle.ft_trace.specs.LoggedLookUps.{Inner}
 use Rattle.ft_bank.specs.Passes.{shape_of}
 use Rattle.ft_bank.specs.Series.{DidAll}
-use Rattle.ft_bank.specs.TableNames.{name_of}
+use Rattle.ft_bank.specs.TableNames.{table_id}
 use Rattle.ft_search.specs.TableWords.{CanLoad, SamePlace}
 use Rattle.ft_search.specs.SearchCosts.{MayWalkOn}
 use Rattle.ft_search.specs.Rounds.{Walked}
@@ -16,9 +16,9 @@ invariant-walk l =
       same : SamePlace l.fn.words l.words;
       mask : l.words.mask ≡ l.walk.mask;
       made : (part : List Act) × Inner part × DidAll part l.fn.words.pass.now l.words.pass.now
-          × Walked (shape_of l.fn.words.bank.now) l.fn.words.o (name_of l.fn.words.table) l.key part l.walk.left;
+          × Walked (shape_of l.fn.words.bank.now) l.fn.words.o (table_id l.fn.words.table) l.key part l.walk.left;
       spent : (acts : List Act) × DidAll acts l.fn.words.pass.now l.words.pass.now
-          × MayWalkOn (name_of l.fn.words.table) l.fn.walk.left acts l.walk.left;
+          × MayWalkOn (table_id l.fn.words.table) l.fn.walk.left acts l.walk.left;
     }
 
 abbrev pub decreases-walk : goal.decreases-walk

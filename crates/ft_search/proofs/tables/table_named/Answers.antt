@@ -5,7 +5,7 @@ use Rattle.ft_layout.specs.Words.{IsRootOf}
 use Rattle.ft_trace.specs.declared.Shape.{Shape}
 use Rattle.ft_trace.specs.Addresses.{class_of, number_of, tables_in, IsTableName}
 use Rattle.ft_bank.specs.declared.table.Table.{Table}
-use Rattle.ft_bank.specs.TableNames.{name_of, IsTableIn}
+use Rattle.ft_bank.specs.TableNames.{table_id, IsTableIn}
 use Rattle.ft_bank.proofs.TableAddresses.{class_is, number_is}
 use Rattle.ft_search.proofs.tables.table_named.Goals as goal
 
@@ -28,7 +28,7 @@ in_bank class number root is k names =
     let table = of_parts class number in
     let c = class_is table is.1 in
     let n = number_is table is.1 in
-    subst (λ (x : ℕ × ℕ). IsClass x.0 × (x.1 < tables_in k x.0) × (x.1 < 1024)) (λ d. (c d, n d)) (names (name_of table) (let e = is.2 in omega (arith, e)))
+    subst (λ (x : ℕ × ℕ). IsClass x.0 × (x.1 < tables_in k x.0) × (x.1 < 1024)) (λ d. (c d, n d)) (names (table_id table) (let e = is.2 in omega (arith, e)))
 
 pub returns-in-Some-clause-named : goal.returns-in-Some-clause-named
 returns-in-Some-clause-named c =

@@ -2,13 +2,13 @@ use Rattle.std.proofs.Common.{◌≡◌, false, sym, ap, ◌∙◌, subst}
 use Rattle.ft_model.specs.declared.script.Kind.{Kind}
 use Rattle.ft_trace.specs.declared.View.{View}
 use Rattle.ft_trace.specs.Acts.{has_committed}
-use Rattle.ft_trace.specs.Holds.{held, known}
+use Rattle.ft_trace.specs.Holds.{held_words, known_state}
 use Rattle.ft_trace.specs.Pictures.{entry_field}
 use Rattle.ft_trace.specs.ContainerStates.{kind_in}
 use Rattle.ft_trace.specs.WholeWrites.{MayPuts, with_puts}
 use Rattle.ft_trace.proofs.Cases.{hit}
 use Rattle.ft_bank.specs.Passes.{shape_of, view}
-use Rattle.ft_bank.specs.TableNames.{name_of}
+use Rattle.ft_bank.specs.TableNames.{table_id}
 use Rattle.ft_trace.specs.Addresses.{class_of, slots}
 use Rattle.ft_trace.specs.EntryWrites.{value_puts}
 use Rattle.ft_search.specs.OneEntryWrites.{with_value_at}
@@ -28,8 +28,8 @@ laws_here c =
       follow = c.words_follow_a_dict.ensures.changed;
     }
 
-change : (c : After-start_write) → Changing (shape_of c.args.bank.now).texts (name_of c.args.table) (held c.args.d (view c.args.pass.now)) (known c.args.d (view c.args.pass.now)) c.args.place (value_puts (slots (class_of (name_of c.args.table))) (held c.args.d (view c.args.pass.now)).table c.args.place c.args.value)
-    (record { content = with_value_at (known c.args.d (view c.args.pass.now)).content c.args.key c.args.value; table = (known c.args.d (view c.args.pass.now)).table })
+change : (c : After-start_write) → Changing (shape_of c.args.bank.now).texts (table_id c.args.table) (held_words c.args.d (view c.args.pass.now)) (known_state c.args.d (view c.args.pass.now)) c.args.place (value_puts (slots (class_of (table_id c.args.table))) (held_words c.args.d (view c.args.pass.now)).table c.args.place c.args.value)
+    (record { content = with_value_at (known_state c.args.d (view c.args.pass.now)).content c.args.key c.args.value; table = (known_state c.args.d (view c.args.pass.now)).table })
 change c = values_known (laws_here c) (shape_of c.args.bank.now) c.args.d c.args.table (view c.args.pass.now) c.requires.pass.1 c.args.pass.now.possible c.requires.may c.requires.dict c.requires.table c.args.place c.args.key c.args.value c.requires.value c.requires.entry
 
 pub put_value-requires-clause-writes : goal.put_value-requires-clause-writes
@@ -48,12 +48,12 @@ put_value-requires-clause-early c =
 pub put_value-requires-clause-old_kind : goal.put_value-requires-clause-old_kind
 put_value-requires-clause-old_kind c =
     let a = c.args in
-    c.requires.old_kind ∙ sym (ap (λ (z : View). entry_field (slots (class_of (name_of a.table))) (held a.d z).table a.place 4) c.start_write.ensures.1)
+    c.requires.old_kind ∙ sym (ap (λ (z : View). entry_field (slots (class_of (table_id a.table))) (held_words a.d z).table a.place 4) c.start_write.ensures.1)
 
 pub put_value-requires-clause-old_payload : goal.put_value-requires-clause-old_payload
 put_value-requires-clause-old_payload c =
     let a = c.args in
-    c.requires.old_payload ∙ sym (ap (λ (z : View). entry_field (slots (class_of (name_of a.table))) (held a.d z).table a.place 5) c.start_write.ensures.1)
+    c.requires.old_payload ∙ sym (ap (λ (z : View). entry_field (slots (class_of (table_id a.table))) (held_words a.d z).table a.place 5) c.start_write.ensures.1)
 
 pub put_value-requires-clause-may : goal.put_value-requires-clause-may
 put_value-requires-clause-may c =
@@ -62,8 +62,8 @@ put_value-requires-clause-may c =
     let v = view a.pass.now in
     let kind_eq = kind_is k v a.d c.requires.pass.1 a.pass.now.possible c.requires.may.locked in
     let puts = (change (goal.at.put_value-requires-clause-may c).After-start_write).puts in
-    subst (λ (z : View). MayPuts (kind_in k.starts a.d) (name_of a.table) (known a.d z).content false (held a.d z) (value_puts (slots (class_of (name_of a.table))) (held a.d z).table a.place a.value)) (sym c.start_write.ensures.1)
-    (subst (λ (z : Kind). MayPuts z (name_of a.table) (known a.d v).content false (held a.d v) (value_puts (slots (class_of (name_of a.table))) (held a.d v).table a.place a.value)) kind_eq puts)
+    subst (λ (z : View). MayPuts (kind_in k.starts a.d) (table_id a.table) (known_state a.d z).content false (held_words a.d z) (value_puts (slots (class_of (table_id a.table))) (held_words a.d z).table a.place a.value)) (sym c.start_write.ensures.1)
+    (subst (λ (z : Kind). MayPuts z (table_id a.table) (known_state a.d v).content false (held_words a.d v) (value_puts (slots (class_of (table_id a.table))) (held_words a.d v).table a.place a.value)) kind_eq puts)
 
 pub finish_entry-requires-clause-place : goal.finish_entry-requires-clause-place
 finish_entry-requires-clause-place c = c.requires.entry.low
@@ -75,10 +75,10 @@ finish_entry-requires-clause-may c =
     let v = view a.pass.now in
     let e = c.put_value.ensures in
     let d = change (goal.at.finish_entry-requires-clause-may c).After-start_write in
-    let before : held a.d (view c.start_write.new.pass) ≡ held a.d v = ap (held a.d) c.start_write.ensures.1 in
-    entry_finishes k a.d a.table v (view c.start_write.new.pass) (view c.put_value.new.pass) c.start_write.result c.requires.may c.requires.pass.1 c.start_write.ensures.1 e.only a.place (value_puts (slots (class_of (name_of a.table))) (held a.d v).table a.place a.value) _ d
+    let before : held_words a.d (view c.start_write.new.pass) ≡ held_words a.d v = ap (held_words a.d) c.start_write.ensures.1 in
+    entry_finishes k a.d a.table v (view c.start_write.new.pass) (view c.put_value.new.pass) c.start_write.result c.requires.may c.requires.pass.1 c.start_write.ensures.1 e.only a.place (value_puts (slots (class_of (table_id a.table))) (held_words a.d v).table a.place a.value) _ d
     (kind_is k v a.d c.requires.pass.1 a.pass.now.possible c.requires.may.locked)
-    (e.words ∙ (λ i. with_puts (before i) (value_puts (slots (class_of (name_of a.table))) (before i).table a.place a.value))) e.writes.root a.called.now a.said.now c.requires.leaves
+    (e.words ∙ (λ i. with_puts (before i) (value_puts (slots (class_of (table_id a.table))) (before i).table a.place a.value))) e.writes.root a.called.now a.said.now c.requires.leaves
 
 pub returns-clause-wrote : goal.returns-clause-wrote
 returns-clause-wrote c =

@@ -2,7 +2,7 @@ use Rattle.std.proofs.Common.{[], refl, sym, subst}
 use Rattle.ft_bank.specs.Passes.{view}
 use Rattle.ft_bank.specs.Reads.{IsShown}
 use Rattle.ft_trace.specs.declared.View.{View}
-use Rattle.ft_trace.specs.Traces.{Possible}
+use Rattle.ft_trace.specs.Traces.{IsReachable}
 use Rattle.ft_section.proofs.FloorLogs.{counter_known}
 use Rattle.ft_section.proofs.entries.make_entry.Goals as goal
 
@@ -23,4 +23,4 @@ pub returns-clause-known : goal.returns-clause-known
 returns-clause-known c has =
     let v = view c.args.pass.now in
     let n = c.stamp-number.result in
-    counter_known v n (subst (λ (w : View). ∥ Possible w ∥₁) c.stamp-number.ensures.did.1 c.stamp-number.new.pass.possible) has
+    counter_known v n (subst (λ (w : View). ∥ IsReachable w ∥₁) c.stamp-number.ensures.did.1 c.stamp-number.new.pass.possible) has

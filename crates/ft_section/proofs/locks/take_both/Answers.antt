@@ -11,7 +11,7 @@ use Rattle.ft_trace.specs.declared.View.{View}
 use Rattle.ft_trace.specs.Acts.{has_lock}
 use Rattle.std.specs.Prelude.{Option}
 use Rattle.ft_trace.specs.declared.Shape.{Shape}
-use Rattle.ft_trace.specs.Addresses.{containers_in}
+use Rattle.ft_trace.specs.Addresses.{container_count}
 use Rattle.ft_section.specs.Floors.{owner_of, owner_or, first_found}
 use Rattle.ft_section.proofs.FloorLogs.{owner_none}
 use Rattle.ft_trace.specs.Owners.{LocksOnly}
@@ -57,7 +57,7 @@ returns-clause-known c has =
     let stack = c.take_lower.ensures.stack.1 ∙ ap (λ (s : Stack). with_own s (record s.own { took_lower = c.take_lower.ensures.stack.0 })) c.put_own.ensures.stack in
     let here : (stack_of c.take_lower.new.pass).own.upper ≡ upper = ap (λ (s : Stack). s.own.upper) stack in
     let finds = c.in_ok-take_lower.ensures.finds floor in
-    let low : upper < containers_in w.shape = subst (λ (k : Shape). upper < containers_in k) (sym (ap (λ (z : View). z.shape) same ∙ c.requires.inside.0.1)) c.requires.containers.1 in
+    let low : upper < container_count w.shape = subst (λ (k : Shape). upper < container_count k) (sym (ap (λ (z : View). z.shape) same ∙ c.requires.inside.0.1)) c.requires.containers.1 in
     let owner : owner_of upper v ≡ owner_of upper u = finds.1 upper low ∙ ap (owner_of upper) same in
     c.take_upper.ensures.known finds.0 ∙ (ap (λ (o : ℕ). owner_or o (owner_of o v) None) here ∙ (ap (λ (q : Option ℕ). owner_or upper q None) owner
     ∙ sym (owner_none lower (owner_of lower u) (owner_or upper (owner_of upper u) None) first)))

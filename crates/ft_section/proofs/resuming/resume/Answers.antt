@@ -17,7 +17,7 @@ use Rattle.ft_section.specs.Floors.{first_owned, resumed_by}
 use Rattle.ft_section.proofs.Resumes.{push_some, top_taking, top_apart, resumed, taken_up, none_up, wait_split, wait_some}
 use Rattle.ft_trace.specs.declared.Shape.{Shape}
 use Rattle.ft_trace.specs.Acts.{has_lock}
-use Rattle.ft_trace.specs.Addresses.{containers_in}
+use Rattle.ft_trace.specs.Addresses.{container_count}
 use Rattle.ft_trace.specs.Owners.{LocksOnly, SameOwners}
 use Rattle.ft_trace.proofs.Owning.{locks_only_then, same_locks_only, same_owners}
 use Rattle.ft_section.proofs.resuming.resume.Goals as goal
@@ -36,7 +36,7 @@ take_both-requires-clause-containers c =
     let p = c.args.pass.now in
     let split = sym (c.copied-sections.ensures ∙ c.sections.ensures) ∙ c.pop.ensures.some c.in-Some.top c.in-Some.is in
     let t = top_taking (view p) (stack_of p) c.pop.new.self c.in-Some.top c.requires.inside.1 split in
-    let upper = subst (λ (k : Shape). c.in-Some.top.locks.upper < containers_in k) c.requires.inside.0.1 t.low in
+    let upper = subst (λ (k : Shape). c.in-Some.top.locks.upper < container_count k) c.requires.inside.0.1 t.low in
     let order = t.order in
     (omega (arith, order, upper), upper)
 

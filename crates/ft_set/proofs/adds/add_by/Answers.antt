@@ -10,8 +10,8 @@ use Rattle.ft_model.specs.Worlds.{serial_of}
 use Rattle.ft_layout.specs.declared.slot.Stored.TheVariants.{Empty}
 use Rattle.ft_keys.specs.declared.walk.Way.TheVariants as way
 use Rattle.ft_trace.specs.declared.Shape.{Shape}
-use Rattle.ft_trace.specs.Addresses.{containers_in}
-use Rattle.ft_trace.specs.Holds.{held, known}
+use Rattle.ft_trace.specs.Addresses.{container_count}
+use Rattle.ft_trace.specs.Holds.{held_words, known_state}
 use Rattle.ft_bank.specs.declared.table.Table.{Table}
 use Rattle.ft_bank.specs.Passes.{shape_of, view}
 use Rattle.ft_bank.specs.Whole.{Wrote}
@@ -28,20 +28,20 @@ use Rattle.ft_set.proofs.adds.add_by.Goals as goal
 use Rattle.ft_set.proofs.adds.add_by.Goals.{After-seek_key, In-At}
 
 -- the set, as it is known once the key was sought
-elements : (c : After-seek_key) → (all : SetContent) × ((known c.args.s (view c.seek_key.new.pass)).content ≡ content.Set all) × (c.args.s < containers_in (view c.seek_key.new.pass).shape)
+elements : (c : After-seek_key) → (all : SetContent) × ((known_state c.args.s (view c.seek_key.new.pass)).content ≡ content.Set all) × (c.args.s < container_count (view c.seek_key.new.pass).shape)
 elements c = leaving.known_set (shape_of c.args.bank.now) (view c.seek_key.new.pass) c.args.s c.seek_key.ensures.pass.1 c.seek_key.new.pass.possible c.seek_key.ensures.may c.requires.set
 
-leaves : (c : In-At) → Leaves c.args.s (call.Set c.args.s (set.Add c.args.key)) reply.Done (known c.args.s (view c.seek_key.new.pass)) (view c.seek_key.new.pass)
+leaves : (c : In-At) → Leaves c.args.s (call.Set c.args.s (set.Add c.args.key)) reply.Done (known_state c.args.s (view c.seek_key.new.pass)) (view c.seek_key.new.pass)
 leaves c =
     let p = leaving.known_set (shape_of c.args.bank.now) (view c.seek_key.new.pass) c.args.s c.seek_key.ensures.pass.1 c.seek_key.new.pass.possible c.seek_key.ensures.may c.requires.set in
     leaving.add_leaves c.args.s (view c.seek_key.new.pass) p.0 p.2 c.seek_key.ensures.may.locked p.1 c.args.key c.seek_key.ensures.key _ _ c.in-At.ensures.spot.2
 
-adds : (c : After-seek_key) → IsHeldAt (known c.args.s (view c.seek_key.new.pass)).content c.args.key None → AddsKey c.args.s (call.Set c.args.s (set.Add c.args.key)) reply.Done c.args.key Empty (view c.seek_key.new.pass)
+adds : (c : After-seek_key) → IsHeldAt (known_state c.args.s (view c.seek_key.new.pass)).content c.args.key None → AddsKey c.args.s (call.Set c.args.s (set.Add c.args.key)) reply.Done c.args.key Empty (view c.seek_key.new.pass)
 adds c none =
     let p = elements c in
     add_adds c.args.s (view c.seek_key.new.pass) p.0 p.2 c.seek_key.ensures.may.locked p.1 c.args.key c.seek_key.ensures.key (subst (λ (z : Content). IsHeldAt z c.args.key None) p.1 none)
 
-serials : (c : After-seek_key) → serial_of (known c.args.s (view c.seek_key.new.pass)).content < 2 ^ 63
+serials : (c : After-seek_key) → serial_of (known_state c.args.s (view c.seek_key.new.pass)).content < 2 ^ 63
 serials c =
     let room = serials_have_room (view c.seek_key.new.pass) c.args.s c.seek_key.new.pass.possible (subst (λ (k : Shape). k.passes * k.calls < 2 ^ 46) (sym c.seek_key.ensures.pass.1) c.args.bank.now.few) c.seek_key.ensures.may.locked in
     omega (arith, room)
@@ -57,7 +57,7 @@ returns-in-At-clause-added c =
     let u = view c.seek_key.new.pass in
     let n = c.write_nothing-number.ensures in
     let h = subst (λ (z : Content). IsHeldAt z a.key (Some (c.in-At.field-2, c.in-At.field-3))) p.1 c.in-At.ensures.spot.2 in
-    let there : holds (known a.s u).content a.key ≡ true = ap (λ (z : Content). holds z a.key) p.1 ∙ leaving.has_there a.s u p.0 p.2 c.seek_key.ensures.may.locked p.1 a.key c.seek_key.ensures.key _ _ h n.wrote.found n.wrote.has in
+    let there : holds (known_state a.s u).content a.key ≡ true = ap (λ (z : Content). holds z a.key) p.1 ∙ leaving.has_there a.s u p.0 p.2 c.seek_key.ensures.may.locked p.1 a.key c.seek_key.ensures.key _ _ h n.wrote.found n.wrote.has in
     puts_present (shape_of a.bank.now) a.s a.key (call.Set a.s (set.Add a.key)) reply.Done (view a.pass.now) u (view c.write_nothing-number.new.pass) c.seek_key.ensures.keeps c.written.result (leaves at).changed there (ap (λ (z : Stamp). z.wrote) c.written.ensures) (subst (λ (z : Stamp). Wrote (call.Set a.s (set.Add a.key)) reply.Done z.number u (view c.write_nothing-number.new.pass)) (sym c.written.ensures) n.wrote) n.root
 
 -- ---- a table that has the key nowhere
@@ -71,7 +71,7 @@ add_key-requires-clause-may c =
 pub add_key-requires-clause-slot : goal.add_key-requires-clause-slot
 add_key-requires-clause-slot c t is =
     let a = c.args in
-    subst (λ (z : Table). IsFreeFor (shape_of a.bank.now).texts way.Set z.class a.key (held a.s (view c.seek_key.new.pass)).table c.in-Free.slot) (ap (λ (z : Option Table). unwrap_or z c.in-Free.table) is) (c.in-Free.ensures.spot.1, c.in-Free.ensures.spot.2)
+    subst (λ (z : Table). IsFreeFor (shape_of a.bank.now).texts way.Set z.class a.key (held_words a.s (view c.seek_key.new.pass)).table c.in-Free.slot) (ap (λ (z : Option Table). unwrap_or z c.in-Free.table) is) (c.in-Free.ensures.spot.1, c.in-Free.ensures.spot.2)
 
 pub add_key-requires-clause-absent : goal.add_key-requires-clause-absent
 add_key-requires-clause-absent c = c.in-Free.ensures.spot.3

@@ -2,7 +2,7 @@ use Rattle.std.proofs.Common.{[], false, refl}
 use Rattle.ft_model.specs.declared.call.Call.TheVariants as call
 use Rattle.ft_model.specs.declared.call.SetCall.TheVariants as set
 use Rattle.ft_model.specs.declared.reply.Reply.TheVariants as reply
-use Rattle.ft_trace.specs.Holds.{known}
+use Rattle.ft_trace.specs.Holds.{known_state}
 use Rattle.ft_bank.specs.Passes.{shape_of, view}
 use Rattle.ft_merging.specs.Thinning.{thinned_state}
 use Rattle.ft_search.specs.OneEntryWrites.{Leaves}
@@ -11,7 +11,7 @@ use Rattle.ft_set.proofs.TwoSets.{sub_leaves}
 use Rattle.ft_set.proofs.merges.sub_locked.Goals as goal
 use Rattle.ft_set.proofs.merges.sub_locked.Goals.{Start}
 
-leaves : (c : Start) → Leaves c.args.s (call.Set c.args.s (set.Sub c.args.t)) reply.Done (thinned_state false (known c.args.t (view c.args.pass.now)) (known c.args.s (view c.args.pass.now))) (view c.args.pass.now)
+leaves : (c : Start) → Leaves c.args.s (call.Set c.args.s (set.Sub c.args.t)) reply.Done (thinned_state false (known_state c.args.t (view c.args.pass.now)) (known_state c.args.s (view c.args.pass.now))) (view c.args.pass.now)
 leaves c = sub_leaves (shape_of c.args.bank.now) c.args.s c.args.t (view c.args.pass.now) c.requires.pass.1 c.args.pass.now.possible c.requires.may c.requires.other c.requires.set c.requires.other_set
 
 pub thin_by-number-requires-clause-leaves : goal.thin_by-number-requires-clause-leaves
@@ -21,4 +21,4 @@ pub returns-clause-made : goal.returns-clause-made
 returns-clause-made c =
     let n = c.thin_by-number.ensures in
     let v = view c.args.pass.now in
-    written_made c.args.s (thinned_state false (known c.args.t v) (known c.args.s v)) (call.Set c.args.s (set.Sub c.args.t)) reply.Done c.thin_by-number.result c.written.result v v (view c.thin_by-number.new.pass) [] (loaded_same v) refl (leaves (goal.at.returns-clause-made c).Start) n.wrote n.root c.written.ensures
+    written_made c.args.s (thinned_state false (known_state c.args.t v) (known_state c.args.s v)) (call.Set c.args.s (set.Sub c.args.t)) reply.Done c.thin_by-number.result c.written.result v v (view c.thin_by-number.new.pass) [] (loaded_same v) refl (leaves (goal.at.returns-clause-made c).Start) n.wrote n.root c.written.ensures

@@ -2,11 +2,11 @@ use Rattle.std.proofs.Common.{◌≡◌, ◌≢◌, ℕ, ◌<◌, ◌/◌, refl,
 use Rattle.ft_trace.specs.declared.Act.TheVariants.{TakeTable}
 use Rattle.ft_trace.specs.declared.Shape.{Shape}
 use Rattle.ft_trace.specs.Addresses.{extent, free_bit_of}
-use Rattle.ft_trace.specs.Acts.{noted}
+use Rattle.ft_trace.specs.Acts.{view_after}
 use Rattle.ft_trace.specs.Bits.{bit}
 use Rattle.ft_bank.specs.Passes.{view, shape_of}
 use Rattle.ft_bank.specs.Rules.{Acted}
-use Rattle.ft_bank.specs.TableNames.{name_of, IsTableIn}
+use Rattle.ft_bank.specs.TableNames.{table_id, IsTableIn}
 use Rattle.ft_bank.proofs.Freeing.{word_low, word_at, off_at, bit_read, take_ready, found_has, found_keeps, lost_has, lost_stays}
 use Rattle.ft_bank.proofs.bank.Bank.clear_bit.Goals as goal
 
@@ -25,7 +25,7 @@ pub returns-then-found-bit-eq1-clause-did : goal.returns-then-found-bit-eq1-clau
 returns-then-found-bit-eq1-clause-did c =
     let v = view c.args.pass.now in
     let e = c.mask_as-found.ensures.did in
-    let is = e.1.1 ∙ ap (λ (z : ℕ). noted (TakeTable z c.mask_as-found.result e.0) v) c.name.ensures in
+    let is = e.1.1 ∙ ap (λ (z : ℕ). view_after (TakeTable z c.mask_as-found.result e.0) v) c.name.ensures in
     (c.mask_as-found.result, e.0, (e.1.0, is, e.1.2), (refl, bit_read c.args.table c.mask_as-found.result c.requires.table.2 ∙ c.if-found-bit-eq1.true))
 
 pub returns-then-found-bit-eq1-clause-has : goal.returns-then-found-bit-eq1-clause-has
@@ -34,7 +34,7 @@ returns-then-found-bit-eq1-clause-has c =
     let e = c.mask_as-found.ensures.did in
     let q = c.args.table in
     let f = c.mask_as-found.result in
-    let is = e.1.1 ∙ ap (λ (z : ℕ). noted (TakeTable z f e.0) v) c.name.ensures in
+    let is = e.1.1 ∙ ap (λ (z : ℕ). view_after (TakeTable z f e.0) v) c.name.ensures in
     let acted = subst (λ (z : ℕ). Acted v (TakeTable z f e.0)) c.name.ensures e.2 in
     found_has v (view c.mask_as-found.new.pass) q f e.0 is acted (shape_of c.args.self.now) c.requires.table c.requires.apart (bit_read q f c.requires.table.2 ∙ c.if-found-bit-eq1.true)
 
@@ -44,7 +44,7 @@ returns-then-found-bit-eq1-clause-keeps c =
     let e = c.mask_as-found.ensures.did in
     let q = c.args.table in
     let f = c.mask_as-found.result in
-    let is = e.1.1 ∙ ap (λ (z : ℕ). noted (TakeTable z f e.0) v) c.name.ensures in
+    let is = e.1.1 ∙ ap (λ (z : ℕ). view_after (TakeTable z f e.0) v) c.name.ensures in
     let acted = subst (λ (z : ℕ). Acted v (TakeTable z f e.0)) c.name.ensures e.2 in
     found_keeps v (view c.mask_as-found.new.pass) q f e.0 is acted
 
@@ -54,9 +54,9 @@ returns-else-found-bit-eq1-clause-did c =
     let e = c.mask_as-found.ensures.did in
     let q = c.args.table in
     let f = c.mask_as-found.result in
-    let is = e.1.1 ∙ ap (λ (z : ℕ). noted (TakeTable z f e.0) v) c.name.ensures in
-    let off : bit (free_bit_of (name_of q)) f ≢ 1 = λ one. c.if-found-bit-eq1.false (sym (bit_read q f c.requires.table.2) ∙ one) in
-    (f, e.0, (e.1.0, is, e.1.2), (refl, refl, (λ same. off (subst (λ (z : ℕ). bit (free_bit_of (name_of q)) z ≡ 1) same c.requires.set)), off))
+    let is = e.1.1 ∙ ap (λ (z : ℕ). view_after (TakeTable z f e.0) v) c.name.ensures in
+    let off : bit (free_bit_of (table_id q)) f ≢ 1 = λ one. c.if-found-bit-eq1.false (sym (bit_read q f c.requires.table.2) ∙ one) in
+    (f, e.0, (e.1.0, is, e.1.2), (refl, refl, (λ same. off (subst (λ (z : ℕ). bit (free_bit_of (table_id q)) z ≡ 1) same c.requires.set)), off))
 
 pub returns-else-found-bit-eq1-clause-has : goal.returns-else-found-bit-eq1-clause-has
 returns-else-found-bit-eq1-clause-has c =
@@ -64,7 +64,7 @@ returns-else-found-bit-eq1-clause-has c =
     let e = c.mask_as-found.ensures.did in
     let q = c.args.table in
     let f = c.mask_as-found.result in
-    let is = e.1.1 ∙ ap (λ (z : ℕ). noted (TakeTable z f e.0) v) c.name.ensures in
+    let is = e.1.1 ∙ ap (λ (z : ℕ). view_after (TakeTable z f e.0) v) c.name.ensures in
     let acted = subst (λ (z : ℕ). Acted v (TakeTable z f e.0)) c.name.ensures e.2 in
     lost_has v (view c.mask_as-found.new.pass) q f e.0 is acted (shape_of c.args.self.now) c.args.loaded f (λ one. c.if-found-bit-eq1.false (sym (bit_read q f c.requires.table.2) ∙ one))
 
@@ -74,6 +74,6 @@ returns-else-found-bit-eq1-clause-keeps c =
     let e = c.mask_as-found.ensures.did in
     let q = c.args.table in
     let f = c.mask_as-found.result in
-    let is = e.1.1 ∙ ap (λ (z : ℕ). noted (TakeTable z f e.0) v) c.name.ensures in
+    let is = e.1.1 ∙ ap (λ (z : ℕ). view_after (TakeTable z f e.0) v) c.name.ensures in
     let acted = subst (λ (z : ℕ). Acted v (TakeTable z f e.0)) c.name.ensures e.2 in
     lost_stays v (view c.mask_as-found.new.pass) q f e.0 is acted (λ one. c.if-found-bit-eq1.false (sym (bit_read q f c.requires.table.2) ∙ one))

@@ -2,7 +2,7 @@ use Rattle.std.proofs.Common.{◌≡◌, refl, sym, ap, ◌∙◌, subst, arith}
 use Rattle.ft_trace.specs.declared.View.{View}
 use Rattle.ft_trace.specs.declared.Act.TheVariants.{ReadCounter}
 use Rattle.ft_trace.specs.Acts.{both}
-use Rattle.ft_trace.specs.Traces.{Possible}
+use Rattle.ft_trace.specs.Traces.{IsReachable}
 use Rattle.ft_bank.specs.Passes.{view}
 use Rattle.ft_bank.proofs.Allowed.{acted_possible}
 use Rattle.ft_bank.proofs.Retiring.{retired_by, retired_noted}
@@ -24,5 +24,5 @@ invariant_of-pass c =
       awake = (let token = p.awake in omega (arith, token, ap (λ (v : View). v.tokens) e));
       settled = load_settles (both v w) d.0 _ e d.2;
       retiring = retired_by _ (both v w) _ (ReadCounter d.0) e (λ t b. refl) (retired_noted _ v w (ap (λ (u : View). u.log) c.args.tokens.blank) p.retiring);
-      possible = ∣ subst Possible (sym e) (acted_possible (both v w) (ReadCounter d.0) d.2) ∣₁;
+      possible = ∣ subst IsReachable (sym e) (acted_possible (both v w) (ReadCounter d.0) d.2) ∣₁;
     }

@@ -1,8 +1,8 @@
 use Rattle.std.proofs.Common.{◌≡◌, sym, ap, ◌∙◌, subst, arith}
 use Rattle.ft_trace.specs.declared.Act.{Act}
 use Rattle.ft_trace.specs.declared.Shape.{Shape}
-use Rattle.ft_trace.specs.Acts.{left_next, noted}
-use Rattle.ft_trace.specs.Traces.{Possible}
+use Rattle.ft_trace.specs.Acts.{left_next, view_after}
+use Rattle.ft_trace.specs.Traces.{IsReachable}
 use Rattle.ft_bank.specs.Retired.{AreRetired}
 use Rattle.ft_bank.specs.Shapes.{plan}
 use Rattle.ft_bank.specs.TableNames.{IsTableIn}
@@ -27,6 +27,6 @@ invariant_of-pass g c =
       leaves = p.leaves ∙ (sym left ∙ sym (ap (λ v. v.left) e.0));
       awake = token_kept _ _ (ap (λ v. v.tokens) e.0) p.awake;
       settled = still_settled p.seat.me.0 _ _ e.0 p.settled;
-      retiring = subst (λ l. AreRetired l c.store.new.seat.me.0) (sym c.set_bit.ensures) (goal_put p.retired p.seat.me.0 c.store.new.seat.me.0 c.args.table (subst (λ (z : Shape). IsTableIn z c.args.table) (sym c.requires.pass.1) c.requires.table) p.retiring c.args.goal (e.0 ∙ ap (λ (a : Act). noted a p.seat.me.0) is));
-      possible = ∣ subst Possible (sym e.0) (acted_possible p.seat.me.0 _ e.2) ∣₁;
+      retiring = subst (λ l. AreRetired l c.store.new.seat.me.0) (sym c.set_bit.ensures) (goal_put p.retired p.seat.me.0 c.store.new.seat.me.0 c.args.table (subst (λ (z : Shape). IsTableIn z c.args.table) (sym c.requires.pass.1) c.requires.table) p.retiring c.args.goal (e.0 ∙ ap (λ (a : Act). view_after a p.seat.me.0) is));
+      possible = ∣ subst IsReachable (sym e.0) (acted_possible p.seat.me.0 _ e.2) ∣₁;
     }

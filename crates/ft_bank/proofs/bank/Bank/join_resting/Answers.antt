@@ -3,7 +3,7 @@ use Rattle.ft_trace.specs.declared.Shape.{Shape}
 use Rattle.ft_trace.specs.declared.View.{View}
 use Rattle.ft_trace.specs.declared.Act.TheVariants.{ReadCounter}
 use Rattle.ft_trace.specs.Acts.{both}
-use Rattle.ft_trace.specs.Traces.{Possible}
+use Rattle.ft_trace.specs.Traces.{IsReachable}
 use Rattle.ft_bank.specs.Passes.{view}
 use Rattle.ft_bank.specs.Floors.{rests}
 use Rattle.ft_bank.proofs.Allowed.{acted_possible}
@@ -33,7 +33,7 @@ invariant_of-pass c =
       awake = (let token = p.awake in omega (arith, token, ap (λ (v : View). v.tokens) e));
       settled = load_settles (both v w) d.0 _ e d.2;
       retiring = retired_by _ (both v w) _ (ReadCounter d.0) e (λ t b. refl) (retired_both p.retired c.args.other.retired _ v w (c.requires.other.1 ∙ sym c.requires.pass.1) c.args.other.possible c.merge.ensures.long c.merge.ensures.merged p.retiring c.args.other.retiring);
-      possible = ∣ subst Possible (sym e) (acted_possible (both v w) (ReadCounter d.0) d.2) ∣₁;
+      possible = ∣ subst IsReachable (sym e) (acted_possible (both v w) (ReadCounter d.0) d.2) ∣₁;
     }
 
 pub returns-clause-tables : goal.returns-clause-tables

@@ -1,6 +1,6 @@
 use Rattle.std.proofs.Common.{ℕ, ◌≡◌, ◌+◌, ◌==◌, sym, ap, ◌∙◌, subst, arith}
 use prog.Atomic.{either}
-use Rattle.ft_trace.specs.Traces.{Possible, DoesAs}
+use Rattle.ft_trace.specs.Traces.{IsReachable, DoesAs}
 use Rattle.ft_bank.specs.Shapes.{plan}
 use Rattle.ft_bank.proofs.Allowed.{kept, alive, acted_possible, token_kept, still_settled}
 use Rattle.ft_bank.proofs.Retiring.{retired_by}
@@ -23,5 +23,5 @@ invariant_of-pass g c =
       awake = token_kept _ _ (ap (λ v. v.tokens) e.0) p.awake;
       settled = still_settled p.seat.me.0 _ _ e.0 p.settled;
       retiring = retired_by _ _ _ _ e.0 (λ t b. c.requires.retired _ c.compare_exchange.ensures.2.0 t b) p.retiring;
-      possible = ∣ subst Possible (sym e.0) (acted_possible p.seat.me.0 _ e.2) ∣₁;
+      possible = ∣ subst IsReachable (sym e.0) (acted_possible p.seat.me.0 _ e.2) ∣₁;
     }

@@ -2,7 +2,7 @@ use Rattle.std.proofs.Common.{sym, ap, ◌∙◌, subst, arith}
 use Rattle.std.proofs.Math.Logic.{∥∥₁_map}
 use mathlib.Core.Logic.{dite}
 use native.Mathlib.Decide.{ℕ_discrete}
-use Rattle.ft_trace.specs.Traces.{Possible}
+use Rattle.ft_trace.specs.Traces.{IsReachable}
 use Rattle.ft_bank.specs.Shapes.{plan}
 use Rattle.ft_bank.proofs.Allowed.{looked, alive, acted_possible, token_kept, still_settled, same_settled}
 use Rattle.ft_bank.specs.Retired.{AreRetired}
@@ -26,7 +26,7 @@ invariant_of-pass g c =
       awake = token_kept _ _ (ap (λ m. m.0.tokens) e) p.awake;
       settled = same_settled _ _ (ap (λ m. m.0) e) p.settled;
       retiring = subst (λ m. AreRetired p.retired m.0) (sym e) p.retiring;
-      possible = ∥∥₁_map p.possible (λ x. subst Possible (sym (ap (λ m. m.0) e)) x);
+      possible = ∥∥₁_map p.possible (λ x. subst IsReachable (sym (ap (λ m. m.0) e)) x);
     })
     (λ some_one. let f = c.load.ensures.2.1 some_one in let e = f.1 in record {
       bare = e.1 ∙ p.bare;
@@ -36,5 +36,5 @@ invariant_of-pass g c =
       awake = token_kept _ _ (ap (λ v. v.tokens) e.0) p.awake;
       settled = still_settled p.seat.me.0 _ _ e.0 p.settled;
       retiring = retired_by _ _ _ _ e.0 (λ t b. c.requires.retired _ f.0 t b) p.retiring;
-      possible = ∣ subst Possible (sym e.0) (acted_possible p.seat.me.0 _ e.2) ∣₁;
+      possible = ∣ subst IsReachable (sym e.0) (acted_possible p.seat.me.0 _ e.2) ∣₁;
     })

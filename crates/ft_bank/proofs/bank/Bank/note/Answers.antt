@@ -3,7 +3,7 @@ use Rattle.std.proofs.Math.Nat.{max-eq_right}
 use Rattle.std.proofs.Math.Logic.{∥∥₁_map}
 use Rattle.ft_trace.specs.declared.View.{View}
 use Rattle.ft_trace.specs.Addresses.{counter}
-use Rattle.ft_trace.specs.Traces.{Possible}
+use Rattle.ft_trace.specs.Traces.{IsReachable}
 use Rattle.ft_trace.proofs.Addresses.{at_low}
 use Rattle.ft_bank.specs.Shapes.{plan}
 use Rattle.ft_bank.specs.Slips.{slip}
@@ -30,7 +30,7 @@ invariant_of-pass c =
       awake = token_kept _ _ (ap (λ (v : View). v.tokens) same) p.awake;
       settled = same_settled _ _ same p.settled;
       retiring = retired_same _ _ _ (ap (λ (v : View). v.shape) same) (λ t. ap (λ (v : View). has_goal t v.log) same) p.retiring;
-      possible = ∥∥₁_map p.possible (λ x. subst Possible (sym same) x);
+      possible = ∥∥₁_map p.possible (λ x. subst IsReachable (sym same) x);
     }
 
 pub returns-clause-pass : goal.returns-clause-pass

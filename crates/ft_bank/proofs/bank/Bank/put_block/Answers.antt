@@ -2,8 +2,8 @@ use Rattle.std.proofs.Common.{◌≡◌, ◌<◌, refl, sym, subst}
 use Rattle.ft_trace.specs.declared.Shape.{Shape}
 use Rattle.ft_trace.specs.declared.View.{View}
 use Rattle.ft_trace.specs.declared.Act.TheVariants.{PutBlock}
-use Rattle.ft_trace.specs.Addresses.{containers_in}
-use Rattle.ft_trace.specs.Holds.{held}
+use Rattle.ft_trace.specs.Addresses.{container_count}
+use Rattle.ft_trace.specs.Holds.{held_words}
 use Rattle.ft_bank.specs.Passes.{view}
 use Rattle.ft_bank.specs.WriteSteps.{KeepsUnwritten, with_block}
 use Rattle.ft_bank.proofs.KnownAfterSteps.{keeps_unwritten}
@@ -18,5 +18,5 @@ returns-clause-keeps c =
 pub returns-clause-held : goal.returns-clause-held
 returns-clause-held c =
     let v = view c.args.pass.now in
-    let low : c.args.o < containers_in v.shape = subst (λ (z : Shape). c.args.o < containers_in z) (sym c.requires.pass.1) c.requires.container in
-    subst (λ (w : View). held c.args.o w ≡ with_block (held c.args.o v) c.args.word c.args.value) (sym c.store_as.ensures.did.1) (block_put v c.args.o c.args.word c.args.value low c.requires.word.0 c.requires.word.1 c.requires.odd c.store_as.ensures.acted)
+    let low : c.args.o < container_count v.shape = subst (λ (z : Shape). c.args.o < container_count z) (sym c.requires.pass.1) c.requires.container in
+    subst (λ (w : View). held_words c.args.o w ≡ with_block (held_words c.args.o v) c.args.word c.args.value) (sym c.store_as.ensures.did.1) (block_put v c.args.o c.args.word c.args.value low c.requires.word.0 c.requires.word.1 c.requires.odd c.store_as.ensures.acted)

@@ -4,12 +4,12 @@ use Rattle.ft_trace.specs.declared.Shape.{Shape}
 use Rattle.ft_trace.specs.declared.View.{View}
 use Rattle.ft_trace.specs.declared.Act.TheVariants.{PutFresh}
 use Rattle.ft_trace.specs.Addresses.{IsTableName}
-use Rattle.ft_trace.specs.Acts.{noted}
+use Rattle.ft_trace.specs.Acts.{view_after}
 use Rattle.ft_trace.specs.Holds.{in_hand}
 use Rattle.ft_trace.specs.Traces.{Ready}
 use Rattle.ft_bank.specs.Passes.{view, shape_of}
 use Rattle.ft_bank.specs.Rules.{Acted}
-use Rattle.ft_bank.specs.TableNames.{name_of}
+use Rattle.ft_bank.specs.TableNames.{table_id}
 use Rattle.ft_bank.specs.WriteSteps.{KeepsUnwritten}
 use Rattle.ft_bank.proofs.KnownAfterSteps.{keeps_unwritten}
 use Rattle.ft_bank.proofs.WordsPut.{fresh_put}
@@ -25,13 +25,13 @@ returns-clause-keeps c =
 pub store_as-requires-clause-ready : goal.store_as-requires-clause-ready
 store_as-requires-clause-ready c =
     let v = view c.args.pass.now in
-    let table : IsTableName v.shape (name_of c.args.t) = subst (λ (z : Shape). IsTableName z (name_of c.args.t)) (sym c.requires.pass.1) (named (shape_of c.args.self.now) c.args.t c.requires.table) in
-    subst (λ (z : ℕ). Ready v (c.cell_of-start.result + c.args.word) (λ n. PutFresh z c.args.word c.args.value)) (sym c.name.ensures) (fresh_ready v (c.cell_of-start.result + c.args.word) (name_of c.args.t) c.args.word c.args.value table c.requires.word c.requires.fresh)
+    let table : IsTableName v.shape (table_id c.args.t) = subst (λ (z : Shape). IsTableName z (table_id c.args.t)) (sym c.requires.pass.1) (named (shape_of c.args.self.now) c.args.t c.requires.table) in
+    subst (λ (z : ℕ). Ready v (c.cell_of-start.result + c.args.word) (λ n. PutFresh z c.args.word c.args.value)) (sym c.name.ensures) (fresh_ready v (c.cell_of-start.result + c.args.word) (table_id c.args.t) c.args.word c.args.value table c.requires.word c.requires.fresh)
 
 pub returns-clause-fresh : goal.returns-clause-fresh
 returns-clause-fresh c =
     let v = view c.args.pass.now in
-    let table : IsTableName v.shape (name_of c.args.t) = subst (λ (z : Shape). IsTableName z (name_of c.args.t)) (sym c.requires.pass.1) (named (shape_of c.args.self.now) c.args.t c.requires.table) in
+    let table : IsTableName v.shape (table_id c.args.t) = subst (λ (z : Shape). IsTableName z (table_id c.args.t)) (sym c.requires.pass.1) (named (shape_of c.args.self.now) c.args.t c.requires.table) in
     let acted = subst (λ (z : ℕ). Acted v (PutFresh z c.args.word c.args.value)) c.name.ensures c.store_as.ensures.acted in
-    let is = c.store_as.ensures.did.1 ∙ ap (λ (z : ℕ). noted (PutFresh z c.args.word c.args.value) v) c.name.ensures in
-    subst (λ (w : View). in_hand (name_of c.args.t) w ≡ slice_set (in_hand (name_of c.args.t) v) c.args.word c.args.value) (sym is) (fresh_put v (name_of c.args.t) c.args.word c.args.value table c.requires.word c.requires.fresh acted)
+    let is = c.store_as.ensures.did.1 ∙ ap (λ (z : ℕ). view_after (PutFresh z c.args.word c.args.value) v) c.name.ensures in
+    subst (λ (w : View). in_hand (table_id c.args.t) w ≡ slice_set (in_hand (table_id c.args.t) v) c.args.word c.args.value) (sym is) (fresh_put v (table_id c.args.t) c.args.word c.args.value table c.requires.word c.requires.fresh acted)

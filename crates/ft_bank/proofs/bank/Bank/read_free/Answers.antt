@@ -2,7 +2,7 @@ use Rattle.std.proofs.Common.{◌≡◌, ℕ, ◌+◌, ◌*◌, ◌<◌, sym, ap
 use Rattle.ft_trace.specs.declared.Act.TheVariants.{ReadFree}
 use Rattle.ft_trace.specs.declared.Shape.{Shape}
 use Rattle.ft_trace.specs.Addresses.{extent}
-use Rattle.ft_trace.specs.Acts.{noted}
+use Rattle.ft_trace.specs.Acts.{view_after}
 use Rattle.ft_bank.specs.Passes.{view, shape_of}
 use Rattle.ft_bank.specs.declared.table.Table.{Table}
 use Rattle.ft_bank.specs.Rules.{Acted}
@@ -18,7 +18,7 @@ returns-clause-free c n small one =
     let v = view c.args.pass.now in
     let number : c.from-number.result ≡ word_of_class c.args.class c.args.word = omega (arith, c.from-number.ensures) in
     let acted : Acted v (ReadFree (word_of_class c.args.class c.args.word) c.load_as.result) = subst (λ (z : ℕ). Acted v (ReadFree z c.load_as.result)) number c.load_as.ensures.acted in
-    let is : view c.load_as.new.pass ≡ noted (ReadFree (word_of_class c.args.class c.args.word) c.load_as.result) v = c.load_as.ensures.did.1 ∙ ap (λ (z : ℕ). noted (ReadFree z c.load_as.result) v) number in
+    let is : view c.load_as.new.pass ≡ view_after (ReadFree (word_of_class c.args.class c.args.word) c.load_as.result) v = c.load_as.ensures.did.1 ∙ ap (λ (z : ℕ). view_after (ReadFree z c.load_as.result) v) number in
     let q : Table = record { class = c.args.class; number = 64 * c.args.word + n } in
     subst (λ (z : Shape). IsUnclaimed z q (view c.load_as.new.pass)) c.requires.pass.1
     (subst (IsUnclaimed v.shape q) (sym is) (unclaimed v c.args.class c.args.word c.load_as.result n c.requires.class c.requires.word small one acted))

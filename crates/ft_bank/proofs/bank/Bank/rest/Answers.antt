@@ -5,8 +5,8 @@ use Rattle.ft_trace.specs.declared.View.{View}
 use Rattle.ft_trace.specs.declared.Snap.{Snap}
 use Rattle.ft_trace.specs.declared.Act.TheVariants.{ReadCounter, TakeFloor}
 use Rattle.ft_trace.specs.Addresses.{counter}
-use Rattle.ft_trace.specs.Acts.{noted, both, sender, note, has_goal}
-use Rattle.ft_trace.specs.Traces.{Possible, IsFree, IsAwake, ReadyAs}
+use Rattle.ft_trace.specs.Acts.{view_after, both, sender, note, has_goal}
+use Rattle.ft_trace.specs.Traces.{IsReachable, IsFree, IsAwake, ReadyAs}
 use Rattle.ft_trace.proofs.Addresses.{at_low}
 use Rattle.ft_bank.specs.Passes.{view, shape_of}
 use Rattle.ft_bank.specs.Floors.{rests, carried}
@@ -38,7 +38,7 @@ invariant_of-resting c =
       still = ap (λ (v : View). v.tokens) same ∙ nothing_left v.tokens;
       wordless = ap (λ (v : View). v.floor) same ∙ no_words v p.awake;
       retiring = retired_same _ _ _ (ap (λ (v : View). v.shape) same) (λ t. ap (λ (v : View). has_goal t v.log) same) p.retiring;
-      possible = ∥∥₁_map p.possible (λ x. subst Possible (sym same) (sender_possible v v.tokens (alive _ v p.numbered p.awake).0 (le_refl v.tokens) (λ all token. c.requires.quiet) x));
+      possible = ∥∥₁_map p.possible (λ x. subst IsReachable (sym same) (sender_possible v v.tokens (alive _ v p.numbered p.awake).0 (le_refl v.tokens) (λ all token. c.requires.quiet) x));
     }
   where
     nothing_left : (n : ℕ) → n - n ≡ 0

@@ -5,7 +5,7 @@ use Rattle.ft_trace.specs.Addresses.{write_number, IsTableName}
 use Rattle.ft_trace.specs.Traces.{Ready}
 use Rattle.ft_trace.proofs.Addresses.{at_low}
 use Rattle.ft_bank.specs.Passes.{view, shape_of}
-use Rattle.ft_bank.specs.TableNames.{name_of}
+use Rattle.ft_bank.specs.TableNames.{table_id}
 use Rattle.ft_bank.proofs.ReuseSteps.{retire_ready}
 use Rattle.ft_bank.proofs.TableAddresses.{named}
 use Rattle.ft_bank.proofs.bank.Bank.retire.Goals as goal
@@ -16,7 +16,7 @@ add_as-requires-clause-word c = at_low (shape_of c.args.self.now) write_number t
 pub add_as-requires-clause-ready : goal.add_as-requires-clause-ready
 add_as-requires-clause-ready c =
     let v = view c.args.pass.now in
-    let t = name_of c.args.table in
+    let t = table_id c.args.table in
     let few : v.shape.passes * v.shape.calls < 2 ^ 46 = subst (λ (z : Shape). z.passes * z.calls < 2 ^ 46) (sym c.requires.pass.1) c.args.self.now.few in
     let table : IsTableName v.shape t = subst (λ (z : Shape). IsTableName z t) (sym c.requires.pass.1) (named (shape_of c.args.self.now) c.args.table c.requires.table) in
     subst (λ (z : ℕ). Ready v 1 (λ n. Retire z n)) (sym c.name-name.ensures) (retire_ready v 1 t few table c.requires.out c.requires.debt)

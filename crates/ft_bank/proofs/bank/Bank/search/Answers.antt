@@ -1,10 +1,10 @@
 use Rattle.std.proofs.Common.{ℕ, ◌+◌, ◌*◌, ◌∷◌, ap, ◌∙◌, arith}
 use Rattle.std.specs.Int.{w64, trailing_zeros}
 use Rattle.ft_trace.specs.declared.Act.TheVariants.{ReadFree, TakeTable}
-use Rattle.ft_trace.specs.Acts.{noted}
+use Rattle.ft_trace.specs.Acts.{view_after}
 use Rattle.ft_trace.specs.Bits.{bit}
 use Rattle.ft_bank.specs.declared.table.Table.{Table}
-use Rattle.ft_bank.specs.TableNames.{name_of}
+use Rattle.ft_bank.specs.TableNames.{table_id}
 use Rattle.ft_bank.specs.Takings.{word_of_class, loads_of_none}
 use Rattle.ft_bank.proofs.Freeing.{bit_is, word_is, search_ends, lowest_set}
 use Rattle.ft_bank.proofs.bank.Bank.search.Goals as goal
@@ -39,10 +39,10 @@ returns-then-free-ne0-clause-did c =
     let last = c.clear_bit.ensures.did in
     let before = c.read_free-free.ensures.did in
     let first = c.loop-word.invariant.did in (
-      TakeTable (name_of q) last.0 last.1 ∷ ReadFree (word_of_class c.args.class c.loop-word.word) f ∷ loads_of_none c.args.class c.loop-word.word,
+      TakeTable (table_id q) last.0 last.1 ∷ ReadFree (word_of_class c.args.class c.loop-word.word) f ∷ loads_of_none c.args.class c.loop-word.word,
       (
         last.2.0 ∙ (before.0 ∙ first.0),
-        last.2.1 ∙ ap (noted (TakeTable (name_of q) last.0 last.1)) (before.1 ∙ ap (noted (ReadFree (word_of_class c.args.class c.loop-word.word) f)) first.1),
+        last.2.1 ∙ ap (view_after (TakeTable (table_id q) last.0 last.1)) (before.1 ∙ ap (view_after (ReadFree (word_of_class c.args.class c.loop-word.word) f)) first.1),
         last.2.2 ∙ (before.2 ∙ first.2),
       ),
       search_ends c.args.class c.loop-word.word f last.0 q last.1 c.clear_bit.result c.loop-word-test.true of last.3,

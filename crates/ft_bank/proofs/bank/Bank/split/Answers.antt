@@ -3,7 +3,7 @@ use Rattle.std.proofs.Math.Logic.{∥∥₁_map}
 use Rattle.ft_trace.specs.declared.Shape.{Shape}
 use Rattle.ft_trace.specs.Addresses.{counter}
 use Rattle.ft_trace.specs.Acts.{maker, made}
-use Rattle.ft_trace.specs.Traces.{Possible}
+use Rattle.ft_trace.specs.Traces.{IsReachable}
 use Rattle.ft_trace.proofs.Addresses.{at_low}
 use Rattle.ft_trace.proofs.Sharing.{maker_possible, made_possible}
 use Rattle.ft_bank.specs.Shapes.{plan}
@@ -27,7 +27,7 @@ invariant_of-pass c =
       awake = (let two = c.requires.may.tokens in omega (arith, two, ap (λ m. m.0.tokens) e));
       settled = same_settled _ (maker p.seat.me.0) (ap (λ m. m.0) e) p.settled;
       retiring = retired_same _ _ _ (ap (λ m. m.0.shape) e) (λ t. ap (λ m. has_goal t m.0.log) e) p.retiring;
-      possible = ∥∥₁_map p.possible (λ x. subst Possible (sym (ap (λ m. m.0) e)) (maker_possible p.seat.me.0 c.requires.may x));
+      possible = ∥∥₁_map p.possible (λ x. subst IsReachable (sym (ap (λ m. m.0) e)) (maker_possible p.seat.me.0 c.requires.may x));
     }
 
 pub invariant_of-result : goal.invariant_of-result
@@ -42,7 +42,7 @@ invariant_of-result c =
       awake = omega (arith, ap (λ m. m.0.tokens) e);
       settled = same_settled _ (made p.seat.me.0) (ap (λ m. m.0) e) (omega arith);
       retiring = retired_none _ (ap (λ m. m.0.log) e);
-      possible = ∥∥₁_map p.possible (λ x. subst Possible (sym (ap (λ m. m.0) e)) (made_possible p.seat.me.0 c.requires.may x));
+      possible = ∥∥₁_map p.possible (λ x. subst IsReachable (sym (ap (λ m. m.0) e)) (made_possible p.seat.me.0 c.requires.may x));
     }
   where
     next_is : (a b : ℕ) → a ≡ b → b ≢ 0 → b ≡ suc (a - 1)

@@ -5,8 +5,8 @@ use Rattle.ft_trace.specs.declared.View.{View}
 use Rattle.ft_trace.specs.declared.Snap.{Snap}
 use Rattle.ft_trace.specs.declared.Act.TheVariants.{ReadCounter, TakeFloor}
 use Rattle.ft_trace.specs.Addresses.{counter}
-use Rattle.ft_trace.specs.Acts.{noted, both, sender, note, has_goal}
-use Rattle.ft_trace.specs.Traces.{Possible, IsFree, IsAwake, ReadyAs}
+use Rattle.ft_trace.specs.Acts.{view_after, both, sender, note, has_goal}
+use Rattle.ft_trace.specs.Traces.{IsReachable, IsFree, IsAwake, ReadyAs}
 use Rattle.ft_trace.proofs.Addresses.{at_low}
 use Rattle.ft_bank.specs.Passes.{view, shape_of}
 use Rattle.ft_bank.specs.Floors.{rests, carried}
@@ -39,5 +39,5 @@ invariant_of-pass c =
       awake = token_kept _ _ (ap (λ (v : View). v.tokens) e.0) p.awake;
       settled = still_settled p.seat.me.0 a _ e.0 p.settled;
       retiring = retired_by _ p.seat.me.0 _ a e.0 (λ t b. refl) p.retiring;
-      possible = ∣ subst Possible (sym e.0) (acted_possible p.seat.me.0 a e.2) ∣₁;
+      possible = ∣ subst IsReachable (sym e.0) (acted_possible p.seat.me.0 a e.2) ∣₁;
     }

@@ -2,7 +2,7 @@ use Rattle.std.proofs.Common.{◌≡◌, ℕ, List, [], ◌∷◌, ◌++◌, ref
 use Rattle.ft_trace.specs.declared.Act.{Act}
 use Rattle.ft_trace.specs.declared.Act.TheVariants.{LowerCount, RaiseCount, ReadCount}
 use Rattle.ft_trace.specs.declared.View.{View}
-use Rattle.ft_trace.specs.Acts.{noted}
+use Rattle.ft_trace.specs.Acts.{view_after}
 use Rattle.ft_bank.specs.Passes.{view}
 use Rattle.ft_bank.specs.Series.{noted_all}
 use Rattle.ft_bank.specs.Takings.{lowered, loads_of_none}
@@ -11,8 +11,8 @@ use Rattle.ft_bank.proofs.Undisturbed.{taking_alone}
 use Rattle.ft_bank.proofs.bank.Bank.take_table.Goals as goal
 
 -- the two first steps, where the count was lowered
-began : (u v w : View) (class count found : ℕ) → v ≡ noted (ReadCount class count) u → w ≡ noted (LowerCount class count found) v → found ≡ count → w ≡ noted_all (lowered class count) u
-began u v w class count found first next same = next ∙ (ap (noted (LowerCount class count found)) first ∙ ap (λ (z : ℕ). noted (LowerCount class count z) (noted (ReadCount class count) u)) same)
+began : (u v w : View) (class count found : ℕ) → v ≡ view_after (ReadCount class count) u → w ≡ view_after (LowerCount class count found) v → found ≡ count → w ≡ noted_all (lowered class count) u
+began u v w class count found first next same = next ∙ (ap (view_after (LowerCount class count found)) first ∙ ap (λ (z : ℕ). view_after (LowerCount class count z) (view_after (ReadCount class count) u)) same)
 
 pub returns-then-found-count-clause-did : goal.returns-then-found-count-clause-did
 returns-then-found-count-clause-did c =
@@ -21,7 +21,7 @@ returns-then-found-count-clause-did c =
     let n = c.read_count-count.result in
     let f = c.lower_count-found.result in (
       LowerCount c.args.class n f ∷ ReadCount c.args.class n ∷ [],
-      (next.0 ∙ first.0, next.1 ∙ ap (noted (LowerCount c.args.class n f)) first.1, next.2 ∙ first.2),
+      (next.0 ∙ first.0, next.1 ∙ ap (view_after (LowerCount c.args.class n f)) first.1, next.2 ∙ first.2),
       inl ((λ e. c.if-found-count.true (sym e)), refl),
     )
 
@@ -50,7 +50,7 @@ returns-in-Lost-clause-did c =
       RaiseCount c.args.class end.0 ∷ (last.0 ++ lowered c.args.class n),
       (
         end.1.0 ∙ (last.1.0 ∙ (next.0 ∙ first.0)),
-        end.1.1 ∙ ap (noted (RaiseCount c.args.class end.0)) (all_then last.0 (lowered c.args.class n) u _ _ last.1.1 start),
+        end.1.1 ∙ ap (view_after (RaiseCount c.args.class end.0)) (all_then last.0 (lowered c.args.class n) u _ _ last.1.1 start),
         end.1.2 ∙ (last.1.2 ∙ (next.2 ∙ first.2)),
       ),
       inr (inl (n, end.0, last.0, last.2, refl)),
@@ -70,7 +70,7 @@ returns-in-Nothing-clause-did c =
       RaiseCount c.args.class end.0 ∷ (loads_of_none c.args.class 16 ++ lowered c.args.class n),
       (
         end.1.0 ∙ (last.1.0 ∙ (next.0 ∙ first.0)),
-        end.1.1 ∙ ap (noted (RaiseCount c.args.class end.0)) (all ∙ is),
+        end.1.1 ∙ ap (view_after (RaiseCount c.args.class end.0)) (all ∙ is),
         end.1.2 ∙ (last.1.2 ∙ (next.2 ∙ first.2)),
       ),
       inr (inr (refl, end.0, refl)),

@@ -4,11 +4,11 @@ use Rattle.std.specs.Prelude.{Bool}
 use Rattle.ft_trace.specs.declared.Shape.{Shape}
 use Rattle.ft_trace.specs.declared.View.{View}
 use Rattle.ft_trace.specs.declared.Act.TheVariants.{Lock}
-use Rattle.ft_trace.specs.Addresses.{containers_in}
-use Rattle.ft_trace.specs.Pictures.{Stands}
+use Rattle.ft_trace.specs.Addresses.{container_count}
+use Rattle.ft_trace.specs.Pictures.{Represents}
 use Rattle.ft_trace.specs.declared.Snap.{Snap}
-use Rattle.ft_trace.specs.Acts.{noted}
-use Rattle.ft_trace.specs.Holds.{held, known}
+use Rattle.ft_trace.specs.Acts.{view_after}
+use Rattle.ft_trace.specs.Holds.{held_words, known_state}
 use Rattle.ft_bank.specs.Passes.{view, shape_of}
 use Rattle.ft_bank.specs.Rules.{Acted}
 use Rattle.ft_bank.specs.Locks.{KeepsOthers}
@@ -24,7 +24,7 @@ look_as-seen-requires-clause-act c n s some_one = (omega (arith, c.block_of-word
 pub overflow_cast-result : goal.overflow_cast-result
 overflow_cast-result c =
     let v = view c.args.pass.now in
-    let low = subst (λ (z : Shape). c.args.o < containers_in z) (sym c.requires.pass.1) c.requires.container in
+    let low = subst (λ (z : Shape). c.args.o < container_count z) (sym c.requires.pass.1) c.requires.container in
     let d = c.look_as-seen.ensures.did c.if-seen-ne0.true in
     let o = other_pass v c.args.o c.look_as-seen.result d.0 low c.requires.free c.if-seen-ne0.true d.2 in
     omega (arith, o.2)
@@ -32,7 +32,7 @@ overflow_cast-result c =
 pub returns-then-seen-ne0-clause-other : goal.returns-then-seen-ne0-clause-other
 returns-then-seen-ne0-clause-other c =
     let v = view c.args.pass.now in
-    let low = subst (λ (z : Shape). c.args.o < containers_in z) (sym c.requires.pass.1) c.requires.container in
+    let low = subst (λ (z : Shape). c.args.o < container_count z) (sym c.requires.pass.1) c.requires.container in
     let d = c.look_as-seen.ensures.did c.if-seen-ne0.true in
     let o = other_pass v c.args.o c.look_as-seen.result d.0 low c.requires.free c.if-seen-ne0.true d.2 in
     let up : c.look_as-seen.result - 1 + 1 ≡ c.look_as-seen.result = omega (arith, c.if-seen-ne0.true) in
@@ -56,7 +56,7 @@ pub overflow_cast-result-then-found-ne0 : goal.overflow_cast-result-then-found-n
 overflow_cast-result-then-found-ne0 c =
     let v = view c.args.pass.now in
     let e = c.look_as-seen.ensures.none c.if-seen-ne0.false in
-    let low = subst (λ (z : Shape). c.args.o < containers_in z) (sym c.requires.pass.1) c.requires.container in
+    let low = subst (λ (z : Shape). c.args.o < container_count z) (sym c.requires.pass.1) c.requires.container in
     let d = c.lock_as-found.ensures.did in
     let o = other_pass v c.args.o c.lock_as-found.result d.0 low c.requires.free c.if-found-ne0.true (same_view v _ c.args.o c.lock_as-found.result d.0 e.1 d.2) in
     omega (arith, o.2)
@@ -65,7 +65,7 @@ pub returns-then-found-ne0-clause-other : goal.returns-then-found-ne0-clause-oth
 returns-then-found-ne0-clause-other c =
     let v = view c.args.pass.now in
     let e = c.look_as-seen.ensures.none c.if-seen-ne0.false in
-    let low = subst (λ (z : Shape). c.args.o < containers_in z) (sym c.requires.pass.1) c.requires.container in
+    let low = subst (λ (z : Shape). c.args.o < container_count z) (sym c.requires.pass.1) c.requires.container in
     let d = c.lock_as-found.ensures.did in
     let o = other_pass v c.args.o c.lock_as-found.result d.0 low c.requires.free c.if-found-ne0.true (same_view v _ c.args.o c.lock_as-found.result d.0 e.1 d.2) in
     let up : c.lock_as-found.result - 1 + 1 ≡ c.lock_as-found.result = omega (arith, c.if-found-ne0.true) in
@@ -77,7 +77,7 @@ returns-then-found-ne0-clause-keeps c =
     let v = view c.args.pass.now in
     let e = c.look_as-seen.ensures.none c.if-seen-ne0.false in
     let d = c.lock_as-found.ensures.did in
-    let is = d.1.1 ∙ ap (noted (Lock c.args.o c.lock_as-found.result d.0)) e.1 in
+    let is = d.1.1 ∙ ap (view_after (Lock c.args.o c.lock_as-found.result d.0)) e.1 in
     subst (KeepsOthers c.args.o v) (sym is) (lock_keeps v c.args.o c.lock_as-found.result d.0 (same_view v _ c.args.o c.lock_as-found.result d.0 e.1 d.2))
 
 pub returns-clause-stands : goal.returns-clause-stands
@@ -85,18 +85,18 @@ returns-clause-stands c =
     let v = view c.args.pass.now in
     let o = c.args.o in
     let e = c.look_as-seen.ensures.none c.if-seen-ne0.false in
-    let low = subst (λ (z : Shape). o < containers_in z) (sym c.requires.pass.1) c.requires.container in
+    let low = subst (λ (z : Shape). o < container_count z) (sym c.requires.pass.1) c.requires.container in
     let d = c.lock_as-found.ensures.did in
     let z = d.0 in
     let acted : Acted v (Lock o 0 z) = subst (λ (f : ℕ). Acted v (Lock o f z)) c.if-found-ne0.false (same_view v _ o c.lock_as-found.result z e.1 d.2) in
-    let is : view c.lock_as-found.new.pass ≡ noted (Lock o 0 z) v = d.1.1 ∙ (ap (noted (Lock o c.lock_as-found.result z)) e.1 ∙ ap (λ (f : ℕ). noted (Lock o f z) v) c.if-found-ne0.false) in
-    subst (λ (k : Shape). Stands k.texts (held o (view c.lock_as-found.new.pass)) (known o (view c.lock_as-found.new.pass))) c.requires.pass.1
-    (subst (λ (w : View). Stands v.shape.texts (held o w) (known o w)) (sym is) (lock_stands v o z low c.requires.free acted))
+    let is : view c.lock_as-found.new.pass ≡ view_after (Lock o 0 z) v = d.1.1 ∙ (ap (view_after (Lock o c.lock_as-found.result z)) e.1 ∙ ap (λ (f : ℕ). view_after (Lock o f z) v) c.if-found-ne0.false) in
+    subst (λ (k : Shape). Represents k.texts (held_words o (view c.lock_as-found.new.pass)) (known_state o (view c.lock_as-found.new.pass))) c.requires.pass.1
+    (subst (λ (w : View). Represents v.shape.texts (held_words o w) (known_state o w)) (sym is) (lock_stands v o z low c.requires.free acted))
 
 pub returns-clause-keeps : goal.returns-clause-keeps
 returns-clause-keeps c =
     let v = view c.args.pass.now in
     let e = c.look_as-seen.ensures.none c.if-seen-ne0.false in
     let d = c.lock_as-found.ensures.did in
-    let is = d.1.1 ∙ ap (noted (Lock c.args.o c.lock_as-found.result d.0)) e.1 in
+    let is = d.1.1 ∙ ap (view_after (Lock c.args.o c.lock_as-found.result d.0)) e.1 in
     subst (KeepsOthers c.args.o v) (sym is) (lock_keeps v c.args.o c.lock_as-found.result d.0 (same_view v _ c.args.o c.lock_as-found.result d.0 e.1 d.2))

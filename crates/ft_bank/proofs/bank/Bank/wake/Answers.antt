@@ -3,8 +3,8 @@ use Rattle.ft_trace.specs.declared.Shape.{Shape}
 use Rattle.ft_trace.specs.declared.View.{View}
 use Rattle.ft_trace.specs.declared.Act.TheVariants.{TakeFloor}
 use Rattle.ft_trace.specs.Addresses.{counter}
-use Rattle.ft_trace.specs.Acts.{noted, both}
-use Rattle.ft_trace.specs.Traces.{Possible, IsFree, IsAwake}
+use Rattle.ft_trace.specs.Acts.{view_after, both}
+use Rattle.ft_trace.specs.Traces.{IsReachable, IsFree, IsAwake}
 use Rattle.ft_trace.proofs.Addresses.{at_low}
 use Rattle.ft_bank.specs.Passes.{shape_of}
 use Rattle.ft_bank.specs.Shapes.{plan}
@@ -50,7 +50,7 @@ invariant_of-result c =
     let snap = c.load.ensures.2.0 in
     let e = c.load.ensures.2.1 in
     let n = c.load.result in
-    let same = e.0 ∙ ap (λ m. noted (TakeFloor n snap) m.0) j in
+    let same = e.0 ∙ ap (λ m. view_after (TakeFloor n snap) m.0) j in
     let acted = subst (λ (v : View). Acted v (TakeFloor n snap)) (ap (λ m. m.0) j) e.2 in
     let none : t.seat.me.0.left ≡ 0 = ap (λ (u : View). u.left) t.blank in
     let token = t.some_token in record {
@@ -61,7 +61,7 @@ invariant_of-result c =
       awake = omega (arith, token, ap (λ (v : View). v.tokens) same);
       settled = floor_settles b n snap _ same acted;
       retiring = retired_by _ b _ (TakeFloor n snap) same (λ t b. refl) (retired_noted _ r.seat.me.0 t.seat.me.0 (ap (λ (u : View). u.log) t.blank) r.retiring);
-      possible = ∣ subst Possible (sym same) (acted_possible b (TakeFloor n snap) acted) ∣₁;
+      possible = ∣ subst IsReachable (sym same) (acted_possible b (TakeFloor n snap) acted) ∣₁;
     }
 
 pub returns-clause-view : goal.returns-clause-view
@@ -75,4 +75,4 @@ returns-clause-view c =
     let n = c.load.result in
     let acted = subst (λ (v : View). Acted v (TakeFloor n snap)) (ap (λ m. m.0) j) e.2 in
     let words : b.floor ≡ t.seat.me.0.floor = ap (λ (l : List ℕ). t.seat.me.0.floor ++ l) r.wordless ∙ append-nil t.seat.me.0.floor in
-    (n, snap, e.0 ∙ ap (λ m. noted (TakeFloor n snap) m.0) j, λ some_words. floor_brought b n snap acted (λ z. some_words (sym words ∙ z)) ∙ words)
+    (n, snap, e.0 ∙ ap (λ m. view_after (TakeFloor n snap) m.0) j, λ some_words. floor_brought b n snap acted (λ z. some_words (sym words ∙ z)) ∙ words)

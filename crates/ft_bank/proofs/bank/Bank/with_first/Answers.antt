@@ -1,6 +1,6 @@
 use Rattle.std.proofs.Common.{ℕ, ◌*◌, List, length, [], refl, sym, ap, ◌∙◌, subst, arith}
 use Rattle.std.proofs.lemmas.Nat.{mul-le}
-use Rattle.ft_trace.specs.Traces.{Possible}
+use Rattle.ft_trace.specs.Traces.{IsReachable}
 use Rattle.ft_trace.proofs.Addresses.{opening_long}
 use Rattle.ft_bank.specs.Shapes.{plan}
 use Rattle.ft_bank.proofs.StartWords.{fits_of}
@@ -22,7 +22,7 @@ invariant_of-pass c =
       awake = (let some_pass = c.requires.passes.0 in omega (arith, some_pass, ap (λ m. m.0.tokens) e));
       settled = same_settled _ (starter (plan c.args.shape)) (ap (λ m. m.0) e) (omega arith);
       retiring = retired_none _ (ap (λ m. m.0.log) e);
-      possible = ∣ subst Possible (sym (ap (λ m. m.0) e)) ([], 0, (fits_of c.args.shape c.requires, refl)) ∣₁;
+      possible = ∣ subst IsReachable (sym (ap (λ m. m.0) e)) ([], 0, (fits_of c.args.shape c.requires, refl)) ∣₁;
     }
 
 pub invariant_of-bank : goal.invariant_of-bank

@@ -1,6 +1,6 @@
 use Rattle.std.proofs.Common.{refl}
 use Rattle.ft_trace.specs.declared.Act.TheVariants.{Announce}
-use Rattle.ft_trace.specs.Acts.{noted}
+use Rattle.ft_trace.specs.Acts.{view_after}
 use Rattle.ft_bank.specs.Passes.{view}
 use Rattle.ft_engine.proofs.Callers.{calm_caller, calm_kept, calm_work, ready_of}
 use Rattle.ft_engine.proofs.PassesAfter.{IsCalm, calm_then, collected_calm, offline_calm}
@@ -10,7 +10,7 @@ calm : (c : goal.After-leave) → IsCalm (view c.args.caller.now.pass) (view c.l
 calm c =
     let v = view c.args.caller.now.pass in
     let first = offline_calm v v.number (ready_of c.args.self.now c.args.caller.now c.requires.caller c.requires.idle).inside.1.still in
-    calm_then v (noted (Announce v.number 0) v) (view c.leave.new.pass) first (collected_calm (noted (Announce v.number 0) v) (view c.leave.new.pass) c.leave.ensures.did.0 first.still c.leave.ensures.did.1)
+    calm_then v (view_after (Announce v.number 0) v) (view c.leave.new.pass) first (collected_calm (view_after (Announce v.number 0) v) (view c.leave.new.pass) c.leave.ensures.did.0 first.still c.leave.ensures.did.1)
 
 pub returns-clause-caller : goal.returns-clause-caller
 returns-clause-caller c = calm_caller c.args.self.now c.args.caller.now c.leave.new.pass c.requires.caller c.requires.idle c.leave.ensures.pass c.leave.ensures.sections (calm c)

@@ -4,7 +4,7 @@ use Rattle.ft_keys.specs.Searches.{Searched}
 use Rattle.ft_keys.specs.Ways.{walk_slots}
 use Rattle.ft_keys.specs.declared.walk.Way.{Way}
 use Rattle.ft_bank.specs.Passes.{shape_of}
-use Rattle.ft_bank.specs.TableNames.{name_of}
+use Rattle.ft_bank.specs.TableNames.{table_id}
 use Rattle.ft_search.specs.SearchCosts.{AreFewReads}
 use Rattle.ft_search.specs.TableWords.{access_act, known_words}
 use Rattle.ft_search.proofs.Costing.{search_few}
@@ -25,11 +25,11 @@ pub returns-clause-looks : goal.returns-clause-looks
 returns-clause-looks g c =
     let z = c.args.self.now in
     let s = c.find_live.ensures.shows in
-    let acts = map (access_act z.o (name_of z.table)) s.calls in
+    let acts = map (access_act z.o (table_id z.table)) s.calls in
     let few : (way : Way) (hash : ℕ) → c.args.walk.now.left ≡ walk_slots way hash c.args.walk.now.mask → AreFewReads way acts = λ way hash is.
     let first = c.find_live.ensures.first way hash is in
-    search_few z.o (name_of z.table) way c.args.walk.now.mask s.calls (slots_is (shape_of z.bank.now) z.table c.args.walk.now.mask c.requires.can.table (sym c.requires.mask ∙ c.requires.can.mask)) s.loads (let steps = s.steps in omega (arith, first, steps)) in
-    (acts, looks_calls z.o (name_of z.table) s.calls s.loads, (ran z s.calls c.find_live.new.words s.runs).1, few)
+    search_few z.o (table_id z.table) way c.args.walk.now.mask s.calls (slots_is (shape_of z.bank.now) z.table c.args.walk.now.mask c.requires.can.table (sym c.requires.mask ∙ c.requires.can.mask)) s.loads (let steps = s.steps in omega (arith, first, steps)) in
+    (acts, looks_calls z.o (table_id z.table) s.calls s.loads, (ran z s.calls c.find_live.new.words s.runs).1, few)
 
 pub returns-clause-searched : goal.returns-clause-searched
 returns-clause-searched g c =

@@ -1,8 +1,8 @@
 use Rattle.std.proofs.Common.{ℕ, ◌+◌, ◌*◌, ◌<◌, refl, sym, ◌∙◌, subst}
 use Rattle.ft_bank.specs.Passes.{shape_of, view, Did}
-use Rattle.ft_bank.specs.TableNames.{name_of}
+use Rattle.ft_bank.specs.TableNames.{table_id}
 use Rattle.ft_trace.specs.Addresses.{class_of, size}
-use Rattle.ft_trace.specs.Holds.{held}
+use Rattle.ft_trace.specs.Holds.{held_words}
 use Rattle.ft_trace.specs.declared.Act.TheVariants.{ReadTable}
 use Rattle.ft_bank.proofs.KnownAfterWrites.{loaded_by, loaded_put}
 use Rattle.ft_search.proofs.WordPlaces.{entry_in, entry_is}
@@ -18,7 +18,7 @@ read_word-requires-clause-word c =
 pub returns-clause-gave : goal.returns-clause-gave
 returns-clause-gave c =
     let s = c.args.self.now in
-    let t = name_of s.table in
+    let t = table_id s.table in
     let f = c.read_word.result in
     let e = entry_is (shape_of s.bank.now) s.table s.mask c.args.place c.args.word c.requires.can.table c.requires.can.mask in
     record {
@@ -29,10 +29,10 @@ returns-clause-gave c =
       did = subst (λ (i : ℕ). Did (ReadTable t i f) s.pass.now c.read_word.new.pass) e c.read_word.ensures.did;
       others = λ o low mine names.
           c.read_word.ensures.held o low mine names
-          ∙ sym (entry_after_header (held o (view s.pass.now)).table s.mask c.args.place c.args.word);
+          ∙ sym (entry_after_header (held_words o (view s.pass.now)).table s.mask c.args.place c.args.word);
       tells = λ k.
           c.read_word.ensures.held s.o c.requires.can.container k.0 k.1
-          ∙ sym (entry_after_header (held s.o (view s.pass.now)).table s.mask c.args.place c.args.word);
+          ∙ sym (entry_after_header (held_words s.o (view s.pass.now)).table s.mask c.args.place c.args.word);
       left = λ k.
           loaded_leaves (view s.pass.now) (view c.read_word.new.pass) s.o t
           (8 * c.args.place + c.args.word + s.mask + 1) f c.read_word.ensures.did.1 k;

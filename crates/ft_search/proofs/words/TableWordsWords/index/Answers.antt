@@ -1,7 +1,7 @@
 use Rattle.std.proofs.Common.{refl, sym, ◌∙◌}
 use Rattle.ft_bank.specs.Passes.{shape_of, view}
-use Rattle.ft_bank.specs.TableNames.{name_of}
-use Rattle.ft_trace.specs.Holds.{held}
+use Rattle.ft_bank.specs.TableNames.{table_id}
+use Rattle.ft_trace.specs.Holds.{held_words}
 use Rattle.ft_bank.proofs.KnownAfterWrites.{loaded_by, loaded_put}
 use Rattle.ft_trace.specs.declared.Act.TheVariants.{ReadTable}
 use Rattle.ft_search.proofs.WordPlaces.{slot_in}
@@ -21,12 +21,12 @@ returns-clause-gave c =
       inside = slot_in (shape_of s.bank.now) s.table s.mask c.args.slot c.requires.can.table c.requires.can.mask c.requires.slot;
       did = c.read_word.ensures.did;
       others = λ o low mine names.
-          c.read_word.ensures.held o low mine names ∙ sym (after_header (held o (view s.pass.now)).table c.args.slot);
+          c.read_word.ensures.held o low mine names ∙ sym (after_header (held_words o (view s.pass.now)).table c.args.slot);
       tells = λ k.
           c.read_word.ensures.held s.o c.requires.can.container k.0 k.1
-          ∙ sym (after_header (held s.o (view s.pass.now)).table c.args.slot);
+          ∙ sym (after_header (held_words s.o (view s.pass.now)).table c.args.slot);
       left = λ k.
-          loaded_leaves (view s.pass.now) (view c.read_word.new.pass) s.o (name_of s.table) c.args.slot c.read_word.result
+          loaded_leaves (view s.pass.now) (view c.read_word.new.pass) s.o (table_id s.table) c.args.slot c.read_word.result
           c.read_word.ensures.did.1 k;
-      only = loaded_put (view s.pass.now) (view c.read_word.new.pass) s.o (loaded_by (ReadTable (name_of s.table) c.args.slot c.read_word.result) (view s.pass.now) (view c.read_word.new.pass) tt c.read_word.ensures.did.1);
+      only = loaded_put (view s.pass.now) (view c.read_word.new.pass) s.o (loaded_by (ReadTable (table_id s.table) c.args.slot c.read_word.result) (view s.pass.now) (view c.read_word.new.pass) tt c.read_word.ensures.did.1);
     }

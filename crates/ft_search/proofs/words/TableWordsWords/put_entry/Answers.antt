@@ -1,9 +1,9 @@
 use Rattle.std.proofs.Common.{ℕ, ◌+◌, ◌*◌, refl, sym, subst}
 use Rattle.std.specs.Prelude.{slice_set}
 use Rattle.ft_bank.specs.Passes.{shape_of, view, Did}
-use Rattle.ft_bank.specs.TableNames.{name_of}
+use Rattle.ft_bank.specs.TableNames.{table_id}
 use Rattle.ft_bank.specs.WriteSteps.{IsCareful}
-use Rattle.ft_trace.specs.Holds.{held}
+use Rattle.ft_trace.specs.Holds.{held_words}
 use Rattle.ft_trace.specs.declared.Act.TheVariants.{PutTable}
 use Rattle.ft_layout.specs.Tables.{entry_at}
 use Rattle.ft_search.specs.TableWords.{known_words}
@@ -23,13 +23,13 @@ pub put_table-requires-clause-care : goal.put_table-requires-clause-care
 put_table-requires-clause-care c =
     let s = c.args.self.now in
     let can = c.requires.can.0 in
-    subst (λ (i : ℕ). IsCareful (view s.pass.now) s.o (name_of s.table) i c.args.value)
+    subst (λ (i : ℕ). IsCareful (view s.pass.now) s.o (table_id s.table) i c.args.value)
     (sym (entry_is (shape_of s.bank.now) s.table s.mask c.args.place c.args.word can.table can.mask)) c.requires.may
 
 pub returns-clause-gave : goal.returns-clause-gave
 returns-clause-gave c =
     let s = c.args.self.now in
-    let t = name_of s.table in
+    let t = table_id s.table in
     let can = c.requires.can.0 in
     let e = entry_is (shape_of s.bank.now) s.table s.mask c.args.place c.args.word can.table can.mask in
     record {
@@ -42,6 +42,6 @@ returns-clause-gave c =
           put_leaves (view s.pass.now) (view c.put_table.new.pass) s.o t (8 * c.args.place + c.args.word + s.mask + 1)
           c.args.value (slice_set (known_words s) (entry_at s.mask c.args.place c.args.word) c.args.value)
           c.put_table.ensures.did.1 c.put_table.ensures.held
-          (put_entry_after_header (held s.o (view s.pass.now)).table s.mask c.args.place c.args.word c.args.value) k;
+          (put_entry_after_header (held_words s.o (view s.pass.now)).table s.mask c.args.place c.args.word c.args.value) k;
       only = put_by (PutTable s.o t (8 * c.args.place + c.args.word + s.mask + 1) c.args.value) (view s.pass.now) (view c.put_table.new.pass) s.o tt c.put_table.ensures.did.1 c.put_table.ensures.keeps;
     }

@@ -1,8 +1,8 @@
 use Rattle.std.proofs.Common.{refl}
 use Rattle.std.specs.Prelude.{slice_set}
 use Rattle.ft_bank.specs.Passes.{shape_of, view}
-use Rattle.ft_bank.specs.TableNames.{name_of}
-use Rattle.ft_trace.specs.Holds.{held}
+use Rattle.ft_bank.specs.TableNames.{table_id}
+use Rattle.ft_trace.specs.Holds.{held_words}
 use Rattle.ft_layout.specs.Tables.{index_at}
 use Rattle.ft_search.specs.TableWords.{known_words}
 use Rattle.ft_bank.proofs.KnownAfterWrites.{put_by}
@@ -20,7 +20,7 @@ put_table-requires-clause-word c =
 pub returns-clause-gave : goal.returns-clause-gave
 returns-clause-gave c =
     let s = c.args.self.now in
-    let t = name_of s.table in
+    let t = table_id s.table in
     record {
       same = record { bank = refl; pass = refl; o = refl; table = refl; mask = refl; start = refl };
       inside = tt;
@@ -30,6 +30,6 @@ returns-clause-gave c =
       left = λ k.
           put_leaves (view s.pass.now) (view c.put_table.new.pass) s.o t c.args.slot c.args.value
           (slice_set (known_words s) (index_at c.args.slot) c.args.value) c.put_table.ensures.did.1
-          c.put_table.ensures.held (put_after_header (held s.o (view s.pass.now)).table c.args.slot c.args.value) k;
+          c.put_table.ensures.held (put_after_header (held_words s.o (view s.pass.now)).table c.args.slot c.args.value) k;
       only = put_by (PutTable s.o t c.args.slot c.args.value) (view s.pass.now) (view c.put_table.new.pass) s.o tt c.put_table.ensures.did.1 c.put_table.ensures.keeps;
     }

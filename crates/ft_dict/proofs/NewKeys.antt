@@ -33,8 +33,8 @@ use Rattle.ft_trace.specs.ContainerStates.{state_at}
 use Rattle.ft_trace.proofs.GrownDicts.{added_next, added_length}
 use Rattle.ft_trace.proofs.Naming.{named_locked}
 use Rattle.ft_bank.specs.WriteSteps.{MayHave}
-use Rattle.ft_adding.specs.KeyGrowth.{AddsKey, key_takes, most_of}
-use Rattle.ft_adding.specs.Placing.{with_key}
+use Rattle.ft_new_keys.specs.KeyGrowth.{AddsKey, key_takes, most_of}
+use Rattle.ft_new_keys.specs.Placing.{with_key}
 use Rattle.ft_dict.proofs.Reading.{not_found}
 use Rattle.ft_dict.proofs.Leaving.{dict_is, table_is, many_tables, replies, declared, left_at}
 use Rattle.ft_model.proofs.SplitDicts.{unsplit_takes, unsplit_leaves}

@@ -36,10 +36,10 @@ use Rattle.ft_bank.specs.TableNames.{IsTableIn, table_id}
 use Rattle.ft_search.specs.MadeCalls.{IsShownBy}
 use Rattle.ft_search.specs.OneEntryWrites.{HasTable, IsLiveEntry, Leaves, MayWriteEntries, without_key}
 use Rattle.ft_search.proofs.Changing.{kind_is}
-use Rattle.ft_keyed.specs.TableEntries.{IsPlainAt, OfUsed, plain_pair, plain_with}
-use Rattle.ft_keyed.specs.Places.{IsLast, NoneThere}
-use Rattle.ft_keyed.proofs.Gathered.{no_dict, of_dict}
-use Rattle.ft_keyed.proofs.Scanning.{none_live}
+use Rattle.ft_whole_tables.specs.TableEntries.{IsPlainAt, OfUsed, plain_pair, plain_with}
+use Rattle.ft_whole_tables.specs.Places.{IsLast, NoneThere}
+use Rattle.ft_whole_tables.proofs.Gathered.{no_dict, of_dict}
+use Rattle.ft_whole_tables.proofs.Scanning.{none_live}
 use Rattle.ft_dict.specs.declared.lasts.Last.{Last}
 use Rattle.ft_dict.specs.Lasts.{IsLastIn, IsLastOf, IsLastPair}
 use Rattle.ft_dict.proofs.Leaving.{leaves_stay, replies}

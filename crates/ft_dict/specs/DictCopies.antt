@@ -7,7 +7,7 @@ use Rattle.ft_model.specs.Worlds.{length_of}
 use Rattle.ft_trace.specs.declared.Shape.{Shape}
 use Rattle.ft_trace.specs.declared.View.{View}
 use Rattle.ft_trace.specs.Holds.{known_state}
-use Rattle.ft_growth.specs.declared.adding.Added.{Added}
+use Rattle.ft_table_calls.specs.declared.adding.Added.{Added}
 use Rattle.ft_replacing.specs.Replacing.{IsReplaced}
 
 -- What `copyto d e` comes to under the locks of both: a write of e, which gets a table of the class for as many pairs

@@ -11,9 +11,9 @@ use Rattle.ft_trace.specs.Carefuls.{HasLiveKey}
 use Rattle.ft_trace.specs.Pictures.{ContainerWords, root_in}
 use Rattle.ft_bank.specs.declared.table.Table.{Table}
 use Rattle.ft_bank.specs.TableNames.{table_id, IsTableIn}
-use Rattle.ft_keyed.specs.ShownContents.{IsOfDict}
-use Rattle.ft_keyed.specs.TableEntries.{OfUsed, plain_pair}
-use Rattle.ft_keyed.specs.Places.{NoneThere}
+use Rattle.ft_whole_tables.specs.ShownContents.{IsOfDict}
+use Rattle.ft_whole_tables.specs.TableEntries.{OfUsed, plain_pair}
+use Rattle.ft_whole_tables.specs.Places.{NoneThere}
 use Rattle.ft_dict.specs.declared.lasts.Last.{Last}
 
 -- where the root names the table, the entry at the place is there with the key

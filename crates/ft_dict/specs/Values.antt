@@ -13,8 +13,8 @@ use Rattle.ft_model.specs.Worlds.{dict_of}
 use Rattle.ft_trace.specs.declared.Shape.{Shape}
 use Rattle.ft_trace.specs.declared.View.{View}
 use Rattle.ft_trace.specs.Holds.{known_state}
-use Rattle.ft_growth.specs.declared.adding.Added.{Added}
-use Rattle.ft_adding.specs.KeyGrowth.{PutsKey}
+use Rattle.ft_table_calls.specs.declared.adding.Added.{Added}
+use Rattle.ft_new_keys.specs.KeyGrowth.{PutsKey}
 
 -- what `d.setdefault(k, v)` replies: the value at the key where it is there, else the default, which is stored then
 -- (Python manual, Mapping Types)

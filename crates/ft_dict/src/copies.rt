@@ -11,12 +11,12 @@ ghost use Rattle.ft_bank.specs.PassSections.{stack_of};
 ghost use Rattle.ft_section.specs.declared.answers.Objects.TheVariants.{Two};
 ghost use Rattle.ft_section.specs.Ready.{MayTry};
 ghost use Rattle.ft_section.specs.Trying.{SectionsAfter};
-ghost use Rattle.ft_growth.specs.Adding.{IsTryOf, KeepsCursors};
+ghost use Rattle.ft_table_calls.specs.Adding.{IsTryOf, KeepsCursors};
 ghost use Rattle.ft_search.specs.OneEntryWrites.{MayWriteEntries};
 ghost use Rattle.ft_dict.specs.DictCopies.{CopiesTo};
 
 use ft_bank::{Bank, Pass};
-use ft_growth::{Added, step_of};
+use ft_table_calls::{Added, step_of};
 use ft_model::{Call, DictCall, Reply};
 use ft_replacing::copy_into;
 use ft_section::{Got, Object, Objects, Step, let_go, take_for};

@@ -19,7 +19,7 @@ ghost use Rattle.ft_reads.specs.Reads.{Reads};
 ghost use Rattle.ft_dict.specs.Lasts.{IsLastIn, IsLastOf};
 
 use ft_bank::{Bank, Pass, Table};
-use ft_keyed::{last_place, value_at};
+use ft_whole_tables::{last_place, value_at};
 use ft_layout::{block_word, used_entries_follow_a_dict};
 use ft_model::{Call, DictCall, Key, Raise, Reply, Value};
 use ft_search::{answer_made, delete_entry, table_named, written};

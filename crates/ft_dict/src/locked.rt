@@ -19,7 +19,7 @@ ghost use Rattle.ft_dict.specs.Locked.{HasValue};
 
 use crate::looks::reply_of;
 use ft_bank::{Bank, Pass};
-use ft_keyed::value_of;
+use ft_whole_tables::value_of;
 use ft_keys::Way;
 use ft_model::{Call, DictCall, Key, Reply, Value};
 use ft_search::{answer_held, read_key};

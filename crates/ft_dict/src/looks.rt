@@ -17,7 +17,7 @@ ghost use Rattle.ft_search.specs.KeyLooks.{IsLookOf};
 ghost use Rattle.ft_dict.specs.DictLooks.{IsFoundAt};
 
 use ft_bank::{Bank, Pass};
-use ft_keyed::value_of;
+use ft_whole_tables::value_of;
 use ft_keys::Way;
 use ft_model::{Call, DictCall, Key, Raise, Reply, Value};
 use ft_search::{Looked, answer_look, look_up};

@@ -30,7 +30,7 @@ use Rattle.ft_section.specs.declared.answers.Step.{Step}
 use Rattle.ft_section.specs.declared.answers.Step.TheVariants as step
 use Rattle.ft_section.specs.Trying.{SectionsAfter}
 use Rattle.ft_iter.specs.CursorCalls.{IsMoveOf, IsOver, KeepsOtherCursors, MovedUnderLock, iter_call, is_landed_cursor}
-use Rattle.ft_closing.specs.Marks.{over_after, walked_after}
+use Rattle.ft_bank_history.specs.Marks.{over_after, walked_after}
 use Rattle.ft_engine.specs.Answering.{MakesEntry, AreHandsOfPass, IsTryOfCall, LeavesHands}
 use Rattle.ft_engine.specs.Callers.{IsOfKindIn}
 use Rattle.ft_engine.specs.Flights.{objects_of}

@@ -9,7 +9,7 @@ use Rattle.ft_bank.specs.declared.pass.Pass.{Pass}
 use Rattle.ft_bank.specs.Passes.{view}
 use Rattle.ft_bank.specs.PassSections.{Stack, no_sections, stack_of}
 use Rattle.ft_trace.specs.Owners.{SameOwners}
-use Rattle.ft_closing.specs.Marks.{IsNamedIn}
+use Rattle.ft_bank_history.specs.Marks.{IsNamedIn}
 use Rattle.ft_section.specs.Locking.{OnlyLocked}
 use Rattle.ft_section.specs.Ready.{IsInCall, IsReady, IsWaiting}
 use Rattle.ft_engine.specs.declared.caller.Caller.{Caller}

@@ -20,8 +20,8 @@ use Rattle.ft_history.proofs.HistoryPlaces.{slice_get_push}
 use Rattle.ft_history.proofs.Unbroken.{range_push}
 use Rattle.ft_section.specs.declared.answers.Stamp.{Stamp}
 use Rattle.ft_section.specs.Locking.{TakenUp, marks_more, waiting, with_own}
-use Rattle.ft_closing.specs.Marks.{AreMarksFound, HasNamed}
-use Rattle.ft_closing.specs.Numbering.{HasNamedEntries}
+use Rattle.ft_bank_history.specs.Marks.{AreMarksFound, HasNamed}
+use Rattle.ft_bank_history.specs.Numbering.{HasNamedEntries}
 use Rattle.ft_engine.specs.declared.caller.Flight.{Flight}
 use Rattle.ft_engine.specs.declared.caller.Flight.TheVariants as flight
 use Rattle.ft_engine.specs.Answering.{IsEndOf}

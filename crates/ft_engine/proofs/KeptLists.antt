@@ -15,8 +15,8 @@ use Rattle.ft_trace.proofs.Cases.{miss}
 use Rattle.ft_trace.proofs.Owning.{in_either, in_left, in_right}
 use Rattle.ft_bank.specs.Passes.{view}
 use Rattle.ft_bank.specs.PassSections.{Stack, stack_of}
-use Rattle.ft_closing.specs.Marks.{AreOfFirst, HasNamed, IsNamedIn}
-use Rattle.ft_closing.specs.Numbering.{HaveNamedEntries, HasNamedEntries}
+use Rattle.ft_bank_history.specs.Marks.{AreOfFirst, HasNamed, IsNamedIn}
+use Rattle.ft_bank_history.specs.Numbering.{HaveNamedEntries, HasNamedEntries}
 use Rattle.ft_engine.specs.declared.caller.Caller.{Caller}
 use Rattle.ft_engine.specs.declared.caller.Flight.{Flight}
 use Rattle.ft_engine.specs.declared.caller.Flight.TheVariants as flight

@@ -24,11 +24,11 @@ use Rattle.ft_section.specs.declared.answers.Objects.{Objects}
 use Rattle.ft_section.specs.declared.answers.Objects.TheVariants.{One, Two}
 use Rattle.ft_section.specs.declared.answers.Step.{Step}
 use Rattle.ft_section.specs.Trying.{SectionsAfter}
-use Rattle.ft_growth.specs.declared.adding.Added.{Added}
-use Rattle.ft_growth.specs.declared.adding.Added.TheVariants as added
-use Rattle.ft_growth.specs.Adding.{IsTryOf as IsAddTryOf, step_after}
+use Rattle.ft_table_calls.specs.declared.adding.Added.{Added}
+use Rattle.ft_table_calls.specs.declared.adding.Added.TheVariants as added
+use Rattle.ft_table_calls.specs.Adding.{IsTryOf as IsAddTryOf, step_after}
 use Rattle.ft_search.specs.KeyLooks.{IsLookOf, Stops}
-use Rattle.ft_adding.specs.KeyGrowth.{PutsKey}
+use Rattle.ft_new_keys.specs.KeyGrowth.{PutsKey}
 use Rattle.ft_dict.specs.DictCopies.{CopiesTo}
 use Rattle.ft_dict.specs.Values.{SetsDefault}
 use Rattle.ft_merging.specs.Joining.{JoinsBy}

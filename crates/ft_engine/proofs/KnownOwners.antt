@@ -31,8 +31,8 @@ use Rattle.ft_section.specs.declared.answers.Objects.{Objects}
 use Rattle.ft_section.specs.declared.answers.Stamp.{Stamp}
 use Rattle.ft_section.specs.Locking.{TakenUp, first_mark, marks_more, noting, waiting, with_own}
 use Rattle.ft_section.specs.LockTakings.{IsOf}
-use Rattle.ft_closing.specs.Marks.{AreMarksFound, IsFoundFor, IsNamedIn, inner_after, needed_after, over_after, used_after, walked_after, walked_by}
-use Rattle.ft_closing.proofs.RightMarks.{if_some, or_more}
+use Rattle.ft_bank_history.specs.Marks.{AreMarksFound, IsFoundFor, IsNamedIn, inner_after, needed_after, over_after, used_after, walked_after, walked_by}
+use Rattle.ft_bank_history.proofs.RightMarks.{if_some, or_more}
 use Rattle.ft_engine.specs.declared.caller.Flight.{Flight}
 use Rattle.ft_engine.specs.declared.caller.Flight.TheVariants as flight
 use Rattle.ft_engine.specs.Answering.{HasWalked, IsLockedFor}

@@ -17,7 +17,7 @@ use Rattle.ft_section.specs.declared.answers.Objects.{Objects}
 use Rattle.ft_section.specs.declared.answers.Objects.TheVariants.{One}
 use Rattle.ft_section.specs.declared.answers.Step.{Step}
 use Rattle.ft_section.specs.Trying.{SectionsAfter}
-use Rattle.ft_growth.specs.Adding.{IsTryOf as IsAddTryOf}
+use Rattle.ft_table_calls.specs.Adding.{IsTryOf as IsAddTryOf}
 use Rattle.ft_list.specs.ListGrowth.{AddsItems, ExtendsBy}
 use Rattle.ft_engine.specs.Answering.{IsTryOfCall}
 use Rattle.ft_engine.specs.Flights.{objects_by}

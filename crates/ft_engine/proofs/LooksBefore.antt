@@ -37,7 +37,7 @@ use Rattle.ft_section.proofs.MidstOfCall.{in_call_stays}
 use Rattle.ft_section.proofs.Resumes.{none_some}
 use Rattle.ft_search.proofs.ReadMidst.{LeavesSections, making_read, still_loaded}
 use Rattle.ft_engine.specs.Answering.{MakesEntry, MakesNoEntry, IsEndOf, IsTryOfCall, KnewLocks, IsLookedIfAny, settled}
-use Rattle.ft_closing.specs.Marks.{walked_after}
+use Rattle.ft_bank_history.specs.Marks.{walked_after}
 use Rattle.ft_engine.specs.Asked.{IsOnContainers}
 use Rattle.ft_engine.specs.Contentions.{may_look}
 use Rattle.ft_engine.specs.Flights.{is_begin, objects_by, objects_of}

@@ -28,9 +28,9 @@ use Rattle.ft_section.specs.Locking.{FoundOwner, LocksWithin, OnlyLocked}
 use Rattle.ft_section.specs.LockTakings.{IsOf}
 use Rattle.ft_search.specs.MadeCalls.{IsMadeOf, MadeAs, MadeUnderLocks}
 use Rattle.ft_search.specs.Tries.{IsReadOf}
-use Rattle.ft_growth.specs.declared.adding.Added.{Added}
-use Rattle.ft_growth.specs.declared.adding.Added.TheVariants as added
-use Rattle.ft_growth.specs.Adding.{GaveUp, IsAdded, Retires, TriedTaking, IsTryOf, WroteWith, step_after}
+use Rattle.ft_table_calls.specs.declared.adding.Added.{Added}
+use Rattle.ft_table_calls.specs.declared.adding.Added.TheVariants as added
+use Rattle.ft_table_calls.specs.Adding.{GaveUp, IsAdded, Retires, TriedTaking, IsTryOf, WroteWith, step_after}
 use Rattle.ft_engine.specs.Answering.{MakesEntry, MakesNoEntry, FoundWordsChanged, StaysPass, copies}
 use Rattle.ft_engine.specs.Keeping.{made_entry}
 use Rattle.ft_engine.proofs.Within.{HasWithin, answered_owners, loaded_owners, made_owners, retired_owners, tried_owners, within_then, wrote_owners}

@@ -29,8 +29,8 @@ use Rattle.ft_section.specs.declared.answers.Step.TheVariants as step
 use Rattle.ft_section.specs.Locking.{LocksWithin, OnlyLocked}
 use Rattle.ft_section.specs.LockTakings.{IsOf}
 use Rattle.ft_search.specs.MadeCalls.{MadeAs}
-use Rattle.ft_growth.specs.Adding.{Retires, TriedTaking}
-use Rattle.ft_closing.proofs.Walked.{walked_plain}
+use Rattle.ft_table_calls.specs.Adding.{Retires, TriedTaking}
+use Rattle.ft_bank_history.proofs.Walked.{walked_plain}
 use Rattle.ft_engine.specs.Answering.{MakesEntry, HasLockedFor, HasWalked, IsLockedFor}
 use Rattle.ft_engine.specs.Contentions.{may_look}
 use Rattle.ft_engine.specs.Flights.{objects_of}

@@ -37,9 +37,9 @@ use Rattle.ft_section.specs.Locking.{FoundOwner, KeepsLower, with_own, waiting}
 use Rattle.ft_section.specs.Ready.{HasTop, IsReady, IsWaiting, MayTry, MayResume}
 use Rattle.ft_section.specs.LockTakings.{IsOf, lower_of}
 use Rattle.ft_section.specs.Trying.{HasLetGo}
-use Rattle.ft_growth.specs.Adding.{TriedTaking}
+use Rattle.ft_table_calls.specs.Adding.{TriedTaking}
 use Rattle.ft_search.specs.KeyLooks.{AreLooks}
-use Rattle.ft_closing.specs.Marks.{walked_after}
+use Rattle.ft_bank_history.specs.Marks.{walked_after}
 use Rattle.ft_engine.specs.Callers.{AreOver}
 use Rattle.ft_engine.specs.Contentions.{StopsCall, WasContended, may_look}
 use Rattle.ft_engine.specs.Flights.{is_begin, objects_of}

@@ -10,8 +10,8 @@ use Rattle.ft_trace.specs.Acts.{announces}
 use Rattle.ft_trace.specs.Owners.{found_owners, had_locks}
 use Rattle.ft_bank.specs.Passes.{view}
 use Rattle.ft_bank.specs.PassSections.{stack_of}
-use Rattle.ft_closing.specs.Marks.{HaveScriptCalls}
-use Rattle.ft_closing.specs.Numbering.{HaveNamedEntries, AskOwnCursors, IsFor}
+use Rattle.ft_bank_history.specs.Marks.{HaveScriptCalls}
+use Rattle.ft_bank_history.specs.Numbering.{HaveNamedEntries, AskOwnCursors, IsFor}
 use Rattle.ft_engine.specs.declared.caller.Caller.{Caller}
 use Rattle.ft_engine.specs.Callers.{IsIdle, taken_of, thread_of}
 use Rattle.ft_engine.specs.Keeping.{WasAnswered}

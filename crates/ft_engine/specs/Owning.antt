@@ -10,7 +10,7 @@ use Rattle.ft_trace.specs.declared.View.{View}
 use Rattle.ft_trace.specs.Hands.{cursor_in}
 use Rattle.ft_trace.specs.Owners.{found_owners, had_locks, is_owner_in}
 use Rattle.ft_bank.specs.PassSections.{Stack}
-use Rattle.ft_closing.specs.Marks.{AreMarksFound, IsFoundFor, IsNamedIn, walked_after, walked_by}
+use Rattle.ft_bank_history.specs.Marks.{AreMarksFound, IsFoundFor, IsNamedIn, walked_after, walked_by}
 use Rattle.ft_engine.specs.declared.caller.Flight.{Flight}
 use Rattle.ft_engine.specs.declared.caller.Flight.TheVariants as flight
 

@@ -7,9 +7,9 @@ ghost use Rattle.ft_model.specs.Histories.{history_cmp};
 ghost use Rattle.ft_model.specs.Scripts.{IsScript};
 ghost use Rattle.ft_bank.specs.Closings.{shape_in, lists_in, had_in, found_in};
 ghost use Rattle.ft_bank.specs.Passes.{shape_of, view};
-ghost use Rattle.ft_closing.specs.Numbering.{HaveNamedEntries};
+ghost use Rattle.ft_bank_history.specs.Numbering.{HaveNamedEntries};
 ghost use Rattle.ft_engine.specs.Callers.{IsCallerOf, bank_of, pass_of, thread_of};
-ghost use Rattle.ft_closing.specs.Marks.{HaveScriptCalls};
+ghost use Rattle.ft_bank_history.specs.Marks.{HaveScriptCalls};
 ghost use Rattle.ft_engine.specs.DoneCallers.{WereAnswered, IsCallerDone, AreNumberedFor, AreOfScript, IsLegalFor};
 
 use crate::caller::Caller;
@@ -55,8 +55,8 @@ impl Engine {
             flight: _,
         } = caller;
         let closed = bank.close(pass);
-        ft_closing::closed_entries_are_numbered(&closed);
-        ft_closing::marks_are_right();
+        ft_bank_history::closed_entries_are_numbered(&closed);
+        ft_bank_history::marks_are_right();
         closed.owners_are_known();
         let history = merge(alloc, lists)?;
         Ok((history, closed))

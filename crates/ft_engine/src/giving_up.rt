@@ -7,7 +7,7 @@ ghost use Rattle.ft_bank.specs.PassSections.{stack_of};
 ghost use Rattle.ft_engine.specs.Answering.{MakesNoEntry};
 ghost use Rattle.ft_engine.specs.Callers.{IsCallerOf, IsIdle, flight_of, hands_of, pass_of};
 ghost use Rattle.ft_engine.specs.Flights.{IsFlightAnswered};
-ghost use Rattle.ft_closing.specs.Marks.{IsNamedIn};
+ghost use Rattle.ft_bank_history.specs.Marks.{IsNamedIn};
 ghost use Rattle.ft_engine.specs.Keeping.{WasAnswered};
 ghost use Rattle.ft_engine.specs.Owning.{FlightNames};
 

@@ -5,7 +5,7 @@ use crossbeam_utils::Backoff;
 use ft_history::{Verdict, judge};
 use ft_model::Storage;
 use ft_script::parse;
-use ft_workers::{Gate, NoGate, run_workers};
+use ft_run_threads::{Gate, NoGate, run_workers};
 use std::alloc::Global;
 use std::process::Abort;
 use std::sync::Wait;

@@ -24,8 +24,8 @@ use Rattle.ft_bank.specs.WriteSteps.{MayHave}
 use Rattle.ft_bank.specs.Takings.{KeepsBut}
 use Rattle.ft_bank.specs.Whole.{OnlyLoaded, SamePass}
 use Rattle.ft_bank.proofs.KnownAfterWrites.{work_knows}
-use Rattle.ft_growth.specs.declared.adding.Added.{Added}
-use Rattle.ft_growth.specs.Adding.{IsAdded}
+use Rattle.ft_table_calls.specs.declared.adding.Added.{Added}
+use Rattle.ft_table_calls.specs.Adding.{IsAdded}
 use Rattle.ft_bank.proofs.TableAddresses.{class_is}
 use Rattle.ft_list.specs.ListItemWrites.{known_items}
 use Rattle.ft_list.specs.ListWrites.{Adds, Changes, Grows}

@@ -26,7 +26,7 @@ use Rattle.ft_bank.specs.declared.table.Table.{Table}
 use Rattle.ft_bank.specs.Whole.{OnlyPut, Wrote}
 use Rattle.ft_bank.specs.WriteSteps.{Committed, IsShut, KeepsUnwritten, MayCommit, MayPutRoot, with_block, with_root}
 use Rattle.ft_bank.proofs.KnownAfterWrites.{put_by, put_same, work_knows, write_ends}
-use Rattle.ft_growth.proofs.Rooting.{rooted_write}
+use Rattle.ft_table_calls.proofs.Rooting.{rooted_write}
 use Rattle.ft_search.specs.OneEntryWrites.{Leaves}
 use Rattle.ft_list.specs.ListItemWrites.{known_items}
 use Rattle.ft_list.specs.Internal.NewListTables.{KnowsList, MayAdd}

@@ -24,8 +24,8 @@ use Rattle.ft_bank.specs.TableNames.{table_id}
 use Rattle.ft_bank.specs.WriteSteps.{KeepsUnwritten}
 use Rattle.ft_bank.specs.Whole.{OnlyPut, EndsWrite, Wrote}
 use Rattle.ft_bank.proofs.KnownAfterWrites.{work_knows}
-use Rattle.ft_growth.specs.Adding.{OnlyFilled}
-use Rattle.ft_growth.proofs.Rooting.{rooted_write, filled_wrote}
+use Rattle.ft_table_calls.specs.Adding.{OnlyFilled}
+use Rattle.ft_table_calls.proofs.Rooting.{rooted_write, filled_wrote}
 use Rattle.ft_list.specs.ListItemWrites.{WritesList, IsChanging, MayFinishItems}
 use Rattle.ft_list.specs.ListWrites.{Grows}
 use Rattle.ft_list.specs.Internal.NewListTables.{MayGrowList}

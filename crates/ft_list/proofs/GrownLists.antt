@@ -29,7 +29,7 @@ use Rattle.ft_bank.specs.TableNames.{table_id, IsTableIn}
 use Rattle.ft_bank.specs.WriteSteps.{MayPutRoot}
 use Rattle.ft_bank.proofs.TableAddresses.{class_is}
 use Rattle.ft_bank.specs.Whole.{OnlyLoaded}
-use Rattle.ft_growth.specs.Adding.{OnlyFilled}
+use Rattle.ft_table_calls.specs.Adding.{OnlyFilled}
 use Rattle.ft_list.specs.ListItemWrites.{known_items, stored_item}
 use Rattle.ft_list.specs.Internal.NewListTables.{KnowsList, MayGrowList, IsFilled}
 use Rattle.ft_list.proofs.Cares.{table_class}

@@ -10,8 +10,8 @@ use Rattle.ft_trace.specs.declared.Shape.{Shape}
 use Rattle.ft_trace.specs.declared.View.{View}
 use Rattle.ft_trace.specs.Holds.{known_state}
 use Rattle.ft_bank.specs.Whole.{OnlyLoaded}
-use Rattle.ft_growth.specs.declared.adding.Added.{Added}
-use Rattle.ft_growth.specs.Adding.{IsAdded}
+use Rattle.ft_table_calls.specs.declared.adding.Added.{Added}
+use Rattle.ft_table_calls.specs.Adding.{IsAdded}
 use Rattle.ft_list.specs.ListItemWrites.{known_items}
 
 -- What a call that adds n items to the list o comes to under the lock, which the plain list replies is done: after

@@ -16,7 +16,7 @@ ghost use Rattle.ft_bank.specs.Whole.{Wrote};
 ghost use Rattle.ft_section.specs.declared.answers.Objects.TheVariants.{One};
 ghost use Rattle.ft_section.specs.Ready.{MayTry};
 ghost use Rattle.ft_section.specs.Trying.{SectionsAfter};
-ghost use Rattle.ft_growth.specs.Adding.{KeepsCursors};
+ghost use Rattle.ft_table_calls.specs.Adding.{KeepsCursors};
 ghost use Rattle.ft_list.specs.ListWrites.{MayWriteList};
 ghost use Rattle.ft_reads.specs.Clears.{IsCleared, IsClearOf};
 ghost use Rattle.ft_list.specs.Internal.NewListTables.{MayAdd};
@@ -25,7 +25,7 @@ use crate::adding::root_table;
 use crate::bare::write_nothing;
 use crate::locked::LENGTH;
 use ft_bank::{Bank, Pass, Table};
-use ft_growth::retire_old;
+use ft_table_calls::retire_old;
 use ft_model::{Call, ListCall, Reply};
 use ft_section::{Got, Object, Objects, Stamp, Step, let_go, take_for};
 

@@ -19,7 +19,7 @@ ghost use Rattle.ft_bank.specs.Series.{DidAll};
 ghost use Rattle.ft_bank.specs.TableNames.{table_id, IsTableIn};
 ghost use Rattle.ft_bank.specs.Whole.{OnlyLoaded, Wrote};
 ghost use Rattle.ft_bank.specs.WriteSteps.{KeepsUnwritten};
-ghost use Rattle.ft_growth.specs.Adding.{OnlyFilled};
+ghost use Rattle.ft_table_calls.specs.Adding.{OnlyFilled};
 ghost use Rattle.ft_list.specs.ListItemWrites.{WritesList, IsPutting, known_items, stored_item};
 ghost use Rattle.ft_list.specs.ListWrites.{Grows};
 ghost use Rattle.ft_list.specs.Internal.NewListTables.{KnowsList, MayGrowList, IsFilled, with_new_item};

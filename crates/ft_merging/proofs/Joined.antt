@@ -37,12 +37,12 @@ use Rattle.ft_search.specs.OneEntryWrites.{WritesEntries}
 use Rattle.ft_search.proofs.Calling.{plain_replied}
 use Rattle.ft_search.proofs.Puts.{table_class}
 use Rattle.ft_search.proofs.OtherValues.{ValueLaws}
-use Rattle.ft_adding.specs.declared.counts.Counts.{Counts}
-use Rattle.ft_adding.specs.KeyGrowth.{IsFreeFor, holds, most_of}
-use Rattle.ft_adding.specs.Placing.{StoresAs, with_entry, with_key}
-use Rattle.ft_adding.proofs.FinishedKeys.{Since, has_since}
-use Rattle.ft_adding.proofs.Placed.{PlaceLaws, pair_for, use_with}
-use Rattle.ft_adding.proofs.Wanted.{most_few}
+use Rattle.ft_new_keys.specs.declared.counts.Counts.{Counts}
+use Rattle.ft_new_keys.specs.KeyGrowth.{IsFreeFor, holds, most_of}
+use Rattle.ft_new_keys.specs.Placing.{StoresAs, with_entry, with_key}
+use Rattle.ft_new_keys.proofs.FinishedKeys.{Since, has_since}
+use Rattle.ft_new_keys.proofs.Placed.{PlaceLaws, pair_for, use_with}
+use Rattle.ft_new_keys.proofs.Wanted.{most_few}
 use Rattle.ft_merging.specs.Joining.{JoinsKeys, joined, joined_state, new_keys}
 use Rattle.ft_merging.specs.Internal.JoiningSteps.{AreLeft, IsJoining, NoneAhead, NoneGone, NoneOf, lacking, stored_puts}
 use Rattle.ft_merging.specs.Internal.EntriesAtOnce.{IsMidway, MayFinishAll, version_of}

@@ -20,15 +20,15 @@ use Rattle.ft_bank.specs.TableNames.{table_id, IsTableIn}
 use Rattle.ft_bank.specs.Whole.{OnlyLoaded, Wrote}
 use Rattle.ft_bank.specs.WriteSteps.{MayHave}
 use Rattle.ft_bank.proofs.KnownAfterWrites.{loaded_then, work_knows}
-use Rattle.ft_growth.specs.declared.adding.Added.{Added}
-use Rattle.ft_growth.specs.declared.adding.Added.TheVariants as added
-use Rattle.ft_growth.specs.Adding.{IsAdded, KeepsCursors}
-use Rattle.ft_growth.proofs.Cursors.{added_cursors}
+use Rattle.ft_table_calls.specs.declared.adding.Added.{Added}
+use Rattle.ft_table_calls.specs.declared.adding.Added.TheVariants as added
+use Rattle.ft_table_calls.specs.Adding.{IsAdded, KeepsCursors}
+use Rattle.ft_table_calls.proofs.Cursors.{added_cursors}
 use Rattle.ft_section.specs.declared.answers.Stamp.{Stamp}
 use Rattle.ft_search.specs.Rounds.{kind_by}
 use Rattle.ft_search.specs.OneEntryWrites.{Leaves}
 use Rattle.ft_search.proofs.Puts.{few_places}
-use Rattle.ft_adding.specs.KeyGrowth.{most_of}
+use Rattle.ft_new_keys.specs.KeyGrowth.{most_of}
 use Rattle.ft_merging.specs.Joining.{JoinsBy, JoinsKeys, join_takes, joined, joined_state, new_keys}
 use Rattle.ft_merging.proofs.Joined.{cap_few, joined_more}
 use Rattle.ft_merging.proofs.JoinedReads.{Source}

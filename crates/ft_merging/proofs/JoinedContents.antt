@@ -23,8 +23,8 @@ use Rattle.ft_layout.specs.Tables.{UsedEntry, is_live}
 use Rattle.ft_trace.proofs.GrownDicts as dict
 use Rattle.ft_trace.proofs.SameKeys.{any_found}
 use Rattle.ft_trace.proofs.SetGrowing as set
-use Rattle.ft_adding.specs.KeyGrowth.{holds}
-use Rattle.ft_adding.specs.Placing.{StoresAs, with_key}
+use Rattle.ft_new_keys.specs.KeyGrowth.{holds}
+use Rattle.ft_new_keys.specs.Placing.{StoresAs, with_key}
 use Rattle.ft_merging.specs.Internal.JoiningSteps.{Apart, AreLeft, NoneOf, StoresIn, joined_used, lacking, with_used}
 
 or_false : (b : Bool) → (b || false) ≡ b

@@ -26,13 +26,13 @@ use Rattle.ft_bank.proofs.KnownAfterWrites.{work_knows}
 use Rattle.ft_search.specs.Rounds.{kind_by}
 use Rattle.ft_search.specs.OneEntryWrites.{WritesEntries}
 use Rattle.ft_search.proofs.Changing.{kind_is}
-use Rattle.ft_adding.specs.declared.counts.Counts.{Counts}
-use Rattle.ft_adding.specs.Fresh.{IsFilledWith}
-use Rattle.ft_adding.specs.KeyGrowth.{KnowsKeyed, MayGrowKeyed}
-use Rattle.ft_adding.specs.Placing.{AreCounts, counted}
-use Rattle.ft_adding.proofs.Keyed.{Heads, counts_known}
-use Rattle.ft_adding.proofs.Placed.{use_with}
-use Rattle.ft_adding.proofs.Rooted.{filled_says}
+use Rattle.ft_new_keys.specs.declared.counts.Counts.{Counts}
+use Rattle.ft_new_keys.specs.Fresh.{IsFilledWith}
+use Rattle.ft_new_keys.specs.KeyGrowth.{KnowsKeyed, MayGrowKeyed}
+use Rattle.ft_new_keys.specs.Placing.{AreCounts, counted}
+use Rattle.ft_new_keys.proofs.Keyed.{Heads, counts_known}
+use Rattle.ft_new_keys.proofs.Placed.{use_with}
+use Rattle.ft_new_keys.proofs.Rooted.{filled_says}
 use Rattle.ft_merging.specs.Joining.{joined, new_keys}
 use Rattle.ft_merging.specs.Internal.JoiningSteps.{IsJoining, NoneGone}
 use Rattle.ft_merging.specs.Internal.EntriesAtOnce.{IsMidway, version_of}

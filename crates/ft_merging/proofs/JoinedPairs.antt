@@ -31,8 +31,8 @@ use Rattle.ft_bank.specs.TableNames.{table_id}
 use Rattle.ft_search.specs.Rounds.{kind_by}
 use Rattle.ft_search.proofs.FoundInContents.{of_way}
 use Rattle.ft_search.proofs.Puts.{table_class}
-use Rattle.ft_adding.specs.KeyGrowth.{KnowsKeyed}
-use Rattle.ft_adding.specs.Placing.{StoresAs}
+use Rattle.ft_new_keys.specs.KeyGrowth.{KnowsKeyed}
+use Rattle.ft_new_keys.specs.Placing.{StoresAs}
 use Rattle.ft_merging.specs.Joining.{joined}
 use Rattle.ft_merging.specs.Internal.JoiningSteps.{StoresIn, joined_used, with_used}
 use Rattle.ft_merging.proofs.Ending.{Laws}

@@ -41,9 +41,9 @@ use Rattle.ft_search.specs.Held.{IsHeldAt, KnowsTable}
 use Rattle.ft_search.specs.Rounds.{kind_by}
 use Rattle.ft_search.specs.OneEntryWrites.{HasTable, MayWriteEntries}
 use Rattle.ft_search.proofs.Puts.{table_class}
-use Rattle.ft_adding.specs.KeyGrowth.{KnowsKeyed, holds}
-use Rattle.ft_adding.specs.Placing.{StoresAs}
-use Rattle.ft_adding.proofs.Grown.{knows_on}
+use Rattle.ft_new_keys.specs.KeyGrowth.{KnowsKeyed, holds}
+use Rattle.ft_new_keys.specs.Placing.{StoresAs}
+use Rattle.ft_new_keys.proofs.Grown.{knows_on}
 use Rattle.ft_merging.specs.Joining.{joined}
 use Rattle.ft_merging.specs.Internal.JoiningSteps.{Apart, StoresIn, joined_used, pair_in}
 use Rattle.ft_merging.proofs.JoinedContents.{joined_elements}

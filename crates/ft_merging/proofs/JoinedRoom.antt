@@ -16,8 +16,8 @@ use Rattle.ft_trace.specs.ContainerStates.{ContainerState}
 use Rattle.ft_bank.specs.declared.table.Table.{Table}
 use Rattle.ft_bank.specs.TableNames.{table_id}
 use Rattle.ft_search.specs.Rounds.{kind_by}
-use Rattle.ft_adding.specs.KeyGrowth.{keys_take, most_of, use_of}
-use Rattle.ft_adding.proofs.Placed.{use_with}
+use Rattle.ft_new_keys.specs.KeyGrowth.{keys_take, most_of, use_of}
+use Rattle.ft_new_keys.proofs.Placed.{use_with}
 use Rattle.ft_merging.specs.Joining.{join_takes, joined, joined_state, new_keys}
 
 none_if : (b : Bool) (x : ℕ) → (if b then Some x else None) ≡ None → b ≡ false

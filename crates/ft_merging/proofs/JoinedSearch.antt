@@ -27,7 +27,7 @@ use Rattle.ft_search.specs.Rounds.{kind_by}
 use Rattle.ft_search.specs.Spots.{spot_in}
 use Rattle.ft_search.proofs.FoundInContents.{IsOfWay, MissingElements, MissingKeys, key_held}
 use Rattle.ft_search.proofs.Spotting.{FirstFreeSlots, entry_found, none_spent, value_read}
-use Rattle.ft_adding.specs.KeyGrowth.{IsFreeFor, holds}
+use Rattle.ft_new_keys.specs.KeyGrowth.{IsFreeFor, holds}
 use Rattle.ft_merging.specs.Internal.JoiningSteps.{IsSought}
 use Rattle.ft_merging.proofs.JoinedReads.{holds_some}
 

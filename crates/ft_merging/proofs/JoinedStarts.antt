@@ -24,12 +24,12 @@ use Rattle.ft_search.specs.Rounds.{kind_by}
 use Rattle.ft_search.specs.OneEntryWrites.{MayWriteEntries}
 use Rattle.ft_search.proofs.Changing.{kind_is}
 use Rattle.ft_search.proofs.ReadyCommits.{writes_begun}
-use Rattle.ft_adding.specs.declared.counts.Counts.{Counts}
-use Rattle.ft_adding.specs.KeyGrowth.{KnowsKeyed, MayAddKey, keys_take, use_of}
-use Rattle.ft_adding.specs.Placing.{AreCounts}
-use Rattle.ft_adding.proofs.Grown.{knows_on}
-use Rattle.ft_adding.proofs.Keyed.{Heads, counts_known, shut_here, use_known}
-use Rattle.ft_adding.proofs.Placed.{entry_shut, use_with}
+use Rattle.ft_new_keys.specs.declared.counts.Counts.{Counts}
+use Rattle.ft_new_keys.specs.KeyGrowth.{KnowsKeyed, MayAddKey, keys_take, use_of}
+use Rattle.ft_new_keys.specs.Placing.{AreCounts}
+use Rattle.ft_new_keys.proofs.Grown.{knows_on}
+use Rattle.ft_new_keys.proofs.Keyed.{Heads, counts_known, shut_here, use_known}
+use Rattle.ft_new_keys.proofs.Placed.{entry_shut, use_with}
 use Rattle.ft_merging.specs.Joining.{join_takes, joined, new_keys}
 use Rattle.ft_merging.specs.Internal.JoiningSteps.{IsJoining, NoneGone}
 use Rattle.ft_merging.specs.Internal.EntriesAtOnce.{IsMidway, version_of}

@@ -46,12 +46,12 @@ use Rattle.ft_search.specs.Rounds.{kind_by}
 use Rattle.ft_search.specs.OneEntryWrites.{WritesEntries}
 use Rattle.ft_search.proofs.WordPlaces.{slots_of_class}
 use Rattle.ft_search.proofs.Puts.{table_class}
-use Rattle.ft_adding.specs.declared.counts.Counts.{Counts}
-use Rattle.ft_adding.specs.KeyGrowth.{IsFreeFor}
-use Rattle.ft_adding.specs.Placing.{IsUnused, StoresAs, laid, with_entry, with_key}
-use Rattle.ft_adding.proofs.Keyed.{way_is}
-use Rattle.ft_adding.proofs.Placed.{Fresh, PlaceLaws, now, opened_now, pair_for, place_unused, right_in, use_with}
-use Rattle.ft_adding.proofs.Stages.{At, body, body_puts, body_stage, opened}
+use Rattle.ft_new_keys.specs.declared.counts.Counts.{Counts}
+use Rattle.ft_new_keys.specs.KeyGrowth.{IsFreeFor}
+use Rattle.ft_new_keys.specs.Placing.{IsUnused, StoresAs, laid, with_entry, with_key}
+use Rattle.ft_new_keys.proofs.Keyed.{way_is}
+use Rattle.ft_new_keys.proofs.Placed.{Fresh, PlaceLaws, now, opened_now, pair_for, place_unused, right_in, use_with}
+use Rattle.ft_new_keys.proofs.Stages.{At, body, body_puts, body_stage, opened}
 use Rattle.ft_merging.specs.Internal.JoiningSteps.{NoneAhead, NoneGone, NoneOf}
 use Rattle.ft_merging.specs.Internal.EntriesAtOnce.{IsMidway, version_of}
 use Rattle.ft_merging.proofs.Ending.{parity}

@@ -37,9 +37,9 @@ use Rattle.ft_bank.proofs.KnownAfterWrites.{work_knows}
 use Rattle.ft_search.specs.OneEntryWrites.{WritesEntries}
 use Rattle.ft_search.proofs.Puts.{table_class}
 use Rattle.ft_search.proofs.OtherValues.{ValueLaws, value_early, value_stands, value_used}
-use Rattle.ft_adding.specs.KeyGrowth.{holds}
-use Rattle.ft_adding.specs.Placing.{StoresAs, with_key}
-use Rattle.ft_adding.proofs.Placed.{use_with}
+use Rattle.ft_new_keys.specs.KeyGrowth.{holds}
+use Rattle.ft_new_keys.specs.Placing.{StoresAs, with_key}
+use Rattle.ft_new_keys.proofs.Placed.{use_with}
 use Rattle.ft_merging.specs.Internal.JoiningSteps.{NoneAhead, NoneGone, NoneOf, stored_puts}
 use Rattle.ft_merging.specs.Internal.EntriesAtOnce.{IsMidway, version_of}
 use Rattle.ft_merging.proofs.JoinedContents.{set_same}

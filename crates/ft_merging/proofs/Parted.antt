@@ -45,8 +45,8 @@ use Rattle.ft_bank.proofs.KnownAfterWrites.{work_knows}
 use Rattle.ft_search.specs.Rounds.{kind_by}
 use Rattle.ft_search.specs.OneEntryWrites.{HasTable, MayWriteEntries}
 use Rattle.ft_search.proofs.Puts.{table_class}
-use Rattle.ft_adding.specs.declared.counts.Counts.{Counts}
-use Rattle.ft_adding.proofs.Placed.{use_with}
+use Rattle.ft_new_keys.specs.declared.counts.Counts.{Counts}
+use Rattle.ft_new_keys.proofs.Placed.{use_with}
 use Rattle.ft_merging.specs.Joining.{joined}
 use Rattle.ft_merging.specs.Thinning.{stays}
 use Rattle.ft_merging.specs.Internal.JoiningSteps.{AreLeft, IsJoining, KeepsBelow}

@@ -18,7 +18,7 @@ use Rattle.ft_trace.specs.declared.View.{View}
 use Rattle.ft_trace.specs.Holds.{known_state}
 use Rattle.ft_trace.specs.ContainerStates.{ContainerState}
 use Rattle.ft_search.specs.OneEntryWrites.{Leaves}
-use Rattle.ft_adding.proofs.Placed.{use_with}
+use Rattle.ft_new_keys.proofs.Placed.{use_with}
 use Rattle.ft_merging.specs.Joining.{join_takes, joined, new_keys}
 use Rattle.ft_merging.specs.Parting.{PartsSets, part_takes, parted, parted_state}
 use Rattle.ft_merging.proofs.JoinedContents.{or_length}

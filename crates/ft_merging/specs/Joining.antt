@@ -17,10 +17,10 @@ use Rattle.ft_trace.specs.BegunSections.{HasLocksOf}
 use Rattle.ft_trace.specs.ContainerStates.{ContainerState, changes, state_at}
 use Rattle.ft_bank.specs.Whole.{OnlyLoaded}
 use Rattle.ft_bank.specs.WriteSteps.{MayHave}
-use Rattle.ft_growth.specs.declared.adding.Added.{Added}
-use Rattle.ft_growth.specs.Adding.{IsAdded}
+use Rattle.ft_table_calls.specs.declared.adding.Added.{Added}
+use Rattle.ft_table_calls.specs.Adding.{IsAdded}
 use Rattle.ft_search.specs.MadeCalls.{IsReplyTo}
-use Rattle.ft_adding.specs.KeyGrowth.{keys_take}
+use Rattle.ft_new_keys.specs.KeyGrowth.{keys_take}
 
 -- what a dict has once it is updated with another one, and a set that gets the elements of another one (Python manual,
 -- Mapping Types, Set Types)

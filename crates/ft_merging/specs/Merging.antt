@@ -6,8 +6,8 @@ use Rattle.ft_trace.specs.declared.Shape.{Shape}
 use Rattle.ft_trace.specs.declared.View.{View}
 use Rattle.ft_trace.specs.Holds.{held_words, known_state}
 use Rattle.ft_trace.specs.ContainerStates.{kind_in}
-use Rattle.ft_adding.specs.KeyGrowth.{KnowsKeyed}
-use Rattle.ft_adding.specs.Placing.{AreCounts}
+use Rattle.ft_new_keys.specs.KeyGrowth.{KnowsKeyed}
+use Rattle.ft_new_keys.specs.Placing.{AreCounts}
 use Rattle.ft_merging.specs.declared.merging.Merge.{Merge}
 use Rattle.ft_merging.specs.Joining.{new_keys}
 

@@ -17,8 +17,8 @@ use Rattle.ft_trace.specs.BegunSections.{HasLocksOf}
 use Rattle.ft_trace.specs.ContainerStates.{ContainerState, changes, state_at, may_empty}
 use Rattle.ft_bank.specs.Whole.{OnlyLoaded}
 use Rattle.ft_bank.specs.WriteSteps.{MayHave}
-use Rattle.ft_growth.specs.declared.adding.Added.{Added}
-use Rattle.ft_growth.specs.Adding.{IsAdded}
+use Rattle.ft_table_calls.specs.declared.adding.Added.{Added}
+use Rattle.ft_table_calls.specs.Adding.{IsAdded}
 use Rattle.ft_search.specs.MadeCalls.{IsReplyTo}
 
 -- what the first of two sets has then (Python manual, Set Types)

@@ -12,7 +12,7 @@ ghost use Rattle.ft_bank.specs.TableNames.{table_id};
 ghost use Rattle.ft_bank.specs.Whole.{OnlyLoaded};
 ghost use Rattle.ft_search.specs.Rounds.{kind_by};
 ghost use Rattle.ft_search.specs.OneEntryWrites.{MayWriteEntries};
-ghost use Rattle.ft_adding.specs.KeyGrowth.{KnowsKeyed, holds};
+ghost use Rattle.ft_new_keys.specs.KeyGrowth.{KnowsKeyed, holds};
 ghost use Rattle.ft_merging.specs.Internal.JoiningSteps.{lacking};
 
 use crate::reading::pair_at;

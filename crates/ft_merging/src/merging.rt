@@ -1,6 +1,6 @@
 //! Two containers, one of which gets keys of the other one, with what a pass has read of them before the first word is
 //! put.
-use ft_adding::Counts;
+use ft_new_keys::Counts;
 use ft_bank::Table;
 use ft_section::Object;
 

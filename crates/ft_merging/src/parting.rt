@@ -12,7 +12,7 @@ ghost use Rattle.ft_bank.specs.Passes.{shape_of, view, IsPassOf};
 ghost use Rattle.ft_bank.specs.PassSections.{stack_of};
 ghost use Rattle.ft_bank.specs.Whole.{OnlyLoaded, Wrote};
 ghost use Rattle.ft_search.specs.OneEntryWrites.{MayWriteEntries};
-ghost use Rattle.ft_adding.specs.KeyGrowth.{KnowsKeyed, MayAddKey};
+ghost use Rattle.ft_new_keys.specs.KeyGrowth.{KnowsKeyed, MayAddKey};
 ghost use Rattle.ft_merging.specs.Joining.{new_keys};
 ghost use Rattle.ft_merging.specs.Merging.{MayMerge};
 ghost use Rattle.ft_merging.specs.Parting.{PartsSets, part_takes, parted};

@@ -20,15 +20,15 @@ ghost use Rattle.ft_bank.specs.TableNames.{table_id};
 ghost use Rattle.ft_bank.specs.Whole.{EndsWrite, OnlyLoaded, OnlyPut};
 ghost use Rattle.ft_search.specs.Rounds.{kind_by};
 ghost use Rattle.ft_search.specs.OneEntryWrites.{WritesEntries};
-ghost use Rattle.ft_adding.specs.declared.counts.Counts.{Counts};
-ghost use Rattle.ft_adding.specs.KeyGrowth.{KnowsKeyed};
+ghost use Rattle.ft_new_keys.specs.declared.counts.Counts.{Counts};
+ghost use Rattle.ft_new_keys.specs.KeyGrowth.{KnowsKeyed};
 ghost use Rattle.ft_merging.specs.Joining.{joined};
 ghost use Rattle.ft_merging.specs.Internal.JoiningSteps.{IsJoining, IsSought, KeepsBelow, stored_puts};
 ghost use Rattle.ft_merging.specs.Internal.EntriesAtOnce.{MayFinishAll};
 
 use crate::closing::finish_entries;
 use crate::reading::pair_at;
-use ft_adding::{Counts, put_key};
+use ft_new_keys::{Counts, put_key};
 use ft_bank::{Bank, Pass, Table};
 use ft_keys::{Way, placed_pairs_are_of_a_table, searches_end_at_the_first_free_slot};
 use ft_layout::{

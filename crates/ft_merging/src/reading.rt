@@ -16,7 +16,7 @@ ghost use Rattle.ft_bank.specs.TableNames.{table_id, IsTableIn};
 ghost use Rattle.ft_bank.specs.Whole.{OnlyLoaded};
 ghost use Rattle.ft_search.specs.Held.{KnowsTable};
 ghost use Rattle.ft_search.specs.OneEntryWrites.{MayWriteEntries};
-ghost use Rattle.ft_adding.specs.KeyGrowth.{KnowsKeyed};
+ghost use Rattle.ft_new_keys.specs.KeyGrowth.{KnowsKeyed};
 ghost use Rattle.ft_merging.specs.Internal.JoiningSteps.{pair_in};
 
 use ft_bank::{Bank, Pass, Table};

@@ -25,8 +25,8 @@ use Rattle.ft_trace.specs.ContainerStates.{ContainerState}
 use Rattle.ft_bank.specs.declared.table.Table.{Table}
 use Rattle.ft_bank.specs.TableNames.{table_id, IsTableIn}
 use Rattle.ft_search.proofs.Puts.{table_class}
-use Rattle.ft_adding.specs.Fresh.{HasZeroWords, IsFilledWith}
-use Rattle.ft_adding.proofs.FilledTables.{BlankHolds, blank_table}
+use Rattle.ft_new_keys.specs.Fresh.{HasZeroWords, IsFilledWith}
+use Rattle.ft_new_keys.proofs.FilledTables.{BlankHolds, blank_table}
 use Rattle.ft_parting.specs.Choosing.{HasChosen, IsChosen, apart_pair, at_serials, chosen, is_apart, serial_at}
 
 -- ---- lists

@@ -28,8 +28,8 @@ use Rattle.ft_trace.specs.ContainerStates.{kind_in}
 use Rattle.ft_trace.proofs.Known.{class_known}
 use Rattle.ft_bank.specs.declared.table.Table.{Table}
 use Rattle.ft_bank.specs.TableNames.{table_id}
-use Rattle.ft_adding.specs.KeyGrowth.{KnowsKeyed}
-use Rattle.ft_adding.proofs.Placed.{none_used}
+use Rattle.ft_new_keys.specs.KeyGrowth.{KnowsKeyed}
+use Rattle.ft_new_keys.proofs.Placed.{none_used}
 use Rattle.ft_merging.proofs.ThinningEnds.{is_set}
 use Rattle.ft_merging.proofs.JoinedSame.{known_bare, no_length}
 use Rattle.ft_parting.specs.Choosing.{apart_pair}

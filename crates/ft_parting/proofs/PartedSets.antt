@@ -25,9 +25,9 @@ use Rattle.ft_trace.specs.ContainerStates.{ContainerState}
 use Rattle.ft_bank.specs.Whole.{OnlyLoaded}
 use Rattle.ft_bank.specs.WriteSteps.{MayHave}
 use Rattle.ft_bank.proofs.KnownAfterWrites.{loaded_then, work_knows}
-use Rattle.ft_growth.specs.declared.adding.Added.{Added}
-use Rattle.ft_growth.specs.Adding.{IsAdded, KeepsCursors}
-use Rattle.ft_growth.proofs.Cursors.{added_cursors}
+use Rattle.ft_table_calls.specs.declared.adding.Added.{Added}
+use Rattle.ft_table_calls.specs.Adding.{IsAdded, KeepsCursors}
+use Rattle.ft_table_calls.proofs.Cursors.{added_cursors}
 use Rattle.ft_search.specs.OneEntryWrites.{Leaves}
 use Rattle.ft_merging.specs.Joining.{joined, new_keys}
 use Rattle.ft_merging.specs.Parting.{PartsBy, PartsSets, part_takes, parted, parted_state}

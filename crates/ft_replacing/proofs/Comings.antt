@@ -11,11 +11,11 @@ use Rattle.ft_bank.specs.Passes.{view, IsPassOf}
 use Rattle.ft_bank.specs.PassSections.{stack_of}
 use Rattle.ft_section.specs.Ready.{IsMaking}
 use Rattle.ft_search.proofs.ReadMidst.{LeavesSections}
-use Rattle.ft_growth.specs.declared.adding.Added.{Added}
-use Rattle.ft_growth.specs.declared.adding.Added.TheVariants as added
-use Rattle.ft_growth.specs.Adding.{KeepsCursors}
-use Rattle.ft_growth.proofs.Cursors.{added_cursors, given_cursors}
-use Rattle.ft_growth.proofs.GrowthMidst.{making_added, making_given}
+use Rattle.ft_table_calls.specs.declared.adding.Added.{Added}
+use Rattle.ft_table_calls.specs.declared.adding.Added.TheVariants as added
+use Rattle.ft_table_calls.specs.Adding.{KeepsCursors}
+use Rattle.ft_table_calls.proofs.Cursors.{added_cursors, given_cursors}
+use Rattle.ft_table_calls.proofs.GrowthMidst.{making_added, making_given}
 use Rattle.ft_replacing.specs.Replacing.{IsReplaced}
 
 pub replaced_cursors : (k : Shape) (takes : Option ℕ) (called : Call) (v w : View) (what : Added) → IsReplaced k takes called v w what → KeepsCursors v w

@@ -22,10 +22,10 @@ use Rattle.ft_trace.specs.Addresses.{slots}
 use Rattle.ft_trace.specs.Pictures.{entry_offset}
 use Rattle.ft_search.proofs.KnownTableWords.{after_header}
 use Rattle.ft_search.proofs.WordPlaces.{slots_of_class}
-use Rattle.ft_adding.specs.Fresh.{IsFilledWith}
-use Rattle.ft_adding.specs.Placing.{counted}
-use Rattle.ft_adding.proofs.FilledTables.{word_here}
-use Rattle.ft_adding.proofs.Placed.{counted_head}
+use Rattle.ft_new_keys.specs.Fresh.{IsFilledWith}
+use Rattle.ft_new_keys.specs.Placing.{counted}
+use Rattle.ft_new_keys.proofs.FilledTables.{word_here}
+use Rattle.ft_new_keys.proofs.Placed.{counted_head}
 use Rattle.ft_replacing.specs.Replacing.{renumbered}
 
 -- ---- the words

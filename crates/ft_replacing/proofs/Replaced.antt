@@ -27,7 +27,7 @@ use Rattle.ft_trace.specs.Kinds.{rows}
 use Rattle.ft_trace.specs.ContainerStates.{ContainerState}
 use Rattle.ft_bank.specs.WriteSteps.{MayHave}
 use Rattle.ft_search.specs.OneEntryWrites.{Leaves}
-use Rattle.ft_keyed.specs.Clearing.{cleared_kept}
+use Rattle.ft_whole_tables.specs.Clearing.{cleared_kept}
 use Rattle.ft_replacing.specs.Replacing.{Replaces}
 
 -- the call, later: the pass has the same locks, and what the bank may have then it may have had before

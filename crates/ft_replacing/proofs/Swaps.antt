@@ -37,12 +37,12 @@ use Rattle.ft_bank.proofs.KnownAfterWrites.{work_knows}
 use Rattle.ft_search.proofs.Calling.{plain_replied}
 use Rattle.ft_search.proofs.Changing.{kind_is, shut_known}
 use Rattle.ft_search.proofs.Puts.{keyed_version, table_class}
-use Rattle.ft_adding.specs.Fresh.{IsFilledWith}
-use Rattle.ft_adding.specs.KeyGrowth.{MayGrowKeyed}
-use Rattle.ft_adding.specs.Placing.{counted}
-use Rattle.ft_adding.proofs.Keyed.{Heads}
-use Rattle.ft_adding.proofs.Placed.{counted_head, kind_shut, use_with}
-use Rattle.ft_adding.proofs.Rooted.{rooted_head, sound_in}
+use Rattle.ft_new_keys.specs.Fresh.{IsFilledWith}
+use Rattle.ft_new_keys.specs.KeyGrowth.{MayGrowKeyed}
+use Rattle.ft_new_keys.specs.Placing.{counted}
+use Rattle.ft_new_keys.proofs.Keyed.{Heads}
+use Rattle.ft_new_keys.proofs.Placed.{counted_head, kind_shut, use_with}
+use Rattle.ft_new_keys.proofs.Rooted.{rooted_head, sound_in}
 use Rattle.ft_replacing.specs.Replacing.{Replaces, replaced_table}
 use Rattle.ft_replacing.proofs.Swapped.{swapped_write}
 

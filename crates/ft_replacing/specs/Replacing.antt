@@ -17,9 +17,9 @@ use Rattle.ft_trace.specs.Pictures.{entry_offset}
 use Rattle.ft_trace.specs.ContainerStates.{state_at, changes, may_empty}
 use Rattle.ft_bank.specs.Whole.{OnlyLoaded}
 use Rattle.ft_bank.specs.WriteSteps.{MayHave}
-use Rattle.ft_growth.specs.declared.adding.Added.{Added}
-use Rattle.ft_growth.specs.declared.adding.Added.TheVariants as added
-use Rattle.ft_growth.specs.Adding.{IsAdded}
+use Rattle.ft_table_calls.specs.declared.adding.Added.{Added}
+use Rattle.ft_table_calls.specs.declared.adding.Added.TheVariants as added
+use Rattle.ft_table_calls.specs.Adding.{IsAdded}
 use Rattle.ft_search.specs.MadeCalls.{IsReplyTo}
 use Rattle.ft_reads.specs.Clears.{IsCleared}
 

@@ -8,7 +8,7 @@ ghost use Rattle.ft_trace.specs.Holds.{in_hand};
 ghost use Rattle.ft_bank.specs.Passes.{shape_of, view, IsPassOf};
 ghost use Rattle.ft_bank.specs.PassSections.{stack_of};
 ghost use Rattle.ft_bank.specs.TableNames.{table_id, IsTableIn};
-ghost use Rattle.ft_growth.specs.Adding.{OnlyFilled};
+ghost use Rattle.ft_table_calls.specs.Adding.{OnlyFilled};
 ghost use Rattle.ft_replacing.specs.Replacing.{renumbered};
 
 use ft_bank::{Bank, Pass, Table};

@@ -12,12 +12,12 @@ ghost use Rattle.ft_bank.specs.Passes.{shape_of, view, IsPassOf};
 ghost use Rattle.ft_bank.specs.PassSections.{stack_of};
 ghost use Rattle.ft_bank.specs.TableNames.{table_id};
 ghost use Rattle.ft_bank.specs.Whole.{OnlyPut, Wrote};
-ghost use Rattle.ft_adding.specs.Fresh.{IsFilledWith};
-ghost use Rattle.ft_adding.specs.KeyGrowth.{MayGrowKeyed};
-ghost use Rattle.ft_adding.specs.Placing.{counted};
+ghost use Rattle.ft_new_keys.specs.Fresh.{IsFilledWith};
+ghost use Rattle.ft_new_keys.specs.KeyGrowth.{MayGrowKeyed};
+ghost use Rattle.ft_new_keys.specs.Placing.{counted};
 ghost use Rattle.ft_replacing.specs.Replacing.{Replaces};
 
-use ft_adding::{COUNT, FILL, NEXT};
+use ft_new_keys::{COUNT, FILL, NEXT};
 use ft_bank::{Bank, Pass, Table};
 use ft_layout::{used_entries_follow_a_dict, used_entries_follow_a_set, words_are_of_one_content};
 use ft_model::{Call, Reply};

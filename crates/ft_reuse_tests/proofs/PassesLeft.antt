@@ -14,9 +14,9 @@ use Rattle.ft_section.specs.declared.answers.Step.TheVariants as step
 use Rattle.ft_section.specs.Ready.{IsStill}
 use Rattle.ft_qsbr.specs.Collecting.{Collected, StaysOrGoes}
 use Rattle.ft_qsbr.proofs.PassesStay.{given_or_kept}
-use Rattle.ft_growth.specs.declared.adding.Added.{Added}
-use Rattle.ft_growth.specs.declared.adding.Added.TheVariants as added
-use Rattle.ft_growth.specs.Adding.{Retires, IsAdded, IsTryOf}
+use Rattle.ft_table_calls.specs.declared.adding.Added.{Added}
+use Rattle.ft_table_calls.specs.declared.adding.Added.TheVariants as added
+use Rattle.ft_table_calls.specs.Adding.{Retires, IsAdded, IsTryOf}
 use Rattle.ft_list.specs.ListGrowth.{AddsItems}
 
 -- a pass that has no lock and then goes offline and collects may be taken in

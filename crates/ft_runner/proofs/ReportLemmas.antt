@@ -19,7 +19,7 @@ use Rattle.ft_script.specs.Generator.{made_text}
 use Rattle.ft_script.specs.ReadScripts.{read_script}
 use Rattle.ft_runner.specs.Making.{IsSummary}
 use Rattle.ft_script.specs.Texts.{entry_line, world_text}
-use Rattle.ft_turn_runs.specs.OrderedHistories.{IsOrderRunFor}
+use Rattle.ft_run_turns.specs.OrderedHistories.{IsOrderRunFor}
 use Rattle.ft_turns.specs.ShortReplies.{HasShortReply}
 use Rattle.ft_history.specs.declared.verdict.Verdict.TheVariants as verdict
 use Rattle.ft_model.specs.declared.entry.Rule.{Rule}

@@ -25,7 +25,7 @@ use Rattle.ft_script.specs.ReadScripts.{read_script}
 use Rattle.ft_script.specs.Transcripts.{IsReadable}
 use Rattle.ft_script.proofs.ReadScripts.{script_read, script_wide}
 use Rattle.ft_turns.specs.ShortReplies.{HasShortReply}
-use Rattle.ft_turn_runs.specs.OrderedHistories.{IsOrderRunFor}
+use Rattle.ft_run_turns.specs.OrderedHistories.{IsOrderRunFor}
 use Rattle.ft_runner.specs.declared.command.Subcommand.{Subcommand}
 use Rattle.ft_runner.specs.declared.command.Subcommand.TheVariants as subcommand
 use Rattle.ft_runner.proofs.ReadableEntries.{readable_entries, short_entries}

@@ -14,7 +14,7 @@ use Rattle.ft_model.specs.Histories.{writes, world_at, IsLegal}
 use Rattle.ft_model.specs.Worlds.{length_of}
 use Rattle.ft_script.specs.Generator.{made_text}
 use Rattle.ft_script.specs.ReadScripts.{read_script}
-use Rattle.ft_turn_runs.specs.OrderedHistories.{IsOrderRunFor}
+use Rattle.ft_run_turns.specs.OrderedHistories.{IsOrderRunFor}
 use Rattle.ft_runner.specs.Findings.{stored}
 
 -- ---- the summary

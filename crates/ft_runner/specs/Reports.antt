@@ -15,10 +15,10 @@ use Rattle.ft_script.specs.Faults.{kind_text}
 use Rattle.ft_script.specs.Generator.{made_text}
 use Rattle.ft_script.specs.ReadScripts.{read_script}
 use Rattle.ft_script.specs.Texts.{transcript}
-use Rattle.ft_turn_runs.specs.OrderedHistories.{IsOrderRunFor}
+use Rattle.ft_run_turns.specs.OrderedHistories.{IsOrderRunFor}
 use Rattle.ft_turns.specs.ShortReplies.{HasShortReply}
-use Rattle.ft_workers.specs.ClosedHistories.{HasEntriesOf}
-use Rattle.ft_workers.specs.Workers.{IsBankFor}
+use Rattle.ft_run_threads.specs.ClosedHistories.{HasEntriesOf}
+use Rattle.ft_run_threads.specs.Workers.{IsBankFor}
 use Rattle.ft_runner.specs.declared.command.Subcommand.{Subcommand}
 use Rattle.ft_runner.specs.declared.command.Subcommand.TheVariants as subcommand
 use Rattle.ft_runner.specs.declared.outcome.Outcome.{Outcome}

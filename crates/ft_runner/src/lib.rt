@@ -17,7 +17,7 @@ mod tool;
 mod writing;
 
 pub use command::Subcommand;
-pub use ft_workers::{Gate, NoGate};
+pub use ft_run_threads::{Gate, NoGate};
 pub use laws::{
     bad_lines_are_reported, enough_tables_never_run_out, legal_histories_are_read_back,
     reports_have_their_causes, scripts_are_refused, scripts_are_run, transcripts_are_checked,

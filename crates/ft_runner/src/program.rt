@@ -11,7 +11,7 @@ use crate::errors::tell;
 use crate::outcome::Outcome;
 use crate::tool::run_tool;
 use ft_io::{Sink, Source};
-use ft_workers::NoGate;
+use ft_run_threads::NoGate;
 use std::alloc::Global;
 use std::process::ExitCode;
 use std::sync::Wait;

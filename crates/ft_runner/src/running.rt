@@ -6,9 +6,9 @@ ghost use Rattle.ft_runner.specs.declared.command.Subcommand.TheVariants as subc
 ghost use Rattle.ft_runner.specs.Internal.ScriptRuns.{IsRunOf};
 ghost use Rattle.ft_runner.specs.Reports.{ComesTo, MeansRun};
 ghost use Rattle.ft_script.specs.ReadScripts.{read_script};
-ghost use Rattle.ft_turn_runs.specs.OrderedHistories.{IsOrderRunFor};
-ghost use Rattle.ft_workers.specs.ClosedHistories.{HasEntriesOf};
-ghost use Rattle.ft_workers.specs.Workers.{IsBankFor};
+ghost use Rattle.ft_run_turns.specs.OrderedHistories.{IsOrderRunFor};
+ghost use Rattle.ft_run_threads.specs.ClosedHistories.{HasEntriesOf};
+ghost use Rattle.ft_run_threads.specs.Workers.{IsBankFor};
 ghost use Rattle.std.specs.Prelude.{◌≡◌, ℕ, List, IfOk, Ok};
 
 use crate::checking::STORED;
@@ -18,8 +18,8 @@ use ft_bank::Closed;
 use ft_history::judge_with_world;
 use ft_io::Sink;
 use ft_model::{Entry, Script, World};
-use ft_turn_runs::run_in_turns;
-use ft_workers::{Gate, run_workers};
+use ft_run_turns::run_in_turns;
+use ft_run_threads::{Gate, run_workers};
 use std::alloc::{AllocError, Global};
 use std::sync::Wait;
 use std::thread::Threads;

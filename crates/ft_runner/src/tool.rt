@@ -18,7 +18,7 @@ use crate::report::Report;
 use crate::running::{put_run, run_threads, run_turns};
 use ft_io::{Sink, Source};
 use ft_script::parse;
-use ft_workers::Gate;
+use ft_run_threads::Gate;
 use std::alloc::{AllocError, Global};
 use std::sync::Wait;
 use std::thread::Threads;

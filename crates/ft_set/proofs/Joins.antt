@@ -24,7 +24,7 @@ use Rattle.ft_trace.proofs.Known.{declared_at}
 use Rattle.ft_trace.proofs.Naming.{named_locked}
 use Rattle.ft_bank.specs.WriteSteps.{MayHave}
 use Rattle.ft_search.specs.OneEntryWrites.{MayWriteEntries}
-use Rattle.ft_adding.specs.KeyGrowth.{keys_take}
+use Rattle.ft_new_keys.specs.KeyGrowth.{keys_take}
 use Rattle.ft_merging.specs.Joining.{JoinsKeys, join_takes, joined, new_keys}
 use Rattle.ft_merging.specs.Parting.{PartsSets}
 use Rattle.ft_merging.proofs.ThinningEnds.{is_set}

@@ -31,8 +31,8 @@ use Rattle.ft_trace.specs.ContainerStates.{state_at}
 use Rattle.ft_trace.proofs.SetGrowing.{added_next, added_length}
 use Rattle.ft_trace.proofs.Naming.{named_locked}
 use Rattle.ft_bank.specs.WriteSteps.{MayHave}
-use Rattle.ft_adding.specs.KeyGrowth.{AddsKey, key_takes, most_of}
-use Rattle.ft_adding.specs.Placing.{with_key}
+use Rattle.ft_new_keys.specs.KeyGrowth.{AddsKey, key_takes, most_of}
+use Rattle.ft_new_keys.specs.Placing.{with_key}
 use Rattle.ft_set.proofs.Leaving.{set_is, table_is, many_tables, replies, declared, left_at}
 
 module _ (s : ℕ) (v : View) (elements : SetContent) (low : s < container_count v.shape) (mine : has_lock s v.log ≡ true) (is_set : (known_state s v).content ≡ content.Set elements) (key : Key) (missing : has_element elements.elements key ≡ false) (sc : SetCall) (said : Reply) (other : other_set sc ≡ None) (cursor : cursor_of_set sc ≡ None) (grows : set_change sc ≡ change.Grows) (quiet : is_raised said ≡ false) where

@@ -36,10 +36,10 @@ use Rattle.ft_bank.specs.TableNames.{IsTableIn, table_id}
 use Rattle.ft_search.specs.MadeCalls.{IsShownBy}
 use Rattle.ft_search.specs.OneEntryWrites.{HasTable, IsLiveEntry, Leaves, MayWriteEntries, without_key}
 use Rattle.ft_search.proofs.Changing.{kind_is}
-use Rattle.ft_keyed.specs.TableEntries.{IsKeyAt, OfUsed, live_key}
-use Rattle.ft_keyed.specs.Places.{IsFirst, NoneThere}
-use Rattle.ft_keyed.proofs.Gathered.{no_set, of_set_low}
-use Rattle.ft_keyed.proofs.Scanning.{none_live}
+use Rattle.ft_whole_tables.specs.TableEntries.{IsKeyAt, OfUsed, live_key}
+use Rattle.ft_whole_tables.specs.Places.{IsFirst, NoneThere}
+use Rattle.ft_whole_tables.proofs.Gathered.{no_set, of_set_low}
+use Rattle.ft_whole_tables.proofs.Scanning.{none_live}
 use Rattle.ft_set.specs.declared.firsts.First.{First}
 use Rattle.ft_set.specs.Firsts.{IsFirstElement, IsFirstIn, IsFirstOf}
 use Rattle.ft_set.proofs.Leaving.{leaves_stay, replies}

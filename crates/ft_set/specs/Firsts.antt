@@ -12,9 +12,9 @@ use Rattle.ft_trace.specs.Carefuls.{HasLiveKey}
 use Rattle.ft_trace.specs.Pictures.{ContainerWords, root_in}
 use Rattle.ft_bank.specs.declared.table.Table.{Table}
 use Rattle.ft_bank.specs.TableNames.{table_id, IsTableIn}
-use Rattle.ft_keyed.specs.ShownContents.{IsOfSet}
-use Rattle.ft_keyed.specs.TableEntries.{OfUsed, live_key}
-use Rattle.ft_keyed.specs.Places.{NoneThere}
+use Rattle.ft_whole_tables.specs.ShownContents.{IsOfSet}
+use Rattle.ft_whole_tables.specs.TableEntries.{OfUsed, live_key}
+use Rattle.ft_whole_tables.specs.Places.{NoneThere}
 use Rattle.ft_set.specs.declared.firsts.First.{First}
 
 -- where the root names the table, the entry at the place is there with the element

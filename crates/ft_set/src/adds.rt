@@ -14,13 +14,13 @@ ghost use Rattle.ft_bank.specs.PassSections.{stack_of};
 ghost use Rattle.ft_section.specs.declared.answers.Objects.TheVariants.{One};
 ghost use Rattle.ft_section.specs.Ready.{MayTry};
 ghost use Rattle.ft_section.specs.Trying.{SectionsAfter};
-ghost use Rattle.ft_growth.specs.Adding.{IsTryOf, KeepsCursors};
+ghost use Rattle.ft_table_calls.specs.Adding.{IsTryOf, KeepsCursors};
 ghost use Rattle.ft_search.specs.OneEntryWrites.{MayWriteEntries};
-ghost use Rattle.ft_adding.specs.KeyGrowth.{PutsKey};
+ghost use Rattle.ft_new_keys.specs.KeyGrowth.{PutsKey};
 
-use ft_adding::add_key;
+use ft_new_keys::add_key;
 use ft_bank::{Bank, Pass};
-use ft_growth::{Added, step_of};
+use ft_table_calls::{Added, step_of};
 use ft_keys::Way;
 use ft_layout::Stored;
 use ft_model::{Call, Key, Reply, SetCall};

@@ -12,12 +12,12 @@ ghost use Rattle.ft_bank.specs.PassSections.{stack_of};
 ghost use Rattle.ft_section.specs.declared.answers.Objects.TheVariants.{One};
 ghost use Rattle.ft_section.specs.Ready.{MayTry};
 ghost use Rattle.ft_section.specs.Trying.{SectionsAfter};
-ghost use Rattle.ft_growth.specs.Adding.{KeepsCursors};
+ghost use Rattle.ft_table_calls.specs.Adding.{KeepsCursors};
 ghost use Rattle.ft_search.specs.OneEntryWrites.{MayWriteEntries};
 ghost use Rattle.ft_reads.specs.Clears.{IsCleared, IsClearOf};
 
 use ft_bank::{Bank, Pass};
-use ft_keyed::{clear_as, try_clear_as};
+use ft_whole_tables::{clear_as, try_clear_as};
 use ft_keys::Way;
 use ft_section::{Object, Stamp, Step};
 

@@ -15,7 +15,7 @@ ghost use Rattle.ft_search.specs.MadeCalls.{IsMadeOf};
 ghost use Rattle.ft_reads.specs.Pairs.{IsGlanceOfBoth};
 
 use ft_bank::{Bank, Pass};
-use ft_keyed::{Comparison, look_comparison, try_comparison};
+use ft_whole_tables::{Comparison, look_comparison, try_comparison};
 use ft_section::{Look, Object, Step};
 
 /// `s == t` under the locks of both, the lower one taken first; a set named twice counts once (Python manual,

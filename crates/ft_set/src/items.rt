@@ -10,12 +10,12 @@ ghost use Rattle.ft_bank.specs.PassSections.{stack_of};
 ghost use Rattle.ft_section.specs.declared.answers.Objects.TheVariants.{One};
 ghost use Rattle.ft_section.specs.Ready.{MayTry};
 ghost use Rattle.ft_section.specs.Trying.{SectionsAfter};
-ghost use Rattle.ft_keyed.specs.ShownContents.{IsOfSet};
+ghost use Rattle.ft_whole_tables.specs.ShownContents.{IsOfSet};
 ghost use Rattle.ft_reads.specs.Copies.{IsCopyOf};
 ghost use Rattle.ft_reads.specs.Glances.{IsCopyGlanceOf};
 
 use ft_bank::{Bank, Pass};
-use ft_keyed::{look_all_items, try_all_items};
+use ft_whole_tables::{look_all_items, try_all_items};
 use ft_keys::Way;
 use ft_section::{Look, Object, Step};
 use std::alloc::Global;

@@ -13,14 +13,14 @@ ghost use Rattle.ft_bank.specs.PassSections.{stack_of};
 ghost use Rattle.ft_section.specs.declared.answers.Objects.TheVariants.{Two};
 ghost use Rattle.ft_section.specs.Ready.{MayTry};
 ghost use Rattle.ft_section.specs.Trying.{SectionsAfter};
-ghost use Rattle.ft_growth.specs.Adding.{IsTryOf, KeepsCursors};
+ghost use Rattle.ft_table_calls.specs.Adding.{IsTryOf, KeepsCursors};
 ghost use Rattle.ft_search.specs.MadeCalls.{IsMadeOf, MadeAs};
 ghost use Rattle.ft_search.specs.OneEntryWrites.{MayWriteEntries};
 ghost use Rattle.ft_merging.specs.Joining.{JoinsBy};
 ghost use Rattle.ft_merging.specs.Parting.{PartsBy};
 
 use ft_bank::{Bank, Pass};
-use ft_growth::{Added, step_of};
+use ft_table_calls::{Added, step_of};
 use ft_keys::Way;
 use ft_layout::{used_entries_follow_a_dict, used_entries_follow_a_set};
 use ft_merging::{join_by, thin_by};

@@ -13,7 +13,7 @@ ghost use Rattle.ft_section.specs.Trying.{SectionsAfter};
 ghost use Rattle.ft_search.specs.Tries.{IsReadOf};
 
 use ft_bank::{Bank, Pass};
-use ft_keyed::try_has_key;
+use ft_whole_tables::try_has_key;
 use ft_keys::Way;
 use ft_model::Key;
 use ft_section::{Object, Step};

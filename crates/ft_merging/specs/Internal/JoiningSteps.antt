@@ -30,9 +30,9 @@ use Rattle.ft_search.specs.declared.spots.Spot.{Spot}
 use Rattle.ft_search.specs.declared.spots.Spot.TheVariants as spot
 use Rattle.ft_search.specs.Held.{IsHeldAt}
 use Rattle.ft_search.specs.Rounds.{kind_by}
-use Rattle.ft_adding.specs.declared.counts.Counts.{Counts}
-use Rattle.ft_adding.specs.KeyGrowth.{IsFreeFor, holds}
-use Rattle.ft_adding.specs.Placing.{StoresAs, with_key}
+use Rattle.ft_new_keys.specs.declared.counts.Counts.{Counts}
+use Rattle.ft_new_keys.specs.KeyGrowth.{IsFreeFor, holds}
+use Rattle.ft_new_keys.specs.Placing.{StoresAs, with_key}
 use Rattle.ft_merging.specs.Internal.EntriesAtOnce.{IsMidway, version_of}
 
 -- the pair that words of an entry say, if one is there

@@ -4,8 +4,8 @@ use Rattle.ft_bank.specs.Closings.{shape_in}
 use Rattle.ft_model.specs.declared.script.ScriptParts.{ScriptParts}
 use Rattle.ft_model.specs.Histories.{writes, world_at, IsLegal}
 use Rattle.ft_model.specs.Numbers.{AreFitting}
-use Rattle.ft_workers.specs.ClosedHistories.{HasEntriesOf}
-use Rattle.ft_workers.specs.Workers.{IsBankFor}
+use Rattle.ft_run_threads.specs.ClosedHistories.{HasEntriesOf}
+use Rattle.ft_run_threads.specs.Workers.{IsBankFor}
 use Rattle.ft_runner.specs.declared.running.ScriptRun.{ScriptRun}
 use Rattle.ft_runner.specs.Findings.{stored}
 

@@ -3,8 +3,8 @@ use Rattle.ft_bank.specs.Passes.{shape_of}
 use Rattle.ft_bank.specs.TableNames.{table_id}
 use Rattle.ft_reads.specs.Reads.{Reads}
 use Rattle.ft_reads.proofs.Agreeing.{reads_map, reads_then}
-use Rattle.ft_keyed.specs.TableEntries.{IsPlainAt, OfUsed}
-use Rattle.ft_keyed.specs.Places.{IsLast}
+use Rattle.ft_whole_tables.specs.TableEntries.{IsPlainAt, OfUsed}
+use Rattle.ft_whole_tables.specs.Places.{IsLast}
 use Rattle.ft_dict.specs.declared.lasts.Last.{Last}
 use Rattle.ft_dict.specs.Lasts.{IsLastIn}
 use Rattle.ft_dict.proofs.Popping.{last_found, last_none}

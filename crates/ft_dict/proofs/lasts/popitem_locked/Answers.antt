@@ -9,7 +9,7 @@ use Rattle.ft_search.specs.OneEntryWrites.{Leaves, MayWriteEntries, without_key}
 use Rattle.ft_search.proofs.Calling.{answer_loaded, written_made}
 use Rattle.ft_search.proofs.Running.{did_log}
 use Rattle.ft_reads.proofs.Agreeing.{reads_loaded}
-use Rattle.ft_keyed.proofs.KnownContents.{read_later, read_may}
+use Rattle.ft_whole_tables.proofs.KnownContents.{read_later, read_may}
 use Rattle.ft_dict.specs.declared.lasts.Last.{Last}
 use Rattle.ft_dict.specs.Lasts.{IsLastOf}
 use Rattle.ft_dict.proofs.Popping.{popped_entry, popped_leaves, popped_raises, popped_table}

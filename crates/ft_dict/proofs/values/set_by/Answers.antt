@@ -19,9 +19,9 @@ use Rattle.ft_bank.proofs.ShownReplies.{serials_have_room}
 use Rattle.ft_section.specs.declared.answers.Stamp.{Stamp}
 use Rattle.ft_search.specs.Held.{IsHeldAt}
 use Rattle.ft_search.specs.OneEntryWrites.{Leaves, with_value_at}
-use Rattle.ft_adding.specs.KeyGrowth.{AddsKey, IsFreeFor, holds}
-use Rattle.ft_adding.proofs.Keyed.{knows_here, knows_bare}
-use Rattle.ft_adding.proofs.Present.{may_add, puts_absent, puts_present}
+use Rattle.ft_new_keys.specs.KeyGrowth.{AddsKey, IsFreeFor, holds}
+use Rattle.ft_new_keys.proofs.Keyed.{knows_here, knows_bare}
+use Rattle.ft_new_keys.proofs.Present.{may_add, puts_absent, puts_present}
 use Rattle.ft_dict.proofs.Deleted as deleted
 use Rattle.ft_dict.proofs.NewKeys.{set_adds}
 use Rattle.ft_dict.proofs.values.set_by.Goals as goal

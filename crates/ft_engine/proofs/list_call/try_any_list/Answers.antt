@@ -5,7 +5,7 @@ use Rattle.std.proofs.Math.Facts.{to_z-of_z}
 use Rattle.ft_model.specs.declared.reply.Reply.TheVariants as reply
 use Rattle.ft_search.specs.MadeCalls.{IsMadeOf}
 use Rattle.ft_search.specs.Tries.{IsReadOf}
-use Rattle.ft_growth.specs.Adding.{IsTryOf as IsAddTryOf}
+use Rattle.ft_table_calls.specs.Adding.{IsTryOf as IsAddTryOf}
 use Rattle.ft_reads.specs.Copies.{IsCopyOf}
 use Rattle.ft_list.specs.ListGrowth.{AddsItems}
 use Rattle.std.specs.Prelude.{Some, None}

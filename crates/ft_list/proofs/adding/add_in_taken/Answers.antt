@@ -10,8 +10,8 @@ use Rattle.ft_trace.specs.ContainerStates.{changes}
 use Rattle.ft_bank.specs.Passes.{shape_of, view}
 use Rattle.ft_bank.specs.TableNames.{table_id, root_for}
 use Rattle.ft_bank.proofs.TableAddresses.{class_is}
-use Rattle.ft_growth.specs.Adding.{Retires}
-use Rattle.ft_growth.proofs.Rooting.{taken_out}
+use Rattle.ft_table_calls.specs.Adding.{Retires}
+use Rattle.ft_table_calls.proofs.Rooting.{taken_out}
 use Rattle.ft_list.specs.ListWrites.{Grows}
 use Rattle.ft_list.specs.ListItemWrites.{known_items}
 use Rattle.ft_list.specs.Internal.Additions.{count_in, with_added}

@@ -6,7 +6,7 @@ use Rattle.ft_trace.specs.declared.Shape.{Shape}
 use Rattle.ft_trace.specs.Addresses.{container_count}
 use Rattle.ft_bank.specs.Passes.{shape_of, view}
 use Rattle.ft_bank.proofs.KnownAfterWrites.{loaded_then}
-use Rattle.ft_growth.proofs.Cursors.{added_cursors}
+use Rattle.ft_table_calls.proofs.Cursors.{added_cursors}
 use Rattle.ft_list.specs.ListItemWrites.{known_items}
 use Rattle.ft_list.proofs.Additions.{adds_items}
 use Rattle.ft_list.proofs.ListCallFacts.{extend_adds}

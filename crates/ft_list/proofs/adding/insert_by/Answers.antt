@@ -14,7 +14,7 @@ use Rattle.ft_trace.specs.Addresses.{container_count}
 use Rattle.ft_trace.specs.ContainerStates.{ContainerState}
 use Rattle.ft_bank.specs.Passes.{shape_of, view}
 use Rattle.ft_bank.proofs.KnownAfterWrites.{loaded_then, work_knows}
-use Rattle.ft_growth.proofs.Cursors.{added_cursors}
+use Rattle.ft_table_calls.proofs.Cursors.{added_cursors}
 use Rattle.ft_list.specs.ListWrites.{Adds}
 use Rattle.ft_list.specs.ListItemWrites.{known_items}
 use Rattle.ft_list.proofs.ListCallFacts.{insert_adds}

@@ -4,7 +4,7 @@ use Rattle.ft_model.specs.declared.call.ListCall.TheVariants as list
 use Rattle.ft_section.specs.declared.answers.Objects.TheVariants.{One}
 use Rattle.ft_section.specs.Trying.{SectionsAfter}
 use Rattle.ft_section.proofs.TriedSections.{let_gone}
-use Rattle.ft_growth.proofs.GrowthMidst.{gone_as, making_added}
+use Rattle.ft_table_calls.proofs.GrowthMidst.{gone_as, making_added}
 use Rattle.ft_list.proofs.adding.try_append.Goals as goal
 
 pub let_go-requires : goal.let_go-requires

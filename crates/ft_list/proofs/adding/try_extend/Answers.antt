@@ -5,7 +5,7 @@ use Rattle.ft_bank.specs.Passes.{shape_of, view}
 use Rattle.ft_section.specs.declared.answers.Objects.TheVariants.{Two}
 use Rattle.ft_section.specs.Trying.{SectionsAfter}
 use Rattle.ft_section.proofs.TriedSections.{let_gone}
-use Rattle.ft_growth.proofs.GrowthMidst.{gone_as, making_added}
+use Rattle.ft_table_calls.proofs.GrowthMidst.{gone_as, making_added}
 use Rattle.ft_reads.proofs.Both.{has_each, are_in}
 use Rattle.ft_list.proofs.ListMidst.{may_write}
 use Rattle.ft_list.proofs.adding.try_extend.Goals as goal

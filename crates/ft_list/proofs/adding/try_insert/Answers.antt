@@ -8,10 +8,10 @@ use Rattle.ft_bank.specs.Passes.{shape_of, view}
 use Rattle.ft_section.specs.declared.answers.Objects.TheVariants.{One}
 use Rattle.ft_section.specs.declared.answers.Step.{Step}
 use Rattle.ft_model.specs.declared.reply.Reply.TheVariants as reply
-use Rattle.ft_growth.specs.Adding.{IsTryOf}
+use Rattle.ft_table_calls.specs.Adding.{IsTryOf}
 use Rattle.ft_section.specs.Trying.{SectionsAfter}
 use Rattle.ft_section.proofs.TriedSections.{let_gone}
-use Rattle.ft_growth.proofs.GrowthMidst.{gone_as, making_added, tried_as}
+use Rattle.ft_table_calls.proofs.GrowthMidst.{gone_as, making_added, tried_as}
 use Rattle.ft_list.specs.ListGrowth.{AddsItems}
 use Rattle.ft_list.proofs.adding.try_insert.Goals as goal
 

@@ -2,9 +2,9 @@ use Rattle.std.proofs.Common.{ℕ, ◌<◌, refl, sym, ap, ◌∙◌, subst, ari
 use Rattle.ft_model.specs.declared.reply.Reply.TheVariants as reply
 use Rattle.ft_bank.specs.Passes.{view}
 use Rattle.ft_bank.specs.TableNames.{table_id, root_for}
-use Rattle.ft_growth.specs.Adding.{Retires}
-use Rattle.ft_growth.proofs.Cursors.{given_cursors}
-use Rattle.ft_growth.proofs.Rooting.{taken_out}
+use Rattle.ft_table_calls.specs.Adding.{Retires}
+use Rattle.ft_table_calls.proofs.Cursors.{given_cursors}
+use Rattle.ft_table_calls.proofs.Rooting.{taken_out}
 use Rattle.ft_list.proofs.Emptying.{clear_of}
 use Rattle.ft_list.proofs.clearing.clear_by.Goals as goal
 

@@ -3,7 +3,7 @@ use Rattle.ft_model.specs.declared.call.Call.TheVariants as call
 use Rattle.ft_model.specs.declared.call.ListCall.TheVariants as list
 use Rattle.ft_model.specs.declared.reply.Reply.TheVariants as reply
 use Rattle.ft_section.proofs.TriedSections.{let_gone}
-use Rattle.ft_growth.proofs.GrowthMidst.{making_given}
+use Rattle.ft_table_calls.proofs.GrowthMidst.{making_given}
 use Rattle.ft_list.proofs.clearing.try_clear.Goals as goal
 
 pub let_go-requires : goal.let_go-requires

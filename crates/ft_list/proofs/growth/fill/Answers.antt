@@ -9,7 +9,7 @@ use Rattle.ft_trace.proofs.Pieces.{table_long}
 use Rattle.ft_bank.specs.Passes.{shape_of, view}
 use Rattle.ft_bank.specs.TableNames.{table_id}
 use Rattle.ft_bank.proofs.KnownAfterWrites.{work_knows}
-use Rattle.ft_growth.proofs.Rooting.{filled_same, filled_then, loaded_filled}
+use Rattle.ft_table_calls.proofs.Rooting.{filled_same, filled_then, loaded_filled}
 use Rattle.ft_list.specs.ListItemWrites.{known_items, stored_item}
 use Rattle.ft_list.specs.Internal.NewListTables.{IsFilled}
 use Rattle.ft_list.proofs.Cares.{table_class}

@@ -4,7 +4,7 @@ use Rattle.ft_trace.specs.Holds.{in_hand}
 use Rattle.ft_bank.specs.Passes.{view, IsPassOf}
 use Rattle.ft_bank.specs.PassSections.{stack_of}
 use Rattle.ft_bank.specs.TableNames.{table_id}
-use Rattle.ft_growth.specs.Adding.{OnlyFilled}
+use Rattle.ft_table_calls.specs.Adding.{OnlyFilled}
 use Rattle.ft_list.specs.ListItemWrites.{known_items}
 use Rattle.ft_list.specs.Internal.NewListTables.{IsFilled}
 use Rattle.ft_list.proofs.growth.fill.Given as goal

@@ -12,7 +12,7 @@ use Rattle.ft_trace.specs.ContainerStates.{ContainerState}
 use Rattle.ft_bank.specs.Passes.{shape_of, view}
 use Rattle.ft_bank.specs.TableNames.{table_id}
 use Rattle.ft_bank.proofs.KnownAfterWrites.{loaded_held, loaded_then, work_knows}
-use Rattle.ft_adding.specs.KeyGrowth.{holds}
+use Rattle.ft_new_keys.specs.KeyGrowth.{holds}
 use Rattle.ft_merging.specs.Internal.JoiningSteps.{lacking}
 use Rattle.ft_merging.proofs.counting.count_new.Goals as goal
 use Rattle.ft_merging.proofs.counting.count_new.Goals.{After-is_new_at, then-is_new_at, else-is_new_at}

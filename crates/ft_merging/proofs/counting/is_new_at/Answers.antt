@@ -13,7 +13,7 @@ use Rattle.ft_trace.specs.ContainerStates.{ContainerState}
 use Rattle.ft_bank.specs.Passes.{shape_of, view}
 use Rattle.ft_bank.specs.TableNames.{table_id}
 use Rattle.ft_bank.proofs.KnownAfterWrites.{loaded_then, work_knows}
-use Rattle.ft_adding.specs.KeyGrowth.{holds}
+use Rattle.ft_new_keys.specs.KeyGrowth.{holds}
 use Rattle.ft_merging.specs.Internal.JoiningSteps.{pair_in}
 use Rattle.ft_merging.proofs.JoinedPairs.{source_known}
 use Rattle.ft_merging.proofs.JoinedReads.{Source, entry_used, holds_at, holds_none, new_is, none_found, none_used, pair_used}

@@ -6,8 +6,8 @@ use Rattle.ft_bank.proofs.KnownAfterWrites.{loaded_held, work_knows}
 use Rattle.ft_search.proofs.Calling.{loaded_same}
 use Rattle.ft_search.proofs.Changing.{kind_is}
 use Rattle.ft_search.proofs.Spotting.{may_loaded}
-use Rattle.ft_adding.specs.KeyGrowth.{KnowsKeyed}
-use Rattle.ft_adding.proofs.Taken.{has_loaded}
+use Rattle.ft_new_keys.specs.KeyGrowth.{KnowsKeyed}
+use Rattle.ft_new_keys.proofs.Taken.{has_loaded}
 use Rattle.ft_merging.specs.Joining.{JoinsKeys, joined}
 use Rattle.ft_merging.proofs.JoinedCalls.{joins_by, joins_later, joins_then}
 use Rattle.ft_merging.proofs.JoinedSame.{known_bare, known_itself, none_joined}

@@ -10,12 +10,12 @@ use Rattle.ft_bank.proofs.KnownAfterWrites.{loaded_held, loaded_then, work_knows
 use Rattle.ft_search.specs.Rounds.{kind_by}
 use Rattle.ft_search.proofs.Changing.{kind_is}
 use Rattle.ft_search.proofs.Spotting.{may_loaded}
-use Rattle.ft_adding.specs.KeyGrowth.{KnowsKeyed}
-use Rattle.ft_adding.specs.Placing.{AreCounts}
-use Rattle.ft_adding.proofs.Keyed.{counts_known}
-use Rattle.ft_adding.proofs.Present.{may_add}
-use Rattle.ft_adding.proofs.Taken.{has_loaded}
-use Rattle.ft_adding.proofs.Wanted.{most_few}
+use Rattle.ft_new_keys.specs.KeyGrowth.{KnowsKeyed}
+use Rattle.ft_new_keys.specs.Placing.{AreCounts}
+use Rattle.ft_new_keys.proofs.Keyed.{counts_known}
+use Rattle.ft_new_keys.proofs.Present.{may_add}
+use Rattle.ft_new_keys.proofs.Taken.{has_loaded}
+use Rattle.ft_new_keys.proofs.Wanted.{most_few}
 use Rattle.ft_merging.specs.Joining.{new_keys}
 use Rattle.ft_merging.proofs.Joined.{cap_few, joined_more}
 use Rattle.ft_merging.proofs.JoinedCalls.{few_rows, joins_by, joins_later}

@@ -10,7 +10,7 @@ use Rattle.ft_bank.specs.TableNames.{table_id}
 use Rattle.ft_bank.proofs.TableAddresses.{class_is}
 use Rattle.ft_bank.proofs.KnownAfterWrites.{work_knows}
 use Rattle.ft_search.proofs.ReadyCommits.{whole_root, whole_write}
-use Rattle.ft_adding.proofs.FinishedKeys.{since_start}
+use Rattle.ft_new_keys.proofs.FinishedKeys.{since_start}
 use Rattle.ft_merging.specs.Joining.{joined}
 use Rattle.ft_merging.specs.Internal.JoiningSteps.{IsJoining}
 use Rattle.ft_merging.proofs.Joined.{joined_finishes}

@@ -13,11 +13,11 @@ use Rattle.ft_bank.specs.TableNames.{table_id}
 use Rattle.ft_bank.proofs.KnownAfterWrites.{put_then, work_knows}
 use Rattle.ft_search.specs.Rounds.{kind_by}
 use Rattle.ft_search.proofs.Changing.{kind_is}
-use Rattle.ft_adding.specs.Fresh.{IsFilledWith}
-use Rattle.ft_adding.specs.KeyGrowth.{MayGrowKeyed}
-use Rattle.ft_adding.proofs.FinishedKeys.{since_root}
-use Rattle.ft_adding.proofs.Grown.{filled_has, grow_filled, grown_wrote, knows_filled, same_filled}
-use Rattle.ft_adding.proofs.Keyed.{counts_known}
+use Rattle.ft_new_keys.specs.Fresh.{IsFilledWith}
+use Rattle.ft_new_keys.specs.KeyGrowth.{MayGrowKeyed}
+use Rattle.ft_new_keys.proofs.FinishedKeys.{since_root}
+use Rattle.ft_new_keys.proofs.Grown.{filled_has, grow_filled, grown_wrote, knows_filled, same_filled}
+use Rattle.ft_new_keys.proofs.Keyed.{counts_known}
 use Rattle.ft_merging.specs.Joining.{JoinsKeys, join_takes, joined}
 use Rattle.ft_merging.specs.Merging.{MayMerge}
 use Rattle.ft_merging.specs.Internal.JoiningSteps.{IsJoining}

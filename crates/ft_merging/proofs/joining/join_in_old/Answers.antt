@@ -4,8 +4,8 @@ use Rattle.ft_trace.specs.Holds.{known_state}
 use Rattle.ft_bank.specs.declared.table.Table.{Table}
 use Rattle.ft_bank.specs.Passes.{shape_of, view}
 use Rattle.ft_search.proofs.Changing.{kind_is}
-use Rattle.ft_adding.specs.KeyGrowth.{MayAddKey, keys_take}
-use Rattle.ft_adding.proofs.Keyed.{use_known}
+use Rattle.ft_new_keys.specs.KeyGrowth.{MayAddKey, keys_take}
+use Rattle.ft_new_keys.proofs.Keyed.{use_known}
 use Rattle.ft_merging.specs.Joining.{joined, new_keys}
 use Rattle.ft_merging.proofs.JoinedCalls.{joins_leaves, made_here}
 use Rattle.ft_merging.proofs.JoinedRoom.{bare_none}

@@ -8,13 +8,13 @@ use Rattle.ft_bank.specs.Passes.{shape_of, view}
 use Rattle.ft_bank.specs.TableNames.{table_id, root_for}
 use Rattle.ft_bank.proofs.TableAddresses.{class_is}
 use Rattle.ft_bank.specs.Whole.{Wrote}
-use Rattle.ft_growth.specs.Adding.{Retires}
-use Rattle.ft_growth.proofs.Rooting.{taken_out}
+use Rattle.ft_table_calls.specs.Adding.{Retires}
+use Rattle.ft_table_calls.proofs.Rooting.{taken_out}
 use Rattle.ft_section.specs.declared.answers.Stamp.{Stamp}
 use Rattle.ft_search.specs.Rounds.{kind_by}
-use Rattle.ft_adding.specs.KeyGrowth.{MayGrowKeyed}
-use Rattle.ft_adding.proofs.Keyed.{fresh_other}
-use Rattle.ft_adding.proofs.Taken.{tried_has, tried_knows, tried_may, tried_words}
+use Rattle.ft_new_keys.specs.KeyGrowth.{MayGrowKeyed}
+use Rattle.ft_new_keys.proofs.Keyed.{fresh_other}
+use Rattle.ft_new_keys.proofs.Taken.{tried_has, tried_knows, tried_may, tried_words}
 use Rattle.ft_merging.specs.Joining.{join_takes}
 use Rattle.ft_merging.proofs.JoinedCalls.{joins_later}
 use Rattle.ft_merging.proofs.Merged.{merge_later}

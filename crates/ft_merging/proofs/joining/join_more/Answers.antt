@@ -3,13 +3,13 @@ use Rattle.ft_model.specs.declared.content.Content.{Content}
 use Rattle.ft_model.specs.declared.reply.Reply.TheVariants as reply
 use Rattle.ft_model.specs.TableUses.{passes_cap}
 use Rattle.ft_model.specs.Worlds.{kind_of, length_of}
-use Rattle.ft_growth.specs.Adding.{IsAdded}
+use Rattle.ft_table_calls.specs.Adding.{IsAdded}
 use Rattle.ft_trace.specs.Holds.{known_state}
 use Rattle.ft_bank.specs.Passes.{shape_of, view}
 use Rattle.ft_search.specs.Rounds.{kind_by}
 use Rattle.ft_search.proofs.Changing.{kind_is}
-use Rattle.ft_adding.specs.KeyGrowth.{keys_take, most_of, use_of}
-use Rattle.ft_adding.proofs.Keyed.{counts_known, use_known}
+use Rattle.ft_new_keys.specs.KeyGrowth.{keys_take, most_of, use_of}
+use Rattle.ft_new_keys.proofs.Keyed.{counts_known, use_known}
 use Rattle.ft_merging.specs.Joining.{join_takes, joined}
 use Rattle.ft_merging.proofs.JoinedCalls.{cap_joined, many_joined, over_joined}
 use Rattle.ft_merging.proofs.JoinedPairs.{source_known}

@@ -1,6 +1,6 @@
 use Rattle.std.proofs.Common.{◌≡◌, false}
 use Rattle.ft_model.specs.TableUses.{passes_cap}
-use Rattle.ft_growth.specs.declared.adding.Added.TheVariants as added
+use Rattle.ft_table_calls.specs.declared.adding.Added.TheVariants as added
 use Rattle.ft_trace.specs.Holds.{known_state}
 use Rattle.ft_bank.specs.Passes.{shape_of, view}
 use Rattle.ft_merging.proofs.JoinedCalls.{joins_leaves, joins_nothing, made_here}

@@ -21,9 +21,9 @@ use Rattle.ft_search.specs.OneEntryWrites.{HasTable, MayWriteEntries}
 use Rattle.ft_search.proofs.Changing.{kind_is}
 use Rattle.ft_search.proofs.ReadyCommits.{whole_root, whole_write}
 use Rattle.ft_search.proofs.Puts.{table_class}
-use Rattle.ft_adding.specs.KeyGrowth.{keys_take}
-use Rattle.ft_adding.proofs.Keyed.{use_known}
-use Rattle.ft_adding.proofs.Placed.{use_with}
+use Rattle.ft_new_keys.specs.KeyGrowth.{keys_take}
+use Rattle.ft_new_keys.proofs.Keyed.{use_known}
+use Rattle.ft_new_keys.proofs.Placed.{use_with}
 use Rattle.ft_merging.specs.Joining.{join_takes, joined}
 use Rattle.ft_merging.specs.Parting.{parted}
 use Rattle.ft_merging.specs.Internal.JoiningSteps.{IsJoining}

@@ -28,10 +28,10 @@ use Rattle.ft_search.specs.declared.spots.Spot.TheVariants as spot
 use Rattle.ft_search.specs.Rounds.{kind_by}
 use Rattle.ft_search.specs.OneEntryWrites.{WritesEntries}
 use Rattle.ft_search.proofs.OtherValues.{ValueLaws}
-use Rattle.ft_adding.specs.declared.counts.Counts.{Counts}
-use Rattle.ft_adding.specs.KeyGrowth.{IsFreeFor}
-use Rattle.ft_adding.specs.Placing.{IsUnused, StoresAs, with_entry}
-use Rattle.ft_adding.proofs.Placed.{PlaceLaws, pair_for}
+use Rattle.ft_new_keys.specs.declared.counts.Counts.{Counts}
+use Rattle.ft_new_keys.specs.KeyGrowth.{IsFreeFor}
+use Rattle.ft_new_keys.specs.Placing.{IsUnused, StoresAs, with_entry}
+use Rattle.ft_new_keys.proofs.Placed.{PlaceLaws, pair_for}
 use Rattle.ft_merging.specs.Joining.{joined}
 use Rattle.ft_merging.specs.Internal.JoiningSteps.{IsJoining, IsSought, KeepsBelow, pair_in, stored_puts}
 use Rattle.ft_merging.proofs.Joined.{inside, joining_dead, joining_loaded, joining_may, joining_new, joining_there, new_room, stores, there_low}

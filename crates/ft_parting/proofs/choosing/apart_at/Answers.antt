@@ -17,7 +17,7 @@ use Rattle.ft_bank.specs.Passes.{shape_of, view}
 use Rattle.ft_bank.specs.TableNames.{table_id}
 use Rattle.ft_bank.proofs.TableAddresses.{named}
 use Rattle.ft_bank.proofs.KnownAfterWrites.{loaded_held, loaded_then, work_knows}
-use Rattle.ft_adding.proofs.FilledTables.{room_of_way, word_here}
+use Rattle.ft_new_keys.proofs.FilledTables.{room_of_way, word_here}
 use Rattle.ft_parting.proofs.Chosen.{apart_dead, apart_found, apart_here, gone_words, live_words, never_words, set_says}
 use Rattle.ft_parting.proofs.choosing.apart_at.Goals as goal
 use Rattle.ft_parting.proofs.choosing.apart_at.Goals.{Start, After-key_at, After-word_of-hash, After-has_key}

@@ -2,9 +2,9 @@ use Rattle.std.proofs.Common.{refl, ◌∙◌, arith}
 use Rattle.ft_trace.specs.Addresses.{class_of}
 use Rattle.ft_bank.specs.Passes.{shape_of, view}
 use Rattle.ft_bank.specs.TableNames.{table_id}
-use Rattle.ft_growth.proofs.Rooting.{filled_same, filled_then}
-use Rattle.ft_adding.proofs.Grown.{knows_filled}
-use Rattle.ft_adding.proofs.FilledTables.{room_of_way}
+use Rattle.ft_table_calls.proofs.Rooting.{filled_same, filled_then}
+use Rattle.ft_new_keys.proofs.Grown.{knows_filled}
+use Rattle.ft_new_keys.proofs.FilledTables.{room_of_way}
 use Rattle.ft_keys.specs.declared.walk.Way.TheVariants as way
 use Rattle.ft_search.proofs.Puts.{table_class}
 use Rattle.ft_parting.proofs.choosing.choose_all.Goals as goal

@@ -23,10 +23,10 @@ use Rattle.ft_bank.specs.TableNames.{table_id}
 use Rattle.ft_bank.specs.Whole.{OnlyLoaded}
 use Rattle.ft_bank.proofs.TableAddresses.{class_is}
 use Rattle.ft_bank.proofs.KnownAfterWrites.{loaded_held, work_knows}
-use Rattle.ft_growth.proofs.Rooting.{filled_then, loaded_filled}
+use Rattle.ft_table_calls.proofs.Rooting.{filled_then, loaded_filled}
 use Rattle.ft_search.proofs.Puts.{few_places, table_class}
-use Rattle.ft_adding.proofs.FilledTables.{room_of_way}
-use Rattle.ft_adding.proofs.Grown.{same_filled}
+use Rattle.ft_new_keys.proofs.FilledTables.{room_of_way}
+use Rattle.ft_new_keys.proofs.Grown.{same_filled}
 use Rattle.ft_merging.proofs.JoinedReads.{knows_loaded, none_found}
 use Rattle.ft_parting.specs.Choosing.{IsChosen, apart_pair, chosen, serial_at}
 use Rattle.ft_parting.proofs.Choices.{chosen_count, chosen_more, chosen_room, chosen_stays, some_apart}

@@ -14,11 +14,11 @@ use Rattle.ft_trace.specs.Kinds.{rows}
 use Rattle.ft_trace.specs.ContainerStates.{ContainerState}
 use Rattle.ft_bank.specs.Passes.{shape_of, view}
 use Rattle.ft_bank.specs.TableNames.{table_id}
-use Rattle.ft_growth.specs.Adding.{OnlyFilled}
-use Rattle.ft_growth.proofs.Rooting.{filled_then}
-use Rattle.ft_adding.specs.KeyGrowth.{KnowsKeyed}
-use Rattle.ft_adding.proofs.Grown.{knows_filled, same_filled}
-use Rattle.ft_adding.proofs.Keyed.{counts_known}
+use Rattle.ft_table_calls.specs.Adding.{OnlyFilled}
+use Rattle.ft_table_calls.proofs.Rooting.{filled_then}
+use Rattle.ft_new_keys.specs.KeyGrowth.{KnowsKeyed}
+use Rattle.ft_new_keys.proofs.Grown.{knows_filled, same_filled}
+use Rattle.ft_new_keys.proofs.Keyed.{counts_known}
 use Rattle.ft_merging.specs.Parting.{parted}
 use Rattle.ft_merging.proofs.ThinningEnds.{is_set}
 use Rattle.ft_parting.specs.Choosing.{HasChosen, IsChosen, chosen}

@@ -12,8 +12,8 @@ use Rattle.ft_trace.specs.Kinds.{rows}
 use Rattle.ft_bank.specs.declared.table.Table.{Table}
 use Rattle.ft_bank.specs.Passes.{shape_of, view}
 use Rattle.ft_bank.specs.TableNames.{table_id}
-use Rattle.ft_adding.specs.KeyGrowth.{KnowsKeyed}
-use Rattle.ft_adding.proofs.Grown.{same_filled}
+use Rattle.ft_new_keys.specs.KeyGrowth.{KnowsKeyed}
+use Rattle.ft_new_keys.proofs.Grown.{same_filled}
 use Rattle.ft_parting.specs.Choosing.{HasChosen, IsChosen, chosen}
 use Rattle.ft_parting.proofs.Chosen.{none_there, set_rule, set_words}
 use Rattle.ft_parting.proofs.Choices.{blank_has, chosen_own}

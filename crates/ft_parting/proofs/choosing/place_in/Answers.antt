@@ -1,6 +1,6 @@
 use Rattle.std.proofs.Common.{subst}
 use Rattle.ft_bank.specs.Passes.{IsPassOf}
-use Rattle.ft_adding.proofs.FilledTables.{ran_fresh}
+use Rattle.ft_new_keys.proofs.FilledTables.{ran_fresh}
 use Rattle.ft_parting.proofs.choosing.place_in.Goals as goal
 
 pub returns-clause-pass : goal.returns-clause-pass

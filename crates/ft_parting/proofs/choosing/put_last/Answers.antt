@@ -15,8 +15,8 @@ use Rattle.ft_bank.specs.Passes.{view}
 use Rattle.ft_bank.specs.TableNames.{table_id}
 use Rattle.ft_bank.proofs.TableAddresses.{class_is}
 use Rattle.ft_search.proofs.WordPlaces.{mask_is}
-use Rattle.ft_adding.specs.Fresh.{fresh_words}
-use Rattle.ft_adding.proofs.FilledTables.{ran_fresh, word_here}
+use Rattle.ft_new_keys.specs.Fresh.{fresh_words}
+use Rattle.ft_new_keys.proofs.FilledTables.{ran_fresh, word_here}
 use Rattle.ft_parting.proofs.choosing.put_last.Goals as goal
 
 pub mask_of-old_mask-requires : goal.mask_of-old_mask-requires

@@ -6,7 +6,7 @@ use Rattle.ft_trace.specs.Holds.{known_state}
 use Rattle.ft_bank.specs.declared.table.Table.{Table}
 use Rattle.ft_bank.specs.Passes.{shape_of, view}
 use Rattle.ft_search.proofs.Calling.{loaded_same}
-use Rattle.ft_adding.specs.KeyGrowth.{KnowsKeyed}
+use Rattle.ft_new_keys.specs.KeyGrowth.{KnowsKeyed}
 use Rattle.ft_merging.proofs.ThinningEnds.{is_set}
 use Rattle.ft_parting.proofs.Chosen.{none_there}
 use Rattle.ft_parting.proofs.PartedSets.{new_length}

@@ -7,8 +7,8 @@ use Rattle.ft_search.specs.OneEntryWrites.{MayWriteEntries}
 use Rattle.ft_search.proofs.Calling.{loaded_same}
 use Rattle.ft_search.proofs.Changing.{kind_is}
 use Rattle.ft_search.proofs.Spotting.{may_loaded}
-use Rattle.ft_adding.specs.KeyGrowth.{KnowsKeyed}
-use Rattle.ft_adding.proofs.Taken.{has_loaded}
+use Rattle.ft_new_keys.specs.KeyGrowth.{KnowsKeyed}
+use Rattle.ft_new_keys.proofs.Taken.{has_loaded}
 use Rattle.ft_merging.specs.Joining.{joined}
 use Rattle.ft_merging.specs.Parting.{PartsSets}
 use Rattle.ft_merging.proofs.JoinedSame.{known_bare, known_itself, none_joined}

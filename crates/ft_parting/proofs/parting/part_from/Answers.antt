@@ -9,9 +9,9 @@ use Rattle.ft_bank.specs.Passes.{shape_of, view}
 use Rattle.ft_bank.specs.Whole.{OnlyLoaded}
 use Rattle.ft_bank.proofs.KnownAfterWrites.{loaded_held, loaded_then, work_knows}
 use Rattle.ft_search.proofs.Spotting.{may_loaded}
-use Rattle.ft_adding.specs.Placing.{AreCounts}
-use Rattle.ft_adding.proofs.Present.{may_add}
-use Rattle.ft_adding.proofs.Taken.{has_loaded}
+use Rattle.ft_new_keys.specs.Placing.{AreCounts}
+use Rattle.ft_new_keys.proofs.Present.{may_add}
+use Rattle.ft_new_keys.proofs.Taken.{has_loaded}
 use Rattle.ft_merging.specs.Joining.{new_keys}
 use Rattle.ft_merging.proofs.ThinningEnds.{is_set}
 use Rattle.ft_merging.proofs.JoinedReads.{knows_loaded}

@@ -5,10 +5,10 @@ use Rattle.ft_keys.specs.declared.walk.Way.TheVariants as way
 use Rattle.ft_trace.specs.Holds.{known_state}
 use Rattle.ft_bank.specs.declared.table.Table.{Table}
 use Rattle.ft_bank.specs.Passes.{shape_of, view}
-use Rattle.ft_growth.specs.Adding.{IsAdded}
+use Rattle.ft_table_calls.specs.Adding.{IsAdded}
 use Rattle.ft_search.proofs.Changing.{kind_is}
-use Rattle.ft_adding.specs.KeyGrowth.{MayAddKey, keys_take}
-use Rattle.ft_adding.proofs.Keyed.{use_known}
+use Rattle.ft_new_keys.specs.KeyGrowth.{MayAddKey, keys_take}
+use Rattle.ft_new_keys.proofs.Keyed.{use_known}
 use Rattle.ft_merging.specs.Joining.{new_keys}
 use Rattle.ft_merging.proofs.ThinningEnds.{is_set}
 use Rattle.ft_merging.proofs.JoinedCalls.{made_here}

@@ -6,11 +6,11 @@ use Rattle.ft_model.specs.Classes.{most_elements, set_class}
 use Rattle.ft_model.specs.Contents.{SetContent, those_not_in}
 use Rattle.ft_model.specs.TableUses.{outgrows_set, passes_cap}
 use Rattle.ft_model.specs.Worlds.{set_of}
-use Rattle.ft_growth.specs.Adding.{IsAdded}
+use Rattle.ft_table_calls.specs.Adding.{IsAdded}
 use Rattle.ft_trace.specs.Holds.{known_state}
 use Rattle.ft_bank.specs.Passes.{shape_of, view}
-use Rattle.ft_adding.specs.KeyGrowth.{use_of}
-use Rattle.ft_adding.proofs.Keyed.{use_known}
+use Rattle.ft_new_keys.specs.KeyGrowth.{use_of}
+use Rattle.ft_new_keys.proofs.Keyed.{use_known}
 use Rattle.ft_merging.specs.Parting.{part_takes, parted}
 use Rattle.ft_merging.proofs.ThinningEnds.{is_set}
 use Rattle.ft_merging.proofs.PartedHere.{part_draws}

@@ -19,14 +19,14 @@ use Rattle.ft_bank.specs.Passes.{shape_of, view}
 use Rattle.ft_bank.specs.TableNames.{table_id, root_for}
 use Rattle.ft_bank.specs.WriteSteps.{MayHave}
 use Rattle.ft_bank.proofs.TableAddresses.{class_is}
-use Rattle.ft_growth.specs.Adding.{Retires}
-use Rattle.ft_growth.proofs.Rooting.{filled_wrote, taken_out}
+use Rattle.ft_table_calls.specs.Adding.{Retires}
+use Rattle.ft_table_calls.proofs.Rooting.{filled_wrote, taken_out}
 use Rattle.ft_search.proofs.Changing.{kind_is}
-use Rattle.ft_adding.specs.KeyGrowth.{MayGrowKeyed}
-use Rattle.ft_adding.specs.Placing.{AreCounts}
-use Rattle.ft_adding.proofs.Grown.{filled_has, grow_filled, same_filled}
-use Rattle.ft_adding.proofs.Keyed.{counts_known, fresh_other}
-use Rattle.ft_adding.proofs.Taken.{tried_has, tried_knows, tried_may, tried_words}
+use Rattle.ft_new_keys.specs.KeyGrowth.{MayGrowKeyed}
+use Rattle.ft_new_keys.specs.Placing.{AreCounts}
+use Rattle.ft_new_keys.proofs.Grown.{filled_has, grow_filled, same_filled}
+use Rattle.ft_new_keys.proofs.Keyed.{counts_known, fresh_other}
+use Rattle.ft_new_keys.proofs.Taken.{tried_has, tried_knows, tried_may, tried_words}
 use Rattle.ft_replacing.specs.Replacing.{Replaces, copied}
 use Rattle.ft_replacing.proofs.Replaced.{copy_room, dict_of_kind, pairs_few, replaces_later}
 use Rattle.ft_replacing.proofs.copying.copy_in_taken.Goals as goal

@@ -16,17 +16,17 @@ use Rattle.ft_bank.specs.Passes.{shape_of, view}
 use Rattle.ft_bank.specs.Whole.{OnlyLoaded}
 use Rattle.ft_bank.proofs.ShownReplies.{serials_have_room}
 use Rattle.ft_bank.proofs.KnownAfterWrites.{loaded_held, loaded_then, work_knows}
-use Rattle.ft_growth.proofs.Rooting.{loaded_filled}
-use Rattle.ft_growth.specs.declared.adding.Added.TheVariants as added
+use Rattle.ft_table_calls.proofs.Rooting.{loaded_filled}
+use Rattle.ft_table_calls.specs.declared.adding.Added.TheVariants as added
 use Rattle.ft_search.specs.OneEntryWrites.{MayWriteEntries}
 use Rattle.ft_search.proofs.Changing.{kind_is}
 use Rattle.ft_search.proofs.Spotting.{may_loaded}
-use Rattle.ft_keyed.specs.Clearing.{HasRootOf}
-use Rattle.ft_adding.specs.KeyGrowth.{KnowsKeyed}
-use Rattle.ft_adding.specs.Placing.{AreCounts}
-use Rattle.ft_adding.proofs.Grown.{filled_has}
-use Rattle.ft_adding.proofs.Keyed.{counts_known}
-use Rattle.ft_adding.proofs.Present.{may_add}
+use Rattle.ft_whole_tables.specs.Clearing.{HasRootOf}
+use Rattle.ft_new_keys.specs.KeyGrowth.{KnowsKeyed}
+use Rattle.ft_new_keys.specs.Placing.{AreCounts}
+use Rattle.ft_new_keys.proofs.Grown.{filled_has}
+use Rattle.ft_new_keys.proofs.Keyed.{counts_known}
+use Rattle.ft_new_keys.proofs.Present.{may_add}
 use Rattle.ft_replacing.specs.Replacing.{IsReplaced, Replaces, copied}
 use Rattle.ft_replacing.proofs.Replaced.{copy_clears, dict_of_kind, pairs_few, replaces_later}
 use Rattle.ft_replacing.proofs.copying.copy_into.Goals as goal

@@ -11,10 +11,10 @@ use Rattle.ft_trace.specs.Holds.{held_words, in_hand, known_state}
 use Rattle.ft_bank.specs.Passes.{shape_of, view}
 use Rattle.ft_bank.specs.TableNames.{table_id}
 use Rattle.ft_bank.proofs.TableAddresses.{class_is, named}
-use Rattle.ft_growth.proofs.Rooting.{filled_then}
-use Rattle.ft_adding.specs.Fresh.{IsFilledWith}
-use Rattle.ft_adding.proofs.FilledTables.{room_of_way}
-use Rattle.ft_adding.proofs.Keyed.{counts_known}
+use Rattle.ft_table_calls.proofs.Rooting.{filled_then}
+use Rattle.ft_new_keys.specs.Fresh.{IsFilledWith}
+use Rattle.ft_new_keys.proofs.FilledTables.{room_of_way}
+use Rattle.ft_new_keys.proofs.Keyed.{counts_known}
 use Rattle.ft_replacing.specs.Replacing.{renumbered}
 use Rattle.ft_replacing.proofs.Numbered.{numbered_filled}
 use Rattle.ft_replacing.proofs.copying.fill_copy.Goals as goal

@@ -3,8 +3,8 @@ use Rattle.ft_model.specs.declared.call.Call.TheVariants as call
 use Rattle.ft_model.specs.declared.call.SetCall.TheVariants as set
 use Rattle.ft_model.specs.declared.reply.Reply.TheVariants as reply
 use Rattle.ft_bank.specs.Passes.{shape_of, view}
-use Rattle.ft_growth.proofs.GrowthMidst.{making_added}
-use Rattle.ft_adding.proofs.Cursors.{puts_cursors}
+use Rattle.ft_table_calls.proofs.GrowthMidst.{making_added}
+use Rattle.ft_new_keys.proofs.Cursors.{puts_cursors}
 use Rattle.ft_set.proofs.adds.try_add.Goals as goal
 
 pub let_go-requires : goal.let_go-requires

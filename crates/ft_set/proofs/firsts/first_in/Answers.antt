@@ -3,8 +3,8 @@ use Rattle.ft_bank.specs.Passes.{shape_of}
 use Rattle.ft_bank.specs.TableNames.{table_id}
 use Rattle.ft_reads.specs.Reads.{Reads}
 use Rattle.ft_reads.proofs.Agreeing.{reads_map, reads_then}
-use Rattle.ft_keyed.specs.TableEntries.{IsKeyAt, OfUsed}
-use Rattle.ft_keyed.specs.Places.{IsFirst}
+use Rattle.ft_whole_tables.specs.TableEntries.{IsKeyAt, OfUsed}
+use Rattle.ft_whole_tables.specs.Places.{IsFirst}
 use Rattle.ft_set.specs.declared.firsts.First.{First}
 use Rattle.ft_set.specs.Firsts.{IsFirstIn}
 use Rattle.ft_set.proofs.Popping.{first_found, first_none}

@@ -11,7 +11,7 @@ use Rattle.ft_search.specs.OneEntryWrites.{Leaves, MayWriteEntries, without_key}
 use Rattle.ft_search.proofs.Calling.{answer_loaded, written_made}
 use Rattle.ft_search.proofs.Running.{did_log}
 use Rattle.ft_reads.proofs.Agreeing.{reads_loaded}
-use Rattle.ft_keyed.proofs.KnownContents.{read_later, read_may}
+use Rattle.ft_whole_tables.proofs.KnownContents.{read_later, read_may}
 use Rattle.ft_set.specs.declared.firsts.First.{First}
 use Rattle.ft_set.specs.Firsts.{IsFirstOf}
 use Rattle.ft_set.proofs.Popping.{popped_entry, popped_leaves, popped_raises, popped_table}

@@ -7,7 +7,7 @@ use Rattle.ft_bank.specs.Passes.{shape_of, view}
 use Rattle.ft_section.specs.declared.answers.Objects.TheVariants.{Two}
 use Rattle.ft_section.specs.Trying.{SectionsAfter}
 use Rattle.ft_section.proofs.TriedSections.{let_gone}
-use Rattle.ft_growth.proofs.GrowthMidst.{gone_as, making_added}
+use Rattle.ft_table_calls.proofs.GrowthMidst.{gone_as, making_added}
 use Rattle.ft_search.proofs.Calling.{making_may}
 use Rattle.ft_merging.proofs.JoinedCalls.{joins_cursors}
 use Rattle.ft_merging.proofs.Pairs.{are_in, has_each}

@@ -2,7 +2,7 @@ use Rattle.std.proofs.Common.{map, sym, subst}
 use Rattle.std.proofs.Math.Logic.{∥∥₁_map}
 use Rattle.ft_model.specs.declared.entry.Storage.TheVariants as storage
 use Rattle.ft_bank.specs.Closings.{found_in, had_in, lists_in}
-use Rattle.ft_closing.specs.Numbering.{IsFor}
+use Rattle.ft_bank_history.specs.Numbering.{IsFor}
 use Rattle.ft_engine.proofs.KeptLists.{closed_first, closed_kept}
 use Rattle.ft_engine.proofs.engine.Engine.close.Goals as goal
 

@@ -1,0 +1,62 @@
+-- The puts of a new entry by a pass that writes its container.
+use Rattle.std.proofs.Common.{◌≡◌, ℕ, suc, ◌+◌, ◌%◌, ◌<◌, true, false, List, refl, sym, ap, ◌∙◌, subst, arith, get_or-set_other}
+use Rattle.std.specs.Prelude.{slice_index, slice_set}
+use Rattle.ft_model.specs.declared.content.Content.{Content}
+use Rattle.ft_model.specs.declared.script.Kind.{Kind}
+use Rattle.ft_layout.specs.declared.slot.Pair.{Pair}
+use Rattle.ft_layout.specs.Words.{entry_words}
+use Rattle.ft_keys.specs.Accesses.{Allows}
+use Rattle.ft_keys.specs.TableChanges.{place_puts}
+use Rattle.ft_trace.specs.declared.Shape.{Shape}
+use Rattle.ft_trace.specs.declared.View.{View}
+use Rattle.ft_trace.specs.Acts.{has_committed}
+use Rattle.ft_trace.specs.Addresses.{class_of, slots}
+use Rattle.ft_trace.specs.Holds.{held_words, known_state}
+use Rattle.ft_trace.specs.Kinds.{rows, IsKeyed}
+use Rattle.ft_trace.specs.Pictures.{ContainerWords, root_in, entry_offset, entry_field}
+use Rattle.ft_trace.specs.ContainerStates.{ContainerState, kind_in}
+use Rattle.ft_bank.specs.declared.table.Table.{Table}
+use Rattle.ft_bank.specs.Passes.{view}
+use Rattle.ft_bank.specs.TableNames.{table_id}
+use Rattle.ft_bank.specs.WriteSteps.{IsCareful}
+use Rattle.ft_bank.proofs.KnownAfterWrites.{work_knows}
+use Rattle.ft_search.specs.declared.words.TableWords.{TableWords}
+use Rattle.ft_search.specs.TableWords.{KnowsWords, MayMake, MadeAccess}
+use Rattle.ft_search.specs.OneEntryWrites.{WritesEntries, raised_at}
+use Rattle.ft_search.proofs.Puts.{few_places}
+use Rattle.ft_new_keys.specs.Placing.{IsUnused, counted}
+use Rattle.ft_new_keys.proofs.Laid.{AreCarefulCalls, allows_calls, careful_at}
+use Rattle.ft_new_keys.proofs.Stages.{as_careful, in_time, opened, open_careful, open_odd, place_careful}
+
+-- the counts of a block leave its root
+pub counts_root : (b : List ℕ) (count fill next : ℕ) → slice_index (counted b count fill next) 0 ≡ slice_index b 0
+counts_root b count fill next =
+    get_or-set_other (slice_set (slice_set b 1 count) 2 fill) 3 0 next 0 (λ e. absurd (omega (arith, e)))
+    ∙ (get_or-set_other (slice_set b 1 count) 2 0 fill 0 (λ e. absurd (omega (arith, e)))
+    ∙ get_or-set_other b 1 0 count 0 (λ e. absurd (omega (arith, e))))
+
+-- the version of the entry may be made odd
+pub pair_opens : (k : Shape) (o : ℕ) (table : Table) (v : View) (slot place : ℕ) → v.shape ≡ k → WritesEntries k o table v → has_committed o v.log ≡ false → IsUnused (slots (class_of (table_id table))) (rows (kind_in k.starts o) (class_of (table_id table))) (held_words o v).table slot place
+    → IsCareful v o (table_id table) (entry_offset (slots (class_of (table_id table))) place 0) (entry_field (slots (class_of (table_id table))) (held_words o v).table place 0 + 1)
+pair_opens k o table v slot place shape writes early un =
+    let c = class_of (table_id table) in
+    let kind = kind_in k.starts o in
+    let at = entry_offset (slots c) place 0 in
+    let x = entry_field (slots c) (held_words o v).table place 0 + 1 in
+    careful_at k o (table_id table) at x (held_words o v).table (known_state o v).content v shape early refl refl
+    (as_careful kind writes.keyed c (held_words o v).table (known_state o v).content at x (open_careful (slots c) (rows kind c) (held_words o v).table slot place un _))
+    (in_time kind c at x (open_odd (slots c) (rows kind c) (held_words o v).table slot place un))
+
+-- then the other words may be put
+pub pair_allowed : (s : TableWords) (k : Shape) (x : ContainerWords) (slot place : ℕ) (pair : Pair) → (view s.pass.now).shape ≡ k → IsKeyed (kind_in k.starts s.o) → slots (class_of (table_id s.table)) ≡ s.mask + 1 → KnowsWords s → has_committed s.o (view s.pass.now).log ≡ false
+    → held_words s.o (view s.pass.now) ≡ raised_at (table_id s.table) place x → IsUnused (slots (class_of (table_id s.table))) (rows (kind_in k.starts s.o) (class_of (table_id s.table))) x.table slot place → Allows MadeAccess MayMake s (place_puts slot place (entry_words pair))
+pair_allowed s k x slot place pair shape keyed size knows early words un =
+    let c = class_of (table_id s.table) in
+    let d = (known_state s.o (view s.pass.now)).content in
+    allows_calls s k shape size knows early (place_puts slot place (entry_words pair))
+    (subst (λ (z : ContainerWords). AreCarefulCalls (kind_in k.starts s.o) c d z.table (place_puts slot place (entry_words pair))) (sym words)
+    (place_careful (kind_in k.starts s.o) keyed c d x.table slot place un pair))
+
+-- places are few
+pub few_used : (k : Shape) (o : ℕ) (table : Table) (v : View) (slot place : ℕ) (words : List ℕ) → WritesEntries k o table v → IsUnused (slots (class_of (table_id table))) (rows (kind_in k.starts o) (class_of (table_id table))) words slot place → place < 65536
+few_used k o table v slot place words writes un = few_places k table (kind_in k.starts o) place writes.table_in writes.keyed un.low

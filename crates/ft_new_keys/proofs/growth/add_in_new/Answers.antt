@@ -1,0 +1,201 @@
+use Rattle.std.proofs.Common.{◌≡◌, ◌≢◌, ℕ, suc, ◌+◌, ◌^◌, ◌<◌, ◌≤◌, List, [], ◌∷◌, filter, Option, Some, None, refl, sym, ap, ◌∙◌, subst, arith}
+use Rattle.std.specs.Prelude.{All, slice_set}
+use Rattle.ft_model.specs.declared.content.Content.{Content}
+use Rattle.ft_model.specs.declared.script.Kind.{Kind}
+use Rattle.ft_model.specs.Worlds.{kind_of, length_of}
+use Rattle.ft_layout.specs.declared.slot.Pair.{Pair}
+use Rattle.ft_layout.specs.Containers.{class_mask}
+use Rattle.ft_layout.specs.Tables.{UsedEntry, is_live, hash_of}
+use Rattle.ft_keys.specs.Ways.{IsTableOf}
+use Rattle.ft_trace.specs.declared.View.{View}
+use Rattle.ft_trace.specs.Addresses.{class_of, slots}
+use Rattle.ft_trace.specs.Holds.{held_words, known_state, in_hand}
+use Rattle.ft_trace.specs.Kinds.{rows}
+use Rattle.ft_trace.specs.Pictures.{ContainerWords, root_in}
+use Rattle.ft_trace.specs.ContainerStates.{ContainerState, changes, kind_in}
+use Rattle.ft_bank.specs.Passes.{shape_of, view}
+use Rattle.ft_bank.specs.TableNames.{table_id}
+use Rattle.ft_bank.specs.Whole.{OnlyPut}
+use Rattle.ft_bank.proofs.TableAddresses.{class_is}
+use Rattle.ft_bank.proofs.KnownAfterWrites.{loaded_held, loaded_put, put_then, work_knows}
+use Rattle.ft_search.specs.Held.{IsHeldAt}
+use Rattle.ft_search.specs.Rounds.{kind_by}
+use Rattle.ft_search.specs.OneEntryWrites.{Leaves, WritesEntries}
+use Rattle.ft_search.proofs.Changing.{Changing, kind_is}
+use Rattle.ft_search.proofs.Puts.{writes_on}
+use Rattle.ft_new_keys.specs.declared.counts.Counts.{Counts}
+use Rattle.ft_new_keys.specs.Fresh.{IsFilledWith}
+use Rattle.ft_new_keys.specs.KeyGrowth.{MayGrowKeyed, IsFreeFor}
+use Rattle.ft_new_keys.specs.Placing.{AreCounts, IsUnused, with_entry, with_key}
+use Rattle.ft_new_keys.proofs.FinishedKeys.{Since, adds_leaves, key_finishes, since_root}
+use Rattle.ft_new_keys.proofs.Grown.{grow_filled, grown_wrote, leaves_filled, same_filled, filled_has}
+use Rattle.ft_new_keys.proofs.Keyed.{counts_known, use_known}
+use Rattle.ft_new_keys.proofs.Placed.{Fresh, PlaceLaws, pair_for, place_unused, places_key, use_with}
+use Rattle.ft_new_keys.proofs.Rooted.{absent_in, filled_says, fresh_rooted, shut_rooted}
+use Rattle.ft_new_keys.proofs.Wanted.{grown_use}
+use Rattle.ft_new_keys.proofs.growth.add_in_new.Goals as goal
+use Rattle.ft_new_keys.proofs.growth.add_in_new.Goals.{After-fill, After-put_key}
+
+laws : After-fill → PlaceLaws
+laws c =
+    let v = c.versions_change_nothing.ensures in
+    record {
+      versions = λ walk room texts mask used words place version within table. v.entries walk room texts mask used words _ within (v.entry mask words place version) table;
+      first_pair = c.used_entries_follow_a_dict.ensures.first;
+      first_element = c.used_entries_follow_a_set.ensures.first;
+      placed = c.placed_pairs_are_of_a_table.ensures;
+      pair_added = c.words_follow_a_dict.ensures.added;
+      element_added = c.words_follow_a_set.ensures.added;
+      head = c.words_are_of_one_content.ensures.head;
+    }
+
+pub fill-requires-clause-fill : goal.fill-requires-clause-fill
+fill-requires-clause-fill c =
+    let a = c.args in
+    let k = shape_of a.bank.now in
+    let v = view a.pass.now in
+    let head = c.words_are_of_one_content.ensures.head k.texts (held_words a.o v).block (0 ∷ 0 ∷ (held_words a.o v).table) (known_state a.o v).table (known_state a.o v).content c.requires.may.keyed.stands in
+    sym c.requires.counts.1 ∙ head.fill_is
+
+pub fill-requires-clause-room : goal.fill-requires-clause-room
+fill-requires-clause-room c =
+    let a = c.args in
+    let n = (counts_known c.words_are_of_one_content.ensures.head (shape_of a.bank.now) a.o a.old (view a.pass.now) a.counts c.requires.may.keyed c.requires.counts).0 in
+    let room = c.requires.room in
+    omega (arith, n, room)
+
+-- ---- the table is filled
+
+grow : (c : After-fill) → MayGrowKeyed (shape_of c.args.bank.now) c.args.o c.args.old c.args.table (view c.fill.new.pass)
+grow c =
+    let a = c.args in
+    grow_filled (shape_of a.bank.now) a.o a.old a.table (view a.pass.now) (view c.fill.new.pass) c.requires.pass.1 c.fill.ensures.only c.requires.may
+
+same : (c : After-fill) → (held_words c.args.o (view c.fill.new.pass) ≡ held_words c.args.o (view c.args.pass.now)) × (known_state c.args.o (view c.fill.new.pass) ≡ known_state c.args.o (view c.args.pass.now))
+same c =
+    let a = c.args in
+    same_filled (shape_of a.bank.now) a.o a.old (view a.pass.now) (view c.fill.new.pass) c.requires.pass.1 c.fill.ensures.only c.requires.may.keyed
+
+filled : (c : After-fill) → IsFilledWith (shape_of c.args.bank.now).texts (class_of (table_id c.args.table)) (known_state c.args.o (view c.fill.new.pass)).content (in_hand (table_id c.args.table) (view c.fill.new.pass))
+filled c =
+    let a = c.args in
+    subst (λ (z : ContainerState). IsFilledWith (shape_of a.bank.now).texts (class_of (table_id a.table)) z.content (in_hand (table_id a.table) (view c.fill.new.pass))) (sym (same c).1) c.fill.ensures.filled
+
+absent : (c : After-fill) → IsHeldAt (known_state c.args.o (view c.fill.new.pass)).content c.args.key None
+absent c = subst (λ (z : ContainerState). IsHeldAt z.content c.args.key None) (sym (same c).1) c.requires.absent
+
+counts : (c : After-fill) → AreCounts (held_words c.args.o (view c.fill.new.pass)).block c.args.counts
+counts c = subst (λ (z : ContainerWords). AreCounts z.block c.args.counts) (sym (same c).0) c.requires.counts
+
+kind_eq : (c : After-fill) → kind_of (known_state c.args.o (view c.fill.new.pass)).content ≡ kind_in (shape_of c.args.bank.now).starts c.args.o
+kind_eq c = kind_is (shape_of c.args.bank.now) (view c.fill.new.pass) c.args.o c.fill.ensures.pass.1 c.fill.new.pass.possible (grow c).keyed.locked
+
+pub begin_in-requires-clause-may : goal.begin_in-requires-clause-may
+begin_in-requires-clause-may c = grow (goal.at.begin_in-requires-clause-may c).After-fill
+
+pub begin_in-requires-clause-filled : goal.begin_in-requires-clause-filled
+begin_in-requires-clause-filled c = filled (goal.at.begin_in-requires-clause-filled c).After-fill
+
+-- ---- the root names it
+
+pub free_slot-slot-requires-clause-absent : goal.free_slot-slot-requires-clause-absent
+free_slot-slot-requires-clause-absent c =
+    let a = c.args in
+    let k = shape_of a.bank.now in
+    let d = (goal.at.free_slot-slot-requires-clause-absent c).After-fill in
+    let x = view c.fill.new.pass in
+    let l = laws d in
+    let says = filled_says l.first_pair l.first_element l.head k a.o a.old a.table x (grow d) c.fill.ensures.pass.1 c.fill.new.pass.possible (filled d) in
+    let there = absent_in k.texts _ (in_hand (table_id a.table) x) (class_of (table_id a.table)) (length_of (known_state a.o x).content) (known_state a.o x).content a.way a.key (kind_eq d ∙ c.requires.way) says (absent d) in
+    let class = class_is a.table c.requires.may.table_in.2 in
+    subst (λ (z : ℕ × ContainerWords). (used : List UsedEntry) × IsTableOf a.way k.texts (class_mask z.0) used (0 ∷ 0 ∷ z.1.table) × All (λ (e : UsedEntry). e.key ≢ a.key) (filter is_live used))
+    (λ i. (class i, sym c.begin_in.ensures.words i)) there
+
+-- the words once the root names the table
+abbrev rooted : After-fill → ContainerWords
+rooted c = record { block = slice_set (held_words c.args.o (view c.fill.new.pass)).block 0 (suc (table_id c.args.table)); table = in_hand (table_id c.args.table) (view c.fill.new.pass) }
+
+abbrev all : After-fill → Counts
+all c = record { count = c.args.counts.count; fill = c.args.counts.count; next = c.args.counts.next }
+
+-- what the new key finds there
+fresh : (c : After-fill) (y : ContainerWords) (slot hash : ℕ) → y ≡ rooted c → hash ≡ hash_of (shape_of c.args.bank.now).texts c.args.key → hash < 2 ^ 64 → IsFreeFor (shape_of c.args.bank.now).texts c.args.way c.args.table.class c.args.key y.table slot → Fresh (shape_of c.args.bank.now).texts (rooted c) (table_id c.args.table) slot (all c) (known_state c.args.o (view c.fill.new.pass)).content c.args.key c.args.stored
+fresh c y slot hash words is low free =
+    let a = c.args in
+    let k = shape_of a.bank.now in
+    let x = view c.fill.new.pass in
+    let l = laws c in
+    let free_here : IsFreeFor k.texts a.way a.table.class a.key (in_hand (table_id a.table) x) slot = subst (λ (z : ContainerWords). IsFreeFor k.texts a.way a.table.class a.key z.table slot) words free in
+    fresh_rooted l.first_pair l.first_element l.head k a.o a.old a.table x (grow c) c.fill.ensures.pass.1 c.fill.new.pass.possible (filled c) a.way c.requires.way slot a.counts a.key a.stored (counts c) c.requires.fits (subst (λ (z : ℕ). z < 2 ^ 64) is low) c.requires.stores c.requires.value (absent c) free_here c.requires.room
+
+pair : (c : After-fill) (hash : ℕ) → hash ≡ hash_of (shape_of c.args.bank.now).texts c.args.key → pair_for (shape_of c.args.bank.now).texts (known_state c.args.o (view c.fill.new.pass)).content c.args.key c.args.stored ≡ record { hash = hash; key = c.args.key; value = c.args.stored; serial = c.args.counts.next }
+pair c hash is =
+    let a = c.args in
+    let n = (counts_known (laws c).head (shape_of a.bank.now) a.o a.old (view c.fill.new.pass) a.counts (grow c).keyed (counts c)).1 in
+    λ i. record { hash = sym is i; key = a.key; value = a.stored; serial = sym n i }
+
+pub put_key-requires-clause-unused : goal.put_key-requires-clause-unused
+put_key-requires-clause-unused c =
+    let a = c.args in
+    let k = shape_of a.bank.now in
+    let d = (goal.at.put_key-requires-clause-unused c).After-fill in
+    let x = view c.fill.new.pass in
+    let y = view c.begin_in.new.pass in
+    let n = slots (class_of (table_id a.table)) in
+    let words = loaded_held y (view c.free_slot-slot.new.pass) a.o c.free_slot-slot.ensures.only ∙ c.begin_in.ensures.words in
+    subst (λ (z : Kind × ContainerWords). IsUnused n (rows z.0 (class_of (table_id a.table))) z.1.table c.free_slot-slot.result a.counts.count) (λ i. (kind_eq d i, sym words i))
+    (place_unused (laws d) k.texts (rooted d) (table_id a.table) c.free_slot-slot.result (all d) (known_state a.o x).content a.key a.stored (fresh d (held_words a.o y) c.free_slot-slot.result c.hash_of-hash.result c.begin_in.ensures.words c.hash_of-hash.ensures c.hash_of-hash.type_inv c.free_slot-slot.ensures.slot))
+
+puts : (c : After-put_key) → OnlyPut c.args.o (view c.begin_in.new.pass) (view c.put_key.new.pass)
+puts c =
+    let y = view c.begin_in.new.pass in
+    let z = view c.free_slot-slot.new.pass in
+    put_then y z (view c.put_key.new.pass) c.args.o (loaded_put y z c.args.o c.free_slot-slot.ensures.only) c.put_key.ensures.only
+
+pub finish_entry-requires-clause-may : goal.finish_entry-requires-clause-may
+finish_entry-requires-clause-may c =
+    let a = c.args in
+    let k = shape_of a.bank.now in
+    let v = view a.pass.now in
+    let x = view c.fill.new.pass in
+    let u = view c.put_key.new.pass in
+    let t = table_id a.table in
+    let e = c.put_key.ensures in
+    let p = (goal.at.finish_entry-requires-clause-may c).After-put_key in
+    let d = (goal.at.finish_entry-requires-clause-may c).After-fill in
+    let did = c.begin_in.ensures.did in
+    let y = view c.begin_in.new.pass in
+    let content = (known_state a.o x).content in
+    let words = loaded_held y (view c.free_slot-slot.new.pass) a.o c.free_slot-slot.ensures.only ∙ c.begin_in.ensures.words in
+    let mine = pair d c.hash_of-hash.result c.hash_of-hash.ensures in
+    let made : with_entry t c.free_slot-slot.result (all d) (pair_for k.texts content a.key a.stored) (rooted d) ≡ held_words a.o u = (λ i. with_entry t c.free_slot-slot.result (all d) (mine i) (sym words i)) ∙ sym e.words in
+    let many = (counts_known (laws d).head k a.o a.old x a.counts (grow d).keyed (counts d)).0 in
+    let first = adds_leaves a.o a.called.now a.said.now a.key a.stored v c.requires.adds c.requires.few _ (grown_use (known_state a.o v).content (class_of t) (known_state a.o v).table c.requires.takes) in
+    let leaves : Leaves a.o a.called.now a.said.now (record { content = with_key content a.key a.stored; table = use_with (class_of t) (a.counts.count + 1) }) x =
+    subst (λ (z : Content × ℕ). Leaves a.o a.called.now a.said.now (record { content = with_key z.0 a.key a.stored; table = use_with (class_of t) (z.1 + 1) }) x) (λ i. (sym (ap (λ (z : ContainerState). z.content) (same d).1) i, (ap (λ (z : ContainerState). length_of z.content) (sym (same d).1) ∙ sym many) i))
+    (leaves_filled a.o a.called.now a.said.now _ v x c.fill.ensures.only first) in
+    key_finishes a.o x u (since_root a.o t (root_in (held_words a.o x)) x (view c.begin_in.new.pass) u did.0 did.1.1 (puts p)) k a.table a.counts.count a.called.now a.said.now _ leaves c.fill.ensures.pass.1 c.requires.may.keyed.container (grow d).left
+    (λ found class has owed.
+    let owes = (grow d).owed in
+    let is : class_of t ≡ class = omega (arith, owed, owes) in
+    c.requires.adds.takes found (filled_has v x c.fill.ensures.only found has) ∙ (c.requires.takes ∙ ap (λ (n : ℕ). Some n) is))
+    (kind_eq d) (known_state a.o x).table
+    (subst (λ (z : ContainerWords). Changing k.texts t z (known_state a.o x) a.counts.count [] (record { content = with_key content a.key a.stored; table = use_with (class_of t) (a.counts.count + 1) })) made
+    (places_key (laws d) k.texts (rooted d) t c.free_slot-slot.result (all d) content a.key a.stored (fresh d (held_words a.o y) c.free_slot-slot.result c.hash_of-hash.result c.begin_in.ensures.words c.hash_of-hash.ensures c.hash_of-hash.type_inv c.free_slot-slot.ensures.slot) (shut_rooted (laws d).first_pair (laws d).first_element (laws d).head k a.o a.old a.table x (grow d) c.fill.ensures.pass.1 c.fill.new.pass.possible (filled d)) (known_state a.o x).table))
+    e.writes.root
+
+pub returns-clause-wrote : goal.returns-clause-wrote
+returns-clause-wrote c =
+    let a = c.args in
+    let v = view a.pass.now in
+    let x = view c.fill.new.pass in
+    let p = (goal.at.returns-clause-wrote c).After-put_key in
+    let d = (goal.at.returns-clause-wrote c).After-fill in
+    let did = c.begin_in.ensures.did in
+    let root : root_in (held_words a.o x) ≡ root_in (held_words a.o v) = ap root_in (same d).0 in
+    grown_wrote a.o (table_id a.table) a.called.now a.said.now c.finish_entry.result did.0 v x (view c.begin_in.new.pass) (view c.put_key.new.pass) (view c.finish_entry.new.pass) c.requires.adds.changed c.fill.ensures.only root (λ is. c.requires.other (sym root ∙ is)) (grow d).keyed.even did.1.1 did.2 (puts p) c.put_key.ensures.writes.root c.finish_entry.ensures.ends
+
+pub returns-clause-root : goal.returns-clause-root
+returns-clause-root c =
+    let a = c.args in
+    subst (λ (n : ℕ). root_in (held_words n (view c.finish_entry.new.pass)) ≡ root_in (held_words n (view c.put_key.new.pass))) c.requires.adds.changed c.finish_entry.ensures.ends.root ∙ c.put_key.ensures.writes.root

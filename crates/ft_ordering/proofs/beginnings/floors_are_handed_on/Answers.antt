@@ -1,5 +1,0 @@
-use Rattle.ft_ordering.proofs.BeforeTurns as proved
-use Rattle.ft_ordering.proofs.beginnings.floors_are_handed_on.Goals as goal
-
-pub returns : goal.returns
-returns c = proved.handed_on

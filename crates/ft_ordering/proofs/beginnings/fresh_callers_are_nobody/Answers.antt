@@ -1,5 +1,0 @@
-use Rattle.ft_ordering.proofs.BeforeTurns as proved
-use Rattle.ft_ordering.proofs.beginnings.fresh_callers_are_nobody.Goals as goal
-
-pub returns : goal.returns
-returns c = proved.fresh_nobody

@@ -1,5 +1,0 @@
-use Rattle.ft_ordering.proofs.BeforeTurns as proved
-use Rattle.ft_ordering.proofs.beginnings.new_callers_are_in_step.Goals as goal
-
-pub returns : goal.returns
-returns c = proved.new_in_step

@@ -1,5 +1,0 @@
-use Rattle.ft_ordering.proofs.FreeLocks as proved
-use Rattle.ft_ordering.proofs.beginnings.one_more_owns_none.Goals as goal
-
-pub returns : goal.returns
-returns c = proved.one_more

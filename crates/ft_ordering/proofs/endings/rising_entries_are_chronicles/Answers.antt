@@ -1,5 +1,0 @@
-use Rattle.ft_ordering.proofs.RisingEntries as proved
-use Rattle.ft_ordering.proofs.endings.rising_entries_are_chronicles.Goals as goal
-
-pub returns : goal.returns
-returns c = proved.rising_entries

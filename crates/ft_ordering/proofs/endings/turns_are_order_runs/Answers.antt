@@ -1,5 +1,0 @@
-use Rattle.ft_ordering.proofs.LastTurn as proved
-use Rattle.ft_ordering.proofs.endings.turns_are_order_runs.Goals as goal
-
-pub returns : goal.returns
-returns c = proved.turns_are_order_runs

@@ -1,5 +1,0 @@
-use Rattle.ft_ordering.proofs.InStep as proved
-use Rattle.ft_ordering.proofs.tries.tries_are_turns.Goals as goal
-
-pub returns : goal.returns
-returns c = proved.tries_are_turns

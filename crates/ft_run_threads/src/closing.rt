@@ -1,0 +1,71 @@
+//! The end of all workers: one history.
+ghost use Rattle.std.specs.Prelude.{◌≡◌, ◌+◌, OnOk, IfOk, length, map};
+ghost use Rattle.ft_bank.specs.Closings.{shape_in};
+ghost use Rattle.ft_bank.specs.Passes.{shape_of};
+ghost use Rattle.ft_engine.specs.Callers.{bank_of};
+ghost use Rattle.ft_engine.specs.DoneCallers.{IsLegalFor};
+ghost use Rattle.ft_run_threads.specs.ClosedHistories.{HasEntriesOf};
+ghost use Rattle.ft_run_threads.specs.Workers.{AreFrom, HasTakenIn, HasWorked, IsBankFor};
+
+use crate::running::Ran;
+use crate::workers::Worker;
+use ft_engine::{Caller, Engine};
+use ft_model::{Entry, Script};
+use std::alloc::{AllocError, Global};
+
+/// Takes in the worker of the next thread, and adds its list.
+#[tactic(auto, using(crate::proofs::WorkerLemmas::last_next, crate::proofs::WholeLists::made_push))]
+fn take_in(
+    engine: &Engine,
+    script: &Script,
+    caller: &mut Caller,
+    lists: &mut Vec<Vec<Entry>>,
+    worker: Worker,
+) -> Result<(), AllocError>
+    requires taken { HasTakenIn engine.now script.now caller.old (map (λ list. list.items) lists.old.items) }
+    requires worker { HasWorked engine.now script.now (length lists.old.items) worker }
+    ensures taken { OnOk result (HasTakenIn engine.now script.now caller.new (map (λ list. list.items) lists.new.items)) }
+    ensures count { OnOk result (length lists.new.items ≡ length lists.old.items + 1) }
+{
+    let _ = script;
+    if !worker.done {
+        return Err(AllocError);
+    }
+    engine.join(caller, worker.caller);
+    lists.push(worker.entries)?;
+    Ok(())
+}
+
+/// Takes in all workers in the order of the threads, and closes the engine: the history of what they were answered. It
+/// is out of memory where a worker was.
+pub(crate) fn close_all(
+    alloc: Global,
+    engine: Engine,
+    script: &Script,
+    workers: Vec<Worker>,
+) -> Result<Ran, AllocError>
+    requires bank { IsBankFor script.now (shape_of (bank_of engine)) }
+    requires workers { AreFrom (HasWorked engine script.now) 0 workers.items }
+    requires all { length workers.items ≡ (shape_of (bank_of engine)).passes }
+    ensures legal { IfOk result (λ ran. IsLegalFor script.now ran.history.items) }
+    ensures shape { IfOk result (λ ran. IsBankFor script.now (shape_in ran.closed)) }
+    ensures entries { IfOk result (λ ran. HasEntriesOf ran.closed ran.history.items) }
+{
+    // Named so that the check sees the script's rule.
+    let _parts = script.parts();
+    let mut lists = Vec::with_capacity(alloc, workers.len())?;
+    let mut each = workers.into_iter();
+    let Some(first) = each.next() else {
+        unreachable!();
+    };
+    if !first.done {
+        return Err(AllocError);
+    }
+    let mut caller = first.caller;
+    lists.push(first.entries)?;
+    for worker in each {
+        take_in(&engine, script, &mut caller, &mut lists, worker)?;
+    }
+    let (history, closed) = engine.close(alloc, caller, lists)?;
+    Ok(Ran { history, closed })
+}

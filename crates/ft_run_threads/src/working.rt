@@ -1,0 +1,164 @@
+//! Workers that make the calls of their threads.
+ghost use Rattle.std.specs.Prelude.{◌≡◌, ◌+◌, ◌<◌, IsTrue, length};
+ghost use Rattle.ft_bank.specs.Passes.{shape_of};
+ghost use Rattle.ft_engine.specs.Callers.{bank_of};
+ghost use Rattle.ft_model.specs.Histories.{calls_of};
+ghost use Rattle.ft_run_threads.specs.Workers.{AreCallsOn, AreEach, HasWorked, IsBankFor, IsMember, IsAtStart, IsOnline};
+
+use crate::gate::Gate;
+use crate::workers::Worker;
+use ft_engine::{Called, Engine};
+use ft_model::{Call, Entry, Script, Thread};
+use std::alloc::Global;
+use std::sync::Wait;
+use std::thread;
+use std::thread::Threads;
+
+/// Makes the thread's call at a place, and adds its entry. It answers whether the call was answered, and else memory
+/// ran out.
+fn make<R: Wait, G: Gate>(
+    rt: &R,
+    engine: &Engine,
+    alloc: Global,
+    gate: &G,
+    thread: usize,
+    calls: &[Call],
+    place: usize,
+    worker: &mut Worker,
+) -> bool
+    requires calls { AreCallsOn (shape_of (bank_of engine.now)) calls.now }
+    requires place { place < length calls.now }
+    requires worker { IsOnline engine.now thread calls.now place worker.old }
+    ensures member { IsMember engine.now thread worker.new.caller }
+    ensures made { IsTrue result → IsOnline engine.now thread calls.now (place + 1) worker.new }
+{
+    let _ = thread;
+    let index = place as u32 + 1;
+    let number = worker.caller.thread();
+    let call = &calls[place];
+    gate.before(number, index);
+    let Called::Done(reply, stamp, waited) = engine.call(rt, alloc, &mut worker.caller, call) else {
+        return false;
+    };
+    worker.entries.push_reserved(Entry {
+        thread: number,
+        index,
+        stamp: stamp.number,
+        wrote: stamp.wrote,
+        call: *call,
+        reply,
+        waited,
+    });
+    gate.after(number, index);
+    true
+}
+
+/// Makes all calls of a thread, one after the other. It answers whether each was answered.
+fn make_all<R: Wait, G: Gate>(
+    rt: &R,
+    engine: &Engine,
+    alloc: Global,
+    gate: &G,
+    thread: usize,
+    calls: &[Call],
+    worker: &mut Worker,
+) -> bool
+    requires calls { AreCallsOn (shape_of (bank_of engine.now)) calls.now }
+    requires worker { IsOnline engine.now thread calls.now 0 worker.old }
+    ensures member { IsMember engine.now thread worker.new.caller }
+    ensures made { IsTrue result → IsOnline engine.now thread calls.now (length calls.now) worker.new }
+{
+    for place in 0..calls.len() {
+        if !make(rt, engine, alloc, gate, thread, calls, place, worker) {
+            return false;
+        }
+    }
+    true
+}
+
+/// Makes all calls of the script's thread; one that the script doesn't have has no calls. It answers whether each was
+/// answered.
+fn make_own<R: Wait, G: Gate>(
+    rt: &R,
+    engine: &Engine,
+    alloc: Global,
+    gate: &G,
+    script: &Script,
+    thread: usize,
+    worker: &mut Worker,
+) -> bool
+    requires bank { IsBankFor script.now (shape_of (bank_of engine.now)) }
+    requires worker { IsOnline engine.now thread (calls_of script.now thread) 0 worker.old }
+    ensures member { IsMember engine.now thread worker.new.caller }
+    ensures made { IsTrue result → IsOnline engine.now thread (calls_of script.now thread)
+        (length (calls_of script.now thread)) worker.new }
+{
+    match script.parts().threads.as_slice().get(thread) {
+        Some(own) => make_all(
+            rt,
+            engine,
+            alloc,
+            gate,
+            thread,
+            own.calls.as_slice(),
+            worker,
+        ),
+        None => true,
+    }
+}
+
+/// Goes online, makes all calls of the script's thread, and goes offline. Where memory runs out the worker gives up
+/// what it is in, and makes no more calls.
+fn work<R: Wait, G: Gate>(
+    rt: &R,
+    engine: &Engine,
+    alloc: Global,
+    gate: &G,
+    script: &Script,
+    thread: usize,
+    worker: &mut Worker,
+)
+    requires bank { IsBankFor script.now (shape_of (bank_of engine.now)) }
+    requires worker { IsAtStart engine.now script.now thread worker.old }
+    ensures { HasWorked engine.now script.now thread worker.new }
+{
+    // Named so that the check sees the script's rule.
+    let _parts = script.parts();
+    engine.enter(&mut worker.caller);
+    if make_own(rt, engine, alloc, gate, script, thread, worker) {
+        engine.leave(&mut worker.caller);
+        worker.done = true;
+    } else {
+        engine.abandon(&mut worker.caller);
+        engine.leave(&mut worker.caller);
+        worker.done = false;
+    }
+}
+
+/// Each worker makes the calls of its thread, in a thread of its own.
+pub(crate) fn work_all<R: Threads + Wait + Sync, G: Gate>(
+    rt: &R,
+    engine: &Engine,
+    alloc: Global,
+    gate: &G,
+    script: &Script,
+    workers: &mut [Worker],
+)
+    requires bank { IsBankFor script.now (shape_of (bank_of engine.now)) }
+    requires workers { AreEach (IsAtStart engine.now script.now) workers.old }
+    ensures count { length workers.new ≡ length workers.old }
+    ensures workers { AreEach (HasWorked engine.now script.now) workers.new }
+{
+    let count = workers.len();
+    if count == 0 {
+        return;
+    }
+    let each = |thread: usize, worker: &mut Worker|
+        requires { IsBankFor script.now (shape_of (bank_of engine.now))
+            × IsAtStart engine.now script.now thread worker.now }
+        ensures { HasWorked engine.entry.now script.entry.now thread worker.exit.now }
+    {
+        work(rt, engine, alloc, gate, script, thread, worker);
+    };
+    thread::for_each_mut(rt, workers, count, &each);
+}

@@ -1,0 +1,46 @@
+use Rattle.std.proofs.Common.{◌≡◌, length, ap, ◌∙◌}
+use Rattle.std.proofs.lemmas.List.{length-map}
+use Rattle.ft_bank.specs.Closings.{found_in, had_in, lists_in as passes_in}
+use Rattle.ft_bank.specs.Passes.{shape_of}
+use Rattle.ft_engine.specs.Callers.{bank_of}
+use Rattle.ft_run_threads.proofs.WholeLists.{ended_legal}
+use Rattle.ft_run_threads.proofs.Entries.{pass_entries}
+use Rattle.ft_run_turns.specs.Internal.CallerSeats.{seat_entries, vec_lists}
+use Rattle.ft_run_turns.proofs.Ended.{ends}
+use Rattle.ft_run_turns.proofs.Ordered.{ended_order, moved_lists}
+use Rattle.ft_run_turns.proofs.ending.close_all.Goals as goal
+
+pub gather_in-requires-clause-seats : goal.gather_in-requires-clause-seats
+gather_in-requires-clause-seats c = ends c.args.engine c.args.script.now c.args.seats.items c.requires.seats c.requires.made
+
+pub close-requires-clause-all : goal.close-requires-clause-all
+close-requires-clause-all c = c.in_ok-caller.ensures.taken.parts ∙ (ap length c.in_ok-caller.ensures.lists ∙ (length-map c.args.seats.items seat_entries ∙ c.requires.count))
+
+pub returns-clause-order : goal.returns-clause-order
+returns-clause-order c =
+    let e = c.args.engine in
+    let script = c.args.script.now in
+    let seats = c.args.seats.items in
+    let ended = c.in_ok-caller.ensures in
+    let lists = vec_lists c.in_ok-caller.lists.items in
+    let history = c.in_ok-history.history.items in
+    let all : length lists ≡ (shape_of (bank_of e)).passes = ap length ended.lists ∙ (length-map seats seat_entries ∙ c.requires.count) in
+    ended_order e script seats c.args.tokens lists history c.requires.script c.requires.bank c.requires.turned all ended.lists ended.taken.made (moved_lists c.in_ok-caller.lists.items history c.in_ok-history.ensures.entries)
+    (c.in_ok-history.ensures.numbered script)
+
+pub returns-clause-legal : goal.returns-clause-legal
+returns-clause-legal c =
+    let e = c.args.engine in
+    let script = c.args.script.now in
+    let ended = c.in_ok-caller.ensures in
+    let lists = vec_lists c.in_ok-caller.lists.items in
+    let history = c.in_ok-history.history.items in
+    let all : length lists ≡ (shape_of (bank_of e)).passes = ap length ended.lists ∙ (length-map c.args.seats.items seat_entries ∙ c.requires.count) in
+    ended_legal script (shape_of (bank_of e)) lists c.requires.script c.requires.bank all ended.taken.made history (moved_lists c.in_ok-caller.lists.items history c.in_ok-history.ensures.entries) (c.in_ok-history.ensures.legal script)
+
+pub returns-clause-entries : goal.returns-clause-entries
+returns-clause-entries c =
+    let closed = c.in_ok-history.closed in
+    let lists = vec_lists c.in_ok-caller.lists.items in
+    let history = c.in_ok-history.history.items in
+    pass_entries c.args.script.now lists (passes_in closed) (had_in closed) (found_in closed) history c.in_ok-history.ensures.closed (returns-clause-legal c) (moved_lists c.in_ok-caller.lists.items history c.in_ok-history.ensures.entries)

@@ -1,0 +1,153 @@
+//! One turn of a thread: its caller is woken, tries its next call, and rests.
+ghost use Rattle.std.specs.Prelude.{◌≡◌, ◌↔◌, ◌+◌, ◌<◌, IfOk, IsTrue, OnOk, Some, length, slice_get, if◌then◌else◌};
+ghost use Rattle.ft_bank.specs.Passes.{shape_of};
+ghost use Rattle.ft_engine.specs.Attempts.{MayAttempt};
+ghost use Rattle.ft_engine.specs.Callers.{IsCallerOf, bank_of};
+ghost use Rattle.ft_engine.specs.Keeping.{WasAnswered};
+ghost use Rattle.ft_engine.specs.Resting.{HasFloor};
+ghost use Rattle.ft_model.specs.Histories.{calls_of};
+ghost use Rattle.ft_model.specs.Scripts.{IsScript};
+ghost use Rattle.ft_run_turns.specs.Internal.CallerSeats.{StaysInStep, HasTried, IsBetweenTurns, IsHeld, IsSeatOf, TokensStayInStep};
+ghost use Rattle.ft_run_threads.specs.Workers.{IsBankFor};
+
+use crate::seats::Seat;
+use ft_bank::Tokens;
+use ft_engine::{Caller, Engine, Tried};
+use ft_model::{Call, Entry, ScriptParts};
+use std::alloc::{AllocError, Global};
+
+/// Tries a call once, and adds its entry where it has ended. It answers whether it has.
+fn try_once(
+    alloc: Global,
+    engine: &Engine,
+    caller: &mut Caller,
+    entries: &mut Vec<Entry>,
+    call: &Call,
+) -> Result<bool, AllocError>
+    requires caller { IsCallerOf engine.now caller.old }
+    requires may { MayAttempt engine.now caller.old call.now }
+    requires kept { WasAnswered caller.old entries.old.items }
+    requires floor { HasFloor caller.old }
+    ensures { IfOk result (λ ended.
+        HasTried engine.now call.now caller.old entries.old.items caller.new entries.new.items ended) }
+{
+    let thread = caller.thread();
+    match engine.attempt(alloc, caller, call) {
+        Tried::Done(reply, stamp, waited) => {
+            entries.push(Entry {
+                thread,
+                index: entries.len() as u32 + 1,
+                stamp: stamp.number,
+                wrote: stamp.wrote,
+                call: *call,
+                reply,
+                waited,
+            })?;
+            Ok(true)
+        }
+        Tried::NotYet(_, _) => Ok(false),
+        Tried::Moved(_, _) => Ok(false),
+        Tried::NoMemory => Err(AllocError),
+    }
+}
+
+/// Tries the next call of a thread once. Where it has ended, and was the thread's last one, the caller goes offline. It
+/// answers whether it has.
+fn try_call(
+    alloc: Global,
+    engine: &Engine,
+    script: &ScriptParts,
+    thread: usize,
+    caller: &mut Caller,
+    entries: &mut Vec<Entry>,
+    call: &Call,
+    last: bool,
+) -> Result<bool, AllocError>
+    requires script { IsScript script.now }
+    requires bank { IsBankFor script.now (shape_of (bank_of engine.now)) }
+    requires thread { thread < length script.now.threads }
+    requires between { IsBetweenTurns engine.now script.now thread caller.old entries.old.items }
+    requires floor { HasFloor caller.old }
+    requires call { slice_get (calls_of script.now thread) (length entries.old.items) ≡ Some call.now }
+    requires last { IsTrue last ↔ (length entries.old.items + 1 ≡ length (calls_of script.now thread)) }
+    ensures between { OnOk result (IsBetweenTurns engine.now script.now thread caller.new entries.new.items) }
+    ensures floor { OnOk result (HasFloor caller.new) }
+    ensures count { IfOk result (λ ended.
+        length entries.new.items ≡ length entries.old.items + (if ended then 1 else 0)) }
+    ensures turn { OnOk result (StaysInStep script.now thread caller.old entries.old.items caller.new entries.new.items) }
+{
+    let _ = script;
+    let _ = thread;
+    let ended = try_once(alloc, engine, caller, entries, call)?;
+    if ended {
+        if last {
+            engine.leave(caller);
+        }
+        Ok(true)
+    } else {
+        Ok(false)
+    }
+}
+
+/// Tries the next call of a thread once, if it has one left. After its last one it goes offline. It answers whether a
+/// call has ended.
+fn try_next(
+    alloc: Global,
+    engine: &Engine,
+    script: &ScriptParts,
+    thread: usize,
+    caller: &mut Caller,
+    entries: &mut Vec<Entry>,
+) -> Result<bool, AllocError>
+    requires script { IsScript script.now }
+    requires bank { IsBankFor script.now (shape_of (bank_of engine.now)) }
+    requires thread { thread < length script.now.threads }
+    requires between { IsBetweenTurns engine.now script.now thread caller.old entries.old.items }
+    requires floor { HasFloor caller.old }
+    ensures between { OnOk result (IsBetweenTurns engine.now script.now thread caller.new entries.new.items) }
+    ensures floor { OnOk result (HasFloor caller.new) }
+    ensures count { IfOk result (λ ended.
+        length entries.new.items ≡ length entries.old.items + (if ended then 1 else 0)) }
+    ensures turn { OnOk result (StaysInStep script.now thread caller.old entries.old.items caller.new entries.new.items) }
+{
+    let calls = script.threads.as_slice()[thread].calls.as_slice();
+    let place = entries.len();
+    match calls.get(place) {
+        Some(call) => {
+            let last = place + 1 == calls.len();
+            try_call(alloc, engine, script, thread, caller, entries, call, last)
+        }
+        None => Ok(false),
+    }
+}
+
+/// One turn of a thread: its caller is woken, its next call is tried once, and the caller rests. It answers whether a
+/// call has ended. A thread with no call left spends its turn.
+pub(crate) fn turn_of(
+    alloc: Global,
+    engine: &Engine,
+    script: &ScriptParts,
+    thread: usize,
+    seat: Seat,
+    tokens: Tokens,
+) -> Result<(Seat, Tokens, bool), AllocError>
+    requires script { IsScript script.now }
+    requires bank { IsBankFor script.now (shape_of (bank_of engine.now)) }
+    requires thread { thread < length script.now.threads }
+    requires seat { IsSeatOf engine.now script.now thread seat }
+    requires tokens { IsHeld engine.now tokens }
+    ensures seat { IfOk result (λ made. IsSeatOf engine.now script.now thread made.0) }
+    ensures tokens { IfOk result (λ made. IsHeld engine.now made.1) }
+    ensures count { IfOk result (λ made.
+        length made.0.entries.items ≡ length seat.entries.items + (if made.2 then 1 else 0)) }
+    ensures turn { IfOk result (λ made. TokensStayInStep engine.now script.now thread seat tokens made.0 made.1) }
+{
+    let Seat {
+        caller,
+        mut entries,
+    } = seat;
+    let mut caller = engine.wake(caller, tokens);
+    let ended = try_next(alloc, engine, script, thread, &mut caller, &mut entries)?;
+    let (caller, tokens) = engine.rest(caller);
+    Ok((Seat { caller, entries }, tokens, ended))
+}

@@ -1,0 +1,296 @@
+-- A pass is in the midst of its call still once the call has made its write or its answer, whether it took a table or not.
+use Rattle.std.proofs.Common.{◌≡◌, ◌≢◌, ◌⊎◌, ℕ, zero, suc, ◌<◌, le_refl, Bool, true, false, cond, eqb, List, [], ◌∷◌, Option, Some, None, refl, sym, ap, ◌∙◌, subst, inl, inr, ⊎_elim, arith}
+use mathlib.Core.Logic.{dite}
+use native.Mathlib.Decide.{ℕ_discrete}
+use Rattle.ft_model.specs.declared.call.Call.{Call}
+use Rattle.ft_model.specs.declared.reply.Reply.{Reply}
+use Rattle.ft_trace.specs.declared.Act.TheVariants.{PutHeader, Retire, PutRoot}
+use Rattle.ft_trace.specs.declared.Shape.{Shape}
+use Rattle.ft_trace.specs.declared.View.{View}
+use Rattle.ft_trace.specs.Acts.{has_lock, is_writing, stage, stage_next, owes, used, flight, view_after, seen_writes}
+use Rattle.ft_trace.specs.Addresses.{container_count}
+use Rattle.ft_trace.specs.Holds.{held_words, known_state}
+use Rattle.ft_trace.specs.Pictures.{ContainerWords, root_in, Represents}
+use Rattle.ft_trace.specs.ContainerStates.{ContainerState, changes}
+use Rattle.ft_trace.specs.BegunSections.{begun}
+use Rattle.ft_trace.proofs.Cases.{hit, miss, here}
+use Rattle.ft_bank.specs.declared.bank.Bank.{Bank}
+use Rattle.ft_bank.specs.declared.pass.Pass.{Pass}
+use Rattle.ft_bank.specs.declared.takings.Took.{Took}
+use Rattle.ft_bank.specs.declared.takings.Took.TheVariants as took
+use Rattle.ft_bank.specs.Answered.{Answered}
+use Rattle.ft_bank.specs.Passes.{view, IsPassOf}
+use Rattle.ft_bank.specs.PassSections.{stack_of}
+use Rattle.ft_bank.specs.TableNames.{table_id}
+use Rattle.ft_bank.specs.Whole.{OnlyLoaded, SamePass, Wrote, hand_after}
+use Rattle.ft_bank.proofs.KnownAfterWrites.{same_pass, pass_then}
+use Rattle.ft_section.specs.Ready.{IsStill, IsMaking}
+use Rattle.ft_section.specs.Trying.{HasHadLocks, SectionsAfter}
+use Rattle.ft_section.proofs.MidstOfCall.{making_stays}
+use Rattle.ft_search.proofs.ReadMidst.{LeavesSections, still_loaded, still_read, sections_read}
+use Rattle.ft_table_calls.specs.declared.adding.Added.{Added}
+use Rattle.ft_table_calls.specs.declared.adding.Added.TheVariants as added
+use Rattle.ft_section.specs.declared.answers.Objects.{Objects}
+use Rattle.ft_table_calls.specs.Adding.{TriedTaking, Retires, WroteInPlace, Grew, GaveUp, IsAdded, IsTryOf, UnderLocks, step_after}
+
+-- in no hand, or retired
+abbrev IsOut : ℕ → Type 0
+IsOut n = (n ≡ 0) ⊎ (n ≡ 4)
+
+-- ---- a whole write
+
+module _ (called : Call) (said : Reply) (n : ℕ) (v w : View) (s : IsStill v) (wrote : Wrote called said n v w) where
+  abbrev o : ℕ
+  o = changes called
+
+  stands_after : (p : ℕ) → p < container_count w.shape → has_lock p w.log ≡ true → Represents w.shape.texts (held_words p w) (known_state p w)
+  stands_after p low has =
+      let shape = wrote.pass.shape in
+      let low' : p < container_count v.shape = subst (λ (k : Shape). p < container_count k) shape low in
+      let mine : has_lock p v.log ≡ true = sym (wrote.pass.locks p) ∙ has in
+      subst (λ (k : Shape). Represents k.texts (held_words p w) (known_state p w)) (sym shape)
+      (dite (ℕ_discrete p o)
+      (λ (e : p ≡ o). subst (λ (q : ℕ). Represents v.shape.texts (held_words q w) (known_state q w)) (sym e) wrote.stands)
+      (λ ne.
+      let e = wrote.others p low' ne mine (s.even p) in
+      subst (λ (x : ContainerWords × ContainerState). Represents v.shape.texts x.0 x.1) (λ d. (sym e.0 d, sym e.1 d)) (s.stands p low' mine)))
+
+  -- where the tables are in no hand that it leaves
+  wrote_still_so : ((t : ℕ) → IsOut (stage t w.log)) → IsStill w
+  wrote_still_so hands = record {
+    even = λ p. wrote.pass.writes p ∙ s.even p;
+    hands = hands;
+    used = wrote.used;
+    owes = wrote.owes;
+    flight = wrote.pass.flight ∙ s.flight;
+    stands = stands_after;
+  }
+
+  pub wrote_still : root_in (held_words o w) ≡ root_in (held_words o v) → IsStill w
+  wrote_still root =
+      wrote_still_so
+      (λ t. subst IsOut (sym (wrote.hands t ∙ (ap (λ (z : ℕ). hand_after o (root_in (held_words o v)) z t (stage t v.log)) root ∙ hit (root_in (held_words o v)) (stage t v.log) _))) (s.hands t))
+
+-- ---- takings
+
+module _ (k : Shape) (class : ℕ) (r : Took) (v w : View) (s : IsStill v) (tried : TriedTaking k class r v w) where
+  pub tried_out : (t : ℕ) → (stage t w.log ≡ stage t v.log) ⊎ (stage t w.log ≡ 0) → IsOut (stage t w.log)
+  tried_out t either = ⊎_elim (λ (e : stage t w.log ≡ stage t v.log). subst IsOut (sym e) (s.hands t)) (λ (e : stage t w.log ≡ 0). inl e) either
+
+  pub tried_stands : (p : ℕ) → p < container_count w.shape → has_lock p w.log ≡ true → Represents w.shape.texts (held_words p w) (known_state p w)
+  tried_stands p low has =
+      let shape = tried.same.shape in
+      let low' : p < container_count v.shape = subst (λ (z : Shape). p < container_count z) shape low in
+      let mine : has_lock p v.log ≡ true = sym (tried.same.locks p) ∙ has in
+      let e = tried.keeps.held.words p low' mine in
+      subst (λ (z : Shape). Represents z.texts (held_words p w) (known_state p w)) (sym shape)
+      (subst (λ (x : ContainerWords × ContainerState). Represents v.shape.texts x.0 x.1) (λ d. (sym e.0 d, sym e.1 d)) (s.stands p low' mine))
+
+  -- a taking that has no table
+  pub tried_still : ((t : ℕ) → IsOut (stage t w.log)) → owes w.log ≡ 0 → IsStill w
+  tried_still hands none = record {
+    even = λ p. tried.same.writes p ∙ s.even p;
+    hands = hands;
+    used = tried.keeps.held.used ∙ s.used;
+    owes = none;
+    flight = tried.same.flight ∙ s.flight;
+    stands = tried_stands;
+  }
+
+-- ---- retirements
+
+-- what the retirement of the table that a root named leaves
+pub retired_same : (root : ℕ) (v w : View) → Retires root v w → SamePass v w
+retired_same zero v w is = subst (SamePass v) (sym is) (same_pass v)
+retired_same (suc t) v w is =
+    subst (SamePass v) (sym is.1)
+    (record { number = refl; next = refl; parts = refl; shape = refl; locks = λ p. refl; writes = λ p. refl; announced = refl; flight = refl; begun = refl; cursors = λ n. refl; tokens = refl; lists = refl; floor = refl; since = refl; owners = record { had = refl; found = refl }; learnt = refl; seen = le_refl (seen_writes v) })
+
+-- the pass knows the same words and contents, and owes and has used the same
+pub retired_knows : (root : ℕ) (v w : View) → Retires root v w → (p : ℕ) → (held_words p w ≡ held_words p v) × (known_state p w ≡ known_state p v)
+retired_knows zero v w is p = (ap (λ (u : View). held_words p u) is, ap (λ (u : View). known_state p u) is)
+retired_knows (suc t) v w is p = (ap (λ (u : View). held_words p u) is.1, ap (λ (u : View). known_state p u) is.1)
+
+retired_work : (root : ℕ) (v w : View) → Retires root v w → (used w.log ≡ used v.log) × (owes w.log ≡ owes v.log)
+retired_work zero v w is = (ap (λ (u : View). used u.log) is, ap (λ (u : View). owes u.log) is)
+retired_work (suc t) v w is = (ap (λ (u : View). used u.log) is.1, ap (λ (u : View). owes u.log) is.1)
+
+-- the table that the root named is retired, and each other is as it was
+retired_stage : (root : ℕ) (v w : View) → Retires root v w → (t : ℕ) → (root ≡ suc t → IsOut (stage t w.log)) × (root ≢ suc t → stage t w.log ≡ stage t v.log)
+retired_stage zero v w is t = ((λ e. absurd (omega (arith, e))), (λ ne. ap (λ (u : View). stage t u.log) is))
+retired_stage (suc q) v w is t = (
+  (λ e. let same : q ≡ t = omega (arith, e) in inr (ap (λ (u : View). stage t u.log) is.1 ∙ here q t 4 (stage t v.log) same)),
+  (λ ne. ap (λ (u : View). stage t u.log) is.1 ∙ miss q t 4 (stage t v.log) (λ e. ne (ap suc e))),
+)
+
+-- ---- a call that took a table
+
+module _ (k : Shape) (class : ℕ) (called : Call) (said : Reply) (n : ℕ) (v w : View) (s : IsStill v) (grew : Grew k class called said n v w) where
+  abbrev at : ℕ
+  at = changes called
+
+  abbrev taken : View
+  taken = grew.taken
+
+  abbrev old : ℕ
+  old = root_in (held_words at taken)
+
+  abbrev new : ℕ
+  new = table_id grew.table
+
+  -- of the new root
+  hands_written : (t : ℕ) → stage t grew.done.log ≡ cond (eqb (suc new) (suc t)) 0 (cond (eqb old (suc t)) 3 (stage t taken.log))
+  hands_written t =
+      grew.wrote.hands t
+      ∙ (ap (λ (z : ℕ). hand_after at old z t (stage t taken.log)) grew.root
+      ∙ miss old (suc new) (stage t taken.log) (stage_next t (PutRoot at (suc new) old) (stage t taken.log)) grew.other)
+
+  out_after : (t : ℕ) → IsOut (stage t w.log)
+  out_after t =
+      let r = retired_stage old grew.done w grew.retired t in
+      let was = stage t taken.log in
+      dite (ℕ_discrete old (suc t))
+      (λ (e : old ≡ suc t). r.0 e)
+      (λ ne.
+      let kept : stage t w.log ≡ stage t grew.done.log = r.1 ne in
+      dite (ℕ_discrete (suc new) (suc t))
+      (λ (e : suc new ≡ suc t). inl (kept ∙ (hands_written t ∙ here (suc new) (suc t) 0 (cond (eqb old (suc t)) 3 was) e)))
+      (λ ne'.
+      let same : stage t w.log ≡ was = kept ∙ (hands_written t ∙ (miss (suc new) (suc t) 0 (cond (eqb old (suc t)) 3 was) ne' ∙ miss old (suc t) 3 was ne)) in
+      subst IsOut (sym same) (tried_out k class (took.Taken grew.table) v taken s grew.tried t (grew.tried.hands t (λ e. ne' (ap suc (sym e)))))))
+
+  -- the words stand for the content once the write is made
+  stands_written : (p : ℕ) → p < container_count w.shape → has_lock p w.log ≡ true → Represents w.shape.texts (held_words p w) (known_state p w)
+  stands_written p low has =
+      let same = retired_same old grew.done w grew.retired in
+      let shape : w.shape ≡ taken.shape = same.shape ∙ grew.wrote.pass.shape in
+      let low' : p < container_count taken.shape = subst (λ (z : Shape). p < container_count z) shape low in
+      let mine : has_lock p taken.log ≡ true = sym (grew.wrote.pass.locks p) ∙ (sym (same.locks p) ∙ has) in
+      let quiet : is_writing p taken.log ≡ false = grew.tried.same.writes p ∙ s.even p in
+      let e = retired_knows old grew.done w grew.retired p in
+      let done : Represents taken.shape.texts (held_words p grew.done) (known_state p grew.done) =
+      dite (ℕ_discrete p at)
+      (λ (x : p ≡ at). subst (λ (q : ℕ). Represents taken.shape.texts (held_words q grew.done) (known_state q grew.done)) (sym x) grew.wrote.stands)
+      (λ ne.
+      let o = grew.wrote.others p low' ne mine quiet in
+      subst (λ (x : ContainerWords × ContainerState). Represents taken.shape.texts x.0 x.1) (λ d. (sym o.0 d, sym o.1 d)) (tried_stands k class (took.Taken grew.table) v taken s grew.tried p low' mine)) in
+      subst (λ (z : Shape). Represents z.texts (held_words p w) (known_state p w)) (sym shape)
+      (subst (λ (x : ContainerWords × ContainerState). Represents taken.shape.texts x.0 x.1) (λ d. (sym e.0 d, sym e.1 d)) done)
+
+  pub grew_same : SamePass v w
+  grew_same = pass_then v taken w grew.tried.same (pass_then taken grew.done w grew.wrote.pass (retired_same old grew.done w grew.retired))
+
+  pub grew_still : IsStill w
+  grew_still =
+      let r = retired_work old grew.done w grew.retired in
+      record {
+        even = λ p. grew_same.writes p ∙ s.even p;
+        hands = out_after;
+        used = r.0 ∙ grew.wrote.used;
+        owes = r.1 ∙ grew.wrote.owes;
+        flight = grew_same.flight ∙ s.flight;
+        stands = stands_written;
+      }
+
+-- ---- the call
+
+-- it has loaded words, and knew u then
+module _ (b : Bank) (p q : Pass) (m : IsMaking b p) (pass : IsPassOf b q) (stack : stack_of q ≡ stack_of p) (u : View) (loaded : OnlyLoaded (view p) u) where
+  still_then : IsStill u
+  still_then = still_loaded (view p) u loaded m.inside.1.still
+
+  making_same : SamePass u (view q) → IsStill (view q) → IsMaking b q
+  making_same same still =
+      let l = loaded.work.pass in
+      making_stays b p q m pass stack (same.shape ∙ l.shape) (λ o. same.locks o ∙ l.locks o) (same.begun ∙ l.begun) still
+
+  -- a pass that made a whole write and left the root
+  pub making_wrote : (called : Call) (said : Reply) (n : ℕ) → WroteInPlace called said n u (view q) → IsMaking b q
+  making_wrote called said n x = making_same x.wrote.pass (wrote_still called said n u (view q) still_then x.wrote x.root)
+
+  -- an entry that isn't a write, after steps that leave the pass
+  making_answered : (called : Call) (said : Reply) (n : ℕ) (z : View) → LeavesSections called → SamePass u z → IsStill z → Answered called said n z (view q) → IsMaking b q
+  making_answered called said n z leaves same still a =
+      let l = loaded.work.pass in
+      let r = sections_read called said n z (view q) leaves a in
+      making_stays b p q m pass stack (r.0 ∙ (same.shape ∙ l.shape)) (λ o. r.1 o ∙ (same.locks o ∙ l.locks o)) (r.2 ∙ (same.begun ∙ l.begun)) (still_read called said n z (view q) a still)
+
+  pub making_added : (k : Shape) (takes : Option ℕ) (over : Bool) (called : Call) (said : Reply) (what : Added) → LeavesSections called → IsAdded k takes over called said u (view q) what → IsMaking b q
+  making_added k None over called said (added.Made stamp) leaves x = making_wrote called said stamp.number x.2
+  making_added k (Some class) over called said (added.Made stamp) leaves x =
+      making_same (grew_same k class called said stamp.number u (view q) still_then x.2) (grew_still k class called said stamp.number u (view q) still_then x.2)
+  making_added k takes over called said (added.NoTable class stamp) leaves x =
+      let y = x.3 in
+      let none : IsStill y.0 = tried_still k class took.AllTaken u y.0 still_then y.1 (λ t. tried_out k class took.AllTaken u y.0 still_then y.1 t (y.1.hands t tt)) y.1.has in
+      making_answered called _ stamp.number y.0 leaves y.1.same none y.2
+  making_added k takes over called said (added.Over stamp) leaves x = making_answered called _ stamp.number u leaves (same_pass u) still_then x.2
+  making_added k takes over called said (added.Moved a b') leaves x =
+      let y = x.1 in
+      making_same y.2.same (tried_still k y.0 (took.Moved a b') u (view q) still_then y.2 (λ t. tried_out k y.0 (took.Moved a b') u (view q) still_then y.2 t (y.2.hands t tt)) y.2.has)
+
+-- ---- a call that gives up a table
+
+module _ (called : Call) (said : Reply) (n : ℕ) (v w : View) (s : IsStill v) (given : GaveUp called said n v w) where
+  abbrev here_ : ℕ
+  here_ = changes called
+
+  abbrev before : ℕ
+  before = root_in (held_words here_ v)
+
+  either_way : (b : Bool) (x y : ℕ) → y ≡ x → cond b x y ≡ x
+  either_way true x y e = refl
+  either_way false x y e = e
+
+  out_given : (t : ℕ) → IsOut (stage t w.log)
+  out_given t =
+      let r = retired_stage before given.done w given.retired t in
+      let was = stage t v.log in
+      dite (ℕ_discrete before (suc t))
+      (λ (e : before ≡ suc t). r.0 e)
+      (λ ne.
+      let next : stage_next t (PutRoot here_ 0 before) was ≡ was = miss 0 (suc t) 0 (cond (eqb before (suc t)) 3 was) (λ e. omega (arith, e)) ∙ miss before (suc t) 3 was ne in
+      let same : stage t w.log ≡ was =
+      r.1 ne ∙ (given.wrote.hands t ∙ (ap (λ (z : ℕ). hand_after here_ before z t was) given.root ∙ either_way (eqb before 0) was (stage_next t (PutRoot here_ 0 before) was) next)) in
+      subst IsOut (sym same) (s.hands t))
+
+  given_same : SamePass v w
+  given_same = pass_then v given.done w given.wrote.pass (retired_same before given.done w given.retired)
+
+  pub given_still : IsStill w
+  given_still =
+      let same = retired_same before given.done w given.retired in
+      let r = retired_work before given.done w given.retired in
+      record {
+        even = λ p. given_same.writes p ∙ s.even p;
+        hands = out_given;
+        used = r.0 ∙ given.wrote.used;
+        owes = r.1 ∙ given.wrote.owes;
+        flight = given_same.flight ∙ s.flight;
+        stands = λ p low has.
+            let e = retired_knows before given.done w given.retired p in
+            let old = stands_after called said n v given.done s given.wrote p (subst (λ (z : Shape). p < container_count z) same.shape low) (sym (same.locks p) ∙ has) in
+            subst (λ (x : Shape × ContainerWords × ContainerState). Represents x.0.texts x.1 x.2) (λ d. (sym same.shape d, sym e.0 d, sym e.1 d)) old;
+      }
+
+pub making_given : (b : Bank) (p q : Pass) → IsMaking b p → IsPassOf b q → stack_of q ≡ stack_of p → (u : View) → OnlyLoaded (view p) u → (called : Call) (said : Reply) (n : ℕ) → GaveUp called said n u (view q) → IsMaking b q
+making_given b p q m pass stack u loaded called said n given =
+    let l = loaded.work.pass in
+    let still = still_loaded (view p) u loaded m.inside.1.still in
+    let same = given_same called said n u (view q) still given in
+    making_stays b p q m pass stack (same.shape ∙ l.shape) (λ o. same.locks o ∙ l.locks o) (same.begun ∙ l.begun) (given_still called said n u (view q) still given)
+
+-- ---- the try of a call
+
+-- what came of it under the locks
+pub tried_as : (objects : Objects) (F : View → View → Added → Type 0) (said : Reply) (v w : View) (what : Added) → UnderLocks objects (λ b a. F b a what) v w → IsTryOf objects F said v w (step_after what said)
+tried_as objects F said v w (added.Made stamp) under = (added.Made stamp, refl, under)
+tried_as objects F said v w (added.NoTable class stamp) under = (added.NoTable class stamp, refl, under)
+tried_as objects F said v w (added.Over stamp) under = (added.Over stamp, refl, under)
+tried_as objects F said v w (added.Moved a b) under = (added.Moved a b, refl, under)
+
+-- and its sections are as they are after a call that let go of its locks
+pub gone_as : (b : Bank) (objects : Objects) (p q : Pass) (said : Reply) (what : Added) → HasHadLocks b objects p q → SectionsAfter b objects p q (step_after what said)
+gone_as b objects p q said (added.Made stamp) gone = gone
+gone_as b objects p q said (added.NoTable class stamp) gone = gone
+gone_as b objects p q said (added.Over stamp) gone = gone
+gone_as b objects p q said (added.Moved first second) gone = gone

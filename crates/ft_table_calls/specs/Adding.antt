@@ -1,0 +1,141 @@
+-- What a call comes to under its locks that may take a table for the container that it changes.
+use Rattle.std.specs.Prelude.{◌≡◌, ◌≢◌, ℕ, zero, suc, ◌+◌, Bool, true, false, List, Option, Some, None}
+use Rattle.ft_model.specs.declared.call.Call.{Call}
+use Rattle.ft_model.specs.declared.reply.Raise.TheVariants as raise
+use Rattle.ft_model.specs.declared.reply.Reply.{Reply}
+use Rattle.ft_model.specs.declared.reply.Reply.TheVariants as reply
+use Rattle.ft_trace.specs.declared.Act.{Act}
+use Rattle.ft_trace.specs.declared.Act.TheVariants.{PutHeader, Retire}
+use Rattle.ft_trace.specs.declared.Shape.{Shape}
+use Rattle.ft_trace.specs.declared.View.{View}
+use Rattle.ft_trace.specs.Acts.{flight, has_goal, view_after}
+use Rattle.ft_trace.specs.Hands.{cursor_in}
+use Rattle.ft_trace.specs.Holds.{held_words}
+use Rattle.ft_trace.specs.Owners.{SameOwners}
+use Rattle.ft_trace.specs.Pictures.{root_in}
+use Rattle.ft_trace.specs.ContainerStates.{changes}
+use Rattle.ft_bank.specs.declared.table.Table.{Table}
+use Rattle.ft_bank.specs.declared.takings.Took.{Took}
+use Rattle.ft_bank.specs.declared.takings.Took.TheVariants as took
+use Rattle.ft_bank.specs.Answered.{Answered}
+use Rattle.ft_bank.specs.Series.{noted_all}
+use Rattle.ft_bank.specs.TableNames.{table_id}
+use Rattle.ft_bank.specs.Takings.{HasNotMoved, HasTook, IsTaking, KeepsBut, StaysIn}
+use Rattle.ft_bank.specs.Whole.{SamePass, SameWork, Wrote}
+use Rattle.ft_bank.specs.WriteSteps.{KeepsUnwritten}
+use Rattle.ft_qsbr.specs.Collecting.{Collected, StaysOrGoes}
+use Rattle.ft_section.specs.declared.answers.Objects.{Objects}
+use Rattle.ft_section.specs.declared.answers.Step.{Step}
+use Rattle.ft_section.specs.declared.answers.Step.TheVariants as step
+use Rattle.ft_section.specs.Locking.{OnlyLocked, FoundOwner, LocksWithin}
+use Rattle.ft_section.specs.LockTakings.{HasLocks, IsOf}
+use Rattle.ft_table_calls.specs.declared.adding.Added.{Added}
+use Rattle.ft_table_calls.specs.declared.adding.Added.TheVariants as added
+
+-- ---- steps of such a call
+
+-- After a collection of retired tables a taking of a table of this class came to this. With the floor it found no word
+-- changed. Besides, the pass has what it had. (profile)
+pub record TriedTaking (k : Shape) (class : ℕ) (result : Took) (v w : View) : Type 0 where
+  pub mid : View
+  pub freed : ℕ
+  pub collected : Collected v mid freed
+  pub acts : List Act
+  pub did : w ≡ noted_all acts mid
+  pub taking : IsTaking class result acts
+  pub has : HasTook k class result mid w
+  pub floor : v.has_floor ≡ true → HasNotMoved result
+  pub same : SamePass v w
+  pub keeps : KeepsBut (λ t. (has_goal t v.log ≡ false) × StaysIn result t) v w
+  pub hands : (t : ℕ) → StaysIn result t → StaysOrGoes v w t
+
+-- The pass has loaded words of the bank and put words of tables that are fresh in its hand, and done nothing else: of
+-- each container whose lock it has and that it doesn't write it knows the same. (profile)
+pub record OnlyFilled (v w : View) : Type 0 where
+  pub work : SameWork v w
+  pub keeps : KeepsUnwritten v w
+
+-- the table that a root named is retired, if it named one
+abbrev pub Retires : ℕ → View → View → Type 0
+Retires zero v w = w ≡ v
+Retires (suc t) v w = (n : ℕ) × (w ≡ view_after (PutHeader t (n + 1)) (view_after (Retire t n) v))
+
+-- The pass has the cursors that it had, so that its walks go on after the call. (Python manual, Iterator Types)
+abbrev pub KeepsCursors : View → View → Type 0
+KeepsCursors v w = (number : ℕ) → cursor_in number w.log ≡ cursor_in number v.log
+
+-- ---- the call
+
+-- The pass made the call as one whole write, which left the root of the container. (profile)
+pub record WroteInPlace (called : Call) (said : Reply) (number : ℕ) (v w : View) : Type 0 where
+  pub wrote : Wrote called said number v w
+  pub root : root_in (held_words (changes called) w) ≡ root_in (held_words (changes called) v)
+
+-- The pass took a table of this class and made the call as one whole write that put it into the root of the container
+-- in the place of another table or of none, and then retired the table that the root named before. (profile)
+pub record Grew (k : Shape) (class : ℕ) (called : Call) (said : Reply) (number : ℕ) (v w : View) : Type 0 where
+  pub table : Table
+  pub taken : View
+  pub tried : TriedTaking k class (took.Taken table) v taken
+  pub other : root_in (held_words (changes called) taken) ≢ suc (table_id table)
+  pub done : View
+  pub wrote : Wrote called said number taken done
+  pub root : root_in (held_words (changes called) done) ≡ suc (table_id table)
+  pub retired : Retires (root_in (held_words (changes called) taken)) done w
+
+-- The pass made the call as one whole write that left the container no table, and then retired the table that it had,
+-- if it had one. (profile)
+pub record GaveUp (called : Call) (said : Reply) (number : ℕ) (v w : View) : Type 0 where
+  pub done : View
+  pub wrote : Wrote called said number v done
+  pub root : root_in (held_words (changes called) done) ≡ 0
+  pub retired : Retires (root_in (held_words (changes called) v)) done w
+
+-- the write of a call that takes no table, or one of this class
+abbrev pub WroteWith : Shape → Option ℕ → Call → Reply → ℕ → View → View → Type 0
+WroteWith k None called said number v w = WroteInPlace called said number v w
+WroteWith k (Some class) called said number v w = Grew k class called said number v w
+
+-- What a call comes to under its locks that takes no table or one of this class, and that would leave more than the
+-- largest table holds or not. It was made as a write with this reply. Or the count of its class was 0 at the one load
+-- of this call. Or it would leave too much. Or tables of its class were taken or given by others meanwhile.
+abbrev pub IsAdded : Shape → Option ℕ → Bool → Call → Reply → View → View → Added → Type 0
+IsAdded k takes over called said v w (added.Made stamp) =
+    (over ≡ false) × (stamp.wrote ≡ true) × WroteWith k takes called said stamp.number v w
+IsAdded k takes over called said v w (added.NoTable class stamp) =
+    (over ≡ false) × (stamp.wrote ≡ false) × (takes ≡ Some class)
+    × ((u : View) × TriedTaking k class took.AllTaken v u
+    × Answered called (reply.Raised (raise.Memory class)) stamp.number u w)
+IsAdded k takes over called said v w (added.Over stamp) =
+    (over ≡ true) × (stamp.wrote ≡ false) × Answered called (reply.Raised raise.Over) stamp.number v w
+IsAdded k takes over called said v w (added.Moved a b) =
+    (over ≡ false) × ((class : ℕ) × (takes ≡ Some class) × TriedTaking k class (took.Moved a b) v w)
+
+-- ---- its try
+
+-- what the try of a call answers that came to this, and replies so where it is made
+abbrev pub step_after : Added → Reply → Step
+step_after (added.Made stamp) said = step.Done said stamp
+step_after (added.NoTable class stamp) said = step.Done (reply.Raised (raise.Memory class)) stamp
+step_after (added.Over stamp) said = step.Done (reply.Raised raise.Over) stamp
+step_after (added.Moved a b) said = step.Moved a b
+
+-- The pass took the locks of these containers, did this while it had them, and let go of those that it took. (C API,
+-- critical sections)
+pub record UnderLocks (objects : Objects) (F : View → View → Type 0) (v w : View) : Type 0 where
+  pub before : View
+  pub took : OnlyLocked v before
+  pub within : LocksWithin objects v before
+  pub locks : HasLocks before objects
+  pub after : View
+  pub did : F before after
+  pub gone : OnlyLocked after w
+  pub owners : SameOwners after w
+
+-- What the try of a call answers that comes to F under the locks of these containers, and replies so where it is made;
+-- or a step of it found another pass with one of these locks. It takes no memory. (C API, critical sections)
+abbrev pub IsTryOf : Objects → (View → View → Added → Type 0) → Reply → View → View → Step → Type 0
+IsTryOf objects F said v w (step.NotYet p q) = OnlyLocked v w × IsOf p objects × FoundOwner p q v w
+IsTryOf objects F said v w step.NoMemory = ⊥
+IsTryOf objects F said v w result =
+    (what : Added) × (step_after what said ≡ result) × UnderLocks objects (λ b a. F b a what) v w

@@ -1,0 +1,80 @@
+//! What a call comes to under its locks that may take a table, and the MemoryErrors that it answers.
+ghost use Rattle.std.specs.Prelude.{◌≡◌, ℕ, ◌<◌, List, ◌∷◌, true, false, Some};
+ghost use Rattle.ft_model.specs.TableUses.{StoredWorld, CanLackMemory, takes_in, would_pass};
+ghost use Rattle.ft_model.specs.declared.reply.Raise.TheVariants as raise;
+ghost use Rattle.ft_model.specs.declared.reply.Reply.TheVariants as reply;
+ghost use Rattle.ft_trace.specs.declared.Act.{Act};
+ghost use Rattle.ft_trace.specs.declared.Act.TheVariants.{ReadCount};
+ghost use Rattle.ft_trace.specs.Acts.{owes};
+ghost use Rattle.ft_bank.specs.Answered.{Answered};
+ghost use Rattle.ft_bank.specs.Passes.{view, IsPassOf};
+ghost use Rattle.ft_bank.specs.PassSections.{stack_of};
+ghost use Rattle.ft_bank.specs.WriteSteps.{MayHave};
+ghost use Rattle.ft_table_calls.specs.Adding.{step_after};
+
+use ft_bank::{Bank, Pass};
+use ft_model::{Call, Raise, Reply};
+use ft_search::answer_held;
+use ft_section::{Stamp, Step};
+
+/// What a call comes to under its locks that may take a table.
+#[derive(Clone, Copy, Debug, PartialEq, Eq)]
+pub enum Added {
+    /// The write was made, with this stamp.
+    Made(Stamp),
+    /// No table of this class was free: the entry of a MemoryError, with this stamp.
+    NoTable(u32, Stamp),
+    /// The container would have more than the largest table holds: the entry of a MemoryError, with this stamp.
+    Over(Stamp),
+    /// Other passes took or gave tables of the class meanwhile: a word was the first number and then the
+    /// second. The same call comes next.
+    Moved(u64, u64),
+}
+
+/// What the try of a call answers that came to this under its locks, and replies so where it is made.
+#[inline(always)]
+pub fn step_of(added: Added, said: Reply) -> Step
+    ensures { result ≡ step_after added said }
+{
+    match added {
+        Added::Made(stamp) => Step::Done(said, stamp),
+        Added::NoTable(class, stamp) => Step::Done(Reply::Raised(Raise::Memory(class)), stamp),
+        Added::Over(stamp) => Step::Done(Reply::Raised(Raise::Over), stamp),
+        Added::Moved(first, second) => Step::Moved(first, second),
+    }
+}
+
+/// Raises a MemoryError of a class whose count was found 0 just now, in the place of a call that would take a
+/// table of it: its entry, at a load of the counter.
+pub fn answer_no_table(bank: &Bank, pass: &mut Pass, called: &Call, class: u32) -> Stamp
+    requires pass { IsPassOf bank.now pass.old }
+    requires empty { (rest : List Act) × ((view pass.old).log ≡ ReadCount class 0 ∷ rest) × (owes rest ≡ 0) }
+    requires left { 0 < (view pass.old).left }
+    requires lacks { (stored : StoredWorld) → MayHave (view pass.old) stored → CanLackMemory stored.world called.now
+        × (would_pass stored.world called.now ≡ false) × (takes_in stored called.now ≡ Some class) }
+    ensures pass { IsPassOf bank.now pass.new }
+    ensures stack { stack_of pass.new ≡ stack_of pass.old }
+    ensures wrote { result.wrote ≡ false }
+    ensures answered { Answered called.now (reply.Raised (raise.Memory class)) result.number (view pass.old) (view pass.new) }
+{
+    let said = Reply::Raised(Raise::Memory(class));
+    let (_, stamp) = answer_held(bank, pass, called, said);
+    stamp
+}
+
+/// Raises a MemoryError in the place of a call that would leave more than the largest table holds: its entry,
+/// at a load of the counter.
+pub fn answer_over(bank: &Bank, pass: &mut Pass, called: &Call) -> Stamp
+    requires pass { IsPassOf bank.now pass.old }
+    requires left { 0 < (view pass.old).left }
+    requires over { (stored : StoredWorld) → MayHave (view pass.old) stored → CanLackMemory stored.world called.now
+        × (would_pass stored.world called.now ≡ true) }
+    ensures pass { IsPassOf bank.now pass.new }
+    ensures stack { stack_of pass.new ≡ stack_of pass.old }
+    ensures wrote { result.wrote ≡ false }
+    ensures answered { Answered called.now (reply.Raised raise.Over) result.number (view pass.old) (view pass.new) }
+{
+    let said = Reply::Raised(Raise::Over);
+    let (_, stamp) = answer_held(bank, pass, called, said);
+    stamp
+}

@@ -1,0 +1,16 @@
+use Rattle.std.specs.Prelude.{◌≡◌, length, take}
+use Rattle.std.specs.List.{filter_map}
+use Rattle.ft_bank.specs.Passes.{shape_of, IsPassOf}
+use Rattle.ft_bank.specs.PassSections.{stack_of}
+use Rattle.ft_bank.specs.TableNames.{table_id}
+use Rattle.ft_reads.specs.Reads.{Reads}
+use Rattle.ft_whole_tables.specs.TableEntries.{OfUsed, live_key}
+use Rattle.ft_whole_tables.proofs.copies.copy_keys.Given as goal
+
+abbrev pub invariant-loop-place : goal.invariant-loop-place
+invariant-loop-place l =
+    record {
+      pass : IsPassOf l.bank l.pass;
+      stack : stack_of l.pass ≡ stack_of l.fn.pass;
+      reads : Reads (shape_of l.bank) l.s (OfUsed (shape_of l.bank) (table_id l.table) (λ used. l.fill ≡ length used → l.keys.items ≡ filter_map live_key (take l.place used))) l.fn.pass l.pass;
+    }

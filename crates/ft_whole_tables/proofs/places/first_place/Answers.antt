@@ -1,0 +1,45 @@
+use Rattle.std.proofs.Common.{◌≡◌, ◌+◌, Some, None, length, refl, sym, ◌∙◌, arith}
+use Rattle.std.specs.Prelude.{is_some}
+use Rattle.ft_bank.specs.Passes.{shape_of}
+use Rattle.ft_bank.specs.TableNames.{table_id}
+use Rattle.ft_whole_tables.specs.Places.{IsFirst, NoneThere}
+use Rattle.ft_whole_tables.proofs.Scanning.{none_before, scan_key, scan_map, scan_none, there_at}
+use Rattle.ft_whole_tables.proofs.places.first_place.Goals as goal
+
+pub loop-place-init : goal.loop-place-init
+loop-place-init c =
+    let a = c.args in
+    record {
+      pass = c.requires.pass;
+      stack = refl;
+      reads = scan_none (shape_of a.bank.now) a.o (table_id a.table) (λ used. a.fill ≡ length used → NoneThere 0 0 used) a.pass.now (λ used filled q any from below. absurd (omega (arith, from, below)));
+    }
+
+pub loop-place-preserved : goal.loop-place-preserved
+loop-place-preserved c =
+    let a = c.args in
+    let place = c.loop-place.place in
+    let test = c.loop-place-test.true in
+    let e = c.key_at.ensures in
+    record {
+      pass = e.pass;
+      stack = e.stack ∙ c.loop-place.invariant.stack;
+      reads = scan_key (shape_of a.bank.now) a.o (table_id a.table) (λ used. a.fill ≡ length used → NoneThere 0 c.loop-place.place used) (λ used. a.fill ≡ length used → NoneThere 0 (place + 1) used) place c.key_at.result a.pass.now c.loop-place.pass c.key_at.new.pass c.loop-place.invariant.reads e.reads
+          (λ used so is filled. none_before used place c.key_at.result (so filled) is (omega (arith, test, filled)) (sym c.is_some.ensures ∙ c.if-is_some.false));
+    }
+
+pub returns-then-is_some-clause-reads : goal.returns-then-is_some-clause-reads
+returns-then-is_some-clause-reads c =
+    let a = c.args in
+    let place = c.loop-place.place in
+    let test = c.loop-place-test.true in
+    scan_key (shape_of a.bank.now) a.o (table_id a.table) (λ used. a.fill ≡ length used → NoneThere 0 c.loop-place.place used) (IsFirst a.fill (Some place)) place c.key_at.result a.pass.now c.loop-place.pass c.key_at.new.pass c.loop-place.invariant.reads c.key_at.ensures.reads
+    (λ used so is filled. (test, so filled, there_at used place c.key_at.result is (omega (arith, test, filled)) (sym c.is_some.ensures ∙ c.if-is_some.true)))
+
+pub returns-clause-reads : goal.returns-clause-reads
+returns-clause-reads c =
+    let a = c.args in
+    let place = c.loop-place.place in
+    let past = c.loop-place-test.false in
+    scan_map (shape_of a.bank.now) a.o (table_id a.table) (λ used. a.fill ≡ length used → NoneThere 0 c.loop-place.place used) (IsFirst a.fill None) a.pass.now c.loop-place.pass c.loop-place.invariant.reads
+    (λ used so filled q any from below. so filled q any from (omega (arith, below, past)))

@@ -26,11 +26,7 @@ pub(crate) fn handle_of(alloc: Global, held: Held) -> Result<FtHandle, AllocErro
 }
 
 /// The sessions of a new engine.
-fn sessions(
-    alloc: Global,
-    sizes: &FtSizes,
-    tables: &[u32],
-) -> Result<Vec<Session>, OpenFault>
+fn sessions(alloc: Global, sizes: &FtSizes, tables: &[u32]) -> Result<Vec<Session>, OpenFault>
     ensures { IfOk result (λ sessions. All IsSession sessions.items) }
 {
     let sizes = Sizes {
@@ -49,11 +45,7 @@ fn sessions(
 }
 
 /// Puts the sessions behind handles, as many as there is room for.
-fn hand_out(
-    alloc: Global,
-    sessions: Vec<Session>,
-    out: &mut [FtHandle],
-) -> Result<(), AllocError>
+fn hand_out(alloc: Global, sessions: Vec<Session>, out: &mut [FtHandle]) -> Result<(), AllocError>
     requires sessions { All IsSession sessions.items }
     requires handles { All IsHandle out.old }
     ensures { All IsHandle out.new }

@@ -16,10 +16,10 @@ ghost use Rattle.ft_search.specs.OneEntryWrites.{MayWriteEntries};
 ghost use Rattle.ft_dict.specs.DictCopies.{CopiesTo};
 
 use ft_bank::{Bank, Pass};
-use ft_table_calls::{Added, step_of};
 use ft_model::{Call, DictCall, Reply};
 use ft_replacing::copy_into;
 use ft_section::{Got, Object, Objects, Step, let_go, take_for};
+use ft_table_calls::{Added, step_of};
 
 /// `copyto d e`, by a pass that has the locks of both dicts: e has the pairs of d then, in their order. A dict that is
 /// named twice has its own pairs, with new serials.

@@ -14,8 +14,8 @@ ghost use Rattle.ft_search.specs.MadeCalls.{IsMadeOf};
 ghost use Rattle.ft_reads.specs.Pairs.{IsGlanceOfBoth};
 
 use ft_bank::{Bank, Pass};
-use ft_whole_tables::{Comparison, look_comparison, try_comparison};
 use ft_section::{Look, Object, Step};
+use ft_whole_tables::{Comparison, look_comparison, try_comparison};
 
 /// `d == e` under the locks of both, the lower one taken first; a dict named twice counts once (Python manual,
 /// Mapping Types).

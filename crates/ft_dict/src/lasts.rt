@@ -19,11 +19,11 @@ ghost use Rattle.ft_reads.specs.Reads.{Reads};
 ghost use Rattle.ft_dict.specs.Lasts.{IsLastIn, IsLastOf};
 
 use ft_bank::{Bank, Pass, Table};
-use ft_whole_tables::{last_place, value_at};
 use ft_layout::{block_word, used_entries_follow_a_dict};
 use ft_model::{Call, DictCall, Key, Raise, Reply, Value};
 use ft_search::{answer_made, delete_entry, table_named, written};
 use ft_section::{Got, Object, Objects, Stamp, Step, let_go, take_for};
+use ft_whole_tables::{last_place, value_at};
 
 /// Which word of a block says how many entries were used, as a bank counts them.
 const FILL: u64 = block_word::FILL - block_word::ROOT;

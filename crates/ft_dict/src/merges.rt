@@ -17,12 +17,12 @@ ghost use Rattle.ft_search.specs.OneEntryWrites.{MayWriteEntries};
 ghost use Rattle.ft_merging.specs.Joining.{JoinsBy};
 
 use ft_bank::{Bank, Pass};
-use ft_table_calls::{Added, step_of};
 use ft_keys::Way;
 use ft_layout::{used_entries_follow_a_dict, used_entries_follow_a_set};
 use ft_merging::join_by;
 use ft_model::{Call, DictCall, Reply};
 use ft_section::{Got, Object, Objects, Step, let_go, take_for};
+use ft_table_calls::{Added, step_of};
 
 /// `d.update(e)` (Python manual, Mapping Types), by a pass that has both locks: a key of e that d has gets the value of
 /// e in its place, and the others are added in their order; a dict that is named twice stays as it is. All of it is

@@ -14,10 +14,10 @@ ghost use Rattle.ft_search.specs.Tries.{IsReadOf};
 
 use crate::locked::{get_locked, getd_locked};
 use ft_bank::{Bank, Pass};
-use ft_whole_tables::try_has_key;
 use ft_keys::Way;
 use ft_model::{Key, Value};
 use ft_section::{Got, Object, Objects, Step, let_go, take_for};
+use ft_whole_tables::try_has_key;
 
 /// `d[k]`, a KeyError where the key isn't there (Python manual, Mapping Types).
 ///

@@ -21,14 +21,14 @@ ghost use Rattle.ft_new_keys.specs.KeyGrowth.{PutsKey};
 ghost use Rattle.ft_dict.specs.Values.{SetsDefault};
 
 use crate::deletes::{value_at, value_fits};
-use ft_new_keys::add_key;
 use ft_bank::{Bank, Pass};
-use ft_table_calls::{Added, step_of};
 use ft_keys::Way;
 use ft_layout::Stored;
 use ft_model::{Call, DictCall, Key, Reply, Value};
+use ft_new_keys::add_key;
 use ft_search::{Spot, seek_key, set_entry, write_nothing, written};
 use ft_section::{Got, Object, Objects, Step, let_go, take_for};
+use ft_table_calls::{Added, step_of};
 
 /// `d[k] = v` (Python manual, Mapping Types), by a pass that has the dict's lock.
 ///

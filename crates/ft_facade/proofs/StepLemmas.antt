@@ -66,9 +66,11 @@ more_of called s c d kept mine was =
 pub more_after : (called : Call) (s : Stepped) (c m d : Caller) → thread_of m ≡ thread_of c → KeepsSome c m → KeepsMore called s m d → KeepsMore called s c d
 more_after called s c m d same first second mine was =
     let a = first mine was in
-    let b = second (mine ++ a.0) a.1 in
-    (a.0 ++ b.0, subst (λ (t : ℕ). HasStepped called s t (mine ++ (a.0 ++ b.0)) d) same
-    (subst (λ (l : List Entry). HasStepped called s (thread_of m) l d) (over mine a.0 b.0) b.1))
+    let b = second (mine ++ a.0) a.1 in (
+      a.0 ++ b.0,
+      subst (λ (t : ℕ). HasStepped called s t (mine ++ (a.0 ++ b.0)) d) same
+          (subst (λ (l : List Entry). HasStepped called s (thread_of m) l d) (over mine a.0 b.0) b.1),
+    )
 
 -- a step that isn't done says the same of any call
 other_call : (one other : Call) (s : Stepped) (t : ℕ) (mine : List Entry) (d : Caller) → (IsDone s → ⊥) → HasStepped one s t mine d → HasStepped other s t mine d

@@ -18,7 +18,10 @@ pub const RETRIES: u32 = 1000;
 fn wants_table(stepped: &Stepped) -> bool
     ensures { IsTrue result → IsDone stepped.now }
 {
-    matches!(stepped, Stepped::Done(Reply::Raised(Raise::Memory(_)), _, _))
+    matches!(
+        stepped,
+        Stepped::Done(Reply::Raised(Raise::Memory(_)), _, _)
+    )
 }
 
 /// The answer, unless the call is done.

@@ -33,10 +33,10 @@ use crate::growth::add_in;
 use crate::locked::{count_of, table_at_root, value_fits};
 use crate::writes::add_items;
 use ft_bank::{Bank, Pass, Table, Took};
-use ft_table_calls::{Added, answer_no_table, answer_over, retire_old, step_of};
 use ft_model::{Call, KeptTable, ListCall, MOST_ITEMS, Reply, Value, taken_by_list};
 use ft_qsbr::take;
 use ft_section::{Got, Object, Objects, Stamp, Step, let_go, take_for};
+use ft_table_calls::{Added, answer_no_table, answer_over, retire_old, step_of};
 
 /// The class of the table that a list takes for that many items, which has this one or none.
 fn class_wanted(old: Option<Table>, count: u64) -> Option<u32>

@@ -25,9 +25,9 @@ use crate::adding::root_table;
 use crate::bare::write_nothing;
 use crate::locked::LENGTH;
 use ft_bank::{Bank, Pass, Table};
-use ft_table_calls::retire_old;
 use ft_model::{Call, ListCall, Reply};
 use ft_section::{Got, Object, Objects, Stamp, Step, let_go, take_for};
+use ft_table_calls::retire_old;
 
 /// The call.
 fn clear_call(l: Object) -> Call

@@ -26,15 +26,15 @@ use crate::counting::count_new;
 use crate::merging::Merge;
 use crate::putting::join_table;
 use crate::reading::own_table;
-use ft_new_keys::{Counts, begin_in, class_wanted, fill, most_keys, put_counts, read_counts};
 use ft_bank::{Bank, Pass, Table, Took};
-use ft_table_calls::{Added, answer_no_table, answer_over, retire_old};
 use ft_keys::Way;
 use ft_layout::{used_entries_follow_a_dict, used_entries_follow_a_set, words_are_of_one_content};
 use ft_model::{Call, Reply};
+use ft_new_keys::{Counts, begin_in, class_wanted, fill, most_keys, put_counts, read_counts};
 use ft_qsbr::take;
 use ft_search::{write_nothing, written};
 use ft_section::Object;
+use ft_table_calls::{Added, answer_no_table, answer_over, retire_old};
 
 /// Puts the keys of another container into one whose table has room for those that are new.
 fn join_here(

@@ -1,7 +1,7 @@
 //! Two containers, one of which gets keys of the other one, with what a pass has read of them before the first word is
 //! put.
-use ft_new_keys::Counts;
 use ft_bank::Table;
+use ft_new_keys::Counts;
 use ft_section::Object;
 
 /// What a pass has read of a container that gets keys, and of the other one that has them.

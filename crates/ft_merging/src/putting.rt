@@ -28,7 +28,6 @@ ghost use Rattle.ft_merging.specs.Internal.EntriesAtOnce.{MayFinishAll};
 
 use crate::closing::finish_entries;
 use crate::reading::pair_at;
-use ft_new_keys::{Counts, put_key};
 use ft_bank::{Bank, Pass, Table};
 use ft_keys::{Way, placed_pairs_are_of_a_table, searches_end_at_the_first_free_slot};
 use ft_layout::{
@@ -36,6 +35,7 @@ use ft_layout::{
     words_are_of_one_content, words_follow_a_dict, words_follow_a_set,
 };
 use ft_model::{Call, Key, Reply};
+use ft_new_keys::{Counts, put_key};
 use ft_search::{Spot, put_value, read_by, spot_of};
 use ft_section::Object;
 

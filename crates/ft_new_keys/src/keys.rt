@@ -21,7 +21,6 @@ use crate::counts::{Counts, read_counts};
 use crate::growth::add_in_new;
 use crate::room::add_in_room;
 use ft_bank::{Bank, Pass, Table, Took};
-use ft_table_calls::{Added, answer_no_table, answer_over, retire_old};
 use ft_keys::Way;
 use ft_layout::{Stored, words_are_of_one_content};
 use ft_model::{
@@ -29,6 +28,7 @@ use ft_model::{
 };
 use ft_qsbr::take;
 use ft_section::Stamp;
+use ft_table_calls::{Added, answer_no_table, answer_over, retire_old};
 
 /// How many keys a container has at most that is searched this way: as many as the largest table holds.
 pub fn most_keys(way: Way) -> u64

@@ -30,13 +30,13 @@ ghost use Rattle.ft_new_keys.specs.Placing.{AreCounts};
 ghost use Rattle.ft_merging.specs.Parting.{parted};
 ghost use Rattle.ft_parting.specs.Choosing.{HasChosen, IsChosen, apart_pair, serial_at};
 
-use ft_new_keys::{Counts, FreshWords, blank};
 use ft_bank::{Bank, Pass, Table};
 use ft_keys::{Found, Way, calls_keep_versions, place_new};
 use ft_layout::entry_word::{HASH, SERIAL};
 use ft_layout::{Pair, Stored, changed_words_are_of_a_table, words_are_of_one_content};
 use ft_merging::{key_at, word_of};
 use ft_model::Key;
+use ft_new_keys::{Counts, FreshWords, blank};
 use ft_search::{mask_of, read_by};
 use ft_section::Object;
 

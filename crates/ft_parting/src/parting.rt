@@ -22,17 +22,17 @@ ghost use Rattle.ft_merging.specs.Merging.{MayMerge};
 ghost use Rattle.ft_merging.specs.Parting.{PartsBy, PartsSets, part_takes, parted};
 
 use crate::choosing::fill_parted;
-use ft_new_keys::{Counts, class_wanted, most_keys, read_counts};
 use ft_bank::{Bank, Pass, Table, Took};
-use ft_table_calls::{Added, answer_no_table, answer_over, retire_old};
 use ft_keys::Way;
 use ft_layout::{used_entries_follow_a_dict, used_entries_follow_a_set, words_are_of_one_content};
 use ft_merging::{Merge, count_lacking, own_table, part_here, thin_by};
 use ft_model::Call;
+use ft_new_keys::{Counts, class_wanted, most_keys, read_counts};
 use ft_qsbr::take;
 use ft_replacing::swap_table;
 use ft_search::written;
 use ft_section::Object;
+use ft_table_calls::{Added, answer_no_table, answer_over, retire_old};
 
 /// How many elements of a set, which has this table or none, another set hasn't.
 fn count_staying(

@@ -18,4 +18,3 @@ abbrev pub Reads : Shape → ℕ → (ContainerWords → Type 0) → Pass → Pa
 Reads k o shows p q =
     (part : List Act) × AreLooks part × DidAll part p q × ((x : ContainerWords) → Agrees k o part x → shows x)
     × ((c : ℕ) → c < container_count k → has_lock c (view p).log ≡ true → Agrees k c part (held_words c (view p)))
-

@@ -24,15 +24,15 @@ ghost use Rattle.ft_replacing.specs.Replacing.{IsReplaced, Replaces, copied};
 
 use crate::numbering::renumber;
 use crate::swapping::swap_table;
-use ft_new_keys::{Counts, fill, read_counts};
 use ft_bank::{Bank, Pass, Table, Took};
-use ft_table_calls::{Added, answer_no_table, retire_old};
-use ft_whole_tables::{clear_keyed, root_table};
 use ft_keys::Way;
 use ft_layout::words_are_of_one_content;
 use ft_model::{Call, taken_by_copy};
+use ft_new_keys::{Counts, fill, read_counts};
 use ft_qsbr::take;
 use ft_section::Stamp;
+use ft_table_calls::{Added, answer_no_table, retire_old};
+use ft_whole_tables::{clear_keyed, root_table};
 
 /// Fills a table that is fresh in hand with the pairs of a dict, which get serials from this one on.
 fn fill_copy(

@@ -17,10 +17,10 @@ ghost use Rattle.ft_new_keys.specs.KeyGrowth.{MayGrowKeyed};
 ghost use Rattle.ft_new_keys.specs.Placing.{counted};
 ghost use Rattle.ft_replacing.specs.Replacing.{Replaces};
 
-use ft_new_keys::{COUNT, FILL, NEXT};
 use ft_bank::{Bank, Pass, Table};
 use ft_layout::{used_entries_follow_a_dict, used_entries_follow_a_set, words_are_of_one_content};
 use ft_model::{Call, Reply};
+use ft_new_keys::{COUNT, FILL, NEXT};
 
 /// Puts into the block how many pairs or elements there are, each in an entry, and the next serial.
 fn put_counts(bank: &Bank, pass: &mut Pass, o: u32, count: u64, next: u64)

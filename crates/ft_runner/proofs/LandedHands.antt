@@ -32,7 +32,7 @@ no_deque : (script : ScriptParts) → IsScript script → (world : List Content)
 no_deque script rule world kinds place bound is =
     let kind_in : Declaration → Kind = λ declared. declared.start.kind in
     let named : option_map kind_in (slice_get script.containers place) ≡ Some (kind.Deque bound) =
-        sym (slice_get-map kind_in script.containers place) ∙ ap (λ (ks : List Kind). slice_get ks place) (sym kinds) ∙ slice_get-map kind_of world place ∙ is in
+    sym (slice_get-map kind_in script.containers place) ∙ ap (λ (ks : List Kind). slice_get ks place) (sym kinds) ∙ slice_get-map kind_of world place ∙ is in
     elim (slice_get_cases script.containers place).1 [
       | inl found ↦
           let landed : is_landed_start found.0.start ≡ true = subst (λ (d : Declaration). is_landed_start d.start ≡ true) found.3 (rule.starts place found.0 found.1).landed in

@@ -368,8 +368,8 @@ module _ (script : ScriptParts) (rule : IsScript script) where
           let plain = plain_at place entry at hands in
           let plain_reply = (answer world hands entry.call).reply in
           let common : is_uncommon plain_reply ≡ false =
-              landed_reply (KeyFits strings) (ValueFits strings) (Counts (counts entry.call)) (fit_together strings) world there.contents hands entry.call own.fits (asked_of script.containers world there.kinds (cursors_of script entry.thread) entry.call own.call.names) (counting_at place entry at) own.landed
-              (landed_cursors script rule world there.kinds hands (hands_over entry.thread place entry.stamp)) in
+          landed_reply (KeyFits strings) (ValueFits strings) (Counts (counts entry.call)) (fit_together strings) world there.contents hands entry.call own.fits (asked_of script.containers world there.kinds (cursors_of script entry.thread) entry.call own.call.names) (counting_at place entry at) own.landed
+          (landed_cursors script rule world there.kinds hands (hands_over entry.thread place entry.stamp)) in
           replied_fits strings entry.call entry.reply plain_reply answered.reply (λ ends. short_end script entries rule legal few place entry at ends)
           (lacking strings (counts entry.call) (starts_of script.containers) (supply_of script) (writes (take place entries)) (entries_of entry.thread (take place entries)) entry.call entry.reply (legal.chronicle.earned place entry at))
           (λ is memory.

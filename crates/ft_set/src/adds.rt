@@ -18,14 +18,14 @@ ghost use Rattle.ft_table_calls.specs.Adding.{IsTryOf, KeepsCursors};
 ghost use Rattle.ft_search.specs.OneEntryWrites.{MayWriteEntries};
 ghost use Rattle.ft_new_keys.specs.KeyGrowth.{PutsKey};
 
-use ft_new_keys::add_key;
 use ft_bank::{Bank, Pass};
-use ft_table_calls::{Added, step_of};
 use ft_keys::Way;
 use ft_layout::Stored;
 use ft_model::{Call, Key, Reply, SetCall};
+use ft_new_keys::add_key;
 use ft_search::{Spot, seek_key, write_nothing, written};
 use ft_section::{Got, Object, Objects, Step, let_go, take_for};
+use ft_table_calls::{Added, step_of};
 
 /// `s.add(k)` (Python manual, Set Types), by a pass that has the set's lock.
 ///

@@ -17,9 +17,9 @@ ghost use Rattle.ft_search.specs.OneEntryWrites.{MayWriteEntries};
 ghost use Rattle.ft_reads.specs.Clears.{IsCleared, IsClearOf};
 
 use ft_bank::{Bank, Pass};
-use ft_whole_tables::{clear_as, try_clear_as};
 use ft_keys::Way;
 use ft_section::{Object, Stamp, Step};
+use ft_whole_tables::{clear_as, try_clear_as};
 
 /// `s.clear()`, by a pass that has the set's lock (Python manual, Set Types): the set has no table then.
 pub fn clear_by(bank: &Bank, pass: &mut Pass, s: Object) -> Stamp

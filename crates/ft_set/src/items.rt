@@ -15,9 +15,9 @@ ghost use Rattle.ft_reads.specs.Copies.{IsCopyOf};
 ghost use Rattle.ft_reads.specs.Glances.{IsCopyGlanceOf};
 
 use ft_bank::{Bank, Pass};
-use ft_whole_tables::{look_all_items, try_all_items};
 use ft_keys::Way;
 use ft_section::{Look, Object, Step};
+use ft_whole_tables::{look_all_items, try_all_items};
 use std::alloc::Global;
 
 /// All elements under the lock (Python manual, Set Types).

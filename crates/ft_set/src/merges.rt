@@ -20,7 +20,6 @@ ghost use Rattle.ft_merging.specs.Joining.{JoinsBy};
 ghost use Rattle.ft_merging.specs.Parting.{PartsBy};
 
 use ft_bank::{Bank, Pass};
-use ft_table_calls::{Added, step_of};
 use ft_keys::Way;
 use ft_layout::{used_entries_follow_a_dict, used_entries_follow_a_set};
 use ft_merging::{join_by, thin_by};
@@ -28,6 +27,7 @@ use ft_model::{Call, Reply, SetCall};
 use ft_parting::part_by;
 use ft_search::written;
 use ft_section::{Got, Object, Objects, Stamp, Step, let_go, take_for};
+use ft_table_calls::{Added, step_of};
 
 /// `s &= t`, by a pass that has both locks (Python manual, Set Types): a set that is named twice stays as it is.
 fn and_locked(bank: &Bank, pass: &mut Pass, s: Object, t: Object) -> (Reply, Stamp)

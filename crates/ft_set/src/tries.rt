@@ -13,10 +13,10 @@ ghost use Rattle.ft_section.specs.Trying.{SectionsAfter};
 ghost use Rattle.ft_search.specs.Tries.{IsReadOf};
 
 use ft_bank::{Bank, Pass};
-use ft_whole_tables::try_has_key;
 use ft_keys::Way;
 use ft_model::Key;
 use ft_section::{Object, Step};
+use ft_whole_tables::try_has_key;
 
 /// `k in s` (Python manual, Set Types).
 ///

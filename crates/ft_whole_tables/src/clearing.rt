@@ -16,11 +16,11 @@ ghost use Rattle.ft_reads.specs.Clears.{IsCleared};
 ghost use Rattle.ft_whole_tables.specs.Clearing.{HasRootOf, cleared_kept};
 
 use ft_bank::{Bank, Pass, Table};
-use ft_table_calls::retire_old;
 use ft_layout::block_word;
 use ft_model::{Call, Reply};
 use ft_search::{table_named, write_nothing};
 use ft_section::{Object, Stamp};
+use ft_table_calls::retire_old;
 
 /// Which words of a block are the number of pairs or elements, and how many entries were used, as a bank counts
 /// them.

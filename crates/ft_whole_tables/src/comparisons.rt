@@ -18,8 +18,8 @@ ghost use Rattle.ft_whole_tables.specs.Comparisons.{IsComparedAs, compared, kind
 
 use crate::comparing::{are_same_dicts, are_same_sets, is_apart, is_within};
 use ft_bank::{Bank, Pass};
-use ft_reads::Window;
 use ft_model::{Call, DictCall, Reply, SetCall};
+use ft_reads::Window;
 use ft_search::{answer_look, answer_made};
 use ft_section::{Got, Look, Object, Objects, Stamp, Step, let_go, take_for};
 

@@ -16,8 +16,8 @@ ghost use Rattle.ft_whole_tables.specs.Items.{items_call, HasEntry, IsAllIn, IsI
 use crate::copies::copy_all;
 use ft_bank::{Bank, Pass};
 use ft_keys::Way;
-use ft_reads::Window;
 use ft_model::{Call, DictCall, Reply, SetCall};
+use ft_reads::Window;
 use ft_search::{answer_look, answer_made};
 use ft_section::{Got, Look, Object, Objects, Stamp, Step, let_go, take_for};
 use std::alloc::{AllocError, Global};

@@ -1,5 +1,5 @@
 -- The words of a bank at its start, one after the other.
-use Rattle.std.proofs.Common.{◌≡◌, ℕ, true, zero, suc, ◌+◌, ◌-◌, ◌^◌, ◌<◌, Bool, List, [], ◌∷◌, ◌++◌, refl, sym, ap, ◌∙◌, arith, ltb, append-nil}
+use Rattle.std.proofs.Common.{◌≡◌, ℕ, true, zero, suc, ◌+◌, ◌-◌, ◌^◌, ◌<◌, ◌≤◌, Bool, List, [], ◌∷◌, ◌++◌, refl, sym, ap, ◌∙◌, arith, ltb, append-nil}
 use Rattle.std.specs.Prelude.{◌&&◌, slice_index, min}
 use Rattle.std.proofs.Math.Decide.{dec_lt}
 use Rattle.std.proofs.Math.Nat.{pow-suc, min-eq_left, min-eq_right}
@@ -52,6 +52,11 @@ least_is a = dite (dec_lt a 64) (λ less. min-eq_left (omega arith) ∙ sym (ap 
 pub size_is : (k : Plan) → bank_size (sizes_of k) ≡ extent k
 unfolding far extent
 size_is k = omega arith
+
+-- as many words come before the first block
+pub before_blocks : (k : Plan) → 304 ≤ extent k
+unfolding far extent
+before_blocks k = omega arith
 
 -- a bank of this shape may be
 pub fits_of : (s : Shape) → IsShape s → Fits (plan s)

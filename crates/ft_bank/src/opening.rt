@@ -1,6 +1,6 @@
 //! The words of a bank at its start: no write was made, no pass is online, all tables are free, and all
 //! containers have nothing.
-ghost use Rattle.std.specs.Prelude.{◌≡◌, ◌≤◌, ◌<◌, ◌^◌, ◌++◌, length, IfOk, OnOk, replicate};
+ghost use Rattle.std.specs.Prelude.{◌≡◌, ◌≤◌, ◌<◌, ◌-◌, ◌^◌, ◌++◌, length, IfOk, OnOk, replicate};
 ghost use Rattle.ft_layout.specs.Starts.{AreTables};
 ghost use Rattle.ft_trace.specs.Addresses.{opening, extent, free_counts, free_words};
 ghost use Rattle.ft_trace.specs.Bits.{full};
@@ -15,8 +15,6 @@ use std::alloc::{AllocError, Global};
 const FREE_WORDS: u32 = 224;
 /// How many words there are for the announced numbers.
 const ANNOUNCED: usize = 64;
-/// How many words come before the first container's block.
-const BEFORE: usize = 304;
 
 /// All words of a bank of this shape.
 pub(crate) fn opening_words(alloc: Global, shape: &Shape) -> Result<Vec<u64>, AllocError>
@@ -31,14 +29,24 @@ pub(crate) fn opening_words(alloc: Global, shape: &Shape) -> Result<Vec<u64>, Al
         shape.passes,
         shape.tables.as_slice(),
     );
+    let size = size as usize;
     let mut words = vec![in alloc; 0, 1]?;
-    let mut announced = vec![in alloc; 0u64; ANNOUNCED]?;
-    words.append(&mut announced)?;
+    // (so that they are made once: a vector that grows has its items twice)
+    words.reserve(size - 2)?;
+    fill_up(&mut words, 2 + ANNOUNCED)?;
     push_counts(&mut words, shape.tables.as_slice())?;
     push_free(&mut words, shape.tables.as_slice())?;
-    let mut rest = vec![in alloc; 0u64; size as usize - BEFORE]?;
-    words.append(&mut rest)?;
+    fill_up(&mut words, size)?;
     Ok(words)
+}
+
+/// Adds zeros up to this many words.
+fn fill_up(words: &mut Vec<u64>, size: usize) -> Result<(), AllocError>
+    requires { length words.old.items ≤ size }
+    ensures { OnOk result (words.new.items ≡ words.old.items ++ replicate (size - length words.old.items) 0) }
+{
+    words.resize(size, 0)?;
+    Ok(())
 }
 
 /// The count of each class.

@@ -31,6 +31,10 @@ pub enum TextFault {
 }
 
 impl From<AllocError> for TextFault {
+    ghost use Rattle.ft_texts.specs.declared.texts.TextFault.TheVariants as fault;
+
+    ghost from_gives = { λ _ given. given ≡ fault.Memory };
+
     fn from(_fault: AllocError) -> TextFault {
         TextFault::Memory
     }

@@ -25,4 +25,4 @@ AreTokensOf b t = t.seat.table_id ≡ b.table.shared.table_id
 
 -- what the pass keeps of its sections
 abbrev pub stack_at_rest : Resting → Stack
-stack_at_rest r = record { sections = r.sections; own = r.own; mark = r.mark }
+stack_at_rest r = record { sections = r.sections.value; own = r.own; mark = r.mark }

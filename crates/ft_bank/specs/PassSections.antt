@@ -30,7 +30,7 @@ suspended marks s =
     }
 
 abbrev pub stack_of : Pass → Stack
-stack_of p = record { sections = p.sections; own = p.own; mark = p.mark }
+stack_of p = record { sections = p.sections.value; own = p.own; mark = p.mark }
 
 -- no lock was taken
 abbrev pub nothing_taken : Taking

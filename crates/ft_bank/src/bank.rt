@@ -1,6 +1,6 @@
 //! The bank: the table of its words with its shape. It is made with all its passes, and passes take others
 //! in.
-ghost use Rattle.std.specs.Prelude.{◌≡◌, ◌+◌, ◌<◌, ◌^◌, ◌*◌, [], length, IfOk, ℕ};
+ghost use Rattle.std.specs.Prelude.{◌≡◌, ◌+◌, ◌<◌, ◌^◌, ◌*◌, [], length, replicate, IfOk, ℕ};
 ghost use Rattle.ft_trace.specs.declared.Act.TheVariants.{ReadCounter};
 ghost use Rattle.ft_trace.specs.Addresses.{extent};
 ghost use Rattle.ft_trace.specs.Acts.{starter, maker, made, both, view_after, all_lists};
@@ -17,7 +17,7 @@ use crate::sections::{Sections, Taking};
 use crate::shape::{MakeFault, Shape};
 use atomic_table::Table;
 use ft_trace::View;
-use std::alloc::Global;
+use std::alloc::{AllocError, Global};
 use std::marker::Brand;
 
 /// A bank of containers in one list of shared words.
@@ -35,6 +35,17 @@ pub struct Bank {
     ghost few: { shape.passes * shape.calls < 2 ^ 46 },
     ghost starting: { starts.items ≡ starts_from (plan shape) 3 14 },
     ghost sizing: { sizes.items ≡ sizes_from 3 14 },
+}
+
+/// Memory for what a pass keeps of its open sections and of the tables that it retired; there are none yet. Boxes make
+/// a pass quick to move.
+pub(crate) fn nothing_kept(alloc: Global) -> Result<(Box<Sections>, Box<[u64; RETIRED]>), AllocError>
+    ensures sections { IfOk result (λ kept. kept.0.value ≡ []) }
+    ensures retired { IfOk result (λ kept. kept.1.value ≡ replicate 224 0) }
+{
+    let sections = Box::new(alloc, Sections::none())?;
+    let retired = Box::new(alloc, [0; RETIRED])?;
+    Ok((sections, retired))
 }
 
 impl Bank {
@@ -56,6 +67,7 @@ impl Bank {
         let starts = class_starts(alloc, &shape)?;
         let sizes = class_sizes(alloc)?;
         let (table, seat) = Table::of_words(alloc, words.as_slice(), &shape)?;
+        let (sections, retired) = nothing_kept(alloc)?;
         let left = u64::from(shape.passes) * u64::from(shape.calls);
         let bank = Bank {
             table,
@@ -67,10 +79,10 @@ impl Bank {
             number: 0,
             next: 2,
             left,
-            sections: Sections::none(),
+            sections,
             own: Taking::NONE,
             mark: None,
-            retired: [0; RETIRED],
+            retired,
             seat,
         };
         Ok((bank, pass))
@@ -78,7 +90,9 @@ impl Bank {
 
     /// Makes another pass, which may make as many calls as the shape says for one. Only the first pass
     /// may, while fewer than the shape's passes were made.
-    pub(crate) fn split(&self, pass: &mut Pass) -> Pass
+    pub(crate) fn split(&self, pass: &mut Pass, sections: Box<Sections>, retired: Box<[u64; RETIRED]>) -> Pass
+        requires sections { sections.value ≡ [] }
+        requires retired { retired.value ≡ replicate 224 0 }
         requires pass { IsPassOf self.now pass.old }
         requires may { MayFork (view pass.old) }
         ensures passes { IsPassOf self.now pass.new × IsPassOf self.now result }
@@ -95,10 +109,10 @@ impl Bank {
             number,
             next: 0,
             left,
-            sections: Sections::none(),
+            sections,
             own: Taking::NONE,
             mark: None,
-            retired: [0; RETIRED],
+            retired,
             seat,
         }
     }
@@ -128,7 +142,7 @@ impl Bank {
             seat,
         } = other;
         self.settle_as::<Brand>(&mut pass.seat, seat);
-        merge(&mut pass.retired, &retired);
+        merge(&mut *pass.retired, &*retired);
         pass.left += left;
     }
 

@@ -132,7 +132,7 @@ impl Bank {
             seat,
         } = other;
         self.settle_as::<Brand>(&mut pass.seat, seat);
-        merge(&mut pass.retired, &retired);
+        merge(&mut *pass.retired, &*retired);
         pass.left += left;
     }
 }

@@ -16,10 +16,10 @@ pub struct Pass {
     pub(crate) number: u32,
     pub(crate) next: u32,
     pub(crate) left: u64,
-    pub(crate) sections: Sections,
+    pub(crate) sections: Box<Sections>,
     pub(crate) own: Taking,
     pub(crate) mark: Option<u32>,
-    pub(crate) retired: [u64; RETIRED],
+    pub(crate) retired: Box<[u64; RETIRED]>,
     pub(crate) seat: Seat<(), View>,
     ghost bare: { seat.me.1 ≡ [] },
     ghost numbered: { seat.me.0.number ≡ suc number },
@@ -27,7 +27,7 @@ pub struct Pass {
     ghost leaves: { left ≡ seat.me.0.left },
     ghost awake: { 0 < seat.me.0.tokens },
     ghost settled: { seat.me.0.learnt ≤ shown seat.me.0.log },
-    ghost retiring: { AreRetired retired seat.me.0 },
+    ghost retiring: { AreRetired retired.value seat.me.0 },
     ghost possible: { ∥ IsReachable seat.me.0 ∥₁ },
 }
 
@@ -54,7 +54,7 @@ impl Pass {
     pub fn sections(&self) -> &Sections
         ensures { result.now ≡ (stack_of self.now).sections }
     {
-        &self.sections
+        &*self.sections
     }
 
     /// Puts other open sections in their place, for `ft_section`.
@@ -62,7 +62,7 @@ impl Pass {
         ensures view { KeepsAll self.old self.new }
         ensures stack { stack_of self.new ≡ record (stack_of self.old) { sections = sections } }
     {
-        self.sections = sections;
+        *self.sections = sections;
     }
 
     /// The locks that the call in flight took itself, for `ft_section`.

@@ -4,7 +4,7 @@ ghost use Rattle.std.specs.Prelude.{◌≡◌, ◌<◌, [], suc, length, IfOk, O
 ghost use Rattle.ft_bank.specs.Shapes.{plan, IsShape};
 ghost use Rattle.ft_bank.specs.NewPasses.{HasMade, IsOpening, AreOpening};
 
-use crate::bank::Bank;
+use crate::bank::{Bank, nothing_kept};
 use crate::pass::Pass;
 use crate::shape::{MakeFault, Shape};
 use std::alloc::{AllocError, Global};
@@ -39,7 +39,8 @@ impl Bank {
     {
         let mut passes = Vec::new(alloc);
         for _ in 0..self.shape.passes - 1 {
-            passes.push(self.split(first))?;
+            let (sections, retired) = nothing_kept(alloc)?;
+            passes.push(self.split(first, sections, retired))?;
         }
         Ok(passes)
     }

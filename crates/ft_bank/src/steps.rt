@@ -144,7 +144,7 @@ impl Bank {
         self.table
             .shared
             .fetch_or::<Does<A>>(&mut pass.seat, word as usize, mask);
-        clear_bit(&mut pass.retired, table);
+        clear_bit(&mut *pass.retired, table);
     }
 
     /// Puts the goal of a retired table into its header: from then on the pass keeps it.
@@ -161,7 +161,7 @@ impl Bank {
         self.table
             .shared
             .store::<Does<A>>(&mut pass.seat, word as usize, goal);
-        set_bit(&mut pass.retired, table);
+        set_bit(&mut *pass.retired, table);
     }
 
     /// Loads a word, which is an action only where it isn't 0.

@@ -16,10 +16,10 @@ pub struct Resting {
     pub(crate) number: u32,
     pub(crate) next: u32,
     pub(crate) left: u64,
-    pub(crate) sections: Sections,
+    pub(crate) sections: Box<Sections>,
     pub(crate) own: Taking,
     pub(crate) mark: Option<u32>,
-    pub(crate) retired: [u64; RETIRED],
+    pub(crate) retired: Box<[u64; RETIRED]>,
     pub(crate) seat: Seat<(), View>,
     ghost bare: { seat.me.1 ≡ [] },
     ghost numbered: { seat.me.0.number ≡ suc number },
@@ -28,7 +28,7 @@ pub struct Resting {
     ghost settled: { seat.me.0.learnt ≤ shown seat.me.0.log },
     ghost still: { seat.me.0.tokens ≡ 0 },
     ghost wordless: { seat.me.0.floor ≡ [] },
-    ghost retiring: { AreRetired retired seat.me.0 },
+    ghost retiring: { AreRetired retired.value seat.me.0 },
     ghost possible: { ∥ IsReachable seat.me.0 ∥₁ },
 }
 

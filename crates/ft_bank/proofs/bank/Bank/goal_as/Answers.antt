@@ -1,11 +1,14 @@
 use Rattle.std.proofs.Common.{◌≡◌, sym, ap, ◌∙◌, subst, arith}
+use Rattle.std.specs.Prelude.{slice_index, slice_set}
+use Rattle.ft_trace.specs.Addresses.{free_bit_of, free_word_of}
+use Rattle.ft_trace.specs.Bits.{bit_on}
 use Rattle.ft_trace.specs.declared.Act.{Act}
 use Rattle.ft_trace.specs.declared.Shape.{Shape}
 use Rattle.ft_trace.specs.Acts.{left_next, view_after}
 use Rattle.ft_trace.specs.Traces.{IsReachable}
 use Rattle.ft_bank.specs.Retired.{AreRetired}
 use Rattle.ft_bank.specs.Shapes.{plan}
-use Rattle.ft_bank.specs.TableNames.{IsTableIn}
+use Rattle.ft_bank.specs.TableNames.{IsTableIn, table_id}
 use Rattle.ft_bank.proofs.Allowed.{stored, alive, acted_possible, token_kept, still_settled}
 use Rattle.ft_bank.proofs.Retiring.{goal_put}
 use Rattle.ft_bank.proofs.bank.Bank.goal_as.Goals as goal
@@ -19,6 +22,9 @@ pub invariant_of-pass : goal.invariant_of-pass
 invariant_of-pass g c =
     let p = c.args.pass.now in
     let e = c.store.ensures.2 in
+    let kept = c.deref_mut.ensures.value in
+    let place = free_word_of (table_id c.args.table) in
+    let changed = c.set_bit.ensures ∙ (λ d. slice_set (kept d) place (bit_on (free_bit_of (table_id c.args.table)) (slice_index (kept d) place))) in
     let is = c.requires.is c.args.goal in
     let left : left_next (g.A.Saying.act c.args.goal) p.seat.me.0.left ≡ p.seat.me.0.left = ap (λ (a : Act). left_next a p.seat.me.0.left) is in record {
       bare = e.1 ∙ p.bare;
@@ -27,6 +33,6 @@ invariant_of-pass g c =
       leaves = p.leaves ∙ (sym left ∙ sym (ap (λ v. v.left) e.0));
       awake = token_kept _ _ (ap (λ v. v.tokens) e.0) p.awake;
       settled = still_settled p.seat.me.0 _ _ e.0 p.settled;
-      retiring = subst (λ l. AreRetired l c.store.new.seat.me.0) (sym c.set_bit.ensures) (goal_put p.retired p.seat.me.0 c.store.new.seat.me.0 c.args.table (subst (λ (z : Shape). IsTableIn z c.args.table) (sym c.requires.pass.1) c.requires.table) p.retiring c.args.goal (e.0 ∙ ap (λ (a : Act). view_after a p.seat.me.0) is));
+      retiring = subst (λ l. AreRetired l c.store.new.seat.me.0) (sym changed) (goal_put p.retired.value p.seat.me.0 c.store.new.seat.me.0 c.args.table (subst (λ (z : Shape). IsTableIn z c.args.table) (sym c.requires.pass.1) c.requires.table) p.retiring c.args.goal (e.0 ∙ ap (λ (a : Act). view_after a p.seat.me.0) is));
       possible = ∣ subst IsReachable (sym e.0) (acted_possible p.seat.me.0 _ e.2) ∣₁;
     }

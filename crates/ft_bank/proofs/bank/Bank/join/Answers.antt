@@ -1,4 +1,5 @@
 use Rattle.std.proofs.Common.{refl, ◌+◌, ◌*◌, ◌^◌, ◌<◌, sym, ap, ◌∙◌, subst, arith}
+use Rattle.std.specs.Prelude.{bit_or, slice_index}
 use Rattle.ft_trace.specs.declared.Shape.{Shape}
 use Rattle.ft_trace.specs.declared.View.{View}
 use Rattle.ft_trace.specs.declared.Act.TheVariants.{ReadCounter}
@@ -29,7 +30,7 @@ invariant_of-pass c =
       leaves = (λ j. p.leaves j + c.args.other.leaves j) ∙ sym (ap (λ (v : View). v.left) e);
       awake = (let token = p.awake in omega (arith, token, ap (λ (v : View). v.tokens) e));
       settled = load_settles (both (view p) (view c.args.other)) d.0 _ e d.2;
-      retiring = retired_by _ (both (view p) (view c.args.other)) _ (ReadCounter d.0) e (λ t b. refl) (retired_both p.retired c.args.other.retired _ (view p) (view c.args.other) (c.requires.passes.1.1 ∙ sym c.requires.passes.0.1) c.args.other.possible c.merge.ensures.long c.merge.ensures.merged p.retiring c.args.other.retiring);
+      retiring = retired_by _ (both (view p) (view c.args.other)) _ (ReadCounter d.0) e (λ t b. refl) (retired_both p.retired.value c.args.other.retired.value _ (view p) (view c.args.other) (c.requires.passes.1.1 ∙ sym c.requires.passes.0.1) c.args.other.possible c.merge.ensures.long (λ n low. c.merge.ensures.merged n low ∙ (λ d. bit_or (slice_index (c.deref_mut.ensures.value d) n) (slice_index (c.deref.ensures d) n))) p.retiring c.args.other.retiring);
       possible = ∣ subst IsReachable (sym e) (acted_possible (both (view p) (view c.args.other)) (ReadCounter d.0) d.2) ∣₁;
     }
 

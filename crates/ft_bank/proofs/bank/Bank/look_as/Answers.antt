@@ -25,7 +25,7 @@ invariant_of-pass g c =
       leaves = p.leaves ∙ sym (ap (λ m. m.0.left) e);
       awake = token_kept _ _ (ap (λ m. m.0.tokens) e) p.awake;
       settled = same_settled _ _ (ap (λ m. m.0) e) p.settled;
-      retiring = subst (λ m. AreRetired p.retired m.0) (sym e) p.retiring;
+      retiring = subst (λ m. AreRetired p.retired.value m.0) (sym e) p.retiring;
       possible = ∥∥₁_map p.possible (λ x. subst IsReachable (sym (ap (λ m. m.0) e)) x);
     })
     (λ some_one. let f = c.load.ensures.2.1 some_one in let e = f.1 in record {

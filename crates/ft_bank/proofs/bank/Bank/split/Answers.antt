@@ -1,4 +1,4 @@
-use Rattle.std.proofs.Common.{◌≡◌, ◌≢◌, ℕ, suc, ◌-◌, sym, ap, ◌∙◌, subst, arith}
+use Rattle.std.proofs.Common.{◌≡◌, ◌≢◌, ℕ, List, suc, ◌-◌, sym, ap, ◌∙◌, subst, arith}
 use Rattle.std.proofs.Math.Logic.{∥∥₁_map}
 use Rattle.ft_trace.specs.declared.Shape.{Shape}
 use Rattle.ft_trace.specs.Addresses.{counter}
@@ -9,6 +9,7 @@ use Rattle.ft_trace.proofs.Sharing.{maker_possible, made_possible}
 use Rattle.ft_bank.specs.Shapes.{plan}
 use Rattle.ft_bank.proofs.Allowed.{cuts, same_settled}
 use Rattle.ft_trace.specs.Acts.{has_goal}
+use Rattle.ft_bank.specs.Retired.{AreRetired}
 use Rattle.ft_bank.proofs.Retiring.{retired_same, retired_none}
 use Rattle.ft_bank.proofs.bank.Bank.split.Goals as goal
 
@@ -41,7 +42,7 @@ invariant_of-result c =
       leaves = calls ∙ sym (ap (λ m. m.0.left) e);
       awake = omega (arith, ap (λ m. m.0.tokens) e);
       settled = same_settled _ (made p.seat.me.0) (ap (λ m. m.0) e) (omega arith);
-      retiring = retired_none _ (ap (λ m. m.0.log) e);
+      retiring = subst (λ (l : List ℕ). AreRetired l c.split_seat-seat.result.me.0) (sym c.requires.retired) (retired_none _ (ap (λ m. m.0.log) e));
       possible = ∥∥₁_map p.possible (λ x. subst IsReachable (sym (ap (λ m. m.0) e)) (made_possible p.seat.me.0 c.requires.may x));
     }
   where

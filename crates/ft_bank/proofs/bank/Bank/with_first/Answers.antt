@@ -6,6 +6,7 @@ use Rattle.ft_bank.specs.Shapes.{plan}
 use Rattle.ft_bank.proofs.StartWords.{fits_of}
 use Rattle.ft_bank.proofs.Allowed.{same_settled}
 use Rattle.ft_trace.specs.Acts.{starter}
+use Rattle.ft_bank.specs.Retired.{AreRetired}
 use Rattle.ft_bank.proofs.Retiring.{retired_none}
 use Rattle.ft_bank.proofs.bank.Bank.with_first.Goals as goal
 
@@ -21,7 +22,7 @@ invariant_of-pass c =
       leaves = (λ d. c.from.ensures d * c.from-2.ensures d) ∙ sym (ap (λ m. m.0.left) e);
       awake = (let some_pass = c.requires.passes.0 in omega (arith, some_pass, ap (λ m. m.0.tokens) e));
       settled = same_settled _ (starter (plan c.args.shape)) (ap (λ m. m.0) e) (omega arith);
-      retiring = retired_none _ (ap (λ m. m.0.log) e);
+      retiring = subst (λ (l : List ℕ). AreRetired l c.in_ok-table.seat.me.0) (sym c.in_ok-sections.ensures.retired) (retired_none _ (ap (λ m. m.0.log) e));
       possible = ∣ subst IsReachable (sym (ap (λ m. m.0) e)) ([], 0, (fits_of c.args.shape c.requires, refl)) ∣₁;
     }
 

@@ -39,7 +39,9 @@ pub struct Bank {
 
 /// Memory for what a pass keeps of its open sections and of the tables that it retired; there are none yet. Boxes make
 /// a pass quick to move.
-pub(crate) fn nothing_kept(alloc: Global) -> Result<(Box<Sections>, Box<[u64; RETIRED]>), AllocError>
+pub(crate) fn nothing_kept(
+    alloc: Global,
+) -> Result<(Box<Sections>, Box<[u64; RETIRED]>), AllocError>
     ensures sections { IfOk result (λ kept. kept.0.value ≡ []) }
     ensures retired { IfOk result (λ kept. kept.1.value ≡ replicate 224 0) }
 {
@@ -90,7 +92,12 @@ impl Bank {
 
     /// Makes another pass, which may make as many calls as the shape says for one. Only the first pass
     /// may, while fewer than the shape's passes were made.
-    pub(crate) fn split(&self, pass: &mut Pass, sections: Box<Sections>, retired: Box<[u64; RETIRED]>) -> Pass
+    pub(crate) fn split(
+        &self,
+        pass: &mut Pass,
+        sections: Box<Sections>,
+        retired: Box<[u64; RETIRED]>,
+    ) -> Pass
         requires sections { sections.value ≡ [] }
         requires retired { retired.value ≡ replicate 224 0 }
         requires pass { IsPassOf self.now pass.old }

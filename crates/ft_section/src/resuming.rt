@@ -57,13 +57,16 @@ pub fn resume(bank: &Bank, pass: &mut Pass) -> Resumed
     ensures waiting { IfStillWaits result (λ o q. stack_of pass.new ≡ waiting (with_own (stack_of pass.old) (stack_of pass.new).own) q) }
 {
     let mark = pass.mark();
-    let mut sections = pass.sections().copied();
     // There is room for the innermost section to be put back.
-    let depth = sections.depth();
+    let depth = pass.sections().depth();
     prove!(depth <= 16);
-    let Some(top) = sections.pop() else {
+    if depth == 0 {
         pass.put_mark(None);
         return Resumed::Back(mark);
+    }
+    let mut sections = pass.sections().copied();
+    let Some(top) = sections.pop() else {
+        unreachable!()
     };
     match take_both(bank, pass, top.locks.lower, top.locks.upper) {
         Ok(()) => {

@@ -1,7 +1,7 @@
 use Rattle.std.proofs.Common.{◌≡◌, ◌<◌, ◌≤◌, ◌+◌, ◌⊎◌, ℕ, List, [], ◌∷◌, false, length, inr, ⊎_elim, refl, sym, ap, ◌∙◌, subst, arith, length-append}
 use Rattle.std.specs.Prelude.{All, None}
 use Rattle.std.proofs.lemmas.Bool.{true≢false}
-use Rattle.std.proofs.lemmas.List.{same_from_push}
+use Rattle.std.proofs.lemmas.List.{nil_from_length, same_from_push}
 use Rattle.std.proofs.lemmas.List.Elements.{All-push}
 use Rattle.ft_bank.specs.declared.sections.OpenSection.{OpenSection}
 use Rattle.ft_bank.specs.declared.sections.Taking.{Taking}
@@ -22,19 +22,20 @@ use Rattle.ft_trace.specs.Owners.{LocksOnly, SameOwners}
 use Rattle.ft_trace.proofs.Owning.{locks_only_then, same_locks_only, same_owners}
 use Rattle.ft_section.proofs.resuming.resume.Goals as goal
 
-pub returns-in_default-clause-locked : goal.returns-in_default-clause-locked
-returns-in_default-clause-locked c =
+pub returns-then-depth-eq0-clause-locked : goal.returns-then-depth-eq0-clause-locked
+returns-then-depth-eq0-clause-locked c =
     subst (OnlyLocked (view c.args.pass.now)) (sym c.put_mark.ensures.view.1) (only_same (view c.args.pass.now))
 
-pub returns-in_default-clause-stack : goal.returns-in_default-clause-stack
-returns-in_default-clause-stack c =
-    let none = sym (c.copied-sections.ensures ∙ c.sections.ensures) ∙ (c.pop.ensures.none c.in_default.is).0 in
+pub returns-then-depth-eq0-clause-stack : goal.returns-then-depth-eq0-clause-stack
+returns-then-depth-eq0-clause-stack c =
+    let depth = c.depth-depth.ensures.depth in
+    let none = sym c.sections.ensures ∙ nil_from_length c.sections.result.now (omega (arith, depth)) in
     none_up (stack_of c.args.pass.now) (stack_of c.put_mark.new.self) none (c.requires.none none) c.put_mark.ensures.stack
 
 pub take_both-requires-clause-containers : goal.take_both-requires-clause-containers
 take_both-requires-clause-containers c =
     let p = c.args.pass.now in
-    let split = sym (c.copied-sections.ensures ∙ c.sections.ensures) ∙ c.pop.ensures.some c.in-Some.top c.in-Some.is in
+    let split = sym (c.copied-sections.ensures ∙ c.sections-2.ensures) ∙ c.pop.ensures.some c.in-Some.top c.in-Some.is in
     let t = top_taking (view p) (stack_of p) c.pop.new.self c.in-Some.top c.requires.inside.1 split in
     let upper = subst (λ (k : Shape). c.in-Some.top.locks.upper < container_count k) c.requires.inside.0.1 t.low in
     let order = t.order in
@@ -42,12 +43,12 @@ take_both-requires-clause-containers c =
 
 pub take_both-requires-clause-own : goal.take_both-requires-clause-own
 take_both-requires-clause-own c =
-    c.requires.own c.pop.new.self c.in-Some.top (sym (c.copied-sections.ensures ∙ c.sections.ensures) ∙ c.pop.ensures.some c.in-Some.top c.in-Some.is)
+    c.requires.own c.pop.new.self c.in-Some.top (sym (c.copied-sections.ensures ∙ c.sections-2.ensures) ∙ c.pop.ensures.some c.in-Some.top c.in-Some.is)
 
 pub joined-requires-clause-apart : goal.joined-requires-clause-apart
 joined-requires-clause-apart c o =
     let q = c.take_both.new.pass in
-    let split = ap (λ (s : Stack). s.sections) c.take_both.ensures.stack ∙ (sym (c.copied-sections.ensures ∙ c.sections.ensures) ∙ c.pop.ensures.some c.in-Some.top c.in-Some.is) in
+    let split = ap (λ (s : Stack). s.sections) c.take_both.ensures.stack ∙ (sym (c.copied-sections.ensures ∙ c.sections-2.ensures) ∙ c.pop.ensures.some c.in-Some.top c.in-Some.is) in
     subst (λ (t : Taking). taken_in o c.in-Some.top.locks + taken_in o t ≤ 1) (sym c.own.ensures)
     (top_apart (view q) (stack_of q) c.pop.new.self c.in-Some.top c.take_both.ensures.inside.1 split o)
 
@@ -55,14 +56,15 @@ pub push-requires : goal.push-requires
 push-requires c =
     let e = ap length (c.pop.ensures.some c.in-Some.top c.in-Some.is) ∙ length-append c.pop.new.self (c.in-Some.top ∷ []) in
     let d = c.depth-depth.ensures in
-    omega (arith, e, d.depth, d.few)
+    let same = ap length (c.copied-sections.ensures ∙ (c.sections-2.ensures ∙ sym c.sections.ensures)) in
+    omega (arith, e, same, d.depth, d.few)
 
 pub wait-requires-clause-marked : goal.wait-requires-clause-marked
 wait-requires-clause-marked c a e =
     let p = c.args.pass.now in
     let v = view p in
     let top = c.in-Some.top in
-    let split = sym (c.copied-sections.ensures ∙ c.sections.ensures) ∙ c.pop.ensures.some c.in-Some.top c.in-Some.is in
+    let split = sym (c.copied-sections.ensures ∙ c.sections-2.ensures) ∙ c.pop.ensures.some c.in-Some.top c.in-Some.is in
     let mark = ap (λ (s : Stack). s.mark) c.take_both.ensures.stack in
     let sections = ap (λ (s : Stack). s.sections) c.take_both.ensures.stack in
     let m = c.requires.inside.1.marked a (sym mark ∙ e) c.pop.new.self top split in
@@ -76,7 +78,7 @@ returns-in-Ok-clause-ready c =
     let r = c.put_mark-in-Ok.new.self in
     let top = c.in-Some.top in
     let again : OpenSection = record { locks = c.joined.result; marks = top.marks } in
-    let split0 = sym (c.copied-sections.ensures ∙ c.sections.ensures) ∙ c.pop.ensures.some c.in-Some.top c.in-Some.is in
+    let split0 = sym (c.copied-sections.ensures ∙ c.sections-2.ensures) ∙ c.pop.ensures.some c.in-Some.top c.in-Some.is in
     let split = ap (λ (s : Stack). s.sections) c.take_both.ensures.stack ∙ split0 in
     let t = top_taking (view c.args.pass.now) (stack_of c.args.pass.now) c.pop.new.self top c.requires.inside.1 split0 in
     let lower = ap (λ (x : Taking). x.lower) c.joined.ensures.rest in
@@ -93,7 +95,7 @@ pub returns-in-Ok-clause-stack : goal.returns-in-Ok-clause-stack
 returns-in-Ok-clause-stack c =
     let top = c.in-Some.top in
     let locks = c.joined.result in
-    let split = sym (c.copied-sections.ensures ∙ c.sections.ensures) ∙ c.pop.ensures.some c.in-Some.top c.in-Some.is in
+    let split = sym (c.copied-sections.ensures ∙ c.sections-2.ensures) ∙ c.pop.ensures.some c.in-Some.top c.in-Some.is in
     let stack = c.put_mark-in-Ok.ensures.stack
     ∙ (ap (λ (s : Stack). record s { mark = None }) (c.put_own.ensures.stack ∙ ap (λ (s : Stack). record s { own = nothing_taken }) c.put_sections.ensures.stack)
     ∙ ap (λ (xs : List OpenSection). record { sections = xs; own = nothing_taken; mark = None }) c.push.ensures) in
@@ -105,7 +107,7 @@ returns-in-Err-clause-locked c =
 
 pub returns-in-Err-clause-needed : goal.returns-in-Err-clause-needed
 returns-in-Err-clause-needed c =
-    (c.pop.new.self, c.in-Some.top, sym (c.copied-sections.ensures ∙ c.sections.ensures) ∙ c.pop.ensures.some c.in-Some.top c.in-Some.is, c.in-Err.ensures.found.0)
+    (c.pop.new.self, c.in-Some.top, sym (c.copied-sections.ensures ∙ c.sections-2.ensures) ∙ c.pop.ensures.some c.in-Some.top c.in-Some.is, c.in-Err.ensures.found.0)
 
 pub returns-in-Err-clause-found : goal.returns-in-Err-clause-found
 returns-in-Err-clause-found c =
@@ -115,7 +117,7 @@ pub returns-in-Err-clause-lacked : goal.returns-in-Err-clause-lacked
 returns-in-Err-clause-lacked c has =
     let v = view c.args.pass.now in
     let top = c.in-Some.top in
-    let both = has c.pop.new.self top (sym (c.copied-sections.ensures ∙ c.sections.ensures) ∙ c.pop.ensures.some top c.in-Some.is) in
+    let both = has c.pop.new.self top (sym (c.copied-sections.ensures ∙ c.sections-2.ensures) ∙ c.pop.ensures.some top c.in-Some.is) in
     ⊎_elim (λ (x : has_lock top.locks.lower v.log ≡ false). true≢false (sym both.0 ∙ x)) (λ (x : has_lock top.locks.upper v.log ≡ false). true≢false (sym both.1 ∙ x)) c.in-Err.ensures.lacked
 
 pub returns-in-Err-clause-may : goal.returns-in-Err-clause-may
@@ -123,7 +125,7 @@ returns-in-Err-clause-may c =
     let q = c.take_both.new.pass in
     let top = c.in-Some.top in
     let m = marks_more (stack_of q).mark in
-    let split = ap (λ (s : Stack). s.sections) c.take_both.ensures.stack ∙ (sym (c.copied-sections.ensures ∙ c.sections.ensures) ∙ c.pop.ensures.some c.in-Some.top c.in-Some.is) in
+    let split = ap (λ (s : Stack). s.sections) c.take_both.ensures.stack ∙ (sym (c.copied-sections.ensures ∙ c.sections-2.ensures) ∙ c.pop.ensures.some c.in-Some.top c.in-Some.is) in
     let sections = ap (λ (s : Stack). s.sections) c.wait.ensures.stack in
     let own = ap (λ (s : Stack). s.own) c.wait.ensures.stack in
     record {
@@ -142,7 +144,7 @@ pub returns-in-Ok-clause-known : goal.returns-in-Ok-clause-known
 returns-in-Ok-clause-known c has outer top cut =
     let v = view c.args.pass.now in
     let m = (stack_of c.args.pass.now).mark in
-    let split = sym (c.copied-sections.ensures ∙ c.sections.ensures) ∙ c.pop.ensures.some c.in-Some.top c.in-Some.is in
+    let split = sym (c.copied-sections.ensures ∙ c.sections-2.ensures) ∙ c.pop.ensures.some c.in-Some.top c.in-Some.is in
     let same = same_from_push c.pop.new.self outer c.in-Some.top top (sym split ∙ cut) in
     ap resumed.Back c.mark-mark.ensures ∙ (ap (resumed_by m) (c.in-Ok.ensures.known has) ∙ ap (λ (s : OpenSection). resumed_by m (first_owned s.locks.lower s.locks.upper v)) same.1)
 
@@ -150,37 +152,38 @@ pub returns-in-Err-clause-known : goal.returns-in-Err-clause-known
 returns-in-Err-clause-known c has outer top cut =
     let v = view c.args.pass.now in
     let m = (stack_of c.args.pass.now).mark in
-    let split = sym (c.copied-sections.ensures ∙ c.sections.ensures) ∙ c.pop.ensures.some c.in-Some.top c.in-Some.is in
+    let split = sym (c.copied-sections.ensures ∙ c.sections-2.ensures) ∙ c.pop.ensures.some c.in-Some.top c.in-Some.is in
     let same = same_from_push c.pop.new.self outer c.in-Some.top top (sym split ∙ cut) in
     ap (resumed_by m) (c.in-Err.ensures.known has) ∙ ap (λ (s : OpenSection). resumed_by m (first_owned s.locks.lower s.locks.upper v)) same.1
 
 pub returns-in-Err-clause-none : goal.returns-in-Err-clause-none
 returns-in-Err-clause-none c nil =
-    let split = sym (c.copied-sections.ensures ∙ c.sections.ensures) ∙ c.pop.ensures.some c.in-Some.top c.in-Some.is in
+    let split = sym (c.copied-sections.ensures ∙ c.sections-2.ensures) ∙ c.pop.ensures.some c.in-Some.top c.in-Some.is in
     absurd (push_some c.pop.new.self c.in-Some.top (sym split ∙ nil))
 
 pub returns-in-Err-clause-kept : goal.returns-in-Err-clause-kept
 returns-in-Err-clause-kept c outer top cut =
-    let split = sym (c.copied-sections.ensures ∙ c.sections.ensures) ∙ c.pop.ensures.some c.in-Some.top c.in-Some.is in
+    let split = sym (c.copied-sections.ensures ∙ c.sections-2.ensures) ∙ c.pop.ensures.some c.in-Some.top c.in-Some.is in
     let same = same_from_push c.pop.new.self outer c.in-Some.top top (sym split ∙ cut) in
     let own = ap (λ (s : Stack). s.own) c.wait.ensures.stack in
     subst (λ (s : OpenSection). KeepsLower s.locks.lower c.in-Err.o c.args.pass.now c.wait.new.pass) same.1 (λ r. ap (taken_in r) own ∙ c.in-Err.ensures.kept r)
 
 -- the locks that were taken are of the innermost section
 
-pub returns-in_default-clause-only : goal.returns-in_default-clause-only
-returns-in_default-clause-only c outer top cut =
-    let none = sym (c.copied-sections.ensures ∙ c.sections.ensures) ∙ (c.pop.ensures.none c.in_default.is).0 in
+pub returns-then-depth-eq0-clause-only : goal.returns-then-depth-eq0-clause-only
+returns-then-depth-eq0-clause-only c outer top cut =
+    let depth = c.depth-depth.ensures.depth in
+    let none = sym c.sections.ensures ∙ nil_from_length c.sections.result.now (omega (arith, depth)) in
     absurd (push_some outer top (sym cut ∙ none))
 
-pub returns-in_default-clause-owners : goal.returns-in_default-clause-owners
-returns-in_default-clause-owners c nil = subst (SameOwners (view c.args.pass.now)) (sym c.put_mark.ensures.view.1) (same_owners (view c.args.pass.now))
+pub returns-then-depth-eq0-clause-owners : goal.returns-then-depth-eq0-clause-owners
+returns-then-depth-eq0-clause-owners c nil = subst (SameOwners (view c.args.pass.now)) (sym c.put_mark.ensures.view.1) (same_owners (view c.args.pass.now))
 
 pub returns-in-Ok-clause-only : goal.returns-in-Ok-clause-only
 returns-in-Ok-clause-only c outer top cut =
     let u = view c.args.pass.now in
     let w = view c.put_mark-in-Ok.new.self in
-    let split = sym (c.copied-sections.ensures ∙ c.sections.ensures) ∙ c.pop.ensures.some c.in-Some.top c.in-Some.is in
+    let split = sym (c.copied-sections.ensures ∙ c.sections-2.ensures) ∙ c.pop.ensures.some c.in-Some.top c.in-Some.is in
     let same = same_from_push c.pop.new.self outer c.in-Some.top top (sym split ∙ cut) in
     let views = c.put_mark-in-Ok.ensures.view.1 ∙ (c.put_own.ensures.view.1 ∙ c.put_sections.ensures.view.1) in
     subst (λ (s : OpenSection). LocksOnly (λ o. (o ≡ s.locks.lower) ⊎ (o ≡ s.locks.upper)) u w) same.1
@@ -188,7 +191,7 @@ returns-in-Ok-clause-only c outer top cut =
 
 pub returns-in-Ok-clause-owners : goal.returns-in-Ok-clause-owners
 returns-in-Ok-clause-owners c nil =
-    let split = sym (c.copied-sections.ensures ∙ c.sections.ensures) ∙ c.pop.ensures.some c.in-Some.top c.in-Some.is in
+    let split = sym (c.copied-sections.ensures ∙ c.sections-2.ensures) ∙ c.pop.ensures.some c.in-Some.top c.in-Some.is in
     absurd (push_some c.pop.new.self c.in-Some.top (sym split ∙ nil))
 
 pub returns-in-Err-clause-only : goal.returns-in-Err-clause-only
@@ -197,12 +200,12 @@ returns-in-Err-clause-only c outer top cut =
     let v = view c.take_both.new.pass in
     let w = view c.wait.new.pass in
     let P : ℕ → Type 0 = λ o. (o ≡ c.in-Some.top.locks.lower) ⊎ (o ≡ c.in-Some.top.locks.upper) in
-    let split = sym (c.copied-sections.ensures ∙ c.sections.ensures) ∙ c.pop.ensures.some c.in-Some.top c.in-Some.is in
+    let split = sym (c.copied-sections.ensures ∙ c.sections-2.ensures) ∙ c.pop.ensures.some c.in-Some.top c.in-Some.is in
     let same = same_from_push c.pop.new.self outer c.in-Some.top top (sym split ∙ cut) in
     subst (λ (s : OpenSection). LocksOnly (λ o. (o ≡ s.locks.lower) ⊎ (o ≡ s.locks.upper)) u w) same.1
     (locks_only_then P u v w c.wait.ensures.locked.number c.take_both.ensures.only (same_locks_only P v w c.wait.ensures.owners))
 
 pub returns-in-Err-clause-owners : goal.returns-in-Err-clause-owners
 returns-in-Err-clause-owners c nil =
-    let split = sym (c.copied-sections.ensures ∙ c.sections.ensures) ∙ c.pop.ensures.some c.in-Some.top c.in-Some.is in
+    let split = sym (c.copied-sections.ensures ∙ c.sections-2.ensures) ∙ c.pop.ensures.some c.in-Some.top c.in-Some.is in
     absurd (push_some c.pop.new.self c.in-Some.top (sym split ∙ nil))

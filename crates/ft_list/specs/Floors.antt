@@ -13,5 +13,6 @@ use Rattle.ft_list.specs.ItemLooks.{StopsItemLook}
 -- no version of an item stops them, and none of the list
 abbrev pub FloorItemsStand : Type 0
 FloorItemsStand =
-    (w : View) (part : List Act) → IsReachable w → LooksWithFloor w part → (o index a b : ℕ) → o < container_count w.shape
+    (w : View) (part : List Act) → IsReachable w → LooksWithFloor w part → (o index a b : ℕ)
+      → o < container_count w.shape
     → IsItems (kind_in w.shape.starts o) → StopsItemLook o index a b part → ⊥

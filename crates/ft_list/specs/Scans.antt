@@ -10,4 +10,5 @@ use Rattle.ft_trace.specs.ContainerStates.{ContainerState}
 -- where these words stand for a list, this is so of its items
 abbrev pub IsOfItems : Shape → (List Value → Type 0) → ContainerWords → Type 0
 IsOfItems k holds x =
-    (kept : ContainerState) → kind_of kept.content ≡ kind.List → Represents k.texts x kept → holds (list_of kept.content)
+    (kept : ContainerState) → kind_of kept.content ≡ kind.List → Represents k.texts x kept
+      → holds (list_of kept.content)

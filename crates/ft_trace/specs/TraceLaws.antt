@@ -277,7 +277,8 @@ GivenUpTablesRest =
 -- what holds at every moment of the table that a root names, also while the version is odd
 abbrev pub TablesAreSound : Type 0
 TablesAreSound =
-    (k : Shape) (es : List Event) → Valid k es → (o : ℕ) → o < container_count k → (t : ℕ) → word k es (block o 0) ≡ suc t
+    (k : Shape) (es : List Event) → Valid k es → (o : ℕ) → o < container_count k → (t : ℕ)
+      → word k es (block o 0) ≡ suc t
     → SoundFor k (run k es).words o t (container_after k.starts (history es) o).content
 
 -- what stays of it from then on until it is taken out of the root
@@ -314,7 +315,8 @@ MissesAreRight =
 -- where the root was read 0 there is nothing at the stamp
 abbrev pub BareRootsAreRight : Type 0
 BareRootsAreRight =
-    (k : Shape) (es : List Event) → Valid k es → (o n : ℕ) → o < container_count k → (j : ℕ) (u : View) → HasView k es j u
+    (k : Shape) (es : List Event) → Valid k es → (o n : ℕ) → o < container_count k → (j : ℕ) (u : View)
+      → HasView k es j u
     → Bare u.log o n → (n ≤ word k es counter) × IsNothing (container_after k.starts (first_writes n (history es)) o)
 
 -- an item that was read is the list's at the stamp
@@ -353,7 +355,8 @@ LooksAtBothAreRight =
 -- a root that has changed since the pass read it names a table that the pass has not found since it last announced
 abbrev pub ChangedRootsAreNew : Type 0
 ChangedRootsAreNew =
-    (k : Shape) (es : List Event) → Valid k es → (j : ℕ) (u : View) → HasView k es j u → (o r : ℕ) → o < container_count k
+    (k : Shape) (es : List Event) → Valid k es → (j : ℕ) (u : View) → HasView k es j u → (o r : ℕ)
+      → o < container_count k
     → (log : List Act) → u.log ≡ ReadRoot o r ∷ log → IsNew o r log
 
 -- ---- room

@@ -47,5 +47,6 @@ IsAtKey (content.Deque deque) key read = ⊥
 -- where this is the key's hash, and these words stand for a dict or a set that is searched this way
 abbrev pub IsFoundIn : Shape → Way → ℕ → Key → Option (ℕ × ℕ) → ContainerWords → Type 0
 IsFoundIn k way hash key read x =
-    hash ≡ hash_of k.texts key → (kept : ContainerState) → kind_of kept.content ≡ kind_by way → Represents k.texts x kept
+    hash ≡ hash_of k.texts key → (kept : ContainerState) → kind_of kept.content ≡ kind_by way
+      → Represents k.texts x kept
     → IsAtKey kept.content key read

@@ -130,11 +130,11 @@ pub record Wrote (called : Call) (said : Reply) (number : ℕ) (v w : View) : Ty
   pub entries : w.entries ≡ write_entry called said number ∷ v.entries
   pub hands : (t : ℕ) → stage t w.log
       ≡ hand_after (changes called) (root_in (held_words (changes called) v))
-        (root_in (held_words (changes called) w)) t
+      (root_in (held_words (changes called) w)) t
       (stage t v.log)
   pub debt : debt w.log
       ≡ debt_after (changes called) (root_in (held_words (changes called) v))
-        (root_in (held_words (changes called) w)) (debt v.log)
+      (root_in (held_words (changes called) w)) (debt v.log)
   pub used : used w.log ≡ false
   pub owes : owes w.log ≡ 0
   pub others : (p : ℕ) → p < container_count v.shape → p ≢ changes called → has_lock p v.log ≡ true

@@ -14,5 +14,5 @@ use Rattle.ft_list.specs.ItemLooks.{StopsItemLook}
 abbrev pub FloorItemsStand : Type 0
 FloorItemsStand =
     (w : View) (part : List Act) → IsReachable w → LooksWithFloor w part → (o index a b : ℕ)
-      → o < container_count w.shape
+    → o < container_count w.shape
     → IsItems (kind_in w.shape.starts o) → StopsItemLook o index a b part → ⊥

@@ -108,7 +108,9 @@ pub record MayFinishItems
   pub after : List Value
   pub left : (stored : StoredWorld) → MayHave v stored
       → state_at (after_stored stored called) o
-      ≡ record { content = content.List after;
-        table = record { class = Some (class_of (table_id table)); fill = 0; keys = [] } }
+      ≡ record {
+        content = content.List after;
+        table = record { class = Some (class_of (table_id table)); fill = 0; keys = [] };
+      }
   pub head : IsBlock (held_words o v).block (Some (class_of (table_id table))) (length after) 0 0
   pub changing : IsChanging (class_of (table_id table)) before after first past (held_words o v).table

@@ -11,4 +11,4 @@ use Rattle.ft_trace.specs.ContainerStates.{ContainerState}
 abbrev pub IsOfItems : Shape → (List Value → Type 0) → ContainerWords → Type 0
 IsOfItems k holds x =
     (kept : ContainerState) → kind_of kept.content ≡ kind.List → Represents k.texts x kept
-      → holds (list_of kept.content)
+    → holds (list_of kept.content)

@@ -55,7 +55,7 @@ pub record PartsSets (s t : ℕ) (called : Call) (v : View) : Type 0 where
   pub lacks : (found : StoredWorld) → MayHave v found → CanLackMemory found.world called
   pub over : (found : StoredWorld) → MayHave v found
       → would_pass found.world called
-        ≡ passes_cap (content.Set (parted (known_state s v).content (known_state t v).content))
+      ≡ passes_cap (content.Set (parted (known_state s v).content (known_state t v).content))
   pub takes : (found : StoredWorld) → MayHave v found
       → takes_in found called ≡ part_takes (known_state s v) (known_state t v).content
   pub left_is : (found : StoredWorld) → MayHave v found

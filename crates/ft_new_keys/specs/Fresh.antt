@@ -74,5 +74,5 @@ pub record HasZeroWords (class : ℕ) (words : List ℕ) : Type 0 where
 pub record IsFilledWith (texts : List ℕ) (class : ℕ) (content : Content) (words : List ℕ) : Type 0 where
   pub says : (block : List ℕ) → IsBlock block (Some class) (length_of content) (length_of content) (serial_of content)
       → StandsAs texts block (0 ∷ 0 ∷ words)
-        (record { class = Some class; fill = length_of content; keys = [] }) content
+      (record { class = Some class; fill = length_of content; keys = [] }) content
   pub versions : (place : ℕ) → place < rows (kind_of content) class → entry_field (slots class) words place 0 ≡ 0

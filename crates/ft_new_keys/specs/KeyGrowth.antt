@@ -113,7 +113,7 @@ pub record AddsKey (o : ℕ) (called : Call) (said : Reply) (key : Key) (stored 
   pub lacks : (found : StoredWorld) → MayHave v found → CanLackMemory found.world called
   pub over : (found : StoredWorld) → MayHave v found
       → would_pass found.world called
-        ≡ nat_lt (most_of (known_state o v).content) (length_of (known_state o v).content + 1)
+      ≡ nat_lt (most_of (known_state o v).content) (length_of (known_state o v).content + 1)
   pub takes : (found : StoredWorld) → MayHave v found
       → takes_in found called ≡ key_takes (known_state o v).content (known_state o v).table
   pub left_is : (found : StoredWorld) → MayHave v found → state_at (after_stored found called) o ≡ record {

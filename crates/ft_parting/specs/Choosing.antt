@@ -64,4 +64,4 @@ pub record IsChosen (k : Shape) (s : ℕ) (from : Table) (t : ℕ) (table : Tabl
   pub room : length (mine ++ chosen (set_of (known_state t v).content).elements first used)
       ≤ rows kind.Set (class_of (table_id table))
   pub has : HasChosen k table (mine ++
-    chosen (set_of (known_state t v).content).elements first (take place used)) count v
+      chosen (set_of (known_state t v).content).elements first (take place used)) count v

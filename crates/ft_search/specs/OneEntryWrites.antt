@@ -102,7 +102,7 @@ pub record MayFinish (o : ℕ) (table : Table) (place : ℕ) (called : Call) (sa
   pub stands : Represents v.shape.texts (raised_at (table_id table) place (held_words o v)) left
   pub shut : Shut (version_at (kind_in v.shape.starts o) (class_of (table_id table)))
       (rows (kind_in v.shape.starts o) (class_of (table_id table)))
-        (raised_at (table_id table) place (held_words o v)).table
+      (raised_at (table_id table) place (held_words o v)).table
 
 -- What a deletion puts before the commit: it counts one pair or element fewer, makes the version of the entry odd, and
 -- then changes the kind of its key to that of a deleted one. (profile)

@@ -31,12 +31,12 @@ spot_in table found read = spot.Bare
 abbrev pub IsSpot : Shape → ℕ → Way → Key → View → Spot → Type 0
 IsSpot k o way key v (spot.At table place kind payload) =
     HasTable k o table v × IsLiveEntry k o table place key v
-      × IsHeldAt (known_state o v).content key (Some (kind, payload))
+    × IsHeldAt (known_state o v).content key (Some (kind, payload))
     × (kind ≡ entry_field (slots (class_of (table_id table))) (held_words o v).table place 4)
     × (payload ≡ entry_field (slots (class_of (table_id table))) (held_words o v).table place 5)
 IsSpot k o way key v (spot.Free table slot) =
     HasTable k o table v × (slot ≤ class_mask table.class)
     × FirstFree (0 ∷ 0 ∷ (held_words o v).table)
-      (walk_slots way (hash_of k.texts key) (class_mask table.class)) (Some slot)
+    (walk_slots way (hash_of k.texts key) (class_mask table.class)) (Some slot)
     × IsHeldAt (known_state o v).content key None
 IsSpot k o way key v spot.Bare = (root_in (held_words o v) ≡ 0) × IsHeldAt (known_state o v).content key None

@@ -34,7 +34,7 @@ after_clear v o start number s stop =
     (view_after (StopWrite o stop)
     (view_after (Commit (call.List o list.Clear) reply.Done number s)
     (view_after (PutBlock o 1 0)
-      (view_after (PutRoot o 0 (root_in (held_words o v))) (view_after (StartWrite o start) v)))))
+    (view_after (PutRoot o 0 (root_in (held_words o v))) (view_after (StartWrite o start) v)))))
 
 -- a pass with the lock of a list may clear it, whatever other passes have done
 abbrev pub ListsMayBeCleared : Type 0
@@ -46,7 +46,7 @@ ListsMayBeCleared =
 abbrev pub after_retiring : View → ℕ → ℕ → ℕ → View
 after_retiring v t goal found =
     view_after (GiveTable t) (view_after (ReadAnnounced v.number found)
-      (view_after (Announce v.number 0) (view_after (Retire t goal) v)))
+    (view_after (Announce v.number 0) (view_after (Retire t goal) v)))
 
 -- the one pass of a bank may retire a table that it took out of a root by a clear, and give it back
 abbrev pub ClearedTablesMayBeGivenBack : Type 0

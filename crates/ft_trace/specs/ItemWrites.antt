@@ -65,7 +65,7 @@ abbrev pub ItemsMayBeAppended : Type 0
 ItemsMayBeAppended =
     (v : View) (o t : ℕ) (value : Value) (values : List Value) → MayWrite v o
     → (known_state o v).content ≡ content.List values → root_in (held_words o v) ≡ suc t
-      → length values < slots (class_of t)
+    → length values < slots (class_of t)
     → FitsStored (Plain value)
     → (start number : ℕ) × (s : Snap) × (stop : ℕ)
     × IsReachable (after_write_of v o t (list_append_write v o (length values) value) start number s stop)

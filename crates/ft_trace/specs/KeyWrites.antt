@@ -59,7 +59,7 @@ KeysMayBeAdded =
     (v : View) (o t slot : ℕ) (key : Key) (value : Value) (pairs : DictContent) → MayWrite v o
     → (known_state o v).content ≡ content.Dict pairs → root_in (held_words o v) ≡ suc t
     → (known_state o v).table.fill < places (class_of t) → slot < slots (class_of t)
-      → index_field (held_words o v).table slot ≡ 0
+    → index_field (held_words o v).table slot ≡ 0
     → has_key pairs.pairs key ≡ false
     → IsDictWords v.shape.texts (at_commit v o (dict_add_write v o t slot key value pairs)).block
     (0 ∷ 0 ∷ (at_commit v o (dict_add_write v o t slot key value pairs)).table) (Some (class_of t))

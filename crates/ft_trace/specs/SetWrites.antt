@@ -80,7 +80,7 @@ abbrev pub ElementsMayBeDiscarded : Type 0
 ElementsMayBeDiscarded =
     (v : View) (o t place : ℕ) (key : Key) (elements : SetContent) → MayWrite v o
     → (known_state o v).content ≡ content.Set elements → root_in (held_words o v) ≡ suc t
-      → place < set_entries (class_of t)
+    → place < set_entries (class_of t)
     → HasLiveKey (slots (class_of t)) (held_words o v).table place key → FitsKey key
     → IsSetWords v.shape.texts (at_commit v o (set_discard_write v o t place key elements)).block
     (0 ∷ 0 ∷ (at_commit v o (set_discard_write v o t place key elements)).table) (Some (class_of t))

@@ -278,7 +278,7 @@ GivenUpTablesRest =
 abbrev pub TablesAreSound : Type 0
 TablesAreSound =
     (k : Shape) (es : List Event) → Valid k es → (o : ℕ) → o < container_count k → (t : ℕ)
-      → word k es (block o 0) ≡ suc t
+    → word k es (block o 0) ≡ suc t
     → SoundFor k (run k es).words o t (container_after k.starts (history es) o).content
 
 -- what stays of it from then on until it is taken out of the root
@@ -316,7 +316,7 @@ MissesAreRight =
 abbrev pub BareRootsAreRight : Type 0
 BareRootsAreRight =
     (k : Shape) (es : List Event) → Valid k es → (o n : ℕ) → o < container_count k → (j : ℕ) (u : View)
-      → HasView k es j u
+    → HasView k es j u
     → Bare u.log o n → (n ≤ word k es counter) × IsNothing (container_after k.starts (first_writes n (history es)) o)
 
 -- an item that was read is the list's at the stamp
@@ -356,7 +356,7 @@ LooksAtBothAreRight =
 abbrev pub ChangedRootsAreNew : Type 0
 ChangedRootsAreNew =
     (k : Shape) (es : List Event) → Valid k es → (j : ℕ) (u : View) → HasView k es j u → (o r : ℕ)
-      → o < container_count k
+    → o < container_count k
     → (log : List Act) → u.log ≡ ReadRoot o r ∷ log → IsNew o r log
 
 -- ---- room

@@ -177,7 +177,7 @@ pub record MayWriteSo (v : View) (o t : ℕ) (write : WholeWrite) : Type 0 where
   pub locks : HasLocksOf write.call v.log
   pub root : MayReplace v o write.call write.root
   pub early : MayPuts (kind_in v.shape.starts o) t (known_state o v).content false
-    (with_root_put v o write.root) write.early
+      (with_root_put v o write.root) write.early
   pub commit : (calls : List Call) → AgreesWith v (stored_newest v.shape.starts calls)
       → MayCommitWrite v o t write calls
   pub shut : (q : ℕ) → root_in (at_end v o write) ≡ suc q

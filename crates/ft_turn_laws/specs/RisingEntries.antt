@@ -19,4 +19,4 @@ abbrev pub RisingEntriesAreChronicles : Type 0
 RisingEntriesAreChronicles =
     (storage : Storage) (script : ScriptParts) (calls : List Call) (entries : List Entry)
     → IsScript script → AreNumbered storage script calls entries → AreRising entries
-      → IsChronicle storage script entries
+    → IsChronicle storage script entries

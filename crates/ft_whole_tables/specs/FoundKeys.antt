@@ -48,5 +48,5 @@ IsAtKey (content.Deque deque) key read = ⊥
 abbrev pub IsFoundIn : Shape → Way → ℕ → Key → Option (ℕ × ℕ) → ContainerWords → Type 0
 IsFoundIn k way hash key read x =
     hash ≡ hash_of k.texts key → (kept : ContainerState) → kind_of kept.content ≡ kind_by way
-      → Represents k.texts x kept
+    → Represents k.texts x kept
     → IsAtKey kept.content key read

@@ -11,7 +11,7 @@ use Rattle.ft_trace.specs.ContainerStates.{ContainerState}
 abbrev pub IsOfDict : Shape → (DictContent → Type 0) → ContainerWords → Type 0
 IsOfDict k holds x =
     (kept : ContainerState) → kind_of kept.content ≡ kind.Dict → Represents k.texts x kept
-      → holds (dict_of kept.content)
+    → holds (dict_of kept.content)
 
 -- where these words stand for a set, this is so of it
 abbrev pub IsOfSet : Shape → (SetContent → Type 0) → ContainerWords → Type 0

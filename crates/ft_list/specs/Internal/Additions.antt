@@ -54,7 +54,7 @@ pub record GivesItems (k : Shape) (o m : ℕ) (v : View) : Type 0 where
   pub quiet : m ≢ o → is_writing m v.log ≡ false
   pub stores : (t p : ℕ) → root_in (held_words m v) ≡ suc t → p < length (known_items m v) → (p < slots (class_of t))
       × IsStored (item_field (held_words m v).table p 1) (item_field (held_words m v).table p 2)
-        (stored_item (known_items m v) p)
+      (stored_item (known_items m v) p)
   pub bare : root_in (held_words m v) ≡ 0 → length (known_items m v) ≡ 0
 
 -- the same of an addition once the pass writes the list o, of that many items

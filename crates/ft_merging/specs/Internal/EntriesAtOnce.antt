@@ -48,7 +48,7 @@ pub record IsClosing (k : Shape) (o : ℕ) (table : Table) (from fill : ℕ) (v 
   pub late : has_committed o v.log ≡ true
   pub stands : Represents k.texts (held_words o v) (known_state o v)
   pub gone : NoneDead (table_id table) (rows (kind_in k.starts o) (class_of (table_id table)))
-    (held_words o v) (known_state o v)
+      (held_words o v) (known_state o v)
   pub opened : (p : ℕ) → p < rows (kind_in k.starts o) (class_of (table_id table))
       → version_of (table_id table) (held_words o v) p % 2 ≡ 1 → p < fill
   pub shut : (p : ℕ) → p < rows (kind_in k.starts o) (class_of (table_id table)) → p < from

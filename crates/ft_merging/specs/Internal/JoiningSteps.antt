@@ -119,7 +119,7 @@ pub record IsJoining (k : Shape) (o : ℕ) (way : Way) (own : Table) (t : ℕ) (
   pub source : IsTableOf way k.texts (class_mask (class_of (table_id table))) used (0 ∷ 0 ∷ (held_words t v).table)
   pub left : AreLeft (kind_by way) mid goal counts.fill end (drop place used)
   pub ahead : NoneAhead (table_id own) (rows (kind_in k.starts o) (class_of (table_id own)))
-    (held_words o v) (drop place used)
+      (held_words o v) (drop place used)
 
 -- Where a key is in the table of a container that is written, whose words stand for this content: in the entry at this
 -- place, with these words of its value; or nowhere, and this slot is the one for it. No search there ends otherwise.

@@ -37,7 +37,7 @@ pub record IsThinned (k : Shape) (s : ℕ) (table : Table) (kept : Bool) (others
       → version_of (table_id table) (held_words s v) p % 2 ≡ 0
   pub done : (p : ℕ) (key : Key) → p < rows (kind_in k.starts s) (class_of (table_id table)) → p < place → FitsKey key
       → HasLiveKey (slots (class_of (table_id table))) (held_words s v).table p key
-        → spared kept others first key ≡ true
+      → spared kept others first key ≡ true
   pub rest : (p : ℕ) (key : Key) → p < rows (kind_in k.starts s) (class_of (table_id table)) → last ≤ p → FitsKey key
       → HasLiveKey (slots (class_of (table_id table))) (held_words s v).table p key
-        → spared kept others first key ≡ true
+      → spared kept others first key ≡ true

@@ -6,7 +6,7 @@ ghost use Rattle.ft_trace.specs.Acts.{announces};
 ghost use Rattle.ft_bank.specs.Notes.{says, writes_seen, IsNoteOf};
 ghost use Rattle.ft_bank.specs.Passes.{view};
 ghost use Rattle.ft_bank.specs.PassSections.{stack_of};
-ghost use Rattle.ft_engine.specs.Callers.{IsCallerOf, IsIdle, bank_of, pass_of, thread_of};
+ghost use Rattle.ft_engine.specs.Callers.{IsCallerOf, IsIdle, bank_of, hands_of, left_of, pass_of, thread_of};
 ghost use Rattle.ft_engine.specs.DoneCallers.{WereAnswered, IsCallerDone};
 ghost use Rattle.ft_engine.specs.Keeping.{WasAnswered};
 ghost use Rattle.ft_engine.specs.Visits.{SameCallerWork};
@@ -57,6 +57,10 @@ impl Engine {
         ensures idle { IsIdle caller.new }
         ensures announced { announces (view (pass_of caller.new)).log ≡ announces (view (pass_of caller.old)).log }
         ensures sections { stack_of (pass_of caller.new) ≡ stack_of (pass_of caller.old) }
+        ensures cursors { hands_of caller.new ≡ hands_of caller.old }
+        ensures left { left_of caller.new ≡ left_of caller.old }
+        ensures entries { (view (pass_of caller.new)).entries ≡ (view (pass_of caller.old)).entries }
+        ensures seen { (writes_seen (pass_of caller.old) ≤ writes_seen (pass_of caller.new)) × (writes_seen (pass_of other) ≤ writes_seen (pass_of caller.new)) }
         ensures parts { (view (pass_of caller.new)).parts ≡ (view (pass_of caller.old)).parts + (view (pass_of other)).parts }
         ensures kept { (mine theirs : List (List NamedEntry)) → WereAnswered caller.old mine → WereAnswered other theirs →
             thread_of other ≡ thread_of caller.old + length mine → WereAnswered caller.new (mine ++ theirs) }

@@ -1,14 +1,15 @@
 //! Callers that rest, for one hand that holds all callers of an engine. Each pass has a token at first, and takes steps
 //! only with one. A caller that has gathered the tokens of all others, which rest, takes the floor: it knows all words
 //! of the bank from then on, and so whom its tries find with locks. With its tokens it hands the floor on.
-ghost use Rattle.std.specs.Prelude.{◌≡◌, ◌+◌, ◌++◌, List, length};
+ghost use Rattle.std.specs.Prelude.{◌≡◌, ◌≤◌, ◌+◌, ◌++◌, List, length};
 ghost use Rattle.ft_model.specs.declared.entry.Entry.{Entry as NamedEntry};
-ghost use Rattle.ft_trace.specs.Acts.{announces};
+ghost use Rattle.ft_trace.specs.Acts.{announces, seen_writes};
 ghost use Rattle.ft_bank.specs.Floors.{AreTokensOf, carried, rests};
+ghost use Rattle.ft_bank.specs.Notes.{writes_seen};
 ghost use Rattle.ft_bank.specs.Passes.{shape_of, view};
 ghost use Rattle.ft_bank.specs.PassSections.{stack_of};
 ghost use Rattle.ft_engine.specs.declared.caller.Caller.{Caller as ACaller};
-ghost use Rattle.ft_engine.specs.Callers.{IsCallerOf, IsIdle, bank_of, pass_of, thread_of};
+ghost use Rattle.ft_engine.specs.Callers.{IsCallerOf, IsIdle, bank_of, hands_of, left_of, pass_of, thread_of};
 ghost use Rattle.ft_engine.specs.DoneCallers.{WereAnswered};
 ghost use Rattle.ft_engine.specs.Resting.{HandsOn, HasFloor, IsAsBefore, IsRestDone, IsRestingCallerOf, IsWoken, KeepsFloor, RestsAs, rests_in, token_count};
 
@@ -117,6 +118,10 @@ impl Engine {
         ensures idle { IsIdle caller.new }
         ensures announced { announces (view (pass_of caller.new)).log ≡ announces (view (pass_of caller.old)).log }
         ensures sections { stack_of (pass_of caller.new) ≡ stack_of (pass_of caller.old) }
+        ensures cursors { hands_of caller.new ≡ hands_of caller.old }
+        ensures left { left_of caller.new ≡ left_of caller.old }
+        ensures entries { (view (pass_of caller.new)).entries ≡ (view (pass_of caller.old)).entries }
+        ensures seen { (writes_seen (pass_of caller.old) ≤ writes_seen (pass_of caller.new)) × (seen_writes (rests_in other) ≤ writes_seen (pass_of caller.new)) }
         ensures parts { (view (pass_of caller.new)).parts ≡ (view (pass_of caller.old)).parts + (rests_in other).parts }
         ensures kept { (mine theirs : List (List NamedEntry)) (c : ACaller) → RestsAs c other → WereAnswered caller.old mine →
             WereAnswered c theirs → thread_of c ≡ thread_of caller.old + length mine → WereAnswered caller.new (mine ++ theirs) }

@@ -62,7 +62,7 @@ fn equal(bank: &Bank, pass: &mut Pass, l: u32, m: u32) -> Option<(Reply, Stamp)>
     made(try_eq(bank, pass, l, m))
 }
 
-/// What a call under the locks of its lists replies that isn't `iter`, and its stamp; `None` where it wasn't made.
+/// What a call under the locks of its lists replies that makes no cursor, and its stamp; `None` where it wasn't made.
 pub(crate) fn try_call(
     bank: &Bank,
     pass: &mut Pass,
@@ -95,7 +95,7 @@ pub(crate) fn try_call(
         ListCall::Len => made(try_len(bank, pass, l)),
         ListCall::Items => made(try_items(bank, pass, alloc, l)),
         ListCall::Eq { other } => equal(bank, pass, l, other),
-        ListCall::Iter { .. } => None,
+        ListCall::Iter { .. } | ListCall::Reversed { .. } => None,
     }
 }
 

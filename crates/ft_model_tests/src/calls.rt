@@ -8,15 +8,16 @@ mod views;
 
 use deques::DEQUES;
 use ft_model::{
-    Declaration, Hands, KeptTable, Key, Kind, Sequence, Start, World, apply, dict_class, has_room,
-    is_declared, list_class, set_class, table_of_copy, taken_by_dict, taken_by_list, taken_by_set,
+    Call, Declaration, Hands, KeptTable, Key, Kind, Sequence, Start, Thread, World, apply, boxes,
+    dict_class, has_room, is_declared, list_class, may_await, set_class, table_of_copy,
+    taken_by_dict, taken_by_list, taken_by_set,
 };
 use printing::{print_content, print_reply};
 use reading::read_call;
 use std::alloc::{AllocError, Global};
 use std::process::Abort;
 use std::test::Fail;
-use tables::{CLASSES, DICTS, KINDS, LISTS, SETS};
+use tables::{AWAITED, BOXED, CLASSES, DICTS, KINDS, LISTS, SETS};
 use views::{SPLITS, VIEWS};
 
 /// Calls that are made one after the other, what each replies, and what the containers named have
@@ -148,6 +149,45 @@ fn calls_change_and_take_locks_by_their_kind(rt: HostRuntime) -> Result<(), Fail
         let call = read_call(text).ok_or("call")?;
         assert_eq!(rt; call.is_changing(), *changing, "{text}");
         assert_eq!(rt; call.locks(), *locks, "{text}");
+    }
+    Ok(())
+}
+
+#[test]
+fn values_that_are_newly_stored_are_boxed(rt: HostRuntime) -> Result<(), Fail> {
+    let mut world = start(rt.alloc(), &[])?;
+    let made = replies_to(&rt, &mut world, "set d 1 1 / append l 1")?;
+    assert_eq!(rt; made.as_str(), "ok / ok");
+    for (text, boxed) in &BOXED {
+        let call = read_call(text).ok_or("call")?;
+        assert_eq!(rt; boxes(&world, &call), *boxed, "{text}");
+    }
+    Ok(())
+}
+
+/// A thread with so many calls.
+fn thread_with(alloc: Global, count: usize) -> Result<Thread, AllocError> {
+    let mut calls = Sequence::new(alloc);
+    for _ in 0..count {
+        calls.push(Call::Quiesce)?;
+    }
+    Ok(Thread {
+        name: Sequence::new(alloc),
+        cursors: Sequence::new(alloc),
+        calls,
+    })
+}
+
+#[test]
+fn threads_may_await_those_before_them(rt: HostRuntime) -> Result<(), Fail> {
+    let alloc = rt.alloc();
+    let threads = vec![in alloc; thread_with(alloc, 2)?, thread_with(alloc, 1)?]?;
+    for (number, thread, index, may) in &AWAITED {
+        assert_eq!(rt;
+            may_await(&threads, *number, *thread, *index),
+            *may,
+            "{number} {thread}.{index}"
+        );
     }
     Ok(())
 }

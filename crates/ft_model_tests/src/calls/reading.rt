@@ -8,6 +8,12 @@ pub(super) fn read_call(text: &str) -> Option<Call> {
     if word == "dump" {
         return Some(Call::Dump);
     }
+    if word == "await" {
+        return Some(Call::Await {
+            thread: 0,
+            index: 1,
+        });
+    }
     let name = words.next()?;
     let first = words.next().unwrap_or("");
     let second = words.next().unwrap_or("");

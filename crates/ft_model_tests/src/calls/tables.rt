@@ -502,7 +502,7 @@ pub const SETS: [Case; 31] = [
 ];
 
 // Whether each kind of call changes a container, and how many locks it takes from the start.
-pub const KINDS: [(&str, bool, u32); 81] = [
+pub const KINDS: [(&str, bool, u32); 82] = [
     ("get d 1", false, 0),
     ("getd d 1 2", false, 0),
     ("set d 1 2", true, 1),
@@ -584,6 +584,46 @@ pub const KINDS: [(&str, bool, u32); 81] = [
     ("has q 1", false, 1),
     ("iter q c", false, 1),
     ("dump", false, 0),
+    ("await", false, 0),
+];
+
+/// Whether a call puts a value in a box where d has the key 1, l an item and nothing else is there: an integer
+/// below -5 or above 256, or a string, that is newly stored. Keys and elements are never boxed.
+pub const BOXED: [(&str, bool); 20] = [
+    ("append l 256", false),
+    ("append l 257", true),
+    ("append l -5", false),
+    ("append l -6", true),
+    ("append l None", false),
+    ("append l 'a'", true),
+    ("insert l 0 1000", true),
+    ("set l 0 1000", true),
+    ("has l 1000", false),
+    ("set d 1 1000", true),
+    ("set d 1000 1", false),
+    ("setdefault d 1 1000", false),
+    ("setdefault d 2 1000", true),
+    ("getd d 2 1000", false),
+    ("copyto d e", false),
+    ("add s 1000", false),
+    ("append q 1000", true),
+    ("appendleft q 'a'", true),
+    ("extend q r", false),
+    ("has q 1000", false),
+];
+
+/// Whether the thread of the first number may await that call of the thread of the second: one that is declared
+/// before it and has so many calls. There are two threads, with two calls and one.
+pub const AWAITED: [(u32, u32, u32, bool); 9] = [
+    (1, 0, 1, true),
+    (1, 0, 2, true),
+    (1, 0, 3, false),
+    (1, 0, 0, false),
+    (2, 1, 1, true),
+    (0, 0, 1, false),
+    (1, 1, 1, false),
+    (0, 1, 1, false),
+    (3, 2, 1, false),
 ];
 
 /// A number of pairs, elements or items, and the classes of tables that a dict, a set and a list

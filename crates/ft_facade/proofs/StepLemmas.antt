@@ -1,5 +1,5 @@
 -- What steps leave of the entries that a caller was answered, one after the other.
-use Rattle.std.proofs.Common.{◌≡◌, ℕ, List, [], ◌∷◌, ◌++◌, map, reverse, refl, subst, sym, ap, ◌∙◌}
+use Rattle.std.proofs.Common.{◌≡◌, ℕ, List, [], ◌∷◌, ◌++◌, map, reverse, Option, Some, None, IfNone, IfSome, refl, subst, sym, ap, ◌∙◌}
 use Rattle.std.proofs.lemmas.List.{append-nil}
 use Rattle.ft_model.specs.declared.call.Call.{Call}
 use Rattle.ft_model.specs.declared.entry.Entry.{Entry}
@@ -46,8 +46,8 @@ pub some_none : (c : Caller) → KeepsSome c c
 some_none c mine was = ([], subst (λ (l : List Entry). WasAnswered c l) (sym (append-nil mine)) was)
 
 pub some_of_done : (called : Call) (s : Stepped) (c d : Caller) → IsDone s → KeepsEntries called s c d → KeepsSome c d
-some_of_done called (stepped.Done said stamp mark) c d done kept mine was =
-    (named_entry (thread_of c) mine called said stamp mark ∷ [], kept mine was)
+some_of_done called (stepped.Done said stamp mark) c d done kept =
+    λ mine was. (named_entry (thread_of c) mine called said stamp mark ∷ [], kept mine was)
 some_of_done called stepped.Again c d done kept = absurd done
 some_of_done called stepped.NoMemory c d done kept = absurd done
 some_of_done called (stepped.Refused cause) c d done kept = absurd done
@@ -74,11 +74,28 @@ more_after called s c m d same first second mine was =
 
 -- a step that isn't done says the same of any call
 other_call : (one other : Call) (s : Stepped) (t : ℕ) (mine : List Entry) (d : Caller) → (IsDone s → ⊥) → HasStepped one s t mine d → HasStepped other s t mine d
-other_call one other (stepped.Done said stamp mark) t mine d no has = absurd (no tt)
-other_call one other stepped.Again t mine d no has = has
-other_call one other stepped.NoMemory t mine d no has = has
-other_call one other (stepped.Refused cause) t mine d no has = has
-other_call one other stepped.Offline t mine d no has = has
+other_call one other (stepped.Done said stamp mark) t mine d undone has = absurd (undone tt)
+other_call one other stepped.Again t mine d undone has = has
+other_call one other stepped.NoMemory t mine d undone has = has
+other_call one other (stepped.Refused cause) t mine d undone has = has
+other_call one other stepped.Offline t mine d undone has = has
 
 pub kept_of_other : (one other : Call) (s : Stepped) (c d : Caller) → (IsDone s → ⊥) → KeepsEntries one s c d → KeepsEntries other s c d
-kept_of_other one other s c d no kept mine was = other_call one other s (thread_of c) mine d no (kept mine was)
+kept_of_other one other s c d undone kept mine was = other_call one other s (thread_of c) mine d undone (kept mine was)
+
+-- ---- a call that is done, and then one that makes room for it
+
+-- where the second is done too, there are some entries more
+pub some_after_two : (answer : Option Stepped) (one other : Call) (s t : Stepped) (c m d : Caller) → IsDone s → KeepsEntries one s c m
+    → KeepsEntries other t m d → IfNone answer (IsDone t) → IfNone answer (KeepsSome c d)
+some_after_two None one other s t c m d done first second both = some_after c m d (some_of_done one s c m done first) (some_of_done other t m d both second)
+some_after_two (Some said) one other s t c m d done first second both = tt
+
+-- where it isn't, it says what it would say of the first
+pub more_after_two : (answer : Option Stepped) (one other : Call) (s t : Stepped) (c m d : Caller) → IsDone s → KeepsEntries one s c m
+    → KeepsEntries other t m d → thread_of m ≡ thread_of c → IfSome answer (λ said. (said ≡ t) × (IsDone t → ⊥))
+    → IfSome answer (λ said. KeepsMore one said c d)
+more_after_two None one other s t c m d done first second same told = tt
+more_after_two (Some said) one other s t c m d done first second same told =
+    more_after one said c m d same (some_of_done one s c m done first) (more_of one said m d
+    (subst (λ (u : Stepped). KeepsEntries one u m d) (sym told.0) (kept_of_other other one t m d told.1 second)))

@@ -6,7 +6,7 @@ use Rattle.ft_trace.specs.Acts.{announces}
 use Rattle.ft_bank.specs.Passes.{shape_of, view}
 use Rattle.ft_engine.specs.declared.caller.Caller.{Caller}
 use Rattle.ft_engine.specs.declared.engine.Engine.{Engine}
-use Rattle.ft_engine.specs.Callers.{IsCallerOf, IsFreshCaller, IsIdle, bank_of, pass_of}
+use Rattle.ft_engine.specs.Callers.{IsCallerOf, IsFreshCaller, IsIdle, bank_of, pass_of, taken_of, thread_of}
 use Rattle.ft_facade.specs.declared.session.Session.{Session}
 
 -- the caller is one of the engine's, and online
@@ -22,6 +22,13 @@ pub record IsSession (s : Session) : Type 0 where
 -- the session with this caller
 abbrev pub with_caller : Session → Caller → Session
 with_caller s c = record s { caller = c }
+
+-- it makes the calls of the same thread, has taken in the same callers, and the same one comes after it
+pub record StaysInPlace (c d : Caller) : Type 0 where
+  pub thread : thread_of d ≡ thread_of c
+  pub next : (view (pass_of d)).next ≡ (view (pass_of c)).next
+  pub parts : (view (pass_of d)).parts ≡ (view (pass_of c)).parts
+  pub taken : taken_of d ≡ taken_of c
 
 -- it is offline, and its caller is caller i of a new engine with room for that many cursors
 pub record IsFreshSession (e : Engine) (room i : ℕ) (s : Session) : Type 0 where

@@ -1,8 +1,7 @@
 //! A call that is made until it is done.
 ghost use Rattle.std.specs.Prelude.{◌≡◌};
-ghost use Rattle.ft_engine.specs.Callers.{thread_of};
 ghost use Rattle.ft_facade.specs.Kept.{IsIdleAfter, IsNotAgain, IsRefusedOnly, KeepsEntries};
-ghost use Rattle.ft_facade.specs.Sessions.{IsOnlineCaller};
+ghost use Rattle.ft_facade.specs.Sessions.{IsOnlineCaller, StaysInPlace};
 
 use crate::session::Session;
 use crate::stepping::{Stepped, give_up};
@@ -25,7 +24,7 @@ fn call<R: Wait>(
     ensures refused { IsRefusedOnly engine.now call.now result caller.old caller.new }
     ensures idle { IsIdleAfter result caller.new }
     ensures over { IsNotAgain result }
-    ensures thread { thread_of caller.new ≡ thread_of caller.old }
+    ensures place { StaysInPlace caller.old caller.new }
 {
     if let Some(cause) = engine.refusal(caller, call) {
         return Stepped::Refused(cause);
@@ -53,7 +52,7 @@ impl Session {
         ensures refused { IsRefusedOnly (arc_value self.old.engine) made.now result self.old.caller self.new.caller }
         ensures idle { IsIdleAfter result self.new.caller }
         ensures over { IsNotAgain result }
-        ensures thread { thread_of self.new.caller ≡ thread_of self.old.caller }
+        ensures place { StaysInPlace self.old.caller self.new.caller }
     {
         if !self.is_online {
             return Stepped::Offline;

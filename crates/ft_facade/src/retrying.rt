@@ -1,8 +1,7 @@
 //! A call that comes again after a quiescent point where every table of a class was taken.
 ghost use Rattle.std.specs.Prelude.{◌≡◌, IfNone, IfSome, IsTrue};
-ghost use Rattle.ft_engine.specs.Callers.{thread_of};
 ghost use Rattle.ft_facade.specs.Kept.{IsDone, IsNotAgain, KeepsMore, KeepsSome};
-ghost use Rattle.ft_facade.specs.Sessions.{IsSession, with_caller};
+ghost use Rattle.ft_facade.specs.Sessions.{IsSession, StaysInPlace, with_caller};
 
 use crate::session::Session;
 use crate::stepping::Stepped;
@@ -45,7 +44,7 @@ impl Session {
         requires { IsSession self.old }
         ensures session { IsSession self.new }
         ensures same { self.new ≡ with_caller self.old self.new.caller }
-        ensures thread { thread_of self.new.caller ≡ thread_of self.old.caller }
+        ensures place { StaysInPlace self.old.caller self.new.caller }
         ensures some { IfNone result (KeepsSome self.old.caller self.new.caller) }
         ensures kept { IfSome result (λ stepped. KeepsMore made.now stepped self.old.caller self.new.caller) }
         ensures over { IfSome result (λ stepped. IsNotAgain stepped) }
@@ -64,7 +63,7 @@ impl Session {
         requires { IsSession self.old }
         ensures session { IsSession self.new }
         ensures same { self.new ≡ with_caller self.old self.new.caller }
-        ensures thread { thread_of self.new.caller ≡ thread_of self.old.caller }
+        ensures place { StaysInPlace self.old.caller self.new.caller }
         ensures kept { KeepsMore made.now result self.old.caller self.new.caller }
         ensures over { IsNotAgain result }
     {

@@ -1,9 +1,9 @@
 //! A session, its making, and how it goes online and offline.
-ghost use Rattle.std.specs.Prelude.{◌≡◌, IfOk, length, All};
+ghost use Rattle.std.specs.Prelude.{◌≡◌, ℕ, false, IfOk, length, All};
 ghost use Rattle.std.specs.Arc.{arc_value};
 ghost use Rattle.ft_bank.specs.Shapes.{plan};
 ghost use Rattle.ft_engine.specs.Callers.{AreFreshCallers, IsFreshCaller};
-ghost use Rattle.ft_facade.specs.Sessions.{AreFreshSessions, AreOpened, IsFreshSession, IsSession};
+ghost use Rattle.ft_facade.specs.Sessions.{AreFreshSessions, AreOpened, IsFreshSession, IsSession, StaysInPlace};
 
 use ft_bank::{MakeFault, Shape};
 use ft_engine::{Caller, Engine};
@@ -57,22 +57,20 @@ pub fn open(alloc: Global, shape: Shape, cursors: u32) -> Result<Vec<Session>, O
     let Ok(engine) = Arc::new(alloc, engine) else {
         return Err(OpenFault::Memory);
     };
-    let sessions = sessions_of(alloc, &engine, callers, cursors)?;
+    let sessions = sessions_of(alloc, &engine, callers)?;
     Ok(sessions)
 }
 
-/// A session for each of these callers, which are new ones with room for that many cursors.
+/// A session for each of these callers; new ones where the callers are.
 fn sessions_of(
     alloc: Global,
     engine: &Arc<Engine, Global>,
     callers: Vec<Caller>,
-    cursors: u32,
 ) -> Result<Vec<Session>, AllocError>
-    requires { AreFreshCallers (arc_value engine.now) cursors 0 callers.items }
-    ensures fresh { IfOk result (λ sessions. AreFreshSessions (arc_value engine.now) cursors 0 sessions.items) }
+    ensures fresh { IfOk result (λ sessions. (room : ℕ) → AreFreshCallers (arc_value engine.now) room 0 callers.items →
+        AreFreshSessions (arc_value engine.now) room 0 sessions.items) }
     ensures count { IfOk result (λ sessions. length sessions.items ≡ length callers.items) }
 {
-    let _ = cursors;
     let mut sessions = Vec::with_capacity(alloc, callers.len())?;
     for caller in callers {
         let session = session_of(engine, caller)?;
@@ -95,7 +93,7 @@ fn session_of(engine: &Arc<Engine, Global>, caller: Caller) -> Result<Session, A
 }
 
 impl Session {
-    ghost use Rattle.std.specs.Prelude.{false, true, List, []};
+    ghost use Rattle.std.specs.Prelude.{true, List, []};
     ghost use Rattle.ft_model.specs.declared.entry.Entry.{Entry};
     ghost use Rattle.ft_bank.specs.PassSections.{stack_of};
     ghost use Rattle.ft_engine.specs.Callers.{IsIdle, left_of, pass_of, thread_of};
@@ -136,7 +134,8 @@ impl Session {
         requires { IsSession self.old }
         ensures session { IsSession self.new }
         ensures online { self.new.is_online ≡ true }
-        ensures thread { thread_of self.new.caller ≡ thread_of self.old.caller }
+        ensures engine { arc_value self.new.engine ≡ arc_value self.old.engine }
+        ensures place { StaysInPlace self.old.caller self.new.caller }
         ensures kept { (mine : List Entry) → WasAnswered self.old.caller mine → WasAnswered self.new.caller mine }
     {
         if self.is_online {
@@ -151,6 +150,8 @@ impl Session {
         requires { IsSession self.old }
         ensures session { IsSession self.new }
         ensures offline { self.new.is_online ≡ false }
+        ensures engine { arc_value self.new.engine ≡ arc_value self.old.engine }
+        ensures place { StaysInPlace self.old.caller self.new.caller }
         ensures done { self.old.is_online ≡ true → IsCallerDone self.new.caller }
         ensures kept { (mine : List Entry) → IsIdle self.old.caller → (stack_of (pass_of self.old.caller)).sections ≡ [] →
             WasAnswered self.old.caller mine → WasAnswered self.new.caller mine }

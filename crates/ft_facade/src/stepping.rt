@@ -4,10 +4,10 @@ ghost use Rattle.ft_model.specs.declared.call.Call.{Call as ACall};
 ghost use Rattle.ft_model.specs.declared.entry.Entry.{Entry};
 ghost use Rattle.ft_engine.specs.declared.caller.Flight.TheVariants as flight;
 ghost use Rattle.ft_engine.specs.Attempts.{MayAttempt};
-ghost use Rattle.ft_engine.specs.Callers.{IsIdle, flight_of, thread_of};
+ghost use Rattle.ft_engine.specs.Callers.{IsIdle, flight_of};
 ghost use Rattle.ft_engine.specs.Keeping.{WasAnswered};
 ghost use Rattle.ft_facade.specs.Kept.{HasJust, IsIdleAfter, IsNotRefused, IsRefusedOnly, KeepsEntries};
-ghost use Rattle.ft_facade.specs.Sessions.{IsOnlineCaller};
+ghost use Rattle.ft_facade.specs.Sessions.{IsOnlineCaller, StaysInPlace};
 
 use crate::session::Session;
 use ft_engine::{Caller, Engine, Refusal, Tried};
@@ -38,7 +38,7 @@ pub(crate) fn give_up(engine: &Engine, caller: &mut Caller)
     ensures caller { IsOnlineCaller engine.now caller.new }
     ensures entries { (mine : List Entry) → WasAnswered caller.old mine → HasJust mine caller.new }
     ensures idle { IsIdle caller.new }
-    ensures thread { thread_of caller.new ≡ thread_of caller.old }
+    ensures place { StaysInPlace caller.old caller.new }
 {
     engine.abandon(caller);
 }
@@ -53,7 +53,7 @@ fn attempt(engine: &Engine, alloc: Global, caller: &mut Caller, call: &Call) -> 
     ensures kept { KeepsEntries call.now result caller.old caller.new }
     ensures made { IsNotRefused result }
     ensures idle { IsIdleAfter result caller.new }
-    ensures thread { thread_of caller.new ≡ thread_of caller.old }
+    ensures place { StaysInPlace caller.old caller.new }
 {
     match engine.attempt(alloc, caller, call) {
         Tried::Done(reply, stamp, mark) => Stepped::Done(reply, stamp, mark),
@@ -75,7 +75,7 @@ fn attempt_if_allowed(engine: &Engine, alloc: Global, caller: &mut Caller, call:
     ensures kept { KeepsEntries call.now result caller.old caller.new }
     ensures refused { IsRefusedOnly engine.now call.now result caller.old caller.new }
     ensures idle { IsIdleAfter result caller.new }
-    ensures thread { thread_of caller.new ≡ thread_of caller.old }
+    ensures place { StaysInPlace caller.old caller.new }
 {
     match engine.refusal(caller, call) {
         Some(cause) => Stepped::Refused(cause),
@@ -91,7 +91,7 @@ fn attempt_after_look(engine: &Engine, alloc: Global, caller: &mut Caller, call:
     ensures kept { KeepsEntries call.now result caller.old caller.new }
     ensures made { IsNotRefused result }
     ensures idle { IsIdleAfter result caller.new }
-    ensures thread { thread_of caller.new ≡ thread_of caller.old }
+    ensures place { StaysInPlace caller.old caller.new }
 {
     if engine.may_attempt(caller, call) {
         return attempt(engine, alloc, caller, call);
@@ -109,7 +109,7 @@ fn step(engine: &Engine, alloc: Global, caller: &mut Caller, call: &Call) -> Ste
     ensures kept { KeepsEntries call.now result caller.old caller.new }
     ensures refused { IsRefusedOnly engine.now call.now result caller.old caller.new }
     ensures idle { IsIdleAfter result caller.new }
-    ensures thread { thread_of caller.new ≡ thread_of caller.old }
+    ensures place { StaysInPlace caller.old caller.new }
 {
     if !engine.may_look(caller, call) {
         return attempt_if_allowed(engine, alloc, caller, call);
@@ -138,7 +138,7 @@ impl Session {
         ensures kept { KeepsEntries call.now result self.old.caller self.new.caller }
         ensures refused { IsRefusedOnly (arc_value self.old.engine) call.now result self.old.caller self.new.caller }
         ensures idle { IsIdleAfter result self.new.caller }
-        ensures thread { thread_of self.new.caller ≡ thread_of self.old.caller }
+        ensures place { StaysInPlace self.old.caller self.new.caller }
     {
         if !self.is_online {
             return Stepped::Offline;

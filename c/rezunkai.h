@@ -180,7 +180,8 @@ typedef enum {
 
 typedef enum {
     REZ_R_DONE, REZ_R_VALUE, REZ_R_PAIR, REZ_R_TRUTH, REZ_R_COUNT, REZ_R_DICT, REZ_R_LIST, REZ_R_SET, REZ_R_STOP,
-    REZ_R_ENTERED, REZ_R_KEPT, REZ_R_SUSPENDED, REZ_R_RAISED
+    REZ_R_ENTERED, REZ_R_KEPT, REZ_R_SUSPENDED, REZ_R_RAISED,
+    REZ_R_WORLD          /* what all containers have; no request has this reply yet */
 } rez_tag;
 
 typedef enum {
@@ -191,7 +192,8 @@ typedef enum {
     REZ_KEYS_CHANGED,    /* RuntimeError: the keys changed in a walk */
     REZ_MEMORY_CLASS,    /* MemoryError: every table of class `count` was taken */
     REZ_MEMORY_OVER,     /* MemoryError: more than the largest table holds */
-    REZ_MEMORY_HEAP      /* MemoryError: no place was left for a boxed value; nothing raises it yet */
+    REZ_MEMORY_HEAP,     /* MemoryError: no place was left for a boxed value; nothing raises it yet */
+    REZ_DEQUE_CHANGED    /* RuntimeError: a deque was changed in a walk; nothing raises it yet */
 } rez_exception;
 
 /* ---- what the library exports, without any test of pointers: use the functions below in place of these */

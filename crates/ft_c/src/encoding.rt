@@ -1,4 +1,5 @@
-//! Replies as plain structs.
+//! Replies as plain structs. The numbers are those that the header names: `rez_kind` of a datum, `rez_tag` of a reply,
+//! `rez_exception` of what was raised.
 
 use crate::wire::{FtDatum, FtReply};
 use ft_facade::Stamp;

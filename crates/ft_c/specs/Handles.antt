@@ -1,5 +1,5 @@
 -- Handles that own what they point to.
-use Rattle.std.specs.Prelude.{◌≡◌, ◌≢◌, Option, Some}
+use Rattle.std.specs.Prelude.{◌≡◌, ◌≢◌, Some}
 use Rattle.ft_facade.specs.Sessions.{IsSession}
 use base.Fml.{Fml}
 use denote.Ref.{MutBor}

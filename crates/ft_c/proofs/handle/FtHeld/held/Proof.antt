@@ -1,15 +1,15 @@
 -- `held` lends what the handle owns, and the handle follows it. Assumes `Logic`.
-use Rattle.std.proofs.Common.{◌≡◌, ℕ, List, [], ◌∷◌, ◌++◌, refl, sym, ap, ◌∙◌}
+use Rattle.std.proofs.Common.{◌≡◌, ℕ, List, [], ◌∷◌, refl, sym, ap, ◌∙◌}
 use seplogic.Ra.Ura.{Ura}
 use base.Fraction.{full_share}
-use base.Logic.{SProp, ent, sep, id⊢, never, fst∗}
-use base.Fml.{Lft, GName, Share, Fml, ftrue, flft, fsep}
+use base.Logic.{ent, sep, id⊢, never, fst∗}
+use base.Fml.{GName, Fml, ftrue, flft, fsep}
 use mir.Syntax.{named}
 use mir.Val.{Val, vptr}
 use mir.Raw.{raw as bare}
 use contract.Running.{tables}
 use types.Logic.{Logic, sem}
-use types.Kit.{‵, raw, ◌⊛◌, some, later, at_ret, ◌$◌, ◌∵◌, !, qed, by, move, keep, drop, use1, split, split3, join, pick, await, rewrite, fsplit, fsplit3, fjoin, fpack, suffices, frame, group, done}
+use types.Kit.{‵, raw, ◌⊛◌, some, later, at_ret, ◌$◌, ◌∵◌, !, qed, move, keep, use1, split, split3, join, pick, await, rewrite, fsplit, fsplit3, fjoin, fpack, suffices, frame, group, done}
 use types.Part.{whole, sub, look_in}
 use types.Run.{enter, of_opd, load, addr, stop, fld, first, blocks, exec, returns}
 use types.ByLocal.{alloc_all, pass_all, free_all, look_at, get, through, sets, sets_last, env}
@@ -31,7 +31,7 @@ use Rattle.std_alloc.specs.Box.Ownership.{box_owns}
 use Rattle.ft_c.specs.Owned.{owned_at}
 use Rattle.std_heap.specs.contracts.GlobalAllocator.TheImpl.{ghosts}
 use Rattle.ft_c.specs.Handles.{IsOpen, with_held}
-use Rattle.std.specs.Prelude.{Option, Some}
+use Rattle.std.specs.Prelude.{Option}
 use Rattle.ft_c.specs.declared.held.Held.{Held}
 use Rattle.ft_c.specs.declared.handle.FtHeld.{FtHeld}
 use Rattle.ft_c.specs.contracts.held.Held.{the_row as X}

@@ -4,7 +4,7 @@ use mir.Val.{Val, vptr}
 use base.Logic.{SProp, ent, emp, id⊢}
 use base.Fml.{ftrue}
 use prog.Wp.{WpFn}
-use types.Kit.{‵, raw, ◌⊛◌, ◌$◌, ◌∵◌, !, qed, by, move, keep, drop, split, join, fsplit, fjoin, fpack, suffices, use0, feq_i}
+use types.Kit.{‵, raw, ◌⊛◌, ◌$◌, ◌∵◌, !, qed, by, move, keep, split, fsplit, fjoin, fpack, suffices, use0, feq_i}
 use types.Run.{stop, fld, of_opd, no_more, and_then, returns, enter}
 use types.ByLocal.{alloc_all, pass_all, free_all, look_at, get, get_in, sets}
 use types.Part.{agg, sub, whole}
@@ -12,7 +12,6 @@ use contract.Monad.{fact, fact_i}
 use contract.Running.{tables}
 use denote.Exit.{yes}
 use denote.RattleType.{owns, Valss}
-use denote.Builtin.{RawPtr}
 use denote.RawPtr.{block_ptr}
 use denote.Signature.{types_at, plain}
 use denote.Steps.{nothing}
@@ -24,7 +23,7 @@ use Rattle.std.proofs.raw_atomic.Walks.{proved_at, leaves}
 use Rattle.std_heap.specs.contracts.GlobalAllocator.TheImpl.{ghosts}
 use Rattle.std_heap.specs.contracts.Global.{the_row as Z}
 use Rattle.std_heap.proofs.Global.TheLaws.{the_row_laws as ZL}
-use Rattle.std.specs.Prelude.{Option, Some}
+use Rattle.std.specs.Prelude.{Some}
 use Rattle.ft_loose.proofs.Values.{both, loose_good, loose_out}
 use Rattle.ft_loose.specs.contracts.Loose.{the_row as loose_row}
 use Rattle.ft_c.specs.declared.handle.FtHeld.{FtHeld}

@@ -52,6 +52,7 @@
 #include <stddef.h>
 #include <stdint.h>
 #include <string.h>
+#include <sys/select.h>
 #ifdef __cplusplus
 extern "C" {
 #endif
@@ -375,17 +376,30 @@ static inline rez_status rez_call_once(rez_session *session, const rez_request *
 /* How often at most rez_call makes a call again that found every table of a class taken. */
 enum { REZ_RETRIES = 1000 };
 
+/* The pause after that many tries of a call that wants a table: threads that have no processor have to come to a quiescent
+ * point, so after some yields it sleeps, a tenth of a millisecond each time. */
+static inline void rez_pause_for_tables(unsigned tries) {
+    if (tries < 16) {
+        rez_pause(tries);
+    } else {
+        struct timeval a_while = {0, 100};
+        select(0, NULL, NULL, NULL, &a_while);
+    }
+}
+
 /* rez_call - a call until it is done. Where it raises MemoryError since every table of a class is taken, it makes a
  * REZ_QUIESCE and the same call again, at most REZ_RETRIES times, with pauses, so that other threads can let retired
- * tables go; each of these is a call of the session. The answer is that of the last. It waits for other threads. */
+ * tables go; each of these is a call of the session. The answer is that of the last. It waits for other threads, a tenth of
+ * a second at most where no table comes back. */
 static inline rez_status rez_call(rez_session *session, const rez_request *request, rez_reply *reply) {
     rez_status status = rez_call_once(session, request, reply);
     for (unsigned tries = 0; status == REZ_DONE && reply->tag == REZ_R_RAISED && reply->raised == REZ_MEMORY_CLASS
                              && tries < REZ_RETRIES && rez_left(session) >= 2; tries++) {
         rez_request rest = rez_on(REZ_QUIESCE, 0);
-        rez_pause(tries);
         status = rez_call_once(session, &rest, reply);
-        if (status == REZ_DONE) status = rez_call_once(session, request, reply);
+        if (status != REZ_DONE) break;
+        rez_pause_for_tables(tries);
+        status = rez_call_once(session, request, reply);
     }
     return status;
 }

@@ -1,4 +1,4 @@
-/* threads THREADS CALLS [TABLES]: threads on one dict, one list and one set, each with so many calls; every answer is
+/* threads THREADS CALLS: threads on one dict, one list and one set, each with so many calls; every answer is
  * checked. Each thread knows the values at its own keys, items and elements, and of those of others it knows the form:
  * an item says whose it is, and its number never falls. Sections raise one count, and move between two pairs whose sum
  * stays. */
@@ -155,6 +155,9 @@ static void look_at_the_end(void) {
 int main(int words, char **word) {
     threads = words > 1 ? (uint32_t)atoi(word[1]) : 4, calls = words > 2 ? strtoull(word[2], NULL, 10) : 100000;
     rez_sizes sizes = rez_sizes_of(1, 1, 1, threads);
+    /* a thread that has no processor for a while keeps all that the others retire: enough for a while */
+    for (int n = 0; n <= 8; n++)
+        if (sizes.tables[n] < 8 * threads) sizes.tables[n] = 8 * threads;
     rez_status status = rez_open(&sizes, sessions);
     if (status != REZ_DONE) { fprintf(stderr, "rez_open: %s\n", rez_status_name(status)); return 1; }
     CHECK(rez_enter(&sessions[0]) == REZ_DONE);

@@ -1,5 +1,5 @@
 -- What is kept true of a session between two of its calls, and what new ones are.
-use Rattle.std.specs.Prelude.{◌≡◌, ℕ, suc, ◌<◌, true, false, List, [], ◌∷◌, length, slice_index_or}
+use Rattle.std.specs.Prelude.{◌≡◌, ℕ, suc, ◌<◌, Bool, true, false, List, [], ◌∷◌, length, slice_index_or}
 use Rattle.std.specs.Arc.{arc_value}
 use Rattle.ft_trace.specs.declared.Shape.{Shape}
 use Rattle.ft_trace.specs.Acts.{announces}
@@ -8,6 +8,18 @@ use Rattle.ft_engine.specs.declared.caller.Caller.{Caller}
 use Rattle.ft_engine.specs.declared.engine.Engine.{Engine}
 use Rattle.ft_engine.specs.Callers.{IsCallerOf, IsFreshCaller, IsIdle, bank_of, pass_of, taken_of, thread_of}
 use Rattle.ft_facade.specs.declared.session.Session.{Session}
+
+-- the engine whose calls the session makes
+abbrev pub engine_of : Session → Engine
+engine_of s = arc_value s.engine
+
+-- the caller of the engine that makes them
+abbrev pub caller_of : Session → Caller
+caller_of s = s.caller
+
+-- whether it may make calls
+abbrev pub is_online : Session → Bool
+is_online s = s.is_online
 
 -- the caller is one of the engine's, and online
 abbrev pub IsOnlineCaller : Engine → Caller → Type 0

@@ -39,20 +39,19 @@ fn call<R: Wait>(
 }
 
 impl Session {
-    ghost use Rattle.std.specs.Arc.{arc_value};
-    ghost use Rattle.ft_facade.specs.Sessions.{IsSession, with_caller};
+    ghost use Rattle.ft_facade.specs.Sessions.{IsSession, caller_of, engine_of, with_caller};
 
     /// Makes a call until it is done: it never answers `Again`. It may wait for other threads, and nothing says that it
     /// returns. The rest is as `step` says.
     pub fn call<R: Wait>(&mut self, rt: &R, alloc: Global, made: &Call) -> Stepped
         requires { IsSession self.old }
         ensures session { IsSession self.new }
-        ensures same { self.new ≡ with_caller self.old self.new.caller }
-        ensures kept { KeepsEntries made.now result self.old.caller self.new.caller }
-        ensures refused { IsRefusedOnly (arc_value self.old.engine) made.now result self.old.caller self.new.caller }
-        ensures idle { IsIdleAfter result self.new.caller }
+        ensures same { self.new ≡ with_caller self.old (caller_of self.new) }
+        ensures kept { KeepsEntries made.now result (caller_of self.old) (caller_of self.new) }
+        ensures refused { IsRefusedOnly (engine_of self.old) made.now result (caller_of self.old) (caller_of self.new) }
+        ensures idle { IsIdleAfter result (caller_of self.new) }
         ensures over { IsNotAgain result }
-        ensures place { StaysInPlace self.old.caller self.new.caller }
+        ensures place { StaysInPlace (caller_of self.old) (caller_of self.new) }
     {
         if !self.is_online {
             return Stepped::Offline;

@@ -1,7 +1,7 @@
 //! A call that comes again after a quiescent point where every table of a class was taken.
 ghost use Rattle.std.specs.Prelude.{◌≡◌, IfNone, IfSome, IsTrue};
 ghost use Rattle.ft_facade.specs.Kept.{IsDone, IsNotAgain, KeepsMore, KeepsSome};
-ghost use Rattle.ft_facade.specs.Sessions.{IsSession, StaysInPlace, with_caller};
+ghost use Rattle.ft_facade.specs.Sessions.{IsSession, StaysInPlace, caller_of, with_caller};
 
 use crate::session::Session;
 use crate::stepping::Stepped;
@@ -43,10 +43,10 @@ impl Session {
     fn call_and_rest<R: Wait>(&mut self, rt: &R, alloc: Global, made: &Call) -> Option<Stepped>
         requires { IsSession self.old }
         ensures session { IsSession self.new }
-        ensures same { self.new ≡ with_caller self.old self.new.caller }
-        ensures place { StaysInPlace self.old.caller self.new.caller }
-        ensures some { IfNone result (KeepsSome self.old.caller self.new.caller) }
-        ensures kept { IfSome result (λ stepped. KeepsMore made.now stepped self.old.caller self.new.caller) }
+        ensures same { self.new ≡ with_caller self.old (caller_of self.new) }
+        ensures place { StaysInPlace (caller_of self.old) (caller_of self.new) }
+        ensures some { IfNone result (KeepsSome (caller_of self.old) (caller_of self.new)) }
+        ensures kept { IfSome result (λ stepped. KeepsMore made.now stepped (caller_of self.old) (caller_of self.new)) }
         ensures over { IfSome result (λ stepped. IsNotAgain stepped) }
     {
         let stepped = self.call(rt, alloc, made);
@@ -62,9 +62,9 @@ impl Session {
     pub fn call_again<R: Wait>(&mut self, rt: &R, alloc: Global, made: &Call) -> Stepped
         requires { IsSession self.old }
         ensures session { IsSession self.new }
-        ensures same { self.new ≡ with_caller self.old self.new.caller }
-        ensures place { StaysInPlace self.old.caller self.new.caller }
-        ensures kept { KeepsMore made.now result self.old.caller self.new.caller }
+        ensures same { self.new ≡ with_caller self.old (caller_of self.new) }
+        ensures place { StaysInPlace (caller_of self.old) (caller_of self.new) }
+        ensures kept { KeepsMore made.now result (caller_of self.old) (caller_of self.new) }
         ensures over { IsNotAgain result }
     {
         for _ in 0..RETRIES {

@@ -1,9 +1,10 @@
 //! A session, its making, and how it goes online and offline.
-ghost use Rattle.std.specs.Prelude.{◌≡◌, ℕ, false, IfOk, length, All};
+ghost use Rattle.std.specs.Prelude.{◌≡◌, ℕ, false, IfErr, IfOk, length, All};
 ghost use Rattle.std.specs.Arc.{arc_value};
-ghost use Rattle.ft_bank.specs.Shapes.{plan};
+ghost use Rattle.ft_bank.specs.Shapes.{plan, IsShape};
 ghost use Rattle.ft_engine.specs.Callers.{AreFreshCallers, IsFreshCaller};
-ghost use Rattle.ft_facade.specs.Sessions.{AreFreshSessions, AreOpened, IsFreshSession, IsSession, StaysInPlace};
+ghost use Rattle.ft_facade.specs.declared.session.OpenFault.TheVariants as fault;
+ghost use Rattle.ft_facade.specs.Sessions.{AreFreshSessions, AreOpened, IsFreshSession, IsSession, StaysInPlace, caller_of, engine_of, is_online};
 
 use ft_bank::{MakeFault, Shape};
 use ft_engine::{Caller, Engine};
@@ -28,12 +29,16 @@ pub enum OpenFault {
 }
 
 impl From<AllocError> for OpenFault {
+    ghost from_gives = { λ _ given. given ≡ fault.Memory };
+
     fn from(_fault: AllocError) -> OpenFault {
         OpenFault::Memory
     }
 }
 
 impl From<MakeFault> for OpenFault {
+    ghost from_gives = { λ _ given. given ≡ fault.Memory };
+
     fn from(_fault: MakeFault) -> OpenFault {
         OpenFault::Memory
     }
@@ -49,6 +54,7 @@ pub fn open(alloc: Global, shape: Shape, cursors: u32) -> Result<Vec<Session>, O
     ensures sessions { IfOk result (λ sessions. All IsSession sessions.items) }
     ensures opened { IfOk result (λ sessions. AreOpened (plan shape) cursors sessions.items) }
     ensures count { IfOk result (λ sessions. length sessions.items ≡ shape.passes) }
+    ensures cause { IfErr result (λ why. why ≡ fault.Sizes → IsShape shape → ⊥) }
 {
     if !shape.fits() {
         return Err(OpenFault::Sizes);
@@ -81,9 +87,9 @@ fn sessions_of(
 
 /// The session of a caller.
 fn session_of(engine: &Arc<Engine, Global>, caller: Caller) -> Result<Session, AllocError>
-    ensures engine { IfOk result (λ session. arc_value session.engine ≡ arc_value engine.now) }
-    ensures caller { IfOk result (λ session. session.caller ≡ caller) }
-    ensures offline { IfOk result (λ session. session.is_online ≡ false) }
+    ensures engine { IfOk result (λ session. engine_of session ≡ arc_value engine.now) }
+    ensures caller { IfOk result (λ session. caller_of session ≡ caller) }
+    ensures offline { IfOk result (λ session. is_online session ≡ false) }
 {
     Ok(Session {
         engine: Arc::try_clone(engine)?,
@@ -102,28 +108,28 @@ impl Session {
 
     /// The thread of the session, from 0 on.
     pub fn thread(&self) -> u32
-        ensures { result ≡ thread_of self.now.caller }
+        ensures { result ≡ thread_of (caller_of self.now) }
     {
         self.caller.thread()
     }
 
     /// How many calls it may still make.
     pub fn left(&self) -> u32
-        ensures { result ≡ left_of self.now.caller }
+        ensures { result ≡ left_of (caller_of self.now) }
     {
         self.caller.left()
     }
 
     /// How many sections it has open, at most 16 (C API, critical sections).
     pub fn depth(&self) -> u32
-        ensures { result ≡ length (stack_of (pass_of self.now.caller)).sections }
+        ensures { result ≡ length (stack_of (pass_of (caller_of self.now))).sections }
     {
         self.caller.depth()
     }
 
     /// Whether it may make calls.
     pub fn is_online(&self) -> bool
-        ensures { result ≡ self.now.is_online }
+        ensures { result ≡ is_online self.now }
     {
         self.is_online
     }
@@ -133,10 +139,10 @@ impl Session {
     pub fn enter(&mut self)
         requires { IsSession self.old }
         ensures session { IsSession self.new }
-        ensures online { self.new.is_online ≡ true }
-        ensures engine { arc_value self.new.engine ≡ arc_value self.old.engine }
-        ensures place { StaysInPlace self.old.caller self.new.caller }
-        ensures kept { (mine : List Entry) → WasAnswered self.old.caller mine → WasAnswered self.new.caller mine }
+        ensures online { is_online self.new ≡ true }
+        ensures engine { engine_of self.new ≡ engine_of self.old }
+        ensures place { StaysInPlace (caller_of self.old) (caller_of self.new) }
+        ensures kept { (mine : List Entry) → WasAnswered (caller_of self.old) mine → WasAnswered (caller_of self.new) mine }
     {
         if self.is_online {
             return;
@@ -149,12 +155,12 @@ impl Session {
     pub fn leave(&mut self)
         requires { IsSession self.old }
         ensures session { IsSession self.new }
-        ensures offline { self.new.is_online ≡ false }
-        ensures engine { arc_value self.new.engine ≡ arc_value self.old.engine }
-        ensures place { StaysInPlace self.old.caller self.new.caller }
-        ensures done { self.old.is_online ≡ true → IsCallerDone self.new.caller }
-        ensures kept { (mine : List Entry) → IsIdle self.old.caller → (stack_of (pass_of self.old.caller)).sections ≡ [] →
-            WasAnswered self.old.caller mine → WasAnswered self.new.caller mine }
+        ensures offline { is_online self.new ≡ false }
+        ensures engine { engine_of self.new ≡ engine_of self.old }
+        ensures place { StaysInPlace (caller_of self.old) (caller_of self.new) }
+        ensures done { is_online self.old ≡ true → IsCallerDone (caller_of self.new) }
+        ensures kept { (mine : List Entry) → IsIdle (caller_of self.old) → (stack_of (pass_of (caller_of self.old))).sections ≡ [] →
+            WasAnswered (caller_of self.old) mine → WasAnswered (caller_of self.new) mine }
     {
         if !self.is_online {
             return;

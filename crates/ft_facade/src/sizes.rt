@@ -1,5 +1,6 @@
 //! How large an engine is, for whoever opens one: its containers by kind, its threads and its tables.
-ghost use Rattle.std.specs.Prelude.{◌≡◌, IfOk, length};
+ghost use Rattle.std.specs.Prelude.{◌≡◌, ◌<◌, ◌+◌, ◌⊎◌, IfErr, IfOk, length};
+ghost use Rattle.ft_facade.specs.declared.session.OpenFault.TheVariants as fault;
 ghost use Rattle.ft_facade.specs.Sizes.{kinds_of};
 
 use crate::session::OpenFault;
@@ -74,6 +75,8 @@ impl Sizes {
         ensures passes { IfOk result (λ shape. shape.passes ≡ self.threads) }
         ensures calls { IfOk result (λ shape. shape.calls ≡ self.calls) }
         ensures tables { IfOk result (λ shape. shape.tables.items ≡ self.tables.items) }
+        ensures cause { IfErr result (λ why. why ≡ fault.Sizes →
+            (256 < self.dicts + self.lists + self.sets) ⊎ ((65536 < self.texts) ⊎ (65536 < self.cursors))) }
     {
         let Sizes {
             dicts,

@@ -125,8 +125,7 @@ fn step(engine: &Engine, alloc: Global, caller: &mut Caller, call: &Call) -> Ste
 }
 
 impl Session {
-    ghost use Rattle.std.specs.Arc.{arc_value};
-    ghost use Rattle.ft_facade.specs.Sessions.{IsSession, with_caller};
+    ghost use Rattle.ft_facade.specs.Sessions.{IsSession, caller_of, engine_of, with_caller};
 
     /// One step of a call. It never waits: after `Again` the same call comes next. A call that is done is one entry of
     /// the session's history, with its reply, stamp and mark, and no other answer makes one.
@@ -134,11 +133,11 @@ impl Session {
     pub fn step(&mut self, alloc: Global, call: &Call) -> Stepped
         requires { IsSession self.old }
         ensures session { IsSession self.new }
-        ensures same { self.new ≡ with_caller self.old self.new.caller }
-        ensures kept { KeepsEntries call.now result self.old.caller self.new.caller }
-        ensures refused { IsRefusedOnly (arc_value self.old.engine) call.now result self.old.caller self.new.caller }
-        ensures idle { IsIdleAfter result self.new.caller }
-        ensures place { StaysInPlace self.old.caller self.new.caller }
+        ensures same { self.new ≡ with_caller self.old (caller_of self.new) }
+        ensures kept { KeepsEntries call.now result (caller_of self.old) (caller_of self.new) }
+        ensures refused { IsRefusedOnly (engine_of self.old) call.now result (caller_of self.old) (caller_of self.new) }
+        ensures idle { IsIdleAfter result (caller_of self.new) }
+        ensures place { StaysInPlace (caller_of self.old) (caller_of self.new) }
     {
         if !self.is_online {
             return Stepped::Offline;

@@ -1,4 +1,6 @@
-"""Writes a large script: one_thread, many_threads, sections or strings."""
+"""Writes a large script: one_thread, many_threads, sections or strings, of small containers; large_dict, large_set or
+any_order, of one large container."""
+import random
 import sys
 
 CALLS = 400_000
@@ -44,6 +46,29 @@ def strings():
     for i in range(65_536):
         yield f'set d "{i:x}" 1'
         yield f'del d "{i:x}"'
+
+
+def large_dict():
+    yield "dict d"
+    yield "thread A"
+    for i in range(40_000):
+        yield f"set d {i} 1"
+
+
+def large_set():
+    yield "set s"
+    yield "thread A"
+    for call in ("add", "discard"):
+        for i in range(39_000):
+            yield f"{call} s {i}"
+
+
+def any_order():
+    yield from large_dict()
+    keys = list(range(40_000))
+    random.Random(1).shuffle(keys)
+    for key in keys:
+        yield f"del d {key}"
 
 
 print("\n".join(globals()[sys.argv[1]]()))

@@ -269,7 +269,7 @@ static inline void rez_pause(unsigned tries) {
 /* ---- opening and closing */
 
 /* rez_sizes_of - the sizes of an engine with so many containers and sessions: 2^32 - 1 calls a session, 16 cursors, 65,536
- * strings, and tables of which an engine takes some 20 MB. For many or great containers
+ * strings, and tables of which an engine takes some 16 MB. For many or great containers
  * raise `tables`: a container of n slots takes one table of 2^k >= n slots, and each growth takes the next. */
 static inline rez_sizes rez_sizes_of(uint32_t dicts, uint32_t lists, uint32_t sets, uint32_t sessions) {
     rez_sizes s = {dicts, lists, sets, sessions, UINT32_MAX, 16, 65536,
@@ -279,7 +279,7 @@ static inline rez_sizes rez_sizes_of(uint32_t dicts, uint32_t lists, uint32_t se
 
 /* rez_open - opens an engine, and fills sizes->sessions sessions, which are offline.
  * Errors: REZ_NULL, REZ_SIZES, REZ_NO_MEMORY; the sessions are as before then. What stood in them is forgotten, and not
- * closed. It blocks nobody, and takes the memory of all tables at once (8 bytes a word, some 24 bytes a slot). */
+ * closed. It blocks nobody, and takes the memory of all tables at once, some 50 bytes a slot, and twice that for a moment. */
 static inline rez_status rez_open(const rez_sizes *sizes, rez_session *sessions) {
     rez_handle opened[64];
     if (sizes == NULL || sessions == NULL) return REZ_NULL;

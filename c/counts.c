@@ -8,14 +8,14 @@
 enum { THREADS = 2, RAISES = 1000, COUNTS = 10, DICT = 0 };
 static rez_session sessions[THREADS];
 
-/* A call of a dict; the program ends where it can't be made. */
+/* A call of a dict; the program ends where it can't be made, and where it raises an exception, which is a reply. */
 static rez_reply make(rez_session *session, rez_op op, int64_t key, int64_t value) {
     rez_request request = rez_on(op, DICT);
     rez_reply reply;
     request.key = rez_int(key), request.value = rez_int(value);
     rez_status status = rez_call(session, &request, &reply);
-    if (status != REZ_DONE) {
-        fprintf(stderr, "counts: %s\n", rez_status_name(status));
+    if (status != REZ_DONE || reply.tag == REZ_R_RAISED) {
+        fprintf(stderr, "counts: %s\n", status != REZ_DONE ? rez_status_name(status) : rez_exception_name(reply.raised));
         _Exit(1);
     }
     return reply;

@@ -229,7 +229,7 @@ static inline const char *rez_status_name(rez_status status) {
 /* The name of the Python exception that a reply raised, as "KeyError"; "" for any other number. */
 static inline const char *rez_exception_name(uint32_t raised) {
     static const char *const names[] = {"", "KeyError", "IndexError", "ValueError", "RuntimeError", "RuntimeError",
-                                        "MemoryError", "MemoryError", "MemoryError"};
+                                        "MemoryError", "MemoryError", "MemoryError", "RuntimeError"};
     return raised < sizeof names / sizeof names[0] ? names[raised] : "";
 }
 
@@ -389,8 +389,8 @@ static inline void rez_pause_for_tables(unsigned tries) {
 
 /* rez_call - a call until it is done. Where it raises MemoryError since every table of a class is taken, it makes a
  * REZ_QUIESCE and the same call again, at most REZ_RETRIES times, with pauses, so that other threads can let retired
- * tables go; each of these is a call of the session. The answer is that of the last. It waits for other threads, a tenth of
- * a second at most where no table comes back. */
+ * tables go; each of these is a call of the session. The answer is that of the last. It waits for other threads. Where no
+ * table comes back it takes some 0.15 s before it answers the MemoryError. */
 static inline rez_status rez_call(rez_session *session, const rez_request *request, rez_reply *reply) {
     rez_status status = rez_call_once(session, request, reply);
     for (unsigned tries = 0; status == REZ_DONE && reply->tag == REZ_R_RAISED && reply->raised == REZ_MEMORY_CLASS

@@ -1,5 +1,5 @@
 -- What the entries of a session are after a step, for whoever keeps them.
-use Rattle.std.specs.Prelude.{◌≡◌, ℕ, List, [], ◌∷◌, ◌++◌, map, reverse}
+use Rattle.std.specs.Prelude.{◌≡◌, ℕ, Bool, true, false, List, [], ◌∷◌, ◌++◌, map, reverse}
 use Rattle.ft_model.specs.declared.call.Call.{Call}
 use Rattle.ft_model.specs.declared.entry.Entry.{Entry}
 use Rattle.ft_trace.specs.OwnCursors.{plain_entry}
@@ -55,6 +55,11 @@ IsNotRefused stepped.Offline = ⊥
 IsNotRefused (stepped.Done said stamp mark) = Unit {0}
 IsNotRefused stepped.Again = Unit {0}
 IsNotRefused stepped.NoMemory = Unit {0}
+
+-- whether the answer is that the session was offline
+abbrev pub says_offline : Stepped → Bool
+says_offline stepped.Offline = true
+says_offline _ = false
 
 -- the call is done
 abbrev pub IsDone : Stepped → Type 0

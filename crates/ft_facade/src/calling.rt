@@ -1,6 +1,6 @@
 //! A call that is made until it is done.
-ghost use Rattle.std.specs.Prelude.{◌≡◌};
-ghost use Rattle.ft_facade.specs.Kept.{IsIdleAfter, IsNotAgain, IsRefusedOnly, KeepsEntries};
+ghost use Rattle.std.specs.Prelude.{◌≡◌, false, not};
+ghost use Rattle.ft_facade.specs.Kept.{IsIdleAfter, IsNotAgain, IsRefusedOnly, KeepsEntries, says_offline};
 ghost use Rattle.ft_facade.specs.Sessions.{IsOnlineCaller, StaysInPlace};
 
 use crate::session::Session;
@@ -24,6 +24,7 @@ fn call<R: Wait>(
     ensures refused { IsRefusedOnly engine.now call.now result caller.old caller.new }
     ensures idle { IsIdleAfter result caller.new }
     ensures over { IsNotAgain result }
+    ensures online { says_offline result ≡ false }
     ensures place { StaysInPlace caller.old caller.new }
 {
     if let Some(cause) = engine.refusal(caller, call) {
@@ -39,7 +40,7 @@ fn call<R: Wait>(
 }
 
 impl Session {
-    ghost use Rattle.ft_facade.specs.Sessions.{IsSession, caller_of, engine_of, with_caller};
+    ghost use Rattle.ft_facade.specs.Sessions.{IsSession, caller_of, engine_of, is_online, with_caller};
 
     /// Makes a call until it is done: it never answers `Again`. It may wait for other threads, and nothing says that it
     /// returns. The rest is as `step` says.
@@ -51,6 +52,7 @@ impl Session {
         ensures refused { IsRefusedOnly (engine_of self.old) made.now result (caller_of self.old) (caller_of self.new) }
         ensures idle { IsIdleAfter result (caller_of self.new) }
         ensures over { IsNotAgain result }
+        ensures offline { says_offline result ≡ not (is_online self.old) }
         ensures place { StaysInPlace (caller_of self.old) (caller_of self.new) }
     {
         if !self.is_online {

@@ -1,7 +1,7 @@
 //! A call that comes again after a quiescent point where every table of a class was taken.
-ghost use Rattle.std.specs.Prelude.{◌≡◌, IfNone, IfSome, IsTrue};
-ghost use Rattle.ft_facade.specs.Kept.{IsDone, IsNotAgain, KeepsMore, KeepsSome};
-ghost use Rattle.ft_facade.specs.Sessions.{IsSession, StaysInPlace, caller_of, with_caller};
+ghost use Rattle.std.specs.Prelude.{◌≡◌, IfNone, IfSome, IsTrue, not};
+ghost use Rattle.ft_facade.specs.Kept.{IsDone, IsNotAgain, KeepsMore, KeepsSome, says_offline};
+ghost use Rattle.ft_facade.specs.Sessions.{IsSession, StaysInPlace, caller_of, is_online, with_caller};
 
 use crate::session::Session;
 use crate::stepping::Stepped;
@@ -48,6 +48,7 @@ impl Session {
         ensures some { IfNone result (KeepsSome (caller_of self.old) (caller_of self.new)) }
         ensures kept { IfSome result (λ stepped. KeepsMore made.now stepped (caller_of self.old) (caller_of self.new)) }
         ensures over { IfSome result (λ stepped. IsNotAgain stepped) }
+        ensures offline { IfSome result (λ stepped. says_offline stepped ≡ not (is_online self.old)) }
     {
         let stepped = self.call(rt, alloc, made);
         if !wants_table(&stepped) || self.left() < 2 {
@@ -66,6 +67,7 @@ impl Session {
         ensures place { StaysInPlace (caller_of self.old) (caller_of self.new) }
         ensures kept { KeepsMore made.now result (caller_of self.old) (caller_of self.new) }
         ensures over { IsNotAgain result }
+        ensures offline { says_offline result ≡ not (is_online self.old) }
     {
         for _ in 0..RETRIES {
             if let Some(stepped) = self.call_and_rest(rt, alloc, made) {

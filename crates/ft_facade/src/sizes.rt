@@ -72,6 +72,7 @@ impl Sizes {
     pub fn into_shape(self, alloc: Global) -> Result<Shape, OpenFault>
         ensures kinds { IfOk result (λ shape. shape.kinds.items ≡ kinds_of self.dicts self.lists self.sets) }
         ensures texts { IfOk result (λ shape. length shape.texts.items ≡ self.texts) }
+        ensures heap { IfOk result (λ shape. shape.heap ≡ 64) }
         ensures passes { IfOk result (λ shape. shape.passes ≡ self.threads) }
         ensures calls { IfOk result (λ shape. shape.calls ≡ self.calls) }
         ensures tables { IfOk result (λ shape. shape.tables.items ≡ self.tables.items) }

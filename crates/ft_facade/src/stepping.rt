@@ -1,12 +1,12 @@
 //! One step of a call: a look where the call may be made so, else one try.
-ghost use Rattle.std.specs.Prelude.{◌≡◌, List};
+ghost use Rattle.std.specs.Prelude.{◌≡◌, List, false, not};
 ghost use Rattle.ft_model.specs.declared.call.Call.{Call as ACall};
 ghost use Rattle.ft_model.specs.declared.entry.Entry.{Entry};
 ghost use Rattle.ft_engine.specs.declared.caller.Flight.TheVariants as flight;
 ghost use Rattle.ft_engine.specs.Attempts.{MayAttempt};
 ghost use Rattle.ft_engine.specs.Callers.{IsIdle, flight_of};
 ghost use Rattle.ft_engine.specs.Keeping.{WasAnswered};
-ghost use Rattle.ft_facade.specs.Kept.{HasJust, IsIdleAfter, IsNotRefused, IsRefusedOnly, KeepsEntries};
+ghost use Rattle.ft_facade.specs.Kept.{HasJust, IsIdleAfter, IsNotRefused, IsRefusedOnly, KeepsEntries, says_offline};
 ghost use Rattle.ft_facade.specs.Sessions.{IsOnlineCaller, StaysInPlace};
 
 use crate::session::Session;
@@ -53,6 +53,7 @@ fn attempt(engine: &Engine, alloc: Global, caller: &mut Caller, call: &Call) -> 
     ensures kept { KeepsEntries call.now result caller.old caller.new }
     ensures made { IsNotRefused result }
     ensures idle { IsIdleAfter result caller.new }
+    ensures online { says_offline result ≡ false }
     ensures place { StaysInPlace caller.old caller.new }
 {
     match engine.attempt(alloc, caller, call) {
@@ -75,6 +76,7 @@ fn attempt_if_allowed(engine: &Engine, alloc: Global, caller: &mut Caller, call:
     ensures kept { KeepsEntries call.now result caller.old caller.new }
     ensures refused { IsRefusedOnly engine.now call.now result caller.old caller.new }
     ensures idle { IsIdleAfter result caller.new }
+    ensures online { says_offline result ≡ false }
     ensures place { StaysInPlace caller.old caller.new }
 {
     match engine.refusal(caller, call) {
@@ -91,6 +93,7 @@ fn attempt_after_look(engine: &Engine, alloc: Global, caller: &mut Caller, call:
     ensures kept { KeepsEntries call.now result caller.old caller.new }
     ensures made { IsNotRefused result }
     ensures idle { IsIdleAfter result caller.new }
+    ensures online { says_offline result ≡ false }
     ensures place { StaysInPlace caller.old caller.new }
 {
     if engine.may_attempt(caller, call) {
@@ -109,6 +112,7 @@ fn step(engine: &Engine, alloc: Global, caller: &mut Caller, call: &Call) -> Ste
     ensures kept { KeepsEntries call.now result caller.old caller.new }
     ensures refused { IsRefusedOnly engine.now call.now result caller.old caller.new }
     ensures idle { IsIdleAfter result caller.new }
+    ensures online { says_offline result ≡ false }
     ensures place { StaysInPlace caller.old caller.new }
 {
     if !engine.may_look(caller, call) {
@@ -125,7 +129,7 @@ fn step(engine: &Engine, alloc: Global, caller: &mut Caller, call: &Call) -> Ste
 }
 
 impl Session {
-    ghost use Rattle.ft_facade.specs.Sessions.{IsSession, caller_of, engine_of, with_caller};
+    ghost use Rattle.ft_facade.specs.Sessions.{IsSession, caller_of, engine_of, is_online, with_caller};
 
     /// One step of a call. It never waits: after `Again` the same call comes next. A call that is done is one entry of
     /// the session's history, with its reply, stamp and mark, and no other answer makes one.
@@ -137,6 +141,7 @@ impl Session {
         ensures kept { KeepsEntries call.now result (caller_of self.old) (caller_of self.new) }
         ensures refused { IsRefusedOnly (engine_of self.old) call.now result (caller_of self.old) (caller_of self.new) }
         ensures idle { IsIdleAfter result (caller_of self.new) }
+        ensures offline { says_offline result ≡ not (is_online self.old) }
         ensures place { StaysInPlace (caller_of self.old) (caller_of self.new) }
     {
         if !self.is_online {

@@ -2,7 +2,7 @@
 ghost use Rattle.std.specs.Str.{IsUtf8};
 ghost use Rattle.ft_texts.specs.Faults.{IsFaultOf};
 ghost use Rattle.ft_texts.specs.Numbered.{most_texts, text_place, with_text};
-ghost use Rattle.std.specs.Prelude.{◌≡◌, ◌<◌, [], ◌∷◌, ◌++◌, length, None, Some, IfErr, IfOk, IfSome, OnErr, OnOk, slice_get};
+ghost use Rattle.std.specs.Prelude.{◌≡◌, ◌<◌, [], ◌∷◌, ◌++◌, length, None, Some, IfErr, IfNone, IfOk, IfSome, OnErr, OnOk, slice_get};
 
 use ft_model::Sym;
 use indexmap::IndexSet;
@@ -117,7 +117,8 @@ impl Texts {
 
     /// The bytes of the text with that number, where there is one.
     pub fn text(&self, sym: Sym) -> Option<&[u8]>
-        ensures { IfSome result (λ text. slice_get self.now sym.0 ≡ Some text.now) }
+        ensures some { IfSome result (λ text. slice_get self.now sym.0 ≡ Some text.now) }
+        ensures none { IfNone result (slice_get self.now sym.0 ≡ None) }
     {
         let text = self.texts.get_index(sym.0 as usize)?;
         Some(text.as_slice())

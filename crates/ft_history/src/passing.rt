@@ -4,14 +4,14 @@ ghost use Rattle.std.specs.Prelude.{◌≡◌, ◌+◌, ◌^◌, ◌<◌, ◌&&�
 ghost use Rattle.ft_model.specs.declared.call.Call.TheVariants as call_of;
 ghost use Rattle.ft_model.specs.declared.script.Kind.TheVariants as kind;
 ghost use Rattle.ft_model.specs.Calls.{other_dict, other_list, other_set, other_deque};
-ghost use Rattle.ft_model.specs.Contents.{has_key, has_element, those_not_in, dict_update};
+ghost use Rattle.ft_model.specs.Contents.{IsDict, has_key, has_element, those_not_in, dict_update};
 ghost use Rattle.ft_model.specs.TableUses.{would_pass};
 ghost use Rattle.ft_model.specs.Worlds.{IsOfKind};
 ghost use Rattle.ft_history.specs.Internal.Accounts.{AreOfKind, length_with_items};
 
 use ft_model::{
-    Call, Deque, DequeCall, Dict, DictCall, DictPair, Key, ListCall, MOST_ELEMENTS, MOST_ITEMS,
-    MOST_PAIRS, Set, SetCall, World,
+    Call, Deque, DequeCall, Dict, DictCall, Key, ListCall, MOST_ELEMENTS, MOST_ITEMS, MOST_PAIRS,
+    Set, SetCall, World,
 };
 
 /// Whether the call can add, and would leave a container that it names with more than the largest
@@ -215,16 +215,16 @@ fn length_with_element(set: &Set, key: Key) -> usize
 fn length_with_keys(dict: &Dict, other: &Dict) -> usize
     ensures { result ≡ length (dict_update dict.now other.now.pairs).pairs }
 {
-    let others = other.pairs();
-    dict.len() + new_keys(dict, others)
+    dict.len() + new_keys(dict, other)
 }
 
-/// How many keys of the pairs aren't in the dict.
-fn new_keys(dict: &Dict, pairs: &[DictPair]) -> usize
-    ensures keys { result ≡ length (filter (λ pair. not (has_key dict.now.pairs pair.key)) pairs.now) }
+/// How many keys of the other dict aren't in the dict.
+fn new_keys(dict: &Dict, other: &Dict) -> usize
+    ensures keys { result ≡ length (filter (λ pair. not (has_key dict.now.pairs pair.key)) other.now.pairs) }
+    ensures is_dict { IsDict other.now.next other.now.pairs }
     ensures few { result < 2 ^ 63 }
 {
-    pairs.iter().filter(|pair| !dict.has(pair.key)).count()
+    other.pairs().filter(|pair| !dict.has(pair.key)).count()
 }
 
 /// How many elements of the other set aren't in the set.
@@ -234,7 +234,6 @@ fn new_elements(set: &Set, other: &Set) -> usize
 {
     other
         .elements()
-        .iter()
         .filter(|element| !set.has(element.key))
         .count()
 }

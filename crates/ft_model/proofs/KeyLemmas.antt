@@ -1,7 +1,6 @@
 -- `same_key` says when two keys are equal, and a table of the keys of elements has those keys.
-use Rattle.std.proofs.Common.{◌≡◌, ℕ, Bool, true, false, nat_eq, List, [], ◌∷◌, map, refl, sym, ap, ◌∙◌}
-use Rattle.std.specs.Prelude.{◌||◌, ℤ}
-use Rattle.std.specs.List.{list_any}
+use Rattle.std.proofs.Common.{◌≡◌, ℕ, Bool, true, false, nat_eq, refl, sym, ap, ◌∙◌}
+use Rattle.std.specs.Prelude.{ℤ}
 use Rattle.std.specs.Ordering.{int_eq}
 use Rattle.std.specs.Cmp.{signed_Decides}
 use Rattle.std.proofs.lemmas.Bool.{false≢true}
@@ -10,9 +9,7 @@ use Rattle.std.proofs.Common.{arith}
 use Rattle.ft_model.specs.declared.data.Key.{Key}
 use Rattle.ft_model.specs.declared.data.Key.TheVariants.{Int, Text}
 use Rattle.ft_model.specs.declared.data.Sym.{Sym}
-use Rattle.ft_model.specs.declared.content.Element.{Element}
 use Rattle.ft_model.specs.Keys.{same_key}
-use Rattle.ft_model.specs.Contents.{has_element}
 
 pub same_key-true : (a b : Key) → same_key a b ≡ true → a ≡ b
 same_key-true (Int x) (Int y) h = ap Int ((signed_Decides x y).0 h)
@@ -43,16 +40,3 @@ same_key-from_kinds eq ints texts one other (Int x) (Int y) = ints x y
 same_key-from_kinds eq ints texts one other (Text s) (Text t) = texts s t
 same_key-from_kinds eq ints texts one other (Int x) (Text t) = one x t
 same_key-from_kinds eq ints texts one other (Text s) (Int y) = other s y
-
-same_answers : (eq : Key → Key → Bool) → ((a b : Key) → eq a b ≡ same_key a b) → (keys : List Key) (key : Key) → list_any (eq key) keys ≡ list_any (same_key key) keys
-same_answers eq same [] key = refl
-same_answers eq same (first ∷ keys) key = ap (λ b. b || list_any (eq key) keys) (same key first) ∙ ap (λ b. same_key key first || b) (same_answers eq same keys key)
-
--- the keys of elements are those that the elements have
-has-keys : (elements : List Element) (key : Key) → list_any (same_key key) (map (λ element. element.key) elements) ≡ has_element elements key
-has-keys [] key = refl
-has-keys (element ∷ elements) key =
-    ap (λ b. b || list_any (same_key key) (map (λ (e : Element). e.key) elements)) (same_key-flip key element.key) ∙ ap (λ b. same_key element.key key || b) (has-keys elements key)
-
-pub has_table : (eq : Key → Key → Bool) → ((a b : Key) → eq a b ≡ same_key a b) → (elements : List Element) (keys : List Key) → ((key : Key) → list_any (eq key) keys ≡ list_any (eq key) (map (λ element. element.key) elements)) → (key : Key) → list_any (same_key key) keys ≡ has_element elements key
-has_table eq same elements keys table key = sym (same_answers eq same keys key) ∙ table key ∙ same_answers eq same (map (λ (e : Element). e.key) elements) key ∙ has-keys elements key

@@ -1,7 +1,7 @@
 pub mod KeyLemmas
 pub mod ValueLemmas
-pub mod LineLemmas
 pub mod MemberLemmas
+pub mod PlacedMembers
 pub mod Dicts
 pub mod DictLaws
 pub mod EqualDicts

@@ -1,12 +1,11 @@
 -- What members have at a key after a call, and where a search by serial comes to.
-use Rattle.std.proofs.Common.{◌≡◌, ◌≢◌, ℕ, zero, suc, ◌<◌, ◌≤◌, Bool, true, false, not, cond, ltb, List, [], ◌∷◌, ◌++◌, length, get_or, set, take, drop, position, Option, Some, None, is_some, refl, sym, ap, ◌∙◌, arith, inl, inr}
+use Rattle.std.proofs.Common.{◌≡◌, ◌≢◌, ℕ, zero, suc, ◌<◌, Bool, true, false, not, cond, ltb, List, [], ◌∷◌, ◌++◌, length, get_or, set, take, position, Option, Some, None, is_some, refl, sym, ap, ◌∙◌, arith, inl, inr}
 use Rattle.std.specs.Prelude.{◌||◌, All, AllPairs, option_map}
-use Rattle.std.specs.List.{find, list_any, remove, slice_get}
-use Rattle.std.specs.List.Sorted.{IsPartitionPoint, IsNonDecreasingBy}
+use Rattle.std.specs.List.{find, list_any, remove}
 use Rattle.std.specs.Map.{lookup}
 use Rattle.std.proofs.lemmas.Bool.{cases_eq, cases_lt, lt-ltb, le-ltb, false≢true, or_parts}
 use Rattle.std.proofs.lemmas.List.Sums.{position_or_len_is, fails_before_first}
-use Rattle.std.proofs.lemmas.List.Quantifiers.{all_pairs_push, all_pairs_remove, position-Some}
+use Rattle.std.proofs.lemmas.List.Quantifiers.{all_pairs_push, all_pairs_remove}
 use Rattle.std.proofs.lemmas.List.{get_or-set_same, get_or-set_other, get_or_default, get_or-take, length-set, length-take-le}
 use Rattle.std.proofs.lemmas.List.Folds.{list_any_none}
 use Rattle.std.specs.Prelude.{nat_lt, filter}
@@ -34,14 +33,14 @@ module _ {A : Type 0} (key : A → Key) where
   abbrev pub IsDistinct : List A → Type 0
   IsDistinct members = AllPairs (λ a b. key a ≢ key b) members
 
-  distinct_tail : (x : A) (xs : List A) → IsDistinct (x ∷ xs) → IsDistinct xs
+  pub distinct_tail : (x : A) (xs : List A) → IsDistinct (x ∷ xs) → IsDistinct xs
   distinct_tail x xs distinct = λ i j d lt low. distinct (suc i) (suc j) d (omega arith) (omega arith)
 
-  differs_from_head : (x : A) (xs : List A) (i : ℕ) (d : A) → IsDistinct (x ∷ xs) → i < length xs → key x ≢ key (get_or xs i d)
+  pub differs_from_head : (x : A) (xs : List A) (i : ℕ) (d : A) → IsDistinct (x ∷ xs) → i < length xs → key x ≢ key (get_or xs i d)
   differs_from_head x xs i d distinct low = distinct 0 (suc i) d (omega arith) (omega arith)
 
   -- a key that differs from the wanted one
-  is_other : (wanted other : Key) → (other ≢ wanted) → same_key other wanted ≡ false
+  pub is_other : (wanted other : Key) → (other ≢ wanted) → same_key other wanted ≡ false
   is_other wanted other differ =
       elim (same_key other wanted) as (λ b. same_key other wanted ≡ b → b ≡ false) [
         | true ↦ λ same. absurd (differ (same_key-true other wanted same))
@@ -65,10 +64,10 @@ module _ {A : Type 0} (key : A → Key) where
       is_other (key (get_or xs i d)) (key (get_or (take i xs) k e)) (λ equal. distinct k i d before low (sym same ∙ equal)))
 
   module _ (serial : A → ℕ) where
-    serial_at-head_yes : (x : A) (xs : List A) (wanted : Key) → same_key (key x) wanted ≡ true → serial_at key serial (x ∷ xs) wanted ≡ Some (serial x)
+    pub serial_at-head_yes : (x : A) (xs : List A) (wanted : Key) → same_key (key x) wanted ≡ true → serial_at key serial (x ∷ xs) wanted ≡ Some (serial x)
     serial_at-head_yes x xs wanted h = ap (λ b. option_map serial (cond b (Some x) (find (is_member key wanted) xs))) h
 
-    serial_at-head_no : (x : A) (xs : List A) (wanted : Key) → same_key (key x) wanted ≡ false → serial_at key serial (x ∷ xs) wanted ≡ serial_at key serial xs wanted
+    pub serial_at-head_no : (x : A) (xs : List A) (wanted : Key) → same_key (key x) wanted ≡ false → serial_at key serial (x ∷ xs) wanted ≡ serial_at key serial xs wanted
     serial_at-head_no x xs wanted h = ap (λ b. option_map serial (cond b (Some x) (find (is_member key wanted) xs))) h
 
     -- a new key has the serial of the member that is added
@@ -129,7 +128,7 @@ module _ {A : Type 0} (key : A → Key) where
         ] refl
 
     -- the place of a member whose serial is found
-    serial_at-found : (xs : List A) (wanted : Key) (s : ℕ) → serial_at key serial xs wanted ≡ Some s → (j : ℕ) × (j < length xs) × ((d : A) → (key (get_or xs j d) ≡ wanted) × (serial (get_or xs j d) ≡ s))
+    pub serial_at-found : (xs : List A) (wanted : Key) (s : ℕ) → serial_at key serial xs wanted ≡ Some s → (j : ℕ) × (j < length xs) × ((d : A) → (key (get_or xs j d) ≡ wanted) × (serial (get_or xs j d) ≡ s))
     serial_at-found [] wanted s found = absurd (let none : None ≡ Some s = found in cc)
     serial_at-found (x ∷ xs) wanted s found =
         elim (same_key (key x) wanted) as (λ b. same_key (key x) wanted ≡ b → (j : ℕ) × (j < length (x ∷ xs)) × ((d : A) → (key (get_or (x ∷ xs) j d) ≡ wanted) × (serial (get_or (x ∷ xs) j d) ≡ s))) [
@@ -160,27 +159,6 @@ module _ {A : Type 0} (key : A → Key) where
         let xs : List A = x ∷ rest in
         let is : position_or_len (is_member key wanted) xs ≡ length xs = position_or_len_is (is_member key wanted) xs (length xs) x (omega arith) (λ k lt. absent_at xs wanted absent k x lt) (λ lt. absurd (omega arith)) in
         ap (λ n. cond (nat_lt n (length xs)) (Some n) None) is ∙ ap (λ b. cond b (Some (length xs)) None) (le-ltb (length xs) (length xs) (omega arith))
-
-    -- a search by serial comes to the member whose serial is found
-    pub position-by_serial : (xs : List A) (wanted : Key) (s i : ℕ) → AreMembers key serial xs → serial_at key serial xs wanted ≡ Some s → IsPartitionPoint (λ m. serial m < s) (λ m. s ≤ serial m) xs i → position (is_member key wanted) xs ≡ Some i
-    position-by_serial [] wanted s i are found point = absurd (let none : None ≡ Some s = found in cc)
-    position-by_serial (x ∷ rest) wanted s i are found point =
-        let xs : List A = x ∷ rest in
-        let there = serial_at-found xs wanted s found in
-        let j : ℕ = there.0 in
-        let low : j < length xs = there.1 in
-        let here : (key (get_or xs j x) ≡ wanted) × (serial (get_or xs j x) ≡ s) = there.2 x in
-        let is : serial (get_or xs j x) ≡ s = here.1 in
-        let same : j ≡ i =
-        elim (cases_lt j i) [
-          | inl lt ↦ absurd (let below : serial (get_or xs j x) < s = point.0 j x (omega arith) lt in omega arith)
-          | inr le ↦
-              elim (cases_lt i j) [
-                | inl lt ↦ absurd (let above : s ≤ serial (get_or xs i x) = point.1 i x (omega arith) (omega arith) in let rises : serial (get_or xs i x) < serial (get_or xs j x) = are.rising i j x lt low in omega arith)
-                | inr ge ↦ omega arith
-              ]
-        ] in
-        position_is xs wanted j x low (λ k lt. is_other wanted (key (get_or xs k x)) (λ equal. are.distinct k j x lt low (equal ∙ sym here.0))) (ap (λ k. same_key k wanted) here.0 ∙ same_key-refl wanted) ∙ ap Some same
 
     -- where no serial is found, no member has the key
     pub position-none : (xs : List A) (wanted : Key) → serial_at key serial xs wanted ≡ None → position (is_member key wanted) xs ≡ None
@@ -262,16 +240,9 @@ module _ {A : Type 0} (key : A → Key) where
     pub absent-none : (xs : List A) (wanted : Key) → position (is_member key wanted) xs ≡ None → list_any (is_member key wanted) xs ≡ false
     absent-none xs wanted none = list_any_none (is_member key wanted) xs (none_at (is_member key wanted) xs none)
 
-    find_all_none : (p : A → Bool) (xs : List A) → All (λ x. p x ≡ false) xs → find p xs ≡ None
-    find_all_none p [] all = refl
-    find_all_none p (x ∷ xs) all = ap (λ b. cond b (Some x) (find p xs)) (all 0 x (omega arith)) ∙ find_all_none p xs (λ k d low. all (suc k) d (omega arith))
-
-    filter_all : (p : A → Bool) (xs : List A) → All (λ x. p x ≡ false) xs → filter (λ x. not (p x)) xs ≡ xs
+    pub filter_all : (p : A → Bool) (xs : List A) → All (λ x. p x ≡ false) xs → filter (λ x. not (p x)) xs ≡ xs
     filter_all p [] all = refl
     filter_all p (x ∷ xs) all = ap (λ b. cond (not b) (x ∷ filter (λ x. not (p x)) xs) (filter (λ x. not (p x)) xs)) (all 0 x (omega arith)) ∙ ap (λ rest. x ∷ rest) (filter_all p xs (λ k d low. all (suc k) d (omega arith)))
-
-    pub find-none : (xs : List A) (wanted : Key) → position (is_member key wanted) xs ≡ None → find (is_member key wanted) xs ≡ None
-    find-none xs wanted none = find_all_none (is_member key wanted) xs (none_at (is_member key wanted) xs none)
 
     pub filter-none : (xs : List A) (wanted : Key) → position (is_member key wanted) xs ≡ None → filter (λ m. not (is_member key wanted m)) xs ≡ xs
     filter-none xs wanted none = filter_all (is_member key wanted) xs (none_at (is_member key wanted) xs none)
@@ -284,7 +255,7 @@ module _ {A : Type 0} (key : A → Key) where
         ap (λ b. cond b (Some x) (find (is_member key wanted) xs)) (is_other wanted (key x) (λ same. differs_from_head x xs i d distinct within (same ∙ sym at)))
         ∙ find_first xs wanted i d (distinct_tail x xs distinct) within at
 
-    filter_first : (xs : List A) (wanted : Key) (i : ℕ) (d : A) → IsDistinct xs → i < length xs → key (get_or xs i d) ≡ wanted → filter (λ m. not (is_member key wanted m)) xs ≡ remove xs i
+    pub filter_first : (xs : List A) (wanted : Key) (i : ℕ) (d : A) → IsDistinct xs → i < length xs → key (get_or xs i d) ≡ wanted → filter (λ m. not (is_member key wanted m)) xs ≡ remove xs i
     filter_first [] wanted i d distinct low at = absurd (omega arith)
     filter_first (x ∷ xs) wanted zero d distinct low at =
         ap (λ b. cond (not b) (x ∷ filter (λ m. not (is_member key wanted m)) xs) (filter (λ m. not (is_member key wanted m)) xs)) (ap (λ k. same_key k wanted) at ∙ same_key-refl wanted)
@@ -294,42 +265,17 @@ module _ {A : Type 0} (key : A → Key) where
         ap (λ b. cond (not b) (x ∷ filter (λ m. not (is_member key wanted m)) xs) (filter (λ m. not (is_member key wanted m)) xs)) (is_other wanted (key x) (λ same. differs_from_head x xs i d distinct within (same ∙ sym at)))
         ∙ ap (λ rest. x ∷ rest) (filter_first xs wanted i d (distinct_tail x xs distinct) within at)
 
-    pub find-placed : (xs : List A) (wanted : Key) (i : ℕ) (d : A) → AreMembers key serial xs → position (is_member key wanted) xs ≡ Some i → find (is_member key wanted) xs ≡ Some (get_or xs i d)
-    find-placed xs wanted i d are at =
-        let p = position-Some (is_member key wanted) xs i d at in
-        find_first xs wanted i d are.distinct p.0 (same_key-true _ _ p.1)
+    -- where a member is found, it stands at the first place that passes
+    pub find-place : (xs : List A) (wanted : Key) (x : A) → AreMembers key serial xs → find (is_member key wanted) xs ≡ Some x → (i : ℕ) × (i < length xs) × (position (is_member key wanted) xs ≡ Some i) × (x ≡ get_or xs i x) × (key x ≡ wanted)
+    find-place xs wanted x are found =
+        let there = serial_at-found xs wanted (serial x) (ap (option_map serial) found) in
+        let i : ℕ = there.0 in
+        let low : i < length xs = there.1 in
+        let at : (key (get_or xs i x) ≡ wanted) × (serial (get_or xs i x) ≡ serial x) = there.2 x in
+        let both : Some x ≡ Some (get_or xs i x) = sym found ∙ find_first xs wanted i x are.distinct low at.0 in
+        let same : x ≡ get_or xs i x = cc in
+        (i, low, position_is xs wanted i x low (λ k lt. is_other wanted (key (get_or xs k x)) (λ equal. are.distinct k i x lt low (equal ∙ sym at.0))) (ap (λ k. same_key k wanted) at.0 ∙ same_key-refl wanted), same, ap key same ∙ at.0)
 
-    pub filter-placed : (xs : List A) (wanted : Key) (i : ℕ) → AreMembers key serial xs → position (is_member key wanted) xs ≡ Some i → filter (λ m. not (is_member key wanted m)) xs ≡ remove xs i
-    filter-placed [] wanted i are at = absurd (let none : None ≡ Some i = at in cc)
-    filter-placed (x ∷ rest) wanted i are at =
-        let xs : List A = x ∷ rest in
-        let p = position-Some (is_member key wanted) xs i x at in
-        filter_first xs wanted i x are.distinct p.0 (same_key-true _ _ p.1)
-
--- ---- the first member after a serial
-pub never_falls : {A : Type 0} → (serial : A → ℕ) (xs : List A) → AllPairs (λ a b. serial a < serial b) xs → IsNonDecreasingBy serial xs
-never_falls serial xs rising = λ i j d le low.
-    elim (cases_lt i j) [
-      | inl lt ↦ (let less : serial (get_or xs i d) < serial (get_or xs j d) = rising i j d lt low in omega arith)
-      | inr ge ↦ (let same : i ≡ j = omega arith in rw same (omega arith))
-    ]
-
-pub find-first : {A : Type 0} → (xs : List A) → slice_get xs 0 ≡ find (λ x. true) xs
-find-first [] = refl
-find-first (x ∷ xs) = refl
-
-pub find-from_point : {A : Type 0} → (serial : A → ℕ) (xs : List A) (last i : ℕ) → IsPartitionPoint (λ m. serial m ≤ last) (λ m. last < serial m) xs i → slice_get xs i ≡ find (λ m. nat_lt last (serial m)) xs
-find-from_point serial [] last i point = refl
-find-from_point serial (x ∷ xs) last zero point =
-    let above : last < serial x = point.1 0 x (omega arith) (omega arith) in
-    sym (ap (λ b. cond b (Some x) (find (λ m. nat_lt last (serial m)) xs)) (lt-ltb last (serial x) above))
-find-from_point serial (x ∷ xs) last (suc i) point =
-    let below : serial x ≤ last = point.0 0 x (omega arith) (omega arith) in
-    find-from_point serial xs last i (λ k d low high. point.0 (suc k) d (omega arith) (omega arith), λ k d low high. point.1 (suc k) d (omega arith) (omega arith))
-    ∙ sym (ap (λ b. cond b (Some x) (find (λ m. nat_lt last (serial m)) xs)) (le-ltb last (serial x) below))
-
-pub get-drop : {A : Type 0} → (xs : List A) (n : ℕ) → slice_get (drop n xs) 0 ≡ slice_get xs n
-get-drop [] zero = refl
-get-drop [] (suc n) = refl
-get-drop (x ∷ xs) zero = refl
-get-drop (x ∷ xs) (suc n) = get-drop xs n
+    -- where none is found, none passes
+    pub find-no_place : (xs : List A) (wanted : Key) → find (is_member key wanted) xs ≡ None → position (is_member key wanted) xs ≡ None
+    find-no_place xs wanted none = position-none xs wanted (ap (option_map serial) none)

@@ -1,5 +1,5 @@
 -- What a dict has where a key was looked up.
-use Rattle.std.proofs.Common.{◌≡◌, ◌≢◌, ℕ, zero, suc, ◌<◌, true, false, List, [], ◌∷◌, length, Some, None, refl, sym, ap, ◌∙◌, arith}
+use Rattle.std.proofs.Common.{◌≡◌, ◌≢◌, ℕ, zero, suc, ◌-◌, ◌<◌, true, false, List, [], ◌∷◌, length, take, Some, None, refl, sym, ap, ◌∙◌, arith}
 use Rattle.std.specs.Prelude.{All, AllPairs, Any, option_map}
 use Rattle.std.specs.List.{find, remove}
 use Rattle.std.proofs.lemmas.Bool.{false≢true}
@@ -14,7 +14,7 @@ use Rattle.ft_model.specs.Contents.{IsDict, is_at, dict_get, has_pair}
 use Rattle.ft_model.specs.Members.{AreMembers}
 use Rattle.ft_model.proofs.KeyLemmas.{same_key-true, same_key-refl}
 use Rattle.ft_model.proofs.ValueLemmas.{is_value-true, is_value-refl}
-use Rattle.ft_model.proofs.LineLemmas.{All-remove}
+use Rattle.ft_model.proofs.PlacedMembers.{All-remove, take_is_remove}
 use Rattle.ft_model.proofs.EqualDicts.{found_from_pair, pair_from_found}
 
 -- `==` of values answers as `is_value`
@@ -86,3 +86,7 @@ IsDict-remove next pairs i low is_dict =
       rising = all_pairs_remove (λ (a b : DictPair). a.serial < b.serial) pairs i low is_dict.rising;
       below = All-remove (λ (pair : DictPair). pair.serial < next) pairs i low is_dict.below;
     }
+
+pub IsDict-take : (next : ℕ) (pairs : List DictPair) → IsDict next pairs → IsDict next (take (length pairs - 1) pairs)
+IsDict-take next [] is_dict = is_dict
+IsDict-take next (pair ∷ pairs) is_dict = rw (take_is_remove (pair ∷ pairs)) (IsDict-remove next (pair ∷ pairs) (length (pair ∷ pairs) - 1) (omega arith) is_dict)

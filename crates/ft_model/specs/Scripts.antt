@@ -221,7 +221,8 @@ IsAwaitOf threads number _ = Unit {0}
 -- all awaits of the threads do
 abbrev pub AreAwaitsOf : List Thread → Type 0
 AreAwaitsOf threads =
-    (number : ℕ) (thread : Thread) → slice_get threads number ≡ Some thread → All (IsAwaitOf threads number) thread.calls
+    (number : ℕ) (thread : Thread) →
+    slice_get threads number ≡ Some thread → All (IsAwaitOf threads number) thread.calls
 
 -- ---- shared keys and starts
 

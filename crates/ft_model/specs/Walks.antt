@@ -24,7 +24,8 @@ use Rattle.ft_model.specs.Answers.{cursor_step}
 -- what so many `next` reply, one after the other (Python manual, Iterator Types)
 abbrev pub walked : ℕ → List Content → Cursor → List Reply
 walked zero world cursor = []
-walked (suc steps) world cursor = (cursor_step world cursor).reply ∷ walked steps world (cursor_step world cursor).cursor
+walked (suc steps) world cursor =
+    (cursor_step world cursor).reply ∷ walked steps world (cursor_step world cursor).cursor
 
 -- a whole walk gives all of these, in their order, and then its end (Python manual, Iterator Types: StopIteration)
 abbrev pub GivesAll : List Content → Cursor → List Reply → Type 0

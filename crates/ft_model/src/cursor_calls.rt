@@ -1,9 +1,9 @@
 //! One step of a cursor. Each pair or element is given once at most, and an ended cursor stays
 //! ended.
-ghost use Rattle.std.specs.Prelude.{◌≡◌, ◌<◌, true, AllPairs};
+ghost use Rattle.std.specs.Prelude.{◌≡◌, true};
 ghost use Rattle.ft_model.specs.declared.reply.Reply.TheVariants.{Stop};
 ghost use Rattle.ft_model.specs.Cursors.{dict_walk, dict_next, set_walk, set_next, list_next};
-ghost use Rattle.ft_model.specs.Cursors.{is_before, prior_pair, dict_back_walk, dict_back_next, list_back_next, deque_next};
+ghost use Rattle.ft_model.specs.Cursors.{dict_back_walk, dict_back_next, list_back_next, deque_next};
 ghost use Rattle.ft_model.specs.Cursors.{is_given, has_size, is_ended, GoesOn};
 ghost use Rattle.ft_model.specs.Worlds.{IsOfKind, cursor_kind, container_of};
 ghost use Rattle.ft_model.specs.Answers.{cursor_step, walked_length};
@@ -12,8 +12,9 @@ use crate::content::{DictPair, Element};
 use crate::cursor::{Cursor, CursorState};
 use crate::data::{Key, Value};
 use crate::deque::Deque;
-use crate::members::first_after;
+use crate::dict::Dict;
 use crate::reply::{Raise, Reply};
+use crate::set::Set;
 use crate::world::World;
 
 /// What one `next` answers, and the cursor that it leaves (Python manual, Iterator Types).
@@ -52,14 +53,7 @@ fn step_of(world: &World, cursor: &Cursor) -> Advanced
             size,
             expected,
             last,
-        } => step_dict(
-            world.dict(container).pairs(),
-            container,
-            walk,
-            size,
-            expected,
-            last,
-        ),
+        } => step_dict(world.dict(container), container, walk, size, expected, last),
         Cursor::List {
             container,
             index,
@@ -70,7 +64,7 @@ fn step_of(world: &World, cursor: &Cursor) -> Advanced
             walk,
             size,
             last,
-        } => step_set(world.set(container).elements(), container, walk, size, last),
+        } => step_set(world.set(container), container, walk, size, last),
         Cursor::Deque {
             container,
             moves,
@@ -81,7 +75,7 @@ fn step_of(world: &World, cursor: &Cursor) -> Advanced
             walk,
             size,
             last,
-        } => step_dict_back(world.dict(container).pairs(), container, walk, size, last),
+        } => step_dict_back(world.dict(container), container, walk, size, last),
         Cursor::ListBack { container, index } => {
             step_list_back(world.list(container).items(), container, index)
         }
@@ -90,16 +84,15 @@ fn step_of(world: &World, cursor: &Cursor) -> Advanced
 
 /// One `next` of a cursor over the pairs of a dict.
 fn step_dict(
-    pairs: &[DictPair],
+    dict: &Dict,
     container: u32,
     walk: CursorState,
     size: u64,
     expected: u64,
     last: Option<u64>,
 ) -> Advanced
-    requires rising { AllPairs (λ a b. a.serial < b.serial) pairs.now }
-    ensures reply { result.reply ≡ (dict_next pairs.now container walk size expected last).reply }
-    ensures cursor { result.cursor ≡ (dict_next pairs.now container walk size expected last).cursor }
+    ensures reply { result.reply ≡ (dict_next dict.now.pairs container walk size expected last).reply }
+    ensures cursor { result.cursor ≡ (dict_next dict.now.pairs container walk size expected last).cursor }
 {
     match walk {
         CursorState::Ended => Advanced {
@@ -112,8 +105,8 @@ fn step_dict(
                 last,
             },
         },
-        CursorState::Live if pairs.len() as u64 == size => {
-            walk_dict(first_after(pairs, last), container, size, expected, last)
+        CursorState::Live if dict.len() as u64 == size => {
+            walk_dict(dict.next_pair(last), container, size, expected, last)
         }
         CursorState::Live | CursorState::Reported => Advanced {
             reply: Reply::Raised(Raise::Size),
@@ -199,16 +192,9 @@ fn step_list(items: &[Value], container: u32, index: u64, ended: bool) -> Advanc
 }
 
 /// One `next` of a cursor over the elements of a set.
-fn step_set(
-    elements: &[Element],
-    container: u32,
-    walk: CursorState,
-    size: u64,
-    last: Option<u64>,
-) -> Advanced
-    requires rising { AllPairs (λ a b. a.serial < b.serial) elements.now }
-    ensures reply { result.reply ≡ (set_next elements.now container walk size last).reply }
-    ensures cursor { result.cursor ≡ (set_next elements.now container walk size last).cursor }
+fn step_set(set: &Set, container: u32, walk: CursorState, size: u64, last: Option<u64>) -> Advanced
+    ensures reply { result.reply ≡ (set_next set.now.elements container walk size last).reply }
+    ensures cursor { result.cursor ≡ (set_next set.now.elements container walk size last).cursor }
 {
     match walk {
         CursorState::Ended => Advanced {
@@ -220,8 +206,8 @@ fn step_set(
                 last,
             },
         },
-        CursorState::Live if elements.len() as u64 == size => {
-            walk_set(first_after(elements, last), container, size, last)
+        CursorState::Live if set.len() as u64 == size => {
+            walk_set(set.next_element(last), container, size, last)
         }
         CursorState::Live | CursorState::Reported => Advanced {
             reply: Reply::Raised(Raise::Size),
@@ -299,14 +285,14 @@ fn step_deque(deque: &Deque, container: u32, moves: u64, index: u64) -> Advanced
 
 /// One `next` of a reversed cursor over the pairs of a dict.
 fn step_dict_back(
-    pairs: &[DictPair],
+    dict: &Dict,
     container: u32,
     walk: CursorState,
     size: u64,
     last: Option<u64>,
 ) -> Advanced
-    ensures reply { result.reply ≡ (dict_back_next pairs.now container walk size last).reply }
-    ensures cursor { result.cursor ≡ (dict_back_next pairs.now container walk size last).cursor }
+    ensures reply { result.reply ≡ (dict_back_next dict.now.pairs container walk size last).reply }
+    ensures cursor { result.cursor ≡ (dict_back_next dict.now.pairs container walk size last).cursor }
 {
     match walk {
         CursorState::Ended => Advanced {
@@ -318,8 +304,8 @@ fn step_dict_back(
                 last,
             },
         },
-        CursorState::Live if pairs.len() as u64 == size => {
-            walk_dict_back(prior_pair(pairs, last), container, size, last)
+        CursorState::Live if dict.len() as u64 == size => {
+            walk_dict_back(dict.prior_pair(last), container, size, last)
         }
         CursorState::Live | CursorState::Reported => Advanced {
             reply: Reply::Raised(Raise::Size),
@@ -357,27 +343,6 @@ fn walk_dict_back(pair: Option<DictPair>, container: u32, size: u64, last: Optio
                 last: Some(pair.serial),
             },
         },
-    }
-}
-
-/// The pair with the greatest serial before the last one given.
-fn prior_pair(pairs: &[DictPair], last: Option<u64>) -> Option<DictPair>
-    ensures { result ≡ prior_pair pairs.now last }
-{
-    pairs
-        .iter()
-        .rev()
-        .copied()
-        .find(|pair| is_before(last, pair.serial))
-}
-
-/// Whether the serial is before the last one given.
-fn is_before(last: Option<u64>, serial: u64) -> bool
-    ensures { result ≡ is_before last serial }
-{
-    match last {
-        Some(last) => serial < last,
-        None => true,
     }
 }
 

@@ -4,12 +4,13 @@ ghost use Rattle.std.specs.Prelude.{◌≡◌, ◌≢◌, ◌↔◌, ℕ, ◌+�
 ghost use Rattle.std.specs.Option.{unwrap_or, option_or};
 ghost use Rattle.std.specs.List.{list_all};
 ghost use Rattle.ft_model.specs.Keys.{same_key};
-ghost use Rattle.ft_model.specs.Contents.{has_pair, same_pairs, pairs_from};
+ghost use Rattle.ft_model.specs.Contents.{IsDict, has_pair, same_pairs, pairs_from};
 
 use crate::content::DictPair;
 use crate::data::{Key, Value};
 use crate::members::{Member, Members};
 use std::alloc::{AllocError, Global};
+use std::collections::btree_map::Values;
 use std::marker::Model;
 
 /// What a dict has: its pairs in insertion order and the next serial. A new value at a key keeps
@@ -47,9 +48,10 @@ impl Member for DictPair {
 
 impl Dict {
     ghost use Rattle.ft_model.specs.declared.data.Key.{Key};
-    ghost use Rattle.ft_model.specs.Contents.{empty_dict, IsDict, dict_get, has_key, dict_set, dict_del, dict_clear};
+    ghost use Rattle.ft_model.specs.Contents.{empty_dict, dict_get, has_key, dict_set, dict_del, dict_clear};
     ghost use Rattle.ft_model.specs.Contents.{dict_update, dict_copy, KeepsPlaces, GoesLast};
     ghost use Rattle.ft_model.specs.Answers.{without_last, items_of};
+    ghost use Rattle.ft_model.specs.Cursors.{next_pair, prior_pair};
 
     /// `{}`: an empty dict, which takes no memory.
     pub fn new(alloc: Global) -> Self
@@ -62,11 +64,26 @@ impl Dict {
     }
 
     /// The pairs in insertion order (Python manual, Mapping Types), so in the order of serials.
-    pub fn pairs(&self) -> &[DictPair]
-        ensures pairs { result.now ≡ self.now.pairs }
+    pub fn pairs(&self) -> Values<'_, u64, DictPair>
+        ensures pairs { result ≡ self.now.pairs }
         ensures is_dict { IsDict self.now.next self.now.pairs }
+        ensures small { length self.now.pairs < 2 ^ 63 }
     {
-        self.pairs.as_slice()
+        self.pairs.values()
+    }
+
+    /// The pair with the least serial after the last one; at first every serial is.
+    pub(crate) fn next_pair(&self, last: Option<u64>) -> Option<DictPair>
+        ensures { result ≡ next_pair self.now.pairs last }
+    {
+        self.pairs.first_after(last)
+    }
+
+    /// The pair with the greatest serial before the last one; at first every serial is.
+    pub(crate) fn prior_pair(&self, last: Option<u64>) -> Option<DictPair>
+        ensures { result ≡ prior_pair self.now.pairs last }
+    {
+        self.pairs.last_before(last)
     }
 
     /// `d[k]`, or `None` where the key isn't there (Python manual, Mapping Types).
@@ -100,7 +117,7 @@ impl Dict {
         ensures length { result ≡ length self.now.pairs }
         ensures small { result < 2 ^ 63 }
     {
-        self.pairs().len()
+        self.pairs.len()
     }
 
     /// The serial that the next key draws.
@@ -114,7 +131,7 @@ impl Dict {
     pub fn is_empty(&self) -> bool
         ensures { result ≡ (length self.now.pairs == 0) }
     {
-        self.pairs().is_empty()
+        self.len() == 0
     }
 
     /// `d == e`: the same keys with equal values, in any order (Python manual, Mapping Types). It
@@ -123,9 +140,7 @@ impl Dict {
         ensures answer { result ≡ same_pairs self.now.pairs other.now.pairs }
         ensures reads { IsTrue result ↔ ((key : Key) → dict_get self.now.pairs key ≡ dict_get other.now.pairs key) }
     {
-        let pairs = self.pairs();
-        let others = other.pairs();
-        has_pairs(other, pairs) & has_pairs(self, others)
+        has_pairs(other, self) & has_pairs(self, other)
     }
 
     /// A dict with the same pairs and the same next serial. An `Err` says that memory ran out.
@@ -134,7 +149,7 @@ impl Dict {
     {
         Ok(Dict {
             next: self.next,
-            pairs: Members::from_vec(alloc, Vec::from_slice(alloc, self.pairs())?)?,
+            pairs: self.pairs.copy(alloc)?,
         })
     }
 
@@ -151,11 +166,8 @@ impl Dict {
         ensures keeps_places { OnOk result (IsTrue (has_key self.old.pairs key) → KeepsPlaces self.old self.new) }
         ensures goes_last { OnOk result (has_key self.old.pairs key ≡ false → GoesLast self.old self.new key value) }
     {
-        match self.pairs.place_of(key) {
-            Some(place) => {
-                let pair = self.pairs.at(place);
-                self.pairs.put(place, DictPair { value, ..pair });
-            }
+        match self.pairs.find(key) {
+            Some(pair) => self.pairs.put(DictPair { value, ..pair }),
             None => {
                 self.pairs.push(DictPair {
                     serial: self.next,
@@ -213,10 +225,7 @@ impl Dict {
         ensures dict { self.new ≡ without_last self.old }
         ensures missing { IfNone result (self.new ≡ self.old) }
     {
-        let pair = *self.pairs().last()?;
-        let last = self.len() - 1;
-        self.pairs.remove(last);
-        Some(pair)
+        self.pairs.pop_last()
     }
 
     /// `d.setdefault(k, v)`: the value at the key; where the key isn't there, the default is stored
@@ -264,8 +273,8 @@ impl Dict {
         ensures same { OnOk result (items_of self.new.pairs ≡ items_of other.now.pairs) }
         ensures fresh { OnOk result (All (λ pair. self.old.next ≤ pair.serial) self.new.pairs) }
     {
-        let pairs = with_serials(alloc, self.next, other.pairs())?;
-        let pairs = Members::from_vec(alloc, pairs)?;
+        let pairs = with_serials(alloc, self.next, other)?;
+        let pairs = Members::from_slice(alloc, &pairs)?;
         self.next += other.len() as u64;
         self.pairs = pairs;
         Ok(())
@@ -279,15 +288,16 @@ impl Dict {
     }
 }
 
-/// Whether each of the pairs stands, with an equal value, in the dict.
-fn has_pairs(dict: &Dict, pairs: &[DictPair]) -> bool
-    ensures { result ≡ list_all (has_pair dict.now.pairs) pairs.now }
+/// Whether each of the other's pairs stands, with an equal value, in the dict.
+fn has_pairs(dict: &Dict, other: &Dict) -> bool
+    ensures answer { result ≡ list_all (has_pair dict.now.pairs) other.now.pairs }
+    ensures is_dict { IsDict other.now.next other.now.pairs }
 {
-    pairs.iter().all(|wanted| holds(dict, wanted))
+    other.pairs().all(|wanted| holds(dict, wanted))
 }
 
 /// Whether the pair stands, with an equal value, in the dict.
-fn holds(dict: &Dict, wanted: &DictPair) -> bool
+pub(crate) fn holds(dict: &Dict, wanted: &DictPair) -> bool
     ensures { result ≡ has_pair dict.now.pairs wanted.now }
 {
     match dict.pairs.find(wanted.key) {
@@ -296,16 +306,16 @@ fn holds(dict: &Dict, wanted: &DictPair) -> bool
     }
 }
 
-/// The pairs with new serials, one after the other from this one on.
-#[tactic(auto, using(crate::proofs::Copies::pairs_from_more))]
-fn with_serials(alloc: Global, next: u64, pairs: &[DictPair]) -> Result<Vec<DictPair>, AllocError>
-    requires { next + length pairs.now < 2 ^ 63 }
-    ensures { IfOk result (λ copy. copy.items ≡ pairs_from next pairs.now) }
+/// The dict's pairs with new serials, one after the other from this one on.
+fn with_serials(alloc: Global, next: u64, dict: &Dict) -> Result<Vec<DictPair>, AllocError>
+    requires { next + length dict.now.pairs < 2 ^ 63 }
+    ensures copy { IfOk result (λ copy. copy.items ≡ pairs_from next dict.now.pairs) }
+    ensures is_dict { IsDict dict.now.next dict.now.pairs }
 {
     let mut copy = Vec::new(alloc);
-    for (index, pair) in pairs.iter().enumerate() {
+    for pair in dict.pairs() {
         copy.push(DictPair {
-            serial: next + index as u64,
+            serial: next + copy.len() as u64,
             key: pair.key,
             value: pair.value,
         })?;

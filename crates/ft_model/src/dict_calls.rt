@@ -117,7 +117,6 @@ pub(crate) fn items(alloc: Global, dict: &Dict) -> Result<Vec<(Key, Value)>, All
     ensures { IfOk result (λ items. items.items ≡ items_of dict.now.pairs) }
 {
     dict.pairs()
-        .iter()
         .map(|pair| (pair.key, pair.value))
         .collect(alloc)
 }

@@ -4,7 +4,7 @@ ghost use Rattle.ft_model.specs.Views.{keys_in};
 
 use crate::content::DictPair;
 use crate::data::{Key, Value};
-use crate::dict::Dict;
+use crate::dict::{Dict, holds};
 use std::alloc::{AllocError, Global};
 
 impl Dict {
@@ -16,7 +16,6 @@ impl Dict {
         ensures { IfOk result (λ keys. keys.items ≡ keys_and self.now.pairs other.now.pairs) }
     {
         self.pairs()
-            .iter()
             .filter(|pair| other.has(pair.key))
             .map(|pair| pair.key)
             .collect(alloc)
@@ -28,7 +27,6 @@ impl Dict {
         ensures { IfOk result (λ keys. keys.items ≡ keys_sub self.now.pairs other.now.pairs) }
     {
         self.pairs()
-            .iter()
             .filter(|pair| !other.has(pair.key))
             .map(|pair| pair.key)
             .collect(alloc)
@@ -39,7 +37,7 @@ impl Dict {
     pub fn keys_or(&self, alloc: Global, other: &Dict) -> Result<Vec<Key>, AllocError>
         ensures { IfOk result (λ keys. keys.items ≡ keys_or self.now.pairs other.now.pairs) }
     {
-        let mut keys = keys_in(alloc, self.pairs())?;
+        let mut keys = keys_in(alloc, self)?;
         let others = other.keys_sub(alloc, self)?;
         keys.extend_from_slice(&others)?;
         Ok(keys)
@@ -60,15 +58,18 @@ impl Dict {
     pub fn has_item(&self, key: Key, value: Value) -> bool
         ensures { result ≡ has_item self.now.pairs key value }
     {
-        self.pairs()
-            .iter()
-            .any(|pair| pair.key == key && pair.value == value)
+        let wanted = DictPair {
+            serial: 0,
+            key,
+            value,
+        };
+        holds(self, &wanted)
     }
 }
 
-/// The keys of the pairs, in order.
-fn keys_in(alloc: Global, pairs: &[DictPair]) -> Result<Vec<Key>, AllocError>
-    ensures { IfOk result (λ keys. keys.items ≡ keys_in pairs.now) }
+/// The keys of the dict's pairs, in order.
+fn keys_in(alloc: Global, dict: &Dict) -> Result<Vec<Key>, AllocError>
+    ensures { IfOk result (λ keys. keys.items ≡ keys_in dict.now.pairs) }
 {
-    pairs.iter().map(|pair| pair.key).collect(alloc)
+    dict.pairs().map(|pair| pair.key).collect(alloc)
 }

@@ -1,19 +1,17 @@
 //! The pairs of a dict or the elements of a set, in the order in which they were added, with a
 //! search by key and by serial.
-ghost use Rattle.std.specs.Prelude.{◌≡◌, ◌<◌, ◌≤◌, [], ◌∷◌, ◌++◌, false, not, length, position, filter, slice_index_or, slice_set, slice_get, All, AllPairs, IfOk, OnOk, OnErr};
-ghost use Rattle.std.specs.List.{remove, list_any, find};
-ghost use Rattle.std.specs.List.Sorted.{IsPartitionPoint};
-ghost use Rattle.std.specs.HashMap.{get_by};
+ghost use Rattle.std.specs.Prelude.{◌≡◌, ◌<◌, ◌^◌, ◌-◌, [], ◌∷◌, ◌++◌, Some, true, false, not, nat_lt, length, map, filter, reverse, take, drop, slice_get, All, IfOk, OnOk, OnErr, if◌then◌else◌};
+ghost use Rattle.std.specs.List.{list_any, find};
 ghost use Rattle.ft_model.specs.declared.data.Key.{Key};
-ghost use Rattle.ft_model.specs.Keys.{same_key};
-ghost use Rattle.ft_model.specs.Cursors.{is_after};
+ghost use Rattle.ft_model.specs.Cursors.{is_after, is_before};
 ghost use Rattle.ft_model.specs.Members.{is_member, serial_at, AreMembers};
 
 use crate::data::Key;
-use crate::line::Line;
 use std::alloc::{AllocError, Global};
-use std::collections::HashMap;
+use std::collections::btree_map::Values;
+use std::collections::{BTreeMap, HashMap};
 use std::marker::Model;
+use std::ops::Bound;
 
 /// What a dict or a set has at a key: a pair or an element.
 pub(crate) trait Member: Copy {
@@ -33,25 +31,23 @@ pub(crate) trait Member: Copy {
         ensures { result ≡ serial_of self.now };
 }
 
-/// Members in the order of their serials, and a hash table from keys to serials.
+/// Members by their serials, and a hash table from keys to serials.
 #[derive(Debug, Drop)]
 pub(crate) struct Members<T: Member> {
-    line: Line<T>,
+    members: BTreeMap<u64, T>,
     serials: HashMap<Key, u64>,
 }
 
 impl<T: Member> Model for Members<T> {
-    ghost use Rattle.std.specs.Prelude.{◌≡◌, List};
-    ghost use Rattle.std.specs.HashMap.{get_by};
-    ghost use Rattle.ft_model.specs.declared.data.Key.{Key};
-    ghost use Rattle.ft_model.specs.Keys.{same_key};
-    ghost use Rattle.ft_model.specs.Members.{serial_at, AreMembers};
+    ghost use Rattle.std.specs.Prelude.{List};
+    ghost use Rattle.std.specs.BTreeMap.{values};
+    ghost use Rattle.ft_model.specs.Members.{AreKept};
 
     ghost Value = { List T };
 
-    ghost view = { λ m. m.line };
+    ghost view = { λ m. values m.members };
 
-    ghost invariant = { λ m. AreMembers T.key_of T.serial_of m.line × ((wanted : Key) → get_by (same_key wanted) m.serials ≡ serial_at T.key_of T.serial_of m.line wanted) };
+    ghost invariant = { λ m. AreKept T.key_of T.serial_of m.members m.serials };
 }
 
 impl<T: Member> Members<T> {
@@ -60,29 +56,59 @@ impl<T: Member> Members<T> {
         ensures { result ≡ [] }
     {
         Members {
-            line: Line::new(alloc),
+            members: BTreeMap::new(alloc),
             serials: HashMap::new(alloc),
         }
     }
 
-    /// The members of a vector. An `Err` says that memory for the table ran out.
-    pub(crate) fn from_vec(alloc: Global, members: Vec<T>) -> Result<Self, AllocError>
-        requires { AreMembers T.key_of T.serial_of members.items }
-        ensures { IfOk result (λ made. made ≡ members.items) }
+    /// No members, with a table for that many keys. An `Err` says that memory for it ran out.
+    fn with_capacity(alloc: Global, capacity: usize) -> Result<Self, AllocError>
+        ensures { IfOk result (λ made. made ≡ []) }
     {
-        let serials = serials_of(alloc, &members)?;
         Ok(Members {
-            line: Line::from_vec(members),
-            serials,
+            members: BTreeMap::new(alloc),
+            serials: HashMap::with_capacity(alloc, capacity)?,
         })
     }
 
-    /// The members, in order.
-    pub(crate) fn as_slice(&self) -> &[T]
-        ensures slice { result.now ≡ self.now }
-        ensures are_members { AreMembers T.key_of T.serial_of self.now }
+    /// The members of a slice. An `Err` says that memory ran out.
+    pub(crate) fn from_slice(alloc: Global, members: &[T]) -> Result<Self, AllocError>
+        requires { AreMembers T.key_of T.serial_of members.now }
+        ensures { IfOk result (λ made. made ≡ members.now) }
     {
-        self.line.as_slice()
+        let mut made = Members::with_capacity(alloc, members.len())?;
+        for member in members {
+            made.push(*member)?;
+        }
+        Ok(made)
+    }
+
+    /// The same members. An `Err` says that memory ran out.
+    pub(crate) fn copy(&self, alloc: Global) -> Result<Self, AllocError>
+        ensures { IfOk result (λ made. made ≡ self.now) }
+    {
+        let mut made = Members::with_capacity(alloc, self.len())?;
+        for member in self.values() {
+            made.push(*member)?;
+        }
+        Ok(made)
+    }
+
+    /// The members, in order.
+    pub(crate) fn values(&self) -> Values<'_, u64, T>
+        ensures values { result ≡ self.now }
+        ensures are_members { AreMembers T.key_of T.serial_of self.now }
+        ensures small { length self.now < 2 ^ 63 }
+    {
+        self.members.values()
+    }
+
+    /// How many members there are.
+    pub(crate) fn len(&self) -> usize
+        ensures length { result ≡ length self.now }
+        ensures small { result < 2 ^ 63 }
+    {
+        self.members.len()
     }
 
     /// Whether a member has the key.
@@ -92,31 +118,13 @@ impl<T: Member> Members<T> {
         self.serials.contains_key(&key)
     }
 
-    /// The place of the member that has the key.
-    pub(crate) fn place_of(&self, key: Key) -> Option<usize>
-        ensures place { result ≡ position (is_member T.key_of key) self.now }
-        ensures are_members { AreMembers T.key_of T.serial_of self.now }
-    {
-        let serial = *self.serials.get(&key)?;
-        Some(place_in(self.as_slice(), serial))
-    }
-
-    /// The member that stands at a place.
-    pub(crate) fn at(&self, place: usize) -> T
-        requires { place < length self.now }
-        ensures { result ≡ slice_index_or self.now place result }
-    {
-        self.line.as_slice()[place]
-    }
-
     /// The member that has the key.
     pub(crate) fn find(&self, key: Key) -> Option<T>
-        ensures { result ≡ find (is_member T.key_of key) self.now }
+        ensures member { result ≡ find (is_member T.key_of key) self.now }
+        ensures are_members { AreMembers T.key_of T.serial_of self.now }
     {
-        match self.place_of(key) {
-            Some(place) => Some(self.at(place)),
-            None => None,
-        }
+        let serial = self.serials.get(&key)?;
+        self.members.get(serial).copied()
     }
 
     /// Adds a member at the end. An `Err` changes nothing.
@@ -127,100 +135,119 @@ impl<T: Member> Members<T> {
         ensures err { OnErr result (self.new ≡ self.old) }
     {
         self.serials.insert(member.key(), member.serial())?;
-        match self.line.push(member) {
-            Ok(()) => Ok(()),
-            Err(refused) => {
+        match self.members.insert(member.serial(), member) {
+            Ok(_) => Ok(()),
+            Err(_) => {
                 self.serials.remove(&member.key());
-                Err(refused)
+                Err(AllocError)
             }
         }
     }
 
-    /// Puts a member in place of the one that stands there, with its key and its serial.
-    pub(crate) fn put(&mut self, place: usize, member: T)
-        requires place { place < length self.old }
-        requires key { T.key_of member ≡ T.key_of (slice_index_or self.old place member) }
-        requires serial { T.serial_of member ≡ T.serial_of (slice_index_or self.old place member) }
-        ensures { self.new ≡ slice_set self.old place member }
+    /// Puts a member in place of the one that has its key and its serial.
+    pub(crate) fn put(&mut self, member: T)
+        requires { serial_at T.key_of T.serial_of self.old (T.key_of member) ≡ Some (T.serial_of member) }
+        ensures { self.new ≡ map (λ other. if is_member T.key_of (T.key_of member) other then member else other) self.old }
     {
-        self.line.put(place, member);
-    }
-
-    /// Takes the member at a place out.
-    pub(crate) fn remove(&mut self, place: usize)
-        requires { place < length self.old }
-        ensures { self.new ≡ remove self.old place }
-    {
-        let key = self.line.as_slice()[place].key();
-        self.serials.remove(&key);
-        self.line.remove(place);
+        match self.members.insert(member.serial(), member) {
+            Ok(_) => {}
+            Err(_) => unreachable!(),
+        }
     }
 
     /// Takes the member that has the key out.
     pub(crate) fn take_out(&mut self, key: Key)
         ensures { self.new ≡ filter (λ member. not (is_member T.key_of key member)) self.old }
     {
-        match self.place_of(key) {
-            Some(place) => self.remove(place),
-            None => {}
+        if let Some(serial) = self.serials.remove(&key) {
+            self.members.remove(&serial);
         }
+    }
+
+    /// Takes the first member out.
+    pub(crate) fn pop_first(&mut self) -> Option<T>
+        ensures first { result ≡ slice_get self.old 0 }
+        ensures others { self.new ≡ drop 1 self.old }
+    {
+        let (_, member) = self.members.pop_first()?;
+        self.serials.remove(&member.key());
+        Some(member)
+    }
+
+    /// Takes the last member out.
+    pub(crate) fn pop_last(&mut self) -> Option<T>
+        ensures last { result ≡ slice_get self.old (length self.old - 1) }
+        ensures others { self.new ≡ take (length self.old - 1) self.old }
+    {
+        let (_, member) = self.members.pop_last()?;
+        self.serials.remove(&member.key());
+        Some(member)
     }
 
     /// Takes all members out.
     pub(crate) fn clear(&mut self)
         ensures { self.new ≡ [] }
     {
-        self.line.clear();
+        self.members.clear();
         self.serials.clear();
     }
-}
 
-/// A hash table from the members' keys to their serials.
-fn serials_of<T: Member>(alloc: Global, members: &[T]) -> Result<HashMap<Key, u64>, AllocError>
-    requires { AreMembers T.key_of T.serial_of members.now }
-    ensures { IfOk result (λ serials. (wanted : Key) → get_by (same_key wanted) serials ≡ serial_at T.key_of T.serial_of members.now wanted) }
-{
-    let mut serials = HashMap::with_capacity(alloc, members.len())?;
-    for member in members {
-        serials.insert(member.key(), member.serial())?;
-    }
-    Ok(serials)
-}
-
-/// The place of the first member that has the serial or a later one.
-fn place_in<T: Member>(members: &[T], serial: u64) -> usize
-    requires { AllPairs (λ a b. T.serial_of a < T.serial_of b) members.now }
-    ensures { IsPartitionPoint (λ member. T.serial_of member < serial) (λ member. serial ≤ T.serial_of member) members.now result }
-{
-    members.partition_point(|member| member.serial() < serial)
-}
-
-/// The first member whose serial is after the last one; at first every serial is.
-pub(crate) fn first_after<T: Member>(members: &[T], last: Option<u64>) -> Option<T>
-    requires { AllPairs (λ a b. T.serial_of a < T.serial_of b) members.now }
-    ensures { result ≡ find (λ member. is_after last (T.serial_of member)) members.now }
-{
-    match last {
-        None => members.first().copied(),
-        Some(last) => {
-            let place = place_after(members, last);
-            member_at(members, place)
+    /// The member with the least serial after the last one; at first every serial is.
+    pub(crate) fn first_after(&self, last: Option<u64>) -> Option<T>
+        ensures { result ≡ find (λ member. is_after last (T.serial_of member)) self.now }
+    {
+        match last {
+            None => self.first(),
+            Some(last) => self.after(last),
         }
     }
-}
 
-/// The member at a place, where there is one.
-fn member_at<T: Member>(members: &[T], place: usize) -> Option<T>
-    ensures { result ≡ slice_get members.now place }
-{
-    members.get(place).copied()
-}
+    /// The member with the greatest serial before the last one; at first every serial is.
+    pub(crate) fn last_before(&self, last: Option<u64>) -> Option<T>
+        ensures { result ≡ find (λ member. is_before last (T.serial_of member)) (reverse self.now) }
+    {
+        match last {
+            None => self.last(),
+            Some(last) => self.before(last),
+        }
+    }
 
-/// The place of the first member that has a later serial.
-fn place_after<T: Member>(members: &[T], serial: u64) -> usize
-    requires { AllPairs (λ a b. T.serial_of a < T.serial_of b) members.now }
-    ensures bound { result ≤ length members.now }
-    ensures point { IsPartitionPoint (λ member. T.serial_of member ≤ serial) (λ member. serial < T.serial_of member) members.now result }
-{
-    members.partition_point(|member| member.serial() <= serial)
+    fn first(&self) -> Option<T>
+        ensures { result ≡ find (λ _. true) self.now }
+    {
+        match self.members.first_key_value() {
+            Some((_, member)) => Some(*member),
+            None => None,
+        }
+    }
+
+    fn last(&self) -> Option<T>
+        ensures { result ≡ find (λ _. true) (reverse self.now) }
+    {
+        match self.members.last_key_value() {
+            Some((_, member)) => Some(*member),
+            None => None,
+        }
+    }
+
+    /// The first member with a greater serial.
+    fn after(&self, serial: u64) -> Option<T>
+        ensures { result ≡ find (λ member. nat_lt serial (T.serial_of member)) self.now }
+    {
+        let later = (Bound::Excluded(serial), Bound::Unbounded);
+        match self.members.range(later).next() {
+            Some((_, member)) => Some(*member),
+            None => None,
+        }
+    }
+
+    /// The last member with a lesser serial.
+    fn before(&self, serial: u64) -> Option<T>
+        ensures { result ≡ find (λ member. nat_lt (T.serial_of member) serial) (reverse self.now) }
+    {
+        match self.members.range(..serial).next_back() {
+            Some((_, member)) => Some(*member),
+            None => None,
+        }
+    }
 }

@@ -6,9 +6,9 @@ ghost use Rattle.ft_model.specs.Contents.{has_element, elements_from, those_in, 
 
 use crate::content::Element;
 use crate::data::Key;
-use crate::indexed::Indexed;
 use crate::members::{Member, Members};
 use std::alloc::{AllocError, Global};
+use std::collections::btree_map::Values;
 use std::marker::Model;
 
 /// What a set has: its elements, in the order in which they were added, and the next serial (Python
@@ -48,6 +48,7 @@ impl Set {
     ghost use Rattle.ft_model.specs.Keys.{same_key};
     ghost use Rattle.ft_model.specs.Contents.{empty_set, IsSet, set_add, set_discard, set_clear, set_or, set_and, set_sub, set_xor};
     ghost use Rattle.ft_model.specs.Answers.{without_first};
+    ghost use Rattle.ft_model.specs.Cursors.{next_element};
 
     /// `set()`: an empty set, which takes no memory.
     pub fn new(alloc: Global) -> Self
@@ -60,11 +61,19 @@ impl Set {
     }
 
     /// The elements in the order in which they were added, so in the order of serials.
-    pub fn elements(&self) -> &[Element]
-        ensures elements { result.now ≡ self.now.elements }
+    pub fn elements(&self) -> Values<'_, u64, Element>
+        ensures elements { result ≡ self.now.elements }
         ensures is_set { IsSet self.now.next self.now.elements }
+        ensures small { length self.now.elements < 2 ^ 63 }
     {
-        self.elements.as_slice()
+        self.elements.values()
+    }
+
+    /// The element with the least serial after the last one; at first every serial is.
+    pub(crate) fn next_element(&self, last: Option<u64>) -> Option<Element>
+        ensures { result ≡ next_element self.now.elements last }
+    {
+        self.elements.first_after(last)
     }
 
     /// `len(s)` (Python manual, Set Types).
@@ -72,7 +81,7 @@ impl Set {
         ensures length { result ≡ length self.now.elements }
         ensures small { result < 2 ^ 63 }
     {
-        self.elements().len()
+        self.elements.len()
     }
 
     /// The serial that the next element draws.
@@ -86,7 +95,7 @@ impl Set {
     pub fn is_empty(&self) -> bool
         ensures { result ≡ (length self.now.elements == 0) }
     {
-        self.elements().is_empty()
+        self.len() == 0
     }
 
     /// `k in s` (Python manual, Set Types).
@@ -96,34 +105,32 @@ impl Set {
         self.elements.has(key)
     }
 
-    /// `s <= t` (Python manual, Set Types). As every call on two sets, it looks the elements up in a
-    /// hash table, so its time is the sum of the lengths. An `Err` says that memory for the table
-    /// ran out.
-    pub fn is_subset(&self, alloc: Global, other: &Set) -> Result<bool, AllocError>
+    /// `s <= t` (Python manual, Set Types). As every call on two sets, it looks the elements of one up
+    /// in the other's hash table, so its time is the sum of the lengths. It takes no memory.
+    pub fn is_subset(&self, _alloc: Global, other: &Set) -> Result<bool, AllocError>
         ensures answer { IfOk result (λ is. is ≡ is_subset self.now.elements other.now.elements) }
         ensures members { IfOk result (λ is. IsTrue is ↔ ((key : Key) →
             IsTrue (has_element self.now.elements key) → IsTrue (has_element other.now.elements key))) }
     {
-        are_among(alloc, other.elements(), self.elements())
+        Ok(self.is_among(other))
     }
 
-    /// `s == t`: the same elements, in any order (Python manual, Set Types). An `Err` says that
-    /// memory ran out.
-    pub fn equals(&self, alloc: Global, other: &Set) -> Result<bool, AllocError>
+    /// `s == t`: the same elements, in any order (Python manual, Set Types). It takes no memory.
+    pub fn equals(&self, _alloc: Global, other: &Set) -> Result<bool, AllocError>
         ensures answer { IfOk result (λ same. same ≡ same_elements self.now.elements other.now.elements) }
         ensures members { IfOk result (λ same. IsTrue same ↔ ((key : Key) →
             has_element self.now.elements key ≡ has_element other.now.elements key)) }
     {
-        same_elements(alloc, self.elements(), other.elements())
+        Ok(self.is_same(other))
     }
 
-    /// `s.isdisjoint(t)` (Python manual, Set Types). An `Err` says that memory ran out.
-    pub fn is_disjoint(&self, alloc: Global, other: &Set) -> Result<bool, AllocError>
+    /// `s.isdisjoint(t)` (Python manual, Set Types). It takes no memory.
+    pub fn is_disjoint(&self, _alloc: Global, other: &Set) -> Result<bool, AllocError>
         ensures answer { IfOk result (λ is. is ≡ is_disjoint self.now.elements other.now.elements) }
         ensures members { IfOk result (λ is. IsTrue is ↔ ((key : Key) →
             IsTrue (has_element self.now.elements key) → has_element other.now.elements key ≡ false)) }
     {
-        are_disjoint(alloc, self.elements(), other.elements())
+        Ok(!self.meets(other))
     }
 
     /// A set with the same elements and the same next serial. An `Err` says that memory ran out.
@@ -132,7 +139,7 @@ impl Set {
     {
         Ok(Set {
             next: self.next,
-            elements: Members::from_vec(alloc, Vec::from_slice(alloc, self.elements())?)?,
+            elements: self.elements.copy(alloc)?,
         })
     }
 
@@ -184,9 +191,8 @@ impl Set {
         ensures set { self.new ≡ without_first self.old }
         ensures missing { IfNone result (self.new ≡ self.old) }
     {
-        let key = self.elements().first()?.key;
-        self.elements.remove(0);
-        Some(key)
+        let element = self.elements.pop_first()?;
+        Some(element.key)
     }
 
     /// `s |= t`: the other's elements that aren't there (Python manual, Set Types) go last, in the
@@ -199,9 +205,9 @@ impl Set {
         ensures members { OnOk result ((key : Key) → has_element self.new.elements key ≡
             (has_element self.old.elements key || has_element other.now.elements key)) }
     {
-        let added = added(alloc, self.next, self.elements(), other.elements())?;
-        let joined = joined(alloc, self.elements(), &added)?;
-        let elements = Members::from_vec(alloc, joined)?;
+        let added = self.added(alloc, other)?;
+        let joined = joined(self.list(alloc)?, &added)?;
+        let elements = Members::from_slice(alloc, &joined)?;
         self.next += added.len() as u64;
         self.elements = elements;
         Ok(())
@@ -215,8 +221,8 @@ impl Set {
         ensures members { OnOk result ((key : Key) → has_element self.new.elements key ≡
             (has_element self.old.elements key && has_element other.now.elements key)) }
     {
-        let common = common(alloc, self.elements(), other.elements())?;
-        let elements = Members::from_vec(alloc, common)?;
+        let common = self.common(alloc, other)?;
+        let elements = Members::from_slice(alloc, &common)?;
         self.elements = elements;
         Ok(())
     }
@@ -229,8 +235,8 @@ impl Set {
         ensures members { OnOk result ((key : Key) → has_element self.new.elements key ≡
             (has_element self.old.elements key && not (has_element other.now.elements key))) }
     {
-        let kept = kept(alloc, self.elements(), other.elements())?;
-        let elements = Members::from_vec(alloc, kept)?;
+        let kept = self.kept(alloc, other)?;
+        let elements = Members::from_slice(alloc, &kept)?;
         self.elements = elements;
         Ok(())
     }
@@ -247,10 +253,9 @@ impl Set {
             ((has_element self.old.elements key && not (has_element other.now.elements key))
             || (has_element other.now.elements key && not (has_element self.old.elements key)))) }
     {
-        let added = added(alloc, self.next, self.elements(), other.elements())?;
-        let kept = kept(alloc, self.elements(), other.elements())?;
-        let joined = joined(alloc, &kept, &added)?;
-        let elements = Members::from_vec(alloc, joined)?;
+        let added = self.added(alloc, other)?;
+        let joined = joined(self.kept(alloc, other)?, &added)?;
+        let elements = Members::from_slice(alloc, &joined)?;
         self.next += added.len() as u64;
         self.elements = elements;
         Ok(())
@@ -262,104 +267,79 @@ impl Set {
     {
         self.elements.clear();
     }
-}
 
-/// Whether none of the elements is among the others.
-fn are_disjoint(alloc: Global, elements: &[Element], others: &[Element]) -> Result<bool, AllocError>
-    ensures { IfOk result (λ are. are ≡ is_disjoint elements.now others.now) }
-{
-    let others = Indexed::new(alloc, others)?;
-    Ok(!has_any(&others, elements))
-}
-
-/// Whether some of the elements are among the others.
-fn has_any(others: &Indexed, elements: &[Element]) -> bool
-    ensures { result ≡ list_any (λ element. has_element others.now element.key) elements.now }
-{
-    elements.iter().any(|element| others.has(element.key))
-}
-
-/// Whether they are the same elements, in any order.
-fn same_elements(
-    alloc: Global,
-    elements: &[Element],
-    others: &[Element],
-) -> Result<bool, AllocError>
-    ensures { IfOk result (λ same. same ≡ same_elements elements.now others.now) }
-{
-    Ok(are_among(alloc, others, elements)? && are_among(alloc, elements, others)?)
-}
-
-/// Whether all of the elements are among the others.
-fn are_among(alloc: Global, others: &[Element], elements: &[Element]) -> Result<bool, AllocError>
-    ensures { IfOk result (λ are. are ≡ is_subset elements.now others.now) }
-{
-    let others = Indexed::new(alloc, others)?;
-    Ok(elements.iter().all(|element| others.has(element.key)))
-}
-
-/// The others that aren't among the elements, with new serials, one after the other from this one
-/// on.
-#[tactic(auto, using(crate::proofs::Copies::added_no, crate::proofs::Copies::added_yes))]
-fn added(
-    alloc: Global,
-    next: u64,
-    elements: &[Element],
-    others: &[Element],
-) -> Result<Vec<Element>, AllocError>
-    requires { next + length others.now < 2 ^ 63 }
-    ensures { IfOk result (λ added. added.items ≡ elements_from next (those_not_in elements.now others.now)) }
-{
-    let elements = Indexed::new(alloc, elements)?;
-    let mut added = Vec::new(alloc);
-    for other in others {
-        if !elements.has(other.key) {
-            added.push(Element {
-                serial: next + added.len() as u64,
-                key: other.key,
-            })?;
-        }
+    /// Whether each of the elements is among the other's.
+    fn is_among(&self, other: &Set) -> bool
+        ensures { result ≡ is_subset self.now.elements other.now.elements }
+    {
+        self.elements().all(|element| other.has(element.key))
     }
-    Ok(added)
-}
 
-/// The elements that aren't among the others.
-fn kept(alloc: Global, elements: &[Element], others: &[Element]) -> Result<Vec<Element>, AllocError>
-    ensures { IfOk result (λ kept. kept.items ≡ those_not_in others.now elements.now) }
-{
-    let others = Indexed::new(alloc, others)?;
-    elements
-        .iter()
-        .copied()
-        .filter(|element| !others.has(element.key))
-        .collect(alloc)
+    /// Whether they are the same elements, in any order.
+    fn is_same(&self, other: &Set) -> bool
+        ensures { result ≡ same_elements self.now.elements other.now.elements }
+    {
+        self.is_among(other) && other.is_among(self)
+    }
+
+    /// Whether some of the elements are among the other's.
+    fn meets(&self, other: &Set) -> bool
+        ensures { result ≡ list_any (λ element. has_element other.now.elements element.key) self.now.elements }
+    {
+        self.elements().any(|element| other.has(element.key))
+    }
+
+    /// All elements.
+    fn list(&self, alloc: Global) -> Result<Vec<Element>, AllocError>
+        ensures { IfOk result (λ list. list.items ≡ self.now.elements) }
+    {
+        self.elements().copied().collect(alloc)
+    }
+
+    /// The elements that are among the other's.
+    fn common(&self, alloc: Global, other: &Set) -> Result<Vec<Element>, AllocError>
+        ensures { IfOk result (λ common. common.items ≡ those_in other.now.elements self.now.elements) }
+    {
+        self.elements()
+            .copied()
+            .filter(|element| other.has(element.key))
+            .collect(alloc)
+    }
+
+    /// The elements that aren't among the other's.
+    fn kept(&self, alloc: Global, other: &Set) -> Result<Vec<Element>, AllocError>
+        ensures { IfOk result (λ kept. kept.items ≡ those_not_in other.now.elements self.now.elements) }
+    {
+        self.elements()
+            .copied()
+            .filter(|element| !other.has(element.key))
+            .collect(alloc)
+    }
+
+    /// The other's elements that aren't among these, with new serials, one after the other from the
+    /// next one on.
+    fn added(&self, alloc: Global, other: &Set) -> Result<Vec<Element>, AllocError>
+        requires { self.now.next + length other.now.elements < 2 ^ 63 }
+        ensures added { IfOk result (λ added. added.items ≡ elements_from self.now.next (those_not_in self.now.elements other.now.elements)) }
+        ensures is_set { IsSet other.now.next other.now.elements }
+    {
+        let mut added = Vec::new(alloc);
+        for element in other.elements() {
+            if !self.has(element.key) {
+                added.push(Element {
+                    serial: self.next + added.len() as u64,
+                    key: element.key,
+                })?;
+            }
+        }
+        Ok(added)
+    }
 }
 
 /// The elements and after them those that are added.
-fn joined(
-    alloc: Global,
-    elements: &[Element],
-    added: &[Element],
-) -> Result<Vec<Element>, AllocError>
-    ensures { IfOk result (λ joined. joined.items ≡ elements.now ++ added.now) }
+fn joined(mut elements: Vec<Element>, added: &[Element]) -> Result<Vec<Element>, AllocError>
+    ensures { IfOk result (λ joined. joined.items ≡ elements.items ++ added.now) }
 {
-    let mut joined = Vec::from_slice(alloc, elements)?;
-    joined.extend_from_slice(added)?;
-    Ok(joined)
-}
-
-/// The elements that are among the others.
-fn common(
-    alloc: Global,
-    elements: &[Element],
-    others: &[Element],
-) -> Result<Vec<Element>, AllocError>
-    ensures { IfOk result (λ common. common.items ≡ those_in others.now elements.now) }
-{
-    let others = Indexed::new(alloc, others)?;
-    elements
-        .iter()
-        .copied()
-        .filter(|element| others.has(element.key))
-        .collect(alloc)
+    elements.extend_from_slice(added)?;
+    Ok(elements)
 }

@@ -83,10 +83,7 @@ pub(crate) fn answer(
 pub(crate) fn keys(alloc: Global, set: &Set) -> Result<Vec<Key>, AllocError>
     ensures { IfOk result (λ keys. keys.items ≡ elements_of set.now.elements) }
 {
-    set.elements()
-        .iter()
-        .map(|element| element.key)
-        .collect(alloc)
+    set.elements().map(|element| element.key).collect(alloc)
 }
 
 /// A call that changes the set at a place by the elements of another.

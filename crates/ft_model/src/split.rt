@@ -10,6 +10,7 @@ use crate::class::{dict_class, taken_by_copy};
 use crate::content::DictPair;
 use crate::data::Key;
 use crate::dict::Dict;
+use std::collections::btree_map::Values;
 
 /// What a dict had before a call, as far as tables go by it.
 #[derive(Clone, Copy, Debug, PartialEq, Eq, Hash)]
@@ -78,12 +79,12 @@ fn taken_at_leaving(new: &Dict) -> Option<u32>
 
 /// Whether the pairs' keys are the first of these, in their order. It ends after the last of them.
 #[tactic(auto, using(crate::proofs::SplitDicts::none_first))]
-fn are_first(pairs: &[DictPair], keys: &[Key]) -> bool
-    ensures { result ≡ are_first (keys_in pairs.now) keys.now }
+fn are_first(mut pairs: Values<'_, u64, DictPair>, keys: &[Key]) -> bool
+    ensures { result ≡ are_first (keys_in pairs.entry) keys.now }
 {
-    match (pairs, keys) {
-        ([], _) => true,
-        ([pair, pairs @ ..], [key, keys @ ..]) => pair.key == *key && are_first(pairs, keys),
-        ([_, ..], []) => false,
+    match (pairs.next(), keys) {
+        (None, _) => true,
+        (Some(pair), [key, keys @ ..]) => pair.key == *key && are_first(pairs, keys),
+        (Some(_), []) => false,
     }
 }

@@ -67,6 +67,13 @@ pub listed-cons : {X : Type 0} (text : X → List ℕ) (x : X) (xs : List X) →
 listed-cons text x [] = sym (append-nil (text x))
 listed-cons text x (next ∷ xs) = append_assoc (text x) (codes ", ") (listed (map text (next ∷ xs))) ∙ ap (λ (rest : List ℕ). text x ++ (codes ", " ++ rest)) (listed-cons text next xs)
 
+-- what `push_each` has printed after one more
+pub each_more : {X : Type 0} (text : X → List ℕ) (old out parted new : List ℕ) (x : X) (rest : List X) → parted ≡ out ++ codes ", " → new ≡ parted ++ text x → out ++ each_listed text (x ∷ rest) ≡ old → new ++ each_listed text rest ≡ old
+each_more text old out parted new x rest e1 e2 before = rw (e2, e1) (grouped out (codes ", ") (text x) (each_listed text rest) ∙ before)
+  where
+    grouped : (a b c d : List ℕ) → ((a ++ b) ++ c) ++ d ≡ a ++ ((b ++ c) ++ d)
+    grouped a b c d = simp append_assoc
+
 -- what `push_listed` prints
 pub listed-pieces : {X : Type 0} (text : X → List ℕ) (xs : List X) (d : X) → 0 < length xs → listed (map text xs) ≡ text (get_or xs 0 d) ++ each_listed text (take (length xs - 1) (drop 1 xs))
 listed-pieces text [] d h = elim h [ ]

@@ -1,5 +1,5 @@
 //! Prints keys, values, replies and what containers have.
-ghost use Rattle.std.specs.Prelude.{◌≡◌, ◌<◌, [], ◌++◌, length, map, slice_index_or, All, OnOk};
+ghost use Rattle.std.specs.Prelude.{◌≡◌, ◌<◌, [], ◌++◌, codes, length, map, slice_index_or, All, OnOk};
 ghost use Rattle.std.specs.List.{flat_map};
 ghost use Rattle.std.specs.Fmt.{decimal};
 ghost use Rattle.ft_model.specs.Scripts.{IsKeyOf, IsValueOf};
@@ -12,6 +12,7 @@ use ft_model::{
 use itoa::{Buffer, Integer};
 use std::alloc::AllocError;
 use std::collections::VecDeque;
+use std::collections::btree_map::Values;
 
 /// What stands in the text of a container: keys, values and pairs.
 pub(crate) trait Shown {
@@ -319,9 +320,60 @@ pub(crate) fn push_content(
     ensures { OnOk result (out.new.items ≡ out.old.items ++ content_text strings.now content.now) }
 {
     match content {
-        Content::Dict(dict) => push_braced(out, strings, dict.pairs()),
+        Content::Dict(dict) => push_members(out, strings, dict.pairs()),
         Content::List(list) => push_values(out, strings, list.items()),
-        Content::Set(set) => push_elements(out, strings, set.elements()),
+        Content::Set(set) if set.is_empty() => out.extend_from_slice(b"set()"),
+        Content::Set(set) => push_members(out, strings, set.elements()),
         Content::Deque(deque) => push_deque(out, strings, deque.items()),
     }
+}
+
+/// Adds the pairs of a dict or the elements of a set, in order.
+fn push_members<T: Shown>(
+    out: &mut Vec<u8>,
+    strings: &[Text],
+    members: Values<'_, u64, T>,
+) -> Result<(), AllocError>
+    requires { All (T.is_of (length strings.now)) members }
+    ensures { OnOk result (out.new.items ≡ out.old.items ++ braced_text (map (T.text strings.now) members.entry)) }
+{
+    out.push(b'{')?;
+    push_parted(out, strings, members)?;
+    out.push(b'}')?;
+    Ok(())
+}
+
+/// Adds them with a comma between two.
+fn push_parted<T: Shown>(
+    out: &mut Vec<u8>,
+    strings: &[Text],
+    members: Values<'_, u64, T>,
+) -> Result<(), AllocError>
+    requires { All (T.is_of (length strings.now)) members }
+    ensures { OnOk result (out.new.items ≡ out.old.items ++ listed (map (T.text strings.now) members.entry)) }
+{
+    let mut rest = members;
+    let Some(first) = rest.next() else {
+        return Ok(());
+    };
+    first.push_to(out, strings)?;
+    push_each(out, strings, rest)?;
+    Ok(())
+}
+
+/// Adds each of them after a comma.
+fn push_each<T: Shown>(
+    out: &mut Vec<u8>,
+    strings: &[Text],
+    members: Values<'_, u64, T>,
+) -> Result<(), AllocError>
+    requires { All (T.is_of (length strings.now)) members }
+    ensures { OnOk result (out.new.items ≡
+        out.old.items ++ flat_map (λ member. codes ", " ++ T.text strings.now member) members.entry) }
+{
+    for member in members {
+        out.extend_from_slice(b", ")?;
+        member.push_to(out, strings)?;
+    }
+    Ok(())
 }

@@ -37,18 +37,13 @@ pub(super) fn print_content(alloc: Global, content: &Content) -> Result<String, 
         Content::Dict(dict) => {
             let pairs: Vec<(Key, Value)> = dict
                 .pairs()
-                .iter()
                 .map(|pair| (pair.key, pair.value))
                 .collect(alloc)?;
             print_pairs(alloc, &pairs)
         }
         Content::List(list) => print_values(alloc, list.items()),
         Content::Set(set) => {
-            let keys: Vec<Key> = set
-                .elements()
-                .iter()
-                .map(|element| element.key)
-                .collect(alloc)?;
+            let keys: Vec<Key> = set.elements().map(|element| element.key).collect(alloc)?;
             print_keys(alloc, &keys)
         }
         Content::Deque(deque) => print_values(alloc, &deque.copy_items(alloc)?),

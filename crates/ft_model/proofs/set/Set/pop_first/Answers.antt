@@ -1,8 +1,5 @@
-use Rattle.std.proofs.Common.{rules, ◌<◌, length}
-use Rattle.ft_model.proofs.PlacedElements.{IsSet-remove}
+use Rattle.ft_model.proofs.PlacedElements.{IsSet-drop}
 use Rattle.ft_model.proofs.set.Set.pop_first.Goals as goal
 
-pub invariant_of-self : goal.invariant_of-self
-invariant_of-self c =
-    let low : 0 < length c.self.inside.elements = search rules in
-    rw c.remove.ensures (IsSet-remove c.self.inside.next c.self.inside.elements 0 low c.self.invariant)
+pub invariant_of-self-2 : goal.invariant_of-self-2
+invariant_of-self-2 c = rw c.pop_first.ensures.others (IsSet-drop c.self.inside.next c.self.inside.elements c.self.invariant)

@@ -38,30 +38,30 @@ module _ (mask : ℕ) (words : List ℕ) (key : Key) where
 module _ (mask : ℕ) (key : Key) where
   pub passes-count : (slot : ℕ) (loads : List Access) → PassesSlot mask key slot loads → index_loads loads ≡ 1
   passes-count slot loads (inl (word, high, is)) = ap index_loads is
-  passes-count slot loads (inr (inl (place, kind, low, a, b, is))) = ap index_loads is
-  passes-count slot loads (inr (inr (place, kind, payload, low, a, is))) = ap index_loads is
+  passes-count slot loads (inr (inl (place, payload, low, a, is))) = ap index_loads is
+  passes-count slot loads (inr (inr (place, kind, payload, low, a, b, is))) = ap index_loads is
 
   passes-are : (slot : ℕ) (loads : List Access) → PassesSlot mask key slot loads → AreLoads loads
   passes-are slot loads (inl (word, high, is)) = subst AreLoads (sym is) (tt, tt)
-  passes-are slot loads (inr (inl (place, kind, low, a, b, is))) = subst AreLoads (sym is) (tt, (tt, tt))
-  passes-are slot loads (inr (inr (place, kind, payload, low, a, is))) = subst AreLoads (sym is) (tt, (tt, (tt, tt)))
+  passes-are slot loads (inr (inl (place, payload, low, a, is))) = subst AreLoads (sym is) (tt, (tt, tt))
+  passes-are slot loads (inr (inr (place, kind, payload, low, a, b, is))) = subst AreLoads (sym is) (tt, (tt, (tt, tt)))
 
   passes-follows : (slot : ℕ) (left : List ℕ) (loads : List Access) → PassesSlot mask key slot loads → Follows (slot ∷ left) loads left
   passes-follows slot left loads (inl (zero, high, is)) = absurd (omega arith)
   passes-follows slot left loads (inl (suc word, high, is)) = subst (λ (l : List Access). Follows (slot ∷ left) l left) (sym is) refl
-  passes-follows slot left loads (inr (inl (place, kind, low, a, b, is))) = subst (λ (l : List Access). Follows (slot ∷ left) l left) (sym is) refl
-  passes-follows slot left loads (inr (inr (place, kind, payload, low, a, is))) = subst (λ (l : List Access). Follows (slot ∷ left) l left) (sym is) refl
+  passes-follows slot left loads (inr (inl (place, payload, low, a, is))) = subst (λ (l : List Access). Follows (slot ∷ left) l left) (sym is) refl
+  passes-follows slot left loads (inr (inr (place, kind, payload, low, a, b, is))) = subst (λ (l : List Access). Follows (slot ∷ left) l left) (sym is) refl
 
   passes-shown : (slot : ℕ) (loads : List Access) (words : List ℕ) → PassesSlot mask key slot loads → AreAnswered mask loads words → Passes mask words key slot
   passes-shown slot loads words (inl (word, high, is)) fits =
       let so = subst (λ (l : List Access). AreAnswered mask l words) is fits in
       passes-word mask words key slot word (omega arith) so.1 (nowhere mask words key word high)
-  passes-shown slot loads words (inr (inl (place, kind, low, a, b, is))) fits =
+  passes-shown slot loads words (inr (inl (place, payload, low, a, is))) fits =
       let so = subst (λ (l : List Access). AreAnswered mask l words) is fits in
-      passes-word mask words key slot (suc place) (omega arith) so.0.1 (other-kind mask words key place kind a so.1)
-  passes-shown slot loads words (inr (inr (place, kind, payload, low, a, is))) fits =
+      passes-word mask words key slot (suc place) (omega arith) so.0.1 (other-payload mask words key place payload a so.1)
+  passes-shown slot loads words (inr (inr (place, kind, payload, low, a, b, is))) fits =
       let so = subst (λ (l : List Access). AreAnswered mask l words) is fits in
-      passes-word mask words key slot (suc place) (omega arith) so.0.0.1 (other-payload mask words key place payload a so.1)
+      passes-word mask words key slot (suc place) (omega arith) so.0.0.1 (other-kind mask words key place kind a so.1)
 
   -- ---- slots that were passed, in their order
 
@@ -120,11 +120,11 @@ module _ (mask : ℕ) (key : Key) where
   ends-shown left (At slot place) loads words ends fits =
       let so = subst (λ (l : List Access). AreAnswered mask l words) ends.1 fits in
       let here : index_word words slot ≡ place + 1 = sym so.0.0.1 ∙ omega arith in
-      ([], refl, All-nil (Passes mask words key), here, (sym so.0.1, sym so.1))
+      ([], refl, All-nil (Passes mask words key), here, (sym so.1, sym so.0.1))
   ends-shown left (Was slot place) loads words ends fits =
       let so = subst (λ (l : List Access). AreAnswered mask l words) ends.1 fits in
       let here : index_word words slot ≡ place + 1 = sym so.0.0.1 ∙ omega arith in
-      ([], refl, All-nil (Passes mask words key), here, (sym so.0.1, sym so.1))
+      ([], refl, All-nil (Passes mask words key), here, (sym so.1, sym so.0.1))
   ends-shown left (Free slot) loads words ends fits =
       let so = subst (λ (l : List Access). AreAnswered mask l words) ends.2 fits in
       ([], ends.0, refl, ends.1, All-nil (Passes mask words key), sym so.1)

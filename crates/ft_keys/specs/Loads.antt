@@ -12,18 +12,18 @@ use Rattle.ft_keys.specs.declared.search.Compared.{Compared}
 use Rattle.ft_keys.specs.declared.search.Compared.TheVariants.{Unused, Live, Gone, Other}
 use Rattle.ft_keys.specs.Accesses.{Runs, index_loads}
 
--- the loads of a slot that names the entry at a place: its index word, and that entry's kind and payload
+-- the loads of a slot that names the entry at a place: its index word, and that entry's payload and kind
 abbrev pub entry_loads : ℕ → ℕ → ℕ → ℕ → List Access
-entry_loads slot place kind payload = Entry place 3 payload ∷ (Entry place 2 kind ∷ (Index slot (suc place) ∷ []))
+entry_loads slot place kind payload = Entry place 2 kind ∷ (Entry place 3 payload ∷ (Index slot (suc place) ∷ []))
 
--- By these loads the slot was used, and not for the key: its index word names no entry of the table, or one of another
--- kind, or one with another payload.
+-- By these loads the slot was used, and not for the key: its index word names no entry of the table, or one with another
+-- payload, or one of another kind.
 abbrev pub PassesSlot : ℕ → Key → ℕ → List Access → Type 0
 PassesSlot mask key slot loads =
     ((word : ℕ) × (dict_room mask < word) × (loads ≡ Index slot word ∷ []))
-    ⊎ (((place kind : ℕ) × (place < dict_room mask) × (kind ≢ key_kind key) × (kind ≢ gone_kind key)
-    × (loads ≡ Entry place 2 kind ∷ (Index slot (suc place) ∷ [])))
-    ⊎ ((place kind payload : ℕ) × (place < dict_room mask) × (payload ≢ key_payload key)
+    ⊎ (((place payload : ℕ) × (place < dict_room mask) × (payload ≢ key_payload key)
+    × (loads ≡ Entry place 3 payload ∷ (Index slot (suc place) ∷ [])))
+    ⊎ ((place kind payload : ℕ) × (place < dict_room mask) × (kind ≢ key_kind key) × (kind ≢ gone_kind key)
     × (loads ≡ entry_loads slot place kind payload)))
 
 -- By these loads the slot names the entry at the place, which has the key's payload and this kind.

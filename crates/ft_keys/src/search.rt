@@ -1,5 +1,5 @@
-//! A search for a key on the walk of its hash. Each load is one slot's index word, or the kind or the
-//! payload of the entry that it names, and the contracts keep the whole list of loads: for a reader
+//! A search for a key on the walk of its hash. Each load is one slot's index word, or the payload or the
+//! kind of the entry that it names, and the contracts keep the whole list of loads: for a reader
 //! that takes words from many moments, and for a holder of a lock, whose words stay as they are.
 ghost use Rattle.std.specs.Prelude.{◌≡◌, ◌≢◌, ℕ, ◌+◌, ◌<◌, ◌≤◌, List, length, Option, IfSome};
 ghost use Rattle.ft_hash.specs.Probes.{IsMask};
@@ -66,17 +66,15 @@ fn compare<W: Words>(words: &mut W, slot: u64, room: u64, key: Key) -> Compared
         return Compared::Other;
     }
     let place = word - 1;
+    let payload = words.entry(place, 3);
+    if payload != payload_of(key) {
+        return Compared::Other;
+    }
     let kind = words.entry(place, 2);
     if kind == kind_of(key) {
-        if words.entry(place, 3) == payload_of(key) {
-            return Compared::Live(place);
-        }
-        return Compared::Other;
+        return Compared::Live(place);
     }
-    if kind != gone_kind_of(key) {
-        return Compared::Other;
-    }
-    if words.entry(place, 3) == payload_of(key) {
+    if kind == gone_kind_of(key) {
         return Compared::Gone(place);
     }
     Compared::Other

@@ -3,7 +3,6 @@ pub mod KnownTableWords
 pub mod Running
 mod Walking
 mod SearchEnds
-mod Seeking
 pub mod Rounding
 pub mod Asking
 pub mod FoundInContents

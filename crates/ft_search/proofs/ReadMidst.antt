@@ -15,7 +15,7 @@ use Rattle.ft_trace.specs.ContainerStates.{ContainerState}
 use Rattle.ft_bank.specs.declared.bank.Bank.{Bank}
 use Rattle.ft_bank.specs.declared.pass.Pass.{Pass}
 use Rattle.ft_bank.specs.Answered.{Answered}
-use Rattle.ft_bank.specs.Passes.{view, IsPassOf}
+use Rattle.ft_bank.specs.Passes.{shape_of, view, IsPassOf}
 use Rattle.ft_bank.specs.PassSections.{stack_of}
 use Rattle.ft_bank.specs.Whole.{OnlyLoaded}
 use Rattle.ft_bank.proofs.KnownAfterWrites.{loaded_held, work_knows}
@@ -62,3 +62,9 @@ making_read b p q called said n leaves m pass stack a =
 -- what such a pass knows of a container whose lock it has
 pub making_stands : (b : Bank) (p : Pass) (texts : List ℕ) (o : ℕ) → IsMaking b p → (view p).shape.texts ≡ texts → o < container_count (view p).shape → has_lock o (view p).log ≡ true → Represents texts (held_words o (view p)) (known_state o (view p))
 making_stands b p texts o m same low mine = subst (λ (t : List ℕ). Represents t (held_words o (view p)) (known_state o (view p))) same (m.inside.1.still.stands o low mine)
+
+-- of a container of the bank
+pub stands_in : (b : Bank) (p : Pass) (o : ℕ) → IsMaking b p → o < container_count (shape_of b) → has_lock o (view p).log ≡ true → Represents (shape_of b).texts (held_words o (view p)) (known_state o (view p))
+stands_in b p o m low mine =
+    let same = m.inside.0.1 in
+    making_stands b p (shape_of b).texts o m (ap (λ (k : Shape). k.texts) same) (subst (λ (k : Shape). o < container_count k) (sym same) low) mine

@@ -5,6 +5,8 @@ use Rattle.ft_trace.specs.declared.Act.TheVariants.{ReadRoot, ReadTable, ReadCou
 use Rattle.ft_trace.specs.declared.Shape.{Shape}
 use Rattle.ft_trace.specs.declared.View.{View}
 use Rattle.ft_trace.specs.Acts.{view_after, reads, announces}
+use Rattle.ft_trace.specs.Addresses.{class_of, slots}
+use Rattle.ft_trace.specs.Pictures.{entry_offset}
 use Rattle.ft_trace.specs.LoggedLookUps.{Online, Inner, LookUpWindow}
 use Rattle.ft_trace.proofs.Cases.{hit}
 use Rattle.ft_keys.specs.declared.words.Access.{Access}
@@ -51,6 +53,16 @@ at_same F s t a = subst (λ (x : Shape × ℕ × ℕ). F x.0 x.1 x.2) (λ d. (sh
 
 pub back_same : (F : Shape → ℕ → ℕ → Type 0) (s t : TableWords) → SamePlace s t → F (shape_of s.bank.now) s.o (table_id s.table) → F (shape_of t.bank.now) t.o (table_id t.table)
 back_same F s t a = subst (λ (x : Shape × ℕ × ℕ). F x.0 x.1 x.2) (sym (λ d. (shape_of (a.bank d).now, a.o d, table_id (a.table d))))
+
+-- two loads of words of an entry
+pub two_words : (s0 s1 s2 : TableWords) (place a f b g : ℕ) → SamePlace s0 s1 → DidAll (ReadTable (table_id s0.table) (entry_offset (slots (class_of (table_id s0.table))) place a) f ∷ []) s0.pass.now s1.pass.now
+    → DidAll (ReadTable (table_id s1.table) (entry_offset (slots (class_of (table_id s1.table))) place b) g ∷ []) s1.pass.now s2.pass.now
+    → DidAll (ReadTable (table_id s0.table) (entry_offset (slots (class_of (table_id s0.table))) place b) g ∷ (ReadTable (table_id s0.table) (entry_offset (slots (class_of (table_id s0.table))) place a) f ∷ [])) s0.pass.now s2.pass.now
+two_words s0 s1 s2 place a f b g same x y =
+    let t = table_id s0.table in
+    let at = entry_offset (slots (class_of t)) place in
+    let z : DidAll (ReadTable t (at b) g ∷ []) s1.pass.now s2.pass.now = at_same (λ _ _ n. DidAll (ReadTable n (entry_offset (slots (class_of n)) place b) g ∷ []) s1.pass.now s2.pass.now) s0 s1 same y in
+    did_trans (ReadTable t (at b) g ∷ []) (ReadTable t (at a) f ∷ []) s0.pass.now s1.pass.now s2.pass.now x z
 
 -- ---- calls on words
 

@@ -1,5 +1,5 @@
 -- How a search of a table ends: what its loads show, once the root is read again.
-use Rattle.std.proofs.Common.{◌≡◌, ◌≢◌, ◌⊎◌, ℕ, suc, ◌%◌, ◌<◌, ◌≤◌, List, [], ◌∷◌, ◌++◌, length, refl, sym, ap, ◌∙◌, subst, inl, inr, arith, append-nil, length-append}
+use Rattle.std.proofs.Common.{◌≡◌, ◌≢◌, ◌⊎◌, ℕ, suc, ◌%◌, ◌<◌, List, [], ◌∷◌, ◌++◌, length, refl, sym, ap, ◌∙◌, subst, inl, inr, arith, append-nil, length-append}
 use Rattle.std.specs.Prelude.{slice_index}
 use mathlib.Core.Logic.{dite}
 use native.Mathlib.Decide.{ℕ_discrete}
@@ -12,12 +12,11 @@ use Rattle.ft_trace.specs.Addresses.{class_of, slots}
 use Rattle.ft_trace.specs.Pictures.{entry_offset, walk_of}
 use Rattle.ft_trace.specs.Kinds.{rows}
 use Rattle.ft_trace.specs.ContainerStates.{kind_in}
-use Rattle.ft_trace.specs.LoggedReads.{Among}
 use Rattle.ft_trace.specs.LoggedLookUps.{Passed, Hit, Miss, Full}
 use Rattle.ft_search.specs.declared.reading.SeenEntry.{SeenEntry}
 use Rattle.ft_search.specs.declared.looks.Looked.TheVariants.{Here, Absent}
 use Rattle.ft_search.specs.KeyLooks.{StopsAtEntry}
-use Rattle.ft_search.specs.Rounds.{entry_acts, met_acts, Walked, ClosesAt}
+use Rattle.ft_search.specs.Rounds.{entry_acts, same_acts, met_acts, live_acts, Walked, ClosesAt}
 use Rattle.ft_search.proofs.Walking.{visit_or_beyond, slot_at, each_slot}
 
 module _ (k : Shape) (o t : ℕ) (key : Key) (slot place : ℕ) (earlier : List Act) where
@@ -30,32 +29,54 @@ module _ (k : Shape) (o t : ℕ) (key : Key) (slot place : ℕ) (earlier : List 
   abbrev entry : ℕ → ℕ → Act
   entry w f = ReadTable t (entry_offset N place w) f
 
+  -- after the index word that named it the entry was found to have the payload of the key, then this kind, then the payload still
+  abbrev same : List Act
+  same = same_acts t slot place key earlier
+
   abbrev met : ℕ → List Act
   met found = met_acts t slot place key found earlier
 
-  abbrev named : ℕ → List Act
-  named found = entry 3 (key_payload key) ∷ (entry 2 found ∷ [])
+  abbrev live : List Act
+  live = live_acts t slot place key earlier
 
-  -- a slot that names none of the entries
-  pub beyond_passed : (found : ℕ) → m ≤ place → Passed (met found) t m slot key
-  beyond_passed found high = inr (record { place = place; high = high; newer = named found; rest = earlier; is = refl })
+  abbrev seen_kind : ℕ → List Act
+  seen_kind found = entry 2 found ∷ (entry 3 (key_payload key) ∷ [])
+
+  abbrev seen_key : List Act
+  seen_key = entry 3 (key_payload key) ∷ seen_kind (key_kind key)
+
+  -- an entry with another payload, with another kind, and with another payload since
+  pub payload_passed : (found : ℕ) → found ≢ key_payload key → Passed (entry 3 found ∷ (ReadTable t slot (suc place) ∷ earlier)) t m slot key
+  payload_passed found apart =
+      visit_or_beyond t m slot key (entry 3 found ∷ (ReadTable t slot (suc place) ∷ earlier)) (entry 3 found ∷ []) earlier place refl
+      (inr (inl (record { found = found; apart = apart; newer = []; mid = []; rest = earlier; is = refl })))
+
+  pub kind_passed : (found : ℕ) → found ≢ key_kind key → found ≢ gone_kind key → Passed (met found) t m slot key
+  kind_passed found live dead =
+      visit_or_beyond t m slot key (met found) (seen_kind found) earlier place refl
+      (inl (record { found = found; live = live; dead = dead; newer = []; mid = entry 3 (key_payload key) ∷ []; rest = earlier; is = refl }))
+
+  pub changed_passed : (found : ℕ) → found ≢ key_payload key → Passed (entry 3 found ∷ met (key_kind key)) t m slot key
+  changed_passed found apart =
+      visit_or_beyond t m slot key (entry 3 found ∷ met (key_kind key)) (entry 3 found ∷ seen_kind (key_kind key)) earlier place refl
+      (inr (inl (record { found = found; apart = apart; newer = []; mid = seen_kind (key_kind key); rest = earlier; is = refl })))
 
   -- an entry that was found to be another's, or deleted, since
-  pub moved_passed : (seen : SeenEntry) (found : ℕ) → seen.closed ≡ seen.opened → seen.opened % 2 ≡ 0 → seen.key_kind ≢ key_kind key → Passed (entry_acts t place seen ++ met found) t m slot key
-  moved_passed seen found same even other =
+  pub moved_passed : (seen : SeenEntry) → seen.closed ≡ seen.opened → seen.opened % 2 ≡ 0 → seen.key_kind ≢ key_kind key → Passed (entry_acts t place seen ++ live) t m slot key
+  moved_passed seen steady even other =
       let after : List Act = entry 0 seen.closed ∷ (ReadCounter seen.number ∷ (entry 5 seen.value ∷ (entry 4 seen.value_kind ∷ []))) in
-      let whole = entry_acts t place seen ++ met found in
-      visit_or_beyond t m slot key whole (entry_acts t place seen ++ named found) earlier place refl
+      let whole = entry_acts t place seen ++ live in
+      visit_or_beyond t m slot key whole (entry_acts t place seen ++ seen_key) earlier place refl
       (dite (ℕ_discrete seen.key_kind (gone_kind key))
       (λ (gone : seen.key_kind ≡ gone_kind key).
       inr (inr (record {
         version = seen.closed;
-        even = ap (λ (z : ℕ). z % 2) same ∙ even;
+        even = ap (λ (z : ℕ). z % 2) steady ∙ even;
         newer = [];
         mid = ReadCounter seen.number ∷ (entry 5 seen.value ∷ (entry 4 seen.value_kind ∷ []));
-        rest = entry 0 seen.opened ∷ met found;
-        is = ap (λ (z : ℕ). after ++ entry 2 z ∷ (entry 0 seen.opened ∷ met found)) gone;
-        before = entry_acts t place seen ++ named found;
+        rest = entry 0 seen.opened ∷ live;
+        is = ap (λ (z : ℕ). after ++ entry 2 z ∷ (entry 0 seen.opened ∷ live)) gone;
+        before = entry_acts t place seen ++ seen_key;
         older = earlier;
         named = refl;
       })))
@@ -65,7 +86,7 @@ module _ (k : Shape) (o t : ℕ) (key : Key) (slot place : ℕ) (earlier : List 
         live = other;
         dead = apart;
         newer = after;
-        mid = entry 0 seen.opened ∷ named found;
+        mid = entry 0 seen.opened ∷ seen_key;
         rest = earlier;
         is = refl;
       })))
@@ -73,37 +94,31 @@ module _ (k : Shape) (o t : ℕ) (key : Key) (slot place : ℕ) (earlier : List 
   -- a deleted entry with an even version
   pub deleted_passed : (version : ℕ) → version % 2 ≡ 0 → Passed (entry 0 version ∷ met (gone_kind key)) t m slot key
   deleted_passed version even =
-      visit_or_beyond t m slot key (entry 0 version ∷ met (gone_kind key)) (entry 0 version ∷ named (gone_kind key)) earlier place refl
+      visit_or_beyond t m slot key (entry 0 version ∷ met (gone_kind key)) (entry 0 version ∷ seen_kind (gone_kind key)) earlier place refl
       (inr (inr (record {
         version = version;
         even = even;
         newer = [];
-        mid = entry 3 (key_payload key) ∷ [];
-        rest = ReadTable t slot (suc place) ∷ earlier;
+        mid = [];
+        rest = same;
         is = refl;
-        before = entry 0 version ∷ named (gone_kind key);
+        before = entry 0 version ∷ seen_kind (gone_kind key);
         older = earlier;
         named = refl;
       })))
 
-  payload_among : (found : ℕ) → Among (entry 3 (key_payload key)) (met found)
-  payload_among found = record { newer = []; rest = entry 2 found ∷ (ReadTable t slot (suc place) ∷ earlier); is = refl }
-
-  kind_among : (found : ℕ) → Among (entry 2 found) (met found)
-  kind_among found = record { newer = entry 3 (key_payload key) ∷ []; rest = ReadTable t slot (suc place) ∷ earlier; is = refl }
-
   -- the version of the entry was odd, or changed
-  pub stops_seen : place < m → (seen : SeenEntry) → (seen.opened % 2 ≢ 0) ⊎ (seen.closed ≢ seen.opened) → StopsAtEntry k o t key seen.opened seen.closed (entry_acts t place seen ++ met (key_kind key))
+  pub stops_seen : place < m → (seen : SeenEntry) → (seen.opened % 2 ≢ 0) ⊎ (seen.closed ≢ seen.opened) → StopsAtEntry k o t key seen.opened seen.closed (entry_acts t place seen ++ live)
   stops_seen low seen why = record {
     place = place;
     low = low;
     newer = [];
     mid = ReadCounter seen.number ∷ (entry 5 seen.value ∷ (entry 4 seen.value_kind ∷ (entry 2 seen.key_kind ∷ [])));
-    rest = met (key_kind key);
+    rest = live;
     is = refl;
     moved = why;
-    payload_read = payload_among (key_kind key);
-    kind_read = inl (kind_among (key_kind key));
+    payload_read = record { newer = []; rest = met (key_kind key); is = refl };
+    kind_read = inl (record { newer = entry 3 (key_payload key) ∷ []; rest = same; is = refl });
   }
 
   pub stops_deleted : place < m → (opened closed : ℕ) → opened % 2 ≢ 0 → StopsAtEntry k o t key opened closed (entry 0 closed ∷ (entry 0 opened ∷ met (gone_kind key)))
@@ -115,14 +130,14 @@ module _ (k : Shape) (o t : ℕ) (key : Key) (slot place : ℕ) (earlier : List 
     rest = met (gone_kind key);
     is = refl;
     moved = inl odd;
-    payload_read = payload_among (gone_kind key);
-    kind_read = inr (kind_among (gone_kind key));
+    payload_read = record { newer = entry 2 (gone_kind key) ∷ []; rest = ReadTable t slot (suc place) ∷ earlier; is = refl };
+    kind_read = inr (record { newer = []; rest = same; is = refl });
   }
 
   -- the entry was there all the while
-  pub closes_here : (seen : SeenEntry) → place < m → seen.closed ≡ seen.opened → seen.opened % 2 ≡ 0 → seen.key_kind ≡ key_kind key → ClosesAt k o t key (entry_acts t place seen ++ met (key_kind key)) (Here seen.value_kind seen.value seen.number)
-  closes_here seen low same even live =
-      let under = met (key_kind key) in
+  pub closes_here : (seen : SeenEntry) → place < m → seen.closed ≡ seen.opened → seen.opened % 2 ≡ 0 → seen.key_kind ≡ key_kind key → ClosesAt k o t key (entry_acts t place seen ++ live) (Here seen.value_kind seen.value seen.number)
+  closes_here seen low steady even stays =
+      let under = live in
       let stamped : Act = ReadCounter seen.number in
       let kind_load : Act = entry 4 seen.value_kind in
       let value_load : Act = entry 5 seen.value in
@@ -138,11 +153,11 @@ module _ (k : Shape) (o t : ℕ) (key : Key) (slot place : ℕ) (earlier : List 
               mid = mid;
               newer = [];
               rest = under;
-              is = λ d. entry 0 (same d) ∷ (stamped ∷ (value_load ∷ (kind_load ∷ (entry 2 (live d) ∷ (entry 0 seen.opened ∷ under)))));
+              is = λ d. entry 0 (steady d) ∷ (stamped ∷ (value_load ∷ (kind_load ∷ (entry 2 (stays d) ∷ (entry 0 seen.opened ∷ under)))));
               live = record { newer = stamped ∷ (value_load ∷ (kind_load ∷ [])); rest = []; is = refl };
               stamp = record { newer = []; rest = value_load ∷ (kind_load ∷ (live_load ∷ [])); is = refl };
               searched = [];
-              before = ReadTable t slot (suc place) ∷ earlier;
+              before = same;
               between = [];
               key_is = refl;
             } in

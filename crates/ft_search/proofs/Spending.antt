@@ -1,5 +1,5 @@
 -- What one round of a look-up without the lock loads.
-use Rattle.std.proofs.Common.{◌≡◌, ℕ, zero, suc, ◌+◌, ◌<◌, ◌≤◌, Bool, true, false, cond, List, [], ◌∷◌, ◌++◌, map, Option, None, refl, sym, ap, ◌∙◌, subst, arith, append_assoc, All}
+use Rattle.std.proofs.Common.{◌≡◌, ℕ, zero, suc, ◌+◌, ◌<◌, ◌≤◌, Bool, true, false, cond, List, [], ◌∷◌, ◌++◌, Option, refl, sym, ap, ◌∙◌, subst, arith, append_assoc, All}
 use Rattle.std.specs.Prelude.{◌==◌}
 use Rattle.std.proofs.lemmas.List.{append_cancel_right}
 use Rattle.std.proofs.lemmas.List.Elements.{All-weaker}
@@ -7,7 +7,6 @@ use Rattle.std.proofs.Math.Decide.{dec_lt}
 use mathlib.Core.Logic.{dite}
 use native.Mathlib.Decide.{ℕ_discrete}
 use Rattle.ft_model.specs.declared.call.Call.{Call}
-use Rattle.ft_model.specs.declared.data.Key.{Key}
 use Rattle.ft_model.specs.declared.reply.Reply.{Reply}
 use Rattle.ft_model.specs.declared.script.Kind.{Kind}
 use Rattle.ft_layout.specs.Containers.{class_mask}
@@ -26,9 +25,8 @@ use Rattle.ft_keys.specs.declared.walk.Way.{Way}
 use Rattle.ft_keys.specs.declared.walk.Way.TheVariants as way
 use Rattle.ft_keys.specs.declared.words.Access.{Access}
 use Rattle.ft_keys.specs.declared.words.Access.TheVariants.{Index}
-use Rattle.ft_keys.specs.declared.search.Found.{Found}
 use Rattle.ft_keys.specs.Accesses.{Follows, index_loads}
-use Rattle.ft_keys.specs.WalkCosts.{most_loads, NeverUsed, StaysUsed, free_loads}
+use Rattle.ft_keys.specs.WalkCosts.{most_loads, NeverUsed, StaysUsed}
 use Rattle.ft_keys.specs.Ways.{walk_slots}
 use Rattle.ft_keys.proofs.Bounds.{bounded}
 use Rattle.ft_keys.proofs.Reaching.{walk-within}
@@ -43,11 +41,10 @@ use Rattle.ft_search.specs.declared.rounds.Round.{Round}
 use Rattle.ft_search.specs.SearchCosts.{index_reads, indexed, LoadsNoIndex, IsRound, LoadsRounds, WalksOn, MayWalkOn, SpendsSearch, SpendsRound}
 use Rattle.ft_search.specs.KeyLooks.{AreLooks}
 use Rattle.ft_search.specs.Rounds.{kind_by, entry_acts}
-use Rattle.ft_search.specs.TableWords.{access_act, CanLoad}
-use Rattle.ft_search.proofs.Bounding.{count_is, index_here, index_other, index_past, index_entry, freed, Went, went, none_append, walks_more}
+use Rattle.ft_search.specs.TableWords.{CanLoad}
+use Rattle.ft_search.proofs.Bounding.{count_is, index_here, index_other, index_past, index_entry, none_append, may_more}
 use Rattle.ft_search.proofs.WordPlaces.{slots_is, slots_of_class}
 use Rattle.ft_search.proofs.Running.{did_trans, did_log, inner_append, inner_online}
-use Rattle.ft_search.proofs.Seeking.{Sought}
 use Rattle.ft_search.proofs.IndexWordsStay.{slots_stay}
 
 -- ---- one search on the walk
@@ -69,29 +66,21 @@ versions_none t place a b u = index_entry u t place 0 b (ReadTable t (entry_offs
 pub version_none : (t place a : ℕ) → LoadsNoIndex (ReadTable t (entry_offset (slots (class_of t)) place 0) a ∷ [])
 version_none t place a u = index_entry u t place 0 a []
 
-module _ (s0 s2 : TableWords) (key : Key) (number : ℕ) (first left : List ℕ) (found : Found) (s : Sought s0 s2 key number first left found) (walked : List ℕ) (acts : List Act) (may : MayWalkOn (table_id s0.table) walked acts first) where
-  abbrev t : ℕ
-  t = table_id s0.table
+-- a search that loaded more after what it had loaded
+pub spends_on : (t : ℕ) (walk : List ℕ) (a earlier : List Act) (left : List ℕ) (result : Option Looked) (p q r : Pass) → DidAll a p q → SpendsSearch t walk (a ++ earlier) left result q r → SpendsSearch t walk earlier left result p r
+spends_on t walk a earlier left result p q r did h =
+    let same = append_assoc h.0 a earlier in (
+      h.0 ++ a,
+      did_trans h.0 a p q r did h.1,
+      (h.2.0, subst (λ (z : List Act). WalksOn t walk z h.2.0) (sym same) h.2.1),
+      λ none. subst (λ (z : List Act). MayWalkOn t walk z left) (sym same) (h.3 none),
+    )
 
-  abbrev calls : List Act
-  calls = map (access_act s0.o t) s.calls
-
-  abbrev own : List Act
-  own = calls ++ ReadCounter number ∷ []
-
-  abbrev pub sought_on : Went s0.o t walked s0.mask key first left found s.calls (ReadCounter number ∷ acts)
-  sought_on = went s0.o t walked s0.mask key first left found s.calls (ReadCounter number ∷ acts) s.loads (walks_more t walked (ReadCounter number ∷ []) acts first (λ u. refl) may.0, may.1)
-
-  -- other words were loaded after it
-  pub spent_search : (more : List Act) (s3 : TableWords) (result : Option Looked) → LoadsNoIndex more → DidAll more s2.pass.now s3.pass.now → (result ≡ None → freed found sought_on.before ≤ 1) → SpendsSearch t walked acts left result s0.pass.now s3.pass.now
-  spent_search more s3 result none did few =
-      let whole : (more ++ own) ++ acts ≡ more ++ (calls ++ ReadCounter number ∷ acts) = append_assoc more own acts ∙ ap (λ (z : List Act). more ++ z) (append_assoc calls (ReadCounter number ∷ []) acts) in
-      let free : free_loads (indexed t ((more ++ own) ++ acts)) ≡ freed found sought_on.before = ap (λ (z : List Act). free_loads (indexed t z)) whole ∙ (ap free_loads (none_append more (calls ++ ReadCounter number ∷ acts) none t) ∙ sought_on.free_is) in (
-        more ++ own,
-        did_trans more own s0.pass.now s2.pass.now s3.pass.now s.did did,
-        subst (λ (z : List Act). WalksOn t walked z left) (sym whole) (walks_more t walked more (calls ++ ReadCounter number ∷ acts) left none sought_on.on),
-        λ is. subst (λ (z : ℕ). z ≤ 1) (sym free) (few is),
-      )
+-- other words were loaded after a slot that was used
+pub spent_slot : (t : ℕ) (walk : List ℕ) (more earlier : List Act) (left : List ℕ) (result : Option Looked) (p q : Pass) → LoadsNoIndex more → DidAll more p q → MayWalkOn t walk earlier left → SpendsSearch t walk earlier left result p q
+spent_slot t walk more earlier left result p q none did may =
+    let after = may_more t walk more earlier left none may in
+    (more, did, (left, after.0), λ _. after)
 
 -- ---- the loads of one round
 

@@ -1,5 +1,7 @@
 -- Where the words of a table lie, as searches count them and as the bank does.
-use Rattle.std.proofs.Common.{◌≡◌, ℕ, zero, suc, ◌+◌, ◌*◌, ◌/◌, ◌^◌, ◌<◌, ◌≤◌, List, refl, ap, ◌∙◌, arith}
+use Rattle.std.proofs.Common.{◌≡◌, ℕ, zero, suc, ◌+◌, ◌*◌, ◌/◌, ◌^◌, ◌<◌, ◌≤◌, Bool, true, false, List, [], ◌∷◌, ◌++◌, drop, refl, sym, ap, ◌∙◌, arith}
+use Rattle.std.specs.Prelude.{nat_le, if◌then◌else◌}
+use Rattle.std.specs.List.{range_with_len}
 use Rattle.std.proofs.Math.Nat.{pow-suc}
 use Rattle.std.proofs.Math.Pow.{pow_mono}
 use Rattle.ft_model.specs.Classes.{IsClass, dict_entries}
@@ -8,12 +10,13 @@ use Rattle.ft_layout.specs.Containers.{class_mask}
 use Rattle.ft_trace.specs.declared.Shape.{Shape}
 use Rattle.ft_trace.specs.Addresses.{class_of, slots, places, size}
 use Rattle.ft_trace.specs.Pictures.{entry_offset}
-use Rattle.ft_hash.specs.Probes.{IsMask}
+use Rattle.ft_hash.specs.Probes.{IsMask, position, run_slots}
 use Rattle.ft_model.specs.declared.data.Key.{Key}
 use Rattle.ft_layout.specs.Tables.{hash_of}
 use Rattle.ft_keys.specs.declared.walk.Way.{Way}
 use Rattle.ft_keys.specs.declared.walk.Way.TheVariants as way
-use Rattle.ft_keys.specs.Ways.{walk_slots}
+use Rattle.ft_keys.specs.Ways.{slots_at, slots_from, walk_slots}
+use Rattle.ft_keys.proofs.Ways.{slots-all, slots-more}
 use Rattle.ft_trace.specs.Pictures.{walk_of}
 use Rattle.ft_trace.specs.Kinds.{rows}
 use Rattle.ft_search.specs.Rounds.{kind_by}
@@ -74,3 +77,25 @@ walk_is way.Set texts class key = refl
 pub slots_of_class : (c : ℕ) → slots c ≡ class_mask c + 1
 unfolding slots
 slots_of_class c = let p = pow_some c in omega (arith, p)
+
+-- ---- the first slot of a walk
+
+run_first : (mask slot : ℕ) → run_slots mask slot ≡ slot ∷ drop 1 (run_slots mask slot)
+unfolding run_slots
+run_first mask slot = by (nat_le (slot + 9) mask)
+  where
+    by : (b : Bool) → (if b then range_with_len slot 10 else slot ∷ []) ≡ slot ∷ drop 1 (if b then range_with_len slot 10 else slot ∷ [])
+    by true = refl
+    by false = refl
+
+slots_first : (way : Way) (mask slot : ℕ) → slots_at way mask slot ≡ slot ∷ drop 1 (slots_at way mask slot)
+slots_first way.Dict mask slot = refl
+slots_first way.Set mask slot = run_first mask slot
+
+pub walk_first : (way : Way) (hash mask : ℕ) → walk_slots way hash mask ≡ position hash mask 0 ∷ drop 1 (walk_slots way hash mask)
+walk_first way hash mask =
+    let p = position hash mask 0 in
+    let row = slots_at way mask p in
+    let later = slots_from way hash mask 1 in
+    let whole : walk_slots way hash mask ≡ p ∷ (drop 1 row ++ later) = sym (slots-all way hash mask) ∙ (slots-more way hash mask 0 (omega arith) ∙ ap (λ (z : List ℕ). z ++ later) (slots_first way mask p)) in
+    whole ∙ ap (λ (z : List ℕ). p ∷ z) (sym (ap (drop 1) whole))

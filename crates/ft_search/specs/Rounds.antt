@@ -1,7 +1,7 @@
 -- What one round of a look-up comes to: a search of the table that a root named, or a look where it named none.
-use Rattle.std.specs.Prelude.{◌≡◌, ◌≢◌, ℕ, suc, false, List, [], ◌∷◌, ◌++◌, All, Option, Some, None}
+use Rattle.std.specs.Prelude.{◌≡◌, ◌≢◌, ◌⊎◌, ℕ, suc, ◌≤◌, false, List, [], ◌∷◌, ◌++◌, drop, All, Option, Some, None}
 use Rattle.ft_model.specs.declared.data.Key.{Key}
-use Rattle.ft_layout.specs.Words.{key_payload}
+use Rattle.ft_layout.specs.Words.{key_kind, key_payload}
 use Rattle.ft_model.specs.declared.script.Kind.{Kind}
 use Rattle.ft_model.specs.declared.script.Kind.TheVariants as kind
 use Rattle.ft_keys.specs.declared.walk.Way.{Way}
@@ -21,6 +21,10 @@ use Rattle.ft_bank.specs.Passes.{view}
 use Rattle.ft_bank.specs.Series.{DidAll}
 use Rattle.ft_search.specs.declared.looks.Looked.{Looked}
 use Rattle.ft_search.specs.declared.looks.Looked.TheVariants.{Here, Absent, Contended}
+use Rattle.ft_search.specs.declared.rounds.Further.{Further}
+use Rattle.ft_search.specs.declared.rounds.Further.TheVariants as further
+use Rattle.ft_search.specs.declared.rounds.Loaded.{Loaded}
+use Rattle.ft_search.specs.declared.rounds.Loaded.TheVariants.{Used, Free}
 use Rattle.ft_search.specs.declared.rounds.Round.{Round}
 use Rattle.ft_search.specs.declared.rounds.Round.TheVariants.{Ended, Moved}
 use Rattle.ft_search.specs.declared.reading.SeenEntry.{SeenEntry}
@@ -56,11 +60,39 @@ ClosesAt k o t key part (Absent n) =
     ((log : List Act) → LookUpWindow log o t part → ShowsAbsent k o key n log) × Among (ReadCounter n) part
 ClosesAt k o t key part (Contended a b) = StopsAtEntry k o t key a b part
 
--- the loads by which a search met an entry of the key, of this kind, newest first, after earlier loads
+-- how a search ends a look-up, where it does
+abbrev pub ended_in : Further → Option Looked
+ended_in (further.Ended looked) = Some looked
+ended_in (further.Next slot) = None
+
+-- the slot that is tried next is the first of those that are left
+abbrev pub IsNext : ℕ → List ℕ → Further → Type 0
+IsNext mask left (further.Ended looked) = Unit {0}
+IsNext mask left (further.Next slot) = (slot ≤ mask) × (left ≡ slot ∷ drop 1 left)
+
+-- the index word of a slot was loaded: the slot was used, maybe only when it was loaded again, or it was found never used
+-- before and after the counter
+abbrev pub LoadsSlot : ℕ → ℕ → Pass → Pass → Loaded → Type 0
+LoadsSlot t slot p q (Used word) =
+    (word ≢ 0) × (before : List Act) × DidAll (ReadTable t slot word ∷ before) p q
+    × ((before ≡ []) ⊎ ((n : ℕ) × (before ≡ ReadCounter n ∷ (ReadTable t slot 0 ∷ []))))
+LoadsSlot t slot p q (Free n) = DidAll (ReadTable t slot 0 ∷ (ReadCounter n ∷ (ReadTable t slot 0 ∷ []))) p q
+
+-- the loads by which a search met an entry with the payload of the key, newest first, after earlier loads
+abbrev pub same_acts : ℕ → ℕ → ℕ → Key → List Act → List Act
+same_acts t slot place key earlier =
+    ReadTable t (entry_offset (slots (class_of t)) place 3) (key_payload key) ∷ (ReadTable t slot (suc place) ∷ earlier)
+
+-- and after them that of the kind of its key
 abbrev pub met_acts : ℕ → ℕ → ℕ → Key → ℕ → List Act → List Act
 met_acts t slot place key found earlier =
+    ReadTable t (entry_offset (slots (class_of t)) place 2) found ∷ same_acts t slot place key earlier
+
+-- and then that of the payload once more, where the entry is there with the key
+abbrev pub live_acts : ℕ → ℕ → ℕ → Key → List Act → List Act
+live_acts t slot place key earlier =
     ReadTable t (entry_offset (slots (class_of t)) place 3) (key_payload key)
-    ∷ (ReadTable t (entry_offset (slots (class_of t)) place 2) found ∷ (ReadTable t slot (suc place) ∷ earlier))
+    ∷ met_acts t slot place key (key_kind key) earlier
 
 -- after these loads of the table t the walk goes on, with these slots left, or the look-up ends so
 abbrev pub Turns : Shape → ℕ → ℕ → Key → List Act → List ℕ → Option Looked → Type 0

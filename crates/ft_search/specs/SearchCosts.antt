@@ -93,12 +93,12 @@ pub record WalksOn (t : ℕ) (walk : List ℕ) (acts : List Act) (left : List �
   pub low : All (λ slot. slot < slots (class_of t)) left
   pub others : (u : ℕ) → u ≢ t → indexed u acts ≡ []
 
--- and the walk may go on: of the last loads one at most found a slot never used
+-- and the walk may go on: the last slot was found used
 abbrev pub MayWalkOn : ℕ → List ℕ → List Act → List ℕ → Type 0
-MayWalkOn t walk acts left = WalksOn t walk acts left × (free_loads (indexed t acts) ≤ 1)
+MayWalkOn t walk acts left = WalksOn t walk acts left × (free_loads (indexed t acts) ≡ 0)
 
--- the pass made one search more on the walk, which goes on after it, or not
+-- the pass loaded more on the walk, which goes on after it with these slots left, or not
 abbrev pub SpendsSearch : ℕ → List ℕ → List Act → List ℕ → Option Looked → Pass → Pass → Type 0
 SpendsSearch t walk earlier left result p q =
-    (part : List Act) × DidAll part p q × WalksOn t walk (part ++ earlier) left
-    × (result ≡ None → free_loads (indexed t (part ++ earlier)) ≤ 1)
+    (part : List Act) × DidAll part p q × ((rest : List ℕ) × WalksOn t walk (part ++ earlier) rest)
+    × (result ≡ None → MayWalkOn t walk (part ++ earlier) left)

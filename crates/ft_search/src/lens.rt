@@ -11,18 +11,14 @@ ghost use Rattle.ft_bank.specs.Answered.{Answered};
 ghost use Rattle.ft_bank.specs.Passes.{shape_of, view, IsPassOf};
 ghost use Rattle.ft_bank.specs.PassSections.{stack_of};
 ghost use Rattle.ft_bank.specs.Series.{DidAll};
-ghost use Rattle.ft_section.specs.declared.answers.Objects.TheVariants.{One};
-ghost use Rattle.ft_section.specs.Ready.{MayTry};
-ghost use Rattle.ft_section.specs.Trying.{SectionsAfter};
 ghost use Rattle.ft_search.specs.KeyLooks.{AreLooks};
 ghost use Rattle.ft_search.specs.Lengths.{len_of, ShowsCounted, IsGlanceOf};
-ghost use Rattle.ft_search.specs.Tries.{IsReadOf};
 
 use crate::looks::{answer_held, answer_look};
 use ft_bank::{Bank, Pass};
 use ft_layout::block_word;
 use ft_model::{Call, Reply};
-use ft_section::{Got, Look, Object, Objects, Stamp, Step, let_go, take_for};
+use ft_section::{Look, Object, Stamp};
 
 /// Which word of a block is the number of pairs, items or elements, as a bank counts them.
 const USED: u64 = block_word::USED - block_word::ROOT;
@@ -77,7 +73,7 @@ pub fn look_len(bank: &Bank, pass: &mut Pass, o: Object, call: &Call) -> Look
 }
 
 /// `len(o)`, by a pass that has the container's lock. The counter is loaded while it has the lock.
-fn len_locked(bank: &Bank, pass: &mut Pass, o: Object, call: &Call) -> (Reply, Stamp)
+pub fn len_locked(bank: &Bank, pass: &mut Pass, o: Object, call: &Call) -> (Reply, Stamp)
     requires pass { IsPassOf bank.now pass.old }
     requires container { o < container_count (shape_of bank.now) }
     requires call { call.now ≡ len_of (kind_in (shape_of bank.now).starts o) o }
@@ -91,29 +87,4 @@ fn len_locked(bank: &Bank, pass: &mut Pass, o: Object, call: &Call) -> (Reply, S
 {
     let count = bank.read_block(pass, o, USED);
     answer_held(bank, pass, call, Reply::Count(count))
-}
-
-/// `len(o)` under the lock (Python manual, Built-in Functions), as the call of the container's kind.
-///
-/// # Errors
-///
-/// `NotYet` where a step of the call found another pass with the lock of the container; the same call comes
-/// next. It never answers `Moved` or `NoMemory`.
-pub fn try_len(bank: &Bank, pass: &mut Pass, o: Object, call: &Call) -> Step
-    requires may { MayTry bank.now pass.old (One o) }
-    requires container { o < container_count (shape_of bank.now) }
-    requires call { call.now ≡ len_of (kind_in (shape_of bank.now).starts o) o }
-    requires left { 0 < (view pass.old).left }
-    ensures may { MayTry bank.now pass.new (One o) }
-    ensures sections { SectionsAfter bank.now (One o) pass.old pass.new result }
-    ensures read { IsReadOf o call.now (view pass.old) (view pass.new) result }
-{
-    match take_for(bank, pass, Objects::One(o)) {
-        Got::Have => {
-            let (reply, stamp) = len_locked(bank, pass, o, call);
-            let_go(bank, pass);
-            Step::Done(reply, stamp)
-        }
-        Got::NotYet(container, owner) => Step::NotYet(container, owner),
-    }
 }

@@ -27,7 +27,7 @@ pub use crate::finishing::{finish_entry, write_nothing};
 pub use crate::floors::floor_looks_stand;
 pub use crate::held::{read_by, read_in, read_key};
 pub use crate::lasting::used_slots_stay;
-pub use crate::lens::{look_len, try_len};
+pub use crate::lens::{len_locked, look_len};
 pub use crate::look::look_up;
 pub use crate::looks::{Looked, answer_held, answer_look};
 pub use crate::spots::{Spot, seek_by, seek_key, spot_of};

@@ -1,10 +1,7 @@
-//! Loads of a table's words by a reader without the lock: a search on a walk, the words of an entry
-//! between two loads of its version, and the root again. Each says what the pass has loaded.
-ghost use Rattle.std.specs.Prelude.{◌≡◌, ◌≢◌, ◌⊎◌, ℕ, suc, ◌+◌, ◌%◌, ◌<◌, List, [], ◌∷◌, map, length, IsTrue, IsFalse};
+//! Loads of a table's words by a reader without the lock: single words of an entry, all of them between two
+//! loads of its version, the counter, and the root again. Each says what the pass has loaded.
+ghost use Rattle.std.specs.Prelude.{◌≡◌, ◌≢◌, ◌⊎◌, ℕ, suc, ◌+◌, ◌%◌, ◌<◌, [], ◌∷◌, IsTrue, IsFalse};
 ghost use Rattle.ft_layout.specs.Tables.{dict_room};
-ghost use Rattle.ft_keys.specs.declared.words.Access.{Access};
-ghost use Rattle.ft_keys.specs.Searches.{IsWithin};
-ghost use Rattle.ft_keys.specs.Loads.{Loads};
 ghost use Rattle.ft_trace.specs.declared.Act.TheVariants.{ReadRoot, ReadTable, ReadCounter};
 ghost use Rattle.ft_trace.specs.Acts.{announces};
 ghost use Rattle.ft_trace.specs.Addresses.{class_of, slots, IsTableName};
@@ -13,14 +10,12 @@ ghost use Rattle.ft_trace.specs.LoggedLookUps.{IsNew};
 ghost use Rattle.ft_bank.specs.Passes.{shape_of, view};
 ghost use Rattle.ft_bank.specs.Series.{DidAll};
 ghost use Rattle.ft_bank.specs.TableNames.{table_id};
-ghost use Rattle.ft_search.specs.TableWords.{CanLoad, SamePlace, access_act};
+ghost use Rattle.ft_search.specs.TableWords.{CanLoad, SamePlace};
 ghost use Rattle.ft_search.specs.Rounds.{entry_acts};
 
 use crate::words::TableWords;
-use ft_keys::{Found, Steps, Walk, Words, find};
+use ft_keys::Words;
 use ft_layout::entry_word::{KEY_KIND, VALUE, VALUE_KIND, VERSION};
-use ft_model::Key;
-use std::sync::ledger::{Blank, Ledger};
 
 /// What was loaded of an entry, in the order of the loads: its version, words, the counter, its version.
 #[derive(Clone, Copy)]
@@ -53,26 +48,6 @@ impl SeenEntry {
 }
 
 impl<'a> TableWords<'a> {
-    /// Searches on for a key, from where the walk has come.
-    #[inline(always)]
-    pub(crate) fn seek<L: Ledger>(&mut self, walk: &mut Walk, key: Key, blank: Blank) -> Found
-        requires can { CanLoad self.old }
-        requires mask { self.old.mask ≡ walk.old.mask }
-        requires name { blank.name ≡ L.name }
-        requires parts { (blank.parts ≡ L.parts) × (L.parts ≡ 1) }
-        ensures can { CanLoad self.new }
-        ensures same { SamePlace self.old self.new }
-        ensures walk { walk.new.mask ≡ walk.old.mask }
-        ensures count { walk.new.passed + length walk.new.left ≡ walk.old.passed + length walk.old.left }
-        ensures within { IsWithin self.old.mask result }
-        ensures loads { (calls : List Access)
-            × DidAll (map (access_act self.old.o (table_id self.old.table)) calls) self.old.pass.now self.new.pass.now
-            × Loads self.old.mask key walk.old.left walk.new.left result calls }
-    {
-        let mut steps: Steps<L> = Steps::new(blank);
-        find(self, walk, key, &mut steps)
-    }
-
     /// Loads the counter.
     pub(crate) fn stamp(&mut self) -> u64
         requires can { CanLoad self.old }

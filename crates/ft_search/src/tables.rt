@@ -10,6 +10,9 @@ ghost use Rattle.ft_bank.specs.TableNames.{table_id, IsTableIn};
 use ft_bank::{Bank, Table};
 use ft_layout::root_of;
 
+/// What a class counts for in a root, beside the number.
+const CLASS_STEP: u64 = 65536;
+
 /// The table that a root names, or `None` where it names none.
 pub fn table_named(root: u64) -> Option<Table>
     ensures named { IfSome result (λ table. root ≡ suc (table_id table)) }
@@ -33,10 +36,11 @@ pub fn table_at(bank: &Bank, root: u64) -> Option<Table>
     if root == 0 {
         return None;
     }
-    let Some(table) = table_named(root) else {
-        unreachable!();
-    };
-    Some(table)
+    let table = root - 1;
+    Some(Table {
+        class: (table / CLASS_STEP) as u32,
+        number: (table % CLASS_STEP) as u32,
+    })
 }
 
 /// The last index slot of a table of a class.

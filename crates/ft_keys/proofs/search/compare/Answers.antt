@@ -14,32 +14,25 @@ returns-then-word-room-clause-loads g c =
     let high : dict_room (g.W.Words.mask c.args.words.now) < word = let room = c.requires.room in let more = c.if-word-room.true in omega arith in
     (Index c.args.slot word ∷ [], (c.args.words.now, refl, c.index-word.ensures.gave), inl (word, high, refl))
 
-pub returns-then-kind-kind_of-clause-loads : goal.returns-then-kind-kind_of-clause-loads
-returns-then-kind-kind_of-clause-loads g c =
+pub returns-then-payload-payload_of-clause-loads : goal.returns-then-payload-payload_of-clause-loads
+returns-then-payload-payload_of-clause-loads g c =
     let word = c.index-word.result in
+    let payload = c.entry-payload.result in
     let low : word - 1 < dict_room (g.W.Words.mask c.args.words.now) = let room = c.requires.room in let few = c.if-word-room.false in let some = c.if-word-eq0.false in omega arith in
-    let is = ap (λ (first : Access). Entry (word - 1) 3 c.entry.result ∷ (Entry (word - 1) 2 c.entry-kind.result ∷ (first ∷ []))) (index-is c.args.slot word c.if-word-eq0.false) in (
-      Entry (word - 1) 3 c.entry.result ∷ (Entry (word - 1) 2 c.entry-kind.result ∷ (Index c.args.slot word ∷ [])),
-      (c.entry-kind.new.self, (c.index-word.new.self, (c.args.words.now, refl, c.index-word.ensures.gave), c.entry-kind.ensures.gave), c.entry.ensures.gave),
-      inr (inr (word - 1, c.entry-kind.result, c.entry.result, low, (λ same. c.if-entry-payload_of.false (same ∙ sym c.payload_of.ensures)), is)),
-    )
-
-pub returns-then-kind-gone_kind_of-clause-loads : goal.returns-then-kind-gone_kind_of-clause-loads
-returns-then-kind-gone_kind_of-clause-loads g c =
-    let word = c.index-word.result in
-    let low : word - 1 < dict_room (g.W.Words.mask c.args.words.now) = let room = c.requires.room in let few = c.if-word-room.false in let some = c.if-word-eq0.false in omega arith in
-    let is = ap (λ (first : Access). Entry (word - 1) 2 c.entry-kind.result ∷ (first ∷ [])) (index-is c.args.slot word c.if-word-eq0.false) in (
-      Entry (word - 1) 2 c.entry-kind.result ∷ (Index c.args.slot word ∷ []),
-      (c.index-word.new.self, (c.args.words.now, refl, c.index-word.ensures.gave), c.entry-kind.ensures.gave),
-      inr (inl (word - 1, c.entry-kind.result, low, (λ same. c.if-kind-kind_of.false (same ∙ sym c.kind_of.ensures)), (λ same. c.if-kind-gone_kind_of.true (same ∙ sym c.gone_kind_of.ensures)), is)),
+    let is = ap (λ (first : Access). Entry (word - 1) 3 payload ∷ (first ∷ [])) (index-is c.args.slot word c.if-word-eq0.false) in (
+      Entry (word - 1) 3 payload ∷ (Index c.args.slot word ∷ []),
+      (c.index-word.new.self, (c.args.words.now, refl, c.index-word.ensures.gave), c.entry-payload.ensures.gave),
+      inr (inl (word - 1, payload, low, (λ same. c.if-payload-payload_of.true (same ∙ sym c.payload_of.ensures)), is)),
     )
 
 pub returns-clause-loads : goal.returns-clause-loads
 returns-clause-loads g c =
     let word = c.index-word.result in
+    let payload = c.entry-payload.result in
+    let kind = c.entry-kind.result in
     let low : word - 1 < dict_room (g.W.Words.mask c.args.words.now) = let room = c.requires.room in let few = c.if-word-room.false in let some = c.if-word-eq0.false in omega arith in
-    let is = ap (λ (first : Access). Entry (word - 1) 3 c.entry-2.result ∷ (Entry (word - 1) 2 c.entry-kind.result ∷ (first ∷ []))) (index-is c.args.slot word c.if-word-eq0.false) in (
-      Entry (word - 1) 3 c.entry-2.result ∷ (Entry (word - 1) 2 c.entry-kind.result ∷ (Index c.args.slot word ∷ [])),
-      (c.entry-kind.new.self, (c.index-word.new.self, (c.args.words.now, refl, c.index-word.ensures.gave), c.entry-kind.ensures.gave), c.entry-2.ensures.gave),
-      inr (inr (word - 1, c.entry-kind.result, c.entry-2.result, low, (λ same. c.if-entry-payload_of-2.false (same ∙ sym c.payload_of-2.ensures)), is)),
+    let is = ap (λ (first : Access). Entry (word - 1) 2 kind ∷ (Entry (word - 1) 3 payload ∷ (first ∷ []))) (index-is c.args.slot word c.if-word-eq0.false) in (
+      Entry (word - 1) 2 kind ∷ (Entry (word - 1) 3 payload ∷ (Index c.args.slot word ∷ [])),
+      (c.entry-payload.new.self, (c.index-word.new.self, (c.args.words.now, refl, c.index-word.ensures.gave), c.entry-payload.ensures.gave), c.entry-kind.ensures.gave),
+      inr (inr (word - 1, kind, payload, low, (λ same. c.if-kind-kind_of.false (same ∙ sym c.kind_of.ensures)), (λ same. c.if-kind-gone_kind_of.false (same ∙ sym c.gone_kind_of.ensures)), is)),
     )

@@ -1,30 +1,19 @@
-use Rattle.std.proofs.Common.{◌≡◌, [], ◌∷◌, ◌++◌, refl, sym, ◌∙◌, arith}
+use Rattle.std.proofs.Common.{◌≡◌, ◌∷◌, ◌++◌, refl, sym, ◌∙◌, arith}
 use Rattle.ft_layout.specs.Words.{key_kind}
 use Rattle.ft_bank.specs.Passes.{shape_of}
 use Rattle.ft_bank.specs.TableNames.{table_id}
-use Rattle.ft_search.specs.Rounds.{met_acts, entry_acts}
-use Rattle.ft_search.proofs.Running.{did_none}
+use Rattle.ft_search.specs.Rounds.{live_acts, entry_acts}
 use Rattle.ft_search.proofs.Spending.{seen_none}
 use Rattle.ft_search.proofs.Walking.{walked_more, walked_past}
-use Rattle.ft_search.proofs.SearchEnds.{beyond_passed, moved_passed, stops_seen, closes_here}
+use Rattle.ft_search.proofs.SearchEnds.{moved_passed, stops_seen, closes_here}
 use Rattle.ft_search.proofs.rounds.look_at.Goals as goal
-
-pub returns-then-place-entries-clause-turns : goal.returns-then-place-entries-clause-turns
-returns-then-place-entries-clause-turns c slot earlier left w =
-    let s = c.args.words.now in
-    let k = shape_of s.bank.now in
-    let t = table_id s.table in
-    let key = c.args.key in
-    let part = met_acts t slot c.args.place key (key_kind key) earlier in
-    let high = c.if-place-entries.true in
-    ([], tt, did_none s.pass.now, walked_past k s.o t key slot left part w (beyond_passed k s.o t key slot c.args.place earlier (key_kind key) (omega (arith, high, c.requires.entries))))
 
 pub returns-then-not-stood-clause-turns : goal.returns-then-not-stood-clause-turns
 returns-then-not-stood-clause-turns c slot earlier left w =
     let s = c.args.words.now in
     let t = table_id s.table in
     let seen = c.read_between-seen.result in
-    (entry_acts t c.args.place seen, tt, c.read_between-seen.ensures.did, stops_seen (shape_of s.bank.now) s.o t c.args.key slot c.args.place earlier (let low = c.if-place-entries.false in omega (arith, low, c.requires.entries)) seen (c.if-not-stood.ensures.no refl))
+    (entry_acts t c.args.place seen, tt, c.read_between-seen.ensures.did, stops_seen (shape_of s.bank.now) s.o t c.args.key slot c.args.place earlier c.requires.low seen (c.if-not-stood.ensures.no refl))
 
 pub returns-then-seen-kind_of-clause-turns : goal.returns-then-seen-kind_of-clause-turns
 returns-then-seen-kind_of-clause-turns c slot earlier left w =
@@ -34,13 +23,13 @@ returns-then-seen-kind_of-clause-turns c slot earlier left w =
     let key = c.args.key in
     let seen = c.read_between-seen.result in
     let stood = c.if-not-stood.ensures.yes refl in
-    let part = met_acts t slot c.args.place key (key_kind key) earlier in
+    let part = live_acts t slot c.args.place key earlier in
     let new = entry_acts t c.args.place seen in (
       new,
       tt,
       c.read_between-seen.ensures.did,
       walked_past k s.o t key slot left (new ++ part) (walked_more k s.o t key (slot ∷ left) new part w)
-          (moved_passed k s.o t key slot c.args.place earlier seen (key_kind key) stood.0 stood.1
+          (moved_passed k s.o t key slot c.args.place earlier seen stood.0 stood.1
           (λ same. c.if-seen-kind_of.true (same ∙ sym c.kind_of.ensures))),
     )
 
@@ -52,16 +41,12 @@ returns-clause-turns c slot earlier left w =
     let key = c.args.key in
     let seen = c.read_between-seen.result in
     let stood = c.if-not-stood.ensures.yes refl in
-    let low = c.if-place-entries.false in
     let live : seen.key_kind ≡ key_kind key = omega (arith, c.if-seen-kind_of.false, c.kind_of.ensures) in (
       entry_acts t c.args.place seen,
       tt,
       c.read_between-seen.ensures.did,
-      closes_here k s.o t key slot c.args.place earlier seen (omega (arith, low, c.requires.entries)) stood.0 stood.1 live,
+      closes_here k s.o t key slot c.args.place earlier seen c.requires.low stood.0 stood.1 live,
     )
-
-pub returns-then-place-entries-clause-index : goal.returns-then-place-entries-clause-index
-returns-then-place-entries-clause-index c = ([], did_none c.args.words.now.pass.now, λ t. refl)
 
 pub returns-then-not-stood-clause-index : goal.returns-then-not-stood-clause-index
 returns-then-not-stood-clause-index c =

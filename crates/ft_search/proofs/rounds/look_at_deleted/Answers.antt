@@ -1,4 +1,4 @@
-use Rattle.std.proofs.Common.{List, [], ◌∷◌, refl, arith}
+use Rattle.std.proofs.Common.{List, [], ◌∷◌, arith}
 use Rattle.ft_layout.specs.Words.{gone_kind}
 use Rattle.ft_trace.specs.declared.Act.{Act}
 use Rattle.ft_trace.specs.declared.Act.TheVariants.{ReadTable}
@@ -7,21 +7,12 @@ use Rattle.ft_trace.specs.Pictures.{entry_offset}
 use Rattle.ft_bank.specs.Passes.{shape_of}
 use Rattle.ft_bank.specs.TableNames.{table_id}
 use Rattle.ft_search.specs.Rounds.{met_acts}
-use Rattle.ft_search.proofs.Running.{did_none, did_trans, at_same}
+use Rattle.ft_search.proofs.Running.{did_trans, at_same}
 use Rattle.ft_search.proofs.Spending.{version_none, versions_none}
 use Rattle.ft_search.proofs.Walking.{walked_more, walked_past}
-use Rattle.ft_search.proofs.SearchEnds.{beyond_passed, deleted_passed, stops_deleted}
+use Rattle.ft_search.proofs.SearchEnds.{deleted_passed, stops_deleted}
 use Rattle.ft_bank.specs.Series.{DidAll}
 use Rattle.ft_search.proofs.rounds.look_at_deleted.Goals as goal
-
-pub returns-then-place-entries-clause-turns : goal.returns-then-place-entries-clause-turns
-returns-then-place-entries-clause-turns c key slot earlier left w =
-    let s = c.args.words.now in
-    let k = shape_of s.bank.now in
-    let t = table_id s.table in
-    let part = met_acts t slot c.args.place key (gone_kind key) earlier in
-    let high = c.if-place-entries.true in
-    ([], tt, did_none s.pass.now, walked_past k s.o t key slot left part w (beyond_passed k s.o t key slot c.args.place earlier (gone_kind key) (omega (arith, high, c.requires.entries))))
 
 pub returns-then-opened-eq0-clause-turns : goal.returns-then-opened-eq0-clause-turns
 returns-then-opened-eq0-clause-turns c key slot earlier left w =
@@ -54,11 +45,8 @@ returns-clause-turns c key slot earlier left w =
       second ∷ (first ∷ []),
       tt,
       did_trans (second ∷ []) (first ∷ []) s.pass.now s1.pass.now s2.pass.now c.word-opened.ensures.did again,
-      stops_deleted k s.o t key slot c.args.place earlier (let low = c.if-place-entries.false in omega (arith, low, c.requires.entries)) opened closed (λ even. c.if-opened-eq0.false even),
+      stops_deleted k s.o t key slot c.args.place earlier c.requires.low opened closed (λ even. c.if-opened-eq0.false even),
     )
-
-pub returns-then-place-entries-clause-index : goal.returns-then-place-entries-clause-index
-returns-then-place-entries-clause-index c = ([], did_none c.args.words.now.pass.now, λ t. refl)
 
 pub returns-then-opened-eq0-clause-index : goal.returns-then-opened-eq0-clause-index
 returns-then-opened-eq0-clause-index c =

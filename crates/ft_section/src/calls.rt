@@ -90,6 +90,7 @@ pub fn take_for(bank: &Bank, pass: &mut Pass, objects: Objects) -> Got
 
 /// Lets go of the locks that the call in flight took itself, and of no section's. The call has made its answer, or
 /// it is tried again.
+#[inline(always)]
 pub fn let_go(bank: &Bank, pass: &mut Pass)
     requires { IsMaking bank.now pass.old }
     ensures locked { OnlyLocked (view pass.old) (view pass.new) }

@@ -17,6 +17,7 @@ fn let_one_go(bank: &Bank, pass: &mut Pass, o: Object)
 }
 
 /// Lets go of the lock of a container, where it was taken so.
+#[inline]
 fn let_go_where(bank: &Bank, pass: &mut Pass, taken: bool, o: Object)
     requires { MayLetGo (λ p. if taken then at_one o p else 0) bank.now pass.old }
     ensures stack { KeepsStack pass.old pass.new }
@@ -28,6 +29,7 @@ fn let_go_where(bank: &Bank, pass: &mut Pass, taken: bool, o: Object)
 }
 
 /// Lets go of the locks that were taken so.
+#[inline]
 pub(crate) fn let_taking_go(bank: &Bank, pass: &mut Pass, taking: Taking)
     requires { MayLetGo (λ o. taken_in o taking) bank.now pass.old }
     ensures stack { KeepsStack pass.old pass.new }

@@ -16,6 +16,7 @@ use crate::answers::{Object, Owner};
 use ft_bank::{Bank, OpenSection, Pass, Taking};
 
 /// Whether the lock of a container was taken so.
+#[inline(always)]
 fn is_taken(taking: Taking, o: Object) -> bool
     ensures { IsTrue result ↔ (taken_in o taking ≢ 0) }
 {
@@ -23,6 +24,7 @@ fn is_taken(taking: Taking, o: Object) -> bool
 }
 
 /// Whether one of these sections notes the lock of a container as taken.
+#[inline]
 fn is_noted(sections: &[OpenSection], o: Object) -> bool
     ensures { IsTrue result ↔ (noted_in o sections.now ≢ 0) }
 {
@@ -35,6 +37,7 @@ fn is_noted(sections: &[OpenSection], o: Object) -> bool
 }
 
 /// Whether the pass has the lock of a container.
+#[inline(always)]
 pub(crate) fn has(pass: &Pass, o: Object) -> bool
     requires { noted_in o (stack_of pass.now).sections + taken_in o (stack_of pass.now).own ≡ lock_count o (view pass.now) }
     ensures { result ≡ has_lock o (view pass.now).log }
@@ -102,6 +105,7 @@ fn noting_upper(own: Taking, now: bool) -> Taking
 
 /// Takes the lock of the lower container of the call in flight, unless the pass has it; or answers the
 /// container and the pass that has it.
+#[inline(always)]
 fn take_lower(bank: &Bank, pass: &mut Pass) -> Result<(), (Object, Owner)>
     requires inside { IsInCall bank.now pass.old }
     requires container { (stack_of pass.old).own.lower < container_count (shape_of bank.now) }
@@ -131,6 +135,7 @@ fn take_lower(bank: &Bank, pass: &mut Pass) -> Result<(), (Object, Owner)>
 }
 
 /// The same of its upper one, which may be the same.
+#[inline(always)]
 fn take_upper(bank: &Bank, pass: &mut Pass) -> Result<(), (Object, Owner)>
     requires inside { IsInCall bank.now pass.old }
     requires container { (stack_of pass.old).own.upper < container_count (shape_of bank.now) }

@@ -8,3 +8,5 @@ mod Popping
 -- two dicts
 mod CopiedDicts
 mod Updated
+-- calls under their locks
+pub mod DictTries

@@ -6,3 +6,5 @@ pub mod Values
 pub mod Lasts
 -- copies to another dict
 pub mod DictCopies
+-- what each call comes to under its locks
+pub mod DictMaking

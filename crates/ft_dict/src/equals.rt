@@ -1,4 +1,4 @@
-//! `d == e`: two dicts compared pair by pair, without their locks and under them.
+//! `d == e`: two dicts compared pair by pair, without their locks.
 ghost use Rattle.std.specs.Prelude.{◌≡◌, ◌<◌};
 ghost use Rattle.ft_model.specs.declared.call.Call.TheVariants as call;
 ghost use Rattle.ft_model.specs.declared.call.DictCall.TheVariants as dict;
@@ -7,37 +7,11 @@ ghost use Rattle.ft_trace.specs.Addresses.{container_count};
 ghost use Rattle.ft_trace.specs.ContainerStates.{kind_in};
 ghost use Rattle.ft_bank.specs.Passes.{shape_of, view, IsPassOf};
 ghost use Rattle.ft_bank.specs.PassSections.{stack_of};
-ghost use Rattle.ft_section.specs.declared.answers.Objects.TheVariants.{Two};
-ghost use Rattle.ft_section.specs.Ready.{MayTry};
-ghost use Rattle.ft_section.specs.Trying.{SectionsAfter};
-ghost use Rattle.ft_search.specs.MadeCalls.{IsMadeOf};
 ghost use Rattle.ft_reads.specs.Pairs.{IsGlanceOfBoth};
 
 use ft_bank::{Bank, Pass};
-use ft_section::{Look, Object, Step};
-use ft_whole_tables::{Comparison, look_comparison, try_comparison};
-
-/// `d == e` under the locks of both, the lower one taken first; a dict named twice counts once (Python manual,
-/// Mapping Types).
-///
-/// # Errors
-///
-/// `NotYet` where a step of the call found another pass with the lock of one of the dicts; the same call comes next. It
-/// never answers `Moved` or `NoMemory`.
-#[inline]
-pub fn try_eq(bank: &Bank, pass: &mut Pass, d: Object, e: Object) -> Step
-    requires may { MayTry bank.now pass.old (Two d e) }
-    requires container { d < container_count (shape_of bank.now) }
-    requires other { e < container_count (shape_of bank.now) }
-    requires dict { kind_in (shape_of bank.now).starts d ≡ kind.Dict }
-    requires other_dict { kind_in (shape_of bank.now).starts e ≡ kind.Dict }
-    requires left { 0 < (view pass.old).left }
-    ensures may { MayTry bank.now pass.new (Two d e) }
-    ensures made { IsMadeOf (Two d e) (call.Dict d (dict.Eq e)) (view pass.old) (view pass.new) result }
-    ensures sections { SectionsAfter bank.now (Two d e) pass.old pass.new result }
-{
-    try_comparison(bank, pass, Comparison::SameDicts, d, e)
-}
+use ft_section::{Look, Object};
+use ft_whole_tables::{Comparison, look_comparison};
 
 /// `d == e` without locks (Python manual, Mapping Types).
 ///

@@ -1,4 +1,4 @@
-//! All pairs of a dict, copied under its lock and without it.
+//! All pairs of a dict, copied without its lock.
 ghost use Rattle.std.specs.Prelude.{◌≡◌, ◌<◌, length};
 ghost use Rattle.ft_model.specs.declared.call.Call.TheVariants as call;
 ghost use Rattle.ft_model.specs.declared.call.DictCall.TheVariants as dict;
@@ -7,37 +7,14 @@ ghost use Rattle.ft_trace.specs.Addresses.{container_count};
 ghost use Rattle.ft_trace.specs.ContainerStates.{kind_in};
 ghost use Rattle.ft_bank.specs.Passes.{shape_of, view, IsPassOf};
 ghost use Rattle.ft_bank.specs.PassSections.{stack_of};
-ghost use Rattle.ft_section.specs.declared.answers.Objects.TheVariants.{One};
-ghost use Rattle.ft_section.specs.Ready.{MayTry};
-ghost use Rattle.ft_section.specs.Trying.{SectionsAfter};
 ghost use Rattle.ft_whole_tables.specs.ShownContents.{IsOfDict};
-ghost use Rattle.ft_reads.specs.Copies.{IsCopyOf};
 ghost use Rattle.ft_reads.specs.Glances.{IsCopyGlanceOf};
 
 use ft_bank::{Bank, Pass};
 use ft_keys::Way;
-use ft_section::{Look, Object, Step};
-use ft_whole_tables::{look_all_items, try_all_items};
+use ft_section::{Look, Object};
+use ft_whole_tables::look_all_items;
 use std::alloc::Global;
-
-/// All pairs under the lock (Python manual, Mapping Types).
-///
-/// # Errors
-///
-/// `NotYet` where a step of the call found another pass with the lock of the dict; the same call comes next.
-/// `NoMemory` where memory for the copy ran out: the dict is as it was, and the lock is let go. It never answers
-/// `Moved`.
-pub fn try_items(bank: &Bank, pass: &mut Pass, alloc: Global, d: Object) -> Step
-    requires may { MayTry bank.now pass.old (One d) }
-    requires container { d < container_count (shape_of bank.now) }
-    requires dict { kind_in (shape_of bank.now).starts d ≡ kind.Dict }
-    requires left { 0 < (view pass.old).left }
-    ensures may { MayTry bank.now pass.new (One d) }
-    ensures made { IsCopyOf (One d) (call.Dict d dict.Items) (view pass.old) (view pass.new) result }
-    ensures sections { SectionsAfter bank.now (One d) pass.old pass.new result }
-{
-    try_all_items(bank, pass, alloc, Way::Dict, d)
-}
 
 /// All pairs without the lock (Python manual, Mapping Types).
 ///

@@ -1,4 +1,4 @@
-//! The last pair of a dict, and `popitem`, which takes it out: under the lock, and as a try.
+//! The last pair of a dict, and `popitem`, which takes it out, under the lock.
 ghost use Rattle.std.specs.Prelude.{◌≡◌, ◌<◌, option_map};
 ghost use Rattle.ft_model.specs.declared.call.Call.TheVariants as call;
 ghost use Rattle.ft_model.specs.declared.call.DictCall.TheVariants as dict;
@@ -10,10 +10,7 @@ ghost use Rattle.ft_trace.specs.ContainerStates.{kind_in};
 ghost use Rattle.ft_bank.specs.Passes.{shape_of, view, IsPassOf};
 ghost use Rattle.ft_bank.specs.PassSections.{stack_of};
 ghost use Rattle.ft_bank.specs.TableNames.{IsTableIn};
-ghost use Rattle.ft_section.specs.declared.answers.Objects.TheVariants.{One};
-ghost use Rattle.ft_section.specs.Ready.{MayTry};
-ghost use Rattle.ft_section.specs.Trying.{SectionsAfter};
-ghost use Rattle.ft_search.specs.MadeCalls.{MadeAs, IsMadeOf};
+ghost use Rattle.ft_search.specs.MadeCalls.{MadeAs};
 ghost use Rattle.ft_search.specs.OneEntryWrites.{MayWriteEntries};
 ghost use Rattle.ft_reads.specs.Reads.{Reads};
 ghost use Rattle.ft_dict.specs.Lasts.{IsLastIn, IsLastOf};
@@ -22,7 +19,7 @@ use ft_bank::{Bank, Pass, Table};
 use ft_layout::{block_word, used_entries_follow_a_dict};
 use ft_model::{Call, DictCall, Key, Raise, Reply, Value};
 use ft_search::{answer_made, delete_entry, table_named, written};
-use ft_section::{Got, Object, Objects, Stamp, Step, let_go, take_for};
+use ft_section::{Object, Stamp};
 use ft_whole_tables::{last_place, value_at};
 
 /// Which word of a block says how many entries were used, as a bank counts them.
@@ -115,30 +112,5 @@ pub fn popitem_locked(bank: &Bank, pass: &mut Pass, d: Object) -> (Reply, Stamp)
             (said, written(number))
         }
         None => answer_made(bank, pass, &called, Reply::Raised(Raise::NoKey)),
-    }
-}
-
-/// `d.popitem()`: the last pair, which is taken out; a KeyError if the dict is empty (Python manual, Mapping Types).
-///
-/// # Errors
-///
-/// `NotYet` where a step of the call found another pass with the lock of the dict; the same call comes next. It never
-/// answers `Moved` or `NoMemory`.
-pub fn try_popitem(bank: &Bank, pass: &mut Pass, d: Object) -> Step
-    requires may { MayTry bank.now pass.old (One d) }
-    requires container { d < container_count (shape_of bank.now) }
-    requires dict { kind_in (shape_of bank.now).starts d ≡ kind.Dict }
-    requires left { 0 < (view pass.old).left }
-    ensures may { MayTry bank.now pass.new (One d) }
-    ensures made { IsMadeOf (One d) (call.Dict d dict.PopItem) (view pass.old) (view pass.new) result }
-    ensures sections { SectionsAfter bank.now (One d) pass.old pass.new result }
-{
-    match take_for(bank, pass, Objects::One(d)) {
-        Got::Have => {
-            let (reply, stamp) = popitem_locked(bank, pass, d);
-            let_go(bank, pass);
-            Step::Done(reply, stamp)
-        }
-        Got::NotYet(container, owner) => Step::NotYet(container, owner),
     }
 }

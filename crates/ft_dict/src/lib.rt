@@ -15,20 +15,23 @@ mod lasts;
 mod lens;
 mod locked;
 mod looks;
+mod making;
 mod merges;
-mod pops;
 mod tries;
 mod values;
 
-pub use crate::clears::{clear_by, try_clear};
-pub use crate::copies::{copyto_by, try_copyto};
+pub use crate::clears::clear_by;
+pub use crate::copies::copyto_by;
 pub use crate::deletes::{del_locked, pop_locked, popd_locked};
-pub use crate::equals::{look_eq, try_eq};
-pub use crate::items::{look_items, try_items};
-pub use crate::lasts::{popitem_locked, try_popitem};
-pub use crate::lens::{look_len, try_len};
+pub use crate::equals::look_eq;
+pub use crate::items::look_items;
+pub use crate::lasts::popitem_locked;
+pub use crate::lens::look_len;
 pub use crate::looks::{look_get, look_getd, look_has};
-pub use crate::merges::{try_update, update_by};
-pub use crate::pops::{try_del, try_pop, try_popd};
-pub use crate::tries::{try_get, try_getd, try_has};
-pub use crate::values::{set_by, setdefault_by, try_set, try_setdefault};
+pub use crate::making::DictMaker;
+pub use crate::merges::update_by;
+pub use crate::tries::{
+    try_clear, try_copyto, try_del, try_eq, try_get, try_getd, try_has, try_items, try_len,
+    try_pop, try_popd, try_popitem, try_set, try_setdefault, try_update,
+};
+pub use crate::values::{set_by, setdefault_by};

@@ -11,17 +11,15 @@ ghost use Rattle.ft_bank.specs.PassSections.{stack_of};
 ghost use Rattle.ft_section.specs.Ready.{MayTry};
 ghost use Rattle.ft_engine.specs.Answering.{IsTryOfCall, IsLookedIfAny};
 ghost use Rattle.ft_engine.specs.Contentions.{may_look};
-ghost use Rattle.ft_engine.specs.Flights.{objects_by};
-ghost use Rattle.ft_engine.specs.Asked.{AreOfKindIn, HasKeyIn, key_of_dict};
+ghost use Rattle.ft_table_calls.specs.TriesUnderLocks.{objects_by};
+ghost use Rattle.ft_dict.specs.DictMaking.{key_of_dict};
+ghost use Rattle.ft_engine.specs.Asked.{AreOfKindIn, HasKeyIn};
 
 use ft_bank::{Bank, Pass};
-use ft_dict::{
-    look_eq, look_get, look_getd, look_has, look_items, look_len, try_clear, try_copyto, try_del,
-    try_eq, try_get, try_getd, try_has, try_items, try_len, try_pop, try_popd, try_popitem,
-    try_set, try_setdefault, try_update,
-};
-use ft_model::DictCall;
+use ft_dict::{DictMaker, look_eq, look_get, look_getd, look_has, look_items, look_len};
+use ft_model::{Call, DictCall};
 use ft_section::{Look, Object, Step};
+use ft_table_calls::{named_objects, try_under_locks};
 use std::alloc::Global;
 
 /// A look at a dict without its lock, for each call. It stands apart from `look_dict`, which has arms of its own for
@@ -98,44 +96,7 @@ pub(crate) fn look_dict(
     }
 }
 
-/// A call on a dict under its lock, for each call; apart for the same reason.
-#[inline(never)]
-fn try_any_dict(bank: &Bank, pass: &mut Pass, alloc: Global, d: Object, call: &DictCall) -> Step
-    requires may { MayTry bank.now pass.old (objects_by d (other_dict call.now)) }
-    requires names { AreOfKindIn (shape_of bank.now) kind.Dict d (other_dict call.now) }
-    requires key { HasKeyIn (shape_of bank.now) (key_of_dict call.now) }
-    requires no_cursor { cursor_of_dict call.now ≡ None }
-    requires landed { is_landed_dict call.now ≡ true }
-    requires left { 0 < (view pass.old).left }
-    ensures { (hands : List (Option Cursor)) → IsTryOfCall bank.now hands (calls.Dict d call.now) pass.old pass.new result }
-{
-    match *call {
-        DictCall::Get { key } => try_get(bank, pass, d, key),
-        DictCall::GetOr { key, default } => try_getd(bank, pass, d, key, default),
-        DictCall::Set { key, value } => try_set(bank, pass, d, key, value),
-        DictCall::Del { key } => try_del(bank, pass, d, key),
-        DictCall::Pop { key } => try_pop(bank, pass, d, key),
-        DictCall::PopOr { key, default } => try_popd(bank, pass, d, key, default),
-        DictCall::SetDefault { key, default } => try_setdefault(bank, pass, d, key, default),
-        DictCall::Has { key } => try_has(bank, pass, d, key),
-        DictCall::Len => try_len(bank, pass, d),
-        DictCall::Clear => try_clear(bank, pass, d),
-        DictCall::PopItem => try_popitem(bank, pass, d),
-        DictCall::Items => try_items(bank, pass, alloc, d),
-        DictCall::Eq { other } => try_eq(bank, pass, d, other),
-        DictCall::Update { other } => try_update(bank, pass, d, other),
-        DictCall::CopyTo { other } => try_copyto(bank, pass, d, other),
-        DictCall::Iter { .. }
-        | DictCall::KeysAnd { .. }
-        | DictCall::KeysSub { .. }
-        | DictCall::KeysOr { .. }
-        | DictCall::KeysXor { .. }
-        | DictCall::ItemsHas { .. }
-        | DictCall::Reversed { .. } => unreachable!(),
-    }
-}
-
-/// A call on a dict under its lock; none that makes a cursor.
+/// A call on a dict under its locks; none that makes a cursor.
 #[inline(always)]
 pub(crate) fn try_dict(
     bank: &Bank,
@@ -143,8 +104,10 @@ pub(crate) fn try_dict(
     alloc: Global,
     d: Object,
     call: &DictCall,
+    called: &Call,
 ) -> Step
     requires may { MayTry bank.now pass.old (objects_by d (other_dict call.now)) }
+    requires call { called.now ≡ calls.Dict d call.now }
     requires names { AreOfKindIn (shape_of bank.now) kind.Dict d (other_dict call.now) }
     requires key { HasKeyIn (shape_of bank.now) (key_of_dict call.now) }
     requires no_cursor { cursor_of_dict call.now ≡ None }
@@ -152,8 +115,7 @@ pub(crate) fn try_dict(
     requires left { 0 < (view pass.old).left }
     ensures { (hands : List (Option Cursor)) → IsTryOfCall bank.now hands (calls.Dict d call.now) pass.old pass.new result }
 {
-    match *call {
-        DictCall::Set { key, value } => try_set(bank, pass, d, key, value),
-        _ => try_any_dict(bank, pass, alloc, d, call),
-    }
+    let objects = named_objects(d, call.other());
+    let maker = DictMaker { alloc: Some(alloc) };
+    try_under_locks(bank, pass, &maker, objects, called)
 }

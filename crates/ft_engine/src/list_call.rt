@@ -1,28 +1,24 @@
 //! Tries of calls on lists: a look without the lock, where the call may be made so, and then the call under its
 //! locks.
-ghost use Rattle.std.specs.Prelude.{◌≡◌, ◌<◌, List, Option, None, is_some, true};
+ghost use Rattle.std.specs.Prelude.{◌≡◌, ◌<◌, List, Option, None, is_some};
 ghost use Rattle.ft_model.specs.declared.call.Call.TheVariants as calls;
 ghost use Rattle.ft_model.specs.declared.cursor.Cursor.{Cursor};
 ghost use Rattle.ft_model.specs.declared.script.Kind.TheVariants as kind;
 ghost use Rattle.ft_model.specs.Calls.{cursor_of_list, other_list};
-ghost use Rattle.ft_model.specs.Landed.{is_landed_list};
 ghost use Rattle.ft_trace.specs.Acts.{announces};
 ghost use Rattle.ft_bank.specs.Passes.{shape_of, view, IsPassOf};
 ghost use Rattle.ft_bank.specs.PassSections.{stack_of};
 ghost use Rattle.ft_section.specs.Ready.{MayTry};
 ghost use Rattle.ft_engine.specs.Answering.{IsTryOfCall, IsLookedIfAny};
 ghost use Rattle.ft_engine.specs.Contentions.{may_look};
-ghost use Rattle.ft_engine.specs.Flights.{objects_by};
+ghost use Rattle.ft_table_calls.specs.TriesUnderLocks.{objects_by};
 ghost use Rattle.ft_engine.specs.Asked.{AreOfKindIn};
 
 use ft_bank::{Bank, Pass};
-use ft_list::{
-    look_eq, look_get, look_has, look_items, look_len, try_append, try_clear, try_count, try_del,
-    try_eq, try_extend, try_get, try_has, try_index, try_insert, try_items, try_len, try_pop,
-    try_remove, try_reverse, try_set, try_slice,
-};
-use ft_model::ListCall;
+use ft_list::{ListMaker, look_eq, look_get, look_has, look_items, look_len};
+use ft_model::{Call, ListCall};
 use ft_section::{Look, Object, Step};
+use ft_table_calls::{named_objects, try_under_locks};
 use std::alloc::Global;
 
 /// A look at a list without its lock, for each call. It stands apart from `look_list`, which has arms of its own for
@@ -92,39 +88,6 @@ pub(crate) fn look_list(
     }
 }
 
-/// A call on a list under its locks, for each call; apart for the same reason.
-#[inline(never)]
-fn try_any_list(bank: &Bank, pass: &mut Pass, alloc: Global, l: Object, call: &ListCall) -> Step
-    requires may { MayTry bank.now pass.old (objects_by l (other_list call.now)) }
-    requires names { AreOfKindIn (shape_of bank.now) kind.List l (other_list call.now) }
-    requires no_cursor { cursor_of_list call.now ≡ None }
-    requires landed { is_landed_list call.now ≡ true }
-    requires left { 0 < (view pass.old).left }
-    ensures { (hands : List (Option Cursor)) → IsTryOfCall bank.now hands (calls.List l call.now) pass.old pass.new result }
-{
-    match *call {
-        ListCall::Append { value } => try_append(bank, pass, l, value),
-        ListCall::Insert { index, value } => try_insert(bank, pass, l, index, value),
-        ListCall::Get { index } => try_get(bank, pass, l, index),
-        ListCall::Set { index, value } => try_set(bank, pass, l, index, value),
-        ListCall::Del { index } => try_del(bank, pass, l, index),
-        ListCall::Pop { index } => try_pop(bank, pass, l, index),
-        ListCall::Remove { value } => try_remove(bank, pass, l, value),
-        ListCall::Index { value } => try_index(bank, pass, l, value),
-        ListCall::Count { value } => try_count(bank, pass, l, value),
-        ListCall::Has { value } => try_has(bank, pass, l, value),
-        ListCall::Reverse => try_reverse(bank, pass, l),
-        ListCall::Extend { other } => try_extend(bank, pass, l, other),
-        ListCall::Slice { start, end } => try_slice(bank, pass, alloc, l, start, end),
-        ListCall::Clear => try_clear(bank, pass, l),
-        ListCall::Len => try_len(bank, pass, l),
-        ListCall::Items => try_items(bank, pass, alloc, l),
-        ListCall::Eq { other } => try_eq(bank, pass, l, other),
-        ListCall::Iter { .. } => unreachable!(),
-        ListCall::Reversed { .. } => unreachable!(),
-    }
-}
-
 /// A call on a list under its locks; none that makes a cursor.
 #[inline(always)]
 pub(crate) fn try_list(
@@ -133,16 +96,16 @@ pub(crate) fn try_list(
     alloc: Global,
     l: Object,
     call: &ListCall,
+    called: &Call,
 ) -> Step
     requires may { MayTry bank.now pass.old (objects_by l (other_list call.now)) }
+    requires call { called.now ≡ calls.List l call.now }
     requires names { AreOfKindIn (shape_of bank.now) kind.List l (other_list call.now) }
     requires no_cursor { cursor_of_list call.now ≡ None }
-    requires landed { is_landed_list call.now ≡ true }
     requires left { 0 < (view pass.old).left }
     ensures { (hands : List (Option Cursor)) → IsTryOfCall bank.now hands (calls.List l call.now) pass.old pass.new result }
 {
-    match *call {
-        ListCall::Append { value } => try_append(bank, pass, l, value),
-        _ => try_any_list(bank, pass, alloc, l, call),
-    }
+    let objects = named_objects(l, call.other());
+    let maker = ListMaker { alloc: Some(alloc) };
+    try_under_locks(bank, pass, &maker, objects, called)
 }

@@ -1,5 +1,5 @@
 //! Tries of the calls of sections, and of `quiesce`.
-ghost use Rattle.std.specs.Prelude.{◌≡◌, ◌<◌, length, Option, List};
+ghost use Rattle.std.specs.Prelude.{◌<◌, length, Option, List};
 ghost use Rattle.ft_model.specs.declared.cursor.Cursor.{Cursor};
 ghost use Rattle.ft_model.specs.declared.call.Call.TheVariants as call;
 ghost use Rattle.ft_bank.specs.Passes.{shape_of, view};
@@ -7,21 +7,12 @@ ghost use Rattle.ft_bank.specs.PassSections.{stack_of};
 ghost use Rattle.ft_section.specs.Ready.{IsReady, MayTry};
 ghost use Rattle.ft_section.specs.LockTakings.{AreIn};
 ghost use Rattle.ft_engine.specs.Answering.{IsTryOfCall};
-ghost use Rattle.ft_engine.specs.Flights.{objects_by};
+ghost use Rattle.ft_table_calls.specs.TriesUnderLocks.{objects_by};
 
 use ft_bank::{Bank, Pass};
 use ft_model::{Call, Reply};
-use ft_section::{Began, Ended, Object, Objects, Stamp, Step};
-
-/// The containers of a `begin`.
-fn objects(first: Object, second: Option<Object>) -> Objects
-    ensures { result ≡ objects_by first second }
-{
-    match second {
-        None => Objects::One(first),
-        Some(other) => Objects::Two(first, other),
-    }
-}
+use ft_section::{Began, Ended, Object, Stamp, Step};
+use ft_table_calls::named_objects;
 
 /// `begin`: the locks of the section's containers are taken (C API, critical sections).
 pub(crate) fn begin(bank: &Bank, pass: &mut Pass, first: Object, second: Option<Object>) -> Step
@@ -31,7 +22,7 @@ pub(crate) fn begin(bank: &Bank, pass: &mut Pass, first: Object, second: Option<
     requires left { 0 < (view pass.old).left }
     ensures { (hands : List (Option Cursor)) → IsTryOfCall bank.now hands (call.Begin first second) pass.old pass.new result }
 {
-    match ft_section::try_begin(bank, pass, objects(first, second)) {
+    match ft_section::try_begin(bank, pass, named_objects(first, second)) {
         Began::Entered(stamp) => Step::Done(Reply::Entered, stamp),
         Began::NotYet(object, owner) => Step::NotYet(object, owner),
     }

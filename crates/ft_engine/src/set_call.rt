@@ -10,17 +10,15 @@ ghost use Rattle.ft_bank.specs.PassSections.{stack_of};
 ghost use Rattle.ft_section.specs.Ready.{MayTry};
 ghost use Rattle.ft_engine.specs.Answering.{IsTryOfCall, IsLookedIfAny};
 ghost use Rattle.ft_engine.specs.Contentions.{may_look};
-ghost use Rattle.ft_engine.specs.Flights.{objects_by};
-ghost use Rattle.ft_engine.specs.Asked.{AreOfKindIn, HasKeyIn, key_of_set};
+ghost use Rattle.ft_table_calls.specs.TriesUnderLocks.{objects_by};
+ghost use Rattle.ft_set.specs.SetMaking.{key_of_set};
+ghost use Rattle.ft_engine.specs.Asked.{AreOfKindIn, HasKeyIn};
 
 use ft_bank::{Bank, Pass};
-use ft_model::SetCall;
+use ft_model::{Call, SetCall};
 use ft_section::{Look, Object, Step};
-use ft_set::{
-    look_eq, look_has, look_items, look_len, try_add, try_and, try_clear, try_discard,
-    try_disjoint, try_eq, try_has, try_items, try_len, try_or, try_pop, try_remove, try_sub,
-    try_subset, try_xor,
-};
+use ft_set::{SetMaker, look_eq, look_has, look_items, look_len};
+use ft_table_calls::{named_objects, try_under_locks};
 use std::alloc::Global;
 
 /// A look at a set without its lock, for each call. It stands apart from `look_set`, which has arms of its own for
@@ -89,37 +87,7 @@ pub(crate) fn look_set(
     }
 }
 
-/// A call on a set under its lock, for each call; apart for the same reason.
-#[inline(never)]
-fn try_any_set(bank: &Bank, pass: &mut Pass, alloc: Global, s: Object, call: &SetCall) -> Step
-    requires may { MayTry bank.now pass.old (objects_by s (other_set call.now)) }
-    requires names { AreOfKindIn (shape_of bank.now) kind.Set s (other_set call.now) }
-    requires key { HasKeyIn (shape_of bank.now) (key_of_set call.now) }
-    requires no_cursor { cursor_of_set call.now ≡ None }
-    requires left { 0 < (view pass.old).left }
-    ensures { (hands : List (Option Cursor)) → IsTryOfCall bank.now hands (calls.Set s call.now) pass.old pass.new result }
-{
-    match *call {
-        SetCall::Add { key } => try_add(bank, pass, s, key),
-        SetCall::Discard { key } => try_discard(bank, pass, s, key),
-        SetCall::Remove { key } => try_remove(bank, pass, s, key),
-        SetCall::Has { key } => try_has(bank, pass, s, key),
-        SetCall::Len => try_len(bank, pass, s),
-        SetCall::Clear => try_clear(bank, pass, s),
-        SetCall::Pop => try_pop(bank, pass, s),
-        SetCall::Items => try_items(bank, pass, alloc, s),
-        SetCall::Eq { other } => try_eq(bank, pass, s, other),
-        SetCall::Or { other } => try_or(bank, pass, s, other),
-        SetCall::And { other } => try_and(bank, pass, s, other),
-        SetCall::Sub { other } => try_sub(bank, pass, s, other),
-        SetCall::Xor { other } => try_xor(bank, pass, s, other),
-        SetCall::Subset { other } => try_subset(bank, pass, s, other),
-        SetCall::Disjoint { other } => try_disjoint(bank, pass, s, other),
-        SetCall::Iter { .. } => unreachable!(),
-    }
-}
-
-/// A call on a set under its lock; none that makes a cursor.
+/// A call on a set under its locks; none that makes a cursor.
 #[inline(always)]
 pub(crate) fn try_set_call(
     bank: &Bank,
@@ -127,17 +95,17 @@ pub(crate) fn try_set_call(
     alloc: Global,
     s: Object,
     call: &SetCall,
+    called: &Call,
 ) -> Step
     requires may { MayTry bank.now pass.old (objects_by s (other_set call.now)) }
+    requires call { called.now ≡ calls.Set s call.now }
     requires names { AreOfKindIn (shape_of bank.now) kind.Set s (other_set call.now) }
     requires key { HasKeyIn (shape_of bank.now) (key_of_set call.now) }
     requires no_cursor { cursor_of_set call.now ≡ None }
     requires left { 0 < (view pass.old).left }
     ensures { (hands : List (Option Cursor)) → IsTryOfCall bank.now hands (calls.Set s call.now) pass.old pass.new result }
 {
-    match *call {
-        SetCall::Add { key } => try_add(bank, pass, s, key),
-        SetCall::Discard { key } => try_discard(bank, pass, s, key),
-        _ => try_any_set(bank, pass, alloc, s, call),
-    }
+    let objects = named_objects(s, call.other());
+    let maker = SetMaker { alloc: Some(alloc) };
+    try_under_locks(bank, pass, &maker, objects, called)
 }

@@ -25,3 +25,4 @@ pub mod Additions
 pub mod Emptying
 pub mod Extending
 pub mod Undisturbed
+pub mod ListTries

@@ -1,29 +1,23 @@
 //! Calls that add items to a list: under the locks, and their tries. A list whose table has no room for them, or
 //! that has none, gets another one.
-ghost use Rattle.std.specs.Prelude.{◌≡◌, ℕ, ◌+◌, ◌<◌, ◌≤◌, nat_lt, false, length, Option, Some, None, IfSome};
+ghost use Rattle.std.specs.Prelude.{◌≡◌, ◌+◌, ◌<◌, ◌≤◌, nat_lt, false, length, Option, Some, None, IfSome};
 ghost use Rattle.ft_model.specs.declared.call.Call.TheVariants as call;
 ghost use Rattle.ft_model.specs.declared.call.ListCall.{ListCall};
 ghost use Rattle.ft_model.specs.declared.call.ListCall.TheVariants as list;
 ghost use Rattle.ft_model.specs.declared.reply.Reply.TheVariants as reply;
-ghost use Rattle.ft_model.specs.declared.script.Kind.TheVariants as kind;
 ghost use Rattle.ft_model.specs.Classes.{IsClass, most_items};
 ghost use Rattle.ft_model.specs.Lists.{clamped_in};
 ghost use Rattle.ft_model.specs.TableUses.{list_takes};
 ghost use Rattle.ft_trace.specs.Acts.{flight, used};
-ghost use Rattle.ft_trace.specs.Addresses.{container_count};
-ghost use Rattle.ft_trace.specs.Holds.{known_state};
-ghost use Rattle.ft_trace.specs.ContainerStates.{kind_in};
 ghost use Rattle.ft_bank.specs.declared.table.Table.{Table};
 ghost use Rattle.ft_bank.specs.Passes.{shape_of, view, IsPassOf};
 ghost use Rattle.ft_bank.specs.PassSections.{stack_of};
 ghost use Rattle.ft_bank.specs.Whole.{OnlyLoaded};
-ghost use Rattle.ft_section.specs.declared.answers.Objects.TheVariants.{One, Two};
-ghost use Rattle.ft_section.specs.Ready.{MayTry};
-ghost use Rattle.ft_section.specs.Trying.{SectionsAfter};
-ghost use Rattle.ft_table_calls.specs.Adding.{IsAdded, IsTryOf, KeepsCursors};
+ghost use Rattle.ft_section.specs.declared.answers.Objects.TheVariants.{One};
+ghost use Rattle.ft_table_calls.specs.Adding.{IsAdded, KeepsCursors};
 ghost use Rattle.ft_list.specs.ListItemWrites.{known_items};
 ghost use Rattle.ft_list.specs.ListWrites.{MayWriteList, Adds};
-ghost use Rattle.ft_list.specs.ListGrowth.{AddsItems, ExtendsBy};
+ghost use Rattle.ft_list.specs.ListGrowth.{AddsItems};
 ghost use Rattle.ft_list.specs.Internal.NewListTables.{KnowsList, MayAdd, list_use_of};
 ghost use Rattle.ft_list.specs.Internal.Additions.{count_in, with_added, IsAddition};
 
@@ -35,8 +29,8 @@ use crate::writes::add_items;
 use ft_bank::{Bank, Pass, Table, Took};
 use ft_model::{Call, KeptTable, ListCall, MOST_ITEMS, Reply, Value, taken_by_list};
 use ft_qsbr::take;
-use ft_section::{Got, Object, Objects, Stamp, Step, let_go, take_for};
-use ft_table_calls::{Added, answer_no_table, answer_over, retire_old, step_of};
+use ft_section::{Object, Stamp};
+use ft_table_calls::{Added, answer_no_table, answer_over, retire_old};
 
 /// The class of the table that a list takes for that many items, which has this one or none.
 fn class_wanted(old: Option<Table>, count: u64) -> Option<u32>
@@ -64,6 +58,7 @@ pub(crate) fn root_table(bank: &Bank, pass: &mut Pass, l: Object) -> Option<Tabl
 }
 
 /// Adds to a list of that many items whose table has room, or that has none and needs none, as the write of this call.
+#[inline(always)]
 fn add_in_room(
     bank: &Bank,
     pass: &mut Pass,
@@ -105,6 +100,7 @@ fn add_in_room(
 
 /// Takes a table of a class for a list of that many items and adds to it there, as the write of this call; the
 /// table that the list had is retired.
+#[inline(never)]
 fn add_in_taken(
     bank: &Bank,
     pass: &mut Pass,
@@ -144,6 +140,7 @@ fn add_in_taken(
 }
 
 /// Adds to a list of that many items, as the write of this call.
+#[inline(always)]
 fn add_to(
     bank: &Bank,
     pass: &mut Pass,
@@ -180,6 +177,7 @@ fn add_to(
 ///
 /// `NoTable` where the list needs another table, of the class for its new length, and the count of the class was
 /// 0; `Over` where it has 65,536 items; `Moved` where two steps found a word of the class's free tables changed.
+#[inline]
 pub fn append_by(bank: &Bank, pass: &mut Pass, l: Object, value: Value) -> Added
     requires pass { IsPassOf bank.now pass.old }
     requires may { MayWriteList (shape_of bank.now) l (view pass.old) }
@@ -275,90 +273,4 @@ pub fn extend_by(bank: &Bank, pass: &mut Pass, l: Object, m: Object) -> Added
         count: more,
     };
     add_to(bank, pass, l, old, addition, count, &called)
-}
-
-/// `l.append(v)` under the lock (Python manual, Mutable Sequence Types): it replies that it is done, or raises a
-/// MemoryError.
-///
-/// # Errors
-///
-/// `NotYet` where a step of the call found another pass with the lock of the list; `Moved` where two steps of it
-/// found a word of the free tables of one class changed. The same call comes next. It never answers `NoMemory`.
-/// Whatever it answers, the pass has the cursors that it had.
-pub fn try_append(bank: &Bank, pass: &mut Pass, l: Object, value: Value) -> Step
-    requires may { MayTry bank.now pass.old (One l) }
-    requires container { l < container_count (shape_of bank.now) }
-    requires list { kind_in (shape_of bank.now).starts l ≡ kind.List }
-    requires left { 0 < (view pass.old).left }
-    ensures may { MayTry bank.now pass.new (One l) }
-    ensures sections { SectionsAfter bank.now (One l) pass.old pass.new result }
-    ensures tried { IsTryOf (One l) (AddsItems (shape_of bank.now) l (call.List l (list.Append value)) 1) reply.Done
-        (view pass.old) (view pass.new) result }
-    ensures cursors { KeepsCursors (view pass.old) (view pass.new) }
-{
-    match take_for(bank, pass, Objects::One(l)) {
-        Got::Have => {
-            let added = append_by(bank, pass, l, value);
-            let_go(bank, pass);
-            step_of(added, Reply::Done)
-        }
-        Got::NotYet(container, owner) => Step::NotYet(container, owner),
-    }
-}
-
-/// `l.insert(i, v)` under the lock: the value goes before item i, which is clamped to the list (Python manual,
-/// Mutable Sequence Types). It replies that it is done, or raises a MemoryError.
-///
-/// # Errors
-///
-/// As those of `try_append`.
-pub fn try_insert(bank: &Bank, pass: &mut Pass, l: Object, index: i64, value: Value) -> Step
-    requires may { MayTry bank.now pass.old (One l) }
-    requires container { l < container_count (shape_of bank.now) }
-    requires list { kind_in (shape_of bank.now).starts l ≡ kind.List }
-    requires left { 0 < (view pass.old).left }
-    ensures may { MayTry bank.now pass.new (One l) }
-    ensures sections { SectionsAfter bank.now (One l) pass.old pass.new result }
-    ensures tried { IsTryOf (One l) (AddsItems (shape_of bank.now) l (call.List l (list.Insert index value)) 1) reply.Done
-        (view pass.old) (view pass.new) result }
-    ensures cursors { KeepsCursors (view pass.old) (view pass.new) }
-{
-    match take_for(bank, pass, Objects::One(l)) {
-        Got::Have => {
-            let added = insert_by(bank, pass, l, index, value);
-            let_go(bank, pass);
-            step_of(added, Reply::Done)
-        }
-        Got::NotYet(container, owner) => Step::NotYet(container, owner),
-    }
-}
-
-/// `l.extend(m)` under the locks of both lists, the lower one taken first; a list named twice counts once, and is read
-/// as it was before (Python manual, Mutable Sequence Types). It replies that it is done, or raises a MemoryError, and
-/// then no item is added.
-///
-/// # Errors
-///
-/// As those of `try_append`, for the locks of both.
-pub fn try_extend(bank: &Bank, pass: &mut Pass, l: Object, m: Object) -> Step
-    requires may { MayTry bank.now pass.old (Two l m) }
-    requires container { l < container_count (shape_of bank.now) }
-    requires other { m < container_count (shape_of bank.now) }
-    requires list { kind_in (shape_of bank.now).starts l ≡ kind.List }
-    requires other_list { kind_in (shape_of bank.now).starts m ≡ kind.List }
-    requires left { 0 < (view pass.old).left }
-    ensures may { MayTry bank.now pass.new (Two l m) }
-    ensures sections { SectionsAfter bank.now (Two l m) pass.old pass.new result }
-    ensures tried { IsTryOf (Two l m) (ExtendsBy (shape_of bank.now) l m) reply.Done (view pass.old) (view pass.new)
-        result }
-    ensures cursors { KeepsCursors (view pass.old) (view pass.new) }
-{
-    match take_for(bank, pass, Objects::Two(l, m)) {
-        Got::Have => {
-            let added = extend_by(bank, pass, l, m);
-            let_go(bank, pass);
-            step_of(added, Reply::Done)
-        }
-        Got::NotYet(container, owner) => Step::NotYet(container, owner),
-    }
 }

@@ -109,6 +109,7 @@ fn put_from(
 }
 
 /// Puts all items of a list after those of the list that the pass writes, which had that many.
+#[inline(never)]
 fn put_items(bank: &Bank, pass: &mut Pass, o: u32, table: Table, m: u32, count: u64, more: u64)
     requires pass { IsPassOf bank.now pass.old }
     requires list { WritesList (shape_of bank.now) o table (view pass.old) }
@@ -133,6 +134,7 @@ fn put_items(bank: &Bank, pass: &mut Pass, o: u32, table: Table, m: u32, count: 
 }
 
 /// Puts what is added to the list that the pass writes, which had that many items, and the items after it.
+#[inline(always)]
 pub(crate) fn put_added(
     bank: &Bank,
     pass: &mut Pass,

@@ -2,7 +2,7 @@
 //!
 //! The version of each list that the call names is loaded before its words and after them. Where it was even
 //! and stayed the same, no write of that list came between.
-ghost use Rattle.std.specs.Prelude.{◌≡◌, ◌<◌, true, false, length};
+ghost use Rattle.std.specs.Prelude.{◌≡◌, ◌<◌, length};
 ghost use Rattle.ft_model.specs.declared.call.Call.TheVariants as call;
 ghost use Rattle.ft_model.specs.declared.call.ListCall.TheVariants as list;
 ghost use Rattle.ft_model.specs.declared.script.Kind.TheVariants as kind;
@@ -13,7 +13,7 @@ ghost use Rattle.ft_bank.specs.Passes.{shape_of, view, IsPassOf};
 ghost use Rattle.ft_bank.specs.PassSections.{stack_of};
 ghost use Rattle.ft_search.specs.Lengths.{IsGlanceOf};
 ghost use Rattle.ft_reads.specs.Copies.{AreCopied};
-ghost use Rattle.ft_reads.specs.Glances.{HasMoved, WasStill, Saw, SawBoth, IsCopyGlanceOf};
+ghost use Rattle.ft_reads.specs.Glances.{Saw, SawBoth, IsCopyGlanceOf};
 ghost use Rattle.ft_list.specs.Pairs.{AreOfItems};
 ghost use Rattle.ft_reads.specs.Pairs.{IsGlanceOfBoth};
 ghost use Rattle.ft_list.specs.Scans.{IsOfItems};

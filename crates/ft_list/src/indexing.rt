@@ -13,12 +13,8 @@ ghost use Rattle.ft_bank.specs.Answered.{Answered};
 ghost use Rattle.ft_bank.specs.Passes.{shape_of, view, IsPassOf};
 ghost use Rattle.ft_bank.specs.PassSections.{stack_of};
 ghost use Rattle.ft_bank.specs.Series.{DidAll};
-ghost use Rattle.ft_section.specs.declared.answers.Objects.TheVariants.{One};
-ghost use Rattle.ft_section.specs.Ready.{MayTry};
-ghost use Rattle.ft_section.specs.Trying.{SectionsAfter};
 ghost use Rattle.ft_search.specs.Lengths.{IsGlanceOf};
 ghost use Rattle.ft_search.specs.KeyLooks.{AreLooks};
-ghost use Rattle.ft_search.specs.Tries.{IsReadOf};
 ghost use Rattle.ft_list.specs.Indexes.{ShowsBetween, IsLookGetOf};
 
 use crate::gets::{AtIndex, look_item, reply_of};
@@ -26,7 +22,7 @@ use crate::reads::read_named;
 use ft_bank::{Bank, Pass};
 use ft_model::{Call, ListCall, Reply};
 use ft_search::{answer_held, answer_look};
-use ft_section::{Got, Look, Object, Objects, Stamp, Step, let_go, take_for};
+use ft_section::{Look, Object, Stamp};
 
 /// Reads the item that an index names, and the counter, between two loads of the version of the list.
 fn read_between(bank: &Bank, pass: &mut Pass, l: Object, index: i64) -> AtIndex
@@ -94,7 +90,7 @@ pub fn look_get(bank: &Bank, pass: &mut Pass, l: Object, index: i64) -> Look
 }
 
 /// `l[i]`, by a pass that has the list's lock. The counter is loaded while it has the lock.
-fn get_locked(bank: &Bank, pass: &mut Pass, l: Object, index: i64) -> (Reply, Stamp)
+pub(crate) fn get_locked(bank: &Bank, pass: &mut Pass, l: Object, index: i64) -> (Reply, Stamp)
     requires pass { IsPassOf bank.now pass.old }
     requires container { l < container_count (shape_of bank.now) }
     requires list { kind_in (shape_of bank.now).starts l ≡ kind.List }
@@ -112,29 +108,4 @@ fn get_locked(bank: &Bank, pass: &mut Pass, l: Object, index: i64) -> (Reply, St
         call: ListCall::Get { index },
     };
     answer_held(bank, pass, &call, reply_of(found))
-}
-
-/// `l[i]` under the lock, an IndexError where there is no such item (Python manual, Sequence Types).
-///
-/// # Errors
-///
-/// `NotYet` where a step of the call found another pass with the lock of the list; the same call comes next.
-/// It never answers `Moved` or `NoMemory`.
-pub fn try_get(bank: &Bank, pass: &mut Pass, l: Object, index: i64) -> Step
-    requires may { MayTry bank.now pass.old (One l) }
-    requires container { l < container_count (shape_of bank.now) }
-    requires list { kind_in (shape_of bank.now).starts l ≡ kind.List }
-    requires left { 0 < (view pass.old).left }
-    ensures may { MayTry bank.now pass.new (One l) }
-    ensures sections { SectionsAfter bank.now (One l) pass.old pass.new result }
-    ensures read { IsReadOf l (call.List l (list.Get index)) (view pass.old) (view pass.new) result }
-{
-    match take_for(bank, pass, Objects::One(l)) {
-        Got::Have => {
-            let (reply, stamp) = get_locked(bank, pass, l, index);
-            let_go(bank, pass);
-            Step::Done(reply, stamp)
-        }
-        Got::NotYet(container, owner) => Step::NotYet(container, owner),
-    }
 }

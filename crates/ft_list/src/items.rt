@@ -1,7 +1,7 @@
 //! Single items of a list that a pass writes, for the calls on lists: each put of an item keeps true that
 //! its version is odd while its words differ from what the list had, so that readers without the lock
 //! take no half of it.
-ghost use Rattle.std.specs.Prelude.{◌≡◌, ℕ, ◌<◌, ◌%◌, ◌≤◌, false, true, slice_index};
+ghost use Rattle.std.specs.Prelude.{◌≡◌, ℕ, ◌<◌, ◌%◌, ◌≤◌, false, true};
 ghost use Rattle.ft_layout.specs.declared.slot.Stored.{Stored};
 ghost use Rattle.ft_layout.specs.Words.{FitsStored, IsStored};
 ghost use Rattle.ft_trace.specs.Acts.{has_committed};
@@ -125,6 +125,7 @@ fn put_word(
 
 /// Has an item store this, before the commit: its version is made odd, and its words are put that aren't
 /// there. An item that stores it already is left alone.
+#[inline(always)]
 pub(crate) fn put_item(
     bank: &Bank,
     pass: &mut Pass,

@@ -8,15 +8,11 @@ ghost use Rattle.ft_trace.specs.Addresses.{container_count};
 ghost use Rattle.ft_trace.specs.ContainerStates.{kind_in};
 ghost use Rattle.ft_bank.specs.Passes.{shape_of, view, IsPassOf};
 ghost use Rattle.ft_bank.specs.PassSections.{stack_of};
-ghost use Rattle.ft_section.specs.declared.answers.Objects.TheVariants.{One};
-ghost use Rattle.ft_section.specs.Ready.{MayTry};
-ghost use Rattle.ft_section.specs.Trying.{SectionsAfter};
 ghost use Rattle.ft_search.specs.Lengths.{IsGlanceOf};
-ghost use Rattle.ft_search.specs.Tries.{IsReadOf};
 
 use ft_bank::{Bank, Pass};
 use ft_model::{Call, ListCall};
-use ft_section::{Look, Object, Step};
+use ft_section::{Look, Object};
 
 /// `len(l)` without the lock (Python manual, Sequence Types).
 ///
@@ -38,26 +34,4 @@ pub fn look_len(bank: &Bank, pass: &mut Pass, l: Object) -> Look
         call: ListCall::Len,
     };
     ft_search::look_len(bank, pass, l, &call)
-}
-
-/// `len(l)` under the lock (Python manual, Sequence Types).
-///
-/// # Errors
-///
-/// `NotYet` where a step of the call found another pass with the lock of the list; the same call comes next. It
-/// never answers `Moved` or `NoMemory`.
-pub fn try_len(bank: &Bank, pass: &mut Pass, l: Object) -> Step
-    requires may { MayTry bank.now pass.old (One l) }
-    requires container { l < container_count (shape_of bank.now) }
-    requires list { kind_in (shape_of bank.now).starts l ≡ kind.List }
-    requires left { 0 < (view pass.old).left }
-    ensures may { MayTry bank.now pass.new (One l) }
-    ensures sections { SectionsAfter bank.now (One l) pass.old pass.new result }
-    ensures read { IsReadOf l (call.List l list.Len) (view pass.old) (view pass.new) result }
-{
-    let call = Call::List {
-        container: l,
-        call: ListCall::Len,
-    };
-    ft_search::try_len(bank, pass, l, &call)
 }

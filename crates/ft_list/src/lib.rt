@@ -21,6 +21,7 @@ mod items;
 mod lens;
 mod locked;
 mod looks;
+mod making;
 mod pairs;
 mod reads;
 mod removals;
@@ -30,19 +31,19 @@ mod tries;
 mod turning;
 mod writes;
 
-pub use crate::adding::{append_by, extend_by, insert_by, try_append, try_extend, try_insert};
-pub use crate::clearing::{clear_by, try_clear};
+pub use crate::adding::{append_by, extend_by, insert_by};
+pub use crate::clearing::clear_by;
 pub use crate::floors::floor_items_stand;
 pub use crate::gets::look_item;
 pub use crate::glances::{look_eq, look_has, look_items};
-pub use crate::indexing::{look_get, try_get};
-pub use crate::lens::{look_len, try_len};
+pub use crate::indexing::look_get;
+pub use crate::lens::look_len;
 pub use crate::locked::{del_locked, set_locked};
-pub use crate::pairs::try_eq;
+pub use crate::making::ListMaker;
 pub use crate::reads::read_named;
 pub use crate::removals::{pop_locked, remove_locked};
 pub use crate::tries::{
-    try_count, try_del, try_has, try_index, try_items, try_pop, try_remove, try_reverse, try_set,
-    try_slice,
+    try_append, try_clear, try_count, try_del, try_eq, try_extend, try_get, try_has, try_index,
+    try_insert, try_items, try_len, try_pop, try_remove, try_reverse, try_set, try_slice,
 };
 pub use crate::turning::reverse_locked;

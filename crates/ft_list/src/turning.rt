@@ -1,5 +1,5 @@
 //! `l.reverse()` of a list whose lock the pass has: one whole write, in which the items are swapped pairwise.
-ghost use Rattle.std.specs.Prelude.{◌≡◌, ℕ, ◌+◌, ◌-◌, ◌/◌, ◌<◌, ◌≤◌, List, false, true, length, reverse};
+ghost use Rattle.std.specs.Prelude.{◌≡◌, ◌+◌, ◌-◌, ◌/◌, ◌<◌, ◌≤◌, List, false, true, length, reverse};
 ghost use Rattle.ft_model.specs.declared.call.Call.TheVariants as call;
 ghost use Rattle.ft_model.specs.declared.call.ListCall.{ListCall};
 ghost use Rattle.ft_model.specs.declared.call.ListCall.TheVariants as list;

@@ -1,6 +1,6 @@
 //! What calls do to a list whose lock the pass has and whose table has room: each is one whole write, in
 //! which the items that change are put one by one.
-ghost use Rattle.std.specs.Prelude.{◌≡◌, ℕ, ◌+◌, ◌<◌, ◌≤◌, List, false, true, cond, length, Some, slice_get, slice_set, slice_index_or, []};
+ghost use Rattle.std.specs.Prelude.{◌≡◌, ℕ, ◌+◌, ◌<◌, ◌≤◌, List, false, length, Some, slice_set, []};
 ghost use Rattle.std.specs.List.{insert, remove};
 ghost use Rattle.ft_model.specs.declared.call.Call.TheVariants as call;
 ghost use Rattle.ft_model.specs.declared.call.ListCall.{ListCall};
@@ -12,7 +12,7 @@ ghost use Rattle.ft_layout.specs.declared.slot.Stored.TheVariants.{Empty, Plain}
 ghost use Rattle.ft_layout.specs.Containers.{IsBlock};
 ghost use Rattle.ft_layout.specs.Words.{FitsStored, IsStored};
 ghost use Rattle.ft_trace.specs.declared.Act.TheVariants.{StartWrite};
-ghost use Rattle.ft_trace.specs.Acts.{has_committed, has_emptied, owes};
+ghost use Rattle.ft_trace.specs.Acts.{has_committed};
 ghost use Rattle.ft_trace.specs.Addresses.{class_of, slots};
 ghost use Rattle.ft_trace.specs.Holds.{held_words, known_state};
 ghost use Rattle.ft_trace.specs.Pictures.{item_field, root_in};
@@ -84,6 +84,7 @@ pub(crate) fn set_item(
 }
 
 /// Puts a value at a place, and each item from there on at the next one.
+#[inline(always)]
 pub(crate) fn shift_up(
     bank: &Bank,
     pass: &mut Pass,
@@ -120,6 +121,7 @@ pub(crate) fn shift_up(
 
 /// Adds to a list of that many items whose table has room, as the write of this call. Answers the number of the
 /// write.
+#[inline(always)]
 pub(crate) fn add_items(
     bank: &Bank,
     pass: &mut Pass,

@@ -23,7 +23,9 @@ use Rattle.ft_trace.specs.declared.Shape.{Shape}
 use Rattle.ft_trace.specs.Addresses.{container_count}
 use Rattle.ft_bank.specs.KeyHashes.{IsKeyIn}
 use Rattle.ft_engine.specs.Callers.{IsOfKindIn}
-use Rattle.ft_engine.specs.Asked.{AreOfKindIn, IsCallIn, key_of_dict, key_of_set}
+use Rattle.ft_dict.specs.DictMaking.{key_of_dict}
+use Rattle.ft_set.specs.SetMaking.{key_of_set}
+use Rattle.ft_engine.specs.Asked.{AreOfKindIn, IsCallIn}
 use Rattle.ft_model.specs.declared.script.Start.{Start}
 use Rattle.ft_model.specs.Landed.{is_landed_call}
 use Rattle.std.specs.Option.{option_map}

@@ -5,3 +5,5 @@ mod Popping
 -- two sets
 mod TwoSets
 mod Joins
+-- calls under their locks
+mod SetTries

@@ -1,4 +1,4 @@
-//! The first element of a set, and `pop`, which takes it out: under the lock, and as a try.
+//! The first element of a set, and `pop`, which takes it out, under the lock.
 ghost use Rattle.std.specs.Prelude.{◌≡◌, ◌<◌, option_map};
 ghost use Rattle.ft_model.specs.declared.call.Call.TheVariants as call;
 ghost use Rattle.ft_model.specs.declared.call.SetCall.TheVariants as set;
@@ -9,10 +9,7 @@ ghost use Rattle.ft_trace.specs.ContainerStates.{kind_in};
 ghost use Rattle.ft_bank.specs.Passes.{shape_of, view, IsPassOf};
 ghost use Rattle.ft_bank.specs.PassSections.{stack_of};
 ghost use Rattle.ft_bank.specs.TableNames.{IsTableIn};
-ghost use Rattle.ft_section.specs.declared.answers.Objects.TheVariants.{One};
-ghost use Rattle.ft_section.specs.Ready.{MayTry};
-ghost use Rattle.ft_section.specs.Trying.{SectionsAfter};
-ghost use Rattle.ft_search.specs.MadeCalls.{MadeAs, IsMadeOf};
+ghost use Rattle.ft_search.specs.MadeCalls.{MadeAs};
 ghost use Rattle.ft_search.specs.OneEntryWrites.{MayWriteEntries};
 ghost use Rattle.ft_reads.specs.Reads.{Reads};
 ghost use Rattle.ft_set.specs.Firsts.{IsFirstIn, IsFirstOf};
@@ -21,7 +18,7 @@ use ft_bank::{Bank, Pass, Table};
 use ft_layout::{block_word, used_entries_follow_a_set};
 use ft_model::{Call, Key, Raise, Reply, SetCall};
 use ft_search::{answer_made, delete_entry, table_named, written};
-use ft_section::{Got, Object, Objects, Stamp, Step, let_go, take_for};
+use ft_section::{Object, Stamp};
 use ft_whole_tables::{first_place, key_at};
 
 /// Which word of a block says how many entries were used, as a bank counts them.
@@ -113,30 +110,5 @@ pub fn pop_locked(bank: &Bank, pass: &mut Pass, s: Object) -> (Reply, Stamp)
             (said, written(number))
         }
         None => answer_made(bank, pass, &called, Reply::Raised(Raise::NoKey)),
-    }
-}
-
-/// `s.pop()`: the first element, which is taken out; a KeyError if the set is empty (Python manual, Set Types).
-///
-/// # Errors
-///
-/// `NotYet` where a step of the call found another pass with the lock of the set; the same call comes next. It never
-/// answers `Moved` or `NoMemory`.
-pub fn try_pop(bank: &Bank, pass: &mut Pass, s: Object) -> Step
-    requires may { MayTry bank.now pass.old (One s) }
-    requires container { s < container_count (shape_of bank.now) }
-    requires set { kind_in (shape_of bank.now).starts s ≡ kind.Set }
-    requires left { 0 < (view pass.old).left }
-    ensures may { MayTry bank.now pass.new (One s) }
-    ensures made { IsMadeOf (One s) (call.Set s set.Pop) (view pass.old) (view pass.new) result }
-    ensures sections { SectionsAfter bank.now (One s) pass.old pass.new result }
-{
-    match take_for(bank, pass, Objects::One(s)) {
-        Got::Have => {
-            let (reply, stamp) = pop_locked(bank, pass, s);
-            let_go(bank, pass);
-            Step::Done(reply, stamp)
-        }
-        Got::NotYet(container, owner) => Step::NotYet(container, owner),
     }
 }

@@ -1,4 +1,4 @@
-//! All elements of a set, copied under its lock and without it.
+//! All elements of a set, copied without its lock.
 ghost use Rattle.std.specs.Prelude.{◌≡◌, ◌<◌, length};
 ghost use Rattle.ft_model.specs.declared.call.Call.TheVariants as call;
 ghost use Rattle.ft_model.specs.declared.call.SetCall.TheVariants as set;
@@ -7,37 +7,14 @@ ghost use Rattle.ft_trace.specs.Addresses.{container_count};
 ghost use Rattle.ft_trace.specs.ContainerStates.{kind_in};
 ghost use Rattle.ft_bank.specs.Passes.{shape_of, view, IsPassOf};
 ghost use Rattle.ft_bank.specs.PassSections.{stack_of};
-ghost use Rattle.ft_section.specs.declared.answers.Objects.TheVariants.{One};
-ghost use Rattle.ft_section.specs.Ready.{MayTry};
-ghost use Rattle.ft_section.specs.Trying.{SectionsAfter};
 ghost use Rattle.ft_whole_tables.specs.ShownContents.{IsOfSet};
-ghost use Rattle.ft_reads.specs.Copies.{IsCopyOf};
 ghost use Rattle.ft_reads.specs.Glances.{IsCopyGlanceOf};
 
 use ft_bank::{Bank, Pass};
 use ft_keys::Way;
-use ft_section::{Look, Object, Step};
-use ft_whole_tables::{look_all_items, try_all_items};
+use ft_section::{Look, Object};
+use ft_whole_tables::look_all_items;
 use std::alloc::Global;
-
-/// All elements under the lock (Python manual, Set Types).
-///
-/// # Errors
-///
-/// `NotYet` where a step of the call found another pass with the lock of the set; the same call comes next.
-/// `NoMemory` where memory for the copy ran out: the set is as it was, and the lock is let go. It never answers
-/// `Moved`.
-pub fn try_items(bank: &Bank, pass: &mut Pass, alloc: Global, s: Object) -> Step
-    requires may { MayTry bank.now pass.old (One s) }
-    requires container { s < container_count (shape_of bank.now) }
-    requires set { kind_in (shape_of bank.now).starts s ≡ kind.Set }
-    requires left { 0 < (view pass.old).left }
-    ensures may { MayTry bank.now pass.new (One s) }
-    ensures made { IsCopyOf (One s) (call.Set s set.Items) (view pass.old) (view pass.new) result }
-    ensures sections { SectionsAfter bank.now (One s) pass.old pass.new result }
-{
-    try_all_items(bank, pass, alloc, Way::Set, s)
-}
 
 /// All elements without the lock (Python manual, Set Types).
 ///

@@ -1,5 +1,4 @@
-//! How many elements a set has: read without the lock, between two loads of the set's version, and under the
-//! lock.
+//! How many elements a set has: read without the lock, between two loads of the set's version.
 ghost use Rattle.std.specs.Prelude.{◌≡◌, ◌<◌};
 ghost use Rattle.ft_model.specs.declared.call.Call.TheVariants as call;
 ghost use Rattle.ft_model.specs.declared.call.SetCall.TheVariants as set;
@@ -8,15 +7,11 @@ ghost use Rattle.ft_trace.specs.Addresses.{container_count};
 ghost use Rattle.ft_trace.specs.ContainerStates.{kind_in};
 ghost use Rattle.ft_bank.specs.Passes.{shape_of, view, IsPassOf};
 ghost use Rattle.ft_bank.specs.PassSections.{stack_of};
-ghost use Rattle.ft_section.specs.declared.answers.Objects.TheVariants.{One};
-ghost use Rattle.ft_section.specs.Ready.{MayTry};
-ghost use Rattle.ft_section.specs.Trying.{SectionsAfter};
 ghost use Rattle.ft_search.specs.Lengths.{IsGlanceOf};
-ghost use Rattle.ft_search.specs.Tries.{IsReadOf};
 
 use ft_bank::{Bank, Pass};
 use ft_model::{Call, SetCall};
-use ft_section::{Look, Object, Step};
+use ft_section::{Look, Object};
 
 /// `len(s)` without the lock (Python manual, Set Types).
 ///
@@ -38,26 +33,4 @@ pub fn look_len(bank: &Bank, pass: &mut Pass, s: Object) -> Look
         call: SetCall::Len,
     };
     ft_search::look_len(bank, pass, s, &call)
-}
-
-/// `len(s)` under the lock (Python manual, Set Types).
-///
-/// # Errors
-///
-/// `NotYet` where a step of the call found another pass with the lock of the set; the same call comes next. It
-/// never answers `Moved` or `NoMemory`.
-pub fn try_len(bank: &Bank, pass: &mut Pass, s: Object) -> Step
-    requires may { MayTry bank.now pass.old (One s) }
-    requires container { s < container_count (shape_of bank.now) }
-    requires set { kind_in (shape_of bank.now).starts s ≡ kind.Set }
-    requires left { 0 < (view pass.old).left }
-    ensures may { MayTry bank.now pass.new (One s) }
-    ensures sections { SectionsAfter bank.now (One s) pass.old pass.new result }
-    ensures read { IsReadOf s (call.Set s set.Len) (view pass.old) (view pass.new) result }
-{
-    let call = Call::Set {
-        container: s,
-        call: SetCall::Len,
-    };
-    ft_search::try_len(bank, pass, s, &call)
 }

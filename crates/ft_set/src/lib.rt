@@ -13,18 +13,21 @@ mod firsts;
 mod items;
 mod lens;
 mod looks;
+mod making;
 mod merges;
-mod pops;
 mod tries;
 
-pub use crate::adds::{add_by, try_add};
-pub use crate::clears::{clear_by, try_clear};
-pub use crate::comparisons::{look_eq, try_disjoint, try_eq, try_subset};
+pub use crate::adds::add_by;
+pub use crate::clears::clear_by;
+pub use crate::comparisons::look_eq;
 pub use crate::deletes::{discard_locked, remove_locked};
-pub use crate::firsts::{pop_locked, try_pop};
-pub use crate::items::{look_items, try_items};
-pub use crate::lens::{look_len, try_len};
+pub use crate::firsts::pop_locked;
+pub use crate::items::look_items;
+pub use crate::lens::look_len;
 pub use crate::looks::look_has;
-pub use crate::merges::{or_by, try_and, try_or, try_sub, try_xor, xor_by};
-pub use crate::pops::{try_discard, try_remove};
-pub use crate::tries::try_has;
+pub use crate::making::SetMaker;
+pub use crate::merges::{or_by, xor_by};
+pub use crate::tries::{
+    try_add, try_and, try_clear, try_discard, try_disjoint, try_eq, try_has, try_items, try_len,
+    try_or, try_pop, try_remove, try_sub, try_subset, try_xor,
+};

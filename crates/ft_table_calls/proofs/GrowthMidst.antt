@@ -1,13 +1,13 @@
 -- A pass is in the midst of its call still once the call has made its write or its answer, whether it took a table or not.
-use Rattle.std.proofs.Common.{◌≡◌, ◌≢◌, ◌⊎◌, ℕ, zero, suc, ◌<◌, le_refl, Bool, true, false, cond, eqb, List, [], ◌∷◌, Option, Some, None, refl, sym, ap, ◌∙◌, subst, inl, inr, ⊎_elim, arith}
+use Rattle.std.proofs.Common.{◌≡◌, ◌≢◌, ◌⊎◌, ℕ, zero, suc, ◌<◌, le_refl, Bool, true, false, cond, eqb, Option, Some, None, refl, sym, ap, ◌∙◌, subst, inl, inr, ⊎_elim, arith}
 use mathlib.Core.Logic.{dite}
 use native.Mathlib.Decide.{ℕ_discrete}
 use Rattle.ft_model.specs.declared.call.Call.{Call}
 use Rattle.ft_model.specs.declared.reply.Reply.{Reply}
-use Rattle.ft_trace.specs.declared.Act.TheVariants.{PutHeader, Retire, PutRoot}
+use Rattle.ft_trace.specs.declared.Act.TheVariants.{PutRoot}
 use Rattle.ft_trace.specs.declared.Shape.{Shape}
 use Rattle.ft_trace.specs.declared.View.{View}
-use Rattle.ft_trace.specs.Acts.{has_lock, is_writing, stage, stage_next, owes, used, flight, view_after, seen_writes}
+use Rattle.ft_trace.specs.Acts.{has_lock, is_writing, stage, stage_next, owes, used, flight, seen_writes}
 use Rattle.ft_trace.specs.Addresses.{container_count}
 use Rattle.ft_trace.specs.Holds.{held_words, known_state}
 use Rattle.ft_trace.specs.Pictures.{ContainerWords, root_in, Represents}
@@ -25,13 +25,11 @@ use Rattle.ft_bank.specs.TableNames.{table_id}
 use Rattle.ft_bank.specs.Whole.{OnlyLoaded, SamePass, Wrote, hand_after}
 use Rattle.ft_bank.proofs.KnownAfterWrites.{same_pass, pass_then}
 use Rattle.ft_section.specs.Ready.{IsStill, IsMaking}
-use Rattle.ft_section.specs.Trying.{HasHadLocks, SectionsAfter}
 use Rattle.ft_section.proofs.MidstOfCall.{making_stays}
 use Rattle.ft_search.proofs.ReadMidst.{LeavesSections, still_loaded, still_read, sections_read}
 use Rattle.ft_table_calls.specs.declared.adding.Added.{Added}
 use Rattle.ft_table_calls.specs.declared.adding.Added.TheVariants as added
-use Rattle.ft_section.specs.declared.answers.Objects.{Objects}
-use Rattle.ft_table_calls.specs.Adding.{TriedTaking, Retires, WroteInPlace, Grew, GaveUp, IsAdded, IsTryOf, UnderLocks, step_after}
+use Rattle.ft_table_calls.specs.Adding.{TriedTaking, Retires, WroteInPlace, Grew, GaveUp, IsAdded}
 
 -- in no hand, or retired
 abbrev IsOut : ℕ → Type 0
@@ -278,19 +276,3 @@ making_given b p q m pass stack u loaded called said n given =
     let still = still_loaded (view p) u loaded m.inside.1.still in
     let same = given_same called said n u (view q) still given in
     making_stays b p q m pass stack (same.shape ∙ l.shape) (λ o. same.locks o ∙ l.locks o) (same.begun ∙ l.begun) (given_still called said n u (view q) still given)
-
--- ---- the try of a call
-
--- what came of it under the locks
-pub tried_as : (objects : Objects) (F : View → View → Added → Type 0) (said : Reply) (v w : View) (what : Added) → UnderLocks objects (λ b a. F b a what) v w → IsTryOf objects F said v w (step_after what said)
-tried_as objects F said v w (added.Made stamp) under = (added.Made stamp, refl, under)
-tried_as objects F said v w (added.NoTable class stamp) under = (added.NoTable class stamp, refl, under)
-tried_as objects F said v w (added.Over stamp) under = (added.Over stamp, refl, under)
-tried_as objects F said v w (added.Moved a b) under = (added.Moved a b, refl, under)
-
--- and its sections are as they are after a call that let go of its locks
-pub gone_as : (b : Bank) (objects : Objects) (p q : Pass) (said : Reply) (what : Added) → HasHadLocks b objects p q → SectionsAfter b objects p q (step_after what said)
-gone_as b objects p q said (added.Made stamp) gone = gone
-gone_as b objects p q said (added.NoTable class stamp) gone = gone
-gone_as b objects p q said (added.Over stamp) gone = gone
-gone_as b objects p q said (added.Moved first second) gone = gone

@@ -2,3 +2,4 @@ pub mod MemoryErrors
 pub mod Cursors
 pub mod Rooting
 pub mod GrowthMidst
+pub mod TriedCalls

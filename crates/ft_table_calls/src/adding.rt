@@ -1,5 +1,5 @@
 //! What a call comes to under its locks that may take a table, and the MemoryErrors that it answers.
-ghost use Rattle.std.specs.Prelude.{◌≡◌, ℕ, ◌<◌, List, ◌∷◌, true, false, Some};
+ghost use Rattle.std.specs.Prelude.{◌≡◌, ◌<◌, List, ◌∷◌, true, false, Some};
 ghost use Rattle.ft_model.specs.TableUses.{StoredWorld, CanLackMemory, takes_in, would_pass};
 ghost use Rattle.ft_model.specs.declared.reply.Raise.TheVariants as raise;
 ghost use Rattle.ft_model.specs.declared.reply.Reply.TheVariants as reply;
@@ -10,12 +10,11 @@ ghost use Rattle.ft_bank.specs.Answered.{Answered};
 ghost use Rattle.ft_bank.specs.Passes.{view, IsPassOf};
 ghost use Rattle.ft_bank.specs.PassSections.{stack_of};
 ghost use Rattle.ft_bank.specs.WriteSteps.{MayHave};
-ghost use Rattle.ft_table_calls.specs.Adding.{step_after};
 
 use ft_bank::{Bank, Pass};
 use ft_model::{Call, Raise, Reply};
 use ft_search::answer_held;
-use ft_section::{Stamp, Step};
+use ft_section::Stamp;
 
 /// What a call comes to under its locks that may take a table.
 #[derive(Clone, Copy, Debug, PartialEq, Eq)]
@@ -29,19 +28,6 @@ pub enum Added {
     /// Other passes took or gave tables of the class meanwhile: a word was the first number and then the
     /// second. The same call comes next.
     Moved(u64, u64),
-}
-
-/// What the try of a call answers that came to this under its locks, and replies so where it is made.
-#[inline(always)]
-pub fn step_of(added: Added, said: Reply) -> Step
-    ensures { result ≡ step_after added said }
-{
-    match added {
-        Added::Made(stamp) => Step::Done(said, stamp),
-        Added::NoTable(class, stamp) => Step::Done(Reply::Raised(Raise::Memory(class)), stamp),
-        Added::Over(stamp) => Step::Done(Reply::Raised(Raise::Over), stamp),
-        Added::Moved(first, second) => Step::Moved(first, second),
-    }
 }
 
 /// Raises a MemoryError of a class whose count was found 0 just now, in the place of a call that would take a

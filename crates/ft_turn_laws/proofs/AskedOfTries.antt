@@ -16,7 +16,8 @@ use Rattle.ft_section.specs.declared.answers.Objects.TheVariants.{One, Two}
 use Rattle.ft_section.specs.LockTakings.{lower_of, upper_of}
 use Rattle.ft_engine.specs.Callers.{AreOver}
 use Rattle.ft_engine.specs.Contentions.{may_look}
-use Rattle.ft_engine.specs.Flights.{objects_by, objects_of}
+use Rattle.ft_engine.specs.Flights.{objects_of}
+use Rattle.ft_table_calls.specs.TriesUnderLocks.{objects_by}
 use Rattle.ft_engine.specs.Asked.{IsCallIn}
 use Rattle.ft_turns.specs.Orders.{cursor_containers, locks_taken, lower_first}
 use Rattle.ft_turn_laws.specs.Placings.{pair_of}

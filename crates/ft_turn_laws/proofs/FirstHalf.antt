@@ -22,7 +22,8 @@ use Rattle.ft_section.specs.LockTakings.{IsOwnFor, lower_of, upper_of}
 use Rattle.ft_engine.specs.declared.caller.Flight.{Flight}
 use Rattle.ft_engine.specs.declared.caller.Flight.TheVariants as flight
 use Rattle.ft_engine.specs.Contentions.{may_look}
-use Rattle.ft_engine.specs.Flights.{IsFlightAnswered, IsIn, AllowsCall, is_begin, objects_by, objects_of}
+use Rattle.ft_engine.specs.Flights.{IsFlightAnswered, IsIn, AllowsCall, is_begin, objects_of}
+use Rattle.ft_table_calls.specs.TriesUnderLocks.{objects_by}
 use Rattle.ft_engine.specs.Stacks.{Closes, Opens, StackAfter}
 use Rattle.ft_turns.specs.Orders.{Locking, Machine, ThreadState, answered_machine, answered_thread, cursor_containers, lower_first, next_call, sections_after, take_locks, thread_at, with_locking}
 use Rattle.ft_turns.proofs.MachineSteps.{wanted}

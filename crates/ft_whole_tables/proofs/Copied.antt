@@ -30,7 +30,6 @@ use Rattle.ft_search.specs.MadeCalls.{IsShownBy}
 use Rattle.ft_search.specs.OneEntryWrites.{MayWriteEntries}
 use Rattle.ft_search.specs.Rounds.{kind_by}
 use Rattle.ft_search.proofs.Lengths.{IsPlain}
-use Rattle.ft_search.proofs.ReadMidst.{LeavesSections}
 use Rattle.ft_bank.specs.WriteSteps.{MayHave}
 use Rattle.ft_bank.specs.declared.pass.Pass.{Pass}
 use Rattle.ft_reads.specs.Copies.{AreCopied, HasSome, TakesMemory}
@@ -103,10 +102,6 @@ items_plain way.Set c said all = subst (IsPlain (call.Set c set.Items)) (sym all
 pub not_kept : (way : Way) (said : Reply) → IsItemsReply way said → said ≢ reply.Kept
 not_kept way.Dict said all kept = let e = sym all.1 ∙ kept in absurd (cc)
 not_kept way.Set said all kept = let e = sym all.1 ∙ kept in absurd (cc)
-
-pub items_sections : (way : Way) (c : ℕ) → LeavesSections (items_call way c)
-items_sections way.Dict c = λ n l sections. refl
-items_sections way.Set c = λ n l sections. refl
 
 -- ---- under the lock
 

@@ -7,10 +7,7 @@ ghost use Rattle.ft_trace.specs.Addresses.{container_count};
 ghost use Rattle.ft_trace.specs.ContainerStates.{kind_in};
 ghost use Rattle.ft_bank.specs.Passes.{shape_of, view, IsPassOf};
 ghost use Rattle.ft_bank.specs.PassSections.{stack_of};
-ghost use Rattle.ft_section.specs.declared.answers.Objects.TheVariants.{Two};
-ghost use Rattle.ft_section.specs.Ready.{MayTry};
-ghost use Rattle.ft_section.specs.Trying.{SectionsAfter};
-ghost use Rattle.ft_search.specs.MadeCalls.{MadeAs, IsMadeOf};
+ghost use Rattle.ft_search.specs.MadeCalls.{MadeAs};
 ghost use Rattle.ft_search.specs.OneEntryWrites.{MayWriteEntries};
 ghost use Rattle.ft_reads.specs.Glances.{SawBoth};
 ghost use Rattle.ft_reads.specs.Pairs.{IsGlanceOfBoth, ReadsBoth};
@@ -21,7 +18,7 @@ use ft_bank::{Bank, Pass};
 use ft_model::{Call, DictCall, Reply, SetCall};
 use ft_reads::Window;
 use ft_search::{answer_look, answer_made};
-use ft_section::{Got, Look, Object, Objects, Stamp, Step, let_go, take_for};
+use ft_section::{Look, Object, Stamp};
 
 /// A comparison of two dicts or two sets.
 #[derive(Clone, Copy, Debug, PartialEq, Eq)]
@@ -82,7 +79,7 @@ fn holds_between(bank: &Bank, pass: &mut Pass, how: Comparison, c: Object, other
 }
 
 /// A comparison, by a pass that has both locks.
-fn compare_locked(
+pub fn compare_locked(
     bank: &Bank,
     pass: &mut Pass,
     how: Comparison,
@@ -101,41 +98,6 @@ fn compare_locked(
     let is_so = holds_between(bank, pass, how, c, other);
     let called = how.call_of(c, other);
     answer_made(bank, pass, &called, Reply::Truth(is_so))
-}
-
-/// A comparison under the locks of both containers, the lower one taken first; a container named twice counts once
-/// (Python manual, Mapping Types, Set Types).
-///
-/// # Errors
-///
-/// `NotYet` where a step of the call found another pass with the lock of one of the containers; the same call comes
-/// next. It never answers `Moved` or `NoMemory`.
-#[inline]
-pub fn try_comparison(
-    bank: &Bank,
-    pass: &mut Pass,
-    how: Comparison,
-    c: Object,
-    other: Object,
-) -> Step
-    requires may { MayTry bank.now pass.old (Two c other) }
-    requires container { c < container_count (shape_of bank.now) }
-    requires other { other < container_count (shape_of bank.now) }
-    requires kind { kind_in (shape_of bank.now).starts c ≡ kind_compared how }
-    requires other_kind { kind_in (shape_of bank.now).starts other ≡ kind_compared how }
-    requires left { 0 < (view pass.old).left }
-    ensures may { MayTry bank.now pass.new (Two c other) }
-    ensures made { IsMadeOf (Two c other) (compared how c other) (view pass.old) (view pass.new) result }
-    ensures sections { SectionsAfter bank.now (Two c other) pass.old pass.new result }
-{
-    match take_for(bank, pass, Objects::Two(c, other)) {
-        Got::Have => {
-            let (reply, stamp) = compare_locked(bank, pass, how, c, other);
-            let_go(bank, pass);
-            Step::Done(reply, stamp)
-        }
-        Got::NotYet(container, owner) => Step::NotYet(container, owner),
-    }
 }
 
 /// Compares two containers, and loads the counter, between two loads of the version of each.

@@ -4,12 +4,9 @@ ghost use Rattle.ft_trace.specs.Addresses.{container_count};
 ghost use Rattle.ft_trace.specs.ContainerStates.{kind_in};
 ghost use Rattle.ft_bank.specs.Passes.{shape_of, view, IsPassOf};
 ghost use Rattle.ft_bank.specs.PassSections.{stack_of};
-ghost use Rattle.ft_section.specs.declared.answers.Objects.TheVariants.{One};
-ghost use Rattle.ft_section.specs.Ready.{MayTry};
-ghost use Rattle.ft_section.specs.Trying.{SectionsAfter};
 ghost use Rattle.ft_search.specs.OneEntryWrites.{MayWriteEntries};
 ghost use Rattle.ft_search.specs.Rounds.{kind_by};
-ghost use Rattle.ft_reads.specs.Copies.{IsCopied, IsCopyOf};
+ghost use Rattle.ft_reads.specs.Copies.{IsCopied};
 ghost use Rattle.ft_reads.specs.Glances.{Saw, IsCopyGlanceOf};
 ghost use Rattle.ft_whole_tables.specs.Items.{items_call, HasEntry, IsAllIn, IsItemsReply};
 
@@ -19,7 +16,7 @@ use ft_keys::Way;
 use ft_model::{Call, DictCall, Reply, SetCall};
 use ft_reads::Window;
 use ft_search::{answer_look, answer_made};
-use ft_section::{Got, Look, Object, Objects, Stamp, Step, let_go, take_for};
+use ft_section::{Look, Object, Stamp};
 use std::alloc::{AllocError, Global};
 
 /// The call that copies all that a dict or a set has.
@@ -40,7 +37,7 @@ fn copying_call(way: Way, container: Object) -> Call
 
 /// All that a dict or a set has, by a pass that has its lock. An `Err` says that memory ran out; the pass only loaded
 /// words then.
-fn items_locked(
+pub fn items_locked(
     bank: &Bank,
     pass: &mut Pass,
     alloc: Global,
@@ -57,35 +54,6 @@ fn items_locked(
     let said = copy_all(bank, pass, alloc, way, c)?;
     let called = copying_call(way, c);
     Ok(answer_made(bank, pass, &called, said))
-}
-
-/// All pairs of a dict or all elements of a set under its lock (Python manual, Mapping Types, Set Types).
-///
-/// # Errors
-///
-/// `NotYet` where a step of the call found another pass with the lock of the container; the same call comes next.
-/// `NoMemory` where memory for the copy ran out: the container is as it was, and the lock is let go. It never answers
-/// `Moved`.
-pub fn try_all_items(bank: &Bank, pass: &mut Pass, alloc: Global, way: Way, c: Object) -> Step
-    requires may { MayTry bank.now pass.old (One c) }
-    requires container { c < container_count (shape_of bank.now) }
-    requires kind { kind_in (shape_of bank.now).starts c ≡ kind_by way }
-    requires left { 0 < (view pass.old).left }
-    ensures may { MayTry bank.now pass.new (One c) }
-    ensures made { IsCopyOf (One c) (items_call way c) (view pass.old) (view pass.new) result }
-    ensures sections { SectionsAfter bank.now (One c) pass.old pass.new result }
-{
-    match take_for(bank, pass, Objects::One(c)) {
-        Got::Have => {
-            let copied = items_locked(bank, pass, alloc, way, c);
-            let_go(bank, pass);
-            match copied {
-                Ok((reply, stamp)) => Step::Done(reply, stamp),
-                Err(_) => Step::NoMemory,
-            }
-        }
-        Got::NotYet(container, owner) => Step::NotYet(container, owner),
-    }
 }
 
 /// Copies all that a dict or a set has, and loads the counter, between two loads of its version.

@@ -18,11 +18,11 @@ mod places;
 mod values;
 
 pub use crate::clearing::{clear_keyed, root_table};
-pub use crate::clears::{clear_as, try_clear_as};
-pub use crate::comparisons::{Comparison, look_comparison, try_comparison};
+pub use crate::clears::clear_as;
+pub use crate::comparisons::{Comparison, compare_locked, look_comparison};
 pub use crate::entries::{hash_at, key_at, value_at};
 pub use crate::finding::find_key;
-pub use crate::items::{look_all_items, try_all_items};
-pub use crate::membership::try_has_key;
+pub use crate::items::{items_locked, look_all_items};
+pub use crate::membership::has_locked;
 pub use crate::places::{first_place, last_place};
 pub use crate::values::value_of;

@@ -9,18 +9,14 @@ ghost use Rattle.ft_bank.specs.Answered.{Answered};
 ghost use Rattle.ft_bank.specs.KeyHashes.{IsKeyIn};
 ghost use Rattle.ft_bank.specs.Passes.{shape_of, view, IsPassOf};
 ghost use Rattle.ft_bank.specs.PassSections.{stack_of};
-ghost use Rattle.ft_section.specs.declared.answers.Objects.TheVariants.{One};
-ghost use Rattle.ft_section.specs.Ready.{MayTry};
-ghost use Rattle.ft_section.specs.Trying.{SectionsAfter};
 ghost use Rattle.ft_search.specs.Rounds.{kind_by};
-ghost use Rattle.ft_search.specs.Tries.{IsReadOf};
 ghost use Rattle.ft_whole_tables.specs.Membership.{has_call};
 
 use ft_bank::{Bank, Pass};
 use ft_keys::Way;
 use ft_model::{Call, DictCall, Key, Reply, SetCall};
 use ft_search::{answer_held, read_key};
-use ft_section::{Got, Object, Objects, Stamp, Step, let_go, take_for};
+use ft_section::{Object, Stamp};
 
 /// The call that asks whether a key is in a dict or a set.
 fn asking_call(way: Way, container: Object, key: Key) -> Call
@@ -41,7 +37,7 @@ fn asking_call(way: Way, container: Object, key: Key) -> Call
 /// `k in d` or `k in s`, by a pass with the lock (Python manual, Mapping Types, Set Types). The counter is loaded while
 /// it has the lock.
 #[inline]
-fn has_locked(bank: &Bank, pass: &mut Pass, way: Way, c: Object, key: Key) -> (Reply, Stamp)
+pub fn has_locked(bank: &Bank, pass: &mut Pass, way: Way, c: Object, key: Key) -> (Reply, Stamp)
     requires pass { IsPassOf bank.now pass.old }
     requires container { c < container_count (shape_of bank.now) }
     requires kind { kind_in (shape_of bank.now).starts c ≡ kind_by way }
@@ -57,31 +53,4 @@ fn has_locked(bank: &Bank, pass: &mut Pass, way: Way, c: Object, key: Key) -> (R
     let found = read_key(bank, pass, c, way, key);
     let called = asking_call(way, c, key);
     answer_held(bank, pass, &called, Reply::Truth(found.is_some()))
-}
-
-/// `k in d` or `k in s` under the lock (Python manual, Mapping Types, Set Types).
-///
-/// # Errors
-///
-/// `NotYet` where a step of the call found another pass with the lock of the container; the same call comes next. It
-/// never answers `Moved` or `NoMemory`.
-#[inline]
-pub fn try_has_key(bank: &Bank, pass: &mut Pass, way: Way, c: Object, key: Key) -> Step
-    requires may { MayTry bank.now pass.old (One c) }
-    requires container { c < container_count (shape_of bank.now) }
-    requires kind { kind_in (shape_of bank.now).starts c ≡ kind_by way }
-    requires key { IsKeyIn (shape_of bank.now) key }
-    requires left { 0 < (view pass.old).left }
-    ensures may { MayTry bank.now pass.new (One c) }
-    ensures sections { SectionsAfter bank.now (One c) pass.old pass.new result }
-    ensures read { IsReadOf c (has_call way c key) (view pass.old) (view pass.new) result }
-{
-    match take_for(bank, pass, Objects::One(c)) {
-        Got::Have => {
-            let (reply, stamp) = has_locked(bank, pass, way, c, key);
-            let_go(bank, pass);
-            Step::Done(reply, stamp)
-        }
-        Got::NotYet(container, owner) => Step::NotYet(container, owner),
-    }
 }

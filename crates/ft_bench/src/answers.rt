@@ -25,8 +25,9 @@ fn look(engine: &Engine, alloc: Global, caller: &mut Caller, call: &Call) -> Opt
     }
 }
 
-/// What a call answers; nothing where it may not be made, or memory ran out.
-pub(crate) fn answer<R: Wait>(
+/// What a call answers that is known where it is made; nothing where it may not be made, or memory ran out.
+#[inline(always)]
+pub(crate) fn answer_known<R: Wait>(
     rt: &R,
     engine: &Engine,
     alloc: Global,
@@ -46,6 +47,21 @@ pub(crate) fn answer<R: Wait>(
             None
         }
     }
+}
+
+/// What any call answers, the same.
+#[inline(never)]
+pub(crate) fn answer<R: Wait>(
+    rt: &R,
+    engine: &Engine,
+    alloc: Global,
+    caller: &mut Caller,
+    call: &Call,
+) -> Option<Reply>
+    requires { IsReadyCaller engine.now caller.old }
+    ensures { IsReadyCaller engine.now caller.new }
+{
+    answer_known(rt, engine, alloc, caller, call)
 }
 
 /// What a call that reads answers, by a look where that gives an answer; nothing where it may not be made, or memory

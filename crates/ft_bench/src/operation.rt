@@ -24,27 +24,20 @@ pub enum Operation {
     Has(u32),
 }
 
-impl Operation {
-    /// Whether it reads alone.
-    pub(crate) fn is_read(self) -> bool {
-        matches!(
-            self,
-            Operation::Get(_) | Operation::Item(_) | Operation::Has(_)
-        )
-    }
-}
-
 /// The value that is stored at a key, or as the item at an index: its low ten bits are the key.
+#[inline(always)]
 fn value_of(key: u32, serial: u32) -> Value {
     Value::Int(i64::from(serial) * 1024 + i64::from(key))
 }
 
 /// The integer as a key.
+#[inline(always)]
 fn key_of(key: u32) -> Key {
     Key::Int(i64::from(key))
 }
 
 /// The call of an operation; a value is made of the serial.
+#[inline(always)]
 pub(crate) fn call_of(operation: Operation, serial: u32) -> Call {
     match operation {
         Operation::Get(key) => on_dict(DictCall::Get { key: key_of(key) }),
@@ -65,6 +58,7 @@ pub(crate) fn call_of(operation: Operation, serial: u32) -> Call {
 }
 
 /// A call on the dict.
+#[inline(always)]
 pub(crate) fn on_dict(call: DictCall) -> Call {
     Call::Dict {
         container: SHARED,
@@ -73,6 +67,7 @@ pub(crate) fn on_dict(call: DictCall) -> Call {
 }
 
 /// A call on the list.
+#[inline(always)]
 pub(crate) fn on_list(call: ListCall) -> Call {
     Call::List {
         container: SHARED,
@@ -81,6 +76,7 @@ pub(crate) fn on_list(call: ListCall) -> Call {
 }
 
 /// A call on the set.
+#[inline(always)]
 pub(crate) fn on_set(call: SetCall) -> Call {
     Call::Set {
         container: SHARED,

@@ -2,7 +2,7 @@
 ghost use Rattle.ft_bench.specs.Threads.{IsReadyCaller};
 ghost use Rattle.ft_engine.specs.Callers.{IsFreeCaller};
 
-use crate::answers::answer;
+use crate::answers::{answer, answer_known};
 use crate::course::Course;
 use crate::operation::Operation;
 use crate::pairs::{fill, watch};
@@ -37,22 +37,17 @@ pub(crate) fn since<R: Clock>(rt: &R, start: u64) -> u64 {
     end.saturating_sub(start)
 }
 
-/// Looks where the operation reads, and counts it. Says whether it was made so.
+/// Looks, and counts the operation. Says whether it was made so.
 #[inline(always)]
-fn look(
-    engine: &Engine,
-    alloc: Global,
-    worker: &mut Worker,
-    operation: Operation,
-    call: &Call,
-) -> bool
+fn look(engine: &Engine, alloc: Global, worker: &mut Worker, operation: Operation) -> bool
     requires { IsReadyCaller engine.now worker.old.caller }
     ensures { IsReadyCaller engine.now worker.new.caller }
 {
-    if !operation.is_read() || !engine.may_look(&worker.caller, call) {
+    let call = worker.tally.call_of(operation);
+    if !engine.may_look(&worker.caller, &call) {
         return false;
     }
-    match engine.look(alloc, &mut worker.caller, call) {
+    match engine.look(alloc, &mut worker.caller, &call) {
         Look::Done(reply, _) => {
             worker.tally.count_reply(operation, &reply);
             true
@@ -62,6 +57,92 @@ fn look(
             engine.abandon(&mut worker.caller);
             false
         }
+    }
+}
+
+/// Makes one operation by a call, and counts it.
+#[inline(always)]
+fn call<R: Wait>(rt: &R, engine: &Engine, alloc: Global, worker: &mut Worker, operation: Operation)
+    requires { IsReadyCaller engine.now worker.old.caller }
+    ensures { IsReadyCaller engine.now worker.new.caller }
+{
+    let call = worker.tally.call_of(operation);
+    let reply = answer_known(rt, engine, alloc, &mut worker.caller, &call);
+    worker.tally.count(operation, &reply);
+}
+
+/// Sets the value at a key.
+#[inline(never)]
+fn set<R: Wait>(rt: &R, engine: &Engine, alloc: Global, worker: &mut Worker, key: u32)
+    requires { IsReadyCaller engine.now worker.old.caller }
+    ensures { IsReadyCaller engine.now worker.new.caller }
+{
+    call(rt, engine, alloc, worker, Operation::Set(key));
+}
+
+/// Appends an item.
+#[inline(never)]
+fn append<R: Wait>(rt: &R, engine: &Engine, alloc: Global, worker: &mut Worker, key: u32)
+    requires { IsReadyCaller engine.now worker.old.caller }
+    ensures { IsReadyCaller engine.now worker.new.caller }
+{
+    call(rt, engine, alloc, worker, Operation::Append(key));
+}
+
+/// Adds an element.
+#[inline(never)]
+fn add<R: Wait>(rt: &R, engine: &Engine, alloc: Global, worker: &mut Worker, key: u32)
+    requires { IsReadyCaller engine.now worker.old.caller }
+    ensures { IsReadyCaller engine.now worker.new.caller }
+{
+    call(rt, engine, alloc, worker, Operation::Add(key));
+}
+
+/// Discards an element.
+#[inline(never)]
+fn discard<R: Wait>(rt: &R, engine: &Engine, alloc: Global, worker: &mut Worker, key: u32)
+    requires { IsReadyCaller engine.now worker.old.caller }
+    ensures { IsReadyCaller engine.now worker.new.caller }
+{
+    call(rt, engine, alloc, worker, Operation::Discard(key));
+}
+
+/// Makes one operation by a call. Each kind of writes has a function of its own, in which its call is known.
+#[inline(never)]
+fn make_called<R: Wait>(
+    rt: &R,
+    engine: &Engine,
+    alloc: Global,
+    worker: &mut Worker,
+    operation: Operation,
+)
+    requires { IsReadyCaller engine.now worker.old.caller }
+    ensures { IsReadyCaller engine.now worker.new.caller }
+{
+    match operation {
+        Operation::Set(key) => set(rt, engine, alloc, worker, key),
+        Operation::Append(key) => append(rt, engine, alloc, worker, key),
+        Operation::Add(key) => add(rt, engine, alloc, worker, key),
+        Operation::Discard(key) => discard(rt, engine, alloc, worker, key),
+        Operation::Get(_) | Operation::Item(_) | Operation::Has(_) => {
+            call(rt, engine, alloc, worker, operation)
+        }
+    }
+}
+
+/// Looks where the operation reads, with an arm for each kind, in which the call is known. Says whether it was made
+/// so.
+#[inline(always)]
+fn make_looked(engine: &Engine, alloc: Global, worker: &mut Worker, operation: Operation) -> bool
+    requires { IsReadyCaller engine.now worker.old.caller }
+    ensures { IsReadyCaller engine.now worker.new.caller }
+{
+    match operation {
+        Operation::Get(key) => look(engine, alloc, worker, Operation::Get(key)),
+        Operation::Item(index) => look(engine, alloc, worker, Operation::Item(index)),
+        Operation::Has(key) => look(engine, alloc, worker, Operation::Has(key)),
+        Operation::Set(_) | Operation::Append(_) => false,
+        Operation::Add(_) | Operation::Discard(_) => false,
     }
 }
 
@@ -77,12 +158,9 @@ pub(crate) fn make<R: Wait>(
     requires { IsReadyCaller engine.now worker.old.caller }
     ensures { IsReadyCaller engine.now worker.new.caller }
 {
-    let call = worker.tally.call_of(operation);
-    if look(engine, alloc, worker, operation, &call) {
-        return;
+    if !make_looked(engine, alloc, worker, operation) {
+        make_called(rt, engine, alloc, worker, operation);
     }
-    let reply = answer(rt, engine, alloc, &mut worker.caller, &call);
-    worker.tally.count(operation, &reply);
 }
 
 /// Makes the next operation. Says whether it appended an item.

@@ -36,7 +36,8 @@ use Rattle.ft_bank_history.proofs.RightMarks.{if_some, or_more}
 use Rattle.ft_engine.specs.declared.caller.Flight.{Flight}
 use Rattle.ft_engine.specs.declared.caller.Flight.TheVariants as flight
 use Rattle.ft_engine.specs.Answering.{HasWalked, IsLockedFor}
-use Rattle.ft_engine.specs.Flights.{IsFlightAnswered, AllowsCall, objects_by}
+use Rattle.ft_engine.specs.Flights.{IsFlightAnswered, AllowsCall}
+use Rattle.ft_table_calls.specs.TriesUnderLocks.{objects_by}
 use Rattle.ft_engine.specs.Keeping.{named_entry}
 use Rattle.ft_engine.specs.Owning.{AreBegunBy, AreOwnedBy, FlightNames, IsFlightFound, begun_after, begin_calls, begun_due, locked_in, walked_due}
 use Rattle.ft_engine.specs.Stacks.{StackAfter}

@@ -21,3 +21,4 @@ pub mod KeyedCalls
 pub mod GivingUp
 pub mod AtRest
 pub mod LookCalls
+pub mod AtOnce

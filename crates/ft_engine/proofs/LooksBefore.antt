@@ -40,7 +40,8 @@ use Rattle.ft_engine.specs.Answering.{MakesEntry, MakesNoEntry, IsEndOf, IsTryOf
 use Rattle.ft_bank_history.specs.Marks.{walked_after}
 use Rattle.ft_engine.specs.Asked.{IsOnContainers}
 use Rattle.ft_engine.specs.Contentions.{may_look}
-use Rattle.ft_engine.specs.Flights.{is_begin, objects_by, objects_of}
+use Rattle.ft_engine.specs.Flights.{is_begin, objects_of}
+use Rattle.ft_table_calls.specs.TriesUnderLocks.{objects_by}
 use Rattle.ft_engine.specs.Keeping.{marks_after, section_marks}
 use Rattle.ft_engine.specs.Stacks.{StackAfter}
 use Rattle.ft_engine.proofs.Outcomes.{Outcome, answered_adds, before_adds, loaded_nothing, moved_then}

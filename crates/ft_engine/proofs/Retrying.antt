@@ -16,19 +16,9 @@ use Rattle.ft_engine.specs.declared.engine.Engine.{Engine}
 use Rattle.ft_engine.specs.Answering.{StaysPass}
 use Rattle.ft_engine.specs.Attempts.{ComesAgain, IsMarkOf, MayAttempt, StaysCaller, entries_with_answer}
 use Rattle.ft_engine.specs.Callers.{IsCallerOf, thread_of}
-use Rattle.ft_engine.specs.Calling.{AreWaits, HasMark, IsCalled, IsTried, Try, mark_after_tries, last_of, mark_after}
+use Rattle.ft_engine.specs.Calling.{HasMark, IsBetween, IsCalled, IsTried, last_of, mark_after, mark_after_tries}
 use Rattle.ft_engine.specs.Keeping.{WasAnswered}
 use Rattle.ft_engine.proofs.SectionCalls.{stays_then}
-
--- the call isn't done, and the same call comes next
-pub record IsBetween (e : Engine) (called : Call) (c d : Caller) : Type 0 where
-  pub caller : IsCallerOf e d
-  pub may : MayAttempt e d called
-  pub same : StaysCaller c d
-  pub kept : (mine : List NamedEntry) → WasAnswered c mine → WasAnswered d mine
-  pub waits : List Try
-  pub are : AreWaits e called c waits d
-  pub mark : (stack_of d.pass).mark ≡ mark_after_tries (stack_of c.pass).mark waits
 
 same_pass : (v : View) → StaysPass v v
 same_pass v = record { number = refl; next = refl; parts = refl; shape = refl; lists = refl; online = λ on. on; floor = refl; since = refl; seen = le_refl (seen_writes v) }

@@ -38,7 +38,8 @@ use Rattle.ft_model.specs.Worlds.{container_of}
 use Rattle.ft_trace.specs.Owners.{FindsMore, SameOwners}
 use Rattle.ft_trace.proofs.Owning.{finds_more_then, grown_finds_more, owners_then}
 use Rattle.ft_engine.specs.Answering.{MakesEntry, MakesNoEntry, HasAnswer, KnewNone, StaysPass}
-use Rattle.ft_engine.specs.Flights.{objects_by, objects_of}
+use Rattle.ft_engine.specs.Flights.{objects_of}
+use Rattle.ft_table_calls.specs.TriesUnderLocks.{objects_by}
 use Rattle.ft_engine.specs.Keeping.{made_entry, section_marks}
 use Rattle.ft_engine.specs.Stacks.{Opens}
 use Rattle.ft_engine.proofs.WaitCounts.{last_of}

@@ -30,7 +30,9 @@ use Rattle.ft_section.specs.declared.answers.Objects.{Objects}
 use Rattle.ft_section.specs.Ready.{IsReady, IsWaiting, MayTry}
 use Rattle.ft_engine.specs.Answering.{IsLooked, IsUncontended, IsLookedIfAny}
 use Rattle.ft_engine.specs.Contentions.{StopsAtOne, StopsCall, StopsIndex, StopsKeyed, StopsList}
-use Rattle.ft_engine.specs.Asked.{AreOfKindIn, IsCallIn, key_of_dict, key_of_set}
+use Rattle.ft_dict.specs.DictMaking.{key_of_dict}
+use Rattle.ft_set.specs.SetMaking.{key_of_set}
+use Rattle.ft_engine.specs.Asked.{AreOfKindIn, IsCallIn}
 
 -- a look that is contended was without the floor
 abbrev pub StandsWithFloor : View → Option Look → Type 0

@@ -1,11 +1,7 @@
 -- What a call asks of the bank's containers, of the caller's cursors and of its open sections.
-use Rattle.std.specs.Prelude.{◌≡◌, ℕ, ◌<◌, List, length, Option, Some, None, IfSome, is_some, true}
+use Rattle.std.specs.Prelude.{◌≡◌, ℕ, ◌<◌, List, length, Option, IfSome, is_some, true}
 use Rattle.ft_model.specs.declared.call.Call.{Call}
 use Rattle.ft_model.specs.declared.call.Call.TheVariants as call
-use Rattle.ft_model.specs.declared.call.DictCall.{DictCall}
-use Rattle.ft_model.specs.declared.call.DictCall.TheVariants as dict
-use Rattle.ft_model.specs.declared.call.SetCall.{SetCall}
-use Rattle.ft_model.specs.declared.call.SetCall.TheVariants as set
 use Rattle.ft_model.specs.declared.cursor.Cursor.{Cursor}
 use Rattle.ft_model.specs.declared.data.Key.{Key}
 use Rattle.ft_model.specs.declared.script.Kind.{Kind}
@@ -16,6 +12,8 @@ use Rattle.ft_trace.specs.declared.Shape.{Shape}
 use Rattle.ft_trace.specs.Addresses.{container_count}
 use Rattle.ft_bank.specs.KeyHashes.{IsKeyIn}
 use Rattle.ft_bank.specs.PassSections.{Stack}
+use Rattle.ft_dict.specs.DictMaking.{key_of_dict}
+use Rattle.ft_set.specs.SetMaking.{key_of_set}
 use Rattle.ft_engine.specs.Callers.{IsOfKindIn}
 use Rattle.ft_model.specs.Landed.{is_landed_dict, is_landed_list}
 
@@ -39,50 +37,6 @@ AreOfKindIn k kind o other = IsOfKindIn k kind o × IfSome other (λ p. IsOfKind
 -- there is room for the cursor that a call makes
 abbrev pub HasRoomFor : List (Option Cursor) → Option ℕ → Type 0
 HasRoomFor hands cursor = IfSome cursor (λ number. number < length hands)
-
--- the key that a call on a dict names, if it names one (Python manual, Mapping Types)
-abbrev pub key_of_dict : DictCall → Option Key
-key_of_dict (dict.Get key) = Some key
-key_of_dict (dict.GetOr key default) = Some key
-key_of_dict (dict.Set key value) = Some key
-key_of_dict (dict.Del key) = Some key
-key_of_dict (dict.Pop key) = Some key
-key_of_dict (dict.PopOr key default) = Some key
-key_of_dict dict.PopItem = None
-key_of_dict (dict.SetDefault key default) = Some key
-key_of_dict (dict.Has key) = Some key
-key_of_dict dict.Len = None
-key_of_dict dict.Items = None
-key_of_dict (dict.Update other) = None
-key_of_dict dict.Clear = None
-key_of_dict (dict.CopyTo other) = None
-key_of_dict (dict.Eq other) = None
-key_of_dict (dict.Iter cursor) = None
-key_of_dict (dict.KeysAnd other) = None
-key_of_dict (dict.KeysSub other) = None
-key_of_dict (dict.KeysOr other) = None
-key_of_dict (dict.KeysXor other) = None
-key_of_dict (dict.ItemsHas key value) = Some key
-key_of_dict (dict.Reversed cursor) = None
-
--- the element that a call on a set names, if it names one (Python manual, Set Types)
-abbrev pub key_of_set : SetCall → Option Key
-key_of_set (set.Add key) = Some key
-key_of_set (set.Discard key) = Some key
-key_of_set (set.Remove key) = Some key
-key_of_set set.Pop = None
-key_of_set (set.Has key) = Some key
-key_of_set set.Len = None
-key_of_set set.Items = None
-key_of_set (set.Eq other) = None
-key_of_set (set.Or other) = None
-key_of_set (set.And other) = None
-key_of_set (set.Sub other) = None
-key_of_set (set.Xor other) = None
-key_of_set (set.Subset other) = None
-key_of_set (set.Disjoint other) = None
-key_of_set set.Clear = None
-key_of_set (set.Iter cursor) = None
 
 -- a key that a call names is an integer, or a string of the bank
 abbrev pub HasKeyIn : Shape → Option Key → Type 0

@@ -52,6 +52,16 @@ abbrev pub mark_after_tries : Option ℕ → List Try → Option ℕ
 mark_after_tries mark [] = mark
 mark_after_tries mark (t ∷ earlier) = mark_after (mark_after_tries mark earlier) t.answer
 
+-- The call isn't done, and the same call comes next: so far these tries led from the first caller to the second.
+pub record IsBetween (e : Engine) (called : Call) (c d : Caller) : Type 0 where
+  pub caller : IsCallerOf e d
+  pub may : MayAttempt e d called
+  pub same : StaysCaller c d
+  pub kept : (mine : List NamedEntry) → WasAnswered c mine → WasAnswered d mine
+  pub waits : List Try
+  pub are : AreWaits e called c waits d
+  pub mark : (stack_of d.pass).mark ≡ mark_after_tries (stack_of c.pass).mark waits
+
 -- what the last try answered
 abbrev pub last_of : Called → Tried
 last_of (called.Done said stamp mark) = tried.Done said stamp mark

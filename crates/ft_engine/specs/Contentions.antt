@@ -13,7 +13,8 @@ use Rattle.ft_trace.specs.declared.View.{View}
 use Rattle.ft_search.specs.Lengths.{StopsAtVersion}
 use Rattle.ft_search.specs.KeyLooks.{Stops}
 use Rattle.ft_list.specs.ItemLooks.{StopsItemLook}
-use Rattle.ft_engine.specs.Asked.{key_of_dict, key_of_set}
+use Rattle.ft_dict.specs.DictMaking.{key_of_dict}
+use Rattle.ft_set.specs.SetMaking.{key_of_set}
 
 -- whether a call may be made by a look, without a lock (PEP 703, Optimistically avoiding locking)
 abbrev pub may_look : Call → Bool

@@ -1,5 +1,5 @@
 -- Calls in flight: which containers they lock, and how far a pass has come with them.
-use Rattle.std.specs.Prelude.{◌≡◌, ℕ, Bool, true, false, List, Option, Some, None, option_map}
+use Rattle.std.specs.Prelude.{◌≡◌, Bool, true, false, List, Option, Some, None, option_map}
 use Rattle.ft_model.specs.declared.call.Call.{Call}
 use Rattle.ft_model.specs.declared.call.Call.TheVariants as call
 use Rattle.ft_model.specs.declared.cursor.Cursor.{Cursor}
@@ -8,15 +8,11 @@ use Rattle.ft_model.specs.Worlds.{container_of, cursor_at}
 use Rattle.ft_bank.specs.declared.bank.Bank.{Bank}
 use Rattle.ft_bank.specs.declared.pass.Pass.{Pass}
 use Rattle.ft_section.specs.declared.answers.Objects.{Objects}
-use Rattle.ft_section.specs.declared.answers.Objects.TheVariants.{One, Two}
+use Rattle.ft_section.specs.declared.answers.Objects.TheVariants.{One}
 use Rattle.ft_section.specs.Ready.{HasTop, IsInCall, IsReady, MayTry, MayResume}
+use Rattle.ft_table_calls.specs.TriesUnderLocks.{objects_by}
 use Rattle.ft_engine.specs.declared.caller.Flight.{Flight}
 use Rattle.ft_engine.specs.declared.caller.Flight.TheVariants as flight
-
--- one container, or two
-abbrev pub objects_by : ℕ → Option ℕ → Objects
-objects_by first None = One first
-objects_by first (Some second) = Two first second
 
 -- the containers whose locks a call of a thread with these cursors takes, if it takes any (C API, critical sections)
 abbrev pub objects_of : List (Option Cursor) → Call → Option Objects

@@ -13,3 +13,4 @@ pub mod Calling
 pub mod Visits
 pub mod DoneCallers
 pub mod Resting
+pub mod AtOnce

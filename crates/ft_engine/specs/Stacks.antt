@@ -8,7 +8,7 @@ use Rattle.ft_bank.specs.PassSections.{Stack, nothing_taken}
 use Rattle.ft_section.specs.declared.answers.Objects.{Objects}
 use Rattle.ft_section.specs.Locking.{with_own}
 use Rattle.ft_section.specs.Sectioning.{AreNoted}
-use Rattle.ft_engine.specs.Flights.{objects_by}
+use Rattle.ft_table_calls.specs.TriesUnderLocks.{objects_by}
 
 -- a section on these containers is open more, the innermost: it has noted the locks that its `begin` took, and none of
 -- its calls has waited (C API, critical sections)

@@ -3,7 +3,7 @@ ghost use Rattle.std.specs.Prelude.{List, IfNone, IfSome};
 ghost use Rattle.ft_model.specs.declared.entry.Entry.{Entry as NamedEntry};
 ghost use Rattle.ft_engine.specs.Attempts.{ComesAgain, MayAttempt, StaysCaller, flight_after, entries_with_answer};
 ghost use Rattle.ft_engine.specs.Callers.{IsCallerOf, flight_of, thread_of};
-ghost use Rattle.ft_engine.specs.Calling.{IsCalled, IsTried, last_of};
+ghost use Rattle.ft_engine.specs.Calling.{IsBetween, IsCalled, IsTried, last_of};
 ghost use Rattle.ft_engine.specs.Keeping.{WasAnswered};
 
 use crate::attempts::Tried;
@@ -55,6 +55,30 @@ impl Engine {
         }
     }
 
+    /// Tries a call until it is done, with a pause between two tries: before each try the call isn't done yet, as
+    /// seen from whatever caller that was so before the first one.
+    #[inline(never)]
+    fn call_on<R: Wait>(&self, rt: &R, alloc: Global, caller: &mut Caller, call: &Call) -> Called
+        requires caller { IsCallerOf self.now caller.old }
+        requires may { MayAttempt self.now caller.old call.now }
+        ensures { (first : Caller) → IsBetween self.now call.now first caller.old →
+            (last : Caller) × IsBetween self.now call.now first last × IsTried self.now call.now (last_of result) last caller.new }
+    {
+        let backoff = Backoff::new();
+        let mut tries = 0;
+        if !caller.is_idle() {
+            pause(&backoff, tries);
+        }
+        for _ in rt.forever() {
+            if let Some(called) = self.try_once(alloc, caller, call) {
+                return called;
+            }
+            pause(&backoff, tries);
+            tries = tries.saturating_add(1);
+        }
+        unreachable!()
+    }
+
     /// Tries a call until it is done, with a pause between two tries: the answer is that of the last try, and the mark
     /// is the first thread that a try found with a lock. After `Done` the caller has the locks of its innermost
     /// section, and no others but those that its open sections took. It may wait for other threads: nothing says that
@@ -63,6 +87,7 @@ impl Engine {
     /// # Errors
     ///
     /// `NoMemory` where memory for a copy ran out: the caller is to give up.
+    #[inline(always)]
     pub fn call<R: Wait>(&self, rt: &R, alloc: Global, caller: &mut Caller, call: &Call) -> Called
         requires caller { IsCallerOf self.now caller.old }
         requires may { MayAttempt self.now caller.old call.now }
@@ -73,15 +98,9 @@ impl Engine {
             WasAnswered caller.new (entries_with_answer (thread_of caller.old) call.now (last_of result) mine) }
         ensures called { IsCalled self.now call.now result caller.old caller.new }
     {
-        let backoff = Backoff::new();
-        let mut tries = 0;
-        for _ in rt.forever() {
-            if let Some(called) = self.try_once(alloc, caller, call) {
-                return called;
-            }
-            pause(&backoff, tries);
-            tries = tries.saturating_add(1);
+        match self.call_at_once(alloc, caller, call) {
+            Some(called) => called,
+            None => self.call_on(rt, alloc, caller, call),
         }
-        unreachable!()
     }
 }

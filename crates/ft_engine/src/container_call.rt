@@ -23,7 +23,7 @@ use std::alloc::Global;
 
 /// A call under the locks of its containers, by their kind.
 #[inline(always)]
-fn try_locked(bank: &Bank, pass: &mut Pass, alloc: Global, call: &Call) -> Step
+pub(crate) fn try_locked(bank: &Bank, pass: &mut Pass, alloc: Global, call: &Call) -> Step
     requires may { (objects : Objects) → objects_of [] call.now ≡ Some objects → MayTry bank.now pass.old objects }
     requires containers { IsOnContainers call.now }
     requires names { (hands : List (Option Cursor)) × IsCallIn (shape_of bank.now) hands call.now }
@@ -32,9 +32,18 @@ fn try_locked(bank: &Bank, pass: &mut Pass, alloc: Global, call: &Call) -> Step
     ensures { (hands : List (Option Cursor)) → IsTryOfCall bank.now hands call.now pass.old pass.new result }
 {
     match call {
-        Call::Dict { container, call } => try_dict(bank, pass, alloc, *container, call),
-        Call::List { container, call } => try_list(bank, pass, alloc, *container, call),
-        Call::Set { container, call } => try_set_call(bank, pass, alloc, *container, call),
+        Call::Dict {
+            container,
+            call: asked,
+        } => { try_dict(bank, pass, alloc, *container, asked, call) }
+        Call::List {
+            container,
+            call: asked,
+        } => { try_list(bank, pass, alloc, *container, asked, call) }
+        Call::Set {
+            container,
+            call: asked,
+        } => { try_set_call(bank, pass, alloc, *container, asked, call) }
         Call::Next { .. } => unreachable!(),
         Call::Begin { .. } => unreachable!(),
         Call::End => unreachable!(),

@@ -7,6 +7,7 @@
 #![tactic(auto)]
 
 mod answering;
+mod at_once;
 mod attempts;
 mod caller;
 mod calling;

@@ -5,7 +5,9 @@ ghost use Rattle.ft_trace.specs.Addresses.{container_count};
 ghost use Rattle.ft_bank.specs.Passes.{shape_of, view};
 ghost use Rattle.ft_engine.specs.Attempts.{MayAttempt};
 ghost use Rattle.ft_engine.specs.Callers.{IsOfKindIn, bank_of, hands_of, pass_of};
-ghost use Rattle.ft_engine.specs.Asked.{AreOfKindIn, HasKeyIn, IsCallIn, key_of_dict, key_of_set};
+ghost use Rattle.ft_dict.specs.DictMaking.{key_of_dict};
+ghost use Rattle.ft_set.specs.SetMaking.{key_of_set};
+ghost use Rattle.ft_engine.specs.Asked.{AreOfKindIn, HasKeyIn, IsCallIn};
 
 use crate::caller::Caller;
 use crate::engine::Engine;

@@ -19,12 +19,14 @@ pub mod TokenCuts
 pub mod TokenLists
 pub mod NoSeparator
 pub mod NumberLemmas
+pub mod ShortNumbers
 pub mod ReplyLoops
 pub mod TokenTexts
 pub mod PartTexts
 pub mod ReplyTexts
 pub mod CallTexts
 pub mod EntryTexts
+pub mod LikelyWords
 pub mod SoundReading
 pub mod LineCases
 pub mod TranscriptLaws

@@ -4,7 +4,7 @@ use Rattle.std.proofs.lemmas.List.{append-nil}
 use Rattle.ft_script.specs.declared.lines.Place.{Place}
 use Rattle.ft_script.specs.declared.lines.Place.TheVariants as place
 use Rattle.ft_script.specs.Lines.{with_first}
-use Rattle.ft_script.specs.Internal.Tokens.{token_place_after, token_ends, token_start, fronted, token_parted, tokens_from}
+use Rattle.ft_script.specs.Internal.Tokens.{is_gap, is_mark, token_place_after, token_ends, token_start, fronted, token_parted, tokens_from}
 use Rattle.ft_script.proofs.WordCuts.{onto, at_place, onto_byte, onto_more, ended, part, part_more, part_first, at_index, nothing_left, last_part, last_word, cut_after}
 
 -- the tokens of a line, of which some are cut already, and a part of one
@@ -90,6 +90,18 @@ cut_on line cut at next ends start i from whole low high is_next is_ends is_from
     ap (λ (p : List ℕ). resumed (cut_after cut (part line start i) e) there p rest) (sym (part_next at e line start i high low))
     ∙ sym (one_byte at there cut (part line start i) b rest) ∙ ap (resumed cut at (part line start i)) (sym here) ∙ so_far in
     rw (is_from, is_ends, is_next) moved
+
+-- a byte of a plain token that goes on
+plain_on : (b : ℕ) → is_gap b ≡ false → is_mark b ≡ false → place.Plain ≡ token_place_after place.Plain b
+plain_on b no_gap no_mark = rw (no_gap, no_mark) refl
+
+pub cut_plain_on : (line : List ℕ) (cut : List (List ℕ)) (at : Place) (start i : ℕ) (whole : List (List ℕ)) → i < length line → start ≤ i →
+    at ≡ place.Plain → is_gap (get_or line i 0) ≡ false → is_mark (get_or line i 0) ≡ false →
+    resumed cut at (part line start i) (tokens_from at (drop i line)) ≡ whole →
+    resumed cut at (part line start (i + 1)) (tokens_from at (drop (i + 1) line)) ≡ whole
+cut_plain_on line cut at start i whole low high plain no_gap no_mark so_far =
+    let before : resumed cut place.Plain (part line start i) (tokens_from place.Plain (drop i line)) ≡ whole = rw plain at so_far in
+    rw plain (cut_on line cut place.Plain place.Plain false start i start whole low high (plain_on (get_or line i 0) no_gap no_mark) refl refl before)
 
 start_low : (at : Place) (ends : Bool) (start i : ℕ) → start ≤ i → token_start at ends start i ≤ i
 start_low place.Between ends start i low = omega arith

@@ -1,6 +1,7 @@
 -- Cutting a line into words, and a string into the bytes that it says.
-use Rattle.std.proofs.Common.{◌≡◌, ℕ, suc, ◌+◌, ◌-◌, ◌<◌, ◌≤◌, Bool, cond, List, [], ◌∷◌, ◌++◌, length, take, drop, get_or, Option, Some, None, refl, sym, ap, ◌∙◌, arith, append_assoc, drop-cons}
+use Rattle.std.proofs.Common.{◌≡◌, ◌≢◌, ℕ, suc, ◌+◌, ◌-◌, ◌<◌, ◌≤◌, Bool, cond, List, [], ◌∷◌, ◌++◌, length, take, drop, get_or, Option, Some, None, refl, sym, ap, ◌∙◌, arith, append_assoc, drop-cons}
 use Rattle.std.specs.Option.{option_map}
+use Rattle.std.proofs.lemmas.Bool.{ne_eqb}
 use Rattle.std.proofs.lemmas.List.{append-nil, take_all, take_more, length-drop, get_or-drop}
 use Rattle.std.proofs.Math.ListN.{drop_of_length-le}
 use Rattle.ft_script.specs.declared.lines.Place.{Place}
@@ -134,6 +135,17 @@ cut_on line cut at next start i whole low from is so_far =
     ∙ ap (λ (p : List ℕ). resumed (cut_after cut (part line start i) (word_ends at next)) next p (words_from next (drop (i + 1) line))) (sym (part_next at line start i from low))
     ∙ sym (one_byte_of at next cut (part line start i) b (words_from next (drop (i + 1) line)))
     ∙ ap (resumed cut at (part line start i)) (sym here) ∙ so_far
+
+-- a byte of a plain word that goes on
+pub plain_on : (b : ℕ) → b ≢ 32 → place_after place.Plain b ≡ Some place.Plain
+plain_on b other = rw (ne_eqb b 32 other) refl
+
+pub cut_plain_on : (line : List ℕ) (cut : List (List ℕ)) (at : Place) (start i : ℕ) (whole : Option (List (List ℕ))) → i < length line → start ≤ i → at ≡ place.Plain → get_or line i 0 ≢ 32 →
+    resumed cut at (part line start i) (words_from at (drop i line)) ≡ whole →
+    resumed cut at (part line start (i + 1)) (words_from at (drop (i + 1) line)) ≡ whole
+cut_plain_on line cut at start i whole low from plain other so_far =
+    let before : resumed cut place.Plain (part line start i) (words_from place.Plain (drop i line)) ≡ whole = rw plain at so_far in
+    rw plain (cut_on line cut place.Plain place.Plain start i whole low from (plain_on (get_or line i 0) other) before)
 
 pub cut_broken : (line : List ℕ) (cut : List (List ℕ)) (at : Place) (start i : ℕ) (whole : Option (List (List ℕ))) → i < length line → place_after at (get_or line i 0) ≡ None →
     resumed cut at (part line start i) (words_from at (drop i line)) ≡ whole → whole ≡ None

@@ -134,7 +134,7 @@ wide_fits : (n : ℤ) → is_wide n ≡ true → FitsSigned w64 n
 wide_fits (pos n) h = let e : n ≤ 2 ^ 63 - 1 = leb-true n (2 ^ 63 - 1) (and_parts (int_le (negsuc (2 ^ 63 - 1)) (pos n)) (int_le (pos n) (pos (2 ^ 63 - 1))) h).1 in record { sfits = omega arith }
 wide_fits (negsuc n) h = let e : n ≤ 2 ^ 63 - 1 = leb-true n (2 ^ 63 - 1) (and_parts (int_le (negsuc (2 ^ 63 - 1)) (negsuc n)) (int_le (negsuc n) (pos (2 ^ 63 - 1))) h).0 in record { sfits = omega arith }
 
-fits_wide : (n : ℤ) → FitsSigned w64 n → is_wide n ≡ true
+pub fits_wide : (n : ℤ) → FitsSigned w64 n → is_wide n ≡ true
 fits_wide (pos n) fits = let e : n < 2 ^ 63 = fits.sfits in and_from (int_le (negsuc (2 ^ 63 - 1)) (pos n)) (int_le (pos n) (pos (2 ^ 63 - 1))) refl (le-leb n (2 ^ 63 - 1) (omega arith))
 fits_wide (negsuc n) fits = let e : n < 2 ^ 63 = fits.sfits in and_from (int_le (negsuc (2 ^ 63 - 1)) (negsuc n)) (int_le (negsuc n) (pos (2 ^ 63 - 1))) (le-leb n (2 ^ 63 - 1) (omega arith)) refl
 

@@ -4,3 +4,4 @@ pub mod Outcomes
 pub mod Candidates
 pub mod Readers
 pub mod Tokens
+pub mod LikelyWords

@@ -1,5 +1,6 @@
 //! The words that calls begin with.
 ghost use Rattle.ft_script.specs.CallWords.{call_word_of, call_word_text, operation_text};
+ghost use Rattle.ft_script.specs.Internal.LikelyWords.{likely_word, word_of_length, word_of_2, word_of_3, word_of_4, word_of_5, word_of_6, word_of_7};
 ghost use Rattle.std.specs.Prelude.{◌≡◌};
 
 /// A call of a container.
@@ -50,50 +51,132 @@ pub(crate) enum CallWord {
     On(Operation),
 }
 
-const CALL_WORDS: [CallWord; 36] = [
-    CallWord::Next,
-    CallWord::Begin,
-    CallWord::End,
-    CallWord::Quiesce,
-    CallWord::On(Operation::Get),
-    CallWord::On(Operation::GetOr),
-    CallWord::On(Operation::Set),
-    CallWord::On(Operation::Del),
-    CallWord::On(Operation::Pop),
-    CallWord::On(Operation::PopOr),
-    CallWord::On(Operation::PopItem),
-    CallWord::On(Operation::SetDefault),
-    CallWord::On(Operation::Has),
-    CallWord::On(Operation::Len),
-    CallWord::On(Operation::Items),
-    CallWord::On(Operation::Update),
-    CallWord::On(Operation::Clear),
-    CallWord::On(Operation::CopyTo),
-    CallWord::On(Operation::Eq),
-    CallWord::On(Operation::Iter),
-    CallWord::On(Operation::Append),
-    CallWord::On(Operation::Insert),
-    CallWord::On(Operation::Remove),
-    CallWord::On(Operation::Index),
-    CallWord::On(Operation::Count),
-    CallWord::On(Operation::Reverse),
-    CallWord::On(Operation::Extend),
-    CallWord::On(Operation::Slice),
-    CallWord::On(Operation::Add),
-    CallWord::On(Operation::Discard),
-    CallWord::On(Operation::Or),
-    CallWord::On(Operation::And),
-    CallWord::On(Operation::Sub),
-    CallWord::On(Operation::Xor),
-    CallWord::On(Operation::Subset),
-    CallWord::On(Operation::Disjoint),
-];
-
 /// The word of a call that the bytes are.
 pub(crate) fn call_word_of(bytes: &[u8]) -> Option<CallWord>
     ensures { result ≡ call_word_of bytes.now }
 {
-    CALL_WORDS.iter().copied().find(|word| word.text() == bytes)
+    let word = likely_word(bytes)?;
+    if word.text() == bytes {
+        Some(word)
+    } else {
+        None
+    }
+}
+
+/// The one word of a call that has as many bytes and begins with the same ones, if there is one.
+#[tactic(auto, unfolding(crate::specs::Internal::LikelyWords::likely_word))]
+fn likely_word(bytes: &[u8]) -> Option<CallWord>
+    ensures { result ≡ likely_word bytes.now }
+{
+    match bytes {
+        [first, second, ..] => word_of_length(bytes.len(), *first, *second),
+        _ => None,
+    }
+}
+
+#[tactic(auto, unfolding(crate::specs::Internal::LikelyWords::word_of_length))]
+fn word_of_length(count: usize, first: u8, second: u8) -> Option<CallWord>
+    ensures { result ≡ word_of_length count first second }
+{
+    match count {
+        2 => word_of_2(first),
+        3 => word_of_3(first, second),
+        4 => word_of_4(first),
+        5 => word_of_5(first, second),
+        6 => word_of_6(first),
+        7 => word_of_7(first),
+        8 => Some(CallWord::On(Operation::Disjoint)),
+        10 => Some(CallWord::On(Operation::SetDefault)),
+        _ => None,
+    }
+}
+
+#[tactic(auto, unfolding(crate::specs::Internal::LikelyWords::word_of_2))]
+fn word_of_2(first: u8) -> Option<CallWord>
+    ensures { result ≡ word_of_2 first }
+{
+    match first {
+        b'e' => Some(CallWord::On(Operation::Eq)),
+        b'o' => Some(CallWord::On(Operation::Or)),
+        _ => None,
+    }
+}
+
+#[tactic(auto, unfolding(crate::specs::Internal::LikelyWords::word_of_3))]
+fn word_of_3(first: u8, second: u8) -> Option<CallWord>
+    ensures { result ≡ word_of_3 first second }
+{
+    match (first, second) {
+        (b'e', _) => Some(CallWord::End),
+        (b'g', _) => Some(CallWord::On(Operation::Get)),
+        (b's', b'e') => Some(CallWord::On(Operation::Set)),
+        (b's', _) => Some(CallWord::On(Operation::Sub)),
+        (b'd', _) => Some(CallWord::On(Operation::Del)),
+        (b'p', _) => Some(CallWord::On(Operation::Pop)),
+        (b'h', _) => Some(CallWord::On(Operation::Has)),
+        (b'l', _) => Some(CallWord::On(Operation::Len)),
+        (b'a', b'd') => Some(CallWord::On(Operation::Add)),
+        (b'a', _) => Some(CallWord::On(Operation::And)),
+        (b'x', _) => Some(CallWord::On(Operation::Xor)),
+        (_, _) => None,
+    }
+}
+
+#[tactic(auto, unfolding(crate::specs::Internal::LikelyWords::word_of_4))]
+fn word_of_4(first: u8) -> Option<CallWord>
+    ensures { result ≡ word_of_4 first }
+{
+    match first {
+        b'n' => Some(CallWord::Next),
+        b'g' => Some(CallWord::On(Operation::GetOr)),
+        b'p' => Some(CallWord::On(Operation::PopOr)),
+        b'i' => Some(CallWord::On(Operation::Iter)),
+        _ => None,
+    }
+}
+
+#[tactic(auto, unfolding(crate::specs::Internal::LikelyWords::word_of_5))]
+fn word_of_5(first: u8, second: u8) -> Option<CallWord>
+    ensures { result ≡ word_of_5 first second }
+{
+    match (first, second) {
+        (b'b', _) => Some(CallWord::Begin),
+        (b'i', b't') => Some(CallWord::On(Operation::Items)),
+        (b'i', _) => Some(CallWord::On(Operation::Index)),
+        (b'c', b'l') => Some(CallWord::On(Operation::Clear)),
+        (b'c', _) => Some(CallWord::On(Operation::Count)),
+        (b's', _) => Some(CallWord::On(Operation::Slice)),
+        (_, _) => None,
+    }
+}
+
+#[tactic(auto, unfolding(crate::specs::Internal::LikelyWords::word_of_6))]
+fn word_of_6(first: u8) -> Option<CallWord>
+    ensures { result ≡ word_of_6 first }
+{
+    match first {
+        b'u' => Some(CallWord::On(Operation::Update)),
+        b'c' => Some(CallWord::On(Operation::CopyTo)),
+        b'a' => Some(CallWord::On(Operation::Append)),
+        b'i' => Some(CallWord::On(Operation::Insert)),
+        b'r' => Some(CallWord::On(Operation::Remove)),
+        b'e' => Some(CallWord::On(Operation::Extend)),
+        b's' => Some(CallWord::On(Operation::Subset)),
+        _ => None,
+    }
+}
+
+#[tactic(auto, unfolding(crate::specs::Internal::LikelyWords::word_of_7))]
+fn word_of_7(first: u8) -> Option<CallWord>
+    ensures { result ≡ word_of_7 first }
+{
+    match first {
+        b'q' => Some(CallWord::Quiesce),
+        b'p' => Some(CallWord::On(Operation::PopItem)),
+        b'r' => Some(CallWord::On(Operation::Reverse)),
+        b'd' => Some(CallWord::On(Operation::Discard)),
+        _ => None,
+    }
 }
 
 impl CallWord {

@@ -2,8 +2,9 @@
 ghost use Rattle.ft_script.specs.Drafts.{or_fault};
 ghost use Rattle.ft_script.specs.Internal.Outcomes.{Gives};
 ghost use Rattle.ft_script.specs.declared.fault.Fault.TheVariants as fault;
+ghost use Rattle.ft_script.specs.declared.lines.Place.TheVariants as at;
 ghost use Rattle.ft_script.specs.Lines.{lines_of, words_of, first_word, ends_thread, is_comment, is_word, place_after, word_ends, word_start};
-ghost use Rattle.std.specs.Prelude.{◌≡◌, ◌<◌, [], ◌∷◌, ◌++◌, length, map, option_copied, OnOk, if◌then◌else◌};
+ghost use Rattle.std.specs.Prelude.{◌≡◌, ◌≢◌, ◌↔◌, ◌<◌, [], ◌∷◌, ◌++◌, length, map, option_copied, IsTrue, OnOk, if◌then◌else◌};
 
 use crate::fault::{Fault, LineError};
 use std::alloc::{AllocError, Global};
@@ -85,6 +86,13 @@ fn word_ends(place: Place, next: Place) -> bool
     }
 }
 
+/// Whether the byte goes on with the plain word that it stands in.
+fn goes_on(place: Place, byte: u8) -> bool
+    ensures { IsTrue result ↔ ((place ≡ at.Plain) × (byte ≢ 32)) }
+{
+    matches!(place, Place::Plain) && byte != b' '
+}
+
 /// The words of a line.
 pub(crate) fn words_of(alloc: Global, line: &[u8]) -> Result<Vec<&[u8]>, LineError>
     ensures { Gives (λ words. map (λ word. word.now) words.items) result (or_fault fault.String (words_of line.now)) }
@@ -93,6 +101,9 @@ pub(crate) fn words_of(alloc: Global, line: &[u8]) -> Result<Vec<&[u8]>, LineErr
     let mut place = Place::Between;
     let mut start = 0;
     for (i, byte) in line.iter().enumerate() {
+        if goes_on(place, *byte) {
+            continue;
+        }
         let Some(next) = place_after(place, *byte) else {
             return Err(Fault::String.into());
         };

@@ -7,7 +7,7 @@ use crate::arguments::index_of;
 use crate::fault::{Fault, LineError};
 use crate::reply_words::{ReplyWord, reply_word_of};
 use crate::strings::Strings;
-use crate::words::{is_string, text_of};
+use crate::words::{is_string, short_value, text_of};
 use ft_model::{GREATEST_CLASS, Key, LEAST_CLASS, Raise, Reply, Sequence, Sym, Value};
 use std::alloc::Global;
 
@@ -23,6 +23,16 @@ fn is_decimal(token: &[u8]) -> bool
 
 /// The number that digits are, where a `u64` has it.
 fn natural_in(token: &[u8]) -> Option<u64>
+    ensures { result ≡ natural_in token.now }
+{
+    match token {
+        [_, ..] if token.len() <= 18 => short_value(token),
+        _ => any_natural_in(token),
+    }
+}
+
+/// The same of a token of any length.
+fn any_natural_in(token: &[u8]) -> Option<u64>
     ensures { result ≡ natural_in token.now }
 {
     if !is_decimal(token) {

@@ -1,7 +1,7 @@
 //! The tokens of the lines of transcripts.
 ghost use Rattle.ft_script.specs.Internal.Tokens.{before_word, after_word, is_gap, is_mark, place_at, token_place_after, token_ends, token_start, tokens_of};
 ghost use Rattle.ft_script.specs.declared.lines.Place.TheVariants as at;
-ghost use Rattle.std.specs.Prelude.{◌≡◌, IfOk, map};
+ghost use Rattle.std.specs.Prelude.{◌≡◌, ◌↔◌, false, IfOk, IsTrue, map};
 
 use crate::lines::{Place, add_word};
 use std::alloc::{AllocError, Global};
@@ -73,6 +73,13 @@ fn token_start(place: Place, ends: bool, start: usize, here: usize) -> usize
     }
 }
 
+/// Whether the byte goes on with the plain token that it stands in.
+fn goes_on(place: Place, byte: u8) -> bool
+    ensures { IsTrue result ↔ ((place ≡ at.Plain) × (is_gap byte ≡ false) × (is_mark byte ≡ false)) }
+{
+    matches!(place, Place::Plain) && !is_gap(byte) && !is_mark(byte)
+}
+
 /// The tokens of a line, which may have its line feed. A string that isn't closed is a token, too.
 pub(crate) fn tokens_of(alloc: Global, line: &[u8]) -> Result<Vec<&[u8]>, AllocError>
     ensures { IfOk result (λ tokens. map (λ token. token.now) tokens.items ≡ tokens_of line.now) }
@@ -81,6 +88,9 @@ pub(crate) fn tokens_of(alloc: Global, line: &[u8]) -> Result<Vec<&[u8]>, AllocE
     let mut place = Place::Between;
     let mut start = 0;
     for (i, byte) in line.iter().enumerate() {
+        if goes_on(place, *byte) {
+            continue;
+        }
         let next = place_after(place, *byte);
         let ends = token_ends(place, next);
         add_word(&mut tokens, &line[start..i], ends)?;

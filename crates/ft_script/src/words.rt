@@ -1,7 +1,9 @@
 //! What the words of a line say.
-ghost use Rattle.ft_model.specs.Names.{is_container_byte, is_container_name, is_thread_byte, is_thread_name};
+ghost use Rattle.ft_model.specs.Names.{is_digit, is_container_byte, is_container_name, is_thread_byte, is_thread_name};
 ghost use Rattle.ft_script.specs.LineWords.{integer_of, is_integer, is_positive, is_string, text_of, unescaped};
-ghost use Rattle.std.specs.Prelude.{◌≡◌, ◌<◌, IfOk, length};
+ghost use Rattle.std.specs.List.{list_all};
+ghost use Rattle.std.specs.Str.Parse.{digits_value};
+ghost use Rattle.std.specs.Prelude.{◌≡◌, ◌<◌, ◌≤◌, ◌^◌, None, Some, IfOk, IfSome, if◌then◌else◌, length};
 
 use std::alloc::{AllocError, Global};
 
@@ -60,8 +62,34 @@ fn is_integer(word: &[u8]) -> bool
     }
 }
 
+/// The number that up to 18 digits are; `None` where a byte is no digit.
+pub(crate) fn short_value(digits: &[u8]) -> Option<u64>
+    requires { length digits.now ≤ 18 }
+    ensures value { result ≡ if list_all is_digit digits.now then Some (digits_value 10 digits.now) else None }
+    ensures small { IfSome result (λ value. value < 10 ^ 18) }
+{
+    let mut value: u64 = 0;
+    for byte in digits {
+        if !byte.is_ascii_digit() {
+            return None;
+        }
+        value = value * 10 + u64::from(*byte - b'0');
+    }
+    Some(value)
+}
+
 /// The integer that the word is, where an `i64` has it.
 pub(crate) fn integer_of(word: &[u8]) -> Option<i64>
+    ensures { result ≡ integer_of word.now }
+{
+    match word {
+        [b'1'..=b'9', ..] if word.len() <= 18 => Some(short_value(word)? as i64),
+        _ => any_integer_of(word),
+    }
+}
+
+/// The same of a word of any length.
+fn any_integer_of(word: &[u8]) -> Option<i64>
     ensures { result ≡ integer_of word.now }
 {
     if !is_integer(word) {

@@ -1,11 +1,11 @@
-use Rattle.std.proofs.Common.{◌≡◌, ◌∙◌, ◌++◌, ◌∷◌, [], ℕ, List, Option, Bor, ◌-◌, inl, inr, Result, Ok, map, length, take, drop, sym, ap}
+use Rattle.std.proofs.Common.{◌≡◌, ◌∙◌, ◌++◌, ◌∷◌, [], ℕ, List, Option, Bor, ◌-◌, inl, inr, Result, Ok, map, length, take, drop, sym, ap, arith}
 use Rattle.ft_script.specs.declared.fault.Fault.{Fault}
 use Rattle.ft_script.specs.declared.fault.Fault.TheVariants as fault
 use Rattle.ft_script.specs.declared.lines.Place.{Place}
 use Rattle.ft_script.specs.declared.lines.Place.TheVariants as place
 use Rattle.ft_script.specs.Drafts.{or_fault}
 use Rattle.ft_script.specs.Lines.{words_of, words_from, word_start}
-use Rattle.ft_script.proofs.WordCuts.{resumed, part, cut_on, cut_broken, cut_between, cut_plain, cut_ended, cut_string, cut_escape, start_within}
+use Rattle.ft_script.proofs.WordCuts.{resumed, part, cut_on, cut_plain_on, cut_broken, cut_between, cut_plain, cut_ended, cut_string, cut_escape, start_within}
 use Rattle.ft_script.proofs.lines.words_of.Goals as goal
 
 abbrev shown : List (Bor (List ℕ)) → List (List ℕ)
@@ -48,6 +48,14 @@ returns c =
       | inl is ↦ ap (or_fault fault.String) (cut_string line (shown words) c.loop-i.start c.loop-i.i (words_of line) c.loop-i-test.false (at_known line words c.loop-i.place place.String c.loop-i.start c.loop-i.i (words_of line) is c.loop-i.invariant.same))
       | inr is ↦ ap (or_fault fault.String) (cut_escape line (shown words) c.loop-i.start c.loop-i.i (words_of line) c.loop-i-test.false (at_known line words c.loop-i.place place.Escape c.loop-i.start c.loop-i.i (words_of line) is c.loop-i.invariant.same))
     ])
+
+pub loop-i-preserved-then-goes_on : goal.loop-i-preserved-then-goes_on
+loop-i-preserved-then-goes_on c =
+    let plain = c.goes_on.ensures.0 c.if-goes_on.true in
+    record {
+      same = cut_plain_on c.args.line.now (shown c.loop-i.words.items) c.loop-i.place c.loop-i.start c.loop-i.i (words_of c.args.line.now) c.loop-i-test.true c.loop-i.invariant.low plain.0 plain.1 c.loop-i.invariant.same;
+      low = omega arith;
+    }
 
 pub loop-i-preserved : goal.loop-i-preserved
 loop-i-preserved c =

@@ -1,15 +1,12 @@
-use Rattle.std.proofs.Common.{◌≡◌, ◌∙◌, sym}
-use Rattle.ft_script.proofs.WordLemmas.{no_integer, never_fails, same_text, parsed}
+use Rattle.std.proofs.Common.{◌∙◌, arith, sym}
+use Rattle.ft_script.proofs.ShortNumbers.{no_short_integer, short_integer}
 use Rattle.ft_script.proofs.words.integer_of.Goals as goal
 
-pub returns-then-not-is_integer : goal.returns-then-not-is_integer
-returns-then-not-is_integer c = no_integer c.args.word.now (sym c.is_integer.ensures ∙ c.if-not-is_integer.true)
+pub returns-in_err-short_value-in-49-to-57 : goal.returns-in_err-short_value-in-49-to-57
+returns-in_err-short_value-in-49-to-57 c =
+    c.from_residual.ensures ∙ no_short_integer c.args.word.now (omega arith) c.if-word-le18.true (omega arith) (omega arith) (sym c.short_value.ensures.value ∙ c.in_err-short_value-in-49-to-57.was)
 
-pub returns-in_err-ok : goal.returns-in_err-ok
-returns-in_err-ok c =
-    absurd (never_fails c.args.word.now c.from_utf8.result _ _ (sym c.is_integer.ensures ∙ c.if-not-is_integer.false) c.from_utf8.ensures.cases (sym c.ok.ensures.value ∙ c.in_err-ok.was))
-
-pub returns : goal.returns
-returns c =
-    let same : c.in_ok-ok.field-0.now ≡ c.args.word.now = same_text c.args.word.now c.in_ok-ok.field-0 c.from_utf8.result _ c.from_utf8.ensures.cases (sym c.ok.ensures.value ∙ c.in_ok-ok.was) in
-    c.ok-2.ensures.value ∙ parsed c.args.word.now c.parse.result (sym c.is_integer.ensures ∙ c.if-not-is_integer.false) (rw same at c.parse.ensures.value.0)
+pub returns-in_ok-short_value-in-49-to-57 : goal.returns-in_ok-short_value-in-49-to-57
+returns-in_ok-short_value-in-49-to-57 c =
+    short_integer c.args.word.now c.in_ok-short_value-in-49-to-57.field-0 (omega arith) c.if-word-le18.true (omega arith) (omega arith) c.in_ok-short_value-in-49-to-57.ensures.small
+    (sym c.short_value.ensures.value ∙ c.in_ok-short_value-in-49-to-57.was)

@@ -1,3 +1,4 @@
+pub mod LastContents
 pub mod NumberedEntries
 pub mod ReversedLists
 pub mod Replies

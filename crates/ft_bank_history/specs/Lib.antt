@@ -1,2 +1,3 @@
+pub mod LastContents
 pub mod Marks
 pub mod Numbering

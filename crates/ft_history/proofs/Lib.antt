@@ -1,3 +1,4 @@
+pub mod LegalThere
 pub mod Agreement
 pub mod RightEntries
 pub mod KeysOnce

@@ -20,6 +20,11 @@ pub fn legal_is_unbroken()
     ensures { (storage : Storage) (script : ScriptParts) (entries : List Entry) → IsLegal storage script entries ↔ IsUnbroken storage script entries }
 {}
 
+/// Whether a history is legal can be told: it is, where it can't be that it isn't.
+pub fn legal_can_be_told()
+    ensures { (storage : Storage) (script : ScriptParts) (entries : List Entry) → ¬ (¬ (IsLegal storage script entries)) → IsLegal storage script entries }
+{}
+
 /// A history has no more than one verdict.
 pub fn one_verdict()
     ensures { (storage : Storage) (script : ScriptParts) (entries : List Entry) (one other : Verdict) → IsVerdict storage script entries one → IsVerdict storage script entries other → one ≡ other }

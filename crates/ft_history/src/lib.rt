@@ -25,8 +25,8 @@ pub use chronicles::{put_in_order, sorted_chronicles_are_legal};
 pub use enough_tables::enough_tables_never_run_out;
 pub use judging::{judge, judge_with_world};
 pub use laws::{
-    each_end_matches_one_begin, kept_sections_are_untouched, legal_is_unbroken, one_order,
-    one_verdict, threads_keep_their_order, writes_are_numbered,
+    each_end_matches_one_begin, kept_sections_are_untouched, legal_can_be_told, legal_is_unbroken,
+    one_order, one_verdict, threads_keep_their_order, writes_are_numbered,
 };
 pub use merging::{history_order, merge};
 pub use numbers::{

@@ -1,8 +1,9 @@
 -- From a report to what the source has.
 use Rattle.std.proofs.Common.{◌≡◌, ◌≢◌, ◌∙◌, ◌≤◌, ℕ, Bool, true, false, List, [], ◌++◌, length, Option, Some, None, refl, sym, ap, subst, arith, inl, inr}
 use Rattle.std.specs.Prelude.{IfSome, nat_lt}
-use Rattle.ft_runner.specs.Making.{IsSummary}
-use Rattle.ft_script.specs.Generator.{made_text}
+use Rattle.ft_runner.specs.Making.{IsMadeScript, IsSummary}
+use Rattle.ft_bank.specs.declared.closed.Closed.{Closed}
+use Rattle.ft_model.specs.declared.entry.Entry.{Entry}
 use Rattle.ft_script.specs.ReadScripts.{read_script}
 use Rattle.std.proofs.lemmas.Bool.{ltb-false, ltb-true, true≢false}
 use Rattle.std.proofs.lemmas.List.{append-nil, length-append}
@@ -85,7 +86,7 @@ module _ (source source' sink sink' : Stream) (text : List ℕ) (has : source.co
   check_cause (outcome.Write history closed) came put gives written does = absurd (sink_stood written.faults)
   check_cause outcome.Usage came put gives written does = absurd does.means
 
-  make_cause : (IsWhole : List ℕ → Type 0) (ended : Outcome) (came put : List ℕ) → PutsFor ended sink put sink' → DoesMake IsWhole ended source came source' put → IsMakeCause (fault_of ended)
+  make_cause : (IsWhole : List Entry → Option Closed → List ℕ → Type 0) (ended : Outcome) (came put : List ℕ) → PutsFor ended sink put sink' → DoesMake IsWhole ended source came source' put → IsMakeCause (fault_of ended)
   make_cause IsWhole (outcome.Clean history closed) came put written does = tt
   make_cause IsWhole outcome.Memory came put written does = tt
   make_cause IsWhole (outcome.Write history closed) came put written does = absurd (sink_stood written.faults)
@@ -100,7 +101,7 @@ module _ (source source' sink sink' : Stream) (text : List ℕ) (has : source.co
   any_cause subcommand.Run ended done = run_cause subcommand.Run ended done.came done.put done.reading done.writing done.own
   any_cause subcommand.Turns ended done = run_cause subcommand.Turns ended done.came done.put done.reading done.writing done.own
   any_cause subcommand.Check ended done = check_cause ended done.came done.put done.reading done.writing done.own
-  any_cause (subcommand.Make calls) ended done = make_cause (λ text. text ≡ made_text calls) ended done.came done.put done.writing done.own
+  any_cause (subcommand.Make calls) ended done = make_cause (IsMadeScript calls) ended done.came done.put done.writing done.own
   any_cause (subcommand.MakeTurns calls) ended done = make_cause (IsSummary calls) ended done.came done.put done.writing done.own
 
 pub cause_of : (command : Subcommand) (text : List ℕ) (report : Report) → IsReportOn command text report → IsCause command text report.fault

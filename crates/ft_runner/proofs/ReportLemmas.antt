@@ -15,9 +15,9 @@ use Rattle.ft_model.specs.Histories.{writes, world_at, IsLegal}
 use Rattle.ft_model.specs.Numbers.{AreFitting}
 use Rattle.ft_script.specs.declared.fault.ScriptFault.{ScriptFault}
 use Rattle.ft_script.specs.Faults.{no_memory}
-use Rattle.ft_script.specs.Generator.{made_text}
 use Rattle.ft_script.specs.ReadScripts.{read_script}
-use Rattle.ft_runner.specs.Making.{IsSummary}
+use Rattle.ft_runner.specs.LeftBanks.{LeavesBank}
+use Rattle.ft_runner.specs.Making.{IsMadeScript, IsSummary}
 use Rattle.ft_script.specs.Texts.{entry_line, world_text}
 use Rattle.ft_run_turns.specs.OrderedHistories.{IsOrderRunFor}
 use Rattle.ft_turns.specs.ShortReplies.{HasShortReply}
@@ -33,7 +33,7 @@ use Rattle.ft_runner.specs.Checking.{IsReadToItsEnd, IsScriptPart, IsWithinLimit
 use Rattle.ft_runner.specs.Commands.{runs_script}
 use Rattle.ft_runner.specs.Findings.{broken_line, legal_line, stored, IsBadAt, IsFound}
 use Rattle.ft_runner.specs.Transfers.{GivesBytes, Receives, PutsPrefix, PutsText, Reported, StopsReading, IsWholeInput, has_failed, is_too_much}
-use Rattle.ft_runner.specs.Reports.{is_read_outcome, is_too_long_outcome, is_usage_outcome, has_ended, comes_of_text, refusal_of, stopped, ComesTo, DoesCommand, DoesMake, DoesRun, IsCommandHistory, IsCommandDone, LeavesBank, MeansChecked, MeansMade, MeansRun, PutsFor}
+use Rattle.ft_runner.specs.Reports.{is_read_outcome, is_too_long_outcome, is_usage_outcome, has_ended, comes_of_text, refusal_of, stopped, ComesTo, DoesCommand, DoesMake, DoesRun, IsCommandHistory, IsCommandDone, MeansChecked, MeansMade, MeansRun, PutsFor}
 use Rattle.ft_runner.proofs.OpenLines.{few_fits, fit_in_time}
 use Rattle.ft_runner.proofs.StreamLemmas.{GivesBytes-none, Receives-none}
 
@@ -264,39 +264,46 @@ module _ (bytes : List ℕ) (sink sink' : Stream) where
 
 -- ---- what a script that is made comes to
 
-module _ (sink sink' : Stream) (text : List ℕ) (history : Vec Entry Global) (none : history.items ≡ []) where
-  pub made_whole : Receives sink text false sink' → ComesTo (MeansMade (λ made. made ≡ text)) sink sink' (outcome.Clean history None)
-  made_whole all = record { put = text; writing = all; means = (refl, none, refl); cause = refl }
+module _ (sink sink' : Stream) (text : List ℕ) (history : Vec Entry Global) (closed : Option Closed) where
+  pub made_whole : Receives sink text false sink' → ComesTo (MeansMade (λ entries left made. (made ≡ text) × (entries ≡ history.items) × (left ≡ closed))) sink sink' (outcome.Clean history closed)
+  made_whole all = record { put = text; writing = all; means = (refl, refl, refl); cause = refl }
 
-  pub made_part : PutsPrefix sink text true sink' → ComesTo (MeansMade (λ made. made ≡ text)) sink sink' (outcome.Write history None)
-  made_part part = record { put = part.prefix; writing = part.receives; means = (text, refl, part.is_prefix, none, refl); cause = refl }
+  pub made_part : PutsPrefix sink text true sink' → ComesTo (MeansMade (λ entries left made. (made ≡ text) × (entries ≡ history.items) × (left ≡ closed))) sink sink' (outcome.Write history closed)
+  made_part part = record { put = part.prefix; writing = part.receives; means = (text, (refl, refl, refl), part.is_prefix); cause = refl }
 
--- a text that is whole in another way
-means_made : (IsWhole : List ℕ → Type 0) (made : List ℕ) → IsWhole made → (ended : Outcome) (put : List ℕ) → MeansMade (λ other. other ≡ made) ended put → MeansMade IsWhole ended put
-means_made IsWhole made whole (outcome.Clean history closed) put means = (subst IsWhole (sym means.0) whole, means.1, means.2)
-means_made IsWhole made whole (outcome.Write history closed) put means = (means.0, subst IsWhole (sym means.1) whole, means.2, means.3, means.4)
-means_made IsWhole made whole outcome.Memory put means = means
-means_made IsWhole made whole (outcome.Script refused) put means = means
-means_made IsWhole made whole outcome.Usage put means = means
-means_made IsWhole made whole outcome.Read put means = means
-means_made IsWhole made whole outcome.TooLong put means = means
-means_made IsWhole made whole (outcome.NotLegal place rule) put means = means
-means_made IsWhole made whole (outcome.Transcript line) put means = means
+module _ (IsWhole : List Entry → Option Closed → List ℕ → Type 0) (history : List Entry) (closed : Option Closed) (text : List ℕ) (whole : IsWhole history closed text) where
+  -- what is this one is whole
+  just_whole : (entries : List Entry) (left : Option Closed) (made : List ℕ) → (made ≡ text) × (entries ≡ history) × (left ≡ closed) → IsWhole entries left made
+  just_whole entries left made is =
+      subst (λ (t : List ℕ). IsWhole entries left t) (sym is.0)
+      (subst (λ (es : List Entry). IsWhole es left text) (sym is.1)
+      (subst (λ (c : Option Closed). IsWhole history c text) (sym is.2) whole))
 
-made_done : (command : Subcommand) (IsWhole : List ℕ → Type 0) (text : List ℕ) → IsWhole text → (sink sink' : Stream) (ended : Outcome) → ComesTo (MeansMade (λ made. made ≡ text)) sink sink' ended → (source : Stream) → ((put : List ℕ) → DoesMake IsWhole ended source [] source put → DoesCommand (Some command) ended source [] source put) → IsCommandDone (Some command) source source sink sink' ended
-made_done command IsWhole text whole sink sink' ended comes source does =
-    let kind = text_outcome ended comes.cause in
-    record {
-      came = [];
-      put = comes.put;
-      usage = λ known. kind.0;
-      reading = subst (λ failed. GivesBytes source [] failed source) (sym kind.1) (GivesBytes-none source);
-      writing = comes.writing;
-      own = does comes.put (record { nothing_came = refl; untouched = refl; means = means_made IsWhole text whole ended comes.put comes.means });
-    }
+  means_made : (ended : Outcome) (put : List ℕ) → MeansMade (λ entries left made. (made ≡ text) × (entries ≡ history) × (left ≡ closed)) ended put → MeansMade IsWhole ended put
+  means_made (outcome.Clean entries left) put means = just_whole entries.items left put means
+  means_made (outcome.Write entries left) put means = (means.0, just_whole entries.items left means.0 means.1, means.2)
+  means_made outcome.Memory put means = means
+  means_made (outcome.Script refused) put means = means
+  means_made outcome.Usage put means = means
+  means_made outcome.Read put means = means
+  means_made outcome.TooLong put means = means
+  means_made (outcome.NotLegal place rule) put means = means
+  means_made (outcome.Transcript line) put means = means
 
-pub script_made : (calls : ℕ) (text : List ℕ) → text ≡ made_text calls → (sink sink' : Stream) (ended : Outcome) → ComesTo (MeansMade (λ made. made ≡ text)) sink sink' ended → (source : Stream) → IsCommandDone (Some (subcommand.Make calls)) source source sink sink' ended
-script_made calls text is sink sink' ended comes source = made_done (subcommand.Make calls) (λ made. made ≡ made_text calls) text is sink sink' ended comes source (λ put does. does)
+  made_done : (command : Subcommand) (sink sink' : Stream) (ended : Outcome) → ComesTo (MeansMade (λ entries left made. (made ≡ text) × (entries ≡ history) × (left ≡ closed))) sink sink' ended → (source : Stream) → ((put : List ℕ) → DoesMake IsWhole ended source [] source put → DoesCommand (Some command) ended source [] source put) → IsCommandDone (Some command) source source sink sink' ended
+  made_done command sink sink' ended comes source does =
+      let kind = text_outcome ended comes.cause in
+      record {
+        came = [];
+        put = comes.put;
+        usage = λ known. kind.0;
+        reading = subst (λ failed. GivesBytes source [] failed source) (sym kind.1) (GivesBytes-none source);
+        writing = comes.writing;
+        own = does comes.put (record { nothing_came = refl; untouched = refl; means = means_made ended comes.put comes.means });
+      }
 
-pub summary_made : (calls : ℕ) (text : List ℕ) → IsSummary calls text → (sink sink' : Stream) (ended : Outcome) → ComesTo (MeansMade (λ made. made ≡ text)) sink sink' ended → (source : Stream) → IsCommandDone (Some (subcommand.MakeTurns calls)) source source sink sink' ended
-summary_made calls text is sink sink' ended comes source = made_done (subcommand.MakeTurns calls) (IsSummary calls) text is sink sink' ended comes source (λ put does. does)
+pub script_made : (calls : ℕ) (text : List ℕ) (history : List Entry) (closed : Option Closed) → IsMadeScript calls history closed text → (sink sink' : Stream) (ended : Outcome) → ComesTo (MeansMade (λ entries left made. (made ≡ text) × (entries ≡ history) × (left ≡ closed))) sink sink' ended → (source : Stream) → IsCommandDone (Some (subcommand.Make calls)) source source sink sink' ended
+script_made calls text history closed is sink sink' ended comes source = made_done (IsMadeScript calls) history closed text is (subcommand.Make calls) sink sink' ended comes source (λ put does. does)
+
+pub summary_made : (calls : ℕ) (text : List ℕ) (history : List Entry) (closed : Option Closed) → IsSummary calls history closed text → (sink sink' : Stream) (ended : Outcome) → ComesTo (MeansMade (λ entries left made. (made ≡ text) × (entries ≡ history) × (left ≡ closed))) sink sink' ended → (source : Stream) → IsCommandDone (Some (subcommand.MakeTurns calls)) source source sink sink' ended
+summary_made calls text history closed is sink sink' ended comes source = made_done (IsSummary calls) history closed text is (subcommand.MakeTurns calls) sink sink' ended comes source (λ put does. does)

@@ -1,6 +1,7 @@
 -- What a clean report of a run says of what was written, and one of a check.
 use Rattle.std.proofs.Common.{◌≡◌, ◌∙◌, ℕ, ◌≤◌, true, false, List, [], length, Option, Some, Ok, refl, sym, ap, subst}
 use Rattle.std.proofs.lemmas.Bool.{false≢true}
+use Rattle.ft_bank.specs.declared.closed.Closed.{Closed}
 use Rattle.ft_io.specs.Streams.{added, Stream}
 use Rattle.ft_model.specs.declared.entry.Entry.{Entry}
 use Rattle.ft_model.specs.declared.script.ScriptParts.{ScriptParts}
@@ -16,7 +17,8 @@ use Rattle.ft_runner.specs.declared.report.Report.{Report}
 use Rattle.ft_runner.specs.FaultCauses.{IsReportOn, IsRunCause}
 use Rattle.ft_runner.specs.Commands.{runs_script}
 use Rattle.ft_runner.specs.Findings.{legal_line, stored}
-use Rattle.ft_runner.specs.Reports.{fault_of, history_of, is_read_outcome, DoesCheck, DoesRun, IsCommandDone, IsCommandHistory, PutsFor}
+use Rattle.ft_runner.specs.Making.{IsSummary}
+use Rattle.ft_runner.specs.Reports.{closed_of, fault_of, history_of, is_read_outcome, DoesCheck, DoesMake, DoesRun, IsCommandDone, IsCommandHistory, PutsFor}
 use Rattle.ft_runner.specs.Transfers.{script_limit, GivesBytes}
 use Rattle.ft_runner.specs.Written.{IsWritten}
 use Rattle.ft_runner.proofs.CauseLemmas.{cause_of, gives_all, run_cause_of}
@@ -86,3 +88,24 @@ pub writes_legal : (text : List ℕ) (report : Report) (on : IsReportOn subcomma
 writes_legal text report on clean =
     let done = done_of subcommand.Check text report on in
     clean_check on.source on.source' on.sink on.sink' text on.has on.is.ended done.came done.put (sym on.is.fault ∙ clean) done.writing done.own
+
+-- ---- a made script that is summed up
+
+clean_summary : (calls : ℕ) (ended : Outcome) (source : Stream) (came : List ℕ) (source' : Stream) (put : List ℕ) → fault_of ended ≡ fault.Clean → DoesMake (IsSummary calls) ended source came source' put → IsSummary calls (history_of ended) (closed_of ended) put
+clean_summary calls (outcome.Clean history closed) source came source' put clean does = does.means
+clean_summary calls (outcome.Script refused) source came source' put clean does = absurd cc
+clean_summary calls outcome.Usage source came source' put clean does = absurd cc
+clean_summary calls outcome.Read source came source' put clean does = absurd cc
+clean_summary calls (outcome.Write history closed) source came source' put clean does = absurd cc
+clean_summary calls outcome.Memory source came source' put clean does = absurd cc
+clean_summary calls outcome.TooLong source came source' put clean does = absurd cc
+clean_summary calls (outcome.NotLegal place rule) source came source' put clean does = absurd cc
+clean_summary calls (outcome.Transcript line) source came source' put clean does = absurd cc
+
+-- what was put is the summary of the history that is reported
+pub summed_up : (calls : ℕ) (text : List ℕ) (report : Report) → IsReportOn (subcommand.MakeTurns calls) text report → report.fault ≡ fault.Clean → (closed : Option Closed) × (put : List ℕ) × IsSummary calls report.history.items closed put
+summed_up calls text report on clean =
+    let ended = on.is.ended in
+    let done = done_of (subcommand.MakeTurns calls) text report on in
+    let is = clean_summary calls ended on.source done.came on.source' done.put (sym on.is.fault ∙ clean) done.own in
+    (closed_of ended, done.put, subst (λ (history : List Entry). IsSummary calls history (closed_of ended) done.put) (sym on.is.history) is)

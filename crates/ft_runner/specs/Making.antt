@@ -1,8 +1,9 @@
 -- What `make` writes. (profile)
-use Rattle.std.specs.Prelude.{◌≡◌, ℕ, Bool, true, false, List, [], ◌∷◌, ◌++◌, length, count_by, slice_get, codes, Ok}
+use Rattle.std.specs.Prelude.{◌≡◌, ℕ, Bool, true, false, List, [], ◌∷◌, ◌++◌, length, count_by, slice_get, codes, Option, None, Ok}
 use Rattle.std.specs.Fmt.{decimal}
 use Rattle.std.specs.List.{flat_map}
 use Rattle.std.specs.Option.{option_map_or}
+use Rattle.ft_bank.specs.declared.closed.Closed.{Closed}
 use Rattle.ft_model.specs.declared.content.Content.{Content}
 use Rattle.ft_model.specs.declared.entry.Entry.{Entry}
 use Rattle.ft_model.specs.declared.reply.Reply.{Reply}
@@ -11,11 +12,13 @@ use Rattle.ft_model.specs.declared.reply.Raise.TheVariants as raise
 use Rattle.ft_model.specs.declared.script.ScriptParts.{ScriptParts}
 use Rattle.ft_model.specs.Answers.{is_memory}
 use Rattle.ft_model.specs.Histories.{writes, world_at, IsLegal}
+use Rattle.ft_model.specs.Numbers.{AreFitting}
 use Rattle.ft_model.specs.Worlds.{length_of}
 use Rattle.ft_script.specs.Generator.{made_text}
 use Rattle.ft_script.specs.ReadScripts.{read_script}
 use Rattle.ft_run_turns.specs.OrderedHistories.{IsOrderRunFor}
 use Rattle.ft_runner.specs.Findings.{stored}
+use Rattle.ft_runner.specs.LeftBanks.{LeavesBank}
 
 -- ---- the summary
 
@@ -49,11 +52,20 @@ row_text row = row.0 ++ 32 ∷ decimal row.1 ++ 10 ∷ []
 abbrev pub summary_text : ℕ → List Entry → List Content → List ℕ
 summary_text calls history world = flat_map row_text (summary_rows calls history world)
 
--- the text is the summary of the history to which the made script of this many calls comes in the order of its turns
-pub record IsSummary (calls : ℕ) (text : List ℕ) : Type 0 where
+-- ---- what is made
+
+-- the text is the script of this many calls; no history is reported, and no bank is left
+abbrev pub IsMadeScript : ℕ → List Entry → Option Closed → List ℕ → Type 0
+IsMadeScript calls history closed text = (text ≡ made_text calls) × (history ≡ []) × (closed ≡ None)
+
+-- the text is the summary of this history, to which the made script of this many calls comes in the order of its turns;
+-- what is left of the bank is that of this run
+pub record IsSummary (calls : ℕ) (history : List Entry) (closed : Option Closed) (text : List ℕ) : Type 0 where
   pub script : ScriptParts
   pub read : read_script (made_text calls) ≡ Ok script
-  pub history : List Entry
   pub legal : IsLegal stored script history
   pub order : IsOrderRunFor script history
+  -- each MemoryError of a class stands on a call that would take a table of that class there
+  pub fitting : AreFitting stored script history
+  pub left : LeavesBank (made_text calls) history closed
   pub written : text ≡ summary_text calls history (world_at script history (length (writes history)))

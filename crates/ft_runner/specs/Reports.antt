@@ -4,7 +4,6 @@ use Rattle.std.specs.Fmt.{decimal}
 use Rattle.ft_history.specs.declared.verdict.Verdict.{Verdict}
 use Rattle.ft_history.specs.declared.verdict.Verdict.TheVariants as verdict
 use Rattle.ft_bank.specs.declared.closed.Closed.{Closed}
-use Rattle.ft_bank.specs.Closings.{shape_in}
 use Rattle.ft_io.specs.Streams.{Stream}
 use Rattle.ft_model.specs.declared.entry.Entry.{Entry}
 use Rattle.ft_model.specs.declared.script.ScriptParts.{ScriptParts}
@@ -12,13 +11,10 @@ use Rattle.ft_model.specs.Histories.{IsLegal}
 use Rattle.ft_model.specs.Numbers.{AreFitting}
 use Rattle.ft_script.specs.declared.fault.ScriptFault.{ScriptFault}
 use Rattle.ft_script.specs.Faults.{kind_text}
-use Rattle.ft_script.specs.Generator.{made_text}
 use Rattle.ft_script.specs.ReadScripts.{read_script}
 use Rattle.ft_script.specs.Texts.{transcript}
 use Rattle.ft_run_turns.specs.OrderedHistories.{IsOrderRunFor}
 use Rattle.ft_turns.specs.ShortReplies.{HasShortReply}
-use Rattle.ft_run_threads.specs.ClosedHistories.{HasEntriesOf}
-use Rattle.ft_run_threads.specs.Workers.{IsBankFor}
 use Rattle.ft_runner.specs.declared.command.Subcommand.{Subcommand}
 use Rattle.ft_runner.specs.declared.command.Subcommand.TheVariants as subcommand
 use Rattle.ft_runner.specs.declared.outcome.Outcome.{Outcome}
@@ -31,7 +27,8 @@ use Rattle.ft_runner.specs.declared.report.Report.{Report}
 use Rattle.ft_runner.specs.Checking.{most_checked, CanFit, IsReadInTime, IsScriptPart, IsTooLong, IsWithinLimits}
 use Rattle.ft_runner.specs.Commands.{command_of}
 use Rattle.ft_runner.specs.Findings.{broken_line, legal_line, stored, IsBadAt, IsFound}
-use Rattle.ft_runner.specs.Making.{IsSummary}
+use Rattle.ft_runner.specs.LeftBanks.{LeavesBank}
+use Rattle.ft_runner.specs.Making.{IsMadeScript, IsSummary}
 use Rattle.ft_runner.specs.Transfers.{most_read, script_limit, GivesBytes, HasEnded, IsPrefix, Receives, Reported}
 
 -- ---- what a call comes to
@@ -184,18 +181,6 @@ pub record IsHistoryBegun (command : Subcommand) (bytes : List ℕ) (history : L
   pub whole : IsCommandHistory command bytes history text
   pub prefix : IsPrefix put text
 
--- what is left of a bank that was made for the script that the bytes are, and has just the history's entries, marks
--- aside
-pub record IsLeft (bytes : List ℕ) (history : List Entry) (closed : Closed) : Type 0 where
-  pub script : ScriptParts
-  pub read : read_script bytes ≡ Ok script
-  pub bank : IsBankFor script (shape_in closed)
-  pub entries : HasEntriesOf closed history
-
--- there is such a bank
-abbrev pub LeavesBank : List ℕ → List Entry → Option Closed → Type 0
-LeavesBank bytes history closed = (bank : Closed) × (closed ≡ Some bank) × IsLeft bytes history bank
-
 -- a script's first fault; out of memory is none
 pub record IsFirstFault (bytes : List ℕ) (refused : ScriptFault) : Type 0 where
   pub first : read_script bytes ≡ Err refused
@@ -259,11 +244,12 @@ pub record DoesCheck (ended : Outcome) (source : Stream) (came : List ℕ) (sour
 
 -- ---- a script that is made
 
--- what it says of the bytes that were put that making came to this; a text that is made is whole as the relation says
-abbrev pub MeansMade : (List ℕ → Type 0) → Outcome → List ℕ → Type 0
-MeansMade IsWhole (outcome.Clean history closed) put = IsWhole put × (history.items ≡ []) × (closed ≡ None)
+-- what it says of the bytes that were put that making came to this; the whole text is as the relation says, which
+-- speaks too of the history and of what is left of a bank that are reported
+abbrev pub MeansMade : (List Entry → Option Closed → List ℕ → Type 0) → Outcome → List ℕ → Type 0
+MeansMade IsWhole (outcome.Clean history closed) put = IsWhole history.items closed put
 MeansMade IsWhole (outcome.Write history closed) put =
-    (text : List ℕ) × IsWhole text × IsPrefix put text × (history.items ≡ []) × (closed ≡ None)
+    (text : List ℕ) × IsWhole history.items closed text × IsPrefix put text
 MeansMade IsWhole outcome.Memory put = put ≡ []
 MeansMade IsWhole (outcome.Script refused) put = ⊥
 MeansMade IsWhole outcome.Usage put = ⊥
@@ -273,8 +259,8 @@ MeansMade IsWhole (outcome.NotLegal place rule) put = ⊥
 MeansMade IsWhole (outcome.Transcript line) put = ⊥
 
 -- what a command that makes a script does: it reads nothing
-pub record DoesMake (IsWhole : List ℕ → Type 0) (ended : Outcome) (source : Stream) (came : List ℕ)
-    (source' : Stream) (put : List ℕ) : Type 0 where
+pub record DoesMake (IsWhole : List Entry → Option Closed → List ℕ → Type 0) (ended : Outcome) (source : Stream)
+    (came : List ℕ) (source' : Stream) (put : List ℕ) : Type 0 where
   pub nothing_came : came ≡ []
   pub untouched : source' ≡ source
   pub means : MeansMade IsWhole ended put
@@ -303,7 +289,7 @@ DoesCommand (Some subcommand.Run) ended source came source' put = DoesRun subcom
 DoesCommand (Some subcommand.Turns) ended source came source' put = DoesRun subcommand.Turns ended came source' put
 DoesCommand (Some subcommand.Check) ended source came source' put = DoesCheck ended source came source' put
 DoesCommand (Some (subcommand.Make calls)) ended source came source' put =
-    DoesMake (λ text. text ≡ made_text calls) ended source came source' put
+    DoesMake (IsMadeScript calls) ended source came source' put
 DoesCommand (Some (subcommand.MakeTurns calls)) ended source came source' put =
     DoesMake (IsSummary calls) ended source came source' put
 

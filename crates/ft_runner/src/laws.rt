@@ -20,6 +20,7 @@ ghost use Rattle.ft_runner.specs.Transfers.{input_limit, script_limit};
 ghost use Rattle.ft_runner.specs.Written.{checked_text, EndsLine, IsWritten};
 ghost use Rattle.ft_runner.specs.Reports.{fault_of, refusal_of, reported_of};
 ghost use Rattle.ft_script.specs.declared.fault.ScriptFault.{ScriptFault};
+ghost use Rattle.ft_script.specs.Generator.{made_text};
 ghost use Rattle.ft_script.specs.ReadScripts.{read_script};
 ghost use Rattle.ft_script.specs.Texts.{transcript};
 ghost use Rattle.std.specs.Prelude.{◌≡◌, ◌<◌, ◌≤◌, ◌⊎◌, ℕ, List, Ok, Err, All, true, false, length};
@@ -101,10 +102,16 @@ pub fn what_is_written_is_found_legal()
 
 /// Where a script has enough tables, and no call would leave a container with more than the largest
 /// table holds, no MemoryError is written of it: of each class there are as many tables as the script
-/// has calls that can add, and one more for each thread but one.
+/// has calls that can add, and one more for each thread but one. The same holds of a made script, of
+/// which a summary is written.
 pub fn enough_tables_never_run_out()
-    ensures { (command : Subcommand) (text written : List ℕ) (script : ScriptParts)
+    ensures written { (command : Subcommand) (text written : List ℕ) (script : ScriptParts)
         → runs_script command ≡ true → (ran : IsWritten command text written) → read_script text ≡ Ok script
         → HasEnoughTables script → StaysWithinCaps script ran.report.history.items
         → All (λ entry. is_memory entry.reply ≡ false) ran.report.history.items }
+    ensures made { (calls : ℕ) (text : List ℕ) (report : Report) (script : ScriptParts)
+        → IsReportOn (subcommand.MakeTurns calls) text report → report.fault ≡ fault.Clean
+        → read_script (made_text calls) ≡ Ok script
+        → HasEnoughTables script → StaysWithinCaps script report.history.items
+        → All (λ entry. is_memory entry.reply ≡ false) report.history.items }
 {}

@@ -11,6 +11,7 @@ ghost use Rattle.ft_runner.specs.Reports.{ComesTo, IsCommandDone, MeansMade};
 use crate::outcome::Outcome;
 use crate::running::run_turns;
 use crate::writing::put_all;
+use ft_bank::Closed;
 use ft_io::{Failed, Sink};
 use ft_model::{Entry, Raise, Reply, World};
 use ft_script::{make_script, parse};
@@ -26,40 +27,61 @@ enum Counted {
     MemoryErrors,
 }
 
+/// The summary of a made script, with the history of its turns and what is left of the bank.
+#[derive(Drop)]
+struct MadeSummary {
+    text: Vec<u8>,
+    history: Vec<Entry>,
+    closed: Closed,
+}
+
 /// Writes the script of that many calls.
 pub(crate) fn make<K: Sink>(alloc: Global, calls: u32, sink: &mut K) -> Outcome
     ensures { (source : Stream) → IsCommandDone (Some (subcommand.Make calls)) source source (K.stream sink.old) (K.stream sink.new) result }
 {
     match make_script(alloc, calls) {
-        Ok(text) => put_made(alloc, &text, sink),
+        Ok(text) => put_made(&text, sink, Vec::new(alloc), None),
         Err(AllocError) => Outcome::Memory,
     }
 }
 
 /// Runs the script of that many calls in the order of its turns, and writes what it came to as a
-/// summary.
+/// summary. The history and what is left of the bank are reported.
 pub(crate) fn make_turns<K: Sink>(alloc: Global, calls: u32, sink: &mut K) -> Outcome
     ensures { (source : Stream) → IsCommandDone (Some (subcommand.MakeTurns calls)) source source (K.stream sink.old) (K.stream sink.new) result }
 {
     match summary(alloc, calls) {
-        Ok(text) => put_made(alloc, &text, sink),
+        Ok(
+            MadeSummary {
+                text,
+                history,
+                closed,
+            },
+        ) => put_made(&text, sink, history, Some(closed)),
         Err(AllocError) => Outcome::Memory,
     }
 }
 
-/// Puts a text that was made, and answers what it comes to.
-fn put_made<K: Sink>(alloc: Global, text: &[u8], sink: &mut K) -> Outcome
-    ensures { ComesTo (MeansMade (λ made. made ≡ text.now)) (K.stream sink.old) (K.stream sink.new) result }
+/// Puts a text that was made, and answers what it comes to, with the history and the closed bank that
+/// are reported.
+fn put_made<K: Sink>(
+    text: &[u8],
+    sink: &mut K,
+    history: Vec<Entry>,
+    closed: Option<Closed>,
+) -> Outcome
+    ensures { ComesTo (MeansMade (λ entries left made. (made ≡ text.now) × (entries ≡ history.items) × (left ≡ closed)))
+        (K.stream sink.old) (K.stream sink.new) result }
 {
     match put_all(sink, text) {
-        Ok(()) => Outcome::Clean(Vec::new(alloc), None),
-        Err(Failed) => Outcome::Write(Vec::new(alloc), None),
+        Ok(()) => Outcome::Clean(history, closed),
+        Err(Failed) => Outcome::Write(history, closed),
     }
 }
 
-/// The summary of the script of that many calls.
-fn summary(alloc: Global, calls: u32) -> Result<Vec<u8>, AllocError>
-    ensures { IfOk result (λ text. IsSummary calls text.items) }
+/// The script of that many calls, run in the order of its turns, and its summary.
+fn summary(alloc: Global, calls: u32) -> Result<MadeSummary, AllocError>
+    ensures { IfOk result (λ made. IsSummary calls made.history.items (Some made.closed) made.text.items) }
 {
     let made = make_script(alloc, calls)?;
     // What was made is a script, so it is refused only where memory runs out.
@@ -67,7 +89,12 @@ fn summary(alloc: Global, calls: u32) -> Result<Vec<u8>, AllocError>
         return Err(AllocError);
     };
     let run = run_turns(alloc, &script)?;
-    summary_of(alloc, calls, &run.history, &run.world)
+    let text = summary_of(alloc, calls, &run.history, &run.world)?;
+    Ok(MadeSummary {
+        text,
+        history: run.history,
+        closed: run.closed,
+    })
 }
 
 /// The summary of a history and of the contents that it leaves.

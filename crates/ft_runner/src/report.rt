@@ -61,9 +61,9 @@ pub struct Report {
     /// The status that the program ends with, which is the fault's.
     pub status: u8,
     pub fault: Fault,
-    /// The history that was written, whole or in part; empty where there is none.
+    /// The history that was written, whole or in part, or summed up; empty where there is none.
     pub history: Vec<Entry>,
     /// What is left of the bank in which the containers were: there is one where a script was run and
-    /// its history written, whole or in part.
+    /// its history written, whole or in part, or summed up.
     pub closed: Option<Closed>,
 }

@@ -328,7 +328,9 @@ fn call_check(alloc: Global, script: &str, transcript: &[u8]) -> Result<Called, 
 /// The call of the case comes to what the case says.
 fn check<R: Threads + Wait + Sync + Abort + AllocGlobal>(rt: &R, case: &Case) -> Result<(), Fail> {
     let called = call(rt, case.command, case.input, case.moves, &NoGate)?;
-    let runs = case.command == "run" || case.command.starts_with("turns");
+    // A made script is run where it is summed up.
+    let summed_up = case.command.starts_with("make") && case.entries > 0;
+    let runs = case.command == "run" || case.command.starts_with("turns") || summed_up;
     let is_left = runs && (case.status == 0 || case.status == 4);
     assert_eq!(rt;
         (

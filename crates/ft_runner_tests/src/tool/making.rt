@@ -54,11 +54,13 @@ fn scripts_are_made(rt: HostRuntime) -> Result<(), Fail> {
 fn runs_of_made_scripts_are_summed_up(rt: HostRuntime) -> Result<(), Fail> {
     let made = Case {
         put: SUMMARY,
+        entries: 1,
         ..MAKES
     };
     check_commands(&rt, made, &SUMMARIES)?;
     let cut = Case {
         put: "calls 1",
+        entries: 1,
         ..FAILS
     };
     check_commands(&rt, cut, &SUMMARIES)
@@ -75,6 +77,7 @@ fn twenty_thousand_calls_are_run(rt: HostRuntime) -> Result<(), Fail> {
     let summary = call_still(alloc, "make 20000 turns", Vec::new(alloc), AMPLE)?;
     assert_eq!(rt; summary.status, 0);
     assert_eq!(rt; summary.put.as_slice(), TWENTY_THOUSAND.as_bytes());
+    assert_eq!(rt; (summary.entries, summary.is_closed), (20_000, true));
     let again = call_still(alloc, "make 20000 turns", Vec::new(alloc), AMPLE)?;
     assert_eq!(rt; again.put.as_slice(), summary.put.as_slice());
     Ok(())

@@ -1,6 +1,6 @@
 use Rattle.std.proofs.Common.{refl}
 use Rattle.std.specs.Prelude.{Some}
-use Rattle.ft_runner.specs.Reports.{LeavesBank}
+use Rattle.ft_runner.specs.LeftBanks.{LeavesBank}
 use Rattle.ft_runner.proofs.ReportLemmas.{run_failed, run_short, run_written}
 use Rattle.ft_runner.proofs.RunHistories.{entries_made, run_made, world_made}
 use Rattle.ft_runner.proofs.running.put_run.Goals as goal

@@ -106,31 +106,31 @@ impl Set {
     }
 
     /// `s <= t` (Python manual, Set Types). As every call on two sets, it looks the elements of one up
-    /// in the other's hash table, so its time is the sum of the lengths. It takes no memory.
-    pub fn is_subset(&self, _alloc: Global, other: &Set) -> Result<bool, AllocError>
-        ensures answer { IfOk result (λ is. is ≡ is_subset self.now.elements other.now.elements) }
-        ensures members { IfOk result (λ is. IsTrue is ↔ ((key : Key) →
-            IsTrue (has_element self.now.elements key) → IsTrue (has_element other.now.elements key))) }
+    /// in the other's hash table, so its time is the sum of the lengths.
+    pub fn is_subset(&self, other: &Set) -> bool
+        ensures answer { result ≡ is_subset self.now.elements other.now.elements }
+        ensures members { IsTrue result ↔ ((key : Key) →
+            IsTrue (has_element self.now.elements key) → IsTrue (has_element other.now.elements key)) }
     {
-        Ok(self.is_among(other))
+        self.is_among(other)
     }
 
-    /// `s == t`: the same elements, in any order (Python manual, Set Types). It takes no memory.
-    pub fn equals(&self, _alloc: Global, other: &Set) -> Result<bool, AllocError>
-        ensures answer { IfOk result (λ same. same ≡ same_elements self.now.elements other.now.elements) }
-        ensures members { IfOk result (λ same. IsTrue same ↔ ((key : Key) →
-            has_element self.now.elements key ≡ has_element other.now.elements key)) }
+    /// `s == t`: the same elements, in any order (Python manual, Set Types).
+    pub fn equals(&self, other: &Set) -> bool
+        ensures answer { result ≡ same_elements self.now.elements other.now.elements }
+        ensures members { IsTrue result ↔ ((key : Key) →
+            has_element self.now.elements key ≡ has_element other.now.elements key) }
     {
-        Ok(self.is_same(other))
+        self.is_same(other)
     }
 
-    /// `s.isdisjoint(t)` (Python manual, Set Types). It takes no memory.
-    pub fn is_disjoint(&self, _alloc: Global, other: &Set) -> Result<bool, AllocError>
-        ensures answer { IfOk result (λ is. is ≡ is_disjoint self.now.elements other.now.elements) }
-        ensures members { IfOk result (λ is. IsTrue is ↔ ((key : Key) →
-            IsTrue (has_element self.now.elements key) → has_element other.now.elements key ≡ false)) }
+    /// `s.isdisjoint(t)` (Python manual, Set Types).
+    pub fn is_disjoint(&self, other: &Set) -> bool
+        ensures answer { result ≡ is_disjoint self.now.elements other.now.elements }
+        ensures members { IsTrue result ↔ ((key : Key) →
+            IsTrue (has_element self.now.elements key) → has_element other.now.elements key ≡ false) }
     {
-        Ok(!self.meets(other))
+        !self.meets(other)
     }
 
     /// A set with the same elements and the same next serial. An `Err` says that memory ran out.

@@ -39,17 +39,12 @@ pub(crate) fn answer(
             let keys = keys(alloc, world.set(place))?;
             Ok(Reply::Set(Sequence::from_vec(keys)))
         }
-        SetCall::Eq { other } => {
-            let same = world.set(place).equals(alloc, world.set(other))?;
-            Ok(Reply::Truth(same))
-        }
+        SetCall::Eq { other } => Ok(Reply::Truth(world.set(place).equals(world.set(other)))),
         SetCall::Subset { other } => {
-            let is_subset = world.set(place).is_subset(alloc, world.set(other))?;
-            Ok(Reply::Truth(is_subset))
+            Ok(Reply::Truth(world.set(place).is_subset(world.set(other))))
         }
         SetCall::Disjoint { other } => {
-            let is_disjoint = world.set(place).is_disjoint(alloc, world.set(other))?;
-            Ok(Reply::Truth(is_disjoint))
+            Ok(Reply::Truth(world.set(place).is_disjoint(world.set(other))))
         }
         SetCall::Iter { cursor } => {
             let size = world.set(place).len() as u64;

@@ -35,7 +35,7 @@ use Rattle.ft_trace.specs.declared.View.{View}
 use Rattle.ft_trace.specs.Addresses.{container_count, class_of, slots, places, size}
 use Rattle.ft_trace.specs.Acts.{has_lock}
 use Rattle.ft_trace.specs.Pictures.{root_in, index_field, entry_offset, entry_field, walk_of}
-use Rattle.ft_trace.specs.Carefuls.{said_of, HasLiveKey, Reached, Clear}
+use Rattle.ft_trace.specs.Carefuls.{said_of, HasLiveKey, Reached, Clear, OpensChanged}
 use Rattle.ft_trace.specs.Kinds.{under, version_at, IsKeyed}
 use Rattle.ft_trace.specs.OddVersions.{Shut}
 use Rattle.ft_trace.specs.Holds.{held_words, known_state, AgreesWith}
@@ -51,6 +51,8 @@ use Rattle.ft_trace.proofs.Naming.{one_locked}
 use Rattle.ft_model.proofs.SplitDicts.{unsplit_takes, unsplit_leaves}
 use Rattle.ft_trace.proofs.KnownContents.{use_of, known_use, known_says, known_shut, in_tables, content_there, table_there, keys_there, content_left}
 use Rattle.ft_trace.proofs.WriteFacts.{facts_suffice}
+use Rattle.ft_trace.proofs.LookReplies.{value_said}
+use Rattle.ft_trace.proofs.FitCalls.{dict_fits_words}
 
 -- ---- laws of tables and of their dicts, as they are cited
 
@@ -126,9 +128,9 @@ module _ (first : FirstEntriesArePairs) (texts block : List ℕ) (c fill : ℕ) 
 -- words that stand for what a call leaves, where entries with even versions are as they were while they stood for what
 -- it found
 pub dict_clear : (first : FirstEntriesArePairs) (texts block before : List ℕ) (c fill more : ℕ) (is_class : IsClass c) (pairs news : DictContent) (ws zs : List ℕ) (says : IsDictWords texts before (0 ∷ 0 ∷ ws) (Some c) fill pairs) (now : IsDictWords texts block (0 ∷ 0 ∷ zs) (Some c) more news)
-    → ((q w : ℕ) → q < places c → entry_field (slots c) zs q 0 % 2 ≡ 0 → w < 8 → entry_field (slots c) zs q w ≡ entry_field (slots c) ws q w) → Clear (walk_of kind.Dict texts c) (slots c) (places c) zs (under (content.Dict pairs)) (under (content.Dict news))
-dict_clear first texts block before c fill more is_class pairs news ws zs says now same =
-    words_clear (walk_of kind.Dict texts c) (slots c) (places c) ws zs (under (content.Dict pairs)) (under (content.Dict news)) (dict_right first texts before c fill is_class pairs ws says) (dict_right first texts block c more is_class news zs now) (dict_reached first texts block c more is_class news zs now) same
+    → ((q w : ℕ) → q < places c → entry_field (slots c) zs q 0 % 2 ≡ 0 → w < 8 → entry_field (slots c) zs q w ≡ entry_field (slots c) ws q w) → OpensChanged (slots c) (places c) zs (under (content.Dict pairs)) (under (content.Dict news)) → Clear (walk_of kind.Dict texts c) (slots c) (places c) zs (under (content.Dict pairs)) (under (content.Dict news))
+dict_clear first texts block before c fill more is_class pairs news ws zs says now same opens =
+    words_clear (walk_of kind.Dict texts c) (slots c) (places c) ws zs (under (content.Dict pairs)) (under (content.Dict news)) (dict_right first texts before c fill is_class pairs ws says) (dict_right first texts block c more is_class news zs now) (dict_reached first texts block c more is_class news zs now) same opens
 
 -- ---- d[k] = v, in each history that agrees with what a pass with the lock of the dict knows
 
@@ -161,7 +163,7 @@ module _ (v : View) (o : ℕ) (pairs : DictContent) (low : o < container_count v
 -- ---- d[k] = v, where the key is there
 
 module _ (versions : EntryVersionsChangeNothing) (follow : WordsFollowAValue) (lives : LiveEntriesArePairs) (serials : ValuesKeepSerials) (first : FirstEntriesArePairs) (v : View) (o t place : ℕ) (key : Key) (value : Value) (pairs : DictContent) (may : MayWrite v o) (is_dict : (known_state o v).content ≡ content.Dict pairs) (names : root_in (held_words o v) ≡ suc t)
-    (low : place < places (class_of t)) (live : HasLiveKey (slots (class_of t)) (held_words o v).table place key) (fits_key : FitsKey key) (fits : FitsStored (Plain value)) where
+    (low : place < places (class_of t)) (live : HasLiveKey (slots (class_of t)) (held_words o v).table place key) (fits_key : FitsKey key) (fits : FitsStored (Plain value)) (differs : dict_get pairs.pairs key ≢ Some value) where
   abbrev k : Shape
   k = v.shape
 
@@ -269,13 +271,19 @@ module _ (versions : EntryVersionsChangeNothing) (follow : WordsFollowAValue) (l
       let p1 : MayPut kind.Dict t (content.Dict pairs) false (held_words o v) (to_table (entry_offset n place 0) (ver + 1)) = (names, inside 0 (omega arith), value_open n m ws (under (content.Dict pairs)) (under (content.Dict news)) place key kind_word payload low long even live, time 0 (ver + 1) (omega arith) (λ _. let e = even in omega (arith, e))) in
       (p1, (p2, (p3, tt)))
 
+  -- the words of the entry are of another value
+  other : entry_field n ws place 4 ≡ stored_kind (Plain value) → entry_field n ws place 5 ≡ stored_payload (Plain value) → ⊥
+  other kind_word payload =
+      let words : under (content.Dict pairs) key ≡ said_of n ws place = dict_right first k.texts b c fill class_is pairs ws says place key low live in
+      differs (value_said pairs key fits_key (dict_fits_words k.texts b (0 ∷ 0 ∷ ws) c fill pairs says) value fits (entry_field n ws place 4) (entry_field n ws place 5) (entry_field n ws place 6) words kind_word payload)
+
   clear : Clear (walk_of kind.Dict k.texts c) n m put (under (content.Dict pairs)) (under (content.Dict news))
   clear =
       value_clear n m ws (under (content.Dict pairs)) (under (content.Dict news)) place key (stored_kind (Plain value)) (stored_payload (Plain value)) low long even live
       (λ q a less l. dict_right first k.texts b c fill class_is pairs ws says q a less l)
       (λ q a less l. dict_right first k.texts b c fill class_is news put put_says q a less l)
       (λ a some. dict_live first k.texts b c fill class_is news put put_says a some)
-      (walk_of kind.Dict k.texts c)
+      other shut (walk_of kind.Dict k.texts c)
 
   late : MayPuts kind.Dict t (content.Dict news) true (at_commit v o write) (entry_closed n ws place)
   late =
@@ -350,4 +358,4 @@ module _ (versions : EntryVersionsChangeNothing) (follow : WordsFollowAValue) (l
       })
 
 pub values_may_be_put : EntryVersionsChangeNothing → WordsFollowAValue → LiveEntriesArePairs → ValuesKeepSerials → FirstEntriesArePairs → ValuesMayBePut
-values_may_be_put versions follow lives serials first v o t place key value pairs may is_dict names low live fits_key fits = value_possible versions follow lives serials first v o t place key value pairs may is_dict names low live fits_key fits
+values_may_be_put versions follow lives serials first v o t place key value pairs may is_dict names low live fits_key fits differs = value_possible versions follow lives serials first v o t place key value pairs may is_dict names low live fits_key fits differs

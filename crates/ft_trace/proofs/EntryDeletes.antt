@@ -1,5 +1,5 @@
 -- That a key may be taken out of a dict or a set by a pass that has its lock, as a whole write: what both share.
-use Rattle.std.proofs.Common.{◌≡◌, ℕ, suc, ◌+◌, ◌*◌, ◌%◌, ◌<◌, ◌≤◌, true, false, List, [], ◌∷◌, length, None, refl, sym, ◌∙◌, subst, arith, get_or-set_other}
+use Rattle.std.proofs.Common.{◌≡◌, ℕ, suc, ◌+◌, ◌*◌, ◌%◌, ◌<◌, ◌≤◌, true, false, List, [], ◌∷◌, length, None, refl, sym, ◌∙◌, subst, arith, get_or-set_other, ◌≢◌}
 use Rattle.std.specs.Prelude.{slice_index, slice_set}
 use Rattle.ft_model.specs.declared.call.Call.{Call}
 use Rattle.ft_model.specs.declared.content.Content.{Content}
@@ -16,7 +16,7 @@ use Rattle.ft_trace.specs.declared.Snap.{Snap}
 use Rattle.ft_trace.specs.declared.View.{View}
 use Rattle.ft_trace.specs.Addresses.{class_of, slots}
 use Rattle.ft_trace.specs.Pictures.{root_in, entry_offset, entry_field, walk_of}
-use Rattle.ft_trace.specs.Carefuls.{HasLiveKey, Clear}
+use Rattle.ft_trace.specs.Carefuls.{HasLiveKey, Clear, OpensChanged}
 use Rattle.ft_trace.specs.Kinds.{under, rows, IsKeyed}
 use Rattle.ft_trace.specs.OddVersions.{Shut}
 use Rattle.ft_trace.specs.Holds.{held_words, known_state, AgreesWith}
@@ -29,7 +29,7 @@ use Rattle.ft_trace.proofs.ByKind.{keyed_fit}
 use Rattle.ft_trace.proofs.Known.{in_bank, table_is_long}
 use Rattle.ft_trace.proofs.KnownContents.{use_of, known_use, known_shut, table_there, keys_there}
 use Rattle.ft_trace.proofs.KeyedWrites.{versions_lie, clear_keyed, keyed_put}
-use Rattle.ft_trace.proofs.EntryPuts.{dead_open, dead_kind, dead_same, dead_late, dead_shut, dead_is}
+use Rattle.ft_trace.proofs.EntryPuts.{dead_open, dead_kind, dead_same, dead_late, dead_shut, dead_is, dead_opens}
 use Rattle.ft_trace.proofs.ListWrites.{may_begin}
 use Rattle.ft_trace.proofs.DictWrites.{EntryVersionsChangeNothing, version_stands}
 use Rattle.ft_trace.proofs.WriteFacts.{CallFacts, facts_suffice}
@@ -91,7 +91,7 @@ module _ (versions : EntryVersionsChangeNothing) (v : View) (o t p count : ℕ) 
       (q1, (q2, (q3, tt)))
 
   module _ (now : StandsAs v.shape.texts block (0 ∷ 0 ∷ put) (use_of t fill) news) (gone : (a : Key) → (key_kind a ≡ key_kind key) × (key_payload a ≡ key_payload key) → under news a ≡ [])
-      (clears : ((q w : ℕ) → q < m → entry_field n put q 0 % 2 ≡ 0 → w < 8 → entry_field n put q w ≡ entry_field n ws q w) → Clear (walk_of kind v.shape.texts c) n m put (under x) (under news)) (facts : CallFacts v o kind called reply.Done)
+      (clears : ((q w : ℕ) → q < m → entry_field n put q 0 % 2 ≡ 0 → w < 8 → entry_field n put q w ≡ entry_field n ws q w) → OpensChanged n m put (under x) (under news) → Clear (walk_of kind v.shape.texts c) n m put (under x) (under news)) (there : under x key ≢ []) (facts : CallFacts v o kind called reply.Done)
       (answered : (calls : List Call) → AgreesWith v (stored_newest v.shape.starts calls) → answer (stored_newest v.shape.starts calls).world no_hands called ≡ puts (stored_newest v.shape.starts calls).world no_hands o news reply.Done)
       (stays : (stored : StoredWorld) → (table_at stored.tables o).keys ≡ [] → (would_pass stored.world called ≡ false) × (table_at (after_stored stored called).tables o ≡ table_at stored.tables o)) where
     late : MayPuts kind t news true (at_commit v o write) (entry_closed n ws p)
@@ -107,7 +107,7 @@ module _ (versions : EntryVersionsChangeNothing) (v : View) (o t p count : ℕ) 
           root = tt;
           early = early;
           names = names_now;
-          clear = clear_keyed kind keyed v.shape.texts c put x news (clears (dead_same n m ws p key low long even live));
+          clear = clear_keyed kind keyed v.shape.texts c put x news (clears (dead_same n m ws p key low long even live) (dead_opens n m ws p key low long even live (under x) (under news) shut there (gone key (refl, refl))));
           late = late;
           names_still = names_now;
           ends = version_stands versions v.shape.texts block put c fill p (ver + 2) class_is news still now;

@@ -1,5 +1,5 @@
 -- That a dict or a set may get another table by a pass that has its lock, as a whole write: what both share.
-use Rattle.std.proofs.Common.{◌≡◌, ◌≢◌, ℕ, suc, ◌+◌, ◌*◌, ◌%◌, ◌<◌, ◌≤◌, true, false, List, [], ◌∷◌, length, Some, refl, sym, ap, ◌∙◌, subst, arith, length-set, get_or-set_same, get_or-set_other}
+use Rattle.std.proofs.Common.{◌≡◌, ◌≢◌, ℕ, suc, ◌+◌, ◌*◌, ◌%◌, ◌<◌, ◌≤◌, true, false, List, [], ◌∷◌, length, Some, refl, sym, ap, ◌∙◌, subst, arith, length-set, get_or-set_same, get_or-set_other, inl}
 use Rattle.std.specs.Prelude.{slice_index, slice_set}
 use mathlib.Core.Logic.{dite}
 use native.Mathlib.Decide.{ℕ_discrete}
@@ -18,7 +18,7 @@ use Rattle.ft_trace.specs.declared.View.{View}
 use Rattle.ft_trace.specs.Addresses.{class_of, slots, IsTableName}
 use Rattle.ft_trace.specs.Acts.{stage, mem}
 use Rattle.ft_trace.specs.Pictures.{index_field, entry_offset, entry_field, walk_of}
-use Rattle.ft_trace.specs.Carefuls.{said_of, HasLiveKey, Reached, Sound, Clear}
+use Rattle.ft_trace.specs.Carefuls.{said_of, HasLiveKey, Reached, Sound, Clear, OpensChanged}
 use Rattle.ft_trace.specs.Kinds.{is_key, under, rows, version_at, IsKeyed}
 use Rattle.ft_trace.specs.OddVersions.{Shut}
 use Rattle.ft_trace.specs.Holds.{held_words, known_state, in_hand, AgreesWith}
@@ -32,6 +32,7 @@ use Rattle.ft_trace.proofs.KeyedWrites.{versions_lie, clear_keyed, sound_keyed, 
 use Rattle.ft_trace.proofs.KnownContents.{use_of}
 use Rattle.ft_trace.proofs.Pieces.{table_long}
 use Rattle.ft_trace.proofs.WriteFacts.{CallFacts, PutsContent, replaces, facts_suffice}
+use Rattle.ft_trace.proofs.Opened.{only_opens}
 
 -- `count` is how many there are afterwards, `next` the next serial; the fresh table has the new key in the entry p, whose
 -- version is 1
@@ -78,7 +79,7 @@ module _ (versions : EntryVersionsChangeNothing) (v : View) (o t p count next : 
 
   -- what the words of the new table say, and what is under keys before and after
   module _ (words : StandsAs v.shape.texts block (0 ∷ 0 ∷ zs) (use_of t count) news) (size_is : length block ≡ 6) (right : (q : ℕ) (a : Key) → q < m → HasLiveKey n zs q a → under news a ≡ said_of n zs q) (names_keys : (s q : ℕ) → s < n → index_field zs s ≡ suc q → entry_field n zs q 2 ≢ 0)
-      (reached : (a : Key) → FitsKey a → under news a ≢ [] → Reached n m zs (walk_of kind v.shape.texts c a) a) (apart : (q : ℕ) (a : Key) → q < m → q ≢ p → HasLiveKey n zs q a → is_key key a ≡ true → ⊥) (other : (a : Key) → is_key key a ≡ false → under news a ≡ under x a) (there_still : (a : Key) → under x a ≢ [] → under news a ≢ [])
+      (reached : (a : Key) → FitsKey a → under news a ≢ [] → Reached n m zs (walk_of kind v.shape.texts c a) a) (apart : (q : ℕ) (a : Key) → q < m → q ≢ p → HasLiveKey n zs q a → is_key key a ≡ true → ⊥) (other : (a : Key) → is_key key a ≡ false → under news a ≡ under x a) (there_still : (a : Key) → under x a ≢ [] → under news a ≢ []) (lacks : under x key ≡ [])
       (facts : CallFacts v o kind called reply.Done) (history : (calls : List Call) → AgreesWith v (stored_newest v.shape.starts calls) → PutsContent v o news (use_of t count) write (stored_newest v.shape.starts calls)) where
     -- another entry that is live is of another key
     others_stay : (q : ℕ) (a : Key) → q < m → entry_field n zs q 0 % 2 ≡ 0 → HasLiveKey n zs q a → under news a ≡ under x a
@@ -96,8 +97,14 @@ module _ (versions : EntryVersionsChangeNothing) (v : View) (o t p count next : 
       reached = λ a fits some. reached a fits (there_still a some);
     }
 
+    -- the entry is of the key, under which nothing was
+    opens : OpensChanged n m zs (under x) (under news)
+    opens =
+        only_opens n m zs (under x) (under news) p key (λ q less ne. let z = others q less ne in omega (arith, z)) (inl live)
+        (λ same. let e : said_of n zs p ≡ [] = sym (right p key low live) ∙ (same ∙ lacks) in absurd (cc))
+
     clear : Clear (walk_of kind v.shape.texts c) n m zs (under x) (under news)
-    clear = record { keeps = λ q a less two l. others_stay q a less two l; adds = λ a fits none some. reached a fits some }
+    clear = record { keeps = λ q a less two l. others_stay q a less two l; opens = opens; adds = λ a fits none some. reached a fits some }
 
     names_now : slice_index block 0 ≡ suc t
     names_now = root_stays (slice_set (held_words o v).block 0 (suc t)) count count next ∙ get_or-set_same (held_words o v).block 0 (suc t) 0 wide

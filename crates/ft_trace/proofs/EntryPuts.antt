@@ -7,8 +7,9 @@ use Rattle.ft_model.specs.declared.data.Key.{Key}
 use Rattle.ft_layout.specs.Words.{key_kind, gone_kind, key_payload}
 use Rattle.ft_layout.proofs.WordLaws.{gone_is, kind_range}
 use Rattle.ft_trace.specs.Pictures.{entry_offset, entry_field}
-use Rattle.ft_trace.specs.Carefuls.{Pairs, said_of, HasLiveKey, IsDead, Careful, Clear}
+use Rattle.ft_trace.specs.Carefuls.{Pairs, said_of, HasLiveKey, IsDead, Careful, Clear, OpensChanged}
 use Rattle.ft_trace.specs.OddVersions.{Shut, Timely}
+use Rattle.ft_trace.proofs.Opened.{only_opens}
 
 -- the version of an entry is made odd, whose key isn't deleted
 pub entry_open : (n m : ℕ) (ws : List ℕ) (c : Pairs) (p : ℕ) → entry_field n ws p 0 % 2 ≡ 0 → entry_field n ws p 2 < 3 → Careful n m ws c (entry_offset n p 0) (entry_field n ws p 0 + 1)
@@ -109,8 +110,22 @@ module _ (n m : ℕ) (ws : List ℕ) (c d : Pairs) (p : ℕ) (key : Key) (kind p
 
   -- where the words as they were say what c has, and the words as they are what d has
   module _ (was : (q : ℕ) (k : Key) → q < m → HasLiveKey n ws q k → c k ≡ said_of n ws q) (now : (q : ℕ) (k : Key) → q < m → HasLiveKey n b3 q k → d k ≡ said_of n b3 q) (all : (k : Key) → d k ≢ [] → (q : ℕ) × (q < m) × HasLiveKey n b3 q k) where
-    pub value_clear : (walk : Key → List ℕ) → Clear walk n m b3 c d
-    value_clear walk = record {
+    pub live_still : HasLiveKey n b3 p key
+    live_still = (key3 p 2 (inl refl) ∙ live.0, key3 p 3 (inr refl) ∙ live.1)
+
+    -- something else is under the key, where another value is put
+    pub value_changed : (entry_field n ws p 4 ≡ kind → entry_field n ws p 5 ≡ payload → ⊥) → d key ≢ c key
+    value_changed other same =
+        let l = long in
+        let f = length-set ws (entry_offset n p 0) (ver + 1) in
+        let g = length-set b1 (entry_offset n p 4) kind in
+        let said : said_of n b3 p ≡ said_of n ws p = sym (now p key low live_still) ∙ (same ∙ was p key low live) in
+        let w4 : entry_field n b3 p 4 ≡ kind = get_or-set_other b2 (entry_offset n p 5) (entry_offset n p 4) payload 0 (λ e. omega arith) ∙ get_or-set_same b1 (entry_offset n p 4) kind 0 (omega (arith, low, l, f)) in
+        let w5 : entry_field n b3 p 5 ≡ payload = get_or-set_same b2 (entry_offset n p 5) payload 0 (omega (arith, low, l, f, g)) in
+        other (sym (ap (λ (l : List ℕ). slice_index l 0) said) ∙ w4) (sym (ap (λ (l : List ℕ). slice_index l 1) said) ∙ w5)
+
+    pub value_clear : (entry_field n ws p 4 ≡ kind → entry_field n ws p 5 ≡ payload → ⊥) → Shut (λ q. entry_offset n q 0) m ws → (walk : Key → List ℕ) → Clear walk n m b3 c d
+    value_clear other shut walk = record {
       keeps = λ q k less two l.
           dite (ℕ_discrete q p)
           (λ (e : q ≡ p). let v : entry_field n b3 q 0 ≡ ver + 1 = ap (λ (z : ℕ). entry_field n b3 z 0) e ∙ ver3 in absurd (omega (arith, v, two, even)))
@@ -120,6 +135,7 @@ module _ (n m : ℕ) (ws : List ℕ) (c d : Pairs) (p : ℕ) (key : Key) (kind p
           let w6 = other3 q 6 ne (omega arith) in
           let same : said_of n b3 q ≡ said_of n ws q = λ i. w4 i ∷ w5 i ∷ w6 i ∷ [] in
           now q k less l ∙ (same ∙ sym (was q k less (live3 q k l))));
+      opens = only_opens n m b3 c d p key (λ q less ne. let v = other3 q 0 ne (omega arith) in let two = shut q less in omega (arith, v, two)) (inl live_still) (value_changed other);
       adds = λ k fits none some. let a = all k some in let x : [] ≡ said_of n ws a.0 = sym none ∙ was a.0 k a.1 (live3 a.0 k a.2) in absurd (cc);
     }
 
@@ -224,6 +240,17 @@ module _ (n m : ℕ) (ws : List ℕ) (p : ℕ) (key : Key) (low : p < m) (long :
       let v : entry_field n d3 q 0 ≡ entry_field n ws q 0 = get_or-set_other d2 (entry_offset n p 0) (entry_offset n q 0) (was + 2) 0 (λ e. ne (omega (arith, e))) ∙ dead_others q 0 ne (omega arith) in
       let old = shut q less in
       omega (arith, v, old))
+
+  pub dead_now : IsDead n d2 p key
+  dead_now = (kind2, get_or-set_other d1 (entry_offset n p 2) (entry_offset n p 3) (gone_kind key) 0 (λ e. omega arith) ∙ (get_or-set_other ws (entry_offset n p 0) (entry_offset n p 3) (was + 1) 0 (λ e. omega arith) ∙ live.1))
+
+  -- its entry is still of the key, under which nothing is then
+  pub dead_opens : (c d : Pairs) → Shut (λ q. entry_offset n q 0) m ws → c key ≢ [] → d key ≡ [] → OpensChanged n m d2 c d
+  dead_opens c d shut some none =
+      only_opens n m d2 c d p key
+      (λ q less ne. let v = dead_others q 0 ne (omega arith) in let two = shut q less in omega (arith, v, two))
+      (inr dead_now)
+      (λ same. some (sym same ∙ none))
 
   -- the key of a deleted entry
   pub dead_is : (k : Key) → IsDead n d2 p k → (key_kind k ≡ key_kind key) × (key_payload k ≡ key_payload key)

@@ -1,6 +1,6 @@
 -- That a dict may get another table by a pass that has its lock, as a whole write.
-use Rattle.std.proofs.Common.{◌≡◌, ◌≢◌, ℕ, ◌+◌, ◌-◌, Bool, true, false, cond, List, [], ◌∷◌, ◌++◌, length, find, Option, Some, None, refl, sym, ap, ◌∙◌, inr, arith, get_or-set_same}
-use Rattle.std.specs.Prelude.{if◌then◌else◌}
+use Rattle.std.proofs.Common.{◌≡◌, ◌≢◌, ℕ, ◌+◌, ◌-◌, Bool, true, false, cond, List, [], ◌∷◌, ◌++◌, length, find, Option, Some, None, refl, sym, ap, ◌∙◌, inr, arith, get_or-set_same, subst}
+use Rattle.std.specs.Prelude.{if◌then◌else◌, All}
 use Rattle.std.specs.Option.{option_map_or}
 use Rattle.std.proofs.lemmas.List.{length_push}
 use Rattle.ft_model.specs.declared.call.Call.{Call}
@@ -35,6 +35,9 @@ use Rattle.ft_trace.proofs.Naming.{one_locked}
 use Rattle.ft_model.proofs.SplitDicts.{unsplit_takes, unsplit_leaves}
 use Rattle.ft_trace.proofs.KnownContents.{in_tables, table_there, keys_there}
 use Rattle.ft_trace.proofs.EntryGrows.{grow_possible}
+use Rattle.ft_trace.proofs.Opened.{dict_lacks, All-front}
+use Rattle.ft_layout.specs.Words.{FitsKey}
+use Rattle.ft_trace.specs.FitCalls.{FitsValue}
 
 -- ---- what is under a key of a dict with one more pair
 
@@ -140,6 +143,17 @@ module _ (versions : EntryVersionsChangeNothing) (first : FirstEntriesArePairs) 
         ∙ (ap (λ (z : Option ℕ). grown_table T z drawn count) takes_one
         ∙ ap (λ (z : ℕ). taken c z) count_is))
 
+  all_fit : All (λ pair. FitsKey pair.key × FitsValue pair.value) news.pairs
+  all_fit = dict_fits_words k.texts (at_commit v o write).block (0 ∷ 0 ∷ in_hand t v) (class_of t) (length pairs.pairs + 1) (dict_set pairs key value) has.words
+
+  fits : FitsKey key × FitsValue value
+  fits = set_fit pairs key value has.missing all_fit
+
+  old_fit : All (λ pair. FitsKey pair.key × FitsValue pair.value) pairs.pairs
+  old_fit =
+      All-front (λ pair. FitsKey pair.key × FitsValue pair.value) pairs.pairs (new_pair pairs key value has.missing)
+      (subst (λ (d : DictContent). All (λ pair. FitsKey pair.key × FitsValue pair.value) d.pairs) (added_is pairs key value has.missing) all_fit)
+
   pub dict_grow_possible : (start number : ℕ) × (s : Snap) × (stop : ℕ) × IsReachable (after_write_of v o t write start number s stop)
   dict_grow_possible =
       grow_possible versions v o t p fill (pairs.next + 1) key (content.Dict pairs) (content.Dict news) tt tt called begin is_dict has.table has.fresh has.low has.live has.open_entry has.others has.words has.words.head.size (dict_right first k.texts block c fill class_is news zs has.words) (dict_named first k.texts block c fill class_is news zs has.words) (dict_reached first k.texts block c fill class_is news zs has.words)
@@ -148,7 +162,8 @@ module _ (versions : EntryVersionsChangeNothing) (first : FirstEntriesArePairs) 
       let low = has.low in
       other_key (λ h. dict_slots h (class_mask c) (class_mask c + 14)) (dict_room (class_mask c)) k.texts c class_is has.words.used zs has.words.table p q key a (omega (arith, fits, low)) (omega (arith, fits, less)) ne has.live l yes)
       (under_other pairs key value has.missing) (under_still pairs key value has.missing)
-      (record { of = refl; wrote = refl; fits = set_fit pairs key value has.missing (dict_fits_words k.texts (at_commit v o write).block (0 ∷ 0 ∷ in_hand t v) (class_of t) (length pairs.pairs + 1) (dict_set pairs key value) has.words); locks = one_locked o v.log begin.mine; replied = λ r e. inr e; declared = λ world one. record { one = one; both = tt; room = tt } })
+      (dict_lacks pairs key fits.0 old_fit has.missing)
+      (record { of = refl; wrote = refl; fits = fits; locks = one_locked o v.log begin.mine; replied = λ r e. inr e; declared = λ world one. record { one = one; both = tt; room = tt } })
       (λ calls agree. record {
         answered = dict_answered v o pairs begin.low begin.mine is_dict calls agree key value;
         table_after = table_after calls agree;

@@ -131,7 +131,7 @@ stands k cs e right earned =
       fitting = (earned_so k (first_writes e.stamp cs) calls stored (λ class. takes_in_order k.starts class e.stamp cs) [] e.call e.reply earned).1;
     }
 
-all_stand : (k : Shape) (cs : List Call) (entries : List Entry) → AllRight k.starts cs entries → AllEarned k cs entries → All (StandsInOrder k (reverse cs)) entries
+pub all_stand : (k : Shape) (cs : List Call) (entries : List Entry) → AllRight k.starts cs entries → AllEarned k cs entries → All (StandsInOrder k (reverse cs)) entries
 all_stand k cs [] right earned = All-nil (StandsInOrder k (reverse cs))
 all_stand k cs (e ∷ entries) right earned = All-cons (StandsInOrder k (reverse cs)) e entries (stands k cs e right.0 earned.0) (all_stand k cs entries right.1 earned.1)
 

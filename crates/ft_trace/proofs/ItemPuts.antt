@@ -1,6 +1,6 @@
 -- That an item of a list may be put while others read it, on lists of words alone.
 use Rattle.std.proofs.Common.{zero, Option, None, ◌≡◌, ◌≢◌, ℕ, suc, ◌+◌, ◌*◌, ◌%◌, ◌<◌, ◌≤◌, true, false, List, [], ◌∷◌, length, refl, sym, ap, ◌∙◌, subst, arith, Some, length-set, get_or-set_same, get_or-set_other}
-use Rattle.std.specs.Prelude.{slice_index, slice_get, slice_set}
+use Rattle.std.specs.Prelude.{slice_index, slice_index_or, slice_get, slice_set}
 use Rattle.std.specs.Option.{option_map_or}
 use Rattle.std.proofs.Math.Decide.{dec_lt}
 use mathlib.Core.Logic.{dite}
@@ -11,13 +11,14 @@ use Rattle.ft_model.specs.declared.content.Content.TheVariants as content
 use Rattle.ft_model.specs.declared.script.Kind.TheVariants as kind
 use Rattle.ft_model.specs.Classes.{IsClass}
 use Rattle.ft_layout.specs.declared.slot.Stored.{Stored}
-use Rattle.ft_layout.specs.declared.slot.Stored.TheVariants.{Plain}
+use Rattle.ft_layout.specs.declared.slot.Stored.TheVariants.{Empty, Plain}
 use Rattle.ft_layout.specs.Words.{FitsStored, stored_kind, stored_payload}
 use Rattle.ft_layout.specs.Tables.{item_word, IsListTable}
 use Rattle.ft_layout.specs.Tables as layout
 use Rattle.ft_layout.specs.WordChanges.{ChangesItem, SaysStored, with_item}
 use Rattle.ft_layout.specs.Containers.{class_mask, IsListWords}
 use Rattle.ft_layout.proofs.Powers.{slots_range}
+use Rattle.ft_layout.proofs.WordLaws.{same_stored}
 use Rattle.ft_trace.specs.Addresses.{class_of, slots, size}
 use Rattle.ft_trace.specs.Pictures.{item_offset, item_field}
 use Rattle.ft_trace.specs.ItemWords.{said_at, value_words, words_at, ItemCareful, ItemClear}
@@ -127,12 +128,19 @@ module _ (t : ℕ) (is_class : IsClass (class_of t)) (b ws : List ℕ) (values n
       let first : MayPut kind.List t (content.List values) false (record { block = b; table = ws }) (to_table (item_offset p 0) (ver + 1)) = (names, inside 0 (omega arith), item_open (slots c) ws values p even, early_time 0 (ver + 1) (omega arith) (λ _. let v = even in omega (arith, v))) in
       (first, (second, (third, tt)))
 
-  pub item_clear : ItemClear (slots c) a3 values news
-  item_clear = record {
+  pub item_clear : words_at values p ≢ value_words value → ItemClear (slots c) a3 values news
+  item_clear other = record {
     keeps = λ q less two.
         dite (ℕ_discrete q p)
         (λ (e : q ≡ p). let v : item_field a3 q 0 ≡ ver + 1 = ap (λ (z : ℕ). item_field a3 z 0) e ∙ ver3 in let old = even in absurd (omega (arith, v, two, old)))
         (λ ne. same q ne);
+    opens = λ q less odd.
+        dite (ℕ_discrete q p)
+        (λ (e : q ≡ p). subst (λ (z : ℕ). words_at news z ≢ words_at values z) (sym e) (λ as_before. other (sym as_before ∙ here)))
+        (λ ne.
+        let v : item_field a3 q 0 ≡ item_field ws q 0 = else3 (item_offset q 0) (λ e. ne (omega (arith, e))) (λ e. omega arith) (λ e. omega arith) in
+        let old = shut q less in
+        absurd (omega (arith, v, old, odd)));
     short = short;
   }
 
@@ -202,6 +210,22 @@ pub none_at : (values : List Value) (p : ℕ) → length values ≤ p → slice_
 none_at [] p high = refl
 none_at (x ∷ xs) zero high = absurd (omega (arith, high))
 none_at (x ∷ xs) (suc p) high = none_at xs p (omega (arith, high))
+
+-- words of a value are those of no other, nor of nothing
+pub other_words : (values : List Value) (p : ℕ) (put : Value) → FitsStored (Plain put) → ((any : Value) → p < length values → FitsStored (Plain (slice_index_or values p any))) → slice_get values p ≢ Some put → words_at values p ≢ value_words put
+other_words values p put ok each differs same =
+    dite (dec_lt p (length values))
+    (λ (inside : p < length values).
+    let found = there_is values p value.Nothing inside in
+    let had : Value = slice_index_or values p value.Nothing in
+    let words : value_words had ≡ value_words put = sym (ap (λ (z : Option Value). option_map_or value_words z (0 ∷ 0 ∷ [])) found) ∙ same in
+    let one : Plain had ≡ Plain put = same_stored (Plain had) (Plain put) (each value.Nothing inside) ok (ap (λ (l : List ℕ). slice_index l 0) words) (ap (λ (l : List ℕ). slice_index l 1) words) in
+    let is : had ≡ put = cc in
+    differs (found ∙ ap (λ (z : Value). Some z) is))
+    (λ past.
+    let words : 0 ∷ 0 ∷ [] ≡ value_words put = sym (ap (λ (z : Option Value). option_map_or value_words z (0 ∷ 0 ∷ [])) (none_at values p (omega (arith, past)))) ∙ same in
+    let one : Empty ≡ Plain put = same_stored Empty (Plain put) tt ok (ap (λ (l : List ℕ). slice_index l 0) words) (ap (λ (l : List ℕ). slice_index l 1) words) in
+    absurd (cc))
 
 pub items_says : (c : ℕ) → IsClass c → (values : List Value) (ws : List ℕ) → IsListTable (class_mask c) values (0 ∷ 0 ∷ ws) → (p : ℕ) → p < slots c → words_at values p ≡ said_at ws p
 unfolding slots

@@ -1,13 +1,14 @@
 -- That a new entry of a dict may be put while others read its table, on lists of words alone.
-use Rattle.std.proofs.Common.{◌≡◌, ◌≢◌, ◌⊎◌, ℕ, ◌+◌, ◌*◌, ◌%◌, ◌<◌, List, length, sym, ap, ◌∙◌, subst, ⊎_elim, arith, length-set, get_or-set_same, get_or-set_other, ◌≤◌}
+use Rattle.std.proofs.Common.{◌≡◌, ◌≢◌, ◌⊎◌, ℕ, ◌+◌, ◌*◌, ◌%◌, ◌<◌, List, [], length, inl, sym, ap, ◌∙◌, subst, ⊎_elim, arith, length-set, get_or-set_same, get_or-set_other, ◌≤◌}
 use Rattle.std.specs.Prelude.{slice_set}
 use mathlib.Core.Logic.{dite}
 use native.Mathlib.Decide.{ℕ_discrete}
 use Rattle.ft_model.specs.declared.data.Key.{Key}
-use Rattle.ft_layout.specs.Words.{key_kind}
+use Rattle.ft_layout.specs.Words.{key_kind, key_payload}
 use Rattle.ft_layout.proofs.WordLaws.{gone_is, kind_range}
 use Rattle.ft_trace.specs.Pictures.{index_field, entry_offset, entry_field}
-use Rattle.ft_trace.specs.Carefuls.{Pairs, said_of, HasLiveKey, Careful}
+use Rattle.ft_trace.specs.Carefuls.{Pairs, said_of, HasLiveKey, Careful, OpensChanged}
+use Rattle.ft_trace.proofs.Opened.{only_opens}
 use Rattle.ft_trace.specs.OddVersions.{Shut}
 use Rattle.ft_trace.proofs.EntryPuts.{entry_open, entry_value, entry_close}
 
@@ -155,6 +156,17 @@ module _ (n m : ℕ) (ws : List ℕ) (p slot : ℕ) (low : p < m) (in_index : sl
         let v = ver8 in
         entry_close n m l8 d p (ver + 2) (omega (arith, v)) (omega (arith, even)) right
         (λ k dead. let g = gone_is k in let b = (kind_range k).0 in let h = (kind_range key).1 in let x = entry8 p 2 in let y = kind7 in let e = dead.0 in absurd (omega (arith, g, b, h, x, y, e)))
+
+    new_live : entry_field n l p 3 ≡ key_payload key → HasLiveKey n l8 p key
+    new_live pay = (entry8 p 2 ∙ kind7, entry8 p 3 ∙ (get_or-set_other l (entry_offset n p 2) (entry_offset n p 3) (key_kind key) 0 (λ e. absurd (omega (arith, e))) ∙ pay))
+
+    -- the entry is of the key, under which nothing was
+    pub new_opens : (c d : Pairs) → entry_field n l p 3 ≡ key_payload key → Shut (λ q. entry_offset n q 0) m ws → c key ≡ [] → ((k : Key) → HasLiveKey n l8 p k → d k ≡ said_of n l8 p) → OpensChanged n m l8 c d
+    new_opens c d pay shut none right =
+        only_opens n m l8 c d p key
+        (λ q less ne. let v = rest8 q 0 ne (omega arith) in let two = shut q less in omega (arith, v, two))
+        (inl (new_live pay))
+        (λ same. let x : said_of n l8 p ≡ [] = sym (right key (new_live pay)) ∙ (same ∙ none) in absurd (cc))
 
     pub new_shut : Shut (λ q. entry_offset n q 0) m ws → Shut (λ q. entry_offset n q 0) m (slice_set l8 (entry_offset n p 0) (ver + 2))
     new_shut shut q less =

@@ -1,5 +1,5 @@
 -- That a key may be added to a dict by a pass that has its lock, where the table has room, as a whole write.
-use Rattle.std.proofs.Common.{◌≡◌, ℕ, suc, ◌+◌, ◌-◌, ◌*◌, ◌%◌, ◌<◌, ◌≤◌, Bool, true, false, List, [], ◌∷◌, ◌++◌, length, Option, Some, None, refl, sym, ap, ◌∙◌, inr, arith, get_or-set_same, inl, ◌≢◌}
+use Rattle.std.proofs.Common.{◌≡◌, ℕ, suc, ◌+◌, ◌-◌, ◌*◌, ◌%◌, ◌<◌, ◌≤◌, Bool, true, false, List, [], ◌∷◌, ◌++◌, length, Option, Some, None, refl, sym, ap, ◌∙◌, inr, arith, get_or-set_same, inl, ◌≢◌, get_or-set_other}
 use Rattle.std.specs.Prelude.{◌&&◌, nat_lt, slice_index, slice_set, if◌then◌else◌}
 use Rattle.std.proofs.lemmas.Bool.{le-ltb}
 use Rattle.ft_model.specs.declared.call.Call.{Call}
@@ -17,7 +17,7 @@ use Rattle.ft_model.specs.Worlds.{dict_at}
 use Rattle.ft_model.specs.TableUses.{TableUse, StoredWorld, no_table, stored_newest, takes_in, table_at, outgrows_dict, grown_table, after_stored}
 use Rattle.ft_hash.specs.Probes.{dict_slots}
 use Rattle.ft_layout.specs.declared.slot.Stored.TheVariants.{Plain}
-use Rattle.ft_layout.specs.Words.{key_kind, key_payload, stored_kind, stored_payload}
+use Rattle.ft_layout.specs.Words.{key_kind, key_payload, stored_kind, stored_payload, FitsKey}
 use Rattle.ft_layout.specs.Tables.{hash_of, dict_room}
 use Rattle.ft_layout.specs.Containers.{class_mask, IsDictWords}
 use Rattle.ft_trace.specs.declared.Shape.{Shape}
@@ -36,7 +36,7 @@ use Rattle.ft_trace.specs.EntryWrites.{entry_closed}
 use Rattle.ft_trace.specs.KeyWrites.{key_puts, count_puts, dict_add_write, KeysMayBeAdded}
 use Rattle.ft_trace.proofs.FitCalls.{dict_fits_words, set_fit}
 use Rattle.ft_trace.proofs.Known.{in_bank, table_is_long}
-use Rattle.ft_trace.proofs.KeyPuts.{Stage, stage_first, stage_next, new_open, new_key, new_value, new_kind, new_index, new_same, new_late, new_shut}
+use Rattle.ft_trace.proofs.KeyPuts.{Stage, stage_first, stage_next, new_open, new_key, new_value, new_kind, new_index, new_same, new_late, new_shut, new_opens}
 use Rattle.ft_trace.proofs.ListWrites.{may_begin}
 use Rattle.ft_trace.proofs.DictWrites.{EntryVersionsChangeNothing, version_stands, FirstEntriesArePairs, dict_right, dict_short, dict_clear, dict_found, dict_answered, dict_left, dict_passes_not, room_is}
 use Rattle.ft_trace.proofs.Tellings.{word_is}
@@ -45,6 +45,8 @@ use Rattle.ft_model.proofs.SplitDicts.{unsplit_takes, unsplit_leaves}
 use Rattle.ft_trace.proofs.KnownContents.{use_of, known_use, known_says, known_shut, in_tables, table_there, keys_there}
 use Rattle.ft_trace.proofs.WriteFacts.{facts_suffice}
 use Rattle.ft_trace.proofs.KeyedWrites.{put_while_open, counts_may_be_put, root_stays}
+use Rattle.ft_trace.proofs.Opened.{dict_lacks}
+use Rattle.ft_trace.specs.FitCalls.{FitsValue}
 
 pub and_false : (b : Bool) → (b && false) ≡ false
 and_false true = refl
@@ -195,10 +197,26 @@ module _ (versions : EntryVersionsChangeNothing) (first : FirstEntriesArePairs) 
   early : MayPuts kind.Dict t (content.Dict pairs) false (held_words o v) (count_puts (length pairs.pairs + 1) (p + 1) (pairs.next + 1) ++ key_puts n ws p slot (hash_of k.texts key) key value pairs.next)
   early = counts_may_be_put kind.Dict t (content.Dict pairs) b0 ws (length pairs.pairs + 1) (p + 1) (pairs.next + 1) (key_puts n ws p slot (hash_of k.texts key) key value pairs.next) puts
 
+  fits : FitsKey key × FitsValue value
+  fits = set_fit pairs key value missing (dict_fits_words k.texts block (0 ∷ 0 ∷ put) c (p + 1) news now)
+
+  payload_is : entry_field n l6 p 3 ≡ key_payload key
+  payload_is =
+      let s = s2.size in
+      get_or-set_other l5 (entry_offset n p 6) (entry_offset n p 3) pairs.next 0 (λ e. absurd (omega (arith, e)))
+      ∙ (get_or-set_other l4 (entry_offset n p 5) (entry_offset n p 3) (stored_payload (Plain value)) 0 (λ e. absurd (omega (arith, e)))
+      ∙ (get_or-set_other l3 (entry_offset n p 4) (entry_offset n p 3) (stored_kind (Plain value)) 0 (λ e. absurd (omega (arith, e)))
+      ∙ get_or-set_same l2 (entry_offset n p 3) (key_payload key) 0 (omega (arith, s, room))))
+
+  -- nothing is under the key before
+  lacks : under (content.Dict pairs) key ≡ []
+  lacks = dict_lacks pairs key fits.0 (dict_fits_words k.texts (held_words o v).block (0 ∷ 0 ∷ ws) c p pairs says) missing
+
   clear : Clear (walk_of kind.Dict k.texts c) n m put (under (content.Dict pairs)) (under (content.Dict news))
   clear =
       dict_clear first k.texts block b0 c p (p + 1) class_is pairs news ws put says now
       (λ q w less two few. new_same n m ws p slot room in_index at_least even none free key l6 s6 q w less two few)
+      (new_opens n m ws p slot room in_index at_least even none free key l6 s6 (under (content.Dict pairs)) (under (content.Dict news)) payload_is shut lacks (λ a l. dict_right first k.texts block c (p + 1) class_is news put now p a room l))
 
   late : MayPuts kind.Dict t (content.Dict news) true (at_commit v o write) (entry_closed n ws p)
   late =
@@ -264,7 +282,7 @@ module _ (versions : EntryVersionsChangeNothing) (first : FirstEntriesArePairs) 
   add_possible =
       facts_suffice v o t (content.Dict pairs) (content.Dict news) (use_of t (p + 1)) write (may_begin v o may) is_dict
       (record {
-        called = record { of = refl; wrote = refl; fits = set_fit pairs key value missing (dict_fits_words k.texts block (0 ∷ 0 ∷ put) c (p + 1) news now); locks = one_locked o v.log may.mine; replied = λ r e. inr e; declared = λ world one. record { one = one; both = tt; room = tt } };
+        called = record { of = refl; wrote = refl; fits = fits; locks = one_locked o v.log may.mine; replied = λ r e. inr e; declared = λ world one. record { one = one; both = tt; room = tt } };
         root = tt;
         early = early;
         names = names_now;

@@ -1,5 +1,5 @@
 -- That a key may be taken out of a dict by a pass that has its lock, as a whole write.
-use Rattle.std.proofs.Common.{◌≡◌, ℕ, ◌-◌, Bool, [], ◌∷◌, length, Option, refl, ap, ◌∙◌, inr, List}
+use Rattle.std.proofs.Common.{◌≡◌, ℕ, ◌-◌, Bool, [], ◌∷◌, length, Option, refl, ap, ◌∙◌, inr, List, sym}
 use Rattle.std.specs.Prelude.{◌&&◌, ◌==◌, find, All, if◌then◌else◌}
 use Rattle.std.specs.Option.{option_map_or}
 use Rattle.ft_model.specs.declared.call.Call.TheVariants as call
@@ -14,7 +14,7 @@ use Rattle.ft_model.specs.Contents.{DictContent, dict_del, empty_dict, is_at}
 use Rattle.ft_model.specs.Worlds.{dict_of, no_hands, dict_at}
 use Rattle.ft_model.specs.TableUses.{TableUse, table_at, takes_in, stored_newest}
 use Rattle.ft_layout.specs.Words.{FitsKey, key_kind, key_payload}
-use Rattle.ft_trace.specs.Addresses.{class_of}
+use Rattle.ft_trace.specs.Addresses.{class_of, slots}
 use Rattle.ft_trace.specs.FitCalls.{FitsValue}
 use Rattle.ft_trace.specs.Holds.{held_words, known_state}
 use Rattle.ft_trace.specs.Kinds.{is_key, pair_words, under}
@@ -25,9 +25,10 @@ use Rattle.ft_trace.proofs.Known.{in_bank}
 use Rattle.ft_model.proofs.SplitDicts.{unsplit_leaves}
 use Rattle.ft_trace.proofs.KnownContents.{known_says, content_there}
 use Rattle.ft_trace.proofs.SameKeys.{same_keys, none_left}
-use Rattle.ft_trace.proofs.DictWrites.{EntryVersionsChangeNothing, FirstEntriesArePairs, dict_clear}
+use Rattle.ft_trace.proofs.DictWrites.{EntryVersionsChangeNothing, FirstEntriesArePairs, dict_clear, dict_right}
 use Rattle.ft_trace.proofs.EntryDeletes.{delete_possible}
 use Rattle.ft_trace.proofs.Naming.{one_locked}
+use Rattle.ft_trace.specs.Carefuls.{said_of}
 
 -- nothing is under a key that was taken out, nor under one with its words
 pub none_under : (pairs : DictContent) (key other : Key) → FitsKey key → All (λ pair. FitsKey pair.key × FitsValue pair.value) pairs.pairs → (key_kind other ≡ key_kind key) × (key_payload other ≡ key_payload key) → under (content.Dict (dict_del pairs key)) other ≡ []
@@ -44,6 +45,7 @@ keys_may_be_deleted versions first v o t place key pairs may is_dict names low l
     delete_possible versions v o t place (length pairs.pairs - 1) key (content.Dict pairs) (content.Dict news) tt tt (call.Dict o (dict.Del key)) may is_dict names low live now
     (λ a same. none_under pairs key a fits (dict_fits_words v.shape.texts (held_words o v).block (0 ∷ 0 ∷ (held_words o v).table) (class_of t) fill pairs says) same)
     (dict_clear first v.shape.texts at.block (held_words o v).block (class_of t) fill fill (in_bank v o t may.low may.possible may.mine names).0 pairs news (held_words o v).table at.table says now)
+    (λ e. let x : said_of (slots (class_of t)) (held_words o v).table place ≡ [] = sym (dict_right first v.shape.texts (held_words o v).block (class_of t) fill (in_bank v o t may.low may.possible may.mine names).0 pairs (held_words o v).table says place key low live) ∙ e in absurd (cc))
     (record { of = refl; wrote = refl; fits = fits; locks = one_locked o v.log may.mine; replied = λ r e. inr e; declared = λ world one. record { one = one; both = tt; room = tt } })
     (λ calls agree.
     let world = (stored_newest v.shape.starts calls).world in

@@ -1,5 +1,5 @@
 -- That an item may be appended to a list by a pass that has its lock, where the table has room, as a whole write.
-use Rattle.std.proofs.Common.{◌≡◌, ◌≢◌, ℕ, zero, suc, ◌+◌, ◌<◌, ◌≤◌, Bool, false, List, [], ◌∷◌, ◌++◌, length, Option, Some, None, refl, ap, ◌∙◌, inr, arith, length-set, get_or-set_same, get_or-set_other}
+use Rattle.std.proofs.Common.{◌≡◌, ◌≢◌, ℕ, zero, suc, ◌+◌, ◌<◌, ◌≤◌, Bool, false, List, [], ◌∷◌, ◌++◌, length, Option, Some, None, refl, ap, ◌∙◌, inr, arith, length-set, get_or-set_same, get_or-set_other, sym}
 use Rattle.std.specs.Prelude.{◌&&◌, ◌||◌, nat_lt, slice_index, slice_index_or, slice_set, slice_get, if◌then◌else◌}
 use Rattle.std.specs.Option.{option_map_or}
 use Rattle.std.proofs.lemmas.Bool.{le-ltb}
@@ -35,7 +35,7 @@ use Rattle.ft_trace.specs.Grants.{MayWrite}
 use Rattle.ft_trace.specs.WholeWrites.{WholeWrite, at_commit, at_end, after_write_of}
 use Rattle.ft_trace.specs.ItemWrites.{list_append_write, ItemsMayBeAppended}
 use Rattle.ft_trace.proofs.Known.{in_bank, table_is_long}
-use Rattle.ft_trace.proofs.ItemPuts.{VersionsChangeNothing, PutsChangeOneItem, item_early, item_clear, item_late, item_shut, open_table, item_said, item_closed_stands}
+use Rattle.ft_trace.proofs.ItemPuts.{VersionsChangeNothing, PutsChangeOneItem, item_early, item_clear, item_late, item_shut, open_table, item_said, item_closed_stands, other_words, none_at}
 use Rattle.ft_trace.proofs.ListWrites.{may_begin, list_says, list_shut, list_is}
 use Rattle.ft_trace.proofs.Naming.{one_locked}
 use Rattle.ft_trace.proofs.KnownContents.{use_of, known_use, in_tables, table_there, content_left}
@@ -48,7 +48,7 @@ WordsFollowAnAppend =
     (block words other new : List ℕ) (class : ℕ) (values : List Value) (value : Value) → IsListWords block words (Some class) values → length values ≤ class_mask class → IsBlock other (Some class) (length values + 1) 0 0 → ChangesItem (length values) words new → SaysStored new (length values) (Plain value)
     → IsListWords other new (Some class) (values ++ value ∷ [])
 
-get_last : (values : List Value) (value : Value) → slice_get (values ++ value ∷ []) (length values) ≡ Some value
+pub get_last : (values : List Value) (value : Value) → slice_get (values ++ value ∷ []) (length values) ≡ Some value
 get_last [] value = refl
 get_last (x ∷ xs) value = get_last xs value
 
@@ -192,7 +192,7 @@ module _ (versions : VersionsChangeNothing) (one : PutsChangeOneItem) (follow : 
         root = tt;
         early = ((omega arith, omega arith), item_early t class_is b ws values news count value names_now long room shut same here short);
         names = names_now;
-        clear = item_clear t class_is b ws values news count value names_now long room shut same here short;
+        clear = item_clear t class_is b ws values news count value names_now long room shut same here short (other_words values count value fits (λ any inside. absurd (omega (arith, inside))) (λ some. let e : None ≡ Some value = sym (none_at values count (omega arith)) ∙ some in absurd (cc)));
         late = item_late t class_is b ws values news count value names_now long room shut same here short;
         names_still = names_now;
         ends = (ends, says.1);

@@ -1,5 +1,5 @@
 -- That a list may get another table by a pass that has its lock, as a whole write.
-use Rattle.std.proofs.Common.{◌≡◌, ◌≢◌, ℕ, suc, ◌+◌, ◌%◌, ◌<◌, ◌≤◌, Bool, true, false, List, [], ◌∷◌, ◌++◌, length, Option, Some, refl, sym, ap, ◌∙◌, subst, inr, arith, length-set, get_or-set_same, get_or-set_other}
+use Rattle.std.proofs.Common.{◌≡◌, ◌≢◌, ℕ, suc, ◌+◌, ◌%◌, ◌<◌, ◌≤◌, Bool, true, false, List, [], ◌∷◌, ◌++◌, length, Option, Some, refl, sym, ap, ◌∙◌, subst, inr, arith, length-set, get_or-set_same, get_or-set_other, None}
 use Rattle.std.specs.Prelude.{◌||◌, slice_index, slice_index_or, slice_set}
 use Rattle.std.specs.Option.{option_map_or}
 use Rattle.std.proofs.lemmas.Bool.{le-ltb}
@@ -24,7 +24,7 @@ use Rattle.ft_trace.specs.declared.Snap.{Snap}
 use Rattle.ft_trace.specs.declared.View.{View}
 use Rattle.ft_trace.specs.Addresses.{class_of, slots, size}
 use Rattle.ft_trace.specs.Pictures.{item_offset, item_field}
-use Rattle.ft_trace.specs.ItemWords.{ItemSound, ItemClear, value_words, words_at, said_at}
+use Rattle.ft_trace.specs.ItemWords.{ItemSound, ItemClear, value_words, words_at, said_at, OpensChangedItems}
 use Rattle.ft_trace.specs.OddVersions.{Shut}
 use Rattle.ft_trace.specs.Holds.{in_hand, held_words, known_state, AgreesWith}
 use Rattle.ft_trace.specs.Traces.{IsReachable}
@@ -33,8 +33,8 @@ use Rattle.ft_trace.specs.ListGrowWrites.{list_grow_write, HasListGrown, ListsMa
 use Rattle.ft_trace.proofs.ByKind.{items_fit}
 use Rattle.ft_trace.proofs.Pieces.{table_long}
 use Rattle.ft_trace.proofs.Known.{after_header}
-use Rattle.ft_trace.proofs.ItemPuts.{VersionsChangeNothing, item_close, items_says}
-use Rattle.ft_trace.proofs.ListAppends.{get_else}
+use Rattle.ft_trace.proofs.ItemPuts.{VersionsChangeNothing, item_close, items_says, other_words, none_at}
+use Rattle.ft_trace.proofs.ListAppends.{get_else, get_last}
 use Rattle.ft_trace.proofs.Naming.{one_locked}
 use mathlib.Core.Logic.{dite}
 use native.Mathlib.Decide.{ℕ_discrete}
@@ -107,8 +107,15 @@ module _ (versions : VersionsChangeNothing) (v : View) (o t : ℕ) (value : Valu
     short = let r = room in omega (arith, r);
   }
 
+  -- the open item has nothing before, and the value after
+  opens : OpensChangedItems n zs values news
+  opens q less odd =
+      dite (ℕ_discrete q p)
+      (λ (e : q ≡ p). subst (λ (z : ℕ). words_at news z ≢ words_at values z) (sym e) (λ as_before. other_words values p value has.fits (λ any inside. absurd (omega (arith, inside))) (λ some. let e : None ≡ Some value = sym (none_at values p (omega arith)) ∙ some in absurd (cc)) (sym as_before ∙ ap (λ (z : Option Value). option_map_or value_words z (0 ∷ 0 ∷ [])) (get_last values value))))
+      (λ ne. let z = has.others q less ne in absurd (omega (arith, z, odd)))
+
   clear : ItemClear n zs values news
-  clear = record { keeps = λ q less two. same q (even_is_old q less two); short = fits_in }
+  clear = record { keeps = λ q less two. same q (even_is_old q less two); opens = opens; short = fits_in }
 
   young : (q : ℕ) → q < n → item_field zs q 0 ≤ 1
   young q less = dite (ℕ_discrete q p) (λ (e : q ≡ p). let one = ap (λ (z : ℕ). item_field zs z 0) e ∙ has.open_item in omega (arith, one)) (λ ne. let z = has.others q less ne in omega (arith, z))

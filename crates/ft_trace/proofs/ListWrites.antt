@@ -35,7 +35,7 @@ use Rattle.ft_trace.specs.Grants.{MayWrite}
 use Rattle.ft_trace.specs.WholeWrites.{WholeWrite, at_commit, at_end, after_write_of, MayBegin}
 use Rattle.ft_trace.specs.ItemWrites.{list_set_write, ItemsMayBePut}
 use Rattle.ft_trace.proofs.Known.{in_bank, table_is_long}
-use Rattle.ft_trace.proofs.ItemPuts.{VersionsChangeNothing, PutsChangeOneItem, item_early, item_clear, item_late, item_shut, open_table, item_said, item_closed_stands}
+use Rattle.ft_trace.proofs.ItemPuts.{VersionsChangeNothing, PutsChangeOneItem, item_early, item_clear, other_words, item_late, item_shut, open_table, item_said, item_closed_stands}
 use Rattle.ft_trace.proofs.Naming.{one_locked}
 use Rattle.ft_trace.proofs.KnownContents.{use_of, known_use, known_says, known_shut, content_there, table_there}
 use Rattle.ft_trace.proofs.WriteFacts.{facts_suffice}
@@ -83,7 +83,7 @@ module _ (v : View) (o t : ℕ) (values : List Value) (may : MayWrite v o) (is_l
     list_is = ap list_of (content_there v o (content.List values) may.low may.mine is_list calls agree (content.List []))
 
 -- l[i] = v
-module _ (versions : VersionsChangeNothing) (one : PutsChangeOneItem) (follow : WordsFollowAPut) (v : View) (o t place : ℕ) (index : ℤ) (value : Value) (values : List Value) (may : MayWrite v o) (is_list : (known_state o v).content ≡ content.List values) (names : root_in (held_words o v) ≡ suc t) (means : index_in (length values) index ≡ Some place) (low : place < length values) (fits : FitsStored (Plain value)) where
+module _ (versions : VersionsChangeNothing) (one : PutsChangeOneItem) (follow : WordsFollowAPut) (v : View) (o t place : ℕ) (index : ℤ) (value : Value) (values : List Value) (may : MayWrite v o) (is_list : (known_state o v).content ≡ content.List values) (names : root_in (held_words o v) ≡ suc t) (means : index_in (length values) index ≡ Some place) (low : place < length values) (fits : FitsStored (Plain value)) (differs : slice_get values place ≢ Some value) where
   abbrev n : Shape
   n = v.shape
 
@@ -154,7 +154,7 @@ module _ (versions : VersionsChangeNothing) (one : PutsChangeOneItem) (follow : 
         root = tt;
         early = item_early t class_is b ws values news place value names long in_table shut same here short;
         names = names;
-        clear = item_clear t class_is b ws values news place value names long in_table shut same here short;
+        clear = item_clear t class_is b ws values news place value names long in_table shut same here short (other_words values place value fits (λ any inside. (says.0.table.items place any inside).fits) differs);
         late = item_late t class_is b ws values news place value names long in_table shut same here short;
         names_still = names;
         ends = (ends, says.1);
@@ -163,4 +163,4 @@ module _ (versions : VersionsChangeNothing) (one : PutsChangeOneItem) (follow : 
       })
 
 pub items_may_be_put : VersionsChangeNothing → PutsChangeOneItem → WordsFollowAPut → ItemsMayBePut
-items_may_be_put versions one follow v o t place index value values may is_list names means low fits = set_possible versions one follow v o t place index value values may is_list names means low fits
+items_may_be_put versions one follow v o t place index value values may is_list names means low fits differs = set_possible versions one follow v o t place index value values may is_list names means low fits differs

@@ -27,7 +27,7 @@ use Rattle.ft_model.specs.Worlds.{kind_of, no_hands, dict_of, set_of, list_of, d
 use Rattle.ft_model.specs.Answers.{shows}
 use Rattle.ft_model.specs.TableUses.{StoredWorld, stored_newest}
 use Rattle.ft_layout.specs.declared.slot.Stored.TheVariants.{Empty, Plain}
-use Rattle.ft_layout.specs.Words.{FitsKey, IsStored}
+use Rattle.ft_layout.specs.Words.{FitsKey, IsStored, FitsStored, stored_kind, stored_payload}
 use Rattle.ft_trace.specs.declared.Act.{Act}
 use Rattle.ft_trace.specs.declared.Act.TheVariants.{Commit}
 use Rattle.ft_trace.specs.declared.Shape.{Shape}
@@ -45,6 +45,7 @@ use Rattle.ft_trace.proofs.Known.{at_any, kind_then}
 use Rattle.ft_trace.proofs.Untouched.{as_many}
 use Rattle.ft_trace.proofs.SameKeys.{same_keys, same_find, found_has, any_found}
 use Rattle.ft_trace.proofs.Rule.{hits_are_right, misses_are_right, bare_roots_are_right, items_are_right, lists_fit_their_tables}
+use Rattle.ft_layout.proofs.WordLaws.{stored_is_one}
 
 -- ---- an earlier history
 
@@ -156,6 +157,15 @@ module _ (dict : DictContent) (key : Key) (fits : FitsKey key) (each : All (λ p
       let words = under_is ∙ ap (λ (z : Option DictPair). option_map_or pair_words z []) p.1 in
       let f = found_has (is_at key) (λ pair. FitsKey pair.key × FitsValue pair.value) dict.pairs p.0 each p.1 in
       (p.0.value, record { fits = f.1; kind_is = sym one ∙ ap (λ (l : List ℕ). slice_index l 0) words; payload_is = sym two ∙ ap (λ (l : List ℕ). slice_index l 1) words }, ap (option_map (λ (pair : DictPair). pair.value)) p.1)
+
+  -- where the words under the key are those of a value, it is the value at the key
+  pub value_said : (value : Value) → FitsStored (Plain value) → (kind payload serial : ℕ) → under (content.Dict dict) key ≡ kind ∷ payload ∷ serial ∷ [] → kind ≡ stored_kind (Plain value) → payload ≡ stored_payload (Plain value) → dict_get dict.pairs key ≡ Some value
+  value_said value ok kind payload serial words is_kind is_payload =
+      let some : under (content.Dict dict) key ≢ [] = λ none. let x : kind ∷ payload ∷ serial ∷ [] ≡ [] = sym words ∙ none in absurd (cc) in
+      let got = value_there some kind payload (ap (λ (l : List ℕ). slice_index l 0) words) (ap (λ (l : List ℕ). slice_index l 1) words) in
+      let one : Plain got.0 ≡ Plain value = stored_is_one kind payload (Plain got.0) (Plain value) got.1 (record { fits = ok; kind_is = is_kind; payload_is = is_payload }) in
+      let same : got.0 ≡ value = cc in
+      got.2 ∙ ap (λ (z : Value). Some z) same
 
 module _ (set : SetContent) (key : Key) (fits : FitsKey key) (each : All (λ element. FitsKey element.key) set.elements) where
   set_under_is : under (content.Set set) key ≡ option_map_or element_words (find (λ element. same_key element.key key) set.elements) []

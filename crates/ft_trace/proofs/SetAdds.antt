@@ -1,5 +1,5 @@
 -- That a key may be added to a set by a pass that has its lock, where the table has room, as a whole write.
-use Rattle.std.proofs.Common.{◌≡◌, ℕ, suc, ◌+◌, ◌-◌, ◌*◌, ◌%◌, ◌<◌, ◌≤◌, Bool, true, false, List, [], ◌∷◌, ◌++◌, length, Option, Some, None, refl, sym, ap, ◌∙◌, inr, arith, get_or-set_same, inl, ◌≢◌}
+use Rattle.std.proofs.Common.{◌≡◌, ℕ, suc, ◌+◌, ◌-◌, ◌*◌, ◌%◌, ◌<◌, ◌≤◌, Bool, true, false, List, [], ◌∷◌, ◌++◌, length, Option, Some, None, refl, sym, ap, ◌∙◌, inr, arith, get_or-set_same, inl, ◌≢◌, get_or-set_other}
 use Rattle.std.specs.Prelude.{◌&&◌, nat_lt, slice_index, slice_set, if◌then◌else◌}
 use Rattle.std.proofs.lemmas.Bool.{le-ltb}
 use Rattle.ft_model.specs.declared.call.Call.{Call}
@@ -14,7 +14,7 @@ use Rattle.ft_model.specs.Classes.{IsClass, set_entries, set_class}
 use Rattle.ft_model.specs.Contents.{SetContent, has_element, set_add}
 use Rattle.ft_model.specs.TableUses.{TableUse, StoredWorld, no_table, stored_newest, takes_in, table_at, outgrows_set, grown_table, after_stored}
 use Rattle.ft_hash.specs.Probes.{set_slots}
-use Rattle.ft_layout.specs.Words.{key_kind, key_payload}
+use Rattle.ft_layout.specs.Words.{key_kind, key_payload, FitsKey}
 use Rattle.ft_layout.specs.Tables.{hash_of, set_room}
 use Rattle.ft_layout.specs.Containers.{class_mask, IsSetWords}
 use Rattle.ft_trace.specs.declared.Shape.{Shape}
@@ -33,7 +33,7 @@ use Rattle.ft_trace.specs.EntryWrites.{entry_closed}
 use Rattle.ft_trace.specs.KeyWrites.{count_puts}
 use Rattle.ft_trace.specs.SetWrites.{element_puts, set_add_write, ElementsMayBeAdded}
 use Rattle.ft_trace.proofs.Known.{in_bank}
-use Rattle.ft_trace.proofs.KeyPuts.{Stage, stage_first, stage_next, new_open, new_key, new_value, new_kind, new_index, new_same, new_late, new_shut}
+use Rattle.ft_trace.proofs.KeyPuts.{Stage, stage_first, stage_next, new_open, new_key, new_value, new_kind, new_index, new_same, new_late, new_shut, new_opens}
 use Rattle.ft_trace.proofs.ListWrites.{may_begin}
 use Rattle.ft_trace.proofs.DictWrites.{EntryVersionsChangeNothing, version_stands}
 use Rattle.ft_trace.proofs.KeysAdded.{and_false}
@@ -46,6 +46,8 @@ use Rattle.ft_layout.specs.Words.{FitsKey}
 use Rattle.ft_trace.proofs.KnownContents.{use_of, known_use, known_says, known_shut, in_tables, table_there}
 use Rattle.ft_trace.proofs.WriteFacts.{facts_suffice}
 use Rattle.ft_trace.proofs.KeyedWrites.{put_while_open, counts_may_be_put, root_stays}
+use Rattle.ft_trace.proofs.Opened.{set_lacks}
+use Rattle.ft_trace.proofs.FitCalls.{set_fits_words}
 
 module _ (versions : EntryVersionsChangeNothing) (first : FirstEntriesAreElements) (v : View) (o t slot : ℕ) (key : Key) (elements : SetContent) (may : MayWrite v o) (is_set : (known_state o v).content ≡ content.Set elements) (names : root_in (held_words o v) ≡ suc t)
     (room : (known_state o v).table.fill < set_entries (class_of t)) (in_index : slot < slots (class_of t)) (free : index_field (held_words o v).table slot ≡ 0) (fits : FitsKey key) (missing : has_element elements.elements key ≡ false)
@@ -176,10 +178,21 @@ module _ (versions : EntryVersionsChangeNothing) (first : FirstEntriesAreElement
   early : MayPuts kind.Set t (content.Set elements) false (held_words o v) (count_puts (length elements.elements + 1) (p + 1) (elements.next + 1) ++ element_puts n ws p slot (hash_of k.texts key) key elements.next)
   early = counts_may_be_put kind.Set t (content.Set elements) b0 ws (length elements.elements + 1) (p + 1) (elements.next + 1) (element_puts n ws p slot (hash_of k.texts key) key elements.next) all_puts
 
+  payload_is : entry_field n l4 p 3 ≡ key_payload key
+  payload_is =
+      let s = s2.size in
+      get_or-set_other l3 (entry_offset n p 6) (entry_offset n p 3) elements.next 0 (λ e. absurd (omega (arith, e)))
+      ∙ get_or-set_same l2 (entry_offset n p 3) (key_payload key) 0 (omega (arith, s, room))
+
+  -- nothing is under the key before
+  lacks : under (content.Set elements) key ≡ []
+  lacks = set_lacks elements key fits (set_fits_words k.texts (held_words o v).block (0 ∷ 0 ∷ ws) c p elements says) missing
+
   clear : Clear (walk_of kind.Set k.texts c) n m put (under (content.Set elements)) (under (content.Set news))
   clear =
       set_clear first k.texts block b0 c p (p + 1) class_is elements news ws put says now
       (λ q w less two few. new_same n m ws p slot room in_index at_least even none free key l4 s4 q w less two few)
+      (new_opens n m ws p slot room in_index at_least even none free key l4 s4 (under (content.Set elements)) (under (content.Set news)) payload_is shut lacks (λ a l. set_right first k.texts block c (p + 1) class_is news put now p a room l))
 
   late : MayPuts kind.Set t (content.Set news) true (at_commit v o write) (entry_closed n ws p)
   late =

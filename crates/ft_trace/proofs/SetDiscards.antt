@@ -1,5 +1,5 @@
 -- That a key may be taken out of a set by a pass that has its lock, as a whole write.
-use Rattle.std.proofs.Common.{◌≡◌, ℕ, ◌-◌, [], ◌∷◌, length, Option, refl, ap, ◌∙◌, inr}
+use Rattle.std.proofs.Common.{◌≡◌, ℕ, ◌-◌, [], ◌∷◌, length, Option, refl, ap, ◌∙◌, inr, sym}
 use Rattle.std.specs.Prelude.{◌&&◌, ◌==◌, find, All}
 use Rattle.std.specs.Option.{option_map_or}
 use Rattle.ft_model.specs.declared.call.Call.TheVariants as call
@@ -13,7 +13,7 @@ use Rattle.ft_model.specs.Keys.{same_key}
 use Rattle.ft_model.specs.Worlds.{set_of, no_hands}
 use Rattle.ft_model.specs.TableUses.{stored_newest}
 use Rattle.ft_layout.specs.Words.{FitsKey, key_kind, key_payload}
-use Rattle.ft_trace.specs.Addresses.{class_of}
+use Rattle.ft_trace.specs.Addresses.{class_of, slots}
 use Rattle.ft_trace.specs.Holds.{held_words, known_state}
 use Rattle.ft_trace.specs.Kinds.{is_key, element_words, under}
 use Rattle.ft_trace.specs.WholeWrites.{at_commit}
@@ -25,7 +25,8 @@ use Rattle.ft_trace.proofs.SameKeys.{same_keys, none_left}
 use Rattle.ft_trace.proofs.DictWrites.{EntryVersionsChangeNothing}
 use Rattle.ft_trace.proofs.EntryDeletes.{delete_possible}
 use Rattle.ft_trace.proofs.Naming.{one_locked}
-use Rattle.ft_trace.proofs.SetKnown.{FirstEntriesAreElements, set_clear}
+use Rattle.ft_trace.proofs.SetKnown.{FirstEntriesAreElements, set_clear, set_right}
+use Rattle.ft_trace.specs.Carefuls.{said_of}
 
 -- nothing is under a key that was taken out, nor under one with its words
 pub none_under : (elements : SetContent) (key other : Key) → FitsKey key → All (λ element. FitsKey element.key) elements.elements → (key_kind other ≡ key_kind key) × (key_payload other ≡ key_payload key) → under (content.Set (set_discard elements key)) other ≡ []
@@ -42,6 +43,7 @@ elements_may_be_discarded versions first v o t place key elements may is_set nam
     delete_possible versions v o t place (length elements.elements - 1) key (content.Set elements) (content.Set news) tt tt (call.Set o (set.Discard key)) may is_set names low live now
     (λ a same. none_under elements key a fits (set_fits_words v.shape.texts (held_words o v).block (0 ∷ 0 ∷ (held_words o v).table) (class_of t) fill elements says) same)
     (set_clear first v.shape.texts at.block (held_words o v).block (class_of t) fill fill (in_bank v o t may.low may.possible may.mine names).0 elements news (held_words o v).table at.table says now)
+    (λ e. let x : said_of (slots (class_of t)) (held_words o v).table place ≡ [] = sym (set_right first v.shape.texts (held_words o v).block (class_of t) fill (in_bank v o t may.low may.possible may.mine names).0 elements (held_words o v).table says place key low live) ∙ e in absurd (cc))
     (record { of = refl; wrote = refl; fits = fits; locks = one_locked o v.log may.mine; replied = λ r e. inr e; declared = λ world one. record { one = one; both = tt; room = tt } })
     (λ calls agree. ap (λ (z : SetContent). answer_set (stored_newest v.shape.starts calls).world no_hands o z (set.Discard key)) (ap set_of (content_there v o (content.Set elements) may.low may.mine is_set calls agree (content.Set empty_set))))
     (λ stored no_keys. (refl, refl))

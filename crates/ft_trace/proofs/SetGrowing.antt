@@ -1,6 +1,6 @@
 -- That a set may get another table by a pass that has its lock, as a whole write.
-use Rattle.std.proofs.Common.{◌≡◌, ◌≢◌, ℕ, ◌+◌, ◌-◌, Bool, false, List, [], ◌∷◌, ◌++◌, length, find, Option, Some, None, refl, sym, ap, ◌∙◌, inr, arith, get_or-set_same}
-use Rattle.std.specs.Prelude.{if◌then◌else◌}
+use Rattle.std.proofs.Common.{◌≡◌, ◌≢◌, ℕ, ◌+◌, ◌-◌, Bool, false, List, [], ◌∷◌, ◌++◌, length, find, Option, Some, None, refl, sym, ap, ◌∙◌, inr, arith, get_or-set_same, subst}
+use Rattle.std.specs.Prelude.{if◌then◌else◌, All}
 use Rattle.std.specs.Option.{option_map_or}
 use Rattle.std.proofs.lemmas.List.{length_push}
 use Rattle.ft_model.specs.declared.call.Call.{Call}
@@ -34,6 +34,9 @@ use Rattle.ft_trace.proofs.SetKnown.{FirstEntriesAreElements, room_is, set_right
 use Rattle.ft_trace.proofs.Naming.{one_locked}
 use Rattle.ft_trace.proofs.KnownContents.{in_tables, table_there}
 use Rattle.ft_trace.proofs.EntryGrows.{grow_possible}
+use Rattle.ft_trace.proofs.Opened.{set_lacks, All-front}
+use Rattle.ft_layout.specs.Words.{FitsKey}
+use Rattle.ft_trace.proofs.FitCalls.{set_fits_words}
 
 -- ---- what is under a key of a set with one more element
 
@@ -123,6 +126,12 @@ module _ (versions : EntryVersionsChangeNothing) (first : FirstEntriesAreElement
         ∙ (ap (λ (z : Option ℕ). grown_table T z drawn count) takes_one
         ∙ ap (λ (z : ℕ). taken c z) count_is)
 
+  old_fit : All (λ element. FitsKey element.key) elements.elements
+  old_fit =
+      All-front (λ element. FitsKey element.key) elements.elements (new_one elements key has.missing)
+      (subst (λ (d : SetContent). All (λ element. FitsKey element.key) d.elements) (added_is elements key has.missing)
+      (set_fits_words k.texts (at_commit v o write).block (0 ∷ 0 ∷ in_hand t v) (class_of t) fill news has.words))
+
   pub set_grow_possible : (start number : ℕ) × (s : Snap) × (stop : ℕ) × IsReachable (after_write_of v o t write start number s stop)
   set_grow_possible =
       grow_possible versions v o t p fill (elements.next + 1) key (content.Set elements) (content.Set news) tt tt called begin is_set has.table has.fresh has.low has.live has.open_entry has.others has.words has.words.head.size (set_right first k.texts block c fill class_is news zs has.words) (set_named first k.texts block c fill class_is news zs has.words) (set_reached first k.texts block c fill class_is news zs has.words)
@@ -131,6 +140,7 @@ module _ (versions : EntryVersionsChangeNothing) (first : FirstEntriesAreElement
       let low = has.low in
       other_key (λ h. set_slots h (class_mask c) (class_mask c + 14)) (set_room (class_mask c)) k.texts c class_is has.words.used zs has.words.table p q key a (omega (arith, fits, low)) (omega (arith, fits, less)) ne has.live l yes)
       (under_other elements key has.missing) (under_still elements key has.missing)
+      (set_lacks elements key has.fits old_fit has.missing)
       (record { of = refl; wrote = refl; fits = has.fits; locks = one_locked o v.log begin.mine; replied = λ r e. inr e; declared = λ world one. record { one = one; both = tt; room = tt } })
       (λ calls agree. record {
         answered = set_answered v o elements begin.low begin.mine is_set calls agree key;

@@ -21,7 +21,7 @@ use Rattle.ft_trace.specs.declared.View.{View}
 use Rattle.ft_trace.specs.Addresses.{container_count, class_of, slots, places}
 use Rattle.ft_trace.specs.Acts.{has_lock}
 use Rattle.ft_trace.specs.Pictures.{root_in, index_field, entry_field, walk_of}
-use Rattle.ft_trace.specs.Carefuls.{said_of, HasLiveKey, Reached, Clear}
+use Rattle.ft_trace.specs.Carefuls.{said_of, HasLiveKey, Reached, Clear, OpensChanged}
 use Rattle.ft_trace.specs.Kinds.{under}
 use Rattle.ft_trace.specs.Holds.{held_words, known_state, AgreesWith}
 use Rattle.ft_trace.proofs.Known.{table_is_long}
@@ -72,9 +72,9 @@ module _ (first : FirstEntriesAreElements) (texts block : List ℕ) (c fill : �
 -- words that stand for what a call leaves, where entries with even versions are as they were while they stood for what
 -- it found
 pub set_clear : (first : FirstEntriesAreElements) (texts block before : List ℕ) (c fill more : ℕ) (is_class : IsClass c) (elements news : SetContent) (ws zs : List ℕ) (says : IsSetWords texts before (0 ∷ 0 ∷ ws) (Some c) fill elements) (now : IsSetWords texts block (0 ∷ 0 ∷ zs) (Some c) more news)
-    → ((q w : ℕ) → q < set_entries c → entry_field (slots c) zs q 0 % 2 ≡ 0 → w < 8 → entry_field (slots c) zs q w ≡ entry_field (slots c) ws q w) → Clear (walk_of kind.Set texts c) (slots c) (set_entries c) zs (under (content.Set elements)) (under (content.Set news))
-set_clear first texts block before c fill more is_class elements news ws zs says now same =
-    words_clear (walk_of kind.Set texts c) (slots c) (set_entries c) ws zs (under (content.Set elements)) (under (content.Set news)) (set_right first texts before c fill is_class elements ws says) (set_right first texts block c more is_class news zs now) (set_reached first texts block c more is_class news zs now) same
+    → ((q w : ℕ) → q < set_entries c → entry_field (slots c) zs q 0 % 2 ≡ 0 → w < 8 → entry_field (slots c) zs q w ≡ entry_field (slots c) ws q w) → OpensChanged (slots c) (set_entries c) zs (under (content.Set elements)) (under (content.Set news)) → Clear (walk_of kind.Set texts c) (slots c) (set_entries c) zs (under (content.Set elements)) (under (content.Set news))
+set_clear first texts block before c fill more is_class elements news ws zs says now same opens =
+    words_clear (walk_of kind.Set texts c) (slots c) (set_entries c) ws zs (under (content.Set elements)) (under (content.Set news)) (set_right first texts before c fill is_class elements ws says) (set_right first texts block c more is_class news zs now) (set_reached first texts block c more is_class news zs now) same opens
 
 -- ---- s.add(k), in each history that agrees with what a pass with the lock of the set knows
 

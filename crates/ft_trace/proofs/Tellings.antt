@@ -21,7 +21,7 @@ use Rattle.ft_layout.proofs.WordLaws.{gone_is, kind_range, same_key}
 use Rattle.ft_layout.proofs.Powers.{slots_range}
 use Rattle.ft_trace.specs.Addresses.{slots}
 use Rattle.ft_trace.specs.Pictures.{index_field, entry_offset, entry_field, Met}
-use Rattle.ft_trace.specs.Carefuls.{Pairs, said_of, HasLiveKey, Reached, Clear}
+use Rattle.ft_trace.specs.Carefuls.{Pairs, said_of, HasLiveKey, Reached, Clear, OpensChanged}
 use Rattle.ft_trace.specs.Kinds.{is_key}
 use Rattle.ft_trace.proofs.Known.{past_header}
 
@@ -35,6 +35,13 @@ key_is a b k p = ap (λ (z : Bool). z && (eqb (key_payload a) (key_payload b))) 
 both_true : (a b : Bool) → (a && b) ≡ true → (a ≡ true) × (b ≡ true)
 both_true true b e = (refl, e)
 both_true false b e = absurd (true≢false (sym e))
+
+-- two numbers and two others
+pub equal_both : (a b c d : ℕ) → a ≡ b → c ≡ d → (eqb a b && eqb c d) ≡ true
+equal_both a b c d e f = ap (λ (z : Bool). z && eqb c d) (eq-eqb a b e) ∙ eq-eqb c d f
+
+pub both_equal : (a b c d : ℕ) → (eqb a b && eqb c d) ≡ true → (a ≡ b) × (c ≡ d)
+both_equal a b c d e = let h = both_true (eqb a b) (eqb c d) e in (eqb-true a b h.0, eqb-true c d h.1)
 
 pub key_words : (a b : Key) → is_key a b ≡ true → (key_kind a ≡ key_kind b) × (key_payload a ≡ key_payload b)
 key_words a b e = let h = both_true (eqb (key_kind a) (key_kind b)) (eqb (key_payload a) (key_payload b)) e in (eqb-true (key_kind a) (key_kind b) h.0, eqb-true (key_payload a) (key_payload b) h.1)
@@ -201,8 +208,8 @@ module _ (walk : ℕ → List ℕ) (room : ℕ) (texts : List ℕ) (c : ℕ) (is
 -- ---- what is clear of two lists of words: an entry with an even version is in the second as it is in the first
 
 pub words_clear : (walk : Key → List ℕ) (n m : ℕ) (ws zs : List ℕ) (c d : Pairs) → ((q : ℕ) (key : Key) → q < m → HasLiveKey n ws q key → c key ≡ said_of n ws q) → ((q : ℕ) (key : Key) → q < m → HasLiveKey n zs q key → d key ≡ said_of n zs q)
-    → ((key : Key) → FitsKey key → d key ≢ [] → Reached n m zs (walk key) key) → ((q w : ℕ) → q < m → entry_field n zs q 0 % 2 ≡ 0 → w < 8 → entry_field n zs q w ≡ entry_field n ws q w) → Clear walk n m zs c d
-words_clear walk n m ws zs c d was now reached same = record {
+    → ((key : Key) → FitsKey key → d key ≢ [] → Reached n m zs (walk key) key) → ((q w : ℕ) → q < m → entry_field n zs q 0 % 2 ≡ 0 → w < 8 → entry_field n zs q w ≡ entry_field n ws q w) → OpensChanged n m zs c d → Clear walk n m zs c d
+words_clear walk n m ws zs c d was now reached same opens = record {
   keeps = λ q key less two l.
       let w : (i : ℕ) → i < 8 → entry_field n zs q i ≡ entry_field n ws q i = λ i few. same q i less two few in
       let w4 = w 4 (omega arith) in
@@ -211,6 +218,7 @@ words_clear walk n m ws zs c d was now reached same = record {
       let old : HasLiveKey n ws q key = (sym (w 2 (omega arith)) ∙ l.0, sym (w 3 (omega arith)) ∙ l.1) in
       let said : said_of n zs q ≡ said_of n ws q = λ d. w4 d ∷ w5 d ∷ w6 d ∷ [] in
       now q key less l ∙ (said ∙ sym (was q key less old));
+  opens = opens;
   adds = λ key fits none some. reached key fits some;
 }
 

@@ -29,6 +29,15 @@ pub record Reached (n m : ℕ) (ws walk : List ℕ) (key : Key) : Type 0 where
   pub met : Met n ws walk (suc place)
   pub alive : (entry_field n ws place 2 ≡ key_kind key) ⊎ (entry_field n ws place 0 % 2 ≡ 1)
 
+-- the entry is of this key, which is there or was deleted
+abbrev pub IsOf : ℕ → List ℕ → ℕ → Key → Type 0
+IsOf n ws p key = HasLiveKey n ws p key ⊎ IsDead n ws p key
+
+-- each entry whose version is odd is of a key under which d has something else than c
+abbrev pub OpensChanged : ℕ → ℕ → List ℕ → Pairs → Pairs → Type 0
+OpensChanged n m ws c d =
+    (p : ℕ) → p < m → entry_field n ws p 0 % 2 ≡ 1 → (key : Key) × IsOf n ws p key × (d key ≢ c key)
+
 -- what holds of a table that a root names at every moment, also while its container is written: a live entry with an
 -- even version says what the content has under its key; an index word names an entry with a key; the walk of each key
 -- of the content that fits its words meets its entry
@@ -59,9 +68,11 @@ pub record Careful (n m : ℕ) (ws : List ℕ) (c : Pairs) (i x : ℕ) : Type 0 
   pub shuts : (p : ℕ) (key : Key) → p < m → i ≡ entry_offset n p 0 → x % 2 ≡ 0 → IsDead n ws p key → c key ≡ []
 
 -- a write may be committed that leaves d of the content c: it changes nothing that an entry with an even version says,
--- and a key that it adds, and that fits its words, has its entry
+-- it changes what is under the key of each entry with an odd one, and a key that it adds, and that fits its words, has
+-- its entry
 pub record Clear (walk : Key → List ℕ) (n m : ℕ) (ws : List ℕ) (c d : Pairs) : Type 0 where
   pub keeps : (p : ℕ) (key : Key) → p < m → entry_field n ws p 0 % 2 ≡ 0 → HasLiveKey n ws p key → d key ≡ c key
+  pub opens : OpensChanged n m ws c d
   pub adds : (key : Key) → FitsKey key → c key ≡ [] → d key ≢ [] → Reached n m ws (walk key) key
 
 -- what stays between two moments in which one root names the table

@@ -1,12 +1,12 @@
 -- Calls that put a value at a key of a dict, as whole writes. (profile)
-use Rattle.std.specs.Prelude.{◌≡◌, ℕ, suc, ◌+◌, ◌<◌, List, [], ◌∷◌, None}
+use Rattle.std.specs.Prelude.{◌≡◌, ℕ, suc, ◌+◌, ◌<◌, List, [], ◌∷◌, None, ◌≢◌, Some}
 use Rattle.ft_model.specs.declared.call.Call.TheVariants as call
 use Rattle.ft_model.specs.declared.call.DictCall.TheVariants as dict
 use Rattle.ft_model.specs.declared.content.Content.TheVariants as content
 use Rattle.ft_model.specs.declared.data.Key.{Key}
 use Rattle.ft_model.specs.declared.data.Value.{Value}
 use Rattle.ft_model.specs.declared.reply.Reply.TheVariants as reply
-use Rattle.ft_model.specs.Contents.{DictContent}
+use Rattle.ft_model.specs.Contents.{DictContent, dict_get}
 use Rattle.ft_layout.specs.declared.slot.Stored.TheVariants.{Plain}
 use Rattle.ft_layout.specs.Words.{FitsKey, FitsStored, stored_kind, stored_payload}
 use Rattle.ft_trace.specs.declared.Snap.{Snap}
@@ -43,11 +43,13 @@ dict_set_write v o t place key value =
       late = entry_closed (slots (class_of t)) (held_words o v).table place;
     }
 
--- a pass with the lock of a dict may put another value at a key that is there, whatever other passes have done
+-- a pass with the lock of a dict may put another value at a key that is there than the one it has, whatever other
+-- passes have done
 abbrev pub ValuesMayBePut : Type 0
 ValuesMayBePut =
     (v : View) (o t place : ℕ) (key : Key) (value : Value) (pairs : DictContent) → MayWrite v o
     → (known_state o v).content ≡ content.Dict pairs → root_in (held_words o v) ≡ suc t → place < places (class_of t)
     → HasLiveKey (slots (class_of t)) (held_words o v).table place key → FitsKey key → FitsStored (Plain value)
+    → dict_get pairs.pairs key ≢ Some value
     → (start number : ℕ) × (s : Snap) × (stop : ℕ)
     × IsReachable (after_write_of v o t (dict_set_write v o t place key value) start number s stop)

@@ -1,6 +1,6 @@
 -- What a writer may do to a table of a list while others read it without the lock. Items have versions; one is odd
 -- while its item is being written. (profile)
-use Rattle.std.specs.Prelude.{◌≡◌, ℕ, suc, ◌%◌, ◌<◌, ◌≤◌, List, [], ◌∷◌, length, slice_get}
+use Rattle.std.specs.Prelude.{◌≡◌, ◌≢◌, ℕ, suc, ◌%◌, ◌<◌, ◌≤◌, List, [], ◌∷◌, length, slice_get}
 use Rattle.std.specs.Option.{option_map_or}
 use Rattle.ft_model.specs.declared.data.Value.{Value}
 use Rattle.ft_layout.specs.declared.slot.Stored.TheVariants.{Plain}
@@ -31,10 +31,15 @@ pub record ItemCareful (n : ℕ) (ws : List ℕ) (values : List Value) (i x : �
   pub version : (p : ℕ) → p < n → i ≡ item_offset p 0 → x ≡ suc (item_field ws p 0)
   pub closes : (p : ℕ) → p < n → i ≡ item_offset p 0 → x % 2 ≡ 0 → words_at values p ≡ said_at ws p
 
--- a write may be committed that leaves other values: it changes nothing that an item with an even version says, and the
--- list stays no longer than the table
+-- each item whose version is odd is at an index at which the new list has something else than the old one
+abbrev pub OpensChangedItems : ℕ → List ℕ → List Value → List Value → Type 0
+OpensChangedItems n ws old new = (p : ℕ) → p < n → item_field ws p 0 % 2 ≡ 1 → words_at new p ≢ words_at old p
+
+-- a write may be committed that leaves other values: it changes nothing that an item with an even version says, it
+-- changes each item with an odd one, and the list stays no longer than the table
 pub record ItemClear (n : ℕ) (ws : List ℕ) (old new : List Value) : Type 0 where
   pub keeps : (p : ℕ) → p < n → item_field ws p 0 % 2 ≡ 0 → words_at new p ≡ words_at old p
+  pub opens : OpensChangedItems n ws old new
   pub short : length new ≤ n
 
 -- what stays between two moments in which one root names the table

@@ -1,5 +1,5 @@
 -- Calls that put one item of a list, as whole writes. (profile)
-use Rattle.std.specs.Prelude.{◌≡◌, ℕ, suc, ◌+◌, ◌<◌, ℤ, List, [], ◌∷◌, length, Some, None}
+use Rattle.std.specs.Prelude.{◌≡◌, ℕ, suc, ◌+◌, ◌<◌, ℤ, List, [], ◌∷◌, length, Some, None, ◌≢◌, slice_get}
 use Rattle.ft_model.specs.declared.call.Call.TheVariants as call
 use Rattle.ft_model.specs.declared.call.ListCall.TheVariants as list
 use Rattle.ft_model.specs.declared.content.Content.TheVariants as content
@@ -40,12 +40,13 @@ list_set_write v o place index value =
       late = item_closed (held_words o v).table place;
     }
 
--- a pass with the lock of a list may put one of its items, whatever other passes have done
+-- a pass with the lock of a list may put one of its items, where it has another value, whatever other passes have done
 abbrev pub ItemsMayBePut : Type 0
 ItemsMayBePut =
     (v : View) (o t place : ℕ) (index : ℤ) (value : Value) (values : List Value) → MayWrite v o
     → (known_state o v).content ≡ content.List values → root_in (held_words o v) ≡ suc t
     → index_in (length values) index ≡ Some place → place < length values → FitsStored (Plain value)
+    → slice_get values place ≢ Some value
     → (start number : ℕ) × (s : Snap) × (stop : ℕ)
     × IsReachable (after_write_of v o t (list_set_write v o place index value) start number s stop)
 

@@ -33,7 +33,7 @@ use Rattle.ft_trace.specs.Ages.{age, all_acts}
 use Rattle.ft_trace.specs.ContainerStates.{container_after, first_writes, kind_in, reply_in}
 use Rattle.ft_trace.specs.Pictures.{entry_offset, item_offset, walk_of, table_words, picture}
 use Rattle.ft_trace.specs.ItemWords.{words_at}
-use Rattle.ft_trace.specs.Kinds.{rows, is_key, pair_words, element_words, under, LaterAs, IsKeyed, IsItems}
+use Rattle.ft_trace.specs.Kinds.{rows, is_key, pair_words, element_words, under, LaterAs, IsKeyed, IsItems, version_at}
 use Rattle.ft_trace.specs.Holds.{held_words, known_state, in_hand}
 use Rattle.ft_trace.specs.FitCalls.{FitsContent}
 use Rattle.ft_trace.specs.LoggedReads.{Among, IsNothing, LookedAtOne, LookedAtBoth}
@@ -368,6 +368,18 @@ NumbersHaveRoom =
     → (word k es counter ≤ k.passes * k.calls)
     × (word k es write_number ≤ 1 + k.passes * k.calls + k.passes)
     × ((o : ℕ) → o < container_count k → word k es (version_of o) ≤ 2 * (k.passes * k.calls) + 1)
+
+-- the version of an entry or item in the table that a root names is at most twice the counter where it is even, and one
+-- more where it is odd
+abbrev pub EntryVersionsAreLow : Type 0
+EntryVersionsAreLow =
+    (k : Shape) (es : List Event) → Valid k es → (o : ℕ) → o < container_count k → (t : ℕ)
+    → word k es (block o 0) ≡ suc t → (p : ℕ) → p < rows (kind_in k.starts o) (class_of t)
+    → (slice_index (table_words k t (run k es).words) (version_at (kind_in k.starts o) (class_of t) p)
+    ≤ 2 * word k es counter + 1)
+    × (slice_index (table_words k t (run k es).words) (version_at (kind_in k.starts o) (class_of t) p) % 2 ≡ 0
+    → slice_index (table_words k t (run k es).words) (version_at (kind_in k.starts o) (class_of t) p)
+    ≤ 2 * word k es counter)
 
 -- the next serial of a container is at most the slots of the largest table for each write
 abbrev pub NextSerialsAreLow : Type 0

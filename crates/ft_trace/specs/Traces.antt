@@ -155,10 +155,11 @@ May k m cs v (PutFresh t i x) = IsTableName k t × (i < size (class_of t)) × (s
 May k m cs v (PutHeader t x) = IsTableName k t × (stage t v.log ≡ 4) × (x ≡ goal t v.log)
 -- The call is a write of containers of its kind, the version of what it changes is odd by the pass, the reply is that
 -- of the plain containers at the counter, the pass has a call left and the counter has room. Each entry with an even
--- version says the same of the content after the call, and each key that is added has its entry. Where the pass has
--- lowered a count and not raised it again, the call takes a table of that class. No content passes its greatest length.
--- Where the pass has put 0 into the root, the call is one that may. Words can tell the keys and values of the call. The
--- pass has the lock of each container that the call names.
+-- version says the same of the content after the call, each with an odd one is of a key under which the call changes
+-- what is there, and each key that is added has its entry. Where the pass has lowered a count and not raised it again,
+-- the call takes a table of that class. No content passes its greatest length. Where the pass has put 0 into the root,
+-- the call is one that may. Words can tell the keys and values of the call. The pass has the lock of each container
+-- that the call names.
 May k m cs v (Commit c r f s) =
     (is_write c r ≡ true)
     × (is_writing (changes c) v.log ≡ true)

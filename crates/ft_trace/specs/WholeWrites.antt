@@ -152,8 +152,8 @@ MayReplace v o call (Some (suc t)) =
     → slice_index (in_hand t v) (version_at (kind_in v.shape.starts o) (class_of t) p) ≤ 1)
 
 -- The call may be committed after these writes: its reply is that of the plain containers, no content passes its
--- greatest length, and where a count was lowered it takes a table of that class. What even versions say stays. Then the
--- late puts may be made, and at the end the words stand for the content.
+-- greatest length, and where a count was lowered it takes a table of that class. What even versions say stays, and what
+-- odd ones are of changes. Then the late puts may be made, and at the end the words stand for the content.
 pub record MayCommitWrite (v : View) (o t : ℕ) (write : WholeWrite) (calls : List Call) : Type 0 where
   pub replied : IsReplied write.call write.reply (reply_in (stored_newest v.shape.starts calls) write.call)
   pub within : would_pass (stored_newest v.shape.starts calls).world write.call ≡ false

@@ -7,6 +7,7 @@ ghost use Rattle.ft_trace.specs.LookReplies.{DictHitsAreReplied, SetHitsAreRepli
 ghost use Rattle.ft_trace.specs.EntryWrites.{ValuesMayBePut};
 ghost use Rattle.ft_trace.specs.Earnings.{EntriesAreEarned};
 ghost use Rattle.ft_trace.specs.InOrder.{NumberedEntriesAreInOrder};
+ghost use Rattle.ft_trace.specs.OpenedEntries.{CommitsChangeTheOpened, OpenedAreCommitted};
 ghost use Rattle.ft_trace.specs.OwnCursors.{CursorsAreHands};
 ghost use Rattle.ft_trace.specs.Roots.{ZeroRootsHaveCauses, RetiredTablesAreApart};
 ghost use Rattle.ft_trace.specs.KeyWrites.{KeysMayBeAdded};
@@ -15,7 +16,7 @@ ghost use Rattle.ft_trace.specs.SetWrites.{ElementsMayBeAdded, ElementsMayBeDisc
 ghost use Rattle.ft_trace.specs.GrowWrites.{DictsMayGrow};
 ghost use Rattle.ft_trace.specs.SetGrowWrites.{SetsMayGrow};
 ghost use Rattle.ft_trace.specs.ListGrowWrites.{ListsMayGrow};
-ghost use Rattle.ft_trace.specs.TraceLaws.{ContentsFit, StoredTablesAreInOrder, WordsLieApart, PairsAreUnderTheirKeys, ElementsAreUnderTheirKeys, OnePassIsAlone, StampsRise, MemoryErrorsAreEarned, LocksNameHolders, FoundOwnersHadLocks, OneKnowsAllOwners, VersionsAreOddInWrites, EvenTablesAreShut, OddVersionsAreInWrites, NumbersAreOnce, EntriesAreRight, OneHasAllEntries, EvenWordsStand, ZeroRootsHaveNothing, HoldersKnow, TablesAreSomewhere, TablesAreInOnePlace, CountsStand, TablesAreOwed, EmptyClassesAreEarned, AnnouncedNumbersAreLow, FoundTablesAreKept, TablesAreFreeBeforeRoots, GoalsStand, GivenUpTablesRest, TablesAreSound, TableWordsStay, HitsAreRight, MissesAreRight, BareRootsAreRight, ItemsAreRight, ListsFitTheirTables, LooksAreRight, LooksAtBothAreRight, ChangedRootsAreNew, NumbersHaveRoom, NextSerialsAreLow, CallsAreCounted};
+ghost use Rattle.ft_trace.specs.TraceLaws.{ContentsFit, StoredTablesAreInOrder, WordsLieApart, PairsAreUnderTheirKeys, ElementsAreUnderTheirKeys, OnePassIsAlone, StampsRise, MemoryErrorsAreEarned, LocksNameHolders, FoundOwnersHadLocks, OneKnowsAllOwners, VersionsAreOddInWrites, EvenTablesAreShut, OddVersionsAreInWrites, NumbersAreOnce, EntriesAreRight, OneHasAllEntries, EvenWordsStand, ZeroRootsHaveNothing, HoldersKnow, TablesAreSomewhere, TablesAreInOnePlace, CountsStand, TablesAreOwed, EmptyClassesAreEarned, AnnouncedNumbersAreLow, FoundTablesAreKept, TablesAreFreeBeforeRoots, GoalsStand, GivenUpTablesRest, TablesAreSound, TableWordsStay, HitsAreRight, MissesAreRight, BareRootsAreRight, ItemsAreRight, ListsFitTheirTables, LooksAreRight, LooksAtBothAreRight, ChangedRootsAreNew, NumbersHaveRoom, EntryVersionsAreLow, NextSerialsAreLow, CallsAreCounted};
 
 use ft_layout::{
     puts_change_one_item, used_entries_follow_a_dict, used_entries_follow_a_set,
@@ -47,6 +48,17 @@ pub fn tables_are_shut_while_versions_are_even()
 /// table of a container that is being written.
 pub fn odd_versions_are_in_writes()
     ensures { OddVersionsAreInWrites }
+{}
+
+/// A write makes odd the versions of those entries and items alone that it changes.
+pub fn commits_change_the_opened()
+    ensures { CommitsChangeTheOpened }
+{}
+
+/// What a write opens it commits: where a version was made odd and the write has ended, the pass committed a call while
+/// it was odd, which changes that entry or item.
+pub fn opened_are_committed()
+    ensures { OpenedAreCommitted }
 {}
 
 /// Each number below the counter is that of one write in one view.
@@ -276,6 +288,11 @@ pub fn changed_roots_are_new()
 /// that none wraps.
 pub fn numbers_have_room()
     ensures { NumbersHaveRoom }
+{}
+
+/// The version of an entry or item is at most twice the counter, and one more while it is odd.
+pub fn entry_versions_are_low()
+    ensures { EntryVersionsAreLow }
 {}
 
 /// The next serial of a container is at most the slots of the largest table for each write so far.

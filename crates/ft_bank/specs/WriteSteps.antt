@@ -34,9 +34,10 @@ pub record MayHave (v : View) (stored : StoredWorld) : Type 0 where
 -- The call may be written with this reply, whatever the bank has that agrees with what the pass knows. It is a write of
 -- a container whose version the pass has made odd, words can represent its keys and values, and the pass has a call
 -- left. The reply is that of the plain containers, which have what the call names, and none passes its greatest length.
--- In the table that stays each entry or item with an even version says the same after the call, and each that is added
--- is there. Where the pass has lowered a count and not raised it again, the call takes a table of that class; where it
--- has put 0 into the root, the call is one that may. The pass has the lock of each container that the call names.
+-- In the table that stays each entry or item with an even version says the same after the call, the call changes what
+-- is in each with an odd one, and each that is added is there. Where the pass has lowered a count and not raised it
+-- again, the call takes a table of that class; where it has put 0 into the root, the call is one that may. The pass has
+-- the lock of each container that the call names.
 pub record MayCommit (v : View) (call : Call) (reply : Reply) : Type 0 where
   pub write : is_write call reply ≡ true
   pub container : changes call < container_count v.shape

@@ -20,6 +20,7 @@ impl Bank {
     /// Tries to take the lock of a container. It is loaded first, and put only where it is 0; where
     /// another pass has it, that pass is answered. With the lock the pass knows the container's words
     /// and what they stand for.
+    #[inline(always)]
     pub fn try_lock(&self, pass: &mut Pass, o: u32) -> Result<(), u32>
         requires pass { IsPassOf self.now pass.old }
         requires container { o < container_count (shape_of self.now) }
@@ -40,6 +41,15 @@ impl Bank {
             return Err((found - 1) as u32);
         }
         Ok(())
+    }
+
+    /// Whether the lock of a container is taken, as far as one load tells. It is for who waits: the lock may be let go
+    /// or taken again at any time, so nothing is promised, and the pass learns nothing.
+    #[inline(always)]
+    pub fn seems_locked(&self, o: u32) -> bool
+        requires { o < container_count (shape_of self.now) }
+    {
+        self.table.shared.peek(self.block_of(o) as usize) != 0
     }
 
     /// Lets go of the lock of a container, whose version is even. No open section notes it as taken.

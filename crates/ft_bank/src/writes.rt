@@ -9,7 +9,7 @@ ghost use Rattle.ft_trace.specs.Pictures.{root_in, Represents};
 ghost use Rattle.ft_trace.specs.Holds.{held_words, known_state, in_hand};
 ghost use Rattle.ft_bank.specs.WriteSteps.{Committed, MayCommit, MayPutRoot, IsCareful, IsShut, KeepsUnwritten, with_block, with_root, with_table};
 ghost use Rattle.ft_bank.specs.declared.table.Table.{Table};
-ghost use Rattle.ft_bank.specs.TableNames.{table_id, root_for, IsTableIn};
+ghost use Rattle.ft_bank.specs.TableNames.{table_id, root_for, IsPlaceOf, IsTableIn};
 
 use crate::bank::Bank;
 use crate::pass::Pass;
@@ -78,6 +78,24 @@ impl Bank {
         ensures keeps { KeepsUnwritten (view pass.old) (view pass.new) }
     {
         let start = self.cell_of(t);
+        self.put_word(pass, o, t, start, word, value);
+    }
+
+    /// Puts a word of a table as [`Bank::put_table`] does, for whoever keeps where the table's words lie.
+    #[inline(always)]
+    pub fn put_word(&self, pass: &mut Pass, o: u32, t: Table, start: u64, word: u64, value: u64)
+        requires pass { IsPassOf self.now pass.old }
+        requires container { o < container_count (shape_of self.now) }
+        requires table { IsTableIn (shape_of self.now) t }
+        requires place { IsPlaceOf (shape_of self.now) t start }
+        requires word { word < size (class_of (table_id t)) }
+        requires odd { is_writing o (view pass.old).log ≡ true }
+        requires root { root_in (held_words o (view pass.old)) ≡ suc (table_id t) }
+        requires care { IsCareful (view pass.old) o (table_id t) word value }
+        ensures did { Did (PutTable o (table_id t) word value) pass.old pass.new }
+        ensures held { held_words o (view pass.new) ≡ with_table (held_words o (view pass.old)) word value }
+        ensures keeps { KeepsUnwritten (view pass.old) (view pass.new) }
+    {
         self.store_as::<Brand>(pass, start + word, value, o, t.name(), word);
     }
 
@@ -93,6 +111,22 @@ impl Bank {
         ensures keeps { KeepsUnwritten (view pass.old) (view pass.new) }
     {
         let start = self.cell_of(t);
+        self.put_fresh_word(pass, t, start, word, value);
+    }
+
+    /// Puts a word of a table as [`Bank::put_fresh`] does, for whoever keeps where the table's words lie.
+    #[inline(always)]
+    pub fn put_fresh_word(&self, pass: &mut Pass, t: Table, start: u64, word: u64, value: u64)
+        requires pass { IsPassOf self.now pass.old }
+        requires table { IsTableIn (shape_of self.now) t }
+        requires place { IsPlaceOf (shape_of self.now) t start }
+        requires word { word < size (class_of (table_id t)) }
+        requires fresh { stage (table_id t) (view pass.old).log ≡ 1 }
+        ensures did { Did (PutFresh (table_id t) word value) pass.old pass.new }
+        ensures fresh { in_hand (table_id t) (view pass.new) ≡
+            slice_set (in_hand (table_id t) (view pass.old)) word value }
+        ensures keeps { KeepsUnwritten (view pass.old) (view pass.new) }
+    {
         self.store_as::<Brand>(pass, start + word, value, 0, t.name(), word);
     }
 

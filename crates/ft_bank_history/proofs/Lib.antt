@@ -4,3 +4,4 @@ pub mod ReversedLists
 pub mod Replies
 pub mod RightMarks
 pub mod Walked
+pub mod SoFar

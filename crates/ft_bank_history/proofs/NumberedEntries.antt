@@ -1,7 +1,7 @@
 -- Entries of passes, beside the writes in their order, are numbered entries of a script.
 use Rattle.std.proofs.Common.{◌≡◌, ℕ, zero, suc, ◌+◌, ◌≤◌, Bool, true, false, cond, List, [], ◌∷◌, ◌++◌, map, drop, take, reverse, Some, refl, sym, ap, ◌∙◌, subst, arith, append-nil}
-use Rattle.std.specs.Prelude.{All, ◌==◌, ◌||◌, fold, slice_get}
-use Rattle.std.specs.List.{flat_map, list_any, sum_by}
+use Rattle.std.specs.Prelude.{All, ◌==◌, ◌||◌, fold, length, slice_get}
+use Rattle.std.specs.List.{flat_map, list_any, range_with_len, sum_by}
 use Rattle.std.proofs.lemmas.List.{reverse-append, reverse-reverse, map-append}
 use Rattle.std.proofs.lemmas.List.Elements.{All-head, All-tail, All-weaker}
 use Rattle.std.proofs.lemmas.List.Sums.{sum_by-cons, sum_by-append}
@@ -77,6 +77,17 @@ named_one called (p ∷ ps) e = named_by called p ps (names p called) refl e (na
 abbrev Counts : List NamedEntry → NamedEntry → NamedEntry → Type 0
 Counts before entry begun = IsCountedAs (marks_since entry.thread before begun) entry.reply
 
+-- what a caller keeps of its own entries, whatever they say of locks
+pub record IsKept (thread : ℕ) (mine : List NamedEntry) (entries : List Entry) : Type 0 where
+  pub same : map plain_entry mine ≡ reverse entries
+  pub own : All (λ entry. entry.thread ≡ thread) mine
+  pub indexes : map (λ entry. entry.index) mine ≡ range_with_len 1 (length mine)
+  pub counted : EachAt mine (λ place entry. IfEnds (begins_of (take place mine)) entry.call
+      (λ begun. IsCountedAs (marks_since entry.thread (take place mine) begun) entry.reply))
+
+kept_by_names : (thread : ℕ) (mine : List NamedEntry) (entries : List Entry) (had found : List Owner) → HasNamedEntries thread mine entries had found → IsKept thread mine entries
+kept_by_names thread mine entries had found are = record { same = are.same; own = are.own; indexes = are.indexes; counted = are.counted }
+
 -- ---- one entry
 
 own_at : (W : ℕ → Call → Type 0) (newer : List Entry) (e : Entry) (older : List Entry) → AreInOwnOrder W (newer ++ e ∷ older) → FollowsOwn W older e
@@ -129,7 +140,7 @@ module _ (k : Shape) (script : ScriptParts) (calls : List Call) (for_it : IsFor 
 
   -- ---- one pass
 
-  module _ (thread : ℕ) (mine : List NamedEntry) (own : List Entry) (had found : List Owner) (kept : HasNamedEntries thread mine own had found) (asks : All (AsksWithin (cursors_of script thread)) mine) (replied : (room : ℕ) → AreReplied k.starts calls room own) (stand : All (StandsInOrder k calls) own) (ordered : AreInOwnOrder (IsWriteIn calls) own) where
+  module _ (thread : ℕ) (mine : List NamedEntry) (own : List Entry) (kept : IsKept thread mine own) (asks : All (AsksWithin (cursors_of script thread)) mine) (replied : (room : ℕ) → AreReplied k.starts calls room own) (stand : All (StandsInOrder k calls) own) (ordered : AreInOwnOrder (IsWriteIn calls) own) where
     own_is : own ≡ reverse (map plain_entry mine)
     own_is = sym (reverse-reverse own) ∙ ap reverse (sym kept.same)
 
@@ -168,19 +179,19 @@ module _ (k : Shape) (script : ScriptParts) (calls : List Call) (for_it : IsFor 
 
   -- ---- all passes
 
-  numbered_from : (first : ℕ) (kept : List (List NamedEntry)) (lists : List (List Entry)) (had found : List Owner) → HaveNamedEntries first kept lists had found → ((i : ℕ) (mine : List NamedEntry) → slice_get kept i ≡ Some mine → All (AsksWithin (cursors_of script (first + i))) mine) → All (λ own. (room : ℕ) → AreReplied k.starts calls room own) lists → All (StandsInOrder k calls) (flat_map (λ own. own) lists) → All (AreInOwnOrder (IsWriteIn calls)) lists → (i : ℕ) (mine : List NamedEntry) → slice_get kept i ≡ Some mine → IsNumberedThread storage.Tables script calls (first + i) mine
-  numbered_from first [] lists had found are asks replied stand ordered i mine at = absurd (cc)
-  numbered_from first (m ∷ kept) [] had found are asks replied stand ordered i mine at = absurd are
-  numbered_from first (m ∷ kept) (own ∷ lists) had found are asks replied stand ordered zero mine at =
+  pub numbered_from : (first : ℕ) (kept : List (List NamedEntry)) (lists : List (List Entry)) (had found : List Owner) → HaveNamedEntries first kept lists had found → All (λ own. (room : ℕ) → AreReplied k.starts calls room own) lists → All (StandsInOrder k calls) (flat_map (λ own. own) lists) → All (AreInOwnOrder (IsWriteIn calls)) lists → (i : ℕ) (mine : List NamedEntry) → slice_get kept i ≡ Some mine → All (AsksWithin (cursors_of script (first + i))) mine → IsNumberedThread storage.Tables script calls (first + i) mine
+  numbered_from first [] lists had found are replied stand ordered i mine at asks = absurd (cc)
+  numbered_from first (m ∷ kept) [] had found are replied stand ordered i mine at asks = absurd are
+  numbered_from first (m ∷ kept) (own ∷ lists) had found are replied stand ordered zero mine at asks =
       let same : m ≡ mine = cc in
       let here : first ≡ first + 0 = omega arith in
       let s = (all_parts (StandsInOrder k calls) own (flat_map (λ l. l) lists) stand).0 in
       let o = All-head (AreInOwnOrder (IsWriteIn calls)) own lists ordered in
-      subst (λ (z : ℕ × List NamedEntry). IsNumberedThread storage.Tables script calls z.0 z.1) (λ d. (here d, same d)) (numbered_thread first m own had found are.0 (subst (λ (z : ℕ). All (AsksWithin (cursors_of script z)) m) (sym here) (asks zero m refl)) (All-head (λ l. (room : ℕ) → AreReplied k.starts calls room l) own lists replied) s o)
-  numbered_from first (m ∷ kept) (own ∷ lists) had found are asks replied stand ordered (suc i) mine at =
+      subst (λ (z : ℕ × List NamedEntry). IsNumberedThread storage.Tables script calls z.0 z.1) (λ d. (here d, same d)) (numbered_thread first m own (kept_by_names first m own had found are.0) (subst (λ (z : ℕ × List NamedEntry). All (AsksWithin (cursors_of script z.0)) z.1) (λ d. (sym here d, sym same d)) asks) (All-head (λ l. (room : ℕ) → AreReplied k.starts calls room l) own lists replied) s o)
+  numbered_from first (m ∷ kept) (own ∷ lists) had found are replied stand ordered (suc i) mine at asks =
       let next : suc first + i ≡ first + suc i = omega arith in
       subst (λ (z : ℕ). IsNumberedThread storage.Tables script calls z mine) next
-      (numbered_from (suc first) kept lists had found are.1 (λ j other here. subst (λ (z : ℕ). All (AsksWithin (cursors_of script z)) other) (let e : first + suc j ≡ suc first + j = omega arith in e) (asks (suc j) other here)) (All-tail (λ l. (room : ℕ) → AreReplied k.starts calls room l) own lists replied) (all_parts (StandsInOrder k calls) own (flat_map (λ l. l) lists) stand).1 (All-tail (AreInOwnOrder (IsWriteIn calls)) own lists ordered) i mine at)
+      (numbered_from (suc first) kept lists had found are.1 (All-tail (λ l. (room : ℕ) → AreReplied k.starts calls room l) own lists replied) (all_parts (StandsInOrder k calls) own (flat_map (λ l. l) lists) stand).1 (All-tail (AreInOwnOrder (IsWriteIn calls)) own lists ordered) i mine at (subst (λ (z : ℕ). All (AsksWithin (cursors_of script z)) mine) (sym next) asks))
 
 -- ---- how many are the write of a number
 
@@ -213,6 +224,6 @@ entries_are_numbered k script calls lists kept had found for_it in_order ordered
   count = count;
   threads = λ thread mine at.
       let same : 0 + thread ≡ thread = omega arith in
-      subst (λ (z : ℕ). IsNumberedThread storage.Tables script calls z mine) same (numbered_from k script calls for_it 0 kept lists had found are (λ j other here. subst (λ (z : ℕ). All (AsksWithin (cursors_of script z)) other) (let e : j ≡ 0 + j = omega arith in e) (asks j other here)) replied in_order.each ordered thread mine at);
+      subst (λ (z : ℕ). IsNumberedThread storage.Tables script calls z mine) same (numbered_from k script calls for_it 0 kept lists had found are replied in_order.each ordered thread mine at (subst (λ (z : ℕ). All (AsksWithin (cursors_of script z)) mine) (sym same) (asks thread mine at)));
   once = λ number low. sym (count_all number 0 kept lists had found are) ∙ in_order.once number low;
 }

@@ -1,3 +1,4 @@
 pub mod LastContents
 pub mod Marks
 pub mod Numbering
+pub mod SoFar

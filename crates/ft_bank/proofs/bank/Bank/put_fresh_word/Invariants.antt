@@ -1,5 +1,5 @@
 use Rattle.ft_trace.specs.declared.Act.TheVariants.{PutFresh}
-use Rattle.ft_bank.proofs.bank.Bank.put_fresh.Given as goal
+use Rattle.ft_bank.proofs.bank.Bank.put_fresh_word.Given as goal
 
 abbrev pub ghosts-store_as : goal.ghosts-store_as
 ghosts-store_as a = record { act = λ n. PutFresh a.t a.i a.value }

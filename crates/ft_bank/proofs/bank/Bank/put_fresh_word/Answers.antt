@@ -15,7 +15,7 @@ use Rattle.ft_bank.proofs.KnownAfterSteps.{keeps_unwritten}
 use Rattle.ft_bank.proofs.WordsPut.{fresh_put}
 use Rattle.ft_bank.proofs.Readying.{fresh_ready}
 use Rattle.ft_bank.proofs.TableAddresses.{named}
-use Rattle.ft_bank.proofs.bank.Bank.put_fresh.Goals as goal
+use Rattle.ft_bank.proofs.bank.Bank.put_fresh_word.Goals as goal
 
 pub returns-clause-keeps : goal.returns-clause-keeps
 returns-clause-keeps c =
@@ -26,7 +26,7 @@ pub store_as-requires-clause-ready : goal.store_as-requires-clause-ready
 store_as-requires-clause-ready c =
     let v = view c.args.pass.now in
     let table : IsTableName v.shape (table_id c.args.t) = subst (λ (z : Shape). IsTableName z (table_id c.args.t)) (sym c.requires.pass.1) (named (shape_of c.args.self.now) c.args.t c.requires.table) in
-    subst (λ (z : ℕ). Ready v (c.cell_of-start.result + c.args.word) (λ n. PutFresh z c.args.word c.args.value)) (sym c.name.ensures) (fresh_ready v (c.cell_of-start.result + c.args.word) (table_id c.args.t) c.args.word c.args.value table c.requires.word c.requires.fresh)
+    subst (λ (z : ℕ). Ready v (c.args.start + c.args.word) (λ n. PutFresh z c.args.word c.args.value)) (sym c.name.ensures) (fresh_ready v (c.args.start + c.args.word) (table_id c.args.t) c.args.word c.args.value table c.requires.word c.requires.fresh)
 
 pub returns-clause-fresh : goal.returns-clause-fresh
 returns-clause-fresh c =

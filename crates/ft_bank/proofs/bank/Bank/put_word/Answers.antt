@@ -14,7 +14,7 @@ use Rattle.ft_bank.proofs.KnownAfterSteps.{keeps_unwritten}
 use Rattle.ft_bank.proofs.WordsPut.{table_put}
 use Rattle.ft_bank.proofs.Readying.{put_ready}
 use Rattle.ft_bank.proofs.TableAddresses.{named}
-use Rattle.ft_bank.proofs.bank.Bank.put_table.Goals as goal
+use Rattle.ft_bank.proofs.bank.Bank.put_word.Goals as goal
 
 pub returns-clause-keeps : goal.returns-clause-keeps
 returns-clause-keeps c =
@@ -26,7 +26,7 @@ store_as-requires-clause-ready c =
     let v = view c.args.pass.now in
     let low : c.args.o < container_count v.shape = subst (λ (z : Shape). c.args.o < container_count z) (sym c.requires.pass.1) c.requires.container in
     let table : IsTableName v.shape (table_id c.args.t) = subst (λ (z : Shape). IsTableName z (table_id c.args.t)) (sym c.requires.pass.1) (named (shape_of c.args.self.now) c.args.t c.requires.table) in
-    subst (λ (z : ℕ). Ready v (c.cell_of-start.result + c.args.word) (λ n. PutTable c.args.o z c.args.word c.args.value)) (sym c.name.ensures) (put_ready v (c.cell_of-start.result + c.args.word) c.args.o (table_id c.args.t) c.args.word c.args.value low table c.requires.word c.requires.odd c.requires.root c.requires.care)
+    subst (λ (z : ℕ). Ready v (c.args.start + c.args.word) (λ n. PutTable c.args.o z c.args.word c.args.value)) (sym c.name.ensures) (put_ready v (c.args.start + c.args.word) c.args.o (table_id c.args.t) c.args.word c.args.value low table c.requires.word c.requires.odd c.requires.root c.requires.care)
 
 pub returns-clause-held : goal.returns-clause-held
 returns-clause-held c =

@@ -38,7 +38,7 @@ use Rattle.ft_table_calls.specs.TriesUnderLocks.{ComesTo, IsTry}
 use Rattle.ft_table_calls.proofs.GrowthMidst.{making_added}
 use Rattle.ft_table_calls.proofs.TriedCalls.{added_keeps, added_try}
 use Rattle.ft_new_keys.specs.KeyGrowth.{PutsKey}
-use Rattle.ft_dict.specs.DictMaking.{MakesAs}
+use Rattle.ft_dict.specs.DictMaking.{DictCallMakes}
 use Rattle.ft_dict.specs.Values.{SetsDefault}
 
 -- ---- before the call
@@ -60,17 +60,17 @@ dict_put {b = b} {p = p} {q = q} k o key dc said what m pass stack x = making_ad
 -- ---- the try of `setdefault`, with the reply that the maker gives
 
 module _ (k : Shape) (d : ℕ) (key : Key) (default : Value) (v w : View) where
-  replied : (made : Made) (x : UnderLocks (One d) (MakesAs k d (dict.SetDefault key default) made) v w) → UnderLocks (One d) (ComesTo (SetsDefault k d key default x.did.0) x.did.0 made) v w
+  replied : (made : Made) (x : UnderLocks (One d) (DictCallMakes k d (dict.SetDefault key default) made) v w) → UnderLocks (One d) (ComesTo (SetsDefault k d key default x.did.0) x.did.0 made) v w
   replied made x = record { before = x.before; took = x.took; within = x.within; locks = x.locks; after = x.after; did = x.did.1; gone = x.gone; owners = x.owners }
 
-  tried : (r : Step) → IsTry (One d) (MakesAs k d (dict.SetDefault key default)) v w r → (said : Reply) × IsTry (One d) (ComesTo (SetsDefault k d key default said) said) v w r
+  tried : (r : Step) → IsTry (One d) (DictCallMakes k d (dict.SetDefault key default)) v w r → (said : Reply) × IsTry (One d) (ComesTo (SetsDefault k d key default said) said) v w r
   tried (step.Done said stamp) x = (x.did.0, replied (made.Done said stamp) x)
   tried (step.NotYet p q) x = (reply.Done, x)
   tried (step.Moved a b) x = (x.did.0, replied (made.Moved a b) x)
   tried step.NoMemory x = (x.did.0, replied made.NoMemory x)
 
-  pub default_try : (r : Step) → IsTry (One d) (MakesAs k d (dict.SetDefault key default)) v w r → (said : Reply) × IsTryOf (One d) (SetsDefault k d key default said) said v w r
+  pub default_try : (r : Step) → IsTry (One d) (DictCallMakes k d (dict.SetDefault key default)) v w r → (said : Reply) × IsTryOf (One d) (SetsDefault k d key default said) said v w r
   default_try r x = let y = tried r x in (y.0, added_try (One d) (SetsDefault k d key default y.0) y.0 v w r y.1)
 
-  pub default_keeps : (r : Step) → IsTry (One d) (MakesAs k d (dict.SetDefault key default)) v w r → KeepsCursors v w
+  pub default_keeps : (r : Step) → IsTry (One d) (DictCallMakes k d (dict.SetDefault key default)) v w r → KeepsCursors v w
   default_keeps r x = let y = tried r x in added_keeps (One d) (SetsDefault k d key default y.0) y.0 v w r y.1

@@ -66,29 +66,34 @@ FitsDict allocates k (call.Dict o dc) =
     × (cursor_of_dict dc ≡ None) × (is_landed_dict dc ≡ true) × (copies_dict dc ≡ true → allocates ≡ true)
 FitsDict allocates k other = ⊥
 
+-- The call sets the value at a key, and names a dict and a key of the bank.
+abbrev pub FitsSetting : Shape → Call → Type 0
+FitsSetting k (call.Dict o (dict.Set key value)) = IsDictIn k o × IsKeyIn k key
+FitsSetting k other = ⊥
+
 -- what a call on the dict o comes to
-abbrev pub MakesAs : Shape → ℕ → DictCall → Made → View → View → Type 0
-MakesAs k o (dict.Get key) made v w = IsRead (call.Dict o (dict.Get key)) made v w
-MakesAs k o (dict.GetOr key default) made v w = IsRead (call.Dict o (dict.GetOr key default)) made v w
-MakesAs k o (dict.Has key) made v w = IsRead (call.Dict o (dict.Has key)) made v w
-MakesAs k o dict.Len made v w = IsRead (call.Dict o dict.Len) made v w
-MakesAs k o (dict.Set key value) made v w =
+abbrev pub DictCallMakes : Shape → ℕ → DictCall → Made → View → View → Type 0
+DictCallMakes k o (dict.Get key) made v w = IsRead (call.Dict o (dict.Get key)) made v w
+DictCallMakes k o (dict.GetOr key default) made v w = IsRead (call.Dict o (dict.GetOr key default)) made v w
+DictCallMakes k o (dict.Has key) made v w = IsRead (call.Dict o (dict.Has key)) made v w
+DictCallMakes k o dict.Len made v w = IsRead (call.Dict o dict.Len) made v w
+DictCallMakes k o (dict.Set key value) made v w =
     ComesTo (PutsKey k o key (call.Dict o (dict.Set key value)) reply.Done) reply.Done made v w
-MakesAs k o (dict.SetDefault key default) made v w =
+DictCallMakes k o (dict.SetDefault key default) made v w =
     (said : Reply) × ComesTo (SetsDefault k o key default said) said made v w
-MakesAs k o (dict.Update other) made v w =
+DictCallMakes k o (dict.Update other) made v w =
     ComesTo (JoinsBy k o other (call.Dict o (dict.Update other))) reply.Done made v w
-MakesAs k o (dict.CopyTo other) made v w = ComesTo (CopiesTo k o other) reply.Done made v w
-MakesAs k o (dict.Del key) made v w = IsMade (call.Dict o (dict.Del key)) made v w
-MakesAs k o (dict.Pop key) made v w = IsMade (call.Dict o (dict.Pop key)) made v w
-MakesAs k o (dict.PopOr key default) made v w = IsMade (call.Dict o (dict.PopOr key default)) made v w
-MakesAs k o dict.PopItem made v w = IsMade (call.Dict o dict.PopItem) made v w
-MakesAs k o dict.Clear made v w = IsClear (call.Dict o dict.Clear) made v w
-MakesAs k o dict.Items made v w = IsCopy (call.Dict o dict.Items) made v w
-MakesAs k o (dict.Eq other) made v w = IsMade (call.Dict o (dict.Eq other)) made v w
-MakesAs k o other made v w = ⊥
+DictCallMakes k o (dict.CopyTo other) made v w = ComesTo (CopiesTo k o other) reply.Done made v w
+DictCallMakes k o (dict.Del key) made v w = IsMade (call.Dict o (dict.Del key)) made v w
+DictCallMakes k o (dict.Pop key) made v w = IsMade (call.Dict o (dict.Pop key)) made v w
+DictCallMakes k o (dict.PopOr key default) made v w = IsMade (call.Dict o (dict.PopOr key default)) made v w
+DictCallMakes k o dict.PopItem made v w = IsMade (call.Dict o dict.PopItem) made v w
+DictCallMakes k o dict.Clear made v w = IsClear (call.Dict o dict.Clear) made v w
+DictCallMakes k o dict.Items made v w = IsCopy (call.Dict o dict.Items) made v w
+DictCallMakes k o (dict.Eq other) made v w = IsMade (call.Dict o (dict.Eq other)) made v w
+DictCallMakes k o other made v w = ⊥
 
 -- the same of a call of whatever kind
 abbrev pub MakesDict : Shape → Call → Made → View → View → Type 0
-MakesDict k (call.Dict o dc) made v w = MakesAs k o dc made v w
+MakesDict k (call.Dict o dc) made v w = DictCallMakes k o dc made v w
 MakesDict k other made v w = ⊥

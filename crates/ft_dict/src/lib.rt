@@ -28,7 +28,7 @@ pub use crate::items::look_items;
 pub use crate::lasts::popitem_locked;
 pub use crate::lens::look_len;
 pub use crate::looks::{look_get, look_getd, look_has};
-pub use crate::making::DictMaker;
+pub use crate::making::{DictMaker, ValueSetter};
 pub use crate::merges::update_by;
 pub use crate::tries::{
     try_clear, try_copyto, try_del, try_eq, try_get, try_getd, try_has, try_items, try_len,

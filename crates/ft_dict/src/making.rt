@@ -1,12 +1,15 @@
 //! Each call on dicts, made by a pass that has the locks of its dicts.
 ghost use Rattle.std.specs.Prelude.{◌≡◌, ◌<◌, is_some};
 ghost use Rattle.ft_model.specs.declared.call.Call.TheVariants as calls;
+ghost use Rattle.ft_model.specs.declared.call.DictCall.TheVariants as dict;
 ghost use Rattle.ft_bank.specs.Passes.{shape_of, view};
 ghost use Rattle.ft_bank.specs.PassSections.{stack_of};
 ghost use Rattle.ft_table_calls.specs.TriesUnderLocks.{objects_in};
+ghost use Rattle.ft_bank.specs.KeyHashes.{IsKeyIn};
+ghost use Rattle.ft_section.specs.declared.answers.Objects.TheVariants.{One};
 ghost use Rattle.ft_section.specs.LockTakings.{HasLocks};
 ghost use Rattle.ft_section.specs.Ready.{IsMaking};
-ghost use Rattle.ft_dict.specs.DictMaking.{FitsDict, MakesAs};
+ghost use Rattle.ft_dict.specs.DictMaking.{FitsDict, IsDictIn, DictCallMakes};
 
 use crate::clears::clear_by;
 use crate::copies::copyto_by;
@@ -17,7 +20,7 @@ use crate::merges::update_by;
 use crate::values::{set_by, setdefault_by};
 use ft_bank::{Bank, Pass};
 use ft_keys::Way;
-use ft_model::{Call, DictCall, Reply};
+use ft_model::{Call, DictCall, Key, Reply, Value};
 use ft_search::len_locked;
 use ft_section::Object;
 use ft_table_calls::{Made, Maker};
@@ -50,10 +53,49 @@ impl Maker for DictMaker {
     }
 }
 
-/// Makes a call on the dict `d`, by a pass that has the locks of its dicts. The call that is made most has
-/// an arm of its own here.
+/// Makes the call that sets the value at a key, for whoever knows that it is this one: no other call is looked for
+/// under the lock.
+#[derive(Clone, Copy)]
+pub struct ValueSetter;
+
+impl Maker for ValueSetter {
+    ghost use Rattle.ft_dict.specs.DictMaking.{FitsSetting, MakesDict};
+
+    ghost fits = { λ it k called. FitsSetting k called };
+
+    ghost makes = { λ it k called made v w. MakesDict k called made v w };
+
+    #[inline(always)]
+    fn make(&self, bank: &Bank, pass: &mut Pass, called: &Call) -> Made {
+        match *called {
+            Call::Dict {
+                container,
+                call: DictCall::Set { key, value },
+            } => set_value(bank, pass, container, key, value),
+            _ => unreachable!(),
+        }
+    }
+}
+
+/// Sets the value at a key of the dict `d`, by a pass that has its lock.
 #[tactic(auto, using(crate::proofs::DictTries::may_enter))]
 #[inline(always)]
+fn set_value(bank: &Bank, pass: &mut Pass, d: Object, key: Key, value: Value) -> Made
+    requires making { IsMaking bank.now pass.old }
+    requires locks { HasLocks (view pass.old) (One d) }
+    requires dict { IsDictIn (shape_of bank.now) d }
+    requires key { IsKeyIn (shape_of bank.now) key }
+    requires left { 0 < (view pass.old).left }
+    ensures making { IsMaking bank.now pass.new }
+    ensures stack { stack_of pass.new ≡ stack_of pass.old }
+    ensures made { DictCallMakes (shape_of bank.now) d (dict.Set key value) result (view pass.old) (view pass.new) }
+{
+    Made::after(set_by(bank, pass, d, key, value), Reply::Done)
+}
+
+/// Makes a call on the dict `d`, by a pass that has the locks of its dicts.
+#[tactic(auto, using(crate::proofs::DictTries::may_enter, ft_search::proofs::ReadMidst::stands_in))]
+#[inline(never)]
 fn make_dict(
     bank: &Bank,
     pass: &mut Pass,
@@ -69,41 +111,14 @@ fn make_dict(
     requires left { 0 < (view pass.old).left }
     ensures making { IsMaking bank.now pass.new }
     ensures stack { stack_of pass.new ≡ stack_of pass.old }
-    ensures made { MakesAs (shape_of bank.now) d call.now result (view pass.old) (view pass.new) }
-{
-    match *call {
-        DictCall::Set { key, value } => Made::after(set_by(bank, pass, d, key, value), Reply::Done),
-        _ => make_any_dict(bank, pass, alloc, d, call, called),
-    }
-}
-
-/// The same for each call. It stands apart, since room for the answers of all arms is cleared at the beginning of a
-/// function.
-#[tactic(auto, using(crate::proofs::DictTries::may_enter, ft_search::proofs::ReadMidst::stands_in))]
-#[inline(never)]
-fn make_any_dict(
-    bank: &Bank,
-    pass: &mut Pass,
-    alloc: Option<Global>,
-    d: Object,
-    call: &DictCall,
-    called: &Call,
-) -> Made
-    requires making { IsMaking bank.now pass.old }
-    requires call { called.now ≡ calls.Dict d call.now }
-    requires locks { HasLocks (view pass.old) (objects_in (calls.Dict d call.now)) }
-    requires fits { FitsDict (is_some alloc) (shape_of bank.now) (calls.Dict d call.now) }
-    requires left { 0 < (view pass.old).left }
-    ensures making { IsMaking bank.now pass.new }
-    ensures stack { stack_of pass.new ≡ stack_of pass.old }
-    ensures made { MakesAs (shape_of bank.now) d call.now result (view pass.old) (view pass.new) }
+    ensures made { DictCallMakes (shape_of bank.now) d call.now result (view pass.old) (view pass.new) }
 {
     match *call {
         DictCall::Get { key } => Made::done(get_locked(bank, pass, d, key)),
         DictCall::GetOr { key, default } => Made::done(getd_locked(bank, pass, d, key, default)),
         DictCall::Has { key } => Made::done(has_locked(bank, pass, Way::Dict, d, key)),
         DictCall::Len => Made::done(len_locked(bank, pass, d, called)),
-        DictCall::Set { key, value } => Made::after(set_by(bank, pass, d, key, value), Reply::Done),
+        DictCall::Set { key, value } => set_value(bank, pass, d, key, value),
         DictCall::SetDefault { key, default } => {
             let (added, said) = setdefault_by(bank, pass, d, key, default);
             Made::after(added, said)

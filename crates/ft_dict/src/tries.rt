@@ -22,7 +22,7 @@ ghost use Rattle.ft_reads.specs.Copies.{IsCopyOf};
 ghost use Rattle.ft_dict.specs.DictCopies.{CopiesTo};
 ghost use Rattle.ft_dict.specs.Values.{SetsDefault};
 
-use crate::making::DictMaker;
+use crate::making::{DictMaker, ValueSetter};
 use ft_bank::{Bank, Pass};
 use ft_model::{Call, DictCall, Key, Value};
 use ft_section::{Object, Objects, Step};
@@ -171,13 +171,7 @@ pub fn try_set(bank: &Bank, pass: &mut Pass, d: Object, key: Key, value: Value) 
         container: d,
         call: DictCall::Set { key, value },
     };
-    try_under_locks(
-        bank,
-        pass,
-        &DictMaker { alloc: None },
-        Objects::One(d),
-        &called,
-    )
+    try_under_locks(bank, pass, &ValueSetter, Objects::One(d), &called)
 }
 
 /// `d.setdefault(k, v)` under the lock (Python manual, Mapping Types): it replies the value at the key, which is

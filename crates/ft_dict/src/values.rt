@@ -67,7 +67,8 @@ pub fn set_by(bank: &Bank, pass: &mut Pass, d: Object, key: Key, value: Value) -
             stored,
             &called,
             &said,
-        ),
+        )
+        .anew(),
         Spot::Bare => add_key(
             bank,
             pass,
@@ -79,7 +80,8 @@ pub fn set_by(bank: &Bank, pass: &mut Pass, d: Object, key: Key, value: Value) -
             stored,
             &called,
             &said,
-        ),
+        )
+        .anew(),
     }
 }
 

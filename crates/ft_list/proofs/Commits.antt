@@ -35,6 +35,7 @@ use Rattle.ft_bank.specs.WriteSteps.{MayHave}
 use Rattle.ft_list.specs.ListItemWrites.{WritesList, IsChanging, MayFinishItems}
 use Rattle.ft_list.specs.ListWrites.{IsListWrite}
 use Rattle.ft_list.proofs.Cares.{table_class}
+use Rattle.ft_list.proofs.ItemWordsPut.{Changed}
 
 module _ (o : ℕ) (lc : ListCall) (said : Reply) (values news : List Value) (v : View) (low : o < container_count v.shape) (mine : has_lock o v.log ≡ true) (is_list : (known_state o v).content ≡ content.List values) (stored : StoredWorld) (has : MayHave v stored) where
   abbrev world : List Content
@@ -66,7 +67,10 @@ module _ (o : ℕ) (lc : ListCall) (said : Reply) (values news : List Value) (v 
 module _ (k : Shape) (o : ℕ) (table : Table) (first past : ℕ) (lc : ListCall) (said : Reply) (values news : List Value) (v : View) (list : WritesList k o table v) (shape : v.shape ≡ k) (is_list : (known_state o v).content ≡ content.List values) (call_is : IsListWrite o lc said values news v)
     (table_after : (stored : StoredWorld) → MayHave v stored → table_at (after_stored stored (call.List o lc)).tables o ≡ record { class = Some (class_of (table_id table)); fill = 0; keys = [] })
     (takes_owed : (stored : StoredWorld) (c : ℕ) → MayHave v stored → owes v.log ≡ suc c → takes_in stored (call.List o lc) ≡ Some c)
-    (changing : IsChanging (class_of (table_id table)) values news first past (held_words o v).table) where
+    (changed_by : Changed (class_of (table_id table)) values news first past (held_words o v).table) where
+  changing : IsChanging (class_of (table_id table)) values news first past (held_words o v).table
+  changing = changed_by.0
+
   abbrev called : Call
   called = call.List o lc
 
@@ -93,7 +97,7 @@ module _ (k : Shape) (o : ℕ) (table : Table) (first past : ℕ) (lc : ListCall
   few = let f = changing.table.fill in let r = (slots_range class (table_class k table list.table_in)).0 in omega (arith, f, r)
 
   clear : ItemClear (slots class) (held_words o v).table values news
-  clear = record { keeps = changing.shut; short = few }
+  clear = record { keeps = changing.shut; opens = changed_by.1; short = few }
 
   clears : (stored : StoredWorld) (t : ℕ) → MayHave v stored → root_in (held_words o v) ≡ suc t → ClearAs (kind_in v.shape.starts o) v.shape.texts (class_of t) (held_words o v).table (known_state o v).content (state_at (after_stored stored called) o).content
   clears stored t has names =

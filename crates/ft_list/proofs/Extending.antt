@@ -30,11 +30,11 @@ use Rattle.ft_bank.proofs.KnownAfterWrites.{loaded_held, work_knows}
 use Rattle.ft_list.specs.declared.addition.Addition.{Addition}
 use Rattle.ft_list.specs.declared.addition.Addition.TheVariants.{One, All}
 use Rattle.ft_list.specs.ListWrites.{MayWriteList}
-use Rattle.ft_list.specs.ListItemWrites.{WritesList, IsChanging, IsMoving, IsPutting, known_items, stored_item}
+use Rattle.ft_list.specs.ListItemWrites.{WritesList, IsMoving, IsPutting, known_items, stored_item}
 use Rattle.ft_list.specs.Internal.Additions.{count_in, first_in, with_added, KnowsItems, IsAddition, IsAdditionTo, GivesItems}
 use Rattle.ft_list.proofs.Lists.{list_content, list_known, list_rooted}
 use Rattle.ft_list.proofs.FinishedWrites.{with_count}
-use Rattle.ft_list.proofs.ItemWordsPut.{at_words, list_few, moving_ends, stored_none, stored_some}
+use Rattle.ft_list.proofs.ItemWordsPut.{at_words, list_few, moving_ends, stored_none, stored_some, Changed}
 
 -- ---- what two lists store, one after the other
 
@@ -247,7 +247,7 @@ module _ (k : Shape) (o m : ℕ) (table : Table) (v w : View) (shape : v.shape �
 -- ---- once they are put, and then the length
 
 module _ (class : ℕ) (is_class : IsClass class) (values news : List Value) (first total : ℕ) (put said : ContainerWords) (moving : IsMoving class values news first total total put.table) (is : said ≡ with_block put 1 total) (short : length values ≤ total) (long : length news ≡ total) (room : total ≤ slots class) where
-  pub added_changing : IsChanging class values news first total said.table
+  pub added_changing : Changed class values news first total said.table
   added_changing =
       moving_ends class is_class values news first total total said.table (subst (λ (w : ContainerWords). IsMoving class values news first total total w.table) (sym is) moving) (omega (arith, long, room))
       (λ p more. stored_none values p (omega (arith, more, short)) ∙ sym (stored_none news p (omega (arith, more, long))))

@@ -128,6 +128,7 @@ module _ (class : ℕ) (is_class : IsClass class) (values : List Value) where
       spare = is.spare;
       items = is.items;
       shut = λ p low two. words_stored values p;
+      opens = λ p low one. let z = is.version p low in absurd (omega (arith, one, z));
       odd = λ p low one. let z = is.version p low in absurd (omega (arith, one, z));
     }
 

@@ -26,11 +26,12 @@ use Rattle.ft_bank.specs.Whole.{OnlyPut, EndsWrite, Wrote}
 use Rattle.ft_bank.proofs.KnownAfterWrites.{work_knows}
 use Rattle.ft_table_calls.specs.Adding.{OnlyFilled}
 use Rattle.ft_table_calls.proofs.Rooting.{rooted_write, filled_wrote}
-use Rattle.ft_list.specs.ListItemWrites.{WritesList, IsChanging, MayFinishItems}
+use Rattle.ft_list.specs.ListItemWrites.{WritesList, MayFinishItems}
 use Rattle.ft_list.specs.ListWrites.{Grows}
 use Rattle.ft_list.specs.Internal.NewListTables.{MayGrowList}
 use Rattle.ft_list.proofs.Commits.{may_finish}
 use Rattle.ft_list.proofs.WholeListWrites.{grows_on}
+use Rattle.ft_list.proofs.ItemWordsPut.{Changed}
 
 -- a write of the list o changes it
 pub list_changes : (o : ℕ) (lc : ListCall) (called : Call) → called ≡ call.List o lc → is_changing_list lc ≡ true → changes called ≡ o
@@ -51,7 +52,7 @@ module _ (k : Shape) (o : ℕ) (old : Option Table) (table : Table) (v r u : Vie
       let after : has_emptied o r.log ≡ (suc (table_id table) == 0) = ap (λ (z : View). has_emptied o z.log) is ∙ hit o (suc (table_id table) == 0) _ in
       puts.work.emptied o ∙ (after ∙ ne_eqb (suc (table_id table)) 0 (λ e. absurd (omega (arith, e))))
 
-  pub grow_finishing : (first past : ℕ) (lc : ListCall) (called : Call) (values news : List Value) → called ≡ call.List o lc → Grows o lc values news (class_of (table_id table)) v → (known_state o v).content ≡ content.List values → WritesList k o table u → u.shape ≡ k → IsChanging (class_of (table_id table)) values news first past (held_words o u).table → IsBlock (held_words o u).block (Some (class_of (table_id table))) (length news) 0 0
+  pub grow_finishing : (first past : ℕ) (lc : ListCall) (called : Call) (values news : List Value) → called ≡ call.List o lc → Grows o lc values news (class_of (table_id table)) v → (known_state o v).content ≡ content.List values → WritesList k o table u → u.shape ≡ k → Changed (class_of (table_id table)) values news first past (held_words o u).table → IsBlock (held_words o u).block (Some (class_of (table_id table))) (length news) 0 0
       → MayFinishItems o table called reply.Done first past u
   grow_finishing first past lc called values news names grows is_list list shape changing head =
       let class = class_of (table_id table) in

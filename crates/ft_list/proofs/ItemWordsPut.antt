@@ -16,7 +16,7 @@ use Rattle.ft_model.specs.Classes.{IsClass}
 use Rattle.ft_layout.proofs.Powers.{slots_range}
 use Rattle.ft_trace.specs.Addresses.{slots}
 use Rattle.ft_trace.specs.Pictures.{ContainerWords, item_offset, item_field}
-use Rattle.ft_trace.specs.ItemWords.{value_words, words_at}
+use Rattle.ft_trace.specs.ItemWords.{value_words, words_at, said_at, OpensChangedItems}
 use Rattle.ft_trace.proofs.Cases.{miss, here}
 use Rattle.ft_trace.proofs.Untouched.{there_is}
 use Rattle.ft_list.specs.ListItemWrites.{PutsItem, IsChanging, IsPutting, IsMoving, stored_item, but_at, stored_words}
@@ -43,6 +43,10 @@ stored_some values p any low = ap (λ (z : Option Value). option_map_or Plain z 
 pub stored_none : (values : List Value) (p : ℕ) → length values ≤ p → stored_item values p ≡ Empty
 stored_none values p past = ap (λ (z : Option Value). option_map_or Plain z Empty) (past_end values p past)
 
+-- the words say what the list is to have, and the items whose versions are odd are those that change
+abbrev pub Changed : ℕ → List Value → List Value → ℕ → ℕ → List ℕ → Type 0
+Changed class before news first past ws = IsChanging class before news first past ws × OpensChangedItems (slots class) ws before news
+
 module _ (class : ℕ) (is_class : IsClass class) where
   mask_is : class_mask class + 1 ≡ slots class
   unfolding slots
@@ -61,12 +65,13 @@ module _ (class : ℕ) (is_class : IsClass class) where
       | inr past_it ↦ subst (λ (z : Stored). IsStored (item_field ws p 1) (item_field ws p 2) z) (sym (stored_none values p past_it)) (at_words ws p Empty (table.unused p past_it (omega (arith, low, m))))
     ];
     shut = λ p low two. words_stored values p;
+    opens = λ p low one. let two = shut p low in absurd (omega (arith, one, two));
     odd = λ p low one. let two = shut p low in absurd (omega (arith, one, two));
   }
 
-  -- an item was put
-  pub putting_put : (before : List Value) (first past : ℕ) (now : ℕ → Stored) (old new : ContainerWords) (place : ℕ) (stored : Stored) → IsPutting class before first past now old.table → PutsItem place stored old new → FitsStored stored → first ≤ place → place < past → IsPutting class before first past (but_at now place stored) new.table
-  putting_put before first past now old new place stored putting puts fits from to =
+  -- an item was put where the list stores what it had
+  pub putting_put : (before : List Value) (first past : ℕ) (now : ℕ → Stored) (old new : ContainerWords) (place : ℕ) (stored : Stored) → IsPutting class before first past now old.table → PutsItem place stored old new → FitsStored stored → first ≤ place → place < past → now place ≡ stored_item before place → IsPutting class before first past (but_at now place stored) new.table
+  putting_put before first past now old new place stored putting puts fits from to fresh =
       let same : (q w : ℕ) → q ≢ place → w < 4 → item_field new.table q w ≡ item_field old.table q w = λ q w ne few. puts.rest (item_offset q w) (elim (cases_lt q place) [ inl less ↦ inl (omega (arith, less, few)) | inr more ↦ inr (omega (arith, more, few, ne)) ]) in
       let now_else : (q : ℕ) → q ≢ place → but_at now place stored q ≡ now q = λ q ne. miss q place stored (now q) ne in
       let now_here : (q : ℕ) → q ≡ place → but_at now place stored q ≡ stored = λ q e. here q place stored (now q) e in
@@ -82,7 +87,7 @@ module _ (class : ℕ) (is_class : IsClass class) where
         ];
         shut = λ q low two. elim (cases_eq q place) [
           | inl e ↦ elim puts.version [
-            | inl one ↦ absurd (let v : item_field new.table q 0 ≡ item_field new.table place 0 = ap (λ (z : ℕ). item_field new.table z 0) e in omega (arith, v, one, two))
+            | inl opened ↦ absurd (let one = opened.0 in let v : item_field new.table q 0 ≡ item_field new.table place 0 = ap (λ (z : ℕ). item_field new.table z 0) e in omega (arith, v, one, two))
             | inr table ↦
                 let was = putting.items q low in
                 let k1 : stored_kind stored ≡ stored_kind (now q) = sym puts.kind ∙ (ap (λ (l : List ℕ). item_field l place 1) table ∙ (ap (λ (n : ℕ). item_field old.table n 1) (sym e) ∙ was.kind_is)) in
@@ -91,6 +96,20 @@ module _ (class : ℕ) (is_class : IsClass class) where
           ]
           | inr ne ↦ ap stored_words (now_else q ne) ∙ putting.shut q low (ap (λ (n : ℕ). n % 2) (sym (same q 0 ne (omega arith))) ∙ two)
         ];
+        opens = λ q low one. elim (cases_eq q place) [
+          | inl e ↦ elim puts.version [
+            | inl opened ↦ λ as_before.
+                let was = putting.items place (subst (λ (n : ℕ). n < slots class) e low) in
+                let words : words_at before place ≡ said_at old.table place = sym (words_stored before place) ∙ (ap stored_words (sym fresh) ∙ (λ d. sym was.kind_is d ∷ sym was.payload_is d ∷ [])) in
+                opened.1 (ap stored_words (sym (now_here q e)) ∙ (as_before ∙ (ap (λ (n : ℕ). words_at before n) e ∙ words)))
+            | inr table ↦ λ as_before.
+                let was = putting.items q low in
+                let k1 : stored_kind (now q) ≡ stored_kind stored = sym was.kind_is ∙ (ap (λ (n : ℕ). item_field old.table n 1) e ∙ (ap (λ (l : List ℕ). item_field l place 1) (sym table) ∙ puts.kind)) in
+                let p1 : stored_payload (now q) ≡ stored_payload stored = sym was.payload_is ∙ (ap (λ (n : ℕ). item_field old.table n 2) e ∙ (ap (λ (l : List ℕ). item_field l place 2) (sym table) ∙ puts.payload)) in
+                putting.opens q low (ap (λ (l : List ℕ). item_field l q 0 % 2) (sym table) ∙ one) ((λ d. k1 d ∷ p1 d ∷ []) ∙ (ap stored_words (sym (now_here q e)) ∙ as_before))
+          ]
+          | inr ne ↦ λ as_before. putting.opens q low (ap (λ (n : ℕ). n % 2) (sym (same q 0 ne (omega arith))) ∙ one) (ap stored_words (sym (now_else q ne)) ∙ as_before)
+        ];
         odd = λ q low one. elim (cases_eq q place) [
           | inl e ↦ (omega (arith, e, from), omega (arith, e, to))
           | inr ne ↦ putting.odd q low (ap (λ (n : ℕ). n % 2) (sym (same q 0 ne (omega arith))) ∙ one)
@@ -98,22 +117,24 @@ module _ (class : ℕ) (is_class : IsClass class) where
       }
 
   -- all items are those that the list is to have
-  pub putting_ends : (before news : List Value) (first past : ℕ) (now : ℕ → Stored) (ws : List ℕ) → IsPutting class before first past now ws → length news ≤ slots class → ((p : ℕ) → p < slots class → now p ≡ stored_item news p) → IsChanging class before news first past ws
+  pub putting_ends : (before news : List Value) (first past : ℕ) (now : ℕ → Stored) (ws : List ℕ) → IsPutting class before first past now ws → length news ≤ slots class → ((p : ℕ) → p < slots class → now p ≡ stored_item news p) → Changed class before news first past ws
   putting_ends before news first past now ws putting few all =
       let m = mask_is in
-      let size = putting.size in
-      record {
-        table = record {
-          size = omega (arith, size);
-          head = refl;
-          spare = λ p low. header_word ws p 3 ∙ putting.spare p (omega (arith, low, m));
-          fill = omega (arith, few, m);
-          items = λ p any less. from_words ws p (Plain (slice_index_or news p any)) (subst (λ (z : Stored). IsStored (item_field ws p 1) (item_field ws p 2) z) (all p (omega (arith, less, few)) ∙ stored_some news p any less) (putting.items p (omega (arith, less, few))));
-          unused = λ p past_it low. from_words ws p Empty (subst (λ (z : Stored). IsStored (item_field ws p 1) (item_field ws p 2) z) (all p (omega (arith, low, m)) ∙ stored_none news p past_it) (putting.items p (omega (arith, low, m))));
-        };
-        shut = λ p low two. sym (words_stored news p) ∙ (ap stored_words (sym (all p low)) ∙ putting.shut p low two);
-        odd = putting.odd;
-      }
+      let size = putting.size in (
+        record {
+          table = record {
+            size = omega (arith, size);
+            head = refl;
+            spare = λ p low. header_word ws p 3 ∙ putting.spare p (omega (arith, low, m));
+            fill = omega (arith, few, m);
+            items = λ p any less. from_words ws p (Plain (slice_index_or news p any)) (subst (λ (z : Stored). IsStored (item_field ws p 1) (item_field ws p 2) z) (all p (omega (arith, less, few)) ∙ stored_some news p any less) (putting.items p (omega (arith, less, few))));
+            unused = λ p past_it low. from_words ws p Empty (subst (λ (z : Stored). IsStored (item_field ws p 1) (item_field ws p 2) z) (all p (omega (arith, low, m)) ∙ stored_none news p past_it) (putting.items p (omega (arith, low, m))));
+          };
+          shut = λ p low two. sym (words_stored news p) ∙ (ap stored_words (sym (all p low)) ∙ putting.shut p low two);
+          odd = putting.odd;
+        },
+        λ p low one as_before. putting.opens p low one (ap stored_words (all p low) ∙ (words_stored news p ∙ as_before)),
+      )
 
 -- ---- what a list stores once one of its values is another
 
@@ -151,7 +172,7 @@ module _ (class : ℕ) (is_class : IsClass class) (values news : List Value) (fi
   pub moving_next : (at : ℕ) (old new : ContainerWords) (stored : Stored) → IsMoving class values news first past at old.table → PutsItem at stored old new → FitsStored stored → stored ≡ stored_item news at → first ≤ at → at < past → IsMoving class values news first past (at + 1) new.table
   moving_next at old new stored moving puts fits is from to = record {
     now = but_at moving.now at stored;
-    putting = putting_put class is_class values first past moving.now old new at stored moving.putting puts fits from to;
+    putting = putting_put class is_class values first past moving.now old new at stored moving.putting puts fits from to (moving.rest at (omega arith));
     done = λ p low. elim (cases_eq p at) [
       | inl e ↦ here p at stored (moving.now p) e ∙ (is ∙ ap (λ (n : ℕ). stored_item news n) (sym e))
       | inr ne ↦ miss p at stored (moving.now p) ne ∙ moving.done p (omega (arith, low, ne))
@@ -159,7 +180,7 @@ module _ (class : ℕ) (is_class : IsClass class) (values news : List Value) (fi
     rest = λ p more. miss p at stored (moving.now p) (λ e. omega (arith, more, e)) ∙ moving.rest p (omega (arith, more));
   }
 
-  pub moving_ends : (at : ℕ) (ws : List ℕ) → IsMoving class values news first past at ws → length news ≤ slots class → ((p : ℕ) → at ≤ p → stored_item values p ≡ stored_item news p) → IsChanging class values news first past ws
+  pub moving_ends : (at : ℕ) (ws : List ℕ) → IsMoving class values news first past at ws → length news ≤ slots class → ((p : ℕ) → at ≤ p → stored_item values p ≡ stored_item news p) → Changed class values news first past ws
   moving_ends at ws moving few same = putting_ends class is_class values news first past moving.now ws moving.putting few
       (λ p low. elim (cases_lt p at) [ inl less ↦ moving.done p less | inr more ↦ moving.rest p more ∙ same p more ])
 

@@ -17,7 +17,7 @@ use Rattle.ft_trace.specs.ItemWords.{said_at, value_words, words_at}
 use Rattle.ft_trace.proofs.ItemPuts.{VersionsChangeNothing}
 use Rattle.ft_trace.proofs.Known.{after_header, past_header}
 use Rattle.ft_trace.proofs.Untouched.{there_is}
-use Rattle.ft_list.specs.ListItemWrites.{with_word, PutsItem, IsChanging}
+use Rattle.ft_list.specs.ListItemWrites.{with_word, PutsItem, IsChanging, stored_words}
 
 -- ---- one item is put
 
@@ -47,8 +47,8 @@ module _ (old : ContainerWords) (place x kind payload : ℕ) (low : item_offset 
   rest_three i (inl before) = get_or-set_other two.table (item_offset place 2) i payload 0 (λ e. omega (arith, e, before)) ∙ (get_or-set_other one.table (item_offset place 1) i kind 0 (λ e. omega (arith, e, before)) ∙ get_or-set_other old.table (item_offset place 0) i x 0 (λ e. omega (arith, e, before)))
   rest_three i (inr past) = get_or-set_other two.table (item_offset place 2) i payload 0 (λ e. omega (arith, e, past)) ∙ (get_or-set_other one.table (item_offset place 1) i kind 0 (λ e. omega (arith, e, past)) ∙ get_or-set_other old.table (item_offset place 0) i x 0 (λ e. omega (arith, e, past)))
 
-  pub item_put : (stored : Stored) → kind ≡ stored_kind stored → payload ≡ stored_payload stored → x % 2 ≡ 1 → PutsItem place stored old three
-  item_put stored k p odd =
+  pub item_put : (stored : Stored) → kind ≡ stored_kind stored → payload ≡ stored_payload stored → x % 2 ≡ 1 → stored_words stored ≢ said_at old.table place → PutsItem place stored old three
+  item_put stored k p odd other =
       let l1 = long_one in
       let l2 = long_two in
       let v = get_or-set_other two.table (item_offset place 2) (item_offset place 0) payload 0 (λ e. omega (arith, e)) ∙ version_two in
@@ -58,7 +58,7 @@ module _ (old : ContainerWords) (place x kind payload : ℕ) (low : item_offset 
         rest = rest_three;
         kind = get_or-set_other two.table (item_offset place 2) (item_offset place 1) payload 0 (λ e. omega (arith, e)) ∙ (get_or-set_same one.table (item_offset place 1) kind 0 (omega (arith, l1, low)) ∙ k);
         payload = get_or-set_same two.table (item_offset place 2) payload 0 (omega (arith, l2, low)) ∙ p;
-        version = inl (ap (λ (z : ℕ). z % 2) v ∙ odd);
+        version = inl (ap (λ (z : ℕ). z % 2) v ∙ odd, other);
       }
 
 -- ---- what a list's table says
@@ -125,7 +125,7 @@ module _ (class : ℕ) (before now : List Value) (first past : ℕ) (ws : List �
         table = table;
         shut = λ q less even. elim (cases_eq q place) [
           | inl here ↦ elim puts.version [
-            | inl odd ↦ absurd (let e : item_field zs q 0 ≡ item_field zs place 0 = ap (λ (z : ℕ). item_field zs z 0) here in omega (arith, e, odd, even))
+            | inl opened ↦ absurd (let odd = opened.0 in let e : item_field zs q 0 ≡ item_field zs place 0 = ap (λ (z : ℕ). item_field zs z 0) here in omega (arith, e, odd, even))
             | inr same_table ↦ says_next q less ∙ (ap (λ (l : List ℕ). said_at l q) same_table ∙ (sym (says q less) ∙ changing.shut q less (ap (λ (l : List ℕ). item_field l q 0 % 2) (sym same_table) ∙ even)))
           ]
           | inr else_ ↦ says_next q less ∙ ((λ d. same q 1 else_ (omega arith) d ∷ same q 2 else_ (omega arith) d ∷ []) ∙ (sym (says q less) ∙ changing.shut q less (ap (λ (n : ℕ). n % 2) (sym (same q 0 else_ (omega arith))) ∙ even)))

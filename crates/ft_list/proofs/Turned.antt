@@ -10,9 +10,9 @@ use Rattle.ft_layout.specs.Words.{FitsStored, IsStored}
 use Rattle.ft_trace.specs.Addresses.{slots}
 use Rattle.ft_trace.specs.Pictures.{ContainerWords, item_field}
 use Rattle.ft_trace.proofs.Cases.{miss, here}
-use Rattle.ft_list.specs.ListItemWrites.{PutsItem, IsChanging, IsPutting, stored_item, but_at}
+use Rattle.ft_list.specs.ListItemWrites.{PutsItem, IsPutting, stored_item, but_at}
 use Rattle.ft_list.specs.Reversing.{IsTurning}
-use Rattle.ft_list.proofs.ItemWordsPut.{putting_put, putting_ends, stored_by, stored_none}
+use Rattle.ft_list.proofs.ItemWordsPut.{putting_put, putting_ends, stored_by, stored_none, Changed}
 use Rattle.ft_list.proofs.ValueLists.{reversed_at}
 
 -- what stands at a place then stands now as far from the end
@@ -36,7 +36,7 @@ module _ (class : ℕ) (is_class : IsClass class) (values : List Value) where
     middle = λ p from low. refl;
   }
 
-  pub turning_ends : (ws : List ℕ) → IsTurning class values (length values / 2) ws → length values ≤ slots class → IsChanging class values (reverse values) 0 (length values) ws
+  pub turning_ends : (ws : List ℕ) → IsTurning class values (length values / 2) ws → length values ≤ slots class → Changed class values (reverse values) 0 (length values) ws
   turning_ends ws turning few =
       putting_ends class is_class values (reverse values) 0 (length values) turning.now ws turning.putting (let n = length-reverse values in omega (arith, n, few)) (λ p low.
       elim (cases_lt p (length values / 2)) [
@@ -76,8 +76,8 @@ module _ (class : ℕ) (is_class : IsClass class) (values : List Value) where
     turning_next old mid new turning puts puts' = record {
       now = swapped turning.now;
       putting = putting_put class is_class values 0 (length values) (but_at turning.now at late) mid new other early
-          (putting_put class is_class values 0 (length values) turning.now old mid at late turning.putting puts fits_late (omega arith) (omega (arith, is, low)))
-          puts' fits_early (omega arith) (omega (arith, is));
+          (putting_put class is_class values 0 (length values) turning.now old mid at late turning.putting puts fits_late (omega arith) (omega (arith, is, low)) (turning.middle at (omega arith) (omega (arith, is, low))))
+          puts' fits_early (omega arith) (omega (arith, is)) (miss other at late (turning.now other) (λ e. omega (arith, low, e)) ∙ turning.middle other (omega (arith, low)) (omega (arith, is)));
       first = λ p less. elim (cases_eq p at) [
         | inl e ↦ subst (λ (n : ℕ). swapped turning.now n ≡ stored_item (reverse values) n) (sym e) (at_first turning.now)
         | inr ne ↦ at_else turning.now p ne (λ e. omega (arith, e, less, low)) ∙ turning.first p (omega (arith, less, ne))

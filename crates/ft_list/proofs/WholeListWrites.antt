@@ -26,9 +26,10 @@ use Rattle.ft_bank.specs.TableNames.{table_id}
 use Rattle.ft_bank.specs.WriteSteps.{MayHave}
 use Rattle.ft_bank.specs.Whole.{OnlyPut, EndsWrite, Wrote}
 use Rattle.ft_bank.proofs.KnownAfterWrites.{work_knows, plain_write}
-use Rattle.ft_list.specs.ListItemWrites.{WritesList, IsChanging, MayFinishItems}
+use Rattle.ft_list.specs.ListItemWrites.{WritesList, MayFinishItems}
 use Rattle.ft_list.specs.ListWrites.{MayWriteList, IsListWrite, Changes, Grows}
 use Rattle.ft_list.proofs.Commits.{may_finish}
+use Rattle.ft_list.proofs.ItemWordsPut.{Changed}
 
 -- ---- what a call does, seen from later
 
@@ -92,7 +93,7 @@ module _ (k : Shape) (o : ℕ) (table : Table) (v s u : View) (f : ℕ) (may : M
     table = λ stored has. call_is.table stored (has_before v u same_known same_shape locks_on stored has);
   }
 
-  pub finishing : (first past : ℕ) (lc : ListCall) (called : Call) (said : Reply) (values news : List Value) → called ≡ call.List o lc → Changes o lc said values news v → (known_state o v).content ≡ content.List values → (known_state o v).table ≡ record { class = Some (class_of (table_id table)); fill = 0; keys = [] } → WritesList k o table u → u.shape ≡ k → IsChanging (class_of (table_id table)) values news first past (held_words o u).table → IsBlock (held_words o u).block (Some (class_of (table_id table))) (length news) 0 0
+  pub finishing : (first past : ℕ) (lc : ListCall) (called : Call) (said : Reply) (values news : List Value) → called ≡ call.List o lc → Changes o lc said values news v → (known_state o v).content ≡ content.List values → (known_state o v).table ≡ record { class = Some (class_of (table_id table)); fill = 0; keys = [] } → WritesList k o table u → u.shape ≡ k → Changed (class_of (table_id table)) values news first past (held_words o u).table → IsBlock (held_words o u).block (Some (class_of (table_id table))) (length news) 0 0
       → MayFinishItems o table called said first past u
   finishing first past lc called said values news is call_is is_list kept list shape changing head =
       let none : owes u.log ≡ 0 = puts.work.owes ∙ (ap (λ (z : View). owes z.log) begun ∙ may.owes) in

@@ -1,5 +1,5 @@
 -- Lists of a bank, and the words of their tables while a pass writes one.
-use Rattle.std.specs.Prelude.{◌≡◌, ◌⊎◌, ℕ, suc, ◌+◌, ◌%◌, ◌<◌, ◌≤◌, ◌==◌, true, cond, List, [], ◌∷◌, length, Some, slice_get, slice_index, slice_set}
+use Rattle.std.specs.Prelude.{◌≡◌, ◌⊎◌, ℕ, suc, ◌+◌, ◌%◌, ◌<◌, ◌≤◌, ◌==◌, true, cond, List, [], ◌∷◌, length, Some, slice_get, slice_index, slice_set, ◌≢◌}
 use Rattle.std.specs.Option.{option_map_or}
 use Rattle.ft_model.specs.declared.call.Call.{Call}
 use Rattle.ft_model.specs.declared.content.Content.TheVariants as content
@@ -19,7 +19,7 @@ use Rattle.ft_trace.specs.Addresses.{container_count, class_of, slots}
 use Rattle.ft_trace.specs.Acts.{has_lock, is_writing}
 use Rattle.ft_trace.specs.ContainerStates.{state_at, kind_in, changes}
 use Rattle.ft_trace.specs.Pictures.{ContainerWords, root_in, item_offset, item_field}
-use Rattle.ft_trace.specs.ItemWords.{words_at}
+use Rattle.ft_trace.specs.ItemWords.{words_at, said_at}
 use Rattle.ft_trace.specs.Holds.{held_words, known_state}
 use Rattle.ft_bank.specs.declared.table.Table.{Table}
 use Rattle.ft_bank.specs.TableNames.{table_id, IsTableIn}
@@ -39,8 +39,12 @@ abbrev pub with_word : ContainerWords → ℕ → ℕ → ℕ → ContainerWords
 with_word words place word value =
     record { block = words.block; table = slice_set words.table (item_offset place word) value }
 
--- The item at this place stores this: its words say so, and its version is odd unless they said so before. No other
--- word of the list is changed. (profile)
+-- the kind and the payload of what is stored
+abbrev pub stored_words : Stored → List ℕ
+stored_words stored = stored_kind stored ∷ stored_payload stored ∷ []
+
+-- The item at this place stores this: its words say so, and its version is odd, where they said something else before;
+-- or they said so, and nothing is changed. No other word of the list is changed. (profile)
 pub record PutsItem (place : ℕ) (stored : Stored) (old new : ContainerWords) : Type 0 where
   pub block : new.block ≡ old.block
   pub size : length new.table ≡ length old.table
@@ -48,7 +52,8 @@ pub record PutsItem (place : ℕ) (stored : Stored) (old new : ContainerWords) :
       → slice_index new.table i ≡ slice_index old.table i
   pub kind : item_field new.table place 1 ≡ stored_kind stored
   pub payload : item_field new.table place 2 ≡ stored_payload stored
-  pub version : (item_field new.table place 0 % 2 ≡ 1) ⊎ (new.table ≡ old.table)
+  pub version : ((item_field new.table place 0 % 2 ≡ 1) × (stored_words stored ≢ said_at old.table place))
+      ⊎ (new.table ≡ old.table)
 
 -- The words of a list's table while a pass writes it: they say at each index what it has now, and where the version of
 -- an item is even the list had the same there before. Each odd version lies in this range of places. (profile)
@@ -65,18 +70,16 @@ stored_item values p = option_map_or Plain (slice_get values p) Empty
 abbrev pub but_at : (ℕ → Stored) → ℕ → Stored → ℕ → Stored
 but_at now place stored p = cond (p == place) stored (now p)
 
--- the kind and the payload of what is stored
-abbrev pub stored_words : Stored → List ℕ
-stored_words stored = stored_kind stored ∷ stored_payload stored ∷ []
-
--- The words of a list's table while a pass puts its items, before the commit: they store `now` at each place, and where
--- the version of an item is even the list had the same there. Each odd version lies in this range of places. (profile)
+-- The words of a list's table while a pass puts its items, before the commit: they store `now` at each place. Where the
+-- version of an item is even the list had the same there, and where it is odd something else. Each odd version lies in
+-- this range of places. (profile)
 pub record IsPutting
     (class : ℕ) (before : List Value) (first past : ℕ) (now : ℕ → Stored) (words : List ℕ) : Type 0 where
   pub size : length words + 2 ≡ table_length (class_mask class)
   pub spare : (p : ℕ) → p < slots class → item_field words p 3 ≡ 0
   pub items : (p : ℕ) → p < slots class → IsStored (item_field words p 1) (item_field words p 2) (now p)
   pub shut : (p : ℕ) → p < slots class → item_field words p 0 % 2 ≡ 0 → stored_words (now p) ≡ words_at before p
+  pub opens : (p : ℕ) → p < slots class → item_field words p 0 % 2 ≡ 1 → stored_words (now p) ≢ words_at before p
   pub odd : (p : ℕ) → p < slots class → item_field words p 0 % 2 ≡ 1 → (first ≤ p) × (p < past)
 
 -- The items are put in order, and those before this place were: it stores what `news` has before it, and what the list

@@ -34,31 +34,36 @@ FitsList allocates k (call.List o lc) =
     × (copies_list lc ≡ true → allocates ≡ true)
 FitsList allocates k other = ⊥
 
+-- The call appends an item, and names a list of the bank.
+abbrev pub FitsAppend : Shape → Call → Type 0
+FitsAppend k (call.List o (list.Append value)) = IsListIn k o
+FitsAppend k other = ⊥
+
 -- what a call on the list o comes to
-abbrev pub MakesAs : Shape → ℕ → ListCall → Made → View → View → Type 0
-MakesAs k o (list.Append value) made v w =
+abbrev pub ListCallMakes : Shape → ℕ → ListCall → Made → View → View → Type 0
+ListCallMakes k o (list.Append value) made v w =
     ComesTo (AddsItems k o (call.List o (list.Append value)) 1) reply.Done made v w
-MakesAs k o (list.Insert index value) made v w =
+ListCallMakes k o (list.Insert index value) made v w =
     ComesTo (AddsItems k o (call.List o (list.Insert index value)) 1) reply.Done made v w
-MakesAs k o (list.Extend other) made v w = ComesTo (ExtendsBy k o other) reply.Done made v w
-MakesAs k o (list.Get index) made v w = IsRead (call.List o (list.Get index)) made v w
-MakesAs k o (list.Set index value) made v w = IsMade (call.List o (list.Set index value)) made v w
-MakesAs k o (list.Del index) made v w = IsMade (call.List o (list.Del index)) made v w
-MakesAs k o (list.Pop index) made v w = IsMade (call.List o (list.Pop index)) made v w
-MakesAs k o (list.Remove value) made v w = IsMade (call.List o (list.Remove value)) made v w
-MakesAs k o (list.Index value) made v w = IsMade (call.List o (list.Index value)) made v w
-MakesAs k o (list.Count value) made v w = IsMade (call.List o (list.Count value)) made v w
-MakesAs k o (list.Has value) made v w = IsMade (call.List o (list.Has value)) made v w
-MakesAs k o list.Reverse made v w = IsMade (call.List o list.Reverse) made v w
-MakesAs k o (list.Slice first last) made v w = IsCopy (call.List o (list.Slice first last)) made v w
-MakesAs k o list.Clear made v w = IsClear (call.List o list.Clear) made v w
-MakesAs k o list.Len made v w = IsRead (call.List o list.Len) made v w
-MakesAs k o list.Items made v w = IsCopy (call.List o list.Items) made v w
-MakesAs k o (list.Eq other) made v w = IsMade (call.List o (list.Eq other)) made v w
-MakesAs k o (list.Iter cursor) made v w = ⊥
-MakesAs k o (list.Reversed cursor) made v w = ⊥
+ListCallMakes k o (list.Extend other) made v w = ComesTo (ExtendsBy k o other) reply.Done made v w
+ListCallMakes k o (list.Get index) made v w = IsRead (call.List o (list.Get index)) made v w
+ListCallMakes k o (list.Set index value) made v w = IsMade (call.List o (list.Set index value)) made v w
+ListCallMakes k o (list.Del index) made v w = IsMade (call.List o (list.Del index)) made v w
+ListCallMakes k o (list.Pop index) made v w = IsMade (call.List o (list.Pop index)) made v w
+ListCallMakes k o (list.Remove value) made v w = IsMade (call.List o (list.Remove value)) made v w
+ListCallMakes k o (list.Index value) made v w = IsMade (call.List o (list.Index value)) made v w
+ListCallMakes k o (list.Count value) made v w = IsMade (call.List o (list.Count value)) made v w
+ListCallMakes k o (list.Has value) made v w = IsMade (call.List o (list.Has value)) made v w
+ListCallMakes k o list.Reverse made v w = IsMade (call.List o list.Reverse) made v w
+ListCallMakes k o (list.Slice first last) made v w = IsCopy (call.List o (list.Slice first last)) made v w
+ListCallMakes k o list.Clear made v w = IsClear (call.List o list.Clear) made v w
+ListCallMakes k o list.Len made v w = IsRead (call.List o list.Len) made v w
+ListCallMakes k o list.Items made v w = IsCopy (call.List o list.Items) made v w
+ListCallMakes k o (list.Eq other) made v w = IsMade (call.List o (list.Eq other)) made v w
+ListCallMakes k o (list.Iter cursor) made v w = ⊥
+ListCallMakes k o (list.Reversed cursor) made v w = ⊥
 
 -- the same of a call of whatever kind
 abbrev pub MakesList : Shape → Call → Made → View → View → Type 0
-MakesList k (call.List o lc) made v w = MakesAs k o lc made v w
+MakesList k (call.List o lc) made v w = ListCallMakes k o lc made v w
 MakesList k other made v w = ⊥

@@ -166,7 +166,7 @@ fn add_to(
         return Added::Over(answer_over(bank, pass, called));
     }
     match class_wanted(old, total) {
-        Some(class) => add_in_taken(bank, pass, l, old, class, addition, count, called),
+        Some(class) => { add_in_taken(bank, pass, l, old, class, addition, count, called).anew() }
         None => add_in_room(bank, pass, l, old, addition, count, called),
     }
 }
@@ -177,7 +177,7 @@ fn add_to(
 ///
 /// `NoTable` where the list needs another table, of the class for its new length, and the count of the class was
 /// 0; `Over` where it has 65,536 items; `Moved` where two steps found a word of the class's free tables changed.
-#[inline]
+#[inline(always)]
 pub fn append_by(bank: &Bank, pass: &mut Pass, l: Object, value: Value) -> Added
     requires pass { IsPassOf bank.now pass.old }
     requires may { MayWriteList (shape_of bank.now) l (view pass.old) }

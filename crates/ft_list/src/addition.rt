@@ -17,7 +17,7 @@ ghost use Rattle.ft_list.specs.Internal.Additions.{count_in, first_in, with_adde
 use crate::items::put_item;
 use crate::locked::table_at_root;
 use crate::reads::read_stored;
-use crate::writes::shift_up;
+use crate::writes::{put_last, shift_up};
 use ft_bank::{Bank, Pass, Table};
 use ft_layout::Stored;
 use ft_model::Value;
@@ -102,9 +102,10 @@ fn put_from(
         (known_items o (view pass.old) ++ known_items m (view pass.old)) count (count + more) (count + more)
         (held_words o (view pass.new)).table }
 {
+    let start = bank.cell_of(table);
     for place in 0..more {
         let stored = given_item(bank, pass, m, from, place);
-        put_item(bank, pass, o, table, count + place, stored);
+        put_item(bank, pass, o, table, start, count + place, stored);
     }
 }
 
@@ -161,7 +162,13 @@ pub(crate) fn put_added(
         (count + count_in addition) (count + count_in addition) (held_words o (view pass.new)).table }
 {
     match addition {
-        Addition::One { place, value } => shift_up(bank, pass, o, table, place, count, value),
+        Addition::One { place, value } => {
+            if place == count {
+                put_last(bank, pass, o, table, count, value)
+            } else {
+                shift_up(bank, pass, o, table, place, count, value)
+            }
+        }
         Addition::All { other, count: more } => {
             put_items(bank, pass, o, table, other, count, more)
         }

@@ -74,7 +74,7 @@ fn copy_slice(
 }
 
 /// All items. An `Err` says that memory ran out.
-pub(crate) fn copy_items(
+pub fn copy_items(
     bank: &Bank,
     pass: &mut Pass,
     alloc: Global,

@@ -16,7 +16,7 @@ ghost use Rattle.ft_trace.specs.Pictures.{root_in};
 ghost use Rattle.ft_bank.specs.Passes.{shape_of, view, IsPassOf};
 ghost use Rattle.ft_bank.specs.PassSections.{stack_of};
 ghost use Rattle.ft_bank.specs.Series.{DidAll};
-ghost use Rattle.ft_bank.specs.TableNames.{table_id, IsTableIn};
+ghost use Rattle.ft_bank.specs.TableNames.{table_id, IsPlaceOf, IsTableIn};
 ghost use Rattle.ft_bank.specs.Whole.{OnlyLoaded, Wrote};
 ghost use Rattle.ft_bank.specs.WriteSteps.{KeepsUnwritten};
 ghost use Rattle.ft_table_calls.specs.Adding.{OnlyFilled};
@@ -64,9 +64,10 @@ fn old_item(
 }
 
 /// Has an item store this in a table that is fresh in hand, with version 0.
-fn fill_item(bank: &Bank, pass: &mut Pass, table: Table, place: u64, stored: Stored)
+fn fill_item(bank: &Bank, pass: &mut Pass, table: Table, start: u64, place: u64, stored: Stored)
     requires pass { IsPassOf bank.now pass.old }
     requires table { IsTableIn (shape_of bank.now) table }
+    requires start { IsPlaceOf (shape_of bank.now) table start }
     requires fresh { stage (table_id table) (view pass.old).log ≡ 1 }
     requires place { place < slots (class_of (table_id table)) }
     requires fits { FitsStored stored }
@@ -78,10 +79,22 @@ fn fill_item(bank: &Bank, pass: &mut Pass, table: Table, place: u64, stored: Sto
 {
     let kind = stored_kind_of(stored);
     let payload = stored_payload_of(stored);
-    bank.put_fresh(pass, table, word_at(place, item_word::VERSION), 0);
-    bank.put_fresh(pass, table, word_at(place, item_word::VALUE_KIND), kind);
-    bank.put_fresh(pass, table, word_at(place, item_word::VALUE), payload);
-    bank.put_fresh(pass, table, word_at(place, SPARE), 0);
+    bank.put_fresh_word(pass, table, start, word_at(place, item_word::VERSION), 0);
+    bank.put_fresh_word(
+        pass,
+        table,
+        start,
+        word_at(place, item_word::VALUE_KIND),
+        kind,
+    );
+    bank.put_fresh_word(
+        pass,
+        table,
+        start,
+        word_at(place, item_word::VALUE),
+        payload,
+    );
+    bank.put_fresh_word(pass, table, start, word_at(place, SPARE), 0);
 }
 
 /// Fills a table that is fresh in hand with what a list has, of that many items: each is copied once, and
@@ -98,9 +111,10 @@ fn fill(bank: &Bank, pass: &mut Pass, o: u32, old: Option<Table>, table: Table, 
     ensures filled { IsFilled (class_of (table_id table)) (known_items o (view pass.old))
         (slots (class_of (table_id table))) (in_hand (table_id table) (view pass.new)) }
 {
+    let start = bank.cell_of(table);
     for place in 0..list_items(table.class) {
         let stored = old_item(bank, pass, o, old, place, count);
-        fill_item(bank, pass, table, place, stored);
+        fill_item(bank, pass, table, start, place, stored);
     }
 }
 

@@ -11,7 +11,7 @@ ghost use Rattle.ft_trace.specs.ItemWords.{said_at, words_at};
 ghost use Rattle.ft_trace.specs.Pictures.{item_offset, item_field};
 ghost use Rattle.ft_bank.specs.Passes.{shape_of, view, IsPassOf};
 ghost use Rattle.ft_bank.specs.PassSections.{stack_of};
-ghost use Rattle.ft_bank.specs.TableNames.{table_id};
+ghost use Rattle.ft_bank.specs.TableNames.{table_id, IsPlaceOf};
 ghost use Rattle.ft_bank.specs.Whole.{OnlyLoaded, OnlyPut, EndsWrite};
 ghost use Rattle.ft_list.specs.ListItemWrites.{WritesList, PutsItem, ClosesItem, IsChanging, MayFinishItems, known_items, with_word};
 
@@ -34,9 +34,18 @@ pub(crate) fn word_at(place: u64, word: u64) -> u64
 }
 
 /// Loads a word of an item of a list that the pass writes.
-fn read_word(bank: &Bank, pass: &mut Pass, o: u32, table: Table, place: u64, word: u64) -> u64
+fn read_word(
+    bank: &Bank,
+    pass: &mut Pass,
+    o: u32,
+    table: Table,
+    start: u64,
+    place: u64,
+    word: u64,
+) -> u64
     requires pass { IsPassOf bank.now pass.old }
     requires list { WritesList (shape_of bank.now) o table (view pass.old) }
+    requires start { IsPlaceOf (shape_of bank.now) table start }
     requires place { place < slots (class_of (table_id table)) }
     requires word { word < 4 }
     ensures pass { IsPassOf bank.now pass.new }
@@ -47,14 +56,15 @@ fn read_word(bank: &Bank, pass: &mut Pass, o: u32, table: Table, place: u64, wor
     ensures found { result ≡ item_field (held_words o (view pass.old)).table place word }
 {
     let _ = o;
-    bank.read_table(pass, table, word_at(place, word))
+    bank.read_word(pass, table, start, word_at(place, word))
 }
 
 /// Makes the version of an item odd before the commit, where it is even.
-fn open_item(bank: &Bank, pass: &mut Pass, o: u32, table: Table, place: u64)
+fn open_item(bank: &Bank, pass: &mut Pass, o: u32, table: Table, start: u64, place: u64)
     requires pass { IsPassOf bank.now pass.old }
     requires list { WritesList (shape_of bank.now) o table (view pass.old) }
     requires early { has_committed o (view pass.old).log ≡ false }
+    requires start { IsPlaceOf (shape_of bank.now) table start }
     requires place { place < slots (class_of (table_id table)) }
     ensures pass { IsPassOf bank.now pass.new }
     ensures stack { stack_of pass.new ≡ stack_of pass.old }
@@ -63,12 +73,13 @@ fn open_item(bank: &Bank, pass: &mut Pass, o: u32, table: Table, place: u64)
     ensures words { (version : ℕ) × (version % 2 ≡ 1)
         × (held_words o (view pass.new) ≡ with_word (held_words o (view pass.old)) place 0 version) }
 {
-    let version = read_word(bank, pass, o, table, place, item_word::VERSION);
+    let version = read_word(bank, pass, o, table, start, place, item_word::VERSION);
     if version % 2 == 0 {
-        bank.put_table(
+        bank.put_word(
             pass,
             o,
             table,
+            start,
             word_at(place, item_word::VERSION),
             version + 1,
         );
@@ -76,9 +87,17 @@ fn open_item(bank: &Bank, pass: &mut Pass, o: u32, table: Table, place: u64)
 }
 
 /// What an item stores of a list that the pass writes.
-pub(crate) fn item(bank: &Bank, pass: &mut Pass, o: u32, table: Table, place: u64) -> Stored
+pub(crate) fn item(
+    bank: &Bank,
+    pass: &mut Pass,
+    o: u32,
+    table: Table,
+    start: u64,
+    place: u64,
+) -> Stored
     requires pass { IsPassOf bank.now pass.old }
     requires list { WritesList (shape_of bank.now) o table (view pass.old) }
+    requires start { IsPlaceOf (shape_of bank.now) table start }
     requires place { place < slots (class_of (table_id table)) }
     ensures pass { IsPassOf bank.now pass.new }
     ensures stack { stack_of pass.new ≡ stack_of pass.old }
@@ -90,8 +109,8 @@ pub(crate) fn item(bank: &Bank, pass: &mut Pass, o: u32, table: Table, place: u6
         result ≡ stored }
     ensures fits { FitsStored result }
 {
-    let kind = read_word(bank, pass, o, table, place, item_word::VALUE_KIND);
-    let payload = read_word(bank, pass, o, table, place, item_word::VALUE);
+    let kind = read_word(bank, pass, o, table, start, place, item_word::VALUE_KIND);
+    let payload = read_word(bank, pass, o, table, start, place, item_word::VALUE);
     item_of(&[0, kind, payload, 0]).unwrap_or(Stored::Empty)
 }
 
@@ -101,6 +120,7 @@ fn put_word(
     pass: &mut Pass,
     o: u32,
     table: Table,
+    start: u64,
     place: u64,
     word: u64,
     found: u64,
@@ -108,6 +128,7 @@ fn put_word(
 )
     requires pass { IsPassOf bank.now pass.old }
     requires list { WritesList (shape_of bank.now) o table (view pass.old) }
+    requires start { IsPlaceOf (shape_of bank.now) table start }
     requires place { place < slots (class_of (table_id table)) }
     requires word { (0 < word) × (word < 4) }
     requires odd { item_field (held_words o (view pass.old)).table place 0 % 2 ≡ 1 }
@@ -119,7 +140,7 @@ fn put_word(
     ensures words { held_words o (view pass.new) ≡ with_word (held_words o (view pass.old)) place word value }
 {
     if found != value {
-        bank.put_table(pass, o, table, word_at(place, word), value);
+        bank.put_word(pass, o, table, start, word_at(place, word), value);
     }
 }
 
@@ -131,12 +152,14 @@ pub(crate) fn put_item(
     pass: &mut Pass,
     o: u32,
     table: Table,
+    start: u64,
     place: u64,
     stored: Stored,
 )
     requires pass { IsPassOf bank.now pass.old }
     requires list { WritesList (shape_of bank.now) o table (view pass.old) }
     requires early { has_committed o (view pass.old).log ≡ false }
+    requires start { IsPlaceOf (shape_of bank.now) table start }
     requires place { place < slots (class_of (table_id table)) }
     requires fits { FitsStored stored }
     ensures pass { IsPassOf bank.now pass.new }
@@ -148,17 +171,18 @@ pub(crate) fn put_item(
 {
     let kind = stored_kind_of(stored);
     let payload = stored_payload_of(stored);
-    let old_kind = read_word(bank, pass, o, table, place, item_word::VALUE_KIND);
-    let old_payload = read_word(bank, pass, o, table, place, item_word::VALUE);
+    let old_kind = read_word(bank, pass, o, table, start, place, item_word::VALUE_KIND);
+    let old_payload = read_word(bank, pass, o, table, start, place, item_word::VALUE);
     if old_kind == kind && old_payload == payload {
         return;
     }
-    open_item(bank, pass, o, table, place);
+    open_item(bank, pass, o, table, start, place);
     put_word(
         bank,
         pass,
         o,
         table,
+        start,
         place,
         item_word::VALUE_KIND,
         old_kind,
@@ -169,6 +193,7 @@ pub(crate) fn put_item(
         pass,
         o,
         table,
+        start,
         place,
         item_word::VALUE,
         old_payload,
@@ -178,10 +203,11 @@ pub(crate) fn put_item(
 
 /// Makes the version of an item even after the commit, where it is odd: the item's words say what the
 /// list has.
-fn close_item(bank: &Bank, pass: &mut Pass, o: u32, table: Table, place: u64)
+fn close_item(bank: &Bank, pass: &mut Pass, o: u32, table: Table, start: u64, place: u64)
     requires pass { IsPassOf bank.now pass.old }
     requires list { WritesList (shape_of bank.now) o table (view pass.old) }
     requires late { has_committed o (view pass.old).log ≡ true }
+    requires start { IsPlaceOf (shape_of bank.now) table start }
     requires place { place < slots (class_of (table_id table)) }
     requires says { words_at (known_items o (view pass.old)) place ≡ said_at (held_words o (view pass.old)).table place }
     ensures pass { IsPassOf bank.now pass.new }
@@ -190,12 +216,13 @@ fn close_item(bank: &Bank, pass: &mut Pass, o: u32, table: Table, place: u64)
     ensures only { OnlyPut o (view pass.old) (view pass.new) }
     ensures item { ClosesItem place (held_words o (view pass.old)) (held_words o (view pass.new)) }
 {
-    let version = read_word(bank, pass, o, table, place, item_word::VERSION);
+    let version = read_word(bank, pass, o, table, start, place, item_word::VERSION);
     if version % 2 == 1 {
-        bank.put_table(
+        bank.put_word(
             pass,
             o,
             table,
+            start,
             word_at(place, item_word::VERSION),
             version + 1,
         );
@@ -219,8 +246,9 @@ fn close_items(bank: &Bank, pass: &mut Pass, o: u32, table: Table, first: u64, p
         (known_items o (view pass.old)) past past (held_words o (view pass.new)).table }
 {
     versions_change_nothing();
+    let start = bank.cell_of(table);
     for place in first..past {
-        close_item(bank, pass, o, table, place);
+        close_item(bank, pass, o, table, start, place);
     }
 }
 

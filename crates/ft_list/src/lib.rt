@@ -33,13 +33,14 @@ mod writes;
 
 pub use crate::adding::{append_by, extend_by, insert_by};
 pub use crate::clearing::clear_by;
+pub use crate::copies::copy_items;
 pub use crate::floors::floor_items_stand;
 pub use crate::gets::look_item;
 pub use crate::glances::{look_eq, look_has, look_items};
 pub use crate::indexing::look_get;
 pub use crate::lens::look_len;
 pub use crate::locked::{del_locked, set_locked};
-pub use crate::making::ListMaker;
+pub use crate::making::{Appender, ListMaker};
 pub use crate::reads::read_named;
 pub use crate::removals::{pop_locked, remove_locked};
 pub use crate::tries::{

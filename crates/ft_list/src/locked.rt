@@ -29,7 +29,7 @@ use crate::writes::{remove_item, set_item};
 use ft_bank::{Bank, Pass, Table};
 use ft_layout::block_word;
 use ft_model::{Call, ListCall, Raise, Reply, Value};
-use ft_search::table_named;
+use ft_search::{table_at, table_named};
 use ft_section::{Object, Stamp};
 
 /// Which word of a block the length of a list is, as a bank counts them.
@@ -75,7 +75,7 @@ pub(crate) fn table_at_root(bank: &Bank, pass: &mut Pass, l: Object) -> Option<T
     ensures root { root_in (held_words l (view pass.old)) ≡ root_for result }
 {
     let root = bank.read_block(pass, l, 0);
-    table_named(root)
+    table_at(bank, root)
 }
 
 /// The table of a list that isn't empty.

@@ -1,12 +1,14 @@
 //! Each call on lists, made by a pass that has the locks of its lists.
 ghost use Rattle.std.specs.Prelude.{◌≡◌, ◌<◌, is_some};
 ghost use Rattle.ft_model.specs.declared.call.Call.TheVariants as calls;
+ghost use Rattle.ft_model.specs.declared.call.ListCall.TheVariants as list;
 ghost use Rattle.ft_bank.specs.Passes.{shape_of, view};
 ghost use Rattle.ft_bank.specs.PassSections.{stack_of};
 ghost use Rattle.ft_table_calls.specs.TriesUnderLocks.{objects_in};
+ghost use Rattle.ft_section.specs.declared.answers.Objects.TheVariants.{One};
 ghost use Rattle.ft_section.specs.LockTakings.{HasLocks};
 ghost use Rattle.ft_section.specs.Ready.{IsMaking};
-ghost use Rattle.ft_list.specs.ListMaking.{FitsList, MakesAs};
+ghost use Rattle.ft_list.specs.ListMaking.{FitsList, IsListIn, ListCallMakes};
 
 use crate::adding::{append_by, extend_by, insert_by};
 use crate::clearing::clear_by;
@@ -18,7 +20,7 @@ use crate::removals::{pop_locked, remove_locked};
 use crate::searches::{count_locked, has_locked, index_locked};
 use crate::turning::reverse_locked;
 use ft_bank::{Bank, Pass};
-use ft_model::{Call, ListCall, Reply};
+use ft_model::{Call, ListCall, Reply, Value};
 use ft_search::len_locked;
 use ft_section::Object;
 use ft_table_calls::{Made, Maker};
@@ -50,9 +52,61 @@ impl Maker for ListMaker {
     }
 }
 
-/// Makes a call on the list `l`, by a pass that has the locks of its lists. The call that is made most has an arm of
-/// its own here.
+/// Makes the call that appends an item, for whoever knows that it is this one: no other call is looked for under the
+/// lock.
+#[derive(Clone, Copy)]
+pub struct Appender;
+
+impl Maker for Appender {
+    ghost use Rattle.ft_list.specs.ListMaking.{FitsAppend, MakesList};
+
+    ghost fits = { λ it k called. FitsAppend k called };
+
+    ghost makes = { λ it k called made v w. MakesList k called made v w };
+
+    #[inline(always)]
+    fn make(&self, bank: &Bank, pass: &mut Pass, called: &Call) -> Made {
+        match *called {
+            Call::List {
+                container,
+                call: ListCall::Append { value },
+            } => append(bank, pass, container, value),
+            _ => unreachable!(),
+        }
+    }
+}
+
+/// Appends an item to the list `l`, by a pass that has its lock.
 #[inline(always)]
+fn append(bank: &Bank, pass: &mut Pass, l: Object, value: Value) -> Made
+    requires making { IsMaking bank.now pass.old }
+    requires locks { HasLocks (view pass.old) (One l) }
+    requires list { IsListIn (shape_of bank.now) l }
+    requires left { 0 < (view pass.old).left }
+    ensures making { IsMaking bank.now pass.new }
+    ensures stack { stack_of pass.new ≡ stack_of pass.old }
+    ensures made { ListCallMakes (shape_of bank.now) l (list.Append value) result (view pass.old) (view pass.new) }
+{
+    Made::after(append_by(bank, pass, l, value), Reply::Done)
+}
+
+/// The same, apart: room for all that it makes is cleared at the beginning of the function that it stands in.
+#[inline(never)]
+fn append_apart(bank: &Bank, pass: &mut Pass, l: Object, value: Value) -> Made
+    requires making { IsMaking bank.now pass.old }
+    requires locks { HasLocks (view pass.old) (One l) }
+    requires list { IsListIn (shape_of bank.now) l }
+    requires left { 0 < (view pass.old).left }
+    ensures making { IsMaking bank.now pass.new }
+    ensures stack { stack_of pass.new ≡ stack_of pass.old }
+    ensures made { ListCallMakes (shape_of bank.now) l (list.Append value) result (view pass.old) (view pass.new) }
+{
+    append(bank, pass, l, value)
+}
+
+/// Makes a call on the list `l`, by a pass that has the locks of its lists.
+#[tactic(auto, using(ft_search::proofs::ReadMidst::stands_in))]
+#[inline(never)]
 fn make_list(
     bank: &Bank,
     pass: &mut Pass,
@@ -68,37 +122,10 @@ fn make_list(
     requires left { 0 < (view pass.old).left }
     ensures making { IsMaking bank.now pass.new }
     ensures stack { stack_of pass.new ≡ stack_of pass.old }
-    ensures made { MakesAs (shape_of bank.now) l call.now result (view pass.old) (view pass.new) }
+    ensures made { ListCallMakes (shape_of bank.now) l call.now result (view pass.old) (view pass.new) }
 {
     match *call {
-        ListCall::Append { value } => Made::after(append_by(bank, pass, l, value), Reply::Done),
-        _ => make_any_list(bank, pass, alloc, l, call, called),
-    }
-}
-
-/// The same for each call. It stands apart, since room for the answers of all arms is cleared at the beginning of a
-/// function.
-#[tactic(auto, using(ft_search::proofs::ReadMidst::stands_in))]
-#[inline(never)]
-fn make_any_list(
-    bank: &Bank,
-    pass: &mut Pass,
-    alloc: Option<Global>,
-    l: Object,
-    call: &ListCall,
-    called: &Call,
-) -> Made
-    requires making { IsMaking bank.now pass.old }
-    requires call { called.now ≡ calls.List l call.now }
-    requires locks { HasLocks (view pass.old) (objects_in (calls.List l call.now)) }
-    requires fits { FitsList (is_some alloc) (shape_of bank.now) (calls.List l call.now) }
-    requires left { 0 < (view pass.old).left }
-    ensures making { IsMaking bank.now pass.new }
-    ensures stack { stack_of pass.new ≡ stack_of pass.old }
-    ensures made { MakesAs (shape_of bank.now) l call.now result (view pass.old) (view pass.new) }
-{
-    match *call {
-        ListCall::Append { value } => Made::after(append_by(bank, pass, l, value), Reply::Done),
+        ListCall::Append { value } => append_apart(bank, pass, l, value),
         ListCall::Insert { index, value } => {
             Made::after(insert_by(bank, pass, l, index, value), Reply::Done)
         }

@@ -17,7 +17,7 @@ ghost use Rattle.ft_reads.specs.Clears.{IsClearOf};
 ghost use Rattle.ft_reads.specs.Copies.{IsCopyOf};
 ghost use Rattle.ft_list.specs.ListGrowth.{AddsItems, ExtendsBy};
 
-use crate::making::ListMaker;
+use crate::making::{Appender, ListMaker};
 use ft_bank::{Bank, Pass};
 use ft_model::{Call, ListCall, Value};
 use ft_section::{Object, Objects, Step};
@@ -48,13 +48,7 @@ pub fn try_append(bank: &Bank, pass: &mut Pass, l: Object, value: Value) -> Step
         container: l,
         call: ListCall::Append { value },
     };
-    try_under_locks(
-        bank,
-        pass,
-        &ListMaker { alloc: None },
-        Objects::One(l),
-        &called,
-    )
+    try_under_locks(bank, pass, &Appender, Objects::One(l), &called)
 }
 
 /// `l.insert(i, v)` under the lock: the value goes before item i, which is clamped to the list (Python manual,

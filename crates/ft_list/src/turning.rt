@@ -44,10 +44,11 @@ fn swap(bank: &Bank, pass: &mut Pass, o: u32, table: Table, count: u64, at: u64)
         IsTurning (class_of (table_id table)) values (at + 1) (held_words o (view pass.new)).table }
 {
     let last = count - 1 - at;
-    let early = item(bank, pass, o, table, at);
-    let late = item(bank, pass, o, table, last);
-    put_item(bank, pass, o, table, at, late);
-    put_item(bank, pass, o, table, last, early);
+    let start = bank.cell_of(table);
+    let early = item(bank, pass, o, table, start, at);
+    let late = item(bank, pass, o, table, start, last);
+    put_item(bank, pass, o, table, start, at, late);
+    put_item(bank, pass, o, table, start, last, early);
 }
 
 /// Swaps the first item with the last one, and so on up to the middle.

@@ -18,7 +18,7 @@ ghost use Rattle.ft_trace.specs.Holds.{held_words, known_state};
 ghost use Rattle.ft_trace.specs.Pictures.{item_field, root_in};
 ghost use Rattle.ft_bank.specs.Passes.{shape_of, view, IsPassOf, Did};
 ghost use Rattle.ft_bank.specs.PassSections.{stack_of};
-ghost use Rattle.ft_bank.specs.TableNames.{table_id};
+ghost use Rattle.ft_bank.specs.TableNames.{table_id, IsPlaceOf};
 ghost use Rattle.ft_bank.specs.Whole.{OnlyLoaded, OnlyPut, Wrote};
 ghost use Rattle.ft_list.specs.ListItemWrites.{WritesList, IsPutting, IsMoving, known_items, stored_item};
 ghost use Rattle.ft_list.specs.ListWrites.{MayWriteList, Changes};
@@ -79,7 +79,8 @@ pub(crate) fn set_item(
     ensures root { root_in (held_words o (view pass.new)) ≡ root_in (held_words o (view pass.old)) }
 {
     begin(bank, pass, o, table);
-    put_item(bank, pass, o, table, place, Stored::Plain(value));
+    let start = bank.cell_of(table);
+    put_item(bank, pass, o, table, start, place, Stored::Plain(value));
     finish(bank, pass, o, table, called, said, place, place + 1)
 }
 
@@ -111,12 +112,35 @@ pub(crate) fn shift_up(
         IsMoving (class_of (table_id table)) values (insert values place value) place (count + 1) (count + 1)
         (held_words o (view pass.new)).table }
 {
+    let start = bank.cell_of(table);
     let mut carried = Stored::Plain(value);
     for at in place..count + 1 {
-        let found = item(bank, pass, o, table, at);
-        put_item(bank, pass, o, table, at, carried);
+        let found = item(bank, pass, o, table, start, at);
+        put_item(bank, pass, o, table, start, at, carried);
         carried = found;
     }
+}
+
+/// Puts a value after the last item, of that many.
+#[inline(always)]
+pub(crate) fn put_last(bank: &Bank, pass: &mut Pass, o: u32, table: Table, count: u64, value: Value)
+    requires pass { IsPassOf bank.now pass.old }
+    requires list { WritesList (shape_of bank.now) o table (view pass.old) }
+    requires early { has_committed o (view pass.old).log ≡ false }
+    requires room { count < slots (class_of (table_id table)) }
+    requires value { FitsStored (Plain value) }
+    ensures pass { IsPassOf bank.now pass.new }
+    ensures stack { stack_of pass.new ≡ stack_of pass.old }
+    ensures list { WritesList (shape_of bank.now) o table (view pass.new) }
+    ensures only { OnlyPut o (view pass.old) (view pass.new) }
+    ensures block { (held_words o (view pass.new)).block ≡ (held_words o (view pass.old)).block }
+    ensures moved { (values : List Value) → length values ≡ count →
+        IsPutting (class_of (table_id table)) values count (count + 1) (stored_item values) (held_words o (view pass.old)).table →
+        IsMoving (class_of (table_id table)) values (insert values count value) count (count + 1) (count + 1)
+        (held_words o (view pass.new)).table }
+{
+    let start = bank.cell_of(table);
+    put_item(bank, pass, o, table, start, count, Stored::Plain(value));
 }
 
 /// Adds to a list of that many items whose table has room, as the write of this call. Answers the number of the
@@ -179,9 +203,10 @@ fn shift_down(bank: &Bank, pass: &mut Pass, o: u32, table: Table, place: u64, co
         IsMoving (class_of (table_id table)) values (remove values place) place count count
         (held_words o (view pass.new)).table }
 {
+    let start = bank.cell_of(table);
     for at in place..count {
-        let next = item_or_none(bank, pass, o, table, at + 1, count);
-        put_item(bank, pass, o, table, at, next);
+        let next = item_or_none(bank, pass, o, table, start, at + 1, count);
+        put_item(bank, pass, o, table, start, at, next);
     }
 }
 
@@ -191,11 +216,13 @@ fn item_or_none(
     pass: &mut Pass,
     o: u32,
     table: Table,
+    start: u64,
     place: u64,
     count: u64,
 ) -> Stored
     requires pass { IsPassOf bank.now pass.old }
     requires list { WritesList (shape_of bank.now) o table (view pass.old) }
+    requires start { IsPlaceOf (shape_of bank.now) table start }
     requires count { count ≤ slots (class_of (table_id table)) }
     ensures pass { IsPassOf bank.now pass.new }
     ensures stack { stack_of pass.new ≡ stack_of pass.old }
@@ -208,7 +235,7 @@ fn item_or_none(
     ensures fits { FitsStored result }
 {
     if place < count {
-        item(bank, pass, o, table, place)
+        item(bank, pass, o, table, start, place)
     } else {
         Stored::Empty
     }

@@ -25,7 +25,7 @@ use Rattle.ft_trace.specs.declared.Snap.{Snap}
 use Rattle.ft_trace.specs.declared.View.{View}
 use Rattle.ft_trace.specs.Acts.{has_lock, has_committed, is_writing, view_after, seen_writes}
 use Rattle.ft_trace.specs.Addresses.{class_of, slots, places}
-use Rattle.ft_trace.specs.Carefuls.{said_of, IsDead, HasLiveKey}
+use Rattle.ft_trace.specs.Carefuls.{said_of, IsDead, HasLiveKey, OpensChanged}
 use Rattle.ft_trace.specs.Holds.{held_words, known_state}
 use Rattle.ft_trace.specs.Kinds.{under, rows, version_at, CarefulAs, ClearAs, IsKeyed}
 use Rattle.ft_trace.specs.OddVersions.{Shut, Timely}
@@ -79,11 +79,11 @@ module _ (laws : Laws) (texts : List ℕ) (x : ContainerWords) (t : ℕ) (is_cla
   right_of (content.Deque deque) kept is keyed stands p key low live = absurd keyed
 
   -- what may be committed that leaves this
-  pub clear_of : (d : Content) (kept : ContainerState) → kept.content ≡ d → IsKeyed (kind_of d) → Represents texts x kept → (before : Content) → ((p : ℕ) (key : Key) → p < rows (kind_of d) c → entry_field n x.table p 0 % 2 ≡ 0 → HasLiveKey n x.table p key → under d key ≡ under before key) → ClearAs (kind_of d) texts c x.table before d
-  clear_of (content.Dict pairs) kept is keyed stands before same = record { keeps = λ p key low even live. same p key low even live; adds = λ key fits none some. dict.dict_reached laws.pairs texts x.block c kept.table.fill is_class pairs x.table (dict_says pairs kept is stands) key fits some }
-  clear_of (content.Set elements) kept is keyed stands before same = record { keeps = λ p key low even live. same p key low even live; adds = λ key fits none some. set.set_reached laws.elements texts x.block c kept.table.fill is_class elements x.table (set_says elements kept is stands) key fits some }
-  clear_of (content.List values) kept is keyed stands before same = absurd keyed
-  clear_of (content.Deque deque) kept is keyed stands before same = absurd keyed
+  pub clear_of : (d : Content) (kept : ContainerState) → kept.content ≡ d → IsKeyed (kind_of d) → Represents texts x kept → (before : Content) → ((p : ℕ) (key : Key) → p < rows (kind_of d) c → entry_field n x.table p 0 % 2 ≡ 0 → HasLiveKey n x.table p key → under d key ≡ under before key) → OpensChanged n (rows (kind_of d) c) x.table (under before) (under d) → ClearAs (kind_of d) texts c x.table before d
+  clear_of (content.Dict pairs) kept is keyed stands before same opens = record { keeps = λ p key low even live. same p key low even live; opens = opens; adds = λ key fits none some. dict.dict_reached laws.pairs texts x.block c kept.table.fill is_class pairs x.table (dict_says pairs kept is stands) key fits some }
+  clear_of (content.Set elements) kept is keyed stands before same opens = record { keeps = λ p key low even live. same p key low even live; opens = opens; adds = λ key fits none some. set.set_reached laws.elements texts x.block c kept.table.fill is_class elements x.table (set_says elements kept is stands) key fits some }
+  clear_of (content.List values) kept is keyed stands before same opens = absurd keyed
+  clear_of (content.Deque deque) kept is keyed stands before same opens = absurd keyed
 
   -- a version may be made even
   close_of : (d : Content) (kept : ContainerState) → kept.content ≡ d → IsKeyed (kind_of d) → Represents texts x kept → (p : ℕ) → p < rows (kind_of d) c → entry_field n x.table p 0 % 2 ≡ 1 → ((key : Key) → IsDead n x.table p key → under d key ≡ []) → CarefulAs (kind_of d) c x.table d (entry_offset n p 0) (entry_field n x.table p 0 + 1)

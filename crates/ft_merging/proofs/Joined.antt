@@ -1,5 +1,5 @@
 -- A dict or a set in the midst of a write that joins another one to it: before the first key, after each, at the end.
-use Rattle.std.proofs.Common.{◌≡◌, ℕ, suc, ◌+◌, ◌^◌, ◌%◌, ◌<◌, ◌≤◌, ⊎_elim, true, false, true≢false, List, [], ◌∷◌, length, drop, Option, Some, None, refl, sym, ap, ◌∙◌, subst, arith, ltb-false}
+use Rattle.std.proofs.Common.{◌≡◌, ℕ, suc, ◌+◌, ◌^◌, ◌%◌, ◌<◌, ◌≤◌, ⊎_elim, true, false, true≢false, List, [], ◌∷◌, length, drop, Option, Some, None, refl, sym, ap, ◌∙◌, subst, arith, ltb-false, ◌≢◌}
 use Rattle.std.specs.Prelude.{is_some, slice_index_or}
 use Rattle.std.proofs.lemmas.List.{drop_all, drop_more}
 use Rattle.ft_model.specs.declared.call.Call.{Call}
@@ -20,7 +20,7 @@ use Rattle.ft_trace.specs.declared.Shape.{Shape}
 use Rattle.ft_trace.specs.declared.View.{View}
 use Rattle.ft_trace.specs.Acts.{has_emptied, is_writing, owes}
 use Rattle.ft_trace.specs.Addresses.{class_of, container_count, slots}
-use Rattle.ft_trace.specs.Carefuls.{HasLiveKey}
+use Rattle.ft_trace.specs.Carefuls.{HasLiveKey, OpensChanged}
 use Rattle.ft_trace.specs.Holds.{held_words, known_state}
 use Rattle.ft_trace.specs.Kinds.{ClearAs, IsKeyed, rows, under}
 use Rattle.ft_trace.specs.Pictures.{ContainerWords, root_in}
@@ -47,10 +47,10 @@ use Rattle.ft_merging.specs.Joining.{JoinsKeys, joined, joined_state, new_keys}
 use Rattle.ft_merging.specs.Internal.JoiningSteps.{AreLeft, IsJoining, NoneAhead, NoneGone, NoneOf, lacking, stored_puts}
 use Rattle.ft_merging.specs.Internal.EntriesAtOnce.{IsMidway, MayFinishAll, version_of}
 use Rattle.ft_merging.proofs.Ending.{Laws, clear_of, parity}
-use Rattle.ft_merging.proofs.JoinedContents.{counts_more, counts_same, joined_counts, kind_with, left_dead, left_new, left_stores, left_there, rest_none}
+use Rattle.ft_merging.proofs.JoinedContents.{counts_more, counts_same, joined_counts, kind_with, left_dead, left_new, left_stores, left_there, rest_none, empty_of, new_still}
 use Rattle.ft_merging.proofs.JoinedReads.{Source, holds_none}
-use Rattle.ft_merging.proofs.JoinedStep.{ahead_put, alive_put, midway_put}
-use Rattle.ft_merging.proofs.JoinedValues.{ahead_there, there_may, there_put}
+use Rattle.ft_merging.proofs.JoinedStep.{ahead_put, alive_put, midway_put, lacks_mid}
+use Rattle.ft_merging.proofs.JoinedValues.{ahead_there, there_may, there_put, there_still}
 use Rattle.ft_merging.proofs.Thinned.{midway_loaded}
 
 -- ---- after loads
@@ -62,6 +62,7 @@ joining_loaded k o by own t table goal end place counts v w only j =
     record {
       mid = j.mid;
       midway = midway_loaded k o own (record { content = j.mid; table = use_with (class_of (table_id own)) counts.fill }) v w only j.midway;
+      kept = subst (λ (z : ContainerState). (key : Key) → under z.content key ≢ [] → under j.mid key ≢ []) (sym (work_knows v w o only.work)) j.kept;
       same_kind = j.same_kind;
       kind_is = j.kind_is;
       count_is = j.count_is;
@@ -105,6 +106,7 @@ module _ (k : Shape) (o : ℕ) (by : Way) (own : Table) (t : ℕ) (table : Table
   joining_dead dead = record {
     mid = j.mid;
     midway = j.midway;
+    kept = j.kept;
     same_kind = j.same_kind;
     kind_is = j.kind_is;
     count_is = j.count_is;
@@ -155,6 +157,8 @@ module _ (k : Shape) (o : ℕ) (by : Way) (own : Table) (t : ℕ) (table : Table
           record {
             mid = with_key j.mid key stored;
             midway = put.midway;
+            kept = subst (λ (y : ContainerState). (a : Key) → under y.content a ≢ [] → under (with_key j.mid key stored) a ≢ []) (sym (work_knows v z o only.work))
+                (λ a some. there_still laws k o own counts.fill v at key fits there_low live even j.mid stored j.midway kinds stores ok there a (j.kept a some));
             same_kind = kind_with j.mid key stored stores ∙ j.same_kind;
             kind_is = j.kind_is;
             count_is = omega (arith, c, c1);
@@ -192,7 +196,9 @@ module _ (k : Shape) (o : ℕ) (by : Way) (own : Table) (t : ℕ) (table : Table
             let d1 = more.1 in
             record {
               mid = with_key j.mid key stored;
-              midway = midway_put laws k o by own j.mid counts v j.midway j.same_kind j.kind_is j.count_is j.alive slot key stored fits hash stores ok absent free room_by z only words writes;
+              midway = midway_put laws k o by own j.mid counts v j.midway j.same_kind j.kind_is j.count_is j.alive slot key stored fits hash stores ok absent free room_by z only words writes
+                  (empty_of (under (known_state o v).content key) (λ some. j.kept key some (lacks_mid laws k o by own j.mid counts v j.midway j.same_kind j.kind_is j.count_is j.alive slot key stored fits hash stores ok absent free room_by)));
+              kept = subst (λ (y : ContainerState). (a : Key) → under y.content a ≢ [] → under (with_key j.mid key stored) a ≢ []) (sym (work_knows v z o only.work)) (λ a some. new_still j.mid key stored stores absent a (j.kept a some));
               same_kind = kind_with j.mid key stored stores ∙ j.same_kind;
               kind_is = j.kind_is;
               count_is = omega (arith, c, c1);
@@ -225,9 +231,9 @@ joined_more k by t table v s d same_kind =
     (n, omega (arith, r), r)
 
 pub joining_begins : (k : Shape) (o : ℕ) (by : Way) (own : Table) (t : ℕ) (table : Table) (d : Content) (counts : Counts) (more : ℕ) (u : View) → IsMidway k o own (record { content = d; table = use_with (class_of (table_id own)) counts.fill }) u → kind_of d ≡ kind_by by → kind_in k.starts o ≡ kind_by by → counts.count ≡ length_of d → counts.next ≡ serial_of d
-    → NoneGone (table_id own) (rows (kind_in k.starts o) (class_of (table_id own))) (held_words o u) → ((p : ℕ) → p < rows (kind_in k.starts o) (class_of (table_id own)) → version_of (table_id own) (held_words o u) p % 2 ≡ 0) → Source k by t table u → passes_cap (joined d (known_state t u).content) ≡ false → serial_of d + 65536 < 2 ^ 63 → more ≡ new_keys d (known_state t u).content → counts.fill + more ≤ rows (kind_in k.starts o) (class_of (table_id own))
+    → NoneGone (table_id own) (rows (kind_in k.starts o) (class_of (table_id own))) (held_words o u) → ((p : ℕ) → p < rows (kind_in k.starts o) (class_of (table_id own)) → version_of (table_id own) (held_words o u) p % 2 ≡ 0) → Source k by t table u → passes_cap (joined d (known_state t u).content) ≡ false → serial_of d + 65536 < 2 ^ 63 → more ≡ new_keys d (known_state t u).content → counts.fill + more ≤ rows (kind_in k.starts o) (class_of (table_id own)) → d ≡ (known_state o u).content
     → IsJoining k o by own t table (joined d (known_state t u).content) (counts.fill + more) 0 counts u
-joining_begins k o by own t table d counts more u midway same_kind kind_eq count_is next_is alive evens s cap serials more_is room =
+joining_begins k o by own t table d counts more u midway same_kind kind_eq count_is next_is alive evens s cap serials more_is room is_known =
     let j = joined_more k by t table u s d same_kind in
     let n = j.0 in
     let m = j.1 in
@@ -236,6 +242,7 @@ joining_begins k o by own t table d counts more u midway same_kind kind_eq count
     record {
       mid = d;
       midway = midway;
+      kept = subst (λ (z : Content). (key : Key) → under z key ≢ [] → under d key ≢ []) is_known (λ key some. some);
       same_kind = same_kind;
       kind_is = kind_eq;
       count_is = count_is;
@@ -298,6 +305,7 @@ module _ (laws : Laws) (k : Shape) (o : ℕ) (by : Way) (own : Table) (t : ℕ) 
   here =
       clear_of laws k.texts (held_words o u) (table_id own) (table_class k own midway.writes.table_in) midway.writes.root goal left refl (subst IsKeyed (sym (kind_goal ∙ sym j.kind_is)) midway.writes.keyed) midway.stands (known_state o v).content
       (λ p key less even live. midway.same p key (subst (λ (z : Kind). p < rows z c) (kind_goal ∙ sym j.kind_is) less) even live ∙ ap (λ (z : ContainerState). under z.content key) (since.knows o))
+      (subst (λ (z : Kind × ContainerState). OpensChanged (slots c) (rows z.0 c) (held_words o u).table (under z.1.content) (under goal)) (λ d. ((j.kind_is ∙ sym kind_goal) d, since.knows o d)) midway.opens)
 
   clears : (found : StoredWorld) (q : ℕ) → MayHave u found → root_in (held_words o u) ≡ suc q → ClearAs (kind_in u.shape.starts o) u.shape.texts (class_of q) (held_words o u).table (known_state o u).content (state_at (after_stored found called) o).content
   clears found q has names =

@@ -26,6 +26,8 @@ use Rattle.ft_trace.proofs.SetGrowing as set
 use Rattle.ft_new_keys.specs.KeyGrowth.{holds}
 use Rattle.ft_new_keys.specs.Placing.{StoresAs, with_key}
 use Rattle.ft_merging.specs.Internal.JoiningSteps.{Apart, AreLeft, NoneOf, StoresIn, joined_used, lacking, with_used}
+use Rattle.ft_search.specs.Held.{IsHeldAt}
+use Rattle.ft_trace.specs.Kinds.{under}
 
 or_false : (b : Bool) → (b || false) ≡ b
 or_false true = refl
@@ -96,6 +98,22 @@ set_same (content.Set elements) key stored sets there = ap content.Set (set_ther
 set_same (content.Dict pairs) key stored sets there = absurd (cc)
 set_same (content.List values) key stored sets there = absurd (cc)
 set_same (content.Deque deque) key stored sets there = absurd (cc)
+
+-- what is under a key stays there, where a new one is put
+pub new_still : (d : Content) (key : Key) (stored : Stored) → StoresAs (kind_of d) stored → IsHeldAt d key None → (a : Key) → under d a ≢ [] → under (with_key d key stored) a ≢ []
+new_still (content.Dict pairs) key (Plain value) stores absent a some = dict.under_still pairs key value absent a some
+new_still (content.Set elements) key Empty stores absent a some = set.under_still elements key absent a some
+new_still (content.Dict pairs) key Empty stores absent a some = absurd stores
+new_still (content.Dict pairs) key (Boxed block) stores absent a some = absurd stores
+new_still (content.Set elements) key (Plain value) stores absent a some = absurd stores
+new_still (content.Set elements) key (Boxed block) stores absent a some = absurd stores
+new_still (content.List values) key stored stores absent a some = absurd stores
+new_still (content.Deque deque) key stored stores absent a some = absurd stores
+
+-- a list that can't have something has nothing
+pub empty_of : (l : List ℕ) → (l ≢ [] → ⊥) → l ≡ []
+empty_of [] never = refl
+empty_of (x ∷ l) never = absurd (never (λ bare. absurd (cc)))
 
 pub kind_with : (d : Content) (key : Key) (stored : Stored) → StoresAs (kind_of d) stored → kind_of (with_key d key stored) ≡ kind_of d
 kind_with (content.Dict pairs) key (Plain value) stores = refl

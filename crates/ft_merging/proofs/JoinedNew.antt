@@ -91,6 +91,7 @@ module _ (heads : Heads) (laws : Laws) (k : Shape) (o : ℕ) (by : Way) (old : O
     early = only.work.committed o ∙ (ap (λ (w : View). has_committed o w.log) did ∙ hit o false (has_committed o x.log));
     stands = stands;
     same = λ p key less even live. ap (λ (w : ContainerState). under w.content key) (known_on o);
+    opens = λ p less odd. let e = evens p less in absurd (omega (arith, e, odd));
     gone = λ p key less odd dead. absurd (alive p key less odd dead);
     opened = λ p less odd. let e = evens p less in absurd (omega (arith, e, odd));
   }
@@ -105,4 +106,4 @@ module _ (heads : Heads) (laws : Laws) (k : Shape) (o : ℕ) (by : Way) (old : O
       subst (λ (w : Content). IsJoining k o by new t table w (counts.count + more) 0 all z) goal
       (joining_begins k o by new t table d all more z midway (kinds ∙ kind_eq) kind_eq many.0 many.1 alive evens source
       (subst (λ (w : ContainerState). passes_cap (joined d w.content) ≡ false) (known_on t) cap) serials
-      (more_is ∙ ap (λ (w : ContainerState). new_keys d w.content) (known_on t)) room)
+      (more_is ∙ ap (λ (w : ContainerState). new_keys d w.content) (known_on t)) room (ap (λ (w : ContainerState). w.content) (known_on o)))

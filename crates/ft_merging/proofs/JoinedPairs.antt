@@ -1,13 +1,13 @@
 -- What the used entries of a dict come to that are put into another one, and updates that change nothing.
 use Rattle.std.proofs.Common.{◌≡◌, ◌≢◌, ℕ, zero, suc, ◌+◌, ◌-◌, ◌<◌, ◌≤◌, Bool, true, false, List, [], ◌∷◌, map, length, filter, get_or, cond, Option, Some, None, refl, sym, ap, ◌∙◌, subst, arith}
-use Rattle.std.specs.Prelude.{◌||◌, All, AllPairs, is_some, if◌then◌else◌}
+use Rattle.std.specs.Prelude.{◌||◌, All, AllPairs, is_some}
 use Rattle.ft_model.specs.declared.content.Content.{Content}
 use Rattle.ft_model.specs.declared.content.Content.TheVariants as content
 use Rattle.ft_model.specs.declared.content.DictPair.{DictPair}
 use Rattle.ft_model.specs.declared.data.Key.{Key}
 use Rattle.ft_model.specs.declared.data.Value.{Value}
 use Rattle.ft_model.specs.declared.script.Kind.TheVariants as kind
-use Rattle.ft_model.specs.Contents.{DictContent, IsDict, dict_set, dict_update, has_key, is_at, with_value}
+use Rattle.ft_model.specs.Contents.{DictContent, IsDict, dict_set, dict_update, has_key, is_at}
 use Rattle.ft_model.specs.Worlds.{kind_of}
 use Rattle.ft_model.proofs.KeyLemmas.{same_key-refl, same_key-true}
 use Rattle.ft_layout.specs.declared.slot.Stored.{Stored}
@@ -38,6 +38,7 @@ use Rattle.ft_merging.specs.Internal.JoiningSteps.{StoresIn, joined_used, with_u
 use Rattle.ft_merging.proofs.Ending.{Laws}
 use Rattle.ft_merging.proofs.JoinedContents.{counts_same, dict_there, later}
 use Rattle.ft_merging.proofs.JoinedReads.{Source, apart_used, set_source}
+use Rattle.ft_search.proofs.SameValues.{same_value}
 
 -- an entry that is there is the pair's
 live_is : (e : UsedEntry) (es : List UsedEntry) (s : Stored) → e.stored ≡ Some s → filter is_live (e ∷ es) ≡ e ∷ filter is_live es
@@ -108,18 +109,6 @@ source_known laws k t table v shape possible knows way.Dict kind_eq = let d = of
 source_known laws k t table v shape possible knows way.Set kind_eq = let d = of_way way.Set v t possible knows.locked (ap (λ (z : Shape). kind_in z.starts t) shape ∙ kind_eq) in set_source laws.elements k t table v knows d.0 d.1
 
 -- ---- a dict that is updated with itself
-
--- a value that is put where it stands
-same_value : (pairs : List DictPair) (key : Key) (value : Value) → All (λ (p : DictPair). is_at key p ≡ true → p.value ≡ value) pairs → with_value pairs key value ≡ pairs
-same_value [] key value all = refl
-same_value (p ∷ ps) key value all =
-    let rest = same_value ps key value (λ i d low. all (suc i) d (omega (arith, low))) in
-    let here = by (is_at key p) refl in
-    λ i. here i ∷ rest i
-  where
-    by : (b : Bool) → is_at key p ≡ b → (if is_at key p then record p { value = value } else p) ≡ p
-    by true at = ap (λ (b : Bool). if b then record p { value = value } else p) at ∙ ap (λ (z : Value). record p { value = z }) (sym (all 0 p (omega arith) at))
-    by false not_at = ap (λ (b : Bool). if b then record p { value = value } else p) not_at
 
 -- the pair is there, and no other at its key
 abbrev IsOwn : List DictPair → DictPair → Type 0

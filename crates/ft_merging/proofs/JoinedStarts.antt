@@ -112,6 +112,7 @@ module _ (heads : Heads) (laws : Laws) (k : Shape) (o : ℕ) (by : Way) (own : T
     early = ap (λ (z : View). has_committed o z.log) begun ∙ hit o false (has_committed o v.log);
     stands = subst (λ (x : ContainerWords). Represents k.texts x (record { content = d; table = use_with c counts.fill })) held_back (subst (λ (z : TableUse). Represents k.texts (held_words o v) (record { content = d; table = z })) use_is may.keyed.stands);
     same = λ p key less even live. ap (λ (z : ContainerState). under z.content key) (known_back o);
+    opens = λ p less odd. let e = evens_on p less in absurd (omega (arith, e, odd));
     gone = λ p key less odd dead. absurd (alive p key less odd dead);
     opened = λ p less odd. let e = evens_on p less in absurd (omega (arith, e, odd));
   }
@@ -133,4 +134,4 @@ module _ (heads : Heads) (laws : Laws) (k : Shape) (o : ℕ) (by : Way) (own : T
       subst (λ (z : Content). IsJoining k o by own t table z (counts.fill + more) 0 counts u) goal
       (joining_begins k o by own t table d counts more u midway (kinds ∙ kind_eq) kind_eq n.0 n.1 alive evens_on source
       (subst (λ (z : ContainerState). passes_cap (joined d z.content) ≡ false) (known_back t) cap) serials
-      (more_is ∙ ap (λ (z : ContainerState). new_keys d z.content) (known_back t)) here_room)
+      (more_is ∙ ap (λ (z : ContainerState). new_keys d z.content) (known_back t)) here_room (ap (λ (z : ContainerState). z.content) (known_back o)))

@@ -1,41 +1,32 @@
 -- A new key that is put into a dict or a set in the midst of a write of several: what its entry leaves.
-use Rattle.std.proofs.Common.{◌≡◌, ◌≢◌, ℕ, zero, suc, ◌+◌, ◌++◌, refl, length-set, ◌*◌, ◌^◌, ◌%◌, ◌<◌, ◌≤◌, List, [], ◌∷◌, length, Some, None, sym, ap, ◌∙◌, subst, ⊎_elim, arith, get_or-set_same, get_or-set_other}
-use Rattle.std.specs.Prelude.{slice_index, slice_set}
+use Rattle.std.proofs.Common.{◌≡◌, ◌≢◌, ℕ, ◌+◌, length-set, ◌*◌, ◌^◌, ◌%◌, ◌<◌, ◌≤◌, List, [], ◌∷◌, length, Some, None, sym, ap, ◌∙◌, subst, ⊎_elim, arith, get_or-set_same, get_or-set_other, inl}
+use Rattle.std.specs.Prelude.{slice_set}
 use mathlib.Core.Logic.{dite}
 use native.Mathlib.Decide.{ℕ_discrete}
 use Rattle.ft_model.specs.declared.content.Content.{Content}
 use Rattle.ft_model.specs.declared.content.Content.TheVariants as content
 use Rattle.ft_model.specs.declared.data.Key.{Key}
 use Rattle.ft_model.specs.declared.script.Kind.{Kind}
-use Rattle.ft_model.specs.Classes.{IsClass}
 use Rattle.ft_model.specs.Worlds.{kind_of, length_of}
-use Rattle.ft_hash.specs.Probes.{dict_slots, set_slots}
 use Rattle.ft_layout.specs.declared.slot.Pair.{Pair}
 use Rattle.ft_layout.specs.declared.slot.Stored.{Stored}
 use Rattle.ft_layout.specs.Containers.{class_mask, StandsAs}
-use Rattle.ft_layout.specs.Tables.{UsedEntry, dict_room, hash_of, set_room}
+use Rattle.ft_layout.specs.Tables.{UsedEntry, hash_of}
 use Rattle.ft_layout.specs.Words.{FitsKey, FitsStored, entry_words, gone_kind, key_kind, key_payload}
 use Rattle.ft_layout.proofs.WordLaws.{gone_is, kind_range, same_key}
 use Rattle.ft_keys.specs.declared.walk.Way.{Way}
-use Rattle.ft_keys.specs.declared.words.Access.{Access}
-use Rattle.ft_keys.specs.declared.words.Access.TheVariants.{PutEntry}
-use Rattle.ft_keys.specs.TableChanges.{FirstFree, unless_zero}
+use Rattle.ft_keys.specs.TableChanges.{FirstFree}
 use Rattle.ft_keys.specs.Ways.{walk_slots}
 use Rattle.ft_trace.specs.declared.Shape.{Shape}
 use Rattle.ft_trace.specs.declared.View.{View}
 use Rattle.ft_trace.specs.Addresses.{class_of, slots}
-use Rattle.ft_trace.specs.Carefuls.{IsDead, HasLiveKey, said_of}
+use Rattle.ft_trace.specs.Carefuls.{IsDead, HasLiveKey, said_of, IsOf, OpensChanged}
 use Rattle.ft_trace.specs.Holds.{held_words, known_state}
 use Rattle.ft_trace.specs.Kinds.{IsKeyed, rows, under}
 use Rattle.ft_trace.specs.Pictures.{ContainerWords, entry_offset, entry_field, Represents}
 use Rattle.ft_trace.specs.ContainerStates.{ContainerState, kind_in}
 use Rattle.ft_trace.proofs.ByKind.{keyed_fit}
-use Rattle.ft_trace.proofs.DictWrites as dict
-use Rattle.ft_trace.proofs.DictWrites.{FirstEntriesArePairs}
 use Rattle.ft_trace.proofs.Known.{table_is_long}
-use Rattle.ft_trace.proofs.SetKnown as set
-use Rattle.ft_trace.proofs.SetKnown.{FirstEntriesAreElements}
-use Rattle.ft_trace.proofs.Tellings.{word_is}
 use Rattle.ft_bank.specs.declared.table.Table.{Table}
 use Rattle.ft_bank.specs.TableNames.{table_id}
 use Rattle.ft_bank.specs.Whole.{OnlyPut}
@@ -50,49 +41,11 @@ use Rattle.ft_new_keys.specs.declared.counts.Counts.{Counts}
 use Rattle.ft_new_keys.specs.KeyGrowth.{IsFreeFor}
 use Rattle.ft_new_keys.specs.Placing.{IsUnused, StoresAs, laid, with_entry, with_key}
 use Rattle.ft_new_keys.proofs.Keyed.{way_is}
-use Rattle.ft_new_keys.proofs.Placed.{Fresh, PlaceLaws, now, opened_now, pair_for, place_unused, right_in, use_with}
+use Rattle.ft_new_keys.proofs.Placed.{Fresh, PlaceLaws, now, opened_now, pair_for, place_unused, right_in, use_with, next_payload, payload_laid, lacks}
 use Rattle.ft_new_keys.proofs.Stages.{At, body, body_puts, body_stage, opened}
 use Rattle.ft_merging.specs.Internal.JoiningSteps.{NoneAhead, NoneGone, NoneOf}
 use Rattle.ft_merging.specs.Internal.EntriesAtOnce.{IsMidway, version_of}
 use Rattle.ft_merging.proofs.Ending.{parity}
-
--- ---- the payload of the key's words
-
--- the entry after those that were used has none yet
-next_payload : (first_pair : FirstEntriesArePairs) (first_element : FirstEntriesAreElements) (texts b l : List ℕ) (class fill : ℕ) (d : Content) → IsKeyed (kind_of d) → IsClass class → StandsAs texts b (0 ∷ 0 ∷ l) (use_with class fill) d → fill < rows (kind_of d) class → entry_field (slots class) l fill 3 ≡ 0
-next_payload first_pair first_element texts b l class fill (content.Dict pairs) keyed is_class is low =
-    let room = dict.room_is first_pair texts b class fill is_class pairs l is in
-    let filled = is.filled in
-    let u = is.table.unused fill (omega (arith, filled)) (omega (arith, room, low)) in
-    sym (word_is (λ hash. dict_slots hash (class_mask class) (class_mask class + 14)) (dict_room (class_mask class)) texts class is_class is.used l is.table fill 3) ∙ u.payload
-next_payload first_pair first_element texts b l class fill (content.Set elements) keyed is_class is low =
-    let room = set.room_is first_element texts b class fill is_class elements l is in
-    let filled = is.filled in
-    let u = is.table.unused fill (omega (arith, filled)) (omega (arith, room, low)) in
-    sym (word_is (λ hash. set_slots hash (class_mask class) (class_mask class + 14)) (set_room (class_mask class)) texts class is_class is.used l is.table fill 3) ∙ u.payload
-next_payload first_pair first_element texts b l class fill (content.List values) keyed is_class is low = absurd keyed
-next_payload first_pair first_element texts b l class fill (content.Deque deque) keyed is_class is low = absurd keyed
-
-laid_other : (n p word value : ℕ) (calls : List Access) (l : List ℕ) → word ≢ 3 → slice_index (laid n (unless_zero p word value ++ calls) l) (entry_offset n p 3) ≡ slice_index (laid n calls l) (entry_offset n p 3)
-laid_other n p word zero calls l ne = refl
-laid_other n p word (suc value) calls l ne = get_or-set_other (laid n calls l) (entry_offset n p word) (entry_offset n p 3) (suc value) 0 (λ e. ne (omega (arith, e)))
-
-laid_here : (n p value : ℕ) (calls : List Access) (l : List ℕ) → slice_index (laid n calls l) (entry_offset n p 3) ≡ 0 → entry_offset n p 3 < length (laid n calls l) → slice_index (laid n (unless_zero p 3 value ++ calls) l) (entry_offset n p 3) ≡ value
-laid_here n p zero calls l none long = none
-laid_here n p (suc value) calls l none long = get_or-set_same (laid n calls l) (entry_offset n p 3) (suc value) 0 long
-
-payload_laid : (n p : ℕ) (entry l : List ℕ) → entry_field n l p 3 ≡ 0 → entry_offset n p 3 < length l → entry_field n (laid n (body p entry) l) p 3 ≡ slice_index entry 3
-payload_laid n p entry l none long =
-    let word : ℕ → ℕ = slice_index entry in
-    let one : List Access = PutEntry p 1 (word 1) ∷ [] in
-    let three : List Access = unless_zero p 3 (word 3) ++ one in
-    let four : List Access = unless_zero p 4 (word 4) ++ three in
-    let five : List Access = unless_zero p 5 (word 5) ++ four in
-    let size = length-set l (entry_offset n p 1) (word 1) in
-    get_or-set_other (laid n five l) (entry_offset n p 6) (entry_offset n p 3) (word 6) 0 (λ e. absurd (omega (arith, e)))
-    ∙ (laid_other n p 5 (word 5) four l (λ e. absurd (omega (arith, e)))
-    ∙ (laid_other n p 4 (word 4) three l (λ e. absurd (omega (arith, e)))
-    ∙ laid_here n p (word 3) one l (get_or-set_other l (entry_offset n p 1) (entry_offset n p 3) (word 1) 0 (λ e. absurd (omega (arith, e))) ∙ none) (omega (arith, long, size))))
 
 module _ (laws : PlaceLaws) (k : Shape) (o : ℕ) (by : Way) (own : Table) (mid : Content) (counts : Counts) (v : View) (midway : IsMidway k o own (record { content = mid; table = use_with (class_of (table_id own)) counts.fill }) v) (same_kind : kind_of mid ≡ kind_by by) (kind_eq : kind_in k.starts o ≡ kind_by by) (count_is : counts.count ≡ length_of mid)
     (alive : NoneGone (table_id own) (rows (kind_in k.starts o) (class_of (table_id own))) (held_words o v)) (slot : ℕ) (key : Key) (stored : Stored) (fits : FitsKey key) (low : hash_of k.texts key < 2 ^ 64) (stores : StoresAs (kind_of mid) stored) (ok : FitsStored stored) (absent : IsHeldAt mid key None) (free : IsFreeFor k.texts by own.class key (held_words o v).table slot) (room : counts.fill < rows (kind_by by) (class_of (table_id own))) where
@@ -223,11 +176,9 @@ module _ (laws : PlaceLaws) (k : Shape) (o : ℕ) (by : Way) (own : Table) (mid 
   apart : (q : ℕ) → version_of t y q % 2 ≡ 0 → q ≢ p
   apart q even e = let o = odd_now in let same : version_of t y q ≡ version_of t y p = ap (version_of t y) e in omega (arith, o, same, even)
 
-  -- an entry with an even version says what the container had
-  same_now : (q : ℕ) (a : Key) → q < rows (kind_in k.starts o) c → version_of t y q % 2 ≡ 0 → HasLiveKey n y.table q a → under news a ≡ under (known_state o v).content a
-  same_now q a less even live =
-      let ne = apart q even in
-      let was = others_same q 0 ne (omega arith) in
+  -- what is under the key of another entry stays
+  under_other : (q : ℕ) (a : Key) → q < rows (kind_in k.starts o) c → q ≢ p → HasLiveKey n y.table q a → under news a ≡ under mid a
+  under_other q a less ne live =
       let old = live_before q a ne live in
       let e4 = others_same q 4 ne (omega arith) in
       let e5 = others_same q 5 ne (omega arith) in
@@ -235,8 +186,38 @@ module _ (laws : PlaceLaws) (k : Shape) (o : ℕ) (by : Way) (own : Table) (mid 
       let said : said_of n y.table q ≡ said_of n x.table q = λ i. e4 i ∷ (e5 i ∷ (e6 i ∷ [])) in
       let here : q < rows (kind_of news) c = subst (λ (z : Kind). q < rows z c) (sym says_now.1) (unrow q less) in
       right_in laws.first_pair laws.first_element k.texts y.block y.table c (p + 1) news (subst IsKeyed (sym says_now.1) keyed) fresh_midway.is_class says_now.0 q a here live
-      ∙ (said ∙ (sym (right_in laws.first_pair laws.first_element k.texts x.block x.table c p mid keyed fresh_midway.is_class midway.stands q a (unrow q less) old)
-      ∙ midway.same q a less (omega (arith, was, even)) old))
+      ∙ (said ∙ sym (right_in laws.first_pair laws.first_element k.texts x.block x.table c p mid keyed fresh_midway.is_class midway.stands q a (unrow q less) old))
+
+  -- an entry with an even version says what the container had
+  same_now : (q : ℕ) (a : Key) → q < rows (kind_in k.starts o) c → version_of t y q % 2 ≡ 0 → HasLiveKey n y.table q a → under news a ≡ under (known_state o v).content a
+  same_now q a less even live =
+      let ne = apart q even in
+      let was = others_same q 0 ne (omega arith) in
+      under_other q a less ne live ∙ midway.same q a less (omega (arith, was, even)) (live_before q a ne live)
+
+  -- nothing was under the key
+  pub lacks_mid : under mid key ≡ []
+  lacks_mid = lacks laws k.texts x t slot counts mid key stored fresh_midway
+
+  -- and so one with an odd version is of a key under which something else is
+  opens_now : under (known_state o v).content key ≡ [] → OpensChanged n (rows (kind_in k.starts o) c) y.table (under (known_state o v).content) (under news)
+  opens_now none q less odd =
+      dite (ℕ_discrete q p)
+      (λ (e : q ≡ p).
+      let live : HasLiveKey n y.table p key = (kind_now, payload_now) in
+      let row_p : p < rows (kind_of news) c = subst (λ (z : Kind). p < rows z c) (sym says_now.1) room_here in
+      let said = right_in laws.first_pair laws.first_element k.texts y.block y.table c (p + 1) news (subst IsKeyed (sym says_now.1) keyed) fresh_midway.is_class says_now.0 p key row_p live in
+      (key, subst (λ (z : ℕ). IsOf n y.table z key) (sym e) (inl live), λ same. let bare : said_of n y.table p ≡ [] = sym said ∙ (same ∙ none) in absurd (cc)))
+      (λ ne.
+      let was = others_same q 0 ne (omega arith) in
+      let odd_before : version_of t x q % 2 ≡ 1 = omega (arith, was, odd) in
+      let old = midway.opens q less odd_before in
+      ⊎_elim
+      (λ (live : HasLiveKey n x.table q old.0).
+      let here : HasLiveKey n y.table q old.0 = (others_same q 2 ne (omega arith) ∙ live.0, others_same q 3 ne (omega arith) ∙ live.1) in
+      (old.0, inl here, λ same. old.2 (sym (under_other q old.0 less ne here) ∙ same)))
+      (λ (dead : IsDead n x.table q old.0). absurd (alive q old.0 less odd_before dead))
+      old.1)
 
   opened_then : (q : ℕ) → q < rows (kind_in k.starts o) c → version_of t y q % 2 ≡ 1 → q < p + 1
   opened_then q less odd =
@@ -280,12 +261,13 @@ module _ (laws : PlaceLaws) (k : Shape) (o : ℕ) (by : Way) (own : Table) (mid 
     pub ahead_put : (left : List UsedEntry) → NoneAhead t (rows (kind_in k.starts o) c) x left → NoneOf key left → NoneAhead t (rows (kind_in k.starts o) c) (held_words o z) left
     ahead_put left before none = subst (λ (w : ContainerWords). NoneAhead t (rows (kind_in k.starts o) c) w left) back (ahead_then left before none)
 
-    pub midway_put : IsMidway k o own (record { content = news; table = use_with c (p + 1) }) z
-    midway_put = record {
+    pub midway_put : under (known_state o v).content key ≡ [] → IsMidway k o own (record { content = news; table = use_with c (p + 1) }) z
+    midway_put none = record {
       writes = writes;
       early = only.work.committed o ∙ midway.early;
       stands = subst (λ (w : ContainerWords). Represents k.texts w (record { content = news; table = use_with c (p + 1) })) back says_now.0;
       same = subst (λ (w : ContainerWords × ContainerState). (q : ℕ) (a : Key) → q < rows (kind_in k.starts o) c → version_of t w.0 q % 2 ≡ 0 → HasLiveKey n w.0.table q a → under news a ≡ under w.1.content a) (λ i. (back i, knows i)) same_now;
+      opens = subst (λ (w : ContainerWords × ContainerState). OpensChanged n (rows (kind_in k.starts o) c) w.0.table (under w.1.content) (under news)) (λ i. (back i, knows i)) (opens_now none);
       gone = λ q a less odd dead. absurd (alive_put q a less odd dead);
       opened = subst (λ (w : ContainerWords). (q : ℕ) → q < rows (kind_in k.starts o) c → version_of t w q % 2 ≡ 1 → q < p + 1) back opened_then;
     }

@@ -1,5 +1,5 @@
 -- A set in the midst of a write that takes some of its elements out: what each deletion leaves, and what all of them come to.
-use Rattle.std.proofs.Common.{◌≡◌, ◌≢◌, ℕ, suc, ◌+◌, ◌-◌, ◌*◌, ◌%◌, ◌<◌, ◌≤◌, Bool, true, false, List, [], ◌∷◌, length, filter, find, cond, Option, Some, refl, sym, ap, ◌∙◌, subst, arith, length-set, get_or-set_same, get_or-set_other}
+use Rattle.std.proofs.Common.{◌≡◌, ◌≢◌, ℕ, suc, ◌+◌, ◌-◌, ◌*◌, ◌%◌, ◌<◌, ◌≤◌, Bool, true, false, List, [], ◌∷◌, length, filter, find, cond, Option, Some, refl, sym, ap, ◌∙◌, subst, arith, length-set, get_or-set_same, get_or-set_other, inl, inr, ⊎_elim}
 use Rattle.std.specs.Prelude.{All, ◌||◌, not, slice_index, slice_set, slice_get}
 use Rattle.std.specs.List.{list_any}
 use Rattle.std.specs.Option.{option_map_or}
@@ -32,14 +32,14 @@ use Rattle.ft_layout.proofs.WordLaws as words
 use Rattle.ft_trace.specs.declared.Shape.{Shape}
 use Rattle.ft_trace.specs.declared.View.{View}
 use Rattle.ft_trace.specs.Addresses.{class_of, slots, size}
-use Rattle.ft_trace.specs.Carefuls.{HasLiveKey, IsDead, said_of}
+use Rattle.ft_trace.specs.Carefuls.{HasLiveKey, IsDead, said_of, OpensChanged}
 use Rattle.ft_trace.specs.Holds.{held_words, known_state}
 use Rattle.ft_trace.specs.Kinds.{element_words, is_key, rows, under}
 use Rattle.ft_trace.specs.Pictures.{ContainerWords, root_in, entry_offset, entry_field, Represents}
 use Rattle.ft_trace.specs.ContainerStates.{ContainerState, kind_in}
 use Rattle.ft_trace.specs.WholeWrites.{to_block, to_table, with_puts, MayPut, MayPuts}
 use Rattle.ft_trace.proofs.ByKind.{keyed_low}
-use Rattle.ft_trace.proofs.EntryPuts.{dead_is, dead_kind, dead_open, dead_others, dead_same}
+use Rattle.ft_trace.proofs.EntryPuts.{dead_is, dead_kind, dead_open, dead_others, dead_now}
 use Rattle.ft_trace.proofs.FitCalls.{set_fits_words}
 use Rattle.ft_trace.proofs.Known.{after_header, class_known}
 use Rattle.ft_trace.proofs.LookReplies.{element_there}
@@ -257,9 +257,23 @@ module _ (laws : SetLaws) (texts : List ℕ) (x : ContainerWords) (tab : TableUs
         let e = l.0 in
         omega (arith, kind, g, b, h, e)
 
+    -- what is under the key of another entry stays
+    pub others_under : (q : ℕ) (a : Key) → q < m → q ≢ p → HasLiveKey n put q a → under (content.Set news) a ≡ under (content.Set elements) a
+    others_under q a less ne l =
+        let e4 = others_same q 4 ne (omega arith) in
+        let e5 = others_same q 5 ne (omega arith) in
+        let e6 = others_same q 6 ne (omega arith) in
+        let said : said_of n put q ≡ said_of n x.table q = λ i. e4 i ∷ (e5 i ∷ (e6 i ∷ [])) in
+        set.set_right laws.first texts block c tab.fill is_class news put now_says q a less l
+        ∙ (said ∙ sym (set.set_right laws.first texts x.block c tab.fill is_class elements x.table says q a less (other_live q a ne l)))
+
     -- an entry with an even version says what it said
     pub keeps_under : (q : ℕ) (a : Key) → q < m → entry_field n put q 0 % 2 ≡ 0 → HasLiveKey n put q a → under (content.Set news) a ≡ under (content.Set elements) a
-    keeps_under q a less two l = (set.set_clear laws.first texts block x.block c tab.fill tab.fill is_class elements news x.table put says now_says (dead_same n m x.table p key low long even live)).keeps q a less two l
+    keeps_under q a less two l =
+        others_under q a less (λ (e : q ≡ p). let o = now_odd in let v : entry_field n put q 0 ≡ entry_field n put p 0 = ap (λ (z : ℕ). entry_field n put z 0) e in absurd (omega (arith, o, v, two, even))) l
+
+    pub now_dead : IsDead n put p key
+    now_dead = dead_now n m x.table p key low long even live
 
     -- and no deleted one that is being written has a key that is there
     pub dead_under : NoneDead t m x (record { content = content.Set elements; table = tab }) → NoneDead t m after (record { content = content.Set news; table = tab })
@@ -286,6 +300,7 @@ midway_loaded k o table mid v w only b =
       early = only.work.committed o ∙ b.early;
       stands = subst (λ (y : ContainerWords). Represents k.texts y mid) back b.stands;
       same = subst (λ (y : ContainerWords × ContainerState). (p : ℕ) (key : Key) → p < m → version_of t y.0 p % 2 ≡ 0 → HasLiveKey (slots (class_of t)) y.0.table p key → under mid.content key ≡ under y.1.content key) (λ d. (back d, knows d)) b.same;
+      opens = subst (λ (y : ContainerWords × ContainerState). OpensChanged (slots (class_of t)) m y.0.table (under y.1.content) (under mid.content)) (λ d. (back d, knows d)) b.opens;
       gone = subst (λ (y : ContainerWords). NoneDead t m y mid) back b.gone;
       opened = subst (λ (y : ContainerWords). (p : ℕ) → p < m → version_of t y p % 2 ≡ 1 → p < mid.table.fill) back b.opened;
     }
@@ -411,6 +426,29 @@ module _ (k : Shape) (s : ℕ) (table : Table) (kept : Bool) (others first : Set
           dead_under laws k.texts words_now tab vt class_is th.mid says_now place key low live fits class_some th.midway.writes.root long even_here
           (λ q b small. th.midway.gone q b (row q small)) p a (unrow p less) odd dead
 
+      -- an entry with an odd version is of a key under which the set had something else
+      opens_then : OpensChanged vn (rows (kind_in k.starts s) (class_of vt)) words_then.table (under (known_state s v).content) (under mid_then)
+      opens_then p less odd =
+          dite (ℕ_discrete p place)
+          (λ (e : p ≡ place).
+          let dead : IsDead vn words_then.table p key = subst (λ (q : ℕ). IsDead vn words_then.table q key) (sym e) (now_dead laws k.texts words_now tab vt class_is th.mid says_now place key low live fits class_some th.midway.writes.root long even_here) in
+          let none = gone_then p key less odd dead in
+          let some = there laws k.texts words_now tab vt class_is th.mid says_now place key low live fits in
+          (key, inr dead, λ same. some (th.midway.same place key (row place low) even_here live ∙ (sym same ∙ none))))
+          (λ ne.
+          let e = same_word p 0 ne (omega arith) in
+          let odd_before : version_of vt words_now p % 2 ≡ 1 = omega (arith, e, odd) in
+          let old = th.midway.opens p less odd_before in
+          ⊎_elim
+          (λ (l : HasLiveKey vn words_now.table p old.0).
+          let here : HasLiveKey vn words_then.table p old.0 = (same_word p 2 ne (omega arith) ∙ l.0, same_word p 3 ne (omega arith) ∙ l.1) in
+          let stays_under = others_under laws k.texts words_now tab vt class_is th.mid says_now place key low live fits class_some th.midway.writes.root long even_here p old.0 (unrow p less) ne here in
+          (old.0, inl here, λ same. old.2 (sym stays_under ∙ same)))
+          (λ (dead : IsDead vn words_now.table p old.0).
+          let here : IsDead vn words_then.table p old.0 = (same_word p 2 ne (omega arith) ∙ dead.0, same_word p 3 ne (omega arith) ∙ dead.1) in
+          (old.0, inr here, λ same. old.2 (th.midway.gone p old.0 less odd_before dead ∙ (sym (gone_then p old.0 less odd here) ∙ same))))
+          old.1)
+
       opened_then : (p : ℕ) → p < rows (kind_in k.starts s) (class_of vt) → version_of vt words_then p % 2 ≡ 1 → p < tab.fill
       opened_then p less odd =
           dite (ℕ_discrete p place)
@@ -441,6 +479,7 @@ module _ (k : Shape) (s : ℕ) (table : Table) (kept : Bool) (others first : Set
         early = only.work.committed s ∙ th.midway.early;
         stands = subst (λ (y : ContainerWords). Represents k.texts y (record { content = mid_then; table = tab })) back (now_stands laws k.texts words_now tab vt class_is th.mid says_now place key low live fits class_some th.midway.writes.root long even_here);
         same = subst (λ (y : ContainerWords × ContainerState). (p : ℕ) (a : Key) → p < rows (kind_in k.starts s) (class_of vt) → version_of vt y.0 p % 2 ≡ 0 → HasLiveKey vn y.0.table p a → under mid_then a ≡ under y.1.content a) (λ d. (back d, knows d)) same_then;
+        opens = subst (λ (y : ContainerWords × ContainerState). OpensChanged vn (rows (kind_in k.starts s) (class_of vt)) y.0.table (under y.1.content) (under mid_then)) (λ d. (back d, knows d)) opens_then;
         gone = subst (λ (y : ContainerWords). NoneDead vt (rows (kind_in k.starts s) (class_of vt)) y (record { content = mid_then; table = tab })) back gone_then;
         opened = subst (λ (y : ContainerWords). (p : ℕ) → p < rows (kind_in k.starts s) (class_of vt) → version_of vt y p % 2 ≡ 1 → p < tab.fill) back opened_then;
       }

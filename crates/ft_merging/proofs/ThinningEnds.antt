@@ -24,7 +24,7 @@ use Rattle.ft_trace.specs.declared.Shape.{Shape}
 use Rattle.ft_trace.specs.declared.View.{View}
 use Rattle.ft_trace.specs.Acts.{has_committed, has_lock, is_writing, view_after, owes}
 use Rattle.ft_trace.specs.Addresses.{class_of, container_count, slots}
-use Rattle.ft_trace.specs.Carefuls.{IsDead, HasLiveKey}
+use Rattle.ft_trace.specs.Carefuls.{IsDead, HasLiveKey, OpensChanged}
 use Rattle.ft_trace.specs.Holds.{held_words, known_state}
 use Rattle.ft_trace.specs.Kinds.{ClearAs, rows, under, version_at}
 use Rattle.ft_trace.specs.OddVersions.{Shut}
@@ -175,6 +175,7 @@ module _ (k : Shape) (s : ℕ) (table : Table) (kept : Bool) (others : SetConten
       early = ap (λ (z : View). has_committed s z.log) begun ∙ hit s false (has_committed s v.log);
       stands = subst (λ (z : ContainerWords). Represents k.texts z (record { content = content.Set first; table = (known_state s v).table })) held_back first_stands;
       same = λ p key less even live. ap (λ (z : Content). under z key) (sym first_known ∙ ap (λ (z : ContainerState). z.content) known_back);
+      opens = subst (λ (z : ContainerWords). OpensChanged (slots (class_of t)) (rows (kind_in k.starts s) (class_of t)) z.table (under (known_state s u).content) (under (content.Set first))) held_back (λ p less odd. let e = evens p less in absurd (omega (arith, e, odd)));
       gone = subst (λ (z : ContainerWords). (p : ℕ) (key : Key) → p < rows (kind_in k.starts s) (class_of t) → version_of t z p % 2 ≡ 1 → IsDead (slots (class_of t)) z.table p key → under (content.Set first) key ≡ []) held_back (λ p key less odd dead. let e = evens p less in absurd (omega (arith, e, odd)));
       opened = subst (λ (z : ContainerWords). (p : ℕ) → p < rows (kind_in k.starts s) (class_of t) → version_of t z p % 2 ≡ 1 → p < (known_state s v).table.fill) held_back (λ p less odd. let e = evens p less in absurd (omega (arith, e, odd)));
     };
@@ -202,6 +203,7 @@ module _ (k : Shape) (s : ℕ) (table : Table) (kept : Bool) (others : SetConten
     here =
         clear_of laws k.texts (held_words s w) t (table_class k table has.table_in) midway.writes.root (content.Set left) after refl tt midway.stands (known_state s v).content
         (λ p key low even live. midway.same p key (subst (λ (z : Kind). p < rows z (class_of t)) (sym is) low) even live ∙ ap (λ (z : ContainerState). under z.content key) known_now)
+        (subst (λ (z : Kind × ContainerState). OpensChanged (slots (class_of t)) (rows z.0 (class_of t)) (held_words s w).table (under z.1.content) (under (content.Set left))) (λ d. (is d, known_now d)) midway.opens)
 
     clears : (q : ℕ) → root_in (held_words s w) ≡ suc q → ClearAs (kind_in v.shape.starts s) v.shape.texts (class_of q) (held_words s w).table (known_state s v).content after.content
     clears q names =

@@ -36,7 +36,7 @@ use ft_layout::{
 };
 use ft_model::{Call, Key, Reply};
 use ft_new_keys::{Counts, put_key};
-use ft_search::{Spot, put_value, read_by, spot_of};
+use ft_search::{Spot, put_value, read_by, says_value, spot_of};
 use ft_section::Object;
 
 /// Where a key is in the table of a container that is written.
@@ -68,7 +68,8 @@ fn seek_in(
     spot_of(own, found, read)
 }
 
-/// Puts what is stored at a key into the entry that has the key: another value. An element of a set has none.
+/// Puts what is stored at a key into the entry that has the key, where this has another value. An element of a set has
+/// none.
 fn put_stored(
     bank: &Bank,
     pass: &mut Pass,
@@ -95,7 +96,11 @@ fn put_stored(
         (stored_puts (slots (class_of (table_id own))) (held_words o (view pass.old)).table place stored) }
 {
     match stored {
-        Stored::Plain(value) => put_value(bank, pass, o, own, place, value, old),
+        Stored::Plain(value) => {
+            if !says_value(old, value) {
+                put_value(bank, pass, o, own, place, value, old);
+            }
+        }
         Stored::Empty | Stored::Boxed(..) => (),
     }
 }

@@ -20,7 +20,7 @@ use Rattle.ft_hash.proofs.Walks.{dict_slots-within, set_slots-within}
 use Rattle.ft_layout.specs.declared.slot.Pair.{Pair}
 use Rattle.ft_layout.specs.declared.slot.Stored.{Stored}
 use Rattle.ft_layout.specs.declared.slot.Stored.TheVariants.{Empty, Plain, Boxed}
-use Rattle.ft_layout.specs.Words.{FitsKey, FitsPair, FitsStored, entry_words, key_kind}
+use Rattle.ft_layout.specs.Words.{FitsKey, FitsPair, FitsStored, entry_words, key_kind, key_payload}
 use Rattle.ft_layout.specs.Tables.{UsedEntry, is_live, hash_of, index_word, dict_room, set_room, IsDictTable, IsSetTable}
 use Rattle.ft_layout.specs.Tables as layout
 use Rattle.ft_layout.specs.Containers.{class_mask, used_pair, used_element, IsRoot, IsBlock, AreDictEntries, AreSetEntries, IsDictWords, IsSetWords, StandsAs}
@@ -28,11 +28,11 @@ use Rattle.ft_layout.proofs.Powers.{slots_range}
 use Rattle.ft_keys.specs.declared.walk.Way.{Way}
 use Rattle.ft_keys.specs.declared.walk.Way.TheVariants as way
 use Rattle.ft_keys.specs.Accesses.{after}
-use Rattle.ft_keys.specs.TableChanges.{FirstFree, place_puts, AddsPair}
+use Rattle.ft_keys.specs.TableChanges.{FirstFree, place_puts, AddsPair, unless_zero}
 use Rattle.ft_keys.specs.Ways.{walk_slots, room}
 use Rattle.ft_keys.proofs.Reaching.{walk-within}
 use Rattle.ft_trace.specs.Addresses.{class_of, slots, places}
-use Rattle.ft_trace.specs.Carefuls.{HasLiveKey, said_of}
+use Rattle.ft_trace.specs.Carefuls.{HasLiveKey, said_of, OpensChanged}
 use Rattle.ft_trace.specs.Kinds.{under, rows, version_at, CarefulAs, ClearAs, IsKeyed}
 use Rattle.ft_trace.specs.OddVersions.{Shut}
 use Rattle.ft_trace.specs.Pictures.{ContainerWords, root_in, index_field, entry_offset, entry_field, Represents}
@@ -41,7 +41,7 @@ use Rattle.ft_trace.proofs.DictWrites as dict
 use Rattle.ft_trace.proofs.DictWrites.{EntryVersionsChangeNothing, FirstEntriesArePairs}
 use Rattle.ft_trace.proofs.SetKnown as set
 use Rattle.ft_trace.proofs.SetKnown.{FirstEntriesAreElements}
-use Rattle.ft_trace.proofs.KeyPuts.{new_same, new_late, new_shut, stage_odd}
+use Rattle.ft_trace.proofs.KeyPuts.{new_same, new_late, new_shut, stage_odd, new_opens}
 use Rattle.ft_trace.proofs.Known as known
 use Rattle.ft_trace.proofs.Tellings.{word_is}
 use Rattle.ft_new_keys.specs.declared.counts.Counts.{Counts}
@@ -53,6 +53,10 @@ use Rattle.ft_search.proofs.KnownTableWords.{after_header}
 use Rattle.ft_new_keys.proofs.Laid.{laid_after}
 use Rattle.ft_search.proofs.WordPlaces.{mask_is, slots_of_class}
 use Rattle.ft_new_keys.proofs.Stages.{as_careful, body, body_puts, body_stage, opened}
+use Rattle.ft_keys.specs.declared.words.Access.{Access}
+use Rattle.ft_keys.specs.declared.words.Access.TheVariants.{PutEntry}
+use Rattle.ft_trace.proofs.Opened.{dict_lacks, set_lacks}
+use Rattle.ft_trace.proofs.FitCalls.{dict_fits_words, set_fits_words}
 
 -- laws of tables and of what they stand for
 pub record PlaceLaws : Type 0 where
@@ -162,6 +166,44 @@ next_unused first_pair first_element texts b l class fill (content.Set elements)
 next_unused first_pair first_element texts b l class fill (content.List values) keyed is_class is low = absurd keyed
 next_unused first_pair first_element texts b l class fill (content.Deque deque) keyed is_class is low = absurd keyed
 
+-- ---- the payload of the key's words
+
+-- the entry after those that were used has none yet
+pub next_payload : (first_pair : FirstEntriesArePairs) (first_element : FirstEntriesAreElements) (texts b l : List ℕ) (class fill : ℕ) (d : Content) → IsKeyed (kind_of d) → IsClass class → StandsAs texts b (0 ∷ 0 ∷ l) (use_with class fill) d → fill < rows (kind_of d) class → entry_field (slots class) l fill 3 ≡ 0
+next_payload first_pair first_element texts b l class fill (content.Dict pairs) keyed is_class is low =
+    let room = dict.room_is first_pair texts b class fill is_class pairs l is in
+    let filled = is.filled in
+    let u = is.table.unused fill (omega (arith, filled)) (omega (arith, room, low)) in
+    sym (word_is (λ hash. dict_slots hash (class_mask class) (class_mask class + 14)) (dict_room (class_mask class)) texts class is_class is.used l is.table fill 3) ∙ u.payload
+next_payload first_pair first_element texts b l class fill (content.Set elements) keyed is_class is low =
+    let room = set.room_is first_element texts b class fill is_class elements l is in
+    let filled = is.filled in
+    let u = is.table.unused fill (omega (arith, filled)) (omega (arith, room, low)) in
+    sym (word_is (λ hash. set_slots hash (class_mask class) (class_mask class + 14)) (set_room (class_mask class)) texts class is_class is.used l is.table fill 3) ∙ u.payload
+next_payload first_pair first_element texts b l class fill (content.List values) keyed is_class is low = absurd keyed
+next_payload first_pair first_element texts b l class fill (content.Deque deque) keyed is_class is low = absurd keyed
+
+laid_other : (n p word value : ℕ) (calls : List Access) (l : List ℕ) → word ≢ 3 → slice_index (laid n (unless_zero p word value ++ calls) l) (entry_offset n p 3) ≡ slice_index (laid n calls l) (entry_offset n p 3)
+laid_other n p word zero calls l ne = refl
+laid_other n p word (suc value) calls l ne = get_or-set_other (laid n calls l) (entry_offset n p word) (entry_offset n p 3) (suc value) 0 (λ e. ne (omega (arith, e)))
+
+laid_here : (n p value : ℕ) (calls : List Access) (l : List ℕ) → slice_index (laid n calls l) (entry_offset n p 3) ≡ 0 → entry_offset n p 3 < length (laid n calls l) → slice_index (laid n (unless_zero p 3 value ++ calls) l) (entry_offset n p 3) ≡ value
+laid_here n p zero calls l none long = none
+laid_here n p (suc value) calls l none long = get_or-set_same (laid n calls l) (entry_offset n p 3) (suc value) 0 long
+
+pub payload_laid : (n p : ℕ) (entry l : List ℕ) → entry_field n l p 3 ≡ 0 → entry_offset n p 3 < length l → entry_field n (laid n (body p entry) l) p 3 ≡ slice_index entry 3
+payload_laid n p entry l none long =
+    let word : ℕ → ℕ = slice_index entry in
+    let one : List Access = PutEntry p 1 (word 1) ∷ [] in
+    let three : List Access = unless_zero p 3 (word 3) ++ one in
+    let four : List Access = unless_zero p 4 (word 4) ++ three in
+    let five : List Access = unless_zero p 5 (word 5) ++ four in
+    let size = length-set l (entry_offset n p 1) (word 1) in
+    get_or-set_other (laid n five l) (entry_offset n p 6) (entry_offset n p 3) (word 6) 0 (λ e. absurd (omega (arith, e)))
+    ∙ (laid_other n p 5 (word 5) four l (λ e. absurd (omega (arith, e)))
+    ∙ (laid_other n p 4 (word 4) three l (λ e. absurd (omega (arith, e)))
+    ∙ laid_here n p (word 3) one l (get_or-set_other l (entry_offset n p 1) (entry_offset n p 3) (word 1) 0 (λ e. absurd (omega (arith, e))) ∙ none) (omega (arith, long, size))))
+
 -- the pair whose entry a key gets
 abbrev pub pair_for : List ℕ → Content → Key → Stored → Pair
 pair_for texts d key stored = record { hash = hash_of texts key; key = key; value = stored; serial = serial_of d }
@@ -208,17 +250,24 @@ right_in first_pair first_element texts b l class fill (content.List values) key
 right_in first_pair first_element texts b l class fill (content.Deque deque) keyed is_class is p key low live = absurd keyed
 
 clear_in : (first_pair : FirstEntriesArePairs) (first_element : FirstEntriesAreElements) (texts block before : List ℕ) (class fill more : ℕ) (d news : Content) (ws zs : List ℕ) → IsClass class → IsKeyed (kind_of d) → kind_of news ≡ kind_of d → StandsAs texts before (0 ∷ 0 ∷ ws) (use_with class fill) d → StandsAs texts block (0 ∷ 0 ∷ zs) (use_with class more) news
-    → ((q w : ℕ) → q < rows (kind_of d) class → entry_field (slots class) zs q 0 % 2 ≡ 0 → w < 8 → entry_field (slots class) zs q w ≡ entry_field (slots class) ws q w) → ClearAs (kind_of d) texts class zs d news
-clear_in first_pair first_element texts block before class fill more (content.Dict pairs) (content.Dict news) ws zs is_class keyed same_kind says now same = dict.dict_clear first_pair texts block before class fill more is_class pairs news ws zs says now same
-clear_in first_pair first_element texts block before class fill more (content.Set elements) (content.Set news) ws zs is_class keyed same_kind says now same = set.set_clear first_element texts block before class fill more is_class elements news ws zs says now same
-clear_in first_pair first_element texts block before class fill more (content.Dict pairs) (content.Set news) ws zs is_class keyed same_kind says now same = absurd (cc)
-clear_in first_pair first_element texts block before class fill more (content.Dict pairs) (content.List news) ws zs is_class keyed same_kind says now same = absurd (cc)
-clear_in first_pair first_element texts block before class fill more (content.Dict pairs) (content.Deque news) ws zs is_class keyed same_kind says now same = absurd (cc)
-clear_in first_pair first_element texts block before class fill more (content.Set elements) (content.Dict news) ws zs is_class keyed same_kind says now same = absurd (cc)
-clear_in first_pair first_element texts block before class fill more (content.Set elements) (content.List news) ws zs is_class keyed same_kind says now same = absurd (cc)
-clear_in first_pair first_element texts block before class fill more (content.Set elements) (content.Deque news) ws zs is_class keyed same_kind says now same = absurd (cc)
-clear_in first_pair first_element texts block before class fill more (content.List values) news ws zs is_class keyed same_kind says now same = absurd keyed
-clear_in first_pair first_element texts block before class fill more (content.Deque deque) news ws zs is_class keyed same_kind says now same = absurd keyed
+    → ((q w : ℕ) → q < rows (kind_of d) class → entry_field (slots class) zs q 0 % 2 ≡ 0 → w < 8 → entry_field (slots class) zs q w ≡ entry_field (slots class) ws q w) → OpensChanged (slots class) (rows (kind_of d) class) zs (under d) (under news) → ClearAs (kind_of d) texts class zs d news
+clear_in first_pair first_element texts block before class fill more (content.Dict pairs) (content.Dict news) ws zs is_class keyed same_kind says now same opens = dict.dict_clear first_pair texts block before class fill more is_class pairs news ws zs says now same opens
+clear_in first_pair first_element texts block before class fill more (content.Set elements) (content.Set news) ws zs is_class keyed same_kind says now same opens = set.set_clear first_element texts block before class fill more is_class elements news ws zs says now same opens
+clear_in first_pair first_element texts block before class fill more (content.Dict pairs) (content.Set news) ws zs is_class keyed same_kind says now same opens = absurd (cc)
+clear_in first_pair first_element texts block before class fill more (content.Dict pairs) (content.List news) ws zs is_class keyed same_kind says now same opens = absurd (cc)
+clear_in first_pair first_element texts block before class fill more (content.Dict pairs) (content.Deque news) ws zs is_class keyed same_kind says now same opens = absurd (cc)
+clear_in first_pair first_element texts block before class fill more (content.Set elements) (content.Dict news) ws zs is_class keyed same_kind says now same opens = absurd (cc)
+clear_in first_pair first_element texts block before class fill more (content.Set elements) (content.List news) ws zs is_class keyed same_kind says now same opens = absurd (cc)
+clear_in first_pair first_element texts block before class fill more (content.Set elements) (content.Deque news) ws zs is_class keyed same_kind says now same opens = absurd (cc)
+clear_in first_pair first_element texts block before class fill more (content.List values) news ws zs is_class keyed same_kind says now same opens = absurd keyed
+clear_in first_pair first_element texts block before class fill more (content.Deque deque) news ws zs is_class keyed same_kind says now same opens = absurd keyed
+
+-- nothing is under a key that isn't there
+lacks_key : (texts b l : List ℕ) (class fill : ℕ) (d : Content) → IsKeyed (kind_of d) → StandsAs texts b (0 ∷ 0 ∷ l) (use_with class fill) d → (key : Key) → FitsKey key → IsHeldAt d key None → under d key ≡ []
+lacks_key texts b l class fill (content.Dict pairs) keyed is key fits absent = dict_lacks pairs key fits (dict_fits_words texts b (0 ∷ 0 ∷ l) class fill pairs is) absent
+lacks_key texts b l class fill (content.Set elements) keyed is key fits absent = set_lacks elements key fits (set_fits_words texts b (0 ∷ 0 ∷ l) class fill elements is) absent
+lacks_key texts b l class fill (content.List values) keyed is key fits absent = absurd keyed
+lacks_key texts b l class fill (content.Deque deque) keyed is key fits absent = absurd keyed
 
 -- versions of entries, by the kind of the container
 pub entry_shut : (kind : Kind) → IsKeyed kind → (c m : ℕ) (l : List ℕ) → Shut (version_at kind c) m l → Shut (λ q. entry_offset (slots c) q 0) m l
@@ -353,10 +402,27 @@ module _ (laws : PlaceLaws) (texts : List ℕ) (x : ContainerWords) (t slot : �
       subst (λ (z : ℕ). Shut (version_at (kind_of d) c) m (slice_set y.table (entry_offset n p 0) z)) next
       (kind_shut (kind_of d) fresh.keyed c m (slice_set y.table (entry_offset n p 0) (ver + 2)) (new_shut n m ws p slot un.low un.in_index un.long un.even un.none un.free key l s (entry_shut (kind_of d) fresh.keyed c m ws shut)))
 
+  payload_is : entry_field n l p 3 ≡ key_payload key
+  payload_is =
+      let size = length-set ws (entry_offset n p 0) (ver + 1) in
+      let long = fresh.long in
+      let low = fresh.room in
+      let none : entry_field n ow p 3 ≡ 0 = get_or-set_other ws (entry_offset n p 0) (entry_offset n p 3) (ver + 1) 0 (λ e. absurd (omega (arith, e))) ∙ next_payload laws.first_pair laws.first_element texts fresh.before ws c p d fresh.keyed fresh.is_class fresh.says fresh.room in
+      payload_laid n p (entry_words pair) ow none (omega (arith, size, long, low))
+
+  -- nothing was under the key
+  pub lacks : under d key ≡ []
+  lacks = lacks_key texts fresh.before ws c p d fresh.keyed fresh.says key fresh.fits fresh.absent
+
+  opens : Shut (version_at (kind_of d) c) m ws → OpensChanged n m y.table (under d) (under news)
+  opens shut =
+      let s = body_stage n m ws slot p un (body p (entry_words pair)) (body_puts p (entry_words pair)) in
+      new_opens n m ws p slot un.low un.in_index un.long un.even un.none un.free key l s (under d) (under news) payload_is (entry_shut (kind_of d) fresh.keyed c m ws shut) lacks right
+
   pub places_key : Shut (version_at (kind_of d) c) m ws → (was : TableUse) → Changing texts t y (record { content = d; table = was }) p [] (record { content = news; table = use_with c (p + 1) })
   places_key shut was = record {
     puts = tt;
-    clear = clear_in laws.first_pair laws.first_element texts y.block fresh.before c p (p + 1) d news ws y.table fresh.is_class fresh.keyed now.1 fresh.says now.0 same;
+    clear = clear_in laws.first_pair laws.first_element texts y.block fresh.before c p (p + 1) d news ws y.table fresh.is_class fresh.keyed now.1 fresh.says now.0 same (opens shut);
     odd = let o = opened_now in let e = un.even in omega (arith, o, e);
     close = close;
     stands = stands_raised laws.versions texts y.block y.table c (p + 1) news keyed_news fresh.is_class now.0 p (entry_field n y.table p 0 + 1);

@@ -22,7 +22,7 @@ use Rattle.ft_layout.proofs.ContentLaws.{stands_for_dict, stands_for_set}
 use Rattle.ft_layout.proofs.Powers.{slots_range}
 use Rattle.ft_trace.specs.Acts.{has_committed}
 use Rattle.ft_trace.specs.Addresses.{class_of, slots, size}
-use Rattle.ft_trace.specs.Carefuls.{HasLiveKey, IsDead}
+use Rattle.ft_trace.specs.Carefuls.{HasLiveKey, IsDead, OpensChanged, said_of}
 use Rattle.ft_trace.specs.Kinds.{under, rows, version_at, CarefulAs, ClearAs, IsKeyed}
 use Rattle.ft_trace.specs.OddVersions.{Shut}
 use Rattle.ft_trace.specs.Pictures.{ContainerWords, root_in, entry_offset, entry_field, Represents}
@@ -36,7 +36,7 @@ use Rattle.ft_trace.proofs.ByKind.{keyed_fit, keyed_low}
 use Rattle.ft_trace.proofs.DictWrites as dict
 use Rattle.ft_trace.proofs.DictWrites.{EntryVersionsChangeNothing}
 use Rattle.ft_trace.proofs.SetKnown as set
-use Rattle.ft_trace.proofs.EntryPuts.{dead_open, dead_kind, dead_same, dead_late, dead_shut, dead_is}
+use Rattle.ft_trace.proofs.EntryPuts.{dead_open, dead_kind, dead_same, dead_late, dead_shut, dead_is, dead_opens}
 use Rattle.ft_trace.proofs.FitCalls.{dict_fits_words, set_fits_words}
 use Rattle.ft_trace.proofs.KeysDeleted as deleted
 use Rattle.ft_trace.proofs.SetDiscards as discarded
@@ -80,7 +80,8 @@ record Entries (texts : List ℕ) (t : ℕ) (tab : TableUse) : Type 1 where
   deleted : (block words other : List ℕ) (had : Had) (is : IsWords block words had) (place : ℕ) (item : Item) → slice_get (used block words had is) place ≡ Some (used_item item) → IsBlock other (Some (class_of t)) (count (without had (used_item item).key)) tab.fill (next had)
       → IsWords other (with_deleted (class_mask (class_of t)) words place (used_item item).key) (without had (used_item item).key)
   clear : (block before : List ℕ) (had news : Had) (ws zs : List ℕ) → IsWords before (0 ∷ 0 ∷ ws) had → IsWords block (0 ∷ 0 ∷ zs) news
-      → ((q w : ℕ) → q < rows (kind_of (content_of had)) (class_of t) → entry_field (slots (class_of t)) zs q 0 % 2 ≡ 0 → w < 8 → entry_field (slots (class_of t)) zs q w ≡ entry_field (slots (class_of t)) ws q w) → ClearAs (kind_of (content_of had)) texts (class_of t) zs (content_of had) (content_of news)
+      → ((q w : ℕ) → q < rows (kind_of (content_of had)) (class_of t) → entry_field (slots (class_of t)) zs q 0 % 2 ≡ 0 → w < 8 → entry_field (slots (class_of t)) zs q w ≡ entry_field (slots (class_of t)) ws q w) → OpensChanged (slots (class_of t)) (rows (kind_of (content_of had)) (class_of t)) zs (under (content_of had)) (under (content_of news)) → ClearAs (kind_of (content_of had)) texts (class_of t) zs (content_of had) (content_of news)
+  there : (block ws : List ℕ) (had : Had) → IsWords block (0 ∷ 0 ∷ ws) had → (place : ℕ) (key : Key) → place < rows (kind_of (content_of had)) (class_of t) → HasLiveKey (slots (class_of t)) ws place key → under (content_of had) key ≡ said_of (slots (class_of t)) ws place
   gone : (block words : List ℕ) (had : Had) → IsWords block words had → (key other : Key) → FitsKey key → (key_kind other ≡ key_kind key) × (key_payload other ≡ key_payload key) → under (content_of (without had key)) other ≡ []
 
 abbrev dict_entries : DictLaws → (texts : List ℕ) (t : ℕ) (tab : TableUse) → IsClass (class_of t) → tab.class ≡ Some (class_of t) → Entries texts t tab
@@ -108,6 +109,7 @@ dict_entries laws texts t tab is_class class_eq = record {
   shorter = λ block words had is place item at. (laws.shrinks is.used had place item is.entries (stands_for_dict texts block words (Some (class_of t)) tab.fill had is) at).1;
   deleted = λ block words other. laws.deletes texts block words other (class_of t) tab.fill;
   clear = λ block before. dict.dict_clear laws.first texts block before (class_of t) tab.fill tab.fill is_class;
+  there = λ block ws had is. dict.dict_right laws.first texts block (class_of t) tab.fill is_class had ws is;
   gone = λ block words had is key other fits. deleted.none_under had key other fits (dict_fits_words texts block words (class_of t) tab.fill had is);
 }
 
@@ -136,6 +138,7 @@ set_entries laws texts t tab is_class class_eq = record {
   shorter = λ block words had is place item at. (laws.shrinks is.used had place item is.entries (stands_for_set texts block words (Some (class_of t)) tab.fill had is) at).1;
   deleted = λ block words other. laws.deletes texts block words other (class_of t) tab.fill;
   clear = λ block before. set.set_clear laws.first texts block before (class_of t) tab.fill tab.fill is_class;
+  there = λ block ws had is. set.set_right laws.first texts block (class_of t) tab.fill is_class had ws is;
   gone = λ block words had is key other fits. discarded.none_under had key other fits (set_fits_words texts block words (class_of t) tab.fill had is);
 }
 
@@ -248,11 +251,18 @@ module _ (texts : List ℕ) (x : ContainerWords) (tab : TableUse) (t : ℕ) (is_
   shut_then : Shut (version_at k c) m (slice_set put (entry_offset n p 0) (entry_field n put p 0 + 1))
   shut_then q less = subst (λ (z : ℕ × ℕ). slice_index (slice_set put (entry_offset n p 0) z.0) z.1 % 2 ≡ 0) (λ d. (next d, sym (keyed_version k (e.keyed had) c q) d)) (dead_shut n m ws p key low long even live shut_at q less)
 
+  -- the key was there, and isn't there any more
+  opens_changed : OpensChanged n m put (under old) (under (e.content_of news))
+  opens_changed =
+      dead_opens n m ws p key low long even live (under old) (under (e.content_of news)) shut_at
+      (λ bare. let x : said_of n ws p ≡ [] = sym (e.there b ws had says p key low live) ∙ bare in absurd (cc))
+      (e.gone b (0 ∷ 0 ∷ ws) had says key key fits (refl, refl))
+
   key_deleted : Changing texts t x (record { content = old; table = tab }) p (deletion t p key x) (record { content = e.content_of news; table = tab }) × (0 < slice_index b 1)
   key_deleted = (
     record {
       puts = early;
-      clear = e.clear block b had news ws put says now (dead_same n m ws p key low long even live);
+      clear = e.clear block b had news ws put says now (dead_same n m ws p key low long even live) opens_changed;
       odd = let o = odd in let two_divides = even in omega (arith, o, two_divides);
       close = close;
       stands = e.stands (raised_at t p (record { block = block; table = put })) news (renewed block put (entry_field n put p 0 + 1) news now).0;

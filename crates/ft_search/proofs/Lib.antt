@@ -16,6 +16,7 @@ pub mod Laws
 pub mod Spotting
 pub mod Calling
 pub mod OtherValues
+pub mod SameValues
 mod Costing
 pub mod IndexWordsStay
 mod Bounding

@@ -49,6 +49,9 @@ use Rattle.ft_bank.proofs.KnownAfterWrites.{put_then, work_knows}
 use Rattle.ft_search.specs.OneEntryWrites.{HasTable, IsLiveEntry, MayWriteEntries, raised_at, with_value_at}
 use Rattle.ft_search.proofs.Changing.{Changing, kind_is, live_item, put_at, shut_known, table_version_put}
 use Rattle.ft_search.proofs.Puts.{table_class}
+use Rattle.ft_trace.proofs.LookReplies.{value_said}
+use Rattle.ft_trace.proofs.FitCalls.{dict_fits_words}
+use Rattle.ft_search.proofs.SameValues.{value_again}
 
 -- words that are put where they stand
 pub set_own : (l : List ℕ) (i x : ℕ) → x ≡ slice_index l i → slice_set l i x ≡ l
@@ -171,8 +174,14 @@ module _ (laws : ValueLaws) (texts : List ℕ) (x : ContainerWords) (tab : Table
       let p1 : MayPut kind.Dict t before false x (to_table (entry_offset n p 0) (ver + 1)) = (names, inside 0 (omega arith), value_open n m ws was will p key kw pw low long even live, time 0 (ver + 1) (omega arith) (λ _. omega (arith, e))) in
       (p1, (p2, (p3, tt)))
 
-  clear : ClearAs kind.Dict texts c put (content.Dict pairs) (content.Dict news)
-  clear = value_clear n m ws (under (content.Dict pairs)) (under (content.Dict news)) p key kw pw low long even live right_before right_now live_now (walk_of kind.Dict texts c)
+  -- the words of the entry are those of the value: then it is the value at the key, and the dict is as it was
+  pub same_again : entry_field n ws p 4 ≡ kw → entry_field n ws p 5 ≡ pw → dict_set pairs key value ≡ pairs
+  same_again is_kind is_payload =
+      value_again pairs key value in_order
+      (value_said pairs key fits_key (dict_fits_words texts b (0 ∷ 0 ∷ ws) c fill pairs says) value fits (entry_field n ws p 4) (entry_field n ws p 5) (entry_field n ws p 6) (right_before p key low live) is_kind is_payload)
+
+  clear : (entry_field n ws p 4 ≡ kw → entry_field n ws p 5 ≡ pw → ⊥) → Shut (λ q. entry_offset n q 0) m ws → ClearAs kind.Dict texts c put (content.Dict pairs) (content.Dict news)
+  clear other shut = value_clear n m ws (under (content.Dict pairs)) (under (content.Dict news)) p key kw pw low long even live right_before right_now live_now other shut (walk_of kind.Dict texts c)
 
   close : CarefulAs kind.Dict c put (content.Dict news) (entry_offset n p 0) (entry_field n put p 0 + 1)
   close = subst (λ (z : ℕ). CarefulAs kind.Dict c put (content.Dict news) (entry_offset n p 0) z) next (value_late n m ws (under (content.Dict pairs)) (under (content.Dict news)) p key kw pw low long even live right_before right_now live_now)
@@ -183,32 +192,42 @@ module _ (laws : ValueLaws) (texts : List ℕ) (x : ContainerWords) (tab : Table
   shut_after : Shut (λ q. entry_offset n q 0) m ws → Shut (version_at kind.Dict c) (rows kind.Dict c) (slice_set put (entry_offset n p 0) (entry_field n put p 0 + 1))
   shut_after shut = subst (λ (z : ℕ). Shut (version_at kind.Dict c) (rows kind.Dict c) (slice_set put (entry_offset n p 0) z)) next (value_shut n m ws (under (content.Dict pairs)) (under (content.Dict news)) p key kw pw low long even live shut)
 
-  pub value_changes : Shut (λ q. entry_offset n q 0) m ws → Changing texts t x (record { content = content.Dict pairs; table = tab }) p (value_puts n ws p value) (record { content = content.Dict news; table = tab })
-  value_changes shut = record {
+  pub value_changes : Shut (λ q. entry_offset n q 0) m ws → (entry_field n ws p 4 ≡ kw → entry_field n ws p 5 ≡ pw → ⊥) → Changing texts t x (record { content = content.Dict pairs; table = tab }) p (value_puts n ws p value) (record { content = content.Dict news; table = tab })
+  value_changes shut other = record {
     puts = value_early (content.Dict pairs);
-    clear = clear;
+    clear = clear other shut;
     odd = let o = odd in let e = even in omega (arith, o, e);
     close = close;
     stands = ends;
     shut = shut_after shut;
   }
 
--- as the pass knows the dict
+-- the words of an entry of the table are those of this value
+abbrev pub SaysValue : Table → ℕ → Value → ContainerWords → Type 0
+SaysValue table place value x =
+    (entry_field (slots (class_of (table_id table))) x.table place 4 ≡ stored_kind (Plain value)) × (entry_field (slots (class_of (table_id table))) x.table place 5 ≡ stored_payload (Plain value))
+
+-- as the pass knows the dict: another value may be put, or it is the value that is there
 pub values_known : ValueLaws → (k : Shape) (o : ℕ) (table : Table) (v : View) → v.shape ≡ k → ∥ IsReachable v ∥₁ → MayWriteEntries k o v → kind_in k.starts o ≡ kind.Dict → HasTable k o table v → (place : ℕ) (key : Key) (value : Value) → FitsStored (Plain value) → IsLiveEntry k o table place key v
-    → Changing k.texts (table_id table) (held_words o v) (known_state o v) place (value_puts (slots (class_of (table_id table))) (held_words o v).table place value) (record { content = with_value_at (known_state o v).content key value; table = (known_state o v).table })
+    → ((SaysValue table place value (held_words o v) → ⊥) → Changing k.texts (table_id table) (held_words o v) (known_state o v) place (value_puts (slots (class_of (table_id table))) (held_words o v).table place value) (record { content = with_value_at (known_state o v).content key value; table = (known_state o v).table }))
+    × (SaysValue table place value (held_words o v) → with_value_at (known_state o v).content key value ≡ (known_state o v).content)
 values_known laws k o table v shape possible may is has place key value fits entry =
     by (known_state o v).content (known_state o v).table (kind_is k v o shape possible may.locked ∙ is) may.stands
     (subst (λ (z : Kind). place < rows z (class_of (table_id table))) is entry.low)
     (shut_known k v o (table_id table) shape possible may.container may.locked may.even has.root)
   where
     by : (d : Content) (u : TableUse) → kind_of d ≡ kind.Dict → Represents k.texts (held_words o v) (record { content = d; table = u }) → place < rows kind.Dict (class_of (table_id table)) → Shut (version_at (kind_of d) (class_of (table_id table))) (rows (kind_of d) (class_of (table_id table))) (held_words o v).table
-        → Changing k.texts (table_id table) (held_words o v) (record { content = d; table = u }) place (value_puts (slots (class_of (table_id table))) (held_words o v).table place value) (record { content = with_value_at d key value; table = u })
+        → ((SaysValue table place value (held_words o v) → ⊥) → Changing k.texts (table_id table) (held_words o v) (record { content = d; table = u }) place (value_puts (slots (class_of (table_id table))) (held_words o v).table place value) (record { content = with_value_at d key value; table = u }))
+        × (SaysValue table place value (held_words o v) → with_value_at d key value ≡ d)
     by (content.Dict pairs) u e stands low shut =
         let t = table_id table in
         let class = class_known k.texts (held_words o v) (record { content = content.Dict pairs; table = u }) t stands has.root in
         let says : IsDictWords k.texts (held_words o v).block (0 ∷ 0 ∷ (held_words o v).table) (Some (class_of t)) u.fill pairs = subst (λ (z : Option ℕ). IsDictWords k.texts (held_words o v).block (0 ∷ 0 ∷ (held_words o v).table) z u.fill pairs) class stands in
         let long = table_is_long v o t has.root in
-        value_changes laws k.texts (held_words o v) u t (table_class k table has.table_in) pairs says class has.root (omega (arith, long)) place key value (shut place low) low entry.live entry.fits fits shut
+        let is_class = table_class k table has.table_in in (
+          λ other. value_changes laws k.texts (held_words o v) u t is_class pairs says class has.root (omega (arith, long)) place key value (shut place low) low entry.live entry.fits fits shut (λ a b. other (a, b)),
+          λ again. ap content.Dict (same_again laws k.texts (held_words o v) u t is_class pairs says class has.root (omega (arith, long)) place key value (shut place low) low entry.live entry.fits fits again.0 again.1),
+        )
     by (content.Set elements) u e stands low shut = absurd (cc)
     by (content.List values) u e stands low shut = absurd (cc)
     by (content.Deque deque) u e stands low shut = absurd (cc)

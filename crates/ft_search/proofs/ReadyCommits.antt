@@ -17,7 +17,7 @@ use Rattle.ft_trace.specs.declared.View.{View}
 use Rattle.ft_trace.specs.Acts.{has_lock, is_writing, has_emptied, owes, view_after, seen_writes}
 use Rattle.ft_trace.specs.Addresses.{container_count, class_of, slots}
 use Rattle.ft_trace.specs.Holds.{held_words, known_state}
-use Rattle.ft_trace.specs.Kinds.{rows, version_at, CarefulAs, ClearAs, IsKeyed}
+use Rattle.ft_trace.specs.Kinds.{rows, version_at, CarefulAs, ClearAs, IsKeyed, under}
 use Rattle.ft_trace.specs.OddVersions.{Shut, Timely}
 use Rattle.ft_trace.specs.Traces.{IsReachable}
 use Rattle.ft_trace.specs.Pictures.{ContainerWords, root_in, entry_offset, entry_field, Represents}
@@ -33,6 +33,7 @@ use Rattle.ft_bank.proofs.KnownAfterWrites.{work_knows, put_same, plain_write, w
 use Rattle.ft_search.specs.OneEntryWrites.{HasTable, Leaves, MayFinish, MayWriteEntries, WritesEntries, raised_at}
 use Rattle.ft_search.proofs.Calling.{plain_replied}
 use Rattle.ft_search.proofs.Changing.{Changing}
+use Rattle.ft_trace.proofs.Opened.{shut_opens}
 
 -- ---- from the start of a write to its commit
 
@@ -162,11 +163,11 @@ module _ (o : ℕ) (table : Table) (place : ℕ) (called : Call) (said : Reply) 
 
 -- ---- a write that changes nothing
 
-clear_same : (kind : Kind) → IsKeyed kind → (texts : List ℕ) (c : ℕ) (ws : List ℕ) (d : Content) → ClearAs kind texts c ws d d
-clear_same kind.Dict keyed texts c ws d = record { keeps = λ p key low even live. refl; adds = λ key fits none some. absurd (some none) }
-clear_same kind.Set keyed texts c ws d = record { keeps = λ p key low even live. refl; adds = λ key fits none some. absurd (some none) }
-clear_same kind.List keyed texts c ws d = absurd keyed
-clear_same (kind.Deque bound) keyed texts c ws d = absurd keyed
+clear_same : (kind : Kind) → IsKeyed kind → (texts : List ℕ) (c : ℕ) (ws : List ℕ) (d : Content) → Shut (version_at kind c) (rows kind c) ws → ClearAs kind texts c ws d d
+clear_same kind.Dict keyed texts c ws d shut = record { keeps = λ p key low even live. refl; opens = shut_opens (slots c) (rows kind.Dict c) ws (under d) (under d) shut; adds = λ key fits none some. absurd (some none) }
+clear_same kind.Set keyed texts c ws d shut = record { keeps = λ p key low even live. refl; opens = shut_opens (slots c) (rows kind.Set c) ws (under d) (under d) shut; adds = λ key fits none some. absurd (some none) }
+clear_same kind.List keyed texts c ws d shut = absurd keyed
+clear_same (kind.Deque bound) keyed texts c ws d shut = absurd keyed
 
 module _ (k : Shape) (o : ℕ) (v s : View) (f : ℕ) (may : MayWriteEntries k o v) (shape : v.shape ≡ k) (begun : s ≡ view_after (StartWrite o f) v) (called : Call) (said : Reply) (leaves : Leaves o called said (known_state o v) v) where
   low' : o < container_count v.shape
@@ -175,10 +176,16 @@ module _ (k : Shape) (o : ℕ) (v s : View) (f : ℕ) (may : MayWriteEntries k o
   keyed' : IsKeyed (kind_in v.shape.starts o)
   keyed' = subst (λ (z : Shape). IsKeyed (kind_in z.starts o)) (sym shape) may.keyed
 
-  pub nothing_commits : MayCommit s called said
-  nothing_commits =
+  -- no version is odd before the write
+  shut_before : ∥ IsReachable v ∥₁ → (q : ℕ) → root_in (held_words o v) ≡ suc q → Shut (version_at (kind_in v.shape.starts o) (class_of q)) (rows (kind_in v.shape.starts o) (class_of q)) (held_words o v).table
+  shut_before possible q root p row = ∥∥₁_elim {P = slice_index (held_words o v).table (version_at (kind_in v.shape.starts o) (class_of q) p) % 2 ≡ 0} possible (ℕ_set _ _) (λ x. held_shut v o q low' x may.locked may.even root p row)
+
+  pub nothing_commits : ∥ IsReachable v ∥₁ → MayCommit s called said
+  nothing_commits possible =
+      let same : held_words o v ≡ held_words o s = sym (ap (λ (z : View). held_words o z) begun) in
       may_commit o v s s f begun (put_same s o) called said (known_state o v) leaves low' may.left may.owes
-      (λ t names. clear_same (kind_in v.shape.starts o) keyed' v.shape.texts (class_of t) (held_words o s).table (known_state o v).content)
+      (λ t names. clear_same (kind_in v.shape.starts o) keyed' v.shape.texts (class_of t) (held_words o s).table (known_state o v).content
+      (subst (λ (z : ContainerWords). Shut (version_at (kind_in v.shape.starts o) (class_of t)) (rows (kind_in v.shape.starts o) (class_of t)) z.table) same (shut_before possible t (ap root_in same ∙ names))))
 
   module _ (number : ℕ) (snap : Snap) (w : View) (is : w ≡ view_after (Commit called said number snap) s) (committed : Committed s w called) where
     same_held : held_words o w ≡ held_words o v
@@ -197,16 +204,15 @@ module _ (k : Shape) (o : ℕ) (v s : View) (f : ℕ) (may : MayWriteEntries k o
     nothing_shut possible q names p less =
         let root : root_in (held_words o v) ≡ suc q = ap root_in (sym same_held) ∙ names in
         let row : p < rows (kind_in v.shape.starts o) (class_of q) = subst (λ (x : Shape). p < rows (kind_in x.starts o) (class_of q)) shape_now less in
-        let before : slice_index (held_words o v).table (version_at (kind_in v.shape.starts o) (class_of q) p) % 2 ≡ 0 =
-        ∥∥₁_elim {P = slice_index (held_words o v).table (version_at (kind_in v.shape.starts o) (class_of q) p) % 2 ≡ 0} possible (ℕ_set _ _) (λ x. held_shut v o q low' x may.locked may.even root p row) in
+        let before = shut_before possible q root p row in
         subst (λ (x : Shape × ContainerWords). slice_index x.1.table (version_at (kind_in x.0.starts o) (class_of q) p) % 2 ≡ 0) (sym (λ d. (shape_now d, same_held d))) before
 
-    pub nothing_wrote : (stop : ℕ) (x : View) → seen_writes s ≤ number → x ≡ view_after (StopWrite o stop) w → Wrote called said number v x
-    nothing_wrote stop x seen stopped =
+    pub nothing_wrote : ∥ IsReachable v ∥₁ → (stop : ℕ) (x : View) → seen_writes s ≤ number → x ≡ view_after (StopWrite o stop) w → Wrote called said number v x
+    nothing_wrote possible stop x seen stopped =
         let at : o ≡ changes called = sym leaves.changed in
         let stands : Represents s.shape.texts (held_words o w) (known_state o w) = subst (λ (z : Shape). Represents z.texts (held_words o w) (known_state o w)) (sym (ap (λ (z : View). z.shape) begun ∙ shape)) nothing_stands in
         let ends : EndsWrite called said number s x =
-        write_ends called said number stop snap s w w x seen is committed nothing_commits.left
+        write_ends called said number stop snap s w w x seen is committed (nothing_commits possible).left
         (subst (λ (p : ℕ). OnlyPut p w w) at (put_same w o))
         (subst (λ (p : ℕ). root_in (held_words p w) ≡ root_in (held_words p s)) at (ap (λ (z : View). root_in (held_words o z)) is))
         (subst (λ (p : ℕ). Represents s.shape.texts (held_words p w) (known_state p w)) at stands)

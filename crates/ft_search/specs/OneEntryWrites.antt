@@ -1,5 +1,5 @@
 -- What a pass needs that writes the entries of a dict or a set under its lock, and what its call leaves of it.
-use Rattle.std.specs.Prelude.{◌≡◌, ℕ, suc, ◌+◌, ◌-◌, ◌%◌, ◌<◌, true, false, List, ◌∷◌, slice_index}
+use Rattle.std.specs.Prelude.{◌≡◌, ℕ, suc, ◌+◌, ◌-◌, ◌%◌, ◌<◌, true, false, List, ◌∷◌, slice_index, ◌==◌, ◌&&◌, Bool}
 use Rattle.ft_model.specs.declared.call.Call.{Call}
 use Rattle.ft_model.specs.declared.content.Content.{Content}
 use Rattle.ft_model.specs.declared.content.Content.TheVariants as content
@@ -10,7 +10,7 @@ use Rattle.ft_model.specs.Answers.{is_write}
 use Rattle.ft_model.specs.Contents.{dict_del, dict_set, set_discard}
 use Rattle.ft_model.specs.TableUses.{StoredWorld, after_stored, would_pass}
 use Rattle.ft_model.specs.Worlds.{no_hands, IsDeclared}
-use Rattle.ft_layout.specs.Words.{FitsKey}
+use Rattle.ft_layout.specs.Words.{FitsKey, stored_kind, stored_payload}
 use Rattle.ft_trace.specs.declared.Shape.{Shape}
 use Rattle.ft_trace.specs.declared.View.{View}
 use Rattle.ft_trace.specs.Addresses.{container_count, class_of, slots}
@@ -29,6 +29,7 @@ use Rattle.ft_bank.specs.declared.table.Table.{Table}
 use Rattle.ft_bank.specs.TableNames.{table_id, IsTableIn}
 use Rattle.ft_bank.specs.WriteSteps.{MayHave, MayCommit, with_table}
 use Rattle.ft_search.specs.MadeCalls.{IsReplyTo}
+use Rattle.ft_layout.specs.declared.slot.Stored.TheVariants.{Plain}
 
 -- The pass may write the container o, a dict or a set: it has its lock, and its words stand for what the pass knows of
 -- it; no version is odd there, the pass has lowered no count of a class that it hasn't raised again, and it has a call
@@ -109,6 +110,10 @@ pub record MayFinish (o : ℕ) (table : Table) (place : ℕ) (called : Call) (sa
 abbrev pub deletion : ℕ → ℕ → Key → ContainerWords → List Put
 deletion t place key x =
     to_block 1 (slice_index x.block 1 - 1) ∷ delete_puts (slots (class_of t)) x.table place key
+
+-- whether these two words of an entry, the kind and the payload of what it stores, are those of the value
+abbrev pub are_of_value : ℕ → ℕ → Value → Bool
+are_of_value kind payload value = (kind == stored_kind (Plain value)) && (payload == stored_payload (Plain value))
 
 -- what a dict has once a value is at a key (Python manual, Mapping Types); nothing else has values at keys
 abbrev pub with_value_at : Content → Key → Value → Content

@@ -14,7 +14,7 @@ ghost use Rattle.ft_bank.specs.TableNames.{table_id};
 ghost use Rattle.ft_bank.specs.Whole.{OnlyPut, Wrote};
 ghost use Rattle.ft_search.specs.OneEntryWrites.{HasTable, IsLiveEntry, Leaves, MayWriteEntries, WritesEntries, deletion, without_key};
 
-use crate::entries::{put_entry, raise_version};
+use crate::entries::{put_entry, raise_at};
 use crate::finishing::finish_entry;
 use ft_bank::{Bank, Pass, Table};
 use ft_layout::{
@@ -44,12 +44,14 @@ pub fn put_deleted(bank: &Bank, pass: &mut Pass, o: u32, table: Table, place: u6
 {
     let count = bank.read_block(pass, o, COUNT);
     bank.put_block(pass, o, COUNT, count - 1);
-    raise_version(bank, pass, o, table, place);
+    let start = bank.cell_of(table);
+    raise_at(bank, pass, o, table, start, place);
     put_entry(
         bank,
         pass,
         o,
         table,
+        start,
         place,
         entry_word::KEY_KIND,
         gone_kind_of(key),

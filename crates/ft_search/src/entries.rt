@@ -8,7 +8,7 @@ ghost use Rattle.ft_trace.specs.Pictures.{entry_offset, entry_field};
 ghost use Rattle.ft_trace.specs.ContainerStates.{kind_in};
 ghost use Rattle.ft_bank.specs.Passes.{shape_of, view, IsPassOf};
 ghost use Rattle.ft_bank.specs.PassSections.{stack_of};
-ghost use Rattle.ft_bank.specs.TableNames.{table_id};
+ghost use Rattle.ft_bank.specs.TableNames.{table_id, IsPlaceOf};
 ghost use Rattle.ft_bank.specs.Whole.{OnlyLoaded, OnlyPut};
 ghost use Rattle.ft_bank.specs.WriteSteps.{IsCareful, with_table};
 ghost use Rattle.ft_search.specs.OneEntryWrites.{WritesEntries, raised_at};
@@ -33,11 +33,13 @@ pub(crate) fn read_entry(
     pass: &mut Pass,
     o: u32,
     table: Table,
+    start: u64,
     place: u64,
     word: u64,
 ) -> u64
     requires pass { IsPassOf bank.now pass.old }
     requires writes { WritesEntries (shape_of bank.now) o table (view pass.old) }
+    requires start { IsPlaceOf (shape_of bank.now) table start }
     requires place { place < rows (kind_in (shape_of bank.now).starts o) (class_of (table_id table)) }
     requires word { word < 8 }
     ensures pass { IsPassOf bank.now pass.new }
@@ -49,7 +51,7 @@ pub(crate) fn read_entry(
 {
     let _ = o;
     let at = word_at(mask_of(table.class), place, word);
-    bank.read_table(pass, table, at)
+    bank.read_word(pass, table, start, at)
 }
 
 /// Puts a word of an entry of a container that the pass writes.
@@ -58,12 +60,14 @@ pub(crate) fn put_entry(
     pass: &mut Pass,
     o: u32,
     table: Table,
+    start: u64,
     place: u64,
     word: u64,
     value: u64,
 )
     requires pass { IsPassOf bank.now pass.old }
     requires writes { WritesEntries (shape_of bank.now) o table (view pass.old) }
+    requires start { IsPlaceOf (shape_of bank.now) table start }
     requires place { place < rows (kind_in (shape_of bank.now).starts o) (class_of (table_id table)) }
     requires word { word < 8 }
     requires care { IsCareful (view pass.old) o (table_id table) (entry_offset (slots (class_of (table_id table))) place word)
@@ -76,7 +80,7 @@ pub(crate) fn put_entry(
         ≡ with_table (held_words o (view pass.old)) (entry_offset (slots (class_of (table_id table))) place word) value }
 {
     let at = word_at(mask_of(table.class), place, word);
-    bank.put_table(pass, o, table, at, value);
+    bank.put_word(pass, o, table, start, at, value);
 }
 
 /// Raises the version of an entry by one, which makes it odd before the commit and even after it.
@@ -92,12 +96,31 @@ pub fn raise_version(bank: &Bank, pass: &mut Pass, o: u32, table: Table, place: 
     ensures only { OnlyPut o (view pass.old) (view pass.new) }
     ensures words { held_words o (view pass.new) ≡ raised_at (table_id table) place (held_words o (view pass.old)) }
 {
-    let version = read_entry(bank, pass, o, table, place, entry_word::VERSION);
+    let start = bank.cell_of(table);
+    raise_at(bank, pass, o, table, start, place);
+}
+
+/// The same, by where the table's words lie.
+pub(crate) fn raise_at(bank: &Bank, pass: &mut Pass, o: u32, table: Table, start: u64, place: u64)
+    requires pass { IsPassOf bank.now pass.old }
+    requires writes { WritesEntries (shape_of bank.now) o table (view pass.old) }
+    requires start { IsPlaceOf (shape_of bank.now) table start }
+    requires place { place < rows (kind_in (shape_of bank.now).starts o) (class_of (table_id table)) }
+    requires care { IsCareful (view pass.old) o (table_id table) (entry_offset (slots (class_of (table_id table))) place 0)
+        (entry_field (slots (class_of (table_id table))) (held_words o (view pass.old)).table place 0 + 1) }
+    ensures pass { IsPassOf bank.now pass.new }
+    ensures stack { stack_of pass.new ≡ stack_of pass.old }
+    ensures writes { WritesEntries (shape_of bank.now) o table (view pass.new) }
+    ensures only { OnlyPut o (view pass.old) (view pass.new) }
+    ensures words { held_words o (view pass.new) ≡ raised_at (table_id table) place (held_words o (view pass.old)) }
+{
+    let version = read_entry(bank, pass, o, table, start, place, entry_word::VERSION);
     put_entry(
         bank,
         pass,
         o,
         table,
+        start,
         place,
         entry_word::VERSION,
         version + 1,

@@ -18,6 +18,7 @@ use ft_model::{Call, Reply};
 
 /// Raises the counter for a call, and makes the versions of the entry at a place and of the container even
 /// again. Answers the number of the write.
+#[inline(always)]
 pub fn finish_entry(
     bank: &Bank,
     pass: &mut Pass,

@@ -62,6 +62,7 @@ impl<'a> TableWords<'a> {
     }
 
     /// The words of the value of the entry at which a search ended, if it ended at one.
+    #[inline(always)]
     fn read_found(&mut self, found: Found) -> Option<(u64, u64)>
         requires can { CanLoad self.old }
         requires knows { KnowsWords self.old }

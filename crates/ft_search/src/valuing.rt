@@ -14,13 +14,13 @@ ghost use Rattle.ft_trace.specs.ContainerStates.{kind_in};
 ghost use Rattle.ft_trace.specs.WholeWrites.{MayPuts, with_puts};
 ghost use Rattle.ft_bank.specs.Passes.{shape_of, view, IsPassOf};
 ghost use Rattle.ft_bank.specs.PassSections.{stack_of};
-ghost use Rattle.ft_bank.specs.TableNames.{table_id};
+ghost use Rattle.ft_bank.specs.TableNames.{table_id, IsPlaceOf};
 ghost use Rattle.ft_bank.specs.Whole.{OnlyPut, Wrote};
 ghost use Rattle.ft_bank.specs.WriteSteps.{IsCareful, with_table};
-ghost use Rattle.ft_search.specs.OneEntryWrites.{HasTable, IsLiveEntry, Leaves, MayWriteEntries, WritesEntries, with_value_at};
+ghost use Rattle.ft_search.specs.OneEntryWrites.{HasTable, IsLiveEntry, Leaves, MayWriteEntries, WritesEntries, are_of_value, with_value_at};
 
-use crate::entries::{put_entry, raise_version};
-use crate::finishing::finish_entry;
+use crate::entries::{put_entry, raise_at};
+use crate::finishing::{finish_entry, write_nothing};
 use ft_bank::{Bank, Pass, Table};
 use ft_layout::{
     Stored, entry_word, stored_kind_of, stored_payload_of, used_entries_follow_a_dict,
@@ -34,6 +34,7 @@ fn put_other(
     pass: &mut Pass,
     o: u32,
     table: Table,
+    start: u64,
     place: u64,
     word: u64,
     found: u64,
@@ -41,6 +42,7 @@ fn put_other(
 )
     requires pass { IsPassOf bank.now pass.old }
     requires writes { WritesEntries (shape_of bank.now) o table (view pass.old) }
+    requires start { IsPlaceOf (shape_of bank.now) table start }
     requires place { place < rows (kind_in (shape_of bank.now).starts o) (class_of (table_id table)) }
     requires word { word < 8 }
     requires found { found ≡ entry_field (slots (class_of (table_id table))) (held_words o (view pass.old)).table place word }
@@ -54,7 +56,7 @@ fn put_other(
         ≡ with_table (held_words o (view pass.old)) (entry_offset (slots (class_of (table_id table))) place word) value }
 {
     if found != value {
-        put_entry(bank, pass, o, table, place, word, value);
+        put_entry(bank, pass, o, table, start, place, word, value);
     }
 }
 
@@ -88,12 +90,14 @@ pub fn put_value(
     let stored = Stored::Plain(value);
     let kind_word = stored_kind_of(stored);
     let payload = stored_payload_of(stored);
-    raise_version(bank, pass, o, table, place);
+    let start = bank.cell_of(table);
+    raise_at(bank, pass, o, table, start, place);
     put_other(
         bank,
         pass,
         o,
         table,
+        start,
         place,
         entry_word::VALUE_KIND,
         old.0,
@@ -104,6 +108,7 @@ pub fn put_value(
         pass,
         o,
         table,
+        start,
         place,
         entry_word::VALUE,
         old.1,
@@ -111,8 +116,16 @@ pub fn put_value(
     );
 }
 
+/// Whether these words of an entry, which were read, say a value.
+pub fn says_value(words: (u64, u64), value: Value) -> bool
+    ensures { result ≡ are_of_value words.0 words.1 value }
+{
+    let stored = Stored::Plain(value);
+    words.0 == stored_kind_of(stored) && words.1 == stored_payload_of(stored)
+}
+
 /// Puts a value at a key that is there, as the write of this call: in the entry at a place, whose words were
-/// read. Answers the number of the write.
+/// read. An entry that has the value already is left alone. Answers the number of the write.
 #[inline(always)]
 pub fn set_entry(
     bank: &Bank,
@@ -148,6 +161,9 @@ pub fn set_entry(
     versions_change_nothing();
     used_entries_follow_a_dict();
     words_follow_a_dict();
+    if says_value(old, value) {
+        return write_nothing(bank, pass, d, called, said);
+    }
     bank.start_write(pass, d);
     put_value(bank, pass, d, table, place, value, old);
     finish_entry(bank, pass, d, table, place, called, said)

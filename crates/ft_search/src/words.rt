@@ -45,12 +45,12 @@ impl<'a> Words for TableWords<'a> {
 
     fn put_index(&mut self, slot: u64, value: u64) {
         self.bank
-            .put_table(self.pass, self.o, self.table, slot, value);
+            .put_word(self.pass, self.o, self.table, self.start, slot, value);
     }
 
     fn put_entry(&mut self, place: u64, word: u64, value: u64) {
         let at = 8 * place + word + self.mask + 1;
         self.bank
-            .put_table(self.pass, self.o, self.table, at, value);
+            .put_word(self.pass, self.o, self.table, self.start, at, value);
     }
 }

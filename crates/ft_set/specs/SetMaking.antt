@@ -56,27 +56,33 @@ FitsSet allocates k (call.Set o sc) =
     × (cursor_of_set sc ≡ None) × (copies_set sc ≡ true → allocates ≡ true)
 FitsSet allocates k other = ⊥
 
+-- The call adds or discards one element, and names a set and a key of the bank.
+abbrev pub FitsElement : Shape → Call → Type 0
+FitsElement k (call.Set o (set.Add key)) = IsSetIn k o × IsKeyIn k key
+FitsElement k (call.Set o (set.Discard key)) = IsSetIn k o × IsKeyIn k key
+FitsElement k other = ⊥
+
 -- what a call on the set o comes to
-abbrev pub MakesAs : Shape → ℕ → SetCall → Made → View → View → Type 0
-MakesAs k o (set.Has key) made v w = IsRead (call.Set o (set.Has key)) made v w
-MakesAs k o set.Len made v w = IsRead (call.Set o set.Len) made v w
-MakesAs k o (set.Add key) made v w =
+abbrev pub SetCallMakes : Shape → ℕ → SetCall → Made → View → View → Type 0
+SetCallMakes k o (set.Has key) made v w = IsRead (call.Set o (set.Has key)) made v w
+SetCallMakes k o set.Len made v w = IsRead (call.Set o set.Len) made v w
+SetCallMakes k o (set.Add key) made v w =
     ComesTo (PutsKey k o key (call.Set o (set.Add key)) reply.Done) reply.Done made v w
-MakesAs k o (set.Or other) made v w = ComesTo (JoinsBy k o other (call.Set o (set.Or other))) reply.Done made v w
-MakesAs k o (set.Xor other) made v w = ComesTo (PartsBy k o other (call.Set o (set.Xor other))) reply.Done made v w
-MakesAs k o (set.And other) made v w = IsMade (call.Set o (set.And other)) made v w
-MakesAs k o (set.Sub other) made v w = IsMade (call.Set o (set.Sub other)) made v w
-MakesAs k o (set.Discard key) made v w = IsMade (call.Set o (set.Discard key)) made v w
-MakesAs k o (set.Remove key) made v w = IsMade (call.Set o (set.Remove key)) made v w
-MakesAs k o set.Pop made v w = IsMade (call.Set o set.Pop) made v w
-MakesAs k o set.Clear made v w = IsClear (call.Set o set.Clear) made v w
-MakesAs k o set.Items made v w = IsCopy (call.Set o set.Items) made v w
-MakesAs k o (set.Eq other) made v w = IsMade (call.Set o (set.Eq other)) made v w
-MakesAs k o (set.Subset other) made v w = IsMade (call.Set o (set.Subset other)) made v w
-MakesAs k o (set.Disjoint other) made v w = IsMade (call.Set o (set.Disjoint other)) made v w
-MakesAs k o (set.Iter cursor) made v w = ⊥
+SetCallMakes k o (set.Or other) made v w = ComesTo (JoinsBy k o other (call.Set o (set.Or other))) reply.Done made v w
+SetCallMakes k o (set.Xor other) made v w = ComesTo (PartsBy k o other (call.Set o (set.Xor other))) reply.Done made v w
+SetCallMakes k o (set.And other) made v w = IsMade (call.Set o (set.And other)) made v w
+SetCallMakes k o (set.Sub other) made v w = IsMade (call.Set o (set.Sub other)) made v w
+SetCallMakes k o (set.Discard key) made v w = IsMade (call.Set o (set.Discard key)) made v w
+SetCallMakes k o (set.Remove key) made v w = IsMade (call.Set o (set.Remove key)) made v w
+SetCallMakes k o set.Pop made v w = IsMade (call.Set o set.Pop) made v w
+SetCallMakes k o set.Clear made v w = IsClear (call.Set o set.Clear) made v w
+SetCallMakes k o set.Items made v w = IsCopy (call.Set o set.Items) made v w
+SetCallMakes k o (set.Eq other) made v w = IsMade (call.Set o (set.Eq other)) made v w
+SetCallMakes k o (set.Subset other) made v w = IsMade (call.Set o (set.Subset other)) made v w
+SetCallMakes k o (set.Disjoint other) made v w = IsMade (call.Set o (set.Disjoint other)) made v w
+SetCallMakes k o (set.Iter cursor) made v w = ⊥
 
 -- the same of a call of whatever kind
 abbrev pub MakesSet : Shape → Call → Made → View → View → Type 0
-MakesSet k (call.Set o sc) made v w = MakesAs k o sc made v w
+MakesSet k (call.Set o sc) made v w = SetCallMakes k o sc made v w
 MakesSet k other made v w = ⊥

@@ -25,7 +25,7 @@ pub use crate::firsts::pop_locked;
 pub use crate::items::look_items;
 pub use crate::lens::look_len;
 pub use crate::looks::look_has;
-pub use crate::making::SetMaker;
+pub use crate::making::{ElementMaker, SetMaker};
 pub use crate::merges::{or_by, xor_by};
 pub use crate::tries::{
     try_add, try_and, try_clear, try_discard, try_disjoint, try_eq, try_has, try_items, try_len,

@@ -20,7 +20,7 @@ ghost use Rattle.ft_merging.specs.Parting.{PartsBy};
 ghost use Rattle.ft_reads.specs.Clears.{IsClearOf};
 ghost use Rattle.ft_reads.specs.Copies.{IsCopyOf};
 
-use crate::making::SetMaker;
+use crate::making::{ElementMaker, SetMaker};
 use ft_bank::{Bank, Pass};
 use ft_model::{Call, Key, SetCall};
 use ft_section::{Object, Objects, Step};
@@ -109,13 +109,7 @@ pub fn try_add(bank: &Bank, pass: &mut Pass, s: Object, key: Key) -> Step
         container: s,
         call: SetCall::Add { key },
     };
-    try_under_locks(
-        bank,
-        pass,
-        &SetMaker { alloc: None },
-        Objects::One(s),
-        &called,
-    )
+    try_under_locks(bank, pass, &ElementMaker, Objects::One(s), &called)
 }
 
 /// `s |= t` under the locks of both sets, the lower one taken first; a set named twice counts once, and stays as it is
@@ -271,13 +265,7 @@ pub fn try_discard(bank: &Bank, pass: &mut Pass, s: Object, key: Key) -> Step
         container: s,
         call: SetCall::Discard { key },
     };
-    try_under_locks(
-        bank,
-        pass,
-        &SetMaker { alloc: None },
-        Objects::One(s),
-        &called,
-    )
+    try_under_locks(bank, pass, &ElementMaker, Objects::One(s), &called)
 }
 
 /// `s.remove(k)`: raises a KeyError if the element is not contained in the set (Python manual, Set Types).

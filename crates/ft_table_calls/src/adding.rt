@@ -30,6 +30,22 @@ pub enum Added {
     Moved(u64, u64),
 }
 
+impl Added {
+    /// The same, taken apart and put together again. A function that has answered into room in memory isn't in the way
+    /// then of arms whose answer is known.
+    #[inline(always)]
+    pub fn anew(self) -> Added
+        ensures { result ≡ self }
+    {
+        match self {
+            Added::Made(stamp) => Added::Made(stamp),
+            Added::NoTable(class, stamp) => Added::NoTable(class, stamp),
+            Added::Over(stamp) => Added::Over(stamp),
+            Added::Moved(first, second) => Added::Moved(first, second),
+        }
+    }
+}
+
 /// Raises a MemoryError of a class whose count was found 0 just now, in the place of a call that would take a
 /// table of it: its entry, at a load of the counter.
 pub fn answer_no_table(bank: &Bank, pass: &mut Pass, called: &Call, class: u32) -> Stamp

@@ -124,7 +124,7 @@ fn empty_reply(alloc: Global, way: Way) -> Reply
 
 /// All pairs of a dict in their order, or all elements of a set in the order of its walk, as a reply. An `Err` says
 /// that there was no memory for them.
-pub(crate) fn copy_all(
+pub fn copy_all(
     bank: &Bank,
     pass: &mut Pass,
     alloc: Global,

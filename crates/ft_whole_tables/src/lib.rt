@@ -20,6 +20,7 @@ mod values;
 pub use crate::clearing::{clear_keyed, root_table};
 pub use crate::clears::clear_as;
 pub use crate::comparisons::{Comparison, compare_locked, look_comparison};
+pub use crate::copies::copy_all;
 pub use crate::entries::{hash_at, key_at, value_at};
 pub use crate::finding::find_key;
 pub use crate::items::{items_locked, look_all_items};

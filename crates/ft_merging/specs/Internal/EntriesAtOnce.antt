@@ -8,7 +8,7 @@ use Rattle.ft_trace.specs.declared.Shape.{Shape}
 use Rattle.ft_trace.specs.declared.View.{View}
 use Rattle.ft_trace.specs.Acts.{has_committed}
 use Rattle.ft_trace.specs.Addresses.{class_of, slots}
-use Rattle.ft_trace.specs.Carefuls.{IsDead, HasLiveKey}
+use Rattle.ft_trace.specs.Carefuls.{IsDead, HasLiveKey, OpensChanged}
 use Rattle.ft_trace.specs.Holds.{held_words, known_state}
 use Rattle.ft_trace.specs.Kinds.{rows, under}
 use Rattle.ft_trace.specs.Pictures.{entry_field, ContainerWords, Represents}
@@ -29,7 +29,8 @@ NoneDead t m x kept =
     → under kept.content key ≡ []
 
 -- Some of the entries are put, and the counter isn't raised yet. The words stand for this; an entry with an even
--- version says what the container had before. (profile)
+-- version says what the container had before, and one with an odd version is of a key under which it had something
+-- else. (profile)
 pub record IsMidway (k : Shape) (o : ℕ) (table : Table) (mid : ContainerState) (v : View) : Type 0 where
   pub writes : WritesEntries k o table v
   pub early : has_committed o v.log ≡ false
@@ -38,6 +39,8 @@ pub record IsMidway (k : Shape) (o : ℕ) (table : Table) (mid : ContainerState)
       → version_of (table_id table) (held_words o v) p % 2 ≡ 0
       → HasLiveKey (slots (class_of (table_id table))) (held_words o v).table p key
       → under mid.content key ≡ under (known_state o v).content key
+  pub opens : OpensChanged (slots (class_of (table_id table))) (rows (kind_in k.starts o) (class_of (table_id table)))
+      (held_words o v).table (under (known_state o v).content) (under mid.content)
   pub gone : NoneDead (table_id table) (rows (kind_in k.starts o) (class_of (table_id table))) (held_words o v) mid
   pub opened : (p : ℕ) → p < rows (kind_in k.starts o) (class_of (table_id table))
       → version_of (table_id table) (held_words o v) p % 2 ≡ 1 → p < mid.table.fill

@@ -20,7 +20,7 @@ use Rattle.ft_trace.specs.Addresses.{class_of, slots}
 use Rattle.ft_trace.specs.Carefuls.{IsDead, HasLiveKey}
 use Rattle.ft_trace.specs.EntryWrites.{value_puts}
 use Rattle.ft_trace.specs.Holds.{held_words, known_state}
-use Rattle.ft_trace.specs.Kinds.{rows}
+use Rattle.ft_trace.specs.Kinds.{rows, under}
 use Rattle.ft_trace.specs.Pictures.{ContainerWords, entry_field}
 use Rattle.ft_trace.specs.ContainerStates.{kind_in}
 use Rattle.ft_trace.specs.WholeWrites.{Put}
@@ -34,6 +34,7 @@ use Rattle.ft_new_keys.specs.declared.counts.Counts.{Counts}
 use Rattle.ft_new_keys.specs.KeyGrowth.{IsFreeFor, holds}
 use Rattle.ft_new_keys.specs.Placing.{StoresAs, with_key}
 use Rattle.ft_merging.specs.Internal.EntriesAtOnce.{IsMidway, version_of}
+use Rattle.ft_search.specs.OneEntryWrites.{are_of_value}
 
 -- the pair that words of an entry say, if one is there
 abbrev pub pair_in : Slot → Option Pair
@@ -100,7 +101,7 @@ KeepsBelow t place before after =
     → entry_field (slots (class_of t)) after.table p word ≡ entry_field (slots (class_of t)) before.table p word
 
 -- In the container o, which counts this, the keys of the container t are put whose entries come before this place of
--- its table; when all are, o has this content and that many used entries. (profile)
+-- its table; when all are, o has this content and that many used entries. No key that it had is out. (profile)
 pub record IsJoining (k : Shape) (o : ℕ) (way : Way) (own : Table) (t : ℕ) (table : Table) (goal : Content) (end : ℕ)
     (place : ℕ) (counts : Counts) (v : View) : Type 0 where
   pub mid : Content
@@ -108,6 +109,7 @@ pub record IsJoining (k : Shape) (o : ℕ) (way : Way) (own : Table) (t : ℕ) (
     content = mid;
     table = record { class = Some (class_of (table_id own)); fill = counts.fill; keys = [] };
   }) v
+  pub kept : (key : Key) → under (known_state o v).content key ≢ [] → under mid key ≢ []
   pub same_kind : kind_of mid ≡ kind_by way
   pub kind_is : kind_in k.starts o ≡ kind_by way
   pub count_is : counts.count ≡ length_of mid
@@ -134,9 +136,11 @@ IsSought k way own key x mid (spot.Free table slot) =
     IsFreeFor k.texts way own.class key x.table slot × IsHeldAt mid key None
 IsSought k way own key x mid spot.Bare = ⊥
 
--- what is put before the commit where a key is that is there: another value, with the entry's version odd; an element
--- of a set has none
+-- what is put before the commit where a key is that is there: a value, with the entry's version odd, where the entry
+-- has another one; an element of a set has none
 abbrev pub stored_puts : ℕ → List ℕ → ℕ → Stored → List Put
-stored_puts n words place (Plain value) = value_puts n words place value
+stored_puts n words place (Plain value) =
+    if are_of_value (entry_field n words place 4) (entry_field n words place 5) value then []
+    else value_puts n words place value
 stored_puts n words place Empty = []
 stored_puts n words place (Boxed block) = []

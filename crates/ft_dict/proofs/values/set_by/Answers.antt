@@ -19,7 +19,8 @@ use Rattle.ft_bank.proofs.ShownReplies.{serials_have_room}
 use Rattle.ft_section.specs.declared.answers.Stamp.{Stamp}
 use Rattle.ft_search.specs.Held.{IsHeldAt}
 use Rattle.ft_search.specs.OneEntryWrites.{Leaves, with_value_at}
-use Rattle.ft_new_keys.specs.KeyGrowth.{AddsKey, IsFreeFor, holds}
+use Rattle.ft_table_calls.specs.declared.adding.Added.{Added}
+use Rattle.ft_new_keys.specs.KeyGrowth.{AddsKey, IsFreeFor, PutsKey, holds}
 use Rattle.ft_new_keys.proofs.Keyed.{knows_here, knows_bare}
 use Rattle.ft_new_keys.proofs.Present.{may_add, puts_absent, puts_present}
 use Rattle.ft_dict.proofs.Deleted as deleted
@@ -85,7 +86,9 @@ add_key-requires-clause-adds c = adds (goal.at.add_key-requires-clause-adds c).A
 pub returns-in-Free-clause-added : goal.returns-in-Free-clause-added
 returns-in-Free-clause-added c =
     let a = c.args in
-    puts_absent (shape_of a.bank.now) a.d a.key (call.Dict a.d (dict.Set a.key a.value)) reply.Done (view a.pass.now) (view c.seek_key.new.pass) (view c.add_key.new.pass) c.seek_key.ensures.keeps c.add_key.result c.in-Free.ensures.spot.3 c.add_key.ensures.added
+    let called = call.Dict a.d (dict.Set a.key a.value) in
+    subst (λ (z : Added). PutsKey (shape_of a.bank.now) a.d a.key called reply.Done (view a.pass.now) (view c.add_key.new.pass) z) (sym c.anew.ensures)
+    (puts_absent (shape_of a.bank.now) a.d a.key called reply.Done (view a.pass.now) (view c.seek_key.new.pass) (view c.add_key.new.pass) c.seek_key.ensures.keeps c.add_key.result c.in-Free.ensures.spot.3 c.add_key.ensures.added)
 
 -- ---- no table
 
@@ -107,4 +110,6 @@ add_key-requires-in-Bare-clause-adds c = adds (goal.at.add_key-requires-in-Bare-
 pub returns-clause-added : goal.returns-clause-added
 returns-clause-added c =
     let a = c.args in
-    puts_absent (shape_of a.bank.now) a.d a.key (call.Dict a.d (dict.Set a.key a.value)) reply.Done (view a.pass.now) (view c.seek_key.new.pass) (view c.add_key-in-Bare.new.pass) c.seek_key.ensures.keeps c.add_key-in-Bare.result c.in-Bare.ensures.spot.1 c.add_key-in-Bare.ensures.added
+    let called = call.Dict a.d (dict.Set a.key a.value) in
+    subst (λ (z : Added). PutsKey (shape_of a.bank.now) a.d a.key called reply.Done (view a.pass.now) (view c.add_key-in-Bare.new.pass) z) (sym c.anew-in-Bare.ensures)
+    (puts_absent (shape_of a.bank.now) a.d a.key called reply.Done (view a.pass.now) (view c.seek_key.new.pass) (view c.add_key-in-Bare.new.pass) c.seek_key.ensures.keeps c.add_key-in-Bare.result c.in-Bare.ensures.spot.1 c.add_key-in-Bare.ensures.added)

@@ -26,12 +26,12 @@ overflow_add-version c =
     let found = c.read_word-version.ensures.found in
     omega (arith, r, found)
 
-pub put_table-requires-clause-word : goal.put_table-requires-clause-word
-put_table-requires-clause-word c =
+pub put_word-requires-clause-word : goal.put_word-requires-clause-word
+put_word-requires-clause-word c =
     subst (λ (z : ℕ). z < size (class_of (table_id c.args.table))) (sym c.word_at.ensures) (inside (shape_of c.args.bank.now) c.args.table c.requires.list.table_in c.args.place 0 c.requires.place (omega arith))
 
-pub put_table-requires-clause-care : goal.put_table-requires-clause-care
-put_table-requires-clause-care c =
+pub put_word-requires-clause-care : goal.put_word-requires-clause-care
+put_word-requires-clause-care c =
     let a = c.args in
     let k = shape_of a.bank.now in
     let v = view a.pass.now in

@@ -1,11 +1,13 @@
-use Rattle.std.proofs.Common.{◌≡◌, ℕ, ◌%◌, sym, ap, ◌∙◌, subst}
+use Rattle.std.proofs.Common.{◌≡◌, ℕ, ◌%◌, sym, ap, ◌∙◌, subst, ◌≢◌, List, inl, inr}
 use Rattle.ft_trace.specs.Pictures.{ContainerWords, item_field}
 use Rattle.ft_trace.specs.Holds.{held_words}
 use Rattle.ft_bank.specs.Passes.{shape_of, view}
-use Rattle.ft_list.specs.ListItemWrites.{PutsItem, with_word}
+use Rattle.ft_list.specs.ListItemWrites.{PutsItem, with_word, stored_words}
 use Rattle.ft_list.proofs.Cares.{long_enough}
 use Rattle.ft_list.proofs.PutItems.{version_one, version_two, item_put}
 use Rattle.ft_list.proofs.items.put_item.Goals as goal
+use Rattle.std.specs.Prelude.{slice_index}
+use Rattle.ft_trace.specs.ItemWords.{said_at}
 
 pub put_word-requires-clause-odd : goal.put_word-requires-clause-odd
 put_word-requires-clause-odd c =
@@ -38,5 +40,13 @@ returns-clause-puts c =
     let is : held_words a.o w ≡ with_word (with_word (with_word (held_words a.o u) a.place 0 o.0) a.place 1 kind) a.place 2 payload =
     c.put_word-2.ensures.words ∙ (ap (λ (z : ContainerWords). with_word z a.place 2 payload) c.put_word.ensures.words ∙ ap (λ (z : ContainerWords). with_word (with_word z a.place 1 kind) a.place 2 payload) o.2) in
     let same : held_words a.o u ≡ held_words a.o (view a.pass.now) = c.read_word-old_payload.ensures.held ∙ c.read_word-old_kind.ensures.held in
+    -- the item said something else
+    let other : stored_words a.stored ≢ said_at (held_words a.o u).table a.place = λ says.
+    let kind_same : c.read_word-old_kind.result ≡ kind = c.read_word-old_kind.ensures.found ∙ (ap (λ (z : ContainerWords). item_field z.table a.place 1) (sym same) ∙ (sym (ap (λ (l : List ℕ). slice_index l 0) says) ∙ sym c.stored_kind_of-kind.ensures)) in
+    let payload_same : c.read_word-old_payload.result ≡ payload = c.read_word-old_payload.ensures.found ∙ (ap (λ (z : ContainerWords). item_field z.table a.place 2) (sym c.read_word-old_payload.ensures.held) ∙ (sym (ap (λ (l : List ℕ). slice_index l 1) says) ∙ sym c.stored_payload_of-payload.ensures)) in
+    elim c.else-old_kind-kind.either [
+      | inl both ↦ both.1 payload_same
+      | inr differs ↦ differs kind_same
+    ] in
     subst (λ (z : ContainerWords). PutsItem a.place a.stored z (held_words a.o w)) same
-    (subst (λ (z : ContainerWords). PutsItem a.place a.stored (held_words a.o u) z) (sym is) (item_put (held_words a.o u) a.place o.0 kind payload low a.stored c.stored_kind_of-kind.ensures c.stored_payload_of-payload.ensures o.1))
+    (subst (λ (z : ContainerWords). PutsItem a.place a.stored (held_words a.o u) z) (sym is) (item_put (held_words a.o u) a.place o.0 kind payload low a.stored c.stored_kind_of-kind.ensures c.stored_payload_of-payload.ensures o.1 other))

@@ -13,12 +13,12 @@ word_at-requires-clause-place c =
     let low = c.requires.place in
     omega (arith, f, low)
 
-pub read_table-requires-clause-word : goal.read_table-requires-clause-word
-read_table-requires-clause-word c =
+pub read_word-requires-clause-word : goal.read_word-requires-clause-word
+read_word-requires-clause-word c =
     subst (λ (z : ℕ). z < size (class_of (table_id c.args.table))) (sym c.word_at.ensures) (inside (shape_of c.args.bank.now) c.args.table c.requires.list.table_in c.args.place c.args.word c.requires.place c.requires.word)
 
 pub returns-clause-found : goal.returns-clause-found
 returns-clause-found c =
     let a = c.args in
-    c.read_table.ensures.held a.o c.requires.list.container c.requires.list.locked c.requires.list.root
+    c.read_word.ensures.held a.o c.requires.list.container c.requires.list.locked c.requires.list.root
     ∙ ap (λ (z : ℕ). slice_index (held_words a.o (view a.pass.now)).table z) c.word_at.ensures

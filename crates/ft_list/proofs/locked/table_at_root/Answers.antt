@@ -6,15 +6,15 @@ use Rattle.ft_bank.specs.TableNames.{IsTableIn}
 use Rattle.ft_list.proofs.Additions.{root_named}
 use Rattle.ft_list.proofs.locked.table_at_root.Goals as goal
 
+pub table_at-requires : goal.table_at-requires
+table_at-requires c t e = c.read_block-root.ensures.table t refl e
+
 pub returns-clause-table : goal.returns-clause-table
 returns-clause-table c table found =
     let k = shape_of c.args.bank.now in
-    let e = c.read_block-root.ensures in
-    subst (λ (z : Option Table). IfSome z (λ q. IsTableIn k q)) found (c.table_named.ensures.in_bank k (λ q x. e.table q refl x))
+    subst (λ (z : Option Table). IfSome z (λ q. IsTableIn k q)) found c.table_at.ensures.in_bank
 
 pub returns-clause-root : goal.returns-clause-root
 returns-clause-root c =
-    let k = shape_of c.args.bank.now in
-    let e = c.read_block-root.ensures in
-    let t = c.table_named.ensures in
-    sym (e.held c.requires.locked) ∙ root_named c.table_named.result c.read_block-root.result t.named (t.none k (λ q x. e.table q refl x))
+    let t = c.table_at.ensures in
+    sym (c.read_block-root.ensures.held c.requires.locked) ∙ root_named c.table_at.result c.read_block-root.result t.named t.none

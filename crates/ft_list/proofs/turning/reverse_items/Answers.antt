@@ -6,12 +6,13 @@ use Rattle.ft_trace.specs.Addresses.{class_of}
 use Rattle.ft_trace.specs.Holds.{held_words}
 use Rattle.ft_bank.specs.Passes.{shape_of, view}
 use Rattle.ft_bank.specs.TableNames.{table_id}
-use Rattle.ft_list.specs.ListItemWrites.{known_items, IsChanging}
+use Rattle.ft_list.specs.ListItemWrites.{known_items}
 use Rattle.ft_list.specs.Reversing.{IsTurning}
 use Rattle.ft_list.proofs.Cares.{table_class}
 use Rattle.ft_list.proofs.Turned.{turning_ends}
 use Rattle.ft_list.proofs.WholeListWrites.{finishing, list_wrote, root_wrote}
 use Rattle.ft_list.proofs.turning.reverse_items.Goals as goal
+use Rattle.ft_list.proofs.ItemWordsPut.{Changed}
 
 pub turn-requires-clause-count : goal.turn-requires-clause-count
 turn-requires-clause-count c = let f = c.begin.ensures.few in let n = c.requires.count in omega (arith, f, n)
@@ -34,7 +35,7 @@ finish-requires-clause-may c =
     let is_class = table_class k a.table c.requires.table.table_in in
     let count : length values ≡ a.count = sym c.requires.count in
     let turning = e.turned values count (b.putting 0 a.count) in
-    let changing = subst (λ (n : ℕ). IsChanging class values news 0 n (held_words a.o u).table) count
+    let changing = subst (λ (n : ℕ). Changed class values news 0 n (held_words a.o u).table) count
     (turning_ends class is_class values (held_words a.o u).table (subst (λ (n : ℕ). IsTurning class values (n / 2) (held_words a.o u).table) (sym count) turning) b.few) in
     let head = subst (λ (n : ℕ). IsBlock (held_words a.o u).block (Some class) n 0 0) (sym (length-reverse values)) (subst (λ (l : List ℕ). IsBlock l (Some class) (length values) 0 0) (sym e.block) b.head) in
     let d = b.did in

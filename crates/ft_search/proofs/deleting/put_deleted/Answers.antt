@@ -16,38 +16,38 @@ second c = put_by (PutBlock c.args.o 1 (c.read_block-count.result - 1)) (view c.
 pub overflow_sub-count : goal.overflow_sub-count
 overflow_sub-count c = let e = c.read_block-count.ensures.held c.requires.writes.locked in let s = c.requires.some in omega (arith, e, s)
 
-pub raise_version-requires-clause-writes : goal.raise_version-requires-clause-writes
-raise_version-requires-clause-writes c =
+pub raise_at-requires-clause-writes : goal.raise_at-requires-clause-writes
+raise_at-requires-clause-writes c =
     let a = c.args in
-    let d = (goal.at.raise_version-requires-clause-writes c).After-put_block in
+    let d = (goal.at.raise_at-requires-clause-writes c).After-put_block in
     counted_writes (shape_of a.bank.now) a.o a.table a.place a.key (view a.pass.now) (view c.read_block-count.new.pass) (view c.put_block.new.pass) c.read_block-count.result c.requires.pass.1 c.requires.writes c.requires.early (first d) (c.read_block-count.ensures.held c.requires.writes.locked) (second d) c.put_block.ensures.held c.requires.may
 
-pub raise_version-requires-clause-care : goal.raise_version-requires-clause-care
-raise_version-requires-clause-care c =
+pub raise_at-requires-clause-care : goal.raise_at-requires-clause-care
+raise_at-requires-clause-care c =
     let a = c.args in
-    let d = (goal.at.raise_version-requires-clause-care c).After-put_block in
+    let d = (goal.at.raise_at-requires-clause-care c).After-put_block in
     opens (shape_of a.bank.now) a.o a.table a.place a.key (view a.pass.now) (view c.read_block-count.new.pass) (view c.put_block.new.pass) c.read_block-count.result c.requires.pass.1 c.requires.writes c.requires.early (first d) (c.read_block-count.ensures.held c.requires.writes.locked) (second d) c.put_block.ensures.held c.requires.may
 
 pub put_entry-requires-clause-care : goal.put_entry-requires-clause-care
 put_entry-requires-clause-care c =
     let a = c.args in
     let d = (goal.at.put_entry-requires-clause-care c).After-put_block in
-    let e = c.raise_version.ensures in
+    let e = c.raise_at.ensures in
     dies (shape_of a.bank.now) a.o a.table a.place a.key (view a.pass.now) (view c.read_block-count.new.pass) (view c.put_block.new.pass) c.read_block-count.result c.requires.pass.1 c.requires.writes c.requires.early (first d) (c.read_block-count.ensures.held c.requires.writes.locked) (second d) c.put_block.ensures.held c.requires.may
-    (view c.raise_version.new.pass) e.only e.words c.gone_kind_of.result c.gone_kind_of.ensures
+    (view c.raise_at.new.pass) e.only e.words c.gone_kind_of.result c.gone_kind_of.ensures
 
 pub returns-clause-only : goal.returns-clause-only
 returns-clause-only c =
     let a = c.args in
     let d = (goal.at.returns-clause-only c).After-put_block in
-    let e = c.raise_version.ensures in
+    let e = c.raise_at.ensures in
     deleted_only (shape_of a.bank.now) a.o a.table a.place a.key (view a.pass.now) (view c.read_block-count.new.pass) (view c.put_block.new.pass) c.read_block-count.result c.requires.pass.1 c.requires.writes c.requires.early (first d) (c.read_block-count.ensures.held c.requires.writes.locked) (second d) c.put_block.ensures.held c.requires.may
-    (view c.raise_version.new.pass) e.only e.words c.gone_kind_of.result c.gone_kind_of.ensures (view c.put_entry.new.pass) c.put_entry.ensures.only
+    (view c.raise_at.new.pass) e.only e.words c.gone_kind_of.result c.gone_kind_of.ensures (view c.put_entry.new.pass) c.put_entry.ensures.only
 
 pub returns-clause-words : goal.returns-clause-words
 returns-clause-words c =
     let a = c.args in
     let d = (goal.at.returns-clause-words c).After-put_block in
-    let e = c.raise_version.ensures in
+    let e = c.raise_at.ensures in
     deleted_words (shape_of a.bank.now) a.o a.table a.place a.key (view a.pass.now) (view c.read_block-count.new.pass) (view c.put_block.new.pass) c.read_block-count.result c.requires.pass.1 c.requires.writes c.requires.early (first d) (c.read_block-count.ensures.held c.requires.writes.locked) (second d) c.put_block.ensures.held c.requires.may
-    (view c.raise_version.new.pass) e.only e.words c.gone_kind_of.result c.gone_kind_of.ensures (view c.put_entry.new.pass) c.put_entry.ensures.words
+    (view c.raise_at.new.pass) e.only e.words c.gone_kind_of.result c.gone_kind_of.ensures (view c.put_entry.new.pass) c.put_entry.ensures.words

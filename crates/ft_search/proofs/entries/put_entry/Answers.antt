@@ -17,14 +17,14 @@ word_at-at-requires-clause-mask c = subst (λ (n : ℕ). n < 65536) (sym c.mask_
 pub word_at-at-requires-clause-place : goal.word_at-at-requires-clause-place
 word_at-at-requires-clause-place c = few_places (shape_of c.args.bank.now) c.args.table (kind_in (shape_of c.args.bank.now).starts c.args.o) c.args.place c.requires.writes.table_in c.requires.writes.keyed c.requires.place
 
-pub put_table-requires-clause-word : goal.put_table-requires-clause-word
-put_table-requires-clause-word c =
+pub put_word-requires-clause-word : goal.put_word-requires-clause-word
+put_word-requires-clause-word c =
     let a = c.args in
     let e : c.word_at-at.result ≡ entry_offset (slots (class_of (table_id a.table))) a.place a.word = c.word_at-at.ensures ∙ entry_is (shape_of a.bank.now) a.table c.mask_of.result a.place a.word c.requires.writes.table_in c.mask_of.ensures in
     subst (λ (n : ℕ). n < size (class_of (table_id a.table))) (sym e) (keyed_low (kind_in (shape_of a.bank.now).starts a.o) c.requires.writes.keyed (class_of (table_id a.table)) a.place a.word c.requires.place c.requires.word)
 
-pub put_table-requires-clause-care : goal.put_table-requires-clause-care
-put_table-requires-clause-care c =
+pub put_word-requires-clause-care : goal.put_word-requires-clause-care
+put_word-requires-clause-care c =
     let a = c.args in
     let e : c.word_at-at.result ≡ entry_offset (slots (class_of (table_id a.table))) a.place a.word = c.word_at-at.ensures ∙ entry_is (shape_of a.bank.now) a.table c.mask_of.result a.place a.word c.requires.writes.table_in c.mask_of.ensures in
     subst (λ (n : ℕ). IsCareful (view a.pass.now) a.o (table_id a.table) n a.value) (sym e) c.requires.care
@@ -33,4 +33,4 @@ pub returns-clause-words : goal.returns-clause-words
 returns-clause-words c =
     let a = c.args in
     let e : c.word_at-at.result ≡ entry_offset (slots (class_of (table_id a.table))) a.place a.word = c.word_at-at.ensures ∙ entry_is (shape_of a.bank.now) a.table c.mask_of.result a.place a.word c.requires.writes.table_in c.mask_of.ensures in
-    c.put_table.ensures.held ∙ ap (λ (n : ℕ). with_table (held_words a.o (view a.pass.now)) n a.value) e
+    c.put_word.ensures.held ∙ ap (λ (n : ℕ). with_table (held_words a.o (view a.pass.now)) n a.value) e

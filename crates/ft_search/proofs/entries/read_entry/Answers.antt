@@ -17,8 +17,8 @@ word_at-at-requires-clause-mask c = subst (λ (n : ℕ). n < 65536) (sym c.mask_
 pub word_at-at-requires-clause-place : goal.word_at-at-requires-clause-place
 word_at-at-requires-clause-place c = few_places (shape_of c.args.bank.now) c.args.table (kind_in (shape_of c.args.bank.now).starts c.args.o) c.args.place c.requires.writes.table_in c.requires.writes.keyed c.requires.place
 
-pub read_table-requires-clause-word : goal.read_table-requires-clause-word
-read_table-requires-clause-word c =
+pub read_word-requires-clause-word : goal.read_word-requires-clause-word
+read_word-requires-clause-word c =
     let a = c.args in
     let e : c.word_at-at.result ≡ entry_offset (slots (class_of (table_id a.table))) a.place a.word = c.word_at-at.ensures ∙ entry_is (shape_of a.bank.now) a.table c.mask_of.result a.place a.word c.requires.writes.table_in c.mask_of.ensures in
     subst (λ (n : ℕ). n < size (class_of (table_id a.table))) (sym e) (keyed_low (kind_in (shape_of a.bank.now).starts a.o) c.requires.writes.keyed (class_of (table_id a.table)) a.place a.word c.requires.place c.requires.word)
@@ -27,5 +27,5 @@ pub returns-clause-found : goal.returns-clause-found
 returns-clause-found c =
     let a = c.args in
     let e : c.word_at-at.result ≡ entry_offset (slots (class_of (table_id a.table))) a.place a.word = c.word_at-at.ensures ∙ entry_is (shape_of a.bank.now) a.table c.mask_of.result a.place a.word c.requires.writes.table_in c.mask_of.ensures in
-    c.read_table.ensures.held a.o c.requires.writes.container c.requires.writes.locked c.requires.writes.root
+    c.read_word.ensures.held a.o c.requires.writes.container c.requires.writes.locked c.requires.writes.root
     ∙ ap (λ (n : ℕ). slice_index (held_words a.o (view a.pass.now)).table n) e

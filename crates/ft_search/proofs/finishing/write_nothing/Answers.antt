@@ -9,7 +9,7 @@ use Rattle.ft_search.proofs.finishing.write_nothing.Goals as goal
 pub commit-number-requires-clause-may : goal.commit-number-requires-clause-may
 commit-number-requires-clause-may c =
     let a = c.args in
-    nothing_commits (shape_of a.bank.now) a.o (view a.pass.now) (view c.start_write.new.pass) c.start_write.result c.requires.may c.requires.pass.1 c.start_write.ensures.1 a.called.now a.said.now c.requires.leaves
+    nothing_commits (shape_of a.bank.now) a.o (view a.pass.now) (view c.start_write.new.pass) c.start_write.result c.requires.may c.requires.pass.1 c.start_write.ensures.1 a.called.now a.said.now c.requires.leaves a.pass.now.possible
 
 pub stop_write-requires-clause-stands : goal.stop_write-requires-clause-stands
 stop_write-requires-clause-stands c =
@@ -27,7 +27,7 @@ pub returns-clause-wrote : goal.returns-clause-wrote
 returns-clause-wrote c =
     let a = c.args in
     let d = c.commit-number.ensures.did in
-    nothing_wrote (shape_of a.bank.now) a.o (view a.pass.now) (view c.start_write.new.pass) c.start_write.result c.requires.may c.requires.pass.1 c.start_write.ensures.1 a.called.now a.said.now c.requires.leaves c.commit-number.result d.0 (view c.commit-number.new.pass) d.1.1 c.commit-number.ensures.committed c.stop_write.result (view c.stop_write.new.pass) c.commit-number.ensures.seen c.stop_write.ensures.1
+    nothing_wrote (shape_of a.bank.now) a.o (view a.pass.now) (view c.start_write.new.pass) c.start_write.result c.requires.may c.requires.pass.1 c.start_write.ensures.1 a.called.now a.said.now c.requires.leaves c.commit-number.result d.0 (view c.commit-number.new.pass) d.1.1 c.commit-number.ensures.committed a.pass.now.possible c.stop_write.result (view c.stop_write.new.pass) c.commit-number.ensures.seen c.stop_write.ensures.1
 
 pub returns-clause-root : goal.returns-clause-root
 returns-clause-root c =

@@ -1,4 +1,4 @@
-use Rattle.std.proofs.Common.{◌≡◌, false, sym, ap, ◌∙◌, subst}
+use Rattle.std.proofs.Common.{◌≡◌, false, sym, ap, ◌∙◌, subst, true≢false}
 use Rattle.ft_model.specs.declared.script.Kind.{Kind}
 use Rattle.ft_trace.specs.declared.View.{View}
 use Rattle.ft_trace.specs.Acts.{has_committed}
@@ -11,14 +11,18 @@ use Rattle.ft_bank.specs.Passes.{shape_of, view}
 use Rattle.ft_bank.specs.TableNames.{table_id}
 use Rattle.ft_trace.specs.Addresses.{class_of, slots}
 use Rattle.ft_trace.specs.EntryWrites.{value_puts}
-use Rattle.ft_search.specs.OneEntryWrites.{with_value_at}
+use Rattle.ft_search.specs.OneEntryWrites.{with_value_at, Leaves}
 use Rattle.ft_search.proofs.Changing.{Changing, kind_is}
 use Rattle.ft_search.proofs.OtherValues.{ValueLaws, values_known}
 use Rattle.ft_search.proofs.ReadyCommits.{entry_finishes, whole_root, whole_write, writes_begun}
 use Rattle.ft_search.proofs.valuing.set_entry.Goals as goal
-use Rattle.ft_search.proofs.valuing.set_entry.Goals.{After-start_write}
+use Rattle.ft_search.proofs.valuing.set_entry.Goals.{After-start_write, After-words_follow_a_dict}
+use Rattle.ft_model.specs.declared.content.Content.{Content}
+use Rattle.ft_layout.specs.declared.slot.Stored.TheVariants.{Plain}
+use Rattle.ft_layout.specs.Words.{stored_kind, stored_payload}
+use Rattle.ft_trace.proofs.Tellings.{both_equal, equal_both}
 
-laws_here : After-start_write → ValueLaws
+laws_here : After-words_follow_a_dict → ValueLaws
 laws_here c =
     let laws = c.versions_change_nothing.ensures in
     record {
@@ -28,9 +32,27 @@ laws_here c =
       follow = c.words_follow_a_dict.ensures.changed;
     }
 
-change : (c : After-start_write) → Changing (shape_of c.args.bank.now).texts (table_id c.args.table) (held_words c.args.d (view c.args.pass.now)) (known_state c.args.d (view c.args.pass.now)) c.args.place (value_puts (slots (class_of (table_id c.args.table))) (held_words c.args.d (view c.args.pass.now)).table c.args.place c.args.value)
+-- ---- the entry has the value
+
+pub write_nothing-requires-clause-leaves : goal.write_nothing-requires-clause-leaves
+write_nothing-requires-clause-leaves c =
+    let a = c.args in
+    let v = view a.pass.now in
+    let says = both_equal a.old.0 (stored_kind (Plain a.value)) a.old.1 (stored_payload (Plain a.value)) (sym c.says_value.ensures ∙ c.if-says_value.true) in
+    let known = values_known (laws_here (goal.at.write_nothing-requires-clause-leaves c).After-words_follow_a_dict) (shape_of a.bank.now) a.d a.table v c.requires.pass.1 a.pass.now.possible c.requires.may c.requires.dict c.requires.table a.place a.key a.value c.requires.value c.requires.entry in
+    let same = known.1 (sym c.requires.old_kind ∙ says.0, sym c.requires.old_payload ∙ says.1) in
+    subst (λ (z : Content). Leaves a.d a.called.now a.said.now (record { content = z; table = (known_state a.d v).table }) v) same c.requires.leaves
+
+-- ---- it has another one
+
+change : (w : After-words_follow_a_dict) → (c : After-start_write) → Changing (shape_of c.args.bank.now).texts (table_id c.args.table) (held_words c.args.d (view c.args.pass.now)) (known_state c.args.d (view c.args.pass.now)) c.args.place (value_puts (slots (class_of (table_id c.args.table))) (held_words c.args.d (view c.args.pass.now)).table c.args.place c.args.value)
     (record { content = with_value_at (known_state c.args.d (view c.args.pass.now)).content c.args.key c.args.value; table = (known_state c.args.d (view c.args.pass.now)).table })
-change c = values_known (laws_here c) (shape_of c.args.bank.now) c.args.d c.args.table (view c.args.pass.now) c.requires.pass.1 c.args.pass.now.possible c.requires.may c.requires.dict c.requires.table c.args.place c.args.key c.args.value c.requires.value c.requires.entry
+change w c =
+    let a = c.args in
+    (values_known (laws_here w) (shape_of a.bank.now) a.d a.table (view a.pass.now) c.requires.pass.1 a.pass.now.possible c.requires.may c.requires.dict c.requires.table a.place a.key a.value c.requires.value c.requires.entry).0
+    (λ says.
+    let yes = equal_both a.old.0 (stored_kind (Plain a.value)) a.old.1 (stored_payload (Plain a.value)) (c.requires.old_kind ∙ says.0) (c.requires.old_payload ∙ says.1) in
+    true≢false (sym yes ∙ (sym c.says_value.ensures ∙ c.if-says_value.false)))
 
 pub put_value-requires-clause-writes : goal.put_value-requires-clause-writes
 put_value-requires-clause-writes c =
@@ -61,7 +83,7 @@ put_value-requires-clause-may c =
     let k = shape_of a.bank.now in
     let v = view a.pass.now in
     let kind_eq = kind_is k v a.d c.requires.pass.1 a.pass.now.possible c.requires.may.locked in
-    let puts = (change (goal.at.put_value-requires-clause-may c).After-start_write).puts in
+    let puts = (change (goal.at.put_value-requires-clause-may c).After-words_follow_a_dict (goal.at.put_value-requires-clause-may c).After-start_write).puts in
     subst (λ (z : View). MayPuts (kind_in k.starts a.d) (table_id a.table) (known_state a.d z).content false (held_words a.d z) (value_puts (slots (class_of (table_id a.table))) (held_words a.d z).table a.place a.value)) (sym c.start_write.ensures.1)
     (subst (λ (z : Kind). MayPuts z (table_id a.table) (known_state a.d v).content false (held_words a.d v) (value_puts (slots (class_of (table_id a.table))) (held_words a.d v).table a.place a.value)) kind_eq puts)
 
@@ -74,7 +96,7 @@ finish_entry-requires-clause-may c =
     let k = shape_of a.bank.now in
     let v = view a.pass.now in
     let e = c.put_value.ensures in
-    let d = change (goal.at.finish_entry-requires-clause-may c).After-start_write in
+    let d = change (goal.at.finish_entry-requires-clause-may c).After-words_follow_a_dict (goal.at.finish_entry-requires-clause-may c).After-start_write in
     let before : held_words a.d (view c.start_write.new.pass) ≡ held_words a.d v = ap (held_words a.d) c.start_write.ensures.1 in
     entry_finishes k a.d a.table v (view c.start_write.new.pass) (view c.put_value.new.pass) c.start_write.result c.requires.may c.requires.pass.1 c.start_write.ensures.1 e.only a.place (value_puts (slots (class_of (table_id a.table))) (held_words a.d v).table a.place a.value) _ d
     (kind_is k v a.d c.requires.pass.1 a.pass.now.possible c.requires.may.locked)

@@ -12,15 +12,15 @@ use Rattle.ft_search.proofs.WordPlaces.{entry_in, entry_is}
 use Rattle.ft_search.proofs.KnownTableWords.{put_entry_after_header, put_leaves}
 use Rattle.ft_search.proofs.words.TableWordsWords.put_entry.Goals as goal
 
-pub put_table-requires-clause-word : goal.put_table-requires-clause-word
-put_table-requires-clause-word c =
+pub put_word-requires-clause-word : goal.put_word-requires-clause-word
+put_word-requires-clause-word c =
     let s = c.args.self.now in
     let can = c.requires.can.0 in
     entry_in (shape_of s.bank.now) s.table s.mask c.args.place c.args.word can.table can.mask c.requires.place.0
     c.requires.place.1
 
-pub put_table-requires-clause-care : goal.put_table-requires-clause-care
-put_table-requires-clause-care c =
+pub put_word-requires-clause-care : goal.put_word-requires-clause-care
+put_word-requires-clause-care c =
     let s = c.args.self.now in
     let can = c.requires.can.0 in
     subst (λ (i : ℕ). IsCareful (view s.pass.now) s.o (table_id s.table) i c.args.value)
@@ -36,12 +36,12 @@ returns-clause-gave c =
       same = record { bank = refl; pass = refl; o = refl; table = refl; mask = refl; start = refl };
       inside = tt;
       others = λ o low mine names. tt;
-      did = subst (λ (i : ℕ). Did (PutTable s.o t i c.args.value) s.pass.now c.put_table.new.pass) e c.put_table.ensures.did;
+      did = subst (λ (i : ℕ). Did (PutTable s.o t i c.args.value) s.pass.now c.put_word.new.pass) e c.put_word.ensures.did;
       tells = λ k. tt;
       left = λ k.
-          put_leaves (view s.pass.now) (view c.put_table.new.pass) s.o t (8 * c.args.place + c.args.word + s.mask + 1)
+          put_leaves (view s.pass.now) (view c.put_word.new.pass) s.o t (8 * c.args.place + c.args.word + s.mask + 1)
           c.args.value (slice_set (known_words s) (entry_at s.mask c.args.place c.args.word) c.args.value)
-          c.put_table.ensures.did.1 c.put_table.ensures.held
+          c.put_word.ensures.did.1 c.put_word.ensures.held
           (put_entry_after_header (held_words s.o (view s.pass.now)).table s.mask c.args.place c.args.word c.args.value) k;
-      only = put_by (PutTable s.o t (8 * c.args.place + c.args.word + s.mask + 1) c.args.value) (view s.pass.now) (view c.put_table.new.pass) s.o tt c.put_table.ensures.did.1 c.put_table.ensures.keeps;
+      only = put_by (PutTable s.o t (8 * c.args.place + c.args.word + s.mask + 1) c.args.value) (view s.pass.now) (view c.put_word.new.pass) s.o tt c.put_word.ensures.did.1 c.put_word.ensures.keeps;
     }

@@ -11,8 +11,8 @@ use Rattle.ft_search.proofs.WordPlaces.{slot_in}
 use Rattle.ft_search.proofs.KnownTableWords.{put_after_header, put_leaves}
 use Rattle.ft_search.proofs.words.TableWordsWords.put_index.Goals as goal
 
-pub put_table-requires-clause-word : goal.put_table-requires-clause-word
-put_table-requires-clause-word c =
+pub put_word-requires-clause-word : goal.put_word-requires-clause-word
+put_word-requires-clause-word c =
     let s = c.args.self.now in
     let can = c.requires.can.0 in
     slot_in (shape_of s.bank.now) s.table s.mask c.args.slot can.table can.mask c.requires.slot
@@ -24,12 +24,12 @@ returns-clause-gave c =
     record {
       same = record { bank = refl; pass = refl; o = refl; table = refl; mask = refl; start = refl };
       inside = tt;
-      did = c.put_table.ensures.did;
+      did = c.put_word.ensures.did;
       others = λ o low mine names. tt;
       tells = λ k. tt;
       left = λ k.
-          put_leaves (view s.pass.now) (view c.put_table.new.pass) s.o t c.args.slot c.args.value
-          (slice_set (known_words s) (index_at c.args.slot) c.args.value) c.put_table.ensures.did.1
-          c.put_table.ensures.held (put_after_header (held_words s.o (view s.pass.now)).table c.args.slot c.args.value) k;
-      only = put_by (PutTable s.o t c.args.slot c.args.value) (view s.pass.now) (view c.put_table.new.pass) s.o tt c.put_table.ensures.did.1 c.put_table.ensures.keeps;
+          put_leaves (view s.pass.now) (view c.put_word.new.pass) s.o t c.args.slot c.args.value
+          (slice_set (known_words s) (index_at c.args.slot) c.args.value) c.put_word.ensures.did.1
+          c.put_word.ensures.held (put_after_header (held_words s.o (view s.pass.now)).table c.args.slot c.args.value) k;
+      only = put_by (PutTable s.o t c.args.slot c.args.value) (view s.pass.now) (view c.put_word.new.pass) s.o tt c.put_word.ensures.did.1 c.put_word.ensures.keeps;
     }

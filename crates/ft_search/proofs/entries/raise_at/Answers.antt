@@ -7,7 +7,7 @@ use Rattle.ft_bank.specs.TableNames.{table_id}
 use Rattle.ft_bank.specs.WriteSteps.{IsCareful, with_table}
 use Rattle.ft_bank.proofs.KnownAfterWrites.{loaded_put, put_then}
 use Rattle.ft_search.proofs.Puts.{entry_room, careful_loaded}
-use Rattle.ft_search.proofs.entries.raise_version.Goals as goal
+use Rattle.ft_search.proofs.entries.raise_at.Goals as goal
 
 pub overflow_add-version : goal.overflow_add-version
 overflow_add-version c =

@@ -1,12 +1,13 @@
--- A write that is made at once, with no call in flight and no section open: what one try of it leaves of its caller.
+-- A call on containers that is made at once, with no call in flight and no section open: what one try of it leaves of its caller.
 use Rattle.std.proofs.Common.{◌≡◌, ◌+◌, ◌-◌, ℕ, List, [], ◌∷◌, ◌++◌, length, refl, sym, ap, ◌∙◌, subst, arith, ◌⊎◌, inl, inr, true≢false}
-use Rattle.std.specs.Prelude.{Option, None}
+use Rattle.std.specs.Prelude.{Option, None, false}
 use Rattle.ft_model.specs.declared.call.Call.{Call}
 use Rattle.ft_model.specs.declared.call.Call.TheVariants as call
 use Rattle.ft_model.specs.declared.cursor.Cursor.{Cursor}
 use Rattle.ft_model.specs.declared.entry.Entry.{Entry as NamedEntry}
 use Rattle.ft_model.specs.declared.reply.Reply.{Reply}
 use Rattle.ft_trace.proofs.Owning.{same_locks_only, same_owners}
+use Rattle.ft_trace.specs.declared.View.{View}
 use Rattle.ft_bank.specs.declared.pass.Pass.{Pass}
 use Rattle.ft_bank.specs.Passes.{shape_of, view}
 use Rattle.ft_bank.specs.PassSections.{Stack, stack_of, nothing_taken}
@@ -23,12 +24,13 @@ use Rattle.ft_engine.specs.declared.caller.Caller.{Caller}
 use Rattle.ft_engine.specs.declared.caller.Flight.{Flight}
 use Rattle.ft_engine.specs.declared.caller.Flight.TheVariants as flight
 use Rattle.ft_engine.specs.declared.engine.Engine.{Engine}
-use Rattle.ft_engine.specs.Answering.{HasAnswer, IsTryOfCall}
+use Rattle.ft_engine.specs.Answering.{HasAnswer, HasLooked, IsTryOfCall}
 use Rattle.ft_engine.specs.Asked.{IsOnContainers}
-use Rattle.ft_engine.specs.AtOnce.{IsPlainWrite}
+use Rattle.ft_engine.specs.AtOnce.{IsPlainCall}
 use Rattle.ft_engine.specs.Attempts.{MayAttempt}
 use Rattle.ft_engine.specs.Callers.{IsCallerOf, IsIdle}
 use Rattle.ft_engine.specs.Calling.{IsTried}
+use Rattle.ft_engine.specs.Contentions.{may_look}
 use Rattle.ft_engine.specs.Flights.{IsIn}
 use Rattle.ft_engine.specs.Halves.{IsInHalves}
 use Rattle.ft_engine.specs.Keeping.{WasAnswered, named_entry}
@@ -36,6 +38,7 @@ use Rattle.ft_engine.specs.Stacks.{StackAfter}
 use Rattle.ft_engine.proofs.Callers.{answered_kept, both_halves, done_kept_owners, ended_kept, hands_stay, idle_free, left_kept, moved_caller, waiting_kept}
 use Rattle.ft_engine.proofs.Keeping.{no_answer_idle}
 use Rattle.ft_engine.proofs.TriedAgain.{moved_again, waiting_again}
+use Rattle.ft_engine.proofs.OwnAnswers.{answer_own}
 
 -- what one try of the call comes to, for whatever cursors
 abbrev pub Comes : Engine → Call → Pass → Pass → Step → Type 0
@@ -85,7 +88,7 @@ done_kept e c q called said stamp mine is idle may ready came kept =
     subst (λ (thread : ℕ). WasAnswered (record c { pass = q; made = c.made + 1 }) (mine ++ named_entry thread mine called said stamp None ∷ []))
     (ap (λ (n : ℕ). n - 1) x.0.entry.pass.number) (entries, owners)
 
-pub done_at_once : (e : Engine) (c : Caller) (q : Pass) (called : Call) (said : Reply) (stamp : Stamp) → IsCallerOf e c → IsIdle c → (stack_of c.pass).sections ≡ [] → MayAttempt e c called → IsPlainWrite called → Comes e called c.pass q (step.Done said stamp) → IsTried e called (tried.Done said stamp None) c (record c { pass = q; made = c.made + 1 })
+pub done_at_once : (e : Engine) (c : Caller) (q : Pass) (called : Call) (said : Reply) (stamp : Stamp) → IsCallerOf e c → IsIdle c → (stack_of c.pass).sections ≡ [] → MayAttempt e c called → IsPlainCall called → Comes e called c.pass q (step.Done said stamp) → IsTried e called (tried.Done said stamp None) c (record c { pass = q; made = c.made + 1 })
 done_at_once e c q called said stamp is idle none may plain came =
     let x = came c.cursors.items in
     let a = x.0 in
@@ -118,17 +121,25 @@ done_at_once e c q called said stamp is idle none may plain came =
         taken = (refl, refl, sym ready.1.mark, same_up (stack_of q) ready.0 ready.1.own ready.1.mark, λ has outer top cut. absurd (push_some outer top (sym cut ∙ ready.0)));
         waits = tt;
       });
+      own = λ free. answer_own e.bank called said stamp c.pass q a;
       again = λ no. absurd no;
     }
 
 -- ---- it has none
 
+-- a call that takes its locks from the start is not looked first
+pub not_looked : (called : Call) (v w : View) (result : Step) → may_look called ≡ false → HasLooked called v w result
+not_looked called v w (step.NotYet o owner) locked = λ looks. absurd (true≢false (sym looks ∙ locked))
+not_looked called v w (step.Done said stamp) locked = tt
+not_looked called v w (step.Moved first second) locked = tt
+not_looked called v w step.NoMemory locked = tt
+
 -- without an answer it had none before
 no_half : (f : Flight) (e : Engine) (c : Caller) (q : Pass) (called : Call) (t : Tried) (after : Flight) → f ≡ flight.Idle → IsInHalves flight.Idle e.bank c.cursors.items called c.pass q t after → IsInHalves f e.bank c.cursors.items called c.pass q t after
 no_half f e c q called t after idle half = subst (λ (g : Flight). IsInHalves g e.bank c.cursors.items called c.pass q t after) (sym idle) half
 
-pub waits_at_once : (e : Engine) (c : Caller) (q : Pass) (called : Call) (o owner : ℕ) → IsCallerOf e c → IsIdle c → MayAttempt e c called → IsPlainWrite called → Comes e called c.pass q (step.NotYet o owner) → IsTried e called (tried.NotYet o owner) c (record c { pass = q; flight = flight.Tried called })
-waits_at_once e c q called o owner is idle may plain came =
+pub waits_at_once : (e : Engine) (c : Caller) (q : Pass) (called : Call) (o owner : ℕ) → IsCallerOf e c → IsIdle c → MayAttempt e c called → IsPlainCall called → HasLooked called (view c.pass) (view q) (step.NotYet o owner) → Comes e called c.pass q (step.NotYet o owner) → IsTried e called (tried.NotYet o owner) c (record c { pass = q; flight = flight.Tried called })
+waits_at_once e c q called o owner is idle may plain looked came =
     let x = came c.cursors.items in
     let w = x.2 in
     let d : Caller = record c { pass = q; flight = flight.Tried called } in
@@ -151,12 +162,13 @@ waits_at_once e c q called o owner is idle may plain came =
       kept = λ mine kept. waiting_kept e c d called x.0 o owner mine is no_answer may.next (may.left no_answer) x.1 w x.4 refl kept;
       mark = ap (λ (s : Stack). s.mark) w.stack;
       found = inl w.found.1;
-      looked = λ looks flies. absurd (true≢false (sym looks ∙ plain.locked));
-      halves = no_half c.flight e c q called (tried.NotYet o owner) (flight.Tried called) idle (inl ((x, λ looks. absurd (true≢false (sym looks ∙ plain.locked))), refl));
+      looked = λ looks flies. looked looks;
+      halves = no_half c.flight e c q called (tried.NotYet o owner) (flight.Tried called) idle (inl ((x, looked), refl));
+      own = λ free. tt;
       again = λ comes. waiting_again e c d called x.0 o owner may no_answer w refl refl refl refl;
     }
 
-pub moved_at_once : (e : Engine) (c : Caller) (q : Pass) (called : Call) (first second : ℕ) → IsCallerOf e c → IsIdle c → MayAttempt e c called → IsPlainWrite called → Comes e called c.pass q (step.Moved first second) → IsTried e called (tried.Moved first second) c (record c { pass = q; flight = flight.Tried called })
+pub moved_at_once : (e : Engine) (c : Caller) (q : Pass) (called : Call) (first second : ℕ) → IsCallerOf e c → IsIdle c → MayAttempt e c called → IsPlainCall called → Comes e called c.pass q (step.Moved first second) → IsTried e called (tried.Moved first second) c (record c { pass = q; flight = flight.Tried called })
 moved_at_once e c q called first second is idle may plain came =
     let x = came c.cursors.items in
     let d : Caller = record c { pass = q; flight = flight.Tried called } in
@@ -171,12 +183,13 @@ moved_at_once e c q called first second is idle may plain came =
       found = inl tt;
       looked = tt;
       halves = no_half c.flight e c q called (tried.Moved first second) (flight.Tried called) idle (inl (x, tt));
+      own = λ free. tt;
       again = λ comes. moved_again e c d called may no_answer x.2 refl refl refl refl;
     }
 
 -- ---- there was no memory for it
 
-pub refused_at_once : (e : Engine) (c : Caller) (q : Pass) (called : Call) → IsCallerOf e c → IsIdle c → MayAttempt e c called → IsPlainWrite called → Comes e called c.pass q step.NoMemory → IsTried e called tried.NoMemory c (record c { pass = q; flight = flight.Refused called })
+pub refused_at_once : (e : Engine) (c : Caller) (q : Pass) (called : Call) → IsCallerOf e c → IsIdle c → MayAttempt e c called → IsPlainCall called → Comes e called c.pass q step.NoMemory → IsTried e called tried.NoMemory c (record c { pass = q; flight = flight.Refused called })
 refused_at_once e c q called is idle may plain came =
     let x = came c.cursors.items in
     let d : Caller = record c { pass = q; flight = flight.Refused called } in
@@ -201,5 +214,6 @@ refused_at_once e c q called is idle may plain came =
       found = inl tt;
       looked = tt;
       halves = no_half c.flight e c q called tried.NoMemory (flight.Refused called) idle (inl (x, tt));
+      own = λ free. tt;
       again = λ no. absurd no;
     }

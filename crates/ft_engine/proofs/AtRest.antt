@@ -7,12 +7,13 @@ use Rattle.ft_trace.specs.declared.Act.TheVariants.{ReadCounter, TakeFloor}
 use Rattle.ft_trace.specs.declared.Shape.{Shape}
 use Rattle.ft_trace.specs.declared.Snap.{Snap}
 use Rattle.ft_trace.specs.declared.View.{View}
-use Rattle.ft_trace.specs.Acts.{announces, both, floor_known, floor_words, has_lock, note, view_after, seen_writes, sender, shown}
+use Rattle.ft_trace.specs.Acts.{announces, both, floor_known, floor_words, has_lock, note, view_after, seen_writes, sender, shown, spent}
 use Rattle.ft_trace.specs.Floors.{at_floor}
-use Rattle.ft_trace.specs.Traces.{IsFree, IsQuiet}
+use Rattle.ft_trace.specs.Traces.{IsFree, IsQuiet, IsReachable, run}
 use Rattle.ft_trace.proofs.Cases.{here}
-use Rattle.ft_trace.proofs.Floored.{floored}
+use Rattle.ft_trace.proofs.Floored.{floored, tokens_total}
 use Rattle.ft_trace.proofs.Seeing.{seen_up}
+use Rattle.ft_trace.proofs.Totals.{total_set}
 use Rattle.ft_bank.specs.declared.tokens.Tokens.{Tokens}
 use Rattle.ft_bank.specs.Floors.{carried, rests, stack_at_rest}
 use Rattle.ft_bank.specs.Passes.{view, IsPassOf}
@@ -134,6 +135,13 @@ hands_on c t is =
           ap (λ (z : View). z.floor) is
           ∙ (here v.tokens v.tokens (floor_known v) [] refl ∙ ap (λ (b : Bool). cond b (floor_words v.shape v.number v.log) v.floor) has);
     }
+
+-- no pass has more tokens than there are
+pub tokens_low : (v : View) → IsReachable v → v.tokens ≤ v.shape.passes
+tokens_low v p =
+    let cut = total_set (λ (u : View). u.tokens) (run v.shape p.0).views p.1 v spent p.2.1 in
+    let all = tokens_total v.shape p.0 p.2.0 in
+    omega (arith, cut, all)
 
 -- who has the floor has all tokens
 pub hands_all : (k : Shape) (c : Caller) (t : Tokens) → (view c.pass).shape ≡ k → carried t ≡ note (view c.pass).tokens (view c.pass) → HasFloor c → (carried t).tokens ≡ k.passes

@@ -1,5 +1,5 @@
 -- What `iter` and `next` come to, and the cursors that a caller has then.
-use Rattle.std.proofs.Common.{◌≡◌, ◌≢◌, ◌≤◌, ◌<◌, ◌-◌, ℕ, zero, suc, Bool, false, List, [], ◌∷◌, length, set, refl, sym, ap, ◌∙◌, subst, arith, le_trans, true}
+use Rattle.std.proofs.Common.{◌≡◌, ◌≢◌, ◌≤◌, ◌<◌, ◌-◌, ℕ, zero, suc, Bool, false, true≢false, List, [], ◌∷◌, length, set, refl, sym, ap, ◌∙◌, subst, arith, le_trans, true}
 use Rattle.std.specs.Prelude.{Option, Some, option_map, slice_index_or}
 use Rattle.std.proofs.lemmas.List.{length-set}
 use mathlib.Core.Logic.{dite}
@@ -31,14 +31,14 @@ use Rattle.ft_section.specs.declared.answers.Step.TheVariants as step
 use Rattle.ft_section.specs.Trying.{SectionsAfter}
 use Rattle.ft_iter.specs.CursorCalls.{IsMoveOf, IsOver, KeepsOtherCursors, MovedUnderLock, iter_call, is_landed_cursor}
 use Rattle.ft_bank_history.specs.Marks.{over_after, walked_after}
-use Rattle.ft_engine.specs.Answering.{MakesEntry, AreHandsOfPass, IsTryOfCall, LeavesHands}
+use Rattle.ft_engine.specs.Answering.{MakesEntry, AreHandsOfPass, IsTryOfCall, LeavesHands, StaysPass}
 use Rattle.ft_engine.specs.Callers.{IsOfKindIn}
 use Rattle.ft_engine.specs.Flights.{objects_of}
 use Rattle.ft_engine.specs.Keeping.{made_entry}
 use Rattle.ft_engine.proofs.LooksBefore.{IsPlain, plain_call, tried_of}
 use Rattle.ft_engine.proofs.Outcomes.{Outcome}
 use Rattle.ft_engine.proofs.Within.{WalkedBy, cursor_owners, within_then}
-use Rattle.ft_engine.proofs.SectionCalls.{only_nothing}
+use Rattle.ft_engine.proofs.SectionCalls.{loaded_in, only_nothing, same_nothing}
 
 -- ---- the entry
 
@@ -50,6 +50,7 @@ moved_adds o called said stamp number left v w is some moves others m =
     let u = x.before in
     let l = x.loaded.work in
     let act = AnswerCursor called said stamp.number number (cursor_in number m.before.log) left in
+    let moved : StaysPass u m.after = subst (StaysPass u) (sym x.answered) (record { number = refl; next = refl; parts = refl; shape = refl; lists = refl; online = λ on. on; floor = refl; since = refl; seen = seen_up act u }) in
     record {
       pass = record {
         number = after.pass.number ∙ (ap (λ (z : View). z.number) x.answered ∙ (l.pass.number ∙ before.pass.number));
@@ -70,6 +71,8 @@ moved_adds o called said stamp number left v w is some moves others m =
           let d = after.left in
           let e : v.left ≡ suc w.left = omega (arith, a, b, c, d, some) in e;
       seen = le_trans before.pass.seen x.seen;
+      loaded = λ _. loaded_in stamp.number v m.before m.after w before.pass (record { start = m.before; earlier = (same_nothing m.before).pass; part = x.part; before = u; own = x.own; loaded = x.counted; later = moved }) after.pass;
+      shows = λ wrote. absurd (true≢false (sym wrote ∙ is));
       cursors = λ other apart. others other (λ e. apart (moves ∙ ap (λ (n : ℕ). Some n) (sym e)));
     }
 
@@ -190,7 +193,7 @@ iter_tried b p q hands kind o number had left result some after others x =
     tried_of b p q hands (iter_call kind o number) (One o) (plain_iter kind o number) (iter_names hands kind o number) result after (move_outcome kind o (iter_call kind o number) number had left (view p) (view q) result some (iter_moves kind o number) others x) (iter_walked kind o number had left (view p) (view q) result others x)
 
 plain_next : (number : ℕ) → IsPlain (call.Next number)
-plain_next number = record { sections = λ n log sections. refl; begins = refl; marks = λ marks. refl; ends = λ marks said. tt; leaves = λ s. refl }
+plain_next number = record { sections = λ n log sections. refl; begins = refl; marks = λ marks. refl; ends = λ marks said. tt; leaves = λ s. refl; none = λ v w. tt }
 
 pub next_names : (hands : List (Option Cursor)) (number : ℕ) (walker : Cursor) → cursor_at hands number ≡ Some walker → objects_of hands (call.Next number) ≡ Some (One (container_of walker))
 next_names hands number walker at = ap (λ (z : Option Cursor). option_map (λ w. One (container_of w)) z) at

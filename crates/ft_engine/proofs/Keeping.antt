@@ -30,7 +30,7 @@ use Rattle.ft_engine.specs.Keeping.{AreThreadEntries, named_entry, made_entry, m
 use Rattle.ft_engine.proofs.WaitCounts.{after_map, more_none, open_more, taken_up_marks, wait_counted, waiting_marks}
 
 -- a call without an answer leaves nothing to expect
-unanswered_pending : (f : Flight) → (IsFlightAnswered f → ⊥) → pending f ≡ []
+pub unanswered_pending : (f : Flight) → (IsFlightAnswered f → ⊥) → pending f ≡ []
 unanswered_pending flight.Idle no_answer = refl
 unanswered_pending (flight.Tried called) no_answer = refl
 unanswered_pending (flight.Answered called said stamp) no_answer = absurd (no_answer tt)

@@ -1,7 +1,8 @@
 -- The lists that were kept of callers, when one takes in another, and when it closes the bank.
-use Rattle.std.proofs.Common.{◌≡◌, ◌≢◌, ◌≤◌, ◌<◌, ◌⊎◌, ◌+◌, ◌-◌, ℕ, suc, true, List, [], ◌∷◌, ◌++◌, length, refl, sym, ap, ◌∙◌, subst, ⊎_elim, arith}
+use Rattle.std.proofs.Common.{◌≡◌, ◌≢◌, ◌≤◌, ◌<◌, ◌⊎◌, ◌+◌, ◌-◌, ℕ, suc, true, List, [], ◌∷◌, ◌++◌, length, map, reverse, refl, sym, ap, ◌∙◌, subst, ⊎_elim, arith}
 use Rattle.std.specs.Prelude.{option_map}
-use Rattle.std.proofs.lemmas.List.{length-append}
+use Rattle.std.specs.List.{flat_map}
+use Rattle.std.proofs.lemmas.List.{length-append, length-reverse, nil_from_length}
 use Rattle.ft_model.specs.declared.entry.Entry.{Entry as NamedEntry}
 use Rattle.ft_model.specs.Worlds.{container_of}
 use Rattle.ft_trace.specs.declared.Act.TheVariants.{ReadCounter}
@@ -10,6 +11,7 @@ use Rattle.ft_trace.specs.declared.Owner.{Owner}
 use Rattle.ft_trace.specs.declared.View.{View}
 use Rattle.ft_trace.specs.Acts.{all_lists, both, lists_of, view_after}
 use Rattle.ft_trace.specs.Hands.{cursor_in}
+use Rattle.ft_trace.specs.OwnCursors.{plain_entry}
 use Rattle.ft_trace.specs.Owners.{AreOwners, found_owners, had_locks, is_owner_in}
 use Rattle.ft_trace.proofs.Cases.{miss}
 use Rattle.ft_trace.proofs.Owning.{in_either, in_left, in_right}
@@ -47,13 +49,28 @@ idle_kept c mine idle kept =
     kept.1.marked (idle_named (view c.pass) (stack_of c.pass) c.flight mine (some_number c.pass) idle kept.1)
 
 -- all lists of a caller that is done
-all_kept : (c : Caller) (kept : List (List NamedEntry)) → IsIdle c → WereAnswered c kept → HaveNamedEntries (thread_of c) kept (all_lists (view c.pass)) (had_of c) (found_of c)
+pub all_kept : (c : Caller) (kept : List (List NamedEntry)) → IsIdle c → WereAnswered c kept → HaveNamedEntries (thread_of c) kept (all_lists (view c.pass)) (had_of c) (found_of c)
 all_kept c [] idle are = absurd are
 all_kept c (mine ∷ others) idle are = (idle_kept c mine idle are.0, are.1)
 
 pub closed_kept : (c : Caller) (kept : List (List NamedEntry)) (lists : List (List Entry)) (had found : List Owner) → IsIdle c → thread_of c ≡ 0 → WereAnswered c kept → lists ≡ all_lists (view c.pass) → had ≡ had_of c → found ≡ found_of c → HaveNamedEntries 0 kept lists had found
 closed_kept c kept lists had found idle first are is has finds =
     subst (λ (x : ℕ × List (List Entry) × List Owner × List Owner). HaveNamedEntries x.0 kept x.1 x.2 x.3) (λ d. (first d, sym is d, sym has d, sym finds d)) (all_kept c kept idle are)
+
+-- where the callers were answered nothing, their passes have no entries
+none_own : (mine : List NamedEntry) (entries : List Entry) → map plain_entry mine ≡ reverse entries → mine ≡ [] → entries ≡ []
+none_own mine entries same none =
+    nil_from_length entries (sym (length-reverse entries) ∙ (ap length (sym same) ∙ ap (λ (l : List NamedEntry). length (map plain_entry l)) none))
+
+pub none_made : (thread : ℕ) (kept : List (List NamedEntry)) (lists : List (List Entry)) (had found : List Owner) → HaveNamedEntries thread kept lists had found → flat_map (λ mine. mine) kept ≡ [] → flat_map (λ entries. entries) lists ≡ []
+none_made thread [] [] had found are none = refl
+none_made thread [] (l ∷ ls) had found are none = absurd are
+none_made thread (m ∷ ms) [] had found are none = absurd are
+none_made thread (m ∷ ms) (l ∷ ls) had found are none =
+    let rest = flat_map (λ (mine : List NamedEntry). mine) ms in
+    let sum : length m + length rest ≡ 0 = sym (length-append m rest) ∙ ap length none in
+    let first = none_own m l are.0.same (nil_from_length m (omega (arith, sum))) in
+    ap (λ (own : List Entry). own ++ flat_map (λ (entries : List Entry). entries) ls) first ∙ none_made (suc thread) ms ls had found are.1 (nil_from_length rest (omega (arith, sum)))
 
 -- as many lists as passes that were taken in
 kept_length : (thread : ℕ) (kept : List (List NamedEntry)) (lists : List (List Entry)) (had found : List Owner) → HaveNamedEntries thread kept lists had found → length kept ≡ length lists

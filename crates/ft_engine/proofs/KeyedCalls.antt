@@ -30,10 +30,10 @@ use Rattle.ft_reads.proofs.TriedReads.{clear_try, copy_try}
 use Rattle.ft_search.specs.KeyLooks.{IsLookOf, Stops}
 use Rattle.ft_new_keys.specs.KeyGrowth.{PutsKey}
 use Rattle.ft_dict.specs.DictCopies.{CopiesTo}
-use Rattle.ft_dict.specs.DictMaking.{FitsDict, MakesAs as DictMakesAs, key_of_dict}
+use Rattle.ft_dict.specs.DictMaking.{FitsDict, DictCallMakes, key_of_dict}
 use Rattle.ft_dict.specs.Values.{SetsDefault}
 use Rattle.ft_dict.proofs.DictTries.{default_try}
-use Rattle.ft_set.specs.SetMaking.{FitsSet, MakesAs as SetMakesAs, key_of_set}
+use Rattle.ft_set.specs.SetMaking.{FitsSet, SetCallMakes, key_of_set}
 use Rattle.ft_merging.specs.Joining.{JoinsBy}
 use Rattle.ft_merging.specs.Parting.{PartsBy}
 use Rattle.ft_replacing.specs.Replacing.{IsReplaced}
@@ -79,7 +79,7 @@ copies_outcome k d e v w result left x =
 -- ---- each call that makes no cursor, as it is made under its locks
 
 module _ (k : Shape) (d : ℕ) (v w : View) (r : Step) (left : 0 < v.left) where
-  pub dict_outcome : (dc : DictCall) → cursor_of_dict dc ≡ None → is_landed_dict dc ≡ true → IsTry (objects_by d (other_dict dc)) (DictMakesAs k d dc) v w r → Outcome (call.Dict d dc) (objects_by d (other_dict dc)) v w r
+  pub dict_outcome : (dc : DictCall) → cursor_of_dict dc ≡ None → is_landed_dict dc ≡ true → IsTry (objects_by d (other_dict dc)) (DictCallMakes k d dc) v w r → Outcome (call.Dict d dc) (objects_by d (other_dict dc)) v w r
   dict_outcome (dict.Get key) none landed x = read_outcome d (call.Dict d (dict.Get key)) v w r left (read_try d (call.Dict d (dict.Get key)) v w r x)
   dict_outcome (dict.GetOr key default) none landed x = read_outcome d (call.Dict d (dict.GetOr key default)) v w r left (read_try d (call.Dict d (dict.GetOr key default)) v w r x)
   dict_outcome (dict.Has key) none landed x = read_outcome d (call.Dict d (dict.Has key)) v w r left (read_try d (call.Dict d (dict.Has key)) v w r x)
@@ -104,7 +104,7 @@ module _ (k : Shape) (d : ℕ) (v w : View) (r : Step) (left : 0 < v.left) where
   dict_outcome (dict.Reversed n) none landed x = absurd cc
 
 module _ (k : Shape) (s : ℕ) (v w : View) (r : Step) (left : 0 < v.left) where
-  pub set_outcome : (sc : SetCall) → cursor_of_set sc ≡ None → IsTry (objects_by s (other_set sc)) (SetMakesAs k s sc) v w r → Outcome (call.Set s sc) (objects_by s (other_set sc)) v w r
+  pub set_outcome : (sc : SetCall) → cursor_of_set sc ≡ None → IsTry (objects_by s (other_set sc)) (SetCallMakes k s sc) v w r → Outcome (call.Set s sc) (objects_by s (other_set sc)) v w r
   set_outcome (set.Has key) none x = read_outcome s (call.Set s (set.Has key)) v w r left (read_try s (call.Set s (set.Has key)) v w r x)
   set_outcome set.Len none x = read_outcome s (call.Set s set.Len) v w r left (read_try s (call.Set s set.Len) v w r x)
   set_outcome (set.Add key) none x = let called = call.Set s (set.Add key) in puts_outcome k s key called reply.Done v w r left (added_try (One s) (PutsKey k s key called reply.Done) reply.Done v w r x)

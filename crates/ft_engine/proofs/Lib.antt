@@ -4,6 +4,7 @@ pub mod PassesAfter
 pub mod Within
 pub mod KnownOwners
 pub mod SectionCalls
+pub mod OwnAnswers
 pub mod Callers
 pub mod KeptLists
 pub mod NewCallers
@@ -20,5 +21,7 @@ pub mod CursorCalls
 pub mod KeyedCalls
 pub mod GivingUp
 pub mod AtRest
+pub mod ReadContents
 pub mod LookCalls
 pub mod AtOnce
+pub mod SoFar

@@ -18,7 +18,7 @@ use Rattle.ft_table_calls.specs.TriesUnderLocks.{IsTry}
 use Rattle.ft_table_calls.proofs.TriedCalls.{added_try, made_try, read_try}
 use Rattle.ft_reads.proofs.TriedReads.{clear_try, copy_try}
 use Rattle.ft_list.specs.ListGrowth.{AddsItems, ExtendsBy}
-use Rattle.ft_list.specs.ListMaking.{FitsList, MakesAs}
+use Rattle.ft_list.specs.ListMaking.{FitsList, ListCallMakes}
 use Rattle.ft_engine.specs.Asked.{AreOfKindIn}
 use Rattle.ft_table_calls.specs.TriesUnderLocks.{objects_by}
 use Rattle.ft_engine.proofs.ContainerCalls.{clear_outcome, copy_outcome}
@@ -32,7 +32,7 @@ extend_outcome k objects l m v w result left x = add_outcome objects (ExtendsBy 
 
 -- each call on a list that makes no cursor, as it is made under its locks
 module _ (k : Shape) (l : ℕ) (v w : View) (r : Step) (left : 0 < v.left) where
-  pub list_outcome : (lc : ListCall) → cursor_of_list lc ≡ None → IsTry (objects_by l (other_list lc)) (MakesAs k l lc) v w r → Outcome (call.List l lc) (objects_by l (other_list lc)) v w r
+  pub list_outcome : (lc : ListCall) → cursor_of_list lc ≡ None → IsTry (objects_by l (other_list lc)) (ListCallMakes k l lc) v w r → Outcome (call.List l lc) (objects_by l (other_list lc)) v w r
   list_outcome (list.Append value) none x = adds_outcome k l (call.List l (list.Append value)) 1 v w r left (added_try (One l) (AddsItems k l (call.List l (list.Append value)) 1) reply.Done v w r x)
   list_outcome (list.Insert i value) none x = adds_outcome k l (call.List l (list.Insert i value)) 1 v w r left (added_try (One l) (AddsItems k l (call.List l (list.Insert i value)) 1) reply.Done v w r x)
   list_outcome (list.Extend m) none x = extend_outcome k (Two l m) l m v w r left (added_try (Two l m) (ExtendsBy k l m) reply.Done v w r x)

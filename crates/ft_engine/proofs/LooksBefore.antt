@@ -36,7 +36,7 @@ use Rattle.ft_section.proofs.Goings.{notes_top}
 use Rattle.ft_section.proofs.MidstOfCall.{in_call_stays}
 use Rattle.ft_section.proofs.Resumes.{none_some}
 use Rattle.ft_search.proofs.ReadMidst.{LeavesSections, making_read, still_loaded}
-use Rattle.ft_engine.specs.Answering.{MakesEntry, MakesNoEntry, IsEndOf, IsTryOfCall, KnewLocks, IsLookedIfAny, settled}
+use Rattle.ft_engine.specs.Answering.{HasCollectedFor, MakesEntry, MakesNoEntry, IsEndOf, IsTryOfCall, KnewLocks, IsLookedIfAny, settled}
 use Rattle.ft_bank_history.specs.Marks.{walked_after}
 use Rattle.ft_engine.specs.Asked.{IsOnContainers}
 use Rattle.ft_engine.specs.Contentions.{may_look}
@@ -47,6 +47,7 @@ use Rattle.ft_engine.specs.Stacks.{StackAfter}
 use Rattle.ft_engine.proofs.Outcomes.{Outcome, answered_adds, before_adds, loaded_nothing, moved_then}
 use Rattle.ft_engine.proofs.Within.{WalkedBy, answered_owners, for_then, loaded_owners, looks_still, same_for, walked_none, within_for}
 use Rattle.ft_engine.proofs.SectionCalls.{nothing_entry, nothing_then, only_nothing, same_nothing}
+use Rattle.ft_engine.proofs.OwnAnswers.{for_before}
 
 -- a call on containers begins and ends no section
 pub record IsPlain (called : Call) : Type 0 where
@@ -55,12 +56,13 @@ pub record IsPlain (called : Call) : Type 0 where
   pub marks : (l : List ℕ) → marks_after called l ≡ l
   pub ends : (l : List ℕ) (said : Reply) → IsEndOf called l said
   pub leaves : (s : Stack) → StackAfter called s (with_own s nothing_taken)
+  pub none : (v w : View) → HasCollectedFor called v w
 
 pub plain_call : (called : Call) → IsOnContainers called → IsPlain called
-plain_call (call.Dict o dc) on = record { sections = λ n log sections. refl; begins = refl; marks = λ marks. refl; ends = λ marks said. tt; leaves = λ s. refl }
-plain_call (call.List o lc) on = record { sections = λ n log sections. refl; begins = refl; marks = λ marks. refl; ends = λ marks said. tt; leaves = λ s. refl }
-plain_call (call.Set o sc) on = record { sections = λ n log sections. refl; begins = refl; marks = λ marks. refl; ends = λ marks said. tt; leaves = λ s. refl }
-plain_call (call.Deque o qc) on = record { sections = λ n log sections. refl; begins = refl; marks = λ marks. refl; ends = λ marks said. tt; leaves = λ s. refl }
+plain_call (call.Dict o dc) on = record { sections = λ n log sections. refl; begins = refl; marks = λ marks. refl; ends = λ marks said. tt; leaves = λ s. refl; none = λ v w. tt }
+plain_call (call.List o lc) on = record { sections = λ n log sections. refl; begins = refl; marks = λ marks. refl; ends = λ marks said. tt; leaves = λ s. refl; none = λ v w. tt }
+plain_call (call.Set o sc) on = record { sections = λ n log sections. refl; begins = refl; marks = λ marks. refl; ends = λ marks said. tt; leaves = λ s. refl; none = λ v w. tt }
+plain_call (call.Deque o qc) on = record { sections = λ n log sections. refl; begins = refl; marks = λ marks. refl; ends = λ marks said. tt; leaves = λ s. refl; none = λ v w. tt }
 plain_call (call.Next number) on = absurd on
 plain_call (call.Begin first second) on = absurd on
 plain_call call.End on = absurd on
@@ -100,6 +102,7 @@ tried_of b p q hands called objects plain names (step.Done said stamp) after cam
     mark = ap (λ (s : Stack). s.mark) after.0.stack;
     ends = plain.ends (section_marks (stack_of p)) said;
     walked = walked;
+    collected = plain.none (view p) (view q);
   },
   λ named is locked. subst (λ (x : Objects). KnewOwners x (view p) got.Have) (one_objects objects named (sym names ∙ is)) after.1,
   within_for hands called objects (view p) (view q) names came.1.only came.1.found,
@@ -146,6 +149,7 @@ try_after b hands called p q r part (step.Done said stamp) before owners log sta
     mark = x.0.mark ∙ ap (λ (s : Stack). s.mark) stack;
     ends = subst (λ (s : Stack). IsEndOf called (section_marks s) said) stack x.0.ends;
     walked = λ n. x.0.walked n ∙ ap (λ (z : Option Cursor). walked_after n called (option_map container_of z)) (before.cursors n);
+    collected = for_before called (view p) (view q) (view r) before.pass x.0.collected;
   },
   λ named is. knew_before called named p q got.Have same (x.1 named is),
   for_then hands called (view p) (view q) (view r) x.0.entry.pass.number (same_for hands called (view p) (view q) owners) x.2,
@@ -266,6 +270,7 @@ looked_tried b p q r hands called (Some (look.Done said stamp)) result plain lef
         mark = ap (λ (s : Stack). s.mark) let_go.stack ∙ ap (λ (s : Stack). s.mark) stack;
         ends = plain.ends (section_marks (stack_of p)) said;
         walked = walked_none called said stamp (view p) (view r) (looks_still called made) entry;
+        collected = plain.none (view p) (view r);
       },
       λ named names locked. absurd (true≢false (sym made ∙ locked)),
       same_for hands called (view p) (view r) (owners_then (view p) (view q) (view r) (answered_owners called said stamp.number (view p) (view q) x.0) owners),

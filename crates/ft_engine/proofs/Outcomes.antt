@@ -1,5 +1,5 @@
 -- What the tries of calls on containers come to, in the words that all calls share.
-use Rattle.std.proofs.Common.{◌≡◌, ◌≤◌, ◌<◌, ◌+◌, ◌-◌, ℕ, zero, suc, Bool, true, false, List, ◌∷◌, refl, sym, ap, ◌∙◌, subst, arith, ⊎_elim, le_trans}
+use Rattle.std.proofs.Common.{◌≡◌, ◌≤◌, ◌<◌, ◌+◌, ◌-◌, ℕ, zero, suc, Bool, true, false, true≢false, List, ◌∷◌, refl, sym, ap, ◌∙◌, subst, arith, ⊎_elim, le_trans}
 use Rattle.std.specs.Prelude.{Option, Some, None}
 use Rattle.ft_model.specs.declared.call.Call.{Call}
 use Rattle.ft_model.specs.declared.reply.Raise.TheVariants as raise
@@ -34,7 +34,7 @@ use Rattle.ft_table_calls.specs.Adding.{GaveUp, IsAdded, Retires, TriedTaking, I
 use Rattle.ft_engine.specs.Answering.{MakesEntry, MakesNoEntry, FoundWordsChanged, StaysPass, copies}
 use Rattle.ft_engine.specs.Keeping.{made_entry}
 use Rattle.ft_engine.proofs.Within.{HasWithin, answered_owners, loaded_owners, made_owners, retired_owners, tried_owners, within_then, wrote_owners}
-use Rattle.ft_engine.proofs.SectionCalls.{nothing_entry, nothing_then, only_nothing, same_nothing}
+use Rattle.ft_engine.proofs.SectionCalls.{answer_stays, nothing_entry, nothing_then, only_nothing, same_nothing}
 
 -- what a try comes to, but for the sections
 abbrev pub Outcome : Call → Objects → View → View → Step → Type 0
@@ -60,6 +60,8 @@ wrote_entry called said stamp v w is x = record {
   entries = x.entries ∙ ap (λ (e : Entry). e ∷ v.entries) (entry_as called said stamp true is);
   left = x.left;
   seen = x.seen;
+  loaded = λ read. absurd (true≢false (sym is ∙ read));
+  shows = λ _. x.shows;
   cursors = λ number other. x.pass.cursors number;
 }
 
@@ -85,6 +87,8 @@ answered_adds called said stamp v w is left x =
           let b = l.left in
           let e : v.left ≡ suc w.left = omega (arith, a, b, left) in e;
       seen = x.seen;
+      loaded = λ _. record { start = v; earlier = (same_nothing v).pass; part = x.part; before = u; own = x.own; loaded = x.counted; later = subst (StaysPass u) (sym x.answered) (answer_stays called said stamp.number u) };
+      shows = λ wrote. absurd (true≢false (sym wrote ∙ is));
       cursors = λ number other. ap (λ (z : View). cursor_in number z.log) x.answered ∙ l.pass.cursors number;
     }
 

@@ -18,7 +18,9 @@ use Rattle.ft_engine.specs.Attempts.{ComesAgain, IsMarkOf, MayAttempt, StaysCall
 use Rattle.ft_engine.specs.Callers.{IsCallerOf, thread_of}
 use Rattle.ft_engine.specs.Calling.{HasMark, IsBetween, IsCalled, IsTried, last_of, mark_after, mark_after_tries}
 use Rattle.ft_engine.specs.Keeping.{WasAnswered}
+use Rattle.ft_engine.specs.OwnAnswers.{HasOwnAnswer}
 use Rattle.ft_engine.proofs.SectionCalls.{stays_then}
+use Rattle.ft_engine.proofs.OwnAnswers.{again_own, none_in, step_own}
 
 same_pass : (v : View) → StaysPass v v
 same_pass v = record { number = refl; next = refl; parts = refl; shape = refl; lists = refl; online = λ on. on; floor = refl; since = refl; seen = le_refl (seen_writes v) }
@@ -33,9 +35,10 @@ none_between e called c is may = record {
   waits = [];
   are = refl;
   mark = refl;
+  own = λ free. none_in c.flight (view c.pass) (view c.pass) free;
 }
 
-same_then : (b c d : Caller) → StaysCaller b c → StaysCaller c d → StaysCaller b d
+pub same_then : (b c d : Caller) → StaysCaller b c → StaysCaller c d → StaysCaller b d
 same_then b c d first second = record { pass = stays_then (view b.pass) (view c.pass) (view d.pass) first.pass second.pass; room = second.room ∙ first.room }
 
 kept_again : (thread : ℕ) (called : Call) (t : Tried) (mine : List NamedEntry) → ComesAgain t → entries_with_answer thread called t mine ≡ mine
@@ -50,6 +53,11 @@ mark_again (tried.Moved first second) before after again is = is
 mark_again (tried.Done said stamp mark) before after again is = absurd again
 mark_again tried.NoMemory before after again is = absurd again
 
+-- the last try's answer, or that of the call in flight, is of the tries since the first
+pub tried_own : (e : Engine) (called : Call) (b c d : Caller) (t : Tried) → IsBetween e called b c → IsTried e called t c d → HasOwnAnswer called t b d
+tried_own e called b c d t before x free =
+    step_own c.flight e.bank c.cursors.items called t d.flight (view b.pass) c.pass d.pass before.may.next before.same.pass x.same.pass (before.own free) x.own x.halves
+
 -- after one more try
 pub more_between : (e : Engine) (called : Call) (b c d : Caller) (t : Tried) → IsBetween e called b c → ComesAgain t → IsTried e called t c d → IsBetween e called b d
 more_between e called b c d t before again x = record {
@@ -60,6 +68,7 @@ more_between e called b c d t before again x = record {
   waits = record { before = c; answer = t } ∷ before.waits;
   are = (before.are, again, x);
   mark = mark_again t (stack_of c.pass).mark (stack_of d.pass).mark again x.mark ∙ ap (λ (m : Option ℕ). mark_after m t) before.mark;
+  own = λ free. again_own called t d.flight (view b.pass) (view d.pass) again x.flight (tried_own e called b c d t before x free);
 }
 
 -- ---- the last try

@@ -9,7 +9,7 @@ use Rattle.ft_model.specs.declared.cursor.Cursor.{Cursor}
 use Rattle.ft_model.specs.declared.reply.Reply.{Reply}
 use Rattle.ft_model.specs.declared.reply.Reply.TheVariants as reply
 use Rattle.ft_model.specs.Histories.{IsCountedAs}
-use Rattle.ft_trace.specs.declared.Act.TheVariants.{Answer, ReadCounter}
+use Rattle.ft_trace.specs.declared.Act.TheVariants.{Announce, Answer, ReadCounter, WriteNumber}
 use Rattle.ft_trace.specs.declared.Entry.{Entry}
 use Rattle.ft_trace.specs.declared.View.{View}
 use Rattle.ft_trace.specs.Acts.{announces, has_lock, view_after, seen_writes}
@@ -23,6 +23,7 @@ use Rattle.ft_bank.specs.declared.sections.OpenSection.{OpenSection}
 use Rattle.ft_bank.specs.declared.sections.Taking.{Taking}
 use Rattle.ft_bank.specs.Passes.{view, IsPassOf}
 use Rattle.ft_bank.specs.PassSections.{Stack, stack_of}
+use Rattle.ft_qsbr.specs.Collecting.{Collected}
 use Rattle.ft_section.specs.declared.answers.Ended.{Ended}
 use Rattle.ft_section.specs.declared.answers.Ended.TheVariants as ended
 use Rattle.ft_section.specs.declared.answers.Objects.{Objects}
@@ -37,7 +38,7 @@ use Rattle.ft_section.proofs.MidstOfCall.{in_call_stays}
 use Rattle.ft_model.specs.Worlds.{container_of}
 use Rattle.ft_trace.specs.Owners.{FindsMore, SameOwners}
 use Rattle.ft_trace.proofs.Owning.{finds_more_then, grown_finds_more, owners_then}
-use Rattle.ft_engine.specs.Answering.{MakesEntry, MakesNoEntry, HasAnswer, KnewNone, StaysPass}
+use Rattle.ft_engine.specs.Answering.{HasLoaded, MakesEntry, MakesNoEntry, HasAnswer, KnewNone, StaysPass}
 use Rattle.ft_engine.specs.Flights.{objects_of}
 use Rattle.ft_table_calls.specs.TriesUnderLocks.{objects_by}
 use Rattle.ft_engine.specs.Keeping.{made_entry, section_marks}
@@ -85,6 +86,21 @@ nothing_then u v w a b = record {
   cursors = λ number. b.cursors number ∙ a.cursors number;
 }
 
+pub same_nothing : (v : View) → MakesNoEntry v v
+same_nothing v = record { pass = record { number = refl; next = refl; parts = refl; shape = refl; lists = refl; online = λ on. on; floor = refl; since = refl; seen = omega arith }; entries = refl; left = refl; cursors = λ number. refl }
+
+-- a load stays one of a longer time
+pub loaded_in : (n : ℕ) (u v w z : View) → StaysPass u v → HasLoaded n v w → StaysPass w z → HasLoaded n u z
+loaded_in n u v w z before l after = record {
+  start = l.start;
+  earlier = stays_then u v l.start before l.earlier;
+  part = l.part;
+  before = l.before;
+  own = l.own;
+  loaded = l.loaded;
+  later = stays_then l.before w z l.later after;
+}
+
 -- what comes before and after the entry adds none
 pub nothing_entry : (called : Call) (said : Reply) (stamp : Stamp) (u v w z : View) → MakesNoEntry u v → seen_writes v ≤ stamp.number → MakesEntry called said stamp v w → MakesNoEntry w z → MakesEntry called said stamp u z
 nothing_entry called said stamp u v w z before seen made after = record {
@@ -92,6 +108,8 @@ nothing_entry called said stamp u v w z before seen made after = record {
   entries = after.entries ∙ (made.entries ∙ ap (λ (es : List Entry). made_entry called said stamp ∷ es) before.entries);
   left = sym before.left ∙ (made.left ∙ sym (ap suc after.left));
   seen = le_trans before.pass.seen seen;
+  loaded = λ read. loaded_in stamp.number u v w z before.pass (made.loaded read) after.pass;
+  shows = λ wrote. let first = made.shows wrote in let more = after.pass.seen in omega (arith, first, more);
   cursors = λ number other. after.cursors number ∙ (made.cursors number other ∙ before.cursors number);
 }
 
@@ -110,6 +128,20 @@ answered_pass called said n v = record {
   seen = le_trans (seen_up (ReadCounter n) v) (seen_up (Answer called said n) (view_after (ReadCounter n) v));
 }
 
+pub answer_stays : (called : Call) (said : Reply) (n : ℕ) (v : View) → StaysPass v (view_after (Answer called said n) v)
+answer_stays called said n v = record { number = refl; next = refl; parts = refl; shape = refl; lists = refl; online = λ on. on; floor = refl; since = refl; seen = seen_up (Answer called said n) v }
+
+answered_loaded : (called : Call) (said : Reply) (n : ℕ) (v : View) → HasLoaded n v (answered_view called said n v)
+answered_loaded called said n v = record {
+  start = v;
+  earlier = (same_nothing v).pass;
+  part = ReadCounter n ∷ [];
+  before = view_after (ReadCounter n) v;
+  own = refl;
+  loaded = record { newer = []; rest = []; is = refl };
+  later = answer_stays called said n (view_after (ReadCounter n) v);
+}
+
 answered_entries : (called : Call) (said : Reply) (stamp : Stamp) (v : View) → stamp.wrote ≡ false → (answered_view called said stamp.number v).entries ≡ made_entry called said stamp ∷ v.entries
 answered_entries called said stamp v read = ap (λ (b : Bool). record { call = called; reply = said; stamp = stamp.number; wrote = b } ∷ v.entries) (sym read)
 
@@ -122,14 +154,13 @@ answered_entry called said stamp v read left seen = record {
   entries = answered_entries called said stamp v read;
   left = answered_left called said stamp.number v left;
   seen = seen;
+  loaded = λ _. answered_loaded called said stamp.number v;
+  shows = λ wrote. absurd (true≢false (sym wrote ∙ read));
   cursors = λ number other. refl;
 }
 
 pub entry_by : (called : Call) (said : Reply) (stamp : Stamp) (v w : View) → stamp.wrote ≡ false → 0 < v.left → seen_writes v ≤ stamp.number → w ≡ answered_view called said stamp.number v → MakesEntry called said stamp v w
 entry_by called said stamp v w read left seen is = subst (MakesEntry called said stamp v) (sym is) (answered_entry called said stamp v read left seen)
-
-pub same_nothing : (v : View) → MakesNoEntry v v
-same_nothing v = record { pass = record { number = refl; next = refl; parts = refl; shape = refl; lists = refl; online = λ on. on; floor = refl; since = refl; seen = omega arith }; entries = refl; left = refl; cursors = λ number. refl }
 
 -- a call that names no containers needs no locks
 pub no_containers : (hands : List (Option Cursor)) (called : Call) (p : Pass) → objects_of hands called ≡ None → KnewNone hands called p
@@ -168,6 +199,8 @@ begin_answer b p q first second stamp left enters seen read opens resume =
         entries = ap (λ (z : View). z.entries) is ∙ (answered_entries c reply.Entered stamp u read ∙ ap (λ (es : List Entry). made_entry c reply.Entered stamp ∷ es) enters.1.entries);
         left = sym enters.1.left ∙ (answered_left c reply.Entered stamp.number u (subst (λ (n : ℕ). 0 < n) (sym enters.1.left) left) ∙ sym (ap (λ (z : View). suc z.left) is));
         seen = seen;
+        loaded = λ _. loaded_in stamp.number v u (view q) (view q) (only_stays v u enters.1) (subst (HasLoaded stamp.number u) (sym is) (answered_loaded c reply.Entered stamp.number u)) (same_nothing (view q)).pass;
+        shows = λ wrote. absurd (true≢false (sym wrote ∙ read));
         cursors = λ number other. ap (λ (z : View). cursor_in number z.log) is ∙ enters.1.cursors number;
       };
       resume = resume;
@@ -178,6 +211,7 @@ begin_answer b p q first second stamp left enters seen read opens resume =
           subst (λ (x : OpenSection). HasBoth (view q) x.locks) same.1 now;
       stack = opens;
       walked = λ number. ap (option_map container_of) (ap (λ (z : View). cursor_in number z.log) is ∙ enters.1.cursors number);
+      collected = tt;
       marks = ap (λ (xs : List OpenSection). reverse (map (λ section. section.marks) xs)) sections ∙ push_marks (stack_of p).sections here;
       mark = ap (λ (s : Stack). s.mark) opens.2;
       ends = tt;
@@ -209,6 +243,7 @@ end_answer b p q result left depth only seen read closes resume =
     record {
       entry = entry;
       walked = walked_none call.End (reply_of result) (stamp_of result) v (view q) refl entry;
+      collected = tt;
       resume = resume;
       top = λ none. absurd (true≢false (sym none));
       stack = (r.0, r.1, r.2, x.1);
@@ -247,11 +282,12 @@ ready_quiesced b q r n ready pass stack is =
 pub quiesced_owners : (n : ℕ) (v u w : View) → IsCalm v u → w ≡ answered_view call.Quiesce reply.Done n u → SameOwners v w
 quiesced_owners n v u w calm is = owners_then v u w calm.owners (subst (SameOwners u) (sym is) (record { had = refl; found = refl }))
 
-pub quiesce_answer : (b : Bank) (p q r : Pass) (stamp : Stamp) → IsReady b p → 0 < (view p).left → IsPassOf b q → stack_of q ≡ stack_of p → IsCalm (view p) (view q) → 0 < announces (view q).log → IsPassOf b r → stack_of r ≡ stack_of q → view r ≡ answered_view call.Quiesce reply.Done stamp.number (view q) → stamp.wrote ≡ false → seen_writes (view q) ≤ stamp.number → HasAnswer b call.Quiesce reply.Done stamp p r
-quiesce_answer b p q r stamp ready left pass_q stack_q calm on pass_r stack_r is read seen =
+pub quiesce_answer : (b : Bank) (p q r : Pass) (stamp : Stamp) → IsReady b p → 0 < (view p).left → IsPassOf b q → stack_of q ≡ stack_of p → IsCalm (view p) (view q) → (n : ℕ) × (freed : ℕ) × Collected (view_after (Announce (view p).number n) (view_after (WriteNumber n) (view p))) (view q) freed → 0 < announces (view q).log → IsPassOf b r → stack_of r ≡ stack_of q → view r ≡ answered_view call.Quiesce reply.Done stamp.number (view q) → stamp.wrote ≡ false → seen_writes (view q) ≤ stamp.number → HasAnswer b call.Quiesce reply.Done stamp p r
+quiesce_answer b p q r stamp ready left pass_q stack_q calm did on pass_r stack_r is read seen =
     let v = view p in
     let u = view q in
     let made = answered_entry call.Quiesce reply.Done stamp u read (subst (λ (n : ℕ). 0 < n) (sym calm.left) left) seen in
+    let quiet : StaysPass v u = record { number = calm.number; next = calm.next; parts = calm.parts; shape = calm.shape; lists = calm.lists; online = λ _. on; floor = calm.floor; since = calm.since; seen = calm.seen } in
     let stack = stack_r ∙ stack_q in
     let now = ready_quiesced b q r stamp.number (ready_calm b p q ready pass_q stack_q calm) pass_r stack_r is in
     record {
@@ -270,12 +306,15 @@ quiesce_answer b p q r stamp ready left pass_q stack_q calm on pass_r stack_r is
         entries = ap (λ (z : View). z.entries) is ∙ (made.entries ∙ ap (λ (es : List Entry). made_entry call.Quiesce reply.Done stamp ∷ es) calm.entries);
         left = sym calm.left ∙ (made.left ∙ sym (ap (λ (z : View). suc z.left) is));
         seen = le_trans calm.seen seen;
+        loaded = λ _. loaded_in stamp.number v u (view r) (view r) quiet (subst (HasLoaded stamp.number u) (sym is) (made.loaded read)) (same_nothing (view r)).pass;
+        shows = λ wrote. absurd (true≢false (sym wrote ∙ read));
         cursors = λ number other. ap (λ (z : View). cursor_in number z.log) is ∙ calm.cursors number;
       };
       resume = ready_resumes b r now;
       top = λ none. absurd (true≢false (sym none));
       stack = stack ∙ ap (λ (t : Taking). with_own (stack_of p) t) ready.own;
       walked = λ number. ap (option_map container_of) (ap (λ (z : View). cursor_in number z.log) is ∙ calm.cursors number);
+      collected = record { start = v; earlier = (same_nothing v).pass; number = did.0; after = u; freed = did.1; collected = did.2; later = subst (StaysPass u) (sym is) made.pass };
       marks = ap section_marks stack;
       mark = ap (λ (s : Stack). s.mark) stack;
       ends = tt;

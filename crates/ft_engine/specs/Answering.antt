@@ -12,11 +12,13 @@ use Rattle.ft_model.specs.Histories.{IsCountedAs}
 use Rattle.ft_model.specs.Worlds.{container_of, cursor_at}
 use Rattle.ft_trace.specs.declared.Shape.{Shape}
 use Rattle.ft_trace.specs.declared.Act.{Act}
+use Rattle.ft_trace.specs.declared.Act.TheVariants.{Announce, ReadCounter, WriteNumber}
 use Rattle.ft_trace.specs.declared.View.{View}
-use Rattle.ft_trace.specs.Acts.{announces, seen_writes}
+use Rattle.ft_trace.specs.Acts.{announces, seen_writes, view_after}
 use Rattle.ft_trace.specs.Floors.{at_floor}
 use Rattle.ft_trace.specs.Owners.{FindsMore, LocksOnly}
 use Rattle.ft_trace.specs.Hands.{cursor_in}
+use Rattle.ft_trace.specs.LoggedReads.{Among}
 use Rattle.ft_bank.specs.declared.bank.Bank.{Bank}
 use Rattle.ft_bank.specs.declared.pass.Pass.{Pass}
 use Rattle.ft_bank.specs.declared.takings.Took.TheVariants as took
@@ -24,6 +26,7 @@ use Rattle.ft_bank.specs.Answered.{Answered}
 use Rattle.ft_bank.specs.Passes.{shape_of, view, DidNothing}
 use Rattle.ft_bank.specs.PassSections.{stack_of}
 use Rattle.ft_bank.specs.Whole.{OnlyLoaded}
+use Rattle.ft_qsbr.specs.Collecting.{Collected}
 use Rattle.ft_section.specs.declared.answers.Got.{Got}
 use Rattle.ft_section.specs.declared.answers.Got.TheVariants as got
 use Rattle.ft_section.specs.declared.answers.Look.{Look}
@@ -67,13 +70,48 @@ pub record MakesNoEntry (v w : View) : Type 0 where
   pub left : w.left ≡ v.left
   pub cursors : (number : ℕ) → cursor_in number w.log ≡ cursor_in number v.log
 
--- The same pass has made the one entry of this answer, at a stamp that is at least all writes that it had seen. Its
--- cursors stay, but for the one that the call moves. (profile)
+-- After a moment of the pass at which it had seen all that it had at the first of these, and before the second one, a load
+-- of the counter gave this number.
+pub record HasLoaded (n : ℕ) (v w : View) : Type 0 where
+  pub start : View
+  pub earlier : StaysPass v start
+  pub part : List Act
+  pub before : View
+  pub own : before.log ≡ part ++ start.log
+  pub loaded : Among (ReadCounter n) part
+  pub later : StaysPass before w
+
+-- the pass has loaded the write number, and announced it
+abbrev pub after_announcing : ℕ → View → View
+after_announcing number v = view_after (Announce v.number number) (view_after (WriteNumber number) v)
+
+-- After such a moment the pass announced the write number, since it holds on to no table that it found before, and
+-- collected: it found what each pass announces, and gave back just those of the tables that it kept retired whose goals
+-- all of them are past, so that no pass online can still read them. (PEP 703, QSBR)
+pub record HasQuiesced (v w : View) : Type 0 where
+  pub start : View
+  pub earlier : StaysPass v start
+  pub number : ℕ
+  pub after : View
+  pub freed : ℕ
+  pub collected : Collected (after_announcing number start) after freed
+  pub later : StaysPass after w
+
+-- that is what a `quiesce` does
+abbrev pub HasCollectedFor : Call → View → View → Type 0
+HasCollectedFor call.Quiesce v w = HasQuiesced v w
+HasCollectedFor called v w = Unit {0}
+
+-- The same pass has made the one entry of this answer, at a stamp that is at least all writes that it had seen. That of
+-- a call which is no write was loaded for it; a write it has then seen. Its cursors stay, but for the one that the call
+-- moves. (profile)
 pub record MakesEntry (called : Call) (said : Reply) (stamp : Stamp) (v w : View) : Type 0 where
   pub pass : StaysPass v w
   pub entries : w.entries ≡ made_entry called said stamp ∷ v.entries
   pub left : v.left ≡ suc w.left
   pub seen : seen_writes v ≤ stamp.number
+  pub loaded : stamp.wrote ≡ false → HasLoaded stamp.number v w
+  pub shows : stamp.wrote ≡ true → stamp.number < seen_writes w
   pub cursors : (number : ℕ) → moved_cursor called ≢ Some number
       → cursor_in number w.log ≡ cursor_in number v.log
 
@@ -98,7 +136,8 @@ HasWalked called v w =
     ≡ walked_after number called (option_map container_of (cursor_in number v.log))
 
 -- The call has its answer: the pass has one entry more, and the innermost section to take up again, of which a `begin`
--- still has the locks. The sections are those that the call leaves open, with their counts. (C API, critical sections)
+-- still has the locks. The sections are those that the call leaves open, with their counts. A `quiesce` has collected.
+-- (C API, critical sections; PEP 703, QSBR)
 pub record HasAnswer (b : Bank) (called : Call) (said : Reply) (stamp : Stamp) (p q : Pass) : Type 0 where
   pub entry : MakesEntry called said stamp (view p) (view q)
   pub resume : MayResume b q
@@ -108,6 +147,7 @@ pub record HasAnswer (b : Bank) (called : Call) (said : Reply) (stamp : Stamp) (
   pub mark : (stack_of q).mark ≡ (stack_of p).mark
   pub ends : IsEndOf called (section_marks (stack_of p)) said
   pub walked : HasWalked called (view p) (view q)
+  pub collected : HasCollectedFor called (view p) (view q)
 
 -- The call waits: a step of it found another pass with the lock of one of its containers, and all open sections have
 -- let their locks go. (C API, critical sections)

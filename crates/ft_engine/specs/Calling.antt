@@ -3,6 +3,7 @@
 use Rattle.std.specs.Prelude.{◌≡◌, ℕ, List, [], ◌∷◌, Option, Some}
 use Rattle.ft_model.specs.declared.call.Call.{Call}
 use Rattle.ft_model.specs.declared.entry.Entry.{Entry as NamedEntry}
+use Rattle.ft_bank.specs.Passes.{view}
 use Rattle.ft_bank.specs.PassSections.{stack_of}
 use Rattle.ft_section.specs.Locking.{first_mark}
 use Rattle.ft_engine.specs.declared.attempts.Tried.{Tried}
@@ -13,8 +14,10 @@ use Rattle.ft_engine.specs.declared.calling.Called.TheVariants as called
 use Rattle.ft_engine.specs.declared.engine.Engine.{Engine}
 use Rattle.ft_engine.specs.Attempts.{ComesAgain, HasFoundOwner, HasLookedFirst, IsMarkOf, MayAttempt, StaysCaller, flight_after, entries_with_answer}
 use Rattle.ft_engine.specs.Callers.{IsCallerOf, flight_of, pass_of, thread_of}
+use Rattle.ft_engine.specs.Flights.{IsFlightAnswered}
 use Rattle.ft_engine.specs.Halves.{HasHalves}
 use Rattle.ft_engine.specs.Keeping.{WasAnswered}
+use Rattle.ft_engine.specs.OwnAnswers.{HasOwnAnswer, HasOwnAnswerIn}
 
 -- What one try of a call leaves of its caller.
 pub record IsTried (e : Engine) (called : Call) (t : Tried) (c d : Caller) : Type 0 where
@@ -27,6 +30,7 @@ pub record IsTried (e : Engine) (called : Call) (t : Tried) (c d : Caller) : Typ
   pub found : HasFoundOwner t c d
   pub looked : HasLookedFirst called t c d
   pub halves : HasHalves e called c d t
+  pub own : HasOwnAnswer called t c d
   pub again : ComesAgain t → MayAttempt e d called
 
 -- what a try answered, and the caller as it was before
@@ -61,6 +65,7 @@ pub record IsBetween (e : Engine) (called : Call) (c d : Caller) : Type 0 where
   pub waits : List Try
   pub are : AreWaits e called c waits d
   pub mark : (stack_of d.pass).mark ≡ mark_after_tries (stack_of c.pass).mark waits
+  pub own : (IsFlightAnswered c.flight → ⊥) → HasOwnAnswerIn d.flight (view c.pass) (view d.pass)
 
 -- what the last try answered
 abbrev pub last_of : Called → Tried

@@ -5,12 +5,16 @@ pub mod Contentions
 pub mod Owning
 pub mod Keeping
 pub mod Stacks
+pub mod Collections
 pub mod Answering
 pub mod Attempts
 pub mod Refusals
 pub mod Halves
+pub mod OwnAnswers
+pub mod SoFar
 pub mod Calling
 pub mod Visits
 pub mod DoneCallers
 pub mod Resting
+pub mod Contents
 pub mod AtOnce

@@ -3,11 +3,14 @@ ghost use Rattle.std.specs.Prelude.{◌≡◌, ◌<◌, List};
 ghost use Rattle.ft_model.specs.declared.entry.Entry.{Entry as NamedEntry};
 ghost use Rattle.ft_bank.specs.Passes.{view};
 ghost use Rattle.ft_bank.specs.PassSections.{stack_of};
+ghost use Rattle.ft_bank_history.specs.SoFar.{MemoryErrorsAreFound};
 ghost use Rattle.ft_engine.specs.Attempts.{MayAttempt, flight_after, entries_with_answer, IsMarkOf, FoundIn, HasFoundOwner, HasLookedFirst, ComesAgain, StaysCaller};
 ghost use Rattle.ft_engine.specs.Callers.{IsCallerOf, pass_of, flight_of, thread_of};
 ghost use Rattle.ft_engine.specs.Flights.{IsFlightAnswered, AllowsCall};
 ghost use Rattle.ft_engine.specs.Halves.{HasHalves, IsTakenUp, WaitsAnswered};
 ghost use Rattle.ft_engine.specs.Keeping.{WasAnswered};
+ghost use Rattle.ft_engine.specs.SoFar.{IsAnsweredRight};
+ghost use Rattle.ft_engine.specs.OwnAnswers.{HasOwnAnswer};
 ghost use Rattle.ft_engine.specs.declared.caller.Flight.TheVariants as flight;
 
 use crate::caller::{Caller, Flight};
@@ -82,6 +85,10 @@ impl Engine {
         ensures found { HasFoundOwner result caller.old caller.new }
         ensures looked { HasLookedFirst call.now result caller.old caller.new }
         ensures halves { HasHalves self.now call.now caller.old caller.new result }
+        ensures own { HasOwnAnswer call.now result caller.old caller.new }
+        ensures right { (IsFlightAnswered (flight_of caller.new) → ⊥) → (mine : List NamedEntry) → WasAnswered caller.old mine →
+            IsAnsweredRight caller.new (entries_with_answer (thread_of caller.old) call.now result mine) }
+        ensures found_none { MemoryErrorsAreFound (view (pass_of caller.new)) }
         ensures again { ComesAgain result → MayAttempt self.now caller.new call.now }
     {
         if caller.is_answered() {

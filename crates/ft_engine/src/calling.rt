@@ -1,22 +1,23 @@
 //! A call that is tried until it is done.
-ghost use Rattle.std.specs.Prelude.{List, IfNone, IfSome};
+ghost use Rattle.std.specs.Prelude.{List, IfOk, OnErr};
 ghost use Rattle.ft_model.specs.declared.entry.Entry.{Entry as NamedEntry};
+ghost use Rattle.ft_bank.specs.Passes.{view};
+ghost use Rattle.ft_bank_history.specs.SoFar.{MemoryErrorsAreFound};
 ghost use Rattle.ft_engine.specs.Attempts.{ComesAgain, MayAttempt, StaysCaller, flight_after, entries_with_answer};
-ghost use Rattle.ft_engine.specs.Callers.{IsCallerOf, flight_of, thread_of};
+ghost use Rattle.ft_engine.specs.Callers.{IsCallerOf, flight_of, pass_of, thread_of};
 ghost use Rattle.ft_engine.specs.Calling.{IsBetween, IsCalled, IsTried, last_of};
 ghost use Rattle.ft_engine.specs.Keeping.{WasAnswered};
+ghost use Rattle.ft_engine.specs.SoFar.{IsAnsweredRight};
+ghost use Rattle.ft_engine.specs.OwnAnswers.{HasOwnAnswer};
 
 use crate::attempts::Tried;
 use crate::caller::Caller;
 use crate::engine::Engine;
-use crossbeam_utils::Backoff;
+use crate::pauses::Pauses;
 use ft_model::{Call, Reply};
-use ft_section::{Owner, Stamp};
+use ft_section::{Object, Owner, Stamp};
 use std::alloc::Global;
 use std::sync::Wait;
-
-/// How many tries of a call are followed by a pause in which the thread keeps its processor.
-const SPINS: u32 = 8;
 
 /// What a call that was tried until it was done answers.
 #[derive(Debug, PartialEq, Eq, Drop)]
@@ -27,54 +28,55 @@ pub enum Called {
     NoMemory,
 }
 
-/// The pause after that many tries, each longer than the one before, up to 64 turns of a loop. A thread keeps a lock
-/// for the steps of one call, mostly, so whoever waits for it stays on its processor at first. Where the lock stays
-/// taken, its thread may have no processor, or is in a section with more calls: from then on the pause yields.
-fn pause(backoff: &Backoff, tries: u32) {
-    if tries < SPINS {
-        backoff.spin();
-    } else {
-        backoff.snooze();
-    }
-}
-
 impl Engine {
-    /// One try of a call. It answers none where the same call comes next.
+    /// One try of a call. Where the same call comes next, it answers the container whose lock another thread had, if
+    /// that is why.
     #[inline(always)]
-    fn try_once(&self, alloc: Global, caller: &mut Caller, call: &Call) -> Option<Called>
+    fn try_once(
+        &self,
+        alloc: Global,
+        caller: &mut Caller,
+        call: &Call,
+    ) -> Result<Called, Option<Object>>
         requires caller { IsCallerOf self.now caller.old }
         requires may { MayAttempt self.now caller.old call.now }
-        ensures again { IfNone result ((t : Tried) × ComesAgain t × IsTried self.now call.now t caller.old caller.new) }
-        ensures done { IfSome result (λ answer. IsTried self.now call.now (last_of answer) caller.old caller.new) }
+        ensures again { OnErr result ((t : Tried) × ComesAgain t × IsTried self.now call.now t caller.old caller.new) }
+        ensures done { IfOk result (λ answer. IsTried self.now call.now (last_of answer) caller.old caller.new) }
     {
         match self.attempt(alloc, caller, call) {
-            Tried::Done(reply, stamp, mark) => Some(Called::Done(reply, stamp, mark)),
-            Tried::NotYet(_, _) => None,
-            Tried::Moved(_, _) => None,
-            Tried::NoMemory => Some(Called::NoMemory),
+            Tried::Done(reply, stamp, mark) => Ok(Called::Done(reply, stamp, mark)),
+            Tried::NotYet(object, _) => Err(Some(object)),
+            Tried::Moved(_, _) => Err(None),
+            Tried::NoMemory => Ok(Called::NoMemory),
         }
     }
 
     /// Tries a call until it is done, with a pause between two tries: before each try the call isn't done yet, as
-    /// seen from whatever caller that was so before the first one.
+    /// seen from whatever caller that was so before the first one. Where the lock of a container was found with another
+    /// thread, it is waited for first.
     #[inline(never)]
-    fn call_on<R: Wait>(&self, rt: &R, alloc: Global, caller: &mut Caller, call: &Call) -> Called
+    fn call_on<R: Wait>(
+        &self,
+        rt: &R,
+        alloc: Global,
+        caller: &mut Caller,
+        call: &Call,
+        found: Option<Object>,
+    ) -> Called
         requires caller { IsCallerOf self.now caller.old }
         requires may { MayAttempt self.now caller.old call.now }
         ensures { (first : Caller) → IsBetween self.now call.now first caller.old →
             (last : Caller) × IsBetween self.now call.now first last × IsTried self.now call.now (last_of result) last caller.new }
     {
-        let backoff = Backoff::new();
-        let mut tries = 0;
-        if !caller.is_idle() {
-            pause(&backoff, tries);
+        let mut pauses = Pauses::new();
+        if found.is_some() {
+            pauses.wait(self, found);
         }
         for _ in rt.forever() {
-            if let Some(called) = self.try_once(alloc, caller, call) {
-                return called;
+            match self.try_once(alloc, caller, call) {
+                Ok(called) => return called,
+                Err(found) => pauses.wait(self, found),
             }
-            pause(&backoff, tries);
-            tries = tries.saturating_add(1);
         }
         unreachable!()
     }
@@ -97,10 +99,14 @@ impl Engine {
         ensures kept { (mine : List NamedEntry) → WasAnswered caller.old mine →
             WasAnswered caller.new (entries_with_answer (thread_of caller.old) call.now (last_of result) mine) }
         ensures called { IsCalled self.now call.now result caller.old caller.new }
+        ensures own { HasOwnAnswer call.now (last_of result) caller.old caller.new }
+        ensures right { (mine : List NamedEntry) → WasAnswered caller.old mine →
+            IsAnsweredRight caller.new (entries_with_answer (thread_of caller.old) call.now (last_of result) mine) }
+        ensures found_none { MemoryErrorsAreFound (view (pass_of caller.new)) }
     {
         match self.call_at_once(alloc, caller, call) {
-            Some(called) => called,
-            None => self.call_on(rt, alloc, caller, call),
+            Ok(called) => called,
+            Err(found) => self.call_on(rt, alloc, caller, call, found),
         }
     }
 }

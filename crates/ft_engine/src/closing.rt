@@ -1,16 +1,21 @@
 //! The end of an engine: one history of the entries that all its callers were answered.
-ghost use Rattle.std.specs.Prelude.{◌≡◌, IfOk, map};
+ghost use Rattle.std.specs.Prelude.{◌≡◌, [], IfOk, List, map};
 ghost use Rattle.std.specs.List.{flat_map};
 ghost use Rattle.std.specs.List.Sorted.{IsPermutation, IsSorted};
+ghost use Rattle.ft_model.specs.declared.reply.Shown.{Shown};
 ghost use Rattle.ft_model.specs.declared.script.ScriptParts.{ScriptParts};
+ghost use Rattle.ft_model.specs.Answers.{shown_of};
 ghost use Rattle.ft_model.specs.Histories.{history_cmp};
 ghost use Rattle.ft_model.specs.Scripts.{IsScript};
+ghost use Rattle.ft_model.specs.Worlds.{empty_world};
 ghost use Rattle.ft_bank.specs.Closings.{shape_in, lists_in, had_in, found_in};
 ghost use Rattle.ft_bank.specs.Passes.{shape_of, view};
 ghost use Rattle.ft_bank_history.specs.Numbering.{HaveNamedEntries};
 ghost use Rattle.ft_engine.specs.Callers.{IsCallerOf, bank_of, pass_of, thread_of};
 ghost use Rattle.ft_bank_history.specs.Marks.{HaveScriptCalls};
+ghost use Rattle.ft_engine.specs.Contents.{AreShownIn, IsLegalWith};
 ghost use Rattle.ft_engine.specs.DoneCallers.{WereAnswered, IsCallerDone, AreNumberedFor, AreOfScript, IsLegalFor};
+ghost use Rattle.ft_engine.specs.Resting.{HasFloor};
 
 use crate::caller::Caller;
 use crate::engine::Engine;
@@ -23,7 +28,8 @@ impl Engine {
     /// Closes the engine, by caller 0, which has taken in all others and is done. The lists are those of the entries
     /// that the callers were answered, in the order of the threads. It gives one history of all these entries, which
     /// is legal for each script whose threads make just these calls; and the closed bank, which has just these entries,
-    /// marks aside. It takes n log n comparisons for n entries.
+    /// marks aside. Where the caller has the floor, what it is shown of the containers is what these have after all
+    /// writes of the history. It takes n log n comparisons for n entries.
     pub fn close(
         self,
         alloc: Global,
@@ -45,6 +51,12 @@ impl Engine {
         ensures legal { IfOk result (λ made. (script : ScriptParts) → IsScript script →
             AreOfScript script (shape_of (bank_of self)) (map (λ list. list.items) lists.items) →
             HaveScriptCalls script (map (λ list. list.items) lists.items) → IsLegalFor script made.0.items) }
+        ensures contents { IfOk result (λ made. (script : ScriptParts) (all : List Shown) → IsScript script →
+            AreOfScript script (shape_of (bank_of self)) (map (λ list. list.items) lists.items) →
+            HaveScriptCalls script (map (λ list. list.items) lists.items) → HasFloor caller → AreShownIn caller all →
+            IsLegalWith script made.0.items all) }
+        ensures nothing { IfOk result (λ made. (all : List Shown) → made.0.items ≡ [] → HasFloor caller → AreShownIn caller all →
+            ∥ (all ≡ map shown_of (empty_world (shape_of (bank_of self)).starts)) ∥₁) }
     {
         let Engine { bank, .. } = self;
         let Caller {
@@ -54,6 +66,7 @@ impl Engine {
             made: _,
             flight: _,
         } = caller;
+        ft_bank_history::contents_are_last(&pass);
         let closed = bank.close(pass);
         ft_bank_history::closed_entries_are_numbered(&closed);
         ft_bank_history::marks_are_right();

@@ -16,9 +16,11 @@ ghost use Rattle.ft_dict.specs.DictMaking.{key_of_dict};
 ghost use Rattle.ft_engine.specs.Asked.{AreOfKindIn, HasKeyIn};
 
 use ft_bank::{Bank, Pass};
-use ft_dict::{DictMaker, look_eq, look_get, look_getd, look_has, look_items, look_len};
+use ft_dict::{
+    DictMaker, ValueSetter, look_eq, look_get, look_getd, look_has, look_items, look_len,
+};
 use ft_model::{Call, DictCall};
-use ft_section::{Look, Object, Step};
+use ft_section::{Look, Object, Objects, Step};
 use ft_table_calls::{named_objects, try_under_locks};
 use std::alloc::Global;
 
@@ -98,7 +100,7 @@ pub(crate) fn look_dict(
 
 /// A call on a dict under its locks; none that makes a cursor.
 #[inline(always)]
-pub(crate) fn try_dict(
+fn try_any_dict(
     bank: &Bank,
     pass: &mut Pass,
     alloc: Global,
@@ -118,4 +120,36 @@ pub(crate) fn try_dict(
     let objects = named_objects(d, call.other());
     let maker = DictMaker { alloc: Some(alloc) };
     try_under_locks(bank, pass, &maker, objects, called)
+}
+
+/// A call on a dict under its locks; none that makes a cursor. The call that is made most has an arm of its own, which
+/// knows its call before the lock is taken.
+#[inline(always)]
+pub(crate) fn try_dict(
+    bank: &Bank,
+    pass: &mut Pass,
+    alloc: Global,
+    d: Object,
+    call: &DictCall,
+    called: &Call,
+) -> Step
+    requires may { MayTry bank.now pass.old (objects_by d (other_dict call.now)) }
+    requires call { called.now ≡ calls.Dict d call.now }
+    requires names { AreOfKindIn (shape_of bank.now) kind.Dict d (other_dict call.now) }
+    requires key { HasKeyIn (shape_of bank.now) (key_of_dict call.now) }
+    requires no_cursor { cursor_of_dict call.now ≡ None }
+    requires landed { is_landed_dict call.now ≡ true }
+    requires left { 0 < (view pass.old).left }
+    ensures { (hands : List (Option Cursor)) → IsTryOfCall bank.now hands (calls.Dict d call.now) pass.old pass.new result }
+{
+    match *call {
+        DictCall::Set { key, value } => {
+            let known = Call::Dict {
+                container: d,
+                call: DictCall::Set { key, value },
+            };
+            try_under_locks(bank, pass, &ValueSetter, Objects::One(d), &known)
+        }
+        _ => try_any_dict(bank, pass, alloc, d, call, called),
+    }
 }

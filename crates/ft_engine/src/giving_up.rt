@@ -20,7 +20,8 @@ impl Engine {
     /// flight: after `NoMemory`, or wherever a caller is to make no more of its calls. It may make other calls then, go
     /// offline and be taken in. What it was answered stays as it is. The entries of a caller that gave up are those of
     /// a history only if it had no section open, no answer that it wasn't given, and no other containers in the call in
-    /// flight than those that entries of it name: other callers may have found it with their locks.
+    /// flight than those that entries of it name: other callers may have found it with their locks. Only then can its
+    /// list be closed with those of others: a mark may name it for the lock of a call that has no entry.
     pub fn abandon(&self, caller: &mut Caller)
         requires { IsCallerOf self.now caller.old }
         ensures caller { IsCallerOf self.now caller.new }

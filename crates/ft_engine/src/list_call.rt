@@ -15,9 +15,9 @@ ghost use Rattle.ft_table_calls.specs.TriesUnderLocks.{objects_by};
 ghost use Rattle.ft_engine.specs.Asked.{AreOfKindIn};
 
 use ft_bank::{Bank, Pass};
-use ft_list::{ListMaker, look_eq, look_get, look_has, look_items, look_len};
+use ft_list::{Appender, ListMaker, look_eq, look_get, look_has, look_items, look_len};
 use ft_model::{Call, ListCall};
-use ft_section::{Look, Object, Step};
+use ft_section::{Look, Object, Objects, Step};
 use ft_table_calls::{named_objects, try_under_locks};
 use std::alloc::Global;
 
@@ -90,7 +90,7 @@ pub(crate) fn look_list(
 
 /// A call on a list under its locks; none that makes a cursor.
 #[inline(always)]
-pub(crate) fn try_list(
+fn try_any_list(
     bank: &Bank,
     pass: &mut Pass,
     alloc: Global,
@@ -108,4 +108,34 @@ pub(crate) fn try_list(
     let objects = named_objects(l, call.other());
     let maker = ListMaker { alloc: Some(alloc) };
     try_under_locks(bank, pass, &maker, objects, called)
+}
+
+/// A call on a list under its locks; none that makes a cursor. The call that is made most has an arm of its own, which
+/// knows its call before the lock is taken.
+#[inline(always)]
+pub(crate) fn try_list(
+    bank: &Bank,
+    pass: &mut Pass,
+    alloc: Global,
+    l: Object,
+    call: &ListCall,
+    called: &Call,
+) -> Step
+    requires may { MayTry bank.now pass.old (objects_by l (other_list call.now)) }
+    requires call { called.now ≡ calls.List l call.now }
+    requires names { AreOfKindIn (shape_of bank.now) kind.List l (other_list call.now) }
+    requires no_cursor { cursor_of_list call.now ≡ None }
+    requires left { 0 < (view pass.old).left }
+    ensures { (hands : List (Option Cursor)) → IsTryOfCall bank.now hands (calls.List l call.now) pass.old pass.new result }
+{
+    match *call {
+        ListCall::Append { value } => {
+            let known = Call::List {
+                container: l,
+                call: ListCall::Append { value },
+            };
+            try_under_locks(bank, pass, &Appender, Objects::One(l), &known)
+        }
+        _ => try_any_list(bank, pass, alloc, l, call, called),
+    }
 }

@@ -12,6 +12,7 @@ ghost use Rattle.ft_engine.specs.Contentions.{may_look};
 ghost use Rattle.ft_engine.specs.Keeping.{WasAnswered};
 ghost use Rattle.ft_engine.specs.Asked.{IsCallIn};
 ghost use Rattle.ft_engine.specs.Resting.{HasFloor};
+ghost use Rattle.ft_engine.specs.SoFar.{IsAnsweredRight};
 
 use crate::caller::{Caller, Flight};
 use crate::dict_call::look_dict;
@@ -25,7 +26,7 @@ use std::alloc::Global;
 
 /// Whether the call may be made by a look.
 #[inline(always)]
-fn is_looking(call: &Call) -> bool
+pub(crate) fn is_looking(call: &Call) -> bool
     ensures { result ≡ may_look call.now }
 {
     match call {
@@ -67,7 +68,7 @@ pub(crate) fn look_call(bank: &Bank, pass: &mut Pass, alloc: Global, call: &Call
 }
 
 impl Caller {
-    /// Whether no call is in flight.
+    /// Whether no call is in flight: only then may it look, leave, meet others and be taken in.
     pub fn is_idle(&self) -> bool
         ensures { IsTrue result ↔ IsIdle self.now }
     {
@@ -126,6 +127,8 @@ impl Engine {
             WasAnswered caller.new (entries_with_look (thread_of caller.old) call.now result mine) }
         ensures looked { IsLooked call.now (view (pass_of caller.old)) (view (pass_of caller.new)) result }
         ensures floor { HasFloor caller.old → IsUncontended result }
+        ensures right { (mine : List NamedEntry) → WasAnswered caller.old mine →
+            IsAnsweredRight caller.new (entries_with_look (thread_of caller.old) call.now result mine) }
     {
         let Some(look) = look_call(&self.bank, &mut caller.pass, alloc, call) else {
             unreachable!();

@@ -9,6 +9,8 @@ ghost use Rattle.ft_bank.specs.PassSections.{stack_of};
 ghost use Rattle.ft_engine.specs.Callers.{IsCallerOf, IsIdle, bank_of, hands_of, left_of, pass_of, thread_of};
 ghost use Rattle.ft_engine.specs.DoneCallers.{WereAnswered, IsCallerDone};
 ghost use Rattle.ft_engine.specs.Keeping.{WasAnswered};
+ghost use Rattle.ft_engine.specs.Resting.{token_count};
+ghost use Rattle.ft_engine.specs.SoFar.{AreAnswersRight};
 ghost use Rattle.ft_engine.specs.Visits.{SameCallerWork};
 
 use crate::caller::Caller;
@@ -62,8 +64,11 @@ impl Engine {
         ensures entries { (view (pass_of caller.new)).entries ≡ (view (pass_of caller.old)).entries }
         ensures seen { (writes_seen (pass_of caller.old) ≤ writes_seen (pass_of caller.new)) × (writes_seen (pass_of other) ≤ writes_seen (pass_of caller.new)) }
         ensures parts { (view (pass_of caller.new)).parts ≡ (view (pass_of caller.old)).parts + (view (pass_of other)).parts }
+        ensures tokens { token_count caller.new ≡ token_count caller.old + token_count other }
         ensures kept { (mine theirs : List (List NamedEntry)) → WereAnswered caller.old mine → WereAnswered other theirs →
             thread_of other ≡ thread_of caller.old + length mine → WereAnswered caller.new (mine ++ theirs) }
+        ensures right { (mine theirs : List (List NamedEntry)) → WereAnswered caller.old mine → WereAnswered other theirs →
+            thread_of other ≡ thread_of caller.old + length mine → AreAnswersRight caller.new (mine ++ theirs) }
     {
         let Caller {
             pass,

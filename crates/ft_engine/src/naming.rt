@@ -57,6 +57,7 @@ impl Engine {
     }
 
     /// The same of the one or two containers that a call names.
+    #[inline(always)]
     fn are_of_kind(&self, kind: Kind, o: Object, other: Option<Object>) -> bool
         ensures { IsTrue result ↔ AreOfKindIn (shape_of self.now.bank) kind o other }
     {

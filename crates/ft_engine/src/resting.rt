@@ -11,6 +11,7 @@ ghost use Rattle.ft_bank.specs.PassSections.{stack_of};
 ghost use Rattle.ft_engine.specs.declared.caller.Caller.{Caller as ACaller};
 ghost use Rattle.ft_engine.specs.Callers.{IsCallerOf, IsIdle, bank_of, hands_of, left_of, pass_of, thread_of};
 ghost use Rattle.ft_engine.specs.DoneCallers.{WereAnswered};
+ghost use Rattle.ft_engine.specs.SoFar.{AreAnswersRight};
 ghost use Rattle.ft_engine.specs.Resting.{HandsOn, HasFloor, IsAsBefore, IsRestDone, IsRestingCallerOf, IsWoken, KeepsFloor, RestsAs, rests_in, token_count};
 
 use crate::caller::{Caller, Flight};
@@ -72,10 +73,11 @@ impl Engine {
     /// all words of the bank.
     pub fn take_floor(&self, caller: &mut Caller)
         requires caller { IsCallerOf self.now caller.old }
-        requires all { token_count caller.old ≡ (shape_of (bank_of self.now)).passes }
+        requires all { (shape_of (bank_of self.now)).passes ≤ token_count caller.old }
         ensures caller { IsCallerOf self.now caller.new }
         ensures same { IsAsBefore caller.old caller.new }
         ensures floor { HasFloor caller.new }
+        ensures kept { (lists : List (List NamedEntry)) → WereAnswered caller.old lists → WereAnswered caller.new lists }
     {
         self.bank.take_floor(&mut caller.pass);
     }
@@ -123,8 +125,11 @@ impl Engine {
         ensures entries { (view (pass_of caller.new)).entries ≡ (view (pass_of caller.old)).entries }
         ensures seen { (writes_seen (pass_of caller.old) ≤ writes_seen (pass_of caller.new)) × (seen_writes (rests_in other) ≤ writes_seen (pass_of caller.new)) }
         ensures parts { (view (pass_of caller.new)).parts ≡ (view (pass_of caller.old)).parts + (rests_in other).parts }
+        ensures floor { KeepsFloor caller.old caller.new }
         ensures kept { (mine theirs : List (List NamedEntry)) (c : ACaller) → RestsAs c other → WereAnswered caller.old mine →
             WereAnswered c theirs → thread_of c ≡ thread_of caller.old + length mine → WereAnswered caller.new (mine ++ theirs) }
+        ensures right { (mine theirs : List (List NamedEntry)) (c : ACaller) → RestsAs c other → WereAnswered caller.old mine →
+            WereAnswered c theirs → thread_of c ≡ thread_of caller.old + length mine → AreAnswersRight caller.new (mine ++ theirs) }
     {
         let RestingCaller {
             pass,

@@ -16,8 +16,8 @@ ghost use Rattle.ft_engine.specs.Asked.{AreOfKindIn, HasKeyIn};
 
 use ft_bank::{Bank, Pass};
 use ft_model::{Call, SetCall};
-use ft_section::{Look, Object, Step};
-use ft_set::{SetMaker, look_eq, look_has, look_items, look_len};
+use ft_section::{Look, Object, Objects, Step};
+use ft_set::{ElementMaker, SetMaker, look_eq, look_has, look_items, look_len};
 use ft_table_calls::{named_objects, try_under_locks};
 use std::alloc::Global;
 
@@ -89,7 +89,7 @@ pub(crate) fn look_set(
 
 /// A call on a set under its locks; none that makes a cursor.
 #[inline(always)]
-pub(crate) fn try_set_call(
+fn try_any_set(
     bank: &Bank,
     pass: &mut Pass,
     alloc: Global,
@@ -108,4 +108,42 @@ pub(crate) fn try_set_call(
     let objects = named_objects(s, call.other());
     let maker = SetMaker { alloc: Some(alloc) };
     try_under_locks(bank, pass, &maker, objects, called)
+}
+
+/// A call on a set under its locks; none that makes a cursor. The calls that are made most have arms of their own,
+/// which know their call before the lock is taken.
+#[inline(always)]
+pub(crate) fn try_set_call(
+    bank: &Bank,
+    pass: &mut Pass,
+    alloc: Global,
+    s: Object,
+    call: &SetCall,
+    called: &Call,
+) -> Step
+    requires may { MayTry bank.now pass.old (objects_by s (other_set call.now)) }
+    requires call { called.now ≡ calls.Set s call.now }
+    requires names { AreOfKindIn (shape_of bank.now) kind.Set s (other_set call.now) }
+    requires key { HasKeyIn (shape_of bank.now) (key_of_set call.now) }
+    requires no_cursor { cursor_of_set call.now ≡ None }
+    requires left { 0 < (view pass.old).left }
+    ensures { (hands : List (Option Cursor)) → IsTryOfCall bank.now hands (calls.Set s call.now) pass.old pass.new result }
+{
+    match *call {
+        SetCall::Add { key } => {
+            let known = Call::Set {
+                container: s,
+                call: SetCall::Add { key },
+            };
+            try_under_locks(bank, pass, &ElementMaker, Objects::One(s), &known)
+        }
+        SetCall::Discard { key } => {
+            let known = Call::Set {
+                container: s,
+                call: SetCall::Discard { key },
+            };
+            try_under_locks(bank, pass, &ElementMaker, Objects::One(s), &known)
+        }
+        _ => try_any_set(bank, pass, alloc, s, call, called),
+    }
 }

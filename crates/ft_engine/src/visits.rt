@@ -4,6 +4,7 @@ ghost use Rattle.ft_model.specs.declared.entry.Entry.{Entry as NamedEntry};
 ghost use Rattle.ft_trace.specs.Acts.{announces};
 ghost use Rattle.ft_bank.specs.Passes.{view};
 ghost use Rattle.ft_engine.specs.Callers.{IsCallerOf, IsIdle, pass_of};
+ghost use Rattle.ft_engine.specs.Collections.{HasLeft};
 ghost use Rattle.ft_engine.specs.Keeping.{WasAnswered};
 ghost use Rattle.ft_engine.specs.Resting.{KeepsFloor};
 ghost use Rattle.ft_engine.specs.Visits.{SameCallerWork};
@@ -25,13 +26,14 @@ impl Engine {
         ft_qsbr::enter(&self.bank, &mut caller.pass);
     }
 
-    /// The caller goes offline, and gives back what it retired and no other holds on to.
+    /// The caller goes offline, and collects: what it retired and no caller online can still read is free again.
     pub fn leave(&self, caller: &mut Caller)
         requires caller { IsCallerOf self.now caller.old }
         requires idle { IsIdle caller.old }
         ensures caller { IsCallerOf self.now caller.new }
         ensures same { SameCallerWork caller.old caller.new }
         ensures offline { announces (view (pass_of caller.new)).log ≡ 0 }
+        ensures collected { HasLeft (view (pass_of caller.old)) (view (pass_of caller.new)) }
         ensures floor { KeepsFloor caller.old caller.new }
         ensures kept { (mine : List NamedEntry) → WasAnswered caller.old mine → WasAnswered caller.new mine }
     {

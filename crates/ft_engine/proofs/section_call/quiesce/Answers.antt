@@ -30,7 +30,7 @@ returns c hands =
     let n = c.stamp-number.result in
     let d = c.stamp-number.ensures.did in
     let a = c.answer.ensures in (
-      quiesce_answer c.args.bank.now c.args.pass.now q c.answer.new.pass (record { number = n; wrote = false }) c.requires.ready c.requires.left c.quiesce.ensures.pass c.quiesce.ensures.sections (quiesced_calm (view c.args.pass.now) (view q) c.requires.ready.inside.1.still c.quiesce.ensures.did) c.quiesce.ensures.online
+      quiesce_answer c.args.bank.now c.args.pass.now q c.answer.new.pass (record { number = n; wrote = false }) c.requires.ready c.requires.left c.quiesce.ensures.pass c.quiesce.ensures.sections (quiesced_calm (view c.args.pass.now) (view q) c.requires.ready.inside.1.still c.quiesce.ensures.did) c.quiesce.ensures.did c.quiesce.ensures.online
           (a.0 ∙ (d.0 ∙ c.quiesce.ensures.pass.0), ap (λ (z : View). z.shape) a.1 ∙ (ap (λ (z : View). z.shape) d.1 ∙ c.quiesce.ensures.pass.1)) (a.2 ∙ d.2)
           (a.1 ∙ ap (view_after (Answer call.Quiesce reply.Done n)) d.1) refl c.stamp-number.ensures.seen,
       no_containers hands call.Quiesce c.args.pass.now refl,

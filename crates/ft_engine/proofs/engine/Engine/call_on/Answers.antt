@@ -6,8 +6,8 @@ loop-init g c = (c.requires.caller, c.requires.may, λ first before. before)
 
 pub loop-preserved : goal.loop-preserved
 loop-preserved g c =
-    let x = c.in_default.ensures.again in
+    let x = c.in-Err.ensures.again in
     (x.2.caller, x.2.again x.1, λ first before. more_between c.args.self.now c.args.call.now first c.loop.caller c.try_once.new.caller x.0 (c.loop.invariant.2 first before) x.1 x.2)
 
-pub returns-in-Some-try_once : goal.returns-in-Some-try_once
-returns-in-Some-try_once g c first before = (c.loop.caller, c.loop.invariant.2 first before, c.in-Some-try_once.ensures.done)
+pub returns-in-Ok : goal.returns-in-Ok
+returns-in-Ok g c first before = (c.loop.caller, c.loop.invariant.2 first before, c.in-Ok.ensures.done)

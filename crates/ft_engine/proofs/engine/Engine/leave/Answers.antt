@@ -23,3 +23,6 @@ returns-clause-kept c mine kept = calm_kept c.args.caller.now (record c.args.cal
 
 pub returns-clause-floor : goal.returns-clause-floor
 returns-clause-floor c = record { floor = (calm c).floor; since = (calm c).since }
+
+pub returns-clause-collected : goal.returns-clause-collected
+returns-clause-collected c = c.leave.ensures.did

@@ -10,6 +10,7 @@ use Rattle.ft_engine.specs.Keeping.{WasAnswered}
 use Rattle.ft_engine.proofs.Keeping.{no_answer_idle}
 use Rattle.ft_engine.proofs.LookCalls.{after_caller, after_flight, after_kept, after_pass, after_same}
 use Rattle.ft_engine.proofs.AtRest.{still_of}
+use Rattle.ft_engine.proofs.SoFar.{answers_right, look_open}
 use Rattle.ft_engine.proofs.Uncontended.{look_stands}
 use Rattle.ft_engine.proofs.engine.Engine.look.Goals as goal
 use Rattle.ft_engine.proofs.engine.Engine.look.Goals.{After-take_look}
@@ -71,3 +72,8 @@ pub returns-clause-floor : goal.returns-clause-floor
 returns-clause-floor c has =
     look_stands c.args.self.now.bank c.args.caller.now.pass c.look_call.new.pass c.args.caller.now.cursors.items c.args.call.now c.in-Some.look
     (c.requires.may.names (no_answer_idle c.args.caller.now.flight c.requires.idle)) (still_of c.args.self.now c.args.caller.now c.requires.caller).even c.in-Some.ensures.pass.1 c.in-Some.ensures.looked has
+
+pub returns-clause-right : goal.returns-clause-right
+returns-clause-right c mine kept =
+    answers_right c.take_look.new.self (entries_with_look (thread_of c.args.caller.now) c.args.call.now c.in-Some.look mine)
+    (look_open c.args.call.now c.in-Some.look c.take_look.new.self.flight (returns-clause-flight c)) (returns-clause-kept c mine kept)

@@ -1,11 +1,26 @@
-use Rattle.std.proofs.Common.{sym, ap, ◌∙◌, subst}
+use Rattle.std.proofs.Common.{refl, sym, ap, ◌∙◌, subst, arith}
+use Rattle.std.proofs.Math.Logic.{∥∥₁_elim}
+use Rattle.std.proofs.Math.Nat.{ℕ_set}
+use Rattle.ft_trace.specs.declared.Shape.{Shape}
 use Rattle.ft_trace.specs.declared.View.{View}
 use Rattle.ft_trace.specs.Acts.{announces}
-use Rattle.ft_bank.specs.Passes.{view}
-use Rattle.ft_engine.proofs.AtRest.{as_before, floored_steady, still_of}
+use Rattle.ft_bank.specs.Passes.{shape_of, view}
+use Rattle.ft_engine.proofs.AtRest.{as_before, floored_steady, still_of, tokens_low}
 use Rattle.ft_engine.proofs.Callers.{same_but_pass, steady_caller}
 use Rattle.ft_engine.proofs.PassesAfter.{IsSteady}
+use Rattle.ft_engine.proofs.ReadContents.{steady_all}
 use Rattle.ft_engine.proofs.engine.Engine.take_floor.Goals as goal
+
+pub take_floor-requires-clause-all : goal.take_floor-requires-clause-all
+take_floor-requires-clause-all c =
+    let p = c.args.caller.now.pass in
+    let passes = (shape_of c.args.self.now.bank).passes in
+    ∥∥₁_elim p.possible (ℕ_set (view p).tokens passes)
+    (λ x.
+    let low = tokens_low (view p) x in
+    let all = c.requires.all in
+    let same = ap (λ (k : Shape). k.passes) c.requires.caller.pass.1 in
+    omega (arith, low, all, same))
 
 steady : (c : goal.After-take_floor) → IsSteady (view c.args.caller.now.pass) (view c.take_floor.new.pass)
 steady c =
@@ -27,3 +42,8 @@ returns-clause-same c =
 
 pub returns-clause-floor : goal.returns-clause-floor
 returns-clause-floor c = ap (λ (v : View). v.has_floor) c.take_floor.ensures.did.2.1
+
+pub returns-clause-kept : goal.returns-clause-kept
+returns-clause-kept c lists are =
+    let old = c.args.caller.now in
+    steady_all old (record old { pass = c.take_floor.new.pass }) lists (steady c) c.take_floor.ensures.did.2.2 refl are

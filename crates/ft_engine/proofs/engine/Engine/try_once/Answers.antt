@@ -8,7 +8,7 @@ use Rattle.ft_engine.proofs.engine.Engine.try_once.Goals.{After-attempt}
 tried : (c : After-attempt) → IsTried c.args.self.now c.args.call.now c.attempt.result c.args.caller.now c.attempt.new.caller
 tried c =
     let x = c.attempt.ensures in
-    record { caller = x.caller; same = x.same; flight = x.flight; kept = x.kept; mark = x.mark; found = x.found; looked = x.looked; halves = x.halves; again = x.again }
+    record { caller = x.caller; same = x.same; flight = x.flight; kept = x.kept; mark = x.mark; found = x.found; looked = x.looked; halves = x.halves; own = x.own; again = x.again }
 
 pub returns-in-NotYet-clause-again : goal.returns-in-NotYet-clause-again
 returns-in-NotYet-clause-again c =

@@ -1,8 +1,9 @@
 -- What the lists of all threads of a script come to, where each has just the calls of its thread.
-use Rattle.std.proofs.Common.{◌≡◌, ◌≢◌, ℕ, zero, suc, ◌+◌, List, [], ◌∷◌, ◌++◌, length, map, refl, sym, ap, ◌∙◌, subst, arith, None, Some, inl, inr, ◌⊎◌}
+use Rattle.std.proofs.Common.{◌≡◌, ◌≢◌, ℕ, zero, suc, ◌+◌, ◌-◌, List, [], ◌∷◌, ◌++◌, length, map, refl, sym, ap, ◌∙◌, subst, arith, None, Some, inl, inr}
 use Rattle.std.specs.List.{flat_map}
 use Rattle.std.specs.List.Sorted.{IsPermutation}
 use Rattle.std.specs.Prelude.{IsTrue, max, slice_get}
+use Rattle.std.proofs.Math.Logic.{∥∥₁_map}
 use Rattle.std.proofs.Math.Nat.{max-zero}
 use Rattle.std.proofs.lemmas.List.{length_push}
 use Rattle.std.proofs.lemmas.List.Sorted.{length_permutation}
@@ -11,10 +12,14 @@ use native.Mathlib.Decide.{ℕ_discrete}
 use native.Mathlib.Nat.{suc-max-suc}
 use Rattle.ft_model.specs.declared.entry.Entry.{Entry}
 use Rattle.ft_model.specs.declared.entry.Storage.TheVariants as storage
+use Rattle.ft_model.specs.declared.reply.Shown.{Shown}
 use Rattle.ft_model.specs.declared.script.ScriptParts.{ScriptParts}
+use Rattle.ft_model.specs.declared.script.Start.{Start}
+use Rattle.ft_model.specs.Answers.{shown_of}
 use Rattle.ft_model.specs.Histories.{calls_of}
 use Rattle.ft_model.specs.Numbers.{IsHistoryOf}
 use Rattle.ft_model.specs.Scripts.{IsScript}
+use Rattle.ft_model.specs.Worlds.{empty_world}
 use Rattle.ft_trace.specs.declared.Entry.{Entry as PassEntry}
 use Rattle.ft_trace.specs.declared.Shape.{Shape}
 use Rattle.ft_trace.specs.Acts.{announces}
@@ -27,25 +32,15 @@ use Rattle.ft_engine.specs.declared.engine.Engine.{Engine}
 use Rattle.ft_engine.specs.Callers.{IsCallerOf, IsIdle, pass_of, taken_of, thread_of}
 use Rattle.ft_bank_history.specs.Marks.{HaveScriptCalls}
 use Rattle.ft_engine.specs.DoneCallers.{WereAnswered, AreOfScript, IsLegalFor}
+use Rattle.ft_engine.specs.Contents.{IsLegalWith}
 use Rattle.ft_engine.specs.Keeping.{WasAnswered}
+use Rattle.ft_engine.specs.Resting.{IsAsBefore}
+use Rattle.ft_engine.proofs.ReadContents.{push_found}
 use Rattle.ft_run_threads.specs.declared.workers.Worker.{Worker}
 use Rattle.ft_run_threads.specs.Workers.{HasTakenIn, HasWorked, IsBankFor}
 use Rattle.ft_run_threads.proofs.ScriptFacts.{calls_past, own_asked}
 
 -- ---- one list more
-
-same_some : {A : Type 0} (x y : A) → Some x ≡ Some y → x ≡ y
-same_some x y e = cc
-
-push_found : {A : Type 0} (l : List A) (x y : A) (n : ℕ) → slice_get (l ++ x ∷ []) n ≡ Some y → (slice_get l n ≡ Some y) ⊎ ((n ≡ length l) × (x ≡ y))
-push_found [] x y zero at = inr (refl, same_some x y at)
-push_found [] x y (suc n) at = absurd (let none : None ≡ Some y = at in cc)
-push_found (z ∷ l) x y zero at = inl at
-push_found (z ∷ l) x y (suc n) at =
-    elim (push_found l x y n at) [
-      | inl found ↦ inl found
-      | inr last ↦ inr (ap suc last.0, last.1)
-    ]
 
 pub made_push : (script : ScriptParts) (lists : List (List Entry)) (mine : List Entry) → HaveScriptCalls script lists → map (λ e. e.call) mine ≡ calls_of script (length lists) → HaveScriptCalls script (lists ++ mine ∷ [])
 made_push script lists mine made is thread other at =
@@ -93,6 +88,19 @@ next_taken e script c d w lists old is done caller thread idle announced section
       parts = let more : length (lists ++ w.entries.items ∷ []) ≡ length lists + 1 = length_push lists w.entries.items in omega (arith, parts, both, one, more);
       kept = kept lists (w.entries.items ∷ []) old.kept (own_kept w (is.kept done) is.member.taken) number;
       made = made_push script lists w.entries.items old.made (is.made done);
+    }
+
+-- the first caller, when it has read what the containers have
+pub still_taken : (e : Engine) (script : ScriptParts) (c d : Caller) (lists : List (List Entry)) → HasTakenIn e script c lists → IsCallerOf e d → IsAsBefore c d → (WereAnswered c lists → WereAnswered d lists) → HasTakenIn e script d lists
+still_taken e script c d lists old caller before kept =
+    let same = before.same in
+    record {
+      caller = caller;
+      done = record { idle = same.flight ∙ old.done.idle; sections = ap (λ (s : Stack). s.sections) same.sections ∙ old.done.sections; offline = before.announced ∙ old.done.offline };
+      thread = ap (λ (n : ℕ). n - 1) same.number ∙ old.thread;
+      parts = same.parts ∙ old.parts;
+      kept = kept old.kept;
+      made = old.made;
     }
 
 -- ---- no thread
@@ -153,6 +161,20 @@ module _ (script : ScriptParts) (k : Shape) (lists : List (List Entry)) (is : Is
         cursors = own_asked script lists is made;
         count = all ∙ (bank.passes ∙ few);
       }
+
+  -- with what the containers have then
+  pub ended_with : (history : List Entry) (all : List Shown) → IsPermutation (flat_map (λ mine. mine) lists) history → (IsScript script → AreOfScript script k lists → HaveScriptCalls script lists → IsLegalWith script history all) → (history ≡ [] → ∥ (all ≡ map shown_of (empty_world k.starts)) ∥₁) → IsLegalWith script history all
+  ended_with history all moved closed nothing =
+      dite (ℕ_discrete (length script.threads) 0)
+      (λ (none : length script.threads ≡ 0).
+      let nil = nothing_made script lists history none made moved in
+      ∥∥₁_map (nothing nil)
+      (λ same. (
+        [],
+        subst (IsHistoryOf storage.Tables script []) (sym nil) (empty_history script none),
+        same ∙ ap (λ (starts : List Start). map shown_of (empty_world starts)) bank.starts,
+      )))
+      (λ some. closed is (of_script some) made)
 
   pub ended_legal : (history : List Entry) → IsPermutation (flat_map (λ mine. mine) lists) history → (IsScript script → AreOfScript script k lists → HaveScriptCalls script lists → IsLegalFor script history) → IsLegalFor script history
   ended_legal history moved closed =

@@ -1,6 +1,7 @@
 //! A script from its start to its end: its threads at work beside each other, and then one history.
 ghost use Rattle.std.specs.Prelude.{IfOk};
 ghost use Rattle.ft_bank.specs.Closings.{shape_in};
+ghost use Rattle.ft_engine.specs.Contents.{IsLegalWith};
 ghost use Rattle.ft_engine.specs.DoneCallers.{IsLegalFor};
 ghost use Rattle.ft_run_threads.specs.ClosedHistories.{HasEntriesOf};
 ghost use Rattle.ft_run_threads.specs.Workers.{IsBankFor};
@@ -10,7 +11,7 @@ use crate::gate::Gate;
 use crate::starting::start;
 use crate::working::work_all;
 use ft_bank::Closed;
-use ft_model::{Entry, Script};
+use ft_model::{Entry, Script, Shown};
 use std::alloc::{AllocError, Global};
 use std::sync::Wait;
 use std::thread::Threads;
@@ -20,13 +21,16 @@ use std::thread::Threads;
 pub struct Ran {
     /// The history of all calls.
     pub history: Vec<Entry>,
+    /// What the containers are shown to have in the end, in the order of declaration.
+    pub contents: Vec<Shown>,
     /// The bank on which they were made.
     pub closed: Closed,
 }
 
 /// Runs a script: each of its threads makes its calls, in a thread of its own, on containers in shared words, with the
-/// gate called round each call. It gives the history of what they were answered, which is legal, and the closed bank,
-/// which is one for the script and has just the entries of the history. It may wait: nothing says that it returns.
+/// gate called round each call. It gives the history of what they were answered, which is legal, what the containers have
+/// after its writes, and the closed bank, which is one for the script and has just the entries of the history. It may
+/// wait: nothing says that it returns.
 ///
 /// # Errors
 ///
@@ -39,6 +43,7 @@ pub fn run_workers<R: Threads + Wait + Sync, G: Gate>(
     gate: &G,
 ) -> Result<Ran, AllocError>
     ensures legal { IfOk result (λ ran. IsLegalFor script.now ran.history.items) }
+    ensures contents { IfOk result (λ ran. IsLegalWith script.now ran.history.items ran.contents.items) }
     ensures shape { IfOk result (λ ran. IsBankFor script.now (shape_in ran.closed)) }
     ensures entries { IfOk result (λ ran. HasEntriesOf ran.closed ran.history.items) }
 {

@@ -1,6 +1,7 @@
 //! A script from its start to its end, in the order of its turns.
 ghost use Rattle.std.specs.Prelude.{IfOk};
 ghost use Rattle.ft_bank.specs.Closings.{shape_in};
+ghost use Rattle.ft_engine.specs.Contents.{IsLegalWith};
 ghost use Rattle.ft_engine.specs.DoneCallers.{IsLegalFor};
 ghost use Rattle.ft_run_turns.specs.OrderedHistories.{IsOrderRunFor};
 ghost use Rattle.ft_run_threads.specs.ClosedHistories.{HasEntriesOf};
@@ -11,7 +12,7 @@ use crate::seating::seat_callers;
 use crate::turning::take_turns;
 use ft_bank::Closed;
 use ft_engine::Engine;
-use ft_model::{Entry, MOST_CURSORS, Script};
+use ft_model::{Entry, MOST_CURSORS, Script, Shown};
 use ft_run_threads::shape_for;
 use std::alloc::{AllocError, Global};
 
@@ -20,13 +21,15 @@ use std::alloc::{AllocError, Global};
 pub struct TurnRun {
     /// The history of all calls.
     pub history: Vec<Entry>,
+    /// What the containers are shown to have in the end, in the order of declaration.
+    pub contents: Vec<Shown>,
     /// The bank on which they were made.
     pub closed: Closed,
 }
 
 /// Runs a script on this thread, in the order of its turns, on containers in shared words. It gives the history of what
-/// its threads were answered, which is legal and in the order of the turns, and the closed bank, which is one for the
-/// script and has just the entries of the history.
+/// its threads were answered, which is legal and in the order of the turns, what the containers have after its writes,
+/// and the closed bank, which is one for the script and has just the entries of the history.
 ///
 /// # Errors
 ///
@@ -35,6 +38,7 @@ pub struct TurnRun {
 pub fn run_in_turns(alloc: Global, script: &Script) -> Result<TurnRun, AllocError>
     ensures order { IfOk result (λ run. IsOrderRunFor script.now run.history.items) }
     ensures legal { IfOk result (λ run. IsLegalFor script.now run.history.items) }
+    ensures contents { IfOk result (λ run. IsLegalWith script.now run.history.items run.contents.items) }
     ensures shape { IfOk result (λ run. IsBankFor script.now (shape_in run.closed)) }
     ensures entries { IfOk result (λ run. HasEntriesOf run.closed run.history.items) }
 {

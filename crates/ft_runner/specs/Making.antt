@@ -34,23 +34,23 @@ is_index_error _ = false
 abbrev pub length_in : List Content → ℕ → ℕ
 length_in world container = option_map_or length_of (slice_get world container) 0
 
--- a line of the summary for each: the calls, the writes, the replies of three kinds, and what the dict, the list and
--- the set have in the end
-abbrev pub summary_rows : ℕ → List Entry → List Content → List (List ℕ × ℕ)
-summary_rows calls history world =
+-- a line of the summary for each: the calls, the writes, the replies of three kinds, and how much the dict, the list
+-- and the set have in the end, which are containers 0, 1 and 2
+abbrev pub summary_rows : ℕ → List Entry → (ℕ → ℕ) → List (List ℕ × ℕ)
+summary_rows calls history lengths =
     (codes "calls", calls)
     ∷ (codes "writes", count_by (λ entry. entry.wrote) history)
     ∷ (codes "KeyError", count_by (λ entry. is_key_error entry.reply) history)
     ∷ (codes "IndexError", count_by (λ entry. is_index_error entry.reply) history)
     ∷ (codes "MemoryError", count_by (λ entry. is_memory entry.reply) history)
-    ∷ (codes "d", length_in world 0) ∷ (codes "l", length_in world 1) ∷ (codes "s", length_in world 2) ∷ []
+    ∷ (codes "d", lengths 0) ∷ (codes "l", lengths 1) ∷ (codes "s", lengths 2) ∷ []
 
 -- a word and a number
 abbrev pub row_text : List ℕ × ℕ → List ℕ
 row_text row = row.0 ++ 32 ∷ decimal row.1 ++ 10 ∷ []
 
-abbrev pub summary_text : ℕ → List Entry → List Content → List ℕ
-summary_text calls history world = flat_map row_text (summary_rows calls history world)
+abbrev pub summary_text : ℕ → List Entry → (ℕ → ℕ) → List ℕ
+summary_text calls history lengths = flat_map row_text (summary_rows calls history lengths)
 
 -- ---- what is made
 
@@ -68,4 +68,4 @@ pub record IsSummary (calls : ℕ) (history : List Entry) (closed : Option Close
   -- each MemoryError of a class stands on a call that would take a table of that class there
   pub fitting : AreFitting stored script history
   pub left : LeavesBank (made_text calls) history closed
-  pub written : text ≡ summary_text calls history (world_at script history (length (writes history)))
+  pub written : text ≡ summary_text calls history (length_in (world_at script history (length (writes history))))

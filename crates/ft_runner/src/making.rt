@@ -4,8 +4,8 @@ ghost use Rattle.std.specs.Prelude.{◌≡◌, ◌++◌, IfOk, OnOk, count_by, S
 ghost use Rattle.std.specs.List.{flat_map};
 ghost use Rattle.ft_io.specs.Streams.{Stream};
 ghost use Rattle.ft_runner.specs.declared.command.Subcommand.TheVariants as subcommand;
-ghost use Rattle.ft_runner.specs.Internal.Summaries.{is_counted};
-ghost use Rattle.ft_runner.specs.Making.{length_in, row_text, summary_text, IsSummary};
+ghost use Rattle.ft_runner.specs.Internal.Summaries.{is_counted, shown_length_in};
+ghost use Rattle.ft_runner.specs.Making.{row_text, summary_text, IsSummary};
 ghost use Rattle.ft_runner.specs.Reports.{ComesTo, IsCommandDone, MeansMade};
 
 use crate::outcome::Outcome;
@@ -13,7 +13,7 @@ use crate::running::run_turns;
 use crate::writing::put_all;
 use ft_bank::Closed;
 use ft_io::{Failed, Sink};
-use ft_model::{Entry, Raise, Reply, World};
+use ft_model::{Entry, Raise, Reply, Shown};
 use ft_script::{make_script, parse};
 use itoa::Buffer;
 use std::alloc::{AllocError, Global};
@@ -89,7 +89,7 @@ fn summary(alloc: Global, calls: u32) -> Result<MadeSummary, AllocError>
         return Err(AllocError);
     };
     let run = run_turns(alloc, &script)?;
-    let text = summary_of(alloc, calls, &run.history, &run.world)?;
+    let text = summary_of(alloc, calls, &run.history, &run.contents)?;
     Ok(MadeSummary {
         text,
         history: run.history,
@@ -102,9 +102,9 @@ fn summary_of(
     alloc: Global,
     calls: u32,
     entries: &[Entry],
-    world: &World,
+    contents: &[Shown],
 ) -> Result<Vec<u8>, AllocError>
-    ensures { IfOk result (λ text. text.items ≡ summary_text calls entries.now world.now) }
+    ensures { IfOk result (λ text. text.items ≡ summary_text calls entries.now (shown_length_in contents.now)) }
 {
     let rows = [
         ("calls", u64::from(calls)),
@@ -112,9 +112,9 @@ fn summary_of(
         ("KeyError", count(entries, Counted::KeyErrors)),
         ("IndexError", count(entries, Counted::IndexErrors)),
         ("MemoryError", count(entries, Counted::MemoryErrors)),
-        ("d", length_in(world, 0)),
-        ("l", length_in(world, 1)),
-        ("s", length_in(world, 2)),
+        ("d", length_in(contents, 0)),
+        ("l", length_in(contents, 1)),
+        ("s", length_in(contents, 2)),
     ];
     let mut text = Vec::new(alloc);
     push_rows(&mut text, &rows)?;
@@ -146,12 +146,14 @@ fn is_counted(kind: Counted, entry: &Entry) -> bool
     }
 }
 
-/// How many pairs, items or elements a container has.
-fn length_in(world: &World, container: usize) -> u64
-    ensures { result ≡ length_in world.now container }
+/// How many pairs, items or elements a container is shown to have.
+fn length_in(contents: &[Shown], container: usize) -> u64
+    ensures { result ≡ shown_length_in contents.now container }
 {
-    match world.contents().get(container) {
-        Some(content) => content.len() as u64,
+    match contents.get(container) {
+        Some(Shown::Dict(pairs)) => pairs.as_slice().len() as u64,
+        Some(Shown::List(items)) => items.as_slice().len() as u64,
+        Some(Shown::Set(elements)) => elements.as_slice().len() as u64,
         None => 0,
     }
 }

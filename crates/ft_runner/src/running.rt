@@ -1,6 +1,6 @@
 //! Runs scripts: on this thread in the order of their turns, or with their threads beside each other.
 ghost use Rattle.ft_bank.specs.Closings.{shape_in};
-ghost use Rattle.ft_engine.specs.DoneCallers.{IsLegalFor};
+ghost use Rattle.ft_engine.specs.Contents.{IsLegalWith};
 ghost use Rattle.ft_runner.specs.declared.command.Subcommand.{Subcommand};
 ghost use Rattle.ft_runner.specs.declared.command.Subcommand.TheVariants as subcommand;
 ghost use Rattle.ft_runner.specs.Internal.ScriptRuns.{IsRunOf};
@@ -11,25 +11,24 @@ ghost use Rattle.ft_run_threads.specs.ClosedHistories.{HasEntriesOf};
 ghost use Rattle.ft_run_threads.specs.Workers.{IsBankFor};
 ghost use Rattle.std.specs.Prelude.{◌≡◌, ℕ, List, IfOk, Ok};
 
-use crate::checking::STORED;
 use crate::outcome::Outcome;
 use crate::writing::{WriteFault, write_all};
 use ft_bank::Closed;
-use ft_history::judge_with_world;
+use ft_history::legal_can_be_told;
 use ft_io::Sink;
-use ft_model::{Entry, Script, World};
+use ft_model::{Entry, Script, Shown};
 use ft_run_threads::{Gate, run_workers};
 use ft_run_turns::run_in_turns;
 use std::alloc::{AllocError, Global};
 use std::sync::Wait;
 use std::thread::Threads;
 
-/// What a script has come to: its history, what the containers have after it, and what is left of
-/// the bank.
+/// What a script has come to: its history, what the containers are shown to have after it, and what
+/// is left of the bank.
 #[derive(Drop)]
 pub(crate) struct ScriptRun {
     pub(crate) history: Vec<Entry>,
-    pub(crate) world: World,
+    pub(crate) contents: Vec<Shown>,
     pub(crate) closed: Closed,
 }
 
@@ -39,7 +38,7 @@ pub(crate) fn run_turns(alloc: Global, script: &Script) -> Result<ScriptRun, All
     ensures order { IfOk result (λ run. IsOrderRunFor script.now run.history.items) }
 {
     let ran = run_in_turns(alloc, script)?;
-    with_world(alloc, script, ran.history, ran.closed)
+    Ok(script_run(script, ran.history, ran.contents, ran.closed))
 }
 
 /// Runs the threads of a script beside each other.
@@ -52,28 +51,29 @@ pub(crate) fn run_threads<R: Threads + Wait + Sync, G: Gate>(
     ensures { IfOk result (λ run. IsRunOf script.now run) }
 {
     let ran = run_workers(rt, alloc, script, gate)?;
-    with_world(alloc, script, ran.history, ran.closed)
+    Ok(script_run(script, ran.history, ran.contents, ran.closed))
 }
 
-/// Adds the contents in the end, which are those of plain containers after the history's writes.
-fn with_world(
-    alloc: Global,
+/// What a script has come to whose history is legal, with what plain containers have after its writes.
+fn script_run(
     script: &Script,
     history: Vec<Entry>,
+    contents: Vec<Shown>,
     closed: Closed,
-) -> Result<ScriptRun, AllocError>
-    requires legal { IsLegalFor script.now history.items }
+) -> ScriptRun
+    requires legal { IsLegalWith script.now history.items contents.items }
     requires bank { IsBankFor script.now (shape_in closed) }
     requires entries { HasEntriesOf closed history.items }
-    ensures run { IfOk result (λ run. IsRunOf script.now run) }
-    ensures history { IfOk result (λ run. run.history.items ≡ history.items) }
+    ensures run { IsRunOf script.now result }
+    ensures history { result.history.items ≡ history.items }
 {
-    let judged = judge_with_world(alloc, STORED, script, &history)?;
-    Ok(ScriptRun {
+    let _ = script;
+    legal_can_be_told();
+    ScriptRun {
         history,
-        world: judged.world,
+        contents,
         closed,
-    })
+    }
 }
 
 /// Writes the history and the contents to which a script has come, and answers what it comes to.
@@ -89,7 +89,7 @@ pub(crate) fn put_run<K: Sink>(
         → (command ≡ subcommand.Turns → IsOrderRunFor script.now run.history.items)
         → ComesTo (MeansRun command bytes) (K.stream sink.old) (K.stream sink.new) result }
 {
-    match write_all(alloc, sink, script, &run.history, &run.world) {
+    match write_all(alloc, sink, script, &run.history, &run.contents) {
         Ok(()) => Outcome::Clean(run.history, Some(run.closed)),
         Err(WriteFault::Failed) => Outcome::Write(run.history, Some(run.closed)),
         Err(WriteFault::Memory) => Outcome::Memory,

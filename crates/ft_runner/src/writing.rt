@@ -1,15 +1,16 @@
 //! Writing a history through one buffer; where the sink fails, what was put is a prefix of the
 //! text.
-ghost use Rattle.std.specs.Prelude.{◌≡◌, true, ◌++◌, All, OnOk, OnErr};
-ghost use Rattle.ft_model.specs.Parts.{IsEntryOf, IsWorldOf};
-ghost use Rattle.ft_script.specs.Texts.{entry_line, world_text};
+ghost use Rattle.std.specs.Prelude.{◌≡◌, true, ◌++◌, length, All, OnOk, OnErr};
+ghost use Rattle.ft_model.specs.Parts.{IsEntryOf, IsShownOf};
+ghost use Rattle.ft_script.specs.ShownLines.{shown_lines};
+ghost use Rattle.ft_script.specs.Texts.{entry_line};
 ghost use Rattle.std.specs.List.{flat_map};
 ghost use Rattle.ft_runner.specs.Transfers.{PutsPrefix, IsBuffered, PutsText, Writes};
 
 use crate::limits::PIECE;
 use ft_io::{Failed, Sink};
-use ft_model::{Entry, Script, World};
-use ft_script::{push_entry, push_world};
+use ft_model::{Entry, Script, Shown};
+use ft_script::{push_contents, push_entry};
 use std::alloc::{AllocError, Global};
 
 /// The buffer goes out when it has this many bytes, so that no line of up to 4,096 bytes makes it grow.
@@ -50,18 +51,18 @@ pub(crate) fn write_all<K: Sink>(
     sink: &mut K,
     script: &Script,
     entries: &[Entry],
-    world: &World,
+    contents: &[Shown],
 ) -> Result<(), WriteFault>
     requires entries { All (IsEntryOf script.now) entries.now }
-    requires world { IsWorldOf script.now world.now }
-    ensures { Writes (K.stream sink.old) (flat_map (entry_line script.now) entries.now ++ world_text script.now world.now) result (K.stream sink.new) }
+    requires contents { All (IsShownOf (length script.now.strings)) contents.now }
+    ensures { Writes (K.stream sink.old) (flat_map (entry_line script.now) entries.now ++ shown_lines script.now contents.now) result (K.stream sink.new) }
 {
     let mut buffer = Vec::with_capacity(alloc, PIECE)?;
     for entry in entries {
         push_entry(&mut buffer, script, entry)?;
         put_full(sink, &mut buffer)?;
     }
-    push_world(&mut buffer, script, world)?;
+    push_contents(&mut buffer, script, contents)?;
     put_all(sink, &buffer)?;
     Ok(())
 }

@@ -1,12 +1,20 @@
 use Rattle.std.specs.declared.alloc.Global.{Global}
-use Rattle.std.proofs.Common.{◌≡◌, ℕ, ◌++◌, [], ◌∷◌, map, sym, ap, subst, ◌∙◌}
+use Rattle.std.proofs.Common.{◌≡◌, ℕ, ◌+◌, ◌++◌, [], ◌∷◌, length, map, sym, ap, subst, ◌∙◌, arith}
 use Rattle.std.specs.Prelude.{IsTrue, Vec}
-use Rattle.std.proofs.lemmas.List.{length-map, map-append}
+use Rattle.std.proofs.lemmas.List.{length-map, length_push, map-append}
 use Rattle.ft_model.specs.declared.entry.Entry.{Entry}
+use Rattle.ft_engine.specs.Callers.{pass_of}
 use Rattle.ft_run_threads.specs.Workers.{HasTakenIn, HasWorked}
 use Rattle.ft_run_threads.proofs.WholeLists.{next_taken}
 use Rattle.ft_run_threads.proofs.WorkerLemmas.{not_not}
 use Rattle.ft_run_threads.proofs.closing.take_in.Goals as goal
+
+pub returns-clause-tokens : goal.returns-clause-tokens
+returns-clause-tokens c low =
+    let more : length c.push.new.self.items ≡ length c.args.lists.now.items + 1 = ap length c.in_ok-push.ensures.items ∙ length_push c.args.lists.now.items c.args.worker.entries in
+    let sum = c.join.ensures.tokens in
+    let some = (pass_of c.args.worker.caller).awake in
+    omega (arith, low, more, sum, some)
 
 pub returns-clause-taken : goal.returns-clause-taken
 returns-clause-taken c =

@@ -25,6 +25,7 @@ loop-seat-init c =
       subst (λ n. AreEndSeats e script n rest) (sym one) (subst (AreEndSeats e script 0) steps c.requires.seats).1,
       ap (λ l. l ++ map seat_entries rest) (same ∙ ap (λ l. l ∷ []) woken.ensures.entries) ∙ sym (ap (map seat_entries) steps),
       left,
+      woken.ensures.floor,
     )
 
 pub take_in-requires-clause-seat : goal.take_in-requires-clause-seat
@@ -53,6 +54,7 @@ loop-seat-preserved c =
           ∙ (append_assoc (vec_lists at.lists.items) (seat_entries seat ∷ []) (map seat_entries rest)
           ∙ (ap (λ l. vec_lists at.lists.items ++ map seat_entries l) (sym steps) ∙ at.invariant.2)),
       omega (arith, short, long, gone),
+      c.take_in.ensures.floor at.invariant.4,
     )
 
 pub returns-clause-lists : goal.returns-clause-lists

@@ -19,3 +19,6 @@ returns-clause-taken c =
 
 pub returns-clause-entries : goal.returns-clause-entries
 returns-clause-entries c = sym (ap seat_entries c.in-Some.is)
+
+pub returns-clause-floor : goal.returns-clause-floor
+returns-clause-floor c = c.wake-caller.ensures.woken.floor

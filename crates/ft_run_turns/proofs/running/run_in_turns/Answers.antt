@@ -2,6 +2,7 @@ use Rattle.std.proofs.Common.{◌≡◌, ◌++◌, [], List, Option, length, tak
 use Rattle.std.specs.Prelude.{IfOk}
 use Rattle.std.proofs.lemmas.List.{with_items_is}
 use Rattle.ft_model.specs.declared.script.ScriptParts.{ScriptParts}
+use Rattle.ft_engine.specs.Contents.{IsLegalWith}
 use Rattle.ft_engine.specs.DoneCallers.{IsLegalFor}
 use Rattle.ft_turns.specs.Orders.{turns_of}
 use Rattle.ft_run_turns.specs.declared.seats.Seat.{Seat}
@@ -42,3 +43,6 @@ close_all-requires-clause-made c =
 
 pub returns-clause-legal : goal.returns-clause-legal
 returns-clause-legal c = subst (λ (script : ScriptParts). IfOk c.close_all.result (λ run. IsLegalFor script run.history.items)) c.parts-parts.ensures.parts c.close_all.ensures.legal
+
+pub returns-clause-contents : goal.returns-clause-contents
+returns-clause-contents c = subst (λ (script : ScriptParts). IfOk c.close_all.result (λ run. IsLegalWith script run.history.items run.contents.items)) c.parts-parts.ensures.parts c.close_all.ensures.contents

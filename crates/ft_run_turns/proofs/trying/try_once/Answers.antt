@@ -16,7 +16,7 @@ returns-in-NotYet c =
     record {
       answer = t;
       turn = tried_turn c.args.engine.now called t c.args.caller.now c.attempt.new.caller c.requires.caller c.requires.may c.requires.floor memory
-          (record { caller = x.caller; same = x.same; flight = x.flight; kept = x.kept; mark = x.mark; found = x.found; looked = x.looked; halves = x.halves; again = x.again });
+          (record { caller = x.caller; same = x.same; flight = x.flight; kept = x.kept; mark = x.mark; found = x.found; looked = x.looked; halves = x.halves; own = x.own; again = x.again });
       entries = sym (ap (λ r. entries_with_answer (thread_of c.args.caller.now) called r mine) c.in-NotYet.is);
       ended = sym (ap ends_call c.in-NotYet.is);
     }
@@ -31,7 +31,7 @@ returns-in-Moved c =
     record {
       answer = t;
       turn = tried_turn c.args.engine.now called t c.args.caller.now c.attempt.new.caller c.requires.caller c.requires.may c.requires.floor memory
-          (record { caller = x.caller; same = x.same; flight = x.flight; kept = x.kept; mark = x.mark; found = x.found; looked = x.looked; halves = x.halves; again = x.again });
+          (record { caller = x.caller; same = x.same; flight = x.flight; kept = x.kept; mark = x.mark; found = x.found; looked = x.looked; halves = x.halves; own = x.own; again = x.again });
       entries = sym (ap (λ r. entries_with_answer (thread_of c.args.caller.now) called r mine) c.in-Moved.is);
       ended = sym (ap ends_call c.in-Moved.is);
     }

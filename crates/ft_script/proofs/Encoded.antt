@@ -17,7 +17,7 @@ use Rattle.ft_script.proofs.Kept.{AreGoodWords}
 -- ---- cuts at a byte of ASCII
 
 -- what stands before and after such a byte is UTF-8
-seam : (front : List ℕ) (b : ℕ) (rest : List ℕ) → b < 128 → IsUtf8 (front ++ b ∷ rest) → IsUtf8 front × IsUtf8 rest
+pub seam : (front : List ℕ) (b : ℕ) (rest : List ℕ) → b < 128 → IsUtf8 (front ++ b ∷ rest) → IsUtf8 front × IsUtf8 rest
 seam front b rest low is =
     let whole : List ℕ = front ++ b ∷ rest in
     let here : get_or whole (length front) 0 ≡ b = get_or_at front b rest 0 (length front) refl in
@@ -30,34 +30,34 @@ seam front b rest low is =
       subst (λ (l : List ℕ). IsUtf8 l) after (IsUtf8-drop whole (length front + 1) is (IsCharBoundary-after_ascii whole (length front) is within ascii)),
     )
 
-moved : (front : List ℕ) (b : ℕ) (rest : List ℕ) → IsUtf8 (front ++ b ∷ rest) → IsUtf8 ((front ++ b ∷ []) ++ rest)
+pub moved : (front : List ℕ) (b : ℕ) (rest : List ℕ) → IsUtf8 (front ++ b ∷ rest) → IsUtf8 ((front ++ b ∷ []) ++ rest)
 moved front b rest is = subst (λ (l : List ℕ). IsUtf8 l) (sym (append_assoc front (b ∷ []) rest)) is
 
-moved_back : (front : List ℕ) (b : ℕ) (rest : List ℕ) → IsUtf8 ((front ++ b ∷ []) ++ rest) → IsUtf8 (front ++ b ∷ rest)
+pub moved_back : (front : List ℕ) (b : ℕ) (rest : List ℕ) → IsUtf8 ((front ++ b ∷ []) ++ rest) → IsUtf8 (front ++ b ∷ rest)
 moved_back front b rest is = subst (λ (l : List ℕ). IsUtf8 l) (append_assoc front (b ∷ []) rest) is
 
 one_ascii : (b : ℕ) → b < 128 → IsAscii (b ∷ [])
 one_ascii b low zero = low
 one_ascii b low (suc i) = omega arith
 
-one_encoded : (b : ℕ) → b < 128 → IsUtf8 (b ∷ [])
+pub one_encoded : (b : ℕ) → b < 128 → IsUtf8 (b ∷ [])
 one_encoded b low = IsUtf8-from_ascii (b ∷ []) (one_ascii b low)
 
 -- ---- what holds by cases
 
-cond_is : {A : Type 0} (b : Bool) (x y : A) (P : A → Type 0) → (b ≡ true → P x) → (b ≡ false → P y) → P (cond b x y)
+pub cond_is : {A : Type 0} (b : Bool) (x y : A) (P : A → Type 0) → (b ≡ true → P x) → (b ≡ false → P y) → P (cond b x y)
 cond_is true x y P left right = left refl
 cond_is false x y P left right = right refl
 
-cond_both : {A B : Type 0} (b : Bool) (x y : A) (u v : B) (P : A → B → Type 0) → (b ≡ true → P x u) → (b ≡ false → P y v) → P (cond b x y) (cond b u v)
+pub cond_both : {A B : Type 0} (b : Bool) (x y : A) (u v : B) (P : A → B → Type 0) → (b ≡ true → P x u) → (b ≡ false → P y v) → P (cond b x y) (cond b u v)
 cond_both true x y u v P left right = left refl
 cond_both false x y u v P left right = right refl
 
-map_holds : {A B : Type 0} (o : Option A) (f : A → B) (P : A → Type 0) (Q : B → Type 0) → IfSome o P → ((a : A) → P a → Q (f a)) → IfSome (option_map f o) Q
+pub map_holds : {A B : Type 0} (o : Option A) (f : A → B) (P : A → Type 0) (Q : B → Type 0) → IfSome o P → ((a : A) → P a → Q (f a)) → IfSome (option_map f o) Q
 map_holds None f P Q h then = tt
 map_holds (Some a) f P Q h then = then a h
 
-anything : {A : Type 0} (o : Option A) → IfSome o (λ _. Unit {0})
+pub anything : {A : Type 0} (o : Option A) → IfSome o (λ _. Unit {0})
 anything None = tt
 anything (Some x) = tt
 
@@ -120,7 +120,7 @@ Good place.Escape front (word ∷ words) = IsTextAfter front (text_from true wor
 Good place.Ended front [] = Unit {0}
 Good place.Ended front (word ∷ words) = AreGoodWords words
 
-abbrev after : Place → ℕ → List ℕ → Option Place → Option (List (List ℕ))
+abbrev pub after : Place → ℕ → List ℕ → Option Place → Option (List (List ℕ))
 after at b bytes to = elim to [ None ↦ None | Some next ↦ option_map (byte_joined at b next) (words_from next bytes) ]
 
 string_begins : (b : ℕ) (words : List (List ℕ)) → Good place.String [] words → AreGoodWords (with_first b words)
@@ -235,13 +235,13 @@ line_good line is = words_good place.Between line [] is
 
 -- ---- the first word of a line
 
-abbrev is_space : ℕ → Bool
+abbrev pub is_space : ℕ → Bool
 is_space b = eqb b 32
 
-abbrev has_bytes : List ℕ → Bool
+abbrev pub has_bytes : List ℕ → Bool
 has_bytes word = not (eqb (length word) 0)
 
-abbrev HaveSameFirst : List (List ℕ) → List (List ℕ) → Type 0
+abbrev pub HaveSameFirst : List (List ℕ) → List (List ℕ) → Type 0
 HaveSameFirst (word ∷ words) (part ∷ parts) = word ≡ part
 HaveSameFirst words parts = ⊥
 
@@ -254,7 +254,7 @@ first_goes_on b [] (part ∷ parts) h = absurd h
 first_goes_on b (word ∷ words) [] h = absurd h
 first_goes_on b (word ∷ words) (part ∷ parts) h = ap (with_byte b) h
 
-plain_first : (bytes : List ℕ) → IfSome (words_from place.Plain bytes) (λ words. HaveSameFirst words (slice_split is_space bytes))
+pub plain_first : (bytes : List ℕ) → IfSome (words_from place.Plain bytes) (λ words. HaveSameFirst words (slice_split is_space bytes))
 unfolding words_from
 plain_first [] = refl
 plain_first (b ∷ bytes) =
@@ -263,7 +263,7 @@ plain_first (b ∷ bytes) =
     (λ _. map_holds (words_from place.Plain bytes) _ (λ words. HaveSameFirst words (slice_split is_space bytes)) (λ words. HaveSameFirst words (onto_first b (slice_split is_space bytes))) (plain_first bytes) (λ words h. first_goes_on b words (slice_split is_space bytes) h))
 
 -- the first word, where it is no string
-abbrev IsFirst : Option (List ℕ) → List (List ℕ) → Type 0
+abbrev pub IsFirst : Option (List ℕ) → List (List ℕ) → Type 0
 IsFirst found [] = Unit {0}
 IsFirst found (word ∷ words) = is_string word ≡ false → found ≡ Some word
 
@@ -271,7 +271,7 @@ string_first : (b : ℕ) (words : List (List ℕ)) (found : Option (List ℕ)) �
 string_first b [] found mark = λ plain. absurd (true≢false (sym mark ∙ plain))
 string_first b (word ∷ words) found mark = λ plain. absurd (true≢false (sym mark ∙ plain))
 
-word_first : (b : ℕ) (words parts : List (List ℕ)) → HaveSameFirst words parts → IsFirst (find has_bytes (onto_first b parts)) (with_first b words)
+pub word_first : (b : ℕ) (words parts : List (List ℕ)) → HaveSameFirst words parts → IsFirst (find has_bytes (onto_first b parts)) (with_first b words)
 word_first b [] [] h = absurd h
 word_first b [] (part ∷ parts) h = absurd h
 word_first b (word ∷ words) [] h = absurd h

@@ -1,5 +1,5 @@
 -- Lines of entries and contents that are printed, and read back.
-use Rattle.std.proofs.Common.{◌≡◌, ◌≢◌, cond, ℕ, ◌^◌, ◌<◌, Bool, true, false, not, eqb, List, [], ◌∷◌, ◌++◌, length, drop, get_or, Option, Some, None, Ok, refl, sym, ap, ◌∙◌, subst, arith}
+use Rattle.std.proofs.Common.{◌≡◌, ◌≢◌, cond, ℕ, ◌^◌, ◌<◌, ◌≤◌, Bool, true, false, not, eqb, List, [], ◌∷◌, ◌++◌, length, drop, get_or, Option, Some, None, Ok, refl, sym, ap, ◌∙◌, subst, arith}
 use Rattle.std.specs.Prelude.{All, AllPairs, codes, slice_get, slice_index_or, IfSome}
 use Rattle.std.specs.List.{list_all, join_with_byte, AllByRecursion}
 use Rattle.std.specs.Fmt.{decimal}
@@ -41,10 +41,24 @@ use Rattle.ft_script.specs.declared.lines.Place.TheVariants as place
 abbrev cursors_in : Option Thread → List (List ℕ)
 cursors_in found = option_map_or (λ (thread : Thread). thread.cursors) found []
 
-cursor_at : (found : Option Thread) (number : ℕ) → ((thread : Thread) → found ≡ Some thread → AllPairs (λ a b. a ≢ b) thread.cursors) → number < option_map_or (λ (thread : Thread). length thread.cursors) found 0 →
-    text_place (cursors_in found) (option_map_or (λ (thread : Thread). slice_index_or thread.cursors number []) found []) ≡ Some number
-cursor_at None number differ low = absurd (omega arith)
-cursor_at (Some thread) number differ low = text_place_at thread.cursors number (differ thread refl) low
+cursor_is : (found : Option Thread) (number : ℕ) → option_map_or (λ (thread : Thread). slice_index_or thread.cursors number []) found [] ≡ slice_index_or (cursors_in found) number []
+cursor_is None number = refl
+cursor_is (Some thread) number = refl
+
+cursors_counted : (found : Option Thread) → length (cursors_in found) ≡ option_map_or (λ (thread : Thread). length thread.cursors) found 0
+cursors_counted None = refl
+cursors_counted (Some thread) = refl
+
+no_cursors_differ : AllPairs (λ (a b : List ℕ). a ≢ b) []
+no_cursors_differ i j d low high = absurd (omega arith)
+
+cursors_differ : (found : Option Thread) → ((thread : Thread) → found ≡ Some thread → AllPairs (λ a b. a ≢ b) thread.cursors) → AllPairs (λ a b. a ≢ b) (cursors_in found)
+cursors_differ None differ = no_cursors_differ
+cursors_differ (Some thread) differ = differ thread refl
+
+cursors_few : (found : Option Thread) → ((thread : Thread) → found ≡ Some thread → length thread.cursors ≤ 256) → length (cursors_in found) ≤ 256
+cursors_few None few = omega arith
+cursors_few (Some thread) few = few thread refl
 
 cursor_named : (found : Option Thread) (number : ℕ) → ((thread : Thread) → found ≡ Some thread → All (λ cursor. is_container_name cursor ≡ true) thread.cursors) → number < option_map_or (λ (thread : Thread). length thread.cursors) found 0 →
     is_container_name (option_map_or (λ (thread : Thread). slice_index_or thread.cursors number []) found []) ≡ true
@@ -64,9 +78,13 @@ pub declares : (script : ScriptParts) (thread : ℕ) → IsScript script → thr
 declares script thread rule low = record {
   strings_differ = rule.strings_differ;
   strings_are = rule.strings;
+  strings_few = rule.few_strings;
   names_are = rule.container_names;
   names_differ = rule.containers_differ;
-  cursor_place = λ number below. cursor_at (slice_get script.threads thread) number (λ found is. (thread_at script thread rule low found is).cursors_differ) below;
+  cursors_differ = cursors_differ (slice_get script.threads thread) (λ found is. (thread_at script thread rule low found is).cursors_differ);
+  cursors_few = cursors_few (slice_get script.threads thread) (λ found is. (thread_at script thread rule low found is).few_cursors);
+  cursors_counted = cursors_counted (slice_get script.threads thread);
+  cursor_is = λ number. cursor_is (slice_get script.threads thread) number;
   cursor_form = λ number below. cursor_named (slice_get script.threads thread) number (λ found is. (thread_at script thread rule low found is).cursor_names) below;
 }
 
@@ -75,22 +93,23 @@ declares script thread rule low = record {
 thread_name_at : (script : ScriptParts) (thread : ℕ) (d : Thread) → thread < length script.threads → thread_name script thread ≡ (get_or script.threads thread d).name
 thread_name_at script thread d low = ap (λ (o : Option Thread). option_map_or (λ (found : Thread). found.name) o []) (slice_get-get_or script.threads thread d low)
 
-thread_form : (script : ScriptParts) (thread : ℕ) → IsScript script → thread < length script.threads → is_thread_name (thread_name script thread) ≡ true
+pub thread_form : (script : ScriptParts) (thread : ℕ) → IsScript script → thread < length script.threads → is_thread_name (thread_name script thread) ≡ true
 thread_form script thread rule low = ap is_thread_name (thread_name_at script thread no_thread low) ∙ (rule.threads thread no_thread low).name
 
 pub thread_begins : (script : ScriptParts) (thread : ℕ) → IsScript script → thread < length script.threads → BeginsHigh (thread_name script thread)
 thread_begins script thread rule low = (thread_word (thread_name script thread) (thread_form script thread rule low)).1
 
-thread_back : (script : ScriptParts) (thread : ℕ) → IsScript script → thread < length script.threads → read_thread script (thread_name script thread) ≡ Ok thread
-unfolding read_thread
-thread_back script thread rule low =
+pub thread_place_at : (script : ScriptParts) (thread : ℕ) → IsScript script → thread < length script.threads → thread_place script.threads (thread_name script thread) ≡ Some thread
+thread_place_at script thread rule low =
     let name : List ℕ = thread_name script thread in
     let is : name ≡ (get_or script.threads thread no_thread).name = thread_name_at script thread no_thread low in
-    let at : thread_place script.threads name ≡ Some thread =
     position_at (λ found. bytes_eq found.name name) script.threads thread no_thread low
     (λ k below. bytes_differ (get_or script.threads k no_thread).name name (λ same. rule.threads_differ k thread no_thread below low (same ∙ is)))
-    (bytes_same (get_or script.threads thread no_thread).name name (sym is)) in
-    ap (or_fault fault.Name) at
+    (bytes_same (get_or script.threads thread no_thread).name name (sym is))
+
+thread_back : (script : ScriptParts) (thread : ℕ) → IsScript script → thread < length script.threads → read_thread script (thread_name script thread) ≡ Ok thread
+unfolding read_thread
+thread_back script thread rule low = ap (or_fault fault.Name) (thread_place_at script thread rule low)
 
 word_append : (a b : List ℕ) → IsWord a → list_all is_part b ≡ true → IsWord (a ++ b)
 word_append [] b ha hb = absurd ha

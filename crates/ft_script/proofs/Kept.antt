@@ -18,12 +18,14 @@ use Rattle.ft_model.specs.Keys.{as_value}
 use Rattle.ft_script.specs.Drafts.{Draft}
 use Rattle.ft_script.specs.declared.fault.Fault.{Fault}
 use Rattle.ft_script.specs.declared.fault.Fault.TheVariants as fault
+use Rattle.ft_script.specs.ScriptTexts.{AreNumbered, key_mentions, value_mentions}
 use Rattle.ft_script.specs.Transcripts.{IsWideKey, IsWideValue}
 use Rattle.ft_script.specs.LineWords.{integer_of, is_integer, is_string, is_wide, text_of}
 use Rattle.ft_script.specs.Drafts.{◌>>=◌, or_fault, container_place, text_place}
 use Rattle.ft_script.specs.Arguments.{read_symbol, read_index, read_two_indices, read_key, read_value, read_container, kind_at, is_of_kind, read_other, read_made_cursor, just_key, read_key_and_value, just_key_and_value, just_value, just_index, just_some_index, just_two_indices, read_index_and_value, just_index_and_value, just_other, just_made_cursor, just_cursor, just_section, read_two_containers, read_cursor}
 use Rattle.ft_script.proofs.MoreCalls.{key_grows}
 use Rattle.ft_script.proofs.DistinctNames.{absent_text, differ_push, place_within}
+use Rattle.ft_script.proofs.Numbering.{numbered_join}
 use Rattle.ft_script.proofs.WordLemmas.{integer_by}
 
 -- ---- what holds where a step succeeds
@@ -96,34 +98,36 @@ table_push strings text table textual short room none =
     }
 
 abbrev pub Symbol : Draft → ℕ × Draft → Type 0
-Symbol d p = (read : StringsRead d p.1) × (p.0 < length read.to)
+Symbol d p = (read : StringsRead d p.1) × (p.0 < length read.to) × AreNumbered (length d.strings) (p.0 ∷ []) (length read.to)
 
 symbol_keeps : (d : Draft) (text : List ℕ) → IsTable d.strings → IsTextual text → IfOk (read_symbol d text) (Symbol d)
 unfolding read_symbol
 symbol_keeps d text table textual =
     cond_holds (ltb 255 (length text)) _ _ (Symbol d) (λ _. tt) (λ short.
     some_holds (text_place d.strings text) _ _ (Symbol d)
-    (λ n found. (no_strings d table, place_within (λ other. bytes_eq text other) d.strings n found))
+    (λ n found. (let low = place_within (λ other. bytes_eq text other) d.strings n found in (no_strings d table, low, inl (low, refl))))
     (λ none. cond_holds (ltb (length d.strings) 65536) _ _ (Symbol d)
     (λ room.
     let few : length text ≤ 255 = ltb-false 255 (length text) short in
     let low : length d.strings < 65536 = ltb-true (length d.strings) 65536 room in
     let longer : length (d.strings ++ text ∷ []) ≡ length d.strings + 1 = length-append d.strings (text ∷ []) in
-    (record { to = d.strings ++ text ∷ []; is = refl; table = table_push d.strings text table textual few low none; more = omega arith }, omega arith))
+    (record { to = d.strings ++ text ∷ []; is = refl; table = table_push d.strings text table textual few low none; more = omega arith }, omega arith, inr (refl, sym longer)))
     (λ _. tt)))
 
 abbrev pub Keyed : Draft → Key × Draft → Type 0
 Keyed d p = (read : StringsRead d p.1) × IsKeyOf (length read.to) p.0 × IsWideKey p.0
+    × AreNumbered (length d.strings) (key_mentions p.0) (length read.to)
 
 key_keeps : (d : Draft) (word : List ℕ) → IsTable d.strings → IsGoodWord word → IfOk (read_key d word) (Keyed d)
 unfolding read_key
 key_keeps d word table good =
     cond_holds (is_string word) _ _ (Keyed d)
-    (λ is. bind_holds (read_symbol d (text_of word)) _ (Symbol d) (Keyed d) (symbol_keeps d (text_of word) table (good is)) (λ symbol h. (h.0, h.1, tt)))
-    (λ _. bind_holds (read_index word) _ (λ n. is_wide n ≡ true) (Keyed d) (index_keeps word) (λ n wide. (no_strings d table, tt, wide)))
+    (λ is. bind_holds (read_symbol d (text_of word)) _ (Symbol d) (Keyed d) (symbol_keeps d (text_of word) table (good is)) (λ symbol h. (h.0, h.1, tt, h.2)))
+    (λ _. bind_holds (read_index word) _ (λ n. is_wide n ≡ true) (Keyed d) (index_keeps word) (λ n wide. (no_strings d table, tt, wide, refl)))
 
 abbrev pub Valued : Draft → Value × Draft → Type 0
 Valued d p = (read : StringsRead d p.1) × IsValueOf (length read.to) p.0 × IsWideValue p.0
+    × AreNumbered (length d.strings) (value_mentions p.0) (length read.to)
 
 value_of_key : (strings : ℕ) (k : Key) → IsKeyOf strings k → IsValueOf strings (as_value k)
 value_of_key strings (key.Int n) h = tt
@@ -133,11 +137,15 @@ wide_value_of_key : (k : Key) → IsWideKey k → IsWideValue (as_value k)
 wide_value_of_key (key.Int n) h = h
 wide_value_of_key (key.Text symbol) h = tt
 
+mentions_of_key : (known all : ℕ) (k : Key) → AreNumbered known (key_mentions k) all → AreNumbered known (value_mentions (as_value k)) all
+mentions_of_key known all (key.Int n) h = h
+mentions_of_key known all (key.Text symbol) h = h
+
 value_keeps : (d : Draft) (word : List ℕ) → IsTable d.strings → IsGoodWord word → IfOk (read_value d word) (Valued d)
 unfolding read_value
 value_keeps d word table good =
-    cond_holds (bytes_eq word _) _ _ (Valued d) (λ _. (no_strings d table, tt, tt))
-    (λ _. bind_holds (read_key d word) _ (Keyed d) (Valued d) (key_keeps d word table good) (λ found h. (h.0, value_of_key (length h.0.to) found.0 h.1, wide_value_of_key found.0 h.2)))
+    cond_holds (bytes_eq word _) _ _ (Valued d) (λ _. (no_strings d table, tt, tt, refl))
+    (λ _. bind_holds (read_key d word) _ (Keyed d) (Valued d) (key_keeps d word table good) (λ found h. (h.0, value_of_key (length h.0.to) found.0 h.1, wide_value_of_key found.0 h.2, mentions_of_key (length d.strings) (length h.0.to) found.0 h.3)))
 
 -- ---- containers and cursors
 
@@ -193,6 +201,7 @@ pub record CursorRead (d e : Draft) (number : ℕ) : Type 0 where
   pub more : length d.cursors ≤ length to
   pub within : number < length to
   pub fresh : (k : ℕ) → k < length to → (k < length d.cursors) ⊎ (k ≡ number)
+  pub numbered : AreNumbered (length d.cursors) (number ∷ []) (length to)
 
 cursors_push : (cursors : List (List ℕ)) (name : List ℕ) → IsCursors cursors → is_container_name name ≡ true → length cursors < 256 → text_place cursors name ≡ None → IsCursors (cursors ++ name ∷ [])
 cursors_push cursors name are form room none =
@@ -213,12 +222,12 @@ unfolding read_made_cursor
 made_cursor_keeps d name are =
     cond_holds (is_container_name name) _ _ (Made d) (λ form.
     some_holds (text_place d.cursors name) _ _ (Made d)
-    (λ n found. let low : n < length d.cursors = place_within (λ other. bytes_eq name other) d.cursors n found in record { to = d.cursors; is = refl; cursors = are; more = omega arith; within = low; fresh = λ k h. inl h })
+    (λ n found. let low : n < length d.cursors = place_within (λ other. bytes_eq name other) d.cursors n found in record { to = d.cursors; is = refl; cursors = are; more = omega arith; within = low; fresh = λ k h. inl h; numbered = inl (low, refl) })
     (λ none. cond_holds (ltb (length d.cursors) 256) _ _ (Made d)
     (λ room.
     let low : length d.cursors < 256 = ltb-true (length d.cursors) 256 room in
     let longer : length (d.cursors ++ name ∷ []) ≡ length d.cursors + 1 = length-append d.cursors (name ∷ []) in
-    record { to = d.cursors ++ name ∷ []; is = refl; cursors = cursors_push d.cursors name are form low none; more = omega arith; within = omega arith; fresh = λ k h. last_or_before k (length d.cursors) (omega arith) })
+    record { to = d.cursors ++ name ∷ []; is = refl; cursors = cursors_push d.cursors name are form low none; more = omega arith; within = omega arith; fresh = λ k h. last_or_before k (length d.cursors) (omega arith); numbered = inr (refl, sym longer) })
     (λ _. tt)))
     (λ _. tt)
 
@@ -236,6 +245,7 @@ key_in_keeps d (word ∷ other ∷ words) table good = tt
 abbrev pub KeyedAndValued : Draft → (Key × Value) × Draft → Type 0
 KeyedAndValued d p = (read : StringsRead d p.1) × IsKeyOf (length read.to) p.0.0 × IsValueOf (length read.to) p.0.1
     × IsWideKey p.0.0 × IsWideValue p.0.1
+    × AreNumbered (length d.strings) (key_mentions p.0.0 ++ value_mentions p.0.1) (length read.to)
 
 -- strings that are read after strings
 strings_then : (d e f : Draft) (first : StringsRead d e) (second : StringsRead e f) → (both : StringsRead d f) × (both.to ≡ second.to)
@@ -253,8 +263,15 @@ key_and_value_keeps d first second table good_first good_second =
     bind_holds (read_key d first) _ (Keyed d) (KeyedAndValued d) (key_keeps d first table good_first) (λ found h.
     bind_holds (read_value found.1 second) _ (Valued found.1) (KeyedAndValued d) (value_keeps found.1 second (table_after d found.1 h.0) good_second) (λ stored g.
     let both = strings_then d found.1 stored.1 h.0 g.0 in
-    let between : length found.1.strings ≡ length h.0.to = ap (λ (x : Draft). length x.strings) h.0.is in
-    (both.0, key_grows (length h.0.to) (length both.0.to) found.0 (let same : length both.0.to ≡ length g.0.to = ap length both.1 in omega (arith, g.0.more)) h.1, subst (λ (l : List (List ℕ)). IsValueOf (length l) stored.0) (sym both.1) g.1, h.2, g.2)))
+    let between : length found.1.strings ≡ length h.0.to = ap (λ (x : Draft). length x.strings) h.0.is in (
+      both.0,
+      key_grows (length h.0.to) (length both.0.to) found.0 (let same : length both.0.to ≡ length g.0.to = ap length both.1 in omega (arith, g.0.more)) h.1,
+      subst (λ (l : List (List ℕ)). IsValueOf (length l) stored.0) (sym both.1) g.1,
+      h.2,
+      g.2,
+      numbered_join (length d.strings) (length h.0.to) (length both.0.to) (key_mentions found.0) (value_mentions stored.0) h.3
+          (subst (λ (n : ℕ). AreNumbered n (value_mentions stored.0) (length both.0.to)) between (subst (λ (l : List (List ℕ)). AreNumbered (length found.1.strings) (value_mentions stored.0) (length l)) (sym both.1) g.3)),
+    )))
 
 pub key_and_value_in_keeps : (d : Draft) (words : List (List ℕ)) → IsTable d.strings → AreGoodWords words → IfOk (just_key_and_value d words) (KeyedAndValued d)
 unfolding just_key_and_value
@@ -271,12 +288,13 @@ value_in_keeps d (word ∷ other ∷ words) table good = tt
 
 abbrev pub Indexed : Draft → (ℤ × Value) × Draft → Type 0
 Indexed d p = (read : StringsRead d p.1) × IsValueOf (length read.to) p.0.1 × (is_wide p.0.0 ≡ true) × IsWideValue p.0.1
+    × AreNumbered (length d.strings) (value_mentions p.0.1) (length read.to)
 
 index_and_value_keeps : (d : Draft) (first second : List ℕ) → IsTable d.strings → IsGoodWord second → IfOk (read_index_and_value d first second) (Indexed d)
 unfolding read_index_and_value
 index_and_value_keeps d first second table good =
     bind_holds (read_index first) _ (λ n. is_wide n ≡ true) (Indexed d) (index_keeps first) (λ n wide.
-    bind_holds (read_value d second) _ (Valued d) (Indexed d) (value_keeps d second table good) (λ stored h. (h.0, h.1, wide, h.2)))
+    bind_holds (read_value d second) _ (Valued d) (Indexed d) (value_keeps d second table good) (λ stored h. (h.0, h.1, wide, h.2, h.3)))
 
 pub index_and_value_in_keeps : (d : Draft) (words : List (List ℕ)) → IsTable d.strings → AreGoodWords words → IfOk (just_index_and_value d words) (Indexed d)
 unfolding just_index_and_value

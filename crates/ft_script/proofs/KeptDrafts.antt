@@ -3,6 +3,8 @@ use Rattle.std.proofs.Common.{◌≡◌, ◌≢◌, ℕ, ◌+◌, ◌%◌, ◌<�
 use Rattle.std.specs.Prelude.{All, AllPairs, Any, IfSome, IfNone, IfOk, sum}
 use Rattle.std.proofs.lemmas.Bool.{ltb-true, eqb-true}
 use Rattle.std.proofs.lemmas.List.{length-append, append-nil, map-append}
+use Rattle.std.specs.List.{flat_map}
+use Rattle.std.proofs.lemmas.List.Concat.{flat_map-append}
 use Rattle.std.proofs.lemmas.List.Sums.{sum_by-append}
 use Rattle.std.proofs.lemmas.List.Elements.{All-push, All-weaker, All-nil}
 use Rattle.ft_model.specs.declared.call.Call.{Call}
@@ -17,6 +19,7 @@ use Rattle.ft_script.specs.Drafts.{Draft}
 use Rattle.ft_script.specs.declared.fault.Fault.{Fault}
 use Rattle.ft_script.specs.Drafts.{script_of, end_thread, thread_place}
 use Rattle.ft_script.specs.ScriptLines.{thread_line}
+use Rattle.ft_script.specs.ScriptTexts.{AreNumbered, HasMadeCursors, call_makes, call_mentions, thread_mentions}
 use Rattle.ft_script.specs.Transcripts.{IsWideCall}
 use Rattle.ft_script.proofs.MoreCalls.{call_grows}
 use Rattle.ft_script.proofs.DistinctNames.{absent, differ_push}
@@ -72,6 +75,9 @@ pub record IsDraft (d : Draft) : Type 0 where
   pub landed : All IsLandedCall d.calls
   pub starts : All IsPlainStart d.containers
   pub wide_threads : All HasWideCalls d.threads
+  pub mentioned : AreNumbered 0 (flat_map thread_mentions d.threads ++ flat_map call_mentions d.calls) (length d.strings)
+  pub makes : AreNumbered 0 (flat_map call_makes d.calls) (length d.cursors)
+  pub made_threads : All HasMadeCursors d.threads
 
 -- a thread stays one where the script has more
 pub thread_grows : (script larger : ScriptParts) (more : List Declaration) → larger.containers ≡ script.containers ++ more → length script.strings ≤ length larger.strings → (thread : Thread) → IsThread script thread → IsThread larger thread
@@ -161,6 +167,9 @@ ended d name h named closed =
       landed = All-nil IsLandedCall;
       starts = h.starts;
       wide_threads = All-push HasWideCalls d.threads thread h.wide_threads h.wide;
+      mentioned = subst (λ (l : List ℕ). AreNumbered 0 l (length d.strings)) (sym (append-nil (flat_map thread_mentions (d.threads ++ thread ∷ [])) ∙ flat_map-append thread_mentions d.threads (thread ∷ []) ∙ ap (λ (l : List ℕ). flat_map thread_mentions d.threads ++ l) (append-nil (thread_mentions thread)))) h.mentioned;
+      makes = refl;
+      made_threads = All-push HasMadeCursors d.threads thread h.made_threads h.makes;
     }
 
 pub end_thread_keeps : (d : Draft) → IsDraft d → IfOk (end_thread d) IsDraft

@@ -1,9 +1,10 @@
 -- The lines of a text make a draft that becomes a script.
-use Rattle.std.proofs.Common.{◌≡◌, ◌⊎◌, ℕ, ◌+◌, ◌%◌, ◌<◌, ◌≤◌, true, false, eqb, List, [], ◌∷◌, length, Option, Some, None, Result, Ok, Err, refl, sym, ◌∙◌, subst, inl, inr, arith, zip, map, replicate, suc, ap, cond}
-use Rattle.std.specs.Prelude.{IfSome, IfOk, All, min}
+use Rattle.std.proofs.Common.{◌≡◌, ◌⊎◌, ℕ, ◌+◌, ◌%◌, ◌<◌, ◌≤◌, true, false, eqb, List, [], ◌∷◌, ◌++◌, length, Option, Some, None, Result, Ok, Err, refl, sym, ◌∙◌, subst, inl, inr, arith, zip, map, replicate, suc, ap, cond}
+use Rattle.std.specs.Prelude.{IfSome, IfNone, IfOk, All, min}
+use Rattle.std.specs.List.{flat_map}
 use Rattle.std.specs.Option.{unwrap_or, is_some}
 use Rattle.std.specs.Str.{IsUtf8}
-use Rattle.std.proofs.lemmas.List.{length-map}
+use Rattle.std.proofs.lemmas.List.{append-nil, length-map}
 use Rattle.std.proofs.lemmas.List.Elements.{All-nil, All-replicate, All-append, All-cons, All-weaker}
 use Rattle.std.proofs.lemmas.Bool.{and_from, false≢true}
 use Rattle.std.proofs.lemmas.Option.{get_or_from_slice_get, slice_get_within}
@@ -25,6 +26,7 @@ use Rattle.ft_script.specs.Lines.{ends_thread, is_comment, lines_of, words_of}
 use Rattle.ft_script.specs.Drafts.{empty_draft, end_thread, or_fault, script_of}
 use Rattle.ft_script.specs.ScriptLines.{open_line, read_line, words_line}
 use Rattle.ft_script.specs.ReadScripts.{line_after, read_lines, reported_at}
+use Rattle.ft_script.specs.ScriptTexts.{AreNumbered, HasMadeCursors, HasText, call_mentions, thread_mentions}
 use Rattle.ft_script.specs.Transcripts.{IsWideCall}
 use Rattle.ft_script.proofs.Encoded.{AreEncoded, BeginsNoThread, begins_no_thread, line_good, lines_encoded}
 use Rattle.ft_script.proofs.Kept.{AreGoodWords, IsTable, bind_holds, cond_holds, or_holds, some_holds}
@@ -90,11 +92,15 @@ then_holds : {A B E : Type 0} (r : Result A E) (f : A → Result B E) (P : A →
 then_holds (Ok x) f P Q h then = then x h
 then_holds (Err e) f P Q h then = tt
 
-read_lines_keep : (lines : List (List ℕ)) (number : ℕ) (d : Draft) → IsDraft d → AreEncoded lines → IfOk (read_lines number d lines) IsDraft
+-- a draft in which no thread is open
+abbrev IsEnded : Draft → Type 0
+IsEnded d = IsDraft d × (d.name ≡ None)
+
+read_lines_keep : (lines : List (List ℕ)) (number : ℕ) (d : Draft) → IsDraft d → AreEncoded lines → IfOk (read_lines number d lines) IsEnded
 unfolding read_lines
-read_lines_keep [] number d h encoded = reported_holds number (end_thread d) IsDraft (end_thread_keeps d h)
+read_lines_keep [] number d h encoded = reported_holds number (end_thread d) IsEnded (both_hold (end_thread d) IsDraft (λ e. e.name ≡ None) (end_thread_keeps d h) (end_thread_names d))
 read_lines_keep (line ∷ lines) number d h encoded =
-    then_holds (reported_at number (read_line d line)) (λ next. read_lines (line_after number) next lines) IsDraft IsDraft (reported_holds number (read_line d line) IsDraft (read_line_keeps d line h encoded.0)) (λ next g. read_lines_keep lines (line_after number) next g encoded.1)
+    then_holds (reported_at number (read_line d line)) (λ next. read_lines (line_after number) next lines) IsDraft IsEnded (reported_holds number (read_line d line) IsDraft (read_line_keeps d line h encoded.0)) (λ next g. read_lines_keep lines (line_after number) next g encoded.1)
 
 -- ---- the first draft and the script
 
@@ -129,6 +135,9 @@ empty_is_draft =
       landed = All-nil IsLandedCall;
       starts = All-nil IsPlainStart;
       wide_threads = All-nil HasWideCalls;
+      mentioned = refl;
+      makes = refl;
+      made_threads = All-nil HasMadeCursors;
     }
 
 abbrev IsCount : ℕ → Type 0
@@ -210,17 +219,24 @@ script_is d h =
     }
 
 -- the lines of a text in UTF-8 come to a draft that becomes a script
-read_is_draft : (bytes : List ℕ) (draft : Draft) → IsUtf8 bytes → read_lines 1 empty_draft (lines_of bytes) ≡ Ok draft → IsDraft draft
+read_is_draft : (bytes : List ℕ) (draft : Draft) → IsUtf8 bytes → read_lines 1 empty_draft (lines_of bytes) ≡ Ok draft → IsEnded draft
 read_is_draft bytes draft encoded read =
-    let kept : IfOk (read_lines 1 empty_draft (lines_of bytes)) IsDraft = read_lines_keep (lines_of bytes) 1 empty_draft empty_is_draft (lines_encoded bytes encoded) in
-    subst (λ (r : Result Draft ScriptFault). IfOk r IsDraft) read kept
+    let kept : IfOk (read_lines 1 empty_draft (lines_of bytes)) IsEnded = read_lines_keep (lines_of bytes) 1 empty_draft empty_is_draft (lines_encoded bytes encoded) in
+    subst (λ (r : Result Draft ScriptFault). IfOk r IsEnded) read kept
 
--- what they come to is a script
-pub read_is_script : (bytes : List ℕ) (draft : Draft) (parts : ScriptParts) → IsUtf8 bytes → read_lines 1 empty_draft (lines_of bytes) ≡ Ok draft → parts ≡ script_of draft → IsScript parts
-read_is_script bytes draft parts encoded read made =
-    subst (λ (p : ScriptParts). IsScript p) (sym made) (script_is draft (read_is_draft bytes draft encoded read))
+has_text : (d : Draft) → IsEnded d → HasText (script_of d)
+has_text d h =
+    let idle : (d.cursors ≡ []) × (d.calls ≡ []) = subst (λ (o : Option (List ℕ)). IfNone o ((d.cursors ≡ []) × (d.calls ≡ []))) h.1 h.0.idle in
+    let front : List ℕ = flat_map thread_mentions d.threads in
+    record {
+      rule = script_is d h.0;
+      wide = h.0.wide_threads;
+      shared = refl;
+      mentioned = subst (λ (l : List ℕ). AreNumbered 0 l (length d.strings)) (ap (λ (l : List Call). front ++ flat_map call_mentions l) idle.1 ∙ append-nil front) h.0.mentioned;
+      made = h.0.made_threads;
+    }
 
--- and each integer of it is of 64 bits
-pub read_is_wide : (bytes : List ℕ) (draft : Draft) (parts : ScriptParts) → IsUtf8 bytes → read_lines 1 empty_draft (lines_of bytes) ≡ Ok draft → parts ≡ script_of draft → All HasWideCalls parts.threads
-read_is_wide bytes draft parts encoded read made =
-    subst (λ (p : ScriptParts). All HasWideCalls p.threads) (sym made) (read_is_draft bytes draft encoded read).wide_threads
+-- what they come to is a script that has a text
+pub read_has_text : (bytes : List ℕ) (draft : Draft) (parts : ScriptParts) → IsUtf8 bytes → read_lines 1 empty_draft (lines_of bytes) ≡ Ok draft → parts ≡ script_of draft → HasText parts
+read_has_text bytes draft parts encoded read made =
+    subst (λ (p : ScriptParts). HasText p) (sym made) (has_text draft (read_is_draft bytes draft encoded read))

@@ -1,11 +1,12 @@
 -- What the statements of lines keep of a draft.
 use Rattle.std.proofs.Common.{◌≡◌, ◌≢◌, ◌⊎◌, ℕ, ◌+◌, ◌%◌, ◌<◌, ◌≤◌, true, eqb, ltb, not, ◌&&◌, List, [], ◌∷◌, ◌++◌, length, set, get_or, Option, Some, None, Result, Ok, Err, ℤ, pos, negsuc, refl, sym, ap, ◌∙◌, subst, inl, inr, arith}
 use Rattle.std.specs.Prelude.{All, Any, IfSome, IfNone, IfOk, codes, int_le, slice_get}
-use Rattle.std.specs.List.{AllPairs}
+use Rattle.std.specs.List.{AllPairs, flat_map}
 use Rattle.std.specs.Option.{is_some}
 use Rattle.std.specs.Str.{bytes_eq}
 use Rattle.std.proofs.lemmas.Bool.{cases_lt, and_parts, eqb-true, leb-true, ltb-true, true≢false}
-use Rattle.std.proofs.lemmas.List.{get_or_append_left, get_or_push, length-append, length-set, take_at, take-append-le}
+use Rattle.std.proofs.lemmas.List.Concat.{flat_map-append}
+use Rattle.std.proofs.lemmas.List.{append_assoc, append-nil, get_or_append_left, get_or_push, length-append, length-set, take_at, take-append-le}
 use Rattle.std.proofs.lemmas.List.Elements.{All-push, All-set, All-weaker}
 use Rattle.std.proofs.lemmas.List.Quantifiers.{Any-push}
 use Rattle.std.proofs.lemmas.Option.{get_or_from_slice_get, slice_get-get_or, slice_get_within}
@@ -26,6 +27,7 @@ use Rattle.ft_script.specs.LineWords.{natural_of}
 use Rattle.ft_script.specs.Drafts.{or_fault, container_place, script_of, thread_place}
 use Rattle.ft_script.specs.Arguments.{read_index}
 use Rattle.ft_script.specs.ScriptLines.{call_line, read_call, read_class, container_line, counted_call, declaration, depth_after, heap_line, is_reported, order_line, other_statement, past_limit, plain_statement, statement, tables_at, tables_line, tables_by_words, thread_statement, read_turn, read_turns, unordered_statement}
+use Rattle.ft_script.specs.ScriptTexts.{AreNumbered, call_makes, call_mentions, thread_mentions}
 use Rattle.ft_script.specs.Transcripts.{IsWideCall}
 use Rattle.ft_script.proofs.Encoded.{BeginsNoThread}
 use Rattle.ft_script.proofs.MoreCalls.{call_grows}
@@ -34,6 +36,7 @@ use Rattle.ft_script.proofs.KeptCalls.{CallRead, Called, call_keeps}
 use Rattle.ft_script.proofs.KeptDrafts.{AllMade, IsPlainStart, IsDraft, calls_in, no_place, passed, same_containers, thread_grows, thread_line_keeps}
 use Rattle.ft_script.proofs.KeptLines.{IsLandedCall, after_push, depth_after_all}
 use Rattle.ft_script.proofs.DistinctNames.{absent, differ_push, place_within}
+use Rattle.ft_script.proofs.Numbering.{numbered_join}
 
 -- ---- a draft that has more
 
@@ -203,6 +206,9 @@ past_keeps : (read : Result (Call × Draft) Fault) → IfOk (past_limit read) Is
 past_keeps (Ok read) = tt
 past_keeps (Err found) = tt
 
+one_more : (f : Call → List ℕ) (calls : List Call) (called : Call) → flat_map f (calls ++ called ∷ []) ≡ flat_map f calls ++ f called
+one_more f calls called = flat_map-append f calls (called ∷ []) ∙ ap (λ (l : List ℕ). flat_map f calls ++ l) (append-nil (f called))
+
 call_added : (d e : Draft) (called : Call) (depth : ℕ) → IsDraft d → d.called < 500000 → is_some d.name ≡ true → CallRead d e called → depth_after d.depth called ≡ Ok depth →
     IsDraft (record e { calls = e.calls ++ called ∷ []; called = d.called + 1; depth = depth })
 call_added d e called depth h room named read deeper =
@@ -221,6 +227,12 @@ call_added d e called depth h room named read deeper =
     let nested : depth_after_all 0 all ≡ Ok depth = after_push 0 d.calls called d.depth depth h.nested deeper in
     let wide : All IsWideCall all = All-push IsWideCall d.calls called h.wide read.wide in
     let landed : All IsLandedCall all = All-push IsLandedCall d.calls called h.landed read.landed in
+    let front : List ℕ = flat_map thread_mentions d.threads in
+    let mentioned : AreNumbered 0 (front ++ flat_map call_mentions all) (length read.strings) =
+    subst (λ (l : List ℕ). AreNumbered 0 l (length read.strings)) (append_assoc front (flat_map call_mentions d.calls) (call_mentions called) ∙ ap (λ (l : List ℕ). front ++ l) (sym (one_more call_mentions d.calls called)))
+    (numbered_join 0 (length d.strings) (length read.strings) (front ++ flat_map call_mentions d.calls) (call_mentions called) h.mentioned read.mentioned) in
+    let makes : AreNumbered 0 (flat_map call_makes all) n =
+    subst (λ (l : List ℕ). AreNumbered 0 l n) (sym (one_more call_makes d.calls called)) (numbered_join 0 (length d.cursors) n (flat_map call_makes d.calls) (call_makes called) h.makes read.makes) in
     let is : IsDraft next = search in
     subst (λ (x : Draft). IsDraft (record x { calls = x.calls ++ called ∷ []; called = d.called + 1; depth = depth })) (sym read.is) is
 

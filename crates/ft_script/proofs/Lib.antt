@@ -10,6 +10,7 @@ pub mod KeptStatements
 pub mod LineLemmas
 pub mod LineReading
 pub mod Printed
+pub mod ShownLines
 pub mod StringLemmas
 pub mod DistinctNames
 pub mod WholeText
@@ -37,3 +38,9 @@ pub mod TranscriptReading
 pub mod EntryChecks
 pub mod MadeScripts
 pub mod MadeLines
+pub mod SaidLines
+pub mod LineTexts
+pub mod PrintedScripts
+pub mod Numbering
+pub mod PrintedLines
+pub mod Blanks

@@ -17,7 +17,7 @@ use Rattle.ft_script.specs.ReadScripts.{line_after, reported_at, read_lines}
 abbrev shown : List (Bor (List ℕ)) → List (List ℕ)
 shown names = map (λ (word : Bor (List ℕ)). word.now) names
 
-abbrev after_name : List (List ℕ) → Result Draft Fault → Result Draft Fault
+abbrev pub after_name : List (List ℕ) → Result Draft Fault → Result Draft Fault
 after_name names next = elim next [ Ok d ↦ read_turns d names | Err e ↦ Err e ]
 
 at_name : (draft : Draft) (name : List ℕ) (names : List (List ℕ)) (next : Result Draft Fault) → read_turn draft name ≡ next → (read_turn draft name >>= λ d. read_turns d names) ≡ after_name names next
@@ -28,10 +28,10 @@ turns_first : (draft : Draft) (name : List ℕ) (names : List (List ℕ)) → re
 unfolding read_turns
 turns_first draft name names = refl
 
-turns_cons : (draft : Draft) (name : List ℕ) (names : List (List ℕ)) (next : Result Draft Fault) → read_turn draft name ≡ next → read_turns draft (name ∷ names) ≡ after_name names next
+pub turns_cons : (draft : Draft) (name : List ℕ) (names : List (List ℕ)) (next : Result Draft Fault) → read_turn draft name ≡ next → read_turns draft (name ∷ names) ≡ after_name names next
 turns_cons draft name names next is = turns_first draft name names ∙ at_name draft name names next is
 
-no_turns : (draft : Draft) → read_turns draft [] ≡ Ok draft
+pub no_turns : (draft : Draft) → read_turns draft [] ≡ Ok draft
 unfolding read_turns
 no_turns draft = refl
 
@@ -69,7 +69,7 @@ lines_none : (number : ℕ) (draft : Draft) → read_lines number draft [] ≡ r
 unfolding read_lines
 lines_none number draft = refl
 
-lines_nil : (number : ℕ) (draft : Draft) (ended : Result Draft Fault) → end_thread draft ≡ ended → read_lines number draft [] ≡ reported_at number ended
+pub lines_nil : (number : ℕ) (draft : Draft) (ended : Result Draft Fault) → end_thread draft ≡ ended → read_lines number draft [] ≡ reported_at number ended
 lines_nil number draft ended is = lines_none number draft ∙ ap (reported_at number) is
 
 abbrev refused : ScriptFault → Result Draft ScriptFault

@@ -209,10 +209,10 @@ signless (d ∷ ds) some h =
 minus : (ds : List ℕ) (n : ℕ) → digits_value 10 ds ≡ suc n → signed_digits_value 10 (45 ∷ ds) ≡ negsuc n
 minus ds n is = ap (λ (m : ℕ). neg_ℤ (pos m)) is
 
-wide_low : (n : ℕ) → is_wide (pos n) ≡ true → n < 2 ^ 64
+pub wide_low : (n : ℕ) → is_wide (pos n) ≡ true → n < 2 ^ 64
 wide_low n h = let e : n ≤ 2 ^ 63 - 1 = leb-true n (2 ^ 63 - 1) h in omega arith
 
-wide_negative : (n : ℕ) → is_wide (negsuc n) ≡ true → suc n < 2 ^ 64
+pub wide_negative : (n : ℕ) → is_wide (negsuc n) ≡ true → suc n < 2 ^ 64
 wide_negative n h = let e : n ≤ 2 ^ 63 - 1 = leb-true n (2 ^ 63 - 1) (and_parts (leb n (2 ^ 63 - 1)) true h).0 in omega arith
 
 signed_integer : (n : ℤ) → is_wide n ≡ true → is_integer (signed_decimal n) ≡ true
@@ -351,7 +351,7 @@ value_begins strings (value.Text symbol) wide = inl (omega arith)
 
 -- ---- a text that stands in no place yet
 
-position_none : {X : Type 0} (p : X → Bool) (xs : List X) (d : X) → ((k : ℕ) → k < length xs → p (get_or xs k d) ≡ false) → position p xs ≡ None
+pub position_none : {X : Type 0} (p : X → Bool) (xs : List X) (d : X) → ((k : ℕ) → k < length xs → p (get_or xs k d) ≡ false) → position p xs ≡ None
 position_none p xs d fails =
     let e : position_or_len p xs ≡ length xs = position_or_len_is p xs (length xs) d (omega arith) fails (λ low. absurd (omega arith)) in
     rw e (rw (le-ltb (length xs) (length xs) (omega arith)) refl)

@@ -13,8 +13,9 @@ use Rattle.ft_script.specs.declared.fault.ScriptFault.{ScriptFault}
 use Rattle.ft_script.specs.Drafts.{empty_draft, script_of}
 use Rattle.ft_script.specs.Lines.{lines_of}
 use Rattle.ft_script.specs.ReadScripts.{read_lines, read_script}
+use Rattle.ft_script.specs.ScriptTexts.{HasText}
 use Rattle.ft_script.proofs.KeptDrafts.{HasWideCalls}
-use Rattle.ft_script.proofs.KeptScripts.{read_is_script, read_is_wide}
+use Rattle.ft_script.proofs.KeptScripts.{read_has_text}
 
 -- ---- bytes whose longest front in UTF-8 is all of them
 
@@ -66,8 +67,11 @@ is_read bytes script read =
     let is = made script_of (read_lines 1 empty_draft (lines_of bytes)) script all.1 in
     record { utf8 = encoded bytes (ltb-false _ _ all.0); draft = is.0; lines = is.1; parts = is.2 }
 
+pub script_has_text : (bytes : List ℕ) (script : ScriptParts) → read_script bytes ≡ Ok script → HasText script
+script_has_text bytes script read = let is = is_read bytes script read in read_has_text bytes is.draft script is.utf8 is.lines is.parts
+
 pub script_read : (bytes : List ℕ) (script : ScriptParts) → read_script bytes ≡ Ok script → IsScript script
-script_read bytes script read = let is = is_read bytes script read in read_is_script bytes is.draft script is.utf8 is.lines is.parts
+script_read bytes script read = (script_has_text bytes script read).rule
 
 pub script_wide : (bytes : List ℕ) (script : ScriptParts) → read_script bytes ≡ Ok script → All HasWideCalls script.threads
-script_wide bytes script read = let is = is_read bytes script read in read_is_wide bytes is.draft script is.utf8 is.lines is.parts
+script_wide bytes script read = (script_has_text bytes script read).wide

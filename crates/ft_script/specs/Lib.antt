@@ -1,6 +1,7 @@
 pub mod Internal
 pub mod Forms
 pub mod Texts
+pub mod ShownLines
 pub mod Faults
 pub mod Lines
 pub mod LineWords
@@ -11,3 +12,4 @@ pub mod ScriptLines
 pub mod ReadScripts
 pub mod Transcripts
 pub mod Generator
+pub mod ScriptTexts

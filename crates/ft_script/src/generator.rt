@@ -87,7 +87,7 @@ fn push_call(out: &mut Vec<u8>, number: u64) -> Result<(), AllocError>
 }
 
 /// Adds a line of these words and then these numbers.
-fn push_line(out: &mut Vec<u8>, words: &[u8], numbers: &[u64]) -> Result<(), AllocError>
+pub(crate) fn push_line(out: &mut Vec<u8>, words: &[u8], numbers: &[u64]) -> Result<(), AllocError>
     ensures { OnOk result (out.new.items ≡ out.old.items ++ (words.now ++ flat_map (λ number. 32 ∷ decimal number) numbers.now ++ 10 ∷ [])) }
 {
     out.extend_from_slice(words)?;

@@ -1,6 +1,6 @@
 //! What holds of every script and transcript. The functions do nothing: their contracts are the laws.
 ghost use Rattle.ft_model.specs.Limits.{most_calls};
-ghost use Rattle.std.specs.Prelude.{◌≡◌, ◌<◌, ◌≤◌, ℕ, All, List, Ok, length, true};
+ghost use Rattle.std.specs.Prelude.{◌≡◌, ◌≢◌, ◌<◌, ◌≤◌, ℕ, [], ◌∷◌, ◌++◌, All, IsUtf8, List, Ok, Some, length, option_map, true};
 ghost use Rattle.ft_model.specs.declared.call.Call.{Call};
 ghost use Rattle.ft_model.specs.declared.entry.Entry.{Entry};
 ghost use Rattle.ft_model.specs.declared.script.ScriptParts.{ScriptParts};
@@ -9,8 +9,10 @@ ghost use Rattle.ft_model.specs.Landed.{is_landed_call};
 ghost use Rattle.ft_model.specs.Scripts.{IsCallOf, IsScript};
 ghost use Rattle.ft_script.specs.Drafts.{draft_at};
 ghost use Rattle.ft_script.specs.Generator.{made_script, made_text};
+ghost use Rattle.ft_script.specs.Lines.{words_of};
 ghost use Rattle.ft_script.specs.ScriptLines.{just_call};
 ghost use Rattle.ft_script.specs.ReadScripts.{read_script};
+ghost use Rattle.ft_script.specs.ScriptTexts.{HasText, SaysNothing, said_in, script_text};
 ghost use Rattle.ft_script.specs.Texts.{call_words};
 ghost use Rattle.ft_script.specs.Transcripts.{IsFirstBad, IsTranscript, IsWideCall};
 
@@ -23,6 +25,34 @@ pub fn what_is_read_is_a_script()
 pub fn what_is_read_is_wide()
     ensures { (bytes : List ℕ) (script : ScriptParts) → read_script bytes ≡ Ok script
         → All (λ thread. All IsWideCall thread.calls) script.threads }
+{}
+
+/// A script that a text can be has a text of its own, which is read as that script.
+pub fn scripts_have_texts()
+    ensures { (script : ScriptParts) → HasText script → read_script (script_text script) ≡ Ok script }
+{}
+
+/// What is read of a text is a script that has a text: its strings and its cursors are numbered in the
+/// order of first mention.
+pub fn what_is_read_has_a_text()
+    ensures { (bytes : List ℕ) (script : ScriptParts) → read_script bytes ≡ Ok script → HasText script }
+{}
+
+/// What is read of a text is what its lines say: a text in UTF-8 whose lines say the same is read as
+/// the same script. Comments, lines without words, further spaces between words and a last line feed
+/// say nothing.
+pub fn only_words_are_read()
+    ensures { (text other : List ℕ) (script : ScriptParts) → IsUtf8 other → said_in other ≡ said_in text → read_script text ≡ Ok script → read_script other ≡ Ok script }
+{}
+
+/// A comment, a line without words and a last line feed say nothing, and a further space parts no
+/// words: the words of two pieces with a space between are those of the one and then of the other.
+pub fn blanks_and_comments_say_nothing()
+    ensures first { (passed after : List ℕ) → All (λ b. b ≢ 10) passed → SaysNothing passed → said_in (passed ++ 10 ∷ after) ≡ said_in after }
+    ensures below { (before passed after : List ℕ) → All (λ b. b ≢ 10) passed → SaysNothing passed
+        → said_in (before ++ 10 ∷ (passed ++ 10 ∷ after)) ≡ said_in (before ++ 10 ∷ after) }
+    ensures feed { (text : List ℕ) → said_in (text ++ 10 ∷ []) ≡ said_in text }
+    ensures spaces { (line more : List ℕ) (words : List (List ℕ)) → words_of line ≡ Some words → words_of (line ++ 32 ∷ more) ≡ option_map (λ others. words ++ others) (words_of more) }
 {}
 
 /// The words of a thread's call that is read yet, as they are printed, are read as that call where

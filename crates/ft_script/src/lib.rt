@@ -4,6 +4,7 @@
 mod arguments;
 mod call_words;
 mod calls;
+mod contents;
 mod declarations;
 mod declared;
 mod draft;
@@ -17,6 +18,7 @@ mod parser;
 mod print;
 mod replies;
 mod reply_words;
+mod script_text;
 mod shown;
 mod statements;
 mod strings;
@@ -24,12 +26,15 @@ mod tokens;
 mod transcript;
 mod words;
 
+pub use contents::push_contents;
 pub use fault::{ScriptFault, Which};
 pub use generator::make_script;
 pub use laws::{
-    calls_are_read_back, made_scripts_are_read, no_transcript_is_bad, one_transcript,
-    what_is_read_is_a_script, what_is_read_is_wide,
+    blanks_and_comments_say_nothing, calls_are_read_back, made_scripts_are_read,
+    no_transcript_is_bad, one_transcript, only_words_are_read, scripts_have_texts,
+    what_is_read_has_a_text, what_is_read_is_a_script, what_is_read_is_wide,
 };
 pub use parser::parse;
 pub use print::{print_entry, print_world, push_entry, push_world, push_world_line};
+pub use script_text::print_script;
 pub use transcript::{Transcript, TranscriptFault, read_transcript};

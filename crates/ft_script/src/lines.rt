@@ -93,11 +93,14 @@ fn goes_on(place: Place, byte: u8) -> bool
     matches!(place, Place::Plain) && byte != b' '
 }
 
+/// Room for the words of most lines, which is taken at once.
+const USUAL_WORDS: usize = 4;
+
 /// The words of a line.
 pub(crate) fn words_of(alloc: Global, line: &[u8]) -> Result<Vec<&[u8]>, LineError>
     ensures { Gives (λ words. map (λ word. word.now) words.items) result (or_fault fault.String (words_of line.now)) }
 {
-    let mut words = Vec::new(alloc);
+    let mut words = Vec::with_capacity(alloc, USUAL_WORDS)?;
     let mut place = Place::Between;
     let mut start = 0;
     for (i, byte) in line.iter().enumerate() {

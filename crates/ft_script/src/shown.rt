@@ -4,7 +4,7 @@ ghost use Rattle.std.specs.List.{flat_map};
 ghost use Rattle.std.specs.Fmt.{decimal};
 ghost use Rattle.ft_model.specs.Scripts.{IsKeyOf, IsValueOf};
 ghost use Rattle.ft_model.specs.Parts.{IsReplyOf, IsShownOf, IsContentOf};
-ghost use Rattle.ft_script.specs.Texts.{escaped, quoted, listed, braced_text, pair_text, list_text, elements_text, reply_text, raise_text, content_text, all_text, named_text};
+ghost use Rattle.ft_script.specs.Texts.{escaped, quoted, listed, braced_text, pair_text, list_text, elements_text, reply_text, raise_text, content_text, all_text, named_text, shown_text};
 
 use ft_model::{
     Content, Declaration, DictPair, Element, Key, Raise, Reply, ScriptParts, Sym, Text, Value,
@@ -280,6 +280,18 @@ fn push_named(
     out.push(b' ')?;
     out.extend_from_slice(container.name.as_slice())?;
     out.push(b' ')?;
+    push_shown(out, strings, shown)
+}
+
+/// Adds the text of what a container is shown to have.
+pub(crate) fn push_shown(
+    out: &mut Vec<u8>,
+    strings: &[Text],
+    shown: &ft_model::Shown,
+) -> Result<(), AllocError>
+    requires { IsShownOf (length strings.now) shown.now }
+    ensures { OnOk result (out.new.items ≡ out.old.items ++ shown_text strings.now shown.now) }
+{
     match shown {
         ft_model::Shown::Dict(pairs) => push_braced(out, strings, pairs.as_slice()),
         ft_model::Shown::List(items) => push_values(out, strings, items.as_slice()),

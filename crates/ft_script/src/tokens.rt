@@ -80,11 +80,14 @@ fn goes_on(place: Place, byte: u8) -> bool
     matches!(place, Place::Plain) && !is_gap(byte) && !is_mark(byte)
 }
 
+/// Room for the tokens of most lines, which is taken at once.
+const USUAL_TOKENS: usize = 16;
+
 /// The tokens of a line, which may have its line feed. A string that isn't closed is a token, too.
 pub(crate) fn tokens_of(alloc: Global, line: &[u8]) -> Result<Vec<&[u8]>, AllocError>
     ensures { IfOk result (λ tokens. map (λ token. token.now) tokens.items ≡ tokens_of line.now) }
 {
-    let mut tokens = Vec::new(alloc);
+    let mut tokens = Vec::with_capacity(alloc, USUAL_TOKENS)?;
     let mut place = Place::Between;
     let mut start = 0;
     for (i, byte) in line.iter().enumerate() {

@@ -1,7 +1,7 @@
-//! Entries and contents that are printed: a transcript that is read is printed as it was.
+//! Entries, contents and scripts that are printed: a transcript that is read is printed as it was.
 
 use ft_model::World;
-use ft_script::{parse, print_entry, print_world, read_transcript};
+use ft_script::{parse, print_entry, print_script, print_world, read_transcript};
 use std::alloc::Global;
 use std::process::Abort;
 use std::test::Fail;
@@ -45,5 +45,99 @@ fn prints_worlds(rt: HostRuntime) -> Result<(), Fail> {
     let world = World::start(rt.alloc(), script.parts().containers.as_slice())?;
     let text = print_world(rt.alloc(), &script, &world)?;
     assert!(rt; text.as_slice() == b"d = {}\nl = []\ns = set()\n".as_slice());
+    Ok(())
+}
+
+/// A script as it is written, and the parts of its text as it is printed.
+#[derive(Clone, Copy)]
+struct PrintedScript<'a> {
+    written: &'a str,
+    containers: &'a str,
+    tables: &'a str,
+    rest: &'a str,
+}
+
+/// The numbers of tables of a script that says nothing of them.
+const USUAL: &str = "tables 3 4\n\
+    tables 4 4\n\
+    tables 5 4\n\
+    tables 6 4\n\
+    tables 7 4\n\
+    tables 8 4\n\
+    tables 9 4\n\
+    tables 10 4\n\
+    tables 11 4\n\
+    tables 12 4\n\
+    tables 13 1\n\
+    tables 14 1\n\
+    tables 15 1\n\
+    tables 16 1\n";
+
+const SCRIPTS: [PrintedScript<'static>; 5] = [
+    PrintedScript {
+        written: "",
+        containers: "",
+        tables: USUAL,
+        rest: "heap 64\n",
+    },
+    PrintedScript {
+        written: "# first\n\nset s\nheap 4096\n  dict   d  \n#\ntables 16 7\nlist l\ntables 3 1024",
+        containers: "set s\ndict d\nlist l\n",
+        tables: "tables 3 1024\n\
+            tables 4 4\n\
+            tables 5 4\n\
+            tables 6 4\n\
+            tables 7 4\n\
+            tables 8 4\n\
+            tables 9 4\n\
+            tables 10 4\n\
+            tables 11 4\n\
+            tables 12 4\n\
+            tables 13 1\n\
+            tables 14 1\n\
+            tables 15 1\n\
+            tables 16 7\n",
+        rest: "heap 4096\n",
+    },
+    PrintedScript {
+        written: "dict d\nthread B\nthread A\niter d c_1\nnext  c_1\nbegin d d\nend\nquiesce\n\
+            order A\norder B  A\n",
+        containers: "dict d\n",
+        tables: USUAL,
+        rest: "heap 64\nthread B\nthread A\niter d c_1\nnext c_1\nbegin d d\nend\nquiesce\norder A B A\n",
+    },
+    PrintedScript {
+        written: "list l\nthread A\npop l\npop l -1\nset l 0 \"b c\"\n\
+            slice l -9223372036854775808 9223372036854775807\n",
+        containers: "list l\n",
+        tables: USUAL,
+        rest: "heap 64\nthread A\npop l\npop l -1\nset l 0 \"b c\"\n\
+            slice l -9223372036854775808 9223372036854775807\n",
+    },
+    PrintedScript {
+        written: "dict d\nthread A\nset d \"a\\\"\\\\\\n\\tz\" None\nget d \"\"\n\
+            setdefault d \"\" \"é\"\nthread B\ndel d \"é\"",
+        containers: "dict d\n",
+        tables: USUAL,
+        rest: "heap 64\nthread A\nset d \"a\\\"\\\\\\n\\tz\" None\nget d \"\"\n\
+            setdefault d \"\" \"é\"\nthread B\ndel d \"é\"\n",
+    },
+];
+
+#[test]
+fn prints_scripts(rt: HostRuntime) -> Result<(), Fail> {
+    for row in &SCRIPTS {
+        let script = parse(rt.alloc(), row.written.as_bytes())?;
+        let text = print_script(rt.alloc(), &script)?;
+        let mut wanted = Vec::new(rt.alloc());
+        wanted.extend_from_slice(row.containers.as_bytes())?;
+        wanted.extend_from_slice(row.tables.as_bytes())?;
+        wanted.extend_from_slice(row.rest.as_bytes())?;
+        assert!(rt;
+            text.as_slice() == wanted.as_slice(),
+            "at {:?}",
+            row.written
+        );
+    }
     Ok(())
 }

@@ -3,7 +3,7 @@ use Rattle.std.proofs.lemmas.Result.{err_from_is_err_and}
 use Rattle.ft_model.specs.declared.script.ScriptParts.{ScriptParts}
 use Rattle.ft_script.specs.declared.fault.ScriptFault.{ScriptFault}
 use Rattle.ft_script.specs.Internal.Outcomes.{draft_of}
-use Rattle.ft_script.proofs.KeptScripts.{read_is_script}
+use Rattle.ft_script.proofs.KeptScripts.{read_has_text}
 use Rattle.ft_script.proofs.WholeText.{script_read, script_refused}
 use Rattle.ft_script.proofs.parser.parse.Goals as goal
 
@@ -11,7 +11,7 @@ abbrev done : ScriptParts → Result ScriptParts ScriptFault
 done parts = Ok parts
 
 pub new-requires : goal.new-requires
-new-requires c = read_is_script c.args.bytes.now (draft_of c.in_ok-draft.draft) _ c.in_ok-check_encoding.ensures.ok c.in_ok-draft.ensures.read c.in_ok-into_parts.ensures
+new-requires c = (read_has_text c.args.bytes.now (draft_of c.in_ok-draft.draft) _ c.in_ok-check_encoding.ensures.ok c.in_ok-draft.ensures.read c.in_ok-into_parts.ensures).rule
 
 pub returns-in_err-draft-clause-fault : goal.returns-in_err-draft-clause-fault
 returns-in_err-draft-clause-fault c =

@@ -1,6 +1,6 @@
 //! What the threads of a run share beside the engine.
 
-use crate::workload::Workload;
+use crate::plan::Plan;
 use crossbeam_utils::Backoff;
 use ft_model::Call;
 use std::sync::Wait;
@@ -10,11 +10,7 @@ use std::sync::atomic::{AtomicBool, AtomicU64, Ordering};
 #[derive(Drop)]
 pub struct Course {
     /// What they do.
-    pub(crate) workload: Workload,
-    /// How many they are.
-    pub(crate) threads: u32,
-    /// How long the rounds take together, in nanoseconds.
-    pub(crate) nanos: u64,
+    pub(crate) plan: Plan,
     /// The calls that the run begins with.
     pub(crate) fills: Vec<Call>,
     /// The calls that each round begins with.
@@ -33,7 +29,7 @@ impl Course {
         self.arrivals.fetch_add(1, Ordering::SeqCst);
         let all = before
             .saturating_add(1)
-            .saturating_mul(u64::from(self.threads));
+            .saturating_mul(u64::from(self.plan.threads));
         let backoff = Backoff::new();
         for _ in rt.forever() {
             if self.arrivals.load(Ordering::SeqCst) >= all {

@@ -1,6 +1,6 @@
-//! Times calls of an engine from many threads: `ft_bench WORKLOAD THREADS [SECONDS]` runs one workload for so long,
-//! 0.25 s where no time is given, and writes how many calls were made, in how many seconds, and how many of them were
-//! answered wrongly. `ft_bench list` writes the workloads, each with its numbers of threads. Without words the program
+//! Times calls of an engine from many threads: `ft_bench [any] WORKLOAD THREADS [SECONDS]` runs one workload for so
+//! long, 0.25 s where no time is given, and writes how many calls were made, in how many seconds, and how many of them were
+//! answered wrongly; with `any` all calls are made at one place. `ft_bench list` writes the workloads, each with its numbers of threads. Without words the program
 //! runs each workload for a few milliseconds, and writes no time.
 #![tactic(auto)]
 
@@ -10,6 +10,7 @@ mod fills;
 mod operation;
 mod outcome;
 mod pairs;
+mod plan;
 mod rounds;
 mod run;
 mod script;
@@ -22,9 +23,10 @@ mod worker;
 mod workload;
 
 use crate::outcome::show;
+use crate::plan::{Plan, Site};
 use crate::run::run_workload;
 use crate::words::{Order, read_order};
-use crate::workload::{Workload, workloads};
+use crate::workload::workloads;
 use std::io;
 use std::rt::Env;
 use std::sync::Wait;
@@ -36,17 +38,11 @@ const QUICK: u64 = 2_000_000;
 
 fn main(rt: HostRuntime) -> io::Result<()> {
     match read_order(&rt)? {
-        Order::Usage => println!(rt; "usage: ft_bench [list | WORKLOAD THREADS [SECONDS]]"),
+        Order::Usage => println!(rt; "usage: ft_bench [list | [any] WORKLOAD THREADS [SECONDS]]"),
         Order::List => list(&rt),
         Order::All => run_all(&rt),
-        Order::One(workload, threads, nanos) => match run_workload(
-            &rt,
-            rt.alloc(),
-            workload,
-            threads,
-            nanos,
-        )? {
-            Some(outcome) => show(&rt, workload, outcome),
+        Order::One(plan) => match run_workload(&rt, rt.alloc(), plan)? {
+            Some(outcome) => show(&rt, plan.workload, outcome),
             None => println!(rt; "not run: no threads, too many, or no memory"),
         },
     }
@@ -65,7 +61,13 @@ fn list(rt: &impl Print) -> io::Result<()> {
 fn run_all<R: AllocGlobal + Clock + Print + Threads + Wait + Sync>(rt: &R) -> io::Result<()> {
     for workload in workloads() {
         let name = workload.name();
-        match run_workload(rt, rt.alloc(), workload, 2, QUICK)? {
+        let plan = Plan {
+            workload,
+            site: Site::Known,
+            threads: 2,
+            nanos: QUICK,
+        };
+        match run_workload(rt, rt.alloc(), plan)? {
             Some(outcome) => println!(rt; "{name} bad={}", outcome.wrong)?,
             None => println!(rt; "not run: no threads, too many, or no memory")?,
         }

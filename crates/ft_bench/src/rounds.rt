@@ -6,6 +6,7 @@ use crate::answers::{answer, answer_known};
 use crate::course::Course;
 use crate::operation::Operation;
 use crate::pairs::{fill, watch};
+use crate::plan::Site;
 use crate::worker::Worker;
 use crate::workload::Workload;
 use ft_engine::{Caller, Engine};
@@ -146,9 +147,10 @@ fn make_looked(engine: &Engine, alloc: Global, worker: &mut Worker, operation: O
     }
 }
 
-/// Makes one operation, and counts it: by a look where it reads and isn't contended.
+/// Makes one operation, and counts it: by a look where it reads and isn't contended. Each kind of operation makes its
+/// call at a place of its own.
 #[inline(always)]
-pub(crate) fn make<R: Wait>(
+fn make_known<R: Wait>(
     rt: &R,
     engine: &Engine,
     alloc: Global,
@@ -163,20 +165,80 @@ pub(crate) fn make<R: Wait>(
     }
 }
 
+/// The same, with all calls made at one place.
+#[inline(never)]
+fn make_shared<R: Wait>(
+    rt: &R,
+    engine: &Engine,
+    alloc: Global,
+    worker: &mut Worker,
+    operation: Operation,
+)
+    requires { IsReadyCaller engine.now worker.old.caller }
+    ensures { IsReadyCaller engine.now worker.new.caller }
+{
+    if !look(engine, alloc, worker, operation) {
+        call(rt, engine, alloc, worker, operation);
+    }
+}
+
+/// Makes one operation, and counts it.
+#[inline(always)]
+pub(crate) fn make<R: Wait>(
+    rt: &R,
+    engine: &Engine,
+    alloc: Global,
+    worker: &mut Worker,
+    site: Site,
+    operation: Operation,
+)
+    requires { IsReadyCaller engine.now worker.old.caller }
+    ensures { IsReadyCaller engine.now worker.new.caller }
+{
+    match site {
+        Site::Known => make_known(rt, engine, alloc, worker, operation),
+        Site::Shared => make_shared(rt, engine, alloc, worker, operation),
+    }
+}
+
 /// Makes the next operation. Says whether it appended an item.
 #[inline(always)]
-fn make_next<R: Wait>(rt: &R, engine: &Engine, alloc: Global, worker: &mut Worker) -> bool
+fn make_next<R: Wait>(
+    rt: &R,
+    engine: &Engine,
+    alloc: Global,
+    worker: &mut Worker,
+    site: Site,
+) -> bool
     requires { IsReadyCaller engine.now worker.old.caller }
     ensures { IsReadyCaller engine.now worker.new.caller }
 {
     let Some(operation) = worker.tally.next_operation() else {
         return false;
     };
-    make(rt, engine, alloc, worker, operation);
+    make(rt, engine, alloc, worker, site, operation);
     matches!(operation, Operation::Append(_))
 }
 
-/// Makes the next operations, that many of them.
+/// Makes the next operations at this site, that many of them.
+#[inline(always)]
+fn make_some_at<R: Wait>(
+    rt: &R,
+    engine: &Engine,
+    alloc: Global,
+    worker: &mut Worker,
+    site: Site,
+    count: u32,
+)
+    requires { IsReadyCaller engine.now worker.old.caller }
+    ensures { IsReadyCaller engine.now worker.new.caller }
+{
+    for _ in 0..count {
+        make_next(rt, engine, alloc, worker, site);
+    }
+}
+
+/// Makes the next operations, that many of them. The site is known in each of the loops.
 pub(crate) fn make_some<R: Wait>(
     rt: &R,
     engine: &Engine,
@@ -187,8 +249,9 @@ pub(crate) fn make_some<R: Wait>(
     requires { IsReadyCaller engine.now worker.old.caller }
     ensures { IsReadyCaller engine.now worker.new.caller }
 {
-    for _ in 0..count {
-        make_next(rt, engine, alloc, worker);
+    match worker.tally.site {
+        Site::Known => make_some_at(rt, engine, alloc, worker, Site::Known, count),
+        Site::Shared => make_some_at(rt, engine, alloc, worker, Site::Shared, count),
     }
 }
 
@@ -218,12 +281,13 @@ fn make_appends<R: Wait>(rt: &R, engine: &Engine, alloc: Global, worker: &mut Wo
     requires { IsReadyCaller engine.now worker.old.caller }
     ensures { IsReadyCaller engine.now worker.new.caller }
 {
+    let site = worker.tally.site;
     let mut left = appends;
     for _ in 0..appends.saturating_mul(100) {
         if left == 0 {
             return;
         }
-        if make_next(rt, engine, alloc, worker) {
+        if make_next(rt, engine, alloc, worker, site) {
             left = left.saturating_sub(1);
         }
     }
@@ -240,10 +304,22 @@ fn take_turns<R: Wait + Clock>(
     requires { IsReadyCaller engine.now worker.old.caller }
     ensures { IsReadyCaller engine.now worker.new.caller }
 {
-    match course.workload {
-        Workload::Dict(_) | Workload::Set(_) => make_for(rt, engine, alloc, worker, course.nanos),
+    match course.plan.workload {
+        Workload::Dict(_) | Workload::Set(_) => make_for(
+            rt,
+            engine,
+            alloc,
+            worker,
+            course.plan.nanos,
+        ),
         Workload::List(_) => {
-            make_appends(rt, engine, alloc, worker, APPENDS / course.threads.max(1))
+            make_appends(
+                rt,
+                engine,
+                alloc,
+                worker,
+                APPENDS / course.plan.threads.max(1),
+            )
         }
         Workload::Growth(pairs) if worker.tally.thread == 0 => {
             fill(rt, engine, alloc, course, worker, pairs)

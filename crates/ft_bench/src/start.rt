@@ -3,10 +3,10 @@ ghost use Rattle.std.specs.Prelude.{IfOk, IfSome};
 ghost use Rattle.ft_bench.specs.Threads.{AreWorkers};
 ghost use Rattle.ft_engine.specs.Callers.{IsFreeCaller, AreFreeCallers};
 
+use crate::plan::Plan;
 use crate::shape::shape_of;
 use crate::stream::operations;
 use crate::worker::{Tally, Worker};
-use crate::workload::Workload;
 use ft_engine::{Caller, Engine};
 use std::alloc::{AllocError, Global};
 
@@ -14,7 +14,7 @@ use std::alloc::{AllocError, Global};
 fn hire_one(
     alloc: Global,
     engine: &Engine,
-    workload: Workload,
+    plan: Plan,
     caller: Caller,
 ) -> Result<Worker, AllocError>
     requires { IsFreeCaller engine.now caller }
@@ -22,10 +22,10 @@ fn hire_one(
 {
     let _ = engine;
     let thread = caller.thread();
-    let operations = operations(alloc, workload, thread)?;
+    let operations = operations(alloc, plan.workload, thread)?;
     Ok(Worker {
         caller,
-        tally: Tally::new(thread, operations, Vec::new(alloc)),
+        tally: Tally::new(thread, plan.site, operations, Vec::new(alloc)),
     })
 }
 
@@ -33,7 +33,7 @@ fn hire_one(
 fn hire(
     alloc: Global,
     engine: &Engine,
-    workload: Workload,
+    plan: Plan,
     callers: Vec<Caller>,
 ) -> Result<Vec<Worker>, AllocError>
     requires { AreFreeCallers engine.now callers.items }
@@ -41,26 +41,22 @@ fn hire(
 {
     let mut workers = Vec::new(alloc);
     for caller in callers {
-        workers.push(hire_one(alloc, engine, workload, caller)?)?;
+        workers.push(hire_one(alloc, engine, plan, caller)?)?;
     }
     Ok(workers)
 }
 
 /// The engine of a run, and a worker for each thread; nothing where the shape doesn't fit or memory ran out.
-pub(crate) fn start(
-    alloc: Global,
-    workload: Workload,
-    threads: u32,
-) -> Result<Option<(Engine, Vec<Worker>)>, AllocError>
+pub(crate) fn start(alloc: Global, plan: Plan) -> Result<Option<(Engine, Vec<Worker>)>, AllocError>
     ensures { IfOk result (λ made. IfSome made (λ m. AreWorkers m.0 m.1.items)) }
 {
-    let shape = shape_of(alloc, workload, threads)?;
+    let shape = shape_of(alloc, plan.workload, plan.threads)?;
     if !shape.fits() {
         return Ok(None);
     }
     let Ok((engine, callers)) = Engine::new(alloc, shape, 0) else {
         return Ok(None);
     };
-    let workers = hire(alloc, &engine, workload, callers)?;
+    let workers = hire(alloc, &engine, plan, callers)?;
     Ok(Some((engine, workers)))
 }

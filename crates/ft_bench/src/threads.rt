@@ -62,7 +62,7 @@ fn begin<R: Wait>(rt: &R, engine: &Engine, alloc: Global, course: &Course, worke
         worker.tally.wrong = worker.tally.wrong.saturating_add(1);
         course.end();
     }
-    if worker.tally.nanos >= course.nanos {
+    if worker.tally.nanos >= course.plan.nanos {
         course.end();
     }
     course.set_filling(true);

@@ -1,5 +1,6 @@
 //! The words of the command line.
 
+use crate::plan::{Plan, Site};
 use crate::workload::{Workload, workloads};
 use std::rt::Env;
 use std::{env, io};
@@ -11,8 +12,8 @@ pub enum Order {
     All,
     /// The list of the workloads.
     List,
-    /// A workload, in that many threads, for that many nanoseconds.
-    One(Workload, u32, u64),
+    /// A run of one workload.
+    One(Plan),
     /// The words say nothing that can be done.
     Usage,
 }
@@ -47,22 +48,30 @@ fn nanos_of(word: &str) -> Option<u64> {
     Some(all.saturating_mul(1_000_000))
 }
 
+/// The run that these words ask for, with its calls made there.
+fn plan_of(words: &[String], site: Site) -> Option<Plan> {
+    let (name, threads, nanos) = match words {
+        [name, threads] => (name, threads, USUAL),
+        [name, threads, seconds] => (name, threads, nanos_of(seconds.as_str())?),
+        _ => return None,
+    };
+    Some(Plan {
+        workload: workload_of(name.as_str())?,
+        site,
+        threads: threads.parse::<u32>().ok()?,
+        nanos,
+    })
+}
+
 /// What these words ask for, the first being the program's name.
 fn order_of(words: &[String]) -> Option<Order> {
     match words {
         [] | [_] => Some(Order::All),
         [_, word] if word.as_str() == "list" => Some(Order::List),
-        [_, name, threads] => Some(Order::One(
-            workload_of(name.as_str())?,
-            threads.parse::<u32>().ok()?,
-            USUAL,
-        )),
-        [_, name, threads, seconds] => Some(Order::One(
-            workload_of(name.as_str())?,
-            threads.parse::<u32>().ok()?,
-            nanos_of(seconds.as_str())?,
-        )),
-        _ => None,
+        [_, word, rest @ ..] if word.as_str() == "any" => {
+            Some(Order::One(plan_of(rest, Site::Shared)?))
+        }
+        [_, rest @ ..] => Some(Order::One(plan_of(rest, Site::Known)?)),
     }
 }
 

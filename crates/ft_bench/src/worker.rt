@@ -1,6 +1,7 @@
 //! A thread of a run: its caller, its operations, and what came of them.
 
 use crate::operation::{Operation, call_of, is_right};
+use crate::plan::Site;
 use ft_engine::Caller;
 use ft_model::{Call, Reply};
 
@@ -16,6 +17,8 @@ pub struct Worker {
 pub struct Tally {
     /// The thread, from 0 on.
     pub(crate) thread: u32,
+    /// Where it makes its calls.
+    pub(crate) site: Site,
     /// Its operations, which it walks round.
     pub(crate) operations: Vec<Operation>,
     /// Where its walk stands: how many of these it has come past in this round of them.
@@ -40,9 +43,15 @@ pub struct Tally {
 
 impl Tally {
     /// What a thread begins with.
-    pub(crate) fn new(thread: u32, operations: Vec<Operation>, stalls: Vec<u64>) -> Tally {
+    pub(crate) fn new(
+        thread: u32,
+        site: Site,
+        operations: Vec<Operation>,
+        stalls: Vec<u64>,
+    ) -> Tally {
         Tally {
             thread,
+            site,
             operations,
             place: 0,
             serial: 0,

@@ -11,6 +11,8 @@ mod opened;
 mod rows;
 #[cfg(test)]
 mod takes;
+#[cfg(test)]
+mod writing;
 
 pub use crate::calls::{Attempt, Case, in_new_bank};
 pub use crate::opened::{go_online, open_three};

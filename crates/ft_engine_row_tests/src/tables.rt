@@ -3,7 +3,7 @@
 use ft_engine_tests::{Case, all_come_out};
 use std::test::Fail;
 
-const TABLES: [Case<'static>; 5] = [
+const TABLES: [Case<'static>; 7] = [
     // The one table of class 3 is taken.
     Case {
         script: "tables 3 1\n\
@@ -78,6 +78,50 @@ const TABLES: [Case<'static>; 5] = [
             A.8 r6 quiesce = ok\n\
             B.1 r6 quiesce = ok\n\
             A.9 w6 set e 2 0 = ok\n",
+    },
+    // The table that A's list gave up comes back only through A's `quiesce`: A takes none itself, and is online still.
+    Case {
+        script: "tables 3 1\n\
+            list l\n\
+            list m\n\
+            thread A\n\
+            append l 1\n\
+            clear l\n\
+            quiesce\n\
+            len l\n\
+            thread B\n\
+            append m 1\n\
+            quiesce\n\
+            append m 2\n\
+            order A A B B A B A\n",
+        transcript: "A.1 w0 append l 1 = ok\n\
+            A.2 w1 clear l = ok\n\
+            A.3 r2 quiesce = ok\n\
+            B.1 r2 append m 1 = MemoryError 3\n\
+            B.2 r2 quiesce = ok\n\
+            B.3 w2 append m 2 = ok\n\
+            A.4 r3 len l = 0\n",
+    },
+    // It comes back only as A leaves: its last call gives nothing back.
+    Case {
+        script: "tables 3 1\n\
+            list l\n\
+            list m\n\
+            thread A\n\
+            append l 1\n\
+            clear l\n\
+            len l\n\
+            thread B\n\
+            append m 1\n\
+            quiesce\n\
+            append m 2\n\
+            order A A B B A B\n",
+        transcript: "A.1 w0 append l 1 = ok\n\
+            A.2 w1 clear l = ok\n\
+            A.3 r2 len l = 0\n\
+            B.1 r2 append m 1 = MemoryError 3\n\
+            B.2 r2 quiesce = ok\n\
+            B.3 w2 append m 2 = ok\n",
     },
     // The fifth element of a set takes a table of class 5, of which there is one.
     Case {

@@ -10,6 +10,8 @@ mod calls;
 #[cfg(test)]
 mod edges;
 #[cfg(test)]
+mod growing;
+#[cfg(test)]
 mod python;
 #[cfg(test)]
 mod rows;

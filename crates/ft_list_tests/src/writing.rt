@@ -85,7 +85,7 @@ fn open_third(bank: &Bank, writer: &mut Pass) -> Option<u64>
 }
 
 /// Gives list 0 the integers 0 to 7, each at its index.
-fn fill(bank: &Bank, writer: &mut Pass, alloc: Global) -> Result<(), Fail>
+pub(crate) fn fill(bank: &Bank, writer: &mut Pass, alloc: Global) -> Result<(), Fail>
     requires lists { HasTwoLists bank.now }
     requires may { MayTryAny bank.now writer.old }
     ensures may { OnOk result (MayTryAny bank.now writer.new) }
@@ -100,7 +100,13 @@ fn fill(bank: &Bank, writer: &mut Pass, alloc: Global) -> Result<(), Fail>
 }
 
 /// Whether a look at list 0 is contended by two loads of a version that gave this.
-fn is_contended(bank: &Bank, reader: &mut Pass, alloc: Global, python: Python, version: u64) -> bool
+pub(crate) fn is_contended(
+    bank: &Bank,
+    reader: &mut Pass,
+    alloc: Global,
+    python: Python,
+    version: u64,
+) -> bool
     requires lists { HasTwoLists bank.now }
     requires pass { IsPassOf bank.now reader.old }
     ensures pass { IsPassOf bank.now reader.new }

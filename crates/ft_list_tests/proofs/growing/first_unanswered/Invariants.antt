@@ -1,0 +1,5 @@
+use Rattle.ft_bank.specs.Passes.{IsPassOf}
+use Rattle.ft_list_tests.proofs.growing.first_unanswered.Given as goal
+
+abbrev pub invariant-loop-index : goal.invariant-loop-index
+invariant-loop-index l = record { pass : IsPassOf l.bank l.reader }

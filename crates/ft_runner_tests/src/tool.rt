@@ -1,6 +1,7 @@
 //! The tool over streams in memory: what the tests of this crate begin with, and its commands, its
 //! streams and its statuses. The expected texts are worked out by hand.
 
+mod awaiting;
 mod checking;
 mod faults;
 mod long;

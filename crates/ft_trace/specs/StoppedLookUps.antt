@@ -7,7 +7,7 @@ use Rattle.ft_model.specs.declared.reply.Reply.{Reply}
 use Rattle.ft_model.specs.Worlds.{list_of}
 use Rattle.ft_layout.specs.Words.{key_kind, gone_kind, key_payload}
 use Rattle.ft_trace.specs.declared.Act.{Act}
-use Rattle.ft_trace.specs.declared.Act.TheVariants.{Commit, PutRoot, ReadTable}
+use Rattle.ft_trace.specs.declared.Act.TheVariants.{Commit, PutRoot, ReadTable, Version}
 use Rattle.ft_trace.specs.declared.Shape.{Shape}
 use Rattle.ft_trace.specs.declared.Snap.{Snap}
 use Rattle.ft_trace.specs.declared.View.{View}
@@ -45,6 +45,14 @@ pub record MetKey (t p : ℕ) (key : Key) (read : List Act) : Type 0 where
   pub named : Among (ReadTable t slot (suc p)) payload.rest
   pub kind : Among (ReadTable t (entry_offset (slots (class_of t)) p 2) (key_kind key)) read
       ⊎ Among (ReadTable t (entry_offset (slots (class_of t)) p 2) (gone_kind key)) read
+
+-- Two loads of the version of the container gave a and then b; a is odd, or they differ.
+pub record StoppedByVersion (log : List Act) (o a b : ℕ) : Type 0 where
+  pub newer : List Act
+  pub mid : List Act
+  pub rest : List Act
+  pub is : log ≡ newer ++ Version o b ∷ (mid ++ Version o a ∷ rest)
+  pub moved : (a % 2 ≢ 0) ⊎ (b ≢ a)
 
 -- ---- the write
 
@@ -125,6 +133,23 @@ ChangesIndex k o p es call =
     words_at (list_of (container_after k.starts (call ∷ history es) o).content) p
     ≢ words_at (list_of (container_after k.starts (history es) o).content) p
 
+-- At some moment from the first load of the container's version to the second a pass wrote the container. Before the
+-- first load the log of the pass at seat j was `since`, and before the second one it had that load and `mid` besides.
+pub record IsWrittenMeanwhile (k : Shape) (es : List Event) (j o a : ℕ) (mid since : List Act) : Type 0 where
+  pub later : List Event
+  pub upper : List Event
+  pub lower : List Event
+  pub first : List Event
+  pub is : es ≡ later ++ (upper ++ (lower ++ first))
+  pub one : View
+  pub two : View
+  pub at_first : HasView k first j one × (one.log ≡ since)
+  pub at_second : HasView k (upper ++ (lower ++ first)) j two × (two.log ≡ mid ++ Version o a ∷ since)
+  pub seat : ℕ
+  pub view : View
+  pub at : HasView k (lower ++ first) seat view
+  pub writing : is_writing o view.log ≡ true
+
 -- ---- the laws
 
 -- A look-up that two loads of the version of the key's entry stop is stopped by a write under way between them: the
@@ -146,3 +171,9 @@ ReadersOfItemsAreStoppedByWrites =
     → HasView k es j u → (s : Stopped k u.log o t p a b)
     → (x : ℕ) × IsOpenMeanwhile k es j o t p a x s.mid (s.rest ++ s.window.rest)
     × IsWritten k es o t p x (ChangesIndex k o p)
+
+-- and one that two loads of the version of the container stop, as where its root reads 0, by a write of the container
+abbrev pub ReadersOfContainersAreStoppedByWrites : Type 0
+ReadersOfContainersAreStoppedByWrites =
+    (k : Shape) (es : List Event) → Valid k es → (o a b : ℕ) → o < container_count k → (j : ℕ) (u : View)
+    → HasView k es j u → (s : StoppedByVersion u.log o a b) → IsWrittenMeanwhile k es j o a s.mid s.rest

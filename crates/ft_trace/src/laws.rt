@@ -8,7 +8,7 @@ ghost use Rattle.ft_trace.specs.EntryWrites.{ValuesMayBePut};
 ghost use Rattle.ft_trace.specs.Earnings.{EntriesAreEarned};
 ghost use Rattle.ft_trace.specs.InOrder.{NumberedEntriesAreInOrder};
 ghost use Rattle.ft_trace.specs.OpenedEntries.{CommitsChangeTheOpened, OpenedAreCommitted};
-ghost use Rattle.ft_trace.specs.StoppedLookUps.{ReadersOfKeysAreStoppedByWrites, ReadersOfItemsAreStoppedByWrites};
+ghost use Rattle.ft_trace.specs.StoppedLookUps.{ReadersOfKeysAreStoppedByWrites, ReadersOfItemsAreStoppedByWrites, ReadersOfContainersAreStoppedByWrites};
 ghost use Rattle.ft_trace.specs.OwnCursors.{CursorsAreHands};
 ghost use Rattle.ft_trace.specs.TableCounts.{TablesAddUp};
 ghost use Rattle.ft_trace.specs.Roots.{ZeroRootsHaveCauses, RetiredTablesAreApart};
@@ -64,15 +64,15 @@ pub fn opened_are_committed()
 {}
 
 /// A look-up of a key without the lock, which two loads of the version of the key's entry stop, is stopped by a
-/// write under way between them that changes what is under this key; and one of an index of a list, by a write that
-/// changes what is at this index. The pass that writes committed such a call while the version was odd, or has
-/// not committed yet. (Two cases are told apart: a pass that wrote two containers at once and committed a call
-/// on the other, and one that put the table in the place of another with the version odd.) Besides, a look-up
-/// where the root reads 0 is stopped by each write of its container, since it goes by the container's version;
-/// and one whose root names another table when it is read again searches that table.
+/// write under way between them that changes what is under this key; one of an index of a list, by a write that
+/// changes what is at this index; and one that goes by the container's version, as where its root reads 0, by a
+/// write of the container. The pass that writes committed such a call while the version was odd, or has not
+/// committed yet. (Two more cases are told apart: a pass that wrote two containers at once and committed a call
+/// on the other, and one that put the table in the place of another after its commit, with the version odd.)
 pub fn readers_are_stopped_by_writes()
     ensures keys { ReadersOfKeysAreStoppedByWrites }
     ensures items { ReadersOfItemsAreStoppedByWrites }
+    ensures containers { ReadersOfContainersAreStoppedByWrites }
 {}
 
 /// Each number below the counter is that of one write in one view.

@@ -1,8 +1,10 @@
 -- Readers of keys and items are stopped by writes of what they look for.
-use Rattle.std.proofs.Common.{◌≡◌, ◌≢◌, ℕ, suc, ◌+◌, ◌%◌, ◌<◌, List, [], ◌∷◌, refl, sym, ap, ◌∙◌, subst, inl, inr, ⊎_elim, arith}
+use Rattle.std.proofs.Common.{◌≡◌, ◌≢◌, ℕ, suc, ◌+◌, ◌%◌, ◌<◌, ◌≤◌, List, [], ◌∷◌, ◌++◌, refl, sym, ap, ◌∙◌, subst, inl, inr, ⊎_elim, arith}
 use Rattle.std.specs.Prelude.{slice_index, ◌==◌, ◌&&◌}
 use Rattle.std.specs.List.{find}
 use Rattle.std.specs.Option.{option_map_or}
+use Rattle.std.specs.Prelude.{All}
+use Rattle.std.proofs.lemmas.List.Elements.{All-head, All-tail}
 use mathlib.Core.Option.{some}
 use lib.ListN.{get_elem?}
 use Rattle.ft_model.specs.declared.content.Content.{Content}
@@ -12,6 +14,12 @@ use Rattle.ft_model.specs.declared.script.Kind.{Kind}
 use Rattle.ft_model.specs.declared.script.Kind.TheVariants as kind
 use Rattle.ft_model.specs.Worlds.{list_of}
 use Rattle.ft_layout.specs.Words.{key_kind, gone_kind, key_payload}
+use Rattle.ft_hash.proofs.Walks.{dict_slots-within, set_slots-within}
+use Rattle.ft_layout.proofs.Powers.{slots_range}
+use Rattle.ft_hash.specs.Probes.{dict_slots, set_slots}
+use Rattle.ft_layout.specs.Tables.{hash_of}
+use Rattle.ft_layout.specs.Containers.{class_mask}
+use Rattle.ft_model.specs.Classes.{IsClass}
 use Rattle.ft_trace.specs.declared.Act.{Act}
 use Rattle.ft_trace.specs.declared.Act.TheVariants.{ReadTable}
 use Rattle.ft_trace.specs.declared.Shape.{Shape}
@@ -24,7 +32,7 @@ use Rattle.ft_trace.specs.ItemWords.{OpensChangedItems}
 use Rattle.ft_trace.specs.Kinds.{rows, version_at, under, pair_words, element_words, IsKeyed, IsItems}
 use Rattle.ft_trace.specs.LoggedReads.{Among}
 use Rattle.ft_trace.specs.OpenedEntries.{OpensChangedAs, OpensChangedBy}
-use Rattle.ft_trace.specs.Pictures.{entry_offset, entry_field, index_field, item_offset}
+use Rattle.ft_trace.specs.Pictures.{entry_offset, entry_field, index_field, item_offset, walk_of}
 use Rattle.ft_trace.specs.StoppedLookUps.{Stopped, MetKey, ChangesKey, ChangesIndex, ReadersOfKeysAreStoppedByWrites, ReadersOfItemsAreStoppedByWrites}
 use Rattle.ft_trace.specs.Traces.{Event, run, history, Valid}
 use Rattle.ft_trace.proofs.ByKind.{keyed_later, keyed_low, keyed_sound}
@@ -35,6 +43,13 @@ use Rattle.ft_trace.proofs.Spots.{Under, Back, named_by, found}
 use Rattle.ft_trace.proofs.StoppedLookUps as stopped
 
 -- ---- by kind
+
+in_list : (xs : List ℕ) (P : ℕ → Type 0) (before after : List ℕ) (x : ℕ) → xs ≡ before ++ x ∷ after → All P xs → P x
+in_list xs P before after x split all = All-head P x after (All-after P before (x ∷ after) (subst (All P) split all))
+  where
+    All-after : (P : ℕ → Type 0) (xs ys : List ℕ) → All P (xs ++ ys) → All P ys
+    All-after P [] ys all = all
+    All-after P (x ∷ xs) ys all = All-after P xs ys (All-tail P x (xs ++ ys) all)
 
 keyed_version : (kind : Kind) → IsKeyed kind → (c p : ℕ) → version_at kind c p ≡ entry_offset (slots c) p 0
 keyed_version kind.Dict is c p = refl
@@ -59,6 +74,20 @@ items_opens kind.List is c ws d e opens = opens
 items_opens kind.Dict is c ws d e opens = absurd is
 items_opens kind.Set is c ws d e opens = absurd is
 items_opens (kind.Deque bound) is c ws d e opens = absurd is
+
+-- the slots of a probe are the table's
+probe_low : (kind : Kind) → IsKeyed kind → (texts : List ℕ) (c : ℕ) → IsClass c → (key : Key) (passed left : List ℕ) (slot : ℕ) → walk_of kind texts c key ≡ passed ++ slot ∷ left → slot < slots c
+unfolding walk_of slots
+probe_low kind.Dict keyed texts c is key passed left slot split =
+    let r = (slots_range c is).0 in
+    let low : slot ≤ class_mask c = in_list (dict_slots (hash_of texts key) (class_mask c) (class_mask c + 14)) (λ s. s ≤ class_mask c) passed left slot split (dict_slots-within (hash_of texts key) (class_mask c) (class_mask c + 14)) in
+    omega (arith, r, low)
+probe_low kind.Set keyed texts c is key passed left slot split =
+    let r = (slots_range c is).0 in
+    let low : slot ≤ class_mask c = in_list (set_slots (hash_of texts key) (class_mask c) (class_mask c + 14)) (λ s. s ≤ class_mask c) passed left slot split (set_slots-within (hash_of texts key) (class_mask c) (class_mask c + 14)) in
+    omega (arith, r, low)
+probe_low kind.List keyed texts c is key passed left slot split = absurd keyed
+probe_low (kind.Deque bound) keyed texts c is key passed left slot split = absurd keyed
 
 -- ---- the words of a key
 
@@ -115,7 +144,7 @@ later_key n m ws zs p key later low is =
 
 -- ---- keys
 
-module _ (k : Shape) (es : List Event) (valid : Valid k es) (o t p a b : ℕ) (key : Key) (low : o < container_count k) (keyed : IsKeyed (kind_in k.starts o)) (small : p < rows (kind_in k.starts o) (class_of t)) (j : ℕ) (u : View) (at : get_elem? (run k es).views j ≡ some u) (s : Stopped k u.log o t p a b) (met : MetKey t p key s.rest) where
+module _ (k : Shape) (es : List Event) (valid : Valid k es) (o t p a b : ℕ) (key : Key) (low : o < container_count k) (keyed : IsKeyed (kind_in k.starts o)) (small : p < rows (kind_in k.starts o) (class_of t)) (j : ℕ) (u : View) (at : get_elem? (run k es).views j ≡ some u) (s : Stopped k u.log o t p a b) (met : MetKey k o t p key s.rest) where
   abbrev N : ℕ
   N = slots (class_of t)
 
@@ -163,9 +192,9 @@ module _ (k : Shape) (es : List Event) (valid : Valid k es) (o t p a b : ℕ) (k
       let then_ = at_slot.spot.es in
       let names = named_by k then_ at_slot.spot.valid o t table at_slot.spot.now (at_slot.whom ∙ whom_p) in
       let sound = keyed_sound (kind_in k.starts o) keyed k.texts (class_of t) (tab k then_ t) (container_after k.starts (history then_) o).content (sound_at k then_ at_slot.spot.valid o low t names) in
-      let less = met.low in
+      let less = probe_low (kind_in k.starts o) keyed k.texts (class_of t) table.0 key met.passed met.left met.slot met.probe in
       let gave : suc p ≡ index_field (tab k then_ t) met.slot = found k t j met.slot (suc p) start met.named.rest at_payload.spot.es (omega (arith, less)) at_slot in
-      later_used N R (tab k then_ t) (tab k at_payload.spot.es t) (later_from at_payload.spot.es slot_read met.named.rest whom_p at_slot) p small (sound.named met.slot p met.low small (sym gave))
+      later_used N R (tab k then_ t) (tab k at_payload.spot.es t) (later_from at_payload.spot.es slot_read met.named.rest whom_p at_slot) p small (sound.named met.slot p less small (sym gave))
 
   payload1 : entry_field N (tab k E1 t) p 3 ≡ key_payload key
   payload1 = (later_from E1 payload_read met.payload.rest whom1 at_payload).key p small used_then ∙ sym (found k t j (entry_offset N p 3) (key_payload key) start met.payload.rest E1 (fits 3 (omega arith)) at_payload)

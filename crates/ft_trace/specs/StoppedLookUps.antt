@@ -18,7 +18,7 @@ use Rattle.ft_trace.specs.ItemWords.{words_at}
 use Rattle.ft_trace.specs.Kinds.{rows, version_at, under, IsKeyed, IsItems}
 use Rattle.ft_trace.specs.LoggedReads.{Among}
 use Rattle.ft_trace.specs.LoggedLookUps.{LookUpWindow}
-use Rattle.ft_trace.specs.Pictures.{entry_offset, table_words}
+use Rattle.ft_trace.specs.Pictures.{entry_offset, table_words, walk_of}
 use Rattle.ft_trace.specs.TraceLaws.{HasView}
 use Rattle.ft_trace.specs.Traces.{Event, did, run, history, word, Valid}
 
@@ -36,11 +36,13 @@ pub record Stopped (k : Shape) (log : List Act) (o t p a b : ℕ) : Type 0 where
       ∷ (mid ++ ReadTable t (version_at (kind_in k.starts o) (class_of t) p) a ∷ rest)
   pub moved : (a % 2 ≢ 0) ⊎ (b ≢ a)
 
--- the search met the entry at p: a slot named it, and after that its payload was read as the key's; and its kind was
--- read as the key's, or as that of the key once it is deleted
-pub record MetKey (t p : ℕ) (key : Key) (read : List Act) : Type 0 where
+-- the search met the entry at p: a slot of the key's probe named it, and after that its payload was read as the key's;
+-- and its kind was read as the key's, or as that of the key once it is deleted
+pub record MetKey (k : Shape) (o t p : ℕ) (key : Key) (read : List Act) : Type 0 where
   pub slot : ℕ
-  pub low : slot < slots (class_of t)
+  pub passed : List ℕ
+  pub left : List ℕ
+  pub probe : walk_of (kind_in k.starts o) k.texts (class_of t) key ≡ passed ++ slot ∷ left
   pub payload : Among (ReadTable t (entry_offset (slots (class_of t)) p 3) (key_payload key)) read
   pub named : Among (ReadTable t slot (suc p)) payload.rest
   pub kind : Among (ReadTable t (entry_offset (slots (class_of t)) p 2) (key_kind key)) read
@@ -159,7 +161,7 @@ abbrev pub ReadersOfKeysAreStoppedByWrites : Type 0
 ReadersOfKeysAreStoppedByWrites =
     (k : Shape) (es : List Event) → Valid k es → (o t p a b : ℕ) (key : Key) → o < container_count k
     → IsKeyed (kind_in k.starts o) → p < rows (kind_in k.starts o) (class_of t) → (j : ℕ) (u : View)
-    → HasView k es j u → (s : Stopped k u.log o t p a b) → MetKey t p key s.rest
+    → HasView k es j u → (s : Stopped k u.log o t p a b) → MetKey k o t p key s.rest
     → (x : ℕ) × IsOpenMeanwhile k es j o t p a x s.mid (s.rest ++ s.window.rest)
     × IsWritten k es o t p x (ChangesKey k o key)
 

@@ -152,7 +152,7 @@ const CHECKS: [Checked<'static>; 7] = [
     },
     // An await takes no lock, so it has no mark.
     Checked {
-        script: TWO_IN_TURN.input,
+        script: "version 2\nlist l\nthread A\nappend l 1\nthread B\nawait A.1\nappend l 2\norder B B A B\n",
         transcript: "A.1 w0 append l 1 = ok\nB.1 r1 await A.1 = ok waited A\nB.2 w1 append l 2 = ok\nl = [1, 2]\n",
         status: 7,
         fault: Fault::NotLegal(2, Rule::Mark),
@@ -161,7 +161,7 @@ const CHECKS: [Checked<'static>; 7] = [
     },
     // Both are wrong, and the await comes first; the reply comes before both.
     Checked {
-        script: TWO_IN_TURN.input,
+        script: "version 2\nlist l\nthread A\nappend l 1\nthread B\nawait A.1\nappend l 2\norder B B A B\n",
         transcript: "B.1 r0 await A.1 = ok waited A\nA.1 w0 append l 1 = ok\nB.2 w1 append l 2 = ok\nl = [1, 2]\n",
         status: 7,
         fault: Fault::NotLegal(1, Rule::Await),
@@ -169,7 +169,7 @@ const CHECKS: [Checked<'static>; 7] = [
         ..LEGAL
     },
     Checked {
-        script: TWO_IN_TURN.input,
+        script: "version 2\nlist l\nthread A\nappend l 1\nthread B\nawait A.1\nappend l 2\norder B B A B\n",
         transcript: "B.1 r0 await A.1 = True waited A\nA.1 w0 append l 1 = ok\nB.2 w1 append l 2 = ok\nl = [1, 2]\n",
         status: 7,
         fault: Fault::NotLegal(1, Rule::Reply),
@@ -178,7 +178,7 @@ const CHECKS: [Checked<'static>; 7] = [
     },
     // The stamp is less than what the call that is awaited leaves.
     Checked {
-        script: TWO_IN_TURN.input,
+        script: "version 2\nlist l\nthread A\nappend l 1\nthread B\nawait A.1\nappend l 2\norder B B A B\n",
         transcript: "A.1 w0 append l 1 = ok\nB.1 r0 await A.1 = ok\nB.2 w1 append l 2 = ok\nl = [1, 2]\n",
         status: 7,
         fault: Fault::NotLegal(2, Rule::Stamp),

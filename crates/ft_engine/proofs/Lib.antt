@@ -25,4 +25,3 @@ pub mod ReadContents
 pub mod LookCalls
 pub mod AtOnce
 pub mod SoFar
-pub mod AwaitCalls

@@ -18,4 +18,3 @@ pub mod DoneCallers
 pub mod Resting
 pub mod Contents
 pub mod AtOnce
-pub mod Awaiting

@@ -9,7 +9,6 @@
 mod answering;
 mod at_once;
 mod attempts;
-mod awaiting;
 mod caller;
 mod calling;
 mod closing;

@@ -1,2 +1,1 @@
 pub mod CallersOnline
-pub mod AwaitedNotes

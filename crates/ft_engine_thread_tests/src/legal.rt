@@ -14,7 +14,7 @@ use std::test::Fail;
 use std::thread::Threads;
 
 /// How many entries the history of the script has, which is run with this gate; `None` where it isn't legal.
-pub(crate) fn gated_entries<R: Threads + Wait + Sync, G: Gate>(
+fn gated_entries<R: Threads + Wait + Sync, G: Gate>(
     rt: &R,
     alloc: Global,
     text: &str,
@@ -30,7 +30,7 @@ pub(crate) fn gated_entries<R: Threads + Wait + Sync, G: Gate>(
 }
 
 /// The same without a gate.
-pub(crate) fn legal_entries<R: Threads + Wait + Sync>(
+fn legal_entries<R: Threads + Wait + Sync>(
     rt: &R,
     alloc: Global,
     text: &str,

@@ -3,8 +3,6 @@
 #![tactic(auto)]
 
 #[cfg(test)]
-mod awaiting;
-#[cfg(test)]
 mod legal;
 #[cfg(test)]
 mod scripts;

@@ -10,10 +10,11 @@ ghost use Rattle.ft_bank.specs.Passes.{shape_of, view};
 ghost use Rattle.ft_section.specs.declared.answers.Objects.TheVariants.{One, Two};
 ghost use Rattle.ft_section.specs.Ready.{MayTry};
 ghost use Rattle.ft_section.specs.Trying.{SectionsAfter};
-ghost use Rattle.ft_table_calls.specs.Adding.{KeepsCursors};
-ghost use Rattle.ft_table_calls.specs.TriesUnderLocks.{ComesTo, IsMade, IsRead, IsTry};
-ghost use Rattle.ft_reads.specs.Clears.{IsClear};
-ghost use Rattle.ft_reads.specs.Copies.{IsCopy};
+ghost use Rattle.ft_table_calls.specs.Adding.{IsTryOf, KeepsCursors};
+ghost use Rattle.ft_search.specs.MadeCalls.{IsMadeOf};
+ghost use Rattle.ft_search.specs.Tries.{IsReadOf};
+ghost use Rattle.ft_reads.specs.Clears.{IsClearOf};
+ghost use Rattle.ft_reads.specs.Copies.{IsCopyOf};
 ghost use Rattle.ft_list.specs.ListGrowth.{AddsItems, ExtendsBy};
 
 use crate::making::{Appender, ListMaker};
@@ -31,7 +32,7 @@ use std::alloc::Global;
 /// `NotYet` where a step of the call found another pass with the lock of the list; `Moved` where two steps of it
 /// found a word of the free tables of one class changed. The same call comes next. It never answers `NoMemory`.
 /// Whatever it answers, the pass has the cursors that it had.
-#[tactic(auto, using(ft_table_calls::proofs::TriedCalls::added_keeps))]
+#[tactic(auto, using(ft_table_calls::proofs::TriedCalls::added_try, ft_table_calls::proofs::TriedCalls::added_keeps))]
 pub fn try_append(bank: &Bank, pass: &mut Pass, l: Object, value: Value) -> Step
     requires may { MayTry bank.now pass.old (One l) }
     requires container { l < container_count (shape_of bank.now) }
@@ -39,8 +40,7 @@ pub fn try_append(bank: &Bank, pass: &mut Pass, l: Object, value: Value) -> Step
     requires left { 0 < (view pass.old).left }
     ensures may { MayTry bank.now pass.new (One l) }
     ensures sections { SectionsAfter bank.now (One l) pass.old pass.new result }
-    ensures tried { IsTry (One l)
-        (ComesTo (AddsItems (shape_of bank.now) l (call.List l (list.Append value)) 1) reply.Done)
+    ensures tried { IsTryOf (One l) (AddsItems (shape_of bank.now) l (call.List l (list.Append value)) 1) reply.Done
         (view pass.old) (view pass.new) result }
     ensures cursors { KeepsCursors (view pass.old) (view pass.new) }
 {
@@ -57,7 +57,7 @@ pub fn try_append(bank: &Bank, pass: &mut Pass, l: Object, value: Value) -> Step
 /// # Errors
 ///
 /// As those of `try_append`.
-#[tactic(auto, using(ft_table_calls::proofs::TriedCalls::added_keeps))]
+#[tactic(auto, using(ft_table_calls::proofs::TriedCalls::added_try, ft_table_calls::proofs::TriedCalls::added_keeps))]
 pub fn try_insert(bank: &Bank, pass: &mut Pass, l: Object, index: i64, value: Value) -> Step
     requires may { MayTry bank.now pass.old (One l) }
     requires container { l < container_count (shape_of bank.now) }
@@ -65,8 +65,7 @@ pub fn try_insert(bank: &Bank, pass: &mut Pass, l: Object, index: i64, value: Va
     requires left { 0 < (view pass.old).left }
     ensures may { MayTry bank.now pass.new (One l) }
     ensures sections { SectionsAfter bank.now (One l) pass.old pass.new result }
-    ensures tried { IsTry (One l)
-        (ComesTo (AddsItems (shape_of bank.now) l (call.List l (list.Insert index value)) 1) reply.Done)
+    ensures tried { IsTryOf (One l) (AddsItems (shape_of bank.now) l (call.List l (list.Insert index value)) 1) reply.Done
         (view pass.old) (view pass.new) result }
     ensures cursors { KeepsCursors (view pass.old) (view pass.new) }
 {
@@ -90,7 +89,7 @@ pub fn try_insert(bank: &Bank, pass: &mut Pass, l: Object, index: i64, value: Va
 /// # Errors
 ///
 /// As those of `try_append`, for the locks of both.
-#[tactic(auto, using(ft_table_calls::proofs::TriedCalls::added_keeps))]
+#[tactic(auto, using(ft_table_calls::proofs::TriedCalls::added_try, ft_table_calls::proofs::TriedCalls::added_keeps))]
 pub fn try_extend(bank: &Bank, pass: &mut Pass, l: Object, m: Object) -> Step
     requires may { MayTry bank.now pass.old (Two l m) }
     requires container { l < container_count (shape_of bank.now) }
@@ -100,8 +99,8 @@ pub fn try_extend(bank: &Bank, pass: &mut Pass, l: Object, m: Object) -> Step
     requires left { 0 < (view pass.old).left }
     ensures may { MayTry bank.now pass.new (Two l m) }
     ensures sections { SectionsAfter bank.now (Two l m) pass.old pass.new result }
-    ensures tried { IsTry (Two l m) (ComesTo (ExtendsBy (shape_of bank.now) l m) reply.Done)
-        (view pass.old) (view pass.new) result }
+    ensures tried { IsTryOf (Two l m) (ExtendsBy (shape_of bank.now) l m) reply.Done (view pass.old) (view pass.new)
+        result }
     ensures cursors { KeepsCursors (view pass.old) (view pass.new) }
 {
     let called = Call::List {
@@ -123,6 +122,7 @@ pub fn try_extend(bank: &Bank, pass: &mut Pass, l: Object, m: Object) -> Step
 ///
 /// `NotYet` where a step of the call found another pass with the lock of the list; the same call comes next.
 /// It never answers `Moved` or `NoMemory`.
+#[tactic(auto, using(ft_table_calls::proofs::TriedCalls::read_try))]
 pub fn try_get(bank: &Bank, pass: &mut Pass, l: Object, index: i64) -> Step
     requires may { MayTry bank.now pass.old (One l) }
     requires container { l < container_count (shape_of bank.now) }
@@ -130,7 +130,7 @@ pub fn try_get(bank: &Bank, pass: &mut Pass, l: Object, index: i64) -> Step
     requires left { 0 < (view pass.old).left }
     ensures may { MayTry bank.now pass.new (One l) }
     ensures sections { SectionsAfter bank.now (One l) pass.old pass.new result }
-    ensures tried { IsTry (One l) (IsRead (call.List l (list.Get index))) (view pass.old) (view pass.new) result }
+    ensures read { IsReadOf l (call.List l (list.Get index)) (view pass.old) (view pass.new) result }
 {
     let called = Call::List {
         container: l,
@@ -151,6 +151,7 @@ pub fn try_get(bank: &Bank, pass: &mut Pass, l: Object, index: i64) -> Step
 ///
 /// `NotYet` where a step of the call found another pass with the lock of the list; the same call comes next.
 /// It never answers `Moved` or `NoMemory`.
+#[tactic(auto, using(ft_table_calls::proofs::TriedCalls::made_try))]
 pub fn try_set(bank: &Bank, pass: &mut Pass, l: Object, index: i64, value: Value) -> Step
     requires may { MayTry bank.now pass.old (One l) }
     requires container { l < container_count (shape_of bank.now) }
@@ -158,7 +159,7 @@ pub fn try_set(bank: &Bank, pass: &mut Pass, l: Object, index: i64, value: Value
     requires left { 0 < (view pass.old).left }
     ensures may { MayTry bank.now pass.new (One l) }
     ensures sections { SectionsAfter bank.now (One l) pass.old pass.new result }
-    ensures tried { IsTry (One l) (IsMade (call.List l (list.Set index value))) (view pass.old) (view pass.new) result }
+    ensures made { IsMadeOf (One l) (call.List l (list.Set index value)) (view pass.old) (view pass.new) result }
 {
     let called = Call::List {
         container: l,
@@ -179,6 +180,7 @@ pub fn try_set(bank: &Bank, pass: &mut Pass, l: Object, index: i64, value: Value
 ///
 /// `NotYet` where a step of the call found another pass with the lock of the list; the same call comes next.
 /// It never answers `Moved` or `NoMemory`.
+#[tactic(auto, using(ft_table_calls::proofs::TriedCalls::made_try))]
 pub fn try_del(bank: &Bank, pass: &mut Pass, l: Object, index: i64) -> Step
     requires may { MayTry bank.now pass.old (One l) }
     requires container { l < container_count (shape_of bank.now) }
@@ -186,7 +188,7 @@ pub fn try_del(bank: &Bank, pass: &mut Pass, l: Object, index: i64) -> Step
     requires left { 0 < (view pass.old).left }
     ensures may { MayTry bank.now pass.new (One l) }
     ensures sections { SectionsAfter bank.now (One l) pass.old pass.new result }
-    ensures tried { IsTry (One l) (IsMade (call.List l (list.Del index))) (view pass.old) (view pass.new) result }
+    ensures made { IsMadeOf (One l) (call.List l (list.Del index)) (view pass.old) (view pass.new) result }
 {
     let called = Call::List {
         container: l,
@@ -207,6 +209,7 @@ pub fn try_del(bank: &Bank, pass: &mut Pass, l: Object, index: i64) -> Step
 ///
 /// `NotYet` where a step of the call found another pass with the lock of the list; the same call comes next.
 /// It never answers `Moved` or `NoMemory`.
+#[tactic(auto, using(ft_table_calls::proofs::TriedCalls::made_try))]
 pub fn try_pop(bank: &Bank, pass: &mut Pass, l: Object, index: Option<i64>) -> Step
     requires may { MayTry bank.now pass.old (One l) }
     requires container { l < container_count (shape_of bank.now) }
@@ -214,7 +217,7 @@ pub fn try_pop(bank: &Bank, pass: &mut Pass, l: Object, index: Option<i64>) -> S
     requires left { 0 < (view pass.old).left }
     ensures may { MayTry bank.now pass.new (One l) }
     ensures sections { SectionsAfter bank.now (One l) pass.old pass.new result }
-    ensures tried { IsTry (One l) (IsMade (call.List l (list.Pop index))) (view pass.old) (view pass.new) result }
+    ensures made { IsMadeOf (One l) (call.List l (list.Pop index)) (view pass.old) (view pass.new) result }
 {
     let called = Call::List {
         container: l,
@@ -235,6 +238,7 @@ pub fn try_pop(bank: &Bank, pass: &mut Pass, l: Object, index: Option<i64>) -> S
 ///
 /// `NotYet` where a step of the call found another pass with the lock of the list; the same call comes next.
 /// It never answers `Moved` or `NoMemory`.
+#[tactic(auto, using(ft_table_calls::proofs::TriedCalls::made_try))]
 pub fn try_remove(bank: &Bank, pass: &mut Pass, l: Object, value: Value) -> Step
     requires may { MayTry bank.now pass.old (One l) }
     requires container { l < container_count (shape_of bank.now) }
@@ -242,7 +246,7 @@ pub fn try_remove(bank: &Bank, pass: &mut Pass, l: Object, value: Value) -> Step
     requires left { 0 < (view pass.old).left }
     ensures may { MayTry bank.now pass.new (One l) }
     ensures sections { SectionsAfter bank.now (One l) pass.old pass.new result }
-    ensures tried { IsTry (One l) (IsMade (call.List l (list.Remove value))) (view pass.old) (view pass.new) result }
+    ensures made { IsMadeOf (One l) (call.List l (list.Remove value)) (view pass.old) (view pass.new) result }
 {
     let called = Call::List {
         container: l,
@@ -263,6 +267,7 @@ pub fn try_remove(bank: &Bank, pass: &mut Pass, l: Object, value: Value) -> Step
 ///
 /// `NotYet` where a step of the call found another pass with the lock of the list; the same call comes next.
 /// It never answers `Moved` or `NoMemory`.
+#[tactic(auto, using(ft_table_calls::proofs::TriedCalls::made_try))]
 pub fn try_index(bank: &Bank, pass: &mut Pass, l: Object, value: Value) -> Step
     requires may { MayTry bank.now pass.old (One l) }
     requires container { l < container_count (shape_of bank.now) }
@@ -270,7 +275,7 @@ pub fn try_index(bank: &Bank, pass: &mut Pass, l: Object, value: Value) -> Step
     requires left { 0 < (view pass.old).left }
     ensures may { MayTry bank.now pass.new (One l) }
     ensures sections { SectionsAfter bank.now (One l) pass.old pass.new result }
-    ensures tried { IsTry (One l) (IsMade (call.List l (list.Index value))) (view pass.old) (view pass.new) result }
+    ensures made { IsMadeOf (One l) (call.List l (list.Index value)) (view pass.old) (view pass.new) result }
 {
     let called = Call::List {
         container: l,
@@ -291,6 +296,7 @@ pub fn try_index(bank: &Bank, pass: &mut Pass, l: Object, value: Value) -> Step
 ///
 /// `NotYet` where a step of the call found another pass with the lock of the list; the same call comes next.
 /// It never answers `Moved` or `NoMemory`.
+#[tactic(auto, using(ft_table_calls::proofs::TriedCalls::made_try))]
 pub fn try_count(bank: &Bank, pass: &mut Pass, l: Object, value: Value) -> Step
     requires may { MayTry bank.now pass.old (One l) }
     requires container { l < container_count (shape_of bank.now) }
@@ -298,7 +304,7 @@ pub fn try_count(bank: &Bank, pass: &mut Pass, l: Object, value: Value) -> Step
     requires left { 0 < (view pass.old).left }
     ensures may { MayTry bank.now pass.new (One l) }
     ensures sections { SectionsAfter bank.now (One l) pass.old pass.new result }
-    ensures tried { IsTry (One l) (IsMade (call.List l (list.Count value))) (view pass.old) (view pass.new) result }
+    ensures made { IsMadeOf (One l) (call.List l (list.Count value)) (view pass.old) (view pass.new) result }
 {
     let called = Call::List {
         container: l,
@@ -319,6 +325,7 @@ pub fn try_count(bank: &Bank, pass: &mut Pass, l: Object, value: Value) -> Step
 ///
 /// `NotYet` where a step of the call found another pass with the lock of the list; the same call comes next.
 /// It never answers `Moved` or `NoMemory`.
+#[tactic(auto, using(ft_table_calls::proofs::TriedCalls::made_try))]
 pub fn try_has(bank: &Bank, pass: &mut Pass, l: Object, value: Value) -> Step
     requires may { MayTry bank.now pass.old (One l) }
     requires container { l < container_count (shape_of bank.now) }
@@ -326,7 +333,7 @@ pub fn try_has(bank: &Bank, pass: &mut Pass, l: Object, value: Value) -> Step
     requires left { 0 < (view pass.old).left }
     ensures may { MayTry bank.now pass.new (One l) }
     ensures sections { SectionsAfter bank.now (One l) pass.old pass.new result }
-    ensures tried { IsTry (One l) (IsMade (call.List l (list.Has value))) (view pass.old) (view pass.new) result }
+    ensures made { IsMadeOf (One l) (call.List l (list.Has value)) (view pass.old) (view pass.new) result }
 {
     let called = Call::List {
         container: l,
@@ -347,6 +354,7 @@ pub fn try_has(bank: &Bank, pass: &mut Pass, l: Object, value: Value) -> Step
 ///
 /// `NotYet` where a step of the call found another pass with the lock of the list; the same call comes next.
 /// It never answers `Moved` or `NoMemory`.
+#[tactic(auto, using(ft_table_calls::proofs::TriedCalls::made_try))]
 pub fn try_reverse(bank: &Bank, pass: &mut Pass, l: Object) -> Step
     requires may { MayTry bank.now pass.old (One l) }
     requires container { l < container_count (shape_of bank.now) }
@@ -354,7 +362,7 @@ pub fn try_reverse(bank: &Bank, pass: &mut Pass, l: Object) -> Step
     requires left { 0 < (view pass.old).left }
     ensures may { MayTry bank.now pass.new (One l) }
     ensures sections { SectionsAfter bank.now (One l) pass.old pass.new result }
-    ensures tried { IsTry (One l) (IsMade (call.List l list.Reverse)) (view pass.old) (view pass.new) result }
+    ensures made { IsMadeOf (One l) (call.List l list.Reverse) (view pass.old) (view pass.new) result }
 {
     let called = Call::List {
         container: l,
@@ -376,6 +384,7 @@ pub fn try_reverse(bank: &Bank, pass: &mut Pass, l: Object) -> Step
 /// `NotYet` where a step of the call found another pass with the lock of the list; the same call comes next.
 /// `NoMemory` where memory for the copy ran out: the list is as it was, and the lock is let go. It never
 /// answers `Moved`.
+#[tactic(auto, using(ft_reads::proofs::TriedReads::copy_try))]
 pub fn try_slice(
     bank: &Bank,
     pass: &mut Pass,
@@ -390,7 +399,7 @@ pub fn try_slice(
     requires left { 0 < (view pass.old).left }
     ensures may { MayTry bank.now pass.new (One l) }
     ensures sections { SectionsAfter bank.now (One l) pass.old pass.new result }
-    ensures tried { IsTry (One l) (IsCopy (call.List l (list.Slice start end))) (view pass.old) (view pass.new) result }
+    ensures made { IsCopyOf (One l) (call.List l (list.Slice start end)) (view pass.old) (view pass.new) result }
 {
     let called = Call::List {
         container: l,
@@ -412,6 +421,7 @@ pub fn try_slice(
 /// `NotYet` where a step of the call found another pass with the lock of the list; the same call comes next.
 /// `NoMemory` where memory for the copy ran out: the list is as it was, and the lock is let go. It never
 /// answers `Moved`.
+#[tactic(auto, using(ft_reads::proofs::TriedReads::copy_try))]
 pub fn try_items(bank: &Bank, pass: &mut Pass, alloc: Global, l: Object) -> Step
     requires may { MayTry bank.now pass.old (One l) }
     requires container { l < container_count (shape_of bank.now) }
@@ -419,7 +429,7 @@ pub fn try_items(bank: &Bank, pass: &mut Pass, alloc: Global, l: Object) -> Step
     requires left { 0 < (view pass.old).left }
     ensures may { MayTry bank.now pass.new (One l) }
     ensures sections { SectionsAfter bank.now (One l) pass.old pass.new result }
-    ensures tried { IsTry (One l) (IsCopy (call.List l list.Items)) (view pass.old) (view pass.new) result }
+    ensures made { IsCopyOf (One l) (call.List l list.Items) (view pass.old) (view pass.new) result }
 {
     let called = Call::List {
         container: l,
@@ -440,7 +450,7 @@ pub fn try_items(bank: &Bank, pass: &mut Pass, alloc: Global, l: Object) -> Step
 ///
 /// `NotYet` where a step of the call found another pass with the lock of the list; the same call comes next.
 /// It never answers `Moved` or `NoMemory`.
-#[tactic(auto, using(ft_reads::proofs::TriedReads::clear_keeps))]
+#[tactic(auto, using(ft_reads::proofs::TriedReads::clear_try, ft_reads::proofs::TriedReads::clear_keeps))]
 pub fn try_clear(bank: &Bank, pass: &mut Pass, l: Object) -> Step
     requires may { MayTry bank.now pass.old (One l) }
     requires container { l < container_count (shape_of bank.now) }
@@ -448,7 +458,7 @@ pub fn try_clear(bank: &Bank, pass: &mut Pass, l: Object) -> Step
     requires left { 0 < (view pass.old).left }
     ensures may { MayTry bank.now pass.new (One l) }
     ensures sections { SectionsAfter bank.now (One l) pass.old pass.new result }
-    ensures tried { IsTry (One l) (IsClear (call.List l list.Clear)) (view pass.old) (view pass.new) result }
+    ensures tried { IsClearOf l (call.List l list.Clear) (view pass.old) (view pass.new) result }
     ensures cursors { KeepsCursors (view pass.old) (view pass.new) }
 {
     let called = Call::List {
@@ -470,6 +480,7 @@ pub fn try_clear(bank: &Bank, pass: &mut Pass, l: Object) -> Step
 ///
 /// `NotYet` where a step of the call found another pass with the lock of the list; the same call comes next. It
 /// never answers `Moved` or `NoMemory`.
+#[tactic(auto, using(ft_table_calls::proofs::TriedCalls::read_try))]
 pub fn try_len(bank: &Bank, pass: &mut Pass, l: Object) -> Step
     requires may { MayTry bank.now pass.old (One l) }
     requires container { l < container_count (shape_of bank.now) }
@@ -477,7 +488,7 @@ pub fn try_len(bank: &Bank, pass: &mut Pass, l: Object) -> Step
     requires left { 0 < (view pass.old).left }
     ensures may { MayTry bank.now pass.new (One l) }
     ensures sections { SectionsAfter bank.now (One l) pass.old pass.new result }
-    ensures tried { IsTry (One l) (IsRead (call.List l list.Len)) (view pass.old) (view pass.new) result }
+    ensures read { IsReadOf l (call.List l list.Len) (view pass.old) (view pass.new) result }
 {
     let called = Call::List {
         container: l,
@@ -499,6 +510,7 @@ pub fn try_len(bank: &Bank, pass: &mut Pass, l: Object) -> Step
 ///
 /// `NotYet` where a step of the call found another pass with the lock of one of the lists; the same call
 /// comes next. It never answers `Moved` or `NoMemory`.
+#[tactic(auto, using(ft_table_calls::proofs::TriedCalls::made_try))]
 pub fn try_eq(bank: &Bank, pass: &mut Pass, l: Object, m: Object) -> Step
     requires may { MayTry bank.now pass.old (Two l m) }
     requires container { l < container_count (shape_of bank.now) }
@@ -508,7 +520,7 @@ pub fn try_eq(bank: &Bank, pass: &mut Pass, l: Object, m: Object) -> Step
     requires left { 0 < (view pass.old).left }
     ensures may { MayTry bank.now pass.new (Two l m) }
     ensures sections { SectionsAfter bank.now (Two l m) pass.old pass.new result }
-    ensures tried { IsTry (Two l m) (IsMade (call.List l (list.Eq m))) (view pass.old) (view pass.new) result }
+    ensures made { IsMadeOf (Two l m) (call.List l (list.Eq m)) (view pass.old) (view pass.new) result }
 {
     let called = Call::List {
         container: l,

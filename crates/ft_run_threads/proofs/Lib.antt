@@ -8,4 +8,3 @@ pub mod Between
 pub mod Entries
 pub mod WholeLists
 mod LandedShapes
-pub mod Noting

@@ -7,5 +7,3 @@ mod AllMade
 mod NewSeats
 mod Ended
 mod Ordered
-mod AwaitedCalls
-mod AwaitedTurns

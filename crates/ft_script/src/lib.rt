@@ -2,7 +2,6 @@
 #![tactic(auto)]
 
 mod arguments;
-mod awaits;
 mod call_words;
 mod calls;
 mod contents;

@@ -3,8 +3,6 @@
 #![tactic(auto)]
 
 #[cfg(test)]
-mod awaits;
-#[cfg(test)]
 mod chronicles;
 #[cfg(test)]
 mod generated;

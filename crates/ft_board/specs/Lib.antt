@@ -1,2 +1,0 @@
-pub mod Awaits
-pub mod Boards

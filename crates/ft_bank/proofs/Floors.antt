@@ -4,6 +4,7 @@ use Rattle.std.specs.Prelude.{max, slice_index}
 use Rattle.std.proofs.Math.Nat.{le-max_left, le-max_right, ℕ_set}
 use Rattle.std.proofs.Math.Logic.{∥∥₁_elim}
 use Rattle.atomic_table.proofs.Lists.{at_longer}
+use Rattle.ft_trace.specs.declared.Told.{Told}
 use Rattle.ft_trace.specs.declared.View.{View}
 use Rattle.ft_trace.specs.declared.Act.{Act}
 use Rattle.ft_trace.specs.declared.Snap.{Snap}
@@ -29,8 +30,11 @@ sender_possible v given live low quiet p =
 pub no_words : (v : View) → 0 < v.tokens → (sender v.tokens v).floor ≡ []
 no_words v token = miss v.tokens 0 v.floor [] (λ e. omega (arith, e, token))
 
-pub tokens_free : (tokens n : ℕ) (words : List ℕ) → IsFree (slip_with tokens n words)
-tokens_free tokens n words = ((λ o. refl), (λ t. inl refl), refl, refl, refl, refl)
+pub no_floor : (v : View) → 0 < v.tokens → (sender v.tokens v).has_floor ≡ false
+no_floor v token = miss v.tokens 0 v.has_floor false (λ e. omega (arith, e, token))
+
+pub tokens_free : (tokens n : ℕ) (words : List ℕ) (told : List Told) → IsFree (slip_with tokens n words told)
+tokens_free tokens n words told = ((λ o. refl), (λ t. inl refl), refl, refl, refl, refl)
 
 -- taking the floor loads the counter
 pub floor_settles : (v : View) (n : ℕ) (s : Snap) (w : View) → w ≡ view_after (TakeFloor n s) v → Acted v (TakeFloor n s) → w.learnt ≤ shown w.log

@@ -6,6 +6,7 @@ pub mod StartWords
 pub mod TableAddresses
 pub mod Openings
 pub mod WordsPut
+pub mod Logs
 pub mod KnownAfterWrites
 pub mod Freeing
 pub mod Seen

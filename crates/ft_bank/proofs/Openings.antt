@@ -17,7 +17,7 @@ room c i n low = let s = suc-mul i c in let m = mul-le-mul_right c (at_least i n
     at_least i n low = omega (arith, low)
 
 pub starts : (k : Shape) → HasMade k 0 (starter k)
-starts k = record { number = refl; next = refl; parts = omega arith; left = omega arith; shape = refl; log = refl; entries = refl; lists = refl; tokens = omega arith; learnt = refl; has_floor = refl; floor = refl }
+starts k = record { number = refl; next = refl; parts = omega arith; left = omega arith; shape = refl; log = refl; entries = refl; lists = refl; tokens = omega arith; learnt = refl; has_floor = refl; floor = refl; told = refl }
 
 module _ (k : Shape) (i : ℕ) (v : View) (h : HasMade k i v) where
   calls : v.shape.calls ≡ k.calls
@@ -47,6 +47,7 @@ module _ (k : Shape) (i : ℕ) (v : View) (h : HasMade k i v) where
     learnt = h.learnt;
     has_floor = refl;
     floor = refl;
+    told = h.told;
   }
     where
       one_up : (n : ℕ) → n + 1 ≡ suc n
@@ -56,7 +57,7 @@ module _ (k : Shape) (i : ℕ) (v : View) (h : HasMade k i v) where
   made_is =
       let n : v.next ≡ suc (i + 1) = (let x = h.next in omega (arith, x)) in
       let z : 0 ≡ next_of k (i + 1) = no_next k i in
-      λ d. record { number = n d; next = z d; parts = 1; left = calls d; shape = h.shape d; log = []; entries = []; lists = []; tokens = 1; learnt = 0; has_floor = false; floor = [] }
+      λ d. record { number = n d; next = z d; parts = 1; left = calls d; shape = h.shape d; log = []; entries = []; lists = []; tokens = 1; learnt = 0; has_floor = false; floor = []; told = [] }
     where
       suc_is : (i : ℕ) → suc i ≡ i + 1
       suc_is i = omega arith
@@ -71,7 +72,7 @@ module _ (k : Shape) (i : ℕ) (v : View) (h : HasMade k i v) where
       let tokens : v.tokens ≡ 1 = (let x = h.tokens in omega (arith, x, all)) in
       let p : k.passes * k.calls ≡ i * k.calls + k.calls = ap (λ (z : ℕ). z * k.calls) (passes_is i k.passes all) ∙ suc-mul i k.calls in
       let left : v.left ≡ k.calls = (let x = h.left in omega (arith, x, p)) in
-      λ d. record { number = h.number d; next = next d; parts = parts d; left = left d; shape = h.shape d; log = h.log d; entries = h.entries d; lists = h.lists d; tokens = tokens d; learnt = h.learnt d; has_floor = h.has_floor d; floor = h.floor d }
+      λ d. record { number = h.number d; next = next d; parts = parts d; left = left d; shape = h.shape d; log = h.log d; entries = h.entries d; lists = h.lists d; tokens = tokens d; learnt = h.learnt d; has_floor = h.has_floor d; floor = h.floor d; told = h.told d }
     where
       passes_is : (i n : ℕ) → i + 1 ≡ n → n ≡ suc i
       passes_is i n all = omega (arith, all)

@@ -1,9 +1,10 @@
 -- What a load of the counter shows of what a pass has learnt, and what a note leaves of it.
-use Rattle.std.proofs.Common.{◌≡◌, ℕ, ◌+◌, ◌-◌, ◌<◌, ◌≤◌, List, [], ◌∷◌, ◌++◌, refl, sym, ap, ◌∙◌, arith, inl, le_trans, le_refl, append_assoc, append-nil}
-use Rattle.std.specs.Prelude.{max}
+use Rattle.std.proofs.Common.{◌≡◌, ℕ, suc, ◌+◌, ◌-◌, ◌<◌, ◌≤◌, eqb, Bool, true, false, cond, length, List, [], ◌∷◌, ◌++◌, refl, ap, ◌∙◌, arith, inl, le_trans, le_refl, append_assoc, append-nil}
+use Rattle.std.specs.Prelude.{max, slice_get}
 use Rattle.std.proofs.Math.Bridge.{le_prop}
 use Rattle.std.proofs.Math.Nat.{le-max_left, le-max_right, max-zero, max-le}
 use Rattle.std.proofs.Math.Logic.{∥∥₁_elim}
+use Rattle.ft_trace.specs.declared.Told.{Told}
 use Rattle.ft_trace.specs.declared.View.{View}
 use Rattle.ft_trace.specs.declared.Act.{Act}
 use Rattle.ft_trace.specs.declared.Act.TheVariants.{ReadCounter, Commit, Answer, TookOver}
@@ -11,7 +12,8 @@ use Rattle.ft_trace.specs.declared.Snap.{Snap}
 use Rattle.ft_trace.specs.LoggedReads.{Among}
 use Rattle.ft_model.specs.declared.call.Call.{Call}
 use Rattle.ft_model.specs.declared.reply.Reply.{Reply}
-use Rattle.ft_trace.specs.Acts.{view_after, both, sender, note, shown, seen_writes, floor_known}
+use Rattle.ft_trace.specs.Acts.{view_after, both, sender, note, shown, seen_writes, own_told, told_in, floor_known, floor_words}
+use Rattle.ft_trace.specs.Causes.{IsToldOf}
 use Rattle.ft_trace.specs.Traces.{IsReachable, IsFree}
 use Rattle.ft_trace.proofs.Cases.{miss}
 use Rattle.ft_trace.proofs.Seeing.{shown_up, seen_is_low, loads_see_all}
@@ -36,20 +38,21 @@ add_none : (n : ℕ) → n + 0 ≡ n
 add_none n = omega arith
 
 -- what a pass knows that has learnt a note and loaded the counter
-pub knowing_is : (n m : ℕ) (v : View) → view_after (ReadCounter m) (both v (slip n)) ≡ view_after (ReadCounter m) (knowing n v)
-knowing_is n m v = λ i. record {
+pub knowing_is : (n m : ℕ) (told : List Told) (v : View) → view_after (ReadCounter m) (both v (slip n told)) ≡ view_after (ReadCounter m) (knowing n told v)
+knowing_is n m told v = λ i. record {
   number = v.number;
   next = v.next;
   parts = add_none v.parts i;
   left = add_none v.left i;
   shape = v.shape;
-  log = ReadCounter m ∷ (TookOver [] [] [] ∷ v.log);
+  log = ReadCounter m ∷ (TookOver [] [] [] (append-nil told i) ∷ v.log);
   entries = v.entries;
   lists = append-nil v.lists i;
   tokens = add_none v.tokens i;
   learnt = max v.learnt (max-zero n i);
   has_floor = v.has_floor;
   floor = [];
+  told = v.told;
 }
 
 less_none : (n : ℕ) → n - 0 ≡ n
@@ -60,8 +63,34 @@ pub sender_is : (v : View) → sender 0 v ≡ v
 sender_is v = ap (λ (n : ℕ). record v { tokens = n }) (less_none v.tokens)
 
 -- a note with no tokens
-pub note_is : (v : View) → 0 < v.tokens → note 0 v ≡ slip (seen_writes v)
-note_is v token = ap (λ (l : List ℕ). record (slip (seen_writes v)) { floor = l }) (miss 0 v.tokens (floor_known v) [] (λ e. omega (arith, e, token)))
+pub note_is : (v : View) → 0 < v.tokens → note 0 v ≡ slip (seen_writes v) (own_told v)
+note_is v token = ap (λ (l : List ℕ). record (slip (seen_writes v) (own_told v)) { floor = l }) (miss 0 v.tokens (floor_known v) [] (λ e. omega (arith, e, token)))
+
+-- and one of a pass that has none, and so not the floor
+pub resting_note_is : (v : View) → v.has_floor ≡ false → v.floor ≡ [] → note 0 v ≡ slip (seen_writes v) (own_told v)
+resting_note_is v floorless wordless =
+    ap (λ (l : List ℕ). record (slip (seen_writes v) (own_told v)) { floor = l }) (none (eqb 0 v.tokens))
+  where
+    none : (b : Bool) → cond b (floor_known v) [] ≡ []
+    none true = ap (λ (has : Bool). cond has (floor_words v.shape v.number v.log) v.floor) floorless ∙ wordless
+    none false = refl
+
+-- what the maker of a note tells
+pub tells_of : (v : View) (told : List Told) (thread index : ℕ) → told ≡ own_told v → v.number ≡ suc thread → index ≤ length v.entries
+    → (one : Told) × (told ≡ one ∷ []) × (one.pass ≡ suc thread) × (index ≤ length one.entries)
+tells_of v told thread index is number many =
+    (record { pass = v.number; seen = seen_writes v; entries = v.entries }, is ∙ miss v.number 0 [] (record { pass = v.number; seen = seen_writes v; entries = v.entries } ∷ []) (λ e. omega (arith, e, number)), number, many)
+
+-- who learns it was told of that entry
+pub told_learnt : (n : ℕ) (told : List Told) (v : View) (thread index : ℕ) → ((one : Told) × (told ≡ one ∷ []) × (one.pass ≡ suc thread) × (index ≤ length one.entries)) → 1 ≤ index → IsToldOf (told_in (knowing n told v).log) thread index
+told_learnt n told v thread index tells some_ = record {
+  place = 0;
+  one = tells.0;
+  at = ap (λ (l : List Told). slice_get (l ++ told_in v.log) 0) tells.1;
+  pass = tells.2;
+  some = some_;
+  many = tells.3;
+}
 
 -- a later log shows no fewer writes
 pub seen_rises : (newer rest : List Act) → shown rest ≤ shown (newer ++ rest)
@@ -85,8 +114,8 @@ answered_seen v w z called said part n own among is settled possible =
     (record { newer = Answer called said n ∷ among.newer; rest = among.rest; is = ap (λ (l : List Act). Answer called said n ∷ l) among.is }) settled possible
 
 -- a note has no lock and no table
-pub slip_free : (n : ℕ) → IsFree (slip n)
-slip_free n = ((λ o. refl), (λ t. inl refl), refl, refl, refl, refl)
+pub slip_free : (n : ℕ) (told : List Told) → IsFree (slip n told)
+slip_free n told = ((λ o. refl), (λ t. inl refl), refl, refl, refl, refl)
 
 -- what was taken in counts
 pub taken_in : (v w : View) → w.learnt ≤ (both v w).learnt

@@ -38,6 +38,7 @@ use Rattle.ft_trace.specs.Holds.{known_state}
 use Rattle.ft_trace.specs.Traces.{Event, Valid, Knows, run, history, IsReachable, Sure}
 use Rattle.ft_trace.specs.LookReplies.{key_reply, item_reply, stored_at, DictReplies}
 use Rattle.ft_trace.proofs.LookReplies.{dict_hits_are_replied, set_hits_are_replied, misses_are_replied, items_are_replied, past_items_are_replied}
+use Rattle.ft_trace.proofs.AwaitsTold.{loaded_after}
 use Rattle.ft_trace.proofs.CursorAnswers.{adds_no_cursor}
 use Rattle.ft_trace.proofs.Held.{content_known}
 use Rattle.ft_trace.proofs.EarlierMoments.{was}
@@ -48,51 +49,32 @@ use Rattle.ft_trace.proofs.Replying.{never_writes, memory_replied}
 use Rattle.ft_trace.proofs.Sizes.{sized}
 use Rattle.ft_trace.proofs.Spots.{stamp_then}
 use Rattle.ft_bank.specs.Reads.{IsShown}
-use Rattle.ft_bank.specs.Shown.{MayAsk, KeyIsShown, DictHitsAreShown, ValuesAreRead, SetHitsAreShown, MissesAreShown, ItemsAreShown, ItemsAreRead, PastItemsAreShown, LooksAreShown, LooksAtBothAreShown, KeepLocks, LoadedUnderLocks, RepliesUnderLocksAreShown, CursorsUnderLocksAreShown, MemoryErrorsAreShown, OversAreShown, SerialsHaveRoom}
+use Rattle.ft_bank.specs.Shown.{MayAsk, NeedsNoCause, AwaitsAreShown, KeyIsShown, DictHitsAreShown, ValuesAreRead, SetHitsAreShown, MissesAreShown, ItemsAreShown, ItemsAreRead, PastItemsAreShown, LooksAreShown, LooksAtBothAreShown, KeepLocks, LoadedUnderLocks, RepliesUnderLocksAreShown, CursorsUnderLocksAreShown, MemoryErrorsAreShown, OversAreShown, SerialsHaveRoom}
 use Rattle.ft_bank.specs.WriteSteps.{MayHave}
 use Rattle.ft_bank.proofs.Readying.{has_now}
 
 -- ---- causes
 
--- a call that adds nothing passes no greatest length
-never_over : (stored : StoredWorld) (call : Call) → can_add call ≡ false → would_pass stored.world call ≡ false
-never_over stored call none = ap (λ (b : Bool). b && list_any passes_cap (named_in (after_write stored.world call) call)) none
+key_caused : (o : ℕ) (key : Key) (found : Option Value) → NeedsNoCause (call.Dict o (dict.Get key)) (key_reply found)
+key_caused o key (Some value) stored log n = refl
+key_caused o key None stored log n = refl
 
-no_memory : (stored : StoredWorld) (log : List Act) (call : Call) (said : Reply) (n : ℕ) → is_memory said ≡ false → said ≢ reply.Kept → would_pass stored.world call ≡ false → HasCause stored log call said n
-no_memory stored log call (reply.Raised (raise.Memory class)) n plain other short = absurd (true≢false plain)
-no_memory stored log call (reply.Raised raise.Over) n plain other short = absurd (true≢false plain)
-no_memory stored log call (reply.Raised raise.Heap) n plain other short = absurd (true≢false plain)
-no_memory stored log call reply.Kept n plain other short = absurd (other refl)
-no_memory stored log call said n plain other short = short
+item_caused : (o place : ℕ) (found : Option Value) → NeedsNoCause (call.List o (list.Get (pos place))) (item_reply found)
+item_caused o place (Some value) stored log n = refl
+item_caused o place None stored log n = refl
 
 -- ---- plain replies
 
-plain_shown : (v : View) (o n : ℕ) → MayAsk v o n → (call : Call) (said : Reply) → is_write call said ≡ false → moved_cursor call ≡ None → can_add call ≡ false → is_memory said ≡ false → said ≢ reply.Kept
+plain_shown : (v : View) (o n : ℕ) → MayAsk v o n → (call : Call) (said : Reply) → is_write call said ≡ false → moved_cursor call ≡ None → NeedsNoCause call said
     → Sure v (λ es. IsReplied call said (reply_in (stored_newest v.shape.starts (first_writes n (history es))) call)) → IsShown v call said n
-plain_shown v o n ask call said reads none adds plain other replied = record {
+plain_shown v o n ask call said reads none caused replied = record {
   read = reads;
   left = ask.left;
   loaded = ask.loaded;
   replied = replied;
-  cause = λ es id knows. no_memory (stored_newest v.shape.starts (first_writes n (history es))) v.log call said n plain other (never_over (stored_newest v.shape.starts (first_writes n (history es))) call adds);
+  cause = λ es id knows. caused (stored_newest v.shape.starts (first_writes n (history es))) v.log n;
   no_cursor = λ es id knows. none;
 }
-
-plain_key : (found : Option Value) → is_memory (key_reply found) ≡ false
-plain_key (Some value) = refl
-plain_key None = refl
-
-key_other : (found : Option Value) → key_reply found ≢ reply.Kept
-key_other (Some value) = λ e. absurd (cc)
-key_other None = λ e. absurd (cc)
-
-item_other : (found : Option Value) → item_reply found ≢ reply.Kept
-item_other (Some value) = λ e. absurd (cc)
-item_other None = λ e. absurd (cc)
-
-plain_item : (found : Option Value) → is_memory (item_reply found) ≡ false
-plain_item (Some value) = refl
-plain_item None = refl
 
 key_writes : (o : ℕ) (key : Key) (found : Option Value) → is_write (call.Dict o (dict.Get key)) (key_reply found) ≡ false
 key_writes o key (Some value) = refl
@@ -104,16 +86,16 @@ item_writes o place None = refl
 
 key_shown : (v : View) (o n : ℕ) → MayAsk v o n → (key : Key) (found : Option Value) → Sure v (λ es. DictReplies (stored_at v.shape es n) o key found) → KeyIsShown v o key found n
 key_shown v o n ask key found replies = record {
-  get = plain_shown v o n ask (call.Dict o (dict.Get key)) (key_reply found) (key_writes o key found) refl refl (plain_key found) (key_other found) (λ es id knows. inr (sym (replies es id knows).get));
-  get_or = λ default. plain_shown v o n ask (call.Dict o (dict.GetOr key default)) (reply.Value (unwrap_or found default)) refl refl refl refl (λ e. absurd (cc)) (λ es id knows. inr (sym ((replies es id knows).get_or default)));
-  has = plain_shown v o n ask (call.Dict o (dict.Has key)) (reply.Truth (is_some found)) refl refl refl refl (λ e. absurd (cc)) (λ es id knows. inr (sym (replies es id knows).has));
+  get = plain_shown v o n ask (call.Dict o (dict.Get key)) (key_reply found) (key_writes o key found) refl (key_caused o key found) (λ es id knows. inr (sym (replies es id knows).get));
+  get_or = λ default. plain_shown v o n ask (call.Dict o (dict.GetOr key default)) (reply.Value (unwrap_or found default)) refl refl (λ stored log n. refl) (λ es id knows. inr (sym ((replies es id knows).get_or default)));
+  has = plain_shown v o n ask (call.Dict o (dict.Has key)) (reply.Truth (is_some found)) refl refl (λ stored log n. refl) (λ es id knows. inr (sym (replies es id knows).has));
 }
 
 set_shown : (v : View) (o n : ℕ) → MayAsk v o n → (key : Key) (is : Bool) → Sure v (λ es. reply_in (stored_at v.shape es n) (call.Set o (set.Has key)) ≡ reply.Truth is) → IsShown v (call.Set o (set.Has key)) (reply.Truth is) n
-set_shown v o n ask key is replies = plain_shown v o n ask (call.Set o (set.Has key)) (reply.Truth is) refl refl refl refl (λ e. absurd (cc)) (λ es id knows. inr (sym (replies es id knows)))
+set_shown v o n ask key is replies = plain_shown v o n ask (call.Set o (set.Has key)) (reply.Truth is) refl refl (λ stored log n. refl) (λ es id knows. inr (sym (replies es id knows)))
 
 item_shown : (v : View) (o n : ℕ) → MayAsk v o n → (place : ℕ) (found : Option Value) → Sure v (λ es. reply_in (stored_at v.shape es n) (call.List o (list.Get (pos place))) ≡ item_reply found) → IsShown v (call.List o (list.Get (pos place))) (item_reply found) n
-item_shown v o n ask place found replies = plain_shown v o n ask (call.List o (list.Get (pos place))) (item_reply found) (item_writes o place found) refl refl (plain_item found) (item_other found) (λ es id knows. inr (sym (replies es id knows)))
+item_shown v o n ask place found replies = plain_shown v o n ask (call.List o (list.Get (pos place))) (item_reply found) (item_writes o place found) refl (item_caused o place found) (λ es id knows. inr (sym (replies es id knows)))
 
 -- the words are those of one value
 one_value : (kind payload : ℕ) (a b : Value) → IsStored kind payload (Plain a) → IsStored kind payload (Plain b) → a ≡ b
@@ -126,7 +108,7 @@ not_empty kind payload a f g = let same = stored_is_one kind payload (Plain a) E
 
 pub dict_hits_are_shown : DictHitsAreShown
 dict_hits_are_shown v o t place key n ask is fits small h = (
-  plain_shown v o n ask (call.Dict o (dict.Has key)) (reply.Truth true) refl refl refl refl (λ e. absurd (cc))
+  plain_shown v o n ask (call.Dict o (dict.Has key)) (reply.Truth true) refl refl (λ stored log n. refl)
       (λ es id knows. inr (sym (dict_hits_are_replied v.shape es knows.0 o t place key n ask.low is fits small id v knows.1 h).0)),
   λ kind payload read value stored.
       key_shown v o n ask key (Some value)
@@ -182,13 +164,13 @@ past_items_are_shown v o index n ask is how = item_shown v o n ask index None (�
 -- ---- whole containers
 
 pub looks_are_shown : LooksAreShown
-looks_are_shown v call o said n ask reads none adds plain other asks looked =
-    plain_shown v o n ask call said reads none adds plain other
+looks_are_shown v call o said n ask reads none caused asks looked =
+    plain_shown v o n ask call said reads none caused
     (λ es id knows. subst (IsReplied call said) (sym (looked_at v.shape es knows.0 call o ask.low id v knows.1 said n looked).1) asks)
 
 pub looks_at_both_are_shown : LooksAtBothAreShown
-looks_at_both_are_shown v call o p said n ask low reads none adds plain other asks looked =
-    plain_shown v o n ask call said reads none adds plain other
+looks_at_both_are_shown v call o p said n ask low reads none caused asks looked =
+    plain_shown v o n ask call said reads none caused
     (λ es id knows. subst (IsReplied call said) (sym (looked_at_both v.shape es knows.0 call o p ask.low low id v knows.1 said n looked).1) asks)
 
 -- ---- under locks
@@ -255,6 +237,16 @@ replies_shown v call said n l reads none right =
 
 pub replies_under_locks_are_shown : RepliesUnderLocksAreShown
 replies_under_locks_are_shown v call said n l reads none right = replies_shown v call said n l reads (λ es id knows. none) right
+
+pub awaits_are_shown : AwaitsAreShown
+awaits_are_shown v thread index n newer rest left is own told = record {
+  read = refl;
+  left = left;
+  loaded = record { newer = newer; rest = rest; is = is; own = own };
+  replied = λ es id knows. refl;
+  cause = λ es id knows. loaded_after v.shape es knows.0 id v knows.1 newer rest n is thread index told;
+  no_cursor = λ es id knows. refl;
+}
 
 pub memory_errors_are_shown : MemoryErrorsAreShown
 memory_errors_are_shown v call class n l empty right =

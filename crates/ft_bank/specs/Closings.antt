@@ -5,10 +5,12 @@ use Rattle.ft_model.specs.declared.call.Call.{Call}
 use Rattle.ft_trace.specs.declared.Entry.{Entry}
 use Rattle.ft_trace.specs.declared.Owner.{Owner}
 use Rattle.ft_trace.specs.declared.Shape.{Shape}
-use Rattle.ft_trace.specs.Acts.{all_lists}
+use Rattle.ft_trace.specs.declared.Told.{Told}
+use Rattle.ft_trace.specs.Acts.{all_lists, tells}
 use Rattle.ft_trace.specs.InOrder.{AreInOrder}
 use Rattle.ft_trace.specs.Owners.{had_locks, found_owners}
 use Rattle.ft_trace.specs.OwnOrder.{AreInOwnOrder, IsWriteIn}
+use Rattle.ft_trace.specs.ToldEntries.{AgreeOnPasses, AreAwaitsTold}
 use Rattle.ft_bank.specs.Shapes.{plan}
 use Rattle.ft_bank.specs.declared.closed.Closed.{Closed}
 
@@ -30,6 +32,10 @@ had_in c = had_locks c.pass.seat.me.0.number c.pass.seat.me.0.log
 abbrev pub found_in : Closed → List Owner
 found_in c = found_owners c.pass.seat.me.0.log
 
+-- what the passes tell of themselves, and what they were told of each other
+abbrev pub told_of : Closed → List Told
+told_of c = tells c.pass.seat.me.0
+
 -- There are writes, the oldest first, beside which all these entries stand: each write is that of one entry, and each
 -- entry has the reply of the plain containers at its stamp, or that of a section, or a MemoryError with its cause
 -- there. The stamps of each pass rise, and inside a section that it says it kept no other pass wrote on the section's
@@ -38,3 +44,7 @@ abbrev pub HasWholeHistory : Closed → Type 0
 HasWholeHistory c =
     ∥ ((calls : List Call) × AreInOrder (shape_in c) calls (entries_in c)
     × All (AreInOwnOrder (IsWriteIn calls)) (lists_in c)) ∥₁
+
+-- what was told of one pass agrees, and each `await` was told of the call that it names
+abbrev pub HasToldAwaits : Closed → Type 0
+HasToldAwaits c = ∥ AgreeOnPasses (told_of c) × All (AreAwaitsTold (told_of c)) (lists_in c) ∥₁

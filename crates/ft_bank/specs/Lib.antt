@@ -4,6 +4,7 @@ pub mod PassSections
 pub mod Passes
 pub mod NewPasses
 pub mod Series
+pub mod Logs
 pub mod KeyHashes
 pub mod Locks
 pub mod WriteSteps

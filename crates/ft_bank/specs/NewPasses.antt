@@ -28,6 +28,7 @@ opening_view k i =
       learnt = 0;
       has_floor = false;
       floor = [];
+      told = [];
     }
 
 -- the pass is pass i of the bank, before its first step
@@ -54,3 +55,4 @@ pub record HasMade (k : Shape) (i : ℕ) (v : View) : Type 0 where
   pub learnt : v.learnt ≡ 0
   pub has_floor : v.has_floor ≡ false
   pub floor : v.floor ≡ []
+  pub told : v.told ≡ []

@@ -24,9 +24,9 @@ use Rattle.ft_layout.specs.Words.{FitsKey, IsStored}
 use Rattle.ft_trace.specs.declared.Act.{Act}
 use Rattle.ft_trace.specs.declared.Act.TheVariants.{ReadCounter, Lock, Unlock, TakeTable}
 use Rattle.ft_trace.specs.declared.View.{View}
-use Rattle.ft_trace.specs.Acts.{has_lock}
+use Rattle.ft_trace.specs.Acts.{has_lock, told_in}
 use Rattle.ft_trace.specs.Addresses.{container_count, class_of, slots}
-use Rattle.ft_trace.specs.Causes.{AreOfOneCall, Loaded, FoundEmpty, HasCause}
+use Rattle.ft_trace.specs.Causes.{AreOfOneCall, Loaded, FoundEmpty, HasCause, IsToldOf}
 use Rattle.ft_trace.specs.Hands.{cursor_in, MovesCursor}
 use Rattle.ft_trace.specs.Holds.{known_state}
 use Rattle.ft_trace.specs.LoggedLookUps.{Hit, Bare, ItemHit, ItemPast}
@@ -43,6 +43,10 @@ pub record MayAsk (v : View) (o n : ℕ) : Type 0 where
   pub low : o < container_count v.shape
   pub left : 0 < v.left
   pub loaded : Loaded n v.log
+
+-- the reply stands by itself: whatever a bank has and a log shows, it has its cause
+abbrev pub NeedsNoCause : Call → Reply → Type 0
+NeedsNoCause called said = (stored : StoredWorld) (log : List Act) (n : ℕ) → HasCause stored log called said n
 
 -- ---- keys
 
@@ -114,21 +118,19 @@ PastItemsAreShown =
 
 -- ---- whole containers
 
--- a reply that was read between two equal even loads of a container's version, to a call that adds nothing
+-- a reply that was read between two equal even loads of a container's version, and stands by itself
 abbrev pub LooksAreShown : Type 0
 LooksAreShown =
     (v : View) (call : Call) (o : ℕ) (said : Reply) (n : ℕ) → MayAsk v o n → is_write call said ≡ false
-    → moved_cursor call ≡ None → can_add call ≡ false → is_memory said ≡ false → said ≢ reply.Kept
-    → IsReplied call said said → LookedAtOne v.shape call o said n v.log
-    → IsShown v call said n
+    → moved_cursor call ≡ None → NeedsNoCause call said → IsReplied call said said
+    → LookedAtOne v.shape call o said n v.log → IsShown v call said n
 
 -- and one that was read of two containers
 abbrev pub LooksAtBothAreShown : Type 0
 LooksAtBothAreShown =
     (v : View) (call : Call) (o p : ℕ) (said : Reply) (n : ℕ) → MayAsk v o n → p < container_count v.shape
-    → is_write call said ≡ false → moved_cursor call ≡ None → can_add call ≡ false → is_memory said ≡ false
-    → said ≢ reply.Kept
-    → IsReplied call said said → LookedAtBoth v.shape call o p said n v.log → IsShown v call said n
+    → is_write call said ≡ false → moved_cursor call ≡ None → NeedsNoCause call said → IsReplied call said said
+    → LookedAtBoth v.shape call o p said n v.log → IsShown v call said n
 
 -- ---- under locks
 
@@ -183,6 +185,15 @@ OversAreShown =
     → ((stored : StoredWorld) → MayHave v stored
     → CanLackMemory stored.world call × (would_pass stored.world call ≡ true))
     → IsShown v call (reply.Raised raise.Over) n
+
+-- ---- awaits
+
+-- an `await` of a call that the pass was told of before it loaded the counter, which gave the stamp
+abbrev pub AwaitsAreShown : Type 0
+AwaitsAreShown =
+    (v : View) (thread index n : ℕ) (newer rest : List Act) → 0 < v.left → v.log ≡ newer ++ ReadCounter n ∷ rest
+    → AreOfOneCall newer → IsToldOf (told_in rest) thread index
+    → IsShown v (call.Await thread index) reply.Done n
 
 -- ---- serials
 

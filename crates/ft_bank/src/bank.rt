@@ -3,7 +3,7 @@
 ghost use Rattle.std.specs.Prelude.{◌≡◌, ◌+◌, ◌<◌, ◌^◌, ◌*◌, [], length, replicate, IfOk, ℕ};
 ghost use Rattle.ft_trace.specs.declared.Act.TheVariants.{ReadCounter};
 ghost use Rattle.ft_trace.specs.Addresses.{extent};
-ghost use Rattle.ft_trace.specs.Acts.{starter, maker, made, both, view_after, all_lists};
+ghost use Rattle.ft_trace.specs.Acts.{starter, maker, made, both, view_after, all_lists, tells};
 ghost use Rattle.ft_trace.specs.Traces.{MayFork, IsFree};
 ghost use Rattle.ft_bank.specs.Shapes.{plan, IsShape};
 ghost use Rattle.ft_bank.specs.TableNames.{starts_from, sizes_from};
@@ -52,7 +52,7 @@ pub(crate) fn nothing_kept(
 
 impl Bank {
     ghost use Rattle.ft_bank.specs.Passes.{shape_of, view, IsPassOf};
-    ghost use Rattle.ft_bank.specs.Closings.{shape_in, lists_in, entries_in, had_in, found_in};
+    ghost use Rattle.ft_bank.specs.Closings.{shape_in, lists_in, entries_in, had_in, found_in, told_of};
     ghost use Rattle.ft_trace.specs.Owners.{had_locks, found_owners};
     ghost use Rattle.ft_bank.specs.Retired.{TakesOver};
     ghost use Rattle.ft_bank.specs.PassSections.{stack_of, no_sections};
@@ -164,6 +164,7 @@ impl Bank {
         ensures lists { lists_in result ≡ all_lists (view pass) }
         ensures had { had_in result ≡ had_locks (view pass).number (view pass).log }
         ensures found { found_in result ≡ found_owners (view pass).log }
+        ensures told { told_of result ≡ tells (view pass) }
         ensures count { length (entries_in result) + (view pass).left ≡ (shape_of self).passes * (shape_of self).calls }
     {
         let Bank {

@@ -15,7 +15,7 @@ pub struct Closed {
 }
 
 impl Closed {
-    ghost use Rattle.ft_bank.specs.Closings.{HasWholeHistory, had_in, found_in};
+    ghost use Rattle.ft_bank.specs.Closings.{HasToldAwaits, HasWholeHistory, had_in, found_in};
     ghost use Rattle.ft_trace.specs.Owners.{AreOwners};
 
     /// The entries have one history of writes: each write's number is its place there, each number is
@@ -29,5 +29,10 @@ impl Closed {
     /// Whoever was found with the lock of a container had taken it.
     pub fn owners_are_known(&self)
         ensures { AreOwners (found_in self.now) (had_in self.now) }
+    {}
+
+    /// Each await was told of the call that it names: its stamp is not below what that one's pass had seen.
+    pub fn awaits_are_told(&self)
+        ensures { HasToldAwaits self.now }
     {}
 }

@@ -10,5 +10,5 @@ use ft_trace::View;
 pub struct Note {
     pub(crate) seat: Seat<(), View>,
     ghost bare: { seat.me.1 ≡ [] },
-    ghost blank: { seat.me.0 ≡ slip seat.me.0.learnt },
+    ghost blank: { seat.me.0 ≡ slip seat.me.0.learnt seat.me.0.told },
 }

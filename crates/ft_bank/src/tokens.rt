@@ -1,5 +1,5 @@
 //! A pass that rests, and tokens on their way from one pass to another.
-ghost use Rattle.std.specs.Prelude.{◌≡◌, ◌<◌, ◌≤◌, [], suc};
+ghost use Rattle.std.specs.Prelude.{◌≡◌, ◌<◌, ◌≤◌, [], false, suc};
 ghost use Rattle.ft_trace.specs.Acts.{shown};
 ghost use Rattle.ft_trace.specs.Traces.{IsReachable};
 ghost use Rattle.ft_bank.specs.Retired.{AreRetired};
@@ -28,6 +28,7 @@ pub struct Resting {
     ghost settled: { seat.me.0.learnt ≤ shown seat.me.0.log },
     ghost still: { seat.me.0.tokens ≡ 0 },
     ghost wordless: { seat.me.0.floor ≡ [] },
+    ghost floorless: { seat.me.0.has_floor ≡ false },
     ghost retiring: { AreRetired retired.value seat.me.0 },
     ghost possible: { ∥ IsReachable seat.me.0 ∥₁ },
 }
@@ -37,6 +38,6 @@ pub struct Resting {
 pub struct Tokens {
     pub(crate) seat: Seat<(), View>,
     ghost bare: { seat.me.1 ≡ [] },
-    ghost blank: { seat.me.0 ≡ slip_with seat.me.0.tokens seat.me.0.learnt seat.me.0.floor },
+    ghost blank: { seat.me.0 ≡ slip_with seat.me.0.tokens seat.me.0.learnt seat.me.0.floor seat.me.0.told },
     ghost some_token: { 0 < seat.me.0.tokens },
 }

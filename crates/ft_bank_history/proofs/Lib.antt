@@ -3,5 +3,6 @@ pub mod NumberedEntries
 pub mod ReversedLists
 pub mod Replies
 pub mod RightMarks
+pub mod ToldLists
 pub mod Walked
 pub mod SoFar

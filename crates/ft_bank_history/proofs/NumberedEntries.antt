@@ -23,6 +23,7 @@ use Rattle.ft_model.specs.Worlds.{starts_of}
 use Rattle.ft_trace.specs.declared.Entry.{Entry}
 use Rattle.ft_trace.specs.declared.Owner.{Owner}
 use Rattle.ft_trace.specs.declared.Shape.{Shape}
+use Rattle.ft_trace.specs.declared.Told.{Told}
 use Rattle.ft_trace.specs.Entries.{total, number_count}
 use Rattle.ft_trace.specs.InOrder.{StandsInOrder}
 use Rattle.ft_trace.specs.OwnOrder.{number_after as own_after, is_write_of, after_begins as own_begins, begins_in, FollowsOwn, AreInOwnOrder, IsWriteIn}
@@ -85,8 +86,8 @@ pub record IsKept (thread : ℕ) (mine : List NamedEntry) (entries : List Entry)
   pub counted : EachAt mine (λ place entry. IfEnds (begins_of (take place mine)) entry.call
       (λ begun. IsCountedAs (marks_since entry.thread (take place mine) begun) entry.reply))
 
-kept_by_names : (thread : ℕ) (mine : List NamedEntry) (entries : List Entry) (had found : List Owner) → HasNamedEntries thread mine entries had found → IsKept thread mine entries
-kept_by_names thread mine entries had found are = record { same = are.same; own = are.own; indexes = are.indexes; counted = are.counted }
+kept_by_names : (thread : ℕ) (mine : List NamedEntry) (entries : List Entry) (had found : List Owner) (told : List Told) → HasNamedEntries thread mine entries had found told → IsKept thread mine entries
+kept_by_names thread mine entries had found told are = record { same = are.same; own = are.own; indexes = are.indexes; counted = are.counted }
 
 -- ---- one entry
 
@@ -179,19 +180,19 @@ module _ (k : Shape) (script : ScriptParts) (calls : List Call) (for_it : IsFor 
 
   -- ---- all passes
 
-  pub numbered_from : (first : ℕ) (kept : List (List NamedEntry)) (lists : List (List Entry)) (had found : List Owner) → HaveNamedEntries first kept lists had found → All (λ own. (room : ℕ) → AreReplied k.starts calls room own) lists → All (StandsInOrder k calls) (flat_map (λ own. own) lists) → All (AreInOwnOrder (IsWriteIn calls)) lists → (i : ℕ) (mine : List NamedEntry) → slice_get kept i ≡ Some mine → All (AsksWithin (cursors_of script (first + i))) mine → IsNumberedThread storage.Tables script calls (first + i) mine
-  numbered_from first [] lists had found are replied stand ordered i mine at asks = absurd (cc)
-  numbered_from first (m ∷ kept) [] had found are replied stand ordered i mine at asks = absurd are
-  numbered_from first (m ∷ kept) (own ∷ lists) had found are replied stand ordered zero mine at asks =
+  pub numbered_from : (first : ℕ) (kept : List (List NamedEntry)) (lists : List (List Entry)) (had found : List Owner) (told : List Told) → HaveNamedEntries first kept lists had found told → All (λ own. (room : ℕ) → AreReplied k.starts calls room own) lists → All (StandsInOrder k calls) (flat_map (λ own. own) lists) → All (AreInOwnOrder (IsWriteIn calls)) lists → (i : ℕ) (mine : List NamedEntry) → slice_get kept i ≡ Some mine → All (AsksWithin (cursors_of script (first + i))) mine → IsNumberedThread storage.Tables script calls (first + i) mine
+  numbered_from first [] lists had found told are replied stand ordered i mine at asks = absurd (cc)
+  numbered_from first (m ∷ kept) [] had found told are replied stand ordered i mine at asks = absurd are
+  numbered_from first (m ∷ kept) (own ∷ lists) had found told are replied stand ordered zero mine at asks =
       let same : m ≡ mine = cc in
       let here : first ≡ first + 0 = omega arith in
       let s = (all_parts (StandsInOrder k calls) own (flat_map (λ l. l) lists) stand).0 in
       let o = All-head (AreInOwnOrder (IsWriteIn calls)) own lists ordered in
-      subst (λ (z : ℕ × List NamedEntry). IsNumberedThread storage.Tables script calls z.0 z.1) (λ d. (here d, same d)) (numbered_thread first m own (kept_by_names first m own had found are.0) (subst (λ (z : ℕ × List NamedEntry). All (AsksWithin (cursors_of script z.0)) z.1) (λ d. (sym here d, sym same d)) asks) (All-head (λ l. (room : ℕ) → AreReplied k.starts calls room l) own lists replied) s o)
-  numbered_from first (m ∷ kept) (own ∷ lists) had found are replied stand ordered (suc i) mine at asks =
+      subst (λ (z : ℕ × List NamedEntry). IsNumberedThread storage.Tables script calls z.0 z.1) (λ d. (here d, same d)) (numbered_thread first m own (kept_by_names first m own had found told are.0) (subst (λ (z : ℕ × List NamedEntry). All (AsksWithin (cursors_of script z.0)) z.1) (λ d. (sym here d, sym same d)) asks) (All-head (λ l. (room : ℕ) → AreReplied k.starts calls room l) own lists replied) s o)
+  numbered_from first (m ∷ kept) (own ∷ lists) had found told are replied stand ordered (suc i) mine at asks =
       let next : suc first + i ≡ first + suc i = omega arith in
       subst (λ (z : ℕ). IsNumberedThread storage.Tables script calls z mine) next
-      (numbered_from (suc first) kept lists had found are.1 (All-tail (λ l. (room : ℕ) → AreReplied k.starts calls room l) own lists replied) (all_parts (StandsInOrder k calls) own (flat_map (λ l. l) lists) stand).1 (All-tail (AreInOwnOrder (IsWriteIn calls)) own lists ordered) i mine at (subst (λ (z : ℕ). All (AsksWithin (cursors_of script z)) mine) (sym next) asks))
+      (numbered_from (suc first) kept lists had found told are.1 (All-tail (λ l. (room : ℕ) → AreReplied k.starts calls room l) own lists replied) (all_parts (StandsInOrder k calls) own (flat_map (λ l. l) lists) stand).1 (All-tail (AreInOwnOrder (IsWriteIn calls)) own lists ordered) i mine at (subst (λ (z : ℕ). All (AsksWithin (cursors_of script z)) mine) (sym next) asks))
 
 -- ---- how many are the write of a number
 
@@ -207,23 +208,23 @@ count_own n (m ∷ mine) =
     let d : number_count n (plain_entry m) ≡ count_of n m = refl in
     omega (arith, a, b, c, d)
 
-count_all : (n first : ℕ) (kept : List (List NamedEntry)) (lists : List (List Entry)) (had found : List Owner) → HaveNamedEntries first kept lists had found → total (number_count n) (flat_map (λ own. own) lists) ≡ sum_by (count_of n) (flat_map (λ mine. mine) kept)
-count_all n first [] [] had found are = refl
-count_all n first [] (own ∷ lists) had found are = absurd are
-count_all n first (m ∷ kept) [] had found are = absurd are
-count_all n first (m ∷ kept) (own ∷ lists) had found are =
+count_all : (n first : ℕ) (kept : List (List NamedEntry)) (lists : List (List Entry)) (had found : List Owner) (told : List Told) → HaveNamedEntries first kept lists had found told → total (number_count n) (flat_map (λ own. own) lists) ≡ sum_by (count_of n) (flat_map (λ mine. mine) kept)
+count_all n first [] [] had found told are = refl
+count_all n first [] (own ∷ lists) had found told are = absurd are
+count_all n first (m ∷ kept) [] had found told are = absurd are
+count_all n first (m ∷ kept) (own ∷ lists) had found told are =
     let own_is : own ≡ reverse (map plain_entry m) = sym (reverse-reverse own) ∙ ap reverse (sym are.0.same) in
     let a = total-append (number_count n) own (flat_map (λ l. l) lists) in
     let b = ap (total (number_count n)) own_is ∙ count_own n m in
-    let c = count_all n (suc first) kept lists had found are.1 in
+    let c = count_all n (suc first) kept lists had found told are.1 in
     let d = sum_by-append (count_of n) m (flat_map (λ mine. mine) kept) in
     omega (arith, a, b, c, d)
 
 pub entries_are_numbered : EntriesAreNumbered
-entries_are_numbered k script calls lists kept had found for_it in_order ordered replied are asks count = record {
+entries_are_numbered k script calls lists kept had found told for_it in_order ordered replied are asks count = record {
   count = count;
   threads = λ thread mine at.
       let same : 0 + thread ≡ thread = omega arith in
-      subst (λ (z : ℕ). IsNumberedThread storage.Tables script calls z mine) same (numbered_from k script calls for_it 0 kept lists had found are replied in_order.each ordered thread mine at (subst (λ (z : ℕ). All (AsksWithin (cursors_of script z)) mine) (sym same) (asks thread mine at)));
-  once = λ number low. sym (count_all number 0 kept lists had found are) ∙ in_order.once number low;
+      subst (λ (z : ℕ). IsNumberedThread storage.Tables script calls z mine) same (numbered_from k script calls for_it 0 kept lists had found told are replied in_order.each ordered thread mine at (subst (λ (z : ℕ). All (AsksWithin (cursors_of script z)) mine) (sym same) (asks thread mine at)));
+  once = λ number low. sym (count_all number 0 kept lists had found told are) ∙ in_order.once number low;
 }

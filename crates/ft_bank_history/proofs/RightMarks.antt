@@ -1,10 +1,11 @@
 -- The marks of numbered entries are right where all calls are made.
-use Rattle.std.proofs.Common.{◌≡◌, ◌≢◌, ℕ, zero, suc, ◌+◌, ◌≤◌, ◌<◌, Bool, true, false, List, [], ◌∷◌, ◌++◌, length, map, drop, take, Option, refl, sym, ap, ◌∙◌, subst, arith}
-use Rattle.std.specs.Prelude.{All, Some, None, IfSome, slice_get, ◌==◌, ◌||◌, option_map}
+use Rattle.std.proofs.Common.{◌≡◌, ◌≢◌, ℕ, zero, suc, ◌+◌, ◌<◌, Bool, true, false, List, [], ◌∷◌, ◌++◌, length, map, drop, take, Option, refl, sym, ap, ◌∙◌, subst, arith}
+use Rattle.std.specs.Prelude.{◌-◌, All, Some, None, IfSome, reverse, slice_get, slice_index_or, ◌==◌, ◌||◌, option_map}
 use Rattle.std.specs.List.{list_any}
 use Rattle.std.specs.Option.{option_map_or}
 use Rattle.std.proofs.lemmas.Bool.{eqb-true}
-use Rattle.std.proofs.lemmas.List.Elements.{All-nil, All-cons}
+use Rattle.std.proofs.lemmas.List.{reverse-reverse}
+use Rattle.std.proofs.lemmas.List.Elements.{All-nil, All-cons, All-head, All-tail, All-weaker}
 use Rattle.ft_model.specs.declared.call.Call.{Call}
 use Rattle.ft_model.specs.declared.call.Call.TheVariants as call
 use Rattle.ft_model.specs.declared.cursor.Cursor.{Cursor}
@@ -13,16 +14,19 @@ use Rattle.ft_model.specs.declared.entry.Storage.TheVariants as storage
 use Rattle.ft_model.specs.declared.script.ScriptParts.{ScriptParts}
 use Rattle.ft_model.specs.Calls.{moved_cursor}
 use Rattle.ft_model.specs.Histories.{cursors_of, EachAt, has_call_on, names}
-use Rattle.ft_model.specs.Numbers.{after_begins, begins_of, begun_containers, hands_after, needs_after, AreNumberedLists, IsMarkedAfter, IsNumberedThread}
+use Rattle.ft_model.specs.Numbers.{after_begins, begins_of, begun_containers, hands_after, needs_after, AreNumberedLists, IsMarkedAfter, IsNumberedThread, KnowsAwaited}
 use Rattle.ft_model.specs.TableUses.{supply_of}
 use Rattle.ft_model.specs.Worlds.{container_of, containers_used, cursor_at, starts_of}
 use Rattle.ft_trace.specs.declared.Entry.{Entry}
 use Rattle.ft_trace.specs.declared.Owner.{Owner}
-use Rattle.ft_trace.specs.OwnCursors.{AsksWithin}
+use Rattle.ft_trace.specs.declared.Told.{Told}
+use Rattle.ft_trace.specs.OwnCursors.{plain_entry, AsksWithin}
 use Rattle.ft_trace.specs.Owners.{is_owner_in, AreOwners}
+use Rattle.ft_trace.specs.ToldEntries.{AgreeOnPasses, AreAwaitsTold, IsAwaitTold}
+use Rattle.ft_trace.proofs.ToldEntries.{awaited_entries_are_known}
 use Rattle.ft_bank_history.specs.Marks.{HaveScriptCalls, AreOfFirst, IsFoundFor, IsNamedIn, inner_after, needed_after, used_after, walked_by}
 use Rattle.ft_bank_history.specs.Numbering.{HaveNamedEntries, AskOwnCursors, HasNamedEntries, MarksAreRight}
-use Rattle.ft_bank_history.proofs.ReversedLists.{all_at, all_parts, at_split}
+use Rattle.ft_bank_history.proofs.ReversedLists.{all_at, all_back, all_parts, at_split}
 use Rattle.ft_bank_history.proofs.Walked.{IsPlainIfRefused, earned_plain, walked_is}
 
 -- ---- lists
@@ -92,22 +96,23 @@ used_is hands mine call.Quiesce goes = refl
 used_is hands mine (call.Await thread index) goes = refl
 used_is hands mine call.Dump goes = refl
 
-module _ (script : ScriptParts) (calls : List Call) (lists : List (List Entry)) (kept : List (List NamedEntry)) (had found : List Owner) where
-  kept_at : (first i : ℕ) (ms : List (List NamedEntry)) (ls : List (List Entry)) (mine : List NamedEntry) → HaveNamedEntries first ms ls had found → slice_get ms i ≡ Some mine → (own : List Entry) × HasNamedEntries (first + i) mine own had found
-  kept_at first i [] ls mine are at = absurd (cc)
-  kept_at first i (m ∷ ms) [] mine are at = absurd are
-  kept_at first zero (m ∷ ms) (l ∷ ls) mine are at =
-      let same : m ≡ mine = cc in
-      (l, subst (λ (z : ℕ × List NamedEntry). HasNamedEntries z.0 z.1 l had found) (λ d. ((let e : first ≡ first + 0 = omega arith in e) d, same d)) are.0)
-  kept_at first (suc i) (m ∷ ms) (l ∷ ls) mine are at =
-      let r = kept_at (suc first) i ms ls mine are.1 at in
-      (r.0, subst (λ (z : ℕ). HasNamedEntries z mine r.0 had found) (let e : suc first + i ≡ first + suc i = omega arith in e) r.1)
+-- the entries of the pass of one of these lists
+kept_at : (had found : List Owner) (told : List Told) (first i : ℕ) (ms : List (List NamedEntry)) (ls : List (List Entry)) (mine : List NamedEntry) → HaveNamedEntries first ms ls had found told → slice_get ms i ≡ Some mine → (own : List Entry) × HasNamedEntries (first + i) mine own had found told
+kept_at had found told first i [] ls mine are at = absurd (cc)
+kept_at had found told first i (m ∷ ms) [] mine are at = absurd are
+kept_at had found told first zero (m ∷ ms) (l ∷ ls) mine are at =
+    let same : m ≡ mine = cc in
+    (l, subst (λ (z : ℕ × List NamedEntry). HasNamedEntries z.0 z.1 l had found told) (λ d. ((let e : first ≡ first + 0 = omega arith in e) d, same d)) are.0)
+kept_at had found told first (suc i) (m ∷ ms) (l ∷ ls) mine are at =
+    let r = kept_at had found told (suc first) i ms ls mine are.1 at in
+    (r.0, subst (λ (z : ℕ). HasNamedEntries z mine r.0 had found told) (let e : suc first + i ≡ first + suc i = omega arith in e) r.1)
 
-  module _ (are : HaveNamedEntries 0 kept lists had found) (first : AreOfFirst (length kept) had) (had_them : AreOwners found had) (asks : AskOwnCursors script kept) (numbered : AreNumberedLists storage.Tables script calls kept) (made : HaveScriptCalls script kept) where
-    kept_of : (thread : ℕ) (mine : List NamedEntry) → slice_get kept thread ≡ Some mine → (own : List Entry) × HasNamedEntries thread mine own had found
+module _ (script : ScriptParts) (calls : List Call) (lists : List (List Entry)) (kept : List (List NamedEntry)) (had found : List Owner) (told : List Told) where
+  module _ (are : HaveNamedEntries 0 kept lists had found told) (first : AreOfFirst (length kept) had) (had_them : AreOwners found had) (asks : AskOwnCursors script kept) (numbered : AreNumberedLists storage.Tables script calls kept) (made : HaveScriptCalls script kept) where
+    kept_of : (thread : ℕ) (mine : List NamedEntry) → slice_get kept thread ≡ Some mine → (own : List Entry) × HasNamedEntries thread mine own had found told
     kept_of thread mine at =
-        let r = kept_at 0 thread kept lists mine are at in
-        (r.0, subst (λ (z : ℕ). HasNamedEntries z mine r.0 had found) (let e : 0 + thread ≡ thread = omega arith in e) r.1)
+        let r = kept_at had found told 0 thread kept lists mine are at in
+        (r.0, subst (λ (z : ℕ). HasNamedEntries z mine r.0 had found told) (let e : 0 + thread ≡ thread = omega arith in e) r.1)
 
     abbrev IsFoundWith : ℕ → ℕ → Type 0
     IsFoundWith thread o = is_owner_in o (thread + 1) found ≡ true
@@ -158,6 +163,42 @@ module _ (script : ScriptParts) (calls : List Call) (lists : List (List Entry)) 
                 ∙ any_there (has_call_on script t) is.1.0 (needed_after before e.call) is.1.1 (has_call t is.1.0 (named_by t is.1.0 is.1.2)),
           )) ((kept_of thread mine at).1.marked place e there)
 
+-- ---- awaits
+
+-- what is there of a list of a thread is there
+list_named : (kept : List (List NamedEntry)) (thread place : ℕ) (named : NamedEntry) → slice_get (slice_index_or kept thread []) place ≡ Some named
+    → (mine : List NamedEntry) × (slice_get kept thread ≡ Some mine) × (slice_get mine place ≡ Some named)
+list_named [] thread place named at = absurd (cc)
+list_named (m ∷ kept) zero place named at = (m, refl, at)
+list_named (m ∷ kept) (suc thread) place named at = list_named kept thread place named at
+
+module _ (lists : List (List Entry)) (kept : List (List NamedEntry)) (had found : List Owner) (told : List Told) (are : HaveNamedEntries 0 kept lists had found told) (agree : AgreeOnPasses told) where
+  abbrev made_by : ℕ → List NamedEntry
+  made_by thread = slice_index_or kept thread []
+
+  knows : (e : NamedEntry) (called : Call) → IsAwaitTold told called e.stamp → KnowsAwaited made_by e called
+  knows e (call.Await thread index) was = λ named at.
+      let l = list_named kept thread (index - 1) named at in
+      let own = kept_at had found told 0 thread kept lists l.0 are l.1 in
+      let all = own.1.all_told in
+      let number : 0 + thread ≡ thread = omega arith in
+      awaited_entries_are_known told agree all.0 all.1 all.2 l.0 (own.1.same ∙ ap reverse (sym all.4)) thread index e.stamp (all.3 ∙ ap suc number) was named l.2
+  knows e called was = tt
+
+  known_from : (first : ℕ) (ms : List (List NamedEntry)) (ls : List (List Entry)) → HaveNamedEntries first ms ls had found told → All (AreAwaitsTold told) ls
+      → All (λ mine. All (λ e. KnowsAwaited made_by e e.call) mine) ms
+  known_from first [] ls named awaits = All-nil (λ mine. All (λ e. KnowsAwaited made_by e e.call) mine)
+  known_from first (m ∷ ms) [] named awaits = absurd named
+  known_from first (m ∷ ms) (own ∷ ls) named awaits =
+      let own_is : own ≡ reverse (map plain_entry m) = sym (reverse-reverse own) ∙ ap reverse (sym named.0.same) in
+      let told_all = subst (AreAwaitsTold told) own_is (All-head (AreAwaitsTold told) own ls awaits) in
+      All-cons (λ mine. All (λ e. KnowsAwaited made_by e e.call) mine) m ms
+      (All-weaker (λ e. IsAwaitTold told e.call e.stamp) (λ e. KnowsAwaited made_by e e.call) (λ e was. knows e e.call was) m
+      (all_back plain_entry (λ e. IsAwaitTold told e.call e.stamp) m told_all))
+      (known_from (suc first) ms ls named.1 (All-tail (AreAwaitsTold told) own ls awaits))
+
 pub marks_are_right : MarksAreRight
-marks_are_right script calls lists kept had found are first had_them asks numbered made thread mine at =
-    record { made = made thread mine at; marked = marked script calls lists kept had found are first had_them asks numbered made thread mine at }
+marks_are_right script calls lists kept had found told are first had_them agree awaits asks numbered made = record {
+  threads = λ thread mine at. record { made = made thread mine at; marked = marked script calls lists kept had found told are first had_them asks numbered made thread mine at };
+  known = known_from lists kept had found told are agree 0 kept lists are awaits;
+}

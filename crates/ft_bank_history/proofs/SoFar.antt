@@ -9,6 +9,7 @@ use Rattle.ft_model.specs.declared.reply.Reply.TheVariants as reply
 use Rattle.ft_trace.specs.declared.Act.TheVariants.{Answer}
 use Rattle.ft_trace.specs.declared.Entry.{Entry}
 use Rattle.ft_trace.specs.declared.Owner.{Owner}
+use Rattle.ft_trace.specs.declared.Told.{Told}
 use Rattle.ft_trace.specs.declared.View.{View}
 use Rattle.ft_trace.specs.Acts.{all_entries, all_lists}
 use Rattle.ft_trace.specs.Causes.{FoundEmpty}
@@ -39,10 +40,10 @@ right_so_far v thread mine kept script for_it asks es id knows =
     (all_parts (StandsInOrder k calls) v.entries (flat_map (λ (l : List Entry). l) v.lists) (each_stands v es id knows)).0
     (All-head (AreInOwnOrder (IsWriteIn calls)) v.entries v.lists (own_entries_are_in_order k es knows.0 id v knows.1).1)
 
-pub lists_right_so_far : (v : View) (first : ℕ) (lists : List (List NamedEntry)) (had found : List Owner) → HaveNamedEntries first lists (all_lists v) had found → AreAllRightSoFar v first lists
-lists_right_so_far v first lists had found are i mine at script for_it asks es id knows =
+pub lists_right_so_far : (v : View) (first : ℕ) (lists : List (List NamedEntry)) (had found : List Owner) (told : List Told) → HaveNamedEntries first lists (all_lists v) had found told → AreAllRightSoFar v first lists
+lists_right_so_far v first lists had found told are i mine at script for_it asks es id knows =
     let k = v.shape in
-    numbered_from k script (writes_so_far es) for_it first lists (all_lists v) had found are (all_replied k es knows.0 id v knows.1) (each_stands v es id knows) (own_entries_are_in_order k es knows.0 id v knows.1).1 i mine at asks
+    numbered_from k script (writes_so_far es) for_it first lists (all_lists v) had found told are (all_replied k es knows.0 id v knows.1) (each_stands v es id knows) (own_entries_are_in_order k es knows.0 id v knows.1).1 i mine at asks
 
 pub memory_errors_are_found : (v : View) → MemoryErrorsAreFound v
 memory_errors_are_found v called class n newer rest is es id knows =

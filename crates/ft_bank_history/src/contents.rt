@@ -8,7 +8,7 @@ ghost use Rattle.ft_model.specs.declared.script.ScriptParts.{ScriptParts};
 ghost use Rattle.ft_model.specs.Answers.{shown_of, world_by};
 ghost use Rattle.ft_model.specs.Numbers.{AreNumberedLists};
 ghost use Rattle.ft_model.specs.Worlds.{starts_of};
-ghost use Rattle.ft_trace.specs.Acts.{all_entries, all_lists};
+ghost use Rattle.ft_trace.specs.Acts.{all_entries, all_lists, tells};
 ghost use Rattle.ft_trace.specs.Owners.{found_owners, had_locks};
 ghost use Rattle.ft_bank.specs.Passes.{view};
 ghost use Rattle.ft_bank_history.specs.LastContents.{AreShownTo, IsLast};
@@ -21,7 +21,7 @@ use ft_bank::Pass;
 pub fn contents_are_last(pass: &Pass)
     ensures last { IsLast (view pass.now) → (script : ScriptParts) (kept : List (List Entry)) (all : List Shown) →
         IsFor script (view pass.now).shape →
-        HaveNamedEntries 0 kept (all_lists (view pass.now)) (had_locks (view pass.now).number (view pass.now).log) (found_owners (view pass.now).log) →
+        HaveNamedEntries 0 kept (all_lists (view pass.now)) (had_locks (view pass.now).number (view pass.now).log) (found_owners (view pass.now).log) (tells (view pass.now)) →
         AskOwnCursors script kept → length kept ≡ length script.threads → AreShownTo (view pass.now) all →
         ∥ ((calls : List Call) × AreNumberedLists storage.Tables script calls kept
         × (all ≡ map shown_of (world_by (starts_of script.containers) calls))) ∥₁ }

@@ -10,7 +10,7 @@ ghost use Rattle.ft_model.specs.declared.script.ScriptParts.{ScriptParts};
 ghost use Rattle.ft_model.specs.Histories.{history_cmp};
 ghost use Rattle.ft_model.specs.Numbers.{AreNumberedLists, IsHistoryOf};
 ghost use Rattle.ft_model.specs.Scripts.{IsScript};
-ghost use Rattle.ft_bank.specs.Closings.{shape_in, lists_in, had_in, found_in};
+ghost use Rattle.ft_bank.specs.Closings.{shape_in, lists_in, had_in, found_in, told_of};
 ghost use Rattle.ft_bank_history.specs.Marks.{HaveScriptCalls, AreOfFirst};
 ghost use Rattle.ft_bank_history.specs.Numbering.{AskOwnCursors, EntriesAreNumbered, IsFor, HaveNamedEntries, MarksAreRight};
 
@@ -23,7 +23,7 @@ pub fn entries_are_numbered()
 {}
 
 /// The marks of numbered entries are right where all calls are made: whoever was found with a lock had taken it, for a
-/// call that names its container.
+/// call that names its container. And their awaits know of the calls that they name.
 pub fn marks_are_right()
     ensures { MarksAreRight }
 {}
@@ -32,7 +32,7 @@ pub fn marks_are_right()
 /// passes were taken in in the order of the threads.
 pub fn closed_entries_are_numbered(closed: &Closed)
     ensures { (script : ScriptParts) (kept : List (List Entry)) → IsFor script (shape_in closed.now) →
-        HaveNamedEntries 0 kept (lists_in closed.now) (had_in closed.now) (found_in closed.now) →
+        HaveNamedEntries 0 kept (lists_in closed.now) (had_in closed.now) (found_in closed.now) (told_of closed.now) →
         AskOwnCursors script kept → length kept ≡ length script.threads →
         ∥ ((calls : List Call) × AreNumberedLists storage.Tables script calls kept) ∥₁ }
 {
@@ -44,7 +44,7 @@ pub fn closed_entries_are_numbered(closed: &Closed)
 pub fn closed_entries_are_legal(closed: &Closed)
     ensures { (script : ScriptParts) (kept : List (List Entry)) (history : List Entry) →
         IsScript script → IsFor script (shape_in closed.now) →
-        HaveNamedEntries 0 kept (lists_in closed.now) (had_in closed.now) (found_in closed.now) →
+        HaveNamedEntries 0 kept (lists_in closed.now) (had_in closed.now) (found_in closed.now) (told_of closed.now) →
         AreOfFirst (length kept) (had_in closed.now) →
         AskOwnCursors script kept →
         length kept ≡ length script.threads → HaveScriptCalls script kept →
@@ -53,5 +53,6 @@ pub fn closed_entries_are_legal(closed: &Closed)
 {
     closed_entries_are_numbered(closed);
     closed.owners_are_known();
+    closed.awaits_are_told();
     marks_are_right();
 }

@@ -1,13 +1,11 @@
--- Calls on dicts under their locks: what the pass may do, that it is in the midst of its call still, and what the try of
--- `setdefault` answers.
+-- Calls on dicts under their locks: what the pass may do, that it is in the midst of its call still, and that the try of
+-- `setdefault` leaves its cursors.
 use Rattle.std.proofs.Common.{◌≡◌, ◌<◌, ℕ, true, refl, sym, subst}
 use Rattle.ft_model.specs.declared.call.Call.TheVariants as call
 use Rattle.ft_model.specs.declared.call.DictCall.{DictCall}
-use Rattle.ft_model.specs.declared.call.DictCall.TheVariants as dict
 use Rattle.ft_model.specs.declared.data.Key.{Key}
 use Rattle.ft_model.specs.declared.data.Value.{Value}
 use Rattle.ft_model.specs.declared.reply.Reply.{Reply}
-use Rattle.ft_model.specs.declared.reply.Reply.TheVariants as reply
 use Rattle.ft_model.specs.declared.script.Kind.{Kind}
 use Rattle.ft_model.specs.declared.script.Kind.TheVariants as kind
 use Rattle.ft_trace.specs.declared.Shape.{Shape}
@@ -24,22 +22,18 @@ use Rattle.ft_bank.specs.PassSections.{stack_of}
 use Rattle.ft_section.specs.declared.answers.Objects.TheVariants.{One}
 use Rattle.ft_section.specs.declared.answers.Stamp.{Stamp}
 use Rattle.ft_section.specs.declared.answers.Step.{Step}
-use Rattle.ft_section.specs.declared.answers.Step.TheVariants as step
 use Rattle.ft_section.specs.Ready.{IsMaking}
 use Rattle.ft_search.specs.MadeCalls.{MadeAs}
 use Rattle.ft_search.specs.OneEntryWrites.{MayWriteEntries}
 use Rattle.ft_search.proofs.Calling.{making_made, making_may}
 use Rattle.ft_search.proofs.ReadMidst.{making_read}
 use Rattle.ft_table_calls.specs.declared.adding.Added.{Added}
-use Rattle.ft_table_calls.specs.declared.made.Made.{Made}
-use Rattle.ft_table_calls.specs.declared.made.Made.TheVariants as made
-use Rattle.ft_table_calls.specs.Adding.{IsTryOf, KeepsCursors, UnderLocks}
-use Rattle.ft_table_calls.specs.TriesUnderLocks.{ComesTo, IsTry}
+use Rattle.ft_table_calls.specs.Adding.{KeepsCursors}
+use Rattle.ft_table_calls.specs.TriesUnderLocks.{IsTry}
 use Rattle.ft_table_calls.proofs.GrowthMidst.{making_added}
-use Rattle.ft_table_calls.proofs.TriedCalls.{added_keeps, added_try}
+use Rattle.ft_table_calls.proofs.TriedCalls.{try_keeps}
 use Rattle.ft_new_keys.specs.KeyGrowth.{PutsKey}
-use Rattle.ft_dict.specs.DictMaking.{DictCallMakes}
-use Rattle.ft_dict.specs.Values.{SetsDefault}
+use Rattle.ft_dict.specs.Values.{ComesToDefault}
 
 -- ---- before the call
 
@@ -57,20 +51,7 @@ dict_read {b = b} {p = p} {q = q} {o = o} {dc = dc} {said = said} {n = n} m pass
 pub dict_put : {b : Bank} {p q : Pass} (k : Shape) (o : ℕ) (key : Key) (dc : DictCall) (said : Reply) (what : Added) → IsMaking b p → IsPassOf b q → stack_of q ≡ stack_of p → PutsKey k o key (call.Dict o dc) said (view p) (view q) what → IsMaking b q
 dict_put {b = b} {p = p} {q = q} k o key dc said what m pass stack x = making_added b p q m pass stack x.0 x.1 _ _ _ (call.Dict o dc) _ what (λ n l sections. refl) x.2
 
--- ---- the try of `setdefault`, with the reply that the maker gives
+-- ---- the try of `setdefault`
 
-module _ (k : Shape) (d : ℕ) (key : Key) (default : Value) (v w : View) where
-  replied : (made : Made) (x : UnderLocks (One d) (DictCallMakes k d (dict.SetDefault key default) made) v w) → UnderLocks (One d) (ComesTo (SetsDefault k d key default x.did.0) x.did.0 made) v w
-  replied made x = record { before = x.before; took = x.took; within = x.within; locks = x.locks; after = x.after; did = x.did.1; gone = x.gone; owners = x.owners }
-
-  tried : (r : Step) → IsTry (One d) (DictCallMakes k d (dict.SetDefault key default)) v w r → (said : Reply) × IsTry (One d) (ComesTo (SetsDefault k d key default said) said) v w r
-  tried (step.Done said stamp) x = (x.did.0, replied (made.Done said stamp) x)
-  tried (step.NotYet p q) x = (reply.Done, x)
-  tried (step.Moved a b) x = (x.did.0, replied (made.Moved a b) x)
-  tried step.NoMemory x = (x.did.0, replied made.NoMemory x)
-
-  pub default_try : (r : Step) → IsTry (One d) (DictCallMakes k d (dict.SetDefault key default)) v w r → (said : Reply) × IsTryOf (One d) (SetsDefault k d key default said) said v w r
-  default_try r x = let y = tried r x in (y.0, added_try (One d) (SetsDefault k d key default y.0) y.0 v w r y.1)
-
-  pub default_keeps : (r : Step) → IsTry (One d) (DictCallMakes k d (dict.SetDefault key default)) v w r → KeepsCursors v w
-  default_keeps r x = let y = tried r x in added_keeps (One d) (SetsDefault k d key default y.0) y.0 v w r y.1
+pub default_keeps : (k : Shape) (d : ℕ) (key : Key) (default : Value) (v w : View) (r : Step) → IsTry (One d) (ComesToDefault k d key default) v w r → KeepsCursors v w
+default_keeps k d key default v w r x = try_keeps (One d) (ComesToDefault k d key default) v w (λ made b a y. y.1.3) r x

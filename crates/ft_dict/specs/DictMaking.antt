@@ -5,7 +5,6 @@ use Rattle.ft_model.specs.declared.call.Call.TheVariants as call
 use Rattle.ft_model.specs.declared.call.DictCall.{DictCall}
 use Rattle.ft_model.specs.declared.call.DictCall.TheVariants as dict
 use Rattle.ft_model.specs.declared.data.Key.{Key}
-use Rattle.ft_model.specs.declared.reply.Reply.{Reply}
 use Rattle.ft_model.specs.declared.reply.Reply.TheVariants as reply
 use Rattle.ft_model.specs.declared.script.Kind.TheVariants as kind
 use Rattle.ft_model.specs.Calls.{cursor_of_dict, other_dict}
@@ -22,7 +21,7 @@ use Rattle.ft_merging.specs.Joining.{JoinsBy}
 use Rattle.ft_reads.specs.Clears.{IsClear}
 use Rattle.ft_reads.specs.Copies.{IsCopy}
 use Rattle.ft_dict.specs.DictCopies.{CopiesTo}
-use Rattle.ft_dict.specs.Values.{SetsDefault}
+use Rattle.ft_dict.specs.Values.{ComesToDefault}
 
 -- a dict of the bank
 abbrev pub IsDictIn : Shape → ℕ → Type 0
@@ -79,8 +78,7 @@ DictCallMakes k o (dict.Has key) made v w = IsRead (call.Dict o (dict.Has key)) 
 DictCallMakes k o dict.Len made v w = IsRead (call.Dict o dict.Len) made v w
 DictCallMakes k o (dict.Set key value) made v w =
     ComesTo (PutsKey k o key (call.Dict o (dict.Set key value)) reply.Done) reply.Done made v w
-DictCallMakes k o (dict.SetDefault key default) made v w =
-    (said : Reply) × ComesTo (SetsDefault k o key default said) said made v w
+DictCallMakes k o (dict.SetDefault key default) made v w = ComesToDefault k o key default made v w
 DictCallMakes k o (dict.Update other) made v w =
     ComesTo (JoinsBy k o other (call.Dict o (dict.Update other))) reply.Done made v w
 DictCallMakes k o (dict.CopyTo other) made v w = ComesTo (CopiesTo k o other) reply.Done made v w

@@ -2,7 +2,6 @@
 ghost use Rattle.std.specs.Prelude.{◌≡◌, ◌<◌};
 ghost use Rattle.ft_model.specs.declared.call.Call.TheVariants as call;
 ghost use Rattle.ft_model.specs.declared.call.DictCall.TheVariants as dict;
-ghost use Rattle.ft_model.specs.declared.reply.Reply.{Reply};
 ghost use Rattle.ft_model.specs.declared.reply.Reply.TheVariants as reply;
 ghost use Rattle.ft_model.specs.declared.script.Kind.TheVariants as kind;
 ghost use Rattle.ft_trace.specs.Addresses.{container_count};
@@ -12,15 +11,14 @@ ghost use Rattle.ft_bank.specs.Passes.{shape_of, view};
 ghost use Rattle.ft_section.specs.declared.answers.Objects.TheVariants.{One, Two};
 ghost use Rattle.ft_section.specs.Ready.{MayTry};
 ghost use Rattle.ft_section.specs.Trying.{SectionsAfter};
-ghost use Rattle.ft_search.specs.MadeCalls.{IsMadeOf};
-ghost use Rattle.ft_search.specs.Tries.{IsReadOf};
-ghost use Rattle.ft_table_calls.specs.Adding.{IsTryOf, KeepsCursors};
+ghost use Rattle.ft_table_calls.specs.Adding.{KeepsCursors};
+ghost use Rattle.ft_table_calls.specs.TriesUnderLocks.{ComesTo, IsMade, IsRead, IsTry};
 ghost use Rattle.ft_new_keys.specs.KeyGrowth.{PutsKey};
 ghost use Rattle.ft_merging.specs.Joining.{JoinsBy};
-ghost use Rattle.ft_reads.specs.Clears.{IsClearOf};
-ghost use Rattle.ft_reads.specs.Copies.{IsCopyOf};
+ghost use Rattle.ft_reads.specs.Clears.{IsClear};
+ghost use Rattle.ft_reads.specs.Copies.{IsCopy};
 ghost use Rattle.ft_dict.specs.DictCopies.{CopiesTo};
-ghost use Rattle.ft_dict.specs.Values.{SetsDefault};
+ghost use Rattle.ft_dict.specs.Values.{ComesToDefault};
 
 use crate::making::{DictMaker, ValueSetter};
 use ft_bank::{Bank, Pass};
@@ -35,7 +33,6 @@ use std::alloc::Global;
 ///
 /// `NotYet` where a step of the call found another pass with the lock of the dict; the same call comes
 /// next. It never answers `Moved` or `NoMemory`.
-#[tactic(auto, using(ft_table_calls::proofs::TriedCalls::read_try))]
 pub fn try_get(bank: &Bank, pass: &mut Pass, d: Object, key: Key) -> Step
     requires may { MayTry bank.now pass.old (One d) }
     requires container { d < container_count (shape_of bank.now) }
@@ -44,7 +41,7 @@ pub fn try_get(bank: &Bank, pass: &mut Pass, d: Object, key: Key) -> Step
     requires left { 0 < (view pass.old).left }
     ensures may { MayTry bank.now pass.new (One d) }
     ensures sections { SectionsAfter bank.now (One d) pass.old pass.new result }
-    ensures read { IsReadOf d (call.Dict d (dict.Get key)) (view pass.old) (view pass.new) result }
+    ensures tried { IsTry (One d) (IsRead (call.Dict d (dict.Get key))) (view pass.old) (view pass.new) result }
 {
     let called = Call::Dict {
         container: d,
@@ -65,7 +62,6 @@ pub fn try_get(bank: &Bank, pass: &mut Pass, d: Object, key: Key) -> Step
 ///
 /// `NotYet` where a step of the call found another pass with the lock of the dict; the same call comes
 /// next. It never answers `Moved` or `NoMemory`.
-#[tactic(auto, using(ft_table_calls::proofs::TriedCalls::read_try))]
 pub fn try_getd(bank: &Bank, pass: &mut Pass, d: Object, key: Key, default: Value) -> Step
     requires may { MayTry bank.now pass.old (One d) }
     requires container { d < container_count (shape_of bank.now) }
@@ -74,7 +70,8 @@ pub fn try_getd(bank: &Bank, pass: &mut Pass, d: Object, key: Key, default: Valu
     requires left { 0 < (view pass.old).left }
     ensures may { MayTry bank.now pass.new (One d) }
     ensures sections { SectionsAfter bank.now (One d) pass.old pass.new result }
-    ensures read { IsReadOf d (call.Dict d (dict.GetOr key default)) (view pass.old) (view pass.new) result }
+    ensures tried { IsTry (One d) (IsRead (call.Dict d (dict.GetOr key default)))
+        (view pass.old) (view pass.new) result }
 {
     let called = Call::Dict {
         container: d,
@@ -95,7 +92,6 @@ pub fn try_getd(bank: &Bank, pass: &mut Pass, d: Object, key: Key, default: Valu
 ///
 /// `NotYet` where a step of the call found another pass with the lock of the dict; the same call comes
 /// next. It never answers `Moved` or `NoMemory`.
-#[tactic(auto, using(ft_table_calls::proofs::TriedCalls::read_try))]
 pub fn try_has(bank: &Bank, pass: &mut Pass, d: Object, key: Key) -> Step
     requires may { MayTry bank.now pass.old (One d) }
     requires container { d < container_count (shape_of bank.now) }
@@ -104,7 +100,7 @@ pub fn try_has(bank: &Bank, pass: &mut Pass, d: Object, key: Key) -> Step
     requires left { 0 < (view pass.old).left }
     ensures may { MayTry bank.now pass.new (One d) }
     ensures sections { SectionsAfter bank.now (One d) pass.old pass.new result }
-    ensures read { IsReadOf d (call.Dict d (dict.Has key)) (view pass.old) (view pass.new) result }
+    ensures tried { IsTry (One d) (IsRead (call.Dict d (dict.Has key))) (view pass.old) (view pass.new) result }
 {
     let called = Call::Dict {
         container: d,
@@ -125,7 +121,6 @@ pub fn try_has(bank: &Bank, pass: &mut Pass, d: Object, key: Key) -> Step
 ///
 /// `NotYet` where a step of the call found another pass with the lock of the dict; the same call comes next. It
 /// never answers `Moved` or `NoMemory`.
-#[tactic(auto, using(ft_table_calls::proofs::TriedCalls::read_try))]
 pub fn try_len(bank: &Bank, pass: &mut Pass, d: Object) -> Step
     requires may { MayTry bank.now pass.old (One d) }
     requires container { d < container_count (shape_of bank.now) }
@@ -133,7 +128,7 @@ pub fn try_len(bank: &Bank, pass: &mut Pass, d: Object) -> Step
     requires left { 0 < (view pass.old).left }
     ensures may { MayTry bank.now pass.new (One d) }
     ensures sections { SectionsAfter bank.now (One d) pass.old pass.new result }
-    ensures read { IsReadOf d (call.Dict d dict.Len) (view pass.old) (view pass.new) result }
+    ensures tried { IsTry (One d) (IsRead (call.Dict d dict.Len)) (view pass.old) (view pass.new) result }
 {
     let called = Call::Dict {
         container: d,
@@ -154,7 +149,7 @@ pub fn try_len(bank: &Bank, pass: &mut Pass, d: Object) -> Step
 ///
 /// `NotYet` where a step of the call found another pass with the lock of the dict; `Moved` where two steps of it
 /// found a word of the free tables of one class changed. The same call comes next. It never answers `NoMemory`.
-#[tactic(auto, using(ft_table_calls::proofs::TriedCalls::added_try, ft_table_calls::proofs::TriedCalls::added_keeps))]
+#[tactic(auto, using(ft_table_calls::proofs::TriedCalls::added_keeps))]
 pub fn try_set(bank: &Bank, pass: &mut Pass, d: Object, key: Key, value: Value) -> Step
     requires may { MayTry bank.now pass.old (One d) }
     requires container { d < container_count (shape_of bank.now) }
@@ -162,8 +157,9 @@ pub fn try_set(bank: &Bank, pass: &mut Pass, d: Object, key: Key, value: Value) 
     requires key { IsKeyIn (shape_of bank.now) key }
     requires left { 0 < (view pass.old).left }
     ensures may { MayTry bank.now pass.new (One d) }
-    ensures tried { IsTryOf (One d) (PutsKey (shape_of bank.now) d key (call.Dict d (dict.Set key value)) reply.Done)
-        reply.Done (view pass.old) (view pass.new) result }
+    ensures tried { IsTry (One d)
+        (ComesTo (PutsKey (shape_of bank.now) d key (call.Dict d (dict.Set key value)) reply.Done) reply.Done)
+        (view pass.old) (view pass.new) result }
     ensures sections { SectionsAfter bank.now (One d) pass.old pass.new result }
     ensures cursors { KeepsCursors (view pass.old) (view pass.new) }
 {
@@ -180,7 +176,7 @@ pub fn try_set(bank: &Bank, pass: &mut Pass, d: Object, key: Key, value: Value) 
 /// # Errors
 ///
 /// As those of [`try_set`].
-#[tactic(auto, using(crate::proofs::DictTries::default_try, crate::proofs::DictTries::default_keeps))]
+#[tactic(auto, using(crate::proofs::DictTries::default_keeps))]
 pub fn try_setdefault(bank: &Bank, pass: &mut Pass, d: Object, key: Key, default: Value) -> Step
     requires may { MayTry bank.now pass.old (One d) }
     requires container { d < container_count (shape_of bank.now) }
@@ -188,7 +184,7 @@ pub fn try_setdefault(bank: &Bank, pass: &mut Pass, d: Object, key: Key, default
     requires key { IsKeyIn (shape_of bank.now) key }
     requires left { 0 < (view pass.old).left }
     ensures may { MayTry bank.now pass.new (One d) }
-    ensures tried { (said : Reply) × IsTryOf (One d) (SetsDefault (shape_of bank.now) d key default said) said
+    ensures tried { IsTry (One d) (ComesToDefault (shape_of bank.now) d key default)
         (view pass.old) (view pass.new) result }
     ensures sections { SectionsAfter bank.now (One d) pass.old pass.new result }
     ensures cursors { KeepsCursors (view pass.old) (view pass.new) }
@@ -214,7 +210,7 @@ pub fn try_setdefault(bank: &Bank, pass: &mut Pass, d: Object, key: Key, default
 /// `NotYet` where a step of the call found another pass with the lock of one of the dicts; `Moved` where two steps of
 /// it found a word of the free tables of one class changed. The same call comes next. It never answers `NoMemory`.
 /// Whatever it answers, the pass has the cursors that it had.
-#[tactic(auto, using(ft_table_calls::proofs::TriedCalls::added_try, ft_table_calls::proofs::TriedCalls::added_keeps))]
+#[tactic(auto, using(ft_table_calls::proofs::TriedCalls::added_keeps))]
 pub fn try_update(bank: &Bank, pass: &mut Pass, d: Object, e: Object) -> Step
     requires may { MayTry bank.now pass.old (Two d e) }
     requires container { d < container_count (shape_of bank.now) }
@@ -223,7 +219,7 @@ pub fn try_update(bank: &Bank, pass: &mut Pass, d: Object, e: Object) -> Step
     requires other_dict { kind_in (shape_of bank.now).starts e ≡ kind.Dict }
     requires left { 0 < (view pass.old).left }
     ensures may { MayTry bank.now pass.new (Two d e) }
-    ensures tried { IsTryOf (Two d e) (JoinsBy (shape_of bank.now) d e (call.Dict d (dict.Update e))) reply.Done
+    ensures tried { IsTry (Two d e) (ComesTo (JoinsBy (shape_of bank.now) d e (call.Dict d (dict.Update e))) reply.Done)
         (view pass.old) (view pass.new) result }
     ensures sections { SectionsAfter bank.now (Two d e) pass.old pass.new result }
     ensures cursors { KeepsCursors (view pass.old) (view pass.new) }
@@ -249,7 +245,7 @@ pub fn try_update(bank: &Bank, pass: &mut Pass, d: Object, e: Object) -> Step
 /// `NotYet` where a step of the call found another pass with the lock of one of the dicts; `Moved` where two steps of
 /// it found a word of the free tables of one class changed. The same call comes next. It never answers `NoMemory`.
 /// Whatever it answers, the pass has the cursors that it had.
-#[tactic(auto, using(ft_table_calls::proofs::TriedCalls::added_try, ft_table_calls::proofs::TriedCalls::added_keeps))]
+#[tactic(auto, using(ft_table_calls::proofs::TriedCalls::added_keeps))]
 pub fn try_copyto(bank: &Bank, pass: &mut Pass, d: Object, e: Object) -> Step
     requires may { MayTry bank.now pass.old (Two d e) }
     requires container { d < container_count (shape_of bank.now) }
@@ -259,8 +255,8 @@ pub fn try_copyto(bank: &Bank, pass: &mut Pass, d: Object, e: Object) -> Step
     requires left { 0 < (view pass.old).left }
     ensures may { MayTry bank.now pass.new (Two d e) }
     ensures sections { SectionsAfter bank.now (Two d e) pass.old pass.new result }
-    ensures tried { IsTryOf (Two d e) (CopiesTo (shape_of bank.now) d e) reply.Done (view pass.old) (view pass.new)
-        result }
+    ensures tried { IsTry (Two d e) (ComesTo (CopiesTo (shape_of bank.now) d e) reply.Done)
+        (view pass.old) (view pass.new) result }
     ensures cursors { KeepsCursors (view pass.old) (view pass.new) }
 {
     let called = Call::Dict {
@@ -282,7 +278,6 @@ pub fn try_copyto(bank: &Bank, pass: &mut Pass, d: Object, e: Object) -> Step
 ///
 /// `NotYet` where a step of the call found another pass with the lock of the dict; the same call comes
 /// next. It never answers `Moved` or `NoMemory`.
-#[tactic(auto, using(ft_table_calls::proofs::TriedCalls::made_try))]
 pub fn try_del(bank: &Bank, pass: &mut Pass, d: Object, key: Key) -> Step
     requires may { MayTry bank.now pass.old (One d) }
     requires container { d < container_count (shape_of bank.now) }
@@ -291,7 +286,7 @@ pub fn try_del(bank: &Bank, pass: &mut Pass, d: Object, key: Key) -> Step
     requires left { 0 < (view pass.old).left }
     ensures may { MayTry bank.now pass.new (One d) }
     ensures sections { SectionsAfter bank.now (One d) pass.old pass.new result }
-    ensures made { IsMadeOf (One d) (call.Dict d (dict.Del key)) (view pass.old) (view pass.new) result }
+    ensures tried { IsTry (One d) (IsMade (call.Dict d (dict.Del key))) (view pass.old) (view pass.new) result }
 {
     let called = Call::Dict {
         container: d,
@@ -313,7 +308,6 @@ pub fn try_del(bank: &Bank, pass: &mut Pass, d: Object, key: Key) -> Step
 ///
 /// `NotYet` where a step of the call found another pass with the lock of the dict; the same call comes
 /// next. It never answers `Moved` or `NoMemory`.
-#[tactic(auto, using(ft_table_calls::proofs::TriedCalls::made_try))]
 pub fn try_pop(bank: &Bank, pass: &mut Pass, d: Object, key: Key) -> Step
     requires may { MayTry bank.now pass.old (One d) }
     requires container { d < container_count (shape_of bank.now) }
@@ -322,7 +316,7 @@ pub fn try_pop(bank: &Bank, pass: &mut Pass, d: Object, key: Key) -> Step
     requires left { 0 < (view pass.old).left }
     ensures may { MayTry bank.now pass.new (One d) }
     ensures sections { SectionsAfter bank.now (One d) pass.old pass.new result }
-    ensures made { IsMadeOf (One d) (call.Dict d (dict.Pop key)) (view pass.old) (view pass.new) result }
+    ensures tried { IsTry (One d) (IsMade (call.Dict d (dict.Pop key))) (view pass.old) (view pass.new) result }
 {
     let called = Call::Dict {
         container: d,
@@ -344,7 +338,6 @@ pub fn try_pop(bank: &Bank, pass: &mut Pass, d: Object, key: Key) -> Step
 ///
 /// `NotYet` where a step of the call found another pass with the lock of the dict; the same call comes
 /// next. It never answers `Moved` or `NoMemory`.
-#[tactic(auto, using(ft_table_calls::proofs::TriedCalls::made_try))]
 pub fn try_popd(bank: &Bank, pass: &mut Pass, d: Object, key: Key, default: Value) -> Step
     requires may { MayTry bank.now pass.old (One d) }
     requires container { d < container_count (shape_of bank.now) }
@@ -353,7 +346,8 @@ pub fn try_popd(bank: &Bank, pass: &mut Pass, d: Object, key: Key, default: Valu
     requires left { 0 < (view pass.old).left }
     ensures may { MayTry bank.now pass.new (One d) }
     ensures sections { SectionsAfter bank.now (One d) pass.old pass.new result }
-    ensures made { IsMadeOf (One d) (call.Dict d (dict.PopOr key default)) (view pass.old) (view pass.new) result }
+    ensures tried { IsTry (One d) (IsMade (call.Dict d (dict.PopOr key default)))
+        (view pass.old) (view pass.new) result }
 {
     let called = Call::Dict {
         container: d,
@@ -374,14 +368,13 @@ pub fn try_popd(bank: &Bank, pass: &mut Pass, d: Object, key: Key, default: Valu
 ///
 /// `NotYet` where a step of the call found another pass with the lock of the dict; the same call comes next. It never
 /// answers `Moved` or `NoMemory`.
-#[tactic(auto, using(ft_table_calls::proofs::TriedCalls::made_try))]
 pub fn try_popitem(bank: &Bank, pass: &mut Pass, d: Object) -> Step
     requires may { MayTry bank.now pass.old (One d) }
     requires container { d < container_count (shape_of bank.now) }
     requires dict { kind_in (shape_of bank.now).starts d ≡ kind.Dict }
     requires left { 0 < (view pass.old).left }
     ensures may { MayTry bank.now pass.new (One d) }
-    ensures made { IsMadeOf (One d) (call.Dict d dict.PopItem) (view pass.old) (view pass.new) result }
+    ensures tried { IsTry (One d) (IsMade (call.Dict d dict.PopItem)) (view pass.old) (view pass.new) result }
     ensures sections { SectionsAfter bank.now (One d) pass.old pass.new result }
 {
     let called = Call::Dict {
@@ -403,14 +396,14 @@ pub fn try_popitem(bank: &Bank, pass: &mut Pass, d: Object) -> Step
 ///
 /// `NotYet` where a step of the call found another pass with the lock of the dict; the same call comes next. It never
 /// answers `Moved` or `NoMemory`.
-#[tactic(auto, using(ft_reads::proofs::TriedReads::clear_try, ft_reads::proofs::TriedReads::clear_keeps))]
+#[tactic(auto, using(ft_reads::proofs::TriedReads::clear_keeps))]
 pub fn try_clear(bank: &Bank, pass: &mut Pass, d: Object) -> Step
     requires may { MayTry bank.now pass.old (One d) }
     requires container { d < container_count (shape_of bank.now) }
     requires dict { kind_in (shape_of bank.now).starts d ≡ kind.Dict }
     requires left { 0 < (view pass.old).left }
     ensures may { MayTry bank.now pass.new (One d) }
-    ensures tried { IsClearOf d (call.Dict d dict.Clear) (view pass.old) (view pass.new) result }
+    ensures tried { IsTry (One d) (IsClear (call.Dict d dict.Clear)) (view pass.old) (view pass.new) result }
     ensures sections { SectionsAfter bank.now (One d) pass.old pass.new result }
     ensures cursors { KeepsCursors (view pass.old) (view pass.new) }
 {
@@ -434,14 +427,13 @@ pub fn try_clear(bank: &Bank, pass: &mut Pass, d: Object) -> Step
 /// `NotYet` where a step of the call found another pass with the lock of the dict; the same call comes next.
 /// `NoMemory` where memory for the copy ran out: the dict is as it was, and the lock is let go. It never answers
 /// `Moved`.
-#[tactic(auto, using(ft_reads::proofs::TriedReads::copy_try))]
 pub fn try_items(bank: &Bank, pass: &mut Pass, alloc: Global, d: Object) -> Step
     requires may { MayTry bank.now pass.old (One d) }
     requires container { d < container_count (shape_of bank.now) }
     requires dict { kind_in (shape_of bank.now).starts d ≡ kind.Dict }
     requires left { 0 < (view pass.old).left }
     ensures may { MayTry bank.now pass.new (One d) }
-    ensures made { IsCopyOf (One d) (call.Dict d dict.Items) (view pass.old) (view pass.new) result }
+    ensures tried { IsTry (One d) (IsCopy (call.Dict d dict.Items)) (view pass.old) (view pass.new) result }
     ensures sections { SectionsAfter bank.now (One d) pass.old pass.new result }
 {
     let called = Call::Dict {
@@ -464,7 +456,6 @@ pub fn try_items(bank: &Bank, pass: &mut Pass, alloc: Global, d: Object) -> Step
 ///
 /// `NotYet` where a step of the call found another pass with the lock of one of the dicts; the same call comes next. It
 /// never answers `Moved` or `NoMemory`.
-#[tactic(auto, using(ft_table_calls::proofs::TriedCalls::made_try))]
 pub fn try_eq(bank: &Bank, pass: &mut Pass, d: Object, e: Object) -> Step
     requires may { MayTry bank.now pass.old (Two d e) }
     requires container { d < container_count (shape_of bank.now) }
@@ -473,7 +464,7 @@ pub fn try_eq(bank: &Bank, pass: &mut Pass, d: Object, e: Object) -> Step
     requires other_dict { kind_in (shape_of bank.now).starts e ≡ kind.Dict }
     requires left { 0 < (view pass.old).left }
     ensures may { MayTry bank.now pass.new (Two d e) }
-    ensures made { IsMadeOf (Two d e) (call.Dict d (dict.Eq e)) (view pass.old) (view pass.new) result }
+    ensures tried { IsTry (Two d e) (IsMade (call.Dict d (dict.Eq e))) (view pass.old) (view pass.new) result }
     ensures sections { SectionsAfter bank.now (Two d e) pass.old pass.new result }
 {
     let called = Call::Dict {

@@ -1,19 +1,23 @@
 -- A call on containers that is made at once, with no call in flight and no section open: what one try of it leaves of its caller.
 use Rattle.std.proofs.Common.{◌≡◌, ◌+◌, ◌-◌, ℕ, List, [], ◌∷◌, ◌++◌, length, refl, sym, ap, ◌∙◌, subst, arith, ◌⊎◌, inl, inr, true≢false}
-use Rattle.std.specs.Prelude.{Option, None, false}
+use Rattle.std.specs.Prelude.{◌<◌, Option, None, true, false}
 use Rattle.ft_model.specs.declared.call.Call.{Call}
 use Rattle.ft_model.specs.declared.call.Call.TheVariants as call
+use Rattle.ft_model.specs.Calls.{moved_cursor}
 use Rattle.ft_model.specs.declared.cursor.Cursor.{Cursor}
 use Rattle.ft_model.specs.declared.entry.Entry.{Entry as NamedEntry}
 use Rattle.ft_model.specs.declared.reply.Reply.{Reply}
 use Rattle.ft_trace.proofs.Owning.{same_locks_only, same_owners}
 use Rattle.ft_trace.specs.declared.View.{View}
+use Rattle.ft_trace.specs.Acts.{has_lock}
+use Rattle.ft_bank.specs.declared.bank.Bank.{Bank}
 use Rattle.ft_bank.specs.declared.pass.Pass.{Pass}
 use Rattle.ft_bank.specs.Passes.{shape_of, view}
 use Rattle.ft_bank.specs.PassSections.{Stack, stack_of, nothing_taken}
 use Rattle.ft_section.specs.declared.answers.Stamp.{Stamp}
 use Rattle.ft_section.specs.declared.answers.Step.{Step}
 use Rattle.ft_section.specs.declared.answers.Step.TheVariants as step
+use Rattle.ft_section.specs.Floors.{first_owned}
 use Rattle.ft_section.specs.Locking.{TakenUp, with_own}
 use Rattle.ft_section.specs.Ready.{IsReady}
 use Rattle.ft_section.proofs.Releases.{only_same}
@@ -28,11 +32,11 @@ use Rattle.ft_engine.specs.Answering.{HasAnswer, HasLooked, IsTryOfCall}
 use Rattle.ft_engine.specs.Asked.{IsOnContainers}
 use Rattle.ft_engine.specs.AtOnce.{IsPlainCall}
 use Rattle.ft_engine.specs.Attempts.{MayAttempt}
-use Rattle.ft_engine.specs.Callers.{IsCallerOf, IsIdle}
+use Rattle.ft_engine.specs.Callers.{IsCallerOf, IsIdle, left_of}
 use Rattle.ft_engine.specs.Calling.{IsTried}
 use Rattle.ft_engine.specs.Contentions.{may_look}
-use Rattle.ft_engine.specs.Flights.{IsIn}
-use Rattle.ft_engine.specs.Halves.{IsInHalves}
+use Rattle.ft_engine.specs.Flights.{AllowsCall, IsIn}
+use Rattle.ft_engine.specs.Halves.{IsInHalves, KnewTop}
 use Rattle.ft_engine.specs.Keeping.{WasAnswered, named_entry}
 use Rattle.ft_engine.specs.Stacks.{StackAfter}
 use Rattle.ft_engine.proofs.Callers.{answered_kept, both_halves, done_kept_owners, ended_kept, hands_stay, idle_free, left_kept, moved_caller, waiting_kept}
@@ -43,6 +47,10 @@ use Rattle.ft_engine.proofs.OwnAnswers.{answer_own}
 -- what one try of the call comes to, for whatever cursors
 abbrev pub Comes : Engine → Call → Pass → Pass → Step → Type 0
 Comes e called p q result = (hands : List (Option Cursor)) → IsTryOfCall e.bank hands called p q result
+
+-- any call may come next where none is in flight
+idle_allows : (f : Flight) (called : Call) → f ≡ flight.Idle → AllowsCall f called
+idle_allows f called idle = subst (λ (g : Flight). AllowsCall g called) (sym idle) tt
 
 -- a call on containers lets go of its own locks alone
 stack_plain : (called : Call) (s t : Stack) → IsOnContainers called → StackAfter called s t → t ≡ with_own s nothing_taken
@@ -60,45 +68,51 @@ stack_plain call.Dump s t on after = absurd on
 -- ---- it has its answer
 
 -- the pass is ready for the next call, since there is no section to take up again
-answered_ready : (e : Engine) (c : Caller) (q : Pass) (called : Call) (said : Reply) (stamp : Stamp) → IsCallerOf e c → IsIdle c → (stack_of c.pass).sections ≡ [] → IsOnContainers called → HasAnswer e.bank called said stamp c.pass q → ((stack_of q).sections ≡ []) × IsReady e.bank q
+answered_ready : (e : Engine) (c : Caller) (q : Pass) (called : Call) (said : Reply) (stamp : Stamp) → IsCallerOf e c → IsIdle c → (stack_of c.pass).sections ≡ [] → IsOnContainers called → HasAnswer e.bank called said stamp c.pass q → IsReady e.bank q
 answered_ready e c q called said stamp is idle none on a =
-    let nil : (stack_of q).sections ≡ [] = ap (λ (s : Stack). s.sections) (stack_plain called (stack_of c.pass) (stack_of q) on a.stack) ∙ none in (
-      nil,
-      record {
-        inside = a.resume.inside;
-        own = a.resume.none nil;
-        mark = a.mark ∙ idle_free e c is idle;
-        top = λ outer top cut. absurd (push_some outer top (sym cut ∙ nil));
-      },
-    )
+    let nil : (stack_of q).sections ≡ [] = ap (λ (s : Stack). s.sections) (stack_plain called (stack_of c.pass) (stack_of q) on a.stack) ∙ none in
+    record {
+      inside = a.resume.inside;
+      own = a.resume.none nil;
+      mark = a.mark ∙ idle_free e c is idle;
+      top = λ outer top cut. absurd (push_some outer top (sym cut ∙ nil));
+    }
 
-same_up : (s : Stack) → s.sections ≡ [] → s.own ≡ nothing_taken → s.mark ≡ None → TakenUp s s
-same_up s nil own mark = record { none = λ n. n; top = λ outer top cut. absurd (push_some outer top (sym cut ∙ nil)); own = own; mark = mark }
+-- a pass that is ready has its innermost section
+same_up : (b : Bank) (q : Pass) → IsReady b q → TakenUp (stack_of q) (stack_of q)
+same_up b q ready = record { none = λ n. n; top = λ outer top cut. (top.locks.took_lower, top.locks.took_upper, cut); own = ready.own; mark = ready.mark }
+
+none_owned : (lower upper : ℕ) (v : View) → has_lock lower v.log ≡ true → has_lock upper v.log ≡ true → first_owned lower upper v ≡ None
+none_owned lower upper v low up = rw (low, up) refl
+
+knew_top : (b : Bank) (q : Pass) → IsReady b q → KnewTop q None
+knew_top b q ready has outer top cut =
+    let own = ready.top outer top cut in
+    none_owned top.locks.lower top.locks.upper (view q) own.0 own.1
 
 -- the entries that the caller was answered
-done_kept : (e : Engine) (c : Caller) (q : Pass) (called : Call) (said : Reply) (stamp : Stamp) (mine : List NamedEntry) → IsCallerOf e c → IsIdle c → MayAttempt e c called → ((stack_of q).sections ≡ []) × IsReady e.bank q → Comes e called c.pass q (step.Done said stamp) → WasAnswered c mine → WasAnswered (record c { pass = q; made = c.made + 1 }) (mine ++ named_entry ((view c.pass).number - 1) mine called said stamp None ∷ [])
-done_kept e c q called said stamp mine is idle may ready came kept =
+done_kept : (e : Engine) (c : Caller) (q : Pass) (called : Call) (said : Reply) (stamp : Stamp) (mine : List NamedEntry) → IsCallerOf e c → IsIdle c → IsReady e.bank q → Comes e called c.pass q (step.Done said stamp) → WasAnswered c mine → WasAnswered (record c { pass = q; made = c.made + 1 }) (mine ++ named_entry ((view c.pass).number - 1) mine called said stamp None ∷ [])
+done_kept e c q called said stamp mine is idle ready came kept =
     let x = came c.cursors.items in
     let d : Caller = record c { pass = q; made = c.made + 1; flight = flight.Answered called said stamp } in
-    let k = answered_kept e c d called said stamp mine is (no_answer_idle c.flight idle) may.next x.0 x.2 refl kept in
-    let up = same_up (stack_of q) ready.0 ready.1.own ready.1.mark in
-    let mark : None ≡ (stack_of q).mark = sym ready.1.mark in
+    let k = answered_kept e c d called said stamp mine is (no_answer_idle c.flight idle) (idle_allows c.flight called idle) x.0 x.2 refl kept in
+    let up = same_up e.bank q ready in
+    let mark : None ≡ (stack_of q).mark = sym ready.mark in
     let owners = done_kept_owners d q c.flight called called said stamp None mine (only_same (view q)) (λ outer top cut. same_locks_only (λ o. (o ≡ top.locks.lower) ⊎ (o ≡ top.locks.upper)) (view q) (view q) (same_owners (view q))) (λ nil. same_owners (view q)) refl refl up mark idle k.1 in
     let entries = ended_kept ((view q).number - 1) ((view q).number - 1) (view q).entries (view q).entries (stack_of q) (stack_of q) d.flight c.flight called called said stamp None mine k.0 refl refl up mark refl refl idle in
     subst (λ (thread : ℕ). WasAnswered (record c { pass = q; made = c.made + 1 }) (mine ++ named_entry thread mine called said stamp None ∷ []))
     (ap (λ (n : ℕ). n - 1) x.0.entry.pass.number) (entries, owners)
 
-pub done_at_once : (e : Engine) (c : Caller) (q : Pass) (called : Call) (said : Reply) (stamp : Stamp) → IsCallerOf e c → IsIdle c → (stack_of c.pass).sections ≡ [] → MayAttempt e c called → IsPlainCall called → Comes e called c.pass q (step.Done said stamp) → IsTried e called (tried.Done said stamp None) c (record c { pass = q; made = c.made + 1 })
-done_at_once e c q called said stamp is idle none may plain came =
+-- it moves no cursor, and leaves its pass ready for the next call
+pub done_ready : (e : Engine) (c : Caller) (q : Pass) (called : Call) (said : Reply) (stamp : Stamp) → IsCallerOf e c → IsIdle c → 0 < left_of c → moved_cursor called ≡ None → IsReady e.bank q → Comes e called c.pass q (step.Done said stamp) → IsTried e called (tried.Done said stamp None) c (record c { pass = q; made = c.made + 1 })
+done_ready e c q called said stamp is idle left still ready came =
     let x = came c.cursors.items in
     let a = x.0 in
-    let ready = answered_ready e c q called said stamp is idle none plain.containers a in
-    let hands = hands_stay (shape_of e.bank) e.bank c.cursors.items called c.pass q (step.Done said stamp) plain.no_cursor x (record { cursors = is.cursors; over = is.over }) in
-    let left = may.left (no_answer_idle c.flight idle) in
+    let hands = hands_stay (shape_of e.bank) e.bank c.cursors.items called c.pass q (step.Done said stamp) still x (record { cursors = is.cursors; over = is.over }) in
     record {
       caller = record {
         pass = a.resume.inside.0;
-        inside = subst (IsIn e.bank q c.cursors.items) (sym idle) ready.1;
+        inside = subst (IsIn e.bank q c.cursors.items) (sym idle) ready;
         made = let m = is.made in let n = ap length a.entry.entries in omega (arith, m, n);
         calls = is.calls;
         few = omega (arith, left);
@@ -109,21 +123,26 @@ done_at_once e c q called said stamp is idle none may plain came =
       };
       same = record { pass = a.entry.pass; room = refl };
       flight = idle;
-      kept = λ mine kept. done_kept e c q called said stamp mine is idle may ready came kept;
+      kept = λ mine kept. done_kept e c q called said stamp mine is idle ready came kept;
       mark = sym (idle_free e c is idle);
       found = inl tt;
       looked = tt;
-      halves = both_halves c.flight e.bank c.cursors.items called c.pass q (tried.Done said stamp None) c.flight (no_answer_idle c.flight idle) may.next (record {
+      halves = both_halves c.flight e.bank c.cursors.items called c.pass q (tried.Done said stamp None) c.flight (no_answer_idle c.flight idle) (idle_allows c.flight called idle) (record {
         mid = q;
         said = said;
         stamp = stamp;
         answer = x;
-        taken = (refl, refl, sym ready.1.mark, same_up (stack_of q) ready.0 ready.1.own ready.1.mark, λ has outer top cut. absurd (push_some outer top (sym cut ∙ ready.0)));
+        taken = (refl, refl, sym ready.mark, same_up e.bank q ready, knew_top e.bank q ready);
         waits = tt;
       });
       own = λ free. answer_own e.bank called said stamp c.pass q a;
       again = λ no. absurd no;
     }
+
+pub done_at_once : (e : Engine) (c : Caller) (q : Pass) (called : Call) (said : Reply) (stamp : Stamp) → IsCallerOf e c → IsIdle c → (stack_of c.pass).sections ≡ [] → MayAttempt e c called → IsPlainCall called → Comes e called c.pass q (step.Done said stamp) → IsTried e called (tried.Done said stamp None) c (record c { pass = q; made = c.made + 1 })
+done_at_once e c q called said stamp is idle none may plain came =
+    let x = came c.cursors.items in
+    done_ready e c q called said stamp is idle (may.left (no_answer_idle c.flight idle)) plain.no_cursor (answered_ready e c q called said stamp is idle none plain.containers x.0) came
 
 -- ---- it has none
 

@@ -48,9 +48,9 @@ seen_given v t =
     le_trans (le_trans (le-max_left t.learnt (shown t.log)) (le-max_right v.learnt theirs)) (le-max_left (max v.learnt theirs) (shown v.log))
 
 -- the pass has taken tokens
-pub gathered_steady : (v t : View) (n : ℕ) → t ≡ slip_with t.tokens t.learnt t.floor → IsStill v → IsSteady v (view_after (ReadCounter n) (both v t))
+pub gathered_steady : (v t : View) (n : ℕ) → t ≡ slip_with t.tokens t.learnt t.floor t.told → IsStill v → IsSteady v (view_after (ReadCounter n) (both v t))
 gathered_steady v t n blank s =
-    let u = slip_with t.tokens t.learnt t.floor in
+    let u = slip_with t.tokens t.learnt t.floor t.told in
     subst (λ (z : View). IsSteady v (view_after (ReadCounter n) (both v z))) (sym blank)
     (record {
       number = refl;
@@ -87,9 +87,9 @@ floored_steady v n snap s = record {
 }
 
 -- it had given its tokens away, has taken others, and the floor
-pub woken_steady : (v t : View) (k n : ℕ) (snap : Snap) → t ≡ slip_with t.tokens t.learnt t.floor → IsStill v → IsSteady v (view_after (TakeFloor n snap) (both (sender k v) t))
+pub woken_steady : (v t : View) (k n : ℕ) (snap : Snap) → t ≡ slip_with t.tokens t.learnt t.floor t.told → IsStill v → IsSteady v (view_after (TakeFloor n snap) (both (sender k v) t))
 woken_steady v t k n snap blank s =
-    let u = slip_with t.tokens t.learnt t.floor in
+    let u = slip_with t.tokens t.learnt t.floor t.told in
     subst (λ (z : View). IsSteady v (view_after (TakeFloor n snap) (both (sender k v) z))) (sym blank)
     (record {
       number = refl;
@@ -198,4 +198,4 @@ rest_free e c r is at_rest done =
 pub rest_in : (v w : View) (c : Caller) (r : RestingCaller) (n : ℕ) → RestsAs c r → w ≡ view_after (ReadCounter n) (both v (rests r.pass)) → TakesIn v (view c.pass) w
 rest_in v w c r n at_rest is =
     let u = view c.pass in
-    subst (TakesIn v u) (sym (is ∙ ap (λ (z : View). view_after (ReadCounter n) (both v z)) at_rest.pass)) (record { number = refl; entries = refl; lists = refl; had = refl; found = refl; cursors = λ k. refl })
+    subst (TakesIn v u) (sym (is ∙ ap (λ (z : View). view_after (ReadCounter n) (both v z)) at_rest.pass)) (record { number = refl; entries = refl; lists = refl; had = refl; found = refl; told = refl; cursors = λ k. refl })

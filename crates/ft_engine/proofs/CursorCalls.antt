@@ -1,5 +1,5 @@
 -- What `iter` and `next` come to, and the cursors that a caller has then.
-use Rattle.std.proofs.Common.{◌≡◌, ◌≢◌, ◌≤◌, ◌<◌, ◌-◌, ℕ, zero, suc, Bool, false, true≢false, List, [], ◌∷◌, length, set, refl, sym, ap, ◌∙◌, subst, arith, le_trans, true}
+use Rattle.std.proofs.Common.{◌≡◌, ◌≢◌, ◌≤◌, ◌<◌, ◌-◌, ℕ, zero, suc, Bool, false, true≢false, List, [], ◌∷◌, length, set, refl, sym, ap, ◌∙◌, subst, arith, le_trans, true, inr}
 use Rattle.std.specs.Prelude.{Option, Some, option_map, slice_index_or}
 use Rattle.std.proofs.lemmas.List.{length-set}
 use mathlib.Core.Logic.{dite}
@@ -23,13 +23,16 @@ use Rattle.ft_trace.proofs.Cases.{here, miss}
 use Rattle.ft_trace.proofs.Seeing.{seen_up}
 use Rattle.ft_bank.specs.declared.bank.Bank.{Bank}
 use Rattle.ft_bank.specs.declared.pass.Pass.{Pass}
+use Rattle.ft_bank.specs.Answered.{AnsweredCursor}
 use Rattle.ft_bank.specs.Passes.{view}
 use Rattle.ft_section.specs.declared.answers.Objects.TheVariants.{One}
 use Rattle.ft_section.specs.declared.answers.Stamp.{Stamp}
 use Rattle.ft_section.specs.declared.answers.Step.{Step}
 use Rattle.ft_section.specs.declared.answers.Step.TheVariants as step
 use Rattle.ft_section.specs.Trying.{SectionsAfter}
-use Rattle.ft_iter.specs.CursorCalls.{IsMoveOf, IsOver, KeepsOtherCursors, MovedUnderLock, iter_call, is_landed_cursor}
+use Rattle.ft_table_calls.specs.declared.made.Made.TheVariants as made
+use Rattle.ft_table_calls.specs.TriesUnderLocks.{UnderLocks}
+use Rattle.ft_iter.specs.CursorCalls.{IsCursorMove, IsMoveOf, IsOver, KeepsOtherCursors, iter_call, is_landed_cursor}
 use Rattle.ft_bank_history.specs.Marks.{over_after, walked_after}
 use Rattle.ft_engine.specs.Answering.{MakesEntry, AreHandsOfPass, IsTryOfCall, LeavesHands, StaysPass}
 use Rattle.ft_engine.specs.Callers.{IsOfKindIn}
@@ -42,15 +45,15 @@ use Rattle.ft_engine.proofs.SectionCalls.{loaded_in, only_nothing, same_nothing}
 
 -- ---- the entry
 
-moved_adds : (o : ℕ) (called : Call) (said : Reply) (stamp : Stamp) (number : ℕ) (left : Cursor) (v w : View) → stamp.wrote ≡ false → 0 < v.left → moved_cursor called ≡ Some number → KeepsOtherCursors number v w → MovedUnderLock o called said stamp.number number left v w → MakesEntry called said stamp v w
+moved_adds : (o : ℕ) (called : Call) (said : Reply) (stamp : Stamp) (number : ℕ) (left : Cursor) (v w : View) → stamp.wrote ≡ false → 0 < v.left → moved_cursor called ≡ Some number → KeepsOtherCursors number v w → UnderLocks (One o) (AnsweredCursor called said stamp.number number left) v w → MakesEntry called said stamp v w
 moved_adds o called said stamp number left v w is some moves others m =
     let before = only_nothing v m.before m.took in
     let after = only_nothing m.after w m.gone in
-    let x = m.answered in
+    let x = m.did in
     let u = x.before in
     let l = x.loaded.work in
     let act = AnswerCursor called said stamp.number number (cursor_in number m.before.log) left in
-    let moved : StaysPass u m.after = subst (StaysPass u) (sym x.answered) (record { number = refl; next = refl; parts = refl; shape = refl; lists = refl; online = λ on. on; floor = refl; since = refl; seen = seen_up act u }) in
+    let moved : StaysPass u m.after = subst (StaysPass u) (sym x.answered) (record { number = refl; next = refl; parts = refl; shape = refl; lists = refl; online = λ on. on; floor = refl; since = refl; seen = seen_up act u; grown = λ old was. inr was }) in
     record {
       pass = record {
         number = after.pass.number ∙ (ap (λ (z : View). z.number) x.answered ∙ (l.pass.number ∙ before.pass.number));
@@ -62,6 +65,7 @@ moved_adds o called said stamp number left v w is some moves others m =
         floor = after.pass.floor ∙ (ap (λ (z : View). z.has_floor) x.answered ∙ (l.pass.floor ∙ before.pass.floor));
         since = after.pass.since ∙ (ap (λ (z : View). at_floor z.log) x.answered ∙ (l.pass.since ∙ before.pass.since));
         seen = le_trans before.pass.seen (le_trans (subst (λ (z : View). seen_writes m.before ≤ seen_writes z) (sym x.answered) (le_trans l.pass.seen (seen_up act u))) after.pass.seen);
+        grown = λ old was. after.pass.grown old (moved.grown old (l.pass.grown old (before.pass.grown old was)));
       };
       entries = after.entries ∙ (ap (λ (z : View). z.entries) x.answered ∙ (ap (λ (b : Bool). record { call = called; reply = said; stamp = stamp.number; wrote = b } ∷ u.entries) (sym is) ∙ ap (λ (es : List Entry). made_entry called said stamp ∷ es) (l.entries ∙ before.entries)));
       left =
@@ -71,21 +75,25 @@ moved_adds o called said stamp number left v w is some moves others m =
           let d = after.left in
           let e : v.left ≡ suc w.left = omega (arith, a, b, c, d, some) in e;
       seen = le_trans before.pass.seen x.seen;
-      loaded = λ _. loaded_in stamp.number v m.before m.after w before.pass (record { start = m.before; earlier = (same_nothing m.before).pass; part = x.part; before = u; own = x.own; loaded = x.counted; later = moved }) after.pass;
+      loaded = λ _. loaded_in stamp.number v m.before m.after w before.pass (loaded_in stamp.number m.before m.before u m.after (same_nothing m.before).pass (record { part = x.part; own = x.own; loaded = x.counted }) moved) after.pass;
       shows = λ wrote. absurd (true≢false (sym wrote ∙ is));
       cursors = λ other apart. others other (λ e. apart (moves ∙ ap (λ (n : ℕ). Some n) (sym e)));
     }
 
+-- its answer alone
+answered_under : (kind : Kind) (o : ℕ) (called : Call) (number : ℕ) (left : Option Cursor) (said : Reply) (stamp : Stamp) (v w : View) (x : UnderLocks (One o) (IsCursorMove kind o called number left (made.Done said stamp)) v w) → UnderLocks (One o) (AnsweredCursor called said stamp.number number x.did.0) v w
+answered_under kind o called number left said stamp v w x = record { before = x.before; took = x.took; within = x.within; locks = x.locks; after = x.after; did = x.did.3; gone = x.gone; owners = x.owners }
+
 move_outcome : (kind : Kind) (o : ℕ) (called : Call) (number : ℕ) (had left : Option Cursor) (v w : View) (result : Step) → 0 < v.left → moved_cursor called ≡ Some number → KeepsOtherCursors number v w → IsMoveOf kind o called number had v w result left → Outcome called (One o) v w result
 move_outcome kind o called number had left v w (step.Done said stamp) some moves others x =
-    let m = x.3 in
-    let a = m.answered in (
-      moved_adds o called said stamp number x.0 v w x.4 some moves others m,
-      within_then (One o) v m.before m.after w m.took m.within (ap (λ (z : View). z.number) a.answered ∙ a.loaded.work.pass.number) (cursor_owners called said stamp.number number x.0 m.before m.after a) m.gone m.owners,
+    let m = answered_under kind o called number left said stamp v w x.0 in
+    let a = m.did in (
+      moved_adds o called said stamp number x.0.did.0 v w x.0.did.4 some moves others m,
+      within_then (One o) v m.before m.after w m.took m.within (ap (λ (z : View). z.number) a.answered ∙ a.loaded.work.pass.number) (cursor_owners called said stamp.number number x.0.did.0 m.before m.after a) m.gone m.owners,
     )
-move_outcome kind o called number had left v w (step.NotYet p owner) some moves others x = (x.1, x.2, x.3)
-move_outcome kind o called number had left v w (step.Moved a b) some moves others x = absurd x
-move_outcome kind o called number had left v w step.NoMemory some moves others x = absurd x
+move_outcome kind o called number had left v w (step.NotYet p owner) some moves others x = x.0
+move_outcome kind o called number had left v w (step.Moved a b) some moves others x = absurd x.0.did
+move_outcome kind o called number had left v w step.NoMemory some moves others x = absurd x.0.did
 
 -- ---- the cursors
 
@@ -130,14 +138,14 @@ moved_hands k v w hands kind o number walker are low others mine over of = recor
 -- what the caller's cursors become
 pub hands_by : (k : Shape) (v w : View) (hands : List (Option Cursor)) (kind : Kind) (o number : ℕ) (called : Call) (left : Option Cursor) (result : Step) → AreHandsOfPass k v hands → number < length hands → KeepsOtherCursors number v w → IsOfKindIn k kind o → IsMoveOf kind o called number (cursor_at hands number) v w result left → AreHandsOfPass k w (set hands number left) × LeavesHands result hands (set hands number left)
 hands_by k v w hands kind o number called left (step.Done said stamp) are low others of x = (
-  subst (λ (z : Option Cursor). AreHandsOfPass k w (set hands number z)) (sym x.1) (moved_hands k v w hands kind o number x.0 are low others x.3.mine x.2 of),
+  subst (λ (z : Option Cursor). AreHandsOfPass k w (set hands number z)) (sym x.0.did.1) (moved_hands k v w hands kind o number x.0.did.0 are low others (x.1 ∙ x.0.did.1) x.0.did.2 of),
   length-set hands number left,
 )
 hands_by k v w hands kind o number called left (step.NotYet p owner) are low others of x =
-    let same : set hands number left ≡ hands = ap (set hands number) x.0 ∙ set_same hands number in
-    (subst (AreHandsOfPass k w) (sym same) (record { cursors = λ n within. are.cursors n within ∙ sym (x.1.cursors n); over = are.over }), same)
-hands_by k v w hands kind o number called left (step.Moved a b) are low others of x = absurd x
-hands_by k v w hands kind o number called left step.NoMemory are low others of x = absurd x
+    let same : set hands number left ≡ hands = ap (set hands number) x.1 ∙ set_same hands number in
+    (subst (AreHandsOfPass k w) (sym same) (record { cursors = λ n within. are.cursors n within ∙ sym (x.0.0.cursors n); over = are.over }), same)
+hands_by k v w hands kind o number called left (step.Moved a b) are low others of x = absurd x.0.did
+hands_by k v w hands kind o number called left step.NoMemory are low others of x = absurd x.0.did
 
 -- ---- the calls
 
@@ -170,8 +178,8 @@ iter_walked kind o number had left v w (step.Done said stamp) others x = λ n.
     let over = option_map container_of (cursor_in n v.log) in
     dite (ℕ_discrete n number)
     (λ (e : n ≡ number).
-    ap (option_map container_of) (subst (λ (z : ℕ). cursor_in z w.log ≡ Some x.0) (sym e) x.3.mine)
-    ∙ (ap (λ (z : ℕ). Some z) x.2.0 ∙ sym (walked_iter kind o number n over ∙ here number n (Some o) over (sym e))))
+    ap (option_map container_of) (subst (λ (z : ℕ). cursor_in z w.log ≡ Some x.0.did.0) (sym e) (x.1 ∙ x.0.did.1))
+    ∙ (ap (λ (z : ℕ). Some z) x.0.did.2.0 ∙ sym (walked_iter kind o number n over ∙ here number n (Some o) over (sym e))))
     (λ ne. ap (option_map container_of) (others n ne) ∙ sym (walked_iter kind o number n over ∙ miss number n (Some o) over (λ e. ne (sym e))))
 iter_walked kind o number had left v w (step.NotYet p owner) others x = tt
 iter_walked kind o number had left v w (step.Moved a b) others x = tt
@@ -181,8 +189,8 @@ next_walked : (kind : Kind) (number : ℕ) (walker : Cursor) (had left : Option 
 next_walked kind number walker had left v w (step.Done said stamp) was others x = λ n.
     dite (ℕ_discrete n number)
     (λ (e : n ≡ number).
-    ap (option_map container_of) (subst (λ (z : ℕ). cursor_in z w.log ≡ Some x.0) (sym e) x.3.mine)
-    ∙ (ap (λ (z : ℕ). Some z) x.2.0 ∙ sym (ap (option_map container_of) (subst (λ (z : ℕ). cursor_in z v.log ≡ Some walker) (sym e) was))))
+    ap (option_map container_of) (subst (λ (z : ℕ). cursor_in z w.log ≡ Some x.0.did.0) (sym e) (x.1 ∙ x.0.did.1))
+    ∙ (ap (λ (z : ℕ). Some z) x.0.did.2.0 ∙ sym (ap (option_map container_of) (subst (λ (z : ℕ). cursor_in z v.log ≡ Some walker) (sym e) was))))
     (λ ne. ap (option_map container_of) (others n ne))
 next_walked kind number walker had left v w (step.NotYet p owner) was others x = tt
 next_walked kind number walker had left v w (step.Moved a b) was others x = tt

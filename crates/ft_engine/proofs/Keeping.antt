@@ -13,6 +13,7 @@ use Rattle.ft_model.specs.Histories.{EachAt, IsCountedAs, IfEnds, IfInnermost}
 use Rattle.ft_model.specs.Numbers.{begins_of, marks_since}
 use Rattle.ft_trace.specs.declared.Entry.{Entry}
 use Rattle.ft_trace.specs.declared.Owner.{Owner}
+use Rattle.ft_trace.specs.declared.Told.{Told}
 use Rattle.ft_trace.specs.OwnCursors.{plain_entry}
 use Rattle.ft_bank.specs.declared.sections.Taking.{Taking}
 use Rattle.ft_bank.specs.PassSections.{Stack, no_sections, nothing_taken}
@@ -21,7 +22,7 @@ use Rattle.ft_history.proofs.Unbroken.{range_push}
 use Rattle.ft_section.specs.declared.answers.Stamp.{Stamp}
 use Rattle.ft_section.specs.Locking.{TakenUp, marks_more, waiting, with_own}
 use Rattle.ft_bank_history.specs.Marks.{AreMarksFound, HasNamed}
-use Rattle.ft_bank_history.specs.Numbering.{HasNamedEntries}
+use Rattle.ft_bank_history.specs.Numbering.{AreAllTold, HasNamedEntries}
 use Rattle.ft_engine.specs.declared.caller.Flight.{Flight}
 use Rattle.ft_engine.specs.declared.caller.Flight.TheVariants as flight
 use Rattle.ft_engine.specs.Answering.{IsEndOf}
@@ -196,12 +197,13 @@ module _ (thread : ℕ) where
       }
 
   -- when all calls have ended
-  pub kept_of : (entries : List Entry) (s : Stack) (mine : List NamedEntry) (had found : List Owner) → AreThreadEntries thread entries s flight.Idle mine → AreMarksFound found mine → HasNamed thread had mine → HasNamedEntries thread mine entries had found
-  kept_of entries s mine had found k marked named = record {
+  pub kept_of : (entries : List Entry) (s : Stack) (mine : List NamedEntry) (had found : List Owner) (told : List Told) → AreThreadEntries thread entries s flight.Idle mine → AreMarksFound found mine → HasNamed thread had mine → AreAllTold thread entries told → HasNamedEntries thread mine entries had found told
+  kept_of entries s mine had found told k marked named all = record {
     same = sym (ap reverse k.same ∙ reverse-reverse (map plain_entry mine));
     own = k.own;
     indexes = k.indexes;
     counted = k.counted;
     marked = marked;
     named = named;
+    all_told = all;
   }

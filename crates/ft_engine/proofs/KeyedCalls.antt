@@ -19,20 +19,16 @@ use Rattle.ft_trace.specs.declared.Shape.{Shape}
 use Rattle.ft_trace.specs.declared.View.{View}
 use Rattle.ft_section.specs.declared.answers.Look.{Look}
 use Rattle.ft_section.specs.declared.answers.Look.TheVariants as look
-use Rattle.ft_section.specs.declared.answers.Objects.TheVariants.{One, Two}
 use Rattle.ft_section.specs.declared.answers.Step.{Step}
 use Rattle.ft_table_calls.specs.declared.adding.Added.{Added}
 use Rattle.ft_table_calls.specs.declared.adding.Added.TheVariants as added
-use Rattle.ft_table_calls.specs.Adding.{IsTryOf as IsAddTryOf, step_after}
-use Rattle.ft_table_calls.specs.TriesUnderLocks.{IsTry, objects_by}
-use Rattle.ft_table_calls.proofs.TriedCalls.{added_try, made_try, read_try}
-use Rattle.ft_reads.proofs.TriedReads.{clear_try, copy_try}
+use Rattle.ft_table_calls.specs.declared.made.Made.{Made}
+use Rattle.ft_table_calls.specs.TriesUnderLocks.{ComesTo, IsTry, made_after, objects_by}
 use Rattle.ft_search.specs.KeyLooks.{IsLookOf, Stops}
 use Rattle.ft_new_keys.specs.KeyGrowth.{PutsKey}
 use Rattle.ft_dict.specs.DictCopies.{CopiesTo}
 use Rattle.ft_dict.specs.DictMaking.{FitsDict, DictCallMakes, key_of_dict}
-use Rattle.ft_dict.specs.Values.{SetsDefault}
-use Rattle.ft_dict.proofs.DictTries.{default_try}
+use Rattle.ft_dict.specs.Values.{ComesToDefault}
 use Rattle.ft_set.specs.SetMaking.{FitsSet, SetCallMakes, key_of_set}
 use Rattle.ft_merging.specs.Joining.{JoinsBy}
 use Rattle.ft_merging.specs.Parting.{PartsBy}
@@ -40,87 +36,80 @@ use Rattle.ft_replacing.specs.Replacing.{IsReplaced}
 use Rattle.ft_engine.specs.Answering.{IsLooked}
 use Rattle.ft_engine.specs.Asked.{AreOfKindIn, HasKeyIn}
 use Rattle.ft_engine.specs.Contentions.{StopsCall}
-use Rattle.ft_engine.proofs.ContainerCalls.{clear_outcome, copy_outcome}
-use Rattle.ft_engine.proofs.Outcomes.{Comes, Outcome, add_outcome, gave_up_adds, gave_up_owners, loaded_comes, made_outcome, read_outcome}
+use Rattle.ft_engine.proofs.Outcomes.{Comes, Outcome, clear_comes, cleared_comes, copy_comes, loaded_comes, made_comes, read_comes, try_outcome}
 
--- ---- new keys
-
-pub puts_outcome : (k : Shape) (o : ℕ) (key : Key) (called : Call) (said : Reply) (v w : View) (result : Step) → 0 < v.left → IsAddTryOf (One o) (PutsKey k o key called said) said v w result → Outcome called (One o) v w result
-puts_outcome k o key called said v w result left x =
-    add_outcome (One o) (PutsKey k o key called said) called said v w result (λ u z what some y. loaded_comes k _ _ called said u y.0 z what some y.1 y.2) left x
-
-pub default_outcome : (k : Shape) (d : ℕ) (key : Key) (default : Value) (said : Reply) (v w : View) (result : Step) → 0 < v.left → IsAddTryOf (One d) (SetsDefault k d key default said) said v w result → Outcome (call.Dict d (dict.SetDefault key default)) (One d) v w result
-default_outcome k d key default said v w result left x =
-    let called = call.Dict d (dict.SetDefault key default) in
-    add_outcome (One d) (SetsDefault k d key default said) called said v w result (λ u z what some y. loaded_comes k _ _ called said u y.1.0 z what some y.1.1 y.1.2) left x
-
--- ---- calls on two containers that may take a table
-
-pub joins_outcome : (k : Shape) (o t : ℕ) (called : Call) (v w : View) (result : Step) → 0 < v.left → IsAddTryOf (Two o t) (JoinsBy k o t called) reply.Done v w result → Outcome called (Two o t) v w result
-joins_outcome k o t called v w result left x =
-    add_outcome (Two o t) (JoinsBy k o t called) called reply.Done v w result (λ u z what some y. loaded_comes k _ _ called reply.Done u y.0 z what some y.1 y.2) left x
-
-pub parts_outcome : (k : Shape) (s t : ℕ) (called : Call) (v w : View) (result : Step) → 0 < v.left → IsAddTryOf (Two s t) (PartsBy k s t called) reply.Done v w result → Outcome called (Two s t) v w result
-parts_outcome k s t called v w result left x =
-    add_outcome (Two s t) (PartsBy k s t called) called reply.Done v w result (λ u z what some y. loaded_comes k _ _ called reply.Done u y.0 z what some y.1 y.2) left x
-
-replaced_comes : (k : Shape) (takes : Option ℕ) (called : Call) (v w : View) (what : Added) → 0 < v.left → IsReplaced k takes called v w what → Comes called v w (step_after what reply.Done)
-replaced_comes k None called v w (added.Made stamp) left x = (gave_up_adds called reply.Done stamp v x.1.0 w x.0 x.1.1 x.1.2, gave_up_owners called reply.Done stamp.number v x.1.0 w x.1.1 x.1.2)
+replaced_comes : (k : Shape) (takes : Option ℕ) (called : Call) (v w : View) (what : Added) → 0 < v.left → IsReplaced k takes called v w what → Comes called v w (made_after what reply.Done)
+replaced_comes k None called v w (added.Made stamp) left x = cleared_comes called stamp v w x
 replaced_comes k None called v w (added.NoTable class stamp) left x = absurd x
 replaced_comes k None called v w (added.Over stamp) left x = absurd x
 replaced_comes k None called v w (added.Moved a b) left x = absurd x
 replaced_comes k (Some class) called v w what left x = loaded_comes k (Some class) false called reply.Done v x.0 w what left x.1 x.2
 
-pub copies_outcome : (k : Shape) (d e : ℕ) (v w : View) (result : Step) → 0 < v.left → IsAddTryOf (Two d e) (CopiesTo k d e) reply.Done v w result → Outcome (call.Dict d (dict.CopyTo e)) (Two d e) v w result
-copies_outcome k d e v w result left x =
-    let called = call.Dict d (dict.CopyTo e) in
-    add_outcome (Two d e) (CopiesTo k d e) called reply.Done v w result (λ u z what some y. replaced_comes k _ called u z what some y) left x
+-- ---- what each call that makes no cursor comes to
 
--- ---- each call that makes no cursor, as it is made under its locks
+module _ (k : Shape) (o : ℕ) (came : Made) (u z : View) (left : 0 < u.left) where
+  puts : (key : Key) (called : Call) (said : Reply) → ComesTo (PutsKey k o key called said) said came u z → Comes called u z came
+  puts key called said x = subst (Comes called u z) x.1 (loaded_comes k _ _ called said u x.2.0 z x.0 left x.2.1 x.2.2)
 
-module _ (k : Shape) (d : ℕ) (v w : View) (r : Step) (left : 0 < v.left) where
-  pub dict_outcome : (dc : DictCall) → cursor_of_dict dc ≡ None → is_landed_dict dc ≡ true → IsTry (objects_by d (other_dict dc)) (DictCallMakes k d dc) v w r → Outcome (call.Dict d dc) (objects_by d (other_dict dc)) v w r
-  dict_outcome (dict.Get key) none landed x = read_outcome d (call.Dict d (dict.Get key)) v w r left (read_try d (call.Dict d (dict.Get key)) v w r x)
-  dict_outcome (dict.GetOr key default) none landed x = read_outcome d (call.Dict d (dict.GetOr key default)) v w r left (read_try d (call.Dict d (dict.GetOr key default)) v w r x)
-  dict_outcome (dict.Has key) none landed x = read_outcome d (call.Dict d (dict.Has key)) v w r left (read_try d (call.Dict d (dict.Has key)) v w r x)
-  dict_outcome dict.Len none landed x = read_outcome d (call.Dict d dict.Len) v w r left (read_try d (call.Dict d dict.Len) v w r x)
-  dict_outcome (dict.Set key value) none landed x = let called = call.Dict d (dict.Set key value) in puts_outcome k d key called reply.Done v w r left (added_try (One d) (PutsKey k d key called reply.Done) reply.Done v w r x)
-  dict_outcome (dict.SetDefault key default) none landed x = let y = default_try k d key default v w r x in default_outcome k d key default y.0 v w r left y.1
-  dict_outcome (dict.Update e) none landed x = let called = call.Dict d (dict.Update e) in joins_outcome k d e called v w r left (added_try (Two d e) (JoinsBy k d e called) reply.Done v w r x)
-  dict_outcome (dict.CopyTo e) none landed x = copies_outcome k d e v w r left (added_try (Two d e) (CopiesTo k d e) reply.Done v w r x)
-  dict_outcome (dict.Del key) none landed x = made_outcome (One d) (call.Dict d (dict.Del key)) v w r left (made_try (One d) (call.Dict d (dict.Del key)) v w r x)
-  dict_outcome (dict.Pop key) none landed x = made_outcome (One d) (call.Dict d (dict.Pop key)) v w r left (made_try (One d) (call.Dict d (dict.Pop key)) v w r x)
-  dict_outcome (dict.PopOr key default) none landed x = made_outcome (One d) (call.Dict d (dict.PopOr key default)) v w r left (made_try (One d) (call.Dict d (dict.PopOr key default)) v w r x)
-  dict_outcome dict.PopItem none landed x = made_outcome (One d) (call.Dict d dict.PopItem) v w r left (made_try (One d) (call.Dict d dict.PopItem) v w r x)
-  dict_outcome dict.Clear none landed x = clear_outcome d (call.Dict d dict.Clear) v w r (clear_try d (call.Dict d dict.Clear) v w r x)
-  dict_outcome dict.Items none landed x = copy_outcome (One d) (call.Dict d dict.Items) v w r refl left (copy_try (One d) (call.Dict d dict.Items) v w r x)
-  dict_outcome (dict.Eq e) none landed x = made_outcome (Two d e) (call.Dict d (dict.Eq e)) v w r left (made_try (Two d e) (call.Dict d (dict.Eq e)) v w r x)
-  dict_outcome (dict.Iter n) none landed x = absurd cc
-  dict_outcome (dict.KeysAnd e) none landed x = absurd cc
-  dict_outcome (dict.KeysSub e) none landed x = absurd cc
-  dict_outcome (dict.KeysOr e) none landed x = absurd cc
-  dict_outcome (dict.KeysXor e) none landed x = absurd cc
-  dict_outcome (dict.ItemsHas key value) none landed x = absurd cc
-  dict_outcome (dict.Reversed n) none landed x = absurd cc
+  joins : (t : ℕ) (called : Call) → ComesTo (JoinsBy k o t called) reply.Done came u z → Comes called u z came
+  joins t called x = subst (Comes called u z) x.1 (loaded_comes k _ _ called reply.Done u x.2.0 z x.0 left x.2.1 x.2.2)
 
-module _ (k : Shape) (s : ℕ) (v w : View) (r : Step) (left : 0 < v.left) where
-  pub set_outcome : (sc : SetCall) → cursor_of_set sc ≡ None → IsTry (objects_by s (other_set sc)) (SetCallMakes k s sc) v w r → Outcome (call.Set s sc) (objects_by s (other_set sc)) v w r
-  set_outcome (set.Has key) none x = read_outcome s (call.Set s (set.Has key)) v w r left (read_try s (call.Set s (set.Has key)) v w r x)
-  set_outcome set.Len none x = read_outcome s (call.Set s set.Len) v w r left (read_try s (call.Set s set.Len) v w r x)
-  set_outcome (set.Add key) none x = let called = call.Set s (set.Add key) in puts_outcome k s key called reply.Done v w r left (added_try (One s) (PutsKey k s key called reply.Done) reply.Done v w r x)
-  set_outcome (set.Or t) none x = let called = call.Set s (set.Or t) in joins_outcome k s t called v w r left (added_try (Two s t) (JoinsBy k s t called) reply.Done v w r x)
-  set_outcome (set.Xor t) none x = let called = call.Set s (set.Xor t) in parts_outcome k s t called v w r left (added_try (Two s t) (PartsBy k s t called) reply.Done v w r x)
-  set_outcome (set.And t) none x = made_outcome (Two s t) (call.Set s (set.And t)) v w r left (made_try (Two s t) (call.Set s (set.And t)) v w r x)
-  set_outcome (set.Sub t) none x = made_outcome (Two s t) (call.Set s (set.Sub t)) v w r left (made_try (Two s t) (call.Set s (set.Sub t)) v w r x)
-  set_outcome (set.Discard key) none x = made_outcome (One s) (call.Set s (set.Discard key)) v w r left (made_try (One s) (call.Set s (set.Discard key)) v w r x)
-  set_outcome (set.Remove key) none x = made_outcome (One s) (call.Set s (set.Remove key)) v w r left (made_try (One s) (call.Set s (set.Remove key)) v w r x)
-  set_outcome set.Pop none x = made_outcome (One s) (call.Set s set.Pop) v w r left (made_try (One s) (call.Set s set.Pop) v w r x)
-  set_outcome set.Clear none x = clear_outcome s (call.Set s set.Clear) v w r (clear_try s (call.Set s set.Clear) v w r x)
-  set_outcome set.Items none x = copy_outcome (One s) (call.Set s set.Items) v w r refl left (copy_try (One s) (call.Set s set.Items) v w r x)
-  set_outcome (set.Eq t) none x = made_outcome (Two s t) (call.Set s (set.Eq t)) v w r left (made_try (Two s t) (call.Set s (set.Eq t)) v w r x)
-  set_outcome (set.Subset t) none x = made_outcome (Two s t) (call.Set s (set.Subset t)) v w r left (made_try (Two s t) (call.Set s (set.Subset t)) v w r x)
-  set_outcome (set.Disjoint t) none x = made_outcome (Two s t) (call.Set s (set.Disjoint t)) v w r left (made_try (Two s t) (call.Set s (set.Disjoint t)) v w r x)
-  set_outcome (set.Iter n) none x = absurd cc
+  parts : (t : ℕ) (called : Call) → ComesTo (PartsBy k o t called) reply.Done came u z → Comes called u z came
+  parts t called x = subst (Comes called u z) x.1 (loaded_comes k _ _ called reply.Done u x.2.0 z x.0 left x.2.1 x.2.2)
+
+  defaults : (key : Key) (default : Value) → ComesToDefault k o key default came u z → Comes (call.Dict o (dict.SetDefault key default)) u z came
+  defaults key default x = let y = x.1 in puts key (call.Dict o (dict.SetDefault key default)) x.0 (y.0, y.1, y.2.1, y.3)
+
+  copies_to : (e : ℕ) → ComesTo (CopiesTo k o e) reply.Done came u z → Comes (call.Dict o (dict.CopyTo e)) u z came
+  copies_to e x = subst (Comes (call.Dict o (dict.CopyTo e)) u z) x.1 (replaced_comes k _ (call.Dict o (dict.CopyTo e)) u z x.0 left x.2)
+
+  dict_comes : (dc : DictCall) → cursor_of_dict dc ≡ None → is_landed_dict dc ≡ true → DictCallMakes k o dc came u z → Comes (call.Dict o dc) u z came
+  dict_comes (dict.Get key) none landed x = read_comes (call.Dict o (dict.Get key)) u z came left x
+  dict_comes (dict.GetOr key default) none landed x = read_comes (call.Dict o (dict.GetOr key default)) u z came left x
+  dict_comes (dict.Has key) none landed x = read_comes (call.Dict o (dict.Has key)) u z came left x
+  dict_comes dict.Len none landed x = read_comes (call.Dict o dict.Len) u z came left x
+  dict_comes (dict.Set key value) none landed x = puts key (call.Dict o (dict.Set key value)) reply.Done x
+  dict_comes (dict.SetDefault key default) none landed x = defaults key default x
+  dict_comes (dict.Update e) none landed x = joins e (call.Dict o (dict.Update e)) x
+  dict_comes (dict.CopyTo e) none landed x = copies_to e x
+  dict_comes (dict.Del key) none landed x = made_comes (call.Dict o (dict.Del key)) u z came left x
+  dict_comes (dict.Pop key) none landed x = made_comes (call.Dict o (dict.Pop key)) u z came left x
+  dict_comes (dict.PopOr key default) none landed x = made_comes (call.Dict o (dict.PopOr key default)) u z came left x
+  dict_comes dict.PopItem none landed x = made_comes (call.Dict o dict.PopItem) u z came left x
+  dict_comes dict.Clear none landed x = clear_comes (call.Dict o dict.Clear) u z came x
+  dict_comes dict.Items none landed x = copy_comes (call.Dict o dict.Items) u z came refl left x
+  dict_comes (dict.Eq e) none landed x = made_comes (call.Dict o (dict.Eq e)) u z came left x
+  dict_comes (dict.Iter n) none landed x = absurd cc
+  dict_comes (dict.KeysAnd e) none landed x = absurd cc
+  dict_comes (dict.KeysSub e) none landed x = absurd cc
+  dict_comes (dict.KeysOr e) none landed x = absurd cc
+  dict_comes (dict.KeysXor e) none landed x = absurd cc
+  dict_comes (dict.ItemsHas key value) none landed x = absurd cc
+  dict_comes (dict.Reversed n) none landed x = absurd cc
+
+  set_comes : (sc : SetCall) → cursor_of_set sc ≡ None → SetCallMakes k o sc came u z → Comes (call.Set o sc) u z came
+  set_comes (set.Has key) none x = read_comes (call.Set o (set.Has key)) u z came left x
+  set_comes set.Len none x = read_comes (call.Set o set.Len) u z came left x
+  set_comes (set.Add key) none x = puts key (call.Set o (set.Add key)) reply.Done x
+  set_comes (set.Or t) none x = joins t (call.Set o (set.Or t)) x
+  set_comes (set.Xor t) none x = parts t (call.Set o (set.Xor t)) x
+  set_comes (set.And t) none x = made_comes (call.Set o (set.And t)) u z came left x
+  set_comes (set.Sub t) none x = made_comes (call.Set o (set.Sub t)) u z came left x
+  set_comes (set.Discard key) none x = made_comes (call.Set o (set.Discard key)) u z came left x
+  set_comes (set.Remove key) none x = made_comes (call.Set o (set.Remove key)) u z came left x
+  set_comes set.Pop none x = made_comes (call.Set o set.Pop) u z came left x
+  set_comes set.Clear none x = clear_comes (call.Set o set.Clear) u z came x
+  set_comes set.Items none x = copy_comes (call.Set o set.Items) u z came refl left x
+  set_comes (set.Eq t) none x = made_comes (call.Set o (set.Eq t)) u z came left x
+  set_comes (set.Subset t) none x = made_comes (call.Set o (set.Subset t)) u z came left x
+  set_comes (set.Disjoint t) none x = made_comes (call.Set o (set.Disjoint t)) u z came left x
+  set_comes (set.Iter n) none x = absurd cc
+
+pub dict_outcome : (k : Shape) (d : ℕ) (v w : View) (r : Step) → 0 < v.left → (dc : DictCall) → cursor_of_dict dc ≡ None → is_landed_dict dc ≡ true → IsTry (objects_by d (other_dict dc)) (DictCallMakes k d dc) v w r → Outcome (call.Dict d dc) (objects_by d (other_dict dc)) v w r
+dict_outcome k d v w r left dc none landed x = try_outcome (call.Dict d dc) (objects_by d (other_dict dc)) (DictCallMakes k d dc) v w left (λ came u z some y. dict_comes k d came u z some dc none landed y) r x
+
+pub set_outcome : (k : Shape) (s : ℕ) (v w : View) (r : Step) → 0 < v.left → (sc : SetCall) → cursor_of_set sc ≡ None → IsTry (objects_by s (other_set sc)) (SetCallMakes k s sc) v w r → Outcome (call.Set s sc) (objects_by s (other_set sc)) v w r
+set_outcome k s v w r left sc none x = try_outcome (call.Set s sc) (objects_by s (other_set sc)) (SetCallMakes k s sc) v w left (λ came u z some y. set_comes k s came u z some sc none y) r x
 
 -- ---- what the call names
 

@@ -25,3 +25,4 @@ pub mod ReadContents
 pub mod LookCalls
 pub mod AtOnce
 pub mod SoFar
+pub mod AwaitCalls

@@ -1,5 +1,5 @@
 -- What the tries of calls on containers come to, in the words that all calls share.
-use Rattle.std.proofs.Common.{◌≡◌, ◌≤◌, ◌<◌, ◌+◌, ◌-◌, ℕ, zero, suc, Bool, true, false, true≢false, List, ◌∷◌, refl, sym, ap, ◌∙◌, subst, arith, ⊎_elim, le_trans}
+use Rattle.std.proofs.Common.{◌≡◌, ◌≤◌, ◌<◌, ◌+◌, ◌-◌, ℕ, zero, suc, Bool, true, false, true≢false, List, ◌∷◌, refl, sym, ap, ◌∙◌, subst, arith, ⊎_elim, inr, le_trans}
 use Rattle.std.specs.Prelude.{Option, Some, None}
 use Rattle.ft_model.specs.declared.call.Call.{Call}
 use Rattle.ft_model.specs.declared.reply.Raise.TheVariants as raise
@@ -18,23 +18,27 @@ use Rattle.ft_trace.proofs.Owning.{owners_then}
 use Rattle.ft_bank.specs.declared.takings.Took.{Took}
 use Rattle.ft_bank.specs.declared.takings.Took.TheVariants as took
 use Rattle.ft_bank.specs.Answered.{Answered}
+use Rattle.ft_bank.specs.Logs.{HasGrown}
 use Rattle.ft_bank.specs.Whole.{OnlyLoaded, SamePass, Wrote}
 use Rattle.ft_section.specs.declared.answers.Objects.{Objects}
-use Rattle.ft_section.specs.declared.answers.Objects.TheVariants.{One}
 use Rattle.ft_section.specs.declared.answers.Stamp.{Stamp}
 use Rattle.ft_section.specs.declared.answers.Step.{Step}
 use Rattle.ft_section.specs.declared.answers.Step.TheVariants as step
 use Rattle.ft_section.specs.Locking.{FoundOwner, LocksWithin, OnlyLocked}
 use Rattle.ft_section.specs.LockTakings.{IsOf}
-use Rattle.ft_search.specs.MadeCalls.{IsMadeOf, MadeAs, MadeUnderLocks}
-use Rattle.ft_search.specs.Tries.{IsReadOf}
+use Rattle.ft_search.specs.MadeCalls.{MadeAs}
 use Rattle.ft_table_calls.specs.declared.adding.Added.{Added}
 use Rattle.ft_table_calls.specs.declared.adding.Added.TheVariants as added
-use Rattle.ft_table_calls.specs.Adding.{GaveUp, IsAdded, Retires, TriedTaking, IsTryOf, WroteWith, step_after}
+use Rattle.ft_table_calls.specs.declared.made.Made.{Made}
+use Rattle.ft_table_calls.specs.declared.made.Made.TheVariants as made
+use Rattle.ft_table_calls.specs.Adding.{GaveUp, IsAdded, Retires, TriedTaking, WroteWith}
+use Rattle.ft_table_calls.specs.TriesUnderLocks.{IsMade, IsRead, IsTry, UnderLocks, made_after}
+use Rattle.ft_reads.specs.Clears.{IsClear, IsCleared}
+use Rattle.ft_reads.specs.Copies.{IsCopy}
 use Rattle.ft_engine.specs.Answering.{MakesEntry, MakesNoEntry, FoundWordsChanged, StaysPass, copies}
 use Rattle.ft_engine.specs.Keeping.{made_entry}
 use Rattle.ft_engine.proofs.Within.{HasWithin, answered_owners, loaded_owners, made_owners, retired_owners, tried_owners, within_then, wrote_owners}
-use Rattle.ft_engine.proofs.SectionCalls.{answer_stays, nothing_entry, nothing_then, only_nothing, same_nothing}
+use Rattle.ft_engine.proofs.SectionCalls.{answer_stays, loaded_in, nothing_entry, nothing_then, only_nothing, same_nothing}
 
 -- what a try comes to, but for the sections
 abbrev pub Outcome : Call → Objects → View → View → Step → Type 0
@@ -46,7 +50,7 @@ Outcome called objects v w step.NoMemory = MakesNoEntry v w × HasWithin objects
 -- ---- parts of calls
 
 stays_same : (v w : View) → SamePass v w → StaysPass v w
-stays_same v w p = record { number = p.number; next = p.next; parts = p.parts; shape = p.shape; lists = p.lists; online = λ on. subst (λ (n : ℕ). 0 < n) (sym p.announced) on; floor = p.floor; since = p.since; seen = p.seen }
+stays_same v w p = record { number = p.number; next = p.next; parts = p.parts; shape = p.shape; lists = p.lists; online = λ on. subst (λ (n : ℕ). 0 < n) (sym p.announced) on; floor = p.floor; since = p.since; seen = p.seen; grown = p.grown }
 
 pub loaded_nothing : (v w : View) → OnlyLoaded v w → MakesNoEntry v w
 loaded_nothing v w l = record { pass = stays_same v w l.work.pass; entries = l.work.entries; left = l.work.left; cursors = l.work.pass.cursors }
@@ -80,6 +84,7 @@ answered_adds called said stamp v w is left x =
         floor = ap (λ (z : View). z.has_floor) x.answered ∙ l.pass.floor;
         since = ap (λ (z : View). at_floor z.log) x.answered ∙ l.pass.since;
         seen = subst (λ (z : View). seen_writes v ≤ seen_writes z) (sym x.answered) (le_trans l.pass.seen (seen_up (Answer called said stamp.number) u));
+        grown = subst (λ (z : View). HasGrown v z) (sym x.answered) (λ old was. inr (l.pass.grown old was));
       };
       entries = ap (λ (z : View). z.entries) x.answered ∙ (ap (λ (e : Entry). e ∷ u.entries) (entry_as called said stamp false is) ∙ ap (λ (es : List Entry). made_entry called said stamp ∷ es) l.entries);
       left =
@@ -87,7 +92,7 @@ answered_adds called said stamp v w is left x =
           let b = l.left in
           let e : v.left ≡ suc w.left = omega (arith, a, b, left) in e;
       seen = x.seen;
-      loaded = λ _. record { start = v; earlier = (same_nothing v).pass; part = x.part; before = u; own = x.own; loaded = x.counted; later = subst (StaysPass u) (sym x.answered) (answer_stays called said stamp.number u) };
+      loaded = λ _. loaded_in stamp.number v v u w (same_nothing v).pass (record { part = x.part; own = x.own; loaded = x.counted }) (subst (StaysPass u) (sym x.answered) (answer_stays called said stamp.number u));
       shows = λ wrote. absurd (true≢false (sym wrote ∙ is));
       cursors = λ number other. ap (λ (z : View). cursor_in number z.log) x.answered ∙ l.pass.cursors number;
     }
@@ -95,33 +100,6 @@ answered_adds called said stamp v w is left x =
 made_adds : (called : Call) (said : Reply) (stamp : Stamp) (v w : View) → 0 < v.left → MadeAs called said stamp v w → MakesEntry called said stamp v w
 made_adds called said stamp v w left m =
     ⊎_elim (λ x. wrote_entry called said stamp v w x.0 x.1) (λ x. answered_adds called said stamp v w x.0 left x.1) m.made
-
--- under locks
-pub locked_entry : (objects : Objects) (called : Call) (said : Reply) (stamp : Stamp) (u v w z : View) → OnlyLocked u v → LocksWithin objects u v → MakesEntry called said stamp v w → SameOwners v w → OnlyLocked w z → SameOwners w z → MakesEntry called said stamp u z × HasWithin objects u z
-locked_entry objects called said stamp u v w z took within made did gone owners =
-    (nothing_entry called said stamp u v w z (only_nothing u v took) made.seen made (only_nothing w z gone), within_then objects u v w z took within made.pass.number did gone owners)
-
-some_left : (v w : View) → OnlyLocked v w → 0 < v.left → 0 < w.left
-some_left v w only left = subst (λ (n : ℕ). 0 < n) (sym only.left) left
-
-pub under_locks : (objects : Objects) (called : Call) (said : Reply) (stamp : Stamp) (v w : View) → 0 < v.left → MadeUnderLocks objects called said stamp v w → MakesEntry called said stamp v w × HasWithin objects v w
-under_locks objects called said stamp v w left m =
-    locked_entry objects called said stamp v m.before m.after w m.took m.within (made_adds called said stamp m.before m.after (some_left v m.before m.took left) m.made) (made_owners called said stamp m.before m.after m.made) m.gone m.owners
-
--- ---- calls that take no table
-
-pub made_outcome : (objects : Objects) (called : Call) (v w : View) (result : Step) → 0 < v.left → IsMadeOf objects called v w result → Outcome called objects v w result
-made_outcome objects called v w (step.Done said stamp) left m = under_locks objects called said stamp v w left m
-made_outcome objects called v w (step.NotYet o owner) left m = m
-made_outcome objects called v w (step.Moved a b) left m = absurd m
-made_outcome objects called v w step.NoMemory left m = absurd m
-
-pub read_outcome : (o : ℕ) (called : Call) (v w : View) (result : Step) → 0 < v.left → IsReadOf o called v w result → Outcome called (One o) v w result
-read_outcome o called v w (step.Done said stamp) left m =
-    locked_entry (One o) called said stamp v m.0.before m.0.after w m.0.took m.0.within (answered_adds called said stamp m.0.before m.0.after m.1 (some_left v m.0.before m.0.took left) m.0.answered) (answered_owners called said stamp.number m.0.before m.0.after m.0.answered) m.0.gone m.0.owners
-read_outcome o called v w (step.NotYet p owner) left m = m
-read_outcome o called v w (step.Moved a b) left m = absurd m
-read_outcome o called v w step.NoMemory left m = absurd m
 
 -- ---- calls that may take a table
 
@@ -157,18 +135,18 @@ moved_then a b u v w z first m last = record {
 }
 
 pub retired_nothing : (root : ℕ) (v w : View) → Retires root v w → MakesNoEntry v w
-retired_nothing zero v w is = subst (MakesNoEntry v) (sym is) (record { pass = record { number = refl; next = refl; parts = refl; shape = refl; lists = refl; online = λ on. on; floor = refl; since = refl; seen = omega arith }; entries = refl; left = refl; cursors = λ n. refl })
+retired_nothing zero v w is = subst (MakesNoEntry v) (sym is) (record { pass = record { number = refl; next = refl; parts = refl; shape = refl; lists = refl; online = λ on. on; floor = refl; since = refl; seen = omega arith; grown = λ old was. was }; entries = refl; left = refl; cursors = λ n. refl })
 retired_nothing (suc t) v w (n, is) =
     subst (MakesNoEntry v) (sym is)
     (record {
-      pass = record { number = refl; next = refl; parts = refl; shape = refl; lists = refl; online = λ on. on; floor = refl; since = refl; seen = le_trans (seen_up (Retire t n) v) (seen_up (PutHeader t (n + 1)) (view_after (Retire t n) v)) };
+      pass = record { number = refl; next = refl; parts = refl; shape = refl; lists = refl; online = λ on. on; floor = refl; since = refl; seen = le_trans (seen_up (Retire t n) v) (seen_up (PutHeader t (n + 1)) (view_after (Retire t n) v)); grown = λ old was. inr (inr was) };
       entries = refl;
       left = refl;
       cursors = λ number. refl;
     })
 
 pub before_adds : (called : Call) (said : Reply) (stamp : Stamp) (u v w : View) → MakesNoEntry u v → MakesEntry called said stamp v w → MakesEntry called said stamp u w
-before_adds called said stamp u v w before made = nothing_entry called said stamp u v w w before made.seen made (same_nothing w)
+before_adds called said stamp u v w before adds = nothing_entry called said stamp u v w w before adds.seen adds (same_nothing w)
 
 -- a write after steps that add nothing, and before such
 write_adds : (called : Call) (said : Reply) (stamp : Stamp) (u v w z : View) → stamp.wrote ≡ true → MakesNoEntry u v → Wrote called said stamp.number v w → MakesNoEntry w z → MakesEntry called said stamp u z
@@ -185,57 +163,84 @@ with_owners k (Some class) called said n v w x =
     owners_then v x.taken w (tried_owners k class (took.Taken x.table) v x.taken x.tried)
     (owners_then x.taken x.done w (wrote_owners called said n x.taken x.done x.wrote) (retired_owners _ x.done w x.retired))
 
--- what a call under its locks comes to
-abbrev pub Comes : Call → View → View → Step → Type 0
-Comes called v w (step.Done said stamp) = MakesEntry called said stamp v w × SameOwners v w
-Comes called v w (step.NotYet o owner) = ⊥
-Comes called v w (step.Moved a b) = MakesNoEntry v w × SameOwners v w × FoundWordsChanged a b v w
-Comes called v w step.NoMemory = ⊥
+-- ---- what calls come to under their locks
 
-added_comes : (k : Shape) (takes : Option ℕ) (over : Bool) (called : Call) (said : Reply) (v w : View) (what : Added) → 0 < v.left → IsAdded k takes over called said v w what → Comes called v w (step_after what said)
+abbrev pub Comes : Call → View → View → Made → Type 0
+Comes called v w (made.Done said stamp) = MakesEntry called said stamp v w × SameOwners v w
+Comes called v w (made.Moved a b) = MakesNoEntry v w × SameOwners v w × FoundWordsChanged a b v w
+Comes called v w made.NoMemory = MakesNoEntry v w × SameOwners v w × (copies called ≡ true)
+
+pub read_comes : (called : Call) (v w : View) (came : Made) → 0 < v.left → IsRead called came v w → Comes called v w came
+read_comes called v w (made.Done said stamp) left x = (answered_adds called said stamp v w x.1 left x.0, answered_owners called said stamp.number v w x.0)
+read_comes called v w (made.Moved a b) left x = absurd x
+read_comes called v w made.NoMemory left x = absurd x
+
+pub made_comes : (called : Call) (v w : View) (came : Made) → 0 < v.left → IsMade called came v w → Comes called v w came
+made_comes called v w (made.Done said stamp) left x = (made_adds called said stamp v w left x, made_owners called said stamp v w x)
+made_comes called v w (made.Moved a b) left x = absurd x
+made_comes called v w made.NoMemory left x = absurd x
+
+pub copy_comes : (called : Call) (v w : View) (came : Made) → copies called ≡ true → 0 < v.left → IsCopy called came v w → Comes called v w came
+copy_comes called v w (made.Done said stamp) copying left x = made_comes called v w (made.Done said stamp) left x
+copy_comes called v w (made.Moved a b) copying left x = absurd x
+copy_comes called v w made.NoMemory copying left x = (loaded_nothing v w x.0, loaded_owners v w x.0, copying)
+
+added_comes : (k : Shape) (takes : Option ℕ) (over : Bool) (called : Call) (said : Reply) (v w : View) (what : Added) → 0 < v.left → IsAdded k takes over called said v w what → Comes called v w (made_after what said)
 added_comes k takes over called said v w (added.Made stamp) left x = (with_adds k takes called said stamp v w x.1 x.2, with_owners k takes called said stamp.number v w x.2)
 added_comes k takes over called said v w (added.NoTable class stamp) left x =
     let n = tried_nothing k class took.AllTaken v x.3.0 x.3.1 in
-    let made = answered_adds called (reply.Raised (raise.Memory class)) stamp x.3.0 w x.1 (subst (λ (z : ℕ). 0 < z) (sym n.left) left) x.3.2 in
-    (before_adds called (reply.Raised (raise.Memory class)) stamp v x.3.0 w n made, owners_then v x.3.0 w (tried_owners k class took.AllTaken v x.3.0 x.3.1) (answered_owners called (reply.Raised (raise.Memory class)) stamp.number x.3.0 w x.3.2))
+    let adds = answered_adds called (reply.Raised (raise.Memory class)) stamp x.3.0 w x.1 (subst (λ (z : ℕ). 0 < z) (sym n.left) left) x.3.2 in
+    (before_adds called (reply.Raised (raise.Memory class)) stamp v x.3.0 w n adds, owners_then v x.3.0 w (tried_owners k class took.AllTaken v x.3.0 x.3.1) (answered_owners called (reply.Raised (raise.Memory class)) stamp.number x.3.0 w x.3.2))
 added_comes k takes over called said v w (added.Over stamp) left x = (answered_adds called (reply.Raised raise.Over) stamp v w x.1 left x.2, answered_owners called (reply.Raised raise.Over) stamp.number v w x.2)
 added_comes k takes over called said v w (added.Moved a b) left x = (tried_nothing k x.1.0 (took.Moved a b) v w x.1.2, tried_owners k x.1.0 (took.Moved a b) v w x.1.2, moved_by k x.1.0 a b v w x.1.2)
 
--- the same under locks
-locked_comes : (called : Call) (objects : Objects) (u v w z : View) (result : Step) → OnlyLocked u v → LocksWithin objects u v → Comes called v w result → OnlyLocked w z → SameOwners w z → Outcome called objects u z result
-locked_comes called objects u v w z (step.Done said stamp) took within comes gone owners = locked_entry objects called said stamp u v w z took within comes.0 comes.1 gone owners
-locked_comes called objects u v w z (step.NotYet o owner) took within comes gone owners = absurd comes
-locked_comes called objects u v w z (step.Moved a b) took within comes gone owners =
-    (nothing_then u v z (only_nothing u v took) (nothing_then v w z comes.0 (only_nothing w z gone)), within_then objects u v w z took within comes.0.pass.number comes.1 gone owners, moved_then a b u v w z (only_nothing u v took) comes.2 (only_nothing w z gone))
-locked_comes called objects u v w z step.NoMemory took within comes gone owners = absurd comes
-
--- a call that adds
-pub add_outcome : (objects : Objects) (F : View → View → Added → Type 0) (called : Call) (said : Reply) (v w : View) (result : Step) → ((u z : View) (what : Added) → 0 < u.left → F u z what → Comes called u z (step_after what said)) → 0 < v.left → IsTryOf objects F said v w result → Outcome called objects v w result
-add_outcome objects F called said v w (step.NotYet o owner) each left x = x
-add_outcome objects F called said v w step.NoMemory each left x = absurd x
-add_outcome objects F called said v w (step.Done r s) each left x =
-    let l = x.2 in
-    subst (Outcome called objects v w) x.1 (locked_comes called objects v l.before l.after w (step_after x.0 said) l.took l.within (each l.before l.after x.0 (some_left v l.before l.took left) l.did) l.gone l.owners)
-add_outcome objects F called said v w (step.Moved a b) each left x =
-    let l = x.2 in
-    subst (Outcome called objects v w) x.1 (locked_comes called objects v l.before l.after w (step_after x.0 said) l.took l.within (each l.before l.after x.0 (some_left v l.before l.took left) l.did) l.gone l.owners)
-
 -- after loads
-pub loaded_comes : (k : Shape) (takes : Option ℕ) (over : Bool) (called : Call) (said : Reply) (v u w : View) (what : Added) → 0 < v.left → OnlyLoaded v u → IsAdded k takes over called said u w what → Comes called v w (step_after what said)
+pub loaded_comes : (k : Shape) (takes : Option ℕ) (over : Bool) (called : Call) (said : Reply) (v u w : View) (what : Added) → 0 < v.left → OnlyLoaded v u → IsAdded k takes over called said u w what → Comes called v w (made_after what said)
 loaded_comes k takes over called said v u w what left l x =
     let n = loaded_nothing v u l in
-    after (step_after what said) n (added_comes k takes over called said u w what (subst (λ (z : ℕ). 0 < z) (sym n.left) left) x)
+    after (made_after what said) n (added_comes k takes over called said u w what (subst (λ (z : ℕ). 0 < z) (sym n.left) left) x)
   where
-    after : (result : Step) → MakesNoEntry v u → Comes called u w result → Comes called v w result
-    after (step.Done r s) n comes = (before_adds called r s v u w n comes.0, owners_then v u w (loaded_owners v u l) comes.1)
-    after (step.NotYet o owner) n comes = comes
-    after (step.Moved a b) n comes = (nothing_then v u w n comes.0, owners_then v u w (loaded_owners v u l) comes.1, moved_then a b v u w w n comes.2 (same_nothing w))
-    after step.NoMemory n comes = comes
+    after : (came : Made) → MakesNoEntry v u → Comes called u w came → Comes called v w came
+    after (made.Done r s) n comes = (before_adds called r s v u w n comes.0, owners_then v u w (loaded_owners v u l) comes.1)
+    after (made.Moved a b) n comes = (nothing_then v u w n comes.0, owners_then v u w (loaded_owners v u l) comes.1, moved_then a b v u w w n comes.2 (same_nothing w))
+    after made.NoMemory n comes = (nothing_then v u w n comes.0, owners_then v u w (loaded_owners v u l) comes.1, comes.2)
 
 -- a clear
-pub gave_up_adds : (called : Call) (said : Reply) (stamp : Stamp) (v u w : View) → stamp.wrote ≡ true → OnlyLoaded v u → GaveUp called said stamp.number u w → MakesEntry called said stamp v w
+gave_up_adds : (called : Call) (said : Reply) (stamp : Stamp) (v u w : View) → stamp.wrote ≡ true → OnlyLoaded v u → GaveUp called said stamp.number u w → MakesEntry called said stamp v w
 gave_up_adds called said stamp v u w is l x = write_adds called said stamp v u x.done w is (loaded_nothing v u l) x.wrote (retired_nothing _ x.done w x.retired)
 
-pub gave_up_owners : (called : Call) (said : Reply) (n : ℕ) (v u w : View) → OnlyLoaded v u → GaveUp called said n u w → SameOwners v w
+gave_up_owners : (called : Call) (said : Reply) (n : ℕ) (v u w : View) → OnlyLoaded v u → GaveUp called said n u w → SameOwners v w
 gave_up_owners called said n v u w l x =
     owners_then v u w (loaded_owners v u l) (owners_then u x.done w (wrote_owners called said n u x.done x.wrote) (retired_owners _ x.done w x.retired))
+
+pub cleared_comes : (called : Call) (stamp : Stamp) (v w : View) → IsCleared called stamp v w → Comes called v w (made.Done reply.Done stamp)
+cleared_comes called stamp v w x = (gave_up_adds called reply.Done stamp v x.1.0 w x.0 x.1.1 x.1.2, gave_up_owners called reply.Done stamp.number v x.1.0 w x.1.1 x.1.2)
+
+pub clear_comes : (called : Call) (v w : View) (came : Made) → IsClear called came v w → Comes called v w came
+clear_comes called v w (made.Done said stamp) x = subst (λ (r : Reply). Comes called v w (made.Done r stamp)) (sym x.0) (cleared_comes called stamp v w x.1)
+clear_comes called v w (made.Moved a b) x = absurd x
+clear_comes called v w made.NoMemory x = absurd x
+
+-- ---- their tries
+
+module _ (called : Call) (objects : Objects) (F : Made → View → View → Type 0) (v w : View) (left : 0 < v.left) (each : (came : Made) (u z : View) → 0 < u.left → F came u z → Comes called u z came) where
+  came_to : (came : Made) (x : UnderLocks objects (F came) v w) → Comes called x.before x.after came
+  came_to came x = each came x.before x.after (subst (λ (n : ℕ). 0 < n) (sym x.took.left) left) x.did
+
+  within : (came : Made) (x : UnderLocks objects (F came) v w) → x.after.number ≡ x.before.number → SameOwners x.before x.after → HasWithin objects v w
+  within came x number owners = within_then objects v x.before x.after w x.took x.within number owners x.gone x.owners
+
+  nothing : (came : Made) (x : UnderLocks objects (F came) v w) → MakesNoEntry x.before x.after → MakesNoEntry v w
+  nothing came x none = nothing_then v x.before w (only_nothing v x.before x.took) (nothing_then x.before x.after w none (only_nothing x.after w x.gone))
+
+  pub try_outcome : (result : Step) → IsTry objects F v w result → Outcome called objects v w result
+  try_outcome (step.Done said stamp) x =
+      let came = made.Done said stamp in
+      let c = came_to came x in
+      (nothing_entry called said stamp v x.before x.after w (only_nothing v x.before x.took) c.0.seen c.0 (only_nothing x.after w x.gone), within came x c.0.pass.number c.1)
+  try_outcome (step.NotYet o owner) x = x
+  try_outcome (step.Moved a b) x =
+      let came = made.Moved a b in
+      let c = came_to came x in
+      (nothing came x c.0, within came x c.0.pass.number c.1, moved_then a b v x.before x.after w (only_nothing v x.before x.took) c.2 (only_nothing x.after w x.gone))
+  try_outcome step.NoMemory x = let c = came_to made.NoMemory x in (nothing made.NoMemory x c.0, within made.NoMemory x c.0.pass.number c.1, c.2)

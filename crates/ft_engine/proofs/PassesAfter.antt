@@ -4,6 +4,7 @@ use Rattle.std.specs.Prelude.{List, Option, max}
 use Rattle.std.proofs.Math.Nat.{le-max_left, le-max_right, max-le}
 use Rattle.ft_trace.specs.declared.Act.TheVariants.{Announce, ReadCounter, WriteNumber}
 use Rattle.ft_trace.specs.declared.Shape.{Shape}
+use Rattle.ft_trace.specs.declared.Told.{Told}
 use Rattle.ft_trace.specs.declared.View.{View}
 use Rattle.ft_trace.specs.Acts.{both, hands_over, has_lock, is_handed, view_after, seen_writes, shown, stage}
 use Rattle.ft_trace.specs.Addresses.{container_count}
@@ -18,9 +19,11 @@ use Rattle.ft_trace.proofs.Owning.{owners_then}
 use Rattle.ft_trace.proofs.Seeing.{seen_up}
 use Rattle.ft_bank.specs.declared.bank.Bank.{Bank}
 use Rattle.ft_bank.specs.declared.pass.Pass.{Pass}
+use Rattle.ft_bank.specs.Logs.{HasGrown}
 use Rattle.ft_bank.specs.Notes.{knowing}
 use Rattle.ft_bank.specs.Passes.{view, IsPassOf}
 use Rattle.ft_bank.specs.PassSections.{Stack, stack_of}
+use Rattle.ft_bank.proofs.Logs.{noted_grown}
 use Rattle.ft_qsbr.specs.Collecting.{Collected, StaysOrGoes, loads_of}
 use Rattle.ft_qsbr.proofs.PassesStay.{begun_stays, collection_leaves, cursors_stay, floor_stays, given_or_kept, owners_stay, seen_stays, since_stays}
 use Rattle.ft_model.specs.declared.cursor.Cursor.{Cursor}
@@ -64,6 +67,7 @@ pub record IsCalm (v w : View) : Type 0 where
   pub since : at_floor w.log ≡ at_floor v.log
   pub owners : SameOwners v w
   pub seen : seen_writes v ≤ seen_writes w
+  pub grown : HasGrown v w
   pub still : IsStill w
 
 pub calm_steady : (v w : View) → IsCalm v w → IsSteady v w
@@ -127,6 +131,7 @@ calm_then u v w a b = record {
   since = b.since ∙ a.since;
   owners = owners_then u v w a.owners b.owners;
   seen = le_trans a.seen b.seen;
+  grown = λ old was. b.grown old (a.grown old was);
   still = b.still;
 }
 
@@ -156,6 +161,7 @@ counted_calm v n s = record {
   since = refl;
   owners = record { had = refl; found = refl };
   seen = seen_up (ReadCounter n) v;
+  grown = λ old was. inr was;
   still = record { even = s.even; hands = s.hands; used = s.used; owes = s.owes; flight = s.flight; stands = s.stands };
 }
 
@@ -175,6 +181,7 @@ offline_calm v m s = record {
   since = refl;
   owners = record { had = refl; found = refl };
   seen = seen_up (Announce m 0) v;
+  grown = λ old was. inr was;
   still = record { even = s.even; hands = s.hands; used = s.used; owes = s.owes; flight = s.flight; stands = s.stands };
 }
 
@@ -197,6 +204,7 @@ collected_calm v w freed s x =
       since = ap (λ (u : View). at_floor u.log) x.did ∙ since_stays (x.acts ++ loads_of x.numbers) v leaves;
       owners = subst (SameOwners v) (sym x.did) (owners_stay (x.acts ++ loads_of x.numbers) v leaves);
       seen = subst (λ (u : View). seen_writes v ≤ seen_writes u) (sym x.did) (seen_stays (x.acts ++ loads_of x.numbers) v);
+      grown = noted_grown (x.acts ++ loads_of x.numbers) v w x.did;
       still = record {
         even = λ o. keeps.writes o ∙ s.even o;
         hands = λ t.
@@ -227,12 +235,13 @@ same_calm v s = record {
   since = refl;
   owners = record { had = refl; found = refl };
   seen = le_refl (seen_writes v);
+  grown = λ old was. was;
   still = s;
 }
 
 -- it has learnt a note
-pub learnt_calm : (v : View) (m n : ℕ) → IsStill v → IsCalm v (view_after (ReadCounter n) (knowing m v))
-learnt_calm v m n s = record {
+pub learnt_calm : (v : View) (m n : ℕ) (told : List Told) → IsStill v → IsCalm v (view_after (ReadCounter n) (knowing m told v))
+learnt_calm v m n told s = record {
   number = refl;
   next = refl;
   parts = refl;
@@ -246,7 +255,8 @@ learnt_calm v m n s = record {
   floor = refl;
   since = refl;
   owners = record { had = refl; found = refl };
-  seen = le_trans (max-le (le_trans (le-max_left v.learnt m) (le-max_left (max v.learnt m) (shown v.log))) (le-max_right (max v.learnt m) (shown v.log))) (seen_up (ReadCounter n) (knowing m v));
+  seen = le_trans (max-le (le_trans (le-max_left v.learnt m) (le-max_left (max v.learnt m) (shown v.log))) (le-max_right (max v.learnt m) (shown v.log))) (seen_up (ReadCounter n) (knowing m told v));
+  grown = λ old was. inr (inr was);
   still = record { even = s.even; hands = s.hands; used = s.used; owes = s.owes; flight = s.flight; stands = s.stands };
 }
 
@@ -288,6 +298,7 @@ enters_calm v n m s = record {
   since = refl;
   owners = record { had = refl; found = refl };
   seen = le_trans (seen_up (WriteNumber n) v) (seen_up (Announce m n) (view_after (WriteNumber n) v));
+  grown = λ old was. inr (inr was);
   still = record { even = s.even; hands = s.hands; used = s.used; owes = s.owes; flight = s.flight; stands = s.stands };
 }
 

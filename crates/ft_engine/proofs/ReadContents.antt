@@ -24,12 +24,13 @@ use Rattle.ft_keys.specs.declared.walk.Way.{Way}
 use Rattle.ft_keys.specs.declared.walk.Way.TheVariants as way
 use Rattle.ft_layout.specs.Containers.{StandsAs}
 use Rattle.ft_trace.specs.declared.Act.{Act}
-use Rattle.ft_trace.specs.declared.Act.TheVariants.{ReadBlock, ReadRoot, ReadTable}
+use Rattle.ft_trace.specs.declared.Act.TheVariants.{ReadBlock, ReadCounter, ReadRoot, ReadTable, Version}
 use Rattle.ft_trace.specs.declared.Entry.{Entry}
 use Rattle.ft_trace.specs.declared.Owner.{Owner}
+use Rattle.ft_trace.specs.declared.Told.{Told}
 use Rattle.ft_trace.specs.declared.Shape.{Shape}
 use Rattle.ft_trace.specs.declared.View.{View}
-use Rattle.ft_trace.specs.Acts.{floor_words, place, Reports}
+use Rattle.ft_trace.specs.Acts.{floor_words, place, told_in, Reports}
 use Rattle.ft_trace.specs.Addresses.{at, container_count}
 use Rattle.ft_trace.specs.ContainerStates.{kind_in}
 use Rattle.ft_trace.specs.LoggedReads.{Agrees, Among}
@@ -48,6 +49,7 @@ use Rattle.ft_search.specs.Floors.{LooksWithFloor}
 use Rattle.ft_search.specs.Rounds.{kind_by}
 use Rattle.ft_search.proofs.ReadMidst.{still_loaded}
 use Rattle.ft_search.proofs.Rounding.{looks_append, looks_load}
+use Rattle.ft_search.specs.KeyLooks.{AreLooks}
 use Rattle.ft_search.proofs.Running.{did_log, did_none, did_trans}
 use Rattle.ft_search.proofs.Undisturbed.{among_found}
 use Rattle.ft_list.specs.Scans.{IsOfItems}
@@ -190,13 +192,23 @@ loaded_steady v w l s = record {
   still = still_loaded v w l s;
 }
 
+-- loads tell it nothing
+looks_told : (l rest : List Act) → AreLooks l → told_in (l ++ rest) ≡ told_in rest
+looks_told [] rest q = refl
+looks_told (Version o f ∷ l) rest q = looks_told l rest q
+looks_told (ReadBlock o i f ∷ l) rest q = looks_told l rest q
+looks_told (ReadRoot o f ∷ l) rest q = looks_told l rest q
+looks_told (ReadTable t i f ∷ l) rest q = looks_told l rest q
+looks_told (ReadCounter f ∷ l) rest q = looks_told l rest q
+looks_told (act ∷ l) rest q = absurd q
+
 -- the lists of a caller and of those that it took in, where its pass has done nothing that they speak of
-pub steady_all : (c d : Caller) (lists : List (List NamedEntry)) → IsSteady (view c.pass) (view d.pass) → stack_of d.pass ≡ stack_of c.pass → d.flight ≡ c.flight → WereAnswered c lists → WereAnswered d lists
-steady_all c d [] steady stack flies are = absurd are
-steady_all c d (mine ∷ others) steady stack flies are = (
+pub steady_all : (c d : Caller) (lists : List (List NamedEntry)) → IsSteady (view c.pass) (view d.pass) → stack_of d.pass ≡ stack_of c.pass → d.flight ≡ c.flight → told_in (view d.pass).log ≡ told_in (view c.pass).log → WereAnswered c lists → WereAnswered d lists
+steady_all c d [] steady stack flies told are = absurd are
+steady_all c d (mine ∷ others) steady stack flies told are = (
   steady_kept c d mine steady stack flies are.0,
-  subst (λ (x : ℕ × List (List Entry) × List Owner × List Owner). HaveNamedEntries (suc (x.0 - 1)) others x.1 x.2 x.3)
-      (λ d. (sym steady.number d, sym steady.lists d, sym steady.owners.had d, sym steady.owners.found d)) are.1,
+  subst (λ (x : ℕ × List (List Entry) × List Owner × List Owner × List Told). HaveNamedEntries (suc (x.0 - 1)) others x.1 x.2 x.3 x.4)
+      (λ d. (sym steady.number d, sym steady.lists d, sym steady.owners.had d, sym steady.owners.found d, sym told d)) are.1,
 )
 
 -- who has taken in all others and has the floor
@@ -220,7 +232,7 @@ module _ (e : Engine) (c : Caller) (q : Pass) (all : List Shown) (is : IsCallerO
   only_read = record {
     same = as_before c now (same_but_pass c q) r.2.2 read_steady only_loaded.work.pass.announced;
     floor = record { floor = only_loaded.work.pass.floor; since = only_loaded.work.pass.since };
-    kept = λ lists. steady_all c now lists read_steady r.2.2 refl;
+    kept = λ lists. steady_all c now lists read_steady r.2.2 refl (ap told_in (did_log r.0 c.pass q r.2) ∙ looks_told r.0 (view c.pass).log r.1);
   }
 
   looks_now : HasFloor c → LooksWithFloor (view q) r.0

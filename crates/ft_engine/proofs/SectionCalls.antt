@@ -1,5 +1,5 @@
 -- What `begin`, `end` and `quiesce` come to, as their pass has it.
-use Rattle.std.proofs.Common.{◌≡◌, ◌≤◌, ◌<◌, ◌-◌, ℕ, zero, suc, Bool, true, false, true≢false, List, [], ◌∷◌, ◌++◌, map, reverse, length, drop, refl, sym, ap, ◌∙◌, subst, arith, inl, inr, le_trans}
+use Rattle.std.proofs.Common.{◌≡◌, ◌≤◌, ◌<◌, ◌-◌, ℕ, zero, suc, Bool, true, false, true≢false, List, [], ◌∷◌, ◌++◌, map, reverse, length, drop, refl, sym, ap, ◌∙◌, subst, arith, inl, inr, le_trans, append_assoc}
 use Rattle.std.specs.Prelude.{Option, Some, None, ◌⊎◌, option_map, slice_index_or, if◌then◌else◌}
 use Rattle.std.proofs.lemmas.Bool.{ne_eqb}
 use Rattle.std.proofs.lemmas.List.{map-append, reverse-append, same_from_push}
@@ -9,6 +9,7 @@ use Rattle.ft_model.specs.declared.cursor.Cursor.{Cursor}
 use Rattle.ft_model.specs.declared.reply.Reply.{Reply}
 use Rattle.ft_model.specs.declared.reply.Reply.TheVariants as reply
 use Rattle.ft_model.specs.Histories.{IsCountedAs}
+use Rattle.ft_trace.specs.declared.Act.{Act}
 use Rattle.ft_trace.specs.declared.Act.TheVariants.{Announce, Answer, ReadCounter, WriteNumber}
 use Rattle.ft_trace.specs.declared.Entry.{Entry}
 use Rattle.ft_trace.specs.declared.View.{View}
@@ -21,8 +22,10 @@ use Rattle.ft_bank.specs.declared.bank.Bank.{Bank}
 use Rattle.ft_bank.specs.declared.pass.Pass.{Pass}
 use Rattle.ft_bank.specs.declared.sections.OpenSection.{OpenSection}
 use Rattle.ft_bank.specs.declared.sections.Taking.{Taking}
+use Rattle.ft_bank.specs.Logs.{HasGrown}
 use Rattle.ft_bank.specs.Passes.{view, IsPassOf}
 use Rattle.ft_bank.specs.PassSections.{Stack, stack_of}
+use Rattle.ft_bank.proofs.Logs.{grown_by, newer_part}
 use Rattle.ft_qsbr.specs.Collecting.{Collected}
 use Rattle.ft_section.specs.declared.answers.Ended.{Ended}
 use Rattle.ft_section.specs.declared.answers.Ended.TheVariants as ended
@@ -60,6 +63,7 @@ only_stays v w only = record {
   floor = only.floor;
   since = only.since;
   seen = only_sees v w only;
+  grown = grown_by only.newer v w only.grew;
 }
 
 pub only_nothing : (v w : View) → OnlyLocked v w → MakesNoEntry v w
@@ -76,6 +80,7 @@ stays_then u v w a b = record {
   floor = b.floor ∙ a.floor;
   since = b.since ∙ a.since;
   seen = le_trans a.seen b.seen;
+  grown = λ old was. b.grown old (a.grown old was);
 }
 
 pub nothing_then : (u v w : View) → MakesNoEntry u v → MakesNoEntry v w → MakesNoEntry u w
@@ -87,19 +92,27 @@ nothing_then u v w a b = record {
 }
 
 pub same_nothing : (v : View) → MakesNoEntry v v
-same_nothing v = record { pass = record { number = refl; next = refl; parts = refl; shape = refl; lists = refl; online = λ on. on; floor = refl; since = refl; seen = omega arith }; entries = refl; left = refl; cursors = λ number. refl }
+same_nothing v = record { pass = record { number = refl; next = refl; parts = refl; shape = refl; lists = refl; online = λ on. on; floor = refl; since = refl; seen = omega arith; grown = λ old was. was }; entries = refl; left = refl; cursors = λ number. refl }
 
 -- a load stays one of a longer time
 pub loaded_in : (n : ℕ) (u v w z : View) → StaysPass u v → HasLoaded n v w → StaysPass w z → HasLoaded n u z
-loaded_in n u v w z before l after = record {
-  start = l.start;
-  earlier = stays_then u v l.start before l.earlier;
-  part = l.part;
-  before = l.before;
-  own = l.own;
-  loaded = l.loaded;
-  later = stays_then l.before w z l.later after;
-}
+loaded_in n u v w z before l after =
+    let a = newer_part u v before.grown in
+    let b = newer_part w z after.grown in
+    let load = ReadCounter n in
+    record {
+      part = b.0 ++ (l.part ++ a.0);
+      own = b.1
+          ∙ (ap (λ (log : List Act). b.0 ++ log) (l.own ∙ (ap (λ (log : List Act). l.part ++ log) a.1 ∙ sym (append_assoc l.part a.0 u.log)))
+          ∙ sym (append_assoc b.0 (l.part ++ a.0) u.log));
+      loaded = record {
+        newer = b.0 ++ l.loaded.newer;
+        rest = l.loaded.rest ++ a.0;
+        is = ap (λ (log : List Act). b.0 ++ log)
+            (ap (λ (log : List Act). log ++ a.0) l.loaded.is ∙ append_assoc l.loaded.newer (load ∷ l.loaded.rest) a.0)
+            ∙ sym (append_assoc b.0 l.loaded.newer (load ∷ (l.loaded.rest ++ a.0)));
+      };
+    }
 
 -- what comes before and after the entry adds none
 pub nothing_entry : (called : Call) (said : Reply) (stamp : Stamp) (u v w z : View) → MakesNoEntry u v → seen_writes v ≤ stamp.number → MakesEntry called said stamp v w → MakesNoEntry w z → MakesEntry called said stamp u z
@@ -126,20 +139,17 @@ answered_pass called said n v = record {
   floor = refl;
   since = refl;
   seen = le_trans (seen_up (ReadCounter n) v) (seen_up (Answer called said n) (view_after (ReadCounter n) v));
+  grown = λ old was. inr (inr was);
 }
 
 pub answer_stays : (called : Call) (said : Reply) (n : ℕ) (v : View) → StaysPass v (view_after (Answer called said n) v)
-answer_stays called said n v = record { number = refl; next = refl; parts = refl; shape = refl; lists = refl; online = λ on. on; floor = refl; since = refl; seen = seen_up (Answer called said n) v }
+answer_stays called said n v = record { number = refl; next = refl; parts = refl; shape = refl; lists = refl; online = λ on. on; floor = refl; since = refl; seen = seen_up (Answer called said n) v; grown = λ old was. inr was }
 
 answered_loaded : (called : Call) (said : Reply) (n : ℕ) (v : View) → HasLoaded n v (answered_view called said n v)
 answered_loaded called said n v = record {
-  start = v;
-  earlier = (same_nothing v).pass;
-  part = ReadCounter n ∷ [];
-  before = view_after (ReadCounter n) v;
+  part = Answer called said n ∷ ReadCounter n ∷ [];
   own = refl;
-  loaded = record { newer = []; rest = []; is = refl };
-  later = answer_stays called said n (view_after (ReadCounter n) v);
+  loaded = record { newer = Answer called said n ∷ []; rest = []; is = refl };
 }
 
 answered_entries : (called : Call) (said : Reply) (stamp : Stamp) (v : View) → stamp.wrote ≡ false → (answered_view called said stamp.number v).entries ≡ made_entry called said stamp ∷ v.entries
@@ -266,12 +276,13 @@ ready_resumes b p r = record { inside = r.inside; own = λ outer top split. inl 
 answered_still : (called : Call) (said : Reply) (n : ℕ) (v : View) → IsStill v → IsStill (answered_view called said n v)
 answered_still called said n v s = record { even = s.even; hands = s.hands; used = s.used; owes = s.owes; flight = s.flight; stands = s.stands }
 
-pub ready_quiesced : (b : Bank) (q r : Pass) (n : ℕ) → IsReady b q → IsPassOf b r → stack_of r ≡ stack_of q → view r ≡ answered_view call.Quiesce reply.Done n (view q) → IsReady b r
-ready_quiesced b q r n ready pass stack is =
+-- a call that opens and closes no section
+pub ready_answered : (called : Call) (said : Reply) (b : Bank) (q r : Pass) (n : ℕ) → begun (answered_view called said n (view q)).log ≡ begun (view q).log → IsReady b q → IsPassOf b r → stack_of r ≡ stack_of q → view r ≡ answered_view called said n (view q) → IsReady b r
+ready_answered called said b q r n level ready pass stack is =
     let v = view q in
     let locks : (o : ℕ) → has_lock o (view r).log ≡ has_lock o v.log = λ o. ap (λ (z : View). has_lock o z.log) is in
     record {
-      inside = (pass, subst (InCall (view r)) (sym stack) (in_call_stays v (view r) (stack_of q) ready.inside.1 (ap (λ (z : View). z.shape) is) locks (ap (λ (z : View). begun z.log) is) (subst IsStill (sym is) (answered_still call.Quiesce reply.Done n v ready.inside.1.still))));
+      inside = (pass, subst (InCall (view r)) (sym stack) (in_call_stays v (view r) (stack_of q) ready.inside.1 (ap (λ (z : View). z.shape) is) locks (ap (λ (z : View). begun z.log) is ∙ level) (subst IsStill (sym is) (answered_still called said n v ready.inside.1.still))));
       own = ap (λ (s : Stack). s.own) stack ∙ ready.own;
       mark = ap (λ (s : Stack). s.mark) stack ∙ ready.mark;
       top = λ outer top split.
@@ -279,42 +290,67 @@ ready_quiesced b q r n ready pass stack is =
           (locks top.locks.lower ∙ t.0, locks top.locks.upper ∙ t.1);
     }
 
-pub quiesced_owners : (n : ℕ) (v u w : View) → IsCalm v u → w ≡ answered_view call.Quiesce reply.Done n u → SameOwners v w
-quiesced_owners n v u w calm is = owners_then v u w calm.owners (subst (SameOwners u) (sym is) (record { had = refl; found = refl }))
+pub answered_owners : (called : Call) (said : Reply) (n : ℕ) (v u w : View) → IsCalm v u → w ≡ answered_view called said n u → SameOwners v w
+answered_owners called said n v u w calm is = owners_then v u w calm.owners (subst (SameOwners u) (sym is) (record { had = refl; found = refl }))
+
+-- the entry of a call that takes no lock, after the pass has done nothing but announce, load and learn
+pub calm_entry : (called : Call) (said : Reply) (stamp : Stamp) (v u w : View) → IsCalm v u → (0 < announces v.log → 0 < announces u.log) → 0 < v.left → w ≡ answered_view called said stamp.number u → stamp.wrote ≡ false → seen_writes u ≤ stamp.number → MakesEntry called said stamp v w
+calm_entry called said stamp v u w calm on left is read seen =
+    let made = answered_entry called said stamp u read (subst (λ (n : ℕ). 0 < n) (sym calm.left) left) seen in
+    let quiet : StaysPass v u = record { number = calm.number; next = calm.next; parts = calm.parts; shape = calm.shape; lists = calm.lists; online = on; floor = calm.floor; since = calm.since; seen = calm.seen; grown = calm.grown } in
+    record {
+      pass = record {
+        number = ap (λ (z : View). z.number) is ∙ calm.number;
+        next = ap (λ (z : View). z.next) is ∙ calm.next;
+        parts = ap (λ (z : View). z.parts) is ∙ calm.parts;
+        shape = ap (λ (z : View). z.shape) is ∙ calm.shape;
+        lists = ap (λ (z : View). z.lists) is ∙ calm.lists;
+        online = λ was. subst (λ (z : View). 0 < announces z.log) (sym is) (on was);
+        floor = ap (λ (z : View). z.has_floor) is ∙ calm.floor;
+        since = ap (λ (z : View). at_floor z.log) is ∙ calm.since;
+        seen = subst (λ (z : View). seen_writes v ≤ seen_writes z) (sym is) (le_trans calm.seen made.pass.seen);
+        grown = subst (λ (z : View). HasGrown v z) (sym is) (λ old was. inr (inr (calm.grown old was)));
+      };
+      entries = ap (λ (z : View). z.entries) is ∙ (made.entries ∙ ap (λ (es : List Entry). made_entry called said stamp ∷ es) calm.entries);
+      left = sym calm.left ∙ (made.left ∙ sym (ap (λ (z : View). suc z.left) is));
+      seen = le_trans calm.seen seen;
+      loaded = λ _. loaded_in stamp.number v u w w quiet (subst (HasLoaded stamp.number u) (sym is) (made.loaded read)) (same_nothing w).pass;
+      shows = λ wrote. absurd (true≢false (sym wrote ∙ read));
+      cursors = λ number other. ap (λ (z : View). cursor_in number z.log) is ∙ calm.cursors number;
+    }
 
 pub quiesce_answer : (b : Bank) (p q r : Pass) (stamp : Stamp) → IsReady b p → 0 < (view p).left → IsPassOf b q → stack_of q ≡ stack_of p → IsCalm (view p) (view q) → (n : ℕ) × (freed : ℕ) × Collected (view_after (Announce (view p).number n) (view_after (WriteNumber n) (view p))) (view q) freed → 0 < announces (view q).log → IsPassOf b r → stack_of r ≡ stack_of q → view r ≡ answered_view call.Quiesce reply.Done stamp.number (view q) → stamp.wrote ≡ false → seen_writes (view q) ≤ stamp.number → HasAnswer b call.Quiesce reply.Done stamp p r
 quiesce_answer b p q r stamp ready left pass_q stack_q calm did on pass_r stack_r is read seen =
     let v = view p in
     let u = view q in
     let made = answered_entry call.Quiesce reply.Done stamp u read (subst (λ (n : ℕ). 0 < n) (sym calm.left) left) seen in
-    let quiet : StaysPass v u = record { number = calm.number; next = calm.next; parts = calm.parts; shape = calm.shape; lists = calm.lists; online = λ _. on; floor = calm.floor; since = calm.since; seen = calm.seen } in
     let stack = stack_r ∙ stack_q in
-    let now = ready_quiesced b q r stamp.number (ready_calm b p q ready pass_q stack_q calm) pass_r stack_r is in
+    let now = ready_answered call.Quiesce reply.Done b q r stamp.number refl (ready_calm b p q ready pass_q stack_q calm) pass_r stack_r is in
     record {
-      entry = record {
-        pass = record {
-          number = ap (λ (z : View). z.number) is ∙ calm.number;
-          next = ap (λ (z : View). z.next) is ∙ calm.next;
-          parts = ap (λ (z : View). z.parts) is ∙ calm.parts;
-          shape = ap (λ (z : View). z.shape) is ∙ calm.shape;
-          lists = ap (λ (z : View). z.lists) is ∙ calm.lists;
-          online = λ _. subst (λ (z : View). 0 < announces z.log) (sym is) on;
-          floor = ap (λ (z : View). z.has_floor) is ∙ calm.floor;
-          since = ap (λ (z : View). at_floor z.log) is ∙ calm.since;
-          seen = subst (λ (z : View). seen_writes v ≤ seen_writes z) (sym is) (le_trans calm.seen made.pass.seen);
-        };
-        entries = ap (λ (z : View). z.entries) is ∙ (made.entries ∙ ap (λ (es : List Entry). made_entry call.Quiesce reply.Done stamp ∷ es) calm.entries);
-        left = sym calm.left ∙ (made.left ∙ sym (ap (λ (z : View). suc z.left) is));
-        seen = le_trans calm.seen seen;
-        loaded = λ _. loaded_in stamp.number v u (view r) (view r) quiet (subst (HasLoaded stamp.number u) (sym is) (made.loaded read)) (same_nothing (view r)).pass;
-        shows = λ wrote. absurd (true≢false (sym wrote ∙ read));
-        cursors = λ number other. ap (λ (z : View). cursor_in number z.log) is ∙ calm.cursors number;
-      };
+      entry = calm_entry call.Quiesce reply.Done stamp v u (view r) calm (λ _. on) left is read seen;
       resume = ready_resumes b r now;
       top = λ none. absurd (true≢false (sym none));
       stack = stack ∙ ap (λ (t : Taking). with_own (stack_of p) t) ready.own;
       walked = λ number. ap (option_map container_of) (ap (λ (z : View). cursor_in number z.log) is ∙ calm.cursors number);
       collected = record { start = v; earlier = (same_nothing v).pass; number = did.0; after = u; freed = did.1; collected = did.2; later = subst (StaysPass u) (sym is) made.pass };
+      marks = ap section_marks stack;
+      mark = ap (λ (s : Stack). s.mark) stack;
+      ends = tt;
+    }
+
+-- ---- await
+
+pub await_answer : (b : Bank) (p q r : Pass) (thread index : ℕ) (stamp : Stamp) → IsReady b p → 0 < (view p).left → IsPassOf b q → stack_of q ≡ stack_of p → IsCalm (view p) (view q) → (0 < announces (view p).log → 0 < announces (view q).log) → IsPassOf b r → stack_of r ≡ stack_of q → view r ≡ answered_view (call.Await thread index) reply.Done stamp.number (view q) → stamp.wrote ≡ false → seen_writes (view q) ≤ stamp.number → HasAnswer b (call.Await thread index) reply.Done stamp p r
+await_answer b p q r thread index stamp ready left pass_q stack_q calm on pass_r stack_r is read seen =
+    let stack = stack_r ∙ stack_q in
+    let now = ready_answered (call.Await thread index) reply.Done b q r stamp.number refl (ready_calm b p q ready pass_q stack_q calm) pass_r stack_r is in
+    record {
+      entry = calm_entry (call.Await thread index) reply.Done stamp (view p) (view q) (view r) calm on left is read seen;
+      resume = ready_resumes b r now;
+      top = λ none. absurd (true≢false (sym none));
+      stack = stack ∙ ap (λ (t : Taking). with_own (stack_of p) t) ready.own;
+      walked = λ number. ap (option_map container_of) (ap (λ (z : View). cursor_in number z.log) is ∙ calm.cursors number);
+      collected = tt;
       marks = ap section_marks stack;
       mark = ap (λ (s : Stack). s.mark) stack;
       ends = tt;

@@ -21,7 +21,7 @@ use Rattle.ft_engine.specs.Flights.{IsFlightAnswered}
 use Rattle.ft_engine.specs.Keeping.{WasAnswered}
 use Rattle.ft_engine.specs.SoFar.{AreAnswersRight, IsAnsweredRight}
 use Rattle.ft_engine.proofs.Keeping.{unanswered_pending}
-use Rattle.ft_engine.proofs.KeptLists.{all_kept, found_of, had_of}
+use Rattle.ft_engine.proofs.KeptLists.{all_kept, found_of, had_of, told_by_all}
 
 -- where no call in flight has its answer, the entries are all of the pass
 pub answers_right : (c : Caller) (mine : List NamedEntry) → (IsFlightAnswered c.flight → ⊥) → WasAnswered c mine → IsAnsweredRight c mine
@@ -35,7 +35,7 @@ answers_right c mine free kept =
     })
 
 pub all_answers_right : (c : Caller) (lists : List (List NamedEntry)) → IsIdle c → WereAnswered c lists → AreAnswersRight c lists
-all_answers_right c lists idle are = lists_right_so_far (view c.pass) (thread_of c) lists (had_of c) (found_of c) (all_kept c lists idle are)
+all_answers_right c lists idle are = lists_right_so_far (view c.pass) (thread_of c) lists (had_of c) (found_of c) (told_by_all c) (all_kept c lists idle are)
 
 -- ---- after a look, and after a call
 

@@ -23,6 +23,7 @@ use Rattle.ft_bank.specs.declared.bank.Bank.{Bank}
 use Rattle.ft_bank.specs.declared.pass.Pass.{Pass}
 use Rattle.ft_bank.specs.declared.takings.Took.TheVariants as took
 use Rattle.ft_bank.specs.Answered.{Answered}
+use Rattle.ft_bank.specs.Logs.{HasGrown}
 use Rattle.ft_bank.specs.Passes.{shape_of, view, DidNothing}
 use Rattle.ft_bank.specs.PassSections.{stack_of}
 use Rattle.ft_bank.specs.Whole.{OnlyLoaded}
@@ -51,7 +52,7 @@ use Rattle.ft_engine.specs.Keeping.{made_entry, section_marks, marks_after}
 use Rattle.ft_engine.specs.Stacks.{StackAfter}
 
 -- It is the same pass: it is online where it was, has taken in the same passes, has the floor where it had it, and no
--- other since, and has seen no fewer writes. (profile)
+-- other since, has seen no fewer writes, and its log has only grown. (profile)
 pub record StaysPass (v w : View) : Type 0 where
   pub number : w.number ≡ v.number
   pub next : w.next ≡ v.next
@@ -62,6 +63,7 @@ pub record StaysPass (v w : View) : Type 0 where
   pub floor : w.has_floor ≡ v.has_floor
   pub since : at_floor w.log ≡ at_floor v.log
   pub seen : seen_writes v ≤ seen_writes w
+  pub grown : HasGrown v w
 
 -- The same pass has made no entry, and has the same cursors. (profile)
 pub record MakesNoEntry (v w : View) : Type 0 where
@@ -70,24 +72,21 @@ pub record MakesNoEntry (v w : View) : Type 0 where
   pub left : w.left ≡ v.left
   pub cursors : (number : ℕ) → cursor_in number w.log ≡ cursor_in number v.log
 
--- After a moment of the pass at which it had seen all that it had at the first of these, and before the second one, a load
--- of the counter gave this number.
+-- After the first of these moments and before the second, a load of the counter gave this number: it stands in the part
+-- of the pass's log that is newer.
 pub record HasLoaded (n : ℕ) (v w : View) : Type 0 where
-  pub start : View
-  pub earlier : StaysPass v start
   pub part : List Act
-  pub before : View
-  pub own : before.log ≡ part ++ start.log
+  pub own : w.log ≡ part ++ v.log
   pub loaded : Among (ReadCounter n) part
-  pub later : StaysPass before w
 
 -- the pass has loaded the write number, and announced it
 abbrev pub after_announcing : ℕ → View → View
 after_announcing number v = view_after (Announce v.number number) (view_after (WriteNumber number) v)
 
--- After such a moment the pass announced the write number, since it holds on to no table that it found before, and
--- collected: it found what each pass announces, and gave back just those of the tables that it kept retired whose goals
--- all of them are past, so that no pass online can still read them. (PEP 703, QSBR)
+-- After the first of these moments the pass announced the write number, since it holds on to no table that it found
+-- before, and collected, before the second: it found what each pass announces, and gave back just those of the tables
+-- that it kept retired whose goals all of them are past, so that no pass online can still read them. Its log has what it
+-- did for that between what it had at the two moments. (PEP 703, QSBR)
 pub record HasQuiesced (v w : View) : Type 0 where
   pub start : View
   pub earlier : StaysPass v start

@@ -6,7 +6,7 @@ use Rattle.ft_model.specs.declared.entry.Storage.TheVariants as storage
 use Rattle.ft_model.specs.declared.script.ScriptParts.{ScriptParts}
 use Rattle.ft_model.specs.Numbers.{AreDone, AreNumberedLists, IsHistoryOf}
 use Rattle.ft_trace.specs.declared.Shape.{Shape}
-use Rattle.ft_trace.specs.Acts.{announces}
+use Rattle.ft_trace.specs.Acts.{announces, told_in}
 use Rattle.ft_trace.specs.Owners.{found_owners, had_locks}
 use Rattle.ft_bank.specs.Passes.{view}
 use Rattle.ft_bank.specs.PassSections.{stack_of}
@@ -29,7 +29,7 @@ WereAnswered c [] = ⊥
 WereAnswered c (mine ∷ others) =
     WasAnswered c mine
     × HaveNamedEntries (suc (thread_of c)) others (taken_of c) (had_locks (view c.pass).number (view c.pass).log)
-    (found_owners (view c.pass).log)
+    (found_owners (view c.pass).log) (told_in (view c.pass).log)
 
 -- The lists are those of the script's threads: the bank was made for it, and no thread asks a cursor that it doesn't
 -- have. (profile)

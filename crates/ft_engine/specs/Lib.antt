@@ -18,3 +18,4 @@ pub mod DoneCallers
 pub mod Resting
 pub mod Contents
 pub mod AtOnce
+pub mod Awaiting

@@ -9,6 +9,7 @@
 mod answering;
 mod at_once;
 mod attempts;
+mod awaiting;
 mod caller;
 mod calling;
 mod closing;

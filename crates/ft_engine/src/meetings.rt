@@ -2,23 +2,25 @@
 //! has made its last call.
 ghost use Rattle.std.specs.Prelude.{◌≡◌, ◌≤◌, ◌+◌, ◌++◌, List, length};
 ghost use Rattle.ft_model.specs.declared.entry.Entry.{Entry as NamedEntry};
-ghost use Rattle.ft_trace.specs.Acts.{announces};
-ghost use Rattle.ft_bank.specs.Notes.{says, writes_seen, IsNoteOf};
+ghost use Rattle.ft_trace.specs.Acts.{announces, own_told, shown};
+ghost use Rattle.ft_bank.specs.Notes.{says, told_by, writes_seen, IsNoteOf};
 ghost use Rattle.ft_bank.specs.Passes.{view};
 ghost use Rattle.ft_bank.specs.PassSections.{stack_of};
 ghost use Rattle.ft_engine.specs.Callers.{IsCallerOf, IsIdle, bank_of, hands_of, left_of, pass_of, thread_of};
 ghost use Rattle.ft_engine.specs.DoneCallers.{WereAnswered, IsCallerDone};
 ghost use Rattle.ft_engine.specs.Keeping.{WasAnswered};
-ghost use Rattle.ft_engine.specs.Resting.{token_count};
+ghost use Rattle.ft_engine.specs.declared.caller.Caller.{Caller as ACaller};
+ghost use Rattle.ft_engine.specs.Resting.{IsRestingCallerOf, RestsAs, rests_in, token_count};
 ghost use Rattle.ft_engine.specs.SoFar.{AreAnswersRight};
 ghost use Rattle.ft_engine.specs.Visits.{SameCallerWork};
 
 use crate::caller::Caller;
 use crate::engine::Engine;
+use crate::resting::RestingCaller;
 use ft_bank::Note;
 
 impl Engine {
-    /// Makes a note of how many writes the caller has seen.
+    /// Makes a note of how many writes the caller has seen, and of the calls that it was answered.
     pub fn note(&self, caller: &mut Caller) -> Note
         requires caller { IsCallerOf self.now caller.old }
         requires idle { IsIdle caller.old }
@@ -27,8 +29,21 @@ impl Engine {
         ensures announced { announces (view (pass_of caller.new)).log ≡ announces (view (pass_of caller.old)).log }
         ensures kept { (mine : List NamedEntry) → WasAnswered caller.old mine → WasAnswered caller.new mine }
         ensures note { IsNoteOf (bank_of self.now) result × (says result ≡ writes_seen (pass_of caller.old)) }
+        ensures told { told_by result ≡ own_told (view (pass_of caller.old)) }
     {
         self.bank.note(&mut caller.pass)
+    }
+
+    /// Makes a note of a caller that rests, as [`Engine::note`] does. The caller goes on resting.
+    pub fn note_resting(&self, caller: &mut RestingCaller) -> Note
+        requires caller { IsRestingCallerOf self.now caller.old }
+        ensures caller { IsRestingCallerOf self.now caller.new }
+        ensures same { rests_in caller.new ≡ rests_in caller.old }
+        ensures rests { (c : ACaller) → RestsAs c caller.old → RestsAs c caller.new }
+        ensures note { IsNoteOf (bank_of self.now) result × (says result ≡ shown (rests_in caller.old).log) }
+        ensures told { told_by result ≡ own_told (rests_in caller.old) }
+    {
+        self.bank.note_resting(&mut caller.pass)
     }
 
     /// Learns the note of a caller of this engine: it has then seen all that the note's maker had, so each number

@@ -1,1 +1,2 @@
 pub mod CallersOnline
+pub mod AwaitedNotes

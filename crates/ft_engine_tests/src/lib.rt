@@ -2,6 +2,8 @@
 //! caller is answered, and that all of it is a legal history. Tests alone stand on this crate.
 #![tactic(auto)]
 
+#[cfg(test)]
+mod awaiting;
 mod cases;
 #[cfg(test)]
 mod first_turns;

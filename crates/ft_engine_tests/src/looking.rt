@@ -21,7 +21,7 @@ const LOCKED: &str =
     "dict d\nlist l\nthread A\nset d 1 5\nappend l 7\nbegin d\nend\nthread B\nlen d\nset d 2 6\nlen d\n";
 
 /// Whether the worker may look.
-fn can_look(engine: &Engine, worker: &Worker, call: &Call) -> bool
+pub(crate) fn can_look(engine: &Engine, worker: &Worker, call: &Call) -> bool
     requires { IsWorkerOf engine.now worker.now }
     ensures { IsTrue result → IsTrue worker.now.online × MayAttempt engine.now worker.now.caller call.now
         × IsIdle worker.now.caller × (may_look call.now ≡ true) }

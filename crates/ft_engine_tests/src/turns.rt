@@ -117,7 +117,7 @@ fn round(
 }
 
 /// The lists of what the workers were answered.
-fn lists_of(alloc: Global, workers: Vec<Worker>) -> Result<Vec<Vec<Entry>>, Fail> {
+pub(crate) fn lists_of(alloc: Global, workers: Vec<Worker>) -> Result<Vec<Vec<Entry>>, Fail> {
     let mut lists = Vec::new(alloc);
     for worker in workers {
         lists.push(worker.entries)?;

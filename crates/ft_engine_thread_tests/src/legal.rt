@@ -14,7 +14,7 @@ use std::test::Fail;
 use std::thread::Threads;
 
 /// How many entries the history of the script has, which is run with this gate; `None` where it isn't legal.
-fn gated_entries<R: Threads + Wait + Sync, G: Gate>(
+pub(crate) fn gated_entries<R: Threads + Wait + Sync, G: Gate>(
     rt: &R,
     alloc: Global,
     text: &str,
@@ -30,7 +30,7 @@ fn gated_entries<R: Threads + Wait + Sync, G: Gate>(
 }
 
 /// The same without a gate.
-fn legal_entries<R: Threads + Wait + Sync>(
+pub(crate) fn legal_entries<R: Threads + Wait + Sync>(
     rt: &R,
     alloc: Global,
     text: &str,

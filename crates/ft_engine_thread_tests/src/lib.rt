@@ -3,6 +3,8 @@
 #![tactic(auto)]
 
 #[cfg(test)]
+mod awaiting;
+#[cfg(test)]
 mod legal;
 #[cfg(test)]
 mod scripts;

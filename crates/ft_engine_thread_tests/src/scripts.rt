@@ -64,3 +64,25 @@ pub(crate) fn apart(alloc: Global, threads: u32) -> Result<String, AllocError> {
     }
     Ok(text)
 }
+
+/// The text of a script whose threads hand work on: each appends its number to a list that many times, and each but the
+/// first awaits before each of these calls the same one of the thread before it.
+pub(crate) fn handed_on(alloc: Global, threads: u32, times: u32) -> Result<String, AllocError> {
+    let mut text = String::from_str(alloc, "version 2\nlist l\n")?;
+    for thread in 0..threads {
+        text.push_str(&format!(in alloc; "thread T{thread}\n")?)?;
+        let before = thread.saturating_sub(1);
+        for time in 1..times.saturating_add(1) {
+            let index = if before == 0 {
+                time
+            } else {
+                time.saturating_mul(2)
+            };
+            if thread > 0 {
+                text.push_str(&format!(in alloc; "await T{before}.{index}\n")?)?;
+            }
+            text.push_str(&format!(in alloc; "append l {thread}\n")?)?;
+        }
+    }
+    Ok(text)
+}

@@ -11,13 +11,11 @@ use Rattle.ft_model.specs.declared.entry.Entry.{Entry}
 use Rattle.ft_model.specs.declared.entry.Storage.{Storage}
 use Rattle.ft_model.specs.declared.script.ScriptParts.{ScriptParts}
 use Rattle.ft_model.specs.Answers.{answer, world_by}
-use Rattle.ft_model.specs.Histories.{writes, world_at, entries_of, cursors_of, hands_by, hands_at, sections_at, after_section, innermost, IsReplied, IsAnswered, IsWhole, Section, names, disturbs, is_disturbed, is_marked, marks_between, IsKeptBy, IsCountedBy, IsKept, IsCounted, IsMarked, IsEarnedAt, IsChronicle, has_call_on, needs_at}
-use Rattle.ft_model.specs.Scripts.{IsScript}
+use Rattle.ft_model.specs.Histories.{writes, world_at, entries_of, cursors_of, hands_by, hands_at, sections_at, after_section, innermost, EachAt, IsReplied, IsAnswered, IsAwaited, IsWhole, Section, names, disturbs, is_disturbed, is_marked, marks_between, IsKeptBy, IsCountedBy, IsKept, IsCounted, IsMarked, IsEarnedAt, IsChronicle, has_call_on, needs_at}
 use Rattle.ft_model.specs.Numbers.{begins_of}
 use Rattle.ft_model.specs.TableUses.{IsEarned}
 use Rattle.ft_model.specs.Worlds.{starts_of, containers_used}
 use Rattle.ft_history.proofs.FilteredParts.{any_passed, count_passed}
-use Rattle.ft_history.proofs.ScriptLemmas.{awaited_of_script}
 use Rattle.ft_history.proofs.StampedLists.{written, AreStamped, writes_before_entry, mine_before, written_between, mine_between}
 use Rattle.ft_history.proofs.OpenSections.{IsOpened, AreOpened, are_opened, same_innermost_after, same_ended}
 
@@ -142,11 +140,11 @@ module _ (script : ScriptParts) (one other : List Entry) (agree : Agree script o
       subst (λ es. IsEarned storage script (writes (take place' other)) es entry) same_mine
       (subst (λ cs. IsEarned storage script cs (entries_of entry.thread (take place one)) entry) same_before is)
 
-pub chronicle_of_agreement : (storage : Storage) (script : ScriptParts) (one other : List Entry) → IsScript script → Agree script one other → IsChronicle storage script one → IsChronicle storage script other
-chronicle_of_agreement storage script one other rule agree chronicle =
+pub chronicle_of_agreement : (storage : Storage) (script : ScriptParts) (one other : List Entry) → Agree script one other → EachAt other (IsAwaited other) → IsChronicle storage script one → IsChronicle storage script other
+chronicle_of_agreement storage script one other agree awaited chronicle =
     record {
       whole = agree.other_whole;
-      awaited = awaited_of_script script rule other agree.other_whole;
+      awaited = awaited;
       answered = λ place entry at. let there = agree.found place entry at in answered script one other agree there.0 place entry there.1 at (chronicle.answered there.0 entry there.1);
       marked = λ place entry at. let there = agree.found place entry at in marked script one other agree there.0 place entry there.1 at (chronicle.marked there.0 entry there.1);
       kept = λ place entry at. let there = agree.found place entry at in kept script one other agree there.0 place entry there.1 at (chronicle.kept there.0 entry there.1);

@@ -18,6 +18,7 @@ pub mod AccountLemmas
 pub mod NextEntries
 pub mod Matching
 pub mod StampedLists
+pub mod AwaitedPlaces
 pub mod NumberedChronicles
 pub mod NumberedHistories
 pub mod OneOrder

@@ -13,18 +13,16 @@ use Rattle.ft_model.specs.declared.call.Call.{Call}
 use Rattle.ft_model.specs.declared.entry.Entry.{Entry}
 use Rattle.ft_model.specs.declared.entry.Storage.{Storage}
 use Rattle.ft_model.specs.declared.script.ScriptParts.{ScriptParts}
-use Rattle.ft_model.specs.Histories.{writes, entries_of, EachAt, IsWhole, IsChronicle}
+use Rattle.ft_model.specs.Histories.{writes, entries_of, EachAt, IsAwaited, IsWhole, IsChronicle}
 use Rattle.ft_model.specs.Numbers.{IsRightAfter, IsMarkedAfter, AreNumbered, AreFitting}
-use Rattle.ft_model.specs.Scripts.{IsScript}
 use Rattle.ft_history.proofs.RightEntries.{IsLegalAt, legal_at}
-use Rattle.ft_history.proofs.ScriptLemmas.{awaited_of_script}
 use Rattle.ft_history.proofs.KeysOnce.{count_both, keys_in_range}
 use Rattle.ft_history.proofs.FilteredParts.{key_at, passed_at, passed_before}
 use Rattle.ft_history.proofs.StampedLists.{written, AreStamped, count_writes}
 use Rattle.ft_history.proofs.SortedStamps.{rank, sorted_stamped, stamp_below}
 
 module _ (storage : Storage) (script : ScriptParts) (calls : List Call) (entries : List Entry) (is : AreNumbered storage script calls entries) (rises : IsNonDecreasingBy rank entries) where
-  whole : IsWhole script entries
+  pub whole : IsWhole script entries
   whole = record { calls = λ thread. (is.done thread).made; indexes = λ thread. (is.threads thread).indexes }
 
   -- what holds of each entry of a thread, with those before it, holds of it among all
@@ -36,7 +34,7 @@ module _ (storage : Storage) (script : ScriptParts) (calls : List Call) (entries
       let before : take k (entries_of entry.thread entries) ≡ entries_of entry.thread (take place entries) = sym (passed_before (λ (e : Entry). e.thread == entry.thread) entries place) in
       subst (λ (es : List Entry). P es entry) before (each entry.thread k entry there)
 
-  right_at : EachAt entries (λ place entry. IsRightAfter storage script calls (entries_of entry.thread (take place entries)) entry)
+  pub right_at : EachAt entries (λ place entry. IsRightAfter storage script calls (entries_of entry.thread (take place entries)) entry)
   right_at = among_all (IsRightAfter storage script calls) (λ thread. (is.threads thread).right)
 
   number_at : (place : ℕ) (entry : Entry) → slice_get entries place ≡ Some entry → entry.wrote ≡ true → slice_get calls entry.stamp ≡ Some entry.call
@@ -97,11 +95,11 @@ module _ (storage : Storage) (script : ScriptParts) (calls : List Call) (entries
       (subst (λ cs. IsRightAfter storage script cs before entry) (sym written_by_numbers) (right_at place entry at))
       (subst (λ cs. IsMarkedAfter script cs before entry) (sym written_by_numbers) (among_all (IsMarkedAfter script calls) (λ thread. (is.done thread).marked) place entry at))
 
-  pub chronicle_by_numbers : IsScript script → IsChronicle storage script entries
-  chronicle_by_numbers rule =
+  pub chronicle_by_numbers : EachAt entries (IsAwaited entries) → IsChronicle storage script entries
+  chronicle_by_numbers awaited =
       record {
         whole = whole;
-        awaited = awaited_of_script script rule entries whole;
+        awaited = awaited;
         answered = λ place entry at. (each place entry at).answered;
         marked = λ place entry at. (each place entry at).marked;
         kept = λ place entry at. (each place entry at).kept;

@@ -12,15 +12,16 @@ use Rattle.ft_model.specs.declared.entry.Storage.{Storage}
 use Rattle.ft_model.specs.declared.script.ScriptParts.{ScriptParts}
 use Rattle.ft_model.specs.Answers.{is_write}
 use Rattle.ft_model.specs.Scripts.{IsScript}
-use Rattle.ft_model.specs.Histories.{history_cmp, writes, entries_of, EachAt, IsWhole, IsLegal}
+use Rattle.ft_model.specs.Histories.{history_cmp, writes, entries_of, EachAt, IsAwaited, IsWhole, IsLegal}
 use Rattle.ft_model.specs.Numbers.{is_number, IsRightAfter, IsMarkedAfter, IsNumberedThread, IsDone, AreNumbered, AreFitting, IsHistoryOf}
 use Rattle.ft_history.proofs.RightEntries.{IsLegalAt, call_at, marked_after, passed_from, right_after}
+use Rattle.ft_history.proofs.AwaitedPlaces.{known_all, known_alike, known_awaits, awaited_in_order}
 use Rattle.ft_history.proofs.KeysOnce.{count_both, counted_once}
 use Rattle.ft_history.proofs.FilteredParts.{passed_before}
 use Rattle.ft_history.proofs.StampedLists.{written, AreStamped}
-use Rattle.ft_history.proofs.NumberedChronicles.{chronicle_by_numbers, fitting_by_numbers, written_by_numbers}
+use Rattle.ft_history.proofs.NumberedChronicles.{whole, right_at, chronicle_by_numbers, fitting_by_numbers, written_by_numbers}
 use Rattle.ft_history.proofs.SortedStamps.{rank, ranks_of_rising, ranks_of_sorted}
-use Rattle.ft_history.proofs.ThreadOrder.{same_threads}
+use Rattle.ft_history.proofs.ThreadOrder.{same_threads, still_there}
 use Rattle.ft_history.proofs.WriteNumbers.{write_numbers}
 
 -- ---- from entries with numbers
@@ -41,22 +42,34 @@ module _ (storage : Storage) (script : ScriptParts) (calls : List Call) (entries
         threads = λ thread. subst (IsNumberedThread storage script calls thread) (mine_same thread) (is.threads thread);
         once = λ number low. sum_by-IsPermutation (λ (e : Entry). cond (is_number number e) 1 0) entries history moved ∙ is.once number low;
         done = λ thread. subst (IsDone script calls thread) (mine_same thread) (is.done thread);
+        known = λ k d low.
+            let entry : Entry = get_or history k d in
+            let there = still_there entries history moved sorted k entry (slice_get-get_or history k d low) in
+            known_alike entries history mine_same entry (known_all entries is.known there.0 entry there.1);
       }
 
   rises : IsNonDecreasingBy rank history
   rises = ranks_of_sorted history sorted
 
+  wrote_by_numbers : EachAt history (λ place entry. entry.wrote ≡ is_write entry.call entry.reply)
+  wrote_by_numbers place entry at = (right_at storage script calls history still_numbered rises place entry at).wrote
+
+  awaited_by_numbers : EachAt history (IsAwaited history)
+  awaited_by_numbers =
+      awaited_in_order script rule history (whole storage script calls history still_numbered rises) sorted wrote_by_numbers
+      (known_all history still_numbered.known)
+
   pub history_by_numbers : IsHistoryOf storage script calls history
   history_by_numbers =
       record {
-        legal = record { order = sorted; chronicle = chronicle_by_numbers storage script calls history still_numbered rises rule };
+        legal = record { order = sorted; chronicle = chronicle_by_numbers storage script calls history still_numbered rises awaited_by_numbers };
         fitting = fitting_by_numbers storage script calls history still_numbered rises;
         written = written_by_numbers storage script calls history still_numbered rises;
       }
 
 -- ---- from a legal history
 
-module _ (storage : Storage) (script : ScriptParts) (history : List Entry) (legal : IsLegal storage script history) (fits : AreFitting storage script history) where
+module _ (storage : Storage) (script : ScriptParts) (rule : IsScript script) (history : List Entry) (legal : IsLegal storage script history) (fits : AreFitting storage script history) where
   stamped : AreStamped history
   stamped place entry at = (legal.chronicle.answered place entry at).stamp
 
@@ -104,7 +117,8 @@ module _ (storage : Storage) (script : ScriptParts) (history : List Entry) (lega
               made = legal.chronicle.whole.calls thread;
               marked = among_mine (IsMarkedAfter script (writes history)) (λ place entry at. marked_after script history legal.chronicle.whole stamped wrote place entry at (legal.chronicle.marked place entry at)) thread;
             };
+        known = λ k d low. known_awaits script rule history legal.chronicle.whole stamped legal.chronicle.awaited k (get_or history k d) (slice_get-get_or history k d low);
       }
 
-pub numbers_of_history : (storage : Storage) (script : ScriptParts) (calls : List Call) (history : List Entry) → IsHistoryOf storage script calls history → AreNumbered storage script calls history
-numbers_of_history storage script calls history is = subst (λ cs. AreNumbered storage script cs history) is.written (numbers_of_legal storage script history is.legal is.fitting)
+pub numbers_of_history : (storage : Storage) (script : ScriptParts) (calls : List Call) (history : List Entry) → IsScript script → IsHistoryOf storage script calls history → AreNumbered storage script calls history
+numbers_of_history storage script calls history rule is = subst (λ cs. AreNumbered storage script cs history) is.written (numbers_of_legal storage script rule history is.legal is.fitting)

@@ -1,6 +1,6 @@
 -- What the rule of scripts says of threads and of their calls.
 use Rattle.std.proofs.Common.{◌≡◌, ℕ, ◌<◌, ◌≤◌, true, false, List, [], ◌∷◌, length, take, get_or, Option, Some, None, refl, sym, ap, subst, ◌∙◌, arith, cond, eqb, inl, inr, ◌==◌}
-use Rattle.std.specs.Prelude.{slice_get, filter, option_map, All, IfSome}
+use Rattle.std.specs.Prelude.{slice_get, filter, option_map, All, IfSome, IsSomeAnd}
 use Rattle.std.specs.Option.{option_map_or}
 use Rattle.std.proofs.lemmas.List.Elements.{All-from_recursion}
 use Rattle.std.proofs.lemmas.Option.{slice_get-map, slice_get_within, slice_get_cases, get_or_from_slice_get, slice_get_past, IfSome_then}
@@ -16,9 +16,9 @@ use Rattle.ft_model.specs.declared.script.Kind.TheVariants as kind
 use Rattle.ft_model.specs.declared.script.Thread.{Thread}
 use Rattle.ft_model.specs.declared.script.ScriptParts.{ScriptParts}
 use Rattle.ft_model.specs.Calls.{one_or_two, containers_of}
-use Rattle.ft_model.specs.Landed.{shares_none, is_landed_call}
-use Rattle.ft_model.specs.Scripts.{kind_at, IsDeclaredAs, NamesOf, IsCallOf, IsThread, IsScript}
-use Rattle.ft_model.specs.Histories.{calls_of, cursors_of, EachAt, IsAwaitedIn, IsAwaited, IsWhole}
+use Rattle.ft_model.specs.Landed.{shares_none}
+use Rattle.ft_model.specs.Scripts.{kind_at, IsAwaitOf, IsDeclaredAs, NamesOf, IsCallOf, IsThread, IsScript}
+use Rattle.ft_model.specs.Histories.{calls_of, cursors_of, EachAt, IsWhole}
 use Rattle.ft_history.specs.Internal.States.{NamesThread}
 use Rattle.ft_history.proofs.FilteredParts.{passed_at}
 
@@ -88,35 +88,41 @@ no_calls script thread place called past at =
     let e : None ≡ Some called = ap (λ (cs : List Call). slice_get cs place) (sym none) ∙ at in
     cc
 
--- ---- what is landed
+-- ---- awaits
 
--- each call of a script is
-pub landed_call : (script : ScriptParts) → IsScript script → (thread place : ℕ) (called : Call) → slice_get (calls_of script thread) place ≡ Some called → is_landed_call called ≡ true
-landed_call script rule thread place called here =
+-- a call of a thread of a script names a call of an earlier thread, where it is an await
+pub await_of : (script : ScriptParts) → IsScript script → (thread place : ℕ) (called : Call) → slice_get (calls_of script thread) place ≡ Some called → IsAwaitOf script.threads thread called
+await_of script rule thread place called here =
     elim (slice_get_cases script.threads thread).1 [
       | inl found ↦
           let at : slice_get found.0.calls place ≡ Some called = ap (λ (cs : List Call). slice_get cs place) (sym (calls_of_thread script rule thread found.0 found.2)) ∙ here in
-          subst (λ (c : Call). is_landed_call c ≡ true) (get_or_from_slice_get found.0.calls place called called at) ((is_thread script rule thread found.0 found.2).landed place called (slice_get_within found.0.calls place called at))
+          subst (IsAwaitOf script.threads thread) (get_or_from_slice_get found.0.calls place called called at) (rule.awaits thread found.0 found.2 place called (slice_get_within found.0.calls place called at))
       | inr past ↦ absurd (no_calls script thread place called past.0 here)
     ]
 
--- such a call is no await
-pub landed_awaited : (entries : List Entry) (place : ℕ) (called : Call) → is_landed_call called ≡ true → IsAwaitedIn entries place called
-landed_awaited entries place (call.Await thread index) landed = absurd (false≢true landed)
-landed_awaited entries place called landed = tt
-
-pub landed_names : (threads : ℕ) (called : Call) → is_landed_call called ≡ true → NamesThread threads called
-landed_names threads (call.Await thread index) landed = absurd (false≢true landed)
-landed_names threads called landed = tt
-
--- so no entry of a whole list of a script's calls is of an await
-pub awaited_of_script : (script : ScriptParts) → IsScript script → (entries : List Entry) → IsWhole script entries → EachAt entries (IsAwaited entries)
-awaited_of_script script rule entries whole place entry at =
+-- so does an entry of a whole list of a script's calls
+pub await_at : (script : ScriptParts) → IsScript script → (entries : List Entry) → IsWhole script entries → EachAt entries (λ place entry. IsAwaitOf script.threads entry.thread entry.call)
+await_at script rule entries whole place entry at =
     let mine = λ (e : Entry). e.thread == entry.thread in
     let k = length (filter mine (take place entries)) in
     let there : slice_get (filter mine entries) k ≡ Some entry = passed_at mine entries place entry at (eq-eqb entry.thread entry.thread refl) in
     let called : slice_get (calls_of script entry.thread) k ≡ Some entry.call = ap (λ (cs : List Call). slice_get cs k) (sym (whole.calls entry.thread)) ∙ slice_get-map (λ (e : Entry). e.call) (filter mine entries) k ∙ ap (option_map (λ (e : Entry). e.call)) there in
-    landed_awaited entries place entry.call (landed_call script rule entry.thread k entry.call called)
+    await_of script rule entry.thread k entry.call called
+
+-- the thread that it names is one of so many, where its own is
+pub earlier_named : (script : ScriptParts) (thread threads : ℕ) (called : Call) → IsAwaitOf script.threads thread called → thread < threads → NamesThread threads called
+earlier_named script thread threads (call.Await named index) names within = let earlier : named < thread = names.0 in omega (arith, earlier, within)
+earlier_named script thread threads called names within = tt
+
+-- and that thread has the call that it names
+pub named_call : (script : ScriptParts) (thread named index : ℕ) → IsAwaitOf script.threads thread (call.Await named index) → index ≤ length (calls_of script named)
+named_call script thread named index names =
+    elim (slice_get script.threads named) as (λ o. IsSomeAnd o (λ found. index ≤ length found.calls) → index ≤ length (option_map_or (λ (found : Thread). found.calls) o [])) [
+      | None ↦ λ none. absurd none
+      | Some found ↦ λ low. low
+    ] names.2
+
+-- ---- what is landed
 
 -- every container starts so
 pub unsplit_start : (script : ScriptParts) → IsScript script → All (λ (container : Declaration). container.start.keys ≡ []) script.containers

@@ -12,9 +12,11 @@ use Rattle.std.proofs.lemmas.Option.{slice_get-get_or}
 use Rattle.ft_model.specs.declared.entry.Entry.{Entry}
 use Rattle.ft_model.specs.declared.entry.Storage.{Storage}
 use Rattle.ft_model.specs.declared.script.ScriptParts.{ScriptParts}
+use Rattle.ft_model.specs.Answers.{is_write}
 use Rattle.ft_model.specs.Scripts.{IsScript}
-use Rattle.ft_model.specs.Histories.{history_cmp, writes, entries_of, IsWhole, IsChronicle, IsLegal}
+use Rattle.ft_model.specs.Histories.{history_cmp, writes, entries_of, EachAt, IsWhole, IsChronicle, IsLegal}
 use Rattle.ft_history.proofs.Agreement.{Agree, chronicle_of_agreement}
+use Rattle.ft_history.proofs.AwaitedPlaces.{AreKnown, known_alike, known_awaits, awaited_in_order}
 use Rattle.ft_history.proofs.FilteredParts.{key_at}
 use Rattle.ft_history.proofs.StampedLists.{written, AreStamped, count_writes}
 use Rattle.ft_history.proofs.HistoryPlaces.{count_next}
@@ -93,4 +95,12 @@ module _ (storage : Storage) (script : ScriptParts) (chronicle history : List En
       }
 
   pub legal_when_sorted : IsLegal storage script history
-  legal_when_sorted = record { order = sorted; chronicle = chronicle_of_agreement storage script chronicle history rule agreement is }
+  legal_when_sorted =
+      let known : AreKnown chronicle = known_awaits script rule chronicle is.whole stamps_right is.awaited in
+      let still : AreKnown history = λ place entry at.
+      let there = still_there chronicle history moved sorted place entry at in
+      known_alike chronicle history agreement.same_threads entry (known there.0 entry there.1) in
+      let wrote : EachAt history (λ place entry. entry.wrote ≡ is_write entry.call entry.reply) = λ place entry at.
+      let there = still_there chronicle history moved sorted place entry at in
+      (is.answered there.0 entry there.1).wrote in
+      record { order = sorted; chronicle = chronicle_of_agreement storage script chronicle history agreement (awaited_in_order script rule history agreement.other_whole sorted wrote still) is }

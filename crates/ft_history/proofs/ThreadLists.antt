@@ -5,7 +5,7 @@ use Rattle.std.specs.Option.{option_map_or}
 use Rattle.std.specs.Prelude.{Option, slice_get}
 use Rattle.std.proofs.lemmas.Bool.{eq-eqb, ne_eqb}
 use Rattle.std.proofs.lemmas.List.{append-nil, get_or_past}
-use Rattle.std.proofs.lemmas.List.Elements.{All-head, All-nil, All-tail, filter-append}
+use Rattle.std.proofs.lemmas.List.Elements.{All-append, All-head, All-nil, All-tail, filter-append}
 use Rattle.std.proofs.lemmas.Option.{get_or_from_slice_get, slice_get_cases, slice_get_past}
 use Rattle.ft_model.specs.declared.call.Call.{Call}
 use Rattle.ft_model.specs.declared.entry.Entry.{Entry}
@@ -13,7 +13,7 @@ use Rattle.ft_model.specs.declared.entry.Storage.{Storage}
 use Rattle.ft_model.specs.declared.script.Thread.{Thread}
 use Rattle.ft_model.specs.declared.script.ScriptParts.{ScriptParts}
 use Rattle.ft_model.specs.Histories.{entries_of}
-use Rattle.ft_model.specs.Numbers.{IsNumberedThread, IsDone, AreNumbered, AreNumberedLists, AreDone}
+use Rattle.ft_model.specs.Numbers.{KnowsAwaited, IsNumberedThread, IsDone, AreNumbered, AreNumberedLists, AreDone}
 
 -- ---- what passes
 
@@ -63,6 +63,11 @@ own_entries (mine ∷ lists) from own (suc k) =
     ∙ ap (λ t. entries_of t (flat lists)) (let e : from + suc k ≡ from + 1 + k = omega arith in e)
     ∙ own_entries lists (from + 1) (own_rest from mine lists own) k
 
+-- what holds of all in each list holds of all
+all_flat : (P : Entry → Type 0) (lists : List (List Entry)) → All (λ (mine : List Entry). All P mine) lists → All P (flat lists)
+all_flat P [] all = All-nil P
+all_flat P (mine ∷ lists) all = All-append P mine (flat lists) (All-head (λ (mine : List Entry). All P mine) mine lists all) (all_flat P lists (All-tail (λ (mine : List Entry). All P mine) mine lists all))
+
 -- ---- entries with numbers
 
 pub no_entries : (storage : Storage) (script : ScriptParts) (calls : List Call) (thread : ℕ) → IsNumberedThread storage script calls thread []
@@ -74,6 +79,9 @@ module _ (storage : Storage) (script : ScriptParts) (calls : List Call) (lists :
   entries_are thread =
       ap (λ t. entries_of t (flat lists)) (let e : thread ≡ 0 + thread = omega arith in e)
       ∙ own_entries lists 0 (λ k mine at i d low. (is.threads k mine at).own i d low ∙ omega arith) thread
+
+  made_are : ◌≡◌ {A = ℕ → List Entry} (λ thread. get_or lists thread []) (λ thread. entries_of thread (flat lists))
+  made_are = λ i thread. sym (entries_are thread) i
 
   -- what holds of each list, and of none, holds of each thread
   of_thread : (P : ℕ → List Entry → Type 0) → ((thread : ℕ) (mine : List Entry) → slice_get lists thread ≡ Some mine → P thread mine) → ((thread : ℕ) → slice_get script.threads thread ≡ None → P thread []) → (thread : ℕ) → P thread (entries_of thread (flat lists))
@@ -89,9 +97,12 @@ module _ (storage : Storage) (script : ScriptParts) (calls : List Call) (lists :
       record {
         threads = of_thread (IsNumberedThread storage script calls) is.threads (λ thread none. no_entries storage script calls thread);
         once = is.once;
-        done = of_thread (IsDone script calls) done (λ thread none.
+        done = of_thread (IsDone script calls) done.threads (λ thread none.
             record {
               made = sym (ap (λ (o : Option Thread). option_map_or (λ (found : Thread). found.calls) o []) none);
               marked = λ k entry at. absurd (let nothing : None ≡ Some entry = at in cc);
             });
+        known =
+            all_flat (λ (entry : Entry). KnowsAwaited (λ thread. entries_of thread (flat lists)) entry entry.call) lists
+            (subst (λ (made : ℕ → List Entry). All (λ (mine : List Entry). All (λ (entry : Entry). KnowsAwaited made entry entry.call) mine) lists) made_are done.known);
       }

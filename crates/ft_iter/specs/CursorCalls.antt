@@ -20,9 +20,9 @@ use Rattle.ft_bank.specs.Answered.{AnsweredCursor}
 use Rattle.ft_section.specs.declared.answers.Objects.TheVariants.{One}
 use Rattle.ft_section.specs.declared.answers.Step.{Step}
 use Rattle.ft_section.specs.declared.answers.Step.TheVariants as step
-use Rattle.ft_section.specs.Locking.{OnlyLocked, FoundOwner, LocksWithin}
-use Rattle.ft_section.specs.LockTakings.{IsOf}
-use Rattle.ft_trace.specs.Owners.{SameOwners}
+use Rattle.ft_table_calls.specs.declared.made.Made.{Made}
+use Rattle.ft_table_calls.specs.declared.made.Made.TheVariants as made
+use Rattle.ft_table_calls.specs.TriesUnderLocks.{IsTry}
 use Rattle.ft_model.specs.declared.call.DequeCall.TheVariants as deque
 
 -- one `next` of a cursor over a container with this content (Python manual, Iterator Types)
@@ -43,19 +43,6 @@ is_landed_cursor (cursor.Deque o moves index) = false
 is_landed_cursor (cursor.DictBack o walk size last) = false
 is_landed_cursor (cursor.ListBack o index) = false
 
--- the pass took the lock of the container o, gave this reply with this stamp, which it loaded while it had it, and let
--- go of the lock; this cursor is its own under the number then
-pub record MovedUnderLock (o : ℕ) (called : Call) (said : Reply) (stamp number : ℕ) (left : Cursor)
-    (v w : View) : Type 0 where
-  pub before : View
-  pub after : View
-  pub took : OnlyLocked v before
-  pub within : LocksWithin (One o) v before
-  pub answered : AnsweredCursor called said stamp number left before after
-  pub gone : OnlyLocked after w
-  pub owners : SameOwners after w
-  pub mine : cursor_in number w.log ≡ Some left
-
 -- The pass has the cursors that it had under all other numbers. (Python manual, Iterator Types)
 abbrev pub KeepsOtherCursors : ℕ → View → View → Type 0
 KeepsOtherCursors number v w = (other : ℕ) → other ≢ number → cursor_in other w.log ≡ cursor_in other v.log
@@ -64,18 +51,26 @@ KeepsOtherCursors number v w = (other : ℕ) → other ≢ number → cursor_in 
 abbrev pub IsOver : Kind → ℕ → Cursor → Type 0
 IsOver kind o walker = (container_of walker ≡ o) × (cursor_kind walker ≡ kind) × (is_landed_cursor walker ≡ true)
 
--- The call gave its reply so, and the caller has the cursor that it leaves, over the same container; or a step of it
--- found another pass with the lock of the container, and the caller's cursor stays. It takes no table and no memory. (C
--- API, critical sections)
-abbrev pub IsMoveOf : Kind → ℕ → Call → ℕ → Option Cursor → View → View → Step → Option Cursor → Type 0
-IsMoveOf kind o called number had v w (step.Done said stamp) left =
+-- It was answered at a load of the counter, and the caller has the cursor that the pass has then under the number,
+-- over the same container. (Python manual, Iterator Types)
+abbrev pub IsCursorMove : Kind → ℕ → Call → ℕ → Option Cursor → Made → View → View → Type 0
+IsCursorMove kind o called number left (made.Done said stamp) v w =
     (walker : Cursor) × (left ≡ Some walker) × IsOver kind o walker
-    × MovedUnderLock o called said stamp.number number walker v w
+    × AnsweredCursor called said stamp.number number walker v w
     × (stamp.wrote ≡ false)
-IsMoveOf kind o called number had v w (step.NotYet p q) left =
-    (left ≡ had) × OnlyLocked v w × IsOf p (One o) × FoundOwner p q v w
-IsMoveOf kind o called number had v w (step.Moved a b) left = ⊥
-IsMoveOf kind o called number had v w step.NoMemory left = ⊥
+IsCursorMove kind o called number left (made.Moved a b) v w = ⊥
+IsCursorMove kind o called number left made.NoMemory v w = ⊥
+
+-- The cursor that the caller has after a try is the one that its pass has under the number, where the call is done;
+-- else it is the one that it had.
+abbrev pub LeavesCursor : ℕ → Option Cursor → View → Step → Option Cursor → Type 0
+LeavesCursor number had w (step.Done said stamp) left = cursor_in number w.log ≡ left
+LeavesCursor number had w other left = left ≡ had
+
+-- what the try of such a call answers, and the cursor that it leaves (C API, critical sections)
+abbrev pub IsMoveOf : Kind → ℕ → Call → ℕ → Option Cursor → View → View → Step → Option Cursor → Type 0
+IsMoveOf kind o called number had v w result left =
+    IsTry (One o) (IsCursorMove kind o called number left) v w result × LeavesCursor number had w result left
 
 -- the call `iter` on a container of a kind, and the cursor that it makes there, where there are this many pairs, items
 -- or elements (Python manual, Iterator Types); a deque of a bank was never changed yet (profile)

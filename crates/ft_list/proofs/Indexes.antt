@@ -144,10 +144,6 @@ named_counted k o index found n part s =
     let v = Version o b.version in
     subst (λ (z : List Act). Among (ReadCounter n) z) (sym b.is) (among_older (ReadCounter n) b.newer (v ∷ (s.mid ++ v ∷ b.rest)) (among_in (ReadCounter n) (v ∷ []) s.mid (v ∷ b.rest) s.counted))
 
-item_other : (found : Option Value) → item_reply found ≢ reply.Kept
-item_other (Some value) = λ e. absurd (cc)
-item_other None = λ e. absurd (cc)
-
 pub get_shown : (v w : View) (o : ℕ) (index : ℤ) (found : Option Value) (n : ℕ) (part : List Act) → MayAsk w o n → w.log ≡ part ++ v.log → kind_in w.shape.starts o ≡ kind.List → ShowsNamed w.shape o index found n part → IsShown w (call.List o (list.Get index)) (item_reply found) n
 get_shown v w o index found n part ask own is s =
     let called = call.List o (list.Get index) in
@@ -158,7 +154,7 @@ get_shown v w o index found n part ask own is s =
       stamp = s.counted;
       answers = λ x stored is_kind stands agrees. get_replied stored o index found (s.shows x agrees (state_at stored o) (is_kind ∙ is) stands);
     } in
-    looks_are_shown w called o (item_reply found) n ask plain.reads plain.cursor plain.adds plain.memory (item_other found) (plain.replied (item_reply found) refl) looked
+    looks_are_shown w called o (item_reply found) n ask plain.reads plain.cursor plain.cause (plain.replied (item_reply found) refl) looked
 
 -- ---- under the lock
 

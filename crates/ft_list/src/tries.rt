@@ -10,11 +10,10 @@ ghost use Rattle.ft_bank.specs.Passes.{shape_of, view};
 ghost use Rattle.ft_section.specs.declared.answers.Objects.TheVariants.{One, Two};
 ghost use Rattle.ft_section.specs.Ready.{MayTry};
 ghost use Rattle.ft_section.specs.Trying.{SectionsAfter};
-ghost use Rattle.ft_table_calls.specs.Adding.{IsTryOf, KeepsCursors};
-ghost use Rattle.ft_search.specs.MadeCalls.{IsMadeOf};
-ghost use Rattle.ft_search.specs.Tries.{IsReadOf};
-ghost use Rattle.ft_reads.specs.Clears.{IsClearOf};
-ghost use Rattle.ft_reads.specs.Copies.{IsCopyOf};
+ghost use Rattle.ft_table_calls.specs.Adding.{KeepsCursors};
+ghost use Rattle.ft_table_calls.specs.TriesUnderLocks.{ComesTo, IsMade, IsRead, IsTry};
+ghost use Rattle.ft_reads.specs.Clears.{IsClear};
+ghost use Rattle.ft_reads.specs.Copies.{IsCopy};
 ghost use Rattle.ft_list.specs.ListGrowth.{AddsItems, ExtendsBy};
 
 use crate::making::{Appender, ListMaker};
@@ -32,7 +31,7 @@ use std::alloc::Global;
 /// `NotYet` where a step of the call found another pass with the lock of the list; `Moved` where two steps of it
 /// found a word of the free tables of one class changed. The same call comes next. It never answers `NoMemory`.
 /// Whatever it answers, the pass has the cursors that it had.
-#[tactic(auto, using(ft_table_calls::proofs::TriedCalls::added_try, ft_table_calls::proofs::TriedCalls::added_keeps))]
+#[tactic(auto, using(ft_table_calls::proofs::TriedCalls::added_keeps))]
 pub fn try_append(bank: &Bank, pass: &mut Pass, l: Object, value: Value) -> Step
     requires may { MayTry bank.now pass.old (One l) }
     requires container { l < container_count (shape_of bank.now) }
@@ -40,7 +39,8 @@ pub fn try_append(bank: &Bank, pass: &mut Pass, l: Object, value: Value) -> Step
     requires left { 0 < (view pass.old).left }
     ensures may { MayTry bank.now pass.new (One l) }
     ensures sections { SectionsAfter bank.now (One l) pass.old pass.new result }
-    ensures tried { IsTryOf (One l) (AddsItems (shape_of bank.now) l (call.List l (list.Append value)) 1) reply.Done
+    ensures tried { IsTry (One l)
+        (ComesTo (AddsItems (shape_of bank.now) l (call.List l (list.Append value)) 1) reply.Done)
         (view pass.old) (view pass.new) result }
     ensures cursors { KeepsCursors (view pass.old) (view pass.new) }
 {
@@ -57,7 +57,7 @@ pub fn try_append(bank: &Bank, pass: &mut Pass, l: Object, value: Value) -> Step
 /// # Errors
 ///
 /// As those of `try_append`.
-#[tactic(auto, using(ft_table_calls::proofs::TriedCalls::added_try, ft_table_calls::proofs::TriedCalls::added_keeps))]
+#[tactic(auto, using(ft_table_calls::proofs::TriedCalls::added_keeps))]
 pub fn try_insert(bank: &Bank, pass: &mut Pass, l: Object, index: i64, value: Value) -> Step
     requires may { MayTry bank.now pass.old (One l) }
     requires container { l < container_count (shape_of bank.now) }
@@ -65,7 +65,8 @@ pub fn try_insert(bank: &Bank, pass: &mut Pass, l: Object, index: i64, value: Va
     requires left { 0 < (view pass.old).left }
     ensures may { MayTry bank.now pass.new (One l) }
     ensures sections { SectionsAfter bank.now (One l) pass.old pass.new result }
-    ensures tried { IsTryOf (One l) (AddsItems (shape_of bank.now) l (call.List l (list.Insert index value)) 1) reply.Done
+    ensures tried { IsTry (One l)
+        (ComesTo (AddsItems (shape_of bank.now) l (call.List l (list.Insert index value)) 1) reply.Done)
         (view pass.old) (view pass.new) result }
     ensures cursors { KeepsCursors (view pass.old) (view pass.new) }
 {
@@ -89,7 +90,7 @@ pub fn try_insert(bank: &Bank, pass: &mut Pass, l: Object, index: i64, value: Va
 /// # Errors
 ///
 /// As those of `try_append`, for the locks of both.
-#[tactic(auto, using(ft_table_calls::proofs::TriedCalls::added_try, ft_table_calls::proofs::TriedCalls::added_keeps))]
+#[tactic(auto, using(ft_table_calls::proofs::TriedCalls::added_keeps))]
 pub fn try_extend(bank: &Bank, pass: &mut Pass, l: Object, m: Object) -> Step
     requires may { MayTry bank.now pass.old (Two l m) }
     requires container { l < container_count (shape_of bank.now) }
@@ -99,8 +100,8 @@ pub fn try_extend(bank: &Bank, pass: &mut Pass, l: Object, m: Object) -> Step
     requires left { 0 < (view pass.old).left }
     ensures may { MayTry bank.now pass.new (Two l m) }
     ensures sections { SectionsAfter bank.now (Two l m) pass.old pass.new result }
-    ensures tried { IsTryOf (Two l m) (ExtendsBy (shape_of bank.now) l m) reply.Done (view pass.old) (view pass.new)
-        result }
+    ensures tried { IsTry (Two l m) (ComesTo (ExtendsBy (shape_of bank.now) l m) reply.Done)
+        (view pass.old) (view pass.new) result }
     ensures cursors { KeepsCursors (view pass.old) (view pass.new) }
 {
     let called = Call::List {
@@ -122,7 +123,6 @@ pub fn try_extend(bank: &Bank, pass: &mut Pass, l: Object, m: Object) -> Step
 ///
 /// `NotYet` where a step of the call found another pass with the lock of the list; the same call comes next.
 /// It never answers `Moved` or `NoMemory`.
-#[tactic(auto, using(ft_table_calls::proofs::TriedCalls::read_try))]
 pub fn try_get(bank: &Bank, pass: &mut Pass, l: Object, index: i64) -> Step
     requires may { MayTry bank.now pass.old (One l) }
     requires container { l < container_count (shape_of bank.now) }
@@ -130,7 +130,7 @@ pub fn try_get(bank: &Bank, pass: &mut Pass, l: Object, index: i64) -> Step
     requires left { 0 < (view pass.old).left }
     ensures may { MayTry bank.now pass.new (One l) }
     ensures sections { SectionsAfter bank.now (One l) pass.old pass.new result }
-    ensures read { IsReadOf l (call.List l (list.Get index)) (view pass.old) (view pass.new) result }
+    ensures tried { IsTry (One l) (IsRead (call.List l (list.Get index))) (view pass.old) (view pass.new) result }
 {
     let called = Call::List {
         container: l,
@@ -151,7 +151,6 @@ pub fn try_get(bank: &Bank, pass: &mut Pass, l: Object, index: i64) -> Step
 ///
 /// `NotYet` where a step of the call found another pass with the lock of the list; the same call comes next.
 /// It never answers `Moved` or `NoMemory`.
-#[tactic(auto, using(ft_table_calls::proofs::TriedCalls::made_try))]
 pub fn try_set(bank: &Bank, pass: &mut Pass, l: Object, index: i64, value: Value) -> Step
     requires may { MayTry bank.now pass.old (One l) }
     requires container { l < container_count (shape_of bank.now) }
@@ -159,7 +158,7 @@ pub fn try_set(bank: &Bank, pass: &mut Pass, l: Object, index: i64, value: Value
     requires left { 0 < (view pass.old).left }
     ensures may { MayTry bank.now pass.new (One l) }
     ensures sections { SectionsAfter bank.now (One l) pass.old pass.new result }
-    ensures made { IsMadeOf (One l) (call.List l (list.Set index value)) (view pass.old) (view pass.new) result }
+    ensures tried { IsTry (One l) (IsMade (call.List l (list.Set index value))) (view pass.old) (view pass.new) result }
 {
     let called = Call::List {
         container: l,
@@ -180,7 +179,6 @@ pub fn try_set(bank: &Bank, pass: &mut Pass, l: Object, index: i64, value: Value
 ///
 /// `NotYet` where a step of the call found another pass with the lock of the list; the same call comes next.
 /// It never answers `Moved` or `NoMemory`.
-#[tactic(auto, using(ft_table_calls::proofs::TriedCalls::made_try))]
 pub fn try_del(bank: &Bank, pass: &mut Pass, l: Object, index: i64) -> Step
     requires may { MayTry bank.now pass.old (One l) }
     requires container { l < container_count (shape_of bank.now) }
@@ -188,7 +186,7 @@ pub fn try_del(bank: &Bank, pass: &mut Pass, l: Object, index: i64) -> Step
     requires left { 0 < (view pass.old).left }
     ensures may { MayTry bank.now pass.new (One l) }
     ensures sections { SectionsAfter bank.now (One l) pass.old pass.new result }
-    ensures made { IsMadeOf (One l) (call.List l (list.Del index)) (view pass.old) (view pass.new) result }
+    ensures tried { IsTry (One l) (IsMade (call.List l (list.Del index))) (view pass.old) (view pass.new) result }
 {
     let called = Call::List {
         container: l,
@@ -209,7 +207,6 @@ pub fn try_del(bank: &Bank, pass: &mut Pass, l: Object, index: i64) -> Step
 ///
 /// `NotYet` where a step of the call found another pass with the lock of the list; the same call comes next.
 /// It never answers `Moved` or `NoMemory`.
-#[tactic(auto, using(ft_table_calls::proofs::TriedCalls::made_try))]
 pub fn try_pop(bank: &Bank, pass: &mut Pass, l: Object, index: Option<i64>) -> Step
     requires may { MayTry bank.now pass.old (One l) }
     requires container { l < container_count (shape_of bank.now) }
@@ -217,7 +214,7 @@ pub fn try_pop(bank: &Bank, pass: &mut Pass, l: Object, index: Option<i64>) -> S
     requires left { 0 < (view pass.old).left }
     ensures may { MayTry bank.now pass.new (One l) }
     ensures sections { SectionsAfter bank.now (One l) pass.old pass.new result }
-    ensures made { IsMadeOf (One l) (call.List l (list.Pop index)) (view pass.old) (view pass.new) result }
+    ensures tried { IsTry (One l) (IsMade (call.List l (list.Pop index))) (view pass.old) (view pass.new) result }
 {
     let called = Call::List {
         container: l,
@@ -238,7 +235,6 @@ pub fn try_pop(bank: &Bank, pass: &mut Pass, l: Object, index: Option<i64>) -> S
 ///
 /// `NotYet` where a step of the call found another pass with the lock of the list; the same call comes next.
 /// It never answers `Moved` or `NoMemory`.
-#[tactic(auto, using(ft_table_calls::proofs::TriedCalls::made_try))]
 pub fn try_remove(bank: &Bank, pass: &mut Pass, l: Object, value: Value) -> Step
     requires may { MayTry bank.now pass.old (One l) }
     requires container { l < container_count (shape_of bank.now) }
@@ -246,7 +242,7 @@ pub fn try_remove(bank: &Bank, pass: &mut Pass, l: Object, value: Value) -> Step
     requires left { 0 < (view pass.old).left }
     ensures may { MayTry bank.now pass.new (One l) }
     ensures sections { SectionsAfter bank.now (One l) pass.old pass.new result }
-    ensures made { IsMadeOf (One l) (call.List l (list.Remove value)) (view pass.old) (view pass.new) result }
+    ensures tried { IsTry (One l) (IsMade (call.List l (list.Remove value))) (view pass.old) (view pass.new) result }
 {
     let called = Call::List {
         container: l,
@@ -267,7 +263,6 @@ pub fn try_remove(bank: &Bank, pass: &mut Pass, l: Object, value: Value) -> Step
 ///
 /// `NotYet` where a step of the call found another pass with the lock of the list; the same call comes next.
 /// It never answers `Moved` or `NoMemory`.
-#[tactic(auto, using(ft_table_calls::proofs::TriedCalls::made_try))]
 pub fn try_index(bank: &Bank, pass: &mut Pass, l: Object, value: Value) -> Step
     requires may { MayTry bank.now pass.old (One l) }
     requires container { l < container_count (shape_of bank.now) }
@@ -275,7 +270,7 @@ pub fn try_index(bank: &Bank, pass: &mut Pass, l: Object, value: Value) -> Step
     requires left { 0 < (view pass.old).left }
     ensures may { MayTry bank.now pass.new (One l) }
     ensures sections { SectionsAfter bank.now (One l) pass.old pass.new result }
-    ensures made { IsMadeOf (One l) (call.List l (list.Index value)) (view pass.old) (view pass.new) result }
+    ensures tried { IsTry (One l) (IsMade (call.List l (list.Index value))) (view pass.old) (view pass.new) result }
 {
     let called = Call::List {
         container: l,
@@ -296,7 +291,6 @@ pub fn try_index(bank: &Bank, pass: &mut Pass, l: Object, value: Value) -> Step
 ///
 /// `NotYet` where a step of the call found another pass with the lock of the list; the same call comes next.
 /// It never answers `Moved` or `NoMemory`.
-#[tactic(auto, using(ft_table_calls::proofs::TriedCalls::made_try))]
 pub fn try_count(bank: &Bank, pass: &mut Pass, l: Object, value: Value) -> Step
     requires may { MayTry bank.now pass.old (One l) }
     requires container { l < container_count (shape_of bank.now) }
@@ -304,7 +298,7 @@ pub fn try_count(bank: &Bank, pass: &mut Pass, l: Object, value: Value) -> Step
     requires left { 0 < (view pass.old).left }
     ensures may { MayTry bank.now pass.new (One l) }
     ensures sections { SectionsAfter bank.now (One l) pass.old pass.new result }
-    ensures made { IsMadeOf (One l) (call.List l (list.Count value)) (view pass.old) (view pass.new) result }
+    ensures tried { IsTry (One l) (IsMade (call.List l (list.Count value))) (view pass.old) (view pass.new) result }
 {
     let called = Call::List {
         container: l,
@@ -325,7 +319,6 @@ pub fn try_count(bank: &Bank, pass: &mut Pass, l: Object, value: Value) -> Step
 ///
 /// `NotYet` where a step of the call found another pass with the lock of the list; the same call comes next.
 /// It never answers `Moved` or `NoMemory`.
-#[tactic(auto, using(ft_table_calls::proofs::TriedCalls::made_try))]
 pub fn try_has(bank: &Bank, pass: &mut Pass, l: Object, value: Value) -> Step
     requires may { MayTry bank.now pass.old (One l) }
     requires container { l < container_count (shape_of bank.now) }
@@ -333,7 +326,7 @@ pub fn try_has(bank: &Bank, pass: &mut Pass, l: Object, value: Value) -> Step
     requires left { 0 < (view pass.old).left }
     ensures may { MayTry bank.now pass.new (One l) }
     ensures sections { SectionsAfter bank.now (One l) pass.old pass.new result }
-    ensures made { IsMadeOf (One l) (call.List l (list.Has value)) (view pass.old) (view pass.new) result }
+    ensures tried { IsTry (One l) (IsMade (call.List l (list.Has value))) (view pass.old) (view pass.new) result }
 {
     let called = Call::List {
         container: l,
@@ -354,7 +347,6 @@ pub fn try_has(bank: &Bank, pass: &mut Pass, l: Object, value: Value) -> Step
 ///
 /// `NotYet` where a step of the call found another pass with the lock of the list; the same call comes next.
 /// It never answers `Moved` or `NoMemory`.
-#[tactic(auto, using(ft_table_calls::proofs::TriedCalls::made_try))]
 pub fn try_reverse(bank: &Bank, pass: &mut Pass, l: Object) -> Step
     requires may { MayTry bank.now pass.old (One l) }
     requires container { l < container_count (shape_of bank.now) }
@@ -362,7 +354,7 @@ pub fn try_reverse(bank: &Bank, pass: &mut Pass, l: Object) -> Step
     requires left { 0 < (view pass.old).left }
     ensures may { MayTry bank.now pass.new (One l) }
     ensures sections { SectionsAfter bank.now (One l) pass.old pass.new result }
-    ensures made { IsMadeOf (One l) (call.List l list.Reverse) (view pass.old) (view pass.new) result }
+    ensures tried { IsTry (One l) (IsMade (call.List l list.Reverse)) (view pass.old) (view pass.new) result }
 {
     let called = Call::List {
         container: l,
@@ -384,7 +376,6 @@ pub fn try_reverse(bank: &Bank, pass: &mut Pass, l: Object) -> Step
 /// `NotYet` where a step of the call found another pass with the lock of the list; the same call comes next.
 /// `NoMemory` where memory for the copy ran out: the list is as it was, and the lock is let go. It never
 /// answers `Moved`.
-#[tactic(auto, using(ft_reads::proofs::TriedReads::copy_try))]
 pub fn try_slice(
     bank: &Bank,
     pass: &mut Pass,
@@ -399,7 +390,7 @@ pub fn try_slice(
     requires left { 0 < (view pass.old).left }
     ensures may { MayTry bank.now pass.new (One l) }
     ensures sections { SectionsAfter bank.now (One l) pass.old pass.new result }
-    ensures made { IsCopyOf (One l) (call.List l (list.Slice start end)) (view pass.old) (view pass.new) result }
+    ensures tried { IsTry (One l) (IsCopy (call.List l (list.Slice start end))) (view pass.old) (view pass.new) result }
 {
     let called = Call::List {
         container: l,
@@ -421,7 +412,6 @@ pub fn try_slice(
 /// `NotYet` where a step of the call found another pass with the lock of the list; the same call comes next.
 /// `NoMemory` where memory for the copy ran out: the list is as it was, and the lock is let go. It never
 /// answers `Moved`.
-#[tactic(auto, using(ft_reads::proofs::TriedReads::copy_try))]
 pub fn try_items(bank: &Bank, pass: &mut Pass, alloc: Global, l: Object) -> Step
     requires may { MayTry bank.now pass.old (One l) }
     requires container { l < container_count (shape_of bank.now) }
@@ -429,7 +419,7 @@ pub fn try_items(bank: &Bank, pass: &mut Pass, alloc: Global, l: Object) -> Step
     requires left { 0 < (view pass.old).left }
     ensures may { MayTry bank.now pass.new (One l) }
     ensures sections { SectionsAfter bank.now (One l) pass.old pass.new result }
-    ensures made { IsCopyOf (One l) (call.List l list.Items) (view pass.old) (view pass.new) result }
+    ensures tried { IsTry (One l) (IsCopy (call.List l list.Items)) (view pass.old) (view pass.new) result }
 {
     let called = Call::List {
         container: l,
@@ -450,7 +440,7 @@ pub fn try_items(bank: &Bank, pass: &mut Pass, alloc: Global, l: Object) -> Step
 ///
 /// `NotYet` where a step of the call found another pass with the lock of the list; the same call comes next.
 /// It never answers `Moved` or `NoMemory`.
-#[tactic(auto, using(ft_reads::proofs::TriedReads::clear_try, ft_reads::proofs::TriedReads::clear_keeps))]
+#[tactic(auto, using(ft_reads::proofs::TriedReads::clear_keeps))]
 pub fn try_clear(bank: &Bank, pass: &mut Pass, l: Object) -> Step
     requires may { MayTry bank.now pass.old (One l) }
     requires container { l < container_count (shape_of bank.now) }
@@ -458,7 +448,7 @@ pub fn try_clear(bank: &Bank, pass: &mut Pass, l: Object) -> Step
     requires left { 0 < (view pass.old).left }
     ensures may { MayTry bank.now pass.new (One l) }
     ensures sections { SectionsAfter bank.now (One l) pass.old pass.new result }
-    ensures tried { IsClearOf l (call.List l list.Clear) (view pass.old) (view pass.new) result }
+    ensures tried { IsTry (One l) (IsClear (call.List l list.Clear)) (view pass.old) (view pass.new) result }
     ensures cursors { KeepsCursors (view pass.old) (view pass.new) }
 {
     let called = Call::List {
@@ -480,7 +470,6 @@ pub fn try_clear(bank: &Bank, pass: &mut Pass, l: Object) -> Step
 ///
 /// `NotYet` where a step of the call found another pass with the lock of the list; the same call comes next. It
 /// never answers `Moved` or `NoMemory`.
-#[tactic(auto, using(ft_table_calls::proofs::TriedCalls::read_try))]
 pub fn try_len(bank: &Bank, pass: &mut Pass, l: Object) -> Step
     requires may { MayTry bank.now pass.old (One l) }
     requires container { l < container_count (shape_of bank.now) }
@@ -488,7 +477,7 @@ pub fn try_len(bank: &Bank, pass: &mut Pass, l: Object) -> Step
     requires left { 0 < (view pass.old).left }
     ensures may { MayTry bank.now pass.new (One l) }
     ensures sections { SectionsAfter bank.now (One l) pass.old pass.new result }
-    ensures read { IsReadOf l (call.List l list.Len) (view pass.old) (view pass.new) result }
+    ensures tried { IsTry (One l) (IsRead (call.List l list.Len)) (view pass.old) (view pass.new) result }
 {
     let called = Call::List {
         container: l,
@@ -510,7 +499,6 @@ pub fn try_len(bank: &Bank, pass: &mut Pass, l: Object) -> Step
 ///
 /// `NotYet` where a step of the call found another pass with the lock of one of the lists; the same call
 /// comes next. It never answers `Moved` or `NoMemory`.
-#[tactic(auto, using(ft_table_calls::proofs::TriedCalls::made_try))]
 pub fn try_eq(bank: &Bank, pass: &mut Pass, l: Object, m: Object) -> Step
     requires may { MayTry bank.now pass.old (Two l m) }
     requires container { l < container_count (shape_of bank.now) }
@@ -520,7 +508,7 @@ pub fn try_eq(bank: &Bank, pass: &mut Pass, l: Object, m: Object) -> Step
     requires left { 0 < (view pass.old).left }
     ensures may { MayTry bank.now pass.new (Two l m) }
     ensures sections { SectionsAfter bank.now (Two l m) pass.old pass.new result }
-    ensures made { IsMadeOf (Two l m) (call.List l (list.Eq m)) (view pass.old) (view pass.new) result }
+    ensures tried { IsTry (Two l m) (IsMade (call.List l (list.Eq m))) (view pass.old) (view pass.new) result }
 {
     let called = Call::List {
         container: l,

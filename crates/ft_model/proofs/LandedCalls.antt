@@ -1,28 +1,22 @@
--- What holds where starts and calls are landed: no dict is split, and no entry awaits another.
-use Rattle.std.proofs.Common.{◌≡◌, ℕ, suc, zero, ◌-◌, true, List, [], ◌∷◌, length, map, set, Option, Some, None, refl, sym, ap, subst, ◌∙◌, arith}
-use Rattle.std.specs.Prelude.{◌==◌, All, fold, slice_get}
-use Rattle.std.specs.Option.{option_map_or}
-use Rattle.std.proofs.lemmas.Bool.{eq-eqb, false≢true, and_parts}
-use Rattle.std.proofs.Math.ListN.{get_or-map}
-use Rattle.std.proofs.lemmas.List.{length-map}
-use Rattle.std.proofs.lemmas.List.Elements.{All-nil, All-map}
+-- What holds where starts are landed: no dict is split.
+use Rattle.std.proofs.Common.{◌≡◌, ℕ, suc, zero, ◌-◌, true, List, [], ◌∷◌, length, map, set, Option, refl, sym, ap, subst, ◌∙◌, arith}
+use Rattle.std.specs.Prelude.{All, fold}
+use Rattle.std.proofs.lemmas.Bool.{false≢true, and_parts}
+use Rattle.std.proofs.lemmas.List.Elements.{All-map}
 use Rattle.ft_model.specs.declared.data.Key.{Key}
 use Rattle.ft_model.specs.declared.call.Call.{Call}
 use Rattle.ft_model.specs.declared.call.Call.TheVariants as call
 use Rattle.ft_model.specs.declared.call.TableChange.{TableChange}
 use Rattle.ft_model.specs.declared.call.TableChange.TheVariants as change
-use Rattle.ft_model.specs.declared.entry.Entry.{Entry}
 use Rattle.ft_model.specs.declared.script.Declaration.{Declaration}
 use Rattle.ft_model.specs.declared.script.Start.{Start}
 use Rattle.ft_model.specs.declared.script.ScriptParts.{ScriptParts}
 use Rattle.ft_model.specs.Calls.{dict_change, list_change, set_change, deque_change}
-use Rattle.ft_model.specs.Landed.{is_landed_kind, shares_none, is_landed_start, AreLanded, is_landed_call}
-use Rattle.ft_model.specs.Scripts.{IsScript, IsThread}
+use Rattle.ft_model.specs.Landed.{is_landed_kind, shares_none, is_landed_start, AreLanded}
+use Rattle.ft_model.specs.Scripts.{IsScript}
 use Rattle.ft_model.specs.Worlds.{WorldContent, start_in, starts_of, dict_at, set_at}
 use Rattle.ft_model.specs.Answers.{after_write}
 use Rattle.ft_model.specs.TableUses.{TableUse, StoredWorld, empty_stored, no_table, table_at, is_split, takes_out, can_leave_split, CanLackLeaving, change_leaves, grown_table, copy_leaves, takes_in, leaves_tables, after_stored, stored_by, stored_newest}
-use Rattle.ft_model.specs.Histories.{calls_of, entries_of, IsWhole, IsAwaitedIn, IsAwaited, EachAt}
-use Rattle.ft_model.proofs.LegalTables.{each_passed, each_some}
 use Rattle.ft_model.proofs.TableOrder.{grown-keys, copied-keys}
 use Rattle.ft_model.proofs.SplitDicts.{unsplit_leaves}
 
@@ -114,37 +108,3 @@ stored_unsplit starts each calls = by calls (empty_stored starts) (start_unsplit
     by : (calls : List Call) (stored : StoredWorld) → AreUnsplit stored.tables → AreUnsplit (fold after_stored stored calls).tables
     by [] stored is = is
     by (called ∷ calls) stored is = by calls (after_stored stored called) (after_unsplit stored called is)
-
--- ---- awaits
-
-pub landed_awaited : (entries : List Entry) (place : ℕ) (called : Call) → is_landed_call called ≡ true → IsAwaitedIn entries place called
-landed_awaited entries place (call.Dict container c) landed = tt
-landed_awaited entries place (call.List container c) landed = tt
-landed_awaited entries place (call.Set container c) landed = tt
-landed_awaited entries place (call.Deque container c) landed = tt
-landed_awaited entries place (call.Next cursor) landed = tt
-landed_awaited entries place (call.Begin first second) landed = tt
-landed_awaited entries place call.End landed = tt
-landed_awaited entries place call.Quiesce landed = tt
-landed_awaited entries place (call.Await thread index) landed = absurd (false≢true landed)
-landed_awaited entries place call.Dump landed = tt
-
--- the calls of a script's threads are landed
-pub script_calls : (script : ScriptParts) → IsScript script → (thread : ℕ) → All (λ called. is_landed_call called ≡ true) (calls_of script thread)
-script_calls script is thread =
-    elim (slice_get script.threads thread) as (λ o. slice_get script.threads thread ≡ o → All (λ called. is_landed_call called ≡ true) (option_map_or (λ found. found.calls) o [])) [
-      | None ↦ λ at. All-nil _
-      | Some found ↦ λ at. (each_some (IsThread script) script.threads is.threads thread found at).landed
-    ] refl
-
--- and so are those of the entries of its histories
-pub entry_landed : (script : ScriptParts) (entries : List Entry) → IsScript script → IsWhole script entries → (place : ℕ) (entry : Entry) → slice_get entries place ≡ Some entry → is_landed_call entry.call ≡ true
-entry_landed script entries is whole place entry at =
-    let landed : All (λ called. is_landed_call called ≡ true) (map (λ (e : Entry). e.call) (entries_of entry.thread entries)) = subst (All (λ called. is_landed_call called ≡ true)) (sym (whole.calls entry.thread)) (script_calls script is entry.thread) in
-    each_passed (λ e. is_landed_call e.call ≡ true) (λ e. e.thread == entry.thread) entries
-    (λ k d low. subst (λ called. is_landed_call called ≡ true) (get_or-map (λ (e : Entry). e.call) (entries_of entry.thread entries) k d) (landed k d.call (omega (arith, length-map (entries_of entry.thread entries) (λ (e : Entry). e.call)))))
-    place entry at (eq-eqb entry.thread entry.thread refl)
-
--- so that none of them awaits another
-pub whole_awaited : (script : ScriptParts) (entries : List Entry) → IsScript script → IsWhole script entries → EachAt entries (IsAwaited entries)
-whole_awaited script entries is whole = λ place entry at. landed_awaited entries place entry.call (entry_landed script entries is whole place entry at)

@@ -51,7 +51,7 @@ abbrev pub is_landed_list : ListCall → Bool
 is_landed_list (list.Reversed cursor) = false
 is_landed_list _ = true
 
--- whether a call is: no call of a deque, no `await` and no dump yet
+-- whether a call is: no call of a deque and no dump yet
 abbrev pub is_landed_call : Call → Bool
 is_landed_call (call.Dict container dict_call) = is_landed_dict dict_call
 is_landed_call (call.List container list_call) = is_landed_list list_call
@@ -61,7 +61,7 @@ is_landed_call (call.Next cursor) = true
 is_landed_call (call.Begin first second) = true
 is_landed_call call.End = true
 is_landed_call call.Quiesce = true
-is_landed_call (call.Await thread index) = false
+is_landed_call (call.Await thread index) = true
 is_landed_call call.Dump = false
 
 -- ---- boxes

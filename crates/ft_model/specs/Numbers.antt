@@ -1,8 +1,9 @@
 -- Entries that threads make beside each other, in whatever order they came together. Each is right by its own thread's
 -- entries and by the writes as they are numbered, whatever other threads' entries say: all that a legal history needs.
-use Rattle.std.specs.Prelude.{◌≡◌, ◌≢◌, ℕ, Bool, true, ◌&&◌, ◌==◌, ◌+◌, ◌<◌, ◌≤◌, List, [], ◌∷◌, ◌++◌, map, fold, take, drop, length, All, Option, Some, IfSome, slice_get, if◌then◌else◌}
+use Rattle.std.specs.Prelude.{◌≡◌, ◌≢◌, ℕ, Bool, true, ◌&&◌, ◌==◌, ◌+◌, ◌-◌, ◌<◌, ◌≤◌, List, [], ◌∷◌, ◌++◌, map, fold, take, drop, length, All, Option, Some, IfSome, slice_get, slice_index_or, if◌then◌else◌}
 use Rattle.std.specs.List.{count_by, flat_map, list_any, range_with_len}
 use Rattle.ft_model.specs.declared.call.Call.{Call}
+use Rattle.ft_model.specs.declared.call.Call.TheVariants as call
 use Rattle.ft_model.specs.declared.reply.Reply.{Reply}
 use Rattle.ft_model.specs.declared.reply.Reply.TheVariants as reply
 use Rattle.ft_model.specs.declared.content.Content.{Content}
@@ -113,6 +114,13 @@ pub record IsNumberedThread
   pub numbers : All (λ entry. entry.wrote ≡ true → slice_get calls entry.stamp ≡ Some entry.call) mine
   pub right : EachAt mine (λ place entry. IsRightAfter storage script calls (take place mine) entry)
 
+-- an `await` knows of the call that it names, where these are the entries of each thread: its stamp is at least how many
+-- writes there are once that call's entry is made (profile)
+abbrev pub KnowsAwaited : (ℕ → List Entry) → Entry → Call → Type 0
+KnowsAwaited made entry (call.Await thread index) =
+    (named : Entry) → slice_get (made thread) (index - 1) ≡ Some named → number_after named ≤ entry.stamp
+KnowsAwaited made entry _ = Unit {0}
+
 -- a thread has made all its calls, and its marks are right
 pub record IsDone (script : ScriptParts) (calls : List Call) (thread : ℕ) (mine : List Entry) : Type 0 where
   pub made : map (λ entry. entry.call) mine ≡ calls_of script thread
@@ -126,6 +134,7 @@ pub record AreNumbered
   -- each number is that of one write
   pub once : (number : ℕ) → number < length calls → count_by (is_number number) entries ≡ 1
   pub done : (thread : ℕ) → IsDone script calls thread (entries_of thread entries)
+  pub known : All (λ entry. KnowsAwaited (λ thread. entries_of thread entries) entry entry.call) entries
 
 -- ---- one list for each thread
 
@@ -139,10 +148,11 @@ pub record AreNumberedLists
       → IsNumberedThread storage script calls thread mine
   pub once : (number : ℕ) → number < length calls → count_by (is_number number) (flat_map (λ mine. mine) lists) ≡ 1
 
--- all threads are done
-abbrev pub AreDone : ScriptParts → List Call → List (List Entry) → Type 0
-AreDone script calls lists =
-    (thread : ℕ) (mine : List Entry) → slice_get lists thread ≡ Some mine → IsDone script calls thread mine
+-- all threads are done, and each `await` knows of the call that it names
+pub record AreDone (script : ScriptParts) (calls : List Call) (lists : List (List Entry)) : Type 0 where
+  pub threads : (thread : ℕ) (mine : List Entry) → slice_get lists thread ≡ Some mine → IsDone script calls thread mine
+  pub known :
+      All (λ mine. All (λ entry. KnowsAwaited (λ thread. slice_index_or lists thread []) entry entry.call) mine) lists
 
 -- the writes after one more entry
 abbrev pub calls_after : List Call → Entry → List Call

@@ -1,10 +1,8 @@
 //! Which starts and calls the bank of shared words can do so far, asked as a program.
 ghost use Rattle.std.specs.Prelude.{◌≡◌, ℕ, List, []};
 ghost use Rattle.ft_model.specs.declared.call.Call.{Call};
-ghost use Rattle.ft_model.specs.declared.entry.Entry.{Entry};
 ghost use Rattle.ft_model.specs.declared.script.ScriptParts.{ScriptParts};
 ghost use Rattle.ft_model.specs.declared.script.Start.{Start};
-ghost use Rattle.ft_model.specs.Histories.{IsWhole, IsAwaited, EachAt};
 ghost use Rattle.ft_model.specs.Landed.{AreLanded};
 ghost use Rattle.ft_model.specs.Scripts.{IsScript};
 ghost use Rattle.ft_model.specs.TableUses.{CanLackLeaving, stored_by, table_at};
@@ -30,17 +28,21 @@ impl Start {
 impl Call {
     ghost use Rattle.ft_model.specs.Landed.{is_landed_call};
 
-    /// Whether a script may have the call. Calls of deques, views of dicts, reversed cursors, `await`
-    /// and dumps may not be there yet.
+    /// Whether a script may have the call. Calls of deques, views of dicts, reversed cursors and
+    /// dumps may not be there yet.
     pub fn is_landed(&self) -> bool
         ensures { result ≡ is_landed_call self.now }
     {
         match self {
             Call::Dict { call, .. } => call.is_landed(),
             Call::List { call, .. } => call.is_landed(),
-            Call::Set { .. } | Call::Next { .. } | Call::Begin { .. } | Call::End | Call::Quiesce =>
-                true,
-            Call::Deque { .. } | Call::Await { .. } | Call::Dump => false,
+            Call::Set { .. }
+            | Call::Next { .. }
+            | Call::Begin { .. }
+            | Call::End
+            | Call::Quiesce
+            | Call::Await { .. } => true,
+            Call::Deque { .. } | Call::Dump => false,
         }
     }
 }
@@ -81,9 +83,4 @@ pub fn no_dict_is_split()
     ensures script { (script : ScriptParts) → IsScript script → AreLanded (starts_of script.containers) }
     ensures tables { (starts : List Start) (calls : List Call) (place : ℕ) → AreLanded starts → (table_at (stored_by starts calls).tables place).keys ≡ [] }
     ensures leaving { (starts : List Start) (world : WorldContent) (called : Call) → AreLanded starts → CanLackLeaving starts world called → ⊥ }
-{}
-
-/// No entry of a script's history awaits another.
-pub fn no_entry_awaits()
-    ensures { (script : ScriptParts) (entries : List Entry) → IsScript script → IsWhole script entries → EachAt entries (IsAwaited entries) }
 {}

@@ -90,7 +90,6 @@ pub use entry::Entry;
 pub use entry::Rule;
 pub use entry::Storage;
 pub use landed::no_dict_is_split;
-pub use landed::no_entry_awaits;
 pub use laws::a_write_takes_one_table;
 pub use laws::calls_have_room;
 pub use laws::others_are_untouched;

@@ -17,6 +17,7 @@ use Rattle.ft_bank.specs.declared.takings.Took.TheVariants as took
 use Rattle.ft_bank.specs.Series.{noted_all}
 use Rattle.ft_bank.specs.declared.table.Table.{Table}
 use Rattle.ft_bank.specs.Takings.{Cleared, IsTaking, KeepsBut, loads_of_none, lowered}
+use Rattle.ft_bank.specs.Logs.{HasGrown}
 use Rattle.ft_bank.specs.Whole.{SamePass}
 use Rattle.ft_qsbr.specs.Collecting.{AreGivings, StaysOrGoes, loads_of}
 
@@ -28,7 +29,7 @@ LeavePass (AnswerCursor c r n m x y ∷ l) = ⊥
 LeavePass (Unlock o ∷ l) = ⊥
 LeavePass (TakeFloor f s ∷ l) = ⊥
 LeavePass (Lock o f s ∷ l) = ⊥
-LeavePass (TookOver tables had found ∷ l) = ⊥
+LeavePass (TookOver tables had found told ∷ l) = ⊥
 LeavePass (act ∷ l) = LeavePass l
 
 leave_then : (xs ys : List Act) → LeavePass xs → LeavePass ys → LeavePass (xs ++ ys)
@@ -38,7 +39,7 @@ leave_then (AnswerCursor c r n m f t ∷ xs) ys x y = absurd x
 leave_then (Unlock o ∷ xs) ys x y = absurd x
 leave_then (TakeFloor f s ∷ xs) ys x y = absurd x
 leave_then (Lock o f s ∷ xs) ys x y = absurd x
-leave_then (TookOver tables had found ∷ xs) ys x y = absurd x
+leave_then (TookOver tables had found told ∷ xs) ys x y = absurd x
 leave_then (a ∷ xs) ys x y = leave_then xs ys x y
 
 pub begun_stays : (acts : List Act) (v : View) → LeavePass acts → begun (noted_all acts v).log ≡ begun v.log
@@ -48,7 +49,7 @@ begun_stays (AnswerCursor c r n m f t ∷ l) v ok = absurd ok
 begun_stays (Unlock o ∷ l) v ok = absurd ok
 begun_stays (TakeFloor f s ∷ l) v ok = absurd ok
 begun_stays (Lock o f s ∷ l) v ok = absurd ok
-begun_stays (TookOver tables had found ∷ l) v ok = absurd ok
+begun_stays (TookOver tables had found told ∷ l) v ok = absurd ok
 begun_stays (a ∷ l) v ok = begun_stays l v ok
 
 pub cursors_stay : (acts : List Act) (v : View) (number : ℕ) → LeavePass acts → cursor_in number (noted_all acts v).log ≡ cursor_in number v.log
@@ -58,7 +59,7 @@ cursors_stay (AnswerCursor c r n m f t ∷ l) v number ok = absurd ok
 cursors_stay (Unlock o ∷ l) v number ok = absurd ok
 cursors_stay (TakeFloor f s ∷ l) v number ok = absurd ok
 cursors_stay (Lock o f s ∷ l) v number ok = absurd ok
-cursors_stay (TookOver tables had found ∷ l) v number ok = absurd ok
+cursors_stay (TookOver tables had found told ∷ l) v number ok = absurd ok
 cursors_stay (a ∷ l) v number ok = cursors_stay l v number ok
 
 pub floor_stays : (acts : List Act) (v : View) → LeavePass acts → (noted_all acts v).has_floor ≡ v.has_floor
@@ -68,7 +69,7 @@ floor_stays (AnswerCursor c r n m f t ∷ l) v ok = absurd ok
 floor_stays (Unlock o ∷ l) v ok = absurd ok
 floor_stays (TakeFloor f s ∷ l) v ok = absurd ok
 floor_stays (Lock o f s ∷ l) v ok = absurd ok
-floor_stays (TookOver tables had found ∷ l) v ok = absurd ok
+floor_stays (TookOver tables had found told ∷ l) v ok = absurd ok
 floor_stays (a ∷ l) v ok = floor_stays l v ok
 
 pub since_stays : (acts : List Act) (v : View) → LeavePass acts → at_floor (noted_all acts v).log ≡ at_floor v.log
@@ -78,7 +79,7 @@ since_stays (AnswerCursor c r n m f t ∷ l) v ok = absurd ok
 since_stays (Unlock o ∷ l) v ok = absurd ok
 since_stays (TakeFloor f s ∷ l) v ok = absurd ok
 since_stays (Lock o f s ∷ l) v ok = absurd ok
-since_stays (TookOver tables had found ∷ l) v ok = absurd ok
+since_stays (TookOver tables had found told ∷ l) v ok = absurd ok
 since_stays (a ∷ l) v ok = since_stays l v ok
 
 pub owners_stay : (acts : List Act) (v : View) → LeavePass acts → SameOwners v (noted_all acts v)
@@ -88,7 +89,7 @@ owners_stay (AnswerCursor c r n m f t ∷ l) v ok = absurd ok
 owners_stay (Unlock o ∷ l) v ok = absurd ok
 owners_stay (TakeFloor f s ∷ l) v ok = absurd ok
 owners_stay (Lock o f s ∷ l) v ok = absurd ok
-owners_stay (TookOver tables had found ∷ l) v ok = absurd ok
+owners_stay (TookOver tables had found told ∷ l) v ok = absurd ok
 owners_stay (a ∷ l) v ok = let same = owners_stay l v ok in record { had = same.had; found = same.found }
 
 pub seen_stays : (acts : List Act) (v : View) → seen_writes v ≤ seen_writes (noted_all acts v)
@@ -153,8 +154,8 @@ taking_leaves class (took.Moved a b) acts x =
 
 -- ---- the pass
 
-pub same_by : (F : ℕ → Type 0) (v w : View) → KeepsBut F v w → flight w.log ≡ flight v.log → begun w.log ≡ begun v.log → ((n : ℕ) → cursor_in n w.log ≡ cursor_in n v.log) → w.has_floor ≡ v.has_floor → at_floor w.log ≡ at_floor v.log → SameOwners v w → w.learnt ≡ v.learnt → seen_writes v ≤ seen_writes w → SamePass v w
-same_by F v w keeps idle sections cursors floor since owners learnt seen = record {
+pub same_by : (F : ℕ → Type 0) (v w : View) → KeepsBut F v w → flight w.log ≡ flight v.log → begun w.log ≡ begun v.log → ((n : ℕ) → cursor_in n w.log ≡ cursor_in n v.log) → w.has_floor ≡ v.has_floor → at_floor w.log ≡ at_floor v.log → SameOwners v w → w.learnt ≡ v.learnt → seen_writes v ≤ seen_writes w → HasGrown v w → SamePass v w
+same_by F v w keeps idle sections cursors floor since owners learnt seen grown = record {
   number = keeps.held.number;
   next = keeps.held.next;
   parts = keeps.held.parts;
@@ -172,9 +173,10 @@ same_by F v w keeps idle sections cursors floor since owners learnt seen = recor
   owners = owners;
   learnt = learnt;
   seen = seen;
+  grown = grown;
 }
 
 pub retirement_same : (t n g : ℕ) (v w : View) → w ≡ noted_all (PutHeader t g ∷ Retire t n ∷ []) v → SamePass v w
 retirement_same t n g v w is =
     subst (SamePass v) (sym is)
-    (record { number = refl; next = refl; parts = refl; shape = refl; locks = λ p. refl; writes = λ p. refl; announced = refl; flight = refl; begun = refl; cursors = λ n. refl; tokens = refl; lists = refl; floor = refl; since = refl; owners = record { had = refl; found = refl }; learnt = refl; seen = le_refl (seen_writes v) })
+    (record { number = refl; next = refl; parts = refl; shape = refl; locks = λ p. refl; writes = λ p. refl; announced = refl; flight = refl; begun = refl; cursors = λ n. refl; tokens = refl; lists = refl; floor = refl; since = refl; owners = record { had = refl; found = refl }; learnt = refl; seen = le_refl (seen_writes v); grown = λ old was. inr (inr was) })

@@ -111,7 +111,7 @@ module _ (k : Shape) (o : ℕ) (shows : ContainerWords → Type 0) (w : Window) 
 
     pub saw_shown : WasStill w → (view q).shape ≡ k → o < container_count k → 0 < (view p).left → IsShown (view q) called said w.number
     saw_shown still same low left =
-        looks_are_shown (view q) called o said w.number (may_ask (view p) (view q) k o w.number acts saw_loaded looks own counted same low left) plain.reads plain.cursor plain.adds plain.memory other (plain.replied said refl)
+        looks_are_shown (view q) called o said w.number (may_ask (view p) (view q) k o w.number acts saw_loaded looks own counted same low left) plain.reads plain.cursor plain.cause (plain.replied said refl)
         (subst (λ (z : Shape). LookedAtOne z called o said w.number (view q).log) (sym same) (looked still))
 
 -- ---- two containers
@@ -194,5 +194,5 @@ module _ (k : Shape) (o m : ℕ) (shows : ContainerWords → ContainerWords → 
     pub saw_both_shown : WasStill w → WasStill u → (view q).shape ≡ k → o < container_count k → m < container_count k → 0 < (view p).left → IsShown (view q) called said w.number
     saw_both_shown still calm same low high left =
         looks_at_both_are_shown (view q) called o m said w.number (may_ask (view p) (view q) k o w.number both_acts saw_both_loaded both_looks both_own both_counted same low left)
-        (subst (λ (z : Shape). m < container_count z) (sym same) high) plain.reads plain.cursor plain.adds plain.memory other (plain.replied said refl)
+        (subst (λ (z : Shape). m < container_count z) (sym same) high) plain.reads plain.cursor plain.cause (plain.replied said refl)
         (subst (λ (z : Shape). LookedAtBoth z called o m said w.number (view q).log) (sym same) (looked_at_both still calm))

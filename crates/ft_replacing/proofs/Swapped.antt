@@ -1,5 +1,5 @@
 -- A whole write that puts 0 into a root before the commit and the root of another table after it.
-use Rattle.std.proofs.Common.{◌≡◌, ◌≢◌, ℕ, suc, ◌+◌, ◌<◌, ◌≤◌, le_trans, true, false, cond, sym, ap, ◌∙◌, subst, arith}
+use Rattle.std.proofs.Common.{◌≡◌, ◌≢◌, ℕ, suc, ◌+◌, ◌<◌, ◌≤◌, le_trans, true, false, cond, sym, ap, ◌∙◌, subst, arith, inr}
 use Rattle.std.specs.Prelude.{◌==◌, max}
 use Rattle.std.proofs.Math.Nat.{le-max_right}
 use mathlib.Core.Logic.{dite}
@@ -92,6 +92,7 @@ module _ (called : Call) (said : Reply) (number f t g : ℕ) (snap : Snap) (v u 
           since = p1.since;
           owners = record { had = p1.owners.had; found = p1.owners.found };
           seen = omega (arith, low, shows_it);
+          grown = λ old was. inr (p1.grown old (inr (inr (inr (inr was)))));
         };
         seen = low;
         shows = shows_it;

@@ -16,7 +16,10 @@ use Rattle.ft_qsbr.specs.Collecting.{Collected, StaysOrGoes}
 use Rattle.ft_qsbr.proofs.PassesStay.{given_or_kept}
 use Rattle.ft_table_calls.specs.declared.adding.Added.{Added}
 use Rattle.ft_table_calls.specs.declared.adding.Added.TheVariants as added
-use Rattle.ft_table_calls.specs.Adding.{Retires, IsAdded, IsTryOf}
+use Rattle.ft_table_calls.specs.declared.made.Made.{Made}
+use Rattle.ft_table_calls.specs.declared.made.Made.TheVariants as made
+use Rattle.ft_table_calls.specs.Adding.{Retires, IsAdded}
+use Rattle.ft_table_calls.specs.TriesUnderLocks.{ComesTo, IsTry, UnderLocks}
 use Rattle.ft_list.specs.ListGrowth.{AddsItems}
 
 -- a pass that has no lock and then goes offline and collects may be taken in
@@ -48,8 +51,12 @@ added_next k takes over called said v w (added.Moved a b) x = x.1.2.same.next
 items_next : (k : Shape) (o : ℕ) (called : Call) (n : ℕ) (v w : View) (what : Added) → AddsItems k o called n v w what → w.next ≡ v.next
 items_next k o called n v w what x = added_next k _ _ called _ x.0 w what x.2 ∙ x.1.work.pass.next
 
-pub tried_next : (objects : Objects) (k : Shape) (o : ℕ) (called : Call) (n : ℕ) (said : Reply) (v w : View) (result : Step) → IsTryOf objects (AddsItems k o called n) said v w result → w.next ≡ v.next
-tried_next objects k o called n said v w (step.NotYet p q) x = x.0.next
-tried_next objects k o called n said v w step.NoMemory x = absurd x
-tried_next objects k o called n said v w (step.Done r stamp) x = let u = x.2 in u.gone.next ∙ (items_next k o called n u.before u.after x.0 u.did ∙ u.took.next)
-tried_next objects k o called n said v w (step.Moved a b) x = let u = x.2 in u.gone.next ∙ (items_next k o called n u.before u.after x.0 u.did ∙ u.took.next)
+module _ (objects : Objects) (k : Shape) (o : ℕ) (called : Call) (n : ℕ) (said : Reply) (v w : View) where
+  under_next : (came : Made) → UnderLocks objects (ComesTo (AddsItems k o called n) said came) v w → w.next ≡ v.next
+  under_next came x = x.gone.next ∙ (items_next k o called n x.before x.after x.did.0 x.did.2 ∙ x.took.next)
+
+  pub tried_next : (result : Step) → IsTry objects (ComesTo (AddsItems k o called n) said) v w result → w.next ≡ v.next
+  tried_next (step.Done reply stamp) x = under_next (made.Done reply stamp) x
+  tried_next (step.NotYet p q) x = x.0.next
+  tried_next (step.Moved a b) x = under_next (made.Moved a b) x
+  tried_next step.NoMemory x = under_next made.NoMemory x

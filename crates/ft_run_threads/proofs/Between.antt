@@ -1,16 +1,19 @@
 -- A worker between two calls: its next call may be made, and what comes of it.
 use Rattle.std.specs.declared.alloc.Global.{Global}
 use Rattle.std.proofs.Common.{◌≡◌, ◌+◌, ◌-◌, ◌<◌, ◌≤◌, ℕ, false, List, [], ◌∷◌, ◌++◌, length, map, take, refl, sym, ap, ◌∙◌, subst, arith, Some}
-use Rattle.std.specs.Prelude.{IsTrue, Option, Vec, fold, slice_get, vec_capacity}
-use Rattle.std.proofs.lemmas.List.{length-map, length-take, map-append, take_all}
-use Rattle.std.proofs.lemmas.Option.{slice_get_within}
+use Rattle.std.specs.Prelude.{All, IsTrue, Option, Vec, fold, slice_get, vec_capacity}
+use Rattle.std.proofs.lemmas.List.Elements.{All-get_or}
+use Rattle.std.proofs.lemmas.List.{length-map, length-reverse, length-take, map-append, take_all}
+use Rattle.std.proofs.lemmas.Option.{get_or_from_slice_get, slice_get_within}
 use Rattle.ft_model.specs.declared.call.Call.{Call}
+use Rattle.ft_model.specs.declared.call.Call.TheVariants as call
 use Rattle.ft_model.specs.declared.entry.Entry.{Entry as NamedEntry}
 use Rattle.ft_model.specs.declared.reply.Reply.{Reply}
 use Rattle.ft_model.specs.declared.script.ScriptParts.{ScriptParts}
 use Rattle.ft_model.specs.Histories.{calls_of}
 use Rattle.ft_history.proofs.HistoryPlaces.{take_next}
 use Rattle.ft_trace.specs.Acts.{announces}
+use Rattle.ft_trace.specs.OwnCursors.{plain_entry}
 use Rattle.ft_bank.specs.Passes.{shape_of, view}
 use Rattle.ft_bank.specs.PassSections.{stack_of}
 use Rattle.ft_bank.specs.declared.sections.OpenSection.{OpenSection}
@@ -19,15 +22,15 @@ use Rattle.ft_engine.specs.declared.caller.Caller.{Caller}
 use Rattle.ft_engine.specs.declared.caller.Flight.{Flight}
 use Rattle.ft_engine.specs.declared.engine.Engine.{Engine}
 use Rattle.ft_engine.specs.Answering.{MakesNoEntry}
-use Rattle.ft_engine.specs.Attempts.{MayAttempt, StaysCaller}
+use Rattle.ft_engine.specs.Attempts.{StaysCaller}
 use Rattle.ft_engine.specs.Callers.{IsCallerOf, IsIdle, bank_of, pass_of, thread_of}
 use Rattle.ft_engine.specs.Flights.{IsFlightAnswered, AllowsCall}
 use Rattle.ft_engine.specs.Keeping.{WasAnswered, named_entry}
 use Rattle.ft_engine.specs.Visits.{SameCallerWork}
 use Rattle.ft_run_threads.specs.declared.workers.Worker.{Worker}
-use Rattle.ft_run_threads.specs.Workers.{AreCallsOn, HasWorked, IsBetween, IsMember, IsOnline}
-use Rattle.ft_run_threads.proofs.ThreadDepths.{depth_unanswered, step_depth}
-use Rattle.ft_run_threads.proofs.NextCalls.{may_next}
+use Rattle.ft_run_threads.specs.Workers.{AreCallsOn, HasNoted, HasWorked, IsAwaitFrom, IsBetween, IsMember, IsOnline, MayMake}
+use Rattle.ft_run_threads.proofs.ThreadDepths.{depth_unanswered, own_entries, step_depth}
+use Rattle.ft_run_threads.proofs.NextCalls.{left, may_next}
 
 -- ---- the same caller
 
@@ -50,13 +53,33 @@ module _ (e : Engine) (i : ℕ) (calls : List Call) (place : ℕ) (w : Worker) (
   pub count : place ≤ length calls → length w.entries.items ≡ place
   count low = sym (length-map w.entries.items (λ (x : NamedEntry). x.call)) ∙ (ap length on.0.made ∙ (let t = length-take place calls in omega (arith, low, t)))
 
-  pub may : AreCallsOn (shape_of (bank_of e)) calls → (called : Call) → slice_get calls place ≡ Some called → MayAttempt e w.caller called
-  may are called at =
-      let between : IsBetween e i calls place w = on.0 in
-      let low : place < length calls = slice_get_within calls place called at in
-      let here : length w.entries.items ≡ place = count (omega (arith, low)) in
-      may_next e i calls w.caller w.entries.items between.member between.cursors between.kept (subst (λ (n : ℕ). map (λ (x : NamedEntry). x.call) w.entries.items ≡ take n calls) (sym here) between.made) are called
-      (ap (slice_get calls) here ∙ at) (subst (λ (f : Flight). AllowsCall f called) (sym between.idle) tt) on.1
+  module _ (are : AreCallsOn (shape_of (bank_of e)) calls) (called : Call) (at : slice_get calls place ≡ Some called) where
+    here : length w.entries.items ≡ place
+    here = let low : place < length calls = slice_get_within calls place called at in count (omega (arith, low))
+
+    made_here : map (λ (x : NamedEntry). x.call) w.entries.items ≡ take (length w.entries.items) calls
+    made_here = subst (λ (n : ℕ). map (λ (x : NamedEntry). x.call) w.entries.items ≡ take n calls) (sym here) on.0.made
+
+    at_here : slice_get calls (length w.entries.items) ≡ Some called
+    at_here = ap (slice_get calls) here ∙ at
+
+    pub may : All (IsAwaitFrom i) calls → MayMake e w.caller called
+    may awaits =
+        let between : IsBetween e i calls place w = on.0 in
+        record {
+          tried = λ other. may_next e i calls w.caller w.entries.items between.member between.cursors between.kept made_here are called at_here (subst (λ (f : Flight). AllowsCall f called) (sym between.idle) tt) other on.1;
+          awaited = λ thread index is.
+              let low : place < length calls = slice_get_within calls place called at in
+              let named : IsAwaitFrom i (call.Await thread index) = subst (IsAwaitFrom i) (get_or_from_slice_get calls place called called at ∙ is) (All-get_or (IsAwaitFrom i) calls place called low awaits) in
+              record {
+                await = is;
+                idle = between.idle;
+                online = on.1;
+                left = left e i calls w.caller w.entries.items between.member between.cursors between.kept made_here are called at_here (unanswered w between.idle);
+                some = named.1;
+                earlier = subst (λ (n : ℕ). thread < n) (sym between.member.thread) named.0;
+              };
+        }
 
 -- ---- steps
 
@@ -119,6 +142,17 @@ answered e i calls place w x called said stamp mark on at caller same idle kept 
       },
       same.pass.online on.1,
     )
+
+-- its pass has as many entries
+pub has_made : (e : Engine) (i : ℕ) (calls : List Call) (place : ℕ) (w : Worker) → IsOnline e i calls place w → place ≤ length calls → length (view (pass_of w.caller)).entries ≡ place
+has_made e i calls place w on low =
+    let mine = w.entries.items in
+    ap length (own_entries w.caller mine (unanswered w on.0.idle) on.0.kept) ∙ (length-reverse (map plain_entry mine) ∙ (length-map mine plain_entry ∙ count e i calls place w on low))
+
+-- it has made notes since
+pub noted_online : (e : Engine) (i : ℕ) (calls : List Call) (place : ℕ) (w x : Worker) → IsOnline e i calls place w → HasNoted e w.caller x.caller → x.entries ≡ w.entries → IsOnline e i calls place x
+noted_online e i calls place w x on noted rows =
+    (visited e i calls place w x on.0 noted.same noted.caller rows noted.kept, subst (λ (n : ℕ). 0 < n) (sym noted.announced) on.1)
 
 -- ---- a worker that has made its last call
 

@@ -18,25 +18,26 @@ use Rattle.ft_history.proofs.FilteredParts.{key_at}
 use Rattle.ft_history.proofs.Permutations.{IsPermutation-filter}
 use Rattle.ft_trace.specs.declared.Entry.{Entry}
 use Rattle.ft_trace.specs.declared.Owner.{Owner}
+use Rattle.ft_trace.specs.declared.Told.{Told}
 use Rattle.ft_trace.specs.OwnCursors.{plain_entry}
 use Rattle.ft_bank_history.specs.Numbering.{HaveNamedEntries}
 use Rattle.ft_engine.specs.DoneCallers.{IsLegalFor}
 
 -- ---- what was kept
 
-kept_same : (from : ℕ) (lists : List (List NamedEntry)) (passes : List (List Entry)) (had found : List Owner) → HaveNamedEntries from lists passes had found → (k : ℕ) → map plain_entry (get_or lists k []) ≡ reverse (get_or passes k [])
-kept_same from [] [] had found are k = refl
-kept_same from [] (own ∷ passes) had found are k = absurd are
-kept_same from (mine ∷ lists) [] had found are k = absurd are
-kept_same from (mine ∷ lists) (own ∷ passes) had found are zero = are.0.same
-kept_same from (mine ∷ lists) (own ∷ passes) had found are (suc k) = kept_same (suc from) lists passes had found are.1 k
+kept_same : (from : ℕ) (lists : List (List NamedEntry)) (passes : List (List Entry)) (had found : List Owner) (told : List Told) → HaveNamedEntries from lists passes had found told → (k : ℕ) → map plain_entry (get_or lists k []) ≡ reverse (get_or passes k [])
+kept_same from [] [] had found told are k = refl
+kept_same from [] (own ∷ passes) had found told are k = absurd are
+kept_same from (mine ∷ lists) [] had found told are k = absurd are
+kept_same from (mine ∷ lists) (own ∷ passes) had found told are zero = are.0.same
+kept_same from (mine ∷ lists) (own ∷ passes) had found told are (suc k) = kept_same (suc from) lists passes had found told are.1 k
 
-kept_indexes : (from : ℕ) (lists : List (List NamedEntry)) (passes : List (List Entry)) (had found : List Owner) → HaveNamedEntries from lists passes had found → (k : ℕ) → map (λ e. e.index) (get_or lists k []) ≡ range_with_len 1 (length (get_or lists k []))
-kept_indexes from [] [] had found are k = refl
-kept_indexes from [] (own ∷ passes) had found are k = absurd are
-kept_indexes from (mine ∷ lists) [] had found are k = absurd are
-kept_indexes from (mine ∷ lists) (own ∷ passes) had found are zero = are.0.indexes
-kept_indexes from (mine ∷ lists) (own ∷ passes) had found are (suc k) = kept_indexes (suc from) lists passes had found are.1 k
+kept_indexes : (from : ℕ) (lists : List (List NamedEntry)) (passes : List (List Entry)) (had found : List Owner) (told : List Told) → HaveNamedEntries from lists passes had found told → (k : ℕ) → map (λ e. e.index) (get_or lists k []) ≡ range_with_len 1 (length (get_or lists k []))
+kept_indexes from [] [] had found told are k = refl
+kept_indexes from [] (own ∷ passes) had found told are k = absurd are
+kept_indexes from (mine ∷ lists) [] had found told are k = absurd are
+kept_indexes from (mine ∷ lists) (own ∷ passes) had found told are zero = are.0.indexes
+kept_indexes from (mine ∷ lists) (own ∷ passes) had found told are (suc k) = kept_indexes (suc from) lists passes had found told are.1 k
 
 -- ---- each thread's entries of all lists
 
@@ -56,32 +57,32 @@ flat lists = flat_map (λ (own : List NamedEntry). own) lists
 others_none : (from thread : ℕ) (mine : List NamedEntry) → All (λ e. e.thread ≡ from) mine → (from ≢ thread) → entries_of thread mine ≡ []
 others_none from thread mine own other = filter_none (λ (e : NamedEntry). e.thread == thread) mine (λ i d low. ne_eqb (get_or mine i d).thread thread (λ is. other (sym (own i d low) ∙ is)))
 
-none_before : (from : ℕ) (lists : List (List NamedEntry)) (passes : List (List Entry)) (had found : List Owner) → HaveNamedEntries from lists passes had found → (thread : ℕ) → thread < from → entries_of thread (flat lists) ≡ []
-none_before from [] passes had found are thread low = refl
-none_before from (mine ∷ lists) [] had found are thread low = absurd are
-none_before from (mine ∷ lists) (own ∷ passes) had found are thread low =
+none_before : (from : ℕ) (lists : List (List NamedEntry)) (passes : List (List Entry)) (had found : List Owner) (told : List Told) → HaveNamedEntries from lists passes had found told → (thread : ℕ) → thread < from → entries_of thread (flat lists) ≡ []
+none_before from [] passes had found told are thread low = refl
+none_before from (mine ∷ lists) [] had found told are thread low = absurd are
+none_before from (mine ∷ lists) (own ∷ passes) had found told are thread low =
     filter-append (λ (e : NamedEntry). e.thread == thread) mine (flat lists)
     ∙ (ap (λ (es : List NamedEntry). es ++ entries_of thread (flat lists)) (others_none from thread mine are.0.own (λ is. omega (arith, is, low)))
-    ∙ none_before (suc from) lists passes had found are.1 thread (omega (arith, low)))
+    ∙ none_before (suc from) lists passes had found told are.1 thread (omega (arith, low)))
 
-kept_own : (from : ℕ) (lists : List (List NamedEntry)) (passes : List (List Entry)) (had found : List Owner) → HaveNamedEntries from lists passes had found → (k : ℕ) → entries_of (from + k) (flat lists) ≡ get_or lists k []
-kept_own from [] passes had found are k = refl
-kept_own from (mine ∷ lists) [] had found are k = absurd are
-kept_own from (mine ∷ lists) (own ∷ passes) had found are zero =
+kept_own : (from : ℕ) (lists : List (List NamedEntry)) (passes : List (List Entry)) (had found : List Owner) (told : List Told) → HaveNamedEntries from lists passes had found told → (k : ℕ) → entries_of (from + k) (flat lists) ≡ get_or lists k []
+kept_own from [] passes had found told are k = refl
+kept_own from (mine ∷ lists) [] had found told are k = absurd are
+kept_own from (mine ∷ lists) (own ∷ passes) had found told are zero =
     let here : from ≡ from + 0 = omega arith in
     filter-append (λ (e : NamedEntry). e.thread == (from + 0)) mine (flat lists)
     ∙ (ap (λ (es : List NamedEntry). es ++ entries_of (from + 0) (flat lists)) (filter_all (λ (e : NamedEntry). e.thread == (from + 0)) mine (λ i d low. eq-eqb (get_or mine i d).thread (from + 0) (are.0.own i d low ∙ here)))
-    ∙ (ap (λ (es : List NamedEntry). mine ++ es) (none_before (suc from) lists passes had found are.1 (from + 0) (omega arith))
+    ∙ (ap (λ (es : List NamedEntry). mine ++ es) (none_before (suc from) lists passes had found told are.1 (from + 0) (omega arith))
     ∙ append-nil mine))
-kept_own from (mine ∷ lists) (own ∷ passes) had found are (suc k) =
+kept_own from (mine ∷ lists) (own ∷ passes) had found told are (suc k) =
     filter-append (λ (e : NamedEntry). e.thread == (from + suc k)) mine (flat lists)
     ∙ (ap (λ (es : List NamedEntry). es ++ entries_of (from + suc k) (flat lists)) (others_none from (from + suc k) mine are.0.own (λ is. omega (arith, is)))
     ∙ (ap (λ t. entries_of t (flat lists)) (let e : from + suc k ≡ suc from + k = omega arith in e)
-    ∙ kept_own (suc from) lists passes had found are.1 k))
+    ∙ kept_own (suc from) lists passes had found told are.1 k))
 
 -- ---- the history
 
-module _ (script : ScriptParts) (lists : List (List NamedEntry)) (passes : List (List Entry)) (had found : List Owner) (history : List NamedEntry) (are : HaveNamedEntries 0 lists passes had found) (legal : IsLegalFor script history) (moved : IsPermutation (flat_map (λ mine. mine) lists) history) (thread : ℕ) where
+module _ (script : ScriptParts) (lists : List (List NamedEntry)) (passes : List (List Entry)) (had found : List Owner) (told : List Told) (history : List NamedEntry) (are : HaveNamedEntries 0 lists passes had found told) (legal : IsLegalFor script history) (moved : IsPermutation (flat_map (λ mine. mine) lists) history) (thread : ℕ) where
   abbrev mine : List NamedEntry
   mine = get_or lists thread []
 
@@ -91,11 +92,11 @@ module _ (script : ScriptParts) (lists : List (List NamedEntry)) (passes : List 
   permuted : IsPermutation mine there
   permuted =
       subst (λ (es : List NamedEntry). IsPermutation es there)
-      (ap (λ (t : ℕ). entries_of t (flat lists)) (let e : thread ≡ 0 + thread = omega arith in e) ∙ kept_own 0 lists passes had found are thread)
+      (ap (λ (t : ℕ). entries_of t (flat lists)) (let e : thread ≡ 0 + thread = omega arith in e) ∙ kept_own 0 lists passes had found told are thread)
       (IsPermutation-filter (λ (e : NamedEntry). e.thread == thread) (flat_map (λ (own : List NamedEntry). own) lists) history moved)
 
   index_mine : (k : ℕ) (d : NamedEntry) → k < length mine → (get_or mine k d).index ≡ 1 + k
-  index_mine k d low = key_at (λ (e : NamedEntry). e.index) mine 1 (kept_indexes 0 lists passes had found are thread) k d low
+  index_mine k d low = key_at (λ (e : NamedEntry). e.index) mine 1 (kept_indexes 0 lists passes had found told are thread) k d low
 
   index_there : (k : ℕ) (d : NamedEntry) → k < length there → (get_or there k d).index ≡ 1 + k
   index_there k d low =
@@ -117,4 +118,4 @@ module _ (script : ScriptParts) (lists : List (List NamedEntry)) (passes : List 
   pub pass_entries : map plain_entry there ≡ reverse (get_or passes thread [])
   pass_entries =
       ap (map plain_entry) (same_lists there mine (length_permutation mine there permuted) same_at)
-      ∙ kept_same 0 lists passes had found are thread
+      ∙ kept_same 0 lists passes had found told are thread

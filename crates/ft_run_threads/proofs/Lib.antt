@@ -8,3 +8,4 @@ pub mod Between
 pub mod Entries
 pub mod WholeLists
 mod LandedShapes
+pub mod Noting

@@ -26,6 +26,7 @@ use Rattle.ft_engine.specs.Callers.{IsOfKindIn}
 use Rattle.ft_dict.specs.DictMaking.{key_of_dict}
 use Rattle.ft_set.specs.SetMaking.{key_of_set}
 use Rattle.ft_engine.specs.Asked.{AreOfKindIn, IsCallIn}
+use Rattle.ft_run_threads.specs.Workers.{IsNoAwait}
 use Rattle.ft_model.specs.declared.script.Start.{Start}
 use Rattle.ft_model.specs.Landed.{is_landed_call}
 use Rattle.std.specs.Option.{option_map}
@@ -113,32 +114,32 @@ module _ (script : ScriptParts) (k : Shape) (starts : k.starts ≡ starts_of scr
   count : container_count k ≡ length script.containers
   count = ap length starts ∙ length-map script.containers (λ (d : Declaration). d.start)
 
-  -- to a thread with that many cursors, of which a `next` names one that was made
-  pub named_in : (hands : List (Option Cursor)) (cursors : ℕ) (called : Call) → ((n : ℕ) → n < cursors → n < length hands) → IsCallOf script cursors called → is_landed_call called ≡ true
+  -- to a thread with that many cursors, of which a `next` names one that was made; an `await` names none of these
+  pub named_in : (hands : List (Option Cursor)) (cursors : ℕ) (called : Call) → IsNoAwait called → ((n : ℕ) → n < cursors → n < length hands) → IsCallOf script cursors called → is_landed_call called ≡ true
       → ((number : ℕ) → called ≡ call.Next number → is_some (cursor_at hands number) ≡ true) → IsCallIn k hands called
-  named_in hands cursors (call.Dict o dc) room is landed made = (
+  named_in hands cursors (call.Dict o dc) other room is landed made = (
     both_declared kind.Dict o (other_dict dc) (cursor_of_dict dc) cursors (kind_there kind.Dict) is.names,
     if_some_both (λ n. n < cursors) (λ n. n < length hands) room (cursor_of_dict dc) is.names.made,
     if_some_both (IsKeyOf (length script.strings)) (IsKeyIn k) key_in (key_of_dict dc) (dict_key (length script.strings) dc is.strings),
     landed,
   )
-  named_in hands cursors (call.List o lc) room is landed made = (
+  named_in hands cursors (call.List o lc) other room is landed made = (
     both_declared kind.List o (other_list lc) (cursor_of_list lc) cursors (kind_there kind.List) is.names,
     if_some_both (λ n. n < cursors) (λ n. n < length hands) room (cursor_of_list lc) is.names.made,
     landed,
   )
-  named_in hands cursors (call.Set o sc) room is landed made = (
+  named_in hands cursors (call.Set o sc) other room is landed made = (
     both_declared kind.Set o (other_set sc) (cursor_of_set sc) cursors (kind_there kind.Set) is.names,
     if_some_both (λ n. n < cursors) (λ n. n < length hands) room (cursor_of_set sc) is.names.made,
     if_some_both (IsKeyOf (length script.strings)) (IsKeyIn k) key_in (key_of_set sc) (set_key (length script.strings) sc is.strings),
   )
-  named_in hands cursors (call.Deque o qc) room is landed made = absurd (let e : false ≡ true = landed in cc)
-  named_in hands cursors (call.Next number) room is landed made = (room number is.names, made number refl)
-  named_in hands cursors (call.Begin first second) room is landed made = (
+  named_in hands cursors (call.Deque o qc) other room is landed made = absurd (let e : false ≡ true = landed in cc)
+  named_in hands cursors (call.Next number) other room is landed made = (room number is.names, made number refl)
+  named_in hands cursors (call.Begin first second) other room is landed made = (
     subst (λ (n : ℕ). first < n) (sym count) is.names.0,
     subst (λ (n : ℕ). IfSome second (λ other. other < n)) (sym count) is.names.1,
   )
-  named_in hands cursors call.End room is landed made = tt
-  named_in hands cursors call.Quiesce room is landed made = tt
-  named_in hands cursors (call.Await thread index) room is landed made = absurd (let e : false ≡ true = landed in cc)
-  named_in hands cursors call.Dump room is landed made = absurd (let e : false ≡ true = landed in cc)
+  named_in hands cursors call.End other room is landed made = tt
+  named_in hands cursors call.Quiesce other room is landed made = tt
+  named_in hands cursors (call.Await thread index) other room is landed made = absurd other
+  named_in hands cursors call.Dump other room is landed made = absurd (let e : false ≡ true = landed in cc)

@@ -24,7 +24,7 @@ use Rattle.ft_engine.specs.Attempts.{MayAttempt}
 use Rattle.ft_engine.specs.Callers.{bank_of, flight_of, hands_of, left_of, pass_of}
 use Rattle.ft_engine.specs.Flights.{IsFlightAnswered, AllowsCall}
 use Rattle.ft_engine.specs.Keeping.{WasAnswered}
-use Rattle.ft_run_threads.specs.Workers.{AreCallsOn, IsMember}
+use Rattle.ft_run_threads.specs.Workers.{AreCallsOn, IsMember, IsNoAwait}
 use Rattle.ft_run_threads.proofs.ThreadDepths.{FitsDepth, depth_unanswered, fits_at, fits_sections, own_entries, step_depth}
 use Rattle.ft_run_threads.proofs.Made.{cursor_there}
 use Rattle.ft_run_threads.proofs.Named.{named_in}
@@ -93,17 +93,17 @@ module _ (e : Engine) (i : ℕ) (calls : List Call) (c : Caller) (mine : List Na
     landed : is_landed_call called ≡ true
     landed = subst (λ (x : Call). is_landed_call x ≡ true) (get_or_from_slice_get are.own.calls place called called at_own) (are.thread.landed place called (slice_get_within are.own.calls place called at_own))
 
-    named : (IsFlightAnswered c.flight → ⊥) → IsCallIn (shape_of (bank_of e)) (hands_of c) called
-    named unanswered =
+    named : IsNoAwait called → (IsFlightAnswered c.flight → ⊥) → IsCallIn (shape_of (bank_of e)) (hands_of c) called
+    named other unanswered =
         let few = are.thread.few_cursors in
         let room : (n : ℕ) → n < length are.own.cursors → n < length (hands_of c) = λ n small. let cs = cursors in omega (arith, small, few, cs) in
-        named_in are.script (shape_of (bank_of e)) are.bank.starts (ap length are.bank.texts ∙ length-map are.script.strings text_hash) (hands_of c) (length are.own.cursors) called room call_is landed
+        named_in are.script (shape_of (bank_of e)) are.bank.starts (ap length are.bank.texts ∙ length-map are.script.strings text_hash) (hands_of c) (length are.own.cursors) called other room call_is landed
         (λ number next.
         there unanswered number (room number (subst (λ (x : Call). IsCallOf are.script (length are.own.cursors) x) next call_is).names)
         (subst (λ (cs : List Call). Any (λ earlier. cursor_of earlier ≡ Some number) (take place cs)) are.are
         (are.thread.made place number (at_own ∙ ap (λ (x : Call). Some x) next))))
 
-    left : (IsFlightAnswered c.flight → ⊥) → 0 < left_of c
+    pub left : (IsFlightAnswered c.flight → ⊥) → 0 < left_of c
     left unanswered =
         let answered = member.caller.made in
         let calls_are = member.caller.calls in
@@ -120,5 +120,5 @@ module _ (e : Engine) (i : ℕ) (calls : List Call) (c : Caller) (mine : List Na
         let depth : length (stack_of (pass_of c)).sections ≡ fold step_depth 0 (take place calls) = depth_unanswered c mine unanswered kept ∙ ap (fold step_depth 0) made in
         fits_sections (stack_of (pass_of c)) called (subst (λ (n : ℕ). FitsDepth n called) (sym depth) nested)
 
-    pub may_next : AllowsCall (flight_of c) called → 0 < announces (view (pass_of c)).log → MayAttempt e c called
-    may_next next online = record { next = next; names = named; left = left; sections = sections; online = online }
+    pub may_next : AllowsCall (flight_of c) called → IsNoAwait called → 0 < announces (view (pass_of c)).log → MayAttempt e c called
+    may_next next other online = record { next = next; names = named other; left = left; sections = sections; online = online }

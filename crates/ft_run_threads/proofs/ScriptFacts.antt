@@ -4,7 +4,7 @@ use Rattle.std.specs.List.{All}
 use Rattle.std.specs.Option.{option_map_or}
 use Rattle.std.specs.Prelude.{Option, IfSome, fold, slice_get, sum}
 use Rattle.std.proofs.lemmas.List.{get_or-map, length-map}
-use Rattle.std.proofs.lemmas.List.Elements.{All-nil}
+use Rattle.std.proofs.lemmas.List.Elements.{All-nil, All-weaker}
 use Rattle.std.proofs.lemmas.List.Sums.{sum_by-cons}
 use Rattle.std.proofs.lemmas.Option.{slice_get_cases, slice_get_past, get_or_from_slice_get, slice_get_within}
 use Rattle.ft_model.specs.declared.call.Call.{Call}
@@ -14,11 +14,11 @@ use Rattle.ft_model.specs.declared.script.ScriptParts.{ScriptParts}
 use Rattle.ft_model.specs.declared.script.Thread.{Thread}
 use Rattle.ft_model.specs.Calls.{moved_cursor}
 use Rattle.ft_model.specs.Histories.{calls_of, cursors_of}
-use Rattle.ft_model.specs.Scripts.{IsCallOf, IsScript, IsThread}
+use Rattle.ft_model.specs.Scripts.{IsAwaitOf, IsCallOf, IsScript, IsThread}
 use Rattle.ft_trace.specs.declared.Shape.{Shape}
 use Rattle.ft_bank_history.specs.Numbering.{AskOwnCursors}
 use Rattle.ft_bank_history.specs.Marks.{HaveScriptCalls}
-use Rattle.ft_run_threads.specs.Workers.{AreCallsOn, IsBankFor}
+use Rattle.ft_run_threads.specs.Workers.{AreCallsOn, IsAwaitFrom, IsBankFor}
 use Rattle.ft_run_threads.proofs.ThreadDepths.{ends_at_none, step_depth}
 
 moved_within : (script : ScriptParts) (cursors : ℕ) (called : Call) → IsCallOf script cursors called → IfSome (moved_cursor called) (λ n. n < cursors)
@@ -88,6 +88,22 @@ calls_on script k i own is bank at =
       are = refl;
       few = let all = is.few_calls in let has = sum_has script.threads i own at in omega (arith, all, has);
     }
+
+-- their awaits name calls of earlier threads
+await_from : (script : ScriptParts) (number : ℕ) (called : Call) → IsAwaitOf script.threads number called → IsAwaitFrom number called
+await_from script number (call.Await thread index) is = (is.0, is.1)
+await_from script number (call.Dict o dc) is = tt
+await_from script number (call.List o lc) is = tt
+await_from script number (call.Set o sc) is = tt
+await_from script number (call.Deque o qc) is = tt
+await_from script number (call.Next cursor) is = tt
+await_from script number (call.Begin first second) is = tt
+await_from script number call.End is = tt
+await_from script number call.Quiesce is = tt
+await_from script number call.Dump is = tt
+
+pub awaits_on : (script : ScriptParts) (i : ℕ) (own : Thread) → IsScript script → slice_get script.threads i ≡ Some own → All (IsAwaitFrom i) own.calls
+awaits_on script i own is at = All-weaker (IsAwaitOf script.threads i) (IsAwaitFrom i) (await_from script i) own.calls (is.awaits i own at)
 
 -- they end in no section
 pub ends_level : (script : ScriptParts) (i : ℕ) → IsScript script → fold step_depth 0 (calls_of script i) ≡ 0

@@ -22,7 +22,7 @@ use Rattle.ft_model.specs.Scripts.{IsScript}
 use Rattle.ft_model.specs.Worlds.{empty_world}
 use Rattle.ft_trace.specs.declared.Entry.{Entry as PassEntry}
 use Rattle.ft_trace.specs.declared.Shape.{Shape}
-use Rattle.ft_trace.specs.Acts.{announces}
+use Rattle.ft_trace.specs.Acts.{announces, told_in}
 use Rattle.ft_trace.specs.Owners.{found_owners, had_locks}
 use Rattle.ft_bank.specs.Passes.{view}
 use Rattle.ft_bank.specs.PassSections.{Stack, stack_of}
@@ -55,7 +55,7 @@ made_push script lists mine made is thread other at =
 own_kept : (w : Worker) → WasAnswered w.caller w.entries.items → taken_of w.caller ≡ [] → WereAnswered w.caller (w.entries.items ∷ [])
 own_kept w kept none =
     let v = view (pass_of w.caller) in
-    (kept, subst (λ (taken : List (List PassEntry)). HaveNamedEntries (suc (thread_of w.caller)) [] taken (had_locks v.number v.log) (found_owners v.log)) (sym none) tt)
+    (kept, subst (λ (taken : List (List PassEntry)). HaveNamedEntries (suc (thread_of w.caller)) [] taken (had_locks v.number v.log) (found_owners v.log) (told_in v.log)) (sym none) tt)
 
 no_lists : (script : ScriptParts) → HaveScriptCalls script []
 no_lists script thread mine at = absurd (let none : None ≡ Some mine = at in cc)

@@ -1,7 +1,8 @@
 -- Workers: what they keep of the callers of an engine whose bank is made for a script, and of what these were answered.
-use Rattle.std.specs.Prelude.{◌≡◌, ℕ, suc, ◌<◌, ◌≤◌, max, List, [], ◌∷◌, IsTrue, length, map, take, slice_index_or, vec_capacity}
+use Rattle.std.specs.Prelude.{◌≡◌, ℕ, suc, ◌<◌, ◌≤◌, max, List, [], ◌∷◌, ◌++◌, IsTrue, length, map, take, slice_index_or, vec_capacity}
 use Rattle.ft_hash.specs.Hashes.{text_hash}
 use Rattle.ft_model.specs.declared.call.Call.{Call}
+use Rattle.ft_model.specs.declared.call.Call.TheVariants as call
 use Rattle.ft_model.specs.declared.entry.Entry.{Entry}
 use Rattle.ft_model.specs.declared.script.ScriptParts.{ScriptParts}
 use Rattle.ft_model.specs.declared.script.Thread.{Thread}
@@ -14,11 +15,15 @@ use Rattle.ft_trace.specs.Acts.{announces}
 use Rattle.ft_bank.specs.NewPasses.{next_of}
 use Rattle.ft_bank.specs.Passes.{shape_of, view}
 use Rattle.ft_engine.specs.declared.caller.Caller.{Caller}
+use Rattle.ft_engine.specs.declared.calling.Called.{Called}
+use Rattle.ft_engine.specs.declared.calling.Called.TheVariants as called
 use Rattle.ft_engine.specs.declared.engine.Engine.{Engine}
-use Rattle.ft_engine.specs.Callers.{IsCallerOf, IsIdle, bank_of, hands_of, pass_of, taken_of, thread_of}
+use Rattle.ft_engine.specs.Attempts.{MayAttempt}
+use Rattle.ft_engine.specs.Callers.{IsCallerOf, IsIdle, bank_of, hands_of, left_of, pass_of, taken_of, thread_of}
 use Rattle.ft_bank_history.specs.Marks.{HaveScriptCalls}
 use Rattle.ft_engine.specs.DoneCallers.{WereAnswered, IsCallerDone}
-use Rattle.ft_engine.specs.Keeping.{WasAnswered}
+use Rattle.ft_engine.specs.Keeping.{WasAnswered, named_entry}
+use Rattle.ft_engine.specs.Visits.{SameCallerWork}
 use Rattle.ft_run_threads.specs.declared.workers.Worker.{Worker}
 
 -- ---- the bank
@@ -41,6 +46,47 @@ pub record AreCallsOn (k : Shape) (calls : List Call) : Type 0 where
   pub thread : IsThread script own
   pub are : own.calls ≡ calls
   pub few : length calls ≤ most_calls
+
+-- ---- awaits
+
+-- an `await` of a thread names a call of an earlier one, by its index from 1 (profile)
+abbrev pub IsAwaitFrom : ℕ → Call → Type 0
+IsAwaitFrom number (call.Await thread index) = (thread < number) × (1 ≤ index)
+IsAwaitFrom number _ = Unit {0}
+
+-- the call is no `await`
+abbrev pub IsNoAwait : Call → Type 0
+IsNoAwait (call.Await thread index) = ⊥
+IsNoAwait _ = Unit {0}
+
+-- The caller may await the thread's call of this index: it is in no call, is online and has a call left, and the thread
+-- is an earlier one. (profile)
+pub record MayAwait (c : Caller) (asked : Call) (thread index : ℕ) : Type 0 where
+  pub await : asked ≡ call.Await thread index
+  pub idle : IsIdle c
+  pub online : 0 < announces (view (pass_of c)).log
+  pub left : 0 < left_of c
+  pub some : 1 ≤ index
+  pub earlier : thread < thread_of c
+
+-- the call may be made: it may be tried; or awaited, where it is an `await`
+pub record MayMake (e : Engine) (c : Caller) (asked : Call) : Type 0 where
+  pub tried : IsNoAwait asked → MayAttempt e c asked
+  pub awaited : (thread index : ℕ) → asked ≡ call.Await thread index → MayAwait c asked thread index
+
+-- the call has ended: the caller is in none, and was answered one entry more
+abbrev pub HasEnded : Call → Called → Caller → Caller → Type 0
+HasEnded asked (called.Done said stamp mark) c d =
+    IsIdle d × ((mine : List Entry) → WasAnswered c mine
+    → WasAnswered d (mine ++ named_entry (thread_of c) mine asked said stamp mark ∷ []))
+HasEnded asked called.NoMemory c d = Unit {0}
+
+-- The caller has made notes and nothing else: it is as it was, and is online as before.
+pub record HasNoted (e : Engine) (c d : Caller) : Type 0 where
+  pub caller : IsCallerOf e d
+  pub same : SameCallerWork c d
+  pub announced : announces (view (pass_of d)).log ≡ announces (view (pass_of c)).log
+  pub kept : (mine : List Entry) → WasAnswered c mine → WasAnswered d mine
 
 -- ---- workers
 

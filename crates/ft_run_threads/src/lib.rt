@@ -2,6 +2,7 @@
 //! the others. When all are done, the engine is closed, and what they were answered is one legal history.
 #![tactic(auto)]
 
+mod awaiting;
 mod closing;
 mod gate;
 mod running;

@@ -9,10 +9,11 @@ ghost use Rattle.ft_run_threads.specs.Workers.{IsBankFor};
 use crate::closing::close_all;
 use crate::gate::Gate;
 use crate::starting::start;
-use crate::working::work_all;
+use crate::working::work_on_board;
 use ft_bank::Closed;
 use ft_model::{Entry, Script, Shown};
 use std::alloc::{AllocError, Global};
+use std::marker::Brand;
 use std::sync::Wait;
 use std::thread::Threads;
 
@@ -35,7 +36,7 @@ pub struct Ran {
 /// # Errors
 ///
 /// Memory ran out, for the bank, for a copy that a call makes, or for the history. A worker that has no memory for a
-/// call gives up, and the others go on to their ends.
+/// call gives up, and so does one that awaits a call which it then doesn't make; the others go on to their ends.
 pub fn run_workers<R: Threads + Wait + Sync, G: Gate>(
     rt: &R,
     alloc: Global,
@@ -48,6 +49,6 @@ pub fn run_workers<R: Threads + Wait + Sync, G: Gate>(
     ensures entries { IfOk result (λ ran. HasEntriesOf ran.closed ran.history.items) }
 {
     let (engine, mut workers) = start(alloc, script)?;
-    work_all(rt, &engine, alloc, gate, script, workers.as_mut_slice());
+    work_on_board::<Brand, R, G>(rt, &engine, alloc, gate, script, workers.as_mut_slice())?;
     close_all(alloc, engine, script, workers)
 }

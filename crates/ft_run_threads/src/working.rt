@@ -1,24 +1,28 @@
 //! Workers that make the calls of their threads.
-ghost use Rattle.std.specs.Prelude.{◌≡◌, ◌+◌, ◌<◌, IsTrue, length};
+ghost use Rattle.std.specs.Prelude.{◌≡◌, ◌+◌, ◌<◌, ℕ, All, IsTrue, OnOk, length};
 ghost use Rattle.ft_bank.specs.Passes.{shape_of};
+ghost use Rattle.ft_board.specs.Boards.{name_of};
 ghost use Rattle.ft_engine.specs.Callers.{bank_of};
 ghost use Rattle.ft_model.specs.Histories.{calls_of};
-ghost use Rattle.ft_run_threads.specs.Workers.{AreCallsOn, AreEach, HasWorked, IsBankFor, IsMember, IsAtStart, IsOnline};
+ghost use Rattle.ft_run_threads.specs.Workers.{AreCallsOn, AreEach, HasWorked, IsAwaitFrom, IsBankFor, IsMember, IsAtStart, IsOnline};
 
+use crate::awaiting::{make_call, publish};
 use crate::gate::Gate;
 use crate::workers::Worker;
+use ft_board::{Board, Naming};
 use ft_engine::{Called, Engine};
 use ft_model::{Call, Entry, Script, Thread};
-use std::alloc::Global;
+use std::alloc::{AllocError, Global};
 use std::sync::Wait;
 use std::thread;
 use std::thread::Threads;
 
-/// Makes the thread's call at a place, and adds its entry. It answers whether the call was answered, and else memory
-/// ran out.
-fn make<R: Wait, G: Gate>(
+/// Makes the thread's call at a place, adds its entry, and leaves notes for those that await it. It answers whether the
+/// call was answered and the notes were left; else memory ran out, or the thread whose call it awaits has stopped.
+fn make<N: Naming, R: Wait, G: Gate>(
     rt: &R,
     engine: &Engine,
+    board: &Board<N>,
     alloc: Global,
     gate: &G,
     thread: usize,
@@ -26,7 +30,9 @@ fn make<R: Wait, G: Gate>(
     place: usize,
     worker: &mut Worker,
 ) -> bool
+    requires bank { name_of (bank_of engine.now) ≡ N.bank }
     requires calls { AreCallsOn (shape_of (bank_of engine.now)) calls.now }
+    requires awaits { All (IsAwaitFrom thread) calls.now }
     requires place { place < length calls.now }
     requires worker { IsOnline engine.now thread calls.now place worker.old }
     ensures member { IsMember engine.now thread worker.new.caller }
@@ -37,7 +43,14 @@ fn make<R: Wait, G: Gate>(
     let number = worker.caller.thread();
     let call = &calls[place];
     gate.before(number, index);
-    let Called::Done(reply, stamp, waited) = engine.call(rt, alloc, &mut worker.caller, call) else {
+    let Called::Done(reply, stamp, waited) = make_call(
+        rt,
+        engine,
+        board,
+        alloc,
+        &mut worker.caller,
+        call,
+    ) else {
         return false;
     };
     worker.entries.push_reserved(Entry {
@@ -49,27 +62,31 @@ fn make<R: Wait, G: Gate>(
         reply,
         waited,
     });
+    let published = publish(rt, engine, board, alloc, &mut worker.caller, index);
     gate.after(number, index);
-    true
+    published
 }
 
 /// Makes all calls of a thread, one after the other. It answers whether each was answered.
-fn make_all<R: Wait, G: Gate>(
+fn make_all<N: Naming, R: Wait, G: Gate>(
     rt: &R,
     engine: &Engine,
+    board: &Board<N>,
     alloc: Global,
     gate: &G,
     thread: usize,
     calls: &[Call],
     worker: &mut Worker,
 ) -> bool
+    requires bank { name_of (bank_of engine.now) ≡ N.bank }
     requires calls { AreCallsOn (shape_of (bank_of engine.now)) calls.now }
+    requires awaits { All (IsAwaitFrom thread) calls.now }
     requires worker { IsOnline engine.now thread calls.now 0 worker.old }
     ensures member { IsMember engine.now thread worker.new.caller }
     ensures made { IsTrue result → IsOnline engine.now thread calls.now (length calls.now) worker.new }
 {
     for place in 0..calls.len() {
-        if !make(rt, engine, alloc, gate, thread, calls, place, worker) {
+        if !make(rt, engine, board, alloc, gate, thread, calls, place, worker) {
             return false;
         }
     }
@@ -78,15 +95,17 @@ fn make_all<R: Wait, G: Gate>(
 
 /// Makes all calls of the script's thread; one that the script doesn't have has no calls. It answers whether each was
 /// answered.
-fn make_own<R: Wait, G: Gate>(
+fn make_own<N: Naming, R: Wait, G: Gate>(
     rt: &R,
     engine: &Engine,
+    board: &Board<N>,
     alloc: Global,
     gate: &G,
     script: &Script,
     thread: usize,
     worker: &mut Worker,
 ) -> bool
+    requires name { name_of (bank_of engine.now) ≡ N.bank }
     requires bank { IsBankFor script.now (shape_of (bank_of engine.now)) }
     requires worker { IsOnline engine.now thread (calls_of script.now thread) 0 worker.old }
     ensures member { IsMember engine.now thread worker.new.caller }
@@ -97,6 +116,7 @@ fn make_own<R: Wait, G: Gate>(
         Some(own) => make_all(
             rt,
             engine,
+            board,
             alloc,
             gate,
             thread,
@@ -107,17 +127,20 @@ fn make_own<R: Wait, G: Gate>(
     }
 }
 
-/// Goes online, makes all calls of the script's thread, and goes offline. Where memory runs out the worker gives up
-/// what it is in, and makes no more calls.
-fn work<R: Wait, G: Gate>(
+/// Goes online, makes all calls of the script's thread, and goes offline. Where memory runs out, or a thread whose call
+/// it awaits has stopped, the worker gives up what it is in, makes no more calls, and says so to those that await them.
+fn work<N: Naming, R: Wait, G: Gate>(
     rt: &R,
     engine: &Engine,
+    board: &Board<N>,
     alloc: Global,
     gate: &G,
     script: &Script,
     thread: usize,
     worker: &mut Worker,
 )
+    requires name { name_of (bank_of engine.now) ≡ N.bank }
+    requires stopped { (each : ℕ) → N.stopped each }
     requires bank { IsBankFor script.now (shape_of (bank_of engine.now)) }
     requires worker { IsAtStart engine.now script.now thread worker.old }
     ensures { HasWorked engine.now script.now thread worker.new }
@@ -125,25 +148,29 @@ fn work<R: Wait, G: Gate>(
     // Named so that the check sees the script's rule.
     let _parts = script.parts();
     engine.enter(&mut worker.caller);
-    if make_own(rt, engine, alloc, gate, script, thread, worker) {
+    if make_own(rt, engine, board, alloc, gate, script, thread, worker) {
         engine.leave(&mut worker.caller);
         worker.done = true;
     } else {
         engine.abandon(&mut worker.caller);
         engine.leave(&mut worker.caller);
+        board.stop(rt, worker.caller.thread());
         worker.done = false;
     }
 }
 
 /// Each worker makes the calls of its thread, in a thread of its own.
-pub(crate) fn work_all<R: Threads + Wait + Sync, G: Gate>(
+fn work_all<N: Naming + Send + Sync, R: Threads + Wait + Sync, G: Gate>(
     rt: &R,
     engine: &Engine,
+    board: &Board<N>,
     alloc: Global,
     gate: &G,
     script: &Script,
     workers: &mut [Worker],
 )
+    requires name { name_of (bank_of engine.now) ≡ N.bank }
+    requires stopped { (each : ℕ) → N.stopped each }
     requires bank { IsBankFor script.now (shape_of (bank_of engine.now)) }
     requires workers { AreEach (IsAtStart engine.now script.now) workers.old }
     ensures count { length workers.new ≡ length workers.old }
@@ -154,11 +181,34 @@ pub(crate) fn work_all<R: Threads + Wait + Sync, G: Gate>(
         return;
     }
     let each = |thread: usize, worker: &mut Worker|
-        requires { IsBankFor script.now (shape_of (bank_of engine.now))
+        requires { (name_of (bank_of engine.now) ≡ N.bank) × ((each : ℕ) → N.stopped each)
+            × IsBankFor script.now (shape_of (bank_of engine.now))
             × IsAtStart engine.now script.now thread worker.now }
         ensures { HasWorked engine.entry.now script.entry.now thread worker.exit.now }
     {
-        work(rt, engine, alloc, gate, script, thread, worker);
+        work(rt, engine, board, alloc, gate, script, thread, worker);
     };
     thread::for_each_mut(rt, workers, count, &each);
+}
+
+/// The same, with a board for the notes of those calls that other threads await. An `Err` says that there was no memory
+/// for the board, and then no call is made.
+pub(crate) fn work_on_board<N: Naming + Send + Sync, R: Threads + Wait + Sync, G: Gate>(
+    rt: &R,
+    engine: &Engine,
+    alloc: Global,
+    gate: &G,
+    script: &Script,
+    workers: &mut [Worker],
+) -> Result<(), AllocError>
+    requires name { name_of (bank_of engine.now) ≡ N.bank }
+    requires stopped { (each : ℕ) → N.stopped each }
+    requires bank { IsBankFor script.now (shape_of (bank_of engine.now)) }
+    requires workers { AreEach (IsAtStart engine.now script.now) workers.old }
+    ensures count { OnOk result (length workers.new ≡ length workers.old) }
+    ensures workers { OnOk result (AreEach (HasWorked engine.now script.now) workers.new) }
+{
+    let board: Board<N> = Board::new(alloc, script)?;
+    work_all(rt, engine, &board, alloc, gate, script, workers);
+    Ok(())
 }

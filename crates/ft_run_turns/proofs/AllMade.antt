@@ -18,10 +18,11 @@ use Rattle.ft_bank.specs.Passes.{shape_of, view}
 use Rattle.ft_engine.specs.declared.engine.Engine.{Engine}
 use Rattle.ft_engine.specs.Callers.{bank_of, pass_of}
 use Rattle.ft_turns.specs.Ends.{after_turns}
-use Rattle.ft_turns.specs.Orders.{Machine, answer_try, count_of_calls, finish_try, next_call, start_machine, thread_at, turn, turns_of}
+use Rattle.ft_turns.specs.Orders.{Machine, count_of_calls, next_call, start_machine, thread_at, turn, turns_of}
 use Rattle.ft_turns.specs.declared.schedule.Schedule.{Schedule}
 use Rattle.ft_turns.specs.Schedules.{IsInRound, scheduled}
 use Rattle.ft_turns.proofs.NothingLeft.{calls_at, same_parts}
+use Rattle.ft_turns.proofs.TurnParts.{idle_turn, ready_none}
 use Rattle.ft_turn_laws.specs.Endings.{entry_lists}
 use Rattle.ft_turn_laws.specs.Ordered.{AreAnswersInOrder}
 use Rattle.ft_turn_laws.specs.LockOwners.{owners_in}
@@ -41,8 +42,7 @@ use Rattle.ft_run_turns.proofs.Seated.{few_made, next_is}
 still_turns : (script : ScriptParts) (machine : Machine) → ((thread : ℕ) → next_call script thread (thread_at machine thread) ≡ None) → (turns : List ℕ) → fold (turn script) machine turns ≡ machine
 still_turns script machine none [] = refl
 still_turns script machine none (thread ∷ turns) =
-    let still : turn script machine thread ≡ machine =
-    ap (λ o. option_map_or (λ called. finish_try (if (thread_at machine thread).fixed then machine else answer_try script machine thread (thread_at machine thread) called) thread) o machine) (none thread) in
+    let still : turn script machine thread ≡ machine = idle_turn script machine thread (ready_none script machine thread (none thread)) in
     ap (λ m. fold (turn script) m turns) still ∙ still_turns script machine none turns
 
 module _ (script : ScriptParts) (seats : List (Option Seat)) (all : SeatsHaveMadeAll script seats) where

@@ -7,3 +7,5 @@ mod AllMade
 mod NewSeats
 mod Ended
 mod Ordered
+mod AwaitedCalls
+mod AwaitedTurns

@@ -73,6 +73,7 @@ come_between e script i c d is same caller kept online some =
       kept = kept [] is.kept;
       made = refl;
       next = λ called at. subst (λ (f : Flight). AllowsCall f called) (sym (same.flight ∙ is.idle)) tt;
+      idle = λ named index at. same.flight ∙ is.idle;
       online = λ low. online;
       done = λ all. absurd (omega (arith, all, some));
     }
@@ -86,6 +87,7 @@ idle_between e script i c is none =
       kept = is.kept;
       made = refl;
       next = λ called at. subst (λ (f : Flight). AllowsCall f called) (sym is.idle) tt;
+      idle = λ named index at. is.idle;
       online = λ low. absurd (none low);
       done = λ all. (is.idle, is.offline);
     }

@@ -1,5 +1,5 @@
 -- The seats of all threads, when one of them is put back.
-use Rattle.std.proofs.Common.{◌≡◌, ◌≢◌, ℕ, ◌+◌, ◌<◌, List, [], ◌∷◌, ◌++◌, length, get_or, Option, Some, sym, ap, subst, ◌∙◌, arith, inl, inr}
+use Rattle.std.proofs.Common.{◌≡◌, ◌≢◌, ℕ, ◌+◌, ◌<◌, false, List, [], ◌∷◌, ◌++◌, length, get_or, Option, Some, sym, ap, subst, ◌∙◌, arith, inl, inr}
 use Rattle.std.specs.Prelude.{slice_get, slice_set}
 use Rattle.std.specs.Option.{option_map}
 use Rattle.std.proofs.lemmas.Bool.{cases_eq}
@@ -12,6 +12,8 @@ use Rattle.ft_bank.specs.declared.tokens.Tokens.{Tokens}
 use Rattle.ft_bank.specs.Passes.{view}
 use Rattle.ft_engine.specs.declared.engine.Engine.{Engine}
 use Rattle.ft_engine.specs.Callers.{pass_of}
+use Rattle.ft_turns.specs.Ends.{after_turns}
+use Rattle.ft_turns.specs.Orders.{is_awaiting}
 use Rattle.ft_turn_laws.specs.Turns.{AreInStep}
 use Rattle.ft_run_threads.specs.Workers.{IsBankFor}
 use Rattle.ft_run_threads.proofs.WholeLists.{max_some}
@@ -77,8 +79,8 @@ some_seat e script seats thread seat are low read none = let one = are thread lo
 
 -- the turn of a thread is one of all
 pub turn_of_all : (e : Engine) (script : ScriptParts) (turns : List ℕ) (seats : List (Option Seat)) (thread : ℕ) (s r : Seat) (t u : Tokens) → slice_get seats thread ≡ Some (Some s) → thread < length seats → TokensStayInStep e script thread s t r u
-    → HaveTurned e script turns seats t → HaveTurned e script (turns ++ thread ∷ []) (slice_set seats thread (Some r)) u
-turn_of_all e script turns seats thread s r t u at low goes turned some =
+    → is_awaiting script (after_turns script turns) thread ≡ false → HaveTurned e script turns seats t → HaveTurned e script (turns ++ thread ∷ []) (slice_set seats thread (Some r)) u
+turn_of_all e script turns seats thread s r t u at low goes awake turned some =
     let now = turned some in
-    let next = goes turns (standings_of seats) now.0 now.1 (standing_there e script seats thread s r at low) now.2 in
+    let next = goes turns (standings_of seats) now.0 awake now.1 (standing_there e script seats thread s r at low) now.2 in
     (next.0, next.1, subst (AreInStep script (turns ++ thread ∷ []) (view (pass_of next.0))) (sym (standings_put e script seats thread s r at low)) next.2)

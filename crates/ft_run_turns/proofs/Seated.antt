@@ -1,12 +1,13 @@
 -- A thread between two turns: what a turn makes of it, and where it stands.
 use Rattle.std.proofs.Common.{◌≡◌, ◌≢◌, ℕ, zero, suc, ◌+◌, ◌-◌, ◌<◌, ◌≤◌, Bool, true, false, List, [], ◌∷◌, ◌++◌, length, map, take, Option, None, Some, refl, sym, ap, subst, ◌∙◌, arith, inl, inr}
 use Rattle.std.specs.Prelude.{if◌then◌else◌, slice_get, slice_set}
-use Rattle.std.specs.Option.{option_map_or}
 use Rattle.std.proofs.lemmas.List.{length-map, length-take, length_push, map-append}
 use Rattle.std.proofs.lemmas.Bool.{cases_lt, false≢true}
-use Rattle.std.proofs.lemmas.Option.{same_Some, slice_get_within}
+use Rattle.std.proofs.lemmas.Option.{none-some, same_Some, slice_get_within}
 use Rattle.ft_model.specs.declared.call.Call.{Call}
+use Rattle.ft_model.specs.declared.call.Call.TheVariants as call
 use Rattle.ft_model.specs.declared.entry.Entry.{Entry}
+use Rattle.ft_model.specs.declared.reply.Reply.TheVariants as reply
 use Rattle.ft_model.specs.declared.script.ScriptParts.{ScriptParts}
 use Rattle.ft_model.specs.Histories.{calls_of}
 use Rattle.ft_model.specs.Limits.{most_cursors}
@@ -30,19 +31,20 @@ use Rattle.ft_engine.specs.Keeping.{WasAnswered, named_entry}
 use Rattle.ft_engine.specs.Resting.{HasFloor, IsAsBefore, IsWoken, KeepsFloor, RestsAs}
 use Rattle.ft_engine.specs.Visits.{SameCallerWork}
 use Rattle.ft_turns.specs.Ends.{after_turns}
-use Rattle.ft_turns.specs.Orders.{Machine, answer_try, finish_try, next_call, thread_at, turn}
+use Rattle.ft_turns.specs.Orders.{Machine, awaited_by, next_call, ready_call, thread_at}
+use Rattle.ft_turns.proofs.TurnParts.{ready_none}
 use Rattle.ft_turn_laws.specs.Ordered.{AreAnswersInOrder}
 use Rattle.ft_turn_laws.specs.LockOwners.{owners_in}
 use Rattle.ft_turn_laws.specs.Standing.{AreAsMachine, Standing, standing_of}
 use Rattle.ft_turn_laws.specs.Turns.{AreInStep, IsTurnOf}
-use Rattle.ft_turn_laws.proofs.CallerTurns.{one_more_turn}
-use Rattle.ft_turn_laws.proofs.InStep.{tries_are_turns}
+use Rattle.ft_turn_laws.proofs.InStep.{learns_are_turns, tries_are_turns}
+use Rattle.ft_turn_laws.proofs.LearnedTurns.{spent_turns}
 use Rattle.ft_turn_laws.proofs.BeforeTurns.{handed_on, resting_stand, woken_have_floor}
 use Rattle.ft_run_threads.specs.Workers.{IsBankFor, IsMember}
 use Rattle.ft_run_threads.proofs.Between.{stays_member, visited_member}
 use Rattle.ft_run_threads.proofs.WholeLists.{max_some}
 use Rattle.ft_run_turns.specs.declared.seats.Seat.{Seat}
-use Rattle.ft_run_turns.specs.Internal.CallerSeats.{StaysInStep, HasTried, IsBetweenTurns, IsGiver, TokensStayInStep, ends_call, standing_in}
+use Rattle.ft_run_turns.specs.Internal.CallerSeats.{StaysInStep, HasLearned, HasTried, IsBetweenTurns, IsGiver, TokensStayInStep, ends_call, standing_in}
 use Rattle.ft_run_turns.proofs.Visited.{visited_step}
 
 -- ---- who is woken is between two turns still
@@ -55,6 +57,7 @@ woken_between e script i c d mine is before caller =
       kept = before.kept mine is.kept;
       made = is.made;
       next = λ called at. subst (λ (f : Flight). AllowsCall f called) (sym before.same.flight) (is.next called at);
+      idle = λ named index at. before.same.flight ∙ is.idle named index at;
       online = λ low. subst (λ n. 0 < n) (sym before.announced) (is.online low);
       done = λ all. (before.same.flight ∙ (is.done all).0, before.announced ∙ (is.done all).1);
     }
@@ -75,9 +78,10 @@ pub record IsAfterTry (e : Engine) (script : ScriptParts) (i : ℕ) (d : Caller)
   pub made : map (λ entry. entry.call) after ≡ take (length after) (calls_of script i)
   pub next : (called : Call) → slice_get (calls_of script i) (length after) ≡ Some called → AllowsCall (flight_of d) called
   pub online : 0 < announces (view (pass_of d)).log
+  pub still : (named index : ℕ) → slice_get (calls_of script i) (length after) ≡ Some (call.Await named index) → IsIdle d
   pub idle : length (calls_of script i) ≤ length after → IsIdle d
 
-module _ (e : Engine) (script : ScriptParts) (i : ℕ) (c : Caller) (mine : List Entry) (is : IsBetweenTurns e script i c mine) (called : Call) (at : slice_get (calls_of script i) (length mine) ≡ Some called) where
+module _ (e : Engine) (script : ScriptParts) (i : ℕ) (c : Caller) (mine : List Entry) (is : IsBetweenTurns e script i c mine) (called : Call) (at : slice_get (calls_of script i) (length mine) ≡ Some called) (other : awaited_by called ≡ None) where
   abbrev calls : List Call
   calls = calls_of script i
 
@@ -109,6 +113,13 @@ module _ (e : Engine) (script : ScriptParts) (i : ℕ) (c : Caller) (mine : List
   idle_after (tried.Moved first second) f flies all = absurd (let l = low in omega (arith, all, l))
   idle_after tried.NoMemory f flies all = absurd (let l = low in omega (arith, all, l))
 
+  -- what was tried is no `await`
+  still_after : (t : Tried) (f : Flight) → (t ≡ tried.NoMemory → ⊥) → flight_after called t f → (named index : ℕ) → slice_get calls (length (after_of t)) ≡ Some (call.Await named index) → f ≡ flight.Idle
+  still_after (tried.Done said stamp mark) f memory flies named index there = flies
+  still_after (tried.NotYet o owner) f memory flies named index there = absurd (none-some _ (sym other ∙ ap awaited_by (same_Some called (call.Await named index) (sym at ∙ there))))
+  still_after (tried.Moved first second) f memory flies named index there = absurd (none-some _ (sym other ∙ ap awaited_by (same_Some called (call.Await named index) (sym at ∙ there))))
+  still_after tried.NoMemory f memory flies named index there = absurd (memory refl)
+
   pub after_try : (t : Tried) (d : Caller) → IsTurnOf e called t c d → IsAfterTry e script i d (after_of t)
   after_try t d turned =
       let tried = turned.tried in
@@ -118,6 +129,7 @@ module _ (e : Engine) (script : ScriptParts) (i : ℕ) (c : Caller) (mine : List
         kept = tried.kept mine is.kept;
         made = made_after t;
         next = next_after t (flight_of d) turned.memory tried.flight;
+        still = still_after t (flight_of d) turned.memory tried.flight;
         online = tried.same.pass.online (is.online low);
         idle = idle_after t (flight_of d) tried.flight;
       }
@@ -125,7 +137,7 @@ module _ (e : Engine) (script : ScriptParts) (i : ℕ) (c : Caller) (mine : List
 -- it has calls left
 pub more_between : (e : Engine) (script : ScriptParts) (i : ℕ) (d : Caller) (after : List Entry) → IsAfterTry e script i d after → length after < length (calls_of script i) → IsBetweenTurns e script i d after
 more_between e script i d after is more =
-    record { member = is.member; cursors = is.cursors; kept = is.kept; made = is.made; next = is.next; online = λ _. is.online; done = λ all. absurd (omega (arith, all, more)) }
+    record { member = is.member; cursors = is.cursors; kept = is.kept; made = is.made; next = is.next; idle = is.still; online = λ _. is.online; done = λ all. absurd (omega (arith, all, more)) }
 
 -- it has gone offline after its last one
 pub left_between : (e : Engine) (script : ScriptParts) (i : ℕ) (c d : Caller) (after : List Entry) → IsAfterTry e script i c after → length (calls_of script i) ≤ length after → SameCallerWork c d → IsCallerOf e d
@@ -137,11 +149,19 @@ left_between e script i c d after is all same caller kept offline =
       kept = kept after is.kept;
       made = is.made;
       next = λ called at. subst (λ (f : Flight). AllowsCall f called) (sym (same.flight ∙ is.idle all)) tt;
+      idle = λ named index at. same.flight ∙ is.idle all;
       online = λ low. absurd (omega (arith, all, low));
       done = λ _. (same.flight ∙ is.idle all, offline);
     }
 
 -- ---- a turn
+
+not_last : (n m k : ℕ) → n < m → k ≡ n + 1 → (n + 1 ≡ m → ⊥) → k < m
+not_last n m k low longer more =
+    elim (cases_lt k m) [
+      | inl less ↦ less
+      | inr past ↦ absurd (more (omega (arith, low, longer, past)))
+    ]
 
 kept_still : (thread : ℕ) (called : Call) (t : Tried) (mine : List Entry) → false ≡ ends_call t → entries_with_answer thread called t mine ≡ mine
 kept_still thread called (tried.Done said stamp mark) mine went = absurd (false≢true went)
@@ -155,9 +175,9 @@ kept_more thread called (tried.NotYet o owner) mine went = absurd (false≢true 
 kept_more thread called (tried.Moved first second) mine went = absurd (false≢true (sym went))
 kept_more thread called tried.NoMemory mine went = absurd (false≢true (sym went))
 
-module _ (e : Engine) (script : ScriptParts) (i : ℕ) (c d : Caller) (mine after : List Entry) (called : Call) (is : IsBetweenTurns e script i c mine) (at : slice_get (calls_of script i) (length mine) ≡ Some called) where
+module _ (e : Engine) (script : ScriptParts) (i : ℕ) (c d : Caller) (mine after : List Entry) (called : Call) (is : IsBetweenTurns e script i c mine) (at : slice_get (calls_of script i) (length mine) ≡ Some called) (other : awaited_by called ≡ None) where
   after_it : (went : Bool) → HasTried e called c mine d after went → IsAfterTry e script i d after
-  after_it went has = subst (IsAfterTry e script i d) (sym has.entries) (after_try e script i c mine is called at has.answer d has.turn)
+  after_it went has = subst (IsAfterTry e script i d) (sym has.entries) (after_try e script i c mine is called at other has.answer d has.turn)
 
   pub count_waits : HasTried e called c mine d after false → length after ≡ length mine
   count_waits has = ap length (has.entries ∙ kept_still (thread_of c) called has.answer mine has.ended)
@@ -176,13 +196,6 @@ module _ (e : Engine) (script : ScriptParts) (i : ℕ) (c d : Caller) (mine afte
       let low = slice_get_within (calls_of script i) (length mine) called at in
       let longer = count_ends has in
       more_between e script i d after (after_it true has) (not_last (length mine) (length (calls_of script i)) (length after) low longer more)
-    where
-      not_last : (n m k : ℕ) → n < m → k ≡ n + 1 → (n + 1 ≡ m → ⊥) → k < m
-      not_last n m k low longer more =
-          elim (cases_lt k m) [
-            | inl less ↦ less
-            | inr past ↦ absurd (more (omega (arith, low, longer, past)))
-          ]
 
   pub leaves_between : HasTried e called c mine d after true → length mine + 1 ≡ length (calls_of script i) → (x : Caller) → SameCallerWork d x → IsCallerOf e x → ((own : List Entry) → WasAnswered d own → WasAnswered x own)
       → announces (view (pass_of x)).log ≡ 0 → IsBetweenTurns e script i x after
@@ -190,10 +203,46 @@ module _ (e : Engine) (script : ScriptParts) (i : ℕ) (c d : Caller) (mine afte
       let longer = count_ends has in
       left_between e script i d x after (after_it true has) (omega (arith, last, longer)) same caller kept offline
 
+-- after an `await` the caller is in no call
+module _ (e : Engine) (script : ScriptParts) (i : ℕ) (c d : Caller) (mine after : List Entry) (named index : ℕ) (is : IsBetweenTurns e script i c mine) (at : slice_get (calls_of script i) (length mine) ≡ Some (call.Await named index)) (has : HasLearned e (call.Await named index) c mine d after) where
+  pub count_learned : length after ≡ length mine + 1
+  count_learned = ap length has.entries ∙ length_push mine (named_entry (thread_of c) mine (call.Await named index) reply.Done has.stamp None)
+
+  after_learned : IsAfterTry e script i d after
+  after_learned =
+      let calls = calls_of script i in
+      let called : Call = call.Await named index in
+      let entry = named_entry (thread_of c) mine called reply.Done has.stamp None in
+      let low = slice_get_within calls (length mine) called at in
+      record {
+        member = stays_member e i c d is.member has.learn.tried.same has.learn.tried.caller;
+        cursors = has.learn.tried.same.room ∙ is.cursors;
+        kept = subst (WasAnswered d) (sym has.entries) (has.learn.tried.kept mine is.kept);
+        made = ap (map (λ (x : Entry). x.call)) has.entries
+            ∙ (map-append (λ (x : Entry). x.call) mine (entry ∷ [])
+            ∙ (ap (λ (cs : List Call). cs ++ called ∷ []) is.made
+            ∙ (sym (take_next calls (length mine) called at) ∙ ap (λ n. take n calls) (sym count_learned))));
+        next = λ more there. subst (λ (f : Flight). AllowsCall f more) (sym has.learn.tried.flight) tt;
+        online = has.learn.tried.same.pass.online (is.online low);
+        still = λ _ _ _. has.learn.tried.flight;
+        idle = λ _. has.learn.tried.flight;
+      }
+
+  pub learned_between : (length mine + 1 ≡ length (calls_of script i) → ⊥) → IsBetweenTurns e script i d after
+  learned_between more =
+      let low = slice_get_within (calls_of script i) (length mine) (call.Await named index) at in
+      more_between e script i d after after_learned (not_last (length mine) (length (calls_of script i)) (length after) low count_learned more)
+
+  pub learned_leaves : length mine + 1 ≡ length (calls_of script i) → (x : Caller) → SameCallerWork d x → IsCallerOf e x → ((own : List Entry) → WasAnswered d own → WasAnswered x own)
+      → announces (view (pass_of x)).log ≡ 0 → IsBetweenTurns e script i x after
+  learned_leaves last x same caller kept offline =
+      let longer = count_learned in
+      left_between e script i d x after after_learned (omega (arith, last, longer)) same caller kept offline
+
 pub for_bank : (e : Engine) (script : ScriptParts) → IsBankFor script (shape_of (bank_of e)) → 0 < length script.threads → IsFor script (shape_of (bank_of e))
 for_bank e script bank some = record { starts = bank.starts; tables = bank.tables; heap = bank.heap; passes = bank.passes ∙ max_some (length script.threads) (λ none. omega (arith, some, none)) }
 
-set_found : {X : Type 0} (xs : List X) (i : ℕ) (x : X) → slice_get xs i ≡ Some x → slice_set xs i x ≡ xs
+pub set_found : {X : Type 0} (xs : List X) (i : ℕ) (x : X) → slice_get xs i ≡ Some x → slice_set xs i x ≡ xs
 set_found [] i x at = refl
 set_found (y ∷ xs) zero x at = ap (λ z. z ∷ xs) (sym (same_Some y x at))
 set_found (y ∷ xs) (suc i) x at = ap (λ zs. y ∷ zs) (set_found xs i x at)
@@ -210,24 +259,18 @@ module _ (script : ScriptParts) (thread : ℕ) (turns : List ℕ) (v : View) (st
   pub next_is : (next : Option Call) → slice_get (calls_of script thread) (length s.entries) ≡ next → next_call script thread (thread_at machine thread) ≡ next
   next_is next at_calls = ap (slice_get (calls_of script thread)) marks_count ∙ at_calls
 
-  -- a thread with no call left spends its turn
-  pub spent_turn : slice_get (calls_of script thread) (length s.entries) ≡ None → AreInStep script (turns ++ thread ∷ []) v (slice_set standings thread s)
-  spent_turn none =
-      let still : turn script machine thread ≡ machine =
-      ap (λ o. option_map_or (λ called. finish_try (if (thread_at machine thread).fixed then machine else answer_try script machine thread (thread_at machine thread) called) thread) o machine) (next_is None none) in
-      let same : machine ≡ after_turns script (turns ++ thread ∷ []) = sym (one_more_turn script turns thread ∙ still) in
-      subst (AreInStep script (turns ++ thread ∷ []) v) (sym (set_found standings thread s at))
-      (record {
-        machine = subst (λ (m : Machine). AreAsMachine script m (owners_in v) standings) same was.machine;
-        order = subst (λ (m : Machine). AreAnswersInOrder m.answered standings (seen_writes v)) same was.order;
-      })
+  -- a turn that is spent changes nothing
+  pub spent_turn : ready_call script machine thread ≡ None → AreInStep script (turns ++ thread ∷ []) v (slice_set standings thread s)
+  spent_turn none = subst (AreInStep script (turns ++ thread ∷ []) v) (sym (set_found standings thread s at)) (spent_turns script turns thread v standings none was)
 
 pub spent_goes_on : (script : ScriptParts) (thread : ℕ) (c : Caller) (mine : List Entry) → slice_get (calls_of script thread) (length mine) ≡ None → StaysInStep script thread c mine c mine
-spent_goes_on script thread c mine none turns standings at was = spent_turn script thread turns (view (pass_of c)) standings (standing_of c mine) at was none
+spent_goes_on script thread c mine none turns standings awake at was =
+    spent_turn script thread turns (view (pass_of c)) standings (standing_of c mine) at was
+    (ready_none script (after_turns script turns) thread (next_is script thread turns (view (pass_of c)) standings (standing_of c mine) at was None none))
 
 pub try_goes_on : (e : Engine) (script : ScriptParts) (thread : ℕ) (c d : Caller) (mine : List Entry) (called : Call) (t : Tried) → IsFor script (shape_of (bank_of e)) → IsBetweenTurns e script thread c mine
     → slice_get (calls_of script thread) (length mine) ≡ Some called → IsTurnOf e called t c d → StaysInStep script thread c mine d (entries_with_answer (thread_of c) called t mine)
-try_goes_on e script thread c d mine called t made_for is at_calls turned turns standings at was =
+try_goes_on e script thread c d mine called t made_for is at_calls turned turns standings awake at was =
     let number : thread_of c ≡ thread = is.member.thread in
     let after = entries_with_answer (thread_of c) called t mine in
     let next : next_call script thread (thread_at (after_turns script turns) thread) ≡ Some called = next_is script thread turns (view (pass_of c)) standings (standing_of c mine) at was (Some called) at_calls in
@@ -237,15 +280,31 @@ try_goes_on e script thread c d mine called t made_for is at_calls turned turns 
     (subst (λ n. next_call script n (thread_at (after_turns script turns) n) ≡ Some called) (sym number) next)
     was)
 
+-- an `await` that is answered
+pub learn_goes_on : (e : Engine) (script : ScriptParts) (thread : ℕ) (c d : Caller) (mine after : List Entry) (named index : ℕ) → IsFor script (shape_of (bank_of e)) → IsBetweenTurns e script thread c mine
+    → slice_get (calls_of script thread) (length mine) ≡ Some (call.Await named index) → HasLearned e (call.Await named index) c mine d after → StaysInStep script thread c mine d after
+learn_goes_on e script thread c d mine after named index made_for is at_calls has turns standings awake at was =
+    let number : thread_of c ≡ thread = is.member.thread in
+    let machine = after_turns script turns in
+    let called : Call = call.Await named index in
+    let next : next_call script thread (thread_at machine thread) ≡ Some called = next_is script thread turns (view (pass_of c)) standings (standing_of c mine) at was (Some called) at_calls in
+    let ready : ready_call script machine thread ≡ Some called = ap (λ (b : Bool). if b then None else next_call script thread (thread_at machine thread)) awake ∙ next in
+    subst (λ (es : List Entry). AreInStep script (turns ++ thread ∷ []) (view (pass_of d)) (slice_set standings thread (standing_of d es))) (sym has.entries)
+    (subst (λ n. AreInStep script (turns ++ n ∷ []) (view (pass_of d)) (slice_set standings n (standing_of d (entries_with_answer (thread_of c) called (tried.Done reply.Done has.stamp None) mine)))) number
+    (learns_are_turns script e turns standings named index has.stamp c d mine made_for has.learn is.kept
+    (subst (λ n. slice_get standings n ≡ Some (standing_of c mine)) (sym number) at)
+    (subst (λ n. ready_call script machine n ≡ Some called) (sym number) ready)
+    was))
+
 -- it goes offline then
 pub left_goes_on : (e : Engine) (script : ScriptParts) (thread : ℕ) (c d x : Caller) (mine after : List Entry) → IsBankFor script (shape_of (bank_of e)) → IsCallerOf e d → IsCallerOf e x → SameCallerWork d x → KeepsFloor d x → HasFloor d
     → StaysInStep script thread c mine d after → StaysInStep script thread c mine x after
-left_goes_on e script thread c d x mine after bank is_d is_x same keeps floor goes turns standings at was =
+left_goes_on e script thread c d x mine after bank is_d is_x same keeps floor goes turns standings awake at was =
     let flies : x.flight ≡ d.flight = same.flight in
     let stack : stack_of x.pass ≡ stack_of d.pass = same.sections in
     let stands : standing_of d after ≡ standing_of x after = cc in
     subst (λ (s : Standing). AreInStep script (turns ++ thread ∷ []) (view (pass_of x)) (slice_set standings thread s)) stands
-    (visited_step e d x is_d is_x same keeps floor script (turns ++ thread ∷ []) (slice_set standings thread (standing_of d after)) bank (goes turns standings at was))
+    (visited_step e d x is_d is_x same keeps floor script (turns ++ thread ∷ []) (slice_set standings thread (standing_of d after)) bank (goes turns standings awake at was))
 
 -- ---- from tokens to tokens
 
@@ -257,11 +316,11 @@ rest_standing c s at_rest =
 
 pub tokens_go_on : (e : Engine) (script : ScriptParts) (thread : ℕ) (s r : Seat) (t u : Tokens) (w c d : Caller) → RestsAs w s.caller → IsAsBefore w c → IsCallerOf e c → IsWoken t c
     → StaysInStep script thread c s.entries.items d r.entries.items → IsGiver e d u → RestsAs d r.caller → TokensStayInStep e script thread s t r u
-tokens_go_on e script thread s r t u w c d at_rest before caller woken goes gives rests turns standings giver gave at was =
+tokens_go_on e script thread s r t u w c d at_rest before caller woken goes gives rests turns standings giver awake gave at was =
     let from = woken_have_floor e giver c t gave.caller caller gave.floor gave.hands woken in
     let now = handed_on script turns (view (pass_of giver)) (view (pass_of c)) standings from was in
     let same : standing_of c s.entries.items ≡ standing_in s = (resting_stand w c s.entries.items before).1 ∙ rest_standing w s at_rest in
-    let next = goes turns standings (at ∙ ap (λ (x : Standing). Some x) (sym same)) now in
+    let next = goes turns standings awake (at ∙ ap (λ (x : Standing). Some x) (sym same)) now in
     (d, gives, subst (λ (x : Standing). AreInStep script (turns ++ thread ∷ []) (view (pass_of d)) (slice_set standings thread x)) (rest_standing d r rests) next)
 
 -- the turn of a thread with a call left, by what `try_once` says

@@ -2,6 +2,7 @@
 //! and tries its next call once. What comes of it is a history in the order of the script's turns.
 #![tactic(auto)]
 
+mod awaiting;
 mod ending;
 mod running;
 mod seating;

@@ -1,19 +1,21 @@
 //! One turn of a thread: its caller is woken, tries its next call, and rests.
-ghost use Rattle.std.specs.Prelude.{◌≡◌, ◌↔◌, ◌+◌, ◌<◌, IfOk, IsTrue, OnOk, Some, length, slice_get, if◌then◌else◌};
+ghost use Rattle.std.specs.Prelude.{◌≡◌, ◌↔◌, ◌+◌, ◌<◌, IfOk, IsTrue, None, OnOk, Some, length, slice_get, if◌then◌else◌};
 ghost use Rattle.ft_bank.specs.Passes.{shape_of};
 ghost use Rattle.ft_engine.specs.Attempts.{MayAttempt};
+ghost use Rattle.ft_engine.specs.Awaiting.{MayLearnAt};
 ghost use Rattle.ft_engine.specs.Callers.{IsCallerOf, bank_of};
 ghost use Rattle.ft_engine.specs.Keeping.{WasAnswered};
 ghost use Rattle.ft_engine.specs.Resting.{HasFloor};
 ghost use Rattle.ft_model.specs.Histories.{calls_of};
 ghost use Rattle.ft_model.specs.Scripts.{IsScript};
-ghost use Rattle.ft_run_turns.specs.Internal.CallerSeats.{StaysInStep, HasTried, IsBetweenTurns, IsHeld, IsSeatOf, TokensStayInStep};
+ghost use Rattle.ft_run_turns.specs.Internal.CallerSeats.{StaysInStep, HasLearned, HasTried, IsBetweenTurns, IsHeld, IsNoteFor, IsSeatOf, TokensStayInStep};
 ghost use Rattle.ft_run_threads.specs.Workers.{IsBankFor};
+ghost use Rattle.ft_turns.specs.Orders.{awaited_by};
 
 use crate::seats::Seat;
-use ft_bank::Tokens;
+use ft_bank::{Note, Tokens};
 use ft_engine::{Caller, Engine, Tried};
-use ft_model::{Call, Entry, ScriptParts};
+use ft_model::{Call, Entry, Reply, ScriptParts};
 use std::alloc::{AllocError, Global};
 
 /// Tries a call once, and adds its entry where it has ended. It answers whether it has.
@@ -69,6 +71,7 @@ fn try_call(
     requires between { IsBetweenTurns engine.now script.now thread caller.old entries.old.items }
     requires floor { HasFloor caller.old }
     requires call { slice_get (calls_of script.now thread) (length entries.old.items) ≡ Some call.now }
+    requires other { awaited_by call.now ≡ None }
     requires last { IsTrue last ↔ (length entries.old.items + 1 ≡ length (calls_of script.now thread)) }
     ensures between { OnOk result (IsBetweenTurns engine.now script.now thread caller.new entries.new.items) }
     ensures floor { OnOk result (HasFloor caller.new) }
@@ -89,8 +92,70 @@ fn try_call(
     }
 }
 
-/// Tries the next call of a thread once, if it has one left. After its last one it goes offline. It answers whether a
-/// call has ended.
+/// Answers an await whose named call has finished, of which the note tells, and adds its entry.
+fn learn_once(
+    engine: &Engine,
+    caller: &mut Caller,
+    entries: &mut Vec<Entry>,
+    call: &Call,
+    note: Note,
+) -> Result<(), AllocError>
+    requires caller { IsCallerOf engine.now caller.old }
+    requires may { MayLearnAt engine.now caller.old call.now note }
+    requires kept { WasAnswered caller.old entries.old.items }
+    requires floor { HasFloor caller.old }
+    ensures { OnOk result (HasLearned engine.now call.now caller.old entries.old.items caller.new entries.new.items) }
+{
+    let thread = caller.thread();
+    let stamp = engine.learn_at(caller, call, note);
+    entries.push(Entry {
+        thread,
+        index: entries.len() as u32 + 1,
+        stamp: stamp.number,
+        wrote: stamp.wrote,
+        call: *call,
+        reply: Reply::Done,
+        waited: None,
+    })?;
+    Ok(())
+}
+
+/// Answers the next call of a thread, an await whose named call has finished. Where it was the thread's last one, the
+/// caller goes offline.
+fn learn_call(
+    engine: &Engine,
+    script: &ScriptParts,
+    thread: usize,
+    caller: &mut Caller,
+    entries: &mut Vec<Entry>,
+    call: &Call,
+    note: Note,
+    last: bool,
+) -> Result<(), AllocError>
+    requires script { IsScript script.now }
+    requires bank { IsBankFor script.now (shape_of (bank_of engine.now)) }
+    requires thread { thread < length script.now.threads }
+    requires between { IsBetweenTurns engine.now script.now thread caller.old entries.old.items }
+    requires floor { HasFloor caller.old }
+    requires call { slice_get (calls_of script.now thread) (length entries.old.items) ≡ Some call.now }
+    requires note { IsNoteFor engine.now (Some call.now) (Some note) }
+    requires last { IsTrue last ↔ (length entries.old.items + 1 ≡ length (calls_of script.now thread)) }
+    ensures between { OnOk result (IsBetweenTurns engine.now script.now thread caller.new entries.new.items) }
+    ensures floor { OnOk result (HasFloor caller.new) }
+    ensures count { OnOk result (length entries.new.items ≡ length entries.old.items + 1) }
+    ensures turn { OnOk result (StaysInStep script.now thread caller.old entries.old.items caller.new entries.new.items) }
+{
+    let _ = script;
+    let _ = thread;
+    learn_once(engine, caller, entries, call, note)?;
+    if last {
+        engine.leave(caller);
+    }
+    Ok(())
+}
+
+/// Tries the next call of a thread once, if it has one left; an await is answered by the note of the call that it names.
+/// After its last one it goes offline. It answers whether a call has ended.
 fn try_next(
     alloc: Global,
     engine: &Engine,
@@ -98,12 +163,14 @@ fn try_next(
     thread: usize,
     caller: &mut Caller,
     entries: &mut Vec<Entry>,
+    note: Option<Note>,
 ) -> Result<bool, AllocError>
     requires script { IsScript script.now }
     requires bank { IsBankFor script.now (shape_of (bank_of engine.now)) }
     requires thread { thread < length script.now.threads }
     requires between { IsBetweenTurns engine.now script.now thread caller.old entries.old.items }
     requires floor { HasFloor caller.old }
+    requires note { IsNoteFor engine.now (slice_get (calls_of script.now thread) (length entries.old.items)) note }
     ensures between { OnOk result (IsBetweenTurns engine.now script.now thread caller.new entries.new.items) }
     ensures floor { OnOk result (HasFloor caller.new) }
     ensures count { IfOk result (λ ended.
@@ -115,14 +182,21 @@ fn try_next(
     match calls.get(place) {
         Some(call) => {
             let last = place + 1 == calls.len();
-            try_call(alloc, engine, script, thread, caller, entries, call, last)
+            match note {
+                Some(note) => {
+                    learn_call(engine, script, thread, caller, entries, call, note, last)?;
+                    Ok(true)
+                }
+                None => try_call(alloc, engine, script, thread, caller, entries, call, last),
+            }
         }
         None => Ok(false),
     }
 }
 
-/// One turn of a thread: its caller is woken, its next call is tried once, and the caller rests. It answers whether a
-/// call has ended. A thread with no call left spends its turn.
+/// One turn of a thread that awaits no unfinished call: its caller is woken, its next call is tried once, or is an await
+/// and answered by a note, and the caller rests. It answers whether a call has ended. A thread with no call left spends
+/// its turn.
 pub(crate) fn turn_of(
     alloc: Global,
     engine: &Engine,
@@ -130,12 +204,14 @@ pub(crate) fn turn_of(
     thread: usize,
     seat: Seat,
     tokens: Tokens,
+    note: Option<Note>,
 ) -> Result<(Seat, Tokens, bool), AllocError>
     requires script { IsScript script.now }
     requires bank { IsBankFor script.now (shape_of (bank_of engine.now)) }
     requires thread { thread < length script.now.threads }
     requires seat { IsSeatOf engine.now script.now thread seat }
     requires tokens { IsHeld engine.now tokens }
+    requires note { IsNoteFor engine.now (slice_get (calls_of script.now thread) (length seat.entries.items)) note }
     ensures seat { IfOk result (λ made. IsSeatOf engine.now script.now thread made.0) }
     ensures tokens { IfOk result (λ made. IsHeld engine.now made.1) }
     ensures count { IfOk result (λ made.
@@ -147,7 +223,15 @@ pub(crate) fn turn_of(
         mut entries,
     } = seat;
     let mut caller = engine.wake(caller, tokens);
-    let ended = try_next(alloc, engine, script, thread, &mut caller, &mut entries)?;
+    let ended = try_next(
+        alloc,
+        engine,
+        script,
+        thread,
+        &mut caller,
+        &mut entries,
+        note,
+    )?;
     let (caller, tokens) = engine.rest(caller);
     Ok((Seat { caller, entries }, tokens, ended))
 }

@@ -1,16 +1,18 @@
 //! The turns of a script, one after the other.
-ghost use Rattle.std.specs.Prelude.{◌≡◌, ◌⊎◌, ◌+◌, ◌<◌, ◌∷◌, ◌++◌, [], IfNone, IfOk, IfSome, List, OnOk, length, ℕ, if◌then◌else◌};
+ghost use Rattle.std.specs.Prelude.{◌≡◌, ◌⊎◌, ◌+◌, ◌<◌, ◌∷◌, ◌++◌, [], false, IfNone, IfOk, IfSome, List, OnOk, length, ℕ, if◌then◌else◌};
 ghost use Rattle.ft_bank.specs.Passes.{shape_of};
 ghost use Rattle.ft_engine.specs.Callers.{bank_of};
 ghost use Rattle.ft_model.specs.Scripts.{IsScript};
-ghost use Rattle.ft_turns.specs.Orders.{turns_of};
+ghost use Rattle.ft_turns.specs.Ends.{after_turns};
+ghost use Rattle.ft_turns.specs.Orders.{is_awaiting, turns_of};
 ghost use Rattle.ft_turns.specs.Schedules.{IsInRound, scheduled};
-ghost use Rattle.ft_run_turns.specs.Internal.CallerSeats.{AreSeats, SeatsHaveMadeAll, HaveTurned, IsHeld, entries_made};
+ghost use Rattle.ft_run_turns.specs.Internal.CallerSeats.{AreSeats, SeatsHaveMadeAll, HaveTurned, IsHeld, IsNoteFor, entries_made, next_in};
 ghost use Rattle.ft_run_threads.specs.Workers.{IsBankFor};
 
+use crate::awaiting::{Awaited, awaited_of};
 use crate::seats::Seat;
 use crate::trying::turn_of;
-use ft_bank::Tokens;
+use ft_bank::{Note, Tokens};
 use ft_engine::Engine;
 use ft_model::ScriptParts;
 use ft_turns::{Schedule, count_calls};
@@ -43,7 +45,40 @@ fn left_after(left: usize, ended: bool) -> usize
     if ended { left - 1 } else { left }
 }
 
-/// The turn of a thread: its seat is taken up, and put back.
+/// The turn of a thread that awaits no unfinished call: its seat is taken up, and put back.
+fn turn_seat(
+    alloc: Global,
+    engine: &Engine,
+    script: &ScriptParts,
+    seats: &mut [Option<Seat>],
+    thread: usize,
+    tokens: Tokens,
+    note: Option<Note>,
+) -> Result<(Tokens, bool), AllocError>
+    requires script { IsScript script.now }
+    requires bank { IsBankFor script.now (shape_of (bank_of engine.now)) }
+    requires thread { thread < length script.now.threads }
+    requires seats { AreSeats engine.now script.now seats.old }
+    requires count { length seats.old ≡ (shape_of (bank_of engine.now)).passes }
+    requires tokens { IsHeld engine.now tokens }
+    requires note { IsNoteFor engine.now (next_in script.now seats.old thread) note }
+    ensures seats { OnOk result (AreSeats engine.now script.now seats.new) }
+    ensures tokens { IfOk result (λ made. IsHeld engine.now made.0) }
+    ensures made { IfOk result (λ made. entries_made seats.new ≡ entries_made seats.old + (if made.1 then 1 else 0)) }
+    ensures turn { IfOk result (λ made. (turns : List ℕ)
+        → is_awaiting script.now (after_turns script.now turns) thread ≡ false
+        → HaveTurned engine.now script.now turns seats.old tokens
+        → HaveTurned engine.now script.now (turns ++ thread ∷ []) seats.new made.0) }
+{
+    let Some(seat) = seats[thread].take() else {
+        unreachable!();
+    };
+    let (seat, tokens, ended) = turn_of(alloc, engine, script, thread, seat, tokens, note)?;
+    seats[thread] = Some(seat);
+    Ok((tokens, ended))
+}
+
+/// The turn of a thread. One that awaits a call that hasn't finished spends its turn.
 fn take_turn(
     alloc: Global,
     engine: &Engine,
@@ -64,12 +99,13 @@ fn take_turn(
     ensures turn { IfOk result (λ made. (turns : List ℕ) → HaveTurned engine.now script.now turns seats.old tokens
         → HaveTurned engine.now script.now (turns ++ thread ∷ []) seats.new made.0) }
 {
-    let Some(seat) = seats[thread].take() else {
-        unreachable!();
-    };
-    let (seat, tokens, ended) = turn_of(alloc, engine, script, thread, seat, tokens)?;
-    seats[thread] = Some(seat);
-    Ok((tokens, ended))
+    match awaited_of(engine, script, seats, thread) {
+        Awaited::Unfinished => Ok((tokens, false)),
+        Awaited::Finished(note) => {
+            turn_seat(alloc, engine, script, seats, thread, tokens, Some(note))
+        }
+        Awaited::Nothing => turn_seat(alloc, engine, script, seats, thread, tokens, None),
+    }
 }
 
 /// Takes all turns of a script, until no call is left.

@@ -45,8 +45,10 @@ use Rattle.ft_model.specs.Scripts.{AreStringsOf, IsCallOf, IsKeyOf, IsScript, Is
 use Rattle.ft_history.proofs.FewEntries.{few_of_script}
 use Rattle.ft_history.proofs.GoesAfterLemmas.{few_writes}
 use Rattle.ft_history.proofs.Judged.{few_made}
-use Rattle.ft_history.proofs.ScriptLemmas.{call_of_thread, calls_of-at, landed_call, no_calls}
+use Rattle.ft_history.proofs.ScriptLemmas.{call_of_thread, calls_of-at, is_thread, no_calls}
 use Rattle.ft_history.proofs.Unbroken.{next_of_legal}
+use Rattle.ft_script.specs.Awaits.{MayAwait, has_awaits}
+use Rattle.ft_script.proofs.AwaitedCalls.{script_awaits}
 use Rattle.ft_script.specs.Transcripts.{counts, counts_dict, counts_list, counts_set, counts_deque, IsReadable, IsReadableReply, IsWideCall, IsWideKey, IsWideReply, IsWideValue}
 use Rattle.ft_turns.specs.Internal.Counting.{counted_in}
 use Rattle.ft_turns.specs.ShortReplies.{HasShortReply, IsShortReply}
@@ -266,6 +268,17 @@ module _ (script : ScriptParts) (rule : IsScript script) where
         | inr past ↦ absurd (no_calls script thread place called past at)
       ]
 
+  -- a call of the script is one that a bank can make
+  landed_call : (thread place : ℕ) (called : Call) → slice_get (calls_of script thread) place ≡ Some called → is_landed_call called ≡ true
+  landed_call thread place called at =
+      elim (slice_get_cases script.threads thread).1 [
+        | inl found ↦
+            let calls : List Call = found.0.calls in
+            let here : slice_get calls place ≡ Some called = ap (λ (cs : List Call). slice_get cs place) (sym (calls_of-at script thread found.0 found.2)) ∙ at in
+            subst (λ (c : Call). is_landed_call c ≡ true) (get_or_from_slice_get calls place called called here) ((is_thread script rule thread found.0 found.2).landed place called (slice_get_within calls place called here))
+        | inr past ↦ absurd (no_calls script thread place called past.0 at)
+      ]
+
   low_by_mark : (thread : ℕ) (needs : List ℕ) → list_any (has_call_on script thread) needs ≡ true → thread < length script.threads
   low_by_mark thread needs any =
       let one = Any-from_list_any (has_call_on script thread) needs any in
@@ -292,6 +305,7 @@ module _ (script : ScriptParts) (rule : IsScript script) where
         fits : IsCallBy (KeyFits (length script.strings)) (ValueFits (length script.strings)) entry.call
         wide_of : IsWideCall entry.call
         landed : is_landed_call entry.call ≡ true
+        awaited : MayAwait (has_awaits script.threads) (length script.threads) entry.call
 
       own_call : (place : ℕ) (entry : Entry) → slice_get entries place ≡ Some entry → IsOwn entry
       own_call place entry at =
@@ -303,7 +317,11 @@ module _ (script : ScriptParts) (rule : IsScript script) where
             | inr past ↦ absurd (no_calls script entry.thread made entry.call past.0 next.call)
           ] in
           let wide_of = wide_call entry.thread made entry.call next.call in
-          record { thread = low; call = call; fits = call_fits (length script.strings) entry.call call.strings wide_of; wide_of = wide_of; landed = landed_call script rule entry.thread made entry.call next.call }
+          let awaited : MayAwait (has_awaits script.threads) (length script.threads) entry.call = elim (slice_get_cases script.threads entry.thread).1 [
+            | inl there ↦ script_awaits script entry.thread made there.0 entry.call rule there.2 (ap (λ (calls : List Call). slice_get calls made) (sym (calls_of-at script entry.thread there.0 there.2)) ∙ next.call)
+            | inr past ↦ absurd (no_calls script entry.thread made entry.call past.0 next.call)
+          ] in
+          record { thread = low; call = call; fits = call_fits (length script.strings) entry.call call.strings wide_of; wide_of = wide_of; landed = landed_call entry.thread made entry.call next.call; awaited = awaited }
 
       own_at : (place : ℕ) (d : Entry) → place < length entries → IsOwn (get_or entries place d)
       own_at place d low = own_call place (get_or entries place d) (slice_get-get_or entries place d low)
@@ -400,6 +418,7 @@ module _ (script : ScriptParts) (rule : IsScript script) where
             last_index = omega arith;
             stamp = omega arith;
             landed = own.landed;
+            awaited = own.awaited;
             call = own.wide_of;
             reply = fits.readable;
             said = fits.wide;

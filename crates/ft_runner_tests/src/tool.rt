@@ -1,6 +1,7 @@
 //! The tool over streams in memory: what the tests of this crate begin with, and its commands, its
 //! streams and its statuses. The expected texts are worked out by hand.
 
+mod awaiting;
 mod checking;
 mod faults;
 mod long;
@@ -184,7 +185,13 @@ const NO_COMMANDS: [&str; 28] = [
     "-- make 1",
 ];
 
-const NO_SCRIPTS: [Case<'static>; 4] = [
+const NO_SCRIPTS: [Case<'static>; 5] = [
+    Case {
+        input: "version 2\nlist l\nthread A\nappend l 1\nthread B\nawait A.2\nappend l 2\norder B B A B\n",
+        fault: Fault::Script(6, 15),
+        reported: "ftpy: line 6: 15 await\n",
+        ..NO_SCRIPT
+    },
     Case {
         input: "dict d\nthread A\nset d 9223372036854775808 1\n",
         fault: Fault::Script(3, 4),

@@ -1,13 +1,13 @@
 -- Calls that are printed, and read back.
-use Rattle.std.proofs.Common.{◌≡◌, ◌≢◌, cond, ℕ, ℤ, zero, suc, ◌+◌, ◌<◌, ◌≤◌, Bool, true, false, not, List, [], ◌∷◌, ◌++◌, length, map, get_or, take, Option, Some, None, Result, Ok, refl, sym, ap, ◌∙◌, subst, inl, inr, arith}
+use Rattle.std.proofs.Common.{◌≡◌, ◌≢◌, ◌⊎◌, cond, ℕ, ℤ, zero, suc, ◌+◌, ◌<◌, ◌≤◌, Bool, true, false, not, List, [], ◌∷◌, ◌++◌, length, map, get_or, take, Option, Some, None, Result, Ok, refl, sym, ap, ◌∙◌, subst, inl, inr, arith}
 use Rattle.std.specs.Prelude.{All, AllPairs, IfSome, codes, slice_index_or}
 use Rattle.std.specs.List.{AllByRecursion, flat_map}
 use Rattle.std.specs.Fmt.{signed_decimal}
 use Rattle.std.specs.Option.{option_map_or}
 use Rattle.std.specs.Str.{bytes_eq}
-use Rattle.std.proofs.lemmas.Bool.{false≢true, ne_eqb, le-ltb, lt-ltb}
+use Rattle.std.proofs.lemmas.Bool.{cases_lt, false≢true, ne_eqb, le-ltb, lt-ltb}
 use Rattle.std.proofs.lemmas.List.{append-nil, get_or-take, length-take, take_all, take_more}
-use Rattle.std.proofs.lemmas.Option.{slice_get-get_or}
+use Rattle.std.proofs.lemmas.Option.{slice_get-get_or, slice_get_past}
 use Rattle.ft_model.specs.declared.data.Key.{Key}
 use Rattle.ft_model.specs.declared.data.Key.TheVariants as key
 use Rattle.ft_model.specs.declared.data.Value.{Value}
@@ -25,32 +25,35 @@ use Rattle.ft_model.specs.declared.script.Declaration.{Declaration}
 use Rattle.ft_model.specs.declared.script.Kind.{Kind}
 use Rattle.ft_model.specs.declared.script.Kind.TheVariants as kind
 use Rattle.ft_model.specs.declared.script.ScriptParts.{ScriptParts}
+use Rattle.ft_model.specs.declared.script.Thread.{Thread}
 use Rattle.ft_model.specs.Histories.{cursors_of}
 use Rattle.ft_model.specs.Calls.{cursor_of_dict, cursor_of_list, cursor_of_set, cursor_of_deque}
-use Rattle.ft_model.specs.Names.{is_container_name, IsString}
+use Rattle.ft_model.specs.Names.{is_container_name, is_thread_name, IsString}
 use Rattle.ft_model.specs.Landed.{is_landed_call}
 use Rattle.ft_model.specs.Scripts.{IsKeyOf, IsValueOf, kind_at, IsDeclaredAs, IsCallOf}
 use Rattle.ft_model.specs.Keys.{as_value}
 use Rattle.ft_script.specs.declared.call_words.CallWord.{CallWord}
-use Rattle.ft_script.specs.declared.call_words.CallWord.TheVariants.{Next, Begin, End, Quiesce, On}
+use Rattle.ft_script.specs.declared.call_words.CallWord.TheVariants.{Next, Begin, End, Quiesce, Await, On}
 use Rattle.ft_script.specs.declared.call_words.Operation.{Operation}
 use Rattle.ft_script.specs.declared.call_words.Operation.TheVariants as of
 use Rattle.ft_script.specs.Drafts.{Draft}
 use Rattle.ft_script.specs.declared.fault.Fault.{Fault}
 use Rattle.ft_script.specs.declared.forms.Argument.{Argument}
 use Rattle.ft_script.specs.declared.forms.Argument.TheVariants as argument
-use Rattle.ft_script.specs.Arguments.{read_symbol, read_index, read_key, read_value, read_container, same_kind, read_other, read_cursor, read_made_cursor, just_nothing, just_key, read_key_and_value, just_key_and_value, just_value, just_index, just_some_index, read_two_indices, just_two_indices, read_index_and_value, just_index_and_value, just_other, just_made_cursor, just_cursor, read_two_containers, just_section}
+use Rattle.ft_script.specs.Awaits.{MayAwait, has_awaits}
+use Rattle.ft_script.specs.Arguments.{read_symbol, read_index, read_key, read_value, read_container, same_kind, read_other, read_cursor, read_made_cursor, just_nothing, just_key, read_key_and_value, just_key_and_value, just_value, just_index, just_some_index, read_two_indices, just_two_indices, read_index_and_value, just_index_and_value, just_other, just_made_cursor, just_cursor, read_two_containers, just_section, just_awaited, read_awaited}
 use Rattle.ft_script.specs.CallWords.{call_word_of, call_word_text, operation_text}
-use Rattle.ft_script.specs.Drafts.{◌>>=◌, container_place, draft_at, empty_draft, text_place}
+use Rattle.ft_script.specs.Drafts.{◌>>=◌, container_place, draft_at, draft_with_all, text_place, thread_place}
 use Rattle.ft_script.specs.Forms.{IsArgumentOf, call_form}
 use Rattle.ft_script.specs.ScriptLines.{dict_call, list_call, set_call, call_at, container_call, read_call, just_call}
 use Rattle.ft_script.specs.ScriptTexts.{AreNumbered, argument_mentions, call_makes, call_mentions, key_mentions, number_listed, value_mentions}
-use Rattle.ft_script.specs.Texts.{quoted, key_text, value_text, container_name, cursor_name, argument_text, call_words}
+use Rattle.ft_script.specs.Texts.{quoted, key_text, value_text, container_name, cursor_name, argument_text, call_place, call_words, thread_name}
 use Rattle.ft_script.specs.Transcripts.{IsWideKey, IsWideValue, IsWideArgument, IsWideCall}
 use Rattle.ft_script.specs.LineWords.{is_wide, is_string, text_of}
 use Rattle.ft_script.proofs.Numbering.{alone, numbered_split}
 use Rattle.ft_script.proofs.LineTexts.{IsLineWord, container_plain, plain_word, quoted_word, signed_plain}
 use Rattle.ft_script.proofs.PartTexts.{BeginsLow, BeginsShown, container_word, signed_word, index_signed, bytes_same, bytes_differ, position_at, text_place_at, numbers_are_no_strings, numbers_are_not_none, text_missing, key_is_cut, value_is_cut, key_begins, value_begins}
+use Rattle.ft_script.proofs.PlaceTexts.{awaited_back, named_place, place_is}
 use Rattle.ft_script.proofs.TokenTexts.{IsCut, word_is_cut, text_of_quoted}
 
 -- the cursors of the thread at a place
@@ -69,6 +72,8 @@ pub record Declares (script : ScriptParts) (thread : ℕ) : Type 0 where
   pub cursors_counted : length (cursors_at script thread) ≡ cursors_of script thread
   pub cursor_is : (number : ℕ) → cursor_name script thread number ≡ slice_index_or (cursors_at script thread) number []
   pub cursor_form : (number : ℕ) → number < cursors_of script thread → is_container_name (cursor_name script thread number) ≡ true
+  pub thread_form : (other : ℕ) → other < length script.threads → is_thread_name (thread_name script other) ≡ true
+  pub thread_is : (other : ℕ) → other < length script.threads → thread_place script.threads (thread_name script other) ≡ Some other
 
 kind_low : (containers : List Declaration) (of_kind : Kind) (place : ℕ) → kind_at containers place ≡ Some of_kind → place < length containers
 kind_low [] of_kind place h = absurd cc
@@ -101,6 +106,7 @@ word_back Next = refl
 word_back Begin = refl
 word_back End = refl
 word_back Quiesce = refl
+word_back Await = refl
 word_back (On of.Get) = refl
 word_back (On of.GetOr) = refl
 word_back (On of.Set) = refl
@@ -324,6 +330,14 @@ value_word strings value.Nothing are low wide = plain_word (codes "None") (refl,
 value_word strings (value.Int n) are low wide = plain_word (signed_decimal n) (signed_plain n wide)
 value_word strings (value.Text symbol) are low wide = quoted_word (slice_index_or strings symbol.0 []) (are symbol.0 [] low)
 
+-- the name of a thread, where there is such a thread
+name_or_none : (script : ScriptParts) (thread : ℕ) → Declares script thread → (other : ℕ) → (thread_name script other ≡ []) ⊎ (is_thread_name (thread_name script other) ≡ true)
+name_or_none script thread facts other =
+    elim (cases_lt other (length script.threads)) [
+      | inl low ↦ inr (facts.thread_form other low)
+      | inr past ↦ inl (ap (λ (o : Option Thread). option_map_or (λ (found : Thread). found.name) o []) (slice_get_past script.threads other past))
+    ]
+
 argument_is : (script : ScriptParts) (thread : ℕ) → Declares script thread → (given : Argument) → IsArgumentOf script thread given → IsWideArgument given → IsCallWord (argument_text script thread given)
 argument_is script thread facts (argument.Container place) low wide =
     let d : Declaration = record { start = record { kind = kind.Dict; keys = [] }; name = [] } in
@@ -331,7 +345,7 @@ argument_is script thread facts (argument.Container place) low wide =
 argument_is script thread facts (argument.Cursor number) low wide = name_is (cursor_name script thread number) (facts.cursor_form number low)
 argument_is script thread facts (argument.Key found) low wide = (key_is_cut script.strings found wide, shown_other (key_text script.strings found) (key_begins script.strings found wide), key_word script.strings found facts.strings_are low wide)
 argument_is script thread facts (argument.Value found) low wide = (value_is_cut script.strings found wide, shown_other (value_text script.strings found) (value_begins script.strings found wide), value_word script.strings found facts.strings_are low wide)
-argument_is script thread facts (argument.Call other index) low wide = absurd wide
+argument_is script thread facts (argument.Call other index) low wide = place_is (thread_name script other) index (name_or_none script thread facts other) wide
 argument_is script thread facts (argument.Index n) low wide = (value_is_cut script.strings (value.Int n) wide, shown_other (signed_decimal n) (value_begins script.strings (value.Int n) wide), plain_word (signed_decimal n) (signed_plain n wide))
 
 all_are : (script : ScriptParts) (thread : ℕ) → Declares script thread → (given : List Argument) → AllByRecursion (IsArgumentOf script thread) given → AllByRecursion IsWideArgument given → AllByRecursion IsCallWord (map (argument_text script thread) given)
@@ -351,10 +365,13 @@ standing script thread base known made = record base {
   cursors = take made (cursors_at script thread);
 }
 
--- `next` moves a cursor that is known
-abbrev pub IsNextKnown : ℕ → Call → Type 0
-IsNextKnown made (call.Next number) = number < made
-IsNextKnown made other = Unit {0}
+-- `next` moves a cursor that is known, and `await` may stand and names a call of a thread that is
+abbrev pub IsKnown : ScriptParts → Draft → ℕ → Call → Type 0
+IsKnown script base made (call.Next number) = number < made
+IsKnown script base made (call.Await other index) =
+    (base.awaits ≡ true) × (other < length script.threads) × (1 ≤ index)
+    × (thread_place base.threads (thread_name script other) ≡ Some other)
+IsKnown script base made other = Unit {0}
 
 known_place : (texts : List (List ℕ)) (i known : ℕ) → AllPairs (λ a b. a ≢ b) texts → i < length texts → i < known → text_place (take known texts) (slice_index_or texts i []) ≡ Some i
 known_place texts i known differ low before =
@@ -532,6 +549,10 @@ module _ (script : ScriptParts) (thread : ℕ) (facts : Declares script thread) 
   unfolding just_call
   by_word draft word words = rw (word_back word) refl
 
+  await_said : (draft : Draft) (word : List ℕ) (named : ℕ × ℕ) → draft.awaits ≡ true → read_awaited draft word ≡ Ok named → read_call draft Await (word ∷ []) ≡ Ok (call.Await named.0 named.1, draft)
+  unfolding read_call just_awaited
+  await_said draft word named may read = rw (read, may) refl
+
   on_back : (known made : ℕ) (operation : Operation) (of_kind : Kind) (place : ℕ) (words : List (List ℕ)) → kind_at script.containers place ≡ Some of_kind → just_call (at known made) (operation_text operation ∷ container_name script place ∷ words) ≡ call_at (at known made) place operation words (Some of_kind)
   unfolding read_call container_call
   on_back known made operation of_kind place words declared =
@@ -560,7 +581,7 @@ module _ (script : ScriptParts) (thread : ℕ) (facts : Declares script thread) 
     unfolding call_at
     set_is place operation words inner declared k m ks ms is = on_back known made operation kind.Set place words declared ∙ rw is (moved_on (call.Set place inner) k m ks ms)
 
-    pub call_read : (called : Call) → IsCallOf script (cursors_of script thread) called → is_landed_call called ≡ true → IsWideCall called → IsNextKnown made called → AreNumbered known (call_mentions called) next_known → AreNumbered made (call_makes called) next_made → just_call draft (call_words script thread called) ≡ Ok (called, at next_known next_made)
+    pub call_read : (called : Call) → IsCallOf script (cursors_of script thread) called → is_landed_call called ≡ true → IsWideCall called → IsKnown script base made called → AreNumbered known (call_mentions called) next_known → AreNumbered made (call_makes called) next_made → just_call draft (call_words script thread called) ≡ Ok (called, at next_known next_made)
     unfolding read_call dict_call list_call set_call
     call_read (call.Dict place (dict.Get k)) h landed wide before mentioned makes = dict_is place of.Get (key_text strings k ∷ []) (dict.Get k) h.names.container next_known made refl makes (rw (key_in_back known made next_known k h.strings wide.1.0 mentioned) refl)
     call_read (call.Dict place (dict.GetOr k v)) h landed wide before mentioned makes = dict_is place of.GetOr (key_text strings k ∷ value_text strings v ∷ []) (dict.GetOr k v) h.names.container next_known made refl makes (rw (pair_in_back known made next_known k v h.strings.0 wide.1.0 h.strings.1 wide.1.1.0 mentioned) refl)
@@ -626,7 +647,10 @@ module _ (script : ScriptParts) (thread : ℕ) (facts : Declares script thread) 
     call_read (call.Begin first (Some second)) h landed wide before mentioned makes = by_word draft Begin (container_name script first ∷ container_name script second ∷ []) ∙ rw (section_two known made first second h.names.0 h.names.1) (moved_on (call.Begin first (Some second)) known made mentioned makes)
     call_read call.End h landed wide before mentioned makes = by_word draft End [] ∙ rw nothing_back (moved_on (call.End) known made mentioned makes)
     call_read call.Quiesce h landed wide before mentioned makes = by_word draft Quiesce [] ∙ rw nothing_back (moved_on (call.Quiesce) known made mentioned makes)
-    call_read (call.Await other index) h landed wide before mentioned makes = absurd (false≢true landed)
+    call_read (call.Await other index) h landed wide before mentioned makes =
+        by_word draft Await (call_place script other index ∷ [])
+        ∙ await_said draft (call_place script other index) (other, index) before.0 (awaited_back draft (thread_name script other) index other (facts.thread_form other before.1) before.3 before.2 wide.0)
+        ∙ moved_on (call.Await other index) known made mentioned makes
     call_read call.Dump h landed wide before mentioned makes = absurd (false≢true landed)
 
 -- ---- a call in the whole script
@@ -660,14 +684,16 @@ known_makes script made call.Quiesce h = refl
 known_makes script made (call.Await other index) h = refl
 known_makes script made call.Dump h = refl
 
-next_known : (script : ScriptParts) (made : ℕ) (called : Call) → IsCallOf script made called → IsNextKnown made called
-next_known script made (call.Next number) h = h.names
-next_known script made other h = tt
+next_known : (script : ScriptParts) (thread made : ℕ) (called : Call) → Declares script thread → IsCallOf script made called → MayAwait (has_awaits script.threads) (length script.threads) called → IsKnown script (draft_with_all script) made called
+next_known script thread made (call.Next number) facts h may = h.names
+next_known script thread made (call.Await other index) facts h may =
+    (may.0, may.1, may.2, named_place script.threads (thread_name script other) ∙ facts.thread_is other may.1)
+next_known script thread made other facts h may = tt
 
 abbrev whole : ScriptParts → ℕ → List (List ℕ) → List (List ℕ) → Draft
-whole script thread strings cursors = record empty_draft { containers = script.containers; strings = strings; cursors = cursors }
+whole script thread strings cursors = record (draft_with_all script) { strings = strings; cursors = cursors }
 
-all_stands : (script : ScriptParts) (thread : ℕ) → Declares script thread → standing script thread empty_draft (length script.strings) (cursors_of script thread) ≡ draft_at script thread
+all_stands : (script : ScriptParts) (thread : ℕ) → Declares script thread → standing script thread (draft_with_all script) (length script.strings) (cursors_of script thread) ≡ draft_at script thread
 all_stands script thread facts =
     let cursors : List (List ℕ) = cursors_at script thread in
     let every : length cursors ≡ cursors_of script thread = facts.cursors_counted in
@@ -677,11 +703,11 @@ all_stands script thread facts =
 abbrev called_at : Call → Draft → Result (Call × Draft) Fault
 called_at called draft = Ok (called, draft)
 
-pub call_back : (script : ScriptParts) (thread : ℕ) → Declares script thread → (called : Call) → IsCallOf script (cursors_of script thread) called → is_landed_call called ≡ true → IsWideCall called → just_call (draft_at script thread) (call_words script thread called) ≡ Ok (called, draft_at script thread)
-call_back script thread facts called h landed wide =
+pub call_back : (script : ScriptParts) (thread : ℕ) → Declares script thread → (called : Call) → IsCallOf script (cursors_of script thread) called → is_landed_call called ≡ true → IsWideCall called → MayAwait (has_awaits script.threads) (length script.threads) called → just_call (draft_at script thread) (call_words script thread called) ≡ Ok (called, draft_at script thread)
+call_back script thread facts called h landed wide may =
     let strings : ℕ = length script.strings in
     let cursors : ℕ = cursors_of script thread in
-    let stands : standing script thread empty_draft strings cursors ≡ draft_at script thread = all_stands script thread facts in
+    let stands : standing script thread (draft_with_all script) strings cursors ≡ draft_at script thread = all_stands script thread facts in
     ap (λ (d : Draft). just_call d (call_words script thread called)) (sym stands)
-    ∙ call_read script thread facts empty_draft strings cursors strings cursors called h landed wide (next_known script cursors called h) (known_numbers script thread (call_form called).arguments (arguments_are script thread called h)) (known_makes script cursors called h)
+    ∙ call_read script thread facts (draft_with_all script) strings cursors strings cursors called h landed wide (next_known script thread cursors called facts h may) (known_numbers script thread (call_form called).arguments (arguments_are script thread called h)) (known_makes script cursors called h)
     ∙ ap (called_at called) stands

@@ -74,6 +74,20 @@ thread_at script thread rule low found is =
     let same : get_or script.threads thread no_thread ≡ found = cc in
     subst (IsThread script) same (rule.threads thread no_thread low)
 
+pub thread_name_at : (script : ScriptParts) (thread : ℕ) (d : Thread) → thread < length script.threads → thread_name script thread ≡ (get_or script.threads thread d).name
+thread_name_at script thread d low = ap (λ (o : Option Thread). option_map_or (λ (found : Thread). found.name) o []) (slice_get-get_or script.threads thread d low)
+
+pub thread_form : (script : ScriptParts) (thread : ℕ) → IsScript script → thread < length script.threads → is_thread_name (thread_name script thread) ≡ true
+thread_form script thread rule low = ap is_thread_name (thread_name_at script thread no_thread low) ∙ (rule.threads thread no_thread low).name
+
+pub thread_place_at : (script : ScriptParts) (thread : ℕ) → IsScript script → thread < length script.threads → thread_place script.threads (thread_name script thread) ≡ Some thread
+thread_place_at script thread rule low =
+    let name : List ℕ = thread_name script thread in
+    let is : name ≡ (get_or script.threads thread no_thread).name = thread_name_at script thread no_thread low in
+    position_at (λ found. bytes_eq found.name name) script.threads thread no_thread low
+    (λ k below. bytes_differ (get_or script.threads k no_thread).name name (λ same. rule.threads_differ k thread no_thread below low (same ∙ is)))
+    (bytes_same (get_or script.threads thread no_thread).name name (sym is))
+
 pub declares : (script : ScriptParts) (thread : ℕ) → IsScript script → thread < length script.threads → Declares script thread
 declares script thread rule low = record {
   strings_differ = rule.strings_differ;
@@ -86,26 +100,14 @@ declares script thread rule low = record {
   cursors_counted = cursors_counted (slice_get script.threads thread);
   cursor_is = λ number. cursor_is (slice_get script.threads thread) number;
   cursor_form = λ number below. cursor_named (slice_get script.threads thread) number (λ found is. (thread_at script thread rule low found is).cursor_names) below;
+  thread_form = λ other below. thread_form script other rule below;
+  thread_is = λ other below. thread_place_at script other rule below;
 }
 
 -- ---- threads
 
-thread_name_at : (script : ScriptParts) (thread : ℕ) (d : Thread) → thread < length script.threads → thread_name script thread ≡ (get_or script.threads thread d).name
-thread_name_at script thread d low = ap (λ (o : Option Thread). option_map_or (λ (found : Thread). found.name) o []) (slice_get-get_or script.threads thread d low)
-
-pub thread_form : (script : ScriptParts) (thread : ℕ) → IsScript script → thread < length script.threads → is_thread_name (thread_name script thread) ≡ true
-thread_form script thread rule low = ap is_thread_name (thread_name_at script thread no_thread low) ∙ (rule.threads thread no_thread low).name
-
 pub thread_begins : (script : ScriptParts) (thread : ℕ) → IsScript script → thread < length script.threads → BeginsHigh (thread_name script thread)
 thread_begins script thread rule low = (thread_word (thread_name script thread) (thread_form script thread rule low)).1
-
-pub thread_place_at : (script : ScriptParts) (thread : ℕ) → IsScript script → thread < length script.threads → thread_place script.threads (thread_name script thread) ≡ Some thread
-thread_place_at script thread rule low =
-    let name : List ℕ = thread_name script thread in
-    let is : name ≡ (get_or script.threads thread no_thread).name = thread_name_at script thread no_thread low in
-    position_at (λ found. bytes_eq found.name name) script.threads thread no_thread low
-    (λ k below. bytes_differ (get_or script.threads k no_thread).name name (λ same. rule.threads_differ k thread no_thread below low (same ∙ is)))
-    (bytes_same (get_or script.threads thread no_thread).name name (sym is))
 
 thread_back : (script : ScriptParts) (thread : ℕ) → IsScript script → thread < length script.threads → read_thread script (thread_name script thread) ≡ Ok thread
 unfolding read_thread
@@ -225,11 +227,11 @@ module _ (script : ScriptParts) (entry : Entry) (rule : IsScript script) (h : Is
   none_waited = reply_other script.strings (counts entry.call) entry.reply h.said h.reply
 
   pub adds_nothing : AddsNothing script entry.thread (before_word (codes "=") (drop 2 (entry_tokens script entry)))
-  adds_nothing = (entry.call, ap (just_call (draft_at script entry.thread)) call_words_at ∙ call_back script entry.thread facts entry.call h.of_script.call h.landed h.call)
+  adds_nothing = (entry.call, ap (just_call (draft_at script entry.thread)) call_words_at ∙ call_back script entry.thread facts entry.call h.of_script.call h.landed h.call h.awaited)
 
   thread_call_back : thread_call script entry.thread (before_word (codes "=") (drop 2 (entry_tokens script entry))) ≡ Ok entry.call
   unfolding thread_call
-  thread_call_back = rw call_words_at (rw (call_back script entry.thread facts entry.call h.of_script.call h.landed h.call) refl)
+  thread_call_back = rw call_words_at (rw (call_back script entry.thread facts entry.call h.of_script.call h.landed h.call h.awaited) refl)
 
   said_back : read_reply script.strings (counts entry.call) (before_word (codes "waited") (after_word (codes "=") (drop 2 (entry_tokens script entry)))) ≡ Ok entry.reply
   said_back =

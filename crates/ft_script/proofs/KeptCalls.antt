@@ -14,17 +14,18 @@ use Rattle.ft_model.specs.declared.script.Kind.TheVariants as kind
 use Rattle.ft_model.specs.Landed.{is_landed_call}
 use Rattle.ft_model.specs.Scripts.{IsDeclaredAs, AreNamesOf, NamesOf, AreStringsOf, cursor_of}
 use Rattle.ft_script.specs.declared.call_words.CallWord.{CallWord}
-use Rattle.ft_script.specs.declared.call_words.CallWord.TheVariants.{Next, Begin, End, Quiesce, On}
+use Rattle.ft_script.specs.declared.call_words.CallWord.TheVariants.{Next, Begin, End, Quiesce, Await, On}
 use Rattle.ft_script.specs.declared.call_words.Operation.{Operation}
 use Rattle.ft_script.specs.declared.call_words.Operation.TheVariants as of
 use Rattle.ft_script.specs.Drafts.{Draft}
-use Rattle.ft_script.specs.Arguments.{kind_at, read_container, just_nothing, just_key, just_key_and_value, just_value, just_index, just_some_index, just_two_indices, just_index_and_value, just_other, just_made_cursor, just_cursor, just_section}
+use Rattle.ft_script.specs.Arguments.{kind_at, read_container, just_nothing, just_key, just_key_and_value, just_value, just_index, just_some_index, just_two_indices, just_index_and_value, just_other, just_made_cursor, just_cursor, just_section, just_awaited}
 use Rattle.ft_script.specs.ScriptTexts.{AreNumbered, call_makes, call_mentions, key_mentions, number_listed, value_mentions}
 use Rattle.ft_script.specs.Transcripts.{IsWideCall}
 use Rattle.ft_script.specs.LineWords.{is_wide}
 use Rattle.ft_script.specs.ScriptLines.{dict_call, list_call, set_call, call_at, container_call, read_call}
+use Rattle.ft_script.proofs.KeptAwaits.{IsNamed, just_awaited_keeps}
 use Rattle.ft_script.proofs.Numbering.{and_none, both_and_none}
-use Rattle.ft_script.proofs.Kept.{bind_holds, anything, IsTable, StringsRead, no_strings, Keyed, Valued, KeyedAndValued, Indexed, InSection, IsCursors, CursorRead, Made, AreGoodWords, container_keeps, key_in_keeps, key_and_value_in_keeps, value_in_keeps, index_and_value_in_keeps, other_in_keeps, made_cursor_in_keeps, cursor_in_keeps, section_in_keeps, index_in_keeps, some_index_in_keeps, two_indices_in_keeps}
+use Rattle.ft_script.proofs.Kept.{bind_holds, cond_holds, anything, IsTable, StringsRead, no_strings, Keyed, Valued, KeyedAndValued, Indexed, InSection, IsCursors, CursorRead, Made, AreGoodWords, container_keeps, key_in_keeps, key_and_value_in_keeps, value_in_keeps, index_and_value_in_keeps, other_in_keeps, made_cursor_in_keeps, cursor_in_keeps, section_in_keeps, index_in_keeps, some_index_in_keeps, two_indices_in_keeps}
 
 -- a call was read, and the draft after it may have further strings and a cursor that the call makes
 pub record CallRead (d e : Draft) (called : Call) : Type 0 where
@@ -180,4 +181,6 @@ call_keeps d Next words table are good = bind_holds (just_cursor d words) _ (λ 
 call_keeps d Begin words table are good = bind_holds (just_section d words) _ (InSection d) (Called d) (section_in_keeps d words) (λ both h. by_strings d d (call.Begin both.0 both.1) refl (no_strings d table) are h tt (begin_wide both.0 both.1) (begin_mentions (length d.strings) both.0 both.1) refl)
 call_keeps d End words table are good = bind_holds (just_nothing words) _ (λ _. Unit {0}) (Called d) (anything (just_nothing words)) (λ read h. by_strings d d call.End refl (no_strings d table) are tt tt tt refl refl)
 call_keeps d Quiesce words table are good = bind_holds (just_nothing words) _ (λ _. Unit {0}) (Called d) (anything (just_nothing words)) (λ read h. by_strings d d call.Quiesce refl (no_strings d table) are tt tt tt refl refl)
+call_keeps d Await words table are good =
+    cond_holds d.awaits _ _ (Called d) (λ _. bind_holds (just_awaited d words) _ (IsNamed d) (Called d) (just_awaited_keeps d words) (λ named h. by_strings d d (call.Await named.0 named.1) refl (no_strings d table) are tt tt (h.2, tt) refl refl)) (λ _. tt)
 call_keeps d (On operation) words table are good = container_call_keeps d operation words table are good

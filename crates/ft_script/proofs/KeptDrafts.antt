@@ -13,7 +13,7 @@ use Rattle.ft_model.specs.declared.script.Thread.{Thread}
 use Rattle.ft_model.specs.declared.script.ScriptParts.{ScriptParts}
 use Rattle.ft_model.specs.Names.{is_container_name, is_thread_name}
 use Rattle.ft_model.specs.Landed.{is_landed_kind}
-use Rattle.ft_model.specs.Scripts.{AreMade, IsCallOf, IsThread, cursor_of}
+use Rattle.ft_model.specs.Scripts.{AreAwaitsOf, AreMade, IsAwaitOf, IsCallOf, IsThread, cursor_of}
 use Rattle.ft_model.specs.Classes.{class_count}
 use Rattle.ft_script.specs.Drafts.{Draft}
 use Rattle.ft_script.specs.declared.fault.Fault.{Fault}
@@ -21,6 +21,7 @@ use Rattle.ft_script.specs.Drafts.{script_of, end_thread, thread_place}
 use Rattle.ft_script.specs.ScriptLines.{thread_line}
 use Rattle.ft_script.specs.ScriptTexts.{AreNumbered, HasMadeCursors, call_makes, call_mentions, thread_mentions}
 use Rattle.ft_script.specs.Transcripts.{IsWideCall}
+use Rattle.ft_script.proofs.AwaitedCalls.{awaits_push}
 use Rattle.ft_script.proofs.MoreCalls.{call_grows}
 use Rattle.ft_script.proofs.DistinctNames.{absent, differ_push}
 use Rattle.std.specs.Option.{is_some}
@@ -78,6 +79,8 @@ pub record IsDraft (d : Draft) : Type 0 where
   pub mentioned : AreNumbered 0 (flat_map thread_mentions d.threads ++ flat_map call_mentions d.calls) (length d.strings)
   pub makes : AreNumbered 0 (flat_map call_makes d.calls) (length d.cursors)
   pub made_threads : All HasMadeCursors d.threads
+  pub awaits_are : AreAwaitsOf d.threads
+  pub own_awaits : All (IsAwaitOf d.threads (length d.threads)) d.calls
 
 -- a thread stays one where the script has more
 pub thread_grows : (script larger : ScriptParts) (more : List Declaration) → larger.containers ≡ script.containers ++ more → length script.strings ≤ length larger.strings → (thread : Thread) → IsThread script thread → IsThread larger thread
@@ -170,6 +173,8 @@ ended d name h named closed =
       mentioned = subst (λ (l : List ℕ). AreNumbered 0 l (length d.strings)) (sym (append-nil (flat_map thread_mentions (d.threads ++ thread ∷ [])) ∙ flat_map-append thread_mentions d.threads (thread ∷ []) ∙ ap (λ (l : List ℕ). flat_map thread_mentions d.threads ++ l) (append-nil (thread_mentions thread)))) h.mentioned;
       makes = refl;
       made_threads = All-push HasMadeCursors d.threads thread h.made_threads h.makes;
+      awaits_are = awaits_push d.threads thread h.awaits_are h.own_awaits;
+      own_awaits = All-nil (IsAwaitOf next.threads (length next.threads));
     }
 
 pub end_thread_keeps : (d : Draft) → IsDraft d → IfOk (end_thread d) IsDraft
@@ -189,6 +194,7 @@ begun d name h none new =
     let threads_are : All (IsThread (script_of next)) d.threads = All-weaker (IsThread (script_of d)) (IsThread (script_of next)) grown d.threads h.threads_are in
     let calls_are : All (IsCallOf (script_of next) (length d.cursors)) d.calls = subst (λ (l : List Call). All (IsCallOf (script_of next) (length d.cursors)) l) (sym idle.1) (All-nil (IsCallOf (script_of next) (length d.cursors))) in
     let nested : depth_after_all 0 d.calls ≡ Ok 0 = subst (λ (l : List Call). depth_after_all 0 l ≡ Ok 0) (sym idle.1) refl in
+    let awaits_are : AreAwaitsOf next.threads = h.awaits_are in
     search
 
 pub thread_line_keeps : (d : Draft) (words : List (List ℕ)) → IsDraft d → d.name ≡ None → IfOk (thread_line d words) IsDraft

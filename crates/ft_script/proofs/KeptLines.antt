@@ -1,8 +1,8 @@
 -- What the reading of lines keeps of a draft, so that it becomes a script.
 use Rattle.std.proofs.Common.{◌≡◌, ◌≢◌, ℕ, ◌+◌, ◌-◌, ◌<◌, Bool, true, false, cond, eqb, ltb, List, [], ◌∷◌, ◌++◌, Option, Result, Ok, Err, refl, sym, ap, ◌∙◌, subst, arith}
 use Rattle.std.specs.Prelude.{All}
-use Rattle.std.proofs.lemmas.Bool.{false≢true, ltb-true, eqb-false}
-use Rattle.std.proofs.lemmas.List.Elements.{All-head, All-tail}
+use Rattle.std.proofs.lemmas.Bool.{ltb-true, eqb-false, eqb-true}
+use Rattle.std.proofs.lemmas.List.Elements.{All-tail}
 use Rattle.ft_model.specs.declared.call.Call.{Call}
 use Rattle.ft_model.specs.declared.call.Call.TheVariants as call
 use Rattle.ft_model.specs.Landed.{is_landed_call}
@@ -50,6 +50,10 @@ end_depth : (depth next : ℕ) → depth_after depth call.End ≡ Ok next → (0
 unfolding depth_after
 end_depth depth next h = let p = passed_right (eqb depth 0) (depth - 1) next _ h in let some : depth ≢ 0 = eqb-false depth 0 p.0 in (omega arith, p.1)
 
+await_depth : (depth other index next : ℕ) → depth_after depth (call.Await other index) ≡ Ok next → (depth ≡ 0) × (depth ≡ next)
+unfolding depth_after
+await_depth depth other index next h = let p = passed_left (eqb depth 0) depth next _ h in (eqb-true depth 0 p.0, p.1)
+
 -- a script may have the call
 abbrev pub IsLandedCall : Call → Type 0
 IsLandedCall called = is_landed_call called ≡ true
@@ -71,5 +75,8 @@ nested_from depth (call.Set place inner ∷ calls) is landed = nested_from depth
 nested_from depth (call.Deque place inner ∷ calls) is landed = nested_from depth calls is (All-tail IsLandedCall _ calls landed)
 nested_from depth (call.Next number ∷ calls) is landed = nested_from depth calls is (All-tail IsLandedCall _ calls landed)
 nested_from depth (call.Quiesce ∷ calls) is landed = nested_from depth calls is (All-tail IsLandedCall _ calls landed)
-nested_from depth (call.Await other index ∷ calls) is landed = absurd (false≢true (All-head IsLandedCall (call.Await other index) calls landed))
+nested_from depth (call.Await other index ∷ calls) is landed =
+    let b = bind_ok (depth_after depth (call.Await other index)) (λ next. depth_after_all next calls) 0 is in
+    let p = await_depth depth other index b.0 b.1 in
+    (p.0, subst (λ (n : ℕ). AreNested n calls) (sym p.1) (nested_from b.0 calls b.2 (All-tail IsLandedCall _ calls landed)))
 nested_from depth (call.Dump ∷ calls) is landed = nested_from depth calls is (All-tail IsLandedCall _ calls landed)

@@ -32,7 +32,7 @@ use Rattle.ft_script.proofs.Encoded.{AreEncoded, BeginsNoThread, begins_no_threa
 use Rattle.ft_script.proofs.Kept.{AreGoodWords, IsTable, bind_holds, cond_holds, or_holds, some_holds}
 use Rattle.ft_script.proofs.KeptDrafts.{HasWideCalls, IsPlainStart, IsDraft, calls_in, end_thread_keeps, no_names, none_made, IsNew}
 use Rattle.ft_script.proofs.KeptLines.{IsLandedCall}
-use Rattle.ft_script.proofs.KeptStatements.{statement_keeps}
+use Rattle.ft_script.proofs.KeptStatements.{both_hold, statement_keeps}
 use Rattle.std.proofs.lemmas.Slice.Zip.{length-zip}
 use Rattle.ft_script.specs.Internal.Outcomes.{HasFewThreads, LeavesDraft, reported}
 use Rattle.ft_model.specs.declared.script.Thread.{Thread}
@@ -50,10 +50,6 @@ words_line_keeps d line h encoded apart =
     bind_holds (or_fault _ (words_of line)) _ (λ words. words_of line ≡ Some words) IsDraft (or_holds _ (words_of line) (λ words. words_of line ≡ Some words) (λ words is. is)) (λ words is.
     statement_keeps d words h (found_holds (words_of line) AreGoodWords words is (line_good line encoded))
     (elim apart [ inl none ↦ inl none | inr going ↦ inr (found_holds (words_of line) BeginsNoThread words is (begins_no_thread line going)) ]))
-
-both_hold : {A : Type 0} (r : Result A Fault) (P Q : A → Type 0) → IfOk r P → IfOk r Q → IfOk r (λ x. P x × Q x)
-both_hold (Ok x) P Q p q = (p, q)
-both_hold (Err e) P Q p q = tt
 
 end_thread_names : (d : Draft) → IfOk (end_thread d) (λ e. e.name ≡ None)
 unfolding end_thread
@@ -138,6 +134,8 @@ empty_is_draft =
       mentioned = refl;
       makes = refl;
       made_threads = All-nil HasMadeCursors;
+      awaits_are = λ number thread at. absurd cc;
+      own_awaits = All-nil (IsAwaitOf [] 0);
     }
 
 abbrev IsCount : ℕ → Type 0
@@ -183,10 +181,6 @@ start_is script container h =
       landed = landed_start container.start h.kind h.keys;
     }
 
-no_await : (threads : List Thread) (number : ℕ) (called : Call) → IsLandedCall called → IsAwaitOf threads number called
-no_await threads number (call.Await thread index) landed = absurd (false≢true landed)
-no_await threads number called landed = tt
-
 script_is : (d : Draft) → IsDraft d → IsScript (script_of d)
 script_is d h =
     let heap = heap_or_least d.heap h.places in
@@ -197,8 +191,7 @@ script_is d h =
       few_shared = omega arith;
       shared = All-nil (IsShared (script_of d));
       shared_differ = λ i j each low high. absurd (omega arith);
-      awaits = λ number thread at. All-weaker IsLandedCall (IsAwaitOf d.threads number) (no_await d.threads number) thread.calls
-          (subst (λ (t : Thread). All IsLandedCall t.calls) (get_or_from_slice_get d.threads number thread thread at) (h.threads_are number thread (slice_get_within d.threads number thread at)).landed);
+      awaits = h.awaits_are;
       few_containers = h.few_containers;
       container_names = h.container_names;
       containers_differ = h.containers_differ;

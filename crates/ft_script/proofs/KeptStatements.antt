@@ -18,20 +18,23 @@ use Rattle.ft_model.specs.declared.script.Kind.TheVariants as kind
 use Rattle.ft_model.specs.Classes.{class_count}
 use Rattle.ft_model.specs.Names.{is_container_name, is_thread_name}
 use Rattle.ft_model.specs.Landed.{is_landed_kind}
-use Rattle.ft_model.specs.Scripts.{AreMade, IsCallOf, IsThread, NamesOf, cursor_of}
+use Rattle.ft_model.specs.Scripts.{AreMade, IsAwaitOf, IsCallOf, IsThread, NamesOf, cursor_of}
 use Rattle.ft_script.specs.declared.call_words.CallWord.{CallWord}
 use Rattle.ft_script.specs.Drafts.{Draft}
 use Rattle.ft_script.specs.declared.fault.Fault.{Fault}
+use Rattle.ft_script.specs.Awaits.{has_awaited}
 use Rattle.ft_script.specs.CallWords.{call_word_of}
 use Rattle.ft_script.specs.LineWords.{natural_of}
 use Rattle.ft_script.specs.Drafts.{or_fault, container_place, script_of, thread_place}
 use Rattle.ft_script.specs.Arguments.{read_index}
-use Rattle.ft_script.specs.ScriptLines.{call_line, read_call, read_class, container_line, counted_call, declaration, depth_after, heap_line, is_reported, order_line, other_statement, past_limit, plain_statement, statement, tables_at, tables_line, tables_by_words, thread_statement, read_turn, read_turns, unordered_statement}
+use Rattle.ft_script.specs.ScriptLines.{call_line, read_call, read_class, container_line, counted_call, declaration, depth_after, first_line, heap_line, is_first, is_reported, order_line, other_statement, past_limit, plain_statement, statement, tables_at, tables_line, tables_by_words, thread_statement, read_turn, read_turns, unordered_statement, version_line}
 use Rattle.ft_script.specs.ScriptTexts.{AreNumbered, call_makes, call_mentions, thread_mentions}
 use Rattle.ft_script.specs.Transcripts.{IsWideCall}
 use Rattle.ft_script.proofs.Encoded.{BeginsNoThread}
 use Rattle.ft_script.proofs.MoreCalls.{call_grows}
 use Rattle.ft_script.proofs.Kept.{AreGoodWords, anything, bind_holds, cond_holds, or_holds}
+use Rattle.ft_script.proofs.AwaitedCalls.{await_read}
+use Rattle.ft_script.proofs.KeptAwaits.{Awaits, read_awaits}
 use Rattle.ft_script.proofs.KeptCalls.{CallRead, Called, call_keeps}
 use Rattle.ft_script.proofs.KeptDrafts.{AllMade, IsPlainStart, IsDraft, calls_in, no_place, passed, same_containers, thread_grows, thread_line_keeps}
 use Rattle.ft_script.proofs.KeptLines.{IsLandedCall, after_push, depth_after_all}
@@ -129,6 +132,23 @@ heap_line_keeps d (count ∷ []) h =
     (λ _. tt)))
 heap_line_keeps d (count ∷ other ∷ words) h = tt
 
+version_said : (d : Draft) → IsDraft d → IsDraft (record d { awaits = true })
+version_said d h =
+    let next : Draft = record d { awaits = true } in
+    let threads_are : All (IsThread (script_of next)) d.threads = threads_grow d next [] (same_containers (script_of d)) (omega arith) h.threads_are in
+    let calls_are : All (IsCallOf (script_of next) (length d.cursors)) d.calls = calls_grow d next [] (length d.cursors) (length d.cursors) (same_containers (script_of d)) (omega arith) (omega arith) h.calls_are in
+    search
+
+version_line_keeps : (d : Draft) (words : List (List ℕ)) → IsDraft d → IfOk (version_line d words) IsDraft
+unfolding version_line
+version_line_keeps d [] h = tt
+version_line_keeps d (word ∷ []) h = cond_holds (bytes_eq word (codes "2")) _ _ IsDraft (λ _. version_said d h) (λ _. tt)
+version_line_keeps d (word ∷ other ∷ words) h = tt
+
+first_line_keeps : (d : Draft) (word : List ℕ) (words : List (List ℕ)) → IsDraft d → IfOk (first_line d word words) IsDraft
+unfolding first_line
+first_line_keeps d word words h = cond_holds (bytes_eq word (codes "version") && is_first d) _ _ IsDraft (λ _. version_line_keeps d words h) (λ _. tt)
+
 declaration_keeps : (d : Draft) (word : List ℕ) (words : List (List ℕ)) → IsDraft d → IfOk (declaration d word words) IsDraft
 unfolding declaration
 declaration_keeps d word words h =
@@ -136,7 +156,7 @@ declaration_keeps d word words h =
     cond_holds (bytes_eq word (codes "list")) _ _ IsDraft (λ _. container_line_keeps d kind.List words refl h) (λ _.
     cond_holds (bytes_eq word (codes "set")) _ _ IsDraft (λ _. container_line_keeps d kind.Set words refl h) (λ _.
     cond_holds (bytes_eq word (codes "tables")) _ _ IsDraft (λ _. tables_line_keeps d words h) (λ _.
-    cond_holds (bytes_eq word (codes "heap")) _ _ IsDraft (λ _. heap_line_keeps d words h) (λ _. tt)))))
+    cond_holds (bytes_eq word (codes "heap")) _ _ IsDraft (λ _. heap_line_keeps d words h) (λ _. first_line_keeps d word words h)))))
 
 -- ---- the order of threads
 
@@ -202,6 +222,10 @@ itself : {A : Type 0} (r : Result A Fault) → IfOk r (λ x. r ≡ Ok x)
 itself (Ok x) = refl
 itself (Err e) = tt
 
+pub both_hold : {A : Type 0} (r : Result A Fault) (P Q : A → Type 0) → IfOk r P → IfOk r Q → IfOk r (λ x. P x × Q x)
+both_hold (Ok x) P Q p q = (p, q)
+both_hold (Err e) P Q p q = tt
+
 past_keeps : (read : Result (Call × Draft) Fault) → IfOk (past_limit read) IsDraft
 past_keeps (Ok read) = tt
 past_keeps (Err found) = tt
@@ -209,9 +233,9 @@ past_keeps (Err found) = tt
 one_more : (f : Call → List ℕ) (calls : List Call) (called : Call) → flat_map f (calls ++ called ∷ []) ≡ flat_map f calls ++ f called
 one_more f calls called = flat_map-append f calls (called ∷ []) ∙ ap (λ (l : List ℕ). flat_map f calls ++ l) (append-nil (f called))
 
-call_added : (d e : Draft) (called : Call) (depth : ℕ) → IsDraft d → d.called < 500000 → is_some d.name ≡ true → CallRead d e called → depth_after d.depth called ≡ Ok depth →
+call_added : (d e : Draft) (called : Call) (depth : ℕ) → IsDraft d → d.called < 500000 → is_some d.name ≡ true → CallRead d e called → IsAwaitOf d.threads (length d.threads) called → depth_after d.depth called ≡ Ok depth →
     IsDraft (record e { calls = e.calls ++ called ∷ []; called = d.called + 1; depth = depth })
-call_added d e called depth h room named read deeper =
+call_added d e called depth h room named read awaited deeper =
     let all : List Call = d.calls ++ called ∷ [] in
     let next : Draft = record d { strings = read.strings; cursors = read.cursors; calls = all; called = d.called + 1; depth = depth } in
     let longer : length all ≡ length d.calls + 1 = length-append d.calls (called ∷ []) in
@@ -231,6 +255,7 @@ call_added d e called depth h room named read deeper =
     let mentioned : AreNumbered 0 (front ++ flat_map call_mentions all) (length read.strings) =
     subst (λ (l : List ℕ). AreNumbered 0 l (length read.strings)) (append_assoc front (flat_map call_mentions d.calls) (call_mentions called) ∙ ap (λ (l : List ℕ). front ++ l) (sym (one_more call_mentions d.calls called)))
     (numbered_join 0 (length d.strings) (length read.strings) (front ++ flat_map call_mentions d.calls) (call_mentions called) h.mentioned read.mentioned) in
+    let own_awaits : All (IsAwaitOf d.threads (length d.threads)) all = All-push (IsAwaitOf d.threads (length d.threads)) d.calls called h.own_awaits awaited in
     let makes : AreNumbered 0 (flat_map call_makes all) n =
     subst (λ (l : List ℕ). AreNumbered 0 l n) (sym (one_more call_makes d.calls called)) (numbered_join 0 (length d.cursors) n (flat_map call_makes d.calls) (call_makes called) h.makes read.makes) in
     let is : IsDraft next = search in
@@ -239,8 +264,10 @@ call_added d e called depth h room named read deeper =
 counted_call_keeps : (d : Draft) (word : CallWord) (words : List (List ℕ)) → IsDraft d → AreGoodWords words → is_some d.name ≡ true → d.called < 500000 → IfOk (counted_call d word words) IsDraft
 unfolding counted_call
 counted_call_keeps d word words h good named room =
-    bind_holds (read_call d word words) _ (Called d) IsDraft (call_keeps d word words h.table h.cursors_are good) (λ read g.
-    bind_holds (depth_after d.depth read.0) _ (λ depth. depth_after d.depth read.0 ≡ Ok depth) IsDraft (itself (depth_after d.depth read.0)) (λ depth deeper. call_added d read.1 read.0 depth h room named g deeper))
+    bind_holds (read_call d word words) _ (λ read. Called d read × Awaits d read) IsDraft (both_hold (read_call d word words) (Called d) (Awaits d) (call_keeps d word words h.table h.cursors_are good) (read_awaits d word words)) (λ read g.
+    bind_holds (depth_after d.depth read.0) _ (λ depth. depth_after d.depth read.0 ≡ Ok depth) IsDraft (itself (depth_after d.depth read.0)) (λ depth deeper.
+    cond_holds (has_awaited read.1.threads read.0) _ _ IsDraft
+    (λ has. call_added d read.1 read.0 depth h room named g.0 (await_read d.awaits d.threads read.0 g.1 (ap (λ (e : Draft). has_awaited e.threads read.0) (sym g.0.is) ∙ has)) deeper) (λ _. tt)))
 
 call_line_keeps : (d : Draft) (word : CallWord) (words : List (List ℕ)) → IsDraft d → AreGoodWords words → is_some d.name ≡ true → IfOk (call_line d word words) IsDraft
 unfolding call_line

@@ -2,6 +2,7 @@ pub mod CallLemmas
 pub mod Encoded
 pub mod MoreCalls
 pub mod Kept
+pub mod KeptAwaits
 pub mod KeptCalls
 pub mod KeptDrafts
 pub mod KeptLines
@@ -24,6 +25,8 @@ pub mod ShortNumbers
 pub mod ReplyLoops
 pub mod TokenTexts
 pub mod PartTexts
+pub mod PlaceTexts
+pub mod AwaitedCalls
 pub mod ReplyTexts
 pub mod CallTexts
 pub mod EntryTexts

@@ -5,7 +5,7 @@ use Rattle.std.specs.List.{find}
 use Rattle.std.specs.Str.{bytes_eq}
 use Rattle.ft_script.specs.declared.call_words.Operation.TheVariants as of
 use Rattle.ft_script.specs.declared.call_words.CallWord.{CallWord}
-use Rattle.ft_script.specs.declared.call_words.CallWord.TheVariants.{Next, Begin, End, Quiesce, On}
+use Rattle.ft_script.specs.declared.call_words.CallWord.TheVariants.{Next, Begin, End, Quiesce, Await, On}
 use Rattle.ft_script.specs.CallWords.{call_word_of, call_word_text, all_call_words}
 use Rattle.ft_script.specs.Internal.LikelyWords.{likely_word, word_of_length, word_of_2, word_of_3, word_of_4, word_of_5, word_of_6, word_of_7}
 use Rattle.ft_script.proofs.CallTexts.{word_back}
@@ -17,6 +17,7 @@ likely_back Next = refl
 likely_back Begin = refl
 likely_back End = refl
 likely_back Quiesce = refl
+likely_back Await = refl
 likely_back (On of.Get) = refl
 likely_back (On of.GetOr) = refl
 likely_back (On of.Set) = refl

@@ -49,6 +49,7 @@ readable_by script entry fits index called landed wide = record {
   last_index = fits.index;
   stamp = fits.stamp;
   landed = landed;
+  awaited = fits.awaited;
   call = wide;
   reply = fits.reply.readable;
   said = fits.reply.wide;

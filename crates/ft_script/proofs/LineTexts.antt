@@ -125,7 +125,7 @@ shown_encoded (b ∷ word) h =
     let high : b ≤ 126 = (shown_ends b both.0).1 in
     IsUtf8-append (b ∷ []) word (one_encoded b (omega arith)) (shown_encoded word both.1)
 
-plain_all : (word : List ℕ) → IsPlain word → (list_all is_shown word ≡ true) × BeginsNoComment word
+pub plain_all : (word : List ℕ) → IsPlain word → (list_all is_shown word ≡ true) × BeginsNoComment word
 plain_all [] h = absurd h
 plain_all (b ∷ word) h = (h.1, h.2)
 

@@ -29,6 +29,7 @@ use Rattle.ft_script.specs.declared.fault.ScriptFault.{ScriptFault}
 use Rattle.ft_script.specs.declared.lines.Place.{Place}
 use Rattle.ft_script.specs.declared.lines.Place.TheVariants as place
 use Rattle.ft_script.specs.Arguments.{read_container, just_index, read_index, just_key_and_value, read_key_and_value, just_key, read_key, just_nothing, just_value, read_value}
+use Rattle.ft_script.specs.Awaits.{is_await}
 use Rattle.ft_script.specs.CallWords.{call_word_of}
 use Rattle.ft_script.specs.Drafts.{empty_draft, end_thread, script_of}
 use Rattle.ft_script.specs.Generator.{call_by, calls_above, head_words, made_call, made_calls, made_head, made_script, made_text, made_thread, number_at, share, thread_words}
@@ -37,6 +38,7 @@ use Rattle.ft_script.specs.ScriptLines.{call_at, call_line, read_call, read_clas
 use Rattle.ft_script.specs.ReadScripts.{line_after, read_lines, read_script, reported_at}
 use Rattle.ft_script.specs.Texts.{call_words, line}
 use Rattle.ft_script.specs.LineWords.{integer_of, is_wide}
+use Rattle.ft_script.proofs.AwaitedCalls.{unawaited}
 use Rattle.ft_script.proofs.CallTexts.{word_back}
 use Rattle.ft_script.proofs.LineTexts.{AreLineWords, AreSaying, IsPlain, decimal_plain, plain_word, said_back, saying_append, text_encoded}
 use Rattle.ft_script.proofs.SaidLines.{said_script, say_on, spoken, statements}
@@ -59,21 +61,21 @@ within name threads calls count = record empty_draft {
 }
 
 stated : (name : List ℕ) (threads : List Thread) (calls : List Call) (count : ℕ) (word : List ℕ) (words : List (List ℕ)) (found : CallWord) (called : Call) →
-    bytes_eq word (codes "order") ≡ false → bytes_eq word (codes "thread") ≡ false → call_word_of word ≡ Some found → read_call (within name threads calls count) found words ≡ Ok (called, within name threads calls count) →
+    bytes_eq word (codes "order") ≡ false → bytes_eq word (codes "thread") ≡ false → call_word_of word ≡ Some found → is_await called ≡ false → read_call (within name threads calls count) found words ≡ Ok (called, within name threads calls count) →
     depth_after 0 called ≡ Ok 0 → count < 500000 → spoken (within name threads calls count) (word ∷ words) ≡ Ok (within name threads (calls ++ called ∷ []) (count + 1))
 unfolding statement other_statement unordered_statement plain_statement thread_statement call_line counted_call
-stated name threads calls count word words found called order thread is read depth low = rw (order, thread, is, lt-ltb count 500000 low, read, depth) refl
+stated name threads calls count word words found called order thread is none read depth low = rw (order, thread, is, lt-ltb count 500000 low, read, depth, unawaited threads called none) refl
 
 record IsGoodCall (called : Call) : Type 0 where
   plain : AllByRecursion IsPlain (call_words made_head 0 called)
   reads : (name : List ℕ) (threads : List Thread) (calls : List Call) (count : ℕ) → count < 500000 → spoken (within name threads calls count) (call_words made_head 0 called) ≡ Ok (within name threads (calls ++ called ∷ []) (count + 1))
 
 good_by : (called : Call) (word : List ℕ) (words : List (List ℕ)) (found : CallWord) → call_words made_head 0 called ≡ word ∷ words → AllByRecursion IsPlain (word ∷ words) →
-    bytes_eq word (codes "order") ≡ false → bytes_eq word (codes "thread") ≡ false → call_word_of word ≡ Some found →
+    bytes_eq word (codes "order") ≡ false → bytes_eq word (codes "thread") ≡ false → call_word_of word ≡ Some found → is_await called ≡ false →
     depth_after 0 called ≡ Ok 0 → ((name : List ℕ) (threads : List Thread) (calls : List Call) (count : ℕ) → read_call (within name threads calls count) found words ≡ Ok (called, within name threads calls count)) → IsGoodCall called
-good_by called word words found are plain order thread is depth read = record {
+good_by called word words found are plain order thread is none depth read = record {
   plain = subst (AllByRecursion IsPlain) (sym are) plain;
-  reads = λ name threads calls count low. ap (spoken (within name threads calls count)) are ∙ stated name threads calls count word words found called order thread is (read name threads calls count) depth low;
+  reads = λ name threads calls count low. ap (spoken (within name threads calls count)) are ∙ stated name threads calls count word words found called order thread is none (read name threads calls count) depth low;
 }
 
 -- ---- numbers below 1000
@@ -94,42 +96,42 @@ value_read draft k low = rw (numbers_are_not_none (decimal k) (decimal_word k (o
 
 good_set : (k : ℕ) → k < 1000 → IsGoodCall (call.Dict 0 (dict.Set (key.Int (pos k)) (value.Int (pos k))))
 unfolding read_call container_call read_container call_at dict_call just_key_and_value read_key_and_value depth_after
-good_set k low = good_by _ (codes "set") (codes "d" ∷ decimal k ∷ decimal k ∷ []) (On of.Set) refl ((refl, refl, refl), ((refl, refl, refl), (number_word k low, (number_word k low, tt)))) refl refl (word_back (On of.Set)) refl
+good_set k low = good_by _ (codes "set") (codes "d" ∷ decimal k ∷ decimal k ∷ []) (On of.Set) refl ((refl, refl, refl), ((refl, refl, refl), (number_word k low, (number_word k low, tt)))) refl refl (word_back (On of.Set)) refl refl
     (λ name threads calls count. rw (key_read (within name threads calls count) k low, value_read (within name threads calls count) k low) refl)
 
 good_get : (k : ℕ) → k < 1000 → IsGoodCall (call.Dict 0 (dict.Get (key.Int (pos k))))
 unfolding read_call container_call read_container call_at dict_call just_key depth_after
-good_get k low = good_by _ (codes "get") (codes "d" ∷ decimal k ∷ []) (On of.Get) refl ((refl, refl, refl), ((refl, refl, refl), (number_word k low, tt))) refl refl (word_back (On of.Get)) refl
+good_get k low = good_by _ (codes "get") (codes "d" ∷ decimal k ∷ []) (On of.Get) refl ((refl, refl, refl), ((refl, refl, refl), (number_word k low, tt))) refl refl (word_back (On of.Get)) refl refl
     (λ name threads calls count. rw (key_read (within name threads calls count) k low) refl)
 
 good_del : (k : ℕ) → k < 1000 → IsGoodCall (call.Dict 0 (dict.Del (key.Int (pos k))))
 unfolding read_call container_call read_container call_at dict_call just_key depth_after
-good_del k low = good_by _ (codes "del") (codes "d" ∷ decimal k ∷ []) (On of.Del) refl ((refl, refl, refl), ((refl, refl, refl), (number_word k low, tt))) refl refl (word_back (On of.Del)) refl
+good_del k low = good_by _ (codes "del") (codes "d" ∷ decimal k ∷ []) (On of.Del) refl ((refl, refl, refl), ((refl, refl, refl), (number_word k low, tt))) refl refl (word_back (On of.Del)) refl refl
     (λ name threads calls count. rw (key_read (within name threads calls count) k low) refl)
 
 good_append : (k : ℕ) → k < 1000 → IsGoodCall (call.List 1 (list.Append (value.Int (pos k))))
 unfolding read_call container_call read_container call_at list_call just_value depth_after
-good_append k low = good_by _ (codes "append") (codes "l" ∷ decimal k ∷ []) (On of.Append) refl ((refl, refl, refl), ((refl, refl, refl), (number_word k low, tt))) refl refl (word_back (On of.Append)) refl
+good_append k low = good_by _ (codes "append") (codes "l" ∷ decimal k ∷ []) (On of.Append) refl ((refl, refl, refl), ((refl, refl, refl), (number_word k low, tt))) refl refl (word_back (On of.Append)) refl refl
     (λ name threads calls count. rw (value_read (within name threads calls count) k low) refl)
 
 good_item : (k : ℕ) → k < 1000 → IsGoodCall (call.List 1 (list.Get (pos k)))
 unfolding read_call container_call read_container call_at list_call just_index depth_after
-good_item k low = good_by _ (codes "get") (codes "l" ∷ decimal k ∷ []) (On of.Get) refl ((refl, refl, refl), ((refl, refl, refl), (number_word k low, tt))) refl refl (word_back (On of.Get)) refl
+good_item k low = good_by _ (codes "get") (codes "l" ∷ decimal k ∷ []) (On of.Get) refl ((refl, refl, refl), ((refl, refl, refl), (number_word k low, tt))) refl refl (word_back (On of.Get)) refl refl
     (λ name threads calls count. rw (index_signed (pos k) (wide k low)) refl)
 
 good_add : (k : ℕ) → k < 1000 → IsGoodCall (call.Set 2 (set.Add (key.Int (pos k))))
 unfolding read_call container_call read_container call_at set_call just_key depth_after
-good_add k low = good_by _ (codes "add") (codes "s" ∷ decimal k ∷ []) (On of.Add) refl ((refl, refl, refl), ((refl, refl, refl), (number_word k low, tt))) refl refl (word_back (On of.Add)) refl
+good_add k low = good_by _ (codes "add") (codes "s" ∷ decimal k ∷ []) (On of.Add) refl ((refl, refl, refl), ((refl, refl, refl), (number_word k low, tt))) refl refl (word_back (On of.Add)) refl refl
     (λ name threads calls count. rw (key_read (within name threads calls count) k low) refl)
 
 good_discard : (k : ℕ) → k < 1000 → IsGoodCall (call.Set 2 (set.Discard (key.Int (pos k))))
 unfolding read_call container_call read_container call_at set_call just_key depth_after
-good_discard k low = good_by _ (codes "discard") (codes "s" ∷ decimal k ∷ []) (On of.Discard) refl ((refl, refl, refl), ((refl, refl, refl), (number_word k low, tt))) refl refl (word_back (On of.Discard)) refl
+good_discard k low = good_by _ (codes "discard") (codes "s" ∷ decimal k ∷ []) (On of.Discard) refl ((refl, refl, refl), ((refl, refl, refl), (number_word k low, tt))) refl refl (word_back (On of.Discard)) refl refl
     (λ name threads calls count. rw (key_read (within name threads calls count) k low) refl)
 
 good_quiesce : IsGoodCall call.Quiesce
 unfolding read_call just_nothing depth_after
-good_quiesce = good_by _ (codes "quiesce") [] Quiesce refl ((refl, refl, refl), tt) refl refl (word_back Quiesce) refl (λ name threads calls count. refl)
+good_quiesce = good_by _ (codes "quiesce") [] Quiesce refl ((refl, refl, refl), tt) refl refl (word_back Quiesce) refl refl (λ name threads calls count. refl)
 
 pick : {A : Type 0} (b : Bool) (x y : A) (P : A → Type 0) → P x → P y → P (cond b x y)
 pick true x y P h k = h

@@ -10,7 +10,7 @@ use Rattle.ft_script.specs.declared.fault.ScriptFault.{ScriptFault}
 use Rattle.ft_script.specs.Drafts.{empty_draft}
 use Rattle.ft_script.specs.Lines.{lines_of, with_first, words_from}
 use Rattle.ft_script.specs.CallWords.{call_word_of}
-use Rattle.ft_script.specs.ScriptLines.{declaration, open_line, other_statement, plain_statement, read_line, statement, thread_statement, unordered_statement, words_line}
+use Rattle.ft_script.specs.ScriptLines.{declaration, first_line, open_line, other_statement, plain_statement, read_line, statement, thread_statement, unordered_statement, words_line}
 use Rattle.ft_script.specs.ReadScripts.{line_after, read_lines, read_script, reported_at}
 use Rattle.ft_script.proofs.ReadScripts.{is_read}
 
@@ -20,7 +20,7 @@ abbrev dashes : List ℕ
 dashes = codes "---"
 
 plain_refused : (d : Draft) → plain_statement d dashes [] ≡ Err fault.UnknownWord
-unfolding plain_statement thread_statement declaration call_word_of
+unfolding plain_statement thread_statement declaration call_word_of first_line
 plain_refused d = elim (is_some d.name) as (λ b. cond b (thread_statement d dashes []) (declaration d dashes []) ≡ Err fault.UnknownWord) [ true ↦ refl | false ↦ refl ]
 
 statement_refused : (d : Draft) → statement d (dashes ∷ []) ≡ Err fault.UnknownWord

@@ -188,7 +188,7 @@ positive_integer (d ∷ ds) h =
     let low : 49 ≤ d = ends.0 in
     rw (ne_eqb d 48 (λ e. omega arith), ne_eqb d 45 (λ e. omega arith)) h
 
-positive_decimal : (n : ℕ) → 0 < n → n < 2 ^ 64 → is_positive (decimal n) ≡ true
+pub positive_decimal : (n : ℕ) → 0 < n → n < 2 ^ 64 → is_positive (decimal n) ≡ true
 positive_decimal n some low = positive_digits (decimal n) (some_digits n low) (are_digits n low) (first_decimal n some low)
 
 decimal_integer : (n : ℕ) → n < 2 ^ 64 → is_integer (decimal n) ≡ true

@@ -10,7 +10,8 @@ use Rattle.ft_model.specs.declared.call.Call.{Call}
 use Rattle.ft_model.specs.declared.script.Declaration.{Declaration}
 use Rattle.ft_model.specs.declared.script.ScriptParts.{ScriptParts}
 use Rattle.ft_model.specs.declared.script.Thread.{Thread}
-use Rattle.ft_script.specs.ScriptTexts.{container_words, order_lines, script_text, tables_lines, thread_lines, threads_lines}
+use Rattle.ft_script.specs.Awaits.{has_awaits}
+use Rattle.ft_script.specs.ScriptTexts.{container_words, order_lines, script_text, tables_lines, thread_lines, threads_lines, version_lines}
 use Rattle.ft_script.specs.Texts.{call_words, line, thread_name}
 use Rattle.ft_script.proofs.Printed.{join_with_byte-cons}
 
@@ -90,20 +91,36 @@ order_printed old o1 o2 new script (turn ∷ turns) some e1 e2 e3 =
 
 -- ---- all lines
 
-pub script_printed : (old o1 o2 o3 o4 new : List ℕ) (script : ScriptParts) (declared : List Declaration) (counts : List ℕ) (places : ℕ) → declared ≡ script.containers → counts ≡ script.tables → places ≡ script.heap →
+-- the lines below that of the version
+abbrev lines_below : ScriptParts → List (List (List ℕ))
+lines_below script =
+    map container_words script.containers ++ (tables_lines 3 script.tables ++ (codes "heap" ∷ decimal script.heap ∷ []) ∷ (threads_lines script 0 script.threads ++ order_lines script script.order))
+
+rest_printed : (old o1 o2 o3 o4 new : List ℕ) (script : ScriptParts) (declared : List Declaration) (counts : List ℕ) (places : ℕ) → declared ≡ script.containers → counts ≡ script.tables → places ≡ script.heap →
     o1 ≡ old ++ flat_map (λ container. line (container_words container)) declared → o2 ≡ o1 ++ flat_map line (tables_lines 3 counts) →
-    o3 ≡ o2 ++ (codes "heap" ++ (flat_map (λ (n : ℕ). 32 ∷ decimal n) (places ∷ []) ++ 10 ∷ [])) → o4 ≡ o3 ++ flat_map line (threads_lines script 0 script.threads) → new ≡ o4 ++ flat_map line (order_lines script script.order) → new ≡ old ++ script_text script
-script_printed old o1 o2 o3 o4 new script declared counts places is_declared is_counts is_places e1 e2 e3 e4 e5 =
+    o3 ≡ o2 ++ (codes "heap" ++ (flat_map (λ (n : ℕ). 32 ∷ decimal n) (places ∷ []) ++ 10 ∷ [])) → o4 ≡ o3 ++ flat_map line (threads_lines script 0 script.threads) → new ≡ o4 ++ flat_map line (order_lines script script.order) → new ≡ old ++ flat_map line (lines_below script)
+rest_printed old o1 o2 o3 o4 new script declared counts places is_declared is_counts is_places e1 e2 e3 e4 e5 =
     let containers : List (List (List ℕ)) = map container_words script.containers in
     let tables : List (List (List ℕ)) = tables_lines 3 script.tables in
     let threads : List (List (List ℕ)) = threads_lines script 0 script.threads in
     let order : List (List (List ℕ)) = order_lines script script.order in
     let heap : List (List ℕ) = codes "heap" ∷ decimal script.heap ∷ [] in
     let own : codes "heap" ++ (((32 ∷ decimal script.heap) ++ []) ++ 10 ∷ []) ≡ line heap = ap (λ (l : List ℕ). codes "heap" ++ ((32 ∷ l) ++ 10 ∷ [])) (append-nil (decimal script.heap)) in
-    let parts : script_text script ≡ flat_map line containers ++ (flat_map line tables ++ (line heap ++ (flat_map line threads ++ flat_map line order))) =
+    let parts : flat_map line (lines_below script) ≡ flat_map line containers ++ (flat_map line tables ++ (line heap ++ (flat_map line threads ++ flat_map line order))) =
     flat_map-append line containers (tables ++ heap ∷ (threads ++ order))
     ∙ ap (λ (l : List ℕ). flat_map line containers ++ l) (flat_map-append line tables (heap ∷ (threads ++ order)) ∙ ap (λ (l : List ℕ). flat_map line tables ++ (line heap ++ l)) (flat_map-append line threads order)) in
     rw (e5, e4, e3, e2, e1, is_declared, is_counts, is_places, own, sym (flat_map-map line container_words script.containers)) (five old (flat_map line containers) (flat_map line tables) (line heap) (flat_map line threads) (flat_map line order) ∙ ap (λ (l : List ℕ). old ++ l) (sym parts))
   where
     five : (a b c d e f : List ℕ) → ((((a ++ b) ++ c) ++ d) ++ e) ++ f ≡ a ++ (b ++ (c ++ (d ++ (e ++ f))))
     five a b c d e f = simp append_assoc
+
+pub script_printed : (start old o1 o2 o3 o4 new : List ℕ) (script : ScriptParts) (awaits : Bool) (declared : List Declaration) (counts : List ℕ) (places : ℕ) → awaits ≡ has_awaits script.threads → declared ≡ script.containers → counts ≡ script.tables → places ≡ script.heap →
+    old ≡ start ++ flat_map line (version_lines awaits) →
+    o1 ≡ old ++ flat_map (λ container. line (container_words container)) declared → o2 ≡ o1 ++ flat_map line (tables_lines 3 counts) →
+    o3 ≡ o2 ++ (codes "heap" ++ (flat_map (λ (n : ℕ). 32 ∷ decimal n) (places ∷ []) ++ 10 ∷ [])) → o4 ≡ o3 ++ flat_map line (threads_lines script 0 script.threads) → new ≡ o4 ++ flat_map line (order_lines script script.order) → new ≡ start ++ script_text script
+script_printed start old o1 o2 o3 o4 new script awaits declared counts places is_awaits is_declared is_counts is_places e0 e1 e2 e3 e4 e5 =
+    let versions : List (List (List ℕ)) = version_lines (has_awaits script.threads) in
+    rest_printed old o1 o2 o3 o4 new script declared counts places is_declared is_counts is_places e1 e2 e3 e4 e5
+    ∙ ap (λ (l : List ℕ). l ++ flat_map line (lines_below script)) (e0 ∙ ap (λ (b : Bool). start ++ flat_map line (version_lines b)) is_awaits)
+    ∙ append_assoc start (flat_map line versions) (flat_map line (lines_below script))
+    ∙ ap (λ (l : List ℕ). start ++ l) (sym (flat_map-append line versions (lines_below script)))

@@ -1,6 +1,6 @@
 -- The text of a script is read as the script.
 use Rattle.std.proofs.Common.{◌≡◌, ◌≢◌, ◌⊎◌, cond, ℕ, pos, negsuc, zero, suc, ◌+◌, ◌-◌, ◌%◌, ◌^◌, ◌<◌, ◌≤◌, Bool, true, false, eqb, leb, ltb, ◌&&◌, List, [], ◌∷◌, ◌++◌, length, get_or, map, take, sum, replicate, set, Option, Some, None, Result, Ok, Err, refl, sym, ap, ◌∙◌, subst, inl, inr, arith, append_assoc}
-use Rattle.std.specs.Prelude.{All, AllPairs, Any, codes, int_le, slice_get, slice_set}
+use Rattle.std.specs.Prelude.{All, AllPairs, Any, IsSomeAnd, codes, int_le, slice_get, slice_set}
 use Rattle.std.specs.List.{AllByRecursion, flat_map, sum_by, zip}
 use Rattle.std.specs.Fmt.{decimal}
 use Rattle.std.specs.Option.{is_some, option_map_or, unwrap_or}
@@ -26,26 +26,28 @@ use Rattle.ft_model.specs.declared.script.Thread.{Thread}
 use Rattle.ft_model.specs.Histories.{cursors_of}
 use Rattle.ft_model.specs.Landed.{is_landed_call, is_landed_kind, is_landed_start, shares_none}
 use Rattle.ft_model.specs.Names.{is_container_name, is_thread_name}
-use Rattle.ft_model.specs.Scripts.{AreMade, AreNested, IsCallOf, IsScript, IsThread, cursor_of, default_tables}
+use Rattle.ft_model.specs.Scripts.{AreMade, AreNested, IsAwaitOf, IsCallOf, IsScript, IsThread, cursor_of, default_tables}
 use Rattle.ft_script.specs.declared.call_words.CallWord.{CallWord}
 use Rattle.ft_script.specs.declared.fault.Fault.{Fault}
 use Rattle.ft_script.specs.declared.fault.ScriptFault.{ScriptFault}
 use Rattle.ft_script.specs.Arguments.{read_index}
+use Rattle.ft_script.specs.Awaits.{MayAwait, has_awaited, has_awaits}
 use Rattle.ft_script.specs.CallWords.{call_word_of}
 use Rattle.ft_script.specs.Drafts.{Draft, ◌>>=◌, container_place, empty_draft, end_thread, or_fault, script_of, thread_place}
 use Rattle.ft_script.specs.Forms.{call_form}
 use Rattle.ft_script.specs.LineWords.{is_wide}
 use Rattle.ft_script.specs.ReadScripts.{read_script}
-use Rattle.ft_script.specs.ScriptLines.{call_line, container_line, counted_call, declaration, depth_after, heap_line, just_call, order_line, other_statement, plain_statement, read_call, read_class, read_turn, read_turns, statement, tables_at, tables_by_words, tables_line, thread_line, thread_statement, unordered_statement}
-use Rattle.ft_script.specs.ScriptTexts.{AreNumbered, HasMadeCursors, HasText, number_listed, call_makes, call_mentions, container_words, kind_word, order_lines, script_lines, script_text, tables_lines, thread_lines, thread_mentions, threads_lines}
+use Rattle.ft_script.specs.ScriptLines.{call_line, container_line, counted_call, declaration, depth_after, first_line, heap_line, just_call, order_line, other_statement, plain_statement, read_call, read_class, read_turn, read_turns, statement, tables_at, tables_by_words, tables_line, thread_line, thread_statement, unordered_statement, version_line}
+use Rattle.ft_script.specs.ScriptTexts.{AreNumbered, HasMadeCursors, HasText, number_listed, call_makes, call_mentions, container_words, kind_word, order_lines, script_lines, script_text, tables_lines, thread_lines, thread_mentions, threads_lines, version_lines}
 use Rattle.ft_script.specs.Texts.{argument_text, call_words, thread_name}
 use Rattle.ft_script.specs.Transcripts.{IsWideCall}
-use Rattle.ft_script.proofs.CallTexts.{Declares, IsCallWord, IsNextKnown, call_read, cursors_at, standing, words_are}
-use Rattle.ft_script.proofs.EntryTexts.{declares, thread_form, thread_place_at}
+use Rattle.ft_script.proofs.AwaitedCalls.{script_awaits}
+use Rattle.ft_script.proofs.CallTexts.{Declares, IsCallWord, IsKnown, call_read, cursors_at, standing, words_are}
+use Rattle.ft_script.proofs.EntryTexts.{declares, thread_form, thread_name_at, thread_place_at}
 use Rattle.ft_script.proofs.LineTexts.{AreLineWords, AreSaying, IsLineWord, container_plain, decimal_plain, plain_word, said_back, saying_append, text_encoded, thread_plain}
 use Rattle.ft_script.proofs.LineReading.{no_turns, turns_cons}
 use Rattle.ft_script.proofs.Numbering.{and_none, numbered_join, numbered_split, numbered_up}
-use Rattle.ft_script.proofs.PartTexts.{bytes_differ, index_signed, position_none}
+use Rattle.ft_script.proofs.PartTexts.{bytes_differ, bytes_same, index_signed, position_at, position_none}
 use Rattle.ft_script.proofs.SaidLines.{opens, said_script, say_on, spoken, statements}
 
 -- ---- what stands where
@@ -94,22 +96,36 @@ good draft = Ok draft
 wide_count : (n : ℕ) → n < 2 ^ 63 → is_wide (pos n) ≡ true
 wide_count n low = and_from (int_le (negsuc (2 ^ 63 - 1)) (pos n)) (int_le (pos n) (pos (2 ^ 63 - 1))) refl (le-leb n (2 ^ 63 - 1) (omega arith))
 
+-- ---- the version
+
+-- nothing is declared yet
+abbrev headed : Bool → Draft
+headed awaits = record empty_draft { awaits = awaits }
+
+version_said : spoken empty_draft (codes "version" ∷ codes "2" ∷ []) ≡ Ok (headed true)
+unfolding statement other_statement unordered_statement plain_statement declaration first_line version_line
+version_said = refl
+
+version_read : (awaits : Bool) (lines : List (List (List ℕ))) → statements empty_draft (version_lines awaits ++ lines) ≡ statements (headed awaits) lines
+version_read false lines = refl
+version_read true lines = say_on empty_draft (headed true) (codes "version" ∷ codes "2" ∷ []) lines version_said
+
 -- ---- containers
 
-abbrev declaring : List Declaration → Draft
-declaring containers = record empty_draft { containers = containers }
+abbrev declaring : Bool → List Declaration → Draft
+declaring awaits containers = record (headed awaits) { containers = containers }
 
-container_said : (containers : List Declaration) (of_kind : Kind) (name : List ℕ) → is_landed_kind of_kind ≡ true → spoken (declaring containers) (kind_word of_kind ∷ name ∷ []) ≡ container_line (declaring containers) of_kind (name ∷ [])
+container_said : (awaits : Bool) (containers : List Declaration) (of_kind : Kind) (name : List ℕ) → is_landed_kind of_kind ≡ true → spoken (declaring awaits containers) (kind_word of_kind ∷ name ∷ []) ≡ container_line (declaring awaits containers) of_kind (name ∷ [])
 unfolding statement other_statement unordered_statement plain_statement declaration
-container_said containers kind.Dict name landed = refl
-container_said containers kind.List name landed = refl
-container_said containers kind.Set name landed = refl
-container_said containers (kind.Deque bound) name landed = absurd (false≢true landed)
+container_said awaits containers kind.Dict name landed = refl
+container_said awaits containers kind.List name landed = refl
+container_said awaits containers kind.Set name landed = refl
+container_said awaits containers (kind.Deque bound) name landed = absurd (false≢true landed)
 
-container_added : (containers : List Declaration) (of_kind : Kind) (name : List ℕ) → is_container_name name ≡ true → container_place containers name ≡ None → length containers < 256 →
-    container_line (declaring containers) of_kind (name ∷ []) ≡ Ok (declaring (containers ++ record { start = record { kind = of_kind; keys = [] }; name = name } ∷ []))
+container_added : (awaits : Bool) (containers : List Declaration) (of_kind : Kind) (name : List ℕ) → is_container_name name ≡ true → container_place containers name ≡ None → length containers < 256 →
+    container_line (declaring awaits containers) of_kind (name ∷ []) ≡ Ok (declaring awaits (containers ++ record { start = record { kind = of_kind; keys = [] }; name = name } ∷ []))
 unfolding container_line
-container_added containers of_kind name form new room = rw (form, new, lt-ltb (length containers) 256 room) refl
+container_added awaits containers of_kind name form new room = rw (form, new, lt-ltb (length containers) 256 room) refl
 
 no_keys : (keys : List Key) → shares_none keys ≡ true → [] ≡ keys
 no_keys [] h = refl
@@ -118,33 +134,33 @@ no_keys (key ∷ keys) h = absurd (false≢true h)
 abbrev declared : Kind → List ℕ → List Key → Declaration
 declared of_kind name keys = record { start = record { kind = of_kind; keys = keys }; name = name }
 
-container_read : (containers : List Declaration) (container : Declaration) → is_container_name container.name ≡ true → is_landed_start container.start ≡ true → container_place containers container.name ≡ None → length containers < 256 →
-    spoken (declaring containers) (container_words container) ≡ Ok (declaring (containers ++ container ∷ []))
-container_read containers container form landed new room =
+container_read : (awaits : Bool) (containers : List Declaration) (container : Declaration) → is_container_name container.name ≡ true → is_landed_start container.start ≡ true → container_place containers container.name ≡ None → length containers < 256 →
+    spoken (declaring awaits containers) (container_words container) ≡ Ok (declaring awaits (containers ++ container ∷ []))
+container_read awaits containers container form landed new room =
     let parts = and_parts (is_landed_kind container.start.kind) (shares_none container.start.keys) landed in
-    container_said containers container.start.kind container.name parts.0
-    ∙ container_added containers container.start.kind container.name form new room
-    ∙ ap (λ (keys : List Key). good (declaring (containers ++ declared container.start.kind container.name keys ∷ []))) (no_keys container.start.keys parts.1)
+    container_said awaits containers container.start.kind container.name parts.0
+    ∙ container_added awaits containers container.start.kind container.name form new room
+    ∙ ap (λ (keys : List Key). good (declaring awaits (containers ++ declared container.start.kind container.name keys ∷ []))) (no_keys container.start.keys parts.1)
 
-containers_read : (script : ScriptParts) → IsScript script → (before after : List Declaration) (lines : List (List (List ℕ))) → script.containers ≡ before ++ after →
-    statements (declaring before) (map container_words after ++ lines) ≡ statements (declaring script.containers) lines
-containers_read script rule before [] lines is = ap (λ (l : List Declaration). statements (declaring l) lines) (sym (append-nil before) ∙ sym is)
-containers_read script rule before (container ∷ after) lines is =
+containers_read : (awaits : Bool) (script : ScriptParts) → IsScript script → (before after : List Declaration) (lines : List (List (List ℕ))) → script.containers ≡ before ++ after →
+    statements (declaring awaits before) (map container_words after ++ lines) ≡ statements (declaring awaits script.containers) lines
+containers_read awaits script rule before [] lines is = ap (λ (l : List Declaration). statements (declaring awaits l) lines) (sym (append-nil before) ∙ sym is)
+containers_read awaits script rule before (container ∷ after) lines is =
     let low = within script.containers before after container is in
     let few : length script.containers ≤ 256 = rule.few_containers in
     let form = holds_at (λ (c : Declaration). is_container_name c.name ≡ true) script.containers before after container rule.container_names is in
     let landed = holds_at (λ (c : Declaration). is_landed_start c.start ≡ true) script.containers before after container (λ k d below. (rule.starts k d below).landed) is in
     let new : container_place before container.name ≡ None = position_none (λ (c : Declaration). bytes_eq c.name container.name) before container (λ k below. no_name_before (λ (c : Declaration). c.name) script.containers before after container rule.containers_differ is k container below) in
-    say_on (declaring before) (declaring (before ++ container ∷ [])) (container_words container) (map container_words after ++ lines) (container_read before container form landed new (omega arith))
-    ∙ containers_read script rule (before ++ container ∷ []) after lines (moved_seam script.containers before after container is)
+    say_on (declaring awaits before) (declaring awaits (before ++ container ∷ [])) (container_words container) (map container_words after ++ lines) (container_read awaits before container form landed new (omega arith))
+    ∙ containers_read awaits script rule (before ++ container ∷ []) after lines (moved_seam script.containers before after container is)
 
 -- ---- tables
 
 abbrev some_count : ℕ → Option ℕ
 some_count n = Some n
 
-abbrev tabled : List Declaration → List (Option ℕ) → Draft
-tabled containers tables = record empty_draft { containers = containers; tables = tables }
+abbrev tabled : Bool → List Declaration → List (Option ℕ) → Draft
+tabled awaits containers tables = record (headed awaits) { containers = containers; tables = tables }
 
 class_place_of : (class place : ℕ) → class ≡ 3 + place → place < 14 → read_class (decimal class) ≡ Ok place
 unfolding read_class
@@ -154,23 +170,23 @@ class_place_of class place is low =
     let rest : class - 3 ≡ place = omega arith in
     rw (index_signed (pos class) (wide_count class (omega arith)), le-leb 3 class from, le-leb class 16 to, rest) refl
 
-tables_said : (containers : List Declaration) (tables : List (Option ℕ)) (class count : List ℕ) → spoken (tabled containers tables) (codes "tables" ∷ class ∷ count ∷ []) ≡ (read_class class >>= λ place. tables_at (tabled containers tables) place count)
+tables_said : (awaits : Bool) (containers : List Declaration) (tables : List (Option ℕ)) (class count : List ℕ) → spoken (tabled awaits containers tables) (codes "tables" ∷ class ∷ count ∷ []) ≡ (read_class class >>= λ place. tables_at (tabled awaits containers tables) place count)
 unfolding statement other_statement unordered_statement plain_statement declaration tables_line tables_by_words
-tables_said containers tables class count = refl
+tables_said awaits containers tables class count = refl
 
-table_set : (containers : List Declaration) (tables : List (Option ℕ)) (place count : ℕ) → slice_get tables place ≡ Some None → 1 ≤ count → count ≤ 1024 → tables_at (tabled containers tables) place (decimal count) ≡ Ok (tabled containers (slice_set tables place (Some count)))
+table_set : (awaits : Bool) (containers : List Declaration) (tables : List (Option ℕ)) (place count : ℕ) → slice_get tables place ≡ Some None → 1 ≤ count → count ≤ 1024 → tables_at (tabled awaits containers tables) place (decimal count) ≡ Ok (tabled awaits containers (slice_set tables place (Some count)))
 unfolding tables_at
-table_set containers tables place count none low high = rw (none, index_signed (pos count) (wide_count count (omega arith)), le-leb 1 count low, le-leb count 1024 high) refl
+table_set awaits containers tables place count none low high = rw (none, index_signed (pos count) (wide_count count (omega arith)), le-leb 1 count low, le-leb count 1024 high) refl
 
 get_seam : (before after : List (Option ℕ)) (x : Option ℕ) → slice_get (before ++ x ∷ after) (length before) ≡ Some x
 get_seam [] after x = refl
 get_seam (y ∷ before) after x = get_seam before after x
 
-tables_read : (containers : List Declaration) (before after : List ℕ) (class : ℕ) (lines : List (List (List ℕ))) → class ≡ 3 + length before → length before + length after ≤ 14 → All (λ count. (1 ≤ count) × (count ≤ 1024)) after →
-    statements (tabled containers (map some_count before ++ replicate (length after) None)) (tables_lines class after ++ lines) ≡ statements (tabled containers (map some_count (before ++ after))) lines
-tables_read containers before [] class lines is few are =
-    ap (λ (l : List (Option ℕ)). statements (tabled containers l) lines) (append-nil (map some_count before) ∙ ap (map some_count) (sym (append-nil before)))
-tables_read containers before (count ∷ after) class lines is few are =
+tables_read : (awaits : Bool) (containers : List Declaration) (before after : List ℕ) (class : ℕ) (lines : List (List (List ℕ))) → class ≡ 3 + length before → length before + length after ≤ 14 → All (λ count. (1 ≤ count) × (count ≤ 1024)) after →
+    statements (tabled awaits containers (map some_count before ++ replicate (length after) None)) (tables_lines class after ++ lines) ≡ statements (tabled awaits containers (map some_count (before ++ after))) lines
+tables_read awaits containers before [] class lines is few are =
+    ap (λ (l : List (Option ℕ)). statements (tabled awaits containers l) lines) (append-nil (map some_count before) ∙ ap (map some_count) (sym (append-nil before)))
+tables_read awaits containers before (count ∷ after) class lines is few are =
     let front : List (Option ℕ) = map some_count before in
     let rest : List (Option ℕ) = replicate (length after) None in
     let place : ℕ = length before in
@@ -181,20 +197,20 @@ tables_read containers before (count ∷ after) class lines is few are =
     ap (λ (i : ℕ). slice_set (front ++ None ∷ rest) i (Some count)) (sym long) ∙ set-append_seam front None rest (Some count)
     ∙ sym (append_assoc front (Some count ∷ []) rest) ∙ ap (λ (l : List (Option ℕ)). l ++ rest) (sym (map-append some_count before (count ∷ []))) in
     let longer : length (before ++ count ∷ []) ≡ length before + 1 = length-append before (count ∷ []) in
-    say_on (tabled containers (front ++ None ∷ rest)) (tabled containers (map some_count (before ++ count ∷ []) ++ rest)) (codes "tables" ∷ decimal class ∷ decimal count ∷ []) (tables_lines (class + 1) after ++ lines)
-    (tables_said containers (front ++ None ∷ rest) (decimal class) (decimal count)
-    ∙ ap (λ (r : Result ℕ Fault). r >>= λ p. tables_at (tabled containers (front ++ None ∷ rest)) p (decimal count)) (class_place_of class place is (omega arith))
-    ∙ table_set containers (front ++ None ∷ rest) place count none range.0 range.1 ∙ ap (λ (l : List (Option ℕ)). good (tabled containers l)) next)
-    ∙ tables_read containers (before ++ count ∷ []) after (class + 1) lines (omega arith) (omega arith) (λ k d low. are (suc k) d (omega arith))
-    ∙ ap (λ (l : List ℕ). statements (tabled containers (map some_count l)) lines) (append_assoc before (count ∷ []) after)
+    say_on (tabled awaits containers (front ++ None ∷ rest)) (tabled awaits containers (map some_count (before ++ count ∷ []) ++ rest)) (codes "tables" ∷ decimal class ∷ decimal count ∷ []) (tables_lines (class + 1) after ++ lines)
+    (tables_said awaits containers (front ++ None ∷ rest) (decimal class) (decimal count)
+    ∙ ap (λ (r : Result ℕ Fault). r >>= λ p. tables_at (tabled awaits containers (front ++ None ∷ rest)) p (decimal count)) (class_place_of class place is (omega arith))
+    ∙ table_set awaits containers (front ++ None ∷ rest) place count none range.0 range.1 ∙ ap (λ (l : List (Option ℕ)). good (tabled awaits containers l)) next)
+    ∙ tables_read awaits containers (before ++ count ∷ []) after (class + 1) lines (omega arith) (omega arith) (λ k d low. are (suc k) d (omega arith))
+    ∙ ap (λ (l : List ℕ). statements (tabled awaits containers (map some_count l)) lines) (append_assoc before (count ∷ []) after)
 
 -- ---- the heap
 
 -- the draft above all threads
 abbrev ready : ScriptParts → Draft
-ready script = record empty_draft { containers = script.containers; tables = map some_count script.tables; heap = Some script.heap }
+ready script = record (headed (has_awaits script.threads)) { containers = script.containers; tables = map some_count script.tables; heap = Some script.heap }
 
-heap_read : (script : ScriptParts) → IsScript script → spoken (tabled script.containers (map some_count script.tables)) (codes "heap" ∷ decimal script.heap ∷ []) ≡ Ok (ready script)
+heap_read : (script : ScriptParts) → IsScript script → spoken (tabled (has_awaits script.threads) script.containers (map some_count script.tables)) (codes "heap" ∷ decimal script.heap ∷ []) ≡ Ok (ready script)
 unfolding statement other_statement unordered_statement plain_statement declaration heap_line
 heap_read script rule =
     let high : script.heap ≤ 4096 = rule.greatest_heap in
@@ -208,6 +224,9 @@ first_known known number all (inr h) = let same : known + 1 ≡ all = h.1 in let
 
 abbrev listed : Option ℕ → List ℕ
 listed o = number_listed o
+
+abbrev some_thread : Thread → Option Thread
+some_thread thread = Some thread
 
 abbrev some_call : Call → Option Call
 some_call called = Some called
@@ -227,12 +246,44 @@ known_after (called ∷ calls) known all number h (suc k, maker, low, at, makes)
     let parts = numbered_split known (call_makes called) (flat_map call_makes calls) all h in
     known_after calls parts.0 all number parts.2 (k, maker, omega arith, at, makes)
 
-next_is_known : (calls before after : List Call) (called : Call) (made : ℕ) → AreMade calls → calls ≡ before ++ called ∷ after → AreNumbered 0 (flat_map call_makes before) made → IsNextKnown made called
-next_is_known calls before after (call.Next number) made are is numbered =
+-- what an `await` names stands above, where these threads do
+abbrev IsReached : ScriptParts → Bool → List Thread → Call → Type 0
+IsReached script awaits threads (call.Await other index) =
+    (awaits ≡ true) × (other < length script.threads) × (1 ≤ index)
+    × (thread_place threads (thread_name script other) ≡ Some other)
+IsReached script awaits threads other = Unit {0}
+
+next_is_known : (script : ScriptParts) (base : Draft) (calls before after : List Call) (called : Call) (made : ℕ) → AreMade calls → calls ≡ before ++ called ∷ after → AreNumbered 0 (flat_map call_makes before) made → IsReached script base.awaits base.threads called → IsKnown script base made called
+next_is_known script base calls before after (call.Next number) made are is numbered reached =
     let here : slice_get calls (length before) ≡ Some (call.Next number) = slice_get-get_or calls (length before) (call.Next number) (within calls before after (call.Next number) is) ∙ ap some_call (at_seam calls before after (call.Next number) (call.Next number) is) in
     let front : take (length before) calls ≡ before = ap (take (length before)) is ∙ take-append_seam before (call.Next number ∷ after) in
     known_after before 0 made number numbered (subst (λ (l : List Call). Any (λ earlier. cursor_of earlier ≡ Some number) l) front (are (length before) number here))
-next_is_known calls before after other made are is numbered = tt
+next_is_known script base calls before after (call.Await other index) made are is numbered reached = reached
+next_is_known script base calls before after other made are is numbered reached = tt
+
+abbrev IsReachedIn : ScriptParts → List Thread → Call → Type 0
+IsReachedIn script threads called = IsReached script (has_awaits script.threads) threads called × (has_awaited threads called ≡ true)
+
+has_index : (found : Option Thread) (named : Thread) (index : ℕ) → found ≡ Some named → IsSomeAnd found (λ (t : Thread). index ≤ length t.calls) → index ≤ length named.calls
+has_index None named index is h = absurd h
+has_index (Some t) named index is h = let same : t ≡ named = cc in subst (λ (u : Thread). index ≤ length u.calls) same h
+
+-- the threads before one are those that it may await
+reached_by : (script : ScriptParts) → IsScript script → (before after : List Thread) (called : Call) → script.threads ≡ before ++ after → IsAwaitOf script.threads (length before) called → MayAwait (has_awaits script.threads) (length script.threads) called → IsReachedIn script before called
+reached_by script rule before after (call.Await other index) is h may =
+    let below : other < length before = h.0 in
+    let d : Thread = record { name = []; cursors = []; calls = [] } in
+    let name : List ℕ = thread_name script other in
+    let same : (k : ℕ) → k < length before → get_or script.threads k d ≡ get_or before k d = λ k low. ap (λ (l : List Thread). get_or l k d) is ∙ get_or_append_left before after d k low in
+    let named : name ≡ (get_or before other d).name = thread_name_at script other d may.1 ∙ ap (λ (t : Thread). t.name) (same other below) in
+    let place : thread_place before name ≡ Some other =
+    position_at (λ (t : Thread). bytes_eq t.name name) before other d below
+    (λ k low. bytes_differ (get_or before k d).name name (λ e. (let under : k < other = low in rule.threads_differ k other d low may.1 (ap (λ (t : Thread). t.name) (same k (omega arith)) ∙ e ∙ named ∙ ap (λ (t : Thread). t.name) (sym (same other below))))))
+    (bytes_same (get_or before other d).name name (sym named)) in
+    let many : index ≤ length (get_or before other d).calls = has_index (slice_get script.threads other) (get_or before other d) index (slice_get-get_or script.threads other d may.1 ∙ ap (λ (t : Thread). some_thread t) (same other below)) h.2 in
+    let had : has_awaited before (call.Await other index) ≡ true = ap (λ (o : Option Thread). option_map_or (λ (t : Thread). leb index (length t.calls)) o false) (slice_get-get_or before other d below) ∙ le-leb index (length (get_or before other d).calls) many in
+    ((may.0, may.1, may.2, place), had)
+reached_by script rule before after called is h may = (tt, refl)
 
 -- ---- calls
 
@@ -258,9 +309,9 @@ told_by draft next word words called None is read = absurd (let bad : ◌≡◌ 
 told_by draft next word words called (Some found) is read = record { found = found; is = is; read = rw is at read }
 
 call_stated : (d e : Draft) (word : List ℕ) (words : List (List ℕ)) (called : Call) (found : CallWord) (depth : ℕ) → bytes_eq word (codes "order") ≡ false → bytes_eq word (codes "thread") ≡ false → is_some d.name ≡ true → length d.order ≡ 0 →
-    call_word_of word ≡ Some found → d.called < 500000 → read_call d found words ≡ Ok (called, e) → depth_after d.depth called ≡ Ok depth → spoken d (word ∷ words) ≡ Ok (record e { calls = e.calls ++ called ∷ []; called = d.called + 1; depth = depth })
+    call_word_of word ≡ Some found → d.called < 500000 → read_call d found words ≡ Ok (called, e) → depth_after d.depth called ≡ Ok depth → has_awaited e.threads called ≡ true → spoken d (word ∷ words) ≡ Ok (record e { calls = e.calls ++ called ∷ []; called = d.called + 1; depth = depth })
 unfolding statement other_statement unordered_statement plain_statement thread_statement call_line counted_call
-call_stated d e word words called found depth order thread named none is low read deep = rw (order, thread, none, named, is, lt-ltb d.called 500000 low, read, deep) refl
+call_stated d e word words called found depth order thread named none is low read deep had = rw (order, thread, none, named, is, lt-ltb d.called 500000 low, read, deep, had) refl
 
 -- the open sections after a call
 next_depth : (depth : ℕ) (called : Call) (calls : List Call) → is_landed_call called ≡ true → AreNested depth (called ∷ calls) → (next : ℕ) × (depth_after depth called ≡ Ok next) × AreNested next calls
@@ -273,7 +324,7 @@ next_depth depth (call.Set place inner) calls landed h = (depth, refl, h)
 next_depth depth (call.Deque place inner) calls landed h = (depth, refl, h)
 next_depth depth (call.Next number) calls landed h = (depth, refl, h)
 next_depth depth call.Quiesce calls landed h = (depth, refl, h)
-next_depth depth (call.Await other index) calls landed h = absurd (false≢true landed)
+next_depth depth (call.Await other index) calls landed h = (depth, rw h.0 refl, h.1)
 next_depth depth call.Dump calls landed h = (depth, refl, h)
 
 -- a thread of the script, at a place below some others
@@ -284,7 +335,7 @@ record IsPlaced (script : ScriptParts) (place : ℕ) (thread : Thread) : Type 0 
   rule : IsThread script thread
   wide : All IsWideCall thread.calls
 
-module _ (script : ScriptParts) (place : ℕ) (thread : Thread) (h : IsPlaced script place thread) (threads : List Thread) where
+module _ (script : ScriptParts) (place : ℕ) (thread : Thread) (h : IsPlaced script place thread) (threads : List Thread) (reached : All (IsReachedIn script threads) thread.calls) where
   abbrev at : List Call → ℕ → ℕ → ℕ → ℕ → Draft
   at calls depth count known made = inside script place threads thread.name calls depth count known made
 
@@ -296,10 +347,11 @@ module _ (script : ScriptParts) (place : ℕ) (thread : Thread) (h : IsPlaced sc
       let landed = holds_at (λ (c : Call). is_landed_call c ≡ true) thread.calls before after called h.rule.landed is in
       let wide = holds_at IsWideCall thread.calls before after called h.wide is in
       let base : Draft = begun script threads thread.name before depth count in
-      let read = call_read script place h.facts base known made next_known next_made called of_script landed wide (next_is_known thread.calls before after called made h.rule.made is numbered) mentioned makes in
+      let above_it = holds_at (IsReachedIn script threads) thread.calls before after called reached is in
+      let read = call_read script place h.facts base known made next_known next_made called of_script landed wide (next_is_known script base thread.calls before after called made h.rule.made is numbered above_it.0) mentioned makes in
       let told = told_by (at before depth count known made) (standing script place base next_known next_made) (call_form called).word (map (argument_text script place) (call_form called).arguments) called (call_word_of (call_form called).word) refl read in
       call_stated (at before depth count known made) (standing script place base next_known next_made) (call_form called).word (map (argument_text script place) (call_form called).arguments) called told.found next
-      (no_other (call_form called).word (codes "order") (told.found, told.is) order_is_none) (no_other (call_form called).word (codes "thread") (told.found, told.is) thread_is_none) refl refl told.is low told.read deep
+      (no_other (call_form called).word (codes "order") (told.found, told.is) order_is_none) (no_other (call_form called).word (codes "thread") (told.found, told.is) thread_is_none) refl refl told.is low told.read deep above_it.1
 
   calls_read : (before after : List Call) (depth count known made all_known all_made : ℕ) (lines : List (List (List ℕ))) → thread.calls ≡ before ++ after → AreNested depth after → count + length after ≤ 500000 → AreNumbered 0 (flat_map call_makes before) made →
       AreNumbered made (flat_map call_makes after) all_made → AreNumbered known (flat_map call_mentions after) all_known →
@@ -343,9 +395,6 @@ calls_of thread = length thread.calls
 calls_in : (threads : List Thread) → sum (map calls_of threads) ≡ sum_by calls_of threads
 calls_in threads = sum-map calls_of threads
 
-abbrev some_thread : Thread → Option Thread
-some_thread thread = Some thread
-
 placed : (script : ScriptParts) → HasText script → (before after : List Thread) (thread : Thread) → script.threads ≡ before ++ thread ∷ after → IsPlaced script (length before) thread
 placed script text before after thread is =
     let low = within script.threads before after thread is in
@@ -357,6 +406,13 @@ placed script text before after thread is =
       rule = holds_at (IsThread script) script.threads before after thread text.rule.threads is;
       wide = holds_at (λ (t : Thread). All IsWideCall t.calls) script.threads before after thread text.wide is;
     }
+
+-- what a thread awaits stands above it
+all_reached : (script : ScriptParts) → IsScript script → (before after : List Thread) (thread : Thread) → script.threads ≡ before ++ thread ∷ after → All (IsReachedIn script before) thread.calls
+all_reached script rule before after thread is k d low =
+    let found : slice_get script.threads (length before) ≡ Some thread = slice_get-get_or script.threads (length before) thread (within script.threads before after thread is) ∙ ap some_thread (at_seam script.threads before after thread thread is) in
+    let called : Call = get_or thread.calls k d in
+    reached_by script rule before (thread ∷ after) called is (rule.awaits (length before) thread found k d low) (script_awaits script (length before) k thread called rule found (slice_get-get_or thread.calls k d low))
 
 -- the lines of some threads are read, and leave a draft that ends with them
 record AreRead (script : ScriptParts) (d : Draft) (lines rest : List (List (List ℕ))) : Type 0 where
@@ -396,7 +452,7 @@ threads_read script text before (thread ∷ after) place d known count rest is h
       read =
           ap (statements d) (append_assoc (thread_lines script place thread) more rest)
           ∙ say_on d (inside script place before thread.name [] 0 count known 0) (codes "thread" ∷ thread.name ∷ []) (map (call_words script place) thread.calls ++ (more ++ rest)) (thread_begins script d place before thread.name known count ended at.rule.name new (omega arith))
-          ∙ calls_read script place thread at before [] thread.calls 0 count known 0 strings.0 (length thread.cursors) (more ++ rest) refl at.rule.nested (omega arith) refl made strings.1
+          ∙ calls_read script place thread at before (all_reached script text.rule before after thread is) [] thread.calls 0 count known 0 strings.0 (length thread.cursors) (more ++ rest) refl at.rule.nested (omega arith) refl made strings.1
           ∙ others.read;
     }
 
@@ -451,14 +507,16 @@ all_read script text =
     let heap : List (List ℕ) = codes "heap" ∷ decimal script.heap ∷ [] in
     let few : sum_by calls_of script.threads ≤ 500000 = (let most : sum (map calls_of script.threads) ≤ 500000 = rule.few_calls in let same = calls_in script.threads in omega arith) in
     let classes : length script.tables ≡ 14 = rule.classes in
+    let awaits : Bool = has_awaits script.threads in
     let of_threads = threads_read script text [] script.threads 0 (ready script) 0 0 order refl refl (first_ends script) text.mentioned (omega arith) in
     record {
       count = of_threads.count;
       read =
-          containers_read script rule [] script.containers (tables_lines 3 script.tables ++ heap ∷ (threads ++ order)) refl
-          ∙ ap (λ (n : ℕ). statements (tabled script.containers (replicate n None)) (tables_lines 3 script.tables ++ heap ∷ (threads ++ order))) (sym classes)
-          ∙ tables_read script.containers [] script.tables 3 (heap ∷ (threads ++ order)) refl (omega arith) rule.tables
-          ∙ say_on (tabled script.containers (map some_count script.tables)) (ready script) heap (threads ++ order) (heap_read script rule)
+          version_read awaits (map container_words script.containers ++ (tables_lines 3 script.tables ++ heap ∷ (threads ++ order)))
+          ∙ containers_read awaits script rule [] script.containers (tables_lines 3 script.tables ++ heap ∷ (threads ++ order)) refl
+          ∙ ap (λ (n : ℕ). statements (tabled awaits script.containers (replicate n None)) (tables_lines 3 script.tables ++ heap ∷ (threads ++ order))) (sym classes)
+          ∙ tables_read awaits script.containers [] script.tables 3 (heap ∷ (threads ++ order)) refl (omega arith) rule.tables
+          ∙ say_on (tabled awaits script.containers (map some_count script.tables)) (ready script) heap (threads ++ order) (heap_read script rule)
           ∙ of_threads.read
           ∙ order_read script of_threads.count of_threads.next script.order rule of_threads.ended refl;
     }
@@ -491,6 +549,10 @@ kind_plain kind.Dict = plain_word (codes "dict") (refl, refl, refl)
 kind_plain kind.List = plain_word (codes "list") (refl, refl, refl)
 kind_plain kind.Set = plain_word (codes "set") (refl, refl, refl)
 kind_plain (kind.Deque bound) = plain_word (codes "deque") (refl, refl, refl)
+
+versions_say : (awaits : Bool) → AreSaying (version_lines awaits)
+versions_say false = tt
+versions_say true = ((plain_word (codes "version") (refl, refl, refl), (plain_word (codes "2") (refl, refl, refl), tt)), tt)
 
 containers_say : (containers : List Declaration) → AllByRecursion (λ container. is_container_name container.name ≡ true) containers → AreSaying (map container_words containers)
 containers_say [] h = tt
@@ -535,14 +597,15 @@ script_says script text =
     let classes : length script.tables ≡ 14 = rule.classes in
     let rest : List (List (List ℕ)) = threads_lines script 0 script.threads ++ order_lines script script.order in
     let heap : List (List ℕ) = codes "heap" ∷ decimal script.heap ∷ [] in
-    saying_append (map container_words script.containers) (tables_lines 3 script.tables ++ heap ∷ rest)
+    saying_append (version_lines (has_awaits script.threads)) (map container_words script.containers ++ (tables_lines 3 script.tables ++ heap ∷ rest)) (versions_say (has_awaits script.threads))
+    (saying_append (map container_words script.containers) (tables_lines 3 script.tables ++ heap ∷ rest)
     (containers_say script.containers (recursion_from_All (λ container. is_container_name container.name ≡ true) script.containers rule.container_names))
     (saying_append (tables_lines 3 script.tables) (heap ∷ rest)
     (tables_say 3 script.tables (omega arith) (recursion_from_All (λ count. (1 ≤ count) × (count ≤ 1024)) script.tables rule.tables)) (
       (plain_word (codes "heap") (refl, refl, refl), (plain_word (decimal script.heap) (decimal_plain script.heap (omega arith)), tt)),
       saying_append (threads_lines script 0 script.threads) (order_lines script script.order) (threads_say script text [] script.threads 0 refl refl)
           (order_says script rule script.order (recursion_from_All (λ turn. turn < length script.threads) script.order rule.turns)),
-    ))
+    )))
 
 abbrev whole_script : ScriptParts → Result ScriptParts ScriptFault
 whole_script script = Ok script

@@ -12,7 +12,7 @@ use Rattle.ft_script.specs.declared.fault.Fault.{Fault}
 use Rattle.ft_script.specs.declared.fault.LineError.{LineError}
 use Rattle.ft_script.specs.declared.fault.LineError.TheVariants as error
 use Rattle.ft_script.specs.Internal.Candidates.{only_call}
-use Rattle.ft_script.specs.Drafts.{draft_at, empty_draft}
+use Rattle.ft_script.specs.Drafts.{draft_at, draft_with_all}
 use Rattle.ft_script.specs.Internal.Outcomes.{Gives, GivesWithDraft}
 use Rattle.ft_script.specs.Internal.Readers.{IsReaderOf, IsUnchanged}
 
@@ -32,7 +32,7 @@ cursors_at script draft cursors thread inside e h low is =
 draft_by : (script : ScriptParts) (draft : Draft) (cursors : List (List (List ℕ))) (thread : ℕ) (inside : List (List ℕ)) → IsReaderOf script draft cursors → inside ≡ (draft_at script thread).cursors → record draft { cursors = inside } ≡ draft_at script thread
 draft_by script draft cursors thread inside h is =
     ap (λ (d : Draft). let with : Draft = record d { cursors = inside } in with) h.draft_is
-    ∙ ap (λ (l : List (List ℕ)). let with : Draft = record empty_draft { containers = script.containers; strings = script.strings; cursors = l } in with) is
+    ∙ ap (λ (l : List (List ℕ)). let with : Draft = record (draft_with_all script) { cursors = l } in with) is
 
 ap_reads : (s : Result Call LineError) (n : Draft) (f : Draft → Result (Call × Draft) Fault) (a b : Draft) → a ≡ b → GivesWithDraft s n (f a) → GivesWithDraft s n (f b)
 ap_reads (Ok called) n f a b e g = ap f (sym e) ∙ g
@@ -60,7 +60,7 @@ draft_kept script draft new cursors thread inside e back last (Ok called) read h
     let left : new ≡ draft_at script thread = ap (λ (p : Call × Draft). p.1) one in
     let none : back ≡ [] = back_is ∙ ap (λ (d : Draft). d.cursors) h.draft_is in
     record {
-      draft_is = ap (λ (d : Draft). let with : Draft = record d { cursors = back } in with) left ∙ ap (λ (l : List (List ℕ)). let with : Draft = record empty_draft { containers = script.containers; strings = script.strings; cursors = l } in with) none;
+      draft_is = ap (λ (d : Draft). let with : Draft = record d { cursors = back } in with) left ∙ ap (λ (l : List (List ℕ)). let with : Draft = record (draft_with_all script) { cursors = l } in with) none;
       cursors_are =
           let mine : last ≡ get_or cursors thread e = last_is ∙ ap (λ (d : Draft). d.cursors) left ∙ sym own ∙ is in
           ap (set cursors thread) mine ∙ set-get_or cursors thread e ∙ h.cursors_are;

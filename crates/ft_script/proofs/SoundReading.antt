@@ -1,9 +1,10 @@
 -- What is read of tokens is of the script, and no number of it is too great.
-use Rattle.std.proofs.Common.{◌≡◌, ℕ, pos, negsuc, ◌-◌, ◌^◌, ◌<◌, ◌≤◌, Bool, true, false, ltb, leb, ◌&&◌, List, [], ◌∷◌, length, Option, Some, None, Result, Ok, Err, refl, sym, ◌∙◌, arith}
+use Rattle.std.proofs.Common.{◌≡◌, ℕ, pos, negsuc, ◌-◌, ◌^◌, ◌<◌, ◌≤◌, Bool, true, false, ltb, leb, ◌&&◌, List, [], ◌∷◌, length, Option, Some, None, Result, Ok, Err, refl, sym, ◌∙◌, subst, arith}
 use Rattle.std.specs.Prelude.{All, IfOk, IfSome, codes}
 use Rattle.std.specs.Str.{bytes_eq}
 use Rattle.std.specs.Str.Parse.{digits_value}
 use Rattle.std.proofs.lemmas.Bool.{and_parts, leb-true, ltb-true}
+use Rattle.std.proofs.lemmas.List.{length-map}
 use Rattle.std.proofs.lemmas.List.Elements.{All-nil, All-cons}
 use Rattle.ft_model.specs.declared.data.Key.{Key}
 use Rattle.ft_model.specs.declared.data.Key.TheVariants as key
@@ -24,12 +25,15 @@ use Rattle.ft_script.specs.declared.fault.Fault.TheVariants as fault
 use Rattle.ft_script.specs.declared.reply_words.ReplyWord.{ReplyWord}
 use Rattle.ft_script.specs.declared.reply_words.ReplyWord.TheVariants as word
 use Rattle.ft_script.specs.Arguments.{read_index}
+use Rattle.ft_script.specs.Awaits.{MayAwait, has_awaits}
 use Rattle.ft_script.specs.Internal.Candidates.{is_decimal, natural_in, read_u64, read_u32, known_key, known_value, known_pair, read_each, read_pairs, read_reply_word, read_suspended, read_runtime_error, read_class_error, read_memory_error, has_pairs, read_braced, but_last, worded_reply, counted_reply, shown_reply, first_reply, read_reply, read_thread, read_numbered, read_stamp, read_waited, thread_call, read_entry, read_content}
-use Rattle.ft_script.specs.Drafts.{or_fault, text_place, thread_place, container_place}
+use Rattle.ft_script.specs.Drafts.{draft_at, only_named, or_fault, text_place, thread_place, container_place}
+use Rattle.ft_script.specs.ScriptLines.{just_call}
 use Rattle.ft_script.specs.Transcripts.{counts, IsWideKey, IsWideValue, IsWideReply, IsReadableReply}
 use Rattle.ft_script.specs.LineWords.{is_wide, is_string, text_of}
 use Rattle.ft_script.proofs.Kept.{bind_holds, cond_holds, or_holds, anything, index_keeps}
 use Rattle.ft_script.proofs.DistinctNames.{place_within}
+use Rattle.ft_script.proofs.KeptAwaits.{call_awaits}
 use Rattle.ft_script.proofs.NumberLemmas.{natural_by}
 
 -- ---- numbers
@@ -215,6 +219,7 @@ pub record EntryFits (script : ScriptParts) (entry : Entry) : Type 0 where
   pub thread : entry.thread < length script.threads
   pub index : entry.index < 2 ^ 32
   pub stamp : entry.stamp < 2 ^ 64
+  pub awaited : MayAwait (has_awaits script.threads) (length script.threads) entry.call
   pub reply : ReplyFits script.strings (counts entry.call) entry.reply
   pub waited : IfSome entry.waited (λ thread. thread < length script.threads)
 
@@ -242,6 +247,15 @@ unfolding read_waited
 waited_sound script [] = tt
 waited_sound script (name ∷ more) = bind_holds (read_thread script name) _ (λ thread. thread < length script.threads) (Waited script) (thread_sound script name) (λ thread low. low)
 
+-- an `await` is read only where the script has one, and names a thread of the script
+call_sound : (script : ScriptParts) (thread : ℕ) (words : List (List ℕ)) → IfOk (thread_call script thread words) (MayAwait (has_awaits script.threads) (length script.threads))
+unfolding thread_call
+call_sound script thread words =
+    let allowed : Bool = has_awaits script.threads in
+    let of_names = call_awaits (draft_at script thread) words in
+    bind_holds (just_call (draft_at script thread) words) _ (λ both. MayAwait allowed (length script.threads) both.0) (MayAwait allowed (length script.threads))
+    (subst (λ (n : ℕ). IfOk (just_call (draft_at script thread) words) (λ both. MayAwait allowed n both.0)) (length-map script.threads only_named) of_names) (λ both h. h)
+
 pub entry_sound : (script : ScriptParts) (tokens : List (List ℕ)) → IfOk (read_entry script tokens) (EntryFits script)
 unfolding read_entry
 entry_sound script [] = tt
@@ -249,10 +263,10 @@ entry_sound script (one ∷ []) = tt
 entry_sound script (place ∷ stamp ∷ words) =
     bind_holds _ _ (Numbered script) (EntryFits script) (numbered_sound script place) (λ numbered n.
     bind_holds _ _ Stamped (EntryFits script) (stamp_sound stamp) (λ stamped s.
-    bind_holds (thread_call script numbered.0 _) _ (λ _. Unit {0}) (EntryFits script) (anything (thread_call script numbered.0 _)) (λ called _.
+    bind_holds (thread_call script numbered.0 _) _ (MayAwait (has_awaits script.threads) (length script.threads)) (EntryFits script) (call_sound script numbered.0 _) (λ called a.
     bind_holds _ _ (ReplyFits script.strings (counts called)) (EntryFits script) (reply_sound script.strings (counts called) _) (λ said r.
     bind_holds _ _ (Waited script) (EntryFits script) (waited_sound script _) (λ waited w.
-    record { thread = n.0; index = n.1; stamp = s; reply = r; waited = w })))))
+    record { thread = n.0; index = n.1; stamp = s; awaited = a; reply = r; waited = w })))))
 
 pub record ContentFits (script : ScriptParts) (read : ℕ × Reply) : Type 0 where
   pub container : read.0 < length script.containers

@@ -1,6 +1,8 @@
 -- The words after the word of a call, read from left to right. (profile)
-use Rattle.std.specs.Prelude.{ℕ, ℤ, Bool, true, false, nat_lt, List, [], ◌∷◌, ◌++◌, length, slice_get, codes, Option, option_map, Some, None, Result, Ok, Err, if◌then◌else◌}
+use Rattle.std.specs.Prelude.{ℕ, ℤ, ◌^◌, Bool, true, false, ◌==◌, ◌&&◌, nat_lt, List, [], ◌∷◌, ◌++◌, length, slice_get, codes, Option, option_map, Some, None, Result, Ok, Err, if◌then◌else◌}
+use Rattle.std.specs.List.{before_first, after_first}
 use Rattle.std.specs.Str.{bytes_eq}
+use Rattle.std.specs.Str.Parse.{digits_value}
 use Rattle.ft_model.specs.Limits.{most_cursors, most_string_bytes, most_strings}
 use Rattle.ft_model.specs.declared.data.Key.{Key}
 use Rattle.ft_model.specs.declared.data.Key.TheVariants as key
@@ -9,13 +11,13 @@ use Rattle.ft_model.specs.declared.data.Value.TheVariants as value
 use Rattle.ft_model.specs.declared.script.Kind.{Kind}
 use Rattle.ft_model.specs.declared.script.Kind.TheVariants as kind
 use Rattle.ft_model.specs.Keys.{as_value}
-use Rattle.ft_model.specs.Names.{is_container_name}
+use Rattle.ft_model.specs.Names.{is_container_name, is_thread_name}
 use Rattle.ft_script.specs.Drafts.{Draft}
 use Rattle.ft_script.specs.declared.fault.Fault.{Fault}
 use Rattle.ft_script.specs.declared.fault.Fault.TheVariants as fault
 use Rattle.ft_script.specs.declared.fault.Which.TheVariants as which
-use Rattle.ft_script.specs.LineWords.{integer_of, is_string, text_of}
-use Rattle.ft_script.specs.Drafts.{◌>>=◌, or_fault, container_place, text_place}
+use Rattle.ft_script.specs.LineWords.{integer_of, is_positive, is_string, text_of}
+use Rattle.ft_script.specs.Drafts.{◌>>=◌, or_fault, container_place, text_place, thread_place}
 
 -- ---- words
 
@@ -164,3 +166,22 @@ unfoldable pub just_section : Draft → List (List ℕ) → Result (ℕ × Optio
 just_section draft (name ∷ []) = read_container draft name >>= λ first. Ok (first, None)
 just_section draft (name ∷ other ∷ []) = read_two_containers draft name other
 just_section draft others = Err fault.WordCount
+
+-- ---- awaits
+
+-- the index below 2^32 that digits are; there is no call of a greater one
+unfoldable pub read_call_index : List ℕ → Result ℕ Fault
+read_call_index digits =
+    if nat_lt (digits_value 10 digits) (2 ^ 32) then Ok (digits_value 10 digits) else Err fault.Await
+
+-- the call that a word names: the name of a thread that stands above, a dot, and the index from 1
+unfoldable pub read_awaited : Draft → List ℕ → Result (ℕ × ℕ) Fault
+read_awaited draft word =
+    if is_thread_name (before_first (λ b. b == 46) word) && is_positive (after_first (λ b. b == 46) word)
+    then (or_fault fault.Await (thread_place draft.threads (before_first (λ b. b == 46) word)) >>= λ thread.
+    read_call_index (after_first (λ b. b == 46) word) >>= λ index. Ok (thread, index))
+    else Err fault.Name
+
+unfoldable pub just_awaited : Draft → List (List ℕ) → Result (ℕ × ℕ) Fault
+just_awaited draft (word ∷ []) = read_awaited draft word
+just_awaited draft others = Err fault.WordCount

@@ -5,7 +5,7 @@ use Rattle.std.specs.Str.{bytes_eq}
 use Rattle.ft_script.specs.declared.call_words.Operation.{Operation}
 use Rattle.ft_script.specs.declared.call_words.Operation.TheVariants as of
 use Rattle.ft_script.specs.declared.call_words.CallWord.{CallWord}
-use Rattle.ft_script.specs.declared.call_words.CallWord.TheVariants.{Next, Begin, End, Quiesce, On}
+use Rattle.ft_script.specs.declared.call_words.CallWord.TheVariants.{Next, Begin, End, Quiesce, Await, On}
 
 abbrev pub operation_text : Operation → List ℕ
 operation_text of.Get = codes "get"
@@ -46,11 +46,12 @@ call_word_text Next = codes "next"
 call_word_text Begin = codes "begin"
 call_word_text End = codes "end"
 call_word_text Quiesce = codes "quiesce"
+call_word_text Await = codes "await"
 call_word_text (On operation) = operation_text operation
 
 abbrev pub all_call_words : List CallWord
 all_call_words =
-    Next ∷ Begin ∷ End ∷ Quiesce ∷ On of.Get ∷ On of.GetOr ∷ On of.Set ∷ On of.Del ∷ On of.Pop ∷ On of.PopOr
+    Next ∷ Begin ∷ End ∷ Quiesce ∷ Await ∷ On of.Get ∷ On of.GetOr ∷ On of.Set ∷ On of.Del ∷ On of.Pop ∷ On of.PopOr
     ∷ On of.PopItem ∷ On of.SetDefault ∷ On of.Has ∷ On of.Len ∷ On of.Items ∷ On of.Update ∷ On of.Clear
     ∷ On of.CopyTo ∷ On of.Eq ∷ On of.Iter ∷ On of.Append ∷ On of.Insert ∷ On of.Remove ∷ On of.Index
     ∷ On of.Count ∷ On of.Reverse ∷ On of.Extend ∷ On of.Slice ∷ On of.Add ∷ On of.Discard ∷ On of.Or ∷ On of.And

@@ -1,5 +1,5 @@
 -- What the lines above a place say, and what names and strings stand for there. (profile)
-use Rattle.std.specs.Prelude.{ℕ, ◌==◌, List, [], ◌∷◌, ◌++◌, map, replicate, position, slice_get, Option, Some, None, Result, Ok, Err, if◌then◌else◌}
+use Rattle.std.specs.Prelude.{ℕ, Bool, false, ◌==◌, List, [], ◌∷◌, ◌++◌, map, replicate, position, slice_get, Option, Some, None, Result, Ok, Err, if◌then◌else◌}
 use Rattle.std.specs.Option.{unwrap_or, option_map_or}
 use Rattle.std.specs.List.{zip}
 use Rattle.std.specs.Str.{bytes_eq}
@@ -9,6 +9,7 @@ use Rattle.ft_model.specs.declared.call.Call.{Call}
 use Rattle.ft_model.specs.declared.script.Declaration.{Declaration}
 use Rattle.ft_model.specs.declared.script.Thread.{Thread}
 use Rattle.ft_model.specs.declared.script.ScriptParts.{ScriptParts}
+use Rattle.ft_script.specs.Awaits.{has_awaits}
 use Rattle.ft_script.specs.declared.fault.Fault.{Fault}
 use Rattle.ft_script.specs.declared.fault.Fault.TheVariants as fault
 
@@ -16,6 +17,8 @@ use Rattle.ft_script.specs.declared.fault.Fault.TheVariants as fault
 
 -- what the lines above a place say
 pub record Draft : Type 0 where
+  -- whether `version 2` stands above, so that threads may await others
+  pub awaits : Bool
   pub containers : List Declaration
   -- the numbers of tables that lines name, from class 3 on, and of places in the heap
   pub tables : List (Option ℕ)
@@ -61,6 +64,7 @@ text_place texts text = position (λ other. bytes_eq text other) texts
 -- nothing is declared
 abbrev pub empty_draft : Draft
 empty_draft = record {
+  awaits = false;
   containers = [];
   tables = replicate class_count None;
   heap = None;
@@ -74,12 +78,24 @@ empty_draft = record {
   order = [];
 }
 
--- what stands above the calls of a script's thread, where it declares all that the script and the thread have
+-- a thread's name, without its cursors and calls
+abbrev pub only_named : Thread → Thread
+only_named thread = record { name = thread.name; cursors = []; calls = [] }
+
+-- what declares all that a script has, but for the calls of its threads
+abbrev pub draft_with_all : ScriptParts → Draft
+draft_with_all script =
+    record empty_draft {
+      awaits = has_awaits script.threads;
+      containers = script.containers;
+      threads = map only_named script.threads;
+      strings = script.strings;
+    }
+
+-- and the cursors of a thread
 abbrev pub draft_at : ScriptParts → ℕ → Draft
 draft_at script thread =
-    record empty_draft {
-      containers = script.containers;
-      strings = script.strings;
+    record (draft_with_all script) {
       cursors = option_map_or (λ found. found.cursors) (slice_get script.threads thread) [];
     }
 

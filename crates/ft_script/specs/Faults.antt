@@ -25,6 +25,7 @@ fault_kind fault.BeginWithoutEnd = 10
 fault_kind fault.TooDeep = 11
 fault_kind (fault.Limit limit) = 12
 fault_kind fault.OrderName = 13
+fault_kind fault.Await = 15
 
 abbrev pub which_of : Fault → Option Which
 which_of fault.Encoding = None
@@ -40,6 +41,7 @@ which_of fault.BeginWithoutEnd = None
 which_of fault.TooDeep = None
 which_of (fault.Limit limit) = Some limit
 which_of fault.OrderName = None
+which_of fault.Await = None
 
 -- a fault at a line
 abbrev pub fault_at : ℕ → Fault → ScriptFault
@@ -77,4 +79,5 @@ kind_text kind limit =
     if kind == 11 then codes "section too deep" else (
     if kind == 12 then some_limit_text limit else (
     if kind == 13 then codes "order name" else (
-    if kind == 14 then codes "want of memory" else [])))))))))))))
+    if kind == 14 then codes "want of memory" else (
+    if kind == 15 then codes "await" else []))))))))))))))

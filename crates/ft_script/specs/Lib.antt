@@ -8,6 +8,7 @@ pub mod LineWords
 pub mod CallWords
 pub mod Drafts
 pub mod Arguments
+pub mod Awaits
 pub mod ScriptLines
 pub mod ReadScripts
 pub mod Transcripts

@@ -1,5 +1,6 @@
 -- Which script the lines of a text are, or which fault they have first. (profile)
-use Rattle.std.specs.Prelude.{ℕ, ℤ, ◌+◌, ◌-◌, ◌%◌, Bool, false, not, ◌==◌, ◌&&◌, nat_lt, pos, int_le, List, [], ◌∷◌, ◌++◌, length, slice_get, slice_set, codes, Option, Some, None, Result, Ok, Err, if◌then◌else◌}
+use Rattle.std.specs.Prelude.{ℕ, ℤ, ◌+◌, ◌-◌, ◌%◌, Bool, true, false, not, ◌==◌, ◌&&◌, nat_lt, pos, int_le, List, [], ◌∷◌, ◌++◌, length, slice_get, slice_set, codes, Option, Some, None, Result, Ok, Err, if◌then◌else◌}
+use Rattle.std.specs.List.{list_any}
 use Rattle.std.specs.Str.{bytes_eq}
 use Rattle.std.specs.Option.{is_some}
 use Rattle.ft_model.specs.Limits.{heap_step, most_calls, most_containers, most_heap, most_sections, most_tables, most_threads, most_turns}
@@ -16,18 +17,19 @@ use Rattle.ft_model.specs.declared.script.Kind.TheVariants as kind
 use Rattle.ft_model.specs.Names.{is_container_name, is_thread_name}
 use Rattle.ft_model.specs.Classes.{least_class, greatest_class}
 use Rattle.ft_script.specs.declared.call_words.CallWord.{CallWord}
-use Rattle.ft_script.specs.declared.call_words.CallWord.TheVariants.{Next, Begin, End, Quiesce, On}
+use Rattle.ft_script.specs.declared.call_words.CallWord.TheVariants.{Next, Begin, End, Quiesce, Await, On}
 use Rattle.ft_script.specs.declared.call_words.Operation.{Operation}
 use Rattle.ft_script.specs.declared.call_words.Operation.TheVariants as of
 use Rattle.ft_script.specs.Drafts.{Draft}
 use Rattle.ft_script.specs.declared.fault.Fault.{Fault}
 use Rattle.ft_script.specs.declared.fault.Fault.TheVariants as fault
 use Rattle.ft_script.specs.declared.fault.Which.TheVariants as which
+use Rattle.ft_script.specs.Awaits.{has_awaited}
 use Rattle.ft_script.specs.LineWords.{natural_of}
 use Rattle.ft_script.specs.CallWords.{call_word_of}
 use Rattle.ft_script.specs.Lines.{words_of, is_comment, ends_thread}
 use Rattle.ft_script.specs.Drafts.{◌>>=◌, or_fault, container_place, thread_place, end_thread}
-use Rattle.ft_script.specs.Arguments.{read_index, read_container, kind_at, just_nothing, just_key, just_key_and_value, just_value, just_index, just_some_index, just_two_indices, just_index_and_value, just_other, just_made_cursor, just_cursor, just_section}
+use Rattle.ft_script.specs.Arguments.{read_index, read_container, kind_at, just_nothing, just_key, just_key_and_value, just_value, just_index, just_some_index, just_two_indices, just_index_and_value, just_other, just_made_cursor, just_cursor, just_section, just_awaited}
 
 -- ---- calls
 
@@ -161,6 +163,9 @@ read_call draft Next words = just_cursor draft words >>= λ cursor. Ok (call.Nex
 read_call draft Begin words = just_section draft words >>= λ both. Ok (call.Begin both.0 both.1, draft)
 read_call draft End words = just_nothing words >>= λ _. Ok (call.End, draft)
 read_call draft Quiesce words = just_nothing words >>= λ _. Ok (call.Quiesce, draft)
+read_call draft Await words =
+    if draft.awaits then (just_awaited draft words >>= λ named. Ok (call.Await named.0 named.1, draft))
+    else Err fault.UnknownWord
 read_call draft (On operation) words = container_call draft operation words
 
 -- the call that all words of a line are, and the draft after it
@@ -168,7 +173,7 @@ unfoldable pub just_call : Draft → List (List ℕ) → Result (Call × Draft) 
 just_call draft [] = Err fault.WordCount
 just_call draft (word ∷ words) = or_fault fault.UnknownWord (call_word_of word) >>= λ found. read_call draft found words
 
--- the open sections after a call, of which there are no more than there may be
+-- the open sections after a call, of which there are no more than there may be, and none where a thread awaits
 unfoldable pub depth_after : ℕ → Call → Result ℕ Fault
 depth_after depth (call.Begin first second) = if nat_lt depth most_sections then Ok (depth + 1) else Err fault.TooDeep
 depth_after depth call.End = if depth == 0 then Err fault.EndWithoutBegin else Ok (depth - 1)
@@ -178,20 +183,27 @@ depth_after depth (call.Set container set_call) = Ok depth
 depth_after depth (call.Deque container deque_call) = Ok depth
 depth_after depth (call.Next cursor) = Ok depth
 depth_after depth call.Quiesce = Ok depth
-depth_after depth (call.Await thread index) = Ok depth
+depth_after depth (call.Await thread index) = if depth == 0 then Ok depth else Err fault.Await
 depth_after depth call.Dump = Ok depth
+
+-- a call more; what it awaits is a call of a thread that stands above
+abbrev pub added_call : Draft → Call × Draft → ℕ → Result Draft Fault
+added_call draft read depth =
+    if has_awaited read.1.threads read.0
+    then Ok (record read.1 { calls = read.1.calls ++ read.0 ∷ []; called = draft.called + 1; depth = depth })
+    else Err fault.Await
 
 -- the line of a call that isn't one too many
 unfoldable pub counted_call : Draft → CallWord → List (List ℕ) → Result Draft Fault
 counted_call draft word words = do
   read ← read_call draft word words
   depth ← depth_after draft.depth read.0
-  Ok (record read.1 { calls = read.1.calls ++ read.0 ∷ []; called = draft.called + 1; depth = depth })
+  added_call draft read depth
 
--- of a call that is one too many only a wrong count of words is reported before that
+-- of a call that is one too many only an unknown word and a wrong count of words are reported before that
 abbrev pub limit_fault : Fault → Fault
 limit_fault fault.Encoding = fault.Limit which.Calls
-limit_fault fault.UnknownWord = fault.Limit which.Calls
+limit_fault fault.UnknownWord = fault.UnknownWord
 limit_fault fault.WordCount = fault.WordCount
 limit_fault fault.Number = fault.Limit which.Calls
 limit_fault fault.String = fault.Limit which.Calls
@@ -203,6 +215,7 @@ limit_fault fault.BeginWithoutEnd = fault.Limit which.Calls
 limit_fault fault.TooDeep = fault.Limit which.Calls
 limit_fault (fault.Limit limit) = fault.Limit which.Calls
 limit_fault fault.OrderName = fault.Limit which.Calls
+limit_fault fault.Await = fault.Limit which.Calls
 
 abbrev pub past_limit : Result (Call × Draft) Fault → Result Draft Fault
 past_limit (Ok read) = Err (fault.Limit which.Calls)
@@ -264,6 +277,22 @@ heap_line draft (count ∷ []) =
     else Err (fault.Limit which.Heap))
 heap_line draft others = Err fault.WordCount
 
+-- whether no line above says anything
+abbrev pub is_first : Draft → Bool
+is_first draft =
+    not draft.awaits && (length draft.containers == 0) && not (list_any is_some draft.tables) && not (is_some draft.heap)
+
+-- `version 2`
+unfoldable pub version_line : Draft → List (List ℕ) → Result Draft Fault
+version_line draft (word ∷ []) =
+    if bytes_eq word (codes "2") then Ok (record draft { awaits = true }) else Err fault.Number
+version_line draft others = Err fault.WordCount
+
+-- a line that isn't a declaration: it says the version, if it is the first that says anything
+unfoldable pub first_line : Draft → List ℕ → List (List ℕ) → Result Draft Fault
+first_line draft word words =
+    if bytes_eq word (codes "version") && is_first draft then version_line draft words else Err fault.UnknownWord
+
 -- the lines above all threads
 unfoldable pub declaration : Draft → List ℕ → List (List ℕ) → Result Draft Fault
 declaration draft word words =
@@ -271,7 +300,7 @@ declaration draft word words =
     if bytes_eq word (codes "list") then container_line draft kind.List words else (
     if bytes_eq word (codes "set") then container_line draft kind.Set words else (
     if bytes_eq word (codes "tables") then tables_line draft words else (
-    if bytes_eq word (codes "heap") then heap_line draft words else Err fault.UnknownWord))))
+    if bytes_eq word (codes "heap") then heap_line draft words else first_line draft word words))))
 
 -- ---- threads and their order
 

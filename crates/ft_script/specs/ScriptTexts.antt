@@ -1,5 +1,5 @@
 -- The text of a script, which scripts have one, and what the lines of a text say. (profile)
-use Rattle.std.specs.Prelude.{◌≡◌, ◌⊎◌, ℕ, ◌+◌, ◌<◌, true, List, [], ◌∷◌, ◌++◌, length, map, All, codes, Option, option_map, Some, None, if◌then◌else◌}
+use Rattle.std.specs.Prelude.{◌≡◌, ◌⊎◌, ℕ, ◌+◌, ◌<◌, Bool, true, false, List, [], ◌∷◌, ◌++◌, length, map, All, codes, Option, option_map, Some, None, if◌then◌else◌}
 use Rattle.std.specs.List.{flat_map}
 use Rattle.std.specs.Fmt.{decimal}
 use Rattle.ft_model.specs.declared.data.Key.{Key}
@@ -14,6 +14,7 @@ use Rattle.ft_model.specs.declared.script.Thread.{Thread}
 use Rattle.ft_model.specs.declared.script.ScriptParts.{ScriptParts}
 use Rattle.ft_model.specs.Classes.{least_class}
 use Rattle.ft_model.specs.Scripts.{IsScript, cursor_of}
+use Rattle.ft_script.specs.Awaits.{has_awaits}
 use Rattle.ft_script.specs.declared.forms.Argument.{Argument}
 use Rattle.ft_script.specs.declared.forms.Argument.TheVariants as argument
 use Rattle.ft_script.specs.Forms.{call_form}
@@ -28,6 +29,11 @@ kind_word kind.Dict = codes "dict"
 kind_word kind.List = codes "list"
 kind_word kind.Set = codes "set"
 kind_word (kind.Deque bound) = codes "deque"
+
+-- the line of the version, where a thread awaits another
+abbrev pub version_lines : Bool → List (List (List ℕ))
+version_lines false = []
+version_lines true = (codes "version" ∷ codes "2" ∷ []) ∷ []
 
 -- the words of a container's line
 abbrev pub container_words : Declaration → List (List ℕ)
@@ -54,12 +60,14 @@ abbrev pub order_lines : ScriptParts → List ℕ → List (List (List ℕ))
 order_lines script [] = []
 order_lines script (turn ∷ turns) = (codes "order" ∷ map (thread_name script) (turn ∷ turns)) ∷ []
 
--- the words of all lines: the containers, the numbers of tables and of places in each heap, the threads, the order
+-- the words of all lines: the version, the containers, the numbers of tables and of places in each heap, the threads,
+-- the order
 abbrev pub script_lines : ScriptParts → List (List (List ℕ))
 script_lines script =
-    map container_words script.containers ++ (tables_lines least_class script.tables
+    version_lines (has_awaits script.threads)
+    ++ (map container_words script.containers ++ (tables_lines least_class script.tables
     ++ (codes "heap" ∷ decimal script.heap ∷ []) ∷ (threads_lines script 0 script.threads
-    ++ order_lines script script.order))
+    ++ order_lines script script.order)))
 
 abbrev pub script_text : ScriptParts → List ℕ
 script_text script = flat_map line (script_lines script)

@@ -23,6 +23,7 @@ use Rattle.ft_model.specs.declared.script.ScriptParts.{ScriptParts}
 use Rattle.ft_model.specs.Landed.{is_landed_call}
 use Rattle.ft_model.specs.Parts.{IsEntryOf, IsReplyOf}
 use Rattle.ft_model.specs.Classes.{least_class, greatest_class}
+use Rattle.ft_script.specs.Awaits.{MayAwait, has_awaits}
 use Rattle.ft_script.specs.declared.forms.Argument.{Argument}
 use Rattle.ft_script.specs.declared.forms.Argument.TheVariants as argument
 use Rattle.ft_script.specs.Forms.{call_form}
@@ -144,16 +145,16 @@ IsWideValue value.Nothing = Unit {0}
 IsWideValue (value.Int n) = is_wide n ≡ true
 IsWideValue (value.Text symbol) = Unit {0}
 
--- no line is read that names a call
+-- each number that stands after a call's word
 abbrev pub IsWideArgument : Argument → Type 0
 IsWideArgument (argument.Container place) = Unit {0}
 IsWideArgument (argument.Cursor number) = Unit {0}
 IsWideArgument (argument.Key found) = IsWideKey found
 IsWideArgument (argument.Value found) = IsWideValue found
 IsWideArgument (argument.Index n) = is_wide n ≡ true
-IsWideArgument (argument.Call other index) = ⊥
+IsWideArgument (argument.Call other index) = index < 2 ^ 32
 
--- each integer of a call is of 64 bits
+-- each integer of a call is of 64 bits, and an index that it awaits below 2^32
 abbrev pub IsWideCall : Call → Type 0
 IsWideCall called = AllByRecursion IsWideArgument (call_form called).arguments
 
@@ -168,13 +169,14 @@ IsWideReply (reply.Suspended count) = count < 2 ^ 32
 IsWideReply other = Unit {0}
 
 -- an entry that a line can have: it names what the script has, its call is one that a script may have and numbered from
--- 1, and no number is too great
+-- 1, an `await` only where the script has one, and no number is too great
 pub record IsReadable (script : ScriptParts) (entry : Entry) : Type 0 where
   pub of_script : IsEntryOf script entry
   pub first_index : 1 ≤ entry.index
   pub last_index : entry.index < 2 ^ 32
   pub stamp : entry.stamp < 2 ^ 64
   pub landed : is_landed_call entry.call ≡ true
+  pub awaited : MayAwait (has_awaits script.threads) (length script.threads) entry.call
   pub call : IsWideCall entry.call
   pub reply : IsReadableReply (counts entry.call) entry.reply
   pub said : IsWideReply entry.reply

@@ -47,6 +47,7 @@ pub(crate) enum CallWord {
     Begin,
     End,
     Quiesce,
+    Await,
     /// A call whose next word names a container.
     On(Operation),
 }
@@ -146,6 +147,7 @@ fn word_of_5(first: u8, second: u8) -> Option<CallWord>
         (b'c', b'l') => Some(CallWord::On(Operation::Clear)),
         (b'c', _) => Some(CallWord::On(Operation::Count)),
         (b's', _) => Some(CallWord::On(Operation::Slice)),
+        (b'a', _) => Some(CallWord::Await),
         (_, _) => None,
     }
 }
@@ -188,6 +190,7 @@ impl CallWord {
             CallWord::Begin => b"begin",
             CallWord::End => b"end",
             CallWord::Quiesce => b"quiesce",
+            CallWord::Await => b"await",
             CallWord::On(operation) => operation.text(),
         }
     }

@@ -1,10 +1,11 @@
 //! Reads the lines of calls.
-ghost use Rattle.ft_model.specs.Limits.{most_calls};
+ghost use Rattle.ft_model.specs.Limits.{most_calls, most_threads};
 ghost use Rattle.ft_script.specs.ScriptLines.{call_at, call_line, read_call, container_call, counted_call, depth_after, dict_call, limit_fault, list_call, set_call};
 ghost use Rattle.ft_script.specs.Internal.Outcomes.{LeavesDraft, GivesWithDraft, limit_error, draft_of};
-ghost use Rattle.std.specs.Prelude.{◌≡◌, ◌<◌, map};
+ghost use Rattle.std.specs.Prelude.{◌≡◌, ◌<◌, ◌≤◌, length, map};
 
 use crate::arguments::{index_in, nothing_in, some_index_in, two_indices_in};
+use crate::awaits::has_awaited;
 use crate::call_words::{CallWord, Operation};
 use crate::draft::Draft;
 use crate::fault::{Fault, LineError, Which};
@@ -325,6 +326,7 @@ impl Draft {
         word: CallWord,
         words: &[&[u8]],
     ) -> Result<Call, LineError>
+        requires { length self.old.threads ≤ most_threads }
         ensures { GivesWithDraft result (draft_of self.new) (read_call (draft_of self.old) word (map (λ word. word.now) words.now)) }
     {
         match word {
@@ -343,6 +345,11 @@ impl Draft {
                 nothing_in(words)?;
                 Ok(Call::Quiesce)
             }
+            CallWord::Await if !self.awaits => Err(Fault::UnknownWord.into()),
+            CallWord::Await => {
+                let (thread, index) = self.awaited_in(words)?;
+                Ok(Call::Await { thread, index })
+            }
             CallWord::On(operation) => self.container_call(alloc, operation, words),
         }
     }
@@ -355,6 +362,7 @@ impl Draft {
         word: CallWord,
         words: &[&[u8]],
     ) -> Result<(), LineError>
+        requires { length self.old.threads ≤ most_threads }
         ensures { LeavesDraft result (draft_of self.new) (call_line (draft_of self.old) word (map (λ word. word.now) words.now)) }
     {
         if self.called >= MOST_CALLS {
@@ -371,12 +379,16 @@ impl Draft {
         word: CallWord,
         words: &[&[u8]],
     ) -> Result<(), LineError>
-        requires { self.old.called < most_calls }
+        requires room { self.old.called < most_calls }
+        requires threads { length self.old.threads ≤ most_threads }
         ensures { LeavesDraft result (draft_of self.new) (counted_call (draft_of self.old) word (map (λ word. word.now) words.now)) }
     {
         let (called, depth) = (self.called, self.depth);
         let call = self.call_of(alloc, word, words)?;
         self.depth = depth_after(depth, &call)?;
+        if !has_awaited(self.threads.as_slice(), &call) {
+            return Err(Fault::Await.into());
+        }
         self.calls.push(call)?;
         self.called = called + 1;
         Ok(())
@@ -398,9 +410,9 @@ fn limit_fault(fault: Fault) -> Fault
     ensures { result ≡ limit_fault fault }
 {
     match fault {
+        Fault::UnknownWord => Fault::UnknownWord,
         Fault::WordCount => Fault::WordCount,
         Fault::Encoding
-        | Fault::UnknownWord
         | Fault::Number
         | Fault::String
         | Fault::Name
@@ -410,7 +422,8 @@ fn limit_fault(fault: Fault) -> Fault
         | Fault::BeginWithoutEnd
         | Fault::TooDeep
         | Fault::Limit(_)
-        | Fault::OrderName => Fault::Limit(Which::Calls),
+        | Fault::OrderName
+        | Fault::Await => Fault::Limit(Which::Calls),
     }
 }
 
@@ -424,6 +437,7 @@ fn depth_after(depth: u32, call: &Call) -> Result<u32, Fault>
         Call::Begin { .. } => Ok(depth + 1),
         Call::End if depth == 0 => Err(Fault::EndWithoutBegin),
         Call::End => Ok(depth - 1),
+        Call::Await { .. } if depth != 0 => Err(Fault::Await),
         Call::Dict { .. }
         | Call::List { .. }
         | Call::Set { .. }

@@ -7,7 +7,7 @@ ghost use Rattle.ft_script.specs.Forms.{dict_form, list_form, set_form};
 ghost use Rattle.ft_script.specs.Transcripts.{IsWideArgument, IsWideCall, IsWideKey, IsWideValue};
 ghost use Rattle.ft_script.specs.LineWords.{is_wide};
 ghost use Rattle.std.specs.List.{AllByRecursion};
-ghost use Rattle.std.specs.Prelude.{◌↔◌, ◌≡◌, ℕ, true, IsTrue, length};
+ghost use Rattle.std.specs.Prelude.{◌↔◌, ◌≡◌, ◌<◌, ◌^◌, ℕ, true, IsTrue, length};
 
 use ft_model::{Call, DictCall, Key, Kind, ListCall, ScriptParts, SetCall, Value};
 
@@ -66,7 +66,8 @@ fn names_declared(script: &ScriptParts, cursors: usize, call: &Call) -> bool
                 && second.is_none_or(|place| (place as usize) < containers)
         }
         Call::End | Call::Quiesce => true,
-        Call::Deque { .. } | Call::Await { .. } | Call::Dump => false,
+        Call::Await { index, .. } => is_call_index(*index),
+        Call::Deque { .. } | Call::Dump => false,
     }
 }
 
@@ -128,6 +129,15 @@ fn is_value_of(strings: usize, value: Value) -> bool
 fn is_index(index: i64) -> bool
     ensures is { IsTrue result }
     ensures wide { is_wide index ≡ true }
+{
+    let _index = index;
+    true
+}
+
+/// An index of a call is any number of 32 bits.
+fn is_call_index(index: u32) -> bool
+    ensures is { IsTrue result }
+    ensures wide { index < 2 ^ 32 }
 {
     let _index = index;
     true

@@ -23,6 +23,8 @@ const DEFAULT_HEAP: u32 = 64;
 /// What the lines above a place say.
 #[derive(Drop)]
 pub(crate) struct Draft {
+    /// Whether `version 2` stands above, so that threads may await others.
+    pub awaits: bool,
     /// The containers that are declared.
     pub containers: Declarations,
     /// The numbers of tables that lines name, from class 3 on.
@@ -53,6 +55,7 @@ impl Draft {
         ensures { draft_of result ≡ empty_draft }
     {
         Draft {
+            awaits: false,
             containers: Declarations::new(alloc),
             tables: [None; CLASS_COUNT],
             heap: None,

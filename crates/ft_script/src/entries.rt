@@ -3,15 +3,15 @@ ghost use Rattle.ft_model.specs.Limits.{most_cursors, most_strings};
 ghost use Rattle.ft_script.specs.declared.fault.Fault.TheVariants as fault;
 ghost use Rattle.ft_script.specs.Internal.Candidates.{read_content, read_entry, read_numbered, only_call, read_stamp, thread_call, read_thread, read_waited};
 ghost use Rattle.ft_model.specs.Scripts.{IsScript};
-ghost use Rattle.ft_script.specs.Drafts.{container_place, draft_at, or_fault};
+ghost use Rattle.ft_script.specs.Drafts.{container_place, draft_at, only_named, or_fault};
 ghost use Rattle.ft_script.specs.Internal.Outcomes.{Gives, draft_of};
 ghost use Rattle.ft_script.specs.ScriptLines.{read_call};
 ghost use Rattle.ft_script.specs.Internal.Readers.{AddsNothing, IsReaderOf, IsUnchanged};
 ghost use Rattle.ft_script.specs.Internal.Tokens.{before_word};
 ghost use Rattle.ft_script.specs.Transcripts.{counts, counts_dict, counts_list, counts_set, counts_deque};
-ghost use Rattle.std.specs.List.{after_first, before_first};
 ghost use Rattle.std.specs.Prelude.{◌≡◌, ◌≢◌, ◌==◌, ◌<◌, ◌≤◌, All, AllPairs, IfOk, OnOk, codes, drop, length, map};
 
+use crate::awaits::has_awaits;
 use crate::call_words::{CallWord, call_word_of};
 use crate::declarations::{CursorNames, Declarations, container_place, thread_place};
 use crate::draft::Draft;
@@ -19,6 +19,7 @@ use crate::fault::{Fault, LineError};
 use crate::replies::{reply_of, u32_of, u64_of};
 use crate::strings::Strings;
 use crate::tokens::split_at_word;
+use crate::words::split_at_dot;
 use ft_model::{
     Call, Declaration, DequeCall, DictCall, Entry, ListCall, Reply, ScriptParts, Sequence, SetCall,
     Start, Text, Thread,
@@ -161,17 +162,6 @@ fn numbered_of(script: &ScriptParts, token: &[u8]) -> Result<(u32, u32), Fault>
     Ok((thread, index))
 }
 
-/// What stands before the first dot, or all, and what stands after it.
-fn split_at_dot(token: &[u8]) -> (&[u8], &[u8])
-    ensures before { result.0.now ≡ before_first (λ b. b == 46) token.now }
-    ensures after { result.1.now ≡ after_first (λ b. b == 46) token.now }
-{
-    match token.iter().position(|b| *b == b'.') {
-        Some(dot) => (&token[..dot], &token[dot + 1..]),
-        None => (token, &token[token.len()..]),
-    }
-}
-
 /// Whether a `w` stands there, and the number after it.
 #[tactic(auto, unfolding(crate::specs::Internal::Candidates::read_stamp))]
 fn stamp_of(token: &[u8]) -> Result<(bool, u64), Fault>
@@ -240,6 +230,27 @@ fn copied_container(alloc: Global, container: &Declaration) -> Result<Declaratio
     })
 }
 
+/// The threads by their names, without their cursors and calls.
+fn named_threads(alloc: Global, threads: &[Thread]) -> Result<Sequence<Thread>, AllocError>
+    ensures { IfOk result (λ named. named ≡ map only_named threads.now) }
+{
+    let mut named = Vec::new(alloc);
+    for thread in threads {
+        named.push(only_named(alloc, thread)?)?;
+    }
+    Ok(Sequence::from_vec(named))
+}
+
+fn only_named(alloc: Global, thread: &Thread) -> Result<Thread, AllocError>
+    ensures { IfOk result (λ named. named ≡ only_named thread.now) }
+{
+    Ok(Thread {
+        name: copied_name(alloc, &thread.name)?,
+        cursors: Sequence::new(alloc),
+        calls: Sequence::new(alloc),
+    })
+}
+
 /// The strings, each with its number.
 pub(crate) fn numbered_strings(alloc: Global, texts: &[Text]) -> Result<Strings, AllocError>
     requires differ { AllPairs (λ a b. a ≢ b) texts.now }
@@ -256,7 +267,7 @@ pub(crate) fn numbered_strings(alloc: Global, texts: &[Text]) -> Result<Strings,
 /// What a script declares, in the form by which calls are read.
 #[derive(Drop)]
 pub(crate) struct Reader {
-    /// The containers and strings.
+    /// The containers, the names of the threads, and the strings.
     pub draft: Draft,
     /// The cursors of each thread.
     pub cursors: Vec<CursorNames>,
@@ -270,7 +281,9 @@ impl Reader {
     {
         let mut draft = Draft::empty(alloc);
         let containers = copied_containers(alloc, script.containers.as_slice())?;
+        draft.awaits = has_awaits(script.threads.as_slice());
         draft.containers = Declarations::from_sequence(containers);
+        draft.threads = named_threads(alloc, script.threads.as_slice())?;
         draft.strings = numbered_strings(alloc, script.strings.as_slice())?;
         let cursors = all_cursors(alloc, script.threads.as_slice())?;
         Ok(Reader { draft, cursors })
@@ -285,6 +298,7 @@ impl Reader {
         thread: u32,
         words: &[&[u8]],
     ) -> Result<Call, LineError>
+        requires script { IsScript script.now }
         requires reader { IsReaderOf script.now (draft_of self.old.draft) self.old.cursors.items }
         requires declared { thread < length script.now.threads }
         ensures read { Gives (λ call. call) result (thread_call script.now thread (map (λ word. word.now) words.now)) }
@@ -306,6 +320,7 @@ impl Reader {
         word: CallWord,
         words: &[&[u8]],
     ) -> Result<Call, LineError>
+        requires script { IsScript script.now }
         requires reader { IsReaderOf script.now (draft_of self.old.draft) self.old.cursors.items }
         requires declared { thread < length script.now.threads }
         ensures read { Gives (λ call. call) result (only_call (read_call (draft_at script.now thread) word (map (λ word. word.now) words.now))) }

@@ -60,6 +60,8 @@ pub(crate) enum Fault {
     Limit(Which),
     /// An `order` line names no thread.
     OrderName,
+    /// An `await` names no call of a thread that stands above, or stands in a section.
+    Await,
 }
 
 /// Why a line isn't read.
@@ -77,7 +79,8 @@ pub(crate) enum LineError {
 pub struct ScriptFault {
     /// The line, from 1. It stands still at the greatest `u32`.
     pub line: u32,
-    /// From 1 to 13 what is wrong with the text, in the order of `text`; 14 for out of memory.
+    /// From 1 to 13, or 15, what is wrong with the text, in the order of `text`; 14 for out of
+    /// memory.
     pub kind: u8,
     /// The limit that is passed, with kind 12.
     pub which: Option<Which>,
@@ -102,6 +105,7 @@ impl Fault {
             Fault::TooDeep => 11,
             Fault::Limit(_) => 12,
             Fault::OrderName => 13,
+            Fault::Await => 15,
         }
     }
 
@@ -178,6 +182,7 @@ impl ScriptFault {
             },
             13 => "order name",
             14 => "want of memory",
+            15 => "await",
             _ => "",
         }
     }

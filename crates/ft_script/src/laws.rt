@@ -7,6 +7,7 @@ ghost use Rattle.ft_model.specs.declared.script.ScriptParts.{ScriptParts};
 ghost use Rattle.ft_model.specs.Histories.{cursors_of};
 ghost use Rattle.ft_model.specs.Landed.{is_landed_call};
 ghost use Rattle.ft_model.specs.Scripts.{IsCallOf, IsScript};
+ghost use Rattle.ft_script.specs.Awaits.{MayAwait, has_awaits};
 ghost use Rattle.ft_script.specs.Drafts.{draft_at};
 ghost use Rattle.ft_script.specs.Generator.{made_script, made_text};
 ghost use Rattle.ft_script.specs.Lines.{words_of};
@@ -56,9 +57,10 @@ pub fn blanks_and_comments_say_nothing()
 {}
 
 /// The words of a thread's call that is read yet, as they are printed, are read as that call where
-/// what it names is declared above it, and they declare nothing new.
+/// what it names is declared above it, and they declare nothing new. An `await` is read where a thread
+/// of the script has one.
 pub fn calls_are_read_back()
-    ensures { (script : ScriptParts) (thread : ℕ) (called : Call) → IsScript script → thread < length script.threads → IsCallOf script (cursors_of script thread) called → is_landed_call called ≡ true → IsWideCall called → just_call (draft_at script thread) (call_words script thread called) ≡ Ok (called, draft_at script thread) }
+    ensures { (script : ScriptParts) (thread : ℕ) (called : Call) → IsScript script → thread < length script.threads → IsCallOf script (cursors_of script thread) called → is_landed_call called ≡ true → IsWideCall called → MayAwait (has_awaits script.threads) (length script.threads) called → just_call (draft_at script thread) (call_words script thread called) ≡ Ok (called, draft_at script thread) }
 {}
 
 /// Bytes are the transcript of no more than one list of entries and one list of contents: what is

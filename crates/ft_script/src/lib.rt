@@ -2,6 +2,7 @@
 #![tactic(auto)]
 
 mod arguments;
+mod awaits;
 mod call_words;
 mod calls;
 mod contents;

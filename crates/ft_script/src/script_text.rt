@@ -6,17 +6,19 @@ ghost use Rattle.ft_model.specs.Classes.{class_count, least_class};
 ghost use Rattle.ft_model.specs.Histories.{cursors_of};
 ghost use Rattle.ft_model.specs.Limits.{most_threads};
 ghost use Rattle.ft_model.specs.Scripts.{IsCallOf, IsScript, IsThread};
-ghost use Rattle.ft_script.specs.ScriptTexts.{container_words, kind_word, order_lines, script_text, tables_lines, thread_lines, threads_lines};
+ghost use Rattle.ft_script.specs.ScriptTexts.{container_words, kind_word, order_lines, script_text, tables_lines, thread_lines, threads_lines, version_lines};
 ghost use Rattle.ft_script.specs.Texts.{call_words, line, thread_name};
 
+use crate::awaits::has_awaits;
 use crate::forms::{push_call, push_thread};
 use crate::generator::push_line;
 use ft_model::{Call, Declaration, Kind, LEAST_CLASS, Script, ScriptParts, Thread};
 use std::alloc::{AllocError, Global};
 
-/// The text of a script: a line for each container, for the tables of each class, for the places in
-/// each heap, for each thread and each of its calls, and for the order, where there is one. `parse`
-/// reads it as that script, if a text can be it.
+/// The text of a script: a line `version 2` where a thread awaits another, and a line for each
+/// container, for the tables of each class, for the places in each heap, for each thread and each of
+/// its calls, and for the order, where there is one. `parse` reads it as that script, if a text can be
+/// it.
 ///
 /// # Errors
 ///
@@ -34,11 +36,22 @@ fn push_script(out: &mut Vec<u8>, script: &ScriptParts) -> Result<(), AllocError
     requires { IsScript script.now }
     ensures { OnOk result (out.new.items ≡ out.old.items ++ script_text script.now) }
 {
+    push_version(out, has_awaits(script.threads.as_slice()))?;
     push_containers(out, script.containers.as_slice())?;
     push_tables(out, script.tables.as_slice())?;
     push_line(out, b"heap", &[u64::from(script.heap)])?;
     push_threads(out, script)?;
     push_order(out, script)
+}
+
+/// Adds the line of the version, where a thread awaits another.
+fn push_version(out: &mut Vec<u8>, awaits: bool) -> Result<(), AllocError>
+    ensures { OnOk result (out.new.items ≡ out.old.items ++ flat_map line (version_lines awaits)) }
+{
+    if awaits {
+        out.extend_from_slice(b"version 2\n")?;
+    }
+    Ok(())
 }
 
 /// The word that a container of a kind is declared with.

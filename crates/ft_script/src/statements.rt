@@ -2,8 +2,9 @@
 ghost use Rattle.ft_model.specs.Classes.{class_count};
 ghost use Rattle.ft_model.specs.Limits.{most_threads};
 ghost use Rattle.ft_script.specs.Internal.Outcomes.{HasFewThreads, LeavesDraft, LeavesAlways, draft_of};
-ghost use Rattle.ft_script.specs.ScriptLines.{read_class, class_place, container_line, declaration, heap_line, open_line, order_line, other_statement, read_line, statement, tables_at, tables_line, tables_by_words, thread_line, thread_statement, read_turn, read_turns, words_line};
-ghost use Rattle.std.specs.Prelude.{◌≡◌, ◌<◌, ◌≤◌, IfOk, IfSome, OnOk, length, map};
+ghost use Rattle.ft_script.specs.ScriptLines.{read_class, class_place, container_line, declaration, first_line, heap_line, is_first, open_line, order_line, other_statement, read_line, statement, tables_at, tables_line, tables_by_words, thread_line, thread_statement, read_turn, read_turns, version_line, words_line};
+ghost use Rattle.std.specs.List.{list_any};
+ghost use Rattle.std.specs.Prelude.{◌≡◌, ◌<◌, ◌≤◌, IfOk, IfSome, OnOk, is_some, length, map};
 
 use crate::arguments::index_of;
 use crate::call_words::call_word_of;
@@ -37,6 +38,13 @@ fn class_of(word: &[u8]) -> Result<usize, Fault>
 {
     let class = index_of(word)?;
     class_place(class).ok_or(Fault::Limit(Which::Class))
+}
+
+/// Whether a line names the number of tables of a class.
+fn names_tables(counts: &[Option<u32>]) -> bool
+    ensures { result ≡ list_any is_some counts.now }
+{
+    counts.iter().any(|count| count.is_some())
 }
 
 impl Draft {
@@ -127,6 +135,44 @@ impl Draft {
         Ok(())
     }
 
+    /// Whether no line above says anything.
+    fn is_first(&self) -> bool
+        ensures { result ≡ is_first (draft_of self.now) }
+    {
+        !self.awaits
+            && self.containers.as_slice().is_empty()
+            && !names_tables(&self.tables)
+            && self.heap.is_none()
+    }
+
+    /// Reads the line of the version.
+    #[tactic(auto, unfolding(crate::specs::ScriptLines::version_line))]
+    fn version_line(&mut self, words: &[&[u8]]) -> Result<(), Fault>
+        ensures { LeavesAlways result (draft_of self.new) (version_line (draft_of self.old) (map (λ word. word.now) words.now)) }
+    {
+        let [word] = words else {
+            return Err(Fault::WordCount);
+        };
+        if *word != b"2".as_slice() {
+            return Err(Fault::Number);
+        }
+        self.awaits = true;
+        Ok(())
+    }
+
+    /// Reads a line that isn't a declaration: it says the version, if it is the first that says
+    /// anything.
+    #[tactic(auto, unfolding(crate::specs::ScriptLines::first_line))]
+    fn first_line(&mut self, word: &[u8], words: &[&[u8]]) -> Result<(), Fault>
+        ensures { LeavesAlways result (draft_of self.new) (first_line (draft_of self.old) word.now (map (λ word. word.now) words.now)) }
+    {
+        if word == b"version".as_slice() && self.is_first() {
+            self.version_line(words)
+        } else {
+            Err(Fault::UnknownWord)
+        }
+    }
+
     /// Reads a line above all threads.
     #[tactic(auto, unfolding(crate::specs::ScriptLines::declaration))]
     fn declaration(&mut self, alloc: Global, word: &[u8], words: &[&[u8]]) -> Result<(), LineError>
@@ -143,7 +189,7 @@ impl Draft {
         } else if word == b"heap".as_slice() {
             Ok(self.heap_line(words)?)
         } else {
-            Err(Fault::UnknownWord.into())
+            Ok(self.first_line(word, words)?)
         }
     }
 
@@ -256,6 +302,7 @@ impl Draft {
         word: &[u8],
         words: &[&[u8]],
     ) -> Result<(), LineError>
+        requires { length self.old.threads ≤ most_threads }
         ensures { LeavesDraft result (draft_of self.new) (thread_statement (draft_of self.old) word.now (map (λ word. word.now) words.now)) }
     {
         let found = call_word_of(word).ok_or(Fault::UnknownWord)?;

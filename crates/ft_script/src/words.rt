@@ -1,9 +1,9 @@
 //! What the words of a line say.
 ghost use Rattle.ft_model.specs.Names.{is_digit, is_container_byte, is_container_name, is_thread_byte, is_thread_name};
 ghost use Rattle.ft_script.specs.LineWords.{integer_of, is_integer, is_positive, is_string, text_of, unescaped};
-ghost use Rattle.std.specs.List.{list_all};
+ghost use Rattle.std.specs.List.{after_first, before_first, list_all};
 ghost use Rattle.std.specs.Str.Parse.{digits_value};
-ghost use Rattle.std.specs.Prelude.{◌≡◌, ◌<◌, ◌≤◌, ◌^◌, None, Some, IfOk, IfSome, if◌then◌else◌, length};
+ghost use Rattle.std.specs.Prelude.{◌≡◌, ◌==◌, ◌<◌, ◌≤◌, ◌^◌, None, Some, IfOk, IfSome, if◌then◌else◌, length};
 
 use std::alloc::{AllocError, Global};
 
@@ -42,7 +42,7 @@ fn is_thread_byte(byte: u8) -> bool
 }
 
 /// Whether the word is a digit from 1 to 9, and then digits.
-fn is_positive(word: &[u8]) -> bool
+pub(crate) fn is_positive(word: &[u8]) -> bool
     ensures { result ≡ is_positive word.now }
 {
     match word {
@@ -59,6 +59,17 @@ fn is_integer(word: &[u8]) -> bool
         [b'0'] => true,
         [b'-', magnitude @ ..] => is_positive(magnitude),
         _ => is_positive(word),
+    }
+}
+
+/// What stands before the first dot, or all, and what stands after it.
+pub(crate) fn split_at_dot(token: &[u8]) -> (&[u8], &[u8])
+    ensures before { result.0.now ≡ before_first (λ b. b == 46) token.now }
+    ensures after { result.1.now ≡ after_first (λ b. b == 46) token.now }
+{
+    match token.iter().position(|b| *b == b'.') {
+        Some(dot) => (&token[..dot], &token[dot + 1..]),
+        None => (token, &token[token.len()..]),
     }
 }
 

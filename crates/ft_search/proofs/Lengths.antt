@@ -163,7 +163,7 @@ len_shown v w called o count n part ask own is s =
       stamp = s.counted;
       answers = λ x stored is_kind stands agrees. len_replied kind stored o is_kind ∙ ap reply.Count (sym (agrees.block 1 count (omega arith) s.read ∙ count_is k.texts x (state_at stored o) stands));
     } in
-    subst (λ (z : Call). IsShown w z (reply.Count count) n) (sym is) (looks_are_shown w (len_of kind o) o (reply.Count count) n ask plain.reads plain.cursor plain.adds plain.memory (λ e. absurd (cc)) (plain.replied (reply.Count count) refl) looked)
+    subst (λ (z : Call). IsShown w z (reply.Count count) n) (sym is) (looks_are_shown w (len_of kind o) o (reply.Count count) n ask plain.reads plain.cursor plain.cause (plain.replied (reply.Count count) refl) looked)
 
 -- ---- under the lock
 

@@ -10,8 +10,8 @@ use Rattle.ft_trace.specs.Acts.{view_after, reads, announces}
 use Rattle.ft_trace.specs.Addresses.{class_of, slots, IsTableName}
 use Rattle.ft_trace.specs.Pictures.{entry_offset}
 use Rattle.ft_trace.specs.LoggedReads.{Among, Between}
-use Rattle.ft_trace.specs.LoggedLookUps.{Inner, IsNew, Bare, unread}
-use Rattle.ft_trace.proofs.Anew.{unread_inner, unread_find, unread_less}
+use Rattle.ft_trace.specs.LoggedLookUps.{Inner, IsNew, Bare}
+use Rattle.ft_trace.proofs.Anew.{unread, unread_inner, unread_find, unread_less}
 use Rattle.ft_bank.specs.declared.pass.Pass.{Pass}
 use Rattle.ft_bank.specs.Passes.{view}
 use Rattle.ft_bank.specs.Series.{noted_all, DidAll}

@@ -2,7 +2,6 @@ pub mod TableWords
 pub mod KeyLooks
 pub mod Rounds
 pub mod Held
-pub mod Tries
 pub mod Lengths
 pub mod OneEntryWrites
 pub mod Spots

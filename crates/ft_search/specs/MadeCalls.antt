@@ -12,17 +12,11 @@ use Rattle.ft_trace.specs.declared.View.{View}
 use Rattle.ft_trace.specs.Acts.{stage, debt}
 use Rattle.ft_trace.specs.Causes.{HasCause}
 use Rattle.ft_trace.specs.Holds.{known_state}
-use Rattle.ft_trace.specs.Owners.{SameOwners}
 use Rattle.ft_trace.specs.ContainerStates.{reply_in}
 use Rattle.ft_bank.specs.Answered.{Answered}
 use Rattle.ft_bank.specs.Whole.{OnlyLoaded, Wrote}
 use Rattle.ft_bank.specs.WriteSteps.{MayHave}
-use Rattle.ft_section.specs.declared.answers.Objects.{Objects}
 use Rattle.ft_section.specs.declared.answers.Stamp.{Stamp}
-use Rattle.ft_section.specs.declared.answers.Step.{Step}
-use Rattle.ft_section.specs.declared.answers.Step.TheVariants as step
-use Rattle.ft_section.specs.Locking.{OnlyLocked, FoundOwner, LocksWithin}
-use Rattle.ft_section.specs.LockTakings.{IsOf}
 
 -- the plain containers reply so to the call, whatever the bank has that agrees with what the pass knows (Python manual,
 -- Built-in Types)
@@ -52,21 +46,3 @@ pub record MadeAs (called : Call) (said : Reply) (stamp : Stamp) (v w : View) : 
   pub replied : IsReplyTo called said v
   pub wrote : stamp.wrote ≡ is_write called said
   pub tables : KeepsTables v w
-
--- the pass took the locks of these containers, made the call so, and let go of the locks (C API, critical sections)
-pub record MadeUnderLocks (objects : Objects) (called : Call) (said : Reply) (stamp : Stamp) (v w : View) : Type 0 where
-  pub before : View
-  pub after : View
-  pub took : OnlyLocked v before
-  pub within : LocksWithin objects v before
-  pub made : MadeAs called said stamp before after
-  pub gone : OnlyLocked after w
-  pub owners : SameOwners after w
-
--- A call on these containers was made so; or a step of it found another pass with the lock of one of them. It takes no
--- memory. (C API, critical sections)
-abbrev pub IsMadeOf : Objects → Call → View → View → Step → Type 0
-IsMadeOf objects called v w (step.Done said stamp) = MadeUnderLocks objects called said stamp v w
-IsMadeOf objects called v w (step.NotYet p q) = OnlyLocked v w × IsOf p objects × FoundOwner p q v w
-IsMadeOf objects called v w (step.Moved a b) = ⊥
-IsMadeOf objects called v w step.NoMemory = ⊥

@@ -11,14 +11,13 @@ ghost use Rattle.ft_bank.specs.Passes.{shape_of, view};
 ghost use Rattle.ft_section.specs.declared.answers.Objects.TheVariants.{One, Two};
 ghost use Rattle.ft_section.specs.Ready.{MayTry};
 ghost use Rattle.ft_section.specs.Trying.{SectionsAfter};
-ghost use Rattle.ft_search.specs.MadeCalls.{IsMadeOf};
-ghost use Rattle.ft_search.specs.Tries.{IsReadOf};
-ghost use Rattle.ft_table_calls.specs.Adding.{IsTryOf, KeepsCursors};
+ghost use Rattle.ft_table_calls.specs.Adding.{KeepsCursors};
+ghost use Rattle.ft_table_calls.specs.TriesUnderLocks.{ComesTo, IsMade, IsRead, IsTry};
 ghost use Rattle.ft_new_keys.specs.KeyGrowth.{PutsKey};
 ghost use Rattle.ft_merging.specs.Joining.{JoinsBy};
 ghost use Rattle.ft_merging.specs.Parting.{PartsBy};
-ghost use Rattle.ft_reads.specs.Clears.{IsClearOf};
-ghost use Rattle.ft_reads.specs.Copies.{IsCopyOf};
+ghost use Rattle.ft_reads.specs.Clears.{IsClear};
+ghost use Rattle.ft_reads.specs.Copies.{IsCopy};
 
 use crate::making::{ElementMaker, SetMaker};
 use ft_bank::{Bank, Pass};
@@ -33,7 +32,6 @@ use std::alloc::Global;
 ///
 /// `NotYet` where a step of the call found another pass with the lock of the set; the same call comes
 /// next. It never answers `Moved` or `NoMemory`.
-#[tactic(auto, using(ft_table_calls::proofs::TriedCalls::read_try))]
 pub fn try_has(bank: &Bank, pass: &mut Pass, s: Object, key: Key) -> Step
     requires may { MayTry bank.now pass.old (One s) }
     requires container { s < container_count (shape_of bank.now) }
@@ -42,7 +40,7 @@ pub fn try_has(bank: &Bank, pass: &mut Pass, s: Object, key: Key) -> Step
     requires left { 0 < (view pass.old).left }
     ensures may { MayTry bank.now pass.new (One s) }
     ensures sections { SectionsAfter bank.now (One s) pass.old pass.new result }
-    ensures read { IsReadOf s (call.Set s (set.Has key)) (view pass.old) (view pass.new) result }
+    ensures tried { IsTry (One s) (IsRead (call.Set s (set.Has key))) (view pass.old) (view pass.new) result }
 {
     let called = Call::Set {
         container: s,
@@ -63,7 +61,6 @@ pub fn try_has(bank: &Bank, pass: &mut Pass, s: Object, key: Key) -> Step
 ///
 /// `NotYet` where a step of the call found another pass with the lock of the set; the same call comes next. It
 /// never answers `Moved` or `NoMemory`.
-#[tactic(auto, using(ft_table_calls::proofs::TriedCalls::read_try))]
 pub fn try_len(bank: &Bank, pass: &mut Pass, s: Object) -> Step
     requires may { MayTry bank.now pass.old (One s) }
     requires container { s < container_count (shape_of bank.now) }
@@ -71,7 +68,7 @@ pub fn try_len(bank: &Bank, pass: &mut Pass, s: Object) -> Step
     requires left { 0 < (view pass.old).left }
     ensures may { MayTry bank.now pass.new (One s) }
     ensures sections { SectionsAfter bank.now (One s) pass.old pass.new result }
-    ensures read { IsReadOf s (call.Set s set.Len) (view pass.old) (view pass.new) result }
+    ensures tried { IsTry (One s) (IsRead (call.Set s set.Len)) (view pass.old) (view pass.new) result }
 {
     let called = Call::Set {
         container: s,
@@ -92,7 +89,7 @@ pub fn try_len(bank: &Bank, pass: &mut Pass, s: Object) -> Step
 ///
 /// `NotYet` where a step of the call found another pass with the lock of the set; `Moved` where two steps of it
 /// found a word of the free tables of one class changed. The same call comes next. It never answers `NoMemory`.
-#[tactic(auto, using(ft_table_calls::proofs::TriedCalls::added_try, ft_table_calls::proofs::TriedCalls::added_keeps))]
+#[tactic(auto, using(ft_table_calls::proofs::TriedCalls::added_keeps))]
 pub fn try_add(bank: &Bank, pass: &mut Pass, s: Object, key: Key) -> Step
     requires may { MayTry bank.now pass.old (One s) }
     requires container { s < container_count (shape_of bank.now) }
@@ -100,7 +97,8 @@ pub fn try_add(bank: &Bank, pass: &mut Pass, s: Object, key: Key) -> Step
     requires key { IsKeyIn (shape_of bank.now) key }
     requires left { 0 < (view pass.old).left }
     ensures may { MayTry bank.now pass.new (One s) }
-    ensures tried { IsTryOf (One s) (PutsKey (shape_of bank.now) s key (call.Set s (set.Add key)) reply.Done) reply.Done
+    ensures tried { IsTry (One s)
+        (ComesTo (PutsKey (shape_of bank.now) s key (call.Set s (set.Add key)) reply.Done) reply.Done)
         (view pass.old) (view pass.new) result }
     ensures sections { SectionsAfter bank.now (One s) pass.old pass.new result }
     ensures cursors { KeepsCursors (view pass.old) (view pass.new) }
@@ -120,7 +118,7 @@ pub fn try_add(bank: &Bank, pass: &mut Pass, s: Object, key: Key) -> Step
 /// `NotYet` where a step of the call found another pass with the lock of one of the sets; `Moved` where two steps of
 /// it found a word of the free tables of one class changed. The same call comes next. It never answers `NoMemory`.
 /// Whatever it answers, the pass has the cursors that it had.
-#[tactic(auto, using(ft_table_calls::proofs::TriedCalls::added_try, ft_table_calls::proofs::TriedCalls::added_keeps))]
+#[tactic(auto, using(ft_table_calls::proofs::TriedCalls::added_keeps))]
 pub fn try_or(bank: &Bank, pass: &mut Pass, s: Object, t: Object) -> Step
     requires may { MayTry bank.now pass.old (Two s t) }
     requires container { s < container_count (shape_of bank.now) }
@@ -129,8 +127,8 @@ pub fn try_or(bank: &Bank, pass: &mut Pass, s: Object, t: Object) -> Step
     requires other_set { kind_in (shape_of bank.now).starts t ≡ kind.Set }
     requires left { 0 < (view pass.old).left }
     ensures may { MayTry bank.now pass.new (Two s t) }
-    ensures tried { IsTryOf (Two s t) (JoinsBy (shape_of bank.now) s t (call.Set s (set.Or t))) reply.Done (view pass.old)
-        (view pass.new) result }
+    ensures tried { IsTry (Two s t) (ComesTo (JoinsBy (shape_of bank.now) s t (call.Set s (set.Or t))) reply.Done)
+        (view pass.old) (view pass.new) result }
     ensures sections { SectionsAfter bank.now (Two s t) pass.old pass.new result }
     ensures cursors { KeepsCursors (view pass.old) (view pass.new) }
 {
@@ -154,7 +152,7 @@ pub fn try_or(bank: &Bank, pass: &mut Pass, s: Object, t: Object) -> Step
 /// # Errors
 ///
 /// As those of `try_or`. Whatever it answers, the pass has the cursors that it had.
-#[tactic(auto, using(ft_table_calls::proofs::TriedCalls::added_try, ft_table_calls::proofs::TriedCalls::added_keeps))]
+#[tactic(auto, using(ft_table_calls::proofs::TriedCalls::added_keeps))]
 pub fn try_xor(bank: &Bank, pass: &mut Pass, s: Object, t: Object) -> Step
     requires may { MayTry bank.now pass.old (Two s t) }
     requires container { s < container_count (shape_of bank.now) }
@@ -163,7 +161,7 @@ pub fn try_xor(bank: &Bank, pass: &mut Pass, s: Object, t: Object) -> Step
     requires other_set { kind_in (shape_of bank.now).starts t ≡ kind.Set }
     requires left { 0 < (view pass.old).left }
     ensures may { MayTry bank.now pass.new (Two s t) }
-    ensures tried { IsTryOf (Two s t) (PartsBy (shape_of bank.now) s t (call.Set s (set.Xor t))) reply.Done
+    ensures tried { IsTry (Two s t) (ComesTo (PartsBy (shape_of bank.now) s t (call.Set s (set.Xor t))) reply.Done)
         (view pass.old) (view pass.new) result }
     ensures sections { SectionsAfter bank.now (Two s t) pass.old pass.new result }
     ensures cursors { KeepsCursors (view pass.old) (view pass.new) }
@@ -188,7 +186,6 @@ pub fn try_xor(bank: &Bank, pass: &mut Pass, s: Object, t: Object) -> Step
 ///
 /// `NotYet` where a step of the call found another pass with the lock of one of the sets; the same call comes next.
 /// It never answers `Moved` or `NoMemory`.
-#[tactic(auto, using(ft_table_calls::proofs::TriedCalls::made_try))]
 pub fn try_and(bank: &Bank, pass: &mut Pass, s: Object, t: Object) -> Step
     requires may { MayTry bank.now pass.old (Two s t) }
     requires container { s < container_count (shape_of bank.now) }
@@ -197,7 +194,7 @@ pub fn try_and(bank: &Bank, pass: &mut Pass, s: Object, t: Object) -> Step
     requires other_set { kind_in (shape_of bank.now).starts t ≡ kind.Set }
     requires left { 0 < (view pass.old).left }
     ensures may { MayTry bank.now pass.new (Two s t) }
-    ensures made { IsMadeOf (Two s t) (call.Set s (set.And t)) (view pass.old) (view pass.new) result }
+    ensures tried { IsTry (Two s t) (IsMade (call.Set s (set.And t))) (view pass.old) (view pass.new) result }
     ensures sections { SectionsAfter bank.now (Two s t) pass.old pass.new result }
 {
     let called = Call::Set {
@@ -219,7 +216,6 @@ pub fn try_and(bank: &Bank, pass: &mut Pass, s: Object, t: Object) -> Step
 /// # Errors
 ///
 /// As those of `try_and`.
-#[tactic(auto, using(ft_table_calls::proofs::TriedCalls::made_try))]
 pub fn try_sub(bank: &Bank, pass: &mut Pass, s: Object, t: Object) -> Step
     requires may { MayTry bank.now pass.old (Two s t) }
     requires container { s < container_count (shape_of bank.now) }
@@ -228,7 +224,7 @@ pub fn try_sub(bank: &Bank, pass: &mut Pass, s: Object, t: Object) -> Step
     requires other_set { kind_in (shape_of bank.now).starts t ≡ kind.Set }
     requires left { 0 < (view pass.old).left }
     ensures may { MayTry bank.now pass.new (Two s t) }
-    ensures made { IsMadeOf (Two s t) (call.Set s (set.Sub t)) (view pass.old) (view pass.new) result }
+    ensures tried { IsTry (Two s t) (IsMade (call.Set s (set.Sub t))) (view pass.old) (view pass.new) result }
     ensures sections { SectionsAfter bank.now (Two s t) pass.old pass.new result }
 {
     let called = Call::Set {
@@ -250,7 +246,6 @@ pub fn try_sub(bank: &Bank, pass: &mut Pass, s: Object, t: Object) -> Step
 ///
 /// `NotYet` where a step of the call found another pass with the lock of the set; the same call comes
 /// next. It never answers `Moved` or `NoMemory`.
-#[tactic(auto, using(ft_table_calls::proofs::TriedCalls::made_try))]
 pub fn try_discard(bank: &Bank, pass: &mut Pass, s: Object, key: Key) -> Step
     requires may { MayTry bank.now pass.old (One s) }
     requires container { s < container_count (shape_of bank.now) }
@@ -259,7 +254,7 @@ pub fn try_discard(bank: &Bank, pass: &mut Pass, s: Object, key: Key) -> Step
     requires left { 0 < (view pass.old).left }
     ensures may { MayTry bank.now pass.new (One s) }
     ensures sections { SectionsAfter bank.now (One s) pass.old pass.new result }
-    ensures made { IsMadeOf (One s) (call.Set s (set.Discard key)) (view pass.old) (view pass.new) result }
+    ensures tried { IsTry (One s) (IsMade (call.Set s (set.Discard key))) (view pass.old) (view pass.new) result }
 {
     let called = Call::Set {
         container: s,
@@ -274,7 +269,6 @@ pub fn try_discard(bank: &Bank, pass: &mut Pass, s: Object, key: Key) -> Step
 ///
 /// `NotYet` where a step of the call found another pass with the lock of the set; the same call comes
 /// next. It never answers `Moved` or `NoMemory`.
-#[tactic(auto, using(ft_table_calls::proofs::TriedCalls::made_try))]
 pub fn try_remove(bank: &Bank, pass: &mut Pass, s: Object, key: Key) -> Step
     requires may { MayTry bank.now pass.old (One s) }
     requires container { s < container_count (shape_of bank.now) }
@@ -283,7 +277,7 @@ pub fn try_remove(bank: &Bank, pass: &mut Pass, s: Object, key: Key) -> Step
     requires left { 0 < (view pass.old).left }
     ensures may { MayTry bank.now pass.new (One s) }
     ensures sections { SectionsAfter bank.now (One s) pass.old pass.new result }
-    ensures made { IsMadeOf (One s) (call.Set s (set.Remove key)) (view pass.old) (view pass.new) result }
+    ensures tried { IsTry (One s) (IsMade (call.Set s (set.Remove key))) (view pass.old) (view pass.new) result }
 {
     let called = Call::Set {
         container: s,
@@ -304,14 +298,13 @@ pub fn try_remove(bank: &Bank, pass: &mut Pass, s: Object, key: Key) -> Step
 ///
 /// `NotYet` where a step of the call found another pass with the lock of the set; the same call comes next. It never
 /// answers `Moved` or `NoMemory`.
-#[tactic(auto, using(ft_table_calls::proofs::TriedCalls::made_try))]
 pub fn try_pop(bank: &Bank, pass: &mut Pass, s: Object) -> Step
     requires may { MayTry bank.now pass.old (One s) }
     requires container { s < container_count (shape_of bank.now) }
     requires set { kind_in (shape_of bank.now).starts s ≡ kind.Set }
     requires left { 0 < (view pass.old).left }
     ensures may { MayTry bank.now pass.new (One s) }
-    ensures made { IsMadeOf (One s) (call.Set s set.Pop) (view pass.old) (view pass.new) result }
+    ensures tried { IsTry (One s) (IsMade (call.Set s set.Pop)) (view pass.old) (view pass.new) result }
     ensures sections { SectionsAfter bank.now (One s) pass.old pass.new result }
 {
     let called = Call::Set {
@@ -333,14 +326,14 @@ pub fn try_pop(bank: &Bank, pass: &mut Pass, s: Object) -> Step
 ///
 /// `NotYet` where a step of the call found another pass with the lock of the set; the same call comes next. It never
 /// answers `Moved` or `NoMemory`.
-#[tactic(auto, using(ft_reads::proofs::TriedReads::clear_try, ft_reads::proofs::TriedReads::clear_keeps))]
+#[tactic(auto, using(ft_reads::proofs::TriedReads::clear_keeps))]
 pub fn try_clear(bank: &Bank, pass: &mut Pass, s: Object) -> Step
     requires may { MayTry bank.now pass.old (One s) }
     requires container { s < container_count (shape_of bank.now) }
     requires set { kind_in (shape_of bank.now).starts s ≡ kind.Set }
     requires left { 0 < (view pass.old).left }
     ensures may { MayTry bank.now pass.new (One s) }
-    ensures tried { IsClearOf s (call.Set s set.Clear) (view pass.old) (view pass.new) result }
+    ensures tried { IsTry (One s) (IsClear (call.Set s set.Clear)) (view pass.old) (view pass.new) result }
     ensures sections { SectionsAfter bank.now (One s) pass.old pass.new result }
     ensures cursors { KeepsCursors (view pass.old) (view pass.new) }
 {
@@ -364,14 +357,13 @@ pub fn try_clear(bank: &Bank, pass: &mut Pass, s: Object) -> Step
 /// `NotYet` where a step of the call found another pass with the lock of the set; the same call comes next.
 /// `NoMemory` where memory for the copy ran out: the set is as it was, and the lock is let go. It never answers
 /// `Moved`.
-#[tactic(auto, using(ft_reads::proofs::TriedReads::copy_try))]
 pub fn try_items(bank: &Bank, pass: &mut Pass, alloc: Global, s: Object) -> Step
     requires may { MayTry bank.now pass.old (One s) }
     requires container { s < container_count (shape_of bank.now) }
     requires set { kind_in (shape_of bank.now).starts s ≡ kind.Set }
     requires left { 0 < (view pass.old).left }
     ensures may { MayTry bank.now pass.new (One s) }
-    ensures made { IsCopyOf (One s) (call.Set s set.Items) (view pass.old) (view pass.new) result }
+    ensures tried { IsTry (One s) (IsCopy (call.Set s set.Items)) (view pass.old) (view pass.new) result }
     ensures sections { SectionsAfter bank.now (One s) pass.old pass.new result }
 {
     let called = Call::Set {
@@ -394,7 +386,6 @@ pub fn try_items(bank: &Bank, pass: &mut Pass, alloc: Global, s: Object) -> Step
 ///
 /// `NotYet` where a step of the call found another pass with the lock of one of the sets; the same call comes next. It
 /// never answers `Moved` or `NoMemory`.
-#[tactic(auto, using(ft_table_calls::proofs::TriedCalls::made_try))]
 pub fn try_eq(bank: &Bank, pass: &mut Pass, s: Object, t: Object) -> Step
     requires may { MayTry bank.now pass.old (Two s t) }
     requires container { s < container_count (shape_of bank.now) }
@@ -403,7 +394,7 @@ pub fn try_eq(bank: &Bank, pass: &mut Pass, s: Object, t: Object) -> Step
     requires other_set { kind_in (shape_of bank.now).starts t ≡ kind.Set }
     requires left { 0 < (view pass.old).left }
     ensures may { MayTry bank.now pass.new (Two s t) }
-    ensures made { IsMadeOf (Two s t) (call.Set s (set.Eq t)) (view pass.old) (view pass.new) result }
+    ensures tried { IsTry (Two s t) (IsMade (call.Set s (set.Eq t))) (view pass.old) (view pass.new) result }
     ensures sections { SectionsAfter bank.now (Two s t) pass.old pass.new result }
 {
     let called = Call::Set {
@@ -426,7 +417,6 @@ pub fn try_eq(bank: &Bank, pass: &mut Pass, s: Object, t: Object) -> Step
 ///
 /// `NotYet` where a step of the call found another pass with the lock of one of the sets; the same call comes next. It
 /// never answers `Moved` or `NoMemory`.
-#[tactic(auto, using(ft_table_calls::proofs::TriedCalls::made_try))]
 pub fn try_subset(bank: &Bank, pass: &mut Pass, s: Object, t: Object) -> Step
     requires may { MayTry bank.now pass.old (Two s t) }
     requires container { s < container_count (shape_of bank.now) }
@@ -435,7 +425,7 @@ pub fn try_subset(bank: &Bank, pass: &mut Pass, s: Object, t: Object) -> Step
     requires other_set { kind_in (shape_of bank.now).starts t ≡ kind.Set }
     requires left { 0 < (view pass.old).left }
     ensures may { MayTry bank.now pass.new (Two s t) }
-    ensures made { IsMadeOf (Two s t) (call.Set s (set.Subset t)) (view pass.old) (view pass.new) result }
+    ensures tried { IsTry (Two s t) (IsMade (call.Set s (set.Subset t))) (view pass.old) (view pass.new) result }
     ensures sections { SectionsAfter bank.now (Two s t) pass.old pass.new result }
 {
     let called = Call::Set {
@@ -458,7 +448,6 @@ pub fn try_subset(bank: &Bank, pass: &mut Pass, s: Object, t: Object) -> Step
 ///
 /// `NotYet` where a step of the call found another pass with the lock of one of the sets; the same call comes next. It
 /// never answers `Moved` or `NoMemory`.
-#[tactic(auto, using(ft_table_calls::proofs::TriedCalls::made_try))]
 pub fn try_disjoint(bank: &Bank, pass: &mut Pass, s: Object, t: Object) -> Step
     requires may { MayTry bank.now pass.old (Two s t) }
     requires container { s < container_count (shape_of bank.now) }
@@ -467,7 +456,7 @@ pub fn try_disjoint(bank: &Bank, pass: &mut Pass, s: Object, t: Object) -> Step
     requires other_set { kind_in (shape_of bank.now).starts t ≡ kind.Set }
     requires left { 0 < (view pass.old).left }
     ensures may { MayTry bank.now pass.new (Two s t) }
-    ensures made { IsMadeOf (Two s t) (call.Set s (set.Disjoint t)) (view pass.old) (view pass.new) result }
+    ensures tried { IsTry (Two s t) (IsMade (call.Set s (set.Disjoint t))) (view pass.old) (view pass.new) result }
     ensures sections { SectionsAfter bank.now (Two s t) pass.old pass.new result }
 {
     let called = Call::Set {

@@ -1,5 +1,5 @@
 -- A call that may take a table leaves the cursors of its pass.
-use Rattle.std.proofs.Common.{◌≡◌, ℕ, Bool, Option, Some, None, ap, ◌∙◌}
+use Rattle.std.proofs.Common.{ℕ, Bool, Option, Some, None, ap, ◌∙◌}
 use Rattle.ft_model.specs.declared.call.Call.{Call}
 use Rattle.ft_model.specs.declared.reply.Reply.{Reply}
 use Rattle.ft_trace.specs.declared.Shape.{Shape}
@@ -9,12 +9,9 @@ use Rattle.ft_trace.specs.Holds.{held_words}
 use Rattle.ft_trace.specs.Pictures.{root_in}
 use Rattle.ft_trace.specs.ContainerStates.{changes}
 use Rattle.ft_bank.specs.Answered.{Answered}
-use Rattle.ft_section.specs.declared.answers.Objects.{Objects}
-use Rattle.ft_section.specs.declared.answers.Step.{Step}
-use Rattle.ft_section.specs.declared.answers.Step.TheVariants as step
 use Rattle.ft_table_calls.specs.declared.adding.Added.{Added}
 use Rattle.ft_table_calls.specs.declared.adding.Added.TheVariants as added
-use Rattle.ft_table_calls.specs.Adding.{Grew, GaveUp, IsAdded, IsTryOf, KeepsCursors, UnderLocks, WroteInPlace, WroteWith}
+use Rattle.ft_table_calls.specs.Adding.{Grew, GaveUp, IsAdded, KeepsCursors, WroteWith}
 use Rattle.ft_table_calls.proofs.GrowthMidst.{retired_same}
 
 module _ (called : Call) (said : Reply) (stamp : ℕ) (v w : View) where
@@ -40,13 +37,3 @@ added_cursors k takes over called said v w (added.NoTable class stamp) x =
     λ number. answered_cursors called _ stamp.number y.0 w y.2 number ∙ y.1.same.cursors number
 added_cursors k takes over called said v w (added.Over stamp) x = answered_cursors called _ stamp.number v w x.2
 added_cursors k takes over called said v w (added.Moved a b) x = x.1.2.same.cursors
-
--- what came under the locks leaves them, so the call does
-pub under_cursors : (objects : Objects) (F : View → View → Type 0) (v w : View) → ((b a : View) → F b a → KeepsCursors b a) → UnderLocks objects F v w → KeepsCursors v w
-under_cursors objects F v w keeps under number = under.gone.cursors number ∙ (keeps under.before under.after under.did number ∙ under.took.cursors number)
-
-pub try_cursors : (objects : Objects) (F : View → View → Added → Type 0) (said : Reply) (v w : View) (result : Step) → ((b a : View) (what : Added) → F b a what → KeepsCursors b a) → IsTryOf objects F said v w result → KeepsCursors v w
-try_cursors objects F said v w (step.NotYet p q) keeps x = x.0.cursors
-try_cursors objects F said v w step.NoMemory keeps x = absurd x
-try_cursors objects F said v w (step.Done reply stamp) keeps x = under_cursors objects (λ b a. F b a x.0) v w (λ b a. keeps b a x.0) x.2
-try_cursors objects F said v w (step.Moved a b) keeps x = under_cursors objects (λ b' a'. F b' a' x.0) v w (λ b' a'. keeps b' a' x.0) x.2

@@ -1,5 +1,5 @@
 -- Whole writes that put another root, and what a pass did before that in tables that are fresh in its hand.
-use Rattle.std.proofs.Common.{◌≡◌, ◌≢◌, ℕ, suc, ◌+◌, ◌<◌, le_trans, Bool, true, false, cond, ◌∷◌, refl, sym, ap, ◌∙◌, subst, arith}
+use Rattle.std.proofs.Common.{◌≡◌, ◌≢◌, ℕ, suc, ◌+◌, ◌<◌, le_trans, Bool, true, false, cond, ◌∷◌, refl, sym, ap, ◌∙◌, subst, arith, inr}
 use Rattle.std.specs.Prelude.{◌==◌}
 use mathlib.Core.Logic.{dite}
 use native.Mathlib.Decide.{ℕ_discrete}
@@ -121,6 +121,7 @@ module _ (called : Call) (said : Reply) (number f root : ℕ) (v r u w : View) w
           begun = ends.begun ∙ p1.begun;
           cursors = λ n. ends.cursors n ∙ p1.cursors n;
           seen = let low = le_trans p1.seen ends.seen in let more = ends.shows in omega (arith, low, more);
+          grown = λ old was. ends.grown old (p1.grown old (inr (inr was)));
           tokens = ends.tokens ∙ p1.tokens;
           lists = ends.lists ∙ p1.lists;
           floor = ends.floor ∙ p1.floor;

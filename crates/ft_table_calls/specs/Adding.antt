@@ -8,10 +8,9 @@ use Rattle.ft_trace.specs.declared.Act.{Act}
 use Rattle.ft_trace.specs.declared.Act.TheVariants.{PutHeader, Retire}
 use Rattle.ft_trace.specs.declared.Shape.{Shape}
 use Rattle.ft_trace.specs.declared.View.{View}
-use Rattle.ft_trace.specs.Acts.{flight, has_goal, view_after}
+use Rattle.ft_trace.specs.Acts.{has_goal, view_after}
 use Rattle.ft_trace.specs.Hands.{cursor_in}
 use Rattle.ft_trace.specs.Holds.{held_words}
-use Rattle.ft_trace.specs.Owners.{SameOwners}
 use Rattle.ft_trace.specs.Pictures.{root_in}
 use Rattle.ft_trace.specs.ContainerStates.{changes}
 use Rattle.ft_bank.specs.declared.table.Table.{Table}
@@ -24,11 +23,6 @@ use Rattle.ft_bank.specs.Takings.{HasNotMoved, HasTook, IsTaking, KeepsBut, Stay
 use Rattle.ft_bank.specs.Whole.{SamePass, SameWork, Wrote}
 use Rattle.ft_bank.specs.WriteSteps.{KeepsUnwritten}
 use Rattle.ft_qsbr.specs.Collecting.{Collected, StaysOrGoes}
-use Rattle.ft_section.specs.declared.answers.Objects.{Objects}
-use Rattle.ft_section.specs.declared.answers.Step.{Step}
-use Rattle.ft_section.specs.declared.answers.Step.TheVariants as step
-use Rattle.ft_section.specs.Locking.{OnlyLocked, FoundOwner, LocksWithin}
-use Rattle.ft_section.specs.LockTakings.{HasLocks, IsOf}
 use Rattle.ft_table_calls.specs.declared.adding.Added.{Added}
 use Rattle.ft_table_calls.specs.declared.adding.Added.TheVariants as added
 
@@ -110,32 +104,3 @@ IsAdded k takes over called said v w (added.Over stamp) =
     (over ≡ true) × (stamp.wrote ≡ false) × Answered called (reply.Raised raise.Over) stamp.number v w
 IsAdded k takes over called said v w (added.Moved a b) =
     (over ≡ false) × ((class : ℕ) × (takes ≡ Some class) × TriedTaking k class (took.Moved a b) v w)
-
--- ---- its try
-
--- what the try of a call answers that came to this, and replies so where it is made
-abbrev pub step_after : Added → Reply → Step
-step_after (added.Made stamp) said = step.Done said stamp
-step_after (added.NoTable class stamp) said = step.Done (reply.Raised (raise.Memory class)) stamp
-step_after (added.Over stamp) said = step.Done (reply.Raised raise.Over) stamp
-step_after (added.Moved a b) said = step.Moved a b
-
--- The pass took the locks of these containers, did this while it had them, and let go of those that it took. (C API,
--- critical sections)
-pub record UnderLocks (objects : Objects) (F : View → View → Type 0) (v w : View) : Type 0 where
-  pub before : View
-  pub took : OnlyLocked v before
-  pub within : LocksWithin objects v before
-  pub locks : HasLocks before objects
-  pub after : View
-  pub did : F before after
-  pub gone : OnlyLocked after w
-  pub owners : SameOwners after w
-
--- What the try of a call answers that comes to F under the locks of these containers, and replies so where it is made;
--- or a step of it found another pass with one of these locks. It takes no memory. (C API, critical sections)
-abbrev pub IsTryOf : Objects → (View → View → Added → Type 0) → Reply → View → View → Step → Type 0
-IsTryOf objects F said v w (step.NotYet p q) = OnlyLocked v w × IsOf p objects × FoundOwner p q v w
-IsTryOf objects F said v w step.NoMemory = ⊥
-IsTryOf objects F said v w result =
-    (what : Added) × (step_after what said ≡ result) × UnderLocks objects (λ b a. F b a what) v w

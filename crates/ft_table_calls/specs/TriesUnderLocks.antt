@@ -8,20 +8,21 @@ use Rattle.ft_model.specs.declared.reply.Reply.{Reply}
 use Rattle.ft_model.specs.declared.reply.Reply.TheVariants as reply
 use Rattle.ft_model.specs.Calls.{other_deque, other_dict, other_list, other_set}
 use Rattle.ft_trace.specs.declared.View.{View}
+use Rattle.ft_trace.specs.Owners.{SameOwners}
 use Rattle.ft_bank.specs.Answered.{Answered}
 use Rattle.ft_section.specs.declared.answers.Objects.{Objects}
 use Rattle.ft_section.specs.declared.answers.Objects.TheVariants.{One, Two}
 use Rattle.ft_section.specs.declared.answers.Stamp.{Stamp}
 use Rattle.ft_section.specs.declared.answers.Step.{Step}
 use Rattle.ft_section.specs.declared.answers.Step.TheVariants as step
-use Rattle.ft_section.specs.Locking.{OnlyLocked, FoundOwner}
-use Rattle.ft_section.specs.LockTakings.{IsOf}
+use Rattle.ft_section.specs.Locking.{FoundOwner, LocksWithin, OnlyLocked}
+use Rattle.ft_section.specs.LockTakings.{HasLocks, IsOf}
 use Rattle.ft_search.specs.MadeCalls.{MadeAs}
 use Rattle.ft_table_calls.specs.declared.adding.Added.{Added}
 use Rattle.ft_table_calls.specs.declared.adding.Added.TheVariants as added
 use Rattle.ft_table_calls.specs.declared.made.Made.{Made}
 use Rattle.ft_table_calls.specs.declared.made.Made.TheVariants as made
-use Rattle.ft_table_calls.specs.Adding.{KeepsCursors, UnderLocks}
+use Rattle.ft_table_calls.specs.Adding.{KeepsCursors}
 
 -- ---- the containers of a call
 
@@ -40,6 +41,18 @@ objects_in (call.Begin first second) = objects_by first second
 objects_in other = One 0
 
 -- ---- the try
+
+-- The pass took the locks of these containers, did this while it had them, and let go of those that it took. (C API,
+-- critical sections)
+pub record UnderLocks (objects : Objects) (F : View → View → Type 0) (v w : View) : Type 0 where
+  pub before : View
+  pub took : OnlyLocked v before
+  pub within : LocksWithin objects v before
+  pub locks : HasLocks before objects
+  pub after : View
+  pub did : F before after
+  pub gone : OnlyLocked after w
+  pub owners : SameOwners after w
 
 -- what the try of a call answers that came to this under its locks
 abbrev pub step_of_made : Made → Step

@@ -3,6 +3,8 @@
 #![tactic(auto)]
 
 #[cfg(test)]
+mod awaits;
+#[cfg(test)]
 mod chronicles;
 #[cfg(test)]
 mod generated;

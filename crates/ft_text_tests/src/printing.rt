@@ -58,7 +58,7 @@ struct PrintedScript<'a> {
 }
 
 /// The numbers of tables of a script that says nothing of them.
-const USUAL: &str = "tables 3 4\n\
+pub(crate) const USUAL: &str = "tables 3 4\n\
     tables 4 4\n\
     tables 5 4\n\
     tables 6 4\n\

@@ -38,7 +38,7 @@ struct Cut {
     parts: &'static [(&'static [u8], u32, u8)],
 }
 
-const CUTS: [Cut; 5] = [
+const CUTS: [Cut; 6] = [
     Cut {
         name: "declarations",
         parts: &[
@@ -143,6 +143,27 @@ const CUTS: [Cut; 5] = [
             (b"de", 6, 2),
             (b"r ", 6, 3),
             (b"B A\n", 0, 0),
+        ],
+    },
+    Cut {
+        name: "awaits",
+        parts: &[
+            (b"versio", 1, 2),
+            (b"n ", 1, 3),
+            (b"2\n", 0, 0),
+            (b"threa", 2, 2),
+            (b"d ", 2, 3),
+            (b"A\n", 0, 0),
+            (b"quiesc", 3, 2),
+            (b"e\n", 0, 0),
+            (b"threa", 4, 2),
+            (b"d ", 4, 3),
+            (b"B\n", 0, 0),
+            (b"awai", 5, 2),
+            (b"t ", 5, 3),
+            (b"A.", 5, 6),
+            (b"1", 0, 0),
+            (b"0", 5, 15),
         ],
     },
 ];

@@ -118,7 +118,7 @@ fn a_long_string_is_reported_before_one_too_many(rt: HostRuntime) -> Result<(), 
     Ok(())
 }
 
-const AFTER_CALLS: [(&str, u8); 8] = [
+const AFTER_CALLS: [(&str, u8); 10] = [
     ("get", 3),
     ("begin d d d", 3),
     ("get e", 12),
@@ -127,6 +127,15 @@ const AFTER_CALLS: [(&str, u8); 8] = [
     ("end", 12),
     ("stop", 2),
     ("end \"", 5),
+    ("await A.1", 2),
+    ("await", 2),
+];
+
+const AWAITS_AFTER_CALLS: [(&str, u8); 4] = [
+    ("await A.1", 12),
+    ("await C.1", 12),
+    ("await C.0", 12),
+    ("await", 3),
 ];
 
 #[test]
@@ -138,6 +147,10 @@ fn calls_at_a_limit_and_past_it(rt: HostRuntime) -> Result<(), Fail> {
     assert!(rt; have_faults_after(alloc, &text, 500_004, &AFTER_CALLS)?);
     text.push_str("quiesce")?;
     assert!(rt; passes(alloc, &text, 500_004, Which::Calls));
+    let mut text = repeated(alloc, "version 2\nthread A\n", "quiesce\n", 499_999)?;
+    text.push_str("thread B\nawait A.499999\n")?;
+    assert!(rt; is_script(alloc, &text));
+    assert!(rt; have_faults_after(alloc, &text, 500_004, &AWAITS_AFTER_CALLS)?);
     Ok(())
 }
 

@@ -32,14 +32,17 @@ pub(crate) fn passes(alloc: Global, text: &str, line: u32, which: Which) -> bool
 }
 
 /// The first text that hasn't its fault at its line, where there is one.
-fn first_without_its_fault<'a>(alloc: Global, rows: &[(&'a str, u32, u8)]) -> Option<&'a str> {
+pub(crate) fn first_without_its_fault<'a>(
+    alloc: Global,
+    rows: &[(&'a str, u32, u8)],
+) -> Option<&'a str> {
     rows.iter()
         .find(|row| !has_fault(alloc, row.0, row.1, row.2))
         .map(|row| row.0)
 }
 
 /// The first text that isn't a script, where there is one.
-fn first_refused<'a>(alloc: Global, texts: &[&'a str]) -> Option<&'a str> {
+pub(crate) fn first_refused<'a>(alloc: Global, texts: &[&'a str]) -> Option<&'a str> {
     texts
         .iter()
         .find(|text| !is_script(alloc, **text))
@@ -360,7 +363,7 @@ struct Said<'a> {
     is_memory: bool,
 }
 
-const FAULT_TEXTS: [Said<'static>; 4] = [
+const FAULT_TEXTS: [Said<'static>; 5] = [
     Said {
         kind: 1,
         which: None,
@@ -381,6 +384,12 @@ const FAULT_TEXTS: [Said<'static>; 4] = [
     },
     Said {
         kind: 15,
+        which: None,
+        text: "await",
+        is_memory: false,
+    },
+    Said {
+        kind: 16,
         which: None,
         text: "",
         is_memory: false,

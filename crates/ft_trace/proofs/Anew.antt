@@ -10,12 +10,17 @@ use Rattle.ft_trace.specs.declared.Act.{Act}
 use Rattle.ft_trace.specs.declared.Act.TheVariants.{ReadRoot, ReadTable, ReadCounter, Version}
 use Rattle.ft_trace.specs.Acts.{reads}
 use Rattle.ft_trace.specs.Addresses.{IsTableName, container_count}
-use Rattle.ft_trace.specs.LoggedLookUps.{Online, LookUpWindow, Inner, unread, IsNew}
+use Rattle.ft_trace.specs.LoggedLookUps.{Online, LookUpWindow, Inner, IsNew}
 use Rattle.ft_trace.specs.Traces.{Event, run, Valid}
 use Rattle.ft_trace.proofs.Cases.{miss, here}
 use Rattle.ft_trace.proofs.EarlierMoments.{was}
 use Rattle.ft_trace.proofs.TablePlaces.{root, root_table}
 use Rattle.ft_trace.proofs.Spots.{root_again}
+
+-- how many of the first tables the pass has not found in a root since it last announced
+abbrev pub unread : ℕ → List Act → ℕ
+unread zero l = 0
+unread (suc t) l = cond (reads t l) 0 1 + unread t l
 
 inner_reads : (t : ℕ) (mid l : List Act) → Inner mid → reads t (mid ++ l) ≡ reads t l
 inner_reads t [] l q = refl

@@ -55,5 +55,5 @@ inside k m cs v (TakeTable t f s) may = fw_low k t may.0
 inside k m cs v (GiveTable t) may = fw_low k t may.0
 inside k m cs v (Announce p x) may = (may.3, may.4)
 inside k m cs v (ReadAnnounced p f) may = (may.1, may.2)
-inside k m cs v (TookOver tables had found) may = absurd may
+inside k m cs v (TookOver tables had found told) may = absurd may
 inside k m cs v act may = tt

@@ -19,13 +19,13 @@ use Rattle.ft_model.specs.Answers.{answer}
 use Rattle.ft_model.specs.Worlds.{no_hands}
 use Rattle.ft_trace.specs.ContainerStates.{first_writes, reply_in}
 use Rattle.ft_trace.specs.Traces.{Event, did, forked, joined, sent, run, word, writes_of, history, May, Valid}
-use Rattle.ft_trace.specs.Entries.{total, trace_entries, IsNumber, Right, AllRight, number_count, Numbered}
+use Rattle.ft_trace.specs.Entries.{total, IsNumber, Right, AllRight, number_count, Numbered}
 use Rattle.ft_trace.proofs.AllEntries.{next_all, has_none, both_all}
 use Rattle.ft_trace.proofs.Sizes.{set_views, one_more, one_view}
 use Rattle.ft_trace.proofs.Stamps.{all_writes, writes_stay, grows_by}
 use Rattle.ft_trace.proofs.CursorAnswers.{hands_with, moved_reads, moved_replied, moved_reply}
 use Rattle.ft_trace.proofs.Contents.{count, counted}
-use Rattle.ft_trace.proofs.Totals.{weight, parts_total, entries_total, total_two, total_alone}
+use Rattle.ft_trace.proofs.Totals.{weight, parts_total, entries_total, total_two, total_alone, trace_entries}
 
 number_stays : (b : Act) (cs : List Call) (n : ℕ) (c : Call) → IsNumber cs n c → IsNumber (writes_of b cs) n c
 number_stays (Commit d r f s) cs n c is = inr is

@@ -42,7 +42,7 @@ counts k es id v old (ReadCounter f) may = loaded k es id v (ReadCounter f) (λ 
 counts k es id v old (TakeFloor f s) may = loaded k es id v (TakeFloor f s) (λ n. refl) counter ∙ old
 counts k es id v old (Answer c x n) may = loaded k es id v (Answer c x n) (λ n. refl) counter ∙ old
 counts k es id v old (AnswerCursor c x n m had left) may = loaded k es id v (AnswerCursor c x n m had left) (λ n. refl) counter ∙ old
-counts k es id v old (TookOver hs had found) may = absurd may
+counts k es id v old (TookOver hs had found told) may = absurd may
 counts k es id v old act may = stays k es id v act may counter tt (λ e. absurd (cc)) ∙ old
 
 pub counted : (k : Shape) (es : List Event) → Valid k es → count k es ≡ length (history es)

@@ -13,7 +13,7 @@ use Rattle.ft_trace.specs.Bits.{bit}
 use Rattle.ft_trace.specs.Addresses.{tables_in, count_of_class, bits, class_of, number_of, free_word_of, free_bit_of, IsTableName}
 use Rattle.ft_trace.specs.Acts.{place, stage, flight, flight_next, view_after, maker, made, both, spent, sender, note}
 use Rattle.ft_trace.specs.Entries.{total}
-use Rattle.ft_trace.specs.Counts.{sum_to, bit_of, set_bits, taking, giving}
+use Rattle.ft_trace.specs.Counts.{sum_to, taking, giving}
 use Rattle.ft_trace.specs.Traces.{Event, did, forked, joined, sent, run, word, history, May, Valid}
 use Rattle.ft_model.specs.Classes.{IsClass}
 use Rattle.ft_trace.proofs.Announcing.{fits}
@@ -24,6 +24,14 @@ use Rattle.ft_trace.proofs.OneWord.{stays, moves, loaded}
 use Rattle.ft_trace.proofs.OddVersions.{one_up}
 use Rattle.ft_trace.proofs.TablePlaces.{placed, other_bit, bit_stays}
 use Rattle.ft_trace.proofs.Totals.{total_set, total_forked, total_joined}
+
+-- the bit of a table, 1 where it is free
+abbrev pub bit_of : Shape → List Event → ℕ → ℕ
+bit_of k es t = bit (free_bit_of t) (word k es (bits (free_word_of t)))
+
+-- how many bits of the class are set
+abbrev pub set_bits : Shape → List Event → ℕ → ℕ
+set_bits k es c = sum_to (λ i. bit_of k es (65536 * c + i)) (tables_in k c)
 
 pub sum_same : (f g : ℕ → ℕ) (n : ℕ) → ((i : ℕ) → i < n → f i ≡ g i) → sum_to f n ≡ sum_to g n
 sum_same f g zero same = refl

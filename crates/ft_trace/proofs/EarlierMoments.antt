@@ -8,7 +8,7 @@ use Rattle.ft_trace.specs.declared.Shape.{Shape}
 use Rattle.ft_trace.specs.declared.View.{View}
 use Rattle.ft_trace.specs.declared.Act.{Act}
 use Rattle.ft_trace.specs.declared.Act.TheVariants.{ReadRoot, Announce, TookOver}
-use Rattle.ft_trace.specs.Acts.{place, Reports, reads, reads_next, hands_over, starter, view_after, maker, made, both, spent, sender, note}
+use Rattle.ft_trace.specs.Acts.{place, Reports, reads, reads_next, hands_over, tells, starter, view_after, maker, made, both, spent, sender, note}
 use Rattle.ft_trace.specs.Owners.{had_locks, found_owners}
 use Rattle.ft_trace.specs.Ages.{age, seen, seen_next}
 use Rattle.ft_trace.specs.LoggedLookUps.{Online}
@@ -44,7 +44,7 @@ still_reads t (x ∷ xs) rest on r = (reads_on t x xs on (reads t (xs ++ rest)) 
 
 -- an action that is a step of the pass's own
 abbrev pub IsStep : Act → Type 0
-IsStep (TookOver tables had found) = ⊥
+IsStep (TookOver tables had found told) = ⊥
 IsStep act = Unit {0}
 
 -- The pass at seat j did a when its log was rest, or took tables over at a join. The trace at that moment is `older`.
@@ -108,7 +108,7 @@ by_front k es id v b valid before (x ∷ xs) a rest e = own_next k es id v b x x
 -- what a join adds to the log
 by_join : (k : Shape) (es : List Event) (id : ℕ) (v : View) (other : ℕ) (w : View) → Valid k (joined id v other w ∷ es) → Each k es id v → Each k (joined id v other w ∷ es) id (both v w)
 by_join k es id v other w valid before [] a rest e =
-    let same : TookOver (hands_over w.log) (had_locks w.number w.log) (found_owners w.log) ≡ a = cc in
+    let same : TookOver (hands_over w.log) (had_locks w.number w.log) (found_owners w.log) (tells w) ≡ a = cc in
     let log : v.log ≡ rest = cc in
     subst (λ (z : Act). Was k (joined id v other w ∷ es) id [] z rest) same (record { newer = joined id v other w ∷ []; older = es; view = v; split = refl; valid = valid.0; at = valid.1.0; log = log; tells = tt; live = valid.1.3; may = λ no. absurd no; seen = λ on t r. refl })
 by_join k es id v other w valid before (x ∷ xs) a rest e =

@@ -4,6 +4,7 @@ use Rattle.std.specs.Prelude.{◌&&◌, Bool}
 use mathlib.Core.Option.{some}
 use lib.ListN.{get_elem?}
 use Rattle.ft_model.specs.declared.call.Call.{Call}
+use Rattle.ft_model.specs.declared.call.Call.TheVariants as call
 use Rattle.ft_model.specs.declared.reply.Reply.{Reply}
 use Rattle.ft_model.specs.declared.reply.Reply.TheVariants as reply
 use Rattle.ft_model.specs.declared.reply.Raise.TheVariants as raise
@@ -57,6 +58,7 @@ cause_earned k es valid id v at called (reply.Raised (raise.Memory class)) n cau
 cause_earned k es valid id v at called (reply.Raised raise.Over) n cause = cause
 cause_earned k es valid id v at called (reply.Raised raise.Heap) n cause = absurd cause
 cause_earned k es valid id v at called reply.Kept n cause = cause.0
+cause_earned k es valid id v at (call.Await thread index) reply.Done n cause = refl
 cause_earned k es valid id v at called said n cause = cause
 
 earned_next : (k : Shape) (es : List Event) → Valid k es → (id : ℕ) (v : View) → get_elem? (run k es).views id ≡ some v → (b : Act) → Reports b (word k es (place b)) → May k (run k es) (history es) v b → (fs : List Entry) → AllEarned k (writes_of b (history es)) fs → AllEarned k (writes_of b (history es)) (entries_next b fs)

@@ -48,7 +48,7 @@ module _ (k : Shape) (es : List Event) (id : ℕ) (v : View) where
   -- the pass that acts
   own : (a : Act) → Own a
   own (TakeFloor f s) may old has = (may.0, ap (λ (z : _). z.words) may.1 ∙ sym (set-get_or (run k es).words (at k counter) 0))
-  own (TookOver hs had found) may old has = absurd may
+  own (TookOver hs had found told) may old has = absurd may
   own act may old has =
       let before = old has in
       (before.0, ap (λ (ws : List ℕ). slice_set ws (at k (place act)) (word_after v.number act (slice_index ws (at k (place act))))) before.1)
@@ -153,7 +153,7 @@ Tells k j u = u.has_floor ≡ true → FoundAsKnown k u.number u.log
 module _ (k : Shape) (es : List Event) (id : ℕ) (v : View) where
   tells_own : (a : Act) → Reports a (word k es (place a)) → (v.has_floor ≡ true → floor_words k v.number v.log ≡ (run k es).words) → Tells k id v → has_floor_next a v.has_floor ≡ true → FoundAsKnown k v.number (a ∷ v.log)
   tells_own (TakeFloor f s) found words old has = tt
-  tells_own (TookOver hs had others) found words old has = old has
+  tells_own (TookOver hs had others told) found words old has = old has
   tells_own act found words old has = (subst (λ (ws : List ℕ). Reports act (slice_index ws (at k (place act)))) (sym (words has)) found, old has)
 
 pub by_given : (b c : Bool) → cond b c false ≡ true → c ≡ true

@@ -70,7 +70,7 @@ module _ (k : Shape) (es : List Event) (valid : Valid k es) (id : ℕ) (v : View
       ⊎_elim (λ (z : (eqb p o ≡ true) × (eqb f q ≡ true)). locked_by p f may.0 found taken z.0 z.1)
       (λ (z : is_owner_in o q owners ≡ true). old o q z)
       (one_or o q (eqb p o) (eqb f q) (is_owner_in o q owners) (sym (ap (is_owner_in o q) (miss f 0 owners (one ∷ owners) taken)) ∙ is)))
-  step (TookOver tables had others) found may old is = absurd may
+  step (TookOver tables had others told) found may old is = absurd may
   step a found may old is = old o q is
 
 -- two passes that become one know what both knew

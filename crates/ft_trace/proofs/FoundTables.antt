@@ -10,6 +10,7 @@ use Rattle.ft_trace.specs.declared.View.{View}
 use Rattle.ft_trace.specs.declared.Act.{Act}
 use Rattle.ft_trace.specs.declared.Handed.{Handed}
 use Rattle.ft_trace.specs.declared.Owner.{Owner}
+use Rattle.ft_trace.specs.declared.Told.{Told}
 use Rattle.ft_trace.specs.declared.Act.TheVariants.{TakeTable, GiveTable, PutRoot, Retire, ReadAnnounced, ReadRoot, Announce, TookOver}
 use Rattle.ft_trace.specs.Bits.{bit}
 use Rattle.ft_trace.specs.Addresses.{write_number, announced_of, bits, IsTableName, free_word_of, free_bit_of}
@@ -42,13 +43,13 @@ one : (b : Bool) (x n : ℕ) → x ≢ 4 → cond b x n ≡ 4 → n ≡ 4
 one true x n ne e = absurd (ne e)
 one false x n ne e = e
 
-on_goal : (t : ℕ) (F : Act → Type 0) → ((f : ℕ) → F (Retire t f)) → ((q f : ℕ) → F (ReadAnnounced q f)) → ((hs : List Handed) (had found : List Owner) → F (TookOver hs had found)) → ((a : Act) → Mild t a → F a) → (a : Act) → F a
+on_goal : (t : ℕ) (F : Act → Type 0) → ((f : ℕ) → F (Retire t f)) → ((q f : ℕ) → F (ReadAnnounced q f)) → ((hs : List Handed) (had found : List Owner) (told : List Told) → F (TookOver hs had found told)) → ((a : Act) → Mild t a → F a) → (a : Act) → F a
 on_goal t F retire hear took other (Retire p f) = same_or (λ (z : ℕ). F (Retire z f)) p t (retire f) (λ ne. other (Retire p f) (record { stage = λ n e. sym (miss p t 4 n ne) ∙ e; goal = λ g. miss p t (f + 1) g ne; clear = λ q g b. miss p t false b ne }))
 on_goal t F retire hear took other (ReadAnnounced q f) = hear q f
 on_goal t F retire hear took other (TakeTable p f s) = other (TakeTable p f s) (record { stage = λ n e. three (eqb p t) (eqb (bit (free_bit_of t) f) 1) 1 n (λ z. absurd (omega (arith, z))) e; goal = λ g. refl; clear = λ p g b. refl })
 on_goal t F retire hear took other (GiveTable p) = other (GiveTable p) (record { stage = λ n e. one (eqb p t) 0 n (λ z. absurd (omega (arith, z))) e; goal = λ g. refl; clear = λ p g b. refl })
 on_goal t F retire hear took other (PutRoot o r old) = other (PutRoot o r old) (record { stage = λ n e. two (eqb r (suc t)) (eqb old (suc t)) 0 3 n (λ z. absurd (omega (arith, z))) (λ z. absurd (omega (arith, z))) e; goal = λ g. refl; clear = λ p g b. refl })
-on_goal t F retire hear took other (TookOver hs had found) = took hs had found
+on_goal t F retire hear took other (TookOver hs had found told) = took hs had found told
 on_goal t F retire hear took other act = other act (record { stage = λ n e. e; goal = λ g. refl; clear = λ p g b. refl })
 
 -- what the log of the pass that has retired t says of it stands in the log of all
@@ -95,7 +96,7 @@ linked k (did id v a ∷ es) valid t table =
       clear_is = λ z p x. subst (λ (y : ℕ). clear_next t p y (ReadAnnounced q f) (clear t p G) ≡ true) (sym (m.goal_is z)) (more (eqb q p) (eqb f 0) (ltb f (goal t v.log)) (clear t p v.log) (clear t p G) (m.clear_is z p) x);
     })
     (λ j u ne e. let o = old j u e in record { goal_is = o.goal_is; clear_is = λ z p x. raise (eqb q p) (eqb f 0) (ltb f (goal t G)) (clear t p G) (o.clear_is z p x) }))
-    (λ hs had found ok. absurd ok.1.3)
+    (λ hs had found told ok. absurd ok.1.3)
     (λ b c ok.
     set_views (λ j u. Linked t (did id v b ∷ es) u) _ id (view_after b v)
     (record {
@@ -198,7 +199,7 @@ safe_calm k es id v t table old (Retire q f) same ok =
     subst (λ (z : ℕ). Safe k t (A ∷ G) z (reads t u.log) (announces u.log) u.number) (sym same)
     (record { read_is = λ r. let h = o.read_is r in (h.0, (λ four. let x = h.1 four in omega (arith, x, gl)), h.2, h.3, h.4); clear_is = λ four c r. o.clear_is four (sym (cl u.number) ∙ c) r }) in
     set_views (λ j u. SafeAt k t (did id v A ∷ es) u) _ id (view_after A v) (lift id v ok.1.0) (λ j u _ e. lift j u e)
-safe_calm k es id v t table old (TookOver hs had found) same ok = absurd ok.1.3
+safe_calm k es id v t table old (TookOver hs had found told) same ok = absurd ok.1.3
 safe_calm k es id v t table old act same ok =
     let lift : (j : ℕ) (u : View) → get_elem? (run k es).views j ≡ some u → Safe k t (act ∷ all_acts es) (aged act t (age es t)) (reads t u.log) (announces u.log) u.number = λ j u e.
     let o = old j u e in

@@ -95,7 +95,7 @@ among_handed t (one ∷ hs) ys there =
 put_by : (t : ℕ) (a : Act) (b : Bool) (ts : List ℕ) → (b ≡ true → among t ts ≡ true) → has_goal_next t a b ≡ true → among t (put_tables_next a ts) ≡ true
 put_by t (PutHeader p x) b ts old has = dite (ℕ_discrete p t) (λ (e : p ≡ t). here p t true (among t ts) e) (λ ne. miss p t true (among t ts) ne ∙ old (sym (miss p t true b ne) ∙ has))
 put_by t (GiveTable p) b ts old has = dite (ℕ_discrete p t) (λ (e : p ≡ t). off (sym (here p t false b e) ∙ has)) (λ ne. old (sym (miss p t false b ne) ∙ has))
-put_by t (TookOver hs had found) b ts old has =
+put_by t (TookOver hs had found told) b ts old has =
     either_way (is_handed t hs) (λ there. among_handed t hs ts there)
     (λ none. among_more t (map (λ (one : Handed). one.table) hs) ts (old (sym (where_false (is_handed t hs) true b none) ∙ has)))
 put_by t act b ts old has = old has

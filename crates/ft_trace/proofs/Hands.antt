@@ -11,7 +11,7 @@ use Rattle.ft_trace.specs.declared.Act.TheVariants.{TakeTable, GiveTable, PutRoo
 use Rattle.ft_trace.specs.Bits.{bit}
 use Rattle.ft_trace.specs.Addresses.{write_number, IsTableName, free_bit_of}
 use Rattle.ft_trace.specs.Acts.{stage, stage_next, is_handed, hands_over, view_after, maker, made, both, spent, sender, note}
-use Rattle.ft_trace.specs.Ages.{aged, age, gone_to, keeper}
+use Rattle.ft_trace.specs.Ages.{aged, age, gone_to}
 use Rattle.ft_trace.specs.Traces.{Event, did, forked, joined, sent, run, word, history, May, Valid}
 use Rattle.ft_trace.proofs.Sizes.{set_at}
 use Rattle.atomic_table.proofs.Lists.{set_else, at_longer}
@@ -20,7 +20,7 @@ use Rattle.ft_trace.proofs.HandedOver.{where_false, handed_is}
 use Rattle.ft_trace.proofs.OneWord.{stays, moves}
 use Rattle.ft_trace.proofs.OddVersions.{one_up}
 use Rattle.ft_trace.proofs.Announcing.{on_write_number}
-use Rattle.ft_trace.proofs.TablePlaces.{on_table, placed}
+use Rattle.ft_trace.proofs.TablePlaces.{on_table, placed, keeper}
 
 pub record InHands (k : Shape) (es : List Event) (t : ℕ) : Type 0 where
   pub by : View

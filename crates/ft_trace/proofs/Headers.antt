@@ -55,7 +55,7 @@ module _ (k : Shape) (es : List Event) (id : ℕ) (v : View) (t : ℕ) (table : 
       absurd (omega (arith, a, b, four)))
       (λ far. (miss r (suc t) 0 (cond (eqb past (suc t)) 3 n) ne ∙ (miss past (suc t) 3 n far ∙ h.0), still (PutRoot o r past) may (λ e. absurd (cc)) ∙ h.1)))
   own (ReadHeader p f) = λ may s. let h = old id v at s in (h.0, loaded k es id v (ReadHeader p f) (λ n. refl) (header t) ∙ h.1)
-  own (TookOver hs had found) = λ may s. absurd may
+  own (TookOver hs had found told) = λ may s. absurd may
   own act = λ may s. let h = old id v at s in (h.0, still act may (λ e. absurd (cc)) ∙ h.1)
 
   theirs : (a : Act) → May k (run k es) (history es) v a → (j : ℕ) (u : View) → j ≢ id → get_elem? (run k es).views j ≡ some u → Header k (did id v a ∷ es) t j u

@@ -236,7 +236,7 @@ own k es id v valid here_ old (PutFresh t i x) may =
     (same_back k es id v (PutFresh t i x) (λ o. refl) (λ t. refl) (λ o low. stays k es id v (PutFresh t i x) may (block o 0) (low, omega arith) (λ e. absurd (cc))))
 own k es id v valid here_ old (PutRoot p r was) may =
     stored k es id v (PutRoot p r was) r valid may old (may.0, omega arith) refl refl refl refl (λ o. refl) (old.wide (inl (p, writer_has k es valid p id v here_ may.1))) (root_back k es id v p r was may)
-own k es id v valid here_ old (TookOver hs had found) may = absurd may
+own k es id v valid here_ old (TookOver hs had found told) may = absurd may
 own k es id v valid here_ old act may = calm k es id v act old refl refl refl (λ o m. m) (λ t m. m) (apart k es id v act may (λ d. d))
 
 -- a lock is that of an container of the bank

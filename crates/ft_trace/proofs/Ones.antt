@@ -15,12 +15,12 @@ use Rattle.ft_trace.specs.Addresses.{Word, tables_in, count_of_class, bits, clas
 use Rattle.ft_trace.proofs.Announcing.{fits}
 use Rattle.ft_trace.specs.Acts.{place, word_after}
 use Rattle.ft_trace.specs.Entries.{total}
-use Rattle.ft_trace.specs.Counts.{sum_to, bit_of, set_bits, ones, word_bits, taking, giving}
+use Rattle.ft_trace.specs.Counts.{sum_to, ones, word_bits, taking, giving}
 use Rattle.ft_trace.specs.Traces.{Event, did, forked, joined, sent, run, word, history, May, Valid}
 use Rattle.ft_trace.proofs.Addresses.{bt_low, num_is, class_of_number, number_of_number, bits_first}
 use Rattle.ft_trace.proofs.Bits.{off_else, on_else}
 use Rattle.ft_trace.proofs.OneWord.{stays, moves, loaded}
-use Rattle.ft_trace.proofs.Counts.{sum_same, counts_stand}
+use Rattle.ft_trace.proofs.Counts.{sum_same, counts_stand, bit_of, set_bits}
 
 full_off : (n b : ℕ) → n ≤ b → bit b (full n) ≡ 0
 unfolding bit

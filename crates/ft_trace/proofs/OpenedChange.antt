@@ -1,5 +1,5 @@
 -- That each commit changes what stands in the entries and items whose versions are odd.
-use Rattle.std.proofs.Common.{◌≡◌, ℕ, suc, List, ◌∷◌, ◌++◌}
+use Rattle.std.proofs.Common.{ℕ, List, ◌∷◌}
 use Rattle.ft_model.specs.declared.content.Content.{Content}
 use Rattle.ft_model.specs.declared.script.Kind.{Kind}
 use Rattle.ft_model.specs.declared.script.Kind.TheVariants as kind

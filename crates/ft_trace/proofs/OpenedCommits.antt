@@ -1,5 +1,5 @@
 -- That the write of a container which opened an entry or item commits while it is open.
-use Rattle.std.proofs.Common.{◌≡◌, ◌≢◌, ◌⊎◌, ℕ, suc, ◌+◌, ◌%◌, ◌<◌, true, false, true≢false, List, [], ◌∷◌, ◌++◌, set, refl, sym, ap, ◌∙◌, subst, inl, inr, ⊎_elim, arith, get_or-set_other, get_or-set_same}
+use Rattle.std.proofs.Common.{◌≡◌, ◌⊎◌, ℕ, suc, ◌+◌, ◌%◌, ◌<◌, ◌≤◌, true, false, true≢false, List, [], ◌∷◌, ◌++◌, set, refl, sym, ap, ◌∙◌, subst, inl, inr, ⊎_elim, arith, get_or-set_other, get_or-set_same}
 use Rattle.std.specs.Prelude.{slice_index, slice_set}
 use mathlib.Core.Option.{some, some-injective}
 use mathlib.Core.Logic.{dite}
@@ -14,12 +14,15 @@ use Rattle.ft_trace.specs.declared.Snap.{Snap}
 use Rattle.ft_trace.specs.declared.View.{View}
 use Rattle.ft_trace.specs.Acts.{is_writing, is_writing_next, has_committed, has_committed_next, view_after, maker, made, both, spent, sender, note}
 use Rattle.ft_trace.specs.Addresses.{block, class_of, container_count}
+use Rattle.ft_trace.specs.Ages.{age}
 use Rattle.ft_trace.specs.ContainerStates.{kind_in, changes}
 use Rattle.ft_trace.specs.Kinds.{rows, version_at}
-use Rattle.ft_trace.specs.OpenedEntries.{IsOpen, OpensChangedBy, OpenedAreCommitted}
-use Rattle.ft_trace.specs.Traces.{Event, did, forked, joined, sent, run, history, May, TimelyFor, Valid}
+use Rattle.ft_trace.specs.OpenedEntries.{OpensChangedBy, OpenedAreCommitted}
+use Rattle.ft_trace.specs.StoppedLookUps.{IsOpenAs}
+use Rattle.ft_trace.specs.Traces.{Event, did, forked, joined, sent, run, history, May, CarefulFor, TimelyFor, Valid}
 use Rattle.ft_trace.proofs.Cases.{miss, off}
-use Rattle.ft_trace.proofs.ByKind.{row_low}
+use Rattle.ft_trace.proofs.Ages.{ages_one}
+use Rattle.ft_trace.proofs.ByKind.{as_version, row_low}
 use Rattle.ft_trace.proofs.Contents.{tab}
 use Rattle.ft_trace.proofs.EarlierMoments.{valid_rest}
 use Rattle.ft_trace.proofs.Locks.{one_holder}
@@ -29,12 +32,12 @@ use Rattle.ft_trace.proofs.Pieces.{table_long}
 use Rattle.atomic_table.proofs.Lists.{set_else, at_longer}
 use Rattle.ft_trace.proofs.OneWord.{stays}
 use Rattle.ft_trace.proofs.Sizes.{set_at}
-use Rattle.ft_trace.proofs.Sounds.{on_cells, put_tab}
+use Rattle.ft_trace.proofs.Sounds.{content, on_cells, put_tab}
 use Rattle.ft_trace.proofs.TablePlaces.{root, on_root, root_table, placed}
 
 -- ---- who writes o and has not committed since
 
-abbrev Early : List View → ℕ → Type 0
+abbrev pub Early : List View → ℕ → Type 0
 Early views o = (j : ℕ) × (u : View) × (get_elem? views j ≡ some u) × (is_writing o u.log ≡ true) × (has_committed o u.log ≡ false)
 
 early_set : (views : List View) (o id : ℕ) (w v : View) → get_elem? views id ≡ some v → (is_writing o v.log ≡ true → has_committed o v.log ≡ false → (is_writing o w.log ≡ true) × (has_committed o w.log ≡ false)) → Early views o → Early (set views id w) o
@@ -65,163 +68,179 @@ early_act k es o v act may w e = inr (w, e)
 
 -- ---- an entry is open, and the write of its container has not committed
 
-record Opening (k : Shape) (es : List Event) (o t p : ℕ) : Type 0 where
-  open_here : IsOpen k es o t p
-  early : Early (run k es).views o
+-- a step leaves the table where it is
+pub same_age : (k : Shape) (e : Event) (es : List Event) → Valid k (e ∷ es) → (o t : ℕ) → o < container_count k → root k es o ≡ suc t → root k (e ∷ es) o ≡ suc t → age (e ∷ es) t ≡ age es t
+same_age k e es valid o t low was now =
+    let table = root_table k es (valid_rest k (e ∷ []) es valid) o low t was in
+    let a = ((placed k es (valid_rest k (e ∷ []) es valid) t table).roots o low was).0 in
+    let b = ((placed k (e ∷ es) valid t table).roots o low now).0 in
+    let step = ages_one e es t in
+    let up = step.up in
+    ⊎_elim (λ (h : age (e ∷ es) t ≤ age es t + 1). omega (arith, a, b, up, h)) (λ (h : age (e ∷ es) t % 5 ≡ 0). absurd (omega (arith, b, h))) step.small
+
+-- the version is x, and the table has this age
+pub record Opening (k : Shape) (es : List Event) (o t p x g : ℕ) : Type 0 where
+  pub open_here : IsOpenAs k es o t p x
+  pub aged : age es t ≡ g
+  pub early : Early (run k es).views o
 
 -- the event is a commit of a pass that writes o
-abbrev Commits : Event → ℕ → Type 0
+abbrev pub Commits : Event → ℕ → Type 0
 Commits e o = (h : ℕ) × (u : View) × (c : Call) × (r : Reply) × (f : ℕ) × (s : Snap) × (e ≡ did h u (Commit c r f s)) × (is_writing o u.log ≡ true)
 
 module _ (k : Shape) (o t p : ℕ) (low : o < container_count k) (small : p < rows (kind_in k.starts o) (class_of t)) where
-  abbrev V : ℕ
-  V = version_at (kind_in k.starts o) (class_of t) p
+  module _ (x g : ℕ) where
+    abbrev V : ℕ
+    V = version_at (kind_in k.starts o) (class_of t) p
 
-  module _ (es : List Event) (id : ℕ) (v : View) (opened : Opening k es o t p) where
-    names : root k es o ≡ suc t
-    names = opened.open_here.0
+    module _ (es : List Event) (id : ℕ) (v : View) (opened : Opening k es o t p x g) where
+      names : root k es o ≡ suc t
+      names = opened.open_here.0
 
-    odd : slice_index (tab k es t) V % 2 ≡ 1
-    odd = opened.open_here.1
+      -- a pass that writes o is the one that has not committed
+      pub writer_is : Valid k es → get_elem? (run k es).views id ≡ some v → is_writing o v.log ≡ true → (opened.early.0 ≡ id) × (has_committed o v.log ≡ false)
+      writer_is valid at mine =
+          let h = opened.early in
+          let same : h.0 ≡ id = one_holder k es valid o low h.0 id h.1 v h.2 at (writer_has k es valid o h.0 h.1 h.2 h.3) (writer_has k es valid o id v at mine) in
+          let u : h.1 ≡ v = some-injective h.1 v (sym h.2 ∙ (ap (get_elem? (run k es).views) same ∙ at)) in
+          (same, subst (λ (z : View). has_committed o z.log ≡ false) u h.4)
 
-    -- a pass that writes o is the one that has not committed
-    writer_is : Valid k es → get_elem? (run k es).views id ≡ some v → is_writing o v.log ≡ true → (opened.early.0 ≡ id) × (has_committed o v.log ≡ false)
-    writer_is valid at mine =
-        let h = opened.early in
-        let same : h.0 ≡ id = one_holder k es valid o low h.0 id h.1 v h.2 at (writer_has k es valid o h.0 h.1 h.2 h.3) (writer_has k es valid o id v at mine) in
-        let u : h.1 ≡ v = some-injective h.1 v (sym h.2 ∙ (ap (get_elem? (run k es).views) same ∙ at)) in
-        (same, subst (λ (z : View). has_committed o z.log ≡ false) u h.4)
+      -- its version stays
+      still_open : (b : Act) → Valid k (did id v b ∷ es) → IsOpenAs k (did id v b ∷ es) o t p x
+      still_open =
+          let F : Act → Type 0 = λ b. Valid k (did id v b ∷ es) → IsOpenAs k (did id v b ∷ es) o t p x in
+          on_root k es id v o low F
+          (λ r old ok. let two = ok.1.3.4 t (ok.1.3.2 ∙ names) p small in let is = opened.open_here.1 in let one = opened.open_here.2 in absurd (omega (arith, two, is, one)))
+          (λ b stay ok.
+          let table = root_table k es ok.0 o low t names in
+          let G : Act → Type 0 = λ b. Valid k (did id v b ∷ es) → slice_index (tab k (did id v b ∷ es) t) V ≡ x in (
+            stay ok.1.3 ∙ names,
+            on_cells k es id v t table G
+                (λ q i y ok.
+                let may = ok.1.3 in
+                let its = placed k es ok.0 t table in
+                let same : q ≡ o = sym (its.roots q may.0 may.4).1 ∙ (its.roots o low names).1 in
+                let writing : is_writing o v.log ≡ true = subst (λ (z : ℕ). is_writing z v.log ≡ true) same may.3 in
+                let timely : TimelyFor k o t i y (has_committed o v.log) = subst (λ (z : ℕ). TimelyFor k z t i y (has_committed z v.log)) same may.6 in
+                let care = subst (λ (z : ℕ). CarefulFor k (run k es).words z t (content k es z) i y) same may.5 in
+                let ws = tab k es t in
+                let is = put_tab k es id v q t i y table may.2 in
+                dite (ℕ_discrete i V)
+                (λ (e : i ≡ V).
+                let up : y ≡ slice_index ws V + 1 = as_version (kind_in k.starts o) (class_of t) ws (content k es o) i y care p small e in
+                let was = opened.open_here.1 in
+                let one = opened.open_here.2 in
+                absurd (true≢false (sym (timely.later p small e (omega (arith, up, was, one))) ∙ (writer_is ok.0 ok.1.0 writing).1)))
+                (λ ne. ap (λ (z : List ℕ). slice_index z V) is ∙ (get_or-set_other ws i V y 0 (λ e. ne (sym e)) ∙ opened.open_here.1)))
+                (λ i y ok. let one = ok.1.3.2 in let its = placed k es ok.0 t table in let a = (its.hands id v ok.1.0 (λ z. absurd (omega (arith, z, one)))).0 in let b = (its.roots o low names).0 in absurd (omega (arith, a, b, one)))
+                (λ b same_by ok. ap (λ (z : List ℕ). slice_index z V) (same_by ok.1.3) ∙ opened.open_here.1)
+                b ok,
+            opened.open_here.2,
+          ))
 
-    -- its words stay, but for puts that leave the version odd
-    still_open : (b : Act) → Valid k (did id v b ∷ es) → IsOpen k (did id v b ∷ es) o t p
-    still_open =
-        let F : Act → Type 0 = λ b. Valid k (did id v b ∷ es) → IsOpen k (did id v b ∷ es) o t p in
-        on_root k es id v o low F
-        (λ r old ok. let two = ok.1.3.4 t (ok.1.3.2 ∙ names) p small in let one = odd in absurd (omega (arith, two, one)))
-        (λ b stay ok.
-        let table = root_table k es ok.0 o low t names in
-        let G : Act → Type 0 = λ b. Valid k (did id v b ∷ es) → slice_index (tab k (did id v b ∷ es) t) V % 2 ≡ 1 in (
-          stay ok.1.3 ∙ names,
-          on_cells k es id v t table G
-              (λ q i x ok.
-              let may = ok.1.3 in
-              let its = placed k es ok.0 t table in
-              let same : q ≡ o = sym (its.roots q may.0 may.4).1 ∙ (its.roots o low names).1 in
-              let writing : is_writing o v.log ≡ true = subst (λ (z : ℕ). is_writing z v.log ≡ true) same may.3 in
-              let timely : TimelyFor k o t i x (has_committed o v.log) = subst (λ (z : ℕ). TimelyFor k z t i x (has_committed z v.log)) same may.6 in
-              let ws = tab k es t in
-              let is = put_tab k es id v q t i x table may.2 in
-              let long = table_long k t (run k es).words in
-              dite (ℕ_discrete i V)
-              (λ (e : i ≡ V).
-              let new : slice_index (tab k (did id v (PutTable q t i x) ∷ es) t) V ≡ x = ap (λ (z : List ℕ). slice_index z V) is ∙ (ap (λ (z : ℕ). slice_index (slice_set ws z x) V) e ∙ get_or-set_same ws V x 0 (subst (λ (z : ℕ). V < z) (sym long) (row_low (kind_in k.starts o) (class_of t) p table.0 small))) in
-              let one : x % 2 ≡ 1 = dite (ℕ_discrete (x % 2) 0) (λ (two : x % 2 ≡ 0). absurd (true≢false (sym (timely.later p small e two) ∙ (writer_is ok.0 ok.1.0 writing).1))) (λ ne. omega (arith, ne)) in
-              omega (arith, new, one))
-              (λ ne.
-              let same_word : slice_index (tab k (did id v (PutTable q t i x) ∷ es) t) V ≡ slice_index ws V = ap (λ (z : List ℕ). slice_index z V) is ∙ get_or-set_other ws i V x 0 (λ e. ne (sym e)) in
-              let one = odd in
-              omega (arith, same_word, one)))
-              (λ i x ok. let one = ok.1.3.2 in let its = placed k es ok.0 t table in let a = (its.hands id v ok.1.0 (λ z. absurd (omega (arith, z, one)))).0 in let b = (its.roots o low names).0 in absurd (omega (arith, a, b, one)))
-              (λ b same_by ok. let same_word : slice_index (tab k (did id v b ∷ es) t) V ≡ slice_index (tab k es t) V = ap (λ (z : List ℕ). slice_index z V) (same_by ok.1.3) in let one = odd in omega (arith, same_word, one))
-              b ok,
-        ))
+      opens_did : (a : Act) → Valid k (did id v a ∷ es) → Commits (did id v a) o ⊎ Opening k (did id v a ∷ es) o t p x g
+      opens_did a valid =
+          let h = opened.early in
+          let still = still_open a valid in
+          let aged : age (did id v a ∷ es) t ≡ g = same_age k (did id v a) es valid o t low names still.0 ∙ opened.aged in
+          dite (ℕ_discrete h.0 id)
+          (λ (e : h.0 ≡ id).
+          let u : h.1 ≡ v = some-injective h.1 v (sym h.2 ∙ (ap (get_elem? (run k es).views) e ∙ valid.1.0)) in
+          let w : is_writing o v.log ≡ true = subst (λ (z : View). is_writing o z.log ≡ true) u h.3 in
+          let not_yet : has_committed o v.log ≡ false = subst (λ (z : View). has_committed o z.log ≡ false) u h.4 in
+          ⊎_elim
+          (λ (c : (c : Call) × (r : Reply) × (f : ℕ) × (s : Snap) × (a ≡ Commit c r f s)). inl (id, v, c.0, c.1, c.2, c.3, ap (λ (z : Act). did id v z) c.4, w))
+          (λ (n : (is_writing_next o a (is_writing o v.log) ≡ true) × (has_committed_next o a (has_committed o v.log) ≡ false)). inr (record { open_here = still; aged = aged; early = (id, view_after a v, set_at (run k es).views id v (view_after a v) valid.1.0, n.0, n.1) }))
+          (early_act k es o v a valid.1.3 w not_yet))
+          (λ ne. inr (record { open_here = still; aged = aged; early = (h.0, h.1, set_else (run k es).views id h.0 (view_after a v) ne ∙ h.2, h.3, h.4) }))
 
-    opens_did : (a : Act) → Valid k (did id v a ∷ es) → Commits (did id v a) o ⊎ Opening k (did id v a ∷ es) o t p
-    opens_did a valid =
-        let h = opened.early in
-        dite (ℕ_discrete h.0 id)
-        (λ (e : h.0 ≡ id).
-        let u : h.1 ≡ v = some-injective h.1 v (sym h.2 ∙ (ap (get_elem? (run k es).views) e ∙ valid.1.0)) in
-        let w : is_writing o v.log ≡ true = subst (λ (z : View). is_writing o z.log ≡ true) u h.3 in
-        let not_yet : has_committed o v.log ≡ false = subst (λ (z : View). has_committed o z.log ≡ false) u h.4 in
+    pub opens_next : (e : Event) (es : List Event) → Valid k (e ∷ es) → Opening k es o t p x g → Commits e o ⊎ Opening k (e ∷ es) o t p x g
+    opens_next (did id v a) es valid opened = opens_did es id v opened a valid
+    opens_next (forked id v) es valid opened = inr (record {
+      open_here = opened.open_here;
+      aged = opened.aged;
+      early = early_longer (set (run k es).views id (maker v)) (made v ∷ []) o (early_set (run k es).views o id (maker v) v valid.1.0 (λ w n. (w, n)) opened.early);
+    })
+    opens_next (sent id v given) es valid opened = inr (record {
+      open_here = opened.open_here;
+      aged = opened.aged;
+      early = early_longer (set (run k es).views id (sender given v)) (note given v ∷ []) o (early_set (run k es).views o id (sender given v) v valid.1.0 (λ w n. (w, n)) opened.early);
+    })
+    opens_next (joined id v other w) es valid opened = inr (record {
+      open_here = opened.open_here;
+      aged = opened.aged;
+      early = early_set (set (run k es).views id (both v w)) o other spent w (set_else (run k es).views id other (both v w) valid.1.1 ∙ valid.1.2)
+          (λ mine n. off (sym (valid.1.5.0 o) ∙ writer_has k es valid.0 o other w valid.1.2 mine))
+          (early_set (run k es).views o id (both v w) v valid.1.0 (λ w n. (w, n)) opened.early);
+    })
+
+    -- the commit, seen from later
+    pub record Found (newer es : List Event) : Type 0 where
+      pub later : List Event
+      pub sooner : List Event
+      pub h : ℕ
+      pub u : View
+      pub c : Call
+      pub r : Reply
+      pub f : ℕ
+      pub s : Snap
+      pub split : newer ≡ later ++ did h u (Commit c r f s) ∷ sooner
+      pub opened : Opening k (sooner ++ es) o t p x g
+      pub valid : Valid k (did h u (Commit c r f s) ∷ (sooner ++ es))
+      pub writing : is_writing o u.log ≡ true
+
+    pub opens_until : (newer es : List Event) → Valid k (newer ++ es) → Opening k es o t p x g → Found newer es ⊎ Opening k (newer ++ es) o t p x g
+    opens_until [] es valid opened = inr opened
+    opens_until (e ∷ newer) es valid opened =
         ⊎_elim
-        (λ (c : (c : Call) × (r : Reply) × (f : ℕ) × (s : Snap) × (a ≡ Commit c r f s)). inl (id, v, c.0, c.1, c.2, c.3, ap (λ (z : Act). did id v z) c.4, w))
-        (λ (n : (is_writing_next o a (is_writing o v.log) ≡ true) × (has_committed_next o a (has_committed o v.log) ≡ false)). inr (record { open_here = still_open a valid; early = (id, view_after a v, set_at (run k es).views id v (view_after a v) valid.1.0, n.0, n.1) }))
-        (early_act k es o v a valid.1.3 w not_yet))
-        (λ ne. inr (record { open_here = still_open a valid; early = (h.0, h.1, set_else (run k es).views id h.0 (view_after a v) ne ∙ h.2, h.3, h.4) }))
-
-  opens_next : (e : Event) (es : List Event) → Valid k (e ∷ es) → Opening k es o t p → Commits e o ⊎ Opening k (e ∷ es) o t p
-  opens_next (did id v a) es valid opened = opens_did es id v opened a valid
-  opens_next (forked id v) es valid opened = inr (record {
-    open_here = opened.open_here;
-    early = early_longer (set (run k es).views id (maker v)) (made v ∷ []) o (early_set (run k es).views o id (maker v) v valid.1.0 (λ w n. (w, n)) opened.early);
-  })
-  opens_next (sent id v given) es valid opened = inr (record {
-    open_here = opened.open_here;
-    early = early_longer (set (run k es).views id (sender given v)) (note given v ∷ []) o (early_set (run k es).views o id (sender given v) v valid.1.0 (λ w n. (w, n)) opened.early);
-  })
-  opens_next (joined id v other w) es valid opened = inr (record {
-    open_here = opened.open_here;
-    early = early_set (set (run k es).views id (both v w)) o other spent w (set_else (run k es).views id other (both v w) valid.1.1 ∙ valid.1.2)
-        (λ mine n. off (sym (valid.1.5.0 o) ∙ writer_has k es valid.0 o other w valid.1.2 mine))
-        (early_set (run k es).views o id (both v w) v valid.1.0 (λ w n. (w, n)) opened.early);
-  })
-
-  -- the commit, seen from later
-  record Found (newer es : List Event) : Type 0 where
-    later : List Event
-    sooner : List Event
-    h : ℕ
-    u : View
-    c : Call
-    r : Reply
-    f : ℕ
-    s : Snap
-    split : newer ≡ later ++ did h u (Commit c r f s) ∷ sooner
-    opened : Opening k (sooner ++ es) o t p
-    valid : Valid k (did h u (Commit c r f s) ∷ (sooner ++ es))
-    writing : is_writing o u.log ≡ true
-
-  opens_until : (newer es : List Event) → Valid k (newer ++ es) → Opening k es o t p → Found newer es ⊎ Opening k (newer ++ es) o t p
-  opens_until [] es valid opened = inr opened
-  opens_until (e ∷ newer) es valid opened =
-      ⊎_elim
-      (λ (x : Found newer es). inl (record {
-        later = e ∷ x.later;
-        sooner = x.sooner;
-        h = x.h;
-        u = x.u;
-        c = x.c;
-        r = x.r;
-        f = x.f;
-        s = x.s;
-        split = ap (λ (l : List Event). e ∷ l) x.split;
-        opened = x.opened;
-        valid = x.valid;
-        writing = x.writing;
-      }))
-      (λ (x : Opening k (newer ++ es) o t p).
-      ⊎_elim
-      (λ (c : Commits e o). inl (record {
-        later = [];
-        sooner = newer;
-        h = c.0;
-        u = c.1;
-        c = c.2;
-        r = c.3;
-        f = c.4;
-        s = c.5;
-        split = ap (λ (z : Event). z ∷ newer) c.6;
-        opened = x;
-        valid = subst (λ (z : Event). Valid k (z ∷ (newer ++ es))) c.6 valid;
-        writing = c.7;
-      }))
-      (λ (y : Opening k (e ∷ (newer ++ es)) o t p). inr y)
-      (opens_next e (newer ++ es) valid x))
-      (opens_until newer es valid.0 opened)
+        (λ (y : Found newer es). inl (record {
+          later = e ∷ y.later;
+          sooner = y.sooner;
+          h = y.h;
+          u = y.u;
+          c = y.c;
+          r = y.r;
+          f = y.f;
+          s = y.s;
+          split = ap (λ (l : List Event). e ∷ l) y.split;
+          opened = y.opened;
+          valid = y.valid;
+          writing = y.writing;
+        }))
+        (λ (y : Opening k (newer ++ es) o t p x g).
+        ⊎_elim
+        (λ (c : Commits e o). inl (record {
+          later = [];
+          sooner = newer;
+          h = c.0;
+          u = c.1;
+          c = c.2;
+          r = c.3;
+          f = c.4;
+          s = c.5;
+          split = ap (λ (z : Event). z ∷ newer) c.6;
+          opened = y;
+          valid = subst (λ (z : Event). Valid k (z ∷ (newer ++ es))) c.6 valid;
+          writing = c.7;
+        }))
+        (λ (z : Opening k (e ∷ (newer ++ es)) o t p x g). inr z)
+        (opens_next e (newer ++ es) valid y))
+        (opens_until newer es valid.0 opened)
 
   -- the step that opens it
-  opens_put : (es : List Event) (id : ℕ) (v : View) (i x : ℕ) → Valid k (did id v (PutTable o t i x) ∷ es) → i ≡ V → x % 2 ≡ 1 → Opening k (did id v (PutTable o t i x) ∷ es) o t p
+  pub opens_put : (es : List Event) (id : ℕ) (v : View) (i x : ℕ) → Valid k (did id v (PutTable o t i x) ∷ es) → i ≡ version_at (kind_in k.starts o) (class_of t) p → x % 2 ≡ 1 → Opening k (did id v (PutTable o t i x) ∷ es) o t p x (age es t)
   opens_put es id v i x valid e one =
       let may = valid.1.3 in
       let a : Act = PutTable o t i x in
+      let V = version_at (kind_in k.starts o) (class_of t) p in
       let table = root_table k es valid.0 o low t may.4 in
       let ws = tab k es t in
       let long = table_long k t (run k es).words in
       let is = put_tab k es id v o t i x table may.2 in
       let new : slice_index (tab k (did id v a ∷ es) t) V ≡ x = ap (λ (z : List ℕ). slice_index z V) is ∙ (ap (λ (z : ℕ). slice_index (slice_set ws z x) V) e ∙ get_or-set_same ws V x 0 (subst (λ (z : ℕ). V < z) (sym long) (row_low (kind_in k.starts o) (class_of t) p table.0 small))) in
       record {
-        open_here = (stays k es id v a may (block o 0) (low, omega arith) (λ e. absurd (cc)) ∙ may.4, omega (arith, new, one));
+        open_here = (stays k es id v a may (block o 0) (low, omega arith) (λ e. absurd (cc)) ∙ may.4, new, one);
+        aged = refl;
         early = (id, view_after a v, set_at (run k es).views id v (view_after a v) valid.1.0, may.3, may.6.before p small e one);
       }
 
@@ -230,8 +249,9 @@ opened_are_committed k newer es id j v w o t i x p g valid small e one =
     let put = did id v (PutTable o t i x) ∷ es in
     let old : Valid k put = valid_rest k newer put valid.0 in
     let low : o < container_count k = valid.1.3.0 in
+    let a = age es t in
     ⊎_elim
-    (λ (found : Found k o t p low small newer put).
+    (λ (found : Found k o t p low small x a newer put).
     let y = found.sooner ++ put in
     let may = found.valid.1.3 in (
       found.later,
@@ -243,7 +263,7 @@ opened_are_committed k newer es id j v w o t i x p g valid small e one =
       found.f,
       found.s,
       found.split,
-      found.opened.open_here,
+      (found.opened.open_here.0, ap (λ (z : ℕ). z % 2) found.opened.open_here.1 ∙ found.opened.open_here.2),
       found.writing,
       dite (ℕ_discrete (changes found.c) o)
           (λ (same : changes found.c ≡ o).
@@ -251,7 +271,7 @@ opened_are_committed k newer es id j v w o t i x p g valid small e one =
           inl (same, subst (λ (z : ℕ). OpensChangedBy k y z t found.c) same by))
           (λ ne. inr (ne, may.1)),
     ))
-    (λ (still : Opening k (newer ++ put) o t p).
-    let is = writer_is k o t p low small (newer ++ put) j w still valid.0 valid.1.0 valid.1.3.1 in
+    (λ (still : Opening k (newer ++ put) o t p x a).
+    let is = writer_is k o t p low small x a (newer ++ put) j w still valid.0 valid.1.0 valid.1.3.1 in
     off (sym is.1 ∙ valid.1.3.2))
-    (opens_until k o t p low small newer put valid.0 (opens_put k o t p low small es id v i x old e one))
+    (opens_until k o t p low small x a newer put valid.0 (opens_put k o t p low small es id v i x old e one))

@@ -68,7 +68,7 @@ module _ (o q : ℕ) where
   -- what a pass has had it has had for good
   pub had_grows : (number : ℕ) (a : Act) (owners : List Owner) → Is owners → Is (had_locks_next number a owners)
   had_grows number (Lock p f s) owners e = by_free f (record { container = p; pass = number }) owners e
-  had_grows number (TookOver tables had found) owners e = in_right had owners e
+  had_grows number (TookOver tables had found told) owners e = in_right had owners e
   had_grows number act owners e = e
 
   pub had_stays : (number : ℕ) (newer l : List Act) → Is (had_locks number l) → Is (had_locks number (newer ++ l))
@@ -78,7 +78,7 @@ module _ (o q : ℕ) where
   -- and whom it has found it has found for good
   pub found_grows : (a : Act) (owners : List Owner) → Is owners → Is (found_owners_next a owners)
   found_grows (Lock p f s) owners e = by_taken f (record { container = p; pass = f }) owners e
-  found_grows (TookOver tables had found) owners e = in_right found owners e
+  found_grows (TookOver tables had found told) owners e = in_right found owners e
   found_grows act owners e = e
 
   pub found_stays : (newer l : List Act) → Is (found_owners l) → Is (found_owners (newer ++ l))
@@ -97,7 +97,7 @@ module _ (o number : ℕ) where
       (λ (apart : p ≢ o). had_grows o number number (Lock p f s) owners (old (sym (miss p o (cond (eqb f 0) true b) b apart) ∙ has)))
   has_had_next (Unlock p) b owners old has =
       dite (ℕ_discrete p o) (λ (same : p ≡ o). off (sym (here p o false b same) ∙ has)) (λ (apart : p ≢ o). old (sym (miss p o false b apart) ∙ has))
-  has_had_next (TookOver tables had found) b owners old has = in_right o number had owners (old has)
+  has_had_next (TookOver tables had found told) b owners old has = in_right o number had owners (old has)
   has_had_next act b owners old has = old has
 
   pub has_had : (l : List Act) → has_lock o l ≡ true → is_owner_in o number (had_locks number l) ≡ true

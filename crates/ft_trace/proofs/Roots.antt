@@ -7,7 +7,7 @@ use Rattle.ft_trace.specs.Owners.{had_locks, found_owners}
 use Rattle.ft_trace.specs.declared.Act.TheVariants.{StartWrite, StopWrite, PutRoot, PutBlock, ReadBlock, ReadRoot, Commit, TookOver}
 use Rattle.ft_trace.specs.declared.Shape.{Shape}
 use Rattle.ft_trace.specs.declared.View.{View}
-use Rattle.ft_trace.specs.Acts.{is_writing, is_writing_next, has_emptied, has_emptied_next, view_after, starter, maker, made, note, sender, both, spent, hands_over}
+use Rattle.ft_trace.specs.Acts.{is_writing, is_writing_next, has_emptied, has_emptied_next, view_after, starter, maker, made, note, sender, both, spent, hands_over, tells}
 use Rattle.ft_trace.specs.Addresses.{block, container_count}
 use Rattle.ft_trace.specs.Roots.{OfOneWrite, BeganBare, ZeroRootsHaveCauses, RetiredTablesAreApart}
 use Rattle.ft_trace.specs.Traces.{Event, did, forked, sent, joined, run, history, May, Valid}
@@ -52,7 +52,7 @@ cause_later k es e o j u same old writes none = ⊎_elim (λ z. inl z) (λ b. in
 cause_joined : (k : Shape) (es : List Event) (id : ℕ) (v : View) (other : ℕ) (w : View) (o : ℕ) → Cause k es o id v → Cause k (joined id v other w ∷ es) o id (both v w)
 cause_joined k es id v other w o old writes none =
     ⊎_elim (λ z. inl z)
-    (λ b. inr (record { newer = joined id v other w ∷ b.newer; older = b.older; view = b.view; found = b.found; split = ap (λ (l : List Event). joined id v other w ∷ l) b.split; own = TookOver (hands_over w.log) (had_locks w.number w.log) (found_owners w.log) ∷ b.own; is = ap (λ (l : List Act). TookOver (hands_over w.log) (had_locks w.number w.log) (found_owners w.log) ∷ l) b.is; one = b.one; nothing = b.nothing }))
+    (λ b. inr (record { newer = joined id v other w ∷ b.newer; older = b.older; view = b.view; found = b.found; split = ap (λ (l : List Event). joined id v other w ∷ l) b.split; own = TookOver (hands_over w.log) (had_locks w.number w.log) (found_owners w.log) (tells w) ∷ b.own; is = ap (λ (l : List Act). TookOver (hands_over w.log) (had_locks w.number w.log) (found_owners w.log) (tells w) ∷ l) b.is; one = b.one; nothing = b.nothing }))
     (old writes none)
 
 pub causes : (k : Shape) (es : List Event) → Valid k es → (o : ℕ) → o < container_count k → (j : ℕ) (u : View) → get_elem? (run k es).views j ≡ some u → Cause k es o j u

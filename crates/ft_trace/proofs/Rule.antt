@@ -5,7 +5,7 @@ use native.Mathlib.Decide.{ℕ_discrete}
 use Rattle.ft_trace.specs.Acts.{stage}
 use Rattle.std.specs.Prelude.{cond, nat_lt}
 use Rattle.ft_trace.specs.declared.View.{View}
-use Rattle.ft_trace.specs.Ages.{age, whose, keeper}
+use Rattle.ft_trace.specs.Ages.{age, whose}
 use Rattle.ft_trace.proofs.EarlierMoments.{valid_rest}
 use Rattle.ft_trace.specs.Entries.{number_count}
 use Rattle.ft_trace.specs.Pictures.{picture}
@@ -30,7 +30,7 @@ use Rattle.ft_trace.proofs.RisingStamps.{commit_rises, answer_rises, moved_rises
 use Rattle.ft_trace.proofs.ClosedEntries.{all_right, once, closes}
 use Rattle.ft_trace.proofs.Announcing.{fits, heard}
 use Rattle.ft_trace.proofs.Pieces.{block_at}
-use Rattle.ft_trace.proofs.TablePlaces.{root_table, placed, not_current}
+use Rattle.ft_trace.proofs.TablePlaces.{root_table, placed, not_current, keeper}
 use Rattle.ft_trace.proofs.Hands.{handed}
 use Rattle.ft_trace.proofs.FoundTables.{safe, not_free}
 use Rattle.ft_trace.proofs.Rests.{rests, one_root}

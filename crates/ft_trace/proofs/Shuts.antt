@@ -11,7 +11,7 @@ use Rattle.ft_trace.specs.Addresses.{class_of, slots, IsTableName, free_bit_of}
 use Rattle.ft_trace.specs.Acts.{stage}
 use Rattle.ft_trace.specs.ContainerStates.{kind_in}
 use Rattle.ft_trace.specs.Pictures.{entry_offset}
-use Rattle.ft_trace.specs.Ages.{aged, age, whose, keeper}
+use Rattle.ft_trace.specs.Ages.{aged, age, whose}
 use Rattle.ft_trace.specs.TraceLaws.{OddVersionsAreInWrites}
 use Rattle.ft_trace.specs.Traces.{Event, did, forked, joined, sent, opened, IsAllShut, Valid}
 use Rattle.ft_trace.proofs.Addresses.{cell_first}
@@ -21,7 +21,7 @@ use Rattle.ft_trace.proofs.Contents.{tab}
 use Rattle.ft_trace.proofs.Evens.{left_alone, evens}
 use Rattle.ft_trace.proofs.Hands.{handed}
 use Rattle.ft_trace.proofs.Pieces.{table_at}
-use Rattle.ft_trace.proofs.TablePlaces.{on_table, placed}
+use Rattle.ft_trace.proofs.TablePlaces.{on_table, placed, keeper}
 use Rattle.ft_trace.proofs.Announcing.{fits}
 use Rattle.ft_trace.proofs.LandedStarts.{has_versions}
 use Rattle.ft_trace.proofs.Rests.{rests}

@@ -13,13 +13,21 @@ use Rattle.ft_trace.specs.Bits.{bit}
 use Rattle.ft_trace.specs.Addresses.{Word, bits, block, IsTableName, free_word_of, free_bit_of, container_count}
 use Rattle.ft_trace.specs.Acts.{place, word_after, Reports, stage, stage_next, is_handed, hands_over, starter, view_after, maker, made, both, spent, sender, note}
 use Rattle.ft_trace.specs.Traces.{Event, did, forked, joined, sent, run, word, history, May, Valid}
-use Rattle.ft_trace.specs.Ages.{aged, age, gone_to, whose, keeper}
+use Rattle.ft_trace.specs.Ages.{aged, age, gone_to, whose}
 use Rattle.ft_trace.proofs.Sizes.{set_views, one_more, one_view}
 use Rattle.ft_trace.proofs.Bits.{off_same, on_same, off_else, on_else, bit_small}
 use Rattle.ft_trace.proofs.Addresses.{fw_low, bt_low, same_bit, bit_first, block_first}
 use Rattle.ft_trace.proofs.Cases.{hit, miss, here, same_or}
 use Rattle.ft_trace.proofs.OneWord.{stays, moves, loaded}
 use Rattle.ft_trace.proofs.HandedOver.{either_way, where_true, where_false, handed_is}
+
+-- the seat that has it, where one has
+abbrev pub keeper : List Event → ℕ → ℕ
+keeper [] t = 0
+keeper (did id v a ∷ es) t = gone_to id a t (keeper es t)
+keeper (forked id v ∷ es) t = keeper es t
+keeper (joined id v other w ∷ es) t = cond (is_handed t (hands_over w.log)) id (keeper es t)
+keeper (sent id v given ∷ es) t = keeper es t
 
 abbrev pub root : Shape → List Event → ℕ → ℕ
 root k es o = word k es (block o 0)
@@ -130,7 +138,7 @@ module _ (k : Shape) (es : List Event) (id : ℕ) (v : View) (t : ℕ) (table : 
     on_table (ReadBlock p i f) = λ found may. other (ReadBlock p i f) (calm_by (ReadBlock p i f) (λ n. refl) (λ g. refl) (λ w. refl) (bit_stays (ReadBlock p i f) may (λ e. absurd (cc))) (λ o low. loaded k es id v (ReadBlock p i f) (λ n. refl) (block o 0)))
     on_table (ReadRoot p f) = λ found may. other (ReadRoot p f) (calm_by (ReadRoot p f) (λ n. refl) (λ g. refl) (λ w. refl) (bit_stays (ReadRoot p f) may (λ e. absurd (cc))) (λ o low. loaded k es id v (ReadRoot p f) (λ n. refl) (block o 0)))
     on_table (ReadFree w f) = λ found may. other (ReadFree w f) (calm_by (ReadFree w f) (λ n. refl) (λ g. refl) (λ w. refl) (ap (bit (free_bit_of t)) (loaded k es id v (ReadFree w f) (λ n. refl) (bits (free_word_of t)))) (no_root (ReadFree w f) may (λ o e. absurd (cc))))
-    on_table (TookOver hs had found) = λ found may. absurd may
+    on_table (TookOver hs had found told) = λ found may. absurd may
     on_table act = λ found may. other act (calm_by act (λ n. refl) (λ g. refl) (λ w. refl) (bit_stays act may (λ e. absurd (cc))) (no_root act may (λ o e. absurd (cc))))
 
 -- no pass has a table that is current
@@ -147,7 +155,7 @@ stage_by t (PutRoot o r old) n ne =
     (λ far z.
     dite (ℕ_discrete old (suc t)) (λ (e : old ≡ suc t). let x : 3 ≡ 2 = sym (miss r (suc t) 0 (cond (eqb old (suc t)) 3 n) far ∙ here old (suc t) 3 n e) ∙ z in absurd (omega (arith, x)))
     (λ off. ne (sym (miss r (suc t) 0 (cond (eqb old (suc t)) 3 n) far ∙ miss old (suc t) 3 n off) ∙ z)))
-stage_by t (TookOver hs had found) n ne =
+stage_by t (TookOver hs had found told) n ne =
     either_way (is_handed t hs) (λ there z. let x : 4 ≡ 2 = sym (where_true (is_handed t hs) 4 n there) ∙ z in absurd (omega (arith, x)))
     (λ none z. ne (sym (where_false (is_handed t hs) 4 n none) ∙ z))
 stage_by t act n ne = ne

@@ -12,8 +12,16 @@ use Rattle.std.specs.List.{flat_map}
 use Rattle.ft_trace.specs.Acts.{view_after, entries_next, left_next, maker, made, both, spent, sender, note, all_entries}
 use Rattle.ft_trace.proofs.AllEntries.{next_all, has_none, both_all}
 use Rattle.ft_trace.specs.Traces.{Moment, Event, did, forked, joined, sent, run, writes_of, history, May, Valid}
-use Rattle.ft_trace.specs.Entries.{total, trace_entries}
+use Rattle.ft_trace.specs.Entries.{total}
 use Rattle.atomic_table.proofs.Lists.{set_else}
+
+-- all entries, newest first
+abbrev pub trace_entries : List Event → List Entry
+trace_entries [] = []
+trace_entries (did id v a ∷ es) = entries_next a (trace_entries es)
+trace_entries (forked id v ∷ es) = trace_entries es
+trace_entries (joined id v other w ∷ es) = trace_entries es
+trace_entries (sent id v given ∷ es) = trace_entries es
 
 pub total-append : {A : Type 0} (f : A → ℕ) (xs ys : List A) → total f (xs ++ ys) ≡ total f xs + total f ys
 total-append f [] ys = omega arith

@@ -7,6 +7,7 @@ use Rattle.ft_trace.specs.declared.Act.TheVariants.{Lock, Unlock, StartWrite, Pu
 use Rattle.ft_trace.specs.declared.Entry.{Entry}
 use Rattle.ft_trace.specs.declared.Handed.{Handed}
 use Rattle.ft_trace.specs.declared.Shape.{Shape}
+use Rattle.ft_trace.specs.declared.Told.{Told}
 use Rattle.ft_model.specs.declared.call.Call.{Call}
 use Rattle.ft_trace.specs.declared.View.{View}
 use Rattle.ft_trace.specs.Bits.{bit, bit_on, bit_off}
@@ -44,7 +45,7 @@ place (Announce p x) = announced_of p
 place (ReadAnnounced p f) = announced_of p
 place (WriteNumber f) = write_number
 place (TakeFloor f s) = counter
-place (TookOver tables had found) = counter
+place (TookOver tables had found told) = counter
 
 -- what the word becomes, by the pass of this number, where n was there
 abbrev pub word_after : ℕ → Act → ℕ → ℕ
@@ -144,7 +145,7 @@ stage_next t (TakeTable p f s) n = cond (p == t) (cond (bit (free_bit_of t) f ==
 stage_next t (GiveTable p) n = cond (p == t) 0 n
 stage_next t (PutRoot o r old) n = cond (r == suc t) 0 (cond (old == suc t) 3 n)
 stage_next t (Retire p f) n = cond (p == t) 4 n
-stage_next t (TookOver tables had found) n = cond (is_handed t tables) 4 n
+stage_next t (TookOver tables had found told) n = cond (is_handed t tables) 4 n
 stage_next t act n = n
 
 abbrev pub stage : ℕ → List Act → ℕ
@@ -154,7 +155,7 @@ stage t (a ∷ l) = stage_next t a (stage t l)
 -- the number that all must have announced before t is given back
 abbrev pub goal_next : ℕ → Act → ℕ → ℕ
 goal_next t (Retire p f) g = cond (p == t) (f + 1) g
-goal_next t (TookOver tables had found) g = handed_goal t tables g
+goal_next t (TookOver tables had found told) g = handed_goal t tables g
 goal_next t act g = g
 
 abbrev pub goal : ℕ → List Act → ℕ
@@ -165,7 +166,7 @@ goal t (a ∷ l) = goal_next t a (goal t l)
 abbrev pub has_goal_next : ℕ → Act → Bool → Bool
 has_goal_next t (PutHeader p x) b = cond (p == t) true b
 has_goal_next t (GiveTable p) b = cond (p == t) false b
-has_goal_next t (TookOver tables had found) b = cond (is_handed t tables) true b
+has_goal_next t (TookOver tables had found told) b = cond (is_handed t tables) true b
 has_goal_next t act b = b
 
 abbrev pub has_goal : ℕ → List Act → Bool
@@ -175,7 +176,7 @@ has_goal t (a ∷ l) = has_goal_next t a (has_goal t l)
 -- the tables whose goals the pass has put into their headers or that it took over, also such as it has given back since
 abbrev pub put_tables_next : Act → List ℕ → List ℕ
 put_tables_next (PutHeader t x) ts = t ∷ ts
-put_tables_next (TookOver tables had found) ts = map (λ one. one.table) tables ++ ts
+put_tables_next (TookOver tables had found told) ts = map (λ one. one.table) tables ++ ts
 put_tables_next act ts = ts
 
 abbrev pub put_tables : List Act → List ℕ
@@ -216,7 +217,7 @@ reads t (a ∷ l) = reads_next t a (reads t l)
 -- since it retired t the pass has found that the pass p stood at 0 or at the goal
 abbrev pub clear_next : ℕ → ℕ → ℕ → Act → Bool → Bool
 clear_next t p g (Retire q f) b = cond (q == t) false b
-clear_next t p g (TookOver tables had found) b = cond (is_handed t tables) false b
+clear_next t p g (TookOver tables had found told) b = cond (is_handed t tables) false b
 clear_next t p g (ReadAnnounced q f) b = cond (q == p) (cond (f == 0) true (cond (nat_lt f g) b true)) b
 clear_next t p g act b = b
 
@@ -296,6 +297,23 @@ shown (a ∷ l) = shown_next a (shown l)
 abbrev pub seen_writes : View → ℕ
 seen_writes v = max v.learnt (shown v.log)
 
+-- what it tells of itself: a note tells nothing of itself, and has what its maker told
+abbrev pub own_told : View → List Told
+own_told v = cond (v.number == 0) [] (record { pass = v.number; seen = seen_writes v; entries = v.entries } ∷ [])
+
+-- what a pass was told of others, by notes and by passes that it took in, and what those were told
+abbrev pub told_in_next : Act → List Told → List Told
+told_in_next (TookOver tables had found told) before = told ++ before
+told_in_next act before = before
+
+abbrev pub told_in : List Act → List Told
+told_in [] = []
+told_in (a ∷ l) = told_in_next a (told_in l)
+
+-- what it tells who takes it in
+abbrev pub tells : View → List Told
+tells v = own_told v ++ (v.told ++ told_in v.log)
+
 -- the pass has kept all tokens since it took the floor
 abbrev pub has_floor_next : Act → Bool → Bool
 has_floor_next (TakeFloor f s) b = true
@@ -304,7 +322,7 @@ has_floor_next act b = b
 -- the words of the bank by the log of the pass with this number, right while no other pass may act
 abbrev pub floor_words_next : Shape → ℕ → Act → List ℕ → List ℕ
 floor_words_next k number (TakeFloor f s) ws = s.words
-floor_words_next k number (TookOver tables had found) ws = ws
+floor_words_next k number (TookOver tables had found told) ws = ws
 floor_words_next k number act ws =
     slice_set ws (at k (place act)) (word_after number act (slice_index ws (at k (place act))))
 
@@ -328,6 +346,7 @@ view_after a v =
       learnt = v.learnt;
       has_floor = has_floor_next a v.has_floor;
       floor = [];
+      told = v.told;
     }
 
 -- the first pass
@@ -346,6 +365,7 @@ starter k =
       learnt = 0;
       has_floor = false;
       floor = [];
+      told = [];
     }
 
 -- the pass that makes another, and the one that it makes
@@ -364,6 +384,7 @@ maker v =
       learnt = v.learnt;
       has_floor = false;
       floor = [];
+      told = v.told;
     }
 
 abbrev pub made : View → View
@@ -381,6 +402,7 @@ made v =
       learnt = 0;
       has_floor = false;
       floor = [];
+      told = [];
     }
 
 -- the entries of the passes that this one stands for, a list for each: its own first
@@ -405,13 +427,14 @@ both v w =
       parts = v.parts + w.parts;
       left = v.left + w.left;
       shape = v.shape;
-      log = TookOver (hands_over w.log) (had_locks w.number w.log) (found_owners w.log) ∷ v.log;
+      log = TookOver (hands_over w.log) (had_locks w.number w.log) (found_owners w.log) (tells w) ∷ v.log;
       entries = v.entries;
       lists = v.lists ++ lists_of w;
       tokens = v.tokens + w.tokens;
       learnt = max v.learnt (seen_writes w);
       has_floor = v.has_floor;
       floor = w.floor ++ v.floor;
+      told = v.told;
     }
 
 abbrev pub no_shape : Shape
@@ -432,6 +455,7 @@ spent =
       learnt = 0;
       has_floor = false;
       floor = [];
+      told = [];
     }
 
 -- the words of the bank as the pass knows them, where it has the floor or was just given it
@@ -454,6 +478,7 @@ sender given v =
       learnt = v.learnt;
       has_floor = cond (given == 0) v.has_floor false;
       floor = cond (given == 0) v.floor [];
+      told = v.told;
     }
 
 -- The note: how many writes its maker had seen, and the tokens; with all of them the words, if the maker had the floor.
@@ -473,6 +498,7 @@ note given v =
       learnt = seen_writes v;
       has_floor = false;
       floor = cond (given == v.tokens) (floor_known v) [];
+      told = own_told v;
     }
 
 -- the words of the bank, as the pass knows them: right for what it has

@@ -5,7 +5,7 @@ use Rattle.ft_trace.specs.declared.Act.{Act}
 use Rattle.ft_trace.specs.declared.Act.TheVariants.{TakeTable, GiveTable, PutRoot, Retire, ReadRoot}
 use Rattle.ft_trace.specs.Bits.{bit}
 use Rattle.ft_trace.specs.Addresses.{free_bit_of}
-use Rattle.ft_trace.specs.Acts.{reads, is_handed, hands_over}
+use Rattle.ft_trace.specs.Acts.{reads}
 use Rattle.ft_trace.specs.Traces.{Event, did, forked, joined, sent}
 
 abbrev pub aged : Act → ℕ → ℕ → ℕ
@@ -34,14 +34,6 @@ whose (did id v a ∷ es) t = gone_to id a t (whose es t)
 whose (forked id v ∷ es) t = whose es t
 whose (joined id v other w ∷ es) t = whose es t
 whose (sent id v given ∷ es) t = whose es t
-
--- the seat that has it, where one has
-abbrev pub keeper : List Event → ℕ → ℕ
-keeper [] t = 0
-keeper (did id v a ∷ es) t = gone_to id a t (keeper es t)
-keeper (forked id v ∷ es) t = keeper es t
-keeper (joined id v other w ∷ es) t = cond (is_handed t (hands_over w.log)) id (keeper es t)
-keeper (sent id v given ∷ es) t = keeper es t
 
 -- the age that the table had when the pass at seat j found it in a root, for the first time since it last announced
 abbrev pub seen_next : Act → Bool → ℕ → ℕ → ℕ → ℕ

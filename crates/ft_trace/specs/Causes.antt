@@ -1,13 +1,15 @@
 -- What a pass's log shows for the reply of a call that isn't a write.
-use Rattle.std.specs.Prelude.{◌≡◌, ℕ, ◌+◌, true, false, List, [], ◌∷◌, ◌++◌, Some}
+use Rattle.std.specs.Prelude.{◌≡◌, ℕ, suc, ◌+◌, ◌≤◌, true, false, List, [], ◌∷◌, ◌++◌, length, Some, slice_get}
 use Rattle.ft_model.specs.declared.call.Call.{Call}
+use Rattle.ft_model.specs.declared.call.Call.TheVariants as call
 use Rattle.ft_model.specs.declared.reply.Reply.{Reply}
 use Rattle.ft_model.specs.declared.reply.Reply.TheVariants as reply
 use Rattle.ft_model.specs.declared.reply.Raise.TheVariants as raise
 use Rattle.ft_model.specs.TableUses.{StoredWorld, CanLackMemory, takes_in, would_pass}
 use Rattle.ft_trace.specs.declared.Act.{Act}
 use Rattle.ft_trace.specs.declared.Act.TheVariants.{Commit, Answer, AnswerCursor, ReadCounter, ReadCount}
-use Rattle.ft_trace.specs.Acts.{owes}
+use Rattle.ft_trace.specs.declared.Told.{Told}
+use Rattle.ft_trace.specs.Acts.{owes, told_in}
 use Rattle.ft_trace.specs.BegunSections.{begun, IsInnermostHeld}
 
 -- none of these makes an entry
@@ -35,9 +37,25 @@ pub record FoundEmpty (class n : ℕ) (log : List Act) : Type 0 where
   pub own : AreOfOneCall newer × AreOfOneCall mid
   pub none : owes rest ≡ 0
 
+-- as many entries were told of the pass of this thread, which has the thread's number and one, as the index says, which
+-- counts from 1
+pub record IsToldOf (told : List Told) (thread index : ℕ) : Type 0 where
+  pub place : ℕ
+  pub one : Told
+  pub at : slice_get told place ≡ Some one
+  pub pass : one.pass ≡ suc thread
+  pub some : 1 ≤ index
+  pub many : index ≤ length one.entries
+
+-- and the stamp is at least how many writes that pass had seen then
+pub record WasTold (told : List Told) (thread index stamp : ℕ) : Type 0 where
+  pub of : IsToldOf told thread index
+  pub late : of.one.seen ≤ stamp
+
 -- A MemoryError of a class stands on a call that would take a table of it, where its count was found 0; one of a
 -- content past the largest table exactly where the call would leave that; no value is in a heap yet. An `end` says kept
--- where the pass has had the locks of the section since its `begin`.
+-- where the pass has had the locks of the section since its `begin`. An `await` is done once the pass was told of the
+-- call that it names, and its stamp is not below what that one's pass had seen.
 abbrev pub HasCause : StoredWorld → List Act → Call → Reply → ℕ → Type 0
 HasCause stored log call (reply.Raised (raise.Memory class)) n =
     CanLackMemory stored.world call
@@ -48,6 +66,7 @@ HasCause stored log call (reply.Raised raise.Over) n =
     CanLackMemory stored.world call × (would_pass stored.world call ≡ true)
 HasCause stored log call (reply.Raised raise.Heap) n = ⊥
 HasCause stored log call reply.Kept n = (would_pass stored.world call ≡ false) × IsInnermostHeld (begun log)
+HasCause stored log (call.Await thread index) reply.Done n = WasTold (told_in log) thread index n
 HasCause stored log call said n = would_pass stored.world call ≡ false
 
 -- what the stamp of the next entry is at least: one more than the number of the last entry that is a write, or the

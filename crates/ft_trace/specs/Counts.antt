@@ -5,7 +5,7 @@ use Rattle.ft_trace.specs.declared.View.{View}
 use Rattle.ft_trace.specs.declared.Act.{Act}
 use Rattle.ft_trace.specs.declared.Act.TheVariants.{Commit}
 use Rattle.ft_trace.specs.Bits.{bit}
-use Rattle.ft_trace.specs.Addresses.{tables_in, bits, free_word_of, free_bit_of}
+use Rattle.ft_trace.specs.Addresses.{bits}
 use Rattle.ft_trace.specs.Acts.{flight, owes}
 use Rattle.ft_trace.specs.Traces.{Event, did, forked, joined, sent, word}
 
@@ -13,14 +13,6 @@ use Rattle.ft_trace.specs.Traces.{Event, did, forked, joined, sent, word}
 abbrev pub sum_to : (ℕ → ℕ) → ℕ → ℕ
 sum_to f zero = 0
 sum_to f (suc n) = f n + sum_to f n
-
--- the bit of a table, 1 where it is free
-abbrev pub bit_of : Shape → List Event → ℕ → ℕ
-bit_of k es t = bit (free_bit_of t) (word k es (bits (free_word_of t)))
-
--- how many bits of the class are set
-abbrev pub set_bits : Shape → List Event → ℕ → ℕ
-set_bits k es c = sum_to (λ i. bit_of k es (65536 * c + i)) (tables_in k c)
 
 -- how many bits of a word are set, and of the sixteen free words of the class
 abbrev pub ones : ℕ → ℕ

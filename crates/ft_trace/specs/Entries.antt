@@ -7,22 +7,12 @@ use Rattle.ft_model.specs.Answers.{answer, is_write}
 use Rattle.ft_model.specs.Histories.{IsReplied}
 use Rattle.ft_model.specs.TableUses.{stored_newest}
 use Rattle.ft_trace.specs.declared.Entry.{Entry}
-use Rattle.ft_trace.specs.Acts.{entries_next}
 use Rattle.ft_trace.specs.ContainerStates.{first_writes}
-use Rattle.ft_trace.specs.Traces.{Event, did, forked, joined, sent}
 
 -- a number of each, added up
 abbrev pub total : {A : Type 0} → (A → ℕ) → List A → ℕ
 total f [] = 0
 total f (x ∷ xs) = f x + total f xs
-
--- all entries, newest first
-abbrev pub trace_entries : List Event → List Entry
-trace_entries [] = []
-trace_entries (did id v a ∷ es) = entries_next a (trace_entries es)
-trace_entries (forked id v ∷ es) = trace_entries es
-trace_entries (joined id v other w ∷ es) = trace_entries es
-trace_entries (sent id v given ∷ es) = trace_entries es
 
 -- the write with this number, among writes from the newest to the first
 abbrev pub IsNumber : List Call → ℕ → Call → Type 0

@@ -30,7 +30,7 @@ FloorStands =
 
 abbrev pub FoundNext : Shape → ℕ → Act → List Act → Type 0 → Type 0
 FoundNext k number (TakeFloor f s) l before = Unit {0}
-FoundNext k number (TookOver tables had found) l before = before
+FoundNext k number (TookOver tables had found told) l before = before
 FoundNext k number act l before = Reports act (slice_index (floor_words k number l) (at k (place act))) × before
 
 -- since the pass took the floor each action has found what its word had, as the log before it gives the words

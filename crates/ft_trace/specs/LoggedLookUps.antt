@@ -1,5 +1,5 @@
 -- What a log shows of one key that was looked up without the lock, in a table that a root named before and after.
-use Rattle.std.specs.Prelude.{◌≡◌, ◌≢◌, ◌⊎◌, ℕ, zero, suc, ◌+◌, ◌%◌, ◌<◌, ◌≤◌, true, false, cond, List, [], ◌∷◌, ◌++◌, length, slice_index}
+use Rattle.std.specs.Prelude.{◌≡◌, ◌≢◌, ◌⊎◌, ℕ, suc, ◌%◌, ◌<◌, ◌≤◌, true, false, List, [], ◌∷◌, ◌++◌, length, slice_index}
 use Rattle.ft_trace.specs.declared.Act.{Act}
 use Rattle.ft_trace.specs.declared.Act.TheVariants.{ReadRoot, ReadTable, ReadCounter, Version, Announce}
 use Rattle.ft_trace.specs.Acts.{reads}
@@ -148,11 +148,6 @@ Inner (Version o f ∷ l) = Inner l
 Inner (ReadTable t i f ∷ l) = Inner l
 Inner (ReadCounter f ∷ l) = Inner l
 Inner (act ∷ l) = ⊥
-
--- how many of the first tables the pass has not found in a root since it last announced
-abbrev pub unread : ℕ → List Act → ℕ
-unread zero l = 0
-unread (suc t) l = cond (reads t l) 0 1 + unread t l
 
 -- a root that has changed since the pass read it names a table that the pass hasn't found in a root since it last
 -- announced

@@ -19,7 +19,7 @@ AreOwners owners others = (o q : ℕ) → is_owner_in o q owners ≡ true → is
 abbrev pub had_locks_next : ℕ → Act → List Owner → List Owner
 had_locks_next number (Lock o f s) owners =
     cond (f == 0) (record { container = o; pass = number } ∷ owners) owners
-had_locks_next number (TookOver tables had found) owners = had ++ owners
+had_locks_next number (TookOver tables had found told) owners = had ++ owners
 had_locks_next number act owners = owners
 
 abbrev pub had_locks : ℕ → List Act → List Owner
@@ -29,7 +29,7 @@ had_locks number (a ∷ l) = had_locks_next number a (had_locks number l)
 -- the passes that the pass has found with locks that it asked for, and those that passes which it took in had found
 abbrev pub found_owners_next : Act → List Owner → List Owner
 found_owners_next (Lock o f s) owners = cond (f == 0) owners (record { container = o; pass = f } ∷ owners)
-found_owners_next (TookOver tables had found) owners = found ++ owners
+found_owners_next (TookOver tables had found told) owners = found ++ owners
 found_owners_next act owners = owners
 
 abbrev pub found_owners : List Act → List Owner

@@ -243,7 +243,7 @@ May k m cs v (WriteNumber f) = Unit {0}
 -- it has all tokens, so no other pass may do anything
 May k m cs v (TakeFloor f s) = (v.tokens ≡ k.passes) × (s ≡ snap m cs)
 -- this is part of a join alone
-May k m cs v (TookOver tables had found) = ⊥
+May k m cs v (TookOver tables had found told) = ⊥
 
 -- there are at most 64 passes and 1,024 tables of a class, and no deque and no dict that starts with shared keys yet
 pub record Fits (k : Shape) : Type 0 where

@@ -109,6 +109,7 @@ with_log v log =
       learnt = v.learnt;
       has_floor = v.has_floor;
       floor = [];
+      told = v.told;
     }
 
 -- its log at the commit, where it found this version

@@ -8,7 +8,9 @@ ghost use Rattle.ft_trace.specs.EntryWrites.{ValuesMayBePut};
 ghost use Rattle.ft_trace.specs.Earnings.{EntriesAreEarned};
 ghost use Rattle.ft_trace.specs.InOrder.{NumberedEntriesAreInOrder};
 ghost use Rattle.ft_trace.specs.OpenedEntries.{CommitsChangeTheOpened, OpenedAreCommitted};
+ghost use Rattle.ft_trace.specs.StoppedLookUps.{ReadersOfKeysAreStoppedByWrites, ReadersOfItemsAreStoppedByWrites, ReadersOfContainersAreStoppedByWrites};
 ghost use Rattle.ft_trace.specs.OwnCursors.{CursorsAreHands};
+ghost use Rattle.ft_trace.specs.TableCounts.{TablesAddUp};
 ghost use Rattle.ft_trace.specs.Roots.{ZeroRootsHaveCauses, RetiredTablesAreApart};
 ghost use Rattle.ft_trace.specs.KeyWrites.{KeysMayBeAdded};
 ghost use Rattle.ft_trace.specs.DeleteWrites.{KeysMayBeDeleted};
@@ -59,6 +61,18 @@ pub fn commits_change_the_opened()
 /// it was odd, which changes that entry or item.
 pub fn opened_are_committed()
     ensures { OpenedAreCommitted }
+{}
+
+/// A look-up of a key without the lock, which two loads of the version of the key's entry stop, is stopped by a
+/// write under way between them that changes what is under this key; one of an index of a list, by a write that
+/// changes what is at this index; and one that goes by the container's version, as where its root reads 0, by a
+/// write of the container. The pass that writes committed such a call while the version was odd, or has not
+/// committed yet. (Two more cases are told apart: a pass that wrote two containers at once and committed a call
+/// on the other, and one that put the table in the place of another after its commit, with the version odd.)
+pub fn readers_are_stopped_by_writes()
+    ensures keys { ReadersOfKeysAreStoppedByWrites }
+    ensures items { ReadersOfItemsAreStoppedByWrites }
+    ensures containers { ReadersOfContainersAreStoppedByWrites }
 {}
 
 /// Each number below the counter is that of one write in one view.
@@ -153,6 +167,12 @@ pub fn tables_are_somewhere()
 /// a root, in a hand.
 pub fn tables_are_in_one_place()
     ensures { TablesAreInOnePlace }
+{}
+
+/// Of each class, the tables that are free, those that roots name, those in the hands of passes and the retired
+/// ones are together all that the bank has of the class, at every moment.
+pub fn tables_add_up()
+    ensures { TablesAddUp }
 {}
 
 /// A retired table is not free, and no root names it.

@@ -103,8 +103,8 @@ pub enum Act {
     /// Loads the counter and keeps what stands in the bank, by a pass that has all tokens.
     TakeFloor(u64, Snap),
     /// No step of its own: what the pass got when it took in another, the tables that the other kept
-    /// retired, the locks that it has had, and the owners that it has found.
-    TookOver(LinkedList<Handed>, LinkedList<Owner>, LinkedList<Owner>),
+    /// retired, the locks that it has had, the owners that it has found, and what it was told.
+    TookOver(LinkedList<Handed>, LinkedList<Owner>, LinkedList<Owner>, LinkedList<Told>),
 }
 
 /// A retired table that goes from one pass to another.
@@ -113,6 +113,16 @@ pub struct Handed {
     pub table: u64,
     /// Its goal: the number that all must have announced before it is given back.
     pub goal: u64,
+}
+
+/// What was told of a pass: the entries that it had made, newest first, and how many writes it had seen.
+pub struct Told {
+    /// The pass: its number as lock words say it.
+    pub pass: u64,
+    /// How many writes it had seen.
+    pub seen: u64,
+    /// The entries that it had made, newest first.
+    pub entries: LinkedList<Entry>,
 }
 
 /// A pass that had the lock of a container.
@@ -180,6 +190,8 @@ pub struct View {
     /// The words of the bank, where a note that it learnt with all tokens had them, and it has done
     /// nothing since.
     pub floor: LinkedList<u64>,
+    /// Of a note, what it tells of its maker.
+    pub told: LinkedList<Told>,
 }
 
 pub mod laws;

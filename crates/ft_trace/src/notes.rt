@@ -1,6 +1,7 @@
 //! What notes, joins and the floor give: laws on every valid trace, for callers that meet and for one caller
 //! that holds all passes.
 ghost use Rattle.ft_trace.specs.SeenWrites.{SeenIsLow, SeenIsHandedOn, LoadsSeeAll};
+ghost use Rattle.ft_trace.specs.ToldEntries.{ToldEntriesAreSeen, AwaitsWereTold, AwaitedEntriesAreKnown, AwaitsMayBeAnswered};
 ghost use Rattle.ft_trace.specs.Floors.{TokensAreAll, AllTokensAreAlone, FloorStands, FloorTells, OwnersStay, KnownOwnersStay, RestingPassesAreQuiet, FloorVersionsAreEven, KnownVersionsAreEven};
 
 /// A pass has seen no more writes than the counter says: its next load of the counter, and its next write,
@@ -55,4 +56,20 @@ pub fn resting_passes_are_quiet()
 pub fn floor_versions_are_even()
     ensures traces { FloorVersionsAreEven }
     ensures passes { KnownVersionsAreEven }
+{}
+
+/// The entries that a note tells of are the first of its maker, and stand before as many writes as it says.
+pub fn told_entries_are_seen()
+    ensures seen { ToldEntriesAreSeen }
+    ensures known { AwaitedEntriesAreKnown }
+{}
+
+/// Whoever made an await was told of the call that it names.
+pub fn awaits_were_told()
+    ensures { AwaitsWereTold }
+{}
+
+/// An await may be answered by a pass that was told of the call that it names.
+pub fn awaits_may_be_answered()
+    ensures { AwaitsMayBeAnswered }
 {}

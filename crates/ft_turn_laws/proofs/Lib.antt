@@ -20,5 +20,6 @@ pub mod BeforeTurns
 pub mod StepsOfTries
 pub mod Taking
 pub mod TriedTurns
+pub mod LearnedTurns
 pub mod TurnForms
 pub mod TurnOutcomes

@@ -5,7 +5,7 @@ use Rattle.std.specs.List.Sorted.{IsPermutation}
 use Rattle.std.specs.Option.{option_map, option_map_or}
 use Rattle.std.specs.Prelude.{◌⊎◌, slice_get, slice_index_or}
 use Rattle.std.proofs.lemmas.Bool.{cases_lt, eq-eqb, eqb-true, ne_eqb}
-use Rattle.std.proofs.lemmas.List.{get_or-map, get_or-take, length-map, length-take}
+use Rattle.std.proofs.lemmas.List.{get_or-map, get_or-take, get_or_past, length-map, length-take}
 use Rattle.std.proofs.lemmas.List.Elements.{All-head, All-tail, filter_passes}
 use Rattle.std.proofs.lemmas.List.FromFn.{fill_by_all, get_or-range_with_len, length-range_with_len}
 use Rattle.std.proofs.lemmas.List.Sorted.{IsPermutation-trans, sum_by-IsPermutation}
@@ -15,14 +15,15 @@ use Rattle.ft_model.specs.declared.entry.Entry.{Entry}
 use Rattle.ft_model.specs.declared.entry.Storage.{Storage}
 use Rattle.ft_model.specs.declared.script.ScriptParts.{ScriptParts}
 use Rattle.ft_model.specs.declared.script.Thread.{Thread}
-use Rattle.ft_model.specs.Histories.{calls_of, entries_of}
-use Rattle.ft_model.specs.Numbers.{AreDone, AreNumbered, AreNumberedLists, IsDone, IsNumberedThread, is_number, number_after}
+use Rattle.ft_model.specs.Histories.{calls_of, entries_of, IsWhole}
+use Rattle.ft_model.specs.Numbers.{AreDone, AreNumbered, AreNumberedLists, IsDone, IsNumberedThread, KnowsAwaited, is_number, number_after}
 use Rattle.ft_model.specs.Scripts.{IsScript}
 use Rattle.ft_history.proofs.FilteredParts.{key_at, passed_at}
 use Rattle.ft_history.proofs.ThreadLists.{no_entries}
 use Rattle.ft_turns.specs.Orders.{IsOrderRun, Machine, last_machine, order_of, ordered_entry, ordered_in, start_machine, thread_at, turns_of}
 use Rattle.ft_turns.specs.Ends.{places_of}
 use Rattle.ft_turns.proofs.AllCallsFinish.{turns_go_on}
+use Rattle.ft_turns.proofs.AwaitedFirst.{awaited_in_turns}
 use Rattle.ft_turns.proofs.MachineSteps.{IsKeptBySteps, there, turns_keep}
 use Rattle.ft_turn_laws.specs.RisingEntries.{AreRising}
 use Rattle.ft_turn_laws.specs.Runs.{AnsweredEntriesAreOrderRuns, AreAnsweredBy, entry_answered, no_entry}
@@ -107,7 +108,7 @@ module _ (storage : Storage) (script : ScriptParts) (calls : List Call) (lists :
   mine_at thread low = slice_get-get_or lists thread [] (let count = is.count in omega arith)
 
   mine_length : (thread : ℕ) → thread < length script.threads → length (list_of thread) ≡ length (calls_of script thread)
-  mine_length thread low = sym (length-map (list_of thread) (λ (e : Entry). e.call)) ∙ ap length (done thread (list_of thread) (mine_at thread low)).made
+  mine_length thread low = sym (length-map (list_of thread) (λ (e : Entry). e.call)) ∙ ap length (done.threads thread (list_of thread) (mine_at thread low)).made
 
   -- each answer has its entry
   place_low : (place : ℕ) (one : ℕ × ℕ) → slice_get order place ≡ Some one → one.1 < length (list_of one.0)
@@ -155,6 +156,23 @@ module _ (storage : Storage) (script : ScriptParts) (calls : List Call) (lists :
   to_lists : IsPermutation chronicle (flat_map (λ (mine : List Entry). mine) lists)
   to_lists = of_lists (λ (e : Entry). e.thread) chronicle lists keys_low (λ thread low. entries_are thread (let count = is.count in omega arith))
 
+  none_past : (thread : ℕ) → length script.threads ≤ thread → entries_of thread chronicle ≡ []
+  none_past thread past =
+      filter_none (λ (e : Entry). e.thread == thread) chronicle (λ k d within.
+      let low : (get_or chronicle k d).thread < length lists = keys_low k d within in
+      let count = is.count in
+      ne_eqb (get_or chronicle k d).thread thread (λ same. absurd (omega arith)))
+
+  lists_are : ◌≡◌ {A = ℕ → List Entry} (λ thread. get_or lists thread []) (λ thread. entries_of thread chronicle)
+  lists_are = λ i thread. each thread i
+    where
+      each : (thread : ℕ) → get_or lists thread [] ≡ entries_of thread chronicle
+      each thread =
+          elim (cases_lt thread (length script.threads)) [
+            | inl low ↦ sym (entries_are thread low)
+            | inr past ↦ get_or_past lists thread [] (let count = is.count in omega arith) ∙ sym (none_past thread past)
+          ]
+
   -- what holds of each list, and of none, holds of each thread's entries
   of_thread : (P : ℕ → List Entry → Type 0) → ((thread : ℕ) (mine : List Entry) → slice_get lists thread ≡ Some mine → P thread mine) → ((thread : ℕ) → length script.threads ≤ thread → P thread []) → (thread : ℕ) → P thread (entries_of thread chronicle)
   of_thread P each none thread =
@@ -162,24 +180,26 @@ module _ (storage : Storage) (script : ScriptParts) (calls : List Call) (lists :
         | inl low ↦ subst (P thread) (sym (entries_are thread low)) (each thread (list_of thread) (mine_at thread low))
         | inr past ↦ subst (P thread) (sym (none_past thread past)) (none thread past)
       ]
-    where
-      none_past : (thread : ℕ) → length script.threads ≤ thread → entries_of thread chronicle ≡ []
-      none_past thread past =
-          filter_none (λ (e : Entry). e.thread == thread) chronicle (λ k d within.
-          let low : (get_or chronicle k d).thread < length lists = keys_low k d within in
-          let count = is.count in
-          ne_eqb (get_or chronicle k d).thread thread (λ same. absurd (omega arith)))
 
   numbered : AreNumbered storage script calls chronicle
   numbered =
       record {
         threads = of_thread (IsNumberedThread storage script calls) is.threads (λ thread past. no_entries storage script calls thread);
         once = λ number low. sym (sum_by-IsPermutation (λ (e : Entry). cond (is_number number e) 1 0) chronicle (flat_map (λ (mine : List Entry). mine) lists) to_lists) ∙ is.once number low;
-        done = of_thread (IsDone script calls) done (λ thread past.
+        done = of_thread (IsDone script calls) done.threads (λ thread past.
             record {
               made = sym (ap (λ (o : Option Thread). option_map_or (λ (found : Thread). found.calls) o []) (slice_get_past script.threads thread past));
               marked = λ k entry at. absurd (none-some entry at);
             });
+        known = λ k d within.
+            let low : k < length order = omega (arith, within, length-map order at_place) in
+            let one = get_or order k (0, 0) in
+            let at : slice_get order k ≡ Some one = slice_get-get_or order k (0, 0) low in
+            let here : get_or chronicle k d ≡ at_place one = get_or-map at_place order k (0, 0) d low in
+            let listed : one.0 < length lists = (let count = is.count in let below = low_threads k one at in omega arith) in
+            let knows : KnowsAwaited (λ thread. get_or lists thread []) (at_place one) (at_place one).call = done.known one.0 [] listed one.1 no_entry (place_low k one at) in
+            subst (λ (e : Entry). KnowsAwaited (λ thread. entries_of thread chronicle) e e.call) (sym here)
+            (subst (λ (made : ℕ → List Entry). KnowsAwaited made (at_place one) (at_place one).call) lists_are knows);
       }
 
   rising : AreRising chronicle
@@ -210,13 +230,16 @@ module _ (storage : Storage) (script : ScriptParts) (calls : List Call) (lists :
           sym (get_or-map (λ (e : Entry). e.waited) mine one.1 no_entry None low) ∙ ap (λ marks. slice_index_or marks one.1 None) (answered.marks one.0 mine here) in
           cc
 
+  whole : IsWhole script chronicle
+  whole = record { calls = λ thread. (numbered.done thread).made; indexes = λ thread. (numbered.threads thread).indexes }
+
   run_in_order : IsOrderRun storage script history
   run_in_order =
       record {
         chronicle = chronicle;
         same = IsPermutation-trans chronicle (flat_map (λ (mine : List Entry). mine) lists) history to_lists moved;
         order = same_order;
-        chronicled = rising_entries storage script calls chronicle rule numbered rising;
+        chronicled = rising_entries storage script calls chronicle numbered rising (awaited_in_turns script rule chronicle whole same_order);
       }
 
 pub order_runs : AnsweredEntriesAreOrderRuns

@@ -4,4 +4,4 @@ use Rattle.ft_history.proofs.SortedStamps.{ranks_of_rising}
 use Rattle.ft_turn_laws.specs.RisingEntries.{RisingEntriesAreChronicles}
 
 pub rising_entries : RisingEntriesAreChronicles
-rising_entries storage script calls entries rule is rising = chronicle_by_numbers storage script calls entries is (ranks_of_rising entries rising) rule
+rising_entries storage script calls entries is rising awaited = chronicle_by_numbers storage script calls entries is (ranks_of_rising entries rising) awaited

@@ -14,6 +14,7 @@ use Rattle.ft_model.specs.declared.script.ScriptParts.{ScriptParts}
 use Rattle.ft_model.specs.Histories.{calls_of}
 use Rattle.ft_model.specs.Worlds.{container_of, cursor_at}
 use Rattle.ft_history.proofs.HistoryPlaces.{take_next}
+use Rattle.ft_trace.specs.declared.Shape.{Shape}
 use Rattle.ft_trace.specs.declared.View.{View}
 use Rattle.ft_trace.specs.Acts.{seen_writes}
 use Rattle.ft_trace.specs.Addresses.{container_count}
@@ -43,7 +44,7 @@ use Rattle.ft_engine.specs.Halves.{HasBothHalves, HasNoAnswer, IsInHalves, IsOfT
 use Rattle.ft_engine.specs.Keeping.{WasAnswered, named_entry}
 use Rattle.ft_engine.specs.Asked.{IsCallIn}
 use Rattle.ft_turns.specs.Ends.{after_turns}
-use Rattle.ft_turns.specs.Orders.{Locking, Machine, ThreadState, answered_machine, cursor_containers, finish_try, finished_thread, next_call, take_locks, thread_at, turn, waiting_thread, with_locking}
+use Rattle.ft_turns.specs.Orders.{Locking, Machine, ThreadState, answered_machine, cursor_containers, finish_try, awaited_by, finished_thread, next_call, ready_call, take_locks, thread_at, turn, waiting_thread, with_locking}
 use Rattle.ft_turns.proofs.MachineSteps.{there, wanted, wanted_again}
 use Rattle.ft_turns.proofs.LocksOnce.{IsOwned}
 use Rattle.ft_turn_laws.specs.Placings.{pair_of}
@@ -59,7 +60,7 @@ use Rattle.ft_turn_laws.proofs.PassSteps.{SameFloor, counted_of, floor_between, 
 use Rattle.ft_turn_laws.proofs.SecondHalf.{takes_up, waits_on}
 use Rattle.ft_turn_laws.proofs.StepsOfTries.{none_pushed}
 use Rattle.ft_turn_laws.proofs.TurnOutcomes.{Comes, IsWait, answered, waits_turn}
-use Rattle.ft_turn_laws.proofs.TurnForms.{again_first}
+use Rattle.ft_turn_laws.proofs.TurnForms.{again_first, ready_fixed, ready_other}
 
 -- What comes of the turn beside the try: either no answer is made; or this one, and it knows of all writes that had
 -- been seen.
@@ -84,7 +85,7 @@ due_none (flight.Answered called said stamp) unanswered = absurd (unanswered tt)
 due_none (flight.Refused called) unanswered = refl
 
 -- the machine in between and then the one after it
-comes_from : (script : ScriptParts) (machine mid after same : Machine) (thread : ℕ) (owners : ℕ → Option ℕ) (has : ℕ → Bool) (s : Stack) (now : ThreadState) (answered : List (ℕ × ℕ))
+pub comes_from : (script : ScriptParts) (machine mid after same : Machine) (thread : ℕ) (owners : ℕ → Option ℕ) (has : ℕ → Bool) (s : Stack) (now : ThreadState) (answered : List (ℕ × ℕ))
     → same ≡ after → ((other : ℕ) → other ≢ thread → thread_at mid other ≡ thread_at machine other) → Comes script mid after thread owners has s now answered → Comes script machine same thread owners has s now answered
 comes_from script machine mid after same thread owners has s now answered is before comes =
     subst (λ m. Comes script machine m thread owners has s now answered) (sym is)
@@ -102,8 +103,13 @@ only_locks called v w o owner floor looked =
       | false ↦ λ locks. locks
     ] refl
 
+-- a call of a container, of a section or a `quiesce` awaits nothing
+no_await : (k : Shape) (hands : List (Option Cursor)) (called : Call) → IsCallIn k hands called → awaited_by called ≡ None
+no_await k hands (call.Await named index) names = absurd names
+no_await k hands called names = refl
+
 -- a caller in no call is ready
-ready_top : (e : Engine) (d : Caller) → IsIn e.bank d.pass d.cursors.items d.flight → d.flight ≡ flight.Idle → HasTop d.pass
+pub ready_top : (e : Engine) (d : Caller) → IsIn e.bank d.pass d.cursors.items d.flight → d.flight ≡ flight.Idle → HasTop d.pass
 ready_top e d inside idle = let r : IsReady e.bank d.pass = subst (IsIn e.bank d.pass d.cursors.items) idle inside in r.top
 
 module _ (script : ScriptParts) (e : Engine) (turns : List ℕ) (standings : List Standing) (called : Call) (t : Tried) (c d : Caller) (mine : List Entry)
@@ -236,6 +242,9 @@ module _ (script : ScriptParts) (e : Engine) (turns : List ℕ) (standings : Lis
     names : IsCallIn (shape_of e.bank) hands called
     names = is.may.names unanswered
 
+    ready : ready_call script machine thread ≡ Some called
+    ready = ready_other script machine thread called (no_await (shape_of e.bank) hands called names) next
+
     walks : (number : ℕ) (walker : Cursor) → cursor_at hands number ≡ Some walker → cursor_containers (take (length state.marks) calls) number ≡ container_of walker ∷ []
     walks = walks_same c mine (take (length state.marks) calls) kept unanswered as_thread.made is.caller.cursors
 
@@ -266,7 +275,7 @@ module _ (script : ScriptParts) (e : Engine) (turns : List ℕ) (standings : Lis
           kept = tried_it.2.kept;
         } in
         let comes = waits_turn script machine thread called (owners_in (view c.pass)) (owners_in (view d.pass)) (has_of c.pass) (has_of d.pass) (stack_of c.pass) (stack_of d.pass) inv stands counted_after
-        (λ n below. owners_then c.pass d.pass thread refl same_floor is.floor n (let low = count in omega arith)) next unfixed (lower_of objects) (upper_of objects) o owner asked wait in
+        (λ n below. owners_then c.pass d.pass thread refl same_floor is.floor n (let low = count in omega arith)) next ready unfixed (lower_of objects) (upper_of objects) o owner asked wait in
         subst Outcome (sym (ap (λ u. entries_with_answer thread called u mine) not_yet))
         (record {
           now = waiting_thread (with_locking state (take_locks thread machine.holders (wanted script machine thread called))) owner;
@@ -304,7 +313,7 @@ module _ (script : ScriptParts) (e : Engine) (turns : List ℕ) (standings : Lis
         (λ objects named. own_for e.bank c.pass hands c.flight called objects is.caller.inside unanswered is.may.next named)
         (λ none. own_none e.bank c.pass hands c.flight called is.caller.inside unanswered is.may.next none)
         (λ begins outer top cut. answer.0.top begins outer top cut) in
-        let after = answered script machine thread called (owners_in (view c.pass)) (owners_in (view mid)) (has_of c.pass) (has_of mid) (stack_of c.pass) (stack_of mid) inv stands counted_mid are_mid next found unfixed now in
+        let after = answered script machine thread called (owners_in (view c.pass)) (owners_in (view mid)) (has_of c.pass) (has_of mid) (stack_of c.pass) (stack_of mid) inv stands counted_mid are_mid next ready found unfixed now in
         second mid (answered_machine machine thread state called (take_locks thread machine.holders (wanted script machine thread called))) both.said both.stamp
         after.0 after.1 after.2.stands resume (mid_floor.floor ∙ is.floor) (ap container_count mid_floor.shape ∙ count) (ap (λ n. n - 1) mid_floor.number) (floor_between (view c.pass) (view mid) (view d.pass) mid_floor same_floor)
         (ap (λ (s : ThreadState). s.marks) after.2.state) (ap (λ (s : ThreadState). s.fixed) after.2.state) after.2.others both.taken both.waits
@@ -321,7 +330,7 @@ module _ (script : ScriptParts) (e : Engine) (turns : List ℕ) (standings : Lis
   only_second : (first : Call) (said : Reply) (stamp : Stamp) → c.flight ≡ flight.Answered first said stamp → state.fixed ≡ true → IsTakenUp said stamp c.pass d.pass t × WaitsAnswered called said stamp t d.flight → Result
   only_second first said stamp flies fixed halves =
       let resumes : MayResume e.bank c.pass = (subst (IsIn e.bank c.pass hands) flies is.caller.inside).0 in
-      second c.pass machine said stamp (again_first script machine thread called next (let low = there script thread state called next in let count_threads = inv.threads in omega arith) fixed)
+      second c.pass machine said stamp (again_first script machine thread called (ready_fixed script machine thread called fixed next) (let low = there script thread state called next in let count_threads = inv.threads in omega arith) fixed)
       inv stands resumes is.floor count refl same_floor refl fixed (λ other differs. refl) halves.0 halves.1
       (λ new are. inl (refl, are ∙ ap (λ f. map entry_stamp mine ++ due f) (sym flies)))
 

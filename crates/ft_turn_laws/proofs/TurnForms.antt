@@ -1,14 +1,28 @@
 -- A turn of the machine, by what it comes to.
-use Rattle.std.proofs.Common.{◌≡◌, ℕ, ◌<◌, Bool, true, false, length, None, Some, ap, ◌∙◌}
+use Rattle.std.proofs.Common.{◌≡◌, ℕ, ◌<◌, Bool, true, false, length, Option, None, Some, ap, ◌∙◌}
 use Rattle.std.specs.Prelude.{if◌then◌else◌}
 use Rattle.std.specs.Option.{option_map_or}
 use Rattle.std.proofs.lemmas.List.{get_or-set_same}
 use Rattle.ft_model.specs.declared.call.Call.{Call}
 use Rattle.ft_model.specs.declared.script.ScriptParts.{ScriptParts}
-use Rattle.ft_turns.specs.Orders.{Locking, Machine, ThreadState, answer_try, answered_machine, answered_thread, finish_step, finish_try, finished_machine, fresh_thread, next_call, take_locks, thread_at, turn, waiting_machine, waiting_thread, with_locking}
+use Rattle.ft_turns.specs.Orders.{Awaited, Locking, Machine, ThreadState, answer_try, answered_machine, answered_thread, finish_step, finish_try, finished_machine, fresh_thread, awaited, awaited_by, is_unfinished, next_call, ready_call, take_locks, thread_at, turn, waiting_machine, waiting_thread, with_locking}
 use Rattle.ft_turns.proofs.MachineSteps.{wanted, wanted_again}
 
-module _ (script : ScriptParts) (machine : Machine) (thread : ℕ) (called : Call) (next : next_call script thread (thread_at machine thread) ≡ Some called) (low : thread < length machine.threads) where
+-- a call whose answer is fixed awaits nothing
+pub ready_fixed : (script : ScriptParts) (machine : Machine) (thread : ℕ) (called : Call) → (thread_at machine thread).fixed ≡ true → next_call script thread (thread_at machine thread) ≡ Some called → ready_call script machine thread ≡ Some called
+ready_fixed script machine thread called fixed next =
+    ap (λ (b : Bool). if (if b then false else option_map_or (is_unfinished machine) (awaited script thread (length (thread_at machine thread).marks)) false) then None else next_call script thread (thread_at machine thread)) fixed ∙ next
+
+-- and so does one that is no `await`
+pub ready_other : (script : ScriptParts) (machine : Machine) (thread : ℕ) (called : Call) → awaited_by called ≡ None → next_call script thread (thread_at machine thread) ≡ Some called → ready_call script machine thread ≡ Some called
+ready_other script machine thread called other next =
+    let none : awaited script thread (length (thread_at machine thread).marks) ≡ None = ap (λ (o : Option Call). option_map_or awaited_by o None) next ∙ other in
+    elim (thread_at machine thread).fixed as (λ b. (if (if b then false else option_map_or (is_unfinished machine) (awaited script thread (length (thread_at machine thread).marks)) false) then None else next_call script thread (thread_at machine thread)) ≡ Some called) [
+      | true ↦ next
+      | false ↦ ap (λ (o : Option Awaited). if option_map_or (is_unfinished machine) o false then None else next_call script thread (thread_at machine thread)) none ∙ next
+    ]
+
+module _ (script : ScriptParts) (machine : Machine) (thread : ℕ) (called : Call) (ready : ready_call script machine thread ≡ Some called) (low : thread < length machine.threads) where
   abbrev state : ThreadState
   state = thread_at machine thread
 
@@ -21,7 +35,7 @@ module _ (script : ScriptParts) (machine : Machine) (thread : ℕ) (called : Cal
   -- the turn of a thread with a call left
   turn_is : (fixed : Bool) → state.fixed ≡ fixed → turn script machine thread ≡ finish_try (if fixed then machine else answer_try script machine thread state called) thread
   turn_is fixed is =
-      ap (λ o. option_map_or (λ c. finish_try (if state.fixed then machine else answer_try script machine thread state c) thread) o machine) next
+      ap (λ o. option_map_or (λ c. finish_try (if state.fixed then machine else answer_try script machine thread state c) thread) o machine) ready
       ∙ ap (λ b. finish_try (if b then machine else answer_try script machine thread state called) thread) is
 
   unfinished : (after : Machine) → (thread_at after thread).fixed ≡ false → finish_try after thread ≡ after

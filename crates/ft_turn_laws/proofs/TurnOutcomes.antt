@@ -9,7 +9,7 @@ use Rattle.ft_bank.specs.declared.sections.OpenSection.{OpenSection}
 use Rattle.ft_bank.specs.PassSections.{Stack, taken_in}
 use Rattle.ft_section.specs.Locking.{TakenUp, at_one, waiting}
 use Rattle.ft_section.specs.Locking.{with_own as keeping}
-use Rattle.ft_turns.specs.Orders.{Locking, Machine, ThreadState, answered_machine, answered_thread, finish_try, finished_machine, finished_thread, next_call, take_locks, thread_at, turn, waiting_machine, waiting_thread, with_locking}
+use Rattle.ft_turns.specs.Orders.{Locking, Machine, ThreadState, answered_machine, answered_thread, finish_try, finished_machine, finished_thread, next_call, ready_call, take_locks, thread_at, turn, waiting_machine, waiting_thread, with_locking}
 use Rattle.ft_turns.proofs.MachineSteps.{IsTry, there, wanted, wanted_again}
 use Rattle.ft_turns.proofs.LocksOnce.{IsOwned, owned_steps}
 use Rattle.ft_turn_laws.specs.Placings.{pair_of}
@@ -52,15 +52,15 @@ module _ (script : ScriptParts) (machine : Machine) (thread : ℕ) (called : Cal
       (finds_same script machine thread called owners owners_after has has_after s t inv stands counted are lower upper two)
 
   -- the call has to wait for its answer
-  pub waits_turn : state.fixed ≡ false → (lower upper c q : ℕ) → wanted script machine thread called ≡ pair_of lower upper → IsWait script owners has s t lower upper c q
+  pub waits_turn : ready_call script machine thread ≡ Some called → state.fixed ≡ false → (lower upper c q : ℕ) → wanted script machine thread called ≡ pair_of lower upper → IsWait script owners has s t lower upper c q
       → Comes script machine (turn script machine thread) thread owners_after has_after t (waiting_thread (with_locking state (locked (wanted script machine thread called))) q) machine.answered
-  waits_turn unfixed lower upper c q asks wait =
+  waits_turn ready unfixed lower upper c q asks wait =
       let containers = wanted script machine thread called in
       let f = finds_in containers lower upper asks wait.two in
       let found : (locked containers).found ≡ Some q = f.found ∙ ap (option_map (λ x. x.1)) wait.first in
       let after : Machine = waiting_machine machine thread state (locked containers) q in
       let now = changed script machine thread called owners owners_after has has_after s t inv stands counted are (waiting_thread (with_locking state (locked containers)) q) next in
-      let is : turn script machine thread ≡ after = waits_first script machine thread called next low_thread q unfixed found in
+      let is : turn script machine thread ≡ after = waits_first script machine thread called ready low_thread q unfixed found in
       subst (λ m. Comes script machine m thread owners_after has_after t (waiting_thread (with_locking state (locked containers)) q) machine.answered) (sym is)
       (record {
         stands = waits_step script machine thread called owners owners_after has has_after s t inv stands counted are false containers lower upper c q
@@ -108,15 +108,15 @@ module _ (script : ScriptParts) (machine : Machine) (thread : ℕ) (called : Cal
       (record { stands = done.1; state = now.0; others = now.1; answers = refl })
 
   -- the answer is made, and the thread goes on from there
-  pub answered : (locked (wanted script machine thread called)).found ≡ None → state.fixed ≡ false
+  pub answered : ready_call script machine thread ≡ Some called → (locked (wanted script machine thread called)).found ≡ None → state.fixed ≡ false
       → Stands script (answered_machine machine thread state called (locked (wanted script machine thread called))) thread owners_after has_after t
       → (turn script machine thread ≡ finish_try (answered_machine machine thread state called (locked (wanted script machine thread called))) thread)
       × IsOwned script (answered_machine machine thread state called (locked (wanted script machine thread called)))
       × Comes script machine (answered_machine machine thread state called (locked (wanted script machine thread called))) thread owners_after has_after t (answered_thread (with_locking state (locked (wanted script machine thread called))) called) (machine.answered ++ (thread, length state.marks) ∷ [])
-  answered found unfixed now_stands =
+  answered ready found unfixed now_stands =
       let containers = wanted script machine thread called in
       let now = changed script machine thread called owners owners_after has has_after s t inv stands counted are (answered_thread (with_locking state (locked containers)) called) next in (
-        answers_first script machine thread called next low_thread unfixed found,
+        answers_first script machine thread called ready low_thread unfixed found,
         (owned_steps script).answers machine thread called containers (record { next = next; state = unfixed; asks = refl }) found inv,
         record { stands = now_stands; state = now.0; others = now.1; answers = refl },
       )

@@ -8,7 +8,7 @@ pub fn last_turns_finish()
 {}
 
 /// Entries with numbers are a chronicle in any order in which each knows of all writes that there were after each
-/// earlier one.
+/// earlier one, and each await stands after the call that it names.
 pub fn rising_entries_are_chronicles()
     ensures { RisingEntriesAreChronicles }
 {}

@@ -11,4 +11,4 @@ pub use crate::beginnings::{
     new_callers_are_in_step, one_more_owns_none, resting_callers_stand, woken_callers_have_floor,
 };
 pub use crate::endings::{last_turns_finish, rising_entries_are_chronicles, turns_are_order_runs};
-pub use crate::tries::tries_are_turns;
+pub use crate::tries::{learns_are_turns, spent_turns_change_nothing, tries_are_turns};

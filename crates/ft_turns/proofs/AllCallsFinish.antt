@@ -17,7 +17,7 @@ use Rattle.ft_turns.specs.Chronicling.{AllFinish}
 use Rattle.ft_turns.specs.Schedules.{rounds_of}
 use Rattle.ft_turns.specs.Wants.{so_far, AreBelow}
 use Rattle.ft_turns.specs.Ends.{steps_made, AreFinished, after_turns, AreTurns, TurnsGoOn, places_of}
-use Rattle.ft_turns.proofs.TurnParts.{idle_turn}
+use Rattle.ft_turns.proofs.TurnParts.{idle_turn, ready_none}
 use Rattle.ft_turns.proofs.ScheduleLemmas.{round_more}
 use Rattle.ft_turns.proofs.NothingLeft.{below_sum, same_parts, calls_at}
 use Rattle.ft_turns.proofs.MachineSoundness.{IsSoundMachine, start_sound}
@@ -63,7 +63,7 @@ full_steps script machine sound many thread within =
 finished_turn : (script : ScriptParts) (machine : Machine) (thread : ℕ) → thread < length script.threads → AreFinished script machine → turn script machine thread ≡ machine
 finished_turn script machine thread within finished =
     let done = finished thread within in
-    idle_turn script machine thread (thread_at machine thread) refl (slice_get_past (calls_of script thread) (length (thread_at machine thread).marks) (omega (arith, done)))
+    idle_turn script machine thread (ready_none script machine thread (slice_get_past (calls_of script thread) (length (thread_at machine thread).marks) (omega (arith, done))))
 
 finished_run : (script : ScriptParts) (turns : List ℕ) (machine : Machine) → AreTurns script turns → AreFinished script machine → fold (turn script) machine turns ≡ machine
 finished_run script [] machine below finished = refl
@@ -105,7 +105,7 @@ all_below : (n : ℕ) (xs : List ℕ) → All (λ x. x < n) xs → AreBelow n xs
 all_below n [] all = tt
 all_below n (x ∷ xs) all = (All-head (λ x. x < n) x xs all, all_below n xs (All-tail (λ x. x < n) x xs all))
 
-turns_below : (script : ScriptParts) → IsScript script → AreTurns script (turns_of script)
+pub turns_below : (script : ScriptParts) → IsScript script → AreTurns script (turns_of script)
 turns_below script rule =
     let n = length script.threads in
     let rounds = 4 * count_of_calls script in

@@ -419,7 +419,7 @@ module _ (K : Key → Type 0) (V : Value → Type 0) (C : ℕ → Type 0) (toget
   landed_reply hands (call.Begin first second) said asked few landed cursors = refl
   landed_reply hands call.End said asked few landed cursors = refl
   landed_reply hands call.Quiesce said asked few landed cursors = refl
-  landed_reply hands (call.Await other index) said asked few landed cursors = absurd (false≢true landed)
+  landed_reply hands (call.Await other index) said asked few landed cursors = refl
   landed_reply hands call.Dump said asked few landed cursors = absurd (false≢true landed)
 
   -- which container each cursor goes over then

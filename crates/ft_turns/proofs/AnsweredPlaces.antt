@@ -12,11 +12,11 @@ use Rattle.ft_model.specs.declared.script.Thread.{Thread}
 use Rattle.ft_model.specs.declared.script.ScriptParts.{ScriptParts}
 use Rattle.ft_model.specs.Histories.{calls_of}
 use Rattle.ft_history.proofs.Unbroken.{range_push}
-use Rattle.ft_turns.specs.Orders.{ThreadState, Machine, Locking, fresh_thread, start_machine, lower_first, locks_taken, take_locks, thread_at, innermost_containers, turn}
+use Rattle.ft_turns.specs.Orders.{ThreadState, Machine, Locking, fresh_thread, start_machine, lower_first, locks_taken, take_locks, thread_at, innermost_containers, turn, ready_call}
 use Rattle.ft_turns.specs.Internal.TurnParts.{TryOutcome, not_tried, answer_tried, finish_tried, answer_part, finish_part, newly_answered, placed}
 use Rattle.ft_turns.specs.Wants.{so_far}
 use Rattle.ft_turns.specs.Ends.{AreTurns, places_of}
-use Rattle.ft_turns.proofs.TurnParts.{turn_is, idle_turn}
+use Rattle.ft_turns.proofs.TurnParts.{turn_is, idle_turn, ready_next}
 use Rattle.ft_turns.proofs.MachineSoundness.{fresh_at}
 
 -- the places of each thread's answered calls, in the order of their answers
@@ -73,11 +73,12 @@ new_places false thread place before after answered at is was =
 
 -- ---- a turn
 
-pub placed_turn : (script : ScriptParts) (machine : Machine) (thread : ℕ) → thread < length script.threads → ArePlaced script machine → ArePlaced script (turn script machine thread)
-placed_turn script machine thread within are =
+placed_ready : (script : ScriptParts) (machine : Machine) (thread : ℕ) → thread < length script.threads → ArePlaced script machine → (ready : Call) → ready_call script machine thread ≡ Some ready → ArePlaced script (turn script machine thread)
+placed_ready script machine thread within are ready is_ready =
     let state = thread_at machine thread in
     let calls = calls_of script thread in
     let n = length state.marks in
+    let next = ready_next script machine thread ready is_ready in
     ⊎_elim
     (λ (found : (called : Call) × (n < length calls) × (slice_get calls n ≡ Some called) × (get_or calls n called ≡ called)).
     let called = found.0 in
@@ -100,9 +101,16 @@ placed_turn script machine thread within are =
           rw (new_other first.done thread other n (λ e. d (sym e)), append-nil (places_of other machine.answered), same) (are.places other in_script))
           (cases_eq other thread);
     } in
-    rw (turn_is script machine thread state called refl in_machine found.2) after)
-    (λ (past : (length calls ≤ n) × (slice_get calls n ≡ None)). rw (idle_turn script machine thread state refl past.1) are)
+    rw (turn_is script machine thread called in_machine (is_ready ∙ (sym next ∙ found.2))) after)
+    (λ (past : (length calls ≤ n) × (slice_get calls n ≡ None)). absurd (let e = sym past.1 ∙ next in cc))
     (slice_get_cases calls n).1
+
+pub placed_turn : (script : ScriptParts) (machine : Machine) (thread : ℕ) → thread < length script.threads → ArePlaced script machine → ArePlaced script (turn script machine thread)
+placed_turn script machine thread within are =
+    elim (ready_call script machine thread) as (λ o. ready_call script machine thread ≡ o → ArePlaced script (turn script machine thread)) [
+      | None ↦ λ none. rw (idle_turn script machine thread none) are
+      | Some ready ↦ λ is. placed_ready script machine thread within are ready is
+    ] refl
 
 pub placed_run : (script : ScriptParts) (turns : List ℕ) (machine : Machine) → AreTurns script turns → ArePlaced script machine → ArePlaced script (fold (turn script) machine turns)
 placed_run script [] machine below are = are

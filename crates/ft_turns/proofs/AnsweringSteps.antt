@@ -7,7 +7,8 @@ use Rattle.std.proofs.lemmas.List.{get_or-set_same, get_or_push, length_push}
 use Rattle.ft_model.specs.declared.call.Call.{Call}
 use Rattle.ft_model.specs.declared.script.ScriptParts.{ScriptParts}
 use Rattle.ft_model.specs.Histories.{calls_of}
-use Rattle.ft_turns.specs.Orders.{ThreadState, Machine, Locking, fresh_thread, take_locks, thread_at, next_call, without_locks, waiting_machine, sections_after, answered_machine, with_taken, finished_machine, answer_try, finish_step, finish_try}
+use Rattle.ft_turns.specs.Orders.{ThreadState, Machine, Locking, fresh_thread, take_locks, thread_at, next_call, without_locks, waiting_machine, sections_after, answered_machine, with_taken, finished_machine, answer_try, finish_step, finish_try, ready_call}
+use Rattle.ft_turns.proofs.TurnParts.{ready_next}
 use Rattle.ft_turns.specs.AnsweredTurns.{Progress, has_answered, has_finished, mark_given, with_turn, answered_turn}
 use Rattle.ft_turns.proofs.ProgressWords.{with_answer, with_mark}
 use Rattle.ft_turns.proofs.MachineSteps.{wanted, wanted_again, IsTry, there, same_marks}
@@ -164,9 +165,10 @@ module _ (script : ScriptParts) (Q : Progress → Type 0) (keeps : IsKeptByAnswe
       let machine = progress.machine in
       let state = thread_at machine thread in
       let turned : Option Call → Machine = λ o. option_map_or (λ called. finish_try (if state.fixed then machine else answer_try script machine thread state called) thread) o machine in
-      elim (next_call script thread state) as (λ o. next_call script thread state ≡ o → Q (option_map_or (λ called. with_turn progress thread called (has_answered machine (turned o)) (has_finished machine (turned o) thread) (mark_given machine (turned o) thread) (turned o)) o progress)) [
+      elim (ready_call script machine thread) as (λ o. ready_call script machine thread ≡ o → Q (option_map_or (λ called. with_turn progress thread called (has_answered machine (turned o)) (has_finished machine (turned o) thread) (mark_given machine (turned o) thread) (turned o)) o progress)) [
         | None ↦ λ none. holds
-        | Some called ↦ λ next.
+        | Some called ↦ λ ready.
+            let next = ready_next script machine thread called ready in
             elim state.fixed as (λ b. state.fixed ≡ b → Shown script Q keeps progress thread called next holds (finish_try (if b then machine else answer_try script machine thread state called) thread)) [
               | true ↦ λ fixed. shown_second script Q keeps progress thread called next holds fixed
               | false ↦ λ unfixed. shown_first script Q keeps progress thread called next holds unfixed

@@ -1,5 +1,5 @@
 -- The entries of the turns are a chronicle of the script.
-use Rattle.std.proofs.Common.{◌≡◌, ◌≢◌, ℕ, zero, suc, ◌+◌, ◌-◌, ◌<◌, ◌≤◌, true, false, List, [], ◌∷◌, ◌++◌, length, take, map, get_or, Option, None, Some, refl, sym, ap, subst, ◌∙◌, arith, cond, inl, inr}
+use Rattle.std.proofs.Common.{◌≡◌, ◌≢◌, ℕ, suc, ◌+◌, ◌-◌, ◌<◌, ◌≤◌, true, false, List, [], ◌∷◌, ◌++◌, length, take, map, get_or, Option, None, Some, refl, sym, ap, subst, ◌∙◌, arith, cond, inl, inr}
 use Rattle.std.specs.Prelude.{filter, fold, slice_get, slice_index_or, ◌==◌, if◌then◌else◌, IfSome}
 use Rattle.std.specs.List.{list_any}
 use Rattle.std.specs.Option.{option_map_or, option_map}
@@ -7,6 +7,7 @@ use Rattle.std.proofs.lemmas.Bool.{cases_lt, cases_eq, ne_eqb, and_parts, false�
 use Rattle.std.proofs.lemmas.Option.{none-some, same_Some, slice_get_within, slice_get_cases, slice_get-get_or, slice_get-map, slice_get_past, get_or_from_slice_get, some_pair_parts}
 use Rattle.std.proofs.lemmas.List.{length-map, take_all, take-map, get_or_append_left}
 use Rattle.std.proofs.lemmas.List.Folds.{list_any_none}
+use Rattle.std.proofs.lemmas.Simd.{map-map}
 use Rattle.ft_model.specs.declared.call.Call.{Call}
 use Rattle.ft_model.specs.declared.call.Call.TheVariants as call
 use Rattle.ft_model.specs.declared.entry.Entry.{Entry}
@@ -21,11 +22,11 @@ use Rattle.ft_model.specs.Worlds.{start_world}
 use Rattle.ft_model.specs.Answers.{after_write, is_write}
 use Rattle.ft_model.specs.Histories.{writes, entries_of, calls_of, cursors_of, IsWhole, Section, after_section, sections_at, innermost, IfEnds, names, IsKeptBy, IsCountedBy, IsKept, IsMarked, has_call_on, needs_at}
 use Rattle.ft_model.specs.Judging.{IsNext}
-use Rattle.ft_history.proofs.ScriptLemmas.{awaited_of_script}
 use Rattle.ft_history.proofs.Unbroken.{IsFront, fronts}
-use Rattle.ft_turns.specs.Orders.{Machine, thread_at, turn, turns_of, start_machine, last_machine, next_call, answer_try, finish_try, Ordered, ordered_in, order_of, ordered_entry}
+use Rattle.ft_turns.specs.Orders.{Machine, thread_at, turn, turns_of, start_machine, last_machine, answer_try, finish_try, Ordered, ordered_in, order_of, ordered_entry, ready_call}
 use Rattle.ft_turns.specs.AnsweredTurns.{Progress, start_progress, with_turn, has_answered, has_finished, mark_given, answered_turn, last_progress, marked_entry, answered_turns}
 use Rattle.ft_turns.specs.Chronicling.{AllFinish, IsChronicleOfTurns}
+use Rattle.ft_turns.proofs.AwaitedFirst.{map_at, awaited_in_turns}
 use Rattle.ft_turns.proofs.LockLemmas.{occ, occ-nil, occ-cons}
 use Rattle.ft_turns.proofs.MachineSteps.{turns_keep}
 use Rattle.ft_turns.proofs.LocksOnce.{IsOwned, owned_start}
@@ -92,11 +93,6 @@ map_pointwise f g (x ∷ xs) [] same each = absurd (omega arith)
 map_pointwise {X} {Y} {Z} f g (x ∷ xs) (y ∷ ys) same each =
     ap (λ z. z ∷ map f xs) (each 0 x y refl refl) ∙ ap (λ (zs : List Z). g y ∷ zs) (map_pointwise f g xs ys (omega arith) (λ place x' y' at at'. each (suc place) x' y' at at'))
 
-map_at : {X Y : Type 0} (f : X → Y) (xs : List X) (place : ℕ) (y : Y) → slice_get (map f xs) place ≡ Some y → (x : X) × (slice_get xs place ≡ Some x) × (y ≡ f x)
-map_at f [] place y at = absurd (none-some y at)
-map_at f (x ∷ xs) zero y at = (x, refl, sym (same_Some (f x) y at))
-map_at f (x ∷ xs) (suc place) y at = map_at f xs place y at
-
 entries_of-marked : (mark_of : ℕ → ℕ → Option ℕ) (thread : ℕ) (entries : List Entry) → length (entries_of thread (map (marked_by mark_of) entries)) ≡ length (entries_of thread entries)
 entries_of-marked mark_of thread [] = refl
 entries_of-marked mark_of thread (entry ∷ entries) =
@@ -139,16 +135,12 @@ caller_within script thread containers has =
           absurd (false≢true (sym (list_any_none (has_call_on script thread) containers (λ k d low. none (get_or containers k d))) ∙ has))
     ]
 
-map-map : {X Y Z : Type 0} (g : Y → Z) (f : X → Y) (xs : List X) → map g (map f xs) ≡ map (λ x. g (f x)) xs
-map-map g f [] = refl
-map-map {X} {Y} {Z} g f (x ∷ xs) = ap (λ (zs : List Z). g (f x) ∷ zs) (map-map g f xs)
-
 -- ---- the machine goes on beside the answers
 
 pub turn_machine : (script : ScriptParts) (progress : Progress) (thread : ℕ) → (answered_turn script progress thread).machine ≡ turn script progress.machine thread
 turn_machine script progress thread =
     let machine = progress.machine in
-    elim (next_call script thread (thread_at machine thread)) as (λ o. next_call script thread (thread_at machine thread) ≡ o → (option_map_or (λ called. with_turn progress thread called (has_answered machine (turn script machine thread)) (has_finished machine (turn script machine thread) thread) (mark_given machine (turn script machine thread) thread) (turn script machine thread)) o progress).machine ≡ turn script machine thread) [
+    elim (ready_call script machine thread) as (λ o. ready_call script machine thread ≡ o → (option_map_or (λ called. with_turn progress thread called (has_answered machine (turn script machine thread)) (has_finished machine (turn script machine thread) thread) (mark_given machine (turn script machine thread) thread) (turn script machine thread)) o progress).machine ≡ turn script machine thread) [
       | None ↦ λ none. sym (ap (λ o. option_map_or (λ called. finish_try (if (thread_at machine thread).fixed then machine else answer_try script machine thread (thread_at machine thread) called) thread) o machine) none)
       | Some called ↦ λ some. refl
     ] refl
@@ -349,7 +341,7 @@ module _ (script : ScriptParts) (rule : IsScript script) (all_finish : AllFinish
         chronicled = record {
           whole = whole;
           answered = λ place entry at. (done_at place entry at).answered;
-          awaited = awaited_of_script script rule (answered_turns script) whole;
+          awaited = awaited_in_turns script rule (answered_turns script) whole ordered;
           marked = marked;
           kept = kept;
           counted = λ place entry at. (done_at place entry at).counted;

@@ -10,6 +10,8 @@ pub mod Chronicled
 pub mod ContentFacts
 pub mod NothingLeft
 pub mod AllCallsFinish
+pub mod Awaits
+pub mod AwaitedFirst
 pub mod MachineFacts
 pub mod Going
 pub mod LockCounts

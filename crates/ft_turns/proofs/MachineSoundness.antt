@@ -2,7 +2,7 @@
 use Rattle.std.proofs.Common.{◌≡◌, ◌≢◌, ℕ, zero, suc, ◌+◌, ◌<◌, ◌≤◌, Bool, true, false, List, [], ◌∷◌, length, get_or, take, drop, map, Option, None, Some, refl, sym, ap, ◌∙◌, subst, arith, add-zero, inl, inr, ⊎_elim}
 use Rattle.std.specs.Prelude.{if◌then◌else◌, slice_get, ◌⊎◌, All}
 use Rattle.std.specs.Option.{option_map_or}
-use Rattle.std.proofs.lemmas.Bool.{cases_eq}
+use Rattle.std.proofs.lemmas.Bool.{cases_eq, ltb-true}
 use Rattle.std.proofs.lemmas.List.{get_or-set_same, get_or-set_other, length-set, length-map, length-append, drop_all, nil_from_length}
 use Rattle.std.proofs.lemmas.List.Sums.{sum_by-set}
 use Rattle.std.proofs.lemmas.List.Elements.{All-take}
@@ -12,11 +12,12 @@ use Rattle.ft_model.specs.declared.script.Thread.{Thread}
 use Rattle.ft_model.specs.declared.script.ScriptParts.{ScriptParts}
 use Rattle.ft_model.specs.Histories.{calls_of, cursors_of}
 use Rattle.ft_model.specs.Scripts.{IsScript, IsThread, IsCallOf, AreNested}
-use Rattle.ft_turns.specs.Orders.{ThreadState, Machine, Locking, fresh_thread, start_machine, lower_first, locks_taken, take_locks, holder_of, thread_at, next_call, section_locks, innermost_containers, turn}
+use Rattle.ft_turns.specs.Orders.{ThreadState, Machine, Locking, fresh_thread, start_machine, lower_first, locks_taken, take_locks, holder_of, thread_at, next_call, section_locks, innermost_containers, is_unfinished, is_awaiting, ready_call, turn, Awaited, awaited}
 use Rattle.ft_turns.specs.Internal.TurnParts.{TryOutcome, not_tried, answer_tried, finish_tried, answer_part, finish_part, newly_answered, placed}
 use Rattle.ft_turns.specs.Wants.{so_far}
 use Rattle.ft_turns.specs.Ends.{steps_made}
-use Rattle.ft_turns.proofs.TurnParts.{turn_is, idle_turn}
+use Rattle.ft_turns.proofs.Awaits.{await_is}
+use Rattle.ft_turns.proofs.TurnParts.{turn_is, idle_turn, ready_next, ready_none}
 use Rattle.ft_turns.proofs.TurnSteps.{finish_adds_mark, answer_keeps_marks}
 use Rattle.ft_turns.proofs.LockCounts.{by}
 use Rattle.ft_turns.proofs.Wanting.{named_are_two, taken_are_two}
@@ -78,9 +79,9 @@ not_one false n le = refl
 
 -- ---- a turn
 
--- a thread that has no call left has no lock
+-- a thread that has no call left, or awaits one that has not finished, has no lock
 pub record Rests (script : ScriptParts) (machine : Machine) (thread : ℕ) : Type 0 where
-  pub next : next_call script thread (thread_at machine thread) ≡ None
+  pub idle : ready_call script machine thread ≡ None
   pub own : (thread_at machine thread).own ≡ []
   pub settled : section_locks (thread_at machine thread).sections ≡ []
 
@@ -92,8 +93,8 @@ pub record Turned (script : ScriptParts) (before after : Machine) (thread : ℕ)
   -- nothing is brought forward only where the thread rests, or waits
   pub quiet : steps_made after ≤ steps_made before → (Rests script before thread × (after ≡ before)) ⊎ (Waits before.holders after.holders (thread_at before thread) (thread_at after thread) × (length (thread_at after thread).marks ≡ length (thread_at before thread).marks))
 
-rests : (script : ScriptParts) (machine : Machine) (thread : ℕ) → IsSound script thread machine.holders (thread_at machine thread) → next_call script thread (thread_at machine thread) ≡ None → Rests script machine thread
-rests script machine thread sound next =
+ended : (script : ScriptParts) (machine : Machine) (thread : ℕ) → IsSound script thread machine.holders (thread_at machine thread) → next_call script thread (thread_at machine thread) ≡ None → Rests script machine thread
+ended script machine thread sound next =
     let state = thread_at machine thread in
     let calls = calls_of script thread in
     let n = length state.marks in
@@ -110,19 +111,69 @@ rests script machine thread sound next =
     ap (λ b. if b then lower_first (innermost_containers state.sections) else option_map_or (λ called. lower_first (locks_taken (take (length state.marks) (calls_of script thread)) called)) (next_call script thread state) []) unfixed
     ∙ ap (λ o. option_map_or (λ called. lower_first (locks_taken (take (length state.marks) (calls_of script thread)) called)) o []) next in
     record {
-      next = next;
+      idle = ready_none script machine thread next;
       own = own_none state.own (section_locks state.sections) (wanted script thread state) wants sound.own_is;
       settled = ap section_locks closed;
     }
 
-turned_idle : (script : ScriptParts) (machine : Machine) (thread : ℕ) → thread < length script.threads → IsSoundMachine script machine → next_call script thread (thread_at machine thread) ≡ None → Turned script machine (turn script machine thread) thread
-turned_idle script machine thread within sound next =
-    let same = idle_turn script machine thread (thread_at machine thread) refl next in
+-- what a thread awaits
+pub record Awaits (script : ScriptParts) (machine : Machine) (thread : ℕ) : Type 0 where
+  pub unfixed : (thread_at machine thread).fixed ≡ false
+  pub one : Awaited
+  pub is : awaited script thread (length (thread_at machine thread).marks) ≡ Some one
+  pub unfinished : length (thread_at machine one.thread).marks < one.index
+
+pub awaits_one : (script : ScriptParts) (machine : Machine) (thread : ℕ) → is_awaiting script machine thread ≡ true → Awaits script machine thread
+awaits_one script machine thread waits =
+    let state = thread_at machine thread in
+    elim state.fixed as (λ b. state.fixed ≡ b → (if b then false else option_map_or (is_unfinished machine) (awaited script thread (length state.marks)) false) ≡ true → Awaits script machine thread) [
+      | true ↦ λ fixed e. absurd (cc)
+      | false ↦ λ unfixed e.
+          elim (awaited script thread (length state.marks)) as (λ o. awaited script thread (length state.marks) ≡ o → option_map_or (is_unfinished machine) o false ≡ true → Awaits script machine thread) [
+            | None ↦ λ none e. absurd (cc)
+            | Some one ↦ λ is e. record { unfixed = unfixed; one = one; is = is; unfinished = ltb-true (length (thread_at machine one.thread).marks) one.index e }
+          ] refl e
+    ] refl waits
+
+awaiting : (script : ScriptParts) → IsScript script → (machine : Machine) (thread : ℕ) → IsSound script thread machine.holders (thread_at machine thread) → Awaits script machine thread → ready_call script machine thread ≡ None → Rests script machine thread
+awaiting script rule machine thread sound waits idle =
+    let state = thread_at machine thread in
+    let its = await_is script rule thread (length state.marks) waits.one waits.is in
+    let far : so_far state ≡ length state.marks = ap (λ b. length state.marks + (if b then 1 else 0)) waits.unfixed ∙ add-zero (length state.marks) in
+    let nested : AreNested (length state.sections) (drop (length state.marks) (calls_of script thread)) = rw far at sound.nested in
+    let closed : state.sections ≡ [] = nil_from_length state.sections (its.outside (length state.sections) nested) in
+    let wants : wanted script thread state ≡ [] =
+    ap (λ b. if b then lower_first (innermost_containers state.sections) else option_map_or (λ called. lower_first (locks_taken (take (length state.marks) (calls_of script thread)) called)) (next_call script thread state) []) waits.unfixed
+    ∙ ap (λ o. option_map_or (λ called. lower_first (locks_taken (take (length state.marks) (calls_of script thread)) called)) o []) its.at in
+    record {
+      idle = idle;
+      own = own_none state.own (section_locks state.sections) (wanted script thread state) wants sound.own_is;
+      settled = ap section_locks closed;
+    }
+
+-- a thread that is idle awaits, or has no call left
+pub idle_cases : (script : ScriptParts) (machine : Machine) (thread : ℕ) → ready_call script machine thread ≡ None → Awaits script machine thread ⊎ (next_call script thread (thread_at machine thread) ≡ None)
+idle_cases script machine thread idle =
+    elim (is_awaiting script machine thread) as (λ b. is_awaiting script machine thread ≡ b → (if b then None else next_call script thread (thread_at machine thread)) ≡ None → Awaits script machine thread ⊎ (next_call script thread (thread_at machine thread) ≡ None)) [
+      | true ↦ λ waits e. inl (awaits_one script machine thread waits)
+      | false ↦ λ not e. inr e
+    ] refl idle
+
+rests : (script : ScriptParts) → IsScript script → (machine : Machine) (thread : ℕ) → IsSound script thread machine.holders (thread_at machine thread) → ready_call script machine thread ≡ None → Rests script machine thread
+rests script rule machine thread sound idle =
+    ⊎_elim
+    (λ (waits : Awaits script machine thread). awaiting script rule machine thread sound waits idle)
+    (λ (none : next_call script thread (thread_at machine thread) ≡ None). ended script machine thread sound none)
+    (idle_cases script machine thread idle)
+
+turned_idle : (script : ScriptParts) → IsScript script → (machine : Machine) (thread : ℕ) → thread < length script.threads → IsSoundMachine script machine → ready_call script machine thread ≡ None → Turned script machine (turn script machine thread) thread
+turned_idle script rule machine thread within sound idle =
+    let same = idle_turn script machine thread idle in
     let still : Turned script machine machine thread = record {
       sound = sound;
       others = λ other differ. refl;
       steps = omega arith;
-      quiet = λ le. inl (rests script machine thread (sound.each thread within) next, refl);
+      quiet = λ le. inl (rests script rule machine thread (sound.each thread within) idle, refl);
     } in
     rw same still
 
@@ -171,11 +222,12 @@ turned_placed script machine thread answered tried more within sound turned step
           inr (rw reads waits, ap (λ (state : ThreadState). length state.marks) reads ∙ same);
     }
 
-pub turned : (script : ScriptParts) → IsScript script → (machine : Machine) (thread : ℕ) → thread < length script.threads → IsSoundMachine script machine → Turned script machine (turn script machine thread) thread
-turned script rule machine thread within sound =
+turned_ready : (script : ScriptParts) → IsScript script → (machine : Machine) (thread : ℕ) → thread < length script.threads → IsSoundMachine script machine → (ready : Call) → ready_call script machine thread ≡ Some ready → Turned script machine (turn script machine thread) thread
+turned_ready script rule machine thread within sound ready is_ready =
     let state = thread_at machine thread in
     let calls = calls_of script thread in
     let n = length state.marks in
+    let next = ready_next script machine thread ready is_ready in
     ⊎_elim
     (λ (found : (called : Call) × (n < length calls) × (slice_get calls n ≡ Some called) × (get_or calls n called ≡ called)).
     let called = found.0 in
@@ -186,11 +238,18 @@ turned script rule machine thread within sound =
     let first = answer_part thread (take n calls) called machine.holders state in
     let second = finish_part thread first in
     let marks : length second.state.marks ≡ n + (if second.done then 1 else 0) = finish_adds_mark thread first ∙ ap (λ ms. length ms + (if second.done then 1 else 0)) (answer_keeps_marks thread (take n calls) called machine.holders state) in
-    let is = turn_is script machine thread state called refl (rw sound.count within) found.2 in
+    let is = turn_is script machine thread called (rw sound.count within) (is_ready ∙ (sym next ∙ found.2)) in
     let done = turned_placed script machine thread first.done second (newly_answered thread n first.done) within sound (turned_sound script thread machine.holders state called found.2 two taken_two (sound.each thread within)) (turn_steps thread (take n calls) called machine.holders state) marks in
     rw is done)
-    (λ (past : (length calls ≤ n) × (slice_get calls n ≡ None)). turned_idle script machine thread within sound past.1)
+    (λ (past : (length calls ≤ n) × (slice_get calls n ≡ None)). absurd (let e = sym past.1 ∙ next in cc))
     (slice_get_cases calls n).1
+
+pub turned : (script : ScriptParts) → IsScript script → (machine : Machine) (thread : ℕ) → thread < length script.threads → IsSoundMachine script machine → Turned script machine (turn script machine thread) thread
+turned script rule machine thread within sound =
+    elim (ready_call script machine thread) as (λ o. ready_call script machine thread ≡ o → Turned script machine (turn script machine thread) thread) [
+      | None ↦ λ none. turned_idle script rule machine thread within sound none
+      | Some ready ↦ λ is. turned_ready script rule machine thread within sound ready is
+    ] refl
 
 -- ---- the start
 

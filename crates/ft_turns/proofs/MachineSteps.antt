@@ -9,7 +9,8 @@ use Rattle.ft_model.specs.declared.script.Thread.{Thread}
 use Rattle.ft_model.specs.declared.call.Call.{Call}
 use Rattle.ft_model.specs.declared.script.ScriptParts.{ScriptParts}
 use Rattle.ft_model.specs.Histories.{calls_of}
-use Rattle.ft_turns.specs.Orders.{locks_taken, sections_after, without_locks, lower_first, ThreadState, Machine, fresh_thread, take_locks, thread_at, next_call, waiting_machine, answered_machine, innermost_containers, finished_machine, answer_try, finish_step, finish_try, turn}
+use Rattle.ft_turns.specs.Orders.{locks_taken, sections_after, without_locks, lower_first, ThreadState, Machine, fresh_thread, take_locks, thread_at, next_call, waiting_machine, answered_machine, innermost_containers, finished_machine, answer_try, finish_step, finish_try, ready_call, turn}
+use Rattle.ft_turns.proofs.TurnParts.{ready_next}
 
 -- the containers whose locks the next call of a thread takes, and those that it takes up again
 abbrev pub wanted : ScriptParts → Machine → ℕ → Call → List ℕ
@@ -88,9 +89,10 @@ module _ (script : ScriptParts) (P : Machine → Type 0) (keeps : IsKeptBySteps 
   pub turn_keeps : (machine : Machine) (thread : ℕ) → P machine → P (turn script machine thread)
   turn_keeps machine thread holds =
       let state = thread_at machine thread in
-      elim (next_call script thread state) as (λ o. next_call script thread state ≡ o → P (option_map_or (λ called. finish_try (if state.fixed then machine else answer_try script machine thread state called) thread) o machine)) [
+      elim (ready_call script machine thread) as (λ o. ready_call script machine thread ≡ o → P (option_map_or (λ called. finish_try (if state.fixed then machine else answer_try script machine thread state called) thread) o machine)) [
         | None ↦ λ none. holds
-        | Some called ↦ λ next.
+        | Some called ↦ λ ready.
+            let next = ready_next script machine thread called ready in
             elim state.fixed as (λ b. state.fixed ≡ b → P (finish_try (if b then machine else answer_try script machine thread state called) thread)) [
               | true ↦ λ fixed. finish script P keeps machine thread called next holds
               | false ↦ λ unfixed.

@@ -1,6 +1,7 @@
 -- In any two rounds that follow each other an answer is fixed or a call finishes, unless no call is left.
 use Rattle.std.proofs.Common.{◌≡◌, ◌≢◌, ℕ, zero, suc, ◌+◌, ◌<◌, ◌≤◌, true, false, List, [], ◌∷◌, ◌++◌, length, get_or, Option, None, Some, refl, sym, ap, ◌∙◌, arith, inl, inr, ⊎_elim}
-use Rattle.std.specs.Prelude.{is_some, slice_get, ◌⊎◌}
+use Rattle.std.specs.Prelude.{is_some, slice_get, ◌⊎◌, nat_lt, if◌then◌else◌}
+use Rattle.std.specs.Option.{option_map_or}
 use Rattle.std.specs.List.{fold, range_with_len}
 use Rattle.std.proofs.lemmas.Bool.{cases_eq, cases_lt}
 use Rattle.std.proofs.lemmas.List.{append-nil}
@@ -10,12 +11,13 @@ use Rattle.ft_model.specs.declared.script.ScriptParts.{ScriptParts}
 use Rattle.ft_model.specs.declared.call.Call.{Call}
 use Rattle.ft_model.specs.Histories.{calls_of}
 use Rattle.ft_model.specs.Scripts.{IsScript}
-use Rattle.ft_turns.specs.Orders.{ThreadState, Machine, holder_of, thread_at, section_locks, turn, round_of}
+use Rattle.ft_turns.specs.Orders.{ThreadState, Machine, holder_of, thread_at, next_call, ready_call, section_locks, turn, round_of, awaited}
 use Rattle.ft_turns.specs.Wants.{AreBelow}
 use Rattle.ft_turns.specs.Ends.{steps_made, AreTurns}
 use Rattle.ft_turns.proofs.LockCounts.{by, times, same_self, held_within}
 use Rattle.ft_turns.proofs.Soundness.{Waits, locks_had}
-use Rattle.ft_turns.proofs.MachineSoundness.{IsSoundMachine, Rests, Turned, turned}
+use Rattle.ft_turns.proofs.Awaits.{await_is}
+use Rattle.ft_turns.proofs.MachineSoundness.{IsSoundMachine, Rests, Awaits, idle_cases, Turned, turned}
 
 -- ---- a run of turns
 
@@ -77,6 +79,15 @@ marks_turn script before after thread other done le =
     (λ (n : other ≢ thread). ap (λ (s : ThreadState). length s.marks) (done.others other n))
     (cases_eq other thread)
 
+-- a thread that keeps its state is as ready as before, where no call has finished
+ready_by : ScriptParts → ℕ → ThreadState → (ℕ → ℕ) → Option Call
+ready_by script thread state marks =
+    if (if state.fixed then false else option_map_or (λ one. nat_lt (marks one.thread) one.index) (awaited script thread (length state.marks)) false) then None else next_call script thread state
+
+ready_same : (script : ScriptParts) (before after : Machine) (thread : ℕ) → thread_at after thread ≡ thread_at before thread → ((k : ℕ) → length (thread_at after k).marks ≡ length (thread_at before k).marks) → ready_call script after thread ≡ ready_call script before thread
+unfolding ready_by
+ready_same script before after thread same marks = λ i. ready_by script thread (same i) (λ k. marks k i)
+
 grows_turn : (script : ScriptParts) (before after : Machine) (thread container : ℕ) → Turned script before after thread → steps_made after ≤ steps_made before → IsSettled before thread → is_some (holder_of before.holders container) ≡ true → is_some (holder_of after.holders container) ≡ true
 grows_turn script before after thread container done le settled held =
     ⊎_elim
@@ -95,10 +106,11 @@ stuck_turn script before after thread other done le settled cases =
     (done.quiet le)))
     (λ (n : other ≢ thread).
     let same = done.others other n in
+    let marks : (k : ℕ) → length (thread_at after k).marks ≡ length (thread_at before k).marks = λ k. marks_turn script before after thread k done le in
     ⊎_elim
     (λ (was : IsStuck script before other).
     ⊎_elim
-    (λ (r : Rests script before other). let still : Rests script after other = record { next = rw same r.next; own = rw same r.own; settled = rw same r.settled } in inl still)
+    (λ (r : Rests script before other). let still : Rests script after other = record { idle = ready_same script before after other same marks ∙ r.idle; own = rw same r.own; settled = rw same r.settled } in inl still)
     (λ (b : Blocked before other). let still : Blocked after other = record { container = b.container; is_held = grows_turn script before after thread b.container done le settled b.is_held; above = rw same b.above } in inr still)
     was)
     (λ (e : other ≡ thread). absurd (n e))
@@ -215,6 +227,26 @@ below_append bound (x ∷ xs) ys one two = (one.0, below_append bound xs ys one.
 pub round_below : (script : ScriptParts) → AreTurns script (round_of script)
 round_below script = below_range (length script.threads) 0 (length script.threads) (omega arith)
 
+-- where all threads rest, none has a call left: the first that awaits awaits a call of an earlier one, and all of those have
+-- finished
+none_left : (script : ScriptParts) → IsScript script → (machine : Machine) → ((k : ℕ) → k < length script.threads → Rests script machine k) → (n thread : ℕ) → thread < n → thread < length script.threads → length (calls_of script thread) ≤ length (thread_at machine thread).marks
+none_left script rule machine rest zero thread low within = absurd (omega (arith, low))
+none_left script rule machine rest (suc n) thread low within =
+    ⊎_elim
+    (λ (waits : Awaits script machine thread).
+    let its = await_is script rule thread (length (thread_at machine thread).marks) waits.one waits.is in
+    let earlier = its.earlier in
+    let before = none_left script rule machine rest n waits.one.thread (omega (arith, earlier, low)) (omega (arith, earlier, within)) in
+    let there = its.there in
+    let unfinished = waits.unfinished in
+    absurd (omega (arith, before, there, unfinished)))
+    (λ (none : next_call script thread (thread_at machine thread) ≡ None).
+    ⊎_elim
+    (λ (found : (called : Call) × (length (thread_at machine thread).marks < length (calls_of script thread)) × (slice_get (calls_of script thread) (length (thread_at machine thread).marks) ≡ Some called) × (get_or (calls_of script thread) (length (thread_at machine thread).marks) called ≡ called)). absurd (let e = sym none ∙ found.2 in cc))
+    (λ (past : (length (calls_of script thread) ≤ length (thread_at machine thread).marks) × (slice_get (calls_of script thread) (length (thread_at machine thread).marks) ≡ None)). past.0)
+    (slice_get_cases (calls_of script thread) (length (thread_at machine thread).marks)).1)
+    (idle_cases script machine thread (rest thread within).idle)
+
 -- two rounds bring something forward, or no thread has a call left
 pub two_rounds : (script : ScriptParts) → IsScript script → (machine : Machine) → IsSoundMachine script machine → steps_made (fold (turn script) machine (round_of script ++ round_of script)) ≤ steps_made machine → (thread : ℕ) → thread < length script.threads → length (calls_of script thread) ≤ length (thread_at machine thread).marks
 two_rounds script rule machine sound le thread within =
@@ -232,9 +264,7 @@ two_rounds script rule machine sound le thread within =
     let settled : (k : ℕ) → k < length script.threads → IsSettled middle k = λ k in_script. settled_run script rule round machine k below sound quiet_one (inr (occurs k in_script)) in
     let still : (k : ℕ) → k < length script.threads → IsSettled last k = λ k in_script. settled_run script rule round middle k below one.sound quiet_two (inl (settled k in_script)) in
     let stuck : (k : ℕ) → k < length script.threads → IsStuck script last k = λ k in_script. stuck_run script rule round middle k below one.sound settled quiet_two (inr (occurs k in_script)) in
-    let rests = all_rest script last thread within two.sound still stuck in
+    let rest : (k : ℕ) → k < length script.threads → Rests script last k = λ k in_script. all_rest script last k in_script two.sound still stuck in
     let marks : length (thread_at last thread).marks ≡ length (thread_at machine thread).marks = marks_run script rule round middle thread below one.sound quiet_two ∙ marks_run script rule round machine thread below sound quiet_one in
-    ⊎_elim
-    (λ (found : (called : Call) × (length (thread_at last thread).marks < length (calls_of script thread)) × (slice_get (calls_of script thread) (length (thread_at last thread).marks) ≡ Some called) × (get_or (calls_of script thread) (length (thread_at last thread).marks) called ≡ called)). absurd (let e = sym rests.next ∙ found.2 in cc))
-    (λ (past : (length (calls_of script thread) ≤ length (thread_at last thread).marks) × (slice_get (calls_of script thread) (length (thread_at last thread).marks) ≡ None)). omega (arith, past.0, marks))
-    (slice_get_cases (calls_of script thread) (length (thread_at last thread).marks)).1
+    let done = none_left script rule last rest (suc thread) thread (omega arith) within in
+    omega (arith, done, marks)

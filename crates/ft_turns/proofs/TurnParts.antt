@@ -6,7 +6,7 @@ use Rattle.std.proofs.lemmas.List.{append-nil, set-get_or, set-set, get_or-set_s
 use Rattle.ft_model.specs.declared.call.Call.{Call}
 use Rattle.ft_model.specs.declared.script.ScriptParts.{ScriptParts}
 use Rattle.ft_model.specs.Histories.{calls_of}
-use Rattle.ft_turns.specs.Orders.{ThreadState, Machine, Locking, fresh_thread, lower_first, locks_taken, take_locks, thread_at, next_call, waiting_machine, answered_machine, finished_machine, answer_step, finish_step, answer_try, finish_try, innermost_containers, turn}
+use Rattle.ft_turns.specs.Orders.{ThreadState, Machine, Locking, fresh_thread, lower_first, locks_taken, take_locks, thread_at, next_call, waiting_machine, answered_machine, finished_machine, answer_step, finish_step, answer_try, finish_try, innermost_containers, is_awaiting, ready_call, turn}
 use Rattle.ft_turns.specs.Internal.TurnParts.{TryOutcome, not_tried, tried_in_vain, answer_tried, finish_tried, answer_part, finish_part, newly_answered, placed}
 
 same_answered : (machine : Machine) (thread : ℕ) (tried : TryOutcome) → record machine { holders = tried.holders; threads = set machine.threads thread tried.state } ≡ placed machine thread tried []
@@ -59,22 +59,35 @@ second_part machine thread tried more within =
     ap (finish_of (placed machine thread tried more) thread) (get_or-set_same machine.threads thread tried.state fresh_thread within)
     ∙ second_at tried.state.fixed machine thread tried more (take_locks thread tried.holders (lower_first (innermost_containers tried.state.sections)))
 
+-- the next call, where it is ready
+pub ready_next : (script : ScriptParts) (machine : Machine) (thread : ℕ) (called : Call) → ready_call script machine thread ≡ Some called → next_call script thread (thread_at machine thread) ≡ Some called
+ready_next script machine thread called ready =
+    elim (is_awaiting script machine thread) as (λ b. (if b then None else next_call script thread (thread_at machine thread)) ≡ Some called → next_call script thread (thread_at machine thread) ≡ Some called) [
+      | true ↦ λ e. absurd (cc)
+      | false ↦ λ e. e
+    ] ready
+
+pub ready_none : (script : ScriptParts) (machine : Machine) (thread : ℕ) → next_call script thread (thread_at machine thread) ≡ None → ready_call script machine thread ≡ None
+ready_none script machine thread none =
+    elim (is_awaiting script machine thread) as (λ b. ◌≡◌ {A = Option Call} (if b then None else next_call script thread (thread_at machine thread)) None) [
+      | true ↦ refl
+      | false ↦ none
+    ]
+
 -- a turn of a thread that is this one, and whose next call is this
 turn_of : ScriptParts → Machine → ℕ → ThreadState → Option Call → Machine
 turn_of script machine thread state next = option_map_or (λ called. finish_try (if state.fixed then machine else answer_try script machine thread state called) thread) next machine
 
-pub turn_is : (script : ScriptParts) (machine : Machine) (thread : ℕ) (state : ThreadState) (called : Call) → state ≡ thread_at machine thread → thread < length machine.threads → next_call script thread state ≡ Some called
+pub turn_is : (script : ScriptParts) (machine : Machine) (thread : ℕ) (called : Call) → thread < length machine.threads → ready_call script machine thread ≡ Some called
     → turn script machine thread
-    ≡ placed machine thread (finish_part thread (answer_part thread (take (length state.marks) (calls_of script thread)) called machine.holders state)) (newly_answered thread (length state.marks) (answer_part thread (take (length state.marks) (calls_of script thread)) called machine.holders state).done)
+    ≡ placed machine thread (finish_part thread (answer_part thread (take (length (thread_at machine thread).marks) (calls_of script thread)) called machine.holders (thread_at machine thread))) (newly_answered thread (length (thread_at machine thread).marks) (answer_part thread (take (length (thread_at machine thread).marks) (calls_of script thread)) called machine.holders (thread_at machine thread)).done)
 unfolding turn_of
-turn_is script machine thread state called is within next =
-    ap (λ s. turn_of script machine thread s (next_call script thread s)) (sym is)
-    ∙ (ap (turn_of script machine thread state) next
-    ∙ (ap (λ m. finish_try m thread) (first_part script machine thread state called is)
-    ∙ second_part machine thread (answer_part thread (take (length state.marks) (calls_of script thread)) called machine.holders state) (newly_answered thread (length state.marks) (answer_part thread (take (length state.marks) (calls_of script thread)) called machine.holders state).done) within))
+turn_is script machine thread called within next =
+    let state = thread_at machine thread in
+    ap (turn_of script machine thread state) next
+    ∙ (ap (λ m. finish_try m thread) (first_part script machine thread state called refl)
+    ∙ second_part machine thread (answer_part thread (take (length state.marks) (calls_of script thread)) called machine.holders state) (newly_answered thread (length state.marks) (answer_part thread (take (length state.marks) (calls_of script thread)) called machine.holders state).done) within)
 
-pub idle_turn : (script : ScriptParts) (machine : Machine) (thread : ℕ) (state : ThreadState) → state ≡ thread_at machine thread → next_call script thread state ≡ None → turn script machine thread ≡ machine
+pub idle_turn : (script : ScriptParts) (machine : Machine) (thread : ℕ) → ready_call script machine thread ≡ None → turn script machine thread ≡ machine
 unfolding turn_of
-idle_turn script machine thread state is next =
-    ap (λ s. turn_of script machine thread s (next_call script thread s)) (sym is)
-    ∙ ap (turn_of script machine thread state) next
+idle_turn script machine thread next = ap (turn_of script machine thread (thread_at machine thread)) next

@@ -13,7 +13,7 @@ use Rattle.ft_model.specs.declared.script.ScriptParts.{ScriptParts}
 use Rattle.ft_model.specs.Worlds.{start_world, start_hands, no_hands}
 use Rattle.ft_model.specs.Answers.{answer, is_write}
 use Rattle.ft_model.specs.Histories.{writes}
-use Rattle.ft_turns.specs.Orders.{Machine, start_machine, thread_at, next_call, turn, turns_of}
+use Rattle.ft_turns.specs.Orders.{Machine, start_machine, thread_at, ready_call, turn, turns_of}
 
 -- ---- how many calls of a section waited
 
@@ -197,7 +197,7 @@ answered_turn script progress thread =
     (has_finished progress.machine (turn script progress.machine thread) thread)
     (mark_given progress.machine (turn script progress.machine thread) thread)
     (turn script progress.machine thread))
-    (next_call script thread (thread_at progress.machine thread))
+    (ready_call script progress.machine thread)
     progress
 
 -- ---- the entries that come of it

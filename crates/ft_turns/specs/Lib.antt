@@ -2,6 +2,7 @@ pub mod Internal
 pub mod AnsweredTurns
 pub mod Chronicling
 pub mod Ends
+pub mod AwaitedFirst
 pub mod Orders
 pub mod ShortReplies
 pub mod Schedules

@@ -247,15 +247,56 @@ finish_try machine thread =
     (take_locks thread machine.holders (lower_first (innermost_containers (thread_at machine thread).sections)))
     else machine
 
+-- ---- awaits
+
+-- a call that an `await` names: its thread, and its index from 1 (profile)
+pub record Awaited : Type 0 where
+  pub thread : ℕ
+  pub index : ℕ
+
+-- what a call awaits, where it is an `await`
+abbrev pub awaited_by : Call → Option Awaited
+awaited_by (call.Await thread index) = Some (record { thread = thread; index = index })
+awaited_by (call.Dict container dict_call) = None
+awaited_by (call.List container list_call) = None
+awaited_by (call.Set container set_call) = None
+awaited_by (call.Deque container deque_call) = None
+awaited_by (call.Next cursor) = None
+awaited_by (call.Begin first second) = None
+awaited_by call.End = None
+awaited_by call.Quiesce = None
+awaited_by call.Dump = None
+
+-- what a thread's call at a place, from 0, awaits
+abbrev pub awaited : ScriptParts → ℕ → ℕ → Option Awaited
+awaited script thread place = option_map_or awaited_by (slice_get (calls_of script thread) place) None
+
+-- whether the call that is awaited has not finished
+abbrev pub is_unfinished : Machine → Awaited → Bool
+is_unfinished machine one = nat_lt (length (thread_at machine one.thread).marks) one.index
+
+-- whether the next call of a thread is an `await` of such a call
+abbrev pub is_awaiting : ScriptParts → Machine → ℕ → Bool
+is_awaiting script machine thread =
+    if (thread_at machine thread).fixed
+    then false
+    else option_map_or (is_unfinished machine) (awaited script thread (length (thread_at machine thread).marks)) false
+
+-- the next call, where it awaits nothing
+abbrev pub ready_call : ScriptParts → Machine → ℕ → Option Call
+ready_call script machine thread =
+    if is_awaiting script machine thread then None else next_call script thread (thread_at machine thread)
+
 -- one turn of a thread: one try of its next call, which fixes the answer, where it isn't fixed, and then takes up the
--- innermost section again; a thread without calls spends its turn
+-- innermost section again; a thread without calls spends its turn, and so does one that awaits a call that hasn't
+-- finished, which leaves no mark
 abbrev pub turn : ScriptParts → Machine → ℕ → Machine
 turn script machine thread =
     option_map_or
     (λ called. finish_try
     (if (thread_at machine thread).fixed then machine
     else answer_try script machine thread (thread_at machine thread) called) thread)
-    (next_call script thread (thread_at machine thread)) machine
+    (ready_call script machine thread) machine
 
 -- ---- the order
 

@@ -7,5 +7,5 @@ mod laws;
 mod schedule;
 
 pub use chronicles::{next_calls_are_answerable, turns_make_a_chronicle};
-pub use laws::{all_calls_finish, turns_go_on};
+pub use laws::{all_calls_finish, awaited_calls_come_first, turns_go_on};
 pub use schedule::{Schedule, count_calls};

@@ -1,15 +1,19 @@
 -- Threads of a script between two turns: their callers rest, and the floor is on its way.
-use Rattle.std.specs.Prelude.{◌≡◌, ℕ, suc, ◌+◌, ◌<◌, ◌≤◌, Bool, true, false, List, [], ◌∷◌, ◌++◌, length, map, take, Option, None, Some, slice_get, slice_set, Vec}
+use Rattle.std.specs.Prelude.{◌≡◌, ℕ, suc, ◌+◌, ◌<◌, ◌≤◌, Bool, true, false, List, [], ◌∷◌, ◌++◌, length, map, take, Option, None, Some, IfSome, slice_get, slice_index_or, slice_set, Vec}
 use Rattle.std.specs.List.{sum_by}
 use Rattle.std.specs.declared.alloc.Global.{Global}
 use Rattle.ft_model.specs.declared.call.Call.{Call}
+use Rattle.ft_model.specs.declared.call.Call.TheVariants as call
 use Rattle.ft_model.specs.declared.entry.Entry.{Entry}
+use Rattle.ft_model.specs.declared.reply.Reply.TheVariants as reply
 use Rattle.ft_model.specs.declared.script.ScriptParts.{ScriptParts}
 use Rattle.ft_model.specs.Histories.{calls_of}
 use Rattle.ft_model.specs.Limits.{most_cursors}
 use Rattle.ft_trace.specs.Acts.{announces}
+use Rattle.ft_bank.specs.declared.note.Note.{Note}
 use Rattle.ft_bank.specs.declared.tokens.Tokens.{Tokens}
 use Rattle.ft_bank.specs.Floors.{AreTokensOf, IsRestingOf, carried, stack_at_rest}
+use Rattle.ft_bank.specs.Notes.{IsNoteOf, TellsOf}
 use Rattle.ft_bank.specs.Passes.{shape_of, view}
 use Rattle.ft_bank.specs.PassSections.{no_sections, stack_of}
 use Rattle.ft_engine.specs.declared.attempts.Tried.{Tried}
@@ -22,11 +26,16 @@ use Rattle.ft_engine.specs.Callers.{IsCallerOf, IsIdle, bank_of, flight_of, hand
 use Rattle.ft_engine.specs.Flights.{AllowsCall}
 use Rattle.ft_engine.specs.Keeping.{WasAnswered}
 use Rattle.ft_engine.specs.Resting.{HandsOn, HasFloor, RestsAs}
+use Rattle.ft_section.specs.declared.answers.Stamp.{Stamp}
+use Rattle.ft_turns.specs.Ends.{after_turns}
+use Rattle.ft_turns.specs.Orders.{Awaited as AwaitedCall, awaited_by, is_awaiting}
 use Rattle.ft_turn_laws.specs.Beginnings.{NoneOwns}
 use Rattle.ft_turn_laws.specs.Ordered.{nobody}
 use Rattle.ft_turn_laws.specs.Standing.{Standing, standing_of}
-use Rattle.ft_turn_laws.specs.Turns.{AreInStep, IsTurnOf}
+use Rattle.ft_turn_laws.specs.Turns.{AreInStep, IsLearnOf, IsTurnOf}
 use Rattle.ft_run_threads.specs.Workers.{IsMember}
+use Rattle.ft_run_turns.specs.declared.awaiting.Awaited.{Awaited}
+use Rattle.ft_run_turns.specs.declared.awaiting.Awaited.TheVariants as awaited
 use Rattle.ft_run_turns.specs.declared.seats.Seat.{Seat}
 
 -- ---- seats
@@ -59,6 +68,8 @@ pub record IsBetweenTurns (e : Engine) (script : ScriptParts) (i : ℕ) (c : Cal
   pub made : map (λ entry. entry.call) mine ≡ take (length mine) (calls_of script i)
   pub next : (called : Call) → slice_get (calls_of script i) (length mine) ≡ Some called
       → AllowsCall (flight_of c) called
+  -- it is in no call where the next one is an `await`
+  pub idle : (named index : ℕ) → slice_get (calls_of script i) (length mine) ≡ Some (call.Await named index) → IsIdle c
   pub online : length mine < length (calls_of script i) → 0 < announces (view (pass_of c)).log
   pub done : length (calls_of script i) ≤ length mine → IsIdle c × (announces (view (pass_of c)).log ≡ 0)
 
@@ -116,20 +127,59 @@ pub record HasTried (e : Engine) (called : Call) (c : Caller) (mine : List Entry
   pub entries : after ≡ entries_with_answer (thread_of c) called answer mine
   pub ended : went ≡ ends_call answer
 
--- where the threads were in step, they are after one more turn of this one, of whose caller these are the entries
+-- Where the threads were in step, they are after one more turn of this one, of whose caller these are the entries, and
+-- which awaits no call that has not finished.
 abbrev pub StaysInStep : ScriptParts → ℕ → Caller → List Entry → Caller → List Entry → Type 0
 StaysInStep script thread c mine d after =
-    (turns : List ℕ) (standings : List Standing) → slice_get standings thread ≡ Some (standing_of c mine)
-    → AreInStep script turns (view (pass_of c)) standings
+    (turns : List ℕ) (standings : List Standing) → is_awaiting script (after_turns script turns) thread ≡ false
+    → slice_get standings thread ≡ Some (standing_of c mine) → AreInStep script turns (view (pass_of c)) standings
     → AreInStep script (turns ++ thread ∷ []) (view (pass_of d)) (slice_set standings thread (standing_of d after))
 
 -- the same from the tokens before the turn to those after it
 abbrev pub TokensStayInStep : Engine → ScriptParts → ℕ → Seat → Tokens → Seat → Tokens → Type 0
 TokensStayInStep e script thread s t r u =
-    (turns : List ℕ) (standings : List Standing) (c : Caller) → IsGiver e c t
+    (turns : List ℕ) (standings : List Standing) (c : Caller)
+    → is_awaiting script (after_turns script turns) thread ≡ false → IsGiver e c t
     → slice_get standings thread ≡ Some (standing_in s) → AreInStep script turns (view (pass_of c)) standings
     → (d : Caller) × IsGiver e d u
     × AreInStep script (turns ++ thread ∷ []) (view (pass_of d)) (slice_set standings thread (standing_in r))
+
+-- ---- awaits
+
+-- how many calls of a thread have ended, and the call that it makes next, where it has one left
+abbrev pub made_in : List (Option Seat) → ℕ → ℕ
+made_in seats thread = length (seat_entries (slice_index_or seats thread None))
+
+abbrev pub next_in : ScriptParts → List (Option Seat) → ℕ → Option Call
+next_in script seats thread = slice_get (calls_of script thread) (made_in seats thread)
+
+-- the next call is no `await`, or there is none
+abbrev pub AwaitsNone : Option Call → Type 0
+AwaitsNone next = IfSome next (λ called. awaited_by called ≡ None)
+
+-- the next call is an `await`, and the note tells of the call that it names; or it is none, and there is no note
+abbrev pub IsNoteFor : Engine → Option Call → Option Note → Type 0
+IsNoteFor e next None = AwaitsNone next
+IsNoteFor e next (Some note) =
+    (one : AwaitedCall) × (next ≡ Some (call.Await one.thread one.index)) × IsNoteOf (bank_of e) note
+    × TellsOf note one.thread one.index
+
+-- what a thread awaits: a call that has finished, of which there is a note; or one that has not; or nothing
+abbrev pub HasAwaited : Engine → ScriptParts → List (Option Seat) → ℕ → Awaited → Type 0
+HasAwaited e script seats thread awaited.Nothing = AwaitsNone (next_in script seats thread)
+HasAwaited e script seats thread (awaited.Finished note) =
+    (one : AwaitedCall) × (next_in script seats thread ≡ Some (call.Await one.thread one.index))
+    × IsNoteOf (bank_of e) note × TellsOf note one.thread one.index × (one.index ≤ made_in seats one.thread)
+HasAwaited e script seats thread awaited.Unfinished =
+    (one : AwaitedCall) × (next_in script seats thread ≡ Some (call.Await one.thread one.index))
+    × (made_in seats one.thread < one.index)
+
+-- a caller with the floor was answered the `await` that comes next, and its entry is added
+pub record HasLearned (e : Engine) (called : Call) (c : Caller) (mine : List Entry) (d : Caller) (after : List Entry)
+    : Type 0 where
+  pub stamp : Stamp
+  pub learn : IsLearnOf e called stamp c d
+  pub entries : after ≡ entries_with_answer (thread_of c) called (tried.Done reply.Done stamp None) mine
 
 -- ---- the start
 

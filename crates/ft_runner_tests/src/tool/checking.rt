@@ -31,8 +31,24 @@ pub(super) const LEGAL: Checked<'static> = Checked {
 pub(super) const NESTED: &str =
     "list l\ndict d\nthread A\nbegin d\nbegin l\nappend l 1\nend\nend\nthread B\nbegin l\nappend l 2\nend\nthread C\nset d 1 1\norder B A A C B B\n";
 
-const CHECKS: [Checked<'static>; 13] = [
+const AWAITING: &str = "version 2\nlist l\nthread A\nappend l 1\nthread B\nawait A.1\nappend l 2\n";
+
+const CHECKS: [Checked<'static>; 15] = [
     LEGAL,
+    // The call that is awaited stands above, and below.
+    Checked {
+        script: AWAITING,
+        transcript: "A.1 w0 append l 1 = ok\nB.1 r1 await A.1 = ok\nB.2 w1 append l 2 = ok\nl = [1, 2]\n",
+        ..LEGAL
+    },
+    Checked {
+        script: AWAITING,
+        transcript: "B.1 r0 await A.1 = ok\nA.1 w0 append l 1 = ok\nB.2 w1 append l 2 = ok\nl = [1, 2]\n",
+        status: 7,
+        fault: Fault::NotLegal(1, Rule::Await),
+        put: "not legal at 1: await\n",
+        ..LEGAL
+    },
     Checked {
         script: NESTED,
         transcript: "A.1 r0 begin d = entered\nB.1 r0 begin l = entered\nC.1 w0 set d 1 1 = ok\nB.2 w1 append l 2 = ok\nA.2 r2 begin l = entered waited B\nB.3 r2 end = kept\nA.3 w2 append l 1 = ok\nA.4 r3 end = kept\nA.5 r3 end = suspended 1\nl = [2, 1]\nd = {1: 1}\n",

@@ -2,7 +2,8 @@
 //! the expected texts are those of one thread.
 
 use super::long::{count_of, long_script};
-use super::{AMPLE, Case, NO_SCRIPT, NO_SINK, NO_SOURCE, call, call_check, check_all};
+use super::runs::{THREE_IN_TURN, TWO_IN_TURN, case_of};
+use super::{AMPLE, Case, NO_SCRIPT, NO_SINK, NO_SOURCE, call, call_check, check, check_all};
 use ft_runner::NoGate;
 use std::alloc::{AllocError, Global};
 use std::process::Abort;
@@ -32,7 +33,7 @@ fn last_line(text: &[u8]) -> &[u8] {
 
 /// Runs a script: it is to come to that many entries and lines, and to a history that is found legal. What was written is
 /// returned.
-fn check_run<R: Threads + Wait + Sync + Abort + AllocGlobal>(
+pub(super) fn check_run<R: Threads + Wait + Sync + Abort + AllocGlobal>(
     rt: &R,
     script: &str,
     entries: usize,
@@ -82,4 +83,17 @@ const ENDS_ILL: [Case<'static>; 3] = [
 #[test]
 fn a_run_that_does_not_end_well_is_reported(rt: HostRuntime) -> Result<(), Fail> {
     check_all(&rt, &ENDS_ILL)
+}
+
+// Awaits leave the threads one order alone, so what is written is the same in each run.
+#[test]
+fn threads_that_await_others_come_after_them(rt: HostRuntime) -> Result<(), Fail> {
+    for run in &[TWO_IN_TURN, THREE_IN_TURN] {
+        let case = Case {
+            command: "run",
+            ..case_of(run)
+        };
+        check(&rt, &case)?;
+    }
+    Ok(())
 }

@@ -13,7 +13,23 @@ pub(super) struct Run<'a> {
     pub(super) put: &'a str,
 }
 
-const RUNS: [Run<'static>; 22] = [
+/// Two threads, of which the second awaits the first.
+pub(super) const TWO_IN_TURN: Run<'static> = Run {
+    entries: 3,
+    input: "version 2\nlist l\nthread A\nappend l 1\nthread B\nawait A.1\nappend l 2\norder B B A B\n",
+    put: "A.1 w0 append l 1 = ok\nB.1 r1 await A.1 = ok\nB.2 w1 append l 2 = ok\nl = [1, 2]\n",
+};
+
+/// Three threads, each of which awaits the one before it.
+pub(super) const THREE_IN_TURN: Run<'static> = Run {
+    entries: 5,
+    input: "version 2\nlist l\nthread A\nappend l 1\nthread B\nawait A.1\nappend l 2\nthread C\nawait B.2\nappend l 3\norder C C B C A\n",
+    put: "A.1 w0 append l 1 = ok\nB.1 r1 await A.1 = ok\nB.2 w1 append l 2 = ok\nC.1 r2 await B.2 = ok\nC.2 w2 append l 3 = ok\nl = [1, 2, 3]\n",
+};
+
+const RUNS: [Run<'static>; 24] = [
+    TWO_IN_TURN,
+    THREE_IN_TURN,
     // A key that is added again goes last.
     Run {
         entries: 5,

@@ -2,7 +2,7 @@
 use Rattle.std.specs.Prelude.{ℕ, ◌==◌, List, [], ◌∷◌, length, Option, Some, None, if◌then◌else◌}
 use Rattle.ft_script.specs.declared.call_words.Operation.TheVariants as of
 use Rattle.ft_script.specs.declared.call_words.CallWord.{CallWord}
-use Rattle.ft_script.specs.declared.call_words.CallWord.TheVariants.{Next, Begin, End, Quiesce, On}
+use Rattle.ft_script.specs.declared.call_words.CallWord.TheVariants.{Next, Begin, End, Quiesce, Await, On}
 
 -- of that many bytes, by the first of them, or the first two
 unfoldable pub word_of_2 : ℕ → Option CallWord
@@ -34,7 +34,8 @@ word_of_5 first second =
     if first == 98 then Some Begin
     else (if first == 105 then (if second == 116 then Some (On of.Items) else Some (On of.Index))
     else (if first == 99 then (if second == 108 then Some (On of.Clear) else Some (On of.Count))
-    else (if first == 115 then Some (On of.Slice) else None)))
+    else (if first == 115 then Some (On of.Slice)
+    else (if first == 97 then Some Await else None))))
 
 unfoldable pub word_of_6 : ℕ → Option CallWord
 word_of_6 first =

@@ -17,6 +17,7 @@ use Rattle.ft_script.specs.ScriptLines.{limit_fault}
 -- what a draft of the code says
 abbrev pub draft_of : DraftParts → Draft
 draft_of parts = record {
+  awaits = parts.awaits;
   containers = parts.containers;
   tables = parts.tables;
   heap = parts.heap;

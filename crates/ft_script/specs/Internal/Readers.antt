@@ -10,14 +10,14 @@ use Rattle.ft_script.specs.declared.fault.LineError.{LineError}
 use Rattle.ft_script.specs.declared.fault.LineError.TheVariants as error
 use Rattle.ft_script.specs.declared.transcript.TranscriptFault.{TranscriptFault}
 use Rattle.ft_script.specs.declared.transcript.TranscriptFault.TheVariants as found
-use Rattle.ft_script.specs.Drafts.{draft_at, empty_draft}
+use Rattle.ft_script.specs.Drafts.{draft_at, draft_with_all}
 use Rattle.ft_script.specs.ScriptLines.{just_call}
 use Rattle.ft_script.specs.Texts.{entry_line}
 use Rattle.ft_script.specs.Transcripts.{IsReadable, IsContentLine}
 
--- the draft declares the script's containers and strings, and the cursors of each thread stand beside it
+-- the draft declares what the script has, and the cursors of each thread stand beside it
 pub record IsReaderOf (script : ScriptParts) (draft : Draft) (cursors : List (List (List ℕ))) : Type 0 where
-  pub draft_is : draft ≡ record empty_draft { containers = script.containers; strings = script.strings }
+  pub draft_is : draft ≡ draft_with_all script
   pub cursors_are : cursors ≡ map (λ thread. thread.cursors) script.threads
 
 -- reading a call left the draft as it was

@@ -3,7 +3,7 @@ use Rattle.std.proofs.Math.Logic.{∥∥₁_map}
 use Rattle.ft_model.specs.declared.call.Call.{Call}
 use Rattle.ft_model.specs.declared.script.Start.{Start}
 use Rattle.ft_model.specs.Answers.{shown_of, world_by}
-use Rattle.ft_trace.specs.Acts.{all_entries, all_lists}
+use Rattle.ft_trace.specs.Acts.{all_entries, all_lists, tells}
 use Rattle.ft_trace.specs.InOrder.{AreInOrder}
 use Rattle.ft_trace.specs.Owners.{found_owners, had_locks}
 use Rattle.ft_trace.specs.Traces.{history, IsReachable}
@@ -28,7 +28,7 @@ returns-clause-last c is script kept all for_it are asks count shown =
     let own = (own_entries_are_in_order v.shape x.0 x.2.0 x.1 v x.2.1).1 in
     let calls = reverse (history x.0) in (
       calls,
-      entries_are_numbered v.shape script calls (all_lists v) kept (had_locks v.number v.log) (found_owners v.log) for_it in_order own (all_replied v.shape x.0 x.2.0 x.1 v x.2.1) are asks count,
+      entries_are_numbered v.shape script calls (all_lists v) kept (had_locks v.number v.log) (found_owners v.log) (tells v) for_it in_order own (all_replied v.shape x.0 x.2.0 x.1 v x.2.1) are asks count,
       last_world v x is all shown ∙ ap (λ (starts : List Start). map shown_of (world_by starts calls)) for_it.starts,
     ))
 

@@ -7,7 +7,7 @@ use Rattle.ft_trace.specs.Acts.{view_after}
 use Rattle.ft_bank.specs.Passes.{view}
 use Rattle.ft_bank.specs.Reads.{IsShown}
 use Rattle.ft_engine.proofs.PassesAfter.{quiesced_calm}
-use Rattle.ft_engine.proofs.SectionCalls.{no_containers, quiesce_answer, quiesced_owners}
+use Rattle.ft_engine.proofs.SectionCalls.{no_containers, quiesce_answer, answered_owners}
 use Rattle.ft_engine.proofs.Within.{same_for}
 use Rattle.ft_engine.proofs.section_call.quiesce.Goals as goal
 
@@ -34,5 +34,5 @@ returns c hands =
           (a.0 ∙ (d.0 ∙ c.quiesce.ensures.pass.0), ap (λ (z : View). z.shape) a.1 ∙ (ap (λ (z : View). z.shape) d.1 ∙ c.quiesce.ensures.pass.1)) (a.2 ∙ d.2)
           (a.1 ∙ ap (view_after (Answer call.Quiesce reply.Done n)) d.1) refl c.stamp-number.ensures.seen,
       no_containers hands call.Quiesce c.args.pass.now refl,
-      same_for hands call.Quiesce (view c.args.pass.now) (view c.answer.new.pass) (quiesced_owners n (view c.args.pass.now) (view q) (view c.answer.new.pass) (quiesced_calm (view c.args.pass.now) (view q) c.requires.ready.inside.1.still c.quiesce.ensures.did) (a.1 ∙ ap (view_after (Answer call.Quiesce reply.Done n)) d.1)),
+      same_for hands call.Quiesce (view c.args.pass.now) (view c.answer.new.pass) (answered_owners call.Quiesce reply.Done n (view c.args.pass.now) (view q) (view c.answer.new.pass) (quiesced_calm (view c.args.pass.now) (view q) c.requires.ready.inside.1.still c.quiesce.ensures.did) (a.1 ∙ ap (view_after (Answer call.Quiesce reply.Done n)) d.1)),
     )

@@ -9,7 +9,7 @@ use Rattle.ft_model.specs.Histories.{writes, entries_of}
 use Rattle.ft_history.proofs.Judged.{few_made}
 use Rattle.ft_history.proofs.FewEntries.{room_before}
 use Rattle.ft_history.proofs.AccountLemmas.{earned_no_cursor, few_takings}
-use Rattle.ft_history.proofs.ScriptLemmas.{landed_call, landed_names, unsplit_start}
+use Rattle.ft_history.proofs.ScriptLemmas.{await_of, earlier_named, unsplit_start}
 use Rattle.ft_history.proofs.GoesAfterLemmas.{state_after, askable_at, of_kind_at, within_containers, thread_within, few_writes, few_marks, breaks_reply, holds_four, finds_all, where_none}
 use Rattle.ft_history.proofs.judging.step.Goals as goal
 
@@ -31,7 +31,7 @@ late_rule-late-requires-clause-thread c =
 pub late_rule-late-requires-clause-awaits : goal.late_rule-late-requires-clause-awaits
 late_rule-late-requires-clause-awaits c =
     let next = c.in_default.ensures c.args.storage rule.Whole (omega arith) in
-    landed_names _ c.index-entries-place.result.call (landed_call c.args.parts.now c.requires.script _ _ c.index-entries-place.result.call next.call)
+    earlier_named c.args.parts.now _ _ c.index-entries-place.result.call (await_of c.args.parts.now c.requires.script _ _ c.index-entries-place.result.call next.call) (late_rule-late-requires-clause-thread c)
 
 pub late_rule-late-requires-clause-unsplit : goal.late_rule-late-requires-clause-unsplit
 late_rule-late-requires-clause-unsplit c = unsplit_start c.args.parts.now c.requires.script

@@ -36,32 +36,28 @@ pub returns-in-Have-clause-may : goal.returns-in-Have-clause-may
 returns-in-Have-clause-may c = c.let_go.ensures.may (One (c.args.o))
 
 pub returns-in-Have-clause-moved : goal.returns-in-Have-clause-moved
-returns-in-Have-clause-moved c = (
-  c.iter_locked-reply.ensures.answered.0,
-  c.iter_locked-reply.ensures.answered.1,
-  c.iter_locked-reply.ensures.answered.2,
-  record {
-    before = view c.take_for.new.pass;
-    after = view c.iter_locked-reply.new.pass;
-    took = c.in-Have.ensures.locked;
-    within = c.in-Have.ensures.within;
-    answered = c.iter_locked-reply.ensures.answered.3;
-    gone = c.let_go.ensures.locked;
-    owners = c.let_go.ensures.owners;
-    mine =
-        let r = c.iter_locked-reply.result in
-        let a = c.iter_locked-reply.ensures.answered in
-        c.let_go.ensures.locked.cursors c.args.number
-        ∙ cursor-left (view c.take_for.new.pass) (view c.iter_locked-reply.new.pass) (iter_call c.args.kind c.args.o c.args.number) r.0 r.1.number c.args.number a.0 a.3;
-  },
-  c.iter_locked-reply.ensures.wrote,
-)
+returns-in-Have-clause-moved c =
+    let r = c.iter_locked-reply.result in
+    let a = c.iter_locked-reply.ensures.answered in (
+      record {
+        before = view c.take_for.new.pass;
+        took = c.in-Have.ensures.locked;
+        within = c.in-Have.ensures.within;
+        locks = c.in-Have.ensures.has.0;
+        after = view c.iter_locked-reply.new.pass;
+        did = (a.0, a.1, a.2, a.3, c.iter_locked-reply.ensures.wrote);
+        gone = c.let_go.ensures.locked;
+        owners = c.let_go.ensures.owners;
+      },
+      c.let_go.ensures.locked.cursors c.args.number
+          ∙ (cursor-left (view c.take_for.new.pass) (view c.iter_locked-reply.new.pass) (iter_call c.args.kind c.args.o c.args.number) r.0 r.1.number c.args.number a.0 a.3 ∙ sym a.1),
+    )
 
 pub returns-in-NotYet-clause-may : goal.returns-in-NotYet-clause-may
 returns-in-NotYet-clause-may c = inr c.in-NotYet.ensures.waiting.waits
 
 pub returns-in-NotYet-clause-moved : goal.returns-in-NotYet-clause-moved
-returns-in-NotYet-clause-moved c = (refl, c.in-NotYet.ensures.locked, c.in-NotYet.ensures.found.0, c.in-NotYet.ensures.found.1)
+returns-in-NotYet-clause-moved c = ((c.in-NotYet.ensures.locked, c.in-NotYet.ensures.found.0, c.in-NotYet.ensures.found.1), refl)
 
 pub returns-in-Have-clause-others : goal.returns-in-Have-clause-others
 returns-in-Have-clause-others c =

@@ -8,7 +8,7 @@ use Rattle.ft_bank.specs.Passes.{shape_of, view}
 use Rattle.ft_section.specs.declared.answers.Objects.TheVariants.{One}
 use Rattle.ft_section.specs.Locking.{LocksWithin}
 use Rattle.ft_section.specs.Ready.{IsWaiting}
-use Rattle.ft_section.specs.LockTakings.{IsOf}
+use Rattle.ft_section.specs.LockTakings.{HasLocks, IsOf}
 use Rattle.ft_section.specs.Trying.{HasTaken, WaitsFor}
 use Rattle.ft_section.proofs.TriedSections.{let_gone}
 use Rattle.ft_search.proofs.ReadMidst.{making_stands}
@@ -52,20 +52,17 @@ returns-in-Have-clause-cursor c =
 
 pub returns-in-Have-clause-moved : goal.returns-in-Have-clause-moved
 returns-in-Have-clause-moved c = (
-  c.next_locked-reply.new.cursor,
-  refl,
-  c.next_locked-reply.ensures.over,
   record {
     before = view c.take_for.new.pass;
-    after = view c.next_locked-reply.new.pass;
     took = c.in-Have.ensures.locked;
     within = subst (λ (z : ℕ). LocksWithin (One z) (view c.args.pass.now) (view c.take_for.new.pass)) c.container-container.ensures c.in-Have.ensures.within;
-    answered = c.next_locked-reply.ensures.answered;
+    locks = subst (λ (z : ℕ). HasLocks (view c.take_for.new.pass) (One z)) c.container-container.ensures c.in-Have.ensures.has.0;
+    after = view c.next_locked-reply.new.pass;
+    did = (c.next_locked-reply.new.cursor, refl, c.next_locked-reply.ensures.over, c.next_locked-reply.ensures.answered, c.next_locked-reply.ensures.wrote);
     gone = c.let_go.ensures.locked;
     owners = c.let_go.ensures.owners;
-    mine = returns-in-Have-clause-cursor c;
   },
-  c.next_locked-reply.ensures.wrote,
+  returns-in-Have-clause-cursor c,
 )
 
 pub returns-in-NotYet-clause-may : goal.returns-in-NotYet-clause-may
@@ -75,7 +72,7 @@ pub returns-in-NotYet-clause-cursor : goal.returns-in-NotYet-clause-cursor
 returns-in-NotYet-clause-cursor c = c.in-NotYet.ensures.locked.cursors c.args.number ∙ c.requires.cursor
 
 pub returns-in-NotYet-clause-moved : goal.returns-in-NotYet-clause-moved
-returns-in-NotYet-clause-moved c = (refl, c.in-NotYet.ensures.locked, subst (λ (z : ℕ). IsOf c.in-NotYet.container (One z)) c.container-container.ensures c.in-NotYet.ensures.found.0, c.in-NotYet.ensures.found.1)
+returns-in-NotYet-clause-moved c = ((c.in-NotYet.ensures.locked, subst (λ (z : ℕ). IsOf c.in-NotYet.container (One z)) c.container-container.ensures c.in-NotYet.ensures.found.0, c.in-NotYet.ensures.found.1), refl)
 
 pub returns-in-Have-clause-others : goal.returns-in-Have-clause-others
 returns-in-Have-clause-others c =

@@ -1,6 +1,7 @@
-use Rattle.std.proofs.Common.{◌≡◌, ℕ, ◌<◌, List, sym, ap, ◌∙◌, subst, arith}
+use Rattle.std.proofs.Common.{◌≡◌, ℕ, ◌+◌, ◌<◌, List, sym, ap, ◌∙◌, subst, arith}
 use Rattle.ft_model.specs.declared.data.Value.{Value}
 use Rattle.ft_model.specs.Worlds.{list_of}
+use Rattle.ft_trace.specs.declared.Act.TheVariants.{PutTable}
 use Rattle.ft_trace.specs.Addresses.{class_of, size}
 use Rattle.ft_trace.specs.ContainerStates.{ContainerState}
 use Rattle.ft_trace.specs.Pictures.{ContainerWords, item_field}
@@ -8,7 +9,7 @@ use Rattle.ft_trace.specs.ItemWords.{said_at, words_at}
 use Rattle.ft_trace.specs.Holds.{held_words}
 use Rattle.ft_bank.specs.Passes.{shape_of, view}
 use Rattle.ft_bank.specs.TableNames.{table_id}
-use Rattle.ft_bank.proofs.KnownAfterWrites.{work_knows}
+use Rattle.ft_bank.proofs.KnownAfterWrites.{loaded_put, put_by, put_then, work_knows}
 use Rattle.ft_list.specs.ListItemWrites.{known_items}
 use Rattle.ft_list.proofs.Cares.{few_slots, inside, close_care, item_room}
 use Rattle.ft_list.proofs.items.close_item.Goals as goal
@@ -42,3 +43,13 @@ put_word-requires-clause-care c =
     let says : words_at (known_items a.o w) a.place ≡ said_at (held_words a.o w).table a.place =
     ap (λ (z : List Value). words_at z a.place) known_now ∙ (c.requires.says ∙ sym (ap (λ (z : ContainerWords). said_at z.table a.place) e.held)) in
     close_care k a.o a.table w e.list e.pass.1 a.place c.read_word-version.result c.word_at.result c.word_at.ensures (e.only.work.committed a.o ∙ c.requires.late) found c.if-version-eq1.true says
+
+pub returns-then-version-eq1-clause-only : goal.returns-then-version-eq1-clause-only
+returns-then-version-eq1-clause-only c =
+    let a = c.args in
+    let v = view a.pass.now in
+    let u = view c.read_word-version.new.pass in
+    let w = view c.put_word.new.pass in
+    let p = c.put_word.ensures in
+    put_then v u w a.o (loaded_put v u a.o c.read_word-version.ensures.only)
+    (put_by (PutTable a.o (table_id a.table) c.word_at.result (c.read_word-version.result + 1)) u w a.o tt p.did.1 p.keeps)

@@ -1,9 +1,11 @@
-use Rattle.std.proofs.Common.{◌≡◌, ℕ, ◌%◌, ◌<◌, sym, ap, ◌∙◌, subst, arith}
+use Rattle.std.proofs.Common.{◌≡◌, ℕ, ◌+◌, ◌%◌, ◌<◌, sym, ap, ◌∙◌, subst, arith}
+use Rattle.ft_trace.specs.declared.Act.TheVariants.{PutTable}
 use Rattle.ft_trace.specs.Addresses.{class_of, size}
 use Rattle.ft_trace.specs.Pictures.{ContainerWords, item_offset, item_field}
 use Rattle.ft_trace.specs.Holds.{held_words}
 use Rattle.ft_bank.specs.Passes.{shape_of, view}
 use Rattle.ft_bank.specs.TableNames.{table_id}
+use Rattle.ft_bank.proofs.KnownAfterWrites.{loaded_put, put_by, put_then}
 use Rattle.ft_list.proofs.Cares.{few_slots, inside, open_care, set_own}
 use Rattle.ft_list.proofs.items.open_item.Goals as goal
 
@@ -36,3 +38,13 @@ returns-else-version-eq0-clause-words c =
       odd,
       e.held ∙ (λ d. record { block = (held_words a.o v).block; table = sym (set_own (held_words a.o v).table (item_offset a.place 0) c.read_word-version.result e.found) d }),
     )
+
+pub returns-then-version-eq0-clause-only : goal.returns-then-version-eq0-clause-only
+returns-then-version-eq0-clause-only c =
+    let a = c.args in
+    let v = view a.pass.now in
+    let u = view c.read_word-version.new.pass in
+    let w = view c.put_word.new.pass in
+    let p = c.put_word.ensures in
+    put_then v u w a.o (loaded_put v u a.o c.read_word-version.ensures.only)
+    (put_by (PutTable a.o (table_id a.table) c.word_at.result (c.read_word-version.result + 1)) u w a.o tt p.did.1 p.keeps)

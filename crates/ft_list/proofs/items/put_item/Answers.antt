@@ -2,6 +2,7 @@ use Rattle.std.proofs.Common.{◌≡◌, ℕ, ◌%◌, sym, ap, ◌∙◌, subst
 use Rattle.ft_trace.specs.Pictures.{ContainerWords, item_field}
 use Rattle.ft_trace.specs.Holds.{held_words}
 use Rattle.ft_bank.specs.Passes.{shape_of, view}
+use Rattle.ft_bank.proofs.KnownAfterWrites.{loaded_put, loaded_then, put_then}
 use Rattle.ft_list.specs.ListItemWrites.{PutsItem, with_word, stored_words}
 use Rattle.ft_list.proofs.Cares.{long_enough}
 use Rattle.ft_list.proofs.PutItems.{version_one, version_two, item_put}
@@ -50,3 +51,19 @@ returns-clause-puts c =
     ] in
     subst (λ (z : ContainerWords). PutsItem a.place a.stored z (held_words a.o w)) same
     (subst (λ (z : ContainerWords). PutsItem a.place a.stored (held_words a.o u) z) (sym is) (item_put (held_words a.o u) a.place o.0 kind payload low a.stored c.stored_kind_of-kind.ensures c.stored_payload_of-payload.ensures o.1 other))
+
+pub returns-then-old_payload-payload-clause-only : goal.returns-then-old_payload-payload-clause-only
+returns-then-old_payload-payload-clause-only c =
+    let v = view c.args.pass.now in
+    let w = view c.read_word-old_payload.new.pass in
+    loaded_put v w c.args.o (loaded_then v (view c.read_word-old_kind.new.pass) w c.read_word-old_kind.ensures.only c.read_word-old_payload.ensures.only)
+
+pub returns-clause-only : goal.returns-clause-only
+returns-clause-only c =
+    let o = c.args.o in
+    let v = view c.args.pass.now in
+    let u = view c.read_word-old_payload.new.pass in
+    let x = view c.open_item.new.pass in
+    let y = view c.put_word.new.pass in
+    let loads = loaded_put v u o (loaded_then v (view c.read_word-old_kind.new.pass) u c.read_word-old_kind.ensures.only c.read_word-old_payload.ensures.only) in
+    put_then v y (view c.put_word-2.new.pass) o (put_then v x y o (put_then v u x o loads c.open_item.ensures.only) c.put_word.ensures.only) c.put_word-2.ensures.only

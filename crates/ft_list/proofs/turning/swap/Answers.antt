@@ -5,6 +5,7 @@ use Rattle.ft_trace.specs.Pictures.{ContainerWords, item_field}
 use Rattle.ft_trace.specs.Holds.{held_words}
 use Rattle.ft_bank.specs.Passes.{shape_of, view}
 use Rattle.ft_bank.specs.TableNames.{table_id}
+use Rattle.ft_bank.proofs.KnownAfterWrites.{loaded_put, loaded_then, put_then}
 use Rattle.ft_list.specs.ListItemWrites.{PutsItem, stored_item}
 use Rattle.ft_list.proofs.Cares.{table_class}
 use Rattle.ft_list.proofs.Turned.{turning_finds, turning_next}
@@ -31,3 +32,12 @@ returns-clause-turned c values long turning =
     turning_next class is_class values a.at last places.0 (omega (arith, places, long)) c.item-early.result c.item-late.result early late e.fits f.fits v m n turning
     (subst (λ (w : ContainerWords). PutsItem a.at c.item-late.result w m) (f.held ∙ e.held) c.put_item.ensures.puts)
     c.put_item-2.ensures.puts
+
+pub returns-clause-only : goal.returns-clause-only
+returns-clause-only c =
+    let o = c.args.o in
+    let v = view c.args.pass.now in
+    let u = view c.item-late.new.pass in
+    let x = view c.put_item.new.pass in
+    let loads = loaded_put v u o (loaded_then v (view c.item-early.new.pass) u c.item-early.ensures.only c.item-late.ensures.only) in
+    put_then v x (view c.put_item-2.new.pass) o (put_then v u x o loads c.put_item.ensures.only) c.put_item-2.ensures.only

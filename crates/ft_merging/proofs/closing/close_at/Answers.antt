@@ -4,7 +4,7 @@ use Rattle.ft_trace.specs.Pictures.{ContainerWords}
 use Rattle.ft_trace.proofs.DictWrites.{EntryVersionsChangeNothing}
 use Rattle.ft_bank.specs.Passes.{shape_of, view}
 use Rattle.ft_bank.specs.TableNames.{table_id}
-use Rattle.ft_bank.proofs.KnownAfterWrites.{loaded_held}
+use Rattle.ft_bank.proofs.KnownAfterWrites.{loaded_held, loaded_put, put_then}
 use Rattle.ft_merging.specs.Internal.EntriesAtOnce.{IsClosing, version_of}
 use Rattle.ft_merging.proofs.Ending.{Laws, closing_care, closing_loaded, closing_raised}
 use Rattle.ft_merging.proofs.closing.close_at.Goals as goal
@@ -55,3 +55,9 @@ returns-then-version-eq1-clause-closing c =
     let d = (goal.at.returns-then-version-eq1-clause-closing c).After-word_of-version in
     let e = c.raise_version.ensures in
     closing_raised (laws d) (shape_of a.bank.now) a.o a.table a.place a.fill (view c.word_of-version.new.pass) c.word_of-version.ensures.pass.1 c.word_of-version.new.pass.possible c.requires.place (loaded d) (versions d) (view c.raise_version.new.pass) e.only e.words (odd d c.if-version-eq1.true)
+
+pub returns-then-version-eq1-clause-only : goal.returns-then-version-eq1-clause-only
+returns-then-version-eq1-clause-only c =
+    let v = view c.args.pass.now in
+    let u = view c.word_of-version.new.pass in
+    put_then v u (view c.raise_version.new.pass) c.args.o (loaded_put v u c.args.o c.word_of-version.ensures.only) c.raise_version.ensures.only

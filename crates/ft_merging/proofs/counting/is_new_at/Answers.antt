@@ -12,6 +12,7 @@ use Rattle.ft_trace.specs.Pictures.{entry_field}
 use Rattle.ft_trace.specs.ContainerStates.{ContainerState}
 use Rattle.ft_bank.specs.Passes.{shape_of, view}
 use Rattle.ft_bank.specs.TableNames.{table_id}
+use Rattle.ft_bank.specs.Whole.{OnlyLoaded}
 use Rattle.ft_bank.proofs.KnownAfterWrites.{loaded_then, work_knows}
 use Rattle.ft_new_keys.specs.KeyGrowth.{holds}
 use Rattle.ft_merging.specs.Internal.JoiningSteps.{pair_in}
@@ -102,3 +103,16 @@ pub returns-in-Bare-clause-new : goal.returns-in-Bare-clause-new
 returns-in-Bare-clause-new c used says filled any =
     let at = goal.at.returns-in-Bare-clause-new c in
     stated at.After-seek_by false (holds_none (known_state c.args.o (view c.seek_by.new.pass)).content c.in-Some.pair.key c.in-Bare.ensures.spot.1) used says filled any (found at.After-pair_at used says filled any)
+
+-- it only loads
+loads : (c : After-seek_by) → OnlyLoaded (view c.args.pass.now) (view c.seek_by.new.pass)
+loads c = loaded_then (view c.args.pass.now) (view c.pair_at.new.pass) (view c.seek_by.new.pass) c.pair_at.ensures.only c.seek_by.ensures.keeps
+
+pub returns-in-At-clause-only : goal.returns-in-At-clause-only
+returns-in-At-clause-only c = loads (goal.at.returns-in-At-clause-only c).After-seek_by
+
+pub returns-in-Free-clause-only : goal.returns-in-Free-clause-only
+returns-in-Free-clause-only c = loads (goal.at.returns-in-Free-clause-only c).After-seek_by
+
+pub returns-in-Bare-clause-only : goal.returns-in-Bare-clause-only
+returns-in-Bare-clause-only c = loads (goal.at.returns-in-Bare-clause-only c).After-seek_by

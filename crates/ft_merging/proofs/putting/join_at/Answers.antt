@@ -335,3 +335,9 @@ returns-in-Free-clause-keeps c sets q w less few =
     let room = new_room k a.o a.way a.own a.t a.table (done d) a.end a.place a.counts v j c.requires.place any key stored p.1 p.0 f.1 in
     ap (λ (x : ContainerWords). entry_field (slots (class_of (table_id a.own))) x.table q w) words
     ∙ others_same (laws d) k a.o a.way a.own j.mid a.counts v j.midway j.same_kind j.kind_is j.count_is j.alive c.in-Free.slot key stored p.3 c.seek_in.ensures.low ok p.4 f.1 f.0 (subst (λ (z : Kind). a.counts.fill < rows z (class_of (table_id a.own))) j.kind_is room) q w (λ e. omega (arith, e, less)) few
+
+pub returns-in-Free-clause-only : goal.returns-in-Free-clause-only
+returns-in-Free-clause-only c =
+    let v = view c.args.pass.now in
+    let u = view c.seek_in.new.pass in
+    put_then v u (view c.put_key.new.pass) c.args.o (loaded_put v u c.args.o (loads (goal.at.returns-in-Free-clause-only c).After-seek_in)) c.put_key.ensures.only

@@ -107,3 +107,11 @@ is_in-found-requires-clause-own c e =
     let t = stated d in
     let was = was_there (shape_of a.bank.now) a.s a.table a.kept (set_of (known_state a.t v).content) (set_of (known_state a.s v).content) c.requires.thinned.0 c.requires.thinned.1 a.place v c.requires.set c.requires.thinned.3 (laws d) c.requires.place c.requires.thinned.2 c.in-Some.key t.0 t.1 in
     subst (λ (z : ContainerState). has_element (set_of z.content).elements c.in-Some.key ≡ true) (ap (λ (p : ℕ). known_state p v) e ∙ sym (work_knows v (view c.word_of-hash.new.pass) a.t (only d).work)) was
+
+pub returns-then-found-kept-clause-only : goal.returns-then-found-kept-clause-only
+returns-then-found-kept-clause-only c =
+    loaded_then (view c.args.pass.now) (view c.word_of-hash.new.pass) (view c.is_in-found.new.pass) (only (goal.at.returns-then-found-kept-clause-only c).After-word_of-hash) c.is_in-found.ensures.only
+
+pub returns-clause-only : goal.returns-clause-only
+returns-clause-only c =
+    loaded_then (view c.args.pass.now) (view c.word_of-hash.new.pass) (view c.is_in-found.new.pass) (only (goal.at.returns-clause-only c).After-word_of-hash) c.is_in-found.ensures.only

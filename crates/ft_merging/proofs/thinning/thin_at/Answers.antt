@@ -8,7 +8,7 @@ use Rattle.ft_trace.specs.Pictures.{ContainerWords}
 use Rattle.ft_trace.specs.ContainerStates.{ContainerState}
 use Rattle.ft_bank.specs.Passes.{shape_of, view}
 use Rattle.ft_bank.specs.TableNames.{table_id}
-use Rattle.ft_bank.proofs.KnownAfterWrites.{loaded_held}
+use Rattle.ft_bank.proofs.KnownAfterWrites.{loaded_held, loaded_put, put_then}
 use Rattle.ft_search.proofs.Laws.{SetLaws}
 use Rattle.ft_merging.specs.Internal.ThinningSteps.{IsThinned}
 use Rattle.ft_merging.proofs.Thinned.{may_go, some_there, spared_goes, spared_stays, thinned_goes, thinned_loaded, thinned_stays, was_there}
@@ -98,3 +98,9 @@ returns-in_default-clause-thinned c to last low th =
     let first = set_of (known_state a.s v).content in
     thinned_loaded (shape_of a.bank.now) a.s a.table a.kept others first to last (a.place + 1) v (view c.goes_at.new.pass) c.goes_at.ensures.only
     (thinned_stays (shape_of a.bank.now) a.s a.table a.kept others first to last a.place v c.requires.set th (λ key ok is. spared_stays a.kept others first key (c.goes_at.ensures.stays (none_goes c.goes_at.result c.in_default.not-Some) key ok is)))
+
+pub returns-in-Some-clause-only : goal.returns-in-Some-clause-only
+returns-in-Some-clause-only c =
+    let v = view c.args.pass.now in
+    let u = view c.goes_at.new.pass in
+    put_then v u (view c.put_deleted.new.pass) c.args.s (loaded_put v u c.args.s c.goes_at.ensures.only) c.put_deleted.ensures.only

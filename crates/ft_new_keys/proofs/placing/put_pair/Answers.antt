@@ -1,4 +1,4 @@
-use Rattle.std.proofs.Common.{◌≡◌, ℕ, ◌+◌, ◌<◌, ◌≤◌, sym, ap, ◌∙◌, subst, arith}
+use Rattle.std.proofs.Common.{rules, ◌≡◌, ℕ, ◌+◌, ◌<◌, ◌≤◌, sym, ap, ◌∙◌, subst, arith}
 use Rattle.ft_layout.specs.Tables.{dict_room}
 use Rattle.ft_layout.specs.Words.{entry_words}
 use Rattle.ft_keys.specs.TableChanges.{place_puts}
@@ -44,3 +44,9 @@ place_in-requires-clause-may c =
     let r = c.raise_version.ensures in
     pair_allowed _ (shape_of a.bank.now) (held_words a.o (view a.pass.now)) a.slot a.place a.pair.now r.pass.1 r.writes.keyed (size (goal.at.place_in-requires-clause-may c).After-mask_of-mask)
     (r.writes.locked, r.writes.root) (r.only.work.committed a.o ∙ c.requires.early) r.words c.requires.unused
+
+pub returns-clause-only : goal.returns-clause-only
+returns-clause-only c =
+    let a = c.args in
+    let same : c.place_in.new.words.pass.now ≡ c.pass-1.given.0 = search rules in
+    put_then _ _ _ a.o c.raise_version.ensures.only (subst (λ p. OnlyPut a.o (view c.raise_version.new.pass) (view p)) same c.place_in.ensures.only)

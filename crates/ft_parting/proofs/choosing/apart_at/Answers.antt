@@ -144,3 +144,18 @@ returns-clause-apart c used any table low =
     sym
     (apart_here k.texts (set_of (known_state a.t v).content).elements u e.1 (has_as p.After-has_key used any false c.if-has_key.false e.2)
     ∙ (λ i. Some (record { hash = sym hash i; key = e.2 i; value = Empty; serial = sym serial i })))
+
+pub returns-then-has_key-clause-only : goal.returns-then-has_key-clause-only
+returns-then-has_key-clause-only c =
+    let v = view c.args.pass.now in
+    let u = view c.word_of-hash.new.pass in
+    loaded_then v u (view c.has_key.new.pass) (loaded_then v (view c.key_at.new.pass) u c.key_at.ensures.only c.word_of-hash.ensures.only) c.has_key.ensures.only
+
+pub returns-clause-only : goal.returns-clause-only
+returns-clause-only c =
+    let v = view c.args.pass.now in
+    let u = view c.word_of-hash.new.pass in
+    let x = view c.has_key.new.pass in
+    loaded_then v x (view c.word_of-serial.new.pass)
+    (loaded_then v u x (loaded_then v (view c.key_at.new.pass) u c.key_at.ensures.only c.word_of-hash.ensures.only) c.has_key.ensures.only)
+    c.word_of-serial.ensures.only

@@ -12,6 +12,7 @@ use Rattle.ft_bank.specs.Passes.{view}
 use Rattle.ft_bank.specs.Series.{noted_all}
 use Rattle.ft_bank.specs.Takings.{IsTaking, StaysIn}
 use Rattle.ft_bank.proofs.Freeing.{but_same, but_then}
+use Rattle.ft_bank.proofs.Logs.{noted_grown}
 use Rattle.ft_qsbr.specs.Collecting.{StaysOrGoes, loads_of}
 use Rattle.ft_qsbr.proofs.PassesStay.{begun_stays, cursors_stay, floor_stays, since_stays, owners_stay, learnt_stays, seen_stays, collection_leaves, given_or_kept, taking_leaves, same_by}
 use Rattle.ft_qsbr.proofs.taking.take.Goals as goal
@@ -72,6 +73,7 @@ returns-clause-same c =
     let first : seen_writes v ≤ seen_writes m = subst (λ (u : View). seen_writes v ≤ seen_writes u) (sym x.did) (seen_stays (x.acts ++ loads_of x.numbers) v) in
     let then : seen_writes m ≤ seen_writes w = subst (λ (u : View). seen_writes m ≤ seen_writes u) (sym d.1.1) (seen_stays d.0 m) in
     same_by F v w (returns-clause-keeps c) (c.take_table.ensures.idle ∙ sym c.requires.idle) sections cursors floor since owners learnt (le_trans first then)
+    (λ old was. noted_grown d.0 m w d.1.1 old (noted_grown (x.acts ++ loads_of x.numbers) v m x.did old was))
 
 pub returns-clause-floor : goal.returns-clause-floor
 returns-clause-floor c has =

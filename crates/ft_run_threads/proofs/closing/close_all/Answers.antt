@@ -5,7 +5,7 @@ use Rattle.std.specs.Prelude.{Vec}
 use Rattle.std.proofs.lemmas.List.{length-map}
 use Rattle.std.proofs.lemmas.List.Folds.{flat_map-map}
 use Rattle.ft_model.specs.declared.entry.Entry.{Entry}
-use Rattle.ft_bank.specs.Closings.{found_in, had_in, lists_in}
+use Rattle.ft_bank.specs.Closings.{found_in, had_in, lists_in, told_of}
 use Rattle.ft_bank.specs.Passes.{shape_of}
 use Rattle.ft_engine.specs.Callers.{bank_of}
 use Rattle.ft_run_threads.proofs.WholeLists.{ended_legal, ended_with}
@@ -52,4 +52,4 @@ returns-clause-entries c =
     let lists = map (λ list. list.items) c.loop-worker.lists.items in
     let history = c.in_ok-history.history.items in
     let moved = subst (λ (l : List Entry). IsPermutation l history) (sym (flat_map-map (λ (mine : List Entry). mine) (λ (list : Vec Entry Global). list.items) c.loop-worker.lists.items)) c.in_ok-history.ensures.entries in
-    pass_entries c.args.script.now lists (lists_in c.in_ok-history.closed) (had_in c.in_ok-history.closed) (found_in c.in_ok-history.closed) history c.in_ok-history.ensures.closed (returns-clause-legal c) moved
+    pass_entries c.args.script.now lists (lists_in c.in_ok-history.closed) (had_in c.in_ok-history.closed) (found_in c.in_ok-history.closed) (told_of c.in_ok-history.closed) history c.in_ok-history.ensures.closed (returns-clause-legal c) moved

@@ -1,6 +1,6 @@
 use Rattle.std.proofs.Common.{◌≡◌, length, ap, ◌∙◌}
 use Rattle.std.proofs.lemmas.List.{length-map}
-use Rattle.ft_bank.specs.Closings.{found_in, had_in, lists_in as passes_in}
+use Rattle.ft_bank.specs.Closings.{found_in, had_in, lists_in as passes_in, told_of}
 use Rattle.ft_bank.specs.Passes.{shape_of}
 use Rattle.ft_engine.specs.Callers.{bank_of}
 use Rattle.ft_run_threads.proofs.WholeLists.{ended_legal, ended_with}
@@ -60,4 +60,4 @@ returns-clause-entries c =
     let closed = c.in_ok-history.closed in
     let lists = vec_lists c.in_ok-caller.lists.items in
     let history = c.in_ok-history.history.items in
-    pass_entries c.args.script.now lists (passes_in closed) (had_in closed) (found_in closed) history c.in_ok-history.ensures.closed (returns-clause-legal c) (moved_lists c.in_ok-caller.lists.items history c.in_ok-history.ensures.entries)
+    pass_entries c.args.script.now lists (passes_in closed) (had_in closed) (found_in closed) (told_of closed) history c.in_ok-history.ensures.closed (returns-clause-legal c) (moved_lists c.in_ok-caller.lists.items history c.in_ok-history.ensures.entries)

@@ -7,7 +7,7 @@ use Rattle.ft_run_turns.proofs.trying.try_call.Goals as goal
 
 pub try_once-requires-clause-may : goal.try_once-requires-clause-may
 try_once-requires-clause-may c =
-    may_try c.args.engine.now c.args.script.now c.args.thread c.args.caller.now c.args.entries.now.items c.requires.script c.requires.bank c.requires.thread c.requires.between c.args.call.now c.requires.call
+    may_try c.args.engine.now c.args.script.now c.args.thread c.args.caller.now c.args.entries.now.items c.requires.script c.requires.bank c.requires.thread c.requires.between c.args.call.now c.requires.call c.requires.other
 
 pub returns-then-last-clause-between : goal.returns-then-last-clause-between
 returns-then-last-clause-between c =
@@ -21,7 +21,7 @@ returns-then-last-clause-between c =
     let called = c.args.call.now in
     let has : HasTried e called a mine d after true = subst (λ went. HasTried e called a mine d after went) c.if-ended.true c.in_ok-ended.ensures in
     let x = c.leave.ensures in
-    leaves_between e script i a d mine after called c.requires.between c.requires.call has (c.requires.last.0 c.if-last.true) c.leave.new.caller x.same x.caller x.kept x.offline
+    leaves_between e script i a d mine after called c.requires.between c.requires.call c.requires.other has (c.requires.last.0 c.if-last.true) c.leave.new.caller x.same x.caller x.kept x.offline
 
 pub returns-then-last-clause-turn : goal.returns-then-last-clause-turn
 returns-then-last-clause-turn c =
@@ -49,7 +49,7 @@ returns-else-last-clause-between c =
     let after = c.try_once.new.entries.items in
     let called = c.args.call.now in
     let has : HasTried e called a mine d after true = subst (λ went. HasTried e called a mine d after went) c.if-ended.true c.in_ok-ended.ensures in
-    goes_between e script i a d mine after called c.requires.between c.requires.call has (λ all. false≢true (sym c.if-last.false ∙ c.requires.last.1 all))
+    goes_between e script i a d mine after called c.requires.between c.requires.call c.requires.other has (λ all. false≢true (sym c.if-last.false ∙ c.requires.last.1 all))
 
 pub returns-else-last-clause-turn : goal.returns-else-last-clause-turn
 returns-else-last-clause-turn c =
@@ -75,7 +75,7 @@ returns-else-ended-clause-between c =
     let after = c.try_once.new.entries.items in
     let called = c.args.call.now in
     let has : HasTried e called a mine d after false = subst (λ went. HasTried e called a mine d after went) c.if-ended.false c.in_ok-ended.ensures in
-    waits_between e script i a d mine after called c.requires.between c.requires.call has
+    waits_between e script i a d mine after called c.requires.between c.requires.call c.requires.other has
 
 pub returns-else-ended-clause-turn : goal.returns-else-ended-clause-turn
 returns-else-ended-clause-turn c =

@@ -17,7 +17,7 @@ pub settle_as-requires-clause-last : goal.settle_as-requires-clause-last
 settle_as-requires-clause-last c = ap (λ (v : View). v.next) c.args.note.blank
 
 pub settle_as-requires-clause-free : goal.settle_as-requires-clause-free
-settle_as-requires-clause-free c = subst IsFree (sym c.args.note.blank) (slip_free c.args.note.seat.me.0.learnt)
+settle_as-requires-clause-free c = subst IsFree (sym c.args.note.blank) (slip_free c.args.note.seat.me.0.learnt c.args.note.seat.me.0.told)
 
 pub invariant_of-pass : goal.invariant_of-pass
 invariant_of-pass c =
@@ -26,7 +26,7 @@ invariant_of-pass c =
     let w = c.args.note.seat.me.0 in
     let d = c.settle_as.ensures.view in
     let e = d.1 in
-    let k = e ∙ (ap (λ (u : View). view_after (ReadCounter d.0) (both v u)) c.args.note.blank ∙ knowing_is w.learnt d.0 v) in record {
+    let k = e ∙ (ap (λ (u : View). view_after (ReadCounter d.0) (both v u)) c.args.note.blank ∙ knowing_is w.learnt d.0 w.told v) in record {
       bare = c.settle_as.ensures.bare ∙ p.bare;
       numbered = ap (λ (v : View). v.number) e ∙ p.numbered;
       following = p.following ∙ sym (ap (λ (v : View). v.next) e);
@@ -42,7 +42,7 @@ returns-clause-view c =
     let v = view c.args.pass.now in
     let w = c.args.note.seat.me.0 in
     let d = c.settle_as.ensures.view in
-    let k = d.1 ∙ (ap (λ (u : View). view_after (ReadCounter d.0) (both v u)) c.args.note.blank ∙ knowing_is w.learnt d.0 v) in
+    let k = d.1 ∙ (ap (λ (u : View). view_after (ReadCounter d.0) (both v u)) c.args.note.blank ∙ knowing_is w.learnt d.0 w.told v) in
     let low = load_sees (both v w) d.0 d.2 in
     (d.0, k, le_trans (le_trans (taken_in v w) (le-max_left (both v w).learnt (shown v.log))) low, le_trans (le-max_right (both v w).learnt (shown v.log)) low)
 

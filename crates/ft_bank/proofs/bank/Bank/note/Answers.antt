@@ -42,7 +42,7 @@ pub invariant_of-result : goal.invariant_of-result
 invariant_of-result c =
     let e = c.split_seat-seat.ensures.4 in record {
       bare = ap (λ m. m.1) e;
-      blank = ap (λ m. m.0) e ∙ (note_is c.args.pass.now.seat.me.0 c.args.pass.now.awake ∙ ap (λ n. slip n) (sym (ap (λ m. m.0.learnt) e)));
+      blank = ap (λ m. m.0) e ∙ (note_is c.args.pass.now.seat.me.0 c.args.pass.now.awake ∙ (λ i. slip (sym (ap (λ m. m.0.learnt) e) i) (sym (ap (λ m. m.0.told) e) i)));
     }
 
 pub returns-clause-says : goal.returns-clause-says
@@ -50,3 +50,6 @@ returns-clause-says c =
     let p = c.args.pass.now in
     let e = c.split_seat-seat.ensures.4 in
     ap (λ m. m.0.learnt) e ∙ max-eq_right p.settled
+
+pub returns-clause-told : goal.returns-clause-told
+returns-clause-told c = ap (λ m. m.0.told) c.split_seat-seat.ensures.4

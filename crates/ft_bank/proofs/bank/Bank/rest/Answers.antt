@@ -16,7 +16,7 @@ use Rattle.ft_bank.proofs.Allowed.{acted_possible, alive, sends, glues, kept, sa
 use Rattle.ft_bank.proofs.KnownAfterSteps.{left_low}
 use Rattle.ft_bank.proofs.Retiring.{retired_by, retired_same}
 use Rattle.ft_bank.proofs.Seen.{load_settles}
-use Rattle.ft_bank.proofs.Floors.{sender_possible, no_words, tokens_free, floor_settles, floor_brought}
+use Rattle.ft_bank.proofs.Floors.{sender_possible, no_words, no_floor, tokens_free, floor_settles, floor_brought}
 use Rattle.ft_bank.proofs.bank.Bank.rest.Goals as goal
 
 pub split_seat-tokens-requires : goal.split_seat-tokens-requires
@@ -37,6 +37,7 @@ invariant_of-resting c =
       settled = same_settled _ (sender v.tokens v) same p.settled;
       still = ap (λ (v : View). v.tokens) same ∙ nothing_left v.tokens;
       wordless = ap (λ (v : View). v.floor) same ∙ no_words v p.awake;
+      floorless = ap (λ (v : View). v.has_floor) same ∙ no_floor v p.awake;
       retiring = retired_same _ _ _ (ap (λ (v : View). v.shape) same) (λ t. ap (λ (v : View). has_goal t v.log) same) p.retiring;
       possible = ∥∥₁_map p.possible (λ x. subst IsReachable (sym same) (sender_possible v v.tokens (alive _ v p.numbered p.awake).0 (le_refl v.tokens) (λ all token. c.requires.quiet) x));
     }

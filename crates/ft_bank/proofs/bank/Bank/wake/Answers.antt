@@ -20,7 +20,7 @@ join_seat-requires c =
     let t = c.args.tokens in
     let live : r.seat.me.0.number ≢ 0 = (λ e. let n = r.numbered in omega (arith, e, n)) in
     let last : t.seat.me.0.next ≡ 0 = ap (λ (u : View). u.next) t.blank in
-    let free : IsFree t.seat.me.0 = subst IsFree (sym t.blank) (tokens_free t.seat.me.0.tokens t.seat.me.0.learnt t.seat.me.0.floor) in
+    let free : IsFree t.seat.me.0 = subst IsFree (sym t.blank) (tokens_free t.seat.me.0.tokens t.seat.me.0.learnt t.seat.me.0.floor t.seat.me.0.told) in
     (c.requires.resting.0, c.requires.tokens, t.bare, omega (arith, c.args.self.now.wide, at_low (plan c.args.self.now.shape) counter tt), glues (plan c.args.self.now.table.shared.key) _ _ _ _ live last free)
 
 pub load-requires : goal.load-requires

@@ -1,5 +1,5 @@
 use Rattle.std.proofs.Common.{refl, sym, subst}
-use Rattle.ft_bank.specs.Notes.{says}
+use Rattle.ft_bank.specs.Notes.{says, told_by}
 use Rattle.ft_bank.specs.Passes.{view}
 use Rattle.ft_engine.proofs.Callers.{calm_kept, ready_of}
 use Rattle.ft_engine.proofs.PassesAfter.{IsCalm, learnt_calm}
@@ -10,5 +10,5 @@ returns-clause-kept c mine kept =
     let old = c.args.caller.now in
     let v = view old.pass in
     let x = c.learn.ensures.view in
-    let calm = subst (IsCalm v) (sym x.1) (learnt_calm v (says c.args.note) x.0 (ready_of c.args.self.now old c.requires.caller c.requires.idle).inside.1.still) in
+    let calm = subst (IsCalm v) (sym x.1) (learnt_calm v (says c.args.note) x.0 (told_by c.args.note) (ready_of c.args.self.now old c.requires.caller c.requires.idle).inside.1.still) in
     calm_kept old (record old { pass = c.learn.new.pass }) mine calm c.learn.ensures.sections refl kept

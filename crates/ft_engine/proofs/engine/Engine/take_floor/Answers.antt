@@ -3,7 +3,7 @@ use Rattle.std.proofs.Math.Logic.{∥∥₁_elim}
 use Rattle.std.proofs.Math.Nat.{ℕ_set}
 use Rattle.ft_trace.specs.declared.Shape.{Shape}
 use Rattle.ft_trace.specs.declared.View.{View}
-use Rattle.ft_trace.specs.Acts.{announces}
+use Rattle.ft_trace.specs.Acts.{announces, told_in}
 use Rattle.ft_bank.specs.Passes.{shape_of, view}
 use Rattle.ft_engine.proofs.AtRest.{as_before, floored_steady, still_of, tokens_low}
 use Rattle.ft_engine.proofs.Callers.{same_but_pass, steady_caller}
@@ -46,4 +46,4 @@ returns-clause-floor c = ap (λ (v : View). v.has_floor) c.take_floor.ensures.di
 pub returns-clause-kept : goal.returns-clause-kept
 returns-clause-kept c lists are =
     let old = c.args.caller.now in
-    steady_all old (record old { pass = c.take_floor.new.pass }) lists (steady c) c.take_floor.ensures.did.2.2 refl are
+    steady_all old (record old { pass = c.take_floor.new.pass }) lists (steady c) c.take_floor.ensures.did.2.2 refl (ap (λ (v : View). told_in v.log) c.take_floor.ensures.did.2.1) are

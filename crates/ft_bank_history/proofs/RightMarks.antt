@@ -177,8 +177,9 @@ module _ (lists : List (List Entry)) (kept : List (List NamedEntry)) (had found 
   made_by thread = slice_index_or kept thread []
 
   knows : (e : NamedEntry) (called : Call) → IsAwaitTold told called e.stamp → KnowsAwaited made_by e called
-  knows e (call.Await thread index) was = λ named at.
-      let l = list_named kept thread (index - 1) named at in
+  knows e (call.Await thread index) was = λ place named numbered at.
+      let there : slice_get (slice_index_or kept thread []) (index - 1) ≡ Some named = ap (slice_get (slice_index_or kept thread [])) (omega (arith, numbered)) ∙ at in
+      let l = list_named kept thread (index - 1) named there in
       let own = kept_at had found told 0 thread kept lists l.0 are l.1 in
       let all = own.1.all_told in
       let number : 0 + thread ≡ thread = omega arith in

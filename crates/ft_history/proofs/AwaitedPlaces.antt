@@ -58,7 +58,7 @@ after_is a n low =
       | false ↦ λ is. omega (arith, is)
     ] low
 
-module _ (script : ScriptParts) (rule : IsScript script) (entries : List Entry) (whole : IsWhole script entries) where
+module _ (script : ScriptParts) (entries : List Entry) (whole : IsWhole script entries) where
   -- an entry by its place among its thread's
   mine_up_to : (thread place : ℕ) (entry : Entry) → slice_get entries place ≡ Some entry → entry.thread ≡ thread → length (entries_of thread (take (place + 1) entries)) ≡ length (entries_of thread (take place entries)) + 1
   mine_up_to thread place entry at mine =
@@ -92,9 +92,9 @@ module _ (script : ScriptParts) (rule : IsScript script) (entries : List Entry) 
         ]
 
     -- what knows of the call that it names stands after it, in the order of a history
-    awaited_by : IsSorted history_cmp entries → entry.wrote ≡ is_write entry.call entry.reply → (called : Call) → entry.call ≡ called → IsAwaitOf script.threads entry.thread called
+    awaited_by : IsScript script → IsSorted history_cmp entries → entry.wrote ≡ is_write entry.call entry.reply → (called : Call) → entry.call ≡ called → IsAwaitOf script.threads entry.thread called
         → KnowsAwaited (λ thread. entries_of thread entries) entry called → IsAwaitedIn entries place called
-    awaited_by sorted wrote (call.Await thread index) is names knows =
+    awaited_by rule sorted wrote (call.Await thread index) is names knows =
         let earlier : thread < entry.thread = names.0 in
         let first : 1 ≤ index = names.1 in
         let there : index ≤ length (calls_of script thread) = named_call script entry.thread thread index names in
@@ -106,22 +106,21 @@ module _ (script : ScriptParts) (rule : IsScript script) (entries : List Entry) 
         let mine : other.thread ≡ thread = own_thread thread k other other_at in
         let apart : other.thread < entry.thread = omega (arith, mine, earlier) in
         let read : entry.wrote ≡ false = wrote ∙ ap (λ c. is_write c entry.reply) is in
-        let less : is_lt (history_cmp other entry) ≡ true = goes_first other entry (knows other other_at) read apart in
+        let less : is_lt (history_cmp other entry) ≡ true = goes_first other entry (knows k other (omega (arith, first)) other_at) read apart in
         let before : origin.0 < place = ahead sorted origin.0 other origin.1 less apart in
         let through : length (entries_of thread (take (origin.0 + 1) entries)) ≡ length (entries_of thread (take origin.0 entries)) + 1 = mine_up_to thread origin.0 other origin.1 mine in
         let count : length (entries_of thread (take origin.0 entries)) ≡ k = origin.2 in
         let up = count_up entries thread (origin.0 + 1) place (omega (arith, before)) in
         omega (arith, up, through, count, first)
-    awaited_by sorted wrote called is names knows = tt
+    awaited_by rule sorted wrote called is names knows = tt
 
     -- and back, where each stamp is the number of writes before it
-    knows_by : AreStamped entries → (called : Call) → IsAwaitOf script.threads entry.thread called → IsAwaitedIn entries place called → KnowsAwaited (λ thread. entries_of thread entries) entry called
-    knows_by stamped (call.Await thread index) names after = λ other other_at.
-        let first : 1 ≤ index = names.1 in
+    knows_by : AreStamped entries → (called : Call) → IsAwaitedIn entries place called → KnowsAwaited (λ thread. entries_of thread entries) entry called
+    knows_by stamped (call.Await thread index) after = λ k other numbered other_at.
         let its : index ≤ length (entries_of thread (take place entries)) = after in
-        let origin = passed_from (λ (e : Entry). e.thread == thread) entries (index - 1) other other_at in
-        let count : length (entries_of thread (take origin.0 entries)) ≡ index - 1 = origin.2 in
-        let late : place ≤ origin.0 → ⊥ = λ high. let up = count_up entries thread place origin.0 high in omega (arith, up, its, count, first) in
+        let origin = passed_from (λ (e : Entry). e.thread == thread) entries k other other_at in
+        let count : length (entries_of thread (take origin.0 entries)) ≡ k = origin.2 in
+        let late : place ≤ origin.0 → ⊥ = λ high. let up = count_up entries thread place origin.0 high in omega (arith, up, its, count, numbered) in
         elim (cases_order origin.0 place) [
           | inl same ↦ absurd (late (omega (arith, same)))
           | inr differ ↦ elim differ [
@@ -129,12 +128,12 @@ module _ (script : ScriptParts) (rule : IsScript script) (entries : List Entry) 
             | inr behind ↦ absurd (late (omega (arith, behind)))
           ]
         ]
-    knows_by stamped called names after = tt
+    knows_by stamped called after = tt
 
-  pub awaited_in_order : IsSorted history_cmp entries → EachAt entries (λ place entry. entry.wrote ≡ is_write entry.call entry.reply) → AreKnown entries → EachAt entries (IsAwaited entries)
-  awaited_in_order sorted wrote known place entry at =
-      awaited_by place entry at sorted (wrote place entry at) entry.call refl (await_at script rule entries whole place entry at) (known place entry at)
+  pub awaited_in_order : IsScript script → IsSorted history_cmp entries → EachAt entries (λ place entry. entry.wrote ≡ is_write entry.call entry.reply) → AreKnown entries → EachAt entries (IsAwaited entries)
+  awaited_in_order rule sorted wrote known place entry at =
+      awaited_by place entry at rule sorted (wrote place entry at) entry.call refl (await_at script rule entries whole place entry at) (known place entry at)
 
   pub known_awaits : AreStamped entries → EachAt entries (IsAwaited entries) → AreKnown entries
   known_awaits stamped awaited place entry at =
-      knows_by place entry at stamped entry.call (await_at script rule entries whole place entry at) (awaited place entry at)
+      knows_by place entry at stamped entry.call (awaited place entry at)

@@ -56,7 +56,7 @@ module _ (storage : Storage) (script : ScriptParts) (calls : List Call) (entries
 
   awaited_by_numbers : EachAt history (IsAwaited history)
   awaited_by_numbers =
-      awaited_in_order script rule history (whole storage script calls history still_numbered rises) sorted wrote_by_numbers
+      awaited_in_order script history (whole storage script calls history still_numbered rises) rule sorted wrote_by_numbers
       (known_all history still_numbered.known)
 
   pub history_by_numbers : IsHistoryOf storage script calls history
@@ -69,7 +69,7 @@ module _ (storage : Storage) (script : ScriptParts) (calls : List Call) (entries
 
 -- ---- from a legal history
 
-module _ (storage : Storage) (script : ScriptParts) (rule : IsScript script) (history : List Entry) (legal : IsLegal storage script history) (fits : AreFitting storage script history) where
+module _ (storage : Storage) (script : ScriptParts) (history : List Entry) (legal : IsLegal storage script history) (fits : AreFitting storage script history) where
   stamped : AreStamped history
   stamped place entry at = (legal.chronicle.answered place entry at).stamp
 
@@ -117,8 +117,8 @@ module _ (storage : Storage) (script : ScriptParts) (rule : IsScript script) (hi
               made = legal.chronicle.whole.calls thread;
               marked = among_mine (IsMarkedAfter script (writes history)) (λ place entry at. marked_after script history legal.chronicle.whole stamped wrote place entry at (legal.chronicle.marked place entry at)) thread;
             };
-        known = λ k d low. known_awaits script rule history legal.chronicle.whole stamped legal.chronicle.awaited k (get_or history k d) (slice_get-get_or history k d low);
+        known = λ k d low. known_awaits script history legal.chronicle.whole stamped legal.chronicle.awaited k (get_or history k d) (slice_get-get_or history k d low);
       }
 
-pub numbers_of_history : (storage : Storage) (script : ScriptParts) (calls : List Call) (history : List Entry) → IsScript script → IsHistoryOf storage script calls history → AreNumbered storage script calls history
-numbers_of_history storage script calls history rule is = subst (λ cs. AreNumbered storage script cs history) is.written (numbers_of_legal storage script rule history is.legal is.fitting)
+pub numbers_of_history : (storage : Storage) (script : ScriptParts) (calls : List Call) (history : List Entry) → IsHistoryOf storage script calls history → AreNumbered storage script calls history
+numbers_of_history storage script calls history is = subst (λ cs. AreNumbered storage script cs history) is.written (numbers_of_legal storage script history is.legal is.fitting)

@@ -96,11 +96,11 @@ module _ (storage : Storage) (script : ScriptParts) (chronicle history : List En
 
   pub legal_when_sorted : IsLegal storage script history
   legal_when_sorted =
-      let known : AreKnown chronicle = known_awaits script rule chronicle is.whole stamps_right is.awaited in
+      let known : AreKnown chronicle = known_awaits script chronicle is.whole stamps_right is.awaited in
       let still : AreKnown history = λ place entry at.
       let there = still_there chronicle history moved sorted place entry at in
       known_alike chronicle history agreement.same_threads entry (known there.0 entry there.1) in
       let wrote : EachAt history (λ place entry. entry.wrote ≡ is_write entry.call entry.reply) = λ place entry at.
       let there = still_there chronicle history moved sorted place entry at in
       (is.answered there.0 entry there.1).wrote in
-      record { order = sorted; chronicle = chronicle_of_agreement storage script chronicle history agreement (awaited_in_order script rule history agreement.other_whole sorted wrote still) is }
+      record { order = sorted; chronicle = chronicle_of_agreement storage script chronicle history agreement (awaited_in_order script history agreement.other_whole rule sorted wrote still) is }

@@ -24,9 +24,9 @@ pub fn numbered_entries_are_legal()
     ensures { (storage : Storage) (script : ScriptParts) (calls : List Call) (entries history : List Entry) → IsScript script → AreNumbered storage script calls entries → IsPermutation entries history → IsSorted history_cmp history → IsHistoryOf storage script calls history }
 {}
 
-/// Nothing less would do: the entries of such a history of a script have the numbers of its writes.
+/// Nothing less would do: the entries of such a history have the numbers of its writes.
 pub fn legal_histories_are_numbered()
-    ensures { (storage : Storage) (script : ScriptParts) (calls : List Call) (history : List Entry) → IsScript script → IsHistoryOf storage script calls history → AreNumbered storage script calls history }
+    ensures { (storage : Storage) (script : ScriptParts) (calls : List Call) (history : List Entry) → IsHistoryOf storage script calls history → AreNumbered storage script calls history }
 {}
 
 /// Lists for each thread, once all threads are done, are entries with numbers.

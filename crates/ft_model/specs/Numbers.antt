@@ -118,7 +118,8 @@ pub record IsNumberedThread
 -- writes there are once that call's entry is made (profile)
 abbrev pub KnowsAwaited : (ℕ → List Entry) → Entry → Call → Type 0
 KnowsAwaited made entry (call.Await thread index) =
-    (named : Entry) → slice_get (made thread) (index - 1) ≡ Some named → number_after named ≤ entry.stamp
+    (place : ℕ) (named : Entry) → index ≡ place + 1 → slice_get (made thread) place ≡ Some named
+    → number_after named ≤ entry.stamp
 KnowsAwaited made entry _ = Unit {0}
 
 -- a thread has made all its calls, and its marks are right

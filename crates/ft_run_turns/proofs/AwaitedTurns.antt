@@ -20,9 +20,9 @@ use Rattle.ft_turns.specs.Orders.{Awaited, is_awaiting}
 use Rattle.ft_turn_laws.specs.Ordered.{nobody}
 use Rattle.ft_turn_laws.specs.Standing.{Standing}
 use Rattle.ft_turn_laws.specs.Turns.{AreInStep}
-use Rattle.ft_run_turns.specs.declared.awaiting.Awaited.TheVariants as awaited
+use Rattle.ft_run_turns.specs.declared.awaiting.AwaitState.TheVariants as awaited
 use Rattle.ft_run_turns.specs.declared.seats.Seat.{Seat}
-use Rattle.ft_run_turns.specs.Internal.CallerSeats.{AreSeats, HasAwaited, HaveTurned, IsSeatOf, entries_made, made_in, next_in, seat_entries, standing_at, standings_of}
+use Rattle.ft_run_turns.specs.Internal.CallerSeats.{AreSeats, IsAwaitState, HaveTurned, IsSeatOf, entries_made, made_in, next_in, seat_entries, standing_at, standings_of}
 use Rattle.ft_run_turns.proofs.AwaitedCalls.{awake, finished, made_there, spends, unready}
 
 -- ---- seats that stand as before
@@ -65,7 +65,7 @@ module _ (e : Engine) (script : ScriptParts) (rule : IsScript script) (seats : L
   in_step : AreInStep script turns (view (pass_of (turned some).0)) (standings_of seats)
   in_step = (turned some).2
 
-  pub awake_nothing : HasAwaited e script seats thread awaited.Nothing → is_awaiting script (after_turns script turns) thread ≡ false
+  pub awake_nothing : IsAwaitState e script seats thread awaited.Nothing → is_awaiting script (after_turns script turns) thread ≡ false
   awake_nothing none = awake script turns (view (pass_of (turned some).0)) seats in_step thread own.0 own.1 none
 
   -- the seat of the thread that is named
@@ -75,12 +75,12 @@ module _ (e : Engine) (script : ScriptParts) (rule : IsScript script) (seats : L
       let earlier = names.0 in
       are one.thread (omega (arith, low, earlier))
 
-  pub awake_finished : (note : Note) → HasAwaited e script seats thread (awaited.Finished note) → is_awaiting script (after_turns script turns) thread ≡ false
+  pub awake_finished : (note : Note) → IsAwaitState e script seats thread (awaited.Finished note) → is_awaiting script (after_turns script turns) thread ≡ false
   awake_finished note has =
       let there = named_seat has.0 has.1 in
       finished script turns (view (pass_of (turned some).0)) seats in_step thread own.0 own.1 has.0 has.1 there.0 there.1 has.4
 
-  pub spent_all : HasAwaited e script seats thread awaited.Unfinished → HaveTurned e script (turns ++ thread ∷ []) seats t
+  pub spent_all : IsAwaitState e script seats thread awaited.Unfinished → HaveTurned e script (turns ++ thread ∷ []) seats t
   spent_all has some =
       let there = named_seat has.0 has.1 in
       let now = turned some in

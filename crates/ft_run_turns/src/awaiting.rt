@@ -6,7 +6,7 @@ ghost use Rattle.ft_engine.specs.Callers.{bank_of};
 ghost use Rattle.ft_model.specs.declared.call.Call.TheVariants.{Await};
 ghost use Rattle.ft_model.specs.Histories.{calls_of};
 ghost use Rattle.ft_model.specs.Scripts.{IsScript};
-ghost use Rattle.ft_run_turns.specs.Internal.CallerSeats.{AreSeats, HasAwaited, AwaitsNone, IsSeatOf, standing_in, standings_of};
+ghost use Rattle.ft_run_turns.specs.Internal.CallerSeats.{AreSeats, IsAwaitState, AwaitsNone, IsSeatOf, standing_in, standings_of};
 ghost use Rattle.ft_run_threads.specs.Workers.{IsBankFor};
 
 use crate::seats::Seat;
@@ -16,7 +16,7 @@ use ft_model::{Call, ScriptParts};
 
 /// What a thread awaits.
 #[derive(Drop)]
-pub(crate) enum Awaited {
+pub(crate) enum AwaitState {
     /// Nothing: its next call is no await, or it has none left.
     Nothing,
     /// A call that has finished. Here is a note of the caller that made it.
@@ -76,7 +76,7 @@ pub(crate) fn awaited_of(
     script: &ScriptParts,
     seats: &mut [Option<Seat>],
     thread: usize,
-) -> Awaited
+) -> AwaitState
     requires script { IsScript script.now }
     requires bank { IsBankFor script.now (shape_of (bank_of engine.now)) }
     requires thread { thread < length script.now.threads }
@@ -84,13 +84,13 @@ pub(crate) fn awaited_of(
     requires count { length seats.old ≡ (shape_of (bank_of engine.now)).passes }
     ensures seats { AreSeats engine.now script.now seats.new }
     ensures same { standings_of seats.new ≡ standings_of seats.old }
-    ensures awaited { HasAwaited engine.now script.now seats.old thread result }
+    ensures awaited { IsAwaitState engine.now script.now seats.old thread result }
 {
     let Some(own) = &seats[thread] else {
         unreachable!();
     };
     let Some((named, index)) = next_await(script, thread, own.entries.len()) else {
-        return Awaited::Nothing;
+        return AwaitState::Nothing;
     };
     let Some(seat) = seats[named as usize].take() else {
         unreachable!();
@@ -98,7 +98,7 @@ pub(crate) fn awaited_of(
     let (seat, note) = note_of(engine, script, named, index, seat);
     seats[named as usize] = Some(seat);
     match note {
-        Some(note) => Awaited::Finished(note),
-        None => Awaited::Unfinished,
+        Some(note) => AwaitState::Finished(note),
+        None => AwaitState::Unfinished,
     }
 }

@@ -8,7 +8,7 @@ ghost use Rattle.ft_engine.specs.Keeping.{WasAnswered};
 ghost use Rattle.ft_engine.specs.Resting.{HasFloor};
 ghost use Rattle.ft_model.specs.Histories.{calls_of};
 ghost use Rattle.ft_model.specs.Scripts.{IsScript};
-ghost use Rattle.ft_run_turns.specs.Internal.CallerSeats.{StaysInStep, HasLearned, HasTried, IsBetweenTurns, IsHeld, IsNoteFor, IsSeatOf, TokensStayInStep};
+ghost use Rattle.ft_run_turns.specs.Internal.CallerSeats.{StaysInStep, HasLearned, HasTried, IsBetweenTurns, IsHeld, IsNoteOfAwaited, IsSeatOf, TokensStayInStep};
 ghost use Rattle.ft_run_threads.specs.Workers.{IsBankFor};
 ghost use Rattle.ft_turns.specs.Orders.{awaited_by};
 
@@ -138,7 +138,7 @@ fn learn_call(
     requires between { IsBetweenTurns engine.now script.now thread caller.old entries.old.items }
     requires floor { HasFloor caller.old }
     requires call { slice_get (calls_of script.now thread) (length entries.old.items) ≡ Some call.now }
-    requires note { IsNoteFor engine.now (Some call.now) (Some note) }
+    requires note { IsNoteOfAwaited engine.now (Some call.now) (Some note) }
     requires last { IsTrue last ↔ (length entries.old.items + 1 ≡ length (calls_of script.now thread)) }
     ensures between { OnOk result (IsBetweenTurns engine.now script.now thread caller.new entries.new.items) }
     ensures floor { OnOk result (HasFloor caller.new) }
@@ -170,7 +170,7 @@ fn try_next(
     requires thread { thread < length script.now.threads }
     requires between { IsBetweenTurns engine.now script.now thread caller.old entries.old.items }
     requires floor { HasFloor caller.old }
-    requires note { IsNoteFor engine.now (slice_get (calls_of script.now thread) (length entries.old.items)) note }
+    requires note { IsNoteOfAwaited engine.now (slice_get (calls_of script.now thread) (length entries.old.items)) note }
     ensures between { OnOk result (IsBetweenTurns engine.now script.now thread caller.new entries.new.items) }
     ensures floor { OnOk result (HasFloor caller.new) }
     ensures count { IfOk result (λ ended.
@@ -211,7 +211,7 @@ pub(crate) fn turn_of(
     requires thread { thread < length script.now.threads }
     requires seat { IsSeatOf engine.now script.now thread seat }
     requires tokens { IsHeld engine.now tokens }
-    requires note { IsNoteFor engine.now (slice_get (calls_of script.now thread) (length seat.entries.items)) note }
+    requires note { IsNoteOfAwaited engine.now (slice_get (calls_of script.now thread) (length seat.entries.items)) note }
     ensures seat { IfOk result (λ made. IsSeatOf engine.now script.now thread made.0) }
     ensures tokens { IfOk result (λ made. IsHeld engine.now made.1) }
     ensures count { IfOk result (λ made.

@@ -6,10 +6,10 @@ ghost use Rattle.ft_model.specs.Scripts.{IsScript};
 ghost use Rattle.ft_turns.specs.Ends.{after_turns};
 ghost use Rattle.ft_turns.specs.Orders.{is_awaiting, turns_of};
 ghost use Rattle.ft_turns.specs.Schedules.{IsInRound, scheduled};
-ghost use Rattle.ft_run_turns.specs.Internal.CallerSeats.{AreSeats, SeatsHaveMadeAll, HaveTurned, IsHeld, IsNoteFor, entries_made, next_in};
+ghost use Rattle.ft_run_turns.specs.Internal.CallerSeats.{AreSeats, SeatsHaveMadeAll, HaveTurned, IsHeld, IsNoteOfAwaited, entries_made, next_in};
 ghost use Rattle.ft_run_threads.specs.Workers.{IsBankFor};
 
-use crate::awaiting::{Awaited, awaited_of};
+use crate::awaiting::{AwaitState, awaited_of};
 use crate::seats::Seat;
 use crate::trying::turn_of;
 use ft_bank::{Note, Tokens};
@@ -61,7 +61,7 @@ fn turn_seat(
     requires seats { AreSeats engine.now script.now seats.old }
     requires count { length seats.old ≡ (shape_of (bank_of engine.now)).passes }
     requires tokens { IsHeld engine.now tokens }
-    requires note { IsNoteFor engine.now (next_in script.now seats.old thread) note }
+    requires note { IsNoteOfAwaited engine.now (next_in script.now seats.old thread) note }
     ensures seats { OnOk result (AreSeats engine.now script.now seats.new) }
     ensures tokens { IfOk result (λ made. IsHeld engine.now made.0) }
     ensures made { IfOk result (λ made. entries_made seats.new ≡ entries_made seats.old + (if made.1 then 1 else 0)) }
@@ -100,11 +100,11 @@ fn take_turn(
         → HaveTurned engine.now script.now (turns ++ thread ∷ []) seats.new made.0) }
 {
     match awaited_of(engine, script, seats, thread) {
-        Awaited::Unfinished => Ok((tokens, false)),
-        Awaited::Finished(note) => {
+        AwaitState::Unfinished => Ok((tokens, false)),
+        AwaitState::Finished(note) => {
             turn_seat(alloc, engine, script, seats, thread, tokens, Some(note))
         }
-        Awaited::Nothing => turn_seat(alloc, engine, script, seats, thread, tokens, None),
+        AwaitState::Nothing => turn_seat(alloc, engine, script, seats, thread, tokens, None),
     }
 }
 

@@ -28,14 +28,14 @@ use Rattle.ft_engine.specs.Keeping.{WasAnswered}
 use Rattle.ft_engine.specs.Resting.{HandsOn, HasFloor, RestsAs}
 use Rattle.ft_section.specs.declared.answers.Stamp.{Stamp}
 use Rattle.ft_turns.specs.Ends.{after_turns}
-use Rattle.ft_turns.specs.Orders.{Awaited as AwaitedCall, awaited_by, is_awaiting}
+use Rattle.ft_turns.specs.Orders.{Awaited, awaited_by, is_awaiting}
 use Rattle.ft_turn_laws.specs.Beginnings.{NoneOwns}
 use Rattle.ft_turn_laws.specs.Ordered.{nobody}
 use Rattle.ft_turn_laws.specs.Standing.{Standing, standing_of}
 use Rattle.ft_turn_laws.specs.Turns.{AreInStep, IsLearnOf, IsTurnOf}
 use Rattle.ft_run_threads.specs.Workers.{IsMember}
-use Rattle.ft_run_turns.specs.declared.awaiting.Awaited.{Awaited}
-use Rattle.ft_run_turns.specs.declared.awaiting.Awaited.TheVariants as awaited
+use Rattle.ft_run_turns.specs.declared.awaiting.AwaitState.{AwaitState}
+use Rattle.ft_run_turns.specs.declared.awaiting.AwaitState.TheVariants as awaited
 use Rattle.ft_run_turns.specs.declared.seats.Seat.{Seat}
 
 -- ---- seats
@@ -158,20 +158,20 @@ abbrev pub AwaitsNone : Option Call → Type 0
 AwaitsNone next = IfSome next (λ called. awaited_by called ≡ None)
 
 -- the next call is an `await`, and the note tells of the call that it names; or it is none, and there is no note
-abbrev pub IsNoteFor : Engine → Option Call → Option Note → Type 0
-IsNoteFor e next None = AwaitsNone next
-IsNoteFor e next (Some note) =
-    (one : AwaitedCall) × (next ≡ Some (call.Await one.thread one.index)) × IsNoteOf (bank_of e) note
+abbrev pub IsNoteOfAwaited : Engine → Option Call → Option Note → Type 0
+IsNoteOfAwaited e next None = AwaitsNone next
+IsNoteOfAwaited e next (Some note) =
+    (one : Awaited) × (next ≡ Some (call.Await one.thread one.index)) × IsNoteOf (bank_of e) note
     × TellsOf note one.thread one.index
 
 -- what a thread awaits: a call that has finished, of which there is a note; or one that has not; or nothing
-abbrev pub HasAwaited : Engine → ScriptParts → List (Option Seat) → ℕ → Awaited → Type 0
-HasAwaited e script seats thread awaited.Nothing = AwaitsNone (next_in script seats thread)
-HasAwaited e script seats thread (awaited.Finished note) =
-    (one : AwaitedCall) × (next_in script seats thread ≡ Some (call.Await one.thread one.index))
+abbrev pub IsAwaitState : Engine → ScriptParts → List (Option Seat) → ℕ → AwaitState → Type 0
+IsAwaitState e script seats thread awaited.Nothing = AwaitsNone (next_in script seats thread)
+IsAwaitState e script seats thread (awaited.Finished note) =
+    (one : Awaited) × (next_in script seats thread ≡ Some (call.Await one.thread one.index))
     × IsNoteOf (bank_of e) note × TellsOf note one.thread one.index × (one.index ≤ made_in seats one.thread)
-HasAwaited e script seats thread awaited.Unfinished =
-    (one : AwaitedCall) × (next_in script seats thread ≡ Some (call.Await one.thread one.index))
+IsAwaitState e script seats thread awaited.Unfinished =
+    (one : Awaited) × (next_in script seats thread ≡ Some (call.Await one.thread one.index))
     × (made_in seats one.thread < one.index)
 
 -- a caller with the floor was answered the `await` that comes next, and its entry is added

@@ -5,7 +5,7 @@ use Rattle.std.proofs.lemmas.Option.{get_or_from_slice_get}
 use Rattle.ft_model.specs.Histories.{calls_of}
 use Rattle.ft_bank.specs.Passes.{shape_of}
 use Rattle.ft_engine.specs.Callers.{bank_of}
-use Rattle.ft_run_turns.specs.Internal.CallerSeats.{AreSeats, HaveTurned, IsNoteFor, entries_made, seat_entries}
+use Rattle.ft_run_turns.specs.Internal.CallerSeats.{AreSeats, HaveTurned, IsNoteOfAwaited, entries_made, seat_entries}
 use Rattle.ft_run_turns.specs.declared.seats.Seat.{Seat}
 use Rattle.ft_run_turns.proofs.SeatRows.{made_put, seat_low, seats_put, some_seat, taken_seat, turn_of_all}
 use Rattle.ft_run_turns.proofs.turning.turn_seat.Goals as goal
@@ -71,4 +71,4 @@ turn_of-requires-clause-note c =
     let seats = c.args.seats.now in
     let low = seat_low c.args.script.now (shape_of (bank_of c.args.engine.now)) seats c.args.thread c.requires.bank c.requires.count c.requires.thread in
     let own = taken_seat c.args.engine.now c.args.script.now seats c.args.thread c.index-seats-thread.result c.in-Some.seat c.requires.seats low c.index-seats-thread.is (c.index-seats-thread.is ∙ (sym c.take.ensures.value ∙ c.in-Some.is)) in
-    subst (λ (o : Option Seat). IsNoteFor c.args.engine.now (slice_get (calls_of c.args.script.now c.args.thread) (length (seat_entries o))) c.args.note) (get_or_from_slice_get seats c.args.thread (Some c.in-Some.seat) None own.0) c.requires.note
+    subst (λ (o : Option Seat). IsNoteOfAwaited c.args.engine.now (slice_get (calls_of c.args.script.now c.args.thread) (length (seat_entries o))) c.args.note) (get_or_from_slice_get seats c.args.thread (Some c.in-Some.seat) None own.0) c.requires.note

@@ -6,7 +6,7 @@ ghost use Rattle.ft_board.specs.Boards.{IsNoteFor, IsFetchedFor};
 use crate::awaits::{Awaited, Awaits};
 use crate::desk::{Desk, Fetched};
 use crate::naming::Naming;
-use ft_bank::Note;
+use ft_bank::{MakeFault, Note};
 use ft_model::{Call, Script};
 use std::alloc::{AllocError, Global};
 use std::hint::spin_loop;
@@ -84,7 +84,7 @@ impl<N: Naming> Model for Board<N> {
 impl<N: Naming> Board<N> {
     /// A board with a place for each call that a call of the script awaits. While threads are at work it takes no more
     /// memory.
-    pub fn new(alloc: Global, script: &Script) -> Result<Board<N>, AllocError>
+    pub fn new(alloc: Global, script: &Script) -> Result<Board<N>, MakeFault>
         ensures { IfOk result (λ board. (thread index : ℕ) → await_count board thread index ≡ awaits_of script.now thread index) }
     {
         let mut board = Board {

@@ -1,5 +1,5 @@
 //! Workers that make the calls of their threads.
-ghost use Rattle.std.specs.Prelude.{◌≡◌, ◌+◌, ◌<◌, ℕ, All, IsTrue, OnOk, length};
+ghost use Rattle.std.specs.Prelude.{◌≡◌, ◌+◌, ◌-◌, ◌<◌, ℕ, All, IsTrue, OnOk, length};
 ghost use Rattle.ft_bank.specs.Passes.{shape_of};
 ghost use Rattle.ft_board.specs.Boards.{name_of};
 ghost use Rattle.ft_engine.specs.Callers.{bank_of};
@@ -159,7 +159,9 @@ fn work<N: Naming, R: Wait, G: Gate>(
     }
 }
 
-/// Each worker makes the calls of its thread, in a thread of its own.
+/// Each worker makes the calls of its thread, in a thread of its own. Where no more threads can be made those that are
+/// left run one after the other, from the back of the list, so the list is turned round: a worker awaits calls of earlier
+/// ones alone.
 fn work_all<N: Naming + Send + Sync, R: Threads + Wait + Sync, G: Gate>(
     rt: &R,
     engine: &Engine,
@@ -180,15 +182,26 @@ fn work_all<N: Naming + Send + Sync, R: Threads + Wait + Sync, G: Gate>(
     if count == 0 {
         return;
     }
-    let each = |thread: usize, worker: &mut Worker|
+    let each = |place: usize, worker: &mut Worker|
         requires { (name_of (bank_of engine.now) ≡ N.bank) × ((each : ℕ) → N.stopped each)
-            × IsBankFor script.now (shape_of (bank_of engine.now))
-            × IsAtStart engine.now script.now thread worker.now }
-        ensures { HasWorked engine.entry.now script.entry.now thread worker.exit.now }
+            × IsBankFor script.now (shape_of (bank_of engine.now)) × (place < count)
+            × IsAtStart engine.now script.now (count - 1 - place) worker.now }
+        ensures { HasWorked engine.entry.now script.entry.now (count - 1 - place) worker.exit.now }
     {
-        work(rt, engine, board, alloc, gate, script, thread, worker);
+        work(
+            rt,
+            engine,
+            board,
+            alloc,
+            gate,
+            script,
+            count - 1 - place,
+            worker,
+        );
     };
+    workers.reverse();
     thread::for_each_mut(rt, workers, count, &each);
+    workers.reverse();
 }
 
 /// The same, with a board for the notes of those calls that other threads await. An `Err` says that there was no memory
@@ -208,7 +221,9 @@ pub(crate) fn work_on_board<N: Naming + Send + Sync, R: Threads + Wait + Sync, G
     ensures count { OnOk result (length workers.new ≡ length workers.old) }
     ensures workers { OnOk result (AreEach (HasWorked engine.now script.now) workers.new) }
 {
-    let board: Board<N> = Board::new(alloc, script)?;
+    let Ok(board) = Board::<N>::new(alloc, script) else {
+        return Err(AllocError);
+    };
     work_all(rt, engine, &board, alloc, gate, script, workers);
     Ok(())
 }

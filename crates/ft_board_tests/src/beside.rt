@@ -4,7 +4,7 @@ ghost use Rattle.ft_board.specs.Awaits.{await_count};
 ghost use Rattle.ft_board.specs.Boards.{IsNoteFor, name_of};
 ghost use Rattle.ft_board_tests.specs.Makers.{IsMaker};
 
-use crate::notes::{maker, notes_for, script};
+use crate::notes::{maker, new_board, notes_for};
 use crossbeam_utils::Backoff;
 use ft_bank::{Bank, Note, Pass};
 use ft_board::{Board, Fetched, Naming};
@@ -84,11 +84,10 @@ fn both_beside<N: Naming + Send + Sync, R: Threads + Wait + Sync>(
     requires stopped { (thread : ℕ) → N.stopped thread }
     requires maker { IsMaker bank.now pass.old }
 {
-    let script = script(alloc)?;
-    let board = Board::<N>::new(alloc, &script)?;
+    let board: Board<N> = new_board(alloc)?;
     let notes = notes_for(alloc, &board, bank, pass)?;
     let published = got_beside(rt, &board, notes);
-    let other = Board::<N>::new(alloc, &script)?;
+    let other: Board<N> = new_board(alloc)?;
     Ok((published, stopped_beside(rt, &other)))
 }
 

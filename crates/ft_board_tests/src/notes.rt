@@ -18,8 +18,17 @@ const TEXT: &str =
     "version 2\nlist l\nthread A\nreverse l\nreverse l\nthread B\nawait A.1\nthread C\nawait A.1\n";
 
 /// The script.
-pub(crate) fn script(alloc: Global) -> Result<Script, Fail> {
+fn script(alloc: Global) -> Result<Script, Fail> {
     Ok(parse(alloc, TEXT.as_bytes())?)
+}
+
+/// A board of it.
+pub(crate) fn new_board<N: Naming>(alloc: Global) -> Result<Board<N>, Fail> {
+    let script = script(alloc)?;
+    let Ok(board) = Board::<N>::new(alloc, &script) else {
+        return Err(Fail::from("there is memory"));
+    };
+    Ok(board)
 }
 
 /// A list, for two passes with ten calls each.

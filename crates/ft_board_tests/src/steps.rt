@@ -3,7 +3,7 @@ ghost use Rattle.std.specs.Prelude.{◌≡◌, ℕ};
 ghost use Rattle.ft_board.specs.Boards.{name_of};
 ghost use Rattle.ft_board_tests.specs.Makers.{IsMaker};
 
-use crate::notes::{maker, notes_for, script};
+use crate::notes::{maker, new_board, notes_for};
 use ft_bank::{Bank, Pass};
 use ft_board::{Board, Fetched, Naming};
 use std::alloc::Global;
@@ -144,8 +144,7 @@ fn all_come_out<N: Naming, R: Wait>(
     requires stopped { (thread : ℕ) → N.stopped thread }
     requires maker { IsMaker bank.now pass.old }
 {
-    let script = script(alloc)?;
-    let board = Board::<N>::new(alloc, &script)?;
+    let board: Board<N> = new_board(alloc)?;
     for step in steps {
         if !take(rt, alloc, &board, bank, pass, *step)? {
             return Ok(false);
@@ -184,8 +183,7 @@ fn what_is_fetched_is_what_came_first(rt: HostRuntime) -> Result<(), Fail> {
 
 /// How many awaits a board counts of the calls that are named so.
 fn counted<N: Naming>(alloc: Global, calls: &[(u32, u32)]) -> Result<Vec<u32>, Fail> {
-    let script = script(alloc)?;
-    let board = Board::<N>::new(alloc, &script)?;
+    let board: Board<N> = new_board(alloc)?;
     let mut counts = Vec::new(alloc);
     for (thread, index) in calls {
         counts.push(board.awaits(*thread, *index))?;

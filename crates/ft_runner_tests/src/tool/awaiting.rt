@@ -243,6 +243,7 @@ fn transcripts_with_awaits_are_checked(rt: HostRuntime) -> Result<(), Fail> {
 }
 
 /// A script, and the text of its history.
+#[derive(Drop)]
 struct Made {
     script: String,
     put: String,

@@ -1,0 +1,17 @@
+pub mod Steps
+pub mod Reached
+pub mod Places
+pub mod Leaving
+pub mod Counts
+pub mod Collections
+pub mod TableChanges
+pub mod Exchanges
+pub mod TableClasses
+pub mod AddingUp
+pub mod TakingCalls
+pub mod Earned
+pub mod HeldBack
+pub mod Retirements
+pub mod RowErrors
+pub mod GivenUp
+pub mod RowScripts

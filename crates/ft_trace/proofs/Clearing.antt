@@ -37,7 +37,7 @@ use Rattle.std.specs.Prelude.{option_map, Some}
 use Rattle.ft_model.specs.Worlds.{kind_of, no_hands, IsDeclared}
 use Rattle.ft_trace.proofs.NextActions.{next_possible}
 use Rattle.ft_trace.proofs.Naming.{one_locked}
-use Rattle.ft_trace.proofs.Contents.{empty_stands}
+use Rattle.ft_trace.proofs.Standing.{empty_stands}
 
 -- one more action with a snapshot
 pub snap_possible : (v : View) → IsAwake v → IsReachable v → (act : ℕ → Snap → Act) (x : Word) → ((n : ℕ) (s : Snap) → place (act n s) ≡ x) → ((n : ℕ) (s : Snap) → Reports (act n s) n) → Sure v (λ es. May v.shape (run v.shape es) (history es) v (act (word v.shape es x) (snap (run v.shape es) (history es)))) → (n : ℕ) × (s : Snap) × IsReachable (view_after (act n s) v)

@@ -7,7 +7,9 @@ use Rattle.ft_trace.specs.Acts.{has_lock, is_writing, stage, mem}
 use Rattle.ft_trace.specs.ContainerStates.{ContainerState, container_after, kind_in}
 use Rattle.ft_trace.specs.Pictures.{table_words, root_of, inner, ContainerWords, root_in, picture, Represents}
 use Rattle.ft_trace.specs.Kinds.{SoundAs, CarefulAs}
-use Rattle.ft_trace.specs.Holds.{held_words, known_state, in_hand, AgreesWith}
+use Rattle.ft_trace.specs.Holds.{held_words, held_unboxed, known_state, in_hand, AgreesWith}
+use Rattle.ft_trace.specs.Unboxed.{unboxed_picture}
+use Rattle.ft_trace.proofs.BoxKnown.{holder_reads}
 use Rattle.ft_trace.specs.Traces.{run, history, StandsFor, SoundFor, CarefulFor, IsReachable, Sure}
 use Rattle.ft_trace.proofs.Pieces.{block_at, table_same, picture_same}
 use Rattle.ft_trace.proofs.TablePlaces.{root_table}
@@ -38,16 +40,20 @@ hand_known v t table mine es id knows =
     table_same k t (mem k v.log) (run k es).words (λ i small. im.words (cell t i) (table, small) (inl mine))
 
 module _ (v : View) (o : ℕ) (low : o < container_count v.shape) where
-  pub held_stands : IsReachable v → has_lock o v.log ≡ true → is_writing o v.log ≡ false → Represents v.shape.texts (held_words o v) (known_state o v)
+  -- what the words of o read, as the pass knows them
+  pub read_known : has_lock o v.log ≡ true → Sure v (λ es. held_unboxed o v ≡ unboxed_picture v.shape o (run v.shape es).words)
+  read_known mine es id knows = holder_reads v.shape es knows.0 id v knows.1 o low mine
+
+  pub held_stands : IsReachable v → has_lock o v.log ≡ true → is_writing o v.log ≡ false → Represents v.shape.texts (held_unboxed o v) (known_state o v)
   held_stands p mine quiet =
-      let t = words_known v o low mine p.0 p.1 p.2 in
+      let t = read_known mine p.0 p.1 p.2 in
       let c = content_known v o mine p.0 p.1 p.2 in
       subst (λ (z : ContainerWords × ContainerState). Represents v.shape.texts z.0 z.1) (λ d. (sym t d, sym c d)) (holder_stands v.shape p.0 p.2.0 o low p.1 v p.2.1 mine quiet)
 
   -- the conditions of the steps, on the words that the pass knows
-  pub stop_sure : has_lock o v.log ≡ true → Represents v.shape.texts (held_words o v) (known_state o v) → Sure v (λ es. StandsFor v.shape (run v.shape es) (history es) o)
+  pub stop_sure : has_lock o v.log ≡ true → Represents v.shape.texts (held_unboxed o v) (known_state o v) → Sure v (λ es. StandsFor v.shape (run v.shape es) (history es) o)
   stop_sure mine stands es id knows =
-      let t = words_known v o low mine es id knows in
+      let t = read_known mine es id knows in
       let c = content_known v o mine es id knows in
       subst (λ (z : ContainerWords × ContainerState). Represents v.shape.texts z.0 z.1) (λ d. (t d, c d)) stands
 

@@ -76,7 +76,7 @@ block_zero k o ws zeros = piece_zero ws (at k (block o 0)) 6 (λ i low. ap (λ (
         let rest = piece_zero ws (at + 1) n (λ i low. let e : at + 1 + i ≡ at + suc i = omega arith in ap (λ (z : ℕ). slice_index ws z) e ∙ zeros (suc i) (omega arith)) in
         λ d. here d ∷ rest d
 
-inner_same : (k : Shape) (r : ℕ) (ws zs : List ℕ) → ((t : ℕ) → r ≡ suc t → table_words k t ws ≡ table_words k t zs) → inner k r ws ≡ inner k r zs
+pub inner_same : (k : Shape) (r : ℕ) (ws zs : List ℕ) → ((t : ℕ) → r ≡ suc t → table_words k t ws ≡ table_words k t zs) → inner k r ws ≡ inner k r zs
 inner_same k zero ws zs same = refl
 inner_same k (suc t) ws zs same = same t refl
 

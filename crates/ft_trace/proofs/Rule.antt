@@ -13,8 +13,10 @@ use Rattle.ft_trace.specs.Traces.{run, history}
 use Rattle.ft_trace.specs.TraceLaws.{StoredTablesAreInOrder, WordsLieApart, PairsAreUnderTheirKeys, ElementsAreUnderTheirKeys, OnePassIsAlone, StampsRise, MemoryErrorsAreEarned, LocksNameHolders, VersionsAreOddInWrites, EvenTablesAreShut, NumbersAreOnce, EntriesAreRight, OneHasAllEntries, EvenWordsStand, ZeroRootsHaveNothing, HoldersKnow, TablesAreSomewhere, TablesAreInOnePlace, CountsStand, TablesAreOwed, EmptyClassesAreEarned, AnnouncedNumbersAreLow, FoundTablesAreKept, GivenUpTablesRest, TablesAreSound, TableWordsStay, HitsAreRight, MissesAreRight, BareRootsAreRight, ItemsAreRight, ListsFitTheirTables, LooksAreRight, LooksAtBothAreRight, ChangedRootsAreNew, NumbersHaveRoom, NextSerialsAreLow, CallsAreCounted}
 use Rattle.ft_trace.proofs.Locks.{names, holder, one_holder}
 use Rattle.ft_trace.proofs.OddVersions.{versioned, writer_has, writing_is_odd}
-use Rattle.ft_trace.proofs.Contents.{counted, tab, stands}
+use Rattle.ft_trace.proofs.Contents.{counted, tab}
+use Rattle.ft_trace.proofs.Standing.{stands}
 use Rattle.ft_trace.proofs.Totals.{entries_total, parts_total, total_two}
+use Rattle.ft_trace.specs.Unboxed.{unboxed_picture}
 use Rattle.ft_trace.proofs.Addresses.{in_part, at_apart}
 use Rattle.ft_trace.proofs.Orders.{in_order}
 use Rattle.ft_model.specs.TableUses.{stored_newest}
@@ -90,7 +92,7 @@ pub words_stand_while_versions_are_even : EvenWordsStand
 words_stand_while_versions_are_even = stands
 
 pub zero_roots_have_nothing : ZeroRootsHaveNothing
-zero_roots_have_nothing k es valid o low even none = no_table_stands k.texts (picture k o (run k es).words) _ (block_at k o (run k es).words 0 (omega arith) ∙ none) (stands k es valid o low even)
+zero_roots_have_nothing k es valid o low even none = no_table_stands k.texts (unboxed_picture k o (run k es).words) _ (block_at k o (run k es).words 0 (omega arith) ∙ none) (stands k es valid o low even)
 
 pub holders_know : HoldersKnow
 holders_know v es j knows = (λ o low mine. (words_known v o low mine es j knows, content_known v o mine es j knows), λ t table one. hand_known v t table one es j knows)

@@ -4,12 +4,18 @@ use Rattle.ft_model.specs.TableUses.{StoredWorld}
 use Rattle.ft_trace.specs.declared.View.{View}
 use Rattle.ft_trace.specs.Addresses.{container_count}
 use Rattle.ft_trace.specs.Acts.{has_lock, mem, past}
-use Rattle.ft_trace.specs.ContainerStates.{ContainerState, state_at, container_after}
+use Rattle.ft_trace.specs.ContainerStates.{ContainerState, state_at, container_after, kind_in}
+use Rattle.ft_trace.specs.Boxes.{known_box_word}
+use Rattle.ft_trace.specs.Unboxed.{unboxed}
 use Rattle.ft_trace.specs.Pictures.{ContainerWords, picture, table_words}
 
 -- the words of o, whose lock it has
 abbrev pub held_words : ℕ → View → ContainerWords
 held_words o v = picture v.shape o (mem v.shape v.log)
+
+-- and what they read through boxes
+abbrev pub held_unboxed : ℕ → View → ContainerWords
+held_unboxed o v = unboxed (λ b i. known_box_word v.shape b i v.log) (kind_in v.shape.starts o) (held_words o v)
 
 -- what the history makes of o
 abbrev pub known_state : ℕ → View → ContainerState

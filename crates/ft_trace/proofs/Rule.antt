@@ -150,7 +150,7 @@ table_words_stay k newer older valid o low t names same =
 pub hits_are_right : HitsAreRight
 hits_are_right k es valid o t p key n low keyed small j u at h =
     let r = hits.hit_at k es valid o t p key n low keyed small j u at h in
-    (r.0, (λ none. some_words r.1 none), hits.hit_word k es valid o t p key n low keyed small j u at h)
+    (r.0, (λ none. some_words r.1 none), hits.hit_word k es valid o t p key n low keyed small j u at h, λ b f named. hits.hit_boxed k es valid o t p key n low keyed small j u at h b named f)
   where
     some_words : {x : ℕ} {xs l : List ℕ} → l ≡ x ∷ xs → l ≡ [] → ⊥
     some_words a b = let z = sym a ∙ b in absurd (cc)
@@ -162,7 +162,7 @@ pub bare_roots_are_right : BareRootsAreRight
 bare_roots_are_right = bare_at
 
 pub items_are_right : ItemsAreRight
-items_are_right k es valid o t p n low is small j u at h = ((items.item_hit_at k es valid o t p n low is small j u at h).0, items.item_word k es valid o t p n low is small j u at h)
+items_are_right k es valid o t p n low is small j u at h = ((items.item_hit_at k es valid o t p n low is small j u at h).0, items.item_word k es valid o t p n low is small j u at h, λ b f named. items.item_boxed k es valid o t p n low is small j u at h b named f)
 
 pub lists_fit_their_tables : ListsFitTheirTables
 lists_fit_their_tables k es valid o t n low is j u at h = items.item_past_at k es valid o t n low is j u at h

@@ -53,7 +53,7 @@ module _ (box : ℕ → ℕ → ℕ) (kind : Kind) (class : ℕ) where
   places_apart p q ne = dite (dec_lt p q) (λ less. inl (value_apart kind class p q less)) (λ no. inr (value_apart kind class q p (omega (arith, no, ne))))
 
   -- a word that lies elsewhere
-  word_kept : (p q x y : ℕ) (t : List ℕ) → p ≢ q → (slice_index (with_value (Place p) x y t) (Place q) ≡ slice_index t (Place q)) × (slice_index (with_value (Place p) x y t) (suc (Place q)) ≡ slice_index t (suc (Place q)))
+  pub word_kept : (p q x y : ℕ) (t : List ℕ) → p ≢ q → (slice_index (with_value (Place p) x y t) (Place q) ≡ slice_index t (Place q)) × (slice_index (with_value (Place p) x y t) (suc (Place q)) ≡ slice_index t (suc (Place q)))
   word_kept p q x y t ne =
       let far = places_apart p q ne in
       let apart : ((suc (Place p) < Place q) → ⊥) → ((suc (Place q) < Place p) → ⊥) → ⊥ = λ f g. ⊎_elim f g far in

@@ -23,23 +23,20 @@ use Rattle.ft_trace.specs.Addresses.{container_count, class_of, slots}
 use Rattle.ft_trace.specs.Kinds.{rows}
 use Rattle.ft_trace.specs.Pictures.{entry_offset, item_offset, walk_of}
 use Rattle.ft_trace.specs.ContainerStates.{first_writes, kind_in, reply_in}
-use Rattle.ft_trace.specs.LoggedReads.{Among}
-use Rattle.ft_trace.specs.LoggedLookUps.{Hit, Miss, Full, Bare, ItemHit, ItemPast}
+use Rattle.ft_trace.specs.LoggedLookUps.{Hit, Miss, Full, Bare, ItemHit, ItemPast, IsReadAt}
 use Rattle.ft_trace.specs.Traces.{Event, history, Valid}
 use Rattle.ft_trace.specs.TraceLaws.{HasView}
 
 -- ---- what was read
 
--- the value's words of the entry at this place were read among these: its kind and its payload
+-- the value of the entry at this place was read among these: its kind and its payload
 abbrev pub IsValueRead : ℕ → ℕ → ℕ → ℕ → List Act → Type 0
 IsValueRead t place kind payload mid =
-    Among (ReadTable t (entry_offset (slots (class_of t)) place 4) kind) mid
-    × Among (ReadTable t (entry_offset (slots (class_of t)) place 5) payload) mid
+    IsReadAt t (entry_offset (slots (class_of t)) place 4) (entry_offset (slots (class_of t)) place 5) kind payload mid
 
--- the words of the item at this place were read among these
+-- the value of the item at this place was read among these
 abbrev pub IsItemRead : ℕ → ℕ → ℕ → ℕ → List Act → Type 0
-IsItemRead t place kind payload mid =
-    Among (ReadTable t (item_offset place 1) kind) mid × Among (ReadTable t (item_offset place 2) payload) mid
+IsItemRead t place kind payload mid = IsReadAt t (item_offset place 1) (item_offset place 2) kind payload mid
 
 -- the slots of the key's probe were passed, up to one that was never used or all of them
 abbrev pub IsAbsent : Shape → List Act → ℕ → ℕ → Key → ℕ → Type 0

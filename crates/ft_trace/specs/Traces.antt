@@ -25,7 +25,7 @@ use Rattle.ft_trace.specs.ContainerStates.{container_after, first_writes, kind_i
 use Rattle.ft_trace.specs.Pictures.{table_words, root_of, picture, Represents}
 use Rattle.ft_trace.specs.Kinds.{rows, version_at, SoundAs, CarefulAs, ClearAs, HasVersions}
 use Rattle.ft_trace.specs.OddVersions.{Shut, Timely, Low}
-use Rattle.ft_trace.specs.Unboxed.{unboxed_picture}
+use Rattle.ft_trace.specs.Unboxed.{unboxed_words, unboxed_picture}
 use Rattle.ft_trace.specs.Boxes.{made_state, local_count, taken_out, place_to_give, references_held, HasReferences, KeepsBox, IsDoneWithBoxes, state_default, state_making}
 use Rattle.ft_trace.specs.FitCalls.{FitsCall}
 use Rattle.ft_trace.specs.Causes.{Loaded, HasCause}
@@ -92,16 +92,17 @@ StandsFor k m cs o = Represents k.texts (unboxed_picture k o m.words) (container
 abbrev pub snap : Moment → List Call → Snap
 snap m cs = record { words = m.words; calls = cs }
 
--- of the table t, while it is that of the container o or is to be
+-- of the words of the table t as they read, while it is that of the container o or is to be
 abbrev pub SoundFor : Shape → List ℕ → ℕ → ℕ → Content → Type 0
-SoundFor k ws o t c = SoundAs (kind_in k.starts o) k.texts (class_of t) (table_words k t ws) c
+SoundFor k ws o t c = SoundAs (kind_in k.starts o) k.texts (class_of t) (unboxed_words k o t ws) c
 
 abbrev pub CarefulFor : Shape → List ℕ → ℕ → ℕ → Content → ℕ → ℕ → Type 0
-CarefulFor k ws o t c i x = CarefulAs (kind_in k.starts o) (class_of t) (table_words k t ws) c i x
+CarefulFor k ws o t c i x = CarefulAs (kind_in k.starts o) (class_of t) (unboxed_words k o t ws) c i x
 
 abbrev pub ClearFor : Shape → List ℕ → ℕ → ℕ → Content → Content → Type 0
-ClearFor k ws o t c d = ClearAs (kind_in k.starts o) k.texts (class_of t) (table_words k t ws) c d
+ClearFor k ws o t c d = ClearAs (kind_in k.starts o) k.texts (class_of t) (unboxed_words k o t ws) c d
 
+-- and of its words as they stand
 abbrev pub ShutFor : Shape → List ℕ → ℕ → ℕ → Type 0
 ShutFor k ws o t =
     Shut (version_at (kind_in k.starts o) (class_of t)) (rows (kind_in k.starts o) (class_of t)) (table_words k t ws)

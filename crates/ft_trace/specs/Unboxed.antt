@@ -5,7 +5,7 @@ use Rattle.ft_model.specs.declared.script.Kind.{Kind}
 use Rattle.ft_trace.specs.declared.Shape.{Shape}
 use Rattle.ft_trace.specs.Addresses.{box_word, class_of, at}
 use Rattle.ft_trace.specs.ContainerStates.{kind_in}
-use Rattle.ft_trace.specs.Pictures.{ContainerWords, picture, root_in}
+use Rattle.ft_trace.specs.Pictures.{ContainerWords, picture, root_in, table_words}
 use Rattle.ft_trace.specs.Kinds.{rows}
 use Rattle.ft_trace.specs.Boxes.{value_at}
 use Rattle.ft_layout.specs.Starts.{kind_word, payload_word}
@@ -38,6 +38,10 @@ unboxed_rows box kind class (suc p) table =
 abbrev pub unboxed_table : (ℕ → ℕ → ℕ) → Kind → ℕ → List ℕ → List ℕ
 unboxed_table box kind zero table = table
 unboxed_table box kind (suc t) table = unboxed_rows box kind (class_of t) (rows kind (class_of t)) table
+
+-- the words of the table t as they read, where it is that of the container o or is to be
+abbrev pub unboxed_words : Shape → ℕ → ℕ → List ℕ → List ℕ
+unboxed_words k o t ws = unboxed_table (box_word_in k ws) (kind_in k.starts o) (suc t) (table_words k t ws)
 
 -- the words of a container as they read
 abbrev pub unboxed : (ℕ → ℕ → ℕ) → Kind → ContainerWords → ContainerWords

@@ -78,18 +78,18 @@ keep_named k b o l low mine some_ z =
     some_ (omega (arith, s, e, z))
 
 -- who is sure keeps
-sure_keeps : (k : Shape) (b i : ℕ) (l : List Act) → knows_box_word k b i l ≡ true → times_kept k b l ≢ 0
+pub sure_keeps : (k : Shape) (b i : ℕ) (l : List Act) → knows_box_word k b i l ≡ true → times_kept k b l ≢ 0
 sure_keeps k b i [] s z = off s
 sure_keeps k b i (a ∷ l) s z = off (sym (here (times_kept k b (a ∷ l)) 0 false (knows_box_word_next b i a (knows_box_word k b i l)) z) ∙ s)
 
 sure_before : (k : Shape) (b i : ℕ) (a : Act) (l : List Act) → knows_box_word k b i (a ∷ l) ≡ true → knows_box_word_next b i a (knows_box_word k b i l) ≡ true
 sure_before k b i a l s = sym (miss (times_kept k b (a ∷ l)) 0 false (knows_box_word_next b i a (knows_box_word k b i l)) (sure_keeps k b i (a ∷ l) s)) ∙ s
 
-sure_after : (k : Shape) (b i : ℕ) (a : Act) (l : List Act) → times_kept k b (a ∷ l) ≢ 0 → knows_box_word_next b i a (knows_box_word k b i l) ≡ true → knows_box_word k b i (a ∷ l) ≡ true
+pub sure_after : (k : Shape) (b i : ℕ) (a : Act) (l : List Act) → times_kept k b (a ∷ l) ≢ 0 → knows_box_word_next b i a (knows_box_word k b i l) ≡ true → knows_box_word k b i (a ∷ l) ≡ true
 sure_after k b i a l some_ s = miss (times_kept k b (a ∷ l)) 0 false (knows_box_word_next b i a (knows_box_word k b i l)) some_ ∙ s
 
 -- an action never takes that away by itself
-sure_stays : (b i : ℕ) (a : Act) (x : Bool) → x ≡ true → knows_box_word_next b i a x ≡ true
+pub sure_stays : (b i : ℕ) (a : Act) (x : Bool) → x ≡ true → knows_box_word_next b i a x ≡ true
 sure_stays b i (PutBox c j y) x e = either_true (eqb c b) (eqb j i) x e
   where
     either_true : (p q x : Bool) → x ≡ true → cond p (cond q true x) x ≡ true

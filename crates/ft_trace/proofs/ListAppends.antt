@@ -29,7 +29,7 @@ use Rattle.ft_trace.specs.Pictures.{root_in, item_offset, item_field}
 use Rattle.ft_trace.specs.ItemWords.{value_words, words_at}
 use Rattle.ft_trace.specs.Kinds.{rows, version_at}
 use Rattle.ft_trace.specs.OddVersions.{Shut}
-use Rattle.ft_trace.specs.Holds.{held_words, known_state, AgreesWith}
+use Rattle.ft_trace.specs.Holds.{held_unboxed, known_state, AgreesWith}
 use Rattle.ft_trace.specs.Traces.{IsReachable}
 use Rattle.ft_trace.specs.Grants.{MayWrite}
 use Rattle.ft_trace.specs.WholeWrites.{WholeWrite, at_commit, at_end, after_write_of}
@@ -58,7 +58,7 @@ get_else [] value (suc q) ne = refl
 get_else (x ∷ xs) value zero ne = refl
 get_else (x ∷ xs) value (suc q) ne = get_else xs value q (λ e. ne (ap suc e))
 
-module _ (versions : VersionsChangeNothing) (one : PutsChangeOneItem) (follow : WordsFollowAnAppend) (v : View) (o t : ℕ) (value : Value) (values : List Value) (may : MayWrite v o) (is_list : (known_state o v).content ≡ content.List values) (names : root_in (held_words o v) ≡ suc t) (room : length values < slots (class_of t)) (fits : FitsStored (Plain value)) where
+module _ (versions : VersionsChangeNothing) (one : PutsChangeOneItem) (follow : WordsFollowAnAppend) (v : View) (o t : ℕ) (value : Value) (values : List Value) (may : MayWrite v o) (is_list : (known_state o v).content ≡ content.List values) (names : root_in (held_unboxed o v) ≡ suc t) (room : length values < slots (class_of t)) (fits : FitsStored (Plain value)) where
   abbrev n : Shape
   n = v.shape
 
@@ -66,10 +66,10 @@ module _ (versions : VersionsChangeNothing) (one : PutsChangeOneItem) (follow : 
   count = length values
 
   abbrev ws : List ℕ
-  ws = (held_words o v).table
+  ws = (held_unboxed o v).table
 
   abbrev old : List ℕ
-  old = (held_words o v).block
+  old = (held_unboxed o v).block
 
   abbrev b : List ℕ
   b = slice_set old 1 (count + 1)

@@ -53,6 +53,10 @@ pub table_long : (k : Shape) (t : ℕ) (ws : List ℕ) → length (table_words k
 unfolding table_words
 table_long k t ws = piece_long ws (at k (cell t 0)) (size (class_of t))
 
+pub block_long : (k : Shape) (o : ℕ) (ws : List ℕ) → length (block_of k o ws) ≡ 6
+unfolding block_of
+block_long k o ws = piece_long ws (at k (block o 0)) 6
+
 block_cell : (k : Shape) (o i : ℕ) → at k (block o 0) + i ≡ at k (block o i)
 block_cell k o i = omega arith
 

@@ -12,17 +12,16 @@ use Rattle.ft_trace.specs.declared.Snap.{Snap}
 use Rattle.ft_trace.specs.declared.View.{View}
 use Rattle.ft_trace.specs.Addresses.{class_of, slots}
 use Rattle.ft_trace.specs.Pictures.{item_offset, item_field, root_in}
-use Rattle.ft_trace.specs.Holds.{held_words, known_state}
+use Rattle.ft_trace.specs.Holds.{held_words, held_unboxed, known_state}
 use Rattle.ft_trace.specs.Traces.{IsReachable}
 use Rattle.ft_trace.specs.Grants.{MayWrite}
-use Rattle.ft_trace.specs.WholeWrites.{Put, to_block, to_table, WholeWrite, after_write_of}
+use Rattle.ft_trace.specs.WholeWrites.{Put, to_block, to_table, to_value, WholeWrite, after_write_of}
 
 -- before the commit the version of the item is made odd, and its kind and payload are put
 abbrev pub item_puts : List ℕ → ℕ → Value → List Put
 item_puts words place value =
     to_table (item_offset place 0) (item_field words place 0 + 1)
-    ∷ to_table (item_offset place 1) (stored_kind (Plain value))
-    ∷ to_table (item_offset place 2) (stored_payload (Plain value))
+    ∷ to_value (item_offset place 1) (item_offset place 2) (stored_kind (Plain value)) (stored_payload (Plain value))
     ∷ []
 
 -- after it the version is made even
@@ -34,10 +33,10 @@ abbrev pub list_set_write : View → ℕ → ℕ → ℤ → Value → WholeWrit
 list_set_write v o place index value =
     record {
       root = None;
-      early = item_puts (held_words o v).table place value;
+      early = item_puts (held_unboxed o v).table place value;
       call = call.List o (list.Set index value);
       reply = reply.Done;
-      late = item_closed (held_words o v).table place;
+      late = item_closed (held_unboxed o v).table place;
     }
 
 -- a pass with the lock of a list may put one of its items, where it has another value, whatever other passes have done
@@ -55,10 +54,10 @@ abbrev pub list_append_write : View → ℕ → ℕ → Value → WholeWrite
 list_append_write v o count value =
     record {
       root = None;
-      early = to_block 1 (count + 1) ∷ item_puts (held_words o v).table count value;
+      early = to_block 1 (count + 1) ∷ item_puts (held_unboxed o v).table count value;
       call = call.List o (list.Append value);
       reply = reply.Done;
-      late = item_closed (held_words o v).table count;
+      late = item_closed (held_unboxed o v).table count;
     }
 
 -- a pass with the lock of a list whose table has room may append an item, whatever other passes have done

@@ -15,10 +15,10 @@ use Rattle.ft_trace.specs.declared.Snap.{Snap}
 use Rattle.ft_trace.specs.declared.View.{View}
 use Rattle.ft_trace.specs.Addresses.{class_of, slots, places}
 use Rattle.ft_trace.specs.Pictures.{index_field, entry_offset, entry_field, root_in}
-use Rattle.ft_trace.specs.Holds.{held_words, known_state}
+use Rattle.ft_trace.specs.Holds.{held_words, held_unboxed, known_state}
 use Rattle.ft_trace.specs.Traces.{IsReachable}
 use Rattle.ft_trace.specs.Grants.{MayWrite}
-use Rattle.ft_trace.specs.WholeWrites.{Put, to_block, to_table, WholeWrite, at_commit, after_write_of}
+use Rattle.ft_trace.specs.WholeWrites.{Put, to_block, to_table, to_value, WholeWrite, at_commit, after_write_of}
 use Rattle.ft_trace.specs.EntryWrites.{entry_closed}
 
 -- the words of a new entry: its version is made odd, its kind is put last, and then the index slot that names it;
@@ -28,8 +28,8 @@ key_puts n words place slot hash key value serial =
     to_table (entry_offset n place 0) (entry_field n words place 0 + 1)
     ∷ to_table (entry_offset n place 1) hash
     ∷ to_table (entry_offset n place 3) (key_payload key)
-    ∷ to_table (entry_offset n place 4) (stored_kind (Plain value))
-    ∷ to_table (entry_offset n place 5) (stored_payload (Plain value))
+    ∷ to_value (entry_offset n place 4) (entry_offset n place 5) (stored_kind (Plain value))
+    (stored_payload (Plain value))
     ∷ to_table (entry_offset n place 6) serial
     ∷ to_table (entry_offset n place 2) (key_kind key)
     ∷ to_table slot (place + 1)
@@ -45,11 +45,11 @@ dict_add_write v o t slot key value pairs =
     record {
       root = None;
       early = count_puts (length pairs.pairs + 1) ((known_state o v).table.fill + 1) (pairs.next + 1)
-          ++ key_puts (slots (class_of t)) (held_words o v).table (known_state o v).table.fill slot
+          ++ key_puts (slots (class_of t)) (held_unboxed o v).table (known_state o v).table.fill slot
           (hash_of v.shape.texts key) key value pairs.next;
       call = call.Dict o (dict.Set key value);
       reply = reply.Done;
-      late = entry_closed (slots (class_of t)) (held_words o v).table (known_state o v).table.fill;
+      late = entry_closed (slots (class_of t)) (held_unboxed o v).table (known_state o v).table.fill;
     }
 
 -- A pass with the lock of a dict whose table has room may add a key, whatever other passes have done, where the index
@@ -59,7 +59,7 @@ KeysMayBeAdded =
     (v : View) (o t slot : ℕ) (key : Key) (value : Value) (pairs : DictContent) → MayWrite v o
     → (known_state o v).content ≡ content.Dict pairs → root_in (held_words o v) ≡ suc t
     → (known_state o v).table.fill < places (class_of t) → slot < slots (class_of t)
-    → index_field (held_words o v).table slot ≡ 0
+    → index_field (held_unboxed o v).table slot ≡ 0
     → has_key pairs.pairs key ≡ false
     → IsDictWords v.shape.texts (at_commit v o (dict_add_write v o t slot key value pairs)).block
     (0 ∷ 0 ∷ (at_commit v o (dict_add_write v o t slot key value pairs)).table) (Some (class_of t))

@@ -44,7 +44,7 @@ module _ (k : Shape) (es : List Event) (valid : Valid k es) (o t p : ℕ) (key :
   abbrev open_ : Opened k es o t j start h.walk
   open_ = open_window k es valid j u at o t low h.walk h.window
 
-  pub back : (walk : List Act) (s : Spot k t j start walk) (xs : List Act) (a : Act) (rest : List Act) → walk ≡ xs ++ a ∷ rest → Back k t j start s.es a rest
+  abbrev pub back : (walk : List Act) (s : Spot k t j start walk) (xs : List Act) (a : Act) (rest : List Act) → walk ≡ xs ++ a ∷ rest → Back k t j start s.es a rest
   back walk s xs a rest is = go k t j start walk open_.table h.window.before s xs a rest is
 
   abbrev top : Back k t j start open_.spot.es load (h.mid ++ load ∷ h.rest)
@@ -60,7 +60,7 @@ module _ (k : Shape) (es : List Event) (valid : Valid k es) (o t p : ℕ) (key :
   later_from : (from : List Event) (a : Act) (rest : List Act) → whose from t ≡ o → (b : Back k t j start from a rest) → Later N (rows (kind_in k.starts o) (class_of t)) (tab k b.spot.es t) (tab k from t)
   later_from from a rest whom b = keyed_later (kind_in k.starts o) keyed (class_of t) (tab k b.spot.es t) (tab k from t) (subst (λ (z : ℕ). LaterIn k z t (tab k b.spot.es t) (tab k from t)) whom b.later)
 
-  pub in_now : (a : Act) (m : Among a h.mid) → Back k t j start now a (m.rest ++ load ∷ h.rest)
+  abbrev pub in_now : (a : Act) (m : Among a h.mid) → Back k t j start now a (m.rest ++ load ∷ h.rest)
   in_now a m = back (h.mid ++ load ∷ h.rest) top.spot m.newer a (m.rest ++ load ∷ h.rest) (ap (λ (l : List Act). l ++ load ∷ h.rest) m.is ∙ append_assoc m.newer (a ∷ m.rest) (load ∷ h.rest))
 
   whom_in : (a : Act) (m : Among a h.mid) → whose (in_now a m).spot.es t ≡ o
@@ -86,7 +86,7 @@ module _ (k : Shape) (es : List Event) (valid : Valid k es) (o t p : ℕ) (key :
       let v = same_version a m in
       (later_from now a (m.rest ++ load ∷ h.rest) whom_now (in_now a m)).same p w small up less (ap (λ (z : ℕ). z % 2) v.1 ∙ h.even) (v.0 ∙ sym v.1)
 
-  abbrev then_ : List Event
+  abbrev pub then_ : List Event
   then_ = (in_now (ReadCounter n) h.stamp).spot.es
 
   names_then : root k then_ o ≡ suc t
@@ -134,11 +134,11 @@ module _ (k : Shape) (es : List Event) (valid : Valid k es) (o t p : ℕ) (key :
   abbrev R : ℕ
   R = rows (kind_in k.starts o) (class_of t)
 
-  abbrev Box : ℕ → ℕ → ℕ
+  abbrev pub Box : ℕ → ℕ → ℕ
   Box = box_word_in k (run k then_).words
 
   -- what the words of the value read then
-  reads_then : (entry_field N (read_tab k then_ o t) p 4 ≡ unboxed_kind Box (entry_field N (tab k then_ t) p 4) (entry_field N (tab k then_ t) p 5)) × (entry_field N (read_tab k then_ o t) p 5 ≡ unboxed_payload Box (entry_field N (tab k then_ t) p 4) (entry_field N (tab k then_ t) p 5))
+  pub reads_then : (entry_field N (read_tab k then_ o t) p 4 ≡ unboxed_kind Box (entry_field N (tab k then_ t) p 4) (entry_field N (tab k then_ t) p 5)) × (entry_field N (read_tab k then_ o t) p 5 ≡ unboxed_payload Box (entry_field N (tab k then_ t) p 4) (entry_field N (tab k then_ t) p 5))
   reads_then =
       let places = keyed_places (kind_in k.starts o) keyed (class_of t) p in
       let long = table_long k t (run k then_).words in
@@ -162,10 +162,10 @@ module _ (k : Shape) (es : List Event) (valid : Valid k es) (o t p : ℕ) (key :
 
   -- ---- a value in a box
   module _ (b : ℕ) (named : IsReadAsBox t (entry_offset N p 4) (entry_offset N p 5) b h.mid) where
-    four : entry_field N (tab k then_ t) p 4 ≡ 4
+    pub four : entry_field N (tab k then_ t) p 4 ≡ 4
     four = word_then 4 4 (omega arith) (omega arith) named.0
 
-    is_box : entry_field N (tab k then_ t) p 5 ≡ b
+    pub is_box : entry_field N (tab k then_ t) p 5 ≡ b
     is_box = word_then 5 b (omega arith) (omega arith) named.1
 
     -- from the moment of an action between, the box has kept its value

@@ -39,7 +39,7 @@ module _ (k : Shape) (es : List Event) (valid : Valid k es) (o t p n : ℕ) (low
   abbrev open_ : Opened k es o t j start h.walk
   open_ = open_window k es valid j u at o t low h.walk h.window
 
-  pub back : (walk : List Act) (s : Spot k t j start walk) (xs : List Act) (a : Act) (rest : List Act) → walk ≡ xs ++ a ∷ rest → Back k t j start s.es a rest
+  abbrev pub back : (walk : List Act) (s : Spot k t j start walk) (xs : List Act) (a : Act) (rest : List Act) → walk ≡ xs ++ a ∷ rest → Back k t j start s.es a rest
   back walk s xs a rest is = go k t j start walk open_.table h.window.before s xs a rest is
 
   abbrev top : Back k t j start open_.spot.es load (h.mid ++ load ∷ h.rest)
@@ -54,7 +54,7 @@ module _ (k : Shape) (es : List Event) (valid : Valid k es) (o t p n : ℕ) (low
   later_from : (from : List Event) (a : Act) (rest : List Act) → whose from t ≡ o → (b : Back k t j start from a rest) → ItemLater (slots (class_of t)) (tab k b.spot.es t) (tab k from t)
   later_from from a rest whom b = items_later (kind_in k.starts o) items (class_of t) (tab k b.spot.es t) (tab k from t) (subst (λ (z : ℕ). LaterIn k z t (tab k b.spot.es t) (tab k from t)) whom b.later)
 
-  pub in_now : (a : Act) (m : Among a h.mid) → Back k t j start now a (m.rest ++ load ∷ h.rest)
+  abbrev pub in_now : (a : Act) (m : Among a h.mid) → Back k t j start now a (m.rest ++ load ∷ h.rest)
   in_now a m = back (h.mid ++ load ∷ h.rest) top.spot m.newer a (m.rest ++ load ∷ h.rest) (ap (λ (l : List Act). l ++ load ∷ h.rest) m.is ∙ append_assoc m.newer (a ∷ m.rest) (load ∷ h.rest))
 
   whom_in : (a : Act) (m : Among a h.mid) → whose (in_now a m).spot.es t ≡ o
@@ -82,7 +82,7 @@ module _ (k : Shape) (es : List Event) (valid : Valid k es) (o t p n : ℕ) (low
       let v = same_version a m in
       (later_from now a (m.rest ++ load ∷ h.rest) whom_now (in_now a m)).same p w small up less (ap (λ (z : ℕ). z % 2) v.1 ∙ h.even) (v.0 ∙ sym v.1)
 
-  abbrev then_ : List Event
+  abbrev pub then_ : List Event
   then_ = (in_now (ReadCounter n) h.stamp).spot.es
 
   word_then : (w f : ℕ) → 0 < w → w < 4 → Among (ReadTable t (item_offset p w) f) h.mid → item_field (tab k then_ t) p w ≡ f
@@ -99,7 +99,7 @@ module _ (k : Shape) (es : List Event) (valid : Valid k es) (o t p n : ℕ) (low
   in_rows : p < R
   in_rows = let l = (items_places (kind_in k.starts o) items (class_of t) p).3 in omega (arith, l, small)
 
-  abbrev Box : ℕ → ℕ → ℕ
+  abbrev pub Box : ℕ → ℕ → ℕ
   Box = box_word_in k (run k then_).words
 
   -- the list at the stamp has at the index what the item said then, as its value read
@@ -116,7 +116,7 @@ module _ (k : Shape) (es : List Event) (valid : Valid k es) (o t p n : ℕ) (low
       (s.0, ap (λ (cs : List Call). words_at (list_of (container_after k.starts cs o).content) p) s.1 ∙ right)
 
   -- what the words of the value read then
-  reads_then : (item_field (read_tab k then_ o t) p 1 ≡ unboxed_kind Box (item_field (tab k then_ t) p 1) (item_field (tab k then_ t) p 2)) × (item_field (read_tab k then_ o t) p 2 ≡ unboxed_payload Box (item_field (tab k then_ t) p 1) (item_field (tab k then_ t) p 2))
+  pub reads_then : (item_field (read_tab k then_ o t) p 1 ≡ unboxed_kind Box (item_field (tab k then_ t) p 1) (item_field (tab k then_ t) p 2)) × (item_field (read_tab k then_ o t) p 2 ≡ unboxed_payload Box (item_field (tab k then_ t) p 1) (item_field (tab k then_ t) p 2))
   reads_then =
       let places = items_places (kind_in k.starts o) items (class_of t) p in
       let long = table_long k t (run k then_).words in
@@ -137,10 +137,10 @@ module _ (k : Shape) (es : List Event) (valid : Valid k es) (o t p n : ℕ) (low
 
   -- ---- a value in a box
   module _ (b : ℕ) (named : IsReadAsBox t (item_offset p 1) (item_offset p 2) b h.mid) where
-    four : item_field (tab k then_ t) p 1 ≡ 4
+    pub four : item_field (tab k then_ t) p 1 ≡ 4
     four = word_then 1 4 (omega arith) (omega arith) named.0
 
-    is_box : item_field (tab k then_ t) p 2 ≡ b
+    pub is_box : item_field (tab k then_ t) p 2 ≡ b
     is_box = word_then 2 b (omega arith) (omega arith) named.1
 
     -- from the moment of an action between, the box has kept its value

@@ -41,7 +41,9 @@ use Rattle.ft_trace.specs.ItemWords.{value_words, words_at}
 use Rattle.ft_trace.specs.Kinds.{is_key, pair_words, element_words, under, rows, IsKeyed, IsItems}
 use Rattle.ft_trace.specs.ContainerStates.{container_after, state_at, kind_in, first_writes, reply_in}
 use Rattle.ft_trace.specs.Traces.{Event, did, forked, joined, sent, history, writes_of, Valid}
-use Rattle.ft_trace.specs.LookReplies.{key_reply, item_reply, DictReplies, stored_at, DictHitsAreReplied, SetHitsAreReplied, MissesAreReplied, ItemsAreReplied, PastItemsAreReplied}
+use Rattle.ft_trace.specs.LookReplies.{key_reply, item_reply, DictReplies, stored_at, DictHitsAreReplied, SetHitsAreReplied, MissesAreReplied, ItemsAreReplied, PastItemsAreReplied, IsValueRead, IsItemRead}
+use Rattle.ft_trace.specs.HeldReads.{IsEntryReadHeld, IsItemReadHeld}
+use Rattle.ft_trace.proofs.HeldReads.{held_hits_are_right, held_items_are_right}
 use Rattle.ft_trace.proofs.FitCalls.{contents_fit}
 use Rattle.ft_trace.proofs.ItemPuts.{none_at}
 use Rattle.ft_trace.proofs.Known.{at_any, kind_then}
@@ -279,8 +281,17 @@ dict_hits_are_replied k es valid o t place key n low is fits small j u at h =
     let p = there dict key fits each some_words in (
       (replies (stored_at k es n) o key (Some p.0.value) (ap (option_map (λ (pair : DictPair). pair.value)) p.1)).has,
       λ kind payload read.
-          let two = read_words t (entry_offset (slots (class_of t)) place 4) (entry_offset (slots (class_of t)) place 5) h.mid (λ w f. slice_index (under (container_after k.starts (first_writes n (history es)) o).content key) w ≡ f)
-          (λ f m in_place. r.2 0 f (omega arith) m (inr in_place)) (λ f m in_place. r.2 1 f (omega arith) m (inr in_place)) r.3 kind payload read in
+          let small_as : place < rows (kind_in k.starts o) (class_of t) = subst (λ (z : Kind). place < rows z (class_of t)) (sym is) small in
+          let Word : ℕ → ℕ → Type 0 = λ w f. slice_index (under (container_after k.starts (first_writes n (history es)) o).content key) w ≡ f in
+          let two : Word 0 kind × Word 1 payload =
+          ⊎_elim
+          (λ (among : IsValueRead t place kind payload h.mid). read_words t (entry_offset (slots (class_of t)) place 4) (entry_offset (slots (class_of t)) place 5) h.mid Word
+          (λ f m in_place. r.2 0 f (omega arith) m (inr in_place)) (λ f m in_place. r.2 1 f (omega arith) m (inr in_place)) r.3 kind payload among)
+          (λ (held : IsEntryReadHeld k u.log o t place key n h kind payload). (
+            held_hits_are_right k es valid o t place key n low (keyed_dict is) small_as j u at h held.0 1 kind held.1 (inl refl) held.2,
+            held_hits_are_right k es valid o t place key n low (keyed_dict is) small_as j u at h held.0 2 payload held.1 (inr refl) held.3,
+          ))
+          read in
           let v = value_there dict key fits each some_words kind payload (sym (word 0) ∙ two.0) (sym (word 1) ∙ two.1) in
           (v.0, v.1, replies (stored_at k es n) o key (Some v.0) v.2),
     )
@@ -324,8 +335,17 @@ items_are_replied k es valid o t place n low is small j u at h kind payload read
     let stored = stored_at k es n in
     let items = list_at stored.world o in
     let r = items_are_right k es valid o t place n low (listed is) small j u at h in
-    let two = read_words t (item_offset place 1) (item_offset place 2) h.mid (λ w f. slice_index (words_at (list_of (container_after k.starts (first_writes n (history es)) o).content) place) w ≡ f)
-    (λ f m in_place. r.1 0 f (omega arith) m in_place) (λ f m in_place. r.1 1 f (omega arith) m in_place) r.2 kind payload read in
+    let Word : ℕ → ℕ → Type 0 = λ w f. slice_index (words_at (list_of (container_after k.starts (first_writes n (history es)) o).content) place) w ≡ f in
+    let small_as : place < slots (class_of t) = small in
+    let two : Word 0 kind × Word 1 payload =
+    ⊎_elim
+    (λ (among : IsItemRead t place kind payload h.mid). read_words t (item_offset place 1) (item_offset place 2) h.mid Word
+    (λ f m in_place. r.1 0 f (omega arith) m in_place) (λ f m in_place. r.1 1 f (omega arith) m in_place) r.2 kind payload among)
+    (λ (held : IsItemReadHeld k u.log o t place n h kind payload). (
+      held_items_are_right k es valid o t place n low (listed is) small_as j u at h held.0 1 kind held.1 (inl refl) held.2,
+      held_items_are_right k es valid o t place n low (listed is) small_as j u at h held.0 2 payload held.1 (inr refl) held.3,
+    ))
+    read in
     let fits : All FitsValue items = list_fits (container_after k.starts (first_writes n (history es)) o).content (fit k es valid o n low) in
     ⊎_elim
     (λ some_one. inl (some_one.0, some_one.1, item_in stored o place (Some some_one.0) some_one.2))

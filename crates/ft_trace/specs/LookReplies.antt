@@ -16,7 +16,6 @@ use Rattle.ft_model.specs.TableUses.{StoredWorld, stored_newest}
 use Rattle.ft_layout.specs.declared.slot.Stored.TheVariants.{Empty, Plain}
 use Rattle.ft_layout.specs.Words.{FitsKey, IsStored}
 use Rattle.ft_trace.specs.declared.Act.{Act}
-use Rattle.ft_trace.specs.declared.Act.TheVariants.{ReadTable}
 use Rattle.ft_trace.specs.declared.Shape.{Shape}
 use Rattle.ft_trace.specs.declared.View.{View}
 use Rattle.ft_trace.specs.Addresses.{container_count, class_of, slots}
@@ -26,6 +25,7 @@ use Rattle.ft_trace.specs.ContainerStates.{first_writes, kind_in, reply_in}
 use Rattle.ft_trace.specs.LoggedLookUps.{Hit, Miss, Full, Bare, ItemHit, ItemPast, IsReadAt}
 use Rattle.ft_trace.specs.Traces.{Event, history, Valid}
 use Rattle.ft_trace.specs.TraceLaws.{HasView}
+use Rattle.ft_trace.specs.HeldReads.{IsEntryReadHeld, IsItemReadHeld}
 
 -- ---- what was read
 
@@ -78,7 +78,7 @@ DictHitsAreReplied =
     → kind_in k.starts o ≡ kind.Dict → FitsKey key → place < rows kind.Dict (class_of t) → (j : ℕ) (u : View)
     → HasView k es j u → (h : Hit u.log o t place key n)
     → (reply_in (stored_at k es n) (call.Dict o (dict.Has key)) ≡ reply.Truth true)
-    × ((kind payload : ℕ) → IsValueRead t place kind payload h.mid
+    × ((kind payload : ℕ) → IsValueRead t place kind payload h.mid ⊎ IsEntryReadHeld k u.log o t place key n h kind payload
     → (value : Value) × IsStored kind payload (Plain value) × DictReplies (stored_at k es n) o key (Some value))
 
 -- a key that was found in a set is there at the stamp
@@ -103,7 +103,8 @@ abbrev pub ItemsAreReplied : Type 0
 ItemsAreReplied =
     (k : Shape) (es : List Event) → Valid k es → (o t place n : ℕ) → o < container_count k
     → kind_in k.starts o ≡ kind.List → place < rows kind.List (class_of t) → (j : ℕ) (u : View) → HasView k es j u
-    → (h : ItemHit u.log o t place n) (kind payload : ℕ) → IsItemRead t place kind payload h.mid
+    → (h : ItemHit u.log o t place n) (kind payload : ℕ)
+    → IsItemRead t place kind payload h.mid ⊎ IsItemReadHeld k u.log o t place n h kind payload
     → ((value : Value) × IsStored kind payload (Plain value)
     × (reply_in (stored_at k es n) (call.List o (list.Get (pos place))) ≡ item_reply (Some value)))
     ⊎ (IsStored kind payload Empty

@@ -3,6 +3,7 @@
 ghost use Rattle.ft_trace.specs.BoxLaws.{ReferencesAreCounted, DeadBoxesHaveNoReference, PlacesAreGivenBackOnce, RaisesAreOfLiveBoxes, LocalCountsAreTheMakers, ReferencedValuesStay, HeldValuesStay, OthersLeaveWhatIsRead, WordsStandThroughBoxes, HoldersKnowWhatIsRead, QuietBoxesStay};
 ghost use Rattle.ft_trace.specs.HeapPlaces.{FullWordsHaveNoFreePlace, OwnFreePlacesStay};
 ghost use Rattle.ft_trace.specs.QuietEntries.{QuietEntriesKeepBoxes};
+ghost use Rattle.ft_trace.specs.HeldReads.{HeldHitsAreRight, HeldItemsAreRight};
 ghost use Rattle.ft_trace.specs.OddValues.{OddValuesMayBeAny};
 ghost use Rattle.ft_trace.specs.BoxPuts.{PutsHaveReferences};
 ghost use Rattle.ft_trace.specs.BoxGrowths.{GrowthsMoveReferences};
@@ -68,6 +69,13 @@ pub fn quiet_boxes_stay()
 /// While an entry or item of a current table keeps an even version, so does the value in the box that it names.
 pub fn quiet_entries_keep_boxes()
     ensures { QuietEntriesKeepBoxes }
+{}
+
+/// What was read in a box, under a reference that was held since before the counter was loaded, is the content's
+/// at the stamp, if an entry or item that was looked up named the box.
+pub fn held_boxes_are_right()
+    ensures entries { HeldHitsAreRight }
+    ensures items { HeldItemsAreRight }
 {}
 
 /// What holds of a table for readers without the lock holds whatever a value reads whose version is odd.

@@ -10,8 +10,8 @@ use Rattle.ft_trace.specs.BoxWords.{dead_word}
 
 -- A word of the bank: the counter; the write number; the announced number of a pass, by the number that lock words
 -- have for it; the count of a class; a free word, sixteen for each class; of a container's block the lock, the
--- version, and words 2 to 7; of a pass's heap a word of the bits of its places, and of a box one of its four words; of a
--- table the goal, and the words after its header.
+-- version, and words 2 to 7; of a pass's heap a word of the bits of its places, and of a box one of its four words; of
+-- a table the goal, and the words after its header.
 pub data Word : Type 0 where
   counter : Word
   write_number : Word

@@ -1,5 +1,6 @@
--- Which references the put of a root needs: a growth moves those of the table that the root named, and changes no count.
-use Rattle.std.specs.Prelude.{◌≡◌, ◌≢◌, ℕ, suc, ◌+◌, ◌^◌, ◌<◌, ◌≤◌, true, List, ◌∷◌, length, slice_index}
+-- Which references the put of a root needs: a growth moves those of the table that the root named, and changes no
+-- count.
+use Rattle.std.specs.Prelude.{◌≡◌, ◌≢◌, ℕ, suc, ◌+◌, ◌^◌, ◌<◌, ◌≤◌, true, List, ◌∷◌, length}
 use Rattle.ft_trace.specs.declared.Shape.{Shape}
 use Rattle.ft_trace.specs.declared.Act.{Act}
 use Rattle.ft_trace.specs.declared.Act.TheVariants.{PutRoot}
@@ -8,21 +9,20 @@ use Rattle.ft_trace.specs.Acts.{mem}
 use Rattle.ft_trace.specs.ContainerStates.{kind_in}
 use Rattle.ft_trace.specs.Pictures.{table_words, root_of}
 use Rattle.ft_trace.specs.Kinds.{rows}
-use Rattle.ft_trace.specs.Boxes.{value_at, references_held, named_in_container, HasReferences}
+use Rattle.ft_trace.specs.Boxes.{row_kind, row_payload, references_held, named_in_container, HasReferences}
 use Rattle.ft_trace.specs.BoxWords.{box_kind}
 
 -- the values of the first rows are those of the other table, and later ones name no box
 pub record CopiesValues (k : Shape) (o q t : ℕ) (ws : List ℕ) : Type 0 where
   pub more : rows (kind_in k.starts o) (class_of q) ≤ rows (kind_in k.starts o) (class_of t)
   pub kind_is : (p : ℕ) → p < rows (kind_in k.starts o) (class_of q)
-      → slice_index (table_words k t ws) (value_at (kind_in k.starts o) (class_of t) p)
-      ≡ slice_index (table_words k q ws) (value_at (kind_in k.starts o) (class_of q) p)
+      → row_kind k o t (table_words k t ws) p ≡ row_kind k o q (table_words k q ws) p
   pub payload_is : (p : ℕ) → p < rows (kind_in k.starts o) (class_of q)
-      → slice_index (table_words k t ws) (suc (value_at (kind_in k.starts o) (class_of t) p))
-      ≡ slice_index (table_words k q ws) (suc (value_at (kind_in k.starts o) (class_of q) p))
+      → row_payload k o t (table_words k t ws) p ≡ row_payload k o q (table_words k q ws) p
   pub none : (p : ℕ) → rows (kind_in k.starts o) (class_of q) ≤ p → p < rows (kind_in k.starts o) (class_of t)
-      → slice_index (table_words k t ws) (value_at (kind_in k.starts o) (class_of t) p) ≢ box_kind
+      → row_kind k o t (table_words k t ws) p ≢ box_kind
 
+-- the root may be put, and the pass holds as many references for each box as before
 abbrev pub GrowthsMoveReferences : Type 0
 GrowthsMoveReferences =
     (k : Shape) (l : List Act) (o q t : ℕ) → o < container_count k → IsTableName k t → length (mem k l) ≡ extent k

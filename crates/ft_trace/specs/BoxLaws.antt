@@ -12,7 +12,7 @@ use Rattle.ft_trace.specs.ContainerStates.{kind_in}
 use Rattle.ft_trace.specs.Pictures.{picture, root_of, inner}
 use Rattle.ft_trace.specs.Kinds.{rows}
 use Rattle.ft_trace.specs.Entries.{total}
-use Rattle.ft_trace.specs.Boxes.{value_at, made_state, references_held, known_box_word, state_default, state_making, state_merged, state_none}
+use Rattle.ft_trace.specs.Boxes.{row_kind, row_payload, made_state, references_held, known_box_word, state_default, state_making, state_merged, state_none}
 use Rattle.ft_trace.specs.BoxTraces.{box_state, shared_count, maker_part, place_to_give_by, references, place_bit, default_word_of, merged_word_of, shared_zero}
 use Rattle.ft_trace.specs.HeldBoxes.{HeldSince, SameValue}
 use Rattle.ft_trace.specs.Unboxed.{unboxed, unboxed_picture}
@@ -21,8 +21,9 @@ use Rattle.ft_layout.specs.Starts.{kind_word, local_word, payload_word, shared_w
 use Rattle.ft_trace.specs.BoxWords.{box_kind, dead_word}
 
 -- The counts of a box in the default state add up to its references: what its maker has in the local count or took out
--- of it in a merge, and the count in the shared word, which is 2 ^ 61 too high here. Of a merged box the shared count is
--- the references. A place that is free or in which a box is being made has a dead box, for which there is no reference.
+-- of it in a merge, and the shared count, to which shared_zero is added here. Of a merged box the shared count is the
+-- references. Where a place is free or a box is being made, the shared word is that of a dead box, and there is no
+-- reference.
 abbrev pub ReferencesAreCounted : Type 0
 ReferencesAreCounted =
     (k : Shape) (b : ℕ) (es : List Event) → Valid k es → IsBoxName k b
@@ -34,15 +35,15 @@ ReferencesAreCounted =
     × (box_state b es ≤ state_merged)
     × (state_default ≤ box_state b es → (2 ^ 60 ≤ shared_count b es) × (shared_count b es < shared_zero + 2 ^ 40))
 
--- a box whose shared word is 3 has no reference, and of a merged box with no reference it is 3
+-- a box whose shared word is that of a dead one has no reference, and a merged box without a reference is dead
 abbrev pub DeadBoxesHaveNoReference : Type 0
 DeadBoxesHaveNoReference =
     (k : Shape) (b : ℕ) (es : List Event) → Valid k es → IsBoxName k b
     → (word k es (box_word b shared_word) ≡ dead_word → references k b es ≡ 0)
     × (box_state b es ≡ state_merged → references k b es ≡ 0 → word k es (box_word b shared_word) ≡ dead_word)
 
--- A place is free exactly where its bit is 1. One that isn't free and whose box was merged has references, but where the
--- one pass that brought the word to 3 has still to give the place back.
+-- A place is free exactly where its bit is 1. One that isn't free and whose box was merged has references, but where
+-- the one pass that brought the shared word to that of a dead box has still to give the place back.
 abbrev pub PlacesAreGivenBackOnce : Type 0
 PlacesAreGivenBackOnce =
     (k : Shape) (b : ℕ) (es : List Event) → Valid k es → IsBoxName k b
@@ -61,7 +62,8 @@ RaisesAreOfLiveBoxes =
 abbrev pub LocalCountsAreTheMakers : Type 0
 LocalCountsAreTheMakers =
     (k : Shape) (es : List Event) (id : ℕ) (v : View) (a : Act) → Valid k (did id v a ∷ es) → (b : ℕ) → IsBoxName k b
-    → (j : ℕ) (u : View) → j ≢ id → get_elem? (run k es).views j ≡ some u → (made_state b u.log ≡ state_making) ⊎ (made_state b u.log ≡ state_default)
+    → (j : ℕ) (u : View) → j ≢ id → get_elem? (run k es).views j ≡ some u
+    → (made_state b u.log ≡ state_making) ⊎ (made_state b u.log ≡ state_default)
     → word k (did id v a ∷ es) (box_word b local_word) ≡ word k es (box_word b local_word)
 
 -- a box for which there is a reference keeps its value
@@ -108,10 +110,8 @@ QuietBoxesStay =
     → word k older (version_of o) % 2 ≡ 0 → word k (newer ++ older) (version_of o) ≡ word k older (version_of o)
     → (unboxed_picture k o (run k (newer ++ older)).words ≡ unboxed_picture k o (run k older).words)
     × ((t p i : ℕ) → root_of k o (run k older).words ≡ suc t → p < rows (kind_in k.starts o) (class_of t)
-    → slice_index (inner k (root_of k o (run k older).words) (run k older).words)
-    (value_at (kind_in k.starts o) (class_of t) p) ≡ box_kind
+    → row_kind k o t (inner k (root_of k o (run k older).words) (run k older).words) p ≡ box_kind
     → (i ≡ kind_word) ⊎ (i ≡ payload_word)
-    → word k (newer ++ older) (box_word (slice_index (inner k (root_of k o (run k older).words) (run k older).words)
-    (suc (value_at (kind_in k.starts o) (class_of t) p))) i)
-    ≡ word k older (box_word (slice_index (inner k (root_of k o (run k older).words) (run k older).words)
-    (suc (value_at (kind_in k.starts o) (class_of t) p))) i))
+    → word k (newer ++ older)
+    (box_word (row_payload k o t (inner k (root_of k o (run k older).words) (run k older).words) p) i)
+    ≡ word k older (box_word (row_payload k o t (inner k (root_of k o (run k older).words) (run k older).words) p) i))

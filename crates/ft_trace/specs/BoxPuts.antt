@@ -8,9 +8,14 @@ use Rattle.ft_trace.specs.Acts.{mem}
 use Rattle.ft_trace.specs.ContainerStates.{kind_in}
 use Rattle.ft_trace.specs.Pictures.{table_words, root_of}
 use Rattle.ft_trace.specs.Kinds.{rows}
-use Rattle.ft_trace.specs.Boxes.{value_at, references_held, knows_box_word, HasReferences}
+use Rattle.ft_trace.specs.Boxes.{value_at, row_kind, row_payload, references_held, knows_box_word, HasReferences}
 use Rattle.ft_layout.specs.Starts.{kind_word, payload_word}
 use Rattle.ft_trace.specs.BoxWords.{box_kind}
+
+-- the pass holds a reference for the box, and knows its value
+abbrev pub HasOwnReference : Shape → List Act → ℕ → Type 0
+HasOwnReference k l b =
+    (0 < references_held k b l) × (knows_box_word k b kind_word l ≡ true) × (knows_box_word k b payload_word l ≡ true)
 
 -- A word that is no value's needs none. A word of the value in row p needs one where the value names a box after the
 -- put: a reference for that box, whose value the pass knows.
@@ -23,11 +28,6 @@ PutsHaveReferences =
     → HasReferences k l (PutTable o t i x) o)
     × ((p : ℕ) → p < rows (kind_in k.starts o) (class_of t)
     → (i ≡ value_at (kind_in k.starts o) (class_of t) p) ⊎ (i ≡ suc (value_at (kind_in k.starts o) (class_of t) p))
-    → (slice_index (slice_set (table_words k t (mem k l)) i x) (value_at (kind_in k.starts o) (class_of t) p) ≡ box_kind
-    → (0 < references_held k
-    (slice_index (slice_set (table_words k t (mem k l)) i x) (suc (value_at (kind_in k.starts o) (class_of t) p))) l)
-    × (knows_box_word k
-    (slice_index (slice_set (table_words k t (mem k l)) i x) (suc (value_at (kind_in k.starts o) (class_of t) p))) kind_word l ≡ true)
-    × (knows_box_word k
-    (slice_index (slice_set (table_words k t (mem k l)) i x) (suc (value_at (kind_in k.starts o) (class_of t) p))) payload_word l ≡ true))
+    → (row_kind k o t (slice_set (table_words k t (mem k l)) i x) p ≡ box_kind
+    → HasOwnReference k l (row_payload k o t (slice_set (table_words k t (mem k l)) i x) p))
     → HasReferences k l (PutTable o t i x) o)

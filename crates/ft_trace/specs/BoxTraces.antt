@@ -114,7 +114,9 @@ place_bit k b es = bit (place_bit_of b) (word k es (heap_bits (maker_of b) (plac
 
 -- what holds of a box at every moment
 pub record BoxInvariant (k : Shape) (b : ℕ) (es : List Event) : Type 0 where
-  pub counts : CountsAgree (box_state b es) (shared_count b es) (total (making_box b) (run k es).views) (total (has_in_default b) (run k es).views) (total (maker_part b) (run k es).views) (references k b es) (total (place_to_give_by b) (run k es).views)
+  pub counts : CountsAgree (box_state b es) (shared_count b es) (total (making_box b) (run k es).views)
+      (total (has_in_default b) (run k es).views) (total (maker_part b) (run k es).views) (references k b es)
+      (total (place_to_give_by b) (run k es).views)
   pub word : IsBoxName k b → IsSharedWord (box_state b es) (shared_count b es) (word k es (box_word b shared_word))
   pub free : IsBoxName k b → box_state b es ≡ state_none → place_bit k b es ≡ 1
   pub taken : IsBoxName k b → box_state b es ≢ state_none → place_bit k b es ≡ 0

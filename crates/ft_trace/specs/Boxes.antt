@@ -1,6 +1,6 @@
--- Boxes with biased counts: what a pass knows of those that it made, and which references it holds. A box has two counts,
--- one that its maker alone writes and one that all passes share; what they add up to is how many references there are.
--- (PEP 703, "Biased Reference Counting"; the rest is of the profile)
+-- Boxes with biased counts: what a pass knows of those that it made, and which references it holds. A box has two
+-- counts, one that its maker alone writes and one that all passes share; what they add up to is how many references
+-- there are. (PEP 703, "Biased Reference Counting"; the rest is of the profile)
 use Rattle.std.specs.Prelude.{◌≡◌, ◌≢◌, ◌⊎◌, ℕ, zero, suc, ◌+◌, ◌-◌, ◌*◌, ◌/◌, ◌%◌, ◌^◌, ◌<◌, ◌≤◌, ◌==◌, Bool, true, false, cond, List, [], ◌∷◌, slice_index}
 use Rattle.ft_model.specs.declared.script.Kind.{Kind}
 use Rattle.ft_model.specs.declared.script.Kind.TheVariants as kind
@@ -45,12 +45,20 @@ value_at kind.Dict class p = entry_offset (slots class) p 4
 value_at kind.Set class p = entry_offset (slots class) p 4
 value_at (kind.Deque bound) class p = item_offset p 1
 
+-- the kind of the value in row p of a table of o with these words, where its root names t; and its payload
+abbrev pub row_kind : Shape → ℕ → ℕ → List ℕ → ℕ → ℕ
+row_kind k o t table p = slice_index table (value_at (kind_in k.starts o) (class_of t) p)
+
+abbrev pub row_payload : Shape → ℕ → ℕ → List ℕ → ℕ → ℕ
+row_payload k o t table p = slice_index table (suc (value_at (kind_in k.starts o) (class_of t) p))
+
 -- 1 where a value of this kind and payload names the box b, else 0
 abbrev pub names_box : ℕ → ℕ → ℕ → ℕ
 names_box b kind payload = cond (kind == box_kind) (cond (payload == b) 1 0) 0
 
 abbrev pub names_box_at : ℕ → Kind → ℕ → List ℕ → ℕ → ℕ
-names_box_at b kind class ws p = names_box b (slice_index ws (value_at kind class p)) (slice_index ws (suc (value_at kind class p)))
+names_box_at b kind class ws p =
+    names_box b (slice_index ws (value_at kind class p)) (slice_index ws (suc (value_at kind class p)))
 
 -- how many values of a table with this root name it; those of a deque name none
 abbrev pub named_in_root : ℕ → Kind → ℕ → List ℕ → ℕ
@@ -101,8 +109,8 @@ abbrev pub taken_out : ℕ → List Act → ℕ
 taken_out b [] = 0
 taken_out b (a ∷ l) = taken_out_next b a (local_count b l) (taken_out b l)
 
--- how often the pass has its place to give back: once from the step by which it brought the shared word to that of a dead
--- box, until it gives the place back
+-- how often the pass has its place to give back: once from the step by which it brought the shared word to that of a
+-- dead box, until it gives the place back
 abbrev pub place_to_give_next : ℕ → Act → ℕ → ℕ
 place_to_give_next b (MergeCounts c d f) n = cond (c == b) (cond ((f + d) % 2 ^ 64 == dead_word) 1 n) n
 place_to_give_next b (DropShared c f) n = cond (c == b) (cond (lowered_word f == dead_word) 1 n) n
@@ -118,8 +126,10 @@ place_to_give b (a ∷ l) = place_to_give_next b a (place_to_give b l)
 -- A put into a table that a root names, or of a root, gives the pass the references of what the container's words named
 -- before it, and takes those of what they name after it.
 abbrev pub references_held_next : Shape → ℕ → List ℕ → List ℕ → Act → ℕ → ℕ
-references_held_next k b before after (PutTable o t i x) n = n + named_in_container k b o before - named_in_container k b o after
-references_held_next k b before after (PutRoot o r old) n = n + named_in_container k b o before - named_in_container k b o after
+references_held_next k b before after (PutTable o t i x) n =
+    n + named_in_container k b o before - named_in_container k b o after
+references_held_next k b before after (PutRoot o r old) n =
+    n + named_in_container k b o before - named_in_container k b o after
 references_held_next k b before after (PublishBox c) n = cond (c == b) (n + 1) n
 references_held_next k b before after (RaiseLocal c x) n = cond (c == b) (n + 1) n
 references_held_next k b before after (DropLocal c x) n = cond (c == b) (n - 1) n
@@ -140,7 +150,8 @@ abbrev pub times_kept : Shape → ℕ → List Act → ℕ
 times_kept k b l =
     references_held k b l
     + (cond (made_state b l == state_making) 1 0
-    + (cond (made_state b l == state_default) 1 0 + sum_to (λ o. cond (has_lock o l) (named_in_container k b o (mem k l)) 0) (container_count k)))
+    + (cond (made_state b l == state_default) 1 0
+    + sum_to (λ o. cond (has_lock o l) (named_in_container k b o (mem k l)) 0) (container_count k)))
 
 -- word i of the box, as the pass found or put it last
 abbrev pub known_box_word_next : Shape → ℕ → ℕ → Act → ℕ → ℕ
@@ -164,12 +175,13 @@ knows_box_word_next b i act x = x
 
 abbrev pub knows_box_word : Shape → ℕ → ℕ → List Act → Bool
 knows_box_word k b i [] = false
-knows_box_word k b i (a ∷ l) = cond (times_kept k b (a ∷ l) == 0) false (knows_box_word_next b i a (knows_box_word k b i l))
+knows_box_word k b i (a ∷ l) =
+    cond (times_kept k b (a ∷ l) == 0) false (knows_box_word_next b i a (knows_box_word k b i l))
 
 -- ---- conditions
 
--- A put may be made only with the references that its words need, and so that the pass holds less than 2 ^ 32 then. Where
--- the container named a box in no word before it, the pass knows the box's value.
+-- A put may be made only with the references that its words need, and so that the pass holds less than 2 ^ 32 then.
+-- Where the container named a box in no word before it, the pass knows the box's value.
 abbrev pub HasReferences : Shape → List Act → Act → ℕ → Type 0
 HasReferences k l a o =
     (b : ℕ) → (named_in_container k b o (mem k (a ∷ l)) ≤ references_held k b l + named_in_container k b o (mem k l))
@@ -185,4 +197,6 @@ KeepsBox k b l =
 
 -- the pass holds no reference, makes no box, has merged each box that it made, and has no place to give back
 abbrev pub IsDoneWithBoxes : Shape → List Act → Type 0
-IsDoneWithBoxes k l = (b : ℕ) → (references_held k b l ≡ 0) × (made_state b l ≢ state_making) × (made_state b l ≢ state_default) × (place_to_give b l ≡ 0)
+IsDoneWithBoxes k l =
+    (b : ℕ) → (references_held k b l ≡ 0) × (made_state b l ≢ state_making) × (made_state b l ≢ state_default)
+    × (place_to_give b l ≡ 0)

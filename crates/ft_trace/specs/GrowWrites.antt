@@ -48,7 +48,8 @@ pub record HasGrown (v : View) (o t place : ℕ) (key : Key) (value : Value) (pa
   pub low : place < places (class_of t)
   pub live : HasLiveKey (slots (class_of t)) (hand_unboxed o t v) place key
   pub open_entry : entry_field (slots (class_of t)) (hand_unboxed o t v) place 0 ≡ 1
-  pub others : (p : ℕ) → p < places (class_of t) → p ≢ place → entry_field (slots (class_of t)) (hand_unboxed o t v) p 0 ≡ 0
+  pub others : (p : ℕ) → p < places (class_of t) → p ≢ place
+      → entry_field (slots (class_of t)) (hand_unboxed o t v) p 0 ≡ 0
 
 -- a pass with the lock of a dict that has such a table in hand may put it in the root and add the key, whatever other
 -- passes have done

@@ -21,14 +21,19 @@ use Rattle.ft_trace.specs.TraceLaws.{HasView}
 
 -- The word i of the box b was read after the look-up's last read of the root, and found to be f. The pass has held a
 -- reference for the box at each moment since it loaded the counter, between the two loads of the version.
-pub record IsReadHeld (k : Shape) (log : List Act) (o t : ℕ) (walk : List Act) (window : LookUpWindow log o t walk) (newer : List Act) (load : Act) (mid rest : List Act) (n : ℕ) (stamp : Among (ReadCounter n) mid) (b i f : ℕ) : Type 0 where
+pub record IsReadHeld (k : Shape) (log : List Act) (o t : ℕ) (walk : List Act) (window : LookUpWindow log o t walk)
+    (newer : List Act) (load : Act) (mid rest : List Act) (n : ℕ) (stamp : Among (ReadCounter n) mid)
+    (b i f : ℕ) : Type 0 where
   pub later : List Act
   pub after : List Act
   pub is : window.newer ≡ later ++ ReadBox b i f ∷ after
-  pub held : HeldSince k b ((after ++ ReadRoot o (suc t) ∷ []) ++ ((newer ++ load ∷ []) ++ (stamp.newer ++ ReadCounter n ∷ []))) ((stamp.rest ++ load ∷ rest) ++ window.rest)
+  pub held : HeldSince k b
+      ((after ++ ReadRoot o (suc t) ∷ []) ++ ((newer ++ load ∷ []) ++ (stamp.newer ++ ReadCounter n ∷ [])))
+      ((stamp.rest ++ load ∷ rest) ++ window.rest)
 
 -- the same of an entry that was found, and of an item
-abbrev pub IsEntryHeld : Shape → (log : List Act) (o t p : ℕ) (key : Key) (n : ℕ) → Hit log o t p key n → ℕ → ℕ → ℕ → Type 0
+abbrev pub IsEntryHeld : Shape → (log : List Act) (o t p : ℕ) (key : Key) (n : ℕ) → Hit log o t p key n → ℕ → ℕ → ℕ
+    → Type 0
 IsEntryHeld k log o t p key n h b i f =
     IsReadHeld k log o t h.walk h.window h.newer (ReadTable t (entry_offset (slots (class_of t)) p 0) h.version) h.mid
     h.rest n h.stamp b i f
@@ -38,7 +43,8 @@ IsItemHeld k log o t p n h b i f =
     IsReadHeld k log o t h.walk h.window h.newer (ReadTable t (item_offset p 0) h.version) h.mid h.rest n h.stamp b i f
 
 -- the entry, or the item, named a box, and its value was read so there, as this kind and payload
-abbrev pub IsEntryReadHeld : Shape → (log : List Act) (o t p : ℕ) (key : Key) (n : ℕ) → Hit log o t p key n → ℕ → ℕ → Type 0
+abbrev pub IsEntryReadHeld : Shape → (log : List Act) (o t p : ℕ) (key : Key) (n : ℕ) → Hit log o t p key n → ℕ → ℕ
+    → Type 0
 IsEntryReadHeld k log o t p key n h kind payload =
     (b : ℕ)
     × IsReadAsBox t (entry_offset (slots (class_of t)) p 4) (entry_offset (slots (class_of t)) p 5) b h.mid

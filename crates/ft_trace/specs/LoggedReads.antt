@@ -38,7 +38,8 @@ pub record Agrees (k : Shape) (o : ℕ) (mid : List Act) (x : ContainerWords) : 
 -- The reads of boxes among these that x names found what `box` tells: what was read of another box says nothing.
 abbrev pub AgreesBoxes : Shape → ℕ → List Act → ContainerWords → (ℕ → ℕ → ℕ) → Type 0
 AgreesBoxes k o mid x box =
-    (b i f : ℕ) → (i ≡ 1) ⊎ (i ≡ 2) → named_in_root b (kind_in k.starts o) (root_in x) x.table ≢ 0 → Among (ReadBox b i f) mid
+    (b i f : ℕ) → (i ≡ 1) ⊎ (i ≡ 2) → named_in_root b (kind_in k.starts o) (root_in x) x.table ≢ 0
+    → Among (ReadBox b i f) mid
     → f ≡ box b i
 
 -- there is no table and nothing in the container
@@ -49,7 +50,8 @@ IsNothing kept = (kept.table.class ≡ None) × (length_of kept.content ≡ 0)
 abbrev pub AnswersOn : Shape → Call → ℕ → Reply → List Act → Type 0
 AnswersOn k call o r mid =
     (x : ContainerWords) (box : ℕ → ℕ → ℕ) (t : StoredWorld) → kind_of (state_at t o).content ≡ kind_in k.starts o
-    → Represents k.texts (unboxed box (kind_in k.starts o) x) (state_at t o) → Agrees k o mid x → AgreesBoxes k o mid x box
+    → Represents k.texts (unboxed box (kind_in k.starts o) x) (state_at t o) → Agrees k o mid x
+    → AgreesBoxes k o mid x box
     → reply_in t call ≡ r
 
 -- the reply to a call about o was read between two equal even loads of its version, and the counter loaded between them

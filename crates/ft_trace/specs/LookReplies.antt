@@ -78,7 +78,8 @@ DictHitsAreReplied =
     → kind_in k.starts o ≡ kind.Dict → FitsKey key → place < rows kind.Dict (class_of t) → (j : ℕ) (u : View)
     → HasView k es j u → (h : Hit u.log o t place key n)
     → (reply_in (stored_at k es n) (call.Dict o (dict.Has key)) ≡ reply.Truth true)
-    × ((kind payload : ℕ) → IsValueRead t place kind payload h.mid ⊎ IsEntryReadHeld k u.log o t place key n h kind payload
+    × ((kind payload : ℕ) → IsValueRead t place kind payload h.mid
+    ⊎ IsEntryReadHeld k u.log o t place key n h kind payload
     → (value : Value) × IsStored kind payload (Plain value) × DictReplies (stored_at k es n) o key (Some value))
 
 -- a key that was found in a set is there at the stamp

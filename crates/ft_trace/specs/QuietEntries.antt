@@ -6,7 +6,7 @@ use Rattle.ft_trace.specs.Ages.{age}
 use Rattle.ft_trace.specs.ContainerStates.{kind_in}
 use Rattle.ft_trace.specs.Pictures.{table_words}
 use Rattle.ft_trace.specs.Kinds.{rows, version_at}
-use Rattle.ft_trace.specs.Boxes.{value_at}
+use Rattle.ft_trace.specs.Boxes.{row_kind, row_payload}
 use Rattle.ft_trace.specs.Traces.{Event, run, word, Valid}
 use Rattle.ft_layout.specs.Starts.{kind_word, payload_word}
 use Rattle.ft_trace.specs.BoxWords.{box_kind}
@@ -16,13 +16,11 @@ use Rattle.ft_trace.specs.BoxWords.{box_kind}
 abbrev pub QuietEntriesKeepBoxes : Type 0
 QuietEntriesKeepBoxes =
     (k : Shape) (newer older : List Event) → Valid k (newer ++ older) → (o : ℕ) → o < container_count k → (t p i : ℕ)
-    → word k older (block o 0) ≡ suc t → age (newer ++ older) t ≡ age older t → p < rows (kind_in k.starts o) (class_of t)
+    → word k older (block o 0) ≡ suc t → age (newer ++ older) t ≡ age older t
+    → p < rows (kind_in k.starts o) (class_of t)
     → slice_index (table_words k t (run k older).words) (version_at (kind_in k.starts o) (class_of t) p) % 2 ≡ 0
     → slice_index (table_words k t (run k (newer ++ older)).words) (version_at (kind_in k.starts o) (class_of t) p)
     ≡ slice_index (table_words k t (run k older).words) (version_at (kind_in k.starts o) (class_of t) p)
-    → slice_index (table_words k t (run k older).words) (value_at (kind_in k.starts o) (class_of t) p) ≡ box_kind
-    → (i ≡ kind_word) ⊎ (i ≡ payload_word)
-    → word k (newer ++ older)
-    (box_word (slice_index (table_words k t (run k older).words) (suc (value_at (kind_in k.starts o) (class_of t) p))) i)
-    ≡ word k older
-    (box_word (slice_index (table_words k t (run k older).words) (suc (value_at (kind_in k.starts o) (class_of t) p))) i)
+    → row_kind k o t (table_words k t (run k older).words) p ≡ box_kind → (i ≡ kind_word) ⊎ (i ≡ payload_word)
+    → word k (newer ++ older) (box_word (row_payload k o t (table_words k t (run k older).words) p) i)
+    ≡ word k older (box_word (row_payload k o t (table_words k t (run k older).words) p) i)

@@ -254,12 +254,14 @@ May k m cs v (ReadFreePlaces q w f) = (q < k.passes) × (w < k.heap / 64)
 May k m cs v (ReadBox b i f) = IsBoxName k b × (i < box_size)
 -- a place of its own heap, where it keeps no box that wasn't merged
 May k m cs v (TakePlace b f) =
-    IsBoxName k b × (v.number ≡ suc (maker_of b)) × (made_state b v.log ≢ state_making) × (made_state b v.log ≢ state_default)
+    IsBoxName k b × (v.number ≡ suc (maker_of b)) × (made_state b v.log ≢ state_making)
+    × (made_state b v.log ≢ state_default)
 -- a box that it is making
 May k m cs v (PutBox b i x) = IsBoxName k b × (i < box_size) × (made_state b v.log ≡ state_making) × (i ≢ shared_word)
 -- with local count 1
 May k m cs v (PublishBox b) =
-    IsBoxName k b × (made_state b v.log ≡ state_making) × (local_count b v.log ≡ 1) × (references_held k b v.log + 1 < 2 ^ 32)
+    IsBoxName k b × (made_state b v.log ≡ state_making) × (local_count b v.log ≡ 1)
+    × (references_held k b v.log + 1 < 2 ^ 32)
 -- its own box in the default state
 May k m cs v (RaiseLocal b x) =
     IsBoxName k b
@@ -269,13 +271,16 @@ May k m cs v (RaiseLocal b x) =
     × (taken_out b v.log ≡ 0)
     × (references_held k b v.log + 1 < 2 ^ 32)
 May k m cs v (DropLocal b x) =
-    IsBoxName k b × (made_state b v.log ≡ state_default) × (local_count b v.log ≡ x + 1) × (0 < references_held k b v.log)
+    IsBoxName k b × (made_state b v.log ≡ state_default) × (local_count b v.log ≡ x + 1)
+    × (0 < references_held k b v.log)
 May k m cs v (ClearLocal b) = IsBoxName k b × (made_state b v.log ≡ state_default) × (taken_out b v.log ≡ 0)
 May k m cs v (MergeCounts b d f) =
-    IsBoxName k b × (made_state b v.log ≡ state_default) × (local_count b v.log ≡ 0) × (d ≡ count_unit * taken_out b v.log + merged_bits)
+    IsBoxName k b × (made_state b v.log ≡ state_default) × (local_count b v.log ≡ 0)
+    × (d ≡ count_unit * taken_out b v.log + merged_bits)
 -- any other box, from a word that isn't that of a dead one
 May k m cs v (RaiseShared b old f) =
-    IsBoxName k b × (made_state b v.log ≢ state_default) × (old ≢ dead_word) × (old < 2 ^ 64) × (references_held k b v.log + 1 < 2 ^ 32)
+    IsBoxName k b × (made_state b v.log ≢ state_default) × (old ≢ dead_word) × (old < 2 ^ 64)
+    × (references_held k b v.log + 1 < 2 ^ 32)
 -- one that a container names whose lock it has, or for which it holds a reference
 May k m cs v (RaiseKept b f) =
     IsBoxName k b × (made_state b v.log ≢ state_default) × KeepsBox k b v.log × (references_held k b v.log + 1 < 2 ^ 32)

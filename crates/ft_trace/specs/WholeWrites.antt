@@ -30,8 +30,8 @@ use Rattle.ft_trace.specs.Traces.{IsReachable, IsAwake}
 
 -- ---- puts
 
--- a word of the block, as `PutBlock` names it, or of the table that is no value's, and what it becomes; or the two words
--- of a value in the table, its kind and its payload, and what they become
+-- a word of the block, as `PutBlock` names it, or of the table that is no value's, and what it becomes; or the two
+-- words of a value in the table, its kind and its payload, and what they become
 pub data Put : Type 0 where
   to_block : ℕ → ℕ → Put
   to_table : ℕ → ℕ → Put
@@ -170,8 +170,8 @@ pub record MayBegin (v : View) (o : ℕ) : Type 0 where
   pub few_references : (b : ℕ) → references_held v.shape b v.log < 2 ^ 31
 
 -- A root may be put that is 0, for a call that takes away what there is; or one that names a table which is fresh in
--- the pass's hand, as it must be for readers, with versions that were made odd once at most, and with the references for
--- the boxes that its values name.
+-- the pass's hand, as it must be for readers, with versions that were made odd once at most, and with the references
+-- for the boxes that its values name.
 abbrev pub MayReplace : View → ℕ → Call → Option ℕ → Type 0
 MayReplace v o call None = Unit {0}
 MayReplace v o call (Some zero) = may_empty call ≡ true

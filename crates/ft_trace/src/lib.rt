@@ -7,12 +7,12 @@
 //! ```text
 //!     events, newest first                      what they give
 //!
-//!     did 1 (ReadCounter 7)   ──── run ───▶     words   0      1       2..   66..    80..    304..   then
-//!     did 0 (StopWrite d)                              ┌──────┬───────┬─────┬──────┬───────┬───────┬────────┐
-//!     did 0 (Commit ..)                                │ coun-│ write │ an- │ free │ free  │ block │ tables │
-//!     did 1 (ReadTable ..)                             │ ter  │ number│noun-│ table│ tables│ of a  │ class  │
-//!     did 0 (PutTable ..)                              │      │       │ ced │ count│ by bit│ cont. │ by cl. │
-//!     did 0 (StartWrite d)                             └──────┴───────┴─────┴──────┴───────┴───────┴────────┘
+//!     did 1 (ReadCounter 7)   ──── run ───▶     words   0      1       2..   66..    80..    304..   then    then
+//!     did 0 (StopWrite d)                              ┌──────┬───────┬─────┬──────┬───────┬───────┬───────┬────────┐
+//!     did 0 (Commit ..)                                │ coun-│ write │ an- │ free │ free  │ block │ heap  │ tables │
+//!     did 1 (ReadTable ..)                             │ ter  │ number│noun-│ table│ tables│ of a  │ of a  │ class  │
+//!     did 0 (PutTable ..)                              │      │       │ ced │ count│ by bit│ cont. │ pass  │ by cl. │
+//!     did 0 (StartWrite d)                             └──────┴───────┴─────┴──────┴───────┴───────┴───────┴────────┘
 //!     did 0 (Lock d)
 //!     forked 0                ──── run ───▶     views   of pass 0, of pass 1: number, log of its own actions,
 //!     (the start)                                       entries, how many passes it stands for, calls left

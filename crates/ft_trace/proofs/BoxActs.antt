@@ -1,5 +1,5 @@
 -- What an action is to one box.
-use Rattle.std.proofs.Common.{◌≡◌, ◌≢◌, ℕ, zero, suc, ◌+◌, ◌-◌, ◌/◌, ◌%◌, ◌^◌, ◌<◌, ◌≤◌, eqb, cond, List, [], ◌∷◌, refl, sym, ap, ◌∙◌, subst, arith}
+use Rattle.std.proofs.Common.{◌≡◌, ◌≢◌, ℕ, ◌+◌, ◌-◌, ◌/◌, ◌%◌, ◌^◌, eqb, cond, List, ◌∷◌, refl, sym, ap, ◌∙◌, subst, arith}
 use mathlib.Core.Logic.{dite}
 use native.Mathlib.Decide.{ℕ_discrete}
 use Rattle.ft_trace.specs.declared.Shape.{Shape}
@@ -11,10 +11,10 @@ use Rattle.ft_trace.specs.Addresses.{Word, heap_bits, box_word, maker_of, place_
 use Rattle.ft_trace.specs.Acts.{place, word_after}
 use Rattle.ft_trace.specs.Boxes.{made_state_next, local_count_next, taken_out_next, place_to_give_next, references_held_next}
 use Rattle.ft_trace.specs.BoxTraces.{box_state_next, shared_count_next, place_bit}
-use Rattle.ft_trace.specs.Traces.{Event, did, run, word, history, May, Valid}
+use Rattle.ft_trace.specs.Traces.{Event, did, run, word, history, May}
 use Rattle.ft_trace.proofs.Addresses.{place_bit_low, same_place}
 use Rattle.ft_trace.proofs.Bits.{off_else, on_else}
-use Rattle.ft_trace.proofs.Cases.{hit, miss, same_or}
+use Rattle.ft_trace.proofs.Cases.{miss, same_or}
 use Rattle.ft_trace.proofs.OneWord.{stays, moves, loaded}
 use Rattle.ft_trace.proofs.NamedBoxes.{IsPut}
 

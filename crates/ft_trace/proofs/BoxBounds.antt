@@ -1,10 +1,9 @@
 -- How many references there may be, and how high local counts may be.
-use Rattle.std.proofs.Common.{◌≡◌, ◌≢◌, ℕ, zero, suc, ◌+◌, ◌-◌, ◌*◌, ◌/◌, ◌%◌, ◌^◌, ◌<◌, ◌≤◌, eqb, Bool, true, false, cond, List, [], ◌∷◌, ◌++◌, refl, sym, ap, ◌∙◌, subst, ⊎_elim, arith}
+use Rattle.std.proofs.Common.{◌≡◌, ◌≢◌, ℕ, zero, suc, ◌+◌, ◌-◌, ◌*◌, ◌^◌, ◌<◌, ◌≤◌, eqb, Bool, true, false, cond, List, [], ◌∷◌, refl, sym, ap, ◌∙◌, subst, arith}
 use mathlib.Core.Option.{some}
 use mathlib.Core.Logic.{dite}
 use native.Mathlib.Decide.{ℕ_discrete}
 use lib.ListN.{get_elem?}
-use Rattle.std.specs.Prelude.{slice_index}
 use Rattle.std.proofs.Math.Pow.{pow_mono}
 use Rattle.ft_model.specs.Classes.{IsClass}
 use Rattle.ft_model.specs.declared.script.Kind.{Kind}
@@ -12,15 +11,15 @@ use Rattle.ft_model.specs.declared.script.Kind.TheVariants as kind
 use Rattle.ft_trace.specs.declared.Shape.{Shape}
 use Rattle.ft_trace.specs.declared.View.{View}
 use Rattle.ft_trace.specs.declared.Act.{Act}
-use Rattle.ft_trace.specs.declared.Act.TheVariants.{PutRoot, PutTable, TookOver, TakePlace, PutBox, PublishBox, RaiseLocal, DropLocal, ClearLocal, MergeCounts, RaiseShared, RaiseKept, DropShared}
+use Rattle.ft_trace.specs.declared.Act.TheVariants.{PutRoot, PutTable, TakePlace, PutBox, PublishBox, RaiseLocal, DropLocal, ClearLocal, MergeCounts, RaiseShared, RaiseKept, DropShared}
 use Rattle.ft_trace.specs.Bits.{bit}
-use Rattle.ft_trace.specs.Addresses.{block, container_count, class_of, slots, places, place_bit_of, IsTableName}
-use Rattle.ft_trace.specs.Acts.{mem, starter, view_after, maker, made, both, spent, sender, note}
+use Rattle.ft_trace.specs.Addresses.{container_count, class_of, slots, places, place_bit_of}
+use Rattle.ft_trace.specs.Acts.{starter, view_after, maker, made, both, spent, sender, note}
 use Rattle.ft_trace.specs.ContainerStates.{kind_in}
 use Rattle.ft_trace.specs.Pictures.{root_of, inner}
 use Rattle.ft_trace.specs.Kinds.{rows}
 use Rattle.ft_trace.specs.Entries.{total}
-use Rattle.ft_trace.specs.Boxes.{names_box, names_box_at, named_in_root, named_in_container, named_in_all, made_state, made_state_next, local_count, local_count_next, taken_out, taken_out_next, references_held, references_held_next}
+use Rattle.ft_trace.specs.Boxes.{names_box_at, named_in_root, named_in_container, named_in_all, made_state, local_count, taken_out, references_held}
 use Rattle.ft_trace.specs.BoxTraces.{has_in_default, maker_part, references_held_by, references}
 use Rattle.ft_trace.specs.Traces.{Fits, Event, did, forked, joined, sent, run, word, history, May, Valid}
 use Rattle.ft_trace.proofs.Sizes.{set_views, one_more, one_view}
@@ -28,7 +27,7 @@ use Rattle.ft_trace.proofs.Seats.{seated}
 use Rattle.ft_trace.proofs.Budgets.{some_part}
 use Rattle.ft_trace.proofs.Totals.{parts_total}
 use Rattle.ft_trace.proofs.Cases.{hit, miss, here, same_or}
-use Rattle.ft_trace.proofs.TablePlaces.{root, root_table}
+use Rattle.ft_trace.proofs.TablePlaces.{root_table}
 use Rattle.ft_trace.proofs.Sums.{sum_below, total_below}
 
 pub fits_of : (k : Shape) (es : List Event) → Valid k es → Fits k

@@ -1,8 +1,8 @@
 -- The counts of one box, as numbers alone: what each step leaves of them.
-use Rattle.std.proofs.Common.{◌≡◌, ◌≢◌, ℕ, zero, suc, ◌+◌, ◌-◌, ◌*◌, ◌%◌, ◌^◌, ◌<◌, ◌≤◌, refl, sym, ap, ◌∙◌, subst, arith}
+use Rattle.std.proofs.Common.{◌≡◌, ◌≢◌, ℕ, ◌+◌, ◌-◌, ◌*◌, ◌%◌, ◌^◌, ◌<◌, ◌≤◌, refl, subst, arith}
 use mathlib.Core.Logic.{dite}
 use native.Mathlib.Decide.{ℕ_discrete}
-use Rattle.ft_trace.specs.BoxTraces.{CountsAgree, IsSharedWord}
+use Rattle.ft_trace.specs.BoxTraces.{CountsAgree}
 
 pub recount : (p q S T M N F G K L R U D E : ℕ) → p ≡ q → S ≡ T → M ≡ N → F ≡ G → K ≡ L → R ≡ U → D ≡ E → CountsAgree p S M F K R D → CountsAgree q T N G L U E
 recount p q S T M N F G K L R U D E ep eS eM eF eK eR eD c =

@@ -1,14 +1,11 @@
 -- Making and dropping a box is possible in each step.
-use Rattle.std.proofs.Common.{◌≡◌, ◌≢◌, ℕ, suc, ◌+◌, ◌-◌, ◌%◌, ◌^◌, ◌<◌, eqb, cond, List, ◌∷◌, refl, sym, ap, ◌∙◌, arith}
-use Rattle.ft_trace.specs.declared.View.{View}
-use Rattle.ft_trace.specs.declared.Act.{Act}
+use Rattle.std.proofs.Common.{◌≡◌, ◌+◌, ◌%◌, ◌^◌, eqb, cond, refl, ◌∙◌, arith}
 use Rattle.ft_trace.specs.declared.Act.TheVariants.{TakePlace, PutBox, PublishBox, DropLocal, MergeCounts, GivePlace}
 use Rattle.ft_trace.specs.Bits.{bit}
-use Rattle.ft_trace.specs.Addresses.{heap_bits, box_word, IsBoxName, maker_of, place_word_of, place_bit_of}
+use Rattle.ft_trace.specs.Addresses.{heap_bits, box_word, maker_of, place_word_of, place_bit_of}
 use Rattle.ft_trace.specs.Acts.{view_after}
 use Rattle.ft_trace.specs.Boxes.{made_state, local_count, taken_out, place_to_give, references_held}
-use Rattle.ft_trace.specs.BoxGrants.{after_making, after_dropping, BoxesMayBeMade}
-use Rattle.ft_trace.specs.Traces.{IsReachable, IsAwake}
+use Rattle.ft_trace.specs.BoxGrants.{BoxesMayBeMade}
 use Rattle.ft_trace.proofs.Cases.{hit, here}
 use Rattle.ft_trace.proofs.NextActions.{next_possible}
 

@@ -1,6 +1,6 @@
 -- What a pass knows of the values in the boxes that it keeps is so, and with it what the words of a container read whose
 -- lock it has.
-use Rattle.std.proofs.Common.{◌≡◌, ◌≢◌, ◌⊎◌, ℕ, zero, suc, ◌+◌, ◌*◌, ◌<◌, ◌≤◌, eqb, Bool, true, false, cond, List, [], ◌∷◌, ◌++◌, refl, sym, ap, ◌∙◌, subst, inl, inr, ⊎_elim, arith}
+use Rattle.std.proofs.Common.{◌≡◌, ◌≢◌, ◌⊎◌, ℕ, zero, suc, ◌<◌, eqb, Bool, true, false, cond, List, [], ◌∷◌, refl, sym, ap, ◌∙◌, subst, inl, inr, ⊎_elim, arith}
 use mathlib.Core.Option.{some}
 use mathlib.Core.Logic.{dite}
 use native.Mathlib.Decide.{ℕ_discrete}
@@ -14,23 +14,21 @@ use Rattle.ft_trace.specs.declared.Act.{Act}
 use Rattle.ft_trace.specs.declared.Act.TheVariants.{Lock, Unlock, TakeTable, PutTable, PutRoot, TookOver, PutBox, PublishBox, ReadBox, RaiseLocal, DropLocal, ClearLocal, MergeCounts, RaiseShared, RaiseKept, DropShared}
 use Rattle.ft_trace.specs.Addresses.{box_word, block, cell, class_of, container_count, IsBoxName, at}
 use Rattle.ft_trace.specs.Owners.{had_locks, found_owners}
-use Rattle.ft_trace.specs.Acts.{place, hands_over, tells, has_lock, mem, starter, view_after, maker, made, both, spent, sender, note}
+use Rattle.ft_trace.specs.Acts.{hands_over, tells, has_lock, mem, starter, view_after, maker, made, both, spent, sender, note}
 use Rattle.ft_trace.specs.ContainerStates.{kind_in}
-use Rattle.ft_trace.specs.Pictures.{ContainerWords, picture, root_of, root_in, inner}
+use Rattle.ft_trace.specs.Pictures.{ContainerWords, picture, root_of, root_in}
 use Rattle.ft_trace.specs.Kinds.{rows}
 use Rattle.ft_trace.specs.Sums.{sum_to}
-use Rattle.ft_trace.specs.Entries.{total}
-use Rattle.ft_trace.specs.Boxes.{value_at, names_box_at, named_in_root, named_in_container, named_in_all, made_state, references_held, times_kept, known_box_word, known_box_word_next, knows_box_word, knows_box_word_next}
-use Rattle.ft_trace.specs.BoxTraces.{box_state, references_held_by, references}
+use Rattle.ft_trace.specs.Boxes.{value_at, names_box_at, named_in_root, named_in_container, made_state, references_held, times_kept, known_box_word, knows_box_word, knows_box_word_next}
+use Rattle.ft_trace.specs.BoxTraces.{references_held_by, references}
 use Rattle.ft_trace.specs.Unboxed.{box_word_in, unboxed_table, unboxed, unboxed_picture}
 use Rattle.ft_trace.specs.Traces.{Event, did, forked, joined, sent, run, word, history, May, Valid}
 use Rattle.ft_trace.proofs.Sizes.{set_views, one_more, one_view, set_at}
 use Rattle.ft_trace.proofs.Cases.{hit, miss, here, off, same_or}
 use Rattle.ft_trace.proofs.OneWord.{stays, moves, loaded}
-use Rattle.ft_trace.proofs.OddVersions.{writer_has}
 use Rattle.ft_trace.proofs.Pieces.{block_at, table_same, picture_same}
 use Rattle.ft_trace.proofs.TablePlaces.{root_table}
-use Rattle.ft_trace.proofs.Images.{imaged, has_low}
+use Rattle.ft_trace.proofs.Images.{imaged}
 use Rattle.ft_trace.proofs.Sums.{sum_at, total_at}
 use Rattle.ft_trace.proofs.NamedBoxes.{IsPut, unnamed_in, else_table, else_root, named_known, named_low}
 use Rattle.ft_trace.proofs.BoxValues.{box_name, box_there, value_stays}

@@ -1,15 +1,11 @@
 -- The laws on boxes.
-use Rattle.std.proofs.Common.{◌≡◌, ◌≢◌, ◌⊎◌, ℕ, suc, ◌+◌, ◌<◌, ◌≤◌, List, ◌∷◌, refl, sym, ap, ◌∙◌, subst, inl, inr, arith}
+use Rattle.std.proofs.Common.{◌≡◌, ◌≢◌, ◌∙◌, inl, inr, arith}
 use mathlib.Core.Logic.{dite}
 use native.Mathlib.Decide.{ℕ_discrete}
-use Rattle.ft_trace.specs.declared.Shape.{Shape}
-use Rattle.ft_trace.specs.declared.View.{View}
-use Rattle.ft_trace.specs.declared.Act.TheVariants.{RaiseShared}
-use Rattle.ft_trace.specs.Addresses.{box_word, IsBoxName}
-use Rattle.ft_trace.specs.Entries.{total}
-use Rattle.ft_trace.specs.BoxTraces.{box_state, shared_count, references, BoxInvariant}
+use Rattle.ft_trace.specs.Addresses.{box_word}
+use Rattle.ft_trace.specs.BoxTraces.{box_state, shared_count}
 use Rattle.ft_trace.specs.BoxLaws.{ReferencesAreCounted, DeadBoxesHaveNoReference, PlacesAreGivenBackOnce, RaisesAreOfLiveBoxes, LocalCountsAreTheMakers, ReferencedValuesStay, HeldValuesStay, OthersLeaveWhatIsRead, WordsStandThroughBoxes, HoldersKnowWhatIsRead}
-use Rattle.ft_trace.specs.Traces.{Event, did, run, word, Valid}
+use Rattle.ft_trace.specs.Traces.{word}
 use Rattle.ft_trace.proofs.Boxed.{boxed, shared_range}
 use Rattle.ft_trace.proofs.BoxCounts.{three_is, is_three, not_three}
 use Rattle.ft_trace.proofs.BoxValues.{value_stays}

@@ -1,23 +1,19 @@
 -- The value in a box stays as long as there is a reference.
-use Rattle.std.proofs.Common.{◌≡◌, ◌≢◌, ◌⊎◌, ℕ, zero, suc, ◌+◌, ◌<◌, ◌≤◌, eqb, cond, List, [], ◌∷◌, ◌++◌, refl, sym, ap, ◌∙◌, subst, inl, inr, ⊎_elim, arith}
+use Rattle.std.proofs.Common.{◌≡◌, ◌≢◌, ℕ, ◌<◌, ◌≤◌, List, [], ◌∷◌, refl, sym, ap, ◌∙◌, arith}
 use mathlib.Core.Option.{some}
-use mathlib.Core.Logic.{dite}
-use native.Mathlib.Decide.{ℕ_discrete}
 use lib.ListN.{get_elem?}
 use Rattle.ft_trace.specs.declared.Shape.{Shape}
 use Rattle.ft_trace.specs.declared.View.{View}
 use Rattle.ft_trace.specs.declared.Act.{Act}
-use Rattle.ft_trace.specs.declared.Act.TheVariants.{TakePlace, PutBox, PublishBox, ReadBox, RaiseLocal, DropLocal, ClearLocal, MergeCounts, RaiseShared, RaiseKept, DropShared, TookOver}
+use Rattle.ft_trace.specs.declared.Act.TheVariants.{PutBox, PublishBox, ReadBox, RaiseLocal, DropLocal, ClearLocal, MergeCounts, RaiseShared, RaiseKept, DropShared}
 use Rattle.ft_trace.specs.Addresses.{box_word, IsBoxName}
-use Rattle.ft_trace.specs.Acts.{view_after}
-use Rattle.ft_trace.specs.Entries.{total}
-use Rattle.ft_trace.specs.Boxes.{named_in_all, made_state, references_held}
-use Rattle.ft_trace.specs.BoxTraces.{box_state, box_state_next, making_box, references_held_by, references, BoxInvariant}
+use Rattle.ft_trace.specs.Boxes.{made_state}
+use Rattle.ft_trace.specs.BoxTraces.{box_state, box_state_next, making_box, references}
 use Rattle.ft_trace.specs.Traces.{Event, did, forked, joined, sent, run, word, history, May, Valid}
-use Rattle.ft_trace.proofs.Cases.{hit, miss, here}
-use Rattle.ft_trace.proofs.OneWord.{stays, moves, loaded}
+use Rattle.ft_trace.proofs.Cases.{here}
+use Rattle.ft_trace.proofs.OneWord.{stays, loaded}
 use Rattle.ft_trace.proofs.Sums.{total_at}
-use Rattle.ft_trace.proofs.BoxActs.{CalmBox, on_box}
+use Rattle.ft_trace.proofs.BoxActs.{on_box}
 use Rattle.ft_trace.proofs.NamedBoxes.{IsPut}
 use Rattle.ft_trace.proofs.Boxed.{boxed}
 use Rattle.ft_trace.proofs.BoxCounts.{referred}

@@ -1,28 +1,27 @@
 -- What holds of each box, at every moment.
-use Rattle.std.proofs.Common.{◌≡◌, ◌≢◌, ◌⊎◌, ℕ, zero, suc, ◌+◌, ◌-◌, ◌*◌, ◌/◌, ◌%◌, ◌^◌, ◌<◌, ◌≤◌, eqb, Bool, true, false, cond, List, [], ◌∷◌, ◌++◌, refl, sym, ap, ◌∙◌, subst, inl, inr, ⊎_elim, arith}
+use Rattle.std.proofs.Common.{◌≡◌, ◌≢◌, ◌⊎◌, ℕ, zero, suc, ◌+◌, ◌-◌, ◌*◌, ◌/◌, ◌%◌, ◌^◌, ◌<◌, ◌≤◌, eqb, cond, List, [], ◌∷◌, refl, sym, ap, ◌∙◌, subst, inl, inr, ⊎_elim, arith}
 use mathlib.Core.Option.{some}
 use mathlib.Core.Logic.{dite}
 use native.Mathlib.Decide.{ℕ_discrete}
 use lib.ListN.{get_elem?}
-use prog.Atomic.{either}
 use Rattle.ft_trace.specs.declared.Shape.{Shape}
 use Rattle.ft_trace.specs.declared.View.{View}
 use Rattle.ft_trace.specs.declared.Act.{Act}
-use Rattle.ft_trace.specs.declared.Act.TheVariants.{PutRoot, PutTable, TookOver, TakePlace, PutBox, PublishBox, RaiseLocal, DropLocal, ClearLocal, MergeCounts, RaiseShared, RaiseKept, DropShared, GivePlace}
+use Rattle.ft_trace.specs.declared.Act.TheVariants.{PutRoot, PutTable, TakePlace, PutBox, PublishBox, RaiseLocal, DropLocal, ClearLocal, MergeCounts, RaiseShared, RaiseKept, DropShared, GivePlace}
 use Rattle.ft_trace.specs.Bits.{bit}
 use Rattle.ft_trace.specs.Addresses.{heap_bits, box_word, maker_of, place_word_of, place_bit_of, IsBoxName, at, container_count}
-use Rattle.ft_trace.specs.Acts.{place, mem, starter, view_after, maker, made, both, spent, sender, note}
+use Rattle.ft_trace.specs.Acts.{place, mem, view_after, maker, made, both, spent, sender, note}
 use Rattle.ft_trace.specs.Entries.{total}
 use Rattle.ft_trace.specs.Pictures.{root_of, inner}
 use Rattle.ft_trace.specs.ContainerStates.{kind_in}
 use Rattle.std.specs.Prelude.{slice_index}
-use Rattle.ft_trace.specs.Boxes.{named_in_root, named_in_container, named_in_all, made_state, made_state_next, local_count, local_count_next, taken_out, taken_out_next, place_to_give, place_to_give_next, references_held, references_held_next, KeepsBox, IsDoneWithBoxes}
-use Rattle.ft_trace.specs.BoxTraces.{box_state, box_state_next, shared_count, shared_count_next, making_box, has_in_default, maker_part, references_held_by, place_to_give_by, references, CountsAgree, IsSharedWord, place_bit, BoxInvariant}
+use Rattle.ft_trace.specs.Boxes.{named_in_root, named_in_container, named_in_all, made_state, local_count, taken_out, place_to_give, references_held, KeepsBox, IsDoneWithBoxes}
+use Rattle.ft_trace.specs.BoxTraces.{box_state, shared_count, making_box, has_in_default, maker_part, references_held_by, place_to_give_by, references, IsSharedWord, place_bit, BoxInvariant}
 use Rattle.ft_trace.specs.Traces.{Event, did, forked, joined, sent, run, word, history, May, Valid}
 use Rattle.ft_trace.proofs.Addresses.{place_first, box_first, block_first, place_bit_low}
 use Rattle.ft_trace.proofs.Bits.{off_same, on_same, bit_small}
-use Rattle.ft_trace.proofs.Cases.{hit, miss, here, same_or}
-use Rattle.ft_trace.proofs.OneWord.{stays, moves, loaded}
+use Rattle.ft_trace.proofs.Cases.{hit, miss, here}
+use Rattle.ft_trace.proofs.OneWord.{stays, moves}
 use Rattle.ft_trace.proofs.Sizes.{sized, set_at}
 use Rattle.ft_trace.proofs.Seats.{seated}
 use Rattle.ft_trace.proofs.OddVersions.{writer_has}
@@ -30,7 +29,7 @@ use Rattle.ft_trace.proofs.Totals.{total_set, total_forked, total_joined}
 use Rattle.ft_trace.proofs.Sums.{sum_none, total_at, total_gone}
 use Rattle.ft_trace.proofs.NamedBoxes.{IsPut, unnamed, renamed_table, renamed_root, named_known, named_low}
 use Rattle.ft_trace.proofs.BoxActs.{CalmBox, on_box}
-use Rattle.ft_trace.proofs.BoxBounds.{fits_of, refs_few, kept_few}
+use Rattle.ft_trace.proofs.BoxBounds.{refs_few, kept_few}
 use Rattle.ft_trace.proofs.BoxCounts.{recount, took, opened_box, local_moved, shared_up, shared_down, merged_box, due_is, gave, referred, up_four, down_four, up_plain, down_plain, up_merge, three_is, is_three, not_three}
 
 same_shared : (p q S T w x : ℕ) → p ≡ q → S ≡ T → w ≡ x → IsSharedWord p S w → IsSharedWord q T x

@@ -1,5 +1,5 @@
 -- What was read in a box that an entry or item names, while the entry or item keeps its version, stands there all the while.
-use Rattle.std.proofs.Common.{◌≡◌, ◌⊎◌, ℕ, suc, ◌+◌, ◌*◌, ◌<◌, ◌%◌, List, ◌++◌, length, refl, sym, ap, ◌∙◌, subst, inl, inr, arith}
+use Rattle.std.proofs.Common.{◌≡◌, ◌⊎◌, ℕ, suc, ◌<◌, ◌%◌, List, ◌++◌, length, refl, sym, ap, ◌∙◌, subst, arith}
 use Rattle.std.specs.Prelude.{slice_index}
 use Rattle.ft_model.specs.declared.script.Kind.{Kind}
 use Rattle.ft_model.specs.declared.script.Kind.TheVariants as kind
@@ -7,7 +7,7 @@ use Rattle.ft_trace.specs.declared.Shape.{Shape}
 use Rattle.ft_trace.specs.Addresses.{box_word, container_count, class_of, slots}
 use Rattle.ft_trace.specs.Ages.{age}
 use Rattle.ft_trace.specs.ContainerStates.{kind_in}
-use Rattle.ft_trace.specs.Pictures.{entry_offset, entry_field, item_offset, item_field}
+use Rattle.ft_trace.specs.Pictures.{entry_offset, item_offset}
 use Rattle.ft_trace.specs.Kinds.{rows, version_at, IsKeyed, IsItems}
 use Rattle.ft_trace.specs.Boxes.{value_at}
 use Rattle.ft_trace.specs.Unboxed.{unboxed_kind, unboxed_payload, unboxed_rows}

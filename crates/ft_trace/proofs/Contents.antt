@@ -1,33 +1,20 @@
 -- The counter is the number of writes, and while a version is even the words stand for the history.
-use Prim.Native.Nat.{zero}
-use Rattle.std.proofs.Common.{◌≡◌, ℕ, None, suc, ◌%◌, ◌<◌, true, List, [], ◌∷◌, ◌++◌, length, refl, sym, ap, ◌∙◌, subst, arith}
+use Rattle.std.proofs.Common.{◌≡◌, ℕ, suc, ◌%◌, ◌<◌, true, List, [], ◌∷◌, ◌++◌, length, refl, sym, ap, ◌∙◌, subst, arith}
 use mathlib.Core.Option.{some}
-use mathlib.Core.Logic.{dite}
-use native.Mathlib.Decide.{ℕ_discrete}
 use lib.ListN.{get_elem?}
 use Rattle.ft_trace.specs.declared.Shape.{Shape}
 use Rattle.ft_trace.specs.declared.View.{View}
 use Rattle.ft_trace.specs.declared.Act.{Act}
-use Rattle.ft_trace.specs.declared.Act.TheVariants.{StartWrite, PutBlock, PutRoot, PutTable, PutFresh, Commit, StopWrite, ReadBlock, ReadRoot, ReadTable, ReadCounter, Answer, AnswerCursor, TakeFloor, TookOver}
+use Rattle.ft_trace.specs.declared.Act.TheVariants.{PutBlock, PutRoot, PutTable, PutFresh, Commit, ReadBlock, ReadRoot, ReadTable, ReadCounter, Answer, AnswerCursor, TakeFloor, TookOver}
 use Rattle.ft_trace.specs.Addresses.{Word, counter, block, cell, Inside, container_count}
-use Rattle.ft_trace.specs.Acts.{is_writing, view_after}
-use Rattle.ft_model.specs.declared.script.Kind.{Kind}
-use Rattle.ft_model.specs.declared.script.Kind.TheVariants as kind
-use Rattle.ft_model.specs.declared.script.Start.{Start}
-use Rattle.ft_model.specs.Worlds.{start_as, empty_content}
-use Rattle.ft_model.specs.TableUses.{no_table, start_table}
-use Rattle.std.specs.Prelude.{replicate, map, slice_index_or}
-use Rattle.ft_trace.specs.ContainerStates.{ContainerState, container_after, kind_in}
-use Rattle.ft_trace.proofs.LandedStarts.{starts_unsplit}
+use Rattle.ft_trace.specs.Acts.{is_writing}
+use Rattle.ft_trace.specs.ContainerStates.{container_after}
 use Rattle.ft_trace.proofs.Untouched.{untouched}
-use Rattle.ft_trace.specs.Pictures.{table_words, inner, ContainerWords, picture, Represents}
-use Rattle.ft_trace.specs.Traces.{Event, did, forked, joined, sent, run, word, writes_of, history, StandsFor, May, Fits, Valid}
-use Rattle.ft_trace.proofs.Sizes.{set_at}
-use Rattle.ft_trace.proofs.Cases.{hit, off}
-use Rattle.ft_trace.proofs.Addresses.{block_first}
+use Rattle.ft_trace.specs.Pictures.{table_words, picture}
+use Rattle.ft_trace.specs.Traces.{Event, did, forked, joined, sent, run, word, writes_of, history, May, Valid}
 use Rattle.ft_trace.proofs.OneWord.{stays, moves, loaded}
-use Rattle.ft_trace.proofs.Pieces.{block_zero, table_same, picture_same}
-use Rattle.ft_trace.proofs.OddVersions.{one_up, version, versioned, on_seq, writing_is_odd, rises, rises_one}
+use Rattle.ft_trace.proofs.Pieces.{table_same, picture_same}
+use Rattle.ft_trace.proofs.OddVersions.{one_up, version, writing_is_odd, rises, rises_one}
 use Rattle.ft_trace.proofs.TablePlaces.{root, root_table, placed}
 
 abbrev pub count : Shape → List Event → ℕ

@@ -106,6 +106,7 @@ module _ (versions : EntryVersionsChangeNothing) (v : View) (o t p count : ℕ) 
           called = facts;
           root = tt;
           early = early;
+          boxes = tt;
           names = names_now;
           clear = clear_keyed kind keyed v.shape.texts c put x news (clears (dead_same n m ws p key low long even live) (dead_opens n m ws p key low long even live (under x) (under news) shut there (gone key (refl, refl))));
           late = late;

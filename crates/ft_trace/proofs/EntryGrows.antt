@@ -16,7 +16,7 @@ use Rattle.ft_layout.proofs.WordLaws.{gone_is, kind_range}
 use Rattle.ft_trace.specs.declared.Snap.{Snap}
 use Rattle.ft_trace.specs.declared.View.{View}
 use Rattle.ft_trace.specs.Addresses.{class_of, slots, IsTableName}
-use Rattle.ft_trace.specs.Acts.{stage, mem}
+use Rattle.ft_trace.specs.Acts.{stage}
 use Rattle.ft_trace.specs.Pictures.{index_field, entry_offset, entry_field, walk_of, root_in}
 use Rattle.ft_trace.specs.Carefuls.{said_of, HasLiveKey, Reached, Sound, Clear, OpensChanged}
 use Rattle.ft_trace.specs.Kinds.{is_key, under, rows, version_at, IsKeyed}
@@ -31,7 +31,6 @@ use Rattle.ft_trace.proofs.EntryPuts.{entry_close}
 use Rattle.ft_trace.proofs.KeyedWrites.{versions_lie, clear_keyed, sound_keyed, keyed_put, counts_may_be_put, root_stays}
 use Rattle.ft_trace.proofs.KnownContents.{use_of}
 use Rattle.ft_trace.proofs.Known.{hand_is_long}
-use Rattle.ft_trace.proofs.Pieces.{table_long}
 use Rattle.ft_trace.proofs.WriteFacts.{CallFacts, PutsContent, replaces, facts_suffice}
 use Rattle.ft_trace.proofs.Opened.{only_opens}
 use Rattle.ft_trace.specs.declared.Act.TheVariants.{PutRoot}
@@ -135,6 +134,7 @@ module _ (versions : EntryVersionsChangeNothing) (v : View) (o t p count next : 
           called = facts;
           root = replaces v o t x called begin is named fresh (sound_keyed kind keyed v.shape.texts c zs x sound) young refs;
           early = early;
+          boxes = tt;
           names = names_now;
           clear = clear_keyed kind keyed v.shape.texts c zs x news clear;
           late = late;

@@ -1,5 +1,5 @@
 -- What the bits of heaps tell.
-use Rattle.std.proofs.Common.{◌≡◌, ◌≢◌, ◌⊎◌, ℕ, zero, suc, ◌+◌, ◌/◌, ◌%◌, ◌^◌, ◌<◌, ◌≤◌, eqb, cond, List, [], ◌∷◌, ◌++◌, refl, sym, ap, ◌∙◌, subst, arith}
+use Rattle.std.proofs.Common.{◌≡◌, ◌≢◌, ℕ, suc, ◌%◌, ◌^◌, List, [], ◌∷◌, ◌++◌, refl, sym, ap, ◌∙◌, subst, arith}
 use mathlib.Core.Option.{some}
 use mathlib.Core.Logic.{dite}
 use native.Mathlib.Decide.{ℕ_discrete}
@@ -8,22 +8,21 @@ use Rattle.std.proofs.Math.Nat.{zero-div}
 use Rattle.ft_trace.specs.declared.Shape.{Shape}
 use Rattle.ft_trace.specs.declared.View.{View}
 use Rattle.ft_trace.specs.declared.Act.{Act}
-use Rattle.ft_trace.specs.declared.Act.TheVariants.{ReadFreePlaces, TakePlace, PutBox, PublishBox, RaiseLocal, DropLocal, ClearLocal, MergeCounts, RaiseShared, RaiseKept, DropShared, GivePlace, TookOver, PutTable, PutRoot}
+use Rattle.ft_trace.specs.declared.Act.TheVariants.{ReadFreePlaces, TakePlace, TookOver, PutTable, PutRoot}
 use Rattle.ft_trace.specs.Bits.{bit}
 use Rattle.ft_trace.specs.Addresses.{IsBoxName, maker_of, place_word_of, place_bit_of}
 use Rattle.ft_trace.specs.Acts.{place, starter, view_after, maker, made, both, spent, sender, note, hands_over, tells}
 use Rattle.ft_trace.specs.Owners.{had_locks, found_owners}
-use Rattle.ft_trace.specs.Entries.{total}
 use Rattle.ft_trace.specs.Boxes.{made_state}
-use Rattle.ft_trace.specs.BoxTraces.{box_state, box_state_next, making_box, has_in_default, place_bit, BoxInvariant}
+use Rattle.ft_trace.specs.BoxTraces.{box_state, box_state_next, making_box, has_in_default, place_bit}
 use Rattle.ft_trace.specs.HeapPlaces.{FullWordsHaveNoFreePlace, IsNotTake, NotTaken, OwnFreePlacesStay}
 use Rattle.ft_trace.specs.Traces.{Event, did, forked, joined, sent, run, word, history, May, Valid}
 use Rattle.ft_trace.proofs.Sizes.{set_views, one_more, one_view}
 use Rattle.ft_trace.proofs.Seats.{same_seat}
-use Rattle.ft_trace.proofs.Cases.{hit, miss, here}
+use Rattle.ft_trace.proofs.Cases.{hit, here}
 use Rattle.ft_trace.proofs.Sums.{total_at}
 use Rattle.ft_trace.proofs.NamedBoxes.{IsPut}
-use Rattle.ft_trace.proofs.BoxActs.{CalmBox, on_box}
+use Rattle.ft_trace.proofs.BoxActs.{on_box}
 use Rattle.ft_trace.proofs.Boxed.{boxed}
 
 bit_none : (b : ℕ) → bit b 0 ≡ 0

@@ -1,8 +1,6 @@
 -- The value in a box that a pass holds stays until the pass lets go of it.
-use Rattle.std.proofs.Common.{◌≡◌, ◌≢◌, ◌⊎◌, ℕ, zero, suc, ◌+◌, ◌<◌, ◌≤◌, List, [], ◌∷◌, ◌++◌, refl, sym, ap, ◌∙◌, subst, arith}
+use Rattle.std.proofs.Common.{◌≡◌, ◌≢◌, ℕ, List, [], ◌∷◌, ◌++◌, refl, sym, ap, ◌∙◌, arith}
 use mathlib.Core.Option.{some}
-use mathlib.Core.Logic.{dite}
-use native.Mathlib.Decide.{ℕ_discrete}
 use lib.ListN.{get_elem?}
 use Rattle.ft_trace.specs.declared.Shape.{Shape}
 use Rattle.ft_trace.specs.declared.View.{View}
@@ -12,11 +10,10 @@ use Rattle.std.specs.Prelude.{slice_index}
 use Rattle.ft_trace.specs.Addresses.{box_word, at}
 use Rattle.ft_trace.specs.Acts.{starter, view_after, maker, made, both, spent, sender, note, hands_over, tells}
 use Rattle.ft_trace.specs.Owners.{had_locks, found_owners}
-use Rattle.ft_trace.specs.Entries.{total}
 use Rattle.ft_trace.specs.Boxes.{references_held}
 use Rattle.ft_trace.specs.BoxTraces.{references_held_by, references}
 use Rattle.ft_trace.specs.HeldBoxes.{HeldSince, SameValue}
-use Rattle.ft_trace.specs.Traces.{Event, did, forked, joined, sent, run, word, history, May, Valid}
+use Rattle.ft_trace.specs.Traces.{Event, did, forked, joined, sent, run, word, Valid}
 use Rattle.ft_trace.proofs.Sizes.{set_views, one_more, one_view}
 use Rattle.ft_trace.proofs.Sums.{total_at}
 use Rattle.ft_trace.proofs.BoxValues.{value_stays}

@@ -1,27 +1,25 @@
 -- What was read in a box after the look-up, under a reference that was held since before the counter was loaded, is what the box had then.
-use Rattle.std.proofs.Common.{◌≡◌, ◌≢◌, ◌⊎◌, ℕ, suc, ◌+◌, ◌-◌, ◌<◌, ◌≤◌, List, [], ◌∷◌, ◌++◌, length, refl, sym, ap, ◌∙◌, subst, inl, inr, ⊎_elim, arith, append_assoc}
+use Rattle.std.proofs.Common.{◌≡◌, ◌≢◌, ◌⊎◌, ℕ, suc, ◌-◌, ◌<◌, ◌≤◌, List, [], ◌∷◌, ◌++◌, refl, sym, ap, ◌∙◌, subst, ⊎_elim, arith, append_assoc}
 use Rattle.std.specs.Prelude.{slice_index}
 use mathlib.Core.Option.{some}
 use lib.ListN.{get_elem?}
 use Rattle.ft_model.specs.declared.call.Call.{Call}
-use Rattle.ft_model.specs.declared.data.Key.{Key}
 use Rattle.ft_model.specs.Worlds.{list_of}
 use Rattle.ft_trace.specs.declared.Shape.{Shape}
 use Rattle.ft_trace.specs.declared.View.{View}
 use Rattle.ft_trace.specs.declared.Act.{Act}
 use Rattle.ft_trace.specs.declared.Act.TheVariants.{ReadRoot, ReadTable, ReadCounter, ReadBox}
 use Rattle.ft_trace.specs.Addresses.{container_count, box_word, class_of, slots}
-use Rattle.ft_trace.specs.ContainerStates.{container_after, first_writes, kind_in}
+use Rattle.ft_trace.specs.ContainerStates.{container_after, first_writes}
 use Rattle.ft_trace.specs.Pictures.{entry_offset, entry_field, item_offset, item_field}
 use Rattle.ft_trace.specs.ItemWords.{words_at}
-use Rattle.ft_trace.specs.Kinds.{rows, under, IsKeyed, IsItems}
+use Rattle.ft_trace.specs.Kinds.{under}
 use Rattle.ft_trace.specs.Boxes.{references_held}
 use Rattle.ft_trace.specs.BoxTraces.{references_held_by, references}
-use Rattle.ft_trace.specs.Unboxed.{box_word_in}
 use Rattle.ft_trace.specs.LoggedReads.{Among}
-use Rattle.ft_trace.specs.LoggedLookUps.{LookUpWindow, Hit, ItemHit, IsReadAsBox}
+use Rattle.ft_trace.specs.LoggedLookUps.{LookUpWindow, Hit, ItemHit}
 use Rattle.ft_trace.specs.HeldBoxes.{HeldSince}
-use Rattle.ft_trace.specs.HeldReads.{IsReadHeld, IsEntryHeld, IsItemHeld, HeldHitsAreRight, HeldItemsAreRight}
+use Rattle.ft_trace.specs.HeldReads.{IsReadHeld, HeldHitsAreRight, HeldItemsAreRight}
 use Rattle.ft_trace.specs.Traces.{Event, did, forked, joined, sent, run, word, history, Valid}
 use Rattle.ft_trace.proofs.Cases.{here}
 use Rattle.ft_trace.proofs.Contents.{count, counted, tab}
@@ -29,7 +27,7 @@ use Rattle.ft_trace.proofs.Stamps.{stays}
 use Rattle.ft_trace.proofs.Sums.{total_at}
 use Rattle.ft_trace.proofs.BoxValues.{value_stays}
 use Rattle.ft_trace.proofs.EarlierMoments.{Was, was}
-use Rattle.ft_trace.proofs.Spots.{Spot, Back, go, go_kept, Opened, open_window, window_kept}
+use Rattle.ft_trace.proofs.Spots.{Back, go, go_kept, Opened, open_window, window_kept}
 use Rattle.ft_trace.proofs.Hits as hits
 use Rattle.ft_trace.proofs.ItemHits as items
 

@@ -32,8 +32,9 @@ use Rattle.ft_trace.specs.Holds.{held_unboxed, known_state, AgreesWith}
 use Rattle.ft_trace.specs.Traces.{IsReachable}
 use Rattle.ft_trace.specs.Grants.{MayWrite}
 use Rattle.ft_trace.specs.WholeWrites.{to_table, MayPut, MayPuts, WholeWrite, at_commit, at_end, after_write_of, to_value, IsNoValue}
+use Rattle.ft_trace.proofs.Cases.{off}
 use Rattle.ft_trace.proofs.ValuePlaces.{plain_kind, entry_far, slot_far}
-use Rattle.ft_trace.specs.EntryWrites.{entry_closed}
+use Rattle.ft_trace.specs.EntryWrites.{entry_closed, MayStandIn}
 use Rattle.ft_trace.specs.KeyWrites.{key_puts, count_puts, dict_add_write, KeysMayBeAdded}
 use Rattle.ft_trace.proofs.FitCalls.{dict_fits_words, set_fit}
 use Rattle.ft_trace.proofs.Known.{in_bank, table_is_long}
@@ -53,9 +54,9 @@ pub and_false : (b : Bool) → (b && false) ≡ false
 and_false true = refl
 and_false false = refl
 
-module _ (versions : EntryVersionsChangeNothing) (first : FirstEntriesArePairs) (v : View) (o t slot : ℕ) (key : Key) (value : Value) (pairs : DictContent) (may : MayWrite v o) (is_dict : (known_state o v).content ≡ content.Dict pairs) (names : root_in (held_unboxed o v) ≡ suc t)
+module _ (versions : EntryVersionsChangeNothing) (first : FirstEntriesArePairs) (v : View) (o t slot : ℕ) (key : Key) (box : Option ℕ) (value : Value) (pairs : DictContent) (may : MayWrite v o) (is_dict : (known_state o v).content ≡ content.Dict pairs) (names : root_in (held_unboxed o v) ≡ suc t)
     (room : (known_state o v).table.fill < places (class_of t)) (in_index : slot < slots (class_of t)) (free : index_field (held_unboxed o v).table slot ≡ 0) (missing : has_key pairs.pairs key ≡ false)
-    (now : IsDictWords v.shape.texts (at_commit v o (dict_add_write v o t slot key value pairs)).block (0 ∷ 0 ∷ (at_commit v o (dict_add_write v o t slot key value pairs)).table) (Some (class_of t)) ((known_state o v).table.fill + 1) (dict_set pairs key value)) where
+    (stands : MayStandIn v box value) (now : IsDictWords v.shape.texts (at_commit v o (dict_add_write v o t slot key box value pairs)).block (0 ∷ 0 ∷ (at_commit v o (dict_add_write v o t slot key box value pairs)).table) (Some (class_of t)) ((known_state o v).table.fill + 1) (dict_set pairs key value)) where
   abbrev k : Shape
   k = v.shape
 
@@ -81,7 +82,7 @@ module _ (versions : EntryVersionsChangeNothing) (first : FirstEntriesArePairs) 
   called = call.Dict o (dict.Set key value)
 
   abbrev write : WholeWrite
-  write = dict_add_write v o t slot key value pairs
+  write = dict_add_write v o t slot key box value pairs
 
   abbrev block : List ℕ
   block = (at_commit v o write).block
@@ -179,7 +180,7 @@ module _ (versions : EntryVersionsChangeNothing) (first : FirstEntriesArePairs) 
   s6 : At l6
   s6 = next_stage l5 s5 6 pairs.next (omega arith) (λ e. absurd (omega (arith, e))) (λ e. absurd (omega (arith, e)))
 
-  puts : MayPuts kind.Dict t (content.Dict pairs) false (record { block = block; table = ws }) (key_puts n ws p slot (hash_of k.texts key) key value pairs.next)
+  puts : MayPuts kind.Dict t (content.Dict pairs) false (record { block = block; table = ws }) (key_puts n ws p slot (hash_of k.texts key) key box value pairs.next)
   puts =
       let before = under (content.Dict pairs) in
       let e = even in
@@ -189,14 +190,14 @@ module _ (versions : EntryVersionsChangeNothing) (first : FirstEntriesArePairs) 
       let p2 = table_put l1 (entry_offset n p 1) (hash_of k.texts key) (inside 1 (omega arith)) (of_key l1 s1 1 (hash_of k.texts key) (inl refl)) (λ q z. absurd (omega (arith, z))) (entry_far c p 1 (omega arith) (λ z. omega (arith, z)) (λ z. omega (arith, z))) in
       let p3 = table_put l2 (entry_offset n p 3) (key_payload key) (inside 3 (omega arith)) (of_key l2 s2 3 (key_payload key) (inr refl)) (λ q z. absurd (omega (arith, z))) (entry_far c p 3 (omega arith) (λ z. omega (arith, z)) (λ z. omega (arith, z))) in
       let odd3 : entry_field n l3 p 0 % 2 ≡ 1 = let v3 = s3.ver_is in omega (arith, v3, e) in
-      let p4 : MayPut kind.Dict t (content.Dict pairs) false (record { block = block; table = l3 }) (to_value (entry_offset n p 4) (entry_offset n p 5) (stored_kind (Plain value)) (stored_payload (Plain value))) = (names_now, (p, room, refl, omega arith, odd3), plain_kind value) in
+      let p4 : MayPut kind.Dict t (content.Dict pairs) false (record { block = block; table = l3 }) (to_value box (entry_offset n p 4) (entry_offset n p 5) (stored_kind (Plain value)) (stored_payload (Plain value))) = (names_now, (p, room, refl, omega arith, odd3), plain_kind value, λ e. off e) in
       let p6 = table_put l5 (entry_offset n p 6) pairs.next (inside 6 (omega arith)) (of_value l5 s5 6 pairs.next (omega arith) (omega arith)) (λ q z. absurd (omega (arith, z))) (entry_far c p 6 (omega arith) (λ z. omega (arith, z)) (λ z. omega (arith, z))) in
       let p7 = table_put l6 (entry_offset n p 2) (key_kind key) (inside 2 (omega arith)) (new_kind n m ws p slot room in_index at_least even none free key l6 s6 before) (λ q z. absurd (omega (arith, z))) (entry_far c p 2 (omega arith) (λ z. omega (arith, z)) (λ z. omega (arith, z))) in
       let p8 = table_put (slice_set l6 (entry_offset n p 2) (key_kind key)) slot (p + 1) (omega (arith, in_index)) (new_index n m ws p slot room in_index at_least even none free key l6 s6 before) (λ q z. absurd (omega (arith, z, in_index))) (slot_far c slot in_index) in
       (p1, (p2, (p3, (p4, (p6, (p7, (p8, tt)))))))
 
-  early : MayPuts kind.Dict t (content.Dict pairs) false (held_unboxed o v) (count_puts (length pairs.pairs + 1) (p + 1) (pairs.next + 1) ++ key_puts n ws p slot (hash_of k.texts key) key value pairs.next)
-  early = counts_may_be_put kind.Dict t (content.Dict pairs) b0 ws (length pairs.pairs + 1) (p + 1) (pairs.next + 1) (key_puts n ws p slot (hash_of k.texts key) key value pairs.next) puts
+  early : MayPuts kind.Dict t (content.Dict pairs) false (held_unboxed o v) (count_puts (length pairs.pairs + 1) (p + 1) (pairs.next + 1) ++ key_puts n ws p slot (hash_of k.texts key) key box value pairs.next)
+  early = counts_may_be_put kind.Dict t (content.Dict pairs) b0 ws (length pairs.pairs + 1) (p + 1) (pairs.next + 1) (key_puts n ws p slot (hash_of k.texts key) key box value pairs.next) puts
 
   fits : FitsKey key × FitsValue value
   fits = set_fit pairs key value missing (dict_fits_words k.texts block (0 ∷ 0 ∷ put) c (p + 1) news now)
@@ -286,6 +287,7 @@ module _ (versions : EntryVersionsChangeNothing) (first : FirstEntriesArePairs) 
         called = record { of = refl; wrote = refl; fits = fits; locks = one_locked o v.log may.mine; replied = λ r e. inr e; declared = λ world one. record { one = one; both = tt; room = tt } };
         root = tt;
         early = early;
+        boxes = (stands, tt);
         names = names_now;
         clear = clear;
         late = late;
@@ -301,4 +303,4 @@ module _ (versions : EntryVersionsChangeNothing) (first : FirstEntriesArePairs) 
       })
 
 pub keys_may_be_added : EntryVersionsChangeNothing → FirstEntriesArePairs → KeysMayBeAdded
-keys_may_be_added versions first v o t slot key value pairs may is_dict names room in_index free missing now = add_possible versions first v o t slot key value pairs may is_dict names room in_index free missing now
+keys_may_be_added versions first v o t slot key box value pairs may is_dict names room in_index free missing stands now = add_possible versions first v o t slot key box value pairs may is_dict names room in_index free missing stands now

@@ -31,7 +31,6 @@ use Rattle.ft_trace.specs.Traces.{IsReachable}
 use Rattle.ft_trace.specs.WholeWrites.{to_table, with_root_put, MayBegin, to_block, MayPuts, WholeWrite, at_commit, at_end, after_write_of}
 use Rattle.ft_trace.specs.ListGrowWrites.{list_grow_write, HasListGrown, ListsMayGrow}
 use Rattle.ft_trace.proofs.ByKind.{items_fit}
-use Rattle.ft_trace.proofs.Pieces.{table_long}
 use Rattle.ft_trace.proofs.Known.{after_header}
 use Rattle.ft_trace.proofs.ItemPuts.{VersionsChangeNothing, item_close, items_says, other_words, none_at}
 use Rattle.ft_trace.proofs.ListAppends.{get_else, get_last}
@@ -40,7 +39,6 @@ use mathlib.Core.Logic.{dite}
 use native.Mathlib.Decide.{ℕ_discrete}
 use Rattle.ft_layout.specs.Tables.{IsListTable}
 use Rattle.ft_layout.specs.Tables as layout
-use Rattle.ft_trace.specs.Acts.{mem}
 use Rattle.ft_trace.proofs.KnownContents.{use_of, in_tables, content_there, table_there, content_left}
 use Rattle.ft_trace.proofs.WriteFacts.{replaces, facts_suffice}
 use Rattle.ft_trace.proofs.Known.{hand_is_long}
@@ -190,6 +188,7 @@ module _ (versions : VersionsChangeNothing) (v : View) (o t : ℕ) (value : Valu
         called = record { of = refl; wrote = refl; fits = has.fits; locks = one_locked o v.log begin.mine; replied = λ r e. inr e; declared = λ world one. record { one = one; both = tt; room = tt } };
         root = replaces v o t (content.List values) called begin is_list has.table has.fresh sound young has.references;
         early = early kind.List (content.List values);
+        boxes = tt;
         names = names_now;
         clear = clear;
         late = late;

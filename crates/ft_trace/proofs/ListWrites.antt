@@ -21,6 +21,7 @@ use Rattle.ft_layout.specs.Words.{FitsStored}
 use Rattle.ft_layout.specs.WordChanges.{ChangesItem, SaysStored}
 use Rattle.ft_layout.specs.Containers.{IsListWords}
 use Rattle.ft_layout.proofs.Powers.{slots_range}
+use Rattle.ft_trace.specs.EntryWrites.{MayStandIn}
 use Rattle.ft_trace.specs.declared.Shape.{Shape}
 use Rattle.ft_trace.specs.declared.Snap.{Snap}
 use Rattle.ft_trace.specs.declared.View.{View}
@@ -83,7 +84,7 @@ module _ (v : View) (o t : ℕ) (values : List Value) (may : MayWrite v o) (is_l
     list_is = ap list_of (content_there v o (content.List values) may.low may.mine is_list calls agree (content.List []))
 
 -- l[i] = v
-module _ (versions : VersionsChangeNothing) (one : PutsChangeOneItem) (follow : WordsFollowAPut) (v : View) (o t place : ℕ) (index : ℤ) (value : Value) (values : List Value) (may : MayWrite v o) (is_list : (known_state o v).content ≡ content.List values) (names : root_in (held_unboxed o v) ≡ suc t) (means : index_in (length values) index ≡ Some place) (low : place < length values) (fits : FitsStored (Plain value)) (differs : slice_get values place ≢ Some value) where
+module _ (versions : VersionsChangeNothing) (one : PutsChangeOneItem) (follow : WordsFollowAPut) (v : View) (o t place : ℕ) (index : ℤ) (box : Option ℕ) (value : Value) (values : List Value) (may : MayWrite v o) (is_list : (known_state o v).content ≡ content.List values) (names : root_in (held_unboxed o v) ≡ suc t) (means : index_in (length values) index ≡ Some place) (low : place < length values) (fits : FitsStored (Plain value)) (differs : slice_get values place ≢ Some value) (stands : MayStandIn v box value) where
   abbrev n : Shape
   n = v.shape
 
@@ -100,7 +101,7 @@ module _ (versions : VersionsChangeNothing) (one : PutsChangeOneItem) (follow : 
   called = call.List o (list.Set index value)
 
   abbrev write : WholeWrite
-  write = list_set_write v o place index value
+  write = list_set_write v o place index box value
 
   abbrev c : ℕ
   c = class_of t
@@ -152,7 +153,8 @@ module _ (versions : VersionsChangeNothing) (one : PutsChangeOneItem) (follow : 
       (record {
         called = record { of = refl; wrote = refl; fits = fits; locks = one_locked o v.log may.mine; replied = λ r e. inr e; declared = λ world one. record { one = one; both = tt; room = tt } };
         root = tt;
-        early = item_early t class_is b ws values news place value names long in_table shut same here short;
+        early = item_early t class_is b ws values news place value names long in_table shut same here short box;
+        boxes = (stands, tt);
         names = names;
         clear = item_clear t class_is b ws values news place value names long in_table shut same here short (other_words values place value fits (λ any inside. (says.0.table.items place any inside).fits) differs);
         late = item_late t class_is b ws values news place value names long in_table shut same here short;
@@ -163,4 +165,4 @@ module _ (versions : VersionsChangeNothing) (one : PutsChangeOneItem) (follow : 
       })
 
 pub items_may_be_put : VersionsChangeNothing → PutsChangeOneItem → WordsFollowAPut → ItemsMayBePut
-items_may_be_put versions one follow v o t place index value values may is_list names means low fits differs = set_possible versions one follow v o t place index value values may is_list names means low fits differs
+items_may_be_put versions one follow v o t place index box value values may is_list names means low fits differs stands = set_possible versions one follow v o t place index box value values may is_list names means low fits differs stands

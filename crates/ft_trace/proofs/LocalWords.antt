@@ -1,5 +1,5 @@
 -- The local count of a box is what its maker put there last: no other pass writes it.
-use Rattle.std.proofs.Common.{◌≡◌, ◌≢◌, ◌⊎◌, ℕ, zero, suc, ◌+◌, ◌^◌, ◌<◌, ◌≤◌, eqb, cond, List, [], ◌∷◌, ◌++◌, refl, sym, ap, ◌∙◌, subst, inl, inr, ⊎_elim, arith}
+use Rattle.std.proofs.Common.{◌≡◌, ◌≢◌, ◌⊎◌, ℕ, ◌^◌, ◌≤◌, eqb, cond, List, [], ◌∷◌, refl, sym, ap, ◌∙◌, inl, inr, ⊎_elim, arith}
 use mathlib.Core.Option.{some}
 use mathlib.Core.Logic.{dite}
 use native.Mathlib.Decide.{ℕ_discrete}
@@ -7,20 +7,20 @@ use lib.ListN.{get_elem?}
 use Rattle.ft_trace.specs.declared.Shape.{Shape}
 use Rattle.ft_trace.specs.declared.View.{View}
 use Rattle.ft_trace.specs.declared.Act.{Act}
-use Rattle.ft_trace.specs.declared.Act.TheVariants.{TakePlace, PutBox, PublishBox, ReadBox, RaiseLocal, DropLocal, ClearLocal, MergeCounts, RaiseShared, RaiseKept, DropShared, GivePlace, TookOver, PutTable, PutRoot}
+use Rattle.ft_trace.specs.declared.Act.TheVariants.{TakePlace, PutBox, PublishBox, ReadBox, RaiseLocal, DropLocal, ClearLocal, MergeCounts, RaiseShared, RaiseKept, DropShared, GivePlace, PutTable, PutRoot}
 use Rattle.ft_trace.specs.Bits.{bit}
 use Rattle.ft_trace.specs.Addresses.{box_word, place_bit_of, IsBoxName}
 use Rattle.ft_trace.specs.Acts.{place, word_after, starter, view_after, maker, made, both, spent, sender, note}
 use Rattle.ft_trace.specs.Entries.{total}
-use Rattle.ft_trace.specs.Boxes.{made_state, made_state_next, local_count, local_count_next}
-use Rattle.ft_trace.specs.BoxTraces.{box_state, making_box, has_in_default, BoxInvariant}
+use Rattle.ft_trace.specs.Boxes.{made_state, local_count}
+use Rattle.ft_trace.specs.BoxTraces.{box_state, making_box, has_in_default}
 use Rattle.ft_trace.specs.Traces.{Event, did, forked, joined, sent, run, word, history, May, Valid}
 use Rattle.ft_trace.proofs.Sizes.{set_views, one_more, one_view}
-use Rattle.ft_trace.proofs.Cases.{hit, miss, here, same_or}
+use Rattle.ft_trace.proofs.Cases.{hit, miss, here}
 use Rattle.ft_trace.proofs.OneWord.{stays, moves, loaded}
 use Rattle.ft_trace.proofs.Totals.{total_two}
 use Rattle.ft_trace.proofs.Sums.{total_at}
-use Rattle.ft_trace.proofs.BoxActs.{CalmBox, on_box}
+use Rattle.ft_trace.proofs.BoxActs.{on_box}
 use Rattle.ft_trace.proofs.NamedBoxes.{IsPut}
 use Rattle.ft_trace.proofs.Boxed.{boxed}
 

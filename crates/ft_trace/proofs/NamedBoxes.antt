@@ -1,24 +1,19 @@
 -- Which values name a box, after an action.
-use Rattle.std.proofs.Common.{◌≡◌, ◌≢◌, ℕ, zero, suc, ◌+◌, ◌*◌, ◌/◌, ◌^◌, ◌<◌, ◌≤◌, eqb, true, cond, Bool, false, List, [], ◌∷◌, refl, sym, ap, ◌∙◌, subst, inl, inr, arith}
+use Rattle.std.proofs.Common.{◌≡◌, ◌≢◌, ℕ, suc, ◌+◌, ◌<◌, ◌≤◌, true, List, ◌∷◌, refl, sym, ap, ◌∙◌, inr, arith}
 use mathlib.Core.Option.{some}
-use mathlib.Core.Logic.{dite}
-use native.Mathlib.Decide.{ℕ_discrete}
 use lib.ListN.{get_elem?}
 use Rattle.std.specs.Prelude.{slice_index}
-use Rattle.ft_model.specs.declared.script.Kind.{Kind}
 use Rattle.ft_trace.specs.declared.Shape.{Shape}
 use Rattle.ft_trace.specs.declared.View.{View}
 use Rattle.ft_trace.specs.declared.Act.{Act}
-use Rattle.ft_trace.specs.declared.Act.TheVariants.{PutBlock, PutRoot, PutTable, PutFresh, ReadBlock, ReadRoot, ReadTable, TookOver}
-use Rattle.ft_trace.specs.Addresses.{Word, block, cell, Inside, IsTableName, at, container_count, class_of, size}
-use Rattle.ft_trace.specs.Acts.{place, has_lock, stage, mem, view_after}
+use Rattle.ft_trace.specs.declared.Act.TheVariants.{PutBlock, PutRoot, PutTable, PutFresh, ReadBlock, ReadRoot, ReadTable}
+use Rattle.ft_trace.specs.Addresses.{block, cell, at, container_count, class_of, size}
+use Rattle.ft_trace.specs.Acts.{has_lock, mem}
 use Rattle.ft_trace.specs.ContainerStates.{kind_in}
 use Rattle.ft_trace.specs.Pictures.{table_words, root_of, inner}
-use Rattle.ft_trace.specs.Sums.{sum_to}
 use Rattle.ft_trace.specs.Boxes.{named_in_root, named_in_container, named_in_all}
 use Rattle.ft_trace.specs.Traces.{Event, did, run, word, history, May, Valid}
-use Rattle.ft_trace.proofs.Cases.{hit, miss}
-use Rattle.ft_trace.proofs.OneWord.{stays, moves, loaded}
+use Rattle.ft_trace.proofs.OneWord.{stays, loaded}
 use Rattle.ft_trace.proofs.Pieces.{table_same, inner_same}
 use Rattle.ft_trace.proofs.TablePlaces.{root, root_table, placed}
 use Rattle.ft_trace.proofs.Images.{imaged}

@@ -1,14 +1,12 @@
 -- A put of a value word, for readers without the lock.
-use Rattle.std.proofs.Common.{◌≡◌, ◌≢◌, ◌⊎◌, ℕ, suc, ◌+◌, ◌%◌, ◌<◌, ◌≤◌, List, [], ◌∷◌, refl, sym, ap, ◌∙◌, inl, inr, ⊎_elim, arith}
-use mathlib.Core.Logic.{dite}
-use native.Mathlib.Decide.{ℕ_discrete}
+use Rattle.std.proofs.Common.{◌≡◌, ◌≢◌, ℕ, suc, ◌%◌, ◌<◌, List, [], ◌∷◌, sym, ap, ◌∙◌, inl, inr, ⊎_elim, arith}
 use Rattle.std.specs.Prelude.{slice_index}
 use Rattle.ft_model.specs.declared.data.Key.{Key}
 use Rattle.ft_model.specs.declared.data.Value.{Value}
 use Rattle.ft_layout.specs.Words.{FitsKey, key_kind}
-use Rattle.ft_trace.specs.Pictures.{index_field, entry_field, item_field, Met}
+use Rattle.ft_trace.specs.Pictures.{entry_field, item_field, Met}
 use Rattle.ft_trace.specs.Carefuls.{Pairs, said_of, HasLiveKey, IsDead, Reached, Sound}
-use Rattle.ft_trace.specs.ItemWords.{said_at, words_at, ItemSound}
+use Rattle.ft_trace.specs.ItemWords.{said_at, ItemSound}
 use Rattle.ft_trace.specs.OddValues.{SameButValue, SameButItem, OddValuesMayBeAny}
 
 module _ (walk : Key → List ℕ) (n m p : ℕ) (ws zs : List ℕ) (c : Pairs) (old : Sound walk n m ws c) (same : SameButValue n m p ws zs) (odd : entry_field n ws p 0 % 2 ≡ 1) where

@@ -1,10 +1,8 @@
 -- Puts of words that name no box: what a container reads after them, that they need no references, and how many the pass
 -- holds then.
-use Rattle.std.proofs.Common.{◌≡◌, ◌≢◌, ◌⊎◌, ℕ, zero, suc, ◌+◌, ◌-◌, ◌*◌, ◌^◌, ◌%◌, ◌<◌, ◌≤◌, true, List, [], ◌∷◌, length, refl, sym, ap, ◌∙◌, subst, inl, inr, ⊎_elim, arith, get_or-set_same, get_or-set_other}
-use Rattle.std.specs.Prelude.{slice_index, slice_set}
+use Rattle.std.proofs.Common.{◌≡◌, ◌≢◌, ◌⊎◌, ℕ, suc, ◌+◌, ◌-◌, ◌^◌, ◌%◌, ◌<◌, true, List, ◌∷◌, length, refl, sym, ap, ◌∙◌, subst, inl, inr, arith, get_or-set_same, get_or-set_other}
+use Rattle.std.specs.Prelude.{slice_index, slice_set, None}
 use mathlib.Core.Option.{some}
-use mathlib.Core.Logic.{dite}
-use native.Mathlib.Decide.{ℕ_discrete}
 use lib.ListN.{get_elem?}
 use Rattle.ft_model.specs.declared.content.Content.{Content}
 use Rattle.ft_model.specs.declared.script.Kind.{Kind}
@@ -21,7 +19,7 @@ use Rattle.ft_trace.proofs.Addresses.{at_low}
 use Rattle.ft_trace.proofs.ReadTables.{read_version}
 use Rattle.ft_trace.specs.Acts.{has_lock, mem}
 use Rattle.ft_trace.specs.ContainerStates.{kind_in}
-use Rattle.ft_trace.specs.Pictures.{ContainerWords, root_in, picture, root_of, inner, entry_offset, entry_field, item_offset, item_field}
+use Rattle.ft_trace.specs.Pictures.{ContainerWords, root_in, picture, root_of, inner, entry_offset, item_offset}
 use Rattle.ft_trace.specs.Kinds.{rows, version_at, under, CarefulAs}
 use Rattle.ft_trace.specs.Boxes.{value_at, named_in_root, named_in_container, references_held, knows_box_word, HasReferences}
 use Rattle.ft_trace.specs.Unboxed.{unboxed_kind, unboxed_payload, with_value, unboxed_rows, unboxed_table, unboxed}
@@ -44,7 +42,7 @@ unboxed_block box kind raw i x up =
     let e : slice_index (slice_set raw.block i x) 0 ≡ slice_index raw.block 0 = get_or-set_other raw.block i 0 x 0 (λ z. omega (arith, z, up)) in
     λ d. record { block = slice_set raw.block i x; table = unboxed_table box kind (e d) raw.table }
 
-by_root : (box : ℕ → ℕ → ℕ) (kind : Kind) (r t : ℕ) (table : List ℕ) → r ≡ suc t → unboxed_table box kind r table ≡ unboxed_rows box kind (class_of t) (rows kind (class_of t)) table
+pub by_root : (box : ℕ → ℕ → ℕ) (kind : Kind) (r t : ℕ) (table : List ℕ) → r ≡ suc t → unboxed_table box kind r table ≡ unboxed_rows box kind (class_of t) (rows kind (class_of t)) table
 by_root box kind r t table e = ap (λ (z : ℕ). unboxed_table box kind z table) e
 
 -- a word of the table that is no value's
@@ -58,7 +56,7 @@ unboxed_word box kind raw t i x names far =
 
 -- a value that names no box
 pub unboxed_value : (box : ℕ → ℕ → ℕ) (kind : Kind) (raw : ContainerWords) (t p i j a b : ℕ) → root_in raw ≡ suc t → p < rows kind (class_of t) → i ≡ value_at kind (class_of t) p → j ≡ suc (value_at kind (class_of t) p) → suc (value_at kind (class_of t) p) < length raw.table → a ≢ 4
-    → unboxed box kind (with_put raw (to_value i j a b)) ≡ with_put (unboxed box kind raw) (to_value i j a b)
+    → unboxed box kind (with_put raw (to_value None i j a b)) ≡ with_put (unboxed box kind raw) (to_value None i j a b)
 unboxed_value box kind raw t p i j a b names less ei ej long ne =
     let n : ℕ = rows kind (class_of t) in
     let place : ℕ = value_at kind (class_of t) p in

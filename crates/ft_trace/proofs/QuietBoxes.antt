@@ -6,15 +6,15 @@ use Rattle.ft_model.specs.declared.script.Kind.{Kind}
 use Rattle.ft_trace.specs.declared.Shape.{Shape}
 use Rattle.ft_trace.specs.Addresses.{box_word, class_of, container_count}
 use Rattle.ft_trace.specs.ContainerStates.{kind_in}
-use Rattle.ft_trace.specs.Pictures.{ContainerWords, picture, root_of, root_in, inner}
+use Rattle.ft_trace.specs.Pictures.{ContainerWords, root_of, root_in, inner}
 use Rattle.ft_trace.specs.Kinds.{rows}
 use Rattle.ft_trace.specs.Boxes.{value_at, named_in_container}
 use Rattle.ft_trace.proofs.NamedBoxes.{named_in_same, named_low}
 use Rattle.ft_trace.specs.BoxTraces.{references}
 use Rattle.ft_trace.specs.Unboxed.{unboxed_picture}
 use Rattle.ft_trace.specs.BoxLaws.{QuietBoxesStay}
-use Rattle.ft_trace.specs.Traces.{Event, did, forked, joined, sent, run, word, history, Valid}
-use Rattle.ft_trace.proofs.Contents.{Still, still, quiet}
+use Rattle.ft_trace.specs.Traces.{Event, did, forked, joined, sent, run, word, Valid}
+use Rattle.ft_trace.proofs.Contents.{still, quiet}
 use Rattle.ft_trace.proofs.OddVersions.{version, rises, rises_one}
 use Rattle.ft_trace.proofs.Pieces.{block_at}
 use Rattle.ft_trace.proofs.BoxValues.{value_stays}

@@ -1,18 +1,18 @@
 -- While an entry or item keeps an even version in a table that a root names, the value in the box that it names stays.
-use Rattle.std.proofs.Common.{◌≡◌, ◌≢◌, ◌⊎◌, ℕ, suc, ◌+◌, ◌*◌, ◌%◌, ◌<◌, ◌≤◌, List, [], ◌∷◌, ◌++◌, refl, sym, ap, ◌∙◌, subst, inl, inr, arith}
+use Rattle.std.proofs.Common.{◌≡◌, ◌≢◌, ◌⊎◌, ℕ, suc, ◌%◌, ◌<◌, ◌≤◌, List, [], ◌∷◌, ◌++◌, refl, sym, ap, ◌∙◌, subst, inl, inr, arith}
 use Rattle.std.specs.Prelude.{slice_index}
 use Rattle.ft_model.specs.declared.script.Kind.{Kind}
 use Rattle.ft_model.specs.declared.script.Kind.TheVariants as kind
 use Rattle.ft_trace.specs.declared.Shape.{Shape}
 use Rattle.ft_trace.specs.Addresses.{box_word, class_of, container_count, slots}
-use Rattle.ft_trace.specs.Ages.{age, whose}
+use Rattle.ft_trace.specs.Ages.{age}
 use Rattle.ft_trace.specs.ContainerStates.{kind_in}
-use Rattle.ft_trace.specs.Pictures.{table_words, root_of, inner, entry_offset, item_offset}
+use Rattle.ft_trace.specs.Pictures.{root_of, inner, entry_offset, item_offset}
 use Rattle.ft_trace.specs.Kinds.{rows, version_at, LaterAs}
 use Rattle.ft_trace.specs.Boxes.{value_at}
 use Rattle.ft_trace.specs.BoxTraces.{references}
 use Rattle.ft_trace.specs.QuietEntries.{QuietEntriesKeepBoxes}
-use Rattle.ft_trace.specs.Traces.{Event, did, forked, joined, sent, run, word, history, Valid}
+use Rattle.ft_trace.specs.Traces.{Event, did, forked, joined, sent, run, word, Valid}
 use Rattle.ft_trace.proofs.TablePlaces.{root, root_table, placed}
 use Rattle.ft_trace.proofs.Ages.{ages_one, ages_rise, whose_same}
 use Rattle.ft_trace.proofs.Contents.{tab}

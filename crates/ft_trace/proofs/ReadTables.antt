@@ -1,12 +1,9 @@
 -- The words of a table as they read through boxes: which words are as they stand, what a value reads, and what stays of
 -- them in a step.
-use Rattle.std.proofs.Common.{◌≡◌, ◌≢◌, ◌⊎◌, ℕ, zero, suc, ◌+◌, ◌-◌, ◌*◌, ◌/◌, ◌%◌, ◌<◌, ◌≤◌, List, [], ◌∷◌, ◌++◌, length, set, refl, sym, ap, ◌∙◌, subst, inl, inr, ⊎_elim, arith, length-set, get_or-set_other, get_or-set_same}
-use Rattle.std.specs.Prelude.{slice_index, slice_set}
-use Rattle.std.proofs.Math.Decide.{dec_lt}
-use mathlib.Core.Option.{some}
+use Rattle.std.proofs.Common.{◌≡◌, ◌≢◌, ◌⊎◌, ℕ, zero, suc, ◌%◌, ◌<◌, ◌≤◌, List, [], ◌∷◌, length, set, refl, sym, ap, ◌∙◌, subst, inl, inr, ⊎_elim, arith, length-set, get_or-set_other, get_or-set_same}
+use Rattle.std.specs.Prelude.{slice_index}
 use mathlib.Core.Logic.{dite}
 use native.Mathlib.Decide.{ℕ_discrete}
-use lib.ListN.{get_elem?}
 use Rattle.ft_model.specs.declared.content.Content.{Content}
 use Rattle.ft_model.specs.declared.data.Key.{Key}
 use Rattle.ft_layout.specs.Words.{key_kind}
@@ -19,9 +16,9 @@ use Rattle.ft_trace.specs.declared.View.{View}
 use Rattle.ft_trace.specs.declared.Act.{Act}
 use Rattle.ft_trace.specs.Addresses.{container_count, class_of, slots, places, size}
 use Rattle.ft_trace.specs.ContainerStates.{kind_in}
-use Rattle.ft_trace.specs.Pictures.{inner, index_field, entry_offset, entry_field, item_offset, item_field, walk_of, Met}
+use Rattle.ft_trace.specs.Pictures.{inner, index_field, entry_offset, entry_field, item_offset, item_field, walk_of}
 use Rattle.ft_trace.specs.Carefuls.{Pairs, HasLiveKey, IsDead, Reached, OpensChanged}
-use Rattle.ft_trace.specs.Kinds.{rows, version_at, under, SoundAs, CarefulAs, IsKeyed, IsItems}
+use Rattle.ft_trace.specs.Kinds.{rows, version_at, under, SoundAs, CarefulAs, IsKeyed}
 use Rattle.ft_trace.specs.Boxes.{value_at, names_box_at, named_in_root, named_in_container}
 use Rattle.ft_trace.specs.BoxTraces.{references}
 use Rattle.ft_trace.specs.OddValues.{SameButValue, SameButItem}
@@ -33,7 +30,7 @@ use Rattle.ft_trace.proofs.TablePlaces.{root}
 use Rattle.ft_trace.proofs.Sums.{sum_at}
 use Rattle.ft_trace.proofs.BoxValues.{value_stays}
 use Rattle.ft_trace.proofs.Unboxed.{rows_same, named_row}
-use Rattle.ft_trace.proofs.ValuePuts.{word_kept, value_put, word_put}
+use Rattle.ft_trace.proofs.ValuePuts.{word_kept}
 use Rattle.ft_trace.proofs.ByKind.{CarefulWordsAs, items_fit, sets_fit}
 use Rattle.ft_trace.proofs.Carefuls.{CarefulWords, careful_words}
 use Rattle.ft_trace.proofs.Items.{ItemCarefulWords, item_careful_words}

@@ -8,7 +8,6 @@ use Rattle.ft_trace.specs.declared.View.{View}
 use Rattle.ft_trace.specs.Ages.{age, whose}
 use Rattle.ft_trace.proofs.EarlierMoments.{valid_rest}
 use Rattle.ft_trace.specs.Entries.{number_count}
-use Rattle.ft_trace.specs.Pictures.{picture}
 use Rattle.ft_trace.specs.Traces.{run, history}
 use Rattle.ft_trace.specs.TraceLaws.{StoredTablesAreInOrder, WordsLieApart, PairsAreUnderTheirKeys, ElementsAreUnderTheirKeys, OnePassIsAlone, StampsRise, MemoryErrorsAreEarned, LocksNameHolders, VersionsAreOddInWrites, EvenTablesAreShut, NumbersAreOnce, EntriesAreRight, OneHasAllEntries, EvenWordsStand, ZeroRootsHaveNothing, HoldersKnow, TablesAreSomewhere, TablesAreInOnePlace, CountsStand, TablesAreOwed, EmptyClassesAreEarned, AnnouncedNumbersAreLow, FoundTablesAreKept, GivenUpTablesRest, TablesAreSound, TableWordsStay, HitsAreRight, MissesAreRight, BareRootsAreRight, ItemsAreRight, ListsFitTheirTables, LooksAreRight, LooksAtBothAreRight, ChangedRootsAreNew, NumbersHaveRoom, NextSerialsAreLow, CallsAreCounted}
 use Rattle.ft_trace.proofs.Locks.{names, holder, one_holder}

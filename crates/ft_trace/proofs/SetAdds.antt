@@ -255,6 +255,7 @@ module _ (versions : EntryVersionsChangeNothing) (first : FirstEntriesAreElement
         called = record { of = refl; wrote = refl; fits = fits; locks = one_locked o v.log may.mine; replied = λ r e. inr e; declared = λ world one. record { one = one; both = tt; room = tt } };
         root = tt;
         early = early;
+        boxes = tt;
         names = names_now;
         clear = clear;
         late = late;

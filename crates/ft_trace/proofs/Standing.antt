@@ -1,9 +1,7 @@
 -- While a version is even the words of its container, read through boxes, stand for the history.
-use Rattle.std.proofs.Common.{◌≡◌, ℕ, None, zero, suc, ◌%◌, ◌<◌, true, List, [], ◌∷◌, ◌++◌, length, refl, sym, ap, ◌∙◌, subst, arith}
-use mathlib.Core.Option.{some}
+use Rattle.std.proofs.Common.{◌≡◌, ℕ, None, zero, suc, ◌%◌, ◌<◌, true, List, [], ◌∷◌, refl, sym, ap, ◌∙◌, subst, arith}
 use mathlib.Core.Logic.{dite}
 use native.Mathlib.Decide.{ℕ_discrete}
-use lib.ListN.{get_elem?}
 use Rattle.std.specs.Prelude.{replicate, map, slice_index_or}
 use Rattle.ft_model.specs.declared.script.Kind.{Kind}
 use Rattle.ft_model.specs.declared.script.Kind.TheVariants as kind
@@ -14,19 +12,19 @@ use Rattle.ft_trace.specs.declared.Shape.{Shape}
 use Rattle.ft_trace.specs.declared.View.{View}
 use Rattle.ft_trace.specs.declared.Act.{Act}
 use Rattle.ft_trace.specs.declared.Act.TheVariants.{StartWrite, StopWrite}
-use Rattle.ft_trace.specs.Addresses.{Word, block, Inside, container_count}
-use Rattle.ft_trace.specs.Acts.{has_lock, is_writing, view_after}
+use Rattle.ft_trace.specs.Addresses.{block, container_count}
+use Rattle.ft_trace.specs.Acts.{is_writing, view_after}
 use Rattle.ft_trace.specs.ContainerStates.{ContainerState, container_after, kind_in}
 use Rattle.ft_trace.specs.Pictures.{inner, ContainerWords, picture, Represents}
 use Rattle.ft_trace.specs.Unboxed.{box_word_in, unboxed, unboxed_picture}
-use Rattle.ft_trace.specs.Traces.{Event, did, forked, joined, sent, run, word, writes_of, history, StandsFor, May, Fits, Valid}
+use Rattle.ft_trace.specs.Traces.{Event, did, forked, joined, sent, run, word, writes_of, history, StandsFor, Fits, Valid}
 use Rattle.ft_trace.proofs.LandedStarts.{starts_unsplit}
 use Rattle.ft_trace.proofs.Sizes.{set_at}
 use Rattle.ft_trace.proofs.Cases.{hit, off}
 use Rattle.ft_trace.proofs.Addresses.{block_first}
 use Rattle.ft_trace.proofs.OneWord.{stays}
 use Rattle.ft_trace.proofs.Pieces.{block_zero}
-use Rattle.ft_trace.proofs.OddVersions.{version, versioned, on_seq, writing_is_odd, writer_has}
+use Rattle.ft_trace.proofs.OddVersions.{version, versioned, on_seq}
 use Rattle.ft_trace.proofs.Contents.{Of, still_of, still, Still}
 use Rattle.ft_trace.proofs.Unboxed.{read_stays}
 

@@ -1,29 +1,26 @@
 -- What the words of a container read through boxes stays while its own words stay, and a value put in a box reads as
 -- the value.
-use Rattle.std.proofs.Common.{◌≡◌, ◌≢◌, ◌⊎◌, ℕ, zero, suc, ◌+◌, ◌*◌, ◌<◌, ◌≤◌, ◌%◌, eqb, true, cond, List, [], ◌∷◌, ◌++◌, length, set, refl, sym, ap, ◌∙◌, subst, inl, inr, arith, length-set, get_or-set_other, get_or-set_same}
-use mathlib.Core.Option.{some}
+use Rattle.std.proofs.Common.{◌≡◌, ◌≢◌, ◌⊎◌, ℕ, zero, suc, ◌<◌, eqb, true, cond, List, ◌∷◌, refl, sym, ap, ◌∙◌, inl, inr, arith}
 use mathlib.Core.Logic.{dite}
 use native.Mathlib.Decide.{ℕ_discrete}
-use lib.ListN.{get_elem?}
-use Rattle.std.specs.Prelude.{slice_index, slice_set}
+use Rattle.std.specs.Prelude.{slice_index}
 use Rattle.ft_model.specs.declared.script.Kind.{Kind}
 use Rattle.ft_model.specs.declared.script.Kind.TheVariants as kind
 use Rattle.ft_trace.specs.declared.Shape.{Shape}
 use Rattle.ft_trace.specs.declared.View.{View}
 use Rattle.ft_trace.specs.declared.Act.{Act}
-use Rattle.ft_trace.specs.Addresses.{block, box_word, class_of, container_count, slots}
-use Rattle.ft_trace.specs.Acts.{is_writing, view_after}
-use Rattle.ft_trace.specs.ContainerStates.{container_after, kind_in}
-use Rattle.ft_trace.specs.Pictures.{ContainerWords, picture, root_of, root_in, inner, item_offset, entry_offset}
+use Rattle.ft_trace.specs.Addresses.{class_of, container_count}
+use Rattle.ft_trace.specs.Acts.{is_writing}
+use Rattle.ft_trace.specs.ContainerStates.{kind_in}
+use Rattle.ft_trace.specs.Pictures.{ContainerWords, picture, root_of, root_in, inner}
 use Rattle.ft_trace.specs.Kinds.{rows}
-use Rattle.ft_trace.specs.Entries.{total}
-use Rattle.ft_trace.specs.Boxes.{value_at, names_box, names_box_at, named_in_root, named_in_container, named_in_all}
-use Rattle.ft_trace.specs.BoxTraces.{references_held_by, references}
+use Rattle.ft_trace.specs.Boxes.{value_at, names_box_at, named_in_root, named_in_container}
+use Rattle.ft_trace.specs.BoxTraces.{references}
 use Rattle.ft_trace.specs.Unboxed.{box_word_in, unboxed_kind, unboxed_payload, with_value, unboxed_rows, unboxed_table, unboxed, unboxed_picture}
-use Rattle.ft_trace.specs.Traces.{Event, did, run, word, history, May, Valid}
-use Rattle.ft_trace.proofs.Cases.{hit, miss, here}
+use Rattle.ft_trace.specs.Traces.{Event, did, run, Valid}
+use Rattle.ft_trace.proofs.Cases.{miss, here}
 use Rattle.ft_trace.proofs.Pieces.{block_at}
-use Rattle.ft_trace.proofs.Contents.{Still, unwritten}
+use Rattle.ft_trace.proofs.Contents.{unwritten}
 use Rattle.ft_trace.proofs.Sums.{sum_at}
 use Rattle.ft_trace.proofs.BoxValues.{value_stays}
 

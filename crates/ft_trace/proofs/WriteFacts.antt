@@ -26,7 +26,7 @@ use Rattle.ft_trace.specs.Holds.{held_words, known_state, hand_unboxed, AgreesWi
 use Rattle.ft_trace.specs.declared.Act.TheVariants.{PutRoot}
 use Rattle.ft_trace.specs.Boxes.{HasReferences}
 use Rattle.ft_trace.specs.Traces.{IsReachable}
-use Rattle.ft_trace.specs.WholeWrites.{MayPuts, WholeWrite, with_root_put, at_commit, at_end, after_write_of, MayBegin, MayReplace, MayCommitWrite, MayWriteSo}
+use Rattle.ft_trace.specs.WholeWrites.{MayPuts, HasBoxes, spare_references, WholeWrite, with_root_put, at_commit, at_end, after_write_of, MayBegin, MayReplace, MayCommitWrite, MayWriteSo}
 use Rattle.ft_trace.proofs.Known.{kind_known, declared_at}
 use Rattle.ft_trace.proofs.KnownContents.{in_world, content_there, content_left}
 use Rattle.ft_trace.proofs.Writing.{write_possible}
@@ -52,6 +52,7 @@ pub record WriteFacts (v : View) (o t : ℕ) (x news : Content) (table : TableUs
   pub called : CallFacts v o (kind_of x) write.call write.reply
   pub root : MayReplace v o write.call write.root
   pub early : MayPuts (kind_of x) t x false (with_root_put v o write.root) write.early
+  pub boxes : HasBoxes v.shape v.log (spare_references v write.root) write.early
   pub names : root_in (at_commit v o write) ≡ suc t
   pub clear : ClearAs (kind_of x) v.shape.texts (class_of t) (at_commit v o write).table x news
   pub late : MayPuts (kind_of x) t news true (at_commit v o write) write.late
@@ -98,6 +99,7 @@ module _ (v : View) (o t : ℕ) (x news : Content) (table : TableUse) (write : W
     locks = facts.called.locks;
     root = facts.root;
     early = subst (λ (z : Kind × Content). MayPuts z.0 t z.1 false (with_root_put v o write.root) write.early) (λ d. (kind_eq d, sym is d)) facts.early;
+    boxes = facts.boxes;
     commit = commits;
     shut = λ q root. let same : t ≡ q = let r : suc t ≡ suc q = sym facts.names_still ∙ root in omega (arith, r) in subst (λ (z : Kind × ℕ). Shut (version_at z.0 (class_of z.1)) (rows z.0 (class_of z.1)) (at_end v o write).table) (λ d. (kind_eq d, same d)) facts.shut;
   }

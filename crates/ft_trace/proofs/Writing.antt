@@ -18,7 +18,7 @@ use Rattle.ft_trace.specs.Kinds.{rows, version_at, CarefulAs, ClearAs}
 use Rattle.ft_trace.specs.OddVersions.{Shut, Low, Timely}
 use Rattle.ft_trace.specs.Holds.{held_words, held_unboxed, known_state, in_hand, hand_unboxed, AgreesWith}
 use Rattle.ft_trace.specs.Traces.{did, run, word, history, snap, SoundFor, ClearFor, May, Valid, IsReachable, Sure, IsAwake}
-use Rattle.ft_trace.specs.WholeWrites.{Put, to_block, to_table, to_value, log_of, with_put, with_puts, MayPuts, WholeWrite, log_of_root, with_root_put, at_commit, with_log, log_at_commit, after_write_of, MayBegin, MayReplace, MayWriteSo, WritesMayBeMade}
+use Rattle.ft_trace.specs.WholeWrites.{Put, to_block, to_table, to_value, log_of_put, log_of, with_put, with_puts, MayPuts, HasBox, HasBoxes, spare_after, spare_references, WholeWrite, log_of_root, with_root_put, at_commit, with_log, log_at_commit, after_write_of, MayBegin, MayReplace, MayWriteSo, WritesMayBeMade}
 use Rattle.ft_trace.proofs.Sizes.{set_at}
 use Rattle.ft_trace.proofs.Cases.{hit, off}
 use Rattle.ft_trace.proofs.Addresses.{at_low, at_apart}
@@ -30,9 +30,11 @@ use Rattle.ft_trace.proofs.Held.{root_known, table_known, table_read, agrees_now
 use Rattle.ft_trace.proofs.NextActions.{next_possible}
 use Rattle.ft_trace.proofs.Clearing.{held_shut}
 use Rattle.ft_trace.specs.Boxes.{value_at, known_box_word, references_held, named_in_root, named_in_container, HasReferences}
+use Rattle.ft_trace.specs.BoxPuts.{HasOwnReference}
 use Rattle.ft_trace.specs.Unboxed.{unboxed_table, unboxed_words, unboxed}
 use Rattle.ft_trace.proofs.ReadTables.{value_low, version_apart, read_version}
-use Rattle.ft_trace.proofs.ReferencesOfPuts.{word_refs, value_refs}
+use Rattle.ft_trace.proofs.ReferencesOfPuts.{word_refs, value_refs, word_held, plain_held}
+use Rattle.ft_trace.proofs.BoxedPuts.{boxes_after, none_late, first_refs, second_refs, spare1, spare2, unboxed_boxed}
 use Rattle.ft_trace.proofs.PlainPuts.{unboxed_block, unboxed_word, unboxed_value, unboxed_root, value_careful, FewReferences, named_is, few_at_first, few_after_table, few_after_root, refs_started, zero_refs, raw_shut}
 
 -- ---- pictures after a put
@@ -106,7 +108,8 @@ pub puts_alike : (o t : ℕ) (puts : List Put) (log : List Act) → Alike (log_o
 puts_alike o t [] log = ((λ p. refl), (λ p. refl), (λ p. refl), (λ p. refl), refl, refl)
 puts_alike o t (to_block i x ∷ puts) log = puts_alike o t puts (PutBlock o i x ∷ log)
 puts_alike o t (to_table i x ∷ puts) log = puts_alike o t puts (PutTable o t i x ∷ log)
-puts_alike o t (to_value i j a b ∷ puts) log = puts_alike o t puts (PutTable o t j b ∷ PutTable o t i a ∷ log)
+puts_alike o t (to_value None i j a b ∷ puts) log = puts_alike o t puts (PutTable o t j b ∷ PutTable o t i a ∷ log)
+puts_alike o t (to_value (Some c) i j a b ∷ puts) log = puts_alike o t puts (PutTable o t i 4 ∷ PutTable o t j c ∷ log)
 
 -- ---- puts in a row
 
@@ -168,17 +171,81 @@ module _ (v : View) (live : IsAwake v) (o t : ℕ) (low : o < container_count v.
   few_more : (log : List Act) → FewReferences k o log → (b : ℕ) → references_held k b log + 1 < 2 ^ 32
   few_more log few b = let f = few b in omega (arith, f)
 
-  pub puts_possible : (puts : List Put) (log : List Act) (words : ContainerWords) (content : Content) (committed : Bool) → IsReachable (with_log v log) → has_lock o log ≡ true → is_writing o log ≡ true → has_committed o log ≡ committed → FewReferences k o log → held_unboxed o (with_log v log) ≡ words → (container_after k.starts (past log) o).content ≡ content → MayPuts kind t content committed words puts
+  -- a value in a box
+  record AfterBox (log : List Act) (words : ContainerWords) (spare : ℕ → ℕ) (c i j a b : ℕ) : Type 0 where
+    possible : IsReachable (with_log v (log_of_put o t (to_value (Some c) i j a b) log))
+    read : held_unboxed o (with_log v (log_of_put o t (to_value (Some c) i j a b) log)) ≡ with_put words (to_value (Some c) i j a b)
+    few : FewReferences k o (log_of_put o t (to_value (Some c) i j a b) log)
+    between : (x : ℕ) → spare_after (Some c) spare x ≤ references_held k x (PutTable o t j c ∷ log)
+    enough : (x : ℕ) → spare_after (Some c) spare x ≤ references_held k x (log_of_put o t (to_value (Some c) i j a b) log)
+
+  read_at : (l : List Act) → root_in (Raw l) ≡ suc t → (q : ℕ) → q < rows kind (class_of t) → slice_index (held_unboxed o (with_log v l)).table (version_at kind (class_of t) q) ≡ slice_index (Raw l).table (version_at kind (class_of t) q)
+  read_at l e q low_q =
+      ap (λ (r : ℕ). slice_index (unboxed_table (Box l) kind r (Raw l).table) (version_at kind (class_of t) q)) e
+      ∙ read_version (Box l) (class_of t) (rows kind (class_of t)) (Raw l).table kind refl q low_q
+
+  -- words of values are no versions
+  value_timely : (row n x : ℕ) (committed : Bool) → (n ≡ value_at kind (class_of t) row) ⊎ (n ≡ suc (value_at kind (class_of t) row)) → Timely (version_at kind (class_of t)) (rows kind (class_of t)) n x committed
+  value_timely row n x committed of = record { before = λ q low_q e one. absurd (no_version q low_q e); later = λ q low_q e two. absurd (no_version q low_q e) }
+    where
+      no_version : (q : ℕ) → q < rows kind (class_of t) → n ≡ version_at kind (class_of t) q → ⊥
+      no_version q low_q e =
+          let far = version_apart kind (class_of t) q row low_q in
+          ⊎_elim (λ (z : n ≡ value_at kind (class_of t) row). far.0 (sym e ∙ z)) (λ (z : n ≡ suc (value_at kind (class_of t) row)). far.1 (sym e ∙ z)) of
+
+  boxed_put : (log : List Act) (words : ContainerWords) (committed : Bool) (spare : ℕ → ℕ) (c row a b : ℕ) → IsReachable (with_log v log) → has_lock o log ≡ true → is_writing o log ≡ true → has_committed o log ≡ committed → FewReferences k o log → held_unboxed o (with_log v log) ≡ words → root_in words ≡ suc t → row < rows kind (class_of t) → slice_index words.table (version_at kind (class_of t) row) % 2 ≡ 1
+      → ((x : ℕ) → spare x ≤ references_held k x log) → HasBox k log spare (Some c) a b → AfterBox log words spare c (value_at kind (class_of t) row) (suc (value_at kind (class_of t) row)) a b
+  boxed_put log words committed spare c row a b p mine odd done few is root less open_row enough box =
+      let class : ℕ = class_of t in
+      let place : ℕ = value_at kind class row in
+      let u = with_log v log in
+      let names : root_in (Raw log) ≡ suc t = ap root_in is ∙ root in
+      let table = named log p mine t names in
+      let there = root_there log names in
+      let wide_log = long log p mine in
+      let own : HasOwnReference k log c = (let e = enough c in let h = box.0 in omega (arith, e, h), box.1, box.2) in
+      let inside = value_low kind class row table.0 less in
+      let small : place < size class = omega (arith, inside) in
+      let far = version_apart kind class row row less in
+      let raw_is : (Raw log).table ≡ table_words k t (mem k log) = ap (λ (r : ℕ). inner k r (mem k log)) there in
+      let wide : length (Raw log).table ≡ size class = ap length raw_is ∙ table_long k t (mem k log) in
+      let open_here : slice_index (held_unboxed o u).table (version_at kind class row) % 2 ≡ 1 = ap (λ (z : ContainerWords). slice_index z.table (version_at kind class row) % 2) is ∙ open_row in
+      let care1 = value_careful kind class (held_unboxed o u).table (known_state o u).content row (suc place) c less (inr refl) open_here in
+      let refs1 = first_refs k log o t row c low table less wide_log there few own in
+      let first_ = one_put log (suc place) c committed p mine odd done few names inside care1 (value_timely row (suc place) c committed (inr refl)) refs1 in
+      let log1 : List Act = PutTable o t (suc place) c ∷ log in
+      let u1 = with_log v log1 in
+      let names1 : root_in (Raw log1) ≡ suc t = ap root_in first_.raw ∙ names in
+      let version1 : slice_index (held_unboxed o u1).table (version_at kind class row) ≡ slice_index (held_unboxed o u).table (version_at kind class row) =
+      read_at log1 names1 row less ∙ (ap (λ (z : ContainerWords). slice_index z.table (version_at kind class row)) first_.raw ∙ (get_or-set_other (Raw log).table (suc place) (version_at kind class row) c 0 far.1 ∙ sym (read_at log names row less))) in
+      let care2 = value_careful kind class (held_unboxed o u1).table (known_state o u1).content row place 4 less (inl refl) (ap (λ (z : ℕ). z % 2) version1 ∙ open_here) in
+      let refs2 = second_refs k log o t row c low table less wide_log there few own in
+      let second = one_put log1 place 4 committed first_.possible mine odd done first_.few names1 small care2 (value_timely row place 4 committed (inl refl)) refs2 in
+      let pic : Raw (PutTable o t place 4 ∷ log1) ≡ with_put (with_put (Raw log) (to_table (suc place) c)) (to_table place 4) = second.raw ∙ ap (λ (z : ContainerWords). with_put z (to_table place 4)) first_.raw in
+      record {
+        possible = second.possible;
+        read =
+            ap (unboxed (Box log) kind) pic
+            ∙ (unboxed_boxed (Box log) kind (Raw log) t row c a b names less (omega (arith, wide, inside)) box.3 box.4
+            ∙ ap (λ (z : ContainerWords). with_put z (to_value (Some c) place (suc place) a b)) is);
+        few = second.few;
+        between = spare1 k log o t row c low table less wide_log there few own spare enough;
+        enough = spare2 k log o t row c low table less wide_log there few own spare enough;
+      }
+
+  pub puts_possible : (puts : List Put) (log : List Act) (words : ContainerWords) (content : Content) (committed : Bool) (spare : ℕ → ℕ) → IsReachable (with_log v log) → has_lock o log ≡ true → is_writing o log ≡ true → has_committed o log ≡ committed → FewReferences k o log → held_unboxed o (with_log v log) ≡ words → (container_after k.starts (past log) o).content ≡ content → MayPuts kind t content committed words puts
+      → ((b : ℕ) → spare b ≤ references_held k b log) → HasBoxes k log spare puts
       → IsReachable (with_log v (log_of o t puts log)) × (held_unboxed o (with_log v (log_of o t puts log)) ≡ with_puts words puts) × FewReferences k o (log_of o t puts log)
-  puts_possible [] log words content committed p mine odd done few is has may = (p, is, few)
-  puts_possible (to_block i x ∷ puts) log words content committed p mine odd done few is has may =
+  puts_possible [] log words content committed spare p mine odd done few is has may enough boxes = (p, is, few)
+  puts_possible (to_block i x ∷ puts) log words content committed spare p mine odd done few is has may enough boxes =
       let tables : (q : ℕ) → root_in (Raw log) ≡ suc q → IsTableName k q = λ q e. named log p mine q e in
       let up = may.0.0 in
       let next = next_possible (with_log v log) live p (λ _. PutBlock o i x) (block o i) (λ _. refl) (λ _. tt) (λ es id knows. (low, may.0.1, odd, λ e. absurd (omega (arith, e, up)))) in
       let pic : Raw (PutBlock o i x ∷ log) ≡ with_put (Raw log) (to_block i x) = block_put k o low (mem k log) i x (Raw log) (long log p mine) up may.0.1 tables refl in
       let read : held_unboxed o (with_log v (PutBlock o i x ∷ log)) ≡ with_put words (to_block i x) = ap (unboxed (Box log) kind) pic ∙ (unboxed_block (Box log) kind (Raw log) i x up ∙ ap (λ (z : ContainerWords). with_put z (to_block i x)) is) in
-      puts_possible puts (PutBlock o i x ∷ log) (with_put words (to_block i x)) content committed next.1 mine odd done (few_after_block log i x up pic few) read has may.1
-  puts_possible (to_table i x ∷ puts) log words content committed p mine odd done few is has may =
+      puts_possible puts (PutBlock o i x ∷ log) (with_put words (to_block i x)) content committed spare next.1 mine odd done (few_after_block log i x up pic few) read has may.1
+      enough (boxes_after k log (PutBlock o i x) ((λ b i x. refl), (λ k b i x. refl)) puts spare enough boxes)
+  puts_possible (to_table i x ∷ puts) log words content committed spare p mine odd done few is has may enough boxes =
       let m = may.0 in
       let u = with_log v log in
       let names : root_in (Raw log) ≡ suc t = ap root_in is ∙ m.0 in
@@ -187,8 +254,9 @@ module _ (v : View) (live : IsAwake v) (o t : ℕ) (low : o < container_count v.
       let refs = word_refs k log o t i x low table m.1 (long log p mine) (root_there log names) m.4 (few_more log few) in
       let put = one_put log i x committed p mine odd done few names m.1 care m.3 refs in
       let read : held_unboxed o (with_log v (PutTable o t i x ∷ log)) ≡ with_put words (to_table i x) = ap (unboxed (Box log) kind) put.raw ∙ (unboxed_word (Box log) kind (Raw log) t i x names m.4 ∙ ap (λ (z : ContainerWords). with_put z (to_table i x)) is) in
-      puts_possible puts (PutTable o t i x ∷ log) (with_put words (to_table i x)) content committed put.possible mine odd done put.few read has may.1
-  puts_possible (to_value i j a b ∷ puts) log words content committed p mine odd done few is has may =
+      let still : (b : ℕ) → spare b ≤ references_held k b (PutTable o t i x ∷ log) = λ b. let e = enough b in let h = word_held k log o t i x low table m.1 (long log p mine) (root_there log names) m.4 b in omega (arith, e, h) in
+      puts_possible puts (PutTable o t i x ∷ log) (with_put words (to_table i x)) content committed spare put.possible mine odd done put.few read has may.1 still (boxes_after k log (PutTable o t i x) ((λ b i x. refl), (λ k b i x. refl)) puts spare still boxes)
+  puts_possible (to_value None i j a b ∷ puts) log words content committed spare p mine odd done few is has may enough boxes =
       let m = may.0 in
       let row : ℕ = m.1.0 in
       let less = m.1.1 in
@@ -206,11 +274,12 @@ module _ (v : View) (live : IsAwake v) (o t : ℕ) (low : o < container_count v.
       let small_i : i < size c = omega (arith, ei, inside) in
       let small_j : j < size c = omega (arith, ej, inside) in
       let far = version_apart kind c row row less in
-      let time : (n x : ℕ) → (n ≡ place) ⊎ (n ≡ suc place) → Timely (version_at kind c) (rows kind c) n x committed = λ n x of. record { before = λ q low_q e one. absurd (no_version n q low_q of e); later = λ q low_q e two. absurd (no_version n q low_q of e) } in
+      let time : (n x : ℕ) → (n ≡ place) ⊎ (n ≡ suc place) → Timely (version_at kind c) (rows kind c) n x committed = λ n x of. value_timely row n x committed of in
       let open_here : slice_index (held_unboxed o u).table (version_at kind c row) % 2 ≡ 1 = ap (λ (z : ContainerWords). slice_index z.table (version_at kind c row) % 2) is ∙ m.1.4 in
       let care1 = value_careful kind c (held_unboxed o u).table (known_state o u).content row i a less (inl ei) open_here in
+      let kind_first : slice_index (slice_set (table_words k t (mem k log)) i a) place ≡ a = ap (λ (z : ℕ). slice_index (slice_set (table_words k t (mem k log)) z a) place) ei ∙ get_or-set_same (table_words k t (mem k log)) place a 0 (let l = table_long k t (mem k log) in omega (arith, l, inside)) in
       let refs1 = value_refs k log o t i a low table small_i (long log p mine) (root_there log names) row less (inl ei)
-      (λ four. absurd (plain (sym (ap (λ (z : ℕ). slice_index (slice_set (table_words k t (mem k log)) z a) place) ei ∙ get_or-set_same (table_words k t (mem k log)) place a 0 (let l = table_long k t (mem k log) in omega (arith, l, inside))) ∙ four))) (few_more log few) in
+      (λ four. absurd (plain (sym kind_first ∙ four))) (few_more log few) in
       let first_ = one_put log i a committed p mine odd done few names small_i care1 (time i a (inl ei)) refs1 in
       let log1 : List Act = PutTable o t i a ∷ log in
       let u1 = with_log v log1 in
@@ -222,23 +291,21 @@ module _ (v : View) (live : IsAwake v) (o t : ℕ) (low : o < container_count v.
       let care2 = value_careful kind c (held_unboxed o u1).table (known_state o u1).content row j b less (inr ej) (ap (λ (z : ℕ). z % 2) version1 ∙ open_here) in
       let kind_now : slice_index (slice_set (table_words k t (mem k log1)) j b) place ≡ a =
       get_or-set_other (table_words k t (mem k log1)) j place b 0 (λ z. omega (arith, z, ej))
-      ∙ (ap (λ (l : List ℕ). slice_index l place) raw1 ∙ (ap (λ (z : ℕ). slice_index (slice_set (table_words k t (mem k log)) z a) place) ei ∙ get_or-set_same (table_words k t (mem k log)) place a 0 (let l = table_long k t (mem k log) in omega (arith, l, inside)))) in
+      ∙ (ap (λ (l : List ℕ). slice_index l place) raw1 ∙ kind_first) in
       let refs2 = value_refs k log1 o t j b low table small_j (long log1 first_.possible mine) (root_there log1 names1) row less (inr ej) (λ four. absurd (plain (sym kind_now ∙ four))) (few_more log1 first_.few) in
       let second = one_put log1 j b committed first_.possible mine odd done first_.few names1 small_j care2 (time j b (inr ej)) refs2 in
-      let pic : Raw (PutTable o t j b ∷ log1) ≡ with_put (Raw log) (to_value i j a b) = second.raw ∙ ap (λ (z : ContainerWords). with_put z (to_table j b)) first_.raw in
-      let read : held_unboxed o (with_log v (PutTable o t j b ∷ log1)) ≡ with_put words (to_value i j a b) =
-      ap (unboxed (Box log) kind) pic ∙ (unboxed_value (Box log) kind (Raw log) t row i j a b names less ei ej (omega (arith, wide, inside)) plain ∙ ap (λ (z : ContainerWords). with_put z (to_value i j a b)) is) in
-      puts_possible puts (PutTable o t j b ∷ log1) (with_put words (to_value i j a b)) content committed second.possible mine odd done second.few read has may.1
-    where
-      no_version : (n q : ℕ) → q < rows kind (class_of t) → (n ≡ value_at kind (class_of t) may.0.1.0) ⊎ (n ≡ suc (value_at kind (class_of t) may.0.1.0)) → n ≡ version_at kind (class_of t) q → ⊥
-      no_version n q low_q of e =
-          let far = version_apart kind (class_of t) q may.0.1.0 low_q in
-          ⊎_elim (λ (z : n ≡ value_at kind (class_of t) may.0.1.0). far.0 (sym e ∙ z)) (λ (z : n ≡ suc (value_at kind (class_of t) may.0.1.0)). far.1 (sym e ∙ z)) of
-
-      read_at : (l : List Act) → root_in (Raw l) ≡ suc t → (q : ℕ) → q < rows kind (class_of t) → slice_index (held_unboxed o (with_log v l)).table (version_at kind (class_of t) q) ≡ slice_index (Raw l).table (version_at kind (class_of t) q)
-      read_at l e q low_q =
-          ap (λ (r : ℕ). slice_index (unboxed_table (Box l) kind r (Raw l).table) (version_at kind (class_of t) q)) e
-          ∙ read_version (Box l) (class_of t) (rows kind (class_of t)) (Raw l).table kind refl q low_q
+      let still1 : (x : ℕ) → spare x ≤ references_held k x log1 = λ x. let e = enough x in let h = plain_held k log o t i a low table small_i (long log p mine) (root_there log names) row less (inl ei) (λ four. plain (sym kind_first ∙ four)) x in omega (arith, e, h) in
+      let still2 : (x : ℕ) → spare x ≤ references_held k x (PutTable o t j b ∷ log1) = λ x. let e = still1 x in let h = plain_held k log1 o t j b low table small_j (long log1 first_.possible mine) (root_there log1 names1) row less (inr ej) (λ four. plain (sym kind_now ∙ four)) x in omega (arith, e, h) in
+      let pic : Raw (PutTable o t j b ∷ log1) ≡ with_put (Raw log) (to_value None i j a b) = second.raw ∙ ap (λ (z : ContainerWords). with_put z (to_table j b)) first_.raw in
+      let read : held_unboxed o (with_log v (PutTable o t j b ∷ log1)) ≡ with_put words (to_value None i j a b) =
+      ap (unboxed (Box log) kind) pic ∙ (unboxed_value (Box log) kind (Raw log) t row i j a b names less ei ej (omega (arith, wide, inside)) plain ∙ ap (λ (z : ContainerWords). with_put z (to_value None i j a b)) is) in
+      puts_possible puts (PutTable o t j b ∷ log1) (with_put words (to_value None i j a b)) content committed spare second.possible mine odd done second.few read has may.1 still2 (boxes_after k log1 (PutTable o t j b) ((λ b i x. refl), (λ k b i x. refl)) puts spare still2 (boxes_after k log (PutTable o t i a) ((λ b i x. refl), (λ k b i x. refl)) puts spare still1 boxes.1))
+  puts_possible (to_value (Some c) i j a b ∷ puts) log words content committed spare p mine odd done few is has may enough boxes =
+      let m = may.0 in
+      let at_place = boxed_put log words committed spare c m.1.0 a b p mine odd done few is m.0 m.1.1 m.1.4 enough boxes.0 in
+      let at : AfterBox log words spare c i j a b = subst (λ (z : ℕ × ℕ). AfterBox log words spare c z.0 z.1 a b) (λ d. (sym m.1.2 d, sym m.1.3 d)) at_place in
+      let later = boxes_after k (PutTable o t j c ∷ log) (PutTable o t i 4) ((λ b i x. refl), (λ k b i x. refl)) puts (spare_after (Some c) spare) at.enough (boxes_after k log (PutTable o t j c) ((λ b i x. refl), (λ k b i x. refl)) puts (spare_after (Some c) spare) at.between boxes.1) in
+      puts_possible puts (PutTable o t i 4 ∷ PutTable o t j c ∷ log) (with_put words (to_value (Some c) i j a b)) content committed (spare_after (Some c) spare) at.possible mine odd done at.few at.read has may.1 at.enough later
 
 -- ---- the whole write
 
@@ -365,13 +432,26 @@ module _ (v : View) (o t : ℕ) (write : WholeWrite) (begin : MayBegin v o) (may
       × (has_emptied o log ≡ true → may_empty write.call ≡ true)
       × FewReferences n o log
 
+  -- the references that it has to spare are still there after the put of the root, and the boxes are as they were
+  spared : (r : Option ℕ) (start b : ℕ) → spare_references v r b ≤ references_held n b (log_of_root o old r (l1 start))
+  spared None start b = let h : references_held n b (l1 start) ≡ references_held n b v.log = refl in omega (arith, h)
+  spared (Some root) start b = omega arith
+
+  boxes_rooted : (r : Option ℕ) (start : ℕ) → HasBoxes n v.log (spare_references v r) write.early → HasBoxes n (log_of_root o old r (l1 start)) (spare_references v r) write.early
+  boxes_rooted None start has = boxes_after n v.log (StartWrite o start) ((λ b i x. refl), (λ k b i x. refl)) write.early (spare_references v None) (spared None start) has
+  boxes_rooted (Some root) start has =
+      boxes_after n (l1 start) (PutRoot o root old) ((λ b i x. refl), (λ k b i x. refl)) write.early (λ b. 0) (λ b. omega arith)
+      (boxes_after n v.log (StartWrite o start) ((λ b i x. refl), (λ k b i x. refl)) write.early (λ b. 0) (λ b. omega arith) has)
+
   ready : (start : ℕ) → IsReachable (with_log v (l1 start)) → Ready (l3 start)
   ready start p =
       let l2 = log_of_root o old write.root (l1 start) in
       let r = rooted write.root may.root start p in
       let mine : has_lock o l2 ≡ true = r.2 o ∙ begin.mine in
       let content : (container_after n.starts (past l2) o).content ≡ (known_state o v).content = ap (λ (cs : List Call). (container_after n.starts cs o).content) r.6 in
-      let puts = puts_possible v begin.live o t begin.low write.early l2 (with_root_put v o write.root) (known_state o v).content false r.0 mine r.3 r.4 r.8 r.1 content may.early in
+      let spare = spared write.root start in
+      let boxes = boxes_rooted write.root start may.boxes in
+      let puts = puts_possible v begin.live o t begin.low write.early l2 (with_root_put v o write.root) (known_state o v).content false (spare_references v write.root) r.0 mine r.3 r.4 r.8 r.1 content may.early spare boxes in
       let same = puts_alike o t write.early l2 in
       (puts.0, puts.1, (λ q. same.0 q ∙ r.2 q), same.1 o ∙ r.3, same.4 ∙ r.5, same.5 ∙ r.6, (λ e. r.7 (sym (same.3 o) ∙ e)), puts.2)
 
@@ -424,7 +504,7 @@ module _ (v : View) (o t : ℕ) (write : WholeWrite) (begin : MayBegin v o) (may
       let w = view_after a v in
       let p4 : IsReachable (with_log w (a ∷ log)) = (did id u a ∷ es, id, ((knows.0, (knows.1, begin.live.0, refl, committed log r es id knows, begin.live.1)), set_at (run n es).views id u (view_after a u) knows.1)) in
       let mine : has_lock o log ≡ true = r.2 o ∙ begin.mine in
-      let puts = puts_possible w begin.live o t begin.low write.late (a ∷ log) (at_commit v o write) after.content true p4 mine r.3 refl r.7 r.1 refl c.late in
+      let puts = puts_possible w begin.live o t begin.low write.late (a ∷ log) (at_commit v o write) after.content true (λ x. 0) p4 mine r.3 refl r.7 r.1 refl c.late (λ x. omega arith) (none_late its t after.content n (a ∷ log) write.late (at_commit v o write) (λ x. 0) c.late) in
       let l5 = log_of o t write.late (a ∷ log) in
       let same = puts_alike o t write.late (a ∷ log) in
       let u5 = with_log w l5 in

@@ -1,11 +1,11 @@
 -- What a pass may do with a box, in each step: conditions that callers can meet.
-use Rattle.std.specs.Prelude.{◌≡◌, ◌≢◌, ◌⊎◌, ℕ, suc, ◌+◌, ◌%◌, ◌^◌, ◌<◌, List, []}
+use Rattle.std.specs.Prelude.{◌≡◌, ◌≢◌, ℕ, suc, ◌+◌, ◌%◌, ◌^◌}
 use Rattle.ft_trace.specs.declared.View.{View}
 use Rattle.ft_trace.specs.declared.Act.TheVariants.{TakePlace, PutBox, PublishBox, DropLocal, MergeCounts, GivePlace}
 use Rattle.ft_trace.specs.Bits.{bit}
 use Rattle.ft_trace.specs.Addresses.{IsBoxName, maker_of, place_bit_of}
 use Rattle.ft_trace.specs.Acts.{view_after}
-use Rattle.ft_trace.specs.Boxes.{made_state, references_held, place_to_give, state_default, state_making}
+use Rattle.ft_trace.specs.Boxes.{made_state, references_held, state_default, state_making}
 use Rattle.ft_trace.specs.Traces.{IsReachable, IsAwake}
 use Rattle.ft_layout.specs.Starts.{kind_word, local_word, payload_word}
 use Rattle.ft_trace.specs.BoxWords.{dead_word, merged_bits}

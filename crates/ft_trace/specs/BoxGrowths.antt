@@ -1,6 +1,6 @@
 -- Which references the put of a root needs: a growth moves those of the table that the root named, and changes no
 -- count.
-use Rattle.std.specs.Prelude.{◌≡◌, ◌≢◌, ℕ, suc, ◌+◌, ◌^◌, ◌<◌, ◌≤◌, true, List, ◌∷◌, length}
+use Rattle.std.specs.Prelude.{◌≡◌, ◌≢◌, ℕ, suc, ◌^◌, ◌<◌, ◌≤◌, List, ◌∷◌, length}
 use Rattle.ft_trace.specs.declared.Shape.{Shape}
 use Rattle.ft_trace.specs.declared.Act.{Act}
 use Rattle.ft_trace.specs.declared.Act.TheVariants.{PutRoot}
@@ -9,7 +9,7 @@ use Rattle.ft_trace.specs.Acts.{mem}
 use Rattle.ft_trace.specs.ContainerStates.{kind_in}
 use Rattle.ft_trace.specs.Pictures.{table_words, root_of}
 use Rattle.ft_trace.specs.Kinds.{rows}
-use Rattle.ft_trace.specs.Boxes.{row_kind, row_payload, references_held, named_in_container, HasReferences}
+use Rattle.ft_trace.specs.Boxes.{row_kind, row_payload, references_held, HasReferences}
 use Rattle.ft_trace.specs.BoxWords.{box_kind}
 
 -- the values of the first rows are those of the other table, and later ones name no box

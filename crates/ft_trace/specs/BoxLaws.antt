@@ -1,18 +1,18 @@
 -- What holds of boxes in every valid trace.
-use Rattle.std.specs.Prelude.{◌≡◌, ◌≢◌, ◌⊎◌, ℕ, suc, ◌+◌, ◌*◌, ◌%◌, ◌^◌, ◌<◌, ◌≤◌, true, List, [], ◌∷◌, ◌++◌, slice_index}
+use Rattle.std.specs.Prelude.{◌≡◌, ◌≢◌, ◌⊎◌, ℕ, suc, ◌+◌, ◌%◌, ◌^◌, ◌<◌, ◌≤◌, true, List, ◌∷◌, ◌++◌}
 use mathlib.Core.Option.{some}
 use lib.ListN.{get_elem?}
 use Rattle.ft_trace.specs.declared.Shape.{Shape}
 use Rattle.ft_trace.specs.declared.View.{View}
 use Rattle.ft_trace.specs.declared.Act.{Act}
-use Rattle.ft_trace.specs.declared.Act.TheVariants.{RaiseShared, DropShared}
+use Rattle.ft_trace.specs.declared.Act.TheVariants.{RaiseShared}
 use Rattle.ft_trace.specs.Addresses.{box_word, version_of, class_of, container_count, IsBoxName}
 use Rattle.ft_trace.specs.Acts.{has_lock, is_writing, mem}
 use Rattle.ft_trace.specs.ContainerStates.{kind_in}
 use Rattle.ft_trace.specs.Pictures.{picture, root_of, inner}
 use Rattle.ft_trace.specs.Kinds.{rows}
 use Rattle.ft_trace.specs.Entries.{total}
-use Rattle.ft_trace.specs.Boxes.{row_kind, row_payload, made_state, references_held, known_box_word, state_default, state_making, state_merged, state_none}
+use Rattle.ft_trace.specs.Boxes.{row_kind, row_payload, made_state, known_box_word, state_default, state_making, state_merged, state_none}
 use Rattle.ft_trace.specs.BoxTraces.{box_state, shared_count, maker_part, place_to_give_by, references, place_bit, default_word_of, merged_word_of, shared_zero}
 use Rattle.ft_trace.specs.HeldBoxes.{HeldSince, SameValue}
 use Rattle.ft_trace.specs.Unboxed.{unboxed, unboxed_picture}

@@ -1,5 +1,5 @@
 -- What a trace says of each box: its state, its shared count, and how its counts go with its references.
-use Rattle.std.specs.Prelude.{◌≡◌, ◌≢◌, ℕ, suc, ◌+◌, ◌-◌, ◌*◌, ◌/◌, ◌%◌, ◌^◌, ◌<◌, ◌≤◌, ◌==◌, cond, List, [], ◌∷◌, ◌++◌, slice_index}
+use Rattle.std.specs.Prelude.{◌≡◌, ◌≢◌, ℕ, ◌+◌, ◌-◌, ◌*◌, ◌/◌, ◌%◌, ◌^◌, ◌<◌, ◌≤◌, ◌==◌, cond, List, [], ◌∷◌}
 use Rattle.ft_trace.specs.declared.Shape.{Shape}
 use Rattle.ft_trace.specs.declared.View.{View}
 use Rattle.ft_trace.specs.declared.Act.{Act}
@@ -9,7 +9,7 @@ use Rattle.ft_layout.specs.Starts.{shared_word}
 use Rattle.ft_trace.specs.Addresses.{heap_bits, box_word, maker_of, place_word_of, place_bit_of, IsBoxName}
 use Rattle.ft_trace.specs.Entries.{total}
 use Rattle.ft_trace.specs.Boxes.{state_none, state_making, state_default, state_merged, made_state, local_count, taken_out, place_to_give, references_held, named_in_all}
-use Rattle.ft_trace.specs.Traces.{Event, did, forked, joined, sent, run, word, Valid}
+use Rattle.ft_trace.specs.Traces.{Event, did, forked, joined, sent, run, word}
 use Rattle.ft_trace.specs.BoxWords.{count_unit, dead_word, merged_bits}
 
 -- its state

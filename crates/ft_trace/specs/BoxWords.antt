@@ -1,5 +1,5 @@
 -- Words of boxes, and words that name them.
-use Rattle.std.specs.Prelude.{ℕ, ◌+◌, ◌-◌, ◌*◌, ◌%◌, ◌^◌}
+use Rattle.std.specs.Prelude.{ℕ, ◌+◌, ◌-◌, ◌%◌, ◌^◌}
 
 -- The shared word has the shared count, which may be below 0, times this number. The two low bits are 0 in the default
 -- state. (PEP 703, "Biased Reference Counting")

@@ -1,13 +1,12 @@
 -- Boxes with biased counts: what a pass knows of those that it made, and which references it holds. A box has two
 -- counts, one that its maker alone writes and one that all passes share; what they add up to is how many references
 -- there are. (PEP 703, "Biased Reference Counting"; the rest is of the profile)
-use Rattle.std.specs.Prelude.{◌≡◌, ◌≢◌, ◌⊎◌, ℕ, zero, suc, ◌+◌, ◌-◌, ◌*◌, ◌/◌, ◌%◌, ◌^◌, ◌<◌, ◌≤◌, ◌==◌, Bool, true, false, cond, List, [], ◌∷◌, slice_index}
+use Rattle.std.specs.Prelude.{◌≡◌, ◌≢◌, ◌⊎◌, ℕ, zero, suc, ◌+◌, ◌-◌, ◌%◌, ◌^◌, ◌<◌, ◌≤◌, ◌==◌, Bool, true, false, cond, List, [], ◌∷◌, slice_index}
 use Rattle.ft_model.specs.declared.script.Kind.{Kind}
 use Rattle.ft_model.specs.declared.script.Kind.TheVariants as kind
 use Rattle.ft_trace.specs.declared.Act.{Act}
 use Rattle.ft_trace.specs.declared.Act.TheVariants.{Lock, TakeTable, PutTable, PutRoot, TakePlace, PutBox, PublishBox, ReadBox, RaiseLocal, DropLocal, ClearLocal, MergeCounts, RaiseShared, RaiseKept, DropShared, GivePlace}
 use Rattle.ft_trace.specs.declared.Shape.{Shape}
-use Rattle.ft_trace.specs.declared.View.{View}
 use Rattle.ft_trace.specs.Bits.{bit}
 use Rattle.ft_layout.specs.Starts.{kind_word, payload_word, local_word}
 use Rattle.ft_trace.specs.BoxWords.{box_kind, dead_word, lowered_word}

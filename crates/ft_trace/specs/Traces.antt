@@ -1,6 +1,6 @@
 -- A trace is a list of events, newest first. It gives the words and the views, and it is valid where each event's
 -- condition held where it stands.
-use Rattle.std.specs.Prelude.{◌≡◌, ◌≢◌, ◌⊎◌, ℕ, suc, ◌+◌, ◌*◌, ◌/◌, ◌%◌, ◌^◌, ◌<◌, ◌≤◌, Bool, true, false, List, [], ◌∷◌, ◌++◌, slice_index, slice_set}
+use Rattle.std.specs.Prelude.{◌≡◌, ◌≢◌, ◌⊎◌, ℕ, suc, ◌+◌, ◌*◌, ◌/◌, ◌^◌, ◌<◌, ◌≤◌, Bool, true, false, List, [], ◌∷◌, ◌++◌, slice_index, slice_set}
 use mathlib.Core.Option.{some}
 use lib.ListN.{get_elem?}
 use Rattle.std.specs.Prelude.{Some, None}
@@ -22,7 +22,7 @@ use Rattle.ft_trace.specs.declared.View.{View}
 use Rattle.ft_trace.specs.Addresses.{Word, counter, write_number, version_of, container_count, tables_in, class_of, size, IsTableName, IsBoxName, maker_of, at, opening}
 use Rattle.ft_trace.specs.Acts.{place, word_after, Reports, has_lock, is_writing, has_committed, has_emptied, stage, goal, announces, clear, used, debt, flight, owes, view_after, starter, maker, made, both, spent, sender, note}
 use Rattle.ft_trace.specs.ContainerStates.{container_after, first_writes, kind_in, changes, may_empty, reply_in}
-use Rattle.ft_trace.specs.Pictures.{table_words, root_of, picture, Represents}
+use Rattle.ft_trace.specs.Pictures.{table_words, root_of, Represents}
 use Rattle.ft_trace.specs.Kinds.{rows, version_at, SoundAs, CarefulAs, ClearAs, HasVersions}
 use Rattle.ft_trace.specs.OddVersions.{Shut, Timely, Low}
 use Rattle.ft_trace.specs.Unboxed.{unboxed_words, unboxed_picture}

@@ -1,6 +1,6 @@
 -- The words of a container as they read through boxes: a value that names a box has the kind and the payload that stand
 -- in the box.
-use Rattle.std.specs.Prelude.{ℕ, zero, suc, ◌==◌, cond, List, [], slice_index, slice_set}
+use Rattle.std.specs.Prelude.{ℕ, zero, suc, ◌==◌, cond, List, slice_index, slice_set}
 use Rattle.ft_model.specs.declared.script.Kind.{Kind}
 use Rattle.ft_trace.specs.declared.Shape.{Shape}
 use Rattle.ft_trace.specs.Addresses.{box_word, class_of, at}

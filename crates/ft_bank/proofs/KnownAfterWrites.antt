@@ -96,7 +96,6 @@ module _ (u v w : View) where
     seen = le_trans a.seen b.seen;
     grown = λ old was. b.grown old (a.grown old was);
     present = λ is. b.present (a.present is);
-    present = λ is. b.present (a.present is);
   }
 
   pub work_then : SameWork u v → SameWork v w → SameWork u w

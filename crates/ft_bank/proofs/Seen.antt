@@ -12,7 +12,7 @@ use Rattle.ft_trace.specs.declared.Snap.{Snap}
 use Rattle.ft_trace.specs.LoggedReads.{Among}
 use Rattle.ft_model.specs.declared.call.Call.{Call}
 use Rattle.ft_model.specs.declared.reply.Reply.{Reply}
-use Rattle.ft_trace.specs.Acts.{view_after, both, sender, note, shown, seen_writes, own_told, told_in, floor_known, floor_words}
+use Rattle.ft_trace.specs.Acts.{view_after, both, sender, note, shown, seen_writes, own_told, told_in, floor_known, floor_words, presence_of}
 use Rattle.ft_trace.specs.Causes.{IsToldOf}
 use Rattle.ft_trace.specs.Traces.{IsReachable, IsFree}
 use Rattle.ft_trace.proofs.Cases.{miss}
@@ -79,7 +79,7 @@ resting_note_is v floorless wordless =
 pub tells_of : (v : View) (told : List Told) (thread index : ℕ) → told ≡ own_told v → v.number ≡ suc thread → index ≤ length v.entries
     → (one : Told) × (told ≡ one ∷ []) × (one.pass ≡ suc thread) × (index ≤ length one.entries)
 tells_of v told thread index is number many =
-    (record { pass = v.number; seen = seen_writes v; entries = v.entries }, is ∙ miss v.number 0 [] (record { pass = v.number; seen = seen_writes v; entries = v.entries } ∷ []) (λ e. omega (arith, e, number)), number, many)
+    (record { pass = v.number; seen = seen_writes v; entries = v.entries; presence = presence_of v.log }, is ∙ miss v.number 0 [] (record { pass = v.number; seen = seen_writes v; entries = v.entries; presence = presence_of v.log } ∷ []) (λ e. omega (arith, e, number)), number, many)
 
 -- who learns it was told of that entry
 pub told_learnt : (n : ℕ) (told : List Told) (v : View) (thread index : ℕ) → ((one : Told) × (told ≡ one ∷ []) × (one.pass ≡ suc thread) × (index ≤ length one.entries)) → 1 ≤ index → IsToldOf (told_in (knowing n told v).log) thread index

@@ -10,7 +10,7 @@ use Rattle.ft_trace.specs.declared.Entry.{Entry}
 use Rattle.ft_trace.specs.declared.Owner.{Owner}
 use Rattle.ft_trace.specs.declared.Told.{Told}
 use Rattle.ft_trace.specs.declared.View.{View}
-use Rattle.ft_trace.specs.Acts.{all_lists, both, lists_of, own_told, seen_writes, tells, told_in, view_after}
+use Rattle.ft_trace.specs.Acts.{all_lists, both, lists_of, own_told, seen_writes, tells, told_in, view_after, presence_of}
 use Rattle.ft_trace.specs.Hands.{cursor_in}
 use Rattle.ft_trace.specs.OwnCursors.{plain_entry}
 use Rattle.ft_trace.specs.Owners.{AreOwners, found_owners, had_locks, is_owner_in}
@@ -52,7 +52,7 @@ told_all c = told_then (heard_by c) ((view c.pass).told ++ heard_by c) (told_by_
 own_all : (c : Caller) → AreAllTold (thread_of c) (view c.pass).entries (told_by_all c)
 own_all c =
     let v = view c.pass in
-    let one : Told = record { pass = v.number; seen = seen_writes v; entries = v.entries } in
+    let one : Told = record { pass = v.number; seen = seen_writes v; entries = v.entries; presence = presence_of v.log } in
     let some = some_number c.pass in
     let own : own_told v ≡ one ∷ [] = miss v.number 0 [] (one ∷ []) (λ none. omega (arith, none, some)) in
     (0, one, ap (λ (l : List Told). slice_get (l ++ (v.told ++ told_in v.log)) 0) own, (let e : v.number ≡ suc (v.number - 1) = omega (arith, some) in e), refl)

@@ -9,7 +9,7 @@ use Rattle.ft_trace.specs.declared.Act.TheVariants.{Answer, PutHeader, Retire}
 use Rattle.ft_trace.specs.declared.Entry.{Entry}
 use Rattle.ft_trace.specs.declared.Shape.{Shape}
 use Rattle.ft_trace.specs.declared.View.{View}
-use Rattle.ft_trace.specs.Acts.{announces, view_after, seen_writes}
+use Rattle.ft_trace.specs.Acts.{announces, view_after, seen_writes, presence_after_entry}
 use Rattle.ft_trace.specs.Floors.{at_floor}
 use Rattle.ft_trace.specs.Hands.{cursor_in}
 use Rattle.ft_trace.proofs.Seeing.{seen_up}
@@ -18,7 +18,7 @@ use Rattle.ft_trace.proofs.Owning.{owners_then}
 use Rattle.ft_bank.specs.declared.takings.Took.{Took}
 use Rattle.ft_bank.specs.declared.takings.Took.TheVariants as took
 use Rattle.ft_bank.specs.Answered.{Answered}
-use Rattle.ft_bank.specs.Logs.{HasGrown}
+use Rattle.ft_bank.specs.Logs.{HasGrown, StaysOnline}
 use Rattle.ft_bank.specs.Whole.{OnlyLoaded, SamePass, Wrote}
 use Rattle.ft_section.specs.declared.answers.Objects.{Objects}
 use Rattle.ft_section.specs.declared.answers.Stamp.{Stamp}
@@ -50,7 +50,7 @@ Outcome called objects v w step.NoMemory = MakesNoEntry v w × HasWithin objects
 -- ---- parts of calls
 
 stays_same : (v w : View) → SamePass v w → StaysPass v w
-stays_same v w p = record { number = p.number; next = p.next; parts = p.parts; shape = p.shape; lists = p.lists; online = λ on. subst (λ (n : ℕ). 0 < n) (sym p.announced) on; floor = p.floor; since = p.since; seen = p.seen; grown = p.grown }
+stays_same v w p = record { number = p.number; next = p.next; parts = p.parts; shape = p.shape; lists = p.lists; online = λ on. subst (λ (n : ℕ). 0 < n) (sym p.announced) on; floor = p.floor; since = p.since; seen = p.seen; grown = p.grown; present = p.present }
 
 pub loaded_nothing : (v w : View) → OnlyLoaded v w → MakesNoEntry v w
 loaded_nothing v w l = record { pass = stays_same v w l.work.pass; entries = l.work.entries; left = l.work.left; cursors = l.work.pass.cursors }
@@ -85,6 +85,7 @@ answered_adds called said stamp v w is left x =
         since = ap (λ (z : View). at_floor z.log) x.answered ∙ l.pass.since;
         seen = subst (λ (z : View). seen_writes v ≤ seen_writes z) (sym x.answered) (le_trans l.pass.seen (seen_up (Answer called said stamp.number) u));
         grown = subst (λ (z : View). HasGrown v z) (sym x.answered) (λ old was. inr (l.pass.grown old was));
+        present = subst (λ (z : View). StaysOnline v z) (sym x.answered) (λ here. ap presence_after_entry (l.pass.present here));
       };
       entries = ap (λ (z : View). z.entries) x.answered ∙ (ap (λ (e : Entry). e ∷ u.entries) (entry_as called said stamp false is) ∙ ap (λ (es : List Entry). made_entry called said stamp ∷ es) l.entries);
       left =
@@ -135,11 +136,11 @@ moved_then a b u v w z first m last = record {
 }
 
 pub retired_nothing : (root : ℕ) (v w : View) → Retires root v w → MakesNoEntry v w
-retired_nothing zero v w is = subst (MakesNoEntry v) (sym is) (record { pass = record { number = refl; next = refl; parts = refl; shape = refl; lists = refl; online = λ on. on; floor = refl; since = refl; seen = omega arith; grown = λ old was. was }; entries = refl; left = refl; cursors = λ n. refl })
+retired_nothing zero v w is = subst (MakesNoEntry v) (sym is) (record { pass = record { number = refl; next = refl; parts = refl; shape = refl; lists = refl; online = λ on. on; floor = refl; since = refl; seen = omega arith; grown = λ old was. was; present = λ is. is }; entries = refl; left = refl; cursors = λ n. refl })
 retired_nothing (suc t) v w (n, is) =
     subst (MakesNoEntry v) (sym is)
     (record {
-      pass = record { number = refl; next = refl; parts = refl; shape = refl; lists = refl; online = λ on. on; floor = refl; since = refl; seen = le_trans (seen_up (Retire t n) v) (seen_up (PutHeader t (n + 1)) (view_after (Retire t n) v)); grown = λ old was. inr (inr was) };
+      pass = record { number = refl; next = refl; parts = refl; shape = refl; lists = refl; online = λ on. on; floor = refl; since = refl; seen = le_trans (seen_up (Retire t n) v) (seen_up (PutHeader t (n + 1)) (view_after (Retire t n) v)); grown = λ old was. inr (inr was); present = λ is. is };
       entries = refl;
       left = refl;
       cursors = λ number. refl;

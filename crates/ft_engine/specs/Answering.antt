@@ -23,7 +23,7 @@ use Rattle.ft_bank.specs.declared.bank.Bank.{Bank}
 use Rattle.ft_bank.specs.declared.pass.Pass.{Pass}
 use Rattle.ft_bank.specs.declared.takings.Took.TheVariants as took
 use Rattle.ft_bank.specs.Answered.{Answered}
-use Rattle.ft_bank.specs.Logs.{HasGrown}
+use Rattle.ft_bank.specs.Logs.{HasGrown, StaysOnline}
 use Rattle.ft_bank.specs.Passes.{shape_of, view, DidNothing}
 use Rattle.ft_bank.specs.PassSections.{stack_of}
 use Rattle.ft_bank.specs.Whole.{OnlyLoaded}
@@ -51,8 +51,9 @@ use Rattle.ft_engine.specs.Asked.{FitsSections, IsCallIn}
 use Rattle.ft_engine.specs.Keeping.{made_entry, section_marks, marks_after}
 use Rattle.ft_engine.specs.Stacks.{StackAfter}
 
--- It is the same pass: it is online where it was, has taken in the same passes, has the floor where it had it, and no
--- other since, has seen no fewer writes, and its log has only grown. (profile)
+-- It is the same pass: it is online where it was, and went offline at no moment where it had been online since before
+-- its first entry; it has taken in the same passes, has the floor where it had it, and no other since, has seen no fewer
+-- writes, and its log has only grown. (profile)
 pub record StaysPass (v w : View) : Type 0 where
   pub number : w.number ≡ v.number
   pub next : w.next ≡ v.next
@@ -64,6 +65,7 @@ pub record StaysPass (v w : View) : Type 0 where
   pub since : at_floor w.log ≡ at_floor v.log
   pub seen : seen_writes v ≤ seen_writes w
   pub grown : HasGrown v w
+  pub present : StaysOnline v w
 
 -- The same pass has made no entry, and has the same cursors. (profile)
 pub record MakesNoEntry (v w : View) : Type 0 where

@@ -8,7 +8,7 @@ use Rattle.ft_section.specs.declared.answers.Step.TheVariants as step
 use Rattle.ft_section.specs.Sectioning.{answered_view}
 use Rattle.ft_trace.specs.declared.Act.TheVariants.{Answer}
 use Rattle.ft_trace.specs.declared.View.{View}
-use Rattle.ft_trace.specs.Acts.{announces, shown, view_after}
+use Rattle.ft_trace.specs.Acts.{announces, shown, view_after, presence_of}
 use Rattle.ft_bank.specs.Notes.{says, told_by}
 use Rattle.ft_bank.specs.Passes.{view}
 use Rattle.ft_engine.specs.Answering.{IsTryOfCall}
@@ -61,6 +61,7 @@ returns-clause-tried c hands =
     (a.1 ∙ ap (view_after (Answer c.args.call.now reply.Done n)) d.1) ∙ ap (λ (z : Call). answered_view z reply.Done n (view q)) told.await in
     subst (λ (z : Call). IsTryOfCall b hands z p r (step.Done reply.Done stamp)) (sym told.await) (
       await_answer b p q r told.thread told.index stamp c.requires.ready c.requires.left pass c.learn.ensures.sections calm (λ on. subst (λ (z : View). 0 < announces z.log) (sym x.1) on)
+          (λ here. ap (λ (z : View). presence_of z.log) x.1 ∙ here)
           (a.0 ∙ (d.0 ∙ pass.0), ap (λ (z : View). z.shape) a.1 ∙ (ap (λ (z : View). z.shape) d.1 ∙ pass.1)) (a.2 ∙ d.2) is refl c.stamp-number.ensures.seen,
       no_containers hands named p refl,
       same_for hands named v (view r) (answered_owners named reply.Done n v (view q) (view r) calm is),

@@ -7,7 +7,7 @@ use Rattle.ft_trace.specs.declared.Act.TheVariants.{PutRoot}
 use Rattle.ft_trace.specs.declared.Entry.{Entry}
 use Rattle.ft_trace.specs.declared.View.{View}
 use Rattle.ft_trace.specs.Addresses.{container_count}
-use Rattle.ft_trace.specs.Acts.{has_lock, is_writing, has_committed, has_emptied, stage, stage_next, announces, used, debt, debt_next, flight, owes, mem, past, seen_writes}
+use Rattle.ft_trace.specs.Acts.{has_lock, is_writing, has_committed, has_emptied, stage, stage_next, announces, used, debt, debt_next, flight, owes, mem, past, seen_writes, presence_of}
 use Rattle.ft_trace.specs.Floors.{at_floor}
 use Rattle.ft_trace.specs.Owners.{SameOwners}
 use Rattle.ft_trace.specs.Hands.{cursor_in}
@@ -43,8 +43,8 @@ pub record SamePass (v w : View) : Type 0 where
   pub grown : HasGrown v w
   pub present : StaysOnline v w
 
--- The same pass has made no entry and no call, and has the same tables in hand; and each write that it has begun is as
--- far as it was. (profile)
+-- The same pass has made no entry and no call, and has the same tables in hand; each write that it has begun is as far as
+-- it was; and it was online as before. (profile)
 pub record SameWork (v w : View) : Type 0 where
   pub pass : SamePass v w
   pub left : w.left ≡ v.left
@@ -56,6 +56,7 @@ pub record SameWork (v w : View) : Type 0 where
   pub debt : debt w.log ≡ debt v.log
   pub owes : owes w.log ≡ owes v.log
   pub past : past w.log ≡ past v.log
+  pub presence : presence_of w.log ≡ presence_of v.log
 
 -- The pass has loaded words of the bank, and done nothing else. (profile)
 pub record OnlyLoaded (v w : View) : Type 0 where

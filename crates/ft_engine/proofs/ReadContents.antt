@@ -230,7 +230,7 @@ module _ (e : Engine) (c : Caller) (q : Pass) (all : List Shown) (is : IsCallerO
 
   pub only_read : HasOnlyRead c now
   only_read = record {
-    same = as_before c now (same_but_pass c q) r.2.2 read_steady only_loaded.work.pass.announced;
+    same = as_before c now (same_but_pass c q) r.2.2 read_steady only_loaded.work.pass.announced only_loaded.work.presence;
     floor = record { floor = only_loaded.work.pass.floor; since = only_loaded.work.pass.since };
     kept = λ lists. steady_all c now lists read_steady r.2.2 refl (ap told_in (did_log r.0 c.pass q r.2) ∙ looks_told r.0 (view c.pass).log r.1);
   }

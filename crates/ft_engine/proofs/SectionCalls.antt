@@ -49,7 +49,7 @@ use Rattle.ft_engine.specs.Keeping.{made_entry, section_marks}
 use Rattle.ft_engine.specs.Stacks.{Opens}
 use Rattle.ft_engine.proofs.WaitCounts.{last_of}
 use Rattle.ft_engine.proofs.Within.{walked_none}
-use Rattle.ft_engine.proofs.PassesAfter.{IsCalm, ready_calm}
+use Rattle.ft_engine.proofs.PassesAfter.{IsCalm, ready_calm, stays_online}
 use Rattle.ft_qsbr.proofs.PassesStay.{collection_leaves, presence_stays}
 
 -- ---- locks alone
@@ -325,11 +325,7 @@ calm_entry called said stamp v u w calm on stays left is read seen =
       cursors = λ number other. ap (λ (z : View). cursor_in number z.log) is ∙ calm.cursors number;
     }
 
--- a pass that announces anew what isn't 0, and collects, stays online
-announced_online : (n : ℕ) → 0 < n → presence_after_announcing n presence.Online ≡ presence.Online
-announced_online zero some = omega (arith, some)
-announced_online (suc n) some = refl
-
+-- a pass that announces anew and collects stays online
 quiesced_online : (v w : View) (n freed : ℕ) → Collected (view_after (Announce v.number n) (view_after (WriteNumber n) v)) w freed → 0 < announces w.log → StaysOnline v w
 quiesced_online v w n freed x on here =
     let acts = x.acts ++ loads_of x.numbers in
@@ -337,7 +333,7 @@ quiesced_online v w n freed x on here =
     let some : 0 < n = subst (λ (k : ℕ). 0 < k) x.keeps.announces on in
     ap (λ (z : View). presence_of z.log) x.did
     ∙ (presence_stays acts u (collection_leaves x.acts x.numbers x.givings)
-    ∙ (ap (presence_after_announcing n) here ∙ announced_online n some))
+    ∙ (ap (presence_after_announcing n) here ∙ stays_online n some))
 
 pub quiesce_answer : (b : Bank) (p q r : Pass) (stamp : Stamp) → IsReady b p → 0 < (view p).left → IsPassOf b q → stack_of q ≡ stack_of p → IsCalm (view p) (view q) → (n : ℕ) × (freed : ℕ) × Collected (view_after (Announce (view p).number n) (view_after (WriteNumber n) (view p))) (view q) freed → 0 < announces (view q).log → IsPassOf b r → stack_of r ≡ stack_of q → view r ≡ answered_view call.Quiesce reply.Done stamp.number (view q) → stamp.wrote ≡ false → seen_writes (view q) ≤ stamp.number → HasAnswer b call.Quiesce reply.Done stamp p r
 quiesce_answer b p q r stamp ready left pass_q stack_q calm did on pass_r stack_r is read seen =

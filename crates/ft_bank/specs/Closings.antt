@@ -4,6 +4,7 @@ use Rattle.std.specs.List.{flat_map}
 use Rattle.ft_model.specs.declared.call.Call.{Call}
 use Rattle.ft_trace.specs.declared.Entry.{Entry}
 use Rattle.ft_trace.specs.declared.Owner.{Owner}
+use Rattle.ft_trace.specs.declared.Presence.{Presence}
 use Rattle.ft_trace.specs.declared.Presence.TheVariants as presence
 use Rattle.ft_trace.specs.declared.Shape.{Shape}
 use Rattle.ft_trace.specs.declared.Told.{Told}
@@ -50,12 +51,18 @@ HasWholeHistory c =
 abbrev pub HasToldAwaits : Closed → Type 0
 HasToldAwaits c = ∥ AgreeOnPasses (told_of c) × All (AreAwaitsTold (told_of c)) (lists_in c) ∥₁
 
--- What is told of the thread's pass says that it had made all these entries, that it had been online from before the
--- first of them until after the last, and that it was offline then. (PEP 703, QSBR)
+-- The pass is offline, and was online from before its first entry until after its last; or it made none, and was never
+-- online. (PEP 703, QSBR)
+abbrev pub HasBeenOnline : Presence → Type 0
+HasBeenOnline presence.Before = Unit {0}
+HasBeenOnline presence.Over = Unit {0}
+HasBeenOnline _ = ⊥
+
+-- what is told of the thread's pass says that it had made all these entries, and been online for them
 abbrev pub IsToldOnline : List Told → ℕ → List Entry → Type 0
 IsToldOnline told thread entries =
     (place : ℕ) × (one : Told) × (slice_get told place ≡ Some one) × (one.pass ≡ suc thread)
-    × (one.entries ≡ entries) × (one.presence ≡ presence.Over)
+    × (one.entries ≡ entries) × HasBeenOnline one.presence
 
 -- so it says of the passes from this thread on, which made these entries
 abbrev pub AreToldOnline : List Told → ℕ → List (List Entry) → Type 0

@@ -120,7 +120,7 @@ kept_length thread [] (l ∷ ls) had found told are = absurd are
 kept_length thread (m ∷ ms) [] had found told are = absurd are
 kept_length thread (m ∷ ms) (l ∷ ls) had found told are = ap suc (kept_length (suc thread) ms ls had found told are.1)
 
-all_length : (c : Caller) (kept : List (List NamedEntry)) → WereAnswered c kept → length kept ≡ suc (length (view c.pass).lists)
+pub all_length : (c : Caller) (kept : List (List NamedEntry)) → WereAnswered c kept → length kept ≡ suc (length (view c.pass).lists)
 all_length c [] are = absurd are
 all_length c (mine ∷ others) are = ap suc (kept_length (suc (thread_of c)) others (view c.pass).lists (had_of c) (found_of c) (heard_by c) are.1)
 

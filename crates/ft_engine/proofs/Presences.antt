@@ -2,12 +2,11 @@
 use Rattle.std.proofs.Common.{◌≡◌, ◌≢◌, ◌+◌, ◌-◌, ℕ, zero, suc, List, [], ◌∷◌, ◌++◌, length, refl, sym, ap, ◌∙◌, subst, arith}
 use Rattle.std.specs.Prelude.{slice_get}
 use Rattle.ft_trace.specs.declared.Entry.{Entry}
-use Rattle.ft_trace.specs.declared.Presence.TheVariants as presence
 use Rattle.ft_trace.specs.declared.Told.{Told}
 use Rattle.ft_trace.specs.declared.View.{View}
 use Rattle.ft_trace.specs.Acts.{all_lists, lists_of, own_told, presence_of, seen_writes, tells, told_in}
 use Rattle.ft_trace.proofs.Cases.{miss}
-use Rattle.ft_bank.specs.Closings.{AreToldOnline, IsToldOnline}
+use Rattle.ft_bank.specs.Closings.{AreToldOnline, IsToldOnline, HasBeenOnline}
 use Rattle.ft_bank.specs.Passes.{view}
 use Rattle.ft_bank_history.proofs.ToldLists.{AreAlsoTold, told_first, told_last}
 use Rattle.ft_engine.specs.declared.caller.Caller.{Caller}
@@ -54,8 +53,16 @@ joined_online c d other is live were theirs next =
     let both = online_then told (suc (thread_of c)) v.lists (all_lists u) old (subst (λ (n : ℕ). AreToldOnline told n (all_lists u)) next new) in
     let lists : w.lists ≡ v.lists ++ all_lists u = is.lists ∙ ap (λ (l : List (List Entry)). v.lists ++ l) (given u live) in
     record {
-      own = is.presence ∙ were.own;
+      own = subst HasBeenOnline (sym is.presence) were.own;
       taken = subst (λ (x : List Told × ℕ × List (List Entry)). AreToldOnline x.0 (suc (x.1 - 1)) x.2) (λ d. (sym is.told d, sym is.number d, sym lists d)) both;
+    }
+
+-- a caller whose pass has done nothing that they speak of
+pub same_online : (c d : Caller) → (view d.pass).number ≡ (view c.pass).number → (view d.pass).lists ≡ (view c.pass).lists → presence_of (view d.pass).log ≡ presence_of (view c.pass).log → told_in (view d.pass).log ≡ told_in (view c.pass).log → WereOnline c → WereOnline d
+same_online c d number lists same told were =
+    record {
+      own = subst HasBeenOnline (sym same) were.own;
+      taken = subst (λ (x : List Told × ℕ × List (List Entry)). AreToldOnline x.0 (suc (x.1 - 1)) x.2) (λ d. (sym told d, sym number d, sym lists d)) were.taken;
     }
 
 -- what stands in the bank that a caller closes

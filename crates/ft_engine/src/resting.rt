@@ -79,6 +79,7 @@ impl Engine {
         ensures same { IsAsBefore caller.old caller.new }
         ensures floor { HasFloor caller.new }
         ensures kept { (lists : List (List NamedEntry)) → WereAnswered caller.old lists → WereAnswered caller.new lists }
+        ensures online { WereOnline caller.old → WereOnline caller.new }
     {
         self.bank.take_floor(&mut caller.pass);
     }

@@ -34,13 +34,14 @@ work_then b c d x y = record {
 }
 
 pub none_noted : (e : Engine) (c : Caller) → IsCallerOf e c → HasNoted e c c
-none_noted e c is = record { caller = is; same = same_work c; announced = refl; kept = λ mine kept. kept }
+none_noted e c is = record { caller = is; same = same_work c; announced = refl; presence = refl; kept = λ mine kept. kept }
 
 pub noted_then : (e : Engine) (b c d : Caller) → HasNoted e b c → HasNoted e c d → HasNoted e b d
 noted_then e b c d x y = record {
   caller = y.caller;
   same = work_then b c d x.same y.same;
   announced = y.announced ∙ x.announced;
+  presence = y.presence ∙ x.presence;
   kept = λ mine kept. y.kept mine (x.kept mine kept);
 }
 

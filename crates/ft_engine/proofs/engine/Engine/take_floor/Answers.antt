@@ -10,6 +10,7 @@ use Rattle.ft_engine.proofs.Callers.{same_but_pass, steady_caller}
 use Rattle.ft_engine.proofs.PassesAfter.{IsSteady}
 use Rattle.ft_engine.proofs.ReadContents.{steady_all}
 use Rattle.ft_engine.proofs.engine.Engine.take_floor.Goals as goal
+use Rattle.ft_engine.proofs.Presences.{same_online}
 
 pub take_floor-requires-clause-all : goal.take_floor-requires-clause-all
 take_floor-requires-clause-all c =
@@ -47,3 +48,10 @@ pub returns-clause-kept : goal.returns-clause-kept
 returns-clause-kept c lists are =
     let old = c.args.caller.now in
     steady_all old (record old { pass = c.take_floor.new.pass }) lists (steady c) c.take_floor.ensures.did.2.2 refl (ap (λ (v : View). told_in v.log) c.take_floor.ensures.did.2.1) are
+
+pub returns-clause-online : goal.returns-clause-online
+returns-clause-online c =
+    let old = c.args.caller.now in
+    let is = c.take_floor.ensures.did.2.1 in
+    let same = steady c in
+    same_online old (record old { pass = c.take_floor.new.pass }) same.number same.lists (ap (λ (v : View). presence_of v.log) is) (ap (λ (v : View). told_in v.log) is)

@@ -17,6 +17,7 @@ use Rattle.ft_trace.specs.Causes.{IsToldOf}
 use Rattle.ft_trace.specs.Traces.{IsReachable, IsFree}
 use Rattle.ft_trace.proofs.Cases.{miss}
 use Rattle.ft_trace.proofs.Seeing.{shown_up, seen_is_low, loads_see_all}
+use Rattle.ft_bank.specs.LastLoads.{IsLastLoad}
 use Rattle.ft_bank.specs.Slips.{slip}
 use Rattle.ft_bank.specs.Notes.{knowing}
 use Rattle.ft_bank.specs.Rules.{Acted}
@@ -108,10 +109,10 @@ among_seen v w part n own among settled possible =
     max-le (le_trans settled (le_trans (seen_rises among.rest v.log) (stamp_seen w possible among.newer (among.rest ++ v.log) n is))) (le_trans (seen_rises among.rest v.log) (stamp_seen w possible among.newer (among.rest ++ v.log) n is))
 
 -- an entry with such a stamp
-pub answered_seen : (v w z : View) (called : Call) (said : Reply) (part : List Act) (n : ℕ) → w.log ≡ part ++ v.log → Among (ReadCounter n) part → z ≡ view_after (Answer called said n) w → v.learnt ≤ shown v.log → ∥ IsReachable z ∥₁ → seen_writes v ≤ n
-answered_seen v w z called said part n own among is settled possible =
+pub answered_seen : (v w z : View) (called : Call) (said : Reply) (part : List Act) (n : ℕ) → w.log ≡ part ++ v.log → IsLastLoad n part → z ≡ view_after (Answer called said n) w → v.learnt ≤ shown v.log → ∥ IsReachable z ∥₁ → seen_writes v ≤ n
+answered_seen v w z called said part n own last is settled possible =
     among_seen v z (Answer called said n ∷ part) n (ap (λ (u : View). u.log) is ∙ ap (λ (l : List Act). Answer called said n ∷ l) own)
-    (record { newer = Answer called said n ∷ among.newer; rest = among.rest; is = ap (λ (l : List Act). Answer called said n ∷ l) among.is }) settled possible
+    (record { newer = Answer called said n ∷ last.newer; rest = last.rest; is = ap (λ (l : List Act). Answer called said n ∷ l) last.is }) settled possible
 
 -- a note has no lock and no table
 pub slip_free : (n : ℕ) (told : List Told) → IsFree (slip n told)

@@ -50,7 +50,8 @@ joined_online c d other is live were theirs next =
     let told = tells u ++ told_in v.log in
     let old = more_online (told_in v.log) told (suc (thread_of c)) v.lists (told_last (tells u) (told_in v.log)) were.taken in
     let new = more_online (tells u) told (thread_of other) (all_lists u) (told_first (tells u) (told_in v.log)) (all_online other theirs) in
-    let both = online_then told (suc (thread_of c)) v.lists (all_lists u) old (subst (λ (n : ℕ). AreToldOnline told n (all_lists u)) next new) in
+    let place : thread_of other ≡ suc (thread_of c) + length v.lists = omega (arith, next) in
+    let both = online_then told (suc (thread_of c)) v.lists (all_lists u) old (subst (λ (n : ℕ). AreToldOnline told n (all_lists u)) place new) in
     let lists : w.lists ≡ v.lists ++ all_lists u = is.lists ∙ ap (λ (l : List (List Entry)). v.lists ++ l) (given u live) in
     record {
       own = subst HasBeenOnline (sym is.presence) were.own;

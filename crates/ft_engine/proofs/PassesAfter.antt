@@ -312,10 +312,10 @@ quiesced_calm v w s (n, freed, collected) =
 
 -- a pass that was never online and announces what isn't 0 is online
 pub came_online : (n : ℕ) → 0 < n → presence_after_announcing n presence.Before ≡ presence.Online
-came_online zero some = omega (arith, some)
+came_online zero some = absurd (omega (arith, some))
 came_online (suc n) some = refl
 
 -- and one that was online and announces anew what isn't 0 is still online
 pub stays_online : (n : ℕ) → 0 < n → presence_after_announcing n presence.Online ≡ presence.Online
-stays_online zero some = omega (arith, some)
+stays_online zero some = absurd (omega (arith, some))
 stays_online (suc n) some = refl

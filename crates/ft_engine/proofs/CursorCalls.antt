@@ -12,6 +12,7 @@ use Rattle.ft_model.specs.declared.script.Kind.{Kind}
 use Rattle.ft_model.specs.declared.script.Kind.TheVariants as kind
 use Rattle.ft_model.specs.Calls.{moved_cursor}
 use Rattle.ft_model.specs.Worlds.{container_of, cursor_at, cursor_kind}
+use Rattle.ft_trace.specs.declared.Act.{Act}
 use Rattle.ft_trace.specs.declared.Act.TheVariants.{AnswerCursor}
 use Rattle.ft_trace.specs.declared.Entry.{Entry}
 use Rattle.ft_trace.specs.declared.Shape.{Shape}
@@ -41,7 +42,7 @@ use Rattle.ft_engine.specs.Keeping.{made_entry}
 use Rattle.ft_engine.proofs.LooksBefore.{IsPlain, plain_call, tried_of}
 use Rattle.ft_engine.proofs.Outcomes.{Outcome}
 use Rattle.ft_engine.proofs.Within.{WalkedBy, cursor_owners, within_then}
-use Rattle.ft_engine.proofs.SectionCalls.{loaded_in, only_nothing, same_nothing}
+use Rattle.ft_engine.proofs.SectionCalls.{loaded_in, only_nothing}
 
 -- ---- the entry
 
@@ -76,7 +77,16 @@ moved_adds o called said stamp number left v w is some moves others m =
           let d = after.left in
           let e : v.left ≡ suc w.left = omega (arith, a, b, c, d, some) in e;
       seen = le_trans before.pass.seen x.seen;
-      loaded = λ _. loaded_in stamp.number v m.before m.after w before.pass (loaded_in stamp.number m.before m.before u m.after (same_nothing m.before).pass (record { part = x.part; own = x.own; loaded = x.counted }) moved) after.pass;
+      loaded = λ _.
+          loaded_in called stamp.number v m.before m.after w before.pass
+          (record {
+            later = [];
+            answer = act;
+            part = x.part;
+            own = ap (λ (z : View). z.log) x.answered ∙ ap (λ (log : List Act). act ∷ log) x.own;
+            answers = (refl, refl);
+            loaded = x.counted;
+          }) after.pass;
       shows = λ wrote. absurd (true≢false (sym wrote ∙ is));
       cursors = λ other apart. others other (λ e. apart (moves ∙ ap (λ (n : ℕ). Some n) (sym e)));
     }

@@ -1,10 +1,11 @@
 -- What the tries of calls on containers come to, in the words that all calls share.
-use Rattle.std.proofs.Common.{◌≡◌, ◌≤◌, ◌<◌, ◌+◌, ◌-◌, ℕ, zero, suc, Bool, true, false, true≢false, List, ◌∷◌, refl, sym, ap, ◌∙◌, subst, arith, ⊎_elim, inr, le_trans}
+use Rattle.std.proofs.Common.{◌≡◌, ◌≤◌, ◌<◌, ◌+◌, ◌-◌, ℕ, zero, suc, Bool, true, false, true≢false, List, [], ◌∷◌, refl, sym, ap, ◌∙◌, subst, arith, ⊎_elim, inr, le_trans}
 use Rattle.std.specs.Prelude.{Option, Some, None}
 use Rattle.ft_model.specs.declared.call.Call.{Call}
 use Rattle.ft_model.specs.declared.reply.Raise.TheVariants as raise
 use Rattle.ft_model.specs.declared.reply.Reply.{Reply}
 use Rattle.ft_model.specs.declared.reply.Reply.TheVariants as reply
+use Rattle.ft_trace.specs.declared.Act.{Act}
 use Rattle.ft_trace.specs.declared.Act.TheVariants.{Answer, PutHeader, Retire}
 use Rattle.ft_trace.specs.declared.Entry.{Entry}
 use Rattle.ft_trace.specs.declared.Shape.{Shape}
@@ -38,7 +39,7 @@ use Rattle.ft_reads.specs.Copies.{IsCopy}
 use Rattle.ft_engine.specs.Answering.{MakesEntry, MakesNoEntry, FoundWordsChanged, StaysPass, copies}
 use Rattle.ft_engine.specs.Keeping.{made_entry}
 use Rattle.ft_engine.proofs.Within.{HasWithin, answered_owners, loaded_owners, made_owners, retired_owners, tried_owners, within_then, wrote_owners}
-use Rattle.ft_engine.proofs.SectionCalls.{answer_stays, loaded_in, nothing_entry, nothing_then, only_nothing, same_nothing}
+use Rattle.ft_engine.proofs.SectionCalls.{nothing_entry, nothing_then, only_nothing, same_nothing}
 
 -- what a try comes to, but for the sections
 abbrev pub Outcome : Call → Objects → View → View → Step → Type 0
@@ -93,7 +94,14 @@ answered_adds called said stamp v w is left x =
           let b = l.left in
           let e : v.left ≡ suc w.left = omega (arith, a, b, left) in e;
       seen = x.seen;
-      loaded = λ _. loaded_in stamp.number v v u w (same_nothing v).pass (record { part = x.part; own = x.own; loaded = x.counted }) (subst (StaysPass u) (sym x.answered) (answer_stays called said stamp.number u));
+      loaded = λ _. record {
+        later = [];
+        answer = Answer called said stamp.number;
+        part = x.part;
+        own = ap (λ (z : View). z.log) x.answered ∙ ap (λ (log : List Act). Answer called said stamp.number ∷ log) x.own;
+        answers = (refl, refl);
+        loaded = x.counted;
+      };
       shows = λ wrote. absurd (true≢false (sym wrote ∙ is));
       cursors = λ number other. ap (λ (z : View). cursor_in number z.log) x.answered ∙ l.pass.cursors number;
     }

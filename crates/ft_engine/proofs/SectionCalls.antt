@@ -26,6 +26,7 @@ use Rattle.ft_bank.specs.declared.sections.Taking.{Taking}
 use Rattle.ft_bank.specs.Logs.{HasGrown, StaysOnline}
 use Rattle.ft_bank.specs.Passes.{view, IsPassOf}
 use Rattle.ft_bank.specs.PassSections.{Stack, stack_of}
+use Rattle.ft_bank.proofs.LastLoads.{last_older}
 use Rattle.ft_bank.proofs.Logs.{grown_by, newer_part}
 use Rattle.ft_qsbr.specs.Collecting.{Collected, loads_of}
 use Rattle.ft_section.specs.declared.answers.Ended.{Ended}
@@ -98,24 +99,20 @@ nothing_then u v w a b = record {
 pub same_nothing : (v : View) → MakesNoEntry v v
 same_nothing v = record { pass = record { number = refl; next = refl; parts = refl; shape = refl; lists = refl; online = λ on. on; floor = refl; since = refl; seen = omega arith; grown = λ old was. was; present = λ is. is }; entries = refl; left = refl; cursors = λ number. refl }
 
--- a load stays one of a longer time
-pub loaded_in : (n : ℕ) (u v w z : View) → StaysPass u v → HasLoaded n v w → StaysPass w z → HasLoaded n u z
-loaded_in n u v w z before l after =
+-- what was loaded for an answer was so in a longer time
+pub loaded_in : (called : Call) (n : ℕ) (u v w z : View) → StaysPass u v → HasLoaded called n v w → StaysPass w z → HasLoaded called n u z
+loaded_in called n u v w z before l after =
     let a = newer_part u v before.grown in
     let b = newer_part w z after.grown in
-    let load = ReadCounter n in
+    let all : w.log ≡ l.later ++ l.answer ∷ ((l.part ++ a.0) ++ u.log) = l.own
+    ∙ ap (λ (log : List Act). l.later ++ l.answer ∷ log) (ap (λ (log : List Act). l.part ++ log) a.1 ∙ sym (append_assoc l.part a.0 u.log)) in
     record {
-      part = b.0 ++ (l.part ++ a.0);
-      own = b.1
-          ∙ (ap (λ (log : List Act). b.0 ++ log) (l.own ∙ (ap (λ (log : List Act). l.part ++ log) a.1 ∙ sym (append_assoc l.part a.0 u.log)))
-          ∙ sym (append_assoc b.0 (l.part ++ a.0) u.log));
-      loaded = record {
-        newer = b.0 ++ l.loaded.newer;
-        rest = l.loaded.rest ++ a.0;
-        is = ap (λ (log : List Act). b.0 ++ log)
-            (ap (λ (log : List Act). log ++ a.0) l.loaded.is ∙ append_assoc l.loaded.newer (load ∷ l.loaded.rest) a.0)
-            ∙ sym (append_assoc b.0 l.loaded.newer (load ∷ (l.loaded.rest ++ a.0)));
-      };
+      later = b.0 ++ l.later;
+      answer = l.answer;
+      part = l.part ++ a.0;
+      own = b.1 ∙ (ap (λ (log : List Act). b.0 ++ log) all ∙ sym (append_assoc b.0 l.later (l.answer ∷ ((l.part ++ a.0) ++ u.log))));
+      answers = l.answers;
+      loaded = last_older n l.part a.0 l.loaded;
     }
 
 -- what comes before and after the entry adds none
@@ -125,7 +122,7 @@ nothing_entry called said stamp u v w z before seen made after = record {
   entries = after.entries ∙ (made.entries ∙ ap (λ (es : List Entry). made_entry called said stamp ∷ es) before.entries);
   left = sym before.left ∙ (made.left ∙ sym (ap suc after.left));
   seen = le_trans before.pass.seen seen;
-  loaded = λ read. loaded_in stamp.number u v w z before.pass (made.loaded read) after.pass;
+  loaded = λ read. loaded_in called stamp.number u v w z before.pass (made.loaded read) after.pass;
   shows = λ wrote. let first = made.shows wrote in let more = after.pass.seen in omega (arith, first, more);
   cursors = λ number other. after.cursors number ∙ (made.cursors number other ∙ before.cursors number);
 }
@@ -147,14 +144,14 @@ answered_pass called said n v = record {
   present = λ is. ap presence_after_entry is;
 }
 
-pub answer_stays : (called : Call) (said : Reply) (n : ℕ) (v : View) → StaysPass v (view_after (Answer called said n) v)
-answer_stays called said n v = record { number = refl; next = refl; parts = refl; shape = refl; lists = refl; online = λ on. on; floor = refl; since = refl; seen = seen_up (Answer called said n) v; grown = λ old was. inr was; present = λ is. ap presence_after_entry is }
-
-answered_loaded : (called : Call) (said : Reply) (n : ℕ) (v : View) → HasLoaded n v (answered_view called said n v)
+answered_loaded : (called : Call) (said : Reply) (n : ℕ) (v : View) → HasLoaded called n v (answered_view called said n v)
 answered_loaded called said n v = record {
-  part = Answer called said n ∷ ReadCounter n ∷ [];
+  later = [];
+  answer = Answer called said n;
+  part = ReadCounter n ∷ [];
   own = refl;
-  loaded = record { newer = Answer called said n ∷ []; rest = []; is = refl };
+  answers = (refl, refl);
+  loaded = record { newer = []; rest = []; is = refl; none = refl };
 }
 
 answered_entries : (called : Call) (said : Reply) (stamp : Stamp) (v : View) → stamp.wrote ≡ false → (answered_view called said stamp.number v).entries ≡ made_entry called said stamp ∷ v.entries
@@ -214,7 +211,7 @@ begin_answer b p q first second stamp left enters seen read opens resume =
         entries = ap (λ (z : View). z.entries) is ∙ (answered_entries c reply.Entered stamp u read ∙ ap (λ (es : List Entry). made_entry c reply.Entered stamp ∷ es) enters.1.entries);
         left = sym enters.1.left ∙ (answered_left c reply.Entered stamp.number u (subst (λ (n : ℕ). 0 < n) (sym enters.1.left) left) ∙ sym (ap (λ (z : View). suc z.left) is));
         seen = seen;
-        loaded = λ _. loaded_in stamp.number v u (view q) (view q) (only_stays v u enters.1) (subst (HasLoaded stamp.number u) (sym is) (answered_loaded c reply.Entered stamp.number u)) (same_nothing (view q)).pass;
+        loaded = λ _. loaded_in c stamp.number v u (view q) (view q) (only_stays v u enters.1) (subst (HasLoaded c stamp.number u) (sym is) (answered_loaded c reply.Entered stamp.number u)) (same_nothing (view q)).pass;
         shows = λ wrote. absurd (true≢false (sym wrote ∙ read));
         cursors = λ number other. ap (λ (z : View). cursor_in number z.log) is ∙ enters.1.cursors number;
       };
@@ -320,7 +317,7 @@ calm_entry called said stamp v u w calm on stays left is read seen =
       entries = ap (λ (z : View). z.entries) is ∙ (made.entries ∙ ap (λ (es : List Entry). made_entry called said stamp ∷ es) calm.entries);
       left = sym calm.left ∙ (made.left ∙ sym (ap (λ (z : View). suc z.left) is));
       seen = le_trans calm.seen seen;
-      loaded = λ _. loaded_in stamp.number v u w w quiet (subst (HasLoaded stamp.number u) (sym is) (made.loaded read)) (same_nothing w).pass;
+      loaded = λ _. loaded_in called stamp.number v u w w quiet (subst (HasLoaded called stamp.number u) (sym is) (made.loaded read)) (same_nothing w).pass;
       shows = λ wrote. absurd (true≢false (sym wrote ∙ read));
       cursors = λ number other. ap (λ (z : View). cursor_in number z.log) is ∙ calm.cursors number;
     }

@@ -1,5 +1,5 @@
-use Rattle.std.proofs.Common.{◌≡◌, ◌<◌, ◌∙◌, ℕ, false, refl, sym, ap, subst, le_trans}
-use Rattle.std.proofs.Math.Nat.{le-max_right}
+use Rattle.std.proofs.Common.{◌≡◌, ◌<◌, ◌≤◌, ◌∙◌, ℕ, false, refl, sym, ap, subst, le_trans}
+use Rattle.std.proofs.Math.Nat.{le-max_left, le-max_right}
 use Rattle.ft_model.specs.declared.call.Call.{Call}
 use Rattle.ft_model.specs.declared.call.Call.TheVariants as call
 use Rattle.ft_model.specs.declared.reply.Reply.TheVariants as reply
@@ -66,6 +66,14 @@ returns-clause-tried c hands =
       no_containers hands named p refl,
       same_for hands named v (view r) (answered_owners named reply.Done n v (view q) (view r) calm is),
     )
+
+pub returns-clause-seen : goal.returns-clause-seen
+returns-clause-seen c =
+    let u = view c.learn.new.pass in
+    let n = c.stamp-number.result in
+    let loaded = ap (λ (z : View). shown z.log) c.stamp-number.ensures.did.1 in
+    let answered = ap (λ (z : View). shown z.log) c.answer.ensures.1 in
+    subst (λ (seen : ℕ). says c.args.note ≤ seen) (sym (answered ∙ loaded)) (le_trans c.learn.ensures.seen.0 (le-max_left (shown u.log) n))
 
 pub returns-clause-stamp : goal.returns-clause-stamp
 returns-clause-stamp c =

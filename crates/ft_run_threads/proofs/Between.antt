@@ -69,14 +69,14 @@ module _ (e : Engine) (i : ℕ) (calls : List Call) (place : ℕ) (w : Worker) (
     may awaits =
         let between : IsBetween e i calls place w = on.0 in
         record {
-          tried = λ other. may_next e i calls w.caller w.entries.items between.member between.cursors between.kept made_here are called at_here (subst (λ (f : Flight). AllowsCall f called) (sym between.idle) tt) other on.1.0;
+          tried = λ other. may_next e i calls w.caller w.entries.items between.member between.cursors between.kept made_here are called at_here (subst (λ (f : Flight). AllowsCall f called) (sym between.idle) tt) other on.1;
           awaited = λ thread index is.
               let low : place < length calls = slice_get_within calls place called at in
               let named : IsAwaitFrom i (call.Await thread index) = subst (IsAwaitFrom i) (get_or_from_slice_get calls place called called at ∙ is) (All-get_or (IsAwaitFrom i) calls place called low awaits) in
               record {
                 await = is;
                 idle = between.idle;
-                online = on.1.0;
+                online = on.1;
                 left = left e i calls w.caller w.entries.items between.member between.cursors between.kept made_here are called at_here (unanswered w between.idle);
                 some = named.1;
                 earlier = subst (λ (n : ℕ). thread < n) (sym between.member.thread) named.0;
@@ -142,8 +142,8 @@ answered e i calls place w x called said stamp mark on at caller same idle kept 
         made = made;
         rows = subst (λ (n : ℕ). length calls ≤ n) (sym capacity) on.0.rows;
       },
-      same.pass.online on.1.0,
-      same.pass.present on.1.1,
+      same.pass.online on.1,
+      same.pass.present on.2,
     )
 
 -- its pass has as many entries
@@ -155,7 +155,7 @@ has_made e i calls place w on low =
 -- it has made notes since
 pub noted_online : (e : Engine) (i : ℕ) (calls : List Call) (place : ℕ) (w x : Worker) → IsOnline e i calls place w → HasNoted e w.caller x.caller → x.entries ≡ w.entries → IsOnline e i calls place x
 noted_online e i calls place w x on noted rows =
-    (visited e i calls place w x on.0 noted.same noted.caller rows noted.kept, subst (λ (n : ℕ). 0 < n) (sym noted.announced) on.1.0, noted.presence ∙ on.1.1)
+    (visited e i calls place w x on.0 noted.same noted.caller rows noted.kept, subst (λ (n : ℕ). 0 < n) (sym noted.announced) on.1, noted.presence ∙ on.2)
 
 -- ---- a worker that has made its last call
 

@@ -49,15 +49,15 @@ from_each P ws each = all_at P 0 ws (λ thread w low. subst (λ (n : ℕ). P n (
 
 pub fresh_new : (e : Engine) (script : ScriptParts) (i : ℕ) (w : Worker) → w.entries.items ≡ [] → length (calls_of script i) ≤ vec_capacity w.entries → IsFreshCaller e most_cursors i w.caller → IsAtStart e script i w
 fresh_new e script i w none rows x = (
-    record {
-      member = record { caller = x.caller; thread = x.thread; next = x.next; parts = x.parts; taken = x.taken };
-      idle = x.flight;
-      cursors = ap length x.hands ∙ length-replicate {A = Option Cursor} most_cursors None;
-      kept = subst (WasAnswered w.caller) (sym none) (new_kept e most_cursors i w.caller x);
-      made = ap (map (λ (e : NamedEntry). e.call)) none;
-      rows = rows;
-    },
-    ap presence_of x.log,
+  record {
+    member = record { caller = x.caller; thread = x.thread; next = x.next; parts = x.parts; taken = x.taken };
+    idle = x.flight;
+    cursors = ap length x.hands ∙ length-replicate {A = Option Cursor} most_cursors None;
+    kept = subst (WasAnswered w.caller) (sym none) (new_kept e most_cursors i w.caller x);
+    made = ap (map (λ (e : NamedEntry). e.call)) none;
+    rows = rows;
+  },
+  ap presence_of x.log,
 )
 
 -- ---- workers that are taken in

@@ -41,10 +41,10 @@ end_worked e script i c s rule is all =
     let depth : length (stack_of (pass_of c)).sections ≡ 0 = depth_unanswered c mine unanswered is.kept ∙ (ap (fold step_depth 0) made ∙ ends_level script i rule) in
     record {
       member = is.member;
-      done = λ _. record { idle = idle; sections = no_sections (stack_of (pass_of c)).sections depth; offline = (is.done all).1.0 };
+      done = λ _. record { idle = idle; sections = no_sections (stack_of (pass_of c)).sections depth; offline = (is.done all).1 };
       kept = λ _. is.kept;
       made = λ _. made;
-      online = λ _. (is.done all).1.1;
+      online = λ _. (is.done all).2;
     }
 
 ends_from : (e : Engine) (script : ScriptParts) (from : ℕ) (seats : List (Option Seat)) → ((thread : ℕ) → thread < length seats → (s : Seat) × (slice_get seats thread ≡ Some (Some s)) × IsEndSeat e script (from + thread) (Some s))

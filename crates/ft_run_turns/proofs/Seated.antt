@@ -62,7 +62,7 @@ woken_between e script i c d mine is before caller =
       next = λ called at. subst (λ (f : Flight). AllowsCall f called) (sym before.same.flight) (is.next called at);
       idle = λ named index at. before.same.flight ∙ is.idle named index at;
       online = λ low. let on = is.online low in (subst (λ n. 0 < n) (sym before.announced) on.0, before.presence ∙ on.1);
-      done = λ all. let end = is.done all in (before.same.flight ∙ end.0, before.announced ∙ end.1.0, subst HasBeenOnline (sym before.presence) end.1.1);
+      done = λ all. let end = is.done all in (before.same.flight ∙ end.0, before.announced ∙ end.1, subst HasBeenOnline (sym before.presence) end.2);
     }
 
 -- no more calls were made than there are

@@ -11,7 +11,7 @@ use Rattle.ft_trace.specs.declared.Shape.{Shape}
 use Rattle.ft_trace.specs.declared.View.{View}
 use Rattle.ft_trace.specs.declared.Act.{Act}
 use Rattle.ft_trace.specs.declared.Act.TheVariants.{Lock, Unlock, PutBlock, PutRoot, PutTable, PutFresh, Commit, ReadBlock, ReadRoot, ReadTable, TakeTable, GiveTable, Retire, TookOver}
-use Rattle.ft_trace.specs.Addresses.{Word, counter, write_number, announced_of, bits, count_of_class, lock_of, version_of, block, header, cell, Inside, at, extent}
+use Rattle.ft_trace.specs.Addresses.{Word, counter, write_number, announced_of, bits, count_of_class, lock_of, version_of, block, heap_bits, box_word, header, cell, Inside, at, extent}
 use Rattle.ft_trace.specs.Acts.{place, word_after, has_lock, is_writing, stage, stage_next, hands_over, mem, past, starter, view_after, maker, made, both, spent, sender, note}
 use Rattle.ft_trace.specs.ContainerStates.{container_after}
 use Rattle.ft_trace.specs.Addresses.{container_count}
@@ -57,6 +57,8 @@ data_of k es u (bits c) owns = absurd owns
 data_of k es u (lock_of o) owns = absurd owns
 data_of k es u (version_of o) owns = absurd owns
 data_of k es u (header t) owns = absurd owns
+data_of k es u (heap_bits q w) owns = absurd owns
+data_of k es u (box_word b n) owns = absurd owns
 
 -- a table fresh in another's hand
 fresh_stays : (k : Shape) (es : List Event) → Valid k es → (id : ℕ) (v : View) → get_elem? (run k es).views id ≡ some v → (j : ℕ) (u : View) → j ≢ id → get_elem? (run k es).views j ≡ some u → (t i : ℕ) → Inside k (cell t i) → stage t u.log ≡ 1 → (a : Act) → May k (run k es) (history es) v a → word k (did id v a ∷ es) (cell t i) ≡ word k es (cell t i)
@@ -103,6 +105,8 @@ other k es id v a valid j u ne there old low = record { wide = old.wide; words =
     by (lock_of o) in_it mine = absurd mine
     by (version_of o) in_it mine = absurd mine
     by (header t) in_it mine = absurd mine
+    by (heap_bits q w) in_it mine = absurd mine
+    by (box_word b n) in_it mine = absurd mine
 
 -- the whole bank as it is now
 fresh : (k : Shape) (es : List Event) (id : ℕ) (v : View) (a : Act) (s : Snap) → s ≡ snap (run k es) (history es) → mem k (a ∷ v.log) ≡ s.words → past (a ∷ v.log) ≡ s.calls → history (did id v a ∷ es) ≡ history es → ((x : Word) → Inside k x → IsData x → word k (did id v a ∷ es) x ≡ word k es x) → Imaged k (did id v a ∷ es) (view_after a v)
@@ -140,6 +144,8 @@ calm k es id v a old m p h has_before stage_before same = record {
     backward (lock_of o) in_it mine = absurd mine
     backward (version_of o) in_it mine = absurd mine
     backward (header t) in_it mine = absurd mine
+    backward (heap_bits q w) in_it mine = absurd mine
+    backward (box_word b n) in_it mine = absurd mine
 
 -- a put into what the pass has
 stored : (k : Shape) (es : List Event) (id : ℕ) (v : View) (a : Act) (y : ℕ) → Valid k es → May k (run k es) (history es) v a → Imaged k es v → Inside k (place a) → mem k (a ∷ v.log) ≡ slice_set (mem k v.log) (at k (place a)) y → word_after v.number a (word k es (place a)) ≡ y → past (a ∷ v.log) ≡ past v.log → history (did id v a ∷ es) ≡ history es → ((o : ℕ) → has_lock o (a ∷ v.log) ≡ has_lock o v.log) → length (mem k v.log) ≡ extent k
@@ -174,6 +180,8 @@ same_back k es id v a h s r (bits c) in_it mine = absurd mine
 same_back k es id v a h s r (lock_of o) in_it mine = absurd mine
 same_back k es id v a h s r (version_of o) in_it mine = absurd mine
 same_back k es id v a h s r (header t) in_it mine = absurd mine
+same_back k es id v a h s r (heap_bits q w) in_it mine = absurd mine
+same_back k es id v a h s r (box_word b n) in_it mine = absurd mine
 
 root_back : (k : Shape) (es : List Event) (id : ℕ) (v : View) (p r past : ℕ) → May k (run k es) (history es) v (PutRoot p r past) → Backward k es (did id v (PutRoot p r past) ∷ es) v (view_after (PutRoot p r past) v)
 root_back k es id v p r past may (block o i) in_it mine = mine
@@ -198,6 +206,8 @@ root_back k es id v p r past may (bits c) in_it mine = absurd mine
 root_back k es id v p r past may (lock_of o) in_it mine = absurd mine
 root_back k es id v p r past may (version_of o) in_it mine = absurd mine
 root_back k es id v p r past may (header t) in_it mine = absurd mine
+root_back k es id v p r past may (heap_bits q w) in_it mine = absurd mine
+root_back k es id v p r past may (box_word b n) in_it mine = absurd mine
 
 not_one : (b : Bool) (x n : ℕ) → x ≢ 1 → cond b x n ≡ 1 → n ≡ 1
 not_one true x n ne e = absurd (ne e)
@@ -277,6 +287,8 @@ nothing k es u e =
     never (lock_of o) mine = absurd mine
     never (version_of o) mine = absurd mine
     never (header t) mine = absurd mine
+    never (heap_bits q w) mine = absurd mine
+    never (box_word b n) mine = absurd mine
 
 -- what a pass has to itself after it took in another it had before
 owner_before : (v w : View) → Owner (both v w) → Owner v

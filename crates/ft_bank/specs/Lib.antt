@@ -6,6 +6,8 @@ pub mod NewPasses
 pub mod Series
 pub mod Logs
 pub mod KeyHashes
+pub mod SameBoxes
+pub mod BoxSteps
 pub mod Locks
 pub mod WriteSteps
 pub mod Reads

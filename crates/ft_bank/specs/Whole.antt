@@ -14,8 +14,10 @@ use Rattle.ft_trace.specs.Hands.{cursor_in}
 use Rattle.ft_trace.specs.BegunSections.{begun}
 use Rattle.ft_trace.specs.ContainerStates.{state_at, changes}
 use Rattle.ft_trace.specs.Pictures.{root_in, Represents}
-use Rattle.ft_trace.specs.Holds.{held_words, known_state}
+use Rattle.ft_trace.specs.Holds.{held_words, held_unboxed, known_state}
+use Rattle.ft_bank.specs.Locks.{KnowsSame}
 use Rattle.ft_bank.specs.Logs.{HasGrown}
+use Rattle.ft_bank.specs.SameBoxes.{SameBoxes, SameMade}
 use Rattle.ft_bank.specs.WriteSteps.{MayHave}
 
 -- It is the same pass: it has the same locks, has made the same versions odd, announces the same, is in the midst of
@@ -56,17 +58,27 @@ pub record SameWork (v w : View) : Type 0 where
   pub owes : owes w.log ≡ owes v.log
   pub past : past w.log ≡ past v.log
 
+-- The pass has loaded words of the bank and taken steps with boxes, and done nothing else: it knows the same words, and
+-- they read the same through boxes in each container whose lock it has. (profile)
+pub record OnlyBoxed (v w : View) : Type 0 where
+  pub work : SameWork v w
+  pub words : mem v.shape w.log ≡ mem v.shape v.log
+  pub unboxed : (p : ℕ) → p < container_count v.shape → has_lock p v.log ≡ true → held_unboxed p w ≡ held_unboxed p v
+
 -- The pass has loaded words of the bank, and done nothing else. (profile)
 pub record OnlyLoaded (v w : View) : Type 0 where
   pub work : SameWork v w
   pub words : mem v.shape w.log ≡ mem v.shape v.log
+  pub unboxed : (p : ℕ) → p < container_count v.shape → has_lock p v.log ≡ true → held_unboxed p w ≡ held_unboxed p v
+  pub boxes : SameBoxes v w
 
 -- The pass has loaded words of the bank and put words of the container o, and done nothing else: of each other
--- container whose lock it has and that it doesn't write it knows the same words. (profile)
+-- container whose lock it has and that it doesn't write it knows the same words, which read the same. (profile)
 pub record OnlyPut (o : ℕ) (v w : View) : Type 0 where
   pub work : SameWork v w
+  pub made : SameMade v w
   pub others : (p : ℕ) → p < container_count v.shape → p ≢ o → has_lock p v.log ≡ true → is_writing p v.log ≡ false
-      → held_words p w ≡ held_words p v
+      → (held_words p w ≡ held_words p v) × (held_unboxed p w ≡ held_unboxed p v)
 
 -- the entry of a write
 abbrev pub write_entry : Call → Reply → ℕ → Entry
@@ -111,14 +123,15 @@ pub record EndsWrite (called : Call) (said : Reply) (number : ℕ) (v w : View) 
   pub debt : debt w.log ≡ debt v.log
   pub used : used w.log ≡ false
   pub owes : owes w.log ≡ 0
+  pub made : SameMade v w
   pub root : root_in (held_words (changes called) w) ≡ root_in (held_words (changes called) v)
   pub others : (p : ℕ) → p < container_count v.shape → p ≢ changes called → has_lock p v.log ≡ true
       → is_writing p v.log ≡ false
-      → (held_words p w ≡ held_words p v) × (known_state p w ≡ known_state p v)
+      → KnowsSame p v w
   pub found : StoredWorld
   pub has : MayHave v found
   pub content : known_state (changes called) w ≡ state_at (after_stored found called) (changes called)
-  pub stands : Represents v.shape.texts (held_words (changes called) w) (known_state (changes called) w)
+  pub stands : Represents v.shape.texts (held_unboxed (changes called) w) (known_state (changes called) w)
 
 -- The pass made this call as one whole write, with this reply, and the write has this number: at least all writes that
 -- the pass had seen, and it has then seen the write. It has one entry more, and a call less left. It knows the same of
@@ -140,10 +153,11 @@ pub record Wrote (called : Call) (said : Reply) (number : ℕ) (v w : View) : Ty
       (root_in (held_words (changes called) w)) (debt v.log)
   pub used : used w.log ≡ false
   pub owes : owes w.log ≡ 0
+  pub made : SameMade v w
   pub others : (p : ℕ) → p < container_count v.shape → p ≢ changes called → has_lock p v.log ≡ true
       → is_writing p v.log ≡ false
-      → (held_words p w ≡ held_words p v) × (known_state p w ≡ known_state p v)
+      → KnowsSame p v w
   pub found : StoredWorld
   pub has : MayHave v found
   pub content : known_state (changes called) w ≡ state_at (after_stored found called) (changes called)
-  pub stands : Represents v.shape.texts (held_words (changes called) w) (known_state (changes called) w)
+  pub stands : Represents v.shape.texts (held_unboxed (changes called) w) (known_state (changes called) w)

@@ -8,6 +8,7 @@
 #![tactic(auto)]
 
 mod bank;
+mod boxes;
 mod closed;
 mod floor;
 mod keys;

@@ -89,9 +89,11 @@ fn push_heaps(words: &mut Vec<u64>, shape: &Shape) -> Result<(), AllocError>
         ++ listed (λ i. heap_first (plan shape.now) (i % heap_words (plan shape.now))) 0
         ((plan shape.now).passes * heap_words (plan shape.now))) }
 {
+    let containers = shape.kinds.len() as u32;
     let heap = u64::from(shape.heap);
     let each = heap / BITS + BOX * heap;
-    let all = u64::from(shape.passes) * each;
+    let first = heap_start(containers, shape.heap, 0);
+    let all = heap_start(containers, shape.heap, shape.passes) - first;
     for at in 0..all {
         words.push(heap_word(shape, at % each))?;
     }

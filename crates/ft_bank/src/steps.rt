@@ -125,21 +125,20 @@ impl Bank {
     }
 
     /// Sets in a word the bits that a mask has.
-    pub(crate) fn set_as<A: Saying>(&self, pass: &mut Pass, word: u64, mask: u64, b: u32)
+    pub(crate) fn set_as<A: Saying>(&self, pass: &mut Pass, word: u64, mask: u64, b: u32) -> u64
         requires pass { IsPassOf self.now pass.old }
         requires word { word < extent (shape_of self.now) }
-        requires act { Acts (view pass.old) word (λ n. bit_or n mask) (λ _. A.act 0) }
-        requires ready { Ready (view pass.old) word (λ _. A.act 0) }
-        requires same { (n : ℕ) → A.act n ≡ A.act 0 }
+        requires act { Acts (view pass.old) word (λ n. bit_or n mask) A.act }
+        requires ready { Ready (view pass.old) word A.act }
         requires left { LeavesWrites (view pass.old) (λ n _. A.act n) }
         requires retired { LeavesRetired (λ n _. A.act n) }
-        ensures did { Did (A.act 0) pass.old pass.new }
-        ensures acted { Acted (view pass.old) (A.act 0) }
+        ensures did { Did (A.act result) pass.old pass.new }
+        ensures acted { Acted (view pass.old) (A.act result) }
     {
         let _ = b;
         self.table
             .shared
-            .fetch_or::<Does<A>>(&mut pass.seat, word as usize, mask);
+            .fetch_or::<Does<A>>(&mut pass.seat, word as usize, mask)
     }
 
     /// Puts a number into a word that has another; where it has not, the word stays.

@@ -53,6 +53,7 @@ impl Bank {
         ensures held { held_words o (view pass.new) ≡ with_block (held_words o (view pass.old)) word value }
         ensures unboxed { held_unboxed o (view pass.new) ≡ with_block (held_unboxed o (view pass.old)) word value }
         ensures boxes { SameBoxes (view pass.old) (view pass.new) }
+        ensures moves { MovesReferences o (view pass.old) (view pass.new) }
         ensures keeps { KeepsUnwritten (view pass.old) (view pass.new) }
     {
         let start = self.block_of(o) + 2;
@@ -161,12 +162,13 @@ impl Bank {
         ensures only { OnlyPut o (view pass.old) (view pass.new) }
         ensures keeps { KeepsUnwritten (view pass.old) (view pass.new) }
     {
+        let next = word + 1;
         if kind == BOX_KIND {
-            self.put_word(pass, o, t, start, word + 1, payload);
+            self.put_word(pass, o, t, start, next, payload);
             self.put_word(pass, o, t, start, word, kind);
         } else {
             self.put_word(pass, o, t, start, word, kind);
-            self.put_word(pass, o, t, start, word + 1, payload);
+            self.put_word(pass, o, t, start, next, payload);
         }
     }
 
@@ -182,6 +184,8 @@ impl Bank {
         ensures unboxed { (o : ℕ) → IsNoValue (kind_in (shape_of self.now).starts o) (class_of (table_id t)) word →
             hand_unboxed o (table_id t) (view pass.new) ≡
             slice_set (hand_unboxed o (table_id t) (view pass.old)) word value }
+        ensures moves { (o : ℕ) → o < container_count (shape_of self.now) → has_lock o (view pass.old).log ≡ true →
+            MovesReferences o (view pass.old) (view pass.new) }
         ensures keeps { KeepsUnwritten (view pass.old) (view pass.new) }
     {
         let start = self.cell_of(t);
@@ -202,6 +206,8 @@ impl Bank {
         ensures unboxed { (o : ℕ) → IsNoValue (kind_in (shape_of self.now).starts o) (class_of (table_id t)) word →
             hand_unboxed o (table_id t) (view pass.new) ≡
             slice_set (hand_unboxed o (table_id t) (view pass.old)) word value }
+        ensures moves { (o : ℕ) → o < container_count (shape_of self.now) → has_lock o (view pass.old).log ≡ true →
+            MovesReferences o (view pass.old) (view pass.new) }
         ensures keeps { KeepsUnwritten (view pass.old) (view pass.new) }
     {
         self.store_as::<Brand>(pass, start + word, value, 0, t.name(), word);

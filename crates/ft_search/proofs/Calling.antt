@@ -15,7 +15,7 @@ use Rattle.ft_trace.specs.declared.Shape.{Shape}
 use Rattle.ft_trace.specs.declared.View.{View}
 use Rattle.ft_trace.specs.Acts.{has_lock, stage, debt, view_after}
 use Rattle.ft_trace.specs.Addresses.{container_count}
-use Rattle.ft_trace.specs.Holds.{held_words, known_state}
+use Rattle.ft_trace.specs.Holds.{held_unboxed, known_state}
 use Rattle.ft_trace.specs.Pictures.{ContainerWords, root_in, Represents}
 use Rattle.ft_trace.specs.Kinds.{IsKeyed}
 use Rattle.ft_trace.specs.ContainerStates.{ContainerState, changes, kind_in, reply_in, kinds_in}
@@ -78,8 +78,8 @@ module _ (v u : View) (l : OnlyLoaded v u) where
           shows = x.shows;
           left = sym l.work.left ∙ x.left;
           entries = x.entries ∙ ap (λ (es : List Entry). write_entry called said n ∷ es) l.work.entries;
-          hands = λ t. x.hands t ∙ (λ d. hand_after o (root_in (h d)) (root_in (held_words o w)) t (l.work.hands t d));
-          debt = x.debt ∙ (λ d. debt_after o (root_in (h d)) (root_in (held_words o w)) (l.work.debt d));
+          hands = λ t. x.hands t ∙ (λ d. hand_after o (root_in (h d)) (root_in (held_unboxed o w)) t (l.work.hands t d));
+          debt = x.debt ∙ (λ d. debt_after o (root_in (h d)) (root_in (held_unboxed o w)) (l.work.debt d));
           used = x.used;
           owes = x.owes;
           others = λ p low ne mine quiet.
@@ -95,7 +95,7 @@ module _ (v u : View) (l : OnlyLoaded v u) where
             words = x.has.words;
           };
           content = x.content;
-          stands = subst (λ (k : Shape). Represents k.texts (held_words o w) (known_state o w)) s x.stands;
+          stands = subst (λ (k : Shape). Represents k.texts (held_unboxed o w) (known_state o w)) s x.stands;
         }
 
     pub loaded_answered : (part : List Act) → u.log ≡ part ++ v.log → Answered called said n u w → Answered called said n v w
@@ -125,10 +125,10 @@ module _ (v u : View) (l : OnlyLoaded v u) where
 -- ---- how a call was made
 
 -- as a write that leaves the root
-pub wrote_as : (called : Call) (said : Reply) (n : ℕ) (v w : View) → is_write called said ≡ true → IsReplyTo called said v → Wrote called said n v w → root_in (held_words (changes called) w) ≡ root_in (held_words (changes called) v) → MadeAs called said (record { number = n; wrote = true }) v w
+pub wrote_as : (called : Call) (said : Reply) (n : ℕ) (v w : View) → is_write called said ≡ true → IsReplyTo called said v → Wrote called said n v w → root_in (held_unboxed (changes called) w) ≡ root_in (held_unboxed (changes called) v) → MadeAs called said (record { number = n; wrote = true }) v w
 wrote_as called said n v w write replied x root =
     let o = changes called in
-    let old = root_in (held_words o v) in
+    let old = root_in (held_unboxed o v) in
     record {
       made = inl (refl, x);
       replied = replied;
@@ -163,13 +163,13 @@ wrote_still called said n v w s x keeps =
           let shape = x.pass.shape in
           let low' : p < container_count v.shape = subst (λ (k : Shape). p < container_count k) shape low in
           let mine : has_lock p v.log ≡ true = sym (x.pass.locks p) ∙ has in
-          let then_stands : Represents v.shape.texts (held_words p w) (known_state p w) =
+          let then_stands : Represents v.shape.texts (held_unboxed p w) (known_state p w) =
           dite (ℕ_discrete p o)
-          (λ (e : p ≡ o). subst (λ (q : ℕ). Represents v.shape.texts (held_words q w) (known_state q w)) (sym e) x.stands)
+          (λ (e : p ≡ o). subst (λ (q : ℕ). Represents v.shape.texts (held_unboxed q w) (known_state q w)) (sym e) x.stands)
           (λ ne.
           let e = x.others p low' ne mine (s.even p) in
           subst (λ (y : ContainerWords × ContainerState). Represents v.shape.texts y.0 y.1) (λ d. (sym e.0 d, sym e.1 d)) (s.stands p low' mine)) in
-          subst (λ (k : Shape). Represents k.texts (held_words p w) (known_state p w)) (sym shape) then_stands;
+          subst (λ (k : Shape). Represents k.texts (held_unboxed p w) (known_state p w)) (sym shape) then_stands;
     }
 
 pub making_made : (b : Bank) (p q : Pass) (called : Call) (said : Reply) (stamp : Stamp) → LeavesSections called → IsMaking b p → IsPassOf b q → stack_of q ≡ stack_of p → MadeAs called said stamp (view p) (view q) → IsMaking b q
@@ -189,11 +189,11 @@ shown_replied called said v n x stored has = x.plain stored (x.replied stored (r
 
 -- ---- after loads, for whoever looked for a key first
 
-pub written_made : (o : ℕ) (left : ContainerState) (called : Call) (said : Reply) (n : ℕ) (stamp : Stamp) (v u w : View) (part : List Act) → OnlyLoaded v u → u.log ≡ part ++ v.log → Leaves o called said left u → Wrote called said n u w → root_in (held_words o w) ≡ root_in (held_words o u) → stamp ≡ record { number = n; wrote = true } → MadeAs called said stamp v w
+pub written_made : (o : ℕ) (left : ContainerState) (called : Call) (said : Reply) (n : ℕ) (stamp : Stamp) (v u w : View) (part : List Act) → OnlyLoaded v u → u.log ≡ part ++ v.log → Leaves o called said left u → Wrote called said n u w → root_in (held_unboxed o w) ≡ root_in (held_unboxed o u) → stamp ≡ record { number = n; wrote = true } → MadeAs called said stamp v w
 written_made o left called said n stamp v u w part loaded log leaves wrote root is =
     made_loaded v u loaded called said stamp w part log
     (subst (λ (z : Stamp). MadeAs called said z u w) (sym is)
-    (wrote_as called said n u w leaves.write leaves.replied wrote (subst (λ (p : ℕ). root_in (held_words p w) ≡ root_in (held_words p u)) (sym leaves.changed) root)))
+    (wrote_as called said n u w leaves.write leaves.replied wrote (subst (λ (p : ℕ). root_in (held_unboxed p w) ≡ root_in (held_unboxed p u)) (sym leaves.changed) root)))
 
 pub answer_loaded : (called : Call) (said given : Reply) (stamp : Stamp) (v u w : View) (part : List Act) → OnlyLoaded v u → u.log ≡ part ++ v.log → given ≡ said → MadeAs called said stamp u w → MadeAs called given stamp v w
 answer_loaded called said given stamp v u w part loaded log is made = subst (λ (z : Reply). MadeAs called z stamp v w) (sym is) (made_loaded v u loaded called said stamp w part log made)
@@ -206,7 +206,7 @@ making_may b p k o m shape low keyed mine left = record {
   keyed = keyed;
   locked = mine;
   even = m.inside.1.still.even o;
-  stands = subst (λ (z : Shape). Represents z.texts (held_words o (view p)) (known_state o (view p))) shape (m.inside.1.still.stands o (subst (λ (z : Shape). o < container_count z) (sym shape) low) mine);
+  stands = subst (λ (z : Shape). Represents z.texts (held_unboxed o (view p)) (known_state o (view p))) shape (m.inside.1.still.stands o (subst (λ (z : Shape). o < container_count z) (sym shape) low) mine);
   owes = m.inside.1.still.owes;
   left = left;
 }

@@ -20,7 +20,7 @@ use Rattle.ft_trace.specs.declared.View.{View}
 use Rattle.ft_trace.specs.Addresses.{container_count, class_of, slots}
 use Rattle.ft_trace.specs.Acts.{has_lock, is_writing, has_committed}
 use Rattle.ft_trace.specs.Carefuls.{HasLiveKey}
-use Rattle.ft_trace.specs.Holds.{held_words, known_state}
+use Rattle.ft_trace.specs.Holds.{held_unboxed, known_state}
 use Rattle.ft_trace.specs.Kinds.{rows, version_at, CarefulAs, ClearAs, HasVersions}
 use Rattle.ft_trace.specs.OddVersions.{Shut, Timely}
 use Rattle.ft_trace.specs.Traces.{IsReachable}
@@ -116,9 +116,9 @@ kind_is k v o shape possible mine =
 -- ---- puts
 
 -- a put that may be made on these words is one that readers aren't misled by
-pub put_at : (k : Shape) (o t i y : ℕ) (committed : Bool) (words : ContainerWords) (c : Content) (w : View) → w.shape ≡ k → has_committed o w.log ≡ committed → held_words o w ≡ words → (known_state o w).content ≡ c → MayPut (kind_in k.starts o) t c committed words (to_table i y) → IsCareful w o t i y
+pub put_at : (k : Shape) (o t i y : ℕ) (committed : Bool) (words : ContainerWords) (c : Content) (w : View) → w.shape ≡ k → has_committed o w.log ≡ committed → held_unboxed o w ≡ words → (known_state o w).content ≡ c → MayPut (kind_in k.starts o) t c committed words (to_table i y) → IsCareful w o t i y
 put_at k o t i y committed words c w shape late is content may =
-    let care : CarefulAs (kind_in w.shape.starts o) (class_of t) (held_words o w).table (known_state o w).content i y = subst (λ (z : Shape × ContainerWords × Content). CarefulAs (kind_in z.0.starts o) (class_of t) z.1.table z.2 i y) (sym (λ d. (shape d, is d, content d))) may.2 in
+    let care : CarefulAs (kind_in w.shape.starts o) (class_of t) (held_unboxed o w).table (known_state o w).content i y = subst (λ (z : Shape × ContainerWords × Content). CarefulAs (kind_in z.0.starts o) (class_of t) z.1.table z.2 i y) (sym (λ d. (shape d, is d, content d))) may.2 in
     let timely : Timely (version_at (kind_in w.shape.starts o) (class_of t)) (rows (kind_in w.shape.starts o) (class_of t)) i y (has_committed o w.log) = subst (λ (z : Shape × Bool). Timely (version_at (kind_in z.0.starts o) (class_of t)) (rows (kind_in z.0.starts o) (class_of t)) i y z.1) (sym (λ d. (shape d, late d))) may.3 in
     record { care = care; timely = timely }
 
@@ -137,14 +137,14 @@ with_count b class old new fill next h =
     }
 
 -- no version of an entry is odd before the write
-pub shut_known : (k : Shape) (v : View) (o t : ℕ) → v.shape ≡ k → ∥ IsReachable v ∥₁ → o < container_count k → has_lock o v.log ≡ true → is_writing o v.log ≡ false → root_in (held_words o v) ≡ suc t → Shut (version_at (kind_of (known_state o v).content) (class_of t)) (rows (kind_of (known_state o v).content) (class_of t)) (held_words o v).table
+pub shut_known : (k : Shape) (v : View) (o t : ℕ) → v.shape ≡ k → ∥ IsReachable v ∥₁ → o < container_count k → has_lock o v.log ≡ true → is_writing o v.log ≡ false → root_in (held_unboxed o v) ≡ suc t → Shut (version_at (kind_of (known_state o v).content) (class_of t)) (rows (kind_of (known_state o v).content) (class_of t)) (held_unboxed o v).table
 shut_known k v o t shape possible low mine even names p less =
     let kind_eq : kind_of (known_state o v).content ≡ kind_in v.shape.starts o = kind_is k v o shape possible mine ∙ sym (ap (λ (z : Shape). kind_in z.starts o) shape) in
     let here : o < container_count v.shape = subst (λ (z : Shape). o < container_count z) (sym shape) low in
     let row : p < rows (kind_in v.shape.starts o) (class_of t) = subst (λ (z : Kind). p < rows z (class_of t)) kind_eq less in
-    let even_now : slice_index (held_words o v).table (version_at (kind_in v.shape.starts o) (class_of t) p) % 2 ≡ 0 =
-    ∥∥₁_elim {P = slice_index (held_words o v).table (version_at (kind_in v.shape.starts o) (class_of t) p) % 2 ≡ 0} possible (ℕ_set _ _) (λ x. held_shut v o t here x mine even names p row) in
-    subst (λ (z : Kind). slice_index (held_words o v).table (version_at z (class_of t) p) % 2 ≡ 0) (sym kind_eq) even_now
+    let even_now : slice_index (held_unboxed o v).table (version_at (kind_in v.shape.starts o) (class_of t) p) % 2 ≡ 0 =
+    ∥∥₁_elim {P = slice_index (held_unboxed o v).table (version_at (kind_in v.shape.starts o) (class_of t) p) % 2 ≡ 0} possible (ℕ_set _ _) (λ x. held_shut v o t here x mine even names p row) in
+    subst (λ (z : Kind). slice_index (held_unboxed o v).table (version_at z (class_of t) p) % 2 ≡ 0) (sym kind_eq) even_now
 
 -- ---- the entry that changes
 

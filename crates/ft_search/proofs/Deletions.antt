@@ -28,7 +28,7 @@ use Rattle.ft_trace.specs.OddVersions.{Shut}
 use Rattle.ft_trace.specs.Pictures.{ContainerWords, root_in, entry_offset, entry_field, Represents}
 use Rattle.ft_trace.specs.declared.Shape.{Shape}
 use Rattle.ft_trace.specs.declared.View.{View}
-use Rattle.ft_trace.specs.Holds.{held_words, known_state}
+use Rattle.ft_trace.specs.Holds.{held_unboxed, known_state}
 use Rattle.ft_trace.specs.Traces.{IsReachable}
 use Rattle.ft_trace.specs.ContainerStates.{ContainerState, kind_in}
 use Rattle.ft_trace.specs.WholeWrites.{to_block, to_table, with_puts, MayPut, MayPuts}
@@ -289,19 +289,19 @@ module _ (dicts : DictLaws) (sets : SetLaws) (texts : List ℕ) (x : ContainerWo
 
 -- as the pass knows the container
 pub deletes_known : DictLaws → SetLaws → (k : Shape) (o : ℕ) (table : Table) (v : View) → v.shape ≡ k → ∥ IsReachable v ∥₁ → MayWriteEntries k o v → HasTable k o table v → (place : ℕ) (key : Key) → IsLiveEntry k o table place key v
-    → Changing k.texts (table_id table) (held_words o v) (known_state o v) place (deletion (table_id table) place key (held_words o v)) (record { content = without_key (known_state o v).content key; table = (known_state o v).table }) × (0 < slice_index (held_words o v).block 1)
+    → Changing k.texts (table_id table) (held_unboxed o v) (known_state o v) place (deletion (table_id table) place key (held_unboxed o v)) (record { content = without_key (known_state o v).content key; table = (known_state o v).table }) × (0 < slice_index (held_unboxed o v).block 1)
 deletes_known dicts sets k o table v shape possible may has place key entry =
     let t = table_id table in
     let kind_eq : kind_of (known_state o v).content ≡ kind_in k.starts o = kind_is k v o shape possible may.locked in
-    deletes dicts sets k.texts (held_words o v) t (table_class k table has.table_in) has.root (table_is_long v o t has.root) place key entry.live entry.fits
+    deletes dicts sets k.texts (held_unboxed o v) t (table_class k table has.table_in) has.root (table_is_long v o t has.root) place key entry.live entry.fits
     (known_state o v).content (known_state o v).table (subst IsKeyed (sym kind_eq) may.keyed) may.stands
     (subst (λ (z : Kind). place < rows z (class_of t)) (sym kind_eq) entry.low)
     (shut_known k v o t shape possible may.container may.locked may.even has.root)
 
 -- ---- the puts, one after the other
 
-module _ (k : Shape) (o : ℕ) (table : Table) (place : ℕ) (key : Key) (v w1 w2 : View) (count : ℕ) (shape : v.shape ≡ k) (writes : WritesEntries k o table v) (early : has_committed o v.log ≡ false) (only1 : OnlyLoaded v w1) (is : count ≡ slice_index (held_words o v).block 1) (only2 : OnlyPut o w1 w2) (held2 : held_words o w2 ≡ with_block (held_words o w1) 1 (count - 1))
-    (may : MayPuts (kind_in k.starts o) (table_id table) (known_state o v).content false (held_words o v) (deletion (table_id table) place key (held_words o v))) where
+module _ (k : Shape) (o : ℕ) (table : Table) (place : ℕ) (key : Key) (v w1 w2 : View) (count : ℕ) (shape : v.shape ≡ k) (writes : WritesEntries k o table v) (early : has_committed o v.log ≡ false) (only1 : OnlyLoaded v w1) (is : count ≡ slice_index (held_unboxed o v).block 1) (only2 : OnlyPut o w1 w2) (held2 : held_unboxed o w2 ≡ with_block (held_unboxed o w1) 1 (count - 1))
+    (may : MayPuts (kind_in k.starts o) (table_id table) (known_state o v).content false (held_unboxed o v) (deletion (table_id table) place key (held_unboxed o v))) where
   abbrev pt : ℕ
   pt = table_id table
 
@@ -309,27 +309,27 @@ module _ (k : Shape) (o : ℕ) (table : Table) (place : ℕ) (key : Key) (v w1 w
   pn = slots (class_of pt)
 
   abbrev counted : ContainerWords
-  counted = with_block (held_words o v) 1 (slice_index (held_words o v).block 1 - 1)
+  counted = with_block (held_unboxed o v) 1 (slice_index (held_unboxed o v).block 1 - 1)
 
-  pub counted_words : held_words o w2 ≡ counted
+  pub counted_words : held_unboxed o w2 ≡ counted
   counted_words = held2 ∙ (λ d. with_block (loaded_held v w1 o only1 d) 1 (is d - 1))
 
   pub counted_only : OnlyPut o v w2
   counted_only = put_then v w1 w2 o (loaded_put v w1 o only1) only2
 
   pub counted_writes : WritesEntries k o table w2
-  counted_writes = writes_on k o table v w2 counted_only (ap root_in counted_words ∙ get_or-set_other (held_words o v).block 1 0 (slice_index (held_words o v).block 1 - 1) 0 (λ e. absurd (omega (arith, e)))) writes
+  counted_writes = writes_on k o table v w2 counted_only (ap root_in counted_words ∙ get_or-set_other (held_unboxed o v).block 1 0 (slice_index (held_unboxed o v).block 1 - 1) 0 (λ e. absurd (omega (arith, e)))) writes
 
-  pub opens : IsCareful w2 o pt (entry_offset pn place 0) (entry_field pn (held_words o w2).table place 0 + 1)
+  pub opens : IsCareful w2 o pt (entry_offset pn place 0) (entry_field pn (held_unboxed o w2).table place 0 + 1)
   opens =
       subst (λ (z : ContainerWords). IsCareful w2 o pt (entry_offset pn place 0) (entry_field pn z.table place 0 + 1)) (sym counted_words)
-      (put_at k o pt (entry_offset pn place 0) (entry_field pn (held_words o v).table place 0 + 1) false counted (known_state o v).content w2 (counted_only.work.pass.shape ∙ shape) (counted_only.work.committed o ∙ early) counted_words (ap (λ (z : ContainerState). z.content) (work_knows v w2 o counted_only.work)) may.1.0)
+      (put_at k o pt (entry_offset pn place 0) (entry_field pn (held_unboxed o v).table place 0 + 1) false counted (known_state o v).content w2 (counted_only.work.pass.shape ∙ shape) (counted_only.work.committed o ∙ early) counted_words (ap (λ (z : ContainerState). z.content) (work_knows v w2 o counted_only.work)) may.1.0)
 
-  module _ (w3 : View) (only3 : OnlyPut o w2 w3) (held3 : held_words o w3 ≡ raised_at pt place (held_words o w2)) (gone : ℕ) (is_gone : gone ≡ gone_kind key) where
+  module _ (w3 : View) (only3 : OnlyPut o w2 w3) (held3 : held_unboxed o w3 ≡ raised_at pt place (held_unboxed o w2)) (gone : ℕ) (is_gone : gone ≡ gone_kind key) where
     abbrev opened' : ContainerWords
     opened' = raised_at pt place counted
 
-    opened_words : held_words o w3 ≡ opened'
+    opened_words : held_unboxed o w3 ≡ opened'
     opened_words = held3 ∙ ap (raised_at pt place) counted_words
 
     opened_only : OnlyPut o v w3
@@ -343,5 +343,5 @@ module _ (k : Shape) (o : ℕ) (table : Table) (place : ℕ) (key : Key) (v w1 w
     pub deleted_only : (w4 : View) → OnlyPut o w3 w4 → OnlyPut o v w4
     deleted_only w4 only4 = put_then v w3 w4 o opened_only only4
 
-    pub deleted_words : (w4 : View) → held_words o w4 ≡ with_table (held_words o w3) (entry_offset pn place 2) gone → held_words o w4 ≡ with_puts (held_words o v) (deletion pt place key (held_words o v))
+    pub deleted_words : (w4 : View) → held_unboxed o w4 ≡ with_table (held_unboxed o w3) (entry_offset pn place 2) gone → held_unboxed o w4 ≡ with_puts (held_unboxed o v) (deletion pt place key (held_unboxed o v))
     deleted_words w4 held4 = held4 ∙ (λ d. with_table (opened_words d) (entry_offset pn place 2) (is_gone d))

@@ -29,7 +29,7 @@ use Rattle.ft_trace.specs.Acts.{has_committed}
 use Rattle.ft_trace.specs.Addresses.{class_of, slots, places, size}
 use Rattle.ft_trace.specs.Carefuls.{HasLiveKey, said_of}
 use Rattle.ft_trace.specs.EntryWrites.{value_puts}
-use Rattle.ft_trace.specs.Holds.{held_words, known_state}
+use Rattle.ft_trace.specs.Holds.{held_unboxed, known_state}
 use Rattle.ft_trace.specs.Kinds.{under, rows, version_at, CarefulAs, ClearAs}
 use Rattle.ft_trace.specs.OddVersions.{Shut}
 use Rattle.ft_trace.specs.Traces.{IsReachable}
@@ -209,24 +209,24 @@ SaysValue table place value x =
 
 -- as the pass knows the dict: another value may be put, or it is the value that is there
 pub values_known : ValueLaws → (k : Shape) (o : ℕ) (table : Table) (v : View) → v.shape ≡ k → ∥ IsReachable v ∥₁ → MayWriteEntries k o v → kind_in k.starts o ≡ kind.Dict → HasTable k o table v → (place : ℕ) (key : Key) (value : Value) → FitsStored (Plain value) → IsLiveEntry k o table place key v
-    → ((SaysValue table place value (held_words o v) → ⊥) → Changing k.texts (table_id table) (held_words o v) (known_state o v) place (value_puts (slots (class_of (table_id table))) (held_words o v).table place value) (record { content = with_value_at (known_state o v).content key value; table = (known_state o v).table }))
-    × (SaysValue table place value (held_words o v) → with_value_at (known_state o v).content key value ≡ (known_state o v).content)
+    → ((SaysValue table place value (held_unboxed o v) → ⊥) → Changing k.texts (table_id table) (held_unboxed o v) (known_state o v) place (value_puts (slots (class_of (table_id table))) (held_unboxed o v).table place value) (record { content = with_value_at (known_state o v).content key value; table = (known_state o v).table }))
+    × (SaysValue table place value (held_unboxed o v) → with_value_at (known_state o v).content key value ≡ (known_state o v).content)
 values_known laws k o table v shape possible may is has place key value fits entry =
     by (known_state o v).content (known_state o v).table (kind_is k v o shape possible may.locked ∙ is) may.stands
     (subst (λ (z : Kind). place < rows z (class_of (table_id table))) is entry.low)
     (shut_known k v o (table_id table) shape possible may.container may.locked may.even has.root)
   where
-    by : (d : Content) (u : TableUse) → kind_of d ≡ kind.Dict → Represents k.texts (held_words o v) (record { content = d; table = u }) → place < rows kind.Dict (class_of (table_id table)) → Shut (version_at (kind_of d) (class_of (table_id table))) (rows (kind_of d) (class_of (table_id table))) (held_words o v).table
-        → ((SaysValue table place value (held_words o v) → ⊥) → Changing k.texts (table_id table) (held_words o v) (record { content = d; table = u }) place (value_puts (slots (class_of (table_id table))) (held_words o v).table place value) (record { content = with_value_at d key value; table = u }))
-        × (SaysValue table place value (held_words o v) → with_value_at d key value ≡ d)
+    by : (d : Content) (u : TableUse) → kind_of d ≡ kind.Dict → Represents k.texts (held_unboxed o v) (record { content = d; table = u }) → place < rows kind.Dict (class_of (table_id table)) → Shut (version_at (kind_of d) (class_of (table_id table))) (rows (kind_of d) (class_of (table_id table))) (held_unboxed o v).table
+        → ((SaysValue table place value (held_unboxed o v) → ⊥) → Changing k.texts (table_id table) (held_unboxed o v) (record { content = d; table = u }) place (value_puts (slots (class_of (table_id table))) (held_unboxed o v).table place value) (record { content = with_value_at d key value; table = u }))
+        × (SaysValue table place value (held_unboxed o v) → with_value_at d key value ≡ d)
     by (content.Dict pairs) u e stands low shut =
         let t = table_id table in
-        let class = class_known k.texts (held_words o v) (record { content = content.Dict pairs; table = u }) t stands has.root in
-        let says : IsDictWords k.texts (held_words o v).block (0 ∷ 0 ∷ (held_words o v).table) (Some (class_of t)) u.fill pairs = subst (λ (z : Option ℕ). IsDictWords k.texts (held_words o v).block (0 ∷ 0 ∷ (held_words o v).table) z u.fill pairs) class stands in
+        let class = class_known k.texts (held_unboxed o v) (record { content = content.Dict pairs; table = u }) t stands has.root in
+        let says : IsDictWords k.texts (held_unboxed o v).block (0 ∷ 0 ∷ (held_unboxed o v).table) (Some (class_of t)) u.fill pairs = subst (λ (z : Option ℕ). IsDictWords k.texts (held_unboxed o v).block (0 ∷ 0 ∷ (held_unboxed o v).table) z u.fill pairs) class stands in
         let long = table_is_long v o t has.root in
         let is_class = table_class k table has.table_in in (
-          λ other. value_changes laws k.texts (held_words o v) u t is_class pairs says class has.root (omega (arith, long)) place key value (shut place low) low entry.live entry.fits fits shut (λ a b. other (a, b)),
-          λ again. ap content.Dict (same_again laws k.texts (held_words o v) u t is_class pairs says class has.root (omega (arith, long)) place key value (shut place low) low entry.live entry.fits fits again.0 again.1),
+          λ other. value_changes laws k.texts (held_unboxed o v) u t is_class pairs says class has.root (omega (arith, long)) place key value (shut place low) low entry.live entry.fits fits shut (λ a b. other (a, b)),
+          λ again. ap content.Dict (same_again laws k.texts (held_unboxed o v) u t is_class pairs says class has.root (omega (arith, long)) place key value (shut place low) low entry.live entry.fits fits again.0 again.1),
         )
     by (content.Set elements) u e stands low shut = absurd (cc)
     by (content.List values) u e stands low shut = absurd (cc)
@@ -234,14 +234,14 @@ values_known laws k o table v shape possible may is has place key value fits ent
 
 -- ---- the puts, one after the other
 
-pub value_opens : (k : Shape) (o : ℕ) (table : Table) (place : ℕ) (value : Value) (v : View) → v.shape ≡ k → has_committed o v.log ≡ false → MayPuts (kind_in k.starts o) (table_id table) (known_state o v).content false (held_words o v) (value_puts (slots (class_of (table_id table))) (held_words o v).table place value)
-    → IsCareful v o (table_id table) (entry_offset (slots (class_of (table_id table))) place 0) (entry_field (slots (class_of (table_id table))) (held_words o v).table place 0 + 1)
+pub value_opens : (k : Shape) (o : ℕ) (table : Table) (place : ℕ) (value : Value) (v : View) → v.shape ≡ k → has_committed o v.log ≡ false → MayPuts (kind_in k.starts o) (table_id table) (known_state o v).content false (held_unboxed o v) (value_puts (slots (class_of (table_id table))) (held_unboxed o v).table place value)
+    → IsCareful v o (table_id table) (entry_offset (slots (class_of (table_id table))) place 0) (entry_field (slots (class_of (table_id table))) (held_unboxed o v).table place 0 + 1)
 value_opens k o table place value v shape early may =
     let n = slots (class_of (table_id table)) in
-    put_at k o (table_id table) (entry_offset n place 0) (entry_field n (held_words o v).table place 0 + 1) false (held_words o v) (known_state o v).content v shape early refl refl may.0
+    put_at k o (table_id table) (entry_offset n place 0) (entry_field n (held_unboxed o v).table place 0 + 1) false (held_unboxed o v) (known_state o v).content v shape early refl refl may.0
 
-module _ (k : Shape) (o : ℕ) (table : Table) (place : ℕ) (value : Value) (v w1 : View) (shape : v.shape ≡ k) (early : has_committed o v.log ≡ false) (only1 : OnlyPut o v w1) (held1 : held_words o w1 ≡ raised_at (table_id table) place (held_words o v))
-    (may : MayPuts (kind_in k.starts o) (table_id table) (known_state o v).content false (held_words o v) (value_puts (slots (class_of (table_id table))) (held_words o v).table place value)) where
+module _ (k : Shape) (o : ℕ) (table : Table) (place : ℕ) (value : Value) (v w1 : View) (shape : v.shape ≡ k) (early : has_committed o v.log ≡ false) (only1 : OnlyPut o v w1) (held1 : held_unboxed o w1 ≡ raised_at (table_id table) place (held_unboxed o v))
+    (may : MayPuts (kind_in k.starts o) (table_id table) (known_state o v).content false (held_unboxed o v) (value_puts (slots (class_of (table_id table))) (held_unboxed o v).table place value)) where
   abbrev pt : ℕ
   pt = table_id table
 
@@ -251,19 +251,19 @@ module _ (k : Shape) (o : ℕ) (table : Table) (place : ℕ) (value : Value) (v 
   pub first_word : (kind_word : ℕ) → kind_word ≡ stored_kind (Plain value) → IsCareful w1 o pt (entry_offset pn place 4) kind_word
   first_word kind_word is =
       subst (λ (z : ℕ). IsCareful w1 o pt (entry_offset pn place 4) z) (sym is)
-      (put_at k o pt (entry_offset pn place 4) (stored_kind (Plain value)) false (raised_at pt place (held_words o v)) (known_state o v).content w1 (only1.work.pass.shape ∙ shape) (only1.work.committed o ∙ early) held1 (ap (λ (z : ContainerState). z.content) (work_knows v w1 o only1.work)) may.1.0)
+      (put_at k o pt (entry_offset pn place 4) (stored_kind (Plain value)) false (raised_at pt place (held_unboxed o v)) (known_state o v).content w1 (only1.work.pass.shape ∙ shape) (only1.work.committed o ∙ early) held1 (ap (λ (z : ContainerState). z.content) (work_knows v w1 o only1.work)) may.1.0)
 
   -- a word of the entry that the raise leaves
-  pub still_found : (w : ℕ) → 0 < w → (found : ℕ) → found ≡ entry_field pn (held_words o v).table place w → found ≡ entry_field pn (held_words o w1).table place w
+  pub still_found : (w : ℕ) → 0 < w → (found : ℕ) → found ≡ entry_field pn (held_unboxed o v).table place w → found ≡ entry_field pn (held_unboxed o w1).table place w
   still_found w some found is =
-      is ∙ (sym (get_or-set_other (held_words o v).table (entry_offset pn place 0) (entry_offset pn place w) (entry_field pn (held_words o v).table place 0 + 1) 0 (λ e. absurd (omega (arith, e, some))))
+      is ∙ (sym (get_or-set_other (held_unboxed o v).table (entry_offset pn place 0) (entry_offset pn place w) (entry_field pn (held_unboxed o v).table place 0 + 1) 0 (λ e. absurd (omega (arith, e, some))))
       ∙ sym (ap (λ (z : ContainerWords). entry_field pn z.table place w) held1))
 
-  module _ (w2 : View) (kind_word : ℕ) (is_kind : kind_word ≡ stored_kind (Plain value)) (only2 : OnlyPut o w1 w2) (held2 : held_words o w2 ≡ with_table (held_words o w1) (entry_offset pn place 4) kind_word) where
+  module _ (w2 : View) (kind_word : ℕ) (is_kind : kind_word ≡ stored_kind (Plain value)) (only2 : OnlyPut o w1 w2) (held2 : held_unboxed o w2 ≡ with_table (held_unboxed o w1) (entry_offset pn place 4) kind_word) where
     abbrev with_kind : ContainerWords
-    with_kind = with_table (raised_at pt place (held_words o v)) (entry_offset pn place 4) (stored_kind (Plain value))
+    with_kind = with_table (raised_at pt place (held_unboxed o v)) (entry_offset pn place 4) (stored_kind (Plain value))
 
-    kind_words : held_words o w2 ≡ with_kind
+    kind_words : held_unboxed o w2 ≡ with_kind
     kind_words = held2 ∙ (λ d. with_table (held1 d) (entry_offset pn place 4) (is_kind d))
 
     kind_only : OnlyPut o v w2
@@ -274,11 +274,11 @@ module _ (k : Shape) (o : ℕ) (table : Table) (place : ℕ) (value : Value) (v 
         subst (λ (z : ℕ). IsCareful w2 o pt (entry_offset pn place 5) z) (sym is)
         (put_at k o pt (entry_offset pn place 5) (stored_payload (Plain value)) false with_kind (known_state o v).content w2 (kind_only.work.pass.shape ∙ shape) (kind_only.work.committed o ∙ early) kind_words (ap (λ (z : ContainerState). z.content) (work_knows v w2 o kind_only.work)) may.1.1.0)
 
-    pub found_on : (found : ℕ) → found ≡ entry_field pn (held_words o w1).table place 5 → found ≡ entry_field pn (held_words o w2).table place 5
-    found_on found is = is ∙ (sym (get_or-set_other (held_words o w1).table (entry_offset pn place 4) (entry_offset pn place 5) kind_word 0 (λ e. absurd (omega (arith, e)))) ∙ sym (ap (λ (z : ContainerWords). entry_field pn z.table place 5) held2))
+    pub found_on : (found : ℕ) → found ≡ entry_field pn (held_unboxed o w1).table place 5 → found ≡ entry_field pn (held_unboxed o w2).table place 5
+    found_on found is = is ∙ (sym (get_or-set_other (held_unboxed o w1).table (entry_offset pn place 4) (entry_offset pn place 5) kind_word 0 (λ e. absurd (omega (arith, e)))) ∙ sym (ap (λ (z : ContainerWords). entry_field pn z.table place 5) held2))
 
     pub value_only : (w3 : View) → OnlyPut o w2 w3 → OnlyPut o v w3
     value_only w3 only3 = put_then v w2 w3 o kind_only only3
 
-    pub value_words : (w3 : View) (payload : ℕ) → payload ≡ stored_payload (Plain value) → held_words o w3 ≡ with_table (held_words o w2) (entry_offset pn place 5) payload → held_words o w3 ≡ with_puts (held_words o v) (value_puts pn (held_words o v).table place value)
+    pub value_words : (w3 : View) (payload : ℕ) → payload ≡ stored_payload (Plain value) → held_unboxed o w3 ≡ with_table (held_unboxed o w2) (entry_offset pn place 5) payload → held_unboxed o w3 ≡ with_puts (held_unboxed o v) (value_puts pn (held_unboxed o v).table place value)
     value_words w3 payload is held3 = held3 ∙ (λ d. with_table (kind_words d) (entry_offset pn place 5) (is d))

@@ -19,7 +19,7 @@ use Rattle.ft_trace.specs.Pictures.{ContainerWords, root_in, entry_offset, entry
 use Rattle.ft_trace.specs.Kinds.{under, rows, version_at, CarefulAs, IsKeyed}
 use Rattle.ft_trace.specs.Carefuls.{Careful}
 use Rattle.ft_trace.specs.OddVersions.{Timely}
-use Rattle.ft_trace.specs.Holds.{held_words}
+use Rattle.ft_trace.specs.Holds.{held_unboxed}
 use Rattle.ft_trace.specs.Traces.{IsReachable}
 use Rattle.ft_trace.proofs.ByKind.{keyed_fit}
 use Rattle.ft_trace.proofs.Held.{table_known}
@@ -56,7 +56,7 @@ few_places k t kind place is keyed low =
     omega (arith, f, low, r)
 
 -- the pass still writes the container
-pub writes_on : (k : Shape) (o : ℕ) (table : Table) (v w : View) → OnlyPut o v w → root_in (held_words o w) ≡ root_in (held_words o v) → WritesEntries k o table v → WritesEntries k o table w
+pub writes_on : (k : Shape) (o : ℕ) (table : Table) (v w : View) → OnlyPut o v w → root_in (held_unboxed o w) ≡ root_in (held_unboxed o v) → WritesEntries k o table v → WritesEntries k o table w
 writes_on k o table v w only root writes = record {
   container = writes.container;
   keyed = writes.keyed;
@@ -72,16 +72,16 @@ writes_loaded k o table a v w load is writes =
     writes_on k o table v w (loaded_put v w o l) (ap root_in (loaded_held v w o l)) writes
 
 -- a version has room for one more write
-version_room : (v : View) (o t p : ℕ) → ∥ IsReachable v ∥₁ → o < container_count v.shape → has_lock o v.log ≡ true → root_in (held_words o v) ≡ suc t → p < rows (kind_in v.shape.starts o) (class_of t) → v.shape.passes * v.shape.calls < 2 ^ 46 → slice_index (held_words o v).table (version_at (kind_in v.shape.starts o) (class_of t) p) < 2 ^ 63
+version_room : (v : View) (o t p : ℕ) → ∥ IsReachable v ∥₁ → o < container_count v.shape → has_lock o v.log ≡ true → root_in (held_unboxed o v) ≡ suc t → p < rows (kind_in v.shape.starts o) (class_of t) → v.shape.passes * v.shape.calls < 2 ^ 46 → slice_index (held_unboxed o v).table (version_at (kind_in v.shape.starts o) (class_of t) p) < 2 ^ 63
 version_room v o t p possible low mine names row few =
-    ∥∥₁_elim {P = slice_index (held_words o v).table (version_at (kind_in v.shape.starts o) (class_of t) p) < 2 ^ 63} possible le_prop
+    ∥∥₁_elim {P = slice_index (held_unboxed o v).table (version_at (kind_in v.shape.starts o) (class_of t) p) < 2 ^ 63} possible le_prop
     (λ (x : IsReachable v).
     let k = v.shape in
     let table = table_known v o low t mine names x.0 x.1 x.2 in
     let high = (lows k x.0 x.2.0 o low t table.1).odd p row in
     let count = counter_room k x.0 x.2.0 in
     let same = ap (λ (l : List ℕ). slice_index l (version_at (kind_in k.starts o) (class_of t) p)) table.0 in
-    let low : slice_index (held_words o v).table (version_at (kind_in k.starts o) (class_of t) p) < 2 ^ 63 = omega (arith, high, count, same, few) in
+    let low : slice_index (held_unboxed o v).table (version_at (kind_in k.starts o) (class_of t) p) < 2 ^ 63 = omega (arith, high, count, same, few) in
     low)
 
 pub keyed_version : (kind : Kind) → IsKeyed kind → (c p : ℕ) → version_at kind c p ≡ entry_offset (slots c) p 0
@@ -96,14 +96,14 @@ keyed_careful kind.Set keyed c ws d i x care = care
 keyed_careful kind.List keyed c ws d i x care = absurd keyed
 keyed_careful (kind.Deque bound) keyed c ws d i x care = absurd keyed
 
-pub entry_room : (k : Shape) (o : ℕ) (table : Table) (v : View) → WritesEntries k o table v → v.shape ≡ k → ∥ IsReachable v ∥₁ → k.passes * k.calls < 2 ^ 46 → (place : ℕ) → place < rows (kind_in k.starts o) (class_of (table_id table)) → entry_field (slots (class_of (table_id table))) (held_words o v).table place 0 < 2 ^ 63
+pub entry_room : (k : Shape) (o : ℕ) (table : Table) (v : View) → WritesEntries k o table v → v.shape ≡ k → ∥ IsReachable v ∥₁ → k.passes * k.calls < 2 ^ 46 → (place : ℕ) → place < rows (kind_in k.starts o) (class_of (table_id table)) → entry_field (slots (class_of (table_id table))) (held_unboxed o v).table place 0 < 2 ^ 63
 entry_room k o table v writes shape possible few place low =
     let t = table_id table in
     let here : o < container_count v.shape = subst (λ (z : Shape). o < container_count z) (sym shape) writes.container in
     let row : place < rows (kind_in v.shape.starts o) (class_of t) = subst (λ (z : Shape). place < rows (kind_in z.starts o) (class_of t)) (sym shape) low in
     let calls : v.shape.passes * v.shape.calls < 2 ^ 46 = subst (λ (z : Shape). z.passes * z.calls < 2 ^ 46) (sym shape) few in
     let keyed : IsKeyed (kind_in v.shape.starts o) = subst (λ (z : Shape). IsKeyed (kind_in z.starts o)) (sym shape) writes.keyed in
-    subst (λ (z : ℕ). slice_index (held_words o v).table z < 2 ^ 63) (keyed_version (kind_in v.shape.starts o) keyed (class_of t) place) (version_room v o t place possible here writes.locked writes.root row calls)
+    subst (λ (z : ℕ). slice_index (held_unboxed o v).table z < 2 ^ 63) (keyed_version (kind_in v.shape.starts o) keyed (class_of t) place) (version_room v o t place possible here writes.locked writes.root row calls)
 
 -- what readers aren't misled by stays so after loads
 pub careful_loaded : (v w : View) (o t i x : ℕ) → OnlyLoaded v w → IsCareful v o t i x → IsCareful w o t i x

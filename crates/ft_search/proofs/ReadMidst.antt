@@ -8,7 +8,7 @@ use Rattle.ft_trace.specs.declared.Shape.{Shape}
 use Rattle.ft_trace.specs.declared.View.{View}
 use Rattle.ft_trace.specs.Acts.{has_lock, stage, view_after}
 use Rattle.ft_trace.specs.Addresses.{container_count}
-use Rattle.ft_trace.specs.Holds.{held_words, known_state}
+use Rattle.ft_trace.specs.Holds.{held_unboxed, known_state}
 use Rattle.ft_trace.specs.BegunSections.{Begun, begun, begun_by}
 use Rattle.ft_trace.specs.Pictures.{ContainerWords, Represents}
 use Rattle.ft_trace.specs.ContainerStates.{ContainerState}
@@ -60,11 +60,11 @@ making_read b p q called said n leaves m pass stack a =
     making_stays b p q m pass stack r.0 r.1 r.2 (still_read called said n (view p) (view q) a m.inside.1.still)
 
 -- what such a pass knows of a container whose lock it has
-pub making_stands : (b : Bank) (p : Pass) (texts : List ℕ) (o : ℕ) → IsMaking b p → (view p).shape.texts ≡ texts → o < container_count (view p).shape → has_lock o (view p).log ≡ true → Represents texts (held_words o (view p)) (known_state o (view p))
-making_stands b p texts o m same low mine = subst (λ (t : List ℕ). Represents t (held_words o (view p)) (known_state o (view p))) same (m.inside.1.still.stands o low mine)
+pub making_stands : (b : Bank) (p : Pass) (texts : List ℕ) (o : ℕ) → IsMaking b p → (view p).shape.texts ≡ texts → o < container_count (view p).shape → has_lock o (view p).log ≡ true → Represents texts (held_unboxed o (view p)) (known_state o (view p))
+making_stands b p texts o m same low mine = subst (λ (t : List ℕ). Represents t (held_unboxed o (view p)) (known_state o (view p))) same (m.inside.1.still.stands o low mine)
 
 -- of a container of the bank
-pub stands_in : (b : Bank) (p : Pass) (o : ℕ) → IsMaking b p → o < container_count (shape_of b) → has_lock o (view p).log ≡ true → Represents (shape_of b).texts (held_words o (view p)) (known_state o (view p))
+pub stands_in : (b : Bank) (p : Pass) (o : ℕ) → IsMaking b p → o < container_count (shape_of b) → has_lock o (view p).log ≡ true → Represents (shape_of b).texts (held_unboxed o (view p)) (known_state o (view p))
 stands_in b p o m low mine =
     let same = m.inside.0.1 in
     making_stands b p (shape_of b).texts o m (ap (λ (k : Shape). k.texts) same) (subst (λ (k : Shape). o < container_count k) (sym same) low) mine

@@ -20,7 +20,7 @@ use Rattle.ft_trace.specs.declared.Shape.{Shape}
 use Rattle.ft_trace.specs.declared.View.{View}
 use Rattle.ft_trace.specs.Addresses.{class_of, slots}
 use Rattle.ft_trace.specs.Carefuls.{HasLiveKey}
-use Rattle.ft_trace.specs.Holds.{held_words, known_state}
+use Rattle.ft_trace.specs.Holds.{held_unboxed, known_state}
 use Rattle.ft_trace.specs.Kinds.{rows}
 use Rattle.ft_trace.specs.Pictures.{ContainerWords, root_in, entry_field, Represents}
 use Rattle.ft_trace.specs.ContainerStates.{ContainerState, kind_in}
@@ -107,10 +107,10 @@ module _ (first_pair : dict.FirstEntriesArePairs) (first_element : set.FirstEntr
   none_spent way.Dict is s = let says = dict_says is.0 is.1 in s.finds way.Dict k.texts says.used says.table low refl
   none_spent way.Set is s = let says = set_says is.0 is.1 in s.finds way.Set k.texts says.used says.table low refl
 
-module _ (missing_key : MissingKeys) (missing_element : MissingElements) (first_pair : dict.FirstEntriesArePairs) (first_element : set.FirstEntriesAreElements) (free : FirstFreeSlots) (k : Shape) (o : ℕ) (key : Key) (v : View) (by : Way) (table : Table) (in_bank : IsTableIn k table) (names : root_in (held_words o v) ≡ suc (table_id table)) (stands : Represents k.texts (held_words o v) (known_state o v))
+module _ (missing_key : MissingKeys) (missing_element : MissingElements) (first_pair : dict.FirstEntriesArePairs) (first_element : set.FirstEntriesAreElements) (free : FirstFreeSlots) (k : Shape) (o : ℕ) (key : Key) (v : View) (by : Way) (table : Table) (in_bank : IsTableIn k table) (names : root_in (held_unboxed o v) ≡ suc (table_id table)) (stands : Represents k.texts (held_unboxed o v) (known_state o v))
     (of : IsOfWay by (known_state o v).content) (kind_eq : kind_in k.starts o ≡ kind_by by) (fits : FitsKey key) (low : hash_of k.texts key < 2 ^ 64) (left : List ℕ) where
   abbrev x : ContainerWords
-  x = held_words o v
+  x = held_unboxed o v
 
   abbrev last : ℕ
   last = class_mask table.class
@@ -146,7 +146,7 @@ module _ (missing_key : MissingKeys) (missing_element : MissingElements) (first_
 -- ---- after loads
 
 module _ (k : Shape) (o : ℕ) (v w : View) (only : OnlyLoaded v w) where
-  same : (held_words o v ≡ held_words o w) × (known_state o v ≡ known_state o w)
+  same : (held_unboxed o v ≡ held_unboxed o w) × (known_state o v ≡ known_state o w)
   same = (sym (loaded_held v w o only), sym (work_knows v w o only.work))
 
   pub may_loaded : MayWriteEntries k o v → MayWriteEntries k o w

@@ -3,7 +3,7 @@
 ghost use Rattle.std.specs.Prelude.{◌≡◌, ◌<◌, false, slice_index};
 ghost use Rattle.ft_trace.specs.Acts.{has_committed};
 ghost use Rattle.ft_trace.specs.Addresses.{class_of};
-ghost use Rattle.ft_trace.specs.Holds.{held_words, known_state};
+ghost use Rattle.ft_trace.specs.Holds.{held_unboxed, known_state};
 ghost use Rattle.ft_trace.specs.Kinds.{rows};
 ghost use Rattle.ft_trace.specs.Pictures.{root_in};
 ghost use Rattle.ft_trace.specs.ContainerStates.{kind_in};
@@ -32,15 +32,15 @@ pub fn put_deleted(bank: &Bank, pass: &mut Pass, o: u32, table: Table, place: u6
     requires writes { WritesEntries (shape_of bank.now) o table (view pass.old) }
     requires place { place < rows (kind_in (shape_of bank.now).starts o) (class_of (table_id table)) }
     requires early { has_committed o (view pass.old).log ≡ false }
-    requires some { 0 < slice_index (held_words o (view pass.old)).block 1 }
+    requires some { 0 < slice_index (held_unboxed o (view pass.old)).block 1 }
     requires may { MayPuts (kind_in (shape_of bank.now).starts o) (table_id table) (known_state o (view pass.old)).content false
-        (held_words o (view pass.old)) (deletion (table_id table) place key (held_words o (view pass.old))) }
+        (held_unboxed o (view pass.old)) (deletion (table_id table) place key (held_unboxed o (view pass.old))) }
     ensures pass { IsPassOf bank.now pass.new }
     ensures stack { stack_of pass.new ≡ stack_of pass.old }
     ensures writes { WritesEntries (shape_of bank.now) o table (view pass.new) }
     ensures only { OnlyPut o (view pass.old) (view pass.new) }
-    ensures words { held_words o (view pass.new) ≡ with_puts (held_words o (view pass.old))
-        (deletion (table_id table) place key (held_words o (view pass.old))) }
+    ensures words { held_unboxed o (view pass.new) ≡ with_puts (held_unboxed o (view pass.old))
+        (deletion (table_id table) place key (held_unboxed o (view pass.old))) }
 {
     let count = bank.read_block(pass, o, COUNT);
     bank.put_block(pass, o, COUNT, count - 1);
@@ -80,7 +80,7 @@ pub fn delete_entry(
     ensures pass { IsPassOf bank.now pass.new }
     ensures stack { stack_of pass.new ≡ stack_of pass.old }
     ensures wrote { Wrote called.now said.now result (view pass.old) (view pass.new) }
-    ensures root { root_in (held_words o (view pass.new)) ≡ root_in (held_words o (view pass.old)) }
+    ensures root { root_in (held_unboxed o (view pass.new)) ≡ root_in (held_unboxed o (view pass.old)) }
 {
     versions_change_nothing();
     used_entries_follow_a_dict();

@@ -2,7 +2,7 @@
 //! each put is one that readers without the lock aren't misled by.
 ghost use Rattle.std.specs.Prelude.{◌≡◌, ℕ, suc, ◌+◌, ◌*◌, ◌<◌, true};
 ghost use Rattle.ft_trace.specs.Addresses.{class_of, slots};
-ghost use Rattle.ft_trace.specs.Holds.{held_words};
+ghost use Rattle.ft_trace.specs.Holds.{held_unboxed};
 ghost use Rattle.ft_trace.specs.Kinds.{rows};
 ghost use Rattle.ft_trace.specs.Pictures.{entry_offset, entry_field};
 ghost use Rattle.ft_trace.specs.ContainerStates.{kind_in};
@@ -46,8 +46,8 @@ pub(crate) fn read_entry(
     ensures stack { stack_of pass.new ≡ stack_of pass.old }
     ensures writes { WritesEntries (shape_of bank.now) o table (view pass.new) }
     ensures only { OnlyLoaded (view pass.old) (view pass.new) }
-    ensures held { held_words o (view pass.new) ≡ held_words o (view pass.old) }
-    ensures found { result ≡ entry_field (slots (class_of (table_id table))) (held_words o (view pass.old)).table place word }
+    ensures held { held_unboxed o (view pass.new) ≡ held_unboxed o (view pass.old) }
+    ensures found { result ≡ entry_field (slots (class_of (table_id table))) (held_unboxed o (view pass.old)).table place word }
 {
     let _ = o;
     let at = word_at(mask_of(table.class), place, word);
@@ -76,8 +76,8 @@ pub(crate) fn put_entry(
     ensures stack { stack_of pass.new ≡ stack_of pass.old }
     ensures writes { WritesEntries (shape_of bank.now) o table (view pass.new) }
     ensures only { OnlyPut o (view pass.old) (view pass.new) }
-    ensures words { held_words o (view pass.new)
-        ≡ with_table (held_words o (view pass.old)) (entry_offset (slots (class_of (table_id table))) place word) value }
+    ensures words { held_unboxed o (view pass.new)
+        ≡ with_table (held_unboxed o (view pass.old)) (entry_offset (slots (class_of (table_id table))) place word) value }
 {
     let at = word_at(mask_of(table.class), place, word);
     bank.put_word(pass, o, table, start, at, value);
@@ -89,12 +89,12 @@ pub fn raise_version(bank: &Bank, pass: &mut Pass, o: u32, table: Table, place: 
     requires writes { WritesEntries (shape_of bank.now) o table (view pass.old) }
     requires place { place < rows (kind_in (shape_of bank.now).starts o) (class_of (table_id table)) }
     requires care { IsCareful (view pass.old) o (table_id table) (entry_offset (slots (class_of (table_id table))) place 0)
-        (entry_field (slots (class_of (table_id table))) (held_words o (view pass.old)).table place 0 + 1) }
+        (entry_field (slots (class_of (table_id table))) (held_unboxed o (view pass.old)).table place 0 + 1) }
     ensures pass { IsPassOf bank.now pass.new }
     ensures stack { stack_of pass.new ≡ stack_of pass.old }
     ensures writes { WritesEntries (shape_of bank.now) o table (view pass.new) }
     ensures only { OnlyPut o (view pass.old) (view pass.new) }
-    ensures words { held_words o (view pass.new) ≡ raised_at (table_id table) place (held_words o (view pass.old)) }
+    ensures words { held_unboxed o (view pass.new) ≡ raised_at (table_id table) place (held_unboxed o (view pass.old)) }
 {
     let start = bank.cell_of(table);
     raise_at(bank, pass, o, table, start, place);
@@ -107,12 +107,12 @@ pub(crate) fn raise_at(bank: &Bank, pass: &mut Pass, o: u32, table: Table, start
     requires start { IsPlaceOf (shape_of bank.now) table start }
     requires place { place < rows (kind_in (shape_of bank.now).starts o) (class_of (table_id table)) }
     requires care { IsCareful (view pass.old) o (table_id table) (entry_offset (slots (class_of (table_id table))) place 0)
-        (entry_field (slots (class_of (table_id table))) (held_words o (view pass.old)).table place 0 + 1) }
+        (entry_field (slots (class_of (table_id table))) (held_unboxed o (view pass.old)).table place 0 + 1) }
     ensures pass { IsPassOf bank.now pass.new }
     ensures stack { stack_of pass.new ≡ stack_of pass.old }
     ensures writes { WritesEntries (shape_of bank.now) o table (view pass.new) }
     ensures only { OnlyPut o (view pass.old) (view pass.new) }
-    ensures words { held_words o (view pass.new) ≡ raised_at (table_id table) place (held_words o (view pass.old)) }
+    ensures words { held_unboxed o (view pass.new) ≡ raised_at (table_id table) place (held_unboxed o (view pass.old)) }
 {
     let version = read_entry(bank, pass, o, table, start, place, entry_word::VERSION);
     put_entry(

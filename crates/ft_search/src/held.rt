@@ -11,7 +11,7 @@ ghost use Rattle.ft_keys.specs.declared.walk.Way.{Way};
 ghost use Rattle.ft_trace.specs.declared.Act.{Act};
 ghost use Rattle.ft_trace.specs.Acts.{has_lock};
 ghost use Rattle.ft_trace.specs.Addresses.{container_count};
-ghost use Rattle.ft_trace.specs.Holds.{held_words, known_state};
+ghost use Rattle.ft_trace.specs.Holds.{held_unboxed, known_state};
 ghost use Rattle.ft_trace.specs.Pictures.{Represents};
 ghost use Rattle.ft_trace.specs.ContainerStates.{kind_in};
 ghost use Rattle.ft_bank.specs.KeyHashes.{IsKeyIn};
@@ -129,10 +129,10 @@ pub fn read_by(
     ensures low { hash_of (shape_of bank.now).texts key < 2 ^ 64 }
     ensures within { IsWithin (class_mask table.class) result.0 }
     ensures searched { (left : List ℕ)
-        × Searched (class_mask table.class) (0 ∷ 0 ∷ (held_words o (view pass.old)).table) key
+        × Searched (class_mask table.class) (0 ∷ 0 ∷ (held_unboxed o (view pass.old)).table) key
         (walk_slots way (hash_of (shape_of bank.now).texts key) (class_mask table.class)) left result.0
         × ((slot place : ℕ) → result.0 ≢ Was slot place)
-        × ReadsEntry (class_mask table.class) (0 ∷ 0 ∷ (held_words o (view pass.old)).table) result.0 result.1 }
+        × ReadsEntry (class_mask table.class) (0 ∷ 0 ∷ (held_unboxed o (view pass.old)).table) result.0 result.1 }
 {
     let mask = mask_of(table.class);
     let start = bank.cell_of(table);
@@ -167,10 +167,10 @@ pub fn read_in(
     ensures low { hash_of (shape_of bank.now).texts key < 2 ^ 64 }
     ensures within { IsWithin (class_mask table.class) result.0 }
     ensures searched { (left : List ℕ)
-        × Searched (class_mask table.class) (0 ∷ 0 ∷ (held_words o (view pass.old)).table) key
+        × Searched (class_mask table.class) (0 ∷ 0 ∷ (held_unboxed o (view pass.old)).table) key
         (walk_slots way (hash_of (shape_of bank.now).texts key) (class_mask table.class)) left result.0
         × ((slot place : ℕ) → result.0 ≢ Was slot place)
-        × ReadsEntry (class_mask table.class) (0 ∷ 0 ∷ (held_words o (view pass.old)).table) result.0 result.1 }
+        × ReadsEntry (class_mask table.class) (0 ∷ 0 ∷ (held_unboxed o (view pass.old)).table) result.0 result.1 }
 {
     let hash = bank.hash_of(key);
     read_by(bank, pass, o, way, key, hash, table)
@@ -184,7 +184,7 @@ pub fn read_key(bank: &Bank, pass: &mut Pass, o: u32, way: Way, key: Key) -> Opt
     requires way { kind_in (shape_of bank.now).starts o ≡ kind_by way }
     requires key { IsKeyIn (shape_of bank.now) key }
     requires locked { has_lock o (view pass.old).log ≡ true }
-    requires stands { Represents (shape_of bank.now).texts (held_words o (view pass.old)) (known_state o (view pass.old)) }
+    requires stands { Represents (shape_of bank.now).texts (held_unboxed o (view pass.old)) (known_state o (view pass.old)) }
     ensures pass { IsPassOf bank.now pass.new }
     ensures key { FitsKey key }
     ensures keeps { OnlyLoaded (view pass.old) (view pass.new) }

@@ -7,7 +7,7 @@ ghost use Rattle.ft_model.specs.declared.script.Kind.TheVariants as kind;
 ghost use Rattle.ft_trace.specs.Acts.{has_committed};
 ghost use Rattle.ft_trace.specs.Addresses.{class_of, slots};
 ghost use Rattle.ft_trace.specs.EntryWrites.{value_puts};
-ghost use Rattle.ft_trace.specs.Holds.{held_words, known_state};
+ghost use Rattle.ft_trace.specs.Holds.{held_unboxed, known_state};
 ghost use Rattle.ft_trace.specs.Kinds.{rows};
 ghost use Rattle.ft_trace.specs.Pictures.{entry_offset, entry_field, root_in};
 ghost use Rattle.ft_trace.specs.ContainerStates.{kind_in};
@@ -45,15 +45,15 @@ fn put_other(
     requires start { IsPlaceOf (shape_of bank.now) table start }
     requires place { place < rows (kind_in (shape_of bank.now).starts o) (class_of (table_id table)) }
     requires word { word < 8 }
-    requires found { found ≡ entry_field (slots (class_of (table_id table))) (held_words o (view pass.old)).table place word }
+    requires found { found ≡ entry_field (slots (class_of (table_id table))) (held_unboxed o (view pass.old)).table place word }
     requires care { IsCareful (view pass.old) o (table_id table) (entry_offset (slots (class_of (table_id table))) place word)
         value }
     ensures pass { IsPassOf bank.now pass.new }
     ensures stack { stack_of pass.new ≡ stack_of pass.old }
     ensures writes { WritesEntries (shape_of bank.now) o table (view pass.new) }
     ensures only { OnlyPut o (view pass.old) (view pass.new) }
-    ensures words { held_words o (view pass.new)
-        ≡ with_table (held_words o (view pass.old)) (entry_offset (slots (class_of (table_id table))) place word) value }
+    ensures words { held_unboxed o (view pass.new)
+        ≡ with_table (held_unboxed o (view pass.old)) (entry_offset (slots (class_of (table_id table))) place word) value }
 {
     if found != value {
         put_entry(bank, pass, o, table, start, place, word, value);
@@ -75,17 +75,17 @@ pub fn put_value(
     requires writes { WritesEntries (shape_of bank.now) o table (view pass.old) }
     requires place { place < rows (kind_in (shape_of bank.now).starts o) (class_of (table_id table)) }
     requires early { has_committed o (view pass.old).log ≡ false }
-    requires old_kind { old.0 ≡ entry_field (slots (class_of (table_id table))) (held_words o (view pass.old)).table place 4 }
-    requires old_payload { old.1 ≡ entry_field (slots (class_of (table_id table))) (held_words o (view pass.old)).table place 5 }
+    requires old_kind { old.0 ≡ entry_field (slots (class_of (table_id table))) (held_unboxed o (view pass.old)).table place 4 }
+    requires old_payload { old.1 ≡ entry_field (slots (class_of (table_id table))) (held_unboxed o (view pass.old)).table place 5 }
     requires may { MayPuts (kind_in (shape_of bank.now).starts o) (table_id table) (known_state o (view pass.old)).content false
-        (held_words o (view pass.old))
-        (value_puts (slots (class_of (table_id table))) (held_words o (view pass.old)).table place value) }
+        (held_unboxed o (view pass.old))
+        (value_puts (slots (class_of (table_id table))) (held_unboxed o (view pass.old)).table place value) }
     ensures pass { IsPassOf bank.now pass.new }
     ensures stack { stack_of pass.new ≡ stack_of pass.old }
     ensures writes { WritesEntries (shape_of bank.now) o table (view pass.new) }
     ensures only { OnlyPut o (view pass.old) (view pass.new) }
-    ensures words { held_words o (view pass.new) ≡ with_puts (held_words o (view pass.old))
-        (value_puts (slots (class_of (table_id table))) (held_words o (view pass.old)).table place value) }
+    ensures words { held_unboxed o (view pass.new) ≡ with_puts (held_unboxed o (view pass.old))
+        (value_puts (slots (class_of (table_id table))) (held_unboxed o (view pass.old)).table place value) }
 {
     let stored = Stored::Plain(value);
     let kind_word = stored_kind_of(stored);
@@ -144,8 +144,8 @@ pub fn set_entry(
     requires dict { kind_in (shape_of bank.now).starts d ≡ kind.Dict }
     requires table { HasTable (shape_of bank.now) d table (view pass.old) }
     requires entry { IsLiveEntry (shape_of bank.now) d table place key (view pass.old) }
-    requires old_kind { old.0 ≡ entry_field (slots (class_of (table_id table))) (held_words d (view pass.old)).table place 4 }
-    requires old_payload { old.1 ≡ entry_field (slots (class_of (table_id table))) (held_words d (view pass.old)).table place 5 }
+    requires old_kind { old.0 ≡ entry_field (slots (class_of (table_id table))) (held_unboxed d (view pass.old)).table place 4 }
+    requires old_payload { old.1 ≡ entry_field (slots (class_of (table_id table))) (held_unboxed d (view pass.old)).table place 5 }
     requires value { FitsStored (Plain value) }
     requires leaves { Leaves d called.now said.now (record {
       content = with_value_at (known_state d (view pass.old)).content key value;
@@ -155,7 +155,7 @@ pub fn set_entry(
     ensures pass { IsPassOf bank.now pass.new }
     ensures stack { stack_of pass.new ≡ stack_of pass.old }
     ensures wrote { Wrote called.now said.now result (view pass.old) (view pass.new) }
-    ensures root { root_in (held_words d (view pass.new)) ≡ root_in (held_words d (view pass.old)) }
+    ensures root { root_in (held_unboxed d (view pass.new)) ≡ root_in (held_unboxed d (view pass.old)) }
 {
     let _ = key;
     versions_change_nothing();

@@ -5,6 +5,7 @@ pub mod Releases
 pub mod Sweeping
 pub mod Waits
 pub mod Goings
+pub mod DoneWithBoxes
 pub mod MidstOfCall
 pub mod Resumes
 pub mod Droppings

@@ -9,7 +9,8 @@ use Rattle.ft_trace.specs.declared.Shape.{Shape}
 use Rattle.ft_trace.specs.declared.View.{View}
 use Rattle.ft_trace.specs.Acts.{has_lock, is_writing, stage, stage_next, owes, used, flight, seen_writes}
 use Rattle.ft_trace.specs.Addresses.{container_count}
-use Rattle.ft_trace.specs.Holds.{held_words, known_state}
+use Rattle.ft_trace.specs.Boxes.{IsDoneWithBoxes}
+use Rattle.ft_trace.specs.Holds.{held_words, held_unboxed, known_state}
 use Rattle.ft_trace.specs.Pictures.{ContainerWords, root_in, Represents}
 use Rattle.ft_trace.specs.ContainerStates.{ContainerState, changes}
 use Rattle.ft_trace.specs.BegunSections.{begun}
@@ -22,14 +23,18 @@ use Rattle.ft_bank.specs.Answered.{Answered}
 use Rattle.ft_bank.specs.Passes.{view, IsPassOf}
 use Rattle.ft_bank.specs.PassSections.{stack_of}
 use Rattle.ft_bank.specs.TableNames.{table_id}
+use Rattle.ft_bank.specs.Locks.{KnowsSame}
+use Rattle.ft_bank.specs.SameBoxes.{SameReferences, SameMade}
 use Rattle.ft_bank.specs.Whole.{OnlyLoaded, SamePass, Wrote, hand_after}
-use Rattle.ft_bank.proofs.KnownAfterWrites.{same_pass, pass_then}
+use Rattle.ft_bank.proofs.BoxedSteps.{made_then}
+use Rattle.ft_bank.proofs.KnownAfterWrites.{same_pass, pass_then, work_knows}
 use Rattle.ft_section.specs.Ready.{IsStill, IsMaking}
+use Rattle.ft_section.proofs.DoneWithBoxes.{done_stays}
 use Rattle.ft_section.proofs.MidstOfCall.{making_stays}
 use Rattle.ft_search.proofs.ReadMidst.{LeavesSections, still_loaded, still_read, sections_read}
 use Rattle.ft_table_calls.specs.declared.adding.Added.{Added}
 use Rattle.ft_table_calls.specs.declared.adding.Added.TheVariants as added
-use Rattle.ft_table_calls.specs.Adding.{TriedTaking, Retires, WroteInPlace, Grew, GaveUp, IsAdded}
+use Rattle.ft_table_calls.specs.Adding.{DropsAfter, TriedTaking, Retires, WroteInPlace, Grew, GaveUp, IsAdded}
 
 -- in no hand, or retired
 abbrev IsOut : ℕ → Type 0
@@ -41,32 +46,33 @@ module _ (called : Call) (said : Reply) (n : ℕ) (v w : View) (s : IsStill v) (
   abbrev o : ℕ
   o = changes called
 
-  stands_after : (p : ℕ) → p < container_count w.shape → has_lock p w.log ≡ true → Represents w.shape.texts (held_words p w) (known_state p w)
+  stands_after : (p : ℕ) → p < container_count w.shape → has_lock p w.log ≡ true → Represents w.shape.texts (held_unboxed p w) (known_state p w)
   stands_after p low has =
       let shape = wrote.pass.shape in
       let low' : p < container_count v.shape = subst (λ (k : Shape). p < container_count k) shape low in
       let mine : has_lock p v.log ≡ true = sym (wrote.pass.locks p) ∙ has in
-      subst (λ (k : Shape). Represents k.texts (held_words p w) (known_state p w)) (sym shape)
+      subst (λ (k : Shape). Represents k.texts (held_unboxed p w) (known_state p w)) (sym shape)
       (dite (ℕ_discrete p o)
-      (λ (e : p ≡ o). subst (λ (q : ℕ). Represents v.shape.texts (held_words q w) (known_state q w)) (sym e) wrote.stands)
+      (λ (e : p ≡ o). subst (λ (q : ℕ). Represents v.shape.texts (held_unboxed q w) (known_state q w)) (sym e) wrote.stands)
       (λ ne.
       let e = wrote.others p low' ne mine (s.even p) in
-      subst (λ (x : ContainerWords × ContainerState). Represents v.shape.texts x.0 x.1) (λ d. (sym e.0 d, sym e.1 d)) (s.stands p low' mine)))
+      subst (λ (x : ContainerWords × ContainerState). Represents v.shape.texts x.0 x.1) (λ d. (sym e.2 d, sym e.1 d)) (s.stands p low' mine)))
 
   -- where the tables are in no hand that it leaves
-  wrote_still_so : ((t : ℕ) → IsOut (stage t w.log)) → IsStill w
-  wrote_still_so hands = record {
+  wrote_still_so : IsDoneWithBoxes w.shape w.log → ((t : ℕ) → IsOut (stage t w.log)) → IsStill w
+  wrote_still_so boxes hands = record {
     even = λ p. wrote.pass.writes p ∙ s.even p;
     hands = hands;
     used = wrote.used;
     owes = wrote.owes;
     flight = wrote.pass.flight ∙ s.flight;
+    boxes = boxes;
     stands = stands_after;
   }
 
-  pub wrote_still : root_in (held_words o w) ≡ root_in (held_words o v) → IsStill w
-  wrote_still root =
-      wrote_still_so
+  pub wrote_still : root_in (held_words o w) ≡ root_in (held_words o v) → SameReferences v w → IsStill w
+  wrote_still root references =
+      wrote_still_so (done_stays v w references wrote.made s.boxes)
       (λ t. subst IsOut (sym (wrote.hands t ∙ (ap (λ (z : ℕ). hand_after o (root_in (held_words o v)) z t (stage t v.log)) root ∙ hit (root_in (held_words o v)) (stage t v.log) _))) (s.hands t))
 
 -- ---- takings
@@ -75,14 +81,14 @@ module _ (k : Shape) (class : ℕ) (r : Took) (v w : View) (s : IsStill v) (trie
   pub tried_out : (t : ℕ) → (stage t w.log ≡ stage t v.log) ⊎ (stage t w.log ≡ 0) → IsOut (stage t w.log)
   tried_out t either = ⊎_elim (λ (e : stage t w.log ≡ stage t v.log). subst IsOut (sym e) (s.hands t)) (λ (e : stage t w.log ≡ 0). inl e) either
 
-  pub tried_stands : (p : ℕ) → p < container_count w.shape → has_lock p w.log ≡ true → Represents w.shape.texts (held_words p w) (known_state p w)
+  pub tried_stands : (p : ℕ) → p < container_count w.shape → has_lock p w.log ≡ true → Represents w.shape.texts (held_unboxed p w) (known_state p w)
   tried_stands p low has =
       let shape = tried.same.shape in
       let low' : p < container_count v.shape = subst (λ (z : Shape). p < container_count z) shape low in
       let mine : has_lock p v.log ≡ true = sym (tried.same.locks p) ∙ has in
       let e = tried.keeps.held.words p low' mine in
-      subst (λ (z : Shape). Represents z.texts (held_words p w) (known_state p w)) (sym shape)
-      (subst (λ (x : ContainerWords × ContainerState). Represents v.shape.texts x.0 x.1) (λ d. (sym e.0 d, sym e.1 d)) (s.stands p low' mine))
+      subst (λ (z : Shape). Represents z.texts (held_unboxed p w) (known_state p w)) (sym shape)
+      (subst (λ (x : ContainerWords × ContainerState). Represents v.shape.texts x.0 x.1) (λ d. (sym e.2 d, sym e.1 d)) (s.stands p low' mine))
 
   -- a taking that has no table
   pub tried_still : ((t : ℕ) → IsOut (stage t w.log)) → owes w.log ≡ 0 → IsStill w
@@ -92,6 +98,7 @@ module _ (k : Shape) (class : ℕ) (r : Took) (v w : View) (s : IsStill v) (trie
     used = tried.keeps.held.used ∙ s.used;
     owes = none;
     flight = tried.same.flight ∙ s.flight;
+    boxes = done_stays v w tried.keeps.boxes.references tried.keeps.boxes.made s.boxes;
     stands = tried_stands;
   }
 
@@ -105,9 +112,16 @@ retired_same (suc t) v w is =
     (record { number = refl; next = refl; parts = refl; shape = refl; locks = λ p. refl; writes = λ p. refl; announced = refl; flight = refl; begun = refl; cursors = λ n. refl; tokens = refl; lists = refl; floor = refl; since = refl; owners = record { had = refl; found = refl }; learnt = refl; seen = le_refl (seen_writes v); grown = λ old was. inr (inr was) })
 
 -- the pass knows the same words and contents, and owes and has used the same
-pub retired_knows : (root : ℕ) (v w : View) → Retires root v w → (p : ℕ) → (held_words p w ≡ held_words p v) × (known_state p w ≡ known_state p v)
-retired_knows zero v w is p = (ap (λ (u : View). held_words p u) is, ap (λ (u : View). known_state p u) is)
-retired_knows (suc t) v w is p = (ap (λ (u : View). held_words p u) is.1, ap (λ (u : View). known_state p u) is.1)
+pub retired_knows : (root : ℕ) (v w : View) → Retires root v w → (p : ℕ) → KnowsSame p v w
+retired_knows zero v w is p = (ap (λ (u : View). held_words p u) is, ap (λ (u : View). known_state p u) is, ap (λ (u : View). held_unboxed p u) is)
+retired_knows (suc t) v w is p = (ap (λ (u : View). held_words p u) is.1, ap (λ (u : View). known_state p u) is.1, ap (λ (u : View). held_unboxed p u) is.1)
+
+-- and holds the same references
+retired_done : (root : ℕ) (v w : View) → Retires root v w → IsDoneWithBoxes v.shape v.log → IsDoneWithBoxes w.shape w.log
+retired_done zero v w is done = subst (λ (u : View). IsDoneWithBoxes u.shape u.log) (sym is) done
+retired_done (suc t) v w is done =
+    subst (λ (u : View). IsDoneWithBoxes u.shape u.log) (sym is.1)
+    (λ b. let d = done b in (d.0, d.1, d.2, d.3))
 
 retired_work : (root : ℕ) (v w : View) → Retires root v w → (used w.log ≡ used v.log) × (owes w.log ≡ owes v.log)
 retired_work zero v w is = (ap (λ (u : View). used u.log) is, ap (λ (u : View). owes u.log) is)
@@ -120,6 +134,27 @@ retired_stage (suc q) v w is t = (
   (λ e. let same : q ≡ t = omega (arith, e) in inr (ap (λ (u : View). stage t u.log) is.1 ∙ here q t 4 (stage t v.log) same)),
   (λ ne. ap (λ (u : View). stage t u.log) is.1 ∙ miss q t 4 (stage t v.log) (λ e. ne (ap suc e))),
 )
+
+-- ---- drops of references and then a retirement
+
+module _ (root : ℕ) (v u x w : View) (drops : DropsAfter v u x) (retired : Retires root x w) where
+  after_same : SamePass u w
+  after_same = pass_then u x w drops.drops.work.pass (retired_same root x w retired)
+
+  after_stage : (t : ℕ) → (root ≡ suc t → IsOut (stage t w.log)) × (root ≢ suc t → stage t w.log ≡ stage t u.log)
+  after_stage t = let r = retired_stage root x w retired t in (r.0, (λ ne. r.1 ne ∙ drops.drops.work.hands t))
+
+  after_work : (used w.log ≡ used u.log) × (owes w.log ≡ owes u.log)
+  after_work = let r = retired_work root x w retired in (r.0 ∙ drops.drops.work.used, r.1 ∙ drops.drops.work.owes)
+
+  after_reads : (p : ℕ) → p < container_count w.shape → has_lock p w.log ≡ true → (held_unboxed p w ≡ held_unboxed p u) × (known_state p w ≡ known_state p u)
+  after_reads p low has =
+      let k = retired_knows root x w retired p in
+      let mine : has_lock p u.log ≡ true = sym (after_same.locks p) ∙ has in
+      (k.2 ∙ drops.drops.unboxed p (subst (λ (z : Shape). p < container_count z) after_same.shape low) mine, k.1 ∙ work_knows u x p drops.drops.work)
+
+  after_done : SameMade v u → IsDoneWithBoxes v.shape v.log → IsDoneWithBoxes w.shape w.log
+  after_done made done = retired_done root x w retired (done_stays v x drops.references (made_then v u x made drops.made) done)
 
 -- ---- a call that took a table
 
@@ -145,7 +180,7 @@ module _ (k : Shape) (class : ℕ) (called : Call) (said : Reply) (n : ℕ) (v w
 
   out_after : (t : ℕ) → IsOut (stage t w.log)
   out_after t =
-      let r = retired_stage old grew.done w grew.retired t in
+      let r = after_stage old taken grew.done grew.dropped w grew.drops grew.retired t in
       let was = stage t taken.log in
       dite (ℕ_discrete old (suc t))
       (λ (e : old ≡ suc t). r.0 e)
@@ -158,35 +193,37 @@ module _ (k : Shape) (class : ℕ) (called : Call) (said : Reply) (n : ℕ) (v w
       subst IsOut (sym same) (tried_out k class (took.Taken grew.table) v taken s grew.tried t (grew.tried.hands t (λ e. ne' (ap suc (sym e)))))))
 
   -- the words stand for the content once the write is made
-  stands_written : (p : ℕ) → p < container_count w.shape → has_lock p w.log ≡ true → Represents w.shape.texts (held_words p w) (known_state p w)
+  stands_written : (p : ℕ) → p < container_count w.shape → has_lock p w.log ≡ true → Represents w.shape.texts (held_unboxed p w) (known_state p w)
   stands_written p low has =
-      let same = retired_same old grew.done w grew.retired in
+      let same = after_same old taken grew.done grew.dropped w grew.drops grew.retired in
       let shape : w.shape ≡ taken.shape = same.shape ∙ grew.wrote.pass.shape in
       let low' : p < container_count taken.shape = subst (λ (z : Shape). p < container_count z) shape low in
       let mine : has_lock p taken.log ≡ true = sym (grew.wrote.pass.locks p) ∙ (sym (same.locks p) ∙ has) in
       let quiet : is_writing p taken.log ≡ false = grew.tried.same.writes p ∙ s.even p in
-      let e = retired_knows old grew.done w grew.retired p in
-      let done : Represents taken.shape.texts (held_words p grew.done) (known_state p grew.done) =
+      let e = after_reads old taken grew.done grew.dropped w grew.drops grew.retired p low has in
+      let done : Represents taken.shape.texts (held_unboxed p grew.done) (known_state p grew.done) =
       dite (ℕ_discrete p at)
-      (λ (x : p ≡ at). subst (λ (q : ℕ). Represents taken.shape.texts (held_words q grew.done) (known_state q grew.done)) (sym x) grew.wrote.stands)
+      (λ (x : p ≡ at). subst (λ (q : ℕ). Represents taken.shape.texts (held_unboxed q grew.done) (known_state q grew.done)) (sym x) grew.wrote.stands)
       (λ ne.
       let o = grew.wrote.others p low' ne mine quiet in
-      subst (λ (x : ContainerWords × ContainerState). Represents taken.shape.texts x.0 x.1) (λ d. (sym o.0 d, sym o.1 d)) (tried_stands k class (took.Taken grew.table) v taken s grew.tried p low' mine)) in
-      subst (λ (z : Shape). Represents z.texts (held_words p w) (known_state p w)) (sym shape)
+      subst (λ (x : ContainerWords × ContainerState). Represents taken.shape.texts x.0 x.1) (λ d. (sym o.2 d, sym o.1 d)) (tried_stands k class (took.Taken grew.table) v taken s grew.tried p low' mine)) in
+      subst (λ (z : Shape). Represents z.texts (held_unboxed p w) (known_state p w)) (sym shape)
       (subst (λ (x : ContainerWords × ContainerState). Represents taken.shape.texts x.0 x.1) (λ d. (sym e.0 d, sym e.1 d)) done)
 
   pub grew_same : SamePass v w
-  grew_same = pass_then v taken w grew.tried.same (pass_then taken grew.done w grew.wrote.pass (retired_same old grew.done w grew.retired))
+  grew_same = pass_then v taken w grew.tried.same (pass_then taken grew.done w grew.wrote.pass (after_same old taken grew.done grew.dropped w grew.drops grew.retired))
 
   pub grew_still : IsStill w
   grew_still =
-      let r = retired_work old grew.done w grew.retired in
+      let r = after_work old taken grew.done grew.dropped w grew.drops grew.retired in
+      let boxes : IsDoneWithBoxes taken.shape taken.log = done_stays v taken grew.tried.keeps.boxes.references grew.tried.keeps.boxes.made s.boxes in
       record {
         even = λ p. grew_same.writes p ∙ s.even p;
         hands = out_after;
         used = r.0 ∙ grew.wrote.used;
         owes = r.1 ∙ grew.wrote.owes;
         flight = grew_same.flight ∙ s.flight;
+        boxes = after_done old taken grew.done grew.dropped w grew.drops grew.retired grew.wrote.made boxes;
         stands = stands_written;
       }
 
@@ -204,7 +241,7 @@ module _ (b : Bank) (p q : Pass) (m : IsMaking b p) (pass : IsPassOf b q) (stack
 
   -- a pass that made a whole write and left the root
   pub making_wrote : (called : Call) (said : Reply) (n : ℕ) → WroteInPlace called said n u (view q) → IsMaking b q
-  making_wrote called said n x = making_same x.wrote.pass (wrote_still called said n u (view q) still_then x.wrote x.root)
+  making_wrote called said n x = making_same x.wrote.pass (wrote_still called said n u (view q) still_then x.wrote x.root x.references)
 
   -- an entry that isn't a write, after steps that leave the pass
   making_answered : (called : Call) (said : Reply) (n : ℕ) (z : View) → LeavesSections called → SamePass u z → IsStill z → Answered called said n z (view q) → IsMaking b q
@@ -241,7 +278,7 @@ module _ (called : Call) (said : Reply) (n : ℕ) (v w : View) (s : IsStill v) (
 
   out_given : (t : ℕ) → IsOut (stage t w.log)
   out_given t =
-      let r = retired_stage before given.done w given.retired t in
+      let r = after_stage before v given.done given.dropped w given.drops given.retired t in
       let was = stage t v.log in
       dite (ℕ_discrete before (suc t))
       (λ (e : before ≡ suc t). r.0 e)
@@ -252,20 +289,21 @@ module _ (called : Call) (said : Reply) (n : ℕ) (v w : View) (s : IsStill v) (
       subst IsOut (sym same) (s.hands t))
 
   given_same : SamePass v w
-  given_same = pass_then v given.done w given.wrote.pass (retired_same before given.done w given.retired)
+  given_same = pass_then v given.done w given.wrote.pass (after_same before v given.done given.dropped w given.drops given.retired)
 
   pub given_still : IsStill w
   given_still =
-      let same = retired_same before given.done w given.retired in
-      let r = retired_work before given.done w given.retired in
+      let same = after_same before v given.done given.dropped w given.drops given.retired in
+      let r = after_work before v given.done given.dropped w given.drops given.retired in
       record {
         even = λ p. given_same.writes p ∙ s.even p;
         hands = out_given;
         used = r.0 ∙ given.wrote.used;
         owes = r.1 ∙ given.wrote.owes;
         flight = given_same.flight ∙ s.flight;
+        boxes = after_done before v given.done given.dropped w given.drops given.retired given.wrote.made s.boxes;
         stands = λ p low has.
-            let e = retired_knows before given.done w given.retired p in
+            let e = after_reads before v given.done given.dropped w given.drops given.retired p low has in
             let old = stands_after called said n v given.done s given.wrote p (subst (λ (z : Shape). p < container_count z) same.shape low) (sym (same.locks p) ∙ has) in
             subst (λ (x : Shape × ContainerWords × ContainerState). Represents x.0.texts x.1 x.2) (λ d. (sym same.shape d, sym e.0 d, sym e.1 d)) old;
       }

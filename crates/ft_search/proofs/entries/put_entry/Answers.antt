@@ -1,6 +1,6 @@
 use Rattle.std.proofs.Common.{◌≡◌, ℕ, ◌<◌, sym, ap, ◌∙◌, subst}
 use Rattle.ft_trace.specs.Addresses.{class_of, slots, size}
-use Rattle.ft_trace.specs.Holds.{held_words}
+use Rattle.ft_trace.specs.Holds.{held_unboxed}
 use Rattle.ft_trace.specs.Pictures.{entry_offset}
 use Rattle.ft_trace.specs.ContainerStates.{kind_in}
 use Rattle.ft_trace.proofs.ByKind.{keyed_low}
@@ -33,4 +33,4 @@ pub returns-clause-words : goal.returns-clause-words
 returns-clause-words c =
     let a = c.args in
     let e : c.word_at-at.result ≡ entry_offset (slots (class_of (table_id a.table))) a.place a.word = c.word_at-at.ensures ∙ entry_is (shape_of a.bank.now) a.table c.mask_of.result a.place a.word c.requires.writes.table_in c.mask_of.ensures in
-    c.put_word.ensures.held ∙ ap (λ (n : ℕ). with_table (held_words a.o (view a.pass.now)) n a.value) e
+    c.put_word.ensures.held ∙ ap (λ (n : ℕ). with_table (held_unboxed a.o (view a.pass.now)) n a.value) e

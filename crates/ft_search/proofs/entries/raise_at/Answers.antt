@@ -1,6 +1,6 @@
 use Rattle.std.proofs.Common.{ℕ, ◌+◌, sym, ap, ◌∙◌, subst, arith}
 use Rattle.ft_trace.specs.Addresses.{class_of, slots}
-use Rattle.ft_trace.specs.Holds.{held_words}
+use Rattle.ft_trace.specs.Holds.{held_unboxed}
 use Rattle.ft_trace.specs.Pictures.{ContainerWords, entry_offset}
 use Rattle.ft_bank.specs.Passes.{shape_of, view}
 use Rattle.ft_bank.specs.TableNames.{table_id}
@@ -36,4 +36,4 @@ returns-clause-words c =
     let at = entry_offset (slots (class_of (table_id a.table))) a.place 0 in
     c.put_entry.ensures.words
     ∙ (ap (λ (z : ContainerWords). with_table z at (c.read_entry-version.result + 1)) e.held
-    ∙ ap (λ (n : ℕ). with_table (held_words a.o (view a.pass.now)) at (n + 1)) e.found)
+    ∙ ap (λ (n : ℕ). with_table (held_unboxed a.o (view a.pass.now)) at (n + 1)) e.found)

@@ -1,7 +1,7 @@
 use Rattle.std.proofs.Common.{◌≡◌, ℕ, ◌<◌, sym, ap, ◌∙◌, subst}
 use Rattle.std.specs.Prelude.{slice_index}
 use Rattle.ft_trace.specs.Addresses.{class_of, slots, size}
-use Rattle.ft_trace.specs.Holds.{held_words}
+use Rattle.ft_trace.specs.Holds.{held_unboxed}
 use Rattle.ft_trace.specs.Pictures.{entry_offset}
 use Rattle.ft_trace.specs.ContainerStates.{kind_in}
 use Rattle.ft_trace.proofs.ByKind.{keyed_low}
@@ -28,4 +28,4 @@ returns-clause-found c =
     let a = c.args in
     let e : c.word_at-at.result ≡ entry_offset (slots (class_of (table_id a.table))) a.place a.word = c.word_at-at.ensures ∙ entry_is (shape_of a.bank.now) a.table c.mask_of.result a.place a.word c.requires.writes.table_in c.mask_of.ensures in
     c.read_word.ensures.held a.o c.requires.writes.container c.requires.writes.locked c.requires.writes.root
-    ∙ ap (λ (n : ℕ). slice_index (held_words a.o (view a.pass.now)).table n) e
+    ∙ ap (λ (n : ℕ). slice_index (held_unboxed a.o (view a.pass.now)).table n) e

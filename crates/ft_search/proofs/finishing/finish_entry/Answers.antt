@@ -1,6 +1,6 @@
 use Rattle.std.proofs.Common.{sym, ◌∙◌, subst}
 use Rattle.ft_trace.specs.declared.Shape.{Shape}
-use Rattle.ft_trace.specs.Holds.{held_words, known_state}
+use Rattle.ft_trace.specs.Holds.{held_unboxed, known_state}
 use Rattle.ft_trace.specs.Pictures.{Represents}
 use Rattle.ft_bank.specs.Passes.{view}
 use Rattle.ft_search.proofs.ReadyCommits.{close_care, stands_then, shut_then, ends_then}
@@ -18,7 +18,7 @@ stop_write-requires-clause-stands c =
     let d = c.commit-number.ensures.did in
     let e = c.raise_version.ensures in
     let z = view c.raise_version.new.pass in
-    subst (λ (k : Shape). Represents k.texts (held_words a.o z) (known_state a.o z)) c.requires.pass.1
+    subst (λ (k : Shape). Represents k.texts (held_unboxed a.o z) (known_state a.o z)) c.requires.pass.1
     (stands_then a.o a.table a.place a.called.now a.said.now (view a.pass.now) c.requires.may c.commit-number.result d.0 (view c.commit-number.new.pass) z d.1.1 c.commit-number.ensures.committed e.only e.words)
 
 pub stop_write-requires-clause-shut : goal.stop_write-requires-clause-shut

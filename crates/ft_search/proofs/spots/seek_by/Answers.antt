@@ -9,7 +9,7 @@ use Rattle.ft_trace.specs.declared.Act.TheVariants.{ReadBlock}
 use Rattle.ft_trace.specs.declared.Shape.{Shape}
 use Rattle.ft_trace.specs.declared.View.{View}
 use Rattle.ft_trace.specs.Acts.{has_lock}
-use Rattle.ft_trace.specs.Holds.{held_words, known_state}
+use Rattle.ft_trace.specs.Holds.{held_unboxed, known_state}
 use Rattle.ft_trace.specs.Pictures.{ContainerWords, root_in}
 use Rattle.ft_trace.specs.ContainerStates.{kind_in}
 use Rattle.ft_bank.specs.Passes.{shape_of, view}
@@ -63,8 +63,8 @@ returns-in-Some-clause-spot c =
     let table = c.in-Some.table in
     let in_bank = c.in-Some.ensures.in_bank in
     let kind_is = ap (λ (z : Shape). kind_in z.starts o) c.requires.pass.1 ∙ c.requires.way in
-    let names : root_in (held_words o v) ≡ suc (table_id table) = sym (c.read_block-root.ensures.held c.requires.may.locked) ∙ c.in-Some.ensures.named in
-    let same : held_words o w ≡ held_words o v = ap (held_words o) c.read_block-root.ensures.did.1 in
+    let names : root_in (held_unboxed o v) ≡ suc (table_id table) = sym (c.read_block-root.ensures.held c.requires.may.locked) ∙ c.in-Some.ensures.named in
+    let same : held_unboxed o w ≡ held_unboxed o v = ap (held_unboxed o) c.read_block-root.ensures.did.1 in
     let found = c.read_by-found.result.0 in
     let read = c.read_by-found.result.1 in
     let s = subst (λ (x : ContainerWords). (left : List ℕ) × Searched (class_mask table.class) (0 ∷ 0 ∷ x.table) key (walk_slots c.args.way (hash_of k.texts key) (class_mask table.class)) left found
@@ -97,8 +97,8 @@ returns-in-None-clause-spot c =
     let k = shape_of c.args.bank.now in
     let none = c.in-None.ensures.none in
     let kind_is = ap (λ (z : Shape). kind_in z.starts o) c.requires.pass.1 ∙ c.requires.way in
-    let root : root_in (held_words o v) ≡ 0 = sym (c.read_block-root.ensures.held c.requires.may.locked) ∙ none in
-    let held_none = bare_held c.used_entries_follow_a_dict.ensures.missing c.used_entries_follow_a_set.ensures.missing k.texts (held_words o v) (known_state o v) c.requires.may.stands c.args.key c.args.way (of_way c.args.way v o c.args.pass.now.possible c.requires.may.locked kind_is) root in
+    let root : root_in (held_unboxed o v) ≡ 0 = sym (c.read_block-root.ensures.held c.requires.may.locked) ∙ none in
+    let held_none = bare_held c.used_entries_follow_a_dict.ensures.missing c.used_entries_follow_a_set.ensures.missing k.texts (held_unboxed o v) (known_state o v) c.requires.may.stands c.args.key c.args.way (of_way c.args.way v o c.args.pass.now.possible c.requires.may.locked kind_is) root in
     spot_loaded k o v (view c.read_block-root.new.pass) (bare_only (goal.at.returns-in-None-clause-spot c).In-None) c.args.way c.args.key spot.Bare (root, held_none)
 
 pub read_by-found-requires-clause-table : goal.read_by-found-requires-clause-table
@@ -110,7 +110,7 @@ read_by-found-requires-clause-knows c =
     let v = view c.args.pass.now in
     let d = c.read_block-root.ensures.did in (
       ap (λ (z : View). has_lock o z.log) d.1 ∙ c.requires.may.locked,
-      ap (λ (z : View). root_in (held_words o z)) d.1 ∙ (sym (c.read_block-root.ensures.held c.requires.may.locked) ∙ c.in-Some.ensures.named),
+      ap (λ (z : View). root_in (held_unboxed o z)) d.1 ∙ (sym (c.read_block-root.ensures.held c.requires.may.locked) ∙ c.in-Some.ensures.named),
     )
 
 pub table_at-requires : goal.table_at-requires

@@ -15,6 +15,7 @@ use Rattle.ft_trace.specs.declared.Shape.{Shape}
 use Rattle.ft_trace.specs.declared.View.{View}
 use Rattle.ft_trace.specs.Addresses.{container_count, class_of, slots}
 use Rattle.ft_trace.specs.Acts.{has_lock, is_writing, owes}
+use Rattle.ft_trace.specs.Boxes.{IsDoneWithBoxes}
 use Rattle.ft_trace.specs.Carefuls.{HasLiveKey}
 use Rattle.ft_trace.specs.DeleteWrites.{delete_puts}
 use Rattle.ft_trace.specs.FitCalls.{FitsCall}
@@ -32,8 +33,8 @@ use Rattle.ft_search.specs.MadeCalls.{IsReplyTo}
 use Rattle.ft_layout.specs.declared.slot.Stored.TheVariants.{Plain}
 
 -- The pass may write the container o, a dict or a set: it has its lock, and its words stand for what the pass knows of
--- it; no version is odd there, the pass has lowered no count of a class that it hasn't raised again, and it has a call
--- left. (profile)
+-- it; no version is odd there, the pass has lowered no count of a class that it hasn't raised again, it holds no
+-- reference for a box and makes none, and it has a call left. (profile)
 pub record MayWriteEntries (k : Shape) (o : ℕ) (v : View) : Type 0 where
   pub container : o < container_count k
   pub keyed : IsKeyed (kind_in k.starts o)
@@ -41,6 +42,7 @@ pub record MayWriteEntries (k : Shape) (o : ℕ) (v : View) : Type 0 where
   pub even : is_writing o v.log ≡ false
   pub stands : Represents k.texts (held_unboxed o v) (known_state o v)
   pub owes : owes v.log ≡ 0
+  pub boxes : IsDoneWithBoxes k v.log
   pub left : 0 < v.left
 
 -- the root of the container names this table
@@ -48,7 +50,8 @@ pub record HasTable (k : Shape) (o : ℕ) (table : Table) (v : View) : Type 0 wh
   pub table_in : IsTableIn k table
   pub root : root_in (held_unboxed o v) ≡ suc (table_id table)
 
--- The pass writes the container o, a dict or a set, whose root names the table. (profile)
+-- The pass writes the container o, a dict or a set, whose root names the table; it holds no reference for a box and
+-- makes none. (profile)
 pub record WritesEntries (k : Shape) (o : ℕ) (table : Table) (v : View) : Type 0 where
   pub container : o < container_count k
   pub keyed : IsKeyed (kind_in k.starts o)
@@ -56,6 +59,7 @@ pub record WritesEntries (k : Shape) (o : ℕ) (table : Table) (v : View) : Type
   pub locked : has_lock o v.log ≡ true
   pub odd : is_writing o v.log ≡ true
   pub root : root_in (held_unboxed o v) ≡ suc (table_id table)
+  pub boxes : IsDoneWithBoxes k v.log
 
 -- A call is a write of the container o that takes no table: the plain containers reply so to it, whatever else the bank
 -- has that agrees with what the pass knows, and o has this content and this table then; the pass has the locks of the

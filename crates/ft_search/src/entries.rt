@@ -1,6 +1,6 @@
 //! Single words of the entries of a dict or a set whose lock the pass has, for the calls that write them:
 //! each put is one that readers without the lock aren't misled by.
-ghost use Rattle.std.specs.Prelude.{◌≡◌, ℕ, suc, ◌+◌, ◌*◌, ◌<◌, true};
+ghost use Rattle.std.specs.Prelude.{◌≡◌, ◌≢◌, ℕ, suc, ◌+◌, ◌*◌, ◌<◌, true};
 ghost use Rattle.ft_trace.specs.Addresses.{class_of, slots};
 ghost use Rattle.ft_trace.specs.Holds.{held_unboxed};
 ghost use Rattle.ft_trace.specs.Kinds.{rows};
@@ -18,7 +18,7 @@ use ft_bank::{Bank, Pass, Table};
 use ft_layout::entry_word;
 
 /// Which word of a table with this last slot a word of an entry is, counted from the header on.
-fn word_at(mask: u64, place: u64, word: u64) -> u64
+pub(crate) fn word_at(mask: u64, place: u64, word: u64) -> u64
     requires mask { mask < 65536 }
     requires place { place < 65536 }
     requires word { word < 8 }
@@ -27,7 +27,7 @@ fn word_at(mask: u64, place: u64, word: u64) -> u64
     8 * place + word + mask + 1
 }
 
-/// Loads a word of an entry of a container that the pass writes.
+/// Loads a word of an entry of a container that the pass writes, which is no value's.
 pub(crate) fn read_entry(
     bank: &Bank,
     pass: &mut Pass,
@@ -42,6 +42,7 @@ pub(crate) fn read_entry(
     requires start { IsPlaceOf (shape_of bank.now) table start }
     requires place { place < rows (kind_in (shape_of bank.now).starts o) (class_of (table_id table)) }
     requires word { word < 8 }
+    requires no_value { (word ≢ 4) × (word ≢ 5) }
     ensures pass { IsPassOf bank.now pass.new }
     ensures stack { stack_of pass.new ≡ stack_of pass.old }
     ensures writes { WritesEntries (shape_of bank.now) o table (view pass.new) }
@@ -54,7 +55,7 @@ pub(crate) fn read_entry(
     bank.read_word(pass, table, start, at)
 }
 
-/// Puts a word of an entry of a container that the pass writes.
+/// Puts a word of an entry of a container that the pass writes, which is no value's.
 pub(crate) fn put_entry(
     bank: &Bank,
     pass: &mut Pass,
@@ -70,6 +71,7 @@ pub(crate) fn put_entry(
     requires start { IsPlaceOf (shape_of bank.now) table start }
     requires place { place < rows (kind_in (shape_of bank.now).starts o) (class_of (table_id table)) }
     requires word { word < 8 }
+    requires no_value { (word ≢ 4) × (word ≢ 5) }
     requires care { IsCareful (view pass.old) o (table_id table) (entry_offset (slots (class_of (table_id table))) place word)
         value }
     ensures pass { IsPassOf bank.now pass.new }

@@ -4,6 +4,7 @@
 
 mod answering;
 mod bare;
+mod boxed;
 mod deleting;
 mod entries;
 mod finishing;
@@ -21,6 +22,7 @@ mod valuing;
 mod words;
 
 pub use crate::answering::{answer_made, written};
+pub use crate::boxed::{named_boxes_are_known, put_over, put_unboxed, read_value, release};
 pub use crate::deleting::{delete_entry, put_deleted};
 pub use crate::entries::raise_version;
 pub use crate::finishing::{finish_entry, write_nothing};

@@ -43,7 +43,7 @@ pub(crate) enum Round {
 }
 
 /// How many entries a table has that is searched this way.
-fn entries_of(way: Way, class: u32) -> u64
+pub(crate) fn entries_of(way: Way, class: u32) -> u64
     requires { IsClass class }
     ensures { result ≡ rows (kind_by way) class }
 {

@@ -20,10 +20,10 @@ use Rattle.ft_trace.specs.InOrder.{AreInOrder}
 use Rattle.ft_trace.specs.Pictures.{Represents}
 use Rattle.ft_trace.specs.Traces.{Event, IsReachable, history, run, word}
 use Rattle.ft_trace.specs.Unboxed.{unboxed_picture}
+use Rattle.ft_trace.proofs.Standing.{stands}
 use Rattle.ft_trace.proofs.Floored.{floored}
 use Rattle.ft_trace.proofs.Known.{kind_then, kinds_stay}
 use Rattle.ft_trace.proofs.Quiet.{versions_even}
-use Rattle.ft_trace.proofs.Standing.{stands}
 use Rattle.ft_bank_history.specs.LastContents.{AreShownTo, IsLast}
 
 -- ---- one place after the other

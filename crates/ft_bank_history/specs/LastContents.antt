@@ -17,7 +17,7 @@ IsShownAs k o shown x =
     (kept : ContainerState) → kind_of kept.content ≡ kind_in k.starts o → Represents k.texts x kept
     → shown ≡ shown_of kept.content
 
--- each container is shown so by these words of the bank, as they read through boxes, in the order of declaration
+-- each container is shown so by what these words of the bank read through boxes, in the order of declaration
 pub record AreShownBy (k : Shape) (words : List ℕ) (all : List Shown) : Type 0 where
   pub count : length all ≡ container_count k
   pub each : (o : ℕ) (shown : Shown) → slice_get all o ≡ Some shown → IsShownAs k o shown (unboxed_picture k o words)

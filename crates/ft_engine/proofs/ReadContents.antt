@@ -24,7 +24,7 @@ use Rattle.ft_keys.specs.declared.walk.Way.{Way}
 use Rattle.ft_keys.specs.declared.walk.Way.TheVariants as way
 use Rattle.ft_layout.specs.Containers.{StandsAs}
 use Rattle.ft_trace.specs.declared.Act.{Act}
-use Rattle.ft_trace.specs.declared.Act.TheVariants.{ReadBlock, ReadCounter, ReadRoot, ReadTable, Version}
+use Rattle.ft_trace.specs.declared.Act.TheVariants.{ReadBlock, ReadCounter, ReadBox, ReadRoot, ReadTable, Version}
 use Rattle.ft_trace.specs.declared.Entry.{Entry}
 use Rattle.ft_trace.specs.declared.Owner.{Owner}
 use Rattle.ft_trace.specs.declared.Told.{Told}
@@ -48,7 +48,7 @@ use Rattle.ft_section.specs.Ready.{IsStill}
 use Rattle.ft_search.specs.Floors.{LooksWithFloor}
 use Rattle.ft_search.specs.Rounds.{kind_by}
 use Rattle.ft_search.proofs.ReadMidst.{still_loaded}
-use Rattle.ft_search.proofs.Rounding.{looks_append, looks_load}
+use Rattle.ft_search.proofs.Rounding.{looks_append, looks_did}
 use Rattle.ft_search.specs.KeyLooks.{AreLooks}
 use Rattle.ft_search.proofs.Running.{did_log, did_none, did_trans}
 use Rattle.ft_search.proofs.Undisturbed.{among_found}
@@ -200,6 +200,7 @@ looks_told (ReadBlock o i f ∷ l) rest q = looks_told l rest q
 looks_told (ReadRoot o f ∷ l) rest q = looks_told l rest q
 looks_told (ReadTable t i f ∷ l) rest q = looks_told l rest q
 looks_told (ReadCounter f ∷ l) rest q = looks_told l rest q
+looks_told (ReadBox c j f ∷ l) rest q = looks_told l rest q
 looks_told (act ∷ l) rest q = absurd q
 
 -- the lists of a caller and of those that it took in, where its pass has done nothing that they speak of
@@ -220,7 +221,7 @@ module _ (e : Engine) (c : Caller) (q : Pass) (all : List Shown) (is : IsCallerO
   now = record c { pass = q }
 
   only_loaded : OnlyLoaded (view c.pass) (view q)
-  only_loaded = subst (OnlyLoaded (view c.pass)) (sym r.2.1) (looks_load r.0 (view c.pass) r.1)
+  only_loaded = looks_did r.0 c.pass q r.1 r.2
 
   read_steady : IsSteady (view c.pass) (view q)
   read_steady = loaded_steady (view c.pass) (view q) only_loaded (still_of e c is)

@@ -15,7 +15,7 @@ use Rattle.ft_bank.specs.Series.{DidAll}
 use Rattle.ft_bank.specs.Whole.{OnlyLoaded}
 use Rattle.ft_bank.proofs.KnownAfterWrites.{loaded_held}
 use Rattle.ft_search.proofs.Running.{did_none, did_trans}
-use Rattle.ft_search.proofs.Rounding.{looks_append, looks_load, among_in}
+use Rattle.ft_search.proofs.Rounding.{looks_append, looks_did, among_in}
 use Rattle.ft_reads.specs.Reads.{Reads}
 
 -- ---- actions among others
@@ -99,7 +99,7 @@ module _ (k : Shape) (o : ℕ) (x : ContainerWords) where
 -- ---- reads
 
 pub reads_loaded : (k : Shape) (o : ℕ) (P : ContainerWords → Type 0) (p q : Pass) → Reads k o P p q → OnlyLoaded (view p) (view q)
-reads_loaded k o P p q r = subst (OnlyLoaded (view p)) (sym r.2.1) (looks_load r.0 (view p) r.1)
+reads_loaded k o P p q r = looks_did r.0 p q r.1 r.2
 
 pub reads_map : (k : Shape) (o : ℕ) (P Q : ContainerWords → Type 0) (p q : Pass) → ((x : ContainerWords) → P x → Q x) → Reads k o P p q → Reads k o Q p q
 reads_map k o P Q p q f r = (r.0, r.1, r.2, (λ x g. f x (r.3 x g)), r.4)

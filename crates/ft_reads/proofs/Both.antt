@@ -14,7 +14,7 @@ use Rattle.ft_bank.specs.Whole.{OnlyLoaded}
 use Rattle.ft_bank.proofs.KnownAfterWrites.{loaded_held}
 use Rattle.ft_section.specs.declared.answers.Objects.TheVariants.{Two}
 use Rattle.ft_section.specs.LockTakings.{AreIn, HasLocks}
-use Rattle.ft_search.proofs.Rounding.{looks_append, looks_load}
+use Rattle.ft_search.proofs.Rounding.{looks_append, looks_did}
 use Rattle.ft_search.proofs.Running.{did_trans}
 use Rattle.ft_reads.specs.Reads.{Reads}
 use Rattle.ft_reads.specs.Pairs.{ReadsBoth}
@@ -31,7 +31,7 @@ module _ (k : Shape) (o m : ℕ) where
   both_map P Q p q r f = (r.0, r.1, r.2, (λ x y g h. f x y (r.3 x y g h)), r.4)
 
   pub both_loaded : (P : ContainerWords → ContainerWords → Type 0) (p q : Pass) → ReadsBoth k o m P p q → OnlyLoaded (view p) (view q)
-  both_loaded P p q r = subst (OnlyLoaded (view p)) (sym r.2.1) (looks_load r.0 (view p) r.1)
+  both_loaded P p q r = looks_did r.0 p q r.1 r.2
 
   pub both_then : (P Q : ContainerWords → ContainerWords → Type 0) (p q r : Pass) → ReadsBoth k o m P p q → ReadsBoth k o m Q q r → ReadsBoth k o m (λ x y. P x y × Q x y) p r
   both_then P Q p q r a b =

@@ -26,7 +26,7 @@ use Rattle.ft_search.specs.Lengths.{IsStopped}
 use Rattle.ft_search.specs.KeyLooks.{AreLooks}
 use Rattle.ft_search.proofs.Asking.{may_ask, answered_after}
 use Rattle.ft_search.proofs.Lengths.{IsPlain, between_own}
-use Rattle.ft_search.proofs.Rounding.{looks_append, looks_load}
+use Rattle.ft_search.proofs.Rounding.{looks_append, looks_did}
 use Rattle.ft_search.proofs.Running.{did_log, did_trans}
 use Rattle.ft_reads.specs.Reads.{Reads}
 use Rattle.ft_reads.specs.Pairs.{ReadsBoth}
@@ -75,7 +75,7 @@ module _ (k : Shape) (o : ℕ) (shows : ContainerWords → Type 0) (w : Window) 
   counted = record { newer = Version o w.closed ∷ []; rest = part ++ Version o w.opened ∷ []; is = refl }
 
   pub saw_loaded : OnlyLoaded (view p) (view q)
-  saw_loaded = subst (OnlyLoaded (view p)) (sym saw.2.1) (looks_load acts (view p) looks)
+  saw_loaded = looks_did acts p q looks saw.2
 
   -- what is so wherever that is so was loaded
   pub saw_some : (some : ContainerWords → Type 0) → ((x : ContainerWords) → shows x → some x) → LoadedSome k o some (view p) (view q)
@@ -136,7 +136,7 @@ module _ (k : Shape) (o m : ℕ) (shows : ContainerWords → ContainerWords → 
   both_counted = record { newer = Version o w.closed ∷ (Version m u.closed ∷ []); rest = both ++ opens; is = refl }
 
   saw_both_loaded : OnlyLoaded (view p) (view q)
-  saw_both_loaded = subst (OnlyLoaded (view p)) (sym saw.2.1) (looks_load both_acts (view p) both_looks)
+  saw_both_loaded = looks_did both_acts p q both_looks saw.2
 
   -- what was done between the loads of the version of each
   abbrev first_mid : List Act

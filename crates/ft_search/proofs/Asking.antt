@@ -11,7 +11,7 @@ use Rattle.ft_model.specs.declared.script.Kind.TheVariants as kind
 use Rattle.ft_layout.specs.declared.slot.Stored.TheVariants.{Plain}
 use Rattle.ft_layout.specs.Words.{FitsKey, IsStored}
 use Rattle.ft_trace.specs.declared.Act.{Act}
-use Rattle.ft_trace.specs.declared.Act.TheVariants.{ReadBlock, ReadRoot, ReadTable, ReadCounter, Version, Answer}
+use Rattle.ft_trace.specs.declared.Act.TheVariants.{ReadBlock, ReadRoot, ReadTable, ReadCounter, ReadBox, Version, Answer}
 use Rattle.ft_trace.specs.declared.Shape.{Shape}
 use Rattle.ft_trace.specs.declared.View.{View}
 use Rattle.ft_trace.specs.Acts.{view_after, shown}
@@ -43,6 +43,7 @@ looks_own (ReadBlock o i f ∷ l) q = looks_own l q
 looks_own (ReadRoot o f ∷ l) q = looks_own l q
 looks_own (ReadTable t i f ∷ l) q = looks_own l q
 looks_own (ReadCounter f ∷ l) q = looks_own l q
+looks_own (ReadBox c j f ∷ l) q = looks_own l q
 looks_own (act ∷ l) q = absurd q
 
 pub looks_newer : (newer rest : List Act) → AreLooks (newer ++ rest) → AreLooks newer
@@ -52,6 +53,7 @@ looks_newer (ReadBlock o i f ∷ l) rest q = looks_newer l rest q
 looks_newer (ReadRoot o f ∷ l) rest q = looks_newer l rest q
 looks_newer (ReadTable t i f ∷ l) rest q = looks_newer l rest q
 looks_newer (ReadCounter f ∷ l) rest q = looks_newer l rest q
+looks_newer (ReadBox c j f ∷ l) rest q = looks_newer l rest q
 looks_newer (act ∷ l) rest q = absurd q
 
 -- a pass that has loaded the counter and words of the bank may ask of a container

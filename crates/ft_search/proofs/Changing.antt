@@ -1,5 +1,5 @@
 -- A write that changes one entry of a dict or a set: what its words have to meet before the commit and after it.
-use Rattle.std.proofs.Common.{◌≡◌, ◌≢◌, ℕ, suc, ◌+◌, ◌%◌, ◌<◌, ◌≤◌, Bool, true, false, List, ◌∷◌, Option, Some, refl, sym, ap, ◌∙◌, subst, arith, length-set, get_or-set_same, get_or-set_other, None, [], true≢false}
+use Rattle.std.proofs.Common.{◌≡◌, ◌≢◌, ℕ, suc, ◌+◌, ◌%◌, ◌<◌, ◌≤◌, Bool, true, false, List, ◌∷◌, Option, Some, refl, sym, ap, ◌∙◌, subst, inl, arith, length-set, get_or-set_same, get_or-set_other, None, [], true≢false}
 use Rattle.std.specs.Prelude.{All, IsTrue, slice_get, slice_index, slice_set}
 use Rattle.std.proofs.Math.Logic.{∥∥₁_elim}
 use Rattle.std.proofs.Math.Nat.{ℕ_set}
@@ -26,11 +26,12 @@ use Rattle.ft_trace.specs.OddVersions.{Shut, Timely}
 use Rattle.ft_trace.specs.Traces.{IsReachable}
 use Rattle.ft_trace.specs.Pictures.{ContainerWords, root_in, entry_offset, entry_field, Represents}
 use Rattle.ft_trace.specs.ContainerStates.{ContainerState, kind_in}
-use Rattle.ft_trace.specs.WholeWrites.{Put, to_table, with_puts, MayPut, MayPuts}
+use Rattle.ft_trace.specs.WholeWrites.{Put, to_table, with_puts, IsNoValue, MayPut, MayPuts}
 use Rattle.ft_trace.proofs.Clearing.{held_shut}
 use Rattle.ft_trace.proofs.DictWrites.{EntryVersionsChangeNothing}
 use Rattle.ft_trace.proofs.Known.{after_header, kind_known}
 use Rattle.ft_trace.proofs.Tellings.{live_tells, key_words}
+use Rattle.ft_bank.specs.SameBoxes.{HoldsFew}
 use Rattle.ft_bank.specs.WriteSteps.{IsCareful}
 use Rattle.ft_search.specs.OneEntryWrites.{raised_at}
 use Rattle.ft_model.specs.TableUses.{is_split}
@@ -116,11 +117,11 @@ kind_is k v o shape possible mine =
 -- ---- puts
 
 -- a put that may be made on these words is one that readers aren't misled by
-pub put_at : (k : Shape) (o t i y : ℕ) (committed : Bool) (words : ContainerWords) (c : Content) (w : View) → w.shape ≡ k → has_committed o w.log ≡ committed → held_unboxed o w ≡ words → (known_state o w).content ≡ c → MayPut (kind_in k.starts o) t c committed words (to_table i y) → IsCareful w o t i y
-put_at k o t i y committed words c w shape late is content may =
+pub put_at : (k : Shape) (o t i y : ℕ) (committed : Bool) (words : ContainerWords) (c : Content) (w : View) → w.shape ≡ k → has_committed o w.log ≡ committed → held_unboxed o w ≡ words → (known_state o w).content ≡ c → HoldsFew w → MayPut (kind_in k.starts o) t c committed words (to_table i y) → IsCareful w o t i y
+put_at k o t i y committed words c w shape late is content few may =
     let care : CarefulAs (kind_in w.shape.starts o) (class_of t) (held_unboxed o w).table (known_state o w).content i y = subst (λ (z : Shape × ContainerWords × Content). CarefulAs (kind_in z.0.starts o) (class_of t) z.1.table z.2 i y) (sym (λ d. (shape d, is d, content d))) may.2 in
     let timely : Timely (version_at (kind_in w.shape.starts o) (class_of t)) (rows (kind_in w.shape.starts o) (class_of t)) i y (has_committed o w.log) = subst (λ (z : Shape × Bool). Timely (version_at (kind_in z.0.starts o) (class_of t)) (rows (kind_in z.0.starts o) (class_of t)) i y z.1) (sym (λ d. (shape d, late d))) may.3 in
-    record { care = care; timely = timely }
+    record { care = care; timely = timely; references = inl (subst (λ (z : Shape). IsNoValue (kind_in z.starts o) (class_of t) i) (sym shape) may.4, few) }
 
 -- a block that counts another number of pairs or elements
 pub with_count : (b : List ℕ) (class : Option ℕ) (old new fill next : ℕ) → IsBlock b class old fill next → IsBlock (slice_set b 1 new) class new fill next

@@ -1,6 +1,8 @@
 pub mod WordPlaces
 pub mod KnownTableWords
 pub mod Running
+pub mod BoxLoads
+pub mod NewRoots
 mod Walking
 mod SearchEnds
 pub mod Rounding
@@ -11,6 +13,7 @@ pub mod Lengths
 pub mod Changing
 pub mod Deletions
 pub mod Puts
+pub mod Boxing
 pub mod ReadyCommits
 pub mod Laws
 pub mod Spotting

@@ -18,7 +18,8 @@ use Rattle.ft_bank.specs.Answered.{Answered}
 use Rattle.ft_bank.specs.Passes.{shape_of, view, IsPassOf}
 use Rattle.ft_bank.specs.PassSections.{stack_of}
 use Rattle.ft_bank.specs.Whole.{OnlyLoaded}
-use Rattle.ft_bank.proofs.KnownAfterWrites.{loaded_held, work_knows}
+use Rattle.ft_bank.proofs.DoneBoxes.{done_same}
+use Rattle.ft_bank.proofs.KnownAfterWrites.{work_knows}
 use Rattle.ft_section.specs.Ready.{IsStill, IsMaking}
 use Rattle.ft_section.proofs.MidstOfCall.{making_stays}
 
@@ -35,13 +36,16 @@ still_loaded v u o s =
       used = o.work.used ∙ s.used;
       owes = o.work.owes ∙ s.owes;
       flight = o.work.pass.flight ∙ s.flight;
+      boxes = done_same v u o.boxes s.boxes;
       stands = λ p low has.
-          let old = s.stands p (subst (λ (k : Shape). p < container_count k) o.work.pass.shape low) (sym (o.work.pass.locks p) ∙ has) in
-          subst (λ (x : Shape × ContainerWords × ContainerState). Represents x.0.texts x.1 x.2) (sym (λ d. (o.work.pass.shape d, loaded_held v u p o d, work_knows v u p o.work d))) old;
+          let low' = subst (λ (k : Shape). p < container_count k) o.work.pass.shape low in
+          let mine = sym (o.work.pass.locks p) ∙ has in
+          let read = o.unboxed p low' mine in
+          subst (λ (x : Shape × ContainerWords × ContainerState). Represents x.0.texts x.1 x.2) (sym (λ d. (o.work.pass.shape d, read d, work_knows v u p o.work d))) (s.stands p low' mine);
     }
 
 still_answered : (called : Call) (said : Reply) (n : ℕ) (u : View) → IsStill u → IsStill (view_after (Answer called said n) u)
-still_answered called said n u s = record { even = s.even; hands = s.hands; used = s.used; owes = s.owes; flight = s.flight; stands = s.stands }
+still_answered called said n u s = record { even = s.even; hands = s.hands; used = s.used; owes = s.owes; flight = s.flight; boxes = s.boxes; stands = s.stands }
 
 -- what the entry of a call that isn't a write leaves
 pub still_read : (called : Call) (said : Reply) (n : ℕ) (v w : View) → Answered called said n v w → IsStill v → IsStill w

@@ -13,7 +13,8 @@ use Rattle.ft_trace.specs.Addresses.{class_of, slots}
 use Rattle.ft_trace.specs.Pictures.{entry_offset, walk_of}
 use Rattle.ft_trace.specs.Kinds.{rows}
 use Rattle.ft_trace.specs.ContainerStates.{kind_in}
-use Rattle.ft_trace.specs.LoggedLookUps.{Inner, OtherKind, OtherPayload, Dead, Visit, Beyond, Passed}
+use Rattle.ft_trace.specs.LoggedLookUps.{OtherKind, OtherPayload, Dead, Visit, Beyond, Passed}
+use Rattle.ft_search.specs.KeyLooks.{Inner}
 use Rattle.ft_bank.specs.declared.pass.Pass.{Pass}
 use Rattle.ft_bank.specs.Series.{DidAll}
 use Rattle.ft_search.specs.declared.looks.Looked.{Looked}

@@ -3,8 +3,9 @@ use Rattle.std.specs.Prelude.{◌≡◌, ◌≢◌, ◌⊎◌, ℕ, suc, ◌%◌
 use Rattle.ft_model.specs.declared.data.Key.{Key}
 use Rattle.ft_layout.specs.Words.{key_kind, gone_kind, key_payload}
 use Rattle.ft_trace.specs.declared.Act.{Act}
-use Rattle.ft_trace.specs.declared.Act.TheVariants.{ReadBlock, ReadRoot, ReadTable, ReadCounter, Version}
+use Rattle.ft_trace.specs.declared.Act.TheVariants.{ReadBlock, ReadRoot, ReadTable, ReadCounter, ReadBox, Version}
 use Rattle.ft_trace.specs.declared.Shape.{Shape}
+use Rattle.ft_trace.specs.Acts.{reads}
 use Rattle.ft_trace.specs.Addresses.{class_of, slots}
 use Rattle.ft_trace.specs.Pictures.{entry_offset}
 use Rattle.ft_trace.specs.Kinds.{rows}
@@ -21,7 +22,7 @@ use Rattle.ft_trace.specs.declared.View.{View}
 use Rattle.ft_bank.specs.Answered.{Answered}
 use Rattle.ft_bank.specs.Whole.{OnlyLoaded}
 
--- only loads of versions, words of blocks and tables, and the counter
+-- only loads of versions, words of blocks, tables and boxes, and the counter
 abbrev pub AreLooks : List Act → Type 0
 AreLooks [] = Unit {0}
 AreLooks (Version o f ∷ l) = AreLooks l
@@ -29,7 +30,23 @@ AreLooks (ReadBlock o i f ∷ l) = AreLooks l
 AreLooks (ReadRoot o f ∷ l) = AreLooks l
 AreLooks (ReadTable t i f ∷ l) = AreLooks l
 AreLooks (ReadCounter f ∷ l) = AreLooks l
+AreLooks (ReadBox b i f ∷ l) = AreLooks l
 AreLooks (act ∷ l) = ⊥
+
+-- none of these reads a root or announces
+abbrev pub Inner : List Act → Type 0
+Inner [] = Unit {0}
+Inner (Version o f ∷ l) = Inner l
+Inner (ReadTable t i f ∷ l) = Inner l
+Inner (ReadCounter f ∷ l) = Inner l
+Inner (ReadBox b i f ∷ l) = Inner l
+Inner (act ∷ l) = ⊥
+
+-- a root that has changed since the pass read it names a table that the pass hasn't found in a root since it last
+-- announced
+abbrev pub IsNew : ℕ → ℕ → List Act → Type 0
+IsNew o r l =
+    (t f : ℕ) (mid rest : List Act) → r ≡ suc t → f ≢ r → l ≡ mid ++ ReadRoot o f ∷ rest → Inner mid → reads t l ≡ false
 
 -- The log shows that the key was there when the counter was n: the search met its entry, and between two loads of the
 -- entry's version that found the same even number these words of the value were read.

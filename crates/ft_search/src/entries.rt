@@ -8,6 +8,7 @@ ghost use Rattle.ft_trace.specs.Pictures.{entry_offset, entry_field};
 ghost use Rattle.ft_trace.specs.ContainerStates.{kind_in};
 ghost use Rattle.ft_bank.specs.Passes.{shape_of, view, IsPassOf};
 ghost use Rattle.ft_bank.specs.PassSections.{stack_of};
+ghost use Rattle.ft_bank.specs.SameBoxes.{SameReferences};
 ghost use Rattle.ft_bank.specs.TableNames.{table_id, IsPlaceOf};
 ghost use Rattle.ft_bank.specs.Whole.{OnlyLoaded, OnlyPut};
 ghost use Rattle.ft_bank.specs.WriteSteps.{IsCareful, with_table};
@@ -78,6 +79,7 @@ pub(crate) fn put_entry(
     ensures stack { stack_of pass.new ≡ stack_of pass.old }
     ensures writes { WritesEntries (shape_of bank.now) o table (view pass.new) }
     ensures only { OnlyPut o (view pass.old) (view pass.new) }
+    ensures references { SameReferences (view pass.old) (view pass.new) }
     ensures words { held_unboxed o (view pass.new)
         ≡ with_table (held_unboxed o (view pass.old)) (entry_offset (slots (class_of (table_id table))) place word) value }
 {
@@ -96,6 +98,7 @@ pub fn raise_version(bank: &Bank, pass: &mut Pass, o: u32, table: Table, place: 
     ensures stack { stack_of pass.new ≡ stack_of pass.old }
     ensures writes { WritesEntries (shape_of bank.now) o table (view pass.new) }
     ensures only { OnlyPut o (view pass.old) (view pass.new) }
+    ensures references { SameReferences (view pass.old) (view pass.new) }
     ensures words { held_unboxed o (view pass.new) ≡ raised_at (table_id table) place (held_unboxed o (view pass.old)) }
 {
     let start = bank.cell_of(table);
@@ -114,6 +117,7 @@ pub(crate) fn raise_at(bank: &Bank, pass: &mut Pass, o: u32, table: Table, start
     ensures stack { stack_of pass.new ≡ stack_of pass.old }
     ensures writes { WritesEntries (shape_of bank.now) o table (view pass.new) }
     ensures only { OnlyPut o (view pass.old) (view pass.new) }
+    ensures references { SameReferences (view pass.old) (view pass.new) }
     ensures words { held_unboxed o (view pass.new) ≡ raised_at (table_id table) place (held_unboxed o (view pass.old)) }
 {
     let version = read_entry(bank, pass, o, table, start, place, entry_word::VERSION);

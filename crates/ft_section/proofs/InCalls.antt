@@ -11,7 +11,7 @@ use Rattle.ft_bank.specs.PassSections.{Stack, stack_of, taken_in, nothing_taken}
 use Rattle.ft_section.specs.Ready.{InCall, IsInCall, HasMarks, lock_count, AreBegun}
 use Rattle.ft_section.specs.Locking.{OnlyLocked, TookLocks, KeepsStack, with_own}
 use Rattle.ft_section.specs.LockTakings.{IsLockTaking, IsOwnFor, HasBoth}
-use Rattle.ft_section.proofs.DoneWithBoxes.{done_stays}
+use Rattle.ft_bank.proofs.DoneBoxes.{done_as}
 use Rattle.ft_trace.specs.declared.Shape.{Shape}
 use Rattle.ft_trace.specs.declared.View.{View}
 use Rattle.ft_trace.specs.Addresses.{container_count}
@@ -53,7 +53,7 @@ took_in_call v w s amount own i t is =
         used = t.locked.used ∙ i.still.used;
         owes = t.locked.owes ∙ i.still.owes;
         flight = t.locked.flight ∙ i.still.flight;
-        boxes = done_stays v w t.locked.references t.locked.made i.still.boxes;
+        boxes = done_as v w t.locked.references t.locked.made i.still.boxes;
         stands = λ o low has. dite (ℕ_discrete (amount o) 0)
             (λ none. let h = had o has none in still_stands v w t.locked o (i.low o h) h has (i.still.stands o (i.low o h) h))
             (λ some_one. t.stands o some_one);

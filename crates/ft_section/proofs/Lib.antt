@@ -5,7 +5,6 @@ pub mod Releases
 pub mod Sweeping
 pub mod Waits
 pub mod Goings
-pub mod DoneWithBoxes
 pub mod MidstOfCall
 pub mod Resumes
 pub mod Droppings

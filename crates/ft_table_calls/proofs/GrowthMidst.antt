@@ -29,7 +29,7 @@ use Rattle.ft_bank.specs.Whole.{OnlyLoaded, SamePass, Wrote, hand_after}
 use Rattle.ft_bank.proofs.BoxedSteps.{made_then}
 use Rattle.ft_bank.proofs.KnownAfterWrites.{same_pass, pass_then, work_knows}
 use Rattle.ft_section.specs.Ready.{IsStill, IsMaking}
-use Rattle.ft_section.proofs.DoneWithBoxes.{done_stays}
+use Rattle.ft_bank.proofs.DoneBoxes.{done_as}
 use Rattle.ft_section.proofs.MidstOfCall.{making_stays}
 use Rattle.ft_search.proofs.ReadMidst.{LeavesSections, still_loaded, still_read, sections_read}
 use Rattle.ft_table_calls.specs.declared.adding.Added.{Added}
@@ -72,7 +72,7 @@ module _ (called : Call) (said : Reply) (n : ℕ) (v w : View) (s : IsStill v) (
 
   pub wrote_still : root_in (held_words o w) ≡ root_in (held_words o v) → SameReferences v w → IsStill w
   wrote_still root references =
-      wrote_still_so (done_stays v w references wrote.made s.boxes)
+      wrote_still_so (done_as v w references wrote.made s.boxes)
       (λ t. subst IsOut (sym (wrote.hands t ∙ (ap (λ (z : ℕ). hand_after o (root_in (held_words o v)) z t (stage t v.log)) root ∙ hit (root_in (held_words o v)) (stage t v.log) _))) (s.hands t))
 
 -- ---- takings
@@ -98,7 +98,7 @@ module _ (k : Shape) (class : ℕ) (r : Took) (v w : View) (s : IsStill v) (trie
     used = tried.keeps.held.used ∙ s.used;
     owes = none;
     flight = tried.same.flight ∙ s.flight;
-    boxes = done_stays v w tried.keeps.boxes.references tried.keeps.boxes.made s.boxes;
+    boxes = done_as v w tried.keeps.boxes.references tried.keeps.boxes.made s.boxes;
     stands = tried_stands;
   }
 
@@ -154,7 +154,7 @@ module _ (root : ℕ) (v u x w : View) (drops : DropsAfter v u x) (retired : Ret
       (k.2 ∙ drops.drops.unboxed p (subst (λ (z : Shape). p < container_count z) after_same.shape low) mine, k.1 ∙ work_knows u x p drops.drops.work)
 
   after_done : SameMade v u → IsDoneWithBoxes v.shape v.log → IsDoneWithBoxes w.shape w.log
-  after_done made done = retired_done root x w retired (done_stays v x drops.references (made_then v u x made drops.made) done)
+  after_done made done = retired_done root x w retired (done_as v x drops.references (made_then v u x made drops.made) done)
 
 -- ---- a call that took a table
 
@@ -216,7 +216,7 @@ module _ (k : Shape) (class : ℕ) (called : Call) (said : Reply) (n : ℕ) (v w
   pub grew_still : IsStill w
   grew_still =
       let r = after_work old taken grew.done grew.dropped w grew.drops grew.retired in
-      let boxes : IsDoneWithBoxes taken.shape taken.log = done_stays v taken grew.tried.keeps.boxes.references grew.tried.keeps.boxes.made s.boxes in
+      let boxes : IsDoneWithBoxes taken.shape taken.log = done_as v taken grew.tried.keeps.boxes.references grew.tried.keeps.boxes.made s.boxes in
       record {
         even = λ p. grew_same.writes p ∙ s.even p;
         hands = out_after;

@@ -15,7 +15,7 @@ use Rattle.ft_bank.specs.Passes.{shape_of, view}
 use Rattle.ft_bank.specs.TableNames.{table_id}
 use Rattle.ft_bank.specs.Whole.{OnlyLoaded}
 use Rattle.ft_search.proofs.Running.{did_trans}
-use Rattle.ft_search.proofs.Rounding.{looks_append, looks_load}
+use Rattle.ft_search.proofs.Rounding.{looks_append, looks_did}
 use Rattle.ft_iter.specs.Seeking.{GivesPair}
 use Rattle.ft_iter.proofs.NextContents.{keyed-known, fill-low, next-held, bare-next}
 use Rattle.ft_iter.proofs.held.next_of.Goals as goal
@@ -46,7 +46,7 @@ returns-in-Some-clause-keeps c =
     let fill : List Act = ReadBlock c.args.o 2 c.read_block-fill.result ∷ [] in
     let both = did_trans fill root c.args.pass.now c.read_block-root.new.pass c.read_block-fill.new.pass c.read_block-root.ensures.did c.read_block-fill.ensures.did in
     let did = did_trans r.0 (fill ++ root) c.args.pass.now c.read_block-fill.new.pass c.seek_in.new.pass both r.2 in
-    subst (OnlyLoaded v) (sym did.1) (looks_load (r.0 ++ (fill ++ root)) v (looks_append r.0 (fill ++ root) r.1 tt))
+    looks_did (r.0 ++ (fill ++ root)) c.args.pass.now c.seek_in.new.pass (looks_append r.0 (fill ++ root) r.1 tt) did
 
 pub returns-in-Some-clause-looks : goal.returns-in-Some-clause-looks
 returns-in-Some-clause-looks c =

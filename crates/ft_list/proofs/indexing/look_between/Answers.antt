@@ -14,7 +14,7 @@ use Rattle.ft_bank.specs.Reads.{IsShown}
 use Rattle.ft_bank.specs.Whole.{OnlyLoaded}
 use Rattle.ft_search.specs.Lengths.{IsGlanceOf}
 use Rattle.ft_search.proofs.Asking.{may_ask, answered_after}
-use Rattle.ft_search.proofs.Rounding.{looks_load}
+use Rattle.ft_search.proofs.Rounding.{looks_did}
 use Rattle.ft_search.proofs.Running.{did_log}
 use Rattle.ft_list.specs.Indexes.{ShowsNamed}
 use Rattle.ft_list.proofs.Indexes.{named_counted, get_shown}
@@ -32,7 +32,7 @@ answer_look-requires-clause-shown c =
     let m = c.in-Found.ensures.looked in
     let same = c.read_between.ensures.pass.1 in
     let z = to_z w64 (of_z w64 a.index) in
-    let loaded : OnlyLoaded v w = subst (OnlyLoaded v) (sym m.2.1) (looks_load m.0 v m.1) in
+    let loaded : OnlyLoaded v w = looks_did m.0 c.args.pass.now c.read_between.new.pass m.1 m.2 in
     let own = did_log m.0 a.pass.now c.read_between.new.pass m.2 in
     let shown : IsShown w (call.List o (list.Get z)) (item_reply found) n = get_shown v w o z found n m.0
     (may_ask v w k o n m.0 loaded m.1 own (named_counted k o z found n m.0 m.3) same c.requires.container c.requires.left)
@@ -50,7 +50,7 @@ returns-in-Found-clause-looked c =
     let m = c.in-Found.ensures.looked in
     let z = to_z w64 (of_z w64 a.index) in
     let index : z ≡ a.index = to_z-of_z {w = w64} {z = a.index} c.ranges.index in
-    let loaded : OnlyLoaded v w = subst (OnlyLoaded v) (sym m.2.1) (looks_load m.0 v m.1) in
+    let loaded : OnlyLoaded v w = looks_did m.0 c.args.pass.now c.read_between.new.pass m.1 m.2 in
     let own = did_log m.0 a.pass.now c.read_between.new.pass m.2 in
     let answered : Answered (call.List o (list.Get z)) c.reply_of.result n v x = answered_after v w x (call.List o (list.Get z)) c.reply_of.result n m.0 loaded own (named_counted (shape_of a.bank.now) o z c.in-Found.found n m.0 m.3) c.answer_look.ensures.did.1 a.pass.now.settled c.answer_look.new.pass.possible in
     subst (λ r. IsGlanceOf o (call.List o (list.Get a.index)) v x r) (sym c.answer_look.ensures.done)
@@ -61,7 +61,7 @@ returns-in-Contended-clause-looked c =
     let v = view c.args.pass.now in
     let m = c.in-Contended.ensures.looked in
     record {
-      loaded = subst (OnlyLoaded v) (sym m.2.1) (looks_load m.0 v m.1);
+      loaded = looks_did m.0 c.args.pass.now c.read_between.new.pass m.1 m.2;
       part = m.0;
       looks = m.1;
       own = did_log m.0 c.args.pass.now c.read_between.new.pass m.2;

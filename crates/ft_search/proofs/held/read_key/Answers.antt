@@ -11,11 +11,10 @@ use Rattle.ft_trace.specs.Pictures.{root_in}
 use Rattle.ft_trace.specs.ContainerStates.{kind_in}
 use Rattle.ft_bank.specs.Passes.{shape_of, view}
 use Rattle.ft_bank.specs.TableNames.{table_id}
-use Rattle.ft_bank.specs.Whole.{OnlyLoaded}
 use Rattle.ft_search.specs.Held.{ReadsEntry}
 use Rattle.ft_search.proofs.Costing.{few_before}
 use Rattle.ft_search.proofs.Running.{did_trans}
-use Rattle.ft_search.proofs.Rounding.{looks_append, looks_load}
+use Rattle.ft_search.proofs.Rounding.{looks_append, looks_did}
 use Rattle.ft_search.proofs.FoundInContents.{of_way, bare_held, key_held}
 use Rattle.ft_trace.specs.declared.Shape.{Shape}
 use Rattle.ft_search.proofs.held.read_key.Goals as goal
@@ -25,11 +24,10 @@ read_in-requires-clause-table c = c.in-Some.ensures.in_bank
 
 pub returns-in-Some-clause-keeps : goal.returns-in-Some-clause-keeps
 returns-in-Some-clause-keeps c =
-    let v = view c.args.pass.now in
     let r = c.read_in.ensures.looks in
     let one : List Act = ReadBlock c.args.o 0 c.read_block-root.result ∷ [] in
     let did = did_trans r.0 one c.args.pass.now c.read_block-root.new.pass c.read_in.new.pass c.read_block-root.ensures.did r.2 in
-    subst (OnlyLoaded v) (sym did.1) (looks_load (r.0 ++ one) v (looks_append r.0 one r.1 tt))
+    looks_did (r.0 ++ one) c.args.pass.now c.read_in.new.pass (looks_append r.0 one r.1 tt) did
 
 pub returns-in-Some-clause-looks : goal.returns-in-Some-clause-looks
 returns-in-Some-clause-looks c =
@@ -42,8 +40,7 @@ returns-in-None-clause-looks c = (ReadBlock c.args.o 0 c.read_block-root.result 
 
 pub returns-in-None-clause-keeps : goal.returns-in-None-clause-keeps
 returns-in-None-clause-keeps c =
-    let v = view c.args.pass.now in
-    subst (OnlyLoaded v) (sym c.read_block-root.ensures.did.1) (looks_load (ReadBlock c.args.o 0 c.read_block-root.result ∷ []) v tt)
+    looks_did (ReadBlock c.args.o 0 c.read_block-root.result ∷ []) c.args.pass.now c.read_block-root.new.pass tt c.read_block-root.ensures.did
 
 pub returns-in-None-clause-held : goal.returns-in-None-clause-held
 returns-in-None-clause-held c =

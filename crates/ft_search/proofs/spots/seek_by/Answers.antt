@@ -24,7 +24,7 @@ use Rattle.ft_search.specs.KeyLooks.{AreLooks}
 use Rattle.ft_search.specs.Spots.{IsSpot}
 use Rattle.ft_search.proofs.Costing.{few_before}
 use Rattle.ft_search.proofs.FoundInContents.{bare_held, of_way}
-use Rattle.ft_search.proofs.Rounding.{looks_append, looks_load}
+use Rattle.ft_search.proofs.Rounding.{looks_append, looks_did}
 use Rattle.ft_search.proofs.Running.{did_trans, did_log}
 use Rattle.ft_search.proofs.Spotting.{spot_is, may_loaded, spot_loaded}
 use Rattle.ft_search.proofs.spots.seek_by.Goals as goal
@@ -39,7 +39,7 @@ part c =
     (r.0 ++ one, looks_append r.0 one r.1 tt, did_trans r.0 one c.args.pass.now c.read_block-root.new.pass c.read_by-found.new.pass c.read_block-root.ensures.did r.2, few_before c.args.way r.0 one r.3 (λ t. refl))
 
 only : (c : After-read_by-found) → OnlyLoaded (view c.args.pass.now) (view c.read_by-found.new.pass)
-only c = let p = part c in subst (OnlyLoaded (view c.args.pass.now)) (sym p.2.1) (looks_load p.0 (view c.args.pass.now) p.1)
+only c = let p = part c in looks_did p.0 c.args.pass.now c.read_by-found.new.pass p.1 p.2
 
 pub returns-in-Some-clause-stack : goal.returns-in-Some-clause-stack
 returns-in-Some-clause-stack c = (part (goal.at.returns-in-Some-clause-stack c).After-read_by-found).2.2
@@ -77,7 +77,7 @@ returns-in-Some-clause-spot c =
 -- ---- where there is none
 
 bare_only : (c : In-None) → OnlyLoaded (view c.args.pass.now) (view c.read_block-root.new.pass)
-bare_only c = subst (OnlyLoaded (view c.args.pass.now)) (sym c.read_block-root.ensures.did.1) (looks_load (ReadBlock c.args.o 0 c.read_block-root.result ∷ []) (view c.args.pass.now) tt)
+bare_only c = looks_did (ReadBlock c.args.o 0 c.read_block-root.result ∷ []) c.args.pass.now c.read_block-root.new.pass tt c.read_block-root.ensures.did
 
 pub returns-in-None-clause-may : goal.returns-in-None-clause-may
 returns-in-None-clause-may c = may_loaded (shape_of c.args.bank.now) c.args.o (view c.args.pass.now) (view c.read_block-root.new.pass) (bare_only (goal.at.returns-in-None-clause-may c).In-None) c.requires.may

@@ -13,6 +13,7 @@ use Rattle.ft_trace.specs.declared.Shape.{Shape}
 use Rattle.ft_trace.specs.declared.View.{View}
 use Rattle.ft_trace.specs.Addresses.{container_count}
 use Rattle.ft_trace.specs.Acts.{is_writing, stage, debt, mem, view_after, shown, seen_writes}
+use Rattle.ft_trace.specs.Boxes.{references_held}
 use Rattle.ft_trace.specs.ContainerStates.{container_after, changes, kind_in, kinds_in}
 use Rattle.ft_trace.specs.Pictures.{picture, root_in, Represents}
 use Rattle.ft_trace.specs.Holds.{held_words, held_unboxed, known_state}
@@ -24,7 +25,7 @@ use Rattle.ft_trace.proofs.Untouched.{untouched_in}
 use Rattle.ft_trace.proofs.BoxKnown.{sure_after, sure_keeps}
 use Rattle.ft_bank.specs.SameBoxes.{named_in_words, MovesReferences, SameBoxes, SameMade}
 use Rattle.ft_bank.proofs.BoxedSteps.{made_same, made_then, boxes_then}
-use Rattle.ft_bank.specs.Whole.{SamePass, SameWork, OnlyBoxed, OnlyLoaded, OnlyPut, EndsWrite, Wrote, hand_after, debt_after, write_entry}
+use Rattle.ft_bank.specs.Whole.{SamePass, SameWork, OnlyBoxed, OnlyLoaded, OnlyPut, OnlyWritten, EndsWrite, Wrote, hand_after, debt_after, write_entry}
 
 -- ---- loads and puts
 
@@ -152,6 +153,35 @@ module _ (u v w : View) where
         (two.0 ∙ one.0, two.1 ∙ one.1);
   }
 
+module _ (o : ℕ) where
+  -- a put is such a step, and so is one with boxes that leaves those that the pass made
+  pub put_written : (v w : View) → OnlyPut o v w → OnlyWritten o v w
+  put_written v w a = record { work = a.work; made = a.made; loses = λ b. subst (λ (n : ℕ). n ≤ references_held v.shape b v.log + named_in_words b (kind_in v.shape.starts o) (held_words o v)) (sym (a.moves b)) (le_refl _); others = a.others }
+
+  pub boxed_written : (v w : View) → OnlyBoxed v w → SameMade v w → ((b : ℕ) → references_held w.shape b w.log ≤ references_held v.shape b v.log) → OnlyWritten o v w
+  boxed_written v w a made fewer = record {
+    work = a.work;
+    made = made;
+    loses = λ b.
+        let less = fewer b in
+        let shape = a.work.pass.shape in
+        let same : named_in_words b (kind_in w.shape.starts o) (held_words o w) ≡ named_in_words b (kind_in v.shape.starts o) (held_words o v) =
+        λ d. named_in_words b (kind_in (shape d).starts o) ((ap (λ (k : Shape). picture k o (mem k w.log)) shape ∙ ap (λ (ws : List ℕ). picture v.shape o ws) a.words) d) in
+        omega (arith, less, same);
+    others = λ p low ne mine quiet. (ap (λ (k : Shape). picture k p (mem k w.log)) a.work.pass.shape ∙ ap (λ (ws : List ℕ). picture v.shape p ws) a.words, a.unboxed p low mine);
+  }
+
+  pub written_then : (u v w : View) → OnlyWritten o u v → OnlyWritten o v w → OnlyWritten o u w
+  written_then u v w a b = record {
+    work = work_then u v w a.work b.work;
+    made = made_then u v w a.made b.made;
+    loses = λ c. le_trans (b.loses c) (a.loses c);
+    others = λ p low ne mine quiet.
+        let one = a.others p low ne mine quiet in
+        let two = b.others p (subst (λ (k : Shape). p < container_count k) (sym a.work.pass.shape) low) ne (a.work.pass.locks p ∙ mine) (a.work.pass.writes p ∙ quiet) in
+        (two.0 ∙ one.0, two.1 ∙ one.1);
+  }
+
 -- what a pass knows of a content is the same
 pub work_knows : (v w : View) (p : ℕ) → SameWork v w → known_state p w ≡ known_state p v
 work_knows v w p a = (λ d. container_after (a.pass.shape d).starts (a.past d) p)
@@ -268,7 +298,7 @@ module _ (called : Call) (said : Reply) (number f : ℕ) (v s u w : View) where
   others_start : (p : ℕ) → p ≢ o' → is_writing p begun.log ≡ is_writing p v.log
   others_start p ne = miss o' p true (is_writing p v.log) (λ e. ne (sym e))
 
-  all_write : (b : Bool) → is_writing o' v.log ≡ false → OnlyPut o' begun u → EndsWrite called said number u w → (p : ℕ) → is_writing p w.log ≡ is_writing p v.log
+  all_write : (b : Bool) → is_writing o' v.log ≡ false → OnlyWritten o' begun u → EndsWrite called said number u w → (p : ℕ) → is_writing p w.log ≡ is_writing p v.log
   all_write b quiet puts ends p =
       dite (ℕ_discrete p o')
       (λ (e : p ≡ o'). subst (λ (q : ℕ). is_writing q w.log ≡ is_writing q v.log) (sym e) (ends.even ∙ sym quiet))
@@ -278,7 +308,7 @@ module _ (called : Call) (said : Reply) (number f : ℕ) (v s u w : View) where
   same_root t r n = hit r n t
 
   -- a write that leaves the root
-  plain_at : is_writing o' v.log ≡ false → OnlyPut o' begun u → EndsWrite called said number u w → root_in (held_words o' u) ≡ root_in (held_words o' v) → Wrote called said number v w
+  plain_at : is_writing o' v.log ≡ false → OnlyWritten o' begun u → EndsWrite called said number u w → root_in (held_words o' u) ≡ root_in (held_words o' v) → Wrote called said number v w
   plain_at quiet puts ends root =
       let w1 = puts.work in
       let p1 = w1.pass in
@@ -313,7 +343,7 @@ module _ (called : Call) (said : Reply) (number f : ℕ) (v s u w : View) where
         used = ends.used;
         owes = ends.owes;
         made = made_then v u w (record { state = puts.made.state; local = puts.made.local; taken = puts.made.taken; places = puts.made.places }) ends.made;
-        moves = moves_then o' v u w puts.moves ends.moves;
+        loses = λ b. subst (λ (n : ℕ). n ≤ references_held v.shape b v.log + named_in_words b (kind_in v.shape.starts o') (held_words o' v)) (sym (ends.moves b)) (puts.loses b);
         others = λ p low ne mine quiet'.
             let low' = subst (λ (k : Shape). p < container_count k) (sym p1.shape) low in
             let e = ends.others p low' ne (p1.locks p ∙ mine) ((p1.writes p ∙ others_start p ne) ∙ quiet') in
@@ -335,5 +365,5 @@ module _ (called : Call) (said : Reply) (number f : ℕ) (v s u w : View) where
         stands = subst (λ (k : Shape). Represents k.texts (held_unboxed o' w) (known_state o' w)) p1.shape ends.stands;
       }
 
-  pub plain_write : s ≡ begun → is_writing o' v.log ≡ false → OnlyPut o' s u → EndsWrite called said number u w → root_in (held_words o' u) ≡ root_in (held_words o' v) → Wrote called said number v w
-  plain_write is quiet puts ends root = plain_at quiet (subst (λ (y : View). OnlyPut o' y u) is puts) ends root
+  pub plain_write : s ≡ begun → is_writing o' v.log ≡ false → OnlyWritten o' s u → EndsWrite called said number u w → root_in (held_words o' u) ≡ root_in (held_words o' v) → Wrote called said number v w
+  plain_write is quiet puts ends root = plain_at quiet (subst (λ (y : View). OnlyWritten o' y u) is puts) ends root

@@ -1,5 +1,5 @@
 -- What steps leave of what a pass has to do with boxes.
-use Rattle.std.specs.Prelude.{◌≡◌, ◌⊎◌, ℕ, ◌+◌, ◌^◌, ◌<◌, true}
+use Rattle.std.specs.Prelude.{◌≡◌, ◌⊎◌, ℕ, ◌+◌, ◌^◌, ◌<◌, ◌≤◌, true}
 use Rattle.ft_model.specs.declared.script.Kind.{Kind}
 use Rattle.ft_layout.specs.Starts.{kind_word, payload_word}
 use Rattle.ft_trace.specs.declared.View.{View}
@@ -44,6 +44,13 @@ abbrev pub MovesReferences : ℕ → View → View → Type 0
 MovesReferences o v w =
     (b : ℕ) → references_held w.shape b w.log + named_in_words b (kind_in w.shape.starts o) (held_words o w)
     ≡ references_held v.shape b v.log + named_in_words b (kind_in v.shape.starts o) (held_words o v)
+
+-- The pass holds no more references than before, but those that the words of the container o have no longer; some of
+-- them it may have dropped.
+abbrev pub LosesReferences : ℕ → View → View → Type 0
+LosesReferences o v w =
+    (b : ℕ) → references_held w.shape b w.log + named_in_words b (kind_in w.shape.starts o) (held_words o w)
+    ≤ references_held v.shape b v.log + named_in_words b (kind_in v.shape.starts o) (held_words o v)
 
 -- the pass holds so few references for each box that more can be counted
 abbrev pub HoldsFew : View → Type 0

@@ -39,8 +39,8 @@ use Rattle.ft_bank.proofs.KnownAfterWrites.{put_by, put_then}
 use Rattle.ft_bank.proofs.Readying.{wide_for}
 
 pub is_true : (b : Bool) → (b ≡ false → ⊥) → b ≡ true
-is_true true no = refl
-is_true false no = absurd (no refl)
+is_true true never = refl
+is_true false never = absurd (never refl)
 
 -- who writes a container has its lock
 pub writer_mine : (v : View) (o : ℕ) → ∥ IsReachable v ∥₁ → is_writing o v.log ≡ true → has_lock o v.log ≡ true
@@ -211,7 +211,7 @@ module _ (v : View) (o t : ℕ) (low : o < container_count v.shape) (table : IsT
 
     sum_is : (b : ℕ) → named_in_root b kd (suc t) put + names_box_at b kd c T row ≡ named_in_root b kd (suc t) T + names_box b kind payload
     sum_is b =
-        let s = sum_one (names_box_at b kd c put) (names_box_at b kd c T) (rows kd c) row value.low (λ q less ne. let e = word_kept kd c row q kind payload T (λ z. ne (sym z)) in λ d. names_box b (e.0 d) (e.1 d)) in
+        let s = sum_one (names_box_at b kd c put) (names_box_at b kd c T) (rows kd c) row value.low (λ q less ne. let e = word_kept (λ (x y : ℕ). x) kd c row q kind payload T (λ z. ne (sym z)) in λ d. names_box b (e.0 d) (e.1 d)) in
         let one : slice_index put place ≡ kind = get_or-set_other (set T place kind) (suc place) place payload 0 (λ z. omega (arith, z)) ∙ get_or-set_same T place kind 0 (let l = long_table in omega (arith, l)) in
         let two : slice_index put (suc place) ≡ payload = get_or-set_same (set T place kind) (suc place) payload 0 (let l = long_table in let n = length-set T place kind in omega (arith, l, n)) in
         let x : names_box_at b kd c put row ≡ names_box b kind payload = λ d. names_box b (one d) (two d) in

@@ -19,3 +19,4 @@ pub mod ValuesPut
 pub mod BoxAddresses
 pub mod BoxReady
 pub mod DoneBoxes
+pub mod NamedBoxes

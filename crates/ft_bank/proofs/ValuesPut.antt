@@ -26,21 +26,21 @@ use Rattle.ft_trace.proofs.Cases.{here, miss}
 use Rattle.ft_trace.proofs.OddVersions.{writer_has}
 use Rattle.ft_trace.proofs.Pieces.{block_at, table_long}
 use Rattle.ft_trace.proofs.PlainPuts.{FewReferences, by_root, few_after_table, few_at_first, value_careful}
-use Rattle.ft_trace.proofs.ReadTables.{read_version, value_low, version_apart}
+use Rattle.ft_trace.proofs.ReadTables.{read_version, rows_at, set_self, value_low, version_apart}
 use Rattle.ft_trace.proofs.ReferencesOfPuts.{root_now, table_now, value_refs}
 use Rattle.ft_trace.proofs.Sums.{sum_one}
 use Rattle.ft_trace.proofs.ValuePuts.{value_put, word_kept}
 use Rattle.ft_bank.specs.BoxSteps.{kind_read, payload_read, value_acts, HasReferenceFor, IsOpenValue}
-use Rattle.ft_bank.specs.SameBoxes.{named_in_words, HoldsFew, MovesReferences}
+use Rattle.ft_bank.specs.SameBoxes.{named_in_words, HoldsFew, MovesReferences, SameReferences}
 use Rattle.ft_bank.specs.Series.{noted_all}
 use Rattle.ft_bank.specs.Whole.{OnlyPut}
 use Rattle.ft_bank.specs.WriteSteps.{IsCareful, KeepsUnwritten, with_table}
 use Rattle.ft_bank.proofs.KnownAfterWrites.{put_by, put_then}
 use Rattle.ft_bank.proofs.Readying.{wide_for}
 
-is_true : (b : Bool) → (b ≡ false → ⊥) → b ≡ true
-is_true true no = refl
-is_true false no = absurd (no refl)
+pub is_true : (b : Bool) → (b ≡ false → ⊥) → b ≡ true
+is_true true never = refl
+is_true false never = absurd (never refl)
 
 -- who writes a container has its lock
 pub writer_mine : (v : View) (o : ℕ) → ∥ IsReachable v ∥₁ → is_writing o v.log ≡ true → has_lock o v.log ≡ true
@@ -90,6 +90,9 @@ module _ (v : View) (o t : ℕ) (low : o < container_count v.shape) (table : IsT
 
   raw_is : (held_words o v).table ≡ table_words k t (mem k v.log)
   raw_is = ap (λ (r : ℕ). inner k r (mem k v.log)) there
+
+  long_table : suc place < length (held_words o v).table
+  long_table = let l = ap length raw_is in let m = table_long k t (mem k v.log) in let i = inside in omega (arith, l, m, i)
 
   -- the words of a value are no version
   timely : (i x : ℕ) (committed : Bool) → (i ≡ place) ⊎ (i ≡ suc place) → Timely (version_at kd c) (rows kd c) i x committed
@@ -206,12 +209,9 @@ module _ (v : View) (o t : ℕ) (low : o < container_count v.shape) (table : IsT
     put_is : slice_set (slice_set T word kind) (word + 1) payload ≡ put
     put_is = λ d. slice_set (slice_set T (value.is d) kind) (next_is d) payload
 
-    long_table : suc place < length T
-    long_table = let l = ap length raw_is in let m = table_long k t (mem k v.log) in let i = inside in omega (arith, l, m, i)
-
     sum_is : (b : ℕ) → named_in_root b kd (suc t) put + names_box_at b kd c T row ≡ named_in_root b kd (suc t) T + names_box b kind payload
     sum_is b =
-        let s = sum_one (names_box_at b kd c put) (names_box_at b kd c T) (rows kd c) row value.low (λ q less ne. let e = word_kept kd c row q kind payload T (λ z. ne (sym z)) in λ d. names_box b (e.0 d) (e.1 d)) in
+        let s = sum_one (names_box_at b kd c put) (names_box_at b kd c T) (rows kd c) row value.low (λ q less ne. let e = word_kept (λ (x y : ℕ). x) kd c row q kind payload T (λ z. ne (sym z)) in λ d. names_box b (e.0 d) (e.1 d)) in
         let one : slice_index put place ≡ kind = get_or-set_other (set T place kind) (suc place) place payload 0 (λ z. omega (arith, z)) ∙ get_or-set_same T place kind 0 (let l = long_table in omega (arith, l)) in
         let two : slice_index put (suc place) ≡ payload = get_or-set_same (set T place kind) (suc place) payload 0 (let l = long_table in let n = length-set T place kind in omega (arith, l, n)) in
         let x : names_box_at b kd c put row ≡ names_box b kind payload = λ d. names_box b (one d) (two d) in
@@ -246,6 +246,55 @@ module _ (v : View) (o t : ℕ) (low : o < container_count v.shape) (table : IsT
         ∙ (λ d. slice_set (slice_set read (sym value.is d) a) (sym next_is d) b)))) in
         (λ d. record { block = (held d).block; table = unboxed_table (λ x y. same x y d) (kind_in (shape d).starts o) (root_in (held d)) (held d).table })
         ∙ (λ d. record { block = (held_words o v).block; table = e d })
+
+  -- ---- the payload alone, of a value in place
+  module _ (payload : ℕ) (plain : slice_index (held_words o v).table word ≢ 4) where
+    abbrev old_kind : ℕ
+    old_kind = slice_index (held_words o v).table word
+
+    kind_there : slice_index (slice_set (table_words k t (mem k v.log)) (word + 1) payload) place ≢ 4
+    kind_there four =
+        plain
+        (ap (slice_index (held_words o v).table) value.is
+        ∙ (ap (λ (l : List ℕ). slice_index l place) raw_is
+        ∙ (sym (get_or-set_other (table_words k t (mem k v.log)) (word + 1) place payload 0 (λ z. let e = next_is in omega (arith, z, e))) ∙ four)))
+
+    payload_refs : HasReferences k v.log (PutTable o t (word + 1) payload) o
+    payload_refs = value_refs k v.log o t (word + 1) payload low table next_low wide there row value.low (inr next_is) (λ four. absurd (kind_there four)) (λ b. let f = few_all b in omega (arith, f))
+
+    pub payload_careful : IsCareful v o t (word + 1) payload
+    payload_careful = careful (word + 1) payload (inr next_is) payload_refs
+
+    module _ (w : View) (shape : w.shape ≡ v.shape) (held : held_words o w ≡ with_table (held_words o v) (word + 1) payload) where
+      -- as a put of the kind that is there, and of the payload
+      held_both : held_words o w ≡ with_table (with_table (held_words o v) word old_kind) (word + 1) payload
+      held_both = held ∙ (λ d. record { block = (held_words o v).block; table = slice_set (sym (set_self (held_words o v).table word) d) (word + 1) payload })
+
+      pub payload_same : MovesReferences o v w → SameReferences v w
+      payload_same moves b =
+          let m : references_held k b w.log + names_box b old_kind payload ≡ references_held k b v.log + names_box b old_kind (slice_index (held_words o v).table (word + 1)) = value_moves old_kind payload w shape held_both moves b in
+          let x : names_box b old_kind payload ≡ 0 = miss old_kind 4 (cond (eqb payload b) 1 0) 0 plain in
+          let y : names_box b old_kind (slice_index (held_words o v).table (word + 1)) ≡ 0 = miss old_kind 4 (cond (eqb (slice_index (held_words o v).table (word + 1)) b) 1 0) 0 plain in
+          let same : references_held k b w.log ≡ references_held k b v.log = omega (arith, m, x, y) in
+          subst (λ (z : Shape). references_held z b w.log ≡ references_held k b v.log) (sym shape) same
+
+      pub payload_read_then : ((b i : ℕ) → known_box_word w.shape b i w.log ≡ known_box_word v.shape b i v.log) → held_unboxed o w ≡ with_table (held_unboxed o v) (word + 1) payload
+      payload_read_then same =
+          let box : ℕ → ℕ → ℕ = λ b i. known_box_word v.shape b i v.log in
+          let T : List ℕ = (held_words o v).table in
+          let read : List ℕ = (held_unboxed o v).table in
+          let a : kind_read v old_kind payload ≡ old_kind = miss old_kind 4 (box payload 1) old_kind plain in
+          let b : payload_read v old_kind payload ≡ payload = miss old_kind 4 (box payload 2) payload plain in
+          let here_kind : slice_index T place ≡ old_kind = ap (slice_index T) (sym value.is) in
+          let first : slice_index read word ≡ old_kind =
+          ap (slice_index read) value.is
+          ∙ (ap (λ (l : List ℕ). slice_index l place) (by_root box kd (root_in (held_words o v)) t T names)
+          ∙ ((rows_at box kd c (rows kd c) row T value.low long_table).0
+          ∙ (miss (slice_index T place) 4 (box (slice_index T (suc place)) 1) (slice_index T place) (λ z. plain (sym here_kind ∙ z)) ∙ here_kind))) in
+          let stays : slice_set read word old_kind ≡ read = ap (slice_set read word) (sym first) ∙ set_self read word in
+          value_read old_kind payload w shape held_both same
+          ∙ (λ d. record { block = (held_unboxed o v).block; table = slice_set (slice_set read word (a d)) (word + 1) (b d) })
+          ∙ (λ d. record { block = (held_unboxed o v).block; table = slice_set (stays d) (word + 1) payload })
 
 -- ---- one after the other
 

@@ -7,6 +7,7 @@ ghost use Rattle.ft_trace.specs.Addresses.{container_count, class_of, size};
 ghost use Rattle.ft_trace.specs.Acts.{has_lock, is_writing, has_committed, seen_writes, stage};
 ghost use Rattle.ft_trace.specs.Pictures.{root_in, Represents};
 ghost use Rattle.ft_trace.specs.Boxes.{names_box, references_held};
+ghost use Rattle.ft_trace.specs.BoxWords.{box_kind};
 ghost use Rattle.ft_trace.specs.ContainerStates.{kind_in};
 ghost use Rattle.ft_trace.specs.Holds.{held_words, held_unboxed, known_state, in_hand, hand_unboxed};
 ghost use Rattle.ft_trace.specs.WholeWrites.{IsNoValue};
@@ -170,6 +171,37 @@ impl Bank {
             self.put_word(pass, o, t, start, word, kind);
             self.put_word(pass, o, t, start, next, payload);
         }
+    }
+
+    /// Puts the payload alone of the value of an entry or item whose version is odd, where its kind, which lies at this
+    /// word of the table, names no box. `start` is where the table's words lie.
+    pub fn put_payload(
+        &self,
+        pass: &mut Pass,
+        o: u32,
+        t: Table,
+        start: u64,
+        word: u64,
+        payload: u64,
+    )
+        requires pass { IsPassOf self.now pass.old }
+        requires container { o < container_count (shape_of self.now) }
+        requires table { IsTableIn (shape_of self.now) t }
+        requires place { IsPlaceOf (shape_of self.now) t start }
+        requires odd { is_writing o (view pass.old).log ≡ true }
+        requires root { root_in (held_words o (view pass.old)) ≡ suc (table_id t) }
+        requires value { IsOpenValue (view pass.old) o (table_id t) word }
+        requires plain { slice_index (held_words o (view pass.old)).table word ≢ box_kind }
+        requires few { HoldsFew (view pass.old) }
+        ensures did { Did (PutTable o (table_id t) (word + 1) payload) pass.old pass.new }
+        ensures held { held_words o (view pass.new) ≡ with_table (held_words o (view pass.old)) (word + 1) payload }
+        ensures unboxed { held_unboxed o (view pass.new) ≡ with_table (held_unboxed o (view pass.old)) (word + 1) payload }
+        ensures same { SameReferences (view pass.old) (view pass.new) }
+        ensures only { OnlyPut o (view pass.old) (view pass.new) }
+        ensures keeps { KeepsUnwritten (view pass.old) (view pass.new) }
+    {
+        let next = word + 1;
+        self.put_word(pass, o, t, start, next, payload);
     }
 
     /// Puts a word of a table that is fresh in hand, counted from its header on.

@@ -33,9 +33,9 @@ use Rattle.ft_trace.proofs.Naming.{one_locked}
 use Rattle.ft_trace.proofs.NoTable.{no_table_stands}
 use Rattle.ft_bank.specs.WriteSteps.{Committed, IsShut, MayCommit, MayHave}
 use Rattle.ft_bank.specs.Whole.{EndsWrite, OnlyLoaded, Wrote}
-use Rattle.ft_bank.proofs.KnownAfterWrites.{plain_write, put_same, work_knows, write_ends}
+use Rattle.ft_bank.proofs.KnownAfterWrites.{plain_write, put_same, put_written, work_knows, write_ends}
 use Rattle.ft_trace.specs.Boxes.{IsDoneWithBoxes}
-use Rattle.ft_bank.proofs.DoneBoxes.{done_as, done_same, none_named, same_named}
+use Rattle.ft_bank.proofs.DoneBoxes.{done_none, done_same, fewer_named, none_named}
 use Rattle.ft_bank_tests.specs.SmallestWrites.{MayReverse, Reversed}
 
 -- the call
@@ -142,7 +142,7 @@ module _ (k : Shape) (l : ℕ) (v : View) (possible : ∥ IsReachable v ∥₁) 
 
       wrote_begun : seen_writes begun ≤ number → (g : ℕ) (w : View) → w ≡ view_after (StopWrite l g) c → Wrote (reversal l) reply.Done number v w × (root_in (held_words l w) ≡ 0)
       wrote_begun seen g w stopped = (
-        plain_write (reversal l) reply.Done number f v begun begun w refl may.even (put_same begun l)
+        plain_write (reversal l) reply.Done number f v begun begun w refl may.even (put_written l begun begun (put_same begun l))
             (write_ends (reversal l) reply.Done number g snap begun c c w seen is committed may.left (put_same c l)
             (ap root_in held_after)
             (subst (λ (z : Shape). Represents z.texts (held_unboxed l c) (known_state l c)) (sym shape) stands_begun)
@@ -184,6 +184,7 @@ may_loaded k l v w shape only may =
 -- a whole write of a list that has nothing moves no reference
 pub reversed_done : (l number : ℕ) (v w : View) → Reversed l number v w → IsDoneWithBoxes v.shape v.log → IsDoneWithBoxes w.shape w.log
 reversed_done l number v w r done =
-    done_as r.loaded w
-    (same_named l r.loaded w r.wrote.moves (λ b. none_named b (kind_in w.shape.starts l) (held_words l w) r.still_bare ∙ sym (none_named b (kind_in r.loaded.shape.starts l) (held_words l r.loaded) r.bare)))
-    r.wrote.made (done_same v r.loaded r.only.boxes done)
+    let loaded = done_same v r.loaded r.only.boxes done in
+    done_none r.loaded w
+    (fewer_named l r.loaded w r.wrote.loses (λ b. none_named b (kind_in w.shape.starts l) (held_words l w) r.still_bare ∙ sym (none_named b (kind_in r.loaded.shape.starts l) (held_words l r.loaded) r.bare)) (λ b. (loaded b).0))
+    r.wrote.made loaded

@@ -1,4 +1,4 @@
-use Rattle.std.proofs.Common.{◌≡◌, ℕ, ◌+◌, ◌-◌, ◌*◌, ◌<◌, ◌≤◌, refl, sym, ap, ◌∙◌, subst, arith, eqb}
+use Rattle.std.proofs.Common.{◌≡◌, ℕ, ◌+◌, ◌-◌, ◌*◌, ◌<◌, ◌≤◌, refl, sym, ap, ◌∙◌, subst, arith}
 use Rattle.ft_trace.specs.Addresses.{at, box_word}
 use Rattle.ft_trace.specs.Acts.{view_after}
 use Rattle.ft_trace.specs.Traces.{Ready}
@@ -8,11 +8,10 @@ use Rattle.ft_bank.specs.BoxSteps.{box_id}
 use Rattle.ft_bank.proofs.BoxAddresses.{box_named}
 use Rattle.ft_bank.proofs.BoxReady.{raise_shared_ready}
 use Rattle.ft_bank.proofs.BoxedSteps.{boxed_by}
-use prog.Atomic.{either}
 use Rattle.ft_bank.proofs.bank.Bank.raise_shared.Goals as goal
 
 pub exchange_as-requires-clause-act : goal.exchange_as-requires-clause-act
-exchange_as-requires-clause-act c n s = ((λ d. at (c.requires.pass.1 d) (box_word (c.name_of.ensures d) 0)) ∙ sym c.box_at-at.ensures.is, λ m. ap (λ (x : ℕ). either (eqb m c.args.old) x m) (sym c.wrapping_add.ensures))
+exchange_as-requires-clause-act c n s = ((λ d. at (c.requires.pass.1 d) (box_word (c.name_of.ensures d) 0)) ∙ sym c.box_at-at.ensures.is, λ m. refl)
 
 pub exchange_as-requires-clause-ready : goal.exchange_as-requires-clause-ready
 exchange_as-requires-clause-ready c =

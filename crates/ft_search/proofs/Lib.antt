@@ -14,6 +14,7 @@ pub mod Changing
 pub mod Deletions
 pub mod Puts
 pub mod Boxing
+pub mod Unboxing
 pub mod ReadyCommits
 pub mod Laws
 pub mod Spotting

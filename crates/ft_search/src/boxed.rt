@@ -120,6 +120,10 @@ pub fn put_over(
         with_table (with_table (held_unboxed o (view pass.old)) word kind) (word + 1) payload }
 {
     let old = bank.read_word(pass, table, start, word);
+    if old == kind {
+        bank.put_payload(pass, o, table, start, word, payload);
+        return;
+    }
     if old != BOX_KIND {
         bank.put_value(pass, o, table, start, word, kind, payload);
         return;

@@ -1,0 +1,46 @@
+use Rattle.std.proofs.Common.{◌≡◌, ℕ, ◌<◌, refl, sym, ap, ◌∙◌, subst, arith}
+use Rattle.ft_trace.specs.declared.Act.TheVariants.{DropShared, GivePlace}
+use Rattle.ft_trace.specs.declared.Shape.{Shape}
+use Rattle.ft_trace.specs.declared.View.{View}
+use Rattle.ft_trace.specs.Acts.{view_after}
+use Rattle.ft_trace.specs.Addresses.{IsBoxName}
+use Rattle.ft_trace.specs.Boxes.{made_state, place_to_give, references_held}
+use Rattle.ft_trace.proofs.Cases.{here}
+use Rattle.ft_bank.specs.BoxSteps.{box_id}
+use Rattle.ft_bank.specs.Passes.{shape_of, view}
+use Rattle.ft_bank.specs.SameBoxes.{SameMade}
+use Rattle.ft_bank.proofs.KnownAfterWrites.{boxed_then}
+use Rattle.ft_search.proofs.Unboxing.{name_in, name_is, name_low, last_is, dropped_place, given_place, dropped_one}
+use Rattle.ft_search.proofs.boxed.release.Goals as goal
+use Rattle.ft_search.proofs.boxed.release.Goals.{After-drop_shared-found}
+
+id_is : (c : After-drop_shared-found) → box_id c.box_of-b.result ≡ c.args.payload
+id_is c = name_is c.box_of-b.result c.args.payload c.box_of-b.ensures.maker c.box_of-b.ensures.place
+
+-- what the drop did
+did_is : (c : After-drop_shared-found) → view c.drop_shared-found.new.pass ≡ view_after (DropShared c.args.payload c.drop_shared-found.result) (view c.args.pass.now)
+did_is c = c.drop_shared-found.ensures.did.1 ∙ ap (λ (b : ℕ). view_after (DropShared b c.drop_shared-found.result) (view c.args.pass.now)) (id_is c)
+
+pub box_of-b-requires : goal.box_of-b-requires
+box_of-b-requires c = name_low (view c.args.pass.now) c.args.payload c.args.pass.now.possible (subst (λ (z : Shape). IsBoxName z c.args.payload) (sym c.requires.pass.1) c.requires.name)
+
+pub drop_shared-found-requires-clause-name : goal.drop_shared-found-requires-clause-name
+drop_shared-found-requires-clause-name c = name_in (shape_of c.args.bank.now) c.box_of-b.result c.args.payload c.box_of-b.ensures.maker c.box_of-b.ensures.place c.requires.name
+
+pub drop_shared-found-requires-clause-shared : goal.drop_shared-found-requires-clause-shared
+drop_shared-found-requires-clause-shared c z = c.requires.shared (sym (ap (λ (b : ℕ). made_state b (view c.args.pass.now).log) (name_is c.box_of-b.result c.args.payload c.box_of-b.ensures.maker c.box_of-b.ensures.place)) ∙ z)
+
+pub drop_shared-found-requires-clause-held : goal.drop_shared-found-requires-clause-held
+drop_shared-found-requires-clause-held c = subst (λ (b : ℕ). 0 < references_held (shape_of c.args.bank.now) b (view c.args.pass.now).log) (sym (name_is c.box_of-b.result c.args.payload c.box_of-b.ensures.maker c.box_of-b.ensures.place)) c.requires.held
+
+pub give_place-requires-clause-name : goal.give_place-requires-clause-name
+give_place-requires-clause-name c = name_in (shape_of c.args.bank.now) c.box_of-b.result c.args.payload c.box_of-b.ensures.maker c.box_of-b.ensures.place c.requires.name
+
+pub give_place-requires-clause-due : goal.give_place-requires-clause-due
+give_place-requires-clause-due c =
+    let a = c.args in
+    let id = name_is c.box_of-b.result a.payload c.box_of-b.ensures.maker c.box_of-b.ensures.place in
+    let f = c.drop_shared-found.result in
+    let n = place_to_give a.payload (view a.pass.now).log in
+    (λ d. place_to_give (id d) (did_is (goal.at.give_place-requires-clause-due c).After-drop_shared-found d).log)
+    ∙ (here a.payload a.payload _ n refl ∙ here _ 3 1 n ((last_is f c.ranges.drop_shared-found).0 c.if-found-LAST.true))

@@ -15,6 +15,7 @@ pub mod Deletions
 pub mod Puts
 pub mod Boxing
 pub mod Unboxing
+pub mod Overs
 pub mod ReadyCommits
 pub mod Laws
 pub mod Spotting

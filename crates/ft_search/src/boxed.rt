@@ -154,6 +154,6 @@ pub fn put_unboxed(bank: &Bank, pass: &mut Pass, o: u32, table: Table, start: u6
         return;
     }
     let named = bank.read_word(pass, table, start, word + 1);
-    let (kind, payload) = read_value(bank, pass, old, named);
-    put_over(bank, pass, o, table, start, word, kind, payload);
+    let read = read_value(bank, pass, old, named);
+    put_over(bank, pass, o, table, start, word, read.0, read.1);
 }

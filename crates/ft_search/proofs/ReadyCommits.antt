@@ -16,6 +16,7 @@ use Rattle.ft_trace.specs.declared.Snap.{Snap}
 use Rattle.ft_trace.specs.declared.View.{View}
 use Rattle.ft_trace.specs.Acts.{has_lock, is_writing, has_emptied, owes, view_after, seen_writes}
 use Rattle.ft_trace.specs.Addresses.{container_count, class_of, slots}
+use Rattle.ft_trace.specs.Boxes.{IsDoneWithBoxes}
 use Rattle.ft_trace.specs.Holds.{held_unboxed, known_state}
 use Rattle.ft_trace.specs.Kinds.{rows, version_at, CarefulAs, ClearAs, IsKeyed, under}
 use Rattle.ft_trace.specs.OddVersions.{Shut, Timely}
@@ -26,18 +27,20 @@ use Rattle.ft_trace.specs.WholeWrites.{Put, with_puts}
 use Rattle.ft_trace.proofs.Cases.{hit}
 use Rattle.ft_trace.proofs.Clearing.{held_shut}
 use Rattle.ft_bank.specs.declared.table.Table.{Table}
+use Rattle.ft_bank.specs.SameBoxes.{HoldsFew}
 use Rattle.ft_bank.specs.TableNames.{table_id}
 use Rattle.ft_bank.specs.WriteSteps.{Committed, IsCareful, IsShut, MayCommit, MayHave}
-use Rattle.ft_bank.specs.Whole.{OnlyPut, EndsWrite, Wrote}
-use Rattle.ft_bank.proofs.KnownAfterWrites.{work_knows, put_same, plain_write, write_ends}
+use Rattle.ft_bank.specs.Whole.{OnlyPut, OnlyWritten, EndsWrite, Wrote}
+use Rattle.ft_bank.proofs.KnownAfterWrites.{work_knows, put_same, put_written, plain_write, write_ends}
 use Rattle.ft_search.specs.OneEntryWrites.{HasTable, Leaves, MayFinish, MayWriteEntries, WritesEntries, raised_at}
 use Rattle.ft_search.proofs.Calling.{plain_replied}
 use Rattle.ft_search.proofs.Changing.{Changing}
+use Rattle.ft_search.proofs.Puts.{entry_refs}
 use Rattle.ft_trace.proofs.Opened.{shut_opens}
 
 -- ---- from the start of a write to its commit
 
-module _ (o : ℕ) (v s u : View) (f : ℕ) (begun : s ≡ view_after (StartWrite o f) v) (puts : OnlyPut o s u) where
+module _ (o : ℕ) (v s u : View) (f : ℕ) (begun : s ≡ view_after (StartWrite o f) v) (puts : OnlyWritten o s u) where
   same_known : (p : ℕ) → known_state p u ≡ known_state p v
   same_known p = work_knows s u p puts.work ∙ ap (λ (z : View). known_state p z) begun
 
@@ -105,7 +108,7 @@ module _ (o : ℕ) (v s u : View) (f : ℕ) (begun : s ≡ view_after (StartWrit
       plain_write called said number f v s u w
       (subst (λ (n : ℕ). s ≡ view_after (StartWrite n f) v) at begun)
       (subst (λ (n : ℕ). is_writing n v.log ≡ false) at even)
-      (subst (λ (n : ℕ). OnlyPut n s u) at puts)
+      (subst (λ (n : ℕ). OnlyWritten n s u) at puts)
       ends
       (subst (λ (n : ℕ). root_in (held_unboxed n u) ≡ root_in (held_unboxed n v)) at root)
 
@@ -122,8 +125,8 @@ module _ (o : ℕ) (table : Table) (place : ℕ) (called : Call) (said : Reply) 
   left_known w committed = committed.left o ∙ m.left_is committed.found committed.has
 
   -- the version of the entry may be made even
-  pub close_care : (number : ℕ) (snap : Snap) (w : View) → w ≡ view_after (Commit called said number snap) u → Committed u w called → IsCareful w o t (entry_offset n place 0) (entry_field n (held_unboxed o w).table place 0 + 1)
-  close_care number snap w is committed =
+  pub close_care : IsKeyed (kind_in u.shape.starts o) → HoldsFew u → (number : ℕ) (snap : Snap) (w : View) → w ≡ view_after (Commit called said number snap) u → Committed u w called → IsCareful w o t (entry_offset n place 0) (entry_field n (held_unboxed o w).table place 0 + 1)
+  close_care keyed few number snap w is committed =
       let made : View = view_after (Commit called said number snap) u in
       let odd = m.odd in
       let now : known_state o made ≡ m.left = subst (λ (z : View). known_state o z ≡ m.left) is (left_known w committed) in
@@ -131,7 +134,7 @@ module _ (o : ℕ) (table : Table) (place : ℕ) (called : Call) (said : Reply) 
       subst (λ (z : ContainerState). CarefulAs (kind_in u.shape.starts o) (class_of t) (held_unboxed o u).table z.content (entry_offset n place 0) (entry_field n (held_unboxed o u).table place 0 + 1)) (sym now) m.close in
       let timely : Timely (version_at (kind_in u.shape.starts o) (class_of t)) (rows (kind_in u.shape.starts o) (class_of t)) (entry_offset n place 0) (entry_field n (held_unboxed o u).table place 0 + 1) true =
       record { before = λ q less at one. absurd (omega (arith, one, odd)); later = λ q less at two. refl } in
-      let all : IsCareful made o t (entry_offset n place 0) (entry_field n (held_unboxed o made).table place 0 + 1) = record { care = care; timely = timely } in
+      let all : IsCareful made o t (entry_offset n place 0) (entry_field n (held_unboxed o made).table place 0 + 1) = record { care = care; timely = timely; references = entry_refs made o t place 0 (entry_field n (held_unboxed o made).table place 0 + 1) keyed (omega arith) (λ e. absurd (omega (arith, e))) (λ e. absurd (omega (arith, e))) few } in
       subst (λ (z : View). IsCareful z o t (entry_offset n place 0) (entry_field n (held_unboxed o z).table place 0 + 1)) (sym is) all
 
   module _ (number : ℕ) (snap : Snap) (w z : View) (is : w ≡ view_after (Commit called said number snap) u) (committed : Committed u w called) (only : OnlyPut o w z) (raised : held_unboxed o z ≡ raised_at t place (held_unboxed o w)) where
@@ -183,7 +186,7 @@ module _ (k : Shape) (o : ℕ) (v s : View) (f : ℕ) (may : MayWriteEntries k o
   pub nothing_commits : ∥ IsReachable v ∥₁ → MayCommit s called said
   nothing_commits possible =
       let same : held_unboxed o v ≡ held_unboxed o s = sym (ap (λ (z : View). held_unboxed o z) begun) in
-      may_commit o v s s f begun (put_same s o) called said (known_state o v) leaves low' may.left may.owes
+      may_commit o v s s f begun (put_written o s s (put_same s o)) called said (known_state o v) leaves low' may.left may.owes
       (λ t names. clear_same (kind_in v.shape.starts o) keyed' v.shape.texts (class_of t) (held_unboxed o s).table (known_state o v).content
       (subst (λ (z : ContainerWords). Shut (version_at (kind_in v.shape.starts o) (class_of t)) (rows (kind_in v.shape.starts o) (class_of t)) z.table) same (shut_before possible t (ap root_in same ∙ names))))
 
@@ -192,7 +195,7 @@ module _ (k : Shape) (o : ℕ) (v s : View) (f : ℕ) (may : MayWriteEntries k o
     same_held = ap (λ (z : View). held_unboxed o z) is ∙ ap (λ (z : View). held_unboxed o z) begun
 
     same_kept : known_state o w ≡ known_state o v
-    same_kept = committed.left o ∙ (leaves_later o v s s f begun (put_same s o) called said (known_state o v) leaves).left_is committed.found committed.has
+    same_kept = committed.left o ∙ (leaves_later o v s s f begun (put_written o s s (put_same s o)) called said (known_state o v) leaves).left_is committed.found committed.has
 
     pub nothing_stands : Represents k.texts (held_unboxed o w) (known_state o w)
     nothing_stands = subst (λ (x : ContainerWords × ContainerState). Represents k.texts x.0 x.1) (sym (λ d. (same_held d, same_kept d))) may.stands
@@ -217,11 +220,11 @@ module _ (k : Shape) (o : ℕ) (v s : View) (f : ℕ) (may : MayWriteEntries k o
         (subst (λ (p : ℕ). root_in (held_unboxed p w) ≡ root_in (held_unboxed p s)) at (ap (λ (z : View). root_in (held_unboxed o z)) is))
         (subst (λ (p : ℕ). Represents s.shape.texts (held_unboxed p w) (known_state p w)) at stands)
         (subst (λ (p : ℕ). x ≡ view_after (StopWrite p stop) w) at stopped) in
-        whole_write o v s s f begun (put_same s o) called said number x leaves.changed may.even ends (ap (λ (z : View). root_in (held_unboxed o z)) begun)
+        whole_write o v s s f begun (put_written o s s (put_same s o)) called said number x leaves.changed may.even ends (ap (λ (z : View). root_in (held_unboxed o z)) begun)
 
 -- ---- a write that changes one entry
 
-module _ (k : Shape) (o : ℕ) (table : Table) (v s u : View) (f : ℕ) (may : MayWriteEntries k o v) (shape : v.shape ≡ k) (begun : s ≡ view_after (StartWrite o f) v) (only : OnlyPut o s u) (place : ℕ) (early : List Put) (left : ContainerState) (change : Changing k.texts (table_id table) (held_unboxed o v) (known_state o v) place early left)
+module _ (k : Shape) (o : ℕ) (table : Table) (v s u : View) (f : ℕ) (may : MayWriteEntries k o v) (shape : v.shape ≡ k) (begun : s ≡ view_after (StartWrite o f) v) (only : OnlyWritten o s u) (place : ℕ) (early : List Put) (left : ContainerState) (change : Changing k.texts (table_id table) (held_unboxed o v) (known_state o v) place early left)
     (kind_eq : kind_of (known_state o v).content ≡ kind_in k.starts o) (words : held_unboxed o u ≡ with_puts (held_unboxed o v) early) (root : root_in (held_unboxed o u) ≡ suc (table_id table)) (called : Call) (said : Reply) (leaves : Leaves o called said left v) where
   abbrev c' : ℕ
   c' = class_of (table_id table)
@@ -268,4 +271,5 @@ writes_begun k o table v s f begun may has = record {
   locked = ap (λ (z : View). has_lock o z.log) begun ∙ may.locked;
   odd = ap (λ (z : View). is_writing o z.log) begun ∙ hit o true (is_writing o v.log);
   root = ap (λ (z : View). root_in (held_unboxed o z)) begun ∙ has.root;
+  boxes = subst (λ (z : View). IsDoneWithBoxes k z.log) (sym begun) may.boxes;
 }

@@ -19,7 +19,7 @@ use Rattle.ft_trace.specs.Pictures.{ContainerWords, root_in, entry_offset, entry
 use Rattle.ft_trace.specs.Kinds.{under, rows, version_at, CarefulAs, IsKeyed}
 use Rattle.ft_trace.specs.Carefuls.{Careful}
 use Rattle.ft_trace.specs.OddVersions.{Timely}
-use Rattle.ft_trace.specs.Boxes.{known_box_word, references_held, IsDoneWithBoxes}
+use Rattle.ft_trace.specs.Boxes.{value_at, known_box_word, references_held, IsDoneWithBoxes}
 use Rattle.ft_trace.specs.Holds.{held_words, held_unboxed}
 use Rattle.ft_trace.specs.Unboxed.{unboxed_table}
 use Rattle.ft_trace.specs.Traces.{IsReachable}
@@ -27,7 +27,8 @@ use Rattle.ft_trace.proofs.ByKind.{keyed_fit}
 use Rattle.ft_trace.proofs.Held.{table_known}
 use Rattle.ft_trace.proofs.Lows.{lows}
 use Rattle.ft_trace.proofs.NoWrap.{counter_room}
-use Rattle.ft_trace.proofs.ReadTables.{read_version}
+use Rattle.ft_trace.proofs.PlainPuts.{by_root}
+use Rattle.ft_trace.proofs.ReadTables.{read_entry, read_version}
 use Rattle.ft_trace.proofs.ValuePlaces.{keyed_far}
 use Rattle.ft_bank.specs.declared.table.Table.{Table}
 use Rattle.ft_bank.specs.TableNames.{table_id, IsTableIn}
@@ -70,6 +71,14 @@ few_done k v shape done b = let e = (subst (λ (z : Shape). IsDoneWithBoxes z v.
 -- a word of an entry that is no value's needs none
 pub entry_refs : (v : View) (o t place w x : ℕ) → IsKeyed (kind_in v.shape.starts o) → w < 8 → w ≢ 4 → w ≢ 5 → HoldsFew v → HasReferencesFor v o t (entry_offset (slots (class_of t)) place w) x
 entry_refs v o t place w x keyed few not4 not5 holds = inl (keyed_far (kind_in v.shape.starts o) keyed (class_of t) place w few not4 not5, holds)
+
+-- and reads as it stands
+pub entry_reads : (v : View) (o t place w : ℕ) → IsKeyed (kind_in v.shape.starts o) → root_in (held_words o v) ≡ suc t → w < 8 → w ≢ 4 → w ≢ 5 → entry_field (slots (class_of t)) (held_unboxed o v).table place w ≡ entry_field (slots (class_of t)) (held_words o v).table place w
+entry_reads v o t place w keyed names few not4 not5 =
+    let box : ℕ → ℕ → ℕ = λ b i. known_box_word v.shape b i v.log in
+    let kd : Kind = kind_in v.shape.starts o in
+    ap (λ (l : List ℕ). slice_index l (entry_offset (slots (class_of t)) place w)) (by_root box kd (root_in (held_words o v)) t (held_words o v).table names)
+    ∙ read_entry box (class_of t) (rows kd (class_of t)) (held_words o v).table kd keyed place w few not4 not5
 
 -- the pass is done with boxes still
 pub done_then : (k : Shape) (v w : View) → v.shape ≡ k → w.shape ≡ v.shape → SameReferences v w → SameMade v w → IsDoneWithBoxes k v.log → IsDoneWithBoxes k w.log
@@ -120,6 +129,12 @@ keyed_version kind.Dict keyed c p = refl
 keyed_version kind.Set keyed c p = refl
 keyed_version kind.List keyed c p = absurd keyed
 keyed_version (kind.Deque bound) keyed c p = absurd keyed
+
+pub keyed_value : (kind : Kind) → IsKeyed kind → (c p : ℕ) → value_at kind c p ≡ entry_offset (slots c) p 4
+keyed_value kind.Dict keyed c p = refl
+keyed_value kind.Set keyed c p = refl
+keyed_value kind.List keyed c p = absurd keyed
+keyed_value (kind.Deque bound) keyed c p = absurd keyed
 
 pub keyed_careful : (kind : Kind) → IsKeyed kind → (c : ℕ) (ws : List ℕ) (d : Content) (i x : ℕ) → Careful (slots c) (rows kind c) ws (under d) i x → CarefulAs kind c ws d i x
 keyed_careful kind.Dict keyed c ws d i x care = care

@@ -1,5 +1,6 @@
 -- What the deletion of an entry of a dict or a set leaves of its words, and that readers aren't misled by it.
 use Rattle.std.proofs.Common.{◌≡◌, ◌≢◌, ℕ, suc, ◌+◌, ◌-◌, ◌*◌, ◌%◌, ◌<◌, ◌≤◌, false, true≢false, List, [], ◌∷◌, length, Option, Some, refl, sym, ap, ◌∙◌, subst, arith, get_or-set_same, get_or-set_other}
+use Rattle.std.proofs.lemmas.Option.{get_or_from_slice_get, slice_get_within}
 use Rattle.std.specs.Prelude.{All, IsTrue, slice_index, slice_set, slice_get}
 use Rattle.ft_model.specs.declared.content.Content.{Content}
 use Rattle.ft_model.specs.declared.content.Content.TheVariants as content
@@ -13,8 +14,8 @@ use Rattle.ft_model.specs.TableUses.{TableUse}
 use Rattle.ft_model.specs.Worlds.{kind_of}
 use Rattle.ft_hash.specs.Probes.{dict_slots, set_slots}
 use Rattle.ft_hash.proofs.Walks.{dict_slots-within, set_slots-within}
-use Rattle.ft_layout.specs.Words.{FitsKey, gone_kind, key_kind, key_payload}
-use Rattle.ft_layout.specs.Tables.{UsedEntry, IsTable, is_live, dict_room, set_room}
+use Rattle.ft_layout.specs.Words.{FitsKey, gone_kind, key_kind, key_payload, IsEntry}
+use Rattle.ft_layout.specs.Tables.{UsedEntry, IsTable, is_live, dict_room, set_room, entry_word, hash_of, slot_of, slot_with}
 use Rattle.ft_layout.specs.Tables as layout
 use Rattle.ft_layout.specs.WordChanges.{with_deleted}
 use Rattle.ft_layout.specs.Containers.{class_mask, used_pair, used_element, IsBlock, IsDictWords, IsSetWords}
@@ -40,8 +41,8 @@ use Rattle.ft_trace.proofs.EntryPuts.{dead_open, dead_kind, dead_same, dead_late
 use Rattle.ft_trace.proofs.FitCalls.{dict_fits_words, set_fits_words}
 use Rattle.ft_trace.proofs.KeysDeleted as deleted
 use Rattle.ft_trace.proofs.SetDiscards as discarded
-use Rattle.ft_trace.proofs.Known.{after_header, class_known, table_is_long}
-use Rattle.ft_trace.proofs.ValuePlaces.{keyed_far}
+use Rattle.ft_trace.proofs.Known.{after_header, class_known, past_header, table_is_long}
+use Rattle.ft_trace.proofs.ValuePlaces.{keyed_far, plain_kind}
 use Rattle.ft_bank.specs.declared.table.Table.{Table}
 use Rattle.ft_bank.specs.BoxSteps.{IsOpenValue}
 use Rattle.ft_bank.specs.SameBoxes.{SameReferences}
@@ -85,6 +86,7 @@ record Entries (texts : List ℕ) (t : ℕ) (tab : TableUse) : Type 1 where
   clear : (block before : List ℕ) (had news : Had) (ws zs : List ℕ) → IsWords before (0 ∷ 0 ∷ ws) had → IsWords block (0 ∷ 0 ∷ zs) news
       → ((q w : ℕ) → q < rows (kind_of (content_of had)) (class_of t) → entry_field (slots (class_of t)) zs q 0 % 2 ≡ 0 → w < 8 → entry_field (slots (class_of t)) zs q w ≡ entry_field (slots (class_of t)) ws q w) → OpensChanged (slots (class_of t)) (rows (kind_of (content_of had)) (class_of t)) zs (under (content_of had)) (under (content_of news)) → ClearAs (kind_of (content_of had)) texts (class_of t) zs (content_of had) (content_of news)
   there : (block ws : List ℕ) (had : Had) → IsWords block (0 ∷ 0 ∷ ws) had → (place : ℕ) (key : Key) → place < rows (kind_of (content_of had)) (class_of t) → HasLiveKey (slots (class_of t)) ws place key → under (content_of had) key ≡ said_of (slots (class_of t)) ws place
+  plain : (item : Item) (hash : ℕ) (word : ℕ → ℕ) → IsEntry word (slot_with hash (used_item item).key (used_item item).serial (used_item item).stored) → word 4 ≢ 4
   gone : (block words : List ℕ) (had : Had) → IsWords block words had → (key other : Key) → FitsKey key → (key_kind other ≡ key_kind key) × (key_payload other ≡ key_payload key) → under (content_of (without had key)) other ≡ []
 
 abbrev dict_entries : DictLaws → (texts : List ℕ) (t : ℕ) (tab : TableUse) → IsClass (class_of t) → tab.class ≡ Some (class_of t) → Entries texts t tab
@@ -113,6 +115,7 @@ dict_entries laws texts t tab is_class class_eq = record {
   deleted = λ block words other. laws.deletes texts block words other (class_of t) tab.fill;
   clear = λ block before. dict.dict_clear laws.first texts block before (class_of t) tab.fill tab.fill is_class;
   there = λ block ws had is. dict.dict_right laws.first texts block (class_of t) tab.fill is_class had ws is;
+  plain = λ item hash word is four. plain_kind item.value (sym is.value.kind_is ∙ four);
   gone = λ block words had is key other fits. deleted.none_under had key other fits (dict_fits_words texts block words (class_of t) tab.fill had is);
 }
 
@@ -142,6 +145,7 @@ set_entries laws texts t tab is_class class_eq = record {
   deleted = λ block words other. laws.deletes texts block words other (class_of t) tab.fill;
   clear = λ block before. set.set_clear laws.first texts block before (class_of t) tab.fill tab.fill is_class;
   there = λ block ws had is. set.set_right laws.first texts block (class_of t) tab.fill is_class had ws is;
+  plain = λ item hash word is four. let z : 0 ≡ 4 = sym is.value.kind_is ∙ four in absurd (omega (arith, z));
   gone = λ block words had is key other fits. discarded.none_under had key other fits (set_fits_words texts block words (class_of t) tab.fill had is);
 }
 
@@ -205,6 +209,19 @@ module _ (texts : List ℕ) (x : ContainerWords) (tab : TableUse) (t : ℕ) (is_
   mine : (item : e.Item) × (slice_get (e.used b (0 ∷ 0 ∷ ws) had says) p ≡ Some (e.used_item item)) × ((e.used_item item).key ≡ key)
   mine = let room = e.room_is b ws had says in live_item e.walk e.room texts c is_class (e.used b (0 ∷ 0 ∷ ws) had says) e.used_item ws (e.table b (0 ∷ 0 ∷ ws) had says) p key (omega (arith, room, low)) live fits (e.lives b (0 ∷ 0 ∷ ws) had says p)
 
+  -- its value names no box
+  plain_value : entry_field n ws p 4 ≢ 4
+  unfolding slots
+  plain_value four =
+      let used = e.used b (0 ∷ 0 ∷ ws) had says in
+      let entry = e.used_item mine.0 in
+      let table = e.table b (0 ∷ 0 ∷ ws) had says in
+      let word = entry_word (class_mask c) (0 ∷ 0 ∷ ws) p in
+      let is : IsEntry word (slot_of texts entry) = subst (λ (z : UsedEntry). IsEntry word (slot_of texts z)) (get_or_from_slice_get used p entry entry mine.1) (table.entries p entry (slice_get_within used p entry mine.1)) in
+      let r = (slots_range c is_class).0 in
+      let same : word 4 ≡ entry_field n ws p 4 = past_header ws (layout.entry_at (class_mask c) p 4) (entry_offset n p 4) (omega (arith, r)) in
+      e.plain mine.0 (hash_of texts entry.key) word is (same ∙ four)
+
   -- a version that is put into an entry changes nothing
   renewed : (block l : List ℕ) (y : ℕ) (some : e.Had) (is : e.IsWords block (0 ∷ 0 ∷ l) some) → (now : e.IsWords block (0 ∷ 0 ∷ slice_set l (entry_offset n p 0) y) some) × (e.used block (0 ∷ 0 ∷ slice_set l (entry_offset n p 0) y) some now ≡ e.used block (0 ∷ 0 ∷ l) some is)
   renewed block l y some is = e.renewed block (0 ∷ 0 ∷ l) (0 ∷ 0 ∷ slice_set l (entry_offset n p 0) y) some is (table_version_put e.walk e.room texts c is_class (e.used block (0 ∷ 0 ∷ l) some is) e.versions e.within l p y (e.table block (0 ∷ 0 ∷ l) some is))
@@ -261,7 +278,7 @@ module _ (texts : List ℕ) (x : ContainerWords) (tab : TableUse) (t : ℕ) (is_
       (λ bare. let x : said_of n ws p ≡ [] = sym (e.there b ws had says p key low live) ∙ bare in absurd (cc))
       (e.gone b (0 ∷ 0 ∷ ws) had says key key fits (refl, refl))
 
-  key_deleted : Changing texts t x (record { content = old; table = tab }) p (deletion t p key x) (record { content = e.content_of news; table = tab }) × (0 < slice_index b 1)
+  key_deleted : Changing texts t x (record { content = old; table = tab }) p (deletion t p key x) (record { content = e.content_of news; table = tab }) × (0 < slice_index b 1) × (entry_field n ws p 4 ≢ 4)
   key_deleted = (
     record {
       puts = early;
@@ -271,14 +288,15 @@ module _ (texts : List ℕ) (x : ContainerWords) (tab : TableUse) (t : ℕ) (is_
       stands = e.stands (raised_at t p (record { block = block; table = put })) news (renewed block put (entry_field n put p 0 + 1) news now).0;
       shut = shut_then;
     },
-    let s = shorter in omega (arith, s),
+    (let s = shorter in omega (arith, s)),
+    plain_value,
   )
 
 -- ---- by the kind of the content
 
 module _ (dicts : DictLaws) (sets : SetLaws) (texts : List ℕ) (x : ContainerWords) (t : ℕ) (is_class : IsClass (class_of t)) (names : root_in x ≡ suc t) (long : length x.table ≡ size (class_of t)) (p : ℕ) (key : Key) (live : HasLiveKey (slots (class_of t)) x.table p key) (fits : FitsKey key) where
   pub deletes : (c : Content) (tab : TableUse) → IsKeyed (kind_of c) → Represents texts x (record { content = c; table = tab }) → p < rows (kind_of c) (class_of t) → Shut (version_at (kind_of c) (class_of t)) (rows (kind_of c) (class_of t)) x.table
-      → Changing texts t x (record { content = c; table = tab }) p (deletion t p key x) (record { content = without_key c key; table = tab }) × (0 < slice_index x.block 1)
+      → Changing texts t x (record { content = c; table = tab }) p (deletion t p key x) (record { content = without_key c key; table = tab }) × (0 < slice_index x.block 1) × (entry_field (slots (class_of t)) x.table p 4 ≢ 4)
   deletes (content.Dict pairs) tab keyed stands low shut =
       let class = class_known texts x (record { content = content.Dict pairs; table = tab }) t stands names in
       let says : IsDictWords texts x.block (0 ∷ 0 ∷ x.table) (Some (class_of t)) tab.fill pairs = subst (λ (z : Option ℕ). IsDictWords texts x.block (0 ∷ 0 ∷ x.table) z tab.fill pairs) class stands in
@@ -292,7 +310,7 @@ module _ (dicts : DictLaws) (sets : SetLaws) (texts : List ℕ) (x : ContainerWo
 
 -- as the pass knows the container
 pub deletes_known : DictLaws → SetLaws → (k : Shape) (o : ℕ) (table : Table) (v : View) → v.shape ≡ k → ∥ IsReachable v ∥₁ → MayWriteEntries k o v → HasTable k o table v → (place : ℕ) (key : Key) → IsLiveEntry k o table place key v
-    → Changing k.texts (table_id table) (held_unboxed o v) (known_state o v) place (deletion (table_id table) place key (held_unboxed o v)) (record { content = without_key (known_state o v).content key; table = (known_state o v).table }) × (0 < slice_index (held_unboxed o v).block 1)
+    → Changing k.texts (table_id table) (held_unboxed o v) (known_state o v) place (deletion (table_id table) place key (held_unboxed o v)) (record { content = without_key (known_state o v).content key; table = (known_state o v).table }) × (0 < slice_index (held_unboxed o v).block 1) × (entry_field (slots (class_of (table_id table))) (held_unboxed o v).table place 4 ≢ 4)
 deletes_known dicts sets k o table v shape possible may has place key entry =
     let t = table_id table in
     let kind_eq : kind_of (known_state o v).content ≡ kind_in k.starts o = kind_is k v o shape possible may.locked in

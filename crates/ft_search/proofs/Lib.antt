@@ -16,6 +16,7 @@ pub mod Puts
 pub mod Boxing
 pub mod Unboxing
 pub mod Overs
+pub mod SearchedReads
 pub mod ReadyCommits
 pub mod Laws
 pub mod Spotting

@@ -1,7 +1,8 @@
 -- A search on the words that a pass knows of a table ended as it does on what they read: no value's word tells it
 -- anything.
-use Rattle.std.proofs.Common.{◌≡◌, ◌≢◌, ◌⊎◌, ℕ, suc, ◌+◌, ◌*◌, ◌^◌, ◌<◌, ◌≤◌, List, ◌∷◌, ◌++◌, length, All, Contains, get_or, refl, sym, ap, ◌∙◌, subst, inl, inr, ⊎_elim, arith}
+use Rattle.std.proofs.Common.{◌≡◌, ◌≢◌, ◌⊎◌, ℕ, suc, ◌+◌, ◌*◌, ◌^◌, ◌<◌, ◌≤◌, true, List, ◌∷◌, ◌++◌, length, All, Contains, get_or, refl, sym, ap, ◌∙◌, subst, inl, inr, ⊎_elim, arith}
 use Rattle.std.specs.Prelude.{slice_index}
+use Rattle.std.proofs.lemmas.Bool.{cases_lt}
 use Rattle.std.proofs.lemmas.List.{get_or_append_left, length-append}
 use Rattle.std.proofs.lemmas.List.Elements.{All-contains, Contains-append_right}
 use Rattle.ft_hash.specs.Probes.{IsMask}
@@ -20,19 +21,25 @@ use Rattle.ft_keys.proofs.Finding.{finds-rightly}
 use Rattle.ft_keys.proofs.Reaching.{walk-within}
 use Rattle.ft_trace.specs.declared.Shape.{Shape}
 use Rattle.ft_trace.specs.declared.View.{View}
-use Rattle.ft_trace.specs.Addresses.{class_of, slots}
-use Rattle.ft_trace.specs.Boxes.{known_box_word}
+use Rattle.ft_trace.specs.Acts.{has_lock}
+use Rattle.ft_trace.specs.Addresses.{class_of, container_count, slots}
+use Rattle.ft_trace.specs.Boxes.{value_at, known_box_word}
 use Rattle.ft_trace.specs.ContainerStates.{kind_in}
 use Rattle.ft_trace.specs.Holds.{held_words, held_unboxed}
 use Rattle.ft_trace.specs.Kinds.{rows, IsKeyed}
 use Rattle.ft_trace.specs.Pictures.{root_in, entry_offset}
+use Rattle.ft_trace.specs.Traces.{IsReachable}
 use Rattle.ft_trace.proofs.PlainPuts.{by_root}
-use Rattle.ft_trace.proofs.ReadTables.{read_index}
+use Rattle.ft_trace.proofs.ReadTables.{read_index, rows_else, value_low}
 use Rattle.ft_bank.specs.declared.table.Table.{Table}
+use Rattle.ft_bank.specs.BoxSteps.{kind_read, payload_read}
 use Rattle.ft_bank.specs.TableNames.{table_id, IsTableIn}
+use Rattle.ft_bank.proofs.NamedBoxes.{named_is_box, named_is_known}
+use Rattle.ft_search.specs.Boxed.{IsKnownBox}
 use Rattle.ft_search.specs.Rounds.{kind_by}
 use Rattle.ft_search.proofs.KnownTableWords.{after_header, entry_after_header}
-use Rattle.ft_search.proofs.Puts.{entry_reads}
+use Rattle.ft_search.proofs.Puts.{entry_reads, keyed_value, table_class}
+use Rattle.ft_search.proofs.Unboxing.{raw_table_long, reads_plain, row_reads}
 use Rattle.ft_search.proofs.WordPlaces.{entry_is, mask_is, slots_is}
 
 module _ (mask : ℕ) (raw read : List ℕ) (key : Key) (index : (s : ℕ) → s ≤ mask → index_word read s ≡ index_word raw s) (entry : (p w : ℕ) → (w ≡ 2) ⊎ (w ≡ 3) → entry_word mask read p w ≡ entry_word mask raw p w) where
@@ -105,3 +112,77 @@ searched_reads v o k table mask hash way key left found keyed in_bank last names
 pub way_keyed : (w : Way) → IsKeyed (kind_by w)
 way_keyed way.Dict = tt
 way_keyed way.Set = tt
+
+-- ---- the value of the entry at which a search ended
+
+module _ (v : View) (o : ℕ) (k : Shape) (table : Table) (mask place : ℕ) (keyed : IsKeyed (kind_in v.shape.starts o)) (in_bank : IsTableIn k table) (last : mask ≡ class_mask table.class) (names : root_in (held_words o v) ≡ suc (table_id table)) where
+  abbrev t : ℕ
+  t = table_id table
+
+  abbrev T : List ℕ
+  T = (held_words o v).table
+
+  abbrev R : List ℕ
+  R = (held_unboxed o v).table
+
+  abbrev kd : Kind
+  kd = kind_in v.shape.starts o
+
+  abbrev at4 : ℕ
+  at4 = entry_offset (slots (class_of t)) place 4
+
+  abbrev at5 : ℕ
+  at5 = entry_offset (slots (class_of t)) place 5
+
+  next_is : at4 + 1 ≡ at5
+  next_is = omega arith
+
+  -- a word of an entry, after the header
+  pub word_at : (l : List ℕ) (w : ℕ) → entry_word mask (0 ∷ 0 ∷ l) place w ≡ slice_index l (entry_offset (slots (class_of t)) place w)
+  word_at l w = entry_after_header l mask place w ∙ ap (slice_index l) (entry_is k table mask place w in_bank last)
+
+  -- an entry of the table
+  module _ (low : place < rows kd (class_of t)) where
+    pub row_is : (slice_index R at4 ≡ kind_read v (slice_index T at4) (slice_index T at5)) × (slice_index R at5 ≡ payload_read v (slice_index T at4) (slice_index T at5))
+    row_is =
+        let is = sym (keyed_value kd keyed (class_of t) place) in
+        let inside = value_low kd (class_of t) place (table_class k table in_bank) low in
+        let whole = raw_table_long v o t names in
+        let long : at4 + 1 < length T = omega (arith, inside, is, whole) in
+        let r = row_reads v o t at4 place names low is long in
+        (r.0 ∙ (λ d. kind_read v (slice_index T at4) (slice_index T (next_is d))), ap (slice_index R) (sym next_is) ∙ (r.1 ∙ (λ d. payload_read v (slice_index T at4) (slice_index T (next_is d)))))
+
+    -- the box that its value names is known
+    pub known_there : ∥ IsReachable v ∥₁ → o < container_count v.shape → has_lock o v.log ≡ true → slice_index T at4 ≡ 4 → IsKnownBox v (slice_index T at5)
+    known_there possible here mine four =
+        let is = keyed_value kd keyed (class_of t) place in
+        let stands : slice_index T (value_at kd (class_of t) place) ≡ 4 = ap (slice_index T) is ∙ four in
+        let next : suc (value_at kd (class_of t) place) ≡ at5 = omega (arith, is) in
+        let name = named_is_box v o t place possible here mine names low stands in
+        let known = named_is_known v o t place possible here mine names low stands in
+        subst (λ (i : ℕ). IsKnownBox v (slice_index T i)) next (name, known.0, known.1)
+
+  -- a place past the entries
+  past_rows : rows kd (class_of t) ≤ place → (w : ℕ) → w < 8 → slice_index R (entry_offset (slots (class_of t)) place w) ≡ slice_index T (entry_offset (slots (class_of t)) place w)
+  past_rows far w few =
+      let box : ℕ → ℕ → ℕ = λ b i. known_box_word v.shape b i v.log in
+      ap (λ (l : List ℕ). slice_index l (entry_offset (slots (class_of t)) place w)) (by_root box kd (root_in (held_words o v)) t T names)
+      ∙ rows_else box kd (class_of t) (rows kd (class_of t)) (entry_offset (slots (class_of t)) place w) T
+      (λ q less. let e = keyed_value kd keyed (class_of t) q in ((λ z. omega (arith, z, e, less, far)), (λ z. omega (arith, z, e, less, far))))
+
+  pub stands_past : rows kd (class_of t) ≤ place → (slice_index T at4 ≡ entry_word mask (0 ∷ 0 ∷ R) place 4) × (slice_index T at5 ≡ entry_word mask (0 ∷ 0 ∷ R) place 5)
+  stands_past far = (sym (word_at R 4 ∙ past_rows far 4 (omega arith)), sym (word_at R 5 ∙ past_rows far 5 (omega arith)))
+
+  -- a value in place
+  pub stands_plain : slice_index T at4 ≢ 4 → (slice_index T at4 ≡ entry_word mask (0 ∷ 0 ∷ R) place 4) × (slice_index T at5 ≡ entry_word mask (0 ∷ 0 ∷ R) place 5)
+  stands_plain ne =
+      ⊎_elim
+      (λ (low : place < rows kd (class_of t)).
+      let r = row_is low in
+      let p = reads_plain v (slice_index T at4) (slice_index T at5) ne in
+      (sym (word_at R 4 ∙ (r.0 ∙ p.0)), sym (word_at R 5 ∙ (r.1 ∙ p.1))))
+      (λ (far : rows kd (class_of t) ≤ place). stands_past far)
+      (cases_lt place (rows kd (class_of t)))
+
+  pub stands_boxed : place < rows kd (class_of t) → (kind_read v (slice_index T at4) (slice_index T at5) ≡ entry_word mask (0 ∷ 0 ∷ R) place 4) × (payload_read v (slice_index T at4) (slice_index T at5) ≡ entry_word mask (0 ∷ 0 ∷ R) place 5)
+  stands_boxed low = let r = row_is low in (sym (word_at R 4 ∙ r.0), sym (word_at R 5 ∙ r.1))

@@ -22,7 +22,8 @@ use Rattle.ft_trace.specs.Unboxed.{unboxed_kind, unboxed_payload, unboxed_table}
 use Rattle.ft_trace.proofs.Announcing.{fits}
 use Rattle.ft_trace.proofs.Cases.{here, hit, miss}
 use Rattle.ft_trace.proofs.PlainPuts.{by_root}
-use Rattle.ft_trace.proofs.ReadTables.{rows_at, set_self}
+use Rattle.ft_trace.proofs.Known.{table_is_long}
+use Rattle.ft_trace.proofs.ReadTables.{rows_at, rows_long, set_self}
 use Rattle.ft_bank.specs.BoxSteps.{box_id, kind_read, payload_read, IsBoxIn, IsOpenValue}
 use Rattle.ft_bank.specs.SameBoxes.{SameMade, SameReferences}
 use Rattle.ft_bank.specs.WriteSteps.{with_table}
@@ -59,8 +60,16 @@ reads_boxed v kind payload four = (
   here kind 4 (known_box_word v.shape payload 2 v.log) payload four,
 )
 
+-- a table is as long as its class says
+pub raw_table_long : (v : View) (o t : ℕ) → root_in (held_words o v) ≡ suc t → length (held_words o v).table ≡ size (class_of t)
+raw_table_long v o t names =
+    let kd : Kind = kind_in v.shape.starts o in
+    let box : ℕ → ℕ → ℕ = λ b i. known_box_word v.shape b i v.log in
+    sym (ap (λ (r : ℕ). length (unboxed_table box kd r (held_words o v).table)) names ∙ rows_long box kd (class_of t) (rows kd (class_of t)) (held_words o v).table)
+    ∙ table_is_long v o t names
+
 -- the two words of the value in a row read so
-module _ (v : View) (o t word : ℕ) (names : root_in (held_words o v) ≡ suc t) (open_ : IsOpenValue v o t word) (long : word + 1 < length (held_words o v).table) where
+module _ (v : View) (o t word row : ℕ) (names : root_in (held_words o v) ≡ suc t) (low : row < rows (kind_in v.shape.starts o) (class_of t)) (is : word ≡ value_at (kind_in v.shape.starts o) (class_of t) row) (long : word + 1 < length (held_words o v).table) where
   abbrev kd : Kind
   kd = kind_in v.shape.starts o
 
@@ -70,17 +79,21 @@ module _ (v : View) (o t word : ℕ) (names : root_in (held_words o v) ≡ suc t
   abbrev R : List ℕ
   R = (held_unboxed o v).table
 
-  pub word_reads : (slice_index R word ≡ kind_read v (slice_index T word) (slice_index T (word + 1))) × (slice_index R (word + 1) ≡ payload_read v (slice_index T word) (slice_index T (word + 1)))
-  word_reads =
+  pub row_reads : (slice_index R word ≡ kind_read v (slice_index T word) (slice_index T (word + 1))) × (slice_index R (word + 1) ≡ payload_read v (slice_index T word) (slice_index T (word + 1)))
+  row_reads =
       let box : ℕ → ℕ → ℕ = λ b i. known_box_word v.shape b i v.log in
-      let at = open_.is in
-      let next : word + 1 ≡ suc (value_at kd (class_of t) open_.row) = omega (arith, at) in
+      let next : word + 1 ≡ suc (value_at kd (class_of t) row) = omega (arith, is) in
       let whole = by_root box kd (root_in (held_words o v)) t T names in
-      let inside : suc (value_at kd (class_of t) open_.row) < length T = omega (arith, long, next) in
-      let r = rows_at box kd (class_of t) (rows kd (class_of t)) open_.row T open_.low inside in (
-        (λ d. slice_index (whole d) (at d)) ∙ (r.0 ∙ sym (λ d. unboxed_kind box (slice_index T (at d)) (slice_index T (next d)))),
-        (λ d. slice_index (whole d) (next d)) ∙ (r.1 ∙ sym (λ d. unboxed_payload box (slice_index T (at d)) (slice_index T (next d)))),
+      let inside : suc (value_at kd (class_of t) row) < length T = omega (arith, long, next) in
+      let r = rows_at box kd (class_of t) (rows kd (class_of t)) row T low inside in (
+        (λ d. slice_index (whole d) (is d)) ∙ (r.0 ∙ sym (λ d. unboxed_kind box (slice_index T (is d)) (slice_index T (next d)))),
+        (λ d. slice_index (whole d) (next d)) ∙ (r.1 ∙ sym (λ d. unboxed_payload box (slice_index T (is d)) (slice_index T (next d)))),
       )
+
+pub word_reads : (v : View) (o t word : ℕ) → root_in (held_words o v) ≡ suc t → IsOpenValue v o t word → word + 1 < length (held_words o v).table
+    → (slice_index (held_unboxed o v).table word ≡ kind_read v (slice_index (held_words o v).table word) (slice_index (held_words o v).table (word + 1)))
+    × (slice_index (held_unboxed o v).table (word + 1) ≡ payload_read v (slice_index (held_words o v).table word) (slice_index (held_words o v).table (word + 1)))
+word_reads v o t word names open_ long = row_reads v o t word open_.row names open_.low open_.is long
 
 -- words that are put over by themselves
 pub put_again : (x : ContainerWords) (word kind payload : ℕ) → kind ≡ slice_index x.table word → payload ≡ slice_index x.table (word + 1) → with_table (with_table x word kind) (word + 1) payload ≡ x

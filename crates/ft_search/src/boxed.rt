@@ -88,9 +88,10 @@ pub fn release(bank: &Bank, pass: &mut Pass, payload: u64)
 {
     let b = box_of(payload);
     let found = bank.drop_shared(pass, b);
-    if found == LAST {
-        bank.give_place(pass, b);
+    if found != LAST {
+        return;
     }
+    bank.give_place(pass, b);
 }
 
 /// Puts a value over that of an entry or item whose version is odd, whose kind lies at this word of the table. Where the
@@ -124,12 +125,11 @@ pub fn put_over(
         bank.put_payload(pass, o, table, start, word, payload);
         return;
     }
-    if old != BOX_KIND {
-        bank.put_value(pass, o, table, start, word, kind, payload);
-        return;
-    }
     let named = bank.read_word(pass, table, start, word + 1);
     bank.put_value(pass, o, table, start, word, kind, payload);
+    if old != BOX_KIND {
+        return;
+    }
     release(bank, pass, named);
 }
 

@@ -81,10 +81,14 @@ impl<'a> TableWords<'a> {
             Found::At(_, place) => {
                 let kind = self.entry(place, VALUE_KIND);
                 let payload = self.entry(place, VALUE);
-                if kind == BOX_KIND && place < entries_of(way, self.table.class) {
-                    return Some(read_value(self.bank, self.pass, kind, payload));
+                if kind != BOX_KIND {
+                    return Some((kind, payload));
                 }
-                Some((kind, payload))
+                let entries = entries_of(way, self.table.class);
+                if entries <= place {
+                    return Some((kind, payload));
+                }
+                Some(read_value(self.bank, self.pass, kind, payload))
             }
             Found::Was(_, _) => None,
             Found::Free(_) => None,

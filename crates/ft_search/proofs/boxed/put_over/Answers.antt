@@ -35,12 +35,12 @@ load_named c =
     loaded_then u v w (load_old c.After-read_word-old) (loaded_by (ReadTable (table_id c.args.table) (c.args.word + 1) c.read_word-named.result) v w tt c.read_word-named.ensures.did.1)
 
 -- after both: what stands
-four_is : (c : After-read_word-named) → c.read_word-old.result ≡ 4 → slice_index (held_words c.args.o (view c.read_word-named.new.pass)).table c.args.word ≡ 4
-four_is c four =
+old_stands : (c : After-read_word-named) → c.read_word-old.result ≡ slice_index (held_words c.args.o (view c.read_word-named.new.pass)).table c.args.word
+old_stands c =
     let v = view c.read_word-old.new.pass in
     let w = view c.read_word-named.new.pass in
     let l = loaded_by (ReadTable (table_id c.args.table) (c.args.word + 1) c.read_word-named.result) v w tt c.read_word-named.ensures.did.1 in
-    ap (λ (x : ContainerWords). slice_index x.table c.args.word) (loaded_held v w c.args.o l) ∙ (sym (old_is c.After-read_word-old) ∙ four)
+    old_is c.After-read_word-old ∙ sym (ap (λ (x : ContainerWords). slice_index x.table c.args.word) (loaded_held v w c.args.o l))
 
 named_is : (c : After-read_word-named) → c.read_word-named.result ≡ slice_index (held_words c.args.o (view c.read_word-named.new.pass)).table (c.args.word + 1)
 named_is c =
@@ -128,186 +128,131 @@ put_payload-requires-clause-few c =
     few_done k v (l.work.pass.shape ∙ c.requires.pass.1) writes.boxes
 
 pub put_payload-requires-clause-plain : goal.put_payload-requires-clause-plain
-put_payload-requires-clause-plain c e = c.requires.plain (sym c.if-old-eq-kind.true ∙ (old_is (goal.at.put_payload-requires-clause-plain c).After-read_word-old ∙ e))
+put_payload-requires-clause-plain c e = c.requires.plain (sym c.if-old-kind.true ∙ (old_is (goal.at.put_payload-requires-clause-plain c).After-read_word-old ∙ e))
 
-pub returns-then-old-eq-kind-clause-writes : goal.returns-then-old-eq-kind-clause-writes
-returns-then-old-eq-kind-clause-writes c =
-    same_writes (shape_of c.args.bank.now) c.args.o c.args.table c.args.word c.args.kind c.args.payload (view c.args.pass.now) (view c.read_word-old.new.pass) (view c.put_payload.new.pass) c.requires.pass.1 c.requires.writes c.requires.open (load_old (goal.at.returns-then-old-eq-kind-clause-writes c).After-read_word-old) c.requires.plain c.put_payload.ensures.only (sym c.if-old-eq-kind.true ∙ old_is (goal.at.returns-then-old-eq-kind-clause-writes c).After-read_word-old) c.put_payload.ensures.held c.put_payload.ensures.same
+pub returns-then-old-kind-clause-writes : goal.returns-then-old-kind-clause-writes
+returns-then-old-kind-clause-writes c =
+    same_writes (shape_of c.args.bank.now) c.args.o c.args.table c.args.word c.args.kind c.args.payload (view c.args.pass.now) (view c.read_word-old.new.pass) (view c.put_payload.new.pass) c.requires.pass.1 c.requires.writes c.requires.open (load_old (goal.at.returns-then-old-kind-clause-writes c).After-read_word-old) c.requires.plain c.put_payload.ensures.only (sym c.if-old-kind.true ∙ old_is (goal.at.returns-then-old-kind-clause-writes c).After-read_word-old) c.put_payload.ensures.held c.put_payload.ensures.same
 
-pub returns-then-old-eq-kind-clause-only : goal.returns-then-old-eq-kind-clause-only
-returns-then-old-eq-kind-clause-only c =
-    over_only (shape_of c.args.bank.now) c.args.o c.args.table c.args.word c.args.kind c.args.payload (view c.args.pass.now) (view c.read_word-old.new.pass) (view c.put_payload.new.pass) c.requires.pass.1 c.requires.writes c.requires.open (load_old (goal.at.returns-then-old-eq-kind-clause-only c).After-read_word-old) c.requires.plain c.put_payload.ensures.only
+pub returns-then-old-kind-clause-only : goal.returns-then-old-kind-clause-only
+returns-then-old-kind-clause-only c =
+    over_only (shape_of c.args.bank.now) c.args.o c.args.table c.args.word c.args.kind c.args.payload (view c.args.pass.now) (view c.read_word-old.new.pass) (view c.put_payload.new.pass) c.requires.pass.1 c.requires.writes c.requires.open (load_old (goal.at.returns-then-old-kind-clause-only c).After-read_word-old) c.requires.plain c.put_payload.ensures.only
 
-pub returns-then-old-eq-kind-clause-raw : goal.returns-then-old-eq-kind-clause-raw
-returns-then-old-eq-kind-clause-raw c =
-    same_raw (shape_of c.args.bank.now) c.args.o c.args.table c.args.word c.args.kind c.args.payload (view c.args.pass.now) (view c.read_word-old.new.pass) (view c.put_payload.new.pass) c.requires.pass.1 c.requires.writes c.requires.open (load_old (goal.at.returns-then-old-eq-kind-clause-raw c).After-read_word-old) c.requires.plain c.put_payload.ensures.only (sym c.if-old-eq-kind.true ∙ old_is (goal.at.returns-then-old-eq-kind-clause-raw c).After-read_word-old) c.put_payload.ensures.held
+pub returns-then-old-kind-clause-raw : goal.returns-then-old-kind-clause-raw
+returns-then-old-kind-clause-raw c =
+    same_raw (shape_of c.args.bank.now) c.args.o c.args.table c.args.word c.args.kind c.args.payload (view c.args.pass.now) (view c.read_word-old.new.pass) (view c.put_payload.new.pass) c.requires.pass.1 c.requires.writes c.requires.open (load_old (goal.at.returns-then-old-kind-clause-raw c).After-read_word-old) c.requires.plain c.put_payload.ensures.only (sym c.if-old-kind.true ∙ old_is (goal.at.returns-then-old-kind-clause-raw c).After-read_word-old) c.put_payload.ensures.held
 
-pub returns-then-old-eq-kind-clause-words : goal.returns-then-old-eq-kind-clause-words
-returns-then-old-eq-kind-clause-words c =
-    same_words (shape_of c.args.bank.now) c.args.o c.args.table c.args.word c.args.kind c.args.payload (view c.args.pass.now) (view c.read_word-old.new.pass) (view c.put_payload.new.pass) c.requires.pass.1 c.requires.writes c.requires.open (load_old (goal.at.returns-then-old-eq-kind-clause-words c).After-read_word-old) c.requires.plain c.put_payload.ensures.only (sym c.if-old-eq-kind.true ∙ old_is (goal.at.returns-then-old-eq-kind-clause-words c).After-read_word-old) c.put_payload.ensures.held c.put_payload.ensures.unboxed
+pub returns-then-old-kind-clause-words : goal.returns-then-old-kind-clause-words
+returns-then-old-kind-clause-words c =
+    same_words (shape_of c.args.bank.now) c.args.o c.args.table c.args.word c.args.kind c.args.payload (view c.args.pass.now) (view c.read_word-old.new.pass) (view c.put_payload.new.pass) c.requires.pass.1 c.requires.writes c.requires.open (load_old (goal.at.returns-then-old-kind-clause-words c).After-read_word-old) c.requires.plain c.put_payload.ensures.only (sym c.if-old-kind.true ∙ old_is (goal.at.returns-then-old-kind-clause-words c).After-read_word-old) c.put_payload.ensures.held c.put_payload.ensures.unboxed
 
--- ---- both words, over a value in place
+-- ---- both words
 
 pub put_value-requires-clause-container : goal.put_value-requires-clause-container
 put_value-requires-clause-container c =
-    let l = load_old (goal.at.put_value-requires-clause-container c).After-read_word-old in
+    let l = load_named (goal.at.put_value-requires-clause-container c).After-read_word-named in
     let u = view c.args.pass.now in
     let k = shape_of c.args.bank.now in
-    let v = view c.read_word-old.new.pass in
+    let v = view c.read_word-named.new.pass in
     let writes = table_loaded k c.args.o c.args.table u v c.requires.pass.1 c.requires.writes l in
     writes.container
 
 pub put_value-requires-clause-table : goal.put_value-requires-clause-table
 put_value-requires-clause-table c =
-    let l = load_old (goal.at.put_value-requires-clause-table c).After-read_word-old in
+    let l = load_named (goal.at.put_value-requires-clause-table c).After-read_word-named in
     let u = view c.args.pass.now in
     let k = shape_of c.args.bank.now in
-    let v = view c.read_word-old.new.pass in
+    let v = view c.read_word-named.new.pass in
     let writes = table_loaded k c.args.o c.args.table u v c.requires.pass.1 c.requires.writes l in
     writes.table_in
 
 pub put_value-requires-clause-odd : goal.put_value-requires-clause-odd
 put_value-requires-clause-odd c =
-    let l = load_old (goal.at.put_value-requires-clause-odd c).After-read_word-old in
+    let l = load_named (goal.at.put_value-requires-clause-odd c).After-read_word-named in
     let u = view c.args.pass.now in
     let k = shape_of c.args.bank.now in
-    let v = view c.read_word-old.new.pass in
+    let v = view c.read_word-named.new.pass in
     let writes = table_loaded k c.args.o c.args.table u v c.requires.pass.1 c.requires.writes l in
     writes.odd
 
 pub put_value-requires-clause-root : goal.put_value-requires-clause-root
 put_value-requires-clause-root c =
-    let l = load_old (goal.at.put_value-requires-clause-root c).After-read_word-old in
+    let l = load_named (goal.at.put_value-requires-clause-root c).After-read_word-named in
     let u = view c.args.pass.now in
     let k = shape_of c.args.bank.now in
-    let v = view c.read_word-old.new.pass in
+    let v = view c.read_word-named.new.pass in
     let writes = table_loaded k c.args.o c.args.table u v c.requires.pass.1 c.requires.writes l in
     writes.root
 
 pub put_value-requires-clause-value : goal.put_value-requires-clause-value
 put_value-requires-clause-value c =
-    let l = load_old (goal.at.put_value-requires-clause-value c).After-read_word-old in
+    let l = load_named (goal.at.put_value-requires-clause-value c).After-read_word-named in
     let u = view c.args.pass.now in
     let k = shape_of c.args.bank.now in
-    let v = view c.read_word-old.new.pass in
+    let v = view c.read_word-named.new.pass in
     let writes = table_loaded k c.args.o c.args.table u v c.requires.pass.1 c.requires.writes l in
     open_as u v c.args.o (table_id c.args.table) c.args.word l.work.pass.shape (still_unboxed k c.args.o c.args.table u v c.requires.pass.1 c.requires.writes l) c.requires.open
 
 pub put_value-requires-clause-few : goal.put_value-requires-clause-few
 put_value-requires-clause-few c =
-    let l = load_old (goal.at.put_value-requires-clause-few c).After-read_word-old in
+    let l = load_named (goal.at.put_value-requires-clause-few c).After-read_word-named in
     let u = view c.args.pass.now in
     let k = shape_of c.args.bank.now in
-    let v = view c.read_word-old.new.pass in
+    let v = view c.read_word-named.new.pass in
     let writes = table_loaded k c.args.o c.args.table u v c.requires.pass.1 c.requires.writes l in
     few_done k v (l.work.pass.shape ∙ c.requires.pass.1) writes.boxes
 
 pub put_value-requires-clause-reference : goal.put_value-requires-clause-reference
 put_value-requires-clause-reference c four = absurd (c.requires.plain four)
 
+-- ---- over a value in place
+
 pub returns-then-old-BOX_KIND-clause-writes : goal.returns-then-old-BOX_KIND-clause-writes
 returns-then-old-BOX_KIND-clause-writes c =
-    both_writes (shape_of c.args.bank.now) c.args.o c.args.table c.args.word c.args.kind c.args.payload (view c.args.pass.now) (view c.read_word-old.new.pass) (view c.put_value.new.pass) c.requires.pass.1 c.requires.writes c.requires.open (load_old (goal.at.returns-then-old-BOX_KIND-clause-writes c).After-read_word-old) c.requires.plain c.put_value.ensures.only c.put_value.ensures.held c.put_value.ensures.unboxed c.put_value.ensures.references (λ e. c.if-old-BOX_KIND.true (old_is (goal.at.returns-then-old-BOX_KIND-clause-writes c).After-read_word-old ∙ e))
+    both_writes (shape_of c.args.bank.now) c.args.o c.args.table c.args.word c.args.kind c.args.payload (view c.args.pass.now) (view c.read_word-named.new.pass) (view c.put_value.new.pass) c.requires.pass.1 c.requires.writes c.requires.open (load_named (goal.at.returns-then-old-BOX_KIND-clause-writes c).After-read_word-named) c.requires.plain c.put_value.ensures.only c.put_value.ensures.held c.put_value.ensures.unboxed c.put_value.ensures.references (λ e. c.if-old-BOX_KIND.true (old_stands (goal.at.returns-then-old-BOX_KIND-clause-writes c).After-read_word-named ∙ e))
 
 pub returns-then-old-BOX_KIND-clause-only : goal.returns-then-old-BOX_KIND-clause-only
 returns-then-old-BOX_KIND-clause-only c =
-    over_only (shape_of c.args.bank.now) c.args.o c.args.table c.args.word c.args.kind c.args.payload (view c.args.pass.now) (view c.read_word-old.new.pass) (view c.put_value.new.pass) c.requires.pass.1 c.requires.writes c.requires.open (load_old (goal.at.returns-then-old-BOX_KIND-clause-only c).After-read_word-old) c.requires.plain c.put_value.ensures.only
+    over_only (shape_of c.args.bank.now) c.args.o c.args.table c.args.word c.args.kind c.args.payload (view c.args.pass.now) (view c.read_word-named.new.pass) (view c.put_value.new.pass) c.requires.pass.1 c.requires.writes c.requires.open (load_named (goal.at.returns-then-old-BOX_KIND-clause-only c).After-read_word-named) c.requires.plain c.put_value.ensures.only
 
 pub returns-then-old-BOX_KIND-clause-raw : goal.returns-then-old-BOX_KIND-clause-raw
 returns-then-old-BOX_KIND-clause-raw c =
-    both_raw (shape_of c.args.bank.now) c.args.o c.args.table c.args.word c.args.kind c.args.payload (view c.args.pass.now) (view c.read_word-old.new.pass) (view c.put_value.new.pass) c.requires.pass.1 c.requires.writes c.requires.open (load_old (goal.at.returns-then-old-BOX_KIND-clause-raw c).After-read_word-old) c.requires.plain c.put_value.ensures.only c.put_value.ensures.held c.put_value.ensures.unboxed c.put_value.ensures.references
+    both_raw (shape_of c.args.bank.now) c.args.o c.args.table c.args.word c.args.kind c.args.payload (view c.args.pass.now) (view c.read_word-named.new.pass) (view c.put_value.new.pass) c.requires.pass.1 c.requires.writes c.requires.open (load_named (goal.at.returns-then-old-BOX_KIND-clause-raw c).After-read_word-named) c.requires.plain c.put_value.ensures.only c.put_value.ensures.held c.put_value.ensures.unboxed c.put_value.ensures.references
 
 pub returns-then-old-BOX_KIND-clause-words : goal.returns-then-old-BOX_KIND-clause-words
 returns-then-old-BOX_KIND-clause-words c =
-    both_words (shape_of c.args.bank.now) c.args.o c.args.table c.args.word c.args.kind c.args.payload (view c.args.pass.now) (view c.read_word-old.new.pass) (view c.put_value.new.pass) c.requires.pass.1 c.requires.writes c.requires.open (load_old (goal.at.returns-then-old-BOX_KIND-clause-words c).After-read_word-old) c.requires.plain c.put_value.ensures.only c.put_value.ensures.held c.put_value.ensures.unboxed c.put_value.ensures.references
+    both_words (shape_of c.args.bank.now) c.args.o c.args.table c.args.word c.args.kind c.args.payload (view c.args.pass.now) (view c.read_word-named.new.pass) (view c.put_value.new.pass) c.requires.pass.1 c.requires.writes c.requires.open (load_named (goal.at.returns-then-old-BOX_KIND-clause-words c).After-read_word-named) c.requires.plain c.put_value.ensures.only c.put_value.ensures.held c.put_value.ensures.unboxed c.put_value.ensures.references
 
--- ---- both words, over one in a box
-
-pub put_value-requires-2-clause-container : goal.put_value-requires-2-clause-container
-put_value-requires-2-clause-container c =
-    let l = load_named (goal.at.put_value-requires-2-clause-container c).After-read_word-named in
-    let u = view c.args.pass.now in
-    let k = shape_of c.args.bank.now in
-    let v = view c.read_word-named.new.pass in
-    let writes = table_loaded k c.args.o c.args.table u v c.requires.pass.1 c.requires.writes l in
-    writes.container
-
-pub put_value-requires-2-clause-table : goal.put_value-requires-2-clause-table
-put_value-requires-2-clause-table c =
-    let l = load_named (goal.at.put_value-requires-2-clause-table c).After-read_word-named in
-    let u = view c.args.pass.now in
-    let k = shape_of c.args.bank.now in
-    let v = view c.read_word-named.new.pass in
-    let writes = table_loaded k c.args.o c.args.table u v c.requires.pass.1 c.requires.writes l in
-    writes.table_in
-
-pub put_value-requires-2-clause-odd : goal.put_value-requires-2-clause-odd
-put_value-requires-2-clause-odd c =
-    let l = load_named (goal.at.put_value-requires-2-clause-odd c).After-read_word-named in
-    let u = view c.args.pass.now in
-    let k = shape_of c.args.bank.now in
-    let v = view c.read_word-named.new.pass in
-    let writes = table_loaded k c.args.o c.args.table u v c.requires.pass.1 c.requires.writes l in
-    writes.odd
-
-pub put_value-requires-2-clause-root : goal.put_value-requires-2-clause-root
-put_value-requires-2-clause-root c =
-    let l = load_named (goal.at.put_value-requires-2-clause-root c).After-read_word-named in
-    let u = view c.args.pass.now in
-    let k = shape_of c.args.bank.now in
-    let v = view c.read_word-named.new.pass in
-    let writes = table_loaded k c.args.o c.args.table u v c.requires.pass.1 c.requires.writes l in
-    writes.root
-
-pub put_value-requires-2-clause-value : goal.put_value-requires-2-clause-value
-put_value-requires-2-clause-value c =
-    let l = load_named (goal.at.put_value-requires-2-clause-value c).After-read_word-named in
-    let u = view c.args.pass.now in
-    let k = shape_of c.args.bank.now in
-    let v = view c.read_word-named.new.pass in
-    let writes = table_loaded k c.args.o c.args.table u v c.requires.pass.1 c.requires.writes l in
-    open_as u v c.args.o (table_id c.args.table) c.args.word l.work.pass.shape (still_unboxed k c.args.o c.args.table u v c.requires.pass.1 c.requires.writes l) c.requires.open
-
-pub put_value-requires-2-clause-few : goal.put_value-requires-2-clause-few
-put_value-requires-2-clause-few c =
-    let l = load_named (goal.at.put_value-requires-2-clause-few c).After-read_word-named in
-    let u = view c.args.pass.now in
-    let k = shape_of c.args.bank.now in
-    let v = view c.read_word-named.new.pass in
-    let writes = table_loaded k c.args.o c.args.table u v c.requires.pass.1 c.requires.writes l in
-    few_done k v (l.work.pass.shape ∙ c.requires.pass.1) writes.boxes
-
-pub put_value-requires-2-clause-reference : goal.put_value-requires-2-clause-reference
-put_value-requires-2-clause-reference c four = absurd (c.requires.plain four)
+-- ---- over one in a box
 
 pub release-requires-clause-name : goal.release-requires-clause-name
 release-requires-clause-name c =
-    box_is (shape_of c.args.bank.now) c.args.o c.args.table c.args.word c.args.kind c.args.payload (view c.args.pass.now) (view c.read_word-named.new.pass) (view c.put_value-2.new.pass) c.requires.pass.1 c.requires.writes c.requires.open (load_named (goal.at.release-requires-clause-name c).After-read_word-named) c.requires.plain c.put_value-2.ensures.only c.put_value-2.ensures.held c.put_value-2.ensures.unboxed c.put_value-2.ensures.references c.read_word-named.result (four_is (goal.at.release-requires-clause-name c).After-read_word-named c.if-old-BOX_KIND.false) (named_is (goal.at.release-requires-clause-name c).After-read_word-named) c.read_word-named.new.pass.possible
+    box_is (shape_of c.args.bank.now) c.args.o c.args.table c.args.word c.args.kind c.args.payload (view c.args.pass.now) (view c.read_word-named.new.pass) (view c.put_value.new.pass) c.requires.pass.1 c.requires.writes c.requires.open (load_named (goal.at.release-requires-clause-name c).After-read_word-named) c.requires.plain c.put_value.ensures.only c.put_value.ensures.held c.put_value.ensures.unboxed c.put_value.ensures.references c.read_word-named.result (sym (old_stands (goal.at.release-requires-clause-name c).After-read_word-named) ∙ c.if-old-BOX_KIND.false) (named_is (goal.at.release-requires-clause-name c).After-read_word-named) c.read_word-named.new.pass.possible
 
 pub release-requires-clause-shared : goal.release-requires-clause-shared
 release-requires-clause-shared c =
-    box_shared (shape_of c.args.bank.now) c.args.o c.args.table c.args.word c.args.kind c.args.payload (view c.args.pass.now) (view c.read_word-named.new.pass) (view c.put_value-2.new.pass) c.requires.pass.1 c.requires.writes c.requires.open (load_named (goal.at.release-requires-clause-shared c).After-read_word-named) c.requires.plain c.put_value-2.ensures.only c.put_value-2.ensures.held c.put_value-2.ensures.unboxed c.put_value-2.ensures.references c.read_word-named.result (four_is (goal.at.release-requires-clause-shared c).After-read_word-named c.if-old-BOX_KIND.false) (named_is (goal.at.release-requires-clause-shared c).After-read_word-named)
+    box_shared (shape_of c.args.bank.now) c.args.o c.args.table c.args.word c.args.kind c.args.payload (view c.args.pass.now) (view c.read_word-named.new.pass) (view c.put_value.new.pass) c.requires.pass.1 c.requires.writes c.requires.open (load_named (goal.at.release-requires-clause-shared c).After-read_word-named) c.requires.plain c.put_value.ensures.only c.put_value.ensures.held c.put_value.ensures.unboxed c.put_value.ensures.references c.read_word-named.result (sym (old_stands (goal.at.release-requires-clause-shared c).After-read_word-named) ∙ c.if-old-BOX_KIND.false) (named_is (goal.at.release-requires-clause-shared c).After-read_word-named)
 
 pub release-requires-clause-held : goal.release-requires-clause-held
 release-requires-clause-held c =
-    box_held (shape_of c.args.bank.now) c.args.o c.args.table c.args.word c.args.kind c.args.payload (view c.args.pass.now) (view c.read_word-named.new.pass) (view c.put_value-2.new.pass) c.requires.pass.1 c.requires.writes c.requires.open (load_named (goal.at.release-requires-clause-held c).After-read_word-named) c.requires.plain c.put_value-2.ensures.only c.put_value-2.ensures.held c.put_value-2.ensures.unboxed c.put_value-2.ensures.references c.read_word-named.result (four_is (goal.at.release-requires-clause-held c).After-read_word-named c.if-old-BOX_KIND.false) (named_is (goal.at.release-requires-clause-held c).After-read_word-named)
+    box_held (shape_of c.args.bank.now) c.args.o c.args.table c.args.word c.args.kind c.args.payload (view c.args.pass.now) (view c.read_word-named.new.pass) (view c.put_value.new.pass) c.requires.pass.1 c.requires.writes c.requires.open (load_named (goal.at.release-requires-clause-held c).After-read_word-named) c.requires.plain c.put_value.ensures.only c.put_value.ensures.held c.put_value.ensures.unboxed c.put_value.ensures.references c.read_word-named.result (sym (old_stands (goal.at.release-requires-clause-held c).After-read_word-named) ∙ c.if-old-BOX_KIND.false) (named_is (goal.at.release-requires-clause-held c).After-read_word-named)
 
 pub release-requires-clause-none : goal.release-requires-clause-none
 release-requires-clause-none c =
-    box_none (shape_of c.args.bank.now) c.args.o c.args.table c.args.word c.args.kind c.args.payload (view c.args.pass.now) (view c.read_word-named.new.pass) (view c.put_value-2.new.pass) c.requires.pass.1 c.requires.writes c.requires.open (load_named (goal.at.release-requires-clause-none c).After-read_word-named) c.requires.plain c.put_value-2.ensures.only c.put_value-2.ensures.held c.put_value-2.ensures.unboxed c.put_value-2.ensures.references c.read_word-named.result (four_is (goal.at.release-requires-clause-none c).After-read_word-named c.if-old-BOX_KIND.false) (named_is (goal.at.release-requires-clause-none c).After-read_word-named)
+    box_none (shape_of c.args.bank.now) c.args.o c.args.table c.args.word c.args.kind c.args.payload (view c.args.pass.now) (view c.read_word-named.new.pass) (view c.put_value.new.pass) c.requires.pass.1 c.requires.writes c.requires.open (load_named (goal.at.release-requires-clause-none c).After-read_word-named) c.requires.plain c.put_value.ensures.only c.put_value.ensures.held c.put_value.ensures.unboxed c.put_value.ensures.references c.read_word-named.result (sym (old_stands (goal.at.release-requires-clause-none c).After-read_word-named) ∙ c.if-old-BOX_KIND.false) (named_is (goal.at.release-requires-clause-none c).After-read_word-named)
 
 pub returns-clause-writes : goal.returns-clause-writes
 returns-clause-writes c =
-    drop_writes (shape_of c.args.bank.now) c.args.o c.args.table c.args.word c.args.kind c.args.payload (view c.args.pass.now) (view c.read_word-named.new.pass) (view c.put_value-2.new.pass) c.requires.pass.1 c.requires.writes c.requires.open (load_named (goal.at.returns-clause-writes c).After-read_word-named) c.requires.plain c.put_value-2.ensures.only c.put_value-2.ensures.held c.put_value-2.ensures.unboxed c.put_value-2.ensures.references c.read_word-named.result (four_is (goal.at.returns-clause-writes c).After-read_word-named c.if-old-BOX_KIND.false) (named_is (goal.at.returns-clause-writes c).After-read_word-named) (view c.release.new.pass) c.release.ensures.only c.release.ensures.made c.release.ensures.references
+    drop_writes (shape_of c.args.bank.now) c.args.o c.args.table c.args.word c.args.kind c.args.payload (view c.args.pass.now) (view c.read_word-named.new.pass) (view c.put_value.new.pass) c.requires.pass.1 c.requires.writes c.requires.open (load_named (goal.at.returns-clause-writes c).After-read_word-named) c.requires.plain c.put_value.ensures.only c.put_value.ensures.held c.put_value.ensures.unboxed c.put_value.ensures.references c.read_word-named.result (sym (old_stands (goal.at.returns-clause-writes c).After-read_word-named) ∙ c.if-old-BOX_KIND.false) (named_is (goal.at.returns-clause-writes c).After-read_word-named) (view c.release.new.pass) c.release.ensures.only c.release.ensures.made c.release.ensures.references
 
 pub returns-clause-only : goal.returns-clause-only
 returns-clause-only c =
-    drop_only (shape_of c.args.bank.now) c.args.o c.args.table c.args.word c.args.kind c.args.payload (view c.args.pass.now) (view c.read_word-named.new.pass) (view c.put_value-2.new.pass) c.requires.pass.1 c.requires.writes c.requires.open (load_named (goal.at.returns-clause-only c).After-read_word-named) c.requires.plain c.put_value-2.ensures.only c.put_value-2.ensures.held c.put_value-2.ensures.unboxed c.put_value-2.ensures.references c.read_word-named.result (four_is (goal.at.returns-clause-only c).After-read_word-named c.if-old-BOX_KIND.false) (named_is (goal.at.returns-clause-only c).After-read_word-named) (view c.release.new.pass) c.release.ensures.only c.release.ensures.made c.release.ensures.references
+    drop_only (shape_of c.args.bank.now) c.args.o c.args.table c.args.word c.args.kind c.args.payload (view c.args.pass.now) (view c.read_word-named.new.pass) (view c.put_value.new.pass) c.requires.pass.1 c.requires.writes c.requires.open (load_named (goal.at.returns-clause-only c).After-read_word-named) c.requires.plain c.put_value.ensures.only c.put_value.ensures.held c.put_value.ensures.unboxed c.put_value.ensures.references c.read_word-named.result (sym (old_stands (goal.at.returns-clause-only c).After-read_word-named) ∙ c.if-old-BOX_KIND.false) (named_is (goal.at.returns-clause-only c).After-read_word-named) (view c.release.new.pass) c.release.ensures.only c.release.ensures.made c.release.ensures.references
 
 pub returns-clause-raw : goal.returns-clause-raw
 returns-clause-raw c =
-    drop_raw (shape_of c.args.bank.now) c.args.o c.args.table c.args.word c.args.kind c.args.payload (view c.args.pass.now) (view c.read_word-named.new.pass) (view c.put_value-2.new.pass) c.requires.pass.1 c.requires.writes c.requires.open (load_named (goal.at.returns-clause-raw c).After-read_word-named) c.requires.plain c.put_value-2.ensures.only c.put_value-2.ensures.held c.put_value-2.ensures.unboxed c.put_value-2.ensures.references c.read_word-named.result (four_is (goal.at.returns-clause-raw c).After-read_word-named c.if-old-BOX_KIND.false) (named_is (goal.at.returns-clause-raw c).After-read_word-named) (view c.release.new.pass) c.release.ensures.only c.release.ensures.made c.release.ensures.references
+    drop_raw (shape_of c.args.bank.now) c.args.o c.args.table c.args.word c.args.kind c.args.payload (view c.args.pass.now) (view c.read_word-named.new.pass) (view c.put_value.new.pass) c.requires.pass.1 c.requires.writes c.requires.open (load_named (goal.at.returns-clause-raw c).After-read_word-named) c.requires.plain c.put_value.ensures.only c.put_value.ensures.held c.put_value.ensures.unboxed c.put_value.ensures.references c.read_word-named.result (sym (old_stands (goal.at.returns-clause-raw c).After-read_word-named) ∙ c.if-old-BOX_KIND.false) (named_is (goal.at.returns-clause-raw c).After-read_word-named) (view c.release.new.pass) c.release.ensures.only c.release.ensures.made c.release.ensures.references
 
 pub returns-clause-words : goal.returns-clause-words
 returns-clause-words c =
-    drop_words (shape_of c.args.bank.now) c.args.o c.args.table c.args.word c.args.kind c.args.payload (view c.args.pass.now) (view c.read_word-named.new.pass) (view c.put_value-2.new.pass) c.requires.pass.1 c.requires.writes c.requires.open (load_named (goal.at.returns-clause-words c).After-read_word-named) c.requires.plain c.put_value-2.ensures.only c.put_value-2.ensures.held c.put_value-2.ensures.unboxed c.put_value-2.ensures.references c.read_word-named.result (four_is (goal.at.returns-clause-words c).After-read_word-named c.if-old-BOX_KIND.false) (named_is (goal.at.returns-clause-words c).After-read_word-named) (view c.release.new.pass) c.release.ensures.only c.release.ensures.made c.release.ensures.references
+    drop_words (shape_of c.args.bank.now) c.args.o c.args.table c.args.word c.args.kind c.args.payload (view c.args.pass.now) (view c.read_word-named.new.pass) (view c.put_value.new.pass) c.requires.pass.1 c.requires.writes c.requires.open (load_named (goal.at.returns-clause-words c).After-read_word-named) c.requires.plain c.put_value.ensures.only c.put_value.ensures.held c.put_value.ensures.unboxed c.put_value.ensures.references c.read_word-named.result (sym (old_stands (goal.at.returns-clause-words c).After-read_word-named) ∙ c.if-old-BOX_KIND.false) (named_is (goal.at.returns-clause-words c).After-read_word-named) (view c.release.new.pass) c.release.ensures.only c.release.ensures.made c.release.ensures.references

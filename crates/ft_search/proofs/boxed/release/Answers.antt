@@ -44,45 +44,45 @@ give_place-requires-clause-due c =
     let f = c.drop_shared-found.result in
     let n = place_to_give a.payload (view a.pass.now).log in
     (λ d. place_to_give (id d) (did_is (goal.at.give_place-requires-clause-due c).After-drop_shared-found d).log)
-    ∙ (here a.payload a.payload _ n refl ∙ here _ 3 1 n ((last_is f c.drop_shared-found.type_inv).0 c.if-found-eq-LAST.true))
+    ∙ (here a.payload a.payload _ n refl ∙ here _ 3 1 n ((last_is f c.drop_shared-found.type_inv).0 c.if-found-LAST.false))
 
 -- ---- what both leave
 
-pub returns-then-found-eq-LAST-clause-only : goal.returns-then-found-eq-LAST-clause-only
-returns-then-found-eq-LAST-clause-only c = boxed_then (view c.args.pass.now) (view c.drop_shared-found.new.pass) (view c.give_place.new.pass) c.drop_shared-found.ensures.only c.give_place.ensures.only
+pub returns-clause-only : goal.returns-clause-only
+returns-clause-only c = boxed_then (view c.args.pass.now) (view c.drop_shared-found.new.pass) (view c.give_place.new.pass) c.drop_shared-found.ensures.only c.give_place.ensures.only
 
-pub returns-then-found-eq-LAST-clause-made : goal.returns-then-found-eq-LAST-clause-made
-returns-then-found-eq-LAST-clause-made c =
+pub returns-clause-made : goal.returns-clause-made
+returns-clause-made c =
     let v = view c.args.pass.now in
     let b = c.args.payload in
     let f = c.drop_shared-found.result in
-    let dropped = did_is (goal.at.returns-then-found-eq-LAST-clause-made c).After-drop_shared-found in
-    let id = id_is (goal.at.returns-then-found-eq-LAST-clause-made c).After-drop_shared-found in
+    let dropped = did_is (goal.at.returns-clause-made c).After-drop_shared-found in
+    let id = id_is (goal.at.returns-clause-made c).After-drop_shared-found in
     let is = c.give_place.ensures.did.1 ∙ (λ d. view_after (GivePlace (id d)) (dropped d)) in
     subst (SameMade v) (sym is) (give_made v b f c.requires.none)
 
-pub returns-then-found-eq-LAST-clause-references : goal.returns-then-found-eq-LAST-clause-references
-returns-then-found-eq-LAST-clause-references c b =
+pub returns-clause-references : goal.returns-clause-references
+returns-clause-references c b =
     let v = view c.args.pass.now in
     let n = c.args.payload in
     let f = c.drop_shared-found.result in
-    let dropped = did_is (goal.at.returns-then-found-eq-LAST-clause-references c).After-drop_shared-found in
-    let id = id_is (goal.at.returns-then-found-eq-LAST-clause-references c).After-drop_shared-found in
+    let dropped = did_is (goal.at.returns-clause-references c).After-drop_shared-found in
+    let id = id_is (goal.at.returns-clause-references c).After-drop_shared-found in
     let is = c.give_place.ensures.did.1 ∙ (λ d. view_after (GivePlace (id d)) (dropped d)) in
     let one = dropped_one v n f b (subst (λ (z : Shape). 0 < references_held z n v.log) (sym c.requires.pass.1) c.requires.held) in
     subst (λ (z : Shape × View). references_held z.0 b v.log ≡ references_held z.0 b z.1.log + cond (eqb b n) 1 0) (λ d. (c.requires.pass.1 d, sym is d)) one
 
-pub returns-else-found-eq-LAST-clause-made : goal.returns-else-found-eq-LAST-clause-made
-returns-else-found-eq-LAST-clause-made c =
+pub returns-then-found-LAST-clause-made : goal.returns-then-found-LAST-clause-made
+returns-then-found-LAST-clause-made c =
     let v = view c.args.pass.now in
-    let dropped = did_is (goal.at.returns-else-found-eq-LAST-clause-made c).After-drop_shared-found in
-    subst (SameMade v) (sym dropped) (drop_made v c.args.payload c.drop_shared-found.result c.drop_shared-found.type_inv c.requires.none c.if-found-eq-LAST.false)
+    let dropped = did_is (goal.at.returns-then-found-LAST-clause-made c).After-drop_shared-found in
+    subst (SameMade v) (sym dropped) (drop_made v c.args.payload c.drop_shared-found.result c.drop_shared-found.type_inv c.requires.none c.if-found-LAST.true)
 
-pub returns-else-found-eq-LAST-clause-references : goal.returns-else-found-eq-LAST-clause-references
-returns-else-found-eq-LAST-clause-references c b =
+pub returns-then-found-LAST-clause-references : goal.returns-then-found-LAST-clause-references
+returns-then-found-LAST-clause-references c b =
     let v = view c.args.pass.now in
     let n = c.args.payload in
     let f = c.drop_shared-found.result in
-    let dropped = did_is (goal.at.returns-else-found-eq-LAST-clause-references c).After-drop_shared-found in
+    let dropped = did_is (goal.at.returns-then-found-LAST-clause-references c).After-drop_shared-found in
     let one = dropped_one v n f b (subst (λ (z : Shape). 0 < references_held z n v.log) (sym c.requires.pass.1) c.requires.held) in
     subst (λ (z : Shape × View). references_held z.0 b v.log ≡ references_held z.0 b z.1.log + cond (eqb b n) 1 0) (λ d. (c.requires.pass.1 d, sym dropped d)) one

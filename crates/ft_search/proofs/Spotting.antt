@@ -18,7 +18,7 @@ use Rattle.ft_keys.specs.declared.walk.Way.{Way}
 use Rattle.ft_keys.specs.declared.walk.Way.TheVariants as way
 use Rattle.ft_trace.specs.declared.Shape.{Shape}
 use Rattle.ft_trace.specs.declared.View.{View}
-use Rattle.ft_trace.specs.Addresses.{class_of, slots}
+use Rattle.ft_trace.specs.Addresses.{class_of, container_count, slots}
 use Rattle.ft_trace.specs.Carefuls.{HasLiveKey}
 use Rattle.ft_trace.specs.Holds.{held_unboxed, known_state}
 use Rattle.ft_trace.specs.Kinds.{rows}
@@ -31,7 +31,7 @@ use Rattle.ft_bank.specs.declared.table.Table.{Table}
 use Rattle.ft_bank.specs.TableNames.{table_id, IsTableIn}
 use Rattle.ft_bank.specs.Whole.{OnlyLoaded}
 use Rattle.ft_bank.proofs.TableAddresses.{class_is}
-use Rattle.ft_bank.proofs.KnownAfterWrites.{loaded_held, work_knows}
+use Rattle.ft_bank.proofs.KnownAfterWrites.{work_knows}
 use Rattle.ft_search.specs.declared.spots.Spot.{Spot}
 use Rattle.ft_search.specs.declared.spots.Spot.TheVariants as spot
 use Rattle.ft_search.specs.Held.{ReadsEntry, IsHeldAt}
@@ -40,6 +40,7 @@ use Rattle.ft_search.specs.Spots.{IsSpot, spot_in}
 use Rattle.ft_search.specs.OneEntryWrites.{HasTable, IsLiveEntry, MayWriteEntries}
 use Rattle.ft_search.proofs.FoundInContents.{MissingKeys, MissingElements, IsOfWay, key_held}
 use Rattle.ft_search.proofs.KnownTableWords.{entry_after_header}
+use Rattle.ft_search.proofs.Puts.{done_then}
 use Rattle.ft_search.proofs.WordPlaces.{slots_of_class}
 
 abbrev pub FirstFreeSlots : Type 0
@@ -145,9 +146,9 @@ module _ (missing_key : MissingKeys) (missing_element : MissingElements) (first_
 
 -- ---- after loads
 
-module _ (k : Shape) (o : ℕ) (v w : View) (only : OnlyLoaded v w) where
-  same : (held_unboxed o v ≡ held_unboxed o w) × (known_state o v ≡ known_state o w)
-  same = (sym (loaded_held v w o only), sym (work_knows v w o only.work))
+module _ (k : Shape) (o : ℕ) (v w : View) (shape : v.shape ≡ k) (only : OnlyLoaded v w) where
+  same : MayWriteEntries k o v → (held_unboxed o v ≡ held_unboxed o w) × (known_state o v ≡ known_state o w)
+  same may = (sym (only.unboxed o (subst (λ (z : Shape). o < container_count z) (sym shape) may.container) may.locked), sym (work_knows v w o only.work))
 
   pub may_loaded : MayWriteEntries k o v → MayWriteEntries k o w
   may_loaded may = record {
@@ -155,33 +156,34 @@ module _ (k : Shape) (o : ℕ) (v w : View) (only : OnlyLoaded v w) where
     keyed = may.keyed;
     locked = only.work.pass.locks o ∙ may.locked;
     even = only.work.pass.writes o ∙ may.even;
-    stands = subst (λ (z : ContainerWords × ContainerState). Represents k.texts z.0 z.1) (λ d. (same.0 d, same.1 d)) may.stands;
+    stands = subst (λ (z : ContainerWords × ContainerState). Represents k.texts z.0 z.1) (λ d. ((same may).0 d, (same may).1 d)) may.stands;
     owes = only.work.owes ∙ may.owes;
     left = subst (λ (z : ℕ). 0 < z) (sym only.work.left) may.left;
+    boxes = done_then k v w shape only.work.pass.shape only.boxes.references only.boxes.made may.boxes;
   }
 
-  pub table_loaded : (table : Table) → HasTable k o table v → HasTable k o table w
-  table_loaded table has = record { table_in = has.table_in; root = ap root_in (sym same.0) ∙ has.root }
+  pub table_loaded : MayWriteEntries k o v → (table : Table) → HasTable k o table v → HasTable k o table w
+  table_loaded may table has = record { table_in = has.table_in; root = ap root_in (sym (same may).0) ∙ has.root }
 
-  entry_loaded : (table : Table) (place : ℕ) (key : Key) → IsLiveEntry k o table place key v → IsLiveEntry k o table place key w
-  entry_loaded table place key e = record {
+  entry_loaded : MayWriteEntries k o v → (table : Table) (place : ℕ) (key : Key) → IsLiveEntry k o table place key v → IsLiveEntry k o table place key w
+  entry_loaded may table place key e = record {
     low = e.low;
-    live = subst (λ (z : ContainerWords). HasLiveKey (slots (class_of (table_id table))) z.table place key) same.0 e.live;
+    live = subst (λ (z : ContainerWords). HasLiveKey (slots (class_of (table_id table))) z.table place key) (same may).0 e.live;
     fits = e.fits;
   }
 
-  pub spot_loaded : (way : Way) (key : Key) (s : Spot) → IsSpot k o way key v s → IsSpot k o way key w s
-  spot_loaded way key (spot.At table place kind payload) s = (
-    table_loaded table s.0,
-    entry_loaded table place key s.1,
-    subst (λ (z : ContainerState). IsHeldAt z.content key (Some (kind, payload))) same.1 s.2,
-    subst (λ (z : ContainerWords). kind ≡ entry_field (slots (class_of (table_id table))) z.table place 4) same.0 s.3,
-    subst (λ (z : ContainerWords). payload ≡ entry_field (slots (class_of (table_id table))) z.table place 5) same.0 s.4,
+  pub spot_loaded : MayWriteEntries k o v → (way : Way) (key : Key) (s : Spot) → IsSpot k o way key v s → IsSpot k o way key w s
+  spot_loaded may way key (spot.At table place kind payload) s = (
+    table_loaded may table s.0,
+    entry_loaded may table place key s.1,
+    subst (λ (z : ContainerState). IsHeldAt z.content key (Some (kind, payload))) (same may).1 s.2,
+    subst (λ (z : ContainerWords). kind ≡ entry_field (slots (class_of (table_id table))) z.table place 4) (same may).0 s.3,
+    subst (λ (z : ContainerWords). payload ≡ entry_field (slots (class_of (table_id table))) z.table place 5) (same may).0 s.4,
   )
-  spot_loaded way key (spot.Free table slot) s = (
-    table_loaded table s.0,
+  spot_loaded may way key (spot.Free table slot) s = (
+    table_loaded may table s.0,
     s.1,
-    subst (λ (z : ContainerWords). FirstFree (0 ∷ 0 ∷ z.table) (walk_slots way (hash_of k.texts key) (class_mask table.class)) (Some slot)) same.0 s.2,
-    subst (λ (z : ContainerState). IsHeldAt z.content key None) same.1 s.3,
+    subst (λ (z : ContainerWords). FirstFree (0 ∷ 0 ∷ z.table) (walk_slots way (hash_of k.texts key) (class_mask table.class)) (Some slot)) (same may).0 s.2,
+    subst (λ (z : ContainerState). IsHeldAt z.content key None) (same may).1 s.3,
   )
-  spot_loaded way key spot.Bare s = (ap root_in (sym same.0) ∙ s.0, subst (λ (z : ContainerState). IsHeldAt z.content key None) same.1 s.1)
+  spot_loaded may way key spot.Bare s = (ap root_in (sym (same may).0) ∙ s.0, subst (λ (z : ContainerState). IsHeldAt z.content key None) (same may).1 s.1)

@@ -35,7 +35,7 @@ module _ (k : Shape) (o : ℕ) (shows : ContainerWords → Type 0) (p q : Pass) 
   read_shows = r.3 (held_words o (view p)) (r.4 o may.container may.locked)
 
   pub read_may : MayWriteEntries k o (view q)
-  read_may = may_loaded k o (view p) (view q) (reads_loaded k o shows p q r) may
+  read_may = may_loaded k o (view p) (view q) ? (reads_loaded k o shows p q r) may
 
   -- and so it is once the words were loaded
   pub read_later : shows (held_words o (view q))

@@ -66,7 +66,7 @@ join_more-requires-clause-may c =
     let a = c.args in
     let d = (goal.at.join_more-requires-clause-may c).After-own_table-old in
     let k = shape_of a.bank.now in
-    may_add k a.o c.own_table-old.result (view a.pass.now) (view c.own_table-old.new.pass) (all d) c.requires.used c.requires.idle (may_loaded k a.o (view a.pass.now) (view c.own_table-old.new.pass) (all d) c.requires.may) c.own_table-old.ensures.knows
+    may_add k a.o c.own_table-old.result (view a.pass.now) (view c.own_table-old.new.pass) (all d) c.requires.used c.requires.idle (may_loaded k a.o (view a.pass.now) (view c.own_table-old.new.pass) c.requires.pass.1 (all d) c.requires.may) c.own_table-old.ensures.knows
 
 counts : (c : After-own_table-old) → AreCounts (held_words c.args.o (view c.own_table-old.new.pass)).block c.read_counts-counts.result
 counts c =

@@ -97,7 +97,7 @@ is_in-found-requires-clause-fits c = (stated (goal.at.is_in-found-requires-claus
 pub is_in-found-requires-clause-other : goal.is_in-found-requires-clause-other
 is_in-found-requires-clause-other c ne =
     let a = c.args in
-    may_loaded (shape_of a.bank.now) a.t (view a.pass.now) (view c.word_of-hash.new.pass) (only (goal.at.is_in-found-requires-clause-other c).After-word_of-hash) (c.requires.other ne)
+    may_loaded (shape_of a.bank.now) a.t (view a.pass.now) (view c.word_of-hash.new.pass) c.requires.pass.1 (only (goal.at.is_in-found-requires-clause-other c).After-word_of-hash) (c.requires.other ne)
 
 pub is_in-found-requires-clause-own : goal.is_in-found-requires-clause-own
 is_in-found-requires-clause-own c e =

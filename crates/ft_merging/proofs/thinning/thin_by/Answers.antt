@@ -25,7 +25,7 @@ only c =
     (loaded_by (ReadBlock c.args.s 2 c.read_block-fill.result) (view c.read_block-root.new.pass) (view c.read_block-fill.new.pass) tt c.read_block-fill.ensures.did.1)
 
 may : (c : After-read_block-fill) → MayWriteEntries (shape_of c.args.bank.now) c.args.s (view c.read_block-fill.new.pass)
-may c = may_loaded (shape_of c.args.bank.now) c.args.s (view c.args.pass.now) (view c.read_block-fill.new.pass) (only c) c.requires.may
+may c = may_loaded (shape_of c.args.bank.now) c.args.s (view c.args.pass.now) (view c.read_block-fill.new.pass) c.requires.pass.1 (only c) c.requires.may
 
 knows : (c : After-read_block-fill) (p : ℕ) → known_state p (view c.read_block-fill.new.pass) ≡ known_state p (view c.args.pass.now)
 knows c p = work_knows (view c.args.pass.now) (view c.read_block-fill.new.pass) p (only c).work
@@ -59,7 +59,7 @@ thin_table-requires-clause-may c = may (goal.at.thin_table-requires-clause-may c
 pub thin_table-requires-clause-other : goal.thin_table-requires-clause-other
 thin_table-requires-clause-other c =
     let a = c.args in
-    may_loaded (shape_of a.bank.now) a.t (view a.pass.now) (view c.read_block-fill.new.pass) (only (goal.at.thin_table-requires-clause-other c).After-read_block-fill) c.requires.other
+    may_loaded (shape_of a.bank.now) a.t (view a.pass.now) (view c.read_block-fill.new.pass) c.requires.pass.1 (only (goal.at.thin_table-requires-clause-other c).After-read_block-fill) c.requires.other
 
 pub thin_table-requires-clause-table : goal.thin_table-requires-clause-table
 thin_table-requires-clause-table c =

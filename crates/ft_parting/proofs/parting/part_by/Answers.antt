@@ -40,10 +40,10 @@ parts c =
     parts_later a.s a.t a.called.now v u (has_loaded (shape_of a.bank.now) a.s None v u l (loaded_held v u a.s l)) l.work.pass.locks (work_knows v u a.s l.work) (work_knows v u a.t l.work) c.requires.parts
 
 may : (c : After-own_table) → MayWriteEntries (shape_of c.args.bank.now) c.args.s (view c.own_table.new.pass)
-may c = may_loaded (shape_of c.args.bank.now) c.args.s (view c.args.pass.now) (view c.own_table.new.pass) c.own_table.ensures.only c.requires.may
+may c = may_loaded (shape_of c.args.bank.now) c.args.s (view c.args.pass.now) (view c.own_table.new.pass) c.requires.pass.1 c.own_table.ensures.only c.requires.may
 
 other : (c : After-own_table) → MayWriteEntries (shape_of c.args.bank.now) c.args.t (view c.own_table.new.pass)
-other c = may_loaded (shape_of c.args.bank.now) c.args.t (view c.args.pass.now) (view c.own_table.new.pass) c.own_table.ensures.only c.requires.other
+other c = may_loaded (shape_of c.args.bank.now) c.args.t (view c.args.pass.now) (view c.own_table.new.pass) c.requires.pass.1 c.own_table.ensures.only c.requires.other
 
 pub part_from-requires-clause-may : goal.part_from-requires-clause-may
 part_from-requires-clause-may c = may (goal.at.part_from-requires-clause-may c).After-own_table

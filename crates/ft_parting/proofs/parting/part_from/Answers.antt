@@ -54,7 +54,7 @@ own_fill c =
 pub count_lacking-more-requires-clause-may : goal.count_lacking-more-requires-clause-may
 count_lacking-more-requires-clause-may c =
     let a = c.args in
-    may_loaded (shape_of a.bank.now) a.s (view a.pass.now) (view c.own_table-old.new.pass) (one (goal.at.count_lacking-more-requires-clause-may c).After-own_table-old) c.requires.may
+    may_loaded (shape_of a.bank.now) a.s (view a.pass.now) (view c.own_table-old.new.pass) c.requires.pass.1 (one (goal.at.count_lacking-more-requires-clause-may c).After-own_table-old) c.requires.may
 
 pub count_lacking-more-requires-clause-other : goal.count_lacking-more-requires-clause-other
 count_lacking-more-requires-clause-other c =
@@ -76,7 +76,7 @@ pub count_staying-stay-requires-clause-other : goal.count_staying-stay-requires-
 count_staying-stay-requires-clause-other c =
     let a = c.args in
     let at = goal.at.count_staying-stay-requires-clause-other c in
-    may_loaded (shape_of a.bank.now) a.t (view a.pass.now) (view c.count_lacking-more.new.pass) (two at.After-count_lacking-more (one at.After-own_table-old)) c.requires.other_may
+    may_loaded (shape_of a.bank.now) a.t (view a.pass.now) (view c.count_lacking-more.new.pass) c.requires.pass.1 (two at.After-count_lacking-more (one at.After-own_table-old)) c.requires.other_may
 
 pub count_staying-stay-requires-clause-fill : goal.count_staying-stay-requires-clause-fill
 count_staying-stay-requires-clause-fill c =
@@ -96,7 +96,7 @@ part_more-requires-clause-may c =
     let w = view c.count_staying-stay.new.pass in
     let all = three at.After-count_staying-stay (two at.After-count_lacking-more (one at.After-own_table-old)) in
     let late = loaded_then (view c.own_table-old.new.pass) m w c.count_lacking-more.ensures.only c.count_staying-stay.ensures.only in
-    may_add k a.s c.own_table-old.result v w all c.requires.used c.requires.idle (may_loaded k a.s v w all c.requires.may) (knows_loaded k a.s c.own_table-old.result (view c.own_table-old.new.pass) w late c.own_table-old.ensures.knows)
+    may_add k a.s c.own_table-old.result v w all c.requires.used c.requires.idle (may_loaded k a.s v w c.requires.pass.1 all c.requires.may) (knows_loaded k a.s c.own_table-old.result (view c.own_table-old.new.pass) w late c.own_table-old.ensures.knows)
 
 stays : (c : After-count_staying-stay) → OnlyLoaded (view c.args.pass.now) (view c.count_lacking-more.new.pass) → c.count_staying-stay.result ≡ length (those_not_in (set_of (known_state c.args.t (view c.args.pass.now)).content).elements (set_of (known_state c.args.s (view c.args.pass.now)).content).elements)
 stays c before =

@@ -60,10 +60,10 @@ known_last c o = work_knows (view c.args.pass.now) (view c.read_counts-next.new.
 -- ---- what the pass may do after them
 
 may_d : (c : After-read_counts-next) → MayWriteEntries (shape_of c.args.bank.now) c.args.d (view c.read_counts-next.new.pass)
-may_d c = may_loaded (shape_of c.args.bank.now) c.args.d (view c.args.pass.now) (view c.read_counts-next.new.pass) (only_last c) c.requires.may
+may_d c = may_loaded (shape_of c.args.bank.now) c.args.d (view c.args.pass.now) (view c.read_counts-next.new.pass) c.requires.pass.1 (only_last c) c.requires.may
 
 may_e : (c : After-read_counts-next) → MayWriteEntries (shape_of c.args.bank.now) c.args.e (view c.read_counts-next.new.pass)
-may_e c = may_loaded (shape_of c.args.bank.now) c.args.e (view c.args.pass.now) (view c.read_counts-next.new.pass) (only_last c) c.requires.other
+may_e c = may_loaded (shape_of c.args.bank.now) c.args.e (view c.args.pass.now) (view c.read_counts-next.new.pass) c.requires.pass.1 (only_last c) c.requires.other
 
 knows_by : (k : Shape) (o : ℕ) (old : Option Table) (v u : View) → MayWriteEntries k o u → held_words o u ≡ held_words o v → HasRootOf k o old v → KnowsKeyed k o old u
 knows_by k o old v u may same root = record {
@@ -150,7 +150,7 @@ read_counts-counts-requires-clause-locked c = c.root_table-from.ensures.may.lock
 
 pub root_table-old-requires-clause-may : goal.root_table-old-requires-clause-may
 root_table-old-requires-clause-may c =
-    may_loaded (shape_of c.args.bank.now) c.args.e (view c.args.pass.now) (view c.read_counts-counts.new.pass) (only_first (goal.at.root_table-old-requires-clause-may c).After-read_counts-counts) c.requires.other
+    may_loaded (shape_of c.args.bank.now) c.args.e (view c.args.pass.now) (view c.read_counts-counts.new.pass) c.requires.pass.1 (only_first (goal.at.root_table-old-requires-clause-may c).After-read_counts-counts) c.requires.other
 
 pub read_counts-next-requires-clause-locked : goal.read_counts-next-requires-clause-locked
 read_counts-next-requires-clause-locked c = c.root_table-old.ensures.may.locked

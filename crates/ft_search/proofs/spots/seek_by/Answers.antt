@@ -45,7 +45,7 @@ pub returns-in-Some-clause-stack : goal.returns-in-Some-clause-stack
 returns-in-Some-clause-stack c = (part (goal.at.returns-in-Some-clause-stack c).After-read_by-found).2.2
 
 pub returns-in-Some-clause-may : goal.returns-in-Some-clause-may
-returns-in-Some-clause-may c = may_loaded (shape_of c.args.bank.now) c.args.o (view c.args.pass.now) (view c.read_by-found.new.pass) (only (goal.at.returns-in-Some-clause-may c).After-read_by-found) c.requires.may
+returns-in-Some-clause-may c = may_loaded (shape_of c.args.bank.now) c.args.o (view c.args.pass.now) (view c.read_by-found.new.pass) c.requires.pass.1 (only (goal.at.returns-in-Some-clause-may c).After-read_by-found) c.requires.may
 
 pub returns-in-Some-clause-keeps : goal.returns-in-Some-clause-keeps
 returns-in-Some-clause-keeps c = only (goal.at.returns-in-Some-clause-keeps c).After-read_by-found
@@ -72,7 +72,7 @@ returns-in-Some-clause-spot c =
     let spot_now = spot_is c.used_entries_follow_a_dict.ensures.missing c.used_entries_follow_a_set.ensures.missing c.used_entries_follow_a_dict.ensures.first c.used_entries_follow_a_set.ensures.first c.searches_end_at_the_first_free_slot.ensures k o key v c.args.way table in_bank names c.requires.may.stands
     (of_way c.args.way v o c.args.pass.now.possible c.requires.may.locked kind_is) c.requires.way c.key_fits.ensures c.read_by-found.ensures.low s.0 found read c.read_by-found.ensures.within s.2 s.3 s.1 in
     subst (λ (z : Spot). IsSpot k o c.args.way key (view c.read_by-found.new.pass) z) (sym c.spot_of.ensures)
-    (spot_loaded k o v (view c.read_by-found.new.pass) (only (goal.at.returns-in-Some-clause-spot c).After-read_by-found) c.args.way key _ spot_now)
+    (spot_loaded k o v (view c.read_by-found.new.pass) c.requires.pass.1 (only (goal.at.returns-in-Some-clause-spot c).After-read_by-found) c.requires.may c.args.way key _ spot_now)
 
 -- ---- where there is none
 
@@ -80,7 +80,7 @@ bare_only : (c : In-None) → OnlyLoaded (view c.args.pass.now) (view c.read_blo
 bare_only c = looks_did (ReadBlock c.args.o 0 c.read_block-root.result ∷ []) c.args.pass.now c.read_block-root.new.pass tt c.read_block-root.ensures.did
 
 pub returns-in-None-clause-may : goal.returns-in-None-clause-may
-returns-in-None-clause-may c = may_loaded (shape_of c.args.bank.now) c.args.o (view c.args.pass.now) (view c.read_block-root.new.pass) (bare_only (goal.at.returns-in-None-clause-may c).In-None) c.requires.may
+returns-in-None-clause-may c = may_loaded (shape_of c.args.bank.now) c.args.o (view c.args.pass.now) (view c.read_block-root.new.pass) c.requires.pass.1 (bare_only (goal.at.returns-in-None-clause-may c).In-None) c.requires.may
 
 pub returns-in-None-clause-keeps : goal.returns-in-None-clause-keeps
 returns-in-None-clause-keeps c = bare_only (goal.at.returns-in-None-clause-keeps c).In-None
@@ -99,7 +99,7 @@ returns-in-None-clause-spot c =
     let kind_is = ap (λ (z : Shape). kind_in z.starts o) c.requires.pass.1 ∙ c.requires.way in
     let root : root_in (held_unboxed o v) ≡ 0 = sym (c.read_block-root.ensures.held c.requires.may.locked) ∙ none in
     let held_none = bare_held c.used_entries_follow_a_dict.ensures.missing c.used_entries_follow_a_set.ensures.missing k.texts (held_unboxed o v) (known_state o v) c.requires.may.stands c.args.key c.args.way (of_way c.args.way v o c.args.pass.now.possible c.requires.may.locked kind_is) root in
-    spot_loaded k o v (view c.read_block-root.new.pass) (bare_only (goal.at.returns-in-None-clause-spot c).In-None) c.args.way c.args.key spot.Bare (root, held_none)
+    spot_loaded k o v (view c.read_block-root.new.pass) c.requires.pass.1 (bare_only (goal.at.returns-in-None-clause-spot c).In-None) c.requires.may c.args.way c.args.key spot.Bare (root, held_none)
 
 pub read_by-found-requires-clause-table : goal.read_by-found-requires-clause-table
 read_by-found-requires-clause-table c = c.in-Some.ensures.in_bank

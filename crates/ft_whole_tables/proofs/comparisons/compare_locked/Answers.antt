@@ -29,7 +29,7 @@ shown c =
     (compared_shown k a.how a.c a.other v c.requires.pass.1 a.pass.now.possible c.requires.may c.requires.other c.requires.kind c.requires.other_kind is_so shows)
 
 pub answer_made-requires-clause-left : goal.answer_made-requires-clause-left
-answer_made-requires-clause-left c = (may_loaded (shape_of c.args.bank.now) c.args.c (view c.args.pass.now) (view c.holds_between-is_so.new.pass) (loaded (goal.at.answer_made-requires-clause-left c).After-holds_between-is_so) c.requires.may).left
+answer_made-requires-clause-left c = (may_loaded (shape_of c.args.bank.now) c.args.c (view c.args.pass.now) (view c.holds_between-is_so.new.pass) c.requires.pass.1 (loaded (goal.at.answer_made-requires-clause-left c).After-holds_between-is_so) c.requires.may).left
 
 pub answer_made-requires-clause-shown : goal.answer_made-requires-clause-shown
 answer_made-requires-clause-shown c =

@@ -197,17 +197,17 @@ bare_absent k o closed n root opened key p q did none same even = (
 pub at_bare : (k : Shape) (o : ℕ) (key : Key) (root : ℕ) (p q : Pass) (r : Round) → root ≡ 0 → EndsRound k o key 0 p q r → EndsRound k o key root p q r
 at_bare k o key root p q r none e = subst (λ (z : ℕ). EndsRound k o key z p q r) (sym none) e
 
-pub at_table : (k : Shape) (o : ℕ) (key : Key) (t : ℕ) (p q : Pass) (r : Round) (rest : List Act) → (view p).log ≡ ReadRoot o (suc t) ∷ rest → EndsTable k o key t p q r → EndsRound k o key (suc t) p q r
-at_table k o key t p q (Moved r) rest last e = (e.0, e.1, e.2, e.3, e.4)
-at_table k o key t p q (Ended (Here value_kind value n)) rest last e =
+pub at_table : (k : Shape) (o : ℕ) (key : Key) (t : ℕ) (p q : Pass) (r : Round) (rest : List Act) → (view q).shape ≡ k → (view p).log ≡ ReadRoot o (suc t) ∷ rest → EndsTable k o key t p q r → EndsRound k o key (suc t) p q r
+at_table k o key t p q (Moved r) rest shape last e = (e.0, e.1, e.2, e.3, e.4)
+at_table k o key t p q (Ended (Here value_kind value n)) rest shape last e =
+    let part = e.0 in
+    let win = window_of o t part rest p q e.2 last e.1 in
+    (ReadRoot o (suc t) ∷ part, looks_inner part e.1, e.2, (e.3.0 (view q) shape q.possible win, among_in (ReadCounter n) (ReadRoot o (suc t) ∷ []) part (ReadRoot o (suc t) ∷ []) e.3.1))
+at_table k o key t p q (Ended (Absent n)) rest shape last e =
     let part = e.0 in
     let win = window_of o t part rest p q e.2 last e.1 in
     (ReadRoot o (suc t) ∷ part, looks_inner part e.1, e.2, (e.3.0 (view q).log win, among_in (ReadCounter n) (ReadRoot o (suc t) ∷ []) part (ReadRoot o (suc t) ∷ []) e.3.1))
-at_table k o key t p q (Ended (Absent n)) rest last e =
-    let part = e.0 in
-    let win = window_of o t part rest p q e.2 last e.1 in
-    (ReadRoot o (suc t) ∷ part, looks_inner part e.1, e.2, (e.3.0 (view q).log win, among_in (ReadCounter n) (ReadRoot o (suc t) ∷ []) part (ReadRoot o (suc t) ∷ []) e.3.1))
-at_table k o key t p q (Ended (Contended a b)) rest last e =
+at_table k o key t p q (Ended (Contended a b)) rest shape last e =
     let part = e.0 in
     (ReadRoot o (suc t) ∷ part, looks_inner part e.1, e.2, inl (t, record { newer = []; rest = part ++ ReadRoot o (suc t) ∷ []; is = refl }, entry_in k o t key a b (ReadRoot o (suc t) ∷ []) part (ReadRoot o (suc t) ∷ []) e.3))
 

@@ -39,7 +39,7 @@ use Rattle.ft_search.specs.declared.reading.SeenEntry.{SeenEntry}
 use Rattle.ft_search.specs.declared.rounds.Round.{Round}
 use Rattle.ft_search.specs.SearchCosts.{index_reads, indexed, LoadsNoIndex, IsRound, LoadsRounds, WalksOn, MayWalkOn, SpendsSearch, SpendsRound}
 use Rattle.ft_search.specs.KeyLooks.{AreLooks, Inner}
-use Rattle.ft_search.specs.Rounds.{kind_by, entry_acts}
+use Rattle.ft_search.specs.Rounds.{kind_by, box_acts, entry_acts, entry_acts_as}
 use Rattle.ft_search.specs.TableWords.{CanLoad}
 use Rattle.ft_search.proofs.Bounding.{count_is, index_here, index_other, index_past, index_entry, none_append, may_more}
 use Rattle.ft_search.proofs.WordPlaces.{slots_is, slots_of_class}
@@ -50,14 +50,25 @@ use Rattle.ft_search.proofs.IndexWordsStay.{slots_stay}
 
 -- the loads of an entry between two of its version
 pub seen_none : (t place : ℕ) (seen : SeenEntry) → LoadsNoIndex (entry_acts t place seen)
-seen_none t place seen u =
-    let at = entry_offset (slots (class_of t)) place in
-    let one : List Act = ReadTable t (at 0) seen.opened ∷ [] in
-    let two : List Act = ReadTable t (at 2) seen.key_kind ∷ one in
-    let three : List Act = ReadTable t (at 4) seen.value_kind ∷ two in
-    let four : List Act = ReadTable t (at 5) seen.value ∷ three in
-    index_entry u t place 0 seen.closed (ReadCounter seen.number ∷ four)
-    ∙ (index_entry u t place 5 seen.value three ∙ (index_entry u t place 4 seen.value_kind two ∙ (index_entry u t place 2 seen.key_kind one ∙ index_entry u t place 0 seen.opened [])))
+seen_none t place seen u = by seen.value.boxed
+  where
+    by : (boxed : Bool) → index_reads u (entry_acts_as boxed t place seen) ≡ 0
+    by true =
+        let at = entry_offset (slots (class_of t)) place in
+        let one : List Act = ReadTable t (at 0) seen.opened ∷ [] in
+        let two : List Act = ReadTable t (at 2) seen.key_kind ∷ one in
+        let three : List Act = ReadTable t (at 4) seen.found_kind ∷ two in
+        let four : List Act = ReadTable t (at 5) seen.payload ∷ three in
+        index_entry u t place 0 seen.closed (ReadCounter seen.number ∷ (box_acts true seen.payload seen.value.kind seen.value.value ++ four))
+        ∙ (index_entry u t place 5 seen.payload three ∙ (index_entry u t place 4 seen.found_kind two ∙ (index_entry u t place 2 seen.key_kind one ∙ index_entry u t place 0 seen.opened [])))
+    by false =
+        let at = entry_offset (slots (class_of t)) place in
+        let one : List Act = ReadTable t (at 0) seen.opened ∷ [] in
+        let two : List Act = ReadTable t (at 2) seen.key_kind ∷ one in
+        let three : List Act = ReadTable t (at 4) seen.found_kind ∷ two in
+        let four : List Act = ReadTable t (at 5) seen.payload ∷ three in
+        index_entry u t place 0 seen.closed (ReadCounter seen.number ∷ four)
+        ∙ (index_entry u t place 5 seen.payload three ∙ (index_entry u t place 4 seen.found_kind two ∙ (index_entry u t place 2 seen.key_kind one ∙ index_entry u t place 0 seen.opened [])))
 
 pub versions_none : (t place a b : ℕ) → LoadsNoIndex (ReadTable t (entry_offset (slots (class_of t)) place 0) b ∷ (ReadTable t (entry_offset (slots (class_of t)) place 0) a ∷ []))
 versions_none t place a b u = index_entry u t place 0 b (ReadTable t (entry_offset (slots (class_of t)) place 0) a ∷ []) ∙ index_entry u t place 0 a []

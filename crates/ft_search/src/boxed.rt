@@ -24,16 +24,16 @@ use ft_layout::Ref;
 /// The kind of a value that stands in a box.
 pub(crate) const BOX_KIND: u64 = 4;
 /// The kind, the payload: which words of a box they are.
-const KIND: u64 = 1;
+pub(crate) const KIND: u64 = 1;
 
-const PAYLOAD: u64 = 2;
+pub(crate) const PAYLOAD: u64 = 2;
 /// The step between the names of two passes' first boxes.
-const NAMES: u64 = 65536;
+pub(crate) const NAMES: u64 = 65536;
 /// The shared word of a merged box for which there is one reference.
 const LAST: u64 = 7;
 
 /// The box that a payload names.
-fn box_of(payload: u64) -> Ref
+pub(crate) fn box_of(payload: u64) -> Ref
     requires { payload / 65536 < 2 ^ 32 }
     ensures maker { result.pass ≡ maker_of payload }
     ensures place { result.place ≡ place_in payload }

@@ -11,23 +11,38 @@ ghost use Rattle.ft_bank.specs.Passes.{shape_of, view};
 ghost use Rattle.ft_bank.specs.Series.{DidAll};
 ghost use Rattle.ft_bank.specs.TableNames.{table_id};
 ghost use Rattle.ft_search.specs.TableWords.{CanLoad, SamePlace};
-ghost use Rattle.ft_search.specs.Rounds.{entry_acts};
+ghost use Rattle.ft_search.specs.Rounds.{box_acts, entry_acts, SeesValue};
 
+use crate::boxed::{BOX_KIND, KIND, NAMES, PAYLOAD, box_of};
 use crate::words::TableWords;
 use ft_keys::Words;
 use ft_layout::entry_word::{KEY_KIND, VALUE, VALUE_KIND, VERSION};
 
-/// What was loaded of an entry, in the order of the loads: its version, words, the counter, its version.
+/// What a value was read as that has certain words.
+#[derive(Clone, Copy)]
+pub(crate) struct SeenValue {
+    /// Whether it was read in a box.
+    pub(crate) boxed: bool,
+    /// The kind that was read.
+    pub(crate) kind: u64,
+    /// The payload that was read.
+    pub(crate) value: u64,
+}
+
+/// What was loaded of an entry, in the order of the loads: its version, words, the box that they name, the counter, its
+/// version.
 #[derive(Clone, Copy)]
 pub(crate) struct SeenEntry {
     /// The version at first.
     pub(crate) opened: u64,
     /// The kind of the key.
     pub(crate) key_kind: u64,
-    /// The kind of the value.
-    pub(crate) value_kind: u64,
-    /// The payload of the value.
-    pub(crate) value: u64,
+    /// The kind of the value, as it stands in the entry.
+    pub(crate) found_kind: u64,
+    /// The payload of the value, as it stands in the entry.
+    pub(crate) payload: u64,
+    /// The value, read through its box where it has one.
+    pub(crate) value: SeenValue,
     /// The counter.
     pub(crate) number: u64,
     /// The version at last.
@@ -70,6 +85,51 @@ impl<'a> TableWords<'a> {
         self.entry(place, word)
     }
 
+    /// Reads the value that has these words: in the box that they name, where the bank has it, and else in place. Nobody
+    /// keeps the box, so what was read counts only where the words stood meanwhile.
+    #[inline(always)]
+    pub(crate) fn see_value(&mut self, kind: u64, payload: u64) -> SeenValue
+        requires can { CanLoad self.old }
+        ensures can { CanLoad self.new }
+        ensures same { SamePlace self.old self.new }
+        ensures did { DidAll (box_acts result.boxed payload result.kind result.value) self.old.pass.now self.new.pass.now }
+        ensures sees { SeesValue (shape_of self.old.bank.now) kind payload result }
+    {
+        if kind != BOX_KIND {
+            return SeenValue {
+                boxed: false,
+                kind,
+                value: payload,
+            };
+        }
+        let passes = u64::from(self.bank.passes());
+        let maker = payload / NAMES;
+        if passes <= maker {
+            return SeenValue {
+                boxed: false,
+                kind,
+                value: payload,
+            };
+        }
+        let heap = u64::from(self.bank.heap());
+        let place = payload % NAMES;
+        if heap <= place {
+            return SeenValue {
+                boxed: false,
+                kind,
+                value: payload,
+            };
+        }
+        let b = box_of(payload);
+        let found = self.bank.read_box(self.pass, b, KIND);
+        let value = self.bank.read_box(self.pass, b, PAYLOAD);
+        SeenValue {
+            boxed: true,
+            kind: found,
+            value,
+        }
+    }
+
     /// Loads an entry's words between two loads of its version.
     #[inline(always)]
     pub(crate) fn read_between(&mut self, place: u64) -> SeenEntry
@@ -78,17 +138,20 @@ impl<'a> TableWords<'a> {
         ensures can { CanLoad self.new }
         ensures same { SamePlace self.old self.new }
         ensures did { DidAll (entry_acts (table_id self.old.table) place result) self.old.pass.now self.new.pass.now }
+        ensures sees { SeesValue (shape_of self.old.bank.now) result.found_kind result.payload result.value }
     {
         let opened = self.word(place, VERSION);
         let key_kind = self.word(place, KEY_KIND);
-        let value_kind = self.word(place, VALUE_KIND);
-        let value = self.word(place, VALUE);
+        let found_kind = self.word(place, VALUE_KIND);
+        let payload = self.word(place, VALUE);
+        let value = self.see_value(found_kind, payload);
         let number = self.stamp();
         let closed = self.word(place, VERSION);
         SeenEntry {
             opened,
             key_kind,
-            value_kind,
+            found_kind,
+            payload,
             value,
             number,
             closed,

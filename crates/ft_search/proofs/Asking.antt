@@ -1,5 +1,5 @@
 -- From what a look-up shows to what a call may answer, for dicts and sets.
-use Rattle.std.proofs.Common.{◌≤◌, ◌≡◌, ℕ, ◌<◌, List, [], ◌∷◌, ◌++◌, Some, None, sym, ap, ◌∙◌, subst, true, false, append_assoc, refl}
+use Rattle.std.proofs.Common.{◌≤◌, ◌≡◌, ℕ, ◌<◌, List, [], ◌∷◌, ◌++◌, Some, None, sym, ap, ◌∙◌, subst, true, false, append_assoc, refl, inl}
 use Rattle.ft_model.specs.declared.call.Call.{Call}
 use Rattle.ft_model.specs.declared.call.Call.TheVariants as call
 use Rattle.ft_model.specs.declared.call.SetCall.TheVariants as set
@@ -87,13 +87,13 @@ module _ (v w : View) (k : Shape) (o : ℕ) (key : Key) (n : ℕ) (part : List A
     pub key_here : kind_in k.starts o ≡ kind.Dict → (value : Value) → IsStored value_kind payload (Plain value) → KeyIsShown w o key (Some value) n
     key_here is value stored =
         let here : kind_in w.shape.starts o ≡ kind.Dict = ap (λ (z : Shape). kind_in z.starts o) same ∙ is in
-        (dict_hits_are_shown w o shows.t shows.place key n ask here fits (subst (λ z. shows.place < rows z (class_of shows.t)) is shows.low) shows.hit).1 value_kind payload shows.read value stored
+        (dict_hits_are_shown w o shows.t shows.place key n ask here fits (subst (λ z. shows.place < rows z (class_of shows.t)) is shows.low) shows.hit).1 value_kind payload (inl shows.read) value stored
 
     -- the words that were read are those of a value
     pub value_here : IsReachable w → kind_in k.starts o ≡ kind.Dict → (value : Value) × IsStored value_kind payload (Plain value)
     value_here possible is =
         let here : kind_in w.shape.starts o ≡ kind.Dict = ap (λ (z : Shape). kind_in z.starts o) same ∙ is in
-        values_are_read w o shows.t shows.place key n possible ask.low here fits (subst (λ z. shows.place < rows z (class_of shows.t)) is shows.low) shows.hit value_kind payload shows.read
+        values_are_read w o shows.t shows.place key n possible ask.low here fits (subst (λ z. shows.place < rows z (class_of shows.t)) is shows.low) shows.hit value_kind payload (inl shows.read)
 
     pub element_here : kind_in k.starts o ≡ kind.Set → IsShown w (call.Set o (set.Has key)) (reply.Truth true) n
     element_here is =

@@ -23,7 +23,10 @@ second : (c : After-put_block) → OnlyPut c.args.o (view c.read_block-count.new
 second c = put_by (PutBlock c.args.o 1 (c.read_block-count.result - 1)) (view c.read_block-count.new.pass) (view c.put_block.new.pass) c.args.o tt c.put_block.ensures.did.1 c.put_block.ensures.keeps c.put_block.ensures.moves
 
 pub overflow_sub-count : goal.overflow_sub-count
-overflow_sub-count c = let e = c.read_block-count.ensures.held c.requires.writes.locked in let s = c.requires.some in omega (arith, e, s)
+overflow_sub-count c =
+    let e : c.read_block-count.result ≡ slice_index (held_unboxed c.args.o (view c.args.pass.now)).block 1 = c.read_block-count.ensures.held c.requires.writes.locked in
+    let s = c.requires.some in
+    omega (arith, e, s)
 
 pub raise_at-requires-clause-writes : goal.raise_at-requires-clause-writes
 raise_at-requires-clause-writes c =

@@ -33,7 +33,7 @@ use Rattle.ft_trace.specs.declared.Shape.{Shape}
 use Rattle.ft_trace.specs.declared.View.{View}
 use Rattle.ft_trace.specs.Addresses.{class_of, slots, size}
 use Rattle.ft_trace.specs.Carefuls.{HasLiveKey, IsDead, said_of, OpensChanged}
-use Rattle.ft_trace.specs.Holds.{held_words, known_state}
+use Rattle.ft_trace.specs.Holds.{held_unboxed, known_state}
 use Rattle.ft_trace.specs.Kinds.{element_words, is_key, rows, under}
 use Rattle.ft_trace.specs.Pictures.{ContainerWords, root_in, entry_offset, entry_field, Represents}
 use Rattle.ft_trace.specs.ContainerStates.{ContainerState, kind_in}
@@ -291,7 +291,7 @@ module _ (laws : SetLaws) (texts : List ℕ) (x : ContainerWords) (tab : TableUs
 
 pub midway_loaded : (k : Shape) (o : ℕ) (table : Table) (mid : ContainerState) (v w : View) → OnlyLoaded v w → IsMidway k o table mid v → IsMidway k o table mid w
 midway_loaded k o table mid v w only b =
-    let back : held_words o v ≡ held_words o w = sym (loaded_held v w o only) in
+    let back : held_unboxed o v ≡ held_unboxed o w = sym (loaded_held v w o only) in
     let knows : known_state o v ≡ known_state o w = sym (work_knows v w o only.work) in
     let t = table_id table in
     let m = rows (kind_in k.starts o) (class_of t) in
@@ -312,7 +312,7 @@ module _ (k : Shape) (s : ℕ) (table : Table) (kept : Bool) (others first : Set
   abbrev lm : ℕ
   lm = rows (kind_in k.starts s) (class_of lt)
 
-  back' : held_words s v ≡ held_words s w
+  back' : held_unboxed s v ≡ held_unboxed s w
   back' = sym (loaded_held v w s only)
 
   knows' : known_state s v ≡ known_state s w
@@ -341,7 +341,7 @@ module _ (k : Shape) (s : ℕ) (table : Table) (kept : Bool) (others first : Set
   vm = set_entries (class_of vt)
 
   abbrev words_now : ContainerWords
-  words_now = held_words s v
+  words_now = held_unboxed s v
 
   abbrev tab : TableUse
   tab = to.table
@@ -385,14 +385,14 @@ module _ (k : Shape) (s : ℕ) (table : Table) (kept : Bool) (others first : Set
     pub some_there : 0 < slice_index words_now.block 1
     some_there = some laws k.texts words_now tab vt class_is th.mid says_now place key low live fits class_some th.midway.writes.root (set.set_is_long v s vt th.midway.writes.root) even_here
 
-    module _ (z : View) (only : OnlyPut s v z) (puts : held_words s z ≡ with_puts words_now (deletion vt place key words_now)) (out : spared kept others first key ≡ false) where
+    module _ (z : View) (only : OnlyPut s v z) (puts : held_unboxed s z ≡ with_puts words_now (deletion vt place key words_now)) (out : spared kept others first key ≡ false) where
       abbrev long : vn + 8 * vm ≤ length words_now.table
       long = set.set_is_long v s vt th.midway.writes.root
 
       abbrev words_then : ContainerWords
       words_then = with_puts words_now (deletion vt place key words_now)
 
-      back : words_then ≡ held_words s z
+      back : words_then ≡ held_unboxed s z
       back = sym puts
 
       knows : known_state s v ≡ known_state s z

@@ -8,7 +8,7 @@ ghost use Rattle.ft_model.specs.TableUses.{passes_cap};
 ghost use Rattle.ft_model.specs.Worlds.{length_of, serial_of};
 ghost use Rattle.ft_trace.specs.Acts.{flight, used};
 ghost use Rattle.ft_trace.specs.Addresses.{class_of};
-ghost use Rattle.ft_trace.specs.Holds.{held_words, known_state};
+ghost use Rattle.ft_trace.specs.Holds.{held_unboxed, known_state};
 ghost use Rattle.ft_trace.specs.Pictures.{root_in};
 ghost use Rattle.ft_trace.specs.ContainerStates.{kind_in};
 ghost use Rattle.ft_bank.specs.Passes.{shape_of, view, IsPassOf};
@@ -90,7 +90,7 @@ fn join_in_new(
     requires pass { IsPassOf bank.now pass.old }
     requires merge { MayMerge (shape_of bank.now) (kind_by way) merge.now (view pass.old) }
     requires may { MayGrowKeyed (shape_of bank.now) merge.now.o old new (view pass.old) }
-    requires apart { root_in (held_words merge.now.o (view pass.old)) ≢ suc (table_id new) }
+    requires apart { root_in (held_unboxed merge.now.o (view pass.old)) ≢ suc (table_id new) }
     requires few { passes_cap
         (joined (known_state merge.now.o (view pass.old)).content (known_state merge.now.t (view pass.old)).content) ≡ false }
     requires joins { JoinsKeys merge.now.o merge.now.t called.now (view pass.old) }
@@ -99,7 +99,7 @@ fn join_in_new(
     ensures pass { IsPassOf bank.now pass.new }
     ensures stack { stack_of pass.new ≡ stack_of pass.old }
     ensures wrote { Wrote called.now reply.Done result (view pass.old) (view pass.new) }
-    ensures root { root_in (held_words merge.now.o (view pass.new)) ≡ suc (table_id new) }
+    ensures root { root_in (held_unboxed merge.now.o (view pass.new)) ≡ suc (table_id new) }
 {
     used_entries_follow_a_dict();
     used_entries_follow_a_set();

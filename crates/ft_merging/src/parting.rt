@@ -5,7 +5,7 @@ ghost use Rattle.ft_model.specs.declared.content.Content.TheVariants as content;
 ghost use Rattle.ft_model.specs.declared.reply.Reply.TheVariants as reply;
 ghost use Rattle.ft_model.specs.declared.script.Kind.TheVariants as kind;
 ghost use Rattle.ft_model.specs.TableUses.{passes_cap};
-ghost use Rattle.ft_trace.specs.Holds.{held_words, known_state};
+ghost use Rattle.ft_trace.specs.Holds.{held_unboxed, known_state};
 ghost use Rattle.ft_trace.specs.Pictures.{root_in};
 ghost use Rattle.ft_trace.specs.ContainerStates.{kind_in};
 ghost use Rattle.ft_bank.specs.Passes.{shape_of, view, IsPassOf};
@@ -67,7 +67,7 @@ pub fn part_here(bank: &Bank, pass: &mut Pass, own: Table, merge: &Merge, called
     ensures pass { IsPassOf bank.now pass.new }
     ensures stack { stack_of pass.new ≡ stack_of pass.old }
     ensures wrote { Wrote called.now reply.Done result (view pass.old) (view pass.new) }
-    ensures root { root_in (held_words merge.now.o (view pass.new)) ≡ root_in (held_words merge.now.o (view pass.old)) }
+    ensures root { root_in (held_unboxed merge.now.o (view pass.new)) ≡ root_in (held_unboxed merge.now.o (view pass.old)) }
 {
     used_entries_follow_a_dict();
     used_entries_follow_a_set();

@@ -6,7 +6,7 @@ ghost use Rattle.ft_layout.specs.declared.slot.Slot.TheVariants.{Live};
 ghost use Rattle.ft_layout.specs.Words.{IsEntry, IsKey};
 ghost use Rattle.ft_model.specs.declared.data.Key.{Key};
 ghost use Rattle.ft_trace.specs.Addresses.{class_of, container_count, slots};
-ghost use Rattle.ft_trace.specs.Holds.{held_words};
+ghost use Rattle.ft_trace.specs.Holds.{held_unboxed};
 ghost use Rattle.ft_trace.specs.Kinds.{rows, IsKeyed};
 ghost use Rattle.ft_trace.specs.Pictures.{entry_field};
 ghost use Rattle.ft_trace.specs.ContainerStates.{kind_in};
@@ -38,7 +38,7 @@ pub fn word_of(bank: &Bank, pass: &mut Pass, o: Object, table: Table, place: u64
     ensures pass { IsPassOf bank.now pass.new }
     ensures stack { stack_of pass.new ≡ stack_of pass.old }
     ensures only { OnlyLoaded (view pass.old) (view pass.new) }
-    ensures found { result ≡ entry_field (slots (class_of (table_id table))) (held_words o (view pass.old)).table place word }
+    ensures found { result ≡ entry_field (slots (class_of (table_id table))) (held_unboxed o (view pass.old)).table place word }
 {
     let _ = o;
     let at = 8 * place + word + mask_of(table.class) + 1;
@@ -57,8 +57,8 @@ pub fn key_at(bank: &Bank, pass: &mut Pass, o: Object, table: Table, place: u64)
     ensures stack { stack_of pass.new ≡ stack_of pass.old }
     ensures only { OnlyLoaded (view pass.old) (view pass.new) }
     ensures key { (key : Key) →
-        IsKey (entry_field (slots (class_of (table_id table))) (held_words o (view pass.old)).table place 2)
-        (entry_field (slots (class_of (table_id table))) (held_words o (view pass.old)).table place 3) key ↔ (result ≡ Some key) }
+        IsKey (entry_field (slots (class_of (table_id table))) (held_unboxed o (view pass.old)).table place 2)
+        (entry_field (slots (class_of (table_id table))) (held_unboxed o (view pass.old)).table place 3) key ↔ (result ≡ Some key) }
 {
     let kind = word_of(bank, pass, o, table, place, KEY_KIND);
     let payload = word_of(bank, pass, o, table, place, KEY);
@@ -100,7 +100,7 @@ pub(crate) fn pair_at(
     ensures stack { stack_of pass.new ≡ stack_of pass.old }
     ensures only { OnlyLoaded (view pass.old) (view pass.new) }
     ensures pair { (said : Slot) →
-        IsEntry (entry_field (slots (class_of (table_id table))) (held_words o (view pass.old)).table place) said →
+        IsEntry (entry_field (slots (class_of (table_id table))) (held_unboxed o (view pass.old)).table place) said →
         result ≡ pair_in said }
 {
     let hash = word_of(bank, pass, o, table, place, HASH);

@@ -24,7 +24,7 @@ use Rattle.ft_keys.specs.Ways.{room, IsTableOf}
 use Rattle.ft_trace.specs.declared.Shape.{Shape}
 use Rattle.ft_trace.specs.declared.View.{View}
 use Rattle.ft_trace.specs.Addresses.{class_of, slots, places, size}
-use Rattle.ft_trace.specs.Holds.{held_words, known_state, in_hand}
+use Rattle.ft_trace.specs.Holds.{held_unboxed, known_state, in_hand}
 use Rattle.ft_trace.specs.Kinds.{rows, IsKeyed}
 use Rattle.ft_trace.specs.Traces.{IsReachable}
 use Rattle.ft_trace.specs.Pictures.{entry_offset, entry_field}
@@ -250,21 +250,21 @@ module _ (k : Shape) (o : ℕ) (old : Table) (v : View) (keyed : KnowsKeyed k o 
   content_kind : kind_of d ≡ kind_in k.starts o
   content_kind = kind_is k v o shape possible keyed.locked
 
-  old_says : StandsAs k.texts (held_words o v).block (0 ∷ 0 ∷ (held_words o v).table) (use_with old.class fill) d
+  old_says : StandsAs k.texts (held_unboxed o v).block (0 ∷ 0 ∷ (held_unboxed o v).table) (use_with old.class fill) d
   old_says =
-      let class = class_known k.texts (held_words o v) (known_state o v) (table_id old) keyed.stands keyed.root ∙ ap (λ (n : ℕ). Some n) (class_is old (keyed.table_in old refl).2) in
-      subst (λ (z : Option ℕ × List Key). StandsAs k.texts (held_words o v).block (0 ∷ 0 ∷ (held_words o v).table) (record { class = z.0; fill = fill; keys = z.1 }) d) (λ i. (class i, no_keys v o possible keyed.locked i)) keyed.stands
+      let class = class_known k.texts (held_unboxed o v) (known_state o v) (table_id old) keyed.stands keyed.root ∙ ap (λ (n : ℕ). Some n) (class_is old (keyed.table_in old refl).2) in
+      subst (λ (z : Option ℕ × List Key). StandsAs k.texts (held_unboxed o v).block (0 ∷ 0 ∷ (held_unboxed o v).table) (record { class = z.0; fill = fill; keys = z.1 }) d) (λ i. (class i, no_keys v o possible keyed.locked i)) keyed.stands
 
   pub old_fits : (mask : ℕ) → mask ≡ class_mask old.class → fill ≤ dict_room mask
-  old_fits mask is = subst (λ (m : ℕ). fill ≤ dict_room m) (sym is) (fill_room k.texts (held_words o v).block (held_words o v).table old.class fill d (subst IsKeyed (sym content_kind) keyed.keyed) old_says)
+  old_fits mask is = subst (λ (m : ℕ). fill ≤ dict_room m) (sym is) (fill_room k.texts (held_unboxed o v).block (held_unboxed o v).table old.class fill d (subst IsKeyed (sym content_kind) keyed.keyed) old_says)
 
-  pub filled_by : BlankHolds → LivePairs → LiveElements → KeepsVersions → (s t : FreshWords) (class most result : ℕ) → IsClass class → s.mask ≡ class_mask class → s.old_mask ≡ class_mask old.class → HasZeroWords class (in_hand (table_id s.table) (view s.pass.now)) → old_words s ≡ 0 ∷ 0 ∷ (held_words o v).table → length_of d ≤ rows (kind_by by) class
+  pub filled_by : BlankHolds → LivePairs → LiveElements → KeepsVersions → (s t : FreshWords) (class most result : ℕ) → IsClass class → s.mask ≡ class_mask class → s.old_mask ≡ class_mask old.class → HasZeroWords class (in_hand (table_id s.table) (view s.pass.now)) → old_words s ≡ 0 ∷ 0 ∷ (held_unboxed o v).table → length_of d ≤ rows (kind_by by) class
       → (n : ℕ) → n ≡ fill → Moves FreshMade s.mask s t most result (Rebuilds by s.mask n result) → IsFilledWith k.texts class d (in_hand (table_id s.table) (view t.pass.now))
   filled_by holds pairs_live elements_live keeps s t class most result is_class last old_last blank words few n same_fill moves =
       let r = ran_fresh s moves.calls t moves.runs in
       let made : 0 ∷ 0 ∷ in_hand (table_id s.table) (view t.pass.now) ≡ after s.mask moves.calls (fresh_words s) = ap (λ (z : Table). 0 ∷ 0 ∷ in_hand (table_id z) (view t.pass.now)) (sym r.table) ∙ r.words in
       let done = moves.done (fresh_words s) (old_words s) s.old_mask r.fits r.fits_old in
-      copied holds pairs_live elements_live keeps k.texts (held_words o v).block (held_words o v).table old.class class fill result moves.calls (in_hand (table_id s.table) (view s.pass.now)) (in_hand (table_id s.table) (view t.pass.now)) is_class (keyed.table_in old refl).0 blank
+      copied holds pairs_live elements_live keeps k.texts (held_unboxed o v).block (held_unboxed o v).table old.class class fill result moves.calls (in_hand (table_id s.table) (view s.pass.now)) (in_hand (table_id s.table) (view t.pass.now)) is_class (keyed.table_in old refl).0 blank
       (subst (λ (m : ℕ). PutBelow m result moves.calls) last moves.below)
       (made ∙ ap (λ (m : ℕ). after m moves.calls (fresh_words s)) last)
       d by result (content_kind ∙ kind_eq) old_says few

@@ -14,7 +14,7 @@ use Rattle.ft_trace.specs.declared.Shape.{Shape}
 use Rattle.ft_trace.specs.declared.View.{View}
 use Rattle.ft_trace.specs.Acts.{has_lock, is_writing, has_committed, has_emptied, owes, view_after}
 use Rattle.ft_trace.specs.Addresses.{container_count, class_of, slots}
-use Rattle.ft_trace.specs.Holds.{held_words, known_state}
+use Rattle.ft_trace.specs.Holds.{held_unboxed, known_state}
 use Rattle.ft_trace.specs.Kinds.{rows, version_at, CarefulAs, ClearAs}
 use Rattle.ft_trace.specs.OddVersions.{Shut}
 use Rattle.ft_trace.specs.Pictures.{ContainerWords, root_in, entry_offset, entry_field, Represents}
@@ -76,7 +76,7 @@ module _ (o : ℕ) (v u : View) (since : Since o v u) where
 
   module _ (k : Shape) (table : Table) (place : ℕ) (called : Call) (said : Reply) (left : ContainerState) (leaves : Leaves o called said left v) (shape : v.shape ≡ k) (low : o < container_count k) (some : 0 < v.left)
       (takes : (found : StoredWorld) (class : ℕ) → MayHave v found → owes v.log ≡ suc class → takes_in found called ≡ Some class)
-      (kind_eq : kind_of (known_state o v).content ≡ kind_in k.starts o) (was : TableUse) (change : Changing k.texts (table_id table) (held_words o u) (record { content = (known_state o v).content; table = was }) place [] left) (root : root_in (held_words o u) ≡ suc (table_id table)) where
+      (kind_eq : kind_of (known_state o v).content ≡ kind_in k.starts o) (was : TableUse) (change : Changing k.texts (table_id table) (held_unboxed o u) (record { content = (known_state o v).content; table = was }) place [] left) (root : root_in (held_unboxed o u) ≡ suc (table_id table)) where
     abbrev c : ℕ
     c = class_of (table_id table)
 
@@ -95,11 +95,11 @@ module _ (o : ℕ) (v u : View) (since : Since o v u) where
     left_since : (found : StoredWorld) → MayHave u found → state_at (after_stored found called) o ≡ left
     left_since found has = leaves.left_is found (has_since found has)
 
-    clears : (found : StoredWorld) (t : ℕ) → MayHave u found → root_in (held_words o u) ≡ suc t → ClearAs (kind_in u.shape.starts o) u.shape.texts (class_of t) (held_words o u).table (known_state o u).content (state_at (after_stored found called) o).content
+    clears : (found : StoredWorld) (t : ℕ) → MayHave u found → root_in (held_unboxed o u) ≡ suc t → ClearAs (kind_in u.shape.starts o) u.shape.texts (class_of t) (held_unboxed o u).table (known_state o u).content (state_at (after_stored found called) o).content
     clears found t has names =
         let same : table_id table ≡ t = let e : suc (table_id table) ≡ suc t = sym root ∙ names in omega (arith, e) in
-        subst (λ (n : ℕ). ClearAs (kind_in u.shape.starts o) u.shape.texts (class_of n) (held_words o u).table (known_state o u).content (state_at (after_stored found called) o).content) same
-        (subst (λ (z : Kind × List ℕ × ContainerState × ContainerState). ClearAs z.0 z.1 c (held_words o u).table z.2.content z.3.content) (λ d. (kind_u d, texts_u d, sym (since.knows o) d, sym (left_since found has) d)) change.clear)
+        subst (λ (n : ℕ). ClearAs (kind_in u.shape.starts o) u.shape.texts (class_of n) (held_unboxed o u).table (known_state o u).content (state_at (after_stored found called) o).content) same
+        (subst (λ (z : Kind × List ℕ × ContainerState × ContainerState). ClearAs z.0 z.1 c (held_unboxed o u).table z.2.content z.3.content) (λ d. (kind_u d, texts_u d, sym (since.knows o) d, sym (left_since found has) d)) change.clear)
 
     commits : MayCommit u called said
     commits =
@@ -113,7 +113,7 @@ module _ (o : ℕ) (v u : View) (since : Since o v u) where
           reply_is = λ found has. plain_replied called said (reply_in found called) leaves.write (leaves.replied found (has_since found has));
           declared = λ found has. leaves.declared found (has_since found has);
           fits = λ found has. leaves.fits found (has_since found has);
-          clear = subst (λ (n : ℕ). (found : StoredWorld) (t : ℕ) → MayHave u found → root_in (held_words n u) ≡ suc t → ClearAs (kind_in u.shape.starts n) u.shape.texts (class_of t) (held_words n u).table (known_state n u).content (state_at (after_stored found called) n).content) name clears;
+          clear = subst (λ (n : ℕ). (found : StoredWorld) (t : ℕ) → MayHave u found → root_in (held_unboxed n u) ≡ suc t → ClearAs (kind_in u.shape.starts n) u.shape.texts (class_of t) (held_unboxed n u).table (known_state n u).content (state_at (after_stored found called) n).content) name clears;
           takes = λ found class has owed. takes found class (has_since found has) (sym since.owes ∙ owed);
           empties = λ e. absurd (true≢false (sym e ∙ subst (λ (n : ℕ). has_emptied n u.log ≡ false) name since.emptied));
           locks = λ p e. since.locks p ∙ leaves.locks p e;
@@ -126,9 +126,9 @@ module _ (o : ℕ) (v u : View) (since : Since o v u) where
       left = left;
       left_is = left_since;
       odd = change.odd;
-      close = subst (λ (z : Kind). CarefulAs z c (held_words o u).table left.content at (entry_field (slots c) (held_words o u).table place 0 + 1)) kind_u change.close;
-      stands = subst (λ (z : List ℕ). Represents z (raised_at (table_id table) place (held_words o u)) left) texts_u change.stands;
-      shut = subst (λ (z : Kind). Shut (version_at z c) (rows z c) (raised_at (table_id table) place (held_words o u)).table) kind_u change.shut;
+      close = subst (λ (z : Kind). CarefulAs z c (held_unboxed o u).table left.content at (entry_field (slots c) (held_unboxed o u).table place 0 + 1)) kind_u change.close;
+      stands = subst (λ (z : List ℕ). Represents z (raised_at (table_id table) place (held_unboxed o u)) left) texts_u change.stands;
+      shut = subst (λ (z : Kind). Shut (version_at z c) (rows z c) (raised_at (table_id table) place (held_unboxed o u)).table) kind_u change.shut;
     }
 
 -- ---- what a call leaves that adds a key

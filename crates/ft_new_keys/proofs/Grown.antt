@@ -8,7 +8,7 @@ use Rattle.ft_trace.specs.declared.Shape.{Shape}
 use Rattle.ft_trace.specs.declared.View.{View}
 use Rattle.ft_trace.specs.Acts.{has_lock, is_writing, owes, stage, used, view_after}
 use Rattle.ft_trace.specs.Addresses.{container_count}
-use Rattle.ft_trace.specs.Holds.{held_words, known_state}
+use Rattle.ft_trace.specs.Holds.{held_unboxed, known_state}
 use Rattle.ft_trace.specs.Pictures.{ContainerWords, root_in, Represents}
 use Rattle.ft_trace.specs.ContainerStates.{ContainerState, changes, kinds_in}
 use Rattle.ft_bank.specs.declared.table.Table.{Table}
@@ -22,7 +22,7 @@ use Rattle.ft_search.specs.OneEntryWrites.{Leaves}
 use Rattle.ft_new_keys.specs.KeyGrowth.{KnowsKeyed, MayGrowKeyed}
 
 -- what a pass knows of a container stays, where it knows the same words and the same content
-pub knows_on : (k : Shape) (o : ℕ) (old : Option Table) (v w : View) → held_words o w ≡ held_words o v → known_state o w ≡ known_state o v → has_lock o w.log ≡ has_lock o v.log → is_writing o w.log ≡ is_writing o v.log → KnowsKeyed k o old v → KnowsKeyed k o old w
+pub knows_on : (k : Shape) (o : ℕ) (old : Option Table) (v w : View) → held_unboxed o w ≡ held_unboxed o v → known_state o w ≡ known_state o v → has_lock o w.log ≡ has_lock o v.log → is_writing o w.log ≡ is_writing o v.log → KnowsKeyed k o old v → KnowsKeyed k o old w
 knows_on k o old v w same_words same_content lock writes keyed = record {
   container = keyed.container;
   keyed = keyed.keyed;
@@ -36,7 +36,7 @@ knows_on k o old v w same_words same_content lock writes keyed = record {
 -- ---- after words were put into a fresh table
 
 module _ (k : Shape) (o : ℕ) (old : Option Table) (v x : View) (shape : v.shape ≡ k) (only : OnlyFilled v x) (keyed : KnowsKeyed k o old v) where
-  pub same_filled : (held_words o x ≡ held_words o v) × (known_state o x ≡ known_state o v)
+  pub same_filled : (held_unboxed o x ≡ held_unboxed o v) × (known_state o x ≡ known_state o v)
   same_filled = only.keeps o (subst (λ (z : Shape). o < container_count z) (sym shape) keyed.container) keyed.locked keyed.even
 
   pub knows_filled : KnowsKeyed k o old x
@@ -75,10 +75,10 @@ leaves_filled o called said left v x only leaves = record {
 }
 
 -- the whole write, seen from before the table was filled
-pub grown_wrote : (o t : ℕ) (called : Call) (said : Reply) (number f : ℕ) (before v r u w : View) → changes called ≡ o → OnlyFilled before v → root_in (held_words o v) ≡ root_in (held_words o before) → root_in (held_words o v) ≢ suc t → is_writing o v.log ≡ false → r ≡ view_after (PutRoot o (suc t) (root_in (held_words o v))) (view_after (StartWrite o f) v) → KeepsUnwritten (view_after (StartWrite o f) v) r → OnlyPut o r u → root_in (held_words o u) ≡ suc t → EndsWrite called said number u w → Wrote called said number before w
+pub grown_wrote : (o t : ℕ) (called : Call) (said : Reply) (number f : ℕ) (before v r u w : View) → changes called ≡ o → OnlyFilled before v → root_in (held_unboxed o v) ≡ root_in (held_unboxed o before) → root_in (held_unboxed o v) ≢ suc t → is_writing o v.log ≡ false → r ≡ view_after (PutRoot o (suc t) (root_in (held_unboxed o v))) (view_after (StartWrite o f) v) → KeepsUnwritten (view_after (StartWrite o f) v) r → OnlyPut o r u → root_in (held_unboxed o u) ≡ suc t → EndsWrite called said number u w → Wrote called said number before w
 grown_wrote o t called said number f before v r u w at only same new even is keeps puts root ends =
     filled_wrote called said number before v w only
-    (subst (λ (n : ℕ). root_in (held_words n v) ≡ root_in (held_words n before)) (sym at) same)
-    (subst (λ (n : ℕ). r ≡ view_after (PutRoot n (suc t) (root_in (held_words n v))) (view_after (StartWrite n f) v) → is_writing n v.log ≡ false → root_in (held_words n v) ≢ suc t → KeepsUnwritten (view_after (StartWrite n f) v) r → OnlyPut n r u → root_in (held_words n u) ≡ suc t → EndsWrite called said number u w → Wrote called said number v w) at
+    (subst (λ (n : ℕ). root_in (held_unboxed n v) ≡ root_in (held_unboxed n before)) (sym at) same)
+    (subst (λ (n : ℕ). r ≡ view_after (PutRoot n (suc t) (root_in (held_unboxed n v))) (view_after (StartWrite n f) v) → is_writing n v.log ≡ false → root_in (held_unboxed n v) ≢ suc t → KeepsUnwritten (view_after (StartWrite n f) v) r → OnlyPut n r u → root_in (held_unboxed n u) ≡ suc t → EndsWrite called said number u w → Wrote called said number v w) at
     (rooted_write called said number f (suc t) v r u w)
     is even new keeps puts root ends)

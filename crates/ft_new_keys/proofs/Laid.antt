@@ -11,7 +11,7 @@ use Rattle.ft_trace.specs.declared.Shape.{Shape}
 use Rattle.ft_trace.specs.declared.View.{View}
 use Rattle.ft_trace.specs.Acts.{has_committed}
 use Rattle.ft_trace.specs.Addresses.{class_of, slots}
-use Rattle.ft_trace.specs.Holds.{held_words, known_state}
+use Rattle.ft_trace.specs.Holds.{held_unboxed, known_state}
 use Rattle.ft_trace.specs.Kinds.{rows, version_at, CarefulAs}
 use Rattle.ft_trace.specs.OddVersions.{Timely}
 use Rattle.ft_trace.specs.Pictures.{ContainerWords, entry_offset}
@@ -49,8 +49,8 @@ bare a b e = cc
 
 pub record Laid (s : TableWords) (n : ℕ) (calls : List Access) (t : TableWords) : Type 0 where
   pub knows : KnowsWords t
-  pub table : (held_words s.o (view t.pass.now)).table ≡ laid n calls (held_words s.o (view s.pass.now)).table
-  pub block : (held_words s.o (view t.pass.now)).block ≡ (held_words s.o (view s.pass.now)).block
+  pub table : (held_unboxed s.o (view t.pass.now)).table ≡ laid n calls (held_unboxed s.o (view s.pass.now)).table
+  pub block : (held_unboxed s.o (view t.pass.now)).block ≡ (held_unboxed s.o (view s.pass.now)).block
   pub only : OnlyPut s.o (view s.pass.now) (view t.pass.now)
 
 pub ran_laid : (s : TableWords) (n : ℕ) → n ≡ s.mask + 1 → (calls : List Access) (t : TableWords) → Runs MadeAccess s calls t → KnowsWords s → Laid s n calls t
@@ -63,15 +63,15 @@ ran_laid s n is (a ∷ calls) t r knows =
     let left = g.left old.knows in
     let last : t.o ≡ s.o = g.same.o ∙ place.o in
     let size : n ≡ m.mask + 1 = is ∙ sym (ap (λ (z : ℕ). z + 1) place.mask) in
-    let made : (held_words t.o (view t.pass.now)).table ≡ put_in n a (held_words m.o (view m.pass.now)).table = bare _ _ (left.1 ∙ put_in_after m.mask n size a (held_words m.o (view m.pass.now)).table) in
+    let made : (held_unboxed t.o (view t.pass.now)).table ≡ put_in n a (held_unboxed m.o (view m.pass.now)).table = bare _ _ (left.1 ∙ put_in_after m.mask n size a (held_unboxed m.o (view m.pass.now)).table) in
     record {
       knows = left.0;
-      table = ap (λ (o : ℕ). (held_words o (view t.pass.now)).table) (sym last) ∙ (made ∙ (ap (λ (o : ℕ). put_in n a (held_words o (view m.pass.now)).table) place.o ∙ ap (put_in n a) old.table));
-      block = ap (λ (o : ℕ). (held_words o (view t.pass.now)).block) (sym place.o) ∙ (left.2 ∙ (ap (λ (o : ℕ). (held_words o (view m.pass.now)).block) place.o ∙ old.block));
+      table = ap (λ (o : ℕ). (held_unboxed o (view t.pass.now)).table) (sym last) ∙ (made ∙ (ap (λ (o : ℕ). put_in n a (held_unboxed o (view m.pass.now)).table) place.o ∙ ap (put_in n a) old.table));
+      block = ap (λ (o : ℕ). (held_unboxed o (view t.pass.now)).block) (sym place.o) ∙ (left.2 ∙ (ap (λ (o : ℕ). (held_unboxed o (view m.pass.now)).block) place.o ∙ old.block));
       only = put_then (view s.pass.now) (view m.pass.now) (view t.pass.now) s.o old.only (subst (λ (o : ℕ). OnlyPut o (view m.pass.now) (view t.pass.now)) place.o g.only);
     }
 
-pub laid_words : (s : TableWords) (n : ℕ) (calls : List Access) (t : TableWords) → Laid s n calls t → held_words s.o (view t.pass.now) ≡ record { block = (held_words s.o (view s.pass.now)).block; table = laid n calls (held_words s.o (view s.pass.now)).table }
+pub laid_words : (s : TableWords) (n : ℕ) (calls : List Access) (t : TableWords) → Laid s n calls t → held_unboxed s.o (view t.pass.now) ≡ record { block = (held_unboxed s.o (view s.pass.now)).block; table = laid n calls (held_unboxed s.o (view s.pass.now)).table }
 laid_words s n calls t l = let b = l.block in let w = l.table in λ i. record { block = b i; table = w i }
 
 -- ---- calls that readers without the lock aren't misled by
@@ -88,7 +88,7 @@ abbrev pub AreCarefulCalls : Kind → ℕ → Content → List ℕ → List Acce
 AreCarefulCalls kind c d l [] = Unit {0}
 AreCarefulCalls kind c d l (access ∷ earlier) = AreCarefulCalls kind c d l earlier × IsCarefulCall kind c d (laid (slots c) earlier l) access
 
-pub careful_at : (k : Shape) (o t i x : ℕ) (l : List ℕ) (d : Content) (w : View) → w.shape ≡ k → has_committed o w.log ≡ false → (held_words o w).table ≡ l → (known_state o w).content ≡ d
+pub careful_at : (k : Shape) (o t i x : ℕ) (l : List ℕ) (d : Content) (w : View) → w.shape ≡ k → has_committed o w.log ≡ false → (held_unboxed o w).table ≡ l → (known_state o w).content ≡ d
     → CarefulAs (kind_in k.starts o) (class_of t) l d i x → Timely (version_at (kind_in k.starts o) (class_of t)) (rows (kind_in k.starts o) (class_of t)) i x false → IsCareful w o t i x
 careful_at k o t i x l d w shape early words content care timely = record {
   care = subst (λ (z : Shape × List ℕ × Content). CarefulAs (kind_in z.0.starts o) (class_of t) z.1 z.2 i x) (sym (λ j. (shape j, words j, content j))) care;
@@ -106,7 +106,7 @@ module _ (s : TableWords) (k : Shape) (shape : (view s.pass.now).shape ≡ k) (s
   d = (known_state s.o (view s.pass.now)).content
 
   abbrev ws : List ℕ
-  ws = (held_words s.o (view s.pass.now)).table
+  ws = (held_unboxed s.o (view s.pass.now)).table
 
   may_make : (calls : List Access) (between : TableWords) → Runs MadeAccess s calls between → (a : Access) → IsCarefulCall kind c d (laid (slots c) calls ws) a → MayMake between a
   may_make calls between runs a care =

@@ -11,7 +11,7 @@ use Rattle.ft_trace.specs.declared.Shape.{Shape}
 use Rattle.ft_trace.specs.declared.View.{View}
 use Rattle.ft_trace.specs.Acts.{has_committed}
 use Rattle.ft_trace.specs.Addresses.{class_of, slots}
-use Rattle.ft_trace.specs.Holds.{held_words, known_state}
+use Rattle.ft_trace.specs.Holds.{held_unboxed, known_state}
 use Rattle.ft_trace.specs.Kinds.{rows, IsKeyed}
 use Rattle.ft_trace.specs.Pictures.{ContainerWords, root_in, entry_offset, entry_field}
 use Rattle.ft_trace.specs.ContainerStates.{ContainerState, kind_in}
@@ -36,20 +36,20 @@ counts_root b count fill next =
     ∙ get_or-set_other b 1 0 count 0 (λ e. absurd (omega (arith, e))))
 
 -- the version of the entry may be made odd
-pub pair_opens : (k : Shape) (o : ℕ) (table : Table) (v : View) (slot place : ℕ) → v.shape ≡ k → WritesEntries k o table v → has_committed o v.log ≡ false → IsUnused (slots (class_of (table_id table))) (rows (kind_in k.starts o) (class_of (table_id table))) (held_words o v).table slot place
-    → IsCareful v o (table_id table) (entry_offset (slots (class_of (table_id table))) place 0) (entry_field (slots (class_of (table_id table))) (held_words o v).table place 0 + 1)
+pub pair_opens : (k : Shape) (o : ℕ) (table : Table) (v : View) (slot place : ℕ) → v.shape ≡ k → WritesEntries k o table v → has_committed o v.log ≡ false → IsUnused (slots (class_of (table_id table))) (rows (kind_in k.starts o) (class_of (table_id table))) (held_unboxed o v).table slot place
+    → IsCareful v o (table_id table) (entry_offset (slots (class_of (table_id table))) place 0) (entry_field (slots (class_of (table_id table))) (held_unboxed o v).table place 0 + 1)
 pair_opens k o table v slot place shape writes early un =
     let c = class_of (table_id table) in
     let kind = kind_in k.starts o in
     let at = entry_offset (slots c) place 0 in
-    let x = entry_field (slots c) (held_words o v).table place 0 + 1 in
-    careful_at k o (table_id table) at x (held_words o v).table (known_state o v).content v shape early refl refl
-    (as_careful kind writes.keyed c (held_words o v).table (known_state o v).content at x (open_careful (slots c) (rows kind c) (held_words o v).table slot place un _))
-    (in_time kind c at x (open_odd (slots c) (rows kind c) (held_words o v).table slot place un))
+    let x = entry_field (slots c) (held_unboxed o v).table place 0 + 1 in
+    careful_at k o (table_id table) at x (held_unboxed o v).table (known_state o v).content v shape early refl refl
+    (as_careful kind writes.keyed c (held_unboxed o v).table (known_state o v).content at x (open_careful (slots c) (rows kind c) (held_unboxed o v).table slot place un _))
+    (in_time kind c at x (open_odd (slots c) (rows kind c) (held_unboxed o v).table slot place un))
 
 -- then the other words may be put
 pub pair_allowed : (s : TableWords) (k : Shape) (x : ContainerWords) (slot place : ℕ) (pair : Pair) → (view s.pass.now).shape ≡ k → IsKeyed (kind_in k.starts s.o) → slots (class_of (table_id s.table)) ≡ s.mask + 1 → KnowsWords s → has_committed s.o (view s.pass.now).log ≡ false
-    → held_words s.o (view s.pass.now) ≡ raised_at (table_id s.table) place x → IsUnused (slots (class_of (table_id s.table))) (rows (kind_in k.starts s.o) (class_of (table_id s.table))) x.table slot place → Allows MadeAccess MayMake s (place_puts slot place (entry_words pair))
+    → held_unboxed s.o (view s.pass.now) ≡ raised_at (table_id s.table) place x → IsUnused (slots (class_of (table_id s.table))) (rows (kind_in k.starts s.o) (class_of (table_id s.table))) x.table slot place → Allows MadeAccess MayMake s (place_puts slot place (entry_words pair))
 pair_allowed s k x slot place pair shape keyed size knows early words un =
     let c = class_of (table_id s.table) in
     let d = (known_state s.o (view s.pass.now)).content in

@@ -24,7 +24,7 @@ use Rattle.ft_trace.specs.declared.View.{View}
 use Rattle.ft_trace.specs.Acts.{has_lock, is_writing, mem, view_after, stage}
 use Rattle.ft_trace.specs.Addresses.{container_count, class_of, slots, size}
 use Rattle.ft_trace.specs.Carefuls.{Sound}
-use Rattle.ft_trace.specs.Holds.{held_words, known_state, in_hand}
+use Rattle.ft_trace.specs.Holds.{held_unboxed, known_state, in_hand}
 use Rattle.ft_trace.specs.Kinds.{rows, version_at, SoundAs, IsKeyed}
 use Rattle.ft_trace.specs.OddVersions.{Shut}
 use Rattle.ft_trace.specs.Traces.{IsReachable}
@@ -110,7 +110,7 @@ module _ (first_pair : FirstEntriesArePairs) (first_element : FirstEntriesAreEle
   ws = in_hand (table_id table) v
 
   abbrev b : List ℕ
-  b = slice_set (held_words o v).block 0 (suc (table_id table))
+  b = slice_set (held_unboxed o v).block 0 (suc (table_id table))
 
   content_kind : kind_of d ≡ kind_in k.starts o
   content_kind = kind_is k v o shape possible may.keyed.locked
@@ -122,7 +122,7 @@ module _ (first_pair : FirstEntriesArePairs) (first_element : FirstEntriesAreEle
   is_class = (named k table may.table_in).0
 
   head : IsBlock b (Some c) (length_of d) (known_state o v).table.fill (serial_of d)
-  head = rooted_head (held_words o v).block (known_state o v).table.class k table (length_of d) (known_state o v).table.fill (serial_of d) (heads k.texts (held_words o v).block (0 ∷ 0 ∷ (held_words o v).table) (known_state o v).table d may.keyed.stands) may.table_in
+  head = rooted_head (held_unboxed o v).block (known_state o v).table.class k table (length_of d) (known_state o v).table.fill (serial_of d) (heads k.texts (held_unboxed o v).block (0 ∷ 0 ∷ (held_unboxed o v).table) (known_state o v).table d may.keyed.stands) may.table_in
 
   abbrev before : List ℕ
   before = counted b (length_of d) (length_of d) (serial_of d)
@@ -148,7 +148,7 @@ module _ (first_pair : FirstEntriesArePairs) (first_element : FirstEntriesAreEle
       (λ p low. ap (slice_index ws) (keyed_version (kind_of d) keyed_d c p) ∙ filled.versions p low)
 
   shut_here : IsShut o v
-  shut_here t names = subst (λ (z : Kind). Shut (version_at z (class_of t)) (rows z (class_of t)) (held_words o v).table) kind_v (shut_known k v o t shape possible may.keyed.container may.keyed.locked may.keyed.even names)
+  shut_here t names = subst (λ (z : Kind). Shut (version_at z (class_of t)) (rows z (class_of t)) (held_unboxed o v).table) kind_v (shut_known k v o t shape possible may.keyed.container may.keyed.locked may.keyed.even names)
 
   pub may_root : (f : ℕ) → MayPutRoot (view_after (StartWrite o f) v) o (Some table)
   may_root f = record {
@@ -168,7 +168,7 @@ module _ (first_pair : FirstEntriesArePairs) (first_element : FirstEntriesAreEle
   shut_rooted = kind_shut (kind_of d) keyed_d c (rows (kind_of d) c) ws (λ p less. let z = filled.versions p less in omega (arith, z))
 
   -- a new key there
-  pub fresh_rooted : (by : Way) → kind_in k.starts o ≡ kind_by by → (slot : ℕ) (counts : Counts) (key : Key) (stored : Stored) → AreCounts (held_words o v).block counts → FitsKey key → hash_of k.texts key < 2 ^ 64 → StoresAs (kind_by by) stored → FitsStored stored → IsHeldAt d key None → IsFreeFor k.texts by table.class key ws slot → counts.count < rows (kind_by by) c
+  pub fresh_rooted : (by : Way) → kind_in k.starts o ≡ kind_by by → (slot : ℕ) (counts : Counts) (key : Key) (stored : Stored) → AreCounts (held_unboxed o v).block counts → FitsKey key → hash_of k.texts key < 2 ^ 64 → StoresAs (kind_by by) stored → FitsStored stored → IsHeldAt d key None → IsFreeFor k.texts by table.class key ws slot → counts.count < rows (kind_by by) c
       → Fresh k.texts (record { block = b; table = ws }) (table_id table) slot (record { count = counts.count; fill = counts.count; next = counts.next }) d key stored
   fresh_rooted by kind_eq slot counts key stored are fits low stores ok absent free room =
       let same = class_is table may.table_in.2 in

@@ -11,7 +11,7 @@ use Rattle.ft_trace.specs.declared.Shape.{Shape}
 use Rattle.ft_trace.specs.declared.View.{View}
 use Rattle.ft_trace.specs.Acts.{has_lock, owes, stage}
 use Rattle.ft_trace.specs.Addresses.{container_count, class_of}
-use Rattle.ft_trace.specs.Holds.{held_words, known_state}
+use Rattle.ft_trace.specs.Holds.{held_unboxed, known_state}
 use Rattle.ft_trace.specs.Traces.{IsReachable}
 use Rattle.ft_trace.specs.ContainerStates.{ContainerState, kinds_in}
 use Rattle.ft_bank.specs.declared.table.Table.{Table}
@@ -55,7 +55,7 @@ module _ (F : ℕ → Type 0) (v u : View) (same : SamePass v u) (keeps : KeepsB
   }
 
   module _ (k : Shape) (o : ℕ) (old : Option Table) (shape : v.shape ≡ k) (keyed : KnowsKeyed k o old v) where
-    pub tried_words : (held_words o u ≡ held_words o v) × (known_state o u ≡ known_state o v)
+    pub tried_words : (held_unboxed o u ≡ held_unboxed o v) × (known_state o u ≡ known_state o v)
     tried_words = keeps.held.words o (subst (λ (z : Shape). o < container_count z) (sym shape) keyed.container) keyed.locked
 
     pub tried_knows : KnowsKeyed k o old u
@@ -74,7 +74,7 @@ module _ (F : ℕ → Type 0) (v u : View) (same : SamePass v u) (keeps : KeepsB
 
 -- ---- after loads
 
-module _ (k : Shape) (o : ℕ) (old : Option Table) (v u : View) (only : OnlyLoaded v u) (same : held_words o u ≡ held_words o v) where
+module _ (k : Shape) (o : ℕ) (old : Option Table) (v u : View) (only : OnlyLoaded v u) (same : held_unboxed o u ≡ held_unboxed o v) where
   pub may_loaded : MayAddKey k o old v → MayAddKey k o old u
   may_loaded may = record {
     keyed = knows_on k o old v u same (work_knows v u o only.work) (only.work.pass.locks o) (only.work.pass.writes o) may.keyed;

@@ -9,7 +9,7 @@ use Rattle.ft_keys.specs.declared.words.Access.{Access}
 use Rattle.ft_keys.specs.Accesses.{Tells, TellsOld, put_by}
 use Rattle.ft_trace.specs.Acts.{has_lock, is_writing, stage}
 use Rattle.ft_trace.specs.Addresses.{container_count, class_of, slots, size}
-use Rattle.ft_trace.specs.Holds.{held_words, in_hand}
+use Rattle.ft_trace.specs.Holds.{held_unboxed, in_hand}
 use Rattle.ft_trace.specs.Kinds.{rows}
 use Rattle.ft_trace.specs.Pictures.{root_in, entry_field}
 use Rattle.ft_bank.specs.Passes.{shape_of, view, IsPassOf}
@@ -26,7 +26,7 @@ pub record CanFill (s : FreshWords) : Type 0 where
   pub locked : has_lock s.o (view s.pass.now).log ≡ true
   pub even : is_writing s.o (view s.pass.now).log ≡ false
   pub old_in : IsTableIn (shape_of s.bank.now) s.old
-  pub old_root : root_in (held_words s.o (view s.pass.now)) ≡ suc (table_id s.old)
+  pub old_root : root_in (held_unboxed s.o (view s.pass.now)) ≡ suc (table_id s.old)
   pub old_mask : s.old_mask ≡ class_mask s.old.class
   pub table_in : IsTableIn (shape_of s.bank.now) s.table
   pub fresh : stage (table_id s.table) (view s.pass.now).log ≡ 1
@@ -37,7 +37,7 @@ abbrev pub fresh_words : FreshWords → List ℕ
 fresh_words s = 0 ∷ 0 ∷ in_hand (table_id s.table) (view s.pass.now)
 
 abbrev pub old_words : FreshWords → List ℕ
-old_words s = 0 ∷ 0 ∷ (held_words s.o (view s.pass.now)).table
+old_words s = 0 ∷ 0 ∷ (held_unboxed s.o (view s.pass.now)).table
 
 -- how many entries the old one has
 abbrev pub old_entries : FreshWords → ℕ

@@ -22,7 +22,7 @@ use Rattle.ft_trace.specs.declared.View.{View}
 use Rattle.ft_trace.specs.Acts.{has_lock, is_writing, owes, stage, used, flight}
 use Rattle.ft_trace.specs.Addresses.{container_count, class_of}
 use Rattle.ft_trace.specs.FitCalls.{FitsCall}
-use Rattle.ft_trace.specs.Holds.{held_words, known_state}
+use Rattle.ft_trace.specs.Holds.{held_unboxed, known_state}
 use Rattle.ft_trace.specs.Kinds.{IsKeyed}
 use Rattle.ft_trace.specs.BegunSections.{HasLocksOf}
 use Rattle.ft_trace.specs.Pictures.{root_in, Represents}
@@ -45,9 +45,9 @@ pub record KnowsKeyed (k : Shape) (o : ℕ) (old : Option Table) (v : View) : Ty
   pub keyed : IsKeyed (kind_in k.starts o)
   pub locked : has_lock o v.log ≡ true
   pub even : is_writing o v.log ≡ false
-  pub stands : Represents k.texts (held_words o v) (known_state o v)
+  pub stands : Represents k.texts (held_unboxed o v) (known_state o v)
   pub table_in : (t : Table) → old ≡ Some t → IsTableIn k t
-  pub root : root_in (held_words o v) ≡ root_for old
+  pub root : root_in (held_unboxed o v) ≡ root_for old
 
 -- Besides it is in the midst of no taking or giving of a table, and of no other write that took a table out of a root;
 -- it has lowered no count of a class that it hasn't raised again, and it has a call left. (profile)

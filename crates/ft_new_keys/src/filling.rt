@@ -7,7 +7,7 @@ ghost use Rattle.ft_model.specs.declared.content.Content.{Content};
 ghost use Rattle.ft_model.specs.Worlds.{length_of};
 ghost use Rattle.ft_trace.specs.Acts.{has_lock, is_writing, stage};
 ghost use Rattle.ft_trace.specs.Addresses.{container_count, class_of};
-ghost use Rattle.ft_trace.specs.Holds.{held_words, in_hand, known_state};
+ghost use Rattle.ft_trace.specs.Holds.{held_unboxed, in_hand, known_state};
 ghost use Rattle.ft_trace.specs.Kinds.{rows};
 ghost use Rattle.ft_trace.specs.Pictures.{root_in, Represents};
 ghost use Rattle.ft_trace.specs.ContainerStates.{kind_in};

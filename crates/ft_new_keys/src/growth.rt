@@ -10,7 +10,7 @@ ghost use Rattle.ft_keys.specs.Ways.{IsTableOf};
 ghost use Rattle.ft_trace.specs.declared.Act.TheVariants.{StartWrite, PutRoot};
 ghost use Rattle.ft_trace.specs.Acts.{view_after};
 ghost use Rattle.ft_trace.specs.Addresses.{container_count, class_of};
-ghost use Rattle.ft_trace.specs.Holds.{held_words, known_state, in_hand};
+ghost use Rattle.ft_trace.specs.Holds.{held_unboxed, known_state, in_hand};
 ghost use Rattle.ft_trace.specs.Kinds.{rows};
 ghost use Rattle.ft_trace.specs.Pictures.{root_in};
 ghost use Rattle.ft_trace.specs.ContainerStates.{kind_in};
@@ -48,11 +48,11 @@ pub fn begin_in(bank: &Bank, pass: &mut Pass, o: u32, old: Option<Table>, table:
         (in_hand (table_id table) (view pass.old)) }
     ensures pass { IsPassOf bank.now pass.new }
     ensures did { (f : ℕ) × DidAll
-        (PutRoot o (suc (table_id table)) (root_in (held_words o (view pass.old))) ∷ StartWrite o f ∷ []) pass.old pass.new
+        (PutRoot o (suc (table_id table)) (root_in (held_unboxed o (view pass.old))) ∷ StartWrite o f ∷ []) pass.old pass.new
         × KeepsUnwritten (view_after (StartWrite o f) (view pass.old)) (view pass.new) }
     ensures writes { WritesEntries (shape_of bank.now) o table (view pass.new) }
-    ensures words { held_words o (view pass.new) ≡ record {
-      block = slice_set (held_words o (view pass.old)).block 0 (suc (table_id table));
+    ensures words { held_unboxed o (view pass.new) ≡ record {
+      block = slice_set (held_unboxed o (view pass.old)).block 0 (suc (table_id table));
       table = in_hand (table_id table) (view pass.old);
     } }
 {
@@ -72,11 +72,11 @@ fn free_slot(bank: &Bank, pass: &mut Pass, o: u32, way: Way, key: Key, table: Ta
     requires table { IsTableIn (shape_of bank.now) table }
     requires knows { KnowsTable o (table_id table) (view pass.old) }
     requires absent { (used : List UsedEntry) × IsTableOf way (shape_of bank.now).texts (class_mask table.class) used
-        (0 ∷ 0 ∷ (held_words o (view pass.old)).table) × All (λ entry. entry.key ≢ key) (filter is_live used) }
+        (0 ∷ 0 ∷ (held_unboxed o (view pass.old)).table) × All (λ entry. entry.key ≢ key) (filter is_live used) }
     ensures pass { IsPassOf bank.now pass.new }
     ensures stack { stack_of pass.new ≡ stack_of pass.old }
     ensures only { OnlyLoaded (view pass.old) (view pass.new) }
-    ensures slot { IsFreeFor (shape_of bank.now).texts way table.class key (held_words o (view pass.old)).table result }
+    ensures slot { IsFreeFor (shape_of bank.now).texts way table.class key (held_unboxed o (view pass.old)).table result }
 {
     searches_end_at_the_first_free_slot();
     let (found, _) = read_in(bank, pass, o, way, key, table);
@@ -106,11 +106,11 @@ pub(crate) fn add_in_new(
     requires pass { IsPassOf bank.now pass.old }
     requires may { MayGrowKeyed (shape_of bank.now) o old table (view pass.old) }
     requires way { kind_in (shape_of bank.now).starts o ≡ kind_by way }
-    requires other { root_in (held_words o (view pass.old)) ≢ suc (table_id table) }
+    requires other { root_in (held_unboxed o (view pass.old)) ≢ suc (table_id table) }
     requires key { IsKeyIn (shape_of bank.now) key }
     requires fits { FitsKey key }
     requires absent { IsHeldAt (known_state o (view pass.old)).content key None }
-    requires counts { AreCounts (held_words o (view pass.old)).block counts }
+    requires counts { AreCounts (held_unboxed o (view pass.old)).block counts }
     requires room { counts.count < rows (kind_by way) (class_of (table_id table)) }
     requires serials { serial_of (known_state o (view pass.old)).content < 2 ^ 63 }
     requires stores { StoresAs (kind_by way) stored }
@@ -122,7 +122,7 @@ pub(crate) fn add_in_new(
     ensures pass { IsPassOf bank.now pass.new }
     ensures stack { stack_of pass.new ≡ stack_of pass.old }
     ensures wrote { Wrote called.now said.now result (view pass.old) (view pass.new) }
-    ensures root { root_in (held_words o (view pass.new)) ≡ suc (table_id table) }
+    ensures root { root_in (held_unboxed o (view pass.new)) ≡ suc (table_id table) }
 {
     versions_change_nothing();
     placed_pairs_are_of_a_table();

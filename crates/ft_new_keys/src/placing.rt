@@ -9,7 +9,7 @@ ghost use Rattle.ft_keys.specs.Accesses.{Allows};
 ghost use Rattle.ft_keys.specs.TableChanges.{place_puts};
 ghost use Rattle.ft_trace.specs.Acts.{has_committed};
 ghost use Rattle.ft_trace.specs.Addresses.{class_of, slots};
-ghost use Rattle.ft_trace.specs.Holds.{held_words};
+ghost use Rattle.ft_trace.specs.Holds.{held_unboxed};
 ghost use Rattle.ft_trace.specs.Kinds.{rows};
 ghost use Rattle.ft_trace.specs.ContainerStates.{kind_in};
 ghost use Rattle.ft_bank.specs.Passes.{shape_of, view, IsPassOf};
@@ -42,9 +42,9 @@ pub fn put_counts(
     ensures stack { stack_of pass.new ≡ stack_of pass.old }
     ensures writes { WritesEntries (shape_of bank.now) o table (view pass.new) }
     ensures only { OnlyPut o (view pass.old) (view pass.new) }
-    ensures words { held_words o (view pass.new) ≡ record {
-      block = counted (held_words o (view pass.old)).block count fill next;
-      table = (held_words o (view pass.old)).table;
+    ensures words { held_unboxed o (view pass.new) ≡ record {
+      block = counted (held_unboxed o (view pass.old)).block count fill next;
+      table = (held_unboxed o (view pass.old)).table;
     } }
 {
     let _ = table;
@@ -66,10 +66,10 @@ fn place_in(words: &mut TableWords<'_>, slot: u64, place: u64, pair: &Pair)
     ensures stack { stack_of words.new.pass.now ≡ stack_of words.old.pass.now }
     ensures can { CanLoad words.new }
     ensures only { OnlyPut words.old.o (view words.old.pass.now) (view words.new.pass.now) }
-    ensures words { held_words words.old.o (view words.new.pass.now) ≡ record {
-      block = (held_words words.old.o (view words.old.pass.now)).block;
+    ensures words { held_unboxed words.old.o (view words.new.pass.now) ≡ record {
+      block = (held_unboxed words.old.o (view words.old.pass.now)).block;
       table = laid (slots (class_of (table_id words.old.table))) (place_puts slot place (entry_words pair.now))
-          (held_words words.old.o (view words.old.pass.now)).table;
+          (held_unboxed words.old.o (view words.old.pass.now)).table;
     } }
 {
     place_at(words, slot, place, pair);
@@ -82,15 +82,15 @@ fn put_pair(bank: &Bank, pass: &mut Pass, o: u32, table: Table, slot: u64, place
     requires writes { WritesEntries (shape_of bank.now) o table (view pass.old) }
     requires early { has_committed o (view pass.old).log ≡ false }
     requires unused { IsUnused (slots (class_of (table_id table))) (rows (kind_in (shape_of bank.now).starts o) (class_of (table_id table)))
-        (held_words o (view pass.old)).table slot place }
+        (held_unboxed o (view pass.old)).table slot place }
     requires value { FitsStored pair.now.value }
     ensures pass { IsPassOf bank.now pass.new }
     ensures stack { stack_of pass.new ≡ stack_of pass.old }
     ensures writes { WritesEntries (shape_of bank.now) o table (view pass.new) }
     ensures only { OnlyPut o (view pass.old) (view pass.new) }
-    ensures words { held_words o (view pass.new) ≡ record {
-      block = (held_words o (view pass.old)).block;
-      table = with_pair (table_id table) slot place pair.now (held_words o (view pass.old));
+    ensures words { held_unboxed o (view pass.new) ≡ record {
+      block = (held_unboxed o (view pass.old)).block;
+      table = with_pair (table_id table) slot place pair.now (held_unboxed o (view pass.old));
     } }
 {
     raise_version(bank, pass, o, table, place);
@@ -122,14 +122,14 @@ pub fn put_key(
     requires writes { WritesEntries (shape_of bank.now) o table (view pass.old) }
     requires early { has_committed o (view pass.old).log ≡ false }
     requires unused { IsUnused (slots (class_of (table_id table))) (rows (kind_in (shape_of bank.now).starts o) (class_of (table_id table)))
-        (held_words o (view pass.old)).table slot counts.fill }
+        (held_unboxed o (view pass.old)).table slot counts.fill }
     requires value { FitsStored pair.now.value }
     requires room { (counts.count < 2 ^ 63) × (pair.now.serial < 2 ^ 63) }
     ensures pass { IsPassOf bank.now pass.new }
     ensures stack { stack_of pass.new ≡ stack_of pass.old }
     ensures writes { WritesEntries (shape_of bank.now) o table (view pass.new) }
     ensures only { OnlyPut o (view pass.old) (view pass.new) }
-    ensures words { held_words o (view pass.new) ≡ with_entry (table_id table) slot counts pair.now (held_words o (view pass.old)) }
+    ensures words { held_unboxed o (view pass.new) ≡ with_entry (table_id table) slot counts pair.now (held_unboxed o (view pass.old)) }
 {
     let Counts {
         count,

@@ -18,7 +18,7 @@ use Rattle.ft_keys.specs.declared.walk.Way.TheVariants as way
 use Rattle.ft_trace.specs.declared.Shape.{Shape}
 use Rattle.ft_trace.specs.declared.View.{View}
 use Rattle.ft_trace.specs.Addresses.{class_of, slots}
-use Rattle.ft_trace.specs.Holds.{held_words, in_hand, known_state}
+use Rattle.ft_trace.specs.Holds.{held_unboxed, in_hand, known_state}
 use Rattle.ft_trace.specs.Kinds.{rows}
 use Rattle.ft_trace.specs.Pictures.{ContainerWords, entry_offset, entry_field}
 use Rattle.ft_trace.specs.ContainerStates.{ContainerState}
@@ -153,7 +153,7 @@ module _ (k : Shape) (s : ℕ) (from : Table) (t : ℕ) (table : Table) (first :
       ∙ (chosen_append others first (take place used) (e ∷ [])
       ∙ (ap (λ (b : Bool). placed ++ at_serials first (length placed) (cond b (e ∷ []) [])) out ∙ append-nil placed))
 
-  pub chosen_stays : (z : View) → held_words s z ≡ held_words s v → known_state s z ≡ known_state s v → known_state t z ≡ known_state t v → in_hand (table_id table) z ≡ in_hand (table_id table) v → apart_pair k.texts others e ≡ None → IsChosen k s from t table first start used mine (place + 1) count z
+  pub chosen_stays : (z : View) → held_unboxed s z ≡ held_unboxed s v → known_state s z ≡ known_state s v → known_state t z ≡ known_state t v → in_hand (table_id table) z ≡ in_hand (table_id table) v → apart_pair k.texts others e ≡ None → IsChosen k s from t table first start used mine (place + 1) count z
   chosen_stays z words mine_known other_known hand is =
       let same = next_out (none_apart k.texts others e is) in
       record {
@@ -203,7 +203,7 @@ module _ (k : Shape) (s : ℕ) (from : Table) (t : ℕ) (table : Table) (first :
     chosen_count = let h = c.has.counted in let n = length-append mine placed in let b = c.started in omega (arith, h, n, b)
 
     -- its words were put
-    pub chosen_more : (z : View) (put : Pair) → put.hash ≡ hash_of k.texts e.key → put.key ≡ e.key → put.value ≡ Empty → put.serial ≡ serial_at first (length placed) e.serial → held_words s z ≡ held_words s v → known_state s z ≡ known_state s v → known_state t z ≡ known_state t v
+    pub chosen_more : (z : View) (put : Pair) → put.hash ≡ hash_of k.texts e.key → put.key ≡ e.key → put.value ≡ Empty → put.serial ≡ serial_at first (length placed) e.serial → held_unboxed s z ≡ held_unboxed s v → known_state s z ≡ known_state s v → known_state t z ≡ known_state t v
         → AddsPair way.Set (class_mask (class_of (table_id table))) count put (0 ∷ 0 ∷ in_hand (table_id table) v) (0 ∷ 0 ∷ in_hand (table_id table) z)
         → ((p : ℕ) → entry_field (slots (class_of (table_id table))) (in_hand (table_id table) z) p 0 ≡ entry_field (slots (class_of (table_id table))) (in_hand (table_id table) v) p 0)
         → IsChosen k s from t table first start used mine (place + 1) (count + 1) z

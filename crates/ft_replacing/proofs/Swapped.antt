@@ -11,7 +11,7 @@ use Rattle.ft_trace.specs.declared.Snap.{Snap}
 use Rattle.ft_trace.specs.declared.Shape.{Shape}
 use Rattle.ft_trace.specs.declared.View.{View}
 use Rattle.ft_trace.specs.Acts.{debt, debt_next, is_writing, view_after, seen_writes, shown, stage, stage_next}
-use Rattle.ft_trace.specs.Holds.{held_words, known_state}
+use Rattle.ft_trace.specs.Holds.{held_unboxed, known_state}
 use Rattle.ft_trace.specs.Pictures.{root_in, Represents}
 use Rattle.ft_trace.specs.ContainerStates.{changes}
 use Rattle.ft_trace.proofs.Cases.{hit, miss}
@@ -25,7 +25,7 @@ module _ (called : Call) (said : Reply) (number f t g : ℕ) (snap : Snap) (v u 
   at = changes called
 
   abbrev old : ℕ
-  old = root_in (held_words at v)
+  old = root_in (held_unboxed at v)
 
   abbrev begun : View
   begun = view_after (StartWrite at f) v
@@ -68,7 +68,7 @@ module _ (called : Call) (said : Reply) (number f t g : ℕ) (snap : Snap) (v u 
       let n = debt_next (PutRoot at 0 old) (debt v.log) in
       hit 0 n (n + 1) ∙ sym (miss old (suc t) (debt v.log) (debt_next (PutRoot at (suc t) old) (debt v.log)) new)
 
-  swapped_at : is_writing at v.log ≡ false → old ≢ suc t → seen_writes bare ≤ number → 0 < v.left → KeepsUnwritten begun bare → Committed bare made called → KeepsUnwritten made rooted → OnlyPut at rooted u → root_in (held_words at u) ≡ suc t → Represents u.shape.texts (held_words at u) (known_state at u) → Wrote called said number v done
+  swapped_at : is_writing at v.log ≡ false → old ≢ suc t → seen_writes bare ≤ number → 0 < v.left → KeepsUnwritten begun bare → Committed bare made called → KeepsUnwritten made rooted → OnlyPut at rooted u → root_in (held_unboxed at u) ≡ suc t → Represents u.shape.texts (held_unboxed at u) (known_state at u) → Wrote called said number v done
   swapped_at quiet new low some keeps committed kept puts root stands =
       let w1 = puts.work in
       let p1 = w1.pass in
@@ -120,10 +120,10 @@ module _ (called : Call) (said : Reply) (number f t g : ℕ) (snap : Snap) (v u 
           words = committed.has.words;
         };
         content = work_knows rooted u at w1 ∙ committed.left at;
-        stands = subst (λ (k : Shape). Represents k.texts (held_words at u) (known_state at u)) p1.shape stands;
+        stands = subst (λ (k : Shape). Represents k.texts (held_unboxed at u) (known_state at u)) p1.shape stands;
       }
 
-  pub swapped_write : (s r c z w : View) → s ≡ begun → r ≡ bare → c ≡ view_after (Commit called said number snap) r → z ≡ view_after (PutRoot at (suc t) 0) c → w ≡ done → is_writing at v.log ≡ false → old ≢ suc t → seen_writes r ≤ number → 0 < v.left → KeepsUnwritten s r → Committed r c called → KeepsUnwritten c z → OnlyPut at z u → root_in (held_words at u) ≡ suc t → Represents u.shape.texts (held_words at u) (known_state at u) → Wrote called said number v w
+  pub swapped_write : (s r c z w : View) → s ≡ begun → r ≡ bare → c ≡ view_after (Commit called said number snap) r → z ≡ view_after (PutRoot at (suc t) 0) c → w ≡ done → is_writing at v.log ≡ false → old ≢ suc t → seen_writes r ≤ number → 0 < v.left → KeepsUnwritten s r → Committed r c called → KeepsUnwritten c z → OnlyPut at z u → root_in (held_unboxed at u) ≡ suc t → Represents u.shape.texts (held_unboxed at u) (known_state at u) → Wrote called said number v w
   swapped_write s r c z w s_is r_is c_is z_is w_is quiet new low some keeps committed kept puts root stands =
       let c_at : c ≡ made = c_is ∙ ap (view_after (Commit called said number snap)) r_is in
       let z_at : z ≡ rooted = z_is ∙ ap (view_after (PutRoot at (suc t) 0)) c_at in

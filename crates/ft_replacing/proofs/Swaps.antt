@@ -17,7 +17,7 @@ use Rattle.ft_trace.specs.declared.Snap.{Snap}
 use Rattle.ft_trace.specs.declared.View.{View}
 use Rattle.ft_trace.specs.Acts.{has_committed, has_lock, is_writing, mem, view_after, owes, seen_writes, stage}
 use Rattle.ft_trace.specs.Addresses.{container_count, class_of, size, at, block, cell, IsTableName}
-use Rattle.ft_trace.specs.Holds.{held_words, in_hand, known_state}
+use Rattle.ft_trace.specs.Holds.{held_unboxed, in_hand, known_state}
 use Rattle.ft_trace.specs.Kinds.{IsKeyed, rows, version_at, SoundAs}
 use Rattle.ft_trace.specs.OddVersions.{Shut}
 use Rattle.ft_trace.specs.Traces.{IsReachable}
@@ -75,13 +75,13 @@ pub record Swapping (k : Shape) (o : ℕ) (old : Option Table) (table : Table) (
   pub may : MayGrowKeyed k o old table v
   pub shape : v.shape ≡ k
   pub possible : ∥ IsReachable v ∥₁
-  pub other : root_in (held_words o v) ≢ suc (table_id table)
+  pub other : root_in (held_unboxed o v) ≢ suc (table_id table)
   pub kind_is : kind_of left ≡ kind_in k.starts o
   pub filled : IsFilledWith k.texts (class_of (table_id table)) left (in_hand (table_id table) v)
   pub replaces : Replaces o called left (Some (class_of (table_id table))) v
   pub started : s ≡ view_after (StartWrite o f) v
-  pub rooted : r ≡ view_after (PutRoot o 0 (root_in (held_words o s))) s
-  pub root_held : held_words o r ≡ with_root (held_words o s) None s
+  pub rooted : r ≡ view_after (PutRoot o 0 (root_in (held_unboxed o s))) s
+  pub root_held : held_unboxed o r ≡ with_root (held_unboxed o s) None s
 
 -- 0 may be put into the root
 pub may_put_none : (k : Shape) (o : ℕ) (old : Option Table) (table : Table) (v s : View) (f : ℕ) → v.shape ≡ k → ∥ IsReachable v ∥₁ → MayGrowKeyed k o old table v → s ≡ view_after (StartWrite o f) v → MayPutRoot s o None
@@ -93,7 +93,7 @@ may_put_none k o old table v s f shape possible may is =
       fresh = λ t e. absurd (true≢false (ap is_some (sym e)));
       sound = λ t e. absurd (true≢false (ap is_some (sym e)));
       young = λ t p e. absurd (true≢false (ap is_some (sym e)));
-      shut = λ t names. subst (λ (z : Kind). Shut (version_at z (class_of t)) (rows z (class_of t)) (held_words o v).table) kind_v (shut_known k v o t shape possible may.keyed.container may.keyed.locked may.keyed.even names);
+      shut = λ t names. subst (λ (z : Kind). Shut (version_at z (class_of t)) (rows z (class_of t)) (held_unboxed o v).table) kind_v (shut_known k v o t shape possible may.keyed.container may.keyed.locked may.keyed.even names);
       spare = λ some_one. may.used;
       early = λ e. hit o false _;
     })
@@ -108,8 +108,8 @@ module _ (k : Shape) (o : ℕ) (old : Option Table) (table : Table) (called : Ca
   abbrev ws : List ℕ
   ws = in_hand (table_id table) v
 
-  both_rooted : r ≡ view_after (PutRoot o 0 (root_in (held_words o v))) (view_after (StartWrite o f) v)
-  both_rooted = e.rooted ∙ ap (λ (z : View). view_after (PutRoot o 0 (root_in (held_words o z))) z) e.started
+  both_rooted : r ≡ view_after (PutRoot o 0 (root_in (held_unboxed o v))) (view_after (StartWrite o f) v)
+  both_rooted = e.rooted ∙ ap (λ (z : View). view_after (PutRoot o 0 (root_in (held_unboxed o z))) z) e.started
 
   known_then : (p : ℕ) → known_state p r ≡ known_state p v
   known_then p = ap (λ (z : View). known_state p z) both_rooted
@@ -127,19 +127,19 @@ module _ (k : Shape) (o : ℕ) (old : Option Table) (table : Table) (called : Ca
   is_class = table_class k table e.may.table_in
 
   -- the block before the write
-  old_head : IsBlock (held_words o v).block (known_state o v).table.class (length_of (known_state o v).content) (known_state o v).table.fill (serial_of (known_state o v).content)
-  old_head = e.heads k.texts (held_words o v).block (0 ∷ 0 ∷ (held_words o v).table) (known_state o v).table (known_state o v).content e.may.keyed.stands
+  old_head : IsBlock (held_unboxed o v).block (known_state o v).table.class (length_of (known_state o v).content) (known_state o v).table.fill (serial_of (known_state o v).content)
+  old_head = e.heads k.texts (held_unboxed o v).block (0 ∷ 0 ∷ (held_unboxed o v).table) (known_state o v).table (known_state o v).content e.may.keyed.stands
 
   abbrev b : List ℕ
-  b = slice_set (held_words o v).block 0 0
+  b = slice_set (held_unboxed o v).block 0 0
 
   bare_head : IsBlock b None (length_of (known_state o v).content) (known_state o v).table.fill (serial_of (known_state o v).content)
-  bare_head = no_root (held_words o v).block (known_state o v).table.class (length_of (known_state o v).content) (known_state o v).table.fill (serial_of (known_state o v).content) old_head
+  bare_head = no_root (held_unboxed o v).block (known_state o v).table.class (length_of (known_state o v).content) (known_state o v).table.fill (serial_of (known_state o v).content) old_head
 
-  held_then : held_words o r ≡ record { block = b; table = [] }
-  held_then = e.root_held ∙ ap (λ (z : View). with_root (held_words o z) None z) e.started
+  held_then : held_unboxed o r ≡ record { block = b; table = [] }
+  held_then = e.root_held ∙ ap (λ (z : View). with_root (held_unboxed o z) None z) e.started
 
-  root_then : root_in (held_words o r) ≡ 0
+  root_then : root_in (held_unboxed o r) ≡ 0
   root_then = ap root_in held_then ∙ bare_head.root
 
   -- and after it
@@ -171,7 +171,7 @@ module _ (k : Shape) (o : ℕ) (old : Option Table) (table : Table) (called : Ca
       let here : o ≡ changes called = sym l.changed in
       let owed : owes r.log ≡ suc class = ap (λ (z : View). owes z.log) both_rooted ∙ e.may.owed in
       let odd : is_writing o r.log ≡ true = ap (λ (z : View). is_writing o z.log) both_rooted ∙ hit o true (is_writing o v.log) in
-      let none : root_in (held_words (changes called) r) ≡ 0 = subst (λ (n : ℕ). root_in (held_words n r) ≡ 0) here root_then in
+      let none : root_in (held_unboxed (changes called) r) ≡ 0 = subst (λ (n : ℕ). root_in (held_unboxed n r) ≡ 0) here root_then in
       record {
         write = l.write;
         container = subst (λ (n : ℕ). n < container_count r.shape) here (subst (λ (z : Shape). o < container_count z) (sym (shape_then ∙ e.shape)) e.may.keyed.container);
@@ -190,7 +190,7 @@ module _ (k : Shape) (o : ℕ) (old : Option Table) (table : Table) (called : Ca
   -- after the commit
   module _ (number : ℕ) (snap : Snap) (c : View) (made : c ≡ view_after (Commit called reply.Done number snap) r) (committed : Committed r c called) where
     abbrev C : View
-    C = view_after (Commit called reply.Done number snap) (view_after (PutRoot o 0 (root_in (held_words o v))) (view_after (StartWrite o f) v))
+    C = view_after (Commit called reply.Done number snap) (view_after (PutRoot o 0 (root_in (held_unboxed o v))) (view_after (StartWrite o f) v))
 
     all_made : c ≡ C
     all_made = made ∙ ap (view_after (Commit called reply.Done number snap)) both_rooted
@@ -201,8 +201,8 @@ module _ (k : Shape) (o : ℕ) (old : Option Table) (table : Table) (called : Ca
     kept_then : known_state o c ≡ record { content = left; table = replaced_table (Some class) (length_of left) }
     kept_then = committed.left o ∙ e.replaces.left_is committed.found (has_before committed.found committed.has)
 
-    held_c : held_words o c ≡ record { block = b; table = [] }
-    held_c = ap (λ (z : View). held_words o z) made ∙ held_then
+    held_c : held_unboxed o c ≡ record { block = b; table = [] }
+    held_c = ap (λ (z : View). held_unboxed o z) made ∙ held_then
 
     hand_then : in_hand t c ≡ ws
     hand_then =
@@ -213,7 +213,7 @@ module _ (k : Shape) (o : ℕ) (old : Option Table) (table : Table) (called : Ca
     fresh_then : stage t c.log ≡ 1
     fresh_then =
         ap (λ (z : View). stage t z.log) all_made
-        ∙ (miss 0 (suc t) 0 _ (λ x. absurd (omega (arith, x))) ∙ (miss (root_in (held_words o v)) (suc t) 3 (stage t v.log) e.other ∙ e.may.fresh))
+        ∙ (miss 0 (suc t) 0 _ (λ x. absurd (omega (arith, x))) ∙ (miss (root_in (held_unboxed o v)) (suc t) 3 (stage t v.log) e.other ∙ e.may.fresh))
 
     shape_c : c.shape ≡ k
     shape_c = ap (λ (z : View). z.shape) all_made ∙ e.shape
@@ -234,7 +234,7 @@ module _ (k : Shape) (o : ℕ) (old : Option Table) (table : Table) (called : Ca
         subst (λ (z : Kind × List ℕ). (p : ℕ) → p < rows z.0 class → slice_index z.1 (version_at z.0 class p) ≡ 0) (λ i. (kind_c i, sym hand_then i))
         (λ p low. ap (slice_index ws) (keyed_version (kind_of left) keyed class p) ∙ e.filled.versions p low)
 
-    pub root_c : root_in (held_words o c) ≡ 0
+    pub root_c : root_in (held_unboxed o c) ≡ 0
     root_c = ap root_in held_c ∙ bare_head.root
 
     pub may_put_table : MayPutRoot c o (Some table)
@@ -251,13 +251,13 @@ module _ (k : Shape) (o : ℕ) (old : Option Table) (table : Table) (called : Ca
     }
 
     -- after the root and the counts
-    module _ (z u : View) (rooted : z ≡ view_after (PutRoot o (suc t) (root_in (held_words o c))) c) (root_held : held_words o z ≡ with_root (held_words o c) (Some table) c) (puts : OnlyPut o z u) (count next : ℕ) (count_is : count ≡ length_of left) (next_is : next ≡ serial_of left) (words : held_words o u ≡ record { block = counted (held_words o z).block count count next; table = (held_words o z).table }) where
-      held_u : held_words o u ≡ record { block = last; table = ws }
+    module _ (z u : View) (rooted : z ≡ view_after (PutRoot o (suc t) (root_in (held_unboxed o c))) c) (root_held : held_unboxed o z ≡ with_root (held_unboxed o c) (Some table) c) (puts : OnlyPut o z u) (count next : ℕ) (count_is : count ≡ length_of left) (next_is : next ≡ serial_of left) (words : held_unboxed o u ≡ record { block = counted (held_unboxed o z).block count count next; table = (held_unboxed o z).table }) where
+      held_u : held_unboxed o u ≡ record { block = last; table = ws }
       held_u =
-          let at_z : held_words o z ≡ record { block = slice_set b 0 (suc t); table = ws } = root_held ∙ (λ i. record { block = slice_set (held_c i).block 0 (suc t); table = hand_then i }) in
+          let at_z : held_unboxed o z ≡ record { block = slice_set b 0 (suc t); table = ws } = root_held ∙ (λ i. record { block = slice_set (held_c i).block 0 (suc t); table = hand_then i }) in
           words ∙ (λ i. record { block = counted (at_z i).block (count_is i) (count_is i) (next_is i); table = (at_z i).table })
 
-      pub root_u : root_in (held_words o u) ≡ suc t
+      pub root_u : root_in (held_unboxed o u) ≡ suc t
       root_u = ap root_in held_u ∙ (let n = (rooted_names last last_head) in n)
         where
           rooted_names : (l : List ℕ) → IsBlock l (Some class) (length_of left) (length_of left) (serial_of left) → slice_index last 0 ≡ suc t
@@ -273,7 +273,7 @@ module _ (k : Shape) (o : ℕ) (old : Option Table) (table : Table) (called : Ca
       known_u : known_state o u ≡ record { content = left; table = replaced_table (Some class) (length_of left) }
       known_u = work_knows z u o puts.work ∙ (ap (λ (y : View). known_state o y) rooted ∙ kept_then)
 
-      pub stands_u : Represents k.texts (held_words o u) (known_state o u)
+      pub stands_u : Represents k.texts (held_unboxed o u) (known_state o u)
       stands_u = subst (λ (y : ContainerWords × ContainerState). Represents k.texts y.0 y.1) (λ i. (sym held_u i, sym known_u i)) says
 
       shape_u : u.shape ≡ k
@@ -288,8 +288,8 @@ module _ (k : Shape) (o : ℕ) (old : Option Table) (table : Table) (called : Ca
           subst (λ (y : Kind × ℕ × List ℕ). Shut (version_at y.0 (class_of y.1)) (rows y.0 (class_of y.1)) y.2) (λ i. (kind_u i, same i, (sym held_u i).table))
           (kind_shut (kind_of left) keyed class (rows (kind_of left) class) ws (λ p low. let zero = e.filled.versions p low in omega (arith, zero)))
 
-      all_rooted : z ≡ view_after (PutRoot o (suc t) (root_in (held_words o c))) C
-      all_rooted = rooted ∙ ap (view_after (PutRoot o (suc t) (root_in (held_words o c)))) all_made
+      all_rooted : z ≡ view_after (PutRoot o (suc t) (root_in (held_unboxed o c))) C
+      all_rooted = rooted ∙ ap (view_after (PutRoot o (suc t) (root_in (held_unboxed o c)))) all_made
 
       pub odd_u : is_writing o u.log ≡ true
       odd_u = puts.work.pass.writes o ∙ (ap (λ (y : View). is_writing o y.log) all_rooted ∙ hit o true (is_writing o v.log))
@@ -302,8 +302,8 @@ module _ (k : Shape) (o : ℕ) (old : Option Table) (table : Table) (called : Ca
         pub swapping_wrote : Wrote called reply.Done number v w
         swapping_wrote =
             subst
-            (λ (n : ℕ). s ≡ view_after (StartWrite n f) v → r ≡ view_after (PutRoot n 0 (root_in (held_words n v))) (view_after (StartWrite n f) v) → z ≡ view_after (PutRoot n (suc t) 0) c → w ≡ view_after (StopWrite n g) u → is_writing n v.log ≡ false → root_in (held_words n v) ≢ suc t → OnlyPut n z u → root_in (held_words n u) ≡ suc t → Represents u.shape.texts (held_words n u) (known_state n u) → Wrote called reply.Done number v w)
+            (λ (n : ℕ). s ≡ view_after (StartWrite n f) v → r ≡ view_after (PutRoot n 0 (root_in (held_unboxed n v))) (view_after (StartWrite n f) v) → z ≡ view_after (PutRoot n (suc t) 0) c → w ≡ view_after (StopWrite n g) u → is_writing n v.log ≡ false → root_in (held_unboxed n v) ≢ suc t → OnlyPut n z u → root_in (held_unboxed n u) ≡ suc t → Represents u.shape.texts (held_unboxed n u) (known_state n u) → Wrote called reply.Done number v w)
             e.replaces.changed
             (λ s_is r_is z_is w_is quiet new puts_at root stands. swapped_write called reply.Done number f t g snap v u s r c z w s_is r_is made z_is w_is quiet new seen e.may.left keeps committed kept puts_at root stands)
             e.started both_rooted (rooted ∙ ap (λ (x : ℕ). view_after (PutRoot o (suc t) x) c) root_c) stopped e.may.keyed.even e.other puts root_u
-            (subst (λ (y : Shape). Represents y.texts (held_words o u) (known_state o u)) (sym shape_u) stands_u)
+            (subst (λ (y : Shape). Represents y.texts (held_unboxed o u) (known_state o u)) (sym shape_u) stands_u)

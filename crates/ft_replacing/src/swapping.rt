@@ -5,7 +5,7 @@ ghost use Rattle.ft_model.specs.declared.reply.Reply.TheVariants as reply;
 ghost use Rattle.ft_model.specs.Worlds.{kind_of, length_of, serial_of};
 ghost use Rattle.ft_trace.specs.Acts.{is_writing};
 ghost use Rattle.ft_trace.specs.Addresses.{container_count, class_of};
-ghost use Rattle.ft_trace.specs.Holds.{held_words, in_hand};
+ghost use Rattle.ft_trace.specs.Holds.{held_unboxed, in_hand};
 ghost use Rattle.ft_trace.specs.Pictures.{root_in};
 ghost use Rattle.ft_trace.specs.ContainerStates.{kind_in};
 ghost use Rattle.ft_bank.specs.Passes.{shape_of, view, IsPassOf};
@@ -30,9 +30,9 @@ fn put_counts(bank: &Bank, pass: &mut Pass, o: u32, count: u64, next: u64)
     ensures pass { IsPassOf bank.now pass.new }
     ensures stack { stack_of pass.new ≡ stack_of pass.old }
     ensures only { OnlyPut o (view pass.old) (view pass.new) }
-    ensures words { held_words o (view pass.new) ≡ record {
-      block = counted (held_words o (view pass.old)).block count count next;
-      table = (held_words o (view pass.old)).table;
+    ensures words { held_unboxed o (view pass.new) ≡ record {
+      block = counted (held_unboxed o (view pass.old)).block count count next;
+      table = (held_unboxed o (view pass.old)).table;
     } }
 {
     bank.put_block(pass, o, COUNT, count);
@@ -53,7 +53,7 @@ pub fn swap_table(
 ) -> u64
     requires pass { IsPassOf bank.now pass.old }
     requires may { MayGrowKeyed (shape_of bank.now) o old table (view pass.old) }
-    requires other { root_in (held_words o (view pass.old)) ≢ suc (table_id table) }
+    requires other { root_in (held_unboxed o (view pass.old)) ≢ suc (table_id table) }
     requires gets { (left : Content) × (kind_of left ≡ kind_in (shape_of bank.now).starts o)
         × (count ≡ length_of left) × (next ≡ serial_of left)
         × IsFilledWith (shape_of bank.now).texts (class_of (table_id table)) left
@@ -62,7 +62,7 @@ pub fn swap_table(
     ensures pass { IsPassOf bank.now pass.new }
     ensures stack { stack_of pass.new ≡ stack_of pass.old }
     ensures wrote { Wrote called.now reply.Done result (view pass.old) (view pass.new) }
-    ensures root { root_in (held_words o (view pass.new)) ≡ suc (table_id table) }
+    ensures root { root_in (held_unboxed o (view pass.new)) ≡ suc (table_id table) }
 {
     let _ = old;
     words_are_of_one_content();

@@ -22,7 +22,7 @@ use Rattle.ft_trace.specs.declared.Snap.{Snap}
 use Rattle.ft_trace.specs.declared.View.{View}
 use Rattle.ft_trace.specs.Acts.{has_lock, is_writing, owes, view_after, seen_writes, used}
 use Rattle.ft_trace.specs.Addresses.{container_count, class_of}
-use Rattle.ft_trace.specs.Holds.{held_words, known_state}
+use Rattle.ft_trace.specs.Holds.{held_unboxed, known_state}
 use Rattle.ft_trace.specs.Kinds.{IsKeyed, version_at}
 use Rattle.ft_trace.specs.Traces.{IsReachable}
 use Rattle.ft_trace.specs.Pictures.{ContainerWords, root_in, Represents}
@@ -116,7 +116,7 @@ bare_stays texts words kept unshared keyed stands bare = by kept.content kept.ta
 -- no version of an entry is odd before the write
 known_shut : (k : Shape) (v : View) (o : ℕ) → v.shape ≡ k → ∥ IsReachable v ∥₁ → MayWriteEntries k o v → IsShut o v
 known_shut k v o shape possible may t names p row =
-    ∥∥₁_elim {P = slice_index (held_words o v).table (version_at (kind_in v.shape.starts o) (class_of t) p) % 2 ≡ 0} possible (ℕ_set _ _)
+    ∥∥₁_elim {P = slice_index (held_unboxed o v).table (version_at (kind_in v.shape.starts o) (class_of t) p) % 2 ≡ 0} possible (ℕ_set _ _)
     (λ (x : IsReachable v). held_shut v o t (subst (λ (z : Shape). o < container_count z) (sym shape) may.container) x may.locked may.even names p row)
 
 pub may_put_none : (k : Shape) (o : ℕ) (v s : View) (f : ℕ) → v.shape ≡ k → ∥ IsReachable v ∥₁ → MayWriteEntries k o v → used v.log ≡ false → s ≡ view_after (StartWrite o f) v → MayPutRoot s o None
@@ -144,15 +144,15 @@ pub record Emptying (k : Shape) (o : ℕ) (table : Table) (called : Call) (f : �
   pub leaves : Leaves o called reply.Done (cleared_kept (known_state o v)) v
   pub empties : may_empty called ≡ true
   pub started : s ≡ view_after (StartWrite o f) v
-  pub rooted : r ≡ view_after (PutRoot o 0 (root_in (held_words o s))) s
-  pub root_held : held_words o r ≡ with_root (held_words o s) None s
+  pub rooted : r ≡ view_after (PutRoot o 0 (root_in (held_unboxed o s))) s
+  pub root_held : held_unboxed o r ≡ with_root (held_unboxed o s) None s
   pub keeps : KeepsUnwritten s r
   pub puts : OnlyPut o r u
-  pub words : held_words o u ≡ with_block (with_block (held_words o r) 1 0) 2 0
+  pub words : held_unboxed o u ≡ with_block (with_block (held_unboxed o r) 1 0) 2 0
 
 module _ (k : Shape) (o : ℕ) (table : Table) (called : Call) (f : ℕ) (v s r u : View) (e : Emptying k o table called f v s r u) where
-  both_rooted : r ≡ view_after (PutRoot o 0 (root_in (held_words o v))) (view_after (StartWrite o f) v)
-  both_rooted = e.rooted ∙ ap (λ (z : View). view_after (PutRoot o 0 (root_in (held_words o z))) z) e.started
+  both_rooted : r ≡ view_after (PutRoot o 0 (root_in (held_unboxed o v))) (view_after (StartWrite o f) v)
+  both_rooted = e.rooted ∙ ap (λ (z : View). view_after (PutRoot o 0 (root_in (held_unboxed o z))) z) e.started
 
   known_then : (p : ℕ) → known_state p u ≡ known_state p v
   known_then p = work_knows r u p e.puts.work ∙ ap (λ (z : View). known_state p z) both_rooted
@@ -168,14 +168,14 @@ module _ (k : Shape) (o : ℕ) (table : Table) (called : Call) (f : ℕ) (v s r 
   keyed = subst IsKeyed (sym (kind_is k v o e.shape e.possible e.may.locked)) e.may.keyed
 
   -- its block
-  head_then : IsBlock (held_words o u).block None 0 0 (serial_of (known_state o v).content)
+  head_then : IsBlock (held_unboxed o u).block None 0 0 (serial_of (known_state o v).content)
   head_then =
       subst (λ (x : ContainerWords). IsBlock x.block None 0 0 (serial_of (known_state o v).content)) (sym (e.words ∙ ap (λ (x : ContainerWords). with_block (with_block x 1 0) 2 0) e.root_held))
-      (subst (λ (z : View). IsBlock (with_block (with_block (with_root (held_words o z) None z) 1 0) 2 0).block None 0 0 (serial_of (known_state o v).content)) (sym e.started)
-      (no_counts (held_words o v).block (known_state o v).table.class (length_of (known_state o v).content) (known_state o v).table.fill (serial_of (known_state o v).content)
-      (head_of k.texts (held_words o v).block (0 ∷ 0 ∷ (held_words o v).table) (known_state o v).table (known_state o v).content e.may.stands)))
+      (subst (λ (z : View). IsBlock (with_block (with_block (with_root (held_unboxed o z) None z) 1 0) 2 0).block None 0 0 (serial_of (known_state o v).content)) (sym e.started)
+      (no_counts (held_unboxed o v).block (known_state o v).table.class (length_of (known_state o v).content) (known_state o v).table.fill (serial_of (known_state o v).content)
+      (head_of k.texts (held_unboxed o v).block (0 ∷ 0 ∷ (held_unboxed o v).table) (known_state o v).table (known_state o v).content e.may.stands)))
 
-  root_then : root_in (held_words o u) ≡ 0
+  root_then : root_in (held_unboxed o u) ≡ 0
   root_then = head_then.root
 
   -- the bank may have the same
@@ -195,7 +195,7 @@ module _ (k : Shape) (o : ℕ) (table : Table) (called : Call) (f : ℕ) (v s r 
       let at : o ≡ changes called = sym l.changed in
       let owed : owes u.log ≡ 0 = e.puts.work.owes ∙ (ap (λ (z : View). owes z.log) both_rooted ∙ e.may.owes) in
       let odd : is_writing o u.log ≡ true = e.puts.work.pass.writes o ∙ (ap (λ (z : View). is_writing o z.log) both_rooted ∙ hit o true (is_writing o v.log)) in
-      let bare : root_in (held_words (changes called) u) ≡ 0 = subst (λ (n : ℕ). root_in (held_words n u) ≡ 0) at root_then in
+      let bare : root_in (held_unboxed (changes called) u) ≡ 0 = subst (λ (n : ℕ). root_in (held_unboxed n u) ≡ 0) at root_then in
       record {
         write = l.write;
         container = subst (λ (n : ℕ). n < container_count u.shape) at (subst (λ (z : Shape). o < container_count z) (sym (shape_then ∙ e.shape)) e.may.container);
@@ -213,18 +213,18 @@ module _ (k : Shape) (o : ℕ) (table : Table) (called : Call) (f : ℕ) (v s r 
 
   -- after the commit
   module _ (number : ℕ) (snap : Snap) (c : View) (made : c ≡ view_after (Commit called reply.Done number snap) u) (committed : Committed u c called) where
-    held_on : held_words o c ≡ held_words o u
-    held_on = ap (λ (z : View). held_words o z) made
+    held_on : held_unboxed o c ≡ held_unboxed o u
+    held_on = ap (λ (z : View). held_unboxed o z) made
 
     kept_then : known_state o c ≡ cleared_kept (known_state o v)
     kept_then = committed.left o ∙ e.leaves.left_is committed.found (has_before committed.found committed.has)
 
-    pub emptying_stands : Represents k.texts (held_words o c) (known_state o c)
+    pub emptying_stands : Represents k.texts (held_unboxed o c) (known_state o c)
     emptying_stands =
-        subst (λ (z : ContainerState). Represents k.texts (held_words o c) z) (sym kept_then)
-        (empty_stands k.texts (held_words o c) (known_state o v).content keyed (subst (λ (x : ContainerWords). IsBlock x.block None 0 0 (serial_of (known_state o v).content)) (sym held_on) head_then))
+        subst (λ (z : ContainerState). Represents k.texts (held_unboxed o c) z) (sym kept_then)
+        (empty_stands k.texts (held_unboxed o c) (known_state o v).content keyed (subst (λ (x : ContainerWords). IsBlock x.block None 0 0 (serial_of (known_state o v).content)) (sym held_on) head_then))
 
-    pub emptying_root : root_in (held_words o c) ≡ 0
+    pub emptying_root : root_in (held_unboxed o c) ≡ 0
     emptying_root = ap root_in held_on ∙ root_then
 
     pub emptying_shut : IsShut o c
@@ -232,11 +232,11 @@ module _ (k : Shape) (o : ℕ) (table : Table) (called : Call) (f : ℕ) (v s r 
 
     -- the whole write
     module _ (g : ℕ) (w : View) (seen : seen_writes u ≤ number) (stopped : w ≡ view_after (StopWrite o g) c) where
-      some_old : root_in (held_words o v) ≢ 0
+      some_old : root_in (held_unboxed o v) ≢ 0
       some_old x = let n = e.table_is.root in omega (arith, x, n)
 
-      stands_u : Represents u.shape.texts (held_words o c) (known_state o c)
-      stands_u = subst (λ (z : Shape). Represents z.texts (held_words o c) (known_state o c)) (sym (shape_then ∙ e.shape)) emptying_stands
+      stands_u : Represents u.shape.texts (held_unboxed o c) (known_state o c)
+      stands_u = subst (λ (z : Shape). Represents z.texts (held_unboxed o c) (known_state o c)) (sym (shape_then ∙ e.shape)) emptying_stands
 
       at_change : o ≡ changes called
       at_change = sym e.leaves.changed
@@ -244,16 +244,16 @@ module _ (k : Shape) (o : ℕ) (table : Table) (called : Call) (f : ℕ) (v s r 
       pub emptying_wrote : Wrote called reply.Done number v w
       emptying_wrote =
           rooted_write called reply.Done number f 0 v r u w
-          (subst (λ (n : ℕ). r ≡ view_after (PutRoot n 0 (root_in (held_words n v))) (view_after (StartWrite n f) v)) at_change both_rooted)
+          (subst (λ (n : ℕ). r ≡ view_after (PutRoot n 0 (root_in (held_unboxed n v))) (view_after (StartWrite n f) v)) at_change both_rooted)
           (subst (λ (n : ℕ). is_writing n v.log ≡ false) at_change e.may.even)
-          (subst (λ (n : ℕ). root_in (held_words n v) ≢ 0) at_change some_old)
+          (subst (λ (n : ℕ). root_in (held_unboxed n v) ≢ 0) at_change some_old)
           (subst (λ (n : ℕ). KeepsUnwritten (view_after (StartWrite n f) v) r) at_change (subst (λ (z : View). KeepsUnwritten z r) e.started e.keeps))
           (subst (λ (n : ℕ). OnlyPut n r u) at_change e.puts)
-          (subst (λ (n : ℕ). root_in (held_words n u) ≡ 0) at_change root_then)
+          (subst (λ (n : ℕ). root_in (held_unboxed n u) ≡ 0) at_change root_then)
           (write_ends called reply.Done number g snap u c c w seen made committed emptying_commits.left (put_same c (changes called))
-          (subst (λ (n : ℕ). root_in (held_words n c) ≡ root_in (held_words n u)) at_change (ap root_in held_on))
-          (subst (λ (n : ℕ). Represents u.shape.texts (held_words n c) (known_state n c)) at_change stands_u)
+          (subst (λ (n : ℕ). root_in (held_unboxed n c) ≡ root_in (held_unboxed n u)) at_change (ap root_in held_on))
+          (subst (λ (n : ℕ). Represents u.shape.texts (held_unboxed n c) (known_state n c)) at_change stands_u)
           (subst (λ (n : ℕ). w ≡ view_after (StopWrite n g) c) at_change stopped))
 
-      pub emptying_bare : root_in (held_words o w) ≡ 0
-      emptying_bare = ap (λ (z : View). root_in (held_words o z)) stopped ∙ emptying_root
+      pub emptying_bare : root_in (held_unboxed o w) ≡ 0
+      emptying_bare = ap (λ (z : View). root_in (held_unboxed o z)) stopped ∙ emptying_root

@@ -8,7 +8,7 @@ use Rattle.ft_keys.specs.declared.words.Access.TheVariants.{Index, Entry, PutInd
 use Rattle.ft_keys.specs.Accesses.{AreLoads, AreAnswered, IsLoad, Runs, Tells, after, put_by}
 use Rattle.ft_trace.specs.declared.Shape.{Shape}
 use Rattle.ft_trace.specs.Addresses.{IsTableName, class_of, slots}
-use Rattle.ft_trace.specs.Holds.{held_words}
+use Rattle.ft_trace.specs.Holds.{held_unboxed}
 use Rattle.ft_trace.specs.Pictures.{ContainerWords, entry_offset, root_in}
 use Rattle.ft_bank.specs.declared.table.Table.{Table}
 use Rattle.ft_bank.specs.Passes.{shape_of, view}
@@ -40,7 +40,7 @@ one_reads o (Index slot value) s t is table load g =
     let n = table_id s.table in
     reads_map k o (λ x. root_in x ≡ suc n → value ≡ slice_index x.table slot) (Answers n s.mask (Index slot value)) s.pass.now t.pass.now
     (λ x f names. f names ∙ sym (after_header x.table slot))
-    (reads_table k o n slot value s.pass.now t.pass.now table g.inside g.did (λ c low mine names. g.others c low mine names ∙ after_header (held_words c (view s.pass.now)).table slot))
+    (reads_table k o n slot value s.pass.now t.pass.now table g.inside g.did (λ c low mine names. g.others c low mine names ∙ after_header (held_unboxed c (view s.pass.now)).table slot))
 one_reads o (Entry place word value) s t is table load g =
     let k = shape_of s.bank.now in
     let n = table_id s.table in
@@ -48,7 +48,7 @@ one_reads o (Entry place word value) s t is table load g =
     let here : (l : List ℕ) → slice_index (0 ∷ 0 ∷ l) (layout.entry_at s.mask place word) ≡ slice_index l at = λ l. entry_after_header l s.mask place word ∙ ap (slice_index l) (entry_is k s.table s.mask place word is.0 is.1) in
     reads_map k o (λ x. root_in x ≡ suc n → value ≡ slice_index x.table at) (Answers n s.mask (Entry place word value)) s.pass.now t.pass.now
     (λ x f names. f names ∙ sym (here x.table))
-    (reads_table k o n at value s.pass.now t.pass.now table g.inside g.did (λ c low mine names. g.others c low mine names ∙ here (held_words c (view s.pass.now)).table))
+    (reads_table k o n at value s.pass.now t.pass.now table g.inside g.did (λ c low mine names. g.others c low mine names ∙ here (held_unboxed c (view s.pass.now)).table))
 one_reads o (PutIndex slot value) s t is table load g = absurd load
 one_reads o (PutEntry place word value) s t is table load g = absurd load
 one_reads o (OldEntry place word value) s t is table load g = absurd g.inside

@@ -4,7 +4,7 @@ ghost use Rattle.std.specs.Prelude.{◌≡◌, ◌<◌, true, false};
 ghost use Rattle.ft_model.specs.declared.reply.Reply.TheVariants as reply;
 ghost use Rattle.ft_trace.specs.Acts.{flight, is_writing, used};
 ghost use Rattle.ft_trace.specs.Addresses.{container_count};
-ghost use Rattle.ft_trace.specs.Holds.{held_words, known_state};
+ghost use Rattle.ft_trace.specs.Holds.{held_unboxed, known_state};
 ghost use Rattle.ft_trace.specs.Pictures.{root_in};
 ghost use Rattle.ft_trace.specs.ContainerStates.{may_empty};
 ghost use Rattle.ft_bank.specs.Passes.{shape_of, view, IsPassOf};
@@ -50,7 +50,7 @@ fn put_no_counts(bank: &Bank, pass: &mut Pass, o: Object)
     ensures pass { IsPassOf bank.now pass.new }
     ensures stack { stack_of pass.new ≡ stack_of pass.old }
     ensures only { OnlyPut o (view pass.old) (view pass.new) }
-    ensures words { held_words o (view pass.new) ≡ with_block (with_block (held_words o (view pass.old)) 1 0) 2 0 }
+    ensures words { held_unboxed o (view pass.new) ≡ with_block (with_block (held_unboxed o (view pass.old)) 1 0) 2 0 }
 {
     bank.put_block(pass, o, COUNT, 0);
     bank.put_block(pass, o, FILL, 0);
@@ -68,7 +68,7 @@ fn clear_table(bank: &Bank, pass: &mut Pass, o: Object, table: Table, called: &C
     ensures pass { IsPassOf bank.now pass.new }
     ensures stack { stack_of pass.new ≡ stack_of pass.old }
     ensures wrote { Wrote called.now reply.Done result (view pass.old) (view pass.new) }
-    ensures root { root_in (held_words o (view pass.new)) ≡ 0 }
+    ensures root { root_in (held_unboxed o (view pass.new)) ≡ 0 }
 {
     let _ = table;
     bank.start_write(pass, o);
@@ -84,12 +84,12 @@ fn clear_table(bank: &Bank, pass: &mut Pass, o: Object, table: Table, called: &C
 fn clear_bare(bank: &Bank, pass: &mut Pass, o: Object, called: &Call) -> u64
     requires pass { IsPassOf bank.now pass.old }
     requires may { MayWriteEntries (shape_of bank.now) o (view pass.old) }
-    requires bare { root_in (held_words o (view pass.old)) ≡ 0 }
+    requires bare { root_in (held_unboxed o (view pass.old)) ≡ 0 }
     requires leaves { Leaves o called.now reply.Done (cleared_kept (known_state o (view pass.old))) (view pass.old) }
     ensures pass { IsPassOf bank.now pass.new }
     ensures stack { stack_of pass.new ≡ stack_of pass.old }
     ensures wrote { Wrote called.now reply.Done result (view pass.old) (view pass.new) }
-    ensures root { root_in (held_words o (view pass.new)) ≡ 0 }
+    ensures root { root_in (held_unboxed o (view pass.new)) ≡ 0 }
 {
     write_nothing(bank, pass, o, called, &Reply::Done)
 }
@@ -105,7 +105,7 @@ fn clear_root(bank: &Bank, pass: &mut Pass, o: Object, old: Option<Table>, calle
     ensures pass { IsPassOf bank.now pass.new }
     ensures stack { stack_of pass.new ≡ stack_of pass.old }
     ensures wrote { Wrote called.now reply.Done result (view pass.old) (view pass.new) }
-    ensures root { root_in (held_words o (view pass.new)) ≡ 0 }
+    ensures root { root_in (held_unboxed o (view pass.new)) ≡ 0 }
 {
     match old {
         Some(table) => clear_table(bank, pass, o, table, called),

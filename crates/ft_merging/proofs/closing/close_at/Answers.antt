@@ -1,5 +1,5 @@
 use Rattle.std.proofs.Common.{◌≡◌, ◌%◌, sym, ap, ◌∙◌, arith}
-use Rattle.ft_trace.specs.Holds.{held_words}
+use Rattle.ft_trace.specs.Holds.{held_unboxed}
 use Rattle.ft_trace.specs.Pictures.{ContainerWords}
 use Rattle.ft_trace.proofs.DictWrites.{EntryVersionsChangeNothing}
 use Rattle.ft_bank.specs.Passes.{shape_of, view}
@@ -23,7 +23,7 @@ loaded c =
     let a = c.args in
     closing_loaded (shape_of a.bank.now) a.o a.table a.place a.fill (view a.pass.now) (view c.word_of-version.new.pass) c.word_of-version.ensures.only c.requires.closing
 
-found : (c : After-word_of-version) → c.word_of-version.result ≡ version_of (table_id c.args.table) (held_words c.args.o (view c.word_of-version.new.pass)) c.args.place
+found : (c : After-word_of-version) → c.word_of-version.result ≡ version_of (table_id c.args.table) (held_unboxed c.args.o (view c.word_of-version.new.pass)) c.args.place
 found c =
     let a = c.args in
     c.word_of-version.ensures.found ∙ sym (ap (λ (y : ContainerWords). version_of (table_id a.table) y a.place) (loaded_held (view a.pass.now) (view c.word_of-version.new.pass) a.o c.word_of-version.ensures.only))
@@ -40,7 +40,7 @@ word_of-version-requires-clause-table c = c.requires.closing.writes.table_in
 pub word_of-version-requires-clause-knows : goal.word_of-version-requires-clause-knows
 word_of-version-requires-clause-knows c = (c.requires.closing.writes.locked, c.requires.closing.writes.root)
 
-odd : (c : After-word_of-version) → c.word_of-version.result % 2 ≡ 1 → version_of (table_id c.args.table) (held_words c.args.o (view c.word_of-version.new.pass)) c.args.place % 2 ≡ 1
+odd : (c : After-word_of-version) → c.word_of-version.result % 2 ≡ 1 → version_of (table_id c.args.table) (held_unboxed c.args.o (view c.word_of-version.new.pass)) c.args.place % 2 ≡ 1
 odd c is = let f = found c in omega (arith, f, is)
 
 pub raise_version-requires-clause-care : goal.raise_version-requires-clause-care

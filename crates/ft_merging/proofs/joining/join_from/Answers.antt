@@ -1,6 +1,6 @@
 use Rattle.std.proofs.Common.{◌≡◌, ◌+◌, ◌^◌, ◌<◌, ◌∷◌, Some, refl, sym, ap, ◌∙◌, subst, arith}
 use Rattle.ft_model.specs.Worlds.{kind_of, length_of, serial_of}
-use Rattle.ft_trace.specs.Holds.{held_words, known_state}
+use Rattle.ft_trace.specs.Holds.{held_unboxed, known_state}
 use Rattle.ft_trace.specs.Kinds.{IsKeyed}
 use Rattle.ft_trace.specs.Pictures.{ContainerWords}
 use Rattle.ft_trace.specs.ContainerStates.{ContainerState}
@@ -68,7 +68,7 @@ join_more-requires-clause-may c =
     let k = shape_of a.bank.now in
     may_add k a.o c.own_table-old.result (view a.pass.now) (view c.own_table-old.new.pass) (all d) c.requires.used c.requires.idle (may_loaded k a.o (view a.pass.now) (view c.own_table-old.new.pass) c.requires.pass.1 (all d) c.requires.may) c.own_table-old.ensures.knows
 
-counts : (c : After-own_table-old) → AreCounts (held_words c.args.o (view c.own_table-old.new.pass)).block c.read_counts-counts.result
+counts : (c : After-own_table-old) → AreCounts (held_unboxed c.args.o (view c.own_table-old.new.pass)).block c.read_counts-counts.result
 counts c =
     let a = c.args in
     let v0 = view c.read_counts-others.new.pass in
@@ -78,7 +78,7 @@ full : (c : After-own_table-old) → c.read_counts-others.result.fill ≡ (known
 full c =
     let a = c.args in
     let v = view a.pass.now in
-    sym c.read_counts-others.ensures.counts.1 ∙ (c.words_are_of_one_content.ensures.head (shape_of a.bank.now).texts (held_words a.t v).block (0 ∷ 0 ∷ (held_words a.t v).table) (known_state a.t v).table (known_state a.t v).content c.requires.other.stands).fill_is
+    sym c.read_counts-others.ensures.counts.1 ∙ (c.words_are_of_one_content.ensures.head (shape_of a.bank.now).texts (held_unboxed a.t v).block (0 ∷ 0 ∷ (held_unboxed a.t v).table) (known_state a.t v).table (known_state a.t v).content c.requires.other.stands).fill_is
 
 pub join_more-requires-clause-merge : goal.join_more-requires-clause-merge
 join_more-requires-clause-merge c =

@@ -4,7 +4,7 @@ use Rattle.ft_model.specs.declared.script.Kind.{Kind}
 use Rattle.ft_model.specs.TableUses.{passes_cap}
 use Rattle.ft_model.specs.Worlds.{kind_of, length_of}
 use Rattle.ft_trace.specs.Addresses.{class_of}
-use Rattle.ft_trace.specs.Holds.{held_words, in_hand, known_state}
+use Rattle.ft_trace.specs.Holds.{held_unboxed, in_hand, known_state}
 use Rattle.ft_trace.specs.Kinds.{rows}
 use Rattle.ft_trace.specs.Pictures.{root_in}
 use Rattle.ft_trace.specs.ContainerStates.{ContainerState, kind_in}
@@ -82,7 +82,7 @@ grow c =
     let a = c.args in
     grow_filled (shape_of a.bank.now) a.merge.now.o a.old a.new (view a.pass.now) (view c.fill.new.pass) c.requires.pass.1 c.fill.ensures.only c.requires.may
 
-same : (c : After-fill) → (held_words c.args.merge.now.o (view c.fill.new.pass) ≡ held_words c.args.merge.now.o (view c.args.pass.now)) × (known_state c.args.merge.now.o (view c.fill.new.pass) ≡ known_state c.args.merge.now.o (view c.args.pass.now))
+same : (c : After-fill) → (held_unboxed c.args.merge.now.o (view c.fill.new.pass) ≡ held_unboxed c.args.merge.now.o (view c.args.pass.now)) × (known_state c.args.merge.now.o (view c.fill.new.pass) ≡ known_state c.args.merge.now.o (view c.args.pass.now))
 same c =
     let a = c.args in
     same_filled (shape_of a.bank.now) a.merge.now.o a.old (view a.pass.now) (view c.fill.new.pass) c.requires.pass.1 c.fill.ensures.only c.requires.may.keyed
@@ -132,7 +132,7 @@ join_table-requires-clause-other c =
     let w = (goal.at.join_table-requires-clause-other c).After-words_are_of_one_content in
     let did = c.begin_in.ensures.did in
     let x = view c.fill.new.pass in
-    other_on c.words_are_of_one_content.ensures.head (record { pairs = c.used_entries_follow_a_dict.ensures.first; elements = c.used_entries_follow_a_set.ensures.first }) (shape_of a.bank.now) a.merge.now.o a.way a.old a.new a.merge.now.t a.merge.now.table a.merge.now.counts a.merge.now.more x (view c.begin_in.new.pass) (view c.put_counts.new.pass) did.0 (root_in (held_words a.merge.now.o x)) c.fill.ensures.pass.1 c.fill.new.pass.possible (merge f).two (grow f) (merge f).other (merge f).way (merge f).other_way
+    other_on c.words_are_of_one_content.ensures.head (record { pairs = c.used_entries_follow_a_dict.ensures.first; elements = c.used_entries_follow_a_set.ensures.first }) (shape_of a.bank.now) a.merge.now.o a.way a.old a.new a.merge.now.t a.merge.now.table a.merge.now.counts a.merge.now.more x (view c.begin_in.new.pass) (view c.put_counts.new.pass) did.0 (root_in (held_unboxed a.merge.now.o x)) c.fill.ensures.pass.1 c.fill.new.pass.possible (merge f).two (grow f) (merge f).other (merge f).way (merge f).other_way
     (filled f) (merge f).counts (merge f).more (cap f) (merge f).serials (row w) did.1.1 did.2 c.begin_in.ensures.words c.begin_in.ensures.pass.1 c.put_counts.ensures.only c.put_counts.ensures.words c.put_counts.ensures.writes c.put_counts.ensures.pass.1 c.put_counts.new.pass.possible
 
 pub join_table-requires-clause-joining : goal.join_table-requires-clause-joining
@@ -142,7 +142,7 @@ join_table-requires-clause-joining c =
     let w = (goal.at.join_table-requires-clause-joining c).After-words_are_of_one_content in
     let did = c.begin_in.ensures.did in
     let x = view c.fill.new.pass in
-    new_begins c.words_are_of_one_content.ensures.head (record { pairs = c.used_entries_follow_a_dict.ensures.first; elements = c.used_entries_follow_a_set.ensures.first }) (shape_of a.bank.now) a.merge.now.o a.way a.old a.new a.merge.now.t a.merge.now.table a.merge.now.counts a.merge.now.more x (view c.begin_in.new.pass) (view c.put_counts.new.pass) did.0 (root_in (held_words a.merge.now.o x)) c.fill.ensures.pass.1 c.fill.new.pass.possible (merge f).two (grow f) (merge f).other (merge f).way (merge f).other_way
+    new_begins c.words_are_of_one_content.ensures.head (record { pairs = c.used_entries_follow_a_dict.ensures.first; elements = c.used_entries_follow_a_set.ensures.first }) (shape_of a.bank.now) a.merge.now.o a.way a.old a.new a.merge.now.t a.merge.now.table a.merge.now.counts a.merge.now.more x (view c.begin_in.new.pass) (view c.put_counts.new.pass) did.0 (root_in (held_unboxed a.merge.now.o x)) c.fill.ensures.pass.1 c.fill.new.pass.possible (merge f).two (grow f) (merge f).other (merge f).way (merge f).other_way
     (filled f) (merge f).counts (merge f).more (cap f) (merge f).serials (row w) did.1.1 did.2 c.begin_in.ensures.words c.begin_in.ensures.pass.1 c.put_counts.ensures.only c.put_counts.ensures.words c.put_counts.ensures.writes c.put_counts.ensures.pass.1 c.put_counts.new.pass.possible
 
 -- the pass knows the same contents as after the filling
@@ -166,7 +166,7 @@ join_table-requires-clause-finishes c w counts_then only joining =
     let all = many_joined k a.way a.merge.now.t a.merge.now.table (view a.pass.now) (source b) (known_state a.merge.now.o (view a.pass.now)).content (kinds b) in
     let long : length_of (joined (known_state a.merge.now.o x).content (known_state a.merge.now.t x).content) ≡ a.merge.now.counts.count + a.merge.now.more = (λ i. length_of (joined ((same f).1 i).content (other f i).content)) ∙ omega (arith, n, m, all) in
     joined_finishes (record { pairs = c.used_entries_follow_a_dict.ensures.first; elements = c.used_entries_follow_a_set.ensures.first }) k a.merge.now.o a.way a.new a.merge.now.t a.merge.now.table (a.merge.now.counts.count + a.merge.now.more) a.merge.now.others counts_then x w
-    (since_root a.merge.now.o (table_id a.new) (root_in (held_words a.merge.now.o x)) x y w did.0 did.1.1 (put_then y z w a.merge.now.o c.put_counts.ensures.only only)) c.fill.ensures.pass.1 c.requires.may.keyed.container (grow f).left a.called.now (joins f) (cap f)
+    (since_root a.merge.now.o (table_id a.new) (root_in (held_unboxed a.merge.now.o x)) x y w did.0 did.1.1 (put_then y z w a.merge.now.o c.put_counts.ensures.only only)) c.fill.ensures.pass.1 c.requires.may.keyed.container (grow f).left a.called.now (joins f) (cap f)
     (λ found class has owed.
     let is : class_of (table_id a.new) ≡ class = omega (arith, owed, owes) in
     (joins f).takes found has ∙ (takes f ∙ ap (λ (q : ℕ). Some q) is))
@@ -184,11 +184,11 @@ returns-clause-wrote c =
     let f = (goal.at.returns-clause-wrote c).After-fill in
     let did = c.begin_in.ensures.did in
     let e = c.join_table.ensures.ends in
-    let root : root_in (held_words a.merge.now.o x) ≡ root_in (held_words a.merge.now.o v) = ap root_in (same f).0 in
+    let root : root_in (held_unboxed a.merge.now.o x) ≡ root_in (held_unboxed a.merge.now.o v) = ap root_in (same f).0 in
     grown_wrote a.merge.now.o (table_id a.new) a.called.now reply.Done c.join_table.result did.0 v x y e.0 (view c.join_table.new.pass) c.requires.joins.changed c.fill.ensures.only root (λ is. c.requires.apart (sym root ∙ is)) (grow f).keyed.even did.1.1 did.2 (put_then y z e.0 a.merge.now.o c.put_counts.ensures.only e.1) e.2 e.3
 
 pub returns-clause-root : goal.returns-clause-root
 returns-clause-root c =
     let a = c.args in
     let e = c.join_table.ensures.ends in
-    subst (λ (n : ℕ). root_in (held_words n (view c.join_table.new.pass)) ≡ root_in (held_words n e.0)) c.requires.joins.changed e.3.root ∙ e.2
+    subst (λ (n : ℕ). root_in (held_unboxed n (view c.join_table.new.pass)) ≡ root_in (held_unboxed n e.0)) c.requires.joins.changed e.3.root ∙ e.2

@@ -9,7 +9,7 @@ use Rattle.ft_layout.specs.Containers.{IsSetWords}
 use Rattle.ft_keys.specs.declared.walk.Way.TheVariants as way
 use Rattle.ft_trace.specs.declared.View.{View}
 use Rattle.ft_trace.specs.Addresses.{class_of}
-use Rattle.ft_trace.specs.Holds.{held_words, known_state}
+use Rattle.ft_trace.specs.Holds.{held_unboxed, known_state}
 use Rattle.ft_trace.specs.Kinds.{rows}
 use Rattle.ft_trace.specs.ContainerStates.{ContainerState}
 use Rattle.ft_bank.specs.Passes.{shape_of, view}
@@ -84,7 +84,7 @@ cap c =
     let a = c.args in
     let k = shape_of a.bank.now in
     let v = view a.pass.now in
-    let x = held_words a.merge.now.o v in
+    let x = held_unboxed a.merge.now.o v in
     let class = class_of (table_id a.own) in
     let says = first_says k a.merge.now.o a.own false (set_of (known_state a.merge.now.t v).content) v (view c.start_write.new.pass) c.start_write.result c.requires.pass.1 a.pass.now.possible (may c) c.requires.merge.way (has c) c.start_write.ensures.1 in
     let here = subst (λ (z : TableUse). IsSetWords k.texts x.block (0 ∷ 0 ∷ x.table) (Some class) z.fill (set_of (known_state a.merge.now.o v).content)) (table_is c) says in

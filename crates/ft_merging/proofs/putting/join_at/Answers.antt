@@ -13,7 +13,7 @@ use Rattle.ft_layout.specs.declared.slot.Stored.TheVariants.{Boxed, Empty, Plain
 use Rattle.ft_trace.specs.declared.Shape.{Shape}
 use Rattle.ft_trace.specs.declared.View.{View}
 use Rattle.ft_trace.specs.Addresses.{class_of, container_count, slots}
-use Rattle.ft_trace.specs.Holds.{held_words, known_state}
+use Rattle.ft_trace.specs.Holds.{held_unboxed, known_state}
 use Rattle.ft_trace.specs.Kinds.{rows}
 use Rattle.ft_trace.specs.Pictures.{ContainerWords, entry_field, root_in, Represents}
 use Rattle.ft_trace.specs.ContainerStates.{ContainerState, kind_in}
@@ -42,7 +42,7 @@ use Rattle.ft_merging.proofs.putting.join_at.Goals as goal
 use Rattle.ft_merging.proofs.putting.join_at.Goals.{After-pair_at, After-seek_in, After-words_follow_a_set, In-Some}
 
 -- loads change no words
-same_below : (t place : ℕ) (v w : View) (o : ℕ) → OnlyLoaded v w → KeepsBelow t place (held_words o v) (held_words o w)
+same_below : (t place : ℕ) (v w : View) (o : ℕ) → OnlyLoaded v w → KeepsBelow t place (held_unboxed o v) (held_unboxed o w)
 same_below t place v w o only p word less few = ap (λ (x : ContainerWords). entry_field (slots (class_of t)) x.table p word) (loaded_held v w o only)
 
 abbrev done : After-words_follow_a_set → Content
@@ -96,7 +96,7 @@ found c =
     let k = shape_of a.bank.now in
     let j = c.requires.joining in
     let low = inside k a.o a.way a.own a.t a.table _ a.end a.place a.counts (view a.pass.now) j c.requires.place any in
-    c.pair_at.ensures.pair (slot_of k.texts (slice_index_or j.used a.place any)) (entry_used a.way k.texts k a.table (c.requires.other.table_in a.table refl) j.used (held_words a.t (view a.pass.now)).table j.source a.place any low)
+    c.pair_at.ensures.pair (slot_of k.texts (slice_index_or j.used a.place any)) (entry_used a.way k.texts k a.table (c.requires.other.table_in a.table refl) j.used (held_unboxed a.t (view a.pass.now)).table j.source a.place any low)
 
 -- the pair, where one is there
 there : (c : In-Some) → ((slice_index_or c.requires.joining.used c.args.place any).stored ≡ Some c.in-Some.pair.value) × ((slice_index_or c.requires.joining.used c.args.place any).key ≡ c.in-Some.pair.key) × (c.in-Some.pair.hash ≡ hash_of (shape_of c.args.bank.now).texts c.in-Some.pair.key) × FitsKey c.in-Some.pair.key × FitsStored c.in-Some.pair.value
@@ -106,9 +106,9 @@ there c =
     let j = c.requires.joining in
     let low = inside k a.o a.way a.own a.t a.table _ a.end a.place a.counts (view a.pass.now) j c.requires.place any in
     pair_used k.texts (slice_index_or j.used a.place any) c.pair_at.result
-    (c.pair_at.ensures.pair (slot_of k.texts (slice_index_or j.used a.place any)) (entry_used a.way k.texts k a.table (c.requires.other.table_in a.table refl) j.used (held_words a.t (view a.pass.now)).table j.source a.place any low))
-    (entry_field (slots (class_of (table_id a.table))) (held_words a.t (view a.pass.now)).table a.place)
-    (entry_used a.way k.texts k a.table (c.requires.other.table_in a.table refl) j.used (held_words a.t (view a.pass.now)).table j.source a.place any low) c.in-Some.pair c.in-Some.is
+    (c.pair_at.ensures.pair (slot_of k.texts (slice_index_or j.used a.place any)) (entry_used a.way k.texts k a.table (c.requires.other.table_in a.table refl) j.used (held_unboxed a.t (view a.pass.now)).table j.source a.place any low))
+    (entry_field (slots (class_of (table_id a.table))) (held_unboxed a.t (view a.pass.now)).table a.place)
+    (entry_used a.way k.texts k a.table (c.requires.other.table_in a.table refl) j.used (held_unboxed a.t (view a.pass.now)).table j.source a.place any low) c.in-Some.pair c.in-Some.is
 
 -- ---- it was deleted
 
@@ -149,12 +149,12 @@ seek_in-requires-clause-fits c = (there (goal.at.seek_in-requires-clause-fits c)
 loads : (c : After-seek_in) → OnlyLoaded (view c.args.pass.now) (view c.seek_in.new.pass)
 loads c = loaded_then (view c.args.pass.now) (view c.pair_at.new.pass) (view c.seek_in.new.pass) c.pair_at.ensures.only c.seek_in.ensures.only
 
-held_on : (c : After-seek_in) → held_words c.args.o (view c.seek_in.new.pass) ≡ held_words c.args.o (view c.args.pass.now)
+held_on : (c : After-seek_in) → held_unboxed c.args.o (view c.seek_in.new.pass) ≡ held_unboxed c.args.o (view c.args.pass.now)
 held_on c = loaded_held (view c.args.pass.now) (view c.seek_in.new.pass) c.args.o (loads c)
 
 -- what it came to
-came : (c : After-seek_in) (key : Key) (found : Spot) → ((mid : ContainerState) → kind_of mid.content ≡ kind_by c.args.way → Represents (shape_of c.args.bank.now).texts (held_words c.args.o (view c.pair_at.new.pass)) mid → IsSought (shape_of c.args.bank.now) c.args.way c.args.own key (held_words c.args.o (view c.pair_at.new.pass)) mid.content found)
-    → IsSought (shape_of c.args.bank.now) c.args.way c.args.own key (held_words c.args.o (view c.args.pass.now)) c.requires.joining.mid found
+came : (c : After-seek_in) (key : Key) (found : Spot) → ((mid : ContainerState) → kind_of mid.content ≡ kind_by c.args.way → Represents (shape_of c.args.bank.now).texts (held_unboxed c.args.o (view c.pair_at.new.pass)) mid → IsSought (shape_of c.args.bank.now) c.args.way c.args.own key (held_unboxed c.args.o (view c.pair_at.new.pass)) mid.content found)
+    → IsSought (shape_of c.args.bank.now) c.args.way c.args.own key (held_unboxed c.args.o (view c.args.pass.now)) c.requires.joining.mid found
 came c key found is =
     let a = c.args in
     let k = shape_of a.bank.now in
@@ -245,7 +245,7 @@ returns-in-At-clause-joining c =
     let only = put_then v u z a.o (loaded_put v u a.o (loads d.After-seek_in)) e.only in
     let same = held_on d.After-seek_in in
     let other = only.others a.t (subst (λ (y : Shape). a.t < container_count y) (sym c.requires.pass.1) c.requires.other.container) (λ eq. c.requires.two (sym eq)) c.requires.other.locked c.requires.other.even in
-    let words : held_words a.o z ≡ with_puts (held_words a.o v) (stored_puts n (held_words a.o v).table c.in-At.at stored) = e.words ∙ (λ i. with_puts (same i) (stored_puts n (same i).table c.in-At.at stored)) in
+    let words : held_unboxed a.o z ≡ with_puts (held_unboxed a.o v) (stored_puts n (held_unboxed a.o v).table c.in-At.at stored) = e.words ∙ (λ i. with_puts (same i) (stored_puts n (same i).table c.in-At.at stored)) in
     joining_there k a.o a.way a.own a.t a.table (done d.After-words_follow_a_set) a.end a.place a.counts v c.requires.joining c.requires.place any c.in-Some.pair.key stored p.1 p.0 (value_laws d.After-words_follow_a_set) p.3 p.4 c.in-At.at f.0 f.1 f.2 z only words e.writes other
 
 -- an element of a set has no value, and so nothing is put
@@ -263,7 +263,7 @@ returns-in-At-clause-keeps c sets q w less few =
     let p = there at.In-Some in
     let stored = c.in-Some.pair.value in
     let ok = stores k a.o a.way a.own a.t a.table (done at.After-words_follow_a_set) a.end a.place a.counts (view a.pass.now) j c.requires.place any c.in-Some.pair.key stored p.1 p.0 in
-    let none = no_puts stored (subst (λ (z : Kind). StoresAs z stored) (j.same_kind ∙ sets) ok) (slots (class_of (table_id a.own))) c.in-At.at (held_words a.o (view c.seek_in.new.pass)) in
+    let none = no_puts stored (subst (λ (z : Kind). StoresAs z stored) (j.same_kind ∙ sets) ok) (slots (class_of (table_id a.own))) c.in-At.at (held_unboxed a.o (view c.seek_in.new.pass)) in
     ap (λ (x : ContainerWords). entry_field (slots (class_of (table_id a.own))) x.table q w) (c.put_stored.ensures.words ∙ (none ∙ held_on at.After-seek_in))
 
 -- ---- it is new
@@ -308,7 +308,7 @@ returns-in-Free-clause-joining c =
     let other = only.others a.t (subst (λ (y : Shape). a.t < container_count y) (sym c.requires.pass.1) c.requires.other.container) (λ eq. c.requires.two (sym eq)) c.requires.other.locked c.requires.other.even in
     let hash = p.2 in
     let next = j.next_is in
-    let words : held_words a.o z ≡ with_entry (table_id a.own) c.in-Free.slot a.counts (pair_for k.texts j.mid key stored) (held_words a.o v) = e.words ∙ (λ i. with_entry (table_id a.own) c.in-Free.slot a.counts (record { hash = hash i; key = key; value = stored; serial = next i }) (same i)) in
+    let words : held_unboxed a.o z ≡ with_entry (table_id a.own) c.in-Free.slot a.counts (pair_for k.texts j.mid key stored) (held_unboxed a.o v) = e.words ∙ (λ i. with_entry (table_id a.own) c.in-Free.slot a.counts (record { hash = hash i; key = key; value = stored; serial = next i }) (same i)) in
     subst (λ (y : Counts). IsJoining k a.o a.way a.own a.t a.table (done d) a.end (a.place + 1) y z) (sym c.one_more.ensures)
     (joining_new k a.o a.way a.own a.t a.table (done d) a.end a.place a.counts v j c.requires.place any key stored p.1 p.0 f.1 (laws d) c.in-Free.slot p.3 c.seek_in.ensures.low p.4 f.0 z only words e.writes other)
 
@@ -330,7 +330,7 @@ returns-in-Free-clause-keeps c sets q w less few =
     let same = held_on at.After-seek_in in
     let hash = p.2 in
     let next = j.next_is in
-    let words : held_words a.o (view c.put_key.new.pass) ≡ with_entry (table_id a.own) c.in-Free.slot a.counts (pair_for k.texts j.mid key stored) (held_words a.o v) = c.put_key.ensures.words ∙ (λ i. with_entry (table_id a.own) c.in-Free.slot a.counts (record { hash = hash i; key = key; value = stored; serial = next i }) (same i)) in
+    let words : held_unboxed a.o (view c.put_key.new.pass) ≡ with_entry (table_id a.own) c.in-Free.slot a.counts (pair_for k.texts j.mid key stored) (held_unboxed a.o v) = c.put_key.ensures.words ∙ (λ i. with_entry (table_id a.own) c.in-Free.slot a.counts (record { hash = hash i; key = key; value = stored; serial = next i }) (same i)) in
     let ok = stores k a.o a.way a.own a.t a.table (done d) a.end a.place a.counts v j c.requires.place any key stored p.1 p.0 in
     let room = new_room k a.o a.way a.own a.t a.table (done d) a.end a.place a.counts v j c.requires.place any key stored p.1 p.0 f.1 in
     ap (λ (x : ContainerWords). entry_field (slots (class_of (table_id a.own))) x.table q w) words

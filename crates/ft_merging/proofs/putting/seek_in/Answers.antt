@@ -1,5 +1,5 @@
 use Rattle.std.proofs.Common.{sym, subst}
-use Rattle.ft_trace.specs.Holds.{held_words}
+use Rattle.ft_trace.specs.Holds.{held_unboxed}
 use Rattle.ft_bank.specs.Passes.{shape_of, view}
 use Rattle.ft_bank.specs.Whole.{OnlyLoaded}
 use Rattle.ft_search.specs.declared.spots.Spot.{Spot}
@@ -18,7 +18,7 @@ pub returns-clause-spot : goal.returns-clause-spot
 returns-clause-spot c mid same stands =
     let a = c.args in
     let k = shape_of a.bank.now in
-    let x = held_words a.o (view a.pass.now) in
+    let x = held_unboxed a.o (view a.pass.now) in
     let r = c.read_by-found.ensures in
     let s = r.searched in
     let w = c.requires.writes in

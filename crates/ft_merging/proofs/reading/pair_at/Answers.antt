@@ -5,7 +5,7 @@ use Rattle.ft_layout.specs.declared.slot.Stored.{Stored}
 use Rattle.ft_layout.specs.declared.slot.Stored.TheVariants.{Empty}
 use Rattle.ft_layout.specs.Words.{IsEntry, IsStored}
 use Rattle.ft_trace.specs.Addresses.{class_of, slots}
-use Rattle.ft_trace.specs.Holds.{held_words}
+use Rattle.ft_trace.specs.Holds.{held_unboxed}
 use Rattle.ft_trace.specs.Pictures.{entry_field}
 use Rattle.ft_bank.specs.Passes.{view}
 use Rattle.ft_bank.specs.TableNames.{table_id}
@@ -71,7 +71,7 @@ returns-clause-pair c said is =
     let n = slots (class_of (table_id a.table)) in
     let d = goal.at.returns-clause-pair c in
     c.pair_said.ensures said
-    (like _ (entry_field n (held_words a.o v).table a.place)
+    (like _ (entry_field n (held_unboxed a.o v).table a.place)
     c.word_of-hash.ensures.found
     (word_after a.o n a.place 2 v (view c.word_of-hash.new.pass) c.word_of-hash.ensures.only _ c.word_of-kind.ensures.found)
     (word_after a.o n a.place 3 v (view c.word_of-kind.new.pass) (two d.After-word_of-kind) _ c.word_of-payload.ensures.found)

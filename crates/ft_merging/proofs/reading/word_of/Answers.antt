@@ -2,7 +2,7 @@ use Rattle.std.proofs.Common.{◌≡◌, ℕ, ◌<◌, ◌+◌, ◌*◌, sym, ap
 use Rattle.std.specs.Prelude.{slice_index}
 use Rattle.ft_trace.specs.declared.Act.TheVariants.{ReadTable}
 use Rattle.ft_trace.specs.Addresses.{class_of, size, slots}
-use Rattle.ft_trace.specs.Holds.{held_words}
+use Rattle.ft_trace.specs.Holds.{held_unboxed}
 use Rattle.ft_trace.specs.Pictures.{entry_offset}
 use Rattle.ft_trace.specs.ContainerStates.{kind_in}
 use Rattle.ft_trace.proofs.ByKind.{keyed_low}
@@ -64,4 +64,4 @@ returns-clause-found c =
     let a = c.args in
     let d = (goal.at.returns-clause-found c).After-mask_of in
     c.read_table.ensures.held a.o c.requires.container c.requires.knows.0 c.requires.knows.1
-    ∙ ap (λ (n : ℕ). slice_index (held_words a.o (view a.pass.now)).table n) (lies d)
+    ∙ ap (λ (n : ℕ). slice_index (held_unboxed a.o (view a.pass.now)).table n) (lies d)

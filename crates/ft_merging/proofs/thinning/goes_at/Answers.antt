@@ -5,7 +5,7 @@ use Rattle.ft_model.specs.Worlds.{set_of}
 use Rattle.ft_layout.specs.Words.{FitsKey}
 use Rattle.ft_trace.specs.Addresses.{class_of, slots}
 use Rattle.ft_trace.specs.Carefuls.{HasLiveKey}
-use Rattle.ft_trace.specs.Holds.{held_words, known_state}
+use Rattle.ft_trace.specs.Holds.{held_unboxed, known_state}
 use Rattle.ft_trace.specs.Kinds.{IsKeyed, rows}
 use Rattle.ft_trace.specs.Pictures.{ContainerWords, root_in}
 use Rattle.ft_bank.specs.Passes.{shape_of, view}
@@ -54,7 +54,7 @@ laws c =
       deletes = c.words_follow_a_set.ensures.deleted;
     }
 
-stated : (c : After-word_of-hash) → HasLiveKey (slots (class_of (table_id c.args.table))) (held_words c.args.s (view c.args.pass.now)).table c.args.place c.in-Some.key × FitsKey c.in-Some.key
+stated : (c : After-word_of-hash) → HasLiveKey (slots (class_of (table_id c.args.table))) (held_unboxed c.args.s (view c.args.pass.now)).table c.args.place c.in-Some.key × FitsKey c.in-Some.key
 stated c = let is = (c.key_at.ensures.key c.in-Some.key).1 c.in-Some.is in ((is.kind_is, is.payload_is), is.fits)
 
 only : (c : After-word_of-hash) → OnlyLoaded (view c.args.pass.now) (view c.word_of-hash.new.pass)

@@ -3,7 +3,7 @@ use Rattle.ft_model.specs.declared.data.Key.{Key}
 use Rattle.ft_model.specs.Worlds.{set_of}
 use Rattle.ft_trace.specs.Addresses.{class_of, slots}
 use Rattle.ft_trace.specs.Carefuls.{HasLiveKey}
-use Rattle.ft_trace.specs.Holds.{held_words, known_state}
+use Rattle.ft_trace.specs.Holds.{held_unboxed, known_state}
 use Rattle.ft_trace.specs.Pictures.{ContainerWords}
 use Rattle.ft_trace.specs.ContainerStates.{ContainerState}
 use Rattle.ft_bank.specs.Passes.{shape_of, view}
@@ -34,7 +34,7 @@ thinned c to last th =
     let v = view a.pass.now in
     thinned_loaded (shape_of a.bank.now) a.s a.table a.kept (set_of (known_state a.t v).content) (set_of (known_state a.s v).content) to last a.place v (view c.goes_at.new.pass) c.goes_at.ensures.only th
 
-live : (c : After-goes_at) (key : Key) → HasLiveKey (slots (class_of (table_id c.args.table))) (held_words c.args.s (view c.args.pass.now)).table c.args.place key → HasLiveKey (slots (class_of (table_id c.args.table))) (held_words c.args.s (view c.goes_at.new.pass)).table c.args.place key
+live : (c : After-goes_at) (key : Key) → HasLiveKey (slots (class_of (table_id c.args.table))) (held_unboxed c.args.s (view c.args.pass.now)).table c.args.place key → HasLiveKey (slots (class_of (table_id c.args.table))) (held_unboxed c.args.s (view c.goes_at.new.pass)).table c.args.place key
 live c key is = subst (λ (x : ContainerWords). HasLiveKey (slots (class_of (table_id c.args.table))) x.table c.args.place key) (sym (loaded_held (view c.args.pass.now) (view c.goes_at.new.pass) c.args.s c.goes_at.ensures.only)) is
 
 pub put_deleted-requires-clause-some : goal.put_deleted-requires-clause-some

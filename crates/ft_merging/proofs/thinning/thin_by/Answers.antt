@@ -2,7 +2,7 @@ use Rattle.std.proofs.Common.{◌≡◌, ℕ, refl, sym, ap, ◌∙◌, subst}
 use Rattle.std.specs.Prelude.{slice_index}
 use Rattle.ft_model.specs.declared.reply.Reply.TheVariants as reply
 use Rattle.ft_trace.specs.declared.Act.TheVariants.{ReadBlock}
-use Rattle.ft_trace.specs.Holds.{held_words, known_state}
+use Rattle.ft_trace.specs.Holds.{held_unboxed, known_state}
 use Rattle.ft_trace.specs.Pictures.{ContainerWords, root_in}
 use Rattle.ft_trace.specs.ContainerStates.{ContainerState}
 use Rattle.ft_bank.specs.Passes.{shape_of, view}
@@ -30,7 +30,7 @@ may c = may_loaded (shape_of c.args.bank.now) c.args.s (view c.args.pass.now) (v
 knows : (c : After-read_block-fill) (p : ℕ) → known_state p (view c.read_block-fill.new.pass) ≡ known_state p (view c.args.pass.now)
 knows c p = work_knows (view c.args.pass.now) (view c.read_block-fill.new.pass) p (only c).work
 
-same : (c : After-read_block-fill) → held_words c.args.s (view c.read_block-fill.new.pass) ≡ held_words c.args.s (view c.args.pass.now)
+same : (c : After-read_block-fill) → held_unboxed c.args.s (view c.read_block-fill.new.pass) ≡ held_unboxed c.args.s (view c.args.pass.now)
 same c = loaded_held (view c.args.pass.now) (view c.read_block-fill.new.pass) c.args.s (only c)
 
 leaves : (c : After-read_block-fill) → Leaves c.args.s c.args.called.now reply.Done (thinned_state c.args.kept (known_state c.args.t (view c.args.pass.now)) (known_state c.args.s (view c.args.pass.now))) (view c.read_block-fill.new.pass)
@@ -45,7 +45,7 @@ filled c =
     ∙ (ap (λ (x : ContainerWords). slice_index x.block 2) (loaded_held v u s (first c))
     ∙ (fill_known (shape_of c.args.bank.now) s v c.requires.may ∙ ap (λ (z : ContainerState). z.table.fill) (sym (knows c s))))
 
-root_is : (c : After-read_block-fill) → c.read_block-root.result ≡ root_in (held_words c.args.s (view c.args.pass.now))
+root_is : (c : After-read_block-fill) → c.read_block-root.result ≡ root_in (held_unboxed c.args.s (view c.args.pass.now))
 root_is c = c.read_block-root.ensures.held c.requires.may.locked
 
 leaves_now : (c : After-read_block-fill) → Leaves c.args.s c.args.called.now reply.Done (thinned_state c.args.kept (known_state c.args.t (view c.read_block-fill.new.pass)) (known_state c.args.s (view c.read_block-fill.new.pass))) (view c.read_block-fill.new.pass)
@@ -93,7 +93,7 @@ write_nothing-requires-clause-leaves c =
     let a = c.args in
     let d = (goal.at.write_nothing-requires-clause-leaves c).After-read_block-fill in
     let u = view c.read_block-fill.new.pass in
-    let bare : root_in (held_words a.s u) ≡ 0 = ap root_in (same d) ∙ (sym (root_is d) ∙ c.in-None.ensures.none (shape_of a.bank.now) (λ t e. c.read_block-root.ensures.table t refl e)) in
+    let bare : root_in (held_unboxed a.s u) ≡ 0 = ap root_in (same d) ∙ (sym (root_is d) ∙ c.in-None.ensures.none (shape_of a.bank.now) (λ t e. c.read_block-root.ensures.table t refl e)) in
     subst (λ (z : ContainerState). Leaves a.s a.called.now reply.Done z u) (none_thinned (shape_of a.bank.now) u a.s a.kept (known_state a.t u) ((only d).work.pass.shape ∙ c.requires.pass.1) c.read_block-fill.new.pass.possible (may d) c.requires.set bare) (leaves_now d)
 
 pub returns-in-None-clause-wrote : goal.returns-in-None-clause-wrote

@@ -9,7 +9,7 @@ use Rattle.ft_layout.specs.Tables.{UsedEntry, is_live, hash_of}
 use Rattle.ft_keys.specs.Ways.{IsTableOf}
 use Rattle.ft_trace.specs.declared.View.{View}
 use Rattle.ft_trace.specs.Addresses.{class_of, slots}
-use Rattle.ft_trace.specs.Holds.{held_words, known_state, in_hand}
+use Rattle.ft_trace.specs.Holds.{held_unboxed, known_state, in_hand}
 use Rattle.ft_trace.specs.Kinds.{rows}
 use Rattle.ft_trace.specs.Pictures.{ContainerWords, root_in}
 use Rattle.ft_trace.specs.ContainerStates.{ContainerState, changes, kind_in}
@@ -54,7 +54,7 @@ fill-requires-clause-fill c =
     let a = c.args in
     let k = shape_of a.bank.now in
     let v = view a.pass.now in
-    let head = c.words_are_of_one_content.ensures.head k.texts (held_words a.o v).block (0 ∷ 0 ∷ (held_words a.o v).table) (known_state a.o v).table (known_state a.o v).content c.requires.may.keyed.stands in
+    let head = c.words_are_of_one_content.ensures.head k.texts (held_unboxed a.o v).block (0 ∷ 0 ∷ (held_unboxed a.o v).table) (known_state a.o v).table (known_state a.o v).content c.requires.may.keyed.stands in
     sym c.requires.counts.1 ∙ head.fill_is
 
 pub fill-requires-clause-room : goal.fill-requires-clause-room
@@ -71,7 +71,7 @@ grow c =
     let a = c.args in
     grow_filled (shape_of a.bank.now) a.o a.old a.table (view a.pass.now) (view c.fill.new.pass) c.requires.pass.1 c.fill.ensures.only c.requires.may
 
-same : (c : After-fill) → (held_words c.args.o (view c.fill.new.pass) ≡ held_words c.args.o (view c.args.pass.now)) × (known_state c.args.o (view c.fill.new.pass) ≡ known_state c.args.o (view c.args.pass.now))
+same : (c : After-fill) → (held_unboxed c.args.o (view c.fill.new.pass) ≡ held_unboxed c.args.o (view c.args.pass.now)) × (known_state c.args.o (view c.fill.new.pass) ≡ known_state c.args.o (view c.args.pass.now))
 same c =
     let a = c.args in
     same_filled (shape_of a.bank.now) a.o a.old (view a.pass.now) (view c.fill.new.pass) c.requires.pass.1 c.fill.ensures.only c.requires.may.keyed
@@ -84,7 +84,7 @@ filled c =
 absent : (c : After-fill) → IsHeldAt (known_state c.args.o (view c.fill.new.pass)).content c.args.key None
 absent c = subst (λ (z : ContainerState). IsHeldAt z.content c.args.key None) (sym (same c).1) c.requires.absent
 
-counts : (c : After-fill) → AreCounts (held_words c.args.o (view c.fill.new.pass)).block c.args.counts
+counts : (c : After-fill) → AreCounts (held_unboxed c.args.o (view c.fill.new.pass)).block c.args.counts
 counts c = subst (λ (z : ContainerWords). AreCounts z.block c.args.counts) (sym (same c).0) c.requires.counts
 
 kind_eq : (c : After-fill) → kind_of (known_state c.args.o (view c.fill.new.pass)).content ≡ kind_in (shape_of c.args.bank.now).starts c.args.o
@@ -113,7 +113,7 @@ free_slot-slot-requires-clause-absent c =
 
 -- the words once the root names the table
 abbrev rooted : After-fill → ContainerWords
-rooted c = record { block = slice_set (held_words c.args.o (view c.fill.new.pass)).block 0 (suc (table_id c.args.table)); table = in_hand (table_id c.args.table) (view c.fill.new.pass) }
+rooted c = record { block = slice_set (held_unboxed c.args.o (view c.fill.new.pass)).block 0 (suc (table_id c.args.table)); table = in_hand (table_id c.args.table) (view c.fill.new.pass) }
 
 abbrev all : After-fill → Counts
 all c = record { count = c.args.counts.count; fill = c.args.counts.count; next = c.args.counts.next }
@@ -144,7 +144,7 @@ put_key-requires-clause-unused c =
     let n = slots (class_of (table_id a.table)) in
     let words = loaded_held y (view c.free_slot-slot.new.pass) a.o c.free_slot-slot.ensures.only ∙ c.begin_in.ensures.words in
     subst (λ (z : Kind × ContainerWords). IsUnused n (rows z.0 (class_of (table_id a.table))) z.1.table c.free_slot-slot.result a.counts.count) (λ i. (kind_eq d i, sym words i))
-    (place_unused (laws d) k.texts (rooted d) (table_id a.table) c.free_slot-slot.result (all d) (known_state a.o x).content a.key a.stored (fresh d (held_words a.o y) c.free_slot-slot.result c.hash_of-hash.result c.begin_in.ensures.words c.hash_of-hash.ensures c.hash_of-hash.type_inv c.free_slot-slot.ensures.slot))
+    (place_unused (laws d) k.texts (rooted d) (table_id a.table) c.free_slot-slot.result (all d) (known_state a.o x).content a.key a.stored (fresh d (held_unboxed a.o y) c.free_slot-slot.result c.hash_of-hash.result c.begin_in.ensures.words c.hash_of-hash.ensures c.hash_of-hash.type_inv c.free_slot-slot.ensures.slot))
 
 puts : (c : After-put_key) → OnlyPut c.args.o (view c.begin_in.new.pass) (view c.put_key.new.pass)
 puts c =
@@ -168,20 +168,20 @@ finish_entry-requires-clause-may c =
     let content = (known_state a.o x).content in
     let words = loaded_held y (view c.free_slot-slot.new.pass) a.o c.free_slot-slot.ensures.only ∙ c.begin_in.ensures.words in
     let mine = pair d c.hash_of-hash.result c.hash_of-hash.ensures in
-    let made : with_entry t c.free_slot-slot.result (all d) (pair_for k.texts content a.key a.stored) (rooted d) ≡ held_words a.o u = (λ i. with_entry t c.free_slot-slot.result (all d) (mine i) (sym words i)) ∙ sym e.words in
+    let made : with_entry t c.free_slot-slot.result (all d) (pair_for k.texts content a.key a.stored) (rooted d) ≡ held_unboxed a.o u = (λ i. with_entry t c.free_slot-slot.result (all d) (mine i) (sym words i)) ∙ sym e.words in
     let many = (counts_known (laws d).head k a.o a.old x a.counts (grow d).keyed (counts d)).0 in
     let first = adds_leaves a.o a.called.now a.said.now a.key a.stored v c.requires.adds c.requires.few _ (grown_use (known_state a.o v).content (class_of t) (known_state a.o v).table c.requires.takes) in
     let leaves : Leaves a.o a.called.now a.said.now (record { content = with_key content a.key a.stored; table = use_with (class_of t) (a.counts.count + 1) }) x =
     subst (λ (z : Content × ℕ). Leaves a.o a.called.now a.said.now (record { content = with_key z.0 a.key a.stored; table = use_with (class_of t) (z.1 + 1) }) x) (λ i. (sym (ap (λ (z : ContainerState). z.content) (same d).1) i, (ap (λ (z : ContainerState). length_of z.content) (sym (same d).1) ∙ sym many) i))
     (leaves_filled a.o a.called.now a.said.now _ v x c.fill.ensures.only first) in
-    key_finishes a.o x u (since_root a.o t (root_in (held_words a.o x)) x (view c.begin_in.new.pass) u did.0 did.1.1 (puts p)) k a.table a.counts.count a.called.now a.said.now _ leaves c.fill.ensures.pass.1 c.requires.may.keyed.container (grow d).left
+    key_finishes a.o x u (since_root a.o t (root_in (held_unboxed a.o x)) x (view c.begin_in.new.pass) u did.0 did.1.1 (puts p)) k a.table a.counts.count a.called.now a.said.now _ leaves c.fill.ensures.pass.1 c.requires.may.keyed.container (grow d).left
     (λ found class has owed.
     let owes = (grow d).owed in
     let is : class_of t ≡ class = omega (arith, owed, owes) in
     c.requires.adds.takes found (filled_has v x c.fill.ensures.only found has) ∙ (c.requires.takes ∙ ap (λ (n : ℕ). Some n) is))
     (kind_eq d) (known_state a.o x).table
     (subst (λ (z : ContainerWords). Changing k.texts t z (known_state a.o x) a.counts.count [] (record { content = with_key content a.key a.stored; table = use_with (class_of t) (a.counts.count + 1) })) made
-    (places_key (laws d) k.texts (rooted d) t c.free_slot-slot.result (all d) content a.key a.stored (fresh d (held_words a.o y) c.free_slot-slot.result c.hash_of-hash.result c.begin_in.ensures.words c.hash_of-hash.ensures c.hash_of-hash.type_inv c.free_slot-slot.ensures.slot) (shut_rooted (laws d).first_pair (laws d).first_element (laws d).head k a.o a.old a.table x (grow d) c.fill.ensures.pass.1 c.fill.new.pass.possible (filled d)) (known_state a.o x).table))
+    (places_key (laws d) k.texts (rooted d) t c.free_slot-slot.result (all d) content a.key a.stored (fresh d (held_unboxed a.o y) c.free_slot-slot.result c.hash_of-hash.result c.begin_in.ensures.words c.hash_of-hash.ensures c.hash_of-hash.type_inv c.free_slot-slot.ensures.slot) (shut_rooted (laws d).first_pair (laws d).first_element (laws d).head k a.o a.old a.table x (grow d) c.fill.ensures.pass.1 c.fill.new.pass.possible (filled d)) (known_state a.o x).table))
     e.writes.root
 
 pub returns-clause-wrote : goal.returns-clause-wrote
@@ -192,10 +192,10 @@ returns-clause-wrote c =
     let p = (goal.at.returns-clause-wrote c).After-put_key in
     let d = (goal.at.returns-clause-wrote c).After-fill in
     let did = c.begin_in.ensures.did in
-    let root : root_in (held_words a.o x) ≡ root_in (held_words a.o v) = ap root_in (same d).0 in
+    let root : root_in (held_unboxed a.o x) ≡ root_in (held_unboxed a.o v) = ap root_in (same d).0 in
     grown_wrote a.o (table_id a.table) a.called.now a.said.now c.finish_entry.result did.0 v x (view c.begin_in.new.pass) (view c.put_key.new.pass) (view c.finish_entry.new.pass) c.requires.adds.changed c.fill.ensures.only root (λ is. c.requires.other (sym root ∙ is)) (grow d).keyed.even did.1.1 did.2 (puts p) c.put_key.ensures.writes.root c.finish_entry.ensures.ends
 
 pub returns-clause-root : goal.returns-clause-root
 returns-clause-root c =
     let a = c.args in
-    subst (λ (n : ℕ). root_in (held_words n (view c.finish_entry.new.pass)) ≡ root_in (held_words n (view c.put_key.new.pass))) c.requires.adds.changed c.finish_entry.ensures.ends.root ∙ c.put_key.ensures.writes.root
+    subst (λ (n : ℕ). root_in (held_unboxed n (view c.finish_entry.new.pass)) ≡ root_in (held_unboxed n (view c.put_key.new.pass))) c.requires.adds.changed c.finish_entry.ensures.ends.root ∙ c.put_key.ensures.writes.root

@@ -2,7 +2,7 @@ use Rattle.std.proofs.Common.{ℕ, suc, [], ◌∷◌, Some, sym, ap, subst}
 use Rattle.ft_trace.specs.declared.Act.TheVariants.{StartWrite, PutRoot}
 use Rattle.ft_trace.specs.declared.View.{View}
 use Rattle.ft_trace.specs.Acts.{view_after}
-use Rattle.ft_trace.specs.Holds.{held_words}
+use Rattle.ft_trace.specs.Holds.{held_unboxed}
 use Rattle.ft_trace.specs.Pictures.{root_in}
 use Rattle.ft_bank.specs.Passes.{shape_of, view}
 use Rattle.ft_bank.specs.Series.{DidAll}
@@ -24,9 +24,9 @@ returns-clause-did c =
     let v = view a.pass.now in
     let start = c.start_write.ensures in
     let f = c.start_write.result in
-    let put : DidAll (PutRoot a.o (suc (table_id a.table)) (root_in (held_words a.o v)) ∷ []) c.start_write.new.pass c.put_root.new.pass =
-    subst (λ (r : ℕ). DidAll (PutRoot a.o (suc (table_id a.table)) r ∷ []) c.start_write.new.pass c.put_root.new.pass) (ap (λ (z : View). root_in (held_words a.o z)) start.1) c.put_root.ensures.did in (
+    let put : DidAll (PutRoot a.o (suc (table_id a.table)) (root_in (held_unboxed a.o v)) ∷ []) c.start_write.new.pass c.put_root.new.pass =
+    subst (λ (r : ℕ). DidAll (PutRoot a.o (suc (table_id a.table)) r ∷ []) c.start_write.new.pass c.put_root.new.pass) (ap (λ (z : View). root_in (held_unboxed a.o z)) start.1) c.put_root.ensures.did in (
       f,
-      did_trans (PutRoot a.o (suc (table_id a.table)) (root_in (held_words a.o v)) ∷ []) (StartWrite a.o f ∷ []) a.pass.now c.start_write.new.pass c.put_root.new.pass start put,
+      did_trans (PutRoot a.o (suc (table_id a.table)) (root_in (held_unboxed a.o v)) ∷ []) (StartWrite a.o f ∷ []) a.pass.now c.start_write.new.pass c.put_root.new.pass start put,
       subst (λ (z : View). KeepsUnwritten z (view c.put_root.new.pass)) start.1 c.put_root.ensures.keeps,
     )

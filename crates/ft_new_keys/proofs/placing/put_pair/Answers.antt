@@ -3,7 +3,7 @@ use Rattle.ft_layout.specs.Tables.{dict_room}
 use Rattle.ft_layout.specs.Words.{entry_words}
 use Rattle.ft_keys.specs.TableChanges.{place_puts}
 use Rattle.ft_trace.specs.Addresses.{class_of, slots, places}
-use Rattle.ft_trace.specs.Holds.{held_words}
+use Rattle.ft_trace.specs.Holds.{held_unboxed}
 use Rattle.ft_trace.specs.Pictures.{ContainerWords, root_in}
 use Rattle.ft_trace.specs.ContainerStates.{kind_in}
 use Rattle.ft_trace.proofs.ByKind.{keyed_fit}
@@ -42,7 +42,7 @@ pub place_in-requires-clause-may : goal.place_in-requires-clause-may
 place_in-requires-clause-may c =
     let a = c.args in
     let r = c.raise_version.ensures in
-    pair_allowed _ (shape_of a.bank.now) (held_words a.o (view a.pass.now)) a.slot a.place a.pair.now r.pass.1 r.writes.keyed (size (goal.at.place_in-requires-clause-may c).After-mask_of-mask)
+    pair_allowed _ (shape_of a.bank.now) (held_unboxed a.o (view a.pass.now)) a.slot a.place a.pair.now r.pass.1 r.writes.keyed (size (goal.at.place_in-requires-clause-may c).After-mask_of-mask)
     (r.writes.locked, r.writes.root) (r.only.work.committed a.o ∙ c.requires.early) r.words c.requires.unused
 
 pub returns-clause-only : goal.returns-clause-only

@@ -9,7 +9,7 @@ use Rattle.ft_model.specs.Worlds.{serial_of, set_of}
 use Rattle.ft_model.proofs.Sets.{IsSet-xor}
 use Rattle.ft_layout.specs.Tables.{UsedEntry}
 use Rattle.ft_trace.specs.Addresses.{class_of}
-use Rattle.ft_trace.specs.Holds.{held_words, known_state}
+use Rattle.ft_trace.specs.Holds.{held_unboxed, known_state}
 use Rattle.ft_trace.specs.Kinds.{rows}
 use Rattle.ft_trace.specs.ContainerStates.{ContainerState}
 use Rattle.ft_bank.specs.Passes.{shape_of, view}
@@ -45,7 +45,7 @@ keep_apart-stay-requires-clause-fill c =
     let a = c.args in
     let v = view a.pass.now in
     sym c.requires.counts.1
-    ∙ ((c.words_are_of_one_content.ensures.head (shape_of a.bank.now).texts (held_words a.s v).block (0 ∷ 0 ∷ (held_words a.s v).table) (known_state a.s v).table (known_state a.s v).content c.requires.keyed.stands).fill_is
+    ∙ ((c.words_are_of_one_content.ensures.head (shape_of a.bank.now).texts (held_unboxed a.s v).block (0 ∷ 0 ∷ (held_unboxed a.s v).table) (known_state a.s v).table (known_state a.s v).content c.requires.keyed.stands).fill_is
     ∙ ap (λ (z : ContainerState). z.table.fill) (sym (one (goal.at.keep_apart-stay-requires-clause-fill c).After-blank).0))
 
 pub keep_apart-stay-requires-clause-fresh : goal.keep_apart-stay-requires-clause-fresh

@@ -4,7 +4,7 @@ use Rattle.ft_layout.specs.Containers.{class_mask}
 use Rattle.ft_layout.specs.Tables.{IsSetTable, UsedEntry}
 use Rattle.ft_keys.specs.declared.walk.Way.TheVariants as way
 use Rattle.ft_keys.specs.Searches.{Finds}
-use Rattle.ft_trace.specs.Holds.{held_words}
+use Rattle.ft_trace.specs.Holds.{held_unboxed}
 use Rattle.ft_bank.specs.declared.table.Table.{Table}
 use Rattle.ft_bank.specs.Passes.{shape_of, view}
 use Rattle.ft_bank.specs.Whole.{OnlyLoaded}
@@ -31,7 +31,7 @@ finds c =
     let r = c.read_by-found.ensures in
     let table = c.in-Some.table in
     let says = set_says k a.t (view a.pass.now) c.requires.pass.1 a.pass.now.possible c.requires.set table (keyed c) in
-    r.searched.1.finds way.Set k.texts says.0 (subst (λ (n : ℕ). IsSetTable k.texts (class_mask n) says.0 (0 ∷ 0 ∷ (held_words a.t (view a.pass.now)).table)) (class_is table ((keyed c).table_in table refl).2) says.1) r.low refl
+    r.searched.1.finds way.Set k.texts says.0 (subst (λ (n : ℕ). IsSetTable k.texts (class_mask n) says.0 (0 ∷ 0 ∷ (held_unboxed a.t (view a.pass.now)).table)) (class_is table ((keyed c).table_in table refl).2) says.1) r.low refl
 
 pub returns-in-At-clause-only : goal.returns-in-At-clause-only
 returns-in-At-clause-only c = only (goal.at.returns-in-At-clause-only c).After-read_by-found

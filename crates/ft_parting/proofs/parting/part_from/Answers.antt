@@ -2,7 +2,7 @@ use Rattle.std.proofs.Common.{◌≡◌, ◌+◌, ◌<◌, ◌^◌, ◌∷◌, l
 use Rattle.std.specs.Prelude.{slice_index}
 use Rattle.ft_model.specs.Contents.{those_not_in}
 use Rattle.ft_model.specs.Worlds.{serial_of, set_of}
-use Rattle.ft_trace.specs.Holds.{held_words, known_state}
+use Rattle.ft_trace.specs.Holds.{held_unboxed, known_state}
 use Rattle.ft_trace.specs.Pictures.{ContainerWords}
 use Rattle.ft_trace.specs.ContainerStates.{ContainerState}
 use Rattle.ft_bank.specs.Passes.{shape_of, view}
@@ -39,7 +39,7 @@ others_fill : (c : After-own_table-old) → c.read_counts-others.result.fill ≡
 others_fill c =
     let a = c.args in
     let v = view a.pass.now in
-    sym c.read_counts-others.ensures.counts.1 ∙ (c.words_are_of_one_content.ensures.head (shape_of a.bank.now).texts (held_words a.t v).block (0 ∷ 0 ∷ (held_words a.t v).table) (known_state a.t v).table (known_state a.t v).content c.requires.other.stands).fill_is
+    sym c.read_counts-others.ensures.counts.1 ∙ (c.words_are_of_one_content.ensures.head (shape_of a.bank.now).texts (held_unboxed a.t v).block (0 ∷ 0 ∷ (held_unboxed a.t v).table) (known_state a.t v).table (known_state a.t v).content c.requires.other.stands).fill_is
 
 -- and the first one
 own_fill : (c : After-own_table-old) → c.read_counts-counts.result.fill ≡ (known_state c.args.s (view c.args.pass.now)).table.fill
@@ -49,7 +49,7 @@ own_fill c =
     let u = view c.read_counts-others.new.pass in
     sym c.read_counts-counts.ensures.counts.1
     ∙ (ap (λ (x : ContainerWords). slice_index x.block 2) (loaded_held v u a.s c.read_counts-others.ensures.only)
-    ∙ (c.words_are_of_one_content.ensures.head (shape_of a.bank.now).texts (held_words a.s v).block (0 ∷ 0 ∷ (held_words a.s v).table) (known_state a.s v).table (known_state a.s v).content c.requires.may.stands).fill_is)
+    ∙ (c.words_are_of_one_content.ensures.head (shape_of a.bank.now).texts (held_unboxed a.s v).block (0 ∷ 0 ∷ (held_unboxed a.s v).table) (known_state a.s v).table (known_state a.s v).content c.requires.may.stands).fill_is)
 
 pub count_lacking-more-requires-clause-may : goal.count_lacking-more-requires-clause-may
 count_lacking-more-requires-clause-may c =

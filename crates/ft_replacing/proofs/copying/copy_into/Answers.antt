@@ -8,7 +8,7 @@ use Rattle.ft_model.specs.Worlds.{length_of, serial_of}
 use Rattle.ft_layout.specs.Containers.{StandsAs}
 use Rattle.ft_trace.specs.declared.Shape.{Shape}
 use Rattle.ft_trace.specs.declared.View.{View}
-use Rattle.ft_trace.specs.Holds.{held_words, known_state}
+use Rattle.ft_trace.specs.Holds.{held_unboxed, known_state}
 use Rattle.ft_trace.specs.Pictures.{ContainerWords, root_in}
 use Rattle.ft_trace.specs.ContainerStates.{ContainerState}
 use Rattle.ft_bank.specs.declared.table.Table.{Table}
@@ -51,7 +51,7 @@ only_last c =
     c.root_table-old.ensures.only)
     c.read_counts-next.ensures.only
 
-held_last : (c : After-read_counts-next) (o : ℕ) → held_words o (view c.read_counts-next.new.pass) ≡ held_words o (view c.args.pass.now)
+held_last : (c : After-read_counts-next) (o : ℕ) → held_unboxed o (view c.read_counts-next.new.pass) ≡ held_unboxed o (view c.args.pass.now)
 held_last c o = loaded_held (view c.args.pass.now) (view c.read_counts-next.new.pass) o (only_last c)
 
 known_last : (c : After-read_counts-next) (o : ℕ) → known_state o (view c.read_counts-next.new.pass) ≡ known_state o (view c.args.pass.now)
@@ -65,7 +65,7 @@ may_d c = may_loaded (shape_of c.args.bank.now) c.args.d (view c.args.pass.now) 
 may_e : (c : After-read_counts-next) → MayWriteEntries (shape_of c.args.bank.now) c.args.e (view c.read_counts-next.new.pass)
 may_e c = may_loaded (shape_of c.args.bank.now) c.args.e (view c.args.pass.now) (view c.read_counts-next.new.pass) c.requires.pass.1 (only_last c) c.requires.other
 
-knows_by : (k : Shape) (o : ℕ) (old : Option Table) (v u : View) → MayWriteEntries k o u → held_words o u ≡ held_words o v → HasRootOf k o old v → KnowsKeyed k o old u
+knows_by : (k : Shape) (o : ℕ) (old : Option Table) (v u : View) → MayWriteEntries k o u → held_unboxed o u ≡ held_unboxed o v → HasRootOf k o old v → KnowsKeyed k o old u
 knows_by k o old v u may same root = record {
   container = may.container;
   keyed = may.keyed;
@@ -90,7 +90,7 @@ knows_e c =
 
 -- ---- what was counted
 
-counts_d : (c : After-read_counts-next) → AreCounts (held_words c.args.d (view c.read_counts-next.new.pass)).block c.read_counts-counts.result
+counts_d : (c : After-read_counts-next) → AreCounts (held_unboxed c.args.d (view c.read_counts-next.new.pass)).block c.read_counts-counts.result
 counts_d c =
     let a = c.args in
     subst (λ (z : ContainerWords). AreCounts z.block c.read_counts-counts.result)
@@ -122,8 +122,8 @@ few_is c =
     let u = view c.read_counts-next.new.pass in
     let p = pairs_of c in
     subst (λ (z : Content). length_of z ≤ most_pairs) (sym p.1)
-    (pairs_few (shape_of a.bank.now).texts (held_words a.d u).block (0 ∷ 0 ∷ (held_words a.d u).table) (known_state a.d u).table p.0
-    (subst (λ (z : Content). StandsAs (shape_of a.bank.now).texts (held_words a.d u).block (0 ∷ 0 ∷ (held_words a.d u).table) (known_state a.d u).table z) p.1 (may_d c).stands))
+    (pairs_few (shape_of a.bank.now).texts (held_unboxed a.d u).block (0 ∷ 0 ∷ (held_unboxed a.d u).table) (known_state a.d u).table p.0
+    (subst (λ (z : Content). StandsAs (shape_of a.bank.now).texts (held_unboxed a.d u).block (0 ∷ 0 ∷ (held_unboxed a.d u).table) (known_state a.d u).table z) p.1 (may_d c).stands))
 
 -- the call, with the class that was computed
 replaces_as : (c : After-read_counts-next) (takes : Option ℕ) → copy_takes c.read_counts-counts.result.count ≡ takes → Replaces c.args.e c.args.called.now (copied (known_state c.args.e (view c.read_counts-next.new.pass)).content (known_state c.args.d (view c.read_counts-next.new.pass)).content) takes (view c.read_counts-next.new.pass)

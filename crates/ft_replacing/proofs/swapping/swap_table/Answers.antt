@@ -1,6 +1,6 @@
 use Rattle.std.proofs.Common.{ap, ◌∙◌}
 use Rattle.ft_trace.specs.declared.View.{View}
-use Rattle.ft_trace.specs.Holds.{held_words}
+use Rattle.ft_trace.specs.Holds.{held_unboxed}
 use Rattle.ft_trace.specs.Pictures.{root_in}
 use Rattle.ft_bank.specs.Passes.{shape_of, view}
 use Rattle.ft_replacing.proofs.Swaps.{Swapping, committed_u, may_put_none, may_put_table, odd_u, root_u, shut_u, stands_u, swapping_commits, swapping_wrote}
@@ -74,4 +74,4 @@ pub returns-clause-root : goal.returns-clause-root
 returns-clause-root c =
     let a = c.args in
     let n = c.commit-number in
-    ap (λ (z : View). root_in (held_words a.o z)) c.stop_write.ensures.1 ∙ root_u (shape_of a.bank.now) a.o a.old a.table a.called.now c.requires.gets.0 c.start_write.result (view a.pass.now) (view c.start_write.new.pass) (view c.put_root.new.pass) (swapping (goal.at.returns-clause-root c).After-put_root) n.result n.ensures.did.0 (view n.new.pass) n.ensures.did.1.1 n.ensures.committed (view c.put_root-2.new.pass) (view c.put_counts.new.pass) c.put_root-2.ensures.did.1 c.put_root-2.ensures.held c.put_counts.ensures.only a.count a.next c.requires.gets.2 c.requires.gets.3 c.put_counts.ensures.words
+    ap (λ (z : View). root_in (held_unboxed a.o z)) c.stop_write.ensures.1 ∙ root_u (shape_of a.bank.now) a.o a.old a.table a.called.now c.requires.gets.0 c.start_write.result (view a.pass.now) (view c.start_write.new.pass) (view c.put_root.new.pass) (swapping (goal.at.returns-clause-root c).After-put_root) n.result n.ensures.did.0 (view n.new.pass) n.ensures.did.1.1 n.ensures.committed (view c.put_root-2.new.pass) (view c.put_counts.new.pass) c.put_root-2.ensures.did.1 c.put_root-2.ensures.held c.put_counts.ensures.only a.count a.next c.requires.gets.2 c.requires.gets.3 c.put_counts.ensures.words

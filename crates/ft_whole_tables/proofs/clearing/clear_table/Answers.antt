@@ -1,4 +1,4 @@
-use Rattle.ft_trace.specs.Holds.{held_words}
+use Rattle.ft_trace.specs.Holds.{held_unboxed}
 use Rattle.ft_bank.specs.Passes.{shape_of, view}
 use Rattle.ft_whole_tables.proofs.Emptied.{Emptying, may_put_none, emptying_bare, emptying_commits, emptying_shut, emptying_stands, emptying_wrote}
 use Rattle.ft_whole_tables.proofs.clearing.clear_table.Goals as goal

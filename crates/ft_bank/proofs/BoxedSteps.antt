@@ -1,5 +1,5 @@
 -- What steps leave of what a pass has to do with boxes, and of what the words that it knows read through them.
-use Rattle.std.proofs.Common.{◌≡◌, ◌≢◌, ◌⊎◌, ℕ, ◌+◌, ◌<◌, eqb, Bool, true, false, cond, List, [], ◌∷◌, refl, sym, ap, ◌∙◌, subst, inr, arith, ⊎_elim, le_refl}
+use Rattle.std.proofs.Common.{◌≡◌, ◌≢◌, ◌⊎◌, ℕ, ◌+◌, ◌<◌, eqb, Bool, true, false, cond, List, ◌∷◌, refl, sym, ap, ◌∙◌, subst, inr, arith, ⊎_elim, le_refl}
 use Rattle.ft_model.specs.declared.call.Call.{Call}
 use Rattle.ft_trace.specs.declared.Act.{Act}
 use Rattle.ft_trace.specs.declared.Act.TheVariants.{PutBlock, ReadFreePlaces, TakePlace, PutBox, PublishBox, ReadBox, RaiseLocal, DropLocal, ClearLocal, MergeCounts, RaiseShared, RaiseKept, DropShared, GivePlace}
@@ -7,11 +7,10 @@ use Rattle.ft_trace.specs.declared.Shape.{Shape}
 use Rattle.ft_trace.specs.declared.View.{View}
 use Rattle.ft_trace.specs.Addresses.{box_word, container_count, IsBoxName}
 use Rattle.ft_trace.specs.Acts.{has_lock, has_lock_next, mem, mem_next, place, word_after, view_after, seen_writes}
-use Rattle.ft_trace.specs.Boxes.{named_in_container, made_state, made_state_next, local_count, local_count_next, taken_out, taken_out_next, place_to_give, place_to_give_next, references_held, references_held_next, times_kept, known_box_word, knows_box_word}
+use Rattle.ft_trace.specs.Boxes.{named_in_container, made_state, made_state_next, local_count, local_count_next, taken_out, taken_out_next, place_to_give, place_to_give_next, references_held, references_held_next, times_kept, knows_box_word}
 use Rattle.ft_trace.specs.ContainerStates.{container_after}
 use Rattle.ft_trace.specs.Holds.{held_unboxed}
 use Rattle.ft_trace.specs.Pictures.{picture}
-use Rattle.ft_trace.specs.Sums.{sum_to}
 use Rattle.ft_trace.specs.Traces.{Event, did, run, word, writes_of, history}
 use Rattle.ft_trace.proofs.BoxKnown.{sure_keeps, sure_after, sure_stays, box_known}
 use Rattle.ft_trace.proofs.Contents.{Of, still_of}

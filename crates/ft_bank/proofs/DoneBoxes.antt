@@ -1,6 +1,6 @@
 -- A pass that is done with boxes stays so, in steps that have nothing to do with boxes, and in puts after which a
 -- container names as many as before.
-use Rattle.std.proofs.Common.{◌≡◌, ℕ, ◌+◌, ◌≤◌, sym, ap, ◌∙◌, arith}
+use Rattle.std.proofs.Common.{◌≡◌, ℕ, sym, ap, ◌∙◌, arith}
 use Rattle.ft_model.specs.declared.script.Kind.{Kind}
 use Rattle.ft_trace.specs.declared.View.{View}
 use Rattle.ft_trace.specs.Boxes.{named_in_root, references_held, IsDoneWithBoxes}

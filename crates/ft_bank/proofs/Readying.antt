@@ -14,7 +14,7 @@ use Rattle.ft_trace.specs.Boxes.{named_in_root, named_in_container, references_h
 use Rattle.ft_trace.specs.Pictures.{block_of, inner, root_in, Represents}
 use Rattle.ft_trace.specs.Kinds.{rows, version_at, ClearAs}
 use Rattle.ft_trace.specs.OddVersions.{Shut, Low}
-use Rattle.ft_trace.specs.Holds.{held_words, held_unboxed, known_state, in_hand, hand_unboxed}
+use Rattle.ft_trace.specs.Holds.{held_words, held_unboxed, known_state, in_hand}
 use Rattle.ft_trace.specs.Traces.{run, history, snap, Ready, ReadyAs, Sure, word, SoundFor, LowFor}
 use Rattle.ft_trace.proofs.FitCalls.{contents_fit}
 use Rattle.ft_trace.proofs.Known.{kinds_stay}

@@ -1,5 +1,5 @@
 -- The two puts of a value: that they may be made, and what they leave.
-use Rattle.std.proofs.Common.{◌≡◌, ◌≢◌, ◌⊎◌, ℕ, suc, ◌+◌, ◌^◌, ◌%◌, ◌<◌, ◌≤◌, eqb, Bool, true, false, true≢false, cond, List, [], ◌∷◌, length, set, refl, sym, ap, ◌∙◌, subst, inl, inr, ⊎_elim, arith, get_or-set_same, get_or-set_other, length-set}
+use Rattle.std.proofs.Common.{◌≡◌, ◌≢◌, ◌⊎◌, ℕ, suc, ◌+◌, ◌^◌, ◌%◌, ◌<◌, eqb, Bool, true, false, true≢false, cond, List, [], ◌∷◌, length, set, refl, sym, ap, ◌∙◌, subst, inl, inr, ⊎_elim, arith, get_or-set_same, get_or-set_other, length-set}
 use Rattle.std.specs.Prelude.{slice_index, slice_set}
 use Rattle.std.proofs.lemmas.List.{set_comm}
 use Rattle.std.proofs.Math.Bridge.{le_prop}
@@ -30,9 +30,8 @@ use Rattle.ft_trace.proofs.ReadTables.{read_version, rows_at, set_self, value_lo
 use Rattle.ft_trace.proofs.ReferencesOfPuts.{root_now, table_now, value_refs}
 use Rattle.ft_trace.proofs.Sums.{sum_one}
 use Rattle.ft_trace.proofs.ValuePuts.{value_put, word_kept}
-use Rattle.ft_bank.specs.BoxSteps.{kind_read, payload_read, value_acts, HasReferenceFor, IsOpenValue}
+use Rattle.ft_bank.specs.BoxSteps.{kind_read, payload_read, value_acts, IsOpenValue}
 use Rattle.ft_bank.specs.SameBoxes.{named_in_words, HoldsFew, MovesReferences, SameReferences}
-use Rattle.ft_bank.specs.Series.{noted_all}
 use Rattle.ft_bank.specs.Whole.{OnlyPut}
 use Rattle.ft_bank.specs.WriteSteps.{IsCareful, KeepsUnwritten, with_table}
 use Rattle.ft_bank.proofs.KnownAfterWrites.{put_by, put_then}

@@ -1,5 +1,5 @@
 -- Boxes by the names that traces have for them, and what their steps ask of the pass that makes them.
-use Rattle.std.specs.Prelude.{◌≡◌, ◌≢◌, ◌⊎◌, ℕ, ◌+◌, ◌*◌, ◌==◌, ◌<◌, ◌%◌, cond, List, [], ◌∷◌, ◌++◌, slice_index}
+use Rattle.std.specs.Prelude.{◌≡◌, ◌≢◌, ℕ, ◌+◌, ◌*◌, ◌==◌, ◌<◌, ◌%◌, cond, List, [], ◌∷◌, ◌++◌, slice_index}
 use Rattle.ft_layout.specs.declared.slot.Ref.{Ref}
 use Rattle.ft_trace.specs.declared.Act.{Act}
 use Rattle.ft_trace.specs.declared.Act.TheVariants.{ReadFreePlaces, PutTable}

@@ -1,5 +1,5 @@
 -- That the steps of a write may be made, whatever other passes have done.
-use Rattle.std.proofs.Common.{Option, Some, None, Bool, ◌≤◌, ◌≡◌, ℕ, suc, ◌*◌, ◌^◌, ◌<◌, true, false, List, ◌∷◌, refl, ap, ◌∙◌, subst, arith}
+use Rattle.std.proofs.Common.{Option, Some, None, Bool, ◌≤◌, ◌≡◌, ℕ, suc, ◌*◌, ◌%◌, ◌^◌, ◌<◌, true, false, List, ◌∷◌, refl, ap, ◌∙◌, subst, arith}
 use Rattle.std.specs.Prelude.{slice_index}
 use Rattle.ft_model.specs.declared.call.Call.{Call}
 use Rattle.ft_model.specs.declared.reply.Reply.{Reply}

@@ -22,7 +22,7 @@ use Rattle.ft_layout.proofs.WordLaws.{kind_range}
 use Rattle.ft_trace.specs.declared.Act.TheVariants.{StartWrite}
 use Rattle.ft_trace.specs.declared.Shape.{Shape}
 use Rattle.ft_trace.specs.declared.View.{View}
-use Rattle.ft_trace.specs.Acts.{has_committed, has_lock, is_writing, view_after, owes}
+use Rattle.ft_trace.specs.Acts.{has_committed, has_lock, is_writing, view_after}
 use Rattle.ft_trace.specs.Addresses.{class_of, container_count, slots}
 use Rattle.ft_trace.specs.Carefuls.{IsDead, HasLiveKey, OpensChanged}
 use Rattle.ft_trace.specs.Holds.{held_words, known_state}

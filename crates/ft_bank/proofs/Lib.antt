@@ -14,3 +14,4 @@ pub mod Retiring
 pub mod ReuseSteps
 pub mod Floors
 pub mod Undisturbed
+pub mod LastLoads

@@ -168,7 +168,7 @@ module _ (k : Shape) (o t : ℕ) (key : Key) (slot place : ℕ) (earlier : List 
               hit = hit;
               read = (record { newer = stamped ∷ (value_load ∷ []); rest = live_load ∷ []; is = refl }, record { newer = stamped ∷ []; rest = kind_load ∷ (live_load ∷ []); is = refl });
             }),
-        record { newer = entry 0 seen.closed ∷ []; rest = value_load ∷ (kind_load ∷ (entry 2 seen.key_kind ∷ (entry 0 seen.opened ∷ under))); is = refl },
+        record { newer = entry 0 seen.closed ∷ []; rest = value_load ∷ (kind_load ∷ (entry 2 seen.key_kind ∷ (entry 0 seen.opened ∷ under))); is = refl; none = refl },
       )
 
 module _ (k : Shape) (o t : ℕ) (key : Key) where
@@ -194,7 +194,7 @@ module _ (k : Shape) (o t : ℕ) (key : Key) where
               visits = λ j less. subst (λ (z : List ℕ). Passed part t m (slice_index z j) key) (sym split) (each_slot (λ z. Passed part t m z key) w.passed (slot ∷ rest) w.rightly j less);
             } in
             inl (t, inl miss)),
-        record { newer = ReadTable t slot 0 ∷ []; rest = part; is = refl },
+        record { newer = ReadTable t slot 0 ∷ []; rest = part; is = refl; none = refl },
       )
     where
       low_step : (passed : List ℕ) (slot : ℕ) (rest : List ℕ) → length (walk_of (kind_in k.starts o) k.texts (class_of t) key) ≡ length (passed ++ slot ∷ rest) → length passed < length (walk_of (kind_in k.starts o) k.texts (class_of t) key)
@@ -217,5 +217,5 @@ module _ (k : Shape) (o t : ℕ) (key : Key) where
               visits = λ j less. subst (λ (z : List ℕ). Passed part t m (slice_index z j) key) (sym split) (each_slot (λ z. Passed part t m z key) w.passed [] w.rightly j (omega (arith, less, long)));
             } in
             inl (t, inr full)),
-        record { newer = []; rest = part; is = refl },
+        record { newer = []; rest = part; is = refl; none = refl },
       )

@@ -45,6 +45,7 @@ only_then u v w l m between =
       debt = m.debt ∙ l.debt;
       owes = m.owes ∙ l.owes;
       flight = m.flight ∙ l.flight;
+      present = λ is. m.present (l.present is);
       knows = λ p low had has.
           let then_has = between p had has in
           let a = l.knows p low had then_has in

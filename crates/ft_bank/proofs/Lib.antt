@@ -20,3 +20,4 @@ pub mod BoxAddresses
 pub mod BoxReady
 pub mod DoneBoxes
 pub mod NamedBoxes
+pub mod LastLoads

@@ -12,11 +12,12 @@ use Rattle.ft_trace.specs.declared.Snap.{Snap}
 use Rattle.ft_trace.specs.LoggedReads.{Among}
 use Rattle.ft_model.specs.declared.call.Call.{Call}
 use Rattle.ft_model.specs.declared.reply.Reply.{Reply}
-use Rattle.ft_trace.specs.Acts.{view_after, both, sender, note, shown, seen_writes, own_told, told_in, floor_known, floor_words}
+use Rattle.ft_trace.specs.Acts.{view_after, both, sender, note, shown, seen_writes, own_told, told_in, floor_known, floor_words, presence_of}
 use Rattle.ft_trace.specs.Causes.{IsToldOf}
 use Rattle.ft_trace.specs.Traces.{IsReachable, IsFree}
 use Rattle.ft_trace.proofs.Cases.{miss}
 use Rattle.ft_trace.proofs.Seeing.{shown_up, seen_is_low, loads_see_all}
+use Rattle.ft_bank.specs.LastLoads.{IsLastLoad}
 use Rattle.ft_bank.specs.Slips.{slip}
 use Rattle.ft_bank.specs.Notes.{knowing}
 use Rattle.ft_bank.specs.Rules.{Acted}
@@ -79,7 +80,7 @@ resting_note_is v floorless wordless =
 pub tells_of : (v : View) (told : List Told) (thread index : ℕ) → told ≡ own_told v → v.number ≡ suc thread → index ≤ length v.entries
     → (one : Told) × (told ≡ one ∷ []) × (one.pass ≡ suc thread) × (index ≤ length one.entries)
 tells_of v told thread index is number many =
-    (record { pass = v.number; seen = seen_writes v; entries = v.entries }, is ∙ miss v.number 0 [] (record { pass = v.number; seen = seen_writes v; entries = v.entries } ∷ []) (λ e. omega (arith, e, number)), number, many)
+    (record { pass = v.number; seen = seen_writes v; entries = v.entries; presence = presence_of v.log }, is ∙ miss v.number 0 [] (record { pass = v.number; seen = seen_writes v; entries = v.entries; presence = presence_of v.log } ∷ []) (λ e. omega (arith, e, number)), number, many)
 
 -- who learns it was told of that entry
 pub told_learnt : (n : ℕ) (told : List Told) (v : View) (thread index : ℕ) → ((one : Told) × (told ≡ one ∷ []) × (one.pass ≡ suc thread) × (index ≤ length one.entries)) → 1 ≤ index → IsToldOf (told_in (knowing n told v).log) thread index
@@ -108,10 +109,10 @@ among_seen v w part n own among settled possible =
     max-le (le_trans settled (le_trans (seen_rises among.rest v.log) (stamp_seen w possible among.newer (among.rest ++ v.log) n is))) (le_trans (seen_rises among.rest v.log) (stamp_seen w possible among.newer (among.rest ++ v.log) n is))
 
 -- an entry with such a stamp
-pub answered_seen : (v w z : View) (called : Call) (said : Reply) (part : List Act) (n : ℕ) → w.log ≡ part ++ v.log → Among (ReadCounter n) part → z ≡ view_after (Answer called said n) w → v.learnt ≤ shown v.log → ∥ IsReachable z ∥₁ → seen_writes v ≤ n
-answered_seen v w z called said part n own among is settled possible =
+pub answered_seen : (v w z : View) (called : Call) (said : Reply) (part : List Act) (n : ℕ) → w.log ≡ part ++ v.log → IsLastLoad n part → z ≡ view_after (Answer called said n) w → v.learnt ≤ shown v.log → ∥ IsReachable z ∥₁ → seen_writes v ≤ n
+answered_seen v w z called said part n own last is settled possible =
     among_seen v z (Answer called said n ∷ part) n (ap (λ (u : View). u.log) is ∙ ap (λ (l : List Act). Answer called said n ∷ l) own)
-    (record { newer = Answer called said n ∷ among.newer; rest = among.rest; is = ap (λ (l : List Act). Answer called said n ∷ l) among.is }) settled possible
+    (record { newer = Answer called said n ∷ last.newer; rest = last.rest; is = ap (λ (l : List Act). Answer called said n ∷ l) last.is }) settled possible
 
 -- a note has no lock and no table
 pub slip_free : (n : ℕ) (told : List Told) → IsFree (slip n told)

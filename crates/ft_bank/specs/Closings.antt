@@ -1,9 +1,11 @@
 -- What contracts see in a closed bank.
-use Rattle.std.specs.Prelude.{All, List}
+use Rattle.std.specs.Prelude.{◌≡◌, ℕ, suc, All, List, [], ◌∷◌, Some, slice_get}
 use Rattle.std.specs.List.{flat_map}
 use Rattle.ft_model.specs.declared.call.Call.{Call}
 use Rattle.ft_trace.specs.declared.Entry.{Entry}
 use Rattle.ft_trace.specs.declared.Owner.{Owner}
+use Rattle.ft_trace.specs.declared.Presence.{Presence}
+use Rattle.ft_trace.specs.declared.Presence.TheVariants as presence
 use Rattle.ft_trace.specs.declared.Shape.{Shape}
 use Rattle.ft_trace.specs.declared.Told.{Told}
 use Rattle.ft_trace.specs.Acts.{all_lists, tells}
@@ -48,3 +50,25 @@ HasWholeHistory c =
 -- what was told of one pass agrees, and each `await` was told of the call that it names
 abbrev pub HasToldAwaits : Closed → Type 0
 HasToldAwaits c = ∥ AgreeOnPasses (told_of c) × All (AreAwaitsTold (told_of c)) (lists_in c) ∥₁
+
+-- The pass is offline, and was online from before its first entry until after its last; or it made none, and was never
+-- online. (PEP 703, QSBR)
+abbrev pub HasBeenOnline : Presence → Type 0
+HasBeenOnline presence.Before = Unit {0}
+HasBeenOnline presence.Over = Unit {0}
+HasBeenOnline _ = ⊥
+
+-- what is told of the thread's pass says that it had made all these entries, and been online for them
+abbrev pub IsToldOnline : List Told → ℕ → List Entry → Type 0
+IsToldOnline told thread entries =
+    (place : ℕ) × (one : Told) × (slice_get told place ≡ Some one) × (one.pass ≡ suc thread)
+    × (one.entries ≡ entries) × HasBeenOnline one.presence
+
+-- so it says of the passes from this thread on, which made these entries
+abbrev pub AreToldOnline : List Told → ℕ → List (List Entry) → Type 0
+AreToldOnline told thread [] = Unit {0}
+AreToldOnline told thread (own ∷ lists) = IsToldOnline told thread own × AreToldOnline told (suc thread) lists
+
+-- each pass was online from before its first entry until after its last, and offline when the bank was closed
+abbrev pub PassesWereOnline : Closed → Type 0
+PassesWereOnline c = AreToldOnline (told_of c) 0 (lists_in c)

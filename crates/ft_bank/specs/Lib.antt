@@ -16,6 +16,7 @@ pub mod Retired
 pub mod Reuse
 pub mod Closings
 pub mod Whole
+pub mod LastLoads
 pub mod Answered
 pub mod Takings
 pub mod Shown

@@ -7,7 +7,7 @@ use Rattle.ft_trace.specs.declared.Act.TheVariants.{PutRoot}
 use Rattle.ft_trace.specs.declared.Entry.{Entry}
 use Rattle.ft_trace.specs.declared.View.{View}
 use Rattle.ft_trace.specs.Addresses.{container_count}
-use Rattle.ft_trace.specs.Acts.{has_lock, is_writing, has_committed, has_emptied, stage, stage_next, announces, used, debt, debt_next, flight, owes, mem, past, seen_writes}
+use Rattle.ft_trace.specs.Acts.{has_lock, is_writing, has_committed, has_emptied, stage, stage_next, announces, used, debt, debt_next, flight, owes, mem, past, seen_writes, presence_of}
 use Rattle.ft_trace.specs.Floors.{at_floor}
 use Rattle.ft_trace.specs.Owners.{SameOwners}
 use Rattle.ft_trace.specs.Hands.{cursor_in}
@@ -16,14 +16,14 @@ use Rattle.ft_trace.specs.ContainerStates.{state_at, changes}
 use Rattle.ft_trace.specs.Pictures.{root_in, Represents}
 use Rattle.ft_trace.specs.Holds.{held_words, held_unboxed, known_state}
 use Rattle.ft_bank.specs.Locks.{KnowsSame}
-use Rattle.ft_bank.specs.Logs.{HasGrown}
+use Rattle.ft_bank.specs.Logs.{HasGrown, StaysOnline}
 use Rattle.ft_bank.specs.SameBoxes.{LosesReferences, MovesReferences, SameBoxes, SameMade}
 use Rattle.ft_bank.specs.WriteSteps.{MayHave}
 
 -- It is the same pass: it has the same locks, has made the same versions odd, announces the same, is in the midst of
 -- the same taking or giving, has begun the same sections, has the same cursors and the same entries of passes that it
 -- took in, has the floor as before and since the same moment, has taken no lock and found none with another pass, has
--- seen no fewer writes, and its log has only grown. (profile)
+-- seen no fewer writes, its log has only grown, and it has stayed online. (profile)
 pub record SamePass (v w : View) : Type 0 where
   pub number : w.number ≡ v.number
   pub next : w.next ≡ v.next
@@ -43,9 +43,10 @@ pub record SamePass (v w : View) : Type 0 where
   pub owners : SameOwners v w
   pub seen : seen_writes v ≤ seen_writes w
   pub grown : HasGrown v w
+  pub present : StaysOnline v w
 
--- The same pass has made no entry and no call, and has the same tables in hand; and each write that it has begun is as
--- far as it was. (profile)
+-- The same pass has made no entry and no call, and has the same tables in hand; each write that it has begun is as far as
+-- it was; and it was online as before. (profile)
 pub record SameWork (v w : View) : Type 0 where
   pub pass : SamePass v w
   pub left : w.left ≡ v.left
@@ -57,6 +58,7 @@ pub record SameWork (v w : View) : Type 0 where
   pub debt : debt w.log ≡ debt v.log
   pub owes : owes w.log ≡ owes v.log
   pub past : past w.log ≡ past v.log
+  pub presence : presence_of w.log ≡ presence_of v.log
 
 -- The pass has loaded words of the bank and taken steps with boxes, and done nothing else: it knows the same words, and
 -- they read the same through boxes in each container whose lock it has. (profile)
@@ -129,6 +131,7 @@ pub record EndsWrite (called : Call) (said : Reply) (number : ℕ) (v w : View) 
   pub seen : seen_writes v ≤ number
   pub shows : number < seen_writes w
   pub grown : HasGrown v w
+  pub present : StaysOnline v w
   pub left : v.left ≡ suc w.left
   pub entries : w.entries ≡ write_entry called said number ∷ v.entries
   pub hands : (t : ℕ) → stage t w.log ≡ stage t v.log

@@ -7,7 +7,7 @@ use Rattle.ft_trace.specs.declared.Act.TheVariants.{ReadCounter, TakeFloor}
 use Rattle.ft_trace.specs.declared.Shape.{Shape}
 use Rattle.ft_trace.specs.declared.Snap.{Snap}
 use Rattle.ft_trace.specs.declared.View.{View}
-use Rattle.ft_trace.specs.Acts.{announces, both, floor_known, floor_words, has_lock, note, view_after, seen_writes, sender, shown, spent}
+use Rattle.ft_trace.specs.Acts.{announces, both, floor_known, floor_words, has_lock, note, view_after, seen_writes, sender, shown, spent, presence_of}
 use Rattle.ft_trace.specs.Floors.{at_floor}
 use Rattle.ft_trace.specs.Traces.{IsFree, IsQuiet, IsReachable, run}
 use Rattle.ft_trace.proofs.Cases.{here}
@@ -120,8 +120,8 @@ quiet_of e c is = let s = still_of e c is in (s.even, (λ t one. not_one (s.hand
     not_one (inl a) b = omega (arith, a, b)
     not_one (inr a) b = omega (arith, a, b)
 
-pub as_before : (c d : Caller) → HasSame c d → stack_of d.pass ≡ stack_of c.pass → IsSteady (view c.pass) (view d.pass) → announces (view d.pass).log ≡ announces (view c.pass).log → IsAsBefore c d
-as_before c d same stack steady announced = record { same = steady_work c d same stack steady; announced = announced; kept = λ mine kept. steady_kept c d mine steady stack same.flight kept }
+pub as_before : (c d : Caller) → HasSame c d → stack_of d.pass ≡ stack_of c.pass → IsSteady (view c.pass) (view d.pass) → announces (view d.pass).log ≡ announces (view c.pass).log → presence_of (view d.pass).log ≡ presence_of (view c.pass).log → IsAsBefore c d
+as_before c d same stack steady announced presence = record { same = steady_work c d same stack steady; announced = announced; presence = presence; kept = λ mine kept. steady_kept c d mine steady stack same.flight kept }
 
 -- ---- rest
 
@@ -166,7 +166,7 @@ module _ (e : Engine) (c : Caller) (r : RestingCaller) (t : Tokens) (d : Caller)
   woken_caller pass = steady_caller e c d is same pass woken_stack woken_is_steady
 
   pub woken_before : IsAsBefore c d
-  woken_before = as_before c d same woken_stack woken_is_steady (ap (λ (z : View). announces z.log) woken_view)
+  woken_before = as_before c d same woken_stack woken_is_steady (ap (λ (z : View). announces z.log) woken_view) (ap (λ (z : View). presence_of z.log) woken_view)
 
 pub woken_has : (r : View) (t : Tokens) (d : Caller) (n : ℕ) (snap : Snap) → view d.pass ≡ view_after (TakeFloor n snap) (both r (carried t)) → ((carried t).floor ≢ [] → snap.words ≡ (carried t).floor) → IsWoken t d
 woken_has r t d n snap is brought =
@@ -198,4 +198,4 @@ rest_free e c r is at_rest done =
 pub rest_in : (v w : View) (c : Caller) (r : RestingCaller) (n : ℕ) → RestsAs c r → w ≡ view_after (ReadCounter n) (both v (rests r.pass)) → TakesIn v (view c.pass) w
 rest_in v w c r n at_rest is =
     let u = view c.pass in
-    subst (TakesIn v u) (sym (is ∙ ap (λ (z : View). view_after (ReadCounter n) (both v z)) at_rest.pass)) (record { number = refl; entries = refl; lists = refl; had = refl; found = refl; told = refl; cursors = λ k. refl })
+    subst (TakesIn v u) (sym (is ∙ ap (λ (z : View). view_after (ReadCounter n) (both v z)) at_rest.pass)) (record { number = refl; entries = refl; lists = refl; had = refl; found = refl; told = refl; presence = refl; cursors = λ k. refl })

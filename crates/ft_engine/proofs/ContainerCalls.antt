@@ -40,6 +40,6 @@ all_in k kind o (Some p) x = are_in k o p x.0.0 x.1.0
 -- ---- looks
 
 pub copy_looked : (k : Shape) (o : ℕ) (some : ContainerWords → Type 0) (called : Call) (v w : View) (answer : Look) → copies called ≡ true → StopsAt v.shape o called → IsCopyGlanceOf k o some called v w answer → IsLooked called v w answer
-copy_looked k o some called v w (look.Done said stamp) copying stops x = x
+copy_looked k o some called v w (look.Done said stamp) copying stops x = (x.0, x.1)
 copy_looked k o some called v w (look.Contended a b) copying stops x = (x.part, x.own, x.loaded, stops a b x.part x.stops, x.looks)
 copy_looked k o some called v w look.NoMemory copying stops x = (x.0, copying)

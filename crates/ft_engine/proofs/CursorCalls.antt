@@ -12,11 +12,12 @@ use Rattle.ft_model.specs.declared.script.Kind.{Kind}
 use Rattle.ft_model.specs.declared.script.Kind.TheVariants as kind
 use Rattle.ft_model.specs.Calls.{moved_cursor}
 use Rattle.ft_model.specs.Worlds.{container_of, cursor_at, cursor_kind}
+use Rattle.ft_trace.specs.declared.Act.{Act}
 use Rattle.ft_trace.specs.declared.Act.TheVariants.{AnswerCursor}
 use Rattle.ft_trace.specs.declared.Entry.{Entry}
 use Rattle.ft_trace.specs.declared.Shape.{Shape}
 use Rattle.ft_trace.specs.declared.View.{View}
-use Rattle.ft_trace.specs.Acts.{announces, seen_writes}
+use Rattle.ft_trace.specs.Acts.{announces, seen_writes, presence_after_entry}
 use Rattle.ft_trace.specs.Floors.{at_floor}
 use Rattle.ft_trace.specs.Hands.{cursor_in}
 use Rattle.ft_trace.proofs.Cases.{here, miss}
@@ -41,7 +42,7 @@ use Rattle.ft_engine.specs.Keeping.{made_entry}
 use Rattle.ft_engine.proofs.LooksBefore.{IsPlain, plain_call, tried_of}
 use Rattle.ft_engine.proofs.Outcomes.{Outcome}
 use Rattle.ft_engine.proofs.Within.{WalkedBy, cursor_owners, within_then}
-use Rattle.ft_engine.proofs.SectionCalls.{loaded_in, only_nothing, same_nothing}
+use Rattle.ft_engine.proofs.SectionCalls.{loaded_in, only_nothing}
 
 -- ---- the entry
 
@@ -53,7 +54,7 @@ moved_adds o called said stamp number left v w is some moves others m =
     let u = x.before in
     let l = x.loaded.work in
     let act = AnswerCursor called said stamp.number number (cursor_in number m.before.log) left in
-    let moved : StaysPass u m.after = subst (StaysPass u) (sym x.answered) (record { number = refl; next = refl; parts = refl; shape = refl; lists = refl; online = λ on. on; floor = refl; since = refl; seen = seen_up act u; grown = λ old was. inr was }) in
+    let moved : StaysPass u m.after = subst (StaysPass u) (sym x.answered) (record { number = refl; next = refl; parts = refl; shape = refl; lists = refl; online = λ on. on; floor = refl; since = refl; seen = seen_up act u; grown = λ old was. inr was; present = λ is. ap presence_after_entry is }) in
     record {
       pass = record {
         number = after.pass.number ∙ (ap (λ (z : View). z.number) x.answered ∙ (l.pass.number ∙ before.pass.number));
@@ -66,6 +67,7 @@ moved_adds o called said stamp number left v w is some moves others m =
         since = after.pass.since ∙ (ap (λ (z : View). at_floor z.log) x.answered ∙ (l.pass.since ∙ before.pass.since));
         seen = le_trans before.pass.seen (le_trans (subst (λ (z : View). seen_writes m.before ≤ seen_writes z) (sym x.answered) (le_trans l.pass.seen (seen_up act u))) after.pass.seen);
         grown = λ old was. after.pass.grown old (moved.grown old (l.pass.grown old (before.pass.grown old was)));
+        present = λ is. after.pass.present (moved.present (l.pass.present (before.pass.present is)));
       };
       entries = after.entries ∙ (ap (λ (z : View). z.entries) x.answered ∙ (ap (λ (b : Bool). record { call = called; reply = said; stamp = stamp.number; wrote = b } ∷ u.entries) (sym is) ∙ ap (λ (es : List Entry). made_entry called said stamp ∷ es) (l.entries ∙ before.entries)));
       left =
@@ -75,7 +77,16 @@ moved_adds o called said stamp number left v w is some moves others m =
           let d = after.left in
           let e : v.left ≡ suc w.left = omega (arith, a, b, c, d, some) in e;
       seen = le_trans before.pass.seen x.seen;
-      loaded = λ _. loaded_in stamp.number v m.before m.after w before.pass (loaded_in stamp.number m.before m.before u m.after (same_nothing m.before).pass (record { part = x.part; own = x.own; loaded = x.counted }) moved) after.pass;
+      loaded = λ _.
+          loaded_in called stamp.number v m.before m.after w before.pass
+          (record {
+            later = [];
+            answer = act;
+            part = x.part;
+            own = ap (λ (z : View). z.log) x.answered ∙ ap (λ (log : List Act). act ∷ log) x.own;
+            answers = (refl, refl);
+            loaded = x.counted;
+          }) after.pass;
       shows = λ wrote. absurd (true≢false (sym wrote ∙ is));
       cursors = λ other apart. others other (λ e. apart (moves ∙ ap (λ (n : ℕ). Some n) (sym e)));
     }

@@ -10,7 +10,7 @@ use Rattle.ft_trace.specs.declared.Entry.{Entry}
 use Rattle.ft_trace.specs.declared.Owner.{Owner}
 use Rattle.ft_trace.specs.declared.Told.{Told}
 use Rattle.ft_trace.specs.declared.View.{View}
-use Rattle.ft_trace.specs.Acts.{all_lists, both, lists_of, own_told, seen_writes, tells, told_in, view_after}
+use Rattle.ft_trace.specs.Acts.{all_lists, both, lists_of, own_told, seen_writes, tells, told_in, view_after, presence_of}
 use Rattle.ft_trace.specs.Hands.{cursor_in}
 use Rattle.ft_trace.specs.OwnCursors.{plain_entry}
 use Rattle.ft_trace.specs.Owners.{AreOwners, found_owners, had_locks, is_owner_in}
@@ -46,13 +46,13 @@ heard_by c = told_in (view c.pass).log
 abbrev pub told_by_all : Caller → List Told
 told_by_all c = tells (view c.pass)
 
-told_all : (c : Caller) → AreAlsoTold (heard_by c) (told_by_all c)
+pub told_all : (c : Caller) → AreAlsoTold (heard_by c) (told_by_all c)
 told_all c = told_then (heard_by c) ((view c.pass).told ++ heard_by c) (told_by_all c) (told_last (view c.pass).told (heard_by c)) (told_last (own_told (view c.pass)) ((view c.pass).told ++ heard_by c))
 
 own_all : (c : Caller) → AreAllTold (thread_of c) (view c.pass).entries (told_by_all c)
 own_all c =
     let v = view c.pass in
-    let one : Told = record { pass = v.number; seen = seen_writes v; entries = v.entries } in
+    let one : Told = record { pass = v.number; seen = seen_writes v; entries = v.entries; presence = presence_of v.log } in
     let some = some_number c.pass in
     let own : own_told v ≡ one ∷ [] = miss v.number 0 [] (one ∷ []) (λ none. omega (arith, none, some)) in
     (0, one, ap (λ (l : List Told). slice_get (l ++ (v.told ++ told_in v.log)) 0) own, (let e : v.number ≡ suc (v.number - 1) = omega (arith, some) in e), refl)
@@ -120,7 +120,7 @@ kept_length thread [] (l ∷ ls) had found told are = absurd are
 kept_length thread (m ∷ ms) [] had found told are = absurd are
 kept_length thread (m ∷ ms) (l ∷ ls) had found told are = ap suc (kept_length (suc thread) ms ls had found told are.1)
 
-all_length : (c : Caller) (kept : List (List NamedEntry)) → WereAnswered c kept → length kept ≡ suc (length (view c.pass).lists)
+pub all_length : (c : Caller) (kept : List (List NamedEntry)) → WereAnswered c kept → length kept ≡ suc (length (view c.pass).lists)
 all_length c [] are = absurd are
 all_length c (mine ∷ others) are = ap suc (kept_length (suc (thread_of c)) others (view c.pass).lists (had_of c) (found_of c) (heard_by c) are.1)
 
@@ -150,7 +150,7 @@ kept_then thread (x ∷ xs) ys (l ∷ ls) ms had found told are more =
     (are.0, kept_then (suc thread) xs ys ls ms had found told are.1 (subst (λ (n : ℕ). HaveNamedEntries n ys ms had found told) (let e : thread + length (x ∷ xs) ≡ suc thread + length xs = omega arith in e) more))
 
 -- a pass, which is no note, gives its own list too
-given : (w : View) → w.number ≢ 0 → lists_of w ≡ all_lists w
+pub given : (w : View) → w.number ≢ 0 → lists_of w ≡ all_lists w
 given w live = miss w.number 0 w.lists (all_lists w) live
 
 -- what a pass has that took another in: what the taken pass had and found comes first
@@ -161,10 +161,11 @@ pub record TakesIn (v u w : View) : Type 0 where
   pub had : had_locks w.number w.log ≡ had_locks u.number u.log ++ had_locks v.number v.log
   pub found : found_owners w.log ≡ found_owners u.log ++ found_owners v.log
   pub told : told_in w.log ≡ tells u ++ told_in v.log
+  pub presence : presence_of w.log ≡ presence_of v.log
   pub cursors : (k : ℕ) → cursor_in k w.log ≡ cursor_in k v.log
 
 pub joined_in : (v u w : View) (n : ℕ) → w ≡ view_after (ReadCounter n) (both v u) → TakesIn v u w
-joined_in v u w n is = subst (TakesIn v u) (sym is) (record { number = refl; entries = refl; lists = refl; had = refl; found = refl; told = refl; cursors = λ k. refl })
+joined_in v u w n is = subst (TakesIn v u) (sym is) (record { number = refl; entries = refl; lists = refl; had = refl; found = refl; told = refl; presence = refl; cursors = λ k. refl })
 
 module _ (c d other : Caller) (m : List NamedEntry) (mine theirs : List (List NamedEntry)) (is : TakesIn (view c.pass) (view other.pass) (view d.pass)) (stack : stack_of d.pass ≡ stack_of c.pass) (flies : d.flight ≡ c.flight) (live : (view other.pass).number ≢ 0) (are : WereAnswered c (m ∷ mine)) (more : WereAnswered other theirs) (next : thread_of other ≡ thread_of c + length (m ∷ mine)) where
   finds_old : AreOwners (found_of c) (found_of d)

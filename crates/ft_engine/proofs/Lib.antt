@@ -7,6 +7,7 @@ pub mod SectionCalls
 pub mod OwnAnswers
 pub mod Callers
 pub mod KeptLists
+pub mod Presences
 pub mod NewCallers
 pub mod Outcomes
 pub mod LooksBefore

@@ -22,12 +22,12 @@ abbrev pub StopsAt : Shape → ℕ → Call → Type 0
 StopsAt k o called = (a b : ℕ) (part : List Act) → StopsAtVersion o a b part → StopsCall k called a b part
 
 pub glance_looked : (o : ℕ) (called : Call) (v w : View) (answer : Look) → StopsAt v.shape o called → IsGlanceOf o called v w answer → IsLooked called v w answer
-glance_looked o called v w (look.Done said stamp) stops x = x
+glance_looked o called v w (look.Done said stamp) stops x = (x.0, x.1)
 glance_looked o called v w (look.Contended a b) stops x = (x.part, x.own, x.loaded, stops a b x.part x.stops, x.looks)
 glance_looked o called v w look.NoMemory stops x = absurd x
 
 item_looked : (o index : ℕ) (v w : View) (answer : Look) → IsGetOf o index v w answer → IsLooked (call.List o (list.Get (pos index))) v w answer
-item_looked o index v w (look.Done said stamp) x = x
+item_looked o index v w (look.Done said stamp) x = (x.0, x.1)
 item_looked o index v w (look.Contended a b) x = (x.part, x.own, x.loaded, x.stops, x.looks)
 item_looked o index v w look.NoMemory x = absurd x
 
@@ -36,7 +36,7 @@ get_looked o (pos index) v w answer x = item_looked o index v w answer x
 get_looked o (negsuc below) v w answer x = glance_looked o (call.List o (list.Get (negsuc below))) v w answer (λ a b part s. s) x
 
 pub both_looked : (o m : ℕ) (called : Call) (v w : View) (answer : Look) → ((a b : ℕ) (part : List Act) → StopsAtVersion o a b part ⊎ StopsAtVersion m a b part → StopsCall v.shape called a b part) → IsGlanceOfBoth o m called v w answer → IsLooked called v w answer
-both_looked o m called v w (look.Done said stamp) stops x = x
+both_looked o m called v w (look.Done said stamp) stops x = (x.0, x.1)
 both_looked o m called v w (look.Contended a b) stops x =
     ⊎_elim (λ (y : IsStopped o a b v w). (y.part, y.own, y.loaded, stops a b y.part (inl y.stops), y.looks)) (λ (y : IsStopped m a b v w). (y.part, y.own, y.loaded, stops a b y.part (inr y.stops), y.looks)) x
 both_looked o m called v w look.NoMemory stops x = absurd x

@@ -1,15 +1,16 @@
 -- What the tries of calls on containers come to, in the words that all calls share.
-use Rattle.std.proofs.Common.{◌≡◌, ◌≤◌, ◌<◌, ◌+◌, ◌-◌, ℕ, zero, suc, Bool, true, false, true≢false, List, ◌∷◌, refl, sym, ap, ◌∙◌, subst, arith, ⊎_elim, inr, le_trans}
+use Rattle.std.proofs.Common.{◌≡◌, ◌≤◌, ◌<◌, ◌+◌, ◌-◌, ℕ, zero, suc, Bool, true, false, true≢false, List, [], ◌∷◌, refl, sym, ap, ◌∙◌, subst, arith, ⊎_elim, inr, le_trans}
 use Rattle.std.specs.Prelude.{Option, Some, None}
 use Rattle.ft_model.specs.declared.call.Call.{Call}
 use Rattle.ft_model.specs.declared.reply.Raise.TheVariants as raise
 use Rattle.ft_model.specs.declared.reply.Reply.{Reply}
 use Rattle.ft_model.specs.declared.reply.Reply.TheVariants as reply
+use Rattle.ft_trace.specs.declared.Act.{Act}
 use Rattle.ft_trace.specs.declared.Act.TheVariants.{Answer, PutHeader, Retire}
 use Rattle.ft_trace.specs.declared.Entry.{Entry}
 use Rattle.ft_trace.specs.declared.Shape.{Shape}
 use Rattle.ft_trace.specs.declared.View.{View}
-use Rattle.ft_trace.specs.Acts.{announces, view_after, seen_writes}
+use Rattle.ft_trace.specs.Acts.{announces, view_after, seen_writes, presence_after_entry}
 use Rattle.ft_trace.specs.Floors.{at_floor}
 use Rattle.ft_trace.specs.Hands.{cursor_in}
 use Rattle.ft_trace.proofs.Seeing.{seen_up}
@@ -18,7 +19,7 @@ use Rattle.ft_trace.proofs.Owning.{owners_then}
 use Rattle.ft_bank.specs.declared.takings.Took.{Took}
 use Rattle.ft_bank.specs.declared.takings.Took.TheVariants as took
 use Rattle.ft_bank.specs.Answered.{Answered}
-use Rattle.ft_bank.specs.Logs.{HasGrown}
+use Rattle.ft_bank.specs.Logs.{HasGrown, StaysOnline}
 use Rattle.ft_bank.specs.Whole.{OnlyLoaded, SamePass, Wrote}
 use Rattle.ft_section.specs.declared.answers.Objects.{Objects}
 use Rattle.ft_section.specs.declared.answers.Stamp.{Stamp}
@@ -38,7 +39,7 @@ use Rattle.ft_reads.specs.Copies.{IsCopy}
 use Rattle.ft_engine.specs.Answering.{MakesEntry, MakesNoEntry, FoundWordsChanged, StaysPass, copies}
 use Rattle.ft_engine.specs.Keeping.{made_entry}
 use Rattle.ft_engine.proofs.Within.{HasWithin, answered_owners, loaded_owners, made_owners, retired_owners, tried_owners, within_then, wrote_owners}
-use Rattle.ft_engine.proofs.SectionCalls.{answer_stays, loaded_in, nothing_entry, nothing_then, only_nothing, same_nothing}
+use Rattle.ft_engine.proofs.SectionCalls.{nothing_entry, nothing_then, only_nothing, same_nothing}
 
 -- what a try comes to, but for the sections
 abbrev pub Outcome : Call → Objects → View → View → Step → Type 0
@@ -50,7 +51,7 @@ Outcome called objects v w step.NoMemory = MakesNoEntry v w × HasWithin objects
 -- ---- parts of calls
 
 stays_same : (v w : View) → SamePass v w → StaysPass v w
-stays_same v w p = record { number = p.number; next = p.next; parts = p.parts; shape = p.shape; lists = p.lists; online = λ on. subst (λ (n : ℕ). 0 < n) (sym p.announced) on; floor = p.floor; since = p.since; seen = p.seen; grown = p.grown }
+stays_same v w p = record { number = p.number; next = p.next; parts = p.parts; shape = p.shape; lists = p.lists; online = λ on. subst (λ (n : ℕ). 0 < n) (sym p.announced) on; floor = p.floor; since = p.since; seen = p.seen; grown = p.grown; present = p.present }
 
 pub loaded_nothing : (v w : View) → OnlyLoaded v w → MakesNoEntry v w
 loaded_nothing v w l = record { pass = stays_same v w l.work.pass; entries = l.work.entries; left = l.work.left; cursors = l.work.pass.cursors }
@@ -85,6 +86,7 @@ answered_adds called said stamp v w is left x =
         since = ap (λ (z : View). at_floor z.log) x.answered ∙ l.pass.since;
         seen = subst (λ (z : View). seen_writes v ≤ seen_writes z) (sym x.answered) (le_trans l.pass.seen (seen_up (Answer called said stamp.number) u));
         grown = subst (λ (z : View). HasGrown v z) (sym x.answered) (λ old was. inr (l.pass.grown old was));
+        present = subst (λ (z : View). StaysOnline v z) (sym x.answered) (λ here. ap presence_after_entry (l.pass.present here));
       };
       entries = ap (λ (z : View). z.entries) x.answered ∙ (ap (λ (e : Entry). e ∷ u.entries) (entry_as called said stamp false is) ∙ ap (λ (es : List Entry). made_entry called said stamp ∷ es) l.entries);
       left =
@@ -92,7 +94,14 @@ answered_adds called said stamp v w is left x =
           let b = l.left in
           let e : v.left ≡ suc w.left = omega (arith, a, b, left) in e;
       seen = x.seen;
-      loaded = λ _. loaded_in stamp.number v v u w (same_nothing v).pass (record { part = x.part; own = x.own; loaded = x.counted }) (subst (StaysPass u) (sym x.answered) (answer_stays called said stamp.number u));
+      loaded = λ _. record {
+        later = [];
+        answer = Answer called said stamp.number;
+        part = x.part;
+        own = ap (λ (z : View). z.log) x.answered ∙ ap (λ (log : List Act). Answer called said stamp.number ∷ log) x.own;
+        answers = (refl, refl);
+        loaded = x.counted;
+      };
       shows = λ wrote. absurd (true≢false (sym wrote ∙ is));
       cursors = λ number other. ap (λ (z : View). cursor_in number z.log) x.answered ∙ l.pass.cursors number;
     }
@@ -135,11 +144,11 @@ moved_then a b u v w z first m last = record {
 }
 
 pub retired_nothing : (root : ℕ) (v w : View) → Retires root v w → MakesNoEntry v w
-retired_nothing zero v w is = subst (MakesNoEntry v) (sym is) (record { pass = record { number = refl; next = refl; parts = refl; shape = refl; lists = refl; online = λ on. on; floor = refl; since = refl; seen = omega arith; grown = λ old was. was }; entries = refl; left = refl; cursors = λ n. refl })
+retired_nothing zero v w is = subst (MakesNoEntry v) (sym is) (record { pass = record { number = refl; next = refl; parts = refl; shape = refl; lists = refl; online = λ on. on; floor = refl; since = refl; seen = omega arith; grown = λ old was. was; present = λ is. is }; entries = refl; left = refl; cursors = λ n. refl })
 retired_nothing (suc t) v w (n, is) =
     subst (MakesNoEntry v) (sym is)
     (record {
-      pass = record { number = refl; next = refl; parts = refl; shape = refl; lists = refl; online = λ on. on; floor = refl; since = refl; seen = le_trans (seen_up (Retire t n) v) (seen_up (PutHeader t (n + 1)) (view_after (Retire t n) v)); grown = λ old was. inr (inr was) };
+      pass = record { number = refl; next = refl; parts = refl; shape = refl; lists = refl; online = λ on. on; floor = refl; since = refl; seen = le_trans (seen_up (Retire t n) v) (seen_up (PutHeader t (n + 1)) (view_after (Retire t n) v)); grown = λ old was. inr (inr was); present = λ is. is };
       entries = refl;
       left = refl;
       cursors = λ number. refl;

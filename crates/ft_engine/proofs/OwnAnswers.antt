@@ -56,7 +56,7 @@ for_after call.Dump u v w x on = tt
 own_before : (called : Call) (stamp : Stamp) (u v w : View) → StaysPass u v → IsOwnAnswer called stamp v w → IsOwnAnswer called stamp u w
 own_before called stamp u v w stays own = record {
   least = le_trans stays.seen own.least;
-  loaded = λ read. loaded_in stamp.number u v w w stays (own.loaded read) (same_nothing w).pass;
+  loaded = λ read. loaded_in called stamp.number u v w w stays (own.loaded read) (same_nothing w).pass;
   wrote = own.wrote;
   collected = for_before called u v w stays own.collected;
 }
@@ -64,7 +64,7 @@ own_before called stamp u v w stays own = record {
 own_after : (called : Call) (stamp : Stamp) (u v w : View) → IsOwnAnswer called stamp u v → StaysPass v w → IsOwnAnswer called stamp u w
 own_after called stamp u v w own stays = record {
   least = own.least;
-  loaded = λ read. loaded_in stamp.number u u v w (same_nothing u).pass (own.loaded read) stays;
+  loaded = λ read. loaded_in called stamp.number u u v w (same_nothing u).pass (own.loaded read) stays;
   wrote = λ made. let first = own.wrote made in let more = stays.seen in omega (arith, first, more);
   collected = for_after called u v w own.collected stays;
 }

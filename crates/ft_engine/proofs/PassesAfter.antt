@@ -1,12 +1,13 @@
 -- What a pass has still that made no call on containers: it announced, collected, loaded the counter or took another in.
-use Rattle.std.proofs.Common.{◌≡◌, ◌≤◌, ◌<◌, ◌⊎◌, ℕ, Bool, true, false, cond, ◌++◌, refl, sym, ap, ◌∙◌, subst, inl, inr, ⊎_elim, le_refl, le_trans}
+use Rattle.std.proofs.Common.{◌≡◌, ◌≤◌, ◌<◌, ◌⊎◌, ℕ, Bool, true, false, cond, ◌++◌, refl, sym, ap, ◌∙◌, subst, inl, inr, ⊎_elim, le_refl, le_trans, zero, suc, arith}
 use Rattle.std.specs.Prelude.{List, Option, max}
 use Rattle.std.proofs.Math.Nat.{le-max_left, le-max_right, max-le}
 use Rattle.ft_trace.specs.declared.Act.TheVariants.{Announce, ReadCounter, WriteNumber}
 use Rattle.ft_trace.specs.declared.Shape.{Shape}
 use Rattle.ft_trace.specs.declared.Told.{Told}
+use Rattle.ft_trace.specs.declared.Presence.TheVariants as presence
 use Rattle.ft_trace.specs.declared.View.{View}
-use Rattle.ft_trace.specs.Acts.{both, hands_over, has_lock, is_handed, view_after, seen_writes, shown, stage}
+use Rattle.ft_trace.specs.Acts.{both, hands_over, has_lock, is_handed, view_after, seen_writes, shown, stage, presence_after_announcing}
 use Rattle.ft_trace.specs.Addresses.{container_count}
 use Rattle.ft_trace.specs.Floors.{at_floor}
 use Rattle.ft_trace.specs.Hands.{cursor_in}
@@ -306,3 +307,15 @@ pub quiesced_calm : (v w : View) → IsStill v → (n : ℕ) × (freed : ℕ) ×
 quiesced_calm v w s (n, freed, collected) =
     let first = enters_calm v n v.number s in
     calm_then v (view_after (Announce v.number n) (view_after (WriteNumber n) v)) w first (collected_calm (view_after (Announce v.number n) (view_after (WriteNumber n) v)) w freed first.still collected)
+
+-- ---- online
+
+-- a pass that was never online and announces what isn't 0 is online
+pub came_online : (n : ℕ) → 0 < n → presence_after_announcing n presence.Before ≡ presence.Online
+came_online zero some = absurd (omega (arith, some))
+came_online (suc n) some = refl
+
+-- and one that was online and announces anew what isn't 0 is still online
+pub stays_online : (n : ℕ) → 0 < n → presence_after_announcing n presence.Online ≡ presence.Online
+stays_online zero some = absurd (omega (arith, some))
+stays_online (suc n) some = refl

@@ -66,6 +66,7 @@ use Rattle.ft_engine.specs.Resting.{HasFloor}
 use Rattle.ft_engine.proofs.AtRest.{as_before, still_of}
 use Rattle.ft_engine.proofs.Callers.{same_but_pass, steady_caller, steady_kept}
 use Rattle.ft_engine.proofs.PassesAfter.{IsSteady}
+use Rattle.ft_engine.proofs.Presences.{same_online}
 
 -- ---- one container
 
@@ -231,9 +232,10 @@ module _ (e : Engine) (c : Caller) (q : Pass) (all : List Shown) (is : IsCallerO
 
   pub only_read : HasOnlyRead c now
   only_read = record {
-    same = as_before c now (same_but_pass c q) r.2.2 read_steady only_loaded.work.pass.announced;
+    same = as_before c now (same_but_pass c q) r.2.2 read_steady only_loaded.work.pass.announced only_loaded.work.presence;
     floor = record { floor = only_loaded.work.pass.floor; since = only_loaded.work.pass.since };
     kept = λ lists. steady_all c now lists read_steady r.2.2 refl (ap told_in (did_log r.0 c.pass q r.2) ∙ looks_told r.0 (view c.pass).log r.1);
+    online = same_online c now read_steady.number read_steady.lists only_loaded.work.presence (ap told_in (did_log r.0 c.pass q r.2) ∙ looks_told r.0 (view c.pass).log r.1);
   }
 
   looks_now : HasFloor c → LooksWithFloor (view q) r.0

@@ -12,8 +12,9 @@ use Rattle.ft_model.specs.Histories.{IsCountedAs}
 use Rattle.ft_trace.specs.declared.Act.{Act}
 use Rattle.ft_trace.specs.declared.Act.TheVariants.{Announce, Answer, ReadCounter, WriteNumber}
 use Rattle.ft_trace.specs.declared.Entry.{Entry}
+use Rattle.ft_trace.specs.declared.Presence.TheVariants as presence
 use Rattle.ft_trace.specs.declared.View.{View}
-use Rattle.ft_trace.specs.Acts.{announces, has_lock, view_after, seen_writes}
+use Rattle.ft_trace.specs.Acts.{announces, has_lock, view_after, seen_writes, presence_after_entry, presence_after_announcing, presence_of}
 use Rattle.ft_trace.specs.Floors.{at_floor}
 use Rattle.ft_trace.specs.Hands.{cursor_in}
 use Rattle.ft_trace.specs.BegunSections.{begun}
@@ -22,11 +23,12 @@ use Rattle.ft_bank.specs.declared.bank.Bank.{Bank}
 use Rattle.ft_bank.specs.declared.pass.Pass.{Pass}
 use Rattle.ft_bank.specs.declared.sections.OpenSection.{OpenSection}
 use Rattle.ft_bank.specs.declared.sections.Taking.{Taking}
-use Rattle.ft_bank.specs.Logs.{HasGrown}
+use Rattle.ft_bank.specs.Logs.{HasGrown, StaysOnline}
 use Rattle.ft_bank.specs.Passes.{view, IsPassOf}
 use Rattle.ft_bank.specs.PassSections.{Stack, stack_of}
+use Rattle.ft_bank.proofs.LastLoads.{last_older}
 use Rattle.ft_bank.proofs.Logs.{grown_by, newer_part}
-use Rattle.ft_qsbr.specs.Collecting.{Collected}
+use Rattle.ft_qsbr.specs.Collecting.{Collected, loads_of}
 use Rattle.ft_section.specs.declared.answers.Ended.{Ended}
 use Rattle.ft_section.specs.declared.answers.Ended.TheVariants as ended
 use Rattle.ft_section.specs.declared.answers.Objects.{Objects}
@@ -48,7 +50,8 @@ use Rattle.ft_engine.specs.Keeping.{made_entry, section_marks}
 use Rattle.ft_engine.specs.Stacks.{Opens}
 use Rattle.ft_engine.proofs.WaitCounts.{last_of}
 use Rattle.ft_engine.proofs.Within.{walked_none}
-use Rattle.ft_engine.proofs.PassesAfter.{IsCalm, ready_calm}
+use Rattle.ft_engine.proofs.PassesAfter.{IsCalm, ready_calm, stays_online}
+use Rattle.ft_qsbr.proofs.PassesStay.{collection_leaves, presence_stays}
 
 -- ---- locks alone
 
@@ -64,6 +67,7 @@ only_stays v w only = record {
   since = only.since;
   seen = only_sees v w only;
   grown = grown_by only.newer v w only.grew;
+  present = only.present;
 }
 
 pub only_nothing : (v w : View) → OnlyLocked v w → MakesNoEntry v w
@@ -81,6 +85,7 @@ stays_then u v w a b = record {
   since = b.since ∙ a.since;
   seen = le_trans a.seen b.seen;
   grown = λ old was. b.grown old (a.grown old was);
+  present = λ is. b.present (a.present is);
 }
 
 pub nothing_then : (u v w : View) → MakesNoEntry u v → MakesNoEntry v w → MakesNoEntry u w
@@ -92,26 +97,22 @@ nothing_then u v w a b = record {
 }
 
 pub same_nothing : (v : View) → MakesNoEntry v v
-same_nothing v = record { pass = record { number = refl; next = refl; parts = refl; shape = refl; lists = refl; online = λ on. on; floor = refl; since = refl; seen = omega arith; grown = λ old was. was }; entries = refl; left = refl; cursors = λ number. refl }
+same_nothing v = record { pass = record { number = refl; next = refl; parts = refl; shape = refl; lists = refl; online = λ on. on; floor = refl; since = refl; seen = omega arith; grown = λ old was. was; present = λ is. is }; entries = refl; left = refl; cursors = λ number. refl }
 
--- a load stays one of a longer time
-pub loaded_in : (n : ℕ) (u v w z : View) → StaysPass u v → HasLoaded n v w → StaysPass w z → HasLoaded n u z
-loaded_in n u v w z before l after =
+-- what was loaded for an answer was so in a longer time
+pub loaded_in : (called : Call) (n : ℕ) (u v w z : View) → StaysPass u v → HasLoaded called n v w → StaysPass w z → HasLoaded called n u z
+loaded_in called n u v w z before l after =
     let a = newer_part u v before.grown in
     let b = newer_part w z after.grown in
-    let load = ReadCounter n in
+    let all : w.log ≡ l.later ++ l.answer ∷ ((l.part ++ a.0) ++ u.log) = l.own
+    ∙ ap (λ (log : List Act). l.later ++ l.answer ∷ log) (ap (λ (log : List Act). l.part ++ log) a.1 ∙ sym (append_assoc l.part a.0 u.log)) in
     record {
-      part = b.0 ++ (l.part ++ a.0);
-      own = b.1
-          ∙ (ap (λ (log : List Act). b.0 ++ log) (l.own ∙ (ap (λ (log : List Act). l.part ++ log) a.1 ∙ sym (append_assoc l.part a.0 u.log)))
-          ∙ sym (append_assoc b.0 (l.part ++ a.0) u.log));
-      loaded = record {
-        newer = b.0 ++ l.loaded.newer;
-        rest = l.loaded.rest ++ a.0;
-        is = ap (λ (log : List Act). b.0 ++ log)
-            (ap (λ (log : List Act). log ++ a.0) l.loaded.is ∙ append_assoc l.loaded.newer (load ∷ l.loaded.rest) a.0)
-            ∙ sym (append_assoc b.0 l.loaded.newer (load ∷ (l.loaded.rest ++ a.0)));
-      };
+      later = b.0 ++ l.later;
+      answer = l.answer;
+      part = l.part ++ a.0;
+      own = b.1 ∙ (ap (λ (log : List Act). b.0 ++ log) all ∙ sym (append_assoc b.0 l.later (l.answer ∷ ((l.part ++ a.0) ++ u.log))));
+      answers = l.answers;
+      loaded = last_older n l.part a.0 l.loaded;
     }
 
 -- what comes before and after the entry adds none
@@ -121,7 +122,7 @@ nothing_entry called said stamp u v w z before seen made after = record {
   entries = after.entries ∙ (made.entries ∙ ap (λ (es : List Entry). made_entry called said stamp ∷ es) before.entries);
   left = sym before.left ∙ (made.left ∙ sym (ap suc after.left));
   seen = le_trans before.pass.seen seen;
-  loaded = λ read. loaded_in stamp.number u v w z before.pass (made.loaded read) after.pass;
+  loaded = λ read. loaded_in called stamp.number u v w z before.pass (made.loaded read) after.pass;
   shows = λ wrote. let first = made.shows wrote in let more = after.pass.seen in omega (arith, first, more);
   cursors = λ number other. after.cursors number ∙ (made.cursors number other ∙ before.cursors number);
 }
@@ -140,16 +141,17 @@ answered_pass called said n v = record {
   since = refl;
   seen = le_trans (seen_up (ReadCounter n) v) (seen_up (Answer called said n) (view_after (ReadCounter n) v));
   grown = λ old was. inr (inr was);
+  present = λ is. ap presence_after_entry is;
 }
 
-pub answer_stays : (called : Call) (said : Reply) (n : ℕ) (v : View) → StaysPass v (view_after (Answer called said n) v)
-answer_stays called said n v = record { number = refl; next = refl; parts = refl; shape = refl; lists = refl; online = λ on. on; floor = refl; since = refl; seen = seen_up (Answer called said n) v; grown = λ old was. inr was }
-
-answered_loaded : (called : Call) (said : Reply) (n : ℕ) (v : View) → HasLoaded n v (answered_view called said n v)
+answered_loaded : (called : Call) (said : Reply) (n : ℕ) (v : View) → HasLoaded called n v (answered_view called said n v)
 answered_loaded called said n v = record {
-  part = Answer called said n ∷ ReadCounter n ∷ [];
+  later = [];
+  answer = Answer called said n;
+  part = ReadCounter n ∷ [];
   own = refl;
-  loaded = record { newer = Answer called said n ∷ []; rest = []; is = refl };
+  answers = (refl, refl);
+  loaded = record { newer = []; rest = []; is = refl; none = refl };
 }
 
 answered_entries : (called : Call) (said : Reply) (stamp : Stamp) (v : View) → stamp.wrote ≡ false → (answered_view called said stamp.number v).entries ≡ made_entry called said stamp ∷ v.entries
@@ -209,7 +211,7 @@ begin_answer b p q first second stamp left enters seen read opens resume =
         entries = ap (λ (z : View). z.entries) is ∙ (answered_entries c reply.Entered stamp u read ∙ ap (λ (es : List Entry). made_entry c reply.Entered stamp ∷ es) enters.1.entries);
         left = sym enters.1.left ∙ (answered_left c reply.Entered stamp.number u (subst (λ (n : ℕ). 0 < n) (sym enters.1.left) left) ∙ sym (ap (λ (z : View). suc z.left) is));
         seen = seen;
-        loaded = λ _. loaded_in stamp.number v u (view q) (view q) (only_stays v u enters.1) (subst (HasLoaded stamp.number u) (sym is) (answered_loaded c reply.Entered stamp.number u)) (same_nothing (view q)).pass;
+        loaded = λ _. loaded_in c stamp.number v u (view q) (view q) (only_stays v u enters.1) (subst (HasLoaded c stamp.number u) (sym is) (answered_loaded c reply.Entered stamp.number u)) (same_nothing (view q)).pass;
         shows = λ wrote. absurd (true≢false (sym wrote ∙ read));
         cursors = λ number other. ap (λ (z : View). cursor_in number z.log) is ∙ enters.1.cursors number;
       };
@@ -294,10 +296,10 @@ pub answered_owners : (called : Call) (said : Reply) (n : ℕ) (v u w : View) �
 answered_owners called said n v u w calm is = owners_then v u w calm.owners (subst (SameOwners u) (sym is) (record { had = refl; found = refl }))
 
 -- the entry of a call that takes no lock, after the pass has done nothing but announce, load and learn
-pub calm_entry : (called : Call) (said : Reply) (stamp : Stamp) (v u w : View) → IsCalm v u → (0 < announces v.log → 0 < announces u.log) → 0 < v.left → w ≡ answered_view called said stamp.number u → stamp.wrote ≡ false → seen_writes u ≤ stamp.number → MakesEntry called said stamp v w
-calm_entry called said stamp v u w calm on left is read seen =
+pub calm_entry : (called : Call) (said : Reply) (stamp : Stamp) (v u w : View) → IsCalm v u → (0 < announces v.log → 0 < announces u.log) → StaysOnline v u → 0 < v.left → w ≡ answered_view called said stamp.number u → stamp.wrote ≡ false → seen_writes u ≤ stamp.number → MakesEntry called said stamp v w
+calm_entry called said stamp v u w calm on stays left is read seen =
     let made = answered_entry called said stamp u read (subst (λ (n : ℕ). 0 < n) (sym calm.left) left) seen in
-    let quiet : StaysPass v u = record { number = calm.number; next = calm.next; parts = calm.parts; shape = calm.shape; lists = calm.lists; online = on; floor = calm.floor; since = calm.since; seen = calm.seen; grown = calm.grown } in
+    let quiet : StaysPass v u = record { number = calm.number; next = calm.next; parts = calm.parts; shape = calm.shape; lists = calm.lists; online = on; floor = calm.floor; since = calm.since; seen = calm.seen; grown = calm.grown; present = stays } in
     record {
       pass = record {
         number = ap (λ (z : View). z.number) is ∙ calm.number;
@@ -310,14 +312,25 @@ calm_entry called said stamp v u w calm on left is read seen =
         since = ap (λ (z : View). at_floor z.log) is ∙ calm.since;
         seen = subst (λ (z : View). seen_writes v ≤ seen_writes z) (sym is) (le_trans calm.seen made.pass.seen);
         grown = subst (λ (z : View). HasGrown v z) (sym is) (λ old was. inr (inr (calm.grown old was)));
+        present = subst (λ (z : View). StaysOnline v z) (sym is) (λ here. ap presence_after_entry (stays here));
       };
       entries = ap (λ (z : View). z.entries) is ∙ (made.entries ∙ ap (λ (es : List Entry). made_entry called said stamp ∷ es) calm.entries);
       left = sym calm.left ∙ (made.left ∙ sym (ap (λ (z : View). suc z.left) is));
       seen = le_trans calm.seen seen;
-      loaded = λ _. loaded_in stamp.number v u w w quiet (subst (HasLoaded stamp.number u) (sym is) (made.loaded read)) (same_nothing w).pass;
+      loaded = λ _. loaded_in called stamp.number v u w w quiet (subst (HasLoaded called stamp.number u) (sym is) (made.loaded read)) (same_nothing w).pass;
       shows = λ wrote. absurd (true≢false (sym wrote ∙ read));
       cursors = λ number other. ap (λ (z : View). cursor_in number z.log) is ∙ calm.cursors number;
     }
+
+-- a pass that announces anew and collects stays online
+quiesced_online : (v w : View) (n freed : ℕ) → Collected (view_after (Announce v.number n) (view_after (WriteNumber n) v)) w freed → 0 < announces w.log → StaysOnline v w
+quiesced_online v w n freed x on here =
+    let acts = x.acts ++ loads_of x.numbers in
+    let u = view_after (Announce v.number n) (view_after (WriteNumber n) v) in
+    let some : 0 < n = subst (λ (k : ℕ). 0 < k) x.keeps.announces on in
+    ap (λ (z : View). presence_of z.log) x.did
+    ∙ (presence_stays acts u (collection_leaves x.acts x.numbers x.givings)
+    ∙ (ap (presence_after_announcing n) here ∙ stays_online n some))
 
 pub quiesce_answer : (b : Bank) (p q r : Pass) (stamp : Stamp) → IsReady b p → 0 < (view p).left → IsPassOf b q → stack_of q ≡ stack_of p → IsCalm (view p) (view q) → (n : ℕ) × (freed : ℕ) × Collected (view_after (Announce (view p).number n) (view_after (WriteNumber n) (view p))) (view q) freed → 0 < announces (view q).log → IsPassOf b r → stack_of r ≡ stack_of q → view r ≡ answered_view call.Quiesce reply.Done stamp.number (view q) → stamp.wrote ≡ false → seen_writes (view q) ≤ stamp.number → HasAnswer b call.Quiesce reply.Done stamp p r
 quiesce_answer b p q r stamp ready left pass_q stack_q calm did on pass_r stack_r is read seen =
@@ -327,7 +340,7 @@ quiesce_answer b p q r stamp ready left pass_q stack_q calm did on pass_r stack_
     let stack = stack_r ∙ stack_q in
     let now = ready_answered call.Quiesce reply.Done b q r stamp.number refl (ready_calm b p q ready pass_q stack_q calm) pass_r stack_r is in
     record {
-      entry = calm_entry call.Quiesce reply.Done stamp v u (view r) calm (λ _. on) left is read seen;
+      entry = calm_entry call.Quiesce reply.Done stamp v u (view r) calm (λ _. on) (quiesced_online v u did.0 did.1 did.2 on) left is read seen;
       resume = ready_resumes b r now;
       top = λ none. absurd (true≢false (sym none));
       stack = stack ∙ ap (λ (t : Taking). with_own (stack_of p) t) ready.own;
@@ -340,12 +353,12 @@ quiesce_answer b p q r stamp ready left pass_q stack_q calm did on pass_r stack_
 
 -- ---- await
 
-pub await_answer : (b : Bank) (p q r : Pass) (thread index : ℕ) (stamp : Stamp) → IsReady b p → 0 < (view p).left → IsPassOf b q → stack_of q ≡ stack_of p → IsCalm (view p) (view q) → (0 < announces (view p).log → 0 < announces (view q).log) → IsPassOf b r → stack_of r ≡ stack_of q → view r ≡ answered_view (call.Await thread index) reply.Done stamp.number (view q) → stamp.wrote ≡ false → seen_writes (view q) ≤ stamp.number → HasAnswer b (call.Await thread index) reply.Done stamp p r
-await_answer b p q r thread index stamp ready left pass_q stack_q calm on pass_r stack_r is read seen =
+pub await_answer : (b : Bank) (p q r : Pass) (thread index : ℕ) (stamp : Stamp) → IsReady b p → 0 < (view p).left → IsPassOf b q → stack_of q ≡ stack_of p → IsCalm (view p) (view q) → (0 < announces (view p).log → 0 < announces (view q).log) → StaysOnline (view p) (view q) → IsPassOf b r → stack_of r ≡ stack_of q → view r ≡ answered_view (call.Await thread index) reply.Done stamp.number (view q) → stamp.wrote ≡ false → seen_writes (view q) ≤ stamp.number → HasAnswer b (call.Await thread index) reply.Done stamp p r
+await_answer b p q r thread index stamp ready left pass_q stack_q calm on stays pass_r stack_r is read seen =
     let stack = stack_r ∙ stack_q in
     let now = ready_answered (call.Await thread index) reply.Done b q r stamp.number refl (ready_calm b p q ready pass_q stack_q calm) pass_r stack_r is in
     record {
-      entry = calm_entry (call.Await thread index) reply.Done stamp (view p) (view q) (view r) calm on left is read seen;
+      entry = calm_entry (call.Await thread index) reply.Done stamp (view p) (view q) (view r) calm on stays left is read seen;
       resume = ready_resumes b r now;
       top = λ none. absurd (true≢false (sym none));
       stack = stack ∙ ap (λ (t : Taking). with_own (stack_of p) t) ready.own;

@@ -12,18 +12,18 @@ use Rattle.ft_model.specs.Histories.{IsCountedAs}
 use Rattle.ft_model.specs.Worlds.{container_of, cursor_at}
 use Rattle.ft_trace.specs.declared.Shape.{Shape}
 use Rattle.ft_trace.specs.declared.Act.{Act}
-use Rattle.ft_trace.specs.declared.Act.TheVariants.{Announce, ReadCounter, WriteNumber}
+use Rattle.ft_trace.specs.declared.Act.TheVariants.{Announce, Answer, AnswerCursor, WriteNumber}
 use Rattle.ft_trace.specs.declared.View.{View}
 use Rattle.ft_trace.specs.Acts.{announces, seen_writes, view_after}
 use Rattle.ft_trace.specs.Floors.{at_floor}
 use Rattle.ft_trace.specs.Owners.{FindsMore, LocksOnly}
 use Rattle.ft_trace.specs.Hands.{cursor_in}
-use Rattle.ft_trace.specs.LoggedReads.{Among}
 use Rattle.ft_bank.specs.declared.bank.Bank.{Bank}
 use Rattle.ft_bank.specs.declared.pass.Pass.{Pass}
 use Rattle.ft_bank.specs.declared.takings.Took.TheVariants as took
 use Rattle.ft_bank.specs.Answered.{Answered}
-use Rattle.ft_bank.specs.Logs.{HasGrown}
+use Rattle.ft_bank.specs.LastLoads.{IsLastLoad}
+use Rattle.ft_bank.specs.Logs.{HasGrown, StaysOnline}
 use Rattle.ft_bank.specs.Passes.{shape_of, view, DidNothing}
 use Rattle.ft_bank.specs.PassSections.{stack_of}
 use Rattle.ft_bank.specs.Whole.{OnlyLoaded}
@@ -51,8 +51,9 @@ use Rattle.ft_engine.specs.Asked.{FitsSections, IsCallIn}
 use Rattle.ft_engine.specs.Keeping.{made_entry, section_marks, marks_after}
 use Rattle.ft_engine.specs.Stacks.{StackAfter}
 
--- It is the same pass: it is online where it was, has taken in the same passes, has the floor where it had it, and no
--- other since, has seen no fewer writes, and its log has only grown. (profile)
+-- It is the same pass: it is online where it was, and went offline at no moment where it had been online since before
+-- its first entry; it has taken in the same passes, has the floor where it had it, and no other since, has seen no fewer
+-- writes, and its log has only grown. (profile)
 pub record StaysPass (v w : View) : Type 0 where
   pub number : w.number ≡ v.number
   pub next : w.next ≡ v.next
@@ -64,6 +65,7 @@ pub record StaysPass (v w : View) : Type 0 where
   pub since : at_floor w.log ≡ at_floor v.log
   pub seen : seen_writes v ≤ seen_writes w
   pub grown : HasGrown v w
+  pub present : StaysOnline v w
 
 -- The same pass has made no entry, and has the same cursors. (profile)
 pub record MakesNoEntry (v w : View) : Type 0 where
@@ -72,12 +74,21 @@ pub record MakesNoEntry (v w : View) : Type 0 where
   pub left : w.left ≡ v.left
   pub cursors : (number : ℕ) → cursor_in number w.log ≡ cursor_in number v.log
 
--- After the first of these moments and before the second, a load of the counter gave this number: it stands in the part
--- of the pass's log that is newer.
-pub record HasLoaded (n : ℕ) (v w : View) : Type 0 where
+-- the action answers this call, and has this number
+abbrev pub AnswersAt : Call → ℕ → Act → Type 0
+AnswersAt called n (Answer asked said number) = (asked ≡ called) × (number ≡ n)
+AnswersAt called n (AnswerCursor asked said stamp number had left) = (asked ≡ called) × (stamp ≡ n)
+AnswersAt called n act = ⊥
+
+-- After the first of these moments and before the second, the pass answered this call at this number. That is what the
+-- counter had when the pass loaded it last before the answer; it loaded it after the first moment.
+pub record HasLoaded (called : Call) (n : ℕ) (v w : View) : Type 0 where
+  pub later : List Act
+  pub answer : Act
   pub part : List Act
-  pub own : w.log ≡ part ++ v.log
-  pub loaded : Among (ReadCounter n) part
+  pub own : w.log ≡ later ++ answer ∷ (part ++ v.log)
+  pub answers : AnswersAt called n answer
+  pub loaded : IsLastLoad n part
 
 -- the pass has loaded the write number, and announced it
 abbrev pub after_announcing : ℕ → View → View
@@ -102,14 +113,14 @@ HasCollectedFor call.Quiesce v w = HasQuiesced v w
 HasCollectedFor called v w = Unit {0}
 
 -- The same pass has made the one entry of this answer, at a stamp that is at least all writes that it had seen. That of
--- a call which is no write was loaded for it; a write it has then seen. Its cursors stay, but for the one that the call
--- moves. (profile)
+-- a call which is no write is what the pass loaded last before it answered; a write it has then seen. Its cursors stay,
+-- but for the one that the call moves. (profile)
 pub record MakesEntry (called : Call) (said : Reply) (stamp : Stamp) (v w : View) : Type 0 where
   pub pass : StaysPass v w
   pub entries : w.entries ≡ made_entry called said stamp ∷ v.entries
   pub left : v.left ≡ suc w.left
   pub seen : seen_writes v ≤ stamp.number
-  pub loaded : stamp.wrote ≡ false → HasLoaded stamp.number v w
+  pub loaded : stamp.wrote ≡ false → HasLoaded called stamp.number v w
   pub shows : stamp.wrote ≡ true → stamp.number < seen_writes w
   pub cursors : (number : ℕ) → moved_cursor called ≢ Some number
       → cursor_in number w.log ≡ cursor_in number v.log
@@ -239,9 +250,9 @@ IsTryOfCall b hands called p q step.NoMemory =
 
 -- ---- looks
 
--- What a look at containers answers, in the words that all looks share. It gave a reply, with a stamp that it loaded;
--- or it has only loaded words, and where it is contended, among them those that stopped it; or there was no memory for
--- the copy that it answers with.
+-- What a look at containers answers, in the words that all looks share. It gave a reply, at the counter that it loaded
+-- last; or it has only loaded words, and where it is contended, among them those that stopped it; or there was no memory
+-- for the copy that it answers with.
 abbrev pub IsLooked : Call → View → View → Look → Type 0
 IsLooked called v w (look.Done said stamp) = Answered called said stamp.number v w × (stamp.wrote ≡ false)
 IsLooked called v w (look.Contended first second) =

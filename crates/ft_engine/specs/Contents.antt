@@ -20,6 +20,7 @@ use Rattle.ft_bank_history.specs.LastContents.{AreShownTo, IsShownAs}
 use Rattle.ft_engine.specs.declared.caller.Caller.{Caller}
 use Rattle.ft_engine.specs.DoneCallers.{WereAnswered}
 use Rattle.ft_engine.specs.Resting.{IsAsBefore, KeepsFloor}
+use Rattle.ft_engine.specs.Presences.{WereOnline}
 
 -- ---- reads of one container after the other
 
@@ -36,11 +37,12 @@ ReadsFirst k all p q = (part : List Act) × AreLooks part × DidAll part p q × 
 -- ---- a caller that reads
 
 -- The caller only loaded words: it is in the same call and sections, has the floor as before, and was answered the same
--- entries, as were those that it took in.
+-- entries, as were those that it took in, and was online as they were.
 pub record HasOnlyRead (c d : Caller) : Type 0 where
   pub same : IsAsBefore c d
   pub floor : KeepsFloor c d
   pub kept : (lists : List (List NamedEntry)) → WereAnswered c lists → WereAnswered d lists
+  pub online : WereOnline c → WereOnline d
 
 -- these are shown of the containers by the words that the caller knows, which has the floor
 abbrev pub AreShownIn : Caller → List Shown → Type 0

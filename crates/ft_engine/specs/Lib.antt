@@ -15,6 +15,7 @@ pub mod SoFar
 pub mod Calling
 pub mod Visits
 pub mod DoneCallers
+pub mod Presences
 pub mod Resting
 pub mod Contents
 pub mod AtOnce

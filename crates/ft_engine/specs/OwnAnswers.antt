@@ -14,11 +14,12 @@ use Rattle.ft_engine.specs.Answering.{HasCollectedFor, HasLoaded}
 use Rattle.ft_engine.specs.Flights.{IsFlightAnswered}
 
 -- The call was answered at this stamp after the first of these moments and before the second. The stamp is at least all
--- writes that the pass had seen. A load of the counter in between gave it; or it is the number of the call's own write,
--- which the pass has then seen. A `quiesce` has collected. (profile; PEP 703, QSBR)
+-- writes that the pass had seen. It is what the counter had when the pass loaded it last before the answer, in between;
+-- or it is the number of the call's own write, which the pass has then seen. A `quiesce` has collected. (profile;
+-- PEP 703, QSBR)
 pub record IsOwnAnswer (called : Call) (stamp : Stamp) (v w : View) : Type 0 where
   pub least : seen_writes v ≤ stamp.number
-  pub loaded : stamp.wrote ≡ false → HasLoaded stamp.number v w
+  pub loaded : stamp.wrote ≡ false → HasLoaded called stamp.number v w
   pub wrote : stamp.wrote ≡ true → stamp.number < seen_writes w
   pub collected : HasCollectedFor called v w
 

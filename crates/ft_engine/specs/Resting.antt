@@ -2,7 +2,7 @@
 use Rattle.std.specs.Prelude.{◌≡◌, ◌≢◌, ℕ, ◌≤◌, true, List, []}
 use Rattle.ft_model.specs.declared.entry.Entry.{Entry as NamedEntry}
 use Rattle.ft_trace.specs.declared.View.{View}
-use Rattle.ft_trace.specs.Acts.{announces, floor_words, seen_writes, sender}
+use Rattle.ft_trace.specs.Acts.{announces, floor_words, seen_writes, sender, presence_of}
 use Rattle.ft_trace.specs.Floors.{at_floor}
 use Rattle.ft_bank.specs.declared.tokens.Tokens.{Tokens}
 use Rattle.ft_bank.specs.Floors.{IsRestingOf, carried, rests, stack_at_rest}
@@ -67,10 +67,11 @@ pub record HandsOn (c : Caller) (t : Tokens) : Type 0 where
   pub words : HasFloor c → (carried t).floor ≡ words_known c
 
 -- What a caller has that has done nothing but hand tokens on or take some: the same sections, cursors and entries, the
--- same call in flight, and it is online as before.
+-- same call in flight, and it is online as before, and has been.
 pub record IsAsBefore (c d : Caller) : Type 0 where
   pub same : SameCallerWork c d
   pub announced : announces (view d.pass).log ≡ announces (view c.pass).log
+  pub presence : presence_of (view d.pass).log ≡ presence_of (view c.pass).log
   pub kept : (mine : List NamedEntry) → WasAnswered c mine → WasAnswered d mine
 
 -- What a caller has once it is woken by these tokens: the floor, the words that they brought, and what their giver had

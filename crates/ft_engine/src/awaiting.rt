@@ -3,7 +3,7 @@ ghost use Rattle.std.specs.Prelude.{◌≡◌, ◌<◌, ◌≤◌, ◌++◌, ◌
 ghost use Rattle.ft_model.specs.declared.cursor.Cursor.{Cursor};
 ghost use Rattle.ft_model.specs.declared.entry.Entry.{Entry as NamedEntry};
 ghost use Rattle.ft_model.specs.declared.reply.Reply.TheVariants as reply;
-ghost use Rattle.ft_bank.specs.Notes.{IsNoteOf, says};
+ghost use Rattle.ft_bank.specs.Notes.{IsNoteOf, says, writes_seen};
 ghost use Rattle.ft_bank.specs.Passes.{view};
 ghost use Rattle.ft_bank_history.specs.SoFar.{MemoryErrorsAreFound};
 ghost use Rattle.ft_section.specs.declared.answers.Step.TheVariants as step;
@@ -31,6 +31,7 @@ fn learn_answer(bank: &Bank, pass: &mut Pass, call: &Call, note: Note) -> Stamp
     ensures ready { IsReady bank.now pass.new }
     ensures tried { (hands : List (Option Cursor)) → IsTryOfCall bank.now hands call.now pass.old pass.new (step.Done reply.Done result) }
     ensures stamp { (result.wrote ≡ false) × (says note ≤ result.number) }
+    ensures seen { says note ≤ writes_seen pass.new }
 {
     bank.learn(pass, note);
     let number = bank.stamp(pass);
@@ -52,6 +53,7 @@ impl Engine {
         ensures right { (mine : List NamedEntry) → WasAnswered caller.old mine → IsAnsweredRight caller.new
             (mine ++ named_entry (thread_of caller.old) mine call.now reply.Done result None ∷ []) }
         ensures stamp { (result.wrote ≡ false) × (says note ≤ result.number) }
+        ensures seen { says note ≤ writes_seen (pass_of caller.new) }
         ensures found_none { MemoryErrorsAreFound (view (pass_of caller.new)) }
     {
         let stamp = learn_answer(&self.bank, &mut caller.pass, call, note);

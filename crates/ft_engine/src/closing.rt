@@ -8,7 +8,7 @@ ghost use Rattle.ft_model.specs.Answers.{shown_of};
 ghost use Rattle.ft_model.specs.Histories.{history_cmp};
 ghost use Rattle.ft_model.specs.Scripts.{IsScript};
 ghost use Rattle.ft_model.specs.Worlds.{empty_world};
-ghost use Rattle.ft_bank.specs.Closings.{shape_in, lists_in, had_in, found_in, told_of};
+ghost use Rattle.ft_bank.specs.Closings.{shape_in, lists_in, had_in, found_in, told_of, PassesWereOnline};
 ghost use Rattle.ft_bank.specs.Passes.{shape_of, view};
 ghost use Rattle.ft_bank_history.specs.Numbering.{HaveNamedEntries};
 ghost use Rattle.ft_engine.specs.Callers.{IsCallerOf, bank_of, pass_of, thread_of};
@@ -16,6 +16,7 @@ ghost use Rattle.ft_bank_history.specs.Marks.{HaveScriptCalls};
 ghost use Rattle.ft_engine.specs.Contents.{AreShownIn, IsLegalWith};
 ghost use Rattle.ft_engine.specs.DoneCallers.{WereAnswered, IsCallerDone, AreNumberedFor, AreOfScript, IsLegalFor};
 ghost use Rattle.ft_engine.specs.Resting.{HasFloor};
+ghost use Rattle.ft_engine.specs.Presences.{WereOnline};
 
 use crate::caller::Caller;
 use crate::engine::Engine;
@@ -45,6 +46,7 @@ impl Engine {
         ensures order { IfOk result (λ made. IsSorted history_cmp made.0.items) }
         ensures shape { IfOk result (λ made. shape_in made.1 ≡ shape_of (bank_of self)) }
         ensures closed { IfOk result (λ made. HaveNamedEntries 0 (map (λ list. list.items) lists.items) (lists_in made.1) (had_in made.1) (found_in made.1) (told_of made.1)) }
+        ensures online { IfOk result (λ made. WereOnline caller → PassesWereOnline made.1) }
         ensures numbered { IfOk result (λ made. (script : ScriptParts) →
             AreOfScript script (shape_of (bank_of self)) (map (λ list. list.items) lists.items) →
             AreNumberedFor script (map (λ list. list.items) lists.items)) }

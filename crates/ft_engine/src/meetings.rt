@@ -1,15 +1,16 @@
 //! Callers that meet: one makes a note of what it has seen, and another learns it; and one takes in another that
 //! has made its last call.
-ghost use Rattle.std.specs.Prelude.{◌≡◌, ◌≤◌, ◌+◌, ◌++◌, List, length};
+ghost use Rattle.std.specs.Prelude.{◌≡◌, ◌≤◌, ◌+◌, ◌++◌, List, length, suc};
 ghost use Rattle.ft_model.specs.declared.entry.Entry.{Entry as NamedEntry};
-ghost use Rattle.ft_trace.specs.Acts.{announces, own_told, shown};
+ghost use Rattle.ft_trace.specs.Acts.{announces, own_told, presence_of, shown};
 ghost use Rattle.ft_bank.specs.Notes.{says, told_by, writes_seen, IsNoteOf};
 ghost use Rattle.ft_bank.specs.Passes.{view};
 ghost use Rattle.ft_bank.specs.PassSections.{stack_of};
-ghost use Rattle.ft_engine.specs.Callers.{IsCallerOf, IsIdle, bank_of, hands_of, left_of, pass_of, thread_of};
+ghost use Rattle.ft_engine.specs.Callers.{IsCallerOf, IsIdle, bank_of, hands_of, left_of, pass_of, taken_of, thread_of};
 ghost use Rattle.ft_engine.specs.DoneCallers.{WereAnswered, IsCallerDone};
 ghost use Rattle.ft_engine.specs.Keeping.{WasAnswered};
 ghost use Rattle.ft_engine.specs.declared.caller.Caller.{Caller as ACaller};
+ghost use Rattle.ft_engine.specs.Presences.{WereOnline};
 ghost use Rattle.ft_engine.specs.Resting.{IsRestingCallerOf, RestsAs, rests_in, token_count};
 ghost use Rattle.ft_engine.specs.SoFar.{AreAnswersRight};
 ghost use Rattle.ft_engine.specs.Visits.{SameCallerWork};
@@ -27,6 +28,7 @@ impl Engine {
         ensures caller { IsCallerOf self.now caller.new }
         ensures same { SameCallerWork caller.old caller.new }
         ensures announced { announces (view (pass_of caller.new)).log ≡ announces (view (pass_of caller.old)).log }
+        ensures presence { presence_of (view (pass_of caller.new)).log ≡ presence_of (view (pass_of caller.old)).log }
         ensures kept { (mine : List NamedEntry) → WasAnswered caller.old mine → WasAnswered caller.new mine }
         ensures note { IsNoteOf (bank_of self.now) result × (says result ≡ writes_seen (pass_of caller.old)) }
         ensures told { told_by result ≡ own_told (view (pass_of caller.old)) }
@@ -55,6 +57,7 @@ impl Engine {
         ensures caller { IsCallerOf self.now caller.new }
         ensures same { SameCallerWork caller.old caller.new }
         ensures announced { announces (view (pass_of caller.new)).log ≡ announces (view (pass_of caller.old)).log }
+        ensures presence { presence_of (view (pass_of caller.new)).log ≡ presence_of (view (pass_of caller.old)).log }
         ensures kept { (mine : List NamedEntry) → WasAnswered caller.old mine → WasAnswered caller.new mine }
         ensures seen { (says note ≤ writes_seen (pass_of caller.new)) × (writes_seen (pass_of caller.old) ≤ writes_seen (pass_of caller.new)) }
     {
@@ -73,6 +76,7 @@ impl Engine {
         ensures thread { thread_of caller.new ≡ thread_of caller.old }
         ensures idle { IsIdle caller.new }
         ensures announced { announces (view (pass_of caller.new)).log ≡ announces (view (pass_of caller.old)).log }
+        ensures presence { presence_of (view (pass_of caller.new)).log ≡ presence_of (view (pass_of caller.old)).log }
         ensures sections { stack_of (pass_of caller.new) ≡ stack_of (pass_of caller.old) }
         ensures cursors { hands_of caller.new ≡ hands_of caller.old }
         ensures left { left_of caller.new ≡ left_of caller.old }
@@ -84,6 +88,8 @@ impl Engine {
             thread_of other ≡ thread_of caller.old + length mine → WereAnswered caller.new (mine ++ theirs) }
         ensures right { (mine theirs : List (List NamedEntry)) → WereAnswered caller.old mine → WereAnswered other theirs →
             thread_of other ≡ thread_of caller.old + length mine → AreAnswersRight caller.new (mine ++ theirs) }
+        ensures online { WereOnline caller.old → WereOnline other →
+            thread_of other ≡ suc (thread_of caller.old + length (taken_of caller.old)) → WereOnline caller.new }
     {
         let Caller {
             pass,

@@ -1,18 +1,19 @@
 //! Callers that rest, for one hand that holds all callers of an engine. Each pass has a token at first, and takes steps
 //! only with one. A caller that has gathered the tokens of all others, which rest, takes the floor: it knows all words
 //! of the bank from then on, and so whom its tries find with locks. With its tokens it hands the floor on.
-ghost use Rattle.std.specs.Prelude.{◌≡◌, ◌≤◌, ◌+◌, ◌++◌, List, length};
+ghost use Rattle.std.specs.Prelude.{◌≡◌, ◌≤◌, ◌+◌, ◌++◌, List, length, suc};
 ghost use Rattle.ft_model.specs.declared.entry.Entry.{Entry as NamedEntry};
-ghost use Rattle.ft_trace.specs.Acts.{announces, seen_writes};
+ghost use Rattle.ft_trace.specs.Acts.{announces, seen_writes, presence_of};
 ghost use Rattle.ft_bank.specs.Floors.{AreTokensOf, carried, rests};
 ghost use Rattle.ft_bank.specs.Notes.{writes_seen};
 ghost use Rattle.ft_bank.specs.Passes.{shape_of, view};
 ghost use Rattle.ft_bank.specs.PassSections.{stack_of};
 ghost use Rattle.ft_engine.specs.declared.caller.Caller.{Caller as ACaller};
-ghost use Rattle.ft_engine.specs.Callers.{IsCallerOf, IsIdle, bank_of, hands_of, left_of, pass_of, thread_of};
+ghost use Rattle.ft_engine.specs.Callers.{IsCallerOf, IsIdle, bank_of, hands_of, left_of, pass_of, thread_of, taken_of};
 ghost use Rattle.ft_engine.specs.DoneCallers.{WereAnswered};
 ghost use Rattle.ft_engine.specs.SoFar.{AreAnswersRight};
 ghost use Rattle.ft_engine.specs.Resting.{HandsOn, HasFloor, IsAsBefore, IsRestDone, IsRestingCallerOf, IsWoken, KeepsFloor, RestsAs, rests_in, token_count};
+ghost use Rattle.ft_engine.specs.Presences.{WereOnline};
 
 use crate::caller::{Caller, Flight};
 use crate::engine::Engine;
@@ -78,6 +79,7 @@ impl Engine {
         ensures same { IsAsBefore caller.old caller.new }
         ensures floor { HasFloor caller.new }
         ensures kept { (lists : List (List NamedEntry)) → WereAnswered caller.old lists → WereAnswered caller.new lists }
+        ensures online { WereOnline caller.old → WereOnline caller.new }
     {
         self.bank.take_floor(&mut caller.pass);
     }
@@ -119,6 +121,7 @@ impl Engine {
         ensures thread { thread_of caller.new ≡ thread_of caller.old }
         ensures idle { IsIdle caller.new }
         ensures announced { announces (view (pass_of caller.new)).log ≡ announces (view (pass_of caller.old)).log }
+        ensures presence { presence_of (view (pass_of caller.new)).log ≡ presence_of (view (pass_of caller.old)).log }
         ensures sections { stack_of (pass_of caller.new) ≡ stack_of (pass_of caller.old) }
         ensures cursors { hands_of caller.new ≡ hands_of caller.old }
         ensures left { left_of caller.new ≡ left_of caller.old }
@@ -130,6 +133,8 @@ impl Engine {
             WereAnswered c theirs → thread_of c ≡ thread_of caller.old + length mine → WereAnswered caller.new (mine ++ theirs) }
         ensures right { (mine theirs : List (List NamedEntry)) (c : ACaller) → RestsAs c other → WereAnswered caller.old mine →
             WereAnswered c theirs → thread_of c ≡ thread_of caller.old + length mine → AreAnswersRight caller.new (mine ++ theirs) }
+        ensures online { (c : ACaller) → RestsAs c other → WereOnline caller.old → WereOnline c →
+            thread_of c ≡ suc (thread_of caller.old + length (taken_of caller.old)) → WereOnline caller.new }
     {
         let RestingCaller {
             pass,

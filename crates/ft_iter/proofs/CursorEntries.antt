@@ -58,7 +58,7 @@ answered-moved v u z called said n number left part loaded own is seen = record 
   loaded = loaded_then v u (view_after (ReadCounter n) u) loaded (loaded_by (ReadCounter n) u (view_after (ReadCounter n) u) tt refl);
   part = ReadCounter n ∷ part;
   own = ap (λ (l : List Act). ReadCounter n ∷ l) own;
-  counted = record { newer = []; rest = part; is = refl };
+  counted = record { newer = []; rest = part; is = refl; none = refl };
   answered = is ∙ ap (λ (had : Option Cursor). view_after (AnswerCursor called said n number had left) (view_after (ReadCounter n) u)) (loaded.work.pass.cursors number);
   seen = le_trans loaded.work.pass.seen seen;
 }

@@ -13,7 +13,7 @@ use Rattle.ft_trace.specs.declared.Shape.{Shape}
 use Rattle.ft_trace.specs.declared.View.{View}
 use Rattle.ft_trace.specs.Addresses.{container_count}
 use Rattle.ft_trace.specs.LookReplies.{item_reply}
-use Rattle.ft_trace.specs.LoggedReads.{Among}
+use Rattle.ft_bank.specs.LastLoads.{IsLastLoad}
 use Rattle.ft_trace.specs.Traces.{IsReachable}
 use Rattle.ft_trace.specs.ContainerStates.{kind_in}
 use Rattle.ft_bank.specs.Reads.{IsShown}
@@ -24,7 +24,7 @@ use Rattle.ft_search.specs.KeyLooks.{AreLooks}
 use Rattle.ft_search.proofs.Asking.{looks_own, looks_newer}
 use Rattle.ft_list.specs.ItemLooks.{ShowsItem, ShowsPast, StopsItemLook, IsItemContended}
 
-module _ (v w : View) (k : Shape) (o index n : ℕ) (part : List Act) (loaded : OnlyLoaded v w) (looks : AreLooks part) (own : w.log ≡ part ++ v.log) (counted : Among (ReadCounter n) part) (same : w.shape ≡ k) (low : o < container_count k) (left : 0 < v.left) (is : kind_in k.starts o ≡ kind.List) where
+module _ (v w : View) (k : Shape) (o index n : ℕ) (part : List Act) (loaded : OnlyLoaded v w) (looks : AreLooks part) (own : w.log ≡ part ++ v.log) (counted : IsLastLoad n part) (same : w.shape ≡ k) (low : o < container_count k) (left : 0 < v.left) (is : kind_in k.starts o ≡ kind.List) where
   may_ask : MayAsk w o n
   may_ask = record {
     low = subst (λ (z : Shape). o < container_count z) (sym same) low;

@@ -28,7 +28,7 @@ use Rattle.ft_trace.specs.Acts.{has_lock, view_after}
 use Rattle.ft_trace.specs.Addresses.{container_count, class_of, slots}
 use Rattle.ft_trace.specs.Holds.{held_words, known_state}
 use Rattle.ft_trace.specs.LookReplies.{item_reply}
-use Rattle.ft_trace.specs.LoggedReads.{Among, Agrees, LookedAtOne}
+use Rattle.ft_trace.specs.LoggedReads.{Agrees, LookedAtOne}
 use Rattle.ft_trace.specs.Pictures.{ContainerWords, root_in, item_field, Represents}
 use Rattle.ft_trace.specs.Traces.{IsReachable}
 use Rattle.ft_trace.specs.ContainerStates.{ContainerState, state_at, kind_in, reply_in}
@@ -48,12 +48,12 @@ use Rattle.ft_search.specs.KeyLooks.{AreLooks}
 use Rattle.ft_search.proofs.Asking.{held_shown}
 use Rattle.ft_search.proofs.Lengths.{IsPlain, between_own}
 use Rattle.ft_search.proofs.Running.{did_trans}
-use Rattle.ft_search.proofs.Rounding.{looks_append, among_in}
+use Rattle.ft_search.proofs.Rounding.{looks_append}
 use Rattle.ft_list.specs.Indexes.{item_named, IsItemNamed, ShowsNamed}
 use Rattle.ft_reads.specs.Reads.{Reads}
 use Rattle.ft_list.proofs.Lists.{list_content}
 use Rattle.ft_list.proofs.ItemWordsPut.{at_words, list_few}
-use Rattle.ft_reads.proofs.Agreeing.{among_older, agrees_older}
+use Rattle.ft_reads.proofs.Agreeing.{agrees_older}
 
 -- ---- what words say of a list
 
@@ -135,14 +135,19 @@ between_shows k o closed n part opened index found same even shows = record {
   mid = ReadCounter n ∷ part;
   between = record { version = opened; even = even; newer = []; rest = []; is = λ d. Version o (same d) ∷ ((ReadCounter n ∷ part) ++ Version o opened ∷ []) };
   counted = record { newer = []; rest = part; is = refl };
+  last = record {
+    version = opened;
+    even = even;
+    newer = [];
+    mid = [];
+    older = part;
+    rest = [];
+    is = λ d. Version o (same d) ∷ (ReadCounter n ∷ (part ++ Version o opened ∷ []));
+    none = refl;
+    none_between = refl;
+  };
   shows = λ x g. shows x (agrees_older k o x (ReadCounter n ∷ []) part g);
 }
-
-pub named_counted : (k : Shape) (o : ℕ) (index : ℤ) (found : Option Value) (n : ℕ) (part : List Act) → ShowsNamed k o index found n part → Among (ReadCounter n) part
-named_counted k o index found n part s =
-    let b = s.between in
-    let v = Version o b.version in
-    subst (λ (z : List Act). Among (ReadCounter n) z) (sym b.is) (among_older (ReadCounter n) b.newer (v ∷ (s.mid ++ v ∷ b.rest)) (among_in (ReadCounter n) (v ∷ []) s.mid (v ∷ b.rest) s.counted))
 
 pub get_shown : (v w : View) (o : ℕ) (index : ℤ) (found : Option Value) (n : ℕ) (part : List Act) → MayAsk w o n → w.log ≡ part ++ v.log → kind_in w.shape.starts o ≡ kind.List → ShowsNamed w.shape o index found n part → IsShown w (call.List o (list.Get index)) (item_reply found) n
 get_shown v w o index found n part ask own is s =

@@ -15,10 +15,11 @@ use Rattle.ft_bank.specs.Passes.{view}
 use Rattle.ft_bank.specs.Series.{DidAll}
 use Rattle.ft_bank.specs.declared.table.Table.{Table}
 use Rattle.ft_bank.specs.TableNames.{table_id, IsTableIn}
+use Rattle.ft_bank.proofs.LastLoads.{last_older}
 use Rattle.ft_bank.proofs.TableAddresses.{class_is}
 use Rattle.ft_search.specs.Rounds.{IsFresh}
 use Rattle.ft_search.proofs.Running.{did_trans, did_log, window_of}
-use Rattle.ft_search.proofs.Rounding.{looks_inner, among_in, container_in, bare_acts, bare_of, rounds_left, falls as round_falls}
+use Rattle.ft_search.proofs.Rounding.{looks_inner, among_in, bare_acts, bare_between, bare_last, bare_of, container_in, ends_older, last_read, rounds_left, falls as round_falls}
 use Rattle.ft_list.specs.declared.looks.LookedItem.{LookedItem}
 use Rattle.ft_list.specs.declared.looks.LookedItem.TheVariants.{Item, Past, Contended}
 use Rattle.ft_list.specs.declared.looks.ItemRound.{ItemRound}
@@ -61,7 +62,7 @@ item_closes o t index seen low same even =
           record { newer = ReadCounter seen.number ∷ []; rest = ReadTable t (item_offset index 1) seen.kind ∷ []; is = refl },
         );
       }),
-      record { newer = ReadTable t (item_offset index 0) seen.closed ∷ []; rest = ReadTable t (item_offset index 2) seen.payload ∷ (ReadTable t (item_offset index 1) seen.kind ∷ (ReadTable t (item_offset index 0) seen.opened ∷ [])); is = refl },
+      record { newer = ReadTable t (item_offset index 0) seen.closed ∷ []; rest = ReadTable t (item_offset index 2) seen.payload ∷ (ReadTable t (item_offset index 1) seen.kind ∷ (ReadTable t (item_offset index 0) seen.opened ∷ [])); is = refl; none = refl },
     )
 
 pub item_stops : (o t index : ℕ) (seen : SeenItem) → index < slots (class_of t) → (seen.opened % 2 ≢ 0) ⊎ (seen.closed ≢ seen.opened) → ItemClosesAt o t index (item_acts t index seen) (Contended seen.opened seen.closed)
@@ -77,7 +78,7 @@ item_stops o t index seen low why = record {
 pub past_closes : (o t index n : ℕ) → slots (class_of t) ≤ index → ItemClosesAt o t index (ReadCounter n ∷ []) (Past n)
 past_closes o t index n high = (
   (λ log window. inl (t, high, record { walk = ReadCounter n ∷ []; window = window; stamp = record { newer = []; rest = []; is = refl } })),
-  record { newer = []; rest = []; is = refl },
+  record { newer = []; rest = []; is = refl; none = refl },
 )
 
 -- the root was read again and has changed
@@ -104,8 +105,8 @@ item_in t index a b new part old h =
     }
 
 pub found_in : (k : Shape) (o index : ℕ) (part old log : List Act) (found : LookedItem) → ShowsFound k o index part log found → ShowsFound k o index (part ++ old) log found
-found_in k o index part old log (Item kind payload n) h = (h.0, among_in (ReadCounter n) [] part old h.1)
-found_in k o index part old log (Past n) h = (h.0, among_in (ReadCounter n) [] part old h.1)
+found_in k o index part old log (Item kind payload n) h = (h.0, last_older n part old h.1, ends_older o n part old h.2)
+found_in k o index part old log (Past n) h = (h.0, last_older n part old h.1, ends_older o n part old h.2)
 found_in k o index part old log (Contended a b) h =
     ⊎_elim (λ x. inl (x.0, among_in (ReadRoot o (suc x.0)) [] part old x.1, item_in x.0 index a b [] part old x.2)) (λ x. inr (container_in o a b [] part old x)) h
 
@@ -116,11 +117,11 @@ at_table k o index t p q (Moved r) rest last e = (e.0, e.1, e.2, e.3, e.4)
 at_table k o index t p q (Ended (Item kind payload n)) rest last e =
     let part = e.0 in
     let win = window_of o t part rest p q e.2 last e.1 in
-    (ReadRoot o (suc t) ∷ part, looks_inner part e.1, e.2, (e.3.0 (view q).log win, among_in (ReadCounter n) (ReadRoot o (suc t) ∷ []) part (ReadRoot o (suc t) ∷ []) e.3.1))
+    (ReadRoot o (suc t) ∷ part, looks_inner part e.1, e.2, (e.3.0 (view q).log win, last_read o (suc t) n part (ReadRoot o (suc t) ∷ []) e.3.1, inl (t, part ++ ReadRoot o (suc t) ∷ [], refl)))
 at_table k o index t p q (Ended (Past n)) rest last e =
     let part = e.0 in
     let win = window_of o t part rest p q e.2 last e.1 in
-    (ReadRoot o (suc t) ∷ part, looks_inner part e.1, e.2, (e.3.0 (view q).log win, among_in (ReadCounter n) (ReadRoot o (suc t) ∷ []) part (ReadRoot o (suc t) ∷ []) e.3.1))
+    (ReadRoot o (suc t) ∷ part, looks_inner part e.1, e.2, (e.3.0 (view q).log win, last_read o (suc t) n part (ReadRoot o (suc t) ∷ []) e.3.1, inl (t, part ++ ReadRoot o (suc t) ∷ [], refl)))
 at_table k o index t p q (Ended (Contended a b)) rest last e =
     let part = e.0 in
     (ReadRoot o (suc t) ∷ part, looks_inner part e.1, e.2, inl (t, record { newer = []; rest = part ++ ReadRoot o (suc t) ∷ []; is = refl }, item_in t index a b (ReadRoot o (suc t) ∷ []) part (ReadRoot o (suc t) ∷ []) e.3))
@@ -130,7 +131,11 @@ bare_past k o closed n root opened index p q did none same even = (
   bare_acts o closed n root opened,
   tt,
   did,
-  (inr (bare_of o closed n root opened p q did none same even), record { newer = Version o closed ∷ []; rest = ReadRoot o root ∷ (Version o opened ∷ (ReadRoot o 0 ∷ [])); is = refl }),
+  (
+    inr (bare_of o closed n root opened p q did none same even),
+    bare_last o closed n root opened,
+    inr (bare_between o closed n root opened same even),
+  ),
 )
 
 -- a round after which the root has changed leaves fewer changes

@@ -76,9 +76,9 @@ raise_answered v w z called said n is done settled possible = record {
   loaded = loaded_by (ReadCounter n) v w tt is;
   part = ReadCounter n ∷ [];
   own = ap (λ (u : View). u.log) is;
-  counted = record { newer = []; rest = []; is = refl };
+  counted = record { newer = []; rest = []; is = refl; none = refl };
   answered = done;
-  seen = answered_seen v w z called said (ReadCounter n ∷ []) n (ap (λ (u : View). u.log) is) (record { newer = []; rest = []; is = refl }) done settled possible;
+  seen = answered_seen v w z called said (ReadCounter n ∷ []) n (ap (λ (u : View). u.log) is) (record { newer = []; rest = []; is = refl; none = refl }) done settled possible;
 }
 
 -- l[i] = v, del l[i], l.pop(i) and l.remove(v), where there is no such item

@@ -16,6 +16,7 @@ use Rattle.ft_trace.specs.declared.View.{View}
 use Rattle.ft_trace.specs.LoggedReads.{Agrees, Among, Between}
 use Rattle.ft_trace.specs.Pictures.{ContainerWords, root_in, item_field, Represents}
 use Rattle.ft_trace.specs.ContainerStates.{ContainerState}
+use Rattle.ft_bank.specs.LastLoads.{IsLastBetween}
 use Rattle.ft_section.specs.declared.answers.Look.{Look}
 use Rattle.ft_search.specs.Lengths.{StopsAtVersion, IsGlanceOf}
 use Rattle.ft_list.specs.declared.gets.AtIndex.{AtIndex}
@@ -48,11 +49,12 @@ IsItemNamed k index found x =
     → found ≡ item_named (list_of kept.content) index
 
 -- Between two loads of the version of the list that gave the same even number, the counter was loaded, and words that
--- show which item the index names.
+-- show which item the index names; the counter was not loaded again.
 pub record ShowsNamed (k : Shape) (o : ℕ) (index : ℤ) (found : Option Value) (n : ℕ) (part : List Act) : Type 0 where
   pub mid : List Act
   pub between : Between part o mid
   pub counted : Among (ReadCounter n) mid
+  pub last : IsLastBetween o n part
   pub shows : (x : ContainerWords) → Agrees k o mid x → IsItemNamed k index found x
 
 -- what these loads show of the list

@@ -13,11 +13,12 @@ use Rattle.ft_trace.specs.LoggedLookUps.{Inner, LookUpWindow, Bare, ItemHit, Ite
 use Rattle.ft_trace.specs.LookReplies.{IsItemRead, item_reply}
 use Rattle.ft_bank.specs.declared.pass.Pass.{Pass}
 use Rattle.ft_bank.specs.Answered.{Answered}
+use Rattle.ft_bank.specs.LastLoads.{IsLastLoad}
 use Rattle.ft_bank.specs.Passes.{view}
 use Rattle.ft_bank.specs.Reads.{IsShown}
 use Rattle.ft_bank.specs.Whole.{OnlyLoaded}
 use Rattle.ft_bank.specs.Series.{DidAll}
-use Rattle.ft_search.specs.KeyLooks.{AreLooks, StopsAtContainer}
+use Rattle.ft_search.specs.KeyLooks.{AreLooks, EndsLook, StopsAtContainer}
 use Rattle.ft_search.specs.Rounds.{IsFresh}
 use Rattle.ft_section.specs.declared.answers.Look.{Look}
 use Rattle.ft_section.specs.declared.answers.Look.TheVariants as look
@@ -66,20 +67,21 @@ abbrev pub StopsItemLook : ℕ → ℕ → ℕ → ℕ → List Act → Type 0
 StopsItemLook o index a b part =
     ((t : ℕ) × Among (ReadRoot o (suc t)) part × StopsAtItem t index a b part) ⊎ StopsAtContainer o a b part
 
--- A look-up came to this, by its own loads (`part`) and those before (`log` has both). It is contended by the version
--- of that very item, in a table that its root was read to name; or by the version of the list, whose root was read 0
--- between.
+-- A look-up came to this, by its own loads (`part`) and those before (`log` has both), at what it loaded last as the
+-- counter. It is contended by the version of that very item, in a table that its root was read to name; or by the
+-- version of the list, whose root was read 0 between.
 abbrev pub ShowsFound : Shape → ℕ → ℕ → List Act → List Act → LookedItem → Type 0
-ShowsFound k o index part log (Item kind payload n) = ShowsItem o index kind payload n log × Among (ReadCounter n) part
-ShowsFound k o index part log (Past n) = ShowsPast o index n log × Among (ReadCounter n) part
+ShowsFound k o index part log (Item kind payload n) =
+    ShowsItem o index kind payload n log × IsLastLoad n part × EndsLook o n part
+ShowsFound k o index part log (Past n) = ShowsPast o index n log × IsLastLoad n part × EndsLook o n part
 ShowsFound k o index part log (Contended a b) = StopsItemLook o index a b part
 
 -- what these loads show once the root is read again and still names the table t
 abbrev pub ItemClosesAt : ℕ → ℕ → ℕ → List Act → LookedItem → Type 0
 ItemClosesAt o t index part (Item kind payload n) =
-    ((log : List Act) → LookUpWindow log o t part → ShowsItem o index kind payload n log) × Among (ReadCounter n) part
+    ((log : List Act) → LookUpWindow log o t part → ShowsItem o index kind payload n log) × IsLastLoad n part
 ItemClosesAt o t index part (Past n) =
-    ((log : List Act) → LookUpWindow log o t part → ShowsPast o index n log) × Among (ReadCounter n) part
+    ((log : List Act) → LookUpWindow log o t part → ShowsPast o index n log) × IsLastLoad n part
 ItemClosesAt o t index part (Contended a b) = StopsAtItem t index a b part
 
 -- a round over the table t, which the last read of the root named
@@ -110,13 +112,16 @@ pub record IsItemContended (o index a b : ℕ) (v w : View) : Type 0 where
 abbrev pub IsItemFoundAt : ℕ → ℕ → View → View → AtIndex → Type 0
 IsItemFoundAt o index v w (AtFound found n) =
     OnlyLoaded v w × IsShown w (call.List o (list.Get (pos index))) (item_reply found) n
-    × ((part : List Act) × (w.log ≡ part ++ v.log) × Among (ReadCounter n) part)
+    × ((part : List Act) × (w.log ≡ part ++ v.log) × IsLastLoad n part × EndsLook o n part)
 IsItemFoundAt o index v w (AtContended a b) = IsItemContended o index a b v w
 
 -- What `l[i]` answers without the lock at an index that isn't negative. It gave a reply, which is the one that its
--- entry has, with a stamp that it loaded; or it was contended. It takes no memory.
+-- entry has, at the counter that it loaded last; after that it read that the root names a table, or else it loaded that
+-- counter between two loads of the list's version that gave the same even number. Or it was contended. It takes no
+-- memory.
 abbrev pub IsGetOf : ℕ → ℕ → View → View → Look → Type 0
 IsGetOf o index v w (look.Done said stamp) =
-    Answered (call.List o (list.Get (pos index))) said stamp.number v w × (stamp.wrote ≡ false)
+    (x : Answered (call.List o (list.Get (pos index))) said stamp.number v w) × (stamp.wrote ≡ false)
+    × EndsLook o stamp.number x.part
 IsGetOf o index v w (look.Contended a b) = IsItemContended o index a b v w
 IsGetOf o index v w look.NoMemory = ⊥

@@ -3,9 +3,9 @@ use Rattle.std.proofs.Common.{◌≡◌, ◌⊎◌, ℕ, zero, suc, ◌≤◌, l
 use mathlib.Core.Logic.{dite}
 use native.Mathlib.Decide.{ℕ_discrete}
 use Rattle.ft_trace.specs.declared.Act.{Act}
-use Rattle.ft_trace.specs.declared.Act.TheVariants.{Lock, Unlock, Answer, AnswerCursor, TakeFloor, TookOver, ReadHeader, GiveTable, RaiseCount, PutHeader, Retire}
+use Rattle.ft_trace.specs.declared.Act.TheVariants.{Lock, Unlock, Answer, AnswerCursor, TakeFloor, TookOver, ReadHeader, GiveTable, RaiseCount, PutHeader, Retire, Commit, Announce}
 use Rattle.ft_trace.specs.declared.View.{View}
-use Rattle.ft_trace.specs.Acts.{flight, seen_writes, stage}
+use Rattle.ft_trace.specs.Acts.{flight, seen_writes, stage, presence_of}
 use Rattle.ft_trace.specs.Floors.{at_floor}
 use Rattle.ft_trace.specs.Owners.{SameOwners}
 use Rattle.ft_trace.specs.Hands.{cursor_in}
@@ -17,11 +17,11 @@ use Rattle.ft_bank.specs.declared.takings.Took.TheVariants as took
 use Rattle.ft_bank.specs.Series.{noted_all}
 use Rattle.ft_bank.specs.declared.table.Table.{Table}
 use Rattle.ft_bank.specs.Takings.{Cleared, IsTaking, KeepsBut, loads_of_none, lowered}
-use Rattle.ft_bank.specs.Logs.{HasGrown}
+use Rattle.ft_bank.specs.Logs.{HasGrown, StaysOnline}
 use Rattle.ft_bank.specs.Whole.{SamePass}
 use Rattle.ft_qsbr.specs.Collecting.{AreGivings, StaysOrGoes, loads_of}
 
--- none of these adds an entry, takes a lock or lets it go, takes the floor or takes another pass in
+-- none of these adds an entry, announces, takes a lock or lets it go, takes the floor or takes another pass in
 abbrev pub LeavePass : List Act → Type 0
 LeavePass [] = Unit {0}
 LeavePass (Answer c r n ∷ l) = ⊥
@@ -30,6 +30,8 @@ LeavePass (Unlock o ∷ l) = ⊥
 LeavePass (TakeFloor f s ∷ l) = ⊥
 LeavePass (Lock o f s ∷ l) = ⊥
 LeavePass (TookOver tables had found told ∷ l) = ⊥
+LeavePass (Commit c r f s ∷ l) = ⊥
+LeavePass (Announce p n ∷ l) = ⊥
 LeavePass (act ∷ l) = LeavePass l
 
 leave_then : (xs ys : List Act) → LeavePass xs → LeavePass ys → LeavePass (xs ++ ys)
@@ -40,6 +42,8 @@ leave_then (Unlock o ∷ xs) ys x y = absurd x
 leave_then (TakeFloor f s ∷ xs) ys x y = absurd x
 leave_then (Lock o f s ∷ xs) ys x y = absurd x
 leave_then (TookOver tables had found told ∷ xs) ys x y = absurd x
+leave_then (Commit c r f s ∷ xs) ys x y = absurd x
+leave_then (Announce p n ∷ xs) ys x y = absurd x
 leave_then (a ∷ xs) ys x y = leave_then xs ys x y
 
 pub begun_stays : (acts : List Act) (v : View) → LeavePass acts → begun (noted_all acts v).log ≡ begun v.log
@@ -50,6 +54,8 @@ begun_stays (Unlock o ∷ l) v ok = absurd ok
 begun_stays (TakeFloor f s ∷ l) v ok = absurd ok
 begun_stays (Lock o f s ∷ l) v ok = absurd ok
 begun_stays (TookOver tables had found told ∷ l) v ok = absurd ok
+begun_stays (Commit c r f s ∷ l) v ok = absurd ok
+begun_stays (Announce p n ∷ l) v ok = absurd ok
 begun_stays (a ∷ l) v ok = begun_stays l v ok
 
 pub cursors_stay : (acts : List Act) (v : View) (number : ℕ) → LeavePass acts → cursor_in number (noted_all acts v).log ≡ cursor_in number v.log
@@ -60,6 +66,8 @@ cursors_stay (Unlock o ∷ l) v number ok = absurd ok
 cursors_stay (TakeFloor f s ∷ l) v number ok = absurd ok
 cursors_stay (Lock o f s ∷ l) v number ok = absurd ok
 cursors_stay (TookOver tables had found told ∷ l) v number ok = absurd ok
+cursors_stay (Commit c r f s ∷ l) v number ok = absurd ok
+cursors_stay (Announce p n ∷ l) v number ok = absurd ok
 cursors_stay (a ∷ l) v number ok = cursors_stay l v number ok
 
 pub floor_stays : (acts : List Act) (v : View) → LeavePass acts → (noted_all acts v).has_floor ≡ v.has_floor
@@ -70,6 +78,8 @@ floor_stays (Unlock o ∷ l) v ok = absurd ok
 floor_stays (TakeFloor f s ∷ l) v ok = absurd ok
 floor_stays (Lock o f s ∷ l) v ok = absurd ok
 floor_stays (TookOver tables had found told ∷ l) v ok = absurd ok
+floor_stays (Commit c r f s ∷ l) v ok = absurd ok
+floor_stays (Announce p n ∷ l) v ok = absurd ok
 floor_stays (a ∷ l) v ok = floor_stays l v ok
 
 pub since_stays : (acts : List Act) (v : View) → LeavePass acts → at_floor (noted_all acts v).log ≡ at_floor v.log
@@ -80,6 +90,8 @@ since_stays (Unlock o ∷ l) v ok = absurd ok
 since_stays (TakeFloor f s ∷ l) v ok = absurd ok
 since_stays (Lock o f s ∷ l) v ok = absurd ok
 since_stays (TookOver tables had found told ∷ l) v ok = absurd ok
+since_stays (Commit c r f s ∷ l) v ok = absurd ok
+since_stays (Announce p n ∷ l) v ok = absurd ok
 since_stays (a ∷ l) v ok = since_stays l v ok
 
 pub owners_stay : (acts : List Act) (v : View) → LeavePass acts → SameOwners v (noted_all acts v)
@@ -90,7 +102,21 @@ owners_stay (Unlock o ∷ l) v ok = absurd ok
 owners_stay (TakeFloor f s ∷ l) v ok = absurd ok
 owners_stay (Lock o f s ∷ l) v ok = absurd ok
 owners_stay (TookOver tables had found told ∷ l) v ok = absurd ok
+owners_stay (Commit c r f s ∷ l) v ok = absurd ok
+owners_stay (Announce p n ∷ l) v ok = absurd ok
 owners_stay (a ∷ l) v ok = let same = owners_stay l v ok in record { had = same.had; found = same.found }
+
+pub presence_stays : (acts : List Act) (v : View) → LeavePass acts → presence_of (noted_all acts v).log ≡ presence_of v.log
+presence_stays [] v ok = refl
+presence_stays (Commit c r f s ∷ l) v ok = absurd ok
+presence_stays (Answer c r n ∷ l) v ok = absurd ok
+presence_stays (AnswerCursor c r n m f t ∷ l) v ok = absurd ok
+presence_stays (Announce p n ∷ l) v ok = absurd ok
+presence_stays (Unlock o ∷ l) v ok = absurd ok
+presence_stays (TakeFloor f s ∷ l) v ok = absurd ok
+presence_stays (Lock o f s ∷ l) v ok = absurd ok
+presence_stays (TookOver tables had found told ∷ l) v ok = absurd ok
+presence_stays (a ∷ l) v ok = presence_stays l v ok
 
 pub seen_stays : (acts : List Act) (v : View) → seen_writes v ≤ seen_writes (noted_all acts v)
 seen_stays [] v = le_refl (seen_writes v)
@@ -154,8 +180,8 @@ taking_leaves class (took.Moved a b) acts x =
 
 -- ---- the pass
 
-pub same_by : (F : ℕ → Type 0) (v w : View) → KeepsBut F v w → flight w.log ≡ flight v.log → begun w.log ≡ begun v.log → ((n : ℕ) → cursor_in n w.log ≡ cursor_in n v.log) → w.has_floor ≡ v.has_floor → at_floor w.log ≡ at_floor v.log → SameOwners v w → w.learnt ≡ v.learnt → seen_writes v ≤ seen_writes w → HasGrown v w → SamePass v w
-same_by F v w keeps idle sections cursors floor since owners learnt seen grown = record {
+pub same_by : (F : ℕ → Type 0) (v w : View) → KeepsBut F v w → flight w.log ≡ flight v.log → begun w.log ≡ begun v.log → ((n : ℕ) → cursor_in n w.log ≡ cursor_in n v.log) → w.has_floor ≡ v.has_floor → at_floor w.log ≡ at_floor v.log → SameOwners v w → w.learnt ≡ v.learnt → seen_writes v ≤ seen_writes w → HasGrown v w → StaysOnline v w → SamePass v w
+same_by F v w keeps idle sections cursors floor since owners learnt seen grown present = record {
   number = keeps.held.number;
   next = keeps.held.next;
   parts = keeps.held.parts;
@@ -174,9 +200,10 @@ same_by F v w keeps idle sections cursors floor since owners learnt seen grown =
   learnt = learnt;
   seen = seen;
   grown = grown;
+  present = present;
 }
 
 pub retirement_same : (t n g : ℕ) (v w : View) → w ≡ noted_all (PutHeader t g ∷ Retire t n ∷ []) v → SamePass v w
 retirement_same t n g v w is =
     subst (SamePass v) (sym is)
-    (record { number = refl; next = refl; parts = refl; shape = refl; locks = λ p. refl; writes = λ p. refl; announced = refl; flight = refl; begun = refl; cursors = λ n. refl; tokens = refl; lists = refl; floor = refl; since = refl; owners = record { had = refl; found = refl }; learnt = refl; seen = le_refl (seen_writes v); grown = λ old was. inr (inr was) })
+    (record { number = refl; next = refl; parts = refl; shape = refl; locks = λ p. refl; writes = λ p. refl; announced = refl; flight = refl; begun = refl; cursors = λ n. refl; tokens = refl; lists = refl; floor = refl; since = refl; owners = record { had = refl; found = refl }; learnt = refl; seen = le_refl (seen_writes v); grown = λ old was. inr (inr was); present = λ is. is })

@@ -1,5 +1,5 @@
 -- From what loads between two loads of a container's version show to what a call may answer.
-use Rattle.std.proofs.Common.{◌≡◌, ◌≢◌, ◌≤◌, ℕ, ◌<◌, List, [], ◌∷◌, ◌++◌, refl, sym, ap, ◌∙◌, subst, append_assoc}
+use Rattle.std.proofs.Common.{◌≡◌, ◌≢◌, ◌≤◌, ℕ, ◌<◌, false, List, [], ◌∷◌, ◌++◌, refl, sym, ap, ◌∙◌, subst, append_assoc}
 use Rattle.ft_model.specs.declared.call.Call.{Call}
 use Rattle.ft_model.specs.declared.reply.Reply.{Reply}
 use Rattle.ft_model.specs.declared.reply.Reply.TheVariants as reply
@@ -11,25 +11,26 @@ use Rattle.ft_trace.specs.declared.Shape.{Shape}
 use Rattle.ft_trace.specs.declared.View.{View}
 use Rattle.ft_trace.specs.Acts.{view_after, shown}
 use Rattle.ft_trace.specs.Addresses.{container_count}
-use Rattle.ft_trace.specs.LoggedReads.{Among, Between, LookedAtOne, LookedAtBoth}
+use Rattle.ft_trace.specs.LoggedReads.{Between, LookedAtOne, LookedAtBoth}
 use Rattle.ft_trace.specs.Traces.{IsReachable}
 use Rattle.ft_trace.specs.Pictures.{ContainerWords, Represents}
 use Rattle.ft_trace.specs.ContainerStates.{kind_in, state_at, reply_in}
 use Rattle.ft_bank.specs.declared.pass.Pass.{Pass}
-use Rattle.ft_bank.specs.Answered.{Answered}
+use Rattle.ft_bank.specs.LastLoads.{IsLastBetween, IsLastLoad}
 use Rattle.ft_bank.specs.Passes.{view}
 use Rattle.ft_bank.specs.Reads.{IsShown}
 use Rattle.ft_bank.specs.Series.{DidAll}
 use Rattle.ft_bank.specs.Whole.{OnlyLoaded}
 use Rattle.ft_bank.proofs.ShownReplies.{looks_are_shown, looks_at_both_are_shown}
-use Rattle.ft_search.specs.Lengths.{IsStopped}
+use Rattle.ft_section.specs.declared.answers.Look.TheVariants as look
+use Rattle.ft_search.specs.Lengths.{IsGlanceOf, IsStopped}
 use Rattle.ft_search.specs.KeyLooks.{AreLooks}
 use Rattle.ft_search.proofs.Asking.{may_ask, answered_after}
 use Rattle.ft_search.proofs.Lengths.{IsPlain, between_own}
 use Rattle.ft_search.proofs.Rounding.{looks_append, looks_did}
 use Rattle.ft_search.proofs.Running.{did_log, did_trans}
 use Rattle.ft_reads.specs.Reads.{Reads}
-use Rattle.ft_reads.specs.Pairs.{ReadsBoth}
+use Rattle.ft_reads.specs.Pairs.{IsGlanceOfBoth, ReadsBoth}
 use Rattle.ft_reads.proofs.Agreeing.{agrees_newer, agrees_older}
 use Rattle.ft_reads.specs.declared.window.Window.{Window}
 use Rattle.ft_reads.specs.Glances.{HasMoved, WasStill, LoadedSome, Saw, SawBoth}
@@ -71,8 +72,8 @@ module _ (k : Shape) (o : ℕ) (shows : ContainerWords → Type 0) (w : Window) 
   own : (view q).log ≡ acts ++ (view p).log
   own = did_log acts p q saw.2
 
-  counted : Among (ReadCounter w.number) acts
-  counted = record { newer = Version o w.closed ∷ []; rest = part ++ Version o w.opened ∷ []; is = refl }
+  counted : IsLastLoad w.number acts
+  counted = record { newer = Version o w.closed ∷ []; rest = part ++ Version o w.opened ∷ []; is = refl; none = refl }
 
   pub saw_loaded : OnlyLoaded (view p) (view q)
   saw_loaded = looks_did acts p q looks saw.2
@@ -96,8 +97,24 @@ module _ (k : Shape) (o : ℕ) (shows : ContainerWords → Type 0) (w : Window) 
     stops = record { newer = []; mid = ReadCounter w.number ∷ part; rest = []; is = refl; moved = moved };
   }
 
-  pub saw_answered : (called : Call) (said : Reply) (z : View) → z ≡ view_after (Answer called said w.number) (view q) → (view p).learnt ≤ shown (view p).log → ∥ IsReachable z ∥₁ → Answered called said w.number (view p) z
-  saw_answered called said z did settled possible = answered_after (view p) (view q) z called said w.number acts saw_loaded own counted did settled possible
+  -- the counter was loaded last between the two loads of the version
+  saw_last : WasStill w → IsLastBetween o w.number acts
+  saw_last still = record {
+    version = w.opened;
+    even = still.1;
+    newer = [];
+    mid = [];
+    older = part;
+    rest = [];
+    is = λ d. Version o (still.0 d) ∷ (ReadCounter w.number ∷ (part ++ Version o w.opened ∷ []));
+    none = refl;
+    none_between = refl;
+  }
+
+  pub saw_answered : (called : Call) (said : Reply) (z : View) → z ≡ view_after (Answer called said w.number) (view q) → (view p).learnt ≤ shown (view p).log → ∥ IsReachable z ∥₁ → WasStill w → IsGlanceOf o called (view p) z (look.Done said (record { number = w.number; wrote = false }))
+  saw_answered called said z did settled possible still =
+      let a = answered_after (IsLastBetween o w.number) (view p) (view q) z called said w.number acts saw_loaded own counted did settled possible (saw_last still) in
+      (a.0, refl, a.1)
 
   module _ (called : Call) (said : Reply) (plain : IsPlain called said) (other : said ≢ reply.Kept) (replied : (x : ContainerWords) (stored : StoredWorld) → kind_of (state_at stored o).content ≡ kind_in k.starts o → Represents k.texts x (state_at stored o) → shows x → reply_in stored called ≡ said) where
     looked : WasStill w → LookedAtOne k called o said w.number (view q).log
@@ -132,8 +149,8 @@ module _ (k : Shape) (o m : ℕ) (shows : ContainerWords → ContainerWords → 
   both_own : (view q).log ≡ both_acts ++ (view p).log
   both_own = did_log both_acts p q saw.2
 
-  both_counted : Among (ReadCounter w.number) both_acts
-  both_counted = record { newer = Version o w.closed ∷ (Version m u.closed ∷ []); rest = both ++ opens; is = refl }
+  both_counted : IsLastLoad w.number both_acts
+  both_counted = record { newer = Version o w.closed ∷ (Version m u.closed ∷ []); rest = both ++ opens; is = refl; none = refl }
 
   saw_both_loaded : OnlyLoaded (view p) (view q)
   saw_both_loaded = looks_did both_acts p q both_looks saw.2
@@ -166,8 +183,37 @@ module _ (k : Shape) (o m : ℕ) (shows : ContainerWords → ContainerWords → 
     stops = record { newer = Version o w.closed ∷ []; mid = other_mid; rest = Version o w.opened ∷ []; is = refl; moved = moved };
   }
 
-  pub saw_both_answered : (called : Call) (said : Reply) (z : View) → z ≡ view_after (Answer called said w.number) (view q) → (view p).learnt ≤ shown (view p).log → ∥ IsReachable z ∥₁ → Answered called said w.number (view p) z
-  saw_both_answered called said z did settled possible = answered_after (view p) (view q) z called said w.number both_acts saw_both_loaded both_own both_counted did settled possible
+  -- the counter was loaded last between the two loads of the version of each
+  saw_both_last : WasStill w → WasStill u → IsLastBetween o w.number both_acts × IsLastBetween m w.number both_acts
+  saw_both_last still calm = (
+    record {
+      version = w.opened;
+      even = still.1;
+      newer = [];
+      mid = Version m u.closed ∷ [];
+      older = both ++ Version m u.opened ∷ [];
+      rest = [];
+      is = first_is ∙ (λ d. Version o (still.0 d) ∷ (first_mid ++ Version o w.opened ∷ []));
+      none = refl;
+      none_between = refl;
+    },
+    record {
+      version = u.opened;
+      even = calm.1;
+      newer = Version o w.closed ∷ [];
+      mid = [];
+      older = both;
+      rest = Version o w.opened ∷ [];
+      is = λ d. Version o w.closed ∷ (Version m (calm.0 d) ∷ (other_mid ++ Version m u.opened ∷ (Version o w.opened ∷ [])));
+      none = refl;
+      none_between = refl;
+    },
+  )
+
+  pub saw_both_answered : (called : Call) (said : Reply) (z : View) → z ≡ view_after (Answer called said w.number) (view q) → (view p).learnt ≤ shown (view p).log → ∥ IsReachable z ∥₁ → WasStill w → WasStill u → IsGlanceOfBoth o m called (view p) z (look.Done said (record { number = w.number; wrote = false }))
+  saw_both_answered called said z did settled possible still calm =
+      let a = answered_after (λ l. IsLastBetween o w.number l × IsLastBetween m w.number l) (view p) (view q) z called said w.number both_acts saw_both_loaded both_own both_counted did settled possible (saw_both_last still calm) in
+      (a.0, refl, a.1.0, a.1.1)
 
   both_between : WasStill w → WasStill u → Between both_acts o first_mid × Between both_acts m other_mid
   both_between still calm = (

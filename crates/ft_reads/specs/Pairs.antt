@@ -11,6 +11,7 @@ use Rattle.ft_trace.specs.LoggedReads.{Agrees}
 use Rattle.ft_trace.specs.Pictures.{ContainerWords}
 use Rattle.ft_bank.specs.declared.pass.Pass.{Pass}
 use Rattle.ft_bank.specs.Answered.{Answered}
+use Rattle.ft_bank.specs.LastLoads.{IsLastBetween}
 use Rattle.ft_bank.specs.Passes.{view}
 use Rattle.ft_bank.specs.Series.{DidAll}
 use Rattle.ft_section.specs.declared.answers.Look.{Look}
@@ -27,9 +28,11 @@ ReadsBoth k o m shows p q =
     × ((c : ℕ) → c < container_count k → has_lock c (view p).log ≡ true → Agrees k c part (held_words c (view p)))
 
 -- What a call answers that reads two containers, each between two loads of its version. It gave a reply, which is the
--- one that its entry has, with a stamp that it loaded; or the version of one of the two stopped it. It takes no memory.
+-- one that its entry has, at the counter that it loaded last, and of each of the two between two loads of its version
+-- that gave the same even number; or the version of one of the two stopped it. It takes no memory.
 abbrev pub IsGlanceOfBoth : ℕ → ℕ → Call → View → View → Look → Type 0
 IsGlanceOfBoth o m called v w (look.Done said stamp) =
-    Answered called said stamp.number v w × (stamp.wrote ≡ false)
+    (x : Answered called said stamp.number v w) × (stamp.wrote ≡ false)
+    × IsLastBetween o stamp.number x.part × IsLastBetween m stamp.number x.part
 IsGlanceOfBoth o m called v w (look.Contended a b) = IsStopped o a b v w ⊎ IsStopped m a b v w
 IsGlanceOfBoth o m called v w look.NoMemory = ⊥

@@ -10,7 +10,7 @@ use Rattle.ft_trace.specs.declared.Act.TheVariants.{StartWrite, PutRoot, Commit,
 use Rattle.ft_trace.specs.declared.Snap.{Snap}
 use Rattle.ft_trace.specs.declared.Shape.{Shape}
 use Rattle.ft_trace.specs.declared.View.{View}
-use Rattle.ft_trace.specs.Acts.{debt, debt_next, is_writing, view_after, seen_writes, shown, stage, stage_next}
+use Rattle.ft_trace.specs.Acts.{debt, debt_next, is_writing, view_after, seen_writes, shown, stage, stage_next, presence_after_entry}
 use Rattle.ft_trace.specs.Holds.{held_unboxed, known_state}
 use Rattle.ft_trace.specs.Pictures.{root_in, Represents}
 use Rattle.ft_trace.specs.ContainerStates.{changes}
@@ -93,6 +93,7 @@ module _ (called : Call) (said : Reply) (number f t g : ℕ) (snap : Snap) (v u 
           owners = record { had = p1.owners.had; found = p1.owners.found };
           seen = omega (arith, low, shows_it);
           grown = λ old was. inr (p1.grown old (inr (inr (inr (inr was)))));
+          present = λ is. p1.present (ap presence_after_entry is);
         };
         seen = low;
         shows = shows_it;

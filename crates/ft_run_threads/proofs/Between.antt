@@ -12,7 +12,8 @@ use Rattle.ft_model.specs.declared.reply.Reply.{Reply}
 use Rattle.ft_model.specs.declared.script.ScriptParts.{ScriptParts}
 use Rattle.ft_model.specs.Histories.{calls_of}
 use Rattle.ft_history.proofs.HistoryPlaces.{take_next}
-use Rattle.ft_trace.specs.Acts.{announces}
+use Rattle.ft_trace.specs.declared.Presence.TheVariants as presence
+use Rattle.ft_trace.specs.Acts.{announces, presence_of}
 use Rattle.ft_trace.specs.OwnCursors.{plain_entry}
 use Rattle.ft_bank.specs.Passes.{shape_of, view}
 use Rattle.ft_bank.specs.PassSections.{stack_of}
@@ -31,6 +32,7 @@ use Rattle.ft_run_threads.specs.declared.workers.Worker.{Worker}
 use Rattle.ft_run_threads.specs.Workers.{AreCallsOn, HasNoted, HasWorked, IsAwaitFrom, IsBetween, IsMember, IsOnline, MayMake}
 use Rattle.ft_run_threads.proofs.ThreadDepths.{depth_unanswered, own_entries, step_depth}
 use Rattle.ft_run_threads.proofs.NextCalls.{left, may_next}
+use Rattle.ft_bank.specs.Closings.{HasBeenOnline}
 
 -- ---- the same caller
 
@@ -141,6 +143,7 @@ answered e i calls place w x called said stamp mark on at caller same idle kept 
         rows = subst (λ (n : ℕ). length calls ≤ n) (sym capacity) on.0.rows;
       },
       same.pass.online on.1,
+      same.pass.present on.2,
     )
 
 -- its pass has as many entries
@@ -152,7 +155,7 @@ has_made e i calls place w on low =
 -- it has made notes since
 pub noted_online : (e : Engine) (i : ℕ) (calls : List Call) (place : ℕ) (w x : Worker) → IsOnline e i calls place w → HasNoted e w.caller x.caller → x.entries ≡ w.entries → IsOnline e i calls place x
 noted_online e i calls place w x on noted rows =
-    (visited e i calls place w x on.0 noted.same noted.caller rows noted.kept, subst (λ (n : ℕ). 0 < n) (sym noted.announced) on.1)
+    (visited e i calls place w x on.0 noted.same noted.caller rows noted.kept, subst (λ (n : ℕ). 0 < n) (sym noted.announced) on.1, noted.presence ∙ on.2)
 
 -- ---- a worker that has made its last call
 
@@ -161,8 +164,8 @@ no_sections [] none = refl
 no_sections (x ∷ l) none = absurd (omega (arith, none))
 
 pub worked : (e : Engine) (script : ScriptParts) (i : ℕ) (calls : List Call) (w x : Worker) → calls ≡ calls_of script i → fold step_depth 0 calls ≡ 0 → IsBetween e i calls (length calls) w → SameCallerWork w.caller x.caller → IsCallerOf e x.caller → x.entries ≡ w.entries
-    → ((mine : List NamedEntry) → WasAnswered w.caller mine → WasAnswered x.caller mine) → announces (view (pass_of x.caller)).log ≡ 0 → HasWorked e script i x
-worked e script i calls w x are level is same caller rows kept offline =
+    → ((mine : List NamedEntry) → WasAnswered w.caller mine → WasAnswered x.caller mine) → announces (view (pass_of x.caller)).log ≡ 0 → presence_of (view (pass_of x.caller)).log ≡ presence.Over → HasWorked e script i x
+worked e script i calls w x are level is same caller rows kept offline over =
     let now = visited e i calls (length calls) w x is same caller rows kept in
     let made : map (λ (y : NamedEntry). y.call) x.entries.items ≡ calls = now.made ∙ take_all (length calls) calls (omega arith) in
     let depth : length (stack_of (pass_of x.caller)).sections ≡ 0 = depth_unanswered x.caller x.entries.items (unanswered x now.idle) now.kept ∙ (ap (fold step_depth 0) made ∙ level) in
@@ -171,9 +174,10 @@ worked e script i calls w x are level is same caller rows kept offline =
       done = λ done. record { idle = now.idle; sections = no_sections (stack_of (pass_of x.caller)).sections depth; offline = offline };
       kept = λ done. now.kept;
       made = λ done. made ∙ are;
+      online = λ done. subst HasBeenOnline (sym over) tt;
     }
 
 pub gave_up : (e : Engine) (script : ScriptParts) (i : ℕ) (x : Worker) → IsMember e i x.caller → x.done ≡ false → HasWorked e script i x
 gave_up e script i x member undone =
     let never : IsTrue x.done → ⊥ = λ done. let d = done in let u = undone in grind (arith, d, u) in
-    record { member = member; done = λ done. absurd (never done); kept = λ done. absurd (never done); made = λ done. absurd (never done) }
+    record { member = member; done = λ done. absurd (never done); kept = λ done. absurd (never done); made = λ done. absurd (never done); online = λ done. absurd (never done) }

@@ -2,7 +2,7 @@
 use Rattle.std.proofs.Common.{◌≡◌, ◌≤◌, ◌∙◌, ℕ, suc, List, [], ◌∷◌, length, refl, sym, subst, arith, le_refl, le_trans}
 use Rattle.ft_trace.specs.declared.Entry.{Entry}
 use Rattle.ft_trace.specs.declared.Told.{Told}
-use Rattle.ft_trace.specs.Acts.{own_told, seen_writes}
+use Rattle.ft_trace.specs.Acts.{own_told, seen_writes, presence_of}
 use Rattle.ft_trace.proofs.Cases.{miss}
 use Rattle.ft_bank.specs.declared.note.Note.{Note}
 use Rattle.ft_bank.specs.Notes.{IsNoteOf, told_by}
@@ -34,13 +34,14 @@ work_then b c d x y = record {
 }
 
 pub none_noted : (e : Engine) (c : Caller) → IsCallerOf e c → HasNoted e c c
-none_noted e c is = record { caller = is; same = same_work c; announced = refl; kept = λ mine kept. kept }
+none_noted e c is = record { caller = is; same = same_work c; announced = refl; presence = refl; kept = λ mine kept. kept }
 
 pub noted_then : (e : Engine) (b c d : Caller) → HasNoted e b c → HasNoted e c d → HasNoted e b d
 noted_then e b c d x y = record {
   caller = y.caller;
   same = work_then b c d x.same y.same;
   announced = y.announced ∙ x.announced;
+  presence = y.presence ∙ x.presence;
   kept = λ mine kept. y.kept mine (x.kept mine kept);
 }
 
@@ -48,7 +49,7 @@ noted_then e b c d x y = record {
 pub note_for : (e : Engine) (c d : Caller) (note : Note) (index : ℕ) → SameCallerWork c d → IsNoteOf (bank_of e) note → told_by note ≡ own_told (view (pass_of d)) → index ≤ length (view (pass_of c)).entries → IsNoteFor (name_of (bank_of e)) (thread_of c) index note
 note_for e c d note index same of told made =
     let v = view (pass_of d) in
-    let one : Told = record { pass = v.number; seen = seen_writes v; entries = v.entries } in
+    let one : Told = record { pass = v.number; seen = seen_writes v; entries = v.entries; presence = presence_of v.log } in
     let some = some_number (pass_of d) in
     let own : own_told v ≡ one ∷ [] = miss v.number 0 [] (one ∷ []) (λ none. omega (arith, none, some)) in
     let number : v.number ≡ (view (pass_of c)).number = same.number in

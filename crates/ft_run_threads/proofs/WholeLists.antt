@@ -22,7 +22,7 @@ use Rattle.ft_model.specs.Scripts.{IsScript}
 use Rattle.ft_model.specs.Worlds.{empty_world}
 use Rattle.ft_trace.specs.declared.Entry.{Entry as PassEntry}
 use Rattle.ft_trace.specs.declared.Shape.{Shape}
-use Rattle.ft_trace.specs.Acts.{announces, told_in}
+use Rattle.ft_trace.specs.Acts.{announces, told_in, presence_of}
 use Rattle.ft_trace.specs.Owners.{found_owners, had_locks}
 use Rattle.ft_bank.specs.Passes.{view}
 use Rattle.ft_bank.specs.PassSections.{Stack, stack_of}
@@ -39,6 +39,9 @@ use Rattle.ft_engine.proofs.ReadContents.{push_found}
 use Rattle.ft_run_threads.specs.declared.workers.Worker.{Worker}
 use Rattle.ft_run_threads.specs.Workers.{HasTakenIn, HasWorked, IsBankFor}
 use Rattle.ft_run_threads.proofs.ScriptFacts.{calls_past, own_asked}
+use Rattle.ft_engine.proofs.KeptLists.{all_length}
+use Rattle.ft_engine.specs.Presences.{WereOnline}
+use Rattle.ft_bank.specs.Closings.{AreToldOnline, HasBeenOnline}
 
 -- ---- one list more
 
@@ -60,6 +63,9 @@ own_kept w kept none =
 no_lists : (script : ScriptParts) → HaveScriptCalls script []
 no_lists script thread mine at = absurd (let none : None ≡ Some mine = at in cc)
 
+alone_online : (w : Worker) → HasBeenOnline (presence_of (view (pass_of w.caller)).log) → taken_of w.caller ≡ [] → WereOnline w.caller
+alone_online w over none = record { own = over; taken = subst (AreToldOnline (told_in (view (pass_of w.caller)).log) (suc (thread_of w.caller))) (sym none) tt }
+
 -- the first worker
 pub first_taken : (e : Engine) (script : ScriptParts) (w : Worker) → HasWorked e script 0 w → IsTrue w.done → HasTakenIn e script w.caller (w.entries.items ∷ [])
 first_taken e script w is done =
@@ -70,14 +76,16 @@ first_taken e script w is done =
       parts = is.member.parts;
       kept = own_kept w (is.kept done) is.member.taken;
       made = made_push script [] w.entries.items (no_lists script) (is.made done);
+      online = alone_online w (is.online done) is.member.taken;
     }
 
 -- the next one, after the first caller has joined it
 pub next_taken : (e : Engine) (script : ScriptParts) (c d : Caller) (w : Worker) (lists : List (List Entry)) → HasTakenIn e script c lists → HasWorked e script (length lists) w → IsTrue w.done
     → IsCallerOf e d → thread_of d ≡ thread_of c → IsIdle d → announces (view (pass_of d)).log ≡ announces (view (pass_of c)).log → stack_of (pass_of d) ≡ stack_of (pass_of c)
     → (view (pass_of d)).parts ≡ (view (pass_of c)).parts + (view (pass_of w.caller)).parts
-    → ((mine theirs : List (List Entry)) → WereAnswered c mine → WereAnswered w.caller theirs → thread_of w.caller ≡ thread_of c + length mine → WereAnswered d (mine ++ theirs)) → HasTakenIn e script d (lists ++ w.entries.items ∷ [])
-next_taken e script c d w lists old is done caller thread idle announced sections parts kept =
+    → ((mine theirs : List (List Entry)) → WereAnswered c mine → WereAnswered w.caller theirs → thread_of w.caller ≡ thread_of c + length mine → WereAnswered d (mine ++ theirs))
+    → (WereOnline c → WereOnline w.caller → thread_of w.caller ≡ suc (thread_of c + length (taken_of c)) → WereOnline d) → HasTakenIn e script d (lists ++ w.entries.items ∷ [])
+next_taken e script c d w lists old is done caller thread idle announced sections parts kept online =
     let both = old.parts in
     let one = is.member.parts in
     let number : thread_of w.caller ≡ thread_of c + length lists = let t = is.member.thread in let first = old.thread in omega (arith, t, first) in
@@ -88,11 +96,14 @@ next_taken e script c d w lists old is done caller thread idle announced section
       parts = let more : length (lists ++ w.entries.items ∷ []) ≡ length lists + 1 = length_push lists w.entries.items in omega (arith, parts, both, one, more);
       kept = kept lists (w.entries.items ∷ []) old.kept (own_kept w (is.kept done) is.member.taken) number;
       made = made_push script lists w.entries.items old.made (is.made done);
+      online =
+          let many = all_length c lists old.kept in
+          online old.online (alone_online w (is.online done) is.member.taken) (omega (arith, number, many));
     }
 
 -- the first caller, when it has read what the containers have
-pub still_taken : (e : Engine) (script : ScriptParts) (c d : Caller) (lists : List (List Entry)) → HasTakenIn e script c lists → IsCallerOf e d → IsAsBefore c d → (WereAnswered c lists → WereAnswered d lists) → HasTakenIn e script d lists
-still_taken e script c d lists old caller before kept =
+pub still_taken : (e : Engine) (script : ScriptParts) (c d : Caller) (lists : List (List Entry)) → HasTakenIn e script c lists → IsCallerOf e d → IsAsBefore c d → (WereAnswered c lists → WereAnswered d lists) → (WereOnline c → WereOnline d) → HasTakenIn e script d lists
+still_taken e script c d lists old caller before kept online =
     let same = before.same in
     record {
       caller = caller;
@@ -101,6 +112,7 @@ still_taken e script c d lists old caller before kept =
       parts = same.parts ∙ old.parts;
       kept = kept old.kept;
       made = old.made;
+      online = online old.online;
     }
 
 -- ---- no thread

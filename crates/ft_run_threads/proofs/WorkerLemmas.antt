@@ -15,6 +15,7 @@ use Rattle.ft_engine.specs.Keeping.{WasAnswered}
 use Rattle.ft_engine.proofs.NewCallers.{new_kept}
 use Rattle.ft_run_threads.specs.declared.workers.Worker.{Worker}
 use Rattle.ft_run_threads.specs.Workers.{AreEach, AreFrom, HasTakenIn, IsMember, IsAtStart}
+use Rattle.ft_trace.specs.Acts.{presence_of}
 
 -- ---- orders
 
@@ -47,15 +48,17 @@ from_each P ws each = all_at P 0 ws (λ thread w low. subst (λ (n : ℕ). P n (
 -- ---- a new worker
 
 pub fresh_new : (e : Engine) (script : ScriptParts) (i : ℕ) (w : Worker) → w.entries.items ≡ [] → length (calls_of script i) ≤ vec_capacity w.entries → IsFreshCaller e most_cursors i w.caller → IsAtStart e script i w
-fresh_new e script i w none rows x =
-    record {
-      member = record { caller = x.caller; thread = x.thread; next = x.next; parts = x.parts; taken = x.taken };
-      idle = x.flight;
-      cursors = ap length x.hands ∙ length-replicate {A = Option Cursor} most_cursors None;
-      kept = subst (WasAnswered w.caller) (sym none) (new_kept e most_cursors i w.caller x);
-      made = ap (map (λ (e : NamedEntry). e.call)) none;
-      rows = rows;
-    }
+fresh_new e script i w none rows x = (
+  record {
+    member = record { caller = x.caller; thread = x.thread; next = x.next; parts = x.parts; taken = x.taken };
+    idle = x.flight;
+    cursors = ap length x.hands ∙ length-replicate {A = Option Cursor} most_cursors None;
+    kept = subst (WasAnswered w.caller) (sym none) (new_kept e most_cursors i w.caller x);
+    made = ap (map (λ (e : NamedEntry). e.call)) none;
+    rows = rows;
+  },
+  ap presence_of x.log,
+)
 
 -- ---- workers that are taken in
 

@@ -11,7 +11,8 @@ use Rattle.ft_model.specs.Limits.{most_calls, most_cursors}
 use Rattle.ft_model.specs.Scripts.{IsThread}
 use Rattle.ft_model.specs.Worlds.{starts_of}
 use Rattle.ft_trace.specs.declared.Shape.{Shape}
-use Rattle.ft_trace.specs.Acts.{announces}
+use Rattle.ft_trace.specs.declared.Presence.TheVariants as presence
+use Rattle.ft_trace.specs.Acts.{announces, presence_of}
 use Rattle.ft_bank.specs.NewPasses.{next_of}
 use Rattle.ft_bank.specs.Passes.{shape_of, view}
 use Rattle.ft_engine.specs.declared.caller.Caller.{Caller}
@@ -23,8 +24,10 @@ use Rattle.ft_engine.specs.Callers.{IsCallerOf, IsIdle, bank_of, hands_of, left_
 use Rattle.ft_bank_history.specs.Marks.{HaveScriptCalls}
 use Rattle.ft_engine.specs.DoneCallers.{WereAnswered, IsCallerDone}
 use Rattle.ft_engine.specs.Keeping.{WasAnswered, named_entry}
+use Rattle.ft_engine.specs.Presences.{IsStillOnline, WereOnline}
 use Rattle.ft_engine.specs.Visits.{SameCallerWork}
 use Rattle.ft_run_threads.specs.declared.workers.Worker.{Worker}
+use Rattle.ft_bank.specs.Closings.{HasBeenOnline}
 
 -- ---- the bank
 
@@ -86,6 +89,7 @@ pub record HasNoted (e : Engine) (c d : Caller) : Type 0 where
   pub caller : IsCallerOf e d
   pub same : SameCallerWork c d
   pub announced : announces (view (pass_of d)).log ≡ announces (view (pass_of c)).log
+  pub presence : presence_of (view (pass_of d)).log ≡ presence_of (view (pass_of c)).log
   pub kept : (mine : List Entry) → WasAnswered c mine → WasAnswered d mine
 
 -- ---- workers
@@ -108,20 +112,24 @@ pub record IsBetween (e : Engine) (i : ℕ) (calls : List Call) (count : ℕ) (w
   pub made : map (λ entry. entry.call) w.entries.items ≡ take count calls
   pub rows : length calls ≤ vec_capacity w.entries
 
--- it has made none of its thread's calls
+-- it has made none of its thread's calls, and was never online
 abbrev pub IsAtStart : Engine → ScriptParts → ℕ → Worker → Type 0
-IsAtStart e script i w = IsBetween e i (calls_of script i) 0 w
+IsAtStart e script i w =
+    IsBetween e i (calls_of script i) 0 w × (presence_of (view (pass_of w.caller)).log ≡ presence.Before)
 
--- it is online besides
+-- it is online besides, and has been since before its first call
 abbrev pub IsOnline : Engine → ℕ → List Call → ℕ → Worker → Type 0
-IsOnline e i calls count w = IsBetween e i calls count w × (0 < announces (view (pass_of w.caller)).log)
+IsOnline e i calls count w =
+    IsBetween e i calls count w × (0 < announces (view (pass_of w.caller)).log) × IsStillOnline w.caller
 
--- where the worker is done, it has made just the calls of its thread, and has the entry of each
+-- Where the worker is done, it has made just the calls of its thread, and has the entry of each; and it was online from
+-- before the first of them until after the last.
 pub record HasWorked (e : Engine) (script : ScriptParts) (i : ℕ) (w : Worker) : Type 0 where
   pub member : IsMember e i w.caller
   pub done : IsTrue w.done → IsCallerDone w.caller
   pub kept : IsTrue w.done → WasAnswered w.caller w.entries.items
   pub made : IsTrue w.done → map (λ entry. entry.call) w.entries.items ≡ calls_of script i
+  pub online : IsTrue w.done → HasBeenOnline (presence_of (view (pass_of w.caller)).log)
 
 -- ---- orders
 
@@ -134,8 +142,8 @@ abbrev pub AreFrom : (ℕ → Worker → Type 0) → ℕ → List Worker → Typ
 AreFrom P thread [] = Unit {0}
 AreFrom P thread (w ∷ workers) = P thread w × AreFrom P (suc thread) workers
 
--- caller 0 is done and has taken in the callers of the threads after it; these are the lists of all of them, and each
--- has just the calls of its thread
+-- Caller 0 is done and has taken in the callers of the threads after it; these are the lists of all of them, and each
+-- has just the calls of its thread, which was online while it made them.
 pub record HasTakenIn (e : Engine) (script : ScriptParts) (c : Caller) (lists : List (List Entry)) : Type 0 where
   pub caller : IsCallerOf e c
   pub done : IsCallerDone c
@@ -143,3 +151,4 @@ pub record HasTakenIn (e : Engine) (script : ScriptParts) (c : Caller) (lists : 
   pub parts : (view (pass_of c)).parts ≡ length lists
   pub kept : WereAnswered c lists
   pub made : HaveScriptCalls script lists
+  pub online : WereOnline c

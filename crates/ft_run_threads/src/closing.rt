@@ -1,6 +1,6 @@
 //! The end of all workers: one history.
 ghost use Rattle.std.specs.Prelude.{◌≡◌, ◌≤◌, ◌+◌, OnOk, IfOk, length, map};
-ghost use Rattle.ft_bank.specs.Closings.{shape_in};
+ghost use Rattle.ft_bank.specs.Closings.{shape_in, PassesWereOnline};
 ghost use Rattle.ft_bank.specs.Passes.{shape_of};
 ghost use Rattle.ft_engine.specs.Callers.{bank_of};
 ghost use Rattle.ft_engine.specs.Contents.{AreShownIn, IsLegalWith};
@@ -74,6 +74,7 @@ pub(crate) fn close_all(
     ensures contents { IfOk result (λ ran. IsLegalWith script.now ran.history.items ran.contents.items) }
     ensures shape { IfOk result (λ ran. IsBankFor script.now (shape_in ran.closed)) }
     ensures entries { IfOk result (λ ran. HasEntriesOf ran.closed ran.history.items) }
+    ensures online { IfOk result (λ ran. PassesWereOnline ran.closed) }
 {
     // Named so that the check sees the script's rule.
     let _parts = script.parts();

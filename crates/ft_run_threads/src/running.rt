@@ -1,6 +1,6 @@
 //! A script from its start to its end: its threads at work beside each other, and then one history.
 ghost use Rattle.std.specs.Prelude.{IfOk};
-ghost use Rattle.ft_bank.specs.Closings.{shape_in};
+ghost use Rattle.ft_bank.specs.Closings.{shape_in, PassesWereOnline};
 ghost use Rattle.ft_engine.specs.Contents.{IsLegalWith};
 ghost use Rattle.ft_engine.specs.DoneCallers.{IsLegalFor};
 ghost use Rattle.ft_run_threads.specs.ClosedHistories.{HasEntriesOf};
@@ -47,6 +47,7 @@ pub fn run_workers<R: Threads + Wait + Sync, G: Gate>(
     ensures contents { IfOk result (λ ran. IsLegalWith script.now ran.history.items ran.contents.items) }
     ensures shape { IfOk result (λ ran. IsBankFor script.now (shape_in ran.closed)) }
     ensures entries { IfOk result (λ ran. HasEntriesOf ran.closed ran.history.items) }
+    ensures online { IfOk result (λ ran. PassesWereOnline ran.closed) }
 {
     let (engine, mut workers) = start(alloc, script)?;
     work_on_board::<Brand, R, G>(rt, &engine, alloc, gate, script, workers.as_mut_slice())?;

@@ -13,7 +13,7 @@ use Rattle.ft_model.specs.declared.script.ScriptParts.{ScriptParts}
 use Rattle.ft_model.specs.Histories.{calls_of}
 use Rattle.ft_trace.specs.declared.Told.{Told}
 use Rattle.ft_trace.specs.declared.View.{View}
-use Rattle.ft_trace.specs.Acts.{own_told, seen_writes, sender}
+use Rattle.ft_trace.specs.Acts.{own_told, presence_of, seen_writes, sender}
 use Rattle.ft_trace.specs.OwnCursors.{plain_entry}
 use Rattle.ft_bank.specs.declared.note.Note.{Note}
 use Rattle.ft_bank.specs.Notes.{TellsOf, told_by}
@@ -100,7 +100,7 @@ module _ (script : ScriptParts) (turns : List ℕ) (v : View) (seats : List (Opt
 pub tells : (c : Caller) (mine : List NamedEntry) (tokens thread index : ℕ) (w : View) (note : Note) → thread_of c ≡ thread → WasAnswered c mine → index ≤ length mine → w ≡ sender tokens (view (pass_of c)) → told_by note ≡ own_told w → TellsOf note thread index
 tells c mine tokens thread index w note number kept few is told =
     let v = view c.pass in
-    let one : Told = record { pass = w.number; seen = seen_writes w; entries = w.entries } in
+    let one : Told = record { pass = w.number; seen = seen_writes w; entries = w.entries; presence = presence_of w.log } in
     let some = some_number c.pass in
     let named : w.number ≡ v.number = ap (λ (x : View). x.number) is in
     let own : own_told w ≡ one ∷ [] = ap (λ b. cond b [] (one ∷ [])) (ne_eqb w.number 0 (λ none. absurd (omega (arith, none, some, named)))) in

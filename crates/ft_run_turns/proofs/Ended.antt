@@ -12,7 +12,7 @@ use Rattle.ft_bank.specs.Passes.{view}
 use Rattle.ft_bank.specs.PassSections.{Stack, stack_of}
 use Rattle.ft_engine.specs.declared.caller.Caller.{Caller}
 use Rattle.ft_engine.specs.declared.engine.Engine.{Engine}
-use Rattle.ft_engine.specs.Callers.{IsCallerOf, IsIdle, pass_of, thread_of}
+use Rattle.ft_engine.specs.Callers.{IsCallerOf, IsIdle, pass_of, thread_of, taken_of}
 use Rattle.ft_engine.specs.DoneCallers.{WereAnswered}
 use Rattle.ft_engine.specs.Flights.{IsFlightAnswered}
 use Rattle.ft_engine.specs.Resting.{IsAsBefore, IsRestDone, RestsAs, rests_in}
@@ -26,6 +26,7 @@ use Rattle.ft_run_threads.proofs.WorkerLemmas.{last_next}
 use Rattle.ft_run_turns.specs.declared.seats.Seat.{Seat}
 use Rattle.ft_run_turns.specs.Internal.CallerSeats.{AreEndSeats, AreSeats, SeatsHaveMadeAll, IsBetweenTurns, IsEndSeat, IsSeatOf}
 use Rattle.ft_run_turns.proofs.Seated.{woken_between}
+use Rattle.ft_engine.specs.Presences.{WereOnline}
 
 -- a thread with no call left is a worker that is done
 abbrev pub worker_of : Caller → Seat → Worker
@@ -43,6 +44,7 @@ end_worked e script i c s rule is all =
       done = λ _. record { idle = idle; sections = no_sections (stack_of (pass_of c)).sections depth; offline = (is.done all).1 };
       kept = λ _. is.kept;
       made = λ _. made;
+      online = λ _. (is.done all).2;
     }
 
 ends_from : (e : Engine) (script : ScriptParts) (from : ℕ) (seats : List (Option Seat)) → ((thread : ℕ) → thread < length seats → (s : Seat) × (slice_get seats thread ≡ Some (Some s)) × IsEndSeat e script (from + thread) (Some s))
@@ -87,9 +89,11 @@ end_next e script c lists s taken is = ap (λ (z : View). z.next) is.rests.pass 
 pub end_taken : (e : Engine) (script : ScriptParts) (c d : Caller) (s : Seat) (lists : List (List Entry)) → IsScript script → HasTakenIn e script c lists → IsSeatOf e script (length lists) s → length (calls_of script (length lists)) ≤ length s.entries.items
     → IsCallerOf e d → thread_of d ≡ thread_of c → IsIdle d → announces (view (pass_of d)).log ≡ announces (view (pass_of c)).log → stack_of (pass_of d) ≡ stack_of (pass_of c)
     → (view (pass_of d)).parts ≡ (view (pass_of c)).parts + (rests_in s.caller).parts
-    → ((mine theirs : List (List Entry)) (w : Caller) → RestsAs w s.caller → WereAnswered c mine → WereAnswered w theirs → thread_of w ≡ thread_of c + length mine → WereAnswered d (mine ++ theirs)) → HasTakenIn e script d (lists ++ s.entries.items ∷ [])
-end_taken e script c d s lists rule taken is all caller thread idle announced sections parts kept =
+    → ((mine theirs : List (List Entry)) (w : Caller) → RestsAs w s.caller → WereAnswered c mine → WereAnswered w theirs → thread_of w ≡ thread_of c + length mine → WereAnswered d (mine ++ theirs))
+    → ((w : Caller) → RestsAs w s.caller → WereOnline c → WereOnline w → thread_of w ≡ suc (thread_of c + length (taken_of c)) → WereOnline d) → HasTakenIn e script d (lists ++ s.entries.items ∷ [])
+end_taken e script c d s lists rule taken is all caller thread idle announced sections parts kept online =
     let w = is.caller in
     next_taken e script c d (worker_of w s) lists taken (end_worked e script (length lists) w s rule is.between all) refl caller thread idle announced sections
     (parts ∙ ap (λ (z : View). (view (pass_of c)).parts + z.parts) is.rests.pass)
     (λ mine theirs. kept mine theirs w is.rests)
+    (online w is.rests)

@@ -13,7 +13,8 @@ use Rattle.ft_model.specs.Histories.{calls_of}
 use Rattle.ft_model.specs.Limits.{most_cursors}
 use Rattle.ft_trace.specs.declared.Act.{Act}
 use Rattle.ft_trace.specs.declared.View.{View}
-use Rattle.ft_trace.specs.Acts.{announces}
+use Rattle.ft_trace.specs.declared.Presence.TheVariants as presence
+use Rattle.ft_trace.specs.Acts.{announces, presence_of}
 use Rattle.ft_trace.specs.Addresses.{container_count}
 use Rattle.ft_bank.specs.declared.tokens.Tokens.{Tokens}
 use Rattle.ft_bank.specs.Passes.{shape_of, view}
@@ -38,6 +39,8 @@ use Rattle.ft_run_threads.proofs.Between.{visited_member}
 use Rattle.ft_run_threads.proofs.WholeLists.{max_some}
 use Rattle.ft_run_turns.specs.declared.seats.Seat.{Seat}
 use Rattle.ft_run_turns.specs.Internal.CallerSeats.{AreNewFrom, AreNewSeats, AreSeats, HaveTurned, IsBetweenTurns, IsGiver, IsNewCaller, IsNewRest, IsNewSeat, IsSeatOf, NobodyOwns, seat_entries, entries_made, standing_at, standing_in, standings_of}
+use Rattle.ft_bank.specs.Closings.{HasBeenOnline}
+use Rattle.ft_engine.specs.Presences.{IsStillOnline}
 
 -- ---- callers
 
@@ -50,6 +53,7 @@ fresh_new e i c is =
       kept = new_kept e most_cursors i c is;
       sections = ap (λ (s : Standing). s.stack) (fresh_nobody e most_cursors i c is);
       offline = ap (λ (log : List Act). announces log) is.log;
+      never = ap presence_of is.log;
     }
 
 pub new_as : (e : Engine) (i : ℕ) (c d : Caller) → IsNewCaller e i c → IsAsBefore c d → IsCallerOf e d → IsNewCaller e i d
@@ -61,12 +65,13 @@ new_as e i c d is before caller =
       kept = before.kept [] is.kept;
       sections = before.same.sections ∙ is.sections;
       offline = before.announced ∙ is.offline;
+      never = before.presence ∙ is.never;
     }
 
 -- it goes online
 pub come_between : (e : Engine) (script : ScriptParts) (i : ℕ) (c d : Caller) → IsNewCaller e i c → SameCallerWork c d → IsCallerOf e d → ((mine : List Entry) → WasAnswered c mine → WasAnswered d mine) → 0 < announces (view (pass_of d)).log
-    → 0 < length (calls_of script i) → IsBetweenTurns e script i d []
-come_between e script i c d is same caller kept online some =
+    → (presence_of (view (pass_of c)).log ≡ presence.Before → IsStillOnline d) → 0 < length (calls_of script i) → IsBetweenTurns e script i d []
+come_between e script i c d is same caller kept online present some =
     record {
       member = visited_member e i c d is.member same caller;
       cursors = ap length same.cursors ∙ is.cursors;
@@ -74,7 +79,7 @@ come_between e script i c d is same caller kept online some =
       made = refl;
       next = λ called at. subst (λ (f : Flight). AllowsCall f called) (sym (same.flight ∙ is.idle)) tt;
       idle = λ named index at. same.flight ∙ is.idle;
-      online = λ low. online;
+      online = λ low. (online, present is.never);
       done = λ all. absurd (omega (arith, all, some));
     }
 
@@ -89,7 +94,7 @@ idle_between e script i c is none =
       next = λ called at. subst (λ (f : Flight). AllowsCall f called) (sym is.idle) tt;
       idle = λ named index at. is.idle;
       online = λ low. absurd (none low);
-      done = λ all. (is.idle, is.offline);
+      done = λ all. (is.idle, is.offline, subst HasBeenOnline (sym is.never) tt);
     }
 
 -- ---- nobody owns a lock

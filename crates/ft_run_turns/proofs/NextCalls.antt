@@ -44,7 +44,7 @@ pub may_try : (e : Engine) (script : ScriptParts) (i : ℕ) (c : Caller) (mine :
 may_try e script i c mine rule bank low is called at other =
     let own = thread_there script i low in
     let are : AreCallsOn (shape_of (bank_of e)) (calls_of script i) = subst (AreCallsOn (shape_of (bank_of e))) (sym (calls_at script i own.0 own.1)) (calls_on script (shape_of (bank_of e)) i own.0 rule bank own.1) in
-    may_next e i (calls_of script i) c mine is.member is.cursors is.kept is.made are called at (is.next called at) (no_await called other) (is.online (slice_get_within (calls_of script i) (length mine) called at))
+    may_next e i (calls_of script i) c mine is.member is.cursors is.kept is.made are called at (is.next called at) (no_await called other) (is.online (slice_get_within (calls_of script i) (length mine) called at)).0
 
 -- and an `await` that comes next may be answered by a note of the call that it names
 pub may_learn : (e : Engine) (script : ScriptParts) (i : ℕ) (c : Caller) (mine : List Entry) → IsScript script → IsBankFor script (shape_of (bank_of e)) → i < length script.threads → IsBetweenTurns e script i c mine
@@ -66,7 +66,7 @@ may_learn e script i c mine rule bank low is called at note one await of_bank te
     let number = is.member.thread in
     record {
       idle = idle;
-      online = is.online within;
+      online = (is.online within).0;
       left = omega (arith, made, calls, most, few, long, within);
       told = record { thread = one.thread; index = one.index; await = await; some = names.1; tells = tells };
       earlier = omega (arith, earlier, number);

@@ -13,7 +13,8 @@ use Rattle.ft_model.specs.Histories.{calls_of}
 use Rattle.ft_model.specs.Limits.{most_cursors}
 use Rattle.ft_history.proofs.HistoryPlaces.{take_next}
 use Rattle.ft_trace.specs.declared.View.{View}
-use Rattle.ft_trace.specs.Acts.{announces, seen_writes}
+use Rattle.ft_trace.specs.declared.Presence.TheVariants as presence
+use Rattle.ft_trace.specs.Acts.{announces, seen_writes, presence_of}
 use Rattle.ft_bank.specs.declared.tokens.Tokens.{Tokens}
 use Rattle.ft_bank.specs.Passes.{shape_of, view}
 use Rattle.ft_bank.specs.PassSections.{stack_of}
@@ -46,6 +47,8 @@ use Rattle.ft_run_threads.proofs.WholeLists.{max_some}
 use Rattle.ft_run_turns.specs.declared.seats.Seat.{Seat}
 use Rattle.ft_run_turns.specs.Internal.CallerSeats.{StaysInStep, HasLearned, HasTried, IsBetweenTurns, IsGiver, TokensStayInStep, ends_call, standing_in}
 use Rattle.ft_run_turns.proofs.Visited.{visited_step}
+use Rattle.ft_bank.specs.Closings.{HasBeenOnline}
+use Rattle.ft_engine.specs.Presences.{IsStillOnline}
 
 -- ---- who is woken is between two turns still
 
@@ -58,8 +61,8 @@ woken_between e script i c d mine is before caller =
       made = is.made;
       next = λ called at. subst (λ (f : Flight). AllowsCall f called) (sym before.same.flight) (is.next called at);
       idle = λ named index at. before.same.flight ∙ is.idle named index at;
-      online = λ low. subst (λ n. 0 < n) (sym before.announced) (is.online low);
-      done = λ all. (before.same.flight ∙ (is.done all).0, before.announced ∙ (is.done all).1);
+      online = λ low. let on = is.online low in (subst (λ n. 0 < n) (sym before.announced) on.0, before.presence ∙ on.1);
+      done = λ all. let end = is.done all in (before.same.flight ∙ end.0, before.announced ∙ end.1, subst HasBeenOnline (sym before.presence) end.2);
     }
 
 -- no more calls were made than there are
@@ -77,7 +80,7 @@ pub record IsAfterTry (e : Engine) (script : ScriptParts) (i : ℕ) (d : Caller)
   pub kept : WasAnswered d after
   pub made : map (λ entry. entry.call) after ≡ take (length after) (calls_of script i)
   pub next : (called : Call) → slice_get (calls_of script i) (length after) ≡ Some called → AllowsCall (flight_of d) called
-  pub online : 0 < announces (view (pass_of d)).log
+  pub online : (0 < announces (view (pass_of d)).log) × IsStillOnline d
   pub still : (named index : ℕ) → slice_get (calls_of script i) (length after) ≡ Some (call.Await named index) → IsIdle d
   pub idle : length (calls_of script i) ≤ length after → IsIdle d
 
@@ -130,7 +133,7 @@ module _ (e : Engine) (script : ScriptParts) (i : ℕ) (c : Caller) (mine : List
         made = made_after t;
         next = next_after t (flight_of d) turned.memory tried.flight;
         still = still_after t (flight_of d) turned.memory tried.flight;
-        online = tried.same.pass.online (is.online low);
+        online = let on = is.online low in (tried.same.pass.online on.0, tried.same.pass.present on.1);
         idle = idle_after t (flight_of d) tried.flight;
       }
 
@@ -141,8 +144,8 @@ more_between e script i d after is more =
 
 -- it has gone offline after its last one
 pub left_between : (e : Engine) (script : ScriptParts) (i : ℕ) (c d : Caller) (after : List Entry) → IsAfterTry e script i c after → length (calls_of script i) ≤ length after → SameCallerWork c d → IsCallerOf e d
-    → ((mine : List Entry) → WasAnswered c mine → WasAnswered d mine) → announces (view (pass_of d)).log ≡ 0 → IsBetweenTurns e script i d after
-left_between e script i c d after is all same caller kept offline =
+    → ((mine : List Entry) → WasAnswered c mine → WasAnswered d mine) → announces (view (pass_of d)).log ≡ 0 → (IsStillOnline c → presence_of (view (pass_of d)).log ≡ presence.Over) → IsBetweenTurns e script i d after
+left_between e script i c d after is all same caller kept offline over =
     record {
       member = visited_member e i c d is.member same caller;
       cursors = ap length same.cursors ∙ is.cursors;
@@ -151,7 +154,7 @@ left_between e script i c d after is all same caller kept offline =
       next = λ called at. subst (λ (f : Flight). AllowsCall f called) (sym (same.flight ∙ is.idle all)) tt;
       idle = λ named index at. same.flight ∙ is.idle all;
       online = λ low. absurd (omega (arith, all, low));
-      done = λ _. (same.flight ∙ is.idle all, offline);
+      done = λ _. (same.flight ∙ is.idle all, offline, subst HasBeenOnline (sym (over is.online.1)) tt);
     }
 
 -- ---- a turn
@@ -198,10 +201,10 @@ module _ (e : Engine) (script : ScriptParts) (i : ℕ) (c d : Caller) (mine afte
       more_between e script i d after (after_it true has) (not_last (length mine) (length (calls_of script i)) (length after) low longer more)
 
   pub leaves_between : HasTried e called c mine d after true → length mine + 1 ≡ length (calls_of script i) → (x : Caller) → SameCallerWork d x → IsCallerOf e x → ((own : List Entry) → WasAnswered d own → WasAnswered x own)
-      → announces (view (pass_of x)).log ≡ 0 → IsBetweenTurns e script i x after
-  leaves_between has last x same caller kept offline =
+      → announces (view (pass_of x)).log ≡ 0 → (IsStillOnline d → presence_of (view (pass_of x)).log ≡ presence.Over) → IsBetweenTurns e script i x after
+  leaves_between has last x same caller kept offline over =
       let longer = count_ends has in
-      left_between e script i d x after (after_it true has) (omega (arith, last, longer)) same caller kept offline
+      left_between e script i d x after (after_it true has) (omega (arith, last, longer)) same caller kept offline over
 
 -- after an `await` the caller is in no call
 module _ (e : Engine) (script : ScriptParts) (i : ℕ) (c d : Caller) (mine after : List Entry) (named index : ℕ) (is : IsBetweenTurns e script i c mine) (at : slice_get (calls_of script i) (length mine) ≡ Some (call.Await named index)) (has : HasLearned e (call.Await named index) c mine d after) where
@@ -223,7 +226,7 @@ module _ (e : Engine) (script : ScriptParts) (i : ℕ) (c d : Caller) (mine afte
             ∙ (ap (λ (cs : List Call). cs ++ called ∷ []) is.made
             ∙ (sym (take_next calls (length mine) called at) ∙ ap (λ n. take n calls) (sym count_learned))));
         next = λ more there. subst (λ (f : Flight). AllowsCall f more) (sym has.learn.tried.flight) tt;
-        online = has.learn.tried.same.pass.online (is.online low);
+        online = let on = is.online low in (has.learn.tried.same.pass.online on.0, has.learn.tried.same.pass.present on.1);
         still = λ _ _ _. has.learn.tried.flight;
         idle = λ _. has.learn.tried.flight;
       }
@@ -234,10 +237,10 @@ module _ (e : Engine) (script : ScriptParts) (i : ℕ) (c d : Caller) (mine afte
       more_between e script i d after after_learned (not_last (length mine) (length (calls_of script i)) (length after) low count_learned more)
 
   pub learned_leaves : length mine + 1 ≡ length (calls_of script i) → (x : Caller) → SameCallerWork d x → IsCallerOf e x → ((own : List Entry) → WasAnswered d own → WasAnswered x own)
-      → announces (view (pass_of x)).log ≡ 0 → IsBetweenTurns e script i x after
-  learned_leaves last x same caller kept offline =
+      → announces (view (pass_of x)).log ≡ 0 → (IsStillOnline d → presence_of (view (pass_of x)).log ≡ presence.Over) → IsBetweenTurns e script i x after
+  learned_leaves last x same caller kept offline over =
       let longer = count_learned in
-      left_between e script i d x after after_learned (omega (arith, last, longer)) same caller kept offline
+      left_between e script i d x after after_learned (omega (arith, last, longer)) same caller kept offline over
 
 pub for_bank : (e : Engine) (script : ScriptParts) → IsBankFor script (shape_of (bank_of e)) → 0 < length script.threads → IsFor script (shape_of (bank_of e))
 for_bank e script bank some = record { starts = bank.starts; tables = bank.tables; heap = bank.heap; passes = bank.passes ∙ max_some (length script.threads) (λ none. omega (arith, some, none)) }

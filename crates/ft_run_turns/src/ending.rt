@@ -1,6 +1,6 @@
 //! The end of all turns: one history.
 ghost use Rattle.std.specs.Prelude.{◌≡◌, ◌+◌, ◌<◌, ◌++◌, ◌∷◌, [], IfOk, OnOk, length, map};
-ghost use Rattle.ft_bank.specs.Closings.{shape_in};
+ghost use Rattle.ft_bank.specs.Closings.{shape_in, PassesWereOnline};
 ghost use Rattle.ft_bank.specs.Passes.{shape_of};
 ghost use Rattle.ft_engine.specs.Callers.{bank_of};
 ghost use Rattle.ft_engine.specs.Contents.{AreShownIn, IsLegalWith};
@@ -135,6 +135,7 @@ pub(crate) fn close_all(
     ensures contents { IfOk result (λ run. IsLegalWith script.now run.history.items run.contents.items) }
     ensures shape { IfOk result (λ run. IsBankFor script.now (shape_in run.closed)) }
     ensures entries { IfOk result (λ run. HasEntriesOf run.closed run.history.items) }
+    ensures online { IfOk result (λ run. PassesWereOnline run.closed) }
 {
     let (mut caller, lists) = gather_in(alloc, &engine, script, seats, tokens)?;
     let contents = read_contents(alloc, &engine, script, &mut caller, &lists)?;

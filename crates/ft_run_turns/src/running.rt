@@ -1,6 +1,6 @@
 //! A script from its start to its end, in the order of its turns.
 ghost use Rattle.std.specs.Prelude.{IfOk};
-ghost use Rattle.ft_bank.specs.Closings.{shape_in};
+ghost use Rattle.ft_bank.specs.Closings.{shape_in, PassesWereOnline};
 ghost use Rattle.ft_engine.specs.Contents.{IsLegalWith};
 ghost use Rattle.ft_engine.specs.DoneCallers.{IsLegalFor};
 ghost use Rattle.ft_run_turns.specs.OrderedHistories.{IsOrderRunFor};
@@ -41,6 +41,7 @@ pub fn run_in_turns(alloc: Global, script: &Script) -> Result<TurnRun, AllocErro
     ensures contents { IfOk result (λ run. IsLegalWith script.now run.history.items run.contents.items) }
     ensures shape { IfOk result (λ run. IsBankFor script.now (shape_in run.closed)) }
     ensures entries { IfOk result (λ run. HasEntriesOf run.closed run.history.items) }
+    ensures online { IfOk result (λ run. PassesWereOnline run.closed) }
 {
     let parts = script.parts();
     let shape = shape_for(alloc, script)?;

@@ -22,10 +22,10 @@ use Rattle.ft_model.specs.Calls.{moved_cursor}
 use Rattle.ft_model.specs.Histories.{IsReplied}
 use Rattle.ft_model.specs.TableUses.{StoredWorld}
 use Rattle.ft_trace.specs.Kinds.{rows}
-use Rattle.ft_trace.specs.LoggedReads.{Among}
 use Rattle.ft_trace.specs.Traces.{IsReachable}
 use Rattle.ft_trace.specs.ContainerStates.{kind_in, reply_in}
 use Rattle.ft_bank.specs.Answered.{Answered}
+use Rattle.ft_bank.specs.LastLoads.{IsLastLoad}
 use Rattle.ft_bank.specs.Reads.{IsShown}
 use Rattle.ft_bank.specs.Shown.{MayAsk, KeyIsShown}
 use Rattle.ft_bank.specs.Whole.{OnlyLoaded}
@@ -57,7 +57,7 @@ looks_newer (ReadBox c j f ∷ l) rest q = looks_newer l rest q
 looks_newer (act ∷ l) rest q = absurd q
 
 -- a pass that has loaded the counter and words of the bank may ask of a container
-pub may_ask : (v w : View) (k : Shape) (o n : ℕ) (part : List Act) → OnlyLoaded v w → AreLooks part → w.log ≡ part ++ v.log → Among (ReadCounter n) part → w.shape ≡ k → o < container_count k → 0 < v.left → MayAsk w o n
+pub may_ask : (v w : View) (k : Shape) (o n : ℕ) (part : List Act) → OnlyLoaded v w → AreLooks part → w.log ≡ part ++ v.log → IsLastLoad n part → w.shape ≡ k → o < container_count k → 0 < v.left → MayAsk w o n
 may_ask v w k o n part loaded looks own counted same low left = record {
   low = subst (λ (z : Shape). o < container_count z) (sym same) low;
   left = subst (λ (z : ℕ). 0 < z) (sym loaded.work.left) left;
@@ -69,7 +69,7 @@ may_ask v w k o n part loaded looks own counted same low left = record {
   };
 }
 
-module _ (v w : View) (k : Shape) (o : ℕ) (key : Key) (n : ℕ) (part : List Act) (loaded : OnlyLoaded v w) (looks : AreLooks part) (own : w.log ≡ part ++ v.log) (counted : Among (ReadCounter n) part) (same : w.shape ≡ k) (low : o < container_count k) (left : 0 < v.left) (fits : FitsKey key) where
+module _ (v w : View) (k : Shape) (o : ℕ) (key : Key) (n : ℕ) (part : List Act) (loaded : OnlyLoaded v w) (looks : AreLooks part) (own : w.log ≡ part ++ v.log) (counted : IsLastLoad n part) (same : w.shape ≡ k) (low : o < container_count k) (left : 0 < v.left) (fits : FitsKey key) where
   ask : MayAsk w o n
   ask = may_ask v w k o n part loaded looks own counted same low left
 
@@ -100,9 +100,10 @@ module _ (v w : View) (k : Shape) (o : ℕ) (key : Key) (n : ℕ) (part : List A
         let here : kind_in w.shape.starts o ≡ kind.Set = ap (λ (z : Shape). kind_in z.starts o) same ∙ is in
         set_hits_are_shown w o shows.t shows.place key n ask here fits (subst (λ z. shows.place < rows z (class_of shows.t)) is shows.low) shows.hit
 
--- an entry that follows such loads
-pub answered_after : (v w z : View) (called : Call) (said : Reply) (n : ℕ) (part : List Act) → OnlyLoaded v w → w.log ≡ part ++ v.log → Among (ReadCounter n) part → z ≡ view_after (Answer called said n) w → v.learnt ≤ shown v.log → ∥ IsReachable z ∥₁ → Answered called said n v z
-answered_after v w z called said n part loaded own counted is settled possible = record { before = w; loaded = loaded; part = part; own = own; counted = counted; answered = is; seen = answered_seen v w z called said part n own counted is settled possible }
+-- an entry that follows such loads, and what else they show
+pub answered_after : (shows : List Act → Type 0) (v w z : View) (called : Call) (said : Reply) (n : ℕ) (part : List Act) → OnlyLoaded v w → w.log ≡ part ++ v.log → IsLastLoad n part → z ≡ view_after (Answer called said n) w → v.learnt ≤ shown v.log → ∥ IsReachable z ∥₁ → shows part → (x : Answered called said n v z) × shows x.part
+answered_after shows v w z called said n part loaded own counted is settled possible so =
+    (record { before = w; loaded = loaded; part = part; own = own; counted = counted; answered = is; seen = answered_seen v w z called said part n own counted is settled possible }, so)
 
 pub contended_after : (v w : View) (k : Shape) (o : ℕ) (key : Key) (a b : ℕ) (part : List Act) → v.shape ≡ k → OnlyLoaded v w → AreLooks part → w.log ≡ part ++ v.log → Stops k o key a b part → IsKeyContended o key a b v w
 contended_after v w k o key a b part same loaded looks own stops =
@@ -124,7 +125,7 @@ answered_locked v u z called said n part loaded own is settled possible = record
   loaded = loaded_then v u (view_after (ReadCounter n) u) loaded (loaded_by (ReadCounter n) u (view_after (ReadCounter n) u) tt refl);
   part = ReadCounter n ∷ part;
   own = ap (λ (l : List Act). ReadCounter n ∷ l) own;
-  counted = record { newer = []; rest = part; is = refl };
+  counted = record { newer = []; rest = part; is = refl; none = refl };
   answered = is;
-  seen = answered_seen v (view_after (ReadCounter n) u) z called said (ReadCounter n ∷ part) n (ap (λ (l : List Act). ReadCounter n ∷ l) own) (record { newer = []; rest = part; is = refl }) is settled possible;
+  seen = answered_seen v (view_after (ReadCounter n) u) z called said (ReadCounter n ∷ part) n (ap (λ (l : List Act). ReadCounter n ∷ l) own) (record { newer = []; rest = part; is = refl; none = refl }) is settled possible;
 }

@@ -31,6 +31,7 @@ use Rattle.ft_bank.specs.WriteSteps.{MayHave}
 use Rattle.ft_bank.specs.SameBoxes.{SameReferences, named_in_words}
 use Rattle.ft_bank.proofs.BoxedSteps.{boxes_same, made_then}
 use Rattle.ft_bank.proofs.DoneBoxes.{done_as}
+use Rattle.ft_bank.proofs.LastLoads.{last_older}
 use Rattle.ft_bank.proofs.KnownAfterWrites.{loaded_held, loaded_then, work_knows, pass_then, same_work}
 use Rattle.ft_section.specs.declared.answers.Stamp.{Stamp}
 use Rattle.ft_section.specs.Ready.{IsStill, IsMaking}
@@ -110,11 +111,7 @@ module _ (v u : View) (l : OnlyLoaded v u) where
       loaded = loaded_then v u x.before l x.loaded;
       part = x.part ++ part;
       own = x.own ∙ (ap (λ (z : List Act). x.part ++ z) log ∙ sym (append_assoc x.part part v.log));
-      counted = record {
-        newer = x.counted.newer;
-        rest = x.counted.rest ++ part;
-        is = ap (λ (z : List Act). z ++ part) x.counted.is ∙ append_assoc x.counted.newer (ReadCounter n ∷ x.counted.rest) part;
-      };
+      counted = last_older n x.part part x.counted;
       answered = x.answered;
       seen = le_trans l.work.pass.seen x.seen;
     }

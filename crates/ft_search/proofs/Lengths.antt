@@ -24,7 +24,7 @@ use Rattle.ft_trace.specs.Acts.{has_lock, view_after}
 use Rattle.ft_trace.specs.Addresses.{container_count}
 use Rattle.ft_trace.specs.Causes.{HasCause}
 use Rattle.ft_trace.specs.Holds.{known_state}
-use Rattle.ft_trace.specs.LoggedReads.{Between, Among, LookedAtOne}
+use Rattle.ft_trace.specs.LoggedReads.{Between, LookedAtOne}
 use Rattle.ft_trace.specs.Pictures.{ContainerWords, Represents}
 use Rattle.ft_trace.specs.ContainerStates.{ContainerState, state_at, kind_in, reply_in}
 use Rattle.ft_trace.proofs.Known.{mapped}
@@ -124,6 +124,17 @@ count_shows o closed n count opened same even =
       between = record { version = opened; even = even; newer = []; rest = []; is = λ d. Version o (same d) ∷ (mid ++ Version o opened ∷ []) };
       read = record { newer = ReadCounter n ∷ []; rest = []; is = refl };
       counted = record { newer = []; rest = ReadBlock o 1 count ∷ []; is = refl };
+      last = record {
+        version = opened;
+        even = even;
+        newer = [];
+        mid = [];
+        older = ReadBlock o 1 count ∷ [];
+        rest = [];
+        is = λ d. Version o (same d) ∷ (mid ++ Version o opened ∷ []);
+        none = refl;
+        none_between = refl;
+      };
     }
 
 -- the loads of a call are those of the log
@@ -136,20 +147,6 @@ between_own o mid part old log own b =
       newer = b.newer;
       rest = b.rest ++ old;
       is = own ∙ (ap (λ (z : List Act). z ++ old) b.is ∙ (append_assoc b.newer (x ∷ (mid ++ x ∷ b.rest)) old ∙ ap (λ (z : List Act). b.newer ++ x ∷ z) (append_assoc mid (x ∷ b.rest) old)));
-    }
-
--- the stamp is among a call's loads
-pub count_counted : (o count n : ℕ) (part : List Act) → ShowsCount o count n part → Among (ReadCounter n) part
-count_counted o count n part s =
-    let b = s.between in
-    let x = Version o b.version in
-    let c = s.counted in
-    record {
-      newer = b.newer ++ x ∷ c.newer;
-      rest = c.rest ++ x ∷ b.rest;
-      is = b.is ∙ (ap (λ (z : List Act). b.newer ++ x ∷ (z ++ x ∷ b.rest)) c.is
-          ∙ (ap (λ (z : List Act). b.newer ++ x ∷ z) (append_assoc c.newer (ReadCounter n ∷ c.rest) (x ∷ b.rest))
-          ∙ sym (append_assoc b.newer (x ∷ c.newer) (ReadCounter n ∷ (c.rest ++ x ∷ b.rest)))));
     }
 
 pub len_shown : (v w : View) (called : Call) (o count n : ℕ) (part : List Act) → MayAsk w o n → w.log ≡ part ++ v.log → called ≡ len_of (kind_in w.shape.starts o) o → ShowsCount o count n part → IsShown w called (reply.Count count) n

@@ -15,16 +15,18 @@ use Rattle.std.proofs.Math.Logic.{∥∥₁_map}
 use Rattle.ft_trace.specs.Traces.{IsReachable}
 use Rattle.ft_trace.proofs.Anew.{unread, unread_find, unread_less}
 use Rattle.ft_bank.specs.declared.pass.Pass.{Pass}
+use Rattle.ft_bank.specs.LastLoads.{IsLastBetween, IsLastLoad}
 use Rattle.ft_bank.specs.Passes.{view}
 use Rattle.ft_bank.specs.Series.{noted_all, DidAll}
 use Rattle.ft_bank.specs.Whole.{OnlyLoaded}
 use Rattle.ft_bank.proofs.BoxedSteps.{boxes_same}
 use Rattle.ft_bank.proofs.KnownAfterWrites.{loaded_by, loaded_then, same_work}
+use Rattle.ft_bank.proofs.LastLoads.{between_older, last_newer, last_older}
 use Rattle.ft_search.specs.declared.looks.Looked.{Looked}
 use Rattle.ft_search.specs.declared.looks.Looked.TheVariants.{Here, Absent, Contended}
 use Rattle.ft_search.specs.declared.rounds.Round.{Round}
 use Rattle.ft_search.specs.declared.rounds.Round.TheVariants.{Ended, Moved}
-use Rattle.ft_search.specs.KeyLooks.{AreLooks, StopsAtEntry, StopsAtContainer, ShowsLooked, Inner, IsNew}
+use Rattle.ft_search.specs.KeyLooks.{AreLooks, StopsAtEntry, StopsAtContainer, ShowsLooked, Inner, IsNew, EndsLook}
 use Rattle.ft_search.specs.Rounds.{EndsTable, EndsRound}
 use Rattle.ft_search.proofs.BoxLoads.{IsLogged, box_load, logged_before}
 use Rattle.ft_search.proofs.NewRoots.{unread_inner}
@@ -134,10 +136,13 @@ container_in o a b new part old h = record {
   bare = h.bare;
 }
 
+pub ends_older : (o n : ℕ) (part old : List Act) → EndsLook o n part → EndsLook o n (part ++ old)
+ends_older o n part old how = ⊎_elim (λ x. inl (x.0, x.1 ++ old, ap (λ (z : List Act). z ++ old) x.2)) (λ b. inr (between_older o n part old b)) how
+
 -- a look-up that a longer list of loads ends
 pub looked_in : (k : Shape) (o : ℕ) (key : Key) (part old log : List Act) (looked : Looked) → ShowsLooked k o key part log looked → ShowsLooked k o key (part ++ old) log looked
-looked_in k o key part old log (Here value_kind value n) h = (h.0, among_more (ReadCounter n) part old h.1)
-looked_in k o key part old log (Absent n) h = (h.0, among_more (ReadCounter n) part old h.1)
+looked_in k o key part old log (Here value_kind value n) h = (h.0, last_older n part old h.1, ends_older o n part old h.2)
+looked_in k o key part old log (Absent n) h = (h.0, last_older n part old h.1, ends_older o n part old h.2)
 looked_in k o key part old log (Contended a b) h =
     ⊎_elim (λ x. inl (x.0, among_more (ReadRoot o (suc x.0)) part old x.1, entry_in k o x.0 key a b [] part old x.2)) (λ x. inr (container_in o a b [] part old x)) h
 
@@ -184,15 +189,41 @@ bare_of o closed n root opened p q did none same even =
       stamp = record { newer = []; rest = ReadRoot o 0 ∷ []; is = refl };
     }
 
+-- of these loads and the one of the root before them
+pub bare_last : (o closed n root opened : ℕ) → IsLastLoad n (bare_acts o closed n root opened ++ ReadRoot o 0 ∷ [])
+bare_last o closed n root opened =
+    record { newer = Version o closed ∷ []; rest = ReadRoot o root ∷ (Version o opened ∷ (ReadRoot o 0 ∷ [])); is = refl; none = refl }
+
+pub bare_between : (o closed n root opened : ℕ) → closed ≡ opened → opened % 2 ≡ 0 → IsLastBetween o n (bare_acts o closed n root opened ++ ReadRoot o 0 ∷ [])
+bare_between o closed n root opened same even = record {
+  version = opened;
+  even = even;
+  newer = [];
+  mid = [];
+  older = ReadRoot o root ∷ [];
+  rest = ReadRoot o 0 ∷ [];
+  is = λ d. Version o (same d) ∷ (ReadCounter n ∷ (ReadRoot o root ∷ (Version o opened ∷ (ReadRoot o 0 ∷ []))));
+  none = refl;
+  none_between = refl;
+}
+
 pub bare_absent : (k : Shape) (o closed n root opened : ℕ) (key : Key) (p q : Pass) → DidAll (bare_acts o closed n root opened) p q → root ≡ 0 → closed ≡ opened → opened % 2 ≡ 0 → EndsRound k o key 0 p q (Ended (Absent n))
 bare_absent k o closed n root opened key p q did none same even = (
   bare_acts o closed n root opened,
   tt,
   did,
-  (inr (bare_of o closed n root opened p q did none same even), record { newer = Version o closed ∷ []; rest = ReadRoot o root ∷ (Version o opened ∷ (ReadRoot o 0 ∷ [])); is = refl }),
+  (
+    inr (bare_of o closed n root opened p q did none same even),
+    bare_last o closed n root opened,
+    inr (bare_between o closed n root opened same even),
+  ),
 )
 
 -- ---- a round at whatever the root was
+
+-- the counter isn't loaded again where only the root is read once more
+pub last_read : (o r n : ℕ) (part old : List Act) → IsLastLoad n part → IsLastLoad n ((ReadRoot o r ∷ part) ++ old)
+last_read o r n part old last = last_newer n (ReadRoot o r ∷ []) (part ++ old) refl (last_older n part old last)
 
 pub at_bare : (k : Shape) (o : ℕ) (key : Key) (root : ℕ) (p q : Pass) (r : Round) → root ≡ 0 → EndsRound k o key 0 p q r → EndsRound k o key root p q r
 at_bare k o key root p q r none e = subst (λ (z : ℕ). EndsRound k o key z p q r) (sym none) e
@@ -202,11 +233,11 @@ at_table k o key t p q (Moved r) rest shape last e = (e.0, e.1, e.2, e.3, e.4)
 at_table k o key t p q (Ended (Here value_kind value n)) rest shape last e =
     let part = e.0 in
     let win = window_of o t part rest p q e.2 last e.1 in
-    (ReadRoot o (suc t) ∷ part, looks_inner part e.1, e.2, (e.3.0 (view q) shape q.possible win, among_in (ReadCounter n) (ReadRoot o (suc t) ∷ []) part (ReadRoot o (suc t) ∷ []) e.3.1))
+    (ReadRoot o (suc t) ∷ part, looks_inner part e.1, e.2, (e.3.0 (view q) shape q.possible win, last_read o (suc t) n part (ReadRoot o (suc t) ∷ []) e.3.1, inl (t, part ++ ReadRoot o (suc t) ∷ [], refl)))
 at_table k o key t p q (Ended (Absent n)) rest shape last e =
     let part = e.0 in
     let win = window_of o t part rest p q e.2 last e.1 in
-    (ReadRoot o (suc t) ∷ part, looks_inner part e.1, e.2, (e.3.0 (view q).log win, among_in (ReadCounter n) (ReadRoot o (suc t) ∷ []) part (ReadRoot o (suc t) ∷ []) e.3.1))
+    (ReadRoot o (suc t) ∷ part, looks_inner part e.1, e.2, (e.3.0 (view q).log win, last_read o (suc t) n part (ReadRoot o (suc t) ∷ []) e.3.1, inl (t, part ++ ReadRoot o (suc t) ∷ [], refl)))
 at_table k o key t p q (Ended (Contended a b)) rest shape last e =
     let part = e.0 in
     (ReadRoot o (suc t) ∷ part, looks_inner part e.1, e.2, inl (t, record { newer = []; rest = part ++ ReadRoot o (suc t) ∷ []; is = refl }, entry_in k o t key a b (ReadRoot o (suc t) ∷ []) part (ReadRoot o (suc t) ∷ []) e.3))

@@ -260,7 +260,7 @@ module _ (k : Shape) (o t : ℕ) (key : Key) (slot place : ℕ) (earlier : List 
                   record { newer = stamped ∷ []; rest = kind_box ∷ (value_load ∷ (kind_load ∷ (live_load ∷ []))); is = refl },
                 );
               }),
-          record { newer = entry 0 seen.closed ∷ []; rest = value_box ∷ (kind_box ∷ (value_load ∷ (kind_load ∷ (entry 2 seen.key_kind ∷ (entry 0 seen.opened ∷ live))))); is = refl },
+          record { newer = entry 0 seen.closed ∷ []; rest = value_box ∷ (kind_box ∷ (value_load ∷ (kind_load ∷ (entry 2 seen.key_kind ∷ (entry 0 seen.opened ∷ live))))); is = refl; none = refl },
         )
     here_as false seen inside steady even stays sees =
         let stamped : Act = ReadCounter seen.number in
@@ -288,7 +288,7 @@ module _ (k : Shape) (o t : ℕ) (key : Key) (slot place : ℕ) (earlier : List 
                   subst (λ (z : ℕ). Among (entry 5 z) hit.mid) (sym plain.1) value_among,
                 );
               }),
-          record { newer = entry 0 seen.closed ∷ []; rest = value_load ∷ (kind_load ∷ (entry 2 seen.key_kind ∷ (entry 0 seen.opened ∷ live))); is = refl },
+          record { newer = entry 0 seen.closed ∷ []; rest = value_load ∷ (kind_load ∷ (entry 2 seen.key_kind ∷ (entry 0 seen.opened ∷ live))); is = refl; none = refl },
         )
 
     pub closes_here : (seen : SeenEntry) → place < m → seen.closed ≡ seen.opened → seen.opened % 2 ≡ 0 → seen.key_kind ≡ key_kind key → SeesValue k seen.found_kind seen.payload seen.value → ClosesAt k o t key (entry_acts t place seen ++ live) (Here seen.value.kind seen.value.value seen.number)
@@ -325,7 +325,7 @@ module _ (k : Shape) (o t : ℕ) (key : Key) where
               visits = λ j less. subst (λ (z : List ℕ). Passed part t m (slice_index z j) key) (sym split) (each_slot (λ z. Passed part t m z key) w.passed (slot ∷ rest) w.rightly j less);
             } in
             inl (t, inl miss)),
-        record { newer = ReadTable t slot 0 ∷ []; rest = part; is = refl },
+        record { newer = ReadTable t slot 0 ∷ []; rest = part; is = refl; none = refl },
       )
     where
       low_step : (passed : List ℕ) (slot : ℕ) (rest : List ℕ) → length (walk_of (kind_in k.starts o) k.texts (class_of t) key) ≡ length (passed ++ slot ∷ rest) → length passed < length (walk_of (kind_in k.starts o) k.texts (class_of t) key)
@@ -348,5 +348,5 @@ module _ (k : Shape) (o t : ℕ) (key : Key) where
               visits = λ j less. subst (λ (z : List ℕ). Passed part t m (slice_index z j) key) (sym split) (each_slot (λ z. Passed part t m z key) w.passed [] w.rightly j (omega (arith, less, long)));
             } in
             inl (t, inr full)),
-        record { newer = []; rest = part; is = refl },
+        record { newer = []; rest = part; is = refl; none = refl },
       )

@@ -20,6 +20,7 @@ use Rattle.ft_section.specs.declared.answers.Look.TheVariants as look
 use Rattle.ft_model.specs.declared.call.Call.{Call}
 use Rattle.ft_trace.specs.declared.View.{View}
 use Rattle.ft_bank.specs.Answered.{Answered}
+use Rattle.ft_bank.specs.LastLoads.{IsLastBetween, IsLastLoad}
 use Rattle.ft_bank.specs.Whole.{OnlyLoaded}
 
 -- only loads of versions, words of blocks, tables and boxes, and the counter
@@ -93,11 +94,19 @@ abbrev pub Stops : Shape → ℕ → Key → ℕ → ℕ → List Act → Type 0
 Stops k o key a b part =
     ((t : ℕ) × Among (ReadRoot o (suc t)) part × StopsAtEntry k o t key a b part) ⊎ StopsAtContainer o a b part
 
--- a look-up came to this, by its own loads (`part`) and those before (`log` has both)
+-- The last of these loads read that the root of o names a table; or else the newest load of the counter gave n between
+-- two loads of the container's version that gave the same even number.
+abbrev pub EndsLook : ℕ → ℕ → List Act → Type 0
+EndsLook o n part =
+    ((t : ℕ) × (older : List Act) × (part ≡ ReadRoot o (suc t) ∷ older)) ⊎ IsLastBetween o n part
+
+-- a look-up came to this, by its own loads (`part`) and those before (`log` has both), at what it loaded last as the
+-- counter
 abbrev pub ShowsLooked : Shape → ℕ → Key → List Act → List Act → Looked → Type 0
 ShowsLooked k o key part log (looked.Here value_kind value n) =
-    ShowsHere k o key value_kind value n log × Among (ReadCounter n) part
-ShowsLooked k o key part log (looked.Absent n) = ShowsAbsent k o key n log × Among (ReadCounter n) part
+    ShowsHere k o key value_kind value n log × IsLastLoad n part × EndsLook o n part
+ShowsLooked k o key part log (looked.Absent n) =
+    ShowsAbsent k o key n log × IsLastLoad n part × EndsLook o n part
 ShowsLooked k o key part log (looked.Contended a b) = Stops k o key a b part
 
 -- The pass loaded words of the bank and did nothing else, and the version of the key's own entry stopped the look-up;
@@ -109,9 +118,11 @@ pub record IsKeyContended (o : ℕ) (key : Key) (a b : ℕ) (v w : View) : Type 
   pub own : w.log ≡ part ++ v.log
   pub stops : Stops v.shape o key a b part
 
--- What a call answers that looks up a key without the lock. It gave a reply, which is the one that its entry has, with
--- a stamp that it loaded; or it was contended. It takes no memory.
+-- What a call answers that looks up a key without the lock. It gave a reply, which is the one that its entry has, at the
+-- counter that it loaded last; after that it read that the root names a table, or else it loaded that counter between
+-- two loads of the container's version that gave the same even number. Or it was contended. It takes no memory.
 abbrev pub IsLookOf : ℕ → Key → Call → View → View → Look → Type 0
-IsLookOf o key called v w (look.Done said stamp) = Answered called said stamp.number v w × (stamp.wrote ≡ false)
+IsLookOf o key called v w (look.Done said stamp) =
+    (x : Answered called said stamp.number v w) × (stamp.wrote ≡ false) × EndsLook o stamp.number x.part
 IsLookOf o key called v w (look.Contended a b) = IsKeyContended o key a b v w
 IsLookOf o key called v w look.NoMemory = ⊥

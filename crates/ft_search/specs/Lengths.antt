@@ -12,6 +12,7 @@ use Rattle.ft_trace.specs.declared.Act.TheVariants.{Version, ReadBlock, ReadCoun
 use Rattle.ft_trace.specs.declared.View.{View}
 use Rattle.ft_trace.specs.LoggedReads.{Between, Among}
 use Rattle.ft_bank.specs.Answered.{Answered}
+use Rattle.ft_bank.specs.LastLoads.{IsLastBetween}
 use Rattle.ft_bank.specs.Whole.{OnlyLoaded}
 use Rattle.ft_section.specs.declared.answers.Look.{Look}
 use Rattle.ft_section.specs.declared.answers.Look.TheVariants as look
@@ -37,12 +38,13 @@ pub record StopsAtVersion (o a b : ℕ) (part : List Act) : Type 0 where
   pub moved : (a % 2 ≢ 0) ⊎ (b ≢ a)
 
 -- Between two loads of the version of the container that gave the same even number, the loads gave this as the number
--- of its pairs, items or elements, and n as the counter.
+-- of its pairs, items or elements, and n as the counter, which was not loaded again.
 pub record ShowsCount (o count n : ℕ) (part : List Act) : Type 0 where
   pub mid : List Act
   pub between : Between part o mid
   pub read : Among (ReadBlock o 1 count) mid
   pub counted : Among (ReadCounter n) mid
+  pub last : IsLastBetween o n part
 
 -- what these loads show of the container
 abbrev pub ShowsCounted : ℕ → List Act → Counted → Type 0
@@ -58,8 +60,10 @@ pub record IsStopped (o a b : ℕ) (v w : View) : Type 0 where
   pub stops : StopsAtVersion o a b part
 
 -- What a call answers that reads a container between two loads of its version. It gave a reply, which is the one that
--- its entry has, with a stamp that it loaded; or it was contended. It takes no memory.
+-- its entry has, at the counter that it loaded last, between two loads of the version that gave the same even number; or
+-- it was contended. It takes no memory.
 abbrev pub IsGlanceOf : ℕ → Call → View → View → Look → Type 0
-IsGlanceOf o called v w (look.Done said stamp) = Answered called said stamp.number v w × (stamp.wrote ≡ false)
+IsGlanceOf o called v w (look.Done said stamp) =
+    (x : Answered called said stamp.number v w) × (stamp.wrote ≡ false) × IsLastBetween o stamp.number x.part
 IsGlanceOf o called v w (look.Contended a b) = IsStopped o a b v w
 IsGlanceOf o called v w look.NoMemory = ⊥

@@ -21,6 +21,7 @@ use Rattle.ft_trace.specs.ContainerStates.{kind_in}
 use Rattle.ft_trace.specs.LoggedReads.{Among}
 use Rattle.ft_trace.specs.LoggedLookUps.{Passed, LookUpWindow}
 use Rattle.ft_bank.specs.declared.pass.Pass.{Pass}
+use Rattle.ft_bank.specs.LastLoads.{IsLastLoad}
 use Rattle.ft_bank.specs.Passes.{view}
 use Rattle.ft_bank.specs.Series.{DidAll}
 use Rattle.ft_search.specs.declared.looks.Looked.{Looked}
@@ -77,9 +78,9 @@ pub record Walked (k : Shape) (o t : ℕ) (key : Key) (part : List Act) (left : 
 abbrev pub ClosesAt : Shape → ℕ → ℕ → Key → List Act → Looked → Type 0
 ClosesAt k o t key part (Here value_kind value n) =
     ((w : View) → w.shape ≡ k → ∥ IsReachable w ∥₁ → LookUpWindow w.log o t part → ShowsHere k o key value_kind value n w.log)
-    × Among (ReadCounter n) part
+    × IsLastLoad n part
 ClosesAt k o t key part (Absent n) =
-    ((log : List Act) → LookUpWindow log o t part → ShowsAbsent k o key n log) × Among (ReadCounter n) part
+    ((log : List Act) → LookUpWindow log o t part → ShowsAbsent k o key n log) × IsLastLoad n part
 ClosesAt k o t key part (Contended a b) = StopsAtEntry k o t key a b part
 
 -- how a search ends a look-up, where it does

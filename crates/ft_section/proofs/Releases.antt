@@ -49,6 +49,7 @@ only_then u v w l m between =
       flight = m.flight ∙ l.flight;
       references = λ b. m.references b ∙ l.references b;
       made = made_then u v w l.made m.made;
+      present = λ is. m.present (l.present is);
       knows = λ p low had has.
           let then_has = between p had has in
           let a = l.knows p low had then_has in

@@ -23,6 +23,7 @@ use Rattle.ft_trace.specs.Owners.{LocksOnly, SameOwners}
 use Rattle.ft_trace.specs.Holds.{held_unboxed, known_state}
 use Rattle.ft_trace.specs.BegunSections.{begun}
 use Rattle.ft_trace.specs.Pictures.{Represents}
+use Rattle.ft_bank.specs.Logs.{StaysOnline}
 
 -- The pass has taken locks or let locks go, and done nothing else. Of each container whose lock it had and has it knows
 -- the same. (profile)
@@ -52,6 +53,7 @@ pub record OnlyLocked (v w : View) : Type 0 where
   pub flight : flight w.log ≡ flight v.log
   pub references : SameReferences v w
   pub made : SameMade v w
+  pub present : StaysOnline v w
   pub knows : (p : ℕ) → p < container_count v.shape → has_lock p v.log ≡ true → has_lock p w.log ≡ true
       → KnowsSame p v w
 

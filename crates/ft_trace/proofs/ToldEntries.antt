@@ -17,7 +17,7 @@ use Rattle.ft_trace.specs.declared.Entry.{Entry}
 use Rattle.ft_trace.specs.declared.Shape.{Shape}
 use Rattle.ft_trace.specs.declared.Told.{Told}
 use Rattle.ft_trace.specs.declared.View.{View}
-use Rattle.ft_trace.specs.Acts.{entries_next, seen_writes, shown, view_after, starter, maker, made, both, spent, sender, note, own_told, told_in, tells}
+use Rattle.ft_trace.specs.Acts.{entries_next, seen_writes, shown, view_after, starter, maker, made, both, spent, sender, note, own_told, presence_of, told_in, tells}
 use Rattle.ft_trace.specs.Causes.{Loaded}
 use Rattle.ft_trace.specs.NumberPlaces.{top}
 use Rattle.ft_trace.specs.OwnOrder.{number_after}
@@ -96,9 +96,9 @@ are_then es fs s t up more told old = All-weaker (IsSo es s) (IsSo fs t) (so_the
 own_so : (es : List Event) (j : ℕ) (u : View) → Tells es j u → AreSo es (seen_writes u) (own_told u)
 own_so es j u t =
     dite (ℕ_discrete u.number 0)
-    (λ (none : u.number ≡ 0). subst (AreSo es (seen_writes u)) (sym (here u.number 0 [] (record { pass = u.number; seen = seen_writes u; entries = u.entries } ∷ []) none)) (All-nil (IsSo es (seen_writes u))))
-    (λ (live : u.number ≢ 0). subst (AreSo es (seen_writes u)) (sym (miss u.number 0 [] (record { pass = u.number; seen = seen_writes u; entries = u.entries } ∷ []) live))
-    (All-cons (IsSo es (seen_writes u)) (record { pass = u.number; seen = seen_writes u; entries = u.entries }) []
+    (λ (none : u.number ≡ 0). subst (AreSo es (seen_writes u)) (sym (here u.number 0 [] (record { pass = u.number; seen = seen_writes u; entries = u.entries; presence = presence_of u.log } ∷ []) none)) (All-nil (IsSo es (seen_writes u))))
+    (λ (live : u.number ≢ 0). subst (AreSo es (seen_writes u)) (sym (miss u.number 0 [] (record { pass = u.number; seen = seen_writes u; entries = u.entries; presence = presence_of u.log } ∷ []) live))
+    (All-cons (IsSo es (seen_writes u)) (record { pass = u.number; seen = seen_writes u; entries = u.entries; presence = presence_of u.log }) []
     (record { first = ([], sym (t.own live)); before = t.seen; low = le_refl (seen_writes u) })
     (All-nil (IsSo es (seen_writes u)))))
 

@@ -1,11 +1,13 @@
 -- What one action reads and writes, and what the actions of a pass say of it.
-use Rattle.std.specs.Prelude.{◌≡◌, ℕ, suc, max, ◌+◌, ◌-◌, ◌*◌, ◌^◌, ◌%◌, ◌==◌, nat_lt, Bool, true, false, cond, List, [], ◌∷◌, ◌++◌, map, slice_index, slice_set}
+use Rattle.std.specs.Prelude.{◌≡◌, ℕ, zero, suc, max, ◌+◌, ◌-◌, ◌*◌, ◌^◌, ◌%◌, ◌==◌, nat_lt, Bool, true, false, cond, List, [], ◌∷◌, ◌++◌, map, slice_index, slice_set}
 use Rattle.std.specs.List.{flat_map}
 use prog.Atomic.{either}
 use Rattle.ft_trace.specs.declared.Act.{Act}
 use Rattle.ft_trace.specs.declared.Act.TheVariants.{Lock, Unlock, StartWrite, PutBlock, PutRoot, PutTable, PutFresh, PutHeader, ReadHeader, Commit, StopWrite, Version, ReadBlock, ReadRoot, ReadTable, ReadCounter, Answer, AnswerCursor, LowerCount, RaiseCount, ReadCount, ReadFree, TakeTable, GiveTable, Retire, Announce, ReadAnnounced, WriteNumber, TakeFloor, TookOver, ReadFreePlaces, TakePlace, PutBox, PublishBox, ReadBox, RaiseLocal, DropLocal, ClearLocal, MergeCounts, RaiseShared, RaiseKept, DropShared, GivePlace}
 use Rattle.ft_trace.specs.declared.Entry.{Entry}
 use Rattle.ft_trace.specs.declared.Handed.{Handed}
+use Rattle.ft_trace.specs.declared.Presence.{Presence}
+use Rattle.ft_trace.specs.declared.Presence.TheVariants as presence
 use Rattle.ft_trace.specs.declared.Shape.{Shape}
 use Rattle.ft_trace.specs.declared.Told.{Told}
 use Rattle.ft_model.specs.declared.call.Call.{Call}
@@ -237,6 +239,31 @@ abbrev pub announces : List Act → ℕ
 announces [] = 0
 announces (a ∷ l) = announces_next a (announces l)
 
+-- what an entry leaves of a presence
+abbrev pub presence_after_entry : Presence → Presence
+presence_after_entry presence.Online = presence.Online
+presence_after_entry _ = presence.Broken
+
+-- and what the pass's announcing of a number leaves of it, where 0 is offline
+abbrev pub presence_after_announcing : ℕ → Presence → Presence
+presence_after_announcing zero presence.Online = presence.Over
+presence_after_announcing zero was = was
+presence_after_announcing (suc n) presence.Before = presence.Online
+presence_after_announcing (suc n) presence.Over = presence.Broken
+presence_after_announcing (suc n) was = was
+
+abbrev pub presence_next : Act → Presence → Presence
+presence_next (Announce p x) was = presence_after_announcing x was
+presence_next (Commit c r f s) was = presence_after_entry was
+presence_next (Answer c r x) was = presence_after_entry was
+presence_next (AnswerCursor c r x number had left) was = presence_after_entry was
+presence_next act was = was
+
+-- whether the pass has been online from before its first entry until after its last (PEP 703, QSBR)
+abbrev pub presence_of : List Act → Presence
+presence_of [] = presence.Before
+presence_of (a ∷ l) = presence_next a (presence_of l)
+
 -- the pass has found t in a root since it last announced
 abbrev pub reads_next : ℕ → Act → Bool → Bool
 reads_next t (ReadRoot o f) b = cond (f == suc t) true b
@@ -332,7 +359,9 @@ seen_writes v = max v.learnt (shown v.log)
 
 -- what it tells of itself: a note tells nothing of itself, and has what its maker told
 abbrev pub own_told : View → List Told
-own_told v = cond (v.number == 0) [] (record { pass = v.number; seen = seen_writes v; entries = v.entries } ∷ [])
+own_told v =
+    cond (v.number == 0) []
+    (record { pass = v.number; seen = seen_writes v; entries = v.entries; presence = presence_of v.log } ∷ [])
 
 -- what a pass was told of others, by notes and by passes that it took in, and what those were told
 abbrev pub told_in_next : Act → List Told → List Told

@@ -143,7 +143,20 @@ pub struct Handed {
     pub goal: u64,
 }
 
-/// What was told of a pass: the entries that it had made, newest first, and how many writes it had seen.
+/// Whether a pass has been online from before its first entry until after its last.
+pub enum Presence {
+    /// It was never online, and has made no entry.
+    Before,
+    /// It has been online since before its first entry.
+    Online,
+    /// It was online from before its first entry until after its last, and has been offline since then.
+    Over,
+    /// It made an entry while it was offline, or came online a second time.
+    Broken,
+}
+
+/// What was told of a pass: the entries that it had made, newest first, how many writes it had seen, and whether it was
+/// online all the while.
 pub struct Told {
     /// The pass: its number as lock words say it.
     pub pass: u64,
@@ -151,6 +164,8 @@ pub struct Told {
     pub seen: u64,
     /// The entries that it had made, newest first.
     pub entries: LinkedList<Entry>,
+    /// Whether it was online while it made them.
+    pub presence: Presence,
 }
 
 /// A pass that had the lock of a container.

@@ -9,7 +9,8 @@ use Rattle.ft_model.specs.declared.reply.Reply.TheVariants as reply
 use Rattle.ft_model.specs.declared.script.ScriptParts.{ScriptParts}
 use Rattle.ft_model.specs.Histories.{calls_of}
 use Rattle.ft_model.specs.Limits.{most_cursors}
-use Rattle.ft_trace.specs.Acts.{announces}
+use Rattle.ft_trace.specs.declared.Presence.TheVariants as presence
+use Rattle.ft_trace.specs.Acts.{announces, presence_of}
 use Rattle.ft_bank.specs.declared.note.Note.{Note}
 use Rattle.ft_bank.specs.declared.tokens.Tokens.{Tokens}
 use Rattle.ft_bank.specs.Floors.{AreTokensOf, IsRestingOf, carried, stack_at_rest}
@@ -37,6 +38,8 @@ use Rattle.ft_run_threads.specs.Workers.{IsMember}
 use Rattle.ft_run_turns.specs.declared.awaiting.AwaitState.{AwaitState}
 use Rattle.ft_run_turns.specs.declared.awaiting.AwaitState.TheVariants as awaited
 use Rattle.ft_run_turns.specs.declared.seats.Seat.{Seat}
+use Rattle.ft_bank.specs.Closings.{HasBeenOnline}
+use Rattle.ft_engine.specs.Presences.{IsStillOnline}
 
 -- ---- seats
 
@@ -60,7 +63,7 @@ abbrev pub entries_made : List (Option Seat) → ℕ
 entries_made seats = sum_by (λ seat. length (seat_entries seat)) seats
 
 -- The caller of this thread was answered these entries, of the thread's first calls. The call that it is in is the next
--- one. It is online as long as it has calls left.
+-- one. It has been online since before the first turn as long as it has calls left, and then it goes offline.
 pub record IsBetweenTurns (e : Engine) (script : ScriptParts) (i : ℕ) (c : Caller) (mine : List Entry) : Type 0 where
   pub member : IsMember e i c
   pub cursors : length (hands_of c) ≡ most_cursors
@@ -70,8 +73,9 @@ pub record IsBetweenTurns (e : Engine) (script : ScriptParts) (i : ℕ) (c : Cal
       → AllowsCall (flight_of c) called
   -- it is in no call where the next one is an `await`
   pub idle : (named index : ℕ) → slice_get (calls_of script i) (length mine) ≡ Some (call.Await named index) → IsIdle c
-  pub online : length mine < length (calls_of script i) → 0 < announces (view (pass_of c)).log
+  pub online : length mine < length (calls_of script i) → (0 < announces (view (pass_of c)).log) × IsStillOnline c
   pub done : length (calls_of script i) ≤ length mine → IsIdle c × (announces (view (pass_of c)).log ≡ 0)
+      × HasBeenOnline (presence_of (view (pass_of c)).log)
 
 -- it rests
 pub record IsSeatOf (e : Engine) (script : ScriptParts) (i : ℕ) (s : Seat) : Type 0 where
@@ -183,7 +187,7 @@ pub record HasLearned (e : Engine) (called : Call) (c : Caller) (mine : List Ent
 
 -- ---- the start
 
--- the caller of this thread has made no call, and is offline
+-- the caller of this thread has made no call, and was never online
 pub record IsNewCaller (e : Engine) (i : ℕ) (c : Caller) : Type 0 where
   pub member : IsMember e i c
   pub idle : IsIdle c
@@ -191,6 +195,7 @@ pub record IsNewCaller (e : Engine) (i : ℕ) (c : Caller) : Type 0 where
   pub kept : WasAnswered c []
   pub sections : stack_of (pass_of c) ≡ no_sections
   pub offline : announces (view (pass_of c)).log ≡ 0
+  pub never : presence_of (view (pass_of c)).log ≡ presence.Before
 
 -- it rests
 pub record IsNewRest (e : Engine) (i : ℕ) (r : RestingCaller) : Type 0 where

@@ -19,7 +19,7 @@ returns-in-Some-clause-found c =
       e.keeps,
       key_here v w k c.args.d c.args.key n m.0 e.keeps m.1 own m.3.1 e.pass.1 c.requires.container c.requires.left e.key
           c.in-Here.kind c.in-Here.payload m.3.0 c.requires.dict c.in-Some.value stored,
-      (m.0, own, m.3.1),
+      (m.0, own, m.3.1, m.3.2),
     )
 
 pub returns-in-Absent-clause-found : goal.returns-in-Absent-clause-found
@@ -32,7 +32,7 @@ returns-in-Absent-clause-found c =
       e.keeps,
       key_absent v w (shape_of c.args.bank.now) c.args.d c.args.key c.in-Absent.number m.0 e.keeps m.1 own m.3.1 e.pass.1
           c.requires.container c.requires.left e.key c.requires.dict m.3.0,
-      (m.0, own, m.3.1),
+      (m.0, own, m.3.1, m.3.2),
     )
 
 pub returns-in-Contended-clause-found : goal.returns-in-Contended-clause-found

@@ -1,5 +1,5 @@
-use Rattle.std.proofs.Common.{◌≡◌, ◌<◌, ◌∙◌, ℕ, false, refl, sym, ap, subst, le_trans}
-use Rattle.std.proofs.Math.Nat.{le-max_right}
+use Rattle.std.proofs.Common.{◌≡◌, ◌<◌, ◌≤◌, ◌∙◌, ℕ, false, refl, sym, ap, subst, le_trans}
+use Rattle.std.proofs.Math.Nat.{le-max_left, le-max_right}
 use Rattle.ft_model.specs.declared.call.Call.{Call}
 use Rattle.ft_model.specs.declared.call.Call.TheVariants as call
 use Rattle.ft_model.specs.declared.reply.Reply.TheVariants as reply
@@ -8,7 +8,7 @@ use Rattle.ft_section.specs.declared.answers.Step.TheVariants as step
 use Rattle.ft_section.specs.Sectioning.{answered_view}
 use Rattle.ft_trace.specs.declared.Act.TheVariants.{Answer}
 use Rattle.ft_trace.specs.declared.View.{View}
-use Rattle.ft_trace.specs.Acts.{announces, shown, view_after}
+use Rattle.ft_trace.specs.Acts.{announces, shown, view_after, presence_of}
 use Rattle.ft_bank.specs.Notes.{says, told_by}
 use Rattle.ft_bank.specs.Passes.{view}
 use Rattle.ft_engine.specs.Answering.{IsTryOfCall}
@@ -61,10 +61,19 @@ returns-clause-tried c hands =
     (a.1 ∙ ap (view_after (Answer c.args.call.now reply.Done n)) d.1) ∙ ap (λ (z : Call). answered_view z reply.Done n (view q)) told.await in
     subst (λ (z : Call). IsTryOfCall b hands z p r (step.Done reply.Done stamp)) (sym told.await) (
       await_answer b p q r told.thread told.index stamp c.requires.ready c.requires.left pass c.learn.ensures.sections calm (λ on. subst (λ (z : View). 0 < announces z.log) (sym x.1) on)
+          (λ here. ap (λ (z : View). presence_of z.log) x.1 ∙ here)
           (a.0 ∙ (d.0 ∙ pass.0), ap (λ (z : View). z.shape) a.1 ∙ (ap (λ (z : View). z.shape) d.1 ∙ pass.1)) (a.2 ∙ d.2) is refl c.stamp-number.ensures.seen,
       no_containers hands named p refl,
       same_for hands named v (view r) (answered_owners named reply.Done n v (view q) (view r) calm is),
     )
+
+pub returns-clause-seen : goal.returns-clause-seen
+returns-clause-seen c =
+    let u = view c.learn.new.pass in
+    let n = c.stamp-number.result in
+    let loaded = ap (λ (z : View). shown z.log) c.stamp-number.ensures.did.1 in
+    let answered = ap (λ (z : View). shown z.log) c.answer.ensures.1 in
+    subst (λ (seen : ℕ). says c.args.note ≤ seen) (sym (answered ∙ loaded)) (le_trans c.learn.ensures.seen.0 (le-max_left (shown u.log) n))
 
 pub returns-clause-stamp : goal.returns-clause-stamp
 returns-clause-stamp c =

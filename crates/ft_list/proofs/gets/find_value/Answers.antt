@@ -16,7 +16,7 @@ returns-in-Past-clause-found c =
       e.keeps,
       past_shown v w (shape_of c.args.bank.now) c.args.l c.args.index c.in-Past.number m.0 e.keeps m.1 own m.3.1 e.pass.1
           c.requires.container c.requires.left c.requires.list m.3.0,
-      (m.0, own, m.3.1),
+      (m.0, own, m.3.1, m.3.2),
     )
 
 pub returns-in-Contended-clause-found : goal.returns-in-Contended-clause-found
@@ -37,7 +37,7 @@ returns-in-Some-clause-found c =
       found_shown v w (shape_of c.args.bank.now) c.args.l c.args.index c.in-Item.number m.0 e.keeps m.1 own m.3.1 e.pass.1
           c.requires.container c.requires.left c.requires.list c.in-Item.kind c.in-Item.payload m.3.0
           c.found_of.result (λ value is. (c.found_of.ensures.value value).1 is) (λ is. c.found_of.ensures.none.1 is) c.in-Some.found c.in-Some.is,
-      (m.0, own, m.3.1),
+      (m.0, own, m.3.1, m.3.2),
     )
 
 pub unreachable-requires : goal.unreachable-requires

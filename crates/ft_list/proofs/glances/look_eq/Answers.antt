@@ -39,4 +39,4 @@ returns-clause-looked c =
     let v = view a.pass.now in
     let z = view c.answer_look.new.pass in
     subst (λ r. IsGlanceOfBoth a.l a.m called v z r) (sym c.answer_look.ensures.done)
-    (saw_both_answered (shape_of a.bank.now) a.l a.m (AreOfItems (shape_of a.bank.now) (λ items others. b.result.0 ≡ same_items items others)) b.result.1 b.result.2 a.pass.now b.new.pass b.ensures.saw called (reply.Truth b.result.0) z c.answer_look.ensures.did.1 a.pass.now.settled c.answer_look.new.pass.possible, refl)
+    (saw_both_answered (shape_of a.bank.now) a.l a.m (AreOfItems (shape_of a.bank.now) (λ items others. b.result.0 ≡ same_items items others)) b.result.1 b.result.2 a.pass.now b.new.pass b.ensures.saw called (reply.Truth b.result.0) z c.answer_look.ensures.did.1 a.pass.now.settled c.answer_look.new.pass.possible (c.has_moved.ensures.still c.if-has_moved.false) (c.has_moved-2.ensures.still c.if-has_moved-2.false))

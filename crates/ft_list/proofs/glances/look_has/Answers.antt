@@ -43,4 +43,4 @@ returns-clause-looked c =
     let v = view a.pass.now in
     let z = view c.answer_look.new.pass in
     subst (λ r. IsGlanceOf a.l called v z r) (sym c.answer_look.ensures.done)
-    (saw_answered k a.l (IsOfItems k (λ items. b.result.0 ≡ index_of items a.value)) b.result.1 a.pass.now b.new.pass b.ensures.saw called (reply.Truth c.is_some.result) z c.answer_look.ensures.did.1 a.pass.now.settled c.answer_look.new.pass.possible, refl)
+    (saw_answered k a.l (IsOfItems k (λ items. b.result.0 ≡ index_of items a.value)) b.result.1 a.pass.now b.new.pass b.ensures.saw called (reply.Truth c.is_some.result) z c.answer_look.ensures.did.1 a.pass.now.settled c.answer_look.new.pass.possible (c.has_moved.ensures.still c.if-has_moved.false))

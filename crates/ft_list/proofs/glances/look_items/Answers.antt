@@ -44,7 +44,7 @@ returns-in-Ok-clause-looked c =
     let v = view a.pass.now in
     let z = view c.answer_look.new.pass in
     subst (λ r. IsCopyGlanceOf k a.l (IsOfItems k (λ (items : List Value). 0 < length items)) called v z r) (sym c.answer_look.ensures.done)
-    (saw_answered k a.l (IsOfItems k (AreCopied b.result.0)) b.result.1 a.pass.now b.new.pass b.ensures.saw called said z c.answer_look.ensures.did.1 a.pass.now.settled c.answer_look.new.pass.possible, refl)
+    (saw_answered k a.l (IsOfItems k (AreCopied b.result.0)) b.result.1 a.pass.now b.new.pass b.ensures.saw called said z c.answer_look.ensures.did.1 a.pass.now.settled c.answer_look.new.pass.possible (c.has_moved.ensures.still c.if-has_moved.false))
 
 pub returns-in-Err-clause-looked : goal.returns-in-Err-clause-looked
 returns-in-Err-clause-looked c =

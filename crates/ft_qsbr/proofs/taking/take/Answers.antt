@@ -1,7 +1,7 @@
 use Rattle.std.proofs.Common.{◌≡◌, ◌≤◌, le_trans, ℕ, false, List, ◌++◌, sym, ap, ◌∙◌, subst, inl, inr, ⊎_elim}
 use Rattle.ft_trace.specs.declared.Act.{Act}
 use Rattle.ft_trace.specs.declared.View.{View}
-use Rattle.ft_trace.specs.Acts.{has_goal, seen_writes, stage}
+use Rattle.ft_trace.specs.Acts.{has_goal, seen_writes, stage, presence_of}
 use Rattle.ft_trace.specs.Floors.{at_floor}
 use Rattle.ft_trace.specs.Owners.{SameOwners}
 use Rattle.ft_trace.proofs.Owning.{owners_then}
@@ -14,7 +14,7 @@ use Rattle.ft_bank.specs.Takings.{IsTaking, StaysIn}
 use Rattle.ft_bank.proofs.Freeing.{but_same, but_then}
 use Rattle.ft_bank.proofs.Logs.{noted_grown}
 use Rattle.ft_qsbr.specs.Collecting.{StaysOrGoes, loads_of}
-use Rattle.ft_qsbr.proofs.PassesStay.{begun_stays, cursors_stay, floor_stays, since_stays, owners_stay, learnt_stays, seen_stays, collection_leaves, given_or_kept, taking_leaves, same_by}
+use Rattle.ft_qsbr.proofs.PassesStay.{begun_stays, cursors_stay, floor_stays, since_stays, owners_stay, learnt_stays, seen_stays, collection_leaves, given_or_kept, taking_leaves, same_by, presence_stays}
 use Rattle.ft_qsbr.proofs.taking.take.Goals as goal
 
 pub take_table-requires-clause-idle : goal.take_table-requires-clause-idle
@@ -74,6 +74,8 @@ returns-clause-same c =
     let then : seen_writes m ≤ seen_writes w = subst (λ (u : View). seen_writes m ≤ seen_writes u) (sym d.1.1) (seen_stays d.0 m) in
     same_by F v w (returns-clause-keeps c) (c.take_table.ensures.idle ∙ sym c.requires.idle) sections cursors floor since owners learnt (le_trans first then)
     (λ old was. noted_grown d.0 m w d.1.1 old (noted_grown (x.acts ++ loads_of x.numbers) v m x.did old was))
+    (λ is. ap (λ (u : View). presence_of u.log) d.1.1 ∙ (presence_stays d.0 m (taking_leaves c.args.class c.take_table.result d.0 d.2)
+    ∙ (ap (λ (u : View). presence_of u.log) x.did ∙ (presence_stays (x.acts ++ loads_of x.numbers) v (collection_leaves x.acts x.numbers x.givings) ∙ is))))
 
 pub returns-clause-floor : goal.returns-clause-floor
 returns-clause-floor c has =

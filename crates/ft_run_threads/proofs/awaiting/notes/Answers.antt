@@ -15,7 +15,7 @@ loop-preserved c =
     let d = c.loop.caller in
     let made = c.note-note.ensures in
     let inv = c.loop.invariant in
-    let since : HasNoted e d c.note-note.new.caller = record { caller = made.caller; same = made.same; announced = made.announced; kept = made.kept } in
+    let since : HasNoted e d c.note-note.new.caller = record { caller = made.caller; same = made.same; announced = made.announced; presence = made.presence; kept = made.kept } in
     let For : Note → Type 0 = IsNoteFor (name_of (bank_of e)) (thread_of first) c.args.index in
     let tells : For c.note-note.result = note_for e first d c.note-note.result c.args.index inv.0.same made.note.0 made.told c.requires.made in
     let items = c.in_ok-push.ensures.items in (

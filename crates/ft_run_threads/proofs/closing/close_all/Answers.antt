@@ -53,3 +53,6 @@ returns-clause-entries c =
     let history = c.in_ok-history.history.items in
     let moved = subst (λ (l : List Entry). IsPermutation l history) (sym (flat_map-map (λ (mine : List Entry). mine) (λ (list : Vec Entry Global). list.items) c.loop-worker.lists.items)) c.in_ok-history.ensures.entries in
     pass_entries c.args.script.now lists (lists_in c.in_ok-history.closed) (had_in c.in_ok-history.closed) (found_in c.in_ok-history.closed) (told_of c.in_ok-history.closed) history c.in_ok-history.ensures.closed (returns-clause-legal c) moved
+
+pub returns-clause-online : goal.returns-clause-online
+returns-clause-online c = c.in_ok-history.ensures.online c.in_ok-contents.ensures.taken.online

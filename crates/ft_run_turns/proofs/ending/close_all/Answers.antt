@@ -61,3 +61,6 @@ returns-clause-entries c =
     let lists = vec_lists c.in_ok-caller.lists.items in
     let history = c.in_ok-history.history.items in
     pass_entries c.args.script.now lists (passes_in closed) (had_in closed) (found_in closed) (told_of closed) history c.in_ok-history.ensures.closed (returns-clause-legal c) (moved_lists c.in_ok-caller.lists.items history c.in_ok-history.ensures.entries)
+
+pub returns-clause-online : goal.returns-clause-online
+returns-clause-online c = c.in_ok-history.ensures.online c.in_ok-contents.ensures.taken.online

@@ -7,7 +7,7 @@ pub returns-clause-taken : goal.returns-clause-taken
 returns-clause-taken c =
     let read = c.contents.ensures in
     let lists = vec_lists c.args.lists.now in
-    still_taken c.args.engine.now c.args.script.now c.args.caller.now c.contents.new.caller lists c.requires.taken read.caller read.read.same (read.read.kept lists)
+    still_taken c.args.engine.now c.args.script.now c.args.caller.now c.contents.new.caller lists c.requires.taken read.caller read.read.same (read.read.kept lists) read.read.online
 
 pub returns-clause-floor : goal.returns-clause-floor
 returns-clause-floor c = c.contents.ensures.read.floor.floor ∙ c.requires.floor

@@ -16,7 +16,7 @@ returns-then-call_count-gt0 c =
     let x = c.enter.ensures in
     let some : 0 < length (calls_of script i) = grind (arith, nat_tests, c.if-call_count-gt0.true, c.call_count.ensures) in
     record {
-      between = come_between e script i a d is x.same x.caller x.kept x.online some;
+      between = come_between e script i a d is x.same x.caller x.kept x.online x.presence some;
       idle = x.same.flight ∙ is.idle;
       sections = x.same.sections ∙ is.sections;
       floor = x.floor.floor ∙ c.requires.floor;

@@ -46,4 +46,4 @@ returns-clause-looked c =
     let z = view c.answer_look.new.pass in
     let did = subst (λ (x : Call). z ≡ view_after (Answer x (reply.Truth is_so) b.result.1.number) (view b.new.pass)) c.call_of-called.ensures c.answer_look.ensures.did.1 in
     subst (λ r. IsGlanceOfBoth a.c a.other called (view a.pass.now) z r) (sym c.answer_look.ensures.done)
-    (saw_both_answered k a.c a.other (IsComparedAs k a.how is_so) b.result.1 b.result.2 a.pass.now b.new.pass b.ensures.saw called (reply.Truth is_so) z did a.pass.now.settled c.answer_look.new.pass.possible, refl)
+    (saw_both_answered k a.c a.other (IsComparedAs k a.how is_so) b.result.1 b.result.2 a.pass.now b.new.pass b.ensures.saw called (reply.Truth is_so) z did a.pass.now.settled c.answer_look.new.pass.possible (c.has_moved.ensures.still c.if-has_moved.false) (c.has_moved-2.ensures.still c.if-has_moved-2.false))

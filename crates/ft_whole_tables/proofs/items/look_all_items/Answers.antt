@@ -40,7 +40,7 @@ returns-in-Ok-clause-looked c =
     let z = view c.answer_look.new.pass in
     subst (λ (y : Call). IsCopyGlanceOf k a.c (HasEntry a.way k) y (view a.pass.now) z c.answer_look.result) c.copying_call-called.ensures
     (subst (λ r. IsCopyGlanceOf k a.c (HasEntry a.way k) called (view a.pass.now) z r) (sym c.answer_look.ensures.done)
-    (saw_answered k a.c (IsAllIn a.way k b.result.0) b.result.1 a.pass.now b.new.pass b.ensures.saw called c.in-Ok.said z c.answer_look.ensures.did.1 a.pass.now.settled c.answer_look.new.pass.possible, refl))
+    (saw_answered k a.c (IsAllIn a.way k b.result.0) b.result.1 a.pass.now b.new.pass b.ensures.saw called c.in-Ok.said z c.answer_look.ensures.did.1 a.pass.now.settled c.answer_look.new.pass.possible (c.has_moved.ensures.still c.if-has_moved.false)))
 
 pub returns-in-Err-clause-looked : goal.returns-in-Err-clause-looked
 returns-in-Err-clause-looked c =

@@ -16,6 +16,7 @@ use Rattle.ft_trace.specs.declared.Shape.{Shape}
 use Rattle.ft_trace.specs.Acts.{all_lists}
 use Rattle.ft_bank.specs.Passes.{view}
 use Rattle.ft_engine.proofs.KeptLists.{closed_first, closed_kept, had_of, found_of, none_made, told_by_all}
+use Rattle.ft_engine.proofs.Presences.{closed_online}
 use Rattle.ft_engine.proofs.ReadContents.{last_known}
 use Rattle.ft_engine.proofs.engine.Engine.close.Goals as goal
 
@@ -67,3 +68,8 @@ returns-clause-nothing c all none has shown =
     let none_kept : flat_map (λ (mine : List Entry). mine) kept ≡ [] = flat_map-map (λ (mine : List Entry). mine) items c.args.lists.items ∙ nil in
     subst (λ (k : Shape). ∥ (all ≡ map shown_of (empty_world k.starts)) ∥₁) c.requires.caller.pass.1
     (c.contents_are_last.ensures.none (last_known c.args.self caller c.requires.caller c.requires.all has) all (none_made 0 kept (all_lists v) (had_of caller) (found_of caller) (told_by_all caller) are none_kept) shown)
+
+pub returns-clause-online : goal.returns-clause-online
+returns-clause-online c were =
+    let closed = c.close-closed in
+    closed_online c.args.caller (lists_in closed.result) (told_of closed.result) c.requires.first closed.ensures.lists closed.ensures.told were

@@ -1,6 +1,6 @@
 use Rattle.std.proofs.Common.{sym, ap, subst}
 use Rattle.ft_trace.specs.declared.View.{View}
-use Rattle.ft_trace.specs.Acts.{announces}
+use Rattle.ft_trace.specs.Acts.{announces, presence_of}
 use Rattle.ft_trace.specs.Floors.{at_floor}
 use Rattle.ft_bank.specs.Floors.{carried}
 use Rattle.ft_bank.specs.Passes.{view}
@@ -23,7 +23,7 @@ returns-clause-caller c =
 pub returns-clause-same : goal.returns-clause-same
 returns-clause-same c =
     let old = c.args.caller.now in
-    as_before old (record old { pass = c.gather.new.pass }) (same_but_pass old c.gather.new.pass) c.gather.ensures.sections (steady c) (ap (λ (v : View). announces v.log) c.gather.ensures.view.1)
+    as_before old (record old { pass = c.gather.new.pass }) (same_but_pass old c.gather.new.pass) c.gather.ensures.sections (steady c) (ap (λ (v : View). announces v.log) c.gather.ensures.view.1) (ap (λ (v : View). presence_of v.log) c.gather.ensures.view.1)
 
 pub returns-clause-floor : goal.returns-clause-floor
 returns-clause-floor c = record { floor = ap (λ (v : View). v.has_floor) c.gather.ensures.view.1; since = ap (λ (v : View). at_floor v.log) c.gather.ensures.view.1 }

@@ -2,6 +2,7 @@ use Rattle.std.proofs.Common.{◌-◌, ◌++◌, ap, refl, arith}
 use Rattle.ft_trace.specs.declared.View.{View}
 use Rattle.ft_bank.specs.Passes.{view}
 use Rattle.ft_engine.proofs.KeptLists.{joined_in, joined_state}
+use Rattle.ft_engine.proofs.Presences.{joined_online}
 use Rattle.ft_engine.proofs.SoFar.{all_answers_right}
 use Rattle.ft_engine.proofs.engine.Engine.join.Goals as goal
 
@@ -20,3 +21,8 @@ pub returns-clause-right : goal.returns-clause-right
 returns-clause-right c mine theirs are more next =
     let joined = record c.args.caller.now { pass = c.join.new.pass } in
     all_answers_right joined (mine ++ theirs) c.requires.idle (returns-clause-kept c mine theirs are more next)
+
+pub returns-clause-online : goal.returns-clause-online
+returns-clause-online c were theirs next =
+    joined_online c.args.caller.now (record c.args.caller.now { pass = c.join.new.pass }) c.args.other (joined_in (view c.args.caller.now.pass) (view c.args.other.pass) (view c.join.new.pass) c.join.ensures.view.0 c.join.ensures.view.1)
+    (λ none. absurd (let e = c.args.other.pass.numbered in omega (arith, e, none))) were theirs next

@@ -4,6 +4,7 @@ use Rattle.ft_trace.specs.Floors.{at_floor}
 use Rattle.ft_bank.specs.Passes.{view}
 use Rattle.ft_engine.proofs.AtRest.{rest_free, rest_in}
 use Rattle.ft_engine.proofs.KeptLists.{joined_state}
+use Rattle.ft_engine.proofs.Presences.{joined_online}
 use Rattle.ft_engine.proofs.SoFar.{all_answers_right}
 use Rattle.ft_engine.proofs.engine.Engine.join_resting.Goals as goal
 
@@ -26,3 +27,10 @@ pub returns-clause-right : goal.returns-clause-right
 returns-clause-right c mine theirs y at_rest are more next =
     let joined = record c.args.caller.now { pass = c.join_resting.new.pass } in
     all_answers_right joined (mine ++ theirs) c.requires.idle (returns-clause-kept c mine theirs y at_rest are more next)
+
+pub returns-clause-online : goal.returns-clause-online
+returns-clause-online c y at_rest were theirs next =
+    let old = c.args.caller.now in
+    let x = c.join_resting.ensures.view in
+    joined_online old (record old { pass = c.join_resting.new.pass }) y (rest_in (view old.pass) (view c.join_resting.new.pass) y c.args.other x.0 at_rest x.1)
+    (λ none. absurd (let e = y.pass.numbered in omega (arith, e, none))) were theirs next

@@ -1,9 +1,12 @@
-use Rattle.std.proofs.Common.{refl}
+use Rattle.std.proofs.Common.{◌++◌, ◌∙◌, ap, refl}
 use Rattle.ft_trace.specs.declared.Act.TheVariants.{Announce}
-use Rattle.ft_trace.specs.Acts.{view_after}
+use Rattle.ft_trace.specs.declared.View.{View}
+use Rattle.ft_trace.specs.Acts.{presence_after_announcing, presence_of, view_after}
 use Rattle.ft_bank.specs.Passes.{view}
 use Rattle.ft_engine.proofs.Callers.{calm_caller, calm_kept, calm_work, ready_of}
 use Rattle.ft_engine.proofs.PassesAfter.{IsCalm, calm_then, collected_calm, offline_calm}
+use Rattle.ft_qsbr.proofs.PassesStay.{collection_leaves, presence_stays}
+use Rattle.ft_qsbr.specs.Collecting.{loads_of}
 use Rattle.ft_engine.proofs.engine.Engine.leave.Goals as goal
 
 calm : (c : goal.After-leave) → IsCalm (view c.args.caller.now.pass) (view c.leave.new.pass)
@@ -26,3 +29,11 @@ returns-clause-floor c = record { floor = (calm c).floor; since = (calm c).since
 
 pub returns-clause-collected : goal.returns-clause-collected
 returns-clause-collected c = c.leave.ensures.did
+
+pub returns-clause-presence : goal.returns-clause-presence
+returns-clause-presence c on =
+    let v = view c.args.caller.now.pass in
+    let x = c.leave.ensures.did.1 in
+    ap (λ (z : View). presence_of z.log) x.did
+    ∙ (presence_stays (x.acts ++ loads_of x.numbers) (view_after (Announce v.number 0) v) (collection_leaves x.acts x.numbers x.givings)
+    ∙ ap (presence_after_announcing 0) on)

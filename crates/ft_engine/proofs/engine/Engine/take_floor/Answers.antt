@@ -3,13 +3,14 @@ use Rattle.std.proofs.Math.Logic.{∥∥₁_elim}
 use Rattle.std.proofs.Math.Nat.{ℕ_set}
 use Rattle.ft_trace.specs.declared.Shape.{Shape}
 use Rattle.ft_trace.specs.declared.View.{View}
-use Rattle.ft_trace.specs.Acts.{announces, told_in}
+use Rattle.ft_trace.specs.Acts.{announces, told_in, presence_of}
 use Rattle.ft_bank.specs.Passes.{shape_of, view}
 use Rattle.ft_engine.proofs.AtRest.{as_before, floored_steady, still_of, tokens_low}
 use Rattle.ft_engine.proofs.Callers.{same_but_pass, steady_caller}
 use Rattle.ft_engine.proofs.PassesAfter.{IsSteady}
 use Rattle.ft_engine.proofs.ReadContents.{steady_all}
 use Rattle.ft_engine.proofs.engine.Engine.take_floor.Goals as goal
+use Rattle.ft_engine.proofs.Presences.{same_online}
 
 pub take_floor-requires-clause-all : goal.take_floor-requires-clause-all
 take_floor-requires-clause-all c =
@@ -38,7 +39,7 @@ pub returns-clause-same : goal.returns-clause-same
 returns-clause-same c =
     let old = c.args.caller.now in
     let d = c.take_floor.ensures.did in
-    as_before old (record old { pass = c.take_floor.new.pass }) (same_but_pass old c.take_floor.new.pass) d.2.2 (steady c) (ap (λ (v : View). announces v.log) d.2.1)
+    as_before old (record old { pass = c.take_floor.new.pass }) (same_but_pass old c.take_floor.new.pass) d.2.2 (steady c) (ap (λ (v : View). announces v.log) d.2.1) (ap (λ (v : View). presence_of v.log) d.2.1)
 
 pub returns-clause-floor : goal.returns-clause-floor
 returns-clause-floor c = ap (λ (v : View). v.has_floor) c.take_floor.ensures.did.2.1
@@ -47,3 +48,10 @@ pub returns-clause-kept : goal.returns-clause-kept
 returns-clause-kept c lists are =
     let old = c.args.caller.now in
     steady_all old (record old { pass = c.take_floor.new.pass }) lists (steady c) c.take_floor.ensures.did.2.2 refl (ap (λ (v : View). told_in v.log) c.take_floor.ensures.did.2.1) are
+
+pub returns-clause-online : goal.returns-clause-online
+returns-clause-online c =
+    let old = c.args.caller.now in
+    let is = c.take_floor.ensures.did.2.1 in
+    let same = steady c in
+    same_online old (record old { pass = c.take_floor.new.pass }) same.number same.lists (ap (λ (v : View). presence_of v.log) is) (ap (λ (v : View). told_in v.log) is)

@@ -28,7 +28,8 @@ use Rattle.ft_trace.proofs.Contents.{unwritten}
 use Rattle.ft_trace.proofs.EarlierMoments.{was}
 use Rattle.ft_trace.proofs.RisingStamps.{counter_rises}
 use Rattle.ft_trace.proofs.Anew.{found_table, is_new}
-use Rattle.ft_trace.proofs.Held.{words_known, content_known, read_known, hand_known, table_known, held_stands}
+use Rattle.ft_trace.proofs.Images.{IsInHand}
+use Rattle.ft_trace.proofs.Held.{words_known, content_known, read_known, own_table_known, table_known, held_stands}
 use Rattle.ft_bank.specs.Rules.{Acted}
 use Rattle.ft_bank.specs.Locks.{KeepsOthers}
 use Rattle.ft_bank.specs.WriteSteps.{KeepsUnwritten}
@@ -103,18 +104,19 @@ left_low v a d =
     let l = left_total v.shape d.0 d.2.0 in
     omega (arith, t, l)
 
--- a load of a word of the table of a container whose lock the pass has, or of a table fresh in its hand
+-- a load of a word of the table of a container whose lock the pass has, or of a table in its hand: one that is fresh, or
+-- that it took out of a root and hasn't retired
 pub table_found : (v : View) (o t i n : ℕ) → o < container_count v.shape → i < size (class_of t) → has_lock o v.log ≡ true → root_in (held_words o v) ≡ suc t → Acted v (ReadTable t i n) → n ≡ slice_index (held_words o v).table i
 table_found v o t i n low small mine names d =
     let k = v.shape in
     let is : n ≡ word k d.0 (cell t i) = d.2.1.2 in
     is ∙ (sym (table_at k t (run k d.0).words i small) ∙ ap (λ (x : List ℕ). slice_index x i) (sym (table_known v o low t mine names d.0 d.1 (d.2.0, d.2.1.0)).0))
 
-pub fresh_found : (v : View) (t i n : ℕ) → IsTableName v.shape t → i < size (class_of t) → stage t v.log ≡ 1 → Acted v (ReadTable t i n) → n ≡ slice_index (in_hand t v) i
-fresh_found v t i n table small mine d =
+pub hand_found : (v : View) (t i n : ℕ) → IsTableName v.shape t → i < size (class_of t) → IsInHand (stage t v.log) → Acted v (ReadTable t i n) → n ≡ slice_index (in_hand t v) i
+hand_found v t i n table small mine d =
     let k = v.shape in
     let is : n ≡ word k d.0 (cell t i) = d.2.1.2 in
-    is ∙ (sym (table_at k t (run k d.0).words i small) ∙ ap (λ (x : List ℕ). slice_index x i) (sym (hand_known v t table mine d.0 d.1 (d.2.0, d.2.1.0))))
+    is ∙ (sym (table_at k t (run k d.0).words i small) ∙ ap (λ (x : List ℕ). slice_index x i) (sym (own_table_known v t table mine d.0 d.1 (d.2.0, d.2.1.0))))
 
 -- what a pass does leaves what it knows of the containers that it has and doesn't write
 pub keeps_unwritten : (v : View) (a : Act) → ((p : ℕ) (b : Bool) → has_lock_next p a b ≡ b) → Acted v a → KeepsUnwritten v (view_after a v)

@@ -87,7 +87,7 @@ table_put v o t i x low table small odd names d =
 pub fresh_put : (v : View) (t i x : ℕ) → IsTableName v.shape t → i < size (class_of t) → stage t v.log ≡ 1 → Acted v (PutFresh t i x) → in_hand t (view_after (PutFresh t i x) v) ≡ slice_set (in_hand t v) i x
 fresh_put v t i x table small mine d =
     let k = v.shape in
-    let wide = (imaged k d.0 d.2.0 d.1 v d.2.1.0).wide (inr (t, mine)) in
+    let wide = (imaged k d.0 d.2.0 d.1 v d.2.1.0).wide (inr (t, inl mine)) in
     let there = at_low k (cell t i) (table, small) in
     table_set k t (mem k v.log) i x small (omega (arith, wide, there))
 

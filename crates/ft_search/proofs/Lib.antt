@@ -2,7 +2,6 @@ pub mod WordPlaces
 pub mod KnownTableWords
 pub mod Running
 pub mod BoxLoads
-pub mod NewRoots
 mod Walking
 mod SearchEnds
 pub mod Rounding

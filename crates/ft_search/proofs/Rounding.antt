@@ -10,10 +10,10 @@ use Rattle.ft_trace.specs.Acts.{view_after, reads, announces}
 use Rattle.ft_trace.specs.Addresses.{class_of, slots, IsTableName}
 use Rattle.ft_trace.specs.Pictures.{entry_offset}
 use Rattle.ft_trace.specs.LoggedReads.{Among, Between}
-use Rattle.ft_trace.specs.LoggedLookUps.{Bare}
+use Rattle.ft_trace.specs.LoggedLookUps.{Bare, Inner, IsNew}
 use Rattle.std.proofs.Math.Logic.{∥∥₁_map}
 use Rattle.ft_trace.specs.Traces.{IsReachable}
-use Rattle.ft_trace.proofs.Anew.{unread, unread_find, unread_less}
+use Rattle.ft_trace.proofs.Anew.{unread, unread_inner, unread_find, unread_less}
 use Rattle.ft_bank.specs.declared.pass.Pass.{Pass}
 use Rattle.ft_bank.specs.LastLoads.{IsLastBetween, IsLastLoad}
 use Rattle.ft_bank.specs.Passes.{view}
@@ -26,10 +26,9 @@ use Rattle.ft_search.specs.declared.looks.Looked.{Looked}
 use Rattle.ft_search.specs.declared.looks.Looked.TheVariants.{Here, Absent, Contended}
 use Rattle.ft_search.specs.declared.rounds.Round.{Round}
 use Rattle.ft_search.specs.declared.rounds.Round.TheVariants.{Ended, Moved}
-use Rattle.ft_search.specs.KeyLooks.{AreLooks, StopsAtEntry, StopsAtContainer, ShowsLooked, Inner, IsNew, EndsLook}
+use Rattle.ft_search.specs.KeyLooks.{AreLooks, StopsAtEntry, StopsAtContainer, ShowsLooked, EndsLook}
 use Rattle.ft_search.specs.Rounds.{EndsTable, EndsRound}
 use Rattle.ft_search.proofs.BoxLoads.{IsLogged, box_load, logged_before}
-use Rattle.ft_search.proofs.NewRoots.{unread_inner}
 use Rattle.ft_search.proofs.Running.{did_trans, did_log, noted_log, window_of}
 
 pub looks_inner : (l : List Act) → Inner l → AreLooks l

@@ -7,7 +7,7 @@ use Rattle.ft_trace.specs.declared.View.{View}
 use Rattle.ft_trace.specs.Acts.{view_after, reads, announces}
 use Rattle.ft_trace.specs.Addresses.{class_of, slots}
 use Rattle.ft_trace.specs.Pictures.{entry_offset}
-use Rattle.ft_trace.specs.LoggedLookUps.{Online, LookUpWindow}
+use Rattle.ft_trace.specs.LoggedLookUps.{Online, LookUpWindow, Inner}
 use Rattle.ft_trace.proofs.Cases.{hit}
 use Rattle.ft_keys.specs.declared.words.Access.{Access}
 use Rattle.ft_keys.specs.declared.words.Access.TheVariants.{Index, Entry, PutIndex, PutEntry, OldEntry}
@@ -18,7 +18,7 @@ use Rattle.ft_bank.specs.Series.{noted_all, DidAll}
 use Rattle.ft_bank.specs.TableNames.{table_id}
 use Rattle.ft_search.specs.declared.words.TableWords.{TableWords}
 use Rattle.ft_search.specs.TableWords.{access_act, SamePlace, KnowsWords, known_words, MadeAccess}
-use Rattle.ft_search.specs.KeyLooks.{AreLooks, Inner}
+use Rattle.ft_search.specs.KeyLooks.{AreLooks}
 
 -- ---- steps in a row
 

@@ -13,8 +13,7 @@ use Rattle.ft_trace.specs.Addresses.{container_count, class_of, slots}
 use Rattle.ft_trace.specs.Pictures.{entry_offset, walk_of}
 use Rattle.ft_trace.specs.Kinds.{rows, IsKeyed}
 use Rattle.ft_trace.specs.ContainerStates.{kind_in}
-use Rattle.ft_trace.specs.LoggedLookUps.{OtherKind, OtherPayload, Dead, Visit, Beyond, Passed}
-use Rattle.ft_search.specs.KeyLooks.{Inner}
+use Rattle.ft_trace.specs.LoggedLookUps.{OtherKind, OtherPayload, Dead, Visit, Beyond, Passed, Inner}
 use Rattle.ft_bank.specs.declared.pass.Pass.{Pass}
 use Rattle.ft_bank.specs.Series.{DidAll}
 use Rattle.ft_search.specs.declared.looks.Looked.{Looked}

@@ -34,21 +34,6 @@ AreLooks (ReadCounter f ∷ l) = AreLooks l
 AreLooks (ReadBox b i f ∷ l) = AreLooks l
 AreLooks (act ∷ l) = ⊥
 
--- none of these reads a root or announces
-abbrev pub Inner : List Act → Type 0
-Inner [] = Unit {0}
-Inner (Version o f ∷ l) = Inner l
-Inner (ReadTable t i f ∷ l) = Inner l
-Inner (ReadCounter f ∷ l) = Inner l
-Inner (ReadBox b i f ∷ l) = Inner l
-Inner (act ∷ l) = ⊥
-
--- a root that has changed since the pass read it names a table that the pass hasn't found in a root since it last
--- announced
-abbrev pub IsNew : ℕ → ℕ → List Act → Type 0
-IsNew o r l =
-    (t f : ℕ) (mid rest : List Act) → r ≡ suc t → f ≢ r → l ≡ mid ++ ReadRoot o f ∷ rest → Inner mid → reads t l ≡ false
-
 -- The log shows that the key was there when the counter was n: the search met its entry, and between two loads of the
 -- entry's version that found the same even number these words of the value were read.
 pub record ShowsHere (k : Shape) (o : ℕ) (key : Key) (value_kind value n : ℕ) (log : List Act) : Type 0 where

@@ -19,7 +19,7 @@ use Rattle.ft_trace.specs.Pictures.{entry_offset, walk_of}
 use Rattle.ft_trace.specs.Kinds.{rows, IsKeyed}
 use Rattle.ft_trace.specs.ContainerStates.{kind_in}
 use Rattle.ft_trace.specs.LoggedReads.{Among}
-use Rattle.ft_trace.specs.LoggedLookUps.{Passed, LookUpWindow}
+use Rattle.ft_trace.specs.LoggedLookUps.{Passed, LookUpWindow, Inner}
 use Rattle.ft_bank.specs.declared.pass.Pass.{Pass}
 use Rattle.ft_bank.specs.LastLoads.{IsLastLoad}
 use Rattle.ft_bank.specs.Passes.{view}
@@ -34,7 +34,7 @@ use Rattle.ft_search.specs.declared.rounds.Round.{Round}
 use Rattle.ft_search.specs.declared.rounds.Round.TheVariants.{Ended, Moved}
 use Rattle.ft_search.specs.declared.reading.SeenEntry.{SeenEntry}
 use Rattle.ft_search.specs.declared.reading.SeenValue.{SeenValue}
-use Rattle.ft_search.specs.KeyLooks.{AreLooks, ShowsHere, ShowsAbsent, StopsAtEntry, ShowsLooked, Inner}
+use Rattle.ft_search.specs.KeyLooks.{AreLooks, ShowsHere, ShowsAbsent, StopsAtEntry, ShowsLooked}
 
 -- the kind of the containers that are searched this way
 abbrev pub kind_by : Way → Kind

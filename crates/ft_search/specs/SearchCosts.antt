@@ -11,7 +11,7 @@ use Rattle.ft_trace.specs.declared.Act.TheVariants.{ReadRoot, ReadTable}
 use Rattle.ft_trace.specs.declared.View.{View}
 use Rattle.ft_trace.specs.Acts.{reads}
 use Rattle.ft_trace.specs.Addresses.{class_of, slots}
-use Rattle.ft_search.specs.KeyLooks.{Inner}
+use Rattle.ft_trace.specs.LoggedLookUps.{Inner}
 use Rattle.ft_bank.specs.declared.pass.Pass.{Pass}
 use Rattle.ft_bank.specs.Series.{DidAll}
 use Rattle.ft_search.specs.declared.looks.Looked.{Looked}

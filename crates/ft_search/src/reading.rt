@@ -6,7 +6,7 @@ ghost use Rattle.ft_trace.specs.declared.Act.TheVariants.{ReadRoot, ReadTable, R
 ghost use Rattle.ft_trace.specs.Acts.{announces};
 ghost use Rattle.ft_trace.specs.Addresses.{class_of, slots, IsTableName};
 ghost use Rattle.ft_trace.specs.Pictures.{entry_offset};
-ghost use Rattle.ft_search.specs.KeyLooks.{IsNew};
+ghost use Rattle.ft_trace.specs.LoggedLookUps.{IsNew};
 ghost use Rattle.ft_bank.specs.Passes.{shape_of, view};
 ghost use Rattle.ft_bank.specs.Series.{DidAll};
 ghost use Rattle.ft_bank.specs.TableNames.{table_id};

@@ -12,7 +12,7 @@ ghost use Rattle.ft_trace.specs.declared.Act.{Act};
 ghost use Rattle.ft_trace.specs.declared.Act.TheVariants.{ReadRoot, ReadTable};
 ghost use Rattle.ft_trace.specs.Acts.{announces};
 ghost use Rattle.ft_trace.specs.Addresses.{class_of, container_count};
-ghost use Rattle.ft_search.specs.KeyLooks.{Inner};
+ghost use Rattle.ft_trace.specs.LoggedLookUps.{Inner};
 ghost use Rattle.ft_trace.specs.Kinds.{rows};
 ghost use Rattle.ft_trace.specs.ContainerStates.{kind_in};
 ghost use Rattle.ft_keys.specs.Ways.{walk_slots};

@@ -27,7 +27,7 @@ use Rattle.ft_trace.proofs.Pieces.{block_at, table_same, picture_same}
 use Rattle.ft_trace.proofs.TablePlaces.{root_table}
 use Rattle.ft_trace.proofs.Contents.{tab}
 use Rattle.ft_trace.proofs.HeldWords.{holder_stands}
-use Rattle.ft_trace.proofs.Images.{imaged}
+use Rattle.ft_trace.proofs.Images.{imaged, IsInHand}
 
 -- the words that a holder knows are the container's, its table's too
 pub words_known : (v : View) (o : ℕ) → o < container_count v.shape → has_lock o v.log ≡ true → Sure v (λ es. held_words o v ≡ picture v.shape o (run v.shape es).words)
@@ -44,12 +44,15 @@ content_known v o mine es id knows = (imaged v.shape es knows.0 id v knows.1).co
 pub agrees_now : (v : View) → Sure v (λ es. AgreesWith v (stored_newest v.shape.starts (history es)))
 agrees_now v es id knows p low mine = sym (content_known v p mine es id knows)
 
--- and those of a table that is fresh in hand
-pub hand_known : (v : View) (t : ℕ) → IsTableName v.shape t → stage t v.log ≡ 1 → Sure v (λ es. in_hand t v ≡ tab v.shape es t)
-hand_known v t table mine es id knows =
+-- and those of a table in its hand: one that is fresh, or that it took out of a root and hasn't retired
+pub own_table_known : (v : View) (t : ℕ) → IsTableName v.shape t → IsInHand (stage t v.log) → Sure v (λ es. in_hand t v ≡ tab v.shape es t)
+own_table_known v t table mine es id knows =
     let k = v.shape in
     let im = imaged k es knows.0 id v knows.1 in
     table_same k t (mem k v.log) (run k es).words (λ i small. im.words (cell t i) (table, small) (inl mine))
+
+pub hand_known : (v : View) (t : ℕ) → IsTableName v.shape t → stage t v.log ≡ 1 → Sure v (λ es. in_hand t v ≡ tab v.shape es t)
+hand_known v t table mine = own_table_known v t table (inl mine)
 
 module _ (v : View) (o : ℕ) (low : o < container_count v.shape) where
   -- what the words of o read, as the pass knows them

@@ -9,7 +9,8 @@ use Rattle.ft_trace.specs.declared.Shape.{Shape}
 use Rattle.ft_trace.specs.declared.View.{View}
 use Rattle.ft_trace.specs.declared.Act.{Act}
 use Rattle.ft_trace.specs.declared.Act.TheVariants.{ReadTable, ReadCounter, ReadBox}
-use Rattle.ft_trace.specs.Addresses.{container_count, box_word, class_of, slots}
+use Rattle.ft_trace.specs.Addresses.{container_count, box_word, class_of, slots, IsBoxName}
+use Rattle.ft_trace.specs.BoxTraces.{references}
 use Rattle.ft_trace.specs.ContainerStates.{container_after, first_writes, kind_in}
 use Rattle.ft_trace.specs.Pictures.{entry_offset, entry_field}
 use Rattle.ft_trace.specs.Carefuls.{said_of, Later}
@@ -26,7 +27,8 @@ use Rattle.ft_model.specs.declared.call.Call.{Call}
 use Rattle.ft_trace.specs.Ages.{whose}
 use Rattle.ft_trace.proofs.Carefuls.{kind_is, later_used}
 use Rattle.ft_trace.proofs.ByKind.{keyed_low, keyed_later}
-use Rattle.ft_trace.proofs.ReadTables.{value_low, read_entry, read_tab}
+use Rattle.ft_trace.proofs.BoxValues.{box_name, box_there}
+use Rattle.ft_trace.proofs.ReadTables.{value_low, read_entry, read_tab, refs_in_table}
 use Rattle.ft_trace.proofs.Sounds.{LaterIn, sound_right}
 use Rattle.ft_trace.proofs.BoxedReads.{box_quiet, keyed_places, value_read}
 use Rattle.ft_trace.proofs.Spots.{under_trans, stamp_then, Spot, Back, go, Opened, open_window, named_by, found}
@@ -195,3 +197,13 @@ module _ (k : Shape) (es : List Event) (valid : Valid k es) (o t p : ℕ) (key :
           (λ m. ap (λ (l : List ℕ). slice_index l 0) hit_at.1 ∙ (reads_then.0 ∙ (here F 4 (Box P 1) F four ∙ (ap (λ (z : ℕ). Box z 1) is_box ∙ box_then 1 f (inl refl) m)))),
           λ m. ap (λ (l : List ℕ). slice_index l 1) hit_at.1 ∙ (reads_then.1 ∙ (here F 4 (Box P 2) P four ∙ (ap (λ (z : ℕ). Box z 2) is_box ∙ box_then 2 f (inr refl) m))),
         )
+
+    -- the box is one of the bank's
+    pub hit_named : IsBoxName k b
+    hit_named =
+        let w = in_now (ReadCounter n) h.stamp in
+        let places = keyed_places (kind_in k.starts o) keyed (class_of t) p in
+        let refs = refs_in_table k then_ o low t p names_then small (ap (slice_index (tab k then_ t)) places.1 ∙ four) in
+        let some_ : references k b then_ ≢ 0 = subst (λ (z : ℕ). references k z then_ ≢ 0) (ap (slice_index (tab k then_ t)) places.2 ∙ is_box) refs in
+        let up = box_there k b then_ w.spot.valid some_ in
+        box_name k b then_ w.spot.valid (λ z. absurd (omega (arith, up, z)))

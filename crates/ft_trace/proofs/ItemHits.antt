@@ -9,7 +9,8 @@ use Rattle.ft_trace.specs.declared.Shape.{Shape}
 use Rattle.ft_trace.specs.declared.View.{View}
 use Rattle.ft_trace.specs.declared.Act.{Act}
 use Rattle.ft_trace.specs.declared.Act.TheVariants.{ReadTable, ReadCounter, ReadBox}
-use Rattle.ft_trace.specs.Addresses.{container_count, box_word, class_of, slots}
+use Rattle.ft_trace.specs.Addresses.{container_count, box_word, class_of, slots, IsBoxName}
+use Rattle.ft_trace.specs.BoxTraces.{references}
 use Rattle.ft_trace.specs.Ages.{whose}
 use Rattle.ft_trace.specs.ContainerStates.{container_after, first_writes, kind_in}
 use Rattle.ft_trace.specs.Pictures.{item_offset, item_field}
@@ -24,7 +25,8 @@ use Rattle.ft_trace.proofs.Pieces.{table_long}
 use Rattle.ft_trace.proofs.TablePlaces.{root}
 use Rattle.ft_trace.proofs.Contents.{count, tab}
 use Rattle.ft_trace.proofs.ByKind.{items_fit, items_later, items_sound}
-use Rattle.ft_trace.proofs.ReadTables.{value_low, read_version, read_tab}
+use Rattle.ft_trace.proofs.BoxValues.{box_name, box_there}
+use Rattle.ft_trace.proofs.ReadTables.{value_low, read_version, read_tab, refs_in_table}
 use Rattle.ft_trace.proofs.Sounds.{LaterIn, sound_at}
 use Rattle.ft_trace.proofs.BoxedReads.{box_quiet, items_places, value_read}
 use Rattle.ft_trace.proofs.Spots.{under_trans, stamp_then, Spot, Back, go, Opened, open_window, named_by, found}
@@ -170,6 +172,16 @@ module _ (k : Shape) (es : List Event) (valid : Valid k es) (o t p n : ℕ) (low
           (λ m. ap (λ (l : List ℕ). slice_index l 0) item_hit_at.1 ∙ (reads_then.0 ∙ (here F 4 (Box P 1) F four ∙ (ap (λ (z : ℕ). Box z 1) is_box ∙ box_then 1 f (inl refl) m)))),
           λ m. ap (λ (l : List ℕ). slice_index l 1) item_hit_at.1 ∙ (reads_then.1 ∙ (here F 4 (Box P 2) P four ∙ (ap (λ (z : ℕ). Box z 2) is_box ∙ box_then 2 f (inr refl) m))),
         )
+
+    -- the box is one of the bank's
+    pub item_named : IsBoxName k b
+    item_named =
+        let w = in_now (ReadCounter n) h.stamp in
+        let places = items_places (kind_in k.starts o) items (class_of t) p in
+        let refs = refs_in_table k then_ o low t p names_then in_rows (ap (slice_index (tab k then_ t)) places.1 ∙ four) in
+        let some_ : references k b then_ ≢ 0 = subst (λ (z : ℕ). references k z then_ ≢ 0) (ap (slice_index (tab k then_ t)) places.2 ∙ is_box) refs in
+        let up = box_there k b then_ w.spot.valid some_ in
+        box_name k b then_ w.spot.valid (λ z. absurd (omega (arith, up, z)))
 
 -- the list at the stamp is no longer than the table
 pub item_past_at : (k : Shape) (es : List Event) (valid : Valid k es) (o t n : ℕ) (low : o < container_count k) (items : IsItems (kind_in k.starts o)) (j : ℕ) (u : View) (at : get_elem? (run k es).views j ≡ some u) → ItemPast u.log o t n → (n ≤ count k es) × (length (list_of (container_after k.starts (first_writes n (history es)) o).content) ≤ slots (class_of t))

@@ -37,7 +37,7 @@ use Rattle.ft_trace.proofs.FoundTables.{safe, not_free}
 use Rattle.ft_trace.proofs.Rests.{rests, one_root}
 use Rattle.ft_trace.proofs.Evens.{quiet_shut}
 use Rattle.ft_trace.proofs.NoTable.{no_table_stands}
-use Rattle.ft_trace.proofs.Held.{root_known, words_known, content_known, hand_known}
+use Rattle.ft_trace.proofs.Held.{root_known, words_known, content_known, own_table_known}
 use Rattle.ft_trace.proofs.Sounds.{LaterIn, sound_at, laters}
 use Rattle.ft_trace.proofs.Ones.{words_stand}
 use Rattle.ft_trace.proofs.Owed as owed_in
@@ -94,7 +94,7 @@ pub zero_roots_have_nothing : ZeroRootsHaveNothing
 zero_roots_have_nothing k es valid o low even none = no_table_stands k.texts (unboxed_picture k o (run k es).words) _ (block_at k o (run k es).words 0 (omega arith) ∙ none) (stands k es valid o low even)
 
 pub holders_know : HoldersKnow
-holders_know v es j knows = (λ o low mine. (words_known v o low mine es j knows, content_known v o mine es j knows), λ t table one. hand_known v t table one es j knows)
+holders_know v es j knows = (λ o low mine. (words_known v o low mine es j knows, content_known v o mine es j knows), λ t table has. own_table_known v t table has es j knows)
 
 pub tables_are_somewhere : TablesAreSomewhere
 tables_are_somewhere k es valid t table =

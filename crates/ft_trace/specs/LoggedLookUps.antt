@@ -169,6 +169,7 @@ Inner [] = Unit {0}
 Inner (Version o f ∷ l) = Inner l
 Inner (ReadTable t i f ∷ l) = Inner l
 Inner (ReadCounter f ∷ l) = Inner l
+Inner (ReadBox b i f ∷ l) = Inner l
 Inner (act ∷ l) = ⊥
 
 -- a root that has changed since the pass read it names a table that the pass hasn't found in a root since it last

@@ -174,14 +174,16 @@ ZeroRootsHaveNothing =
     (k : Shape) (es : List Event) → Valid k es → (o : ℕ) → o < container_count k → word k es (version_of o) % 2 ≡ 0
     → word k es (block o 0) ≡ 0 → IsNothing (container_after k.starts (history es) o)
 
--- a pass knows the words and the content of a container whose lock it has, and the words of a table fresh in its hand
+-- a pass knows the words and the content of a container whose lock it has, and the words of a table in its hand that is
+-- fresh, or that it took out of a root and hasn't retired
 abbrev pub HoldersKnow : Type 0
 HoldersKnow =
     (v : View) (es : List Event) (j : ℕ) → Knows v es j
     → ((o : ℕ) → o < container_count v.shape → has_lock o v.log ≡ true
     → (held_words o v ≡ picture v.shape o (run v.shape es).words)
     × (known_state o v ≡ container_after v.shape.starts (history es) o))
-    × ((t : ℕ) → IsTableName v.shape t → stage t v.log ≡ 1 → in_hand t v ≡ table_words v.shape t (run v.shape es).words)
+    × ((t : ℕ) → IsTableName v.shape t → (stage t v.log ≡ 1) ⊎ (stage t v.log ≡ 3)
+    → in_hand t v ≡ table_words v.shape t (run v.shape es).words)
 
 -- ---- tables
 

@@ -153,7 +153,7 @@ pub fn zero_roots_have_causes()
 {}
 
 /// A pass knows the words and the content of each container whose lock it has, and the words of each
-/// table that is fresh in its hand.
+/// table in its hand that is fresh, or that it took out of a root and has not retired.
 pub fn holders_know()
     ensures { HoldersKnow }
 {}

@@ -4,7 +4,8 @@ use Rattle.ft_trace.specs.declared.Act.TheVariants.{ReadRoot}
 use Rattle.ft_trace.specs.Acts.{announces, reads}
 use Rattle.ft_bank.specs.Passes.{shape_of, view}
 use Rattle.ft_bank.specs.Whole.{OnlyLoaded}
-use Rattle.ft_search.specs.KeyLooks.{AreLooks, ShowsLooked, Inner}
+use Rattle.ft_trace.specs.LoggedLookUps.{Inner}
+use Rattle.ft_search.specs.KeyLooks.{AreLooks, ShowsLooked}
 use Rattle.ft_search.proofs.Running.{did_trans, did_log}
 use Rattle.ft_search.proofs.Rounding.{looks_inner, looks_append, looks_did, looks_announce, looked_in, falls}
 use Rattle.ft_search.proofs.Spending.{one_round, own_reads}

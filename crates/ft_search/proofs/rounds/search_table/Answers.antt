@@ -4,7 +4,7 @@ use Rattle.ft_trace.specs.declared.Act.{Act}
 use Rattle.ft_trace.specs.declared.Act.TheVariants.{ReadRoot}
 use Rattle.ft_trace.specs.Acts.{reads, announces}
 use Rattle.ft_trace.specs.Addresses.{IsTableName}
-use Rattle.ft_search.specs.KeyLooks.{IsNew}
+use Rattle.ft_trace.specs.LoggedLookUps.{IsNew}
 use Rattle.ft_bank.specs.Passes.{shape_of, view}
 use Rattle.ft_bank.specs.Series.{DidAll}
 use Rattle.ft_bank.specs.TableNames.{table_id}

@@ -1,6 +1,6 @@
 -- The load of the counter that a pass made last: it stays the last one after actions that load it not, and is one still
 -- where older actions are counted in.
-use Rattle.std.proofs.Common.{◌≡◌, ℕ, true, false, true≢false, List, [], ◌∷◌, ◌++◌, refl, sym, ap, ◌∙◌, append_assoc}
+use Rattle.std.proofs.Common.{◌≡◌, ℕ, false, true≢false, List, [], ◌∷◌, ◌++◌, sym, ap, ◌∙◌, append_assoc}
 use Rattle.ft_trace.specs.declared.Act.{Act}
 use Rattle.ft_trace.specs.declared.Act.TheVariants.{ReadCounter, TakeFloor, Version}
 use Rattle.ft_trace.specs.LoggedReads.{Among}

@@ -106,6 +106,14 @@ root_put v o root old low tables odd d =
     let inside = ap (λ (z : ℕ). inner k z ys) is ∙ (inner_stays k ws (block o 0) r r (low, omega arith) (in_block o 0) names ∙ inner_for root v) in
     λ j. record { block = words j; table = inside j }
 
+-- a table that was taken out of the root: what the pass knew of it by the lock it knows still
+pub taken_words : (v : View) (o t r old : ℕ) → o < container_count v.shape → IsTableName v.shape t → root_in (held_words o v) ≡ suc t → in_hand t (view_after (PutRoot o r old) v) ≡ (held_words o v).table
+taken_words v o t r old low table names =
+    let k = v.shape in
+    let ws = mem k v.log in
+    let before : root_of k o ws ≡ suc t = sym (block_at k o ws 0 (omega arith)) ∙ names in
+    table_same k t (slice_set ws (at k (block o 0)) r) ws (λ i small. else_at k ws (block o 0) (cell t i) r (low, omega arith) (table, small) (in_block o 0 t i)) ∙ sym (ap (λ (z : ℕ). inner k z ws) before)
+
 -- ---- what is read after a put
 
 abbrev Known : View → ℕ → ℕ → ℕ

@@ -53,7 +53,7 @@ pub record OnlyLocked (v w : View) : Type 0 where
   pub flight : flight w.log ≡ flight v.log
   pub references : SameReferences v w
   pub made : SameMade v w
-  pub present : StaysOnline v w
+  pub stays_online : StaysOnline v w
   pub knows : (p : ℕ) → p < container_count v.shape → has_lock p v.log ≡ true → has_lock p w.log ≡ true
       → KnowsSame p v w
 

@@ -141,7 +141,7 @@ plain_names b kind payload ne = miss kind 4 (cond (eqb payload b) 1 0) 0 ne
 pub boxed_names : (b kind payload : ℕ) → kind ≡ 4 → names_box b kind payload ≡ cond (eqb payload b) 1 0
 boxed_names b kind payload four = here kind 4 (cond (eqb payload b) 1 0) 0 four
 
-pub other_way : (b c : ℕ) → cond (eqb b c) 1 0 ≡ cond (eqb c b) 1 0
+pub other_way : (b c : ℕ) → ◌≡◌ {A = ℕ} (cond (eqb b c) 1 0) (cond (eqb c b) 1 0)
 other_way b c = dite (ℕ_discrete b c)
     (λ (e : b ≡ c). here b c 1 0 e ∙ sym (here c b 1 0 (sym e)))
     (λ ne. miss b c 1 0 ne ∙ sym (miss c b 1 0 (λ e. ne (sym e))))
@@ -238,7 +238,7 @@ module _ (k : Shape) (o : ℕ) (table : Table) (word kind payload : ℕ) (v r p 
       box_shared e = (here_writes.boxes c).2 (sym (only.made.state c) ∙ e)
 
       pub box_held : 0 < references_held k c p.log
-      box_held = let one = one_held c in let self_ : cond (eqb c c) 1 0 ≡ 1 = here c c 1 0 refl in omega (arith, one, self_)
+      box_held = let one = one_held c in let self_ : ◌≡◌ {A = ℕ} (cond (eqb c c) 1 0) 1 = here c c 1 0 refl in omega (arith, one, self_)
 
       pub box_none : place_to_give c p.log ≡ 0
       box_none = only.made.places c ∙ (here_writes.boxes c).3

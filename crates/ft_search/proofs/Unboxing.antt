@@ -136,10 +136,10 @@ dropped_one v c f b held =
     dite (ℕ_discrete c b)
     (λ (e : c ≡ b).
     let now : references_held v.shape b (view_after (DropShared c f) v).log ≡ n - 1 = here c b (n - 1) n e in
-    let one : cond (eqb b c) 1 0 ≡ 1 = here b c 1 0 (sym e) in
+    let one : ◌≡◌ {A = ℕ} (cond (eqb b c) 1 0) 1 = here b c 1 0 (sym e) in
     let some_ : 0 < n = subst (λ (z : ℕ). 0 < references_held v.shape z v.log) e held in
     omega (arith, now, one, some_))
     (λ ne.
     let now : references_held v.shape b (view_after (DropShared c f) v).log ≡ n = miss c b (n - 1) n ne in
-    let none : cond (eqb b c) 1 0 ≡ 0 = miss b c 1 0 (λ z. ne (sym z)) in
+    let none : ◌≡◌ {A = ℕ} (cond (eqb b c) 1 0) 0 = miss b c 1 0 (λ z. ne (sym z)) in
     omega (arith, now, none))

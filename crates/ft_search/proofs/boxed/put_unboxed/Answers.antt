@@ -1,17 +1,14 @@
-use Rattle.std.proofs.Common.{◌≡◌, ◌≢◌, ℕ, ◌+◌, ◌<◌, sym, ap, ◌∙◌, subst, arith}
+use Rattle.std.proofs.Common.{◌≡◌, ℕ, ◌+◌, sym, ap, ◌∙◌, subst, arith}
 use Rattle.std.specs.Prelude.{slice_index}
-use Rattle.ft_trace.specs.declared.Act.TheVariants.{ReadTable}
-use Rattle.ft_trace.specs.declared.Shape.{Shape}
-use Rattle.ft_trace.specs.declared.View.{View}
 use Rattle.ft_trace.specs.Holds.{held_words, held_unboxed}
 use Rattle.ft_trace.specs.Pictures.{ContainerWords}
-use Rattle.ft_bank.specs.BoxSteps.{kind_read, payload_read, IsOpenValue}
+use Rattle.ft_bank.specs.BoxSteps.{IsOpenValue}
 use Rattle.ft_bank.specs.Passes.{shape_of, view}
 use Rattle.ft_bank.specs.TableNames.{table_id}
 use Rattle.ft_bank.specs.Whole.{OnlyLoaded}
-use Rattle.ft_bank.proofs.KnownAfterWrites.{loaded_by, loaded_held, loaded_put, loaded_then, put_written, written_then}
+use Rattle.ft_bank.proofs.KnownAfterWrites.{loaded_put, loaded_then, put_written, written_then}
 use Rattle.ft_search.specs.Boxed.{IsKnownBox, WritesTable}
-use Rattle.ft_search.proofs.Overs.{value_inside, word_inside, value_known, reads_now, table_loaded, open_as, still_unboxed}
+use Rattle.ft_search.proofs.Overs.{value_inside, word_inside, value_known, table_loaded, open_as, still_unboxed}
 use Rattle.ft_search.proofs.Unboxing.{put_again}
 use Rattle.ft_search.proofs.ValueLoads.{kind_load, kind_found, both_load, kind_stays, payload_found, writes_still, open_still, value_reads}
 use Rattle.ft_search.proofs.boxed.put_unboxed.Goals as goal

@@ -1,4 +1,4 @@
-use Rattle.std.proofs.Common.{◌≡◌, ℕ, true, [], ◌∷◌, refl, sym, ap, ◌∙◌, subst, inl, inr}
+use Rattle.std.proofs.Common.{◌≡◌, ℕ, true, [], ◌∷◌, refl, sym, ◌∙◌, subst, inl, inr}
 use Rattle.ft_trace.specs.declared.Act.TheVariants.{ReadBox}
 use Rattle.ft_trace.specs.declared.Shape.{Shape}
 use Rattle.ft_trace.specs.Addresses.{IsBoxName}
@@ -6,7 +6,6 @@ use Rattle.ft_trace.specs.Boxes.{known_box_word, knows_box_word}
 use Rattle.ft_bank.specs.BoxSteps.{box_id}
 use Rattle.ft_bank.specs.Passes.{shape_of, view}
 use Rattle.ft_bank.proofs.KnownAfterWrites.{loaded_then}
-use Rattle.ft_search.specs.Boxed.{IsKnownBox}
 use Rattle.ft_search.proofs.Calling.{loaded_same}
 use Rattle.ft_search.proofs.Running.{did_none, did_trans}
 use Rattle.ft_search.proofs.Unboxing.{name_in, name_is, name_low, reads_boxed, reads_plain}

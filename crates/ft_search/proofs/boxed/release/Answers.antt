@@ -1,4 +1,4 @@
-use Rattle.std.proofs.Common.{◌≡◌, ℕ, ◌+◌, ◌<◌, eqb, cond, refl, sym, ap, ◌∙◌, subst, arith}
+use Rattle.std.proofs.Common.{◌≡◌, ℕ, ◌+◌, ◌<◌, eqb, cond, refl, sym, ap, ◌∙◌, subst}
 use Rattle.ft_trace.specs.declared.Act.TheVariants.{DropShared, GivePlace}
 use Rattle.ft_trace.specs.declared.Shape.{Shape}
 use Rattle.ft_trace.specs.declared.View.{View}
@@ -10,7 +10,7 @@ use Rattle.ft_bank.specs.BoxSteps.{box_id}
 use Rattle.ft_bank.specs.Passes.{shape_of, view}
 use Rattle.ft_bank.specs.SameBoxes.{SameMade}
 use Rattle.ft_bank.proofs.KnownAfterWrites.{boxed_then}
-use Rattle.ft_search.proofs.Unboxing.{name_in, name_is, name_low, last_is, dropped_place, given_place, dropped_one}
+use Rattle.ft_search.proofs.Unboxing.{name_in, name_is, name_low, last_is, dropped_one}
 use Rattle.ft_search.proofs.Overs.{drop_made, give_made}
 use Rattle.ft_search.proofs.boxed.release.Goals as goal
 use Rattle.ft_search.proofs.boxed.release.Goals.{After-drop_shared-found}

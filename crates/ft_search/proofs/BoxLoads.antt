@@ -1,11 +1,11 @@
 -- Loads of boxes: who has a lock knows the boxes that its table names, and a load of a box leaves what a pass knows.
-use Rattle.std.proofs.Common.{◌≡◌, ◌≢◌, ◌⊎◌, ℕ, suc, ◌<◌, le_refl, eqb, true, cond, List, [], ◌∷◌, ◌++◌, refl, sym, ap, ◌∙◌, subst, inl, inr, arith}
+use Rattle.std.proofs.Common.{◌≡◌, ◌≢◌, ◌⊎◌, ℕ, suc, ◌<◌, le_refl, eqb, true, cond, List, [], ◌∷◌, refl, sym, ap, ◌∙◌, subst, inl, inr, arith}
 use Rattle.std.specs.Prelude.{slice_index}
 use mathlib.Core.Logic.{dite}
 use mathlib.Core.Option.{some}
 use lib.ListN.{get_elem?}
 use native.Mathlib.Decide.{ℕ_discrete}
-use Rattle.std.proofs.Math.Logic.{∥∥₁_elim, ∥∥₁_map}
+use Rattle.std.proofs.Math.Logic.{∥∥₁_elim}
 use Rattle.std.proofs.Math.Nat.{ℕ_set}
 use Rattle.ft_model.specs.declared.script.Kind.{Kind}
 use Rattle.ft_trace.specs.declared.Act.{Act}
@@ -15,12 +15,12 @@ use Rattle.ft_trace.specs.declared.View.{View}
 use Rattle.ft_trace.specs.Acts.{has_lock, mem, seen_writes, view_after}
 use Rattle.ft_trace.specs.Addresses.{box_word, container_count, class_of, IsBoxName}
 use Rattle.ft_trace.specs.Boxes.{value_at, names_box_at, named_in_root, named_in_container, known_box_word, knows_box_word}
-use Rattle.ft_trace.specs.BoxTraces.{references_held_by, references}
+use Rattle.ft_trace.specs.BoxTraces.{references}
 use Rattle.ft_trace.specs.ContainerStates.{kind_in}
-use Rattle.ft_trace.specs.Holds.{held_words, held_unboxed}
+use Rattle.ft_trace.specs.Holds.{held_words}
 use Rattle.ft_trace.specs.Kinds.{rows}
 use Rattle.ft_trace.specs.Pictures.{picture, root_in}
-use Rattle.ft_trace.specs.Traces.{Event, run, word, Valid, IsReachable}
+use Rattle.ft_trace.specs.Traces.{Event, run, word, Valid}
 use Rattle.ft_trace.specs.Unboxed.{unboxed_table}
 use Rattle.ft_trace.proofs.BoxKnown.{box_known, named_sure, sure_after, sure_keeps, sure_stays}
 use Rattle.ft_trace.proofs.BoxValues.{box_name, box_there}

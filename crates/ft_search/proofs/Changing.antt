@@ -20,7 +20,7 @@ use Rattle.ft_trace.specs.declared.View.{View}
 use Rattle.ft_trace.specs.Addresses.{container_count, class_of, slots}
 use Rattle.ft_trace.specs.Acts.{has_lock, is_writing, has_committed}
 use Rattle.ft_trace.specs.Carefuls.{HasLiveKey}
-use Rattle.ft_trace.specs.Holds.{held_unboxed, known_state}
+use Rattle.ft_trace.specs.Holds.{held_words, held_unboxed, known_state}
 use Rattle.ft_trace.specs.Kinds.{rows, version_at, CarefulAs, ClearAs, HasVersions}
 use Rattle.ft_trace.specs.OddVersions.{Shut, Timely}
 use Rattle.ft_trace.specs.Traces.{IsReachable}
@@ -34,6 +34,7 @@ use Rattle.ft_trace.proofs.Tellings.{live_tells, key_words}
 use Rattle.ft_bank.specs.SameBoxes.{HoldsFew}
 use Rattle.ft_bank.specs.WriteSteps.{IsCareful}
 use Rattle.ft_search.specs.OneEntryWrites.{raised_at}
+use Rattle.ft_search.proofs.Puts.{shut_reads}
 use Rattle.ft_model.specs.TableUses.{is_split}
 use Rattle.ft_trace.proofs.UnsplitTables.{known_unsplit}
 use Rattle.ft_trace.proofs.LandedStarts.{has_versions}
@@ -144,7 +145,9 @@ shut_known k v o t shape possible low mine even names p less =
     let here : o < container_count v.shape = subst (λ (z : Shape). o < container_count z) (sym shape) low in
     let row : p < rows (kind_in v.shape.starts o) (class_of t) = subst (λ (z : Kind). p < rows z (class_of t)) kind_eq less in
     let even_now : slice_index (held_unboxed o v).table (version_at (kind_in v.shape.starts o) (class_of t) p) % 2 ≡ 0 =
-    ∥∥₁_elim {P = slice_index (held_unboxed o v).table (version_at (kind_in v.shape.starts o) (class_of t) p) % 2 ≡ 0} possible (ℕ_set _ _) (λ x. held_shut v o t here x mine even names p row) in
+    shut_reads v o t names
+    (λ q fits. ∥∥₁_elim {P = slice_index (held_words o v).table (version_at (kind_in v.shape.starts o) (class_of t) q) % 2 ≡ 0} possible (ℕ_set _ _) (λ x. held_shut v o t here x mine even names q fits))
+    p row in
     subst (λ (z : Kind). slice_index (held_unboxed o v).table (version_at z (class_of t) p) % 2 ≡ 0) (sym kind_eq) even_now
 
 -- ---- the entry that changes

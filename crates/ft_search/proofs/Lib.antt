@@ -15,6 +15,7 @@ pub mod Puts
 pub mod Boxing
 pub mod Unboxing
 pub mod Overs
+pub mod ValueLoads
 pub mod SearchedReads
 pub mod HitBoxes
 pub mod ReadyCommits

@@ -35,7 +35,7 @@ use Rattle.ft_trace.specs.Kinds.{under, rows, version_at, CarefulAs, ClearAs}
 use Rattle.ft_trace.specs.OddVersions.{Shut}
 use Rattle.ft_trace.specs.Traces.{IsReachable}
 use Rattle.ft_trace.specs.Pictures.{ContainerWords, root_in, entry_offset, entry_field, walk_of, Represents}
-use Rattle.ft_trace.specs.ContainerStates.{ContainerState, kind_in}
+use Rattle.ft_trace.specs.ContainerStates.{kind_in}
 use Rattle.ft_trace.specs.WholeWrites.{to_table, to_value, with_puts, MayPut, MayPuts}
 use Rattle.ft_trace.proofs.ByKind.{keyed_low}
 use Rattle.ft_trace.proofs.DictWrites as dict

@@ -1,38 +1,36 @@
 -- A put over a value: what each of its steps leaves.
-use Rattle.std.proofs.Common.{◌≡◌, ◌≢◌, ℕ, suc, ◌+◌, ◌%◌, ◌^◌, ◌<◌, ◌≤◌, eqb, true, cond, set, List, length, refl, sym, ap, ◌∙◌, subst, arith, length-set, get_or-set_same, get_or-set_other}
+use Rattle.std.proofs.Common.{◌≡◌, ◌≢◌, ℕ, suc, ◌+◌, ◌%◌, ◌^◌, ◌<◌, eqb, cond, set, List, length, refl, sym, ap, ◌∙◌, subst, arith, get_or-set_same, get_or-set_other}
 use Rattle.std.specs.Prelude.{slice_index}
 use mathlib.Core.Logic.{dite}
 use native.Mathlib.Decide.{ℕ_discrete}
-use Rattle.ft_trace.specs.declared.Act.{Act}
 use Rattle.ft_trace.specs.declared.Act.TheVariants.{DropShared, GivePlace}
 use Rattle.ft_trace.specs.declared.Shape.{Shape}
 use Rattle.ft_trace.specs.declared.View.{View}
 use Rattle.ft_model.specs.declared.script.Kind.{Kind}
-use Rattle.ft_trace.specs.Acts.{has_lock, is_writing, mem, view_after}
+use Rattle.ft_trace.specs.Acts.{mem, view_after}
 use Rattle.ft_trace.specs.Addresses.{container_count, class_of, size, IsBoxName}
-use Rattle.ft_trace.specs.Boxes.{value_at, names_box, made_state, place_to_give, references_held, known_box_word, knows_box_word, state_default, IsDoneWithBoxes}
+use Rattle.ft_trace.specs.Boxes.{value_at, names_box, made_state, place_to_give, references_held, known_box_word, state_default, IsDoneWithBoxes}
 use Rattle.ft_trace.specs.ContainerStates.{kind_in}
 use Rattle.ft_trace.specs.Holds.{held_words, held_unboxed}
 use Rattle.ft_trace.specs.Kinds.{rows, version_at}
 use Rattle.ft_trace.specs.Pictures.{ContainerWords, picture, root_in}
 use Rattle.ft_trace.specs.Traces.{IsReachable}
 use Rattle.ft_trace.specs.Unboxed.{unboxed_table}
-use Rattle.ft_trace.proofs.Cases.{here, hit, miss}
+use Rattle.ft_trace.proofs.Cases.{here, miss}
 use Rattle.ft_trace.proofs.Known.{table_is_long}
 use Rattle.ft_trace.proofs.ReadTables.{rows_long, value_low}
 use Rattle.ft_bank.specs.declared.table.Table.{Table}
 use Rattle.ft_bank.specs.BoxSteps.{IsOpenValue, kind_read, payload_read}
-use Rattle.ft_bank.specs.SameBoxes.{HoldsFew, SameMade, SameReferences}
-use Rattle.ft_bank.specs.TableNames.{table_id, IsTableIn}
+use Rattle.ft_bank.specs.SameBoxes.{SameMade, SameReferences}
+use Rattle.ft_bank.specs.TableNames.{table_id}
 use Rattle.ft_bank.specs.Whole.{OnlyBoxed, OnlyLoaded, OnlyPut, OnlyWritten, SameWork}
 use Rattle.ft_bank.specs.WriteSteps.{with_table}
-use Rattle.ft_bank.proofs.BoxedSteps.{made_then}
 use Rattle.ft_bank.proofs.DoneBoxes.{done_none}
-use Rattle.ft_bank.proofs.KnownAfterWrites.{IsLoad, loaded_by, loaded_held, loaded_put, put_then, put_written, boxed_written, written_then}
+use Rattle.ft_bank.proofs.KnownAfterWrites.{loaded_held, loaded_put, put_then, put_written, boxed_written, written_then}
 use Rattle.ft_bank.proofs.NamedBoxes.{named_is_box, named_is_known}
 use Rattle.ft_search.specs.Boxed.{IsKnownBox, WritesTable}
-use Rattle.ft_search.proofs.Puts.{done_then, few_done, table_class}
-use Rattle.ft_search.proofs.Unboxing.{dropped_place, given_place, reads_plain, word_reads, put_again, kind_again}
+use Rattle.ft_search.proofs.Puts.{done_then, table_class}
+use Rattle.ft_search.proofs.Unboxing.{dropped_place, given_place, reads_plain, word_reads, kind_again}
 
 -- ---- a drop, and a place given back
 
@@ -141,7 +139,7 @@ plain_names b kind payload ne = miss kind 4 (cond (eqb payload b) 1 0) 0 ne
 pub boxed_names : (b kind payload : ℕ) → kind ≡ 4 → names_box b kind payload ≡ cond (eqb payload b) 1 0
 boxed_names b kind payload four = here kind 4 (cond (eqb payload b) 1 0) 0 four
 
-pub other_way : (b c : ℕ) → cond (eqb b c) 1 0 ≡ cond (eqb c b) 1 0
+pub other_way : (b c : ℕ) → ◌≡◌ {A = ℕ} (cond (eqb b c) 1 0) (cond (eqb c b) 1 0)
 other_way b c = dite (ℕ_discrete b c)
     (λ (e : b ≡ c). here b c 1 0 e ∙ sym (here c b 1 0 (sym e)))
     (λ ne. miss b c 1 0 ne ∙ sym (miss c b 1 0 (λ e. ne (sym e))))
@@ -216,11 +214,11 @@ module _ (k : Shape) (o : ℕ) (table : Table) (word kind payload : ℕ) (v r p 
     pub both_writes : slice_index T word ≢ 4 → WritesTable k o table p
     both_writes ne =
         let same : SameReferences r p = λ b.
-            let moved = references b in
-            let none = plain_names b kind payload plain in
-            let nor = plain_names b (slice_index T word) (slice_index T (word + 1)) ne in
-            let e : references_held k b p.log ≡ references_held k b r.log = omega (arith, moved, none, nor) in
-            ap (λ (z : Shape). references_held z b p.log) there_shape ∙ (e ∙ sym (ap (λ (z : Shape). references_held z b r.log) here_shape)) in
+        let moved = references b in
+        let none = plain_names b kind payload plain in
+        let nor = plain_names b (slice_index T word) (slice_index T (word + 1)) ne in
+        let e : references_held k b p.log ≡ references_held k b r.log = omega (arith, moved, none, nor) in
+        ap (λ (z : Shape). references_held z b p.log) there_shape ∙ (e ∙ sym (ap (λ (z : Shape). references_held z b r.log) here_shape)) in
         table_on k o table r p here_shape here_writes only.work same only.made (ap root_in held)
 
     -- over one that stands in the box c
@@ -238,7 +236,7 @@ module _ (k : Shape) (o : ℕ) (table : Table) (word kind payload : ℕ) (v r p 
       box_shared e = (here_writes.boxes c).2 (sym (only.made.state c) ∙ e)
 
       pub box_held : 0 < references_held k c p.log
-      box_held = let one = one_held c in let self_ : cond (eqb c c) 1 0 ≡ 1 = here c c 1 0 refl in omega (arith, one, self_)
+      box_held = let one = one_held c in let self_ : ◌≡◌ {A = ℕ} (cond (eqb c c) 1 0) 1 = here c c 1 0 refl in omega (arith, one, self_)
 
       pub box_none : place_to_give c p.log ≡ 0
       box_none = only.made.places c ∙ (here_writes.boxes c).3

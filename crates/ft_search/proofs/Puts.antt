@@ -18,7 +18,7 @@ use Rattle.ft_trace.specs.ContainerStates.{ContainerState, kind_in}
 use Rattle.ft_trace.specs.Pictures.{ContainerWords, root_in, entry_offset, entry_field}
 use Rattle.ft_trace.specs.Kinds.{under, rows, version_at, CarefulAs, IsKeyed}
 use Rattle.ft_trace.specs.Carefuls.{Careful}
-use Rattle.ft_trace.specs.OddVersions.{Timely}
+use Rattle.ft_trace.specs.OddVersions.{Shut, Timely}
 use Rattle.ft_trace.specs.Boxes.{value_at, known_box_word, references_held, IsDoneWithBoxes}
 use Rattle.ft_trace.specs.Holds.{held_words, held_unboxed}
 use Rattle.ft_trace.specs.Unboxed.{unboxed_table}
@@ -27,7 +27,7 @@ use Rattle.ft_trace.proofs.ByKind.{keyed_fit}
 use Rattle.ft_trace.proofs.Held.{table_known}
 use Rattle.ft_trace.proofs.Lows.{lows}
 use Rattle.ft_trace.proofs.NoWrap.{counter_room}
-use Rattle.ft_trace.proofs.PlainPuts.{by_root}
+use Rattle.ft_trace.proofs.PlainPuts.{by_root, read_shut}
 use Rattle.ft_trace.proofs.ReadTables.{read_entry, read_version}
 use Rattle.ft_trace.proofs.ValuePlaces.{keyed_far}
 use Rattle.ft_bank.specs.declared.table.Table.{Table}
@@ -79,6 +79,13 @@ entry_reads v o t place w keyed names few not4 not5 =
     let kd : Kind = kind_in v.shape.starts o in
     ap (λ (l : List ℕ). slice_index l (entry_offset (slots (class_of t)) place w)) (by_root box kd (root_in (held_words o v)) t (held_words o v).table names)
     ∙ read_entry box (class_of t) (rows kd (class_of t)) (held_words o v).table kd keyed place w few not4 not5
+
+-- versions read as they stand
+pub shut_reads : (v : View) (o t : ℕ) → root_in (held_words o v) ≡ suc t → Shut (version_at (kind_in v.shape.starts o) (class_of t)) (rows (kind_in v.shape.starts o) (class_of t)) (held_words o v).table → Shut (version_at (kind_in v.shape.starts o) (class_of t)) (rows (kind_in v.shape.starts o) (class_of t)) (held_unboxed o v).table
+shut_reads v o t names raw =
+    let box : ℕ → ℕ → ℕ = λ b i. known_box_word v.shape b i v.log in
+    let kd : Kind = kind_in v.shape.starts o in
+    subst (Shut (version_at kd (class_of t)) (rows kd (class_of t))) (sym (by_root box kd (root_in (held_words o v)) t (held_words o v).table names)) (read_shut box kd (class_of t) (held_words o v).table raw)
 
 -- the pass is done with boxes still
 pub done_then : (k : Shape) (v w : View) → v.shape ≡ k → w.shape ≡ v.shape → SameReferences v w → SameMade v w → IsDoneWithBoxes k v.log → IsDoneWithBoxes k w.log

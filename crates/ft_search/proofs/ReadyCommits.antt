@@ -17,7 +17,7 @@ use Rattle.ft_trace.specs.declared.View.{View}
 use Rattle.ft_trace.specs.Acts.{has_lock, is_writing, has_emptied, owes, view_after, seen_writes}
 use Rattle.ft_trace.specs.Addresses.{container_count, class_of, slots}
 use Rattle.ft_trace.specs.Boxes.{IsDoneWithBoxes}
-use Rattle.ft_trace.specs.Holds.{held_unboxed, known_state}
+use Rattle.ft_trace.specs.Holds.{held_words, held_unboxed, known_state}
 use Rattle.ft_trace.specs.Kinds.{rows, version_at, CarefulAs, ClearAs, IsKeyed, under}
 use Rattle.ft_trace.specs.OddVersions.{Shut, Timely}
 use Rattle.ft_trace.specs.Traces.{IsReachable}
@@ -35,7 +35,7 @@ use Rattle.ft_bank.proofs.KnownAfterWrites.{work_knows, put_same, put_written, p
 use Rattle.ft_search.specs.OneEntryWrites.{HasTable, Leaves, MayFinish, MayWriteEntries, WritesEntries, raised_at}
 use Rattle.ft_search.proofs.Calling.{plain_replied}
 use Rattle.ft_search.proofs.Changing.{Changing}
-use Rattle.ft_search.proofs.Puts.{entry_refs}
+use Rattle.ft_search.proofs.Puts.{entry_refs, shut_reads}
 use Rattle.ft_trace.proofs.Opened.{shut_opens}
 
 -- ---- from the start of a write to its commit
@@ -181,7 +181,9 @@ module _ (k : Shape) (o : ℕ) (v s : View) (f : ℕ) (may : MayWriteEntries k o
 
   -- no version is odd before the write
   shut_before : ∥ IsReachable v ∥₁ → (q : ℕ) → root_in (held_unboxed o v) ≡ suc q → Shut (version_at (kind_in v.shape.starts o) (class_of q)) (rows (kind_in v.shape.starts o) (class_of q)) (held_unboxed o v).table
-  shut_before possible q root p row = ∥∥₁_elim {P = slice_index (held_unboxed o v).table (version_at (kind_in v.shape.starts o) (class_of q) p) % 2 ≡ 0} possible (ℕ_set _ _) (λ x. held_shut v o q low' x may.locked may.even root p row)
+  shut_before possible q root =
+      shut_reads v o q root
+      (λ p row. ∥∥₁_elim {P = slice_index (held_words o v).table (version_at (kind_in v.shape.starts o) (class_of q) p) % 2 ≡ 0} possible (ℕ_set _ _) (λ x. held_shut v o q low' x may.locked may.even root p row))
 
   pub nothing_commits : ∥ IsReachable v ∥₁ → MayCommit s called said
   nothing_commits possible =

@@ -8,7 +8,6 @@ use Rattle.ft_layout.specs.Words.{key_kind, gone_kind, key_payload}
 use Rattle.ft_trace.specs.declared.Act.{Act}
 use Rattle.ft_trace.specs.declared.Act.TheVariants.{ReadBox, ReadTable, ReadCounter}
 use Rattle.ft_trace.specs.declared.Shape.{Shape}
-use Rattle.ft_trace.specs.declared.View.{View}
 use Rattle.ft_trace.specs.Addresses.{class_of, container_count, slots, IsBoxName}
 use Rattle.ft_trace.specs.Pictures.{entry_offset, walk_of}
 use Rattle.ft_trace.specs.Kinds.{rows, IsKeyed}
@@ -254,8 +253,10 @@ module _ (k : Shape) (o t : ℕ) (key : Key) (slot place : ℕ) (earlier : List 
                 hit = hit_as true seen w.log window steady even stays;
                 read = inr (
                   seen.payload,
-                  (record { newer = stamped ∷ (value_box ∷ (kind_box ∷ (value_load ∷ []))); rest = live_load ∷ []; is = λ d. stamped ∷ (value_box ∷ (kind_box ∷ (value_load ∷ (entry 4 (four d) ∷ (live_load ∷ []))))) },
-                  record { newer = stamped ∷ (value_box ∷ (kind_box ∷ [])); rest = kind_load ∷ (live_load ∷ []); is = refl }),
+                  (
+                    record { newer = stamped ∷ (value_box ∷ (kind_box ∷ (value_load ∷ []))); rest = live_load ∷ []; is = λ d. stamped ∷ (value_box ∷ (kind_box ∷ (value_load ∷ (entry 4 (four d) ∷ (live_load ∷ []))))) },
+                    record { newer = stamped ∷ (value_box ∷ (kind_box ∷ [])); rest = kind_load ∷ (live_load ∷ []); is = refl },
+                  ),
                   record { newer = stamped ∷ (value_box ∷ []); rest = value_load ∷ (kind_load ∷ (live_load ∷ [])); is = refl },
                   record { newer = stamped ∷ []; rest = kind_box ∷ (value_load ∷ (kind_load ∷ (live_load ∷ []))); is = refl },
                 );

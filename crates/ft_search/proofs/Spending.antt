@@ -53,7 +53,7 @@ use Rattle.ft_search.proofs.IndexWordsStay.{slots_stay}
 pub seen_none : (t place : ℕ) (seen : SeenEntry) → LoadsNoIndex (entry_acts t place seen)
 seen_none t place seen u = by seen.value.boxed
   where
-    by : (boxed : Bool) → index_reads u (entry_acts_as boxed t place seen) ≡ 0
+    by : (boxed : Bool) → indexed u (entry_acts_as boxed t place seen) ≡ []
     by true =
         let at = entry_offset (slots (class_of t)) place in
         let one : List Act = ReadTable t (at 0) seen.opened ∷ [] in

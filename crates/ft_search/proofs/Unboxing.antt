@@ -1,6 +1,6 @@
 -- Boxes by their names, values as they read, and what a put over a value and a drop leave.
-use Rattle.std.proofs.Common.{◌≡◌, ◌≢◌, ◌⊎◌, ℕ, suc, ◌+◌, ◌-◌, ◌*◌, ◌/◌, ◌%◌, ◌^◌, ◌<◌, ◌≤◌, le_refl, eqb, true, cond, List, length, refl, sym, ap, ◌∙◌, subst, inl, inr, arith}
-use Rattle.std.specs.Prelude.{slice_index, slice_set}
+use Rattle.std.proofs.Common.{◌≡◌, ◌≢◌, ℕ, suc, ◌+◌, ◌-◌, ◌*◌, ◌/◌, ◌%◌, ◌^◌, ◌<◌, ◌≤◌, eqb, cond, List, length, sym, ap, ◌∙◌, subst, arith}
+use Rattle.std.specs.Prelude.{slice_index}
 use mathlib.Core.Logic.{dite}
 use native.Mathlib.Decide.{ℕ_discrete}
 use Rattle.std.proofs.Math.Bridge.{le_prop}
@@ -12,7 +12,7 @@ use Rattle.ft_trace.specs.declared.View.{View}
 use Rattle.ft_trace.specs.declared.Act.TheVariants.{DropShared, GivePlace}
 use Rattle.ft_trace.specs.Acts.{view_after}
 use Rattle.ft_trace.specs.Addresses.{class_of, size, maker_of, place_in, IsBoxName}
-use Rattle.ft_trace.specs.Boxes.{value_at, names_box, made_state, place_to_give, references_held, known_box_word, IsDoneWithBoxes}
+use Rattle.ft_trace.specs.Boxes.{value_at, place_to_give, references_held, known_box_word}
 use Rattle.ft_trace.specs.ContainerStates.{kind_in}
 use Rattle.ft_trace.specs.Holds.{held_words, held_unboxed}
 use Rattle.ft_trace.specs.Kinds.{rows}
@@ -20,14 +20,12 @@ use Rattle.ft_trace.specs.Pictures.{ContainerWords, root_in}
 use Rattle.ft_trace.specs.Traces.{IsReachable}
 use Rattle.ft_trace.specs.Unboxed.{unboxed_kind, unboxed_payload, unboxed_table}
 use Rattle.ft_trace.proofs.Announcing.{fits}
-use Rattle.ft_trace.proofs.Cases.{here, hit, miss}
+use Rattle.ft_trace.proofs.Cases.{here, miss}
 use Rattle.ft_trace.proofs.PlainPuts.{by_root}
 use Rattle.ft_trace.proofs.Known.{table_is_long}
 use Rattle.ft_trace.proofs.ReadTables.{rows_at, rows_long, set_self}
 use Rattle.ft_bank.specs.BoxSteps.{box_id, kind_read, payload_read, IsBoxIn, IsOpenValue}
-use Rattle.ft_bank.specs.SameBoxes.{SameMade, SameReferences}
 use Rattle.ft_bank.specs.WriteSteps.{with_table}
-use Rattle.ft_bank.proofs.DoneBoxes.{done_none}
 
 -- ---- names
 
@@ -136,10 +134,10 @@ dropped_one v c f b held =
     dite (ℕ_discrete c b)
     (λ (e : c ≡ b).
     let now : references_held v.shape b (view_after (DropShared c f) v).log ≡ n - 1 = here c b (n - 1) n e in
-    let one : cond (eqb b c) 1 0 ≡ 1 = here b c 1 0 (sym e) in
+    let one : ◌≡◌ {A = ℕ} (cond (eqb b c) 1 0) 1 = here b c 1 0 (sym e) in
     let some_ : 0 < n = subst (λ (z : ℕ). 0 < references_held v.shape z v.log) e held in
     omega (arith, now, one, some_))
     (λ ne.
     let now : references_held v.shape b (view_after (DropShared c f) v).log ≡ n = miss c b (n - 1) n ne in
-    let none : cond (eqb b c) 1 0 ≡ 0 = miss b c 1 0 (λ z. ne (sym z)) in
+    let none : ◌≡◌ {A = ℕ} (cond (eqb b c) 1 0) 0 = miss b c 1 0 (λ z. ne (sym z)) in
     omega (arith, now, none))

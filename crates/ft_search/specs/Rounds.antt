@@ -18,7 +18,6 @@ use Rattle.ft_trace.specs.Addresses.{class_of, container_count, slots, IsBoxName
 use Rattle.ft_trace.specs.Pictures.{entry_offset, walk_of}
 use Rattle.ft_trace.specs.Kinds.{rows, IsKeyed}
 use Rattle.ft_trace.specs.ContainerStates.{kind_in}
-use Rattle.ft_trace.specs.LoggedReads.{Among}
 use Rattle.ft_trace.specs.LoggedLookUps.{Passed, LookUpWindow, Inner}
 use Rattle.ft_bank.specs.declared.pass.Pass.{Pass}
 use Rattle.ft_bank.specs.LastLoads.{IsLastLoad}

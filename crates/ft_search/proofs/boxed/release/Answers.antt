@@ -1,4 +1,4 @@
-use Rattle.std.proofs.Common.{◌≡◌, ℕ, ◌+◌, ◌<◌, eqb, cond, refl, sym, ap, ◌∙◌, subst, arith}
+use Rattle.std.proofs.Common.{◌≡◌, ℕ, ◌+◌, ◌<◌, eqb, cond, refl, sym, ap, ◌∙◌, subst}
 use Rattle.ft_trace.specs.declared.Act.TheVariants.{DropShared, GivePlace}
 use Rattle.ft_trace.specs.declared.Shape.{Shape}
 use Rattle.ft_trace.specs.declared.View.{View}
@@ -10,7 +10,7 @@ use Rattle.ft_bank.specs.BoxSteps.{box_id}
 use Rattle.ft_bank.specs.Passes.{shape_of, view}
 use Rattle.ft_bank.specs.SameBoxes.{SameMade}
 use Rattle.ft_bank.proofs.KnownAfterWrites.{boxed_then}
-use Rattle.ft_search.proofs.Unboxing.{name_in, name_is, name_low, last_is, dropped_place, given_place, dropped_one}
+use Rattle.ft_search.proofs.Unboxing.{name_in, name_is, name_low, last_is, dropped_one}
 use Rattle.ft_search.proofs.Overs.{drop_made, give_made}
 use Rattle.ft_search.proofs.boxed.release.Goals as goal
 use Rattle.ft_search.proofs.boxed.release.Goals.{After-drop_shared-found}
@@ -44,7 +44,7 @@ give_place-requires-clause-due c =
     let f = c.drop_shared-found.result in
     let n = place_to_give a.payload (view a.pass.now).log in
     (λ d. place_to_give (id d) (did_is (goal.at.give_place-requires-clause-due c).After-drop_shared-found d).log)
-    ∙ (here a.payload a.payload _ n refl ∙ here _ 3 1 n ((last_is f c.drop_shared-found.type_inv).0 c.if-found-LAST.false))
+    ∙ (here a.payload a.payload _ n refl ∙ here _ 3 1 n ((last_is f c.drop_shared-found.type_inv).0 c.if-found-ne-LAST.false))
 
 -- ---- what both leave
 
@@ -72,17 +72,17 @@ returns-clause-references c b =
     let one = dropped_one v n f b (subst (λ (z : Shape). 0 < references_held z n v.log) (sym c.requires.pass.1) c.requires.held) in
     subst (λ (z : Shape × View). references_held z.0 b v.log ≡ references_held z.0 b z.1.log + cond (eqb b n) 1 0) (λ d. (c.requires.pass.1 d, sym is d)) one
 
-pub returns-then-found-LAST-clause-made : goal.returns-then-found-LAST-clause-made
-returns-then-found-LAST-clause-made c =
+pub returns-then-found-ne-LAST-clause-made : goal.returns-then-found-ne-LAST-clause-made
+returns-then-found-ne-LAST-clause-made c =
     let v = view c.args.pass.now in
-    let dropped = did_is (goal.at.returns-then-found-LAST-clause-made c).After-drop_shared-found in
-    subst (SameMade v) (sym dropped) (drop_made v c.args.payload c.drop_shared-found.result c.drop_shared-found.type_inv c.requires.none c.if-found-LAST.true)
+    let dropped = did_is (goal.at.returns-then-found-ne-LAST-clause-made c).After-drop_shared-found in
+    subst (SameMade v) (sym dropped) (drop_made v c.args.payload c.drop_shared-found.result c.drop_shared-found.type_inv c.requires.none c.if-found-ne-LAST.true)
 
-pub returns-then-found-LAST-clause-references : goal.returns-then-found-LAST-clause-references
-returns-then-found-LAST-clause-references c b =
+pub returns-then-found-ne-LAST-clause-references : goal.returns-then-found-ne-LAST-clause-references
+returns-then-found-ne-LAST-clause-references c b =
     let v = view c.args.pass.now in
     let n = c.args.payload in
     let f = c.drop_shared-found.result in
-    let dropped = did_is (goal.at.returns-then-found-LAST-clause-references c).After-drop_shared-found in
+    let dropped = did_is (goal.at.returns-then-found-ne-LAST-clause-references c).After-drop_shared-found in
     let one = dropped_one v n f b (subst (λ (z : Shape). 0 < references_held z n v.log) (sym c.requires.pass.1) c.requires.held) in
     subst (λ (z : Shape × View). references_held z.0 b v.log ≡ references_held z.0 b z.1.log + cond (eqb b n) 1 0) (λ d. (c.requires.pass.1 d, sym dropped d)) one

@@ -85,7 +85,7 @@ returns-clause-finds c =
     let shapes : u.shape ≡ v.shape = c.requires.inside.0.1 ∙ sym c.take_lower.ensures.inside.0.1 in
     on_ok_weaker c.take_upper.result
     (λ (second : FindsSame v w) floor.
-        let f = first floor in
-        let s = second f.0 in
-        (s.0, λ o low. s.1 o (subst (λ (k : Shape). o < container_count k) shapes low) ∙ f.1 o low, s.2 ∙ f.2))
+    let f = first floor in
+    let s = second f.0 in
+    (s.0, λ o low. s.1 o (subst (λ (k : Shape). o < container_count k) shapes low) ∙ f.1 o low, s.2 ∙ f.2))
     c.take_upper.ensures.finds

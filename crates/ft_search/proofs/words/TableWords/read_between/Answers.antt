@@ -1,4 +1,4 @@
-use Rattle.std.proofs.Common.{◌≡◌, ℕ, [], ◌∷◌, ◌++◌, List}
+use Rattle.std.proofs.Common.{ℕ, [], ◌∷◌, ◌++◌, List}
 use Rattle.ft_trace.specs.declared.Act.{Act}
 use Rattle.ft_trace.specs.declared.Act.TheVariants.{ReadTable, ReadCounter}
 use Rattle.ft_trace.specs.Addresses.{class_of, slots}

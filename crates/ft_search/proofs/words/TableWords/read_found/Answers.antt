@@ -1,16 +1,14 @@
-use Rattle.std.proofs.Common.{◌≡◌, ◌≢◌, ℕ, suc, ◌+◌, ◌<◌, ◌≤◌, true, inl, inr, List, [], ◌∷◌, ◌++◌, refl, sym, ap, ◌∙◌, subst, arith}
+use Rattle.std.proofs.Common.{Some, ◌≡◌, ℕ, ◌<◌, ◌≤◌, inl, inr, List, [], ◌∷◌, ◌++◌, refl, sym, ap, ◌∙◌, subst, arith}
 use Rattle.std.specs.Prelude.{slice_index}
 use Rattle.ft_trace.specs.declared.Act.{Act}
 use Rattle.ft_trace.specs.declared.Shape.{Shape}
-use Rattle.ft_trace.specs.declared.View.{View}
-use Rattle.ft_trace.specs.Acts.{has_lock}
 use Rattle.ft_trace.specs.Addresses.{class_of, container_count, slots}
 use Rattle.ft_trace.specs.ContainerStates.{kind_in}
-use Rattle.ft_trace.specs.Holds.{held_words, held_unboxed}
+use Rattle.ft_trace.specs.Holds.{held_words}
 use Rattle.ft_trace.specs.Kinds.{rows, IsKeyed}
-use Rattle.ft_trace.specs.Pictures.{ContainerWords, entry_offset, root_in}
-use Rattle.ft_model.specs.declared.script.Kind.{Kind}
+use Rattle.ft_trace.specs.Pictures.{entry_offset}
 use Rattle.ft_bank.specs.BoxSteps.{kind_read, payload_read}
+use Rattle.ft_bank.specs.declared.table.Table.{Table}
 use Rattle.ft_bank.specs.Passes.{shape_of, view}
 use Rattle.ft_bank.specs.Series.{DidAll}
 use Rattle.ft_bank.specs.TableNames.{table_id}
@@ -21,6 +19,8 @@ use Rattle.ft_keys.specs.declared.words.Access.TheVariants.{Entry}
 use Rattle.ft_search.specs.Rounds.{kind_by}
 use Rattle.ft_bank.proofs.TableAddresses.{class_is}
 use Rattle.ft_search.specs.Boxed.{IsKnownBox}
+use Rattle.ft_keys.specs.declared.search.Found.{Found}
+use Rattle.ft_search.specs.Held.{ReadsEntry}
 use Rattle.ft_search.specs.KeyLooks.{AreLooks}
 use Rattle.ft_search.specs.SearchCosts.{index_reads}
 use Rattle.ft_search.specs.TableWords.{access_act, known_words, read_words}
@@ -89,27 +89,28 @@ module _ (c : After-entry-payload) where
 
 -- ---- a value in place
 
-pub returns-then-kind-BOX_KIND-clause-looks : goal.returns-then-kind-BOX_KIND-clause-looks
-returns-then-kind-BOX_KIND-clause-looks c = two_looks (goal.at.returns-then-kind-BOX_KIND-clause-looks c).After-entry-payload
+pub returns-then-kind-ne-BOX_KIND-clause-looks : goal.returns-then-kind-ne-BOX_KIND-clause-looks
+returns-then-kind-ne-BOX_KIND-clause-looks c = two_looks (goal.at.returns-then-kind-ne-BOX_KIND-clause-looks c).After-entry-payload
 
-pub returns-then-kind-BOX_KIND-clause-reads : goal.returns-then-kind-BOX_KIND-clause-reads
-returns-then-kind-BOX_KIND-clause-reads c =
-    let d = (goal.at.returns-then-kind-BOX_KIND-clause-reads c).After-entry-payload in
+pub returns-then-kind-ne-BOX_KIND-clause-reads : goal.returns-then-kind-ne-BOX_KIND-clause-reads
+returns-then-kind-ne-BOX_KIND-clause-reads c =
+    let d = (goal.at.returns-then-kind-ne-BOX_KIND-clause-reads c).After-entry-payload in
     let s0 = c.args.self.now in
     let kind = kind_is d in
-    let r = stands_plain (view s0.pass.now) s0.o (shape_of s0.bank.now) s0.table s0.mask c.in-At.place (keyed_of d) c.requires.can.table c.requires.can.mask c.requires.knows.1 (λ z. c.if-kind-BOX_KIND.true (kind ∙ z)) in
-    (kind ∙ r.0, payload_is d ∙ r.1)
+    let r = stands_plain (view s0.pass.now) s0.o (shape_of s0.bank.now) s0.table s0.mask c.in-At.place (keyed_of d) c.requires.can.table c.requires.can.mask c.requires.knows.1 (λ z. c.if-kind-ne-BOX_KIND.true (kind ∙ z)) in
+    subst (λ (f : Found). ReadsEntry s0.mask (read_words s0) f (Some (c.entry-kind.result, c.entry-payload.result))) (sym c.in-At.is) (kind ∙ r.0, payload_is d ∙ r.1)
 
 -- ---- a place past the entries
 
 pub returns-then-entries-place-clause-looks : goal.returns-then-entries-place-clause-looks
 returns-then-entries-place-clause-looks c = two_looks (goal.at.returns-then-entries-place-clause-looks c).After-entry-payload
 
-rows_are : (c : After-entry-payload) → (n : ℕ) → n ≡ rows (kind_by c.args.way) c.args.self.now.table.class → n ≡ rows (kind_in (view c.args.self.now.pass.now).shape.starts c.args.self.now.o) (class_of (table_id c.args.self.now.table))
+rows_are : (c : After-entry-payload) → (n : ℕ) → n ≡ rows (kind_by c.args.way) c.entry-payload.new.self.table.class → n ≡ rows (kind_in (view c.args.self.now.pass.now).shape.starts c.args.self.now.o) (class_of (table_id c.args.self.now.table))
 rows_are c n is =
     let s0 = c.args.self.now in
     let kind : kind_in (view s0.pass.now).shape.starts s0.o ≡ kind_by c.args.way = ap (λ (k : Shape). kind_in k.starts s0.o) c.requires.can.pass.1 ∙ c.requires.way in
-    is ∙ (λ d. rows (sym kind d) (sym (class_is s0.table c.requires.can.table.2) d))
+    let same : c.entry-payload.new.self.table ≡ s0.table = c.entry-payload.ensures.gave.same.table ∙ c.entry-kind.ensures.gave.same.table in
+    is ∙ (ap (λ (t : Table). rows (kind_by c.args.way) t.class) same ∙ (λ d. rows (sym kind d) (sym (class_is s0.table c.requires.can.table.2) d)))
 
 pub returns-then-entries-place-clause-reads : goal.returns-then-entries-place-clause-reads
 returns-then-entries-place-clause-reads c =
@@ -117,7 +118,7 @@ returns-then-entries-place-clause-reads c =
     let s0 = c.args.self.now in
     let far = subst (λ (n : ℕ). n ≤ c.in-At.place) (rows_are d c.entries_of-entries.result c.entries_of-entries.ensures) c.if-entries-place.true in
     let r = stands_past (view s0.pass.now) s0.o (shape_of s0.bank.now) s0.table s0.mask c.in-At.place (keyed_of d) c.requires.can.table c.requires.can.mask c.requires.knows.1 far in
-    (kind_is d ∙ r.0, payload_is d ∙ r.1)
+    subst (λ (f : Found). ReadsEntry s0.mask (read_words s0) f (Some (c.entry-kind.result, c.entry-payload.result))) (sym c.in-At.is) (kind_is d ∙ r.0, payload_is d ∙ r.1)
 
 -- ---- a value in a box
 
@@ -136,16 +137,16 @@ read_value-requires-clause-known c four =
     let two = l.boxes.knows c.entry-payload.result 2 named.0 (inr refl) named.2 in
     (subst (λ (k : Shape). IsBoxName k c.entry-payload.result) (sym l.work.pass.shape) named.0, one.0, two.0)
 
-pub returns-in-At-clause-looks : goal.returns-in-At-clause-looks
-returns-in-At-clause-looks c =
-    let d = (goal.at.returns-in-At-clause-looks c).After-entry-payload in
+pub returns-else-entries-place-clause-looks : goal.returns-else-entries-place-clause-looks
+returns-else-entries-place-clause-looks c =
+    let d = (goal.at.returns-else-entries-place-clause-looks c).After-entry-payload in
     let r = c.read_value.ensures.looks in
     let a = two_looks d in
     (r.0 ++ a.0, looks_append r.0 a.0 r.1 a.1, did_trans r.0 a.0 c.args.self.now.pass.now c.entry-payload.new.self.pass.now c.read_value.new.pass a.2 r.2, λ t. let sum = reads_append t r.0 a.0 in let x = r.3 t in let y = a.3 t in omega (arith, sum, x, y))
 
-pub returns-in-At-clause-reads : goal.returns-in-At-clause-reads
-returns-in-At-clause-reads c =
-    let d = (goal.at.returns-in-At-clause-reads c).After-entry-payload in
+pub returns-else-entries-place-clause-reads : goal.returns-else-entries-place-clause-reads
+returns-else-entries-place-clause-reads c =
+    let d = (goal.at.returns-else-entries-place-clause-reads c).After-entry-payload in
     let s0 = c.args.self.now in
     let v = view s0.pass.now in
     let w = view c.entry-payload.new.self.pass.now in
@@ -153,11 +154,11 @@ returns-in-At-clause-reads c =
     let r = stands_boxed v s0.o (shape_of s0.bank.now) s0.table s0.mask c.in-At.place (keyed_of d) c.requires.can.table c.requires.can.mask c.requires.knows.1 low in
     let l = two_loaded d in
     let here : s0.o < container_count v.shape = subst (λ (k : Shape). s0.o < container_count k) (sym c.requires.can.pass.1) c.requires.can.container in
-    let known = known_there v s0.o (shape_of s0.bank.now) s0.table s0.mask c.in-At.place (keyed_of d) c.requires.can.table c.requires.can.mask c.requires.knows.1 low s0.pass.now.possible here c.requires.knows.0 (sym (kind_is d) ∙ c.if-kind-BOX_KIND.false) in
+    let known = known_there v s0.o (shape_of s0.bank.now) s0.table s0.mask c.in-At.place (keyed_of d) c.requires.can.table c.requires.can.mask c.requires.knows.1 low s0.pass.now.possible here c.requires.knows.0 (sym (kind_is d) ∙ c.if-kind-ne-BOX_KIND.false) in
     let named = subst (λ (b : ℕ). IsKnownBox v b) (sym (payload_is d)) known in
     let one = (l.boxes.knows c.entry-payload.result 1 named.0 (inl refl) named.1).1 in
     let two = (l.boxes.knows c.entry-payload.result 2 named.0 (inr refl) named.2).1 in
-    let four = c.if-kind-BOX_KIND.false in
+    let four = c.if-kind-ne-BOX_KIND.false in
     let kind = c.read_value.ensures.kind ∙ ((reads_boxed w c.entry-kind.result c.entry-payload.result four).0 ∙ (one ∙ sym (reads_boxed v c.entry-kind.result c.entry-payload.result four).0)) in
     let payload = c.read_value.ensures.payload ∙ ((reads_boxed w c.entry-kind.result c.entry-payload.result four).1 ∙ (two ∙ sym (reads_boxed v c.entry-kind.result c.entry-payload.result four).1)) in
-    (kind ∙ ((λ z. kind_read v (kind_is d z) (payload_is d z)) ∙ r.0), payload ∙ ((λ z. payload_read v (kind_is d z) (payload_is d z)) ∙ r.1))
+    subst (λ (f : Found). ReadsEntry s0.mask (read_words s0) f (Some c.read_value.result)) (sym c.in-At.is) (kind ∙ ((λ z. kind_read v (kind_is d z) (payload_is d z)) ∙ r.0), payload ∙ ((λ z. payload_read v (kind_is d z) (payload_is d z)) ∙ r.1))

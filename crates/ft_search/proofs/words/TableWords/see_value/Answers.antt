@@ -1,8 +1,7 @@
-use Rattle.std.proofs.Common.{◌≡◌, ℕ, ◌+◌, ◌*◌, ◌/◌, ◌%◌, ◌^◌, ◌<◌, ◌≤◌, true, false, true≢false, [], ◌∷◌, refl, sym, ap, ◌∙◌, subst, arith}
+use Rattle.std.proofs.Common.{◌≡◌, ℕ, true≢false, [], ◌∷◌, refl, sym, subst, arith}
 use Rattle.ft_trace.specs.declared.Act.TheVariants.{ReadBox}
-use Rattle.ft_trace.specs.Addresses.{maker_of, place_in, IsBoxName}
+use Rattle.ft_trace.specs.Addresses.{maker_of, place_in}
 use Rattle.ft_bank.specs.BoxSteps.{box_id}
-use Rattle.ft_bank.specs.Passes.{shape_of, view}
 use Rattle.ft_bank.specs.Series.{DidAll}
 use Rattle.ft_search.proofs.Running.{did_none, did_trans}
 use Rattle.ft_search.proofs.Unboxing.{name_is}
@@ -10,11 +9,11 @@ use Rattle.ft_search.proofs.words.TableWords.see_value.Goals as goal
 
 -- ---- in place
 
-pub returns-then-kind-BOX_KIND-clause-did : goal.returns-then-kind-BOX_KIND-clause-did
-returns-then-kind-BOX_KIND-clause-did c = did_none c.args.self.now.pass.now
+pub returns-then-kind-ne-BOX_KIND-clause-did : goal.returns-then-kind-ne-BOX_KIND-clause-did
+returns-then-kind-ne-BOX_KIND-clause-did c = did_none c.args.self.now.pass.now
 
-pub returns-then-kind-BOX_KIND-clause-sees : goal.returns-then-kind-BOX_KIND-clause-sees
-returns-then-kind-BOX_KIND-clause-sees c = ((λ e. absurd (true≢false (sym e))), λ e. (refl, refl, λ four. absurd (c.if-kind-BOX_KIND.true four)))
+pub returns-then-kind-ne-BOX_KIND-clause-sees : goal.returns-then-kind-ne-BOX_KIND-clause-sees
+returns-then-kind-ne-BOX_KIND-clause-sees c = ((λ e. absurd (true≢false (sym e))), λ e. (refl, refl, λ four. absurd (c.if-kind-ne-BOX_KIND.true four)))
 
 -- ---- a name of no box of the bank
 
@@ -70,4 +69,4 @@ returns-clause-did c =
     (did_trans (ReadBox id 2 c.read_box-value.result ∷ []) (ReadBox id 1 c.read_box-found.result ∷ []) p q r c.read_box-found.ensures.did c.read_box-value.ensures.did)
 
 pub returns-clause-sees : goal.returns-clause-sees
-returns-clause-sees c = ((λ e. c.if-kind-BOX_KIND.false), λ e. absurd (true≢false e))
+returns-clause-sees c = ((λ e. c.if-kind-ne-BOX_KIND.false), λ e. absurd (true≢false e))

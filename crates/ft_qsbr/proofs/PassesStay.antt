@@ -200,7 +200,7 @@ same_by F v w keeps idle sections cursors floor since owners learnt seen grown s
   learnt = learnt;
   seen = seen;
   grown = grown;
-  stays_online = present;
+  stays_online = stays_online;
 }
 
 pub retirement_same : (t n g : ℕ) (v w : View) → w ≡ noted_all (PutHeader t g ∷ Retire t n ∷ []) v → SamePass v w

@@ -1,6 +1,5 @@
 -- Passes that rest, tokens on their way, and what who has the floor knows.
-use Rattle.std.proofs.Common.{◌≡◌, ◌≢◌, ℕ, ◌+◌, ◌-◌, ◌<◌, ◌≤◌, Bool, true, false, cond, List, [], ◌∷◌, ◌++◌, set, refl, sym, ap, ◌∙◌, subst, arith, inl, le_trans, le_refl, append-nil}
-use Rattle.std.specs.Prelude.{max, slice_index}
+use Rattle.std.proofs.Common.{◌≡◌, ◌≢◌, ℕ, ◌<◌, ◌≤◌, true, false, List, [], ◌∷◌, set, refl, sym, ap, ◌∙◌, arith, inl, le_trans}
 use Rattle.std.proofs.Math.Nat.{le-max_left, le-max_right, ℕ_set}
 use Rattle.std.proofs.Math.Logic.{∥∥₁_elim}
 use Rattle.atomic_table.proofs.Lists.{at_longer}
@@ -9,7 +8,7 @@ use Rattle.ft_trace.specs.declared.View.{View}
 use Rattle.ft_trace.specs.declared.Act.{Act}
 use Rattle.ft_trace.specs.declared.Snap.{Snap}
 use Rattle.ft_trace.specs.declared.Act.TheVariants.{TakeFloor}
-use Rattle.ft_trace.specs.Acts.{view_after, both, sender, note, shown, floor_words}
+use Rattle.ft_trace.specs.Acts.{view_after, sender, note, shown}
 use Rattle.ft_trace.specs.Floors.{FoundNext, FoundAsKnown}
 use Rattle.ft_trace.specs.Traces.{sent, run, IsReachable, IsFree, IsQuiet}
 use Rattle.ft_trace.proofs.Cases.{miss}

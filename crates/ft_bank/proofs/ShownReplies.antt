@@ -1,6 +1,6 @@
 -- What a pass's log shows is the reply of the plain containers, in every trace in which the pass knows this.
-use Rattle.std.proofs.Common.{◌≡◌, ◌≢◌, ◌⊎◌, ⊎_elim, inl, inr, ℕ, pos, ◌+◌, ◌^◌, ◌<◌, Bool, true, false, true≢false, List, [], ◌∷◌, ◌++◌, Option, Some, None, refl, sym, ap, ◌∙◌, subst, arith}
-use Rattle.std.specs.Prelude.{◌&&◌, is_some}
+use Rattle.std.proofs.Common.{◌≡◌, ◌⊎◌, ⊎_elim, inl, inr, ℕ, pos, ◌+◌, ◌^◌, ◌<◌, Bool, true, false, List, [], ◌∷◌, ◌++◌, Option, Some, None, refl, sym, ap, ◌∙◌, subst, arith}
+use Rattle.std.specs.Prelude.{is_some}
 use Rattle.std.specs.Option.{unwrap_or}
 use Rattle.std.proofs.Math.Bridge.{le_prop}
 use Rattle.std.proofs.Math.Logic.{∥∥₁_elim}
@@ -17,12 +17,11 @@ use Rattle.ft_model.specs.declared.reply.Reply.{Reply}
 use Rattle.ft_model.specs.declared.reply.Reply.TheVariants as reply
 use Rattle.ft_model.specs.declared.reply.Raise.TheVariants as raise
 use Rattle.ft_model.specs.declared.script.Kind.TheVariants as kind
-use Rattle.ft_model.specs.Answers.{after_write, is_memory, is_write}
-use Rattle.ft_model.specs.Calls.{is_changing, can_add, moved_cursor}
+use Rattle.ft_model.specs.Answers.{is_write}
+use Rattle.ft_model.specs.Calls.{is_changing, moved_cursor}
 use Rattle.ft_model.specs.Histories.{IsReplied}
-use Rattle.std.specs.List.{list_any}
-use Rattle.ft_model.specs.Worlds.{named_in, serial_of}
-use Rattle.ft_model.specs.TableUses.{passes_cap, StoredWorld, stored_newest, would_pass}
+use Rattle.ft_model.specs.Worlds.{serial_of}
+use Rattle.ft_model.specs.TableUses.{StoredWorld, stored_newest}
 use Rattle.ft_layout.specs.declared.slot.Stored.TheVariants.{Empty, Plain}
 use Rattle.ft_layout.specs.Words.{IsStored}
 use Rattle.ft_layout.proofs.WordLaws.{stored_is_one}

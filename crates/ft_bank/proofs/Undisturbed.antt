@@ -1,6 +1,6 @@
 -- While a pass has the floor no taking of a table finds that words have changed.
 use Rattle.std.proofs.Common.{◌≡◌, ◌≢◌, ◌<◌, ◌≤◌, ◌+◌, ◌-◌, ◌*◌, ◌^◌, ◌%◌, ℕ, zero, suc, true, List, [], ◌∷◌, ◌++◌, length, refl, sym, ap, ◌∙◌, subst, arith, ⊎_elim, append_assoc, length-set, get_or-set_other, get_or-set_same}
-use Rattle.std.specs.Prelude.{◌⊎◌, slice_index}
+use Rattle.std.specs.Prelude.{slice_index}
 use Rattle.std.proofs.Math.Logic.{∥∥₁_elim}
 use mathlib.Core.Logic.{dite}
 use native.Mathlib.Decide.{ℕ_discrete}
@@ -12,8 +12,8 @@ use Rattle.ft_trace.specs.declared.Act.{Act}
 use Rattle.ft_trace.specs.declared.Act.TheVariants.{LowerCount, RaiseCount, ReadCount, ReadFree, TakeTable, TakeFloor}
 use Rattle.ft_trace.specs.declared.Shape.{Shape}
 use Rattle.ft_trace.specs.declared.View.{View}
-use Rattle.ft_trace.specs.Addresses.{Word, at, bits, count_of_class, free_word_of, tables_in}
-use Rattle.ft_trace.specs.Acts.{floor_words, view_after}
+use Rattle.ft_trace.specs.Addresses.{Word, at, bits, count_of_class, free_word_of}
+use Rattle.ft_trace.specs.Acts.{floor_words}
 use Rattle.ft_trace.specs.Bits.{bit}
 use Rattle.ft_trace.specs.Counts.{giving, ones, sum_to, taking, word_bits}
 use Rattle.ft_trace.specs.Entries.{total}
@@ -27,7 +27,6 @@ use Rattle.ft_trace.proofs.EarlierMoments.{was}
 use Rattle.ft_trace.proofs.Ones.{words_stand}
 use Rattle.ft_trace.proofs.OneWord.{wide}
 use Rattle.ft_bank.specs.declared.takings.Search.TheVariants as search
-use Rattle.ft_bank.specs.declared.takings.Took.{Took}
 use Rattle.ft_bank.specs.declared.takings.Took.TheVariants as took
 use Rattle.ft_bank.specs.Series.{noted_all}
 use Rattle.ft_bank.specs.TableNames.{table_id}

@@ -1,6 +1,6 @@
 -- What a pass's log has to show for the entry of a call that isn't a write: laws whose conclusion is the condition of
 -- `Bank::answer`.
-use Rattle.std.specs.Prelude.{◌≡◌, ◌≢◌, ◌⊎◌, ℕ, pos, ◌+◌, ◌*◌, ◌^◌, ◌<◌, ◌≤◌, true, false, List, [], ◌∷◌, ◌++◌, Option, Some, None, is_some}
+use Rattle.std.specs.Prelude.{◌≡◌, ◌⊎◌, ℕ, pos, ◌+◌, ◌*◌, ◌^◌, ◌<◌, ◌≤◌, true, false, List, [], ◌∷◌, ◌++◌, Option, Some, None, is_some}
 use Rattle.std.specs.Option.{unwrap_or}
 use Rattle.ft_model.specs.declared.call.Call.{Call}
 use Rattle.ft_model.specs.declared.call.Call.TheVariants as call
@@ -14,8 +14,8 @@ use Rattle.ft_model.specs.declared.reply.Reply.{Reply}
 use Rattle.ft_model.specs.declared.reply.Reply.TheVariants as reply
 use Rattle.ft_model.specs.declared.reply.Raise.TheVariants as raise
 use Rattle.ft_model.specs.declared.script.Kind.TheVariants as kind
-use Rattle.ft_model.specs.Answers.{is_memory, is_write}
-use Rattle.ft_model.specs.Calls.{can_add, moved_cursor}
+use Rattle.ft_model.specs.Answers.{is_write}
+use Rattle.ft_model.specs.Calls.{moved_cursor}
 use Rattle.ft_model.specs.Histories.{IsReplied}
 use Rattle.ft_model.specs.TableUses.{StoredWorld, CanLackMemory, takes_in, would_pass}
 use Rattle.ft_model.specs.Worlds.{serial_of}

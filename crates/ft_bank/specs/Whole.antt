@@ -41,7 +41,7 @@ pub record SamePass (v w : View) : Type 0 where
   pub owners : SameOwners v w
   pub seen : seen_writes v ≤ seen_writes w
   pub grown : HasGrown v w
-  pub present : StaysOnline v w
+  pub stays_online : StaysOnline v w
 
 -- The same pass has made no entry and no call, and has the same tables in hand; each write that it has begun is as far as
 -- it was; and it was online as before. (profile)
@@ -107,7 +107,7 @@ pub record EndsWrite (called : Call) (said : Reply) (number : ℕ) (v w : View) 
   pub seen : seen_writes v ≤ number
   pub shows : number < seen_writes w
   pub grown : HasGrown v w
-  pub present : StaysOnline v w
+  pub stays_online : StaysOnline v w
   pub left : v.left ≡ suc w.left
   pub entries : w.entries ≡ write_entry called said number ∷ v.entries
   pub hands : (t : ℕ) → stage t w.log ≡ stage t v.log

@@ -54,7 +54,7 @@ moved_adds o called said stamp number left v w is some moves others m =
     let u = x.before in
     let l = x.loaded.work in
     let act = AnswerCursor called said stamp.number number (cursor_in number m.before.log) left in
-    let moved : StaysPass u m.after = subst (StaysPass u) (sym x.answered) (record { number = refl; next = refl; parts = refl; shape = refl; lists = refl; online = λ on. on; floor = refl; since = refl; seen = seen_up act u; grown = λ old was. inr was; present = λ is. ap presence_after_entry is }) in
+    let moved : StaysPass u m.after = subst (StaysPass u) (sym x.answered) (record { number = refl; next = refl; parts = refl; shape = refl; lists = refl; online = λ on. on; floor = refl; since = refl; seen = seen_up act u; grown = λ old was. inr was; stays_online = λ is. ap presence_after_entry is }) in
     record {
       pass = record {
         number = after.pass.number ∙ (ap (λ (z : View). z.number) x.answered ∙ (l.pass.number ∙ before.pass.number));
@@ -67,7 +67,7 @@ moved_adds o called said stamp number left v w is some moves others m =
         since = after.pass.since ∙ (ap (λ (z : View). at_floor z.log) x.answered ∙ (l.pass.since ∙ before.pass.since));
         seen = le_trans before.pass.seen (le_trans (subst (λ (z : View). seen_writes m.before ≤ seen_writes z) (sym x.answered) (le_trans l.pass.seen (seen_up act u))) after.pass.seen);
         grown = λ old was. after.pass.grown old (moved.grown old (l.pass.grown old (before.pass.grown old was)));
-        present = λ is. after.pass.present (moved.present (l.pass.present (before.pass.present is)));
+        stays_online = λ is. after.pass.stays_online (moved.stays_online (l.pass.stays_online (before.pass.stays_online is)));
       };
       entries = after.entries ∙ (ap (λ (z : View). z.entries) x.answered ∙ (ap (λ (b : Bool). record { call = called; reply = said; stamp = stamp.number; wrote = b } ∷ u.entries) (sym is) ∙ ap (λ (es : List Entry). made_entry called said stamp ∷ es) (l.entries ∙ before.entries)));
       left =

@@ -51,7 +51,7 @@ Outcome called objects v w step.NoMemory = MakesNoEntry v w × HasWithin objects
 -- ---- parts of calls
 
 stays_same : (v w : View) → SamePass v w → StaysPass v w
-stays_same v w p = record { number = p.number; next = p.next; parts = p.parts; shape = p.shape; lists = p.lists; online = λ on. subst (λ (n : ℕ). 0 < n) (sym p.announced) on; floor = p.floor; since = p.since; seen = p.seen; grown = p.grown; present = p.present }
+stays_same v w p = record { number = p.number; next = p.next; parts = p.parts; shape = p.shape; lists = p.lists; online = λ on. subst (λ (n : ℕ). 0 < n) (sym p.announced) on; floor = p.floor; since = p.since; seen = p.seen; grown = p.grown; stays_online = p.stays_online }
 
 pub loaded_nothing : (v w : View) → OnlyLoaded v w → MakesNoEntry v w
 loaded_nothing v w l = record { pass = stays_same v w l.work.pass; entries = l.work.entries; left = l.work.left; cursors = l.work.pass.cursors }
@@ -86,7 +86,7 @@ answered_adds called said stamp v w is left x =
         since = ap (λ (z : View). at_floor z.log) x.answered ∙ l.pass.since;
         seen = subst (λ (z : View). seen_writes v ≤ seen_writes z) (sym x.answered) (le_trans l.pass.seen (seen_up (Answer called said stamp.number) u));
         grown = subst (λ (z : View). HasGrown v z) (sym x.answered) (λ old was. inr (l.pass.grown old was));
-        present = subst (λ (z : View). StaysOnline v z) (sym x.answered) (λ here. ap presence_after_entry (l.pass.present here));
+        stays_online = subst (λ (z : View). StaysOnline v z) (sym x.answered) (λ here. ap presence_after_entry (l.pass.stays_online here));
       };
       entries = ap (λ (z : View). z.entries) x.answered ∙ (ap (λ (e : Entry). e ∷ u.entries) (entry_as called said stamp false is) ∙ ap (λ (es : List Entry). made_entry called said stamp ∷ es) l.entries);
       left =
@@ -144,11 +144,11 @@ moved_then a b u v w z first m last = record {
 }
 
 pub retired_nothing : (root : ℕ) (v w : View) → Retires root v w → MakesNoEntry v w
-retired_nothing zero v w is = subst (MakesNoEntry v) (sym is) (record { pass = record { number = refl; next = refl; parts = refl; shape = refl; lists = refl; online = λ on. on; floor = refl; since = refl; seen = omega arith; grown = λ old was. was; present = λ is. is }; entries = refl; left = refl; cursors = λ n. refl })
+retired_nothing zero v w is = subst (MakesNoEntry v) (sym is) (record { pass = record { number = refl; next = refl; parts = refl; shape = refl; lists = refl; online = λ on. on; floor = refl; since = refl; seen = omega arith; grown = λ old was. was; stays_online = λ is. is }; entries = refl; left = refl; cursors = λ n. refl })
 retired_nothing (suc t) v w (n, is) =
     subst (MakesNoEntry v) (sym is)
     (record {
-      pass = record { number = refl; next = refl; parts = refl; shape = refl; lists = refl; online = λ on. on; floor = refl; since = refl; seen = le_trans (seen_up (Retire t n) v) (seen_up (PutHeader t (n + 1)) (view_after (Retire t n) v)); grown = λ old was. inr (inr was); present = λ is. is };
+      pass = record { number = refl; next = refl; parts = refl; shape = refl; lists = refl; online = λ on. on; floor = refl; since = refl; seen = le_trans (seen_up (Retire t n) v) (seen_up (PutHeader t (n + 1)) (view_after (Retire t n) v)); grown = λ old was. inr (inr was); stays_online = λ is. is };
       entries = refl;
       left = refl;
       cursors = λ number. refl;

@@ -23,7 +23,7 @@ use Rattle.ft_engine.proofs.SectionCalls.{stays_then}
 use Rattle.ft_engine.proofs.OwnAnswers.{again_own, none_in, step_own}
 
 same_pass : (v : View) → StaysPass v v
-same_pass v = record { number = refl; next = refl; parts = refl; shape = refl; lists = refl; online = λ on. on; floor = refl; since = refl; seen = le_refl (seen_writes v); grown = λ old was. was; present = λ is. is }
+same_pass v = record { number = refl; next = refl; parts = refl; shape = refl; lists = refl; online = λ on. on; floor = refl; since = refl; seen = le_refl (seen_writes v); grown = λ old was. was; stays_online = λ is. is }
 
 -- before the first try
 pub none_between : (e : Engine) (called : Call) (c : Caller) → IsCallerOf e c → MayAttempt e c called → IsBetween e called c c

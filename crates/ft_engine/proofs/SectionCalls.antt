@@ -67,7 +67,7 @@ only_stays v w only = record {
   since = only.since;
   seen = only_sees v w only;
   grown = grown_by only.newer v w only.grew;
-  present = only.present;
+  stays_online = only.stays_online;
 }
 
 pub only_nothing : (v w : View) → OnlyLocked v w → MakesNoEntry v w
@@ -85,7 +85,7 @@ stays_then u v w a b = record {
   since = b.since ∙ a.since;
   seen = le_trans a.seen b.seen;
   grown = λ old was. b.grown old (a.grown old was);
-  present = λ is. b.present (a.present is);
+  stays_online = λ is. b.stays_online (a.stays_online is);
 }
 
 pub nothing_then : (u v w : View) → MakesNoEntry u v → MakesNoEntry v w → MakesNoEntry u w
@@ -97,7 +97,7 @@ nothing_then u v w a b = record {
 }
 
 pub same_nothing : (v : View) → MakesNoEntry v v
-same_nothing v = record { pass = record { number = refl; next = refl; parts = refl; shape = refl; lists = refl; online = λ on. on; floor = refl; since = refl; seen = omega arith; grown = λ old was. was; present = λ is. is }; entries = refl; left = refl; cursors = λ number. refl }
+same_nothing v = record { pass = record { number = refl; next = refl; parts = refl; shape = refl; lists = refl; online = λ on. on; floor = refl; since = refl; seen = omega arith; grown = λ old was. was; stays_online = λ is. is }; entries = refl; left = refl; cursors = λ number. refl }
 
 -- what was loaded for an answer was so in a longer time
 pub loaded_in : (called : Call) (n : ℕ) (u v w z : View) → StaysPass u v → HasLoaded called n v w → StaysPass w z → HasLoaded called n u z
@@ -141,7 +141,7 @@ answered_pass called said n v = record {
   since = refl;
   seen = le_trans (seen_up (ReadCounter n) v) (seen_up (Answer called said n) (view_after (ReadCounter n) v));
   grown = λ old was. inr (inr was);
-  present = λ is. ap presence_after_entry is;
+  stays_online = λ is. ap presence_after_entry is;
 }
 
 answered_loaded : (called : Call) (said : Reply) (n : ℕ) (v : View) → HasLoaded called n v (answered_view called said n v)
@@ -299,7 +299,7 @@ answered_owners called said n v u w calm is = owners_then v u w calm.owners (sub
 pub calm_entry : (called : Call) (said : Reply) (stamp : Stamp) (v u w : View) → IsCalm v u → (0 < announces v.log → 0 < announces u.log) → StaysOnline v u → 0 < v.left → w ≡ answered_view called said stamp.number u → stamp.wrote ≡ false → seen_writes u ≤ stamp.number → MakesEntry called said stamp v w
 calm_entry called said stamp v u w calm on stays left is read seen =
     let made = answered_entry called said stamp u read (subst (λ (n : ℕ). 0 < n) (sym calm.left) left) seen in
-    let quiet : StaysPass v u = record { number = calm.number; next = calm.next; parts = calm.parts; shape = calm.shape; lists = calm.lists; online = on; floor = calm.floor; since = calm.since; seen = calm.seen; grown = calm.grown; present = stays } in
+    let quiet : StaysPass v u = record { number = calm.number; next = calm.next; parts = calm.parts; shape = calm.shape; lists = calm.lists; online = on; floor = calm.floor; since = calm.since; seen = calm.seen; grown = calm.grown; stays_online = stays } in
     record {
       pass = record {
         number = ap (λ (z : View). z.number) is ∙ calm.number;
@@ -312,7 +312,7 @@ calm_entry called said stamp v u w calm on stays left is read seen =
         since = ap (λ (z : View). at_floor z.log) is ∙ calm.since;
         seen = subst (λ (z : View). seen_writes v ≤ seen_writes z) (sym is) (le_trans calm.seen made.pass.seen);
         grown = subst (λ (z : View). HasGrown v z) (sym is) (λ old was. inr (inr (calm.grown old was)));
-        present = subst (λ (z : View). StaysOnline v z) (sym is) (λ here. ap presence_after_entry (stays here));
+        stays_online = subst (λ (z : View). StaysOnline v z) (sym is) (λ here. ap presence_after_entry (stays here));
       };
       entries = ap (λ (z : View). z.entries) is ∙ (made.entries ∙ ap (λ (es : List Entry). made_entry called said stamp ∷ es) calm.entries);
       left = sym calm.left ∙ (made.left ∙ sym (ap (λ (z : View). suc z.left) is));

@@ -65,7 +65,7 @@ pub record StaysPass (v w : View) : Type 0 where
   pub since : at_floor w.log ≡ at_floor v.log
   pub seen : seen_writes v ≤ seen_writes w
   pub grown : HasGrown v w
-  pub present : StaysOnline v w
+  pub stays_online : StaysOnline v w
 
 -- The same pass has made no entry, and has the same cursors. (profile)
 pub record MakesNoEntry (v w : View) : Type 0 where

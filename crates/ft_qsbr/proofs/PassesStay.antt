@@ -181,7 +181,7 @@ taking_leaves class (took.Moved a b) acts x =
 -- ---- the pass
 
 pub same_by : (F : ℕ → Type 0) (v w : View) → KeepsBut F v w → flight w.log ≡ flight v.log → begun w.log ≡ begun v.log → ((n : ℕ) → cursor_in n w.log ≡ cursor_in n v.log) → w.has_floor ≡ v.has_floor → at_floor w.log ≡ at_floor v.log → SameOwners v w → w.learnt ≡ v.learnt → seen_writes v ≤ seen_writes w → HasGrown v w → StaysOnline v w → SamePass v w
-same_by F v w keeps idle sections cursors floor since owners learnt seen grown present = record {
+same_by F v w keeps idle sections cursors floor since owners learnt seen grown stays_online = record {
   number = keeps.held.number;
   next = keeps.held.next;
   parts = keeps.held.parts;
@@ -200,10 +200,10 @@ same_by F v w keeps idle sections cursors floor since owners learnt seen grown p
   learnt = learnt;
   seen = seen;
   grown = grown;
-  present = present;
+  stays_online = stays_online;
 }
 
 pub retirement_same : (t n g : ℕ) (v w : View) → w ≡ noted_all (PutHeader t g ∷ Retire t n ∷ []) v → SamePass v w
 retirement_same t n g v w is =
     subst (SamePass v) (sym is)
-    (record { number = refl; next = refl; parts = refl; shape = refl; locks = λ p. refl; writes = λ p. refl; announced = refl; flight = refl; begun = refl; cursors = λ n. refl; tokens = refl; lists = refl; floor = refl; since = refl; owners = record { had = refl; found = refl }; learnt = refl; seen = le_refl (seen_writes v); grown = λ old was. inr (inr was); present = λ is. is })
+    (record { number = refl; next = refl; parts = refl; shape = refl; locks = λ p. refl; writes = λ p. refl; announced = refl; flight = refl; begun = refl; cursors = λ n. refl; tokens = refl; lists = refl; floor = refl; since = refl; owners = record { had = refl; found = refl }; learnt = refl; seen = le_refl (seen_writes v); grown = λ old was. inr (inr was); stays_online = λ is. is })

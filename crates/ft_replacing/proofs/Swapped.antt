@@ -93,7 +93,7 @@ module _ (called : Call) (said : Reply) (number f t g : ℕ) (snap : Snap) (v u 
           owners = record { had = p1.owners.had; found = p1.owners.found };
           seen = omega (arith, low, shows_it);
           grown = λ old was. inr (p1.grown old (inr (inr (inr (inr was)))));
-          present = λ is. p1.present (ap presence_after_entry is);
+          stays_online = λ is. p1.stays_online (ap presence_after_entry is);
         };
         seen = low;
         shows = shows_it;

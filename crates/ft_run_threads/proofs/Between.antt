@@ -143,7 +143,7 @@ answered e i calls place w x called said stamp mark on at caller same idle kept 
         rows = subst (λ (n : ℕ). length calls ≤ n) (sym capacity) on.0.rows;
       },
       same.pass.online on.1,
-      same.pass.present on.2,
+      same.pass.stays_online on.2,
     )
 
 -- its pass has as many entries

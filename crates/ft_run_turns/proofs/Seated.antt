@@ -133,7 +133,7 @@ module _ (e : Engine) (script : ScriptParts) (i : ℕ) (c : Caller) (mine : List
         made = made_after t;
         next = next_after t (flight_of d) turned.memory tried.flight;
         still = still_after t (flight_of d) turned.memory tried.flight;
-        online = let on = is.online low in (tried.same.pass.online on.0, tried.same.pass.present on.1);
+        online = let on = is.online low in (tried.same.pass.online on.0, tried.same.pass.stays_online on.1);
         idle = idle_after t (flight_of d) tried.flight;
       }
 
@@ -226,7 +226,7 @@ module _ (e : Engine) (script : ScriptParts) (i : ℕ) (c d : Caller) (mine afte
             ∙ (ap (λ (cs : List Call). cs ++ called ∷ []) is.made
             ∙ (sym (take_next calls (length mine) called at) ∙ ap (λ n. take n calls) (sym count_learned))));
         next = λ more there. subst (λ (f : Flight). AllowsCall f more) (sym has.learn.tried.flight) tt;
-        online = let on = is.online low in (has.learn.tried.same.pass.online on.0, has.learn.tried.same.pass.present on.1);
+        online = let on = is.online low in (has.learn.tried.same.pass.online on.0, has.learn.tried.same.pass.stays_online on.1);
         still = λ _ _ _. has.learn.tried.flight;
         idle = λ _. has.learn.tried.flight;
       }

@@ -37,7 +37,7 @@ use Rattle.ft_search.specs.declared.spots.Spot.TheVariants as spot
 use Rattle.ft_search.specs.Held.{ReadsEntry, IsHeldAt}
 use Rattle.ft_search.specs.Rounds.{kind_by}
 use Rattle.ft_search.specs.Spots.{IsSpot, spot_in}
-use Rattle.ft_search.specs.OneEntryWrites.{HasTable, IsLiveEntry, MayWriteEntries}
+use Rattle.ft_search.specs.OneEntryWrites.{HasTable, IsLiveEntry, KnowsEntries, MayWriteEntries}
 use Rattle.ft_search.proofs.FoundInContents.{MissingKeys, MissingElements, IsOfWay, key_held}
 use Rattle.ft_search.proofs.KnownTableWords.{entry_after_header}
 use Rattle.ft_search.proofs.WordPlaces.{slots_of_class}
@@ -145,16 +145,29 @@ module _ (missing_key : MissingKeys) (missing_element : MissingElements) (first_
 
 -- ---- after loads
 
+-- who may write a container knows it
+pub may_knows : (k : Shape) (o : ℕ) (v : View) → MayWriteEntries k o v → KnowsEntries k o v
+may_knows k o v may = record { container = may.container; keyed = may.keyed; locked = may.locked; even = may.even o; stands = may.stands }
+
 module _ (k : Shape) (o : ℕ) (v w : View) (only : OnlyLoaded v w) where
   same : (held_words o v ≡ held_words o w) × (known_state o v ≡ known_state o w)
   same = (sym (loaded_held v w o only), sym (work_knows v w o only.work))
+
+  pub knows_loaded : KnowsEntries k o v → KnowsEntries k o w
+  knows_loaded knows = record {
+    container = knows.container;
+    keyed = knows.keyed;
+    locked = only.work.pass.locks o ∙ knows.locked;
+    even = only.work.pass.writes o ∙ knows.even;
+    stands = subst (λ (z : ContainerWords × ContainerState). Represents k.texts z.0 z.1) (λ d. (same.0 d, same.1 d)) knows.stands;
+  }
 
   pub may_loaded : MayWriteEntries k o v → MayWriteEntries k o w
   may_loaded may = record {
     container = may.container;
     keyed = may.keyed;
     locked = only.work.pass.locks o ∙ may.locked;
-    even = only.work.pass.writes o ∙ may.even;
+    even = λ p. only.work.pass.writes p ∙ may.even p;
     stands = subst (λ (z : ContainerWords × ContainerState). Represents k.texts z.0 z.1) (λ d. (same.0 d, same.1 d)) may.stands;
     owes = only.work.owes ∙ may.owes;
     left = subst (λ (z : ℕ). 0 < z) (sym only.work.left) may.left;

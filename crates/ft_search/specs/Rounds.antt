@@ -14,7 +14,6 @@ use Rattle.ft_trace.specs.Addresses.{class_of, slots, IsTableName}
 use Rattle.ft_trace.specs.Pictures.{entry_offset, walk_of}
 use Rattle.ft_trace.specs.Kinds.{rows}
 use Rattle.ft_trace.specs.ContainerStates.{kind_in}
-use Rattle.ft_trace.specs.LoggedReads.{Among}
 use Rattle.ft_trace.specs.LoggedLookUps.{Inner, Passed, LookUpWindow}
 use Rattle.ft_bank.specs.declared.pass.Pass.{Pass}
 use Rattle.ft_bank.specs.LastLoads.{IsLastLoad}

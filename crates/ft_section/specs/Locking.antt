@@ -49,7 +49,7 @@ pub record OnlyLocked (v w : View) : Type 0 where
   pub debt : debt w.log ≡ debt v.log
   pub owes : owes w.log ≡ owes v.log
   pub flight : flight w.log ≡ flight v.log
-  pub present : StaysOnline v w
+  pub stays_online : StaysOnline v w
   pub knows : (p : ℕ) → p < container_count v.shape → has_lock p v.log ≡ true → has_lock p w.log ≡ true
       → (held_words p w ≡ held_words p v) × (known_state p w ≡ known_state p v)
 

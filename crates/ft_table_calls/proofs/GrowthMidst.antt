@@ -102,7 +102,7 @@ pub retired_same : (root : ℕ) (v w : View) → Retires root v w → SamePass v
 retired_same zero v w is = subst (SamePass v) (sym is) (same_pass v)
 retired_same (suc t) v w is =
     subst (SamePass v) (sym is.1)
-    (record { number = refl; next = refl; parts = refl; shape = refl; locks = λ p. refl; writes = λ p. refl; announced = refl; flight = refl; begun = refl; cursors = λ n. refl; tokens = refl; lists = refl; floor = refl; since = refl; owners = record { had = refl; found = refl }; learnt = refl; seen = le_refl (seen_writes v); grown = λ old was. inr (inr was); present = λ is. is })
+    (record { number = refl; next = refl; parts = refl; shape = refl; locks = λ p. refl; writes = λ p. refl; announced = refl; flight = refl; begun = refl; cursors = λ n. refl; tokens = refl; lists = refl; floor = refl; since = refl; owners = record { had = refl; found = refl }; learnt = refl; seen = le_refl (seen_writes v); grown = λ old was. inr (inr was); stays_online = λ is. is })
 
 -- the pass knows the same words and contents, and owes and has used the same
 pub retired_knows : (root : ℕ) (v w : View) → Retires root v w → (p : ℕ) → (held_words p w ≡ held_words p v) × (known_state p w ≡ known_state p v)

@@ -122,7 +122,7 @@ module _ (called : Call) (said : Reply) (number f root : ℕ) (v r u w : View) w
           cursors = λ n. ends.cursors n ∙ p1.cursors n;
           seen = let low = le_trans p1.seen ends.seen in let more = ends.shows in omega (arith, low, more);
           grown = λ old was. ends.grown old (p1.grown old (inr (inr was)));
-          present = λ is. ends.present (p1.present is);
+          stays_online = λ is. ends.stays_online (p1.stays_online is);
           tokens = ends.tokens ∙ p1.tokens;
           lists = ends.lists ∙ p1.lists;
           floor = ends.floor ∙ p1.floor;

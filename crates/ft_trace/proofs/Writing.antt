@@ -180,7 +180,7 @@ module _ (v : View) (o t : ℕ) (write : WholeWrite) (begin : MayBegin v o) (may
 
   -- no version in the table that the root names is odd
   shut_old : (start : ℕ) → Sure (with_log v (l1 start)) (λ es. (q : ℕ) → old ≡ suc q → Shut (version_at its (class_of q)) (rows its (class_of q)) (table_words n q (run n es).words))
-  shut_old start es id knows q names = subst (Shut (version_at its (class_of q)) (rows its (class_of q))) (table_known (with_log v (l1 start)) o begin.low q begin.mine names es id knows).0 (held_shut v o q begin.low begin.possible begin.mine begin.quiet names)
+  shut_old start es id knows q names = subst (Shut (version_at its (class_of q)) (rows its (class_of q))) (table_known (with_log v (l1 start)) o begin.low q begin.mine names es id knows).0 (held_shut v o q begin.low begin.possible begin.mine (begin.quiet o) names)
 
   rooted : (r : Option ℕ) → MayReplace v o write.call r → (start : ℕ) → IsReachable (with_log v (l1 start)) → Rooted r (log_of_root o old r (l1 start))
   rooted None m start p = (p, refl, (λ q. refl), odd start, not_yet start, refl, refl, λ e. off (sym (hit o false (has_emptied o v.log)) ∙ e))
@@ -196,6 +196,7 @@ module _ (v : View) (o t : ℕ) (write : WholeWrite) (begin : MayBegin v o) (may
         (λ _. begin.spare),
         (λ q (e : 0 ≡ suc q). absurd (omega (arith, e))),
         (λ _. not_yet start),
+        (λ q (e : 0 ≡ suc q). absurd (omega (arith, e))),
       )) in
       (next.1, root_put n o begin.low (mem n v.log) 0 wide (λ q (e : 0 ≡ suc q). absurd (omega (arith, e))), (λ q. refl), odd start, not_yet start, refl, refl, λ _. m)
   rooted (Some (suc q)) m start p =
@@ -211,6 +212,7 @@ module _ (v : View) (o t : ℕ) (write : WholeWrite) (begin : MayBegin v o) (may
         (λ _. begin.spare),
         (λ q2 (e : suc q ≡ suc q2). let same : q ≡ q2 = cc in subst (λ (z : ℕ). Low (version_at its (class_of z)) (rows its (class_of z)) (table_words n z (run n es).words) (word n es counter) (has_committed o (l1 start))) same (young q m.0 m.1 m.3 start es id knows)),
         (λ (e : suc q ≡ 0). absurd (omega (arith, e))),
+        (λ q2 _ done. off (sym (not_yet start) ∙ done)),
       )) in
       (next.1, root_put n o begin.low (mem n v.log) (suc q) wide (λ q2 (e : suc q ≡ suc q2). let same : q ≡ q2 = cc in subst (IsTableName n) same m.0), (λ p. refl), odd start, not_yet start, refl, refl, λ e. off (sym (hit o (eqb (suc q) 0) (has_emptied o (l1 start)) ∙ ne_eqb (suc q) 0 (λ z. absurd (omega (arith, z)))) ∙ e))
     where

@@ -1,4 +1,4 @@
-use Rattle.std.proofs.Common.{◌≡◌, ◌+◌, ◌*◌, ◌∙◌, length, ap, sym}
+use Rattle.std.proofs.Common.{◌+◌, ◌*◌, ◌∙◌, length, ap, sym}
 use Rattle.std.proofs.Math.Logic.{∥∥₁_elim}
 use Rattle.std.proofs.Math.Nat.{ℕ_set}
 use Rattle.ft_trace.specs.declared.Shape.{Shape}

@@ -1,22 +1,13 @@
-use Rattle.std.proofs.Common.{◌≡◌, ◌≢◌, ℕ, ◌+◌, ◌*◌, ◌^◌, ◌<◌, ◌≤◌, List, [], ◌++◌, refl, sym, ap, ◌∙◌, subst, arith, le_refl, append-nil}
-use Rattle.std.proofs.Math.Logic.{∥∥₁_map}
+use Rattle.std.proofs.Common.{◌≡◌, refl, sym, ap, ◌∙◌, subst, arith}
 use Rattle.ft_trace.specs.declared.Shape.{Shape}
 use Rattle.ft_trace.specs.declared.View.{View}
-use Rattle.ft_trace.specs.declared.Snap.{Snap}
-use Rattle.ft_trace.specs.declared.Act.TheVariants.{ReadCounter, TakeFloor}
+use Rattle.ft_trace.specs.declared.Act.TheVariants.{TakeFloor}
 use Rattle.ft_trace.specs.Addresses.{counter}
-use Rattle.ft_trace.specs.Acts.{view_after, both, sender, note, has_goal}
-use Rattle.ft_trace.specs.Traces.{IsReachable, IsFree, IsAwake, ReadyAs}
+use Rattle.ft_trace.specs.Traces.{IsReachable}
 use Rattle.ft_trace.proofs.Addresses.{at_low}
-use Rattle.ft_bank.specs.Passes.{view, shape_of}
-use Rattle.ft_bank.specs.Floors.{rests, carried}
 use Rattle.ft_bank.specs.Shapes.{plan}
-use Rattle.ft_bank.specs.Slips.{slip_with}
-use Rattle.ft_bank.proofs.Allowed.{acted_possible, alive, sends, glues, kept, same_settled, still_settled, token_kept}
-use Rattle.ft_bank.proofs.KnownAfterSteps.{left_low}
-use Rattle.ft_bank.proofs.Retiring.{retired_by, retired_same}
-use Rattle.ft_bank.proofs.Seen.{load_settles}
-use Rattle.ft_bank.proofs.Floors.{sender_possible, no_words, tokens_free, floor_settles, floor_brought}
+use Rattle.ft_bank.proofs.Allowed.{acted_possible, alive, kept, still_settled, token_kept}
+use Rattle.ft_bank.proofs.Retiring.{retired_by}
 use Rattle.ft_bank.proofs.bank.Bank.take_floor.Goals as goal
 
 pub load-requires : goal.load-requires

@@ -3,7 +3,6 @@
 use Rattle.std.proofs.Common.{◌≡◌, ℕ, false, true≢false, List, [], ◌∷◌, ◌++◌, sym, ap, ◌∙◌, append_assoc}
 use Rattle.ft_trace.specs.declared.Act.{Act}
 use Rattle.ft_trace.specs.declared.Act.TheVariants.{ReadCounter, TakeFloor, Version}
-use Rattle.ft_trace.specs.LoggedReads.{Among}
 use Rattle.ft_bank.specs.LastLoads.{loads_counter, IsLastBetween, IsLastLoad}
 
 pub loads_none : (a b : List Act) → loads_counter a ≡ false → loads_counter b ≡ false → loads_counter (a ++ b) ≡ false
@@ -11,10 +10,6 @@ loads_none [] b first later = later
 loads_none (ReadCounter n ∷ a) b first later = absurd (true≢false first)
 loads_none (TakeFloor n s ∷ a) b first later = absurd (true≢false first)
 loads_none (act ∷ a) b first later = loads_none a b first later
-
--- it is a load among these
-pub last_among : (n : ℕ) (part : List Act) → IsLastLoad n part → Among (ReadCounter n) part
-last_among n part last = record { newer = last.newer; rest = last.rest; is = last.is }
 
 -- after more actions
 pub last_newer : (n : ℕ) (more part : List Act) → loads_counter more ≡ false → IsLastLoad n part → IsLastLoad n (more ++ part)
@@ -44,21 +39,6 @@ between_last o n part b =
       rest = b.older ++ closed ∷ b.rest;
       is = b.is ∙ sym (append_assoc b.newer (closed ∷ b.mid) (ReadCounter n ∷ (b.older ++ closed ∷ b.rest)));
       none = loads_none b.newer (closed ∷ b.mid) b.none b.none_between;
-    }
-
-pub between_newer : (o n : ℕ) (more part : List Act) → loads_counter more ≡ false → IsLastBetween o n part → IsLastBetween o n (more ++ part)
-between_newer o n more part none b =
-    let closed = Version o b.version in
-    record {
-      version = b.version;
-      even = b.even;
-      newer = more ++ b.newer;
-      mid = b.mid;
-      older = b.older;
-      rest = b.rest;
-      is = ap (λ (l : List Act). more ++ l) b.is ∙ sym (append_assoc more b.newer (closed ∷ (b.mid ++ ReadCounter n ∷ (b.older ++ closed ∷ b.rest))));
-      none = loads_none more b.newer none b.none;
-      none_between = b.none_between;
     }
 
 pub between_older : (o n : ℕ) (part older : List Act) → IsLastBetween o n part → IsLastBetween o n (part ++ older)

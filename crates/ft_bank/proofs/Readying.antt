@@ -1,5 +1,5 @@
 -- That the steps of a write may be made, whatever other passes have done.
-use Rattle.std.proofs.Common.{Option, Some, None, Bool, ◌≤◌, ◌≡◌, ℕ, suc, ◌+◌, ◌-◌, ◌*◌, ◌^◌, ◌<◌, true, false, List, ◌∷◌, length, refl, sym, ap, ◌∙◌, subst, inl, inr, arith, get_or-set_same}
+use Rattle.std.proofs.Common.{Option, Some, None, Bool, ◌≤◌, ◌≡◌, ℕ, suc, ◌+◌, ◌-◌, ◌*◌, ◌%◌, ◌^◌, ◌<◌, true, false, List, ◌∷◌, length, refl, sym, ap, ◌∙◌, subst, inl, inr, arith, get_or-set_same}
 use Rattle.std.specs.Prelude.{slice_index, slice_set}
 use Rattle.ft_model.specs.declared.call.Call.{Call}
 use Rattle.ft_model.specs.declared.reply.Reply.{Reply}
@@ -15,7 +15,7 @@ use Rattle.ft_trace.specs.Pictures.{block_of, inner, root_in, Represents}
 use Rattle.ft_trace.specs.Kinds.{rows, version_at, ClearAs}
 use Rattle.ft_trace.specs.OddVersions.{Shut, Low}
 use Rattle.ft_trace.specs.Holds.{held_words, held_unboxed, known_state, in_hand}
-use Rattle.ft_trace.specs.Traces.{run, history, snap, Ready, ReadyAs, Sure, word, SoundFor, LowFor}
+use Rattle.ft_trace.specs.Traces.{run, history, snap, Ready, ReadyAs, Sure, word, SoundFor, LowFor, ShutFor}
 use Rattle.ft_trace.proofs.FitCalls.{contents_fit}
 use Rattle.ft_trace.proofs.Known.{kinds_stay}
 use Rattle.ft_trace.proofs.UnsplitTables.{tables_unsplit}
@@ -69,7 +69,7 @@ has_now v es id knows = record {
   words = contents_fit v.shape es knows.0;
 }
 
-pub start_ready : (v : View) (i o : ℕ) → AreFew v → o < container_count v.shape → has_lock o v.log ≡ true → is_writing o v.log ≡ false → Ready v i (λ n. StartWrite o n)
+pub start_ready : (v : View) (i o : ℕ) → AreFew v → o < container_count v.shape → has_lock o v.log ≡ true → ((p : ℕ) → is_writing p v.log ≡ false) → Ready v i (λ n. StartWrite o n)
 start_ready v i o few low mine quiet es id knows small =
     let r = version_room v.shape es knows.0 o low in
     (refl, (low, mine, quiet, omega (arith, r, few)))
@@ -223,5 +223,11 @@ root_ready v j o root low tables may es id knows less =
             (subst (λ (l : List ℕ). Low (version_at kind (class_of n)) (rows kind (class_of n)) l (word k es counter) (has_committed o v.log)) (hand_known v n (tables q.0 q.1) (may.fresh q.0 q.1) es id knows) (young_low (version_at kind (class_of n)) (rows kind (class_of n)) (in_hand n v) (word k es counter) (has_committed o v.log) young))),
         (λ e. may.early (root_none root e)),
         refs,
+        (λ t e done.
+            let q = root_names root t e in
+            let n = table_id q.0 in
+            let box : ℕ → ℕ → ℕ = λ b i. known_box_word k b i v.log in
+            subst (λ (z : ℕ). ShutFor k (run k es).words o z) q.2
+            (subst (Shut (version_at kind (class_of n)) (rows kind (class_of n))) (hand_known v n (tables q.0 q.1) (may.fresh q.0 q.1) es id knows) (λ p less. ap (λ (z : ℕ). z % 2) (sym (read_version box (class_of n) (rows kind (class_of n)) (in_hand n v) kind refl p less) ∙ (may.young q.0 p q.1 less).1 done)))),
       ),
     )

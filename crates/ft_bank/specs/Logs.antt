@@ -14,6 +14,7 @@ WasLog old (a ∷ log) = (old ≡ a ∷ log) ⊎ WasLog old log
 abbrev pub HasGrown : View → View → Type 0
 HasGrown v w = (old : List Act) → WasLog old v.log → WasLog old w.log
 
--- a pass that has been online since before its first entry has been so still: it went offline at no moment (PEP 703, QSBR)
+-- A pass that has been online since before its first entry has been so still: it went offline at no moment (PEP 703,
+-- QSBR).
 abbrev pub StaysOnline : View → View → Type 0
 StaysOnline v w = presence_of v.log ≡ presence.Online → presence_of w.log ≡ presence.Online

@@ -31,12 +31,12 @@ const BOX_KIND: u64 = 4;
 impl Bank {
     ghost use Rattle.ft_bank.specs.Passes.{shape_of, view, IsPassOf, Did};
 
-    /// Makes the version of a container odd, and answers what it was.
+    /// Makes the version of a container odd, and answers what it was. A pass writes one container at a time.
     pub fn start_write(&self, pass: &mut Pass, o: u32) -> u64
         requires pass { IsPassOf self.now pass.old }
         requires container { o < container_count (shape_of self.now) }
         requires locked { has_lock o (view pass.old).log ≡ true }
-        requires even { is_writing o (view pass.old).log ≡ false }
+        requires even { (p : ℕ) → is_writing p (view pass.old).log ≡ false }
         ensures { Did (StartWrite o result) pass.old pass.new }
     {
         let word = self.block_of(o) + 1;

@@ -142,7 +142,7 @@ module _ (k : Shape) (l : ℕ) (v : View) (possible : ∥ IsReachable v ∥₁) 
 
       wrote_begun : seen_writes begun ≤ number → (g : ℕ) (w : View) → w ≡ view_after (StopWrite l g) c → Wrote (reversal l) reply.Done number v w × (root_in (held_words l w) ≡ 0)
       wrote_begun seen g w stopped = (
-        plain_write (reversal l) reply.Done number f v begun begun w refl may.even (put_written l begun begun (put_same begun l))
+        plain_write (reversal l) reply.Done number f v begun begun w refl (may.even l) (put_written l begun begun (put_same begun l))
             (write_ends (reversal l) reply.Done number g snap begun c c w seen is committed may.left (put_same c l)
             (ap root_in held_after)
             (subst (λ (z : Shape). Represents z.texts (held_unboxed l c) (known_state l c)) (sym shape) stands_begun)
@@ -175,7 +175,7 @@ may_loaded k l v w shape only may =
       container = may.container;
       kind = may.kind;
       locked = only.work.pass.locks l ∙ may.locked;
-      even = only.work.pass.writes l ∙ may.even;
+      even = λ p. only.work.pass.writes p ∙ may.even p;
       stands = subst (λ (z : ContainerWords × ContainerState). Represents k.texts z.0 z.1) (λ d. (sym h d, sym n d)) may.stands;
       owes = only.work.owes ∙ may.owes;
       left = subst (λ (z : ℕ). 0 < z) (sym only.work.left) may.left;

@@ -13,13 +13,13 @@ use Rattle.ft_trace.specs.Pictures.{root_in, Represents}
 use Rattle.ft_trace.specs.Holds.{held_words, held_unboxed, known_state}
 use Rattle.ft_bank.specs.Whole.{OnlyLoaded, Wrote}
 
--- The pass may reverse the list l: it has its lock, and the list's words stand for what the pass knows of it; no
--- version is odd there, the pass owes no table, and it has a call left.
+-- The pass may reverse the list l: it has its lock, and the list's words stand for what the pass knows of it; it writes
+-- no list, owes no table, and has a call left.
 pub record MayReverse (k : Shape) (l : ℕ) (v : View) : Type 0 where
   pub container : l < container_count k
   pub kind : kind_in k.starts l ≡ kind.List
   pub locked : has_lock l v.log ≡ true
-  pub even : is_writing l v.log ≡ false
+  pub even : (p : ℕ) → is_writing p v.log ≡ false
   pub stands : Represents k.texts (held_unboxed l v) (known_state l v)
   pub owes : owes v.log ≡ 0
   pub left : 0 < v.left

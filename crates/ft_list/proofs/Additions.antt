@@ -147,6 +147,7 @@ module _ (F : ℕ → Type 0) (v u : View) (same : SamePass v u) (keeps : KeepsB
   pub tried_may : (k : Shape) (o : ℕ) (old : Option Table) (table : Table) (class : ℕ) → v.shape ≡ k → MayAdd k o old v → IsTableIn k table → table.class ≡ class → stage (table_id table) u.log ≡ 1 → owes u.log ≡ suc class → MayGrowList k o old table u
   tried_may k o old table class shape may table_in of_class fresh owed = record {
     list = tried_knows k o old shape may.list;
+    even = λ p. same.writes p ∙ may.even p;
     used = keeps.held.used ∙ may.used;
     owed = owed ∙ ap suc (sym (class_is table table_in.2 ∙ of_class));
     fresh = fresh;

@@ -94,4 +94,4 @@ module _ (k : Shape) (o : ℕ) (v s : View) (f : ℕ) (may : MayWriteList k o v)
         (subst (λ (n : ℕ). root_in (held_words n w) ≡ root_in (held_words n s)) at (ap (λ (z : View). root_in (held_words o z)) done))
         (subst (λ (n : ℕ). Represents s.shape.texts (held_words n w) (known_state n w)) at stands)
         (subst (λ (n : ℕ). x ≡ view_after (StopWrite n stop) w) at stopped) in
-        whole_write o v s s f begun (put_same s o) called said number x leaves.changed may.even ends (ap (λ (z : View). root_in (held_words o z)) begun)
+        whole_write o v s s f begun (put_same s o) called said number x leaves.changed (may.even o) ends (ap (λ (z : View). root_in (held_words o z)) begun)

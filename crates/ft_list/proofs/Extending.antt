@@ -96,7 +96,7 @@ module _ (k : Shape) (m : ℕ) (v : View) (list : KnowsItems k m v) (shape : v.s
   knows_gives o = record { container = list.container; locked = list.locked; quiet = λ ne. list.even; stores = stored_there; bare = bare_there }
 
 pub knows_from : (k : Shape) (o : ℕ) (v : View) → MayWriteList k o v → KnowsItems k o v
-knows_from k o v may = record { container = may.container; kind = may.kind; locked = may.locked; even = may.even; stands = may.stands }
+knows_from k o v may = record { container = may.container; kind = may.kind; locked = may.locked; even = may.even o; stands = may.stands }
 
 pub knows_then : (k : Shape) (o : ℕ) (v w : View) → held_words o w ≡ held_words o v → known_state o w ≡ known_state o v → has_lock o w.log ≡ has_lock o v.log → is_writing o w.log ≡ is_writing o v.log → KnowsItems k o v → KnowsItems k o w
 knows_then k o v w same_words same_content lock writes list = record {

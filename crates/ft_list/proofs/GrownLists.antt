@@ -60,6 +60,7 @@ knows_filled k o old v w shape only list =
 pub grow_filled : (k : Shape) (o : ℕ) (old : Option Table) (table : Table) (v w : View) → v.shape ≡ k → OnlyFilled v w → MayGrowList k o old table v → MayGrowList k o old table w
 grow_filled k o old table v w shape only may = record {
   list = knows_filled k o old v w shape only may.list;
+  even = λ p. only.work.pass.writes p ∙ may.even p;
   used = only.work.used ∙ may.used;
   owed = only.work.owes ∙ may.owed;
   fresh = only.work.hands (table_id table) ∙ may.fresh;

@@ -115,7 +115,7 @@ module _ (k : Shape) (o : ℕ) (table : Table) (v s u : View) (f : ℕ) (may : M
       let at : o ≡ changes called = sym (ap changes is ∙ ap (λ (b : Bool). unwrap_or (if b then Some o else None) 0) changing) in
       plain_write called said number f v s u w
       (subst (λ (n : ℕ). s ≡ view_after (StartWrite n f) v) at begun)
-      (subst (λ (n : ℕ). is_writing n v.log ≡ false) at may.even)
+      (subst (λ (n : ℕ). is_writing n v.log ≡ false) at (may.even o))
       (subst (λ (n : ℕ). OnlyPut n s u) at puts)
       ends
       (subst (λ (n : ℕ). root_in (held_words n u) ≡ root_in (held_words n v)) at root)

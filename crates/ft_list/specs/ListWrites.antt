@@ -35,13 +35,13 @@ use Rattle.ft_section.specs.declared.answers.Stamp.{Stamp}
 use Rattle.ft_section.specs.declared.answers.Objects.TheVariants.{One}
 use Rattle.ft_section.specs.Ready.{MayTry}
 
--- The pass may write the list o: it has its lock, and its words stand for what the pass knows of it; no version is odd
--- there, the pass has lowered no count of a class that it hasn't raised again, and it has a call left. (profile)
+-- The pass may write the list o: it has its lock, and its words stand for what the pass knows of it; it writes no
+-- container, has lowered no count of a class that it hasn't raised again, and has a call left. (profile)
 pub record MayWriteList (k : Shape) (o : ℕ) (v : View) : Type 0 where
   pub container : o < container_count k
   pub kind : kind_in k.starts o ≡ kind.List
   pub locked : has_lock o v.log ≡ true
-  pub even : is_writing o v.log ≡ false
+  pub even : (p : ℕ) → is_writing p v.log ≡ false
   pub stands : Represents k.texts (held_words o v) (known_state o v)
   pub owes : owes v.log ≡ 0
   pub left : 0 < v.left

@@ -1,5 +1,5 @@
 -- What the calls of a table need.
-use Rattle.std.specs.Prelude.{◌≡◌, [], ◌∷◌, true, false}
+use Rattle.std.specs.Prelude.{◌≡◌, ℕ, [], ◌∷◌, true, false}
 use Rattle.ft_model.specs.declared.script.Kind.TheVariants as kind
 use Rattle.ft_bank.specs.declared.bank.Bank.{Bank}
 use Rattle.ft_bank.specs.declared.pass.Pass.{Pass}
@@ -21,10 +21,10 @@ HasTwoLists b = (shape_of b).starts ≡ start_as kind.List ∷ start_as kind.Lis
 abbrev pub MayTryAny : Bank → Pass → Type 0
 MayTryAny b p = (objects : Objects) → MayTry b p objects
 
--- the pass has the lock of list 0, which it doesn't write yet, and in its hand this table of class 4
+-- the pass has the lock of list 0, writes no list yet, and has in its hand this table of class 4
 pub record IsGrowing (k : Shape) (table : Table) (v : View) : Type 0 where
   pub table_in : IsTableIn k table
   pub class : table.class ≡ 4
   pub fresh : stage (table_id table) v.log ≡ 1
   pub locked : has_lock 0 v.log ≡ true
-  pub even : is_writing 0 v.log ≡ false
+  pub even : (p : ℕ) → is_writing p v.log ≡ false

@@ -1,6 +1,6 @@
 //! Looks at a list in the midst of another pass's append that takes another table: the table is filled, and the root
 //! still names the old one.
-ghost use Rattle.std.specs.Prelude.{◌≡◌, ◌<◌, true, false};
+ghost use Rattle.std.specs.Prelude.{◌≡◌, ℕ, ◌<◌, true, false};
 ghost use Rattle.ft_trace.specs.Acts.{flight, has_lock, is_writing, owes};
 ghost use Rattle.ft_bank.specs.Passes.{shape_of, view, IsPassOf};
 ghost use Rattle.ft_list_tests.specs.TestCalls.{HasTwoLists, IsGrowing, MayTryAny};
@@ -66,7 +66,7 @@ fn grow(bank: &Bank, writer: &mut Pass) -> bool
     requires idle { flight (view writer.old).log ≡ 0 }
     requires owes { owes (view writer.old).log ≡ 0 }
     requires locked { has_lock 0 (view writer.old).log ≡ true }
-    requires even { is_writing 0 (view writer.old).log ≡ false }
+    requires even { (p : ℕ) → is_writing p (view writer.old).log ≡ false }
 {
     match bank.take_table(writer, 4) {
         Took::Taken(table) => {

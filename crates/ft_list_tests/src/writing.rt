@@ -1,5 +1,5 @@
 //! Looks at a list in the midst of another pass's write, whose words are put step by step.
-ghost use Rattle.std.specs.Prelude.{◌≡◌, ◌<◌, true, false, IfSome, OnOk};
+ghost use Rattle.std.specs.Prelude.{◌≡◌, ℕ, ◌<◌, true, false, IfSome, OnOk};
 ghost use Rattle.ft_model.specs.declared.script.Kind.TheVariants as kind;
 ghost use Rattle.ft_trace.specs.Acts.{has_committed, has_lock, is_writing};
 ghost use Rattle.ft_trace.specs.Addresses.{class_of, container_count, slots};
@@ -39,7 +39,7 @@ fn begin(bank: &Bank, writer: &mut Pass, l: u32) -> Option<Table>
     requires container { l < container_count (shape_of bank.now) }
     requires list { kind_in (shape_of bank.now).starts l ≡ kind.List }
     requires locked { has_lock l (view writer.old).log ≡ true }
-    requires even { is_writing l (view writer.old).log ≡ false }
+    requires even { (p : ℕ) → is_writing p (view writer.old).log ≡ false }
     ensures pass { IsPassOf bank.now writer.new }
     ensures list { IfSome result (λ table. WritesList (shape_of bank.now) l table (view writer.new)) }
     ensures early { has_committed l (view writer.new).log ≡ false }

@@ -39,7 +39,7 @@ use Rattle.ft_bank.specs.Whole.{OnlyLoaded, OnlyPut}
 use Rattle.ft_bank.proofs.KnownAfterWrites.{loaded_held, work_knows}
 use Rattle.ft_search.specs.Held.{IsHeldAt, KnowsTable}
 use Rattle.ft_search.specs.Rounds.{kind_by}
-use Rattle.ft_search.specs.OneEntryWrites.{HasTable, MayWriteEntries}
+use Rattle.ft_search.specs.OneEntryWrites.{HasTable, KnowsEntries}
 use Rattle.ft_search.proofs.Puts.{table_class}
 use Rattle.ft_new_keys.specs.KeyGrowth.{KnowsKeyed, holds}
 use Rattle.ft_new_keys.specs.Placing.{StoresAs}
@@ -184,7 +184,7 @@ holds_none (content.List values) key none = absurd none
 holds_none (content.Deque deque) key none = absurd none
 
 -- where a key was found in the table
-pub holds_at : (k : Shape) (v : View) (o : ℕ) (table : Table) (key : Key) (a b : ℕ) → MayWriteEntries k o v → HasTable k o table v → FitsKey key → IsHeldAt (known_state o v).content key (Some (a, b)) → holds (known_state o v).content key ≡ true
+pub holds_at : (k : Shape) (v : View) (o : ℕ) (table : Table) (key : Key) (a b : ℕ) → KnowsEntries k o v → HasTable k o table v → FitsKey key → IsHeldAt (known_state o v).content key (Some (a, b)) → holds (known_state o v).content key ≡ true
 holds_at k v o table key a b may has fits there = holds_some k (held_unboxed o v) (known_state o v) (class_of (table_id table)) may.stands (class_known k.texts (held_unboxed o v) (known_state o v) (table_id table) may.stands has.root) key a b fits there
 
 pub none_found : (found : Option Pair) → ((pair : Pair) → found ≡ Some pair → ⊥) → found ≡ None

@@ -1,13 +1,11 @@
 -- Two sets that are parted in the table of the first one: once the elements of the other one are joined to it, those go
 -- that both had.
-use Rattle.std.proofs.Common.{◌≡◌, ◌≢◌, ℕ, suc, ◌+◌, ◌*◌, ◌-◌, ◌%◌, ◌<◌, ◌≤◌, Bool, true, false, true≢false, List, [], ◌∷◌, ◌++◌, length, drop, filter, cond, Option, Some, None, refl, sym, ap, ◌∙◌, subst, inl, inr, arith}
-use Rattle.std.specs.Prelude.{◌||◌, not, is_some, if◌then◌else◌}
+use Rattle.std.proofs.Common.{◌≡◌, ℕ, ◌+◌, ◌<◌, ◌≤◌, Bool, true, false, List, [], ◌∷◌, ◌++◌, filter, cond, refl, sym, ap, ◌∙◌, subst, inl, inr, arith}
+use Rattle.std.specs.Prelude.{◌||◌, not}
 use Rattle.std.specs.List.{list_any}
 use Rattle.std.proofs.lemmas.Bool.{cases_lt}
 use Rattle.std.proofs.lemmas.List.{drop_all}
 use Rattle.std.proofs.lemmas.List.Elements.{filter-append}
-use mathlib.Core.Logic.{dite}
-use Rattle.std.proofs.Math.Decide.{dec_lt}
 use Rattle.ft_model.specs.declared.content.Content.{Content}
 use Rattle.ft_model.specs.declared.content.Content.TheVariants as content
 use Rattle.ft_model.specs.declared.content.Element.{Element}
@@ -21,9 +19,8 @@ use Rattle.ft_model.specs.Worlds.{set_of}
 use Rattle.ft_model.proofs.KeyLemmas.{same_key-true}
 use Rattle.ft_hash.specs.Probes.{set_slots}
 use Rattle.ft_keys.specs.declared.walk.Way.TheVariants as way
-use Rattle.ft_layout.specs.Containers.{class_mask, used_element, IsSetWords}
+use Rattle.ft_layout.specs.Containers.{class_mask}
 use Rattle.ft_layout.specs.Tables.{set_room}
-use Rattle.ft_layout.specs.Words.{FitsKey}
 use Rattle.ft_trace.specs.declared.Act.TheVariants.{StartWrite}
 use Rattle.ft_trace.specs.declared.Shape.{Shape}
 use Rattle.ft_trace.specs.declared.View.{View}
@@ -31,9 +28,9 @@ use Rattle.ft_trace.specs.Acts.{view_after}
 use Rattle.ft_trace.specs.Addresses.{class_of, slots}
 use Rattle.ft_trace.specs.Carefuls.{HasLiveKey}
 use Rattle.ft_trace.specs.Holds.{held_unboxed, known_state}
-use Rattle.ft_trace.specs.Kinds.{is_key, rows, under}
+use Rattle.ft_trace.specs.Kinds.{is_key, rows}
 use Rattle.ft_trace.specs.Traces.{IsReachable}
-use Rattle.ft_trace.specs.Pictures.{ContainerWords, Represents, entry_field}
+use Rattle.ft_trace.specs.Pictures.{entry_field}
 use Rattle.ft_trace.specs.ContainerStates.{ContainerState, kind_in}
 use Rattle.ft_trace.proofs.FitCalls.{set_fits_words}
 use Rattle.ft_trace.proofs.SetKnown as set
@@ -42,7 +39,6 @@ use Rattle.ft_bank.specs.declared.table.Table.{Table}
 use Rattle.ft_bank.specs.TableNames.{table_id}
 use Rattle.ft_bank.specs.Whole.{OnlyPut}
 use Rattle.ft_bank.proofs.KnownAfterWrites.{work_knows}
-use Rattle.ft_search.specs.Rounds.{kind_by}
 use Rattle.ft_search.specs.OneEntryWrites.{HasTable, MayWriteEntries}
 use Rattle.ft_search.proofs.Puts.{table_class}
 use Rattle.ft_new_keys.specs.declared.counts.Counts.{Counts}
@@ -51,7 +47,7 @@ use Rattle.ft_merging.specs.Joining.{joined}
 use Rattle.ft_merging.specs.Thinning.{stays}
 use Rattle.ft_merging.specs.Internal.JoiningSteps.{AreLeft, IsJoining, KeepsBelow}
 use Rattle.ft_merging.specs.Internal.ThinningSteps.{IsThinned, spared}
-use Rattle.ft_merging.specs.Internal.EntriesAtOnce.{IsMidway, version_of}
+use Rattle.ft_merging.specs.Internal.EntriesAtOnce.{IsMidway}
 use Rattle.ft_merging.proofs.ThinningEnds.{evens, first_known, first_says, unused}
 use Rattle.ft_merging.proofs.Thinned.{found_words, spared_own}
 

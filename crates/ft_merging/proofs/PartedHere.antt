@@ -1,5 +1,5 @@
 -- A set that parts with another one in the table that it has: the room there, and what the call leaves then.
-use Rattle.std.proofs.Common.{◌≡◌, ℕ, ◌+◌, ◌*◌, ◌-◌, ◌≤◌, Bool, true, false, true≢false, List, ◌∷◌, length, filter, Option, Some, None, refl, sym, ap, ◌∙◌, subst, arith, le-ltb}
+use Rattle.std.proofs.Common.{◌≡◌, ℕ, ◌+◌, ◌-◌, ◌≤◌, Bool, true, false, true≢false, List, length, filter, Option, Some, None, refl, sym, ap, ◌∙◌, subst, arith, le-ltb}
 use Rattle.std.specs.Prelude.{is_some, if◌then◌else◌}
 use Rattle.std.proofs.lemmas.List.{length-map}
 use Rattle.ft_model.specs.declared.call.Call.{Call}
@@ -8,7 +8,7 @@ use Rattle.ft_model.specs.declared.content.Content.TheVariants as content
 use Rattle.ft_model.specs.declared.reply.Reply.TheVariants as reply
 use Rattle.ft_model.specs.Classes.{IsClass, most_elements, set_class, set_entries}
 use Rattle.ft_model.specs.Contents.{SetContent, set_or}
-use Rattle.ft_model.specs.TableUses.{TableUse, grown_table, outgrows_set, passes_cap}
+use Rattle.ft_model.specs.TableUses.{grown_table, outgrows_set, passes_cap}
 use Rattle.ft_model.specs.Worlds.{set_of}
 use Rattle.ft_model.proofs.KnownKeys.{length-filter-le}
 use Rattle.ft_layout.specs.Containers.{used_element, IsSetWords}

@@ -22,7 +22,7 @@ use Rattle.ft_layout.proofs.WordLaws.{kind_range}
 use Rattle.ft_trace.specs.declared.Act.TheVariants.{StartWrite}
 use Rattle.ft_trace.specs.declared.Shape.{Shape}
 use Rattle.ft_trace.specs.declared.View.{View}
-use Rattle.ft_trace.specs.Acts.{has_committed, has_lock, is_writing, view_after, owes}
+use Rattle.ft_trace.specs.Acts.{has_committed, has_lock, is_writing, view_after}
 use Rattle.ft_trace.specs.Addresses.{class_of, container_count, slots}
 use Rattle.ft_trace.specs.Carefuls.{IsDead, HasLiveKey, OpensChanged}
 use Rattle.ft_trace.specs.Holds.{held_unboxed, known_state}
@@ -43,7 +43,7 @@ use Rattle.ft_bank.specs.Whole.{OnlyLoaded, OnlyPut}
 use Rattle.ft_bank.specs.WriteSteps.{MayHave}
 use Rattle.ft_bank.proofs.KnownAfterWrites.{work_knows}
 use Rattle.ft_search.specs.Held.{IsHeldAt}
-use Rattle.ft_search.specs.OneEntryWrites.{HasTable, Leaves, MayWriteEntries}
+use Rattle.ft_search.specs.OneEntryWrites.{HasTable, KnowsEntries, Leaves, MayWriteEntries}
 use Rattle.ft_search.proofs.Changing.{shut_known}
 use Rattle.ft_search.proofs.ReadyCommits.{leaves_later, may_commit, writes_begun}
 use Rattle.ft_search.proofs.FoundInContents.{set_known}
@@ -63,7 +63,7 @@ is_set k v s shape possible mine is =
 -- ---- another set
 
 -- its element was found, or it wasn't
-pub found_there : (k : Shape) (v : View) (t : ℕ) (table : Table) (key : Key) (a b : ℕ) → v.shape ≡ k → ∥ IsReachable v ∥₁ → MayWriteEntries k t v → HasTable k t table v → kind_in k.starts t ≡ kind.Set → FitsKey key → IsHeldAt (known_state t v).content key (Some (a, b)) → has_element (set_of (known_state t v).content).elements key ≡ true
+pub found_there : (k : Shape) (v : View) (t : ℕ) (table : Table) (key : Key) (a b : ℕ) → v.shape ≡ k → ∥ IsReachable v ∥₁ → KnowsEntries k t v → HasTable k t table v → kind_in k.starts t ≡ kind.Set → FitsKey key → IsHeldAt (known_state t v).content key (Some (a, b)) → has_element (set_of (known_state t v).content).elements key ≡ true
 found_there k v t table key a b shape possible may has is fits there =
     let others = set_of (known_state t v).content in
     let set_is = is_set k v t shape possible may.locked is in
@@ -73,11 +73,11 @@ found_there k v t table key a b shape possible may has is fits there =
     element_there others key fits (set_fits_words k.texts (held_unboxed t v).block (0 ∷ 0 ∷ (held_unboxed t v).table) (class_of (table_id table)) (known_state t v).table.fill others says)
     (λ none. absurd (let e = sym here.1 ∙ none in cc))
 
-pub missing_there : (k : Shape) (v : View) (t : ℕ) (key : Key) → v.shape ≡ k → ∥ IsReachable v ∥₁ → MayWriteEntries k t v → kind_in k.starts t ≡ kind.Set → IsHeldAt (known_state t v).content key None → has_element (set_of (known_state t v).content).elements key ≡ false
+pub missing_there : (k : Shape) (v : View) (t : ℕ) (key : Key) → v.shape ≡ k → ∥ IsReachable v ∥₁ → KnowsEntries k t v → kind_in k.starts t ≡ kind.Set → IsHeldAt (known_state t v).content key None → has_element (set_of (known_state t v).content).elements key ≡ false
 missing_there k v t key shape possible may is none = subst (λ (z : Content). IsHeldAt z key None) (is_set k v t shape possible may.locked is) none
 
 -- it may be read on, while the first one is written
-pub other_stays : (k : Shape) (s t : ℕ) (v w : View) → v.shape ≡ k → OnlyPut s v w → s ≢ t → MayWriteEntries k t v → MayWriteEntries k t w
+pub other_stays : (k : Shape) (s t : ℕ) (v w : View) → v.shape ≡ k → OnlyPut s v w → s ≢ t → KnowsEntries k t v → KnowsEntries k t w
 other_stays k s t v w shape only ne may =
     let same : held_unboxed t v ≡ held_unboxed t w = sym (only.others t (subst (λ (z : Shape). t < container_count z) (sym shape) may.container) (λ e. ne (sym e)) may.locked may.even) in
     let knows : known_state t v ≡ known_state t w = sym (work_knows v w t only.work) in
@@ -87,19 +87,15 @@ other_stays k s t v w shape only ne may =
       locked = only.work.pass.locks t ∙ may.locked;
       even = only.work.pass.writes t ∙ may.even;
       stands = subst (λ (z : ContainerWords × ContainerState). Represents k.texts z.0 z.1) (λ d. (same d, knows d)) may.stands;
-      owes = only.work.owes ∙ may.owes;
-      left = subst (λ (z : ℕ). 0 < z) (sym only.work.left) may.left;
     }
 
-pub other_begun : (k : Shape) (s t : ℕ) (v u : View) (f : ℕ) → u ≡ view_after (StartWrite s f) v → s ≢ t → MayWriteEntries k t v → MayWriteEntries k t u
+pub other_begun : (k : Shape) (s t : ℕ) (v u : View) (f : ℕ) → u ≡ view_after (StartWrite s f) v → s ≢ t → KnowsEntries k t v → KnowsEntries k t u
 other_begun k s t v u f begun ne may = record {
   container = may.container;
   keyed = may.keyed;
   locked = ap (λ (z : View). has_lock t z.log) begun ∙ may.locked;
   even = ap (λ (z : View). is_writing t z.log) begun ∙ (ap (λ (b : Bool). cond b true (is_writing t v.log)) (ne_eqb s t ne) ∙ may.even);
   stands = subst (λ (z : View). Represents k.texts (held_unboxed t z) (known_state t z)) (sym begun) may.stands;
-  owes = ap (λ (z : View). owes z.log) begun ∙ may.owes;
-  left = subst (λ (z : View). 0 < z.left) (sym begun) may.left;
 }
 
 -- ---- whether an element stays
@@ -147,7 +143,7 @@ module _ (k : Shape) (s : ℕ) (table : Table) (kept : Bool) (others : SetConten
 
   pub evens : (p : ℕ) → p < rows (kind_in k.starts s) (class_of t) → version_of t (held_unboxed s v) p % 2 ≡ 0
   evens p less =
-      let shut : Shut (version_at kind.Set (class_of t)) (rows kind.Set (class_of t)) (held_unboxed s v).table = subst (λ (z : Kind). Shut (version_at z (class_of t)) (rows z (class_of t)) (held_unboxed s v).table) (ap kind_of first_known) (shut_known k v s t shape possible may.container may.locked may.even has.root) in
+      let shut : Shut (version_at kind.Set (class_of t)) (rows kind.Set (class_of t)) (held_unboxed s v).table = subst (λ (z : Kind). Shut (version_at z (class_of t)) (rows z (class_of t)) (held_unboxed s v).table) (ap kind_of first_known) (shut_known k v s t shape possible may.container may.locked (may.even s) has.root) in
       shut p (subst (λ (z : Kind). p < rows z (class_of t)) is less)
 
   -- an entry that was never used isn't there

@@ -18,7 +18,7 @@ ghost use Rattle.ft_bank.specs.Passes.{shape_of, view, IsPassOf};
 ghost use Rattle.ft_bank.specs.PassSections.{stack_of};
 ghost use Rattle.ft_bank.specs.TableNames.{table_id};
 ghost use Rattle.ft_bank.specs.Whole.{OnlyLoaded, OnlyPut, Wrote};
-ghost use Rattle.ft_search.specs.OneEntryWrites.{HasTable, Leaves, MayWriteEntries};
+ghost use Rattle.ft_search.specs.OneEntryWrites.{HasTable, KnowsEntries, Leaves, MayWriteEntries};
 ghost use Rattle.ft_merging.specs.Thinning.{stays, thinned_state};
 ghost use Rattle.ft_merging.specs.Internal.ThinningSteps.{IsThinned};
 
@@ -44,7 +44,7 @@ fn is_in(bank: &Bank, pass: &mut Pass, s: Object, t: Object, key: Key, hash: u64
     requires set { kind_in (shape_of bank.now).starts t ≡ kind.Set }
     requires hash { hash ≡ hash_of (shape_of bank.now).texts key }
     requires fits { FitsKey key }
-    requires other { s ≢ t → MayWriteEntries (shape_of bank.now) t (view pass.old) }
+    requires other { s ≢ t → KnowsEntries (shape_of bank.now) t (view pass.old) }
     requires own { s ≡ t → has_element (set_of (known_state t (view pass.old)).content).elements key ≡ true }
     ensures pass { IsPassOf bank.now pass.new }
     ensures stack { stack_of pass.new ≡ stack_of pass.old }
@@ -75,7 +75,7 @@ fn goes_at(
     requires set { kind_in (shape_of bank.now).starts s ≡ kind.Set }
     requires other_set { kind_in (shape_of bank.now).starts t ≡ kind.Set }
     requires place { place < rows kind.Set (class_of (table_id table)) }
-    requires other { s ≢ t → MayWriteEntries (shape_of bank.now) t (view pass.old) }
+    requires other { s ≢ t → KnowsEntries (shape_of bank.now) t (view pass.old) }
     requires thinned { (to : ContainerState) × (last : ℕ) × (place < last) × IsThinned (shape_of bank.now) s table kept
         (set_of (known_state t (view pass.old)).content) (set_of (known_state s (view pass.old)).content) to last place
         (view pass.old) }
@@ -109,7 +109,7 @@ fn thin_at(bank: &Bank, pass: &mut Pass, s: Object, table: Table, t: Object, kep
     requires set { kind_in (shape_of bank.now).starts s ≡ kind.Set }
     requires other_set { kind_in (shape_of bank.now).starts t ≡ kind.Set }
     requires place { place < rows kind.Set (class_of (table_id table)) }
-    requires other { s ≢ t → MayWriteEntries (shape_of bank.now) t (view pass.old) }
+    requires other { s ≢ t → KnowsEntries (shape_of bank.now) t (view pass.old) }
     requires thinned { (to : ContainerState) × (last : ℕ) × (place < last) × IsThinned (shape_of bank.now) s table kept
         (set_of (known_state t (view pass.old)).content) (set_of (known_state s (view pass.old)).content) to last place
         (view pass.old) }
@@ -144,7 +144,7 @@ pub(crate) fn thin_all(
     requires set { kind_in (shape_of bank.now).starts s ≡ kind.Set }
     requires other_set { kind_in (shape_of bank.now).starts t ≡ kind.Set }
     requires fill { fill ≤ rows kind.Set (class_of (table_id table)) }
-    requires other { s ≢ t → MayWriteEntries (shape_of bank.now) t (view pass.old) }
+    requires other { s ≢ t → KnowsEntries (shape_of bank.now) t (view pass.old) }
     requires thinned { (to : ContainerState) × IsThinned (shape_of bank.now) s table kept
         (set_of (known_state t (view pass.old)).content) (set_of (known_state s (view pass.old)).content) to fill 0
         (view pass.old) }

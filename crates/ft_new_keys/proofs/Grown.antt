@@ -45,6 +45,7 @@ module _ (k : Shape) (o : ℕ) (old : Option Table) (v x : View) (shape : v.shap
 pub grow_filled : (k : Shape) (o : ℕ) (old : Option Table) (table : Table) (v x : View) → v.shape ≡ k → OnlyFilled v x → MayGrowKeyed k o old table v → MayGrowKeyed k o old table x
 grow_filled k o old table v x shape only may = record {
   keyed = knows_filled k o old v x shape only may.keyed;
+  even = λ p. only.work.pass.writes p ∙ may.even p;
   used = only.work.used ∙ may.used;
   owed = only.work.owes ∙ may.owed;
   fresh = only.work.hands (table_id table) ∙ may.fresh;

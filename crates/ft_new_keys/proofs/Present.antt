@@ -63,6 +63,7 @@ module _ (k : Shape) (o : ℕ) (key : Key) (called : Call) (said : Reply) (v u w
 pub may_add : (k : Shape) (o : ℕ) (old : Option Table) (v u : View) → OnlyLoaded v u → used v.log ≡ false → flight v.log ≡ 0 → MayWriteEntries k o u → KnowsKeyed k o old u → MayAddKey k o old u
 may_add k o old v u only unused idle may keyed = record {
   keyed = keyed;
+  even = may.even;
   used = only.work.used ∙ unused;
   owes = may.owes;
   idle = only.work.pass.flight ∙ idle;

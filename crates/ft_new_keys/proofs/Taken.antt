@@ -65,6 +65,7 @@ module _ (F : ℕ → Type 0) (v u : View) (same : SamePass v u) (keeps : KeepsB
   pub tried_may : (k : Shape) (o : ℕ) (old : Option Table) (table : Table) (class : ℕ) → v.shape ≡ k → MayAddKey k o old v → IsTableIn k table → table.class ≡ class → stage (table_id table) u.log ≡ 1 → owes u.log ≡ suc class → MayGrowKeyed k o old table u
   tried_may k o old table class shape may table_in of_class fresh owed = record {
     keyed = tried_knows k o old shape may.keyed;
+    even = λ p. same.writes p ∙ may.even p;
     used = keeps.held.used ∙ may.used;
     owed = owed ∙ ap suc (sym (class_is table table_in.2 ∙ of_class));
     fresh = fresh;
@@ -78,6 +79,7 @@ module _ (k : Shape) (o : ℕ) (old : Option Table) (v u : View) (only : OnlyLoa
   pub may_loaded : MayAddKey k o old v → MayAddKey k o old u
   may_loaded may = record {
     keyed = knows_on k o old v u same (work_knows v u o only.work) (only.work.pass.locks o) (only.work.pass.writes o) may.keyed;
+    even = λ p. only.work.pass.writes p ∙ may.even p;
     used = only.work.used ∙ may.used;
     owes = only.work.owes ∙ may.owes;
     idle = only.work.pass.flight ∙ may.idle;

@@ -38,6 +38,7 @@ use Rattle.ft_run_threads.specs.Workers.{IsBankFor}
 use Rattle.ft_run_threads.proofs.Between.{visited_member}
 use Rattle.ft_run_threads.proofs.WholeLists.{max_some}
 use Rattle.ft_run_turns.specs.declared.seats.Seat.{Seat}
+use Rattle.ft_run_turns.specs.SeatedThreads.{AreOnlineAtStart}
 use Rattle.ft_run_turns.specs.Internal.CallerSeats.{AreNewFrom, AreNewSeats, AreSeats, HaveTurned, IsBetweenTurns, IsGiver, IsNewCaller, IsNewRest, IsNewSeat, IsSeatOf, NobodyOwns, seat_entries, entries_made, standing_at, standing_in, standings_of}
 use Rattle.ft_bank.specs.Closings.{HasBeenOnline}
 use Rattle.ft_engine.specs.Presences.{IsStillOnline}
@@ -135,6 +136,30 @@ pub new_seats : (e : Engine) (script : ScriptParts) (seats : List (Option Seat))
 new_seats e script seats are thread low =
     let one = new_at e script 0 seats are thread low in
     (one.0, one.1, subst (λ n. IsSeatOf e script n one.0) (let same : 0 + thread ≡ thread = omega arith in same) one.2.0)
+
+-- a thread of which nothing was made has an empty list
+none_of : (entries : List Entry) → length entries ≡ 0 → entries ≡ []
+none_of [] none = refl
+none_of (x ∷ xs) none = absurd (omega (arith, none))
+
+-- each thread that has a call is online
+pub new_online : (e : Engine) (script : ScriptParts) (seats : List (Option Seat)) → AreNewSeats e script 0 seats → AreOnlineAtStart script seats
+new_online e script seats are thread low =
+    let one = new_at e script 0 seats are thread low in
+    let s = one.0 in
+    let is : IsSeatOf e script thread s = subst (λ n. IsSeatOf e script n s) (let same : 0 + thread ≡ thread = omega arith in same) one.2.0 in
+    let none : length s.entries.items ≡ 0 = ap (λ (x : Standing). length x.entries) one.2.1 in (
+      s,
+      one.1,
+      record {
+        none = none_of s.entries.items none;
+        online = λ some.
+            let between = is.between.online (subst (λ n. n < length (calls_of script thread)) (sym none) some) in (
+              subst (λ (v : View). 0 < announces v.log) (sym is.rests.pass) between.0,
+              subst (λ (v : View). presence_of v.log ≡ presence.Online) (sym is.rests.pass) between.1,
+            );
+      },
+    )
 
 pub none_made : (e : Engine) (script : ScriptParts) (from : ℕ) (seats : List (Option Seat)) → AreNewSeats e script from seats → entries_made seats ≡ 0
 none_made e script from [] are = refl

@@ -1,2 +1,3 @@
 pub mod OrderedHistories
 pub mod Internal
+pub mod SeatedThreads

@@ -11,3 +11,5 @@ mod trying;
 mod turning;
 
 pub use crate::running::{TurnRun, run_in_turns};
+pub use crate::seating::seat_callers;
+pub use crate::seats::Seat;

@@ -6,6 +6,7 @@ ghost use Rattle.ft_engine.specs.Resting.{HasFloor};
 ghost use Rattle.ft_model.specs.Histories.{calls_of};
 ghost use Rattle.ft_model.specs.Limits.{most_cursors};
 ghost use Rattle.ft_run_turns.specs.Internal.CallerSeats.{AreNewFrom, AreNewSeats, AreSeats, HasCome, HasSat, HaveTurned, IsHeld, IsNewCaller, IsNewSeat, NobodyOwns, entries_made};
+ghost use Rattle.ft_run_turns.specs.SeatedThreads.{AreOnlineAtStart};
 ghost use Rattle.ft_run_threads.specs.Workers.{IsBankFor};
 
 use crate::seats::Seat;
@@ -113,8 +114,8 @@ fn sit_all(
     Ok((seats, tokens))
 }
 
-/// The seats of the callers of a new engine, before the first turn.
-pub(crate) fn seat_callers(
+/// The seats of the callers of a new engine, before the first turn: each thread that has a call is online.
+pub fn seat_callers(
     alloc: Global,
     engine: &Engine,
     script: &ScriptParts,
@@ -128,6 +129,7 @@ pub(crate) fn seat_callers(
     ensures tokens { IfOk result (λ made. IsHeld engine.now made.1) }
     ensures none { IfOk result (λ made. entries_made made.0.items ≡ 0) }
     ensures turned { IfOk result (λ made. HaveTurned engine.now script.now [] made.0.items made.1) }
+    ensures online { IfOk result (λ made. AreOnlineAtStart script.now made.0.items) }
 {
     let (first, others) = gather_all(alloc, engine, callers)?;
     sit_all(alloc, engine, script, first, others)

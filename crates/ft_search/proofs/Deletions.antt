@@ -317,7 +317,7 @@ deletes_known dicts sets k o table v shape possible may has place key entry =
     deletes dicts sets k.texts (held_unboxed o v) t (table_class k table has.table_in) has.root (table_is_long v o t has.root) place key entry.live entry.fits
     (known_state o v).content (known_state o v).table (subst IsKeyed (sym kind_eq) may.keyed) may.stands
     (subst (λ (z : Kind). place < rows z (class_of t)) (sym kind_eq) entry.low)
-    (shut_known k v o t shape possible may.container may.locked may.even has.root)
+    (shut_known k v o t shape possible may.container may.locked (may.even o) has.root)
 
 -- ---- the puts, one after the other
 

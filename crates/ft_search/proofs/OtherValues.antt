@@ -218,7 +218,7 @@ pub values_known : ValueLaws → (k : Shape) (o : ℕ) (table : Table) (v : View
 values_known laws k o table v shape possible may is has place key value fits entry =
     by (known_state o v).content (known_state o v).table (kind_is k v o shape possible may.locked ∙ is) may.stands
     (subst (λ (z : Kind). place < rows z (class_of (table_id table))) is entry.low)
-    (shut_known k v o (table_id table) shape possible may.container may.locked may.even has.root)
+    (shut_known k v o (table_id table) shape possible may.container may.locked (may.even o) has.root)
   where
     by : (d : Content) (u : TableUse) → kind_of d ≡ kind.Dict → Represents k.texts (held_unboxed o v) (record { content = d; table = u }) → place < rows kind.Dict (class_of (table_id table)) → Shut (version_at (kind_of d) (class_of (table_id table))) (rows (kind_of d) (class_of (table_id table))) (held_unboxed o v).table
         → ((SaysValue table place value (held_unboxed o v) → ⊥) → Changing k.texts (table_id table) (held_unboxed o v) (record { content = d; table = u }) place (value_puts (slots (class_of (table_id table))) (held_unboxed o v).table place None value) (record { content = with_value_at d key value; table = u }))

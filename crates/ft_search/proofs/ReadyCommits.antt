@@ -183,7 +183,7 @@ module _ (k : Shape) (o : ℕ) (v s : View) (f : ℕ) (may : MayWriteEntries k o
   shut_before : ∥ IsReachable v ∥₁ → (q : ℕ) → root_in (held_unboxed o v) ≡ suc q → Shut (version_at (kind_in v.shape.starts o) (class_of q)) (rows (kind_in v.shape.starts o) (class_of q)) (held_unboxed o v).table
   shut_before possible q root =
       shut_reads v o q root
-      (λ p row. ∥∥₁_elim {P = slice_index (held_words o v).table (version_at (kind_in v.shape.starts o) (class_of q) p) % 2 ≡ 0} possible (ℕ_set _ _) (λ x. held_shut v o q low' x may.locked may.even root p row))
+      (λ p row. ∥∥₁_elim {P = slice_index (held_words o v).table (version_at (kind_in v.shape.starts o) (class_of q) p) % 2 ≡ 0} possible (ℕ_set _ _) (λ x. held_shut v o q low' x may.locked (may.even o) root p row))
 
   pub nothing_commits : ∥ IsReachable v ∥₁ → MayCommit s called said
   nothing_commits possible =
@@ -222,7 +222,7 @@ module _ (k : Shape) (o : ℕ) (v s : View) (f : ℕ) (may : MayWriteEntries k o
         (subst (λ (p : ℕ). root_in (held_unboxed p w) ≡ root_in (held_unboxed p s)) at (ap (λ (z : View). root_in (held_unboxed o z)) is))
         (subst (λ (p : ℕ). Represents s.shape.texts (held_unboxed p w) (known_state p w)) at stands)
         (subst (λ (p : ℕ). x ≡ view_after (StopWrite p stop) w) at stopped) in
-        whole_write o v s s f begun (put_written o s s (put_same s o)) called said number x leaves.changed may.even ends (ap (λ (z : View). root_in (held_unboxed o z)) begun)
+        whole_write o v s s f begun (put_written o s s (put_same s o)) called said number x leaves.changed (may.even o) ends (ap (λ (z : View). root_in (held_unboxed o z)) begun)
 
 -- ---- a write that changes one entry
 

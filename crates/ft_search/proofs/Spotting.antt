@@ -37,7 +37,7 @@ use Rattle.ft_search.specs.declared.spots.Spot.TheVariants as spot
 use Rattle.ft_search.specs.Held.{ReadsEntry, IsHeldAt}
 use Rattle.ft_search.specs.Rounds.{kind_by}
 use Rattle.ft_search.specs.Spots.{IsSpot, spot_in}
-use Rattle.ft_search.specs.OneEntryWrites.{HasTable, IsLiveEntry, MayWriteEntries}
+use Rattle.ft_search.specs.OneEntryWrites.{HasTable, IsLiveEntry, KnowsEntries, MayWriteEntries}
 use Rattle.ft_search.proofs.FoundInContents.{MissingKeys, MissingElements, IsOfWay, key_held}
 use Rattle.ft_search.proofs.KnownTableWords.{entry_after_header}
 use Rattle.ft_search.proofs.Puts.{done_then}
@@ -146,44 +146,57 @@ module _ (missing_key : MissingKeys) (missing_element : MissingElements) (first_
 
 -- ---- after loads
 
+-- who may write a container knows it
+pub may_knows : (k : Shape) (o : ℕ) (v : View) → MayWriteEntries k o v → KnowsEntries k o v
+may_knows k o v may = record { container = may.container; keyed = may.keyed; locked = may.locked; even = may.even o; stands = may.stands }
+
 module _ (k : Shape) (o : ℕ) (v w : View) (shape : v.shape ≡ k) (only : OnlyLoaded v w) where
-  same : MayWriteEntries k o v → (held_unboxed o v ≡ held_unboxed o w) × (known_state o v ≡ known_state o w)
-  same may = (sym (only.unboxed o (subst (λ (z : Shape). o < container_count z) (sym shape) may.container) may.locked), sym (work_knows v w o only.work))
+  same : KnowsEntries k o v → (held_unboxed o v ≡ held_unboxed o w) × (known_state o v ≡ known_state o w)
+  same knows = (sym (only.unboxed o (subst (λ (z : Shape). o < container_count z) (sym shape) knows.container) knows.locked), sym (work_knows v w o only.work))
+
+  pub knows_loaded : KnowsEntries k o v → KnowsEntries k o w
+  knows_loaded knows = record {
+    container = knows.container;
+    keyed = knows.keyed;
+    locked = only.work.pass.locks o ∙ knows.locked;
+    even = only.work.pass.writes o ∙ knows.even;
+    stands = subst (λ (z : ContainerWords × ContainerState). Represents k.texts z.0 z.1) (λ d. ((same knows).0 d, (same knows).1 d)) knows.stands;
+  }
 
   pub may_loaded : MayWriteEntries k o v → MayWriteEntries k o w
   may_loaded may = record {
     container = may.container;
     keyed = may.keyed;
     locked = only.work.pass.locks o ∙ may.locked;
-    even = only.work.pass.writes o ∙ may.even;
-    stands = subst (λ (z : ContainerWords × ContainerState). Represents k.texts z.0 z.1) (λ d. ((same may).0 d, (same may).1 d)) may.stands;
+    even = λ p. only.work.pass.writes p ∙ may.even p;
+    stands = subst (λ (z : ContainerWords × ContainerState). Represents k.texts z.0 z.1) (λ d. ((same (may_knows k o v may)).0 d, (same (may_knows k o v may)).1 d)) may.stands;
     owes = only.work.owes ∙ may.owes;
     left = subst (λ (z : ℕ). 0 < z) (sym only.work.left) may.left;
     boxes = done_then k v w shape only.work.pass.shape only.boxes.references only.boxes.made may.boxes;
   }
 
-  pub table_loaded : MayWriteEntries k o v → (table : Table) → HasTable k o table v → HasTable k o table w
-  table_loaded may table has = record { table_in = has.table_in; root = ap root_in (sym (same may).0) ∙ has.root }
+  pub table_loaded : KnowsEntries k o v → (table : Table) → HasTable k o table v → HasTable k o table w
+  table_loaded knows table has = record { table_in = has.table_in; root = ap root_in (sym (same knows).0) ∙ has.root }
 
-  entry_loaded : MayWriteEntries k o v → (table : Table) (place : ℕ) (key : Key) → IsLiveEntry k o table place key v → IsLiveEntry k o table place key w
-  entry_loaded may table place key e = record {
+  entry_loaded : KnowsEntries k o v → (table : Table) (place : ℕ) (key : Key) → IsLiveEntry k o table place key v → IsLiveEntry k o table place key w
+  entry_loaded knows table place key e = record {
     low = e.low;
-    live = subst (λ (z : ContainerWords). HasLiveKey (slots (class_of (table_id table))) z.table place key) (same may).0 e.live;
+    live = subst (λ (z : ContainerWords). HasLiveKey (slots (class_of (table_id table))) z.table place key) (same knows).0 e.live;
     fits = e.fits;
   }
 
-  pub spot_loaded : MayWriteEntries k o v → (way : Way) (key : Key) (s : Spot) → IsSpot k o way key v s → IsSpot k o way key w s
-  spot_loaded may way key (spot.At table place kind payload) s = (
-    table_loaded may table s.0,
-    entry_loaded may table place key s.1,
-    subst (λ (z : ContainerState). IsHeldAt z.content key (Some (kind, payload))) (same may).1 s.2,
-    subst (λ (z : ContainerWords). kind ≡ entry_field (slots (class_of (table_id table))) z.table place 4) (same may).0 s.3,
-    subst (λ (z : ContainerWords). payload ≡ entry_field (slots (class_of (table_id table))) z.table place 5) (same may).0 s.4,
+  pub spot_loaded : KnowsEntries k o v → (way : Way) (key : Key) (s : Spot) → IsSpot k o way key v s → IsSpot k o way key w s
+  spot_loaded knows way key (spot.At table place kind payload) s = (
+    table_loaded knows table s.0,
+    entry_loaded knows table place key s.1,
+    subst (λ (z : ContainerState). IsHeldAt z.content key (Some (kind, payload))) (same knows).1 s.2,
+    subst (λ (z : ContainerWords). kind ≡ entry_field (slots (class_of (table_id table))) z.table place 4) (same knows).0 s.3,
+    subst (λ (z : ContainerWords). payload ≡ entry_field (slots (class_of (table_id table))) z.table place 5) (same knows).0 s.4,
   )
-  spot_loaded may way key (spot.Free table slot) s = (
-    table_loaded may table s.0,
+  spot_loaded knows way key (spot.Free table slot) s = (
+    table_loaded knows table s.0,
     s.1,
-    subst (λ (z : ContainerWords). FirstFree (0 ∷ 0 ∷ z.table) (walk_slots way (hash_of k.texts key) (class_mask table.class)) (Some slot)) (same may).0 s.2,
-    subst (λ (z : ContainerState). IsHeldAt z.content key None) (same may).1 s.3,
+    subst (λ (z : ContainerWords). FirstFree (0 ∷ 0 ∷ z.table) (walk_slots way (hash_of k.texts key) (class_mask table.class)) (Some slot)) (same knows).0 s.2,
+    subst (λ (z : ContainerState). IsHeldAt z.content key None) (same knows).1 s.3,
   )
-  spot_loaded may way key spot.Bare s = (ap root_in (sym (same may).0) ∙ s.0, subst (λ (z : ContainerState). IsHeldAt z.content key None) (same may).1 s.1)
+  spot_loaded knows way key spot.Bare s = (ap root_in (sym (same knows).0) ∙ s.0, subst (λ (z : ContainerState). IsHeldAt z.content key None) (same knows).1 s.1)

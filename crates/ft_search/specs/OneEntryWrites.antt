@@ -32,14 +32,23 @@ use Rattle.ft_bank.specs.WriteSteps.{MayHave, MayCommit, with_table}
 use Rattle.ft_search.specs.MadeCalls.{IsReplyTo}
 use Rattle.ft_layout.specs.declared.slot.Stored.TheVariants.{Plain}
 
--- The pass may write the container o, a dict or a set: it has its lock, and its words stand for what the pass knows of
--- it; no version is odd there, the pass has lowered no count of a class that it hasn't raised again, it holds no
--- reference for a box and makes none, and it has a call left. (profile)
-pub record MayWriteEntries (k : Shape) (o : ℕ) (v : View) : Type 0 where
+-- The pass has the lock of the container o, a dict or a set, which it doesn't write, and its words stand for what the
+-- pass knows of it. (profile)
+pub record KnowsEntries (k : Shape) (o : ℕ) (v : View) : Type 0 where
   pub container : o < container_count k
   pub keyed : IsKeyed (kind_in k.starts o)
   pub locked : has_lock o v.log ≡ true
   pub even : is_writing o v.log ≡ false
+  pub stands : Represents k.texts (held_unboxed o v) (known_state o v)
+
+-- The pass may write the container o, a dict or a set: it has its lock, and its words stand for what the pass knows of
+-- it; it writes no container, has lowered no count of a class that it hasn't raised again, holds no reference for a box
+-- and makes none, and has a call left. (profile)
+pub record MayWriteEntries (k : Shape) (o : ℕ) (v : View) : Type 0 where
+  pub container : o < container_count k
+  pub keyed : IsKeyed (kind_in k.starts o)
+  pub locked : has_lock o v.log ≡ true
+  pub even : (p : ℕ) → is_writing p v.log ≡ false
   pub stands : Represents k.texts (held_unboxed o v) (known_state o v)
   pub owes : owes v.log ≡ 0
   pub boxes : IsDoneWithBoxes k v.log

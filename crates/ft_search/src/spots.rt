@@ -11,7 +11,7 @@ ghost use Rattle.ft_trace.specs.declared.Act.{Act};
 ghost use Rattle.ft_search.specs.SearchCosts.{AreFewReads};
 ghost use Rattle.ft_search.specs.Rounds.{kind_by};
 ghost use Rattle.ft_search.specs.Spots.{IsSpot, spot_in};
-ghost use Rattle.ft_search.specs.OneEntryWrites.{MayWriteEntries};
+ghost use Rattle.ft_search.specs.OneEntryWrites.{KnowsEntries, MayWriteEntries};
 
 use crate::held::{ROOT, read_by};
 use crate::look::key_fits;
@@ -48,18 +48,18 @@ pub fn spot_of(table: Table, found: Found, read: Option<(u64, u64)>) -> Spot
     }
 }
 
-/// Looks for a key by its hash in a dict or a set that the pass may write. It loads at most as many index words as
-/// one search may.
+/// Looks for a key by its hash in a dict or a set whose lock the pass has. It loads at most as many index words as one
+/// search may.
 #[inline(always)]
 pub fn seek_by(bank: &Bank, pass: &mut Pass, o: u32, way: Way, key: Key, hash: u64) -> Spot
     requires pass { IsPassOf bank.now pass.old }
     requires way { kind_in (shape_of bank.now).starts o ≡ kind_by way }
     requires hash { hash ≡ hash_of (shape_of bank.now).texts key }
-    requires may { MayWriteEntries (shape_of bank.now) o (view pass.old) }
+    requires knows { KnowsEntries (shape_of bank.now) o (view pass.old) }
     ensures pass { IsPassOf bank.now pass.new }
     ensures stack { stack_of pass.new ≡ stack_of pass.old }
     ensures key { FitsKey key }
-    ensures may { MayWriteEntries (shape_of bank.now) o (view pass.new) }
+    ensures knows { KnowsEntries (shape_of bank.now) o (view pass.new) }
     ensures keeps { OnlyLoaded (view pass.old) (view pass.new) }
     ensures loads { (part : List Act) × ((view pass.new).log ≡ part ++ (view pass.old).log) × AreFewReads way part }
     ensures spot { IsSpot (shape_of bank.now) o way key (view pass.new) result }

@@ -73,7 +73,7 @@ held_shut v o q low p mine quiet names =
     subst (Shut (version_at (kind_in v.shape.starts o) (class_of q)) (rows (kind_in v.shape.starts o) (class_of q))) (sym w.0) (holder_shut v.shape p.0 p.2.0 o low p.1 v p.2.1 mine quiet q w.1)
 
 -- start, root 0, length 0, commit, stop, unlock
-module _ (v : View) (o : ℕ) (values : List Value) (live : IsAwake v) (possible : IsReachable v) (small : v.shape.passes * v.shape.calls < 2 ^ 46) (low : o < container_count v.shape) (mine : has_lock o v.log ≡ true) (quiet : is_writing o v.log ≡ false) (spare : used v.log ≡ false) (none : owes v.log ≡ 0) (room : 0 < v.left) (few_references : (b : ℕ) → references_held v.shape b v.log < 2 ^ 31) (is_list : (known_state o v).content ≡ content.List values) where
+module _ (v : View) (o : ℕ) (values : List Value) (live : IsAwake v) (possible : IsReachable v) (small : v.shape.passes * v.shape.calls < 2 ^ 46) (low : o < container_count v.shape) (mine : has_lock o v.log ≡ true) (quiet : (p : ℕ) → is_writing p v.log ≡ false) (spare : used v.log ≡ false) (none : owes v.log ≡ 0) (room : 0 < v.left) (few_references : (b : ℕ) → references_held v.shape b v.log < 2 ^ 31) (is_list : (known_state o v).content ≡ content.List values) where
   abbrev k : Shape
   k = v.shape
 
@@ -109,7 +109,7 @@ module _ (v : View) (o : ℕ) (values : List Value) (live : IsAwake v) (possible
 
   -- the block that is known at first is that of a list
   head : IsBlock (held_words o v).block (known_state o v).table.class (length values) 0 0
-  head = subst (λ (z : Content). StandsAs k.texts (held_words o v).block (0 ∷ 0 ∷ (held_unboxed o v).table) (known_state o v).table z → IsBlock (held_words o v).block (known_state o v).table.class (length values) 0 0) (sym is_list) (λ s. s.0.head) (held_stands v o low possible mine quiet)
+  head = subst (λ (z : Content). StandsAs k.texts (held_words o v).block (0 ∷ 0 ∷ (held_unboxed o v).table) (known_state o v).table z → IsBlock (held_words o v).block (known_state o v).table.class (length values) 0 0) (sym is_list) (λ s. s.0.head) (held_stands v o low possible mine (quiet o))
 
   abbrev ws : List ℕ
   ws = mem k v.log
@@ -186,11 +186,12 @@ module _ (v : View) (o : ℕ) (values : List Value) (live : IsAwake v) (possible
         odd,
         root_known (c1 n) o low mine es id knows,
         (λ t' (e : 0 ≡ suc t'). absurd (omega (arith, e))),
-        (λ q names. subst (Shut (version_at (kind_in k.starts o) (class_of q)) (rows (kind_in k.starts o) (class_of q))) (table_known (c1 n) o low q mine names es id knows).0 (held_shut v o q low possible mine quiet names)),
+        (λ q names. subst (Shut (version_at (kind_in k.starts o) (class_of q)) (rows (kind_in k.starts o) (class_of q))) (table_known (c1 n) o low q mine names es id knows).0 (held_shut v o q low possible mine (quiet o) names)),
         (λ _. spare),
         (λ t' (e : 0 ≡ suc t'). absurd (omega (arith, e))),
         (λ _. not_yet),
         zero_refs k o old (c1 n).log low long few_first,
+        (λ t' (e : 0 ≡ suc t'). absurd (omega (arith, e))),
       ))
 
   step3 : (n : ℕ) → IsReachable (c2 n) → (n2 : ℕ) × IsReachable (c3 n)

@@ -65,7 +65,7 @@ calm_step k es id v t table old b c ok two even =
     (λ odd.
     let G : Act → Type 0 = λ b. May k (run k es) (history es) v b → version k (did id v b ∷ es) o % 2 ≡ 0 → ShutAt k (did id v b ∷ es) o t in
     on_seq k es id v o current.0 G
-    (λ f may now. absurd (odd (holder_even k es ok.0 o may.0 id v ok.1.0 may.1 may.2)))
+    (λ f may now. absurd (odd (holder_even k es ok.0 o may.0 id v ok.1.0 may.1 (may.2 (whose es t)))))
     (λ f may now. shut_same k o t (tab k es t) (tab k (did id v (StopWrite o f) ∷ es) t) (left_alone k es id v t table (StopWrite o f) may (λ i e. absurd (cc))) (may.5 t current.1))
     (λ b _ stay may now. absurd (odd (ap (λ (n : ℕ). n % 2) (sym (stay may)) ∙ now)))
     b ok.1.3 even_now) in

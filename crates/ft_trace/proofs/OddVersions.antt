@@ -99,7 +99,7 @@ versioned k (did id v a ∷ es) valid o low =
     let h = old.busy odd in
     let same : h.0 ≡ id = one_writer k es valid.0 o low h.0 id h.1 v h.2 valid.1.0 h.3 may.1 in
     let u : h.1 ≡ v = some-injective h.1 v (sym h.2 ∙ (ap (get_elem? (run k es).views) same ∙ valid.1.0)) in
-    off (sym may.2 ∙ subst (λ (z : View). is_writing o z.log ≡ true) u h.3) in
+    off (sym (may.2 o) ∙ subst (λ (z : View). is_writing o z.log ≡ true) u h.3) in
     record {
       idle = λ now. absurd (even (omega (arith, now, ap (λ (z : ℕ). z % 2) up)));
       busy = λ _. (id, view_after (StartWrite o f) v, set_at (run k es).views id v (view_after (StartWrite o f) v) valid.1.0, hit o true (is_writing o v.log));

@@ -28,6 +28,7 @@ use Rattle.ft_trace.proofs.Contents.{tab}
 use Rattle.ft_trace.proofs.EarlierMoments.{valid_rest}
 use Rattle.ft_trace.proofs.Locks.{one_holder}
 use Rattle.ft_trace.proofs.OddVersions.{writer_has}
+use Rattle.ft_trace.proofs.OneWrite.{one_write}
 use Rattle.ft_trace.proofs.OpenedChange.{commits_change_the_opened}
 use Rattle.ft_trace.proofs.Pieces.{table_long}
 use Rattle.atomic_table.proofs.Lists.{set_else, at_longer}
@@ -59,7 +60,7 @@ early_act : (k : Shape) (es : List Event) (o : ℕ) (v : View) (b : Act) → May
 early_act k es o v (Commit c r f s) may w e = inl (c, r, f, s, refl)
 early_act k es o v (StartWrite q f) may w e =
     dite (ℕ_discrete q o)
-    (λ (same : q ≡ o). off (sym (subst (λ (z : ℕ). is_writing z v.log ≡ false) same may.2) ∙ w))
+    (λ (same : q ≡ o). off (sym (may.2 o) ∙ w))
     (λ ne. inr (miss q o true (is_writing o v.log) ne ∙ w, miss q o false (has_committed o v.log) ne ∙ e))
 early_act k es o v (StopWrite q f) may w e =
     dite (ℕ_discrete q o)
@@ -254,7 +255,8 @@ opened_are_committed k newer es id j v w o t i x p g valid small e one =
     ⊎_elim
     (λ (found : Found k o t p low small x a newer put).
     let y = found.sooner ++ put in
-    let may = found.valid.1.3 in (
+    let same : changes found.c ≡ o = one_write k y found.valid.0 found.h found.u found.valid.1.0 (changes found.c) o found.valid.1.3.1 found.writing in
+    let by = commits_change_the_opened k [] y found.h found.u found.c found.r found.f found.s found.valid t (ap (λ (z : ℕ). root k y z) same ∙ found.opened.open_here.0) in (
       found.later,
       found.sooner,
       found.h,
@@ -266,11 +268,8 @@ opened_are_committed k newer es id j v w o t i x p g valid small e one =
       found.split,
       (found.opened.open_here.0, ap (λ (z : ℕ). z % 2) found.opened.open_here.1 ∙ found.opened.open_here.2),
       found.writing,
-      dite (ℕ_discrete (changes found.c) o)
-          (λ (same : changes found.c ≡ o).
-          let by = commits_change_the_opened k [] y found.h found.u found.c found.r found.f found.s found.valid t (ap (λ (z : ℕ). root k y z) same ∙ found.opened.open_here.0) in
-          inl (same, subst (λ (z : ℕ). OpensChangedBy k y z t found.c) same by))
-          (λ ne. inr (ne, may.1)),
+      same,
+      subst (λ (z : ℕ). OpensChangedBy k y z t found.c) same by,
     ))
     (λ (still : Opening k (newer ++ put) o t p x a).
     let is = writer_is k o t p low small x a (newer ++ put) j w still valid.0 valid.1.0 valid.1.3.1 in

@@ -69,7 +69,7 @@ causes k (did id v a ∷ es) valid o low =
     let same : root k (did id v (StartWrite o f) ∷ es) o ≡ root k es o = stays k es id v (StartWrite o f) may (block o 0) (low, omega arith) (λ e. absurd (cc)) in
     set_views (P (StartWrite o f)) _ id (view_after (StartWrite o f) v)
     (λ writes none.
-    let even = holder_even k es valid.0 o low id v valid.1.0 may.1 may.2 in
+    let even = holder_even k es valid.0 o low id v valid.1.0 may.1 (may.2 o) in
     inr (record { newer = []; older = es; view = v; found = f; split = refl; own = []; is = refl; one = tt; nothing = zero_roots_have_nothing k es valid.0 o low even (sym same ∙ none) }))
     (λ j u ne e. cause_later k es (did id v (StartWrite o f)) o j u same (old j u e)))
     (λ f may.

@@ -13,12 +13,12 @@ use Rattle.ft_trace.specs.declared.Shape.{Shape}
 use Rattle.ft_trace.specs.declared.Snap.{Snap}
 use Rattle.ft_trace.specs.declared.View.{View}
 use Rattle.ft_trace.specs.Acts.{is_writing, has_committed, view_after}
-use Rattle.ft_trace.specs.Addresses.{IsTableName, class_of, container_count, size}
+use Rattle.ft_trace.specs.Addresses.{IsTableName, cell, class_of, container_count, size}
 use Rattle.ft_trace.specs.Ages.{age, whose}
 use Rattle.ft_trace.specs.ContainerStates.{kind_in, changes}
 use Rattle.ft_trace.specs.Kinds.{rows, version_at, LaterAs}
 use Rattle.ft_trace.specs.OpenedEntries.{OpensChangedBy}
-use Rattle.ft_trace.specs.StoppedLookUps.{Stopped, IsOpenAs, IsOpenMeanwhile, IsUncommitted, IsPutInOpen, IsWritten}
+use Rattle.ft_trace.specs.StoppedLookUps.{Stopped, IsOpenAs, IsOpenMeanwhile, IsUncommitted, IsWritten}
 use Rattle.ft_trace.specs.Traces.{Event, did, forked, joined, sent, run, CarefulFor, TimelyFor, Valid}
 use Rattle.ft_trace.proofs.Addresses.{block_first}
 use Rattle.ft_trace.proofs.Ages.{ages_one, ages_rise, whose_same}
@@ -27,10 +27,11 @@ use Rattle.ft_trace.proofs.ByKind.{as_version, row_low}
 use Rattle.ft_trace.proofs.Contents.{tab}
 use Rattle.ft_trace.proofs.EarlierMoments.{valid_rest}
 use Rattle.ft_trace.proofs.HandedOver.{either_way}
-use Rattle.ft_trace.proofs.OneWord.{moves}
+use Rattle.ft_trace.proofs.OneWord.{moves, stays}
+use Rattle.ft_trace.proofs.OneWrite.{one_write}
 use Rattle.ft_trace.proofs.OpenedChange.{commits_change_the_opened}
 use Rattle.ft_trace.proofs.OpenedCommits.{Commits, Found, Opening, opens_next, opens_until, same_age}
-use Rattle.ft_trace.proofs.Pieces.{table_long}
+use Rattle.ft_trace.proofs.Pieces.{table_long, table_same}
 use Rattle.ft_trace.proofs.Rule.{table_words_stay}
 use Rattle.ft_trace.proofs.Sizes.{set_at}
 use Rattle.ft_trace.proofs.Sounds.{content, on_cells, put_tab}
@@ -56,7 +57,7 @@ record Committed (k : Shape) (es : List Event) (o t p x : ℕ) : Type 0 where
   writing : is_writing o u.log ≡ true
 
 abbrev Why : Shape → List Event → ℕ → ℕ → ℕ → ℕ → Type 0
-Why k es o t p x = Committed k es o t p x ⊎ (Opening k es o t p x (age es t) ⊎ IsPutInOpen k es o t p x)
+Why k es o t p x = Committed k es o t p x ⊎ Opening k es o t p x (age es t)
 
 -- the commit, seen from any later moment: it is at an earlier or a later moment than m, with the table where it was
 pub record NearCommit (k : Shape) (es m : List Event) (o t p x : ℕ) : Type 0 where
@@ -102,8 +103,6 @@ module _ (k : Shape) (o t p : ℕ) (low : o < container_count k) (small : p < ro
         valid = c.valid;
         writing = c.writing;
       }))
-      (λ (rest : Opening k es o t p x (age es t) ⊎ IsPutInOpen k es o t p x).
-      ⊎_elim
       (λ (y : Opening k es o t p x (age es t)).
       ⊎_elim
       (λ (c : Commits e o). inl (record {
@@ -121,20 +120,8 @@ module _ (k : Shape) (o t p : ℕ) (low : o < container_count k) (small : p < ro
         valid = subst (λ (z : Event). Valid k (z ∷ es)) c.6 valid;
         writing = c.7;
       }))
-      (λ (n : Opening k (e ∷ es) o t p x (age es t)). inr (inl (record { open_here = n.open_here; aged = refl; early = n.early })))
+      (λ (n : Opening k (e ∷ es) o t p x (age es t)). inr (record { open_here = n.open_here; aged = refl; early = n.early }))
       (opens_next k o t p low small x (age es t) e es valid y))
-      (λ (q : IsPutInOpen k es o t p x). inr (inr (record {
-        later = e ∷ q.later;
-        sooner = q.sooner;
-        seat = q.seat;
-        view = q.view;
-        old = q.old;
-        is = ap (λ (l : List Event). e ∷ l) q.is;
-        writing = q.writing;
-        committed = q.committed;
-        open_then = q.open_then;
-      })))
-      rest)
 
   why : (es : List Event) → Valid k es → (x : ℕ) → IsOpenAs k es o t p x → Why k es o t p x
   why [] valid x now = let z : root k [] o ≡ 0 = block_first k o 0 low (omega arith) in let e = now.0 in absurd (omega (arith, z, e))
@@ -145,18 +132,15 @@ module _ (k : Shape) (o t p : ℕ) (low : o < container_count k) (small : p < ro
       let A : Act = PutRoot o r old in
       let is : r ≡ suc t = sym (moves k es id v A ok.1.3) ∙ now.0 in
       either_way (has_committed o v.log)
-      (λ done. inr (inr (record {
-        later = [];
-        sooner = es;
-        seat = id;
-        view = v;
-        old = old;
-        is = ap (λ (z : ℕ). did id v (PutRoot o z old) ∷ es) is;
-        writing = ok.1.3.1;
-        committed = done;
-        open_then = subst (λ (z : ℕ). IsOpenAs k (did id v (PutRoot o z old) ∷ es) o t p x) is now;
-      })))
-      (λ early. inr (inl (record { open_here = now; aged = refl; early = (id, view_after A v, set_at (run k es).views id v (view_after A v) ok.1.0, ok.1.3.1, early) }))))
+      (λ done.
+      let table = root_table k (did id v A ∷ es) ok o low t now.0 in
+      let even = ok.1.3.9 t is done p small in
+      let same = table_same k t (run k (did id v A ∷ es)).words (run k es).words (λ i low_i. stays k es id v A ok.1.3 (cell t i) (table, low_i) (λ e. absurd (cc))) in
+      let x_is = now.1 in
+      let one = now.2 in
+      let was = ap (λ (z : List ℕ). slice_index z V) same in
+      absurd (omega (arith, even, x_is, one, was)))
+      (λ early. inr (record { open_here = now; aged = refl; early = (id, view_after A v, set_at (run k es).views id v (view_after A v) ok.1.0, ok.1.3.1, early) })))
       (λ b stay ok now.
       let names : root k es o ≡ suc t = sym (stay ok.1.3) ∙ now.0 in
       let table = root_table k es ok.0 o low t names in
@@ -177,7 +161,7 @@ module _ (k : Shape) (o t p : ℕ) (low : o < container_count k) (small : p < ro
       let x_is = now.1 in
       let one = now.2 in
       let early = timely.before p small e (omega (arith, new, x_is, one)) in
-      inr (inl (record { open_here = now; aged = refl; early = (id, view_after A v, set_at (run k es).views id v (view_after A v) ok.1.0, writing, early) })))
+      inr (record { open_here = now; aged = refl; early = (id, view_after A v, set_at (run k es).views id v (view_after A v) ok.1.0, writing, early) }))
       (λ ne.
       let was : IsOpenAs k es o t p x = (names, sym (ap (λ (z : List ℕ). slice_index z V) is ∙ get_or-set_other ws i V y 0 (λ e. ne (sym e))) ∙ now.1, now.2) in
       step (did id v A) es ok x was now (why es ok.0 x was)))
@@ -193,7 +177,7 @@ module _ (k : Shape) (o t p : ℕ) (low : o < container_count k) (small : p < ro
 
   -- what came of it by the end
   abbrev pub End : List Event → List Event → ℕ → Type 0
-  End es m x = NearCommit k es m o t p x ⊎ (IsUncommitted k es o t p x ⊎ IsPutInOpen k es o t p x)
+  End es m x = NearCommit k es m o t p x ⊎ IsUncommitted k es o t p x
 
   ending : (newer m : List Event) → Valid k (newer ++ m) → (x : ℕ) → IsOpenAs k m o t p x → End (newer ++ m) m x
   ending newer m valid x now =
@@ -214,8 +198,6 @@ module _ (k : Shape) (o t p : ℕ) (low : o < container_count k) (small : p < ro
         writing = c.writing;
         near = inl (record { newer = c.later ++ did c.h c.u (Commit c.c c.r c.f c.s) ∷ []; is = append_assoc c.later (did c.h c.u (Commit c.c c.r c.f c.s) ∷ []) c.sooner ∙ sym c.split });
       }))
-      (λ (rest : Opening k m o t p x (age m t) ⊎ IsPutInOpen k m o t p x).
-      ⊎_elim
       (λ (y : Opening k m o t p x (age m t)).
       ⊎_elim
       (λ (c : Found k o t p low small x (age m t) newer m). inl (record {
@@ -234,27 +216,15 @@ module _ (k : Shape) (o t p : ℕ) (low : o < container_count k) (small : p < ro
         writing = c.writing;
         near = inr (record { newer = c.sooner; is = refl });
       }))
-      (λ (z : Opening k (newer ++ m) o t p x (age m t)). inr (inl (record {
+      (λ (z : Opening k (newer ++ m) o t p x (age m t)). inr (record {
         open_here = z.open_here;
         seat = z.early.0;
         view = z.early.1;
         at = z.early.2;
         writing = z.early.3;
         early = z.early.4;
-      })))
+      }))
       (opens_until k o t p low small x (age m t) newer m valid y))
-      (λ (q : IsPutInOpen k m o t p x). inr (inr (record {
-        later = newer ++ q.later;
-        sooner = q.sooner;
-        seat = q.seat;
-        view = q.view;
-        old = q.old;
-        is = ap (λ (l : List Event). newer ++ l) q.is ∙ sym (append_assoc newer q.later (did q.seat q.view (PutRoot o (suc t) q.old) ∷ q.sooner));
-        writing = q.writing;
-        committed = q.committed;
-        open_then = q.open_then;
-      })))
-      rest)
       (why m (valid_rest k newer m valid) x now)
 
   pub ended : (es m : List Event) → Valid k es → Under m es → (x : ℕ) → IsOpenAs k m o t p x → End es m x
@@ -431,7 +401,10 @@ module _ (k : Shape) (o t p : ℕ) (low : o < container_count k) (small : p < ro
     pub is_written : (Changes : List Event → Call → Type 0) → ((n : NearCommit k es M o t p meanwhile.x) → changes n.c ≡ o → OpensChangedBy k n.sooner o t n.c → Changes n.sooner n.c) → IsWritten k es o t p meanwhile.x Changes
     is_written Changes does =
         ⊎_elim
-        (λ (n : NearCommit k es M o t p meanwhile.x). inl (record {
+        (λ (n : NearCommit k es M o t p meanwhile.x).
+        let same : changes n.c ≡ o = one_write k n.sooner n.valid.0 n.h n.u n.valid.1.0 (changes n.c) o n.valid.1.3.1 n.writing in
+        let by = commits_change_the_opened k [] n.sooner n.h n.u n.c n.r n.f n.s n.valid t (ap (root k n.sooner) same ∙ n.open_here.0) in
+        inl (record {
           later = n.later;
           sooner = n.sooner;
           seat = n.h;
@@ -443,11 +416,8 @@ module _ (k : Shape) (o t p : ℕ) (low : o < container_count k) (small : p < ro
           is = n.split;
           open_here = n.open_here;
           writing = n.writing;
-          change = dite (ℕ_discrete (changes n.c) o)
-              (λ (same : changes n.c ≡ o).
-              let by = commits_change_the_opened k [] n.sooner n.h n.u n.c n.r n.f n.s n.valid t (ap (root k n.sooner) same ∙ n.open_here.0) in
-              inl (same, does n same (subst (λ (z : ℕ). OpensChangedBy k n.sooner z t n.c) same by)))
-              (λ ne. inr (ne, n.valid.1.3.1));
+          changes_it = same;
+          change = does n same (subst (λ (z : ℕ). OpensChangedBy k n.sooner z t n.c) same by);
         }))
-        (λ (rest : IsUncommitted k es o t p meanwhile.x ⊎ IsPutInOpen k es o t p meanwhile.x). inr rest)
+        (λ (rest : IsUncommitted k es o t p meanwhile.x). inr rest)
         (ended es M valid under_end meanwhile.x meanwhile.open_here)

@@ -355,7 +355,7 @@ module _ (v : View) (o t : ℕ) (write : WholeWrite) (begin : MayBegin v o) (may
 
   -- no version in the table that the root names is odd
   shut_old : (start : ℕ) → Sure (with_log v (l1 start)) (λ es. (q : ℕ) → old ≡ suc q → Shut (version_at its (class_of q)) (rows its (class_of q)) (table_words n q (run n es).words))
-  shut_old start es id knows q names = subst (Shut (version_at its (class_of q)) (rows its (class_of q))) (table_known (with_log v (l1 start)) o begin.low q begin.mine names es id knows).0 (held_shut v o q begin.low begin.possible begin.mine begin.quiet names)
+  shut_old start es id knows q names = subst (Shut (version_at its (class_of q)) (rows its (class_of q))) (table_known (with_log v (l1 start)) o begin.low q begin.mine names es id knows).0 (held_shut v o q begin.low begin.possible begin.mine (begin.quiet o) names)
 
   abbrev known_boxes : ℕ → ℕ → ℕ
   known_boxes b i = known_box_word n b i v.log
@@ -382,6 +382,7 @@ module _ (v : View) (o t : ℕ) (write : WholeWrite) (begin : MayBegin v o) (may
         (λ q (e : 0 ≡ suc q). absurd (omega (arith, e))),
         (λ _. not_yet start),
         none_named start,
+        (λ q (e : 0 ≡ suc q). absurd (omega (arith, e))),
       )) in
       let pic = root_put n o begin.low (mem n v.log) 0 wide (λ q (e : 0 ≡ suc q). absurd (omega (arith, e))) in
       let read = ap (unboxed (known_boxes) its) pic ∙ unboxed_root (known_boxes) its (block_of n o (mem n v.log)) (inner n 0 (mem n v.log)) 0 some_block in
@@ -400,6 +401,7 @@ module _ (v : View) (o t : ℕ) (write : WholeWrite) (begin : MayBegin v o) (may
         (λ q2 (e : suc q ≡ suc q2). let same : q ≡ q2 = cc in subst (λ (z : ℕ). Low (version_at its (class_of z)) (rows its (class_of z)) (table_words n z (run n es).words) (word n es counter) (has_committed o (l1 start))) same (young q m.0 m.1 m.3 start es id knows)),
         (λ (e : suc q ≡ 0). absurd (omega (arith, e))),
         refs_now q m.4 start,
+        (λ q2 _ done. off (sym (not_yet start) ∙ done)),
       )) in
       let pic = root_put n o begin.low (mem n v.log) (suc q) wide (λ q2 (e : suc q ≡ suc q2). let same : q ≡ q2 = cc in subst (IsTableName n) same m.0) in
       let read = ap (unboxed (known_boxes) its) pic ∙ unboxed_root (known_boxes) its (block_of n o (mem n v.log)) (inner n (suc q) (mem n v.log)) (suc q) some_block in

@@ -15,15 +15,15 @@ use Rattle.ft_trace.specs.Holds.{held_words, known_state}
 use Rattle.ft_trace.specs.Boxes.{references_held}
 use Rattle.ft_trace.specs.Traces.{IsReachable, IsAwake}
 
--- a pass that has the lock of o may begin to write it: it is in the midst of nothing, has a call left, holds few
--- references, and the bank's calls are few enough for its words
+-- a pass that has the lock of o may begin to write it: it writes nothing, is in the midst of nothing, has a call left,
+-- holds few references, and the bank's calls are few enough for its words
 pub record MayWrite (v : View) (o : ℕ) : Type 0 where
   pub live : IsAwake v
   pub possible : IsReachable v
   pub few : v.shape.passes * v.shape.calls < 2 ^ 46
   pub low : o < container_count v.shape
   pub mine : has_lock o v.log ≡ true
-  pub quiet : is_writing o v.log ≡ false
+  pub quiet : (p : ℕ) → is_writing p v.log ≡ false
   pub spare : used v.log ≡ false
   pub none : owes v.log ≡ 0
   pub room : 0 < v.left

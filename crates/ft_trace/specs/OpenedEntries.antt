@@ -1,6 +1,6 @@
 -- Which versions of entries and items a write makes odd: those of what it changes, and no other. So readers without the
 -- lock who look for something else are not disturbed.
-use Rattle.std.specs.Prelude.{◌≡◌, ◌≢◌, ◌⊎◌, ℕ, suc, ◌%◌, ◌<◌, true, List, ◌∷◌, ◌++◌, slice_index}
+use Rattle.std.specs.Prelude.{◌≡◌, ℕ, suc, ◌%◌, ◌<◌, true, List, ◌∷◌, ◌++◌, slice_index}
 use Rattle.ft_model.specs.declared.call.Call.{Call}
 use Rattle.ft_model.specs.declared.content.Content.{Content}
 use Rattle.ft_model.specs.declared.reply.Reply.{Reply}
@@ -50,7 +50,7 @@ IsOpen k es o t p =
 
 -- Where a step made a version odd in the table of a container, and the write of that container has ended since, the pass
 -- that wrote it committed a call in between, while the version was odd: a call that changes what is under the key of
--- each open entry, or at the index of each open item, or one that changes another container, which the pass wrote too.
+-- each open entry, or at the index of each open item.
 abbrev pub OpenedAreCommitted : Type 0
 OpenedAreCommitted =
     (k : Shape) (newer es : List Event) (id j : ℕ) (v w : View) (o t i x p g : ℕ)
@@ -60,5 +60,5 @@ OpenedAreCommitted =
     × (newer ≡ later ++ did h u (Commit c r f s) ∷ sooner)
     × IsOpen k (sooner ++ did id v (PutTable o t i x) ∷ es) o t p
     × (is_writing o u.log ≡ true)
-    × (((changes c ≡ o) × OpensChangedBy k (sooner ++ did id v (PutTable o t i x) ∷ es) o t c)
-    ⊎ ((changes c ≢ o) × (is_writing (changes c) u.log ≡ true)))
+    × (changes c ≡ o)
+    × OpensChangedBy k (sooner ++ did id v (PutTable o t i x) ∷ es) o t c

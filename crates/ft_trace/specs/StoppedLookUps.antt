@@ -7,7 +7,7 @@ use Rattle.ft_model.specs.declared.reply.Reply.{Reply}
 use Rattle.ft_model.specs.Worlds.{list_of}
 use Rattle.ft_layout.specs.Words.{key_kind, gone_kind, key_payload}
 use Rattle.ft_trace.specs.declared.Act.{Act}
-use Rattle.ft_trace.specs.declared.Act.TheVariants.{Commit, PutRoot, ReadTable, Version}
+use Rattle.ft_trace.specs.declared.Act.TheVariants.{Commit, ReadTable, Version}
 use Rattle.ft_trace.specs.declared.Shape.{Shape}
 use Rattle.ft_trace.specs.declared.Snap.{Snap}
 use Rattle.ft_trace.specs.declared.View.{View}
@@ -80,8 +80,7 @@ pub record IsOpenMeanwhile (k : Shape) (es : List Event) (j o t p a x : ℕ) (mi
       × (two.log ≡ mid ++ ReadTable t (version_at (kind_in k.starts o) (class_of t) p) a ∷ since)
   pub open_here : IsOpenAs k (lower ++ first) o t p x
 
--- A pass that writes o committed a call while the version was x: one that makes this change of o, or one that changes
--- another container, which the pass wrote too.
+-- A pass that writes o committed a call while the version was x: one that changes o, and makes this change of it.
 pub record IsCommitted (k : Shape) (es : List Event) (o t p x : ℕ) (Changes : List Event → Call → Type 0) : Type 0 where
   pub later : List Event
   pub sooner : List Event
@@ -94,8 +93,8 @@ pub record IsCommitted (k : Shape) (es : List Event) (o t p x : ℕ) (Changes : 
   pub is : es ≡ later ++ did seat view (Commit call reply number snap) ∷ sooner
   pub open_here : IsOpenAs k sooner o t p x
   pub writing : is_writing o view.log ≡ true
-  pub change : ((changes call ≡ o) × Changes sooner call)
-      ⊎ ((changes call ≢ o) × (is_writing (changes call) view.log ≡ true))
+  pub changes_it : changes call ≡ o
+  pub change : Changes sooner call
 
 -- The version is x still, and the pass that writes o has not committed since it began. Once it has, the trace has the
 -- commit.
@@ -107,22 +106,9 @@ pub record IsUncommitted (k : Shape) (es : List Event) (o t p x : ℕ) : Type 0 
   pub writing : is_writing o view.log ≡ true
   pub early : has_committed o view.log ≡ false
 
--- the pass that writes o put the table in the place of another after its commit, when the version was x
-pub record IsPutInOpen (k : Shape) (es : List Event) (o t p x : ℕ) : Type 0 where
-  pub later : List Event
-  pub sooner : List Event
-  pub seat : ℕ
-  pub view : View
-  pub old : ℕ
-  pub is : es ≡ later ++ did seat view (PutRoot o (suc t) old) ∷ sooner
-  pub writing : is_writing o view.log ≡ true
-  pub committed : has_committed o view.log ≡ true
-  pub open_then : IsOpenAs k (did seat view (PutRoot o (suc t) old) ∷ sooner) o t p x
-
 -- the write for which the version was x
 abbrev pub IsWritten : Shape → List Event → ℕ → ℕ → ℕ → ℕ → (List Event → Call → Type 0) → Type 0
-IsWritten k es o t p x Changes =
-    IsCommitted k es o t p x Changes ⊎ (IsUncommitted k es o t p x ⊎ IsPutInOpen k es o t p x)
+IsWritten k es o t p x Changes = IsCommitted k es o t p x Changes ⊎ IsUncommitted k es o t p x
 
 -- the call changes what the container has under the key, or at the index
 abbrev pub ChangesKey : Shape → ℕ → Key → List Event → Call → Type 0

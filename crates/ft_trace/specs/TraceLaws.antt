@@ -64,6 +64,12 @@ LocksNameHolders =
     × ((i j : ℕ) (u w : View) → HasView k es i u → HasView k es j w → has_lock o u.log ≡ true
     → has_lock o w.log ≡ true → i ≡ j)
 
+-- a pass writes one container at a time
+abbrev pub WritesAreOneAtATime : Type 0
+WritesAreOneAtATime =
+    (k : Shape) (es : List Event) → Valid k es → (j : ℕ) (u : View) → HasView k es j u → (o p : ℕ)
+    → is_writing o u.log ≡ true → is_writing p u.log ≡ true → o ≡ p
+
 -- whoever was found with the lock of a container had taken it: its pass knows, or the one that has taken it in
 abbrev pub FoundOwnersHadLocks : Type 0
 FoundOwnersHadLocks =

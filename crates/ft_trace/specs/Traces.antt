@@ -127,14 +127,15 @@ abbrev pub May : Shape → Moment → List Call → View → Act → Type 0
 May k m cs v (Lock o f s) = (o < container_count k) × (has_lock o v.log ≡ false) × (s ≡ snap m cs)
 -- it has the lock, and the version is even
 May k m cs v (Unlock o) = (o < container_count k) × (has_lock o v.log ≡ true) × (is_writing o v.log ≡ false)
+-- it has the lock, and writes no container: a pass writes one at a time
 May k m cs v (StartWrite o f) =
-    (o < container_count k) × (has_lock o v.log ≡ true) × (is_writing o v.log ≡ false)
+    (o < container_count k) × (has_lock o v.log ≡ true) × ((p : ℕ) → is_writing p v.log ≡ false)
     × (word_in k m (version_of o) + 1 < 2 ^ 64)
 -- it has made the version odd
 May k m cs v (PutBlock o i x) = (o < container_count k) × (i < 6) × (is_writing o v.log ≡ true) × (i ≢ 0)
 -- Besides: the new root names a table that is fresh in its hand and as it must be for readers, whose versions have
--- room; no version in the table that the root names now is odd; and no other table was taken out of a root since the
--- last commit. 0 is put before the commit alone.
+-- room and, after the commit, are even; no version in the table that the root names now is odd; and no other table was
+-- taken out of a root since the last commit. 0 is put before the commit alone.
 May k m cs v (PutRoot o r old) =
     (o < container_count k)
     × (is_writing o v.log ≡ true)
@@ -146,6 +147,7 @@ May k m cs v (PutRoot o r old) =
     × ((t : ℕ) → r ≡ suc t → LowFor k m.words o t (word_in k m counter) (has_committed o v.log))
     × (r ≡ 0 → has_committed o v.log ≡ false)
     × HasReferences k v.log (PutRoot o r old) o
+    × ((t : ℕ) → r ≡ suc t → has_committed o v.log ≡ true → ShutFor k m.words o t)
 -- a word of the table that the root names, put with care; a version is made odd before the commit, and even after it
 May k m cs v (PutTable o t i x) =
     (o < container_count k)

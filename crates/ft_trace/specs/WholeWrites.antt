@@ -189,15 +189,15 @@ after_write_of v o t write start number s stop =
 
 -- ---- which may be made
 
--- a pass that has the lock of o may begin to write it: it has a call left, has taken no table out of a root since its
--- last commit, holds few references, and the bank's calls are few enough for its words
+-- a pass that has the lock of o may begin to write it: it writes nothing, has a call left, has taken no table out of a
+-- root since its last commit, holds few references, and the bank's calls are few enough for its words
 pub record MayBegin (v : View) (o : ℕ) : Type 0 where
   pub live : IsAwake v
   pub possible : IsReachable v
   pub few : v.shape.passes * v.shape.calls < 2 ^ 46
   pub low : o < container_count v.shape
   pub mine : has_lock o v.log ≡ true
-  pub quiet : is_writing o v.log ≡ false
+  pub quiet : (p : ℕ) → is_writing p v.log ≡ false
   pub spare : used v.log ≡ false
   pub room : 0 < v.left
   pub few_references : (b : ℕ) → references_held v.shape b v.log < 2 ^ 31

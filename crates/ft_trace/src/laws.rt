@@ -18,7 +18,7 @@ ghost use Rattle.ft_trace.specs.SetWrites.{ElementsMayBeAdded, ElementsMayBeDisc
 ghost use Rattle.ft_trace.specs.GrowWrites.{DictsMayGrow};
 ghost use Rattle.ft_trace.specs.SetGrowWrites.{SetsMayGrow};
 ghost use Rattle.ft_trace.specs.ListGrowWrites.{ListsMayGrow};
-ghost use Rattle.ft_trace.specs.TraceLaws.{ContentsFit, StoredTablesAreInOrder, WordsLieApart, PairsAreUnderTheirKeys, ElementsAreUnderTheirKeys, OnePassIsAlone, StampsRise, MemoryErrorsAreEarned, LocksNameHolders, FoundOwnersHadLocks, OneKnowsAllOwners, VersionsAreOddInWrites, EvenTablesAreShut, OddVersionsAreInWrites, NumbersAreOnce, EntriesAreRight, OneHasAllEntries, EvenWordsStand, ZeroRootsHaveNothing, HoldersKnow, TablesAreSomewhere, TablesAreInOnePlace, CountsStand, TablesAreOwed, EmptyClassesAreEarned, AnnouncedNumbersAreLow, FoundTablesAreKept, TablesAreFreeBeforeRoots, GoalsStand, GivenUpTablesRest, TablesAreSound, TableWordsStay, HitsAreRight, MissesAreRight, BareRootsAreRight, ItemsAreRight, ListsFitTheirTables, LooksAreRight, LooksAtBothAreRight, ChangedRootsAreNew, NumbersHaveRoom, EntryVersionsAreLow, NextSerialsAreLow, CallsAreCounted};
+ghost use Rattle.ft_trace.specs.TraceLaws.{ContentsFit, StoredTablesAreInOrder, WordsLieApart, PairsAreUnderTheirKeys, ElementsAreUnderTheirKeys, OnePassIsAlone, StampsRise, MemoryErrorsAreEarned, LocksNameHolders, WritesAreOneAtATime, FoundOwnersHadLocks, OneKnowsAllOwners, VersionsAreOddInWrites, EvenTablesAreShut, OddVersionsAreInWrites, NumbersAreOnce, EntriesAreRight, OneHasAllEntries, EvenWordsStand, ZeroRootsHaveNothing, HoldersKnow, TablesAreSomewhere, TablesAreInOnePlace, CountsStand, TablesAreOwed, EmptyClassesAreEarned, AnnouncedNumbersAreLow, FoundTablesAreKept, TablesAreFreeBeforeRoots, GoalsStand, GivenUpTablesRest, TablesAreSound, TableWordsStay, HitsAreRight, MissesAreRight, BareRootsAreRight, ItemsAreRight, ListsFitTheirTables, LooksAreRight, LooksAtBothAreRight, ChangedRootsAreNew, NumbersHaveRoom, EntryVersionsAreLow, NextSerialsAreLow, CallsAreCounted};
 
 use ft_layout::{
     puts_change_one_item, used_entries_follow_a_dict, used_entries_follow_a_set,
@@ -57,6 +57,11 @@ pub fn commits_change_the_opened()
     ensures { CommitsChangeTheOpened }
 {}
 
+/// A pass writes one container at a time.
+pub fn passes_write_one_container_at_a_time()
+    ensures { WritesAreOneAtATime }
+{}
+
 /// What a write opens it commits: where a version was made odd and the write has ended, the pass committed a call while
 /// it was odd, which changes that entry or item.
 pub fn opened_are_committed()
@@ -67,8 +72,7 @@ pub fn opened_are_committed()
 /// write under way between them that changes what is under this key; one of an index of a list, by a write that
 /// changes what is at this index; and one that goes by the container's version, as where its root reads 0, by a
 /// write of the container. The pass that writes committed such a call while the version was odd, or has not
-/// committed yet. (Two more cases are told apart: a pass that wrote two containers at once and committed a call
-/// on the other, and one that put the table in the place of another after its commit, with the version odd.)
+/// committed yet.
 pub fn readers_are_stopped_by_writes()
     ensures keys { ReadersOfKeysAreStoppedByWrites }
     ensures items { ReadersOfItemsAreStoppedByWrites }

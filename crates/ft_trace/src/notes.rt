@@ -2,6 +2,7 @@
 //! that holds all passes.
 ghost use Rattle.ft_trace.specs.SeenWrites.{SeenIsLow, SeenIsHandedOn, LoadsSeeAll};
 ghost use Rattle.ft_trace.specs.ToldEntries.{ToldEntriesAreSeen, AwaitsWereTold, AwaitedEntriesAreKnown, AwaitsMayBeAnswered};
+ghost use Rattle.ft_trace.specs.Presences.{PresencesTell, PresencesAreSo};
 ghost use Rattle.ft_trace.specs.Floors.{TokensAreAll, AllTokensAreAlone, FloorStands, FloorTells, OwnersStay, KnownOwnersStay, RestingPassesAreQuiet, FloorVersionsAreEven, KnownVersionsAreEven};
 
 /// A pass has seen no more writes than the counter says: its next load of the counter, and its next write,
@@ -56,6 +57,14 @@ pub fn resting_passes_are_quiet()
 pub fn floor_versions_are_even()
     ensures traces { FloorVersionsAreEven }
     ensures passes { KnownVersionsAreEven }
+{}
+
+/// What the presence of a pass says: of a pass that was never online, that it made no entry; of one that is online, that
+/// it has been so since before its first entry; and of one whose presence is over, that it was online from before its
+/// first entry until after its last, and then went offline. The log of each such pass has this presence.
+pub fn presences_tell_who_was_online()
+    ensures tells { PresencesTell }
+    ensures are { PresencesAreSo }
 {}
 
 /// The entries that a note tells of are the first of its maker, and stand before as many writes as it says.

@@ -117,7 +117,7 @@ bare_stays texts words kept unshared keyed stands bare = by kept.content kept.ta
 known_shut : (k : Shape) (v : View) (o : ℕ) → v.shape ≡ k → ∥ IsReachable v ∥₁ → MayWriteEntries k o v → IsShut o v
 known_shut k v o shape possible may t names p row =
     ∥∥₁_elim {P = slice_index (held_unboxed o v).table (version_at (kind_in v.shape.starts o) (class_of t) p) % 2 ≡ 0} possible (ℕ_set _ _)
-    (λ (x : IsReachable v). held_shut v o t (subst (λ (z : Shape). o < container_count z) (sym shape) may.container) x may.locked may.even names p row)
+    (λ (x : IsReachable v). held_shut v o t (subst (λ (z : Shape). o < container_count z) (sym shape) may.container) x may.locked (may.even o) names p row)
 
 pub may_put_none : (k : Shape) (o : ℕ) (v s : View) (f : ℕ) → v.shape ≡ k → ∥ IsReachable v ∥₁ → MayWriteEntries k o v → used v.log ≡ false → s ≡ view_after (StartWrite o f) v → MayPutRoot s o None
 may_put_none k o v s f shape possible may free is =
@@ -245,7 +245,7 @@ module _ (k : Shape) (o : ℕ) (table : Table) (called : Call) (f : ℕ) (v s r 
       emptying_wrote =
           rooted_write called reply.Done number f 0 v r u w
           (subst (λ (n : ℕ). r ≡ view_after (PutRoot n 0 (root_in (held_unboxed n v))) (view_after (StartWrite n f) v)) at_change both_rooted)
-          (subst (λ (n : ℕ). is_writing n v.log ≡ false) at_change e.may.even)
+          (subst (λ (n : ℕ). is_writing n v.log ≡ false) at_change (e.may.even o))
           (subst (λ (n : ℕ). root_in (held_unboxed n v) ≢ 0) at_change some_old)
           (subst (λ (n : ℕ). KeepsUnwritten (view_after (StartWrite n f) v) r) at_change (subst (λ (z : View). KeepsUnwritten z r) e.started e.keeps))
           (subst (λ (n : ℕ). OnlyPut n r u) at_change e.puts)

@@ -32,10 +32,12 @@ pub record KnowsList (k : Shape) (o : ℕ) (old : Option Table) (v : View) : Typ
   pub table_in : (t : Table) → old ≡ Some t → IsTableIn k t
   pub root : root_in (held_words o v) ≡ root_for old
 
--- Besides it is in the midst of no taking or giving of a table, and of no other write that took a table out of a root;
--- it has lowered no count of a class that it hasn't raised again, and it has a call left. (profile)
+-- Besides it writes no container, is in the midst of no taking or giving of a table, and of no other write that took a
+-- table out of a root; it has lowered no count of a class that it hasn't raised again, and it has a call left.
+-- (profile)
 pub record MayAdd (k : Shape) (o : ℕ) (old : Option Table) (v : View) : Type 0 where
   pub list : KnowsList k o old v
+  pub even : (p : ℕ) → is_writing p v.log ≡ false
   pub used : used v.log ≡ false
   pub owes : owes v.log ≡ 0
   pub idle : flight v.log ≡ 0
@@ -44,6 +46,7 @@ pub record MayAdd (k : Shape) (o : ℕ) (old : Option Table) (v : View) : Type 0
 -- Or it has taken this table, which is fresh in its hand, and has raised no count since. (profile)
 pub record MayGrowList (k : Shape) (o : ℕ) (old : Option Table) (table : Table) (v : View) : Type 0 where
   pub list : KnowsList k o old v
+  pub even : (p : ℕ) → is_writing p v.log ≡ false
   pub used : used v.log ≡ false
   pub owed : owes v.log ≡ suc (class_of (table_id table))
   pub fresh : stage (table_id table) v.log ≡ 1

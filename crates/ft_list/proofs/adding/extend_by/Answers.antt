@@ -31,6 +31,7 @@ add_to-requires-clause-may c =
     let l = loaded_then (view a.pass.now) (view c.count_of-count.new.pass) (view c.root_table-old.new.pass) c.count_of-count.ensures.only (loaded_then (view c.count_of-count.new.pass) (view c.count_of-more.new.pass) (view c.root_table-old.new.pass) c.count_of-more.ensures.only c.root_table-old.ensures.only) in
     record {
       list = c.root_table-old.ensures.list;
+      even = λ p. l.work.pass.writes p ∙ c.requires.may.even p;
       used = l.work.used ∙ c.requires.used;
       owes = l.work.owes ∙ c.requires.may.owes;
       idle = l.work.pass.flight ∙ c.requires.idle;

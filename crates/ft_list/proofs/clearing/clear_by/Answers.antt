@@ -13,6 +13,7 @@ clear_list-number-requires-clause-may c =
     let w = c.root_table-old.ensures.only.work in
     record {
       list = c.root_table-old.ensures.list;
+      even = λ p. w.pass.writes p ∙ c.requires.may.even p;
       used = w.used ∙ c.requires.used;
       owes = w.owes ∙ c.requires.may.owes;
       idle = w.pass.flight ∙ c.requires.idle;

@@ -50,7 +50,7 @@ returns-clause-putting c first past =
     let words = (list_known (shape_of a.bank.now).texts v a.o (table_id a.table) content c.requires.may.stands c.requires.table.root).0 in
     subst (λ (z : View). IsPutting class (known_items a.o v) first past (stored_item (known_items a.o v)) (held_words a.o z).table) (sym c.start_write.ensures.1)
     (putting_starts class (table_class (shape_of a.bank.now) a.table c.requires.table.table_in) (known_items a.o v) (held_words a.o v).table first past words.table
-    (list_shut v a.o (table_id a.table) a.pass.now.possible low c.requires.may.locked c.requires.may.even is_kind c.requires.table.root))
+    (list_shut v a.o (table_id a.table) a.pass.now.possible low c.requires.may.locked (c.requires.may.even a.o) is_kind c.requires.table.root))
 
 pub returns-clause-few : goal.returns-clause-few
 returns-clause-few c =

@@ -9,5 +9,5 @@ fill_new-requires-clause-growing c =
       class = took.has.1;
       fresh = took.has.3;
       locked = took.keeps.held.locks 0 ∙ c.requires.locked;
-      even = took.keeps.held.writes 0 ∙ c.requires.even;
+      even = λ p. took.keeps.held.writes p ∙ c.requires.even p;
     }

@@ -31,5 +31,5 @@ returns-clause-growing c =
       class = was.class;
       fresh = ap (λ (z : View). stage (table_id c.args.table) z.log) put ∙ was.fresh;
       locked = ap (λ (z : View). has_lock 0 z.log) put ∙ was.locked;
-      even = ap (λ (z : View). is_writing 0 z.log) put ∙ was.even;
+      even = λ p. ap (λ (z : View). is_writing p z.log) put ∙ was.even p;
     }

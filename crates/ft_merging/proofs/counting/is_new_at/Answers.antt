@@ -91,7 +91,7 @@ returns-in-At-clause-new c used says filled any =
     let s = c.in-At.ensures.spot in
     let e = c.seek_by.ensures in
     stated at.After-seek_by true
-    (holds_at (shape_of a.bank.now) (view c.seek_by.new.pass) a.o _ c.in-Some.pair.key _ _ e.may s.0 e.key s.2)
+    (holds_at (shape_of a.bank.now) (view c.seek_by.new.pass) a.o _ c.in-Some.pair.key _ _ e.knows s.0 e.key s.2)
     used says filled any (found at.After-pair_at used says filled any)
 
 pub returns-in-Free-clause-new : goal.returns-in-Free-clause-new

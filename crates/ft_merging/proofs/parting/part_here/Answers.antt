@@ -17,7 +17,7 @@ use Rattle.ft_bank.specs.TableNames.{table_id}
 use Rattle.ft_bank.specs.Whole.{OnlyPut}
 use Rattle.ft_bank.proofs.TableAddresses.{class_is}
 use Rattle.ft_bank.proofs.KnownAfterWrites.{put_then, work_knows}
-use Rattle.ft_search.specs.OneEntryWrites.{HasTable, MayWriteEntries}
+use Rattle.ft_search.specs.OneEntryWrites.{HasTable, KnowsEntries, MayWriteEntries}
 use Rattle.ft_search.proofs.Changing.{kind_is}
 use Rattle.ft_search.proofs.ReadyCommits.{whole_root, whole_write}
 use Rattle.ft_search.proofs.Puts.{table_class}
@@ -126,11 +126,10 @@ knows c p = work_knows (view c.start_write.new.pass) (view c.join_all.new.pass) 
 pub thin_all-requires-clause-fill : goal.thin_all-requires-clause-fill
 thin_all-requires-clause-fill c = low (goal.at.thin_all-requires-clause-fill c).After-start_write
 
-other_may : (c : After-start_write) → MayWriteEntries (shape_of c.args.bank.now) c.args.merge.now.t (view c.args.pass.now)
-other_may c =
+other_known : (c : After-start_write) → KnowsEntries (shape_of c.args.bank.now) c.args.merge.now.t (view c.args.pass.now)
+other_known c =
     let o = c.requires.merge.other in
-    let m = c.requires.may in
-    record { container = o.container; keyed = o.keyed; locked = o.locked; even = o.even; stands = o.stands; owes = m.owes; left = m.left }
+    record { container = o.container; keyed = o.keyed; locked = o.locked; even = o.even; stands = o.stands }
 
 pub thin_all-requires-clause-other : goal.thin_all-requires-clause-other
 thin_all-requires-clause-other c ne =
@@ -139,7 +138,7 @@ thin_all-requires-clause-other c ne =
     let d = at.After-start_write in
     let k = shape_of a.bank.now in
     let u = view c.start_write.new.pass in
-    other_stays k a.merge.now.o a.merge.now.t u (view c.join_all.new.pass) (shape d) c.join_all.ensures.only ne (other_begun k a.merge.now.o a.merge.now.t (view a.pass.now) u c.start_write.result c.start_write.ensures.1 ne (other_may d))
+    other_stays k a.merge.now.o a.merge.now.t u (view c.join_all.new.pass) (shape d) c.join_all.ensures.only ne (other_begun k a.merge.now.o a.merge.now.t (view a.pass.now) u c.start_write.result c.start_write.ensures.1 ne (other_known d))
 
 -- what the first one has at the end
 abbrev to : After-join_all → ContainerState

@@ -1,4 +1,4 @@
-use Rattle.std.proofs.Common.{◌≡◌, ◌<◌, ◌≤◌, ◌+◌, ℕ, false, Option, Some, None, refl, sym, ap, ◌∙◌, subst, arith, []}
+use Rattle.std.proofs.Common.{◌≡◌, ◌<◌, ◌+◌, ℕ, false, Some, None, refl, sym, ap, ◌∙◌, subst, arith, []}
 use Rattle.std.specs.Prelude.{pos, slice_index_or}
 use Rattle.ft_model.specs.declared.content.Content.{Content}
 use Rattle.ft_model.specs.declared.data.Key.{Key}
@@ -29,7 +29,6 @@ use Rattle.ft_search.specs.Rounds.{kind_by}
 use Rattle.ft_search.specs.OneEntryWrites.{WritesEntries}
 use Rattle.ft_search.proofs.OtherValues.{ValueLaws}
 use Rattle.ft_new_keys.specs.declared.counts.Counts.{Counts}
-use Rattle.ft_new_keys.specs.KeyGrowth.{IsFreeFor}
 use Rattle.ft_new_keys.specs.Placing.{IsUnused, StoresAs, with_entry}
 use Rattle.ft_new_keys.proofs.Placed.{PlaceLaws, pair_for}
 use Rattle.ft_merging.specs.Joining.{joined}

@@ -16,7 +16,7 @@ use Rattle.ft_trace.specs.Pictures.{entry_field}
 use Rattle.ft_trace.specs.ContainerStates.{ContainerState, kind_in}
 use Rattle.ft_bank.specs.Whole.{OnlyLoaded}
 use Rattle.ft_search.proofs.Laws.{SetLaws}
-use Rattle.ft_search.proofs.Spotting.{may_loaded}
+use Rattle.ft_search.proofs.Spotting.{knows_loaded}
 use Rattle.ft_merging.proofs.Thinned.{hash_is, was_there}
 use Rattle.ft_merging.proofs.thinning.goes_at.Goals.{Start, After-word_of-hash}
 
@@ -97,7 +97,7 @@ is_in-found-requires-clause-fits c = (stated (goal.at.is_in-found-requires-claus
 pub is_in-found-requires-clause-other : goal.is_in-found-requires-clause-other
 is_in-found-requires-clause-other c ne =
     let a = c.args in
-    may_loaded (shape_of a.bank.now) a.t (view a.pass.now) (view c.word_of-hash.new.pass) c.requires.pass.1 (only (goal.at.is_in-found-requires-clause-other c).After-word_of-hash) (c.requires.other ne)
+    knows_loaded (shape_of a.bank.now) a.t (view a.pass.now) (view c.word_of-hash.new.pass) c.requires.pass.1 (only (goal.at.is_in-found-requires-clause-other c).After-word_of-hash) (c.requires.other ne)
 
 pub is_in-found-requires-clause-own : goal.is_in-found-requires-clause-own
 is_in-found-requires-clause-own c e =

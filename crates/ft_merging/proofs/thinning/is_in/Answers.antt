@@ -14,8 +14,8 @@ returns-then-s-t-clause-only c = loaded_same (view c.args.pass.now)
 pub returns-then-s-t-clause-found : goal.returns-then-s-t-clause-found
 returns-then-s-t-clause-found c = sym (c.requires.own c.if-s-t.true)
 
-pub seek_by-requires-clause-may : goal.seek_by-requires-clause-may
-seek_by-requires-clause-may c = c.requires.other c.if-s-t.false
+pub seek_by-requires-clause-knows : goal.seek_by-requires-clause-knows
+seek_by-requires-clause-knows c = c.requires.other c.if-s-t.false
 
 pub returns-in-At-clause-found : goal.returns-in-At-clause-found
 returns-in-At-clause-found c =
@@ -23,18 +23,18 @@ returns-in-At-clause-found c =
     let e = c.seek_by.ensures in
     let s = c.in-At.ensures.spot in
     sym (ap (λ (z : ContainerState). has_element (set_of z.content).elements a.key) (sym (work_knows (view a.pass.now) (view c.seek_by.new.pass) a.t e.keeps.work))
-    ∙ found_there (shape_of a.bank.now) (view c.seek_by.new.pass) a.t _ a.key _ _ e.pass.1 c.seek_by.new.pass.possible e.may s.0 c.requires.set c.requires.fits s.2)
+    ∙ found_there (shape_of a.bank.now) (view c.seek_by.new.pass) a.t _ a.key _ _ e.pass.1 c.seek_by.new.pass.possible e.knows s.0 c.requires.set c.requires.fits s.2)
 
 pub returns-in-Free-clause-found : goal.returns-in-Free-clause-found
 returns-in-Free-clause-found c =
     let a = c.args in
     let e = c.seek_by.ensures in
     sym (ap (λ (z : ContainerState). has_element (set_of z.content).elements a.key) (sym (work_knows (view a.pass.now) (view c.seek_by.new.pass) a.t e.keeps.work))
-    ∙ missing_there (shape_of a.bank.now) (view c.seek_by.new.pass) a.t a.key e.pass.1 c.seek_by.new.pass.possible e.may c.requires.set c.in-Free.ensures.spot.3)
+    ∙ missing_there (shape_of a.bank.now) (view c.seek_by.new.pass) a.t a.key e.pass.1 c.seek_by.new.pass.possible e.knows c.requires.set c.in-Free.ensures.spot.3)
 
 pub returns-in-Bare-clause-found : goal.returns-in-Bare-clause-found
 returns-in-Bare-clause-found c =
     let a = c.args in
     let e = c.seek_by.ensures in
     sym (ap (λ (z : ContainerState). has_element (set_of z.content).elements a.key) (sym (work_knows (view a.pass.now) (view c.seek_by.new.pass) a.t e.keeps.work))
-    ∙ missing_there (shape_of a.bank.now) (view c.seek_by.new.pass) a.t a.key e.pass.1 c.seek_by.new.pass.possible e.may c.requires.set c.in-Bare.ensures.spot.1)
+    ∙ missing_there (shape_of a.bank.now) (view c.seek_by.new.pass) a.t a.key e.pass.1 c.seek_by.new.pass.possible e.knows c.requires.set c.in-Bare.ensures.spot.1)

@@ -1,4 +1,4 @@
-use Rattle.std.proofs.Common.{◌≡◌, ◌≤◌, ℕ, refl, sym, ap, ◌∙◌, subst, arith}
+use Rattle.std.proofs.Common.{◌≡◌, ◌≤◌, ℕ, sym, ap, ◌∙◌, subst, arith}
 use Rattle.ft_model.specs.declared.script.Kind.{Kind}
 use Rattle.ft_model.specs.Classes.{set_entries}
 use Rattle.ft_trace.specs.Addresses.{class_of}
@@ -9,6 +9,7 @@ use Rattle.ft_model.specs.Worlds.{set_of}
 use Rattle.ft_trace.specs.Holds.{known_state}
 use Rattle.ft_trace.specs.ContainerStates.{ContainerState}
 use Rattle.ft_bank.specs.Passes.{shape_of, view}
+use Rattle.ft_search.proofs.Spotting.{may_knows}
 use Rattle.ft_search.proofs.ReadyCommits.{whole_root, whole_write}
 use Rattle.ft_merging.specs.Thinning.{thinned, thinned_state}
 use Rattle.ft_merging.specs.Internal.ThinningSteps.{IsThinned}
@@ -28,7 +29,7 @@ knows c p = ap (known_state p) c.start_write.ensures.1
 pub thin_all-requires-clause-other : goal.thin_all-requires-clause-other
 thin_all-requires-clause-other c ne =
     let a = c.args in
-    other_begun (shape_of a.bank.now) a.s a.t (view a.pass.now) (view c.start_write.new.pass) c.start_write.result c.start_write.ensures.1 ne c.requires.other
+    other_begun (shape_of a.bank.now) a.s a.t (view a.pass.now) (view c.start_write.new.pass) c.start_write.result c.start_write.ensures.1 ne (may_knows (shape_of a.bank.now) a.t (view a.pass.now) c.requires.other)
 
 -- before the first deletion, as the words are that the pass knows then
 begins : (c : After-start_write) → IsThinned (shape_of c.args.bank.now) c.args.s c.args.table c.args.kept (set_of (known_state c.args.t (view c.start_write.new.pass)).content) (set_of (known_state c.args.s (view c.start_write.new.pass)).content) (thinned_state c.args.kept (known_state c.args.t (view c.args.pass.now)) (known_state c.args.s (view c.args.pass.now))) c.args.fill 0 (view c.start_write.new.pass)
@@ -62,7 +63,7 @@ finish_entries-requires-clause-may c =
 pub returns-clause-wrote : goal.returns-clause-wrote
 returns-clause-wrote c =
     let a = c.args in
-    whole_write a.s (view a.pass.now) (view c.start_write.new.pass) (view c.thin_all.new.pass) c.start_write.result c.start_write.ensures.1 c.thin_all.ensures.only a.called.now reply.Done c.finish_entries.result (view c.finish_entries.new.pass) c.requires.leaves.changed c.requires.may.even c.finish_entries.ensures.ends
+    whole_write a.s (view a.pass.now) (view c.start_write.new.pass) (view c.thin_all.new.pass) c.start_write.result c.start_write.ensures.1 c.thin_all.ensures.only a.called.now reply.Done c.finish_entries.result (view c.finish_entries.new.pass) c.requires.leaves.changed (c.requires.may.even a.s) c.finish_entries.ensures.ends
     ((c.thin_all.ensures.thinned (thinned_state a.kept (known_state a.t (view a.pass.now)) (known_state a.s (view a.pass.now))) (begins (goal.at.returns-clause-wrote c).After-start_write)).midway.writes.root ∙ sym c.requires.table.root)
 
 pub returns-clause-root : goal.returns-clause-root

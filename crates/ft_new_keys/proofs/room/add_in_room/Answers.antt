@@ -81,4 +81,4 @@ finish_entry-requires-clause-may c =
 pub returns-clause-wrote : goal.returns-clause-wrote
 returns-clause-wrote c =
     let a = c.args in
-    whole_write a.o (view a.pass.now) (view c.start_write.new.pass) (view c.put_key.new.pass) c.start_write.result c.start_write.ensures.1 c.put_key.ensures.only a.called.now a.said.now c.finish_entry.result (view c.finish_entry.new.pass) c.requires.leaves.changed c.requires.may.even c.finish_entry.ensures.ends (c.put_key.ensures.writes.root ∙ sym c.requires.table.root)
+    whole_write a.o (view a.pass.now) (view c.start_write.new.pass) (view c.put_key.new.pass) c.start_write.result c.start_write.ensures.1 c.put_key.ensures.only a.called.now a.said.now c.finish_entry.result (view c.finish_entry.new.pass) c.requires.leaves.changed (c.requires.may.even a.o) c.finish_entry.ensures.ends (c.put_key.ensures.writes.root ∙ sym c.requires.table.root)

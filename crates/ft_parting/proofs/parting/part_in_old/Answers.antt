@@ -35,7 +35,7 @@ pub part_thin-requires-clause-other : goal.part_thin-requires-clause-other
 part_thin-requires-clause-other c =
     let o = c.requires.merge.other in
     let m = c.requires.may in
-    record { container = o.container; keyed = o.keyed; locked = o.locked; even = o.even; stands = o.stands; owes = m.owes; left = m.left }
+    record { container = o.container; keyed = o.keyed; locked = o.locked; even = m.even; stands = o.stands; owes = m.owes; left = m.left }
 
 pub part_thin-requires-clause-none : goal.part_thin-requires-clause-none
 part_thin-requires-clause-none c =

@@ -99,7 +99,7 @@ finish_entry-requires-clause-may c =
 pub returns-clause-wrote : goal.returns-clause-wrote
 returns-clause-wrote c =
     let a = c.args in
-    whole_write a.o (view a.pass.now) (view c.start_write.new.pass) (view c.put_deleted.new.pass) c.start_write.result c.start_write.ensures.1 c.put_deleted.ensures.only a.called.now a.said.now c.finish_entry.result (view c.finish_entry.new.pass) c.requires.leaves.changed c.requires.may.even c.finish_entry.ensures.ends (c.put_deleted.ensures.writes.root ∙ sym c.requires.table.root)
+    whole_write a.o (view a.pass.now) (view c.start_write.new.pass) (view c.put_deleted.new.pass) c.start_write.result c.start_write.ensures.1 c.put_deleted.ensures.only a.called.now a.said.now c.finish_entry.result (view c.finish_entry.new.pass) c.requires.leaves.changed (c.requires.may.even a.o) c.finish_entry.ensures.ends (c.put_deleted.ensures.writes.root ∙ sym c.requires.table.root)
 
 pub returns-clause-root : goal.returns-clause-root
 returns-clause-root c =

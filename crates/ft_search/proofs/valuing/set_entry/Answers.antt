@@ -106,7 +106,7 @@ finish_entry-requires-clause-may c =
 pub returns-clause-wrote : goal.returns-clause-wrote
 returns-clause-wrote c =
     let a = c.args in
-    whole_write a.d (view a.pass.now) (view c.start_write.new.pass) (view c.put_value.new.pass) c.start_write.result c.start_write.ensures.1 c.put_value.ensures.only a.called.now a.said.now c.finish_entry.result (view c.finish_entry.new.pass) c.requires.leaves.changed c.requires.may.even c.finish_entry.ensures.ends (c.put_value.ensures.writes.root ∙ sym c.requires.table.root)
+    whole_write a.d (view a.pass.now) (view c.start_write.new.pass) (view c.put_value.new.pass) c.start_write.result c.start_write.ensures.1 c.put_value.ensures.only a.called.now a.said.now c.finish_entry.result (view c.finish_entry.new.pass) c.requires.leaves.changed (c.requires.may.even a.d) c.finish_entry.ensures.ends (c.put_value.ensures.writes.root ∙ sym c.requires.table.root)
 
 pub returns-clause-root : goal.returns-clause-root
 returns-clause-root c =

@@ -1,8 +1,9 @@
-use Rattle.std.proofs.Common.{◌≡◌, ℕ, inl, inr, true≢false, [], ◌∷◌, refl, sym, subst, arith}
+use Rattle.std.proofs.Common.{◌≡◌, ℕ, ◌*◌, ◌+◌, ◌<◌, ◌≤◌, true, inl, inr, true≢false, [], ◌∷◌, refl, sym, ap, ◌∙◌, subst, arith}
 use Rattle.ft_trace.specs.declared.Act.TheVariants.{ReadBox}
 use Rattle.ft_trace.specs.declared.Shape.{Shape}
 use Rattle.ft_trace.specs.Boxes.{known_box_word, knows_box_word}
 use Rattle.ft_trace.specs.Addresses.{maker_of, place_in}
+use Rattle.ft_bank.specs.Passes.{shape_of, view}
 use Rattle.ft_bank.specs.BoxSteps.{box_id}
 use Rattle.ft_bank.specs.Series.{DidAll}
 use Rattle.ft_search.proofs.Running.{did_none, did_trans}

@@ -1,4 +1,4 @@
-use Rattle.std.proofs.Common.{◌≡◌, ℕ, ◌*◌, ◌+◌, ◌<◌, ◌≤◌, true, inl, inr, true≢false, [], ◌∷◌, refl, sym, ap, ◌∙◌, subst, arith}
+use Rattle.std.proofs.Common.{◌≡◌, ℕ, true, inl, inr, true≢false, [], ◌∷◌, refl, sym, ◌∙◌, subst, arith}
 use Rattle.ft_trace.specs.declared.Act.TheVariants.{ReadBox}
 use Rattle.ft_trace.specs.declared.Shape.{Shape}
 use Rattle.ft_trace.specs.Boxes.{known_box_word, knows_box_word}

@@ -134,27 +134,27 @@ pub reads_map : (k : Shape) (o : ℕ) (P Q : ContainerWords → Type 0) (p q : P
 reads_map k o P Q p q f r = (r.0, r.1, r.2, (λ x box g. f (unboxed box (kind_in k.starts o) x) (r.3 x box g)), r.4)
 
 -- what a pass knew before loads answers as they did where what it knows after them does
-pub held_before : (k : Shape) (p : Pass) (w : View) (part : List Act) → (view p).shape ≡ k → OnlyLoaded (view p) w → HeldAgrees k part w → HeldAgrees k part (view p)
-held_before k p w part shape l after c low mine =
+pub held_before : (k : Shape) (p : Pass) (w : View) (part : List Act) → OnlyLoaded (view p) w → HeldAgrees k part w → HeldAgrees k part (view p)
+held_before k p w part l after shape c low mine =
     let v = view p in
     let same = loaded_held v w c l in
-    let now = after c low (l.work.pass.locks c ∙ mine) in (
+    let now = after (l.work.pass.shape ∙ shape) c low (l.work.pass.locks c ∙ mine) in (
       subst (λ (z : ContainerWords). Agrees k c part z) same now.0,
       λ b i f which names m.
           now.1 b i f which (λ z. names (sym (ap (λ (x : ContainerWords). named_in_root b (kind_in k.starts c) (root_in x) x.table) same) ∙ z)) m
           ∙ known_same k c b i p w shape l low mine which names,
     )
 
-pub reads_then : (k : Shape) (o : ℕ) (P Q : ContainerWords → Type 0) (p q r : Pass) → (view p).shape ≡ k → Reads k o P p q → Reads k o Q q r → Reads k o (λ x. P x × Q x) p r
-reads_then k o P Q p q r shape a b =
+pub reads_then : (k : Shape) (o : ℕ) (P Q : ContainerWords → Type 0) (p q r : Pass) → Reads k o P p q → Reads k o Q q r → Reads k o (λ x. P x × Q x) p r
+reads_then k o P Q p q r a b =
     let loaded = reads_loaded k o P p q a in
-    let before = held_before k p (view q) b.0 shape loaded b.4 in (
+    let before = held_before k p (view q) b.0 loaded b.4 in (
       b.0 ++ a.0,
       looks_append b.0 a.0 b.1 a.1,
       did_trans b.0 a.0 p q r a.2 b.2,
       (λ x box g. (a.3 x box (read_older k o x box b.0 a.0 g), b.3 x box (read_newer k o x box b.0 a.0 g))),
-      (λ c low mine.
-          read_append k c (held_words c (view p)) (λ b i. known_box_word (view p).shape b i (view p).log) b.0 a.0 (before c low mine) (a.4 c low mine)),
+      (λ shape c low mine.
+          read_append k c (held_words c (view p)) (λ b i. known_box_word (view p).shape b i (view p).log) b.0 a.0 (before shape c low mine) (a.4 shape c low mine)),
     )
 
 pub reads_none : (k : Shape) (o : ℕ) (P : ContainerWords → Type 0) (p : Pass) → ((x : ContainerWords) → P x) → Reads k o P p p
@@ -163,7 +163,7 @@ reads_none k o P p all = (
   tt,
   did_none p,
   (λ x box g. all (unboxed box (kind_in k.starts o) x)),
-  (λ c inside mine. (
+  (λ shape c inside mine. (
       record {
         root = λ f m. absurd (among_none (ReadRoot c f) m);
         block = λ i f low m. absurd (among_none (ReadBlock c i f) m);
@@ -179,7 +179,7 @@ reads_block k o i f p q low did holds = (
   tt,
   did,
   (λ x box g. g.0.block i f low (record { newer = []; rest = []; is = refl })),
-  (λ c inside mine. (
+  (λ shape c inside mine. (
       agrees_block k c (held_words c (view p)) o i f (λ e.
           let here : f ≡ slice_index (held_words o (view p)).block i = holds (ap (λ (z : ℕ). has_lock z (view p).log) e ∙ mine) in
           here ∙ ap (λ (z : ℕ). slice_index (held_words z (view p)).block i) e),
@@ -201,7 +201,7 @@ reads_table k o t i f p q is low none did holds = (
   tt,
   did,
   (λ x box g names. g.0.table t i f is low names (record { newer = []; rest = []; is = refl }) ∙ sym (plain_word k o t i x box none names)),
-  (λ c inside mine. (
+  (λ shape c inside mine. (
       agrees_table k c (held_words c (view p)) t i f (holds c inside mine),
       no_box k c (held_words c (view p)) (λ b j. known_box_word (view p).shape b j (view p).log) (ReadTable t i f) (λ n j g e. absurd (cc)),
     )),

@@ -34,16 +34,16 @@ module _ (k : Shape) (o m : ℕ) where
   pub both_loaded : (P : ContainerWords → ContainerWords → Type 0) (p q : Pass) → ReadsBoth k o m P p q → OnlyLoaded (view p) (view q)
   both_loaded P p q r = looks_did r.0 p q r.1 r.2
 
-  pub both_then : (P Q : ContainerWords → ContainerWords → Type 0) (p q r : Pass) → (view p).shape ≡ k → ReadsBoth k o m P p q → ReadsBoth k o m Q q r → ReadsBoth k o m (λ x y. P x y × Q x y) p r
-  both_then P Q p q r shape a b =
+  pub both_then : (P Q : ContainerWords → ContainerWords → Type 0) (p q r : Pass) → ReadsBoth k o m P p q → ReadsBoth k o m Q q r → ReadsBoth k o m (λ x y. P x y × Q x y) p r
+  both_then P Q p q r a b =
       let loaded = both_loaded P p q a in
-      let before = held_before k p (view q) b.0 shape loaded b.4 in (
+      let before = held_before k p (view q) b.0 loaded b.4 in (
         b.0 ++ a.0,
         looks_append b.0 a.0 b.1 a.1,
         did_trans b.0 a.0 p q r a.2 b.2,
         (λ x y box more f g. (a.3 x y box more (read_older k o x box b.0 a.0 f) (read_older k m y more b.0 a.0 g), b.3 x y box more (read_newer k o x box b.0 a.0 f) (read_newer k m y more b.0 a.0 g))),
-        (λ c low mine.
-            read_append k c (held_words c (view p)) (λ b i. known_box_word (view p).shape b i (view p).log) b.0 a.0 (before c low mine) (a.4 c low mine)),
+        (λ shape c low mine.
+            read_append k c (held_words c (view p)) (λ b i. known_box_word (view p).shape b i (view p).log) b.0 a.0 (before shape c low mine) (a.4 shape c low mine)),
       )
 
 -- ---- the locks of both

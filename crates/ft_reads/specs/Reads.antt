@@ -28,7 +28,7 @@ ShowsRead k o part shows =
 -- what the pass knows of each container whose lock it has, and of boxes, answers so
 abbrev pub HeldAgrees : Shape → List Act → View → Type 0
 HeldAgrees k part v =
-    (c : ℕ) → c < container_count k → has_lock c v.log ≡ true
+    v.shape ≡ k → (c : ℕ) → c < container_count k → has_lock c v.log ≡ true
     → AgreesRead k c part (held_words c v) (λ b i. known_box_word v.shape b i v.log)
 
 -- The pass only loaded words, and this is so of all words of the container o that answer so, as they read. What the

@@ -1,5 +1,5 @@
 -- Tables whose values all stand in place: they name no box, and read as they stand.
-use Rattle.std.proofs.Common.{◌≡◌, ◌≢◌, ℕ, zero, suc, ◌<◌, eqb, cond, List, refl, sym, ap, ◌∙◌, arith}
+use Rattle.std.proofs.Common.{◌≡◌, ◌≢◌, ℕ, zero, suc, ◌<◌, eqb, cond, List, refl, ◌∙◌, arith}
 use Rattle.std.specs.Prelude.{slice_index, slice_set}
 use Rattle.ft_model.specs.declared.script.Kind.{Kind}
 use Rattle.ft_trace.specs.Addresses.{class_of}

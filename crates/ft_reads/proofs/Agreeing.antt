@@ -164,13 +164,13 @@ reads_none k o P p all = (
   did_none p,
   (λ x box g. all (unboxed box (kind_in k.starts o) x)),
   (λ shape c inside mine. (
-      record {
-        root = λ f m. absurd (among_none (ReadRoot c f) m);
-        block = λ i f low m. absurd (among_none (ReadBlock c i f) m);
-        table = λ t i f is low names m. absurd (among_none (ReadTable t i f) m);
-      },
-      λ b i f which names m. absurd (among_none (ReadBox b i f) m),
-    )),
+    record {
+      root = λ f m. absurd (among_none (ReadRoot c f) m);
+      block = λ i f low m. absurd (among_none (ReadBlock c i f) m);
+      table = λ t i f is low names m. absurd (among_none (ReadTable t i f) m);
+    },
+    λ b i f which names m. absurd (among_none (ReadBox b i f) m),
+  )),
 )
 
 pub reads_block : (k : Shape) (o i f : ℕ) (p q : Pass) → i < 6 → DidAll (ReadBlock o i f ∷ []) p q → (has_lock o (view p).log ≡ true → f ≡ slice_index (held_words o (view p)).block i) → Reads k o (λ x. f ≡ slice_index x.block i) p q
@@ -180,11 +180,11 @@ reads_block k o i f p q low did holds = (
   did,
   (λ x box g. g.0.block i f low (record { newer = []; rest = []; is = refl })),
   (λ shape c inside mine. (
-      agrees_block k c (held_words c (view p)) o i f (λ e.
-          let here : f ≡ slice_index (held_words o (view p)).block i = holds (ap (λ (z : ℕ). has_lock z (view p).log) e ∙ mine) in
-          here ∙ ap (λ (z : ℕ). slice_index (held_words z (view p)).block i) e),
-      no_box k c (held_words c (view p)) (λ b j. known_box_word (view p).shape b j (view p).log) (ReadBlock o i f) (λ n j g e. absurd (cc)),
-    )),
+    agrees_block k c (held_words c (view p)) o i f (λ e.
+        let here : f ≡ slice_index (held_words o (view p)).block i = holds (ap (λ (z : ℕ). has_lock z (view p).log) e ∙ mine) in
+        here ∙ ap (λ (z : ℕ). slice_index (held_words z (view p)).block i) e),
+    no_box k c (held_words c (view p)) (λ b j. known_box_word (view p).shape b j (view p).log) (ReadBlock o i f) (λ n j g e. absurd (cc)),
+  )),
 )
 
 -- a word of a table that is no value's reads as it stands
@@ -202,7 +202,7 @@ reads_table k o t i f p q is low none did holds = (
   did,
   (λ x box g names. g.0.table t i f is low names (record { newer = []; rest = []; is = refl }) ∙ sym (plain_word k o t i x box none names)),
   (λ shape c inside mine. (
-      agrees_table k c (held_words c (view p)) t i f (holds c inside mine),
-      no_box k c (held_words c (view p)) (λ b j. known_box_word (view p).shape b j (view p).log) (ReadTable t i f) (λ n j g e. absurd (cc)),
-    )),
+    agrees_table k c (held_words c (view p)) t i f (holds c inside mine),
+    no_box k c (held_words c (view p)) (λ b j. known_box_word (view p).shape b j (view p).log) (ReadTable t i f) (λ n j g e. absurd (cc)),
+  )),
 )

@@ -1,5 +1,5 @@
 -- References that a pass holds once it has taken a table out of a root, and what is left of them row by row.
-use Rattle.std.proofs.Common.{◌≡◌, ◌≢◌, ℕ, zero, suc, ◌+◌, ◌/◌, ◌<◌, ◌≤◌, List, refl, sym, ap, ◌∙◌, subst, arith}
+use Rattle.std.proofs.Common.{◌≡◌, ◌≢◌, ℕ, zero, suc, ◌+◌, ◌/◌, ◌<◌, ◌≤◌, List, refl, sym, ap, ◌∙◌, arith}
 use Rattle.std.specs.Prelude.{slice_index}
 use mathlib.Core.Logic.{dite}
 use native.Mathlib.Decide.{ℕ_discrete}
@@ -10,18 +10,19 @@ use Rattle.ft_trace.specs.declared.Shape.{Shape}
 use Rattle.ft_trace.specs.declared.View.{View}
 use Rattle.ft_trace.specs.Acts.{mem}
 use Rattle.ft_trace.specs.Addresses.{maker_of, place_in, place_word_of, IsBoxName}
-use Rattle.ft_trace.specs.Boxes.{value_at, names_box, names_box_at, references_held}
+use Rattle.ft_trace.specs.Boxes.{value_at, names_box, names_box_at, named_in_root, references_held, IsDoneWithBoxes}
 use Rattle.ft_trace.specs.BoxTraces.{references, references_held_by}
-use Rattle.ft_trace.specs.Holds.{in_hand}
-use Rattle.ft_trace.specs.Pictures.{table_words}
+use Rattle.ft_trace.specs.ContainerStates.{kind_in}
+use Rattle.ft_trace.specs.Holds.{held_words, in_hand}
+use Rattle.ft_trace.specs.Pictures.{table_words, root_in}
 use Rattle.ft_trace.specs.Sums.{sum_to}
 use Rattle.ft_trace.specs.Traces.{run, IsReachable}
 use Rattle.ft_trace.proofs.BoxValues.{box_name, box_there}
 use Rattle.ft_trace.proofs.Sums.{total_at}
 use Rattle.ft_trace.proofs.Unboxed.{named_row}
-use Rattle.ft_bank.specs.SameBoxes.{SameMade}
+use Rattle.ft_bank.specs.SameBoxes.{named_in_words, MovesReferences, SameMade}
 use Rattle.ft_bank.specs.Whole.{OnlyLoaded}
-use Rattle.ft_table_calls.specs.Dropping.{SharesBoxes}
+use Rattle.ft_table_calls.specs.Dropping.{HoldsNamed, SharesBoxes}
 
 -- ---- what a pass knows still
 
@@ -36,6 +37,23 @@ held_loaded k v w shape l b =
 
 pub shares_still : (v w : View) → SameMade v w → SharesBoxes v → SharesBoxes w
 shares_still v w made shared b = ((λ e. (shared b).0 (sym (made.state b) ∙ e)), made.places b ∙ (shared b).1)
+
+-- ---- right after another root was put
+
+-- the pass holds what the table named that it took out of the root, where the words name no box any longer
+pub holds_named : (k : Shape) (o t : ℕ) (v w : View) → v.shape ≡ k → w.shape ≡ v.shape → IsDoneWithBoxes k v.log → MovesReferences o v w → root_in (held_words o v) ≡ suc t → in_hand t w ≡ (held_words o v).table → ((b : ℕ) → named_in_words b (kind_in w.shape.starts o) (held_words o w) ≡ 0) → HoldsNamed k o t w
+holds_named k o t v w first same done moves names hand plain b =
+    let kd : Kind = kind_in k.starts o in
+    let moved = moves b in
+    let none = plain b in
+    let zero_ : references_held v.shape b v.log ≡ 0 = ap (λ (z : Shape). references_held z b v.log) first ∙ (done b).0 in
+    let now : references_held k b w.log ≡ references_held w.shape b w.log = ap (λ (z : Shape). references_held z b w.log) (sym (same ∙ first)) in
+    let was : named_in_words b (kind_in v.shape.starts o) (held_words o v) ≡ named_in_root b kd (suc t) (in_hand t w) =
+    (λ d. named_in_root b (kind_in (first d).starts o) (names d) (sym hand d)) in
+    omega (arith, moved, none, zero_, now, was)
+
+pub shares_done : (k : Shape) (v w : View) → IsDoneWithBoxes k v.log → SameMade v w → SharesBoxes w
+shares_done k v w done made b = ((λ e. (done b).2 (sym (made.state b) ∙ e)), made.places b ∙ (done b).3)
 
 -- ---- a box for which a pass holds a reference is one of the bank
 

@@ -3,4 +3,5 @@ pub mod Cursors
 pub mod Rooting
 pub mod GrowthMidst
 pub mod Dropped
+pub mod PlainTables
 pub mod TriedCalls

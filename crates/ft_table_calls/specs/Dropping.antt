@@ -1,4 +1,4 @@
--- The references that a pass drops once it has taken a table out of a root.
+-- The references that a pass drops when it has taken a table out of a root.
 use Rattle.std.specs.Prelude.{◌≡◌, ◌≢◌, ℕ, suc, ◌+◌, ◌*◌, ◌<◌}
 use Rattle.ft_model.specs.declared.script.Kind.{Kind}
 use Rattle.ft_trace.specs.declared.Shape.{Shape}

@@ -1,5 +1,5 @@
-//! The references that the values of a table have which a pass took out of a root: once the write is made no words name
-//! their boxes any longer, and the pass drops them before it retires the table.
+//! The references that the values of a table have which a pass took out of a root: no words name their boxes any longer,
+//! and the pass drops them before it makes the write.
 ghost use Rattle.std.specs.Prelude.{◌≡◌, ℕ, ◌+◌, ◌<◌, slice_index};
 ghost use Rattle.ft_trace.specs.Acts.{stage};
 ghost use Rattle.ft_trace.specs.Addresses.{class_of, size};

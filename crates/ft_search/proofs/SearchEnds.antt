@@ -17,7 +17,8 @@ use Rattle.ft_trace.specs.LoggedLookUps.{Passed, Hit, Miss, Full, LookUpWindow, 
 use Rattle.ft_search.specs.declared.reading.SeenEntry.{SeenEntry}
 use Rattle.ft_search.specs.declared.looks.Looked.TheVariants.{Here, Absent}
 use Rattle.ft_search.specs.KeyLooks.{StopsAtEntry}
-use Rattle.ft_search.specs.Rounds.{box_acts, entry_acts, entry_acts_as, same_acts, met_acts, live_acts, SeesValue, Walked, ClosesAt}
+use Rattle.ft_search.specs.Boxed.{box_acts, SeesValue}
+use Rattle.ft_search.specs.Rounds.{entry_acts, entry_acts_as, same_acts, met_acts, live_acts, Walked, ClosesAt}
 use Rattle.ft_search.proofs.HitBoxes.{hit_box}
 use Rattle.ft_search.proofs.Walking.{visit_or_beyond, slot_at, each_slot}
 

@@ -40,7 +40,8 @@ use Rattle.ft_search.specs.declared.rounds.Round.{Round}
 use Rattle.ft_search.specs.SearchCosts.{index_reads, indexed, LoadsNoIndex, IsRound, LoadsRounds, WalksOn, MayWalkOn, SpendsSearch, SpendsRound}
 use Rattle.ft_trace.specs.LoggedLookUps.{Inner}
 use Rattle.ft_search.specs.KeyLooks.{AreLooks}
-use Rattle.ft_search.specs.Rounds.{kind_by, box_acts, entry_acts, entry_acts_as}
+use Rattle.ft_search.specs.Boxed.{box_acts}
+use Rattle.ft_search.specs.Rounds.{kind_by, entry_acts, entry_acts_as}
 use Rattle.ft_search.specs.TableWords.{CanLoad}
 use Rattle.ft_search.proofs.Bounding.{count_is, index_here, index_other, index_past, index_entry, none_append, may_more}
 use Rattle.ft_search.proofs.WordPlaces.{slots_is, slots_of_class}

@@ -1,5 +1,5 @@
 -- What one round of a look-up comes to: a search of the table that a root named, or a look where it named none.
-use Rattle.std.specs.Prelude.{◌≡◌, ◌≢◌, ◌⊎◌, ℕ, suc, ◌<◌, ◌≤◌, Bool, true, false, List, [], ◌∷◌, ◌++◌, drop, All, Option, Some, None}
+use Rattle.std.specs.Prelude.{◌≡◌, ◌≢◌, ◌⊎◌, ℕ, suc, ◌<◌, ◌≤◌, Bool, false, List, [], ◌∷◌, ◌++◌, drop, All, Option, Some, None}
 use Rattle.ft_model.specs.declared.data.Key.{Key}
 use Rattle.ft_layout.specs.Words.{key_kind, key_payload}
 use Rattle.ft_model.specs.declared.script.Kind.{Kind}
@@ -7,14 +7,12 @@ use Rattle.ft_model.specs.declared.script.Kind.TheVariants as kind
 use Rattle.ft_keys.specs.declared.walk.Way.{Way}
 use Rattle.ft_keys.specs.declared.walk.Way.TheVariants as way
 use Rattle.ft_trace.specs.declared.Act.{Act}
-use Rattle.ft_layout.specs.Starts.{kind_word, payload_word}
-use Rattle.ft_trace.specs.declared.Act.TheVariants.{ReadBox, ReadRoot, ReadTable, ReadCounter}
+use Rattle.ft_trace.specs.declared.Act.TheVariants.{ReadRoot, ReadTable, ReadCounter}
 use Rattle.ft_trace.specs.declared.View.{View}
-use Rattle.ft_trace.specs.BoxWords.{box_kind}
 use Rattle.ft_trace.specs.Traces.{IsReachable}
 use Rattle.ft_trace.specs.declared.Shape.{Shape}
 use Rattle.ft_trace.specs.Acts.{reads}
-use Rattle.ft_trace.specs.Addresses.{class_of, container_count, slots, IsBoxName, IsTableName}
+use Rattle.ft_trace.specs.Addresses.{class_of, container_count, slots, IsTableName}
 use Rattle.ft_trace.specs.Pictures.{entry_offset, walk_of}
 use Rattle.ft_trace.specs.Kinds.{rows, IsKeyed}
 use Rattle.ft_trace.specs.ContainerStates.{kind_in}
@@ -32,24 +30,13 @@ use Rattle.ft_search.specs.declared.rounds.Loaded.TheVariants.{Used, Free}
 use Rattle.ft_search.specs.declared.rounds.Round.{Round}
 use Rattle.ft_search.specs.declared.rounds.Round.TheVariants.{Ended, Moved}
 use Rattle.ft_search.specs.declared.reading.SeenEntry.{SeenEntry}
-use Rattle.ft_search.specs.declared.reading.SeenValue.{SeenValue}
+use Rattle.ft_search.specs.Boxed.{box_acts}
 use Rattle.ft_search.specs.KeyLooks.{AreLooks, ShowsHere, ShowsAbsent, StopsAtEntry, ShowsLooked}
 
 -- the kind of the containers that are searched this way
 abbrev pub kind_by : Way → Kind
 kind_by way.Dict = kind.Dict
 kind_by way.Set = kind.Set
-
--- the loads of the box that a value names, newest first, where it names one
-abbrev pub box_acts : Bool → ℕ → ℕ → ℕ → List Act
-box_acts true b kind value = ReadBox b payload_word value ∷ (ReadBox b kind_word kind ∷ [])
-box_acts false b kind value = []
-
--- A value that has these words was read so: in its box, or in place where it names none of the bank.
-abbrev pub SeesValue : Shape → ℕ → ℕ → SeenValue → Type 0
-SeesValue k found payload seen =
-    (seen.boxed ≡ true → found ≡ box_kind)
-    × (seen.boxed ≡ false → (seen.kind ≡ found) × (seen.value ≡ payload) × (found ≡ box_kind → ¬ IsBoxName k payload))
 
 -- the loads of an entry between two loads of its version, newest first
 abbrev pub entry_acts_as : Bool → ℕ → ℕ → SeenEntry → List Act

@@ -14,7 +14,7 @@ ghost use Rattle.ft_bank.specs.Series.{DidAll};
 ghost use Rattle.ft_bank.specs.TableNames.{table_id, IsPlaceOf};
 ghost use Rattle.ft_bank.specs.Whole.{OnlyBoxed, OnlyLoaded, OnlyWritten};
 ghost use Rattle.ft_bank.specs.WriteSteps.{with_table};
-ghost use Rattle.ft_search.specs.Boxed.{IsKnownBox, NamedAreKnown, WritesTable};
+ghost use Rattle.ft_search.specs.Boxed.{IsKnownBox, NamedAreKnown, SeesKnown, SeesValue, WritesTable, box_acts};
 ghost use Rattle.ft_search.specs.KeyLooks.{AreLooks};
 ghost use Rattle.ft_search.specs.SearchCosts.{index_reads};
 
@@ -24,11 +24,11 @@ use ft_layout::Ref;
 /// The kind of a value that stands in a box.
 pub(crate) const BOX_KIND: u64 = 4;
 /// The kind, the payload: which words of a box they are.
-pub(crate) const KIND: u64 = 1;
+const KIND: u64 = 1;
 
-pub(crate) const PAYLOAD: u64 = 2;
+const PAYLOAD: u64 = 2;
 /// The step between the names of two passes' first boxes.
-pub(crate) const NAMES: u64 = 65536;
+const NAMES: u64 = 65536;
 /// The shared word of a merged box for which there is one reference.
 const LAST: u64 = 7;
 
@@ -69,6 +69,57 @@ pub fn read_value(bank: &Bank, pass: &mut Pass, kind: u64, payload: u64) -> (u64
     let kind = bank.read_box(pass, b, KIND);
     let value = bank.read_box(pass, b, PAYLOAD);
     (kind, value)
+}
+
+/// What a value was read as that has certain words.
+#[derive(Clone, Copy)]
+pub struct SeenValue {
+    /// Whether it was read in a box.
+    pub boxed: bool,
+    /// The kind that was read.
+    pub kind: u64,
+    /// The payload that was read.
+    pub value: u64,
+}
+
+/// Reads the value that has these words, for whoever may not have the lock: in the box that they name, where the bank
+/// has it, and else in place. Without the lock nobody keeps the box, so what was read counts only where the words stood
+/// meanwhile.
+#[inline(always)]
+pub fn see_value(bank: &Bank, pass: &mut Pass, kind: u64, payload: u64) -> SeenValue
+    requires pass { IsPassOf bank.now pass.old }
+    ensures pass { IsPassOf bank.now pass.new }
+    ensures stack { stack_of pass.new ≡ stack_of pass.old }
+    ensures did { DidAll (box_acts result.boxed payload result.kind result.value) pass.old pass.new }
+    ensures sees { SeesValue (shape_of bank.now) kind payload result }
+    ensures known { SeesKnown (view pass.old) payload result }
+{
+    let in_place = SeenValue {
+        boxed: false,
+        kind,
+        value: payload,
+    };
+    if kind != BOX_KIND {
+        return in_place;
+    }
+    let passes = u64::from(bank.passes());
+    let maker = payload / NAMES;
+    if passes <= maker {
+        return in_place;
+    }
+    let heap = u64::from(bank.heap());
+    let place = payload % NAMES;
+    if heap <= place {
+        return in_place;
+    }
+    let b = box_of(payload);
+    let found = bank.read_box(pass, b, KIND);
+    let value = bank.read_box(pass, b, PAYLOAD);
+    SeenValue {
+        boxed: true,
+        kind: found,
+        value,
+    }
 }
 
 /// Drops a reference that the pass holds for a box which it shares with others; who brings the box to its end gives the

@@ -11,23 +11,13 @@ ghost use Rattle.ft_bank.specs.Passes.{shape_of, view};
 ghost use Rattle.ft_bank.specs.Series.{DidAll};
 ghost use Rattle.ft_bank.specs.TableNames.{table_id};
 ghost use Rattle.ft_search.specs.TableWords.{CanLoad, SamePlace};
-ghost use Rattle.ft_search.specs.Rounds.{box_acts, entry_acts, SeesValue};
+ghost use Rattle.ft_search.specs.Boxed.{box_acts, SeesValue};
+ghost use Rattle.ft_search.specs.Rounds.{entry_acts};
 
-use crate::boxed::{BOX_KIND, KIND, NAMES, PAYLOAD, box_of};
+use crate::boxed::{SeenValue, see_value};
 use crate::words::TableWords;
 use ft_keys::Words;
 use ft_layout::entry_word::{KEY_KIND, VALUE, VALUE_KIND, VERSION};
-
-/// What a value was read as that has certain words.
-#[derive(Clone, Copy)]
-pub(crate) struct SeenValue {
-    /// Whether it was read in a box.
-    pub(crate) boxed: bool,
-    /// The kind that was read.
-    pub(crate) kind: u64,
-    /// The payload that was read.
-    pub(crate) value: u64,
-}
 
 /// What was loaded of an entry, in the order of the loads: its version, words, the box that they name, the counter, its
 /// version.
@@ -85,8 +75,7 @@ impl<'a> TableWords<'a> {
         self.entry(place, word)
     }
 
-    /// Reads the value that has these words: in the box that they name, where the bank has it, and else in place. Nobody
-    /// keeps the box, so what was read counts only where the words stood meanwhile.
+    /// Reads the value that has these words, as [`see_value`] does.
     #[inline(always)]
     pub(crate) fn see_value(&mut self, kind: u64, payload: u64) -> SeenValue
         requires can { CanLoad self.old }
@@ -95,39 +84,7 @@ impl<'a> TableWords<'a> {
         ensures did { DidAll (box_acts result.boxed payload result.kind result.value) self.old.pass.now self.new.pass.now }
         ensures sees { SeesValue (shape_of self.old.bank.now) kind payload result }
     {
-        if kind != BOX_KIND {
-            return SeenValue {
-                boxed: false,
-                kind,
-                value: payload,
-            };
-        }
-        let passes = u64::from(self.bank.passes());
-        let maker = payload / NAMES;
-        if passes <= maker {
-            return SeenValue {
-                boxed: false,
-                kind,
-                value: payload,
-            };
-        }
-        let heap = u64::from(self.bank.heap());
-        let place = payload % NAMES;
-        if heap <= place {
-            return SeenValue {
-                boxed: false,
-                kind,
-                value: payload,
-            };
-        }
-        let b = box_of(payload);
-        let found = self.bank.read_box(self.pass, b, KIND);
-        let value = self.bank.read_box(self.pass, b, PAYLOAD);
-        SeenValue {
-            boxed: true,
-            kind: found,
-            value,
-        }
+        see_value(self.bank, self.pass, kind, payload)
     }
 
     /// Loads an entry's words between two loads of its version.

@@ -19,12 +19,12 @@ module _ (called : Call) (said : Reply) (stamp : ℕ) (v w : View) where
   answered_cursors a number = ap (λ (u : View). cursor_in number u.log) a.answered ∙ a.loaded.work.pass.cursors number
 
   pub given_cursors : GaveUp called said stamp v w → KeepsCursors v w
-  given_cursors gave number = (retired_same (root_in (held_words (changes called) v)) gave.dropped w gave.retired).cursors number ∙ (gave.drops.drops.work.pass.cursors number ∙ gave.wrote.pass.cursors number)
+  given_cursors gave number = (retired_same (root_in (held_words (changes called) v)) gave.done w gave.retired).cursors number ∙ gave.wrote.pass.cursors number
 
   grew_cursors : (k : Shape) (class : ℕ) → Grew k class called said stamp v w → KeepsCursors v w
   grew_cursors k class grew number =
-      (retired_same (root_in (held_words (changes called) grew.taken)) grew.dropped w grew.retired).cursors number
-      ∙ (grew.drops.drops.work.pass.cursors number ∙ (grew.wrote.pass.cursors number ∙ grew.tried.same.cursors number))
+      (retired_same (root_in (held_words (changes called) grew.taken)) grew.done w grew.retired).cursors number
+      ∙ (grew.wrote.pass.cursors number ∙ grew.tried.same.cursors number)
 
   written_cursors : (k : Shape) (takes : Option ℕ) → WroteWith k takes called said stamp v w → KeepsCursors v w
   written_cursors k None x number = x.wrote.pass.cursors number

@@ -7,13 +7,12 @@ use Rattle.ft_model.specs.declared.reply.Reply.{Reply}
 use Rattle.ft_trace.specs.declared.Act.TheVariants.{PutRoot}
 use Rattle.ft_trace.specs.declared.Shape.{Shape}
 use Rattle.ft_trace.specs.declared.View.{View}
-use Rattle.ft_trace.specs.Acts.{has_lock, is_writing, stage, stage_next, owes, used, flight, seen_writes}
+use Rattle.ft_trace.specs.Acts.{has_lock, is_writing, stage, stage_next, owes, used, seen_writes}
 use Rattle.ft_trace.specs.Addresses.{container_count}
 use Rattle.ft_trace.specs.Boxes.{IsDoneWithBoxes}
 use Rattle.ft_trace.specs.Holds.{held_words, held_unboxed, known_state}
 use Rattle.ft_trace.specs.Pictures.{ContainerWords, root_in, Represents}
 use Rattle.ft_trace.specs.ContainerStates.{ContainerState, changes}
-use Rattle.ft_trace.specs.BegunSections.{begun}
 use Rattle.ft_trace.proofs.Cases.{hit, miss, here}
 use Rattle.ft_bank.specs.declared.bank.Bank.{Bank}
 use Rattle.ft_bank.specs.declared.pass.Pass.{Pass}
@@ -24,17 +23,16 @@ use Rattle.ft_bank.specs.Passes.{view, IsPassOf}
 use Rattle.ft_bank.specs.PassSections.{stack_of}
 use Rattle.ft_bank.specs.TableNames.{table_id}
 use Rattle.ft_bank.specs.Locks.{KnowsSame}
-use Rattle.ft_bank.specs.SameBoxes.{SameReferences, SameMade}
+use Rattle.ft_bank.specs.SameBoxes.{SameReferences}
 use Rattle.ft_bank.specs.Whole.{OnlyLoaded, SamePass, Wrote, hand_after}
-use Rattle.ft_bank.proofs.BoxedSteps.{made_then}
-use Rattle.ft_bank.proofs.KnownAfterWrites.{same_pass, pass_then, work_knows}
+use Rattle.ft_bank.proofs.KnownAfterWrites.{same_pass, pass_then}
 use Rattle.ft_section.specs.Ready.{IsStill, IsMaking}
 use Rattle.ft_bank.proofs.DoneBoxes.{done_as}
 use Rattle.ft_section.proofs.MidstOfCall.{making_stays}
 use Rattle.ft_search.proofs.ReadMidst.{LeavesSections, still_loaded, still_read, sections_read}
 use Rattle.ft_table_calls.specs.declared.adding.Added.{Added}
 use Rattle.ft_table_calls.specs.declared.adding.Added.TheVariants as added
-use Rattle.ft_table_calls.specs.Adding.{DropsAfter, TriedTaking, Retires, WroteInPlace, Grew, GaveUp, IsAdded}
+use Rattle.ft_table_calls.specs.Adding.{TriedTaking, Retires, WroteInPlace, Grew, GaveUp, IsAdded}
 
 -- in no hand, or retired
 abbrev IsOut : ℕ → Type 0
@@ -135,27 +133,6 @@ retired_stage (suc q) v w is t = (
   (λ ne. ap (λ (u : View). stage t u.log) is.1 ∙ miss q t 4 (stage t v.log) (λ e. ne (ap suc e))),
 )
 
--- ---- drops of references and then a retirement
-
-module _ (root : ℕ) (v u x w : View) (drops : DropsAfter v u x) (retired : Retires root x w) where
-  after_same : SamePass u w
-  after_same = pass_then u x w drops.drops.work.pass (retired_same root x w retired)
-
-  after_stage : (t : ℕ) → (root ≡ suc t → IsOut (stage t w.log)) × (root ≢ suc t → stage t w.log ≡ stage t u.log)
-  after_stage t = let r = retired_stage root x w retired t in (r.0, (λ ne. r.1 ne ∙ drops.drops.work.hands t))
-
-  after_work : (used w.log ≡ used u.log) × (owes w.log ≡ owes u.log)
-  after_work = let r = retired_work root x w retired in (r.0 ∙ drops.drops.work.used, r.1 ∙ drops.drops.work.owes)
-
-  after_reads : (p : ℕ) → p < container_count w.shape → has_lock p w.log ≡ true → (held_unboxed p w ≡ held_unboxed p u) × (known_state p w ≡ known_state p u)
-  after_reads p low has =
-      let k = retired_knows root x w retired p in
-      let mine : has_lock p u.log ≡ true = sym (after_same.locks p) ∙ has in
-      (k.2 ∙ drops.drops.unboxed p (subst (λ (z : Shape). p < container_count z) after_same.shape low) mine, k.1 ∙ work_knows u x p drops.drops.work)
-
-  after_done : SameMade v u → IsDoneWithBoxes v.shape v.log → IsDoneWithBoxes w.shape w.log
-  after_done made done = retired_done root x w retired (done_as v x drops.references (made_then v u x made drops.made) done)
-
 -- ---- a call that took a table
 
 module _ (k : Shape) (class : ℕ) (called : Call) (said : Reply) (n : ℕ) (v w : View) (s : IsStill v) (grew : Grew k class called said n v w) where
@@ -180,7 +157,7 @@ module _ (k : Shape) (class : ℕ) (called : Call) (said : Reply) (n : ℕ) (v w
 
   out_after : (t : ℕ) → IsOut (stage t w.log)
   out_after t =
-      let r = after_stage old taken grew.done grew.dropped w grew.drops grew.retired t in
+      let r = retired_stage old grew.done w grew.retired t in
       let was = stage t taken.log in
       dite (ℕ_discrete old (suc t))
       (λ (e : old ≡ suc t). r.0 e)
@@ -195,12 +172,12 @@ module _ (k : Shape) (class : ℕ) (called : Call) (said : Reply) (n : ℕ) (v w
   -- the words stand for the content once the write is made
   stands_written : (p : ℕ) → p < container_count w.shape → has_lock p w.log ≡ true → Represents w.shape.texts (held_unboxed p w) (known_state p w)
   stands_written p low has =
-      let same = after_same old taken grew.done grew.dropped w grew.drops grew.retired in
+      let same = retired_same old grew.done w grew.retired in
       let shape : w.shape ≡ taken.shape = same.shape ∙ grew.wrote.pass.shape in
       let low' : p < container_count taken.shape = subst (λ (z : Shape). p < container_count z) shape low in
       let mine : has_lock p taken.log ≡ true = sym (grew.wrote.pass.locks p) ∙ (sym (same.locks p) ∙ has) in
       let quiet : is_writing p taken.log ≡ false = grew.tried.same.writes p ∙ s.even p in
-      let e = after_reads old taken grew.done grew.dropped w grew.drops grew.retired p low has in
+      let e = retired_knows old grew.done w grew.retired p in
       let done : Represents taken.shape.texts (held_unboxed p grew.done) (known_state p grew.done) =
       dite (ℕ_discrete p at)
       (λ (x : p ≡ at). subst (λ (q : ℕ). Represents taken.shape.texts (held_unboxed q grew.done) (known_state q grew.done)) (sym x) grew.wrote.stands)
@@ -208,14 +185,14 @@ module _ (k : Shape) (class : ℕ) (called : Call) (said : Reply) (n : ℕ) (v w
       let o = grew.wrote.others p low' ne mine quiet in
       subst (λ (x : ContainerWords × ContainerState). Represents taken.shape.texts x.0 x.1) (λ d. (sym o.2 d, sym o.1 d)) (tried_stands k class (took.Taken grew.table) v taken s grew.tried p low' mine)) in
       subst (λ (z : Shape). Represents z.texts (held_unboxed p w) (known_state p w)) (sym shape)
-      (subst (λ (x : ContainerWords × ContainerState). Represents taken.shape.texts x.0 x.1) (λ d. (sym e.0 d, sym e.1 d)) done)
+      (subst (λ (x : ContainerWords × ContainerState). Represents taken.shape.texts x.0 x.1) (λ d. (sym e.2 d, sym e.1 d)) done)
 
   pub grew_same : SamePass v w
-  grew_same = pass_then v taken w grew.tried.same (pass_then taken grew.done w grew.wrote.pass (after_same old taken grew.done grew.dropped w grew.drops grew.retired))
+  grew_same = pass_then v taken w grew.tried.same (pass_then taken grew.done w grew.wrote.pass (retired_same old grew.done w grew.retired))
 
   pub grew_still : IsStill w
   grew_still =
-      let r = after_work old taken grew.done grew.dropped w grew.drops grew.retired in
+      let r = retired_work old grew.done w grew.retired in
       let boxes : IsDoneWithBoxes taken.shape taken.log = done_as v taken grew.tried.keeps.boxes.references grew.tried.keeps.boxes.made s.boxes in
       record {
         even = λ p. grew_same.writes p ∙ s.even p;
@@ -223,7 +200,7 @@ module _ (k : Shape) (class : ℕ) (called : Call) (said : Reply) (n : ℕ) (v w
         used = r.0 ∙ grew.wrote.used;
         owes = r.1 ∙ grew.wrote.owes;
         flight = grew_same.flight ∙ s.flight;
-        boxes = after_done old taken grew.done grew.dropped w grew.drops grew.retired grew.wrote.made boxes;
+        boxes = retired_done old grew.done w grew.retired (done_as taken grew.done grew.references grew.wrote.made boxes);
         stands = stands_written;
       }
 
@@ -278,7 +255,7 @@ module _ (called : Call) (said : Reply) (n : ℕ) (v w : View) (s : IsStill v) (
 
   out_given : (t : ℕ) → IsOut (stage t w.log)
   out_given t =
-      let r = after_stage before v given.done given.dropped w given.drops given.retired t in
+      let r = retired_stage before given.done w given.retired t in
       let was = stage t v.log in
       dite (ℕ_discrete before (suc t))
       (λ (e : before ≡ suc t). r.0 e)
@@ -289,23 +266,23 @@ module _ (called : Call) (said : Reply) (n : ℕ) (v w : View) (s : IsStill v) (
       subst IsOut (sym same) (s.hands t))
 
   given_same : SamePass v w
-  given_same = pass_then v given.done w given.wrote.pass (after_same before v given.done given.dropped w given.drops given.retired)
+  given_same = pass_then v given.done w given.wrote.pass (retired_same before given.done w given.retired)
 
   pub given_still : IsStill w
   given_still =
-      let same = after_same before v given.done given.dropped w given.drops given.retired in
-      let r = after_work before v given.done given.dropped w given.drops given.retired in
+      let same = retired_same before given.done w given.retired in
+      let r = retired_work before given.done w given.retired in
       record {
         even = λ p. given_same.writes p ∙ s.even p;
         hands = out_given;
         used = r.0 ∙ given.wrote.used;
         owes = r.1 ∙ given.wrote.owes;
         flight = given_same.flight ∙ s.flight;
-        boxes = after_done before v given.done given.dropped w given.drops given.retired given.wrote.made s.boxes;
+        boxes = retired_done before given.done w given.retired (done_as v given.done given.references given.wrote.made s.boxes);
         stands = λ p low has.
-            let e = after_reads before v given.done given.dropped w given.drops given.retired p low has in
+            let e = retired_knows before given.done w given.retired p in
             let old = stands_after called said n v given.done s given.wrote p (subst (λ (z : Shape). p < container_count z) same.shape low) (sym (same.locks p) ∙ has) in
-            subst (λ (x : Shape × ContainerWords × ContainerState). Represents x.0.texts x.1 x.2) (λ d. (sym same.shape d, sym e.0 d, sym e.1 d)) old;
+            subst (λ (x : Shape × ContainerWords × ContainerState). Represents x.0.texts x.1 x.2) (λ d. (sym same.shape d, sym e.2 d, sym e.1 d)) old;
       }
 
 pub making_given : (b : Bank) (p q : Pass) → IsMaking b p → IsPassOf b q → stack_of q ≡ stack_of p → (u : View) → OnlyLoaded (view p) u → (called : Call) (said : Reply) (n : ℕ) → GaveUp called said n u (view q) → IsMaking b q

@@ -1,17 +1,15 @@
 -- Whole writes that put another root, and what a pass did before that in tables that are fresh in its hand.
-use Rattle.std.proofs.Common.{◌≡◌, ◌≢◌, ℕ, suc, ◌+◌, ◌<◌, ◌≤◌, le_trans, Bool, true, false, cond, ◌∷◌, refl, sym, ap, ◌∙◌, subst, arith, inr}
+use Rattle.std.proofs.Common.{◌≡◌, ◌≢◌, ℕ, suc, ◌+◌, ◌<◌, ◌≤◌, le_trans, true, false, cond, ◌∷◌, refl, sym, ap, ◌∙◌, subst, arith, inr}
 use Rattle.std.specs.Prelude.{◌==◌}
 use mathlib.Core.Logic.{dite}
 use native.Mathlib.Decide.{ℕ_discrete}
 use Rattle.ft_model.specs.declared.call.Call.{Call}
 use Rattle.ft_model.specs.declared.reply.Reply.{Reply}
-use Rattle.ft_model.specs.TableUses.{StoredWorld}
 use Rattle.ft_trace.specs.declared.Act.{Act}
 use Rattle.ft_trace.specs.declared.Act.TheVariants.{StartWrite, PutRoot, PutFresh}
-use Rattle.ft_trace.specs.declared.Entry.{Entry}
 use Rattle.ft_trace.specs.declared.Shape.{Shape}
 use Rattle.ft_trace.specs.declared.View.{View}
-use Rattle.ft_trace.specs.Acts.{has_lock, is_writing, stage, stage_next, debt, debt_next, view_after}
+use Rattle.ft_trace.specs.Acts.{is_writing, stage, stage_next, debt, debt_next, view_after}
 use Rattle.ft_trace.specs.Addresses.{container_count}
 use Rattle.ft_trace.specs.Holds.{held_words, held_unboxed, known_state}
 use Rattle.ft_trace.specs.Pictures.{root_in, Represents}
@@ -20,7 +18,7 @@ use Rattle.ft_trace.specs.ContainerStates.{changes, kind_in, kinds_in}
 use Rattle.ft_trace.proofs.Cases.{hit, miss}
 use Rattle.ft_bank.specs.Whole.{SameWork, OnlyLoaded, OnlyWritten, EndsWrite, Wrote, hand_after, debt_after, write_entry}
 use Rattle.ft_bank.specs.SameBoxes.{MovesReferences, SameReferences, SameMade, named_in_words}
-use Rattle.ft_bank.specs.WriteSteps.{KeepsUnwritten, MayHave}
+use Rattle.ft_bank.specs.WriteSteps.{KeepsUnwritten}
 use Rattle.ft_bank.proofs.BoxedSteps.{made_same, made_then}
 use Rattle.ft_bank.proofs.KnownAfterWrites.{calm, same_work, work_then, work_knows, pass_then, loaded_held}
 use Rattle.ft_table_calls.specs.Adding.{OnlyFilled}

@@ -21,7 +21,7 @@ use Rattle.ft_bank.specs.SameBoxes.{SameReferences, SameMade}
 use Rattle.ft_bank.specs.Series.{noted_all}
 use Rattle.ft_bank.specs.TableNames.{table_id}
 use Rattle.ft_bank.specs.Takings.{HasNotMoved, HasTook, IsTaking, KeepsBut, StaysIn}
-use Rattle.ft_bank.specs.Whole.{SamePass, SameWork, OnlyBoxed, Wrote}
+use Rattle.ft_bank.specs.Whole.{SamePass, SameWork, Wrote}
 use Rattle.ft_bank.specs.WriteSteps.{KeepsUnwritten}
 use Rattle.ft_qsbr.specs.Collecting.{Collected, StaysOrGoes}
 use Rattle.ft_table_calls.specs.declared.adding.Added.{Added}
@@ -64,13 +64,6 @@ KeepsCursors v w = (number : ℕ) → cursor_in number w.log ≡ cursor_in numbe
 
 -- ---- the call
 
--- A write and the drops after it: the pass, which had v before the write and u after it, has dropped references of
--- boxes since, and done nothing else; it holds the same references as before the write. (profile)
-pub record DropsAfter (v u w : View) : Type 0 where
-  pub drops : OnlyBoxed u w
-  pub made : SameMade u w
-  pub references : SameReferences v w
-
 -- The pass made the call as one whole write, which left the root of the container, and holds the same references of
 -- boxes as before. (profile)
 pub record WroteInPlace (called : Call) (said : Reply) (number : ℕ) (v w : View) : Type 0 where
@@ -79,8 +72,8 @@ pub record WroteInPlace (called : Call) (said : Reply) (number : ℕ) (v w : Vie
   pub references : SameReferences v w
 
 -- The pass took a table of this class and made the call as one whole write that put it into the root of the container
--- in the place of another table or of none; it dropped the references that no words have any longer, and then retired
--- the table that the root named before. (profile)
+-- in the place of another table or of none, and holds the same references of boxes as before; then it retired the table
+-- that the root named before. (profile)
 pub record Grew (k : Shape) (class : ℕ) (called : Call) (said : Reply) (number : ℕ) (v w : View) : Type 0 where
   pub table : Table
   pub taken : View
@@ -89,19 +82,17 @@ pub record Grew (k : Shape) (class : ℕ) (called : Call) (said : Reply) (number
   pub done : View
   pub wrote : Wrote called said number taken done
   pub root : root_in (held_words (changes called) done) ≡ suc (table_id table)
-  pub dropped : View
-  pub drops : DropsAfter taken done dropped
-  pub retired : Retires (root_in (held_words (changes called) taken)) dropped w
+  pub references : SameReferences taken done
+  pub retired : Retires (root_in (held_words (changes called) taken)) done w
 
--- The pass made the call as one whole write that left the container no table; it dropped the references of the table
--- that it had, if it had one, and then retired that. (profile)
+-- The pass made the call as one whole write that left the container no table, and holds the same references of boxes as
+-- before; then it retired the table that the container had, if it had one. (profile)
 pub record GaveUp (called : Call) (said : Reply) (number : ℕ) (v w : View) : Type 0 where
   pub done : View
   pub wrote : Wrote called said number v done
   pub root : root_in (held_words (changes called) done) ≡ 0
-  pub dropped : View
-  pub drops : DropsAfter v done dropped
-  pub retired : Retires (root_in (held_words (changes called) v)) dropped w
+  pub references : SameReferences v done
+  pub retired : Retires (root_in (held_words (changes called) v)) done w
 
 -- the write of a call that takes no table, or one of this class
 abbrev pub WroteWith : Shape → Option ℕ → Call → Reply → ℕ → View → View → Type 0

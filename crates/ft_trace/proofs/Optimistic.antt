@@ -1,5 +1,5 @@
 -- What was read between two equal even loads of a version is the container's content at each load of the counter between them, also where tables move.
-use Rattle.std.proofs.Common.{◌≡◌, ℕ, suc, ◌%◌, ◌<◌, ◌≤◌, List, ◌∷◌, ◌++◌, sym, ap, ◌∙◌, subst, arith, append_assoc}
+use Rattle.std.proofs.Common.{◌≡◌, ◌≢◌, ◌⊎◌, ℕ, suc, ◌%◌, ◌<◌, ◌≤◌, List, ◌∷◌, ◌++◌, sym, ap, ◌∙◌, subst, arith, append_assoc}
 use Rattle.std.specs.Prelude.{slice_index}
 use mathlib.Core.Option.{some}
 use lib.ListN.{get_elem?}
@@ -18,7 +18,11 @@ use Rattle.ft_model.specs.Worlds.{kind_of}
 use Rattle.ft_trace.proofs.Known.{kind_then}
 use Rattle.ft_trace.proofs.NoTable.{no_table_stands}
 use Rattle.ft_trace.specs.LoggedLookUps.{Bare}
-use Rattle.ft_trace.specs.Addresses.{box_word}
+use Rattle.ft_trace.specs.Addresses.{box_word, IsBoxName}
+use Rattle.ft_trace.specs.BoxTraces.{references}
+use Rattle.ft_trace.proofs.BoxValues.{box_name, box_there}
+use Rattle.ft_trace.proofs.NamedBoxes.{named_low}
+use Rattle.ft_trace.proofs.PlainPuts.{named_is}
 use Rattle.ft_trace.specs.Boxes.{named_in_root, named_in_container}
 use Rattle.ft_trace.specs.Unboxed.{box_word_in, unboxed}
 use Rattle.ft_trace.proofs.QuietBoxes.{quiet_named}
@@ -111,9 +115,18 @@ module _ (k : Shape) (es : List Event) (valid : Valid k es) (o : ℕ) (low : o <
         w.tells ∙ (sym (table_at k t (run k w.older).words i small) ∙ (sym (by_inner (root k w.older o) (run k w.older).words t i then_) ∙ ap (λ (x : ContainerWords). slice_index x.table i) (sym s.picture)));
   }
 
-  -- what was read of boxes between them that it names
-  pub agrees_boxes : AgreesBoxes k o mid shown (box_word_in k (run k now).words)
-  agrees_boxes b i f which names_it m =
+  -- a box that it names is one of the bank
+  names_box : (b : ℕ) → named_in_root b (kind_in k.starts o) (root_in shown) shown.table ≢ 0 → IsBoxName k b
+  names_box b names_it =
+      let n = named_is k o b (run k now).words in
+      let all = named_low k b o (run k now).words low in
+      let some_ : references k b now ≢ 0 = λ z. names_it (omega (arith, n, all, z)) in
+      let up = box_there k b now top.valid some_ in
+      box_name k b now top.valid (λ z. absurd (omega (arith, up, z)))
+
+  -- what was read of it
+  found_in : (b : ℕ) → named_in_root b (kind_in k.starts o) (root_in shown) shown.table ≢ 0 → (i f : ℕ) → (i ≡ 1) ⊎ (i ≡ 2) → Among (ReadBox b i f) mid → f ≡ box_word_in k (run k now).words b i
+  found_in b names_it i f which m =
       let w = in_now (ReadBox b i f) m in
       let s = still_now (ReadBox b i f) m in
       let p = under_now (ReadBox b i f) m in
@@ -124,6 +137,10 @@ module _ (k : Shape) (es : List Event) (valid : Valid k es) (o : ℕ) (low : o <
       subst (λ (l : List Event). Valid k l → version k l o ≡ version k w.older o → word k l (box_word b i) ≡ word k w.older (box_word b i)) p.is
       (λ ok e. quiet_named k w.older o low even_then b i (λ z. names_it (sym n ∙ z)) which p.newer ok e) top.valid (sym (same (ReadBox b i f) m)) in
       w.tells ∙ sym q
+
+  -- what was read of boxes between them that it names
+  pub agrees_boxes : AgreesBoxes k o mid shown (box_word_in k (run k now).words)
+  agrees_boxes b names_it = (names_box b names_it, found_in b names_it)
 
   -- the optimistic read: what follows from the answers, on whatever words and whatever else is stored, holds of what was stored at the load of the counter
   pub looked : (P : StoredWorld → Type 0) → ((x : ContainerWords) (box : ℕ → ℕ → ℕ) (t : StoredWorld) → kind_of (state_at t o).content ≡ kind_in k.starts o → Represents k.texts (unboxed box (kind_in k.starts o) x) (state_at t o) → Agrees k o mid x → AgreesBoxes k o mid x box → P t) → (s : ℕ) → Among (ReadCounter s) mid → (s ≤ count k es) × P (stored_newest k.starts (first_writes s (history es)))

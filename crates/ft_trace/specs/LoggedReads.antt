@@ -8,7 +8,7 @@ use Rattle.ft_trace.specs.declared.Act.TheVariants.{Version, ReadBlock, ReadRoot
 use Rattle.ft_trace.specs.Boxes.{named_in_root}
 use Rattle.ft_trace.specs.Unboxed.{unboxed}
 use Rattle.ft_trace.specs.declared.Shape.{Shape}
-use Rattle.ft_trace.specs.Addresses.{IsTableName, class_of, size}
+use Rattle.ft_trace.specs.Addresses.{IsTableName, IsBoxName, class_of, size}
 use Rattle.std.specs.Prelude.{None}
 use Rattle.ft_model.specs.Worlds.{length_of, kind_of}
 use Rattle.ft_trace.specs.ContainerStates.{ContainerState, state_at, reply_in, kind_in}
@@ -35,12 +35,12 @@ pub record Agrees (k : Shape) (o : ℕ) (mid : List Act) (x : ContainerWords) : 
   pub table : (t i f : ℕ) → IsTableName k t → i < size (class_of t) → root_in x ≡ suc t → Among (ReadTable t i f) mid
       → f ≡ slice_index x.table i
 
--- The reads of boxes among these that x names found what `box` tells: what was read of another box says nothing.
+-- Each box that x names is one of the bank, and the reads of it among these found what `box` tells: what was read of
+-- another box says nothing.
 abbrev pub AgreesBoxes : Shape → ℕ → List Act → ContainerWords → (ℕ → ℕ → ℕ) → Type 0
 AgreesBoxes k o mid x box =
-    (b i f : ℕ) → (i ≡ 1) ⊎ (i ≡ 2) → named_in_root b (kind_in k.starts o) (root_in x) x.table ≢ 0
-    → Among (ReadBox b i f) mid
-    → f ≡ box b i
+    (b : ℕ) → named_in_root b (kind_in k.starts o) (root_in x) x.table ≢ 0
+    → IsBoxName k b × ((i f : ℕ) → (i ≡ 1) ⊎ (i ≡ 2) → Among (ReadBox b i f) mid → f ≡ box b i)
 
 -- there is no table and nothing in the container
 abbrev pub IsNothing : ContainerState → Type 0

@@ -5,7 +5,7 @@ use Rattle.ft_trace.specs.Addresses.{class_of, slots}
 use Rattle.ft_trace.specs.Pictures.{entry_offset}
 use Rattle.ft_bank.specs.Series.{DidAll}
 use Rattle.ft_bank.specs.TableNames.{table_id}
-use Rattle.ft_search.specs.Rounds.{box_acts, SeesValue}
+use Rattle.ft_search.specs.Boxed.{box_acts, SeesValue}
 use Rattle.ft_search.proofs.Running.{at_same, did_trans, same_trans}
 use Rattle.ft_search.proofs.words.TableWords.read_between.Goals as goal
 

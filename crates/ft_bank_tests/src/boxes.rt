@@ -5,8 +5,8 @@ ghost use Rattle.ft_bank.specs.NewPasses.{IsOpening};
 ghost use Rattle.ft_bank.specs.Passes.{shape_of, view, IsPassOf};
 ghost use Rattle.ft_bank_tests.specs.OneBox.{HasBox, HasPlace, SharesBox};
 
-use crate::steps::small;
 use crate::bank_of_two;
+use crate::steps::small;
 use ft_bank::{Bank, Pass};
 use ft_layout::Ref;
 use std::alloc::Global;

@@ -17,7 +17,6 @@ pub mod Unboxing
 pub mod Overs
 pub mod SearchedReads
 pub mod HitBoxes
-pub mod HeldBox
 pub mod ReadyCommits
 pub mod Laws
 pub mod Spotting

@@ -216,11 +216,11 @@ module _ (k : Shape) (o : ℕ) (table : Table) (word kind payload : ℕ) (v r p 
     pub both_writes : slice_index T word ≢ 4 → WritesTable k o table p
     both_writes ne =
         let same : SameReferences r p = λ b.
-        let moved = references b in
-        let none = plain_names b kind payload plain in
-        let nor = plain_names b (slice_index T word) (slice_index T (word + 1)) ne in
-        let e : references_held k b p.log ≡ references_held k b r.log = omega (arith, moved, none, nor) in
-        ap (λ (z : Shape). references_held z b p.log) there_shape ∙ (e ∙ sym (ap (λ (z : Shape). references_held z b r.log) here_shape)) in
+            let moved = references b in
+            let none = plain_names b kind payload plain in
+            let nor = plain_names b (slice_index T word) (slice_index T (word + 1)) ne in
+            let e : references_held k b p.log ≡ references_held k b r.log = omega (arith, moved, none, nor) in
+            ap (λ (z : Shape). references_held z b p.log) there_shape ∙ (e ∙ sym (ap (λ (z : Shape). references_held z b r.log) here_shape)) in
         table_on k o table r p here_shape here_writes only.work same only.made (ap root_in held)
 
     -- over one that stands in the box c

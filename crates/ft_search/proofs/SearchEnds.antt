@@ -254,10 +254,8 @@ module _ (k : Shape) (o t : ℕ) (key : Key) (slot place : ℕ) (earlier : List 
                 hit = hit_as true seen w.log window steady even stays;
                 read = inr (
                   seen.payload,
-                  (
-                    record { newer = stamped ∷ (value_box ∷ (kind_box ∷ (value_load ∷ []))); rest = live_load ∷ []; is = λ d. stamped ∷ (value_box ∷ (kind_box ∷ (value_load ∷ (entry 4 (four d) ∷ (live_load ∷ []))))) },
-                    record { newer = stamped ∷ (value_box ∷ (kind_box ∷ [])); rest = kind_load ∷ (live_load ∷ []); is = refl },
-                  ),
+                  (record { newer = stamped ∷ (value_box ∷ (kind_box ∷ (value_load ∷ []))); rest = live_load ∷ []; is = λ d. stamped ∷ (value_box ∷ (kind_box ∷ (value_load ∷ (entry 4 (four d) ∷ (live_load ∷ []))))) },
+                  record { newer = stamped ∷ (value_box ∷ (kind_box ∷ [])); rest = kind_load ∷ (live_load ∷ []); is = refl }),
                   record { newer = stamped ∷ (value_box ∷ []); rest = value_load ∷ (kind_load ∷ (live_load ∷ [])); is = refl },
                   record { newer = stamped ∷ []; rest = kind_box ∷ (value_load ∷ (kind_load ∷ (live_load ∷ []))); is = refl },
                 );

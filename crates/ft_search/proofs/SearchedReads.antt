@@ -94,18 +94,18 @@ searched_reads v o k table mask hash way key left found keyed in_bank last names
     let box : ℕ → ℕ → ℕ = λ b i. known_box_word v.shape b i v.log in
     let kd : Kind = kind_in v.shape.starts o in
     let index : (z : ℕ) → z ≤ mask → index_word (0 ∷ 0 ∷ R) z ≡ index_word (0 ∷ 0 ∷ T) z = λ z low.
-    let few = slots_is k table mask in_bank last in
-    after_header R z
-    ∙ ((ap (λ (l : List ℕ). slice_index l z) (by_root box kd (root_in (held_words o v)) t T names) ∙ read_index box (class_of t) (rows kd (class_of t)) T kd keyed z (omega (arith, few, low)))
-    ∙ sym (after_header T z)) in
+        let few = slots_is k table mask in_bank last in
+        after_header R z
+        ∙ ((ap (λ (l : List ℕ). slice_index l z) (by_root box kd (root_in (held_words o v)) t T names) ∙ read_index box (class_of t) (rows kd (class_of t)) T kd keyed z (omega (arith, few, low)))
+        ∙ sym (after_header T z)) in
     let field : (p w : ℕ) → w < 8 → w ≢ 4 → w ≢ 5 → entry_word mask (0 ∷ 0 ∷ R) p w ≡ entry_word mask (0 ∷ 0 ∷ T) p w = λ p w few n4 n5.
-    let at = entry_is k table mask p w in_bank last in
-    entry_after_header R mask p w
-    ∙ (ap (slice_index R) at ∙ (entry_reads v o t p w keyed names few n4 n5 ∙ (ap (slice_index T) (sym at) ∙ sym (entry_after_header T mask p w)))) in
+        let at = entry_is k table mask p w in_bank last in
+        entry_after_header R mask p w
+        ∙ (ap (slice_index R) at ∙ (entry_reads v o t p w keyed names few n4 n5 ∙ (ap (slice_index T) (sym at) ∙ sym (entry_after_header T mask p w)))) in
     let entry : (p w : ℕ) → (w ≡ 2) ⊎ (w ≡ 3) → entry_word mask (0 ∷ 0 ∷ R) p w ≡ entry_word mask (0 ∷ 0 ∷ T) p w = λ p w which.
-    field p w (⊎_elim (λ e. omega (arith, e)) (λ e. omega (arith, e)) which)
-    (λ z. ⊎_elim (λ e. omega (arith, e, z)) (λ e. omega (arith, e, z)) which)
-    (λ z. ⊎_elim (λ e. omega (arith, e, z)) (λ e. omega (arith, e, z)) which) in
+        field p w (⊎_elim (λ e. omega (arith, e)) (λ e. omega (arith, e)) which)
+        (λ z. ⊎_elim (λ e. omega (arith, e, z)) (λ e. omega (arith, e, z)) which)
+        (λ z. ⊎_elim (λ e. omega (arith, e, z)) (λ e. omega (arith, e, z)) which) in
     searched_there mask (0 ∷ 0 ∷ T) (0 ∷ 0 ∷ R) key index entry (walk_slots way hash mask) left found (mask_is table.class mask in_bank.0 last) fits (walk-within way hash mask) s
 
 -- dicts and sets are searched

@@ -36,8 +36,8 @@ fn free_places(bank: &Bank, pass: &mut Pass) -> u64
     bank.read_free_places(pass, 0, 0)
 }
 
-/// The first pass makes a box of an integer at place 5 of its heap, all of which is free, and publishes it. Says whether
-/// it did.
+/// The first pass makes a box of an integer at place 5 of its heap, all of which is free, and publishes it. Says
+/// whether it did.
 fn make_box(bank: &Bank, pass: &mut Pass, value: u64) -> bool
     requires opening { IsOpening bank.now 0 pass.old }
     requires heap { HasPlace (shape_of bank.now) }

@@ -5,8 +5,8 @@ ghost use Rattle.ft_bank.specs.NewPasses.{IsOpening};
 ghost use Rattle.ft_bank.specs.Passes.{shape_of, view, IsPassOf};
 ghost use Rattle.ft_bank_tests.specs.OneBox.{HasBox, HasPlace, SharesBox};
 
-use crate::steps::small;
 use crate::bank_of_two;
+use crate::steps::small;
 use ft_bank::{Bank, Pass};
 use ft_layout::Ref;
 use std::alloc::Global;
@@ -36,8 +36,8 @@ fn free_places(bank: &Bank, pass: &mut Pass) -> u64
     bank.read_free_places(pass, 0, 0)
 }
 
-/// The first pass makes a box of an integer at place 5 of its heap, all of which is free, and publishes it. Says whether
-/// it did.
+/// The first pass makes a box of an integer at place 5 of its heap, all of which is free, and publishes it. Says
+/// whether it did.
 fn make_box(bank: &Bank, pass: &mut Pass, value: u64) -> bool
     requires opening { IsOpening bank.now 0 pass.old }
     requires heap { HasPlace (shape_of bank.now) }

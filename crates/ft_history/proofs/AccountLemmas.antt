@@ -34,9 +34,13 @@ use Rattle.ft_model.specs.declared.table.KeptTable.{KeptTable}
 use Rattle.ft_model.specs.Scripts.{cursor_of}
 use Rattle.ft_model.specs.Worlds.{starts_of, start_in, dict_at}
 use Rattle.ft_model.specs.Answers.{after_write, is_memory}
-use Rattle.ft_model.specs.TableUses.{TableUse, no_table, start_table, table_at, StoredWorld, start_stored, takes_class, leaves_tables, after_stored, stored_after, takings, is_class, is_split, takes_out, can_leave_split, takes, Supply, supply_of, IsEarned, IsEarnedReply, table_count}
+use Rattle.ft_model.specs.TableUses.{TableUse, no_table, start_table, table_at, StoredWorld, takes_class, leaves_tables, after_stored, stored_after, takings, is_class, is_split, takes_out, can_leave_split, takes, Supply, supply_of, IsEarned, IsEarnedReply, table_count, empty_stored}
 use Rattle.ft_history.specs.declared.account.TableAccount.{TableAccount}
 use Rattle.ft_history.specs.Internal.Accounts.{tables_of, IsAccount, CountsTaking, CountsCall, plain_takes, plain_leaves, CountsDict}
+
+-- what the containers of a script are stored as at the start
+abbrev pub start_stored : ScriptParts → StoredWorld
+start_stored script = empty_stored (starts_of script.containers)
 
 -- ---- one write further
 

@@ -24,7 +24,8 @@ use Rattle.ft_model.specs.declared.script.ScriptParts.{ScriptParts}
 use Rattle.ft_model.specs.Answers.{after_write, is_memory}
 use Rattle.ft_model.specs.Calls.{adds, can_add, dict_change, list_change, set_change, deque_change}
 use Rattle.ft_model.specs.Histories.{calls_of, entries_of, writes, IsLegal, IsWhole}
-use Rattle.ft_model.specs.TableUses.{StoredWorld, TableUse, after_stored, can_leave_split, change_leaves, change_takes, copy_leaves, copy_takes, grown_table, is_class, is_split, leaves_tables, no_table, start_stored, start_table, supply_of, table_at, taken, takes, takes_class, takes_in, takes_out, takings, IsEarnedReply}
+use Rattle.ft_model.specs.TableUses.{StoredWorld, TableUse, after_stored, can_leave_split, change_leaves, change_takes, copy_leaves, copy_takes, grown_table, is_class, is_split, leaves_tables, no_table, start_table, supply_of, table_at, taken, takes, takes_class, takes_in, takes_out, takings, IsEarnedReply}
+use Rattle.ft_history.proofs.AccountLemmas.{start_stored}
 use Rattle.ft_model.specs.Scripts.{IsScript}
 use Rattle.ft_model.proofs.SplitDicts.{unsplit_takes, unsplit_leaves}
 use Rattle.ft_model.specs.Worlds.{starts_of, start_in, dict_at, set_at}

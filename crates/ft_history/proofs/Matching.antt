@@ -20,7 +20,8 @@ use Rattle.ft_model.specs.Calls.{containers_of}
 use Rattle.ft_model.specs.Histories.{Section, after_section, after_numbered, sections_at, entries_of, calls_of, IsKept}
 use Rattle.ft_model.specs.Judging.{IsNext}
 use Rattle.ft_model.specs.Scripts.{AreNested, IsScript}
-use Rattle.ft_history.specs.HistoryLaws.{LeadsTo, calls_in, Matches, IsBegunBefore, IsUntouchedBetween}
+use Rattle.ft_history.specs.HistoryLaws.{LeadsTo, calls_in, Matches, IsUntouchedBetween}
+use Rattle.ft_history.proofs.SectionWrites.{IsBegunBefore}
 use Rattle.ft_history.proofs.HistoryPlaces.{take_next, drop_here, filter_next, by_places}
 use Rattle.ft_history.proofs.ScriptLemmas.{is_thread, calls_of_thread}
 use Rattle.ft_history.proofs.SectionWrites.{sections_next, begun_longer, untouched}

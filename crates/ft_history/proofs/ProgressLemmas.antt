@@ -13,11 +13,15 @@ use Rattle.ft_model.specs.declared.script.ScriptParts.{ScriptParts}
 use Rattle.ft_model.specs.Calls.{containers_of}
 use Rattle.ft_model.specs.Worlds.{start_hands}
 use Rattle.ft_model.specs.Answers.{answer, is_memory}
-use Rattle.ft_model.specs.Histories.{entries_of, cursors_of, after_entry, hands_at, is_marked, sections_at, after_section, world_at, writes}
+use Rattle.ft_model.specs.Histories.{entries_of, cursors_of, after_stamped, hands_at, is_marked, sections_at, after_section, world_at, writes}
 use Rattle.ft_history.specs.declared.progress.ThreadProgress.{ThreadProgress}
 use Rattle.ft_history.specs.Internal.States.{world_before, BegunSection, all_begun, after_begun, section_of, IsOpen, IsProgress}
 use Rattle.ft_history.proofs.HistoryPlaces.{take_next, filter_next, world_at-before}
 use Rattle.ft_history.proofs.SectionWrites.{sections_next}
+
+-- those that an entry of a history leaves
+abbrev pub after_entry : ScriptParts → List Entry → List (Option Cursor) → Entry → List (Option Cursor)
+after_entry script entries = after_stamped (starts_of script.containers) (writes entries)
 
 -- ---- open sections
 

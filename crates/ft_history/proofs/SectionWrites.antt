@@ -13,8 +13,19 @@ use Rattle.ft_model.specs.declared.call.Call.TheVariants as call
 use Rattle.ft_model.specs.declared.entry.Entry.{Entry}
 use Rattle.ft_model.specs.Calls.{containers_of}
 use Rattle.ft_model.specs.Histories.{Section, after_section, after_numbered, sections_at, disturbs, is_disturbed}
-use Rattle.ft_history.specs.HistoryLaws.{IsUntouchedBetween, IsBegunBefore}
+use Rattle.ft_history.specs.HistoryLaws.{IsUntouchedBetween}
 use Rattle.ft_history.proofs.HistoryPlaces.{take_next, by_places}
+
+-- the section was begun by a `begin` of the thread on its containers, before the place (profile)
+pub record IsBegunBefore (entries : List Entry) (thread place : ℕ) (section : Section) : Type 0 where
+  pub before : section.begun < place
+  pub entry : Entry
+  pub at : slice_get entries section.begun ≡ Some entry
+  pub mine : entry.thread ≡ thread
+  pub first : ℕ
+  pub second : Option ℕ
+  pub call : entry.call ≡ call.Begin first second
+  pub containers : section.containers ≡ containers_of entry.call
 
 -- ---- one entry further
 

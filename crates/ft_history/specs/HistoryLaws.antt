@@ -45,14 +45,3 @@ pub record Matches (entries : List Entry) (begun ended : ℕ) (begin end : Entry
   pub ends : end.call ≡ call.End
   pub thread : begin.thread ≡ end.thread
   pub inner : LeadsTo 0 0 (calls_in entries end.thread (begun + 1) ended)
-
--- the section was begun by a `begin` of the thread on its containers, before the place (profile)
-pub record IsBegunBefore (entries : List Entry) (thread place : ℕ) (section : Section) : Type 0 where
-  pub before : section.begun < place
-  pub entry : Entry
-  pub at : slice_get entries section.begun ≡ Some entry
-  pub mine : entry.thread ≡ thread
-  pub first : ℕ
-  pub second : Option ℕ
-  pub call : entry.call ≡ call.Begin first second
-  pub containers : section.containers ≡ containers_of entry.call

@@ -18,7 +18,8 @@ use Rattle.ft_model.specs.Calls.{is_changing}
 use Rattle.ft_model.specs.Classes.{IsClass}
 use Rattle.ft_model.specs.Histories.{EachAt, writes, cursors_of}
 use Rattle.ft_model.specs.Scripts.{IsScript}
-use Rattle.ft_model.specs.TableUses.{StoredWorld, TableUse, after_stored, is_class, start_stored, start_table, stored_after, table_count, takes, takes_in}
+use Rattle.ft_model.specs.TableUses.{StoredWorld, TableUse, after_stored, is_class, start_table, stored_after, table_count, takes, takes_in}
+use Rattle.ft_history.proofs.AccountLemmas.{start_stored}
 use Rattle.ft_model.specs.Worlds.{starts_of}
 use Rattle.ft_model.proofs.StoredLaws.{takes_push}
 use Rattle.ft_history.proofs.HistoryPlaces.{by_places, writes_next}

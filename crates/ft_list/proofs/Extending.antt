@@ -30,7 +30,8 @@ use Rattle.ft_bank.proofs.KnownAfterWrites.{loaded_held, work_knows}
 use Rattle.ft_list.specs.declared.addition.Addition.{Addition}
 use Rattle.ft_list.specs.declared.addition.Addition.TheVariants.{One, All}
 use Rattle.ft_list.specs.ListWrites.{MayWriteList}
-use Rattle.ft_list.specs.ListItemWrites.{WritesList, IsMoving, IsPutting, known_items, stored_item}
+use Rattle.ft_list.specs.ListItemWrites.{WritesList, IsPutting, known_items, stored_item}
+use Rattle.ft_list.specs.Internal.Moving.{IsMoving}
 use Rattle.ft_list.specs.Internal.Additions.{count_in, first_in, with_added, KnowsItems, IsAddition, IsAdditionTo, GivesItems}
 use Rattle.ft_list.proofs.Lists.{list_content, list_known, list_rooted}
 use Rattle.ft_list.proofs.FinishedWrites.{with_count}

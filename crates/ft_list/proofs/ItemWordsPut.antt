@@ -19,7 +19,8 @@ use Rattle.ft_trace.specs.Pictures.{ContainerWords, item_offset, item_field}
 use Rattle.ft_trace.specs.ItemWords.{value_words, words_at, said_at, OpensChangedItems}
 use Rattle.ft_trace.proofs.Cases.{miss, here}
 use Rattle.ft_trace.proofs.Untouched.{there_is}
-use Rattle.ft_list.specs.ListItemWrites.{PutsItem, IsChanging, IsPutting, IsMoving, stored_item, but_at, stored_words}
+use Rattle.ft_list.specs.ListItemWrites.{PutsItem, IsChanging, IsPutting, stored_item, but_at, stored_words}
+use Rattle.ft_list.specs.Internal.Moving.{IsMoving}
 use Rattle.ft_list.proofs.PutItems.{header_word, past_end}
 
 by : (found : Option Value) → stored_words (option_map_or Plain found Empty) ≡ option_map_or value_words found (0 ∷ 0 ∷ [])

@@ -11,7 +11,7 @@ use Rattle.ft_trace.specs.Addresses.{slots}
 use Rattle.ft_trace.specs.Pictures.{ContainerWords, item_field}
 use Rattle.ft_trace.proofs.Cases.{miss, here}
 use Rattle.ft_list.specs.ListItemWrites.{PutsItem, IsPutting, stored_item, but_at}
-use Rattle.ft_list.specs.Reversing.{IsTurning}
+use Rattle.ft_list.specs.Internal.Reversing.{IsTurning}
 use Rattle.ft_list.proofs.ItemWordsPut.{putting_put, putting_ends, stored_by, stored_none, Changed}
 use Rattle.ft_list.proofs.ValueLists.{reversed_at}
 

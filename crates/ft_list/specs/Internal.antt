@@ -2,3 +2,5 @@
 -- to say what a call does.
 pub mod NewListTables
 pub mod Additions
+pub mod Moving
+pub mod Reversing

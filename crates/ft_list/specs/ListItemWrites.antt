@@ -82,14 +82,6 @@ pub record IsPutting
   pub opens : (p : ℕ) → p < slots class → item_field words p 0 % 2 ≡ 1 → stored_words (now p) ≢ words_at before p
   pub odd : (p : ℕ) → p < slots class → item_field words p 0 % 2 ≡ 1 → (first ≤ p) × (p < past)
 
--- The items are put in order, and those before this place were: it stores what `news` has before it, and what the list
--- had from it on. (profile)
-pub record IsMoving (class : ℕ) (values news : List Value) (first past at : ℕ) (words : List ℕ) : Type 0 where
-  pub now : ℕ → Stored
-  pub putting : IsPutting class values first past now words
-  pub done : (p : ℕ) → p < at → now p ≡ stored_item news p
-  pub rest : (p : ℕ) → at ≤ p → now p ≡ stored_item values p
-
 -- The version of the item at this place is even, and no other word of the list is changed. (profile)
 pub record ClosesItem (place : ℕ) (old new : ContainerWords) : Type 0 where
   pub version : ℕ

@@ -11,7 +11,8 @@ ghost use Rattle.ft_bank.specs.Passes.{shape_of, view, IsPassOf};
 ghost use Rattle.ft_bank.specs.PassSections.{stack_of};
 ghost use Rattle.ft_bank.specs.TableNames.{table_id, root_for, IsTableIn};
 ghost use Rattle.ft_bank.specs.Whole.{OnlyLoaded, OnlyPut};
-ghost use Rattle.ft_list.specs.ListItemWrites.{WritesList, IsPutting, IsMoving, known_items, stored_item};
+ghost use Rattle.ft_list.specs.ListItemWrites.{WritesList, IsPutting, known_items, stored_item};
+ghost use Rattle.ft_list.specs.Internal.Moving.{IsMoving};
 ghost use Rattle.ft_list.specs.Internal.Additions.{count_in, first_in, with_added, GivesItems, IsAdditionTo};
 
 use crate::items::put_item;

@@ -17,7 +17,7 @@ ghost use Rattle.ft_list.specs.ListWrites.{MayWriteList, Changes};
 ghost use Rattle.ft_list.specs.ListItemWrites.{WritesList, IsPutting, known_items, stored_item};
 ghost use Rattle.ft_search.specs.MadeCalls.{MadeAs};
 ghost use Rattle.ft_search.specs.OneEntryWrites.{HasTable};
-ghost use Rattle.ft_list.specs.Reversing.{IsTurning};
+ghost use Rattle.ft_list.specs.Internal.Reversing.{IsTurning};
 
 use crate::bare::write_nothing;
 use crate::items::{finish, item, put_item};

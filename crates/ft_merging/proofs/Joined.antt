@@ -39,7 +39,8 @@ use Rattle.ft_search.proofs.Puts.{table_class}
 use Rattle.ft_search.proofs.OtherValues.{ValueLaws}
 use Rattle.ft_new_keys.specs.declared.counts.Counts.{Counts}
 use Rattle.ft_new_keys.specs.KeyGrowth.{IsFreeFor, holds, most_of}
-use Rattle.ft_new_keys.specs.Placing.{StoresAs, with_entry, with_key}
+use Rattle.ft_new_keys.specs.Placing.{StoresAs, with_key}
+use Rattle.ft_new_keys.specs.Internal.Laying.{with_entry}
 use Rattle.ft_new_keys.proofs.FinishedKeys.{Since, has_since}
 use Rattle.ft_new_keys.proofs.Placed.{PlaceLaws, pair_for, use_with}
 use Rattle.ft_new_keys.proofs.Wanted.{most_few}

@@ -38,7 +38,8 @@ use Rattle.ft_search.proofs.WordPlaces.{slots_of_class}
 use Rattle.ft_search.proofs.Puts.{table_class}
 use Rattle.ft_new_keys.specs.declared.counts.Counts.{Counts}
 use Rattle.ft_new_keys.specs.KeyGrowth.{IsFreeFor}
-use Rattle.ft_new_keys.specs.Placing.{IsUnused, StoresAs, laid, with_entry, with_key}
+use Rattle.ft_new_keys.specs.Placing.{StoresAs, with_key}
+use Rattle.ft_new_keys.specs.Internal.Laying.{IsUnused, laid, with_entry}
 use Rattle.ft_new_keys.proofs.Keyed.{way_is}
 use Rattle.ft_new_keys.proofs.Placed.{Fresh, PlaceLaws, now, opened_now, pair_for, place_unused, right_in, use_with, next_payload, payload_laid, lacks}
 use Rattle.ft_new_keys.proofs.Stages.{At, body, body_puts, body_stage, opened}

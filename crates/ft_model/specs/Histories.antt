@@ -60,10 +60,6 @@ after_stamped starts calls hands entry =
 abbrev pub hands_by : List Start → List Call → ℕ → List Entry → List (Option Cursor)
 hands_by starts calls room mine = fold (after_stamped starts calls) (start_hands room) mine
 
--- those that an entry of a history leaves
-abbrev pub after_entry : ScriptParts → List Entry → List (Option Cursor) → Entry → List (Option Cursor)
-after_entry script entries = after_stamped (starts_of script.containers) (writes entries)
-
 -- the hands of a thread at a place: those that its entries before it leave (profile)
 abbrev pub hands_at : ScriptParts → List Entry → ℕ → ℕ → List (Option Cursor)
 hands_at script entries thread place =

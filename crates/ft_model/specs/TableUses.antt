@@ -278,9 +278,6 @@ takes_newest starts class (call ∷ calls) =
     takes_newest starts class calls + (if is_class class (takes_in (stored_newest starts calls) call) then 1 else 0)
 
 -- of the containers of a script
-abbrev pub start_stored : ScriptParts → StoredWorld
-start_stored script = empty_stored (starts_of script.containers)
-
 abbrev pub stored_after : ScriptParts → List Call → StoredWorld
 stored_after script calls = stored_by (starts_of script.containers) calls
 

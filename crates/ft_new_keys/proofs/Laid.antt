@@ -22,7 +22,7 @@ use Rattle.ft_bank.specs.Whole.{OnlyPut}
 use Rattle.ft_bank.specs.WriteSteps.{IsCareful}
 use Rattle.ft_bank.proofs.KnownAfterWrites.{put_same, put_then, work_knows}
 use Rattle.ft_search.specs.declared.words.TableWords.{TableWords}
-use Rattle.ft_new_keys.specs.Placing.{put_in, laid}
+use Rattle.ft_new_keys.specs.Internal.Laying.{put_in, laid}
 use Rattle.ft_search.specs.TableWords.{SamePlace, KnowsWords, MayMake, MadeAccess}
 use Rattle.ft_search.proofs.KnownTableWords.{put_after_header, put_entry_after_header}
 use Rattle.ft_search.proofs.Running.{ran}

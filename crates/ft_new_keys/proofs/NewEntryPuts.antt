@@ -24,7 +24,8 @@ use Rattle.ft_search.specs.declared.words.TableWords.{TableWords}
 use Rattle.ft_search.specs.TableWords.{KnowsWords, MayMake, MadeAccess}
 use Rattle.ft_search.specs.OneEntryWrites.{WritesEntries, raised_at}
 use Rattle.ft_search.proofs.Puts.{few_places}
-use Rattle.ft_new_keys.specs.Placing.{IsUnused, counted}
+use Rattle.ft_new_keys.specs.Placing.{counted}
+use Rattle.ft_new_keys.specs.Internal.Laying.{IsUnused}
 use Rattle.ft_new_keys.proofs.Laid.{AreCarefulCalls, allows_calls, careful_at}
 use Rattle.ft_new_keys.proofs.Stages.{as_careful, in_time, opened, open_careful, open_odd, place_careful}
 

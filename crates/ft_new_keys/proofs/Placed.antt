@@ -46,7 +46,8 @@ use Rattle.ft_trace.proofs.Known as known
 use Rattle.ft_trace.proofs.Tellings.{word_is}
 use Rattle.ft_new_keys.specs.declared.counts.Counts.{Counts}
 use Rattle.ft_search.specs.Held.{IsHeldAt}
-use Rattle.ft_new_keys.specs.Placing.{StoresAs, with_key, IsUnused, counted, laid, with_entry}
+use Rattle.ft_new_keys.specs.Placing.{StoresAs, with_key, counted}
+use Rattle.ft_new_keys.specs.Internal.Laying.{IsUnused, laid, with_entry}
 use Rattle.ft_search.specs.OneEntryWrites.{raised_at}
 use Rattle.ft_search.proofs.Changing.{Changing}
 use Rattle.ft_search.proofs.KnownTableWords.{after_header}

@@ -17,7 +17,7 @@ use Rattle.ft_trace.specs.Kinds.{under, rows, version_at, CarefulAs, IsKeyed}
 use Rattle.ft_trace.specs.OddVersions.{Timely}
 use Rattle.ft_trace.specs.Pictures.{entry_offset, entry_field}
 use Rattle.ft_trace.proofs.KeyPuts.{Stage, stage_first, stage_next, new_open, new_key, new_value, new_kind, new_index}
-use Rattle.ft_new_keys.specs.Placing.{IsUnused, put_in, laid}
+use Rattle.ft_new_keys.specs.Internal.Laying.{IsUnused, put_in, laid}
 use Rattle.ft_new_keys.proofs.Laid.{IsCarefulCall, AreCarefulCalls}
 
 -- ---- by the kind of the container

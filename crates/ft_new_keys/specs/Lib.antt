@@ -1,3 +1,4 @@
 pub mod Placing
+pub mod Internal
 pub mod Fresh
 pub mod KeyGrowth

@@ -16,7 +16,8 @@ ghost use Rattle.ft_bank.specs.Passes.{shape_of, view, IsPassOf};
 ghost use Rattle.ft_bank.specs.PassSections.{stack_of};
 ghost use Rattle.ft_bank.specs.TableNames.{table_id};
 ghost use Rattle.ft_bank.specs.Whole.{OnlyPut};
-ghost use Rattle.ft_new_keys.specs.Placing.{IsUnused, counted, laid, with_entry, with_pair};
+ghost use Rattle.ft_new_keys.specs.Placing.{counted};
+ghost use Rattle.ft_new_keys.specs.Internal.Laying.{IsUnused, laid, with_entry, with_pair};
 ghost use Rattle.ft_search.specs.TableWords.{CanLoad, MadeAccess, MayMake, MayPutAny, SamePlace};
 ghost use Rattle.ft_search.specs.OneEntryWrites.{WritesEntries};
 

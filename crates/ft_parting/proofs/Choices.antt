@@ -27,7 +27,7 @@ use Rattle.ft_bank.specs.TableNames.{table_id, IsTableIn}
 use Rattle.ft_search.proofs.Puts.{table_class}
 use Rattle.ft_new_keys.specs.Fresh.{HasZeroWords, IsFilledWith}
 use Rattle.ft_new_keys.proofs.FilledTables.{BlankHolds, blank_table}
-use Rattle.ft_parting.specs.Choosing.{HasChosen, IsChosen, apart_pair, at_serials, chosen, is_apart, serial_at}
+use Rattle.ft_parting.specs.Internal.Choosing.{HasChosen, IsChosen, apart_pair, at_serials, chosen, is_apart, serial_at}
 
 -- ---- lists
 

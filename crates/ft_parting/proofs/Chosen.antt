@@ -32,7 +32,7 @@ use Rattle.ft_new_keys.specs.KeyGrowth.{KnowsKeyed}
 use Rattle.ft_new_keys.proofs.Placed.{none_used}
 use Rattle.ft_merging.proofs.ThinningEnds.{is_set}
 use Rattle.ft_merging.proofs.JoinedSame.{known_bare, no_length}
-use Rattle.ft_parting.specs.Choosing.{apart_pair}
+use Rattle.ft_parting.specs.Internal.Choosing.{apart_pair}
 
 -- ---- a set
 

@@ -28,7 +28,7 @@ ghost use Rattle.ft_new_keys.specs.Fresh.{CanFill, FreshMade, HasZeroWords, IsFi
 ghost use Rattle.ft_new_keys.specs.KeyGrowth.{KnowsKeyed};
 ghost use Rattle.ft_new_keys.specs.Placing.{AreCounts};
 ghost use Rattle.ft_merging.specs.Parting.{parted};
-ghost use Rattle.ft_parting.specs.Choosing.{HasChosen, IsChosen, apart_pair, serial_at};
+ghost use Rattle.ft_parting.specs.Internal.Choosing.{HasChosen, IsChosen, apart_pair, serial_at};
 
 use ft_bank::{Bank, Pass, Table};
 use ft_keys::{Found, Way, calls_keep_versions, place_new};

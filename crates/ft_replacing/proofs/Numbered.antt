@@ -26,7 +26,7 @@ use Rattle.ft_new_keys.specs.Fresh.{IsFilledWith}
 use Rattle.ft_new_keys.specs.Placing.{counted}
 use Rattle.ft_new_keys.proofs.FilledTables.{word_here}
 use Rattle.ft_new_keys.proofs.Placed.{counted_head}
-use Rattle.ft_replacing.specs.Replacing.{renumbered}
+use Rattle.ft_replacing.specs.Internal.Numbering.{renumbered}
 
 -- ---- the words
 

@@ -28,11 +28,6 @@ abbrev pub copied : Content → Content → Content
 copied (content.Dict pairs) (content.Dict others) = content.Dict (dict_copy pairs others.pairs)
 copied given others = given
 
--- the words of a table with n index slots once its first entries have serials from this one on (profile)
-abbrev pub renumbered : ℕ → ℕ → ℕ → List ℕ → List ℕ
-renumbered n next zero words = words
-renumbered n next (suc p) words = slice_set (renumbered n next p words) (entry_offset n p 6) (next + p)
-
 -- the table of a container that took a class, if it did, for that many pairs or elements
 abbrev pub replaced_table : Option ℕ → ℕ → TableUse
 replaced_table takes count = option_map_or (λ class. taken class count) takes no_table

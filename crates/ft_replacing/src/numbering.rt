@@ -9,7 +9,7 @@ ghost use Rattle.ft_bank.specs.Passes.{shape_of, view, IsPassOf};
 ghost use Rattle.ft_bank.specs.PassSections.{stack_of};
 ghost use Rattle.ft_bank.specs.TableNames.{table_id, IsTableIn};
 ghost use Rattle.ft_table_calls.specs.Adding.{OnlyFilled};
-ghost use Rattle.ft_replacing.specs.Replacing.{renumbered};
+ghost use Rattle.ft_replacing.specs.Internal.Numbering.{renumbered};
 
 use ft_bank::{Bank, Pass, Table};
 use ft_layout::entry_word;

@@ -10,7 +10,7 @@ use Rattle.std.proofs.lemmas.Slice.{between_is}
 use Rattle.std.proofs.lemmas.Option.{slice_get_within}
 use Rattle.ft_model.specs.declared.entry.Entry.{Entry}
 use Rattle.ft_model.specs.Histories.{Section, after_section, sections_at, disturbs, is_disturbed, is_marked, marks_between}
-use Rattle.ft_history.specs.HistoryLaws.{IsBegunBefore}
+use Rattle.ft_history.proofs.SectionWrites.{IsBegunBefore}
 use Rattle.ft_history.proofs.HistoryPlaces.{take_next}
 use Rattle.ft_history.proofs.SectionWrites.{sections_next, sections_begun}
 

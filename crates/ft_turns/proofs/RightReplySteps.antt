@@ -14,7 +14,8 @@ use Rattle.ft_model.specs.declared.script.ScriptParts.{ScriptParts}
 use Rattle.ft_model.specs.Calls.{is_changing}
 use Rattle.ft_model.specs.Worlds.{start_world, start_hands, no_hands, containers_used}
 use Rattle.ft_model.specs.Answers.{answer, after_write, is_raised, is_memory, is_write}
-use Rattle.ft_model.specs.Histories.{writes, world_at, entries_of, calls_of, cursors_of, after_entry, hands_at, IsReplied, Section, after_section, sections_at}
+use Rattle.ft_history.proofs.ProgressLemmas.{after_entry}
+use Rattle.ft_model.specs.Histories.{writes, world_at, entries_of, calls_of, cursors_of, hands_at, IsReplied, Section, after_section, sections_at}
 use Rattle.ft_history.specs.Internal.States.{world_before}
 use Rattle.ft_history.proofs.HistoryPlaces.{filter_next, writes_next, world_at-before}
 use Rattle.ft_turns.specs.Orders.{ThreadState, fresh_thread, take_locks, thread_at, next_call, without_locks, waiting_machine, sections_after, answered_machine, with_taken, finished_machine}

@@ -8,7 +8,8 @@ use Rattle.ft_trace.specs.ContainerStates.{ContainerState}
 use Rattle.ft_bank.specs.Passes.{shape_of, view}
 use Rattle.ft_bank.specs.TableNames.{table_id}
 use Rattle.ft_bank.proofs.KnownAfterWrites.{put_same, put_then, loaded_held, loaded_put, work_knows}
-use Rattle.ft_list.specs.ListItemWrites.{IsMoving, known_items, stored_item}
+use Rattle.ft_list.specs.ListItemWrites.{known_items, stored_item}
+use Rattle.ft_list.specs.Internal.Moving.{IsMoving}
 use Rattle.ft_list.proofs.Cares.{table_class, few_slots, writes_on}
 use Rattle.ft_list.proofs.Extending.{append_low, append_high, gives_put, root_put}
 use Rattle.ft_list.proofs.ItemWordsPut.{moving_starts, moving_next}

@@ -7,7 +7,8 @@ use Rattle.ft_bank.specs.Passes.{shape_of, view, IsPassOf}
 use Rattle.ft_bank.specs.PassSections.{stack_of}
 use Rattle.ft_bank.specs.TableNames.{table_id, root_for}
 use Rattle.ft_bank.specs.Whole.{OnlyPut}
-use Rattle.ft_list.specs.ListItemWrites.{WritesList, IsMoving, known_items}
+use Rattle.ft_list.specs.ListItemWrites.{WritesList, known_items}
+use Rattle.ft_list.specs.Internal.Moving.{IsMoving}
 use Rattle.ft_list.specs.Internal.Additions.{GivesItems}
 use Rattle.ft_list.proofs.addition.put_from.Given as goal
 

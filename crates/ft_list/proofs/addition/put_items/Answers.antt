@@ -6,7 +6,8 @@ use Rattle.ft_trace.specs.Pictures.{ContainerWords, root_in}
 use Rattle.ft_bank.specs.Passes.{shape_of, view}
 use Rattle.ft_bank.specs.TableNames.{table_id}
 use Rattle.ft_bank.proofs.KnownAfterWrites.{put_then, loaded_held, loaded_put}
-use Rattle.ft_list.specs.ListItemWrites.{IsMoving, IsPutting, stored_item}
+use Rattle.ft_list.specs.ListItemWrites.{IsPutting, stored_item}
+use Rattle.ft_list.specs.Internal.Moving.{IsMoving}
 use Rattle.ft_list.proofs.Cares.{writes_on}
 use Rattle.ft_list.proofs.Extending.{gives_loaded}
 use Rattle.ft_list.proofs.Lists.{items_loaded}

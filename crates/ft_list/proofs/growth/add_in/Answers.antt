@@ -16,7 +16,8 @@ use Rattle.ft_bank.specs.TableNames.{table_id}
 use Rattle.ft_bank.specs.Whole.{OnlyPut}
 use Rattle.ft_bank.proofs.KnownAfterWrites.{put_by, put_then, work_knows}
 use Rattle.ft_list.specs.ListWrites.{Grows}
-use Rattle.ft_list.specs.ListItemWrites.{IsMoving, IsPutting, known_items, stored_item}
+use Rattle.ft_list.specs.ListItemWrites.{IsPutting, known_items, stored_item}
+use Rattle.ft_list.specs.Internal.Moving.{IsMoving}
 use Rattle.ft_list.specs.Internal.Additions.{count_in, first_in, with_added}
 use Rattle.ft_list.specs.Internal.NewListTables.{IsFilled}
 use Rattle.ft_list.proofs.Cares.{few_slots, table_class, writes_on}

@@ -7,7 +7,7 @@ use Rattle.ft_trace.specs.Holds.{held_words}
 use Rattle.ft_bank.specs.Passes.{shape_of, view}
 use Rattle.ft_bank.specs.TableNames.{table_id}
 use Rattle.ft_list.specs.ListItemWrites.{known_items}
-use Rattle.ft_list.specs.Reversing.{IsTurning}
+use Rattle.ft_list.specs.Internal.Reversing.{IsTurning}
 use Rattle.ft_list.proofs.Cares.{table_class}
 use Rattle.ft_list.proofs.Turned.{turning_ends}
 use Rattle.ft_list.proofs.WholeListWrites.{finishing, list_wrote, root_wrote}

@@ -5,7 +5,7 @@ use Rattle.ft_bank.specs.Passes.{shape_of, view}
 use Rattle.ft_bank.specs.TableNames.{table_id}
 use Rattle.ft_bank.proofs.KnownAfterWrites.{put_same, put_then}
 use Rattle.ft_list.specs.ListItemWrites.{IsPutting, stored_item}
-use Rattle.ft_list.specs.Reversing.{IsTurning}
+use Rattle.ft_list.specs.Internal.Reversing.{IsTurning}
 use Rattle.ft_list.proofs.Cares.{table_class}
 use Rattle.ft_list.proofs.Turned.{turning_starts}
 use Rattle.ft_list.proofs.turning.turn.Goals as goal

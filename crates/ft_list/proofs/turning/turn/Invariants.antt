@@ -8,7 +8,7 @@ use Rattle.ft_bank.specs.PassSections.{stack_of}
 use Rattle.ft_bank.specs.TableNames.{table_id}
 use Rattle.ft_bank.specs.Whole.{OnlyPut}
 use Rattle.ft_list.specs.ListItemWrites.{WritesList, IsPutting, stored_item}
-use Rattle.ft_list.specs.Reversing.{IsTurning}
+use Rattle.ft_list.specs.Internal.Reversing.{IsTurning}
 use Rattle.ft_list.proofs.turning.turn.Given as goal
 
 abbrev pub invariant-loop-at : goal.invariant-loop-at

@@ -11,7 +11,8 @@ use Rattle.ft_bank.specs.Passes.{shape_of, view}
 use Rattle.ft_bank.specs.TableNames.{table_id}
 use Rattle.ft_bank.specs.Whole.{OnlyPut}
 use Rattle.ft_bank.proofs.KnownAfterWrites.{put_by, put_then}
-use Rattle.ft_list.specs.ListItemWrites.{IsMoving, known_items}
+use Rattle.ft_list.specs.ListItemWrites.{known_items}
+use Rattle.ft_list.specs.Internal.Moving.{IsMoving}
 use Rattle.ft_list.proofs.Cares.{table_class, writes_on}
 use Rattle.ft_list.proofs.FinishedWrites.{with_count, root_stays}
 use Rattle.ft_list.proofs.ItemWordsPut.{stored_none, moving_ends, long_remove}

@@ -6,7 +6,8 @@ use Rattle.ft_trace.specs.Holds.{held_words}
 use Rattle.ft_bank.specs.Passes.{shape_of, view}
 use Rattle.ft_bank.specs.TableNames.{table_id}
 use Rattle.ft_bank.proofs.KnownAfterWrites.{put_same, put_then, loaded_put}
-use Rattle.ft_list.specs.ListItemWrites.{IsMoving, stored_item}
+use Rattle.ft_list.specs.ListItemWrites.{stored_item}
+use Rattle.ft_list.specs.Internal.Moving.{IsMoving}
 use Rattle.ft_list.proofs.Cares.{table_class}
 use Rattle.ft_list.proofs.ItemWordsPut.{stored_none, moving_starts, moving_further, moving_next, remove_low, remove_past}
 use Rattle.ft_list.proofs.writes.shift_down.Goals as goal

@@ -8,7 +8,8 @@ use Rattle.ft_trace.specs.Holds.{held_words}
 use Rattle.ft_bank.specs.Passes.{shape_of, view}
 use Rattle.ft_bank.specs.TableNames.{table_id}
 use Rattle.ft_bank.proofs.KnownAfterWrites.{put_same, put_then, loaded_put}
-use Rattle.ft_list.specs.ListItemWrites.{IsPutting, IsMoving, stored_item}
+use Rattle.ft_list.specs.ListItemWrites.{IsPutting, stored_item}
+use Rattle.ft_list.specs.Internal.Moving.{IsMoving}
 use Rattle.ft_list.proofs.Cares.{table_class, few_slots}
 use Rattle.ft_list.proofs.ItemWordsPut.{moving_starts, moving_finds, moving_next, insert_low, insert_here, insert_past}
 use Rattle.ft_list.proofs.writes.shift_up.Goals as goal

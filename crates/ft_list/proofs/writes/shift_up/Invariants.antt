@@ -9,7 +9,8 @@ use Rattle.ft_bank.specs.Passes.{shape_of, view, IsPassOf}
 use Rattle.ft_bank.specs.PassSections.{stack_of}
 use Rattle.ft_bank.specs.TableNames.{table_id}
 use Rattle.ft_bank.specs.Whole.{OnlyPut}
-use Rattle.ft_list.specs.ListItemWrites.{WritesList, IsPutting, IsMoving, stored_item}
+use Rattle.ft_list.specs.ListItemWrites.{WritesList, IsPutting, stored_item}
+use Rattle.ft_list.specs.Internal.Moving.{IsMoving}
 use Rattle.ft_list.proofs.writes.shift_up.Given as goal
 
 abbrev pub invariant-loop-at : goal.invariant-loop-at

@@ -29,7 +29,8 @@ use Rattle.ft_search.specs.Rounds.{kind_by}
 use Rattle.ft_search.specs.OneEntryWrites.{WritesEntries}
 use Rattle.ft_search.proofs.OtherValues.{ValueLaws}
 use Rattle.ft_new_keys.specs.declared.counts.Counts.{Counts}
-use Rattle.ft_new_keys.specs.Placing.{IsUnused, StoresAs, with_entry}
+use Rattle.ft_new_keys.specs.Placing.{StoresAs}
+use Rattle.ft_new_keys.specs.Internal.Laying.{IsUnused, with_entry}
 use Rattle.ft_new_keys.proofs.Placed.{PlaceLaws, pair_for}
 use Rattle.ft_merging.specs.Joining.{joined}
 use Rattle.ft_merging.specs.Internal.JoiningSteps.{IsJoining, IsSought, KeepsBelow, pair_in, stored_puts}

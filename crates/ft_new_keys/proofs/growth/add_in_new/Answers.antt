@@ -26,7 +26,8 @@ use Rattle.ft_search.proofs.Puts.{writes_on}
 use Rattle.ft_new_keys.specs.declared.counts.Counts.{Counts}
 use Rattle.ft_new_keys.specs.Fresh.{IsFilledWith}
 use Rattle.ft_new_keys.specs.KeyGrowth.{MayGrowKeyed, IsFreeFor}
-use Rattle.ft_new_keys.specs.Placing.{AreCounts, IsUnused, with_entry, with_key}
+use Rattle.ft_new_keys.specs.Placing.{AreCounts, with_key}
+use Rattle.ft_new_keys.specs.Internal.Laying.{IsUnused, with_entry}
 use Rattle.ft_new_keys.proofs.FinishedKeys.{Since, adds_leaves, key_finishes, since_root}
 use Rattle.ft_new_keys.proofs.Grown.{grow_filled, grown_wrote, leaves_filled, same_filled, filled_has}
 use Rattle.ft_new_keys.proofs.Keyed.{counts_known, use_known}

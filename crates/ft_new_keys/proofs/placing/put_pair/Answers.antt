@@ -13,7 +13,7 @@ use Rattle.ft_bank.specs.Whole.{OnlyPut}
 use Rattle.ft_bank.proofs.KnownAfterWrites.{put_then}
 use Rattle.ft_search.proofs.WordPlaces.{slots_is, places_is}
 use Rattle.ft_search.proofs.Puts.{writes_on}
-use Rattle.ft_new_keys.specs.Placing.{laid, with_pair}
+use Rattle.ft_new_keys.specs.Internal.Laying.{laid, with_pair}
 use Rattle.ft_new_keys.proofs.NewEntryPuts.{pair_opens, pair_allowed}
 use Rattle.ft_new_keys.proofs.placing.put_pair.Goals as goal
 use Rattle.ft_new_keys.proofs.placing.put_pair.Goals.{After-mask_of-mask}

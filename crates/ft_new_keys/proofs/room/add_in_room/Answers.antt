@@ -13,7 +13,8 @@ use Rattle.ft_bank.specs.TableNames.{table_id}
 use Rattle.ft_search.proofs.Changing.{Changing, kind_is}
 use Rattle.ft_search.proofs.ReadyCommits.{whole_write}
 use Rattle.ft_new_keys.specs.KeyGrowth.{KnowsKeyed}
-use Rattle.ft_new_keys.specs.Placing.{IsUnused, with_entry, with_key}
+use Rattle.ft_new_keys.specs.Placing.{with_key}
+use Rattle.ft_new_keys.specs.Internal.Laying.{IsUnused, with_entry}
 use Rattle.ft_new_keys.proofs.FinishedKeys.{key_finishes, since_start}
 use Rattle.ft_new_keys.proofs.Keyed.{counts_known, fresh_known, knows_here, shut_here}
 use Rattle.ft_new_keys.proofs.Placed.{Fresh, PlaceLaws, pair_for, place_unused, places_key, use_with}

@@ -4,7 +4,7 @@ use Rattle.ft_layout.specs.Tables.{UsedEntry}
 use Rattle.ft_bank.specs.Passes.{shape_of, view, IsPassOf}
 use Rattle.ft_bank.specs.PassSections.{stack_of}
 use Rattle.ft_table_calls.specs.Adding.{OnlyFilled}
-use Rattle.ft_parting.specs.Choosing.{IsChosen}
+use Rattle.ft_parting.specs.Internal.Choosing.{IsChosen}
 use Rattle.ft_parting.proofs.choosing.choose_all.Given as goal
 
 abbrev pub invariant-loop-place : goal.invariant-loop-place

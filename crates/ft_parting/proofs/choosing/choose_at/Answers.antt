@@ -28,7 +28,7 @@ use Rattle.ft_search.proofs.Puts.{few_places, table_class}
 use Rattle.ft_new_keys.proofs.FilledTables.{room_of_way}
 use Rattle.ft_new_keys.proofs.Grown.{same_filled}
 use Rattle.ft_merging.proofs.JoinedReads.{knows_loaded, none_found}
-use Rattle.ft_parting.specs.Choosing.{IsChosen, apart_pair, chosen, serial_at}
+use Rattle.ft_parting.specs.Internal.Choosing.{IsChosen, apart_pair, chosen, serial_at}
 use Rattle.ft_parting.proofs.Choices.{chosen_count, chosen_more, chosen_room, chosen_stays, some_apart}
 use Rattle.ft_parting.proofs.choosing.choose_at.Goals as goal
 use Rattle.ft_parting.proofs.choosing.choose_at.Goals.{After-apart_at, In-Some}

@@ -21,7 +21,7 @@ use Rattle.ft_new_keys.proofs.Grown.{knows_filled, same_filled}
 use Rattle.ft_new_keys.proofs.Keyed.{counts_known}
 use Rattle.ft_merging.specs.Parting.{parted}
 use Rattle.ft_merging.proofs.ThinningEnds.{is_set}
-use Rattle.ft_parting.specs.Choosing.{HasChosen, IsChosen, chosen}
+use Rattle.ft_parting.specs.Internal.Choosing.{HasChosen, IsChosen, chosen}
 use Rattle.ft_parting.proofs.Chosen.{set_rule, set_words}
 use Rattle.ft_parting.proofs.Choices.{chosen_new, has_fills}
 use Rattle.ft_parting.proofs.choosing.fill_parted.Goals as goal

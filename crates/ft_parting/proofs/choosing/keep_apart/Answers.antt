@@ -14,7 +14,7 @@ use Rattle.ft_bank.specs.Passes.{shape_of, view}
 use Rattle.ft_bank.specs.TableNames.{table_id}
 use Rattle.ft_new_keys.specs.KeyGrowth.{KnowsKeyed}
 use Rattle.ft_new_keys.proofs.Grown.{same_filled}
-use Rattle.ft_parting.specs.Choosing.{HasChosen, IsChosen, chosen}
+use Rattle.ft_parting.specs.Internal.Choosing.{HasChosen, IsChosen, chosen}
 use Rattle.ft_parting.proofs.Chosen.{none_there, set_rule, set_words}
 use Rattle.ft_parting.proofs.Choices.{blank_has, chosen_own}
 use Rattle.ft_parting.proofs.choosing.keep_apart.Goals as goal

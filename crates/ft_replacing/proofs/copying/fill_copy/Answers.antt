@@ -15,7 +15,7 @@ use Rattle.ft_table_calls.proofs.Rooting.{filled_then}
 use Rattle.ft_new_keys.specs.Fresh.{IsFilledWith}
 use Rattle.ft_new_keys.proofs.FilledTables.{room_of_way}
 use Rattle.ft_new_keys.proofs.Keyed.{counts_known}
-use Rattle.ft_replacing.specs.Replacing.{renumbered}
+use Rattle.ft_replacing.specs.Internal.Numbering.{renumbered}
 use Rattle.ft_replacing.proofs.Numbered.{numbered_filled}
 use Rattle.ft_replacing.proofs.copying.fill_copy.Goals as goal
 use Rattle.ft_replacing.proofs.copying.fill_copy.Goals.{After-words_are_of_one_content}

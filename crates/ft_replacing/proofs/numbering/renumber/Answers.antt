@@ -11,7 +11,7 @@ use Rattle.ft_bank.proofs.TableAddresses.{class_is}
 use Rattle.ft_table_calls.proofs.Rooting.{filled_by, filled_same, filled_then}
 use Rattle.ft_search.proofs.WordPlaces.{slots_of_class}
 use Rattle.ft_new_keys.proofs.FilledTables.{table_is_long}
-use Rattle.ft_replacing.specs.Replacing.{renumbered}
+use Rattle.ft_replacing.specs.Internal.Numbering.{renumbered}
 use Rattle.ft_replacing.proofs.numbering.renumber.Goals as goal
 use Rattle.ft_replacing.proofs.numbering.renumber.Goals.{After-mask_of-slots}
 

@@ -5,7 +5,7 @@ use Rattle.ft_bank.specs.Passes.{view, IsPassOf}
 use Rattle.ft_bank.specs.PassSections.{stack_of}
 use Rattle.ft_bank.specs.TableNames.{table_id}
 use Rattle.ft_table_calls.specs.Adding.{OnlyFilled}
-use Rattle.ft_replacing.specs.Replacing.{renumbered}
+use Rattle.ft_replacing.specs.Internal.Numbering.{renumbered}
 use Rattle.ft_replacing.proofs.numbering.renumber.Given as goal
 
 abbrev pub invariant-loop-place : goal.invariant-loop-place

@@ -6,11 +6,12 @@ use Rattle.ft_trace.specs.Addresses.{heap_bits, box_word, maker_of, place_word_o
 use Rattle.ft_trace.specs.Acts.{view_after}
 use Rattle.ft_trace.specs.Boxes.{made_state, local_count, taken_out, place_to_give, references_held}
 use Rattle.ft_trace.specs.BoxGrants.{BoxesMayBeMade}
+use Rattle.ft_trace.proofs.BoxFilling.{has_put}
 use Rattle.ft_trace.proofs.Cases.{hit, here}
 use Rattle.ft_trace.proofs.NextActions.{next_possible}
 
 pub boxes_may_be_made : BoxesMayBeMade
-boxes_may_be_made v b x y live p is mine not1 not2 none =
+boxes_may_be_made v b x y live p is mine not1 not2 none value =
     let k = v.shape in
     let t = next_possible v live p (λ n. TakePlace b n) (heap_bits (maker_of b) (place_word_of b)) (λ _. refl) (λ _. refl) (λ es id knows. (is, mine, not1, not2)) in
     let f = t.0 in
@@ -26,7 +27,7 @@ boxes_may_be_made v b x y live p is mine not1 not2 none =
           let p4 = next_possible v3 live p3.1 (λ _. PutBox b 3 1) (box_word b 3) (λ _. refl) (λ _. tt) (λ es id knows. (is, omega arith, o1, λ z. omega (arith, z))) in
           let v4 = view_after (PutBox b 3 1) v3 in
           let l4 : local_count b v4.log ≡ 1 = hit b 1 (local_count b v3.log) in
-          let p5 = next_possible v4 live p4.1 (λ _. PublishBox b) (box_word b 0) (λ _. refl) (λ _. tt) (λ es id knows. (is, o1, l4, omega (arith, none))) in
+          let p5 = next_possible v4 live p4.1 (λ _. PublishBox b) (box_word b 0) (λ _. refl) (λ _. tt) (λ es id knows. (is, o1, l4, omega (arith, none), has_put k b x y 1 v1.log o1 value)) in
           let v5 = view_after (PublishBox b) v4 in
           let o5 : made_state b v5.log ≡ 2 = hit b 2 (made_state b v4.log) in
           let h5 : references_held k b v5.log ≡ references_held k b v.log + 1 = hit b (references_held k b v.log + 1) (references_held k b v.log) in

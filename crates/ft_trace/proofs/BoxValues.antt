@@ -41,36 +41,36 @@ box_name k b (joined id v other w ∷ es) valid some_ = box_name k b es valid.0 
 pub box_there : (k : Shape) (b : ℕ) (es : List Event) → Valid k es → references k b es ≢ 0 → 2 ≤ box_state b es
 box_there k b es valid some_ = let c = (boxed k b es valid).counts in referred _ _ _ _ _ _ _ c some_
 
--- what its maker puts into a box that is being made changes no box with a reference
-module _ (k : Shape) (es : List Event) (id : ℕ) (v : View) (b i : ℕ) (valid : Valid k es) (there : get_elem? (run k es).views id ≡ some v) (refs_some : references k b es ≢ 0) (low : i < 4) (not_shared : i ≢ 0) (not_local : i ≢ 3) where
-  up : 2 ≤ box_state b es
-  up = box_there k b es valid refs_some
-
+-- what its maker puts into a box that is being made changes no box that is there
+module _ (k : Shape) (es : List Event) (id : ℕ) (v : View) (b i : ℕ) (valid : Valid k es) (there : get_elem? (run k es).views id ≡ some v) (up : 2 ≤ box_state b es) (low : i < 4) (not_shared : i ≢ 0) (not_local : i ≢ 3) where
   is_name : IsBoxName k b
-  is_name = box_name k b es valid (λ z. let u = up in absurd (omega (arith, u, z)))
+  is_name = box_name k b es valid (λ z. absurd (omega (arith, up, z)))
 
   elsewhere : (c n : ℕ) → n ≢ i → box_word c n ≡ box_word b i → ⊥
   elsewhere c n ne e = ne (cc)
 
   not_making : made_state b v.log ≢ 1
   not_making e =
-      let u = up in
       let m : making_box b v ≡ 1 = here (made_state b v.log) 1 1 0 e in
       let t = total_at (making_box b) (run k es).views id v there in
-      let n = (boxed k b es valid).counts.unmade (λ z. absurd (omega (arith, z, u))) in
+      let n = (boxed k b es valid).counts.unmade (λ z. absurd (omega (arith, z, up))) in
       omega (arith, m, t, n)
 
-  pub value_stays : (a : Act) → May k (run k es) (history es) v a → word k (did id v a ∷ es) (box_word b i) ≡ word k es (box_word b i)
-  value_stays (PutBox c n x) may =
+  pub there_stays : (a : Act) → May k (run k es) (history es) v a → word k (did id v a ∷ es) (box_word b i) ≡ word k es (box_word b i)
+  there_stays (PutBox c n x) may =
       stays k es id v (PutBox c n x) may (box_word b i) (is_name, low)
       (λ (e : box_word c n ≡ box_word b i). let same : c ≡ b = cc in not_making (ap (λ (z : ℕ). made_state z v.log) (sym same) ∙ may.2))
-  value_stays (PublishBox c) may = stays k es id v (PublishBox c) may (box_word b i) (is_name, low) (elsewhere c 0 (λ z. not_shared (sym z)))
-  value_stays (RaiseLocal c x) may = stays k es id v (RaiseLocal c x) may (box_word b i) (is_name, low) (elsewhere c 3 (λ z. not_local (sym z)))
-  value_stays (DropLocal c x) may = stays k es id v (DropLocal c x) may (box_word b i) (is_name, low) (elsewhere c 3 (λ z. not_local (sym z)))
-  value_stays (ClearLocal c) may = stays k es id v (ClearLocal c) may (box_word b i) (is_name, low) (elsewhere c 3 (λ z. not_local (sym z)))
-  value_stays (MergeCounts c d f) may = stays k es id v (MergeCounts c d f) may (box_word b i) (is_name, low) (elsewhere c 0 (λ z. not_shared (sym z)))
-  value_stays (RaiseShared c old f) may = stays k es id v (RaiseShared c old f) may (box_word b i) (is_name, low) (elsewhere c 0 (λ z. not_shared (sym z)))
-  value_stays (RaiseKept c f) may = stays k es id v (RaiseKept c f) may (box_word b i) (is_name, low) (elsewhere c 0 (λ z. not_shared (sym z)))
-  value_stays (DropShared c f) may = stays k es id v (DropShared c f) may (box_word b i) (is_name, low) (elsewhere c 0 (λ z. not_shared (sym z)))
-  value_stays (ReadBox c n f) may = loaded k es id v (ReadBox c n f) (λ z. refl) (box_word b i)
-  value_stays act may = stays k es id v act may (box_word b i) (is_name, low) (λ e. absurd (cc))
+  there_stays (PublishBox c) may = stays k es id v (PublishBox c) may (box_word b i) (is_name, low) (elsewhere c 0 (λ z. not_shared (sym z)))
+  there_stays (RaiseLocal c x) may = stays k es id v (RaiseLocal c x) may (box_word b i) (is_name, low) (elsewhere c 3 (λ z. not_local (sym z)))
+  there_stays (DropLocal c x) may = stays k es id v (DropLocal c x) may (box_word b i) (is_name, low) (elsewhere c 3 (λ z. not_local (sym z)))
+  there_stays (ClearLocal c) may = stays k es id v (ClearLocal c) may (box_word b i) (is_name, low) (elsewhere c 3 (λ z. not_local (sym z)))
+  there_stays (MergeCounts c d f) may = stays k es id v (MergeCounts c d f) may (box_word b i) (is_name, low) (elsewhere c 0 (λ z. not_shared (sym z)))
+  there_stays (RaiseShared c old f) may = stays k es id v (RaiseShared c old f) may (box_word b i) (is_name, low) (elsewhere c 0 (λ z. not_shared (sym z)))
+  there_stays (RaiseKept c f) may = stays k es id v (RaiseKept c f) may (box_word b i) (is_name, low) (elsewhere c 0 (λ z. not_shared (sym z)))
+  there_stays (DropShared c f) may = stays k es id v (DropShared c f) may (box_word b i) (is_name, low) (elsewhere c 0 (λ z. not_shared (sym z)))
+  there_stays (ReadBox c n f) may = loaded k es id v (ReadBox c n f) (λ z. refl) (box_word b i)
+  there_stays act may = stays k es id v act may (box_word b i) (is_name, low) (λ e. absurd (cc))
+
+-- so in one with a reference
+pub value_stays : (k : Shape) (es : List Event) (id : ℕ) (v : View) (b i : ℕ) → Valid k es → get_elem? (run k es).views id ≡ some v → references k b es ≢ 0 → i < 4 → i ≢ 0 → i ≢ 3 → (a : Act) → May k (run k es) (history es) v a → word k (did id v a ∷ es) (box_word b i) ≡ word k es (box_word b i)
+value_stays k es id v b i valid there refs_some = there_stays k es id v b i valid there (box_there k b es valid refs_some)

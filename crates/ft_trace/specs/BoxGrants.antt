@@ -8,7 +8,7 @@ use Rattle.ft_trace.specs.Acts.{view_after}
 use Rattle.ft_trace.specs.Boxes.{made_state, references_held, state_default, state_making}
 use Rattle.ft_trace.specs.Traces.{IsReachable, IsAwake}
 use Rattle.ft_layout.specs.Starts.{kind_word, local_word, payload_word}
-use Rattle.ft_trace.specs.BoxWords.{dead_word, merged_bits}
+use Rattle.ft_trace.specs.BoxWords.{dead_word, merged_bits, IsBoxedValue}
 
 -- what a pass knows that took the place with this word of bits and made a box there
 abbrev pub after_making : View → ℕ → ℕ → ℕ → ℕ → View
@@ -21,12 +21,13 @@ after_making v b f x y =
 abbrev pub after_dropping : View → ℕ → ℕ → View
 after_dropping v b f = view_after (MergeCounts b merged_bits f) (view_after (DropLocal b 0) v)
 
--- A pass whose heap has the place free may make a box there and drop it, whatever other passes do; where nobody else
+-- A pass whose heap has the place free may make a box of a value there and drop it, whatever other passes do; where nobody else
 -- has raised it meanwhile it gives the place back.
 abbrev pub BoxesMayBeMade : Type 0
 BoxesMayBeMade =
     (v : View) (b x y : ℕ) → IsAwake v → IsReachable v → IsBoxName v.shape b → v.number ≡ suc (maker_of b)
     → made_state b v.log ≢ state_making → made_state b v.log ≢ state_default → references_held v.shape b v.log ≡ 0
+    → IsBoxedValue x y
     → (f : ℕ) × IsReachable (view_after (TakePlace b f) v)
     × (bit (place_bit_of b) f ≡ 1
     → IsReachable (after_making v b f x y)

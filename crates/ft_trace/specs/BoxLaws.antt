@@ -18,7 +18,7 @@ use Rattle.ft_trace.specs.HeldBoxes.{HeldSince, SameValue}
 use Rattle.ft_trace.specs.Unboxed.{unboxed, unboxed_picture}
 use Rattle.ft_trace.specs.Traces.{Event, did, run, word, history, StandsFor, Valid}
 use Rattle.ft_layout.specs.Starts.{kind_word, local_word, payload_word, shared_word}
-use Rattle.ft_trace.specs.BoxWords.{box_kind, dead_word}
+use Rattle.ft_trace.specs.BoxWords.{box_kind, dead_word, IsBoxedValue}
 
 -- The counts of a box in the default state add up to its references: what its maker has in the local count or took out
 -- of it in a merge, and the shared count, to which shared_zero is added here. Of a merged box the shared count is the
@@ -79,6 +79,12 @@ abbrev pub HeldValuesStay : Type 0
 HeldValuesStay =
     (k : Shape) (b : ℕ) (es : List Event) → Valid k es → (j : ℕ) (u : View) → get_elem? (run k es).views j ≡ some u
     → (newer rest : List Act) → u.log ≡ newer ++ rest → HeldSince k b newer rest → SameValue k b es j rest
+
+-- a box that is there has a value: its maker put the two words of one before it published the box
+abbrev pub BoxesHaveValues : Type 0
+BoxesHaveValues =
+    (k : Shape) (b : ℕ) (es : List Event) → Valid k es → state_default ≤ box_state b es
+    → IsBoxedValue (word k es (box_word b kind_word)) (word k es (box_word b payload_word))
 
 -- what a container's words read through boxes is changed by its writer alone: drops, merges and makings of boxes by
 -- others, and places given back, leave it

@@ -1,5 +1,9 @@
 -- Words of boxes, and words that name them.
-use Rattle.std.specs.Prelude.{ℕ, ◌+◌, ◌-◌, ◌%◌, ◌^◌}
+use Rattle.std.specs.Prelude.{◌≢◌, ℕ, ◌+◌, ◌-◌, ◌%◌, ◌^◌}
+use Rattle.ft_model.specs.declared.data.Value.{Value}
+use Rattle.ft_model.specs.declared.data.Value.TheVariants as value
+use Rattle.ft_layout.specs.declared.slot.Stored.TheVariants.{Plain}
+use Rattle.ft_layout.specs.Words.{IsStored}
 
 -- The shared word has the shared count, which may be below 0, times this number. The two low bits are 0 in the default
 -- state. (PEP 703, "Biased Reference Counting")
@@ -25,3 +29,9 @@ lowered_word found = (found + (2 ^ 64 - count_unit)) % 2 ^ 64
 -- the kind of a value that stands in a box; its payload names the box (profile)
 abbrev pub box_kind : ℕ
 box_kind = 4
+
+-- the kind and the payload of a value that a box may have: an integer or a string (profile)
+pub record IsBoxedValue (kind payload : ℕ) : Type 0 where
+  pub stored : Value
+  pub some : stored ≢ value.Nothing
+  pub words : IsStored kind payload (Plain stored)

@@ -9,7 +9,7 @@ use Rattle.ft_trace.specs.declared.Act.TheVariants.{Lock, TakeTable, PutTable, P
 use Rattle.ft_trace.specs.declared.Shape.{Shape}
 use Rattle.ft_trace.specs.Bits.{bit}
 use Rattle.ft_layout.specs.Starts.{kind_word, payload_word, local_word}
-use Rattle.ft_trace.specs.BoxWords.{box_kind, dead_word, lowered_word}
+use Rattle.ft_trace.specs.BoxWords.{box_kind, dead_word, lowered_word, IsBoxedValue}
 use Rattle.ft_trace.specs.Addresses.{slots, class_of, container_count, place_bit_of, box_word, at}
 use Rattle.ft_trace.specs.Acts.{has_lock, mem}
 use Rattle.ft_trace.specs.ContainerStates.{kind_in}
@@ -178,6 +178,12 @@ knows_box_word k b i (a ∷ l) =
     cond (times_kept k b (a ∷ l) == 0) false (knows_box_word_next b i a (knows_box_word k b i l))
 
 -- ---- conditions
+
+-- the pass knows the two words of the box's value, which are those of a value that a box may have
+abbrev pub HasPutValue : Shape → ℕ → List Act → Type 0
+HasPutValue k b l =
+    (knows_box_word k b kind_word l ≡ true) × (knows_box_word k b payload_word l ≡ true)
+    × IsBoxedValue (known_box_word k b kind_word l) (known_box_word k b payload_word l)
 
 -- A put may be made only with the references that its words need, and so that the pass holds less than 2 ^ 32 then.
 -- Where the container named a box in no word before it, the pass knows the box's value.

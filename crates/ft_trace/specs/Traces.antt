@@ -26,7 +26,7 @@ use Rattle.ft_trace.specs.Pictures.{table_words, root_of, Represents}
 use Rattle.ft_trace.specs.Kinds.{rows, version_at, SoundAs, CarefulAs, ClearAs, HasVersions}
 use Rattle.ft_trace.specs.OddVersions.{Shut, Timely, Low}
 use Rattle.ft_trace.specs.Unboxed.{unboxed_words, unboxed_picture}
-use Rattle.ft_trace.specs.Boxes.{made_state, local_count, taken_out, place_to_give, references_held, HasReferences, KeepsBox, IsDoneWithBoxes, state_default, state_making}
+use Rattle.ft_trace.specs.Boxes.{made_state, local_count, taken_out, place_to_give, references_held, HasPutValue, HasReferences, KeepsBox, IsDoneWithBoxes, state_default, state_making}
 use Rattle.ft_trace.specs.FitCalls.{FitsCall}
 use Rattle.ft_trace.specs.Causes.{Loaded, HasCause}
 use Rattle.ft_trace.specs.Hands.{cursor_in, MovesCursor}
@@ -260,10 +260,10 @@ May k m cs v (TakePlace b f) =
     × (made_state b v.log ≢ state_default)
 -- a box that it is making
 May k m cs v (PutBox b i x) = IsBoxName k b × (i < box_size) × (made_state b v.log ≡ state_making) × (i ≢ shared_word)
--- with local count 1
+-- with local count 1, once it has put a value there
 May k m cs v (PublishBox b) =
     IsBoxName k b × (made_state b v.log ≡ state_making) × (local_count b v.log ≡ 1)
-    × (references_held k b v.log + 1 < 2 ^ 32)
+    × (references_held k b v.log + 1 < 2 ^ 32) × HasPutValue k b v.log
 -- its own box in the default state
 May k m cs v (RaiseLocal b x) =
     IsBoxName k b

@@ -1,6 +1,6 @@
 //! What holds of boxes in every valid trace, and which steps with boxes may be taken. A box has two counts:
 //! its maker writes one alone, all passes share the other.
-ghost use Rattle.ft_trace.specs.BoxLaws.{ReferencesAreCounted, DeadBoxesHaveNoReference, PlacesAreGivenBackOnce, RaisesAreOfLiveBoxes, LocalCountsAreTheMakers, ReferencedValuesStay, HeldValuesStay, OthersLeaveWhatIsRead, WordsStandThroughBoxes, HoldersKnowWhatIsRead, QuietBoxesStay};
+ghost use Rattle.ft_trace.specs.BoxLaws.{ReferencesAreCounted, DeadBoxesHaveNoReference, PlacesAreGivenBackOnce, RaisesAreOfLiveBoxes, LocalCountsAreTheMakers, ReferencedValuesStay, HeldValuesStay, BoxesHaveValues, OthersLeaveWhatIsRead, WordsStandThroughBoxes, HoldersKnowWhatIsRead, QuietBoxesStay};
 ghost use Rattle.ft_trace.specs.HeapPlaces.{FullWordsHaveNoFreePlace, OwnFreePlacesStay};
 ghost use Rattle.ft_trace.specs.QuietEntries.{QuietEntriesKeepBoxes};
 ghost use Rattle.ft_trace.specs.HeldReads.{HeldHitsAreRight, HeldItemsAreRight};
@@ -44,6 +44,11 @@ pub fn referenced_values_stay()
 /// A box keeps its value as long as a pass holds a reference for it.
 pub fn held_values_stay()
     ensures { HeldValuesStay }
+{}
+
+/// A box that was published has a value, an integer or a string, until its place is given back.
+pub fn boxes_have_values()
+    ensures { BoxesHaveValues }
 {}
 
 /// What the words of a container read through boxes is changed by who writes the container alone.

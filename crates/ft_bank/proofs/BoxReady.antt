@@ -1,14 +1,14 @@
 -- That the steps on boxes may be made, and what they find.
-use Rattle.std.proofs.Common.{◌≡◌, ◌≢◌, ◌⊎◌, ℕ, suc, ◌+◌, ◌*◌, ◌/◌, ◌^◌, ◌<◌, ◌≤◌, true, List, refl, sym, ap, ◌∙◌, subst, arith}
+use Rattle.std.proofs.Common.{◌≡◌, ◌≢◌, ◌⊎◌, ℕ, suc, ◌+◌, ◌*◌, ◌/◌, ◌%◌, ◌^◌, ◌<◌, ◌≤◌, true, List, refl, sym, ap, ◌∙◌, subst, arith}
 use Rattle.ft_trace.specs.declared.Act.TheVariants.{ReadFreePlaces, TakePlace, PutBox, PublishBox, ReadBox, RaiseLocal, DropLocal, ClearLocal, MergeCounts, RaiseShared, RaiseKept, DropShared, GivePlace}
 use Rattle.ft_trace.specs.declared.Shape.{Shape}
 use Rattle.ft_trace.specs.declared.View.{View}
-use Rattle.ft_trace.specs.Addresses.{maker_of, place_bit_of, IsBoxName}
+use Rattle.ft_trace.specs.Addresses.{box_word, maker_of, place_bit_of, IsBoxName}
 use Rattle.ft_trace.specs.Bits.{bit}
-use Rattle.ft_trace.specs.Boxes.{made_state, local_count, taken_out, place_to_give, references_held, known_box_word, knows_box_word, KeepsBox}
+use Rattle.ft_trace.specs.Boxes.{made_state, local_count, taken_out, place_to_give, references_held, known_box_word, knows_box_word, HasPutValue, KeepsBox}
 use Rattle.ft_trace.specs.BoxTraces.{box_state, has_in_default, maker_part}
 use Rattle.ft_trace.specs.Entries.{total}
-use Rattle.ft_trace.specs.Traces.{run, Ready, ReadyAs}
+use Rattle.ft_trace.specs.Traces.{run, word, Ready, ReadyAs}
 use mathlib.Core.Logic.{dite}
 use native.Mathlib.Decide.{ℕ_discrete}
 use Rattle.ft_trace.proofs.BoxBounds.{kept_few}
@@ -18,6 +18,7 @@ use Rattle.ft_trace.proofs.Cases.{here}
 use Rattle.ft_trace.proofs.HeapPlaces.{own_free_places_stay}
 use Rattle.ft_trace.proofs.LocalWords.{local_known}
 use Rattle.ft_trace.proofs.Sums.{total_at}
+use Rattle.ft_bank.proofs.OwnBoxes.{own_state, others_share}
 use Rattle.ft_bank.specs.BoxSteps.{HasFoundFree}
 use Rattle.ft_bank.specs.Rules.{Acted}
 
@@ -37,8 +38,8 @@ module _ (k : Shape) (v : View) (j b : ℕ) (same : v.shape ≡ k) (is : IsBoxNa
   pub put_box_ready : (i x : ℕ) → i < 4 → made_state b v.log ≡ 1 → i ≢ 0 → Ready v j (λ n. PutBox b i x)
   put_box_ready i x low making ne es id knows small = (tt, (its, low, making, ne))
 
-  pub publish_ready : made_state b v.log ≡ 1 → local_count b v.log ≡ 1 → references_held k b v.log + 1 < 2 ^ 32 → Ready v j (λ n. PublishBox b)
-  publish_ready making counted few es id knows small = (tt, (its, making, counted, few_of few))
+  pub publish_ready : made_state b v.log ≡ 1 → local_count b v.log ≡ 1 → references_held k b v.log + 1 < 2 ^ 32 → HasPutValue k b v.log → Ready v j (λ n. PublishBox b)
+  publish_ready making counted few value es id knows small = (tt, (its, making, counted, few_of few, subst (λ (z : Shape). HasPutValue z b v.log) (sym same) value))
 
   pub read_box_ready : (i : ℕ) → i < 4 → Ready v j (λ n. ReadBox b i n)
   read_box_ready i low es id knows small = (refl, (its, low))
@@ -92,6 +93,16 @@ module _ (k : Shape) (v : View) (j b : ℕ) (same : v.shape ≡ k) (is : IsBoxNa
       let few = kept_few s d.0 d.2.0 b in
       let most : total (maker_part b) views ≤ 2 ^ 60 = subst (λ (x : ℕ). total (maker_part b) views ≤ 2 ^ 60 * x) n few in
       (e, omega (arith, e, p, q, most))
+
+  -- whether the pass of this heap has the box in the default state, by its shared word; no other pass has
+  pub state_found : (f : ℕ) → Acted v (ReadBox b 0 f) → v.number ≡ suc (maker_of b) → f ≢ 3 → (f % 4 ≡ 0 → made_state b v.log ≡ 2) × (f % 4 ≢ 0 → made_state b v.log ≢ 2)
+  state_found f d mine live =
+      let e : f ≡ word v.shape d.0 (box_word b 0) = d.2.1.2 in
+      let s = own_state v.shape b its d.0 d.2.0 d.1 v d.2.1.0 mine (λ z. live (e ∙ z)) in
+      ((λ z. s.0 (ap (λ (y : ℕ). y % 4) (sym e) ∙ z)), (λ no. s.1 (λ z. no (ap (λ (y : ℕ). y % 4) e ∙ z))))
+
+  pub share_found : (c i f : ℕ) → Acted v (ReadBox c i f) → v.number ≢ suc (maker_of b) → made_state b v.log ≢ 2
+  share_found c i f d other = others_share v.shape b its d.0 d.2.0 d.1 v d.2.1.0 other
 
   -- a place that was found free and not taken since is free
   pub free_found : (f : ℕ) → v.number ≡ suc (maker_of b) → Acted v (TakePlace b f) → HasFoundFree b v.log → bit (place_bit_of b) f ≡ 1

@@ -18,6 +18,7 @@ pub mod Undisturbed
 pub mod ValuesPut
 pub mod BoxAddresses
 pub mod BoxReady
+pub mod OwnBoxes
 pub mod DoneBoxes
 pub mod NamedBoxes
 pub mod LastLoads

@@ -1,12 +1,12 @@
 //! The steps on boxes: a pass takes a place of its own heap, puts a box there and publishes it. Each reference is
 //! counted once, by the maker in the local count while the box is in the default state, and by all others in the
 //! shared count (PEP 703, "Biased Reference Counting"). Who brings a merged box to its end gives the place back.
-ghost use Rattle.std.specs.Prelude.{◌≡◌, ◌≢◌, ◌⊎◌, ℕ, ◌+◌, ◌-◌, ◌*◌, ◌/◌, ◌^◌, ◌<◌, ◌≤◌, true};
+ghost use Rattle.std.specs.Prelude.{◌≡◌, ◌≢◌, ◌⊎◌, ℕ, ◌+◌, ◌-◌, ◌*◌, ◌/◌, ◌%◌, ◌^◌, ◌<◌, ◌≤◌, true};
 ghost use Rattle.ft_layout.specs.Starts.{box_size, shared_word, kind_word, payload_word, local_word};
 ghost use Rattle.ft_trace.specs.declared.Act.TheVariants.{ReadFreePlaces, TakePlace, PutBox, PublishBox, ReadBox, RaiseLocal, DropLocal, ClearLocal, MergeCounts, RaiseShared, RaiseKept, DropShared, GivePlace};
 ghost use Rattle.ft_trace.specs.Addresses.{at, extent, box_word, heap_bits, maker_of, place_word_of, place_bit_of};
 ghost use Rattle.ft_trace.specs.Bits.{bit};
-ghost use Rattle.ft_trace.specs.Boxes.{made_state, local_count, taken_out, place_to_give, references_held, known_box_word, knows_box_word, KeepsBox, state_making, state_default};
+ghost use Rattle.ft_trace.specs.Boxes.{made_state, local_count, taken_out, place_to_give, references_held, known_box_word, knows_box_word, HasPutValue, KeepsBox, state_making, state_default};
 ghost use Rattle.ft_trace.specs.BoxWords.{count_unit, merged_bits, dead_word};
 ghost use Rattle.ft_bank.specs.BoxSteps.{box_id, IsBoxIn, IsMaking, IsOwn, IsShared, HasFoundFree};
 ghost use Rattle.ft_bank.specs.Whole.{OnlyBoxed, OnlyLoaded};
@@ -112,14 +112,15 @@ impl Bank {
         self.store_as::<Brand>(pass, at, value, name_of(b), 0, word);
     }
 
-    /// Puts 0 into the shared word of a box that the pass has made, whose local count is 1: until then every raise of
-    /// another pass finds a dead box. The pass holds the box's one reference.
+    /// Puts 0 into the shared word of a box that the pass has made, with a value and local count 1: until then every
+    /// raise of another pass finds a dead box. The pass holds the box's one reference.
     pub fn publish_box(&self, pass: &mut Pass, b: Ref)
         requires pass { IsPassOf self.now pass.old }
         requires name { IsBoxIn (shape_of self.now) b }
         requires making { IsMaking b (view pass.old) }
         requires counted { local_count (box_id b) (view pass.old).log ≡ 1 }
         requires few { references_held (shape_of self.now) (box_id b) (view pass.old).log + 1 < 2 ^ 32 }
+        requires value { HasPutValue (shape_of self.now) (box_id b) (view pass.old).log }
         ensures did { Did (PublishBox (box_id b)) pass.old pass.new }
         ensures only { OnlyBoxed (view pass.old) (view pass.new) }
     {
@@ -128,7 +129,8 @@ impl Bank {
     }
 
     /// Loads a word of a box. It is the word that the pass knows, where it knows one, and the local count of a box
-    /// that it made, which is at most 2^60.
+    /// that it made, which is at most 2^60. The low bits of the shared word tell the pass of this heap whether it has
+    /// the box in the default state; no other pass has it so.
     pub fn read_box(&self, pass: &mut Pass, b: Ref, word: u64) -> u64
         requires pass { IsPassOf self.now pass.old }
         requires name { IsBoxIn (shape_of self.now) b }
@@ -139,6 +141,9 @@ impl Bank {
             result ≡ known_box_word (shape_of self.now) (box_id b) word (view pass.old).log }
         ensures local { word ≡ local_word → IsOwn b (view pass.old) →
             (result ≡ local_count (box_id b) (view pass.old).log) × (result ≤ 2 ^ 60) }
+        ensures state { word ≡ shared_word → result ≢ dead_word → (view pass.old).number ≡ b.pass + 1 →
+            (result % 4 ≡ 0 → IsOwn b (view pass.old)) × (result % 4 ≢ 0 → IsShared b (view pass.old)) }
+        ensures other { (view pass.old).number ≢ b.pass + 1 → IsShared b (view pass.old) }
         ensures only { OnlyLoaded (view pass.old) (view pass.new) }
     {
         let at = self.box_at(b, word);

@@ -21,7 +21,7 @@ store_as-requires-clause-ready c =
     let same = c.requires.pass.1 in
     let is = box_named k c.args.b c.args.self.now.fits.heap c.requires.name in
     let j = c.box_at-at.result in
-    subst (λ (z : ℕ). Ready v j (λ n. PublishBox z)) (sym c.name_of.ensures) (publish_ready k v j b same is c.requires.making c.requires.counted c.requires.few)
+    subst (λ (z : ℕ). Ready v j (λ n. PublishBox z)) (sym c.name_of.ensures) (publish_ready k v j b same is c.requires.making c.requires.counted c.requires.few c.requires.value)
 
 pub returns-clause-did : goal.returns-clause-did
 returns-clause-did c =

@@ -1,12 +1,12 @@
-use Rattle.std.proofs.Common.{ℕ, refl, sym, ap, ◌∙◌, subst}
-use Rattle.ft_trace.specs.Addresses.{at, box_word}
+use Rattle.std.proofs.Common.{◌≡◌, ℕ, suc, refl, sym, ap, ◌∙◌, subst, arith}
+use Rattle.ft_trace.specs.Addresses.{at, box_word, maker_of}
 use Rattle.ft_trace.specs.Acts.{view_after}
 use Rattle.ft_trace.specs.Traces.{Ready}
 use Rattle.ft_trace.specs.declared.Act.TheVariants.{ReadBox}
 use Rattle.ft_bank.specs.Passes.{view, shape_of}
 use Rattle.ft_bank.specs.BoxSteps.{box_id}
-use Rattle.ft_bank.proofs.BoxAddresses.{box_named}
-use Rattle.ft_bank.proofs.BoxReady.{read_box_ready, known_found, local_found}
+use Rattle.ft_bank.proofs.BoxAddresses.{box_named, maker_is, place_low}
+use Rattle.ft_bank.proofs.BoxReady.{read_box_ready, known_found, local_found, state_found, share_found}
 use Rattle.ft_bank.proofs.BoxedSteps.{box_loaded}
 use Rattle.ft_bank.specs.Rules.{Acted}
 use Rattle.ft_bank.proofs.bank.Bank.read_box.Goals as goal
@@ -50,3 +50,23 @@ returns-clause-local c third own =
     let same = c.requires.pass.1 in
     let is = box_named k c.args.b c.args.self.now.fits.heap c.requires.name in
     local_found k v 0 b same is c.load_as.result (subst (λ (z : ℕ × ℕ). Acted v (ReadBox z.0 z.1 c.load_as.result)) (λ d. (c.name_of.ensures d, third d)) c.load_as.ensures.acted) own
+
+pub returns-clause-state : goal.returns-clause-state
+returns-clause-state c first live mine =
+    let v = view c.args.pass.now in
+    let k = shape_of c.args.self.now in
+    let b = box_id c.args.b in
+    let same = c.requires.pass.1 in
+    let is = box_named k c.args.b c.args.self.now.fits.heap c.requires.name in
+    let m = maker_is c.args.b (place_low k c.args.b c.args.self.now.fits.heap c.requires.name) in
+    state_found k v 0 b same is c.load_as.result (subst (λ (z : ℕ × ℕ). Acted v (ReadBox z.0 z.1 c.load_as.result)) (λ d. (c.name_of.ensures d, first d)) c.load_as.ensures.acted) (omega (arith, mine, m)) live
+
+pub returns-clause-other : goal.returns-clause-other
+returns-clause-other c other =
+    let v = view c.args.pass.now in
+    let k = shape_of c.args.self.now in
+    let b = box_id c.args.b in
+    let same = c.requires.pass.1 in
+    let is = box_named k c.args.b c.args.self.now.fits.heap c.requires.name in
+    let m = maker_is c.args.b (place_low k c.args.b c.args.self.now.fits.heap c.requires.name) in
+    share_found k v 0 b same is c.name_of.result c.args.word c.load_as.result c.load_as.ensures.acted (λ z. other (omega (arith, z, m)))

@@ -95,10 +95,10 @@ module _ (k : Shape) (v : View) (j b : ℕ) (same : v.shape ≡ k) (is : IsBoxNa
       (e, omega (arith, e, p, q, most))
 
   -- whether the pass of this heap has the box in the default state, by its shared word; no other pass has
-  pub state_found : (f : ℕ) → Acted v (ReadBox b 0 f) → v.number ≡ suc (maker_of b) → f ≢ 3 → (f % 4 ≡ 0 → made_state b v.log ≡ 2) × (f % 4 ≢ 0 → made_state b v.log ≢ 2)
-  state_found f d mine live =
+  pub state_found : (f : ℕ) → Acted v (ReadBox b 0 f) → v.number ≡ suc (maker_of b) → (f % 4 ≡ 0 → made_state b v.log ≡ 2) × (f % 4 ≢ 0 → made_state b v.log ≢ 2)
+  state_found f d mine =
       let e : f ≡ word v.shape d.0 (box_word b 0) = d.2.1.2 in
-      let s = own_state v.shape b its d.0 d.2.0 d.1 v d.2.1.0 mine (λ z. live (e ∙ z)) in
+      let s = own_state v.shape b its d.0 d.2.0 d.1 v d.2.1.0 mine in
       ((λ z. s.0 (ap (λ (y : ℕ). y % 4) (sym e) ∙ z)), (λ no. s.1 (λ z. no (ap (λ (y : ℕ). y % 4) e ∙ z))))
 
   pub share_found : (c i f : ℕ) → Acted v (ReadBox c i f) → v.number ≢ suc (maker_of b) → made_state b v.log ≢ 2

@@ -78,9 +78,9 @@ module _ (k : Shape) (b : ℕ) (is : IsBoxName k b) (es : List Event) (valid : V
   abbrev shared : ℕ
   shared = word k es (box_word b 0)
 
-  -- a box whose shared word isn't that of a dead one is in the default state where the low bits are 0, else merged
-  state_by : shared ≢ 3 → ((shared % 4 ≡ 0) × (box_state b es ≡ 2)) ⊎ ((shared % 4 ≢ 0) × (box_state b es ≢ 2))
-  state_by live =
+  -- it is in the default state where the low bits are 0, and else not
+  state_by : ((shared % 4 ≡ 0) × (box_state b es ≡ 2)) ⊎ ((shared % 4 ≢ 0) × (box_state b es ≢ 2))
+  state_by =
       let x = boxed k b es valid in
       dite (ℕ_discrete (box_state b es) 2)
       (λ (two : box_state b es ≡ 2).
@@ -93,7 +93,8 @@ module _ (k : Shape) (b : ℕ) (is : IsBoxName k b) (es : List Event) (valid : V
       inr ((λ z. let l = sym (ap (λ (y : ℕ). y % 4) w ∙ low_merged _) ∙ z in absurd (omega (arith, l))), no))
       (λ not.
       let small = x.counts.small in
-      absurd (live ((x.word is).none (omega (arith, small, no, not))))))
+      let w = (x.word is).none (omega (arith, small, no, not)) in
+      inr ((λ z. absurd (omega (arith, w, z))), no)))
 
   -- a pass of another number shares the box
   pub others_share : u.number ≢ suc (maker_of b) → made_state b u.log ≢ 2
@@ -115,8 +116,8 @@ module _ (k : Shape) (b : ℕ) (is : IsBoxName k b) (es : List Event) (valid : V
       (λ not. miss (made_state b w.log) 2 1 0 not)) in
       absurd (omega (arith, one, alone, none)))
 
-  pub own_state : u.number ≡ suc (maker_of b) → shared ≢ 3 → (shared % 4 ≡ 0 → made_state b u.log ≡ 2) × (shared % 4 ≢ 0 → made_state b u.log ≢ 2)
-  own_state mine live =
+  pub own_state : u.number ≡ suc (maker_of b) → (shared % 4 ≡ 0 → made_state b u.log ≡ 2) × (shared % 4 ≢ 0 → made_state b u.log ≢ 2)
+  own_state mine =
       ⊎_elim
       (λ (d : (shared % 4 ≡ 0) × (box_state b es ≡ 2)). ((λ _. default_is_own mine d.1), (λ no. absurd (no d.0))))
       (λ (d : (shared % 4 ≢ 0) × (box_state b es ≢ 2)).
@@ -128,4 +129,4 @@ module _ (k : Shape) (b : ℕ) (is : IsBoxName k b) (es : List Event) (valid : V
             let t = total_at (has_in_default b) (run k es).views j u there in
             omega (arith, one, none, t)),
       ))
-      (state_by live)
+      state_by

@@ -141,8 +141,8 @@ impl Bank {
             result ≡ known_box_word (shape_of self.now) (box_id b) word (view pass.old).log }
         ensures local { word ≡ local_word → IsOwn b (view pass.old) →
             (result ≡ local_count (box_id b) (view pass.old).log) × (result ≤ 2 ^ 60) }
-        ensures state { word ≡ shared_word → result ≢ dead_word → (view pass.old).number ≡ b.pass + 1 →
-            (result % 4 ≡ 0 → IsOwn b (view pass.old)) × (result % 4 ≢ 0 → IsShared b (view pass.old)) }
+        ensures state { word ≡ shared_word → (view pass.old).number ≡ b.pass + 1 →
+            (result % count_unit ≡ 0 → IsOwn b (view pass.old)) × (result % count_unit ≢ 0 → IsShared b (view pass.old)) }
         ensures other { (view pass.old).number ≢ b.pass + 1 → IsShared b (view pass.old) }
         ensures only { OnlyLoaded (view pass.old) (view pass.new) }
     {

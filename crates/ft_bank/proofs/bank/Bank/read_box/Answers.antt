@@ -52,14 +52,14 @@ returns-clause-local c third own =
     local_found k v 0 b same is c.load_as.result (subst (λ (z : ℕ × ℕ). Acted v (ReadBox z.0 z.1 c.load_as.result)) (λ d. (c.name_of.ensures d, third d)) c.load_as.ensures.acted) own
 
 pub returns-clause-state : goal.returns-clause-state
-returns-clause-state c first live mine =
+returns-clause-state c first mine =
     let v = view c.args.pass.now in
     let k = shape_of c.args.self.now in
     let b = box_id c.args.b in
     let same = c.requires.pass.1 in
     let is = box_named k c.args.b c.args.self.now.fits.heap c.requires.name in
     let m = maker_is c.args.b (place_low k c.args.b c.args.self.now.fits.heap c.requires.name) in
-    state_found k v 0 b same is c.load_as.result (subst (λ (z : ℕ × ℕ). Acted v (ReadBox z.0 z.1 c.load_as.result)) (λ d. (c.name_of.ensures d, first d)) c.load_as.ensures.acted) (omega (arith, mine, m)) live
+    state_found k v 0 b same is c.load_as.result (subst (λ (z : ℕ × ℕ). Acted v (ReadBox z.0 z.1 c.load_as.result)) (λ d. (c.name_of.ensures d, first d)) c.load_as.ensures.acted) (omega (arith, mine, m))
 
 pub returns-clause-other : goal.returns-clause-other
 returns-clause-other c other =

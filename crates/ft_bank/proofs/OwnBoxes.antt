@@ -120,8 +120,7 @@ module _ (k : Shape) (b : ℕ) (is : IsBoxName k b) (es : List Event) (valid : V
   own_state mine =
       ⊎_elim
       (λ (d : (shared % 4 ≡ 0) × (box_state b es ≡ 2)). ((λ _. default_is_own mine d.1), (λ no. absurd (no d.0))))
-      (λ (d : (shared % 4 ≢ 0) × (box_state b es ≢ 2)).
-      (
+      (λ (d : (shared % 4 ≢ 0) × (box_state b es ≢ 2)). (
         (λ z. absurd (d.0 z)),
         (λ _ two.
             let one : has_in_default b u ≡ 1 = here (made_state b u.log) 2 1 0 two in

@@ -1,9 +1,14 @@
 -- The places of a pass's own heap.
-use Rattle.std.proofs.Common.{◌≡◌, ◌≢◌, ◌⊎◌, ℕ, suc, ◌+◌, ◌-◌, ◌*◌, ◌/◌, ◌%◌, ◌^◌, ◌<◌, ◌≤◌, eqb, Bool, true, false, cond, List, [], ◌∷◌, refl, sym, ap, ◌∙◌, subst, inl, inr, ⊎_elim, arith}
+use Rattle.std.proofs.Common.{◌≡◌, ◌≢◌, ℕ, suc, ◌+◌, ◌-◌, ◌*◌, ◌/◌, ◌%◌, ◌^◌, ◌<◌, ◌≤◌, eqb, Bool, true, false, cond, List, [], ◌∷◌, refl, sym, ap, ◌∙◌, subst, inl, inr, ⊎_elim, arith}
+use mathlib.Core.Logic.{dite}
+use native.Mathlib.Decide.{ℕ_discrete}
 use Rattle.std.proofs.Math.Bridge.{le_prop}
 use Rattle.std.proofs.Math.Logic.{∥∥₁_elim, ∥∥₁_map}
 use Rattle.ft_layout.specs.declared.slot.Ref.{Ref}
+use Rattle.ft_layout.specs.declared.slot.Stored.TheVariants.{Plain}
 use Rattle.ft_layout.specs.Starts.{IsHeap}
+use Rattle.ft_layout.specs.Words.{IsStored}
+use Rattle.ft_model.specs.declared.data.Value.{Value}
 use Rattle.ft_trace.specs.declared.Act.{Act}
 use Rattle.ft_trace.specs.declared.Act.TheVariants.{ReadFreePlaces, TakePlace, ReadBox, RaiseShared}
 use Rattle.ft_trace.specs.declared.Shape.{Shape}
@@ -11,13 +16,13 @@ use Rattle.ft_trace.specs.declared.View.{View}
 use Rattle.ft_trace.specs.Bits.{bit}
 use Rattle.ft_trace.specs.Acts.{view_after}
 use Rattle.ft_trace.specs.Addresses.{maker_of, place_in, place_bit_of, place_word_of, IsBoxName}
-use Rattle.ft_trace.specs.Boxes.{made_state, local_count, taken_out, place_to_give, references_held, known_box_word, knows_box_word}
+use Rattle.ft_trace.specs.Boxes.{made_state, local_count, taken_out, place_to_give, references_held, times_kept, known_box_word, knows_box_word}
 use Rattle.ft_trace.specs.BoxTraces.{box_state, has_in_default, making_box, references, references_held_by}
 use Rattle.ft_trace.specs.BoxWords.{IsBoxedValue}
 use Rattle.ft_trace.specs.Traces.{run, IsReachable}
 use Rattle.ft_trace.proofs.Announcing.{fits}
 use Rattle.ft_trace.proofs.Boxed.{boxed}
-use Rattle.ft_trace.proofs.BoxKnown.{box_known}
+use Rattle.ft_trace.proofs.BoxKnown.{box_known, sure_after, sure_stays}
 use Rattle.ft_trace.proofs.BoxedValues.{boxes_have_values}
 use Rattle.ft_trace.proofs.BoxValues.{box_name, box_there}
 use Rattle.ft_trace.proofs.Budgets.{number_low}
@@ -35,14 +40,18 @@ use Rattle.ft_boxes.specs.declared.held.Raised.{Raised}
 use Rattle.ft_boxes.specs.declared.held.Raised.TheVariants as raised
 use Rattle.ft_boxes.specs.Internal.Places.{FoundWordFull, HasTakenPlace}
 use Rattle.ft_boxes.specs.Making.{FoundFull}
-use Rattle.ft_boxes.specs.Merging.{FoundCounts}
+use Rattle.ft_boxes.specs.Merging.{FoundCounts, MergesIdleBoxes}
 use Rattle.ft_boxes.specs.Raising.{FoundDead, FoundMoved, Raises}
-use Rattle.ft_boxes.specs.References.{HoldsBox, KeepsValues, LeavesOthers}
-use Rattle.ft_boxes.proofs.Steps.{keeps_before, keeps_same, keeps_then, leaves_by, leaves_then, more_then, same_then}
+use Rattle.ft_boxes.specs.References.{HoldsBox, KeepsValues, KnowsValue, LeavesOthers}
+use Rattle.ft_boxes.proofs.Steps.{held_keeps, keeps_before, keeps_same, keeps_then, leaves_by, leaves_then, more_then, same_then}
 
 -- a pass has one of the bank's numbers
 pub number_is_low : (v : View) → ∥ IsReachable v ∥₁ → v.number ≤ v.shape.passes
 number_is_low v possible = ∥∥₁_elim {P = v.number ≤ v.shape.passes} possible le_prop (λ p. number_low v.shape p.0 (fits v.shape p.0 p.2.0).some_pass p.2.0 p.1 v p.2.1)
+
+-- so it has a heap there
+pub own_low : (v : View) (k : Shape) (n : ℕ) → v.shape ≡ k → v.number ≡ n + 1 → v.number ≤ v.shape.passes → n < k.passes
+own_low v k n same number low = let shape = ap (λ (z : Shape). z.passes) same in omega (arith, low, number, shape)
 
 -- a box for which a pass holds a reference is one of the bank
 pub names_held : (v : View) → ∥ IsReachable v ∥₁ → (b : Ref) → HoldsBox b v → IsBoxName v.shape (box_id b)
@@ -303,6 +312,121 @@ found_moved b v x w f g moved first then =
 
 -- ---- loads of words without a free place
 
-pub full_next : (words : ℕ) (u v w : View) → v.number ≡ u.number → FoundFull words u v → FoundWordFull words v w → FoundFull (suc words) u w
+pub full_next : (words : ℕ) (u v w : View) → v.number ≡ u.number → FoundFull words u v → FoundWordFull words v w → FoundFull (words + 1) u w
 full_next words u v w number full word =
-    ap (λ (z : View). z.log) word ∙ (λ d. ReadFreePlaces (number d - 1) words 0 ∷ full d)
+    let one : FoundFull (suc words) u w = ap (λ (z : View). z.log) word ∙ (λ d. ReadFreePlaces (number d - 1) words 0 ∷ full d) in
+    let next : suc words ≡ words + 1 = omega arith in
+    subst (λ (n : ℕ). FoundFull n u w) next one
+
+-- ---- all places of a heap
+
+-- a box by its maker and its place
+pub name_sum : (b m n : ℕ) → maker_of b + 1 ≡ n → n ≡ m + 1 → b ≡ m * 65536 + place_in b
+unfolding maker_of place_in
+name_sum b m n made number = omega (arith, made, number)
+
+pub merges_then : (u v w : View) → OnlyBoxed u v → OnlyBoxed v w → MergesIdleBoxes u v → MergesIdleBoxes v w → MergesIdleBoxes u w
+merges_then u v w first only old next b =
+    ⊎_elim
+    (λ same.
+    ⊎_elim
+    (λ was. inl (same.0 ∙ was.0, same.1 ∙ was.1))
+    (λ merged. inr (same.0 ∙ merged.0, counts_then b 0 u v w merged.1 only))
+    (old b))
+    (λ merged. inr (merged.0, counts_before b 0 u v w first merged.1))
+    (next b)
+
+-- what is left of the boxes at the first places
+pub left_next : (u v w : View) (b : Ref) (m place : ℕ) → box_id b ≡ m * 65536 + place → OnlyBoxed u v → OnlyBoxed v w → LeavesOthers b v w
+    → (made_state (box_id b) w.log ≡ 2 → (total : ℕ) × (total ≢ 0) × FoundCounts (box_id b) total v w)
+    → ((p : ℕ) → p < place → made_state (m * 65536 + p) v.log ≡ 2 → (total : ℕ) × (total ≢ 0) × FoundCounts (m * 65536 + p) total u v)
+    → (p : ℕ) → p < place + 1 → made_state (m * 65536 + p) w.log ≡ 2 → (total : ℕ) × (total ≢ 0) × FoundCounts (m * 65536 + p) total u w
+left_next u v w b m place name first only leaves this old p less own =
+    dite (ℕ_discrete p place)
+    (λ (e : p ≡ place).
+    let is : box_id b ≡ m * 65536 + p = name ∙ omega (arith, e) in
+    let found = this (ap (λ (n : ℕ). made_state n w.log) is ∙ own) in
+    (found.0, found.1, subst (λ (n : ℕ). FoundCounts n found.0 u w) is (counts_before (box_id b) found.0 u v w first found.2)))
+    (λ ne.
+    let other : m * 65536 + p ≢ box_id b = λ z. ne (omega (arith, z, name)) in
+    let found = old p (omega (arith, less, ne)) (sym (leaves.state (m * 65536 + p) other) ∙ own) in
+    (found.0, found.1, counts_then (m * 65536 + p) found.0 u v w found.2 only))
+
+pub merged_next : (v w : View) (b : Ref) (m place : ℕ) → box_id b ≡ m * 65536 + place → LeavesOthers b v w → made_state (box_id b) w.log ≢ 2
+    → ((p : ℕ) → p < place → made_state (m * 65536 + p) v.log ≢ 2)
+    → (p : ℕ) → p < place + 1 → made_state (m * 65536 + p) w.log ≢ 2
+merged_next v w b m place name leaves this old p less own =
+    dite (ℕ_discrete p place)
+    (λ (e : p ≡ place). this (ap (λ (n : ℕ). made_state n w.log) (name ∙ omega (arith, e)) ∙ own))
+    (λ ne.
+    let other : m * 65536 + p ≢ box_id b = λ z. ne (omega (arith, z, name)) in
+    old p (omega (arith, less, ne)) (sym (leaves.state (m * 65536 + p) other) ∙ own))
+
+pub others_next : (u v w : View) (b : Ref) → LeavesOthers b v w → (made_state (box_id b) v.log ≢ 2 → made_state (box_id b) w.log ≡ made_state (box_id b) v.log)
+    → ((c : ℕ) → made_state c u.log ≢ 2 → made_state c v.log ≡ made_state c u.log)
+    → (c : ℕ) → made_state c u.log ≢ 2 → made_state c w.log ≡ made_state c u.log
+others_next u v w b leaves this old c ne =
+    let was = old c ne in
+    dite (ℕ_discrete c (box_id b))
+    (λ (e : c ≡ box_id b).
+    ap (λ (n : ℕ). made_state n w.log) e
+    ∙ (this (λ z. ne (sym was ∙ (ap (λ (n : ℕ). made_state n v.log) e ∙ z))) ∙ (ap (λ (n : ℕ). made_state n v.log) (sym e) ∙ was)))
+    (λ other. leaves.state c other ∙ was)
+
+-- ---- the value in a box
+
+module _ (v x w : View) (b : Ref) (kind payload : ℕ) (held : HoldsBox b v) (first : x ≡ view_after (ReadBox (box_id b) 1 kind) v) (then : w ≡ view_after (ReadBox (box_id b) 2 payload) x) where
+  abbrev k : Shape
+  k = v.shape
+
+  abbrev name : ℕ
+  name = box_id b
+
+  abbrev kind_read : List Act
+  kind_read = ReadBox name 1 kind ∷ v.log
+
+  abbrev both_read : List Act
+  both_read = ReadBox name 2 payload ∷ kind_read
+
+  end : w ≡ view_after (ReadBox name 2 payload) (view_after (ReadBox name 1 kind) v)
+  end = then ∙ ap (view_after (ReadBox name 2 payload)) first
+
+  -- no load takes a reference away
+  kept : times_kept k name both_read ≢ 0
+  kept = held_keeps k name both_read held.1
+
+  knows_kind : knows_box_word k name 1 both_read ≡ true
+  knows_kind =
+      sure_after k name 1 (ReadBox name 2 payload) kind_read kept
+      (sure_stays name 1 (ReadBox name 2 payload) (knows_box_word k name 1 kind_read)
+      (sure_after k name 1 (ReadBox name 1 kind) v.log (held_keeps k name kind_read held.1) (hit name true (knows_box_word k name 1 v.log))))
+
+  knows_payload : knows_box_word k name 2 both_read ≡ true
+  knows_payload = sure_after k name 2 (ReadBox name 2 payload) kind_read kept (hit name true (knows_box_word k name 2 kind_read))
+
+  kind_is : known_box_word k name 1 both_read ≡ kind
+  kind_is = hit name (known_box_word k name 1 kind_read) (known_box_word k name 1 kind_read) ∙ hit name kind (known_box_word k name 1 v.log)
+
+  payload_is : known_box_word k name 2 both_read ≡ payload
+  payload_is = hit name payload (known_box_word k name 2 kind_read)
+
+  pub still_held : HoldsBox b w
+  still_held = subst (HoldsBox b) (sym end) held
+
+  pub knows_value : (value : Value) → IsStored kind payload (Plain value) → KnowsValue b value w
+  knows_value value stored =
+      subst (KnowsValue b value) (sym end)
+      (record {
+        kind = knows_kind;
+        payload = knows_payload;
+        words = subst (λ (z : ℕ × ℕ). IsStored z.0 z.1 (Plain value)) (λ d. (sym kind_is d, sym payload_is d)) stored;
+      })
+
+  -- the two words are those of a value
+  pub is_value : ∥ IsReachable w ∥₁ → ∥ IsBoxedValue kind payload ∥₁
+  is_value possible =
+      ∥∥₁_map
+      (value_there w possible b still_held (subst (λ (z : View). knows_box_word z.shape name 1 z.log ≡ true) (sym end) knows_kind) (subst (λ (z : View). knows_box_word z.shape name 2 z.log ≡ true) (sym end) knows_payload))
+      (λ found.
+      subst (λ (z : ℕ × ℕ). IsBoxedValue z.0 z.1)
+      (λ d. ((subst (λ (z : View). known_box_word z.shape name 1 z.log ≡ kind) (sym end) kind_is) d, (subst (λ (z : View). known_box_word z.shape name 2 z.log ≡ payload) (sym end) payload_is) d)) found)

@@ -1,25 +1,24 @@
 -- What a step on one box leaves of the other boxes, of the references that the pass holds, and of the values that it knows.
-use Rattle.std.proofs.Common.{◌≡◌, ◌≢◌, ◌⊎◌, ℕ, ◌+◌, ◌-◌, ◌%◌, ◌^◌, ◌<◌, eqb, true, cond, List, ◌∷◌, ◌++◌, refl, sym, ap, ◌∙◌, subst, inl, inr, arith}
+use Rattle.std.proofs.Common.{◌≡◌, ◌≢◌, ◌⊎◌, ℕ, ◌+◌, ◌-◌, ◌%◌, ◌^◌, ◌<◌, eqb, cond, List, ◌∷◌, refl, sym, ap, ◌∙◌, subst, inl, inr, arith}
 use mathlib.Core.Logic.{dite}
 use native.Mathlib.Decide.{ℕ_discrete}
 use Rattle.ft_layout.specs.declared.slot.Ref.{Ref}
 use Rattle.ft_layout.specs.declared.slot.Stored.TheVariants.{Plain}
 use Rattle.ft_layout.specs.Words.{IsStored}
-use Rattle.ft_model.specs.declared.data.Value.{Value}
 use Rattle.ft_trace.specs.declared.Act.{Act}
 use Rattle.ft_trace.specs.declared.Act.TheVariants.{TakePlace, PutBox, PublishBox, ReadBox, RaiseLocal, DropLocal, ClearLocal, MergeCounts, RaiseShared, RaiseKept, DropShared, GivePlace}
 use Rattle.ft_trace.specs.declared.Shape.{Shape}
 use Rattle.ft_trace.specs.declared.View.{View}
 use Rattle.ft_trace.specs.Bits.{bit}
 use Rattle.ft_trace.specs.Addresses.{place_bit_of, IsBoxName}
-use Rattle.ft_trace.specs.Acts.{view_after, mem}
-use Rattle.ft_trace.specs.Boxes.{made_state, made_state_next, local_count, local_count_next, taken_out, taken_out_next, place_to_give, place_to_give_next, references_held, references_held_next, times_kept, known_box_word, known_box_word_next, knows_box_word}
+use Rattle.ft_trace.specs.Acts.{view_after}
+use Rattle.ft_trace.specs.Boxes.{made_state, made_state_next, local_count, local_count_next, taken_out, taken_out_next, place_to_give, place_to_give_next, references_held, times_kept, known_box_word, known_box_word_next, knows_box_word}
 use Rattle.ft_trace.specs.BoxWords.{lowered_word}
 use Rattle.ft_trace.proofs.BoxKnown.{sure_after, sure_stays}
 use Rattle.ft_trace.proofs.Cases.{here, miss}
 use Rattle.ft_bank.specs.BoxSteps.{box_id}
 use Rattle.ft_bank.specs.SameBoxes.{KnowsBoxes, SameMade, SameReferences}
-use Rattle.ft_boxes.specs.References.{HoldsBox, HoldsOneMore, HoldsOneLess, KeepsValues, KnowsValue, LeavesOthers}
+use Rattle.ft_boxes.specs.References.{HoldsBox, HoldsOneMore, HoldsOneLess, KeepsValues, LeavesOthers}
 use Rattle.ft_boxes.specs.Settled.{IsSettled}
 
 -- ---- other boxes

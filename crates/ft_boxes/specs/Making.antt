@@ -1,5 +1,5 @@
 -- What it comes to to make a box.
-use Rattle.std.specs.Prelude.{◌≡◌, ◌≢◌, ℕ, zero, suc, ◌+◌, ◌-◌, ◌/◌, List, [], ◌∷◌, ◌++◌}
+use Rattle.std.specs.Prelude.{◌≡◌, ℕ, zero, suc, ◌+◌, ◌-◌, ◌/◌, List, [], ◌∷◌, ◌++◌}
 use Rattle.ft_layout.specs.declared.slot.Ref.{Ref}
 use Rattle.ft_model.specs.declared.data.Value.{Value}
 use Rattle.ft_trace.specs.declared.Act.{Act}
@@ -7,7 +7,6 @@ use Rattle.ft_trace.specs.declared.Act.TheVariants.{ReadFreePlaces}
 use Rattle.ft_trace.specs.declared.View.{View}
 use Rattle.ft_trace.specs.Boxes.{local_count, references_held}
 use Rattle.ft_bank.specs.BoxSteps.{box_id, IsBoxIn, IsOwn}
-use Rattle.ft_boxes.specs.declared.held.Held.{Held}
 use Rattle.ft_boxes.specs.declared.held.Made.{Made}
 use Rattle.ft_boxes.specs.declared.held.Made.TheVariants as made
 use Rattle.ft_boxes.specs.References.{box_of, HoldsOneMore, KnowsValue, LeavesOthers}

@@ -9,7 +9,6 @@ use Rattle.ft_trace.specs.BoxWords.{dead_word}
 use Rattle.ft_bank.specs.BoxSteps.{box_id}
 use Rattle.ft_bank.specs.Logs.{WasLog}
 use Rattle.ft_bank.specs.SameBoxes.{SameReferences}
-use Rattle.ft_boxes.specs.declared.held.Held.{Held}
 use Rattle.ft_boxes.specs.declared.held.Raised.{Raised}
 use Rattle.ft_boxes.specs.declared.held.Raised.TheVariants as raised
 use Rattle.ft_boxes.specs.References.{box_of, HoldsOneMore}

@@ -63,12 +63,14 @@ fn take_free(bank: &Bank, pass: &mut Pass) -> Option<Ref>
     ensures sections { stack_of pass.new ≡ stack_of pass.old }
     ensures only { OnlyBoxed (view pass.old) (view pass.new) }
     ensures taken { IfSome result (λ b. HasTakenPlace b (view pass.old) (view pass.new)) }
-    ensures full { IfNone result (FoundHeapFull (view pass.old) (view pass.new)) }
+    ensures full { IfNone result (FoundHeapFull (view pass.old) (view pass.new)
+        × SameBoxes (view pass.old) (view pass.new)) }
     ensures values { KeepsValues (view pass.old) (view pass.new) }
 {
     for word in 0..bank.heap() / BITS {
-        if let Some(b) = take_in(bank, pass, word) {
-            return Some(b);
+        match take_in(bank, pass, word) {
+            Some(b) => return Some(b),
+            None => {}
         }
     }
     None

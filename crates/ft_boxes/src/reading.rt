@@ -1,5 +1,7 @@
 //! The values in boxes are read.
-ghost use Rattle.std.specs.Prelude.{◌≡◌};
+ghost use Rattle.std.specs.Prelude.{◌≡◌, ◌↔◌, Some};
+ghost use Rattle.ft_layout.specs.declared.slot.Stored.TheVariants.{Plain};
+ghost use Rattle.ft_layout.specs.Words.{IsStored};
 ghost use Rattle.ft_model.specs.declared.data.Value.{Value};
 ghost use Rattle.ft_bank.specs.Passes.{shape_of, view, IsPassOf};
 ghost use Rattle.ft_bank.specs.PassSections.{stack_of};
@@ -29,9 +31,29 @@ pub fn value(bank: &Bank, pass: &mut Pass, held: &Held) -> Value
 {
     let kind = bank.read_box(pass, held.at, KIND);
     let payload = bank.read_box(pass, held.at, PAYLOAD);
-    match item_of(&[0, kind, payload, 0]) {
-        Some(Stored::Plain(value)) => value,
+    let Some(value) = value_of(kind, payload) else {
         // A box that was published has a value.
-        Some(Stored::Empty | Stored::Boxed(_)) | None => unreachable!(),
+        unreachable!()
+    };
+    value
+}
+
+/// The value that is stored in place, if one is.
+fn plain_of(stored: Stored) -> Option<Value>
+    ensures { (value : Value) → (stored ≡ Plain value) ↔ (result ≡ Some value) }
+{
+    match stored {
+        Stored::Plain(value) => Some(value),
+        Stored::Empty | Stored::Boxed(_) => None,
+    }
+}
+
+/// The value that a kind and a payload stand for, if they stand for one.
+fn value_of(kind: u64, payload: u64) -> Option<Value>
+    ensures { (value : Value) → IsStored kind payload (Plain value) ↔ (result ≡ Some value) }
+{
+    match item_of(&[0, kind, payload, 0]) {
+        Some(stored) => plain_of(stored),
+        None => None,
     }
 }

@@ -1,24 +1,19 @@
-use Rattle.std.proofs.Common.{◌≡◌, ℕ, ◌+◌, ◌*◌, ◌<◌, ◌≤◌, sym, ap, ◌∙◌, subst, arith}
+use Rattle.std.proofs.Common.{ℕ, ◌+◌, ◌*◌, sym, ap, ◌∙◌, subst, arith}
 use Rattle.std.specs.Int.{w64, trailing_zeros}
 use Rattle.ft_layout.specs.declared.slot.Ref.{Ref}
 use Rattle.ft_layout.specs.Starts.{IsHeap}
 use Rattle.ft_trace.specs.declared.Shape.{Shape}
-use Rattle.ft_trace.specs.declared.View.{View}
 use Rattle.ft_trace.specs.Bits.{bit}
 use Rattle.ft_bank.specs.BoxSteps.{IsBoxIn}
 use Rattle.ft_bank.specs.Passes.{shape_of, view}
 use Rattle.ft_bank.proofs.Freeing.{lowest_set}
-use Rattle.ft_boxes.proofs.Heaps.{apart, found_free, name_found, number_is_low, place_taken}
+use Rattle.ft_boxes.proofs.Heaps.{apart, found_free, name_found, number_is_low, own_low, place_taken}
 use Rattle.ft_boxes.proofs.making.take_in.Goals as goal
-
--- the pass has a heap in the bank
-low_number : (v : View) (k : Shape) (n : ℕ) → v.shape ≡ k → v.number ≡ n + 1 → v.number ≤ v.shape.passes → n < k.passes
-low_number v k n same number low = let shape = ap (λ (z : Shape). z.passes) same in omega (arith, low, number, shape)
 
 pub read_free_places-free-requires-clause-maker : goal.read_free_places-free-requires-clause-maker
 read_free_places-free-requires-clause-maker c =
     let v = view c.args.pass.now in
-    low_number v (shape_of c.args.bank.now) c.number-maker.result c.requires.pass.1 c.number-maker.ensures.number (number_is_low v c.number-maker.ensures.possible)
+    own_low v (shape_of c.args.bank.now) c.number-maker.result c.requires.pass.1 c.number-maker.ensures.number (number_is_low v c.number-maker.ensures.possible)
 
 pub take_place-requires-clause-name : goal.take_place-requires-clause-name
 take_place-requires-clause-name c =
@@ -27,7 +22,7 @@ take_place-requires-clause-name c =
     let f = c.read_free_places-free.result in
     let free = lowest_set f c.if-free-eq0.false c.read_free_places-free.type_inv in
     name_found k c.number-maker.result c.args.word (trailing_zeros w64 f)
-    (low_number v k c.number-maker.result c.requires.pass.1 c.number-maker.ensures.number (number_is_low v c.number-maker.ensures.possible))
+    (own_low v k c.number-maker.result c.requires.pass.1 c.number-maker.ensures.number (number_is_low v c.number-maker.ensures.possible))
     c.requires.word free.0
 
 pub take_place-requires-clause-apart : goal.take_place-requires-clause-apart
@@ -40,7 +35,7 @@ take_place-requires-clause-apart c =
     let free = lowest_set f c.if-free-eq0.false c.read_free_places-free.type_inv in
     let small = free.0 in
     let name = name_found k c.number-maker.result c.args.word (trailing_zeros w64 f)
-    (low_number v k c.number-maker.result c.requires.pass.1 c.number-maker.ensures.number (number_is_low v c.number-maker.ensures.possible))
+    (own_low v k c.number-maker.result c.requires.pass.1 c.number-maker.ensures.number (number_is_low v c.number-maker.ensures.possible))
     c.requires.word free.0 in
     apart v x x b f f c.args.word c.read_free_places-free.new.pass.possible
     (subst (λ (z : Shape). IsHeap z.heap) (sym c.requires.pass.1) c.args.bank.now.fits.heap)
@@ -61,7 +56,7 @@ returns-clause-taken c =
     let small = free.0 in
     let name = subst (λ (z : Shape). IsBoxIn z b) (sym c.requires.pass.1)
     (name_found k c.number-maker.result c.args.word (trailing_zeros w64 f)
-    (low_number v k c.number-maker.result c.requires.pass.1 c.number-maker.ensures.number (number_is_low v c.number-maker.ensures.possible))
+    (own_low v k c.number-maker.result c.requires.pass.1 c.number-maker.ensures.number (number_is_low v c.number-maker.ensures.possible))
     c.requires.word free.0) in
     let heap = subst (λ (z : Shape). IsHeap z.heap) (sym c.requires.pass.1) c.args.bank.now.fits.heap in
     let set = ap (λ (z : ℕ). bit z f) (omega (arith, small)) ∙ free.1 in

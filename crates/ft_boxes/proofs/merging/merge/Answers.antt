@@ -1,4 +1,4 @@
-use Rattle.std.proofs.Common.{◌≡◌, ℕ, refl, ap}
+use Rattle.std.proofs.Common.{refl, ap}
 use Rattle.ft_trace.specs.declared.View.{View}
 use Rattle.ft_trace.specs.Boxes.{references_held}
 use Rattle.ft_trace.specs.declared.Act.TheVariants.{MergeCounts, GivePlace}

@@ -1,4 +1,3 @@
-use Rattle.std.proofs.Common.{refl}
 use Rattle.ft_bank.specs.Passes.{view}
 use Rattle.ft_bank.proofs.KnownAfterWrites.{boxed_then}
 use Rattle.ft_boxes.proofs.Heaps.{first_then, raises_before}

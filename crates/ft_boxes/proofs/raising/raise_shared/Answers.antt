@@ -1,10 +1,3 @@
-use Rattle.std.proofs.Common.{sym, ap, ◌∙◌}
-use Rattle.ft_trace.specs.declared.Act.TheVariants.{ReadBox, RaiseShared}
-use Rattle.ft_trace.specs.declared.View.{View}
-use Rattle.ft_trace.specs.Acts.{view_after}
-use Rattle.ft_trace.specs.Boxes.{references_held}
-use Rattle.ft_trace.proofs.Cases.{miss}
-use Rattle.ft_bank.specs.BoxSteps.{box_id}
 use Rattle.ft_bank.specs.Passes.{view}
 use Rattle.ft_boxes.proofs.Heaps.{found_dead, found_moved}
 use Rattle.ft_boxes.proofs.raising.raise_shared.Goals as goal

@@ -1,4 +1,4 @@
-use Rattle.std.proofs.Common.{refl, ap}
+use Rattle.std.proofs.Common.{refl}
 use Rattle.ft_trace.specs.declared.Act.TheVariants.{DropLocal}
 use Rattle.ft_bank.specs.BoxSteps.{box_id}
 use Rattle.ft_bank.specs.Passes.{view}

@@ -20,8 +20,8 @@ const KIND: u64 = 1;
 const PAYLOAD: u64 = 2;
 
 const LOCAL: u64 = 3;
-/// The kind of an integer.
-const INTEGER: u64 = 1;
+/// The kind of a string.
+const STRING: u64 = 3;
 /// What the shared word of a merged box has for one reference, and where there is none: the box is dead.
 const LAST: u64 = 7;
 
@@ -36,9 +36,9 @@ fn free_places(bank: &Bank, pass: &mut Pass) -> u64
     bank.read_free_places(pass, 0, 0)
 }
 
-/// The first pass makes a box of an integer at place 5 of its heap, all of which is free, and publishes it. Says
+/// The first pass makes a box of a string at place 5 of its heap, all of which is free, and publishes it. Says
 /// whether it did.
-fn make_box(bank: &Bank, pass: &mut Pass, value: u64) -> bool
+fn make_box(bank: &Bank, pass: &mut Pass, string: u32) -> bool
     requires opening { IsOpening bank.now 0 pass.old }
     requires heap { HasPlace (shape_of bank.now) }
     ensures pass { IsPassOf bank.now pass.new }
@@ -49,8 +49,8 @@ fn make_box(bank: &Bank, pass: &mut Pass, value: u64) -> bool
         return false;
     }
     bank.take_place(pass, b);
-    bank.put_box(pass, b, KIND, INTEGER);
-    bank.put_box(pass, b, PAYLOAD, value);
+    bank.put_box(pass, b, KIND, STRING);
+    bank.put_box(pass, b, PAYLOAD, u64::from(string));
     bank.put_box(pass, b, LOCAL, 1);
     bank.publish_box(pass, b);
     true

@@ -14,6 +14,15 @@ pub struct Held {
     pub(crate) at: Ref,
 }
 
+impl Held {
+    /// The box.
+    pub fn at(&self) -> Ref
+        ensures { result ≡ box_of self.now }
+    {
+        self.at
+    }
+}
+
 /// What making a box comes to.
 #[derive(Debug)]
 pub enum Made {

@@ -8,6 +8,7 @@
 #![tactic(auto)]
 
 mod held;
+mod laws;
 mod making;
 mod merging;
 mod raising;
@@ -15,6 +16,7 @@ mod reading;
 mod releasing;
 
 pub use crate::held::{Held, Made, Raised, keep, taken};
+pub use crate::laws::new_passes_are_settled;
 pub use crate::making::make;
 pub use crate::merging::{merge_all, merge_idle};
 pub use crate::raising::{raise, raise_kept};

@@ -1,0 +1,81 @@
+//! Four passes in a thread each raise and drop ten boxes of the first pass, over and over.
+ghost use Rattle.std.specs.Prelude.{◌≡◌, IfOk};
+ghost use Rattle.ft_bank.specs.Passes.{shape_of, view, IsPassOf};
+ghost use Rattle.ft_boxes.specs.Settled.{IsSettled};
+ghost use Rattle.ft_boxes_tests.specs.Holdings.{AreNames, HoldsEach, IsCounter, MayHoldMore};
+
+use crate::banks::small;
+use ft_bank::{Bank, Pass};
+use ft_bank_tests::bank_of;
+use ft_boxes::{Made, Raised, keep, make, new_passes_are_settled, raise, release, taken, value};
+use ft_layout::Ref;
+use ft_model::Value;
+use std::alloc::{AllocError, Global};
+use std::test::Fail;
+use std::thread;
+
+/// How many boxes there are, and how often each pass raises one and drops it.
+const BOXES: u32 = 10;
+
+const ROUNDS: usize = 25_000;
+
+/// The value of the first box; that of each other one is greater by 1 than the one before.
+const FIRST: i64 = 1000;
+
+/// Makes ten boxes. Fewer where the heap is full.
+fn make_ten(alloc: Global, bank: &Bank, pass: &mut Pass) -> Result<Vec<Ref>, AllocError>
+    requires pass { IsPassOf bank.now pass.old }
+    requires settled { IsSettled (view pass.old) }
+    requires may { MayHoldMore 1000 (view pass.old) }
+    ensures pass { IsPassOf bank.now pass.new }
+    ensures settled { IsSettled (view pass.new) }
+    ensures held { IfOk result (λ boxes. HoldsEach boxes.items (view pass.new)) }
+{
+    let mut boxes = Vec::new(alloc);
+    for number in 0..BOXES {
+        match make(bank, pass, Value::Int(FIRST + i64::from(number))) {
+            Made::Up(held) => {
+                let b = keep(bank, pass, held);
+                boxes.push(b)?;
+            }
+            Made::HeapFull => {}
+        }
+    }
+    Ok(boxes)
+}
+
+/// Raises a box and drops it again. Says whether it was alive and had this value.
+fn visit(bank: &Bank, pass: &mut Pass, b: Ref, expected: i64) -> bool
+    requires counter { IsCounter bank.now pass.old }
+    requires name { IsBoxIn (shape_of bank.now) b }
+    ensures counter { IsCounter bank.now pass.new }
+    ensures same { SameReferences (view pass.old) (view pass.new) }
+{
+    match raise(bank, pass, b) {
+        Raised::Up(held) => {
+            let found = value(bank, pass, &held);
+            release(bank, pass, held);
+            found == Value::Int(expected)
+        }
+        Raised::Dead => false,
+        // Another pass changed the count in between: the same raise comes later.
+        Raised::Moved(_, _) => true,
+    }
+}
+
+/// That many visits, one box after the other. How many of them found what they shouldn't.
+fn work(bank: &Bank, pass: &mut Pass, boxes: &[Ref], rounds: usize) -> u32
+    requires counter { IsCounter bank.now pass.old }
+    requires names { AreNames (shape_of bank.now) boxes.now }
+    ensures counter { IsCounter bank.now pass.new }
+    ensures same { SameReferences (view pass.old) (view pass.new) }
+{
+    let mut wrong = 0u32;
+    for round in 0..rounds {
+        let number = round % boxes.len();
+        if !visit(bank, pass, boxes[number], FIRST + number as i64) {
+            wrong = wrong.saturating_add(1);
+        }
+    }
+    wrong
+}

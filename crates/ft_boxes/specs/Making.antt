@@ -7,6 +7,7 @@ use Rattle.ft_trace.specs.declared.Act.TheVariants.{ReadFreePlaces}
 use Rattle.ft_trace.specs.declared.View.{View}
 use Rattle.ft_trace.specs.Boxes.{local_count, references_held}
 use Rattle.ft_bank.specs.BoxSteps.{box_id, IsBoxIn, IsOwn}
+use Rattle.ft_bank.specs.SameBoxes.{SameBoxes}
 use Rattle.ft_boxes.specs.declared.held.Made.{Made}
 use Rattle.ft_boxes.specs.declared.held.Made.TheVariants as made
 use Rattle.ft_boxes.specs.References.{box_of, HoldsOneMore, KnowsValue, LeavesOthers}
@@ -39,4 +40,4 @@ FoundHeapFull v w = FoundFull (v.shape.heap / 64) v w
 -- what making a box of the value answers, from the view v to w
 abbrev pub Makes : Value → View → View → Made → Type 0
 Makes value v w (made.Up held) = HasMade (box_of held) value v w
-Makes value v w made.HeapFull = FoundHeapFull v w
+Makes value v w made.HeapFull = FoundHeapFull v w × SameBoxes v w

@@ -1,7 +1,8 @@
 //! A heap whose places are all taken, and a place that comes back once both passes have let its box go.
 ghost use Rattle.ft_bank.specs.Passes.{shape_of, view, IsPassOf};
+ghost use Rattle.ft_boxes.specs.References.{HoldsBox, box_of};
 ghost use Rattle.ft_boxes.specs.Settled.{IsSettled};
-ghost use Rattle.ft_boxes_tests.specs.Holdings.{HoldsUpTo, MayHoldMore};
+ghost use Rattle.ft_boxes_tests.specs.Holdings.{HoldsUpTo, IfUp, MayHoldMore};
 
 use crate::banks::small;
 use ft_bank::{Bank, Pass};
@@ -21,9 +22,12 @@ fn fill(bank: &Bank, pass: &mut Pass, most: u32) -> u32
 {
     let mut made = 0;
     for _ in 0..most {
-        if let Made::Up(held) = make(bank, pass, Value::Int(1000)) {
-            keep(bank, pass, held);
-            made += 1;
+        match make(bank, pass, Value::Int(1000)) {
+            Made::Up(held) => {
+                keep(bank, pass, held);
+                made += 1;
+            }
+            Made::HeapFull => {}
         }
     }
     made
@@ -37,21 +41,33 @@ fn has_one_place(bank: &Bank, first: &mut Pass, second: &mut Pass) -> bool
     requires may { MayHoldMore 1000 (view first.old) × MayHoldMore 1000 (view second.old) }
     ensures passes { IsPassOf bank.now first.new × IsPassOf bank.now second.new }
 {
-    let Made::Up(held) = make(bank, first, Value::Text(Sym(7))) else {
-        return false;
-    };
-    let full = fill(bank, first, 1) == 0;
-    let raised = raise(bank, second, held.at());
-    release(bank, first, held);
-    let kept = fill(bank, first, 1) == 0;
-    let shared = match raised {
-        Raised::Up(other) => {
-            release(bank, second, other);
+    match make(bank, first, Value::Text(Sym(7))) {
+        Made::Up(held) => {
+            let full = fill(bank, first, 1) == 0;
+            let raised = raise(bank, second, held.at());
+            release(bank, first, held);
+            let kept = fill(bank, first, 1) == 0;
+            let shared = drop_raised(bank, second, raised);
+            full && shared && kept && fill(bank, first, 2) == 1
+        }
+        Made::HeapFull => false,
+    }
+}
+
+/// Lets a reference go, if the raise gave one, and says whether it did.
+fn drop_raised(bank: &Bank, pass: &mut Pass, raised: Raised) -> bool
+    requires pass { IsPassOf bank.now pass.old }
+    requires settled { IsSettled (view pass.old) }
+    requires held { IfUp raised (λ held. HoldsBox (box_of held) (view pass.old)) }
+    ensures pass { IsPassOf bank.now pass.new }
+{
+    match raised {
+        Raised::Up(held) => {
+            release(bank, pass, held);
             true
         }
         Raised::Dead | Raised::Moved(_, _) => false,
-    };
-    full && shared && kept && fill(bank, first, 2) == 1
+    }
 }
 
 #[test]

@@ -1,12 +1,14 @@
 //! Four passes in a thread each raise and drop ten boxes of the first pass, over and over.
 ghost use Rattle.std.specs.Prelude.{◌≡◌, IfOk};
+ghost use Rattle.ft_bank.specs.BoxSteps.{IsBoxIn};
 ghost use Rattle.ft_bank.specs.Passes.{shape_of, view, IsPassOf};
+ghost use Rattle.ft_bank.specs.SameBoxes.{SameReferences};
 ghost use Rattle.ft_boxes.specs.Settled.{IsSettled};
 ghost use Rattle.ft_boxes_tests.specs.Holdings.{AreNames, HoldsEach, IsCounter, MayHoldMore};
 
 use crate::banks::small;
 use ft_bank::{Bank, Pass};
-use ft_bank_tests::bank_of;
+use ft_bank_tests::bank_of_two;
 use ft_boxes::{Made, Raised, keep, make, new_passes_are_settled, raise, release, taken, value};
 use ft_layout::Ref;
 use ft_model::Value;
@@ -14,10 +16,10 @@ use std::alloc::{AllocError, Global};
 use std::test::Fail;
 use std::thread;
 
-/// How many boxes there are, and how often each pass raises one and drops it.
+/// How many boxes there are, and how often each pass raises each one and drops it.
 const BOXES: u32 = 10;
 
-const ROUNDS: usize = 25_000;
+const ROUNDS: usize = 2_500;
 
 /// The value of the first box; that of each other one is greater by 1 than the one before.
 const FIRST: i64 = 1000;
@@ -58,7 +60,7 @@ fn visit(bank: &Bank, pass: &mut Pass, b: Ref, expected: i64) -> bool
             found == Value::Int(expected)
         }
         Raised::Dead => false,
-        // Another pass changed the count in between: the same raise comes later.
+        // Another pass changed the count in between.
         Raised::Moved(_, _) => true,
     }
 }
@@ -71,11 +73,66 @@ fn work(bank: &Bank, pass: &mut Pass, boxes: &[Ref], rounds: usize) -> u32
     ensures same { SameReferences (view pass.old) (view pass.new) }
 {
     let mut wrong = 0u32;
-    for round in 0..rounds {
-        let number = round % boxes.len();
-        if !visit(bank, pass, boxes[number], FIRST + number as i64) {
-            wrong = wrong.saturating_add(1);
+    for _ in 0..rounds {
+        let mut expected = FIRST;
+        for b in boxes {
+            if !visit(bank, pass, *b, expected) {
+                wrong = wrong.saturating_add(1);
+            }
+            expected = expected.wrapping_add(1);
         }
     }
     wrong
+}
+
+/// The same for a pass of the caller's own, which it gets back.
+fn work_with(bank: &Bank, mut pass: Pass, boxes: &[Ref], rounds: usize) -> (Pass, u32)
+    requires counter { IsCounter bank.now pass }
+    requires names { AreNames (shape_of bank.now) boxes.now }
+    ensures counter { IsCounter bank.now result.0 }
+    ensures same { SameReferences (view pass) (view result.0) }
+{
+    let wrong = work(bank, &mut pass, boxes, rounds);
+    (pass, wrong)
+}
+
+/// Lets go of the reference for each of these boxes.
+fn drop_each(bank: &Bank, pass: &mut Pass, boxes: Vec<Ref>)
+    requires counter { IsCounter bank.now pass.old }
+    requires held { HoldsEach boxes.items (view pass.old) }
+    ensures counter { IsCounter bank.now pass.new }
+{
+    let mut left = boxes;
+    while let Some(b) = left.pop() {
+        let held = taken(bank, pass, b);
+        release(bank, pass, held);
+    }
+}
+
+#[test]
+fn ten_boxes_are_counted_by_four_passes(rt: HostRuntime) -> Result<(), Fail> {
+    let alloc = rt.alloc();
+    let (made, mut first, second) = bank_of_two(alloc, small(alloc, 2)?)?;
+    let bank = &made;
+    new_passes_are_settled(bank, &first);
+    new_passes_are_settled(bank, &second);
+    let made_boxes = make_ten(alloc, bank, &mut first)?;
+    let boxes = made_boxes.as_slice();
+    let ((mut first, ours), (_second, theirs)) = thread::join(
+        &rt,
+        move || -> (Pass, u32)
+            requires { IsCounter bank.now first × AreNames (shape_of bank.now) boxes.now }
+            ensures { IsCounter bank.entry.now result.0 × SameReferences (view first) (view result.0) }
+        { work_with(bank, first, boxes, ROUNDS) },
+        move || -> (Pass, u32)
+            requires { IsCounter bank.now second × AreNames (shape_of bank.now) boxes.now }
+            ensures { IsCounter bank.entry.now result.0 × SameReferences (view second) (view result.0) }
+        { work_with(bank, second, boxes, ROUNDS) },
+    );
+    assert_eq!(rt; ours, 0);
+    assert_eq!(rt; theirs, 0);
+    assert_eq!(rt; bank.read_free_places(&mut first, 0, 0).count_ones(), 54);
+    drop_each(bank, &mut first, made_boxes);
+    assert_eq!(rt; bank.read_free_places(&mut first, 0, 0), u64::MAX);
+    Ok(())
 }

@@ -1,13 +1,14 @@
 -- How many references the passes of a test hold.
 use Rattle.std.proofs.Common.{◌≡◌, ℕ, ◌+◌, ◌≤◌, eqb, Bool, true, false, cond, List, [], ◌∷◌, ◌++◌, All, refl, sym, subst, arith}
-use Rattle.std.proofs.lemmas.List.Elements.{All-push}
+use Rattle.std.proofs.lemmas.List.Elements.{All-nil, All-cons, All-head, All-tail, All-push}
 use Rattle.ft_layout.specs.declared.slot.Ref.{Ref}
 use Rattle.ft_trace.specs.declared.Shape.{Shape}
 use Rattle.ft_trace.specs.declared.View.{View}
 use Rattle.ft_trace.specs.Boxes.{references_held}
 use Rattle.ft_bank.specs.BoxSteps.{box_id, IsBoxIn}
 use Rattle.ft_bank.specs.SameBoxes.{SameReferences}
-use Rattle.ft_boxes.specs.References.{HoldsOneMore}
+use Rattle.ft_trace.proofs.Cases.{hit}
+use Rattle.ft_boxes.specs.References.{HoldsBox, HoldsOneLess, HoldsOneMore}
 use Rattle.ft_boxes_tests.specs.Holdings.{HoldsEach, HoldsUpTo, times_among}
 
 abbrev unit : ℕ → ℕ → ℕ
@@ -58,3 +59,29 @@ each_same boxes v w shape old same = record {
   names = subst (λ (z : Shape). All (IsBoxIn z) boxes) shape old.names;
   held = λ c. subst (λ (n : ℕ). times_among c boxes ≤ n) (sym (same c)) (old.held c);
 }
+
+-- the last of them
+pub last_held : (boxes : List Ref) (b : Ref) (v : View) → HoldsEach (boxes ++ b ∷ []) v → HoldsBox b v
+last_held boxes b v old =
+    let t = times_push (box_id b) boxes b in
+    let o = old.held (box_id b) in
+    let one : unit (box_id b) (box_id b) ≡ 1 = hit (box_id b) 1 0 in
+    (All-head (IsBoxIn v.shape) b [] (All-append-right boxes old.names), omega (arith, t, o, one))
+  where
+    All-append-right : (rs : List Ref) → All (IsBoxIn v.shape) (rs ++ b ∷ []) → All (IsBoxIn v.shape) (b ∷ [])
+    All-append-right [] all = all
+    All-append-right (r ∷ rs) all = All-append-right rs (All-tail (IsBoxIn v.shape) r (rs ++ b ∷ []) all)
+
+pub each_but_last : (boxes : List Ref) (b : Ref) (v w : View) → v.shape ≡ w.shape → HoldsEach (boxes ++ b ∷ []) v → HoldsOneLess b v w → HoldsEach boxes w
+each_but_last boxes b v w shape old less = record {
+  names = subst (λ (z : Shape). All (IsBoxIn z) boxes) shape (but_last boxes old.names);
+  held = λ c.
+      let t = times_push c boxes b in
+      let o = old.held c in
+      let m : references_held v.shape c v.log ≡ references_held w.shape c w.log + unit c (box_id b) = less c in
+      omega (arith, t, o, m);
+}
+  where
+    but_last : (rs : List Ref) → All (IsBoxIn v.shape) (rs ++ b ∷ []) → All (IsBoxIn v.shape) rs
+    but_last [] all = All-nil (IsBoxIn v.shape)
+    but_last (r ∷ rs) all = All-cons (IsBoxIn v.shape) r rs (All-head (IsBoxIn v.shape) r (rs ++ b ∷ []) all) (but_last rs (All-tail (IsBoxIn v.shape) r (rs ++ b ∷ []) all))

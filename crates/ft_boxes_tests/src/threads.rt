@@ -2,7 +2,7 @@
 ghost use Rattle.std.specs.Prelude.{◌≡◌, IfOk};
 ghost use Rattle.ft_bank.specs.BoxSteps.{IsBoxIn};
 ghost use Rattle.ft_bank.specs.Passes.{shape_of, view, IsPassOf};
-ghost use Rattle.ft_bank.specs.SameBoxes.{SameReferences};
+ghost use Rattle.ft_bank.specs.SameBoxes.{HoldsFew, SameReferences};
 ghost use Rattle.ft_boxes.specs.Settled.{IsSettled};
 ghost use Rattle.ft_boxes_tests.specs.Holdings.{AreNames, HoldsEach, IsCounter, MayHoldMore};
 
@@ -31,7 +31,9 @@ fn make_ten(alloc: Global, bank: &Bank, pass: &mut Pass) -> Result<Vec<Ref>, All
     requires may { MayHoldMore 1000 (view pass.old) }
     ensures pass { IsPassOf bank.now pass.new }
     ensures settled { IsSettled (view pass.new) }
+    ensures few { HoldsFew (view pass.new) }
     ensures held { IfOk result (λ boxes. HoldsEach boxes.items (view pass.new)) }
+    ensures names { IfOk result (λ boxes. AreNames (shape_of bank.now) boxes.items) }
 {
     let mut boxes = Vec::new(alloc);
     for number in 0..BOXES {

@@ -8,3 +8,6 @@ invariant-loop-b l = record {
   counter : IsCounter l.bank l.pass;
   held : HoldsEach l.left.items (view l.pass);
 }
+
+abbrev pub decreases-loop-b : goal.decreases-loop-b
+decreases-loop-b l = length l.left.items

@@ -22,7 +22,7 @@ use Rattle.ft_trace.specs.ContainerStates.{ContainerState, state_at, kind_in, ch
 use Rattle.ft_trace.proofs.Cases.{hit}
 use Rattle.ft_bank.specs.declared.table.Table.{Table}
 use Rattle.ft_bank.specs.TableNames.{table_id}
-use Rattle.ft_bank.specs.Whole.{OnlyPut}
+use Rattle.ft_bank.specs.Whole.{OnlyWritten}
 use Rattle.ft_bank.specs.WriteSteps.{MayCommit, MayHave}
 use Rattle.ft_bank.proofs.KnownAfterWrites.{work_knows}
 use Rattle.ft_search.specs.OneEntryWrites.{Leaves, MayFinish, raised_at}
@@ -41,7 +41,7 @@ pub record Since (o : ℕ) (v u : View) : Type 0 where
   pub left : u.left ≡ v.left
   pub owes : owes u.log ≡ owes v.log
 
-pub since_start : (o : ℕ) (v s u : View) (f : ℕ) → s ≡ view_after (StartWrite o f) v → OnlyPut o s u → Since o v u
+pub since_start : (o : ℕ) (v s u : View) (f : ℕ) → s ≡ view_after (StartWrite o f) v → OnlyWritten o s u → Since o v u
 since_start o v s u f begun puts = record {
   shape = puts.work.pass.shape ∙ ap (λ (z : View). z.shape) begun;
   knows = λ p. work_knows s u p puts.work ∙ ap (λ (z : View). known_state p z) begun;
@@ -52,7 +52,7 @@ since_start o v s u f begun puts = record {
   owes = puts.work.owes ∙ ap (λ (z : View). owes z.log) begun;
 }
 
-pub since_root : (o t old : ℕ) (v r u : View) (f : ℕ) → r ≡ view_after (PutRoot o (suc t) old) (view_after (StartWrite o f) v) → OnlyPut o r u → Since o v u
+pub since_root : (o t old : ℕ) (v r u : View) (f : ℕ) → r ≡ view_after (PutRoot o (suc t) old) (view_after (StartWrite o f) v) → OnlyWritten o r u → Since o v u
 since_root o t old v r u f is puts = record {
   shape = puts.work.pass.shape ∙ ap (λ (z : View). z.shape) is;
   knows = λ p. work_knows r u p puts.work ∙ ap (λ (z : View). known_state p z) is;

@@ -107,6 +107,7 @@ pub fn begin_in(bank: &Bank, pass: &mut Pass, o: u32, way: Way, old: Option<Tabl
 fn free_slot(bank: &Bank, pass: &mut Pass, o: u32, way: Way, key: Key, table: Table) -> u64
     requires pass { IsPassOf bank.now pass.old }
     requires container { o < container_count (shape_of bank.now) }
+    requires way { kind_in (shape_of bank.now).starts o ≡ kind_by way }
     requires key { IsKeyIn (shape_of bank.now) key }
     requires table { IsTableIn (shape_of bank.now) table }
     requires knows { KnowsTable o (table_id table) (view pass.old) }

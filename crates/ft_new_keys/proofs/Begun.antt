@@ -1,8 +1,7 @@
 -- A dict or a set whose root was put: the pass holds the references of the boxes that the table which was taken out names,
 -- and drops them.
-use Rattle.std.proofs.Common.{◌≡◌, ◌≢◌, ℕ, suc, ◌+◌, ◌<◌, ◌≤◌, Bool, true, false, cond, List, length, Option, Some, None, refl, sym, ap, ◌∙◌, subst, arith, get_or-set_same}
-use Rattle.std.specs.Prelude.{◌==◌, slice_index, slice_set}
-use Rattle.ft_model.specs.declared.script.Kind.{Kind}
+use Rattle.std.proofs.Common.{◌≡◌, ◌≢◌, ℕ, suc, ◌<◌, true, cond, Option, Some, None, refl, sym, ap, ◌∙◌, subst, arith, get_or-set_same}
+use Rattle.std.specs.Prelude.{◌==◌, slice_set}
 use Rattle.ft_trace.specs.declared.Act.TheVariants.{StartWrite, PutRoot}
 use Rattle.ft_trace.specs.declared.Shape.{Shape}
 use Rattle.ft_trace.specs.declared.View.{View}
@@ -12,14 +11,14 @@ use Rattle.ft_trace.specs.Boxes.{named_in_root, references_held, IsDoneWithBoxes
 use Rattle.ft_trace.specs.ContainerStates.{kind_in}
 use Rattle.ft_trace.specs.Holds.{held_words, held_unboxed, in_hand}
 use Rattle.ft_trace.specs.Kinds.{rows}
-use Rattle.ft_trace.specs.Pictures.{ContainerWords, root_in}
+use Rattle.ft_trace.specs.Pictures.{root_in}
 use Rattle.ft_trace.specs.Traces.{IsReachable}
 use Rattle.ft_trace.proofs.Cases.{hit, miss}
 use Rattle.ft_trace.proofs.Pieces.{block_long}
 use Rattle.ft_bank.specs.declared.table.Table.{Table}
 use Rattle.ft_bank.specs.SameBoxes.{named_in_words, MovesReferences, SameMade}
 use Rattle.ft_bank.specs.TableNames.{table_id, root_for, IsTableIn}
-use Rattle.ft_bank.specs.Whole.{OnlyBoxed, OnlyWritten}
+use Rattle.ft_bank.specs.Whole.{OnlyBoxed}
 use Rattle.ft_bank.specs.WriteSteps.{KeepsUnwritten}
 use Rattle.ft_bank.proofs.BoxedSteps.{made_then}
 use Rattle.ft_bank.proofs.DoneBoxes.{done_none, none_named}
@@ -110,7 +109,7 @@ module _ (k : Shape) (o : ℕ) (old : Option Table) (table : Table) (v s r : Vie
     where
       by : (any : Option Table) → old ≡ any → HoldsOld k o any r
       by (Some t) has = was_named t has
-      by None has b =
+      by None has = λ b.
           let moved = moves_begun b in
           let none = none_r b in
           let done = (done_v b).0 in

@@ -1,5 +1,5 @@
 -- A fresh table that is filled with what a dict or a set has.
-use Rattle.std.proofs.Common.{◌≡◌, ◌≢◌, ℕ, zero, suc, ◌+◌, ◌*◌, ◌<◌, ◌≤◌, true, List, [], ◌∷◌, length, filter, Option, Some, None, refl, sym, ap, ◌∙◌, subst, inl, inr, arith, length-set, get_or-set_same, get_or-set_other}
+use Rattle.std.proofs.Common.{◌≡◌, ◌≢◌, ℕ, zero, suc, ◌+◌, ◌*◌, ◌<◌, ◌≤◌, List, [], ◌∷◌, length, filter, Option, Some, None, refl, sym, ap, ◌∙◌, subst, inl, inr, arith, length-set, get_or-set_same, get_or-set_other}
 use Rattle.std.specs.Prelude.{All, map, slice_index, slice_index_or, slice_set}
 use mathlib.Core.Logic.{dite}
 use Rattle.std.proofs.Math.Decide.{dec_lt}
@@ -8,17 +8,16 @@ use Rattle.std.proofs.lemmas.List.{get_or_past, length-map}
 use Rattle.ft_model.specs.declared.content.Content.{Content}
 use Rattle.ft_model.specs.declared.content.Content.TheVariants as content
 use Rattle.ft_model.specs.declared.script.Kind.{Kind}
-use Rattle.ft_model.specs.declared.script.Kind.TheVariants as kind
 use Rattle.ft_model.specs.Classes.{IsClass}
 use Rattle.ft_model.specs.Contents.{DictContent, SetContent}
-use Rattle.ft_model.specs.Worlds.{kind_of, length_of, serial_of}
+use Rattle.ft_model.specs.Worlds.{kind_of, length_of}
 use Rattle.ft_layout.specs.declared.slot.Stored.{Stored}
 use Rattle.ft_layout.specs.declared.slot.Stored.TheVariants.{Empty, Plain}
 use Rattle.ft_layout.specs.WordChanges.{IsBlankTable}
 use Rattle.ft_layout.specs.Words.{IsEntry, stored_kind}
-use Rattle.ft_layout.specs.Containers.{class_mask, used_pair, used_element, IsBlock, AreDictEntries, AreSetEntries, IsDictWords, IsSetWords, StandsAs}
+use Rattle.ft_layout.specs.Containers.{class_mask, used_pair, used_element, AreDictEntries, AreSetEntries, StandsAs}
 use Rattle.ft_layout.specs.Tables.{UsedEntry, is_live, dict_room, set_room, table_length, entry_word, hash_of, slot_with, IsTable}
-use Rattle.ft_layout.proofs.FieldLaws.{set_fits, sizes_of_class}
+use Rattle.ft_layout.proofs.FieldLaws.{sizes_of_class}
 use Rattle.ft_keys.specs.declared.walk.Way.{Way}
 use Rattle.ft_keys.specs.declared.walk.Way.TheVariants as way
 use Rattle.ft_keys.specs.declared.words.Access.{Access}
@@ -282,11 +281,11 @@ module _ (holds : BlankHolds) (pairs_live : LivePairs) (elements_live : LiveElem
   copied (content.Deque deque) way.Set result same is few rebuilds = absurd (cc)
 
 -- so calls that rebuild the old one fill the fresh one
-fill_room : (texts b l : List ℕ) (class fill : ℕ) (d : Content) → IsKeyed (kind_of d) → StandsAs texts b (0 ∷ 0 ∷ l) (use_with class fill) d → fill ≤ dict_room (class_mask class)
-fill_room texts b l class fill (content.Dict pairs) keyed is = let f = is.table.fill in let e = is.filled in omega (arith, f, e)
-fill_room texts b l class fill (content.Set elements) keyed is = let f = is.table.fill in let e = is.filled in let s = set_fits (class_mask class) in omega (arith, f, e, s)
-fill_room texts b l class fill (content.List values) keyed is = absurd keyed
-fill_room texts b l class fill (content.Deque deque) keyed is = absurd keyed
+fill_room : (texts b l : List ℕ) (class fill : ℕ) (d : Content) → IsKeyed (kind_of d) → IsClass class → StandsAs texts b (0 ∷ 0 ∷ l) (use_with class fill) d → fill ≤ rows (kind_of d) class
+fill_room texts b l class fill (content.Dict pairs) keyed is_class is = let f = is.table.fill in let e = is.filled in let r = room_of_way way.Dict class is_class in omega (arith, f, e, r)
+fill_room texts b l class fill (content.Set elements) keyed is_class is = let f = is.table.fill in let e = is.filled in let r = room_of_way way.Set class is_class in omega (arith, f, e, r)
+fill_room texts b l class fill (content.List values) keyed is_class is = absurd keyed
+fill_room texts b l class fill (content.Deque deque) keyed is_class is = absurd keyed
 
 module _ (k : Shape) (o : ℕ) (old : Table) (v : View) (keyed : KnowsKeyed k o (Some old) v) (shape : v.shape ≡ k) (possible : ∥ IsReachable v ∥₁) (by : Way) (kind_eq : kind_in k.starts o ≡ kind_by by) where
   abbrev d : Content
@@ -303,8 +302,11 @@ module _ (k : Shape) (o : ℕ) (old : Table) (v : View) (keyed : KnowsKeyed k o 
       let class = class_known k.texts (held_unboxed o v) (known_state o v) (table_id old) keyed.stands keyed.root ∙ ap (λ (n : ℕ). Some n) (class_is old (keyed.table_in old refl).2) in
       subst (λ (z : Option ℕ × List Key). StandsAs k.texts (held_unboxed o v).block (0 ∷ 0 ∷ (held_unboxed o v).table) (record { class = z.0; fill = fill; keys = z.1 }) d) (λ i. (class i, no_keys v o possible keyed.locked i)) keyed.stands
 
-  pub old_fits : (mask : ℕ) → mask ≡ class_mask old.class → fill ≤ dict_room mask
-  old_fits mask is = subst (λ (m : ℕ). fill ≤ dict_room m) (sym is) (fill_room k.texts (held_unboxed o v).block (held_unboxed o v).table old.class fill d (subst IsKeyed (sym content_kind) keyed.keyed) old_says)
+  pub old_fits : fill ≤ rows (kind_in k.starts o) (class_of (table_id old))
+  old_fits =
+      let table_in = keyed.table_in old refl in
+      subst (λ (z : Kind × ℕ). fill ≤ rows z.0 z.1) (λ i. (content_kind i, sym (class_is old table_in.2) i))
+      (fill_room k.texts (held_unboxed o v).block (held_unboxed o v).table old.class fill d (subst IsKeyed (sym content_kind) keyed.keyed) table_in.0 old_says)
 
   pub filled_by : BlankHolds → LivePairs → LiveElements → KeepsVersions → (s t : FreshWords) (class most result : ℕ) → IsClass class → s.mask ≡ class_mask class → s.old_mask ≡ class_mask old.class → HasZeroWords class (in_hand (table_id s.table) (view s.pass.now)) → old_words s ≡ 0 ∷ 0 ∷ (held_unboxed o v).table → length_of d ≤ rows (kind_by by) class
       → (n : ℕ) → n ≡ fill → Moves FreshMade s.mask s t most result (Rebuilds by s.mask n result) → IsFilledWith k.texts class d (in_hand (table_id s.table) (view t.pass.now))

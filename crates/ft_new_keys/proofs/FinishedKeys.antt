@@ -1,8 +1,7 @@
 -- That a call may be committed which has put a new key's entry, and what the pass knew before it.
-use Rattle.std.proofs.Common.{◌≡◌, ◌≢◌, ℕ, suc, ◌+◌, ◌%◌, ◌<◌, Bool, true, false, true≢false, List, [], ◌∷◌, Option, Some, refl, sym, ap, ◌∙◌, subst, arith, ne_eqb}
+use Rattle.std.proofs.Common.{◌≡◌, ℕ, suc, ◌+◌, ◌<◌, true, false, true≢false, List, [], Some, sym, ap, ◌∙◌, subst, arith, ne_eqb}
 use Rattle.std.specs.Prelude.{◌==◌, nat_lt}
 use Rattle.ft_model.specs.declared.call.Call.{Call}
-use Rattle.ft_model.specs.declared.content.Content.{Content}
 use Rattle.ft_model.specs.declared.data.Key.{Key}
 use Rattle.ft_model.specs.declared.reply.Reply.{Reply}
 use Rattle.ft_model.specs.declared.script.Kind.{Kind}
@@ -12,12 +11,12 @@ use Rattle.ft_layout.specs.declared.slot.Stored.{Stored}
 use Rattle.ft_trace.specs.declared.Act.TheVariants.{StartWrite, PutRoot}
 use Rattle.ft_trace.specs.declared.Shape.{Shape}
 use Rattle.ft_trace.specs.declared.View.{View}
-use Rattle.ft_trace.specs.Acts.{has_lock, is_writing, has_committed, has_emptied, owes, view_after}
+use Rattle.ft_trace.specs.Acts.{has_lock, is_writing, has_emptied, owes, view_after}
 use Rattle.ft_trace.specs.Addresses.{container_count, class_of, slots}
 use Rattle.ft_trace.specs.Holds.{held_unboxed, known_state}
 use Rattle.ft_trace.specs.Kinds.{rows, version_at, CarefulAs, ClearAs}
 use Rattle.ft_trace.specs.OddVersions.{Shut}
-use Rattle.ft_trace.specs.Pictures.{ContainerWords, root_in, entry_offset, entry_field, Represents}
+use Rattle.ft_trace.specs.Pictures.{root_in, entry_offset, entry_field, Represents}
 use Rattle.ft_trace.specs.ContainerStates.{ContainerState, state_at, kind_in, changes, reply_in, kinds_in}
 use Rattle.ft_trace.proofs.Cases.{hit}
 use Rattle.ft_bank.specs.declared.table.Table.{Table}

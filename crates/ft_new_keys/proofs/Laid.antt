@@ -16,7 +16,7 @@ use Rattle.ft_trace.specs.declared.Shape.{Shape}
 use Rattle.ft_trace.specs.declared.View.{View}
 use Rattle.ft_trace.specs.Acts.{has_lock, has_committed, mem, view_after}
 use Rattle.ft_trace.specs.Addresses.{container_count, class_of, slots, size, extent, IsTableName}
-use Rattle.ft_trace.specs.Boxes.{value_at, named_in_root, references_held, known_box_word, HasReferences}
+use Rattle.ft_trace.specs.Boxes.{value_at, named_in_root, known_box_word, HasReferences}
 use Rattle.ft_trace.specs.Holds.{held_words, held_unboxed, known_state}
 use Rattle.ft_trace.specs.Kinds.{rows, version_at, CarefulAs, IsKeyed}
 use Rattle.ft_trace.specs.OddVersions.{Timely}
@@ -46,7 +46,7 @@ use Rattle.ft_search.proofs.KnownTableWords.{put_after_header, put_entry_after_h
 use Rattle.ft_search.proofs.Puts.{keyed_value}
 use Rattle.ft_search.proofs.Running.{ran}
 use Rattle.ft_search.proofs.Unboxing.{raw_table_long}
-use Rattle.ft_new_keys.proofs.PlainCalls.{IsPlainCall, ArePlainCalls, keyed_slot_far, laid_long, laid_names, laid_plain, laid_reads}
+use Rattle.ft_new_keys.proofs.PlainCalls.{IsPlainCall, ArePlainCalls, keyed_slot_far, laid_names, laid_plain, laid_reads}
 
 -- ---- with and without the header
 
@@ -106,54 +106,49 @@ ran_laid s n is (a ∷ calls) t r knows =
 
 module _ (s : TableWords) (calls : List Access) (t : TableWords) (p : ℕ) (keyed : IsKeyed (kind_in (view s.pass.now).shape.starts s.o)) (low : p < rows (kind_in (view s.pass.now).shape.starts s.o) (class_of (table_id s.table))) (knows : KnowsWords s) (plain : entry_field (slots (class_of (table_id s.table))) (held_words s.o (view s.pass.now)).table p 4 ≢ 4) (l : Laid s (slots (class_of (table_id s.table))) calls t)
     (are : ArePlainCalls (slots (class_of (table_id s.table))) p calls) where
-  abbrev v : View
-  v = view s.pass.now
+  abbrev vs : View
+  vs = view s.pass.now
 
-  abbrev w : View
-  w = view t.pass.now
+  abbrev vt : View
+  vt = view t.pass.now
 
-  abbrev kd : Kind
-  kd = kind_in v.shape.starts s.o
+  abbrev kind_s : Kind
+  kind_s = kind_in vs.shape.starts s.o
 
-  abbrev n : ℕ
-  n = slots (class_of (table_id s.table))
+  abbrev many : ℕ
+  many = slots (class_of (table_id s.table))
 
-  abbrev raw : List ℕ
-  raw = (held_words s.o v).table
+  abbrev old : List ℕ
+  old = (held_words s.o vs).table
 
-  shape : w.shape ≡ v.shape
-  shape = l.only.work.pass.shape
+  shape_t : vt.shape ≡ vs.shape
+  shape_t = l.only.work.pass.shape
 
-  wide : slots (class_of (table_id s.table)) + 8 * rows kd (class_of (table_id s.table)) ≤ length raw
-  wide =
-      let f = keyed_fit kd keyed (class_of (table_id s.table)) in
-      let long = raw_table_long v s.o (table_id s.table) knows.1 in
+  wide_s : slots (class_of (table_id s.table)) + 8 * rows kind_s (class_of (table_id s.table)) ≤ length old
+  wide_s =
+      let f = keyed_fit kind_s keyed (class_of (table_id s.table)) in
+      let long = raw_table_long vs s.o (table_id s.table) knows.1 in
       omega (arith, f, long)
 
-  pub laid_same : SameReferences v w
+  pub laid_same : SameReferences vs vt
   laid_same =
-      same_named s.o v w l.only.moves
+      same_named s.o vs vt l.only.moves
       (λ b.
-      (λ d. named_in_root b (kind_in (shape d).starts s.o) (slice_index (l.block d) 0) (l.table d))
-      ∙ ((λ d. named_in_root b kd (knows.1 d) (laid n calls raw))
-      ∙ (laid_names kd keyed (class_of (table_id s.table)) p low raw wide plain calls are b (table_id s.table) refl
-      ∙ sym (λ d. named_in_root b kd (knows.1 d) raw))))
+      (λ d. named_in_root b (kind_in (shape_t d).starts s.o) (slice_index (l.block d) 0) (l.table d))
+      ∙ ((λ d. named_in_root b kind_s (knows.1 d) (laid many calls old))
+      ∙ (laid_names kind_s keyed (class_of (table_id s.table)) p low old wide_s plain calls are b (table_id s.table) refl
+      ∙ sym (λ d. named_in_root b kind_s (knows.1 d) old))))
 
-  pub laid_words : held_unboxed s.o w ≡ record { block = (held_unboxed s.o v).block; table = laid n calls (held_unboxed s.o v).table }
+  pub laid_words : held_unboxed s.o vt ≡ record { block = (held_unboxed s.o vs).block; table = laid many calls (held_unboxed s.o vs).table }
   laid_words =
-      let box : ℕ → ℕ → ℕ = λ b i. known_box_word v.shape b i v.log in
-      let root : ℕ = root_in (held_words s.o v) in
-      let reads : unboxed_table box kd root (laid n calls raw) ≡ laid n calls (unboxed_table box kd root raw) =
-      by_root box kd root (table_id s.table) (laid n calls raw) knows.1
-      ∙ (laid_reads kd keyed (class_of (table_id s.table)) p low raw wide plain box calls are
-      ∙ ap (laid n calls) (sym (by_root box kd root (table_id s.table) raw knows.1))) in
-      (λ d. record { block = l.block d; table = unboxed_table (λ x y. l.boxes x y d) (kind_in (shape d).starts s.o) (slice_index (l.block d) 0) (l.table d) })
-      ∙ (λ d. record { block = (held_words s.o v).block; table = reads d })
-
-  -- the value names no box still
-  pub laid_in_place : entry_field n (held_words s.o w).table p 4 ≢ 4
-  laid_in_place four =
-      laid_plain n p calls are raw (let f = wide in omega (arith, f, low)) plain (ap (λ (z : List ℕ). entry_field n z p 4) (sym l.table) ∙ four)
+      let box : ℕ → ℕ → ℕ = λ b i. known_box_word vs.shape b i vs.log in
+      let root : ℕ = root_in (held_words s.o vs) in
+      let reads : unboxed_table box kind_s root (laid many calls old) ≡ laid many calls (unboxed_table box kind_s root old) =
+      by_root box kind_s root (table_id s.table) (laid many calls old) knows.1
+      ∙ (laid_reads kind_s keyed (class_of (table_id s.table)) p low old wide_s plain box calls are
+      ∙ ap (laid many calls) (sym (by_root box kind_s root (table_id s.table) old knows.1))) in
+      (λ d. record { block = l.block d; table = unboxed_table (λ x y. l.boxes x y d) (kind_in (shape_t d).starts s.o) (slice_index (l.block d) 0) (l.table d) })
+      ∙ (λ d. record { block = (held_words s.o vs).block; table = reads d })
 
 -- ---- references
 

@@ -1,7 +1,6 @@
 -- The puts of a new entry by a pass that writes its container.
-use Rattle.std.proofs.Common.{◌≡◌, ◌≢◌, ℕ, suc, ◌+◌, ◌%◌, ◌<◌, true, false, List, refl, sym, ap, ◌∙◌, subst, arith, get_or-set_same, get_or-set_other}
+use Rattle.std.proofs.Common.{◌≡◌, ◌≢◌, ℕ, ◌+◌, ◌<◌, false, List, refl, sym, ap, ◌∙◌, subst, arith, get_or-set_same, get_or-set_other}
 use Rattle.std.specs.Prelude.{slice_index, slice_set}
-use Rattle.ft_model.specs.declared.content.Content.{Content}
 use Rattle.ft_model.specs.declared.script.Kind.{Kind}
 use Rattle.ft_layout.specs.declared.slot.Pair.{Pair}
 use Rattle.ft_layout.specs.Words.{entry_words, stored_kind}
@@ -13,15 +12,14 @@ use Rattle.ft_trace.specs.Acts.{has_committed}
 use Rattle.ft_trace.specs.Addresses.{container_count, class_of, slots}
 use Rattle.ft_trace.specs.Holds.{held_words, held_unboxed, known_state}
 use Rattle.ft_trace.specs.Kinds.{rows, version_at, IsKeyed}
-use Rattle.ft_trace.specs.Pictures.{ContainerWords, root_in, entry_offset, entry_field}
-use Rattle.ft_trace.specs.ContainerStates.{ContainerState, kind_in}
+use Rattle.ft_trace.specs.Pictures.{ContainerWords, entry_offset, entry_field}
+use Rattle.ft_trace.specs.ContainerStates.{kind_in}
 use Rattle.ft_bank.specs.declared.table.Table.{Table}
 use Rattle.ft_bank.specs.BoxSteps.{IsOpenValue}
 use Rattle.ft_bank.specs.Passes.{view}
 use Rattle.ft_bank.specs.SameBoxes.{HoldsFew}
 use Rattle.ft_bank.specs.TableNames.{table_id, IsTableIn}
 use Rattle.ft_bank.specs.WriteSteps.{IsCareful}
-use Rattle.ft_bank.proofs.KnownAfterWrites.{work_knows}
 use Rattle.ft_search.specs.declared.words.TableWords.{TableWords}
 use Rattle.ft_search.specs.TableWords.{KnowsWords, MayMake, MadeAccess}
 use Rattle.ft_search.specs.OneEntryWrites.{WritesEntries, raised_at}
@@ -30,7 +28,7 @@ use Rattle.ft_new_keys.specs.Placing.{counted}
 use Rattle.ft_new_keys.specs.Internal.Laying.{IsUnused}
 use Rattle.ft_new_keys.proofs.Laid.{AreCarefulCalls, allows_calls, careful_at}
 use Rattle.ft_new_keys.proofs.PlainCalls.{place_plain}
-use Rattle.ft_new_keys.proofs.Stages.{as_careful, in_time, opened, open_careful, open_odd, place_careful}
+use Rattle.ft_new_keys.proofs.Stages.{as_careful, in_time, open_careful, open_odd, place_careful}
 
 -- the counts of a block leave its root
 pub counts_root : (b : List ℕ) (count fill next : ℕ) → slice_index (counted b count fill next) 0 ≡ slice_index b 0

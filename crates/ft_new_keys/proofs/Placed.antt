@@ -19,7 +19,7 @@ use Rattle.ft_hash.specs.Probes.{IsMask, dict_slots, set_slots}
 use Rattle.ft_hash.proofs.Walks.{dict_slots-within, set_slots-within}
 use Rattle.ft_layout.specs.declared.slot.Pair.{Pair}
 use Rattle.ft_layout.specs.declared.slot.Stored.{Stored}
-use Rattle.ft_layout.specs.declared.slot.Stored.TheVariants.{Empty, Plain, Boxed}
+use Rattle.ft_layout.specs.declared.slot.Stored.TheVariants.{Empty, Plain}
 use Rattle.ft_layout.specs.Words.{FitsKey, FitsPair, FitsStored, entry_words, key_kind, key_payload, stored_kind}
 use Rattle.ft_layout.specs.Tables.{UsedEntry, is_live, hash_of, index_word, dict_room, set_room, IsDictTable, IsSetTable}
 use Rattle.ft_layout.specs.Tables as layout
@@ -35,13 +35,12 @@ use Rattle.ft_trace.specs.Addresses.{class_of, slots, places}
 use Rattle.ft_trace.specs.Carefuls.{HasLiveKey, said_of, OpensChanged}
 use Rattle.ft_trace.specs.Kinds.{under, rows, version_at, CarefulAs, ClearAs, IsKeyed}
 use Rattle.ft_trace.specs.OddVersions.{Shut}
-use Rattle.ft_trace.specs.Pictures.{ContainerWords, root_in, index_field, entry_offset, entry_field, Represents}
-use Rattle.ft_trace.specs.ContainerStates.{ContainerState}
+use Rattle.ft_trace.specs.Pictures.{ContainerWords, index_field, entry_offset, entry_field}
 use Rattle.ft_trace.proofs.DictWrites as dict
 use Rattle.ft_trace.proofs.DictWrites.{EntryVersionsChangeNothing, FirstEntriesArePairs}
 use Rattle.ft_trace.proofs.SetKnown as set
 use Rattle.ft_trace.proofs.SetKnown.{FirstEntriesAreElements}
-use Rattle.ft_trace.proofs.KeyPuts.{new_same, new_late, new_shut, stage_odd, new_opens}
+use Rattle.ft_trace.proofs.KeyPuts.{new_same, new_late, new_shut, new_opens}
 use Rattle.ft_trace.proofs.Known as known
 use Rattle.ft_trace.proofs.Tellings.{word_is}
 use Rattle.ft_trace.proofs.ValuePlaces.{plain_kind}
@@ -56,7 +55,7 @@ use Rattle.ft_search.proofs.Changing.{Changing}
 use Rattle.ft_search.proofs.KnownTableWords.{after_header}
 use Rattle.ft_new_keys.proofs.Laid.{laid_after}
 use Rattle.ft_search.proofs.WordPlaces.{mask_is, slots_of_class}
-use Rattle.ft_new_keys.proofs.Stages.{as_careful, body, body_puts, body_stage, opened}
+use Rattle.ft_new_keys.proofs.Stages.{as_careful, body, body_puts, body_stage}
 use Rattle.ft_keys.specs.declared.words.Access.{Access}
 use Rattle.ft_keys.specs.declared.words.Access.TheVariants.{PutEntry}
 use Rattle.ft_trace.proofs.Opened.{dict_lacks, set_lacks}

@@ -1,6 +1,6 @@
 -- Calls that put index words and words of one entry, where neither the value that stands in the entry nor the one that is
 -- put names a box: what the table reads then, and which boxes it names.
-use Rattle.std.proofs.Common.{◌≡◌, ◌≢◌, ◌⊎◌, ℕ, zero, suc, ◌+◌, ◌*◌, ◌<◌, ◌≤◌, eqb, cond, List, [], ◌∷◌, ◌++◌, length, refl, sym, ap, ◌∙◌, subst, inl, inr, arith, length-set, get_or-set_same, get_or-set_other}
+use Rattle.std.proofs.Common.{◌≡◌, ◌≢◌, ℕ, zero, suc, ◌+◌, ◌*◌, ◌<◌, ◌≤◌, List, [], ◌∷◌, ◌++◌, length, refl, sym, ap, ◌∙◌, subst, arith, length-set, get_or-set_same, get_or-set_other}
 use Rattle.std.specs.Prelude.{slice_index, slice_set}
 use mathlib.Core.Logic.{dite}
 use native.Mathlib.Decide.{ℕ_discrete}
@@ -19,7 +19,7 @@ use Rattle.ft_trace.specs.Sums.{sum_to}
 use Rattle.ft_trace.specs.Unboxed.{unboxed_kind, unboxed_payload, unboxed_rows, with_value}
 use Rattle.ft_trace.specs.WholeWrites.{IsNoValue}
 use Rattle.ft_trace.proofs.Cases.{miss}
-use Rattle.ft_trace.proofs.ReadTables.{as_value, rows_at}
+use Rattle.ft_trace.proofs.ReadTables.{rows_at, set_self}
 use Rattle.ft_trace.proofs.Sums.{sum_same}
 use Rattle.ft_trace.proofs.ValuePlaces.{keyed_far, set_slot_far, slot_far}
 use Rattle.ft_trace.proofs.ValuePuts.{value_put, word_put}
@@ -37,37 +37,46 @@ keyed_slot_far (kind.Deque bound) keyed c s low = absurd keyed
 -- ---- one word of a value that stands in place
 
 module _ (box : ℕ → ℕ → ℕ) (kind : Kind) (c m p x : ℕ) (l : List ℕ) (low : p < m) (long : suc (value_at kind c p) < length l) (plain : slice_index l (value_at kind c p) ≢ 4) where
-  abbrev place : ℕ
-  place = value_at kind c p
+  abbrev spot : ℕ
+  spot = value_at kind c p
 
   abbrev Read : List ℕ → List ℕ
   Read t = unboxed_rows box kind c m t
 
   -- the value reads as it stands
-  reads_kind : slice_index (Read l) place ≡ slice_index l place
-  reads_kind = (rows_at box kind c m p l low long).0 ∙ miss (slice_index l place) 4 (box (slice_index l (suc place)) 1) (slice_index l place) plain
+  reads_kind : slice_index (Read l) spot ≡ slice_index l spot
+  reads_kind = (rows_at box kind c m p l low long).0 ∙ miss (slice_index l spot) 4 (box (slice_index l (suc spot)) 1) (slice_index l spot) plain
 
-  reads_payload : slice_index (Read l) (suc place) ≡ slice_index l (suc place)
-  reads_payload = (rows_at box kind c m p l low long).1 ∙ miss (slice_index l place) 4 (box (slice_index l (suc place)) 2) (slice_index l (suc place)) plain
+  reads_payload : slice_index (Read l) (suc spot) ≡ slice_index l (suc spot)
+  reads_payload = (rows_at box kind c m p l low long).1 ∙ miss (slice_index l spot) 4 (box (slice_index l (suc spot)) 2) (slice_index l (suc spot)) plain
 
   -- and so does another one that names no box
-  put_reads : (a b : ℕ) → a ≢ 4 → Read (with_value place a b l) ≡ with_value place a b (Read l)
+  put_reads : (a b : ℕ) → a ≢ 4 → Read (with_value spot a b l) ≡ with_value spot a b (Read l)
   put_reads a b ne =
       let one : unboxed_kind box a b ≡ a = miss a 4 (box b 1) a ne in
       let two : unboxed_payload box a b ≡ b = miss a 4 (box b 2) b ne in
-      value_put box kind c m p a b l low long ∙ (λ d. with_value place (one d) (two d) (Read l))
+      value_put box kind c m p a b l low long ∙ (λ d. with_value spot (one d) (two d) (Read l))
 
-  pub kind_reads : x ≢ 4 → Read (slice_set l place x) ≡ slice_set (Read l) place x
+  -- a put of one of the two words is a put of both
+  kind_as : (t : List ℕ) → slice_set t spot x ≡ with_value spot x (slice_index t (suc spot)) t
+  kind_as t =
+      let other : slice_index (slice_set t spot x) (suc spot) ≡ slice_index t (suc spot) = get_or-set_other t spot (suc spot) x 0 (λ z. omega (arith, z)) in
+      sym (ap (λ (z : ℕ). slice_set (slice_set t spot x) (suc spot) z) (sym other) ∙ set_self (slice_set t spot x) (suc spot))
+
+  payload_as : (t : List ℕ) → slice_set t (suc spot) x ≡ with_value spot (slice_index t spot) x t
+  payload_as t = sym (ap (λ (l : List ℕ). slice_set l (suc spot) x) (set_self t spot))
+
+  pub kind_reads : x ≢ 4 → Read (slice_set l spot x) ≡ slice_set (Read l) spot x
   kind_reads ne =
-      ap Read (as_value l place place x (inl refl)).2.2
-      ∙ (put_reads x (slice_index l (suc place)) ne
-      ∙ (ap (λ (z : ℕ). with_value place x z (Read l)) (sym reads_payload) ∙ sym (as_value (Read l) place place x (inl refl)).2.2))
+      ap Read (kind_as l)
+      ∙ (put_reads x (slice_index l (suc spot)) ne
+      ∙ (ap (λ (z : ℕ). with_value spot x z (Read l)) (sym reads_payload) ∙ sym (kind_as (Read l))))
 
-  pub payload_reads : Read (slice_set l (suc place) x) ≡ slice_set (Read l) (suc place) x
+  pub payload_reads : Read (slice_set l (suc spot) x) ≡ slice_set (Read l) (suc spot) x
   payload_reads =
-      ap Read (as_value l place (suc place) x (inr refl)).2.2
-      ∙ (put_reads (slice_index l place) x plain
-      ∙ (ap (λ (z : ℕ). with_value place z x (Read l)) (sym reads_kind) ∙ sym (as_value (Read l) place (suc place) x (inr refl)).2.2))
+      ap Read (payload_as l)
+      ∙ (put_reads (slice_index l spot) x plain
+      ∙ (ap (λ (z : ℕ). with_value spot z x (Read l)) (sym reads_kind) ∙ sym (payload_as (Read l))))
 
 -- ---- calls
 
@@ -110,7 +119,7 @@ laid_else n p q w ne few (OldEntry place word value ∷ calls) plain l = laid_el
 
 -- the value of the entry names no box still
 pub laid_plain : (n p : ℕ) (calls : List Access) → ArePlainCalls n p calls → (l : List ℕ) → entry_offset n p 4 < length l → entry_field n l p 4 ≢ 4 → entry_field n (laid n calls l) p 4 ≢ 4
-laid_plain n p [] plain l long before = before
+laid_plain n p [] plain l long before four = before four
 laid_plain n p (PutIndex slot value ∷ calls) plain l long before four =
     let in_index = plain.0 in
     laid_plain n p calls plain.1 l long before (sym (get_or-set_other (laid n calls l) slot (entry_offset n p 4) value 0 (λ e. absurd (omega (arith, e, in_index)))) ∙ four)
@@ -147,12 +156,9 @@ module _ (kind : Kind) (keyed : IsKeyed kind) (c p : ℕ) (low : p < rows kind c
   -- the table names the boxes that it named
   pub laid_names : (calls : List Access) → ArePlainCalls n p calls → (b t : ℕ) → class_of t ≡ c → named_in_root b kind (suc t) (laid n calls l) ≡ named_in_root b kind (suc t) l
   laid_names calls plain b t is =
-      subst (λ (z : ℕ). named_at z (laid n calls l) ≡ named_at z l) (sym is)
+      subst (λ (z : ℕ). sum_to (names_box_at b kind z (laid n calls l)) (rows kind z) ≡ sum_to (names_box_at b kind z l) (rows kind z)) (sym is)
       (sum_same (names_box_at b kind c (laid n calls l)) (names_box_at b kind c l) m one)
     where
-      abbrev named_at : ℕ → List ℕ → ℕ
-      named_at z table = sum_to (names_box_at b kind z table) (rows kind z)
-
       one : (q : ℕ) → q < m → names_box_at b kind c (laid n calls l) q ≡ names_box_at b kind c l q
       one q less =
           dite (ℕ_discrete q p)

@@ -1,14 +1,12 @@
 -- A dict or a set that gets another table, filled with what it has: that the root may be put, and what a new key finds there.
-use Rattle.std.proofs.Common.{◌≡◌, ◌≢◌, ℕ, zero, suc, ◌+◌, ◌*◌, ◌^◌, ◌%◌, ◌<◌, ◌≤◌, Bool, true, false, true≢false, List, [], ◌∷◌, length, filter, Option, Some, None, refl, sym, ap, ◌∙◌, subst, arith, length-set, get_or-set_same, get_or-set_other}
+use Rattle.std.proofs.Common.{◌≡◌, ◌≢◌, ℕ, suc, ◌^◌, ◌<◌, true, true≢false, List, ◌∷◌, filter, Option, Some, None, sym, ap, ◌∙◌, subst, arith, length-set, get_or-set_same, get_or-set_other}
 use Rattle.std.specs.Prelude.{All, is_some, slice_index, slice_set}
 use Rattle.std.specs.Option.{unwrap_or}
 use Rattle.ft_model.specs.declared.content.Content.{Content}
 use Rattle.ft_model.specs.declared.content.Content.TheVariants as content
 use Rattle.ft_model.specs.declared.data.Key.{Key}
 use Rattle.ft_model.specs.declared.script.Kind.{Kind}
-use Rattle.ft_model.specs.declared.script.Kind.TheVariants as kind
 use Rattle.ft_model.specs.Classes.{IsClass}
-use Rattle.ft_model.specs.TableUses.{TableUse}
 use Rattle.ft_model.specs.Worlds.{kind_of, length_of, serial_of}
 use Rattle.ft_layout.specs.declared.slot.Stored.{Stored}
 use Rattle.ft_layout.specs.Containers.{class_mask, IsRoot, IsBlock, StandsAs}
@@ -21,16 +19,14 @@ use Rattle.ft_keys.specs.Ways.{walk_slots, IsTableOf}
 use Rattle.ft_trace.specs.declared.Act.TheVariants.{StartWrite}
 use Rattle.ft_trace.specs.declared.Shape.{Shape}
 use Rattle.ft_trace.specs.declared.View.{View}
-use Rattle.ft_trace.specs.Acts.{has_lock, is_writing, mem, view_after, stage}
-use Rattle.ft_trace.specs.Addresses.{container_count, class_of, slots, size}
-use Rattle.ft_trace.specs.Carefuls.{Sound}
+use Rattle.ft_trace.specs.Acts.{is_writing, mem, view_after, stage}
+use Rattle.ft_trace.specs.Addresses.{class_of}
 use Rattle.ft_trace.specs.Boxes.{named_in_root, known_box_word}
 use Rattle.ft_trace.specs.Holds.{held_unboxed, known_state, in_hand, hand_unboxed}
 use Rattle.ft_trace.specs.Kinds.{rows, version_at, SoundAs, IsKeyed}
 use Rattle.ft_trace.specs.OddVersions.{Shut}
 use Rattle.ft_trace.specs.Traces.{IsReachable}
-use Rattle.ft_trace.specs.Pictures.{ContainerWords, root_in, entry_offset, entry_field, Represents}
-use Rattle.ft_trace.specs.ContainerStates.{ContainerState, kind_in}
+use Rattle.ft_trace.specs.ContainerStates.{kind_in}
 use Rattle.ft_trace.proofs.ByKind.{keyed_fit}
 use Rattle.ft_trace.proofs.Cases.{hit}
 use Rattle.ft_trace.proofs.DictWrites as dict
@@ -50,10 +46,10 @@ use Rattle.ft_search.proofs.Puts.{few_done, keyed_value, keyed_version, table_cl
 use Rattle.ft_table_calls.proofs.PlainTables.{ArePlain, plain_named, plain_reads}
 use Rattle.ft_new_keys.specs.declared.counts.Counts.{Counts}
 use Rattle.ft_new_keys.specs.Fresh.{IsFilledWith}
-use Rattle.ft_new_keys.specs.KeyGrowth.{KnowsKeyed, MayGrowKeyed, IsFreeFor}
+use Rattle.ft_new_keys.specs.KeyGrowth.{MayGrowKeyed, IsFreeFor}
 use Rattle.ft_new_keys.specs.Placing.{AreCounts, StoresAs, counted}
 use Rattle.ft_new_keys.proofs.Keyed.{Heads, way_is, counts_known}
-use Rattle.ft_new_keys.proofs.Placed.{Fresh, way_of, use_with, none_used, counted_head, kind_shut}
+use Rattle.ft_new_keys.proofs.Placed.{Fresh, use_with, none_used, counted_head, kind_shut}
 
 -- ---- readers of a table that stands for a content
 

@@ -1,9 +1,8 @@
-use Rattle.std.proofs.Common.{◌≡◌, ◌≢◌, ℕ, suc, ◌+◌, ◌^◌, ◌<◌, ◌≤◌, List, [], ◌∷◌, filter, Option, Some, None, refl, sym, ap, ◌∙◌, subst, arith}
+use Rattle.std.proofs.Common.{◌≡◌, ◌≢◌, false, ℕ, suc, ◌+◌, ◌^◌, ◌<◌, List, [], ◌∷◌, filter, Some, None, sym, ap, ◌∙◌, subst, arith}
 use Rattle.std.specs.Prelude.{All, slice_set}
 use Rattle.ft_model.specs.declared.content.Content.{Content}
 use Rattle.ft_model.specs.declared.script.Kind.{Kind}
 use Rattle.ft_model.specs.Worlds.{kind_of, length_of}
-use Rattle.ft_layout.specs.declared.slot.Pair.{Pair}
 use Rattle.ft_layout.specs.Containers.{class_mask}
 use Rattle.ft_layout.specs.Tables.{UsedEntry, is_live, hash_of}
 use Rattle.ft_keys.specs.Ways.{IsTableOf}
@@ -13,13 +12,15 @@ use Rattle.ft_trace.specs.Addresses.{container_count, class_of, slots}
 use Rattle.ft_trace.specs.Holds.{held_words, held_unboxed, known_state, in_hand}
 use Rattle.ft_trace.specs.Kinds.{rows}
 use Rattle.ft_trace.specs.Pictures.{ContainerWords, root_in}
-use Rattle.ft_trace.specs.ContainerStates.{ContainerState, changes, kind_in}
+use Rattle.ft_trace.specs.ContainerStates.{ContainerState, kind_in}
 use Rattle.ft_bank.specs.Passes.{shape_of, view}
 use Rattle.ft_bank.specs.TableNames.{table_id}
 use Rattle.ft_bank.specs.Whole.{OnlyLoaded, OnlyWritten}
 use Rattle.ft_bank.proofs.TableAddresses.{class_is}
-use Rattle.ft_bank.proofs.KnownAfterWrites.{loaded_put, put_written, work_knows, written_then}
-use Rattle.ft_search.proofs.Puts.{same_done}
+use Rattle.ft_bank.proofs.KnownAfterWrites.{loaded_put, put_written, written_then}
+use Rattle.ft_trace.specs.Acts.{has_committed}
+use Rattle.ft_trace.proofs.Cases.{hit}
+use Rattle.ft_search.proofs.Puts.{same_done, writes_on}
 use Rattle.ft_search.specs.Held.{IsHeldAt}
 use Rattle.ft_search.specs.Rounds.{kind_by}
 use Rattle.ft_search.specs.OneEntryWrites.{Leaves, WritesEntries}
@@ -30,9 +31,9 @@ use Rattle.ft_new_keys.specs.Fresh.{IsFilledWith}
 use Rattle.ft_new_keys.specs.KeyGrowth.{MayGrowKeyed, IsFreeFor}
 use Rattle.ft_new_keys.specs.Placing.{AreCounts, with_key}
 use Rattle.ft_new_keys.specs.Internal.Laying.{IsUnused, with_entry}
-use Rattle.ft_new_keys.proofs.FinishedKeys.{Since, adds_leaves, key_finishes, since_root}
+use Rattle.ft_new_keys.proofs.FinishedKeys.{adds_leaves, key_finishes, since_root}
 use Rattle.ft_new_keys.proofs.Grown.{grow_filled, grown_wrote, leaves_filled, same_filled, words_filled, filled_has}
-use Rattle.ft_new_keys.proofs.Keyed.{counts_known, use_known}
+use Rattle.ft_new_keys.proofs.Keyed.{counts_known}
 use Rattle.ft_new_keys.proofs.Placed.{Fresh, PlaceLaws, pair_for, place_unused, places_key, refs_then, stores_plain, use_with}
 use Rattle.ft_new_keys.proofs.Rooted.{absent_in, filled_says, fresh_rooted, shut_rooted}
 use Rattle.ft_new_keys.proofs.Wanted.{grown_use}
@@ -152,6 +153,23 @@ put_key-requires-clause-unused c =
     let words = looked d y (view c.free_slot-slot.new.pass) c.begin_in.ensures.pass.1 c.begin_in.ensures.writes c.free_slot-slot.ensures.only ∙ c.begin_in.ensures.words in
     subst (λ (z : Kind × ContainerWords). IsUnused n (rows z.0 (class_of (table_id a.table))) z.1.table c.free_slot-slot.result a.counts.count) (λ i. (kind_eq d i, sym words i))
     (place_unused (laws d) k.texts (rooted d) (table_id a.table) c.free_slot-slot.result (all d) (known_state a.o x).content a.key a.stored (fresh d (held_unboxed a.o y) c.free_slot-slot.result c.hash_of-hash.result c.begin_in.ensures.words c.hash_of-hash.ensures c.hash_of-hash.type_inv c.free_slot-slot.ensures.slot))
+
+pub put_key-requires-clause-writes : goal.put_key-requires-clause-writes
+put_key-requires-clause-writes c =
+    let o = c.args.o in
+    let y = view c.begin_in.new.pass in
+    let z = view c.free_slot-slot.new.pass in
+    let l = c.free_slot-slot.ensures.only in
+    writes_on (shape_of c.args.bank.now) o c.args.table y z c.begin_in.ensures.pass.1 (loaded_put y z o l) l.boxes.references
+    (ap root_in (looked (goal.at.put_key-requires-clause-writes c).After-fill y z c.begin_in.ensures.pass.1 c.begin_in.ensures.writes l)) c.begin_in.ensures.writes
+
+pub put_key-requires-clause-early : goal.put_key-requires-clause-early
+put_key-requires-clause-early c =
+    let o = c.args.o in
+    let b = c.begin_in.ensures.begins in
+    c.free_slot-slot.ensures.only.work.committed o
+    ∙ (b.only.work.committed o
+    ∙ (ap (λ (z : View). has_committed o z.log) b.is ∙ hit o false (has_committed o (view c.fill.new.pass).log)))
 
 pub put_key-requires-clause-value : goal.put_key-requires-clause-value
 put_key-requires-clause-value c = (c.requires.value, stores_plain (kind_by c.args.way) c.args.stored c.requires.stores)

@@ -1,4 +1,4 @@
-use Rattle.std.proofs.Common.{◌≡◌, ◌<◌, ◌≤◌, ◌+◌, ◌^◌, ℕ, true, false, Option, Some, None, refl, sym, ap, ◌∙◌, subst, arith, lt-ltb}
+use Rattle.std.proofs.Common.{◌≡◌, ◌<◌, ◌+◌, ◌^◌, ℕ, true, false, Option, Some, None, refl, sym, ap, ◌∙◌, subst, arith, lt-ltb}
 use Rattle.std.specs.Prelude.{nat_lt}
 use Rattle.ft_model.specs.declared.content.Content.{Content}
 use Rattle.ft_model.specs.TableUses.{TableUse}
@@ -19,7 +19,7 @@ use Rattle.ft_new_keys.specs.Placing.{AreCounts}
 use Rattle.ft_new_keys.proofs.Keyed.{counts_known, use_known}
 use Rattle.ft_new_keys.proofs.Present.{adds_one}
 use Rattle.ft_new_keys.proofs.Taken.{adds_later, has_loaded, may_loaded}
-use Rattle.ft_new_keys.proofs.Wanted.{most_few, passes_not}
+use Rattle.ft_new_keys.proofs.Wanted.{passes_not}
 use Rattle.ft_new_keys.proofs.keys.add_key.Goals as goal
 use Rattle.ft_new_keys.proofs.keys.add_key.Goals.{After-read_counts-counts}
 

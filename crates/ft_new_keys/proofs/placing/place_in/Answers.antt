@@ -1,4 +1,4 @@
-use Rattle.std.proofs.Common.{◌≡◌, ◌<◌, ℕ, ◌+◌, sym, subst, List, arith}
+use Rattle.std.proofs.Common.{◌≡◌, ◌<◌, ◌+◌, sym, subst, List, arith}
 use Rattle.ft_layout.specs.Words.{entry_words}
 use Rattle.ft_keys.specs.declared.words.Access.{Access}
 use Rattle.ft_keys.specs.TableChanges.{place_puts}
@@ -12,12 +12,18 @@ use Rattle.ft_search.specs.declared.words.TableWords.{TableWords}
 use Rattle.ft_search.proofs.WordPlaces.{mask_is, slots_is}
 use Rattle.ft_search.proofs.Running.{ran}
 use Rattle.ft_new_keys.proofs.Laid.{Laid, ran_laid, laid_same, laid_words}
+use Rattle.ft_new_keys.proofs.OldValues.{row_place}
 use Rattle.ft_new_keys.proofs.PlainCalls.{ArePlainCalls, place_plain}
 use Rattle.ft_new_keys.proofs.placing.place_in.Goals as goal
 use Rattle.ft_new_keys.proofs.placing.place_in.Goals.{After-place_at}
 
 pub place_at-requires-clause-mask : goal.place_at-requires-clause-mask
 place_at-requires-clause-mask c = let s = c.args.words.now in mask_is s.table.class s.mask c.requires.can.table.0 c.requires.can.mask
+
+pub place_at-requires-clause-fill : goal.place_at-requires-clause-fill
+place_at-requires-clause-fill c =
+    let s = c.args.words.now in
+    row_place (shape_of s.bank.now) s.o s.table s.mask c.args.place c.requires.keyed c.requires.can.table c.requires.can.mask c.requires.place
 
 pub returns-clause-same : goal.returns-clause-same
 returns-clause-same c = (ran c.args.words.now (place_puts c.args.slot c.args.place (entry_words c.args.pair.now)) c.place_at.new.words c.place_at.ensures.runs).0

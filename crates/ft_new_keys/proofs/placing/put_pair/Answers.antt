@@ -1,21 +1,16 @@
-use Rattle.std.proofs.Common.{rules, ◌≡◌, ℕ, ◌+◌, ◌*◌, ◌<◌, ◌≤◌, sym, ap, ◌∙◌, subst, arith}
+use Rattle.std.proofs.Common.{rules, ◌≡◌, ◌+◌, ◌*◌, ap, ◌∙◌, subst, arith}
 use Rattle.std.specs.Prelude.{slice_index}
-use Rattle.ft_layout.specs.Words.{entry_words}
-use Rattle.ft_keys.specs.TableChanges.{place_puts}
-use Rattle.ft_trace.specs.Addresses.{class_of, slots, places}
+use Rattle.ft_trace.specs.Addresses.{class_of, slots}
 use Rattle.ft_trace.specs.Holds.{held_words, held_unboxed}
-use Rattle.ft_trace.specs.Pictures.{ContainerWords, root_in, entry_offset}
-use Rattle.ft_trace.specs.ContainerStates.{kind_in}
-use Rattle.ft_trace.proofs.ByKind.{keyed_fit}
+use Rattle.ft_trace.specs.Pictures.{entry_offset}
 use Rattle.ft_bank.specs.Passes.{shape_of, view}
 use Rattle.ft_bank.specs.TableNames.{table_id}
-use Rattle.ft_bank.specs.Whole.{OnlyPut, OnlyWritten}
+use Rattle.ft_bank.specs.Whole.{OnlyWritten}
 use Rattle.ft_bank.proofs.KnownAfterWrites.{put_written, written_then}
-use Rattle.ft_search.proofs.WordPlaces.{slots_is, places_is}
+use Rattle.ft_search.proofs.WordPlaces.{slots_is}
 use Rattle.ft_search.proofs.Boxing.{table_of}
-use Rattle.ft_search.proofs.Puts.{few_done, writes_on}
-use Rattle.ft_new_keys.specs.Internal.Laying.{laid, with_pair}
-use Rattle.ft_new_keys.proofs.NewEntryPuts.{pair_open, pair_opens, pair_stores, pair_allowed}
+use Rattle.ft_search.proofs.Puts.{few_done, few_slots}
+use Rattle.ft_new_keys.proofs.NewEntryPuts.{few_used, pair_open, pair_opens, pair_stores, pair_allowed}
 use Rattle.ft_new_keys.proofs.placing.put_pair.Goals as goal
 use Rattle.ft_new_keys.proofs.placing.put_pair.Goals.{After-mask_of-mask}
 
@@ -29,6 +24,34 @@ size c = slots_is (shape_of c.args.bank.now) c.args.table c.mask_of-mask.result 
 
 word_is : (c : After-mask_of-mask) → 8 * c.args.place + c.mask_of-mask.result + 1 + 4 ≡ entry_offset (slots (class_of (table_id c.args.table))) c.args.place 4
 word_is c = let s = size c in omega (arith, s)
+
+pub overflow_mul-word : goal.overflow_mul-word
+overflow_mul-word c =
+    let s = size (goal.at.overflow_mul-word c).After-mask_of-mask in
+    let p = few_used (shape_of c.args.bank.now) c.args.o c.args.table (view c.args.pass.now) c.args.slot c.args.place (held_unboxed c.args.o (view c.args.pass.now)).table c.requires.writes c.requires.unused in
+    let m = few_slots (shape_of c.args.bank.now) c.args.table c.requires.writes.table_in in
+    omega (arith, s, p, m)
+
+pub overflow_add-word : goal.overflow_add-word
+overflow_add-word c =
+    let s = size (goal.at.overflow_add-word c).After-mask_of-mask in
+    let p = few_used (shape_of c.args.bank.now) c.args.o c.args.table (view c.args.pass.now) c.args.slot c.args.place (held_unboxed c.args.o (view c.args.pass.now)).table c.requires.writes c.requires.unused in
+    let m = few_slots (shape_of c.args.bank.now) c.args.table c.requires.writes.table_in in
+    omega (arith, s, p, m)
+
+pub overflow_add-word-2 : goal.overflow_add-word-2
+overflow_add-word-2 c =
+    let s = size (goal.at.overflow_add-word-2 c).After-mask_of-mask in
+    let p = few_used (shape_of c.args.bank.now) c.args.o c.args.table (view c.args.pass.now) c.args.slot c.args.place (held_unboxed c.args.o (view c.args.pass.now)).table c.requires.writes c.requires.unused in
+    let m = few_slots (shape_of c.args.bank.now) c.args.table c.requires.writes.table_in in
+    omega (arith, s, p, m)
+
+pub overflow_add-word-3 : goal.overflow_add-word-3
+overflow_add-word-3 c =
+    let s = size (goal.at.overflow_add-word-3 c).After-mask_of-mask in
+    let p = few_used (shape_of c.args.bank.now) c.args.o c.args.table (view c.args.pass.now) c.args.slot c.args.place (held_unboxed c.args.o (view c.args.pass.now)).table c.requires.writes c.requires.unused in
+    let m = few_slots (shape_of c.args.bank.now) c.args.table c.requires.writes.table_in in
+    omega (arith, s, p, m)
 
 pub put_unboxed-requires-clause-writes : goal.put_unboxed-requires-clause-writes
 put_unboxed-requires-clause-writes c = table_of (shape_of c.args.bank.now) c.args.o c.args.table (view c.raise_version.new.pass) c.raise_version.ensures.writes

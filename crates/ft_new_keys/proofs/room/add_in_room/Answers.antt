@@ -1,7 +1,5 @@
-use Rattle.std.proofs.Common.{◌≡◌, ℕ, ◌+◌, ◌^◌, ◌<◌, [], Some, refl, sym, ap, ◌∙◌, subst, arith}
+use Rattle.std.proofs.Common.{◌≡◌, ℕ, ◌+◌, ◌^◌, ◌<◌, [], Some, sym, ◌∙◌, subst, arith}
 use Rattle.ft_model.specs.declared.script.Kind.{Kind}
-use Rattle.ft_layout.specs.declared.slot.Pair.{Pair}
-use Rattle.ft_layout.specs.Tables.{hash_of}
 use Rattle.ft_trace.specs.declared.View.{View}
 use Rattle.ft_trace.specs.Addresses.{class_of, slots}
 use Rattle.ft_trace.specs.Holds.{held_unboxed, known_state}

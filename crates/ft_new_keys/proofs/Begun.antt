@@ -90,8 +90,8 @@ module _ (k : Shape) (o : ℕ) (old : Option Table) (table : Table) (v s r : Vie
         let n = stage (table_id t) v.log in (
           was_in,
           ap (λ (z : View). stage (table_id t) z.log) is_rooted
-          ∙ (miss (suc (table_id table)) (suc (table_id t)) 0 (cond (root_in (held_words o v) == suc (table_id t)) 3 n) other
-          ∙ (ap (λ (z : ℕ). cond (z == suc (table_id t)) 3 n) was_root ∙ hit (suc (table_id t)) 3 n)),
+              ∙ (miss (suc (table_id table)) (suc (table_id t)) 0 (cond (root_in (held_words o v) == suc (table_id t)) 3 n) other
+              ∙ (ap (λ (z : ℕ). cond (z == suc (table_id t)) 3 n) was_root ∙ hit (suc (table_id t)) 3 n)),
         )
 
     was_named : HoldsNamed k o (table_id t) r

@@ -39,8 +39,8 @@ use ft_keys::{
     Found, Way, placed_pairs_are_of_a_table, room_of, searches_end_at_the_first_free_slot,
 };
 use ft_layout::{
-    Pair, Stored, entry_word, used_entries_follow_a_dict, used_entries_follow_a_set, versions_change_nothing,
-    words_are_of_one_content, words_follow_a_dict, words_follow_a_set,
+    Pair, Stored, entry_word, used_entries_follow_a_dict, used_entries_follow_a_set,
+    versions_change_nothing, words_are_of_one_content, words_follow_a_dict, words_follow_a_set,
 };
 use ft_model::{Call, Key, Reply};
 use ft_search::{finish_entry, mask_of, read_in};

@@ -17,8 +17,8 @@ use Rattle.ft_bank.specs.TableNames.{table_id, IsTableIn}
 use Rattle.ft_table_calls.specs.Adding.{OnlyFilled}
 use Rattle.ft_new_keys.specs.declared.fresh.FreshWords.{FreshWords}
 
--- The pass has the new table fresh in its hand, and the lock of the container, a dict or a set, whose root names the old
--- one and which it doesn't write. (profile)
+-- The pass has the new table fresh in its hand, and the lock of the container, a dict or a set, whose root names the
+-- old one and which it doesn't write. (profile)
 pub record CanFill (s : FreshWords) : Type 0 where
   pub pass : IsPassOf s.bank.now s.pass.now
   pub container : s.o < container_count (shape_of s.bank.now)

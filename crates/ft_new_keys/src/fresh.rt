@@ -1,6 +1,6 @@
 //! The words of a table that is fresh in a pass's hand, which no other pass reads, and those of the table that
-//! it is to take the place of, for `ft_keys::rebuild`. Values of the old one that stand in boxes are read there, so that
-//! the new one gets them in place.
+//! it is to take the place of, for `ft_keys::rebuild`. Values of the old one that stand in boxes are read there: the
+//! new one gets them in place.
 ghost use Rattle.std.specs.Prelude.{◌≡◌, ℕ, suc, ◌+◌, ◌<◌, true, slice_index};
 ghost use Rattle.ft_trace.specs.Acts.{has_lock};
 ghost use Rattle.ft_trace.specs.Addresses.{container_count, class_of};

@@ -64,7 +64,8 @@ fn entry_values(way: Way, class: u32) -> ValuePlaces
 pub fn drop_old(bank: &Bank, pass: &mut Pass, o: u32, way: Way, old: Option<Table>)
     requires pass { IsPassOf bank.now pass.old }
     requires way { kind_in (shape_of bank.now).starts o ≡ kind_by way }
-    requires out { (t : Table) → old ≡ Some t → IsTableIn (shape_of bank.now) t × (stage (table_id t) (view pass.old).log ≡ 3) }
+    requires out { (t : Table) → old ≡ Some t →
+        IsTableIn (shape_of bank.now) t × (stage (table_id t) (view pass.old).log ≡ 3) }
     requires shared { SharesBoxes (view pass.old) }
     requires held { HoldsOld (shape_of bank.now) o old (view pass.old) }
     ensures pass { IsPassOf bank.now pass.new }

@@ -10,6 +10,7 @@ ghost use Rattle.ft_trace.specs.ContainerStates.{kind_in};
 ghost use Rattle.ft_bank.specs.KeyHashes.{IsKeyIn};
 ghost use Rattle.ft_bank.specs.Passes.{shape_of, view, IsPassOf};
 ghost use Rattle.ft_bank.specs.PassSections.{stack_of};
+ghost use Rattle.ft_bank.specs.SameBoxes.{SameReferences};
 ghost use Rattle.ft_bank.specs.TableNames.{table_id};
 ghost use Rattle.ft_bank.specs.Whole.{Wrote};
 ghost use Rattle.ft_search.specs.Held.{IsHeldAt};
@@ -50,7 +51,8 @@ pub(crate) fn add_in_room(
     requires table { HasTable (shape_of bank.now) o table (view pass.old) }
     requires key { IsKeyIn (shape_of bank.now) key }
     requires fits { FitsKey key }
-    requires slot { IsFreeFor (shape_of bank.now).texts way table.class key (held_unboxed o (view pass.old)).table slot }
+    requires slot { IsFreeFor (shape_of bank.now).texts way table.class key (held_unboxed o (view pass.old)).table
+        slot }
     requires absent { IsHeldAt (known_state o (view pass.old)).content key None }
     requires counts { AreCounts (held_unboxed o (view pass.old)).block counts }
     requires room { counts.fill < rows (kind_by way) (class_of (table_id table)) }
@@ -65,6 +67,7 @@ pub(crate) fn add_in_room(
     ensures pass { IsPassOf bank.now pass.new }
     ensures stack { stack_of pass.new ≡ stack_of pass.old }
     ensures wrote { Wrote called.now said.now result (view pass.old) (view pass.new) }
+    ensures references { SameReferences (view pass.old) (view pass.new) }
     ensures root { root_in (held_unboxed o (view pass.new)) ≡ root_in (held_unboxed o (view pass.old)) }
 {
     let _ = way;

@@ -26,7 +26,7 @@ use Rattle.ft_trace.specs.declared.Shape.{Shape}
 use Rattle.ft_trace.specs.declared.View.{View}
 use Rattle.ft_trace.specs.Acts.{has_lock, view_after}
 use Rattle.ft_trace.specs.Addresses.{container_count, class_of, slots}
-use Rattle.ft_trace.specs.Holds.{held_words, known_state}
+use Rattle.ft_trace.specs.Holds.{held_unboxed, known_state}
 use Rattle.ft_trace.specs.LookReplies.{item_reply}
 use Rattle.ft_trace.specs.LoggedReads.{Agrees, LookedAtOne}
 use Rattle.ft_trace.specs.Pictures.{ContainerWords, root_in, item_field, Represents}
@@ -173,5 +173,5 @@ get_held v u o index found n loaded left low mine is =
     held_shown v u n loaded left called (item_reply found) plain.reads plain.cursor right (λ stored. plain.cause stored (ReadCounter n ∷ u.log) n)
 
 -- what such a pass reads
-pub reads_held : (k : Shape) (o : ℕ) (index : ℤ) (found : Option Value) (p q : Pass) → Reads k o (IsItemNamed k index found) p q → o < container_count k → kind_in (view p).shape.starts o ≡ kind.List → ∥ IsReachable (view p) ∥₁ → has_lock o (view p).log ≡ true → Represents k.texts (held_words o (view p)) (known_state o (view p)) → found ≡ item_named (list_of (known_state o (view p)).content) index
-reads_held k o index found p q r low is possible mine stands = r.3 (held_words o (view p)) (r.4 o low mine) (known_state o (view p)) (ap kind_of (list_content (view p) o possible mine is)) stands
+pub reads_held : (k : Shape) (o : ℕ) (index : ℤ) (found : Option Value) (p q : Pass) → Reads k o (IsItemNamed k index found) p q → o < container_count k → kind_in (view p).shape.starts o ≡ kind.List → ∥ IsReachable (view p) ∥₁ → has_lock o (view p).log ≡ true → Represents k.texts (held_unboxed o (view p)) (known_state o (view p)) → found ≡ item_named (list_of (known_state o (view p)).content) index
+reads_held k o index found p q r low is possible mine stands = r.3 (held_unboxed o (view p)) (r.4 o low mine) (known_state o (view p)) (ap kind_of (list_content (view p) o possible mine is)) stands

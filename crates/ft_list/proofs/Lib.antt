@@ -1,6 +1,7 @@
+pub mod Written
 pub mod Cares
+pub mod ItemValues
 pub mod PutItems
-pub mod Room
 pub mod FinishedWrites
 pub mod Commits
 pub mod ItemWordsPut
@@ -20,6 +21,7 @@ pub mod Both
 pub mod Filling
 pub mod Wanted
 pub mod GrownLists
+pub mod Rooted
 pub mod GrowWrites
 pub mod Additions
 pub mod Emptying

@@ -13,12 +13,13 @@ use Rattle.ft_trace.specs.declared.Act.{Act}
 use Rattle.ft_trace.specs.declared.Act.TheVariants.{ReadCounter}
 use Rattle.ft_trace.specs.declared.Shape.{Shape}
 use Rattle.ft_trace.specs.declared.View.{View}
-use Rattle.ft_trace.specs.LoggedReads.{Agrees, Among, Between}
+use Rattle.ft_trace.specs.LoggedReads.{Among, Between}
 use Rattle.ft_trace.specs.Pictures.{ContainerWords, root_in, item_field, Represents}
 use Rattle.ft_trace.specs.ContainerStates.{ContainerState}
 use Rattle.ft_bank.specs.LastLoads.{IsLastBetween}
 use Rattle.ft_section.specs.declared.answers.Look.{Look}
 use Rattle.ft_search.specs.Lengths.{StopsAtVersion, IsGlanceOf}
+use Rattle.ft_reads.specs.Reads.{ShowsRead}
 use Rattle.ft_list.specs.declared.gets.AtIndex.{AtIndex}
 use Rattle.ft_list.specs.declared.gets.AtIndex.TheVariants.{Found, Contended}
 use Rattle.ft_list.specs.ItemLooks.{IsGetOf}
@@ -55,7 +56,7 @@ pub record ShowsNamed (k : Shape) (o : ℕ) (index : ℤ) (found : Option Value)
   pub between : Between part o mid
   pub counted : Among (ReadCounter n) mid
   pub last : IsLastBetween o n part
-  pub shows : (x : ContainerWords) → Agrees k o mid x → IsItemNamed k index found x
+  pub shows : ShowsRead k o mid (IsItemNamed k index found)
 
 -- what these loads show of the list
 abbrev pub ShowsBetween : Shape → ℕ → ℤ → List Act → AtIndex → Type 0

@@ -42,6 +42,7 @@ fn copy_part(
 ) -> Result<Vec<Value>, AllocError>
     requires pass { IsPassOf bank.now pass.old }
     requires container { l < container_count (shape_of bank.now) }
+    requires list { kind_in (shape_of bank.now).starts l ≡ kind.List }
     ensures pass { IsPassOf bank.now pass.new }
     ensures reads { Reads (shape_of bank.now) l (IsOfItems (shape_of bank.now) (λ items. past ≤ length items →
         AreCopied result (drop first (take past items)))) pass.old pass.new }
@@ -65,6 +66,7 @@ fn copy_slice(
 ) -> Result<Vec<Value>, AllocError>
     requires pass { IsPassOf bank.now pass.old }
     requires container { l < container_count (shape_of bank.now) }
+    requires list { kind_in (shape_of bank.now).starts l ≡ kind.List }
     ensures pass { IsPassOf bank.now pass.new }
     ensures reads { Reads (shape_of bank.now) l (IsOfItems (shape_of bank.now) (λ items.
         AreCopied result (list_slice items start end))) pass.old pass.new }
@@ -82,6 +84,7 @@ pub fn copy_items(
 ) -> Result<Vec<Value>, AllocError>
     requires pass { IsPassOf bank.now pass.old }
     requires container { l < container_count (shape_of bank.now) }
+    requires list { kind_in (shape_of bank.now).starts l ≡ kind.List }
     ensures pass { IsPassOf bank.now pass.new }
     ensures reads { Reads (shape_of bank.now) l (IsOfItems (shape_of bank.now) (AreCopied result)) pass.old
         pass.new }

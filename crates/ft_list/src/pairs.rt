@@ -23,6 +23,8 @@ pub(crate) fn are_alike(bank: &Bank, pass: &mut Pass, l: Object, m: Object) -> b
     requires pass { IsPassOf bank.now pass.old }
     requires container { l < container_count (shape_of bank.now) }
     requires other { m < container_count (shape_of bank.now) }
+    requires list { kind_in (shape_of bank.now).starts l ≡ kind.List }
+    requires other_list { kind_in (shape_of bank.now).starts m ≡ kind.List }
     ensures pass { IsPassOf bank.now pass.new }
     ensures reads { ReadsBoth (shape_of bank.now) l m
         (AreOfItems (shape_of bank.now) (λ items others. result ≡ same_items items others)) pass.old pass.new }

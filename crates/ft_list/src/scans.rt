@@ -17,6 +17,7 @@ use ft_section::Object;
 pub(crate) fn first_equal(bank: &Bank, pass: &mut Pass, l: Object, value: Value) -> Option<u64>
     requires pass { IsPassOf bank.now pass.old }
     requires container { l < container_count (shape_of bank.now) }
+    requires list { kind_in (shape_of bank.now).starts l ≡ kind.List }
     ensures pass { IsPassOf bank.now pass.new }
     ensures reads { Reads (shape_of bank.now) l (IsOfItems (shape_of bank.now) (λ items. result ≡ index_of items value))
         pass.old pass.new }
@@ -35,6 +36,7 @@ pub(crate) fn first_equal(bank: &Bank, pass: &mut Pass, l: Object, value: Value)
 pub(crate) fn count_equal(bank: &Bank, pass: &mut Pass, l: Object, value: Value) -> u64
     requires pass { IsPassOf bank.now pass.old }
     requires container { l < container_count (shape_of bank.now) }
+    requires list { kind_in (shape_of bank.now).starts l ≡ kind.List }
     ensures pass { IsPassOf bank.now pass.new }
     ensures reads { Reads (shape_of bank.now) l (IsOfItems (shape_of bank.now) (λ items. result ≡ count_of items value))
         pass.old pass.new }

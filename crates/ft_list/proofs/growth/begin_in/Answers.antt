@@ -11,7 +11,7 @@ use Rattle.ft_list.specs.ListItemWrites.{IsPutting, known_items, stored_item}
 use Rattle.ft_list.proofs.Cares.{table_class}
 use Rattle.ft_list.proofs.Filling.{filled_putting}
 use Rattle.ft_list.proofs.GrownLists.{grow_content, may_root, list_head, with_other_root}
-use Rattle.ft_trace.specs.Holds.{held_words, known_state}
+use Rattle.ft_trace.specs.Holds.{held_unboxed, known_state}
 use Rattle.ft_list.proofs.growth.begin_in.Goals as goal
 
 pub put_root-requires-clause-may : goal.put_root-requires-clause-may
@@ -40,7 +40,7 @@ returns-clause-head c =
     let k = shape_of a.bank.now in
     let v = view a.pass.now in
     let class = class_of (table_id a.table) in
-    let head = with_other_root (held_words a.o v).block (known_state a.o v).table.class k a.table (length (known_items a.o v))
+    let head = with_other_root (held_unboxed a.o v).block (known_state a.o v).table.class k a.table (length (known_items a.o v))
     (list_head k.texts v a.o (grow_content k a.o a.old a.table v c.requires.may c.requires.pass.1 a.pass.now.possible) c.requires.may.list.stands) c.requires.may.table_in in
     subst (λ (x : ContainerWords). IsBlock x.block (Some class) (length (known_items a.o v)) 0 0) (sym c.put_root.ensures.held)
-    (subst (λ (u : View). IsBlock (with_root (held_words a.o u) (Some a.table) u).block (Some class) (length (known_items a.o v)) 0 0) (sym c.start_write.ensures.1) head)
+    (subst (λ (u : View). IsBlock (with_root (held_unboxed a.o u) (Some a.table) u).block (Some class) (length (known_items a.o v)) 0 0) (sym c.start_write.ensures.1) head)

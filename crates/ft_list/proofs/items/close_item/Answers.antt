@@ -6,10 +6,10 @@ use Rattle.ft_trace.specs.Addresses.{class_of, size}
 use Rattle.ft_trace.specs.ContainerStates.{ContainerState}
 use Rattle.ft_trace.specs.Pictures.{ContainerWords, item_field}
 use Rattle.ft_trace.specs.ItemWords.{said_at, words_at}
-use Rattle.ft_trace.specs.Holds.{held_words}
+use Rattle.ft_trace.specs.Holds.{held_unboxed}
 use Rattle.ft_bank.specs.Passes.{shape_of, view}
 use Rattle.ft_bank.specs.TableNames.{table_id}
-use Rattle.ft_bank.proofs.KnownAfterWrites.{loaded_put, put_by, put_then, work_knows}
+use Rattle.ft_bank.proofs.KnownAfterWrites.{loaded_put, put_by, written_then, work_knows}
 use Rattle.ft_list.specs.ListItemWrites.{known_items}
 use Rattle.ft_list.proofs.Cares.{few_slots, inside, close_care, item_room}
 use Rattle.ft_list.proofs.items.close_item.Goals as goal
@@ -38,9 +38,9 @@ put_word-requires-clause-care c =
     let v = view a.pass.now in
     let w = view c.read_word-version.new.pass in
     let e = c.read_word-version.ensures in
-    let found : c.read_word-version.result ≡ item_field (held_words a.o w).table a.place 0 = e.found ∙ sym (ap (λ (z : ContainerWords). item_field z.table a.place 0) e.held) in
+    let found : c.read_word-version.result ≡ item_field (held_unboxed a.o w).table a.place 0 = e.found ∙ sym (ap (λ (z : ContainerWords). item_field z.table a.place 0) e.held) in
     let known_now : known_items a.o w ≡ known_items a.o v = ap (λ (z : ContainerState). list_of z.content) (work_knows v w a.o e.only.work) in
-    let says : words_at (known_items a.o w) a.place ≡ said_at (held_words a.o w).table a.place =
+    let says : words_at (known_items a.o w) a.place ≡ said_at (held_unboxed a.o w).table a.place =
     ap (λ (z : List Value). words_at z a.place) known_now ∙ (c.requires.says ∙ sym (ap (λ (z : ContainerWords). said_at z.table a.place) e.held)) in
     close_care k a.o a.table w e.list e.pass.1 a.place c.read_word-version.result c.word_at.result c.word_at.ensures (e.only.work.committed a.o ∙ c.requires.late) found c.if-version-eq1.true says
 
@@ -51,5 +51,5 @@ returns-then-version-eq1-clause-only c =
     let u = view c.read_word-version.new.pass in
     let w = view c.put_word.new.pass in
     let p = c.put_word.ensures in
-    put_then v u w a.o (loaded_put v u a.o c.read_word-version.ensures.only)
+    written_then a.o v u w (loaded_written a.o v u c.read_word-version.ensures.only)
     (put_by (PutTable a.o (table_id a.table) c.word_at.result (c.read_word-version.result + 1)) u w a.o tt p.did.1 p.keeps)

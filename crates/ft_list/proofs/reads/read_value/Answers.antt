@@ -5,7 +5,7 @@ use Rattle.ft_layout.specs.declared.slot.Stored.TheVariants.{Plain}
 use Rattle.ft_layout.specs.Words.{IsStored}
 use Rattle.ft_trace.specs.declared.Act.TheVariants.{ReadTable}
 use Rattle.ft_trace.specs.Addresses.{class_of, size}
-use Rattle.ft_trace.specs.Holds.{held_words}
+use Rattle.ft_trace.specs.Holds.{held_unboxed}
 use Rattle.ft_trace.specs.Pictures.{root_in, item_offset}
 use Rattle.ft_bank.specs.Passes.{shape_of, view}
 use Rattle.ft_bank.specs.Series.{DidAll}
@@ -51,10 +51,10 @@ returns-in-Some-clause-reads c =
     let two = item_offset a.place 2 in
     let first : Reads k a.l (λ x. root_in x ≡ suc t → kind ≡ slice_index x.table one) p q = reads_table k a.l t one kind p q (named k a.table c.requires.table) (inside k a.table c.requires.table a.place 1 c.requires.place (omega arith))
     (subst (λ (z : ℕ). DidAll (ReadTable t z kind ∷ []) p q) c.word_at.ensures c.read_table-kind.ensures.did)
-    (λ o low mine names. c.read_table-kind.ensures.held o low mine names ∙ ap (slice_index (held_words o (view p)).table) c.word_at.ensures) in
+    (λ o low mine names. c.read_table-kind.ensures.held o low mine names ∙ ap (slice_index (held_unboxed o (view p)).table) c.word_at.ensures) in
     let second : Reads k a.l (λ x. root_in x ≡ suc t → payload ≡ slice_index x.table two) q r = reads_table k a.l t two payload q r (named k a.table c.requires.table) (inside k a.table c.requires.table a.place 2 c.requires.place (omega arith))
     (subst (λ (z : ℕ). DidAll (ReadTable t z payload ∷ []) q r) c.word_at-2.ensures c.read_table-payload.ensures.did)
-    (λ o low mine names. c.read_table-payload.ensures.held o low mine names ∙ ap (slice_index (held_words o (view q)).table) c.word_at-2.ensures) in
+    (λ o low mine names. c.read_table-payload.ensures.held o low mine names ∙ ap (slice_index (held_unboxed o (view q)).table) c.word_at-2.ensures) in
     reads_map k a.l (λ x. (root_in x ≡ suc t → kind ≡ slice_index x.table one) × (root_in x ≡ suc t → payload ≡ slice_index x.table two)) (IsItemValue t a.place c.in-Some.found) p r
     (λ x both names value stored.
     let read : IsStored kind payload (Plain value) = subst (λ (z : ℕ × ℕ). IsStored z.0 z.1 (Plain value)) (λ d. (sym (both.0 names) d, sym (both.1 names) d)) stored in
@@ -77,10 +77,10 @@ returns-in-None-clause-reads c =
     let two = item_offset a.place 2 in
     let first : Reads k a.l (λ x. root_in x ≡ suc t → kind ≡ slice_index x.table one) p q = reads_table k a.l t one kind p q (named k a.table c.requires.table) (inside k a.table c.requires.table a.place 1 c.requires.place (omega arith))
     (subst (λ (z : ℕ). DidAll (ReadTable t z kind ∷ []) p q) c.word_at.ensures c.read_table-kind.ensures.did)
-    (λ o low mine names. c.read_table-kind.ensures.held o low mine names ∙ ap (slice_index (held_words o (view p)).table) c.word_at.ensures) in
+    (λ o low mine names. c.read_table-kind.ensures.held o low mine names ∙ ap (slice_index (held_unboxed o (view p)).table) c.word_at.ensures) in
     let second : Reads k a.l (λ x. root_in x ≡ suc t → payload ≡ slice_index x.table two) q r = reads_table k a.l t two payload q r (named k a.table c.requires.table) (inside k a.table c.requires.table a.place 2 c.requires.place (omega arith))
     (subst (λ (z : ℕ). DidAll (ReadTable t z payload ∷ []) q r) c.word_at-2.ensures c.read_table-payload.ensures.did)
-    (λ o low mine names. c.read_table-payload.ensures.held o low mine names ∙ ap (slice_index (held_words o (view q)).table) c.word_at-2.ensures) in
+    (λ o low mine names. c.read_table-payload.ensures.held o low mine names ∙ ap (slice_index (held_unboxed o (view q)).table) c.word_at-2.ensures) in
     reads_map k a.l (λ x. (root_in x ≡ suc t → kind ≡ slice_index x.table one) × (root_in x ≡ suc t → payload ≡ slice_index x.table two)) (IsItemValue t a.place None) p r
     (λ x both names value stored.
     let read : IsStored kind payload (Plain value) = subst (λ (z : ℕ × ℕ). IsStored z.0 z.1 (Plain value)) (λ d. (sym (both.0 names) d, sym (both.1 names) d)) stored in

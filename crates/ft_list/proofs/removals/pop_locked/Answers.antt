@@ -37,7 +37,7 @@ returns-in-Some-clause-made c =
     let x = view c.remove_item-number.new.pass in
     let e = c.table_of-table.ensures in
     let f = c.item_at-item.ensures in
-    let may = may_loaded k a.l t y f.only e.may in
+    let may = may_loaded k a.l t y e.pass.1 f.only e.may in
     let z = unwrap_or a.index (negsuc 0) in
     let index : to_z w64 (of_z w64 c.unwrap_or.result) ≡ z = to_z-of_z {w = w64} {z = c.unwrap_or.result} (sfits_lit (subst T (sym (lt-ltb (mag c.unwrap_or.result) (2 ^ 63) c.unwrap_or.type_inv)) tt)) ∙ c.unwrap_or.ensures in
     let values = known_items a.l y in

@@ -2,10 +2,10 @@ use Rattle.std.proofs.Common.{◌≡◌, ◌-◌, sym, ◌∙◌, subst, arith}
 use Rattle.ft_layout.specs.Words.{IsStored}
 use Rattle.ft_trace.specs.Addresses.{class_of}
 use Rattle.ft_trace.specs.Pictures.{ContainerWords, item_field}
-use Rattle.ft_trace.specs.Holds.{held_words}
+use Rattle.ft_trace.specs.Holds.{held_unboxed}
 use Rattle.ft_bank.specs.Passes.{shape_of, view}
 use Rattle.ft_bank.specs.TableNames.{table_id}
-use Rattle.ft_bank.proofs.KnownAfterWrites.{loaded_put, loaded_then, put_then}
+use Rattle.ft_bank.proofs.KnownAfterWrites.{loaded_put, loaded_then, written_then}
 use Rattle.ft_list.specs.ListItemWrites.{PutsItem, stored_item}
 use Rattle.ft_list.proofs.Cares.{table_class}
 use Rattle.ft_list.proofs.Turned.{turning_finds, turning_next}
@@ -18,11 +18,11 @@ returns-clause-turned c values long turning =
     let is_class = table_class (shape_of a.bank.now) a.table c.requires.list.table_in in
     let last = a.count - 1 - a.at in
     let places = c.requires.places in
-    let v = held_words a.o (view a.pass.now) in
-    let y = held_words a.o (view c.item-early.new.pass) in
-    let z = held_words a.o (view c.item-late.new.pass) in
-    let m = held_words a.o (view c.put_item.new.pass) in
-    let n = held_words a.o (view c.put_item-2.new.pass) in
+    let v = held_unboxed a.o (view a.pass.now) in
+    let y = held_unboxed a.o (view c.item-early.new.pass) in
+    let z = held_unboxed a.o (view c.item-late.new.pass) in
+    let m = held_unboxed a.o (view c.put_item.new.pass) in
+    let n = held_unboxed a.o (view c.put_item-2.new.pass) in
     let e = c.item-early.ensures in
     let f = c.item-late.ensures in
     let early : c.item-early.result ≡ stored_item values a.at = e.stored (stored_item values a.at) (turning_finds class is_class values a.at a.at v.table turning (omega arith) (omega (arith, places, long)) (omega (arith, places))) in
@@ -39,5 +39,5 @@ returns-clause-only c =
     let v = view c.args.pass.now in
     let u = view c.item-late.new.pass in
     let x = view c.put_item.new.pass in
-    let loads = loaded_put v u o (loaded_then v (view c.item-early.new.pass) u c.item-early.ensures.only c.item-late.ensures.only) in
-    put_then v x (view c.put_item-2.new.pass) o (put_then v u x o loads c.put_item.ensures.only) c.put_item-2.ensures.only
+    let loads = loaded_written o v u (loaded_then v (view c.item-early.new.pass) u c.item-early.ensures.only c.item-late.ensures.only) in
+    written_then o v x (view c.put_item-2.new.pass) (written_then o v u x loads c.put_item.ensures.only) c.put_item-2.ensures.only

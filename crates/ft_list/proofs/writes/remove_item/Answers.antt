@@ -6,11 +6,11 @@ use Rattle.ft_trace.specs.declared.Act.TheVariants.{PutBlock}
 use Rattle.ft_trace.specs.declared.View.{View}
 use Rattle.ft_trace.specs.Addresses.{class_of}
 use Rattle.ft_trace.specs.Pictures.{ContainerWords}
-use Rattle.ft_trace.specs.Holds.{held_words}
+use Rattle.ft_trace.specs.Holds.{held_unboxed}
 use Rattle.ft_bank.specs.Passes.{shape_of, view}
 use Rattle.ft_bank.specs.TableNames.{table_id}
-use Rattle.ft_bank.specs.Whole.{OnlyPut}
-use Rattle.ft_bank.proofs.KnownAfterWrites.{put_by, put_then}
+use Rattle.ft_bank.specs.Whole.{OnlyWritten}
+use Rattle.ft_bank.proofs.KnownAfterWrites.{put_by, written_then}
 use Rattle.ft_list.specs.ListItemWrites.{known_items}
 use Rattle.ft_list.specs.Internal.Moving.{IsMoving}
 use Rattle.ft_list.proofs.Cares.{table_class, writes_on}
@@ -42,14 +42,14 @@ finish-requires-clause-may c =
     let long : length news ≡ a.count - 1 = let l = long_remove values a.place (omega (arith, count, place)) in omega (arith, l, count) in
     let held_is = c.put_block.ensures.held in
     let last = put_by (PutBlock a.o 1 (a.count - 1)) y u a.o tt c.put_block.ensures.did.1 c.put_block.ensures.keeps in
-    let only : OnlyPut a.o s u = put_then s y u a.o e.only last in
+    let only : OnlyWritten a.o s u = written_then a.o s y u e.only last in
     let moving = subst (λ (w : ContainerWords). IsMoving class values news a.place (a.count) (a.count) w.table) (sym held_is) (e.moved values count (b.putting a.place (a.count))) in
-    let changing = moving_ends class is_class values news a.place (a.count) (a.count) (held_words a.o u).table moving (omega (arith, long, few, count))
+    let changing = moving_ends class is_class values news a.place (a.count) (a.count) (held_unboxed a.o u).table moving (omega (arith, long, few, count))
     (λ p more. stored_none values p (omega (arith, more, count)) ∙ sym (stored_none news p (omega (arith, more, long, count, place)))) in
-    let block : (held_words a.o y).block ≡ (held_words a.o s).block = e.block in
+    let block : (held_unboxed a.o y).block ≡ (held_unboxed a.o s).block = e.block in
     let head = subst (λ (w : ContainerWords). IsBlock w.block (Some class) (length news) 0 0) (sym held_is)
-    (subst (λ (n : ℕ). IsBlock (slice_set (held_words a.o y).block 1 (a.count - 1)) (Some class) n 0 0) (sym long)
-    (with_count (held_words a.o y).block (Some class) (length values) (a.count - 1) (subst (λ (l : List ℕ). IsBlock l (Some class) (length values) 0 0) (sym block) b.head))) in
+    (subst (λ (n : ℕ). IsBlock (slice_set (held_unboxed a.o y).block 1 (a.count - 1)) (Some class) n 0 0) (sym long)
+    (with_count (held_unboxed a.o y).block (Some class) (length values) (a.count - 1) (subst (λ (l : List ℕ). IsBlock l (Some class) (length values) 0 0) (sym block) b.head))) in
     let list = writes_on k a.o a.table y u last (root_stays _ _ _ _ (omega arith) c.put_block.ensures.held) e.list in
     let d = b.did in
     let call_is = c.requires.call in
@@ -67,7 +67,7 @@ returns-clause-wrote c =
     let e = c.shift_down.ensures in
     let last = put_by (PutBlock a.o 1 (a.count - 1)) y u a.o tt c.put_block.ensures.did.1 c.put_block.ensures.keeps in
     let call_is = c.requires.call in
-    list_wrote k a.o a.table v s u d.0 c.requires.may d.1.1 (put_then s y u a.o e.only last) call_is.0 a.called.now a.said.now c.finish.result (view c.finish.new.pass) call_is.1 call_is.2.write.changing c.finish.ensures.ends
+    list_wrote k a.o a.table v s u d.0 c.requires.may d.1.1 (written_then a.o s y u e.only last) call_is.0 a.called.now a.said.now c.finish.result (view c.finish.new.pass) call_is.1 call_is.2.write.changing c.finish.ensures.ends
     ((root_stays _ _ _ _ (omega arith) c.put_block.ensures.held) ∙ (e.list.root ∙ sym c.requires.table.root))
 
 pub returns-clause-root : goal.returns-clause-root
@@ -82,5 +82,5 @@ returns-clause-root c =
     let e = c.shift_down.ensures in
     let last = put_by (PutBlock a.o 1 (a.count - 1)) y u a.o tt c.put_block.ensures.did.1 c.put_block.ensures.keeps in
     let call_is = c.requires.call in
-    root_wrote k a.o a.table v s u d.0 c.requires.may d.1.1 (put_then s y u a.o e.only last) call_is.0 a.called.now a.said.now c.finish.result (view c.finish.new.pass) call_is.1 call_is.2.write.changing c.finish.ensures.ends
+    root_wrote k a.o a.table v s u d.0 c.requires.may d.1.1 (written_then a.o s y u e.only last) call_is.0 a.called.now a.said.now c.finish.result (view c.finish.new.pass) call_is.1 call_is.2.write.changing c.finish.ensures.ends
     ((root_stays _ _ _ _ (omega arith) c.put_block.ensures.held) ∙ (e.list.root ∙ sym c.requires.table.root))

@@ -3,7 +3,7 @@ use Rattle.std.specs.Prelude.{slice_set}
 use Rattle.ft_layout.specs.declared.slot.Stored.TheVariants.{Plain}
 use Rattle.ft_layout.specs.Containers.{IsBlock}
 use Rattle.ft_trace.specs.Addresses.{class_of}
-use Rattle.ft_trace.specs.Holds.{held_words}
+use Rattle.ft_trace.specs.Holds.{held_unboxed}
 use Rattle.ft_bank.specs.Passes.{shape_of, view}
 use Rattle.ft_bank.specs.TableNames.{table_id}
 use Rattle.ft_list.specs.ListItemWrites.{known_items, stored_item, but_at}
@@ -33,9 +33,9 @@ finish-requires-clause-may c =
     let is_class = table_class k a.table c.requires.table.table_in in
     let long : length news ≡ length values = length-set values a.place a.value in
     let few = b.few in
-    let putting = putting_put class is_class values a.place (a.place + 1) (stored_item values) (held_words a.o s) (held_words a.o u) a.place (Plain a.value) (b.putting a.place (a.place + 1)) e.puts c.requires.value (omega arith) (omega arith) refl in
-    let changing = putting_ends class is_class values news a.place (a.place + 1) (but_at (stored_item values) a.place (Plain a.value)) (held_words a.o u).table putting (omega (arith, long, few)) (λ p low. stored_set values a.place p a.value c.requires.place) in
-    let head = subst (λ (n : ℕ). IsBlock (held_words a.o u).block (Some class) n 0 0) (sym long) (subst (λ (l : List ℕ). IsBlock l (Some class) (length values) 0 0) (sym e.block) b.head) in
+    let putting = putting_put class is_class values a.place (a.place + 1) (stored_item values) (held_unboxed a.o s) (held_unboxed a.o u) a.place (Plain a.value) (b.putting a.place (a.place + 1)) e.puts c.requires.value (omega arith) (omega arith) refl in
+    let changing = putting_ends class is_class values news a.place (a.place + 1) (but_at (stored_item values) a.place (Plain a.value)) (held_unboxed a.o u).table putting (omega (arith, long, few)) (λ p low. stored_set values a.place p a.value c.requires.place) in
+    let head = subst (λ (n : ℕ). IsBlock (held_unboxed a.o u).block (Some class) n 0 0) (sym long) (subst (λ (l : List ℕ). IsBlock l (Some class) (length values) 0 0) (sym e.block) b.head) in
     let d = b.did in
     let call_is = c.requires.call in
     finishing k a.o a.table v s u d.0 c.requires.may d.1.1 e.only a.place (a.place + 1) call_is.0 a.called.now a.said.now values news call_is.1 call_is.2 b.content b.table e.list e.pass.1 changing head

@@ -1,7 +1,7 @@
 use Rattle.std.proofs.Common.{ℕ, ◌<◌, sym, ap, ◌∙◌, subst, arith}
 use Rattle.std.specs.Prelude.{slice_index}
 use Rattle.ft_trace.specs.Addresses.{class_of, size}
-use Rattle.ft_trace.specs.Holds.{held_words}
+use Rattle.ft_trace.specs.Holds.{held_unboxed}
 use Rattle.ft_bank.specs.Passes.{shape_of, view}
 use Rattle.ft_bank.specs.TableNames.{table_id}
 use Rattle.ft_list.proofs.Cares.{few_slots, inside}
@@ -21,4 +21,4 @@ pub returns-clause-found : goal.returns-clause-found
 returns-clause-found c =
     let a = c.args in
     c.read_word.ensures.held a.o c.requires.list.container c.requires.list.locked c.requires.list.root
-    ∙ ap (λ (z : ℕ). slice_index (held_words a.o (view a.pass.now)).table z) c.word_at.ensures
+    ∙ ap (λ (z : ℕ). slice_index (held_unboxed a.o (view a.pass.now)).table z) c.word_at.ensures

@@ -56,7 +56,7 @@ AlikeYet count place xs ys = (count ≡ length xs) × (count ≡ length ys) × A
 module _ (k : Shape) (o m : ℕ) (holds : List Value → List Value → Type 0) (p q : Pass) (r : ReadsBoth k o m (AreOfItems k holds) p q) (shape : (view p).shape ≡ k) (may : MayWriteList k o (view p)) (other : MayWriteList k m (view p)) where
   -- it holds of the items that the pass knows
   pub both_hold : holds (known_items o (view p)) (known_items m (view p))
-  both_hold = r.3 (held_unboxed o (view p)) (held_unboxed m (view p)) (r.4 o may.container may.locked) (r.4 m other.container other.locked) (known_state o (view p)) (known_state m (view p))
+  both_hold = held_shows_both k o m (AreOfItems k holds) p q r shape may.container may.locked other.container other.locked (known_state o (view p)) (known_state m (view p))
       (ap kind_of (content_of k o (view p) shape p.possible may)) (ap kind_of (content_of k m (view p) shape p.possible other)) may.stands other.stands
 
   pub eq_replied : (alike : Bool) → alike ≡ same_items (known_items o (view p)) (known_items m (view p)) → IsReplyTo (call.List o (list.Eq m)) (reply.Truth alike) (view p)

@@ -11,6 +11,7 @@ pub mod LookRounds
 pub mod ListCallFacts
 pub mod Asking
 pub mod Raising
+pub mod ValueReads
 pub mod Indexes
 pub mod ValueLists
 pub mod ListMidst

@@ -70,7 +70,7 @@ EqualYet value count place equal items = (count ≡ length items) × (equal ≡ 
 module _ (k : Shape) (o : ℕ) (holds : List Value → Type 0) (p q : Pass) (r : Reads k o (IsOfItems k holds) p q) (shape : (view p).shape ≡ k) (may : MayWriteList k o (view p)) where
   -- it holds of the items that the pass knows
   pub items_hold : holds (known_items o (view p))
-  items_hold = r.3 (held_unboxed o (view p)) (r.4 o may.container may.locked) (known_state o (view p)) (ap kind_of (content_of k o (view p) shape p.possible may)) may.stands
+  items_hold = held_shows k o (IsOfItems k holds) p q r shape may.container may.locked (known_state o (view p)) (ap kind_of (content_of k o (view p) shape p.possible may)) may.stands
 
   pub scan_loaded : OnlyLoaded (view p) (view q)
   scan_loaded = reads_loaded k o (IsOfItems k holds) p q r
@@ -83,7 +83,7 @@ module _ (k : Shape) (o : ℕ) (holds : List Value → Type 0) (p q : Pass) (r :
 
 -- the item at a place, by such a pass
 pub item_held : (k : Shape) (o place : ℕ) (found : Option Value) (p q : Pass) → Reads k o (IsItemAt k place found) p q → (view p).shape ≡ k → MayWriteList k o (view p) → place < length (known_items o (view p)) → found ≡ Some (slice_index_or (known_items o (view p)) place Nothing)
-item_held k o place found p q r shape may low = r.3 (held_unboxed o (view p)) (r.4 o may.container may.locked) (known_state o (view p)) (ap kind_of (content_of k o (view p) shape p.possible may)) may.stands low
+item_held k o place found p q r shape may low = held_shows k o (IsItemAt k place found) p q r shape may.container may.locked (known_state o (view p)) (ap kind_of (content_of k o (view p) shape p.possible may)) may.stands low
 
 -- ---- what calls reply that search
 

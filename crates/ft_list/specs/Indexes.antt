@@ -1,5 +1,5 @@
 -- Items of a list by their indexes, negative ones from the end too, and what loads of its words show of them.
-use Rattle.std.specs.Prelude.{◌≡◌, ℕ, ℤ, pos, negsuc, suc, ◌<◌, List, length, option_map, Option, Some, slice_index_or}
+use Rattle.std.specs.Prelude.{◌≡◌, ℕ, ℤ, pos, negsuc, suc, ◌<◌, ◌≤◌, List, length, option_map, Option, Some, slice_index_or}
 use Rattle.ft_layout.specs.declared.slot.Stored.TheVariants.{Plain}
 use Rattle.ft_layout.specs.Words.{IsStored}
 use Rattle.ft_model.specs.declared.call.Call.TheVariants as call
@@ -14,7 +14,7 @@ use Rattle.ft_trace.specs.declared.Act.TheVariants.{ReadCounter}
 use Rattle.ft_trace.specs.declared.Shape.{Shape}
 use Rattle.ft_trace.specs.declared.View.{View}
 use Rattle.ft_trace.specs.LoggedReads.{Among, Between}
-use Rattle.ft_trace.specs.Pictures.{ContainerWords, root_in, item_field, Represents}
+use Rattle.ft_trace.specs.Pictures.{ContainerWords, root_in, item_field, item_offset, Represents}
 use Rattle.ft_trace.specs.ContainerStates.{ContainerState}
 use Rattle.ft_bank.specs.LastLoads.{IsLastBetween}
 use Rattle.ft_section.specs.declared.answers.Look.{Look}
@@ -29,10 +29,10 @@ abbrev pub item_named : List Value → ℤ → Option Value
 item_named values index =
     option_map (λ place. slice_index_or values place value.Nothing) (index_in (length values) index)
 
--- where the root names the table t, and the item at the place is a value, it is this
+-- where the root names the table t, which has the place, and the item there is a value, it is this
 abbrev pub IsItemValue : ℕ → ℕ → Option Value → ContainerWords → Type 0
 IsItemValue t place found x =
-    root_in x ≡ suc t → (value : Value)
+    root_in x ≡ suc t → item_offset place 3 ≤ length x.table → (value : Value)
     → IsStored (item_field x.table place 1) (item_field x.table place 2) (Plain value)
     → found ≡ Some value
 

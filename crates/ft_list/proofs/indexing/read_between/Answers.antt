@@ -30,7 +30,7 @@ returns-clause-looked c =
     let k = shape_of c.args.bank.now in
     let found = c.read_named-found.result in
     let index : to_z w64 (of_z w64 c.args.index) ≡ c.args.index = to_z-of_z {w = w64} {z = c.args.index} c.ranges.index in
-    let shows = subst (λ (i : ℤ). (x : ContainerWords) → Agrees k o r.0 x → IsItemNamed k i found x) index r.3 in (
+    let shows = subst (λ (i : ℤ). ShowsRead k o r.0 (IsItemNamed k i found)) index r.3 in (
       between_acts o c.seq-closed.result c.stamp-number.result r.0 c.seq-opened.result,
       between_looks o c.seq-closed.result c.stamp-number.result r.0 c.seq-opened.result r.1,
       between_did o c.seq-closed.result c.stamp-number.result r.0 c.seq-opened.result c.args.pass.now c.seq-opened.new.pass c.read_named-found.new.pass c.stamp-number.new.pass c.seq-closed.new.pass c.seq-opened.ensures r.2 c.stamp-number.ensures.did c.seq-closed.ensures,

@@ -40,6 +40,7 @@ use Rattle.ft_list.proofs.LookRounds.{slots_are}
 use Rattle.ft_list.proofs.Wanted.{list_use, wanted_some}
 use Rattle.ft_list.proofs.WholeListWrites.{grows_from}
 use Rattle.ft_search.proofs.Changing.{no_keys}
+use Rattle.ft_search.proofs.Puts.{done_then}
 
 module _ (k : Shape) (o : ℕ) (old : Option Table) (v : View) (list : KnowsList k o old v) (shape : v.shape ≡ k) (possible : ∥ IsReachable v ∥₁) (lc : ListCall) (total : ℕ) (news : List Value) (adds : Adds o lc (known_items o v) news v) (long : length news ≡ total) where
   abbrev values : List Value

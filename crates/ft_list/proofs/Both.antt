@@ -26,6 +26,7 @@ use Rattle.ft_list.proofs.Lists.{content_of}
 use Rattle.ft_list.proofs.Indexes.{items_counted}
 use Rattle.ft_list.proofs.ValueLists.{AlikeBefore}
 use Rattle.ft_reads.proofs.Both.{of_first, of_second, both_map, both_then}
+use Rattle.ft_list.proofs.ValueReads.{held_shows_both}
 
 module _ (k : Shape) (o m : ℕ) where
   -- how many items each has

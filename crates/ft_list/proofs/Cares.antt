@@ -1,5 +1,5 @@
 -- That a word of an item may be put, by a pass that writes its list.
-use Rattle.std.proofs.Common.{◌≡◌, ℕ, zero, suc, ◌+◌, ◌*◌, ◌%◌, ◌<◌, ◌≤◌, ◌^◌, true, false, List, [], ◌∷◌, length, refl, sym, ap, ◌∙◌, subst, arith}
+use Rattle.std.proofs.Common.{◌≡◌, ℕ, zero, suc, ◌+◌, ◌*◌, ◌%◌, ◌<◌, ◌≤◌, ◌^◌, true, false, List, [], ◌∷◌, length, refl, sym, ap, ◌∙◌, subst, inl, arith}
 use Rattle.std.specs.Prelude.{slice_index, slice_set}
 use Rattle.ft_model.specs.declared.script.Kind.{Kind}
 use Rattle.ft_model.specs.declared.script.Kind.TheVariants as kind
@@ -35,7 +35,8 @@ use Rattle.ft_bank.proofs.TableAddresses.{named}
 use Rattle.ft_bank.proofs.KnownAfterWrites.{loaded_held}
 use Rattle.ft_list.specs.ListItemWrites.{WritesList}
 use Rattle.ft_search.specs.Boxed.{WritesTable}
-use Rattle.ft_search.proofs.Puts.{done_then, few_done, version_room}
+use Rattle.ft_list.proofs.Room.{version_room}
+use Rattle.ft_search.proofs.Puts.{done_then, few_done}
 
 pub table_class : (k : Shape) (t : Table) → IsTableIn k t → IsClass (class_of (table_id t))
 table_class k t is = (named k t is).0

@@ -20,7 +20,7 @@ use Rattle.ft_trace.specs.Holds.{held_unboxed, known_state}
 use Rattle.ft_trace.specs.Pictures.{ContainerWords, root_in, Represents}
 use Rattle.ft_trace.specs.ContainerStates.{ContainerState, state_at, changes}
 use Rattle.ft_trace.proofs.Known.{declared_at}
-use Rattle.ft_bank.specs.Whole.{OnlyWritten, Wrote}
+use Rattle.ft_bank.specs.Whole.{OnlyWritten, Wrote, OnlyPut}
 use Rattle.ft_bank.specs.WriteSteps.{MayHave, MayCommit, Committed, IsShut}
 use Rattle.ft_bank.proofs.KnownAfterWrites.{put_same, write_ends}
 use Rattle.ft_search.specs.OneEntryWrites.{Leaves}
@@ -28,6 +28,7 @@ use Rattle.ft_search.proofs.ReadyCommits.{leaves_later, may_commit, whole_write}
 use Rattle.ft_list.specs.ListWrites.{MayWriteList, Changes}
 use Rattle.ft_list.proofs.Commits.{list_there, in_world, content_after}
 use Rattle.ft_list.proofs.ListMidst.{reply_changes}
+use Rattle.ft_list.proofs.Written.{written_same}
 
 module _ (o : ℕ) (lc : ListCall) (said : Reply) (values : List Value) (v : View) (low : o < container_count v.shape) (mine : has_lock o v.log ≡ true) (is_list : (known_state o v).content ≡ content.List values) (c : Changes o lc said values values v) where
   abbrev called : Call

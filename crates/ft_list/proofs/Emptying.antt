@@ -15,7 +15,7 @@ use Rattle.ft_trace.specs.declared.Shape.{Shape}
 use Rattle.ft_trace.specs.declared.View.{View}
 use Rattle.ft_trace.specs.Acts.{has_lock, is_writing, owes, view_after, seen_writes, used}
 use Rattle.ft_trace.specs.Addresses.{container_count}
-use Rattle.ft_trace.specs.Holds.{held_unboxed, known_state}
+use Rattle.ft_trace.specs.Holds.{held_unboxed, known_state, held_words}
 use Rattle.ft_trace.specs.Traces.{IsReachable}
 use Rattle.ft_trace.specs.Pictures.{ContainerWords, root_in, Represents}
 use Rattle.ft_trace.specs.ContainerStates.{ContainerState}
@@ -24,17 +24,18 @@ use Rattle.ft_trace.proofs.Known.{declared_at}
 use Rattle.ft_trace.proofs.Naming.{named_locked}
 use Rattle.ft_bank.specs.declared.table.Table.{Table}
 use Rattle.ft_bank.specs.Whole.{OnlyWritten, Wrote}
-use Rattle.ft_bank.specs.WriteSteps.{Committed, IsShut, KeepsUnwritten, MayCommit, MayPutRoot, with_block, with_root}
-use Rattle.ft_bank.proofs.KnownAfterWrites.{put_by, put_same, work_knows, write_ends}
+use Rattle.ft_bank.specs.WriteSteps.{Committed, IsShut, KeepsUnwritten, MayCommit, MayPutRoot, with_block, with_root, with_unboxed_root}
+use Rattle.ft_bank.proofs.KnownAfterWrites.{put_by, put_same, work_knows, write_ends, written_then, put_written}
 use Rattle.ft_table_calls.proofs.Rooting.{rooted_write}
 use Rattle.ft_search.specs.OneEntryWrites.{Leaves}
 use Rattle.ft_list.specs.ListItemWrites.{known_items}
-use Rattle.ft_list.specs.Internal.NewListTables.{KnowsList, MayAdd}
+use Rattle.ft_list.specs.Internal.NewListTables.{KnowsList, MayAdd, HasRooted}
 use Rattle.ft_list.proofs.Commits.{content_after, in_tables, in_world, list_there}
 use Rattle.ft_list.proofs.Extending.{none_alike}
 use Rattle.ft_list.proofs.GrownLists.{knows_content, knows_shut, list_bare, list_head}
 use Rattle.ft_list.proofs.Wanted.{list_use}
 use Rattle.ft_search.proofs.Changing.{no_keys}
+use Rattle.ft_bank.specs.SameBoxes.{HoldsFew, MovesReferences}
 
 -- the call
 abbrev pub clear_of : ℕ → Call

@@ -17,7 +17,7 @@ use Rattle.ft_trace.specs.Addresses.{class_of}
 use Rattle.ft_trace.specs.Acts.{has_lock, is_writing, has_emptied, owes, view_after}
 use Rattle.ft_trace.specs.ContainerStates.{ContainerState, changes}
 use Rattle.ft_trace.specs.Pictures.{root_in}
-use Rattle.ft_trace.specs.Holds.{held_unboxed, known_state}
+use Rattle.ft_trace.specs.Holds.{held_unboxed, known_state, held_words}
 use Rattle.ft_trace.proofs.Cases.{hit}
 use Rattle.ft_bank.specs.declared.table.Table.{Table}
 use Rattle.ft_bank.specs.TableNames.{table_id}
@@ -32,6 +32,7 @@ use Rattle.ft_list.specs.Internal.NewListTables.{MayGrowList}
 use Rattle.ft_list.proofs.Commits.{may_finish}
 use Rattle.ft_list.proofs.WholeListWrites.{grows_on}
 use Rattle.ft_list.proofs.ItemWordsPut.{Changed}
+use Rattle.ft_bank.specs.SameBoxes.{MovesReferences}
 
 -- a write of the list o changes it
 pub list_changes : (o : ℕ) (lc : ListCall) (called : Call) → called ≡ call.List o lc → is_changing_list lc ≡ true → changes called ≡ o

@@ -1,5 +1,5 @@
 -- Lists that get another table: that the root may be put, and what the words of the list are then.
-use Rattle.std.proofs.Common.{◌≡◌, ◌≢◌, ℕ, suc, ◌<◌, ◌≤◌, true, true≢false, List, ◌∷◌, length, Option, Some, None, refl, sym, ap, ◌∙◌, subst, inl, inr, arith, length-set, get_or-set_same, get_or-set_other}
+use Rattle.std.proofs.Common.{◌≡◌, ◌≢◌, ℕ, suc, ◌<◌, ◌≤◌, true, true≢false, List, ◌∷◌, length, Option, Some, None, refl, sym, ap, ◌∙◌, subst, inl, inr, arith, length-set, get_or-set_same, get_or-set_other, false}
 use Rattle.std.specs.Prelude.{is_some, slice_index, slice_index_or, slice_set}
 use Rattle.std.proofs.lemmas.Bool.{cases_eq}
 use Rattle.std.specs.Option.{unwrap_or}
@@ -17,7 +17,7 @@ use Rattle.ft_trace.specs.declared.Shape.{Shape}
 use Rattle.ft_trace.specs.declared.View.{View}
 use Rattle.ft_trace.specs.Acts.{has_lock, is_writing, mem, view_after, stage}
 use Rattle.ft_trace.specs.Addresses.{container_count, class_of, slots}
-use Rattle.ft_trace.specs.Holds.{held_unboxed, known_state, in_hand}
+use Rattle.ft_trace.specs.Holds.{held_unboxed, known_state, in_hand, hand_unboxed}
 use Rattle.ft_trace.specs.Kinds.{rows, version_at, SoundAs}
 use Rattle.ft_trace.specs.OddVersions.{Shut}
 use Rattle.ft_trace.specs.Traces.{IsReachable}
@@ -36,6 +36,10 @@ use Rattle.ft_list.proofs.Cares.{table_class}
 use Rattle.ft_list.proofs.Filling.{filled_sound}
 use Rattle.ft_list.proofs.Lists.{list_content, list_known, list_rooted, list_shut}
 use Rattle.ft_list.proofs.ItemWordsPut.{at_words, list_few, stored_some}
+use Rattle.ft_search.proofs.Puts.{done_then, few_done}
+use Rattle.ft_table_calls.proofs.PlainTables.{ArePlain, plain_reads, plain_named}
+use Rattle.ft_list.proofs.ItemValues.{item_plain}
+use Rattle.ft_trace.specs.Boxes.{known_box_word, named_in_root}
 
 -- ---- what a pass knows of a list stays, where it knows the same words and the same content
 

@@ -1,5 +1,5 @@
 -- Reads of a list's words, one after the other, and what they show of its items.
-use Rattle.std.proofs.Common.{◌≡◌, ◌≢◌, ◌⊎◌, ℕ, ℤ, suc, ◌%◌, ◌<◌, ◌≤◌, true, List, [], ◌∷◌, ◌++◌, length, Option, Some, None, refl, sym, ap, ◌∙◌, subst, inr}
+use Rattle.std.proofs.Common.{◌≡◌, ◌≢◌, ◌⊎◌, ℕ, ℤ, suc, ◌%◌, ◌<◌, ◌≤◌, true, List, [], ◌∷◌, ◌++◌, length, Option, Some, None, refl, sym, ap, ◌∙◌, subst, inr, arith}
 use Rattle.std.specs.Prelude.{slice_index, slice_index_or, option_map}
 use Rattle.std.specs.Option.{option_map_or}
 use Rattle.ft_model.specs.declared.call.Call.TheVariants as call
@@ -29,7 +29,7 @@ use Rattle.ft_trace.specs.Addresses.{container_count, class_of, slots}
 use Rattle.ft_trace.specs.Holds.{held_unboxed, known_state}
 use Rattle.ft_trace.specs.LookReplies.{item_reply}
 use Rattle.ft_trace.specs.LoggedReads.{Agrees, LookedAtOne}
-use Rattle.ft_trace.specs.Pictures.{ContainerWords, root_in, item_field, Represents}
+use Rattle.ft_trace.specs.Pictures.{ContainerWords, root_in, item_field, Represents, item_offset}
 use Rattle.ft_trace.specs.Traces.{IsReachable}
 use Rattle.ft_trace.specs.ContainerStates.{ContainerState, state_at, kind_in, reply_in}
 use Rattle.ft_trace.proofs.Known.{class_known}
@@ -50,10 +50,13 @@ use Rattle.ft_search.proofs.Lengths.{IsPlain, between_own}
 use Rattle.ft_search.proofs.Running.{did_trans}
 use Rattle.ft_search.proofs.Rounding.{looks_append}
 use Rattle.ft_list.specs.Indexes.{item_named, IsItemNamed, ShowsNamed}
-use Rattle.ft_reads.specs.Reads.{Reads}
+use Rattle.ft_reads.specs.Reads.{Reads, ShowsRead}
 use Rattle.ft_list.proofs.Lists.{list_content}
 use Rattle.ft_list.proofs.ItemWordsPut.{at_words, list_few}
 use Rattle.ft_reads.proofs.Agreeing.{read_older}
+use Rattle.ft_list.proofs.Filling.{words_of_class}
+use Rattle.ft_trace.proofs.ByKind.{items_fit}
+use Rattle.ft_list.proofs.ValueReads.{held_shows}
 
 -- ---- what words say of a list
 
@@ -75,7 +78,7 @@ item_says texts x kept t class is stands names =
     let table = subst (λ (z : Option ℕ). InListTable (0 ∷ 0 ∷ x.table) z values) (class_known texts x kept t stands names) says.table in (
       list_few (class_of t) class values (0 ∷ 0 ∷ x.table) table,
       (λ place low. (
-          (let s = table.size in let few = list_few (class_of t) class values (0 ∷ 0 ∷ x.table) table in let all = table_size_is (class_of t) class values in let fit = items_fit (class_of t) class in omega (arith, s, few, all, fit, low)),
+          (let s = table.size in let few = list_few (class_of t) class values (0 ∷ 0 ∷ x.table) table in let all = words_of_class (class_of t) class values in let fit = items_fit (class_of t) class in omega (arith, s, few, all, fit, low)),
           at_words x.table place (Plain (slice_index_or values place value.Nothing)) (table.items place value.Nothing low),
         )),
     )

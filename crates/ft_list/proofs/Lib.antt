@@ -1,4 +1,5 @@
 pub mod Written
+pub mod Room
 pub mod Cares
 pub mod ItemValues
 pub mod PutItems

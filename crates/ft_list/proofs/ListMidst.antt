@@ -46,6 +46,8 @@ use Rattle.ft_list.proofs.Commits.{list_is}
 use Rattle.ft_list.proofs.Lists.{content_of}
 use Rattle.ft_list.proofs.WholeListWrites.{has_before}
 use Rattle.ft_list.proofs.Raising.{raised, and_false}
+use Rattle.ft_trace.specs.Boxes.{IsDoneWithBoxes, references_held}
+use Rattle.ft_bank.specs.SameBoxes.{SameReferences}
 
 -- ---- before the call
 

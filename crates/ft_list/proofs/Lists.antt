@@ -29,6 +29,7 @@ use Rattle.ft_bank.proofs.KnownAfterWrites.{loaded_held, work_knows}
 use Rattle.ft_list.specs.ListItemWrites.{known_items}
 use Rattle.ft_list.specs.ListWrites.{MayWriteList}
 use Rattle.ft_search.specs.OneEntryWrites.{HasTable}
+use Rattle.ft_search.proofs.Puts.{shut_reads, done_then}
 
 -- 1 for a list
 list_code : Kind → ℕ

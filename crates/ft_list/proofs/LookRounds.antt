@@ -1,15 +1,15 @@
 -- Rounds of a look-up of one item.
-use Rattle.std.proofs.Common.{◌≡◌, ◌≢◌, ◌⊎◌, ℕ, suc, ◌%◌, ◌^◌, ◌<◌, ◌≤◌, List, [], ◌∷◌, ◌++◌, refl, sym, ap, ◌∙◌, inl, inr, ⊎_elim, append_assoc}
+use Rattle.std.proofs.Common.{◌≡◌, ◌≢◌, ◌⊎◌, ℕ, suc, ◌%◌, ◌^◌, ◌<◌, ◌≤◌, List, [], ◌∷◌, ◌++◌, refl, sym, ap, ◌∙◌, inl, inr, ⊎_elim, append_assoc, Bool, subst, ◌/◌}
 use Rattle.std.specs.Prelude.{pos}
 use Rattle.ft_model.specs.declared.data.Key.TheVariants as key
 use Rattle.ft_model.specs.Classes.{list_items}
 use Rattle.ft_trace.specs.declared.Act.{Act}
-use Rattle.ft_trace.specs.declared.Act.TheVariants.{ReadRoot, ReadTable, ReadCounter, Version}
+use Rattle.ft_trace.specs.declared.Act.TheVariants.{ReadRoot, ReadTable, ReadCounter, Version, ReadBox}
 use Rattle.ft_trace.specs.declared.Shape.{Shape}
-use Rattle.ft_trace.specs.Addresses.{class_of, slots, IsTableName}
+use Rattle.ft_trace.specs.Addresses.{class_of, slots, IsTableName, container_count, IsBoxName, maker_of, place_in, place_word_of}
 use Rattle.ft_trace.specs.Pictures.{item_offset}
 use Rattle.ft_trace.specs.Acts.{reads}
-use Rattle.ft_trace.specs.LoggedLookUps.{Inner, IsNew}
+use Rattle.ft_trace.specs.LoggedLookUps.{Inner, IsNew, ItemHit, IsReadAsBox, LookUpWindow}
 use Rattle.ft_bank.specs.declared.pass.Pass.{Pass}
 use Rattle.ft_bank.specs.Passes.{view}
 use Rattle.ft_bank.specs.Series.{DidAll}
@@ -25,7 +25,16 @@ use Rattle.ft_list.specs.declared.looks.LookedItem.TheVariants.{Item, Past, Cont
 use Rattle.ft_list.specs.declared.looks.ItemRound.{ItemRound}
 use Rattle.ft_list.specs.declared.looks.ItemRound.TheVariants.{Ended, Moved}
 use Rattle.ft_list.specs.declared.looks.SeenItem.{SeenItem}
-use Rattle.ft_list.specs.ItemLooks.{item_acts, StopsAtItem, ShowsFound, ItemClosesAt, EndsItemTable, EndsItemRound}
+use Rattle.ft_list.specs.ItemLooks.{item_acts, StopsAtItem, ShowsFound, ItemClosesAt, EndsItemTable, EndsItemRound, item_acts_as}
+use Rattle.ft_search.specs.Boxed.{box_acts, SeesValue}
+use Rattle.ft_trace.specs.declared.View.{View}
+use Rattle.ft_trace.specs.Traces.{IsReachable}
+use Rattle.ft_trace.specs.ContainerStates.{kind_in}
+use Rattle.ft_trace.specs.Kinds.{IsItems}
+use Rattle.ft_trace.proofs.ItemHits.{item_named}
+use Rattle.std.proofs.Math.Bridge.{le_prop}
+use Rattle.ft_trace.specs.LoggedReads.{Among}
+use Rattle.std.proofs.Math.Logic.{∥∥₁_elim}
 
 -- the loads of an item, one after the other
 pub seen_did : (t index : ℕ) (seen : SeenItem) (p q1 q2 q3 q4 q5 q6 : Pass) → DidAll (ReadTable t (item_offset index 0) seen.opened ∷ []) p q1 → DidAll (ReadTable t (item_offset index 1) seen.found_kind ∷ []) q1 q2 → DidAll (ReadTable t (item_offset index 2) seen.payload ∷ []) q2 q3 → DidAll (box_acts seen.value.boxed seen.payload seen.value.kind seen.value.value) q3 q4 → DidAll (ReadCounter seen.number ∷ []) q4 q5 → DidAll (ReadTable t (item_offset index 0) seen.closed ∷ []) q5 q6 → DidAll (item_acts t index seen) p q6

@@ -1,5 +1,5 @@
 -- What a pass knows once it has put another root of a list, and has dropped what the old table named.
-use Rattle.std.proofs.Common.{◌≡◌, ◌≢◌, ℕ, suc, ◌<◌, true, false, eqb, cond, List, ◌∷◌, Option, refl, sym, ap, ◌∙◌, subst, arith, get_or-set_same}
+use Rattle.std.proofs.Common.{◌≡◌, ◌≢◌, ℕ, suc, ◌<◌, true, false, eqb, cond, List, ◌∷◌, Option, Some, None, refl, sym, ap, ◌∙◌, subst, arith, get_or-set_same}
 use Rattle.std.specs.Prelude.{slice_index, slice_set}
 use Rattle.ft_layout.proofs.KindLaws.{head_of}
 use Rattle.ft_trace.specs.declared.Act.TheVariants.{StartWrite, PutRoot}
@@ -16,7 +16,7 @@ use Rattle.ft_bank.specs.declared.table.Table.{Table}
 use Rattle.ft_bank.specs.SameBoxes.{MovesReferences, SameMade, named_in_words}
 use Rattle.ft_bank.specs.TableNames.{root_for, words_for}
 use Rattle.ft_bank.specs.Whole.{OnlyBoxed, OnlyWritten}
-use Rattle.ft_bank.specs.WriteSteps.{with_root}
+use Rattle.ft_bank.specs.WriteSteps.{with_root, with_unboxed_root}
 use Rattle.ft_bank.proofs.BoxedSteps.{made_then}
 use Rattle.ft_bank.proofs.DoneBoxes.{done_none, none_named}
 use Rattle.ft_bank.proofs.KnownAfterWrites.{boxed_written, work_knows}
@@ -49,6 +49,11 @@ module _ (o root : ℕ) (v w : View) (h : HasRooted o root v w) where
       let still = h.only.others p (subst (λ (z : Shape). p < container_count z) (sym shape) low) ne (ap (λ (z : View). has_lock p z.log) h.did ∙ mine) (ap (λ (z : View). is_writing p z.log) h.did ∙ (started ∙ quiet)) in
       (still.1 ∙ put, rooted_locks p, rooted_writes p ne)
 
+-- the start of a write leaves what is put then
+pub start_reads : (o f : ℕ) (v : View) (any : Option Table) → with_unboxed_root (held_unboxed o (view_after (StartWrite o f) v)) o any (view_after (StartWrite o f) v) ≡ with_unboxed_root (held_unboxed o v) o any v
+start_reads o f v None = refl
+start_reads o f v (Some t) = refl
+
 -- ---- right after the root was put
 
 module _ (k : Shape) (o : ℕ) (old root : Option Table) (v s r : View) (f : ℕ) (shape : v.shape ≡ k) (list : KnowsList k o old v) (done : IsDoneWithBoxes k v.log) (plain : (b : ℕ) → named_in_root b (kind_in v.shape.starts o) (root_for root) (words_for root v) ≡ 0) (begun : s ≡ view_after (StartWrite o f) v) (put : r ≡ view_after (PutRoot o (root_for root) (root_in (held_words o s))) s) (held : held_words o r ≡ with_root (held_words o s) root s) (moves : MovesReferences o s r) where
@@ -70,11 +75,17 @@ module _ (k : Shape) (o : ℕ) (old root : Option Table) (v s r : View) (f : ℕ
   pub put_mine : has_lock o r.log ≡ true
   put_mine = ap (λ (z : View). has_lock o z.log) put_is ∙ list.locked
 
+  start_leaves : (any : Option Table) → with_root (held_words o (view_after (StartWrite o f) v)) any (view_after (StartWrite o f) v) ≡ with_root (held_words o v) any v
+  start_leaves None = refl
+  start_leaves (Some t) = refl
+
   -- its words name no box
   pub put_plain : (b : ℕ) → named_in_words b (kind_in r.shape.starts o) (held_words o r) ≡ 0
   put_plain b =
       let size = (head_of k.texts (held_unboxed o v).block (0 ∷ 0 ∷ (held_unboxed o v).table) (known_state o v).table (known_state o v).content list.stands).size in
-      let is : held_words o r ≡ with_root (held_words o v) root v = held ∙ ap (λ (z : View). with_root (held_words o z) root z) begun in
+      -- the start of a write leaves the words
+      let started : with_root (held_words o (view_after (StartWrite o f) v)) root (view_after (StartWrite o f) v) ≡ with_root (held_words o v) root v = start_leaves root in
+      let is : held_words o r ≡ with_root (held_words o v) root v = held ∙ ap (λ (z : View). with_root (held_words o z) root z) begun ∙ started in
       let first : slice_index (slice_set (held_words o v).block 0 (root_for root)) 0 ≡ root_for root = get_or-set_same (held_words o v).block 0 (root_for root) 0 (omega (arith, size)) in
       (λ d. named_in_words b (kind_in (put_shape d).starts o) (is d))
       ∙ ((λ d. named_in_root b (kind_in v.shape.starts o) (first d) (words_for root v)) ∙ plain b)

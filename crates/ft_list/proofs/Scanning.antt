@@ -39,6 +39,7 @@ use Rattle.ft_list.proofs.Indexes.{items_counted}
 use Rattle.ft_reads.proofs.Agreeing.{reads_none, reads_map, reads_then, reads_loaded}
 use Rattle.ft_list.proofs.Lists.{content_of, may_loaded}
 use Rattle.ft_list.proofs.ValueLists.{NoneBefore, has_first}
+use Rattle.ft_list.proofs.ValueReads.{held_shows}
 
 module _ (k : Shape) (o : ℕ) where
   -- the block was read, which says how many items there are

@@ -7,6 +7,8 @@ ghost use Rattle.ft_trace.specs.Acts.{has_lock};
 ghost use Rattle.ft_trace.specs.Addresses.{container_count, class_of, slots};
 ghost use Rattle.ft_trace.specs.Holds.{held_unboxed};
 ghost use Rattle.ft_trace.specs.Pictures.{item_field, root_in};
+ghost use Rattle.ft_trace.specs.ContainerStates.{kind_in};
+ghost use Rattle.ft_model.specs.declared.script.Kind.TheVariants as kind;
 ghost use Rattle.ft_bank.specs.Passes.{shape_of, view, IsPassOf};
 ghost use Rattle.ft_bank.specs.PassSections.{stack_of};
 ghost use Rattle.ft_bank.specs.TableNames.{table_id, IsTableIn};

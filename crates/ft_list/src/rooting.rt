@@ -61,7 +61,8 @@ pub(crate) fn put_other_root(
 {
     bank.start_write(pass, o);
     bank.put_root(pass, o, root);
-    if let Some(table) = old {
-        drop_values(bank, pass, o, table, item_places(table.class));
+    match old {
+        Some(table) => drop_values(bank, pass, o, table, item_places(table.class)),
+        None => {}
     }
 }

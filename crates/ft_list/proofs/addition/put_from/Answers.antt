@@ -10,9 +10,12 @@ use Rattle.ft_bank.specs.TableNames.{table_id}
 use Rattle.ft_bank.proofs.KnownAfterWrites.{put_same, written_then, loaded_held, loaded_put, work_knows}
 use Rattle.ft_list.specs.ListItemWrites.{known_items, stored_item}
 use Rattle.ft_list.specs.Internal.Moving.{IsMoving}
-use Rattle.ft_list.proofs.Cares.{table_class, few_slots, writes_on}
+use Rattle.ft_list.proofs.Cares.{writes_loaded, table_class, few_slots, writes_on, list_unboxed}
 use Rattle.ft_list.proofs.Extending.{append_low, append_high, gives_put, root_put}
 use Rattle.ft_list.proofs.ItemWordsPut.{moving_starts, moving_next}
+use Rattle.ft_layout.specs.Words.{stored_kind}
+use Rattle.ft_list.proofs.ItemValues.{item_plain}
+use Rattle.ft_list.proofs.Written.{written_same, loaded_written}
 use Rattle.ft_list.proofs.addition.put_from.Goals as goal
 
 pub loop-place-init : goal.loop-place-init
@@ -63,7 +66,7 @@ put_item-requires-clause-list c =
     let x = view c.loop-place.pass in
     let y = view c.given_item-stored.new.pass in
     let l = c.given_item-stored.ensures.only in
-    writes_on (shape_of a.bank.now) a.o a.table x y (loaded_written a.o x y l) (ap root_in (loaded_held x y a.o l)) c.loop-place.invariant.list
+    writes_loaded (shape_of a.bank.now) a.o a.table x y c.loop-place.invariant.pass.1 l c.loop-place.invariant.list
 
 pub put_item-requires-clause-early : goal.put_item-requires-clause-early
 put_item-requires-clause-early c = c.given_item-stored.ensures.only.work.committed c.args.o ∙ c.loop-place.invariant.early
@@ -90,7 +93,7 @@ loop-place-preserved c =
     let r = c.requires.room in
     let loaded = loaded_written a.o x y f.only in
     let both = written_then a.o x y z loaded e.only in
-    let same : held_unboxed a.o y ≡ held_unboxed a.o x = loaded_held x y a.o f.only in
+    let same : held_unboxed a.o y ≡ held_unboxed a.o x = list_unboxed k a.o a.table x y i.pass.1 f.only i.list in
     let known : (p : ℕ) → known_items p x ≡ known_items p v = λ p. ap (λ (q : ContainerState). list_of q.content) (work_knows v x p i.only.work) in
     let stored : c.given_item-stored.result ≡ stored_item (values ++ others) (a.count + place) =
     f.stored ∙ (ap (λ (l : List Value). stored_item l place) (known a.m) ∙ (append_high values others place (omega (arith, test, m)) ∙ ap (λ (q : ℕ). stored_item (values ++ others) (q + place)) (sym n))) in
@@ -117,3 +120,7 @@ returns-clause-moved c =
     let v = view a.pass.now in
     let at : c.loop-place.place ≡ a.more = let t = c.loop-place-test.false in let e = c.loop-place.auto.place-end in omega (arith, t, e) in
     subst (λ (n : ℕ). IsMoving (class_of (table_id a.table)) (known_items a.o v) (known_items a.o v ++ known_items a.m v) a.count (a.count + a.more) (a.count + n) (held_unboxed a.o (view c.loop-place.pass)).table) at c.loop-place.invariant.moving
+
+pub put_item-requires-clause-plain : goal.put_item-requires-clause-plain
+put_item-requires-clause-plain c e =
+    item_plain (known_items c.args.m (view c.loop-place.pass)) c.loop-place.place (sym (ap stored_kind c.given_item-stored.ensures.stored) ∙ e)

@@ -1,6 +1,6 @@
 use Rattle.std.proofs.Common.{ℕ, ◌<◌, refl, sym, ap, ◌∙◌, subst, arith}
 use Rattle.ft_model.specs.declared.reply.Reply.TheVariants as reply
-use Rattle.ft_bank.specs.Passes.{view}
+use Rattle.ft_bank.specs.Passes.{view, shape_of}
 use Rattle.ft_bank.specs.TableNames.{table_id, root_for}
 use Rattle.ft_table_calls.specs.Adding.{Retires}
 use Rattle.ft_table_calls.proofs.Cursors.{given_cursors}

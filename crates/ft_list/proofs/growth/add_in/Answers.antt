@@ -1,4 +1,4 @@
-use Rattle.std.proofs.Common.{◌≡◌, ℕ, ◌+◌, ◌<◌, ◌≤◌, true, List, length, Some, sym, ap, ◌∙◌, subst, arith}
+use Rattle.std.proofs.Common.{◌≡◌, ℕ, ◌+◌, ◌<◌, ◌≤◌, true, List, length, Some, sym, ap, ◌∙◌, subst, arith, suc}
 use Rattle.ft_model.specs.declared.data.Value.{Value}
 use Rattle.ft_model.specs.Worlds.{list_of}
 use Rattle.ft_layout.specs.Containers.{IsBlock}
@@ -7,14 +7,14 @@ use Rattle.ft_trace.specs.declared.Shape.{Shape}
 use Rattle.ft_trace.specs.declared.View.{View}
 use Rattle.ft_trace.specs.Acts.{has_lock, is_writing, view_after}
 use Rattle.ft_trace.specs.Addresses.{class_of, container_count, slots}
-use Rattle.ft_trace.specs.Holds.{held_unboxed, in_hand, known_state}
+use Rattle.ft_trace.specs.Holds.{held_unboxed, in_hand, known_state, held_words}
 use Rattle.ft_trace.specs.Pictures.{root_in}
 use Rattle.ft_trace.specs.ContainerStates.{ContainerState}
 use Rattle.ft_trace.proofs.Cases.{miss}
 use Rattle.ft_bank.specs.Passes.{shape_of, view}
 use Rattle.ft_bank.specs.TableNames.{table_id}
 use Rattle.ft_bank.specs.Whole.{OnlyWritten}
-use Rattle.ft_bank.proofs.KnownAfterWrites.{put_by, written_then, work_knows}
+use Rattle.ft_bank.proofs.KnownAfterWrites.{put_by, written_then, work_knows, put_written}
 use Rattle.ft_list.specs.ListWrites.{Grows}
 use Rattle.ft_list.specs.ListItemWrites.{IsPutting, known_items, stored_item}
 use Rattle.ft_list.specs.Internal.Moving.{IsMoving}
@@ -26,6 +26,8 @@ use Rattle.ft_list.proofs.FinishedWrites.{root_stays}
 use Rattle.ft_list.proofs.GrownLists.{grow_filled}
 use Rattle.ft_list.proofs.GrowWrites.{grow_finishing, grow_wrote, list_changes}
 use Rattle.ft_list.proofs.WholeListWrites.{grows_on}
+use Rattle.ft_list.proofs.Rooted.{rooted_known, rooted_other}
+use Rattle.ft_search.proofs.Puts.{done_then, same_done}
 use Rattle.ft_list.proofs.growth.add_in.Goals as goal
 
 pub begin_in-requires-clause-may : goal.begin_in-requires-clause-may

@@ -7,6 +7,7 @@ use Rattle.ft_trace.specs.Pictures.{ContainerWords}
 use Rattle.ft_bank.specs.Passes.{shape_of}
 use Rattle.ft_list.specs.Indexes.{IsItemNamed}
 use Rattle.ft_list.proofs.Indexes.{between_acts, between_did, between_looks, between_stops, between_shows}
+use Rattle.ft_reads.specs.Reads.{ShowsRead}
 use Rattle.ft_list.proofs.indexing.read_between.Goals as goal
 use Rattle.ft_list.proofs.indexing.read_between.Goals.{then-closed-opened-via-then-closed-opened, then-closed-opened-via-else-closed-opened+then-opened-ne0}
 

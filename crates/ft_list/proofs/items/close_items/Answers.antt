@@ -7,7 +7,7 @@ use Rattle.ft_trace.specs.ItemWords.{words_at}
 use Rattle.ft_trace.specs.Holds.{held_unboxed}
 use Rattle.ft_bank.specs.Passes.{shape_of, view}
 use Rattle.ft_bank.specs.TableNames.{table_id}
-use Rattle.ft_bank.proofs.KnownAfterWrites.{work_knows, written_then}
+use Rattle.ft_bank.proofs.KnownAfterWrites.{work_knows, put_then}
 use Rattle.ft_list.specs.ListItemWrites.{IsChanging, known_items}
 use Rattle.ft_list.proofs.Cares.{long_enough}
 use Rattle.ft_list.proofs.PutItems.{says, changing_closed}
@@ -42,7 +42,7 @@ loop-place-preserved c =
       stack = e.stack ∙ i.stack;
       list = e.list;
       late = e.only.work.committed a.o ∙ i.late;
-      only = written_then a.o v w z i.only e.only;
+      only = put_then v w z a.o i.only e.only;
       block = ap (λ (x : ContainerWords). x.block) e.item.words ∙ i.block;
       changing = subst (λ (n : ℕ). IsChanging class (known_items a.o v) (known_items a.o v) n a.past (held_unboxed a.o z).table) (sym next)
           (changing_closed class (known_items a.o v) (known_items a.o v) c.loop-place.place a.past (held_unboxed a.o w).table i.changing

@@ -5,7 +5,7 @@ use Rattle.ft_trace.specs.Holds.{held_unboxed}
 use Rattle.ft_bank.specs.Passes.{shape_of, view, IsPassOf}
 use Rattle.ft_bank.specs.PassSections.{stack_of}
 use Rattle.ft_bank.specs.TableNames.{table_id}
-use Rattle.ft_bank.specs.Whole.{OnlyWritten}
+use Rattle.ft_bank.specs.Whole.{OnlyPut}
 use Rattle.ft_list.specs.ListItemWrites.{WritesList, IsChanging, known_items}
 use Rattle.ft_list.proofs.items.close_items.Given as goal
 
@@ -16,7 +16,7 @@ invariant-loop-place l =
       stack : stack_of l.pass ≡ stack_of l.initial.pass;
       list : WritesList (shape_of l.bank) l.o l.table (view l.pass);
       late : has_committed l.o (view l.pass).log ≡ true;
-      only : OnlyWritten l.o (view l.initial.pass) (view l.pass);
+      only : OnlyPut l.o (view l.initial.pass) (view l.pass);
       block : (held_unboxed l.o (view l.pass)).block ≡ (held_unboxed l.o (view l.initial.pass)).block;
       changing : IsChanging (class_of (table_id l.table)) (known_items l.o (view l.initial.pass)) (known_items l.o (view l.initial.pass)) l.place l.past (held_unboxed l.o (view l.pass)).table;
     }

@@ -11,11 +11,13 @@ use Rattle.ft_trace.specs.Pictures.{root_in, Represents}
 use Rattle.ft_trace.specs.Holds.{held_unboxed, known_state}
 use Rattle.ft_bank.specs.Passes.{shape_of, view}
 use Rattle.ft_bank.specs.TableNames.{table_id}
-use Rattle.ft_bank.specs.Whole.{OnlyWritten}
+use Rattle.ft_bank.specs.Whole.{OnlyPut}
 use Rattle.ft_bank.proofs.KnownAfterWrites.{write_ends}
 use Rattle.ft_list.specs.ListItemWrites.{IsChanging, known_items}
 use Rattle.ft_list.proofs.FinishedWrites.{kept_after, stands_at_end, list_is_shut}
 use Rattle.ft_list.proofs.PutItems.{changing_only}
+use Rattle.ft_search.proofs.Puts.{same_done}
+use Rattle.ft_trace.specs.Boxes.{IsDoneWithBoxes}
 use Rattle.ft_list.proofs.items.finish.Goals as goal
 
 pub close_items-requires-clause-changing : goal.close_items-requires-clause-changing
@@ -64,7 +66,15 @@ returns-clause-ends c =
     d.1.1
     c.commit-number.ensures.committed
     m.may.left
-    (subst (λ (n : ℕ). OnlyWritten n w z) at e.only)
+    (subst (λ (n : ℕ). OnlyPut n w z) at e.only)
     (subst (λ (n : ℕ). root_in (held_unboxed n z) ≡ root_in (held_unboxed n u)) at root)
     (subst (λ (n : ℕ). Represents u.shape.texts (held_unboxed n z) (known_state n z)) at stands)
     (subst (λ (n : ℕ). view c.stop_write.new.pass ≡ view_after (StopWrite n c.stop_write.result) z) at c.stop_write.ensures.1)
+
+pub returns-clause-references : goal.returns-clause-references
+returns-clause-references c =
+    let k = shape_of c.args.bank.now in
+    let stopped = c.stop_write.ensures.1 in
+    let e = c.close_items.ensures in
+    same_done k (view c.args.pass.now) (view c.stop_write.new.pass) c.requires.pass.1 (ap (λ (z : View). z.shape) stopped ∙ e.pass.1) c.requires.list.boxes
+    (subst (λ (z : View). IsDoneWithBoxes k z.log) (sym stopped) e.list.boxes)

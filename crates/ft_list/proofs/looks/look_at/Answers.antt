@@ -6,7 +6,7 @@ use Rattle.ft_bank.specs.Series.{DidAll}
 use Rattle.ft_bank.specs.TableNames.{table_id}
 use Rattle.ft_search.proofs.Running.{did_trans, did_log}
 use Rattle.ft_list.specs.ItemLooks.{item_acts}
-use Rattle.ft_list.proofs.LookRounds.{item_closes, item_stops, fresh_root}
+use Rattle.ft_list.proofs.LookRounds.{item_closes, item_stops, fresh_root, item_inner}
 use Rattle.ft_list.proofs.looks.look_at.Goals as goal
 use Rattle.ft_list.proofs.looks.look_at.Goals.{then-seen-via-then-seen, then-seen-via-else-seen+then-seen-ne0}
 

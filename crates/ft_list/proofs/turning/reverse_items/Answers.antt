@@ -11,6 +11,7 @@ use Rattle.ft_list.specs.Internal.Reversing.{IsTurning}
 use Rattle.ft_list.proofs.Cares.{table_class}
 use Rattle.ft_list.proofs.Turned.{turning_ends}
 use Rattle.ft_list.proofs.WholeListWrites.{finishing, list_wrote, root_wrote}
+use Rattle.ft_search.proofs.Puts.{same_done}
 use Rattle.ft_list.proofs.turning.reverse_items.Goals as goal
 use Rattle.ft_list.proofs.ItemWordsPut.{Changed}
 
@@ -65,3 +66,13 @@ returns-clause-root c =
     let e = c.turn.ensures in
     let call_is = c.requires.call in
     root_wrote k a.o a.table v s u d.0 c.requires.may d.1.1 e.only call_is.0 a.called.now a.said.now c.finish.result (view c.finish.new.pass) call_is.1 call_is.2.write.changing c.finish.ensures.ends (e.list.root ∙ sym c.requires.table.root)
+
+pub returns-clause-references : goal.returns-clause-references
+returns-clause-references c =
+    let a = c.args in
+    let e = c.turn.ensures in
+    let same = same_done (shape_of a.bank.now) (view a.pass.now) (view c.turn.new.pass) c.requires.pass.1 e.pass.1 c.requires.may.boxes e.list.boxes in
+    λ n. c.finish.ensures.references n ∙ same n
+
+pub turn-requires-clause-before : goal.turn-requires-clause-before
+turn-requires-clause-before c = (known_items c.args.o (view c.args.pass.now), sym c.requires.count, c.begin.ensures.putting 0 c.args.count)

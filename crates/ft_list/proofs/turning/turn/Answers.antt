@@ -8,6 +8,7 @@ use Rattle.ft_list.specs.ListItemWrites.{IsPutting, stored_item}
 use Rattle.ft_list.specs.Internal.Reversing.{IsTurning}
 use Rattle.ft_list.proofs.Cares.{table_class}
 use Rattle.ft_list.proofs.Turned.{turning_starts}
+use Rattle.ft_list.proofs.Written.{written_same}
 use Rattle.ft_list.proofs.turning.turn.Goals as goal
 
 pub loop-at-init : goal.loop-at-init
@@ -49,3 +50,6 @@ returns-clause-turned c values long putting =
     let a = c.args in
     let at : c.loop-at.at ≡ a.count / 2 = let t = c.loop-at-test.false in let e = c.loop-at.auto.at-end in omega (arith, t, e) in
     subst (λ (n : ℕ). IsTurning (class_of (table_id a.table)) values n (held_unboxed a.o (view c.loop-at.pass)).table) at (c.loop-at.invariant.turning values long putting)
+
+pub swap-requires-clause-before : goal.swap-requires-clause-before
+swap-requires-clause-before c = let b = c.requires.before in (b.0, b.1, c.loop-at.invariant.turning b.0 b.1 b.2)

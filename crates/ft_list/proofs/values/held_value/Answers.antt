@@ -3,7 +3,7 @@ use Rattle.std.specs.Prelude.{slice_index}
 use Rattle.ft_trace.specs.declared.Act.TheVariants.{ReadTable}
 use Rattle.ft_trace.specs.Addresses.{class_of, size}
 use Rattle.ft_trace.specs.Holds.{held_words}
-use Rattle.ft_trace.specs.Pictures.{ContainerWords, item_offset, root_in}
+use Rattle.ft_trace.specs.Pictures.{item_offset, root_in}
 use Rattle.ft_bank.specs.Passes.{shape_of, view}
 use Rattle.ft_bank.specs.TableNames.{table_id}
 use Rattle.ft_bank.specs.Whole.{OnlyLoaded}

@@ -10,6 +10,8 @@ use Rattle.ft_list.specs.ListItemWrites.{known_items, stored_item, but_at}
 use Rattle.ft_list.proofs.Cares.{table_class}
 use Rattle.ft_list.proofs.ItemWordsPut.{putting_put, putting_ends, stored_set}
 use Rattle.ft_list.proofs.WholeListWrites.{finishing, list_wrote, root_wrote}
+use Rattle.ft_trace.proofs.ValuePlaces.{plain_kind}
+use Rattle.ft_search.proofs.Puts.{same_done}
 use Rattle.ft_list.proofs.writes.set_item.Goals as goal
 
 pub put_item-requires-clause-place : goal.put_item-requires-clause-place
@@ -63,3 +65,13 @@ returns-clause-root c =
     let e = c.put_item.ensures in
     let call_is = c.requires.call in
     root_wrote k a.o a.table v s u d.0 c.requires.may d.1.1 e.only call_is.0 a.called.now a.said.now c.finish.result (view c.finish.new.pass) call_is.1 call_is.2.write.changing c.finish.ensures.ends (e.list.root ∙ sym c.requires.table.root)
+
+pub put_item-requires-clause-plain : goal.put_item-requires-clause-plain
+put_item-requires-clause-plain c = plain_kind c.args.value
+
+pub returns-clause-references : goal.returns-clause-references
+returns-clause-references c =
+    let a = c.args in
+    let e = c.put_item.ensures in
+    let same = same_done (shape_of a.bank.now) (view a.pass.now) (view c.put_item.new.pass) c.requires.pass.1 e.pass.1 c.requires.may.boxes e.list.boxes in
+    λ n. c.finish.ensures.references n ∙ same n

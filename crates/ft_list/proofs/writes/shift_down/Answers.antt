@@ -1,4 +1,4 @@
-use Rattle.std.proofs.Common.{◌≡◌, ℕ, ◌+◌, refl, sym, ap, ◌∙◌, subst, arith}
+use Rattle.std.proofs.Common.{List, ◌≡◌, ℕ, ◌+◌, refl, sym, ap, ◌∙◌, subst, arith, length}
 use Rattle.std.specs.List.{remove}
 use Rattle.ft_trace.specs.Addresses.{class_of}
 use Rattle.ft_trace.specs.Pictures.{ContainerWords}
@@ -6,11 +6,16 @@ use Rattle.ft_trace.specs.Holds.{held_unboxed}
 use Rattle.ft_bank.specs.Passes.{shape_of, view}
 use Rattle.ft_bank.specs.TableNames.{table_id}
 use Rattle.ft_bank.proofs.KnownAfterWrites.{put_same, written_then, loaded_put}
-use Rattle.ft_list.specs.ListItemWrites.{stored_item}
+use Rattle.ft_list.specs.ListItemWrites.{stored_item, IsPutting}
 use Rattle.ft_list.specs.Internal.Moving.{IsMoving}
 use Rattle.ft_list.proofs.Cares.{table_class}
 use Rattle.ft_list.proofs.ItemWordsPut.{stored_none, moving_starts, moving_further, moving_next, remove_low, remove_past}
+use Rattle.ft_layout.specs.Words.{stored_kind}
+use Rattle.ft_list.proofs.ItemValues.{item_plain}
+use Rattle.ft_list.proofs.Written.{written_same, loaded_written}
+use Rattle.ft_model.specs.declared.data.Value.{Value}
 use Rattle.ft_list.proofs.writes.shift_down.Goals as goal
+use Rattle.ft_list.proofs.writes.shift_down.Goals.{After-item_or_none-next}
 
 pub loop-at-init : goal.loop-at-init
 loop-at-init c =
@@ -28,6 +33,23 @@ loop-at-init c =
       from = omega arith;
       moving = λ values long putting. moving_starts (class_of (table_id a.table)) is_class values (remove values a.place) a.place a.count a.place (held_unboxed a.o v).table putting (λ q less. remove_low values a.place q (omega (arith, p, long)) less);
     }
+
+-- the next item, of a list with these values
+next_is : (c : After-item_or_none-next) → (values : List Value) → length values ≡ c.args.count → IsPutting (class_of (table_id c.args.table)) values c.args.place c.args.count (stored_item values) (held_unboxed c.args.o (view c.args.pass.now)).table → c.item_or_none-next.result ≡ stored_item values (c.loop-at.at + 1)
+next_is c values long putting =
+    let a = c.args in
+    let class = class_of (table_id a.table) in
+    let is_class = table_class (shape_of a.bank.now) a.table c.requires.list.table_in in
+    let p = c.requires.place in
+    let at = c.loop-at.at in
+    c.item_or_none-next.ensures.stored (stored_item values (at + 1))
+    (λ less. moving_further class is_class values (remove values a.place) a.place a.count at (at + 1) (held_unboxed a.o (view c.loop-at.pass)).table (c.loop-at.invariant.moving values long putting) (omega arith) (omega (arith, less, p)))
+    (λ past. stored_none values (at + 1) (omega (arith, past, long)))
+
+pub put_item-requires-clause-plain : goal.put_item-requires-clause-plain
+put_item-requires-clause-plain c e =
+    let b = c.requires.before in
+    item_plain b.0 (c.loop-at.at + 1) (sym (ap stored_kind (next_is (goal.at.put_item-requires-clause-plain c).After-item_or_none-next b.0 b.1 b.2)) ∙ e)
 
 pub loop-at-preserved : goal.loop-at-preserved
 loop-at-preserved c =
@@ -54,10 +76,7 @@ loop-at-preserved c =
       from = let n = i.from in omega (arith, n);
       moving = λ values long putting.
           let m = i.moving values long putting in
-          let is : c.item_or_none-next.result ≡ stored_item values (at + 1) =
-          f.stored (stored_item values (at + 1))
-          (λ less. moving_further class is_class values (remove values a.place) a.place a.count at (at + 1) (held_unboxed a.o x).table m (omega arith) (omega (arith, less, p)))
-          (λ past. stored_none values (at + 1) (omega (arith, past, long))) in
+          let is = next_is (goal.at.loop-at-preserved c).After-item_or_none-next values long putting in
           moving_next class is_class values (remove values a.place) a.place a.count at (held_unboxed a.o y) (held_unboxed a.o z) c.item_or_none-next.result
           (subst (λ (w : ContainerWords). IsMoving class values (remove values a.place) a.place a.count at w.table) (sym f.held) m)
           e.puts f.fits (is ∙ remove_past values a.place at (let q = p.0 in omega (arith, q, long)) i.from) i.from test;

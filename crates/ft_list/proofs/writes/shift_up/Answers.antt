@@ -12,6 +12,9 @@ use Rattle.ft_list.specs.ListItemWrites.{IsPutting, stored_item}
 use Rattle.ft_list.specs.Internal.Moving.{IsMoving}
 use Rattle.ft_list.proofs.Cares.{table_class, few_slots}
 use Rattle.ft_list.proofs.ItemWordsPut.{moving_starts, moving_finds, moving_next, insert_low, insert_here, insert_past}
+use Rattle.ft_layout.specs.Words.{stored_kind}
+use Rattle.ft_list.proofs.ItemValues.{item_plain}
+use Rattle.ft_list.proofs.Written.{written_same, loaded_written}
 use Rattle.ft_list.proofs.writes.shift_up.Goals as goal
 
 pub overflow_add-at-end : goal.overflow_add-at-end
@@ -87,3 +90,9 @@ returns-clause-moved c values long putting =
     let a = c.args in
     let at : c.loop-at.at ≡ a.count + 1 = let t = c.loop-at-test.false in let e = c.loop-at.auto.at-end in let p = c.requires.place.0 in let h = e (omega (arith, p)) in omega (arith, t, h) in
     subst (λ (n : ℕ). IsMoving (class_of (table_id a.table)) values (insert values a.place a.value) a.place (a.count + 1) n (held_unboxed a.o (view c.loop-at.pass)).table) at (c.loop-at.invariant.moving values long putting).1
+
+pub put_item-requires-clause-plain : goal.put_item-requires-clause-plain
+put_item-requires-clause-plain c e =
+    let a = c.args in
+    let b = c.requires.before in
+    item_plain (insert b.0 a.place a.value) c.loop-at.at (sym (ap stored_kind (c.loop-at.invariant.moving b.0 b.1 b.2).0) ∙ e)

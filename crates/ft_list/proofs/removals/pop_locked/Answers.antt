@@ -50,7 +50,7 @@ returns-in-Some-clause-made c =
     wrote_as k a.l (list.Pop a.index) (reply.Value c.item_at-item.result) v y x f.pass.1 c.item_at-item.new.pass.possible may
     (loaded_then v u y c.count_of-count.ensures.only (loaded_then u t y e.only f.only)) c.remove_item-number.result (remove values c.in-Some.place)
     (subst (λ (i : Value). Changes a.l (list.Pop a.index) (reply.Value i) values (remove values c.in-Some.place) y) item changes)
-    c.remove_item-number.ensures.wrote c.remove_item-number.ensures.root
+    c.remove_item-number.ensures.wrote c.remove_item-number.ensures.root c.remove_item-number.ensures.references
 
 pub returns-in-None-clause-made : goal.returns-in-None-clause-made
 returns-in-None-clause-made c =

@@ -181,7 +181,7 @@ returns-in-Some-clause-made c =
     let is_list = content_of k a.l t shape c.read_block-root.new.pass.possible may in
     let turned = reverse_changes a.l values t low may.locked is_list in
     wrote_as k a.l list.Reverse reply.Done v t (view c.reverse_items-number.new.pass) shape c.read_block-root.new.pass.possible may (loaded_then v u t e.only only) c.reverse_items-number.result (reverse values) turned
-    c.reverse_items-number.ensures.wrote c.reverse_items-number.ensures.root
+    c.reverse_items-number.ensures.wrote c.reverse_items-number.ensures.root c.reverse_items-number.ensures.references
 
 pub returns-in-None-clause-made : goal.returns-in-None-clause-made
 returns-in-None-clause-made c =
@@ -204,4 +204,4 @@ returns-in-None-clause-made c =
     let same : reverse values ≡ values = reversed_none values (no_items k.texts (held_unboxed a.l t) (known_state a.l t) none may.stands) in
     let stays = subst (λ (z : List Value). Changes a.l list.Reverse reply.Done values z t) same turned in
     wrote_as k a.l list.Reverse reply.Done v t (view c.write_nothing-number.new.pass) shape c.read_block-root.new.pass.possible may (loaded_then v u t e.only only) c.write_nothing-number.result values stays
-    c.write_nothing-number.ensures.wrote c.write_nothing-number.ensures.root
+    c.write_nothing-number.ensures.wrote c.write_nothing-number.ensures.root c.write_nothing-number.ensures.references

@@ -1,7 +1,8 @@
 -- Rounds of a look-up of one item.
-use Rattle.std.proofs.Common.{◌≡◌, ◌≢◌, ◌⊎◌, ℕ, suc, ◌%◌, ◌^◌, ◌<◌, ◌≤◌, List, [], ◌∷◌, ◌++◌, refl, sym, ap, ◌∙◌, inl, inr, ⊎_elim, append_assoc, Bool, subst, ◌/◌}
+use Rattle.std.proofs.Common.{◌≡◌, ◌≢◌, ◌⊎◌, ℕ, suc, ◌%◌, ◌^◌, ◌<◌, ◌≤◌, List, [], ◌∷◌, ◌++◌, refl, sym, ap, ◌∙◌, true, false, inl, inr, ⊎_elim, append_assoc, Bool, subst, ◌/◌}
 use Rattle.std.specs.Prelude.{pos}
 use Rattle.ft_model.specs.declared.data.Key.TheVariants as key
+use Rattle.ft_model.specs.declared.script.Kind.TheVariants as kind
 use Rattle.ft_model.specs.Classes.{list_items}
 use Rattle.ft_trace.specs.declared.Act.{Act}
 use Rattle.ft_trace.specs.declared.Act.TheVariants.{ReadRoot, ReadTable, ReadCounter, Version, ReadBox}

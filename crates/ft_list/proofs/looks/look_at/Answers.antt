@@ -1,10 +1,10 @@
 use Rattle.std.proofs.Common.{◌≡◌, ◌≢◌, ◌⊎◌, ℕ, suc, ◌%◌, ◌<◌, [], ◌∷◌, inl, inr, sym, ap, ◌∙◌, subst}
 use Rattle.ft_trace.specs.declared.Act.TheVariants.{ReadRoot}
 use Rattle.ft_trace.specs.Acts.{announces}
-use Rattle.ft_bank.specs.Passes.{shape_of}
+use Rattle.ft_bank.specs.Passes.{shape_of, view}
 use Rattle.ft_bank.specs.Series.{DidAll}
 use Rattle.ft_bank.specs.TableNames.{table_id}
-use Rattle.ft_search.proofs.Running.{did_trans, did_log}
+use Rattle.ft_search.proofs.Running.{did_trans, did_log, inner_announces}
 use Rattle.ft_list.specs.ItemLooks.{item_acts}
 use Rattle.ft_list.proofs.LookRounds.{item_closes, item_stops, fresh_root, item_inner}
 use Rattle.ft_list.proofs.looks.look_at.Goals as goal
@@ -13,7 +13,9 @@ use Rattle.ft_list.proofs.looks.look_at.Goals.{then-seen-via-then-seen, then-see
 pub read_root-again-requires-clause-online : goal.read_root-again-requires-clause-online
 read_root-again-requires-clause-online c =
     let part = item_acts (table_id c.args.table) c.args.index c.see_item-seen.result in
-    subst (λ (z : ℕ). 0 < z) (sym (ap announces (did_log part c.args.pass.now c.see_item-seen.new.pass c.see_item-seen.ensures.did))) c.requires.online
+    subst (λ (z : ℕ). 0 < z) 
+    (sym (ap announces (did_log part c.args.pass.now c.see_item-seen.new.pass c.see_item-seen.ensures.did)
+    ∙ inner_announces part (view c.args.pass.now).log (item_inner (table_id c.args.table) c.args.index c.see_item-seen.result))) c.requires.online
 
 pub returns-then-again-root-clause-ended : goal.returns-then-again-root-clause-ended
 returns-then-again-root-clause-ended c =

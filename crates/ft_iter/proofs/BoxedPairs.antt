@@ -12,13 +12,16 @@ use Rattle.ft_trace.specs.Addresses.{class_of, container_count, slots}
 use Rattle.ft_trace.specs.ContainerStates.{kind_in}
 use Rattle.ft_trace.specs.Holds.{held_words, held_unboxed}
 use Rattle.ft_trace.specs.Kinds.{IsKeyed, rows}
-use Rattle.ft_trace.specs.Pictures.{entry_offset, root_in}
+use Rattle.ft_trace.specs.Pictures.{ContainerWords, entry_offset, root_in}
 use Rattle.ft_trace.specs.Traces.{IsReachable}
 use Rattle.ft_bank.specs.declared.table.Table.{Table}
 use Rattle.ft_bank.specs.BoxSteps.{kind_read, payload_read}
 use Rattle.ft_bank.specs.TableNames.{table_id, IsTableIn}
+use Rattle.ft_bank.specs.Whole.{OnlyLoaded}
+use Rattle.ft_bank.proofs.KnownAfterWrites.{loaded_held}
 use Rattle.ft_keys.proofs.Written.{same-words}
 use Rattle.ft_search.specs.Boxed.{IsKnownBox}
+use Rattle.ft_search.specs.Held.{KnowsTable}
 use Rattle.ft_search.proofs.Puts.{entry_reads}
 use Rattle.ft_search.proofs.SearchedReads.{word_at, known_there, stands_boxed}
 use Rattle.ft_iter.specs.declared.pairs.PairWords.{PairWords}
@@ -86,3 +89,41 @@ module _ (v : View) (o : ℕ) (k : Shape) (table : Table) (mask fill : ℕ) (las
           λ live. (says pair).0 (same-words word f (sym w1) (sym w2) (sym w3) (sym w4) (sym w5) (sym w6) (Live pair) live),
           λ same. same-words f word w1 w2 w3 w4 w5 w6 (Live pair) ((says pair).1 same),
         ))
+
+-- after loads
+module _ (v w : View) (o : ℕ) (k : Shape) (table : Table) (mask fill : ℕ) (last : Option ℕ) (loaded : OnlyLoaded v w) (shape : v.shape ≡ k) (low : o < container_count k) (keyed : IsKeyed (kind_in k.starts o)) (in_bank : IsTableIn k table) (is : mask ≡ class_mask table.class) (knows : KnowsTable o (table_id table) v) where
+  same-shape : w.shape ≡ k
+  same-shape = loaded.work.pass.shape ∙ shape
+
+  same-keyed : IsKeyed (kind_in w.shape.starts o)
+  same-keyed = subst (λ (z : Shape). IsKeyed (kind_in z.starts o)) (sym same-shape) keyed
+
+  same-held : held_words o w ≡ held_words o v
+  same-held = loaded_held v w o loaded
+
+  same-read : held_unboxed o w ≡ held_unboxed o v
+  same-read = loaded.unboxed o (subst (λ (z : Shape). o < container_count z) (sym shape) low) knows.0
+
+  same-root : root_in (held_words o w) ≡ suc (table_id table)
+  same-root = ap root_in same-held ∙ knows.1
+
+  pub none-after : FindsWords mask (0 ∷ 0 ∷ (held_words o v).table) fill last None → GivesPair mask (0 ∷ 0 ∷ (held_unboxed o v).table) fill last None
+  none-after finds =
+      none-given v o k table mask fill last (subst (λ (z : Shape). IsKeyed (kind_in z.starts o)) (sym shape) keyed) in_bank is knows.1 finds
+
+  module _ (few : fill ≤ rows (kind_in k.starts o) (class_of (table_id table))) (found : PairWords) (finds : FindsWords mask (0 ∷ 0 ∷ (held_words o v).table) fill last (Some found)) where
+    few-there : fill ≤ rows (kind_in w.shape.starts o) (class_of (table_id table))
+    few-there = subst (λ (z : Shape). fill ≤ rows (kind_in z.starts o) (class_of (table_id table))) (sym same-shape) few
+
+    finds-there : FindsWords mask (0 ∷ 0 ∷ (held_words o w).table) fill last (Some found)
+    finds-there = subst (λ (z : ContainerWords). FindsWords mask (0 ∷ 0 ∷ z.table) fill last (Some found)) (sym same-held) finds
+
+    pub known-after : ∥ IsReachable w ∥₁ → found.value_kind ≡ 4 → IsKnownBox w found.value
+    known-after possible four =
+        box-known w o k table mask fill last same-keyed in_bank is same-root few-there found finds-there possible
+        (subst (λ (z : Shape). o < container_count z) (sym same-shape) low) (loaded.work.pass.locks o ∙ knows.0) four
+
+    pub given-after : (given : Option Pair) → ((pair : Pair) → SaysEntry w found (Live pair) ↔ (given ≡ Some pair)) → GivesPair mask (0 ∷ 0 ∷ (held_unboxed o v).table) fill last given
+    given-after given says =
+        subst (λ (z : ContainerWords). GivesPair mask (0 ∷ 0 ∷ z.table) fill last given) same-read
+        (pair-given w o k table mask fill last same-keyed in_bank is same-root few-there found finds-there given says)

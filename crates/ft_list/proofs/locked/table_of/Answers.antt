@@ -6,6 +6,10 @@ use Rattle.ft_bank.proofs.KnownAfterWrites.{loaded_by, loaded_held}
 use Rattle.ft_list.proofs.Lists.{content_of, list_rooted, may_loaded, items_loaded}
 use Rattle.ft_list.proofs.locked.table_of.Goals as goal
 
+pub returns-clause-only : goal.returns-clause-only
+returns-clause-only c =
+    loaded_by (ReadBlock c.args.l 0 c.read_block-root.result) (view c.args.pass.now) (view c.read_block-root.new.pass) tt c.read_block-root.ensures.did.1
+
 pub returns-clause-may : goal.returns-clause-may
 returns-clause-may c =
     let a = c.args in

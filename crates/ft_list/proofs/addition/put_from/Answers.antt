@@ -3,14 +3,14 @@ use Rattle.ft_model.specs.declared.data.Value.{Value}
 use Rattle.ft_model.specs.Worlds.{list_of}
 use Rattle.ft_trace.specs.Addresses.{class_of}
 use Rattle.ft_trace.specs.Holds.{held_unboxed}
-use Rattle.ft_trace.specs.Pictures.{ContainerWords, root_in}
+use Rattle.ft_trace.specs.Pictures.{ContainerWords}
 use Rattle.ft_trace.specs.ContainerStates.{ContainerState}
 use Rattle.ft_bank.specs.Passes.{shape_of, view}
 use Rattle.ft_bank.specs.TableNames.{table_id}
-use Rattle.ft_bank.proofs.KnownAfterWrites.{put_same, written_then, loaded_held, loaded_put, work_knows}
+use Rattle.ft_bank.proofs.KnownAfterWrites.{written_then, work_knows}
 use Rattle.ft_list.specs.ListItemWrites.{known_items, stored_item}
 use Rattle.ft_list.specs.Internal.Moving.{IsMoving}
-use Rattle.ft_list.proofs.Cares.{writes_loaded, table_class, few_slots, writes_on, list_unboxed}
+use Rattle.ft_list.proofs.Cares.{writes_loaded, table_class, few_slots, list_unboxed}
 use Rattle.ft_list.proofs.Extending.{append_low, append_high, gives_put, root_put}
 use Rattle.ft_list.proofs.ItemWordsPut.{moving_starts, moving_next}
 use Rattle.ft_layout.specs.Words.{stored_kind}

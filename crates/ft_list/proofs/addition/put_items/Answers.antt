@@ -5,10 +5,10 @@ use Rattle.ft_trace.specs.Holds.{held_unboxed}
 use Rattle.ft_trace.specs.Pictures.{ContainerWords, root_in}
 use Rattle.ft_bank.specs.Passes.{shape_of, view}
 use Rattle.ft_bank.specs.TableNames.{table_id}
-use Rattle.ft_bank.proofs.KnownAfterWrites.{written_then, loaded_held, loaded_put}
+use Rattle.ft_bank.proofs.KnownAfterWrites.{written_then, loaded_held}
 use Rattle.ft_list.specs.ListItemWrites.{IsPutting, stored_item}
 use Rattle.ft_list.specs.Internal.Moving.{IsMoving}
-use Rattle.ft_list.proofs.Cares.{writes_loaded, writes_on, list_unboxed}
+use Rattle.ft_list.proofs.Cares.{writes_loaded, list_unboxed}
 use Rattle.ft_list.proofs.Extending.{gives_loaded}
 use Rattle.ft_list.proofs.Lists.{items_loaded}
 use Rattle.ft_list.proofs.Written.{loaded_written}

@@ -1,4 +1,4 @@
-use Rattle.std.proofs.Common.{None, Some, sym, ap, ◌∙◌, subst, refl, ◌≡◌, ℕ}
+use Rattle.std.proofs.Common.{Some, sym, ap, ◌∙◌, subst, refl, ◌≡◌, ℕ}
 use Rattle.ft_model.specs.declared.call.Call.{Call}
 use Rattle.ft_model.specs.declared.reply.Reply.TheVariants as reply
 use Rattle.ft_trace.specs.declared.Act.TheVariants.{Commit}
@@ -7,7 +7,7 @@ use Rattle.ft_trace.specs.Acts.{view_after}
 use Rattle.ft_trace.specs.Holds.{held_unboxed}
 use Rattle.ft_trace.specs.Pictures.{root_in}
 use Rattle.ft_bank.specs.Passes.{shape_of, view}
-use Rattle.ft_bank.specs.WriteSteps.{Committed, MayCommit, MayPutRoot}
+use Rattle.ft_bank.specs.WriteSteps.{Committed, MayCommit}
 use Rattle.ft_list.proofs.Emptying.{may_put_none, clear_may_commit, clear_stands, clear_root, clear_shut, clear_wrote, clear_of}
 use Rattle.ft_search.proofs.Puts.{few_done, same_done}
 use Rattle.ft_trace.specs.Boxes.{references_held}

@@ -1,6 +1,5 @@
-use Rattle.std.proofs.Common.{◌≡◌, ℕ, suc, List, Some, length, sym, ap, ◌∙◌, subst, arith, get_or-set_same}
+use Rattle.std.proofs.Common.{ℕ, suc, List, Some, length, sym, ap, ◌∙◌, subst, arith, get_or-set_same}
 use Rattle.ft_layout.specs.Containers.{IsBlock}
-use Rattle.ft_trace.specs.declared.View.{View}
 use Rattle.ft_trace.specs.Addresses.{class_of}
 use Rattle.ft_trace.specs.Holds.{held_unboxed, known_state, in_hand}
 use Rattle.ft_trace.specs.Pictures.{ContainerWords, root_in}

@@ -2,8 +2,6 @@ use Rattle.std.proofs.Common.{◌≡◌, ◌≢◌, ◌⊎◌, ◌%◌, ℤ, inl
 use mir.Syntax.{w64}
 use mir.Val.{to_z, of_z}
 use Rattle.std.proofs.Math.Facts.{to_z-of_z}
-use Rattle.ft_trace.specs.LoggedReads.{Agrees}
-use Rattle.ft_trace.specs.Pictures.{ContainerWords}
 use Rattle.ft_bank.specs.Passes.{shape_of}
 use Rattle.ft_list.specs.Indexes.{IsItemNamed}
 use Rattle.ft_list.proofs.Indexes.{between_acts, between_did, between_looks, between_stops, between_shows}

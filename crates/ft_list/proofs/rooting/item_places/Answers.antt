@@ -1,4 +1,4 @@
-use Rattle.std.proofs.Common.{◌∙◌, arith}
+use Rattle.std.proofs.Common.{arith}
 use Rattle.ft_trace.specs.Addresses.{slots}
 use Rattle.ft_list.proofs.rooting.item_places.Goals as goal
 

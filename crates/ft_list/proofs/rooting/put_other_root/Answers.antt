@@ -1,18 +1,15 @@
-use Rattle.std.proofs.Common.{◌≡◌, ◌≢◌, ℕ, suc, ◌<◌, Some, None, sym, ap, ◌∙◌, subst}
+use Rattle.std.proofs.Common.{◌≡◌, ℕ, sym, ap, ◌∙◌, subst}
 use Rattle.ft_model.specs.declared.script.Kind.{Kind}
-use Rattle.ft_model.specs.declared.script.Kind.TheVariants as kind
 use Rattle.ft_trace.specs.declared.View.{View}
-use Rattle.ft_trace.specs.Addresses.{class_of, IsTableName}
-use Rattle.ft_trace.specs.ContainerStates.{kind_in}
 use Rattle.ft_trace.specs.Holds.{held_words, held_unboxed}
-use Rattle.ft_trace.specs.Pictures.{ContainerWords, root_in}
+use Rattle.ft_trace.specs.Pictures.{root_in}
 use Rattle.ft_bank.specs.Passes.{shape_of, view}
 use Rattle.ft_bank.specs.SameBoxes.{MovesReferences}
-use Rattle.ft_bank.specs.TableNames.{table_id, root_for, IsTableIn}
-use Rattle.ft_bank.specs.WriteSteps.{MayPutRoot, KeepsUnwritten, with_root, with_unboxed_root}
+use Rattle.ft_bank.specs.TableNames.{table_id, root_for}
+use Rattle.ft_bank.specs.WriteSteps.{MayPutRoot, KeepsUnwritten, with_unboxed_root}
 use Rattle.ft_bank.proofs.TableAddresses.{class_is, named}
 use Rattle.ft_table_calls.specs.Dropping.{AreValuePlaces}
-use Rattle.ft_list.proofs.Rooted.{dropped_done, dropped_only, dropped_reads, old_held, old_out, old_shared, put_is, put_moves, put_none, start_reads}
+use Rattle.ft_list.proofs.Rooted.{dropped_done, dropped_only, dropped_reads, old_held, old_out, old_shared, put_is, put_none, start_reads}
 use Rattle.ft_list.proofs.Written.{written_same}
 use Rattle.ft_trace.specs.Acts.{view_after}
 use Rattle.ft_trace.specs.declared.Act.TheVariants.{PutRoot, StartWrite}

@@ -5,7 +5,7 @@ use Rattle.ft_trace.specs.Pictures.{ContainerWords, item_field}
 use Rattle.ft_trace.specs.Holds.{held_unboxed}
 use Rattle.ft_bank.specs.Passes.{shape_of, view}
 use Rattle.ft_bank.specs.TableNames.{table_id}
-use Rattle.ft_bank.proofs.KnownAfterWrites.{loaded_put, loaded_then, written_then}
+use Rattle.ft_bank.proofs.KnownAfterWrites.{loaded_then, written_then}
 use Rattle.ft_list.specs.ListItemWrites.{PutsItem, stored_item}
 use Rattle.ft_list.proofs.Cares.{table_class}
 use Rattle.ft_list.proofs.Turned.{turning_finds, turning_next}

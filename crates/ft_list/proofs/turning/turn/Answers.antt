@@ -3,7 +3,7 @@ use Rattle.ft_trace.specs.Addresses.{class_of}
 use Rattle.ft_trace.specs.Holds.{held_unboxed}
 use Rattle.ft_bank.specs.Passes.{shape_of, view}
 use Rattle.ft_bank.specs.TableNames.{table_id}
-use Rattle.ft_bank.proofs.KnownAfterWrites.{put_same, written_then}
+use Rattle.ft_bank.proofs.KnownAfterWrites.{written_then}
 use Rattle.ft_list.specs.ListItemWrites.{IsPutting, stored_item}
 use Rattle.ft_list.specs.Internal.Reversing.{IsTurning}
 use Rattle.ft_list.proofs.Cares.{table_class}

@@ -7,7 +7,7 @@ use Rattle.ft_trace.specs.Pictures.{ContainerWords, item_field}
 use Rattle.ft_trace.specs.Holds.{held_unboxed}
 use Rattle.ft_bank.specs.Passes.{shape_of, view}
 use Rattle.ft_bank.specs.TableNames.{table_id}
-use Rattle.ft_bank.proofs.KnownAfterWrites.{put_same, written_then, loaded_put}
+use Rattle.ft_bank.proofs.KnownAfterWrites.{written_then}
 use Rattle.ft_list.specs.ListItemWrites.{IsPutting, stored_item}
 use Rattle.ft_list.specs.Internal.Moving.{IsMoving}
 use Rattle.ft_list.proofs.Cares.{table_class, few_slots}

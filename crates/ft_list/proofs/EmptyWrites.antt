@@ -20,7 +20,7 @@ use Rattle.ft_trace.specs.Holds.{held_unboxed, known_state}
 use Rattle.ft_trace.specs.Pictures.{ContainerWords, root_in, Represents}
 use Rattle.ft_trace.specs.ContainerStates.{ContainerState, state_at, changes}
 use Rattle.ft_trace.proofs.Known.{declared_at}
-use Rattle.ft_bank.specs.Whole.{OnlyWritten, Wrote, OnlyPut}
+use Rattle.ft_bank.specs.Whole.{Wrote, OnlyPut}
 use Rattle.ft_bank.specs.WriteSteps.{MayHave, MayCommit, Committed, IsShut}
 use Rattle.ft_bank.proofs.KnownAfterWrites.{put_same, write_ends}
 use Rattle.ft_search.specs.OneEntryWrites.{Leaves}

@@ -9,7 +9,7 @@ use Rattle.ft_model.specs.declared.data.Value.{Value}
 use Rattle.ft_model.specs.declared.reply.Reply.TheVariants as reply
 use Rattle.ft_model.specs.TableUses.{no_table}
 use Rattle.ft_layout.specs.Containers.{IsRoot, IsBlock}
-use Rattle.ft_trace.specs.declared.Act.TheVariants.{Commit, PutBlock, PutRoot, StartWrite, StopWrite}
+use Rattle.ft_trace.specs.declared.Act.TheVariants.{Commit, PutBlock, StartWrite, StopWrite}
 use Rattle.ft_trace.specs.declared.Snap.{Snap}
 use Rattle.ft_trace.specs.declared.Shape.{Shape}
 use Rattle.ft_trace.specs.declared.View.{View}
@@ -24,7 +24,7 @@ use Rattle.ft_trace.proofs.Known.{declared_at}
 use Rattle.ft_trace.proofs.Naming.{named_locked}
 use Rattle.ft_bank.specs.declared.table.Table.{Table}
 use Rattle.ft_bank.specs.Whole.{OnlyWritten, Wrote}
-use Rattle.ft_bank.specs.WriteSteps.{Committed, IsShut, KeepsUnwritten, MayCommit, MayPutRoot, with_block, with_root, with_unboxed_root}
+use Rattle.ft_bank.specs.WriteSteps.{Committed, IsShut, KeepsUnwritten, MayCommit, MayPutRoot, with_block, with_unboxed_root}
 use Rattle.ft_bank.proofs.KnownAfterWrites.{put_by, put_same, work_knows, write_ends, written_then, put_written}
 use Rattle.ft_table_calls.proofs.Rooting.{rooted_write}
 use Rattle.ft_search.specs.OneEntryWrites.{Leaves}

@@ -28,9 +28,8 @@ use Rattle.ft_trace.specs.Acts.{has_lock, view_after}
 use Rattle.ft_trace.specs.Addresses.{container_count, class_of, slots}
 use Rattle.ft_trace.specs.Holds.{held_unboxed, known_state}
 use Rattle.ft_trace.specs.LookReplies.{item_reply}
-use Rattle.ft_trace.specs.LoggedReads.{Agrees, LookedAtOne}
+use Rattle.ft_trace.specs.LoggedReads.{LookedAtOne}
 use Rattle.ft_trace.specs.Pictures.{ContainerWords, root_in, item_field, Represents, item_offset}
-use Rattle.ft_trace.specs.Traces.{IsReachable}
 use Rattle.ft_trace.specs.ContainerStates.{ContainerState, state_at, kind_in, reply_in}
 use Rattle.ft_trace.proofs.Known.{class_known}
 use Rattle.ft_trace.proofs.NoTable.{no_table_stands}

@@ -1,5 +1,5 @@
 -- What a pass knows once it has put another root of a list, and has dropped what the old table named.
-use Rattle.std.proofs.Common.{◌≡◌, ◌≢◌, ℕ, suc, ◌<◌, true, false, eqb, cond, List, ◌∷◌, Option, Some, None, refl, sym, ap, ◌∙◌, subst, arith, get_or-set_same}
+use Rattle.std.proofs.Common.{◌≡◌, ◌≢◌, ℕ, suc, ◌<◌, true, false, eqb, cond, ◌∷◌, Option, Some, None, refl, sym, ap, ◌∙◌, subst, arith, get_or-set_same}
 use Rattle.std.specs.Prelude.{slice_index, slice_set}
 use Rattle.ft_layout.proofs.KindLaws.{head_of}
 use Rattle.ft_trace.specs.declared.Act.TheVariants.{StartWrite, PutRoot}

@@ -1,6 +1,6 @@
 -- A value that is read of a container's table, word by word and through the box that it names: by a pass without the
 -- lock, whose loads show it, and by one with the lock.
-use Rattle.std.proofs.Common.{◌≡◌, ◌≢◌, ◌⊎◌, ℕ, suc, ◌<◌, Bool, true, false, List, [], ◌∷◌, ◌++◌, length, refl, sym, ap, ◌∙◌, subst, inl, inr, ⊎_elim, arith}
+use Rattle.std.proofs.Common.{◌≡◌, ◌≢◌, ◌⊎◌, ℕ, suc, ◌<◌, Bool, true, false, List, [], ◌∷◌, ◌++◌, length, refl, sym, ap, ◌∙◌, subst, inl, inr, ⊎_elim}
 use Rattle.std.specs.Prelude.{slice_index}
 use Rattle.ft_model.specs.declared.script.Kind.{Kind}
 use Rattle.ft_trace.specs.declared.Act.{Act}
@@ -29,7 +29,7 @@ use Rattle.ft_search.specs.KeyLooks.{AreLooks}
 use Rattle.ft_search.proofs.Rounding.{looks_append}
 use Rattle.ft_search.proofs.Running.{did_trans}
 use Rattle.ft_reads.specs.Pairs.{ReadsBoth}
-use Rattle.ft_reads.specs.Reads.{AgreesRead, Reads}
+use Rattle.ft_reads.specs.Reads.{Reads}
 use Rattle.ft_reads.proofs.Agreeing.{agrees_append, reads_none}
 use Rattle.ft_reads.proofs.NamedKnown.{known_same, root_names_box, root_names_known}
 use Rattle.ft_reads.proofs.ReadValues.{value_seen}

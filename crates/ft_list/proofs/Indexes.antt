@@ -77,9 +77,9 @@ item_says texts x kept t class is stands names =
     let table = subst (λ (z : Option ℕ). InListTable (0 ∷ 0 ∷ x.table) z values) (class_known texts x kept t stands names) says.table in (
       list_few (class_of t) class values (0 ∷ 0 ∷ x.table) table,
       (λ place low. (
-          (let s = table.size in let few = list_few (class_of t) class values (0 ∷ 0 ∷ x.table) table in let all = words_of_class (class_of t) class values in let fit = items_fit (class_of t) class in omega (arith, s, few, all, fit, low)),
-          at_words x.table place (Plain (slice_index_or values place value.Nothing)) (table.items place value.Nothing low),
-        )),
+        (let s = table.size in let few = list_few (class_of t) class values (0 ∷ 0 ∷ x.table) table in let all = words_of_class (class_of t) class values in let fit = items_fit (class_of t) class in omega (arith, s, few, all, fit, low)),
+        at_words x.table place (Plain (slice_index_or values place value.Nothing)) (table.items place value.Nothing low),
+      )),
     )
 
 -- one without a table has none

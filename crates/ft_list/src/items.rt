@@ -38,14 +38,7 @@ pub(crate) fn word_at(place: u64, word: u64) -> u64
 }
 
 /// Loads the version of an item of a list that the pass writes.
-fn read_version(
-    bank: &Bank,
-    pass: &mut Pass,
-    o: u32,
-    table: Table,
-    start: u64,
-    place: u64,
-) -> u64
+fn read_version(bank: &Bank, pass: &mut Pass, o: u32, table: Table, start: u64, place: u64) -> u64
     requires pass { IsPassOf bank.now pass.old }
     requires list { WritesList (shape_of bank.now) o table (view pass.old) }
     requires start { IsPlaceOf (shape_of bank.now) table start }

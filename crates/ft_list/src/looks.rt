@@ -123,11 +123,7 @@ fn look_at(bank: &Bank, pass: &mut Pass, o: u32, index: u64, root: u64, table: T
     if seen.closed != seen.opened || seen.opened % 2 != 0 {
         return ItemRound::Ended(LookedItem::Contended(seen.opened, seen.closed));
     }
-    ItemRound::Ended(LookedItem::Item(
-        seen.value.kind,
-        seen.value.value,
-        seen.number,
-    ))
+    ItemRound::Ended(LookedItem::Item(seen.value.kind, seen.value.value, seen.number))
 }
 
 /// A round over a table that has no such item: the counter, and then the root again.

@@ -13,7 +13,7 @@ use Rattle.ft_list.proofs.looks.look_at.Goals.{then-seen-via-then-seen, then-see
 pub read_root-again-requires-clause-online : goal.read_root-again-requires-clause-online
 read_root-again-requires-clause-online c =
     let part = item_acts (table_id c.args.table) c.args.index c.see_item-seen.result in
-    subst (λ (z : ℕ). 0 < z) 
+    subst (λ (z : ℕ). 0 < z)
     (sym (ap announces (did_log part c.args.pass.now c.see_item-seen.new.pass c.see_item-seen.ensures.did)
     ∙ inner_announces part (view c.args.pass.now).log (item_inner (table_id c.args.table) c.args.index c.see_item-seen.result))) c.requires.online
 

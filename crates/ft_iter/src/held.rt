@@ -64,6 +64,7 @@ fn pair_in(words: &mut TableWords, found: PairWords) -> Option<Pair>
     requires can { CanLoad words.old }
     requires known { found.value_kind ≡ box_kind → IsKnownBox (view words.old.pass.now) found.value }
     ensures can { CanLoad words.new }
+    ensures same { SamePlace words.old words.new }
     ensures looks { (part : List Act) × AreLooks part × DidAll part words.old.pass.now words.new.pass.now }
     ensures says { (pair : Pair) → SaysEntry (view words.old.pass.now) found (Live pair) ↔ (result ≡ Some pair) }
 {

@@ -99,6 +99,13 @@ returns-in-Some-clause-next c =
     next-held k.texts (held_unboxed o v) (known_state o v) c.requires.stands k table in_bank names last given keyed
     (subst (λ (z : ℕ). GivesPair (class_mask table.class) (0 ∷ 0 ∷ (held_unboxed o v).table) z last given) filled gives)
 
+pub returns-in-None-clause-keeps : goal.returns-in-None-clause-keeps
+returns-in-None-clause-keeps c =
+    let root : List Act = ReadBlock c.args.o 0 c.read_block-root.result ∷ [] in
+    let fill : List Act = ReadBlock c.args.o 2 c.read_block-fill.result ∷ [] in
+    let both = did_trans fill root c.args.pass.now c.read_block-root.new.pass c.read_block-fill.new.pass c.read_block-root.ensures.did c.read_block-fill.ensures.did in
+    looks_did (fill ++ root) c.args.pass.now c.read_block-fill.new.pass tt both
+
 pub returns-in-None-clause-looks : goal.returns-in-None-clause-looks
 returns-in-None-clause-looks c =
     let root : List Act = ReadBlock c.args.o 0 c.read_block-root.result ∷ [] in

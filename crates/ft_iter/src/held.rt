@@ -19,7 +19,7 @@ ghost use Rattle.ft_bank.specs.Whole.{OnlyLoaded};
 ghost use Rattle.ft_search.specs.Boxed.{IsKnownBox};
 ghost use Rattle.ft_search.specs.Held.{KnowsTable};
 ghost use Rattle.ft_search.specs.KeyLooks.{AreLooks};
-ghost use Rattle.ft_search.specs.TableWords.{CanLoad, SamePlace, KnowsWords, known_words};
+ghost use Rattle.ft_search.specs.TableWords.{CanLoad, SamePlace, KnowsWords, known_words, read_words};
 ghost use Rattle.ft_iter.specs.Seeking.{FindsWords, GivesPair, SaysEntry};
 ghost use Rattle.ft_trace.specs.Kinds.{IsKeyed, rows};
 ghost use Rattle.ft_iter.specs.Following.{IsNextOf};
@@ -81,6 +81,32 @@ fn pair_in(words: &mut TableWords, found: PairWords) -> Option<Pair>
     ])
 }
 
+/// The pair of the entry that is sought in words that nobody else writes.
+fn seek_pair<L: Ledger>(
+    words: &mut TableWords,
+    fill: u64,
+    after: Option<u64>,
+    blank: Blank,
+) -> Option<Pair>
+    requires can { CanLoad words.old }
+    requires knows { KnowsWords words.old }
+    requires keyed { IsKeyed (kind_in (shape_of words.old.bank.now).starts words.old.o) }
+    requires fill { fill ≤ dict_room words.old.mask }
+    requires few { fill ≤ rows (kind_in (shape_of words.old.bank.now).starts words.old.o) (class_of (table_id words.old.table)) }
+    requires name { blank.name ≡ L.name }
+    requires parts { (blank.parts ≡ L.parts) × (L.parts ≡ 1) }
+    ensures can { CanLoad words.new }
+    ensures same { SamePlace words.old words.new }
+    ensures looks { (part : List Act) × AreLooks part × DidAll part words.old.pass.now words.new.pass.now }
+    ensures gives { GivesPair words.old.mask (read_words words.old) fill after result }
+{
+    let found = seek_held::<L>(words, fill, after, blank);
+    match found {
+        Some(entry) => pair_in(words, entry),
+        None => None,
+    }
+}
+
 /// Seeks in the table of a container whose lock the pass has.
 fn seek_in(
     bank: &Bank,
@@ -111,10 +137,7 @@ fn seek_in(
         mask,
         start,
     };
-    match seek_held::<Brand>(&mut words, fill, after, Blank::new(1)) {
-        Some(found) => pair_in(&mut words, found),
-        None => None,
-    }
+    seek_pair::<Brand>(&mut words, fill, after, Blank::new(1))
 }
 
 /// The pair or the element with the least serial greater than `after`, where nothing was given yet the least

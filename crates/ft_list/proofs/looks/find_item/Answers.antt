@@ -3,7 +3,6 @@ use Rattle.ft_trace.specs.declared.Act.{Act}
 use Rattle.ft_trace.specs.declared.Act.TheVariants.{ReadRoot}
 use Rattle.ft_trace.specs.Acts.{announces}
 use Rattle.ft_bank.specs.Passes.{shape_of, view}
-use Rattle.ft_bank.specs.Whole.{OnlyLoaded}
 use Rattle.ft_list.specs.ItemLooks.{ShowsFound}
 use Rattle.ft_list.proofs.LookRounds.{found_in, falls}
 use Rattle.ft_search.proofs.Running.{did_trans, did_log}

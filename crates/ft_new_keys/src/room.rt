@@ -10,6 +10,7 @@ ghost use Rattle.ft_trace.specs.ContainerStates.{kind_in};
 ghost use Rattle.ft_bank.specs.KeyHashes.{IsKeyIn};
 ghost use Rattle.ft_bank.specs.Passes.{shape_of, view, IsPassOf};
 ghost use Rattle.ft_bank.specs.PassSections.{stack_of};
+ghost use Rattle.ft_bank.specs.SameBoxes.{SameReferences};
 ghost use Rattle.ft_bank.specs.TableNames.{table_id};
 ghost use Rattle.ft_bank.specs.Whole.{Wrote};
 ghost use Rattle.ft_search.specs.Held.{IsHeldAt};
@@ -65,6 +66,7 @@ pub(crate) fn add_in_room(
     ensures pass { IsPassOf bank.now pass.new }
     ensures stack { stack_of pass.new ≡ stack_of pass.old }
     ensures wrote { Wrote called.now said.now result (view pass.old) (view pass.new) }
+    ensures references { SameReferences (view pass.old) (view pass.new) }
     ensures root { root_in (held_unboxed o (view pass.new)) ≡ root_in (held_unboxed o (view pass.old)) }
 {
     let _ = way;

@@ -45,7 +45,7 @@ use Rattle.ft_table_calls.proofs.Rooting.{rooted_write}
 use Rattle.ft_search.specs.OneEntryWrites.{HasTable, Leaves, MayWriteEntries}
 use Rattle.ft_search.proofs.Calling.{plain_replied}
 use Rattle.ft_search.proofs.Changing.{kind_is}
-use Rattle.ft_search.proofs.Puts.{few_done}
+use Rattle.ft_search.proofs.Puts.{few_done, shut_reads}
 use Rattle.ft_whole_tables.specs.Clearing.{cleared, cleared_kept}
 use Rattle.ft_model.specs.declared.data.Key.{Key}
 
@@ -124,8 +124,10 @@ bare_stays texts words kept unshared keyed stands bare = by kept.content kept.ta
 -- no version of an entry is odd before the write
 known_shut : (k : Shape) (v : View) (o : ℕ) → v.shape ≡ k → ∥ IsReachable v ∥₁ → MayWriteEntries k o v → IsShut o v
 known_shut k v o shape possible may t names p row =
-    ∥∥₁_elim {P = slice_index (held_unboxed o v).table (version_at (kind_in v.shape.starts o) (class_of t) p) % 2 ≡ 0} possible (ℕ_set _ _)
-    (λ (x : IsReachable v). held_shut v o t (subst (λ (z : Shape). o < container_count z) (sym shape) may.container) x may.locked (may.even o) names p row)
+    let here = subst (λ (z : Shape). o < container_count z) (sym shape) may.container in
+    shut_reads v o t names
+    (λ q fits. ∥∥₁_elim {P = slice_index (held_words o v).table (version_at (kind_in v.shape.starts o) (class_of t) q) % 2 ≡ 0} possible (ℕ_set _ _) (λ (x : IsReachable v). held_shut v o t here x may.locked (may.even o) names q fits))
+    p row
 
 pub may_put_none : (k : Shape) (o : ℕ) (v s : View) (f : ℕ) → v.shape ≡ k → ∥ IsReachable v ∥₁ → MayWriteEntries k o v → used v.log ≡ false → s ≡ view_after (StartWrite o f) v → MayPutRoot s o None
 may_put_none k o v s f shape possible may free is =
@@ -214,21 +216,21 @@ module _ (k : Shape) (o : ℕ) (table : Table) (called : Call) (f : ℕ) (v s r 
   both_rooted : r ≡ view_after (PutRoot o 0 (root_in (held_unboxed o v))) (view_after (StartWrite o f) v)
   both_rooted = e.rooted ∙ ap (λ (z : View). view_after (PutRoot o 0 (root_in (held_unboxed o z))) z) e.started
 
-  shape_rooted : r.shape ≡ v.shape
-  shape_rooted = ap (λ (z : View). z.shape) both_rooted
+  shape_bare : r.shape ≡ v.shape
+  shape_bare = ap (λ (z : View). z.shape) both_rooted
 
   -- what the pass did since the root was put
   written : OnlyWritten o r u
   written =
       written_then o r d u
-      (boxed_written o r d e.drops e.made (λ b. let none = ap (λ (z : Shape). references_held z b d.log) (e.drops.work.pass.shape ∙ (shape_rooted ∙ e.shape)) ∙ e.none b in omega (arith, none)))
+      (boxed_written o r d e.drops e.made (λ b. let none = ap (λ (z : Shape). references_held z b d.log) (e.drops.work.pass.shape ∙ (shape_bare ∙ e.shape)) ∙ e.none b in omega (arith, none)))
       (put_written o d u e.puts)
 
   known_then : (p : ℕ) → known_state p u ≡ known_state p v
   known_then p = work_knows r u p written.work ∙ ap (λ (z : View). known_state p z) both_rooted
 
   shape_then : u.shape ≡ v.shape
-  shape_then = written.work.pass.shape ∙ shape_rooted
+  shape_then = written.work.pass.shape ∙ shape_bare
 
   locks_then : (p : ℕ) → has_lock p u.log ≡ has_lock p v.log
   locks_then p = written.work.pass.locks p ∙ ap (λ (z : View). has_lock p z.log) both_rooted
@@ -236,7 +238,7 @@ module _ (k : Shape) (o : ℕ) (table : Table) (called : Call) (f : ℕ) (v s r 
   -- the drops leave what the words read
   drops_read : held_unboxed o d ≡ held_unboxed o r
   drops_read =
-      e.drops.unboxed o (subst (λ (z : Shape). o < container_count z) (sym (shape_rooted ∙ e.shape)) e.may.container)
+      e.drops.unboxed o (subst (λ (z : Shape). o < container_count z) (sym (shape_bare ∙ e.shape)) e.may.container)
       (ap (λ (z : View). has_lock o z.log) both_rooted ∙ e.may.locked)
 
   -- the kind of its content
@@ -343,7 +345,7 @@ module _ (k : Shape) (o : ℕ) (table : Table) (called : Call) (f : ℕ) (v s r 
       pub emptying_references : SameReferences v w
       emptying_references =
           let bare_d : root_in (held_words o d) ≡ 0 = ap root_in drops_read ∙ rooted_bare k o f v s r e.may e.started e.root_held in
-          let shape_d = e.drops.work.pass.shape ∙ (shape_rooted ∙ e.shape) in
+          let shape_d = e.drops.work.pass.shape ∙ (shape_bare ∙ e.shape) in
           let before : IsDoneWithBoxes v.shape v.log = subst (λ (z : Shape). IsDoneWithBoxes z v.log) (sym e.shape) e.may.boxes in
           let no_box : (x : View) → root_in (held_words o x) ≡ 0 → (b : ℕ) → named_in_words b (kind_in x.shape.starts o) (held_words o x) ≡ 0 = λ x none b. none_named b (kind_in x.shape.starts o) (held_words o x) none in
           let put = same_named o d u e.puts.moves (λ b. no_box u root_then b ∙ sym (no_box d bare_d b)) in

@@ -21,7 +21,7 @@ use Rattle.ft_model.specs.Worlds.{kind_of}
 use Rattle.ft_trace.specs.declared.Shape.{Shape}
 use Rattle.ft_trace.specs.Addresses.{class_of, places, size, slots}
 use Rattle.ft_trace.specs.Carefuls.{HasLiveKey}
-use Rattle.ft_trace.specs.Kinds.{IsKeyed}
+use Rattle.ft_trace.specs.Kinds.{rows, IsKeyed}
 use Rattle.ft_trace.specs.Pictures.{ContainerWords, Represents, entry_field, root_in}
 use Rattle.ft_trace.specs.ContainerStates.{ContainerState}
 use Rattle.ft_trace.proofs.Known.{class_known}
@@ -30,6 +30,7 @@ use Rattle.ft_bank.specs.TableNames.{IsTableIn, table_id}
 use Rattle.ft_bank.proofs.TableAddresses.{class_is}
 use Rattle.ft_search.proofs.KnownTableWords.{entry_after_header}
 use Rattle.ft_search.proofs.WordPlaces.{places_is, slots_of_class}
+use Rattle.ft_search.specs.Rounds.{kind_by}
 use Rattle.ft_search.specs.declared.boxed.SeenValue.{SeenValue}
 use Rattle.ft_whole_tables.specs.TableEntries.{AreEntriesOf, IsKeyAt, IsPlainAt, IsSeenAt, live_key, plain_with}
 
@@ -49,6 +50,11 @@ words_long c is way texts used ws table =
     let n = slots_of_class c in
     let p = places_of c in
     omega (arith, long, room, n, p)
+
+-- how many entries it has
+pub room_is : (way : Way) (c : ℕ) → IsClass c → room way (class_mask c) ≡ rows (kind_by way) c
+room_is way.Dict c is = (sizes_of_class c is).0 ∙ sym (places_of c)
+room_is way.Set c is = (sizes_of_class c is).1
 
 -- no kind of a key that is there is that of a deleted one
 other_kind : (a b : Key) → gone_kind a ≢ key_kind b

@@ -9,13 +9,12 @@ use Rattle.ft_layout.specs.Containers.{AreSetEntries, IsDictWords, IsSetWords, S
 use Rattle.ft_layout.specs.Tables.{UsedEntry, entry_word, hash_of, index_word, is_live, slot_of}
 use Rattle.ft_layout.specs.Words.{FitsKey, IsEntry, IsStored}
 use Rattle.ft_layout.proofs.ContentLaws.{stands_for_dict, stands_for_set}
-use Rattle.ft_layout.proofs.FieldLaws.{sizes_of_class}
 use Rattle.ft_keys.specs.declared.search.Found.{Found}
 use Rattle.ft_keys.specs.declared.search.Found.TheVariants.{At, Free, Spent, Was}
 use Rattle.ft_keys.specs.declared.walk.Way.{Way}
 use Rattle.ft_keys.specs.declared.walk.Way.TheVariants as way
 use Rattle.ft_keys.specs.Searches.{Finds, Searched}
-use Rattle.ft_keys.specs.Ways.{IsTableOf, room, walk_slots}
+use Rattle.ft_keys.specs.Ways.{IsTableOf, walk_slots}
 use Rattle.ft_keys.proofs.Reaching.{walk-within}
 use Rattle.ft_model.specs.declared.content.Content.{Content}
 use Rattle.ft_model.specs.declared.content.Content.TheVariants as content
@@ -23,7 +22,6 @@ use Rattle.ft_model.specs.declared.content.DictPair.{DictPair}
 use Rattle.ft_model.specs.declared.content.Element.{Element}
 use Rattle.ft_model.specs.declared.data.Key.{Key}
 use Rattle.ft_model.specs.declared.script.Kind.{Kind}
-use Rattle.ft_model.specs.Classes.{set_entries}
 use Rattle.ft_model.specs.Contents.{DictContent, IsSet, SetContent, dict_get, has_element, has_key, is_at, set_add}
 use Rattle.ft_model.specs.Worlds.{kind_of}
 use Rattle.ft_trace.specs.declared.Shape.{Shape}
@@ -45,10 +43,10 @@ use Rattle.ft_search.specs.Rounds.{kind_by}
 use Rattle.ft_search.proofs.FoundInContents.{MissingElements, MissingKeys, dict_bare, set_bare}
 use Rattle.ft_search.proofs.KnownTableWords.{after_header, entry_after_header}
 use Rattle.ft_search.proofs.SearchedReads.{searched_there}
-use Rattle.ft_search.proofs.WordPlaces.{entry_is, mask_is, places_is, slots_is}
+use Rattle.ft_search.proofs.WordPlaces.{entry_is, mask_is, slots_is}
 use Rattle.ft_whole_tables.specs.FoundKeys.{IsAtKey, IsValueFound, SearchesTable}
 use Rattle.ft_whole_tables.specs.TableEntries.{IsSeenAt}
-use Rattle.ft_whole_tables.proofs.EntryRows.{words_long}
+use Rattle.ft_whole_tables.proofs.EntryRows.{room_is, words_long}
 
 -- ---- what words read
 
@@ -81,10 +79,10 @@ searched_words k o table mask hash way key left found x box keyed in_bank last n
 -- ---- the value of the entry at which a search ended
 
 pub no_value : (table : Table) (way : Way) (x : ContainerWords) (end : Found) → ((slot place : ℕ) → end ≢ At slot place) → IsValueFound table way end None x
-no_value table way x (At slot place) no names long inside = absurd (no slot place refl)
-no_value table way x (Was slot place) no names long inside = tt
-no_value table way x (Free slot) no names long inside = tt
-no_value table way x Spent no names long inside = tt
+no_value table way x (At slot place) other names long inside = absurd (other slot place refl)
+no_value table way x (Was slot place) other names long inside = tt
+no_value table way x (Free slot) other names long inside = tt
+no_value table way x Spent other names long inside = tt
 
 pub value_past : (table : Table) (way : Way) (x : ContainerWords) (slot place : ℕ) → rows (kind_by way) (class_of (table_id table)) ≤ place → IsValueFound table way (At slot place) None x
 value_past table way x slot place past names long inside = let low = inside slot place refl in absurd (omega (arith, low, past))
@@ -203,16 +201,11 @@ module _ (laws : EntryLaws) (k : Shape) (x : ContainerWords) (how : Way) (key : 
     abbrev words_in : List ℕ
     words_in = 0 ∷ 0 ∷ x.table
 
-    -- a table has as many entries as are used
-    rows_in : (w : Way) → room w (class_mask table.class) ≡ rows (kind_by w) (class_of (table_id table))
-    rows_in way.Dict = sym (places_is k table (class_mask table.class) is_in refl)
-    rows_in way.Set = (sizes_of_class table.class is_in.0).1 ∙ ap set_entries (sym (class_is table is_in.2))
-
     used_read : (w : Way) (used : List UsedEntry) (end : Found) (read : Option (ℕ × ℕ)) → IsTableOf w k.texts (class_mask table.class) used words_in → IsValueFound table w end read x → ReadsUsed (length used) (class_mask table.class) words_in end read
     used_read w used end read is found inside =
         let long = words_long table.class is_in.0 w k.texts used x.table is in
         let whole : length x.table ≡ size (class_of (table_id table)) = long ∙ ap size (sym (class_is table is_in.2)) in
-        found names whole (λ slot place at. let few = inside slot place at in let fill = is.fill in let all = rows_in w in omega (arith, few, fill, all))
+        found names whole (λ slot place at. let few = inside slot place at in let fill = is.fill in let all = room_is w table.class is_in.0 ∙ ap (rows (kind_by w)) (sym (class_is table is_in.2)) in omega (arith, few, fill, all))
 
     pub sought_table : (end : Found) (read : Option (ℕ × ℕ)) → SearchesTable table how (hash_of k.texts key) key end x → IsValueFound table how end read x → IsAtKey kept.content key read
     sought_table end read searches found = by how kept.content is stands (searches names) found

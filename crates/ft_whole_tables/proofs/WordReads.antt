@@ -26,7 +26,7 @@ use Rattle.ft_search.specs.declared.boxed.SeenValue.{SeenValue}
 use Rattle.ft_search.proofs.Rounding.{looks_append, looks_did}
 use Rattle.ft_search.proofs.Running.{did_none, did_trans}
 use Rattle.ft_reads.specs.Reads.{AgreesRead, HeldAgrees, NamesBoxes, Reads}
-use Rattle.ft_reads.proofs.Agreeing.{held_before, read_append, read_newer, read_older, reads_none}
+use Rattle.ft_reads.proofs.Agreeing.{held_before, read_append, read_newer, read_older}
 use Rattle.ft_reads.proofs.NamedKnown.{root_names_box, root_names_known}
 use Rattle.ft_reads.proofs.ReadValues.{value_acts_of, value_seen}
 
@@ -55,12 +55,31 @@ two_acts a x y m = by m.newer m.is
     by [] e = inl cc
     by (z ∷ newer) e = inr (one_act a y (record { newer = newer; rest = m.rest; is = cc }))
 
--- what a pass knows answers no loads
-none_held : (k : Shape) (p : Pass) → HeldAgrees k [] (view p)
-none_held k p = (reads_none k 0 (λ x. Unit {0}) p (λ x. tt)).4
+no_act : (a : Act) → Among a [] → ⊥
+no_act a m = by m.newer m.is
+  where
+    by : (newer : List Act) → [] ≡ newer ++ a ∷ m.rest → ⊥
+    by [] e = absurd (cc)
+    by (y ∷ newer) e = absurd (cc)
 
+-- the boxes that a container names whose lock the pass has are boxes of the bank
 held_names : (k : Shape) (p : Pass) → (view p).shape ≡ k → (c : ℕ) → c < container_count k → has_lock c (view p).log ≡ true → NamesBoxes k c (held_words c (view p))
-held_names k p shape c low mine b names = ((none_held k p shape c low mine).1 b names).0
+held_names k p shape c low mine b names =
+    let v = view p in
+    subst (λ (z : Shape). IsBoxName z b) shape
+    (root_names_box v c b p.possible (subst (λ (z : Shape). c < container_count z) (sym shape) low) mine
+    (subst (λ (z : Shape). named_in_root b (kind_in z.starts c) (root_in (held_words c v)) (held_words c v).table ≢ 0) (sym shape) names))
+
+-- what a pass knows answers no loads
+pub none_held : (k : Shape) (p : Pass) → HeldAgrees k [] (view p)
+none_held k p shape c low mine = (
+  record {
+    root = λ f m. absurd (no_act (ReadRoot c f) m);
+    block = λ i f few m. absurd (no_act (ReadBlock c i f) m);
+    table = λ t i f is few names m. absurd (no_act (ReadTable t i f) m);
+  },
+  λ b names. (held_names k p shape c low mine b names, λ i f which m. absurd (no_act (ReadBox b i f) m)),
+)
 
 -- a load of a word of a table
 table_held : (k : Shape) (t i f : ℕ) (p : Pass) → ((c : ℕ) → c < container_count k → has_lock c (view p).log ≡ true → root_in (held_words c (view p)) ≡ suc t → f ≡ slice_index (held_words c (view p)).table i) → HeldAgrees k (ReadTable t i f ∷ []) (view p)
@@ -83,7 +102,7 @@ box_held : (k : Shape) (payload : ℕ) (seen : SeenValue) (p : Pass) → SeesKno
 box_held k payload seen p sees = by seen.boxed sees
   where
     by : (boxed : Bool) → (boxed ≡ true → IsKnownBox (view p) payload → (seen.kind ≡ known_box_word (view p).shape payload 1 (view p).log) × (seen.value ≡ known_box_word (view p).shape payload 2 (view p).log)) → HeldAgrees k (box_acts boxed payload seen.kind seen.value) (view p)
-    by false tells = none_held k p
+    by false tells shape c low mine = none_held k p shape c low mine
     by true tells shape c low mine =
         let v = view p in
         let one = ReadBox payload 2 seen.value in

@@ -19,9 +19,8 @@ ghost use Rattle.ft_table_calls.specs.Dropping.{AreValuePlaces};
 ghost use Rattle.ft_reads.specs.Clears.{IsCleared};
 ghost use Rattle.ft_whole_tables.specs.Clearing.{HasRootOf, cleared_kept};
 
-use crate::finding::rows_of;
 use ft_bank::{Bank, Pass, Table};
-use ft_keys::Way;
+use ft_keys::{Way, room_of};
 use ft_layout::block_word;
 use ft_layout::entry_word::VALUE_KIND;
 use ft_model::{Call, Reply};
@@ -54,10 +53,11 @@ fn value_places(way: Way, class: u32) -> ValuePlaces
     requires { IsClass class }
     ensures { AreValuePlaces (kind_by way) class result }
 {
+    let mask = mask_of(class);
     ValuePlaces {
-        first: mask_of(class) + 1 + VALUE_KIND,
+        first: mask + 1 + VALUE_KIND,
         step: 8,
-        rows: rows_of(way, class),
+        rows: room_of(way, mask),
     }
 }
 

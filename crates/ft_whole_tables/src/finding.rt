@@ -6,10 +6,8 @@ ghost use Rattle.ft_keys.specs.declared.search.Found.TheVariants.{Was};
 ghost use Rattle.ft_keys.specs.Accesses.{AreLoads, AreAnswered, Runs};
 ghost use Rattle.ft_keys.specs.Searches.{Searched};
 ghost use Rattle.ft_layout.specs.Words.{FitsKey};
-ghost use Rattle.ft_model.specs.Classes.{IsClass};
 ghost use Rattle.ft_trace.specs.Addresses.{container_count};
 ghost use Rattle.ft_trace.specs.ContainerStates.{kind_in};
-ghost use Rattle.ft_trace.specs.Kinds.{rows};
 ghost use Rattle.ft_bank.specs.Passes.{shape_of, IsPassOf};
 ghost use Rattle.ft_bank.specs.PassSections.{stack_of};
 ghost use Rattle.ft_bank.specs.TableNames.{IsTableIn};
@@ -20,10 +18,8 @@ ghost use Rattle.ft_whole_tables.specs.FoundKeys.{IsFoundIn, IsValueFound, Searc
 
 use crate::entries::seen_at;
 use ft_bank::{Bank, Pass, Table};
-use ft_keys::{Found, Steps, Walk, Way, find_live};
-use ft_layout::{
-    dict_entries, set_entries, used_entries_follow_a_dict, used_entries_follow_a_set,
-};
+use ft_keys::{Found, Steps, Walk, Way, find_live, room_of};
+use ft_layout::{used_entries_follow_a_dict, used_entries_follow_a_set};
 use ft_model::Key;
 use ft_search::{TableWords, mask_of, table_named};
 use ft_section::Object;
@@ -93,17 +89,6 @@ fn search_table(
     search(&mut words, way, key, hash)
 }
 
-/// How many entries a table has that is searched this way.
-pub(crate) fn rows_of(way: Way, class: u32) -> u64
-    requires { IsClass class }
-    ensures { result ≡ rows (kind_by way) class }
-{
-    match way {
-        Way::Dict => dict_entries(class),
-        Way::Set => set_entries(class),
-    }
-}
-
 /// What the value reads of the entry at which a search ended, a kind and a payload, if it ended at one that the table
 /// has.
 fn value_found(
@@ -123,13 +108,15 @@ fn value_found(
 {
     match found {
         Found::At(_, place) => {
-            if place >= rows_of(way, table.class) {
+            if place >= room_of(way, mask_of(table.class)) {
                 return None;
             }
             let seen = seen_at(bank, pass, o, table, place);
             Some((seen.kind, seen.value))
         }
-        Found::Was(_, _) | Found::Free(_) | Found::Spent => None,
+        Found::Was(_, _) => None,
+        Found::Free(_) => None,
+        Found::Spent => None,
     }
 }
 

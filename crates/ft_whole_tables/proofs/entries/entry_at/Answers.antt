@@ -22,26 +22,26 @@ small c = subst (λ (n : ℕ). n < 65536) (sym c.mask_of.ensures) (few_mask (sha
 lies : (c : After-mask_of) → 8 * c.args.place + c.args.word + c.mask_of.result + 1 ≡ entry_offset (slots (class_of (table_id c.args.table))) c.args.place c.args.word
 lies c = entry_is (shape_of c.args.bank.now) c.args.table c.mask_of.result c.args.place c.args.word c.requires.table c.mask_of.ensures
 
-pub overflow_mul : goal.overflow_mul
-overflow_mul c = let f = few (goal.at.overflow_mul c).Start in omega (arith, f)
+pub overflow_mul-result : goal.overflow_mul-result
+overflow_mul-result c = let f = few (goal.at.overflow_mul-result c).Start in omega (arith, f)
 
-pub overflow_add : goal.overflow_add
-overflow_add c =
-    let f = few (goal.at.overflow_add c).Start in
+pub overflow_add-result : goal.overflow_add-result
+overflow_add-result c =
+    let f = few (goal.at.overflow_add-result c).Start in
     let w = c.requires.word in
     omega (arith, f, w)
 
-pub overflow_add-2 : goal.overflow_add-2
-overflow_add-2 c =
-    let d = (goal.at.overflow_add-2 c).After-mask_of in
+pub overflow_add-result-2 : goal.overflow_add-result-2
+overflow_add-result-2 c =
+    let d = (goal.at.overflow_add-result-2 c).After-mask_of in
     let f = few_after d in
     let s = small d in
     let w = c.requires.word in
     omega (arith, f, w, s)
 
-pub overflow_add-3 : goal.overflow_add-3
-overflow_add-3 c =
-    let d = (goal.at.overflow_add-3 c).After-mask_of in
+pub overflow_add-result-3 : goal.overflow_add-result-3
+overflow_add-result-3 c =
+    let d = (goal.at.overflow_add-result-3 c).After-mask_of in
     let f = few_after d in
     let s = small d in
     let w = c.requires.word in

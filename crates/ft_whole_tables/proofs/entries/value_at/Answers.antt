@@ -22,12 +22,12 @@ within c = subst (λ (f : Option Key). IfSome f (λ key. (c.args.place < places 
 pub key_at-requires-clause-keyed : goal.key_at-requires-clause-keyed
 key_at-requires-clause-keyed c = subst IsKeyed (sym c.requires.kind) tt
 
-pub seen_at-requires-clause-keyed : goal.seen_at-requires-clause-keyed
-seen_at-requires-clause-keyed c = subst IsKeyed (sym c.requires.kind) tt
+pub seen_at-seen-requires-clause-keyed : goal.seen_at-seen-requires-clause-keyed
+seen_at-seen-requires-clause-keyed c = subst IsKeyed (sym c.requires.kind) tt
 
-pub seen_at-requires-clause-place : goal.seen_at-requires-clause-place
-seen_at-requires-clause-place c =
-    let d = (goal.at.seen_at-requires-clause-place c).In-Some in
+pub seen_at-seen-requires-clause-place : goal.seen_at-seen-requires-clause-place
+seen_at-seen-requires-clause-place c =
+    let d = (goal.at.seen_at-seen-requires-clause-place c).In-Some in
     subst (λ (kd : Kind). c.args.place < rows kd (class_of (table_id c.args.table))) (sym c.requires.kind) (within d).0
 
 pub returns-in-Some-clause-within : goal.returns-in-Some-clause-within
@@ -43,15 +43,15 @@ returns-in-Some-clause-reads c =
     let k = shape_of a.bank.now in
     let t = table_id a.table in
     let key = c.in-Some.key in
-    let seen = c.seen_at.result in
+    let seen = c.seen_at-seen.result in
     let p = a.pass.now in
     let q = c.key_at.new.pass in
-    let z = c.seen_at.new.pass in
+    let z = c.seen_at-seen.new.pass in
     let here : Reads k a.d (IsKeyAt k t a.place (Some key)) p q = subst (λ (f : Option Key). Reads k a.d (IsKeyAt k t a.place f) p q) c.in-Some.is c.key_at.ensures.reads in
     let all : Reads k a.d (IsPlainAt k t a.place (option_map {U = Key × Value} (λ (v : Value). (key, v)) c.value_of.result)) p z =
     reads_map k a.d (λ x. IsKeyAt k t a.place (Some key) x × IsSeenAt t a.place seen x) (IsPlainAt k t a.place (option_map {U = Key × Value} (λ (v : Value). (key, v)) c.value_of.result)) p z
     (λ x both. value_read k t a.place seen x key (table_class k a.table c.requires.table) both.0 both.1 c.value_of.result c.value_of.ensures)
-    (reads_then k a.d (IsKeyAt k t a.place (Some key)) (IsSeenAt t a.place seen) p q z here c.seen_at.ensures.reads) in
+    (reads_then k a.d (IsKeyAt k t a.place (Some key)) (IsSeenAt t a.place seen) p q z here c.seen_at-seen.ensures.reads) in
     subst (λ (f : Option (Key × Value)). Reads k a.d (IsPlainAt k t a.place f) p z) (sym c.with_value.ensures) all
 
 pub returns-in-None-clause-reads : goal.returns-in-None-clause-reads

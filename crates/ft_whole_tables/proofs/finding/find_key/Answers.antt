@@ -7,8 +7,8 @@ use Rattle.ft_whole_tables.specs.FoundKeys.{IsFoundIn, IsValueFound, SearchesTab
 use Rattle.ft_whole_tables.proofs.Sought.{sought_bare, sought_table}
 use Rattle.ft_whole_tables.proofs.finding.find_key.Goals as goal
 
-pub search_table-requires-clause-table : goal.search_table-requires-clause-table
-search_table-requires-clause-table c = c.in-Some.ensures.in_bank (shape_of c.args.bank.now) (λ t e. c.read_block-root.ensures.table t refl e)
+pub search_table-found-requires-clause-table : goal.search_table-found-requires-clause-table
+search_table-found-requires-clause-table c = c.in-Some.ensures.in_bank (shape_of c.args.bank.now) (λ t e. c.read_block-root.ensures.table t refl e)
 
 pub value_found-requires-clause-table : goal.value_found-requires-clause-table
 value_found-requires-clause-table c = c.in-Some.ensures.in_bank (shape_of c.args.bank.now) (λ t e. c.read_block-root.ensures.table t refl e)

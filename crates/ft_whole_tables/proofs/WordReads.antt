@@ -212,5 +212,5 @@ module _ (k : Shape) (o t row found payload : ℕ) (seen : SeenValue) (table : I
             let same = ap length (by_root box kd (root_in x) t T names) ∙ rows_long box kd (class_of t) (rows kd (class_of t)) T in
             value_seen k o t row found payload seen table low few sees x box agrees names (omega (arith, few, long, same))),
         held_append k box_load two (view p) (held_before k p (view r) box_load both (box_held k payload seen r known))
-        (held_append k payload_load kind_load (view p) (held_before k p (view q) payload_load first (table_held k t (suc place) payload q holds_payload)) (table_held k t place found p holds_kind)),
+            (held_append k payload_load kind_load (view p) (held_before k p (view q) payload_load first (table_held k t (suc place) payload q holds_payload)) (table_held k t place found p holds_kind)),
       )

@@ -53,7 +53,13 @@ fn word_of(bank: &Bank, pass: &mut Pass, o: Object, table: Table, place: u64, wo
 }
 
 /// What the value of the entry at a place of a table reads: what stands in its box, where its words name one.
-pub(crate) fn seen_at(bank: &Bank, pass: &mut Pass, o: Object, table: Table, place: u64) -> SeenValue
+pub(crate) fn seen_at(
+    bank: &Bank,
+    pass: &mut Pass,
+    o: Object,
+    table: Table,
+    place: u64,
+) -> SeenValue
     requires pass { IsPassOf bank.now pass.old }
     requires keyed { IsKeyed (kind_in (shape_of bank.now).starts o) }
     requires table { IsTableIn (shape_of bank.now) table }

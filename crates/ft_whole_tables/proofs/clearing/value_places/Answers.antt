@@ -23,6 +23,7 @@ returns c =
     let a = c.args in
     let kd = kind_by a.way in
     let n = slots_of_class a.class in
-    let mask = c.mask_of-mask.ensures in
-    (c.room_of.ensures ∙ (ap (room a.way) mask ∙ room_is a.way a.class c.requires),
-    λ p low. let is = keyed_value kd (way_keyed a.way) a.class p in omega (arith, is, n, mask))
+    let mask = c.mask_of-mask.ensures in (
+      c.room_of.ensures ∙ (ap (room a.way) mask ∙ room_is a.way a.class c.requires),
+      λ p low. let is = keyed_value kd (way_keyed a.way) a.class p in omega (arith, is, n, mask),
+    )

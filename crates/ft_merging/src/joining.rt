@@ -14,6 +14,7 @@ ghost use Rattle.ft_trace.specs.ContainerStates.{kind_in};
 ghost use Rattle.ft_bank.specs.Passes.{shape_of, view, IsPassOf};
 ghost use Rattle.ft_bank.specs.PassSections.{stack_of};
 ghost use Rattle.ft_bank.specs.TableNames.{table_id};
+ghost use Rattle.ft_bank.specs.SameBoxes.{SameReferences};
 ghost use Rattle.ft_bank.specs.Whole.{Wrote};
 ghost use Rattle.ft_table_calls.specs.Adding.{IsAdded};
 ghost use Rattle.ft_search.specs.Rounds.{kind_by};
@@ -99,6 +100,7 @@ fn join_in_new(
     ensures pass { IsPassOf bank.now pass.new }
     ensures stack { stack_of pass.new ≡ stack_of pass.old }
     ensures wrote { Wrote called.now reply.Done result (view pass.old) (view pass.new) }
+    ensures references { SameReferences (view pass.old) (view pass.new) }
     ensures root { root_in (held_unboxed merge.now.o (view pass.new)) ≡ suc (table_id new) }
 {
     used_entries_follow_a_dict();
@@ -106,7 +108,7 @@ fn join_in_new(
     words_are_of_one_content();
     let counts = merge.counts;
     fill(bank, pass, merge.o, way, old, new, counts.fill);
-    begin_in(bank, pass, merge.o, old, new);
+    begin_in(bank, pass, merge.o, way, old, new);
     put_counts(
         bank,
         pass,

@@ -17,7 +17,8 @@ ghost use Rattle.ft_trace.specs.WholeWrites.{MayPuts, with_puts};
 ghost use Rattle.ft_bank.specs.Passes.{shape_of, view, IsPassOf};
 ghost use Rattle.ft_bank.specs.PassSections.{stack_of};
 ghost use Rattle.ft_bank.specs.TableNames.{table_id};
-ghost use Rattle.ft_bank.specs.Whole.{EndsWrite, OnlyLoaded, OnlyPut};
+ghost use Rattle.ft_bank.specs.SameBoxes.{SameReferences};
+ghost use Rattle.ft_bank.specs.Whole.{EndsWrite, OnlyLoaded, OnlyWritten};
 ghost use Rattle.ft_search.specs.Rounds.{kind_by};
 ghost use Rattle.ft_search.specs.OneEntryWrites.{WritesEntries};
 ghost use Rattle.ft_new_keys.specs.declared.counts.Counts.{Counts};
@@ -91,7 +92,7 @@ fn put_stored(
     ensures pass { IsPassOf bank.now pass.new }
     ensures stack { stack_of pass.new ≡ stack_of pass.old }
     ensures writes { WritesEntries (shape_of bank.now) o own (view pass.new) }
-    ensures only { OnlyPut o (view pass.old) (view pass.new) }
+    ensures only { OnlyWritten o (view pass.old) (view pass.new) }
     ensures words { held_unboxed o (view pass.new) ≡ with_puts (held_unboxed o (view pass.old))
         (stored_puts (slots (class_of (table_id own))) (held_unboxed o (view pass.old)).table place stored) }
 {
@@ -140,7 +141,7 @@ fn join_at(
         (joined (known_state o (view pass.old)).content (known_state t (view pass.old)).content) end place counts (view pass.old) }
     ensures pass { IsPassOf bank.now pass.new }
     ensures stack { stack_of pass.new ≡ stack_of pass.old }
-    ensures only { OnlyPut o (view pass.old) (view pass.new) }
+    ensures only { OnlyWritten o (view pass.old) (view pass.new) }
     ensures joining { IsJoining (shape_of bank.now) o way own t table
         (joined (known_state o (view pass.old)).content (known_state t (view pass.old)).content) end (place + 1) result
         (view pass.new) }
@@ -198,7 +199,7 @@ pub(crate) fn join_all(
         (joined (known_state o (view pass.old)).content (known_state t (view pass.old)).content) end 0 first (view pass.old) }
     ensures pass { IsPassOf bank.now pass.new }
     ensures stack { stack_of pass.new ≡ stack_of pass.old }
-    ensures only { OnlyPut o (view pass.old) (view pass.new) }
+    ensures only { OnlyWritten o (view pass.old) (view pass.new) }
     ensures joining { IsJoining (shape_of bank.now) o way own t table
         (joined (known_state o (view pass.old)).content (known_state t (view pass.old)).content) end fill result (view pass.new) }
     ensures keeps { kind_by way ≡ kind.Set →
@@ -233,14 +234,15 @@ pub(crate) fn join_table(
     requires fill { fill ≡ (known_state t (view pass.old)).table.fill }
     requires joining { IsJoining (shape_of bank.now) o way own t table
         (joined (known_state o (view pass.old)).content (known_state t (view pass.old)).content) end 0 first (view pass.old) }
-    requires finishes { (u : View) (counts : Counts) → OnlyPut o (view pass.old) u →
+    requires finishes { (u : View) (counts : Counts) → OnlyWritten o (view pass.old) u →
         IsJoining (shape_of bank.now) o way own t table
         (joined (known_state o (view pass.old)).content (known_state t (view pass.old)).content) end fill counts u →
         MayFinishAll (shape_of bank.now) o own end called.now reply.Done u }
     ensures pass { IsPassOf bank.now pass.new }
     ensures stack { stack_of pass.new ≡ stack_of pass.old }
-    ensures ends { (u : View) × OnlyPut o (view pass.old) u × (root_in (held_unboxed o u) ≡ suc (table_id own))
+    ensures ends { (u : View) × OnlyWritten o (view pass.old) u × (root_in (held_unboxed o u) ≡ suc (table_id own))
         × EndsWrite called.now reply.Done result u (view pass.new) }
+    ensures references { SameReferences (view pass.old) (view pass.new) }
 {
     join_all(bank, pass, o, way, own, t, table, fill, end, first);
     finish_entries(bank, pass, o, own, end, called, &Reply::Done)

@@ -1,5 +1,5 @@
 //! Single entries of the table of a dict or a set, read by a pass that has its lock.
-ghost use Rattle.std.specs.Prelude.{◌≡◌, ◌<◌, ◌↔◌, Some, slice_index};
+ghost use Rattle.std.specs.Prelude.{◌≡◌, ◌≢◌, ◌<◌, ◌↔◌, Some, slice_index};
 ghost use Rattle.ft_layout.specs.declared.slot.Pair.{Pair};
 ghost use Rattle.ft_layout.specs.declared.slot.Slot.{Slot};
 ghost use Rattle.ft_layout.specs.declared.slot.Slot.TheVariants.{Live};
@@ -20,13 +20,14 @@ ghost use Rattle.ft_new_keys.specs.KeyGrowth.{KnowsKeyed};
 ghost use Rattle.ft_merging.specs.Internal.JoiningSteps.{pair_in};
 
 use ft_bank::{Bank, Pass, Table};
-use ft_layout::entry_word::{HASH, KEY, KEY_KIND, SERIAL, VALUE, VALUE_KIND};
+use ft_layout::entry_word::{HASH, KEY, KEY_KIND, SERIAL, VALUE_KIND};
 use ft_layout::{Pair, Slot, entry_of, key_of};
 use ft_model::Key;
+use ft_new_keys::read_stored;
 use ft_search::{mask_of, table_named};
 use ft_section::Object;
 
-/// Loads a word of an entry.
+/// Loads a word of an entry that is no value's.
 pub fn word_of(bank: &Bank, pass: &mut Pass, o: Object, table: Table, place: u64, word: u64) -> u64
     requires pass { IsPassOf bank.now pass.old }
     requires container { o < container_count (shape_of bank.now) }
@@ -35,6 +36,7 @@ pub fn word_of(bank: &Bank, pass: &mut Pass, o: Object, table: Table, place: u64
     requires knows { KnowsTable o (table_id table) (view pass.old) }
     requires place { place < rows (kind_in (shape_of bank.now).starts o) (class_of (table_id table)) }
     requires word { word < 8 }
+    requires no_value { (word ≢ 4) × (word ≢ 5) }
     ensures pass { IsPassOf bank.now pass.new }
     ensures stack { stack_of pass.new ≡ stack_of pass.old }
     ensures only { OnlyLoaded (view pass.old) (view pass.new) }
@@ -106,8 +108,8 @@ pub(crate) fn pair_at(
     let hash = word_of(bank, pass, o, table, place, HASH);
     let kind = word_of(bank, pass, o, table, place, KEY_KIND);
     let payload = word_of(bank, pass, o, table, place, KEY);
-    let value_kind = word_of(bank, pass, o, table, place, VALUE_KIND);
-    let value = word_of(bank, pass, o, table, place, VALUE);
+    let at = 8 * place + mask_of(table.class) + 1 + VALUE_KIND;
+    let (value_kind, value) = read_stored(bank, pass, o, table, at);
     let serial = word_of(bank, pass, o, table, place, SERIAL);
     pair_said(&[0, hash, kind, payload, value_kind, value, serial, 0])
 }

@@ -1,8 +1,7 @@
 -- That a call may be committed which has put a new key's entry, and what the pass knew before it.
-use Rattle.std.proofs.Common.{◌≡◌, ◌≢◌, ℕ, suc, ◌+◌, ◌%◌, ◌<◌, Bool, true, false, true≢false, List, [], ◌∷◌, Option, Some, refl, sym, ap, ◌∙◌, subst, arith, ne_eqb}
+use Rattle.std.proofs.Common.{◌≡◌, ℕ, suc, ◌+◌, ◌<◌, true, false, true≢false, List, [], Some, sym, ap, ◌∙◌, subst, arith, ne_eqb}
 use Rattle.std.specs.Prelude.{◌==◌, nat_lt}
 use Rattle.ft_model.specs.declared.call.Call.{Call}
-use Rattle.ft_model.specs.declared.content.Content.{Content}
 use Rattle.ft_model.specs.declared.data.Key.{Key}
 use Rattle.ft_model.specs.declared.reply.Reply.{Reply}
 use Rattle.ft_model.specs.declared.script.Kind.{Kind}
@@ -12,17 +11,17 @@ use Rattle.ft_layout.specs.declared.slot.Stored.{Stored}
 use Rattle.ft_trace.specs.declared.Act.TheVariants.{StartWrite, PutRoot}
 use Rattle.ft_trace.specs.declared.Shape.{Shape}
 use Rattle.ft_trace.specs.declared.View.{View}
-use Rattle.ft_trace.specs.Acts.{has_lock, is_writing, has_committed, has_emptied, owes, view_after}
+use Rattle.ft_trace.specs.Acts.{has_lock, is_writing, has_emptied, owes, view_after}
 use Rattle.ft_trace.specs.Addresses.{container_count, class_of, slots}
 use Rattle.ft_trace.specs.Holds.{held_unboxed, known_state}
 use Rattle.ft_trace.specs.Kinds.{rows, version_at, CarefulAs, ClearAs}
 use Rattle.ft_trace.specs.OddVersions.{Shut}
-use Rattle.ft_trace.specs.Pictures.{ContainerWords, root_in, entry_offset, entry_field, Represents}
+use Rattle.ft_trace.specs.Pictures.{root_in, entry_offset, entry_field, Represents}
 use Rattle.ft_trace.specs.ContainerStates.{ContainerState, state_at, kind_in, changes, reply_in, kinds_in}
 use Rattle.ft_trace.proofs.Cases.{hit}
 use Rattle.ft_bank.specs.declared.table.Table.{Table}
 use Rattle.ft_bank.specs.TableNames.{table_id}
-use Rattle.ft_bank.specs.Whole.{OnlyPut}
+use Rattle.ft_bank.specs.Whole.{OnlyWritten}
 use Rattle.ft_bank.specs.WriteSteps.{MayCommit, MayHave}
 use Rattle.ft_bank.proofs.KnownAfterWrites.{work_knows}
 use Rattle.ft_search.specs.OneEntryWrites.{Leaves, MayFinish, raised_at}
@@ -41,7 +40,7 @@ pub record Since (o : ℕ) (v u : View) : Type 0 where
   pub left : u.left ≡ v.left
   pub owes : owes u.log ≡ owes v.log
 
-pub since_start : (o : ℕ) (v s u : View) (f : ℕ) → s ≡ view_after (StartWrite o f) v → OnlyPut o s u → Since o v u
+pub since_start : (o : ℕ) (v s u : View) (f : ℕ) → s ≡ view_after (StartWrite o f) v → OnlyWritten o s u → Since o v u
 since_start o v s u f begun puts = record {
   shape = puts.work.pass.shape ∙ ap (λ (z : View). z.shape) begun;
   knows = λ p. work_knows s u p puts.work ∙ ap (λ (z : View). known_state p z) begun;
@@ -52,7 +51,7 @@ since_start o v s u f begun puts = record {
   owes = puts.work.owes ∙ ap (λ (z : View). owes z.log) begun;
 }
 
-pub since_root : (o t old : ℕ) (v r u : View) (f : ℕ) → r ≡ view_after (PutRoot o (suc t) old) (view_after (StartWrite o f) v) → OnlyPut o r u → Since o v u
+pub since_root : (o t old : ℕ) (v r u : View) (f : ℕ) → r ≡ view_after (PutRoot o (suc t) old) (view_after (StartWrite o f) v) → OnlyWritten o r u → Since o v u
 since_root o t old v r u f is puts = record {
   shape = puts.work.pass.shape ∙ ap (λ (z : View). z.shape) is;
   knows = λ p. work_knows r u p puts.work ∙ ap (λ (z : View). known_state p z) is;

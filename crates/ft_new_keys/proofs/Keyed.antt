@@ -1,5 +1,5 @@
 -- A dict or a set as a pass with the lock knows it, for the key that it adds.
-use Rattle.std.proofs.Common.{◌≡◌, ◌≢◌, ℕ, zero, suc, ◌+◌, ◌*◌, ◌^◌, ◌<◌, ◌≤◌, true, false, true≢false, List, [], ◌∷◌, length, Option, Some, None, refl, sym, ap, ◌∙◌, subst, arith}
+use Rattle.std.proofs.Common.{◌≡◌, ◌≢◌, ℕ, suc, ◌+◌, ◌*◌, ◌^◌, ◌<◌, ◌≤◌, true, true≢false, List, [], ◌∷◌, length, Option, Some, None, refl, sym, ap, ◌∙◌, subst, arith}
 use Rattle.std.specs.Prelude.{is_some, slice_index}
 use Rattle.std.specs.Option.{unwrap_or}
 use Rattle.std.proofs.Math.Logic.{∥∥₁_elim}
@@ -7,12 +7,10 @@ use Rattle.ft_model.specs.declared.content.Content.{Content}
 use Rattle.ft_model.specs.declared.content.Content.TheVariants as content
 use Rattle.ft_model.specs.declared.data.Key.{Key}
 use Rattle.ft_model.specs.declared.script.Kind.{Kind}
-use Rattle.ft_model.specs.declared.script.Kind.TheVariants as kind
-use Rattle.ft_model.specs.Classes.{IsClass}
 use Rattle.ft_model.specs.TableUses.{TableUse}
 use Rattle.ft_model.specs.Worlds.{kind_of, length_of, serial_of}
 use Rattle.ft_layout.specs.declared.slot.Stored.{Stored}
-use Rattle.ft_layout.specs.Containers.{class_mask, IsRoot, IsBlock, StandsAs}
+use Rattle.ft_layout.specs.Containers.{class_mask, IsBlock, StandsAs}
 use Rattle.ft_layout.specs.Tables.{hash_of}
 use Rattle.ft_layout.specs.Words.{FitsKey, FitsStored}
 use Rattle.ft_keys.specs.declared.walk.Way.{Way}
@@ -21,20 +19,20 @@ use Rattle.ft_keys.specs.TableChanges.{FirstFree}
 use Rattle.ft_keys.specs.Ways.{walk_slots}
 use Rattle.ft_trace.specs.declared.Shape.{Shape}
 use Rattle.ft_trace.specs.declared.View.{View}
-use Rattle.ft_trace.specs.Acts.{has_lock, is_writing, stage}
-use Rattle.ft_trace.specs.Addresses.{container_count, class_of, slots, size, IsTableName}
+use Rattle.ft_trace.specs.Acts.{has_lock, stage}
+use Rattle.ft_trace.specs.Addresses.{container_count, class_of, slots, IsTableName}
 use Rattle.ft_trace.specs.Holds.{held_unboxed, known_state}
 use Rattle.ft_trace.specs.Kinds.{rows, version_at, IsKeyed}
 use Rattle.ft_trace.specs.OddVersions.{Shut}
 use Rattle.ft_trace.specs.Traces.{IsReachable}
-use Rattle.ft_trace.specs.Pictures.{ContainerWords, root_in, Represents}
-use Rattle.ft_trace.specs.ContainerStates.{ContainerState, kind_in}
+use Rattle.ft_trace.specs.Pictures.{root_in}
+use Rattle.ft_trace.specs.ContainerStates.{kind_in}
 use Rattle.ft_trace.proofs.ByKind.{keyed_fit}
 use Rattle.ft_trace.proofs.Held.{root_known}
 use Rattle.ft_trace.proofs.Known.{class_known, table_is_long}
 use Rattle.ft_trace.proofs.TablePlaces.{placed}
 use Rattle.ft_bank.specs.declared.table.Table.{Table}
-use Rattle.ft_bank.specs.TableNames.{table_id, root_for, IsTableIn}
+use Rattle.ft_bank.specs.TableNames.{table_id, IsTableIn}
 use Rattle.ft_bank.proofs.TableAddresses.{class_is, named}
 use Rattle.ft_search.specs.Held.{IsHeldAt}
 use Rattle.ft_search.specs.Rounds.{kind_by}
@@ -44,7 +42,7 @@ use Rattle.ft_search.proofs.WordPlaces.{slots_of_class}
 use Rattle.ft_new_keys.specs.declared.counts.Counts.{Counts}
 use Rattle.ft_new_keys.specs.KeyGrowth.{KnowsKeyed, IsFreeFor, use_of}
 use Rattle.ft_new_keys.specs.Placing.{AreCounts, StoresAs}
-use Rattle.ft_new_keys.proofs.Placed.{Fresh, entry_shut, way_of, use_with}
+use Rattle.ft_new_keys.proofs.Placed.{Fresh, entry_shut, way_of}
 
 -- what a block says of the content
 abbrev pub Heads : Type 0

@@ -1,7 +1,6 @@
 -- A table that is fresh in the pass's hand, as it is filled with what a dict or a set has.
-use Rattle.std.specs.Prelude.{◌≡◌, ◌≢◌, ℕ, suc, ◌<◌, true, false, List, [], ◌∷◌, Option, Some, length, slice_index}
+use Rattle.std.specs.Prelude.{◌≡◌, ◌≢◌, ℕ, suc, ◌<◌, true, false, List, [], ◌∷◌, Some, length, slice_index}
 use Rattle.ft_model.specs.declared.content.Content.{Content}
-use Rattle.ft_model.specs.TableUses.{TableUse}
 use Rattle.ft_model.specs.Worlds.{kind_of, length_of, serial_of}
 use Rattle.ft_layout.specs.Containers.{class_mask, IsBlock, StandsAs}
 use Rattle.ft_keys.specs.declared.words.Access.{Access}
@@ -18,8 +17,8 @@ use Rattle.ft_bank.specs.TableNames.{table_id, IsTableIn}
 use Rattle.ft_table_calls.specs.Adding.{OnlyFilled}
 use Rattle.ft_new_keys.specs.declared.fresh.FreshWords.{FreshWords}
 
--- The pass has the new table fresh in its hand, and the lock of the container, a dict or a set, whose root names the old
--- one and which it doesn't write. (profile)
+-- The pass has the new table fresh in its hand, and the lock of the container, a dict or a set, whose root names the
+-- old one and which it doesn't write. (profile)
 pub record CanFill (s : FreshWords) : Type 0 where
   pub pass : IsPassOf s.bank.now s.pass.now
   pub container : s.o < container_count (shape_of s.bank.now)

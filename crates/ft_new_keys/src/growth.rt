@@ -39,8 +39,8 @@ use ft_keys::{
     Found, Way, placed_pairs_are_of_a_table, room_of, searches_end_at_the_first_free_slot,
 };
 use ft_layout::{
-    Pair, Stored, entry_word, used_entries_follow_a_dict, used_entries_follow_a_set, versions_change_nothing,
-    words_are_of_one_content, words_follow_a_dict, words_follow_a_set,
+    Pair, Stored, entry_word, used_entries_follow_a_dict, used_entries_follow_a_set,
+    versions_change_nothing, words_are_of_one_content, words_follow_a_dict, words_follow_a_set,
 };
 use ft_model::{Call, Key, Reply};
 use ft_search::{finish_entry, mask_of, read_in};
@@ -64,7 +64,8 @@ fn entry_values(way: Way, class: u32) -> ValuePlaces
 pub fn drop_old(bank: &Bank, pass: &mut Pass, o: u32, way: Way, old: Option<Table>)
     requires pass { IsPassOf bank.now pass.old }
     requires way { kind_in (shape_of bank.now).starts o ≡ kind_by way }
-    requires out { (t : Table) → old ≡ Some t → IsTableIn (shape_of bank.now) t × (stage (table_id t) (view pass.old).log ≡ 3) }
+    requires out { (t : Table) → old ≡ Some t →
+        IsTableIn (shape_of bank.now) t × (stage (table_id t) (view pass.old).log ≡ 3) }
     requires shared { SharesBoxes (view pass.old) }
     requires held { HoldsOld (shape_of bank.now) o old (view pass.old) }
     ensures pass { IsPassOf bank.now pass.new }
@@ -107,6 +108,7 @@ pub fn begin_in(bank: &Bank, pass: &mut Pass, o: u32, way: Way, old: Option<Tabl
 fn free_slot(bank: &Bank, pass: &mut Pass, o: u32, way: Way, key: Key, table: Table) -> u64
     requires pass { IsPassOf bank.now pass.old }
     requires container { o < container_count (shape_of bank.now) }
+    requires way { kind_in (shape_of bank.now).starts o ≡ kind_by way }
     requires key { IsKeyIn (shape_of bank.now) key }
     requires table { IsTableIn (shape_of bank.now) table }
     requires knows { KnowsTable o (table_id table) (view pass.old) }

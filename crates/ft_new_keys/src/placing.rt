@@ -64,7 +64,8 @@ fn place_in(words: &mut TableWords<'_>, slot: u64, place: u64, pair: &Pair)
     requires writes { MayPutAny words.old }
     requires keyed { IsKeyed (kind_in (shape_of words.old.bank.now).starts words.old.o) }
     requires slot { slot ≤ words.old.mask }
-    requires place { place < rows (kind_in (shape_of words.old.bank.now).starts words.old.o) (class_of (table_id words.old.table)) }
+    requires place { place < rows (kind_in (shape_of words.old.bank.now).starts words.old.o)
+        (class_of (table_id words.old.table)) }
     requires value { FitsStored pair.now.value × (stored_kind pair.now.value ≢ box_kind) }
     requires in_place { entry_field (slots (class_of (table_id words.old.table)))
         (held_words words.old.o (view words.old.pass.now)).table place 4 ≢ box_kind }

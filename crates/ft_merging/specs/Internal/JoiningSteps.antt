@@ -141,6 +141,6 @@ IsSought k way own key x mid spot.Bare = ⊥
 abbrev pub stored_puts : ℕ → List ℕ → ℕ → Stored → List Put
 stored_puts n words place (Plain value) =
     if are_of_value (entry_field n words place 4) (entry_field n words place 5) value then []
-    else value_puts n words place value
+    else value_puts n words place None value
 stored_puts n words place Empty = []
 stored_puts n words place (Boxed block) = []

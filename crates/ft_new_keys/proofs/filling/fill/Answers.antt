@@ -1,12 +1,10 @@
-use Rattle.std.proofs.Common.{◌≡◌, ◌≤◌, ℕ, ◌∷◌, Option, Some, None, refl, sym, ap, ◌∙◌, subst}
+use Rattle.std.proofs.Common.{◌≡◌, ◌≤◌, ℕ, ◌∷◌, Option, sym, ap, ◌∙◌, subst}
 use Rattle.ft_model.specs.Worlds.{length_of}
 use Rattle.ft_layout.specs.Containers.{StandsAs}
-use Rattle.ft_trace.specs.declared.View.{View}
-use Rattle.ft_trace.specs.Acts.{stage}
 use Rattle.ft_trace.specs.Addresses.{class_of}
 use Rattle.ft_trace.specs.Holds.{held_unboxed, in_hand, known_state}
 use Rattle.ft_trace.specs.Kinds.{rows, IsKeyed}
-use Rattle.ft_trace.specs.ContainerStates.{ContainerState, kind_in}
+use Rattle.ft_trace.specs.ContainerStates.{ContainerState}
 use Rattle.ft_bank.specs.declared.table.Table.{Table}
 use Rattle.ft_bank.specs.Passes.{shape_of, view}
 use Rattle.ft_bank.specs.TableNames.{table_id, root_for}

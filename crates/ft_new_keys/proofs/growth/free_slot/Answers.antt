@@ -1,11 +1,10 @@
-use Rattle.std.proofs.Common.{◌≡◌, ◌≢◌, ℕ, zero, suc, ◌<◌, Bool, true, false, true≢false, cond, List, [], ◌∷◌, length, filter, None, refl, sym, ap, ◌∙◌, subst, arith}
-use Rattle.std.specs.Prelude.{All, IsTrue, slice_index_or}
+use Rattle.std.proofs.Common.{◌≡◌, ◌≢◌, ℕ, zero, suc, ◌<◌, Bool, true, false, true≢false, cond, List, [], ◌∷◌, length, filter, None, refl, sym, subst, arith}
+use Rattle.std.specs.Prelude.{All, slice_index_or}
 use Rattle.ft_model.specs.declared.data.Key.{Key}
 use Rattle.ft_layout.specs.Tables.{UsedEntry, is_live}
 use Rattle.ft_keys.specs.declared.search.Found.{Found}
 use Rattle.ft_keys.specs.Searches.{Finds}
-use Rattle.ft_bank.specs.Passes.{shape_of, view}
-use Rattle.ft_bank.specs.Whole.{OnlyLoaded}
+use Rattle.ft_bank.specs.Passes.{shape_of}
 use Rattle.ft_search.proofs.Rounding.{looks_did}
 use Rattle.ft_new_keys.proofs.growth.free_slot.Goals as goal
 

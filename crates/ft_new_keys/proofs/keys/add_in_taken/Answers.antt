@@ -1,12 +1,11 @@
-use Rattle.std.proofs.Common.{◌≡◌, ◌≢◌, ◌<◌, ◌^◌, ◌+◌, ℕ, suc, false, Option, Some, None, refl, sym, ap, ◌∙◌, subst, arith}
+use Rattle.std.proofs.Common.{◌≡◌, ◌≢◌, ◌<◌, ◌^◌, ◌+◌, ℕ, suc, false, Some, None, refl, sym, ap, ◌∙◌, subst, arith}
 use Rattle.std.specs.Prelude.{nat_lt}
-use Rattle.ft_model.specs.Worlds.{kind_of, length_of, serial_of}
+use Rattle.ft_model.specs.Worlds.{length_of, serial_of}
 use Rattle.ft_trace.specs.Addresses.{class_of}
 use Rattle.ft_trace.specs.Holds.{held_unboxed, known_state}
 use Rattle.ft_trace.specs.Kinds.{rows}
 use Rattle.ft_trace.specs.Pictures.{ContainerWords, root_in}
 use Rattle.ft_trace.specs.ContainerStates.{ContainerState, changes}
-use Rattle.ft_bank.specs.declared.takings.Took.TheVariants as took
 use Rattle.ft_bank.specs.Passes.{shape_of, view}
 use Rattle.ft_bank.specs.TableNames.{table_id, root_for}
 use Rattle.ft_bank.proofs.TableAddresses.{class_is}
@@ -15,10 +14,10 @@ use Rattle.ft_table_calls.proofs.Rooting.{taken_out}
 use Rattle.ft_search.specs.Held.{IsHeldAt}
 use Rattle.ft_search.specs.Rounds.{kind_by}
 use Rattle.ft_search.proofs.Changing.{kind_is}
-use Rattle.ft_new_keys.specs.KeyGrowth.{AddsKey, KnowsKeyed, MayGrowKeyed, key_takes, most_of}
+use Rattle.ft_new_keys.specs.KeyGrowth.{MayGrowKeyed, key_takes, most_of}
 use Rattle.ft_new_keys.specs.Placing.{AreCounts}
 use Rattle.ft_new_keys.proofs.Keyed.{counts_known, fresh_other}
-use Rattle.ft_new_keys.proofs.Taken.{adds_later, tried_has, tried_knows, tried_may, tried_words}
+use Rattle.ft_new_keys.proofs.Taken.{adds_later, tried_has, tried_may, tried_words}
 use Rattle.ft_new_keys.proofs.Wanted.{passes_not, takes_room}
 use Rattle.ft_new_keys.proofs.keys.add_in_taken.Goals as goal
 use Rattle.ft_new_keys.proofs.keys.add_in_taken.Goals.{After-take, In-Taken}
@@ -136,6 +135,7 @@ returns-in-Taken-clause-added c =
         done = done;
         wrote = w.wrote;
         root = subst (λ (n : ℕ). root_in (held_unboxed n done) ≡ suc (table_id c.in-Taken.table)) (sym at) w.root;
+        references = w.references;
         retired = subst (λ (n : ℕ). Retires n done (view c.retire_old.new.pass)) (sym (grow d).keyed.root ∙ sym (ap (λ (n : ℕ). root_in (held_unboxed n u)) at)) c.retire_old.ensures.retired;
       },
     )

@@ -1,7 +1,7 @@
 use Rattle.std.proofs.Common.{arith}
 use Rattle.ft_trace.specs.Holds.{held_unboxed}
 use Rattle.ft_bank.specs.Passes.{shape_of, view}
-use Rattle.ft_bank.proofs.KnownAfterWrites.{put_then}
+use Rattle.ft_bank.proofs.KnownAfterWrites.{put_written, written_then}
 use Rattle.ft_new_keys.proofs.NewEntryPuts.{few_used}
 use Rattle.ft_new_keys.proofs.placing.put_key.Goals as goal
 
@@ -12,4 +12,4 @@ overflow_add-fill c =
     omega (arith, f)
 
 pub returns-clause-only : goal.returns-clause-only
-returns-clause-only c = put_then _ _ _ c.args.o c.put_counts.ensures.only c.put_pair.ensures.only
+returns-clause-only c = written_then c.args.o _ _ _ (put_written c.args.o _ _ c.put_counts.ensures.only) c.put_pair.ensures.only

@@ -1,7 +1,5 @@
-use Rattle.std.proofs.Common.{◌≡◌, ℕ, ◌+◌, ◌^◌, ◌<◌, [], Some, refl, sym, ap, ◌∙◌, subst, arith}
+use Rattle.std.proofs.Common.{◌≡◌, ℕ, ◌+◌, ◌^◌, ◌<◌, [], Some, sym, ◌∙◌, subst, arith}
 use Rattle.ft_model.specs.declared.script.Kind.{Kind}
-use Rattle.ft_layout.specs.declared.slot.Pair.{Pair}
-use Rattle.ft_layout.specs.Tables.{hash_of}
 use Rattle.ft_trace.specs.declared.View.{View}
 use Rattle.ft_trace.specs.Addresses.{class_of, slots}
 use Rattle.ft_trace.specs.Holds.{held_unboxed, known_state}
@@ -11,13 +9,15 @@ use Rattle.ft_trace.specs.ContainerStates.{kind_in}
 use Rattle.ft_bank.specs.Passes.{shape_of, view}
 use Rattle.ft_bank.specs.TableNames.{table_id}
 use Rattle.ft_search.proofs.Changing.{Changing, kind_is}
+use Rattle.ft_search.specs.Rounds.{kind_by}
+use Rattle.ft_search.proofs.Puts.{same_done}
 use Rattle.ft_search.proofs.ReadyCommits.{whole_write}
 use Rattle.ft_new_keys.specs.KeyGrowth.{KnowsKeyed}
 use Rattle.ft_new_keys.specs.Placing.{with_key}
 use Rattle.ft_new_keys.specs.Internal.Laying.{IsUnused, with_entry}
 use Rattle.ft_new_keys.proofs.FinishedKeys.{key_finishes, since_start}
 use Rattle.ft_new_keys.proofs.Keyed.{counts_known, fresh_known, knows_here, shut_here}
-use Rattle.ft_new_keys.proofs.Placed.{Fresh, PlaceLaws, pair_for, place_unused, places_key, use_with}
+use Rattle.ft_new_keys.proofs.Placed.{Fresh, PlaceLaws, pair_for, place_unused, places_key, refs_then, stores_plain, use_with}
 use Rattle.ft_new_keys.proofs.room.add_in_room.Goals as goal
 use Rattle.ft_new_keys.proofs.room.add_in_room.Goals.{After-start_write}
 
@@ -78,6 +78,17 @@ finish_entry-requires-clause-may c =
     (subst (λ (x : ContainerWords). Changing k.texts t x (known_state a.o v) a.counts.fill [] (record { content = with_key (known_state a.o v).content a.key a.stored; table = use_with (class_of t) (a.counts.fill + 1) })) words
     (places_key (laws d) k.texts (held_unboxed a.o v) t a.slot a.counts (known_state a.o v).content a.key a.stored (fresh d) (shut_here c.words_are_of_one_content.ensures.head k a.o a.table v c.requires.pass.1 a.pass.now.possible (knows d) a.way c.requires.way) (known_state a.o v).table))
     e.writes.root
+
+pub put_key-requires-clause-value : goal.put_key-requires-clause-value
+put_key-requires-clause-value c = (c.requires.value, stores_plain (kind_by c.args.way) c.args.stored c.requires.stores)
+
+pub returns-clause-references : goal.returns-clause-references
+returns-clause-references c =
+    let k = shape_of c.args.bank.now in
+    let v = view c.args.pass.now in
+    let u = view c.put_key.new.pass in
+    let e = c.put_key.ensures in
+    refs_then v u (view c.finish_entry.new.pass) (same_done k v u c.requires.pass.1 e.pass.1 c.requires.may.boxes e.writes.boxes) c.finish_entry.ensures.references
 
 pub returns-clause-wrote : goal.returns-clause-wrote
 returns-clause-wrote c =

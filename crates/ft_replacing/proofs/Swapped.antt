@@ -22,7 +22,6 @@ use Rattle.ft_trace.proofs.Untouched.{untouched_in}
 use Rattle.ft_bank.specs.SameBoxes.{LosesReferences, MovesReferences, named_in_words}
 use Rattle.ft_bank.specs.Whole.{OnlyPut, OnlyWritten, Wrote, write_entry}
 use Rattle.ft_bank.specs.WriteSteps.{Committed, KeepsUnwritten}
-use Rattle.ft_bank.proofs.BoxedSteps.{made_then}
 use Rattle.ft_bank.proofs.KnownAfterWrites.{work_knows}
 
 -- The pass knew v; it made the version of a container odd, put 0 into its root, and dropped references: then it knows d.
@@ -127,7 +126,7 @@ module _ (called : Call) (said : Reply) (number f t g : ℕ) (snap : Snap) (v d 
         debt = w1.debt ∙ (ap (debt_next (PutRoot at (suc t) 0)) w0.debt ∙ (debt_once new ∙ sym (ap (λ (z : ℕ). cond (old == z) (debt v.log) (debt_next (PutRoot at z old) (debt v.log))) root)));
         used = w1.used ∙ hit 0 false true;
         owes = w1.owes;
-        made = made_then v rooted u (record { state = λ b. drops.made.state b; local = λ b. drops.made.local b; taken = λ b. drops.made.taken b; places = λ b. drops.made.places b }) puts.made;
+        made = record { state = λ b. puts.made.state b ∙ drops.made.state b; local = λ b. puts.made.local b ∙ drops.made.local b; taken = λ b. puts.made.taken b ∙ drops.made.taken b; places = λ b. puts.made.places b ∙ drops.made.places b };
         loses = swapped_loses moves drops moved puts;
         others = λ p below ne mine still.
             let quiet_p = others_start p ne ∙ still in

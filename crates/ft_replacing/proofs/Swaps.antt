@@ -144,8 +144,8 @@ module _ (heads : Heads) (k : Shape) (o : ℕ) (old : Option Table) (table : Tab
       let n = stage (table_id t) s.log in (
         may.keyed.table_in t is,
         ap (λ (z : View). stage (table_id t) z.log) rooted
-        ∙ (ap (λ (root : ℕ). stage_next (table_id t) (PutRoot o 0 root) n) name
-        ∙ (miss 0 (suc (table_id t)) 0 (cond (suc (table_id t) == suc (table_id t)) 3 n) (λ e. absurd (omega (arith, e))) ∙ hit (suc (table_id t)) 3 n)),
+            ∙ (ap (λ (root : ℕ). stage_next (table_id t) (PutRoot o 0 root) n) name
+            ∙ (miss 0 (suc (table_id t)) 0 (cond (suc (table_id t) == suc (table_id t)) 3 n) (λ e. absurd (omega (arith, e))) ∙ hit (suc (table_id t)) 3 n)),
       )
 
   pub old_shared : SharesBoxes r
@@ -155,7 +155,7 @@ module _ (heads : Heads) (k : Shape) (o : ℕ) (old : Option Table) (table : Tab
   old_held = by old refl
     where
       by : (q : Option Table) → old ≡ q → HoldsOld k o q r
-      by None is b =
+      by None is = λ b.
           let bare_before = none_named b (kind_in s.shape.starts o) (held_words o s) (names_old ∙ ap root_for is) in
           let moved = moves b in
           let after = names_none b in
@@ -360,6 +360,9 @@ module _ (k : Shape) (o : ℕ) (old : Option Table) (table : Table) (called : Ca
       };
     }
 
+    pub odd_rooted : (z : View) → z ≡ view_after (PutRoot o (suc t) (root_in (held_words o c))) c → is_writing o z.log ≡ true
+    odd_rooted z is = ap (λ (y : View). is_writing o y.log) is ∙ odd_then
+
     -- after the root and the counts
     module _ (z u : View) (rooted : z ≡ view_after (PutRoot o (suc t) (root_in (held_words o c))) c) (root_held : held_unboxed o z ≡ with_unboxed_root (held_unboxed o c) o (Some table) c) (puts : OnlyPut o z u) (count next : ℕ) (count_is : count ≡ length_of left) (next_is : next ≡ serial_of left) (words : held_unboxed o u ≡ record { block = counted (held_unboxed o z).block count count next; table = (held_unboxed o z).table }) where
       held_u : held_unboxed o u ≡ record { block = last; table = ws }
@@ -399,13 +402,10 @@ module _ (k : Shape) (o : ℕ) (old : Option Table) (table : Table) (called : Ca
           (kind_shut (kind_of left) keyed class (rows (kind_of left) class) ws (λ p low. let zero = e.filled.versions p low in omega (arith, zero)))
 
       pub odd_u : is_writing o u.log ≡ true
-      odd_u = puts.work.pass.writes o ∙ (ap (λ (y : View). is_writing o y.log) rooted ∙ odd_then)
+      odd_u = puts.work.pass.writes o ∙ odd_rooted z rooted
 
       pub committed_u : has_committed o u.log ≡ true
-      committed_u =
-          puts.work.committed o
-          ∙ (ap (λ (y : View). has_committed o y.log) rooted
-          ∙ (ap (λ (y : View). has_committed o y.log) made ∙ subst (λ (n : ℕ). has_committed n (view_after (Commit called reply.Done number snap) d).log ≡ true) e.replaces.changed (hit (changes called) true (has_committed (changes called) d.log))))
+      committed_u = puts.work.committed o ∙ (ap (λ (y : View). has_committed o y.log) rooted ∙ ap (λ (y : View). has_committed o y.log) made)
 
       -- the whole write
       module _ (g : ℕ) (w : View) (keeps : KeepsUnwritten s r) (kept : KeepsUnwritten c z) (moved : MovesReferences o c z) (seen : seen_writes d ≤ number) (stopped : w ≡ view_after (StopWrite o g) u) where

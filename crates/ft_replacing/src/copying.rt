@@ -100,7 +100,17 @@ fn copy_in_taken(
         Took::Taken(table) => {
             fill_copy(bank, pass, d, from, counts, table, next);
             let count = counts.count;
-            let number = swap_table(bank, pass, e, Way::Dict, old, table, count, next + count, called);
+            let number = swap_table(
+                bank,
+                pass,
+                e,
+                Way::Dict,
+                old,
+                table,
+                count,
+                next + count,
+                called,
+            );
             retire_old(bank, pass, old);
             Added::Made(Stamp {
                 number,

@@ -3,7 +3,7 @@ use Rattle.ft_trace.specs.declared.View.{View}
 use Rattle.ft_trace.specs.Holds.{held_unboxed}
 use Rattle.ft_trace.specs.Pictures.{root_in}
 use Rattle.ft_bank.specs.Passes.{shape_of, view}
-use Rattle.ft_replacing.proofs.Swaps.{Swapping, committed_u, may_put_none, may_put_table, odd_u, old_held, old_out, old_shared, root_u, shut_u, stands_u, swapping_commits, swapping_references, swapping_wrote}
+use Rattle.ft_replacing.proofs.Swaps.{Swapping, committed_u, may_put_none, may_put_table, odd_rooted, odd_u, old_held, old_out, old_shared, root_u, shut_u, stands_u, swapping_commits, swapping_references, swapping_wrote}
 use Rattle.ft_replacing.proofs.swapping.swap_table.Goals as goal
 use Rattle.ft_replacing.proofs.swapping.swap_table.Goals.{After-drop_old}
 
@@ -53,6 +53,11 @@ pub put_root-requires-2-clause-may : goal.put_root-requires-2-clause-may
 put_root-requires-2-clause-may c =
     let n = c.commit-number in
     may_put_table (shape_of c.args.bank.now) c.args.o c.args.old c.args.table c.args.called.now c.requires.gets.0 c.start_write.result (view c.args.pass.now) (view c.start_write.new.pass) (view c.put_root.new.pass) (view c.drop_old.new.pass) (swapping (goal.at.put_root-requires-2-clause-may c).After-drop_old) n.result n.ensures.did.0 (view n.new.pass) n.ensures.did.1.1 n.ensures.committed
+
+pub put_counts-requires-clause-odd : goal.put_counts-requires-clause-odd
+put_counts-requires-clause-odd c =
+    let n = c.commit-number in
+    odd_rooted (shape_of c.args.bank.now) c.args.o c.args.old c.args.table c.args.called.now c.requires.gets.0 c.start_write.result (view c.args.pass.now) (view c.start_write.new.pass) (view c.put_root.new.pass) (view c.drop_old.new.pass) (swapping (goal.at.put_counts-requires-clause-odd c).After-drop_old) n.result n.ensures.did.0 (view n.new.pass) n.ensures.did.1.1 n.ensures.committed (view c.put_root-2.new.pass) c.put_root-2.ensures.did.1
 
 pub stop_write-requires-clause-odd : goal.stop_write-requires-clause-odd
 stop_write-requires-clause-odd c =

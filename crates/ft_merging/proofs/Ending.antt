@@ -1,5 +1,5 @@
 -- That the versions of the entries that a write put may be made even after its commit, one after the other.
-use Rattle.std.proofs.Common.{◌≡◌, ◌≢◌, ◌⊎◌, ℕ, zero, suc, ◌+◌, ◌%◌, ◌<◌, ◌≤◌, Bool, List, [], ◌∷◌, length, Option, Some, refl, sym, ap, ◌∙◌, subst, inl, inr, ⊎_elim, arith, get_or-set_same, get_or-set_other}
+use Rattle.std.proofs.Common.{◌≡◌, ◌≢◌, ◌⊎◌, ℕ, zero, suc, ◌+◌, ◌%◌, ◌<◌, ◌≤◌, Bool, true, List, [], ◌∷◌, length, Option, Some, refl, sym, ap, ◌∙◌, subst, inl, inr, ⊎_elim, arith, get_or-set_same, get_or-set_other}
 use Rattle.std.specs.Prelude.{slice_index, slice_set}
 use mathlib.Core.Logic.{dite}
 use native.Mathlib.Decide.{ℕ_discrete}
@@ -24,7 +24,8 @@ use Rattle.ft_trace.specs.declared.Shape.{Shape}
 use Rattle.ft_trace.specs.declared.Snap.{Snap}
 use Rattle.ft_trace.specs.declared.View.{View}
 use Rattle.ft_trace.specs.Acts.{has_lock, has_committed, is_writing, view_after, seen_writes}
-use Rattle.ft_trace.specs.Addresses.{class_of, slots, places}
+use Rattle.ft_trace.specs.Addresses.{container_count, class_of, slots, places}
+use Rattle.ft_trace.specs.Boxes.{IsDoneWithBoxes}
 use Rattle.ft_trace.specs.Carefuls.{said_of, IsDead, HasLiveKey, OpensChanged}
 use Rattle.ft_trace.specs.Holds.{held_unboxed, known_state}
 use Rattle.ft_trace.specs.Kinds.{under, rows, version_at, CarefulAs, ClearAs, IsKeyed}
@@ -41,10 +42,11 @@ use Rattle.ft_bank.specs.declared.table.Table.{Table}
 use Rattle.ft_bank.specs.TableNames.{table_id}
 use Rattle.ft_bank.specs.Whole.{EndsWrite, OnlyLoaded, OnlyPut}
 use Rattle.ft_bank.specs.WriteSteps.{Committed, IsCareful, IsShut, with_table}
-use Rattle.ft_bank.proofs.KnownAfterWrites.{loaded_held, loaded_put, work_knows, write_ends}
+use Rattle.ft_bank.specs.SameBoxes.{SameReferences}
+use Rattle.ft_bank.proofs.KnownAfterWrites.{loaded_put, work_knows, write_ends}
 use Rattle.ft_search.specs.OneEntryWrites.{raised_at}
 use Rattle.ft_search.proofs.Changing.{kind_is}
-use Rattle.ft_search.proofs.Puts.{keyed_version, table_class, writes_on}
+use Rattle.ft_search.proofs.Puts.{entry_refs, few_done, keyed_version, table_class, writes_on}
 use Rattle.ft_merging.specs.Internal.EntriesAtOnce.{IsClosing, MayFinishAll, NoneDead, version_of}
 
 -- ---- what words say that stand for a dict or a set
@@ -166,19 +168,26 @@ module _ (t m : ℕ) (x : ContainerWords) (p : ℕ) (low : entry_offset (slots (
 
 -- ---- what the pass knows
 
-module _ (k : Shape) (o : ℕ) (table : Table) (from fill : ℕ) (v w : View) (only : OnlyLoaded v w) (closing : IsClosing k o table from fill v) where
+-- loads leave what a container reads whose lock the pass has
+pub read_same : (k : Shape) (o : ℕ) (v w : View) → v.shape ≡ k → o < container_count k → has_lock o v.log ≡ true → OnlyLoaded v w → held_unboxed o w ≡ held_unboxed o v
+read_same k o v w shape low mine only = only.unboxed o (subst (λ (z : Shape). o < container_count z) (sym shape) low) mine
+
+module _ (k : Shape) (o : ℕ) (table : Table) (from fill : ℕ) (v w : View) (shape : v.shape ≡ k) (only : OnlyLoaded v w) (closing : IsClosing k o table from fill v) where
   abbrev lt : ℕ
   lt = table_id table
 
   abbrev lm : ℕ
   lm = rows (kind_in k.starts o) (class_of lt)
 
+  held_same : held_unboxed o w ≡ held_unboxed o v
+  held_same = read_same k o v w shape closing.writes.container closing.writes.locked only
+
   held_back : held_unboxed o v ≡ held_unboxed o w
-  held_back = sym (loaded_held v w o only)
+  held_back = sym held_same
 
   pub closing_loaded : IsClosing k o table from fill w
   closing_loaded = record {
-    writes = writes_on k o table v w (loaded_put v w o only) (ap root_in (loaded_held v w o only)) closing.writes;
+    writes = writes_on k o table v w shape (loaded_put v w o only) only.boxes.references (ap root_in held_same) closing.writes;
     late = only.work.committed o ∙ closing.late;
     stands = subst (λ (y : ContainerWords × ContainerState). Represents k.texts y.0 y.1) (λ d. (held_back d, sym (work_knows v w o only.work) d)) closing.stands;
     gone = subst (λ (y : ContainerWords × ContainerState). NoneDead lt lm y.0 y.1) (λ d. (held_back d, sym (work_knows v w o only.work) d)) closing.gone;
@@ -219,14 +228,15 @@ module _ (laws : Laws) (k : Shape) (o : ℕ) (table : Table) (place fill : ℕ) 
         care = subst (λ (z : Kind). CarefulAs z (class_of ct) (held_unboxed o v).table (known_state o v).content at (entry_field cn (held_unboxed o v).table place 0 + 1)) (kind_eq ∙ sym (ap (λ (z : Shape). kind_in z.starts o) shape)) care;
         timely = subst (λ (b : Bool). Timely (version_at (kind_in v.shape.starts o) (class_of ct)) (rows (kind_in v.shape.starts o) (class_of ct)) at (entry_field cn (held_unboxed o v).table place 0 + 1) b) (sym closing.late)
             (record { before = λ q less is one. absurd (omega (arith, one, odd)); later = λ q less is two. refl });
+        references = entry_refs v o ct place 0 (entry_field cn (held_unboxed o v).table place 0 + 1) (subst (λ (z : Shape). IsKeyed (kind_in z.starts o)) (sym shape) closing.writes.keyed) (omega arith) (λ e. absurd (omega (arith, e))) (λ e. absurd (omega (arith, e))) (few_done k v shape closing.writes.boxes);
       }
 
-  pub closing_raised : dict.EntryVersionsChangeNothing → (z : View) → OnlyPut o v z → held_unboxed o z ≡ raised_at ct place (held_unboxed o v) → version_of ct (held_unboxed o v) place % 2 ≡ 1 → IsClosing k o table (place + 1) fill z
-  closing_raised versions z only held_is odd =
+  pub closing_raised : dict.EntryVersionsChangeNothing → (z : View) → OnlyPut o v z → SameReferences v z → held_unboxed o z ≡ raised_at ct place (held_unboxed o v) → version_of ct (held_unboxed o v) place % 2 ≡ 1 → IsClosing k o table (place + 1) fill z
+  closing_raised versions z only references held_is odd =
       let back : raised_at ct place (held_unboxed o v) ≡ held_unboxed o z = sym held_is in
       let knows = sym (work_knows v z o only.work) in
       record {
-        writes = writes_on k o table v z only (ap root_in held_is) closing.writes;
+        writes = writes_on k o table v z shape only references (ap root_in held_is) closing.writes;
         late = only.work.committed o ∙ closing.late;
         stands = subst (λ (y : ContainerWords × ContainerState). Represents k.texts y.0 y.1) (λ d. (back d, knows d)) (version_put laws k.texts (held_unboxed o v) ct class_is closing.writes.root versions (known_state o v).content (known_state o v) refl is_keyed closing.stands place (entry_field cn (held_unboxed o v).table place 0 + 1));
         gone = subst (λ (y : ContainerWords × ContainerState). NoneDead ct cm y.0 y.1) (λ d. (back d, knows d)) (raised_dead ct cm (held_unboxed o v) place inside odd (known_state o v) closing.gone);
@@ -274,6 +284,7 @@ module _ (k : Shape) (o : ℕ) (table : Table) (fill : ℕ) (called : Call) (sai
           locked = ap (λ (z : View). has_lock o z.log) is ∙ b.writes.locked;
           odd = ap (λ (z : View). is_writing o z.log) is ∙ b.writes.odd;
           root = ap (λ (z : View). root_in (held_unboxed o z)) is ∙ b.writes.root;
+          boxes = subst (λ (z : View). IsDoneWithBoxes k z.log) (sym is) b.writes.boxes;
         };
         late = ap (λ (z : View). has_committed o z.log) is;
         stands = subst (λ (y : ContainerWords × ContainerState). Represents k.texts y.0 y.1) (λ d. (held_then d, known_then d)) b.stands;

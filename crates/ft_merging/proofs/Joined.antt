@@ -28,9 +28,9 @@ use Rattle.ft_trace.specs.ContainerStates.{ContainerState, changes, state_at, ki
 use Rattle.ft_trace.specs.WholeWrites.{MayPuts, with_puts}
 use Rattle.ft_bank.specs.declared.table.Table.{Table}
 use Rattle.ft_bank.specs.TableNames.{table_id}
-use Rattle.ft_bank.specs.Whole.{OnlyLoaded, OnlyPut}
+use Rattle.ft_bank.specs.Whole.{OnlyLoaded, OnlyWritten}
 use Rattle.ft_bank.specs.WriteSteps.{MayCommit, MayHave}
-use Rattle.ft_bank.proofs.KnownAfterWrites.{loaded_held, work_knows}
+use Rattle.ft_bank.proofs.KnownAfterWrites.{work_knows}
 use Rattle.ft_search.specs.Held.{IsHeldAt}
 use Rattle.ft_search.specs.Rounds.{kind_by}
 use Rattle.ft_search.specs.OneEntryWrites.{WritesEntries}
@@ -38,7 +38,7 @@ use Rattle.ft_search.proofs.Calling.{plain_replied}
 use Rattle.ft_search.proofs.Puts.{table_class}
 use Rattle.ft_search.proofs.OtherValues.{ValueLaws}
 use Rattle.ft_new_keys.specs.declared.counts.Counts.{Counts}
-use Rattle.ft_new_keys.specs.KeyGrowth.{IsFreeFor, holds, most_of}
+use Rattle.ft_new_keys.specs.KeyGrowth.{IsFreeFor, KnowsKeyed, holds, most_of}
 use Rattle.ft_new_keys.specs.Placing.{StoresAs, with_key}
 use Rattle.ft_new_keys.specs.Internal.Laying.{with_entry}
 use Rattle.ft_new_keys.proofs.FinishedKeys.{Since, has_since}
@@ -47,7 +47,7 @@ use Rattle.ft_new_keys.proofs.Wanted.{most_few}
 use Rattle.ft_merging.specs.Joining.{JoinsKeys, joined, joined_state, new_keys}
 use Rattle.ft_merging.specs.Internal.JoiningSteps.{AreLeft, IsJoining, NoneAhead, NoneGone, NoneOf, lacking, stored_puts}
 use Rattle.ft_merging.specs.Internal.EntriesAtOnce.{IsMidway, MayFinishAll, version_of}
-use Rattle.ft_merging.proofs.Ending.{Laws, clear_of, parity}
+use Rattle.ft_merging.proofs.Ending.{Laws, clear_of, parity, read_same}
 use Rattle.ft_merging.proofs.JoinedContents.{counts_more, counts_same, joined_counts, kind_with, left_dead, left_new, left_stores, left_there, rest_none, empty_of, new_still}
 use Rattle.ft_merging.proofs.JoinedReads.{Source, holds_none}
 use Rattle.ft_merging.proofs.JoinedStep.{ahead_put, alive_put, midway_put, lacks_mid}
@@ -56,13 +56,13 @@ use Rattle.ft_merging.proofs.Thinned.{midway_loaded}
 
 -- ---- after loads
 
-pub joining_loaded : (k : Shape) (o : ℕ) (by : Way) (own : Table) (t : ℕ) (table : Table) (goal : Content) (end place : ℕ) (counts : Counts) (v w : View) → OnlyLoaded v w → IsJoining k o by own t table goal end place counts v → IsJoining k o by own t table goal end place counts w
-joining_loaded k o by own t table goal end place counts v w only j =
-    let other : held_unboxed t v ≡ held_unboxed t w = sym (loaded_held v w t only) in
-    let mine : held_unboxed o v ≡ held_unboxed o w = sym (loaded_held v w o only) in
+pub joining_loaded : (k : Shape) (o : ℕ) (by : Way) (own : Table) (t : ℕ) (table : Table) (goal : Content) (end place : ℕ) (counts : Counts) (v w : View) → v.shape ≡ k → OnlyLoaded v w → KnowsKeyed k t (Some table) v → IsJoining k o by own t table goal end place counts v → IsJoining k o by own t table goal end place counts w
+joining_loaded k o by own t table goal end place counts v w shape only knows j =
+    let other : held_unboxed t v ≡ held_unboxed t w = sym (read_same k t v w shape knows.container knows.locked only) in
+    let mine : held_unboxed o v ≡ held_unboxed o w = sym (read_same k o v w shape j.midway.writes.container j.midway.writes.locked only) in
     record {
       mid = j.mid;
-      midway = midway_loaded k o own (record { content = j.mid; table = use_with (class_of (table_id own)) counts.fill }) v w only j.midway;
+      midway = midway_loaded k o own (record { content = j.mid; table = use_with (class_of (table_id own)) counts.fill }) v w shape only j.midway;
       kept = subst (λ (z : ContainerState). (key : Key) → under z.content key ≢ [] → under j.mid key ≢ []) (sym (work_knows v w o only.work)) j.kept;
       same_kind = j.same_kind;
       kind_is = j.kind_is;
@@ -147,7 +147,7 @@ module _ (k : Shape) (o : ℕ) (by : Way) (own : Table) (t : ℕ) (table : Table
       pub joining_may : (before : Content) → MayPuts (kind_in k.starts o) (table_id own) before false (held_unboxed o v) (stored_puts (slots (class_of (table_id own))) (held_unboxed o v).table at stored)
       joining_may before = there_may laws k o own counts.fill v at key fits there_low live even j.mid stored j.midway kinds stores ok before
 
-      pub joining_there : holds j.mid key ≡ true → (z : View) → OnlyPut o v z → held_unboxed o z ≡ with_puts (held_unboxed o v) (stored_puts (slots (class_of (table_id own))) (held_unboxed o v).table at stored) → WritesEntries k o own z → held_unboxed t z ≡ held_unboxed t v → IsJoining k o by own t table goal end (place + 1) counts z
+      pub joining_there : holds j.mid key ≡ true → (z : View) → OnlyWritten o v z → held_unboxed o z ≡ with_puts (held_unboxed o v) (stored_puts (slots (class_of (table_id own))) (held_unboxed o v).table at stored) → WritesEntries k o own z → held_unboxed t z ≡ held_unboxed t v → IsJoining k o by own t table goal end (place + 1) counts z
       joining_there there z only words writes other =
           let put = there_put laws k o own counts.fill v at key fits there_low live even j.mid stored j.midway kinds stores ok there j.alive z only words writes in
           let more = counts_same j.mid key stored stores there in
@@ -184,7 +184,7 @@ module _ (k : Shape) (o : ℕ) (by : Way) (own : Table) (t : ℕ) (table : Table
       pub new_few : (counts.count < 65536) × (counts.next + 1 < 2 ^ 63)
       new_few = let a = next.2 in let b = next.3 in let c = j.count_is in let d = j.next_is in (omega (arith, a, c), omega (arith, b, d))
 
-      module _ (laws : PlaceLaws) (slot : ℕ) (fits : FitsKey key) (hash : hash_of k.texts key < 2 ^ 64) (ok : FitsStored stored) (free : IsFreeFor k.texts by own.class key (held_unboxed o v).table slot) (z : View) (only : OnlyPut o v z) (words : held_unboxed o z ≡ with_entry (table_id own) slot counts (pair_for k.texts j.mid key stored) (held_unboxed o v)) (writes : WritesEntries k o own z) (other : held_unboxed t z ≡ held_unboxed t v) where
+      module _ (laws : PlaceLaws) (slot : ℕ) (fits : FitsKey key) (hash : hash_of k.texts key < 2 ^ 64) (ok : FitsStored stored) (free : IsFreeFor k.texts by own.class key (held_unboxed o v).table slot) (z : View) (only : OnlyWritten o v z) (words : held_unboxed o z ≡ with_entry (table_id own) slot counts (pair_for k.texts j.mid key stored) (held_unboxed o v)) (writes : WritesEntries k o own z) (other : held_unboxed t z ≡ held_unboxed t v) where
         room_by : counts.fill < rows (kind_by by) (class_of (table_id own))
         room_by = subst (λ (y : Kind). counts.fill < rows y (class_of (table_id own))) j.kind_is new_room
 

@@ -21,6 +21,7 @@ use Rattle.ft_keys.specs.declared.walk.Way.TheVariants as way
 use Rattle.ft_keys.specs.Ways.{IsTableOf, room, walk_slots}
 use Rattle.ft_trace.specs.declared.Shape.{Shape}
 use Rattle.ft_trace.specs.declared.View.{View}
+use Rattle.ft_trace.specs.Acts.{has_lock}
 use Rattle.ft_trace.specs.Addresses.{class_of, container_count, slots}
 use Rattle.ft_trace.specs.Holds.{held_unboxed, known_state}
 use Rattle.ft_trace.specs.Kinds.{rows}
@@ -35,7 +36,7 @@ use Rattle.ft_trace.proofs.SetKnown as set
 use Rattle.ft_trace.proofs.Tellings.{word_is}
 use Rattle.ft_bank.specs.declared.table.Table.{Table}
 use Rattle.ft_bank.specs.TableNames.{table_id, IsTableIn}
-use Rattle.ft_bank.specs.Whole.{OnlyLoaded, OnlyPut}
+use Rattle.ft_bank.specs.Whole.{OnlyLoaded, OnlyWritten}
 use Rattle.ft_bank.proofs.KnownAfterWrites.{loaded_held, work_knows}
 use Rattle.ft_search.specs.Held.{IsHeldAt, KnowsTable}
 use Rattle.ft_search.specs.Rounds.{kind_by}
@@ -44,6 +45,7 @@ use Rattle.ft_search.proofs.Puts.{table_class}
 use Rattle.ft_new_keys.specs.KeyGrowth.{KnowsKeyed, holds}
 use Rattle.ft_new_keys.specs.Placing.{StoresAs}
 use Rattle.ft_new_keys.proofs.Grown.{knows_on}
+use Rattle.ft_merging.proofs.Ending.{read_same}
 use Rattle.ft_merging.specs.Joining.{joined}
 use Rattle.ft_merging.specs.Internal.JoiningSteps.{Apart, StoresIn, joined_used, pair_in}
 use Rattle.ft_merging.proofs.JoinedContents.{joined_elements}
@@ -53,16 +55,16 @@ use Rattle.ft_merging.proofs.JoinedContents.{joined_elements}
 pub table_after : (o t : ℕ) (v w : View) → OnlyLoaded v w → KnowsTable o t v → KnowsTable o t w
 table_after o t v w only knows = (only.work.pass.locks o ∙ knows.0, ap root_in (loaded_held v w o only) ∙ knows.1)
 
-pub word_after : (o : ℕ) (n place word : ℕ) (v w : View) → OnlyLoaded v w → (found : ℕ) → found ≡ entry_field n (held_unboxed o w).table place word → found ≡ entry_field n (held_unboxed o v).table place word
-word_after o n place word v w only found is = is ∙ ap (λ (x : ContainerWords). entry_field n x.table place word) (loaded_held v w o only)
+pub word_after : (k : Shape) (o : ℕ) (n place word : ℕ) (v w : View) → v.shape ≡ k → o < container_count k → has_lock o v.log ≡ true → OnlyLoaded v w → (found : ℕ) → found ≡ entry_field n (held_unboxed o w).table place word → found ≡ entry_field n (held_unboxed o v).table place word
+word_after k o n place word v w shape low mine only found is = is ∙ ap (λ (x : ContainerWords). entry_field n x.table place word) (read_same k o v w shape low mine only)
 
-pub knows_loaded : (k : Shape) (o : ℕ) (old : Option Table) (v w : View) → OnlyLoaded v w → KnowsKeyed k o old v → KnowsKeyed k o old w
-knows_loaded k o old v w only = knows_on k o old v w (loaded_held v w o only) (work_knows v w o only.work) (only.work.pass.locks o) (only.work.pass.writes o)
+pub knows_loaded : (k : Shape) (o : ℕ) (old : Option Table) (v w : View) → v.shape ≡ k → OnlyLoaded v w → KnowsKeyed k o old v → KnowsKeyed k o old w
+knows_loaded k o old v w shape only knows = knows_on k o old v w (read_same k o v w shape knows.container knows.locked only) (work_knows v w o only.work) (only.work.pass.locks o) (only.work.pass.writes o) knows
 
 -- and while another one is written
-pub knows_put : (k : Shape) (o t : ℕ) (old : Option Table) (v w : View) → v.shape ≡ k → o ≢ t → OnlyPut o v w → KnowsKeyed k t old v → KnowsKeyed k t old w
+pub knows_put : (k : Shape) (o t : ℕ) (old : Option Table) (v w : View) → v.shape ≡ k → o ≢ t → OnlyWritten o v w → KnowsKeyed k t old v → KnowsKeyed k t old w
 knows_put k o t old v w shape two only knows =
-    let same : held_unboxed t w ≡ held_unboxed t v = only.others t (subst (λ (z : Shape). t < container_count z) (sym shape) knows.container) (λ e. two (sym e)) knows.locked knows.even in
+    let same : held_unboxed t w ≡ held_unboxed t v = (only.others t (subst (λ (z : Shape). t < container_count z) (sym shape) knows.container) (λ e. two (sym e)) knows.locked knows.even).1 in
     knows_on k t old v w same (work_knows v w t only.work) (only.work.pass.locks t) (only.work.pass.writes t) knows
 
 -- ---- used entries

@@ -60,6 +60,7 @@ may_write k o old v may = record {
   even = may.even;
   stands = may.keyed.stands;
   owes = may.owes;
+  boxes = may.boxes;
   left = may.left;
 }
 

@@ -28,7 +28,7 @@ use Rattle.ft_trace.proofs.ByKind.{keyed_fit}
 use Rattle.ft_trace.proofs.Known.{table_is_long}
 use Rattle.ft_bank.specs.declared.table.Table.{Table}
 use Rattle.ft_bank.specs.TableNames.{table_id}
-use Rattle.ft_bank.specs.Whole.{OnlyPut}
+use Rattle.ft_bank.specs.Whole.{OnlyWritten}
 use Rattle.ft_bank.proofs.TableAddresses.{class_is}
 use Rattle.ft_bank.proofs.KnownAfterWrites.{work_knows}
 use Rattle.ft_search.specs.Held.{IsHeldAt}
@@ -248,7 +248,7 @@ module _ (laws : PlaceLaws) (k : Shape) (o : ℕ) (by : Way) (own : Table) (mid 
       subst (λ (i : Key). NoneOf i left) (same_key key a fits fits_a kind payload) none)
       (λ ne. let was = others_same q 0 ne (omega arith) in before q a less (omega (arith, was, odd)) fits_a (live_before q a ne live))
 
-  module _ (z : View) (only : OnlyPut o v z) (words : held_unboxed o z ≡ y) (writes : WritesEntries k o own z) where
+  module _ (z : View) (only : OnlyWritten o v z) (words : held_unboxed o z ≡ y) (writes : WritesEntries k o own z) where
     back : y ≡ held_unboxed o z
     back = sym words
 

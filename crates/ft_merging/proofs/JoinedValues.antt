@@ -1,5 +1,5 @@
 -- A key that is there when a dict or a set is written: what another value in its entry leaves.
-use Rattle.std.proofs.Common.{◌≡◌, ◌≢◌, ◌⊎◌, ℕ, ◌+◌, ◌*◌, ◌%◌, ◌<◌, ◌≤◌, true, false, List, [], ◌∷◌, length, Some, refl, sym, ap, ◌∙◌, subst, inl, inr, arith, ⊎_elim, true≢false}
+use Rattle.std.proofs.Common.{◌≡◌, ◌≢◌, ◌⊎◌, ℕ, ◌+◌, ◌*◌, ◌%◌, ◌<◌, ◌≤◌, true, false, List, [], ◌∷◌, length, None, Some, refl, sym, ap, ◌∙◌, subst, inl, inr, arith, ⊎_elim, true≢false}
 use mathlib.Core.Logic.{dite}
 use native.Mathlib.Decide.{ℕ_discrete}
 use Rattle.ft_model.specs.declared.content.Content.{Content}
@@ -32,7 +32,7 @@ use Rattle.ft_trace.proofs.EntryPuts.{key3, other3, ver3, value_changed}
 use Rattle.ft_trace.proofs.Known.{table_is_long}
 use Rattle.ft_bank.specs.declared.table.Table.{Table}
 use Rattle.ft_bank.specs.TableNames.{table_id}
-use Rattle.ft_bank.specs.Whole.{OnlyPut}
+use Rattle.ft_bank.specs.Whole.{OnlyWritten}
 use Rattle.ft_bank.proofs.KnownAfterWrites.{work_knows}
 use Rattle.ft_search.specs.OneEntryWrites.{WritesEntries, are_of_value}
 use Rattle.ft_search.proofs.Puts.{table_class}
@@ -111,10 +111,10 @@ module _ (laws : ValueLaws) (k : Shape) (o : ℕ) (own : Table) (pairs : DictCon
   says = midway.stands
 
   abbrev y : ContainerWords
-  y = with_puts x (value_puts n x.table at value)
+  y = with_puts x (value_puts n x.table at None value)
 
-  pub dict_may : (before : Content) → MayPuts (kind_in k.starts o) t before false x (value_puts n x.table at value)
-  dict_may before = subst (λ (z : Kind). MayPuts z t before false x (value_puts n x.table at value)) (sym kind_eq) (value_early laws k.texts x (use_with c fill) t is_class pairs says refl midway.writes.root long at key value even (row at low) live fits ok before)
+  pub dict_may : (before : Content) → MayPuts (kind_in k.starts o) t before false x (value_puts n x.table at None value)
+  dict_may before = subst (λ (z : Kind). MayPuts z t before false x (value_puts n x.table at None value)) (sym kind_eq) (value_early laws k.texts x (use_with c fill) t is_class pairs says refl midway.writes.root long at key value even (row at low) live fits ok before)
 
   used_here : at < fill
   used_here = value_used laws k.texts x (use_with c fill) t is_class pairs says refl midway.writes.root long at key value even (row at low) live fits ok
@@ -209,7 +209,7 @@ module _ (laws : ValueLaws) (k : Shape) (o : ℕ) (own : Table) (pairs : DictCon
       no)
       (λ ne. let ver = others_now q 0 ne (omega arith) in alive q a less (omega (arith, ver, odd)) old)
 
-  pub dict_put : (entry_field n x.table at 4 ≡ kw → entry_field n x.table at 5 ≡ pw → ⊥) → NoneGone t m x → (z : View) → OnlyPut o v z → held_unboxed o z ≡ y → WritesEntries k o own z → IsPutThere k o own (content.Dict news) fill at v z
+  pub dict_put : (entry_field n x.table at 4 ≡ kw → entry_field n x.table at 5 ≡ pw → ⊥) → NoneGone t m x → (z : View) → OnlyWritten o v z → held_unboxed o z ≡ y → WritesEntries k o own z → IsPutThere k o own (content.Dict news) fill at v z
   dict_put other alive z only words writes =
       let back : y ≡ held_unboxed o z = sym words in
       let knows : known_state o v ≡ known_state o z = sym (work_knows v z o only.work) in
@@ -237,7 +237,7 @@ module _ (laws : ValueLaws) (k : Shape) (o : ℕ) (own : Table) (fill : ℕ) (v 
   there_may (content.Dict pairs) (Plain value) midway kinds stores ok before =
       let n = slots (class_of (table_id own)) in
       let x = held_unboxed o v in
-      elim (are_of_value (entry_field n x.table at 4) (entry_field n x.table at 5) value) as (λ b. MayPuts (kind_in k.starts o) (table_id own) before false x (if b then [] else value_puts n x.table at value)) [
+      elim (are_of_value (entry_field n x.table at 4) (entry_field n x.table at 5) value) as (λ b. MayPuts (kind_in k.starts o) (table_id own) before false x (if b then [] else value_puts n x.table at None value)) [
         | true ↦ tt
         | false ↦ dict_may laws k o own pairs fill v midway (sym kinds) at key value fits ok low live even before
       ]
@@ -250,7 +250,7 @@ module _ (laws : ValueLaws) (k : Shape) (o : ℕ) (own : Table) (fill : ℕ) (v 
   there_may (content.Deque deque) stored midway kinds stores ok before = absurd stores
 
   -- nothing is put
-  there_kept : (mid : Content) → IsMidway k o own (record { content = mid; table = use_with (class_of (table_id own)) fill }) v → NoneGone (table_id own) (rows (kind_in k.starts o) (class_of (table_id own))) (held_unboxed o v) → (z : View) → OnlyPut o v z → held_unboxed o z ≡ held_unboxed o v → WritesEntries k o own z → IsPutThere k o own mid fill at v z
+  there_kept : (mid : Content) → IsMidway k o own (record { content = mid; table = use_with (class_of (table_id own)) fill }) v → NoneGone (table_id own) (rows (kind_in k.starts o) (class_of (table_id own))) (held_unboxed o v) → (z : View) → OnlyWritten o v z → held_unboxed o z ≡ held_unboxed o v → WritesEntries k o own z → IsPutThere k o own mid fill at v z
   there_kept mid midway alive z only words writes =
       let back : held_unboxed o v ≡ held_unboxed o z = sym words in
       let knows : known_state o v ≡ known_state o z = sym (work_knows v z o only.work) in
@@ -283,7 +283,7 @@ module _ (laws : ValueLaws) (k : Shape) (o : ℕ) (own : Table) (fill : ℕ) (v 
   there_still (content.Deque deque) stored midway kinds stores ok there = absurd stores
 
   pub there_put : (mid : Content) (stored : Stored) → IsMidway k o own (record { content = mid; table = use_with (class_of (table_id own)) fill }) v → kind_of mid ≡ kind_in k.starts o → StoresAs (kind_of mid) stored → FitsStored stored → holds mid key ≡ true → NoneGone (table_id own) (rows (kind_in k.starts o) (class_of (table_id own))) (held_unboxed o v)
-      → (z : View) → OnlyPut o v z → held_unboxed o z ≡ with_puts (held_unboxed o v) (stored_puts (slots (class_of (table_id own))) (held_unboxed o v).table at stored) → WritesEntries k o own z → IsPutThere k o own (with_key mid key stored) fill at v z
+      → (z : View) → OnlyWritten o v z → held_unboxed o z ≡ with_puts (held_unboxed o v) (stored_puts (slots (class_of (table_id own))) (held_unboxed o v).table at stored) → WritesEntries k o own z → IsPutThere k o own (with_key mid key stored) fill at v z
   there_put (content.Dict pairs) (Plain value) midway kinds stores ok there alive z only words writes =
       let n = slots (class_of (table_id own)) in
       let x = held_unboxed o v in
@@ -291,7 +291,7 @@ module _ (laws : ValueLaws) (k : Shape) (o : ℕ) (own : Table) (fill : ℕ) (v 
       let p5 = entry_field n x.table at 5 in
       let kw = stored_kind (Plain value) in
       let pw = stored_payload (Plain value) in
-      elim (are_of_value k4 p5 value) as (λ b. are_of_value k4 p5 value ≡ b → held_unboxed o z ≡ with_puts x (if b then [] else value_puts n x.table at value) → IsPutThere k o own (content.Dict (dict_set pairs key value)) fill at v z) [
+      elim (are_of_value k4 p5 value) as (λ b. are_of_value k4 p5 value ≡ b → held_unboxed o z ≡ with_puts x (if b then [] else value_puts n x.table at None value) → IsPutThere k o own (content.Dict (dict_set pairs key value)) fill at v z) [
         | true ↦ λ yes same.
             let w = both_equal k4 kw p5 pw yes in
             subst (λ (d : DictContent). IsPutThere k o own (content.Dict d) fill at v z) (sym (dict_again laws k o own pairs fill v midway (sym kinds) at key value fits ok low live even w.0 w.1))

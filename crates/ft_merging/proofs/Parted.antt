@@ -37,7 +37,7 @@ use Rattle.ft_trace.proofs.SetKnown as set
 use Rattle.ft_trace.proofs.Tellings.{key_is, live_tells, one_tells}
 use Rattle.ft_bank.specs.declared.table.Table.{Table}
 use Rattle.ft_bank.specs.TableNames.{table_id}
-use Rattle.ft_bank.specs.Whole.{OnlyPut}
+use Rattle.ft_bank.specs.Whole.{OnlyWritten}
 use Rattle.ft_bank.proofs.KnownAfterWrites.{work_knows}
 use Rattle.ft_search.specs.OneEntryWrites.{HasTable, MayWriteEntries}
 use Rattle.ft_search.proofs.Puts.{table_class}
@@ -94,7 +94,7 @@ has_words (e ∷ es) key there = by (λ is. has_words es key is) (same_key e.key
 
 -- ---- once all are joined
 
-module _ (elements : set.FirstEntriesAreElements) (k : Shape) (s t : ℕ) (own table : Table) (v u w : View) (f : ℕ) (shape : v.shape ≡ k) (possible : ∥ IsReachable v ∥₁) (may : MayWriteEntries k s v) (is : kind_in k.starts s ≡ kind.Set) (has : HasTable k s own v) (begun : u ≡ view_after (StartWrite s f) v) (only : OnlyPut s u w) (fill end others_fill : ℕ) (counts : Counts) (fill_is : fill ≡ (known_state s v).table.fill)
+module _ (elements : set.FirstEntriesAreElements) (k : Shape) (s t : ℕ) (own table : Table) (v u w : View) (f : ℕ) (shape : v.shape ≡ k) (possible : ∥ IsReachable v ∥₁) (may : MayWriteEntries k s v) (is : kind_in k.starts s ≡ kind.Set) (has : HasTable k s own v) (begun : u ≡ view_after (StartWrite s f) v) (only : OnlyWritten s u w) (fill end others_fill : ℕ) (counts : Counts) (fill_is : fill ≡ (known_state s v).table.fill)
     (j : IsJoining k s way.Set own t table (joined (known_state s v).content (known_state t v).content) end others_fill counts w) (all : others_fill ≡ (known_state t w).table.fill) (keeps : KeepsBelow (table_id own) fill (held_unboxed s u) (held_unboxed s w)) where
   abbrev c : ℕ
   c = class_of (table_id own)

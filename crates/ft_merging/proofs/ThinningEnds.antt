@@ -39,7 +39,7 @@ use Rattle.ft_trace.proofs.SetKnown as set
 use Rattle.ft_trace.proofs.Tellings.{word_is}
 use Rattle.ft_bank.specs.declared.table.Table.{Table}
 use Rattle.ft_bank.specs.TableNames.{table_id}
-use Rattle.ft_bank.specs.Whole.{OnlyLoaded, OnlyPut}
+use Rattle.ft_bank.specs.Whole.{OnlyLoaded, OnlyWritten}
 use Rattle.ft_bank.specs.WriteSteps.{MayHave}
 use Rattle.ft_bank.proofs.KnownAfterWrites.{work_knows}
 use Rattle.ft_search.specs.Held.{IsHeldAt}
@@ -77,9 +77,9 @@ pub missing_there : (k : Shape) (v : View) (t : ℕ) (key : Key) → v.shape ≡
 missing_there k v t key shape possible may is none = subst (λ (z : Content). IsHeldAt z key None) (is_set k v t shape possible may.locked is) none
 
 -- it may be read on, while the first one is written
-pub other_stays : (k : Shape) (s t : ℕ) (v w : View) → v.shape ≡ k → OnlyPut s v w → s ≢ t → KnowsEntries k t v → KnowsEntries k t w
+pub other_stays : (k : Shape) (s t : ℕ) (v w : View) → v.shape ≡ k → OnlyWritten s v w → s ≢ t → KnowsEntries k t v → KnowsEntries k t w
 other_stays k s t v w shape only ne may =
-    let same : held_unboxed t v ≡ held_unboxed t w = sym (only.others t (subst (λ (z : Shape). t < container_count z) (sym shape) may.container) (λ e. ne (sym e)) may.locked may.even) in
+    let same : held_unboxed t v ≡ held_unboxed t w = sym (only.others t (subst (λ (z : Shape). t < container_count z) (sym shape) may.container) (λ e. ne (sym e)) may.locked may.even).1 in
     let knows : known_state t v ≡ known_state t w = sym (work_knows v w t only.work) in
     record {
       container = may.container;
@@ -185,7 +185,7 @@ module _ (k : Shape) (s : ℕ) (table : Table) (kept : Bool) (others : SetConten
   }
 
   -- after the last one
-  module _ (laws : Laws) (w : View) (only : OnlyPut s u w) (last : ℕ) (left : SetContent) (table_left : TableUse) (th : IsThinned k s table kept others first (record { content = content.Set left; table = table_left }) last last w) (called : Call) (said : Reply) (leaves : Leaves s called said (record { content = content.Set left; table = table_left }) v) where
+  module _ (laws : Laws) (w : View) (only : OnlyWritten s u w) (last : ℕ) (left : SetContent) (table_left : TableUse) (th : IsThinned k s table kept others first (record { content = content.Set left; table = table_left }) last last w) (called : Call) (said : Reply) (leaves : Leaves s called said (record { content = content.Set left; table = table_left }) v) where
     abbrev after : ContainerState
     after = record { content = content.Set left; table = table_left }
 

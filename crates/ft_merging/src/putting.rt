@@ -51,6 +51,7 @@ fn seek_in(
     hash: u64,
 ) -> Spot
     requires pass { IsPassOf bank.now pass.old }
+    requires way { kind_in (shape_of bank.now).starts o ≡ kind_by way }
     requires writes { WritesEntries (shape_of bank.now) o own (view pass.old) }
     requires hash { hash ≡ hash_of (shape_of bank.now).texts key }
     requires fits { FitsKey key }

@@ -112,6 +112,7 @@ returns-in-Taken-clause-added c =
         done = done;
         wrote = subst (λ (z : Stamp). Wrote a.called.now reply.Done z.number u done) (sym is) w.wrote;
         root = subst (λ (n : ℕ). root_in (held_unboxed n done) ≡ suc (table_id c.in-Taken.new)) (sym at) w.root;
+        references = w.references;
         retired = subst (λ (n : ℕ). Retires n done (view c.retire_old.new.pass)) (sym (grow d).keyed.root ∙ sym (ap (λ (n : ℕ). root_in (held_unboxed n u)) at)) c.retire_old.ensures.retired;
       },
     )

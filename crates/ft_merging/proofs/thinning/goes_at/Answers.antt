@@ -17,6 +17,7 @@ use Rattle.ft_trace.specs.ContainerStates.{ContainerState, kind_in}
 use Rattle.ft_bank.specs.Whole.{OnlyLoaded}
 use Rattle.ft_search.proofs.Laws.{SetLaws}
 use Rattle.ft_search.proofs.Spotting.{knows_loaded}
+use Rattle.ft_merging.proofs.Ending.{read_same}
 use Rattle.ft_merging.proofs.Thinned.{hash_is, was_there}
 use Rattle.ft_merging.proofs.thinning.goes_at.Goals.{Start, After-word_of-hash}
 
@@ -87,8 +88,9 @@ is_in-found-requires-clause-hash c =
     let d = (goal.at.is_in-found-requires-clause-hash c).After-word_of-hash in
     let v = view a.pass.now in
     let t = stated d in
+    let w = c.requires.thinned.3.midway.writes in
     c.word_of-hash.ensures.found
-    ∙ (ap (λ (x : ContainerWords). entry_field (slots (class_of (table_id a.table))) x.table a.place 1) (loaded_held v (view c.key_at.new.pass) a.s c.key_at.ensures.only)
+    ∙ (ap (λ (x : ContainerWords). entry_field (slots (class_of (table_id a.table))) x.table a.place 1) (read_same (shape_of a.bank.now) a.s v (view c.key_at.new.pass) c.requires.pass.1 w.container w.locked c.key_at.ensures.only)
     ∙ hash_is (shape_of a.bank.now) a.s a.table a.kept (set_of (known_state a.t v).content) (set_of (known_state a.s v).content) c.requires.thinned.0 c.requires.thinned.1 a.place v c.requires.set c.requires.thinned.3 (laws d) c.requires.place c.requires.thinned.2 c.in-Some.key t.0 t.1)
 
 pub is_in-found-requires-clause-fits : goal.is_in-found-requires-clause-fits

@@ -12,6 +12,7 @@ use Rattle.ft_search.specs.OneEntryWrites.{Leaves, MayWriteEntries}
 use Rattle.ft_search.proofs.Calling.{loaded_wrote}
 use Rattle.ft_search.proofs.Spotting.{may_loaded}
 use Rattle.ft_merging.specs.Thinning.{thinned_state}
+use Rattle.ft_merging.proofs.Ending.{read_same}
 use Rattle.ft_merging.proofs.ThinningEnds.{fill_known, leaves_loaded, none_thinned}
 use Rattle.ft_merging.proofs.thinning.thin_by.Goals as goal
 use Rattle.ft_merging.proofs.thinning.thin_by.Goals.{After-read_block-fill}
@@ -31,7 +32,7 @@ knows : (c : After-read_block-fill) (p : ℕ) → known_state p (view c.read_blo
 knows c p = work_knows (view c.args.pass.now) (view c.read_block-fill.new.pass) p (only c).work
 
 same : (c : After-read_block-fill) → held_unboxed c.args.s (view c.read_block-fill.new.pass) ≡ held_unboxed c.args.s (view c.args.pass.now)
-same c = loaded_held (view c.args.pass.now) (view c.read_block-fill.new.pass) c.args.s (only c)
+same c = read_same (shape_of c.args.bank.now) c.args.s (view c.args.pass.now) (view c.read_block-fill.new.pass) c.requires.pass.1 c.requires.may.container c.requires.may.locked (only c)
 
 leaves : (c : After-read_block-fill) → Leaves c.args.s c.args.called.now reply.Done (thinned_state c.args.kept (known_state c.args.t (view c.args.pass.now)) (known_state c.args.s (view c.args.pass.now))) (view c.read_block-fill.new.pass)
 leaves c = leaves_loaded (view c.args.pass.now) (view c.read_block-fill.new.pass) (only c) c.args.s c.args.called.now reply.Done (thinned_state c.args.kept (known_state c.args.t (view c.args.pass.now)) (known_state c.args.s (view c.args.pass.now))) c.requires.leaves
@@ -80,6 +81,10 @@ returns-in-Some-clause-wrote c =
     let a = c.args in
     loaded_wrote (view a.pass.now) (view c.read_block-fill.new.pass) (only (goal.at.returns-in-Some-clause-wrote c).After-read_block-fill) a.called.now reply.Done c.thin_table.result (view c.thin_table.new.pass) c.thin_table.ensures.wrote
 
+pub returns-in-Some-clause-references : goal.returns-in-Some-clause-references
+returns-in-Some-clause-references c b =
+    c.thin_table.ensures.references b ∙ (only (goal.at.returns-in-Some-clause-references c).After-read_block-fill).boxes.references b
+
 pub returns-in-Some-clause-root : goal.returns-in-Some-clause-root
 returns-in-Some-clause-root c = c.thin_table.ensures.root ∙ ap root_in (same (goal.at.returns-in-Some-clause-root c).After-read_block-fill)
 
@@ -100,6 +105,10 @@ pub returns-in-None-clause-wrote : goal.returns-in-None-clause-wrote
 returns-in-None-clause-wrote c =
     let a = c.args in
     loaded_wrote (view a.pass.now) (view c.read_block-fill.new.pass) (only (goal.at.returns-in-None-clause-wrote c).After-read_block-fill) a.called.now reply.Done c.write_nothing.result (view c.write_nothing.new.pass) c.write_nothing.ensures.wrote
+
+pub returns-in-None-clause-references : goal.returns-in-None-clause-references
+returns-in-None-clause-references c b =
+    c.write_nothing.ensures.references b ∙ (only (goal.at.returns-in-None-clause-references c).After-read_block-fill).boxes.references b
 
 pub returns-in-None-clause-root : goal.returns-in-None-clause-root
 returns-in-None-clause-root c = c.write_nothing.ensures.root ∙ ap root_in (same (goal.at.returns-in-None-clause-root c).After-read_block-fill)

@@ -49,7 +49,7 @@ pub knows_rooted : (k : Shape) (o t root was : ℕ) (old : Option Table) (v u : 
 knows_rooted k o t root was old v u f shape is keeps two knows =
     let quiet : is_writing t (view_after (StartWrite o f) v).log ≡ is_writing t v.log = ap (λ (b : Bool). cond b true (is_writing t v.log)) (ne_eqb o t two) in
     let same = keeps t (subst (λ (z : Shape). t < container_count z) (sym shape) knows.container) knows.locked (quiet ∙ knows.even) in
-    knows_on k t old v u same.0 same.1 (ap (λ (z : View). has_lock t z.log) is) (ap (λ (z : View). is_writing t z.log) is ∙ quiet) knows
+    knows_on k t old v u same.2 same.1 (ap (λ (z : View). has_lock t z.log) is) (ap (λ (z : View). is_writing t z.log) is ∙ quiet) knows
 
 -- a pass that may add a key may write
 pub may_write : (k : Shape) (o : ℕ) (old : Option Table) (v : View) → MayAddKey k o old v → MayWriteEntries k o v

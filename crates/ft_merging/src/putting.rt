@@ -85,9 +85,12 @@ fn put_stored(
     requires writes { WritesEntries (shape_of bank.now) o own (view pass.old) }
     requires place { place < rows (kind_in (shape_of bank.now).starts o) (class_of (table_id own)) }
     requires early { has_committed o (view pass.old).log ≡ false }
-    requires old_kind { old.0 ≡ entry_field (slots (class_of (table_id own))) (held_unboxed o (view pass.old)).table place 4 }
-    requires old_payload { old.1 ≡ entry_field (slots (class_of (table_id own))) (held_unboxed o (view pass.old)).table place 5 }
-    requires may { MayPuts (kind_in (shape_of bank.now).starts o) (table_id own) (known_state o (view pass.old)).content false
+    requires old_kind { old.0 ≡ entry_field (slots (class_of (table_id own)))
+        (held_unboxed o (view pass.old)).table place 4 }
+    requires old_payload { old.1 ≡ entry_field (slots (class_of (table_id own)))
+        (held_unboxed o (view pass.old)).table place 5 }
+    requires may { MayPuts (kind_in (shape_of bank.now).starts o) (table_id own)
+        (known_state o (view pass.old)).content false
         (held_unboxed o (view pass.old))
         (stored_puts (slots (class_of (table_id own))) (held_unboxed o (view pass.old)).table place stored) }
     ensures pass { IsPassOf bank.now pass.new }
@@ -139,7 +142,8 @@ fn join_at(
     requires other_way { kind_in (shape_of bank.now).starts t ≡ kind_by way }
     requires place { place < (known_state t (view pass.old)).table.fill }
     requires joining { IsJoining (shape_of bank.now) o way own t table
-        (joined (known_state o (view pass.old)).content (known_state t (view pass.old)).content) end place counts (view pass.old) }
+        (joined (known_state o (view pass.old)).content (known_state t (view pass.old)).content) end place counts
+        (view pass.old) }
     ensures pass { IsPassOf bank.now pass.new }
     ensures stack { stack_of pass.new ≡ stack_of pass.old }
     ensures only { OnlyWritten o (view pass.old) (view pass.new) }
@@ -197,12 +201,14 @@ pub(crate) fn join_all(
     requires other_way { kind_in (shape_of bank.now).starts t ≡ kind_by way }
     requires fill { fill ≡ (known_state t (view pass.old)).table.fill }
     requires joining { IsJoining (shape_of bank.now) o way own t table
-        (joined (known_state o (view pass.old)).content (known_state t (view pass.old)).content) end 0 first (view pass.old) }
+        (joined (known_state o (view pass.old)).content (known_state t (view pass.old)).content) end 0 first
+        (view pass.old) }
     ensures pass { IsPassOf bank.now pass.new }
     ensures stack { stack_of pass.new ≡ stack_of pass.old }
     ensures only { OnlyWritten o (view pass.old) (view pass.new) }
     ensures joining { IsJoining (shape_of bank.now) o way own t table
-        (joined (known_state o (view pass.old)).content (known_state t (view pass.old)).content) end fill result (view pass.new) }
+        (joined (known_state o (view pass.old)).content (known_state t (view pass.old)).content) end fill result
+        (view pass.new) }
     ensures keeps { kind_by way ≡ kind.Set →
         KeepsBelow (table_id own) first.fill (held_unboxed o (view pass.old)) (held_unboxed o (view pass.new)) }
 {
@@ -234,7 +240,8 @@ pub(crate) fn join_table(
     requires other_way { kind_in (shape_of bank.now).starts t ≡ kind_by way }
     requires fill { fill ≡ (known_state t (view pass.old)).table.fill }
     requires joining { IsJoining (shape_of bank.now) o way own t table
-        (joined (known_state o (view pass.old)).content (known_state t (view pass.old)).content) end 0 first (view pass.old) }
+        (joined (known_state o (view pass.old)).content (known_state t (view pass.old)).content) end 0 first
+        (view pass.old) }
     requires finishes { (u : View) (counts : Counts) → OnlyWritten o (view pass.old) u →
         IsJoining (shape_of bank.now) o way own t table
         (joined (known_state o (view pass.old)).content (known_state t (view pass.old)).content) end fill counts u →

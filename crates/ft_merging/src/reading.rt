@@ -40,7 +40,8 @@ pub fn word_of(bank: &Bank, pass: &mut Pass, o: Object, table: Table, place: u64
     ensures pass { IsPassOf bank.now pass.new }
     ensures stack { stack_of pass.new ≡ stack_of pass.old }
     ensures only { OnlyLoaded (view pass.old) (view pass.new) }
-    ensures found { result ≡ entry_field (slots (class_of (table_id table))) (held_unboxed o (view pass.old)).table place word }
+    ensures found { result ≡ entry_field (slots (class_of (table_id table)))
+        (held_unboxed o (view pass.old)).table place word }
 {
     let _ = o;
     let at = 8 * place + word + mask_of(table.class) + 1;
@@ -60,7 +61,8 @@ pub fn key_at(bank: &Bank, pass: &mut Pass, o: Object, table: Table, place: u64)
     ensures only { OnlyLoaded (view pass.old) (view pass.new) }
     ensures key { (key : Key) →
         IsKey (entry_field (slots (class_of (table_id table))) (held_unboxed o (view pass.old)).table place 2)
-        (entry_field (slots (class_of (table_id table))) (held_unboxed o (view pass.old)).table place 3) key ↔ (result ≡ Some key) }
+        (entry_field (slots (class_of (table_id table))) (held_unboxed o (view pass.old)).table place 3) key ↔
+        (result ≡ Some key) }
 {
     let kind = word_of(bank, pass, o, table, place, KEY_KIND);
     let payload = word_of(bank, pass, o, table, place, KEY);

@@ -85,7 +85,8 @@ pub fn begin_in(bank: &Bank, pass: &mut Pass, o: u32, way: Way, old: Option<Tabl
     requires pass { IsPassOf bank.now pass.old }
     requires way { kind_in (shape_of bank.now).starts o ≡ kind_by way }
     requires may { MayGrowKeyed (shape_of bank.now) o old table (view pass.old) }
-    requires filled { IsFilledWith (shape_of bank.now).texts (class_of (table_id table)) (known_state o (view pass.old)).content
+    requires filled { IsFilledWith (shape_of bank.now).texts (class_of (table_id table))
+        (known_state o (view pass.old)).content
         (in_hand (table_id table) (view pass.old)) }
     ensures pass { IsPassOf bank.now pass.new }
     ensures stack { stack_of pass.new ≡ stack_of pass.old }
@@ -117,7 +118,8 @@ fn free_slot(bank: &Bank, pass: &mut Pass, o: u32, way: Way, key: Key, table: Ta
     ensures pass { IsPassOf bank.now pass.new }
     ensures stack { stack_of pass.new ≡ stack_of pass.old }
     ensures only { OnlyLoaded (view pass.old) (view pass.new) }
-    ensures slot { IsFreeFor (shape_of bank.now).texts way table.class key (held_unboxed o (view pass.old)).table result }
+    ensures slot { IsFreeFor (shape_of bank.now).texts way table.class key (held_unboxed o (view pass.old)).table
+        result }
 {
     searches_end_at_the_first_free_slot();
     let (found, _) = read_in(bank, pass, o, way, key, table);
@@ -157,7 +159,8 @@ pub(crate) fn add_in_new(
     requires stores { StoresAs (kind_by way) stored }
     requires value { FitsStored stored }
     requires adds { AddsKey o called.now said.now key stored (view pass.old) }
-    requires few { nat_lt (most_of (known_state o (view pass.old)).content) (length_of (known_state o (view pass.old)).content + 1) ≡ false }
+    requires few { nat_lt (most_of (known_state o (view pass.old)).content)
+        (length_of (known_state o (view pass.old)).content + 1) ≡ false }
     requires takes { key_takes (known_state o (view pass.old)).content (known_state o (view pass.old)).table
         ≡ Some (class_of (table_id table)) }
     ensures pass { IsPassOf bank.now pass.new }

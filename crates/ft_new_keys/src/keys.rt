@@ -139,7 +139,8 @@ fn add_in_taken(
     requires value { FitsStored stored }
     requires adds { AddsKey o called.now said.now key stored (view pass.old) }
     requires class { IsClass class }
-    requires takes { key_takes (known_state o (view pass.old)).content (known_state o (view pass.old)).table ≡ Some class }
+    requires takes { key_takes (known_state o (view pass.old)).content (known_state o (view pass.old)).table
+        ≡ Some class }
     ensures pass { IsPassOf bank.now pass.new }
     ensures stack { stack_of pass.new ≡ stack_of pass.old }
     ensures added { IsAdded (shape_of bank.now) (Some class) false called.now said.now (view pass.old) (view pass.new)

@@ -90,7 +90,8 @@ fn put_pair(bank: &Bank, pass: &mut Pass, o: u32, table: Table, slot: u64, place
     requires pass { IsPassOf bank.now pass.old }
     requires writes { WritesEntries (shape_of bank.now) o table (view pass.old) }
     requires early { has_committed o (view pass.old).log ≡ false }
-    requires unused { IsUnused (slots (class_of (table_id table))) (rows (kind_in (shape_of bank.now).starts o) (class_of (table_id table)))
+    requires unused { IsUnused (slots (class_of (table_id table)))
+        (rows (kind_in (shape_of bank.now).starts o) (class_of (table_id table)))
         (held_unboxed o (view pass.old)).table slot place }
     requires value { FitsStored pair.now.value × (stored_kind pair.now.value ≢ box_kind) }
     ensures pass { IsPassOf bank.now pass.new }
@@ -132,7 +133,8 @@ pub fn put_key(
     requires pass { IsPassOf bank.now pass.old }
     requires writes { WritesEntries (shape_of bank.now) o table (view pass.old) }
     requires early { has_committed o (view pass.old).log ≡ false }
-    requires unused { IsUnused (slots (class_of (table_id table))) (rows (kind_in (shape_of bank.now).starts o) (class_of (table_id table)))
+    requires unused { IsUnused (slots (class_of (table_id table)))
+        (rows (kind_in (shape_of bank.now).starts o) (class_of (table_id table)))
         (held_unboxed o (view pass.old)).table slot counts.fill }
     requires value { FitsStored pair.now.value × (stored_kind pair.now.value ≢ box_kind) }
     requires room { (counts.count < 2 ^ 63) × (pair.now.serial < 2 ^ 63) }
@@ -140,7 +142,8 @@ pub fn put_key(
     ensures stack { stack_of pass.new ≡ stack_of pass.old }
     ensures writes { WritesEntries (shape_of bank.now) o table (view pass.new) }
     ensures only { OnlyWritten o (view pass.old) (view pass.new) }
-    ensures words { held_unboxed o (view pass.new) ≡ with_entry (table_id table) slot counts pair.now (held_unboxed o (view pass.old)) }
+    ensures words { held_unboxed o (view pass.new)
+        ≡ with_entry (table_id table) slot counts pair.now (held_unboxed o (view pass.old)) }
 {
     let Counts {
         count,

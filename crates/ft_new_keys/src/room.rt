@@ -51,7 +51,8 @@ pub(crate) fn add_in_room(
     requires table { HasTable (shape_of bank.now) o table (view pass.old) }
     requires key { IsKeyIn (shape_of bank.now) key }
     requires fits { FitsKey key }
-    requires slot { IsFreeFor (shape_of bank.now).texts way table.class key (held_unboxed o (view pass.old)).table slot }
+    requires slot { IsFreeFor (shape_of bank.now).texts way table.class key (held_unboxed o (view pass.old)).table
+        slot }
     requires absent { IsHeldAt (known_state o (view pass.old)).content key None }
     requires counts { AreCounts (held_unboxed o (view pass.old)).block counts }
     requires room { counts.fill < rows (kind_by way) (class_of (table_id table)) }

@@ -164,7 +164,8 @@ came c key found is =
     let a = c.args in
     let k = shape_of a.bank.now in
     let j = c.requires.joining in
-    let same = read_on c.before.before in
+    let w = j.midway.writes in
+    let same = read_same k a.o (view a.pass.now) (view c.pair_at.new.pass) c.requires.pass.1 w.container w.locked c.pair_at.ensures.only in
     let mid : ContainerState = record { content = j.mid; table = record { class = Some (class_of (table_id a.own)); fill = a.counts.fill; keys = [] } } in
     subst (λ (x : ContainerWords). IsSought k a.way a.own key x j.mid found) same (is mid j.same_kind (subst (λ (x : ContainerWords). Represents k.texts x mid) (sym same) j.midway.stands))
 

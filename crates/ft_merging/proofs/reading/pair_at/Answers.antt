@@ -1,4 +1,4 @@
-use Rattle.std.proofs.Common.{◌≡◌, ℕ, ◌+◌, ◌*◌, ◌<◌, refl, sym, ap, ◌∙◌, subst, arith}
+use Rattle.std.proofs.Common.{◌≡◌, ℕ, ◌+◌, ◌*◌, ◌<◌, sym, ap, ◌∙◌, subst, arith}
 use Rattle.std.specs.Prelude.{slice_index}
 use Rattle.ft_layout.specs.declared.slot.Slot.{Slot}
 use Rattle.ft_layout.specs.declared.slot.Slot.TheVariants.{Gone, Live, Never}
@@ -18,7 +18,7 @@ use Rattle.ft_search.proofs.WordPlaces.{slots_is}
 use Rattle.ft_new_keys.proofs.OldValues.{row_value}
 use Rattle.ft_merging.proofs.JoinedReads.{table_after, word_after}
 use Rattle.ft_merging.proofs.reading.pair_at.Goals as goal
-use Rattle.ft_merging.proofs.reading.pair_at.Goals.{After-mask_of, After-read_stored, After-word_of-kind, After-word_of-payload}
+use Rattle.ft_merging.proofs.reading.pair_at.Goals.{After-mask_of, After-read_stored-value_kind, After-word_of-kind, After-word_of-payload}
 
 two : (c : After-word_of-kind) → OnlyLoaded (view c.args.pass.now) (view c.word_of-kind.new.pass)
 two c = loaded_then (view c.args.pass.now) (view c.word_of-hash.new.pass) (view c.word_of-kind.new.pass) c.word_of-hash.ensures.only c.word_of-kind.ensures.only
@@ -26,8 +26,8 @@ two c = loaded_then (view c.args.pass.now) (view c.word_of-hash.new.pass) (view 
 three : (c : After-word_of-payload) → OnlyLoaded (view c.args.pass.now) (view c.word_of-payload.new.pass)
 three c = loaded_then (view c.args.pass.now) (view c.word_of-kind.new.pass) (view c.word_of-payload.new.pass) (loaded_then (view c.args.pass.now) (view c.word_of-hash.new.pass) (view c.word_of-kind.new.pass) c.word_of-hash.ensures.only c.word_of-kind.ensures.only) c.word_of-payload.ensures.only
 
-four : (c : After-read_stored) → OnlyLoaded (view c.args.pass.now) (view c.read_stored.new.pass)
-four c = loaded_then (view c.args.pass.now) (view c.word_of-payload.new.pass) (view c.read_stored.new.pass) (loaded_then (view c.args.pass.now) (view c.word_of-kind.new.pass) (view c.word_of-payload.new.pass) (loaded_then (view c.args.pass.now) (view c.word_of-hash.new.pass) (view c.word_of-kind.new.pass) c.word_of-hash.ensures.only c.word_of-kind.ensures.only) c.word_of-payload.ensures.only) c.read_stored.ensures.only
+four : (c : After-read_stored-value_kind) → OnlyLoaded (view c.args.pass.now) (view c.read_stored-value_kind.new.pass)
+four c = loaded_then (view c.args.pass.now) (view c.word_of-payload.new.pass) (view c.read_stored-value_kind.new.pass) (loaded_then (view c.args.pass.now) (view c.word_of-kind.new.pass) (view c.word_of-payload.new.pass) (loaded_then (view c.args.pass.now) (view c.word_of-hash.new.pass) (view c.word_of-kind.new.pass) c.word_of-hash.ensures.only c.word_of-kind.ensures.only) c.word_of-payload.ensures.only) c.read_stored-value_kind.ensures.only
 
 pub word_of-kind-requires-clause-knows : goal.word_of-kind-requires-clause-knows
 word_of-kind-requires-clause-knows c = table_after c.args.o (table_id c.args.table) (view c.args.pass.now) (view c.word_of-hash.new.pass) c.word_of-hash.ensures.only c.requires.knows
@@ -36,7 +36,7 @@ pub word_of-payload-requires-clause-knows : goal.word_of-payload-requires-clause
 word_of-payload-requires-clause-knows c = table_after c.args.o (table_id c.args.table) (view c.args.pass.now) (view c.word_of-kind.new.pass) (two (goal.at.word_of-payload-requires-clause-knows c).After-word_of-kind) c.requires.knows
 
 pub word_of-serial-requires-clause-knows : goal.word_of-serial-requires-clause-knows
-word_of-serial-requires-clause-knows c = table_after c.args.o (table_id c.args.table) (view c.args.pass.now) (view c.read_stored.new.pass) (four (goal.at.word_of-serial-requires-clause-knows c).After-read_stored) c.requires.knows
+word_of-serial-requires-clause-knows c = table_after c.args.o (table_id c.args.table) (view c.args.pass.now) (view c.read_stored-value_kind.new.pass) (four (goal.at.word_of-serial-requires-clause-knows c).After-read_stored-value_kind) c.requires.knows
 
 pub word_of-hash-requires-clause-no_value : goal.word_of-hash-requires-clause-no_value
 word_of-hash-requires-clause-no_value c = ((λ e. absurd (omega (arith, e))), (λ e. absurd (omega (arith, e))))
@@ -51,7 +51,7 @@ pub word_of-serial-requires-clause-no_value : goal.word_of-serial-requires-claus
 word_of-serial-requires-clause-no_value c = ((λ e. absurd (omega (arith, e))), (λ e. absurd (omega (arith, e))))
 
 pub returns-clause-only : goal.returns-clause-only
-returns-clause-only c = loaded_then (view c.args.pass.now) (view c.read_stored.new.pass) (view c.word_of-serial.new.pass) (four (goal.at.returns-clause-only c).After-read_stored) c.word_of-serial.ensures.only
+returns-clause-only c = loaded_then (view c.args.pass.now) (view c.read_stored-value_kind.new.pass) (view c.word_of-serial.new.pass) (four (goal.at.returns-clause-only c).After-read_stored-value_kind) c.word_of-serial.ensures.only
 
 -- ---- the value
 
@@ -85,37 +85,37 @@ overflow_add-at-3 c =
     let s = small d in
     omega (arith, f, s)
 
-pub read_stored-requires-clause-locked : goal.read_stored-requires-clause-locked
-read_stored-requires-clause-locked c = (three (goal.at.read_stored-requires-clause-locked c).After-word_of-payload).work.pass.locks c.args.o ∙ c.requires.knows.0
+pub read_stored-value_kind-requires-clause-locked : goal.read_stored-value_kind-requires-clause-locked
+read_stored-value_kind-requires-clause-locked c = (three (goal.at.read_stored-value_kind-requires-clause-locked c).After-word_of-payload).work.pass.locks c.args.o ∙ c.requires.knows.0
 
-pub read_stored-requires-clause-root : goal.read_stored-requires-clause-root
-read_stored-requires-clause-root c =
+pub read_stored-value_kind-requires-clause-root : goal.read_stored-value_kind-requires-clause-root
+read_stored-value_kind-requires-clause-root c =
     let a = c.args in
-    ap root_in (loaded_held (view a.pass.now) (view c.word_of-payload.new.pass) a.o (three (goal.at.read_stored-requires-clause-root c).After-word_of-payload)) ∙ c.requires.knows.1
+    ap root_in (loaded_held (view a.pass.now) (view c.word_of-payload.new.pass) a.o (three (goal.at.read_stored-value_kind-requires-clause-root c).After-word_of-payload)) ∙ c.requires.knows.1
 
-pub read_stored-requires-clause-value : goal.read_stored-requires-clause-value
-read_stored-requires-clause-value c =
+pub read_stored-value_kind-requires-clause-value : goal.read_stored-value_kind-requires-clause-value
+read_stored-value_kind-requires-clause-value c =
     let a = c.args in
     (a.place, c.requires.place, row_value (shape_of a.bank.now) a.o a.table c.mask_of.result a.place c.requires.keyed c.requires.table c.mask_of.ensures)
 
 -- where its two words lie
-kind_lies : (c : After-read_stored) → 8 * c.args.place + c.mask_of.result + 1 + 4 ≡ entry_offset (slots (class_of (table_id c.args.table))) c.args.place 4
+kind_lies : (c : After-read_stored-value_kind) → 8 * c.args.place + c.mask_of.result + 1 + 4 ≡ entry_offset (slots (class_of (table_id c.args.table))) c.args.place 4
 kind_lies c = let many = slots_is (shape_of c.args.bank.now) c.args.table c.mask_of.result c.requires.table c.mask_of.ensures in omega (arith, many)
 
-payload_lies : (c : After-read_stored) → 8 * c.args.place + c.mask_of.result + 1 + 4 + 1 ≡ entry_offset (slots (class_of (table_id c.args.table))) c.args.place 5
+payload_lies : (c : After-read_stored-value_kind) → 8 * c.args.place + c.mask_of.result + 1 + 4 + 1 ≡ entry_offset (slots (class_of (table_id c.args.table))) c.args.place 5
 payload_lies c = let many = slots_is (shape_of c.args.bank.now) c.args.table c.mask_of.result c.requires.table c.mask_of.ensures in omega (arith, many)
 
-value_kind : (c : After-read_stored) → c.read_stored.result.0 ≡ entry_field (slots (class_of (table_id c.args.table))) (held_unboxed c.args.o (view c.args.pass.now)).table c.args.place 4
-value_kind c =
+value_kind : (c : After-read_stored-value_kind) → OnlyLoaded (view c.args.pass.now) (view c.word_of-payload.new.pass) → c.read_stored-value_kind.result.0 ≡ entry_field (slots (class_of (table_id c.args.table))) (held_unboxed c.args.o (view c.args.pass.now)).table c.args.place 4
+value_kind c only =
     let a = c.args in
-    word_after (shape_of a.bank.now) a.o (slots (class_of (table_id a.table))) a.place 4 (view a.pass.now) (view c.word_of-payload.new.pass) c.requires.pass.1 c.requires.container c.requires.knows.0 (three c.before.before) _
-    (c.read_stored.ensures.kind ∙ ap (slice_index (held_unboxed a.o (view c.word_of-payload.new.pass)).table) (kind_lies c))
+    word_after (shape_of a.bank.now) a.o (slots (class_of (table_id a.table))) a.place 4 (view a.pass.now) (view c.word_of-payload.new.pass) c.requires.pass.1 c.requires.container c.requires.knows.0 only _
+    (c.read_stored-value_kind.ensures.kind ∙ ap (slice_index (held_unboxed a.o (view c.word_of-payload.new.pass)).table) (kind_lies c))
 
-value : (c : After-read_stored) → c.read_stored.result.1 ≡ entry_field (slots (class_of (table_id c.args.table))) (held_unboxed c.args.o (view c.args.pass.now)).table c.args.place 5
-value c =
+value : (c : After-read_stored-value_kind) → OnlyLoaded (view c.args.pass.now) (view c.word_of-payload.new.pass) → c.read_stored-value_kind.result.1 ≡ entry_field (slots (class_of (table_id c.args.table))) (held_unboxed c.args.o (view c.args.pass.now)).table c.args.place 5
+value c only =
     let a = c.args in
-    word_after (shape_of a.bank.now) a.o (slots (class_of (table_id a.table))) a.place 5 (view a.pass.now) (view c.word_of-payload.new.pass) c.requires.pass.1 c.requires.container c.requires.knows.0 (three c.before.before) _
-    (c.read_stored.ensures.payload ∙ ap (slice_index (held_unboxed a.o (view c.word_of-payload.new.pass)).table) (payload_lies c))
+    word_after (shape_of a.bank.now) a.o (slots (class_of (table_id a.table))) a.place 5 (view a.pass.now) (view c.word_of-payload.new.pass) c.requires.pass.1 c.requires.container c.requires.knows.0 only _
+    (c.read_stored-value_kind.ensures.payload ∙ ap (slice_index (held_unboxed a.o (view c.word_of-payload.new.pass)).table) (payload_lies c))
 
 -- ---- the entry
 
@@ -150,7 +150,7 @@ returns-clause-pair c said is =
     c.word_of-hash.ensures.found
     (word_after k a.o n a.place 2 v (view c.word_of-hash.new.pass) c.requires.pass.1 c.requires.container c.requires.knows.0 c.word_of-hash.ensures.only _ c.word_of-kind.ensures.found)
     (word_after k a.o n a.place 3 v (view c.word_of-kind.new.pass) c.requires.pass.1 c.requires.container c.requires.knows.0 (two d.After-word_of-kind) _ c.word_of-payload.ensures.found)
-    (value_kind d.After-read_stored)
-    (value d.After-read_stored)
-    (word_after k a.o n a.place 6 v (view c.read_stored.new.pass) c.requires.pass.1 c.requires.container c.requires.knows.0 (four d.After-read_stored) _ c.word_of-serial.ensures.found)
+    (value_kind d.After-read_stored-value_kind (three d.After-word_of-payload))
+    (value d.After-read_stored-value_kind (three d.After-word_of-payload))
+    (word_after k a.o n a.place 6 v (view c.read_stored-value_kind.new.pass) c.requires.pass.1 c.requires.container c.requires.knows.0 (four d.After-read_stored-value_kind) _ c.word_of-serial.ensures.found)
     said is)

@@ -10,9 +10,11 @@ use Rattle.ft_model.specs.declared.script.Kind.TheVariants as kind
 use Rattle.ft_model.specs.Contents.{IsSet, SetContent, elements_from, has_element, those_not_in}
 use Rattle.ft_model.specs.Worlds.{set_of}
 use Rattle.ft_layout.specs.declared.slot.Pair.{Pair}
+use Rattle.ft_layout.specs.declared.slot.Stored.{Stored}
 use Rattle.ft_layout.specs.declared.slot.Stored.TheVariants.{Empty}
 use Rattle.ft_layout.specs.Containers.{class_mask, used_element}
 use Rattle.ft_layout.specs.Tables.{IsSetTable, UsedEntry, hash_of, is_live, set_room}
+use Rattle.ft_layout.specs.Words.{stored_kind}
 use Rattle.ft_keys.specs.TableChanges.{AddsPair}
 use Rattle.ft_keys.specs.declared.walk.Way.TheVariants as way
 use Rattle.ft_trace.specs.declared.Shape.{Shape}
@@ -26,7 +28,7 @@ use Rattle.ft_bank.specs.declared.table.Table.{Table}
 use Rattle.ft_bank.specs.TableNames.{table_id, IsTableIn}
 use Rattle.ft_search.proofs.Puts.{table_class}
 use Rattle.ft_new_keys.specs.Fresh.{HasZeroWords, IsFilledWith}
-use Rattle.ft_new_keys.proofs.FilledTables.{BlankHolds, blank_table}
+use Rattle.ft_new_keys.proofs.FilledTables.{BlankHolds, blank_table, room_of_way, table_plain}
 use Rattle.ft_parting.specs.Internal.Choosing.{HasChosen, IsChosen, apart_pair, at_serials, chosen, is_apart, serial_at}
 
 -- ---- lists
@@ -244,8 +246,8 @@ blank_has holds k table v table_in blank = record {
   versions = λ p less. blank.zeros (entry_offset (slots (class_of (table_id table))) p 0);
 }
 
-pub has_fills : (k : Shape) (table : Table) (v : View) (set : SetContent) (count : ℕ) → IsSet set.next set.elements → HasChosen k table set.elements count v → IsFilledWith k.texts (class_of (table_id table)) (content.Set set) (in_hand (table_id table) v)
-has_fills k table v set count rule has = record {
+pub has_fills : (k : Shape) (table : Table) (v : View) (set : SetContent) (count : ℕ) → IsTableIn k table → IsSet set.next set.elements → HasChosen k table set.elements count v → IsFilledWith k.texts (class_of (table_id table)) (content.Set set) (in_hand (table_id table) v)
+has_fills k table v set count table_in rule has = record {
   says = λ block head. record {
     head = head;
     used = map used_element set.elements;
@@ -254,6 +256,12 @@ has_fills k table v set count rule has = record {
     entries = record { live = all_live set.elements; below = map_each (λ (entry : UsedEntry). entry.serial < set.next) set.elements rule.below };
   };
   versions = has.versions;
+  plain = λ place low.
+      let class = class_of (table_id table) in
+      let all = room_of_way way.Set class (table_class k table table_in) in
+      table_plain _ (set_room (class_mask class)) k.texts class (in_hand (table_id table) v) (map used_element set.elements) has.made
+      (map_each (λ (e : UsedEntry). (stored : Stored) × (e.stored ≡ Some stored) × (stored_kind stored ≢ 4)) set.elements (λ i d few. (Empty, refl, λ z. omega (arith, z))))
+      place (omega (arith, low, all));
 }
   where
     all_live : (es : List Element) → filter is_live (map used_element es) ≡ map used_element es

@@ -100,7 +100,17 @@ fn copy_in_taken(
         Took::Taken(table) => {
             fill_copy(bank, pass, d, from, counts, table, next);
             let count = counts.count;
-            let number = swap_table(bank, pass, e, old, table, count, next + count, called);
+            let number = swap_table(
+                bank,
+                pass,
+                e,
+                Way::Dict,
+                old,
+                table,
+                count,
+                next + count,
+                called,
+            );
             retire_old(bank, pass, old);
             Added::Made(Stamp {
                 number,
@@ -143,6 +153,6 @@ pub fn copy_into(bank: &Bank, pass: &mut Pass, d: u32, e: u32, called: &Call) ->
     let next = read_counts(bank, pass, e).next;
     match taken_by_copy(counts.count) {
         Some(class) => copy_in_taken(bank, pass, d, e, from, old, class, counts, next, called),
-        None => Added::Made(clear_keyed(bank, pass, e, called)),
+        None => Added::Made(clear_keyed(bank, pass, e, Way::Dict, called)),
     }
 }

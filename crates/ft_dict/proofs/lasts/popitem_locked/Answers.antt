@@ -17,10 +17,10 @@ use Rattle.ft_dict.proofs.lasts.popitem_locked.Goals as goal
 use Rattle.ft_dict.proofs.lasts.popitem_locked.Goals.{After-last_pair}
 
 may : (c : After-last_pair) → MayWriteEntries (shape_of c.args.bank.now) c.args.d (view c.last_pair.new.pass)
-may c = read_may (shape_of c.args.bank.now) c.args.d (IsLastOf (shape_of c.args.bank.now) c.last_pair.result) c.args.pass.now c.last_pair.new.pass c.last_pair.ensures.reads c.requires.may
+may c = read_may (shape_of c.args.bank.now) c.args.d (IsLastOf (shape_of c.args.bank.now) c.last_pair.result) c.args.pass.now c.last_pair.new.pass c.requires.pass.1 c.last_pair.ensures.reads c.requires.may
 
 found : (c : After-last_pair) → IsLastOf (shape_of c.args.bank.now) c.last_pair.result (held_unboxed c.args.d (view c.last_pair.new.pass))
-found c = read_later (shape_of c.args.bank.now) c.args.d (IsLastOf (shape_of c.args.bank.now) c.last_pair.result) c.args.pass.now c.last_pair.new.pass c.last_pair.ensures.reads c.requires.may
+found c = read_later (shape_of c.args.bank.now) c.args.d (IsLastOf (shape_of c.args.bank.now) c.last_pair.result) c.args.pass.now c.last_pair.new.pass c.requires.pass.1 c.last_pair.ensures.reads c.requires.may
 
 here : (c : After-last_pair) (last : Last) → c.last_pair.result ≡ Some last → IsLastOf (shape_of c.args.bank.now) (Some last) (held_unboxed c.args.d (view c.last_pair.new.pass))
 here c last is = subst (λ z. IsLastOf (shape_of c.args.bank.now) z (held_unboxed c.args.d (view c.last_pair.new.pass))) is (found c)

@@ -59,7 +59,7 @@ returns-in-At-clause-added c =
     let n = c.set_entry-number.ensures in
     let h = subst (λ (z : Content). IsHeldAt z a.key (Some (c.in-At.value_kind, c.in-At.payload))) p.1 c.in-At.ensures.spot.2 in
     let there : holds (known_state a.d u).content a.key ≡ true = ap (λ (z : Content). holds z a.key) p.1 ∙ deleted.has_there a.d u p.0 p.2 c.seek_key.ensures.may.locked p.1 a.key c.seek_key.ensures.key c.in-At.value_kind c.in-At.payload h n.wrote.found n.wrote.has in
-    puts_present (shape_of a.bank.now) a.d a.key (call.Dict a.d (dict.Set a.key a.value)) reply.Done (view a.pass.now) u (view c.set_entry-number.new.pass) c.seek_key.ensures.keeps c.written.result (leaves at).changed there (ap (λ (z : Stamp). z.wrote) c.written.ensures) (subst (λ (z : Stamp). Wrote (call.Dict a.d (dict.Set a.key a.value)) reply.Done z.number u (view c.set_entry-number.new.pass)) (sym c.written.ensures) n.wrote) n.root
+    puts_present (shape_of a.bank.now) a.d a.key (call.Dict a.d (dict.Set a.key a.value)) reply.Done (view a.pass.now) u (view c.set_entry-number.new.pass) c.seek_key.ensures.keeps c.written.result (leaves at).changed there (ap (λ (z : Stamp). z.wrote) c.written.ensures) (subst (λ (z : Stamp). Wrote (call.Dict a.d (dict.Set a.key a.value)) reply.Done z.number u (view c.set_entry-number.new.pass)) (sym c.written.ensures) n.wrote) n.root n.references
 
 -- ---- a table that has the key nowhere
 

@@ -80,7 +80,7 @@ returns-in-At-clause-added c =
     let value : c.value_at.result ≡ unwrap_or (dict_get (dict_of (known_state a.d (view a.pass.now)).content).pairs a.key) a.default =
     ap (λ (z : Option Value). unwrap_or z a.default) (sym (deleted.value_there a.d u p.0 p.2 c.seek_key.ensures.may.locked p.1 a.key c.seek_key.ensures.key c.value_at.result c.value_at.ensures n.wrote.found n.wrote.has)) ∙ ap (λ (z : Content). unwrap_or (dict_get (dict_of z).pairs a.key) a.default) (sym p.1 ∙ same s) in (
       ap reply.Value value,
-      puts_present (shape_of a.bank.now) a.d a.key (call.Dict a.d (dict.SetDefault a.key a.default)) said (view a.pass.now) u w c.seek_key.ensures.keeps c.written.result (leaves at).changed there (ap (λ (z : Stamp). z.wrote) c.written.ensures) (subst (λ (z : Stamp). Wrote (call.Dict a.d (dict.SetDefault a.key a.default)) said z.number u w) (sym c.written.ensures) n.wrote) n.root,
+      puts_present (shape_of a.bank.now) a.d a.key (call.Dict a.d (dict.SetDefault a.key a.default)) said (view a.pass.now) u w c.seek_key.ensures.keeps c.written.result (leaves at).changed there (ap (λ (z : Stamp). z.wrote) c.written.ensures) (subst (λ (z : Stamp). Wrote (call.Dict a.d (dict.SetDefault a.key a.default)) said z.number u w) (sym c.written.ensures) n.wrote) n.root n.references,
     )
 
 -- ---- a table that has the key nowhere

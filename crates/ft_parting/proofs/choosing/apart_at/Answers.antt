@@ -16,8 +16,9 @@ use Rattle.ft_trace.specs.Pictures.{ContainerWords, entry_field}
 use Rattle.ft_bank.specs.Passes.{shape_of, view}
 use Rattle.ft_bank.specs.TableNames.{table_id}
 use Rattle.ft_bank.proofs.TableAddresses.{named}
-use Rattle.ft_bank.proofs.KnownAfterWrites.{loaded_held, loaded_then, work_knows}
+use Rattle.ft_bank.proofs.KnownAfterWrites.{loaded_then, work_knows}
 use Rattle.ft_new_keys.proofs.FilledTables.{room_of_way, word_here}
+use Rattle.ft_merging.proofs.Ending.{read_same}
 use Rattle.ft_parting.proofs.Chosen.{apart_dead, apart_found, apart_here, gone_words, live_words, never_words, set_says}
 use Rattle.ft_parting.proofs.choosing.apart_at.Goals as goal
 use Rattle.ft_parting.proofs.choosing.apart_at.Goals.{Start, After-key_at, After-word_of-hash, After-has_key}
@@ -84,7 +85,7 @@ hash_word c =
     let a = c.args in
     let class = class_of (table_id a.from) in
     c.word_of-hash.ensures.found
-    ∙ (ap (λ (x : ContainerWords). entry_field (slots class) x.table a.place 1) (loaded_held (view a.pass.now) (view c.key_at.new.pass) a.s c.key_at.ensures.only)
+    ∙ (ap (λ (x : ContainerWords). entry_field (slots class) x.table a.place 1) (read_same (shape_of a.bank.now) a.s (view a.pass.now) (view c.key_at.new.pass) c.requires.pass.1 c.requires.keyed.container c.requires.keyed.locked c.key_at.ensures.only)
     ∙ sym (word_here class (held_unboxed a.s (view a.pass.now)).table a.place 1))
 
 pub has_key-requires-clause-hash : goal.has_key-requires-clause-hash
@@ -138,7 +139,7 @@ returns-clause-apart c used any table low =
     let only = loaded_then v (view c.word_of-hash.new.pass) (view c.has_key.new.pass) (loaded_then v (view c.key_at.new.pass) (view c.word_of-hash.new.pass) c.key_at.ensures.only c.word_of-hash.ensures.only) c.has_key.ensures.only in
     let serial : c.word_of-serial.result ≡ u.serial =
     c.word_of-serial.ensures.found
-    ∙ (ap (λ (x : ContainerWords). entry_field (slots class) x.table a.place 6) (loaded_held v (view c.has_key.new.pass) a.s only)
+    ∙ (ap (λ (x : ContainerWords). entry_field (slots class) x.table a.place 6) (read_same k a.s v (view c.has_key.new.pass) c.requires.pass.1 c.requires.keyed.container c.requires.keyed.locked only)
     ∙ (sym (word_here class (held_unboxed a.s v).table a.place 6) ∙ says.2)) in
     let hash : c.word_of-hash.result ≡ hash_of k.texts u.key = hash_word p.After-word_of-hash ∙ table.hashes a.place any low in
     sym

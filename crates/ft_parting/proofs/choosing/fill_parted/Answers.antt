@@ -180,5 +180,5 @@ returns-clause-filled c =
     let says = set_words k a.t w c.keep_apart-stay.ensures.pass.1 c.keep_apart-stay.new.pass.possible c.requires.other_set a.other (keyed_then d) in
     let fill : length (used d) ≡ a.others = says.filled ∙ (ap (λ (x : ContainerState). x.table.fill) (two d).1 ∙ sym c.requires.others) in
     let all_used = take_all a.others (used d) (omega (arith, fill)) in
-    has_fills k a.table z (all d) c.choose_all.result (rule d)
+    has_fills k a.table z (all d) c.choose_all.result c.requires.table (rule d)
     (subst (λ (l : List Element). HasChosen k a.table l c.choose_all.result z) ((λ i. mine d ++ chosen (set_of (own i).content).elements (Some a.counts.next) (all_used i)) ∙ whole d) done.has)

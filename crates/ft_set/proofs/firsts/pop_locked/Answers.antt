@@ -19,10 +19,10 @@ use Rattle.ft_set.proofs.firsts.pop_locked.Goals as goal
 use Rattle.ft_set.proofs.firsts.pop_locked.Goals.{After-first_element}
 
 may : (c : After-first_element) → MayWriteEntries (shape_of c.args.bank.now) c.args.s (view c.first_element.new.pass)
-may c = read_may (shape_of c.args.bank.now) c.args.s (IsFirstOf (shape_of c.args.bank.now) c.first_element.result) c.args.pass.now c.first_element.new.pass c.first_element.ensures.reads c.requires.may
+may c = read_may (shape_of c.args.bank.now) c.args.s (IsFirstOf (shape_of c.args.bank.now) c.first_element.result) c.args.pass.now c.first_element.new.pass c.requires.pass.1 c.first_element.ensures.reads c.requires.may
 
 found : (c : After-first_element) → IsFirstOf (shape_of c.args.bank.now) c.first_element.result (held_unboxed c.args.s (view c.first_element.new.pass))
-found c = read_later (shape_of c.args.bank.now) c.args.s (IsFirstOf (shape_of c.args.bank.now) c.first_element.result) c.args.pass.now c.first_element.new.pass c.first_element.ensures.reads c.requires.may
+found c = read_later (shape_of c.args.bank.now) c.args.s (IsFirstOf (shape_of c.args.bank.now) c.first_element.result) c.args.pass.now c.first_element.new.pass c.requires.pass.1 c.first_element.ensures.reads c.requires.may
 
 here : (c : After-first_element) (first : First) → c.first_element.result ≡ Some first → IsFirstOf (shape_of c.args.bank.now) (Some first) (held_unboxed c.args.s (view c.first_element.new.pass))
 here c first is = subst (λ z. IsFirstOf (shape_of c.args.bank.now) z (held_unboxed c.args.s (view c.first_element.new.pass))) is (found c)

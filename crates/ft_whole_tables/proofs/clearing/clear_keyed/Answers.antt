@@ -34,6 +34,7 @@ returns-clause-cleared c =
           done = w;
           wrote = e.wrote;
           root = subst (λ (n : ℕ). root_in (held_unboxed n w) ≡ 0) at e.root;
+          references = e.references;
           retired = subst (λ (n : ℕ). Retires (root_in (held_unboxed n v)) w (view c.retire_old.new.pass)) at (subst (λ (n : ℕ). Retires n w (view c.retire_old.new.pass)) (sym root.root) c.retire_old.ensures.retired);
         },
       ),

@@ -10,6 +10,9 @@ use Rattle.ft_search.proofs.Spotting.{may_loaded}
 use Rattle.ft_whole_tables.proofs.Emptied.{root_named}
 use Rattle.ft_whole_tables.proofs.clearing.root_table.Goals as goal
 
+pub returns-clause-only : goal.returns-clause-only
+returns-clause-only c = loaded_by (ReadBlock c.args.o 0 c.read_block-root.result) (view c.args.pass.now) (view c.read_block-root.new.pass) tt c.read_block-root.ensures.did.1
+
 pub returns-clause-may : goal.returns-clause-may
 returns-clause-may c =
     let a = c.args in

@@ -24,7 +24,7 @@ shown c =
     let v = view a.pass.now in
     let is_so = c.holds_between-is_so.result in
     let q = c.holds_between-is_so.new.pass in
-    let shows = both_show k a.c a.other (IsComparedAs k a.how is_so) a.pass.now q c.holds_between-is_so.ensures.reads c.requires.may c.requires.other in
+    let shows = both_show k a.c a.other (IsComparedAs k a.how is_so) a.pass.now q c.requires.pass.1 c.holds_between-is_so.ensures.reads c.requires.may c.requires.other in
     shown_then (compared a.how a.c a.other) (reply.Truth is_so) v (view q) (loaded c)
     (compared_shown k a.how a.c a.other v c.requires.pass.1 a.pass.now.possible c.requires.may c.requires.other c.requires.kind c.requires.other_kind is_so shows)
 

@@ -22,12 +22,12 @@ loaded : (c : After-copy_all) → OnlyLoaded (view c.args.pass.now) (view c.copy
 loaded c = reads_loaded (shape_of c.args.bank.now) c.args.c (IsAllIn c.args.way (shape_of c.args.bank.now) c.copy_all.result) c.args.pass.now c.copy_all.new.pass c.copy_all.ensures.reads
 
 shows : (c : After-copy_all) → IsAllIn c.args.way (shape_of c.args.bank.now) c.copy_all.result (held_unboxed c.args.c (view c.args.pass.now))
-shows c = read_shows (shape_of c.args.bank.now) c.args.c (IsAllIn c.args.way (shape_of c.args.bank.now) c.copy_all.result) c.args.pass.now c.copy_all.new.pass c.copy_all.ensures.reads c.requires.may
+shows c = read_shows (shape_of c.args.bank.now) c.args.c (IsAllIn c.args.way (shape_of c.args.bank.now) c.copy_all.result) c.args.pass.now c.copy_all.new.pass c.requires.pass.1 c.copy_all.ensures.reads c.requires.may
 
 pub answer_made-requires-clause-left : goal.answer_made-requires-clause-left
 answer_made-requires-clause-left c =
     let k = shape_of c.args.bank.now in
-    (read_may k c.args.c (IsAllIn c.args.way k c.copy_all.result) c.args.pass.now c.copy_all.new.pass c.copy_all.ensures.reads c.requires.may).left
+    (read_may k c.args.c (IsAllIn c.args.way k c.copy_all.result) c.args.pass.now c.copy_all.new.pass c.requires.pass.1 c.copy_all.ensures.reads c.requires.may).left
 
 pub answer_made-requires-clause-shown : goal.answer_made-requires-clause-shown
 answer_made-requires-clause-shown c =

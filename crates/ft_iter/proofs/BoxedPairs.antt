@@ -1,5 +1,5 @@
 -- From the words of the entry that a search found to the pair that they say, its value read through its box.
-use Rattle.std.proofs.Common.{◌≡◌, ◌≢◌, ◌⊎◌, ◌<◌, ◌≤◌, ℕ, suc, true, List, [], ◌∷◌, Option, Some, None, refl, sym, ap, ◌∙◌, subst, ⊎_elim, arith}
+use Rattle.std.proofs.Common.{◌≡◌, ◌≢◌, ◌⊎◌, ◌<◌, ◌≤◌, ℕ, suc, true, List, [], ◌∷◌, Option, Some, None, sym, ap, ◌∙◌, subst, ⊎_elim, arith}
 use Rattle.std.specs.Prelude.{◌↔◌, slice_index}
 use Rattle.ft_layout.specs.declared.slot.Pair.{Pair}
 use Rattle.ft_layout.specs.declared.slot.Slot.TheVariants.{Live}
@@ -25,7 +25,7 @@ use Rattle.ft_search.specs.Held.{KnowsTable}
 use Rattle.ft_search.proofs.Puts.{entry_reads}
 use Rattle.ft_search.proofs.SearchedReads.{word_at, known_there, stands_boxed}
 use Rattle.ft_iter.specs.declared.pairs.PairWords.{PairWords}
-use Rattle.ft_iter.specs.Seeking.{SameMarks, Seeks, HasEntry, FindsWords, SaysEntry, GivesPair}
+use Rattle.ft_iter.specs.Seeking.{SameMarks, FindsWords, SaysEntry, GivesPair}
 use Rattle.ft_iter.proofs.Giving.{gives-pair, gives-none}
 
 module _ (v : View) (o : ℕ) (k : Shape) (table : Table) (mask fill : ℕ) (last : Option ℕ) (keyed : IsKeyed (kind_in v.shape.starts o)) (in_bank : IsTableIn k table) (is : mask ≡ class_mask table.class) (names : root_in (held_words o v) ≡ suc (table_id table)) where

@@ -1,7 +1,7 @@
-use Rattle.std.proofs.Common.{ℕ, List, ◌++◌, Some, subst}
+use Rattle.std.proofs.Common.{ℕ, List, ◌++◌, subst}
 use Rattle.ft_keys.specs.Accesses.{AreAnswered}
 use Rattle.ft_keys.proofs.Shown.{runs-append, loads-append, fits-append, loads-leave}
-use Rattle.ft_iter.specs.Seeking.{HasEntry, FindsWords}
+use Rattle.ft_iter.specs.Seeking.{HasEntry}
 use Rattle.ft_iter.proofs.pairs.seek_words.Goals as goal
 
 pub returns-in-Some-clause-finds : goal.returns-in-Some-clause-finds

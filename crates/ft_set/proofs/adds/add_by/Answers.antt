@@ -58,7 +58,7 @@ returns-in-At-clause-added c =
     let n = c.write_nothing-number.ensures in
     let h = subst (λ (z : Content). IsHeldAt z a.key (Some (c.in-At.field-2, c.in-At.field-3))) p.1 c.in-At.ensures.spot.2 in
     let there : holds (known_state a.s u).content a.key ≡ true = ap (λ (z : Content). holds z a.key) p.1 ∙ leaving.has_there a.s u p.0 p.2 c.seek_key.ensures.may.locked p.1 a.key c.seek_key.ensures.key _ _ h n.wrote.found n.wrote.has in
-    puts_present (shape_of a.bank.now) a.s a.key (call.Set a.s (set.Add a.key)) reply.Done (view a.pass.now) u (view c.write_nothing-number.new.pass) c.seek_key.ensures.keeps c.written.result (leaves at).changed there (ap (λ (z : Stamp). z.wrote) c.written.ensures) (subst (λ (z : Stamp). Wrote (call.Set a.s (set.Add a.key)) reply.Done z.number u (view c.write_nothing-number.new.pass)) (sym c.written.ensures) n.wrote) n.root
+    puts_present (shape_of a.bank.now) a.s a.key (call.Set a.s (set.Add a.key)) reply.Done (view a.pass.now) u (view c.write_nothing-number.new.pass) c.seek_key.ensures.keeps c.written.result (leaves at).changed there (ap (λ (z : Stamp). z.wrote) c.written.ensures) (subst (λ (z : Stamp). Wrote (call.Set a.s (set.Add a.key)) reply.Done z.number u (view c.write_nothing-number.new.pass)) (sym c.written.ensures) n.wrote) n.root n.references
 
 -- ---- a table that has the key nowhere
 

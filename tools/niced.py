@@ -9,9 +9,9 @@ def each():
             yield p, cwd, cmd
 conf = {}
 def want(cwd, cmd):
-    if "/work/h/boxes" in cwd or "rt-copy-26793" in cwd: return conf.get("boxes", 11)
+    if any(x in cwd for x in ("/work/h/bn", "/work/h/bl", "/work/h/bw")): return conf.get("boxes", 4)
     if "/work/h/pl" in cwd or "rt-plant" in cwd: return conf.get("plant", 4)
-    if "_tests" in cmd and ("rattle" in cmd or "antt" in cmd): return conf.get("tests", 1)
+    if ("_tests" in cmd or "_bench" in cmd) and ("rattle" in cmd or "antt" in cmd): return conf.get("tests", 1)
     return None
 while True:
     try:

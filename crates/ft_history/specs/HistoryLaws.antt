@@ -5,7 +5,7 @@ use Rattle.ft_model.specs.declared.call.Call.{Call}
 use Rattle.ft_model.specs.declared.call.Call.TheVariants as call
 use Rattle.ft_model.specs.declared.entry.Entry.{Entry}
 use Rattle.ft_model.specs.Calls.{containers_of}
-use Rattle.ft_model.specs.Histories.{Section, entries_of}
+use Rattle.ft_model.specs.Histories.{entries_of}
 
 -- strictly between the two places no other thread's write names one of the containers (C API, critical sections)
 abbrev pub IsUntouchedBetween : List Entry → ℕ → ℕ → ℕ → List ℕ → Type 0

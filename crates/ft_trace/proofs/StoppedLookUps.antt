@@ -416,7 +416,7 @@ module _ (k : Shape) (o t p : ℕ) (low : o < container_count k) (small : p < ro
           is = n.split;
           open_here = n.open_here;
           writing = n.writing;
-          changes_it = same;
+          changes_container = same;
           change = does n same (subst (λ (z : ℕ). OpensChangedBy k n.sooner z t n.c) same by);
         }))
         (λ (rest : IsUncommitted k es o t p meanwhile.x). inr rest)

@@ -93,7 +93,7 @@ pub record IsCommitted (k : Shape) (es : List Event) (o t p x : ℕ) (Changes : 
   pub is : es ≡ later ++ did seat view (Commit call reply number snap) ∷ sooner
   pub open_here : IsOpenAs k sooner o t p x
   pub writing : is_writing o view.log ≡ true
-  pub changes_it : changes call ≡ o
+  pub changes_container : changes call ≡ o
   pub change : Changes sooner call
 
 -- The version is x still, and the pass that writes o has not committed since it began. Once it has, the trace has the

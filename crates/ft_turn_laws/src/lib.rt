@@ -10,5 +10,8 @@ pub use crate::beginnings::{
     floors_are_handed_on, fresh_callers_are_nobody, locks_of_nobody_are_free,
     new_callers_are_in_step, one_more_owns_none, resting_callers_stand, woken_callers_have_floor,
 };
-pub use crate::endings::{last_turns_finish, rising_entries_are_chronicles, turns_are_order_runs};
+pub use crate::endings::{
+    answered_entries_are_order_runs, last_turns_finish, rising_entries_are_chronicles,
+    turns_are_order_runs,
+};
 pub use crate::tries::{learns_are_turns, spent_turns_change_nothing, tries_are_turns};

@@ -193,7 +193,7 @@ rest_free e c r is at_rest done =
     let locks : (o : ℕ) → has_lock o v.log ≡ false = λ o.
     no_lock (has_lock o v.log) (sym (ap (λ sections. noted_in o sections + taken_in o nothing_taken) none) ∙ (sym (ap (λ own. noted_in o (stack_of c.pass).sections + taken_in o own) ready.own) ∙ ready.inside.1.locks o)) in
     let offline = sym (ap (λ (z : View). announces z.log) at_rest.pass) ∙ done.offline in
-    subst IsFree (sym at_rest.pass) (locks, s.hands, s.used, s.flight, s.owes, offline)
+    subst IsFree (sym at_rest.pass) (locks, s.hands, s.used, s.flight, s.owes, offline, s.boxes)
 
 pub rest_in : (v w : View) (c : Caller) (r : RestingCaller) (n : ℕ) → RestsAs c r → w ≡ view_after (ReadCounter n) (both v (rests r.pass)) → TakesIn v (view c.pass) w
 rest_in v w c r n at_rest is =

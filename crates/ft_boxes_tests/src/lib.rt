@@ -1,4 +1,4 @@
-//! Boxes of the passes of one bank: made, counted by both counts, merged and given back, in one thread and in four.
+//! Boxes of the passes of one bank: made, counted by both counts, merged and given back, in one thread and in two.
 //! Nothing stands on this crate.
 #![tactic(auto)]
 

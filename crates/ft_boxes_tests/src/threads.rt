@@ -1,4 +1,4 @@
-//! Four passes in a thread each raise and drop ten boxes of the first pass, over and over.
+//! Two passes in a thread each raise and drop ten boxes of the first, over and over.
 ghost use Rattle.std.specs.Prelude.{◌≡◌, IfOk};
 ghost use Rattle.ft_bank.specs.BoxSteps.{IsBoxIn};
 ghost use Rattle.ft_bank.specs.Passes.{shape_of, view, IsPassOf};
@@ -112,7 +112,7 @@ fn drop_each(bank: &Bank, pass: &mut Pass, boxes: Vec<Ref>)
 }
 
 #[test]
-fn ten_boxes_are_counted_by_four_passes(rt: HostRuntime) -> Result<(), Fail> {
+fn ten_boxes_are_counted_by_two_passes(rt: HostRuntime) -> Result<(), Fail> {
     let alloc = rt.alloc();
     let (made, mut first, second) = bank_of_two(alloc, small(alloc, 2)?)?;
     let bank = &made;

@@ -1,7 +1,5 @@
 //! The values in boxes are read.
-ghost use Rattle.std.specs.Prelude.{◌≡◌, ◌↔◌, Some};
-ghost use Rattle.ft_layout.specs.declared.slot.Stored.TheVariants.{Plain};
-ghost use Rattle.ft_layout.specs.Words.{IsStored};
+ghost use Rattle.std.specs.Prelude.{◌≡◌};
 ghost use Rattle.ft_model.specs.declared.data.Value.{Value};
 ghost use Rattle.ft_bank.specs.Passes.{shape_of, view, IsPassOf};
 ghost use Rattle.ft_bank.specs.PassSections.{stack_of};
@@ -10,7 +8,7 @@ ghost use Rattle.ft_boxes.specs.References.{HoldsBox, KnowsValue, box_of};
 
 use crate::held::Held;
 use ft_bank::{Bank, Pass};
-use ft_layout::{Stored, item_of};
+use ft_layout::value_of;
 use ft_model::Value;
 
 /// Which words of a box the kind and the payload are.
@@ -36,24 +34,4 @@ pub fn value(bank: &Bank, pass: &mut Pass, held: &Held) -> Value
         unreachable!()
     };
     value
-}
-
-/// The value that is stored in place, if one is.
-fn plain_of(stored: Stored) -> Option<Value>
-    ensures { (value : Value) → (stored ≡ Plain value) ↔ (result ≡ Some value) }
-{
-    match stored {
-        Stored::Plain(value) => Some(value),
-        Stored::Empty | Stored::Boxed(_) => None,
-    }
-}
-
-/// The value that a kind and a payload stand for, if they stand for one.
-fn value_of(kind: u64, payload: u64) -> Option<Value>
-    ensures { (value : Value) → IsStored kind payload (Plain value) ↔ (result ≡ Some value) }
-{
-    match item_of(&[0, kind, payload, 0]) {
-        Some(stored) => plain_of(stored),
-        None => None,
-    }
 }

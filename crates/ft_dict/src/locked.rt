@@ -20,10 +20,10 @@ ghost use Rattle.ft_dict.specs.Locked.{HasValue};
 use crate::looks::reply_of;
 use ft_bank::{Bank, Pass};
 use ft_keys::Way;
+use ft_layout::value_of;
 use ft_model::{Call, DictCall, Key, Reply, Value};
 use ft_search::{answer_held, read_key};
 use ft_section::{Object, Stamp};
-use ft_whole_tables::value_of;
 
 /// The value at a key of a dict whose lock the pass has.
 fn value_locked(bank: &Bank, pass: &mut Pass, d: Object, key: Key) -> Option<Value>

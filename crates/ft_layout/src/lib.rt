@@ -69,6 +69,6 @@ pub use start::{
     COUNTER, WRITE_NUMBER, announced_word, bank_size, block_start, box_start, free_count_word,
     free_place_word, free_word, heap_start, table_start,
 };
-pub use stored::{stored_kind_of, stored_payload_of};
+pub use stored::{stored_kind_of, stored_payload_of, value_of};
 pub use take::{Take, read_entry, read_item};
 pub use word::{block_word, entry_word, item_word, table_word};

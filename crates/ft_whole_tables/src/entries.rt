@@ -15,10 +15,9 @@ ghost use Rattle.ft_bank.specs.TableNames.{table_id, IsTableIn};
 ghost use Rattle.ft_reads.specs.Reads.{Reads};
 ghost use Rattle.ft_whole_tables.specs.TableEntries.{HashIs, IsKeyAt, IsPlainAt, IsSeenAt, OfUsed};
 
-use crate::values::value_of;
 use ft_bank::{Bank, Pass, Table};
 use ft_layout::entry_word::{HASH, KEY, KEY_KIND, VALUE, VALUE_KIND};
-use ft_layout::{dict_entries, key_of};
+use ft_layout::{dict_entries, key_of, value_of};
 use ft_model::{Key, Value};
 use ft_search::{SeenValue, mask_of, see_value};
 use ft_section::Object;

@@ -65,7 +65,7 @@ gathered_steady v t n blank s =
       cursors = λ k. refl;
       owners = record { had = refl; found = refl };
       seen = le_trans (seen_both v u) (seen_up (ReadCounter n) (both v u));
-      still = record { even = s.even; hands = s.hands; used = s.used; owes = s.owes; flight = s.flight; stands = s.stands };
+      still = record { even = s.even; hands = s.hands; used = s.used; owes = s.owes; flight = s.flight; boxes = s.boxes; stands = s.stands };
     })
 
 -- it has taken the floor
@@ -83,7 +83,7 @@ floored_steady v n snap s = record {
   cursors = λ k. refl;
   owners = record { had = refl; found = refl };
   seen = seen_up (TakeFloor n snap) v;
-  still = record { even = s.even; hands = s.hands; used = s.used; owes = s.owes; flight = s.flight; stands = s.stands };
+  still = record { even = s.even; hands = s.hands; used = s.used; owes = s.owes; flight = s.flight; boxes = s.boxes; stands = s.stands };
 }
 
 -- it had given its tokens away, has taken others, and the floor
@@ -104,7 +104,7 @@ woken_steady v t k n snap blank s =
       cursors = λ j. refl;
       owners = record { had = refl; found = refl };
       seen = le_trans (seen_both (sender k v) u) (seen_up (TakeFloor n snap) (both (sender k v) u));
-      still = record { even = s.even; hands = s.hands; used = s.used; owes = s.owes; flight = s.flight; stands = s.stands };
+      still = record { even = s.even; hands = s.hands; used = s.used; owes = s.owes; flight = s.flight; boxes = s.boxes; stands = s.stands };
     })
 
 -- ---- a caller

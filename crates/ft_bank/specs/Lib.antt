@@ -18,6 +18,7 @@ pub mod Closings
 pub mod Whole
 pub mod LastLoads
 pub mod Answered
+pub mod TableActs
 pub mod Takings
 pub mod Shown
 pub mod Slips

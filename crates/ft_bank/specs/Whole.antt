@@ -18,6 +18,7 @@ use Rattle.ft_trace.specs.Holds.{held_words, held_unboxed, known_state}
 use Rattle.ft_bank.specs.Locks.{KnowsSame}
 use Rattle.ft_bank.specs.Logs.{HasGrown, StaysOnline}
 use Rattle.ft_bank.specs.SameBoxes.{LosesReferences, MovesReferences, SameBoxes, SameMade}
+use Rattle.ft_bank.specs.TableActs.{table_acts}
 use Rattle.ft_bank.specs.WriteSteps.{MayHave}
 
 -- It is the same pass: it has the same locks, has made the same versions odd, announces the same, is in the midst of
@@ -45,8 +46,8 @@ pub record SamePass (v w : View) : Type 0 where
   pub grown : HasGrown v w
   pub stays_online : StaysOnline v w
 
--- The same pass has made no entry and no call, and has the same tables in hand; each write that it has begun is as far as
--- it was; and it was online as before. (profile)
+-- The same pass has made no entry and no call, has done nothing to tables, and has the same ones in hand; each write that
+-- it has begun is as far as it was; and it was online as before. (profile)
 pub record SameWork (v w : View) : Type 0 where
   pub pass : SamePass v w
   pub left : w.left ≡ v.left
@@ -59,6 +60,7 @@ pub record SameWork (v w : View) : Type 0 where
   pub owes : owes w.log ≡ owes v.log
   pub past : past w.log ≡ past v.log
   pub presence : presence_of w.log ≡ presence_of v.log
+  pub tables : table_acts w.log ≡ table_acts v.log
 
 -- The pass has loaded words of the bank and taken steps with boxes, and done nothing else: it knows the same words, and
 -- they read the same through boxes in each container whose lock it has. (profile)
@@ -109,7 +111,7 @@ debt_after o old root n = cond (old == root) n (debt_next (PutRoot o root old) n
 
 -- The pass, which has made the version of a container odd and put its words, has made the call as its write there, and
 -- the version even again: the second half of a whole write. The write's number is at least all writes that the pass had
--- seen, and the pass has then seen the write. (profile)
+-- seen, and the pass has then seen the write. It took, gave back and retired no table. (profile)
 pub record EndsWrite (called : Call) (said : Reply) (number : ℕ) (v w : View) : Type 0 where
   pub same_number : w.number ≡ v.number
   pub next : w.next ≡ v.next
@@ -138,6 +140,7 @@ pub record EndsWrite (called : Call) (said : Reply) (number : ℕ) (v w : View) 
   pub debt : debt w.log ≡ debt v.log
   pub used : used w.log ≡ false
   pub owes : owes w.log ≡ 0
+  pub tables : table_acts w.log ≡ table_acts v.log
   pub made : SameMade v w
   pub moves : MovesReferences (changes called) v w
   pub root : root_in (held_words (changes called) w) ≡ root_in (held_words (changes called) v)
@@ -150,10 +153,10 @@ pub record EndsWrite (called : Call) (said : Reply) (number : ℕ) (v w : View) 
   pub stands : Represents v.shape.texts (held_unboxed (changes called) w) (known_state (changes called) w)
 
 -- The pass made this call as one whole write, with this reply, and the write has this number: at least all writes that
--- the pass had seen, and it has then seen the write. It has one entry more, and a call less left. It knows the same of
--- each other container whose lock it has and that it doesn't write. Of the container that the call changes it knows
--- what the call makes of what the bank had, and the words that it knows stand for that, with the class and the fill of
--- its table. (profile)
+-- the pass had seen, and it has then seen the write. It has one entry more, and a call less left; it took, gave back and
+-- retired no table. It knows the same of each other container whose lock it has and that it doesn't write. Of the
+-- container that the call changes it knows what the call makes of what the bank had, and the words that it knows stand
+-- for that, with the class and the fill of its table. (profile)
 pub record Wrote (called : Call) (said : Reply) (number : ℕ) (v w : View) : Type 0 where
   pub pass : SamePass v w
   pub seen : seen_writes v ≤ number
@@ -169,6 +172,7 @@ pub record Wrote (called : Call) (said : Reply) (number : ℕ) (v w : View) : Ty
       (root_in (held_words (changes called) w)) (debt v.log)
   pub used : used w.log ≡ false
   pub owes : owes w.log ≡ 0
+  pub tables : table_acts w.log ≡ table_acts v.log
   pub made : SameMade v w
   pub loses : LosesReferences (changes called) v w
   pub others : (p : ℕ) → p < container_count v.shape → p ≢ changes called → has_lock p v.log ≡ true

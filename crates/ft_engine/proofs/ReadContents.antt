@@ -187,15 +187,14 @@ module _ (w : View) (part : List Act) (possible : ∥ IsReachable w ∥₁) (l :
   names_known o b low names =
       let k = w.shape in
       let by : IsReachable w → IsBoxName k b = λ p.
-          let es = p.0 in
-          let now : ws ≡ (run k es).words = ((floored k es p.2.0 p.1 w p.2.1).has l.floor).1 in
-          let n = named_is k o b ws in
-          let all = named_low k b o ws low in
-          let same : named_in_all k b ws ≡ references k b es = ap (named_in_all k b) now in
-          let some_ : references k b es ≢ 0 = λ z. names (omega (arith, n, all, same, z)) in
-          let up = box_there k b es p.2.0 some_ in
-          box_name k b es p.2.0 (λ z. absurd (omega (arith, up, z))) in
-      (
+      let es = p.0 in
+      let now : ws ≡ (run k es).words = ((floored k es p.2.0 p.1 w p.2.1).has l.floor).1 in
+      let n = named_is k o b ws in
+      let all = named_low k b o ws low in
+      let same : named_in_all k b ws ≡ references k b es = ap (named_in_all k b) now in
+      let some_ : references k b es ≢ 0 = λ z. names (omega (arith, n, all, same, z)) in
+      let up = box_there k b es p.2.0 some_ in
+      box_name k b es p.2.0 (λ z. absurd (omega (arith, up, z))) in (
         ∥∥₁_elim {P = maker_of b < k.passes} possible le_prop (λ p. (by p).0),
         ∥∥₁_elim {P = place_in b < k.heap} possible le_prop (λ p. (by p).1),
         ∥∥₁_elim {P = place_word_of b < k.heap / 64} possible le_prop (λ p. (by p).2),

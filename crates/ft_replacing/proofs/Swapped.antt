@@ -126,6 +126,7 @@ module _ (called : Call) (said : Reply) (number f t g : ℕ) (snap : Snap) (v d 
         debt = w1.debt ∙ (ap (debt_next (PutRoot at (suc t) 0)) w0.debt ∙ (debt_once new ∙ sym (ap (λ (z : ℕ). cond (old == z) (debt v.log) (debt_next (PutRoot at z old) (debt v.log))) root)));
         used = w1.used ∙ hit 0 false true;
         owes = w1.owes;
+        tables = w1.tables ∙ w0.tables;
         made = record { state = λ b. puts.made.state b ∙ drops.made.state b; local = λ b. puts.made.local b ∙ drops.made.local b; taken = λ b. puts.made.taken b ∙ drops.made.taken b; places = λ b. puts.made.places b ∙ drops.made.places b };
         loses = swapped_loses moves drops moved puts;
         others = λ p below ne mine still.

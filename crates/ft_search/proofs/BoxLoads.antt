@@ -109,7 +109,7 @@ module _ (k : Shape) (c i f : ℕ) (rest : List Act) (x : IsLogged k (ReadBox c 
 pub box_load : (v : View) (c i f : ℕ) → ∥ IsLogged v.shape (ReadBox c i f ∷ v.log) ∥₁ → OnlyLoaded v (view_after (ReadBox c i f) v)
 box_load v c i f possible =
     let k = v.shape in record {
-      work = record { pass = record { number = refl; next = refl; parts = refl; shape = refl; locks = λ p. refl; writes = λ p. refl; announced = refl; flight = refl; begun = refl; cursors = λ n. refl; tokens = refl; learnt = refl; lists = refl; floor = refl; since = refl; owners = record { had = refl; found = refl }; seen = le_refl (seen_writes v); grown = λ old was. inr was; stays_online = λ is. is }; left = refl; entries = refl; committed = λ p. refl; emptied = λ p. refl; hands = λ t. refl; used = refl; debt = refl; owes = refl; past = refl; presence = refl };
+      work = record { pass = record { number = refl; next = refl; parts = refl; shape = refl; locks = λ p. refl; writes = λ p. refl; announced = refl; flight = refl; begun = refl; cursors = λ n. refl; tokens = refl; learnt = refl; lists = refl; floor = refl; since = refl; owners = record { had = refl; found = refl }; seen = le_refl (seen_writes v); grown = λ old was. inr was; stays_online = λ is. is }; left = refl; entries = refl; committed = λ p. refl; emptied = λ p. refl; hands = λ t. refl; used = refl; debt = refl; owes = refl; past = refl; presence = refl; tables = refl };
       words = refl;
       unboxed = λ p low mine.
           let raw = held_words p v in

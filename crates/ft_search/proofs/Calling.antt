@@ -87,6 +87,7 @@ module _ (v u : View) (l : OnlyLoaded v u) where
           debt = x.debt ∙ (λ d. debt_after o (root_in (h d)) (root_in (held_unboxed o w)) (l.work.debt d));
           used = x.used;
           owes = x.owes;
+          tables = x.tables ∙ l.work.tables;
           made = made_then v u w l.boxes.made x.made;
           loses = λ b. subst (λ (m : ℕ). references_held w.shape b w.log + named_in_words b (kind_in w.shape.starts o) (held_words o w) ≤ m) (λ d. l.boxes.references b d + named_in_words b (kind_in (s d).starts o) (h d)) (x.loses b);
           others = λ p low ne mine quiet.

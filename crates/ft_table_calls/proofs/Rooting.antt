@@ -73,6 +73,7 @@ module _ (called : Call) (said : Reply) (n : ℕ) (v u w : View) (l : OnlyFilled
         debt = x.debt ∙ (λ d. debt_after o (root d) (root_in (held_words o w)) (l.work.debt d));
         used = x.used;
         owes = x.owes;
+        tables = x.tables ∙ l.work.tables;
         made = made_then v u w l.made x.made;
         loses = λ b. subst (λ (m : ℕ). references_held w.shape b w.log + named_in_words b (kind_in w.shape.starts o) (held_words o w) ≤ m) (λ d. l.references b d + named_in_words b (kind_in (s d).starts o) (words d)) (x.loses b);
         seen = le_trans l.work.pass.seen x.seen;
@@ -153,6 +154,7 @@ module _ (called : Call) (said : Reply) (number f root : ℕ) (v r u w : View) w
         debt = ends.debt ∙ (w1.debt ∙ sym (ap (λ (z : ℕ). debt_after at old z (debt v.log)) whole ∙ miss old root (debt v.log) (debt_next (PutRoot at root old) (debt v.log)) new));
         used = ends.used;
         owes = ends.owes;
+        tables = ends.tables ∙ w1.tables;
         made = made_then v rooted w (record { state = λ b. refl; local = λ b. refl; taken = λ b. refl; places = λ b. refl }) (made_then rooted u w puts.made ends.made);
         loses = λ b. subst (λ (m : ℕ). m ≤ references_held v.shape b v.log + named_in_words b (kind_in v.shape.starts at) (held_words at v)) (sym (ends.moves b)) (subst (λ (m : ℕ). references_held u.shape b u.log + named_in_words b (kind_in u.shape.starts at) (held_words at u) ≤ m) (moves b) (puts.loses b));
         seen = le_trans p1.seen ends.seen;

@@ -76,6 +76,17 @@ fn boxed_of(payload: u64) -> Option<Stored>
     (pass < PASSES && place < PLACES).then_some(Stored::Boxed(Ref { pass, place }))
 }
 
+/// The value that is stored in place, if one is.
+#[inline(always)]
+fn plain_of(stored: Stored) -> Option<Value>
+    ensures { (value : Value) → (stored ≡ Plain value) ↔ (result ≡ Some value) }
+{
+    match stored {
+        Stored::Plain(value) => Some(value),
+        Stored::Empty | Stored::Boxed(_) => None,
+    }
+}
+
 /// The value that a kind and a payload stand for; `None` where they stand for a box, for nothing, or for nothing that
 /// can be stored.
 #[inline(always)]
@@ -83,7 +94,7 @@ pub fn value_of(kind: u64, payload: u64) -> Option<Value>
     ensures { (value : Value) → IsStored kind payload (Plain value) ↔ (result ≡ Some value) }
 {
     match stored_of(kind, payload) {
-        Some(Stored::Plain(value)) => Some(value),
-        Some(Stored::Empty | Stored::Boxed(_)) | None => None,
+        Some(stored) => plain_of(stored),
+        None => None,
     }
 }

@@ -45,7 +45,6 @@ use Rattle.ft_trace.proofs.Floored.{floored}
 use Rattle.ft_trace.proofs.NamedBoxes.{named_low}
 use Rattle.ft_trace.proofs.Pieces.{block_at, table_at}
 use Rattle.ft_trace.proofs.PlainPuts.{named_is}
-use Rattle.ft_layout.proofs.FollowLaws.{there}
 use Rattle.ft_bank.specs.declared.pass.Pass.{Pass}
 use Rattle.ft_bank.specs.Passes.{shape_of, view, IsPassOf}
 use Rattle.ft_bank.specs.PassSections.{stack_of}
@@ -141,6 +140,12 @@ push_read k a b all one each last o shown at x box agrees =
           subst (λ (z : ℕ × Shown). IsShownAs k z.0 z.1 (unboxed box (kind_in k.starts z.0) x)) (λ d. (same d, new.1 d)) (last x box (subst (λ (z : ℕ). AgreesRead k z b x box) new.0 (read_newer k o x box b a agrees)))
     ]
 
+-- what is at a place is below the length
+shown_low : (all : List Shown) (o : ℕ) (one : Shown) → slice_get all o ≡ Some one → o < length all
+shown_low [] o one at = absurd (let none : None ≡ Some one = at in cc)
+shown_low (first ∷ all) zero one at = omega arith
+shown_low (first ∷ all) (suc o) one at = let low = shown_low all o one at in omega (arith, low)
+
 none_read : (k : Shape) (part : List Act) → AreReadBy k part []
 none_read k part o shown at x box agrees = absurd (let none : None ≡ Some shown = at in cc)
 
@@ -191,7 +196,7 @@ module _ (w : View) (part : List Act) (possible : ∥ IsReachable w ∥₁) (l :
       let now : ws ≡ (run k es).words = ((floored k es p.2.0 p.1 w p.2.1).has l.floor).1 in
       let n = named_is k o b ws in
       let all = named_low k b o ws low in
-      let same : named_in_all k b ws ≡ references k b es = ap (named_in_all k b) now in
+      let same : named_in_all k b ws ≡ named_in_all k b (run k es).words = ap (named_in_all k b) now in
       let some_ : references k b es ≢ 0 = λ z. names (omega (arith, n, all, same, z)) in
       let up = box_there k b es p.2.0 some_ in
       box_name k b es p.2.0 (λ z. absurd (omega (arith, up, z))) in (
@@ -287,7 +292,7 @@ module _ (e : Engine) (c : Caller) (q : Pass) (all : List Shown) (is : IsCallerO
       (record {
         count = count;
         each = λ o shown at.
-            let here : o < container_count k = subst (λ (n : ℕ). o < n) count (there all o shown at).0 in
+            let here : o < container_count k = subst (λ (n : ℕ). o < n) count (shown_low all o shown at) in
             let low : o < container_count w.shape = subst (λ (s : Shape). o < container_count s) (sym pass.1) here in
             let agrees = read_known w r.0 q.possible (looks_now has) o low in
             r.3 o shown at (picture k o (floor_words k w.number w.log)) (box_word_in k (floor_words k w.number w.log)) (subst (λ (s : Shape). AgreesRead s o r.0 (picture s o (floor_words s w.number w.log)) (box_word_in s (floor_words s w.number w.log))) pass.1 agrees);

@@ -12,7 +12,6 @@ use Rattle.ft_model.specs.Histories.{IsCountedAs}
 use Rattle.ft_trace.specs.declared.Act.{Act}
 use Rattle.ft_trace.specs.declared.Act.TheVariants.{Announce, Answer, ReadCounter, WriteNumber}
 use Rattle.ft_trace.specs.declared.Entry.{Entry}
-use Rattle.ft_trace.specs.declared.Presence.TheVariants as presence
 use Rattle.ft_trace.specs.declared.View.{View}
 use Rattle.ft_trace.specs.Acts.{announces, has_lock, view_after, seen_writes, presence_after_entry, presence_after_announcing, presence_of}
 use Rattle.ft_trace.specs.Floors.{at_floor}

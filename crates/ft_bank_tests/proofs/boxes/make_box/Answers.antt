@@ -59,7 +59,7 @@ publish_box-requires-clause-value c =
     let k = shape_of c.args.bank.now in
     let free = found_free c.read_free_places.result found.log start.log c.if-read_free_places.false (ap (λ (v : View). v.log) c.read_free_places.ensures.did.1) in
     let making = making_now c.take_place.result taken.log found.log (c.take_place.ensures.took free) (ap (λ (v : View). v.log) c.take_place.ensures.did.1) in
-    let put : (view c.put_box-3.new.pass).log ≡ filled k one_box 3 c.args.string 1 taken.log making =
-    ap (λ (v : View). v.log) (c.put_box-3.ensures.did.1 ∙ ap (view_after (PutBox one_box 3 1)) (c.put_box-2.ensures.did.1 ∙ ap (view_after (PutBox one_box 2 c.args.string)) c.put_box.ensures.did.1)) in
+    let put : (view c.put_box-3.new.pass).log ≡ filled k one_box 3 c.from.result 1 taken.log making =
+    ap (λ (v : View). v.log) (c.put_box-3.ensures.did.1 ∙ ap (view_after (PutBox one_box 3 1)) (c.put_box-2.ensures.did.1 ∙ ap (view_after (PutBox one_box 2 c.from.result)) c.put_box.ensures.did.1)) in
     subst (HasPutValue k one_box) (sym put)
-    (has_put k one_box 3 c.args.string 1 taken.log making (record { stored = value.Text (record { 0 = c.args.string }); some = λ e. absurd (cc); words = record { fits = c.ranges.string.fits; kind_is = refl; payload_is = refl } }))
+    (has_put k one_box 3 c.from.result 1 taken.log making (record { stored = value.Text (record { 0 = c.args.string }); some = λ e. absurd (cc); words = record { fits = c.ranges.string.fits; kind_is = refl; payload_is = c.from.ensures } }))

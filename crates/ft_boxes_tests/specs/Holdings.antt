@@ -46,6 +46,10 @@ pub record IsCounter (b : Bank) (p : Pass) : Type 0 where
   pub settled : IsSettled (view p)
   pub few : HoldsFew (view p)
 
+-- both passes are
+abbrev pub AreCounters : Bank → Pass × Pass → Type 0
+AreCounters b p = IsCounter b p.0 × IsCounter b p.1
+
 -- these boxes are the bank's
 abbrev pub AreNames : Shape → List Ref → Type 0
 AreNames k boxes = All (IsBoxIn k) boxes

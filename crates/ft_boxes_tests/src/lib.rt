@@ -1,4 +1,4 @@
-//! Boxes of the passes of one bank: made, counted by both counts, merged and given back, in one thread and in two.
+//! Boxes of the passes of one bank: made, counted by both counts, merged and given back, in one thread and in four.
 //! Nothing stands on this crate.
 #![tactic(auto)]
 
@@ -6,5 +6,7 @@
 mod banks;
 #[cfg(test)]
 mod heaps;
+#[cfg(test)]
+mod merges;
 #[cfg(test)]
 mod threads;

@@ -1,20 +1,21 @@
-//! Two passes in a thread each raise and drop ten boxes of the first, over and over.
+//! Four passes in a thread each raise and drop ten boxes of the first, over and over.
 ghost use Rattle.std.specs.Prelude.{◌≡◌, IfOk};
 ghost use Rattle.ft_bank.specs.BoxSteps.{IsBoxIn};
 ghost use Rattle.ft_bank.specs.Passes.{shape_of, view, IsPassOf};
 ghost use Rattle.ft_bank.specs.SameBoxes.{HoldsFew, SameReferences};
 ghost use Rattle.ft_boxes.specs.Settled.{IsSettled};
-ghost use Rattle.ft_boxes_tests.specs.Holdings.{AreNames, HoldsEach, IsCounter, MayHoldMore};
+ghost use Rattle.ft_boxes_tests.specs.Holdings.{AreCounters, AreNames, HoldsEach, IsCounter, MayHoldMore};
 
-use crate::banks::small;
+use crate::banks::{four, small};
 use ft_bank::{Bank, Pass};
-use ft_bank_tests::bank_of_two;
+use ft_bank_tests::bank_of;
 use ft_boxes::{Made, Raised, keep, make, new_passes_are_settled, raise, release, taken, value};
 use ft_layout::Ref;
 use ft_model::Value;
 use std::alloc::{AllocError, Global};
 use std::test::Fail;
 use std::thread;
+use std::thread::Threads;
 
 /// How many boxes there are, and how often each pass raises each one and drops it.
 const BOXES: u32 = 10;
@@ -98,6 +99,63 @@ fn work_with(bank: &Bank, mut pass: Pass, boxes: &[Ref], rounds: usize) -> (Pass
     (pass, wrong)
 }
 
+/// Two passes work in a thread each. The first comes back.
+fn work_in_two<R: Threads>(
+    rt: &R,
+    bank: &Bank,
+    pair: (Pass, Pass),
+    boxes: &[Ref],
+    rounds: usize,
+) -> (Pass, u32)
+    requires counters { AreCounters bank.now pair }
+    requires names { AreNames (shape_of bank.now) boxes.now }
+    ensures counter { IsCounter bank.now result.0 }
+    ensures same { SameReferences (view pair.0) (view result.0) }
+{
+    let (first, second) = pair;
+    let ((first, ours), (_second, theirs)) = thread::join(
+        rt,
+        move || -> (Pass, u32)
+            requires { IsCounter bank.now first × AreNames (shape_of bank.now) boxes.now }
+            ensures { IsCounter bank.entry.now result.0 × SameReferences (view first) (view result.0) }
+        { work_with(bank, first, boxes, rounds) },
+        move || -> (Pass, u32)
+            requires { IsCounter bank.now second × AreNames (shape_of bank.now) boxes.now }
+            ensures { IsCounter bank.entry.now result.0 × SameReferences (view second) (view result.0) }
+        { work_with(bank, second, boxes, rounds) },
+    );
+    (first, ours.saturating_add(theirs))
+}
+
+/// Four passes work in a thread each. The first comes back.
+fn work_in_four<R: Threads + Sync>(
+    rt: &R,
+    bank: &Bank,
+    one: (Pass, Pass),
+    other: (Pass, Pass),
+    boxes: &[Ref],
+    rounds: usize,
+) -> (Pass, u32)
+    requires ones { AreCounters bank.now one }
+    requires others { AreCounters bank.now other }
+    requires names { AreNames (shape_of bank.now) boxes.now }
+    ensures counter { IsCounter bank.now result.0 }
+    ensures same { SameReferences (view one.0) (view result.0) }
+{
+    let ((first, ours), (_third, theirs)) = thread::join(
+        rt,
+        move || -> (Pass, u32)
+            requires { AreCounters bank.now one × AreNames (shape_of bank.now) boxes.now }
+            ensures { IsCounter bank.entry.now result.0 × SameReferences (view one.0) (view result.0) }
+        { work_in_two(rt, bank, one, boxes, rounds) },
+        move || -> (Pass, u32)
+            requires { AreCounters bank.now other × AreNames (shape_of bank.now) boxes.now }
+            ensures { IsCounter bank.entry.now result.0 × SameReferences (view other.0) (view result.0) }
+        { work_in_two(rt, bank, other, boxes, rounds) },
+    );
+    (first, ours.saturating_add(theirs))
+}
+
 /// Lets go of the reference for each of these boxes.
 fn drop_each(bank: &Bank, pass: &mut Pass, boxes: Vec<Ref>)
     requires counter { IsCounter bank.now pass.old }
@@ -112,29 +170,27 @@ fn drop_each(bank: &Bank, pass: &mut Pass, boxes: Vec<Ref>)
 }
 
 #[test]
-fn ten_boxes_are_counted_by_two_passes(rt: HostRuntime) -> Result<(), Fail> {
+fn ten_boxes_are_counted_by_four_passes(rt: HostRuntime) -> Result<(), Fail> {
     let alloc = rt.alloc();
-    let (made, mut first, second) = bank_of_two(alloc, small(alloc, 2)?)?;
-    let bank = &made;
-    new_passes_are_settled(bank, &first);
-    new_passes_are_settled(bank, &second);
-    let made_boxes = make_ten(alloc, bank, &mut first)?;
-    let boxes = made_boxes.as_slice();
-    let ((mut first, ours), (_second, theirs)) = thread::join(
+    let (bank, passes) = bank_of(alloc, small(alloc, 4)?)?;
+    let (mut first, second, third, fourth) = four(&bank, passes)?;
+    new_passes_are_settled(&bank, &first);
+    new_passes_are_settled(&bank, &second);
+    new_passes_are_settled(&bank, &third);
+    new_passes_are_settled(&bank, &fourth);
+    let made = make_ten(alloc, &bank, &mut first)?;
+    let boxes = made.as_slice();
+    let (mut first, wrong) = work_in_four(
         &rt,
-        move || -> (Pass, u32)
-            requires { IsCounter bank.now first × AreNames (shape_of bank.now) boxes.now }
-            ensures { IsCounter bank.entry.now result.0 × SameReferences (view first) (view result.0) }
-        { work_with(bank, first, boxes, ROUNDS) },
-        move || -> (Pass, u32)
-            requires { IsCounter bank.now second × AreNames (shape_of bank.now) boxes.now }
-            ensures { IsCounter bank.entry.now result.0 × SameReferences (view second) (view result.0) }
-        { work_with(bank, second, boxes, ROUNDS) },
+        &bank,
+        (first, second),
+        (third, fourth),
+        boxes,
+        ROUNDS,
     );
-    assert_eq!(rt; ours, 0);
-    assert_eq!(rt; theirs, 0);
+    assert_eq!(rt; wrong, 0);
     assert_eq!(rt; bank.read_free_places(&mut first, 0, 0).count_ones(), 54);
-    drop_each(bank, &mut first, made_boxes);
+    drop_each(&bank, &mut first, made);
     assert_eq!(rt; bank.read_free_places(&mut first, 0, 0), u64::MAX);
     Ok(())
 }

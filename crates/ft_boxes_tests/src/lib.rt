@@ -5,6 +5,8 @@
 #[cfg(test)]
 mod banks;
 #[cfg(test)]
+mod below;
+#[cfg(test)]
 mod heaps;
 #[cfg(test)]
 mod merges;

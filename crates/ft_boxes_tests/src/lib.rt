@@ -12,3 +12,5 @@ mod heaps;
 mod merges;
 #[cfg(test)]
 mod threads;
+#[cfg(test)]
+mod writing;
